@@ -1,0 +1,4 @@
+pub mod Signed
+pub mod Complex
+pub mod Rounding
+pub mod Sums

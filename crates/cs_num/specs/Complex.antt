@@ -1,0 +1,44 @@
+-- Whole complex numbers: pairs of whole numbers, with the ring's operations.
+use Rattle.std.specs.Prelude.{ℕ, ◌+◌, ◌*◌, ◌≤◌, pos, ◌+ℤ◌, ◌-ℤ◌, ◌*ℤ◌, neg_ℤ, unsigned_abs, max}
+use Rattle.cs_num.specs.declared.Cpx.{Cpx}
+use Rattle.cs_num.specs.declared.Sample.{Sample}
+
+abbrev pub nothing : Cpx
+nothing = record { re = pos 0; im = pos 0 }
+
+-- the sum
+abbrev pub plus : Cpx → Cpx → Cpx
+plus a b = record { re = a.re +ℤ b.re; im = a.im +ℤ b.im }
+
+-- the product
+abbrev pub times : Cpx → Cpx → Cpx
+times a b = record { re = a.re *ℤ b.re -ℤ a.im *ℤ b.im; im = a.re *ℤ b.im +ℤ a.im *ℤ b.re }
+
+-- j times a number
+abbrev pub turned : Cpx → Cpx
+turned a = record { re = neg_ℤ a.im; im = a.re }
+
+-- the negative
+abbrev pub negated : Cpx → Cpx
+negated a = record { re = neg_ℤ a.re; im = neg_ℤ a.im }
+
+-- the conjugate
+abbrev pub conjugate : Cpx → Cpx
+conjugate a = record { re = a.re; im = neg_ℤ a.im }
+
+-- the square of the size
+abbrev pub square : Cpx → ℕ
+square a = unsigned_abs a.re * unsigned_abs a.re + unsigned_abs a.im * unsigned_abs a.im
+
+-- the greatest size of a component
+abbrev pub size : Cpx → ℕ
+size a = max (unsigned_abs a.re) (unsigned_abs a.im)
+
+-- both components have at most this size
+pub record IsWithin (bound : ℕ) (a : Cpx) : Type 0 where
+  pub re : unsigned_abs a.re ≤ bound
+  pub im : unsigned_abs a.im ≤ bound
+
+-- the number that a sample is
+abbrev pub value_of : Sample → Cpx
+value_of s = record { re = s.re; im = s.im }

@@ -1,0 +1,3 @@
+pub mod Complex
+pub mod Rounding
+pub mod Sums

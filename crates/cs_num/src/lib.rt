@@ -1,0 +1,101 @@
+//! Whole complex numbers: samples as radios write them, exact products and sums, and the
+//! rounding that the receiver rests on. Each call gives its exact value under its condition.
+#![tactic(auto)]
+
+ghost use Rattle.std.specs.Prelude.{◌≡◌, ℕ, ◌+◌, ◌*◌, ◌^◌, ◌<◌, ◌≤◌, pos, negsuc, ◌≤ℤ◌, ◌<ℤ◌, unsigned_abs, int_div};
+ghost use Rattle.cs_num.specs.Complex.{plus, times, conjugate, square, size};
+ghost use Rattle.cs_num.specs.Rounding.{clamped, round_shifted, rounded};
+
+/// A sample of a recording: a pair of 16-bit numbers.
+#[derive(Clone, Copy, Debug, PartialEq, Eq)]
+pub struct Sample {
+    pub re: i16,
+    pub im: i16,
+}
+
+/// A whole complex number.
+#[derive(Clone, Copy, Debug, PartialEq, Eq)]
+pub struct Cpx {
+    pub re: i64,
+    pub im: i64,
+}
+
+impl Cpx {
+    /// The product. The greatest component size of the one number times that of the other is
+    /// at most 2^61.
+    pub fn mul(self, other: Cpx) -> Cpx
+        requires { size self * size other ≤ 2 ^ 61 }
+        ensures { result ≡ times self other }
+    {
+        Cpx {
+            re: self.re * other.re - self.im * other.im,
+            im: self.re * other.im + self.im * other.re,
+        }
+    }
+
+    /// The sum. The two greatest component sizes together are below 2^63.
+    pub fn add(self, other: Cpx) -> Cpx
+        requires { size self + size other < 2 ^ 63 }
+        ensures { result ≡ plus self other }
+    {
+        Cpx {
+            re: self.re + other.re,
+            im: self.im + other.im,
+        }
+    }
+
+    /// The conjugate. The imaginary part is not the least `i64`.
+    pub fn conj(self) -> Cpx
+        requires { unsigned_abs self.im < 2 ^ 63 }
+        ensures { result ≡ conjugate self }
+    {
+        Cpx {
+            re: self.re,
+            im: -self.im,
+        }
+    }
+
+    /// The square of the size, `re^2 + im^2`, which always fits.
+    pub fn norm(self) -> u128
+        ensures { result ≡ square self }
+    {
+        let re = self.re.unsigned_abs() as u128;
+        let im = self.im.unsigned_abs() as u128;
+        re * re + im * im
+    }
+
+    /// Both components divided by `2^bits` and rounded to the nearest whole number, halves up.
+    /// `bits` is 1 to 40, and components have size at most 2^62.
+    pub fn round_shift(self, bits: u32) -> Cpx
+        requires bits { (1 ≤ bits) × (bits ≤ 40) }
+        requires size { size self ≤ 2 ^ 62 }
+        ensures { result ≡ rounded self bits }
+    {
+        Cpx {
+            re: round_part(self.re, bits),
+            im: round_part(self.im, bits),
+        }
+    }
+}
+
+// One component of `round_shift`.
+fn round_part(x: i64, bits: u32) -> i64
+    requires bits { (1 ≤ bits) × (bits ≤ 40) }
+    requires size { unsigned_abs x ≤ 2 ^ 62 }
+    ensures { result ≡ round_shifted x bits }
+{
+    (x + (1i64 << (bits - 1))) >> bits
+}
+
+/// The quotient rounded toward zero, then clamped to `-limit` to `limit`. `bottom` is above 0
+/// and `limit` is at least 0.
+pub fn clamp_div(top: i64, bottom: i64, limit: i16) -> i16
+    requires bottom { pos 0 <ℤ bottom }
+    requires limit { pos 0 ≤ℤ limit }
+    ensures { result ≡ clamped (int_div top bottom) (unsigned_abs limit) }
+{
+    (top / bottom).clamp(-(limit as i64), limit as i64) as i16
+}
+
+#[cfg(test)]
+mod tests;

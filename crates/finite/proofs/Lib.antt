@@ -1,0 +1,5 @@
+pub mod Integers
+pub mod Ring
+pub mod Sums
+pub mod Tests
+pub mod Lists

@@ -1,0 +1,96 @@
+-- Steps, bounds and laws of finite sums.
+use Rattle.std.proofs.Common.{◌≡◌, ℕ, zero, suc, ◌+◌, ◌*◌, ◌<◌, ◌≤◌, arith, refl, ap, ◌∙◌, sym, subst, add-one, ℤ, pos, ◌+ℤ◌, ◌*ℤ◌, unsigned_abs}
+use Rattle.std.proofs.lemmas.Int.{ints}
+use Rattle.finite.specs.Sums.{sum_below, total_below}
+use Rattle.finite.proofs.Integers.{abs-sum, mul-distributes}
+
+-- ---- whole numbers
+
+pub sum_below_none : (f : ℕ → ℤ) → sum_below 0 f ≡ pos 0
+unfolding sum_below
+sum_below_none f = refl
+
+pub sum_below_more : (n : ℕ) (f : ℕ → ℤ) → sum_below (n + 1) f ≡ sum_below n f +ℤ f n
+unfolding sum_below
+sum_below_more n f = rw add-one refl
+
+pub sum_below_same : (n : ℕ) (f g : ℕ → ℤ) → ((k : ℕ) → k < n → f k ≡ g k) → sum_below n f ≡ sum_below n g
+unfolding sum_below
+sum_below_same zero f g h = refl
+sum_below_same (suc n) f g h =
+    let before = sum_below_same n f g (λ k l. h k (omega arith)) in
+    let here = h n (omega arith) in
+    cc
+
+pub sum_below-within : (n bound : ℕ) (f : ℕ → ℤ) → ((k : ℕ) → k < n → unsigned_abs (f k) ≤ bound) → unsigned_abs (sum_below n f) ≤ n * bound
+unfolding sum_below
+sum_below-within zero bound f h = omega arith
+sum_below-within (suc n) bound f h =
+    let before = sum_below-within n bound f (λ k l. h k (omega arith)) in
+    omega (arith, before, h n (omega arith), abs-sum (sum_below n f) (f n))
+
+pub sum_below_plus : (n : ℕ) (f g : ℕ → ℤ) → sum_below n (λ k. f k +ℤ g k) ≡ sum_below n f +ℤ sum_below n g
+unfolding sum_below
+sum_below_plus zero f g = refl
+sum_below_plus (suc n) f g = let h = sum_below_plus n f g in omega (arith, ints, h)
+
+pub sum_below_scaled : (n : ℕ) (a : ℤ) (f : ℕ → ℤ) → sum_below n (λ k. a *ℤ f k) ≡ a *ℤ sum_below n f
+unfolding sum_below
+sum_below_scaled zero a f = omega (arith, ints)
+sum_below_scaled (suc n) a f = ap (λ s. s +ℤ a *ℤ f n) (sum_below_scaled n a f) ∙ sym (mul-distributes a (sum_below n f) (f n))
+
+pub sum_below_zeros : (n : ℕ) → sum_below n (λ _. pos 0) ≡ pos 0
+unfolding sum_below
+sum_below_zeros zero = refl
+sum_below_zeros (suc n) = let h = sum_below_zeros n in omega (arith, ints, h)
+
+pub sum_below_swap : (n m : ℕ) (f : ℕ → ℕ → ℤ) → sum_below n (λ i. sum_below m (f i)) ≡ sum_below m (λ j. sum_below n (λ i. f i j))
+unfolding sum_below
+sum_below_swap zero m f = sym (sum_below_zeros m)
+sum_below_swap (suc n) m f = ap (λ s. s +ℤ sum_below m (f n)) (sum_below_swap n m f) ∙ sym (sum_below_plus m (λ j. sum_below n (λ i. f i j)) (f n))
+
+pub sum_below_split : (n m : ℕ) (f : ℕ → ℤ) → sum_below (n + m) f ≡ sum_below n f +ℤ sum_below m (λ k. f (n + k))
+unfolding sum_below
+sum_below_split n zero f = let e : n + 0 ≡ n = omega arith in rw e (omega (arith, ints))
+sum_below_split n (suc m) f =
+    let e : n + suc m ≡ suc (n + m) = omega arith in
+    let h = sum_below_split n m f in
+    subst (λ l. sum_below l f ≡ sum_below n f +ℤ (sum_below m (λ k. f (n + k)) +ℤ f (n + m))) (sym e) (omega (arith, ints, h))
+
+-- ---- natural numbers
+
+pub total_below_none : (f : ℕ → ℕ) → total_below 0 f ≡ 0
+unfolding total_below
+total_below_none f = refl
+
+pub total_below_more : (n : ℕ) (f : ℕ → ℕ) → total_below (n + 1) f ≡ total_below n f + f n
+unfolding total_below
+total_below_more n f = rw add-one refl
+
+pub total_below_same : (n : ℕ) (f g : ℕ → ℕ) → ((k : ℕ) → k < n → f k ≡ g k) → total_below n f ≡ total_below n g
+unfolding total_below
+total_below_same zero f g h = refl
+total_below_same (suc n) f g h =
+    let before = total_below_same n f g (λ k l. h k (omega arith)) in
+    let here = h n (omega arith) in
+    cc
+
+pub total_below-within : (n bound : ℕ) (f : ℕ → ℕ) → ((k : ℕ) → k < n → f k ≤ bound) → total_below n f ≤ n * bound
+unfolding total_below
+total_below-within zero bound f h = omega arith
+total_below-within (suc n) bound f h =
+    let before = total_below-within n bound f (λ k l. h k (omega arith)) in
+    omega (arith, before, h n (omega arith))
+
+pub total_below_plus : (n : ℕ) (f g : ℕ → ℕ) → total_below n (λ k. f k + g k) ≡ total_below n f + total_below n g
+unfolding total_below
+total_below_plus zero f g = refl
+total_below_plus (suc n) f g = let h = total_below_plus n f g in omega (arith, h)
+
+pub total_below_split : (n m : ℕ) (f : ℕ → ℕ) → total_below (n + m) f ≡ total_below n f + total_below m (λ k. f (n + k))
+unfolding total_below
+total_below_split n zero f = let e : n + 0 ≡ n = omega arith in rw e (omega arith)
+total_below_split n (suc m) f =
+    let e : n + suc m ≡ suc (n + m) = omega arith in
+    let h = total_below_split n m f in
+    subst (λ l. total_below l f ≡ total_below n f + (total_below m (λ k. f (n + k)) + f (n + m))) (sym e) (omega (arith, h))
