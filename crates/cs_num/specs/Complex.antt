@@ -1,5 +1,5 @@
 -- Whole complex numbers: pairs of whole numbers, with the ring's operations.
-use Rattle.std.specs.Prelude.{ℕ, ◌+◌, ◌*◌, ◌≤◌, pos, ◌+ℤ◌, ◌-ℤ◌, ◌*ℤ◌, neg_ℤ, unsigned_abs, max}
+use Rattle.std.specs.Prelude.{List, slice_index_or, ℕ, ◌+◌, ◌*◌, ◌≤◌, pos, ◌+ℤ◌, ◌-ℤ◌, ◌*ℤ◌, neg_ℤ, unsigned_abs, max}
 use Rattle.cs_num.specs.declared.Cpx.{Cpx}
 use Rattle.cs_num.specs.declared.Sample.{Sample}
 
@@ -42,3 +42,7 @@ pub record IsWithin (bound : ℕ) (a : Cpx) : Type 0 where
 -- the number that a sample is
 abbrev pub value_of : Sample → Cpx
 value_of s = record { re = s.re; im = s.im }
+
+-- the value at a place of a list, and nothing past its end
+abbrev pub value_at : List Cpx → ℕ → Cpx
+value_at values k = slice_index_or values k nothing

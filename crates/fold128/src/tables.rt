@@ -1,0 +1,83 @@
+//! The tables W and Z, read by octant and by half period.
+
+ghost use Rattle.std.specs.Prelude.{◌≡◌, ◌<◌, ◌≤◌, slice_index};
+ghost use Rattle.cs_num.specs.Complex.{IsWithin};
+ghost use Rattle.fold128.specs.Tables.{quarter, z_half, cosine, w_at, z_at};
+
+use cs_num::Cpx;
+
+// C(0) to C(32), the real parts of the first quarter turn of W.
+const QUARTER: [u16; 33] = [
+    16384, 16364, 16305, 16207, 16069, 15893, 15679, 15426, 15137, 14811, 14449, 14053, 13623,
+    13160, 12665, 12140, 11585, 11003, 10394, 9760, 9102, 8423, 7723, 7005, 6270, 5520, 4756, 3981,
+    3196, 2404, 1606, 804, 0,
+];
+
+// The real parts of Z(0) to Z(31).
+const Z_REAL: [i8; 32] = [
+    127, 126, 124, 121, 117, 112, 105, 97, 89, 79, 69, 58, 46, 34, 22, 9, -3, -16, -28, -40, -52,
+    -64, -74, -84, -93, -101, -108, -114, -119, -123, -126, -127,
+];
+
+// Their imaginary parts.
+const Z_IMAGINARY: [i8; 32] = [
+    0, 13, 25, 37, 49, 61, 72, 82, 91, 99, 107, 113, 118, 122, 125, 127, 127, 126, 124, 120, 116,
+    110, 103, 95, 86, 77, 66, 55, 43, 31, 19, 6,
+];
+
+// C at a place of the first quarter turn.
+fn quarter_of(m: usize) -> u16
+    requires { m ≤ 32 }
+    ensures value { result ≡ slice_index quarter m }
+    ensures small { result ≤ 16384 }
+{
+    QUARTER[m]
+}
+
+// C(m).
+fn cosine_of(m: usize) -> i64
+    ensures { result ≡ cosine m }
+{
+    let place = m % 128;
+    let half = if place <= 64 { place } else { 128 - place };
+    if half <= 32 {
+        quarter_of(half) as i64
+    } else {
+        -(quarter_of(64 - half) as i64)
+    }
+}
+
+/// W(m), near 16384 times the 128th root of one to the power m, of period 128. (own)
+pub fn w(m: usize) -> Cpx
+    ensures { result ≡ w_at m }
+{
+    let m = m % 128;
+    Cpx {
+        re: cosine_of(m),
+        im: cosine_of(m + 96),
+    }
+}
+
+// Z at a place of the first half period.
+fn z_half_of(m: usize) -> Cpx
+    requires { m < 32 }
+    ensures value { result ≡ z_half m }
+    ensures small { IsWithin 127 result }
+{
+    Cpx {
+        re: Z_REAL[m] as i64,
+        im: Z_IMAGINARY[m] as i64,
+    }
+}
+
+/// Z(m), near 127 times the 63rd root of one to the power m, of period 63. (own)
+pub fn z63(m: usize) -> Cpx
+    ensures { result ≡ z_at m }
+{
+    let place = m % 63;
+    if place <= 31 {
+        z_half_of(place)
+    } else {
+        z_half_of(63 - place).conj()
+    }
+}
