@@ -1,0 +1,27 @@
+-- Recordings: lists of samples, and the bytes that stand for them. (own; the form of raw 16-bit captures)
+use Rattle.std.specs.Prelude.{ℕ, ◌≤◌, List, [], ◌∷◌, length, slice_index_or, ℤ, pos}
+use Rattle.std.specs.Int.{cast_signed, from_le_bytes, w16}
+use Rattle.cs_num.specs.declared.Cpx.{Cpx}
+use Rattle.cs_num.specs.declared.Sample.{Sample}
+use Rattle.cs_num.specs.Complex.{value_of}
+
+-- the signed 16-bit number of two bytes, the low one first
+abbrev pub component_of : ℕ → ℕ → ℤ
+component_of low high = cast_signed w16 (from_le_bytes w16 (low ∷ high ∷ []))
+
+-- the samples that bytes stand for: four bytes each, the real component first
+abbrev pub samples_of : List ℕ → List Sample
+samples_of (a ∷ b ∷ c ∷ d ∷ bytes) = record { re = component_of a b; im = component_of c d } ∷ samples_of bytes
+samples_of bytes = []
+
+-- a recording has 57,600 to 1,920,000 samples
+pub record IsRecording (samples : List Sample) : Type 0 where
+  pub least : 57600 ≤ length samples
+  pub most : length samples ≤ 1920000
+
+abbrev pub silence : Sample
+silence = record { re = pos 0; im = pos 0 }
+
+-- the number that sample i of a recording is, and nothing past its end
+abbrev pub sample_at : List Sample → ℕ → Cpx
+sample_at samples i = value_of (slice_index_or samples i silence)
