@@ -1,0 +1,47 @@
+//! The primary sequence.
+
+ghost use Rattle.std.specs.Prelude.{◌≡◌, ◌<◌, ◌≤◌};
+ghost use Rattle.sync_seq.specs.Primary.{root_of, pss_at, pss_list};
+
+use cs_num::Cpx;
+use fold128::z63;
+
+/// The 62 values of the primary synchronisation sequence of an identity within its group
+/// (TS 36.211 section 6.11.1), from the table of 63rd roots of one. `n2` is 0 to 2.
+pub fn pss(n2: u8) -> [Cpx; 62]
+    requires { n2 ≤ 2 }
+    ensures { result ≡ pss_list n2 }
+{
+    let mut values = [Cpx { re: 0, im: 0 }; 62];
+    for n in 0..62 {
+        values[n] = pss_value(n2, n);
+    }
+    values
+}
+
+// Value n.
+fn pss_value(n2: u8, n: usize) -> Cpx
+    requires identity { n2 ≤ 2 }
+    requires n { n < 62 }
+    ensures { result ≡ pss_at n2 n }
+{
+    let turns = if n < 31 {
+        n * (n + 1) / 2
+    } else {
+        (n + 1) * (n + 2) / 2
+    };
+    z63((63 - root(n2)) * turns)
+}
+
+// The root index.
+fn root(n2: u8) -> usize
+    requires { n2 ≤ 2 }
+    ensures value { result ≡ root_of n2 }
+    ensures small { result ≤ 34 }
+{
+    match n2 {
+        0 => 25,
+        1 => 29,
+        _ => 34,
+    }
+}
