@@ -1,6 +1,11 @@
 -- Lists over the numbers below n.
-use Rattle.std.proofs.Common.{◌≡◌, ℕ, zero, suc, ◌+◌, ◌<◌, ◌++◌, ◌∷◌, List, [], arith, refl, sym, subst, ◌∙◌, length, get_or, add-one}
+use Rattle.std.proofs.Common.{◌≡◌, ℕ, zero, suc, ◌+◌, ◌-◌, ◌<◌, ◌≤◌, ◌++◌, ◌∷◌, ◌⊎◌, inl, inr, List, [], Bool, true, false, nat_lt, arith, refl, sym, subst, ◌∙◌, length, length-append, get_or, add-one}
 use Rattle.std.proofs.lemmas.List.FromFn.{get_or-map-range_with_len, map-range_with_len_more, length-map-range_with_len}
+use Rattle.std.specs.List.{Contains, AllPairs}
+use Rattle.std.proofs.lemmas.List.Elements.{Contains-append_left, Contains-append_right, Contains-append_cases, Contains-get_or}
+use Rattle.std.proofs.lemmas.List.{get_or-append_right}
+use Rattle.std.proofs.Math.ListN.{get_or-append}
+use Rattle.std.proofs.lemmas.Bool.{ltb-true, ltb-false, cases_lt}
 use Rattle.finite.specs.Lists.{values_below, joined_below}
 
 pub values_below-length : {A : Type 0} (n : ℕ) (f : ℕ → A) → length (values_below n f) ≡ n
@@ -37,3 +42,56 @@ joined_below_same (suc n) f g h =
     let before = joined_below_same n f g (λ k l. h k (omega arith)) in
     let here = h n (omega arith) in
     rw (before, here) refl
+
+-- ---- what joined lists contain
+
+pub Contains-in_joined : {A : Type 0} (n : ℕ) (f : ℕ → List A) (x : A) → Contains (joined_below n f) x → (k : ℕ) × (k < n) × Contains (f k) x
+unfolding joined_below
+Contains-in_joined zero f x (i, l, e) = absurd (omega (arith, l))
+Contains-in_joined (suc n) f x h =
+    let before : Contains (joined_below n f) x → (k : ℕ) × (k < suc n) × Contains (f k) x =
+    λ c. let (k, l, here) = Contains-in_joined n f x c in (k, omega (arith, l), here) in
+    elim (Contains-append_cases (joined_below n f) (f n) x h) [
+      | inl c ↦ before c
+      | inr c ↦ (n, omega arith, c)
+    ]
+
+pub Contains-joined : {A : Type 0} (n k : ℕ) (f : ℕ → List A) (x : A) → k < n → Contains (f k) x → Contains (joined_below n f) x
+unfolding joined_below
+Contains-joined zero k f x l h = absurd (omega (arith, l))
+Contains-joined (suc n) k f x l h = settle (nat_lt k n) refl (λ below. Contains-joined n k f x below h)
+  where
+    settle : (b : Bool) → nat_lt k n ≡ b → (k < n → Contains (joined_below n f) x) → Contains (joined_below n f ++ f n) x
+    settle true e before = Contains-append_left (joined_below n f) (f n) x (before (ltb-true k n e))
+    settle false e before =
+        let s : k ≡ n = omega (arith, ltb-false k n e) in
+        Contains-append_right (joined_below n f) (f n) x (subst (λ i. Contains (f i) x) s h)
+
+-- ---- order
+
+pub AllPairs-append : {A : Type 0} (R : A → A → Type 0) (xs ys : List A) → AllPairs R xs → AllPairs R ys →
+    ((x y : A) → Contains xs x → Contains ys y → R x y) → AllPairs R (xs ++ ys)
+AllPairs-append R xs ys p q across i j d below inside = place (cases_lt i (length xs)) (cases_lt j (length xs))
+  where
+    long : length (xs ++ ys) ≡ length xs + length ys
+    long = length-append xs ys
+
+    place : (i < length xs) ⊎ (length xs ≤ i) → (j < length xs) ⊎ (length xs ≤ j) → R (get_or (xs ++ ys) i d) (get_or (xs ++ ys) j d)
+    place (inl a) (inl b) = rw (get_or-append xs ys d i a, get_or-append xs ys d j b) (p i j d below b)
+    place (inl a) (inr b) =
+        rw (get_or-append xs ys d i a, get_or-append_right xs ys (length xs) j d refl b)
+        (across _ _ (Contains-get_or xs i d a) (Contains-get_or ys (j - length xs) d (omega (arith, long, inside))))
+    place (inr a) (inl b) = absurd (omega (arith, a, b, below))
+    place (inr a) (inr b) =
+        rw (get_or-append_right xs ys (length xs) i d refl a, get_or-append_right xs ys (length xs) j d refl b)
+        (q (i - length xs) (j - length xs) d (omega (arith, a, b, below)) (omega (arith, long, inside)))
+
+-- each list is in order, and what stands in one comes before what stands in a later one
+pub joined_below-pairs : {A : Type 0} (R : A → A → Type 0) (n : ℕ) (f : ℕ → List A) → ((k : ℕ) → k < n → AllPairs R (f k)) →
+    ((i j : ℕ) (x y : A) → i < j → j < n → Contains (f i) x → Contains (f j) y → R x y) → AllPairs R (joined_below n f)
+unfolding joined_below
+joined_below-pairs R zero f each across = λ i j d below inside. absurd (omega (arith, inside))
+joined_below-pairs R (suc n) f each across =
+    let before = joined_below-pairs R n f (λ k l. each k (omega (arith, l))) (λ i j x y l m. across i j x y l (omega (arith, m))) in
+    AllPairs-append R (joined_below n f) (f n) before (each n (omega arith))
+    (λ x y a b. let (k, l, c) = Contains-in_joined n f x a in across k n x y l (omega arith) c b)

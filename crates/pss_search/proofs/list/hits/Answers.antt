@@ -1,0 +1,18 @@
+use Rattle.std.proofs.Common.{◌∙◌, ◌+◌, sym, ap}
+use Rattle.pss_search.specs.Hits.{so_far}
+use Rattle.pss_search.proofs.Room.{so_far_none, hits_before_none, hits_before_more}
+use Rattle.pss_search.proofs.list.hits.Goals as goal
+
+pub loop-i-init : goal.loop-i-init
+loop-i-init c = c.clear.ensures ∙ sym (hits_before_none c.args.recording.now)
+
+pub add_of-requires-clause-before : goal.add_of-requires-clause-before
+add_of-requires-clause-before c =
+    rw (c.as_slice-samples.ensures.value, c.new-first.ensures) (c.loop-i.invariant ∙ sym (so_far_none c.args.recording.now c.loop-i.i))
+
+pub loop-i-preserved : goal.loop-i-preserved
+loop-i-preserved c =
+    c.add_of-in-loop-i-2.ensures
+    ∙ ap (λ r. so_far r c.loop-i.i (c.new-third.result.n2 + 1)) c.as_slice-samples.ensures.value
+    ∙ ap (λ n. so_far c.args.recording.now c.loop-i.i (n + 1)) c.new-third.ensures
+    ∙ sym (hits_before_more c.args.recording.now c.loop-i.i)

@@ -1,0 +1,6 @@
+use Rattle.std.proofs.Common.{◌≡◌}
+use Rattle.pss_search.specs.Hits.{hits_before}
+use Rattle.pss_search.proofs.list.hits.Given as goal
+
+abbrev pub invariant-loop-i : goal.invariant-loop-i
+invariant-loop-i l = l.list ≡ hits_before l.recording l.i

@@ -1,0 +1,42 @@
+-- The correlation of a recording with the primary synchronisation signals. (own)
+use Rattle.std.specs.Prelude.{ℕ, ◌+◌, ◌-◌, List, nat_lt, if◌then◌else◌}
+use Rattle.cs_num.specs.declared.Cpx.{Cpx}
+use Rattle.cs_num.specs.declared.Sample.{Sample}
+use Rattle.cs_num.specs.Complex.{nothing, times, conjugate, square}
+use Rattle.cs_num.specs.Sums.{complex_sum_below}
+use Rattle.finite.specs.Sums.{total_below}
+use Rattle.fold128.specs.Symbol.{useful_at, useful_part}
+use Rattle.sync_seq.specs.Primary.{pss_at}
+use Rattle.sample_file.specs.Recording.{sample_at}
+
+-- the grid of a symbol that holds the primary sequence of n2 alone, in the middle 62 subcarriers
+abbrev pub pss_grid : ℕ → ℕ → Cpx
+pss_grid n2 k = if nat_lt k 5 then nothing else if nat_lt k 67 then pss_at n2 (k - 5) else nothing
+
+-- p: sample n of the useful part of that symbol
+unfoldable pub wave : ℕ → ℕ → Cpx
+wave n2 n = useful_at (pss_grid n2) n
+
+-- the whole useful part
+abbrev pub wave_list : ℕ → List Cpx
+wave_list n2 = useful_part (pss_grid n2)
+
+-- P: the sum of |p(n)| ^ 2
+unfoldable pub wave_power : ℕ → ℕ
+wave_power n2 = total_below 128 (λ n. square (wave n2 n))
+
+-- r(t + n) * conj p(n)
+abbrev pub peak_term : (ℕ → Cpx) → List Sample → ℕ → ℕ → Cpx
+peak_term p recording t n = times (sample_at recording (t + n)) (conjugate (p n))
+
+-- C: the square of the size of their sum
+unfoldable pub peak : List Sample → ℕ → ℕ → ℕ
+peak recording n2 t = square (complex_sum_below 128 (peak_term (wave n2) recording t))
+
+-- |r(t + n)| ^ 2
+abbrev pub energy_term : List Sample → ℕ → ℕ → ℕ
+energy_term recording t n = square (sample_at recording (t + n))
+
+-- E: their sum
+unfoldable pub energy : List Sample → ℕ → ℕ
+energy recording t = total_below 128 (energy_term recording t)

@@ -1,0 +1,77 @@
+-- The places where a primary synchronisation signal stands out. The metric of a place is the fraction peak / energy;
+-- fractions are compared by cross products, and only places with energy are compared. (own)
+use Rattle.std.specs.Prelude.{◌≡◌, ℕ, ◌+◌, ◌-◌, ◌*◌, ◌<◌, ◌≤◌, List, [], ◌∷◌, ◌++◌, Bool, nat_lt, nat_le, not, ◌==◌, ◌&&◌, ◌||◌, if◌then◌else◌}
+use Rattle.cs_num.specs.declared.Sample.{Sample}
+use Rattle.lte_types.specs.declared.Hit.{Hit}
+use Rattle.finite.specs.Tests.{any_below}
+use Rattle.finite.specs.Lists.{joined_below}
+use Rattle.pss_search.specs.Correlation.{peak, energy, wave_power}
+
+-- the metric of the first place is greater than that of the second
+pub record IsAbove (recording : List Sample) (n2 first second : ℕ) : Type 0 where
+  pub first_sounds : 0 < energy recording first
+  pub second_sounds : 0 < energy recording second
+  pub greater : peak recording n2 second * energy recording first < peak recording n2 first * energy recording second
+
+-- the metrics of two places are equal
+pub record IsLevel (recording : List Sample) (n2 first second : ℕ) : Type 0 where
+  pub first_sounds : 0 < energy recording first
+  pub second_sounds : 0 < energy recording second
+  pub equal : peak recording n2 second * energy recording first ≡ peak recording n2 first * energy recording second
+
+-- the place t is a hit of n2: it lies in the span of one frame and has energy, a quarter of the energy's share at least
+-- is the signal's, no place at distance 1 to 9 is above it, and none before it there is level with it
+pub record IsHit (recording : List Sample) (t n2 : ℕ) : Type 0 where
+  pub from_first : 137 ≤ t
+  pub to_last : t ≤ 19336
+  pub sounds : 0 < energy recording t
+  pub clear : energy recording t * wave_power n2 ≤ 4 * peak recording n2 t
+  pub none_above : (u : ℕ) → u ≤ t + 9 → t ≤ u + 9 → ¬ IsAbove recording n2 u t
+  pub none_level_before : (u : ℕ) → u < t → t ≤ u + 9 → ¬ IsLevel recording n2 u t
+
+-- ---- the same as tests
+
+abbrev pub is_above : List Sample → ℕ → ℕ → ℕ → Bool
+is_above recording n2 first second = nat_lt 0 (energy recording first) && nat_lt 0 (energy recording second) &&
+    nat_lt (peak recording n2 second * energy recording first) (peak recording n2 first * energy recording second)
+
+abbrev pub is_level : List Sample → ℕ → ℕ → ℕ → Bool
+is_level recording n2 first second = nat_lt 0 (energy recording first) && nat_lt 0 (energy recording second) &&
+    (peak recording n2 second * energy recording first == peak recording n2 first * energy recording second)
+
+-- the place u rules t out, where it is near enough
+unfoldable pub rules_out : List Sample → ℕ → ℕ → ℕ → Bool
+rules_out recording n2 t u = is_above recording n2 u t || (nat_lt u t && is_level recording n2 u t)
+
+-- some place within 9 does
+unfoldable pub is_ruled_out : List Sample → ℕ → ℕ → Bool
+is_ruled_out recording n2 t = any_below 19 (λ d. rules_out recording n2 t (t - 9 + d))
+
+unfoldable pub is_hit : List Sample → ℕ → ℕ → Bool
+is_hit recording t n2 = nat_lt 0 (energy recording t) && nat_le (energy recording t * wave_power n2) (4 * peak recording n2 t) && not (is_ruled_out recording n2 t)
+
+-- ---- the list of hits
+
+-- what is told of a hit
+abbrev pub found : List Sample → ℕ → ℕ → Hit
+found recording t n2 = record { t = t; n2 = n2; peak = peak recording n2 t; energy = energy recording t }
+
+-- the hit of n2 at t, where there is one
+unfoldable pub hit_at : List Sample → ℕ → ℕ → List Hit
+hit_at recording t n2 = if is_hit recording t n2 then found recording t n2 ∷ [] else []
+
+-- those of a place, by n2
+unfoldable pub hits_at : List Sample → ℕ → List Hit
+hits_at recording t = joined_below 3 (hit_at recording t)
+
+-- those of the first places of the span, by place
+unfoldable pub hits_before : List Sample → ℕ → List Hit
+hits_before recording count = joined_below count (λ i. hits_at recording (137 + i))
+
+-- all of them
+abbrev pub hits_of : List Sample → List Hit
+hits_of recording = hits_before recording 19200
+
+-- those of the first places, and of the lower roots at the next
+abbrev pub so_far : List Sample → ℕ → ℕ → List Hit
+so_far recording i n2 = hits_before recording i ++ joined_below n2 (hit_at recording (137 + i))

@@ -1,0 +1,29 @@
+-- What the list of hits is, in plain words.
+use Rattle.std.specs.Prelude.{◌≡◌, ℕ, ◌+◌, ◌*◌, ◌<◌, ◌≤◌, ◌↔◌, List, true}
+use Rattle.std.specs.List.{Contains, AllPairs}
+use Rattle.cs_num.specs.declared.Sample.{Sample}
+use Rattle.lte_types.specs.declared.Hit.{Hit}
+use Rattle.pss_search.specs.Hits.{IsHit, is_hit, found, hits_of}
+
+-- the test of a place of the span is the definition of a hit
+abbrev pub TestIsRight : Type 0
+TestIsRight = (recording : List Sample) (t n2 : ℕ) → 137 ≤ t → t ≤ 19336 →
+    (is_hit recording t n2 ≡ true → IsHit recording t n2) × (IsHit recording t n2 → is_hit recording t n2 ≡ true)
+
+-- what is listed is a hit of one of the three roots, with its peak and energy
+pub record IsHitOf (recording : List Sample) (hit : Hit) : Type 0 where
+  pub root : hit.n2 < 3
+  pub is_hit : IsHit recording hit.t hit.n2
+  pub measured : hit ≡ found recording hit.t hit.n2
+
+-- each listed place is a hit, and each hit is listed
+abbrev pub ListIsRight : Type 0
+ListIsRight = (recording : List Sample) (hit : Hit) → Contains (hits_of recording) hit ↔ IsHitOf recording hit
+
+-- the first hit stands before the second: by place, and then by identity within the group
+abbrev pub IsEarlier : Hit → Hit → Type 0
+IsEarlier first second = 3 * first.t + first.n2 < 3 * second.t + second.n2
+
+-- the list is in order, so that none is listed twice
+abbrev pub ListIsInOrder : Type 0
+ListIsInOrder = (recording : List Sample) → AllPairs IsEarlier (hits_of recording)

@@ -1,0 +1,84 @@
+//! Which places are hits.
+
+ghost use Rattle.std.specs.Prelude.{◌≡◌, ℕ, ◌+◌, ◌*◌, ◌^◌, ◌<◌, ◌≤◌, length};
+ghost use Rattle.std.specs.Option.{option_to_list};
+ghost use Rattle.pss_search.specs.Correlation.{peak, energy};
+ghost use Rattle.pss_search.specs.Hits.{rules_out, is_ruled_out, is_hit, hit_at};
+
+use crate::measure::{Metric, metric_at};
+use crate::root::Root;
+use cs_num::Sample;
+use lte_types::Hit;
+
+// The hit of a root at a place, where there is one.
+#[tactic(auto, unfolding(crate::specs::Hits::hit_at))]
+pub(crate) fn hit_of(recording: &[Sample], root: &Root, t: usize) -> Option<Hit>
+    requires first { 137 ≤ t }
+    requires last { t ≤ 19336 }
+    requires long { 57600 ≤ length recording.now }
+    ensures { option_to_list result ≡ hit_at recording.now t root.now.n2 }
+{
+    let own = metric_at(recording, root, t);
+    if stands_out(recording, root, t, own) {
+        Some(Hit {
+            t: t as u32,
+            n2: root.n2,
+            peak: own.peak,
+            energy: own.energy,
+        })
+    } else {
+        None
+    }
+}
+
+// Whether the place is a hit, its own metric being known.
+#[tactic(auto, using(std::proofs::lemmas::Bool::Decides::nat_tests), unfolding(crate::specs::Hits::is_hit))]
+fn stands_out(recording: &[Sample], root: &Root, t: usize, own: Metric) -> bool
+    requires first { 137 ≤ t }
+    requires last { t ≤ 19336 }
+    requires long { 57600 ≤ length recording.now }
+    requires peak { own.peak ≡ peak recording.now root.now.n2 t }
+    requires energy { own.energy ≡ energy recording.now t }
+    requires small_peak { own.peak < 2 ^ 70 }
+    requires small_energy { own.energy ≤ 2 ^ 38 }
+    ensures { result ≡ is_hit recording.now t root.now.n2 }
+{
+    own.energy > 0
+        && own.energy as u128 * root.power as u128 <= 4 * own.peak
+        && !is_ruled_out_at(recording, root, t, own)
+}
+
+// Whether some place within 9 rules it out.
+fn is_ruled_out_at(recording: &[Sample], root: &Root, t: usize, own: Metric) -> bool
+    requires first { 137 ≤ t }
+    requires last { t ≤ 19336 }
+    requires long { 57600 ≤ length recording.now }
+    requires peak { own.peak ≡ peak recording.now root.now.n2 t }
+    requires energy { own.energy ≡ energy recording.now t }
+    requires small_peak { own.peak < 2 ^ 70 }
+    requires small_energy { own.energy ≤ 2 ^ 38 }
+    ensures { result ≡ is_ruled_out recording.now root.now.n2 t }
+{
+    for d in 0..19 {
+        if rules_out_at(recording, root, t, own, t - 9 + d) {
+            return true;
+        }
+    }
+    false
+}
+
+// Whether the place u does: it is above t, or stands before t and is level with it.
+#[tactic(auto, using(std::proofs::lemmas::Bool::Decides::nat_tests), unfolding(crate::specs::Hits::rules_out))]
+fn rules_out_at(recording: &[Sample], root: &Root, t: usize, own: Metric, u: usize) -> bool
+    requires room { u + 128 ≤ length recording.now }
+    requires peak { own.peak ≡ peak recording.now root.now.n2 t }
+    requires energy { own.energy ≡ energy recording.now t }
+    requires small_peak { own.peak < 2 ^ 70 }
+    requires small_energy { own.energy ≤ 2 ^ 38 }
+    ensures { result ≡ rules_out recording.now root.now.n2 t u }
+{
+    let other = metric_at(recording, root, u);
+    let theirs = other.peak * own.energy as u128;
+    let ours = own.peak * other.energy as u128;
+    other.energy > 0 && own.energy > 0 && (theirs > ours || (u < t && theirs == ours))
+}

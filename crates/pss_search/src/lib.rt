@@ -1,0 +1,19 @@
+//! The places of a recording where a primary synchronisation signal stands out.
+#![tactic(auto)]
+
+mod choose;
+mod list;
+mod measure;
+mod root;
+
+ghost use Rattle.pss_search.specs.Laws.{TestIsRight, ListIsRight, ListIsInOrder};
+
+pub use list::{HitList, hits};
+
+/// The list of hits in plain words: the test of a place is the definition of a hit, each listed
+/// place is a hit and each hit is listed, and the list is in order, so that none stands twice.
+pub fn hits_are_right()
+    ensures test { TestIsRight }
+    ensures list { ListIsRight }
+    ensures order { ListIsInOrder }
+{}

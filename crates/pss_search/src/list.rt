@@ -1,0 +1,95 @@
+//! The list of hits.
+
+ghost use Rattle.std.specs.Prelude.{◌≡◌, ℕ, ◌+◌, ◌≤◌, ◌<◌, List, [], ◌∷◌, ◌++◌, length, IfOk};
+ghost use Rattle.std.specs.Option.{option_to_list};
+ghost use Rattle.std.specs.Vec.{vec_capacity};
+ghost use Rattle.lte_types.specs.declared.Hit.{Hit};
+ghost use Rattle.pss_search.specs.Hits.{hits_of, so_far};
+
+use crate::choose::hit_of;
+use crate::root::Root;
+use cs_num::Sample;
+use lte_types::Hit;
+use sample_file::Recording;
+use std::alloc::{AllocError, Global};
+use std::marker::Model;
+
+/// A list of hits with room for 5,760, which no recording passes. Contracts see it as the list of
+/// its items.
+#[derive(Drop)]
+pub struct HitList {
+    hits: Vec<Hit>,
+}
+
+impl Model for HitList {
+    ghost Value = { List Hit };
+
+    ghost view = { λ l. l.hits.items };
+
+    ghost invariant = { λ l. 5760 ≤ vec_capacity l.hits };
+}
+
+impl HitList {
+    /// The empty list, with its memory taken. Only memory can be wanting.
+    pub fn new(alloc: Global) -> Result<Self, AllocError>
+        ensures { IfOk result (λ l. l ≡ []) }
+    {
+        Ok(HitList {
+            hits: Vec::with_capacity(alloc, 5760)?,
+        })
+    }
+
+    /// The items in order.
+    pub fn slice(&self) -> &[Hit]
+        ensures { result.now ≡ self.now }
+    {
+        &self.hits
+    }
+
+    fn clear(&mut self)
+        ensures { self.new ≡ [] }
+    {
+        self.hits.clear();
+    }
+
+    fn add(&mut self, hit: Hit)
+        requires { length self.old < 5760 }
+        ensures { self.new ≡ self.old ++ hit ∷ [] }
+    {
+        match self.hits.push(hit) {
+            Ok(()) => {}
+            Err(_) => unreachable!(),
+        }
+    }
+}
+
+/// Afterwards the list holds the hits of the recording, by place and then by identity within the
+/// group, each with its peak and energy, whatever it held before: the places of the first frame at
+/// which a primary synchronisation signal stands out. It takes no memory. (own)
+pub fn hits(recording: &Recording, list: &mut HitList)
+    ensures { list.new ≡ hits_of recording.now }
+{
+    let samples = recording.as_slice();
+    let first = Root::new(0);
+    let second = Root::new(1);
+    let third = Root::new(2);
+    list.clear();
+    for i in 0..19200 {
+        add_of(samples, &first, i, list);
+        add_of(samples, &second, i, list);
+        add_of(samples, &third, i, list);
+    }
+}
+
+// Adds the hit of a root at place i of the span, where there is one.
+fn add_of(recording: &[Sample], root: &Root, i: usize, list: &mut HitList)
+    requires long { 57600 ≤ length recording.now }
+    requires i { i < 19200 }
+    requires before { list.old ≡ so_far recording.now i root.now.n2 }
+    ensures { list.new ≡ so_far recording.now i (root.now.n2 + 1) }
+{
+    match hit_of(recording, root, 137 + i) {
+        Some(hit) => list.add(hit),
+        None => {}
+    }
+}
