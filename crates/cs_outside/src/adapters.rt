@@ -1,0 +1,107 @@
+// A reader and a writer of std as a source and a sink.
+ghost use Rattle.std.specs.Prelude.{◌≡◌, ◌<◌, ◌≤◌, ℕ, None, length, IfOk, OnOk, OnErr};
+ghost use Rattle.std.specs.Io.KnownBytes.{ReadConsumes, WriteAppends};
+ghost use Rattle.cs_outside.specs.Counts.{next_count, last_count};
+ghost use Rattle.cs_outside.specs.States.{StdState};
+
+use crate::{Failed, Sink, Source};
+use std::io::{Read, Write};
+use std::marker::Model;
+
+/// A reader of std as a source. It tells nothing of what is left.
+#[derive(Drop)]
+pub struct StdSource<R: Read + Drop> {
+    inner: R,
+    faults: u64,
+}
+
+impl<R: Read + Drop> Model for StdSource<R> {
+    ghost Value = { StdState R };
+
+    ghost view = { λ s. record { inner = s.inner; faults = s.faults } };
+
+    ghost invariant = { λ s. s.faults ≤ last_count };
+}
+
+impl<R: Read + Drop> StdSource<R> {
+    pub fn new(inner: R) -> Self
+        ensures { result ≡ record { inner = inner; faults = 0 } }
+    {
+        StdSource { inner, faults: 0 }
+    }
+}
+
+impl<R: Read + Drop> Source for StdSource<R> {
+    ghost left = { λ _. None };
+
+    ghost faults = { λ s. s.faults };
+
+    /// Gives what the reader gives. Each `Err` of the reader is a fault.
+    fn read(&mut self, into: &mut [u8]) -> Result<usize, Failed>
+        requires { 0 < length into.old }
+        ensures same_length { length into.new ≡ length into.old }
+        ensures fits { IfOk result (λ n. n ≤ length into.new) }
+        ensures inner { ReadConsumes (R.remaining self.old.inner) (R.remaining self.new.inner) result into.new }
+        ensures ok { OnOk result (self.new.faults ≡ self.old.faults) }
+        ensures err { OnErr result (self.new.faults ≡ next_count self.old.faults) }
+        ensures counted { self.old.faults ≤ last_count }
+    {
+        match self.inner.read(into) {
+            Ok(n) => Ok(n),
+            Err(_) => {
+                self.faults = self.faults.saturating_add(1);
+                Err(Failed)
+            }
+        }
+    }
+}
+
+/// A writer of std as a sink. It tells nothing of what it took.
+#[derive(Drop)]
+pub struct StdSink<W: Write + Drop> {
+    inner: W,
+    faults: u64,
+}
+
+impl<W: Write + Drop> Model for StdSink<W> {
+    ghost Value = { StdState W };
+
+    ghost view = { λ s. record { inner = s.inner; faults = s.faults } };
+
+    ghost invariant = { λ s. s.faults ≤ last_count };
+}
+
+impl<W: Write + Drop> StdSink<W> {
+    pub fn new(inner: W) -> Self
+        ensures { result ≡ record { inner = inner; faults = 0 } }
+    {
+        StdSink { inner, faults: 0 }
+    }
+}
+
+impl<W: Write + Drop> Sink for StdSink<W> {
+    ghost taken = { λ _. None };
+
+    ghost room = { λ _. None };
+
+    ghost faults = { λ s. s.faults };
+
+    /// Takes what the writer takes. Each `Err` and each `Ok(0)` of the writer is a fault.
+    fn write(&mut self, piece: &[u8]) -> Result<usize, Failed>
+        requires { 0 < length piece.now }
+        ensures some { IfOk result (λ n. 0 < n) }
+        ensures fits { IfOk result (λ n. n ≤ length piece.now) }
+        ensures inner { WriteAppends (W.contents self.old.inner) (W.contents self.new.inner) result piece.now }
+        ensures ok { OnOk result (self.new.faults ≡ self.old.faults) }
+        ensures err { OnErr result (self.new.faults ≡ next_count self.old.faults) }
+        ensures counted { self.old.faults ≤ last_count }
+    {
+        match self.inner.write(piece) {
+            Ok(n) if n > 0 => Ok(n),
+            _ => {
+                self.faults = self.faults.saturating_add(1);
+                Err(Failed)
+            }
+        }
+    }
+}

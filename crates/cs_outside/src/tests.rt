@@ -1,0 +1,173 @@
+// What the sources and sinks do in a few calls, and two callers that know only the traits.
+ghost use Rattle.std.specs.Prelude.{◌≡◌, ◌<◌, ◌≤◌, ℕ, length, take, IfOk, IfSome, IsErrOf, OnOk, OnErr};
+ghost use Rattle.cs_outside.specs.Counts.{Rose};
+ghost use Rattle.cs_outside.specs.Streams.{HasRead, HasWritten, WholeInput};
+
+use crate::{FailSink, FailSource, Failed, MemSink, MemSource, Sink, Source, StdSink, StdSource};
+use std::alloc::Global;
+use std::io;
+use std::io::{ErrorKind, Read, Write};
+use std::test::Fail;
+
+#[derive(Clone, Copy, Debug, PartialEq, Eq)]
+enum Stop {
+    TooLong,
+    Fault,
+    OutOfMemory,
+}
+
+const LIMIT: usize = 20;
+
+// Reads a source to its end, which comes within twenty bytes.
+fn read_to_end<S: Source>(alloc: Global, source: &mut S) -> Result<Vec<u8>, Stop>
+    ensures ok { IfOk result (λ bytes. WholeInput bytes.items (S.left source.old) (S.left source.new)) }
+    ensures too_long { IsErrOf result Stop.TooLong → IfSome (S.left source.old) (λ input. LIMIT < length input) }
+    ensures fault { IsErrOf result Stop.Fault → Rose (S.faults source.old) (S.faults source.new) }
+    ensures never_falls { S.faults source.old ≤ S.faults source.new }
+{
+    let mut bytes = Vec::new(alloc);
+    let mut buffer = [0u8; 8];
+    loop {
+        let most = (LIMIT + 1 - bytes.len()).min(8);
+        match source.read(&mut buffer[..most]) {
+            Err(Failed) => return Err(Stop::Fault),
+            Ok(0) => return Ok(bytes),
+            Ok(n) => {
+                if bytes.extend_from_slice(&buffer[..n]).is_err() {
+                    return Err(Stop::OutOfMemory);
+                }
+                if bytes.len() > LIMIT {
+                    return Err(Stop::TooLong);
+                }
+            }
+        }
+    }
+}
+
+// Writes a piece to its end.
+fn write_whole<K: Sink>(sink: &mut K, piece: &[u8]) -> Result<(), Failed>
+    ensures ok { OnOk result (HasWritten piece.now (K.taken sink.old) (K.taken sink.new)) }
+    ensures front { OnErr result ((n : ℕ) × HasWritten (take n piece.now) (K.taken sink.old) (K.taken sink.new)) }
+    ensures full { OnErr result (IfSome (K.room sink.old) (λ left. left < length piece.now)) }
+    ensures fault { OnErr result (Rose (K.faults sink.old) (K.faults sink.new)) }
+    ensures never_falls { K.faults sink.old ≤ K.faults sink.new }
+{
+    let mut rest = piece;
+    while !rest.is_empty() {
+        match sink.write(rest) {
+            Ok(n) => rest = &rest[n..],
+            Err(Failed) => return Err(Failed),
+        }
+    }
+    Ok(())
+}
+
+#[test]
+fn listed_calls_of_a_source_fail(rt: HostRuntime) -> Result<(), Fail> {
+    let alloc = rt.alloc();
+    let bytes = b"hello".to_vec(alloc)?;
+    let mut source = FailSource::new(bytes, [1u64].to_vec(alloc)?, 2);
+    let mut into = [0u8; 4];
+    assert_eq!(rt; source.read(&mut into), Ok(2));
+    assert_eq!(rt; into.as_slice(), b"he\0\0".as_slice());
+    assert_eq!(rt; source.read(&mut into), Err(Failed));
+    assert_eq!(rt; source.read(&mut into), Ok(2));
+    assert_eq!(rt; into.as_slice(), b"ll\0\0".as_slice());
+    assert_eq!(rt; source.read(&mut into), Ok(1));
+    assert_eq!(rt; source.read(&mut into), Ok(0));
+    Ok(())
+}
+
+#[test]
+fn listed_calls_of_a_sink_fail_and_so_does_a_full_one(rt: HostRuntime) -> Result<(), Fail> {
+    let alloc = rt.alloc();
+    let mut sink = FailSink::new(alloc, [1u64].to_vec(alloc)?, 3, 5)?;
+    assert_eq!(rt; sink.write(b"hello"), Ok(3));
+    assert_eq!(rt; sink.write(b"lo"), Err(Failed));
+    assert_eq!(rt; sink.write(b"lo!"), Ok(2));
+    assert_eq!(rt; sink.write(b"!"), Err(Failed));
+    assert_eq!(rt; sink.taken(), b"hello".as_slice());
+    Ok(())
+}
+
+#[test]
+fn a_source_is_read_to_its_end(rt: HostRuntime) -> Result<(), Fail> {
+    let alloc = rt.alloc();
+    let mut source = MemSource::new(b"twelve bytes".to_vec(alloc)?);
+    let read = read_to_end(alloc, &mut source).ok().ok_or("refused")?;
+    assert_eq!(rt; read.as_slice(), b"twelve bytes".as_slice());
+    Ok(())
+}
+
+#[test]
+fn a_fault_ends_the_reading(rt: HostRuntime) -> Result<(), Fail> {
+    let alloc = rt.alloc();
+    let bytes = b"twelve bytes".to_vec(alloc)?;
+    let mut source = FailSource::new(bytes, [2u64].to_vec(alloc)?, 3);
+    assert_eq!(rt; read_to_end(alloc, &mut source).err(), Some(Stop::Fault));
+    Ok(())
+}
+
+#[test]
+fn a_piece_is_written_as_far_as_there_is_room(rt: HostRuntime) -> Result<(), Fail> {
+    let mut sink = MemSink::new(rt.alloc(), 8)?;
+    assert_eq!(rt; write_whole(&mut sink, b"hello"), Ok(()));
+    assert_eq!(rt; write_whole(&mut sink, b" world"), Err(Failed));
+    assert_eq!(rt; sink.taken(), b"hello wo".as_slice());
+    Ok(())
+}
+
+// A reader and a writer of which each call fails, and a writer that takes nothing.
+#[derive(Drop)]
+struct Broken;
+
+impl Read for Broken {
+    fn read(&mut self, _into: &mut [u8]) -> io::Result<usize> {
+        Err(io::Error::from(ErrorKind::BrokenPipe))
+    }
+}
+
+impl Write for Broken {
+    fn write(&mut self, _piece: &[u8]) -> io::Result<usize> {
+        Err(io::Error::from(ErrorKind::BrokenPipe))
+    }
+
+    fn flush(&mut self) -> io::Result<()> {
+        Ok(())
+    }
+}
+
+#[derive(Drop)]
+struct Stuck;
+
+impl Write for Stuck {
+    fn write(&mut self, _piece: &[u8]) -> io::Result<usize> {
+        Ok(0)
+    }
+
+    fn flush(&mut self) -> io::Result<()> {
+        Ok(())
+    }
+}
+
+#[test]
+fn a_reader_of_std_is_a_source(rt: HostRuntime) -> Result<(), Fail> {
+    let mut into = [0u8; 4];
+    let mut source = StdSource::new(b"hello".as_slice());
+    assert_eq!(rt; source.read(&mut into), Ok(4));
+    assert_eq!(rt; into.as_slice(), b"hell".as_slice());
+    assert_eq!(rt; source.read(&mut into), Ok(1));
+    assert_eq!(rt; source.read(&mut into), Ok(0));
+    assert_eq!(rt; StdSource::new(Broken).read(&mut into), Err(Failed));
+    Ok(())
+}
+
+#[test]
+fn a_writer_of_std_is_a_sink(rt: HostRuntime) -> Result<(), Fail> {
+    let mut written = Vec::new(rt.alloc());
+    assert_eq!(rt; StdSink::new(&mut written).write(b"hello"), Ok(5));
+    assert_eq!(rt; written.as_slice(), b"hello".as_slice());
+    assert_eq!(rt; StdSink::new(Broken).write(b"hello"), Err(Failed));
+    assert_eq!(rt; StdSink::new(Stuck).write(b"hello"), Err(Failed));
+    Ok(())
+}
