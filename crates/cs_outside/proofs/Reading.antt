@@ -1,5 +1,5 @@
 -- Bytes that are read in turn.
-use Rattle.std.proofs.Common.{◌≡◌, ℕ, ◌+◌, ◌≤◌, ◌↔◌, arith, refl, ap, sym, ◌∙◌, List, [], ◌∷◌, ◌++◌, length, take, drop, length-append, append_assoc, append-nil, Option, Some, None}
+use Rattle.std.proofs.Common.{◌≡◌, ℕ, ◌+◌, ◌<◌, ◌≤◌, ◌↔◌, arith, refl, ap, sym, ◌∙◌, List, [], ◌∷◌, ◌++◌, length, take, drop, length-append, append_assoc, append-nil, Option, Some, None}
 use Rattle.std.specs.Prelude.{IfSome}
 use Rattle.std.specs.Option.{option_map}
 use Rattle.std.proofs.Math.Seq.{drop-append_seam, take-append_seam}
@@ -15,7 +15,8 @@ pub read_then : (first second : List ℕ) (before between now : Option (List ℕ
     HasRead first before between → HasRead second between now → HasRead (first ++ second) before now
 read_then first second before between None a b = record { in_order = a.in_order ∙ ap (option_map (λ rest. first ++ rest)) b.in_order }
 read_then first second before between (Some rest) a b = record {
-  in_order = a.in_order ∙ ap (option_map (λ rest. first ++ rest)) b.in_order ∙ ap Some (sym (append_assoc first second rest)) }
+  in_order = a.in_order ∙ ap (option_map (λ rest. first ++ rest)) b.in_order ∙ ap Some (sym (append_assoc first second rest));
+}
 
 -- what was read is a front of the input, and what is left comes after it
 pub read_front : (bytes : List ℕ) (before now : Option (List ℕ)) → HasRead bytes before now →
@@ -35,6 +36,12 @@ read_count n bytes (Some input) (Some rest) a long =
       ap (take n) split ∙ ap (λ m. take m (bytes ++ rest)) (sym long) ∙ take-append_seam bytes rest,
       ap Some (sym (ap (drop n) split ∙ ap (λ m. drop m (bytes ++ rest)) (sym long) ∙ drop-append_seam bytes rest)),
     )
+
+-- one byte more than a limit was read: the input is longer than the limit
+pub read_past : (limit : ℕ) (bytes : List ℕ) (before now : Option (List ℕ)) → HasRead bytes before now → length bytes ≡ limit + 1 →
+    IfSome before (λ input. (limit < length input) × (now ≡ Some (drop (limit + 1) input)))
+read_past limit bytes None now a long = tt
+read_past limit bytes (Some input) now a long = let past = read_count (limit + 1) bytes (Some input) now a long in (omega (arith, past.0), past.2)
 
 -- where nothing is left, the whole input was read
 pub read_whole : (bytes : List ℕ) (before now : Option (List ℕ)) → HasRead bytes before now → IsAtEnd now → WholeInput bytes before now

@@ -1,5 +1,5 @@
 -- Bytes that are written in turn.
-use Rattle.std.proofs.Common.{◌≡◌, ℕ, ◌+◌, ◌-◌, ◌<◌, ◌≤◌, arith, refl, ap, sym, subst, ◌∙◌, List, [], ◌∷◌, ◌++◌, length, take, drop, length-append, length-take, append_assoc, append-nil, add_assoc, Option, Some, None}
+use Rattle.std.proofs.Common.{◌≡◌, ℕ, ◌+◌, ◌-◌, ◌<◌, ◌≤◌, arith, refl, ap, sym, subst, ◌∙◌, List, [], ◌∷◌, ◌++◌, length, take, drop, length-append, length-drop, length-take, take_all, append_assoc, append-nil, add_assoc, Option, Some, None}
 use Rattle.std.specs.Prelude.{IfSome}
 use Rattle.std.specs.Option.{option_map}
 use Rattle.std.proofs.lemmas.List.{take-append-drop}
@@ -16,7 +16,8 @@ pub write_then : (first second : List ℕ) (before between now : Option (List �
     HasWritten first before between → HasWritten second between now → HasWritten (first ++ second) before now
 write_then first second None between now a b = record { appended = b.appended ∙ ap (option_map (λ taken. taken ++ second)) a.appended }
 write_then first second (Some taken) between now a b = record {
-  appended = b.appended ∙ ap (option_map (λ taken. taken ++ second)) a.appended ∙ ap Some (append_assoc taken first second) }
+  appended = b.appended ∙ ap (option_map (λ taken. taken ++ second)) a.appended ∙ ap Some (append_assoc taken first second);
+}
 
 -- at first no room is filled
 pub fill_nothing : (before : Option ℕ) → HasFilled 0 before before
@@ -28,7 +29,8 @@ pub fill_then : (first second : ℕ) (before between now : Option ℕ) →
     HasFilled first before between → HasFilled second between now → HasFilled (first + second) before now
 fill_then first second before between None a b = record { fell = a.fell ∙ ap (option_map (λ room. room + first)) b.fell }
 fill_then first second before between (Some room) a b = record {
-  fell = a.fell ∙ ap (option_map (λ room. room + first)) b.fell ∙ ap Some (omega arith) }
+  fell = a.fell ∙ ap (option_map (λ room. room + first)) b.fell ∙ ap Some (omega arith);
+}
 
 -- of a piece all but the rest is written
 pub record WrittenSoFar (piece rest : List ℕ) (before now : Option (List ℕ)) (room_before room : Option ℕ) : Type 0 where
@@ -41,18 +43,19 @@ pub record WrittenSoFar (piece rest : List ℕ) (before now : Option (List ℕ))
 pub written_none : (piece : List ℕ) (before : Option (List ℕ)) (room : Option ℕ) → WrittenSoFar piece piece before before room room
 written_none piece before room = record { done = []; split = refl; taken = write_nothing before; filled = fill_nothing room }
 
--- the first n bytes of the rest are written too
+-- the first n bytes of the rest are written too: the new rest is `&rest[n..]`
 pub written_more : (piece rest : List ℕ) (n : ℕ) (before between now : Option (List ℕ)) (room_before room_between room : Option ℕ) →
-    WrittenSoFar piece rest before between room_before room_between → n ≤ length rest →
-    HasWritten (take n rest) between now → HasFilled n room_between room → WrittenSoFar piece (drop n rest) before now room_before room
+    WrittenSoFar piece rest before between room_before room_between → n ≤ length rest → HasWritten (take n rest) between now →
+    HasFilled n room_between room → WrittenSoFar piece (take (length rest - n) (drop n rest)) before now room_before room
 written_more piece rest n before between now room_before room_between room s fits written filled =
+    let slice : drop n rest ≡ take (length rest - n) (drop n rest) = sym (take_all (length rest - n) (drop n rest) (omega (arith, length-drop n rest))) in
     let long : length s.done + n ≡ length (s.done ++ take n rest) = omega (arith, fits, length-append s.done (take n rest), length-take n rest) in
-    record {
+    subst (λ l. WrittenSoFar piece l before now room_before room) slice (record {
       done = s.done ++ take n rest;
       split = s.split ∙ ap (λ l. s.done ++ l) (sym (take-append-drop n rest)) ∙ sym (append_assoc s.done (take n rest) (drop n rest));
       taken = write_then s.done (take n rest) before between now s.taken written;
       filled = subst (λ m. HasFilled m room_before room) long (fill_then (length s.done) n room_before room_between room s.filled filled);
-    }
+    })
 
 -- where the rest is empty, the whole piece is written
 pub written_whole : (piece : List ℕ) (before now : Option (List ℕ)) (room_before room : Option ℕ) →

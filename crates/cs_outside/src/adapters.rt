@@ -4,18 +4,20 @@ ghost use Rattle.std.specs.Io.KnownBytes.{ReadConsumes, WriteAppends};
 ghost use Rattle.cs_outside.specs.Counts.{next_count, last_count};
 ghost use Rattle.cs_outside.specs.States.{StdState};
 
+use crate::counts::raised;
 use crate::{Failed, Sink, Source};
 use std::io::{Read, Write};
 use std::marker::Model;
 
-/// A reader of std as a source. It tells nothing of what is left.
+/// A reader of std as a source. It tells a generic caller nothing of what is left.
+/// It is seen as the reader and the number of its calls that failed.
 #[derive(Drop)]
-pub struct StdSource<R: Read + Drop> {
+pub struct StdSource<R: Read> {
     inner: R,
     faults: u64,
 }
 
-impl<R: Read + Drop> Model for StdSource<R> {
+impl<R: Read> Model for StdSource<R> {
     ghost Value = { StdState R };
 
     ghost view = { λ s. record { inner = s.inner; faults = s.faults } };
@@ -23,7 +25,8 @@ impl<R: Read + Drop> Model for StdSource<R> {
     ghost invariant = { λ s. s.faults ≤ last_count };
 }
 
-impl<R: Read + Drop> StdSource<R> {
+impl<R: Read> StdSource<R> {
+    /// The reader as a source, with no fault yet.
     pub fn new(inner: R) -> Self
         ensures { result ≡ record { inner = inner; faults = 0 } }
     {
@@ -31,7 +34,7 @@ impl<R: Read + Drop> StdSource<R> {
     }
 }
 
-impl<R: Read + Drop> Source for StdSource<R> {
+impl<R: Read> Source for StdSource<R> {
     ghost left = { λ _. None };
 
     ghost faults = { λ s. s.faults };
@@ -41,7 +44,9 @@ impl<R: Read + Drop> Source for StdSource<R> {
         requires { 0 < length into.old }
         ensures same_length { length into.new ≡ length into.old }
         ensures fits { IfOk result (λ n. n ≤ length into.new) }
-        ensures inner { ReadConsumes (R.remaining self.old.inner) (R.remaining self.new.inner) result into.new }
+        // What the reader tells of its bytes holds of this call too.
+        ensures inner { ReadConsumes (R.remaining self.old.inner) (R.remaining self.new.inner)
+            result into.new }
         ensures ok { OnOk result (self.new.faults ≡ self.old.faults) }
         ensures err { OnErr result (self.new.faults ≡ next_count self.old.faults) }
         ensures counted { self.old.faults ≤ last_count }
@@ -49,21 +54,22 @@ impl<R: Read + Drop> Source for StdSource<R> {
         match self.inner.read(into) {
             Ok(n) => Ok(n),
             Err(_) => {
-                self.faults = self.faults.saturating_add(1);
+                self.faults = raised(self.faults);
                 Err(Failed)
             }
         }
     }
 }
 
-/// A writer of std as a sink. It tells nothing of what it took.
+/// A writer of std as a sink. It tells a generic caller nothing of what it took.
+/// It is seen as the writer and the number of its calls that failed.
 #[derive(Drop)]
-pub struct StdSink<W: Write + Drop> {
+pub struct StdSink<W: Write> {
     inner: W,
     faults: u64,
 }
 
-impl<W: Write + Drop> Model for StdSink<W> {
+impl<W: Write> Model for StdSink<W> {
     ghost Value = { StdState W };
 
     ghost view = { λ s. record { inner = s.inner; faults = s.faults } };
@@ -71,7 +77,8 @@ impl<W: Write + Drop> Model for StdSink<W> {
     ghost invariant = { λ s. s.faults ≤ last_count };
 }
 
-impl<W: Write + Drop> StdSink<W> {
+impl<W: Write> StdSink<W> {
+    /// The writer as a sink, with no fault yet.
     pub fn new(inner: W) -> Self
         ensures { result ≡ record { inner = inner; faults = 0 } }
     {
@@ -79,7 +86,7 @@ impl<W: Write + Drop> StdSink<W> {
     }
 }
 
-impl<W: Write + Drop> Sink for StdSink<W> {
+impl<W: Write> Sink for StdSink<W> {
     ghost taken = { λ _. None };
 
     ghost room = { λ _. None };
@@ -91,7 +98,9 @@ impl<W: Write + Drop> Sink for StdSink<W> {
         requires { 0 < length piece.now }
         ensures some { IfOk result (λ n. 0 < n) }
         ensures fits { IfOk result (λ n. n ≤ length piece.now) }
-        ensures inner { WriteAppends (W.contents self.old.inner) (W.contents self.new.inner) result piece.now }
+        // What the writer tells of its bytes holds of this call too.
+        ensures inner { WriteAppends (W.contents self.old.inner) (W.contents self.new.inner)
+            result piece.now }
         ensures ok { OnOk result (self.new.faults ≡ self.old.faults) }
         ensures err { OnErr result (self.new.faults ≡ next_count self.old.faults) }
         ensures counted { self.old.faults ≤ last_count }
@@ -99,7 +108,7 @@ impl<W: Write + Drop> Sink for StdSink<W> {
         match self.inner.write(piece) {
             Ok(n) if n > 0 => Ok(n),
             _ => {
-                self.faults = self.faults.saturating_add(1);
+                self.faults = raised(self.faults);
                 Err(Failed)
             }
         }

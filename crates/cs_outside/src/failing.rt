@@ -3,6 +3,7 @@ ghost use Rattle.std.specs.Prelude.{◌≡◌, ◌↔◌, ◌⊎◌, ◌<◌, �
 ghost use Rattle.cs_outside.specs.Counts.{next_count, last_count};
 ghost use Rattle.cs_outside.specs.States.{FailSourceState, FailSinkState};
 
+use crate::counts::raised;
 use crate::{Failed, MemSink, MemSource, Sink, Source};
 use std::alloc::{AllocError, Global};
 use std::marker::Model;
@@ -21,7 +22,7 @@ impl Script {
         ensures next { self.new ≡ record self.old { call = next_count self.old.call } }
     {
         let fails = self.fails.contains(&self.call);
-        self.call = self.call.saturating_add(1);
+        self.call = raised(self.call);
         fails
     }
 }
@@ -39,15 +40,28 @@ pub struct FailSource {
 impl Model for FailSource {
     ghost Value = { FailSourceState };
 
-    ghost view = { λ s. record { left = s.source; fails = s.script.fails.items; most = s.most; call = s.script.call; faults = s.faults } };
+    ghost view = { λ s. record {
+      left = s.source;
+      fails = s.script.fails.items;
+      most = s.most;
+      call = s.script.call;
+      faults = s.faults;
+    } };
 
     ghost invariant = { λ s. (0 < s.most) × (s.faults ≤ last_count) };
 }
 
 impl FailSource {
+    /// A source of these bytes, none of which is read yet, with the numbers of the calls that fail.
     pub fn new(bytes: Vec<u8>, fails: Vec<u64>, most: usize) -> Self
         requires { 0 < most }
-        ensures { result ≡ record { left = bytes.items; fails = fails.items; most = most; call = 0; faults = 0 } }
+        ensures { result ≡ record {
+          left = bytes.items;
+          fails = fails.items;
+          most = most;
+          call = 0;
+          faults = 0;
+        } }
     {
         FailSource {
             source: MemSource::new(bytes),
@@ -68,15 +82,22 @@ impl Source for FailSource {
         requires { 0 < length into.old }
         ensures same_length { length into.new ≡ length into.old }
         ensures listed { IsErr result ↔ Contains self.old.fails self.old.call }
-        ensures amount { IfOk result (λ n. n ≡ min self.old.most (min (length into.new) (length self.old.left))) }
+        ensures amount { IfOk result (λ n.
+            n ≡ min self.old.most (min (length into.new) (length self.old.left))) }
         ensures bytes { IfOk result (λ n. take n into.new ≡ take n self.old.left) }
-        ensures ok { IfOk result (λ n. self.new ≡ record self.old { left = drop n self.old.left; call = next_count self.old.call }) }
-        ensures err { OnErr result (self.new ≡ record self.old { call = next_count self.old.call; faults = next_count self.old.faults }) }
+        ensures ok { IfOk result (λ n. self.new ≡ record self.old {
+          left = drop n self.old.left;
+          call = next_count self.old.call;
+        }) }
+        ensures err { OnErr result (self.new ≡ record self.old {
+          call = next_count self.old.call;
+          faults = next_count self.old.faults;
+        }) }
         ensures most { 0 < self.old.most }
         ensures counted { self.old.faults ≤ last_count }
     {
         if self.script.fails_now() {
-            self.faults = self.faults.saturating_add(1);
+            self.faults = raised(self.faults);
             return Err(Failed);
         }
         let most = into.len().min(self.most);
@@ -96,16 +117,30 @@ pub struct FailSink {
 impl Model for FailSink {
     ghost Value = { FailSinkState };
 
-    ghost view = { λ s. record { taken = s.sink.taken; room = s.sink.room; fails = s.script.fails.items; most = s.most; call = s.script.call; faults = s.sink.faults } };
+    ghost view = { λ s. record {
+      taken = s.sink.taken;
+      room = s.sink.room;
+      fails = s.script.fails.items;
+      most = s.most;
+      call = s.script.call;
+      faults = s.sink.faults;
+    } };
 
     ghost invariant = { λ s. 0 < s.most };
 }
 
 impl FailSink {
-    /// Takes the memory for `room` bytes.
+    /// Takes the memory for `room` bytes. Where it is refused, `fails` is dropped.
     pub fn new(alloc: Global, fails: Vec<u64>, most: usize, room: usize) -> Result<Self, AllocError>
         requires { 0 < most }
-        ensures { IfOk result (λ sink. sink ≡ record { taken = []; room = room; fails = fails.items; most = most; call = 0; faults = 0 }) }
+        ensures { IfOk result (λ sink. sink ≡ record {
+          taken = [];
+          room = room;
+          fails = fails.items;
+          most = most;
+          call = 0;
+          faults = 0;
+        }) }
     {
         Ok(FailSink {
             sink: MemSink::new(alloc, room)?,
@@ -134,9 +169,17 @@ impl Sink for FailSink {
     fn write(&mut self, piece: &[u8]) -> Result<usize, Failed>
         requires { 0 < length piece.now }
         ensures listed_or_full { IsErr result ↔ (Contains self.old.fails self.old.call ⊎ (self.old.room ≡ 0)) }
-        ensures amount { IfOk result (λ n. n ≡ min (length piece.now) (min self.old.most self.old.room)) }
-        ensures ok { IfOk result (λ n. self.new ≡ record self.old { taken = self.old.taken ++ take n piece.now; room = self.old.room - n; call = next_count self.old.call }) }
-        ensures err { OnErr result (self.new ≡ record self.old { call = next_count self.old.call; faults = next_count self.old.faults }) }
+        ensures amount { IfOk result (λ n.
+            n ≡ min (length piece.now) (min self.old.most self.old.room)) }
+        ensures ok { IfOk result (λ n. self.new ≡ record self.old {
+          taken = self.old.taken ++ take n piece.now;
+          room = self.old.room - n;
+          call = next_count self.old.call;
+        }) }
+        ensures err { OnErr result (self.new ≡ record self.old {
+          call = next_count self.old.call;
+          faults = next_count self.old.faults;
+        }) }
         ensures most { 0 < self.old.most }
         ensures counted { self.old.faults ≤ last_count }
     {

@@ -7,16 +7,15 @@ ghost use Rattle.cs_outside.specs.Counts.{last_count, Rose};
 ghost use Rattle.cs_outside.specs.Streams.{HasRead, HasWritten, HasFilled};
 
 mod adapters;
+mod counts;
 mod failing;
 mod memory;
-
 #[cfg(test)]
 mod tests;
 
 pub use adapters::{StdSink, StdSource};
 pub use failing::{FailSink, FailSource};
 pub use memory::{MemSink, MemSource};
-
 use thiserror::Error;
 
 /// A call of a source or of a sink failed.

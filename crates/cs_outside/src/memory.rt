@@ -4,6 +4,7 @@ ghost use Rattle.std.specs.Vec.{vec_len, vec_capacity};
 ghost use Rattle.cs_outside.specs.Counts.{next_count, last_count};
 ghost use Rattle.cs_outside.specs.States.{MemSinkState};
 
+use crate::counts::raised;
 use crate::{Failed, Sink, Source};
 use std::alloc::{AllocError, Global};
 use std::marker::Model;
@@ -24,6 +25,7 @@ impl Model for MemSource {
 }
 
 impl MemSource {
+    /// A source of these bytes, none of which is read yet.
     pub fn new(bytes: Vec<u8>) -> Self
         ensures { result ≡ bytes.items }
     {
@@ -52,6 +54,7 @@ impl Source for MemSource {
 }
 
 /// A sink in memory, with room for a fixed number of bytes. Its writes take no memory.
+/// It is seen as the bytes that it took, the room that is left and the number of its calls that failed.
 #[derive(Drop)]
 pub struct MemSink {
     bytes: Vec<u8>,
@@ -64,7 +67,8 @@ impl Model for MemSink {
 
     ghost view = { λ s. record { taken = s.bytes.items; room = s.room; faults = s.faults } };
 
-    ghost invariant = { λ s. (vec_len s.bytes + s.room ≤ vec_capacity s.bytes) × (s.faults ≤ last_count) };
+    ghost invariant = { λ s. (vec_len s.bytes + s.room ≤ vec_capacity s.bytes)
+        × (s.faults ≤ last_count) };
 }
 
 impl MemSink {
@@ -91,7 +95,7 @@ impl MemSink {
         ensures next { self.new ≡ record self.old { faults = next_count self.old.faults } }
         ensures counted { self.old.faults ≤ last_count }
     {
-        self.faults = self.faults.saturating_add(1);
+        self.faults = raised(self.faults);
     }
 }
 
@@ -107,7 +111,10 @@ impl Sink for MemSink {
         requires { 0 < length piece.now }
         ensures full { IsErr result ↔ (self.old.room ≡ 0) }
         ensures amount { IfOk result (λ n. n ≡ min (length piece.now) self.old.room) }
-        ensures ok { IfOk result (λ n. self.new ≡ record self.old { taken = self.old.taken ++ take n piece.now; room = self.old.room - n }) }
+        ensures ok { IfOk result (λ n. self.new ≡ record self.old {
+          taken = self.old.taken ++ take n piece.now;
+          room = self.old.room - n;
+        }) }
         ensures err { OnErr result (self.new ≡ record self.old { faults = next_count self.old.faults }) }
         ensures counted { self.old.faults ≤ last_count }
     {

@@ -1,5 +1,5 @@
 // What the sources and sinks do in a few calls, and two callers that know only the traits.
-ghost use Rattle.std.specs.Prelude.{◌≡◌, ◌<◌, ◌≤◌, ℕ, length, take, IfOk, IfSome, IsErrOf, OnOk, OnErr};
+ghost use Rattle.std.specs.Prelude.{◌≡◌, ◌<◌, ◌≤◌, ◌+◌, ℕ, Some, drop, length, take, IfOk, IfSome, IsErrOf, OnOk, OnErr};
 ghost use Rattle.cs_outside.specs.Counts.{Rose};
 ghost use Rattle.cs_outside.specs.Streams.{HasRead, HasWritten, WholeInput};
 
@@ -21,7 +21,8 @@ const LIMIT: usize = 20;
 // Reads a source to its end, which comes within twenty bytes.
 fn read_to_end<S: Source>(alloc: Global, source: &mut S) -> Result<Vec<u8>, Stop>
     ensures ok { IfOk result (λ bytes. WholeInput bytes.items (S.left source.old) (S.left source.new)) }
-    ensures too_long { IsErrOf result Stop.TooLong → IfSome (S.left source.old) (λ input. LIMIT < length input) }
+    ensures too_long { IsErrOf result Stop.TooLong → IfSome (S.left source.old) (λ input.
+        (LIMIT < length input) × (S.left source.new ≡ Some (drop (LIMIT + 1) input))) }
     ensures fault { IsErrOf result Stop.Fault → Rose (S.faults source.old) (S.faults source.new) }
     ensures never_falls { S.faults source.old ≤ S.faults source.new }
 {

@@ -1,0 +1,12 @@
+use Rattle.std.proofs.Common.{◌≤◌, length}
+use Rattle.cs_outside.proofs.Writing.{WrittenSoFar}
+use Rattle.cs_outside.proofs.tests.write_whole.Given as goal
+
+abbrev pub invariant-loop-rest : goal.invariant-loop-rest
+invariant-loop-rest g l = record {
+  so_far : WrittenSoFar l.piece l.rest (g.K.Sink.taken l.fn.sink) (g.K.Sink.taken l.sink) (g.K.Sink.room l.fn.sink) (g.K.Sink.room l.sink);
+  later : g.K.Sink.faults l.fn.sink ≤ g.K.Sink.faults l.sink;
+}
+
+abbrev pub decreases-loop-rest : goal.decreases-loop-rest
+decreases-loop-rest g l = length l.rest

@@ -1,0 +1,10 @@
+// Counts from 0 to 2^64 - 1, where they stay.
+ghost use Rattle.std.specs.Prelude.{◌≡◌};
+ghost use Rattle.cs_outside.specs.Counts.{next_count};
+
+// A count after one more.
+pub(crate) fn raised(count: u64) -> u64
+    ensures { result ≡ next_count count }
+{
+    count.saturating_add(1)
+}
