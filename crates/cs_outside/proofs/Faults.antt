@@ -1,6 +1,6 @@
 -- Counts that rose.
-use Rattle.std.proofs.Common.{◌≡◌, ℕ, ◌<◌, ◌≤◌, ◌⊎◌, ◌↔◌, arith, inl, inr}
-use Rattle.cs_outside.specs.Counts.{last_count, next_count, Rose}
+use Rattle.std.proofs.Common.{ℕ, ◌<◌, ◌≤◌, ◌⊎◌, ◌↔◌, arith}
+use Rattle.cs_outside.specs.Counts.{last_count, Rose}
 
 -- what it means: greater than before, or at the last value
 pub rose_means : (before now : ℕ) → Rose before now ↔ ((before < now) ⊎ (last_count ≤ now))

@@ -1,10 +1,9 @@
 -- Bytes that are written in turn.
-use Rattle.std.proofs.Common.{◌≡◌, ℕ, ◌+◌, ◌-◌, ◌<◌, ◌≤◌, arith, refl, ap, sym, subst, ◌∙◌, List, [], ◌∷◌, ◌++◌, length, take, drop, length-append, length-drop, length-take, take_all, append_assoc, append-nil, add_assoc, Option, Some, None}
+use Rattle.std.proofs.Common.{◌≡◌, ℕ, ◌+◌, ◌-◌, ◌<◌, ◌≤◌, arith, refl, ap, sym, subst, ◌∙◌, List, [], ◌++◌, length, take, drop, length-append, length-drop, length-take, take_all, append_assoc, append-nil, Option, Some, None}
 use Rattle.std.specs.Prelude.{IfSome}
 use Rattle.std.specs.Option.{option_map}
 use Rattle.std.proofs.lemmas.List.{take-append-drop}
-use Rattle.std.proofs.Math.Seq.{take-append_seam}
-use Rattle.cs_outside.specs.Streams.{HasWritten, HasFilled}
+use Rattle.cs_outside.specs.Streams.{HasWritten, HasWrittenFront, HasFilled}
 
 -- at first nothing is written
 pub write_nothing : (before : Option (List ℕ)) → HasWritten [] before before
@@ -62,11 +61,15 @@ pub written_whole : (piece : List ℕ) (before now : Option (List ℕ)) (room_be
     WrittenSoFar piece [] before now room_before room → HasWritten piece before now
 written_whole piece before now room_before room s = subst (λ l. HasWritten l before now) (sym (s.split ∙ append-nil s.done)) s.taken
 
+-- where the rest is empty, the room of the whole piece is filled
+pub filled_whole : (piece : List ℕ) (before now : Option (List ℕ)) (room_before room : Option ℕ) →
+    WrittenSoFar piece [] before now room_before room → HasFilled (length piece) room_before room
+filled_whole piece before now room_before room s = subst (λ l. HasFilled (length l) room_before room) (sym (s.split ∙ append-nil s.done)) s.filled
+
 -- a front of the piece is written
 pub written_front : (piece rest : List ℕ) (before now : Option (List ℕ)) (room_before room : Option ℕ) →
-    WrittenSoFar piece rest before now room_before room → (n : ℕ) × HasWritten (take n piece) before now
-written_front piece rest before now room_before room s =
-    (length s.done, subst (λ l. HasWritten l before now) (sym (ap (take (length s.done)) s.split ∙ take-append_seam s.done rest)) s.taken)
+    WrittenSoFar piece rest before now room_before room → HasWrittenFront piece before now
+written_front piece rest before now room_before room s = record { front = s.done; rest = rest; split = s.split; written = s.taken }
 
 -- where no room is left and a rest is, the room was too small for the piece
 pub written_full : (piece rest : List ℕ) (before now : Option (List ℕ)) (room_before room : Option ℕ) →
@@ -77,3 +80,29 @@ written_full piece rest before now (Some left) None s some full = absurd (cc s.f
 written_full piece rest before now (Some left) (Some last) s some full =
     let fell : left ≡ last + length s.done = cc s.filled.fell in
     omega (arith, ap length s.split, length-append s.done rest)
+
+-- a front of what comes after a first piece is a front of both
+pub front_after : (first piece : List ℕ) (before between now : Option (List ℕ)) →
+    HasWritten first before between → HasWrittenFront piece between now → HasWrittenFront (first ++ piece) before now
+front_after first piece before between now a b = record {
+  front = first ++ b.front;
+  rest = b.rest;
+  split = ap (λ l. first ++ l) b.split ∙ sym (append_assoc first b.front b.rest);
+  written = write_then first b.front before between now a b.written;
+}
+
+-- a front of a piece is a front of any longer one
+pub front_of_longer : (piece more : List ℕ) (before now : Option (List ℕ)) →
+    HasWrittenFront piece before now → HasWrittenFront (piece ++ more) before now
+front_of_longer piece more before now a = record {
+  front = a.front;
+  rest = a.rest ++ more;
+  split = ap (λ l. l ++ more) a.split ∙ append_assoc a.front a.rest more;
+  written = a.written;
+}
+
+-- where room was filled and what is left is too small for m more, it was too small for both
+pub full_after : (n m : ℕ) (before now : Option ℕ) → HasFilled n before now → IfSome now (λ left. left < m) → IfSome before (λ left. left < n + m)
+full_after n m None now a short = tt
+full_after n m (Some left) None a short = absurd (cc a.fell)
+full_after n m (Some left) (Some last) a short = let fell : left ≡ last + n = cc a.fell in omega arith

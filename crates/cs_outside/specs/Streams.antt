@@ -18,6 +18,13 @@ WholeInput input before now = IfSome before (λ left. (left ≡ input) × (now �
 pub record HasWritten (bytes : List ℕ) (before now : Option (List ℕ)) : Type 0 where
   pub appended : now ≡ option_map (λ taken. taken ++ bytes) before
 
+-- a front of the piece was appended, and no more
+pub record HasWrittenFront (piece : List ℕ) (before now : Option (List ℕ)) : Type 0 where
+  pub front : List ℕ
+  pub rest : List ℕ
+  pub split : piece ≡ front ++ rest
+  pub written : HasWritten front before now
+
 -- the room fell by n, where it is told
 pub record HasFilled (n : ℕ) (before now : Option ℕ) : Type 0 where
   pub fell : before ≡ option_map (λ room. room + n) now

@@ -1,7 +1,7 @@
 // What the sources and sinks do in a few calls, and two callers that know only the traits.
 ghost use Rattle.std.specs.Prelude.{◌≡◌, ◌<◌, ◌≤◌, ◌+◌, ℕ, Some, drop, length, take, IfOk, IfSome, IsErrOf, OnOk, OnErr};
 ghost use Rattle.cs_outside.specs.Counts.{Rose};
-ghost use Rattle.cs_outside.specs.Streams.{HasRead, HasWritten, WholeInput};
+ghost use Rattle.cs_outside.specs.Streams.{HasWritten, HasWrittenFront, HasFilled, WholeInput};
 
 use crate::{FailSink, FailSource, Failed, MemSink, MemSource, Sink, Source, StdSink, StdSource};
 use std::alloc::Global;
@@ -48,7 +48,8 @@ fn read_to_end<S: Source>(alloc: Global, source: &mut S) -> Result<Vec<u8>, Stop
 // Writes a piece to its end.
 fn write_whole<K: Sink>(sink: &mut K, piece: &[u8]) -> Result<(), Failed>
     ensures ok { OnOk result (HasWritten piece.now (K.taken sink.old) (K.taken sink.new)) }
-    ensures front { OnErr result ((n : ℕ) × HasWritten (take n piece.now) (K.taken sink.old) (K.taken sink.new)) }
+    ensures filled { OnOk result (HasFilled (length piece.now) (K.room sink.old) (K.room sink.new)) }
+    ensures front { OnErr result (HasWrittenFront piece.now (K.taken sink.old) (K.taken sink.new)) }
     ensures full { OnErr result (IfSome (K.room sink.old) (λ left. left < length piece.now)) }
     ensures fault { OnErr result (Rose (K.faults sink.old) (K.faults sink.new)) }
     ensures never_falls { K.faults sink.old ≤ K.faults sink.new }
