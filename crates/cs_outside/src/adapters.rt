@@ -1,5 +1,5 @@
 // A reader and a writer of std as a source and a sink.
-ghost use Rattle.std.specs.Prelude.{◌≡◌, ◌<◌, ◌≤◌, ℕ, None, length, IfOk, OnOk, OnErr};
+ghost use Rattle.std.specs.Prelude.{◌≡◌, ◌<◌, ◌≤◌, None, length, IfOk, OnOk, OnErr};
 ghost use Rattle.std.specs.Io.KnownBytes.{ReadConsumes, WriteAppends};
 ghost use Rattle.cs_outside.specs.Counts.{next_count, last_count};
 ghost use Rattle.cs_outside.specs.States.{StdState};

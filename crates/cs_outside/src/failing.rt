@@ -1,5 +1,5 @@
 // A source and a sink in memory that fail on purpose.
-ghost use Rattle.std.specs.Prelude.{◌≡◌, ◌↔◌, ◌⊎◌, ◌<◌, ◌≤◌, ◌-◌, ◌+◌, ◌++◌, Some, None, [], length, take, drop, min, Contains, IfOk, IsErr, IsTrue, OnErr};
+ghost use Rattle.std.specs.Prelude.{◌≡◌, ◌↔◌, ◌⊎◌, ◌<◌, ◌≤◌, ◌-◌, ◌++◌, Some, None, [], length, take, drop, min, Contains, IfOk, IsErr, IsTrue, OnErr};
 ghost use Rattle.cs_outside.specs.Counts.{next_count, last_count};
 ghost use Rattle.cs_outside.specs.States.{FailSourceState, FailSinkState};
 

@@ -1,5 +1,5 @@
 // What the sources and sinks do in a few calls, and two callers that know only the traits.
-ghost use Rattle.std.specs.Prelude.{◌≡◌, ◌<◌, ◌≤◌, ◌+◌, ℕ, Some, drop, length, take, IfOk, IfSome, IsErrOf, OnOk, OnErr};
+ghost use Rattle.std.specs.Prelude.{◌≡◌, ◌<◌, ◌≤◌, ◌+◌, Some, drop, length, IfOk, IfSome, IsErrOf, OnOk, OnErr};
 ghost use Rattle.cs_outside.specs.Counts.{Rose};
 ghost use Rattle.cs_outside.specs.Streams.{HasWritten, HasWrittenFront, HasFilled, WholeInput};
 
