@@ -1,5 +1,5 @@
 -- What the calls of a source and of a sink do to the bytes and the room that they tell (own).
-use Rattle.std.specs.Prelude.{◌≡◌, ℕ, ◌+◌, Option, Some, IfSome, List, [], ◌++◌}
+use Rattle.std.specs.Prelude.{◌≡◌, ℕ, ◌+◌, ◌≤◌, length, Option, Some, IfSome, List, [], ◌++◌}
 use Rattle.std.specs.Option.{option_map}
 
 -- these bytes and then those that are left now are what was left before, where that is told
@@ -9,6 +9,18 @@ pub record HasRead (bytes : List ℕ) (before now : Option (List ℕ)) : Type 0 
 -- no byte is left, where that is told
 abbrev pub IsAtEnd : Option (List ℕ) → Type 0
 IsAtEnd left = IfSome left (λ rest. rest ≡ [])
+
+-- these bytes were read to the end of the input, and there are no more of them than the limit
+pub record HasReadAll (limit : ℕ) (bytes : List ℕ) (before now : Option (List ℕ)) : Type 0 where
+  pub read : HasRead bytes before now
+  pub ended : IsAtEnd now
+  pub within : length bytes ≤ limit
+
+-- one byte more than the limit was read
+pub record HasReadPast (limit : ℕ) (before now : Option (List ℕ)) : Type 0 where
+  pub front : List ℕ
+  pub read : HasRead front before now
+  pub past : length front ≡ limit + 1
 
 -- these bytes are the whole input, and none of it is left, where that is told
 abbrev pub WholeInput : List ℕ → Option (List ℕ) → Option (List ℕ) → Type 0

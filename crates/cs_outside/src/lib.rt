@@ -10,12 +10,14 @@ mod adapters;
 mod counts;
 mod failing;
 mod memory;
+mod streams;
 #[cfg(test)]
 mod tests;
 
 pub use adapters::{StdSink, StdSource};
 pub use failing::{FailSink, FailSource};
 pub use memory::{MemSink, MemSource};
+pub use streams::{ReadError, read_to_end, write_whole};
 use thiserror::Error;
 
 /// A call of a source or of a sink failed.

@@ -1,68 +1,8 @@
-// What the sources and sinks do in a few calls, and two callers that know only the traits.
-ghost use Rattle.std.specs.Prelude.{◌≡◌, ◌<◌, ◌≤◌, ◌+◌, Some, drop, length, IfOk, IfSome, IsErrOf, OnOk, OnErr};
-ghost use Rattle.cs_outside.specs.Counts.{Rose};
-ghost use Rattle.cs_outside.specs.Streams.{HasWritten, HasWrittenFront, HasFilled, WholeInput};
-
-use crate::{FailSink, FailSource, Failed, MemSink, MemSource, Sink, Source, StdSink, StdSource};
-use std::alloc::Global;
+// What the sources and sinks do in a few calls, and a source read and a piece written to the end.
+use crate::{FailSink, FailSource, Failed, MemSink, MemSource, ReadError, Sink, Source, StdSink, StdSource, read_to_end, write_whole};
 use std::io;
 use std::io::{ErrorKind, Read, Write};
 use std::test::Fail;
-
-#[derive(Clone, Copy, Debug, PartialEq, Eq)]
-enum Stop {
-    TooLong,
-    Fault,
-    OutOfMemory,
-}
-
-const LIMIT: usize = 20;
-
-// Reads a source to its end, which comes within twenty bytes.
-fn read_to_end<S: Source>(alloc: Global, source: &mut S) -> Result<Vec<u8>, Stop>
-    ensures ok { IfOk result (λ bytes. WholeInput bytes.items (S.left source.old) (S.left source.new)) }
-    ensures too_long { IsErrOf result Stop.TooLong → IfSome (S.left source.old) (λ input.
-        (LIMIT < length input) × (S.left source.new ≡ Some (drop (LIMIT + 1) input))) }
-    ensures fault { IsErrOf result Stop.Fault → Rose (S.faults source.old) (S.faults source.new) }
-    ensures never_falls { S.faults source.old ≤ S.faults source.new }
-{
-    let mut bytes = Vec::new(alloc);
-    let mut buffer = [0u8; 8];
-    loop {
-        let most = (LIMIT + 1 - bytes.len()).min(8);
-        match source.read(&mut buffer[..most]) {
-            Err(Failed) => return Err(Stop::Fault),
-            Ok(0) => return Ok(bytes),
-            Ok(n) => {
-                if bytes.extend_from_slice(&buffer[..n]).is_err() {
-                    return Err(Stop::OutOfMemory);
-                }
-                if bytes.len() > LIMIT {
-                    return Err(Stop::TooLong);
-                }
-            }
-        }
-    }
-}
-
-// Writes a piece to its end.
-fn write_whole<K: Sink>(sink: &mut K, piece: &[u8]) -> Result<(), Failed>
-    ensures ok { OnOk result (HasWritten piece.now (K.taken sink.old) (K.taken sink.new)) }
-    ensures filled { OnOk result (HasFilled (length piece.now) (K.room sink.old) (K.room sink.new)) }
-    ensures front { OnErr result (HasWrittenFront piece.now (K.taken sink.old) (K.taken sink.new)) }
-    ensures full { OnErr result (IfSome (K.room sink.old) (λ left. left < length piece.now)) }
-    ensures fault { OnErr result (Rose (K.faults sink.old) (K.faults sink.new)) }
-    ensures never_falls { K.faults sink.old ≤ K.faults sink.new }
-{
-    let mut rest = piece;
-    while !rest.is_empty() {
-        match sink.write(rest) {
-            Ok(n) => rest = &rest[n..],
-            Err(Failed) => return Err(Failed),
-        }
-    }
-    Ok(())
-}
 
 #[test]
 fn listed_calls_of_a_source_fail(rt: HostRuntime) -> Result<(), Fail> {
@@ -96,8 +36,18 @@ fn listed_calls_of_a_sink_fail_and_so_does_a_full_one(rt: HostRuntime) -> Result
 fn a_source_is_read_to_its_end(rt: HostRuntime) -> Result<(), Fail> {
     let alloc = rt.alloc();
     let mut source = MemSource::new(b"twelve bytes".to_vec(alloc)?);
-    let read = read_to_end(alloc, &mut source).ok().ok_or("refused")?;
+    let read = read_to_end(alloc, &mut source, 12).ok().ok_or("refused")?;
     assert_eq!(rt; read.as_slice(), b"twelve bytes".as_slice());
+    Ok(())
+}
+
+#[test]
+fn a_source_is_read_no_further_than_one_byte_past_the_limit(rt: HostRuntime) -> Result<(), Fail> {
+    let alloc = rt.alloc();
+    let mut source = MemSource::new(b"thirteen byte".to_vec(alloc)?);
+    assert_eq!(rt; read_to_end(alloc, &mut source, 11).err(), Some(ReadError::TooLong));
+    let mut into = [0u8; 4];
+    assert_eq!(rt; source.read(&mut into), Ok(1));
     Ok(())
 }
 
@@ -106,7 +56,7 @@ fn a_fault_ends_the_reading(rt: HostRuntime) -> Result<(), Fail> {
     let alloc = rt.alloc();
     let bytes = b"twelve bytes".to_vec(alloc)?;
     let mut source = FailSource::new(bytes, [2u64].to_vec(alloc)?, 3);
-    assert_eq!(rt; read_to_end(alloc, &mut source).err(), Some(Stop::Fault));
+    assert_eq!(rt; read_to_end(alloc, &mut source, 12).err(), Some(ReadError::ReadFault));
     Ok(())
 }
 

@@ -1,6 +1,6 @@
 use Rattle.std.proofs.Common.{◌≤◌, length}
 use Rattle.cs_outside.proofs.Writing.{WrittenSoFar}
-use Rattle.cs_outside.proofs.tests.write_whole.Given as goal
+use Rattle.cs_outside.proofs.streams.write_whole.Given as goal
 
 abbrev pub invariant-loop-rest : goal.invariant-loop-rest
 invariant-loop-rest g l = record {

@@ -1,6 +1,6 @@
 use Rattle.std.proofs.Common.{arith}
 use Rattle.cs_outside.proofs.Writing.{written_more, written_front}
-use Rattle.cs_outside.proofs.tests.write_whole.Goals as goal
+use Rattle.cs_outside.proofs.streams.write_whole.Goals as goal
 
 pub loop-rest-preserved : goal.loop-rest-preserved
 loop-rest-preserved g c = record {
