@@ -26,7 +26,11 @@ const PIECE: usize = 4_096;
 
 /// Reads a source to its end, which has to come within `limit` bytes. No more than `limit + 1` bytes are read.
 /// After an error what was read is dropped.
-pub fn read_to_end<S: Source>(alloc: Global, source: &mut S, limit: usize) -> Result<Vec<u8>, ReadError>
+pub fn read_to_end<S: Source>(
+    alloc: Global,
+    source: &mut S,
+    limit: usize,
+) -> Result<Vec<u8>, ReadError>
     requires { limit < usize.MAX }
     ensures ok { IfOk result (λ bytes.
         HasReadAll limit bytes.items (S.left source.old) (S.left source.new)) }

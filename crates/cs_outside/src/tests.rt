@@ -1,5 +1,8 @@
 // What the sources and sinks do in a few calls, and a source read and a piece written to the end.
-use crate::{FailSink, FailSource, Failed, MemSink, MemSource, ReadError, Sink, Source, StdSink, StdSource, read_to_end, write_whole};
+use crate::{
+    FailSink, FailSource, Failed, MemSink, MemSource, ReadError, Sink, Source, StdSink, StdSource,
+    read_to_end, write_whole,
+};
 use std::io;
 use std::io::{ErrorKind, Read, Write};
 use std::test::Fail;
@@ -45,7 +48,10 @@ fn a_source_is_read_to_its_end(rt: HostRuntime) -> Result<(), Fail> {
 fn a_source_is_read_no_further_than_one_byte_past_the_limit(rt: HostRuntime) -> Result<(), Fail> {
     let alloc = rt.alloc();
     let mut source = MemSource::new(b"thirteen byte".to_vec(alloc)?);
-    assert_eq!(rt; read_to_end(alloc, &mut source, 11).err(), Some(ReadError::TooLong));
+    assert_eq!(rt;
+        read_to_end(alloc, &mut source, 11).err(),
+        Some(ReadError::TooLong)
+    );
     let mut into = [0u8; 4];
     assert_eq!(rt; source.read(&mut into), Ok(1));
     Ok(())
@@ -56,7 +62,10 @@ fn a_fault_ends_the_reading(rt: HostRuntime) -> Result<(), Fail> {
     let alloc = rt.alloc();
     let bytes = b"twelve bytes".to_vec(alloc)?;
     let mut source = FailSource::new(bytes, [2u64].to_vec(alloc)?, 3);
-    assert_eq!(rt; read_to_end(alloc, &mut source, 12).err(), Some(ReadError::ReadFault));
+    assert_eq!(rt;
+        read_to_end(alloc, &mut source, 12).err(),
+        Some(ReadError::ReadFault)
+    );
     Ok(())
 }
 

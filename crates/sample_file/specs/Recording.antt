@@ -1,13 +1,13 @@
 -- Recordings: lists of samples, and the bytes that stand for them. (own; the form of raw 16-bit captures)
-use Rattle.std.specs.Prelude.{ℕ, ◌≤◌, List, [], ◌∷◌, length, slice_index_or, ℤ, pos}
-use Rattle.std.specs.Int.{cast_signed, from_le_bytes, w16}
+use Rattle.std.specs.Prelude.{ℕ, ◌≤◌, ◌+◌, ◌*◌, List, [], ◌∷◌, length, slice_index_or, ℤ, pos}
+use Rattle.byteorder.specs.Endian.{twos_complement}
 use Rattle.cs_num.specs.declared.Cpx.{Cpx}
 use Rattle.cs_num.specs.declared.Sample.{Sample}
 use Rattle.cs_num.specs.Complex.{value_of}
 
--- the signed 16-bit number of two bytes, the low one first
+-- the signed number of two bytes, the low one first: 65,536 less where it is 32,768 or more
 abbrev pub component_of : ℕ → ℕ → ℤ
-component_of low high = cast_signed w16 (from_le_bytes w16 (low ∷ high ∷ []))
+component_of low high = twos_complement 2 (low + 256 * high)
 
 -- the samples that bytes stand for: four bytes each, the real component first
 abbrev pub samples_of : List ℕ → List Sample
