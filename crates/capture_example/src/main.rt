@@ -1,0 +1,9 @@
+//! Runs a command on the recording that ships with the repository, so that the gate runs it.
+#![tactic(auto)]
+
+use lte_shell::run_process;
+use std::process::ExitCode;
+
+fn main(rt: HostRuntime) -> ExitCode {
+    ExitCode::from(run_process(&rt, rt.stdin(), rt.stdout()).code())
+}

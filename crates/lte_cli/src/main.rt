@@ -1,0 +1,14 @@
+//! The program `lte_cli`: a command over standard input and output.
+#![tactic(auto)]
+
+use lte_shell::run_process;
+use lte_top::Status;
+use std::process::ExitCode;
+
+fn main(rt: HostRuntime) -> ExitCode {
+    let status = run_process(&rt, rt.stdin(), rt.stdout());
+    if status != Status::Done {
+        let _ = eprintln!(rt; "lte_cli: {status}");
+    }
+    ExitCode::from(status.code())
+}

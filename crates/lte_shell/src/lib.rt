@@ -1,0 +1,54 @@
+//! The edge between a process and the top call: its arguments become words, its standard input a
+//! source and its standard output a sink. What the outside gives and keeps is told by no contract.
+#![tactic(auto)]
+
+use cs_outside::{StdSink, StdSource};
+use lte_top::{run, Status, Words};
+use std::alloc::{Alloc, Global};
+use std::env::{self, Env};
+use std::io::{self, Read, Write};
+
+/// Runs the process's arguments after the program's name over the input and the output.
+///
+/// An argument that is not UTF-8 text is a word of no form, so the answer is then `Usage`; where
+/// memory for the arguments is refused it is `OutOfMemory`. In both cases nothing is read or
+/// written.
+pub fn run_process<R, I, O>(rt: &R, input: I, output: O) -> Status
+where
+    R: Env + Alloc<A = Global>,
+    I: Read + Drop,
+    O: Write + Drop,
+{
+    match words_of(rt) {
+        Ok(words) => run(
+            rt.alloc(),
+            &words,
+            &mut StdSource::new(input),
+            &mut StdSink::new(output),
+        ),
+        Err(status) => status,
+    }
+}
+
+// The arguments after the program's name.
+fn words_of<R: Env + Alloc<A = Global>>(rt: &R) -> Result<Words, Status> {
+    let arguments = match env::args(rt) {
+        Ok(arguments) => arguments,
+        Err(error) => return Err(refusal_of(error.kind())),
+    };
+    let mut words = Words::new(rt.alloc());
+    for argument in arguments.skip(1) {
+        if words.push(argument.as_str()).is_err() {
+            return Err(Status::OutOfMemory);
+        }
+    }
+    Ok(words)
+}
+
+// What it means that the arguments could not be had.
+fn refusal_of(kind: io::ErrorKind) -> Status {
+    match kind {
+        io::ErrorKind::OutOfMemory => Status::OutOfMemory,
+        _ => Status::Usage,
+    }
+}

@@ -1,0 +1,10 @@
+use Rattle.lte_top.proofs.Complete.{answered, complete, has_room}
+use Rattle.lte_top.proofs.top.run.Goals as goal
+
+pub returns : goal.returns
+returns g c = record {
+  outcome = c.run_words.ensures;
+  answered = answered _ _ _ _ c.run_words.ensures;
+  complete = complete _ _ _ _ c.run_words.ensures;
+  has_room = has_room _ _ _ _ c.run_words.ensures;
+}

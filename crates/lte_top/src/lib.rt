@@ -1,0 +1,13 @@
+//! The top call: the words of a command line, a source and a sink in, a status out.
+#![tactic(auto)]
+
+mod form;
+mod status;
+mod text;
+mod top;
+mod words;
+
+pub use form::Form;
+pub use status::Status;
+pub use top::run;
+pub use words::Words;

@@ -1,0 +1,70 @@
+//! How a run ends.
+
+ghost use Rattle.std.specs.Prelude.{◌≡◌};
+ghost use Rattle.lte_top.specs.Forms.{code_of};
+
+use cell_tx::CellError;
+use std::fmt;
+
+/// How a run ended. Every answer but `Done` is a refusal, a fault or want of memory.
+#[derive(Clone, Copy, Debug, PartialEq, Eq)]
+pub enum Status {
+    /// The input was read to its end, and the whole output was taken.
+    Done,
+    /// The words are of no form.
+    Usage,
+    /// The recording ended within a sample.
+    Ragged,
+    /// The recording has fewer than 57,600 samples.
+    TooShort,
+    /// The input is longer than its form's limit.
+    TooLong,
+    /// The source counted a fault.
+    ReadFault,
+    /// The sink counted a fault.
+    WriteFault,
+    /// Memory was wanting.
+    OutOfMemory,
+    /// The first failed condition of a description.
+    BadCell(CellError),
+    /// The place of the first byte of the input that breaks the form of certificates.
+    BadCertificate(u64),
+}
+
+impl Status {
+    /// The exit code: 0 for `Done`, and 2 to 10 for the others in their order.
+    pub fn code(&self) -> u8
+        ensures { result ≡ code_of self.now }
+    {
+        match self {
+            Status::Done => 0,
+            Status::Usage => 2,
+            Status::Ragged => 3,
+            Status::TooShort => 4,
+            Status::TooLong => 5,
+            Status::ReadFault => 6,
+            Status::WriteFault => 7,
+            Status::OutOfMemory => 8,
+            Status::BadCell(_) => 9,
+            Status::BadCertificate(_) => 10,
+        }
+    }
+}
+
+/// The text of the line on standard error.
+impl fmt::Display for Status {
+    fn fmt<W: fmt::Write>(&self, f: &mut fmt::Formatter<W>) -> fmt::Result {
+        match self {
+            Status::Done => write!(f, "done"),
+            Status::Usage => write!(f, "usage"),
+            Status::Ragged => write!(f, "ragged"),
+            Status::TooShort => write!(f, "too short"),
+            Status::TooLong => write!(f, "too long"),
+            Status::ReadFault => write!(f, "read fault"),
+            Status::WriteFault => write!(f, "write fault"),
+            Status::OutOfMemory => write!(f, "out of memory"),
+            Status::BadCell(cause) => write!(f, "bad cell: {cause}"),
+            Status::BadCertificate(place) => write!(f, "bad certificate at byte {place}"),
+        }
+    }
+}

@@ -1,0 +1,87 @@
+//! The top call.
+
+ghost use Rattle.std.specs.Prelude.{◌≡◌, IfOk, IfErr, string_bytes};
+ghost use Rattle.cs_outside.specs.Outside.{Outside};
+ghost use Rattle.lte_top.specs.Forms.{recording_text};
+ghost use Rattle.lte_top.specs.Run.{HasOutput, Cause, Outcome, Runs};
+
+use crate::form::Form;
+use crate::status::Status;
+use crate::text::text_of_hits;
+use crate::words::Words;
+use cs_outside::{Sink, Source, write_whole};
+use pss_search::{HitList, hits};
+use sample_file::{FileError, Recording, read_recording};
+use std::alloc::{AllocError, Global};
+
+/// Runs the words' form: reads its input from the source to the end, makes its output and writes
+/// it to the sink.
+///
+/// `Done` means that the whole input was read and the whole output was taken. Every other answer
+/// has its cause, and after each but `WriteFault` nothing was written; after `WriteFault` the sink
+/// took a front of the output. All memory is taken before the first write. Where the source tells
+/// its bytes, the answer is the one that they have, but for want of memory and counted faults.
+pub fn run<S: Source, K: Sink>(alloc: Global, words: &Words, source: &mut S, sink: &mut K) -> Status
+    ensures { Runs words.now
+        (record { left = S.left source.old; read_faults = S.faults source.old; taken = K.taken sink.old; room = K.room sink.old; write_faults = K.faults sink.old })
+        (record { left = S.left source.new; read_faults = S.faults source.new; taken = K.taken sink.new; room = K.room sink.new; write_faults = K.faults sink.new })
+        result }
+{
+    run_words(alloc, words, source, sink)
+}
+
+// The same, by the way each answer comes.
+fn run_words<S: Source, K: Sink>(
+    alloc: Global,
+    words: &Words,
+    source: &mut S,
+    sink: &mut K,
+) -> Status
+    ensures { Outcome words.now
+        (record { left = S.left source.old; read_faults = S.faults source.old; taken = K.taken sink.old; room = K.room sink.old; write_faults = K.faults sink.old })
+        (record { left = S.left source.new; read_faults = S.faults source.new; taken = K.taken sink.new; room = K.room sink.new; write_faults = K.faults sink.new })
+        result }
+{
+    let form = match Form::of(words) {
+        Some(form) => form,
+        None => return Status::Usage,
+    };
+    let output = match output_of(alloc, form, source) {
+        Ok(output) => output,
+        Err(status) => return status,
+    };
+    match write_whole(sink, output.as_bytes()) {
+        Ok(()) => Status::Done,
+        Err(_) => Status::WriteFault,
+    }
+}
+
+// What a form writes for the input of a source, which it reads to its end.
+fn output_of<S: Source>(alloc: Global, form: Form, source: &mut S) -> Result<String, Status>
+    ensures ok { IfOk result (λ text. HasOutput form (string_bytes text) (S.left source.old) (S.left source.new)) }
+    ensures err { IfErr result (λ status. Cause form (S.left source.old) (S.left source.new) (S.faults source.old) (S.faults source.new) status) }
+{
+    let recording = match read_recording(alloc, source) {
+        Ok(recording) => recording,
+        Err(FileError::Ragged) => return Err(Status::Ragged),
+        Err(FileError::TooShort) => return Err(Status::TooShort),
+        Err(FileError::TooLong) => return Err(Status::TooLong),
+        Err(FileError::ReadFault) => return Err(Status::ReadFault),
+        Err(FileError::OutOfMemory) => return Err(Status::OutOfMemory),
+    };
+    match text_of_recording(alloc, form, &recording) {
+        Ok(text) => Ok(text),
+        Err(_) => Err(Status::OutOfMemory),
+    }
+}
+
+// The text that a form makes of a recording.
+fn text_of_recording(alloc: Global, form: Form, recording: &Recording) -> Result<String, AllocError>
+    ensures { IfOk result (λ text. string_bytes text ≡ recording_text form recording.now) }
+{
+    let mut list = HitList::new(alloc)?;
+    hits(recording, &mut list);
+    match form {
+        Form::Hits => text_of_hits(alloc, list.slice()),
+    }
+}

@@ -1,0 +1,7 @@
+//! Tests of the top call over sources and sinks in memory, some of which fail on purpose.
+#![tactic(auto)]
+
+#[cfg(test)]
+mod recordings;
+#[cfg(test)]
+mod tests;

@@ -1,0 +1,171 @@
+use crate::recordings::{put_signal, put_turned_signal, silence};
+use cs_outside::{FailSink, FailSource, MemSink, MemSource, Sink, Source};
+use lte_top::{run, Status, Words};
+use std::alloc::{AllocError, Global};
+use std::test::Fail;
+
+// The room of a sink where none is named.
+const ROOM: usize = 16_777_216;
+
+// The words of a command of one word.
+fn command(alloc: Global, word: &str) -> Result<Words, AllocError> {
+    let mut words = Words::new(alloc);
+    words.push(word)?;
+    Ok(words)
+}
+
+// How `hits` ends over these bytes, and what it wrote.
+fn hits_of(alloc: Global, bytes: Vec<u8>) -> Result<(Status, Vec<u8>), AllocError> {
+    let words = command(alloc, "hits")?;
+    let mut source = MemSource::new(bytes);
+    let mut sink = MemSink::new(alloc, ROOM)?;
+    let status = run(alloc, &words, &mut source, &mut sink);
+    Ok((status, sink.taken().to_vec(alloc)?))
+}
+
+#[test]
+fn zeros_hold_no_hit(rt: HostRuntime) -> Result<(), Fail> {
+    let (status, taken) = hits_of(rt.alloc(), silence(rt.alloc(), 230_400)?)?;
+    assert_eq!(rt; status, Status::Done);
+    assert_eq!(rt; taken.as_slice(), b"hits 0\n".as_slice());
+    Ok(())
+}
+
+#[test]
+fn one_second_of_zeros_is_read_whole(rt: HostRuntime) -> Result<(), Fail> {
+    let (status, taken) = hits_of(rt.alloc(), silence(rt.alloc(), 7_680_000)?)?;
+    assert_eq!(rt; status, Status::Done);
+    assert_eq!(rt; taken.as_slice(), b"hits 0\n".as_slice());
+    Ok(())
+}
+
+#[test]
+fn lengths_that_are_refused(rt: HostRuntime) -> Result<(), Fail> {
+    for (len, refusal, code) in [
+        (0, Status::TooShort, 4),
+        (230_396, Status::TooShort, 4),
+        (230_399, Status::Ragged, 3),
+        (7_680_001, Status::TooLong, 5),
+    ] {
+        let (status, taken) = hits_of(rt.alloc(), silence(rt.alloc(), len)?)?;
+        assert_eq!(rt; status, refusal, "{len} bytes");
+        assert_eq!(rt; status.code(), code, "{len} bytes");
+        assert!(rt; taken.is_empty(), "{len} bytes");
+    }
+    Ok(())
+}
+
+#[test]
+fn a_signal_is_one_hit(rt: HostRuntime) -> Result<(), Fail> {
+    let mut bytes = silence(rt.alloc(), 230_400)?;
+    put_signal(&mut bytes, 1000);
+    let (status, taken) = hits_of(rt.alloc(), bytes)?;
+    assert_eq!(rt; status, Status::Done);
+    assert_eq!(rt; taken.as_slice(), b"hits 1\n1000 0\n".as_slice());
+    Ok(())
+}
+
+#[test]
+fn a_signal_of_another_phase_and_size_is_the_same_hit(rt: HostRuntime) -> Result<(), Fail> {
+    let mut bytes = silence(rt.alloc(), 230_400)?;
+    put_turned_signal(&mut bytes, 1000);
+    let (status, taken) = hits_of(rt.alloc(), bytes)?;
+    assert_eq!(rt; status, Status::Done);
+    assert_eq!(rt; taken.as_slice(), b"hits 1\n1000 0\n".as_slice());
+    Ok(())
+}
+
+#[test]
+fn signals_past_the_first_frame_are_not_listed(rt: HostRuntime) -> Result<(), Fail> {
+    let mut bytes = silence(rt.alloc(), 230_400)?;
+    for q in 0..141_usize {
+        put_signal(&mut bytes, 1000 + 400 * q);
+    }
+    let (status, taken) = hits_of(rt.alloc(), bytes)?;
+    let mut wanted = format!(in rt.alloc(); "hits 46\n")?;
+    for q in 0..46_u32 {
+        let line = format!(in rt.alloc(); "{} 0\n", 1000 + 400 * q)?;
+        wanted.push_str(line.as_str())?;
+    }
+    assert_eq!(rt; status, Status::Done);
+    assert_eq!(rt; taken.as_slice(), wanted.as_bytes());
+    Ok(())
+}
+
+#[test]
+fn words_of_no_form_read_nothing(rt: HostRuntime) -> Result<(), Fail> {
+    let alloc = rt.alloc();
+    for words in [command(alloc, "hit")?, command(alloc, "hits ")?, Words::new(alloc)] {
+        let mut source = FailSource::new(silence(alloc, 16)?, vec![in alloc; 0u64; 1]?, 16);
+        let mut sink = MemSink::new(alloc, ROOM)?;
+        let status = run(alloc, &words, &mut source, &mut sink);
+        assert_eq!(rt; status, Status::Usage);
+        assert_eq!(rt; status.code(), 2);
+        assert!(rt; source.read(&mut [0; 1]).is_err(), "the first call is still to come");
+        assert!(rt; sink.taken().is_empty());
+    }
+    Ok(())
+}
+
+#[test]
+fn a_call_of_the_source_that_fails(rt: HostRuntime) -> Result<(), Fail> {
+    let alloc = rt.alloc();
+    let words = command(alloc, "hits")?;
+    let mut fails = Vec::new(alloc);
+    fails.push(2)?;
+    let mut source = FailSource::new(silence(alloc, 230_400)?, fails, 1_000);
+    let mut sink = MemSink::new(alloc, ROOM)?;
+    let status = run(alloc, &words, &mut source, &mut sink);
+    assert_eq!(rt; status, Status::ReadFault);
+    assert_eq!(rt; status.code(), 6);
+    assert!(rt; sink.taken().is_empty());
+    let mut source = FailSource::new(silence(alloc, 230_400)?, Vec::new(alloc), 1_000);
+    assert_eq!(rt; run(alloc, &words, &mut source, &mut sink), Status::Done);
+    assert_eq!(rt; sink.taken(), b"hits 0\n".as_slice());
+    Ok(())
+}
+
+#[test]
+fn a_call_of_the_sink_that_fails(rt: HostRuntime) -> Result<(), Fail> {
+    let alloc = rt.alloc();
+    let words = command(alloc, "hits")?;
+    let mut fails = Vec::new(alloc);
+    fails.push(1)?;
+    let mut source = MemSource::new(silence(alloc, 230_400)?);
+    let mut sink = FailSink::new(alloc, fails, 3, ROOM)?;
+    let status = run(alloc, &words, &mut source, &mut sink);
+    assert_eq!(rt; status, Status::WriteFault);
+    assert_eq!(rt; status.code(), 7);
+    assert_eq!(rt; sink.taken(), b"hit".as_slice());
+    Ok(())
+}
+
+#[test]
+fn a_sink_without_room_keeps_a_front(rt: HostRuntime) -> Result<(), Fail> {
+    let alloc = rt.alloc();
+    let words = command(alloc, "hits")?;
+    let mut source = MemSource::new(silence(alloc, 230_400)?);
+    let mut sink = MemSink::new(alloc, 3)?;
+    assert_eq!(rt; run(alloc, &words, &mut source, &mut sink), Status::WriteFault);
+    assert_eq!(rt; sink.taken(), b"hit".as_slice());
+    Ok(())
+}
+
+#[test]
+fn texts_of_answers(rt: HostRuntime) -> Result<(), Fail> {
+    let alloc = rt.alloc();
+    for (status, text) in [
+        (Status::Usage, "usage"),
+        (Status::Ragged, "ragged"),
+        (Status::TooShort, "too short"),
+        (Status::TooLong, "too long"),
+        (Status::ReadFault, "read fault"),
+        (Status::WriteFault, "write fault"),
+        (Status::OutOfMemory, "out of memory"),
+        (Status::BadCell(cell_tx::CellError::Sib1Long), "bad cell: sib1long"),
+        (Status::BadCertificate(655_613), "bad certificate at byte 655613"),
+    ] {
+        assert_eq!(rt; format!(in alloc; "{status}")?.as_str(), text);
+    }
+    Ok(())
+}
