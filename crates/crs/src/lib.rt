@@ -1,0 +1,96 @@
+//! The cell-specific reference signals of antenna port 0 (TS 36.211 section 6.10.1): which
+//! subcarriers of a symbol carry them, and their values.
+#![tactic(auto)]
+
+ghost use Rattle.std.specs.Prelude.{◌≡◌, ◌⊎◌, ◌%◌, ◌^◌, ◌<◌, ◌↔◌, ◌/◌, ◌||◌, ℕ, length, false, get_or, All, IsTrue};
+ghost use Rattle.crs.specs.Reference.{reference_c_init, component, value_by, reference, reference_list};
+ghost use Rattle.crs.specs.Reference.{first_subcarrier, subcarrier, is_reference, reference_at, IsReferenceValue};
+
+use cs_num::Cpx;
+use lte_types::CellId;
+
+// c_init of the sequence for a slot and a symbol of it.
+#[tactic(auto, unfolding(crate::specs::Reference::reference_c_init))]
+fn c_init(id: CellId, slot: u8, symbol: u8) -> u32
+    requires slot { slot < 20 }
+    requires symbol { symbol < 7 }
+    ensures fits { result < 2 ^ 31 }
+    ensures value { result ≡ reference_c_init id slot symbol }
+{
+    let twice = 2 * u32::from(id.value()) + 1;
+    (7 * (u32::from(slot) + 1) + u32::from(symbol) + 1) * twice * 1024 + twice
+}
+
+// The component that a bit gives.
+fn component_of(bit: bool) -> i64
+    ensures { result ≡ component bit }
+{
+    if bit { -90 } else { 90 }
+}
+
+// The value of subcarrier number m, by the bits of the symbol's sequence.
+fn value_of(bits: &[bool], m: u8) -> Cpx
+    requires bits { length bits.now ≡ 232 }
+    requires m { m < 12 }
+    ensures { result ≡ value_by (λ n. get_or bits.now n false) m }
+{
+    let first = 2 * (m as usize + 104);
+    Cpx {
+        re: component_of(bits[first]),
+        im: component_of(bits[first + 1]),
+    }
+}
+
+// The first subcarrier of the symbol's reference places.
+#[tactic(auto, using(std::proofs::lemmas::Bool::Decides::nat_tests), unfolding(crate::specs::Reference::first_subcarrier))]
+fn first_of(id: CellId, symbol: u8) -> u8
+    ensures fits { result < 6 }
+    ensures value { result ≡ first_subcarrier id symbol }
+{
+    let shift = if symbol == 0 { 0 } else { 3 };
+    ((shift + id.value()) % 6) as u8
+}
+
+/// Subcarriers and values of the reference signals of a symbol, in the order of subcarriers.
+/// `slot` is 0 to 19 and `symbol` 0 or 4. Each component of a value is 90 or -90.
+pub fn pilots(id: CellId, slot: u8, symbol: u8) -> [(u8, Cpx); 12]
+    requires slot { slot < 20 }
+    requires symbol { (symbol ≡ 0) ⊎ (symbol ≡ 4) }
+    ensures pilots { result ≡ reference_list id slot symbol }
+    ensures full { All (λ pilot. IsReferenceValue pilot.1) result }
+{
+    let mut bits = [false; 232];
+    gold::fill(c_init(id, slot, symbol), &mut bits);
+    let first = first_of(id, symbol);
+    let mut pilots = [(0, Cpx { re: 0, im: 0 }); 12];
+    for m in 0..12_u8 {
+        pilots[m as usize] = (6 * m + first, value_of(&bits, m));
+    }
+    pilots
+}
+
+/// The twelve subcarriers of a symbol are its reference places, each with its value. Symbols 0 and
+/// 4 of a slot share every third subcarrier, from the identity modulo 3 on.
+pub fn reference_places()
+    ensures inside { (identity symbol m : ℕ) → m < 12 → subcarrier identity symbol m < 72 }
+    ensures each { (identity symbol m : ℕ) → (symbol ≡ 0) ⊎ (symbol ≡ 4) →
+        IsTrue (is_reference identity symbol (subcarrier identity symbol m)) }
+    ensures found { (identity symbol k : ℕ) → IsTrue (is_reference identity symbol k) →
+        k ≡ subcarrier identity symbol (k / 6) }
+    ensures symbols { (identity symbol k : ℕ) → IsTrue (is_reference identity symbol k) →
+        (symbol ≡ 0) ⊎ (symbol ≡ 4) }
+
+    ensures value { (identity slot symbol m : ℕ) →
+        reference_at identity slot symbol (subcarrier identity symbol m)
+        ≡ reference identity slot symbol m }
+    ensures full { (identity slot symbol m : ℕ) →
+        IsReferenceValue (reference identity slot symbol m) }
+
+    ensures third { (identity k : ℕ) →
+        IsTrue (is_reference identity 0 k || is_reference identity 4 k) ↔ (k % 3 ≡ identity % 3) }
+    ensures never_both { (identity k : ℕ) →
+        IsTrue (is_reference identity 0 k) → ¬ IsTrue (is_reference identity 4 k) }
+{}
+
+#[cfg(test)]
+mod tests;

@@ -1,0 +1,3 @@
+pub mod Windows
+pub mod Registers
+pub mod Bits

@@ -1,0 +1,9 @@
+use Rattle.std.proofs.Common.{◌∙◌, ap}
+use Rattle.gold.specs.Sequence.{low_bits, x1_taps}
+use Rattle.gold.proofs.Registers.{shifted, and_one-fits, x1_sum}
+use Rattle.gold.proofs.next_x1.Goals as goal
+
+pub returns-clause-step : goal.returns-clause-step
+returns-clause-step c =
+    ap (low_bits 31) c.shift_in.ensures
+    ∙ shifted x1_taps c.args.register _ c.requires (and_one-fits _) (x1_sum c.args.register)

@@ -1,0 +1,12 @@
+-- The pseudo-random sequence c (TS 36.211 section 7.2).
+use Rattle.std.specs.Prelude.{ℕ, ◌+◌, Bool, List, map}
+use Rattle.std.specs.List.{range_with_len}
+use Rattle.gold.specs.Sequence.{xor, x1, x2}
+
+-- c(n)
+unfoldable pub gold_bit : ℕ → ℕ → Bool
+gold_bit c_init n = xor (x1 (n + 1600)) (x2 c_init (n + 1600))
+
+-- c(0) to c(count - 1)
+unfoldable pub gold_bits : ℕ → ℕ → List Bool
+gold_bits c_init count = map (gold_bit c_init) (range_with_len 0 count)

@@ -1,0 +1,23 @@
+-- Places of a subframe's grid: symbols 0 to 13, each with subcarriers 0 to 71
+-- (TS 36.211 section 6.2.2).
+use Rattle.std.specs.Prelude.{ℕ, ◌+◌, ◌*◌, Bool, ◌&&◌, nat_eq, List, map}
+use Rattle.std.specs.List.{range_with_len, flat_map}
+use Rattle.grid_map.specs.declared.Place.{Place}
+
+abbrev pub place : ℕ → ℕ → Place
+place symbol k = record { symbol = symbol; k = k }
+
+-- all places of a symbol, in the order of subcarriers
+abbrev pub symbol_places : ℕ → List Place
+symbol_places symbol = map (place symbol) (range_with_len 0 72)
+
+-- all places of count symbols from first on: subcarriers first, then symbols
+unfoldable pub places_of : ℕ → ℕ → List Place
+places_of first count = flat_map symbol_places (range_with_len first count)
+
+-- the number of a place in that order
+abbrev pub place_number : Place → ℕ
+place_number p = 72 * p.symbol + p.k
+
+abbrev pub same_place : Place → Place → Bool
+same_place p q = nat_eq p.symbol q.symbol && nat_eq p.k q.k

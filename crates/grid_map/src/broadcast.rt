@@ -1,0 +1,61 @@
+ghost use Rattle.std.specs.Prelude.{◌≡◌, ◌+◌, ◌<◌, ◌≤◌, ◌↔◌, ℕ, length, slice_get, IsTrue, nat_lt, if◌then◌else◌};
+ghost use Rattle.grid_map.specs.declared.Place.{Place};
+ghost use Rattle.grid_map.specs.Place.{place_number};
+ghost use Rattle.grid_map.specs.Broadcast.{pbch_places, pbch_place, is_pbch, pbch_index};
+
+use crate::Place;
+use lte_types::CellId;
+
+/// The place that point `i` of the broadcast channel takes: symbols 7 to 10 of the subframe, which
+/// are the first four of slot 1, subcarriers first and then symbols, without the places kept for
+/// reference signals (TS 36.211 section 6.6.4). `i` is below 240.
+pub fn pbch(id: CellId, i: usize) -> Place
+    requires { i < 240 }
+    ensures item { slice_get (pbch_places id) i ≡ Some result }
+    ensures place { result ≡ pbch_place id i }
+    ensures carries { IsTrue (is_pbch id result) }
+    ensures symbol { (7 ≤ result.symbol) × (result.symbol ≤ 10) }
+    ensures k { result.k < 72 }
+{
+    if i < 96 {
+        let n = i % 48;
+        let k = 3 * (n / 2) + beside(n % 2, id.n2() as usize);
+        Place {
+            symbol: (7 + i / 48) as u8,
+            k: k as u8,
+        }
+    } else {
+        let n = i - 96;
+        Place {
+            symbol: (9 + n / 72) as u8,
+            k: (n % 72) as u8,
+        }
+    }
+}
+
+// Number n of the two subcarriers of a group of three that stand beside the reserved one.
+fn beside(n: usize, reserved: usize) -> usize
+    requires { n < 2 }
+    ensures { result ≡ (if nat_lt n reserved then n else n + 1) }
+{
+    if n < reserved { n } else { n + 1 }
+}
+
+/// The broadcast channel has 240 places, subcarriers first and then symbols, each once. Its places
+/// and their numbers determine each other.
+pub fn pbch_order()
+    ensures count { (identity : ℕ) → length (pbch_places identity) ≡ 240 }
+    ensures in_order { (identity i j : ℕ) → i < j → j < 240 →
+        place_number (pbch_place identity i) < place_number (pbch_place identity j) }
+    ensures one_to_one { (identity i j : ℕ) → i < 240 → j < 240 →
+        pbch_place identity i ≡ pbch_place identity j → i ≡ j }
+
+    ensures inside { (identity i : ℕ) → i < 240 →
+        IsTrue (is_pbch identity (pbch_place identity i)) }
+    ensures index { (identity i : ℕ) → i < 240 →
+        pbch_index identity (pbch_place identity i) ≡ i }
+    ensures found { (identity : ℕ) (p : Place) → IsTrue (is_pbch identity p) →
+        pbch_place identity (pbch_index identity p) ≡ p }
+    ensures carries { (identity : ℕ) (p : Place) →
+        IsTrue (is_pbch identity p) ↔ (pbch_index identity p < 240) }
+{}
