@@ -1,5 +1,5 @@
 use crate::recordings::{put_signal, put_turned_signal, silence};
-use cs_outside::{FailSink, FailSource, MemSink, MemSource, Sink, Source};
+use cs_outside::{FailSink, FailSource, MemSink, MemSource, Source, StdSink, StdSource};
 use lte_top::{run, Status, Words};
 use std::alloc::{AllocError, Global};
 use std::test::Fail;
@@ -148,6 +148,37 @@ fn a_sink_without_room_keeps_a_front(rt: HostRuntime) -> Result<(), Fail> {
     let mut sink = MemSink::new(alloc, 3)?;
     assert_eq!(rt; run(alloc, &words, &mut source, &mut sink), Status::WriteFault);
     assert_eq!(rt; sink.taken(), b"hit".as_slice());
+    Ok(())
+}
+
+// How `hits` ends over a reader and a writer of std, and what the writer got.
+fn hits_of_std(alloc: Global, bytes: &[u8]) -> Result<(Status, Vec<u8>), AllocError> {
+    let words = command(alloc, "hits")?;
+    let mut taken = Vec::new(alloc);
+    let status = run(alloc, &words, &mut StdSource::new(bytes), &mut StdSink::new(&mut taken));
+    Ok((status, taken))
+}
+
+#[test]
+fn readers_and_writers_of_std(rt: HostRuntime) -> Result<(), Fail> {
+    let alloc = rt.alloc();
+    for (len, refusal) in [
+        (0, Status::TooShort),
+        (230_399, Status::Ragged),
+        (7_680_001, Status::TooLong),
+    ] {
+        let (status, taken) = hits_of_std(alloc, &silence(alloc, len)?)?;
+        assert_eq!(rt; status, refusal, "{len} bytes");
+        assert!(rt; taken.is_empty(), "{len} bytes");
+    }
+    let mut bytes = silence(alloc, 230_400)?;
+    let (status, taken) = hits_of_std(alloc, &bytes)?;
+    assert_eq!(rt; status, Status::Done);
+    assert_eq!(rt; taken.as_slice(), b"hits 0\n".as_slice());
+    put_signal(&mut bytes, 1000);
+    let (status, taken) = hits_of_std(alloc, &bytes)?;
+    assert_eq!(rt; status, Status::Done);
+    assert_eq!(rt; taken.as_slice(), b"hits 1\n1000 0\n".as_slice());
     Ok(())
 }
 
