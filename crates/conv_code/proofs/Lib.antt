@@ -1,0 +1,7 @@
+pub mod Lists
+pub mod Encoding
+pub mod Orders
+pub mod Places
+pub mod Sums
+pub mod OneToOne
+pub mod Rows

@@ -1,0 +1,5 @@
+use Rattle.conv_code.proofs.Places.{permuting}
+use Rattle.conv_code.proofs.laws.reading_permutes.Goals as goal
+
+pub returns : goal.returns
+returns c = permuting

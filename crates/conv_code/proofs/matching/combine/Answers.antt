@@ -1,0 +1,15 @@
+use Rattle.std.proofs.Common.{arith, refl}
+use Rattle.conv_code.proofs.Sums.{sums_none, sums_more, sums_all}
+use Rattle.conv_code.proofs.matching.combine.Goals as goal
+
+pub loop-i-init : goal.loop-i-init
+loop-i-init g c = sums_none g.row.N c.args.values.now
+
+pub loop-i-preserved : goal.loop-i-preserved
+loop-i-preserved g c =
+    let at = c.place_in.ensures in
+    rw c.add_at.ensures.sum
+    (sums_more g.row.N c.args.values.now c.loop-i.i c.loop-i.sums _ _ _ at.place at.stream at.inside at.below_three refl c.add_at.ensures.size c.loop-i.invariant)
+
+pub returns : goal.returns
+returns g c = sums_all g.row.N c.args.values.now c.loop-i.i c.loop-i.sums (omega arith) c.loop-i.invariant

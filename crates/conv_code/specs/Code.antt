@@ -1,0 +1,40 @@
+-- The tail-biting convolutional code of rate 1/3 (TS 36.212 section 5.1.3.1).
+use Rattle.std.specs.Prelude.{ℕ, ◌+◌, ◌-◌, ◌%◌, Bool, true, false, List, [], ◌∷◌, length, map, slice_index_or}
+use Rattle.finite.specs.Lists.{values_below}
+
+-- the sum of two bits modulo 2
+abbrev pub xor : Bool → Bool → Bool
+xor true true = false
+xor true false = true
+xor false b = b
+
+-- the sum of the bits modulo 2
+abbrev pub parity : List Bool → Bool
+parity [] = false
+parity (b ∷ bs) = xor b (parity bs)
+
+-- the bit of the word t places before place k, cyclically
+abbrev pub bit_back : List Bool → ℕ → ℕ → Bool
+bit_back word k t = slice_index_or word ((k + length word - t) % length word) false
+
+-- the taps of the three streams, which are the generators 133, 171 and 165 (octal)
+abbrev pub taps_0 : List ℕ
+taps_0 = 0 ∷ 2 ∷ 3 ∷ 5 ∷ 6 ∷ []
+
+abbrev pub taps_1 : List ℕ
+taps_1 = 0 ∷ 1 ∷ 2 ∷ 3 ∷ 6 ∷ []
+
+abbrev pub taps_2 : List ℕ
+taps_2 = 0 ∷ 1 ∷ 2 ∷ 4 ∷ 6 ∷ []
+
+-- bit k of the stream with these taps
+abbrev pub coded : List ℕ → List Bool → ℕ → Bool
+coded taps word k = parity (map (bit_back word k) taps)
+
+-- the bits of the three streams at place k
+abbrev pub coded_bits : List Bool → ℕ → List Bool
+coded_bits word k = coded taps_0 word k ∷ coded taps_1 word k ∷ coded taps_2 word k ∷ []
+
+-- the coded word: the bits of the three streams at each place
+unfoldable pub coded_word : List Bool → List (List Bool)
+coded_word word = values_below (length word) (coded_bits word)

@@ -1,0 +1,4 @@
+pub mod Code
+pub mod Reading
+pub mod Cost
+pub mod Laws

@@ -1,0 +1,101 @@
+ghost use Rattle.std.specs.Prelude.{◌≡◌, ◌+◌, ◌*◌, ◌^◌, ◌<◌, ◌≤◌, length, nat_abs, slice_index_or};
+ghost use Rattle.conv_code.specs.Reading.{bit_at_place, cells, place_of, stream_order, sum_at, summed, sums_with};
+
+/// A bit of a coded word: its place in the stream with this number.
+#[derive(Clone, Copy, Drop)]
+pub struct Place {
+    place: usize,
+    stream: usize,
+}
+
+/// The columns of the matrix, in the order in which they are read.
+const COLUMNS: [usize; 32] = [
+    1, 17, 9, 25, 5, 21, 13, 29, 3, 19, 11, 27, 7, 23, 15, 31, 0, 16, 8, 24, 4, 20, 12, 28, 2, 18,
+    10, 26, 6, 22, 14, 30,
+];
+
+/// The cell that is read after m others in a matrix of 1 or 2 rows.
+fn cell_at(rows: usize, m: usize) -> usize
+    requires some { 0 < rows }
+    requires few { rows ≤ 2 }
+    requires cells { m < 32 * rows }
+    ensures cell { result ≡ slice_index_or (cells rows) m 0 }
+    ensures inside { result < 32 * rows }
+{
+    32 * (m % rows) + COLUMNS[m / rows]
+}
+
+/// The place of the bit that is read after p others of a stream of n bits.
+fn stream_place(n: usize, p: usize) -> usize
+    requires low { 6 ≤ n }
+    requires high { n ≤ 64 }
+    requires bits { p < n }
+    ensures place { result ≡ slice_index_or (stream_order n) p 0 }
+    ensures inside { result < n }
+{
+    let rows = n.div_ceil(32);
+    let nulls = 32 * rows - n;
+    let mut left = p;
+    for m in 0..32 * rows {
+        let cell = cell_at(rows, m);
+        if cell >= nulls {
+            if left == 0 {
+                return cell - nulls;
+            }
+            left -= 1;
+        }
+    }
+    unreachable!()
+}
+
+/// The place of bit i of the endless reading of three streams of n bits.
+fn place_in(n: usize, i: usize) -> Place
+    requires low { 6 ≤ n }
+    requires high { n ≤ 64 }
+    ensures place { result.place ≡ (place_of n i).place }
+    ensures stream { result.stream ≡ (place_of n i).stream }
+    ensures inside { result.place < n }
+    ensures below_three { result.stream < 3 }
+{
+    let i = i % (3 * n);
+    Place {
+        place: stream_place(n, i % n),
+        stream: i / n,
+    }
+}
+
+/// Bit i of the endless cyclic reading of a coded word (TS 36.212 section 5.1.4.2).
+pub fn match_out<const N: usize>(coded: &[[bool; 3]; N], i: usize) -> bool
+    requires low { 6 ≤ N }
+    requires high { N ≤ 64 }
+    ensures { result ≡ bit_at_place coded.now (place_of N i) }
+{
+    let at = place_in(N, i);
+    coded[at.place][at.stream]
+}
+
+/// Adds the value to the sum at a place.
+fn add_at(sums: &mut [[i32; 3]], at: &Place, value: &i16)
+    requires place { at.now.place < length sums.old }
+    requires stream { at.now.stream < 3 }
+    requires room { nat_abs (sum_at sums.old at.now.place at.now.stream) ≤ 2 ^ 30 }
+    ensures sum { sums.new ≡ sums_with sums.old at.now.place at.now.stream value.now }
+    ensures size { nat_abs value.now ≤ 2 ^ 15 }
+{
+    sums[at.place][at.stream] += *value as i32;
+}
+
+/// At each place of a coded word the sum of the values that the endless reading maps to it.
+/// At most 1,920 values; each sum has a size of at most 62,914,560.
+pub fn combine<const N: usize>(values: &[i16]) -> [[i32; 3]; N]
+    requires low { 6 ≤ N }
+    requires high { N ≤ 64 }
+    requires count { length values.now ≤ 1920 }
+    ensures { result ≡ summed N values.now }
+{
+    let mut sums = [[0; 3]; N];
+    for (i, value) in values.iter().enumerate() {
+        add_at(&mut sums, &place_in(N, i), value);
+    }
+    sums
+}

@@ -1,0 +1,72 @@
+ghost use Rattle.std.specs.Prelude.{◌≡◌, ◌<◌, ◌≤◌, length, false, slice_index_or};
+
+use std::marker::Model;
+
+/// A word of N bits, N at most 64. Contracts see it as the list of its bits.
+#[derive(Clone, Copy, Debug, Drop, PartialEq, Eq)]
+pub struct Bits<const N: usize> {
+    bits: [bool; N],
+}
+
+impl<const N: usize> Model for Bits<N> {
+    ghost use Rattle.std.specs.Prelude.{Bool, List};
+
+    ghost Value = { List Bool };
+
+    ghost view = { λ a. a.bits };
+
+    ghost inverse = { λ word. record { bits = word } };
+}
+
+impl<const N: usize> Bits<N> {
+    /// The word of these bits.
+    pub fn new(bits: [bool; N]) -> Bits<N>
+        requires { N ≤ 64 }
+        ensures { result ≡ bits.entry }
+    {
+        Bits { bits }
+    }
+
+    /// The bits, in order.
+    pub fn slice(&self) -> &[bool]
+        requires { N ≤ 64 }
+        ensures bits { result.now ≡ self.now }
+        ensures count { length self.now ≡ N }
+    {
+        &self.bits
+    }
+
+    /// The bit at place i.
+    pub fn get(&self, i: usize) -> bool
+        requires size { N ≤ 64 }
+        requires inside { i < N }
+        ensures { result ≡ slice_index_or self.now i false }
+    {
+        self.bits[i]
+    }
+}
+
+#[cfg(test)]
+mod tests {
+    use super::*;
+
+    #[test]
+    fn a_word_keeps_its_bits(rt: HostRuntime) {
+        let word = Bits::new([true, false, false]);
+        assert!(rt; word.get(0));
+        assert!(rt; !word.get(2));
+        assert_eq!(rt; word.slice().len(), 3);
+        assert!(rt; word == Bits::new([true, false, false]));
+        assert!(rt; word != Bits::new([true, false, true]));
+    }
+
+    #[test]
+    fn a_word_of_37_bits(rt: HostRuntime) {
+        let mut bits = [false; 37];
+        bits[36] = true;
+        let word = Bits::new(bits);
+        assert!(rt; word.get(36));
+        assert!(rt; !word.get(35));
+        assert_eq!(rt; word.slice().len(), 37);
+    }
+}

@@ -1,0 +1,60 @@
+-- The least cost over the start states, of paths that end where they start.
+use Rattle.std.proofs.Common.{◌≡◌, ℕ, ◌+◌, ◌*◌, ◌<◌, ◌≤◌, Bool, true, false, cond, refl, sym, ◌∙◌, inl, inr, arith, mul-le-mul_right}
+use Rattle.std.specs.Prelude.{min, nat_eq}
+use Rattle.std.proofs.lemmas.Bool.{cases_lt, eq-eqb}
+use Rattle.std.proofs.lemmas.Bool.Decides.{eqb_tells}
+use Rattle.std.proofs.Math.Nat.{min-le_left, min-le_right}
+use Rattle.paths.specs.Paths.{end_of, path_cost}
+use Rattle.paths.specs.Least.{ends_in, IsLeastFrom, IsLeastTo, IsLeastRound}
+use Rattle.paths.specs.Words.{keyed}
+use Rattle.paths.proofs.Best.{min_cases}
+use Rattle.paths.proofs.Words.{path_cost-keyed}
+
+pub ends_in_same : (far s x : ℕ) → x ≡ s → ends_in far s x ≡ 0
+ends_in_same far s x e = rw (eq-eqb x s e) refl
+
+pub ends_in_other : (far s x : ℕ) → nat_eq x s ≡ false → ends_in far s x ≡ far
+ends_in_other far s x e = rw e refl
+
+pub ends_in-le : (far s x : ℕ) → ends_in far s x ≤ far
+ends_in-le far s x = elim (nat_eq x s) as (λ t. cond t 0 far ≤ far) [ true ↦ omega arith | false ↦ omega arith ]
+
+pub round_first : (next : ℕ → Bool → ℕ) (c : ℕ → ℕ → Bool → ℕ) (far n m : ℕ) →
+    IsLeastFrom next c (ends_in far 0) 0 n 0 m → IsLeastRound next c far n 1 m
+round_first next c far n m from = record {
+  reached = let (bs, size, e) = from.reached in (0, bs, omega arith, size, e);
+  least = λ s bs below size. let z : s ≡ 0 = omega arith in rw z (from.least bs size);
+}
+
+pub round_more : (next : ℕ → Bool → ℕ) (c : ℕ → ℕ → Bool → ℕ) (far n s m m' : ℕ) →
+    IsLeastRound next c far n s m → IsLeastFrom next c (ends_in far s) 0 n s m' → IsLeastRound next c far n (s + 1) (min m m')
+round_more next c far n s m m' known from = record {
+  reached = elim (min_cases m m') [
+    | inl e ↦ let (s', bs, below, size, r) = known.reached in (s', bs, omega arith, size, r ∙ sym e)
+    | inr e ↦ let (bs, size, r) = from.reached in (s, bs, omega arith, size, r ∙ sym e)
+  ];
+  least = λ s' bs below size. elim (cases_lt s' s) [
+    | inl h ↦ let h' = known.least s' bs h size in let k = min-le_left m m' in omega (arith, h', k)
+    | inr h ↦ let z : s' ≡ s = omega arith in rw z (let h' = from.least bs size in let k = min-le_right m m' in omega (arith, h', k))
+  ];
+}
+
+-- a start state may be left out where the least cost from any state to it is, at the scale, above the least key so far
+pub round_skip : (next : ℕ → Bool → ℕ) (c : ℕ → ℕ → Bool → ℕ) (scale far n limit s m bound : ℕ) → s < limit → IsLeastRound next (keyed scale n c) far n s m →
+    IsLeastTo next c (λ y. 0) limit n s bound → m < bound * scale → m ≤ far → IsLeastRound next (keyed scale n c) far n (s + 1) m
+round_skip next c scale far n limit s m bound below known to above short = record {
+  reached = let (s', bs, below', size, e) = known.reached in (s', bs, omega arith, size, e);
+  least = λ s' bs below' size. elim (cases_lt s' s) [
+    | inl h ↦ known.least s' bs h size
+    | inr h ↦
+        let e : s' ≡ s = omega arith in
+        rw e (elim (eqb_tells (end_of next s bs) s) [
+          | inl (t, back) ↦
+              let low = to.least s bs below size back in
+              let times : bound * scale ≤ path_cost next c 0 s bs * scale = mul-le-mul_right scale (omega (arith, low)) in
+              let key = path_cost-keyed next scale n c 0 s bs (omega (arith, size)) in
+              omega (arith, times, key, above)
+          | inr (f, away) ↦ let is_far : ends_in far s (end_of next s bs) ≡ far = ends_in_other far s _ f in omega (arith, is_far, short)
+        ])
+  ];
+}

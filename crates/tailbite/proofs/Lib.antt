@@ -1,0 +1,6 @@
+pub mod Bits
+pub mod Windows
+pub mod Branches
+pub mod Rows
+pub mod Keys
+pub mod Only

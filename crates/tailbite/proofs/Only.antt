@@ -1,0 +1,70 @@
+-- Where all values speak for a word, it is the only least one.
+use Rattle.std.proofs.Common.{◌≡◌, ℕ, zero, suc, ◌<◌, Bool, true, false, List, [], length, get_or, ℤ, pos, refl, sym, ◌∙◌, arith, ap}
+use Rattle.std.proofs.Common.{inl, inr}
+use Rattle.std.proofs.lemmas.Bool.{cases_lt}
+use Rattle.finite.specs.Sums.{total_below}
+use Rattle.finite.specs.Lists.{values_below}
+use Rattle.finite.proofs.Lists.{values_below_same}
+use Rattle.conv_code.specs.Code.{coded, coded_bits, coded_word, taps_0, taps_1, taps_2}
+use Rattle.conv_code.specs.Cost.{disagreement, place_cost, word_cost}
+use Rattle.conv_code.proofs.OneToOne.{one_to_one}
+use Rattle.tailbite.specs.Clean.{SpeaksFor, Speaks, IsOnlyLeast}
+
+agree : (z : ℤ) (a b : Bool) → SpeaksFor z b → disagreement z a ≡ 0 → a ≡ b
+agree z false false s h = refl
+agree z false true s h = let d = s.dear in absurd (omega (arith, d, h))
+agree z true false s h = let d = s.dear in absurd (omega (arith, d, h))
+agree z true true s h = refl
+
+-- a sum is 0 exactly where all of it is
+total_zero : (n : ℕ) (f : ℕ → ℕ) → ((k : ℕ) → k < n → f k ≡ 0) → total_below n f ≡ 0
+unfolding total_below
+total_zero zero f h = refl
+total_zero (suc n) f h =
+    let before = total_zero n f (λ k below. h k (omega arith)) in
+    let here = h n (omega arith) in
+    omega (arith, before, here)
+
+all_zero : (n : ℕ) (f : ℕ → ℕ) → total_below n f ≡ 0 → (k : ℕ) → k < n → f k ≡ 0
+unfolding total_below
+all_zero zero f h k below = absurd (omega arith)
+all_zero (suc n) f h k below = elim (cases_lt k n) [
+  | inl lower ↦ all_zero n f (omega (arith, h)) k lower
+  | inr here ↦ let e : k ≡ n = omega arith in rw e (omega (arith, h))
+]
+
+-- a word's coded bits cost nothing where the values speak for them
+free_place : (values : List (List ℤ)) (word : List Bool) → Speaks values word → (k : ℕ) → k < length values → place_cost values word k ≡ 0
+free_place values word speaks k below =
+    let here = speaks.place k below in
+    let a = here.first.free in
+    let b = here.second.free in
+    let c = here.third.free in
+    omega (arith, a, b, c)
+
+-- a word that costs nothing at a place has the coded bits there
+same_place : (values : List (List ℤ)) (u word : List Bool) → Speaks values word → (k : ℕ) → k < length values → place_cost values u k ≡ 0 →
+    coded_bits u k ≡ coded_bits word k
+same_place values u word speaks k below h =
+    let here = speaks.place k below in
+    let v = get_or values k [] in
+    let first : disagreement (get_or v 0 (pos 0)) (coded taps_0 u k) ≡ 0 = omega (arith, h) in
+    let second : disagreement (get_or v 1 (pos 0)) (coded taps_1 u k) ≡ 0 = omega (arith, h) in
+    let third : disagreement (get_or v 2 (pos 0)) (coded taps_2 u k) ≡ 0 = omega (arith, h) in
+    let a = agree _ _ _ here.first first in
+    let b = agree _ _ _ here.second second in
+    let c = agree _ _ _ here.third third in
+    rw (a, b, c) refl
+
+pub only_least : IsOnlyLeast
+unfolding word_cost coded_word
+only_least values word least long size speaks is =
+    let zero_cost = total_zero (length values) (place_cost values word) (free_place values word speaks) in
+    let no_more = is.least word size in
+    let zero_least : total_below (length values) (place_cost values least) ≡ 0 = omega (arith, zero_cost, no_more) in
+    let same_size : length least ≡ length word = is.size ∙ sym size in
+    one_to_one least word (omega (arith, is.size)) same_size
+    (values_below_same (length least) (coded_bits least) (coded_bits word) (λ k inside.
+    let below : k < length values = omega (arith, is.size) in
+    same_place values least word speaks k below (all_zero (length values) (place_cost values least) zero_least k below))
+    ∙ ap (λ n. values_below n (coded_bits word)) same_size)

@@ -1,0 +1,18 @@
+use Rattle.std.proofs.Common.{arith}
+use Rattle.tailbite.proofs.Keys.{decoded_array}
+use Rattle.tailbite.proofs.search.least.Goals as goal
+
+pub overflow_cast-result : goal.overflow_cast-result
+overflow_cast-result g c =
+    let read = decoded_array g.row.N _ _ _ c.told-values c.least_round-key.ensures c.requires.low c.requires.high c.requires.sizes c.word_of.ensures.size c.word_of.ensures.bits in
+    omega (arith, read.small)
+
+pub returns-clause-word : goal.returns-clause-word
+returns-clause-word g c =
+    rw c.new.ensures
+    (decoded_array g.row.N _ _ _ c.told-values c.least_round-key.ensures c.requires.low c.requires.high c.requires.sizes c.word_of.ensures.size c.word_of.ensures.bits).word_is
+
+pub returns-clause-cost : goal.returns-clause-cost
+returns-clause-cost g c =
+    rw c.new.ensures
+    (decoded_array g.row.N _ _ _ c.told-values c.least_round-key.ensures c.requires.low c.requires.high c.requires.sizes c.word_of.ensures.size c.word_of.ensures.bits).cost_is

@@ -1,0 +1,26 @@
+-- Values that all speak for the coded bits of one word (own).
+use Rattle.std.specs.Prelude.{◌≡◌, ℕ, ◌<◌, ◌≤◌, Bool, not, List, [], length, slice_index_or, ℤ, pos}
+use Rattle.conv_code.specs.Code.{coded, taps_0, taps_1, taps_2}
+use Rattle.conv_code.specs.Cost.{disagreement}
+use Rattle.tailbite.specs.LeastWord.{IsLeastWord}
+
+-- the value speaks for this bit, and is not 0
+pub record SpeaksFor (z : ℤ) (b : Bool) : Type 0 where
+  pub free : disagreement z b ≡ 0
+  pub dear : 0 < disagreement z (not b)
+
+-- the three values of a place speak for the coded bits of a word at place k
+pub record PlaceSpeaks (v : List ℤ) (word : List Bool) (k : ℕ) : Type 0 where
+  pub first : SpeaksFor (slice_index_or v 0 (pos 0)) (coded taps_0 word k)
+  pub second : SpeaksFor (slice_index_or v 1 (pos 0)) (coded taps_1 word k)
+  pub third : SpeaksFor (slice_index_or v 2 (pos 0)) (coded taps_2 word k)
+
+-- the values of all places do
+pub record Speaks (values : List (List ℤ)) (word : List Bool) : Type 0 where
+  pub place : (k : ℕ) → k < length values → PlaceSpeaks (slice_index_or values k []) word k
+
+-- where all values speak for a word, it is the only least word, for 6 bits and more
+abbrev pub IsOnlyLeast : Type 0
+IsOnlyLeast =
+    (values : List (List ℤ)) (word least : List Bool) → 6 ≤ length values → length word ≡ length values → Speaks values word →
+    IsLeastWord values least → least ≡ word

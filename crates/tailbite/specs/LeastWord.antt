@@ -1,0 +1,10 @@
+-- The word that received values speak for (own).
+use Rattle.std.specs.Prelude.{◌≡◌, ◌<◌, ◌≤◌, Bool, List, length, ℤ}
+use Rattle.paths.specs.Words.{IsBefore}
+use Rattle.conv_code.specs.Cost.{word_cost}
+
+-- no word of as many bits as there are places costs less, and each that stands before it costs more
+pub record IsLeastWord (values : List (List ℤ)) (word : List Bool) : Type 0 where
+  pub size : length word ≡ length values
+  pub least : (other : List Bool) → length other ≡ length values → word_cost values word ≤ word_cost values other
+  pub first : (other : List Bool) → length other ≡ length values → IsBefore other word → word_cost values word < word_cost values other

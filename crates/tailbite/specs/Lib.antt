@@ -1,0 +1,3 @@
+pub mod LeastWord
+pub mod Machine
+pub mod Clean

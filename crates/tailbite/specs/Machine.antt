@@ -1,0 +1,30 @@
+-- The encoder as a machine of 64 states. A state holds the last six bits, the newest with weight 32 (TS 36.212 section 5.1.3.1).
+use Rattle.std.specs.Prelude.{ℕ, zero, suc, ◌+◌, ◌-◌, ◌/◌, ◌%◌, ◌^◌, min, Bool, true, false, cond, List, [], map, slice_index, slice_index_or, nat_eq, ℤ}
+use Rattle.conv_code.specs.Code.{parity, taps_0, taps_1, taps_2}
+use Rattle.conv_code.specs.Cost.{triple_cost}
+
+-- the state after the bit b
+abbrev pub shift : ℕ → Bool → ℕ
+shift x b = x / 2 + cond b 32 0
+
+-- whether a number is odd
+abbrev pub odd : ℕ → Bool
+odd n = nat_eq (n % 2) 1
+
+-- the bit t steps back, where the state was x before the newest bit b; it has weight 2 ^ (6 - t) in x
+abbrev pub window_bit : ℕ → Bool → ℕ → Bool
+window_bit x b zero = b
+window_bit x b (suc t) = odd (x / 2 ^ (5 - t))
+
+-- what the three values of a place speak against the coded bits of the step from x by b
+abbrev pub branch_cost : List ℤ → ℕ → Bool → ℕ
+branch_cost v x b =
+    triple_cost v (parity (map (window_bit x b) taps_0)) (parity (map (window_bit x b) taps_1)) (parity (map (window_bit x b) taps_2))
+
+-- what the step at place k costs
+abbrev pub step_cost : List (List ℤ) → ℕ → ℕ → Bool → ℕ
+step_cost values k = branch_cost (slice_index_or values k [])
+
+-- the least cost from x, where the row has the least cost from each state one step on
+abbrev pub step_least : (ℕ → Bool → ℕ) → List ℕ → ℕ → ℕ
+step_least edge row x = min (edge x false + slice_index row (shift x false)) (edge x true + slice_index row (shift x true))

@@ -1,0 +1,123 @@
+ghost use Rattle.std.specs.Prelude.{◌≡◌, ℕ, ◌+◌, ◌-◌, ◌*◌, ◌/◌, ◌^◌, ◌<◌, ◌≤◌, All, false, length, nat_abs, slice_index, slice_index_or};
+ghost use Rattle.paths.specs.Least.{IsLeastFrom, IsLeastRound, ends_in};
+ghost use Rattle.paths.specs.Words.{key_step, keyed};
+ghost use Rattle.conv_code.specs.Cost.{word_cost};
+ghost use Rattle.tailbite.specs.Machine.{branch_cost, odd, shift, step_cost, step_least};
+ghost use Rattle.tailbite.specs.LeastWord.{IsLeastWord};
+
+use crate::branch::{branch, next};
+use crate::trellis::Trellis;
+use cs_bits::Bits;
+
+const STATES: usize = 64;
+
+/// The weight of a unit of cost in a key: more than the number of every word.
+const SCALE: u128 = 0x1_0000_0000_0000_0000;
+
+/// More than the key of every word.
+const FAR: u128 = 0x10_0000_0000_0000_0000_0000_0000;
+
+/// The least key from the state x, where the row has those from each state one step on.
+fn least_at(values: &[i32; 3], bit: u128, row: &[u128], x: usize) -> u128
+    requires states { length row.now ≡ 64 }
+    requires state { x < 64 }
+    requires sizes { All (λ v. nat_abs v ≤ 2 ^ 20) values.now }
+    requires bit { bit < 2 ^ 64 }
+    requires room { (x : ℕ) → x < 64 → slice_index row.now x ≤ 2 ^ 120 }
+    ensures least { result ≡ step_least (key_step (2 ^ 64) bit (branch_cost values.now)) row.now x }
+    ensures growth { result ≤ slice_index row.now (shift x false) + 2 ^ 86 }
+{
+    let zero = branch(values, x, false) as u128 * SCALE + row[next(x, false)];
+    let one = branch(values, x, true) as u128 * SCALE + bit + row[next(x, true)];
+    zero.min(one)
+}
+
+/// Writes the row of least keys from each state, one step before the given row.
+fn step_back(values: &[i32; 3], bit: u128, row: &[u128], earlier: &mut [u128])
+    requires states { length row.now ≡ 64 }
+    requires earlier { length earlier.old ≡ 64 }
+    requires sizes { All (λ v. nat_abs v ≤ 2 ^ 20) values.now }
+    requires bit { bit < 2 ^ 64 }
+    requires room { (x : ℕ) → x < 64 → slice_index row.now x ≤ 2 ^ 120 }
+    ensures row { (x : ℕ) → x < 64 → slice_index earlier.new x ≡ step_least (key_step (2 ^ 64) bit (branch_cost values.now)) row.now x }
+    ensures growth { (x : ℕ) → x < 64 → slice_index earlier.new x ≤ slice_index row.now (shift x false) + 2 ^ 86 }
+{
+    for x in 0..STATES {
+        earlier[x] = least_at(values, bit, row, x);
+    }
+}
+
+/// Writes the row after the last place: the start state is free.
+fn fill_ends(start: usize, row: &mut [u128])
+    requires start { start < 64 }
+    requires states { length row.old ≡ 64 }
+    ensures { (x : ℕ) → x < 64 → slice_index row.new x ≡ ends_in (2 ^ 100) start x }
+{
+    for x in 0..STATES {
+        row[x] = if x == start { 0 } else { FAR };
+    }
+}
+
+/// The least key of a path through all places from the start state, which is free only if it ends there.
+fn least_key(values: &[[i32; 3]], start: usize, row: &mut [u128], earlier: &mut [u128]) -> u128
+    requires places { length values.now ≤ 64 }
+    requires sizes { All (λ v. All (λ z. nat_abs z ≤ 2 ^ 20) v) values.now }
+    requires start { start < 64 }
+    requires states { length row.old ≡ 64 }
+    requires earlier { length earlier.old ≡ 64 }
+    ensures { IsLeastFrom shift (keyed (2 ^ 64) (length values.now) (step_cost values.now)) (ends_in (2 ^ 100) start) 0 (length values.now) start result }
+{
+    fill_ends(start, row);
+    let mut bit: u128 = 1;
+    let mut i = values.len();
+    while i > 0 {
+        i -= 1;
+        step_back(&values[i], bit, row, earlier);
+        row.copy_from_slice(earlier);
+        bit *= 2;
+    }
+    row[start]
+}
+
+/// The least key of a path from any start state back to it.
+fn least_round(values: &[[i32; 3]], work: &mut Trellis) -> u128
+    requires places { length values.now ≤ 64 }
+    requires sizes { All (λ v. All (λ z. nat_abs z ≤ 2 ^ 20) v) values.now }
+    ensures { IsLeastRound shift (keyed (2 ^ 64) (length values.now) (step_cost values.now)) (2 ^ 100) (length values.now) 64 result }
+{
+    let mut least = least_key(values, 0, &mut work.row, &mut work.earlier);
+    for start in 1..STATES {
+        least = least.min(least_key(values, start, &mut work.row, &mut work.earlier));
+    }
+    least
+}
+
+/// The word of a number: bit 0 has the greatest weight.
+fn word_of<const N: usize>(number: u64) -> [bool; N]
+    requires places { N ≤ 64 }
+    ensures bits { (k : ℕ) → k < N → slice_index_or result k false ≡ odd (number / 2 ^ (N - 1 - k)) }
+    ensures size { length result ≡ N }
+{
+    let mut word = [false; N];
+    for k in 0..N {
+        word[k] = (number >> (N - 1 - k)) % 2 == 1;
+    }
+    word
+}
+
+/// The least word and its cost: no word of N bits costs less by these values, and each that stands before
+/// it in lexicographic order (bit 0 first, 0 before 1) costs more. A value speaks for the coded bit 0 where
+/// it is above 0, for 1 where it is below; a word costs the sizes of those that speak against it.
+pub fn least<const N: usize>(values: &[[i32; 3]; N], work: &mut Trellis) -> (Bits<N>, u32)
+    requires low { 6 ≤ N }
+    requires high { N ≤ 64 }
+    requires sizes { All (λ v. All (λ z. nat_abs z ≤ 2 ^ 20) v) values.now }
+    ensures word { IsLeastWord values.now result.0 }
+    ensures cost { result.1 ≡ word_cost values.now result.0 }
+{
+    let key = least_round(values, work);
+    (
+        Bits::new(word_of((key % SCALE) as u64)),
+        (key / SCALE) as u32,
+    )
+}
