@@ -1,3 +1,5 @@
 pub mod Entries
 pub mod Samples
 pub mod Laws
+pub mod Folds
+pub mod FoldSizes

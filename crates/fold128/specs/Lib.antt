@@ -1,3 +1,5 @@
 pub mod Tables
 pub mod Symbol
+pub mod Spectrum
+pub mod Folding
 pub mod Laws

@@ -1,12 +1,14 @@
-//! The tables of the 128th and 63rd roots of one, and the useful part of a symbol. Each call
-//! equals its plain definition.
+//! The tables of the 128th and 63rd roots of one, the useful part of a symbol, and the sums by
+//! which a symbol is seen. Each call equals its plain definition.
 #![tactic(auto)]
 
+mod spectrum;
 mod symbol;
 mod tables;
 
 ghost use Rattle.fold128.specs.Laws.{WHasPeriod, HalfTurnNegates, QuarterTurnIsJ, BackwardIsConjugate, TonesCancel, ZHasPeriod, ZBackwardIsConjugate};
 
+pub use spectrum::transform;
 pub use symbol::synth;
 pub use tables::{w, z63};
 

@@ -2,7 +2,7 @@
 
 ghost use Rattle.std.specs.Prelude.{◌≡◌, ◌<◌, All};
 ghost use Rattle.cs_num.specs.Complex.{IsWithin, value_at};
-ghost use Rattle.fold128.specs.Symbol.{useful_term, useful_at, useful_part};
+ghost use Rattle.fold128.specs.Symbol.{frequency, useful_term, useful_at, useful_part};
 
 use crate::tables::w;
 use cs_num::Cpx;
@@ -41,6 +41,14 @@ fn term(grid: &[Cpx; 72], k: usize, n: usize) -> Cpx
     requires n { n < 128 }
     ensures value { result ≡ useful_term (value_at grid.now) n k }
 {
-    let frequency = if k < 36 { k + 92 } else { k - 35 };
-    grid[k].mul(w(frequency * n))
+    grid[k].mul(w(frequency_of(k) * n))
+}
+
+// The frequency of subcarrier k, modulo 128.
+pub(crate) fn frequency_of(k: usize) -> usize
+    requires { k < 72 }
+    ensures value { result ≡ frequency k }
+    ensures small { result < 128 }
+{
+    if k < 36 { k + 92 } else { k - 35 }
 }

@@ -25,6 +25,13 @@ const Z_IMAGINARY: [i8; 32] = [
     110, 103, 95, 86, 77, 66, 55, 43, 31, 19, 6,
 ];
 
+// One check of an octant: how a place up to the last one is read, and how a later one.
+macro_rules! octant {
+    ($place:ident <= $last:literal => $value:expr, else $later:expr) => {
+        if $place <= $last { $value } else { $later }
+    };
+}
+
 // C at a place of the first quarter turn.
 fn quarter_of(m: usize) -> u16
     requires { m ≤ 32 }
@@ -39,12 +46,8 @@ fn cosine_of(m: usize) -> i64
     ensures { result ≡ cosine m }
 {
     let place = m % 128;
-    let half = if place <= 64 { place } else { 128 - place };
-    if half <= 32 {
-        quarter_of(half) as i64
-    } else {
-        -(quarter_of(64 - half) as i64)
-    }
+    let half = octant!(place <= 64 => place, else 128 - place);
+    octant!(half <= 32 => quarter_of(half) as i64, else -(quarter_of(64 - half) as i64))
 }
 
 /// W(m), near 16384 times the 128th root of one to the power m, of period 128. (own)
@@ -75,9 +78,5 @@ pub fn z63(m: usize) -> Cpx
     ensures { result ≡ z_at m }
 {
     let place = m % 63;
-    if place <= 31 {
-        z_half_of(place)
-    } else {
-        z_half_of(63 - place).conj()
-    }
+    octant!(place <= 31 => z_half_of(place), else z_half_of(63 - place).conj())
 }

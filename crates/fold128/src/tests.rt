@@ -1,8 +1,8 @@
 ghost use Rattle.std.specs.Prelude.{◌<◌, All};
 ghost use Rattle.cs_num.specs.Complex.{IsWithin};
 
-use crate::{synth, w, z63};
-use cs_num::Cpx;
+use crate::{synth, transform, w, z63};
+use cs_num::{Cpx, Sample};
 
 // A grid with one value that is not 0.
 fn one_value(k: usize, value: Cpx) -> [Cpx; 72]
@@ -43,4 +43,66 @@ fn one_subcarrier_turns_once(rt: HostRuntime) {
     assert_eq!(rt; samples[0], Cpx { re: 11, im: 11 });
     assert_eq!(rt; samples[32], Cpx { re: -11, im: 11 });
     assert_eq!(rt; samples[64], Cpx { re: -11, im: -11 });
+}
+
+// Six samples that are not 0, four of them 32 apart.
+fn six_samples() -> [Sample; 128] {
+    let mut samples = [Sample { re: 0, im: 0 }; 128];
+    samples[0] = Sample { re: 1, im: 0 };
+    samples[5] = Sample { re: 100, im: -7 };
+    samples[37] = Sample {
+        re: -32768,
+        im: 32767,
+    };
+    samples[69] = Sample { re: 13, im: 11 };
+    samples[101] = Sample { re: -5, im: 2000 };
+    samples[127] = Sample { re: 0, im: 3 };
+    samples
+}
+
+#[test]
+fn each_residue_of_a_frequency_sees_its_sum(rt: HostRuntime) {
+    let seen = transform(&six_samples());
+    assert_eq!(rt;
+        seen[0],
+        Cpx {
+            re: 128506129,
+            im: -770966241
+        }
+    );
+    assert_eq!(rt;
+        seen[36],
+        Cpx {
+            re: 620734439,
+            im: 397635603
+        }
+    );
+    assert_eq!(rt;
+        seen[37],
+        Cpx {
+            re: 206706731,
+            im: -756220250
+        }
+    );
+    assert_eq!(rt;
+        seen[38],
+        Cpx {
+            re: -733135371,
+            im: -60340679
+        }
+    );
+    assert_eq!(rt;
+        seen[39],
+        Cpx {
+            re: 176420809,
+            im: 761461029
+        }
+    );
+    assert_eq!(rt;
+        seen[71],
+        Cpx {
+            re: 761380999,
+            im: -176423601
+        }
+    );
 }

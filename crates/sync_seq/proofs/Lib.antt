@@ -1,1 +1,4 @@
 pub mod PrimaryValues
+pub mod SecondaryValues
+pub mod Distinct
+pub mod ShiftRows

@@ -1,1 +1,3 @@
 pub mod Primary
+pub mod Secondary
+pub mod Laws

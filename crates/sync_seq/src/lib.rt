@@ -2,8 +2,18 @@
 #![tactic(auto)]
 
 mod primary;
+mod secondary;
+
+ghost use Rattle.sync_seq.specs.Laws.{SecondaryTells};
 
 pub use primary::pss;
+pub use secondary::sss;
+
+/// The secondary sequences of one identity within its group tell the group and the half: no two of
+/// the 336 are the same.
+pub fn secondary_tells_group_and_half()
+    ensures { SecondaryTells }
+{}
 
 #[cfg(test)]
 mod tests;

@@ -1,5 +1,6 @@
-use crate::pss;
+use crate::{pss, sss};
 use cs_num::Cpx;
+use lte_types::Half;
 
 #[test]
 fn the_first_values_of_each_root(rt: HostRuntime) {
@@ -8,4 +9,32 @@ fn the_first_values_of_each_root(rt: HostRuntime) {
     assert_eq!(rt; first[1], Cpx { re: -101, im: -77 });
     assert_eq!(rt; pss(1)[1], Cpx { re: -123, im: -31 });
     assert_eq!(rt; pss(2)[1], Cpx { re: -123, im: 31 });
+}
+
+#[test]
+fn secondary_values_of_three_identities(rt: HostRuntime) {
+    assert_eq!(rt;
+        sss(0, 0, Half::Zero),
+        [
+            1, 1, 1, -1, 1, 1, 1, 1, 1, -1, 1, 1, -1, -1, -1, -1, -1, -1, 1, -1, 1, 1, 1, 1, -1, 1,
+            1, 1, -1, -1, -1, -1, -1, -1, 1, -1, -1, 1, -1, 1, -1, -1, 1, 1, -1, 1, 1, -1, 1, 1, 1,
+            1, -1, 1, -1, -1, -1, 1, 1, 1, 1, -1
+        ]
+    );
+    assert_eq!(rt;
+        sss(100, 1, Half::Zero),
+        [
+            -1, -1, -1, -1, -1, -1, 1, 1, -1, -1, -1, -1, 1, -1, -1, 1, 1, -1, 1, -1, 1, -1, 1, 1,
+            1, 1, -1, -1, 1, -1, -1, -1, -1, -1, 1, 1, -1, -1, -1, 1, -1, 1, 1, 1, -1, -1, -1, 1,
+            -1, 1, -1, -1, -1, -1, -1, -1, -1, -1, -1, -1, 1, 1
+        ]
+    );
+    assert_eq!(rt;
+        sss(167, 2, Half::Five),
+        [
+            -1, 1, -1, -1, -1, -1, 1, 1, 1, 1, -1, -1, 1, 1, 1, 1, 1, -1, 1, -1, -1, 1, -1, 1, -1,
+            -1, -1, -1, 1, -1, 1, -1, 1, -1, 1, -1, -1, 1, 1, 1, 1, 1, -1, -1, -1, 1, -1, -1, 1, 1,
+            -1, -1, -1, 1, 1, 1, -1, 1, -1, -1, 1, -1
+        ]
+    );
 }

@@ -13,5 +13,5 @@ pub mul-requires : goal.mul-requires
 mul-requires c =
     let long : length c.args.grid.now ≡ 72 = search rules in
     let g : IsWithin 127 (value_at c.args.grid.now c.args.k) = All-get_or (IsWithin 127) c.args.grid.now c.args.k nothing (omega arith) c.requires.small in
-    let t = w_small (c.if-k-lt36.frequency * c.args.n) in
-    rw c.w.ensures (omega (arith, mul-le (size (value_at c.args.grid.now c.args.k)) (size (w_at (c.if-k-lt36.frequency * c.args.n))) 127 16384 (size-le _ _ g) (size-le _ _ t)))
+    let t = w_small (c.frequency_of.result * c.args.n) in
+    rw c.w.ensures (omega (arith, mul-le (size (value_at c.args.grid.now c.args.k)) (size (w_at (c.frequency_of.result * c.args.n))) 127 16384 (size-le _ _ g) (size-le _ _ t)))

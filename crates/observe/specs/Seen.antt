@@ -1,0 +1,24 @@
+-- What is seen of a symbol. (own; the useful part of TS 36.211 section 6.12 read backward, in whole numbers)
+use Rattle.std.specs.Prelude.{ℕ, ◌+◌, List}
+use Rattle.finite.specs.Lists.{values_below}
+use Rattle.cs_num.specs.declared.Cpx.{Cpx}
+use Rattle.cs_num.specs.declared.Sample.{Sample}
+use Rattle.cs_num.specs.Rounding.{rounded}
+use Rattle.fold128.specs.Spectrum.{spectrum_at}
+use Rattle.sample_file.specs.Recording.{sample_at}
+
+-- what is seen at subcarrier k of the symbol whose useful part begins at sample start
+unfoldable pub seen : List Sample → ℕ → ℕ → Cpx
+seen recording start k = rounded (spectrum_at (λ n. sample_at recording (start + n)) k) 12
+
+-- what is seen at all its subcarriers
+unfoldable pub seen_symbol : List Sample → ℕ → List Cpx
+seen_symbol recording start = values_below 72 (seen recording start)
+
+-- the sums of 128 samples, rounded
+unfoldable pub seen_of : (ℕ → Cpx) → List Cpx
+seen_of samples = values_below 72 (λ k. rounded (spectrum_at samples k) 12)
+
+-- 72 sums, rounded
+unfoldable pub rounded_values : (ℕ → Cpx) → List Cpx
+rounded_values sums = values_below 72 (λ k. rounded (sums k) 12)

@@ -1,0 +1,44 @@
+-- The identity group and the half of a frame that a hit belongs to. (own; the signals are those of TS 36.211 section 6.11)
+use Rattle.std.specs.Prelude.{ℕ, zero, suc, ◌-◌, ◌<◌, ◌≤◌, List, ℤ, ◌<ℤ◌, ◌≤ℤ◌, int_lt, if◌then◌else◌}
+use Rattle.cs_num.specs.declared.Sample.{Sample}
+use Rattle.lte_types.specs.declared.frame.Half.{Half}
+use Rattle.lte_types.specs.declared.frame.Half.TheVariants.{Zero, Five}
+use Rattle.lte_types.specs.declared.hit.Hit.{Hit}
+use Rattle.observe.specs.Seen.{seen}
+use Rattle.sss_detect.specs.Scores.{score}
+
+-- the first pair of a group and a half comes before the second: subframe 0 before subframe 5, and then the lower group
+abbrev pub IsBefore : ℕ → Half → ℕ → Half → Type 0
+IsBefore m Zero n Zero = m < n
+IsBefore m Zero n Five = Unit {0}
+IsBefore m Five n Zero = ⊥
+IsBefore m Five n Five = m < n
+
+-- of all 336 pairs this one has the greatest points, and those before it have less
+pub record IsBest (points : ℕ → Half → ℤ) (n1 : ℕ) (half : Half) : Type 0 where
+  pub known : n1 ≤ 167
+  pub greatest : (m : ℕ) (other : Half) → m ≤ 167 → points m other ≤ℤ points n1 half
+  pub first : (m : ℕ) (other : Half) → m ≤ 167 → IsBefore m other n1 half → points m other <ℤ points n1 half
+
+-- the place of the first greatest of f 0 to f n
+unfoldable pub first_greatest : (ℕ → ℤ) → ℕ → ℕ
+first_greatest f zero = 0
+first_greatest f (suc n) = if int_lt (f (first_greatest f n)) (f (suc n)) then suc n else first_greatest f n
+
+-- the best group of a half
+abbrev pub best_group : (ℕ → Half → ℤ) → Half → ℕ
+best_group points half = first_greatest (λ n1. points n1 half) 167
+
+-- the best pair
+unfoldable pub best_pair : (ℕ → Half → ℤ) → ℕ × Half
+best_pair points =
+    if int_lt (points (best_group points Zero) Zero) (points (best_group points Five) Five) then (best_group points Five, Five)
+    else (best_group points Zero, Zero)
+
+-- the points of a hit: the scores of what is seen of the primary symbol at the hit and of the secondary one before it
+abbrev pub points_of : List Sample → Hit → ℕ → Half → ℤ
+points_of recording hit = score (seen recording hit.t) (seen recording (hit.t - 137)) hit.n2
+
+-- the identity group and the half of a hit
+unfoldable pub identity_of : List Sample → Hit → ℕ × Half
+identity_of recording hit = best_pair (points_of recording hit)

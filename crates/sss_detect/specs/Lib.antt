@@ -1,0 +1,4 @@
+pub mod Scores
+pub mod Identity
+pub mod Place
+pub mod Laws

@@ -1,0 +1,86 @@
+//! The choice of a group and a half.
+
+ghost use Rattle.std.specs.Prelude.{◌≡◌, ◌^◌, ◌≤◌, All, unsigned_abs, int_lt, if◌then◌else◌};
+ghost use Rattle.cs_num.specs.Complex.{IsWithin, value_at};
+ghost use Rattle.sss_detect.specs.Scores.{score, score_by};
+ghost use Rattle.sss_detect.specs.Identity.{IsBest, best_group, best_pair};
+
+use crate::score::{agreements, score_of};
+use cs_num::Cpx;
+use lte_types::Half;
+
+// A group with its score.
+#[derive(Clone, Copy)]
+struct Candidate {
+    n1: u16,
+    score: i128,
+}
+
+/// The identity group, 0 to 167, and the half whose secondary sequence has the greatest score
+/// beside what is seen of a primary and a secondary symbol: the sum over the 62 values of the
+/// secondary sequence times the real part of what is seen of the secondary symbol, turned by what
+/// is seen of the primary one. Of equal scores subframe 0 comes first, and then the lower group.
+/// `n2` is 0 to 2, and components have size at most 2^25. (own)
+pub fn best(pss_seen: &[Cpx; 72], sss_seen: &[Cpx; 72], n2: u8) -> (u16, Half)
+    requires member { n2 ≤ 2 }
+    requires primary { All (IsWithin (2 ^ 25)) pss_seen.now }
+    requires secondary { All (IsWithin (2 ^ 25)) sss_seen.now }
+    ensures value { result ≡ best_pair (score (value_at pss_seen.now) (value_at sss_seen.now) n2) }
+    ensures best { IsBest (score (value_at pss_seen.now) (value_at sss_seen.now) n2) result.0 result.1 }
+{
+    best_by(&agreements(pss_seen, sss_seen, n2), n2)
+}
+
+// The best pair that agreements give.
+fn best_by(agreements: &[i64; 62], n2: u8) -> (u16, Half)
+    requires small { All (λ x. unsigned_abs x ≤ 2 ^ 59) agreements.now }
+    requires member { n2 ≤ 2 }
+    ensures { result ≡ best_pair (score_by agreements.now n2) }
+{
+    let zero = best_of_half(agreements, n2, Half::Zero);
+    let five = best_of_half(agreements, n2, Half::Five);
+    if zero.score < five.score {
+        (five.n1, Half::Five)
+    } else {
+        (zero.n1, Half::Zero)
+    }
+}
+
+// The best group of a half.
+fn best_of_half(agreements: &[i64; 62], n2: u8, half: Half) -> Candidate
+    requires small { All (λ x. unsigned_abs x ≤ 2 ^ 59) agreements.now }
+    requires member { n2 ≤ 2 }
+    ensures group { result.n1 ≡ best_group (score_by agreements.now n2) half }
+    ensures score { result.score ≡ score_by agreements.now n2 result.n1 half }
+{
+    let mut best = scored(agreements, 0, n2, half);
+    for n1 in 1..168 {
+        best = better(best, scored(agreements, n1, n2, half));
+    }
+    best
+}
+
+// A group with the score that agreements give it.
+fn scored(agreements: &[i64; 62], n1: u16, n2: u8, half: Half) -> Candidate
+    requires small { All (λ x. unsigned_abs x ≤ 2 ^ 59) agreements.now }
+    requires group { n1 ≤ 167 }
+    requires member { n2 ≤ 2 }
+    ensures group { result.n1 ≡ n1 }
+    ensures score { result.score ≡ score_by agreements.now n2 n1 half }
+{
+    Candidate {
+        n1,
+        score: score_of(agreements, n1, n2, half),
+    }
+}
+
+// The one of greater score, and of equals the first.
+fn better(first: Candidate, second: Candidate) -> Candidate
+    ensures { result ≡ (if int_lt first.score second.score then second else first) }
+{
+    if first.score < second.score {
+        second
+    } else {
+        first
+    }
+}

@@ -1,0 +1,76 @@
+-- The secondary synchronisation sequence. (TS 36.211 section 6.11.2.1)
+use Rattle.std.specs.Prelude.{ℕ, zero, suc, ◌+◌, ◌*◌, ◌/◌, ◌%◌, Bool, true, false, ◌==◌, List, [], ◌∷◌, ◌++◌, ℤ, pos, negsuc, ◌*ℤ◌, if◌then◌else◌, slice_index_or}
+use Rattle.finite.specs.Lists.{values_below}
+use Rattle.lte_types.specs.declared.frame.Half.{Half}
+use Rattle.lte_types.specs.declared.frame.Half.TheVariants.{Zero, Five}
+use Rattle.sync_seq.specs.declared.secondary.Recurrence.{Recurrence}
+use Rattle.sync_seq.specs.declared.secondary.Recurrence.TheVariants.{S, C, Z}
+
+-- the sum modulo 2
+abbrev pub xor : Bool → Bool → Bool
+xor a b = if a then (if b then false else true) else b
+
+-- bit i of a list, and 0 past its end
+abbrev pub bit_at : List Bool → ℕ → Bool
+bit_at bits i = slice_index_or bits i false
+
+-- x(i + 5) from the bits before it: x(i + 2) + x(i) for s, x(i + 3) + x(i) for c, x(i + 4) + x(i + 2) + x(i + 1) + x(i) for z
+abbrev pub next_bit : Recurrence → List Bool → ℕ → Bool
+next_bit S x i = xor (bit_at x (i + 2)) (bit_at x i)
+next_bit C x i = xor (bit_at x (i + 3)) (bit_at x i)
+next_bit Z x i = xor (xor (xor (bit_at x (i + 4)) (bit_at x (i + 2))) (bit_at x (i + 1))) (bit_at x i)
+
+-- the first five bits, 0, 0, 0, 0, 1, and n more
+unfoldable pub extended : Recurrence → ℕ → List Bool
+extended r zero = false ∷ false ∷ false ∷ false ∷ true ∷ []
+extended r (suc n) = extended r n ++ next_bit r (extended r n) n ∷ []
+
+-- the 31 bits x(0) to x(30)
+unfoldable pub bits_of : Recurrence → List Bool
+bits_of r = extended r 26
+
+-- 1 - 2 x(n), all places modulo 31
+abbrev pub sign_at : List Bool → ℕ → ℤ
+sign_at x n = if bit_at x (n % 31) then negsuc 0 else pos 1
+
+-- m': N1 + q (q + 1) / 2
+unfoldable pub shift_sum : ℕ → ℕ
+shift_sum n1 =
+    let q' : ℕ = n1 / 30 in
+    let q : ℕ = (n1 + q' * (q' + 1) / 2) / 30 in
+    n1 + q * (q + 1) / 2
+
+-- m0 and m1
+abbrev pub m0_of : ℕ → ℕ
+m0_of n1 = shift_sum n1 % 31
+
+abbrev pub m1_of : ℕ → ℕ
+m1_of n1 = (m0_of n1 + shift_sum n1 / 31 + 1) % 31
+
+-- the shift of the even places and that of the odd ones: m0 and m1, exchanged in subframe 5
+abbrev pub even_shift : Half → ℕ → ℕ
+even_shift Zero n1 = m0_of n1
+even_shift Five n1 = m1_of n1
+
+abbrev pub odd_shift : Half → ℕ → ℕ
+odd_shift Zero n1 = m1_of n1
+odd_shift Five n1 = m0_of n1
+
+-- d(2n) and d(2n + 1) from the three sequences
+abbrev pub even_value : List Bool → List Bool → ℕ → ℕ → ℕ → ℤ
+even_value s c n2 even n = sign_at s (n + even) *ℤ sign_at c (n + n2)
+
+abbrev pub odd_value : List Bool → List Bool → List Bool → ℕ → ℕ → ℕ → ℕ → ℤ
+odd_value s c z n2 even odd n = sign_at s (n + odd) *ℤ sign_at c (n + n2 + 3) *ℤ sign_at z (n + even % 8)
+
+-- value k of the sequence with these shifts
+unfoldable pub shifted_value : List Bool → List Bool → List Bool → ℕ → ℕ → ℕ → ℕ → ℤ
+shifted_value s c z n2 even odd k = if k % 2 == 0 then even_value s c n2 even (k / 2) else odd_value s c z n2 even odd (k / 2)
+
+-- value k of the sequence of an identity and a half
+unfoldable pub sss_at : ℕ → ℕ → Half → ℕ → ℤ
+sss_at n1 n2 half k = shifted_value (bits_of S) (bits_of C) (bits_of Z) n2 (even_shift half n1) (odd_shift half n1) k
+
+-- the whole sequence
+unfoldable pub sss_list : ℕ → ℕ → Half → List ℤ
+sss_list n1 n2 half = values_below 62 (sss_at n1 n2 half)
