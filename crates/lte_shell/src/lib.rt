@@ -3,7 +3,7 @@
 #![tactic(auto)]
 
 use cs_outside::{StdSink, StdSource};
-use lte_top::{run, Status, Words};
+use lte_top::{Status, Words, run};
 use std::alloc::{Alloc, Global};
 use std::env::{self, Env};
 use std::io::{self, Read, Write};

@@ -7,7 +7,7 @@ use Rattle.cs_outside.specs.Outside.{Outside}
 use Rattle.cs_outside.specs.Streams.{HasRead, HasReadPast, IsAtEnd}
 use Rattle.cs_outside.proofs.Reading.{read_whole, read_past}
 use Rattle.lte_top.specs.declared.form.Form.{Form}
-use Rattle.lte_top.specs.declared.form.Form.TheVariants.{Hits}
+use Rattle.lte_top.specs.declared.form.Form.TheVariants.{Hits, Ids}
 use Rattle.lte_top.specs.declared.status.Status.{Status}
 use Rattle.lte_top.specs.declared.status.Status.TheVariants.{Done, Usage, Ragged, TooShort, TooLong, ReadFault, WriteFault, OutOfMemory, BadCell, BadCertificate}
 use Rattle.lte_top.specs.Forms.{words_of, limit_of, refusal_of, IsOutput}
@@ -18,10 +18,14 @@ use Rattle.lte_top.specs.Run.{HasOutput, HasRefusal, IsWriteFault, Outcome, answ
 -- words are of one form
 one_form : (first second : Form) → words_of first ≡ words_of second → first ≡ second
 one_form Hits Hits e = refl
+one_form Hits Ids e = absurd (cc e)
+one_form Ids Hits e = absurd (cc e)
+one_form Ids Ids e = refl
 
 -- all outputs of an input have one length
 one_length : (form : Form) (input first second : List ℕ) → IsOutput form input first → IsOutput form input second → length first ≡ length second
 one_length Hits input first second a b = ap length (a ∙ sym b)
+one_length Ids input first second a b = ap length (a ∙ sym b)
 
 -- ---- the answer to an input
 

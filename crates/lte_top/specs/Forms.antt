@@ -5,14 +5,15 @@ use Rattle.cs_num.specs.declared.Sample.{Sample}
 use Rattle.sample_file.specs.Recording.{samples_of}
 use Rattle.sample_file.specs.Reading.{least_bytes, most_bytes}
 use Rattle.lte_top.specs.declared.form.Form.{Form}
-use Rattle.lte_top.specs.declared.form.Form.TheVariants.{Hits}
+use Rattle.lte_top.specs.declared.form.Form.TheVariants.{Hits, Ids}
 use Rattle.lte_top.specs.declared.status.Status.{Status}
 use Rattle.lte_top.specs.declared.status.Status.TheVariants.{Done, Usage, Ragged, TooShort, TooLong, ReadFault, WriteFault, OutOfMemory, BadCell, BadCertificate}
-use Rattle.lte_top.specs.Texts.{hits_text}
+use Rattle.lte_top.specs.Texts.{hits_text, ids_text}
 
 -- the words of a form, each as its bytes
 abbrev pub words_of : Form → List (List ℕ)
 words_of Hits = codes "hits" ∷ []
+words_of Ids = codes "ids" ∷ []
 
 -- the words are those of no form
 abbrev pub IsNoForm : List (List ℕ) → Type 0
@@ -21,6 +22,7 @@ IsNoForm words = (form : Form) → words ≢ words_of form
 -- the most bytes that a form reads as its input
 abbrev pub limit_of : Form → ℕ
 limit_of Hits = most_bytes
+limit_of Ids = most_bytes
 
 -- the refusal of a recording's bytes, where there is one: samples are four bytes each, and there must be enough of them
 abbrev pub recording_refusal : List ℕ → Option Status
@@ -32,14 +34,17 @@ recording_refusal input =
 -- the refusal of an input within the limit, where there is one
 abbrev pub refusal_of : Form → List ℕ → Option Status
 refusal_of Hits input = recording_refusal input
+refusal_of Ids input = recording_refusal input
 
 -- the text that a form makes of a recording
 abbrev pub recording_text : Form → List Sample → List ℕ
 recording_text Hits recording = hits_text (hits_of recording)
+recording_text Ids recording = ids_text recording (hits_of recording)
 
 -- what a form writes for an input that is not refused
 abbrev pub IsOutput : Form → List ℕ → List ℕ → Type 0
 IsOutput Hits input output = output ≡ recording_text Hits (samples_of input)
+IsOutput Ids input output = output ≡ recording_text Ids (samples_of input)
 
 -- ---- exit codes
 

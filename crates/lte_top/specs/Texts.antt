@@ -2,7 +2,12 @@
 use Rattle.std.specs.Prelude.{ℕ, List, ◌++◌, length, codes}
 use Rattle.std.specs.List.{flat_map}
 use Rattle.std.specs.Fmt.{decimal}
-use Rattle.lte_types.specs.declared.Hit.{Hit}
+use Rattle.cs_num.specs.declared.Sample.{Sample}
+use Rattle.lte_types.specs.declared.hit.Hit.{Hit}
+use Rattle.lte_types.specs.declared.frame.Half.{Half}
+use Rattle.lte_types.specs.declared.frame.Half.TheVariants.{Zero, Five}
+use Rattle.sss_detect.specs.Identity.{identity_of}
+use Rattle.sss_detect.specs.Place.{start_of, cell_of}
 
 -- the line of a hit: its place and its identity within the group
 abbrev pub hit_line : Hit → List ℕ
@@ -15,3 +20,28 @@ hits_head count = codes "hits " ++ decimal count ++ codes "\n"
 -- then a line for each
 unfoldable pub hits_text : List Hit → List ℕ
 hits_text hits = hits_head (length hits) ++ flat_map hit_line hits
+
+-- the subframe of a half
+abbrev pub subframe_of : Half → ℕ
+subframe_of Zero = 0
+subframe_of Five = 5
+
+-- the line of a place: the place, the identity, the subframe and the frame start
+abbrev pub place_line : ℕ → ℕ → ℕ → ℕ → List ℕ
+place_line t id subframe start =
+    decimal t ++ codes " " ++ decimal id ++ codes " " ++ decimal subframe ++ codes " " ++ decimal start ++ codes "\n"
+
+-- the line of a hit with its identity group and half
+abbrev pub identity_line : Hit → ℕ → Half → List ℕ
+identity_line hit n1 half = place_line hit.t (cell_of n1 hit.n2) (subframe_of half) (start_of hit.t half)
+
+-- the line of a hit of a recording
+unfoldable pub id_line : List Sample → Hit → List ℕ
+id_line recording hit = identity_line hit (identity_of recording hit).0 (identity_of recording hit).1
+
+abbrev pub ids_head : ℕ → List ℕ
+ids_head count = codes "ids " ++ decimal count ++ codes "\n"
+
+-- the number of hits, and then a line for each
+unfoldable pub ids_text : List Sample → List Hit → List ℕ
+ids_text recording hits = ids_head (length hits) ++ flat_map (id_line recording) hits

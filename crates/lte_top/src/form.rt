@@ -10,6 +10,8 @@ use crate::words::Words;
 pub enum Form {
     /// `hits`: the places of primary synchronisation signals of a recording.
     Hits,
+    /// `ids`: the same with the identity and the frame start that each tells.
+    Ids,
 }
 
 impl Form {
@@ -20,6 +22,8 @@ impl Form {
     {
         if words.is_one("hits") {
             Some(Form::Hits)
+        } else if words.is_one("ids") {
+            Some(Form::Ids)
         } else {
             None
         }

@@ -1,9 +1,13 @@
 //! The texts that are written.
 
-ghost use Rattle.std.specs.Prelude.{◌≡◌, IfOk, string_bytes};
-ghost use Rattle.lte_top.specs.Texts.{hits_text};
+ghost use Rattle.std.specs.Prelude.{◌≡◌, All, IfOk, string_bytes};
+ghost use Rattle.sample_file.specs.Recording.{IsRecording};
+ghost use Rattle.pss_search.specs.Hits.{IsInSpan};
+ghost use Rattle.lte_top.specs.Texts.{hits_text, subframe_of, place_line, id_line, ids_text};
 
-use lte_types::Hit;
+use lte_types::{Half, Hit};
+use sample_file::Recording;
+use sss_detect::{cell_id, frame_start, identity};
 use std::alloc::{AllocError, Global};
 use std::fmt::Write;
 
@@ -17,4 +21,56 @@ pub(crate) fn text_of_hits(alloc: Global, hits: &[Hit]) -> Result<String, AllocE
         text.push_str(&line)?;
     }
     Ok(text)
+}
+
+// The number of hits, and then a line for each with its identity and frame start.
+pub(crate) fn text_of_ids(
+    alloc: Global,
+    recording: &Recording,
+    hits: &[Hit],
+) -> Result<String, AllocError>
+    requires recording { IsRecording recording.now }
+    requires span { All IsInSpan hits.now }
+    ensures { IfOk result (λ text. string_bytes text ≡ ids_text recording.now hits.now) }
+{
+    let mut text = format!(in alloc; "ids {}\n", hits.len())?;
+    for hit in hits {
+        let line = line_of_id(alloc, recording, hit)?;
+        text.push_str(&line)?;
+    }
+    Ok(text)
+}
+
+// The line of a hit.
+fn line_of_id(alloc: Global, recording: &Recording, hit: &Hit) -> Result<String, AllocError>
+    requires recording { IsRecording recording.now }
+    requires span { IsInSpan hit.now }
+    ensures { IfOk result (λ line. string_bytes line ≡ id_line recording.now hit.now) }
+{
+    let (n1, half) = identity(recording, hit);
+    let id = cell_id(n1, hit.n2).value();
+    line_of_place(alloc, hit.t, id, subframe(half), frame_start(hit, half))
+}
+
+// A line of four numbers.
+fn line_of_place(
+    alloc: Global,
+    t: u32,
+    id: u16,
+    subframe: u8,
+    start: u32,
+) -> Result<String, AllocError>
+    ensures { IfOk result (λ line. string_bytes line ≡ place_line t id subframe start) }
+{
+    format!(in alloc; "{t} {id} {subframe} {start}\n")
+}
+
+// The subframe of a half.
+fn subframe(half: Half) -> u8
+    ensures { result ≡ subframe_of half }
+{
+    match half {
+        Half::Zero => 0,
+        Half::Five => 5,
+    }
 }

@@ -2,12 +2,13 @@
 
 ghost use Rattle.std.specs.Prelude.{◌≡◌, IfOk, IfErr, string_bytes};
 ghost use Rattle.cs_outside.specs.Outside.{Outside};
+ghost use Rattle.sample_file.specs.Recording.{IsRecording};
 ghost use Rattle.lte_top.specs.Forms.{recording_text};
 ghost use Rattle.lte_top.specs.Run.{HasOutput, Cause, Outcome, Runs};
 
 use crate::form::Form;
 use crate::status::Status;
-use crate::text::text_of_hits;
+use crate::text::{text_of_hits, text_of_ids};
 use crate::words::Words;
 use cs_outside::{Sink, Source, write_whole};
 use pss_search::{HitList, hits};
@@ -77,11 +78,13 @@ fn output_of<S: Source>(alloc: Global, form: Form, source: &mut S) -> Result<Str
 
 // The text that a form makes of a recording.
 fn text_of_recording(alloc: Global, form: Form, recording: &Recording) -> Result<String, AllocError>
+    requires { IsRecording recording.now }
     ensures { IfOk result (λ text. string_bytes text ≡ recording_text form recording.now) }
 {
     let mut list = HitList::new(alloc)?;
     hits(recording, &mut list);
     match form {
         Form::Hits => text_of_hits(alloc, list.slice()),
+        Form::Ids => text_of_ids(alloc, recording, list.slice()),
     }
 }

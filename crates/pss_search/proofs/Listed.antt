@@ -1,11 +1,12 @@
 -- The list of hits holds each hit once, in order, and nothing else.
-use Rattle.std.proofs.Common.{◌≡◌, ℕ, zero, suc, ◌+◌, ◌-◌, ◌<◌, List, [], ◌∷◌, Bool, true, false, arith, refl, ap, sym, subst, ◌∙◌}
+use Rattle.std.proofs.Common.{◌≡◌, ℕ, zero, suc, ◌+◌, ◌-◌, ◌<◌, List, [], ◌∷◌, Bool, true, false, arith, refl, ap, sym, subst, ◌∙◌, get_or}
 use Rattle.std.specs.Prelude.{if◌then◌else◌}
-use Rattle.std.specs.List.{Contains, AllPairs}
+use Rattle.std.specs.List.{All, Contains, AllPairs}
+use Rattle.std.proofs.lemmas.List.Elements.{Contains-get_or}
 use Rattle.cs_num.specs.declared.Sample.{Sample}
 use Rattle.lte_types.specs.declared.Hit.{Hit}
 use Rattle.finite.proofs.Lists.{Contains-in_joined, Contains-joined, joined_below-pairs}
-use Rattle.pss_search.specs.Hits.{IsHit, is_hit, found, hit_at, hits_at, hits_before, hits_of}
+use Rattle.pss_search.specs.Hits.{IsHit, IsInSpan, is_hit, found, hit_at, hits_at, hits_before, hits_of}
 use Rattle.pss_search.specs.Laws.{IsHitOf, ListIsRight, IsEarlier, ListIsInOrder}
 use Rattle.pss_search.proofs.RightTest.{right_test}
 
@@ -91,3 +92,9 @@ list_is_in_order recording = joined_below-pairs IsEarlier 19200 (λ k. hits_at r
         let p = at_that_place recording (137 + i) x a in
         let q = at_that_place recording (137 + j) y b in
         omega (arith, below, p.0, p.1, q.0, q.1)
+
+-- what is listed lies in the span
+pub listed_in_span : (recording : List Sample) → All IsInSpan (hits_of recording)
+listed_in_span recording k d within =
+    let h = listed_is_hit recording (get_or (hits_of recording) k d) (Contains-get_or (hits_of recording) k d within) in
+    record { from_first = h.is_hit.from_first; to_last = h.is_hit.to_last; root = omega (arith, h.root) }

@@ -72,6 +72,12 @@ hits_before recording count = joined_below count (λ i. hits_at recording (137 +
 abbrev pub hits_of : List Sample → List Hit
 hits_of recording = hits_before recording 19200
 
+-- a hit lies in the span of one frame and names one of the three roots
+pub record IsInSpan (hit : Hit) : Type 0 where
+  pub from_first : 137 ≤ hit.t
+  pub to_last : hit.t ≤ 19336
+  pub root : hit.n2 ≤ 2
+
 -- those of the first places, and of the lower roots at the next
 abbrev pub so_far : List Sample → ℕ → ℕ → List Hit
 so_far recording i n2 = hits_before recording i ++ joined_below n2 (hit_at recording (137 + i))

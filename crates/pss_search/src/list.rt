@@ -1,10 +1,10 @@
 //! The list of hits.
 
-ghost use Rattle.std.specs.Prelude.{◌≡◌, ℕ, ◌+◌, ◌≤◌, ◌<◌, List, [], ◌∷◌, ◌++◌, length, IfOk};
+ghost use Rattle.std.specs.Prelude.{◌≡◌, ℕ, ◌+◌, ◌≤◌, ◌<◌, List, [], ◌∷◌, ◌++◌, length, IfOk, All};
 ghost use Rattle.std.specs.Option.{option_to_list};
 ghost use Rattle.std.specs.Vec.{vec_capacity};
 ghost use Rattle.lte_types.specs.declared.Hit.{Hit};
-ghost use Rattle.pss_search.specs.Hits.{hits_of, so_far};
+ghost use Rattle.pss_search.specs.Hits.{IsInSpan, hits_of, so_far};
 
 use crate::choose::hit_of;
 use crate::root::Root;
@@ -67,7 +67,8 @@ impl HitList {
 /// group, each with its peak and energy, whatever it held before: the places of the first frame at
 /// which a primary synchronisation signal stands out. It takes no memory. (own)
 pub fn hits(recording: &Recording, list: &mut HitList)
-    ensures { list.new ≡ hits_of recording.now }
+    ensures list { list.new ≡ hits_of recording.now }
+    ensures span { All IsInSpan list.new }
 {
     let samples = recording.as_slice();
     let first = Root::new(0);

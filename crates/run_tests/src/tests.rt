@@ -1,4 +1,4 @@
-use crate::recordings::{put_signal, put_turned_signal, silence};
+use crate::recordings::{put_secondary, put_signal, put_turned_signal, silence};
 use cs_outside::{FailSink, FailSource, MemSink, MemSource, Source, StdSink, StdSource};
 use lte_top::{run, Status, Words};
 use std::alloc::{AllocError, Global};
@@ -16,7 +16,12 @@ fn command(alloc: Global, word: &str) -> Result<Words, AllocError> {
 
 // How `hits` ends over these bytes, and what it wrote.
 fn hits_of(alloc: Global, bytes: Vec<u8>) -> Result<(Status, Vec<u8>), AllocError> {
-    let words = command(alloc, "hits")?;
+    output_of(alloc, "hits", bytes)
+}
+
+// How a command ends over these bytes, and what it wrote.
+fn output_of(alloc: Global, word: &str, bytes: Vec<u8>) -> Result<(Status, Vec<u8>), AllocError> {
+    let words = command(alloc, word)?;
     let mut source = MemSource::new(bytes);
     let mut sink = MemSink::new(alloc, ROOM)?;
     let status = run(alloc, &words, &mut source, &mut sink);
@@ -89,6 +94,54 @@ fn signals_past_the_first_frame_are_not_listed(rt: HostRuntime) -> Result<(), Fa
     }
     assert_eq!(rt; status, Status::Done);
     assert_eq!(rt; taken.as_slice(), wanted.as_bytes());
+    Ok(())
+}
+
+#[test]
+fn zeros_hold_no_identity(rt: HostRuntime) -> Result<(), Fail> {
+    let (status, taken) = output_of(rt.alloc(), "ids", silence(rt.alloc(), 230_400)?)?;
+    assert_eq!(rt; status, Status::Done);
+    assert_eq!(rt; taken.as_slice(), b"ids 0\n".as_slice());
+    Ok(())
+}
+
+#[test]
+fn both_signals_tell_identity_subframe_and_frame_start(rt: HostRuntime) -> Result<(), Fail> {
+    let mut bytes = silence(rt.alloc(), 230_400)?;
+    put_signal(&mut bytes, 1000);
+    put_secondary(&mut bytes, 863);
+    let (status, taken) = output_of(rt.alloc(), "ids", bytes)?;
+    assert_eq!(rt; status, Status::Done);
+    assert_eq!(rt; taken.as_slice(), b"ids 1\n1000 501 5 9768\n".as_slice());
+    Ok(())
+}
+
+#[test]
+fn without_a_secondary_signal_the_first_pair_stands(rt: HostRuntime) -> Result<(), Fail> {
+    let mut bytes = silence(rt.alloc(), 230_400)?;
+    put_signal(&mut bytes, 1000);
+    let (status, taken) = output_of(rt.alloc(), "ids", bytes)?;
+    assert_eq!(rt; status, Status::Done);
+    assert_eq!(rt; taken.as_slice(), b"ids 1\n1000 0 0 168\n".as_slice());
+    Ok(())
+}
+
+#[test]
+fn faults_of_identities(rt: HostRuntime) -> Result<(), Fail> {
+    let alloc = rt.alloc();
+    let words = command(alloc, "ids")?;
+    let mut fails = Vec::new(alloc);
+    fails.push(2)?;
+    let mut source = FailSource::new(silence(alloc, 230_400)?, fails, 1_000);
+    let mut sink = MemSink::new(alloc, ROOM)?;
+    assert_eq!(rt; run(alloc, &words, &mut source, &mut sink), Status::ReadFault);
+    assert!(rt; sink.taken().is_empty());
+    let mut fails = Vec::new(alloc);
+    fails.push(1)?;
+    let mut source = MemSource::new(silence(alloc, 230_400)?);
+    let mut sink = FailSink::new(alloc, fails, 3, ROOM)?;
+    assert_eq!(rt; run(alloc, &words, &mut source, &mut sink), Status::WriteFault);
+    assert_eq!(rt; sink.taken(), b"ids".as_slice());
     Ok(())
 }
 

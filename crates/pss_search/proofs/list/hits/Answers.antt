@@ -1,5 +1,7 @@
-use Rattle.std.proofs.Common.{◌∙◌, ◌+◌, sym, ap}
-use Rattle.pss_search.specs.Hits.{so_far}
+use Rattle.std.proofs.Common.{◌≡◌, ◌∙◌, ◌+◌, arith, sym, ap, subst}
+use Rattle.std.specs.List.{All}
+use Rattle.pss_search.specs.Hits.{IsInSpan, so_far, hits_before}
+use Rattle.pss_search.proofs.Listed.{listed_in_span}
 use Rattle.pss_search.proofs.Room.{so_far_none, hits_before_none, hits_before_more}
 use Rattle.pss_search.proofs.list.hits.Goals as goal
 
@@ -16,3 +18,9 @@ loop-i-preserved c =
     ∙ ap (λ r. so_far r c.loop-i.i (c.new-third.result.n2 + 1)) c.as_slice-samples.ensures.value
     ∙ ap (λ n. so_far c.args.recording.now c.loop-i.i (n + 1)) c.new-third.ensures
     ∙ sym (hits_before_more c.args.recording.now c.loop-i.i)
+
+pub returns : goal.returns
+returns c =
+    let last : c.loop-i.i ≡ 19200 = omega arith in
+    let whole = c.loop-i.invariant ∙ ap (hits_before c.args.recording.now) last in
+    record { list = whole; span = subst (All IsInSpan) (sym whole) (listed_in_span c.args.recording.now) }
