@@ -2,7 +2,8 @@
 use Rattle.std.proofs.Common.{◌≡◌, ℕ, ◌+◌, ◌<◌, ◌≤◌, Bool, true, false, not, List, [], length, map, get_or, drop, suc, refl, ap, sym, ◌∙◌, arith, drop_of_length-le}
 use Rattle.std.specs.Bool.{beq}
 use Rattle.std.proofs.Math.Seq.{drop-cons}
-use Rattle.conv_code.specs.Code.{xor, parity, coded_bits, coded_word}
+use Rattle.conv_code.specs.Code.{parity, coded_bits, coded_word}
+use Rattle.cs_bits.specs.Polynomial.{xor}
 use Rattle.conv_code.proofs.Lists.{values_below_is}
 
 xor_assoc : (a b c : Bool) → xor (xor a b) c ≡ xor a (xor b c)

@@ -1,12 +1,7 @@
 -- The tail-biting convolutional code of rate 1/3 (TS 36.212 section 5.1.3.1).
 use Rattle.std.specs.Prelude.{ℕ, ◌+◌, ◌-◌, ◌%◌, Bool, true, false, List, [], ◌∷◌, length, map, slice_index_or}
+use Rattle.cs_bits.specs.Polynomial.{xor}
 use Rattle.finite.specs.Lists.{values_below}
-
--- the sum of two bits modulo 2
-abbrev pub xor : Bool → Bool → Bool
-xor true true = false
-xor true false = true
-xor false b = b
 
 -- the sum of the bits modulo 2
 abbrev pub parity : List Bool → Bool

@@ -43,6 +43,13 @@ pub record IsWithin (bound : ℕ) (a : Cpx) : Type 0 where
 abbrev pub value_of : Sample → Cpx
 value_of s = record { re = s.re; im = s.im }
 
+abbrev pub silence : Sample
+silence = record { re = pos 0; im = pos 0 }
+
+-- the number that sample i of a list is, and nothing past its end
+abbrev pub sample_at : List Sample → ℕ → Cpx
+sample_at samples i = value_of (slice_index_or samples i silence)
+
 -- the value at a place of a list, and nothing past its end
 abbrev pub value_at : List Cpx → ℕ → Cpx
 value_at values k = slice_index_or values k nothing

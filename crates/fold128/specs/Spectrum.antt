@@ -1,17 +1,12 @@
 -- The 72 sums by which a symbol is seen: each sample turned back at the frequency of a subcarrier. (own; the useful part of
 -- TS 36.211 section 6.12 read backward, in whole numbers)
-use Rattle.std.specs.Prelude.{ℕ, ◌*◌, List, slice_index_or, pos}
+use Rattle.std.specs.Prelude.{ℕ, ◌*◌, List}
 use Rattle.cs_num.specs.declared.Cpx.{Cpx}
-use Rattle.cs_num.specs.declared.Sample.{Sample}
-use Rattle.cs_num.specs.Complex.{times, conjugate, value_of}
+use Rattle.cs_num.specs.Complex.{times, conjugate}
 use Rattle.cs_num.specs.Sums.{complex_sum_below}
 use Rattle.finite.specs.Lists.{values_below}
 use Rattle.fold128.specs.Tables.{w_at}
 use Rattle.fold128.specs.Symbol.{frequency}
-
--- the number that sample n of a list is, and nothing past its end
-abbrev pub sample_of : List Sample → ℕ → Cpx
-sample_of samples n = value_of (slice_index_or samples n (record { re = pos 0; im = pos 0 }))
 
 -- what sample n gives to subcarrier k
 abbrev pub spectrum_term : (ℕ → Cpx) → ℕ → ℕ → Cpx

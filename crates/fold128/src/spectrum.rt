@@ -1,9 +1,9 @@
 //! The 72 sums by which a symbol is seen, folded by the symmetries of W.
 
 ghost use Rattle.std.specs.Prelude.{◌≡◌, ℕ, ◌+◌, ◌%◌, ◌^◌, ◌<◌, All, unsigned_abs};
-ghost use Rattle.cs_num.specs.Complex.{IsWithin, size};
+ghost use Rattle.cs_num.specs.Complex.{IsWithin, size, sample_at};
 ghost use Rattle.cs_num.specs.Sums.{complex_sum_below};
-ghost use Rattle.fold128.specs.Spectrum.{sample_of, spectrum};
+ghost use Rattle.fold128.specs.Spectrum.{spectrum};
 ghost use Rattle.fold128.specs.Folding.{turned_back, quartet_of, folded_places, minus, taken, folded_term, IsSmallQuartet};
 
 use crate::symbol::frequency_of;
@@ -31,7 +31,7 @@ struct Quartet {
 /// frequency of the subcarrier. They are not rounded, and components have size at most
 /// 97,182,023,680.
 pub fn transform(samples: &[Sample; 128]) -> [Cpx; 72]
-    ensures value { result ≡ spectrum (sample_of samples.now) }
+    ensures value { result ≡ spectrum (sample_at samples.now) }
     ensures small { All (IsWithin 97182023680) result }
 {
     let folded = fold(samples);
@@ -44,7 +44,7 @@ pub fn transform(samples: &[Sample; 128]) -> [Cpx; 72]
 
 // The samples folded to 32 places.
 fn fold(samples: &[Sample; 128]) -> [Quartet; 32]
-    ensures value { result ≡ folded_places (sample_of samples.now) }
+    ensures value { result ≡ folded_places (sample_at samples.now) }
     ensures small { All IsSmallQuartet result }
 {
     let nothing = Cpx { re: 0, im: 0 };
@@ -68,7 +68,7 @@ fn fold(samples: &[Sample; 128]) -> [Quartet; 32]
 // Sample n as a number.
 fn value(samples: &[Sample; 128], n: usize) -> Cpx
     requires { n < 128 }
-    ensures value { result ≡ sample_of samples.now n }
+    ensures value { result ≡ sample_at samples.now n }
     ensures small { IsWithin 32768 result }
 {
     Cpx {

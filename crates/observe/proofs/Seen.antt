@@ -5,14 +5,13 @@ use Rattle.finite.specs.Lists.{values_below}
 use Rattle.finite.proofs.Lists.{values_below_at, values_below_same}
 use Rattle.cs_num.specs.declared.Cpx.{Cpx}
 use Rattle.cs_num.specs.declared.Sample.{Sample}
-use Rattle.cs_num.specs.Complex.{IsWithin, nothing, times, conjugate, value_at, value_of}
+use Rattle.cs_num.specs.Complex.{IsWithin, nothing, times, conjugate, value_at, value_of, sample_at, silence}
 use Rattle.cs_num.specs.Rounding.{rounded}
 use Rattle.cs_num.proofs.Rounding.{rounds_within}
 use Rattle.cs_num.proofs.Sums.{complex_sum_below_same}
 use Rattle.fold128.specs.Tables.{w_at}
 use Rattle.fold128.specs.Symbol.{frequency}
-use Rattle.fold128.specs.Spectrum.{sample_of, spectrum_term, spectrum_at, spectrum}
-use Rattle.sample_file.specs.Recording.{sample_at, silence}
+use Rattle.fold128.specs.Spectrum.{spectrum_term, spectrum_at, spectrum}
 use Rattle.observe.specs.Seen.{seen, seen_symbol, seen_of, rounded_values}
 use Rattle.std.proofs.lemmas.List.{get_or-take, get_or-drop}
 
@@ -29,11 +28,11 @@ spectrum_same f g k h =
     complex_sum_below_same 128 (spectrum_term f k) (spectrum_term g k) (λ n l. ap (λ z. times z (conjugate (w_at (frequency k * n)))) (h n l))
 
 -- the symbol at start is what is seen of the samples from there on
-pub seen_is : (recording : List Sample) (start : ℕ) → seen_of (sample_of (slice_range recording start (start + 128))) ≡ seen_symbol recording start
+pub seen_is : (recording : List Sample) (start : ℕ) → seen_of (sample_at (slice_range recording start (start + 128))) ≡ seen_symbol recording start
 unfolding seen_of seen_symbol seen
 seen_is recording start = values_below_same 72
-    (λ k. rounded (spectrum_at (sample_of (slice_range recording start (start + 128))) k) 12) (seen recording start)
-    (λ k l. ap (λ z. rounded z 12) (spectrum_same (sample_of (slice_range recording start (start + 128))) (λ n. sample_at recording (start + n)) k
+    (λ k. rounded (spectrum_at (sample_at (slice_range recording start (start + 128))) k) 12) (seen recording start)
+    (λ k l. ap (λ z. rounded z 12) (spectrum_same (sample_at (slice_range recording start (start + 128))) (λ n. sample_at recording (start + n)) k
     (λ n below. ap value_of (get_or-take (start + 128 - start) (drop start recording) n silence (omega arith) ∙ get_or-drop start recording n silence))))
 
 -- what is seen of samples is their sums, rounded

@@ -5,7 +5,7 @@ use Rattle.cs_num.specs.declared.Cpx.{Cpx}
 use Rattle.cs_num.specs.declared.Sample.{Sample}
 use Rattle.cs_num.specs.Rounding.{rounded}
 use Rattle.fold128.specs.Spectrum.{spectrum_at}
-use Rattle.sample_file.specs.Recording.{sample_at}
+use Rattle.cs_num.specs.Complex.{sample_at}
 
 -- what is seen at subcarrier k of the symbol whose useful part begins at sample start
 unfoldable pub seen : List Sample → ℕ → ℕ → Cpx

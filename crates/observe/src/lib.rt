@@ -2,8 +2,7 @@
 #![tactic(auto)]
 
 ghost use Rattle.std.specs.Prelude.{◌≡◌, ℕ, ◌+◌, ◌^◌, ◌≤◌, All, length, slice_range};
-ghost use Rattle.cs_num.specs.Complex.{IsWithin, value_at};
-ghost use Rattle.fold128.specs.Spectrum.{sample_of};
+ghost use Rattle.cs_num.specs.Complex.{IsWithin, value_at, sample_at};
 ghost use Rattle.observe.specs.Seen.{seen_of, seen_symbol, rounded_values};
 
 use cs_num::{Cpx, Sample};
@@ -25,7 +24,7 @@ pub fn symbol(recording: &Recording, start: usize) -> [Cpx; 72]
 
 // The values that are seen of 128 samples.
 fn values_of(samples: &[Sample; 128]) -> [Cpx; 72]
-    ensures value { result ≡ seen_of (sample_of samples.now) }
+    ensures value { result ≡ seen_of (sample_at samples.now) }
     ensures small { All (IsWithin 23726080) result }
 {
     round_all(&transform(samples))

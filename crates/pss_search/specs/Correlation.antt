@@ -2,12 +2,11 @@
 use Rattle.std.specs.Prelude.{ℕ, ◌+◌, ◌-◌, List, nat_lt, if◌then◌else◌}
 use Rattle.cs_num.specs.declared.Cpx.{Cpx}
 use Rattle.cs_num.specs.declared.Sample.{Sample}
-use Rattle.cs_num.specs.Complex.{nothing, times, conjugate, square}
+use Rattle.cs_num.specs.Complex.{nothing, times, conjugate, square, sample_at}
 use Rattle.cs_num.specs.Sums.{complex_sum_below}
 use Rattle.finite.specs.Sums.{total_below}
 use Rattle.fold128.specs.Symbol.{useful_at, useful_part}
 use Rattle.sync_seq.specs.Primary.{pss_at}
-use Rattle.sample_file.specs.Recording.{sample_at}
 
 -- the grid of a symbol that holds the primary sequence of n2 alone, in the middle 62 subcarriers
 abbrev pub pss_grid : ℕ → ℕ → Cpx

@@ -1,9 +1,7 @@
 -- Recordings: lists of samples, and the bytes that stand for them. (own; the form of raw 16-bit captures)
-use Rattle.std.specs.Prelude.{ℕ, ◌≤◌, ◌+◌, ◌*◌, List, [], ◌∷◌, length, slice_index_or, ℤ, pos}
+use Rattle.std.specs.Prelude.{ℕ, ◌≤◌, ◌+◌, ◌*◌, List, [], ◌∷◌, length, ℤ}
 use Rattle.byteorder.specs.Endian.{twos_complement}
-use Rattle.cs_num.specs.declared.Cpx.{Cpx}
 use Rattle.cs_num.specs.declared.Sample.{Sample}
-use Rattle.cs_num.specs.Complex.{value_of}
 
 -- the signed number of two bytes, the low one first: 65,536 less where it is 32,768 or more
 abbrev pub component_of : ℕ → ℕ → ℤ
@@ -18,10 +16,3 @@ samples_of bytes = []
 pub record IsRecording (samples : List Sample) : Type 0 where
   pub least : 57600 ≤ length samples
   pub most : length samples ≤ 1920000
-
-abbrev pub silence : Sample
-silence = record { re = pos 0; im = pos 0 }
-
--- the number that sample i of a recording is, and nothing past its end
-abbrev pub sample_at : List Sample → ℕ → Cpx
-sample_at samples i = value_of (slice_index_or samples i silence)

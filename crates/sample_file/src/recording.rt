@@ -2,7 +2,8 @@
 
 ghost use Rattle.std.specs.Prelude.{◌≡◌, ◌<◌, ◌↔◌, List, length, slice_index_or, IsSome, IfSome};
 ghost use Rattle.cs_num.specs.declared.Sample.{Sample};
-ghost use Rattle.sample_file.specs.Recording.{IsRecording, silence};
+ghost use Rattle.sample_file.specs.Recording.{IsRecording};
+ghost use Rattle.cs_num.specs.Complex.{silence};
 
 use cs_num::Sample;
 use std::marker::Model;

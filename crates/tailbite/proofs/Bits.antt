@@ -1,7 +1,8 @@
 -- The code's `^` of five bits is their sum modulo 2.
 use Rattle.std.proofs.Common.{◌≡◌, Bool, true, false, not, [], ◌∷◌, refl}
 use Rattle.std.specs.Bool.{beq}
-use Rattle.conv_code.specs.Code.{xor, parity}
+use Rattle.conv_code.specs.Code.{parity}
+use Rattle.cs_bits.specs.Polynomial.{xor}
 
 ne_xor : (a b : Bool) → not (beq a b) ≡ xor a b
 ne_xor false false = refl

@@ -2,8 +2,7 @@ use Rattle.std.proofs.Common.{arith, ◌≡◌, ◌∙◌, refl, length-set}
 use Rattle.std.proofs.lemmas.List.Elements.{All-set, All-replicate}
 use Rattle.std.proofs.lemmas.List.FromFn.{fill_by_all}
 use Rattle.std.proofs.lemmas.List.Edits.{fill_by_more}
-use Rattle.cs_num.specs.Complex.{IsWithin, nothing}
-use Rattle.fold128.specs.Spectrum.{sample_of}
+use Rattle.cs_num.specs.Complex.{IsWithin, nothing, sample_at}
 use Rattle.fold128.specs.Folding.{quartet_at, folded_places, empty_quartet, IsSmallQuartet}
 use Rattle.fold128.proofs.spectrum.fold.Goals as goal
 
@@ -19,10 +18,10 @@ loop-m-init c = record {
 
 pub loop-m-preserved : goal.loop-m-preserved
 loop-m-preserved c =
-    let here : c.fold_four.result ≡ quartet_at (sample_of c.args.samples.now) c.loop-m.m = cc in
+    let here : c.fold_four.result ≡ quartet_at (sample_at c.args.samples.now) c.loop-m.m = cc in
     record {
       whole = length-set c.loop-m.folded c.loop-m.m _ ∙ c.loop-m.invariant.whole;
-      each = rw here (fill_by_more (quartet_at (sample_of c.args.samples.now)) c.loop-m.folded c.loop-m.m empty_quartet (omega arith) c.loop-m.invariant.each);
+      each = rw here (fill_by_more (quartet_at (sample_at c.args.samples.now)) c.loop-m.folded c.loop-m.m empty_quartet (omega arith) c.loop-m.invariant.each);
       small = All-set IsSmallQuartet c.loop-m.folded c.loop-m.m c.fold_four.result c.fold_four.ensures.small c.loop-m.invariant.small;
     }
 
@@ -30,4 +29,4 @@ pub returns-clause-value : goal.returns-clause-value
 unfolding folded_places
 returns-clause-value c =
     let last : c.loop-m.m ≡ 32 = omega arith in
-    fill_by_all (quartet_at (sample_of c.args.samples.now)) c.loop-m.folded 32 empty_quartet c.loop-m.invariant.whole (λ k l. c.loop-m.invariant.each k (omega arith))
+    fill_by_all (quartet_at (sample_at c.args.samples.now)) c.loop-m.folded 32 empty_quartet c.loop-m.invariant.whole (λ k l. c.loop-m.invariant.each k (omega arith))
