@@ -24,7 +24,7 @@ pub enum ReadError {
 // The most bytes that one call of a source is asked for.
 const PIECE: usize = 4_096;
 
-/// Reads a source to its end, which has to come within `limit` bytes. No more than `limit + 1` bytes are read.
+/// Reads a source to its end, which has to come within `limit` bytes. Of a longer input `limit + 1` bytes are read.
 /// After an error what was read is dropped.
 pub fn read_to_end<S: Source>(
     alloc: Global,

@@ -2,7 +2,7 @@
 use Rattle.std.specs.Prelude.{◌≡◌, ◌≢◌, ◌⊎◌, ℕ, ◌<◌, ◌≤◌, Option, Some, None, IfSome, List, length, nat_lt, if◌then◌else◌}
 use Rattle.cs_outside.specs.Counts.{Rose}
 use Rattle.cs_outside.specs.Outside.{Outside, NothingRead, NothingWritten}
-use Rattle.cs_outside.specs.Streams.{HasReadAll, HasReadPast, HasWritten, HasWrittenFront}
+use Rattle.cs_outside.specs.Streams.{HasReadAll, HasReadPast, HasWritten, HasWrittenFront, HasFilled}
 use Rattle.lte_top.specs.declared.form.Form.{Form}
 use Rattle.lte_top.specs.declared.status.Status.{Status}
 use Rattle.lte_top.specs.declared.status.Status.TheVariants.{Done, Usage, TooLong, ReadFault, WriteFault, OutOfMemory}
@@ -35,13 +35,14 @@ Cause form before now faults faults_now refusal = HasRefusal form refusal before
 
 -- ---- how each answer comes
 
--- Done: a valid input was read to its end, and the sink took its whole output
+-- Done: a valid input was read to its end, and the sink took its whole output, which filled so much of its room
 pub record IsDone (words : List (List ℕ)) (before now : Outside) : Type 0 where
   pub form : Form
   pub words_are : words ≡ words_of form
   pub output : List ℕ
   pub has_output : HasOutput form output before.left now.left
   pub written : HasWritten output before.taken now.taken
+  pub filled : HasFilled (length output) before.room now.room
 
 -- Usage: the words are those of no form, and nothing was read or written
 pub record IsUsage (words : List (List ℕ)) (before now : Outside) : Type 0 where
@@ -112,3 +113,5 @@ pub record Runs (words : List (List ℕ)) (before now : Outside) (status : Statu
   pub answered : IsAnswered words before now status
   pub complete : IsComplete words before now status
   pub has_room : HasRoom words before status
+  pub read_faults_stay : before.read_faults ≤ now.read_faults
+  pub write_faults_stay : before.write_faults ≤ now.write_faults

@@ -9,5 +9,5 @@ mod words;
 
 pub use form::Form;
 pub use status::Status;
-pub use top::run;
+pub use top::{run, run_in_memory};
 pub use words::Words;

@@ -1,6 +1,6 @@
 //! The top call.
 
-ghost use Rattle.std.specs.Prelude.{◌≡◌, IfOk, IfErr, string_bytes};
+ghost use Rattle.std.specs.Prelude.{◌≡◌, ◌≤◌, Some, IfOk, IfErr, string_bytes};
 ghost use Rattle.cs_outside.specs.Outside.{Outside};
 ghost use Rattle.sample_file.specs.Recording.{IsRecording};
 ghost use Rattle.lte_top.specs.Forms.{recording_text};
@@ -10,7 +10,7 @@ use crate::form::Form;
 use crate::status::Status;
 use crate::text::{text_of_hits, text_of_ids};
 use crate::words::Words;
-use cs_outside::{Sink, Source, write_whole};
+use cs_outside::{MemSink, MemSource, Sink, Source, write_whole};
 use pss_search::{HitList, hits};
 use sample_file::{FileError, Recording, read_recording};
 use std::alloc::{AllocError, Global};
@@ -31,6 +31,22 @@ pub fn run<S: Source, K: Sink>(alloc: Global, words: &Words, source: &mut S, sin
     run_words(alloc, words, source, sink)
 }
 
+/// `run` over a source and a sink in memory, which tell all: the bytes that are left, those that
+/// were taken, the room, and the counts of faults.
+pub fn run_in_memory(
+    alloc: Global,
+    words: &Words,
+    source: &mut MemSource,
+    sink: &mut MemSink,
+) -> Status
+    ensures { Runs words.now
+        (record { left = Some source.old; read_faults = 0; taken = Some sink.old.taken; room = Some sink.old.room; write_faults = sink.old.faults })
+        (record { left = Some source.new; read_faults = 0; taken = Some sink.new.taken; room = Some sink.new.room; write_faults = sink.new.faults })
+        result }
+{
+    run(alloc, words, source, sink)
+}
+
 // The same, by the way each answer comes.
 fn run_words<S: Source, K: Sink>(
     alloc: Global,
@@ -38,10 +54,12 @@ fn run_words<S: Source, K: Sink>(
     source: &mut S,
     sink: &mut K,
 ) -> Status
-    ensures { Outcome words.now
+    ensures outcome { Outcome words.now
         (record { left = S.left source.old; read_faults = S.faults source.old; taken = K.taken sink.old; room = K.room sink.old; write_faults = K.faults sink.old })
         (record { left = S.left source.new; read_faults = S.faults source.new; taken = K.taken sink.new; room = K.room sink.new; write_faults = K.faults sink.new })
         result }
+    ensures reads { S.faults source.old ≤ S.faults source.new }
+    ensures writes { K.faults sink.old ≤ K.faults sink.new }
 {
     let form = match Form::of(words) {
         Some(form) => form,
@@ -61,6 +79,7 @@ fn run_words<S: Source, K: Sink>(
 fn output_of<S: Source>(alloc: Global, form: Form, source: &mut S) -> Result<String, Status>
     ensures ok { IfOk result (λ text. HasOutput form (string_bytes text) (S.left source.old) (S.left source.new)) }
     ensures err { IfErr result (λ status. Cause form (S.left source.old) (S.left source.new) (S.faults source.old) (S.faults source.new) status) }
+    ensures never_falls { S.faults source.old ≤ S.faults source.new }
 {
     let recording = match read_recording(alloc, source) {
         Ok(recording) => recording,

@@ -9,6 +9,7 @@ use Rattle.finite.specs.Lists.{joined_below}
 use Rattle.finite.proofs.Lists.{joined_below_more}
 use Rattle.finite.proofs.Tests.{count_below_more}
 use Rattle.pss_search.specs.Hits.{so_far, found, is_hit, hit_at, hits_at, hits_before}
+use Rattle.pss_search.specs.Laws.{ListIsShort}
 use Rattle.pss_search.proofs.Sparse.{IsSparse, count_more_yes, count_within}
 use Rattle.pss_search.proofs.Window.{hits_sparse}
 
@@ -92,6 +93,17 @@ hits_length recording zero = none_before recording
 hits_length recording (suc i) =
     let e : i + 1 ≡ suc i = omega arith in
     subst (λ n. length (hits_before recording n) ≡ counted recording n) e (length_step recording i (hits_length recording i))
+
+-- the whole list has room
+pub list_is_short : ListIsShort
+list_is_short recording =
+    omega (
+      arith,
+      hits_length recording 19200,
+      count_at_most recording 0 19200 (omega arith),
+      count_at_most recording 1 19200 (omega arith),
+      count_at_most recording 2 19200 (omega arith),
+    )
 
 -- one who passes has room
 pub room : (recording : List Sample) (i n2 : ℕ) → i < 19200 → n2 < 3 → is_hit recording (137 + i) n2 ≡ true → length (so_far recording i n2) < 5760

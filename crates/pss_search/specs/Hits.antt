@@ -19,8 +19,8 @@ pub record IsLevel (recording : List Sample) (n2 first second : ℕ) : Type 0 wh
   pub second_sounds : 0 < energy recording second
   pub equal : peak recording n2 second * energy recording first ≡ peak recording n2 first * energy recording second
 
--- the place t is a hit of n2: it lies in the span of one frame and has energy, a quarter of the energy's share at least
--- is the signal's, no place at distance 1 to 9 is above it, and none before it there is level with it
+-- the place t is a hit of n2: it lies in the span of one frame and has energy, four times its peak is at least its energy
+-- times the signal's power, no place at distance 1 to 9 is above it, and none before it there is level with it
 pub record IsHit (recording : List Sample) (t n2 : ℕ) : Type 0 where
   pub from_first : 137 ≤ t
   pub to_last : t ≤ 19336

@@ -1,5 +1,5 @@
 -- What the list of hits is, in plain words.
-use Rattle.std.specs.Prelude.{◌≡◌, ℕ, ◌+◌, ◌*◌, ◌<◌, ◌≤◌, ◌↔◌, List, true}
+use Rattle.std.specs.Prelude.{◌≡◌, ℕ, ◌+◌, ◌*◌, ◌<◌, ◌≤◌, ◌↔◌, List, true, length}
 use Rattle.std.specs.List.{Contains, AllPairs}
 use Rattle.cs_num.specs.declared.Sample.{Sample}
 use Rattle.lte_types.specs.declared.Hit.{Hit}
@@ -27,3 +27,7 @@ IsEarlier first second = 3 * first.t + first.n2 < 3 * second.t + second.n2
 -- the list is in order, so that none is listed twice
 abbrev pub ListIsInOrder : Type 0
 ListIsInOrder = (recording : List Sample) → AllPairs IsEarlier (hits_of recording)
+
+-- there are at most 5,760 hits, since two of one root stand at least ten places apart
+abbrev pub ListIsShort : Type 0
+ListIsShort = (recording : List Sample) → length (hits_of recording) ≤ 5760

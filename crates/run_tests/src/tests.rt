@@ -1,6 +1,7 @@
 use crate::recordings::{put_secondary, put_signal, put_turned_signal, silence};
+use cell_tx::CellError;
 use cs_outside::{FailSink, FailSource, MemSink, MemSource, Source, StdSink, StdSource};
-use lte_top::{run, Status, Words};
+use lte_top::{Status, Words, run, run_in_memory};
 use std::alloc::{AllocError, Global};
 use std::test::Fail;
 
@@ -24,7 +25,7 @@ fn output_of(alloc: Global, word: &str, bytes: Vec<u8>) -> Result<(Status, Vec<u
     let words = command(alloc, word)?;
     let mut source = MemSource::new(bytes);
     let mut sink = MemSink::new(alloc, ROOM)?;
-    let status = run(alloc, &words, &mut source, &mut sink);
+    let status = run_in_memory(alloc, &words, &mut source, &mut sink);
     Ok((status, sink.taken().to_vec(alloc)?))
 }
 
@@ -50,6 +51,7 @@ fn lengths_that_are_refused(rt: HostRuntime) -> Result<(), Fail> {
         (0, Status::TooShort, 4),
         (230_396, Status::TooShort, 4),
         (230_399, Status::Ragged, 3),
+        (230_401, Status::Ragged, 3),
         (7_680_001, Status::TooLong, 5),
     ] {
         let (status, taken) = hits_of(rt.alloc(), silence(rt.alloc(), len)?)?;
@@ -134,13 +136,19 @@ fn faults_of_identities(rt: HostRuntime) -> Result<(), Fail> {
     fails.push(2)?;
     let mut source = FailSource::new(silence(alloc, 230_400)?, fails, 1_000);
     let mut sink = MemSink::new(alloc, ROOM)?;
-    assert_eq!(rt; run(alloc, &words, &mut source, &mut sink), Status::ReadFault);
+    assert_eq!(rt;
+        run(alloc, &words, &mut source, &mut sink),
+        Status::ReadFault
+    );
     assert!(rt; sink.taken().is_empty());
     let mut fails = Vec::new(alloc);
     fails.push(1)?;
     let mut source = MemSource::new(silence(alloc, 230_400)?);
     let mut sink = FailSink::new(alloc, fails, 3, ROOM)?;
-    assert_eq!(rt; run(alloc, &words, &mut source, &mut sink), Status::WriteFault);
+    assert_eq!(rt;
+        run(alloc, &words, &mut source, &mut sink),
+        Status::WriteFault
+    );
     assert_eq!(rt; sink.taken(), b"ids".as_slice());
     Ok(())
 }
@@ -148,13 +156,24 @@ fn faults_of_identities(rt: HostRuntime) -> Result<(), Fail> {
 #[test]
 fn words_of_no_form_read_nothing(rt: HostRuntime) -> Result<(), Fail> {
     let alloc = rt.alloc();
-    for words in [command(alloc, "hit")?, command(alloc, "hits ")?, Words::new(alloc)] {
+    let mut two = command(alloc, "hits")?;
+    two.push("ids")?;
+    for words in [
+        command(alloc, "hit")?,
+        command(alloc, "hits ")?,
+        command(alloc, "transmitter")?,
+        two,
+        Words::new(alloc),
+    ] {
         let mut source = FailSource::new(silence(alloc, 16)?, vec![in alloc; 0u64; 1]?, 16);
         let mut sink = MemSink::new(alloc, ROOM)?;
         let status = run(alloc, &words, &mut source, &mut sink);
         assert_eq!(rt; status, Status::Usage);
         assert_eq!(rt; status.code(), 2);
-        assert!(rt; source.read(&mut [0; 1]).is_err(), "the first call is still to come");
+        assert!(rt;
+            source.read(&mut [0; 1]).is_err(),
+            "the first call is still to come"
+        );
         assert!(rt; sink.taken().is_empty());
     }
     Ok(())
@@ -199,7 +218,10 @@ fn a_sink_without_room_keeps_a_front(rt: HostRuntime) -> Result<(), Fail> {
     let words = command(alloc, "hits")?;
     let mut source = MemSource::new(silence(alloc, 230_400)?);
     let mut sink = MemSink::new(alloc, 3)?;
-    assert_eq!(rt; run(alloc, &words, &mut source, &mut sink), Status::WriteFault);
+    assert_eq!(rt;
+        run(alloc, &words, &mut source, &mut sink),
+        Status::WriteFault
+    );
     assert_eq!(rt; sink.taken(), b"hit".as_slice());
     Ok(())
 }
@@ -208,7 +230,12 @@ fn a_sink_without_room_keeps_a_front(rt: HostRuntime) -> Result<(), Fail> {
 fn hits_of_std(alloc: Global, bytes: &[u8]) -> Result<(Status, Vec<u8>), AllocError> {
     let words = command(alloc, "hits")?;
     let mut taken = Vec::new(alloc);
-    let status = run(alloc, &words, &mut StdSource::new(bytes), &mut StdSink::new(&mut taken));
+    let status = run(
+        alloc,
+        &words,
+        &mut StdSource::new(bytes),
+        &mut StdSink::new(&mut taken),
+    );
     Ok((status, taken))
 }
 
@@ -238,17 +265,26 @@ fn readers_and_writers_of_std(rt: HostRuntime) -> Result<(), Fail> {
 #[test]
 fn texts_of_answers(rt: HostRuntime) -> Result<(), Fail> {
     let alloc = rt.alloc();
-    for (status, text) in [
-        (Status::Usage, "usage"),
-        (Status::Ragged, "ragged"),
-        (Status::TooShort, "too short"),
-        (Status::TooLong, "too long"),
-        (Status::ReadFault, "read fault"),
-        (Status::WriteFault, "write fault"),
-        (Status::OutOfMemory, "out of memory"),
-        (Status::BadCell(cell_tx::CellError::Sib1Long), "bad cell: sib1long"),
-        (Status::BadCertificate(655_613), "bad certificate at byte 655613"),
+    for (status, code, text) in [
+        (Status::Usage, 2, "usage"),
+        (Status::Ragged, 3, "ragged"),
+        (Status::TooShort, 4, "too short"),
+        (Status::TooLong, 5, "too long"),
+        (Status::ReadFault, 6, "read fault"),
+        (Status::WriteFault, 7, "write fault"),
+        (Status::OutOfMemory, 8, "out of memory"),
+        (
+            Status::BadCell(CellError::Sib1Long),
+            9,
+            "bad cell: sib1long",
+        ),
+        (
+            Status::BadCertificate(655_613),
+            10,
+            "bad certificate at byte 655613",
+        ),
     ] {
+        assert_eq!(rt; status.code(), code);
         assert_eq!(rt; format!(in alloc; "{status}")?.as_str(), text);
     }
     Ok(())
