@@ -1,4 +1,4 @@
--- Sizes of folded samples and of their sums.
+-- Quartets of folded samples: how butterflies make them, and the sizes of their sums.
 use Rattle.std.proofs.Common.{◌≡◌, ℕ, zero, suc, ◌+◌, ◌*◌, ◌%◌, ◌^◌, ◌<◌, ◌≤◌, arith, refl, subst, Bool, true, List, length, neg_ℤ, ◌*ℤ◌, unsigned_abs, nat_le, slice_index_or}
 use Rattle.std.specs.Prelude.{All}
 use Rattle.std.proofs.lemmas.Int.{ints, unsigned_abs-mul}
