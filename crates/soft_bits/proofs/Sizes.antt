@@ -1,11 +1,10 @@
 -- Sizes of what was seen and sent at the pilots.
-use Rattle.std.proofs.Common.{ℕ, ◌+◌, ◌*◌, ◌^◌, ◌<◌, ◌≤◌, ◌≡◌, ◌/◌, arith, inl, inr, List, [], ◌∷◌, All, length, get_or, slice_index_or, ℤ, unsigned_abs, zero, suc}
+use Rattle.std.proofs.Common.{ℕ, ◌*◌, ◌^◌, ◌≤◌, ◌/◌, arith, inl, inr, List, [], ◌∷◌, All, get_or, slice_index_or, ℤ, unsigned_abs, zero, suc}
 use Rattle.std.proofs.lemmas.List.Elements.{All-nil, All-head, All-tail}
-use Rattle.cs_num.specs.declared.Cpx.{Cpx}
-use Rattle.cs_num.specs.Complex.{IsWithin, nothing, conjugate, times, square, value_at, plus}
+use Rattle.cs_num.specs.Complex.{IsWithin, nothing, conjugate, square}
 use Rattle.cs_num.proofs.Complex.{times-within, conjugate-within, square-within}
 use Rattle.finite.proofs.Sums.{total_below-within}
-use Rattle.crs.specs.Reference.{IsFull, IsReferenceValue, reference_at, reference}
+use Rattle.crs.specs.Reference.{IsFull, reference_at}
 use Rattle.crs.proofs.Values.{reference-IsReferenceValue}
 use Rattle.soft_bits.specs.Soft.{SeenSlot, AreSmall, seen_at, pilot_symbol, pilot_subcarrier, pilot_seen, pilot_sent, pilot, pilot_energy}
 

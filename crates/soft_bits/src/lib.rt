@@ -3,9 +3,10 @@
 
 mod pilots;
 mod slot;
-mod value;
 #[cfg(test)]
 mod tests;
+mod value;
 
+pub use pilots::pilots_are_the_reference_places;
 pub use slot::Slot;
 pub use value::soft;

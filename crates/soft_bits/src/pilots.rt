@@ -1,14 +1,24 @@
 //! The pilots of a slot: what was seen at its reference places, against what was sent.
 
-ghost use Rattle.std.specs.Prelude.{◌≡◌, ◌⊎◌, ℕ, ◌+◌, ◌*◌, ◌%◌, ◌^◌, ◌<◌, ◌≤◌};
+ghost use Rattle.std.specs.Prelude.{◌≡◌, ◌⊎◌, ℕ, ◌+◌, ◌*◌, ◌%◌, ◌/◌, ◌^◌, ◌<◌, ◌≤◌, IsTrue};
 ghost use Rattle.finite.specs.Lists.{values_below};
 ghost use Rattle.cs_num.specs.Complex.{IsWithin, square};
-ghost use Rattle.crs.specs.Reference.{reference_list};
+ghost use Rattle.crs.specs.Reference.{is_reference, reference_list};
 ghost use Rattle.soft_bits.specs.Soft.{SeenSlot, AreSmall, seen_at, pilot_subcarrier, pilot_symbol};
 ghost use Rattle.soft_bits.specs.Soft.{pilot_seen, pilot_sent, pilot, pilot_energy};
 
 use cs_num::Cpx;
 use lte_types::CellId;
+
+/// The 24 pilots of a slot are reference places of symbols 0 and 4, and each such place is one of
+/// them (TS 36.211 section 6.10.1.2).
+pub fn pilots_are_the_reference_places()
+    ensures inside { (identity i : ℕ) → i < 24 → pilot_subcarrier identity i < 72 }
+    ensures each { (identity i : ℕ) →
+        IsTrue (is_reference identity (pilot_symbol identity i) (pilot_subcarrier identity i)) }
+    ensures found { (identity symbol k : ℕ) → k < 72 → IsTrue (is_reference identity symbol k) →
+        (k / 3 < 24) × (k ≡ pilot_subcarrier identity (k / 3)) × (symbol ≡ pilot_symbol identity (k / 3)) }
+{}
 
 // The subcarrier of pilot i.
 pub(crate) fn subcarrier_of(id: CellId, i: u8) -> u8
@@ -60,7 +70,14 @@ fn sent_of(number: u8, id: CellId, first: &[(u8, Cpx); 12], second: &[(u8, Cpx);
 }
 
 // Pilot i.
-fn pilot_of(seen: &[[Cpx; 72]; 7], number: u8, id: CellId, first: &[(u8, Cpx); 12], second: &[(u8, Cpx); 12], i: u8) -> Cpx
+fn pilot_of(
+    seen: &[[Cpx; 72]; 7],
+    number: u8,
+    id: CellId,
+    first: &[(u8, Cpx); 12],
+    second: &[(u8, Cpx); 12],
+    i: u8,
+) -> Cpx
     requires small { AreSmall seen.now }
     requires first { first.now ≡ reference_list id number 0 }
     requires second { second.now ≡ reference_list id number 4 }

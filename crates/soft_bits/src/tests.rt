@@ -57,7 +57,14 @@ fn references(id: CellId, number: u8, symbol: u8, channel: Channel) -> [Cpx; 72]
 }
 
 // A slot of reference signals, with the same value at all places of the other symbols.
-fn slot_of(rt: &impl Abort, identity: u16, number: u8, first: Channel, second: Channel, value: Cpx) -> Slot
+fn slot_of(
+    rt: &impl Abort,
+    identity: u16,
+    number: u8,
+    first: Channel,
+    second: Channel,
+    value: Cpx,
+) -> Slot
     requires number { number < 20 }
     requires small { IsWithin (2 ^ 25) value }
 {
@@ -77,11 +84,28 @@ fn slot_of(rt: &impl Abort, identity: u16, number: u8, first: Channel, second: C
 
 #[test]
 fn values_are_rounded_toward_zero_and_stop_at_127(rt: HostRuntime) {
-    let slot = slot_of(&rt, 503, 19, Channel::Plain, Channel::Plain, Cpx { re: 5760, im: -5760 });
+    let slot = slot_of(
+        &rt,
+        503,
+        19,
+        Channel::Plain,
+        Channel::Plain,
+        Cpx {
+            re: 5760,
+            im: -5760,
+        },
+    );
     assert_eq!(rt; soft(&slot, 6, 0), [67, -67]);
     assert_eq!(rt; soft(&slot, 1, 71), [67, -67]);
     assert_eq!(rt; (slot.id().value(), slot.number()), (503, 19));
-    let slot = slot_of(&rt, 0, 0, Channel::Plain, Channel::Plain, Cpx { re: 11520, im: 0 });
+    let slot = slot_of(
+        &rt,
+        0,
+        0,
+        Channel::Plain,
+        Channel::Plain,
+        Cpx { re: 11520, im: 0 },
+    );
     assert_eq!(rt; soft(&slot, 2, 35), [127, 0]);
 }
 
@@ -89,7 +113,9 @@ fn values_are_rounded_toward_zero_and_stop_at_127(rt: HostRuntime) {
 fn a_silent_slot_speaks_for_no_bit(rt: HostRuntime) {
     let id = CellId::new(7).expect(&rt, "in range");
     let nothing = level(Cpx { re: 0, im: 0 });
-    let seen = [nothing, nothing, nothing, nothing, nothing, nothing, nothing];
+    let seen = [
+        nothing, nothing, nothing, nothing, nothing, nothing, nothing,
+    ];
     let slot = Slot::new(seen, 3, id);
     let mut all_zero = true;
     for symbol in 0..7_u8 {
@@ -102,6 +128,40 @@ fn a_silent_slot_speaks_for_no_bit(rt: HostRuntime) {
 
 #[test]
 fn a_turned_channel_is_turned_back(rt: HostRuntime) {
-    let slot = slot_of(&rt, 1, 10, Channel::Turned, Channel::Turned, Cpx { re: 100000, im: -70000 });
+    let slot = slot_of(
+        &rt,
+        1,
+        10,
+        Channel::Turned,
+        Channel::Turned,
+        Cpx {
+            re: 100000,
+            im: -70000,
+        },
+    );
     assert_eq!(rt; soft(&slot, 5, 40), [-29, -41]);
+}
+
+#[test]
+fn the_channel_is_taken_between_the_pilots(rt: HostRuntime) {
+    let slot = slot_of(
+        &rt,
+        2,
+        7,
+        Channel::Plain,
+        Channel::Turned,
+        Cpx {
+            re: 200000,
+            im: 90000,
+        },
+    );
+    assert_eq!(rt; [soft(&slot, 3, 0), soft(&slot, 3, 2)], [[5, 2], [5, 2]]);
+    assert_eq!(rt;
+        [soft(&slot, 3, 3), soft(&slot, 3, 4)],
+        [[29, -53], [52, -110]]
+    );
+    assert_eq!(rt;
+        [soft(&slot, 3, 70), soft(&slot, 3, 71)],
+        [[52, -110], [75, -127]]
+    );
 }

@@ -1,4 +1,4 @@
-use Rattle.std.proofs.Common.{arith, refl, ◌≡◌, ◌∙◌, ap, ℕ}
+use Rattle.std.proofs.Common.{arith, refl, ◌≡◌, ◌∙◌, ap}
 use Rattle.finite.specs.Sums.{total_below}
 use Rattle.cs_num.specs.Complex.{square}
 use Rattle.soft_bits.specs.Soft.{pilot_seen, pilot_energy}

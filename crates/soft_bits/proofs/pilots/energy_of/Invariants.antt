@@ -1,4 +1,4 @@
-use Rattle.std.proofs.Common.{◌≡◌, ℕ, ◌*◌, ◌≤◌}
+use Rattle.std.proofs.Common.{◌≡◌, ◌*◌, ◌≤◌}
 use Rattle.finite.specs.Sums.{total_below}
 use Rattle.cs_num.specs.Complex.{square}
 use Rattle.soft_bits.specs.Soft.{pilot_seen}

@@ -1,8 +1,8 @@
-use Rattle.std.proofs.Common.{◌≡◌, ◌∙◌, ◌*◌, ◌^◌, arith, ap, ap₂}
+use Rattle.std.proofs.Common.{◌∙◌, ◌^◌, arith, ap, ap₂}
 use Rattle.std.proofs.lemmas.Nat.{mul-le}
 use Rattle.cs_num.specs.Complex.{IsWithin, times, conjugate, size}
 use Rattle.cs_num.proofs.Complex.{size-le, conjugate-within}
-use Rattle.soft_bits.specs.Soft.{pilot, pilot_sent, pilot_seen}
+use Rattle.soft_bits.specs.Soft.{pilot}
 use Rattle.soft_bits.proofs.pilots.pilot_of.Goals as goal
 
 pub mul-requires : goal.mul-requires

@@ -1,7 +1,5 @@
-use Rattle.std.proofs.Common.{◌≡◌, refl, [], slice_index_or}
-use Rattle.cs_num.specs.Complex.{value_at}
-use Rattle.soft_bits.specs.Soft.{pilot_seen, pilot_symbol, pilot_subcarrier}
-use Rattle.soft_bits.proofs.Sizes.{pilot_seen-within}
+use Rattle.std.proofs.Common.{refl}
+use Rattle.soft_bits.specs.Soft.{pilot_seen}
 use Rattle.soft_bits.proofs.pilots.seen_of.Goals as goal
 
 pub returns-clause-value : goal.returns-clause-value

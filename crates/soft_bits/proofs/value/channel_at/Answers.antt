@@ -1,7 +1,6 @@
-use Rattle.std.proofs.Common.{◌≡◌, ◌∙◌, ◌-◌, ◌/◌, ◌%◌, ◌<◌, arith, ap, refl, sym, ◌≤◌, ℕ, nat_lt, true, false}
-use Rattle.std.proofs.lemmas.Bool.{lt-ltb, ltb-false}
+use Rattle.std.proofs.Common.{◌≡◌, ◌∙◌, ◌-◌, ◌/◌, ◌%◌, ◌<◌, arith, refl, sym, ◌≤◌, ℕ, nat_lt, true, false}
 use Rattle.std.proofs.lemmas.Bool.Decides.{nat_tests}
-use Rattle.soft_bits.specs.Soft.{SeenSlot, between, channel, pilot, multiple, pilot_subcarrier}
+use Rattle.soft_bits.specs.Soft.{SeenSlot, between, channel, pilot_subcarrier}
 use Rattle.soft_bits.proofs.value.channel_at.Goals as goal
 
 -- between the first pilot and the last

@@ -1,4 +1,4 @@
-use Rattle.std.proofs.Common.{rules, arith, ◌≡◌, ◌∙◌, ◌*◌, ◌^◌, ◌≤◌, ap, ap₂, ℕ, ℤ, pos, List, [], ◌∷◌, All, unsigned_abs, FitsSigned, to_z, of_z, w64}
+use Rattle.std.proofs.Common.{rules, arith, ◌≡◌, ◌∙◌, ◌*◌, ◌^◌, ◌≤◌, ap, ap₂, ℤ, [], ◌∷◌, All, unsigned_abs, FitsSigned, to_z, of_z, w64}
 use Rattle.std.specs.Int.{w16}
 use Rattle.std.proofs.lemmas.Int.{to_z-of_z, fits_signed_from_abs}
 use Rattle.std.proofs.lemmas.Nat.{mul-le}
@@ -6,7 +6,7 @@ use Rattle.std.proofs.lemmas.List.Elements.{All-cons, All-nil}
 use Rattle.cs_num.specs.declared.Cpx.{Cpx}
 use Rattle.cs_num.specs.Complex.{IsWithin, times, conjugate, size}
 use Rattle.cs_num.proofs.Complex.{times-within, size-le, conjugate-within}
-use Rattle.soft_bits.specs.Soft.{channel, turned_back, soft_value, soft_values, seen_at, pilot_energy}
+use Rattle.soft_bits.specs.Soft.{turned_back, soft_value, soft_values}
 use Rattle.soft_bits.proofs.value.soft.Goals as goal
 
 -- a product of what was seen and the channel turned round

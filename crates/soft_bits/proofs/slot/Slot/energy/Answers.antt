@@ -1,6 +1,5 @@
 use Rattle.soft_bits.proofs.Sizes.{pilot_energy-within}
-use Rattle.soft_bits.specs.Soft.{SeenSlot, pilot_energy}
-use Rattle.std.proofs.Common.{◌≡◌, ◌≤◌, arith}
+use Rattle.soft_bits.specs.Soft.{SeenSlot}
 use Rattle.soft_bits.proofs.slot.Slot.energy.Goals as goal
 
 pub returns-clause-small : goal.returns-clause-small

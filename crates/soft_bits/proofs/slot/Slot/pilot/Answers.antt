@@ -1,5 +1,4 @@
-use Rattle.std.proofs.Common.{◌≡◌, ◌*◌, ◌^◌, arith}
-use Rattle.cs_num.specs.Complex.{IsWithin, nothing}
+use Rattle.cs_num.specs.Complex.{nothing}
 use Rattle.finite.proofs.Lists.{values_below_at}
 use Rattle.soft_bits.specs.Soft.{SeenSlot, pilot}
 use Rattle.soft_bits.proofs.Sizes.{pilot-within}
