@@ -39,7 +39,7 @@ unfoldable pub pilot_sent : ℕ → ℕ → ℕ → Cpx
 pilot_sent identity number i =
     reference_at identity number (pilot_symbol identity i) (pilot_subcarrier identity i)
 
--- the channel at a pilot, with the factor of the reference's energy
+-- the channel at a pilot, times the square of the reference's size
 unfoldable pub pilot : SeenSlot → ℕ → Cpx
 pilot slot i = times (pilot_seen slot i) (conjugate (pilot_sent slot.identity slot.number i))
 
@@ -64,8 +64,8 @@ channel slot k =
     then between slot ((k - slot.identity % 3) / 3) ((k - slot.identity % 3) % 3)
     else multiple 3 (pilot slot 23))
 
--- a component by the energy of the pilots: rounded toward zero, at most 127, and 0 where nothing
--- was seen
+-- six times a component by the energy of the pilots, rounded toward zero and clamped to -127 to 127;
+-- 0 where no pilot was seen
 abbrev pub soft_value : ℤ → ℕ → ℤ
 soft_value component energy =
     if nat_eq energy 0 then pos 0 else clamped (int_div (pos 6 *ℤ component) (pos energy)) 127
