@@ -1,0 +1,126 @@
+//! The pilots of a slot: what was seen at its reference places, against what was sent.
+
+ghost use Rattle.std.specs.Prelude.{◌≡◌, ◌⊎◌, ℕ, ◌+◌, ◌*◌, ◌%◌, ◌/◌, ◌^◌, ◌<◌, ◌≤◌, IsTrue};
+ghost use Rattle.finite.specs.Lists.{values_below};
+ghost use Rattle.cs_num.specs.Complex.{IsWithin, square};
+ghost use Rattle.crs.specs.Reference.{is_reference, reference_list};
+ghost use Rattle.soft_bits.specs.Soft.{SeenSlot, AreSmall, seen_at, pilot_subcarrier, pilot_symbol};
+ghost use Rattle.soft_bits.specs.Soft.{pilot_seen, pilot_sent, pilot, pilot_energy};
+
+use cs_num::Cpx;
+use lte_types::CellId;
+
+/// The 24 pilots of a slot are reference places of symbols 0 and 4, and each such place is one of
+/// them (TS 36.211 section 6.10.1.2).
+pub fn pilots_are_the_reference_places()
+    ensures inside { (identity i : ℕ) → i < 24 → pilot_subcarrier identity i < 72 }
+    ensures each { (identity i : ℕ) →
+        IsTrue (is_reference identity (pilot_symbol identity i) (pilot_subcarrier identity i)) }
+    ensures found { (identity symbol k : ℕ) → k < 72 → IsTrue (is_reference identity symbol k) →
+        (k / 3 < 24) × (k ≡ pilot_subcarrier identity (k / 3)) × (symbol ≡ pilot_symbol identity (k / 3)) }
+{}
+
+// The subcarrier of pilot i.
+pub(crate) fn subcarrier_of(id: CellId, i: u8) -> u8
+    requires { i < 24 }
+    ensures value { result ≡ pilot_subcarrier id i }
+    ensures fits { result < 72 }
+{
+    id.n2() as u8 + 3 * i
+}
+
+// The symbol that holds pilot i.
+#[tactic(auto, using(std::proofs::lemmas::Bool::Decides::nat_tests), unfolding(crate::specs::Soft::pilot_symbol, crs::specs::Reference::is_reference, crs::specs::Reference::first_subcarrier))]
+fn symbol_of(id: CellId, i: u8) -> u8
+    requires { i < 24 }
+    ensures value { result ≡ pilot_symbol id i }
+    ensures one { (result ≡ 0) ⊎ (result ≡ 4) }
+{
+    if subcarrier_of(id, i) as u16 % 6 == id.value() % 6 {
+        0
+    } else {
+        4
+    }
+}
+
+// What was seen at pilot i.
+fn seen_of(seen: &[[Cpx; 72]; 7], number: u8, id: CellId, i: u8) -> Cpx
+    requires small { AreSmall seen.now }
+    requires i { i < 24 }
+    ensures value { result ≡ pilot_seen (record { symbols = seen.now; number = number; identity = id }) i }
+    ensures small { IsWithin (2 ^ 25) result }
+{
+    seen[symbol_of(id, i) as usize][subcarrier_of(id, i) as usize]
+}
+
+// What was sent there, by the values of symbols 0 and 4.
+fn sent_of(number: u8, id: CellId, first: &[(u8, Cpx); 12], second: &[(u8, Cpx); 12], i: u8) -> Cpx
+    requires first { first.now ≡ reference_list id number 0 }
+    requires second { second.now ≡ reference_list id number 4 }
+    requires i { i < 24 }
+    ensures value { result ≡ pilot_sent id number i }
+    ensures small { IsWithin 90 result }
+{
+    let m = subcarrier_of(id, i) as usize / 6;
+    if symbol_of(id, i) == 0 {
+        first[m].1
+    } else {
+        second[m].1
+    }
+}
+
+// Pilot i.
+fn pilot_of(
+    seen: &[[Cpx; 72]; 7],
+    number: u8,
+    id: CellId,
+    first: &[(u8, Cpx); 12],
+    second: &[(u8, Cpx); 12],
+    i: u8,
+) -> Cpx
+    requires small { AreSmall seen.now }
+    requires first { first.now ≡ reference_list id number 0 }
+    requires second { second.now ≡ reference_list id number 4 }
+    requires i { i < 24 }
+    ensures { result ≡ pilot (record { symbols = seen.now; number = number; identity = id }) i }
+{
+    let sent = sent_of(number, id, first, second, i);
+    seen_of(seen, number, id, i).mul(sent.conj())
+}
+
+// All of them.
+pub(crate) fn pilots_of(seen: &[[Cpx; 72]; 7], number: u8, id: CellId) -> [Cpx; 24]
+    requires number { number < 20 }
+    requires small { AreSmall seen.now }
+    ensures { result ≡ values_below 24 (pilot (record { symbols = seen.now; number = number; identity = id })) }
+{
+    let first = crs::pilots(id, number, 0);
+    let second = crs::pilots(id, number, 4);
+    let mut pilots = [Cpx { re: 0, im: 0 }; 24];
+    for i in 0..24_u8 {
+        pilots[i as usize] = pilot_of(seen, number, id, &first, &second, i);
+    }
+    pilots
+}
+
+// Their energy.
+pub(crate) fn energy_of(seen: &[[Cpx; 72]; 7], number: u8, id: CellId) -> u64
+    requires small { AreSmall seen.now }
+    ensures { result ≡ pilot_energy (record { symbols = seen.now; number = number; identity = id }) }
+{
+    let mut sum: u64 = 0;
+    for i in 0..24_u8 {
+        sum += energy_part(seen, number, id, i);
+    }
+    sum
+}
+
+// What pilot i gives to it.
+fn energy_part(seen: &[[Cpx; 72]; 7], number: u8, id: CellId, i: u8) -> u64
+    requires small { AreSmall seen.now }
+    requires i { i < 24 }
+    ensures value { result ≡ square (pilot_seen (record { symbols = seen.now; number = number; identity = id }) i) }
+    ensures small { result ≤ 2 ^ 51 }
+{
+    seen_of(seen, number, id, i).norm() as u64
+}

@@ -1,0 +1,167 @@
+ghost use Rattle.std.specs.Prelude.{◌≡◌, ℕ, ◌^◌, ◌<◌, ◌≤◌, ◌⊎◌, All};
+ghost use Rattle.cs_num.specs.Complex.{IsWithin};
+
+use crate::{Slot, soft};
+use cs_num::Cpx;
+use lte_types::CellId;
+use std::process::Abort;
+
+// How the channel shows a value that was sent: 64 times as great, or 1,792 times and turned by a
+// quarter.
+#[derive(Clone, Copy)]
+enum Channel {
+    Plain,
+    Turned,
+}
+
+fn seen_of(sent: Cpx, channel: Channel) -> Cpx
+    ensures { IsWithin (2 ^ 25) result }
+{
+    let re = sent.re.clamp(-90, 90);
+    let im = sent.im.clamp(-90, 90);
+    match channel {
+        Channel::Plain => Cpx {
+            re: 64 * re,
+            im: 64 * im,
+        },
+        Channel::Turned => Cpx {
+            re: -1792 * im,
+            im: 1792 * re,
+        },
+    }
+}
+
+// The same value on all subcarriers.
+fn level(value: Cpx) -> [Cpx; 72]
+    requires { IsWithin (2 ^ 25) value }
+    ensures { All (IsWithin (2 ^ 25)) result }
+{
+    [value; 72]
+}
+
+// The reference signals alone.
+fn references(id: CellId, number: u8, symbol: u8, channel: Channel) -> [Cpx; 72]
+    requires number { number < 20 }
+    requires symbol { (symbol ≡ 0) ⊎ (symbol ≡ 4) }
+    ensures { All (IsWithin (2 ^ 25)) result }
+{
+    let pilots = crs::pilots(id, number, symbol);
+    let mut seen = level(Cpx { re: 0, im: 0 });
+    for m in 0..12 {
+        let (k, sent) = pilots[m];
+        if k < 72 {
+            seen[k as usize] = seen_of(sent, channel);
+        }
+    }
+    seen
+}
+
+// A slot of reference signals, with the same value at all places of the other symbols.
+fn slot_of(
+    rt: &impl Abort,
+    identity: u16,
+    number: u8,
+    first: Channel,
+    second: Channel,
+    value: Cpx,
+) -> Slot
+    requires number { number < 20 }
+    requires small { IsWithin (2 ^ 25) value }
+{
+    let id = CellId::new(identity).expect(rt, "in range");
+    let other = level(value);
+    let seen = [
+        references(id, number, 0, first),
+        other,
+        other,
+        other,
+        references(id, number, 4, second),
+        other,
+        other,
+    ];
+    Slot::new(seen, number, id)
+}
+
+#[test]
+fn values_are_rounded_toward_zero_and_stop_at_127(rt: HostRuntime) {
+    let slot = slot_of(
+        &rt,
+        503,
+        19,
+        Channel::Plain,
+        Channel::Plain,
+        Cpx {
+            re: 5760,
+            im: -5760,
+        },
+    );
+    assert_eq!(rt; soft(&slot, 6, 0), [67, -67]);
+    assert_eq!(rt; soft(&slot, 1, 71), [67, -67]);
+    assert_eq!(rt; (slot.id().value(), slot.number()), (503, 19));
+    let slot = slot_of(
+        &rt,
+        0,
+        0,
+        Channel::Plain,
+        Channel::Plain,
+        Cpx { re: 11520, im: 0 },
+    );
+    assert_eq!(rt; soft(&slot, 2, 35), [127, 0]);
+}
+
+#[test]
+fn a_silent_slot_speaks_for_no_bit(rt: HostRuntime) {
+    let id = CellId::new(7).expect(&rt, "in range");
+    let nothing = level(Cpx { re: 0, im: 0 });
+    let seen = [
+        nothing, nothing, nothing, nothing, nothing, nothing, nothing,
+    ];
+    let slot = Slot::new(seen, 3, id);
+    let mut all_zero = true;
+    for symbol in 0..7_u8 {
+        for k in 0..72_u8 {
+            all_zero = all_zero && soft(&slot, symbol, k) == [0, 0];
+        }
+    }
+    assert!(rt; all_zero);
+}
+
+#[test]
+fn a_turned_channel_is_turned_back(rt: HostRuntime) {
+    let slot = slot_of(
+        &rt,
+        1,
+        10,
+        Channel::Turned,
+        Channel::Turned,
+        Cpx {
+            re: 100000,
+            im: -70000,
+        },
+    );
+    assert_eq!(rt; soft(&slot, 5, 40), [-29, -41]);
+}
+
+#[test]
+fn the_channel_is_taken_between_the_pilots(rt: HostRuntime) {
+    let slot = slot_of(
+        &rt,
+        2,
+        7,
+        Channel::Plain,
+        Channel::Turned,
+        Cpx {
+            re: 200000,
+            im: 90000,
+        },
+    );
+    assert_eq!(rt; [soft(&slot, 3, 0), soft(&slot, 3, 2)], [[5, 2], [5, 2]]);
+    assert_eq!(rt;
+        [soft(&slot, 3, 3), soft(&slot, 3, 4)],
+        [[29, -53], [52, -110]]
+    );
+    assert_eq!(rt;
+        [soft(&slot, 3, 70), soft(&slot, 3, 71)],
+        [[52, -110], [75, -127]]
+    );
+}
