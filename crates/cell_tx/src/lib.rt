@@ -14,7 +14,10 @@ mod tests {
     fn a_cause_is_named_in_lower_case(rt: HostRuntime) -> std::io::Result<()> {
         let alloc = rt.alloc();
         assert_eq!(rt; format!(in alloc; "{}", CellError::Form)?.as_str(), "form");
-        assert_eq!(rt; format!(in alloc; "{}", CellError::Sib1Range)?.as_str(), "sib1range");
+        assert_eq!(rt;
+            format!(in alloc; "{}", CellError::Sib1Range)?.as_str(),
+            "sib1range"
+        );
         Ok(())
     }
 }

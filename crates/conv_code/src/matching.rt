@@ -86,7 +86,7 @@ fn add_at(sums: &mut [[i32; 3]], at: &Place, value: &i16)
 }
 
 /// At each place of a coded word the sum of the values that the endless reading maps to it.
-/// At most 1,920 values; each sum has a size of at most 62,914,560.
+/// At most 1,920 values.
 pub fn combine<const N: usize>(values: &[i16]) -> [[i32; 3]; N]
     requires low { 6 ≤ N }
     requires high { N ≤ 64 }

@@ -1,4 +1,4 @@
--- The shift register that divides one bit at a time.
+-- The shift register that divides one bit at a time. (own)
 use Rattle.std.specs.Prelude.{ℕ, suc, ◌*◌, ◌%◌, ◌^◌, Bool, cond, bit_xor, nat_eq}
 use Rattle.std.specs.Int.{bit_at}
 use Rattle.cs_bits.specs.Polynomial.{xor}

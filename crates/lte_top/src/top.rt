@@ -20,7 +20,7 @@ use std::alloc::{AllocError, Global};
 ///
 /// `Done` means that the whole input was read and the whole output was taken. Every other answer
 /// has its cause, and after each but `WriteFault` nothing was written; after `WriteFault` the sink
-/// took a front of the output. All memory is taken before the first write. Where the source tells
+/// took a front of the output. Want of memory is never answered after a write. Where the source tells
 /// its bytes, the answer is the one that they have, but for want of memory and counted faults.
 pub fn run<S: Source, K: Sink>(alloc: Global, words: &Words, source: &mut S, sink: &mut K) -> Status
     ensures { Runs words.now

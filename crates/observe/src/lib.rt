@@ -10,9 +10,9 @@ use fold128::transform;
 use sample_file::Recording;
 
 /// The 72 values that are seen of the symbol whose useful part begins at sample `start`: the plain
-/// sums over the 128 samples from there on, divided by 2^12 and rounded. A gain times a grid value
-/// gives about 64 times that. The symbol ends within the recording. Components have size at most
-/// 23,726,080, which is below 2^25. (own; the useful part of TS 36.211 section 6.12 read backward)
+/// sums over the 128 samples from there on, divided by 2^12 and rounded. The symbol ends within the
+/// recording. Components have size at most 23,726,080, which is below 2^25. (own; the useful part
+/// of TS 36.211 section 6.12 read backward)
 pub fn symbol(recording: &Recording, start: usize) -> [Cpx; 72]
     requires { start + 128 ≤ length recording.now }
     ensures value { result ≡ seen_symbol recording.now start }

@@ -1,4 +1,4 @@
--- What the list of hits is, in plain words.
+-- What the list of hits is, in plain words. (own)
 use Rattle.std.specs.Prelude.{◌≡◌, ℕ, ◌+◌, ◌*◌, ◌<◌, ◌≤◌, ◌↔◌, List, true, length}
 use Rattle.std.specs.List.{Contains, AllPairs}
 use Rattle.cs_num.specs.declared.Sample.{Sample}

@@ -82,16 +82,34 @@ fn a_signal_of_another_phase_and_size_is_the_same_hit(rt: HostRuntime) -> Result
     Ok(())
 }
 
-#[test]
-fn signals_past_the_first_frame_are_not_listed(rt: HostRuntime) -> Result<(), Fail> {
-    let mut bytes = silence(rt.alloc(), 230_400)?;
+// Signals every 400 samples from sample 1,000 on.
+fn many_signals(alloc: Global) -> Result<Vec<u8>, AllocError> {
+    let mut bytes = silence(alloc, 230_400)?;
     for q in 0..141_usize {
         put_signal(&mut bytes, 1000 + 400 * q);
     }
-    let (status, taken) = hits_of(rt.alloc(), bytes)?;
+    Ok(bytes)
+}
+
+#[test]
+fn signals_past_the_first_frame_are_not_listed(rt: HostRuntime) -> Result<(), Fail> {
+    let (status, taken) = output_of(rt.alloc(), "hits", many_signals(rt.alloc())?)?;
     let mut wanted = format!(in rt.alloc(); "hits 46\n")?;
     for q in 0..46_u32 {
         let line = format!(in rt.alloc(); "{} 0\n", 1000 + 400 * q)?;
+        wanted.push_str(line.as_str())?;
+    }
+    assert_eq!(rt; status, Status::Done);
+    assert_eq!(rt; taken.as_slice(), wanted.as_bytes());
+    Ok(())
+}
+
+#[test]
+fn each_of_many_hits_has_its_identity(rt: HostRuntime) -> Result<(), Fail> {
+    let (status, taken) = output_of(rt.alloc(), "ids", many_signals(rt.alloc())?)?;
+    let mut wanted = format!(in rt.alloc(); "ids 46\n")?;
+    for q in 0..46_u32 {
+        let line = format!(in rt.alloc(); "{} 0 0 {}\n", 1000 + 400 * q, 168 + 400 * q)?;
         wanted.push_str(line.as_str())?;
     }
     assert_eq!(rt; status, Status::Done);

@@ -1,4 +1,4 @@
--- What the best pair is, in plain words.
+-- What the best pair is, in plain words. (own)
 use Rattle.std.specs.Prelude.{◌≡◌, ℕ, ℤ}
 use Rattle.lte_types.specs.declared.frame.Half.{Half}
 use Rattle.sss_detect.specs.Identity.{IsBest, best_pair}

@@ -1,4 +1,4 @@
--- Laws of the synchronisation sequences.
+-- Laws of the synchronisation sequences. (of TS 36.211 section 6.11)
 use Rattle.std.specs.Prelude.{◌≡◌, ℕ, ◌≤◌}
 use Rattle.lte_types.specs.declared.frame.Half.{Half}
 use Rattle.sync_seq.specs.Secondary.{sss_list}

@@ -12,6 +12,20 @@ fn the_first_values_of_each_root(rt: HostRuntime) {
 }
 
 #[test]
+fn the_middle_value_is_left_out(rt: HostRuntime) {
+    for (n2, middle) in [
+        (0, Cpx { re: -126, im: 19 }),
+        (1, Cpx { re: 121, im: -37 }),
+        (2, Cpx { re: 121, im: 37 }),
+    ] {
+        let values = pss(n2);
+        assert_eq!(rt; values[30], middle);
+        assert_eq!(rt; values[31], middle);
+        assert_eq!(rt; values[61], Cpx { re: 127, im: 0 });
+    }
+}
+
+#[test]
 fn secondary_values_of_three_identities(rt: HostRuntime) {
     assert_eq!(rt;
         sss(0, 0, Half::Zero),

@@ -147,6 +147,31 @@ fn small_cases_agree_with_a_search_of_all_words(rt: HostRuntime) -> Result<(), F
 }
 
 #[test]
+fn words_of_the_lengths_in_use_agree_with_a_second_program(rt: HostRuntime) -> Result<(), Fail> {
+    let mut work = Trellis::new(rt.alloc())?;
+    let work = &mut work;
+    for (seed, spread, number, cost) in [
+        (1, 20, 0xd0_23a6_defc, 172),
+        (2, 3, 0x47_3d61_2ac2, 28),
+        (7, 1, 0xaf_de4e_9bac, 10),
+    ] {
+        assert_eq!(rt;
+            answer::<40>(seed, spread, work),
+            (number, cost),
+            "40 bits, {seed}"
+        );
+    }
+    for (seed, spread, number, cost) in [(3, 20, 0x7c58_0a7d, 192), (4, 2, 0x16_0933_60fe, 17)] {
+        assert_eq!(rt;
+            answer::<37>(seed, spread, work),
+            (number, cost),
+            "37 bits, {seed}"
+        );
+    }
+    Ok(())
+}
+
+#[test]
 fn longer_cases_agree_with_a_search_of_all_words(rt: HostRuntime) -> Result<(), Fail> {
     let mut work = Trellis::new(rt.alloc())?;
     let work = &mut work;
