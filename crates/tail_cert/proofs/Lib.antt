@@ -4,3 +4,6 @@ pub mod Accept
 pub mod Rows
 pub mod Places
 pub mod Zeros
+pub mod Pieces
+pub mod Values
+pub mod Bits

@@ -7,7 +7,9 @@ mod branch;
 mod certificate;
 mod checker;
 mod filling;
+mod writing;
 
 pub use certificate::Certificate;
 pub use checker::check;
 pub use filling::fill;
+pub use writing::to_bytes;
