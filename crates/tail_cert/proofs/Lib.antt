@@ -7,3 +7,6 @@ pub mod Zeros
 pub mod Pieces
 pub mod Values
 pub mod Bits
+pub mod Numbers
+pub mod Elements
+pub mod Breaks

@@ -5,7 +5,7 @@ use Rattle.std.proofs.lemmas.List.{get_or_default}
 use Rattle.paths.proofs.Forward.{HasEdges, least_to_none, least_to_more}
 use Rattle.tailbite.specs.Machine.{shift, odd, step_cost}
 use Rattle.tailbite.proofs.Windows.{shift_below}
-use Rattle.tail_cert.specs.Certificate.{Counted, IsRow, IsTable}
+use Rattle.tail_cert.specs.Certificate.{IsTable}
 use Rattle.tail_cert.specs.Forward.{first_from, second_from, bit_to, forward_least, IsLeastRow, HasLeastRows}
 
 to_state : (x p : ℕ) → x < 64 → p / 2 ≡ x % 32 → shift p (bit_to x) ≡ x

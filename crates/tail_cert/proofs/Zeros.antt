@@ -1,6 +1,5 @@
 -- The certificate of zeros has the sizes of a certificate.
-use Rattle.std.proofs.Common.{◌≡◌, ℕ, ◌<◌, ◌≤◌, Bool, false, List, length, get_or, replicate, ℤ, pos, refl, ◌∙◌, sym, ap, arith}
-use Rattle.std.specs.Prelude.{All, nat_abs}
+use Rattle.std.proofs.Common.{ℕ, false, replicate, pos, arith}
 use Rattle.std.proofs.lemmas.List.{get_or-replicate, length-replicate}
 use Rattle.tail_cert.specs.Certificate.{Counted, IsWhole}
 

@@ -119,9 +119,5 @@ pub fn check(certificate: &Certificate) -> bool
     ensures least { IsTrue result → IsLowerBound certificate.now.values certificate.now.cost }
 {
     cost_of(&certificate.values, &certificate.word) == certificate.cost
-        && tables_hold(
-            &certificate.values,
-            certificate.cost,
-            &certificate.tables,
-        )
+        && tables_hold(&certificate.values, certificate.cost, &certificate.tables)
 }

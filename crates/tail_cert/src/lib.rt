@@ -7,9 +7,14 @@ mod branch;
 mod certificate;
 mod checker;
 mod filling;
+mod reading;
 mod writing;
 
 pub use certificate::Certificate;
 pub use checker::check;
 pub use filling::fill;
+pub use reading::{BadCertificate, parse};
 pub use writing::to_bytes;
+
+#[cfg(test)]
+mod tests;

@@ -1,4 +1,4 @@
-use Rattle.std.proofs.Common.{sym, ◌∙◌, ap, arith}
+use Rattle.std.proofs.Common.{sym, ◌∙◌}
 use Rattle.tail_cert.proofs.Sound.{lower_bound}
 use Rattle.tail_cert.proofs.checker.check.Goals as goal
 

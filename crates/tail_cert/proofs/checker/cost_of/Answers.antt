@@ -1,5 +1,4 @@
-use Rattle.std.proofs.Common.{◌≡◌, ◌+◌, ◌*◌, ◌≤◌, length, get_or, [], sym, ◌∙◌, arith}
-use Rattle.finite.specs.Sums.{total_below}
+use Rattle.std.proofs.Common.{◌≡◌, length, sym, arith}
 use Rattle.finite.proofs.Sums.{total_below_none, total_below_more}
 use Rattle.conv_code.specs.Cost.{place_cost, word_cost}
 use Rattle.tail_cert.proofs.Places.{coded_place}

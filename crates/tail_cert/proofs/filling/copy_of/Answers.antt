@@ -1,4 +1,4 @@
-use Rattle.std.proofs.Common.{◌≡◌, ◌<◌, length, [], ◌∙◌, sym, arith}
+use Rattle.std.proofs.Common.{[], ◌∙◌, sym, arith}
 use Rattle.std.proofs.lemmas.List.{ext_get_or}
 use Rattle.tail_cert.proofs.filling.copy_of.Goals as goal
 

@@ -1,4 +1,4 @@
-use Rattle.std.proofs.Common.{◌≡◌, ◌<◌, length, get_or, [], ◌∙◌, sym, arith, take, drop, ◌++◌}
+use Rattle.std.proofs.Common.{◌≡◌, length, [], ◌∙◌, arith, take, drop, ◌++◌}
 use Rattle.std.proofs.lemmas.List.{get_or_default, take_at}
 use Rattle.tail_cert.proofs.Accept.{word_cost-within}
 use Rattle.tail_cert.proofs.filling.fill.Goals as goal

@@ -1,5 +1,5 @@
 use Rattle.std.proofs.Common.{refl}
-use Rattle.tail_cert.specs.Form.{mark, with_piece}
+use Rattle.tail_cert.specs.Form.{with_piece}
 use Rattle.tail_cert.proofs.writing.put_mark.Goals as goal
 
 pub returns : goal.returns

@@ -1,6 +1,5 @@
-use Rattle.std.proofs.Common.{◌≡◌, ◌≤◌, ◌<◌, length, [], arith}
-use Rattle.std.specs.Prelude.{pos}
-use Rattle.tail_cert.specs.Form.{row_bytes, table_bytes}
+use Rattle.std.proofs.Common.{[], arith}
+use Rattle.tail_cert.specs.Form.{table_bytes}
 use Rattle.tail_cert.proofs.Pieces.{written_none, written_more, written_all}
 use Rattle.tail_cert.proofs.writing.put_table.Goals as goal
 

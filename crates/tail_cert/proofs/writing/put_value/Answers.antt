@@ -1,4 +1,4 @@
-use Rattle.std.proofs.Common.{◌≡◌, refl, arith, pos, get_or}
+use Rattle.std.proofs.Common.{refl, arith, pos, get_or}
 use Rattle.tail_cert.specs.Form.{value_bytes}
 use Rattle.tail_cert.proofs.Pieces.{put_piece}
 use Rattle.tail_cert.proofs.Values.{same_bits}

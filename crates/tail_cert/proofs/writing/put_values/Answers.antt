@@ -1,6 +1,4 @@
-use Rattle.std.proofs.Common.{◌≡◌, ◌≤◌, ◌<◌, length, [], arith}
-use Rattle.std.specs.Prelude.{pos}
-use Rattle.tail_cert.specs.Form.{place_bytes}
+use Rattle.std.proofs.Common.{[], arith}
 use Rattle.tail_cert.proofs.Pieces.{written_none, written_more, written_all}
 use Rattle.tail_cert.proofs.writing.put_values.Goals as goal
 

@@ -1,4 +1,4 @@
-use Rattle.std.proofs.Common.{◌≡◌, ◌+◌, length, refl, arith, sym, ◌∙◌}
+use Rattle.std.proofs.Common.{◌≡◌, ◌+◌, length, refl, arith}
 use Rattle.std.specs.List.{flat_map}
 use Rattle.tail_cert.specs.Form.{bytes_of, table_bytes}
 use Rattle.tail_cert.proofs.Pieces.{five_pieces}

@@ -1,0 +1,116 @@
+ghost use Rattle.std.specs.Prelude.{◌≡◌, ◌≤◌, ◌<◌, All, IfOk, length, nat_abs};
+
+use super::*;
+use std::alloc::{AllocError, Global};
+use std::test::Fail;
+use tailbite::Trellis;
+
+const BYTES: usize = 655_613;
+
+/// Zero bytes, as many as a certificate has.
+fn room(alloc: Global) -> Result<Vec<u8>, AllocError>
+    ensures { IfOk result (λ bytes. length bytes.items ≡ 655613) }
+{
+    vec![in alloc; 0; BYTES]
+}
+
+/// Three values.
+fn three(first: i8) -> [i32; 3]
+    ensures { All (λ z. nat_abs z ≤ 2032) result }
+{
+    [first as i32, 0, 0]
+}
+
+/// 120 values: the first one, and zeros.
+fn values_from(first: i8) -> [[i32; 3]; 40]
+    ensures { All (λ v. All (λ z. nat_abs z ≤ 2032) v) result }
+{
+    let mut values = [three(0); 40];
+    values[0] = three(first);
+    values
+}
+
+/// The bytes of the certificate that is filled with these values.
+fn filled(alloc: Global, first: i8) -> Result<Vec<u8>, AllocError>
+    ensures { IfOk result (λ bytes. length bytes.items ≡ 655613) }
+{
+    let mut certificate = Certificate::new(alloc)?;
+    let mut work = Trellis::new(alloc)?;
+    let mut bytes = room(alloc)?;
+    fill(&mut certificate, &values_from(first), &mut work);
+    to_bytes(&certificate, &mut bytes);
+    Ok(bytes)
+}
+
+#[test]
+fn a_new_certificate_is_accepted(rt: HostRuntime) -> Result<(), Fail> {
+    let certificate = Certificate::new(rt.alloc())?;
+    assert!(rt; check(&certificate));
+    Ok(())
+}
+
+#[test]
+fn the_zero_certificate_is_accepted(rt: HostRuntime) -> Result<(), Fail> {
+    let mut certificate = Certificate::new(rt.alloc())?;
+    let bytes = filled(rt.alloc(), 0)?;
+    assert_eq!(rt; parse(&bytes, &mut certificate), Ok(()));
+    assert!(rt; check(&certificate));
+    Ok(())
+}
+
+#[test]
+fn another_cost_is_not_accepted(rt: HostRuntime) -> Result<(), Fail> {
+    let mut certificate = Certificate::new(rt.alloc())?;
+    let mut bytes = filled(rt.alloc(), 0)?;
+    bytes[249] = 1;
+    assert_eq!(rt; parse(&bytes, &mut certificate), Ok(()));
+    assert!(rt; !check(&certificate));
+    Ok(())
+}
+
+#[test]
+fn a_bound_that_rises_too_much_is_not_accepted(rt: HostRuntime) -> Result<(), Fail> {
+    let mut certificate = Certificate::new(rt.alloc())?;
+    let mut bytes = filled(rt.alloc(), 0)?;
+    // L(0, 40, 0) lies behind 39 rows of 64 entries
+    bytes[10_237] = 255;
+    bytes[10_238] = 255;
+    bytes[10_239] = 255;
+    bytes[10_240] = 255;
+    assert_eq!(rt; parse(&bytes, &mut certificate), Ok(()));
+    assert!(rt; !check(&certificate));
+    Ok(())
+}
+
+#[test]
+fn the_bytes_hold_values_and_word(rt: HostRuntime) -> Result<(), Fail> {
+    let bytes = filled(rt.alloc(), -1)?;
+    assert_eq!(rt; &bytes[..6], b"LTC1\xff\xff".as_slice());
+    assert_eq!(rt;
+        &bytes[244..253],
+        b"\x00\x00\x00\x00\x02\x00\x00\x00\x00".as_slice(),
+        "bit 38 alone, cost 0"
+    );
+    Ok(())
+}
+
+#[test]
+fn broken_forms_are_refused_at_their_place(rt: HostRuntime) -> Result<(), Fail> {
+    let mut certificate = Certificate::new(rt.alloc())?;
+    let mut bytes = filled(rt.alloc(), 0)?;
+    assert_eq!(rt;
+        parse(&bytes[..100], &mut certificate),
+        Err(BadCertificate { place: 100 })
+    );
+    assert_eq!(rt;
+        parse(&[0], &mut certificate),
+        Err(BadCertificate { place: 0 })
+    );
+    bytes[4] = 0xf1;
+    bytes[5] = 0x07;
+    assert_eq!(rt;
+        parse(&bytes, &mut certificate),
+        Err(BadCertificate { place: 4 })
+    );
+    Ok(())
+}
