@@ -26,7 +26,9 @@ fn values_from(first: i8) -> [[i32; 3]; 40]
     ensures { All (λ v. All (λ z. nat_abs z ≤ 2032) v) result }
 {
     let mut values = [three(0); 40];
-    values[0] = three(first);
+    for k in 0..40 {
+        values[k] = three(if k == 0 { first } else { 0 });
+    }
     values
 }
 
@@ -94,23 +96,43 @@ fn the_bytes_hold_values_and_word(rt: HostRuntime) -> Result<(), Fail> {
     Ok(())
 }
 
+/// The place that 100 bytes of a certificate are refused at.
+fn place_of_cut(bytes: &[u8], into: &mut Certificate) -> Option<u64>
+    requires { length bytes.now ≡ 655613 }
+{
+    place_of(parse(&bytes[..100], into))
+}
+
+/// The place of a refusal.
+fn place_of(answer: Result<(), BadCertificate>) -> Option<u64> {
+    match answer {
+        Ok(()) => None,
+        Err(bad) => Some(bad.place),
+    }
+}
+
 #[test]
-fn broken_forms_are_refused_at_their_place(rt: HostRuntime) -> Result<(), Fail> {
+fn an_early_end_is_refused_at_the_end(rt: HostRuntime) -> Result<(), Fail> {
+    let mut certificate = Certificate::new(rt.alloc())?;
+    let bytes = filled(rt.alloc(), 0)?;
+    assert_eq!(rt; place_of_cut(&bytes, &mut certificate), Some(100));
+    Ok(())
+}
+
+#[test]
+fn another_mark_is_refused_at_its_place(rt: HostRuntime) -> Result<(), Fail> {
+    let mut certificate = Certificate::new(rt.alloc())?;
+    assert_eq!(rt; place_of(parse(&[0], &mut certificate)), Some(0));
+    assert_eq!(rt; place_of(parse(b"LTD1", &mut certificate)), Some(2));
+    Ok(())
+}
+
+#[test]
+fn a_large_value_is_refused_at_its_first_byte(rt: HostRuntime) -> Result<(), Fail> {
     let mut certificate = Certificate::new(rt.alloc())?;
     let mut bytes = filled(rt.alloc(), 0)?;
-    assert_eq!(rt;
-        parse(&bytes[..100], &mut certificate),
-        Err(BadCertificate { place: 100 })
-    );
-    assert_eq!(rt;
-        parse(&[0], &mut certificate),
-        Err(BadCertificate { place: 0 })
-    );
     bytes[4] = 0xf1;
     bytes[5] = 0x07;
-    assert_eq!(rt;
-        parse(&bytes, &mut certificate),
-        Err(BadCertificate { place: 4 })
-    );
+    assert_eq!(rt; place_of(parse(&bytes, &mut certificate)), Some(4));
     Ok(())
 }
