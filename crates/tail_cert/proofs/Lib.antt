@@ -10,3 +10,5 @@ pub mod Bits
 pub mod Numbers
 pub mod Elements
 pub mod Breaks
+pub mod Codes
+pub mod Whole

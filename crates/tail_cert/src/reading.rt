@@ -1,9 +1,9 @@
 //! The bytes of a certificate, read.
 
-ghost use Rattle.std.specs.Prelude.{◌≡◌, ◌+◌, ◌*◌, ◌%◌, ◌^◌, ◌<◌, ◌≤◌, ◌↔◌, ℕ, All, IfSome, IfOk, IsErr, IsErrOf, IsNone, IsTrue, List, drop, length, nat_abs, take};
+ghost use Rattle.std.specs.Prelude.{◌≡◌, ◌+◌, ◌*◌, ◌%◌, ◌^◌, ◌<◌, ◌≤◌, ◌↔◌, ℕ, All, IfSome, IfOk, IsErr, IsErrOf, IsNone, IsOk, IsTrue, List, drop, length, nat_abs, take};
 ghost use Rattle.std.specs.List.{flat_map};
 ghost use Rattle.paths.specs.Words.{word_number};
-ghost use Rattle.tail_cert.specs.Certificate.{Counted, IsRow, IsTable, IsTriple, IsWhole};
+ghost use Rattle.tail_cert.specs.Certificate.{Counted, Held, IsRow, IsTable, IsTriple, IsWhole};
 ghost use Rattle.tail_cert.specs.Form.{Breaks, IsEarlyEnd, IsFirstBreak, IsLargeValue, IsOffMark, bytes_of, entry_bytes, place_bytes, row_bytes, table_bytes, value_at, value_bytes, word_bytes};
 
 use crate::Certificate;
@@ -187,6 +187,8 @@ pub fn parse(bytes: &[u8], into: &mut Certificate) -> Result<(), BadCertificate>
     ensures refused { (place : ℕ) →
         IsErrOf result (record { place = place }) ↔ IsFirstBreak bytes.now place }
     ensures unchanged { IsErr result → into.new ≡ into.old }
+    ensures same { (c : Held) → IsWhole c.values c.word c.cost c.tables → bytes.now ≡ bytes_of c →
+        IsOk result × (into.new ≡ c) }
 {
     match first_break(bytes) {
         Some(place) => Err(BadCertificate {
