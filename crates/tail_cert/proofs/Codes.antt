@@ -1,14 +1,13 @@
 -- Bytes tell what they stand for.
-use Rattle.std.proofs.Common.{◌≡◌, ℕ, suc, ◌+◌, ◌*◌, ◌-◌, ◌/◌, ◌%◌, ◌^◌, ◌<◌, ◌≤◌, Bool, false, List, [], ◌∷◌, ◌++◌, length, take, drop, get_or, ℤ, pos, negsuc, refl, sym, ap, ◌∙◌, arith}
+use Rattle.std.proofs.Common.{◌≡◌, ℕ, suc, ◌+◌, ◌*◌, ◌^◌, ◌<◌, ◌≤◌, Bool, false, List, [], ◌∷◌, ◌++◌, length, take, drop, ℤ, pos, negsuc, refl, sym, ap, ◌∙◌, arith}
 use Rattle.std.specs.Prelude.{All, nat_abs}
 use Rattle.std.specs.List.{flat_map}
 use Rattle.std.specs.Int.{w16, cast_unsigned, cast_signed}
 use Rattle.std.proofs.lemmas.Int.{to_z-of_z}
 use Rattle.std.proofs.lemmas.List.{length-append, take_at, drop_at, ext_get_or}
 use Rattle.byteorder.specs.Endian.{little_bytes, little_number, big_bytes, big_number}
-use Rattle.std.proofs.Math.Pow.{pow_mono}
 use Rattle.paths.specs.Words.{word_number}
-use Rattle.paths.proofs.Words.{number_below, word_bit, odd}
+use Rattle.paths.proofs.Words.{number_below, word_bit}
 use Rattle.tail_cert.specs.Certificate.{Counted, Held, IsRow, IsTable, IsTriple, IsWhole}
 use Rattle.tail_cert.specs.Form.{bytes_of, entry_bytes, mark, place_bytes, row_bytes, table_bytes, value_bytes, word_bytes}
 use Rattle.tail_cert.proofs.Values.{fits_16}

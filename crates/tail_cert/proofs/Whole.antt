@@ -1,10 +1,10 @@
 -- The bytes of a certificate do not break the form.
-use Rattle.std.proofs.Common.{◌≡◌, ℕ, zero, suc, ◌+◌, ◌*◌, ◌-◌, ◌/◌, ◌%◌, ◌^◌, ◌<◌, ◌≤◌, List, [], ◌∷◌, ◌++◌, length, drop, get_or, ℤ, pos, refl, sym, subst, ap, ◌∙◌, inl, inr, arith}
+use Rattle.std.proofs.Common.{◌≡◌, ℕ, zero, suc, ◌+◌, ◌*◌, ◌-◌, ◌/◌, ◌%◌, ◌<◌, ◌≤◌, List, [], ◌∷◌, ◌++◌, length, drop, get_or, ℤ, pos, refl, ◌∙◌, inl, inr, arith}
 use Rattle.std.specs.Prelude.{All, nat_abs}
 use Rattle.std.specs.List.{flat_map}
 use Rattle.std.proofs.lemmas.List.{length-append, get_or_append_left, get_or-append-add, get_or-drop}
-use Rattle.tail_cert.specs.Certificate.{Held, IsTriple, IsWhole}
-use Rattle.tail_cert.specs.Form.{Breaks, bytes_of, entry_bytes, mark, place_bytes, table_bytes, value_at, value_bytes, word_bytes}
+use Rattle.tail_cert.specs.Certificate.{Held, IsTriple}
+use Rattle.tail_cert.specs.Form.{bytes_of, entry_bytes, mark, place_bytes, table_bytes, value_at, value_bytes, word_bytes}
 use Rattle.tail_cert.proofs.Breaks.{IsUnbroken}
 use Rattle.tail_cert.proofs.Codes.{IsCode, IsWholeHeld, front_size, length-bytes_of, place_code, value_code, value_back}
 
