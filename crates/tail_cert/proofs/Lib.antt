@@ -1,0 +1,14 @@
+pub mod Sound
+pub mod Tables
+pub mod Accept
+pub mod Rows
+pub mod Places
+pub mod Zeros
+pub mod Pieces
+pub mod Values
+pub mod Bits
+pub mod Numbers
+pub mod Elements
+pub mod Breaks
+pub mod Codes
+pub mod Whole

@@ -1,0 +1,62 @@
+-- Numbers that were read from bytes have these bytes.
+use Rattle.std.proofs.Common.{◌≡◌, ℕ, ◌+◌, ◌*◌, ◌/◌, ◌%◌, ◌^◌, ◌<◌, ◌≤◌, List, [], ◌∷◌, length, take, drop, get_or, Fits, w8, refl, ap, ◌∙◌, arith}
+use Rattle.std.specs.Int.{w16, w32, cast_unsigned, cast_signed}
+use Rattle.std.proofs.Math.Facts.{sfits_to_z, sfits_widen}
+use Rattle.std.proofs.lemmas.Int.{of_z-to_z, to_z-of_z}
+use Rattle.std.proofs.lemmas.List.{get_or-drop}
+use Rattle.byteorder.specs.Endian.{little_bytes, little_number, big_bytes, big_number}
+
+pub rest_bytes : (bytes : List ℕ) (at : ℕ) → ((i : ℕ) → Fits w8 (get_or bytes i 0)) → (i : ℕ) → get_or (drop at bytes) i 0 < 256
+rest_bytes bytes at fits i = rw (get_or-drop at bytes i 0) (fits (at + i)).fits
+
+pub two_bytes : (xs : List ℕ) → 2 ≤ length xs → ((i : ℕ) → get_or xs i 0 < 256) → (little_bytes 2 (little_number 2 xs) ≡ take 2 xs) × (little_number 2 xs < 2 ^ 16)
+two_bytes [] l h = absurd (omega arith)
+two_bytes (a ∷ []) l h = absurd (omega arith)
+two_bytes (a ∷ b ∷ xs) l h =
+    let ha : a < 256 = h 0 in
+    let hb : b < 256 = h 1 in
+    let e0 : (a + 256 * (b + 256 * 0)) % 256 ≡ a = omega arith in
+    let e1 : (a + 256 * (b + 256 * 0)) / 256 % 256 ≡ b = omega arith in
+    (rw (e0, e1) refl, omega arith)
+
+pub four_bytes : (xs : List ℕ) → 4 ≤ length xs → ((i : ℕ) → get_or xs i 0 < 256) → little_bytes 4 (little_number 4 xs) ≡ take 4 xs
+four_bytes [] l h = absurd (omega arith)
+four_bytes (a ∷ []) l h = absurd (omega arith)
+four_bytes (a ∷ b ∷ []) l h = absurd (omega arith)
+four_bytes (a ∷ b ∷ c ∷ []) l h = absurd (omega arith)
+four_bytes (a ∷ b ∷ c ∷ d ∷ xs) l h =
+    let ha : a < 256 = h 0 in
+    let hb : b < 256 = h 1 in
+    let hc : c < 256 = h 2 in
+    let hd : d < 256 = h 3 in
+    let e0 : (a + 256 * (b + 256 * (c + 256 * (d + 256 * 0)))) % 256 ≡ a = omega arith in
+    let e1 : (a + 256 * (b + 256 * (c + 256 * (d + 256 * 0)))) / 256 % 256 ≡ b = omega arith in
+    let e2 : (a + 256 * (b + 256 * (c + 256 * (d + 256 * 0)))) / 65536 % 256 ≡ c = omega arith in
+    let e3 : (a + 256 * (b + 256 * (c + 256 * (d + 256 * 0)))) / 16777216 % 256 ≡ d = omega arith in
+    rw (e0, e1, e2, e3) refl
+
+pub five_bytes : (xs : List ℕ) → 5 ≤ length xs → ((i : ℕ) → get_or xs i 0 < 256) → (big_bytes 5 (big_number 5 xs) ≡ take 5 xs) × (big_number 5 xs < 2 ^ 40)
+five_bytes [] l h = absurd (omega arith)
+five_bytes (a ∷ []) l h = absurd (omega arith)
+five_bytes (a ∷ b ∷ []) l h = absurd (omega arith)
+five_bytes (a ∷ b ∷ c ∷ []) l h = absurd (omega arith)
+five_bytes (a ∷ b ∷ c ∷ d ∷ []) l h = absurd (omega arith)
+five_bytes (a ∷ b ∷ c ∷ d ∷ e ∷ xs) l h =
+    let ha : a < 256 = h 0 in
+    let hb : b < 256 = h 1 in
+    let hc : c < 256 = h 2 in
+    let hd : d < 256 = h 3 in
+    let he : e < 256 = h 4 in
+    let e0 : (a * 4294967296 + (b * 16777216 + (c * 65536 + (d * 256 + (e * 1 + 0))))) / 4294967296 % 256 ≡ a = omega arith in
+    let e1 : (a * 4294967296 + (b * 16777216 + (c * 65536 + (d * 256 + (e * 1 + 0))))) / 16777216 % 256 ≡ b = omega arith in
+    let e2 : (a * 4294967296 + (b * 16777216 + (c * 65536 + (d * 256 + (e * 1 + 0))))) / 65536 % 256 ≡ c = omega arith in
+    let e3 : (a * 4294967296 + (b * 16777216 + (c * 65536 + (d * 256 + (e * 1 + 0))))) / 256 % 256 ≡ d = omega arith in
+    let e4 : (a * 4294967296 + (b * 16777216 + (c * 65536 + (d * 256 + (e * 1 + 0))))) % 256 ≡ e = omega arith in
+    (rw (e0, e1, e2, e3, e4) refl, omega arith)
+
+-- a number of 16 bits, read as signed and made wider
+pub wide_value : (n : ℕ) → n < 2 ^ 16 → cast_signed w32 (cast_unsigned w32 (cast_signed w16 (cast_unsigned w16 (cast_signed w16 n)))) ≡ cast_signed w16 n
+wide_value n h =
+    let e : cast_signed w16 (cast_unsigned w16 (cast_signed w16 n)) ≡ cast_signed w16 n = ap (cast_signed w16) (of_z-to_z w16 n h) in
+    let fits : Fits w16 n = record { fits = h } in
+    ap (λ z. cast_signed w32 (cast_unsigned w32 z)) e ∙ to_z-of_z w32 (cast_signed w16 n) (sfits_widen tt (sfits_to_z fits))

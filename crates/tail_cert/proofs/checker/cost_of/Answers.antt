@@ -1,0 +1,20 @@
+use Rattle.std.proofs.Common.{◌≡◌, length, sym, arith}
+use Rattle.finite.proofs.Sums.{total_below_none, total_below_more}
+use Rattle.conv_code.specs.Cost.{place_cost, word_cost}
+use Rattle.tail_cert.proofs.Places.{coded_place}
+use Rattle.tail_cert.proofs.checker.cost_of.Goals as goal
+
+pub loop-k-init : goal.loop-k-init
+loop-k-init c = (sym (total_below_none (place_cost c.args.values.now c.args.word.now)), omega arith)
+
+pub loop-k-preserved : goal.loop-k-preserved
+loop-k-preserved c =
+    let place = coded_place c.args.values.now c.args.word.now c.encode-coded.result c.loop-k.k c.encode-coded.ensures (omega (arith, c.requires.bits)) in
+    let more = total_below_more c.loop-k.k (place_cost c.args.values.now c.args.word.now) in
+    (omega (arith, place, more, c.against-cost.ensures.cost), omega (arith, c.against-cost.ensures.bound))
+
+pub returns : goal.returns
+unfolding word_cost
+returns c =
+    let k : c.loop-k.k ≡ length c.args.values.now = omega (arith, c.told-values) in
+    rw (← k) c.loop-k.invariant.0

@@ -1,0 +1,4 @@
+pub mod Certificate
+pub mod Steps
+pub mod Forward
+pub mod Form

@@ -1,0 +1,145 @@
+//! The bytes of a certificate, written.
+
+ghost use Rattle.std.specs.Prelude.{◌≡◌, ◌+◌, ◌*◌, ◌^◌, ◌<◌, ◌≤◌, All, Bool, cond, length, nat_abs, pos, slice_index_or};
+ghost use Rattle.std.specs.List.{flat_map};
+ghost use Rattle.paths.specs.Words.{word_number};
+ghost use Rattle.tail_cert.specs.Certificate.{IsWhole};
+ghost use Rattle.tail_cert.specs.Form.{bytes_of, entry_bytes, mark, place_bytes, row_bytes, table_bytes, value_bytes, with_piece, word_bytes};
+
+use crate::Certificate;
+use byteorder::{BigEndian, ByteOrder, LittleEndian};
+use cs_bits::Bits;
+
+/// Writes the mark.
+fn put_mark(out: &mut [u8])
+    requires { 4 ≤ length out.old }
+    ensures { out.new ≡ with_piece 0 mark out.old }
+{
+    out[..4].copy_from_slice(b"LTC1");
+}
+
+/// Writes value t of a place.
+fn put_value(values: &[i32; 3], t: usize, at: usize, out: &mut [u8])
+    requires stream { t < 3 }
+    requires sizes { All (λ z. nat_abs z ≤ 2032) values.now }
+    requires room { at + 2 ≤ length out.old }
+    ensures bytes { out.new ≡ with_piece at (value_bytes (slice_index_or values.now t (pos 0))) out.old }
+    ensures count { length (value_bytes (slice_index_or values.now t (pos 0))) ≡ 2 }
+{
+    LittleEndian::write_i16(&mut out[at..], values[t] as i16);
+}
+
+/// Writes the values of a place.
+fn put_place(values: &[i32; 3], at: usize, out: &mut [u8])
+    requires sizes { All (λ z. nat_abs z ≤ 2032) values.now }
+    requires room { at + 6 ≤ length out.old }
+    ensures bytes { out.new ≡ with_piece at (place_bytes values.now) out.old }
+    ensures count { length (place_bytes values.now) ≡ 6 }
+{
+    for t in 0..3 {
+        put_value(values, t, at + 2 * t, out);
+    }
+}
+
+/// Writes the values of all places.
+fn put_values(values: &[[i32; 3]; 40], at: usize, out: &mut [u8])
+    requires sizes { All (λ v. All (λ z. nat_abs z ≤ 2032) v) values.now }
+    requires room { at + 240 ≤ length out.old }
+    ensures bytes { out.new ≡ with_piece at (flat_map place_bytes values.now) out.old }
+    ensures count { length (flat_map place_bytes values.now) ≡ 240 }
+{
+    for k in 0..40 {
+        put_place(&values[k], at + 6 * k, out);
+    }
+}
+
+/// Writes an entry at a place.
+fn put_entry(entry: u32, at: usize, out: &mut [u8])
+    requires { at + 4 ≤ length out.old }
+    ensures bytes { out.new ≡ with_piece at (entry_bytes entry) out.old }
+    ensures count { length (entry_bytes entry) ≡ 4 }
+{
+    LittleEndian::write_u32(&mut out[at..], entry);
+}
+
+/// Writes the entries of a step.
+fn put_row(row: &[u32; 64], at: usize, out: &mut [u8])
+    requires { at + 256 ≤ length out.old }
+    ensures bytes { out.new ≡ with_piece at (row_bytes row.now) out.old }
+    ensures count { length (row_bytes row.now) ≡ 256 }
+{
+    for x in 0..64 {
+        put_entry(row[x], at + 4 * x, out);
+    }
+}
+
+/// Writes the entries of a start state.
+fn put_table(table: &[[u32; 64]; 40], at: usize, out: &mut [u8])
+    requires { at + 10240 ≤ length out.old }
+    ensures bytes { out.new ≡ with_piece at (table_bytes table.now) out.old }
+    ensures count { length (table_bytes table.now) ≡ 10240 }
+{
+    for i in 0..40 {
+        put_row(&table[i], at + 256 * i, out);
+    }
+}
+
+/// Writes the entries of all start states.
+fn put_tables(tables: &[[[u32; 64]; 40]], at: usize, out: &mut [u8])
+    requires starts { length tables.now ≡ 64 }
+    requires room { at + 655360 ≤ length out.old }
+    ensures bytes { out.new ≡ with_piece at (flat_map table_bytes tables.now) out.old }
+    ensures count { length (flat_map table_bytes tables.now) ≡ 655360 }
+{
+    for s in 0..64 {
+        put_table(&tables[s], at + 10240 * s, out);
+    }
+}
+
+/// The number with a bit of this weight.
+fn with_bit(number: u64, bit: bool, weight: u64) -> u64
+    requires number { number < 2 ^ 40 }
+    requires weight { weight ≤ 2 ^ 40 }
+    ensures { result ≡ cond bit weight 0 + number }
+{
+    if bit { weight + number } else { number }
+}
+
+/// The number of a word: bit 0 is the heaviest.
+fn number_of(word: &[bool]) -> u64
+    requires { length word.now ≡ 40 }
+    ensures number { result ≡ word_number word.now }
+    ensures fits { result < 2 ^ 40 }
+{
+    let mut number: u64 = 0;
+    let mut weight: u64 = 1;
+    let mut k = word.len();
+    while k > 0 {
+        k -= 1;
+        number = with_bit(number, word[k], weight);
+        weight *= 2;
+    }
+    number
+}
+
+/// Writes the bits of a word at a place.
+fn put_word(word: &Bits<40>, at: usize, out: &mut [u8])
+    requires { at + 5 ≤ length out.old }
+    ensures bytes { out.new ≡ with_piece at (word_bytes word.now) out.old }
+    ensures count { length (word_bytes word.now) ≡ 5 }
+{
+    BigEndian::write_uint(&mut out[at..], number_of(word.slice()), 5);
+}
+
+/// Writes the 655,613 bytes of a certificate.
+pub fn to_bytes(certificate: &Certificate, out: &mut [u8])
+    requires { length out.old ≡ 655613 }
+    ensures bytes { out.new ≡ bytes_of certificate.now }
+    ensures whole { IsWhole certificate.now.values certificate.now.word certificate.now.cost certificate.now.tables }
+{
+    put_mark(out);
+    put_values(&certificate.values, 4, out);
+    put_word(&certificate.word, 244, out);
+    put_entry(certificate.cost, 249, out);
+    put_tables(&certificate.tables, 253, out);
+}
