@@ -1,4 +1,8 @@
-use crate::{CellId, Sfn};
+use crate::{
+    Bandwidth, CellId, Cfi, Duration, Mib, Mnc, Plmn, Plmns, Resource, Schedule, Sfn, SiMessage,
+    Sib1, Sibs,
+};
+use std::process::Abort;
 
 #[test]
 fn identities_end_at_503(rt: HostRuntime) {
@@ -11,4 +15,102 @@ fn identities_end_at_503(rt: HostRuntime) {
 fn frame_numbers_end_at_1023(rt: HostRuntime) {
     assert!(rt; Sfn::new(1024).is_none());
     assert_eq!(rt; Sfn::new(1023).expect(&rt, "in range").value(), 1023);
+}
+
+#[test]
+fn control_formats_are_1_to_3(rt: HostRuntime) {
+    assert!(rt; Cfi::new(0).is_none());
+    assert!(rt; Cfi::new(4).is_none());
+    assert_eq!(rt; Cfi::new(3).expect(&rt, "in range").value(), 3);
+}
+
+#[test]
+fn spare_bits_end_at_1023(rt: HostRuntime) {
+    let width = Bandwidth::N75;
+    assert!(rt; Mib::new(width, Duration::Extended, Resource::Two, 7, 1024).is_none());
+    let mib = Mib::new(width, Duration::Extended, Resource::Two, 7, 1023).expect(&rt, "in range");
+    assert_eq!(rt;
+        (mib.bandwidth, mib.upper, mib.spare),
+        (Bandwidth::N75, 7, 1023)
+    );
+    assert_eq!(rt;
+        (mib.duration, mib.resource),
+        (Duration::Extended, Resource::Two)
+    );
+}
+
+#[test]
+fn lists_take_so_many_items(rt: HostRuntime) {
+    let mut sibs = Sibs::new();
+    for code in 0..31_u8 {
+        assert!(rt; sibs.push(code));
+    }
+    assert!(rt; !sibs.push(31));
+    assert_eq!(rt; sibs.slice().last(), Some(&30));
+    let mut plmns = Plmns::new();
+    for digit in 0..6_u8 {
+        assert!(rt; plmns.push(network(None, digit)));
+    }
+    assert!(rt; !plmns.push(network(None, 6)));
+    let mut schedule = Schedule::new();
+    for period in 0..32_u8 {
+        assert!(rt; schedule.push(message(period)));
+    }
+    assert!(rt; !schedule.push(message(32)));
+    assert_eq!(rt; schedule.slice().len(), 32);
+}
+
+fn network(mcc: Option<[u8; 3]>, digit: u8) -> Plmn {
+    Plmn {
+        mcc,
+        mnc: Mnc::Two([0, digit]),
+        reserved: false,
+    }
+}
+
+fn message(period: u8) -> SiMessage {
+    SiMessage {
+        period,
+        sibs: Sibs::new(),
+    }
+}
+
+fn information(rt: &impl Abort, mcc: Option<[u8; 3]>, digit: u8, period: u8) -> Sib1 {
+    let mut plmns = Plmns::new();
+    assert!(rt; plmns.push(network(mcc, digit)));
+    let mut scheduling = Schedule::new();
+    assert!(rt; scheduling.push(message(period)));
+    Sib1 {
+        plmns,
+        tac: 65535,
+        cell: 268_435_455,
+        barred: false,
+        intra: true,
+        csg: false,
+        csg_identity: Some(134_217_727),
+        q_rx: -70,
+        q_offset: Some(8),
+        p_max: Some(33),
+        band: 64,
+        scheduling,
+        tdd: Some((6, 8)),
+        window: 6,
+        tag: 31,
+        extended: false,
+    }
+}
+
+#[test]
+fn fields_reach_to_the_ends_of_their_ranges(rt: HostRuntime) {
+    let mcc = Some([2, 6, 2]);
+    assert!(rt; information(&rt, mcc, 9, 6).valid());
+    assert!(rt; !information(&rt, None, 9, 6).valid(), "no country code");
+    assert!(rt; !information(&rt, mcc, 10, 6).valid(), "no digit");
+    assert!(rt; !information(&rt, mcc, 9, 7).valid(), "no period");
+    let mut far = information(&rt, mcc, 9, 6);
+    far.q_rx = -71;
+    assert!(rt; !far.valid());
+    let mut wide = information(&rt, mcc, 9, 6);
+    wide.cell = 268_435_456;
+    assert!(rt; !wide.valid());
 }

@@ -1,0 +1,14 @@
+-- The fields of a master information block (TS 36.331 section 6.2.2).
+use Rattle.std.specs.Prelude.{◌≡◌, ℕ}
+use Rattle.lte_types.specs.declared.bandwidth.Bandwidth.{Bandwidth}
+use Rattle.lte_types.specs.declared.duration.Duration.{Duration}
+use Rattle.lte_types.specs.declared.resource.Resource.{Resource}
+use Rattle.lte_types.specs.declared.mib.Mib.{Mib}
+
+-- the block has these fields
+pub record HasFields (mib : Mib) (width : Bandwidth) (length : Duration) (share : Resource) (frame bits : ℕ) : Type 0 where
+  pub bandwidth : mib.bandwidth ≡ width
+  pub duration : mib.duration ≡ length
+  pub resource : mib.resource ≡ share
+  pub upper : mib.upper ≡ frame
+  pub spare : mib.spare ≡ bits

@@ -1,0 +1,49 @@
+//! The master information block.
+
+ghost use Rattle.std.specs.Prelude.{◌≡◌, ◌≤◌, IsSome, IfSome, ◌↔◌};
+
+use crate::{Bandwidth, Duration, Resource};
+
+/// A master information block (TS 36.331 section 6.2.2).
+#[derive(Clone, Copy, Debug, PartialEq, Eq)]
+pub struct Mib {
+    /// dl-Bandwidth.
+    pub bandwidth: Bandwidth,
+    /// phich-Duration.
+    pub duration: Duration,
+    /// phich-Resource.
+    pub resource: Resource,
+    /// The upper 8 bits of the frame number.
+    pub upper: u8,
+    /// The 10 spare bits, 0 to 1023.
+    pub spare: u16,
+    ghost spare_range: { spare ≤ 1023 },
+}
+
+impl Mib {
+    ghost use Rattle.lte_types.specs.Block.{HasFields};
+
+    /// The block with these fields; `None` exactly where `spare` is above 1023.
+    pub fn new(
+        bandwidth: Bandwidth,
+        duration: Duration,
+        resource: Resource,
+        upper: u8,
+        spare: u16,
+    ) -> Option<Mib>
+        ensures valid { IsSome result ↔ (spare ≤ 1023) }
+        ensures fields { IfSome result (λ mib. HasFields mib bandwidth duration resource upper spare) }
+    {
+        if spare <= 1023 {
+            Some(Mib {
+                bandwidth,
+                duration,
+                resource,
+                upper,
+                spare,
+            })
+        } else {
+            None
+        }
+    }
+}

@@ -1,0 +1,47 @@
+//! Lists of network identities.
+
+ghost use Rattle.std.specs.Prelude.{◌≡◌, List, [], ◌∷◌, ◌++◌, ◌<◌, ◌≤◌, ◌↔◌, IsTrue, length, if◌then◌else◌};
+ghost use Rattle.lte_types.specs.declared.plmn.Plmn.{Plmn as PlmnValue};
+
+use crate::Plmn;
+use arrayvec::ArrayVec;
+use std::marker::Model;
+
+/// At most 6 network identities (TS 36.331 section 6.2.2). Contracts see it as the list of them.
+#[derive(Debug, Drop)]
+pub struct Plmns {
+    items: ArrayVec<Plmn, 6>,
+}
+
+impl Model for Plmns {
+    ghost Value = { List PlmnValue };
+
+    ghost view = { λ list. list.items.items };
+}
+
+impl Plmns {
+    /// The empty list.
+    pub fn new() -> Plmns
+        ensures { result ≡ [] }
+    {
+        Plmns {
+            items: ArrayVec::new(),
+        }
+    }
+
+    /// Appends the item; false exactly where the list is full, which is then unchanged.
+    pub fn push(&mut self, item: Plmn) -> bool
+        ensures room { IsTrue result ↔ (length self.old < 6) }
+        ensures items { self.new ≡ (if result then self.old ++ item ∷ [] else self.old) }
+    {
+        self.items.try_push(item).is_ok()
+    }
+
+    /// The items.
+    pub fn slice(&self) -> &[Plmn]
+        ensures items { result.now ≡ self.now }
+        ensures count { length self.now ≤ 6 }
+    {
+        self.items.as_slice()
+    }
+}

@@ -1,0 +1,47 @@
+//! The schedule of system information messages.
+
+ghost use Rattle.std.specs.Prelude.{◌≡◌, List, [], ◌∷◌, ◌++◌, ◌<◌, ◌≤◌, ◌↔◌, IsTrue, length, if◌then◌else◌};
+ghost use Rattle.lte_types.specs.declared.si_message.SiMessage.{SiMessage as Message};
+
+use crate::SiMessage;
+use arrayvec::ArrayVec;
+use std::marker::Model;
+
+/// At most 32 entries of schedulingInfoList (TS 36.331 section 6.2.2). Contracts see it as the list of them.
+#[derive(Debug, Drop)]
+pub struct Schedule {
+    items: ArrayVec<SiMessage, 32>,
+}
+
+impl Model for Schedule {
+    ghost Value = { List Message };
+
+    ghost view = { λ list. list.items.items };
+}
+
+impl Schedule {
+    /// The empty list.
+    pub fn new() -> Schedule
+        ensures { result ≡ [] }
+    {
+        Schedule {
+            items: ArrayVec::new(),
+        }
+    }
+
+    /// Appends the item; false exactly where the list is full, which is then unchanged.
+    pub fn push(&mut self, item: SiMessage) -> bool
+        ensures room { IsTrue result ↔ (length self.old < 32) }
+        ensures items { self.new ≡ (if result then self.old ++ item ∷ [] else self.old) }
+    {
+        self.items.try_push(item).is_ok()
+    }
+
+    /// The items.
+    pub fn slice(&self) -> &[SiMessage]
+        ensures items { result.now ≡ self.now }
+        ensures count { length self.now ≤ 32 }
+    {
+        self.items.as_slice()
+    }
+}

@@ -1,0 +1,45 @@
+//! Lists of system information blocks.
+
+ghost use Rattle.std.specs.Prelude.{◌≡◌, ℕ, List, [], ◌∷◌, ◌++◌, ◌<◌, ◌≤◌, ◌↔◌, IsTrue, length, if◌then◌else◌};
+
+use arrayvec::ArrayVec;
+use std::marker::Model;
+
+/// The codes of at most 31 system information blocks (TS 36.331 section 6.2.2). Contracts see it as the list of them.
+#[derive(Debug, Drop)]
+pub struct Sibs {
+    items: ArrayVec<u8, 31>,
+}
+
+impl Model for Sibs {
+    ghost Value = { List ℕ };
+
+    ghost view = { λ list. list.items.items };
+}
+
+impl Sibs {
+    /// The empty list.
+    pub fn new() -> Sibs
+        ensures { result ≡ [] }
+    {
+        Sibs {
+            items: ArrayVec::new(),
+        }
+    }
+
+    /// Appends the item; false exactly where the list is full, which is then unchanged.
+    pub fn push(&mut self, item: u8) -> bool
+        ensures room { IsTrue result ↔ (length self.old < 31) }
+        ensures items { self.new ≡ (if result then self.old ++ item ∷ [] else self.old) }
+    {
+        self.items.try_push(item).is_ok()
+    }
+
+    /// The items.
+    pub fn slice(&self) -> &[u8]
+        ensures items { result.now ≡ self.now }
+        ensures count { length self.now ≤ 31 }
+    {
+        self.items.as_slice()
+    }
+}

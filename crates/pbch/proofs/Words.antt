@@ -1,0 +1,72 @@
+-- The least word is one, and so is the master block that values tell.
+use Rattle.std.proofs.Common.{◌≡◌, ℕ, ◌≤◌, ◌⊎◌, inl, inr, Bool, true, false, List, [], ◌∷◌, length, ℤ, refl, arith, sym, ap, subst, ◌∙◌, bit_xor}
+use Rattle.std.specs.Int.Bits.{xor_assoc, xor_self, xor_zero_l}
+use Rattle.std.proofs.lemmas.Bool.Decides.{nat_tests}
+use Rattle.paths.specs.Words.{IsBefore}
+use Rattle.conv_code.specs.Cost.{word_cost}
+use Rattle.tailbite.specs.LeastWord.{IsLeastWord}
+use Rattle.cs_bits.specs.Polynomial.{crc16_of}
+use Rattle.pbch.specs.Master.{mask, field, block, bandwidth, duration, resource, PassesWith, Tells}
+use Rattle.pbch.specs.Laws.{IsOneWord, IsOneMaster}
+
+-- of two words of one length that are not the same, one stands before the other
+either_before : (u w : List Bool) → length u ≡ length w → (u ≡ w) ⊎ (IsBefore u w ⊎ IsBefore w u)
+either_before [] [] size = inl refl
+either_before [] (x ∷ w) size = absurd (omega (arith, size))
+either_before (x ∷ u) [] size = absurd (omega (arith, size))
+either_before (false ∷ u) (true ∷ w) size = inr (inl tt)
+either_before (true ∷ u) (false ∷ w) size = inr (inr tt)
+either_before (false ∷ u) (false ∷ w) size = elim (either_before u w (omega (arith, size))) [
+  | inl same ↦ inl (ap (λ v. false ∷ v) same)
+  | inr other ↦ inr other
+]
+either_before (true ∷ u) (true ∷ w) size = elim (either_before u w (omega (arith, size))) [
+  | inl same ↦ inl (ap (λ v. true ∷ v) same)
+  | inr other ↦ inr other
+]
+
+pub one_word : IsOneWord
+one_word values u w hu hw =
+    elim (either_before u w (hu.size ∙ sym hw.size)) [
+      | inl same ↦ same
+      | inr other ↦ elim other [
+        | inl before ↦ absurd (let less = hw.first u hu.size before in let least = hu.least w hw.size in omega (arith, less, least))
+        | inr before ↦ absurd (let less = hu.first w hw.size before in let least = hw.least u hu.size in omega (arith, less, least))
+      ]
+    ]
+
+-- values tell no word where the least one has no mask, or has another width
+pub none_by : (values : List (List ℤ)) (w : List Bool) → IsLeastWord values w →
+    ((ports : ℕ) → PassesWith ports w → field w 0 3 ≤ 5 → ⊥) →
+    (word : List Bool) (ports : ℕ) → Tells values word ports → ⊥
+none_by values w least refused word ports tells =
+    let same : word ≡ w = one_word values word w tells.least least in
+    refused ports (subst (PassesWith ports) same tells.check) (subst (λ v. field v 0 3 ≤ 5) same tells.width)
+
+-- a mask twice is none
+unmasked : (r m : ℕ) → bit_xor r (bit_xor r m) ≡ m
+unmasked r m = sym (xor_assoc r r m) ∙ ap (λ n. bit_xor n m) (xor_self r) ∙ xor_zero_l m
+
+same_mask : (r p q : ℕ) → bit_xor r (mask p) ≡ bit_xor r (mask q) → mask p ≡ mask q
+same_mask r p q e = sym (unmasked r (mask p)) ∙ ap (bit_xor r) e ∙ unmasked r (mask q)
+
+-- each count of ports has a mask of its own
+same_ports : (p q : ℕ) → (p ≡ 1) ⊎ (p ≡ 2) ⊎ (p ≡ 4) → (q ≡ 1) ⊎ (q ≡ 2) ⊎ (q ≡ 4) → mask p ≡ mask q → p ≡ q
+same_ports p q hp hq e = grind (arith, nat_tests, hp, hq, e)
+
+pub one_master : IsOneMaster
+one_master values a b ha hb =
+    let same : ha.word ≡ hb.word = one_word values ha.word hb.word ha.tells.least hb.tells.least in
+    let fa = ha.mib in
+    let fb = hb.mib in
+    let checks : bit_xor (crc16_of (block ha.word)) (mask a.ports) ≡ bit_xor (crc16_of (block ha.word)) (mask b.ports) =
+    sym ha.tells.check.check ∙ ap (λ w. field w 24 40) same ∙ hb.tells.check.check ∙ ap (λ w. bit_xor (crc16_of (block w)) (mask b.ports)) (sym same) in
+    record {
+      ports = same_ports a.ports b.ports ha.tells.check.count hb.tells.check.count (same_mask _ a.ports b.ports checks);
+      cost = ha.cost ∙ ap (word_cost values) same ∙ sym hb.cost;
+      bandwidth = fa.bandwidth ∙ ap (λ w. bandwidth (field w 0 3)) same ∙ sym fb.bandwidth;
+      duration = fa.duration ∙ ap (λ w. duration (field w 3 4)) same ∙ sym fb.duration;
+      resource = fa.resource ∙ ap (λ w. resource (field w 4 6)) same ∙ sym fb.resource;
+      upper = fa.upper ∙ ap (λ w. field w 6 14) same ∙ sym fb.upper;
+      spare = fa.spare ∙ ap (λ w. field w 14 24) same ∙ sym fb.spare;
+    }

@@ -1,0 +1,23 @@
+-- Laws of the master blocks.
+use Rattle.std.specs.Prelude.{◌≡◌, List, Bool, ℤ}
+use Rattle.tailbite.specs.LeastWord.{IsLeastWord}
+use Rattle.pbch.specs.declared.master.Master.{Master}
+use Rattle.pbch.specs.Master.{TellsMaster}
+
+-- there is only one least word
+abbrev pub IsOneWord : Type 0
+IsOneWord = (values : List (List ℤ)) (u w : List Bool) → IsLeastWord values u → IsLeastWord values w → u ≡ w
+
+-- two masters have the same ports, the same cost and the same fields
+pub record IsSame (a b : Master) : Type 0 where
+  pub ports : a.ports ≡ b.ports
+  pub cost : a.cost ≡ b.cost
+  pub bandwidth : a.mib.bandwidth ≡ b.mib.bandwidth
+  pub duration : a.mib.duration ≡ b.mib.duration
+  pub resource : a.mib.resource ≡ b.mib.resource
+  pub upper : a.mib.upper ≡ b.mib.upper
+  pub spare : a.mib.spare ≡ b.mib.spare
+
+-- values tell at most one master
+abbrev pub IsOneMaster : Type 0
+IsOneMaster = (values : List (List ℤ)) (a b : Master) → TellsMaster values a → TellsMaster values b → IsSame a b

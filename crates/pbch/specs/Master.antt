@@ -1,0 +1,79 @@
+-- The master block that a slot tells (TS 36.212 section 5.3.1, TS 36.331 section 6.2.2).
+use Rattle.std.specs.Prelude.{ℕ, ◌*◌, ◌<◌, ◌≤◌, ◌≡◌, ◌⊎◌, nat_eq, if◌then◌else◌, Bool, List, [], ◌∷◌, slice_range, slice_index_or, ℤ, nat_abs, bit_xor}
+use Rattle.finite.specs.Sums.{total_below}
+use Rattle.cs_bits.specs.Polynomial.{number, crc16_of}
+use Rattle.conv_code.specs.Reading.{sum_at}
+use Rattle.conv_code.specs.Cost.{word_cost}
+use Rattle.tailbite.specs.LeastWord.{IsLeastWord}
+use Rattle.soft_bits.specs.Soft.{SeenSlot}
+use Rattle.lte_types.specs.declared.bandwidth.Bandwidth.{Bandwidth}
+use Rattle.lte_types.specs.declared.bandwidth.Bandwidth.TheVariants.{N6, N15, N25, N50, N75, N100}
+use Rattle.lte_types.specs.declared.duration.Duration.{Duration}
+use Rattle.lte_types.specs.declared.duration.Duration.TheVariants.{Normal, Extended}
+use Rattle.lte_types.specs.declared.resource.Resource.{Resource}
+use Rattle.lte_types.specs.declared.resource.Resource.TheVariants.{OneSixth, Half, One, Two}
+use Rattle.lte_types.specs.declared.mib.Mib.{Mib}
+use Rattle.lte_types.specs.Block.{HasFields}
+use Rattle.pbch.specs.declared.master.Master.{Master}
+use Rattle.pbch.specs.Values.{coded_values}
+
+-- the sum of the sizes of all values
+unfoldable pub total : List (List ℤ) → ℕ
+total values = total_below 40 (λ k. total_below 3 (λ t. nat_abs (sum_at values k t)))
+
+-- the number of the bits from the first to before the end, the highest first
+abbrev pub field : List Bool → ℕ → ℕ → ℕ
+field bits first end = number (slice_range bits first end)
+
+-- the 24 bits of the block, before their check
+abbrev pub block : List Bool → List Bool
+block word = slice_range word 0 24
+
+-- the mask on the check bits, by the count of antenna ports
+abbrev pub mask : ℕ → ℕ
+mask ports = if nat_eq ports 1 then 0 else (if nat_eq ports 2 then 0xffff else 0x5555)
+
+-- the check of a word passes with the mask of so many antenna ports: 1, 2 or 4
+pub record PassesWith (ports : ℕ) (word : List Bool) : Type 0 where
+  pub count : (ports ≡ 1) ⊎ (ports ≡ 2) ⊎ (ports ≡ 4)
+  pub check : field word 24 40 ≡ bit_xor (crc16_of (block word)) (mask ports)
+
+-- dl-Bandwidth by its code, which is at most 5
+abbrev pub bandwidth : ℕ → Bandwidth
+bandwidth code = slice_index_or (N6 ∷ N15 ∷ N25 ∷ N50 ∷ N75 ∷ N100 ∷ []) code N6
+
+-- phich-Duration
+abbrev pub duration : ℕ → Duration
+duration code = slice_index_or (Normal ∷ Extended ∷ []) code Normal
+
+-- phich-Resource
+abbrev pub resource : ℕ → Resource
+resource code = slice_index_or (OneSixth ∷ Half ∷ One ∷ Two ∷ []) code OneSixth
+
+-- the block of a word has these fields
+abbrev pub Carries : List Bool → Mib → Type 0
+Carries word mib =
+    HasFields mib (bandwidth (field word 0 3)) (duration (field word 3 4)) (resource (field word 4 6)) (field word 6 14) (field word 14 24)
+
+-- these values tell this word, as one of so many antenna ports
+pub record Tells (values : List (List ℤ)) (word : List Bool) (ports : ℕ) : Type 0 where
+  pub least : IsLeastWord values word
+  pub heard : 0 < total values
+  pub clear : 4 * word_cost values word ≤ total values
+  pub check : PassesWith ports word
+  pub width : field word 0 3 ≤ 5
+
+-- these values tell this master
+pub record TellsMaster (values : List (List ℤ)) (master : Master) : Type 0 where
+  pub word : List Bool
+  pub tells : Tells values word master.ports
+  pub mib : Carries word master.mib
+  pub cost : master.cost ≡ word_cost values word
+
+-- the slot has this master at the phase
+abbrev pub IsMaster : SeenSlot → ℕ → Master → Type 0
+IsMaster slot phase master = TellsMaster (coded_values slot phase) master
+
+-- the slot has no master at the phase: its values tell no word
+abbrev pub HasNoMaster : SeenSlot → ℕ → Type 0
+HasNoMaster slot phase = (word : List Bool) (ports : ℕ) → Tells (coded_values slot phase) word ports → ⊥

@@ -1,0 +1,113 @@
+//! The fields of a word of 40 bits.
+
+ghost use Rattle.std.specs.Prelude.{◌≡◌, ℕ, ◌<◌, ◌≤◌, ◌^◌, ◌-◌, length, slice_range, bit_xor, MatchOption, nat_eq, cond};
+ghost use Rattle.cs_bits.specs.Polynomial.{number};
+ghost use Rattle.pbch.specs.Master.{field, PassesWith, Carries, bandwidth, duration, resource};
+
+use cs_bits::{Bits, crc16};
+use lte_types::{Bandwidth, Duration, Mib, Resource};
+
+// The masks on the check bits (TS 36.212 section 5.3.1.1).
+const ONE_PORT: u16 = 0x0000;
+
+const TWO_PORTS: u16 = 0xffff;
+
+const FOUR_PORTS: u16 = 0x5555;
+
+// 1 for a bit that is set.
+fn weight(bit: bool) -> u16
+    ensures { result ≡ cond bit 1 0 }
+{
+    if bit { 1 } else { 0 }
+}
+
+// The number of the bits, the highest first.
+fn number_of(bits: &[bool]) -> u16
+    requires { length bits.now ≤ 16 }
+    ensures value { result ≡ number bits.now }
+    ensures bound { result < 2 ^ length bits.now }
+{
+    let mut number: u16 = 0;
+    for bit in bits {
+        number = 2 * number + weight(*bit);
+    }
+    number
+}
+
+// The number of the bits of a word from the first to before the end.
+fn field_of(word: &Bits<40>, first: usize, end: usize) -> u16
+    requires order { first ≤ end }
+    requires inside { end ≤ 40 }
+    requires few { end - first ≤ 16 }
+    ensures value { result ≡ field word.now first end }
+    ensures bound { result < 2 ^ (end - first) }
+{
+    number_of(&word.slice()[first..end])
+}
+
+/// The count of antenna ports with whose mask the check of a word passes.
+pub(crate) fn ports_of(word: &Bits<40>) -> Option<u8>
+    ensures { MatchOption result ((ports : ℕ) → PassesWith ports word.now → ⊥) (λ ports. PassesWith ports word.now) }
+{
+    let check = field_of(word, 24, 40);
+    let remainder = crc16(&word.slice()[..24]);
+    if check == remainder ^ ONE_PORT {
+        Some(1)
+    } else if check == remainder ^ TWO_PORTS {
+        Some(2)
+    } else if check == remainder ^ FOUR_PORTS {
+        Some(4)
+    } else {
+        None
+    }
+}
+
+fn bandwidth_of(code: u16) -> Option<Bandwidth>
+    ensures { MatchOption result (5 < code) (λ width. (code ≤ 5) × (width ≡ bandwidth code)) }
+{
+    match code {
+        0 => Some(Bandwidth::N6),
+        1 => Some(Bandwidth::N15),
+        2 => Some(Bandwidth::N25),
+        3 => Some(Bandwidth::N50),
+        4 => Some(Bandwidth::N75),
+        5 => Some(Bandwidth::N100),
+        _ => None,
+    }
+}
+
+fn duration_of(code: u16) -> Duration
+    requires { code < 2 }
+    ensures { result ≡ duration code }
+{
+    if code == 0 {
+        Duration::Normal
+    } else {
+        Duration::Extended
+    }
+}
+
+fn resource_of(code: u16) -> Resource
+    requires { code < 4 }
+    ensures { result ≡ resource code }
+{
+    match code {
+        0 => Resource::OneSixth,
+        1 => Resource::Half,
+        2 => Resource::One,
+        _ => Resource::Two,
+    }
+}
+
+/// The master block of a word; `None` exactly where the code of its bandwidth is above 5.
+pub(crate) fn mib_of(word: &Bits<40>) -> Option<Mib>
+    ensures { MatchOption result (5 < field word.now 0 3) (λ mib. (field word.now 0 3 ≤ 5) × Carries word.now mib) }
+{
+    Mib::new(
+        bandwidth_of(field_of(word, 0, 3))?,
+        duration_of(field_of(word, 3, 4)),
+        resource_of(field_of(word, 4, 6)),
+        field_of(word, 6, 14) as u8,
+        field_of(word, 14, 24),
+    )
+}

@@ -1,0 +1,53 @@
+//! The master block of a slot.
+
+ghost use Rattle.std.specs.Prelude.{◌≡◌, ℕ, ◌*◌, ◌^◌, ◌<◌, ◌≤◌, All, nat_abs, length, slice_index_or, pos, MatchOption};
+ghost use Rattle.finite.specs.Sums.{total_below};
+ghost use Rattle.pbch.specs.Master.{total, IsMaster, HasNoMaster};
+
+use crate::Master;
+use crate::block::{mib_of, ports_of};
+use crate::broadcast::values;
+use soft_bits::Slot;
+use tailbite::{Trellis, least};
+
+/// The master block that a slot tells at a phase (TS 36.212 section 5.3.1, TS 36.331 section 6.2.2);
+/// `None` exactly where it tells none: its values are all 0, or more than a quarter of them by size
+/// speaks against the least word, or that word's check passes with no mask, or the code of its
+/// bandwidth is above 5. `slot` is slot 1 of its frame, and `phase`, 0 to 3, the frame's number
+/// modulo 4.
+pub fn explain_slot(slot: &Slot, phase: u8, work: &mut Trellis) -> Option<Master>
+    requires number { slot.now.number ≡ 1 }
+    requires phase { phase < 4 }
+    ensures { MatchOption result (HasNoMaster slot.now phase) (IsMaster slot.now phase) }
+{
+    let values = values(slot, phase);
+    let (word, cost) = least(&values, work);
+    let total = total_of(&values);
+    if total == 0 || 4 * cost as u64 > total as u64 {
+        return None;
+    }
+    let ports = ports_of(&word)?;
+    let mib = mib_of(&word)?;
+    Some(Master { ports, mib, cost })
+}
+
+// The sum of the sizes of the three values of a place.
+fn size_of(place: &[i32; 3]) -> u32
+    requires { All (λ sum. nat_abs sum ≤ 508) place.now }
+    ensures value { result ≡ total_below 3 (λ t. nat_abs (slice_index_or place.now t (pos 0))) }
+    ensures bound { result ≤ 3 * 508 }
+{
+    place[0].unsigned_abs() + place[1].unsigned_abs() + place[2].unsigned_abs()
+}
+
+// The sum of the sizes of all values.
+fn total_of(values: &[[i32; 3]; 40]) -> u32
+    requires { All (λ place. All (λ sum. nat_abs sum ≤ 508) place) values.now }
+    ensures { result ≡ total values.now }
+{
+    let mut total = 0;
+    for place in values {
+        total += size_of(place);
+    }
+    total
+}
