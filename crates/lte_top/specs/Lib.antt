@@ -1,3 +1,5 @@
-pub mod Forms
 pub mod Texts
+pub mod Certificates
+pub mod Forms
+pub mod Reading
 pub mod Run

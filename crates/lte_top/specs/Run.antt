@@ -1,12 +1,12 @@
 -- What a run does: how each answer comes, and which answer an input has. (own)
-use Rattle.std.specs.Prelude.{◌≡◌, ◌≢◌, ◌⊎◌, ℕ, ◌<◌, ◌≤◌, Option, Some, None, IfSome, List, length, nat_lt, if◌then◌else◌}
+use Rattle.std.specs.Prelude.{◌≡◌, ◌≢◌, ◌⊎◌, ℕ, ◌+◌, ◌<◌, ◌≤◌, ◌++◌, Option, IfSome, List, length}
 use Rattle.cs_outside.specs.Counts.{Rose}
 use Rattle.cs_outside.specs.Outside.{Outside, NothingRead, NothingWritten}
-use Rattle.cs_outside.specs.Streams.{HasReadAll, HasReadPast, HasWritten, HasWrittenFront, HasFilled}
+use Rattle.cs_outside.specs.Streams.{HasRead, HasReadAll, IsAtEnd, HasWritten, HasWrittenFront, HasFilled}
 use Rattle.lte_top.specs.declared.form.Form.{Form}
 use Rattle.lte_top.specs.declared.status.Status.{Status}
 use Rattle.lte_top.specs.declared.status.Status.TheVariants.{Done, Usage, TooLong, ReadFault, WriteFault, OutOfMemory}
-use Rattle.lte_top.specs.Forms.{words_of, IsNoForm, limit_of, refusal_of, IsOutput}
+use Rattle.lte_top.specs.Forms.{words_of, IsNoForm, limit_of, Refuses, IsTooLong, IsValid, IsOutput}
 
 -- ---- reading: what the source had left before, and what it has left now
 
@@ -14,14 +14,22 @@ use Rattle.lte_top.specs.Forms.{words_of, IsNoForm, limit_of, refusal_of, IsOutp
 pub record HasOutput (form : Form) (output : List ℕ) (before now : Option (List ℕ)) : Type 0 where
   pub input : List ℕ
   pub whole : HasReadAll (limit_of form) input before now
-  pub valid : refusal_of form input ≡ None
+  pub unrefused : (status : Status) → Refuses form input status → ⊥
   pub is_output : IsOutput form input output
 
--- the whole input was read, and it has this refusal
-pub record HasRefusal (form : Form) (refusal : Status) (before now : Option (List ℕ)) : Type 0 where
+-- what was read has this refusal, and it ended there or has it however it goes on
+pub record HasRefusal (form : Form) (status : Status) (before now : Option (List ℕ)) : Type 0 where
   pub input : List ℕ
-  pub whole : HasReadAll (limit_of form) input before now
-  pub refused : refusal_of form input ≡ Some refusal
+  pub read : HasRead input before now
+  pub refused : Refuses form input status
+  pub settled : IsAtEnd now ⊎ ((rest : List ℕ) → Refuses form (input ++ rest) status)
+
+-- one byte more than the limit was read, and however it goes on nothing in it is refused
+pub record IsReadTooLong (form : Form) (before now : Option (List ℕ)) : Type 0 where
+  pub front : List ℕ
+  pub read : HasRead front before now
+  pub past : length front ≡ limit_of form + 1
+  pub unrefused : (rest : List ℕ) (status : Status) → Refuses form (front ++ rest) status → ⊥
 
 -- why a form was not run to its end, with the source's count of faults before and now
 abbrev pub Cause : Form → Option (List ℕ) → Option (List ℕ) → ℕ → ℕ → Status → Type 0
@@ -30,7 +38,7 @@ Cause form before now faults faults_now Usage = ⊥
 Cause form before now faults faults_now WriteFault = ⊥
 Cause form before now faults faults_now OutOfMemory = Unit {0}
 Cause form before now faults faults_now ReadFault = Rose faults faults_now
-Cause form before now faults faults_now TooLong = HasReadPast (limit_of form) before now
+Cause form before now faults faults_now TooLong = IsReadTooLong form before now
 Cause form before now faults faults_now refusal = HasRefusal form refusal before now
 
 -- ---- how each answer comes
@@ -76,21 +84,23 @@ Outcome words before now status = IsRefused status words before now
 
 -- ---- the answer that an input has
 
--- the refusal, or Done
-abbrev pub refusal_or_done : Option Status → Status
-refusal_or_done (Some refusal) = refusal
-refusal_or_done None = Done
+-- the answer to an input where no memory is wanting and no read or write fails: Done to a valid one, TooLong to one that is
+-- longer than the limit, or its refusal
+abbrev pub IsAnswerTo : Form → List ℕ → Status → Type 0
+IsAnswerTo form input Done = IsValid form input
+IsAnswerTo form input TooLong = IsTooLong form input
+IsAnswerTo form input status = Refuses form input status
 
--- the answer to an input where no memory is wanting and no read or write fails
-abbrev pub answer_to : Form → List ℕ → Status
-answer_to form input = if nat_lt (limit_of form) (length input) then TooLong else refusal_or_done (refusal_of form input)
+-- an input has one answer
+abbrev pub HasOneAnswer : Type 0
+HasOneAnswer = (form : Form) (input : List ℕ) (first second : Status) → IsAnswerTo form input first → IsAnswerTo form input second → first ≡ second
 
 -- which answers an input may have: want of memory, a fault that was counted, or its own
 abbrev pub MayAnswer : Form → List ℕ → Outside → Outside → Status → Type 0
 MayAnswer form input before now OutOfMemory = Unit {0}
 MayAnswer form input before now ReadFault = Rose before.read_faults now.read_faults
-MayAnswer form input before now WriteFault = (answer_to form input ≡ Done) × Rose before.write_faults now.write_faults
-MayAnswer form input before now status = status ≡ answer_to form input
+MayAnswer form input before now WriteFault = IsValid form input × Rose before.write_faults now.write_faults
+MayAnswer form input before now status = IsAnswerTo form input status
 
 -- where the source tells its bytes, the answer is one that they may have
 abbrev pub IsAnswered : List (List ℕ) → Outside → Outside → Status → Type 0
@@ -99,7 +109,7 @@ IsAnswered words before now status = (form : Form) → words ≡ words_of form �
 -- a valid input is done where no fault was counted, but for want of memory
 abbrev pub IsComplete : List (List ℕ) → Outside → Outside → Status → Type 0
 IsComplete words before now status = (form : Form) → words ≡ words_of form → IfSome before.left (λ input.
-    answer_to form input ≡ Done → ¬ Rose before.read_faults now.read_faults → ¬ Rose before.write_faults now.write_faults →
+    IsValid form input → ¬ Rose before.read_faults now.read_faults → ¬ Rose before.write_faults now.write_faults →
     (status ≡ Done) ⊎ (status ≡ OutOfMemory))
 
 -- a sink that tells room for the whole output has no fault

@@ -1,5 +1,5 @@
 -- The texts that are written. Numbers are decimal, and every line ends with a line feed. (own)
-use Rattle.std.specs.Prelude.{ℕ, List, ◌++◌, length, codes}
+use Rattle.std.specs.Prelude.{ℕ, suc, List, [], ◌∷◌, ◌++◌, length, codes, Bool, true, false}
 use Rattle.std.specs.List.{flat_map}
 use Rattle.std.specs.Fmt.{decimal}
 use Rattle.cs_num.specs.declared.Sample.{Sample}
@@ -45,3 +45,25 @@ ids_head count = codes "ids " ++ decimal count ++ codes "\n"
 -- the number of hits, and then a line for each
 unfoldable pub ids_text : List Sample → List Hit → List ℕ
 ids_text recording hits = ids_head (length hits) ++ flat_map (id_line recording) hits
+
+-- ---- certificates
+
+abbrev pub answer_word : Bool → List ℕ
+answer_word true = codes "yes"
+answer_word false = codes "no"
+
+-- the line of a certificate: its number from 0, and whether it is accepted
+abbrev pub answer_line : ℕ → Bool → List ℕ
+answer_line number answer = decimal number ++ codes " " ++ answer_word answer ++ codes "\n"
+
+-- the lines of answers, from this number on
+unfoldable pub answer_lines : ℕ → List Bool → List ℕ
+answer_lines number [] = []
+answer_lines number (answer ∷ rest) = answer_line number answer ++ answer_lines (suc number) rest
+
+abbrev pub check_head : ℕ → List ℕ
+check_head count = codes "certificates " ++ decimal count ++ codes "\n"
+
+-- the number of certificates, and then a line for each
+unfoldable pub check_text : List Bool → List ℕ
+check_text answers = check_head (length answers) ++ answer_lines 0 answers

@@ -8,7 +8,16 @@ use crate::words::Words;
 /// A form of words.
 #[derive(Clone, Copy, Debug, PartialEq, Eq)]
 pub enum Form {
-    /// `hits`: the places of primary synchronisation signals of a recording.
+    /// A report about a recording.
+    About(Report),
+    /// `check`: an answer to each of the certificates that are read.
+    Check,
+}
+
+/// A report about a recording.
+#[derive(Clone, Copy, Debug, PartialEq, Eq)]
+pub enum Report {
+    /// `hits`: the places of primary synchronisation signals.
     Hits,
     /// `ids`: the same with the identity and the frame start that each tells.
     Ids,
@@ -21,9 +30,11 @@ impl Form {
         ensures none { IsNone result → IsNoForm words.now }
     {
         if words.is_one("hits") {
-            Some(Form::Hits)
+            Some(Form::About(Report::Hits))
         } else if words.is_one("ids") {
-            Some(Form::Ids)
+            Some(Form::About(Report::Ids))
+        } else if words.is_one("check") {
+            Some(Form::Check)
         } else {
             None
         }

@@ -1,13 +1,14 @@
 //! The top call: the words of a command line, a source and a sink in, a status out.
 #![tactic(auto)]
 
+mod checking;
 mod form;
 mod status;
 mod text;
 mod top;
 mod words;
 
-pub use form::Form;
+pub use form::{Form, Report};
 pub use status::Status;
-pub use top::{run, run_in_memory};
+pub use top::{an_input_has_one_answer, run, run_in_memory};
 pub use words::Words;

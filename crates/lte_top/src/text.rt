@@ -3,7 +3,7 @@
 ghost use Rattle.std.specs.Prelude.{◌≡◌, All, IfOk, string_bytes};
 ghost use Rattle.sample_file.specs.Recording.{IsRecording};
 ghost use Rattle.pss_search.specs.Hits.{IsInSpan};
-ghost use Rattle.lte_top.specs.Texts.{hits_text, subframe_of, place_line, id_line, ids_text};
+ghost use Rattle.lte_top.specs.Texts.{hits_text, subframe_of, place_line, id_line, ids_text, answer_word, answer_line, check_text};
 
 use lte_types::{Half, Hit};
 use sample_file::Recording;
@@ -72,5 +72,28 @@ fn subframe(half: Half) -> u8
     match half {
         Half::Zero => 0,
         Half::Five => 5,
+    }
+}
+
+// The number of certificates, and then a line for each with the answer to it.
+pub(crate) fn text_of_answers(alloc: Global, answers: &[bool]) -> Result<String, AllocError>
+    ensures { IfOk result (λ text. string_bytes text ≡ check_text answers.now) }
+{
+    let mut text = format!(in alloc; "certificates {}\n", answers.len())?;
+    for (number, answer) in answers.iter().enumerate() {
+        let line = line_of_answer(alloc, number, *answer)?;
+        text.push_str(&line)?;
+    }
+    Ok(text)
+}
+
+// The line of a certificate.
+fn line_of_answer(alloc: Global, number: usize, answer: bool) -> Result<String, AllocError>
+    ensures { IfOk result (λ line. string_bytes line ≡ answer_line number answer) }
+{
+    if answer {
+        format!(in alloc; "{number} yes\n")
+    } else {
+        format!(in alloc; "{number} no\n")
     }
 }

@@ -3,12 +3,13 @@
 ghost use Rattle.std.specs.Prelude.{◌≡◌, ◌≤◌, Some, IfOk, IfErr, string_bytes};
 ghost use Rattle.cs_outside.specs.Outside.{Outside};
 ghost use Rattle.sample_file.specs.Recording.{IsRecording};
-ghost use Rattle.lte_top.specs.Forms.{recording_text};
-ghost use Rattle.lte_top.specs.Run.{HasOutput, Cause, Outcome, Runs};
+ghost use Rattle.lte_top.specs.Forms.{report_text};
+ghost use Rattle.lte_top.specs.Run.{HasOutput, Cause, HasOneAnswer, Outcome, Runs};
 
-use crate::form::Form;
+use crate::checking::read_answers;
+use crate::form::{Form, Report};
 use crate::status::Status;
-use crate::text::{text_of_hits, text_of_ids};
+use crate::text::{text_of_answers, text_of_hits, text_of_ids};
 use crate::words::Words;
 use cs_outside::{MemSink, MemSource, Sink, Source, write_whole};
 use pss_search::{HitList, hits};
@@ -47,6 +48,13 @@ pub fn run_in_memory(
     run(alloc, words, source, sink)
 }
 
+/// A law of the answers: an input of a form has one answer, so that each is given exactly where it
+/// is the input's, but for want of memory and counted faults.
+pub fn an_input_has_one_answer()
+    ensures { HasOneAnswer }
+{
+}
+
 // The same, by the way each answer comes.
 fn run_words<S: Source, K: Sink>(
     alloc: Global,
@@ -81,6 +89,18 @@ fn output_of<S: Source>(alloc: Global, form: Form, source: &mut S) -> Result<Str
     ensures err { IfErr result (λ status. Cause form (S.left source.old) (S.left source.new) (S.faults source.old) (S.faults source.new) status) }
     ensures never_falls { S.faults source.old ≤ S.faults source.new }
 {
+    match form {
+        Form::About(report) => report_of(alloc, report, source),
+        Form::Check => check_of(alloc, source),
+    }
+}
+
+// The report about the recording of a source.
+fn report_of<S: Source>(alloc: Global, report: Report, source: &mut S) -> Result<String, Status>
+    ensures ok { IfOk result (λ text. HasOutput (Form.About report) (string_bytes text) (S.left source.old) (S.left source.new)) }
+    ensures err { IfErr result (λ status. Cause (Form.About report) (S.left source.old) (S.left source.new) (S.faults source.old) (S.faults source.new) status) }
+    ensures never_falls { S.faults source.old ≤ S.faults source.new }
+{
     let recording = match read_recording(alloc, source) {
         Ok(recording) => recording,
         Err(FileError::Ragged) => return Err(Status::Ragged),
@@ -89,21 +109,41 @@ fn output_of<S: Source>(alloc: Global, form: Form, source: &mut S) -> Result<Str
         Err(FileError::ReadFault) => return Err(Status::ReadFault),
         Err(FileError::OutOfMemory) => return Err(Status::OutOfMemory),
     };
-    match text_of_recording(alloc, form, &recording) {
+    match text_of_report(alloc, report, &recording) {
         Ok(text) => Ok(text),
         Err(_) => Err(Status::OutOfMemory),
     }
 }
 
-// The text that a form makes of a recording.
-fn text_of_recording(alloc: Global, form: Form, recording: &Recording) -> Result<String, AllocError>
+// The text of a report about a recording.
+fn text_of_report(
+    alloc: Global,
+    report: Report,
+    recording: &Recording,
+) -> Result<String, AllocError>
     requires { IsRecording recording.now }
-    ensures { IfOk result (λ text. string_bytes text ≡ recording_text form recording.now) }
+    ensures { IfOk result (λ text. string_bytes text ≡ report_text report recording.now) }
 {
     let mut list = HitList::new(alloc)?;
     hits(recording, &mut list);
-    match form {
-        Form::Hits => text_of_hits(alloc, list.slice()),
-        Form::Ids => text_of_ids(alloc, recording, list.slice()),
+    match report {
+        Report::Hits => text_of_hits(alloc, list.slice()),
+        Report::Ids => text_of_ids(alloc, recording, list.slice()),
+    }
+}
+
+// The answers to the certificates of a source.
+fn check_of<S: Source>(alloc: Global, source: &mut S) -> Result<String, Status>
+    ensures ok { IfOk result (λ text. HasOutput Form.Check (string_bytes text) (S.left source.old) (S.left source.new)) }
+    ensures err { IfErr result (λ status. Cause Form.Check (S.left source.old) (S.left source.new) (S.faults source.old) (S.faults source.new) status) }
+    ensures never_falls { S.faults source.old ≤ S.faults source.new }
+{
+    let answers = match read_answers(alloc, source) {
+        Ok(answers) => answers,
+        Err(status) => return Err(status),
+    };
+    match text_of_answers(alloc, &answers) {
+        Ok(text) => Ok(text),
+        Err(_) => Err(Status::OutOfMemory),
     }
 }

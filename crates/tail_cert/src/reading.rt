@@ -184,6 +184,7 @@ fn get_all(bytes: &[u8], into: &mut Certificate)
 pub fn parse(bytes: &[u8], into: &mut Certificate) -> Result<(), BadCertificate>
     requires { length bytes.now ≤ 655613 }
     ensures ok { IfOk result (λ _. bytes.now ≡ bytes_of into.new) }
+    ensures whole { IfOk result (λ _. IsWhole into.new.values into.new.word into.new.cost into.new.tables) }
     ensures refused { (place : ℕ) →
         IsErrOf result (record { place = place }) ↔ IsFirstBreak bytes.now place }
     ensures unchanged { IsErr result → into.new ≡ into.old }

@@ -1,0 +1,36 @@
+-- Bytes that are read to a place of a buffer.
+use Rattle.std.proofs.Common.{◌≡◌, ℕ, ◌+◌, ◌-◌, ◌<◌, ◌≤◌, ◌↔◌, List, [], ◌∷◌, ◌++◌, length, take, drop, Option, Some, None, refl, ap, sym, subst, ◌∙◌, arith, length-take, length-take-le}
+use Rattle.std.specs.Prelude.{IfSome, IfOk, Result, Ok, Err}
+use Rattle.std.proofs.Math.Seq.{take-append-add}
+use Rattle.std.proofs.lemmas.List.{take-append-le}
+use Rattle.cs_outside.specs.declared.Failed.{Failed}
+use Rattle.cs_outside.specs.Streams.{HasRead, IsAtEnd}
+use Rattle.lte_top.specs.Reading.{HasReadOn}
+
+-- the front of a buffer with new bytes from a place on
+take_put : (a n : ℕ) (buffer into rest : List ℕ) → a ≤ length buffer → n ≤ length into → take (a + n) (take a buffer ++ (into ++ rest)) ≡ take a buffer ++ take n into
+take_put a n buffer into rest inside few =
+    let front : length (take a buffer) ≡ a = length-take-le a buffer inside in
+    let seam = take-append-add (take a buffer) (into ++ rest) n in
+    subst (λ m. take (m + n) (take a buffer ++ (into ++ rest)) ≡ take a buffer ++ take n into) front (seam ∙ ap (λ l. take a buffer ++ l) (take-append-le n into rest few))
+
+-- a read of no byte is the end
+at_end : (n : ℕ) (piece : List ℕ) (before now : Option (List ℕ)) → length piece ≡ n → HasRead piece before now → IfSome before (λ input. (n ≡ 0) ↔ (input ≡ [])) → n ≡ 0 → IsAtEnd now
+at_end n piece before None size read end zero = tt
+at_end n piece None (Some rest) size read end zero = absurd (cc read.in_order)
+at_end n [] (Some input) (Some rest) size read end zero =
+    let same : input ≡ rest = cc read.in_order in
+    sym same ∙ end.0 zero
+at_end n (x ∷ piece) (Some input) (Some rest) size read end zero = absurd (omega (arith, size, zero))
+
+pub read_at_place : (a : ℕ) (buffer into rest : List ℕ) (before now : Option (List ℕ)) → a ≤ length buffer → (r : Result ℕ Failed) → IfOk r (λ n. n ≤ length into) →
+    IfOk r (λ n. HasRead (take n into) before now) → IfOk r (λ n. IfSome before (λ input. (n ≡ 0) ↔ (input ≡ []))) →
+    IfOk r (λ n. HasReadOn n (take a buffer) (take (a + n) (take a buffer ++ (into ++ rest))) before now)
+read_at_place a buffer into rest before now inside (Err e) few read end = tt
+read_at_place a buffer into rest before now inside (Ok n) few read end =
+    let size : length (take n into) ≡ n = length-take-le n into few in
+    record { piece = take n into; count = size; joined = take_put a n buffer into rest inside few; read = read; end = at_end n (take n into) before now size read end }
+
+pub fits_place : (a e : ℕ) (into : List ℕ) → a ≤ e → length into ≤ e - a → (r : Result ℕ Failed) → IfOk r (λ n. n ≤ length into) → IfOk r (λ n. a + n ≤ e)
+fits_place a e into below size (Err f) few = tt
+fits_place a e into below size (Ok n) few = omega (arith, size, few, below)

@@ -1,0 +1,15 @@
+use Rattle.std.proofs.Common.{◌≡◌, ◌<◌, ◌≤◌, ◌+◌, ◌-◌, ◌*◌, length, take, vec_len}
+use Rattle.lte_top.proofs.Progress.{IsReadTo}
+use Rattle.lte_top.proofs.checking.read_each.Given as goal
+
+abbrev pub invariant-loop-answers : goal.invariant-loop-answers
+invariant-loop-answers g l = record {
+  so_far : IsReadTo l.answers.items (take l.filled l.buffer) (g.S.Source.left l.fn.source) (g.S.Source.left l.source);
+  later : g.S.Source.faults l.fn.source ≤ g.S.Source.faults l.source;
+  whole : length l.buffer ≡ 655613;
+  part : l.filled < 655613;
+  few : 655613 * length l.answers.items + l.filled ≤ 67108864;
+}
+
+abbrev pub decreases-loop-answers : goal.decreases-loop-answers
+decreases-loop-answers g l = 67108865 - (655613 * vec_len l.answers + l.filled)

@@ -1,0 +1,155 @@
+//! Certificates, read one after the other and checked.
+
+ghost use Rattle.std.specs.Prelude.{◌≡◌, ◌<◌, ◌≤◌, ◌*◌, ◌+◌, ◌-◌, min, length, take, IfOk, IfErr, OnErr, MatchOption};
+ghost use Rattle.cs_outside.specs.Counts.{Rose};
+ghost use Rattle.lte_top.specs.Reading.{HasReadOn, HasAnswers, IsSound, IsFirstBreak, IsStep};
+ghost use Rattle.lte_top.specs.Run.{Cause};
+
+use crate::form::Form;
+use crate::status::Status;
+use cs_outside::{Failed, Source};
+use std::alloc::{AllocError, Global};
+use tail_cert::{Certificate, check, parse};
+
+// The most bytes that are read.
+const MOST_BYTES: usize = 67_108_864;
+
+// The bytes of a certificate, and those of its mark and its values, which alone can break the form.
+const BYTES: usize = 655_613;
+const FRONT_BYTES: usize = 244;
+
+// What the bytes of a certificate that were read so far tell.
+pub(crate) enum Step {
+    // The certificate goes on.
+    Partial,
+    // It is whole, and this is the answer to it.
+    Whole(bool),
+    // The byte at this place is the first that breaks the form.
+    Broken(u64),
+}
+
+// The answers to the certificates of a source, which are read to the end of the input. They are
+// checked as they are read, and nothing is read after a byte that breaks their form was seen.
+pub(crate) fn read_answers<S: Source>(alloc: Global, source: &mut S) -> Result<Vec<bool>, Status>
+    ensures ok { IfOk result (λ answers. HasAnswers answers.items (S.left source.old) (S.left source.new)) }
+    ensures err { IfErr result (λ status. Cause Form.Check (S.left source.old) (S.left source.new) (S.faults source.old) (S.faults source.new) status) }
+    ensures never_falls { S.faults source.old ≤ S.faults source.new }
+{
+    let (mut certificate, mut buffer) = match room_for_one(alloc) {
+        Ok(room) => room,
+        Err(AllocError) => return Err(Status::OutOfMemory),
+    };
+    read_each(alloc, source, &mut certificate, &mut buffer)
+}
+
+// The same with the memory of a certificate and of its bytes.
+fn read_each<S: Source>(
+    alloc: Global,
+    source: &mut S,
+    certificate: &mut Certificate,
+    buffer: &mut [u8],
+) -> Result<Vec<bool>, Status>
+    requires { length buffer.old ≡ 655613 }
+    ensures ok { IfOk result (λ answers. HasAnswers answers.items (S.left source.old) (S.left source.new)) }
+    ensures err { IfErr result (λ status. Cause Form.Check (S.left source.old) (S.left source.new) (S.faults source.old) (S.faults source.new) status) }
+    ensures never_falls { S.faults source.old ≤ S.faults source.new }
+{
+    let mut answers = Vec::new(alloc);
+    let mut filled = 0;
+    loop {
+        let end = window_end(answers.len());
+        match read_at(source, buffer, filled, end) {
+            Err(Failed) => return Err(Status::ReadFault),
+            Ok(0) if filled == 0 => return Ok(answers),
+            Ok(0) => return Err(Status::BadCertificate(place_of(answers.len(), filled as u64))),
+            Ok(n) => filled += n,
+        }
+        let read = place_of(answers.len(), filled as u64);
+        match judge(&buffer[..filled], certificate) {
+            Step::Broken(place) => {
+                return Err(Status::BadCertificate(place_of(answers.len(), place)));
+            }
+            Step::Partial if read > MOST_BYTES as u64 => return Err(Status::TooLong),
+            Step::Partial => {}
+            Step::Whole(answer) => {
+                if answers.push(answer).is_err() {
+                    return Err(Status::OutOfMemory);
+                }
+                filled = 0;
+            }
+        }
+    }
+}
+
+// Reads the next bytes of a source to a place of the buffer.
+fn read_at<S: Source>(
+    source: &mut S,
+    buffer: &mut [u8],
+    at: usize,
+    end: usize,
+) -> Result<usize, Failed>
+    requires some { at < end }
+    requires room { end ≤ length buffer.old }
+    ensures fits { IfOk result (λ n. at + n ≤ end) }
+    ensures read { IfOk result (λ n. HasReadOn n (take at buffer.old) (take (at + n) buffer.new) (S.left source.old) (S.left source.new)) }
+    ensures cause { OnErr result (Rose (S.faults source.old) (S.faults source.new)) }
+    ensures never_falls { S.faults source.old ≤ S.faults source.new }
+{
+    source.read(&mut buffer[at..end])
+}
+
+// The memory of one certificate, and of its bytes.
+fn room_for_one(alloc: Global) -> Result<(Certificate, Vec<u8>), AllocError>
+    ensures { IfOk result (λ room. length room.1.items ≡ 655613) }
+{
+    let certificate = Certificate::new(alloc)?;
+    let buffer = vec![in alloc; 0u8; BYTES]?;
+    Ok((certificate, buffer))
+}
+
+// How many bytes of a certificate may have been read after so many whole ones: one more than the limit
+// at most.
+fn window_end(certificates: usize) -> usize
+    requires { 655613 * certificates ≤ 67108864 }
+    ensures least { result ≡ (min (67108865 - 655613 * certificates) 655613) }
+{
+    (MOST_BYTES + 1 - BYTES * certificates).min(BYTES)
+}
+
+// The place in the input of a place in the certificate after so many whole ones.
+fn place_of(certificates: usize, place: u64) -> u64
+    requires certificates { 655613 * certificates ≤ 67108864 }
+    requires place { place ≤ 655613 }
+    ensures { result ≡ 655613 * certificates + place }
+{
+    (BYTES * certificates) as u64 + place
+}
+
+// What the bytes of a certificate that were read so far tell.
+fn judge(part: &[u8], certificate: &mut Certificate) -> Step
+    requires { length part.now ≤ 655613 }
+    ensures { IsStep part.now result }
+{
+    if part.len() < BYTES {
+        return match first_break(part, certificate) {
+            Some(place) => Step::Broken(place),
+            None => Step::Partial,
+        };
+    }
+    match parse(part, certificate) {
+        Ok(()) => Step::Whole(check(certificate)),
+        Err(bad) => Step::Broken(bad.place),
+    }
+}
+
+// The first byte of a part of a certificate that breaks the form.
+fn first_break(part: &[u8], certificate: &mut Certificate) -> Option<u64>
+    requires { length part.now < 655613 }
+    ensures { MatchOption result (IsSound part.now) (λ place. IsFirstBreak part.now place) }
+{
+    let front = &part[..part.len().min(FRONT_BYTES)];
+    match parse(front, certificate) {
+        Err(bad) if bad.place < front.len() as u64 => Some(bad.place),
+        _ => None,
+    }
+}
