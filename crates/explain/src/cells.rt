@@ -1,13 +1,13 @@
 //! The list of the cells of a recording.
 
-ghost use Rattle.std.specs.Prelude.{◌≡◌, ℕ, ◌+◌, ◌*◌, ◌<◌, ◌≤◌, All, nat_abs, length};
+ghost use Rattle.std.specs.Prelude.{◌≡◌, ℕ, ◌+◌, ◌*◌, ◌<◌, ◌≤◌, [], All, nat_abs, length};
 ghost use Rattle.sample_file.specs.Recording.{IsRecording};
 ghost use Rattle.pss_search.specs.Hits.{IsInSpan, hits_of};
 ghost use Rattle.pbch.specs.Values.{coded_values};
 ghost use Rattle.pbch.specs.Master.{TellsMaster};
 ghost use Rattle.explain.specs.Frame.{broadcast_slot as broadcast_slot_of};
 ghost use Rattle.explain.specs.Entries.{IsExplained, IsInList, IsListOfHits, master_of};
-ghost use Rattle.explain.specs.Masters.{AddsHit, Adds, entry_of as entry_of_master, entries_of};
+ghost use Rattle.explain.specs.Masters.{AddsHit, Adds, entry_of as entry_of_master, entry_at, entries_of};
 
 use crate::frame::broadcast_slot;
 use crate::listing::add;
@@ -30,9 +30,7 @@ pub fn explain(recording: &Recording, work: &mut Workspace, list: &mut EntryList
 {
     hits(recording, &mut work.hits);
     list.clear();
-    for hit in work.hits.slice() {
-        add_hit(recording, hit, &mut work.trellis, list);
-    }
+    add_hits(recording, work.hits.slice(), &mut work.trellis, list);
 }
 
 /// The values of an entry's master block: for each place and stream of its coded word the sum of the
@@ -47,6 +45,19 @@ pub fn values_of(recording: &Recording, entry: &Entry) -> [[i32; 3]; 40]
 {
     let slot = broadcast_slot(recording, entry.id, entry.start, entry.frame);
     values(&slot, entry.phase)
+}
+
+// Adds the entries of hits to the empty list.
+fn add_hits(recording: &Recording, hits: &[Hit], work: &mut Trellis, list: &mut EntryList)
+    requires recording { IsRecording recording.now }
+    requires span { All IsInSpan hits.now }
+    requires few { length hits.now ≤ 5760 }
+    requires empty { list.old ≡ [] }
+    ensures { IsListOfHits recording.now hits.now list.new }
+{
+    for hit in hits {
+        add_hit(recording, hit, work, list);
+    }
 }
 
 // Adds the entries of a hit.
@@ -74,13 +85,28 @@ fn add_masters(id: CellId, start: u32, masters: &Masters, list: &mut EntryList)
     ensures few { length list.new ≤ length list.old + 4 }
 {
     for phase in 0..4 {
-        match masters.at[phase] {
-            Some(master) => add(
-                list,
-                entry_of(id, start, masters.frame, phase as u8, master),
-            ),
-            None => {}
-        }
+        add_of(id, start, masters.frame, phase, masters.at[phase as usize], list);
+    }
+}
+
+// Adds the entry of a master block, where there is one.
+fn add_of(
+    id: CellId,
+    start: u32,
+    frame: u8,
+    phase: u8,
+    master: Option<Master>,
+    list: &mut EntryList,
+)
+    requires frame { frame ≤ 7 }
+    requires phase { phase < 4 }
+    requires room { length list.old < 23040 }
+    ensures adds { Adds (entry_at id start frame phase master) list.old list.new }
+    ensures one { length list.new ≤ length list.old + 1 }
+{
+    match master {
+        Some(master) => add(list, entry_of(id, start, frame, phase, master)),
+        None => {}
     }
 }
 

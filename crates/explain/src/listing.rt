@@ -1,7 +1,7 @@
 //! A list of entries, each cell once and in order.
 
-ghost use Rattle.std.specs.Prelude.{◌≡◌, ℕ, ◌+◌, ◌<◌, ◌≤◌, ◌↔◌, [], ◌∷◌, IsTrue, length, slice_index_or};
-ghost use Rattle.lte_types.specs.declared.entry.Entry.{Entry as EntryValue};
+ghost use Rattle.std.specs.Prelude.{◌≡◌, ◌+◌, ◌<◌, ◌≤◌, ◌↔◌, [], ◌∷◌, IsTrue, length};
+ghost use Rattle.std.specs.List.{AllWithin, HoldsAt, list_any};
 ghost use Rattle.explain.specs.Entries.{IsBefore, epoch as epoch_of, is_same_cell as same_cell};
 ghost use Rattle.explain.specs.Masters.{Adds};
 
@@ -14,7 +14,7 @@ pub(crate) fn add(list: &mut EntryList, entry: Entry)
     ensures adds { Adds (entry ∷ []) list.old list.new }
     ensures one { length list.new ≤ length list.old + 1 }
 {
-    if list.slice().iter().any(|other| is_same_cell(other, &entry)) {
+    if has_cell(list.slice(), &entry) {
         return;
     }
     let at = place_of(list.slice(), &entry);
@@ -50,11 +50,18 @@ fn is_before(a: &Entry, b: &Entry) -> bool
     }
 }
 
+// Whether one of the entries is of this one's cell.
+fn has_cell(list: &[Entry], entry: &Entry) -> bool
+    ensures { result ≡ list_any (λ other. same_cell other entry.now) list.now }
+{
+    list.iter().any(|other| is_same_cell(other, entry))
+}
+
 // The number of entries, from the first on, that stand before this one.
 fn place_of(list: &[Entry], entry: &Entry) -> usize
     ensures within { result ≤ length list.now }
-    ensures before { (k : ℕ) (d : EntryValue) → k < result → IsBefore (slice_index_or list.now k d) entry.now }
-    ensures after { (d : EntryValue) → result < length list.now → IsBefore (slice_index_or list.now result d) entry.now → ⊥ }
+    ensures before { AllWithin (λ other. IsBefore other entry.now) list.now 0 result }
+    ensures after { result < length list.now → HoldsAt (λ other. ¬ IsBefore other entry.now) list.now result }
 {
     for (at, other) in list.iter().enumerate() {
         if !is_before(other, entry) {

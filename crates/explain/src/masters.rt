@@ -1,6 +1,7 @@
 //! The master blocks of a hit.
 
-ghost use Rattle.std.specs.Prelude.{◌≡◌, ℕ, ◌<◌, ◌≤◌, MatchOption, ◌||◌, is_some};
+ghost use Rattle.std.specs.Prelude.{◌≡◌, MatchOption, is_some};
+ghost use Rattle.finite.specs.Tests.{any_below};
 ghost use Rattle.explain.specs.Masters.{AreMasters, master_at, HasNoMasters, IsFirstWith};
 
 use crate::frame::{broadcast_slot, is_whole};
@@ -54,8 +55,9 @@ fn masters_of(slot: &Slot, work: &mut Trellis) -> [Option<Master>; 4]
 }
 
 // Whether any phase has a master block.
+#[tactic(auto, unfolding(finite::specs::Tests::any_below))]
 fn has_master(at: &[Option<Master>; 4]) -> bool
-    ensures { result ≡ (is_some (master_at at.now 0) || is_some (master_at at.now 1) || is_some (master_at at.now 2) || is_some (master_at at.now 3)) }
+    ensures { result ≡ any_below 4 (λ phase. is_some (master_at at.now phase)) }
 {
     at[0].is_some() || at[1].is_some() || at[2].is_some() || at[3].is_some()
 }
