@@ -1,5 +1,5 @@
 -- The first frame that has a master block, and the entries that are made of its blocks.
-use Rattle.std.proofs.Common.{◌≡◌, ◌⊎◌, inl, inr, ℕ, zero, suc, ◌+◌, ◌-◌, ◌*◌, ◌%◌, ◌<◌, ◌≤◌, Bool, true, false, ◌||◌, List, [], ◌∷◌, Option, None, Some, length, arith, refl, ap, sym, subst, ◌∙◌}
+use Rattle.std.proofs.Common.{◌≡◌, ◌⊎◌, inl, inr, ℕ, zero, suc, ◌+◌, ◌-◌, ◌*◌, ◌%◌, ◌<◌, ◌≤◌, Bool, true, false, ◌||◌, List, [], ◌∷◌, Option, None, Some, arith, refl, ap, sym, subst, ◌∙◌}
 use Rattle.std.specs.Prelude.{is_some, MatchOption, IsTrue}
 use Rattle.std.specs.List.{AllPairs, Contains}
 use Rattle.std.proofs.lemmas.Bool.{cases_lt}
@@ -172,7 +172,7 @@ pub entries_are : (recording : List Sample) (hit : Hit) (frame : ℕ) (masters :
 entries_are recording hit frame masters f = record {
   given = λ entry. (is_entry recording hit frame masters entry f, entry_is_made recording hit frame masters entry f);
   by_phase = joined_below-pairs (λ (a b : Entry). a.phase < b.phase) 4 (λ p. entry_at identity start frame p (master_at masters p))
-    (λ p l. one_by_phase identity start frame p (master_at masters p)) (λ i j x y below last a b. across i j x y below a b);
+      (λ p l. one_by_phase identity start frame p (master_at masters p)) (λ i j x y below last a b. across i j x y below a b);
 }
   where
     identity : ℕ
@@ -209,7 +209,7 @@ pub adds_entries : (recording : List Sample) (hit : Hit) (identity start frame :
 adds_entries recording hit identity start frame masters old new id at first adds = record {
   entries = entries_of (identity_at recording hit) (start_at recording hit) frame masters;
   are = entries_are recording hit frame masters
-    (subst (λ s. IsFirstWith recording (identity_at recording hit) s frame masters) at (subst (λ i. IsFirstWith recording i start frame masters) id first));
+      (subst (λ s. IsFirstWith recording (identity_at recording hit) s frame masters) at (subst (λ i. IsFirstWith recording i start frame masters) id first));
   adds = subst (λ s. Adds (entries_of (identity_at recording hit) s frame masters) old new) at (subst (λ i. Adds (entries_of i start frame masters) old new) id adds);
 }
 

@@ -1,20 +1,20 @@
 -- The entries that are kept, and their list.
-use Rattle.std.proofs.Common.{◌≡◌, ◌≢◌, ◌⊎◌, inl, inr, ℕ, zero, suc, ◌+◌, ◌-◌, ◌*◌, ◌%◌, ◌<◌, ◌≤◌, min, Bool, true, false, ◌&&◌, nat_eq, nat_le, List, [], ◌∷◌, ◌++◌, length, get_or, arith, refl, ap, sym, subst, ◌∙◌, append-nil, append_assoc}
+use Rattle.std.proofs.Common.{◌≡◌, ◌⊎◌, inl, inr, ℕ, ◌+◌, ◌-◌, ◌*◌, ◌%◌, ◌<◌, ◌≤◌, Bool, true, false, ◌&&◌, nat_eq, nat_le, List, [], ◌∷◌, ◌++◌, length, get_or, arith, refl, ap, sym, subst, ◌∙◌, append-nil, append_assoc}
 use Rattle.std.specs.Prelude.{if◌then◌else◌}
-use Rattle.std.specs.List.{fold, list_any, All, AllWithin, HoldsAt, AllPairs, Contains, insert}
+use Rattle.std.specs.List.{fold, list_any, AllWithin, HoldsAt, AllPairs, Contains, insert}
 use Rattle.std.specs.List.Sorted.{IsPermutation}
 use Rattle.std.proofs.lemmas.Bool.{cases_lt}
 use Rattle.std.proofs.lemmas.Bool.Decides.{nat_tests}
-use Rattle.std.proofs.lemmas.List.Elements.{Contains-append_left, Contains-append_right, Contains-append_cases, Contains-push, Contains-push_cases, Contains-get_or}
+use Rattle.std.proofs.lemmas.List.Elements.{Contains-append_left, Contains-append_right, Contains-push, Contains-push_cases, Contains-get_or}
 use Rattle.std.proofs.lemmas.List.Sums.{fold-append}
 use Rattle.std.proofs.lemmas.List.Folds.{list_any-from_Any, Any-from_list_any}
 use Rattle.std.proofs.lemmas.List.Edits.{length-insert, get_or-insert_below, get_or-insert_at, get_or-insert_above}
-use Rattle.std.proofs.lemmas.List.Sorted.{IsPermutation-refl, IsPermutation-sym, IsPermutation-trans, IsPermutation-cons, IsPermutation-to_front, IsPermutation-insert, list_any-IsPermutation, Contains-permutation}
+use Rattle.std.proofs.lemmas.List.Sorted.{IsPermutation-trans, IsPermutation-cons, IsPermutation-to_front, IsPermutation-insert, list_any-IsPermutation}
 use Rattle.finite.proofs.Lists.{AllPairs-append}
 use Rattle.lte_types.specs.declared.entry.Entry.{Entry}
 use Rattle.explain.specs.Entries.{epoch, distance, is_same_cell, with_entry, kept, IsBefore, IsListOf}
 use Rattle.explain.specs.Masters.{Adds}
-use Rattle.explain.specs.Laws.{StandsFor, AreApart}
+use Rattle.explain.specs.Laws.{StandsFor}
 use Rattle.explain.proofs.Sorted.{in_none, in_one, in_cons, Contains-here}
 
 -- ---- one cell
@@ -67,13 +67,13 @@ fold_keeps acc (e ∷ es) x h = fold_keeps (with_entry acc e) es x (with_entry_k
 fold_only : (acc entries : List Entry) (x : Entry) → Contains (fold with_entry acc entries) x → Contains acc x ⊎ Contains entries x
 fold_only acc [] x h = inl h
 fold_only acc (e ∷ es) x h = elim (fold_only (with_entry acc e) es x h) [
-  | inl before ↦ elim (with_entry_only acc e x before) [ | inl kept_before ↦ inl kept_before | inr is ↦ inr (subst (Contains (e ∷ es)) is (Contains-here e es)) ]
+  | inl before ↦ elim (with_entry_only acc e x before) [ inl kept_before ↦ inl kept_before | inr is ↦ inr (subst (Contains (e ∷ es)) is (Contains-here e es)) ]
   | inr later ↦ inr (Contains-append_right (e ∷ []) es x later)
 ]
 
 -- a kept entry is one of them
 pub kept_only : (entries : List Entry) (x : Entry) → Contains (kept entries) x → Contains entries x
-kept_only entries x h = elim (fold_only [] entries x h) [ | inl none ↦ absurd (in_none x none) | inr c ↦ c ]
+kept_only entries x h = elim (fold_only [] entries x h) [ inl none ↦ absurd (in_none x none) | inr c ↦ c ]
 
 -- an entry, or one of its cell, stands in the list
 with_entry_stands : (acc : List Entry) (entry : Entry) → (other : Entry) × StandsFor (with_entry acc entry) entry other
@@ -215,7 +215,7 @@ told_now before list entry at h e within front back =
     record {
       same = subst (λ l. IsPermutation l (insert list at entry)) (sym same) moved;
       in_order = inserted_in_order list entry at h.in_order within front
-        (λ inside d. other_before (get_or list at d) entry (none_same list entry (get_or list at d) e (Contains-get_or list at d inside)) (back inside d));
+          (λ inside d. other_before (get_or list at d) entry (none_same list entry (get_or list at d) e (Contains-get_or list at d inside)) (back inside d));
     }
 
 -- nothing more is nothing more

@@ -1,5 +1,5 @@
 -- The master blocks of a hit, and the entries that are made of them. (own)
-use Rattle.std.specs.Prelude.{◌≡◌, ℕ, ◌+◌, ◌-◌, ◌*◌, ◌%◌, ◌<◌, ◌≤◌, List, [], ◌∷◌, ◌++◌, Option, None, Some, MatchOption, slice_index_or, Err}
+use Rattle.std.specs.Prelude.{◌≡◌, ℕ, ◌+◌, ◌-◌, ◌*◌, ◌%◌, ◌<◌, ◌≤◌, List, [], ◌∷◌, ◌++◌, Option, None, Some, MatchOption, length, slice_index_or, Err}
 use Rattle.finite.specs.Lists.{joined_below}
 use Rattle.cs_num.specs.declared.Sample.{Sample}
 use Rattle.lte_types.specs.declared.hit.Hit.{Hit}
@@ -21,6 +21,7 @@ IsTold slot masters phase = MatchOption (master_at masters phase) (HasNoMaster s
 
 -- these are the master blocks of a slot, by phase
 pub record AreMasters (slot : SeenSlot) (masters : List (Option Master)) : Type 0 where
+  pub count : length masters ≡ 4
   pub first : IsTold slot masters 0
   pub second : IsTold slot masters 1
   pub third : IsTold slot masters 2

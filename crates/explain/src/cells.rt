@@ -1,7 +1,6 @@
 //! The list of the cells of a recording.
 
 ghost use Rattle.std.specs.Prelude.{◌≡◌, ℕ, ◌+◌, ◌*◌, ◌<◌, ◌≤◌, [], All, nat_abs, length};
-ghost use Rattle.sample_file.specs.Recording.{IsRecording};
 ghost use Rattle.pss_search.specs.Hits.{IsInSpan, hits_of};
 ghost use Rattle.pbch.specs.Values.{coded_values};
 ghost use Rattle.pbch.specs.Master.{TellsMaster};
@@ -49,7 +48,6 @@ pub fn values_of(recording: &Recording, entry: &Entry) -> [[i32; 3]; 40]
 
 // Adds the entries of hits to the empty list.
 fn add_hits(recording: &Recording, hits: &[Hit], work: &mut Trellis, list: &mut EntryList)
-    requires recording { IsRecording recording.now }
     requires span { All IsInSpan hits.now }
     requires few { length hits.now ≤ 5760 }
     requires empty { list.old ≡ [] }
@@ -62,12 +60,13 @@ fn add_hits(recording: &Recording, hits: &[Hit], work: &mut Trellis, list: &mut 
 
 // Adds the entries of a hit.
 fn add_hit(recording: &Recording, hit: &Hit, work: &mut Trellis, list: &mut EntryList)
-    requires recording { IsRecording recording.now }
     requires span { IsInSpan hit.now }
     requires room { length list.old + 4 ≤ 23040 }
     ensures adds { AddsHit recording.now hit.now list.old list.new }
     ensures few { length list.new ≤ length list.old + 4 }
 {
+    let end = recording.len();
+    prove!(hit.t as usize + 128 <= end);
     let (n1, half) = identity(recording, hit);
     let id = cell_id(n1, hit.n2);
     let start = frame_start(hit, half);
@@ -80,12 +79,20 @@ fn add_hit(recording: &Recording, hit: &Hit, work: &mut Trellis, list: &mut Entr
 // Adds the entries of a frame's master blocks.
 fn add_masters(id: CellId, start: u32, masters: &Masters, list: &mut EntryList)
     requires frame { masters.now.frame ≤ 7 }
+    requires count { length masters.now.at ≡ 4 }
     requires room { length list.old + 4 ≤ 23040 }
     ensures adds { Adds (entries_of id start masters.now.frame masters.now.at) list.old list.new }
     ensures few { length list.new ≤ length list.old + 4 }
 {
     for phase in 0..4 {
-        add_of(id, start, masters.frame, phase, masters.at[phase as usize], list);
+        add_of(
+            id,
+            start,
+            masters.frame,
+            phase,
+            masters.at[phase as usize],
+            list,
+        );
     }
 }
 

@@ -1,4 +1,4 @@
-use Rattle.std.proofs.Common.{◌≡◌, ◌<◌, ◌∙◌, ℕ, List, None, length, arith, sym, subst}
+use Rattle.std.proofs.Common.{◌≡◌, ◌<◌, ℕ, List, None, length, arith, sym, subst}
 use Rattle.std.proofs.lemmas.List.{get_or_default}
 use Rattle.finite.specs.Lists.{joined_below}
 use Rattle.finite.proofs.Lists.{joined_below_none, joined_below_more}
@@ -16,12 +16,12 @@ loop-phase-init c = record {
 pub loop-phase-preserved : goal.loop-phase-preserved
 loop-phase-preserved c =
     let made : ℕ → List Entry = λ phase. entry_at c.args.id c.args.start c.args.masters.now.frame phase (master_at c.args.masters.now.at phase) in
-    let inside : c.loop-phase.phase < length c.args.masters.now.at = ? in
-    let here = c.index-masters-phase.is ∙ get_or_default c.args.masters.now.at c.loop-phase.phase c.index-masters-phase.result None inside in
+    let inside : c.loop-phase.phase < length c.args.masters.now.at = omega arith in
+    let here = get_or_default c.args.masters.now.at c.loop-phase.phase c.index-masters-phase.result None inside in
     let one = subst (λ m. Adds (entry_at c.args.id c.args.start c.args.masters.now.frame c.loop-phase.phase m) c.loop-phase.list c.add_of.new.list) here c.add_of.ensures.adds in
     record {
       adds = subst (λ entries. Adds entries c.args.list.now c.add_of.new.list) (sym (joined_below_more c.loop-phase.phase made))
-        (adds_more (joined_below c.loop-phase.phase made) (made c.loop-phase.phase) c.args.list.now c.loop-phase.list c.add_of.new.list c.loop-phase.invariant.adds one);
+          (adds_more (joined_below c.loop-phase.phase made) (made c.loop-phase.phase) c.args.list.now c.loop-phase.list c.add_of.new.list c.loop-phase.invariant.adds one);
       few = omega arith;
     }
 

@@ -1,7 +1,6 @@
 use Rattle.std.proofs.Common.{sym, subst, ◌∙◌, ap}
 use Rattle.pbch.specs.Values.{coded_values}
 use Rattle.pbch.specs.Master.{TellsMaster}
-use Rattle.explain.specs.Frame.{broadcast_slot}
 use Rattle.explain.specs.Entries.{master_of}
 use Rattle.explain.proofs.FirstFrame.{broadcast_number}
 use Rattle.explain.proofs.Listed.{is_sound}

@@ -1,7 +1,7 @@
 use Rattle.std.proofs.Common.{◌≡◌, ◌<◌, ◌≤◌, ◌∙◌, true, false, ap, sym, subst, length, List}
 use Rattle.std.specs.List.{AllWithin, HoldsAt, list_any}
 use Rattle.lte_types.specs.declared.entry.Entry.{Entry}
-use Rattle.explain.specs.Entries.{IsBefore, IsListOf, is_same_cell}
+use Rattle.explain.specs.Entries.{IsBefore, is_same_cell}
 use Rattle.explain.proofs.Kept.{told_already, told_now}
 use Rattle.explain.proofs.listing.add.Goals as goal
 
