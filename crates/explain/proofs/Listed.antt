@@ -1,0 +1,152 @@
+-- What the list of a recording contains.
+use Rattle.std.proofs.Common.{◌≡◌, ◌⊎◌, inl, inr, ℕ, ◌<◌, ◌≤◌, false, List, [], ◌∷◌, ◌++◌, length, get_or, arith, refl, ap, sym, subst, ◌∙◌, append-nil}
+use Rattle.std.specs.List.{flat_map, AllZip, AllPairs, Contains}
+use Rattle.std.proofs.lemmas.Bool.{cases_lt}
+use Rattle.std.proofs.lemmas.List.{get_or_default}
+use Rattle.std.proofs.lemmas.List.Elements.{Contains-append_left, Contains-append_right, Contains-append_cases, Contains-get_or}
+use Rattle.std.proofs.lemmas.List.Sorted.{IsPermutation-refl, IsPermutation-sym, Contains-permutation}
+use Rattle.std.proofs.lemmas.Grind.{flat_map-append}
+use Rattle.cs_num.specs.declared.Sample.{Sample}
+use Rattle.lte_types.specs.declared.hit.Hit.{Hit}
+use Rattle.lte_types.specs.declared.entry.Entry.{Entry}
+use Rattle.pss_search.specs.Hits.{hits_of}
+use Rattle.explain.specs.Entries.{is_same_cell, kept, IsBefore, IsEntryOf, AreEntriesOf, IsListOf, IsListOfHits}
+use Rattle.explain.specs.Masters.{AddsHit}
+use Rattle.explain.specs.Laws.{IsOneList, IsSound, IsComplete, IsApart}
+use Rattle.explain.proofs.Sorted.{in_none, in_cons, Contains-here, Contains-later, one_in_order}
+use Rattle.explain.proofs.Kept.{same_cell_turned, same_place_same_cell, kept_only, kept_stands, kept_apart, before_after}
+
+abbrev pub joined : List (List Entry) → List Entry
+joined groups = flat_map (λ entries. entries) groups
+
+-- ---- entries of hits
+
+-- an entry of some of these hits
+record IsOfSome (recording : List Sample) (hits : List Hit) (entry : Entry) : Type 0 where
+  hit : Hit
+  listed : Contains hits hit
+  is_of : IsEntryOf recording hit entry
+
+of_some : (recording : List Sample) (hits : List Hit) (groups : List (List Entry)) (entry : Entry) →
+    AllZip (AreEntriesOf recording) hits groups → Contains (joined groups) entry → IsOfSome recording hits entry
+of_some recording [] [] entry each h = absurd (in_none entry h)
+of_some recording [] (g ∷ gs) entry each h = absurd each
+of_some recording (hit ∷ hits) [] entry each h = absurd each
+of_some recording (hit ∷ hits) (g ∷ gs) entry each h = elim (Contains-append_cases g (joined gs) entry h) [
+  | inl own ↦ record { hit = hit; listed = Contains-here hit hits; is_of = (each.0.given entry).0 own }
+  | inr rest ↦ let s = of_some recording hits gs entry each.1 rest in record { hit = s.hit; listed = Contains-later hit hits s.hit s.listed; is_of = s.is_of }
+]
+
+in_groups : (recording : List Sample) (hits : List Hit) (groups : List (List Entry)) (entry : Entry) (hit : Hit) →
+    AllZip (AreEntriesOf recording) hits groups → Contains hits hit → IsEntryOf recording hit entry → Contains (joined groups) entry
+in_groups recording [] [] entry hit each listed is_of = absurd (in_none hit listed)
+in_groups recording [] (g ∷ gs) entry hit each listed is_of = absurd each
+in_groups recording (h ∷ hits) [] entry hit each listed is_of = absurd each
+in_groups recording (h ∷ hits) (g ∷ gs) entry hit each listed is_of = elim (in_cons h hits hit listed) [
+  | inl is ↦ Contains-append_left g (joined gs) entry ((each.0.given entry).1 (subst (λ x. IsEntryOf recording x entry) (sym is) is_of))
+  | inr later ↦ Contains-append_right g (joined gs) entry (in_groups recording hits gs entry hit each.1 later is_of)
+]
+
+-- ---- laws
+
+pub is_sound : IsSound
+is_sound recording list entry explained h =
+    let s = of_some recording (hits_of recording) explained.groups entry explained.each
+    (kept_only (joined explained.groups) entry (Contains-permutation list (kept (joined explained.groups)) entry (IsPermutation-sym _ _ explained.listed.same) h)) in
+    record { hit = s.hit; listed = s.listed; is_of = s.is_of }
+
+pub is_complete : IsComplete
+is_complete recording list entry explained is =
+    let inside = in_groups recording (hits_of recording) explained.groups entry is.hit explained.each is.listed is.is_of in
+    let (other, s) = kept_stands (joined explained.groups) entry inside in
+    (other, record { inside = Contains-permutation (kept (joined explained.groups)) list other explained.listed.same s.inside; same = s.same })
+
+-- the entries of a hit are one list
+one_group : (recording : List Sample) (hit : Hit) (first second : List Entry) → AreEntriesOf recording hit first → AreEntriesOf recording hit second → first ≡ second
+one_group recording hit first second a b =
+    one_in_order (λ (x y : Entry). x.phase < y.phase) (λ x y p q. omega (arith, p, q)) first second a.by_phase b.by_phase
+    (λ z h. (b.given z).1 ((a.given z).0 h)) (λ z h. (a.given z).1 ((b.given z).0 h))
+
+one_grouping : (recording : List Sample) (hits : List Hit) (first second : List (List Entry)) →
+    AllZip (AreEntriesOf recording) hits first → AllZip (AreEntriesOf recording) hits second → first ≡ second
+one_grouping recording [] [] [] a b = refl
+one_grouping recording [] [] (g ∷ gs) a b = absurd b
+one_grouping recording [] (f ∷ fs) second a b = absurd a
+one_grouping recording (hit ∷ hits) [] second a b = absurd a
+one_grouping recording (hit ∷ hits) (f ∷ fs) [] a b = absurd b
+one_grouping recording (hit ∷ hits) (f ∷ fs) (g ∷ gs) a b =
+    ap (λ x. x ∷ fs) (one_group recording hit f g a.0 b.0) ∙ ap (λ xs. g ∷ xs) (one_grouping recording hits fs gs a.1 b.1)
+
+one_order : (entries first second : List Entry) → IsListOf entries first → IsListOf entries second → first ≡ second
+one_order entries first second a b =
+    one_in_order IsBefore before_after first second a.in_order b.in_order
+    (λ z h. Contains-permutation (kept entries) second z b.same (Contains-permutation first (kept entries) z (IsPermutation-sym _ _ a.same) h))
+    (λ z h. Contains-permutation (kept entries) first z a.same (Contains-permutation second (kept entries) z (IsPermutation-sym _ _ b.same) h))
+
+pub is_one_list : IsOneList
+is_one_list recording first second a b =
+    let groups = one_grouping recording (hits_of recording) a.groups b.groups a.each b.each in
+    one_order (joined b.groups) first second (subst (λ g. IsListOf (joined g) first) groups a.listed) b.listed
+
+-- two of a list of which none is of the cell of a later one, at two places
+places_apart : (entries : List Entry) (x y : Entry) (i j : ℕ) → AllPairs (λ a b. is_same_cell a b ≡ false) entries → i < length entries → j < length entries →
+    get_or entries i x ≡ x → get_or entries j y ≡ y → (i ≡ j → ⊥) → is_same_cell x y ≡ false
+places_apart entries x y i j apart a b ex ey differ = place (cases_lt i j) (cases_lt j i)
+  where
+    at_x : get_or entries i y ≡ x
+    at_x = get_or_default entries i y x a ∙ ex
+
+    at_y : get_or entries j x ≡ y
+    at_y = get_or_default entries j x y b ∙ ey
+
+    place : (i < j) ⊎ (j ≤ i) → (j < i) ⊎ (i ≤ j) → is_same_cell x y ≡ false
+    place (inl below) other = subst (λ z. is_same_cell x z ≡ false) at_y (subst (λ z. is_same_cell z (get_or entries j x) ≡ false) ex (apart i j x below b))
+    place (inr low) (inl below) = same_cell_turned x y ∙ subst (λ z. is_same_cell y z ≡ false) at_x (subst (λ z. is_same_cell z (get_or entries i y) ≡ false) ey (apart j i y below a))
+    place (inr low) (inr high) = absurd (differ (omega (arith, low, high)))
+
+-- two that stand at one place are the same, so that none stands before the other
+one_place : (entries : List Entry) (x y : Entry) (m n : ℕ) → m ≡ n → get_or entries m x ≡ x → get_or entries n y ≡ y → m < length entries → IsBefore x y → ⊥
+one_place entries x y m n e ex ey inside before =
+    let same : x ≡ y = sym ex ∙ get_or_default entries m x y inside ∙ ap (λ k. get_or entries k y) e ∙ ey in
+    before_after x x (subst (IsBefore x) (sym same) before) (subst (IsBefore x) (sym same) before)
+
+pub is_apart : IsApart
+is_apart recording list explained i j d below inside =
+    let entries = kept (joined explained.groups) in
+    let x = get_or list i d in
+    let y = get_or list j d in
+    let back = IsPermutation-sym entries list explained.listed.same in
+    let (m, a, ex) = Contains-permutation list entries x back (Contains-get_or list i d (omega (arith, below, inside))) in
+    let (n, b, ey) = Contains-permutation list entries y back (Contains-get_or list j d inside) in
+    let before : IsBefore x y = explained.listed.in_order i j d below inside in
+    let differ : m ≡ n → ⊥ = λ e. one_place entries x y m n e ex ey a before in
+    let other = places_apart entries x y m n (kept_apart (joined explained.groups)) a b ex ey differ in
+    record {
+      other_cell = λ same. absurd (cc (same, other));
+      differ = λ id start sfn. let same = same_place_same_cell x y id start sfn in absurd (cc (same, other));
+    }
+
+-- ---- hit after hit
+
+pub of_no_hits : (recording : List Sample) → IsListOfHits recording [] []
+of_no_hits recording = record {
+  groups = [];
+  each = tt;
+  listed = record { same = IsPermutation-refl []; in_order = λ i j d below inside. absurd (omega (arith, inside)) };
+}
+
+AllZip-more : {A B : Type 0} (R : A → B → Type 0) (xs : List A) (ys : List B) (x : A) (y : B) → AllZip R xs ys → R x y → AllZip R (xs ++ x ∷ []) (ys ++ y ∷ [])
+AllZip-more R [] [] x y h r = (r, tt)
+AllZip-more R [] (b ∷ ys) x y h r = absurd h
+AllZip-more R (a ∷ xs) [] x y h r = absurd h
+AllZip-more R (a ∷ xs) (b ∷ ys) x y h r = (h.0, AllZip-more R xs ys x y h.1 r)
+
+pub of_one_more : (recording : List Sample) (hits : List Hit) (hit : Hit) (old new : List Entry) → IsListOfHits recording hits old → AddsHit recording hit old new → IsListOfHits recording (hits ++ hit ∷ []) new
+of_one_more recording hits hit old new before adds =
+    let all : joined (before.groups ++ adds.entries ∷ []) ≡ joined before.groups ++ adds.entries =
+    flat_map-append (λ entries. entries) before.groups (adds.entries ∷ []) ∙ ap (λ e. joined before.groups ++ e) (append-nil adds.entries) in
+    record {
+      groups = before.groups ++ adds.entries ∷ [];
+      each = AllZip-more (AreEntriesOf recording) hits before.groups hit adds.entries before.each adds.are;
+      listed = subst (λ entries. IsListOf entries new) (sym all) (adds.adds (joined before.groups) before.listed);
+    }

@@ -1,0 +1,101 @@
+-- The list of the cells that a recording explains. (own)
+use Rattle.std.specs.Prelude.{◌≡◌, ◌⊎◌, ◌↔◌, ℕ, ◌+◌, ◌-◌, ◌*◌, ◌%◌, ◌<◌, ◌≤◌, min, Bool, ◌&&◌, nat_eq, nat_le, if◌then◌else◌, List, [], ◌∷◌, ◌++◌, Err}
+use Rattle.std.specs.List.{fold, list_any, flat_map, AllZip, AllPairs, Contains}
+use Rattle.std.specs.List.Sorted.{IsPermutation}
+use Rattle.cs_num.specs.declared.Sample.{Sample}
+use Rattle.lte_types.specs.declared.hit.Hit.{Hit}
+use Rattle.lte_types.specs.declared.entry.Entry.{Entry}
+use Rattle.lte_types.specs.declared.sib1_reason.Sib1Reason.TheVariants.{NotRead}
+use Rattle.pss_search.specs.Hits.{hits_of}
+use Rattle.sss_detect.specs.Identity.{identity_of}
+use Rattle.sss_detect.specs.Place.{start_of, cell_of}
+use Rattle.pbch.specs.declared.master.Master.{Master}
+use Rattle.pbch.specs.Master.{IsMaster, HasNoMaster}
+use Rattle.explain.specs.Frame.{IsWhole, broadcast_slot}
+
+-- ---- the entries of a hit
+
+-- the identity of the cell that a hit tells
+abbrev pub identity_at : List Sample → Hit → ℕ
+identity_at recording hit = cell_of (identity_of recording hit).0 hit.n2
+
+-- the start of the frames that it tells
+abbrev pub start_at : List Sample → Hit → ℕ
+start_at recording hit = start_of hit.t (identity_of recording hit).1
+
+-- the master block of an entry
+abbrev pub master_of : Entry → Master
+master_of entry = record { ports = entry.ports; mib = entry.mib; cost = entry.cost }
+
+-- no frame before frame j has a master block, at any phase
+abbrev pub HasNoMasterBefore : List Sample → ℕ → ℕ → ℕ → Type 0
+HasNoMasterBefore recording identity start j =
+    (i phase : ℕ) → i < j → phase < 4 → HasNoMaster (broadcast_slot recording identity start i) phase
+
+-- the entry tells a master block of the hit: one of the first of its whole frames 0 to 7 that has any. The frame's number is four
+-- times the block's upper bits and the phase; that of the first frame is as much less as there are frames before
+pub record IsEntryOf (recording : List Sample) (hit : Hit) (entry : Entry) : Type 0 where
+  pub id : entry.id ≡ identity_at recording hit
+  pub start : entry.start ≡ start_at recording hit
+  pub frame : entry.frame ≤ 7
+  pub phase : entry.phase < 4
+  pub whole : IsWhole recording entry.start entry.frame
+  pub first : HasNoMasterBefore recording entry.id entry.start entry.frame
+  pub master : IsMaster (broadcast_slot recording entry.id entry.start entry.frame) entry.phase (master_of entry)
+  pub sfn : entry.sfn ≡ (4 * entry.mib.upper + entry.phase + (1024 - entry.frame)) % 1024
+  pub sib1 : entry.sib1 ≡ Err NotRead
+
+-- the entries of a hit: one for each of its master blocks, by phase
+pub record AreEntriesOf (recording : List Sample) (hit : Hit) (entries : List Entry) : Type 0 where
+  pub given : (entry : Entry) → Contains entries entry ↔ IsEntryOf recording hit entry
+  pub by_phase : AllPairs (λ first second. first.phase < second.phase) entries
+
+-- ---- the entries that are kept
+
+-- when frame 0 began, modulo the samples of 1,024 frames
+abbrev pub epoch : Entry → ℕ
+epoch entry = (entry.start + (19660800 - 19200 * entry.sfn)) % 19660800
+
+-- how far two epochs are apart, by the shorter way
+abbrev pub distance : ℕ → ℕ → ℕ
+distance a b = let gap = (a - b) + (b - a) in min gap (19660800 - gap)
+
+-- two entries are of one cell: of one identity, and their epochs at most 9 samples apart
+abbrev pub is_same_cell : Entry → Entry → Bool
+is_same_cell a b = nat_eq a.id b.id && nat_le (distance (epoch a) (epoch b)) 9
+
+-- the entries with one more, which is dropped where one of them is of its cell
+abbrev pub with_entry : List Entry → Entry → List Entry
+with_entry kept entry = if list_any (λ other. is_same_cell other entry) kept then kept else kept ++ entry ∷ []
+
+-- of entries in order, those that are kept: each that is of the cell of no kept one before it
+abbrev pub kept : List Entry → List Entry
+kept entries = fold with_entry [] entries
+
+-- ---- the list
+
+-- the first entry stands before the second: by start, then by identity, then by frame number
+abbrev pub IsBefore : Entry → Entry → Type 0
+IsBefore a b =
+    (a.start < b.start) ⊎ ((a.start ≡ b.start) × ((a.id < b.id) ⊎ ((a.id ≡ b.id) × (a.sfn < b.sfn))))
+
+-- the list has the kept ones of these entries, in order
+pub record IsListOf (entries list : List Entry) : Type 0 where
+  pub same : IsPermutation (kept entries) list
+  pub in_order : AllPairs IsBefore list
+
+-- the list of hits: that of their entries, those of one hit after those of the other
+pub record IsListOfHits (recording : List Sample) (hits : List Hit) (list : List Entry) : Type 0 where
+  pub groups : List (List Entry)
+  pub each : AllZip (AreEntriesOf recording) hits groups
+  pub listed : IsListOf (flat_map (λ entries. entries) groups) list
+
+-- the list of a recording
+abbrev pub IsExplained : List Sample → List Entry → Type 0
+IsExplained recording list = IsListOfHits recording (hits_of recording) list
+
+-- the entry is in the recording's list
+pub record IsInList (recording : List Sample) (entry : Entry) : Type 0 where
+  pub list : List Entry
+  pub explained : IsExplained recording list
+  pub inside : Contains list entry

@@ -1,0 +1,4 @@
+pub mod Frame
+pub mod Entries
+pub mod Masters
+pub mod Laws

@@ -1,0 +1,142 @@
+//! The list of the cells of a recording.
+
+ghost use Rattle.std.specs.Prelude.{◌≡◌, ℕ, ◌+◌, ◌*◌, ◌<◌, ◌≤◌, [], All, nat_abs, length};
+ghost use Rattle.pss_search.specs.Hits.{IsInSpan, hits_of};
+ghost use Rattle.pbch.specs.Values.{coded_values};
+ghost use Rattle.pbch.specs.Master.{TellsMaster};
+ghost use Rattle.explain.specs.Frame.{broadcast_slot as broadcast_slot_of};
+ghost use Rattle.explain.specs.Entries.{IsExplained, IsInList, IsListOfHits, master_of};
+ghost use Rattle.explain.specs.Masters.{AddsHit, Adds, entry_of as entry_of_master, entry_at, entries_of};
+
+use crate::frame::broadcast_slot;
+use crate::listing::add;
+use crate::masters::{Masters, first_masters};
+use crate::{EntryList, Workspace};
+use lte_types::{CellId, Entry, Hit, Sfn, Sib1Reason};
+use pbch::{Master, values};
+use pss_search::hits;
+use sample_file::Recording;
+use sss_detect::{cell_id, frame_start, identity};
+use tailbite::Trellis;
+
+/// Afterwards the list is that of the recording, whatever it held before. Each hit, by place, tells
+/// an identity and a start of frames, and the first of its whole frames 0 to 7 that has a master
+/// block at any phase gives an entry for each of its master blocks, by phase. An entry is dropped
+/// where a kept one before it has the same identity and an epoch at most 9 samples away, modulo
+/// 1,024 frames. The list is in order of start, identity and frame number. It takes no memory. (own)
+pub fn explain(recording: &Recording, work: &mut Workspace, list: &mut EntryList)
+    ensures { IsExplained recording.now list.new }
+{
+    hits(recording, &mut work.hits);
+    list.clear();
+    add_hits(recording, work.hits.slice(), &mut work.trellis, list);
+}
+
+/// The values of an entry's master block: for each place and stream of its coded word the sum of the
+/// soft values of the frame that tells it. The entry is in the recording's list. Each has size at
+/// most 508. The entry's ports and master block are those that the least word of these values tells,
+/// and its cost is that word's.
+pub fn values_of(recording: &Recording, entry: &Entry) -> [[i32; 3]; 40]
+    requires { IsInList recording.now entry.now }
+    ensures values { result ≡ coded_values (broadcast_slot_of recording.now entry.now.id entry.now.start entry.now.frame) entry.now.phase }
+    ensures master { TellsMaster result (master_of entry.now) }
+    ensures sizes { All (λ place. All (λ sum. nat_abs sum ≤ 508) place) result }
+{
+    let slot = broadcast_slot(recording, entry.id, entry.start, entry.frame);
+    values(&slot, entry.phase)
+}
+
+// Adds the entries of hits to the empty list.
+fn add_hits(recording: &Recording, hits: &[Hit], work: &mut Trellis, list: &mut EntryList)
+    requires span { All IsInSpan hits.now }
+    requires few { length hits.now ≤ 5760 }
+    requires empty { list.old ≡ [] }
+    ensures { IsListOfHits recording.now hits.now list.new }
+{
+    for hit in hits {
+        add_hit(recording, hit, work, list);
+    }
+}
+
+// Adds the entries of a hit.
+fn add_hit(recording: &Recording, hit: &Hit, work: &mut Trellis, list: &mut EntryList)
+    requires span { IsInSpan hit.now }
+    requires room { length list.old + 4 ≤ 23040 }
+    ensures adds { AddsHit recording.now hit.now list.old list.new }
+    ensures few { length list.new ≤ length list.old + 4 }
+{
+    let end = recording.len();
+    prove!(hit.t as usize + 128 <= end);
+    let (n1, half) = identity(recording, hit);
+    let id = cell_id(n1, hit.n2);
+    let start = frame_start(hit, half);
+    match first_masters(recording, id, start, work) {
+        Some(masters) => add_masters(id, start, &masters, list),
+        None => {}
+    }
+}
+
+// Adds the entries of a frame's master blocks.
+fn add_masters(id: CellId, start: u32, masters: &Masters, list: &mut EntryList)
+    requires frame { masters.now.frame ≤ 7 }
+    requires count { length masters.now.at ≡ 4 }
+    requires room { length list.old + 4 ≤ 23040 }
+    ensures adds { Adds (entries_of id start masters.now.frame masters.now.at) list.old list.new }
+    ensures few { length list.new ≤ length list.old + 4 }
+{
+    for phase in 0..4 {
+        add_of(
+            id,
+            start,
+            masters.frame,
+            phase,
+            masters.at[phase as usize],
+            list,
+        );
+    }
+}
+
+// Adds the entry of a master block, where there is one.
+fn add_of(
+    id: CellId,
+    start: u32,
+    frame: u8,
+    phase: u8,
+    master: Option<Master>,
+    list: &mut EntryList,
+)
+    requires frame { frame ≤ 7 }
+    requires phase { phase < 4 }
+    requires room { length list.old < 23040 }
+    ensures adds { Adds (entry_at id start frame phase master) list.old list.new }
+    ensures one { length list.new ≤ length list.old + 1 }
+{
+    match master {
+        Some(master) => add(list, entry_of(id, start, frame, phase, master)),
+        None => {}
+    }
+}
+
+// The entry of a master block.
+fn entry_of(id: CellId, start: u32, frame: u8, phase: u8, master: Master) -> Entry
+    requires frame { frame ≤ 7 }
+    requires phase { phase < 4 }
+    ensures { result ≡ entry_of_master id start frame phase master }
+{
+    let number = (4 * master.mib.upper as u16 + phase as u16 + (1024 - frame as u16)) % 1024;
+    let sfn = match Sfn::new(number) {
+        Some(sfn) => sfn,
+        None => unreachable!(),
+    };
+    Entry {
+        id,
+        start,
+        sfn,
+        ports: master.ports,
+        mib: master.mib,
+        frame,
+        phase,
+        cost: master.cost,
+        sib1: Err(Sib1Reason::NotRead),
+    }
+}

@@ -1,0 +1,62 @@
+//! Lists of entries.
+
+ghost use Rattle.std.specs.Prelude.{◌≡◌, ◌≤◌, ◌<◌, List, [], length, IfOk};
+ghost use Rattle.std.specs.List.{insert as insert_at};
+ghost use Rattle.std.specs.Vec.{vec_capacity};
+ghost use Rattle.lte_types.specs.declared.entry.Entry.{Entry as EntryValue};
+
+use lte_types::Entry;
+use std::alloc::{AllocError, Global};
+use std::marker::Model;
+
+/// A list of entries with room for 23,040: four master blocks for each of 5,760 hits. Contracts see
+/// it as the list of its items.
+#[derive(Drop)]
+pub struct EntryList {
+    entries: Vec<Entry>,
+}
+
+impl Model for EntryList {
+    ghost Value = { List EntryValue };
+
+    ghost view = { λ l. l.entries.items };
+
+    ghost invariant = { λ l. 23040 ≤ vec_capacity l.entries };
+}
+
+impl EntryList {
+    /// The empty list, with its memory taken. Only memory can be wanting.
+    pub fn new(alloc: Global) -> Result<Self, AllocError>
+        ensures { IfOk result (λ l. l ≡ []) }
+    {
+        Ok(EntryList {
+            entries: Vec::with_capacity(alloc, 23_040)?,
+        })
+    }
+
+    /// The items in order.
+    pub fn slice(&self) -> &[Entry]
+        ensures { result.now ≡ self.now }
+    {
+        &self.entries
+    }
+
+    /// Leaves the empty list.
+    pub fn clear(&mut self)
+        ensures { self.new ≡ [] }
+    {
+        self.entries.clear();
+    }
+
+    /// Puts the item at `at`; those from there on move up by one. It takes no memory.
+    pub fn insert(&mut self, at: usize, item: Entry)
+        requires at { at ≤ length self.old }
+        requires room { length self.old < 23040 }
+        ensures { self.new ≡ insert_at self.old at item }
+    {
+        match self.entries.insert(at, item) {
+            Ok(()) => {}
+            Err(_) => unreachable!(),
+        }
+    }
+}
