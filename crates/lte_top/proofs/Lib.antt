@@ -4,4 +4,5 @@ pub mod Places
 pub mod Progress
 pub mod AnswerLines
 pub mod Judged
+pub mod Certified
 pub mod Complete

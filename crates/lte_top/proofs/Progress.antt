@@ -13,7 +13,7 @@ use Rattle.lte_top.specs.declared.form.Form.TheVariants.{Check}
 use Rattle.lte_top.specs.declared.status.Status.{Status}
 use Rattle.lte_top.specs.declared.status.Status.TheVariants.{Done, Usage, Ragged, TooShort, TooLong, ReadFault, WriteFault, OutOfMemory, BadCell, BadCertificate}
 use Rattle.lte_top.specs.Certificates.{BreaksAt, IsFirstBroken, Judged, IsRight, judged_bytes}
-use Rattle.lte_top.specs.Forms.{most_certificate_bytes, RefusesCertificates}
+use Rattle.lte_top.specs.Forms.{certificates, most_certificate_bytes, RefusesCertificates}
 use Rattle.lte_top.specs.Reading.{HasReadOn, HasAnswers, IsSound, IsFirstBreak}
 use Rattle.lte_top.specs.Texts.{check_text}
 use Rattle.lte_top.specs.Run.{HasOutput, HasRefusal, IsReadTooLong}
@@ -79,7 +79,7 @@ ended_whole answers before between now s more ended few =
 
 -- at the end of the input, within a certificate
 pub ended_early : (answers : List Bool) (part : List ℕ) (before between now : Option (List ℕ)) (place : ℕ) → IsReadTo answers part before between → HasRead [] between now → IsAtEnd now →
-    0 < length part → length part < count → place ≡ count * length answers + length part → place ≤ most_certificate_bytes → HasRefusal Check (BadCertificate place) before now
+    0 < length part → length part < count → place ≡ count * length answers + length part → place ≤ most_certificate_bytes → HasRefusal certificates (BadCertificate place) before now
 ended_early answers part before between now place s more ended some few here within =
     let all : HasRead (judged_bytes s.judged ++ part) before now =
     subst (λ l. HasRead (judged_bytes s.judged ++ l) before now) (append-nil part) (longer answers part [] before between now s more) in
@@ -88,12 +88,12 @@ ended_early answers part before between now place s more ended some few here wit
     let whole = length-append (judged_bytes s.judged) part in
     let first : IsFirstBroken (judged_bytes s.judged ++ part) place =
     subst (λ p. IsFirstBroken (judged_bytes s.judged ++ part) p) (omega (arith, many, here)) (cut_off s.judged s.right part some few s.sound) in
-    record { input = judged_bytes s.judged ++ part; read = all; refused = (first, inr (omega (arith, size, whole, many, here, within))); settled = inl ended }
+    record { bytes = judged_bytes s.judged ++ part; read = all; refused = (first, inr (omega (arith, size, whole, many, here, within))); settled = inl ended }
 
 -- at a byte that breaks the form
 pub met_break : (answers : List Bool) (part piece : List ℕ) (before between now : Option (List ℕ)) (within place : ℕ) → IsReadTo answers part before between → HasRead piece between now →
     length (part ++ piece) ≤ count → IsFirstBreak (part ++ piece) within → place ≡ count * length answers + within → count * length answers ≤ most_certificate_bytes →
-    HasRefusal Check (BadCertificate place) before now
+    HasRefusal certificates (BadCertificate place) before now
 met_break answers part piece before between now within place s more size first here few =
     let many = answers_count answers s.judged s.answers_are in
     let below = (break_below (part ++ piece) within first.here).0 in
@@ -104,7 +104,7 @@ met_break answers part piece before between now within place s more size first h
       inl inside,
     ) in
     record {
-      input = judged_bytes s.judged ++ (part ++ piece);
+      bytes = judged_bytes s.judged ++ (part ++ piece);
       read = longer answers part piece before between now s more;
       refused = subst (λ l. RefusesCertificates l (BadCertificate place)) (append-nil (judged_bytes s.judged ++ (part ++ piece))) (always []);
       settled = inr always;
@@ -112,7 +112,7 @@ met_break answers part piece before between now within place s more size first h
 
 -- one byte past the limit
 pub past_limit : (answers : List Bool) (part piece : List ℕ) (before between now : Option (List ℕ)) → IsReadTo answers part before between → HasRead piece between now →
-    length (part ++ piece) < count → IsSound (part ++ piece) → count * length answers + length (part ++ piece) ≡ most_certificate_bytes + 1 → IsReadTooLong Check before now
+    length (part ++ piece) < count → IsSound (part ++ piece) → count * length answers + length (part ++ piece) ≡ most_certificate_bytes + 1 → IsReadTooLong certificates before now
 past_limit answers part piece before between now s more few sound full = record {
   front = judged_bytes s.judged ++ (part ++ piece);
   read = longer answers part piece before between now s more;
@@ -177,19 +177,19 @@ whole_on answers n filled buffer next before between now s h zero empty few =
 
 pub early_on : (answers : List Bool) (n : ℕ) (part next : List ℕ) (before between now : Option (List ℕ)) (place : ℕ) → IsReadTo answers part before between →
     HasReadOn n part next between now → n ≡ 0 → 0 < length part → length part < count → place ≡ count * length answers + length part → place ≤ most_certificate_bytes →
-    HasRefusal Check (BadCertificate place) before now
+    HasRefusal certificates (BadCertificate place) before now
 early_on answers n part next before between now place s h zero some few here within =
     ended_early answers part before between now place s (subst (λ l. HasRead l between now) (end_piece n h.piece h.count zero) h.read) (h.end zero) some few here within
 
 pub broken_on : (answers : List Bool) (n : ℕ) (part next : List ℕ) (before between now : Option (List ℕ)) (within place : ℕ) → IsReadTo answers part before between →
     HasReadOn n part next between now → IsFirstBreak next within → length next ≤ count → place ≡ count * length answers + within → count * length answers ≤ most_certificate_bytes →
-    HasRefusal Check (BadCertificate place) before now
+    HasRefusal certificates (BadCertificate place) before now
 broken_on answers n part next before between now within place s h first size here few =
     met_break answers part h.piece before between now within place s h.read (subst (λ l. length l ≤ count) h.joined size)
     (subst (λ l. IsFirstBreak l within) h.joined first) here few
 
 pub past_on : (answers : List Bool) (n : ℕ) (part next : List ℕ) (before between now : Option (List ℕ)) → IsReadTo answers part before between →
-    HasReadOn n part next between now → (length next < count) × IsSound next → count * length answers + length next ≡ most_certificate_bytes + 1 → IsReadTooLong Check before now
+    HasReadOn n part next between now → (length next < count) × IsSound next → count * length answers + length next ≡ most_certificate_bytes + 1 → IsReadTooLong certificates before now
 past_on answers n part next before between now s h (few, sound) full =
     past_limit answers part h.piece before between now s h.read (subst (λ l. length l < count) h.joined few) (subst IsSound h.joined sound)
     (subst (λ l. count * length answers + length l ≡ most_certificate_bytes + 1) h.joined full)
@@ -208,7 +208,7 @@ judged_on answers n part next before between now answer s h (certificate, right,
 -- the text of the answers is the output
 pub output_of_answers : (answers : List Bool) (output : List ℕ) (before now : Option (List ℕ)) → HasAnswers answers before now → output ≡ check_text answers → HasOutput Check output before now
 output_of_answers answers output before now h e = record {
-  input = judged_bytes h.judged;
+  bytes = judged_bytes h.judged;
   whole = h.whole;
   unrefused = judged_unrefused h.judged h.right;
   is_output = record { judged = h.judged; read = refl; right = h.right; text = e ∙ ap check_text h.answers_are };

@@ -1,6 +1,12 @@
 -- Certificates that are read one after the other, and the answer to each. (own)
 use Rattle.std.specs.Prelude.{◌≡◌, ◌≢◌, ◌⊎◌, ◌↔◌, ℕ, ◌+◌, ◌*◌, ◌%◌, ◌<◌, ◌≤◌, Bool, IsTrue, All, List, length, map, take, drop}
-use Rattle.std.specs.List.{flat_map}
+use Rattle.std.specs.List.{flat_map, AllZip}
+use Rattle.cs_num.specs.declared.Sample.{Sample}
+use Rattle.lte_types.specs.declared.entry.Entry.{Entry}
+use Rattle.pbch.specs.Values.{coded_values}
+use Rattle.pbch.specs.Master.{Tells, Carries}
+use Rattle.explain.specs.Frame.{broadcast_slot}
+use Rattle.explain.specs.Entries.{IsExplained}
 use Rattle.tail_cert.specs.Certificate.{Held, IsWhole, IsAccepted}
 use Rattle.tail_cert.specs.Form.{count, bytes_of, IsOffMark, IsLargeValue}
 use Rattle.lte_top.specs.Texts.{check_text}
@@ -53,3 +59,23 @@ pub record IsChecked (input output : List ℕ) : Type 0 where
   pub read : input ≡ judged_bytes judged
   pub right : All IsRight judged
   pub text : output ≡ check_text (map (λ j. j.answer) judged)
+
+-- ---- what is certified
+
+-- the certificate shows an entry's master block: it is whole and accepted, and holds the values of the entry's frame, a word of
+-- least cost that tells the entry's ports and block, and that cost
+pub record Certifies (samples : List Sample) (entry : Entry) (c : Held) : Type 0 where
+  pub whole : IsWhole c.values c.word c.cost c.tables
+  pub accepted : IsAccepted c
+  pub values : c.values ≡ coded_values (broadcast_slot samples entry.id entry.start entry.frame) entry.phase
+  pub word : Tells c.values c.word entry.ports
+  pub block : Carries c.word entry.mib
+  pub cost : c.cost ≡ entry.cost
+
+-- the output is the bytes of certificates, one for each entry of the list, in order
+pub record IsCertified (samples : List Sample) (output : List ℕ) : Type 0 where
+  pub entries : List Entry
+  pub explained : IsExplained samples entries
+  pub certificates : List Held
+  pub each : AllZip (Certifies samples) entries certificates
+  pub bytes : output ≡ flat_map bytes_of certificates

@@ -2,4 +2,5 @@ pub mod Texts
 pub mod Certificates
 pub mod Forms
 pub mod Reading
+pub mod Certifying
 pub mod Run

@@ -3,11 +3,14 @@
 ghost use Rattle.std.specs.Prelude.{◌≡◌, ◌<◌, ◌≤◌, ◌*◌, ◌+◌, ◌-◌, min, length, take, IfOk, IfErr, OnErr, MatchOption};
 ghost use Rattle.cs_outside.specs.Counts.{Rose};
 ghost use Rattle.lte_top.specs.Reading.{HasReadOn, HasAnswers, IsSound, IsFirstBreak, IsStep};
-ghost use Rattle.lte_top.specs.Run.{Cause};
+ghost use Rattle.lte_top.specs.Forms.{certificates};
+ghost use Rattle.lte_top.specs.Run.{Cause, Ends};
+ghost use Rattle.lte_top.specs.declared.form.Form.TheVariants.{Check};
+ghost use Rattle.cs_outside.specs.Outside.{Outside};
 
-use crate::form::Form;
 use crate::status::Status;
-use cs_outside::{Failed, Source};
+use crate::text::text_of_answers;
+use cs_outside::{Failed, Sink, Source, write_whole};
 use std::alloc::{AllocError, Global};
 use tail_cert::{Certificate, check, parse};
 
@@ -28,11 +31,38 @@ pub(crate) enum Step {
     Broken(u64),
 }
 
+// The answers to the certificates of a source, to a sink.
+pub(crate) fn check_each<S: Source, K: Sink>(
+    alloc: Global,
+    source: &mut S,
+    sink: &mut K,
+) -> Status
+    ensures ends { Ends Check
+        (record { left = S.left source.old; read_faults = S.faults source.old; taken = K.taken sink.old; room = K.room sink.old; write_faults = K.faults sink.old })
+        (record { left = S.left source.new; read_faults = S.faults source.new; taken = K.taken sink.new; room = K.room sink.new; write_faults = K.faults sink.new })
+        result }
+    ensures reads { S.faults source.old ≤ S.faults source.new }
+    ensures writes { K.faults sink.old ≤ K.faults sink.new }
+{
+    let answers = match read_answers(alloc, source) {
+        Ok(answers) => answers,
+        Err(status) => return status,
+    };
+    let text = match text_of_answers(alloc, &answers) {
+        Ok(text) => text,
+        Err(AllocError) => return Status::OutOfMemory,
+    };
+    match write_whole(sink, text.as_bytes()) {
+        Ok(()) => Status::Done,
+        Err(_) => Status::WriteFault,
+    }
+}
+
 // The answers to the certificates of a source, which are read to the end of the input. They are
 // checked as they are read, and nothing is read after a byte that breaks their form was seen.
-pub(crate) fn read_answers<S: Source>(alloc: Global, source: &mut S) -> Result<Vec<bool>, Status>
+fn read_answers<S: Source>(alloc: Global, source: &mut S) -> Result<Vec<bool>, Status>
     ensures ok { IfOk result (λ answers. HasAnswers answers.items (S.left source.old) (S.left source.new)) }
-    ensures err { IfErr result (λ status. Cause Form.Check (S.left source.old) (S.left source.new) (S.faults source.old) (S.faults source.new) status) }
+    ensures err { IfErr result (λ status. Cause certificates (S.left source.old) (S.left source.new) (S.faults source.old) (S.faults source.new) status) }
     ensures never_falls { S.faults source.old ≤ S.faults source.new }
 {
     let (mut certificate, mut buffer) = match room_for_one(alloc) {
@@ -51,7 +81,7 @@ fn read_each<S: Source>(
 ) -> Result<Vec<bool>, Status>
     requires { length buffer.old ≡ 655613 }
     ensures ok { IfOk result (λ answers. HasAnswers answers.items (S.left source.old) (S.left source.new)) }
-    ensures err { IfErr result (λ status. Cause Form.Check (S.left source.old) (S.left source.new) (S.faults source.old) (S.faults source.new) status) }
+    ensures err { IfErr result (λ status. Cause certificates (S.left source.old) (S.left source.new) (S.faults source.old) (S.faults source.new) status) }
     ensures never_falls { S.faults source.old ≤ S.faults source.new }
 {
     let mut answers = Vec::new(alloc);

@@ -10,6 +10,8 @@ use crate::words::Words;
 pub enum Form {
     /// A report about a recording.
     About(Report),
+    /// `certify`: a certificate for each master block of the list of a recording.
+    Certify,
     /// `check`: an answer to each of the certificates that are read.
     Check,
 }
@@ -33,6 +35,8 @@ impl Form {
             Some(Form::About(Report::Hits))
         } else if words.is_one("ids") {
             Some(Form::About(Report::Ids))
+        } else if words.is_one("certify") {
+            Some(Form::Certify)
         } else if words.is_one("check") {
             Some(Form::Check)
         } else {

@@ -1,6 +1,8 @@
 //! The top call: the words of a command line, a source and a sink in, a status out.
 #![tactic(auto)]
 
+mod about;
+mod certifying;
 mod checking;
 mod form;
 mod status;

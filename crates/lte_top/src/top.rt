@@ -1,20 +1,17 @@
 //! The top call.
 
-ghost use Rattle.std.specs.Prelude.{◌≡◌, ◌≤◌, Some, IfOk, IfErr, string_bytes};
+ghost use Rattle.std.specs.Prelude.{◌≡◌, ◌≤◌, Some};
 ghost use Rattle.cs_outside.specs.Outside.{Outside};
-ghost use Rattle.sample_file.specs.Recording.{IsRecording};
-ghost use Rattle.lte_top.specs.Forms.{report_text};
-ghost use Rattle.lte_top.specs.Run.{HasOutput, Cause, HasOneAnswer, Outcome, Runs};
+ghost use Rattle.lte_top.specs.Run.{HasOneAnswer, Outcome, Runs};
 
-use crate::checking::read_answers;
-use crate::form::{Form, Report};
+use crate::about::about;
+use crate::certifying::certify;
+use crate::checking::check_each;
+use crate::form::Form;
 use crate::status::Status;
-use crate::text::{text_of_answers, text_of_hits, text_of_ids};
 use crate::words::Words;
-use cs_outside::{MemSink, MemSource, Sink, Source, write_whole};
-use pss_search::{HitList, hits};
-use sample_file::{FileError, Recording, read_recording};
-use std::alloc::{AllocError, Global};
+use cs_outside::{MemSink, MemSource, Sink, Source};
+use std::alloc::Global;
 
 /// Runs the words' form: reads its input from the source to the end, makes its output and writes
 /// it to the sink.
@@ -48,8 +45,8 @@ pub fn run_in_memory(
     run(alloc, words, source, sink)
 }
 
-/// A law of the answers: an input of a form has one answer, so that each is given exactly where it
-/// is the input's, but for want of memory and counted faults.
+/// A law of the answers: the bytes of an input have one answer, so that each is given exactly where
+/// it is theirs, but for want of memory and counted faults.
 pub fn an_input_has_one_answer()
     ensures { HasOneAnswer }
 {
@@ -69,81 +66,10 @@ fn run_words<S: Source, K: Sink>(
     ensures reads { S.faults source.old ≤ S.faults source.new }
     ensures writes { K.faults sink.old ≤ K.faults sink.new }
 {
-    let form = match Form::of(words) {
-        Some(form) => form,
-        None => return Status::Usage,
-    };
-    let output = match output_of(alloc, form, source) {
-        Ok(output) => output,
-        Err(status) => return status,
-    };
-    match write_whole(sink, output.as_bytes()) {
-        Ok(()) => Status::Done,
-        Err(_) => Status::WriteFault,
-    }
-}
-
-// What a form writes for the input of a source, which it reads to its end.
-fn output_of<S: Source>(alloc: Global, form: Form, source: &mut S) -> Result<String, Status>
-    ensures ok { IfOk result (λ text. HasOutput form (string_bytes text) (S.left source.old) (S.left source.new)) }
-    ensures err { IfErr result (λ status. Cause form (S.left source.old) (S.left source.new) (S.faults source.old) (S.faults source.new) status) }
-    ensures never_falls { S.faults source.old ≤ S.faults source.new }
-{
-    match form {
-        Form::About(report) => report_of(alloc, report, source),
-        Form::Check => check_of(alloc, source),
-    }
-}
-
-// The report about the recording of a source.
-fn report_of<S: Source>(alloc: Global, report: Report, source: &mut S) -> Result<String, Status>
-    ensures ok { IfOk result (λ text. HasOutput (Form.About report) (string_bytes text) (S.left source.old) (S.left source.new)) }
-    ensures err { IfErr result (λ status. Cause (Form.About report) (S.left source.old) (S.left source.new) (S.faults source.old) (S.faults source.new) status) }
-    ensures never_falls { S.faults source.old ≤ S.faults source.new }
-{
-    let recording = match read_recording(alloc, source) {
-        Ok(recording) => recording,
-        Err(FileError::Ragged) => return Err(Status::Ragged),
-        Err(FileError::TooShort) => return Err(Status::TooShort),
-        Err(FileError::TooLong) => return Err(Status::TooLong),
-        Err(FileError::ReadFault) => return Err(Status::ReadFault),
-        Err(FileError::OutOfMemory) => return Err(Status::OutOfMemory),
-    };
-    match text_of_report(alloc, report, &recording) {
-        Ok(text) => Ok(text),
-        Err(_) => Err(Status::OutOfMemory),
-    }
-}
-
-// The text of a report about a recording.
-fn text_of_report(
-    alloc: Global,
-    report: Report,
-    recording: &Recording,
-) -> Result<String, AllocError>
-    requires { IsRecording recording.now }
-    ensures { IfOk result (λ text. string_bytes text ≡ report_text report recording.now) }
-{
-    let mut list = HitList::new(alloc)?;
-    hits(recording, &mut list);
-    match report {
-        Report::Hits => text_of_hits(alloc, list.slice()),
-        Report::Ids => text_of_ids(alloc, recording, list.slice()),
-    }
-}
-
-// The answers to the certificates of a source.
-fn check_of<S: Source>(alloc: Global, source: &mut S) -> Result<String, Status>
-    ensures ok { IfOk result (λ text. HasOutput Form.Check (string_bytes text) (S.left source.old) (S.left source.new)) }
-    ensures err { IfErr result (λ status. Cause Form.Check (S.left source.old) (S.left source.new) (S.faults source.old) (S.faults source.new) status) }
-    ensures never_falls { S.faults source.old ≤ S.faults source.new }
-{
-    let answers = match read_answers(alloc, source) {
-        Ok(answers) => answers,
-        Err(status) => return Err(status),
-    };
-    match text_of_answers(alloc, &answers) {
-        Ok(text) => Ok(text),
-        Err(_) => Err(Status::OutOfMemory),
+    match Form::of(words) {
+        Some(Form::About(report)) => about(alloc, report, source, sink),
+        Some(Form::Certify) => certify(alloc, source, sink),
+        Some(Form::Check) => check_each(alloc, source, sink),
+        None => Status::Usage,
     }
 }

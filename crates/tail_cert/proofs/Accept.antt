@@ -57,14 +57,14 @@ accepted values cost s start table below places is_start lower small rows = reco
 
 -- ---- no word costs much
 
-disagreement-le : (z : ℤ) (b : Bool) → disagreement z b ≤ nat_abs z
+pub disagreement-le : (z : ℤ) (b : Bool) → disagreement z b ≤ nat_abs z
 disagreement-le (pos n) false = omega arith
 disagreement-le (pos n) true = omega arith
 disagreement-le (negsuc n) false = omega arith
 disagreement-le (negsuc n) true = omega arith
 
 -- a value of a list of lists of small values is small
-size_at : (limit : ℕ) (values : List (List ℤ)) → All (λ v. All (λ z. nat_abs z ≤ limit) v) values → (k t : ℕ) →
+pub size_at : (limit : ℕ) (values : List (List ℤ)) → All (λ v. All (λ z. nat_abs z ≤ limit) v) values → (k t : ℕ) →
     nat_abs (get_or (get_or values k []) t (pos 0)) ≤ limit
 size_at limit values h k t = elim (cases_lt k (length values)) [
   | inl a ↦ elim (cases_lt t (length (get_or values k []))) [

@@ -12,3 +12,4 @@ pub mod Elements
 pub mod Breaks
 pub mod Codes
 pub mod Whole
+pub mod Exists

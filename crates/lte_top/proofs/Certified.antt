@@ -1,0 +1,241 @@
+-- Certificates that are written one after the other.
+use Rattle.std.proofs.Common.{◌≡◌, ℕ, suc, ◌+◌, ◌*◌, ◌<◌, ◌≤◌, List, [], ◌∷◌, ◌++◌, length, take, drop, get_or, Option, Some, None, Bool, true, false, ◌-◌, ◌/◌, ◌%◌, pos, negsuc, ℤ, ◌*ℤ◌, refl, ap, sym, subst, ◌∙◌, inl, inr, arith, add-one, append-nil, length-append}
+use Rattle.std.specs.Prelude.{All, IfSome, nat_abs, neg_ℤ, int_div, cond, Result, Ok, Err, OnOk, OnErr}
+use Rattle.std.proofs.Math.Seq.{take-suc}
+use Rattle.std.proofs.lemmas.List.{take-append-drop}
+use Rattle.std.proofs.lemmas.List.Elements.{Contains-append_right}
+use Rattle.std.proofs.lemmas.Int.{ints}
+use Rattle.std.proofs.lemmas.Bool.{cases_lt}
+use Rattle.std.proofs.lemmas.Bool.Decides.{eqb_tells}
+use Rattle.std.specs.List.{flat_map, AllZip, Contains}
+use Rattle.std.proofs.lemmas.Slice.Zip.{AllZip-long}
+use Rattle.std.proofs.lemmas.Grind.{flat_map-append}
+use Rattle.cs_num.specs.declared.Sample.{Sample}
+use Rattle.cs_outside.specs.Streams.{HasWritten, HasWrittenFront, HasFilled}
+use Rattle.cs_outside.proofs.Writing.{write_nothing, write_then, fill_nothing, fill_then, front_after, front_of_longer, full_after}
+use Rattle.lte_types.specs.declared.entry.Entry.{Entry}
+use Rattle.finite.specs.Lists.{values_below}
+use Rattle.finite.proofs.Lists.{values_below-length, values_below_at}
+use Rattle.cs_num.specs.Rounding.{clamped}
+use Rattle.gold.specs.Gold.{gold_bit}
+use Rattle.grid_map.specs.Broadcast.{pbch_place}
+use Rattle.soft_bits.specs.Soft.{SeenSlot, soft_value, soft_values, turned_back, pilot_energy}
+use Rattle.conv_code.specs.Reading.{summed, summed_at}
+use Rattle.conv_code.specs.Cost.{word_cost}
+use Rattle.tailbite.specs.LeastWord.{IsLeastWord}
+use Rattle.pbch.specs.Values.{seen_value, value, frame_values, coded_values}
+use Rattle.pbch.specs.Master.{Tells, TellsMaster, Carries}
+use Rattle.pbch.proofs.Words.{one_word}
+use Rattle.pbch.proofs.Sizes.{sizes_of_sums}
+use Rattle.tail_cert.specs.Certificate.{Held, IsWhole, IsAccepted, IsTriple, Counted}
+use Rattle.tail_cert.specs.Form.{count, bytes_of}
+use Rattle.tail_cert.proofs.Codes.{length-bytes_of}
+use Rattle.tail_cert.proofs.Exists.{certificate_of, least_has_certificate}
+use Rattle.explain.specs.Frame.{broadcast_slot}
+use Rattle.explain.specs.Entries.{IsExplained, master_of}
+use Rattle.explain.proofs.Sorted.{Contains-here, Contains-later}
+use Rattle.explain.proofs.Listed.{is_one_list, is_sound}
+use Rattle.cs_outside.specs.declared.Failed.{Failed}
+use Rattle.lte_top.specs.Certificates.{Certifies, IsCertified}
+use Rattle.lte_top.specs.Certifying.{HasCertified, HasCertifiedFront, HasCertifiedAll, HasCertifiedSome}
+
+-- certificates of entries are as long as there are entries
+pub certified_length : (samples : List Sample) (entries : List Entry) (certificates : List Held) → AllZip (Certifies samples) entries certificates →
+    length (flat_map bytes_of certificates) ≡ count * length entries
+certified_length samples [] [] z = refl
+certified_length samples [] (c ∷ cs) z = absurd z
+certified_length samples (e ∷ es) [] z = absurd z
+certified_length samples (e ∷ es) (c ∷ cs) (first, rest) =
+    let one = length-bytes_of c first.whole in
+    let more = certified_length samples es cs rest in
+    omega (arith, one, more, length-append (bytes_of c) (flat_map bytes_of cs))
+
+-- all certificates of a recording's list have one length
+pub one_certified_length : (samples : List Sample) (first second : List ℕ) → IsCertified samples first → IsCertified samples second → length first ≡ length second
+one_certified_length samples first second a b =
+    let same = is_one_list samples a.entries b.entries a.explained b.explained in
+    let p = certified_length samples a.entries a.certificates a.each in
+    let q = certified_length samples b.entries b.certificates b.each in
+    ap length a.bytes ∙ p ∙ ap (λ l. count * length l) same ∙ sym q ∙ sym (ap length b.bytes)
+
+-- ---- an entry's certificate
+
+-- what makes a certificate of an entry: it is accepted, with the values of the entry's frame and a least word of them
+pub certifies : (samples : List Sample) (entry : Entry) (c : Held) → IsWhole c.values c.word c.cost c.tables → IsAccepted c →
+    c.values ≡ coded_values (broadcast_slot samples entry.id entry.start entry.frame) entry.phase →
+    TellsMaster (coded_values (broadcast_slot samples entry.id entry.start entry.frame) entry.phase) (master_of entry) → IsLeastWord c.values c.word → Certifies samples entry c
+certifies samples entry c whole accepted values tells least =
+    let there : TellsMaster c.values (master_of entry) = subst (λ v. TellsMaster v (master_of entry)) (sym values) tells in
+    let same : there.word ≡ c.word = one_word c.values there.word c.word there.tells.least least in
+    record {
+      whole = whole;
+      accepted = accepted;
+      values = values;
+      word = subst (λ w. Tells c.values w entry.ports) same there.tells;
+      block = subst (λ w. Carries w entry.mib) same there.mib;
+      cost = accepted.stated ∙ ap (word_cost c.values) (sym same) ∙ sym there.cost;
+    }
+
+-- the same by the values that it was filled with
+pub certifies_filled : (samples : List Sample) (entry : Entry) (c : Held) (v : List (List ℤ)) → IsWhole c.values c.word c.cost c.tables → IsAccepted c → c.values ≡ v →
+    v ≡ coded_values (broadcast_slot samples entry.id entry.start entry.frame) entry.phase → TellsMaster v (master_of entry) → IsLeastWord v c.word → Certifies samples entry c
+certifies_filled samples entry c v whole accepted filled values tells least =
+    certifies samples entry c whole accepted (filled ∙ values) (subst (λ v. TellsMaster v (master_of entry)) values tells) (subst (λ v. IsLeastWord v c.word) (sym filled) least)
+
+-- soft values are small
+soft_small : (z : ℤ) (energy : ℕ) → nat_abs (soft_value z energy) ≤ 127
+soft_small z energy = elim (eqb_tells energy 0) [
+  | inl (t, same) ↦ rw t (omega arith)
+  | inr (f, other) ↦ rw f (clamped_small (int_div (pos 6 *ℤ z) (pos energy)))
+]
+  where
+    clamped_small : (x : ℤ) → nat_abs (clamped x 127) ≤ 127
+    clamped_small (pos n) = omega arith
+    clamped_small (negsuc n) = omega (arith, ints)
+
+seen_small : (slot : SeenSlot) (i : ℕ) → nat_abs (seen_value slot i) ≤ 127
+unfolding soft_values
+seen_small slot i =
+    let place = pbch_place slot.identity (i / 2) in
+    elim (cases_lt (i % 2) 1) [
+      | inl real ↦ let e : i % 2 ≡ 0 = omega arith in rw e (soft_small (turned_back slot (place.symbol - 7) place.k).re (pilot_energy slot))
+      | inr imaginary ↦ let e : i % 2 ≡ 1 = omega arith in rw e (soft_small (turned_back slot (place.symbol - 7) place.k).im (pilot_energy slot))
+    ]
+
+value_small : (slot : SeenSlot) (phase i : ℕ) → nat_abs (value slot phase i) ≤ 127
+value_small slot phase i = by_bit (gold_bit slot.identity (480 * phase + i))
+  where
+    by_bit : (b : Bool) → nat_abs (cond b (neg_ℤ (seen_value slot i)) (seen_value slot i)) ≤ 127
+    by_bit false = seen_small slot i
+    by_bit true = let s = seen_small slot i in omega (arith, ints, s)
+
+-- the values of a slot have the shape and the sizes of a certificate
+values_fit : (slot : SeenSlot) (phase : ℕ) → Counted 40 IsTriple (coded_values slot phase)
+unfolding coded_values frame_values summed
+values_fit slot phase =
+    let bits = values_below 480 (value slot phase) in
+    let small : All (λ z. nat_abs z ≤ 127) bits = λ i d inside.
+    let below : i < 480 = omega (arith, inside, values_below-length 480 (value slot phase)) in
+    rw (values_below_at (value slot phase) 480 i d below) (value_small slot phase i) in
+    let sizes = sizes_of_sums bits (values_below-length 480 (value slot phase)) small in
+    let row = λ (k : ℕ). values_below 3 (summed_at 40 bits (length bits) k) in
+    record {
+      count = values_below-length 40 row;
+      all = λ k d inside.
+        let below : k < 40 = omega (arith, inside, values_below-length 40 row) in
+        record {
+          count = ap length (values_below_at row 40 k d below) ∙ values_below-length 3 (summed_at 40 bits (length bits) k);
+          all = λ t e there. let s = sizes k d inside t e there in omega (arith, s);
+        };
+    }
+
+-- each entry of the list has a certificate
+entry_has_certificate : (samples : List Sample) (entries : List Entry) (entry : Entry) → IsExplained samples entries → Contains entries entry →
+    (c : Held) × Certifies samples entry c
+entry_has_certificate samples entries entry explained inside =
+    let known = is_sound samples entries entry explained inside in
+    let values = coded_values (broadcast_slot samples entry.id entry.start entry.frame) entry.phase in
+    let tells : TellsMaster values (master_of entry) = known.is_of.master in
+    let made = least_has_certificate values tells.word (values_fit (broadcast_slot samples entry.id entry.start entry.frame) entry.phase) tells.tells.least in
+    (certificate_of values tells.word, certifies samples entry (certificate_of values tells.word) made.whole made.accepted made.values_are tells
+      (subst (λ w. IsLeastWord (certificate_of values tells.word).values w) (sym made.word_is) (subst (λ v. IsLeastWord v tells.word) (sym made.values_are) tells.tells.least)))
+
+-- and so have all
+pub entries_have : (samples : List Sample) (entries rest : List Entry) → IsExplained samples entries → ((entry : Entry) → Contains rest entry → Contains entries entry) →
+    (cs : List Held) × AllZip (Certifies samples) rest cs
+entries_have samples entries [] explained inside = ([], tt)
+entries_have samples entries (e ∷ rest) explained inside =
+    let (c, first) = entry_has_certificate samples entries e explained (inside e (Contains-here e rest)) in
+    let (cs, more) = entries_have samples entries rest explained (λ entry there. inside entry (Contains-later e rest entry there)) in
+    (c ∷ cs, (first, more))
+
+-- ---- one certificate is written
+
+pub certified_ok : (samples : List Sample) (entry : Entry) (c : Held) (piece : List ℕ) (before now : Option (List ℕ)) (room room_now : Option ℕ) (r : Result (Unit {0}) Failed) →
+    Certifies samples entry c → piece ≡ bytes_of c → OnOk r (HasWritten piece before now) → OnOk r (HasFilled (length piece) room room_now) →
+    OnOk r (HasCertified samples entry before now room room_now)
+certified_ok samples entry c piece before now room room_now (Err e) h same written filled = tt
+certified_ok samples entry c piece before now room room_now (Ok u) h same written filled = record {
+  certificate = c;
+  certifies = h;
+  written = subst (λ l. HasWritten l before now) same written;
+  filled = subst (λ n. HasFilled n room room_now) (ap length same ∙ length-bytes_of c h.whole) filled;
+}
+
+pub certified_err : (samples : List Sample) (entry : Entry) (c : Held) (piece : List ℕ) (before now : Option (List ℕ)) (room : Option ℕ) (r : Result (Unit {0}) Failed) →
+    Certifies samples entry c → piece ≡ bytes_of c → OnErr r (HasWrittenFront piece before now) → OnErr r (IfSome room (λ left. left < length piece)) →
+    OnErr r (HasCertifiedFront samples entry before now room)
+certified_err samples entry c piece before now room (Ok u) h same front full = tt
+certified_err samples entry c piece before now room (Err e) h same front full = record {
+  certificate = c;
+  certifies = h;
+  front = subst (λ l. HasWrittenFront l before now) same front;
+  full = subst (λ n. IfSome room (λ left. left < n)) (ap length same ∙ length-bytes_of c h.whole) full;
+}
+
+-- ---- one after the other
+
+-- at first none is written
+pub written_none : (samples : List Sample) (before : Option (List ℕ)) (room : Option ℕ) → HasCertifiedAll samples [] before before room room
+written_none samples before room = record { certificates = []; each = tt; written = write_nothing before; filled = fill_nothing room }
+
+zip_append : (samples : List Sample) (es fs : List Entry) (cs ds : List Held) → AllZip (Certifies samples) es cs → AllZip (Certifies samples) fs ds → AllZip (Certifies samples) (es ++ fs) (cs ++ ds)
+zip_append samples [] fs [] ds a b = b
+zip_append samples [] fs (c ∷ cs) ds a b = absurd a
+zip_append samples (e ∷ es) fs [] ds a b = absurd a
+zip_append samples (e ∷ es) fs (c ∷ cs) ds (first, rest) b = (first, zip_append samples es fs cs ds rest b)
+
+one_flat : (c : Held) → flat_map bytes_of (c ∷ []) ≡ bytes_of c
+one_flat c = append-nil (bytes_of c)
+
+pub written_more : (samples : List Sample) (entries : List Entry) (entry : Entry) (before between now : Option (List ℕ)) (room room_between room_now : Option ℕ) →
+    HasCertifiedAll samples entries before between room room_between → HasCertified samples entry between now room_between room_now →
+    HasCertifiedAll samples (entries ++ entry ∷ []) before now room room_now
+written_more samples entries entry before between now room room_between room_now a h = record {
+  certificates = a.certificates ++ h.certificate ∷ [];
+  each = zip_append samples entries (entry ∷ []) a.certificates (h.certificate ∷ []) a.each (h.certifies, tt);
+  written = subst (λ l. HasWritten l before now) (sym (flat_map-append bytes_of a.certificates (h.certificate ∷ []) ∙ ap (λ l. flat_map bytes_of a.certificates ++ l) (one_flat h.certificate)))
+      (write_then (flat_map bytes_of a.certificates) (bytes_of h.certificate) before between now a.written h.written);
+  filled = subst (λ n. HasFilled n room room_now) (omega (arith, length-append entries (entry ∷ [])))
+      (fill_then (count * length entries) count room room_between room_now a.filled h.filled);
+}
+
+-- where a front of one is written, a front of all is
+pub written_some : (samples : List Sample) (list entries : List Entry) (entry : Entry) (rest : List Entry) (before between now : Option (List ℕ)) (room room_between : Option ℕ) →
+    IsExplained samples list → list ≡ (entries ++ entry ∷ []) ++ rest → HasCertifiedAll samples entries before between room room_between →
+    HasCertifiedFront samples entry between now room_between → HasCertifiedSome samples list before now room
+written_some samples list entries entry rest before between now room room_between explained split a h =
+    let (cs, more) = entries_have samples list rest explained (λ other there. subst (λ l. Contains l other) (sym split) (Contains-append_right (entries ++ entry ∷ []) rest other there)) in
+    let all : List Held = (a.certificates ++ h.certificate ∷ []) ++ cs in
+    let zip : AllZip (Certifies samples) list all = subst (λ l. AllZip (Certifies samples) l all) (sym split)
+    (zip_append samples (entries ++ entry ∷ []) rest (a.certificates ++ h.certificate ∷ []) cs (zip_append samples entries (entry ∷ []) a.certificates (h.certificate ∷ []) a.each (h.certifies, tt)) more) in
+    let joined : flat_map bytes_of all ≡ (flat_map bytes_of a.certificates ++ bytes_of h.certificate) ++ flat_map bytes_of cs =
+    flat_map-append bytes_of (a.certificates ++ h.certificate ∷ []) cs ∙ ap (λ l. l ++ flat_map bytes_of cs) (flat_map-append bytes_of a.certificates (h.certificate ∷ []) ∙ ap (λ l. flat_map bytes_of a.certificates ++ l) (one_flat h.certificate)) in
+    let short = full_after (count * length entries) count room room_between a.filled h.full in
+    record {
+      certificates = all;
+      each = zip;
+      front = subst (λ l. HasWrittenFront l before now) (sym joined)
+          (front_of_longer (flat_map bytes_of a.certificates ++ bytes_of h.certificate) (flat_map bytes_of cs) before now (front_after (flat_map bytes_of a.certificates) (bytes_of h.certificate) before between now a.written h.front));
+      full = fewer room short (omega (arith, ap length split, length-append (entries ++ entry ∷ []) rest, length-append entries (entry ∷ [])));
+    }
+  where
+    fewer : (room : Option ℕ) → IfSome room (λ left. left < count * length entries + count) → count * length entries + count ≤ count * length list → IfSome room (λ left. left < count * length list)
+    fewer None short more = tt
+    fewer (Some left) short more = omega (arith, short, more)
+
+-- the same by the index of the entry
+pub written_next : (samples : List Sample) (list : List Entry) (i : ℕ) (entry : Entry) (before between now : Option (List ℕ)) (room room_between room_now : Option ℕ) →
+    i < length list → entry ≡ get_or list i entry → HasCertifiedAll samples (take i list) before between room room_between →
+    HasCertified samples entry between now room_between room_now → HasCertifiedAll samples (take (i + 1) list) before now room room_now
+written_next samples list i entry before between now room room_between room_now inside is a h =
+    let next : take (i + 1) list ≡ take i list ++ entry ∷ [] = rw (add-one i) (take-suc list i entry inside ∙ ap (λ e. take i list ++ e ∷ []) (sym is)) in
+    subst (λ l. HasCertifiedAll samples l before now room room_now) (sym next) (written_more samples (take i list) entry before between now room room_between room_now a h)
+
+pub written_some_at : (samples : List Sample) (list : List Entry) (i : ℕ) (entry : Entry) (before between now : Option (List ℕ)) (room room_between : Option ℕ) →
+    i < length list → entry ≡ get_or list i entry → IsExplained samples list → HasCertifiedAll samples (take i list) before between room room_between →
+    HasCertifiedFront samples entry between now room_between → HasCertifiedSome samples list before now room
+written_some_at samples list i entry before between now room room_between inside is explained a h =
+    let next : take (suc i) list ≡ take i list ++ entry ∷ [] = take-suc list i entry inside ∙ ap (λ e. take i list ++ e ∷ []) (sym is) in
+    let split : list ≡ (take i list ++ entry ∷ []) ++ drop (suc i) list = sym (take-append-drop (suc i) list) ∙ ap (λ l. l ++ drop (suc i) list) next in
+    written_some samples list (take i list) entry (drop (suc i) list) before between now room room_between explained split a h

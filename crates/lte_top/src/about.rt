@@ -1,0 +1,79 @@
+//! Reports about a recording.
+
+ghost use Rattle.std.specs.Prelude.{◌≡◌, ◌≤◌, IfOk, IfErr, string_bytes};
+ghost use Rattle.cs_outside.specs.Outside.{Outside};
+ghost use Rattle.sample_file.specs.Reading.{HasReadRecording};
+ghost use Rattle.sample_file.specs.Recording.{IsRecording};
+ghost use Rattle.lte_top.specs.Forms.{recording, report_of};
+ghost use Rattle.lte_top.specs.Run.{Cause, Ends};
+ghost use Rattle.lte_top.specs.declared.form.Form.TheVariants.{About};
+
+use crate::form::Report;
+use crate::status::Status;
+use crate::text::{text_of_hits, text_of_ids};
+use cs_outside::{Sink, Source, write_whole};
+use pss_search::{HitList, hits};
+use sample_file::{FileError, Recording, read_recording};
+use std::alloc::{AllocError, Global};
+
+// The report about the recording of a source, to a sink.
+pub(crate) fn about<S: Source, K: Sink>(
+    alloc: Global,
+    report: Report,
+    source: &mut S,
+    sink: &mut K,
+) -> Status
+    ensures ends { Ends (About report)
+        (record { left = S.left source.old; read_faults = S.faults source.old; taken = K.taken sink.old; room = K.room sink.old; write_faults = K.faults sink.old })
+        (record { left = S.left source.new; read_faults = S.faults source.new; taken = K.taken sink.new; room = K.room sink.new; write_faults = K.faults sink.new })
+        result }
+    ensures reads { S.faults source.old ≤ S.faults source.new }
+    ensures writes { K.faults sink.old ≤ K.faults sink.new }
+{
+    let recording = match recording_of(alloc, source) {
+        Ok(recording) => recording,
+        Err(status) => return status,
+    };
+    let text = match text_of_report(alloc, report, &recording) {
+        Ok(text) => text,
+        Err(AllocError) => return Status::OutOfMemory,
+    };
+    match write_whole(sink, text.as_bytes()) {
+        Ok(()) => Status::Done,
+        Err(_) => Status::WriteFault,
+    }
+}
+
+// The recording of a source, which is read to its end.
+pub(crate) fn recording_of<S: Source>(alloc: Global, source: &mut S) -> Result<Recording, Status>
+    ensures ok { IfOk result (λ samples. HasReadRecording samples (S.left source.old) (S.left source.new)) }
+    ensures valid { IfOk result (λ samples. IsRecording samples) }
+    ensures err { IfErr result (λ status. Cause recording (S.left source.old) (S.left source.new) (S.faults source.old) (S.faults source.new) status) }
+    ensures never_falls { S.faults source.old ≤ S.faults source.new }
+{
+    match read_recording(alloc, source) {
+        Ok(recording) => Ok(recording),
+        Err(FileError::Ragged) => Err(Status::Ragged),
+        Err(FileError::TooShort) => Err(Status::TooShort),
+        Err(FileError::TooLong) => Err(Status::TooLong),
+        Err(FileError::ReadFault) => Err(Status::ReadFault),
+        Err(FileError::OutOfMemory) => Err(Status::OutOfMemory),
+    }
+}
+
+// The text of a report about a recording.
+fn text_of_report(
+    alloc: Global,
+    report: Report,
+    recording: &Recording,
+) -> Result<String, AllocError>
+    requires { IsRecording recording.now }
+    ensures { IfOk result (λ text. string_bytes text ≡ report_of report recording.now) }
+{
+    let mut list = HitList::new(alloc)?;
+    hits(recording, &mut list);
+    match report {
+        Report::Hits => text_of_hits(alloc, list.slice()),
+        Report::Ids => text_of_ids(alloc, recording, list.slice()),
+    }
+}

@@ -1,0 +1,122 @@
+//! A certificate for each master block of the list of a recording.
+
+ghost use Rattle.std.specs.Prelude.{◌≡◌, ◌≤◌, length, IfOk, OnOk, OnErr};
+ghost use Rattle.cs_outside.specs.Counts.{Rose};
+ghost use Rattle.cs_outside.specs.Outside.{Outside};
+ghost use Rattle.explain.specs.Entries.{IsExplained, IsInList};
+ghost use Rattle.lte_top.specs.Certifying.{HasCertified, HasCertifiedFront, HasCertifiedAll, HasCertifiedSome};
+ghost use Rattle.lte_top.specs.Run.{Ends};
+ghost use Rattle.lte_top.specs.declared.form.Form.TheVariants.{Certify};
+
+use crate::about::recording_of;
+use crate::status::Status;
+use cs_outside::{Failed, Sink, Source, write_whole};
+use explain::{EntryList, Workspace, explain, values_of};
+use lte_types::Entry;
+use sample_file::Recording;
+use std::alloc::{AllocError, Global};
+use tail_cert::{Certificate, fill, to_bytes};
+use tailbite::Trellis;
+
+// The bytes of a certificate.
+const BYTES: usize = 655_613;
+
+// The certificates of a source's recording, to a sink: one for each entry of the list, in order. All
+// memory is taken before the first is written.
+pub(crate) fn certify<S: Source, K: Sink>(alloc: Global, source: &mut S, sink: &mut K) -> Status
+    ensures ends { Ends Certify
+        (record { left = S.left source.old; read_faults = S.faults source.old; taken = K.taken sink.old; room = K.room sink.old; write_faults = K.faults sink.old })
+        (record { left = S.left source.new; read_faults = S.faults source.new; taken = K.taken sink.new; room = K.room sink.new; write_faults = K.faults sink.new })
+        result }
+    ensures reads { S.faults source.old ≤ S.faults source.new }
+    ensures writes { K.faults sink.old ≤ K.faults sink.new }
+{
+    let recording = match recording_of(alloc, source) {
+        Ok(recording) => recording,
+        Err(status) => return status,
+    };
+    let (mut work, mut list) = match room_for_list(alloc) {
+        Ok(room) => room,
+        Err(AllocError) => return Status::OutOfMemory,
+    };
+    let (mut certificate, mut trellis, mut buffer) = match room_for_certificate(alloc) {
+        Ok(room) => room,
+        Err(AllocError) => return Status::OutOfMemory,
+    };
+    explain(&recording, &mut work, &mut list);
+    match write_each(
+        &recording,
+        list.slice(),
+        &mut certificate,
+        &mut trellis,
+        &mut buffer,
+        sink,
+    ) {
+        Ok(()) => Status::Done,
+        Err(Failed) => Status::WriteFault,
+    }
+}
+
+// The memory of a list and of the search for it.
+fn room_for_list(alloc: Global) -> Result<(Workspace, EntryList), AllocError> {
+    let work = Workspace::new(alloc)?;
+    let list = EntryList::new(alloc)?;
+    Ok((work, list))
+}
+
+// The memory of one certificate, of the search for its word, and of its bytes.
+fn room_for_certificate(alloc: Global) -> Result<(Certificate, Trellis, Vec<u8>), AllocError>
+    ensures { IfOk result (λ room. length room.2.items ≡ 655613) }
+{
+    let certificate = Certificate::new(alloc)?;
+    let trellis = Trellis::new(alloc)?;
+    let buffer = vec![in alloc; 0u8; BYTES]?;
+    Ok((certificate, trellis, buffer))
+}
+
+// Writes the certificate of each entry of the recording's list, in order.
+fn write_each<K: Sink>(
+    recording: &Recording,
+    entries: &[Entry],
+    certificate: &mut Certificate,
+    trellis: &mut Trellis,
+    buffer: &mut [u8],
+    sink: &mut K,
+) -> Result<(), Failed>
+    requires list { IsExplained recording.now entries.now }
+    requires buffer { length buffer.old ≡ 655613 }
+    ensures ok { OnOk result (HasCertifiedAll recording.now entries.now (K.taken sink.old) (K.taken sink.new) (K.room sink.old) (K.room sink.new)) }
+    ensures err { OnErr result (HasCertifiedSome recording.now entries.now (K.taken sink.old) (K.taken sink.new) (K.room sink.old)) }
+    ensures fault { OnErr result (Rose (K.faults sink.old) (K.faults sink.new)) }
+    ensures never_falls { K.faults sink.old ≤ K.faults sink.new }
+{
+    for entry in entries {
+        match write_one(recording, entry, certificate, trellis, buffer, sink) {
+            Ok(()) => {}
+            Err(Failed) => return Err(Failed),
+        }
+    }
+    Ok(())
+}
+
+// Writes the certificate of an entry.
+fn write_one<K: Sink>(
+    recording: &Recording,
+    entry: &Entry,
+    certificate: &mut Certificate,
+    trellis: &mut Trellis,
+    buffer: &mut [u8],
+    sink: &mut K,
+) -> Result<(), Failed>
+    requires entry { IsInList recording.now entry.now }
+    requires buffer { length buffer.old ≡ 655613 }
+    ensures ok { OnOk result (HasCertified recording.now entry.now (K.taken sink.old) (K.taken sink.new) (K.room sink.old) (K.room sink.new)) }
+    ensures err { OnErr result (HasCertifiedFront recording.now entry.now (K.taken sink.old) (K.taken sink.new) (K.room sink.old)) }
+    ensures fault { OnErr result (Rose (K.faults sink.old) (K.faults sink.new)) }
+    ensures never_falls { K.faults sink.old ≤ K.faults sink.new }
+{
+    let values = values_of(recording, entry);
+    fill(certificate, &values, trellis);
+    to_bytes(certificate, buffer);
+    write_whole(sink, buffer)
+}

@@ -1,0 +1,122 @@
+-- Values of a small size have an accepted certificate with their least word.
+use Rattle.std.proofs.Common.{◌≡◌, ℕ, zero, suc, ◌+◌, ◌*◌, ◌^◌, ◌<◌, ◌≤◌, Bool, List, [], length, get_or, ℤ, pos, map, refl, sym, subst, ◌∙◌, inl, inr, arith}
+use Rattle.std.specs.Prelude.{All, nat_abs}
+use Rattle.std.proofs.lemmas.Bool.Decides.{eqb_tells}
+use Rattle.std.proofs.lemmas.List.{get_or_default}
+use Rattle.finite.specs.Lists.{values_below}
+use Rattle.finite.proofs.Lists.{values_below-length, values_below_at}
+use Rattle.paths.specs.Least.{ends_in}
+use Rattle.paths.proofs.Rounds.{ends_in_same, ends_in_other}
+use Rattle.conv_code.specs.Code.{parity, taps_0, taps_1, taps_2}
+use Rattle.conv_code.specs.Cost.{word_cost}
+use Rattle.tailbite.specs.LeastWord.{IsLeastWord}
+use Rattle.tailbite.specs.Machine.{branch_cost, window_bit}
+use Rattle.tail_cert.specs.Certificate.{Held, IsWhole, IsAccepted, IsTriple, IsTable, Counted, TableHolds}
+use Rattle.tail_cert.specs.Forward.{forward_least, first_from, second_from, bit_to, IsLeastRow, HasLeastRows, IsStartRow}
+use Rattle.tail_cert.proofs.Accept.{accepted, disagreement-le, size_at, word_cost-within}
+use Rattle.tail_cert.proofs.Rows.{start_row, later_row, rows_fit}
+
+abbrev AreSmall : List (List ℤ) → Type 0
+AreSmall values = All (λ v. All (λ z. nat_abs z ≤ 2032) v) values
+
+-- no branch costs more than three values
+branch_within : (values : List (List ℤ)) → AreSmall values → (k x : ℕ) (b : Bool) → branch_cost (get_or values k []) x b ≤ 6096
+branch_within values small k x b =
+    let v = get_or values k [] in
+    let d0 = disagreement-le (get_or v 0 (pos 0)) (parity (map (window_bit x b) taps_0)) in
+    let d1 = disagreement-le (get_or v 1 (pos 0)) (parity (map (window_bit x b) taps_1)) in
+    let d2 = disagreement-le (get_or v 2 (pos 0)) (parity (map (window_bit x b) taps_2)) in
+    let s0 = size_at 2032 values small k 0 in
+    let s1 = size_at 2032 values small k 1 in
+    let s2 = size_at 2032 values small k 2 in
+    omega (arith, d0, d1, d2, s0, s1, s2)
+
+-- the least costs of k steps from a start row
+row_after : List (List ℤ) → List ℕ → ℕ → List ℕ
+row_after values start zero = start
+row_after values start (suc k) = values_below 64 (forward_least (get_or values k []) (row_after values start k))
+
+row_is_least : (values : List (List ℤ)) (start : List ℕ) → AreSmall values → length start ≡ 64 → ((y : ℕ) → y < 64 → get_or start y 0 ≤ 2 ^ 30) →
+    (k : ℕ) → IsLeastRow values start k (row_after values start k)
+unfolding row_after
+row_is_least values start small size room zero = start_row values start size room
+row_is_least values start small size room (suc k) =
+    let row = row_after values start k in
+    let step : ℕ → ℕ = forward_least (get_or values k []) row in
+    later_row values start k row (values_below 64 step) (row_is_least values start small size room k) (values_below-length 64 step)
+    (λ x below. values_below_at step 64 x 0 below)
+    (λ x below.
+      let branch = branch_within values small k (first_from x) (bit_to x) in
+      rw (values_below_at step 64 x 0 below) (omega (arith, branch)))
+
+-- the table of a start state
+start_of : ℕ → List ℕ
+start_of s = values_below 64 (ends_in (2 ^ 30) s)
+
+table_of : List (List ℤ) → ℕ → List (List ℕ)
+table_of values s = values_below 40 (λ i. row_after values (start_of s) (suc i))
+
+is_start : (s : ℕ) → IsStartRow s (start_of s)
+unfolding start_of
+is_start s = record { row = λ x below. values_below_at (ends_in (2 ^ 30) s) 64 x 0 below }
+
+start_room : (s y : ℕ) → y < 64 → get_or (start_of s) y 0 ≤ 2 ^ 30
+start_room s y below = elim (eqb_tells y s) [
+  | inl (t, same) ↦ let e = (is_start s).row y below ∙ ends_in_same (2 ^ 30) s y same in rw e (omega arith)
+  | inr (f, other) ↦ let e = (is_start s).row y below ∙ ends_in_other (2 ^ 30) s y f in omega (arith, e)
+]
+
+start_size : (s : ℕ) → length (start_of s) ≡ 64
+unfolding start_of
+start_size s = values_below-length 64 (ends_in (2 ^ 30) s)
+
+table_rows : (values : List (List ℤ)) (s : ℕ) → AreSmall values → HasLeastRows values (start_of s) (table_of values s) 40
+unfolding table_of
+table_rows values s small = record {
+  row = λ i inside. subst (λ row. IsLeastRow values (start_of s) (suc i) row) (sym (values_below_at (λ i. row_after values (start_of s) (suc i)) 40 i [] inside))
+      (row_is_least values (start_of s) small (start_size s) (start_room s) (suc i));
+}
+
+table_size : (values : List (List ℤ)) (s : ℕ) → length (table_of values s) ≡ 40
+unfolding table_of
+table_size values s = values_below-length 40 (λ i. row_after values (start_of s) (suc i))
+
+-- the certificate of values and a word
+pub certificate_of : List (List ℤ) → List Bool → Held
+certificate_of values word = record { values = values; word = word; cost = word_cost values word; tables = values_below 64 (table_of values) }
+
+-- of a least word it is whole and accepted
+pub record IsCertificate (values : List (List ℤ)) (word : List Bool) (c : Held) : Type 0 where
+  pub whole : IsWhole c.values c.word c.cost c.tables
+  pub accepted : IsAccepted c
+  pub values_are : c.values ≡ values
+  pub word_is : c.word ≡ word
+
+pub least_has_certificate : (values : List (List ℤ)) (word : List Bool) → Counted 40 IsTriple values → IsLeastWord values word → IsCertificate values word (certificate_of values word)
+unfolding certificate_of
+least_has_certificate values word places least = record {
+  whole = record {
+    places = places;
+    bits = least.size ∙ places.count;
+    fits = omega (arith, within, places.count);
+    starts = record { count = values_below-length 64 (table_of values); all = tables };
+  };
+  accepted = record {
+    stated = refl;
+    holds = λ s below. subst (λ table. TableHolds values (word_cost values word) s table) (sym (values_below_at (table_of values) 64 s [] below)) (holds s below);
+  };
+  values_are = refl;
+  word_is = refl;
+}
+  where
+    small : AreSmall values
+    small k d inside = (places.all k d inside).all
+    within : word_cost values word ≤ length values * 6096
+    within = word_cost-within values word small
+    holds : (s : ℕ) → s < 64 → TableHolds values (word_cost values word) s (table_of values s)
+    holds s below = accepted values (word_cost values word) s (start_of s) (table_of values s) below places.count (is_start s)
+        (λ other size. least.least other (size ∙ sym places.count)) (omega (arith, within, places.count)) (table_rows values s small)
+    tables : All IsTable (values_below 64 (table_of values))
+    tables s d inside =
+        let below : s < 64 = omega (arith, inside, values_below-length 64 (table_of values)) in
+        subst IsTable (sym (values_below_at (table_of values) 64 s d below)) (rows_fit values (start_of s) (table_of values s) (table_size values s) (table_rows values s small))
