@@ -7,3 +7,6 @@ mod parts;
 mod words;
 
 pub use listing::text;
+
+#[cfg(test)]
+mod tests;
