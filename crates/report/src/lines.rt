@@ -1,0 +1,162 @@
+//! The lines of a report.
+
+ghost use Rattle.std.specs.Prelude.{◌≡◌, ◌≤◌, All, IfOk, string_bytes, codes};
+ghost use Rattle.std.specs.List.{flat_map};
+ghost use Rattle.std.specs.Fmt.{decimal, signed_decimal};
+ghost use Rattle.lte_types.specs.Ranges.{IsValid, IsValidMessage};
+ghost use Rattle.report.specs.Words.{bandwidth_word as width_of, duration_word as duration_of, resource_word as resource_of, or_dash, either as either_of, bit_word as bit_of, tdd_word as config_of, window_length as length_of};
+ghost use Rattle.report.specs.Lines.{cell_line as cell_line_of, block_part as block_of, none_line as none_line_of, access_part as access_of, group_part as group_of, level_part as level_of, window_part as window_of, sib1_line as sib1_line_of, mnc_word as mnc_of, plmn_line as plmn_line_of, message_line as message_line_of, sib1_lines as sib1_lines_of};
+
+use crate::parts::{
+    access_part, block_part, group_part, level_part, network_line, place_part, schedule_line,
+    window_part,
+};
+use crate::words::{
+    bandwidth_word, digits_word, duration_word, either, mcc_or_dash, number_or_dash,
+    offset_or_dash, period_frames, power_or_dash, reason_words, resource_word, sibs_word,
+    tdd_or_dash, window_length,
+};
+use lte_types::{Entry, Mib, Mnc, Plmn, SiMessage, Sib1, Sib1Reason};
+use std::alloc::{AllocError, Global};
+use std::fmt::Write;
+
+/// The place of a cell and its master block.
+pub(crate) fn cell_line(alloc: Global, entry: &Entry) -> Result<String, AllocError>
+    ensures { IfOk result (λ line. string_bytes line ≡ cell_line_of entry.now) }
+{
+    let id = entry.id.value();
+    let sfn = entry.sfn.value();
+    let mut line = place_part(alloc, id, entry.start, sfn, entry.ports)?;
+    let block = mib_part(alloc, &entry.mib)?;
+    line.push_str(&block)?;
+    Ok(line)
+}
+
+fn mib_part(alloc: Global, mib: &Mib) -> Result<String, AllocError>
+    ensures { IfOk result (λ part. string_bytes part ≡ block_of (width_of mib.now.bandwidth) (duration_of mib.now.duration) (resource_of mib.now.resource) mib.now.spare) }
+{
+    let bandwidth = bandwidth_word(mib.bandwidth);
+    let duration = duration_word(mib.duration);
+    let resource = resource_word(mib.resource);
+    block_part(alloc, bandwidth, duration, resource, mib.spare)
+}
+
+/// Why a cell has no system information.
+pub(crate) fn none_line(alloc: Global, reason: Sib1Reason) -> Result<String, AllocError>
+    ensures { IfOk result (λ line. string_bytes line ≡ none_line_of reason) }
+{
+    let words = reason_words(alloc, reason)?;
+    format!(in alloc; "sib1 none {words}\n")
+}
+
+/// The lines of a cell's system information.
+pub(crate) fn sib1_lines(alloc: Global, sib1: &Sib1) -> Result<String, AllocError>
+    requires { IsValid sib1.now }
+    ensures { IfOk result (λ text. string_bytes text ≡ sib1_lines_of sib1.now) }
+{
+    let mut text = sib1_line(alloc, sib1)?;
+    let plmns = plmn_lines(alloc, sib1.plmns.slice())?;
+    text.push_str(&plmns)?;
+    let messages = message_lines(alloc, sib1.scheduling.slice())?;
+    text.push_str(&messages)?;
+    Ok(text)
+}
+
+fn sib1_line(alloc: Global, sib1: &Sib1) -> Result<String, AllocError>
+    requires { IsValid sib1.now }
+    ensures { IfOk result (λ line. string_bytes line ≡ sib1_line_of sib1.now) }
+{
+    let mut line = access_of_cell(alloc, sib1)?;
+    let group = group_of_cell(alloc, sib1)?;
+    line.push_str(&group)?;
+    let levels = levels_of_cell(alloc, sib1)?;
+    line.push_str(&levels)?;
+    let timing = timing_of_cell(alloc, sib1)?;
+    line.push_str(&timing)?;
+    Ok(line)
+}
+
+fn access_of_cell(alloc: Global, sib1: &Sib1) -> Result<String, AllocError>
+    ensures { IfOk result (λ part. string_bytes part ≡ access_of sib1.now.tac sib1.now.cell
+        (either_of sib1.now.barred (codes "barred") (codes "open")) (either_of sib1.now.intra (codes "allowed") (codes "forbidden"))) }
+{
+    let barred = either(sib1.barred, "barred", "open");
+    let intra = either(sib1.intra, "allowed", "forbidden");
+    access_part(alloc, sib1.tac, sib1.cell, barred, intra)
+}
+
+fn group_of_cell(alloc: Global, sib1: &Sib1) -> Result<String, AllocError>
+    ensures { IfOk result (λ part. string_bytes part ≡ group_of (bit_of sib1.now.csg) (or_dash decimal sib1.now.csg_identity)) }
+{
+    let csg = either(sib1.csg, "1", "0");
+    let identity = number_or_dash(alloc, sib1.csg_identity)?;
+    group_part(alloc, csg, identity.as_str())
+}
+
+fn levels_of_cell(alloc: Global, sib1: &Sib1) -> Result<String, AllocError>
+    ensures { IfOk result (λ part. string_bytes part ≡ level_of sib1.now.q_rx (or_dash decimal sib1.now.q_offset) (or_dash signed_decimal sib1.now.p_max) sib1.now.band) }
+{
+    let offset = offset_or_dash(alloc, sib1.q_offset)?;
+    let power = power_or_dash(alloc, sib1.p_max)?;
+    level_part(alloc, sib1.q_rx, offset.as_str(), power.as_str(), sib1.band)
+}
+
+fn timing_of_cell(alloc: Global, sib1: &Sib1) -> Result<String, AllocError>
+    requires { sib1.now.window ≤ 6 }
+    ensures { IfOk result (λ part. string_bytes part ≡ window_of (length_of sib1.now.window) sib1.now.tag (or_dash config_of sib1.now.tdd) (bit_of sib1.now.extended)) }
+{
+    let window = window_length(sib1.window);
+    let tdd = tdd_or_dash(alloc, sib1.tdd)?;
+    let extension = either(sib1.extended, "1", "0");
+    window_part(alloc, window, sib1.tag, tdd.as_str(), extension)
+}
+
+fn mnc_word(alloc: Global, mnc: &Mnc) -> Result<String, AllocError>
+    ensures { IfOk result (λ text. string_bytes text ≡ mnc_of mnc.now) }
+{
+    match mnc {
+        Mnc::Two(digits) => digits_word(alloc, digits),
+        Mnc::Three(digits) => digits_word(alloc, digits),
+    }
+}
+
+fn plmn_line(alloc: Global, plmn: &Plmn) -> Result<String, AllocError>
+    ensures { IfOk result (λ line. string_bytes line ≡ plmn_line_of plmn.now) }
+{
+    let mcc = mcc_or_dash(alloc, &plmn.mcc)?;
+    let mnc = mnc_word(alloc, &plmn.mnc)?;
+    let reserved = either(plmn.reserved, "reserved", "free");
+    network_line(alloc, mcc.as_str(), mnc.as_str(), reserved)
+}
+
+fn plmn_lines(alloc: Global, plmns: &[Plmn]) -> Result<String, AllocError>
+    ensures { IfOk result (λ text. string_bytes text ≡ flat_map plmn_line_of plmns.now) }
+{
+    let mut text = String::new(alloc);
+    for plmn in plmns {
+        let line = plmn_line(alloc, plmn)?;
+        text.push_str(&line)?;
+    }
+    Ok(text)
+}
+
+fn message_line(alloc: Global, message: &SiMessage) -> Result<String, AllocError>
+    requires { IsValidMessage message.now }
+    ensures { IfOk result (λ line. string_bytes line ≡ message_line_of message.now) }
+{
+    let frames = period_frames(message.period);
+    let sibs = sibs_word(alloc, message.sibs.slice())?;
+    schedule_line(alloc, frames, sibs.as_str())
+}
+
+fn message_lines(alloc: Global, messages: &[SiMessage]) -> Result<String, AllocError>
+    requires { All IsValidMessage messages.now }
+    ensures { IfOk result (λ text. string_bytes text ≡ flat_map message_line_of messages.now) }
+{
+    let mut text = String::new(alloc);
+    for message in messages {
+        let line = message_line(alloc, message)?;
+        text.push_str(&line)?;
+    }
+    Ok(text)
+}

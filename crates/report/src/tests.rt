@@ -1,0 +1,187 @@
+ghost use Rattle.std.specs.Prelude.{◌↔◌, IsTrue};
+ghost use Rattle.report.specs.Lines.{IsValidEntry};
+
+use crate::text;
+use lte_types::{
+    Bandwidth, CellId, Duration, Entry, Mib, Mnc, Plmn, Plmns, Resource, Schedule, Sfn, SiMessage,
+    Sib1, Sib1Reason, Sibs,
+};
+use std::alloc::Global;
+use std::test::Fail;
+
+// A cell with this identity, start, frame number and system information.
+fn entry_of(
+    id: u16,
+    start: u32,
+    sfn: u16,
+    mib: Mib,
+    sib1: Result<Sib1, Sib1Reason>,
+) -> Option<Entry> {
+    Some(Entry {
+        id: CellId::new(id)?,
+        start,
+        sfn: Sfn::new(sfn)?,
+        ports: 1,
+        mib,
+        frame: 0,
+        phase: 0,
+        cost: 0,
+        sib1,
+    })
+}
+
+// One network 001 01, not barred, with band and schedule to be set.
+fn plain_sib1(number: u16, q_rx: i8, band: u8, tag: u8) -> Sib1 {
+    let mut plmns = Plmns::new();
+    let _ = plmns.push(Plmn {
+        mcc: Some([0, 0, 1]),
+        mnc: Mnc::Two([0, 1]),
+        reserved: false,
+    });
+    let mut scheduling = Schedule::new();
+    let _ = scheduling.push(SiMessage {
+        period: 0,
+        sibs: Sibs::new(),
+    });
+    Sib1 {
+        plmns,
+        tac: number,
+        cell: number as u32,
+        barred: false,
+        intra: true,
+        csg: false,
+        csg_identity: None,
+        q_rx,
+        q_offset: None,
+        p_max: None,
+        band,
+        scheduling,
+        tdd: None,
+        window: 0,
+        tag,
+        extended: false,
+    }
+}
+
+fn is_valid(entry: &Entry) -> bool
+    ensures { IsTrue result ↔ IsValidEntry entry.now }
+{
+    match &entry.sib1 {
+        Ok(sib1) => sib1.valid(),
+        Err(_) => true,
+    }
+}
+
+// The report of one cell.
+fn report_of(alloc: Global, entry: Option<Entry>) -> Result<String, Fail> {
+    let entry = entry.ok_or("out of range")?;
+    if !is_valid(&entry) {
+        return Err("not valid".into());
+    }
+    let entries = [entry];
+    let report = text(alloc, &entries)?;
+    Ok(report)
+}
+
+fn plain_mib() -> Option<Mib> {
+    Mib::new(Bandwidth::N6, Duration::Normal, Resource::One, 0, 0)
+}
+
+#[test]
+fn no_cells_are_one_line(rt: HostRuntime) -> Result<(), Fail> {
+    let report = text(rt.alloc(), &[])?;
+    assert_eq!(rt; report.as_str(), "cells 0\n");
+    Ok(())
+}
+
+#[test]
+fn a_cell_has_its_system_information(rt: HostRuntime) -> Result<(), Fail> {
+    let mib = plain_mib().ok_or("spare")?;
+    let entry = entry_of(0, 0, 0, mib, Ok(plain_sib1(1, -70, 1, 0)));
+    let report = report_of(rt.alloc(), entry)?;
+    assert_eq!(rt;
+        report.as_str(),
+        "cells 1\ncell 0 at 0 sfn 0 ports 1 n6 phich normal one spare 0\nsib1 tac 1 cell 1 open allowed csg 0 - rx -70 offset - pmax - band 1 window ms1 tag 0 tdd - extension 0\nplmn 001 01 free\nsi rf8 -\n"
+    );
+    Ok(())
+}
+
+#[test]
+fn a_schedule_has_a_line_for_each_entry(rt: HostRuntime) -> Result<(), Fail> {
+    let mib = Mib::new(Bandwidth::N6, Duration::Extended, Resource::Two, 2, 7).ok_or("spare")?;
+    let mut sib1 = plain_sib1(7, -63, 8, 7);
+    let mut sibs = Sibs::new();
+    let _ = sibs.push(0);
+    let _ = sibs.push(2);
+    let _ = sib1.scheduling.push(SiMessage { period: 0, sibs });
+    let report = report_of(rt.alloc(), entry_of(7, 19_193, 8, mib, Ok(sib1)))?;
+    assert_eq!(rt;
+        report.as_str(),
+        "cells 1\ncell 7 at 19193 sfn 8 ports 1 n6 phich extended two spare 7\nsib1 tac 7 cell 7 open allowed csg 0 - rx -63 offset - pmax - band 8 window ms1 tag 7 tdd - extension 0\nplmn 001 01 free\nsi rf8 -\nsi rf8 0,2\n"
+    );
+    Ok(())
+}
+
+#[test]
+fn every_optional_field_is_written(rt: HostRuntime) -> Result<(), Fail> {
+    let mib = Mib::new(Bandwidth::N6, Duration::Normal, Resource::OneSixth, 0, 1023).ok_or(
+        "spare",
+    )?;
+    let mut sib1 = plain_sib1(65_535, -22, 64, 31);
+    let _ = sib1.plmns.push(Plmn {
+        mcc: None,
+        mnc: Mnc::Three([2, 0, 9]),
+        reserved: true,
+    });
+    sib1.barred = true;
+    sib1.intra = false;
+    sib1.csg = true;
+    sib1.csg_identity = Some(134_217_727);
+    sib1.q_offset = Some(8);
+    sib1.p_max = Some(-30);
+    sib1.tdd = Some((6, 8));
+    sib1.window = 6;
+    sib1.extended = true;
+    let mut sibs = Sibs::new();
+    let _ = sibs.push(79);
+    let _ = sib1.scheduling.push(SiMessage { period: 6, sibs });
+    let report = report_of(rt.alloc(), entry_of(503, 19_199, 1023, mib, Ok(sib1)))?;
+    assert_eq!(rt;
+        report.as_str(),
+        "cells 1\ncell 503 at 19199 sfn 1023 ports 1 n6 phich normal oneSixth spare 1023\nsib1 tac 65535 cell 65535 barred forbidden csg 1 134217727 rx -22 offset 8 pmax -30 band 64 window ms40 tag 31 tdd 6/8 extension 1\nplmn 001 01 free\nplmn - 209 reserved\nsi rf8 -\nsi rf512 79\n"
+    );
+    Ok(())
+}
+
+// What the report says of a cell of 50 resource blocks without system information.
+fn reason_of(alloc: Global, reason: Sib1Reason) -> Result<String, Fail> {
+    let mib = Mib::new(Bandwidth::N50, Duration::Normal, Resource::Half, 0, 0).ok_or("spare")?;
+    report_of(alloc, entry_of(0, 0, 0, mib, Err(reason)))
+}
+
+#[test]
+fn each_reason_has_its_words(rt: HostRuntime) -> Result<(), Fail> {
+    let reasons = [
+        (Sib1Reason::NotOnePort(4), "ports 4\n"),
+        (Sib1Reason::Bandwidth(Bandwidth::N100), "bandwidth n100\n"),
+        (Sib1Reason::NoSearchSpace(2), "no-search-space 2\n"),
+        (Sib1Reason::NoControl, "no-control\n"),
+        (Sib1Reason::NotFormat1A, "not-1a\n"),
+        (Sib1Reason::Distributed, "distributed\n"),
+        (Sib1Reason::BadRiv(21), "bad-riv 21\n"),
+        (Sib1Reason::ReservedMcs(27), "reserved-mcs 27\n"),
+        (Sib1Reason::BlockTooLarge, "block-too-large\n"),
+        (Sib1Reason::NotDecoded, "not-decoded\n"),
+        (Sib1Reason::NotSib1, "not-sib1\n"),
+        (Sib1Reason::BadFields(32), "bad-fields 32\n"),
+        (Sib1Reason::NotRead, "not-read\n"),
+    ];
+    for (reason, words) in reasons {
+        let report = reason_of(rt.alloc(), reason)?;
+        let rest = report.as_str().strip_prefix(
+            "cells 1\ncell 0 at 0 sfn 0 ports 1 n50 phich normal half spare 0\nsib1 none ",
+        );
+        assert_eq!(rt; rest, Some(words));
+    }
+    Ok(())
+}
