@@ -8,12 +8,14 @@ use Rattle.cs_outside.proofs.Reading.{read_whole, read_front}
 use Rattle.lte_top.specs.declared.form.Form.{Form}
 use Rattle.lte_top.specs.declared.form.Form.TheVariants.{About, Certify, Check}
 use Rattle.lte_top.specs.declared.form.Report.{Report}
-use Rattle.lte_top.specs.declared.form.Report.TheVariants.{Hits, Ids}
+use Rattle.lte_top.specs.declared.form.Report.TheVariants.{Hits, Ids, Search}
 use Rattle.lte_top.specs.declared.status.Status.{Status}
 use Rattle.lte_top.specs.declared.status.Status.TheVariants.{Done, Usage, Ragged, TooShort, TooLong, ReadFault, WriteFault, OutOfMemory, BadCell, BadCertificate}
 use Rattle.lte_top.specs.Forms.{words_of, Input, recording, certificates, input_of, limit_of, Refuses, RefusesCertificates, IsTooLong, IsValid, IsOutput}
 use Rattle.lte_top.specs.Certificates.{IsFirstBroken}
 use Rattle.lte_top.specs.Run.{HasOutput, HasRefusal, IsReadTooLong, IsWriteFault, Ends, RunsForm, Outcome, IsAnswerTo, HasOneAnswer, MayAnswer, IsAnswered, IsComplete, HasRoom}
+use Rattle.report.specs.Lines.{report_text}
+use Rattle.explain.proofs.Listed.{is_one_list}
 use Rattle.lte_top.proofs.Broken.{one_first_broken}
 use Rattle.lte_top.proofs.Judged.{one_check}
 use Rattle.lte_top.proofs.Certified.{one_certified_length}
@@ -24,24 +26,35 @@ use Rattle.lte_top.proofs.Certified.{one_certified_length}
 one_form : (first second : Form) → words_of first ≡ words_of second → first ≡ second
 one_form (About Hits) (About Hits) e = refl
 one_form (About Hits) (About Ids) e = absurd (cc e)
+one_form (About Hits) (About Search) e = absurd (cc e)
 one_form (About Hits) Certify e = absurd (cc e)
 one_form (About Hits) Check e = absurd (cc e)
 one_form (About Ids) (About Hits) e = absurd (cc e)
 one_form (About Ids) (About Ids) e = refl
+one_form (About Ids) (About Search) e = absurd (cc e)
 one_form (About Ids) Certify e = absurd (cc e)
 one_form (About Ids) Check e = absurd (cc e)
+one_form (About Search) (About Hits) e = absurd (cc e)
+one_form (About Search) (About Ids) e = absurd (cc e)
+one_form (About Search) (About Search) e = refl
+one_form (About Search) Certify e = absurd (cc e)
+one_form (About Search) Check e = absurd (cc e)
 one_form Certify (About Hits) e = absurd (cc e)
 one_form Certify (About Ids) e = absurd (cc e)
+one_form Certify (About Search) e = absurd (cc e)
 one_form Certify Certify e = refl
 one_form Certify Check e = absurd (cc e)
 one_form Check (About Hits) e = absurd (cc e)
 one_form Check (About Ids) e = absurd (cc e)
+one_form Check (About Search) e = absurd (cc e)
 one_form Check Certify e = absurd (cc e)
 one_form Check Check e = refl
 
 -- all outputs of an input have one length
 one_length : (form : Form) (bytes first second : List ℕ) → IsOutput form bytes first → IsOutput form bytes second → length first ≡ length second
-one_length (About report) bytes first second a b = ap length (a ∙ sym b)
+one_length (About Hits) bytes first second a b = ap length (a ∙ sym b)
+one_length (About Ids) bytes first second a b = ap length (a ∙ sym b)
+one_length (About Search) bytes first second a b = ap length (a.text ∙ ap report_text (is_one_list _ a.entries b.entries a.explained b.explained) ∙ sym b.text)
 one_length Certify bytes first second a b = one_certified_length _ first second a b
 one_length Check bytes first second a b = ap length (one_check bytes first second a b)
 

@@ -5,4 +5,6 @@ pub mod Progress
 pub mod AnswerLines
 pub mod Judged
 pub mod Certified
+pub mod Entries
+pub mod Ending
 pub mod Complete

@@ -7,16 +7,20 @@ use Rattle.sample_file.specs.Reading.{least_bytes, most_bytes}
 use Rattle.lte_top.specs.declared.form.Form.{Form}
 use Rattle.lte_top.specs.declared.form.Form.TheVariants.{About, Certify, Check}
 use Rattle.lte_top.specs.declared.form.Report.{Report}
-use Rattle.lte_top.specs.declared.form.Report.TheVariants.{Hits, Ids}
+use Rattle.lte_top.specs.declared.form.Report.TheVariants.{Hits, Ids, Search}
 use Rattle.lte_top.specs.declared.status.Status.{Status}
 use Rattle.lte_top.specs.declared.status.Status.TheVariants.{Done, Usage, Ragged, TooShort, TooLong, ReadFault, WriteFault, OutOfMemory, BadCell, BadCertificate}
 use Rattle.lte_top.specs.Certificates.{IsFirstBroken, IsChecked, IsCertified}
+use Rattle.lte_types.specs.declared.entry.Entry.{Entry}
+use Rattle.explain.specs.Entries.{IsExplained}
+use Rattle.report.specs.Lines.{report_text}
 use Rattle.lte_top.specs.Texts.{hits_text, ids_text}
 
 -- the words of a form, each as its bytes
 abbrev pub words_of : Form → List (List ℕ)
 words_of (About Hits) = codes "hits" ∷ []
 words_of (About Ids) = codes "ids" ∷ []
+words_of (About Search) = codes "search" ∷ []
 words_of Certify = codes "certify" ∷ []
 words_of Check = codes "check" ∷ []
 
@@ -80,14 +84,21 @@ pub record IsValid (input : Input) (bytes : List ℕ) : Type 0 where
 
 -- ---- what is written
 
+-- the text of the list of a recording
+pub record IsListText (samples : List Sample) (output : List ℕ) : Type 0 where
+  pub entries : List Entry
+  pub explained : IsExplained samples entries
+  pub text : output ≡ report_text entries
+
 -- the text of a report about a recording
-abbrev pub report_of : Report → List Sample → List ℕ
-report_of Hits samples = hits_text (hits_of samples)
-report_of Ids samples = ids_text samples (hits_of samples)
+abbrev pub IsReport : Report → List Sample → List ℕ → Type 0
+IsReport Hits samples output = output ≡ hits_text (hits_of samples)
+IsReport Ids samples output = output ≡ ids_text samples (hits_of samples)
+IsReport Search samples output = IsListText samples output
 
 -- what a form writes for valid bytes
 abbrev pub IsOutput : Form → List ℕ → List ℕ → Type 0
-IsOutput (About report) bytes output = output ≡ report_of report (samples_of bytes)
+IsOutput (About report) bytes output = IsReport report (samples_of bytes) output
 IsOutput Certify bytes output = IsCertified (samples_of bytes) output
 IsOutput Check bytes output = IsChecked bytes output
 

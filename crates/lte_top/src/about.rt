@@ -1,10 +1,11 @@
 //! Reports about a recording.
 
-ghost use Rattle.std.specs.Prelude.{◌≡◌, ◌≤◌, IfOk, IfErr, string_bytes};
+ghost use Rattle.std.specs.Prelude.{◌≡◌, ◌≤◌, All, IfOk, IfErr, string_bytes};
 ghost use Rattle.cs_outside.specs.Outside.{Outside};
 ghost use Rattle.sample_file.specs.Reading.{HasReadRecording};
 ghost use Rattle.sample_file.specs.Recording.{IsRecording};
-ghost use Rattle.lte_top.specs.Forms.{recording, report_of};
+ghost use Rattle.lte_top.specs.Forms.{recording, IsReport, IsListText};
+ghost use Rattle.pss_search.specs.Hits.{IsInSpan, hits_of as all_hits};
 ghost use Rattle.lte_top.specs.Run.{Cause, Ends};
 ghost use Rattle.lte_top.specs.declared.form.Form.TheVariants.{About};
 
@@ -12,7 +13,9 @@ use crate::form::Report;
 use crate::status::Status;
 use crate::text::{text_of_hits, text_of_ids};
 use cs_outside::{Sink, Source, write_whole};
+use explain::{EntryList, Workspace, explain};
 use pss_search::{HitList, hits};
+use report::text;
 use sample_file::{FileError, Recording, read_recording};
 use std::alloc::{AllocError, Global};
 
@@ -68,12 +71,38 @@ fn text_of_report(
     recording: &Recording,
 ) -> Result<String, AllocError>
     requires { IsRecording recording.now }
-    ensures { IfOk result (λ text. string_bytes text ≡ report_of report recording.now) }
+    ensures { IfOk result (λ text. IsReport report recording.now (string_bytes text)) }
+{
+    match report {
+        Report::Hits => text_of_hits(alloc, hits_of(alloc, recording)?.slice()),
+        Report::Ids => text_of_ids(alloc, recording, hits_of(alloc, recording)?.slice()),
+        Report::Search => text_of_list(alloc, recording),
+    }
+}
+
+// The hits of a recording.
+fn hits_of(alloc: Global, recording: &Recording) -> Result<HitList, AllocError>
+    requires { IsRecording recording.now }
+    ensures list { IfOk result (λ list. list ≡ all_hits recording.now) }
+    ensures span { IfOk result (λ list. All IsInSpan list) }
 {
     let mut list = HitList::new(alloc)?;
     hits(recording, &mut list);
-    match report {
-        Report::Hits => text_of_hits(alloc, list.slice()),
-        Report::Ids => text_of_ids(alloc, recording, list.slice()),
-    }
+    Ok(list)
+}
+
+// The text of the list of a recording.
+fn text_of_list(alloc: Global, recording: &Recording) -> Result<String, AllocError>
+    ensures { IfOk result (λ text. IsListText recording.now (string_bytes text)) }
+{
+    let (mut work, mut list) = room_for_list(alloc)?;
+    explain(recording, &mut work, &mut list);
+    text(alloc, list.slice())
+}
+
+// The memory of a list and of the search for it.
+pub(crate) fn room_for_list(alloc: Global) -> Result<(Workspace, EntryList), AllocError> {
+    let work = Workspace::new(alloc)?;
+    let list = EntryList::new(alloc)?;
+    Ok((work, list))
 }

@@ -8,10 +8,10 @@ ghost use Rattle.lte_top.specs.Certifying.{HasCertified, HasCertifiedFront, HasC
 ghost use Rattle.lte_top.specs.Run.{Ends};
 ghost use Rattle.lte_top.specs.declared.form.Form.TheVariants.{Certify};
 
-use crate::about::recording_of;
+use crate::about::{recording_of, room_for_list};
 use crate::status::Status;
 use cs_outside::{Failed, Sink, Source, write_whole};
-use explain::{EntryList, Workspace, explain, values_of};
+use explain::{explain, values_of};
 use lte_types::Entry;
 use sample_file::Recording;
 use std::alloc::{AllocError, Global};
@@ -55,13 +55,6 @@ pub(crate) fn certify<S: Source, K: Sink>(alloc: Global, source: &mut S, sink: &
         Ok(()) => Status::Done,
         Err(Failed) => Status::WriteFault,
     }
-}
-
-// The memory of a list and of the search for it.
-fn room_for_list(alloc: Global) -> Result<(Workspace, EntryList), AllocError> {
-    let work = Workspace::new(alloc)?;
-    let list = EntryList::new(alloc)?;
-    Ok((work, list))
 }
 
 // The memory of one certificate, of the search for its word, and of its bytes.

@@ -23,6 +23,8 @@ pub enum Report {
     Hits,
     /// `ids`: the same with the identity and the frame start that each tells.
     Ids,
+    /// `search`: the list of cells.
+    Search,
 }
 
 impl Form {
@@ -35,6 +37,8 @@ impl Form {
             Some(Form::About(Report::Hits))
         } else if words.is_one("ids") {
             Some(Form::About(Report::Ids))
+        } else if words.is_one("search") {
+            Some(Form::About(Report::Search))
         } else if words.is_one("certify") {
             Some(Form::Certify)
         } else if words.is_one("check") {

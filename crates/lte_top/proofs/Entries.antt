@@ -1,0 +1,15 @@
+-- Entries of a list.
+use Rattle.std.proofs.Common.{◌≡◌, ◌<◌, List, length, get_or, refl, sym}
+use Rattle.std.specs.Prelude.{All}
+use Rattle.std.proofs.lemmas.List.Elements.{Contains-get_or}
+use Rattle.cs_num.specs.declared.Sample.{Sample}
+use Rattle.lte_types.specs.declared.entry.Entry.{Entry}
+use Rattle.report.specs.Lines.{IsValidEntry}
+use Rattle.explain.specs.Entries.{IsExplained}
+use Rattle.explain.proofs.Listed.{is_sound}
+
+-- none of the list has system information yet
+pub all_valid : (samples : List Sample) (list : List Entry) → IsExplained samples list → All IsValidEntry list
+all_valid samples list explained k d inside =
+    let known = is_sound samples list (get_or list k d) explained (Contains-get_or list k d inside) in
+    rw known.is_of.sib1 tt

@@ -1,0 +1,7 @@
+use Rattle.std.proofs.Common.{subst, sym}
+use Rattle.explain.proofs.Listed.{is_sound}
+use Rattle.lte_top.proofs.Entries.{all_valid}
+use Rattle.lte_top.proofs.about.text_of_list.Goals as goal
+
+pub text-requires : goal.text-requires
+text-requires c = rw c.slice.ensures (all_valid _ _ c.explain.ensures)
