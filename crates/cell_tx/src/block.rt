@@ -87,6 +87,16 @@ fn component_of(bit: bool) -> i64
     if bit { -90 } else { 90 }
 }
 
+// The point that two bits give.
+fn point(first: bool, second: bool) -> Cpx
+    ensures { result ≡ record { re = component first; im = component second } }
+{
+    Cpx {
+        re: component_of(first),
+        im: component_of(second),
+    }
+}
+
 /// The 240 points of the broadcast channel in a frame.
 pub(crate) fn broadcast_points(cell: &Cell, sfn: Sfn) -> [Cpx; 240]
     ensures { result ≡ values_below 240 (broadcast_point cell.now sfn) }
@@ -96,10 +106,10 @@ pub(crate) fn broadcast_points(cell: &Cell, sfn: Sfn) -> [Cpx; 240]
     let first = 480 * (sfn.value() % 4) as usize;
     let mut points = [Cpx { re: 0, im: 0 }; 240];
     for i in 0..240 {
-        points[i] = Cpx {
-            re: component_of(scrambled(&coded, &scrambling, first + 2 * i)),
-            im: component_of(scrambled(&coded, &scrambling, first + 2 * i + 1)),
-        };
+        points[i] = point(
+            scrambled(&coded, &scrambling, first + 2 * i),
+            scrambled(&coded, &scrambling, first + 2 * i + 1),
+        );
     }
     points
 }

@@ -1,17 +1,17 @@
 //! The resource grid of a frame, symbol by symbol.
 
-ghost use Rattle.std.specs.Prelude.{ℕ, ◌≡◌, ◌⊎◌, ◌+◌, ◌*◌, ◌/◌, ◌%◌, ◌<◌, ◌≤◌, Some, None, All, if◌then◌else◌};
+ghost use Rattle.std.specs.Prelude.{ℕ, ◌≡◌, ◌⊎◌, ◌+◌, ◌*◌, ◌/◌, ◌%◌, ◌<◌, ◌≤◌, Some, None, All, unsigned_abs, if◌then◌else◌};
 ghost use Rattle.finite.specs.Lists.{values_below};
 ghost use Rattle.cs_num.specs.Complex.{IsWithin};
 ghost use Rattle.lte_types.specs.declared.frame.Half.TheVariants.{Zero, Five};
 ghost use Rattle.sync_seq.specs.Primary.{pss_list};
-ghost use Rattle.sync_seq.specs.Secondary.{sss_list};
+ghost use Rattle.sync_seq.specs.Secondary.{sss_at, sss_list};
 ghost use Rattle.crs.specs.Reference.{is_reference, reference_at, reference_list};
 ghost use Rattle.grid_map.specs.Place.{place};
 ghost use Rattle.grid_map.specs.Broadcast.{pbch_index};
 ghost use Rattle.cell_tx.specs.Block.{broadcast_point};
 ghost use Rattle.fold128.specs.Symbol.{useful_part};
-ghost use Rattle.cell_tx.specs.Grid.{is_synchronised, secondary_value, element};
+ghost use Rattle.cell_tx.specs.Grid.{is_synchronised, half_of, secondary_value, element};
 ghost use Rattle.cell_tx.specs.Rows.{reference_if, broadcast_if};
 
 use crate::Cell;
@@ -97,20 +97,27 @@ fn is_row(row: u8, subframe: u8, symbol: u8, k: u8) -> bool
     (subframe == 0 || subframe == 5) && symbol == row && 5 <= k && k < 67
 }
 
+// Sign n of the secondary sequence in a subframe.
+fn sign_of(signals: &Signals, subframe: u8, n: usize) -> i8
+    requires { n < 62 }
+    ensures value { result ≡ sss_at (signals.now.cell.now.identity / 3) (signals.now.cell.now.identity % 3) (half_of subframe) n }
+    ensures size { unsigned_abs result ≡ 1 }
+{
+    if subframe == 0 {
+        signals.zero[n]
+    } else {
+        signals.five[n]
+    }
+}
+
 // The value of the secondary signal.
 fn secondary_of(signals: &Signals, subframe: u8, k: u8) -> Cpx
     requires low { 5 ≤ k }
     requires high { k < 67 }
     ensures { result ≡ secondary_value signals.now.cell.now subframe k }
 {
-    let n = k as usize - 5;
-    let sign = if subframe == 0 {
-        signals.zero[n]
-    } else {
-        signals.five[n]
-    };
     Cpx {
-        re: 127 * sign as i64,
+        re: 127 * sign_of(signals, subframe, k as usize - 5) as i64,
         im: 0,
     }
 }

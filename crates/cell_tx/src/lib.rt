@@ -15,3 +15,6 @@ pub use error::CellError;
 pub use laws::{accepted_are_sendable, frames_stand, sizes, symbols_stand};
 pub use sending::{frame, sample, send, send_all};
 pub use transmission::Transmission;
+
+#[cfg(test)]
+mod tests;
