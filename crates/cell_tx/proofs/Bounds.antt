@@ -1,17 +1,18 @@
 -- Sizes of elements and of samples.
-use Rattle.std.proofs.Common.{◌≡◌, ℕ, ◌+◌, ◌-◌, ◌*◌, ◌/◌, ◌%◌, ◌<◌, ◌≤◌, inl, inr, Bool, true, false, nat_lt, nat_le, arith, refl, sym, subst, ap, ◌∙◌, ℤ, pos, ◌*ℤ◌, unsigned_abs}
+use Rattle.std.proofs.Common.{◌≡◌, ℕ, ◌+◌, ◌-◌, ◌*◌, ◌/◌, ◌%◌, ◌<◌, ◌≤◌, ◌^◌, inl, inr, Bool, true, false, nat_lt, nat_le, arith, refl, sym, subst, ap, ◌∙◌, ℤ, pos, ◌*ℤ◌, unsigned_abs}
 use Rattle.std.specs.Prelude.{if◌then◌else◌}
 use Rattle.std.proofs.lemmas.Bool.{leb-true}
 use Rattle.std.proofs.lemmas.Int.{ints, unsigned_abs-mul}
+use Rattle.std.proofs.lemmas.Nat.{mul-le}
 use Rattle.finite.specs.Tests.{every_below}
 use Rattle.finite.proofs.Tests.{every_below_at}
 use Rattle.cs_num.specs.declared.Cpx.{Cpx}
-use Rattle.cs_num.specs.Complex.{IsWithin, nothing, plus, times, conjugate, square}
+use Rattle.cs_num.specs.Complex.{IsWithin, nothing, plus, times, conjugate, square, size}
 use Rattle.cs_num.specs.Rounding.{rounded}
 use Rattle.cs_num.specs.Sums.{complex_sum_below}
 use Rattle.sizes.specs.Sizes.{IsSized, minus, multiple}
 use Rattle.sizes.proofs.Laws.{plus-minus}
-use Rattle.sizes.proofs.Squares.{square-within, square-multiple}
+use Rattle.sizes.proofs.Squares.{re-le, im-le, square-within, square-multiple, square-times}
 use Rattle.sizes.proofs.Rounding.{rounded_near}
 use Rattle.sizes.proofs.Sized.{sized-plus, sized-times, sized-sum, sized_plain}
 use Rattle.fold128.specs.Tables.{quarter, cosine, w_at, z_at, z_half, z_real, z_imaginary}
@@ -27,7 +28,8 @@ use Rattle.sync_seq.proofs.SecondaryValues.{sss-size}
 use Rattle.cell_tx.specs.declared.cell.CellPlan.{CellPlan}
 use Rattle.cell_tx.specs.Block.{broadcast_bit, broadcast_point}
 use Rattle.cell_tx.specs.Grid.{is_primary, is_secondary, is_broadcast, half_of, element}
-use Rattle.cell_tx.specs.Sent.{useful_start, symbol_of, frame_sample, number_of, sent}
+use Rattle.cell_tx.specs.Clean.{IsGain}
+use Rattle.cell_tx.specs.Sent.{useful_start, symbol_of, slot_sample, frame_sample, number_of, sent}
 use Rattle.cell_tx.proofs.Elements.{reference_at_is}
 
 -- ---- elements
@@ -136,15 +138,39 @@ useful-square grid n small =
     (sized-sum 72 (useful_term grid n) 2097280 1
       (λ k inside. sized-times (grid k) (w_at (frequency k * n)) 128 16385 1 1 (sized_plain (grid k) 128 (small k inside)) (sized_plain (w_at (frequency k * n)) 16385 (w-square (frequency k * n)))))
 
-pub frame-square : (plan : CellPlan) (sfn i : ℕ) → square (frame_sample plan sfn i) ≤ 1153 * 1153
-unfolding frame_sample
-frame-square plan sfn i =
-    let slot : ℕ = i / 960 in
-    let l : ℕ = symbol_of (i % 960) in
+pub slot-square : (plan : CellPlan) (sfn slot i : ℕ) → square (slot_sample plan sfn slot i) ≤ 1153 * 1153
+slot-square plan sfn slot i =
+    let l : ℕ = symbol_of i in
     let grid : ℕ → Cpx = element plan sfn (slot / 2) (7 * (slot % 2) + l) in
     let each = λ (n : ℕ). useful-square grid n (λ k inside. element-square plan sfn (slot / 2) (7 * (slot % 2) + l) k) in
-    pick (λ z. square z ≤ 1153 * 1153) (nat_lt (i % 960) (useful_start l)) _ _ (each _) (each _)
+    pick (λ z. square z ≤ 1153 * 1153) (nat_lt i (useful_start l)) _ _ (each _) (each _)
+
+pub frame-square : (plan : CellPlan) (sfn i : ℕ) → square (frame_sample plan sfn i) ≤ 1153 * 1153
+unfolding frame_sample
+frame-square plan sfn i = slot-square plan sfn (i / 960) (i % 960)
+
+-- a number of that size fits 16 bits
+pub small-within : (z : Cpx) → square z ≤ 1153 * 1153 → IsWithin 32767 z
+small-within z h = record { re = omega (arith, re-le z 1153 h); im = omega (arith, im-le z 1153 h) }
 
 pub sent-square : (plan : CellPlan) (sfn i : ℕ) → square (sent plan sfn i) ≤ 1153 * 1153
 unfolding sent
 sent-square plan sfn i = frame-square plan (number_of sfn i) (i % 19200)
+
+-- ---- a gain times a sample
+
+-- the sizes of a gain and of a clean sample, and of their product
+pub record IsAmplified (gain clean : Cpx) : Type 0 where
+  pub fits : size gain * size clean ≤ 2 ^ 61
+  pub small : IsWithin 32284 (times gain clean)
+
+pub amplified : (gain clean : Cpx) → IsGain gain → square clean ≤ 1153 * 1153 → IsAmplified gain clean
+amplified gain clean g c =
+    let whole : square (times gain clean) ≤ 32284 * 32284 =
+    omega (arith, square-times gain clean, mul-le (square gain) (square clean) 784 1329409 g.most c) in
+    let large : size gain ≤ 28 = omega (arith, re-le gain 28 g.most, im-le gain 28 g.most) in
+    let small : size clean ≤ 1153 = omega (arith, re-le clean 1153 c, im-le clean 1153 c) in
+    record {
+      fits = omega (arith, mul-le (size gain) (size clean) 28 1153 large small);
+      small = record { re = re-le (times gain clean) 32284 whole; im = im-le (times gain clean) 32284 whole };
+    }

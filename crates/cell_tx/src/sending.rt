@@ -6,8 +6,8 @@ ghost use Rattle.cs_num.specs.Complex.{IsWithin, silence, square, times, value_o
 ghost use Rattle.fold128.specs.Symbol.{useful_part};
 ghost use Rattle.cell_tx.specs.Clean.{IsGain};
 ghost use Rattle.cell_tx.specs.Grid.{element};
-ghost use Rattle.cell_tx.specs.Rows.{useful_place, first_sample, HasSamples};
-ghost use Rattle.cell_tx.specs.Sent.{useful_start, symbol_of, slot_sample, frame_sample, number_of, sent, received, sample_of, gain_of};
+ghost use Rattle.cell_tx.specs.Rows.{useful_place, first_sample, frame_samples, HasSamples};
+ghost use Rattle.cell_tx.specs.Sent.{symbol_of, slot_sample, frame_sample, number_of, sent, received, sample_of, gain_of};
 
 use crate::grid::{Signals, useful_of};
 use crate::{Cell, Transmission};
@@ -107,16 +107,35 @@ pub fn sample(cell: &Cell, sfn: Sfn, i: u64) -> Sample
     sample_of_frame(&signals, (i % 19_200) as usize)
 }
 
-/// The whole frame numbered `sfn`, over 19,200 samples. Its sample `i` is sample
-/// `19,200 * j + i` of each sequence that has this frame as its frame `j`.
+/// The whole frame numbered `sfn`, over 19,200 samples: those of `sample` from 0 on. Sample `i` is
+/// sample `19,200 * j + i` of each sequence that has this frame as its frame `j`.
 pub fn frame(cell: &Cell, sfn: Sfn, out: &mut [Sample])
     requires { length out.old ≡ 19200 }
-    ensures samples { out.new ≡ values_below 19200 (λ i. sample_of (frame_sample cell.now sfn i)) }
-    ensures sent { out.new ≡ values_below 19200 (λ i. sample_of (sent cell.now sfn i)) }
+    ensures { out.new ≡ frame_samples cell.now sfn }
 {
     let signals = Signals::new(cell, sfn);
     for symbol in 0..140 {
         put_symbol(&signals, symbol, out);
+    }
+}
+
+// The number that a sample is.
+fn value(sample: Sample) -> Cpx
+    ensures { result ≡ value_of sample }
+{
+    Cpx {
+        re: sample.re as i64,
+        im: sample.im as i64,
+    }
+}
+
+// The number that a gain is.
+fn value_of_gain(gain: (i16, i16)) -> Cpx
+    ensures { result ≡ gain_of gain }
+{
+    Cpx {
+        re: gain.0 as i64,
+        im: gain.1 as i64,
     }
 }
 
@@ -127,12 +146,7 @@ fn amplified(gain: (i16, i16), clean: Sample) -> Sample
     ensures value { result ≡ sample_of (times (gain_of gain) (value_of clean)) }
     ensures size { IsWithin 32284 (times (gain_of gain) (value_of clean)) }
 {
-    let (a, b) = (gain.0 as i32, gain.1 as i32);
-    let (x, y) = (clean.re as i32, clean.im as i32);
-    Sample {
-        re: (a * x - b * y) as i16,
-        im: (a * y + b * x) as i16,
-    }
+    narrow(value_of_gain(gain).mul(value(clean)))
 }
 
 /// Sample `i` of a transmission: sample `i + offset` of the cell's sequence, times the gain. `i` is
@@ -145,17 +159,36 @@ pub fn send(t: &Transmission, i: u32) -> Sample
     amplified(t.gain, sample(&t.cell, t.sfn, i as u64 + t.offset as u64))
 }
 
-/// All samples of a transmission, over as many. Each frame is made once.
+// Makes the frame of sample i of a transmission, where that of the sample before is another one.
+fn renew(t: &Transmission, i: usize, clean: &mut [Sample; 19200])
+    requires i { i < t.now.samples }
+    requires before { 0 < i → clean.old ≡ frame_samples t.now.cell (number_of t.now.sfn (i - 1 + t.now.offset)) }
+    ensures { clean.new ≡ frame_samples t.now.cell (number_of t.now.sfn (i + t.now.offset)) }
+{
+    let n = i as u64 + t.offset as u64;
+    if i == 0 || n % 19_200 == 0 {
+        frame(&t.cell, number(t.sfn, n), clean);
+    }
+}
+
+// Sample i of a transmission, from the samples of its frame.
+fn sent_from(t: &Transmission, i: usize, clean: &[Sample; 19200]) -> Sample
+    requires i { i < t.now.samples }
+    requires clean { clean.now ≡ frame_samples t.now.cell (number_of t.now.sfn (i + t.now.offset)) }
+    ensures { result ≡ sample_of (received t.now.cell t.now.sfn t.now.offset (gain_of t.now.gain) i) }
+{
+    amplified(t.gain, clean[(i + t.offset as usize) % 19_200])
+}
+
+/// All samples of a transmission, over as many: sample `i` is that of `send`. Each frame is made
+/// once.
 pub fn send_all(t: &Transmission, out: &mut [Sample])
     requires { length out.old ≡ t.now.samples }
     ensures { out.new ≡ values_below t.now.samples (λ i. sample_of (received t.now.cell t.now.sfn t.now.offset (gain_of t.now.gain) i)) }
 {
     let mut clean = [Sample { re: 0, im: 0 }; 19_200];
     for i in 0..out.len() {
-        let n = i as u64 + t.offset as u64;
-        if i == 0 || n % 19_200 == 0 {
-            frame(&t.cell, number(t.sfn, n), &mut clean);
-        }
-        out[i] = amplified(t.gain, clean[(n % 19_200) as usize]);
+        renew(t, i, &mut clean);
+        out[i] = sent_from(t, i, &clean);
     }
 }
