@@ -16,7 +16,7 @@ use Rattle.cell_tx.specs.Sent.{gain_of}
 
 -- a whole number of 64 signed bits
 abbrev pub whole_of : Data → Option ℤ
-whole_of data = option_and_then as_i64 (as_number data)
+whole_of json = option_and_then as_i64 (as_number json)
 
 -- a list of exactly two of them
 abbrev pub pair_in : Items → Option (ℤ × ℤ)
@@ -24,7 +24,7 @@ pair_in (item a (item b no_items)) = option_and_then (λ x. option_map (λ y. (x
 pair_in _ = None
 
 abbrev pub pair_of : Data → Option (ℤ × ℤ)
-pair_of data = option_and_then pair_in (as_array data)
+pair_of json = option_and_then pair_in (as_array json)
 
 -- phich-Duration by its name
 abbrev pub duration_named : List ℕ → Option Duration
@@ -34,7 +34,7 @@ duration_named name =
     else None)
 
 abbrev pub duration_of : Data → Option Duration
-duration_of data = option_and_then duration_named (as_str data)
+duration_of json = option_and_then duration_named (as_str json)
 
 -- phich-Resource by its name
 abbrev pub resource_named : List ℕ → Option Resource
@@ -46,13 +46,13 @@ resource_named name =
     else None)))
 
 abbrev pub resource_of : Data → Option Resource
-resource_of data = option_and_then resource_named (as_str data)
+resource_of json = option_and_then resource_named (as_str json)
 
 -- ---- the keys of a description
 
 -- what an object has at a key, where it is of a kind
 abbrev pub at_key : {A : Type 0} → (Data → Option A) → List ℕ → Data → Option A
-at_key kind key data = option_and_then kind (get key data)
+at_key kind key json = option_and_then kind (get key json)
 
 -- how many keys an object has: each once
 abbrev pub key_count : Data → ℕ
@@ -61,16 +61,16 @@ key_count _ = 0
 
 -- the object has exactly the eight keys, each with a value of its kind: it has eight keys, and these are among them
 abbrev pub has_form : Data → Bool
-has_form data =
-    nat_eq (key_count data) 8
-    && is_some (at_key whole_of (codes "identity") data)
-    && is_some (at_key whole_of (codes "sfn") data)
-    && is_some (at_key whole_of (codes "offset") data)
-    && is_some (at_key whole_of (codes "samples") data)
-    && is_some (at_key pair_of (codes "gain") data)
-    && is_some (at_key duration_of (codes "duration") data)
-    && is_some (at_key resource_of (codes "resource") data)
-    && is_some (at_key whole_of (codes "spare") data)
+has_form json =
+    nat_eq (key_count json) 8
+    && is_some (at_key whole_of (codes "identity") json)
+    && is_some (at_key whole_of (codes "sfn") json)
+    && is_some (at_key whole_of (codes "offset") json)
+    && is_some (at_key whole_of (codes "samples") json)
+    && is_some (at_key pair_of (codes "gain") json)
+    && is_some (at_key duration_of (codes "duration") json)
+    && is_some (at_key resource_of (codes "resource") json)
+    && is_some (at_key whole_of (codes "spare") json)
 
 -- the value, where there is one
 abbrev pub value_or : {A : Type 0} → A → Option A → A
@@ -79,16 +79,16 @@ value_or default (Some value) = value
 
 -- the whole number at a key
 abbrev pub number_at : List ℕ → Data → ℤ
-number_at key data = value_or (pos 0) (at_key whole_of key data)
+number_at key json = value_or (pos 0) (at_key whole_of key json)
 
 abbrev pub gain_at : Data → ℤ × ℤ
-gain_at data = value_or (pos 0, pos 0) (at_key pair_of (codes "gain") data)
+gain_at json = value_or (pos 0, pos 0) (at_key pair_of (codes "gain") json)
 
 abbrev pub duration_at : Data → Duration
-duration_at data = value_or Normal (at_key duration_of (codes "duration") data)
+duration_at json = value_or Normal (at_key duration_of (codes "duration") json)
 
 abbrev pub resource_at : Data → Resource
-resource_at data = value_or OneSixth (at_key resource_of (codes "resource") data)
+resource_at json = value_or OneSixth (at_key resource_of (codes "resource") json)
 
 -- ---- the conditions
 
@@ -101,12 +101,12 @@ is_gain gain = nat_le 1 (square (gain_of gain)) && nat_le (square (gain_of gain)
 
 -- all conditions in their order: the form, what is sent, and then those of the cell's plan
 abbrev pub conditions : Data → List Condition
-conditions data =
-    condition (has_form data) Form
-    ∷ condition (is_between 0 1023 (number_at (codes "sfn") data)) Sfn
-    ∷ condition (is_between 0 19199 (number_at (codes "offset") data)) Offset
-    ∷ condition (is_between 57600 1920000 (number_at (codes "samples") data)) Samples
-    ∷ condition (is_gain (gain_at data)) Gain
-    ∷ condition (is_between 0 503 (number_at (codes "identity") data)) Identity
-    ∷ condition (is_between 0 1023 (number_at (codes "spare") data)) Spare
+conditions json =
+    condition (has_form json) Form
+    ∷ condition (is_between 0 1023 (number_at (codes "sfn") json)) Sfn
+    ∷ condition (is_between 0 19199 (number_at (codes "offset") json)) Offset
+    ∷ condition (is_between 57600 1920000 (number_at (codes "samples") json)) Samples
+    ∷ condition (is_gain (gain_at json)) Gain
+    ∷ condition (is_between 0 503 (number_at (codes "identity") json)) Identity
+    ∷ condition (is_between 0 1023 (number_at (codes "spare") json)) Spare
     ∷ []

@@ -18,29 +18,29 @@ json_of bytes = if is_utf8 bytes then value_of_text bytes else None
 -- the first failed condition of a value: of what is no JSON it is the form
 abbrev pub refusal_of : Option Data → Option CellError
 refusal_of None = Some Form
-refusal_of (Some data) = first_failed (conditions data)
+refusal_of (Some json) = first_failed (conditions json)
 
 -- the first failed condition of a description; None where it is valid
 abbrev pub refusal : List ℕ → Option CellError
 refusal bytes = refusal_of (json_of bytes)
 
 -- the transmission has the description's values
-pub record HasValues (t : Transmission) (data : Data) : Type 0 where
-  pub identity : pos t.cell.identity ≡ number_at (codes "identity") data
-  pub duration : t.cell.duration ≡ duration_at data
-  pub resource : t.cell.resource ≡ resource_at data
-  pub spare : pos t.cell.spare ≡ number_at (codes "spare") data
-  pub sfn : pos t.sfn ≡ number_at (codes "sfn") data
-  pub offset : pos t.offset ≡ number_at (codes "offset") data
-  pub samples : pos t.samples ≡ number_at (codes "samples") data
-  pub gain : t.gain ≡ gain_at data
+pub record HasValues (t : Transmission) (json : Data) : Type 0 where
+  pub identity : pos t.cell.identity ≡ number_at (codes "identity") json
+  pub duration : t.cell.duration ≡ duration_at json
+  pub resource : t.cell.resource ≡ resource_at json
+  pub spare : pos t.cell.spare ≡ number_at (codes "spare") json
+  pub sfn : pos t.sfn ≡ number_at (codes "sfn") json
+  pub offset : pos t.offset ≡ number_at (codes "offset") json
+  pub samples : pos t.samples ≡ number_at (codes "samples") json
+  pub gain : t.gain ≡ gain_at json
 
 -- the bytes are a valid description of the transmission
 pub record Describes (bytes : List ℕ) (t : Transmission) : Type 0 where
-  pub data : Data
-  pub json : json_of bytes ≡ Some data
+  pub value : Data
+  pub json : json_of bytes ≡ Some value
   pub valid : refusal bytes ≡ None
-  pub values : HasValues t data
+  pub values : HasValues t value
 
 -- how a refusal comes: a cause exactly where it is the first failed condition, and want of memory at any bytes
 abbrev pub IsRefused : List ℕ → JsonError → Type 0

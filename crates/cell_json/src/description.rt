@@ -1,11 +1,12 @@
 //! What a JSON value describes.
 
-ghost use Rattle.std.specs.Prelude.{◌≡◌, ◌×◌, ◌≤◌, ◌&&◌, nat_eq, true, false, codes, option_and_then, MatchOption, is_some, List, ℕ};
+ghost use Rattle.std.specs.Prelude.{◌≡◌, ◌≤◌, ◌&&◌, nat_eq, true, false, codes, option_map, option_and_then, MatchOption, is_some, List, ℕ};
 ghost use Rattle.serde_json.specs.Data.{Data};
 ghost use Rattle.serde_json.specs.View.{view};
 ghost use Rattle.cell_json.specs.Description.{whole_of, pair_of, duration_of, resource_of, duration_named, resource_named, at_key, key_count, has_form};
 ghost use Rattle.cell_json.specs.Parts.{HasParts};
 
+use cs_num::Cpx;
 use lte_types::{Duration, Resource};
 use serde_json::Value;
 
@@ -16,7 +17,7 @@ pub(crate) struct Description {
     pub sfn: i64,
     pub offset: i64,
     pub samples: i64,
-    pub gain: (i64, i64),
+    pub gain: Cpx,
     pub duration: Duration,
     pub resource: Resource,
     pub spare: i64,
@@ -40,19 +41,22 @@ fn whole(value: &Value, key: &str) -> Option<i64>
 }
 
 // The value, as a list of exactly two whole numbers.
-fn pair_in(value: &Value) -> Option<(i64, i64)>
-    ensures { result ≡ pair_of (view value.now) }
+fn pair_in(value: &Value) -> Option<Cpx>
+    ensures { option_map (λ z. (z.re, z.im)) result ≡ pair_of (view value.now) }
 {
     let items = value.as_array()?;
     if items.len() != 2 {
         return None;
     }
-    Some((items[0].as_i64()?, items[1].as_i64()?))
+    Some(Cpx {
+        re: items[0].as_i64()?,
+        im: items[1].as_i64()?,
+    })
 }
 
 // The two whole numbers at a key.
-fn pair(value: &Value, key: &str) -> Option<(i64, i64)>
-    ensures { result ≡ at_key pair_of key.now (view value.now) }
+fn pair(value: &Value, key: &str) -> Option<Cpx>
+    ensures { option_map (λ z. (z.re, z.im)) result ≡ at_key pair_of key.now (view value.now) }
 {
     pair_in(value.get(key)?)
 }

@@ -7,3 +7,6 @@ mod reading;
 
 pub use error::JsonError;
 pub use reading::read;
+
+#[cfg(test)]
+mod tests;
