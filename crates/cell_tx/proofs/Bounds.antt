@@ -54,10 +54,10 @@ unfolding element
 element_all P full primary secondary none plan sfn subframe symbol k =
     pick P (is_reference plan.identity (symbol % 7) k) _ _
     (subst P (sym (reference_at_is plan.identity (2 * subframe + symbol / 7) (symbol % 7) k))
-      (full _ (reference-IsReferenceValue plan.identity (2 * subframe + symbol / 7) (symbol % 7) (k / 6))))
+    (full _ (reference-IsReferenceValue plan.identity (2 * subframe + symbol / 7) (symbol % 7) (k / 6))))
     (pick P (is_primary subframe symbol k) _ _ (primary (plan.identity % 3) (k - 5))
-      (pick P (is_secondary subframe symbol k) _ _ (secondary (plan.identity / 3) (plan.identity % 3) (half_of subframe) (k - 5))
-        (pick P (is_broadcast plan.identity subframe symbol k) _ _ (full _ (point_full plan sfn _)) none)))
+    (pick P (is_secondary subframe symbol k) _ _ (secondary (plan.identity / 3) (plan.identity % 3) (half_of subframe) (k - 5))
+    (pick P (is_broadcast plan.identity subframe symbol k) _ _ (full _ (point_full plan sfn _)) none)))
 
 full_size : (z : ℤ) → IsFull z → unsigned_abs z ≡ 90
 full_size z (inl e) = rw e refl
@@ -136,7 +136,7 @@ unfolding useful_at
 useful-square grid n small =
     rounded-square (complex_sum_below 72 (useful_term grid n))
     (sized-sum 72 (useful_term grid n) 2097280 1
-      (λ k inside. sized-times (grid k) (w_at (frequency k * n)) 128 16385 1 1 (sized_plain (grid k) 128 (small k inside)) (sized_plain (w_at (frequency k * n)) 16385 (w-square (frequency k * n)))))
+    (λ k inside. sized-times (grid k) (w_at (frequency k * n)) 128 16385 1 1 (sized_plain (grid k) 128 (small k inside)) (sized_plain (w_at (frequency k * n)) 16385 (w-square (frequency k * n)))))
 
 pub slot-square : (plan : CellPlan) (sfn slot i : ℕ) → square (slot_sample plan sfn slot i) ≤ 1153 * 1153
 slot-square plan sfn slot i =

@@ -12,9 +12,9 @@ returns-in-Ok c json form parts =
     ∙ c.narrowed.ensures.value (omega (arith, c.in-Ok.ensures.sendable.identity, ap (λ (p : CellPlan). p.identity) c.in-Ok.ensures.plan)) in
     let spare : pos c.in-Ok.cell.spare ≡ d.spare =
     ap (λ (p : CellPlan). pos p.spare) c.in-Ok.ensures.plan
-    ∙ c.narrowed-2.ensures.value (omega (arith, c.in-Ok.ensures.sendable.spare, ap (λ (p : CellPlan). p.spare) c.in-Ok.ensures.plan)) in
-    (plan_decides json d form parts plan c.in-Some.ensures.0 c.in-Some-within.ensures.0 c.in-Some-within-2.ensures.0 c.in-Some-gain_within.ensures.0
-        (c.narrowed.ensures.same 503 (omega arith)) (c.narrowed-2.ensures.same 1023 (omega arith)) ∙ c.in-Ok.ensures.refusal,
+    ∙ c.narrowed-2.ensures.value (omega (arith, c.in-Ok.ensures.sendable.spare, ap (λ (p : CellPlan). p.spare) c.in-Ok.ensures.plan)) in (
+      plan_decides json d form parts plan c.in-Some.ensures.0 c.in-Some-within.ensures.0 c.in-Some-within-2.ensures.0 c.in-Some-gain_within.ensures.0
+          (c.narrowed.ensures.same 503 (omega arith)) (c.narrowed-2.ensures.same 1023 (omega arith)) ∙ c.in-Ok.ensures.refusal,
       record {
         identity = identity ∙ parts.identity;
         duration = ap (λ (p : CellPlan). p.duration) c.in-Ok.ensures.plan ∙ parts.duration;
@@ -24,7 +24,8 @@ returns-in-Ok c json form parts =
         offset = c.in-Some-within.ensures.1 ∙ parts.offset;
         samples = c.in-Some-within-2.ensures.1 ∙ parts.samples;
         gain = c.in-Some-gain_within.ensures.1 ∙ parts.gain;
-      })
+      },
+    )
 
 pub returns-in-Err : goal.returns-in-Err
 returns-in-Err c json form parts =

@@ -24,7 +24,7 @@ loop-i-preserved c =
     record {
       whole = length-set c.loop-i.bits (f + i) _ ∙ c.loop-i.invariant.whole;
       so_far = rw e (take_more_set c.loop-i.bits (f + i) _ (omega (arith, c.loop-i.invariant.whole))
-        ∙ rw (c.loop-i.invariant.so_far, values_below_more i bit, low) (append_assoc _ (values_below i bit) _));
+          ∙ rw (c.loop-i.invariant.so_far, values_below_more i bit, low) (append_assoc _ (values_below i bit) _));
     }
 
 pub returns : goal.returns

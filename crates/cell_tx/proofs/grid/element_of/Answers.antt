@@ -45,7 +45,7 @@ returns-then-is_row-2 c =
     let none = none_at c.args.references.now plan.identity (2 * c.args.subframe + c.args.symbol / 7) (c.args.symbol % 7) c.args.k c.requires.k c.requires.references c.in_default.is in
     c.secondary_of.ensures
     ∙ sym (element_of_secondary plan c.args.signals.now.sfn c.args.subframe c.args.symbol c.args.k none
-      (sym c.is_row.ensures ∙ c.if-is_row.false) (sym c.is_row-else-is_row.ensures ∙ c.if-is_row-2.true))
+    (sym c.is_row.ensures ∙ c.if-is_row.false) (sym c.is_row-else-is_row.ensures ∙ c.if-is_row-2.true))
 
 pub returns-else-is_row-2 : goal.returns-else-is_row-2
 returns-else-is_row-2 c =
@@ -53,4 +53,4 @@ returns-else-is_row-2 c =
     let none = none_at c.args.references.now plan.identity (2 * c.args.subframe + c.args.symbol / 7) (c.args.symbol % 7) c.args.k c.requires.k c.requires.references c.in_default.is in
     c.broadcast_of.ensures
     ∙ sym (element_of_broadcast plan c.args.signals.now.sfn c.args.subframe c.args.symbol c.args.k none
-      (sym c.is_row.ensures ∙ c.if-is_row.false) (sym c.is_row-else-is_row.ensures ∙ c.if-is_row-2.false))
+    (sym c.is_row.ensures ∙ c.if-is_row.false) (sym c.is_row-else-is_row.ensures ∙ c.if-is_row-2.false))

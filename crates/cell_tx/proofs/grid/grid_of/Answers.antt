@@ -9,8 +9,8 @@ pub loop-k-preserved : goal.loop-k-preserved
 loop-k-preserved c = record {
   whole = length-set c.loop-k.grid c.loop-k.k _ ∙ c.loop-k.invariant.whole;
   each = rw c.element_of.ensures
-    (fill_by_more (element c.args.signals.now.cell.now c.args.signals.now.sfn c.args.subframe c.args.symbol) c.loop-k.grid c.loop-k.k nothing
-    (omega (arith, c.loop-k.invariant.whole)) c.loop-k.invariant.each);
+      (fill_by_more (element c.args.signals.now.cell.now c.args.signals.now.sfn c.args.subframe c.args.symbol) c.loop-k.grid c.loop-k.k nothing
+      (omega (arith, c.loop-k.invariant.whole)) c.loop-k.invariant.each);
 }
 
 pub returns : goal.returns
