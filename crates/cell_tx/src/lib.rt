@@ -1,23 +1,20 @@
-//! The transmitter of a described cell. So far it holds only the causes for which a description is
-//! refused.
+//! The transmitter of a described cell, to its master block: synchronisation signals, reference
+//! signals and the broadcast channel (TS 36.211 section 6).
 #![tactic(auto)]
 
+mod block;
+mod cell;
 mod error;
+mod grid;
+mod laws;
+mod sending;
+mod transmission;
 
+pub use cell::{Cell, CellPlan};
 pub use error::CellError;
+pub use laws::{accepted_are_sendable, frames_stand, sizes, symbols_stand};
+pub use sending::{frame, sample, send, send_all};
+pub use transmission::Transmission;
 
 #[cfg(test)]
-mod tests {
-    use super::*;
-
-    #[test]
-    fn a_cause_is_named_in_lower_case(rt: HostRuntime) -> std::io::Result<()> {
-        let alloc = rt.alloc();
-        assert_eq!(rt; format!(in alloc; "{}", CellError::Form)?.as_str(), "form");
-        assert_eq!(rt;
-            format!(in alloc; "{}", CellError::Sib1Range)?.as_str(),
-            "sib1range"
-        );
-        Ok(())
-    }
-}
+mod tests;

@@ -1,0 +1,28 @@
+use Rattle.std.proofs.Common.{◌≡◌, Some, true, false, sym, ap, ◌∙◌}
+use Rattle.std.proofs.Math.Bool.{true≢false}
+use Rattle.serde_json.specs.View.{view}
+use Rattle.cell_json.specs.Reading.{refusal_of, refusal}
+use Rattle.cell_json.proofs.Forms.{text_has_value, no_json}
+use Rattle.cell_json.proofs.Refusals.{form_fails}
+use Rattle.cell_json.proofs.reading.read.Goals as goal
+
+pub returns-in-Err-2 : goal.returns-in-Err-2
+returns-in-Err-2 c =
+    no_json c.args.bytes.now
+    (λ text. c.in-Err.ensures.err (λ memory. true≢false (sym (c.is_memory.ensures.1 memory) ∙ c.if-is_memory.false)) text)
+
+pub returns-in-Ok-transmission_of : goal.returns-in-Ok-transmission_of
+returns-in-Ok-transmission_of c =
+    let json = text_has_value c.args.bytes.now (view c.in-Ok.value) c.in-Ok.ensures.ok.0 c.in-Ok.ensures.ok.1 in
+    let both = c.in-Ok-transmission_of.ensures (view c.in-Ok.value) c.in-Some.ensures.0 c.in-Some.ensures.1 in
+    record {
+      value = view c.in-Ok.value;
+      json = json;
+      valid = ap refusal_of json ∙ both.0;
+      values = both.1;
+    }
+
+pub returns : goal.returns
+returns c =
+    let json = text_has_value c.args.bytes.now (view c.in-Ok.value) c.in-Ok.ensures.ok.0 c.in-Ok.ensures.ok.1 in
+    ap refusal_of json ∙ c.in-Err-transmission_of.ensures (view c.in-Ok.value) c.in-Some.ensures.0 c.in-Some.ensures.1

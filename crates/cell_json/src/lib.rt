@@ -1,0 +1,12 @@
+//! Descriptions of a transmission in JSON.
+#![tactic(auto)]
+
+mod description;
+mod error;
+mod reading;
+
+pub use error::JsonError;
+pub use reading::read;
+
+#[cfg(test)]
+mod tests;

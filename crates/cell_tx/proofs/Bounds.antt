@@ -1,0 +1,176 @@
+-- Sizes of elements and of samples.
+use Rattle.std.proofs.Common.{◌≡◌, ℕ, ◌+◌, ◌-◌, ◌*◌, ◌/◌, ◌%◌, ◌<◌, ◌≤◌, ◌^◌, inl, inr, Bool, true, false, nat_lt, nat_le, arith, refl, sym, subst, ap, ◌∙◌, ℤ, pos, ◌*ℤ◌, unsigned_abs}
+use Rattle.std.specs.Prelude.{if◌then◌else◌}
+use Rattle.std.proofs.lemmas.Bool.{leb-true}
+use Rattle.std.proofs.lemmas.Int.{ints, unsigned_abs-mul}
+use Rattle.std.proofs.lemmas.Nat.{mul-le}
+use Rattle.finite.specs.Tests.{every_below}
+use Rattle.finite.proofs.Tests.{every_below_at}
+use Rattle.cs_num.specs.declared.Cpx.{Cpx}
+use Rattle.cs_num.specs.Complex.{IsWithin, nothing, plus, times, conjugate, square, size}
+use Rattle.cs_num.specs.Rounding.{rounded}
+use Rattle.cs_num.specs.Sums.{complex_sum_below}
+use Rattle.sizes.specs.Sizes.{IsSized, minus, multiple}
+use Rattle.sizes.proofs.Laws.{plus-minus}
+use Rattle.sizes.proofs.Squares.{re-le, im-le, square-within, square-multiple, square-times}
+use Rattle.sizes.proofs.Rounding.{rounded_near}
+use Rattle.sizes.proofs.Sized.{sized-plus, sized-times, sized-sum, sized_plain}
+use Rattle.fold128.specs.Tables.{quarter, cosine, w_at, z_at, z_half, z_real, z_imaginary}
+use Rattle.fold128.specs.Symbol.{frequency, useful_term, useful_at}
+use Rattle.fold128.proofs.Entries.{w_period}
+use Rattle.lte_types.specs.declared.frame.Half.{Half}
+use Rattle.crs.specs.Reference.{component, IsFull, IsReferenceValue, is_reference}
+use Rattle.crs.proofs.Values.{reference-IsReferenceValue}
+use Rattle.sync_seq.specs.Primary.{root_of, turns, pss_at}
+use Rattle.sync_seq.specs.Secondary.{sss_at}
+use Rattle.sync_seq.proofs.PrimaryValues.{pss_is, pss-within}
+use Rattle.sync_seq.proofs.SecondaryValues.{sss-size}
+use Rattle.cell_tx.specs.declared.cell.CellPlan.{CellPlan}
+use Rattle.cell_tx.specs.Block.{broadcast_bit, broadcast_point}
+use Rattle.cell_tx.specs.Grid.{is_primary, is_secondary, is_broadcast, half_of, element}
+use Rattle.cell_tx.specs.Clean.{IsGain}
+use Rattle.cell_tx.specs.Sent.{useful_start, symbol_of, slot_sample, frame_sample, number_of, sent}
+use Rattle.cell_tx.proofs.Elements.{reference_at_is}
+
+-- ---- elements
+
+pick : (P : Cpx → Type 0) (c : Bool) (a b : Cpx) → P a → P b → P (if c then a else b)
+pick P true a b p q = p
+pick P false a b p q = q
+
+component_full : (bit : Bool) → IsFull (component bit)
+component_full false = inl refl
+component_full true = inr refl
+
+point_full : (plan : CellPlan) (sfn i : ℕ) → IsReferenceValue (broadcast_point plan sfn i)
+unfolding broadcast_point
+point_full plan sfn i = record { re = component_full (broadcast_bit plan sfn (2 * i)); im = component_full (broadcast_bit plan sfn (2 * i + 1)) }
+
+-- what holds of each kind of value holds of every element
+element_all : (P : Cpx → Type 0) → ((z : Cpx) → IsReferenceValue z → P z) → ((n2 n : ℕ) → P (pss_at n2 n))
+    → ((n1 n2 : ℕ) (half : Half) (n : ℕ) → P (record { re = pos 127 *ℤ sss_at n1 n2 half n; im = pos 0 })) → P nothing
+    → (plan : CellPlan) (sfn subframe symbol k : ℕ) → P (element plan sfn subframe symbol k)
+unfolding element
+element_all P full primary secondary none plan sfn subframe symbol k =
+    pick P (is_reference plan.identity (symbol % 7) k) _ _
+    (subst P (sym (reference_at_is plan.identity (2 * subframe + symbol / 7) (symbol % 7) k))
+    (full _ (reference-IsReferenceValue plan.identity (2 * subframe + symbol / 7) (symbol % 7) (k / 6))))
+    (pick P (is_primary subframe symbol k) _ _ (primary (plan.identity % 3) (k - 5))
+    (pick P (is_secondary subframe symbol k) _ _ (secondary (plan.identity / 3) (plan.identity % 3) (half_of subframe) (k - 5))
+    (pick P (is_broadcast plan.identity subframe symbol k) _ _ (full _ (point_full plan sfn _)) none)))
+
+full_size : (z : ℤ) → IsFull z → unsigned_abs z ≡ 90
+full_size z (inl e) = rw e refl
+full_size z (inr e) = rw e refl
+
+secondary_size : (n1 n2 : ℕ) (half : Half) (n : ℕ) → unsigned_abs (pos 127 *ℤ sss_at n1 n2 half n) ≡ 127
+secondary_size n1 n2 half n = unsigned_abs-mul (pos 127) (sss_at n1 n2 half n) ∙ rw (sss-size n1 n2 half n) refl
+
+pub element-within : (plan : CellPlan) (sfn subframe symbol k : ℕ) → IsWithin 127 (element plan sfn subframe symbol k)
+element-within =
+    element_all (IsWithin 127)
+    (λ z full. record { re = omega (arith, full_size z.re full.re); im = omega (arith, full_size z.im full.im) })
+    pss-within
+    (λ n1 n2 half n. record { re = omega (arith, secondary_size n1 n2 half n); im = omega arith })
+    (record { re = omega arith; im = omega arith })
+
+unfoldable short_small : ℕ → Bool
+short_small m = nat_le (square (z_at m)) 16384
+
+all_short_small : every_below 63 short_small ≡ true
+unfolding z_real z_imaginary z_at short_small every_below
+all_short_small = refl
+
+z_again : (m : ℕ) → z_at (m % 63) ≡ z_at m
+unfolding z_at
+z_again m = let e : m % 63 % 63 ≡ m % 63 = omega arith in rw e refl
+
+z-square : (m : ℕ) → square (z_at m) ≤ 128 * 128
+z-square m = rw (← (z_again m)) (low (m % 63) (omega arith))
+  where
+    low : (m : ℕ) → m < 63 → square (z_at m) ≤ 16384
+    low m p = leb-true _ _ (unfold short_small in every_below_at 63 short_small all_short_small m p)
+
+primary-square : (n2 n : ℕ) → square (pss_at n2 n) ≤ 128 * 128
+primary-square n2 n = rw (pss_is n2 n) (z-square ((63 - root_of n2) * turns n))
+
+pub element-square : (plan : CellPlan) (sfn subframe symbol k : ℕ) → square (element plan sfn subframe symbol k) ≤ 128 * 128
+element-square =
+    element_all (λ z. square z ≤ 128 * 128)
+    (λ z full. rw (full_size z.re full.re, full_size z.im full.im) (omega arith))
+    primary-square
+    (λ n1 n2 half n. rw (secondary_size n1 n2 half n) (omega arith))
+    (omega arith)
+
+-- ---- samples
+
+unfoldable entry_small : ℕ → Bool
+entry_small m = nat_le (square (w_at m)) 268468225
+
+all_entries_small : every_below 128 entry_small ≡ true
+unfolding quarter cosine w_at entry_small every_below
+all_entries_small = refl
+
+w-square : (m : ℕ) → square (w_at m) ≤ 16385 * 16385
+w-square m = rw (← (w_period m)) (low (m % 128) (omega arith))
+  where
+    low : (m : ℕ) → m < 128 → square (w_at m) ≤ 268468225
+    low m p = leb-true _ _ (unfold entry_small in every_below_at 128 entry_small all_entries_small m p)
+
+-- what rounding leaves of a sum of size at most 72 * 128 * 16385
+rounded-square : (z : Cpx) → IsSized 151004160 1 z → square (rounded z 17) ≤ 1153 * 1153
+rounded-square z small =
+    let r : Cpx = rounded z 17 in
+    let off : Cpx = minus (multiple 131072 r) z in
+    let near : IsWithin 65536 off = rounded_near z 17 65536 (omega arith) refl refl in
+    let error : IsSized 92682 1 off = sized_plain off 92682 (omega (arith, square-within off 65536 near)) in
+    let whole : IsSized 151096842 1 (plus z off) = sized-plus z off 151004160 92682 1 small error in
+    let back : plus z off ≡ multiple 131072 r = plus-minus (multiple 131072 r) z in
+    let law = square-multiple 131072 r in
+    let most = whole.sized in
+    omega (arith, law, ap square back, most)
+
+-- the samples of a symbol whose elements have size at most 128
+pub useful-square : (grid : ℕ → Cpx) (n : ℕ) → ((k : ℕ) → k < 72 → square (grid k) ≤ 128 * 128) → square (useful_at grid n) ≤ 1153 * 1153
+unfolding useful_at
+useful-square grid n small =
+    rounded-square (complex_sum_below 72 (useful_term grid n))
+    (sized-sum 72 (useful_term grid n) 2097280 1
+    (λ k inside. sized-times (grid k) (w_at (frequency k * n)) 128 16385 1 1 (sized_plain (grid k) 128 (small k inside)) (sized_plain (w_at (frequency k * n)) 16385 (w-square (frequency k * n)))))
+
+pub slot-square : (plan : CellPlan) (sfn slot i : ℕ) → square (slot_sample plan sfn slot i) ≤ 1153 * 1153
+slot-square plan sfn slot i =
+    let l : ℕ = symbol_of i in
+    let grid : ℕ → Cpx = element plan sfn (slot / 2) (7 * (slot % 2) + l) in
+    let each = λ (n : ℕ). useful-square grid n (λ k inside. element-square plan sfn (slot / 2) (7 * (slot % 2) + l) k) in
+    pick (λ z. square z ≤ 1153 * 1153) (nat_lt i (useful_start l)) _ _ (each _) (each _)
+
+pub frame-square : (plan : CellPlan) (sfn i : ℕ) → square (frame_sample plan sfn i) ≤ 1153 * 1153
+unfolding frame_sample
+frame-square plan sfn i = slot-square plan sfn (i / 960) (i % 960)
+
+-- a number of that size fits 16 bits
+pub small-within : (z : Cpx) → square z ≤ 1153 * 1153 → IsWithin 32767 z
+small-within z h = record { re = omega (arith, re-le z 1153 h); im = omega (arith, im-le z 1153 h) }
+
+pub sent-square : (plan : CellPlan) (sfn i : ℕ) → square (sent plan sfn i) ≤ 1153 * 1153
+unfolding sent
+sent-square plan sfn i = frame-square plan (number_of sfn i) (i % 19200)
+
+-- ---- a gain times a sample
+
+-- the sizes of a gain and of a clean sample, and of their product
+pub record IsAmplified (gain clean : Cpx) : Type 0 where
+  pub fits : size gain * size clean ≤ 2 ^ 61
+  pub small : IsWithin 32284 (times gain clean)
+
+pub amplified : (gain clean : Cpx) → IsGain gain → square clean ≤ 1153 * 1153 → IsAmplified gain clean
+amplified gain clean g c =
+    let whole : square (times gain clean) ≤ 32284 * 32284 =
+    omega (arith, square-times gain clean, mul-le (square gain) (square clean) 784 1329409 g.most c) in
+    let large : size gain ≤ 28 = omega (arith, re-le gain 28 g.most, im-le gain 28 g.most) in
+    let small : size clean ≤ 1153 = omega (arith, re-le clean 1153 c, im-le clean 1153 c) in
+    record {
+      fits = omega (arith, mul-le (size gain) (size clean) 28 1153 large small);
+      small = record { re = re-le (times gain clean) 32284 whole; im = im-le (times gain clean) 32284 whole };
+    }

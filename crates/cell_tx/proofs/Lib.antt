@@ -1,0 +1,3 @@
+pub mod Elements
+pub mod Bounds
+pub mod Symbols

@@ -1,0 +1,56 @@
+use Rattle.std.proofs.Common.{◌≡◌, ℕ, ◌-◌, ◌+◌, ◌*◌, ◌/◌, ◌%◌, ◌≤◌, ◌<◌, Bool, true, false, nat_eq, nat_le, nat_lt, Option, Some, None, List, get_or, arith, refl, sym, ap, ◌∙◌}
+use Rattle.std.specs.Prelude.{◌&&◌, ◌||◌}
+use Rattle.std.proofs.lemmas.Bool.{and_parts, ltb-true}
+use Rattle.finite.specs.Lists.{values_below}
+use Rattle.finite.proofs.Lists.{values_below_at}
+use Rattle.cs_num.specs.declared.Cpx.{Cpx}
+use Rattle.cs_num.specs.Complex.{value_at}
+use Rattle.sync_seq.proofs.PrimaryValues.{pss_list_at}
+use Rattle.cell_tx.specs.Grid.{is_primary, is_secondary}
+use Rattle.cell_tx.specs.Rows.{reference_if}
+use Rattle.cell_tx.proofs.Elements.{element_of_reference, element_of_primary, element_of_secondary, element_of_broadcast}
+use Rattle.cell_tx.proofs.grid.element_of.Goals as goal
+
+read_row : (row : List (Option Cpx)) (identity slot symbol k : ℕ) → k < 72 → row ≡ values_below 72 (reference_if identity slot symbol) → get_or row k None ≡ reference_if identity slot symbol k
+read_row row identity slot symbol k inside is = ap (λ list. get_or list k None) is ∙ values_below_at (reference_if identity slot symbol) 72 k None inside
+
+pub returns-in-Some : goal.returns-in-Some
+returns-in-Some c =
+    let plan = c.args.signals.now.cell.now in
+    let row = read_row c.args.references.now plan.identity (2 * c.args.subframe + c.args.symbol / 7) (c.args.symbol % 7) c.args.k c.requires.k c.requires.references in
+    element_of_reference plan c.args.signals.now.sfn c.args.subframe c.args.symbol c.args.k c.in-Some.value (sym row ∙ c.in-Some.is)
+
+-- where no row of the references has the place
+none_at : (row : List (Option Cpx)) (identity slot symbol k : ℕ) → k < 72 → row ≡ values_below 72 (reference_if identity slot symbol) → get_or row k None ≡ None → reference_if identity slot symbol k ≡ None
+none_at row identity slot symbol k inside is none = sym (read_row row identity slot symbol k inside is) ∙ none
+
+abbrev is_before : ℕ → ℕ → ℕ → Bool
+is_before subframe symbol k = (nat_eq subframe 0 || nat_eq subframe 5) && nat_eq symbol 6 && nat_le 5 k
+
+last_place : (subframe symbol k : ℕ) → is_primary subframe symbol k ≡ true → k - 5 < 62
+last_place subframe symbol k e = let parts = and_parts (is_before subframe symbol k) (nat_lt k 67) e in omega (arith, ltb-true k 67 parts.1)
+
+pub returns-then-is_row : goal.returns-then-is_row
+returns-then-is_row c =
+    let plan = c.args.signals.now.cell.now in
+    let none = none_at c.args.references.now plan.identity (2 * c.args.subframe + c.args.symbol / 7) (c.args.symbol % 7) c.args.k c.requires.k c.requires.references c.in_default.is in
+    let here : is_primary c.args.subframe c.args.symbol c.args.k ≡ true = sym c.is_row.ensures ∙ c.if-is_row.true in
+    ap (λ values. value_at values (c.args.k - 5)) c.args.signals.now.primary_is
+    ∙ pss_list_at (plan.identity % 3) (c.args.k - 5) (last_place c.args.subframe c.args.symbol c.args.k here)
+    ∙ sym (element_of_primary plan c.args.signals.now.sfn c.args.subframe c.args.symbol c.args.k none here)
+
+pub returns-then-is_row-2 : goal.returns-then-is_row-2
+returns-then-is_row-2 c =
+    let plan = c.args.signals.now.cell.now in
+    let none = none_at c.args.references.now plan.identity (2 * c.args.subframe + c.args.symbol / 7) (c.args.symbol % 7) c.args.k c.requires.k c.requires.references c.in_default.is in
+    c.secondary_of.ensures
+    ∙ sym (element_of_secondary plan c.args.signals.now.sfn c.args.subframe c.args.symbol c.args.k none
+    (sym c.is_row.ensures ∙ c.if-is_row.false) (sym c.is_row-else-is_row.ensures ∙ c.if-is_row-2.true))
+
+pub returns-else-is_row-2 : goal.returns-else-is_row-2
+returns-else-is_row-2 c =
+    let plan = c.args.signals.now.cell.now in
+    let none = none_at c.args.references.now plan.identity (2 * c.args.subframe + c.args.symbol / 7) (c.args.symbol % 7) c.args.k c.requires.k c.requires.references c.in_default.is in
+    c.broadcast_of.ensures
+    ∙ sym (element_of_broadcast plan c.args.signals.now.sfn c.args.subframe c.args.symbol c.args.k none
+    (sym c.is_row.ensures ∙ c.if-is_row.false) (sym c.is_row-else-is_row.ensures ∙ c.if-is_row-2.false))

@@ -1,0 +1,12 @@
+use Rattle.std.proofs.Common.{◌≡◌, ℕ, length, arith, ap, sym, ◌∙◌}
+use Rattle.std.proofs.lemmas.List.FromFn.{fill_by_all}
+use Rattle.cs_num.specs.Complex.{silence}
+use Rattle.cell_tx.specs.Sent.{received, gain_of, sample_of}
+use Rattle.cell_tx.proofs.sending.send_all.Goals as goal
+
+pub returns : goal.returns
+returns c =
+    let t = c.args.t.now in
+    let long : length c.loop-i.out ≡ t.samples = omega (arith, c.loop-i.auto.out, c.requires) in
+    fill_by_all (λ (i : ℕ). sample_of (received t.cell t.sfn t.offset (gain_of t.gain) i)) c.loop-i.out t.samples silence long
+    (λ k inside. c.loop-i.invariant.done k (omega (arith, inside, c.loop-i-test.false, long)))

@@ -1,0 +1,59 @@
+-- The broadcast channel of a plan: its master block, coded, matched and scrambled (TS 36.212 section 5.3.1, TS 36.211 section 6.6).
+use Rattle.std.specs.Prelude.{ℕ, ◌+◌, ◌-◌, ◌*◌, ◌/◌, ◌%◌, ◌^◌, nat_eq, Bool, List, ◌++◌}
+use Rattle.finite.specs.Lists.{values_below}
+use Rattle.cs_num.specs.declared.Cpx.{Cpx}
+use Rattle.lte_types.specs.declared.duration.Duration.{Duration}
+use Rattle.lte_types.specs.declared.duration.Duration.TheVariants.{Normal, Extended}
+use Rattle.lte_types.specs.declared.resource.Resource.{Resource}
+use Rattle.lte_types.specs.declared.resource.Resource.TheVariants.{OneSixth, Half, One, Two}
+use Rattle.cs_bits.specs.Polynomial.{crc16_of}
+use Rattle.conv_code.specs.Code.{coded_word}
+use Rattle.conv_code.specs.Reading.{bit_at_place, place_of}
+use Rattle.gold.specs.Sequence.{xor}
+use Rattle.gold.specs.Gold.{gold_bit}
+use Rattle.crs.specs.Reference.{component}
+use Rattle.cell_tx.specs.declared.cell.CellPlan.{CellPlan}
+
+-- bit i of the width low bits of a number, the highest first
+abbrev pub bit_of : ℕ → ℕ → ℕ → Bool
+bit_of width number i = nat_eq (number / 2 ^ (width - 1 - i) % 2) 1
+
+-- these bits
+unfoldable pub bits_of : ℕ → ℕ → List Bool
+bits_of width number = values_below width (bit_of width number)
+
+-- the codes of phich-Duration and phich-Resource (TS 36.331 section 6.2.2)
+abbrev pub duration_code : Duration → ℕ
+duration_code Normal = 0
+duration_code Extended = 1
+
+abbrev pub resource_code : Resource → ℕ
+resource_code OneSixth = 0
+resource_code Half = 1
+resource_code One = 2
+resource_code Two = 3
+
+-- the 24 bits of the master block in the frame with this number: dl-Bandwidth n6, phich-Config, the upper 8 bits of the frame
+-- number, and the spare bits (TS 36.331 section 6.2.2)
+unfoldable pub block_bits : CellPlan → ℕ → List Bool
+block_bits plan sfn =
+    bits_of 3 0 ++ bits_of 1 (duration_code plan.duration) ++ bits_of 2 (resource_code plan.resource) ++ bits_of 8 (sfn / 4)
+    ++ bits_of 10 plan.spare
+
+-- the block and its check, which has the mask 0000 of one antenna port (TS 36.212 section 5.3.1.1)
+unfoldable pub broadcast_word : CellPlan → ℕ → List Bool
+broadcast_word plan sfn = block_bits plan sfn ++ bits_of 16 (crc16_of (block_bits plan sfn))
+
+-- bit i of the coded and matched word, which is repeated without end (TS 36.212 sections 5.3.1.2 and 5.3.1.3)
+unfoldable pub matched_bit : CellPlan → ℕ → ℕ → Bool
+matched_bit plan sfn i = bit_at_place (coded_word (broadcast_word plan sfn)) (place_of 40 i)
+
+-- bit i of the 480 that a frame carries: the frames whose numbers are 0, 1, 2 and 3 modulo 4 carry the 1,920 scrambled bits in
+-- this order (TS 36.211 sections 6.6.1 and 6.6.4)
+unfoldable pub broadcast_bit : CellPlan → ℕ → ℕ → Bool
+broadcast_bit plan sfn i = let n : ℕ = 480 * (sfn % 4) + i in xor (matched_bit plan sfn n) (gold_bit plan.identity n)
+
+-- point i of the 240 that a frame carries (QPSK, TS 36.211 section 7.1.2; the amplitude is own)
+unfoldable pub broadcast_point : CellPlan → ℕ → ℕ → Cpx
+broadcast_point plan sfn i =
+    record { re = component (broadcast_bit plan sfn (2 * i)); im = component (broadcast_bit plan sfn (2 * i + 1)) }

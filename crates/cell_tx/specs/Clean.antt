@@ -1,0 +1,42 @@
+-- Clean recordings of a cell: its frames times a whole-number gain, up to a small error. (own)
+use Rattle.std.specs.Prelude.{ℕ, ◌+◌, ◌-◌, ◌*◌, ◌%◌, ◌<◌, ◌≤◌, nat_eq, if◌then◌else◌, List, length}
+use Rattle.cs_num.specs.declared.Cpx.{Cpx}
+use Rattle.cs_num.specs.declared.Sample.{Sample}
+use Rattle.cs_num.specs.Complex.{square, sample_at, IsWithin}
+use Rattle.fold128.specs.Folding.{minus}
+use Rattle.cell_tx.specs.declared.cell.CellPlan.{CellPlan}
+use Rattle.cell_tx.specs.Sent.{received}
+
+-- the square of a gain's size is 1 to 784
+pub record IsGain (gain : Cpx) : Type 0 where
+  pub least : 1 ≤ square gain
+  pub most : square gain ≤ 784
+
+-- where a transmission may begin, and how many samples it may have
+abbrev pub IsOffset : ℕ → Type 0
+IsOffset offset = offset < 19200
+
+pub record IsCount (samples : ℕ) : Type 0 where
+  pub least : 57600 ≤ samples
+  pub most : samples ≤ 1920000
+
+-- sample i of a list less what is received of the cell there
+abbrev pub error_at : List Sample → CellPlan → ℕ → ℕ → Cpx → ℕ → Cpx
+error_at recording plan sfn offset gain i = minus (sample_at recording i) (received plan sfn offset gain i)
+
+-- the samples are the cell's, from the sample at offset of the frame numbered sfn on, times the gain, and each component is off
+-- by at most eps, which is at most twice the gain's size
+pub record IsClean (recording : List Sample) (plan : CellPlan) (sfn offset : ℕ) (gain : Cpx) (eps : ℕ) : Type 0 where
+  pub number : sfn ≤ 1023
+  pub within : IsOffset offset
+  pub size : IsGain gain
+  pub bound : eps * eps ≤ 4 * square gain
+  pub near : (i : ℕ) → i < length recording → IsWithin eps (error_at recording plan sfn offset gain i)
+
+-- the first sample of it at which a frame of the cell begins
+abbrev pub start_of : ℕ → ℕ
+start_of offset = (19200 - offset) % 19200
+
+-- the number of that frame
+abbrev pub number_at_start : ℕ → ℕ → ℕ
+number_at_start sfn offset = if nat_eq offset 0 then sfn else (sfn + 1) % 1024

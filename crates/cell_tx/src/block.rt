@@ -1,0 +1,115 @@
+//! The broadcast channel of a frame.
+
+ghost use Rattle.std.specs.Prelude.{◌≡◌, ◌+◌, ◌*◌, ◌<◌, ◌≤◌, ◌++◌, false, take, slice_index_or};
+ghost use Rattle.finite.specs.Lists.{values_below};
+ghost use Rattle.gold.specs.Sequence.{xor};
+ghost use Rattle.gold.specs.Gold.{gold_bits};
+ghost use Rattle.crs.specs.Reference.{component};
+ghost use Rattle.conv_code.specs.Reading.{bit_at_place, place_of};
+ghost use Rattle.cell_tx.specs.Block.{bits_of, duration_code, resource_code, broadcast_word, broadcast_point};
+
+use crate::Cell;
+use conv_code::{encode, match_out};
+use cs_bits::{Bits, crc16};
+use cs_num::Cpx;
+use lte_types::{CellId, Duration, Resource, Sfn};
+
+// The code of phich-Duration.
+fn code_of_duration(duration: Duration) -> u16
+    ensures { result ≡ duration_code duration }
+{
+    match duration {
+        Duration::Normal => 0,
+        Duration::Extended => 1,
+    }
+}
+
+// The code of phich-Resource.
+fn code_of_resource(resource: Resource) -> u16
+    ensures { result ≡ resource_code resource }
+{
+    match resource {
+        Resource::OneSixth => 0,
+        Resource::Half => 1,
+        Resource::One => 2,
+        Resource::Two => 3,
+    }
+}
+
+// Writes the low bits of a number from place `first` on, the highest first.
+fn put_bits(bits: &mut [bool; 40], first: usize, width: usize, number: u16)
+    requires inside { first + width ≤ 40 }
+    requires width { width ≤ 16 }
+    ensures { take (first + width) bits.new ≡ take first bits.old ++ bits_of width number }
+{
+    for i in 0..width {
+        bits[first + i] = number >> (width - 1 - i) & 1 == 1;
+    }
+}
+
+// The master block with its check.
+fn word_of(cell: &Cell, sfn: Sfn) -> Bits<40>
+    ensures { result ≡ broadcast_word cell.now sfn }
+{
+    let plan = cell.plan();
+    let mut bits = [false; 40];
+    put_bits(&mut bits, 0, 3, 0);
+    put_bits(&mut bits, 3, 1, code_of_duration(plan.duration));
+    put_bits(&mut bits, 4, 2, code_of_resource(plan.resource));
+    put_bits(&mut bits, 6, 8, sfn.value() / 4);
+    put_bits(&mut bits, 14, 10, plan.spare);
+    let check = crc16(&bits[..24]);
+    put_bits(&mut bits, 24, 16, check);
+    Bits::new(bits)
+}
+
+// The scrambling bits of four frames.
+fn scrambling_of(id: CellId) -> [bool; 1920]
+    ensures { result ≡ gold_bits id 1920 }
+{
+    let mut bits = [false; 1920];
+    gold::fill(id.value() as u32, &mut bits);
+    bits
+}
+
+// Bit n of the 1,920 of four frames.
+fn scrambled(coded: &[[bool; 3]; 40], scrambling: &[bool; 1920], n: usize) -> bool
+    requires { n < 1920 }
+    ensures { result ≡ xor (bit_at_place coded.now (place_of 40 n)) (slice_index_or scrambling.now n false) }
+{
+    match_out(coded, n) != scrambling[n]
+}
+
+// The component that a bit gives.
+fn component_of(bit: bool) -> i64
+    ensures { result ≡ component bit }
+{
+    if bit { -90 } else { 90 }
+}
+
+// The point that two bits give.
+fn point(first: bool, second: bool) -> Cpx
+    ensures { result ≡ record { re = component first; im = component second } }
+{
+    Cpx {
+        re: component_of(first),
+        im: component_of(second),
+    }
+}
+
+/// The 240 points of the broadcast channel in a frame.
+pub(crate) fn broadcast_points(cell: &Cell, sfn: Sfn) -> [Cpx; 240]
+    ensures { result ≡ values_below 240 (broadcast_point cell.now sfn) }
+{
+    let coded = encode(&word_of(cell, sfn));
+    let scrambling = scrambling_of(cell.id());
+    let first = 480 * (sfn.value() % 4) as usize;
+    let mut points = [Cpx { re: 0, im: 0 }; 240];
+    for i in 0..240 {
+        points[i] = point(
+            scrambled(&coded, &scrambling, first + 2 * i),
+            scrambled(&coded, &scrambling, first + 2 * i + 1),
+        );
+    }
+    points
+}

@@ -1,0 +1,196 @@
+//! The resource grid of a frame, symbol by symbol.
+
+ghost use Rattle.std.specs.Prelude.{ℕ, ◌≡◌, ◌⊎◌, ◌+◌, ◌*◌, ◌/◌, ◌%◌, ◌<◌, ◌≤◌, Some, None, All, unsigned_abs, if◌then◌else◌};
+ghost use Rattle.finite.specs.Lists.{values_below};
+ghost use Rattle.cs_num.specs.Complex.{IsWithin};
+ghost use Rattle.lte_types.specs.declared.frame.Half.TheVariants.{Zero, Five};
+ghost use Rattle.sync_seq.specs.Primary.{pss_list};
+ghost use Rattle.sync_seq.specs.Secondary.{sss_at, sss_list};
+ghost use Rattle.crs.specs.Reference.{is_reference, reference_at, reference_list};
+ghost use Rattle.grid_map.specs.Place.{place};
+ghost use Rattle.grid_map.specs.Broadcast.{pbch_index};
+ghost use Rattle.cell_tx.specs.Block.{broadcast_point};
+ghost use Rattle.fold128.specs.Symbol.{useful_part};
+ghost use Rattle.cell_tx.specs.Grid.{is_synchronised, half_of, secondary_value, element};
+ghost use Rattle.cell_tx.specs.Rows.{reference_if, broadcast_if};
+
+use crate::Cell;
+use crate::block::broadcast_points;
+use crs::pilots;
+use cs_num::Cpx;
+use fold128::synth;
+use grid_map::{Place, pbch, pbch_order};
+use lte_types::{CellId, Half, Sfn};
+use sync_seq::{pss, sss};
+
+// What a frame of a cell sends, made once for all its symbols.
+#[derive(Drop)]
+pub(crate) struct Signals<'a> {
+    cell: &'a Cell,
+    sfn: Sfn,
+    primary: [Cpx; 62],
+    zero: [i8; 62],
+    five: [i8; 62],
+    points: [Cpx; 240],
+    ghost primary_is: { primary ≡ pss_list (cell.now.identity % 3) },
+    ghost zero_is: { zero ≡ sss_list (cell.now.identity / 3) (cell.now.identity % 3) Zero },
+    ghost five_is: { five ≡ sss_list (cell.now.identity / 3) (cell.now.identity % 3) Five },
+    ghost points_are: { points ≡ values_below 240 (broadcast_point cell.now sfn) },
+}
+
+impl<'a> Signals<'a> {
+    /// The signals of a cell's frame.
+    pub(crate) fn new(cell: &'a Cell, sfn: Sfn) -> Signals<'a>
+        ensures cell { result.cell.now ≡ cell.now }
+        ensures sfn { result.sfn ≡ sfn }
+    {
+        let id = cell.id();
+        let n2 = id.n2() as u8;
+        let primary = pss(n2);
+        let zero = sss(id.n1(), n2, Half::Zero);
+        let five = sss(id.n1(), n2, Half::Five);
+        let points = broadcast_points(cell, sfn);
+        Signals {
+            cell,
+            sfn,
+            primary,
+            zero,
+            five,
+            points,
+        }
+    }
+}
+
+// The value of a reference place by the symbol's twelve; `None` at every other place.
+fn reference_of(pilots: &[(u8, Cpx); 12], k: usize) -> Option<Cpx>
+    requires { k < 72 }
+    ensures { (identity slot symbol : ℕ) → (symbol ≡ 0) ⊎ (symbol ≡ 4) → pilots.now ≡ reference_list identity slot symbol →
+        result ≡ reference_if identity slot symbol k }
+{
+    if k % 6 == pilots[0].0 as usize {
+        Some(pilots[k / 6].1)
+    } else {
+        None
+    }
+}
+
+// The reference values of a symbol of a slot by subcarriers.
+fn references(id: CellId, slot: u8, symbol: u8) -> [Option<Cpx>; 72]
+    requires slot { slot < 20 }
+    requires symbol { symbol < 7 }
+    ensures { result ≡ values_below 72 (reference_if id slot symbol) }
+{
+    let mut row = [None; 72];
+    if symbol == 0 || symbol == 4 {
+        let pilots = pilots(id, slot, symbol);
+        for k in 0..72 {
+            row[k] = reference_of(&pilots, k);
+        }
+    }
+    row
+}
+
+// Whether a synchronisation signal in this row of its subframe is at a place.
+fn is_row(row: u8, subframe: u8, symbol: u8, k: u8) -> bool
+    ensures { result ≡ is_synchronised row subframe symbol k }
+{
+    (subframe == 0 || subframe == 5) && symbol == row && 5 <= k && k < 67
+}
+
+// Sign n of the secondary sequence in a subframe.
+fn sign_of(signals: &Signals, subframe: u8, n: usize) -> i8
+    requires { n < 62 }
+    ensures value { result ≡ sss_at (signals.now.cell.now.identity / 3) (signals.now.cell.now.identity % 3) (half_of subframe) n }
+    ensures size { unsigned_abs result ≡ 1 }
+{
+    if subframe == 0 {
+        signals.zero[n]
+    } else {
+        signals.five[n]
+    }
+}
+
+// The value of the secondary signal.
+fn secondary_of(signals: &Signals, subframe: u8, k: u8) -> Cpx
+    requires low { 5 ≤ k }
+    requires high { k < 67 }
+    ensures { result ≡ secondary_value signals.now.cell.now subframe k }
+{
+    Cpx {
+        re: 127 * sign_of(signals, subframe, k as usize - 5) as i64,
+        im: 0,
+    }
+}
+
+// The number of the point of the broadcast channel that a place carries; 240 at every other place.
+fn point_at(id: CellId, symbol: u8, k: u8) -> usize
+    ensures { result ≡ pbch_index id (place symbol k) }
+{
+    pbch_order();
+    let here = Place { symbol, k };
+    for i in 0..240 {
+        if pbch(id, i) == here {
+            return i;
+        }
+    }
+    240
+}
+
+// The value of the broadcast channel, and 0 at every other place.
+fn broadcast_of(signals: &Signals, subframe: u8, symbol: u8, k: u8) -> Cpx
+    ensures { result ≡ broadcast_if signals.now.cell.now signals.now.sfn subframe symbol k }
+{
+    let nothing = Cpx { re: 0, im: 0 };
+    if subframe > 0 {
+        return nothing;
+    }
+    let i = point_at(signals.cell.id(), symbol, k);
+    if i < 240 { signals.points[i] } else { nothing }
+}
+
+// The value at a place.
+fn element_of(
+    signals: &Signals,
+    references: &[Option<Cpx>; 72],
+    subframe: u8,
+    symbol: u8,
+    k: u8,
+) -> Cpx
+    requires references { references.now ≡ values_below 72 (reference_if signals.now.cell.now.identity (2 * subframe + symbol / 7) (symbol % 7)) }
+    requires k { k < 72 }
+    ensures { result ≡ element signals.now.cell.now signals.now.sfn subframe symbol k }
+{
+    if let Some(value) = references[k as usize] {
+        value
+    } else if is_row(6, subframe, symbol, k) {
+        signals.primary[k as usize - 5]
+    } else if is_row(5, subframe, symbol, k) {
+        secondary_of(signals, subframe, k)
+    } else {
+        broadcast_of(signals, subframe, symbol, k)
+    }
+}
+
+// The values of a symbol of a subframe.
+fn grid_of(signals: &Signals, subframe: u8, symbol: u8) -> [Cpx; 72]
+    requires subframe { subframe < 10 }
+    requires symbol { symbol < 14 }
+    ensures { result ≡ values_below 72 (element signals.now.cell.now signals.now.sfn subframe symbol) }
+{
+    let references = references(signals.cell.id(), 2 * subframe + symbol / 7, symbol % 7);
+    let mut grid = [Cpx { re: 0, im: 0 }; 72];
+    for k in 0..72_u8 {
+        grid[k as usize] = element_of(signals, &references, subframe, symbol, k);
+    }
+    grid
+}
+
+/// The samples of the useful part of symbol `symbol` of a slot.
+pub(crate) fn useful_of(signals: &Signals, slot: u8, symbol: u8) -> [Cpx; 128]
+    requires slot { slot < 20 }
+    requires symbol { symbol < 7 }
+    ensures { result ≡ useful_part (element signals.now.cell.now signals.now.sfn (slot / 2) (7 * (slot % 2) + symbol)) }
+{
+    let grid = grid_of(signals, slot / 2, 7 * (slot % 2) + symbol);
+    synth(&grid)
+}

@@ -1,0 +1,194 @@
+//! The samples of a cell.
+
+ghost use Rattle.std.specs.Prelude.{◌≡◌, ℕ, ◌+◌, ◌-◌, ◌*◌, ◌/◌, ◌%◌, ◌<◌, ◌≤◌, length, slice_index_or};
+ghost use Rattle.finite.specs.Lists.{values_below};
+ghost use Rattle.cs_num.specs.Complex.{IsWithin, silence, square, times, value_of, value_at};
+ghost use Rattle.fold128.specs.Symbol.{useful_part};
+ghost use Rattle.cell_tx.specs.Clean.{IsGain};
+ghost use Rattle.cell_tx.specs.Grid.{element};
+ghost use Rattle.cell_tx.specs.Rows.{useful_place, first_sample, frame_samples, HasSamples};
+ghost use Rattle.cell_tx.specs.Sent.{symbol_of, slot_sample, frame_sample, number_of, sent, received, sample_of, gain_of};
+
+use crate::grid::{Signals, useful_of};
+use crate::{Cell, Transmission};
+use cs_num::{Cpx, Sample};
+use lte_types::Sfn;
+
+// The sample that a small number is.
+fn narrow(z: Cpx) -> Sample
+    requires { IsWithin 32767 z }
+    ensures { result ≡ sample_of z }
+{
+    Sample {
+        re: z.re as i16,
+        im: z.im as i16,
+    }
+}
+
+// The number of the frame that sample i is in.
+fn number(sfn: Sfn, i: u64) -> Sfn
+    ensures { result ≡ number_of sfn i }
+{
+    match Sfn::new(((sfn.value() as u64 + i / 19_200) % 1024) as u16) {
+        Some(number) => number,
+        None => unreachable!(),
+    }
+}
+
+// The symbol of a slot that sample i of it is in.
+fn symbol_at(i: usize) -> usize
+    requires { i < 960 }
+    ensures value { result ≡ symbol_of i }
+    ensures small { result < 7 }
+{
+    i.saturating_sub(1) / 137
+}
+
+// The sample of the useful part of its symbol that sample i of a slot repeats or is.
+fn place_at(i: usize) -> usize
+    requires { i < 960 }
+    ensures value { result ≡ useful_place i }
+    ensures small { result < 128 }
+{
+    (i + 118 - 137 * symbol_at(i)) % 128
+}
+
+// Sample i of a slot, from the useful part of its symbol.
+fn sample_of_slot(signals: &Signals, useful: &[Cpx; 128], slot: usize, i: usize) -> Sample
+    requires i { i < 960 }
+    requires useful { useful.now ≡ useful_part (element signals.now.cell.now signals.now.sfn (slot / 2) (7 * (slot % 2) + symbol_of i)) }
+    ensures { result ≡ sample_of (slot_sample signals.now.cell.now signals.now.sfn slot i) }
+{
+    narrow(useful[place_at(i)])
+}
+
+// Sample i of a frame.
+fn sample_of_frame(signals: &Signals, i: usize) -> Sample
+    requires { i < 19200 }
+    ensures { result ≡ sample_of (frame_sample signals.now.cell.now signals.now.sfn i) }
+{
+    let slot = i / 960;
+    let useful = useful_of(signals, slot as u8, symbol_at(i % 960) as u8);
+    sample_of_slot(signals, &useful, slot, i % 960)
+}
+
+// The first sample of a symbol of a frame, counted from 0 to 140, which is the end.
+fn first_of(symbol: usize) -> usize
+    requires { symbol ≤ 140 }
+    ensures value { result ≡ first_sample symbol }
+    ensures inside { result ≤ 19200 }
+{
+    let l = symbol % 7;
+    let first = if l == 0 { 0 } else { 1 + 137 * l };
+    960 * (symbol / 7) + first
+}
+
+// Writes the samples of a symbol of a frame, after those of the symbols before it.
+fn put_symbol(signals: &Signals, symbol: usize, out: &mut [Sample])
+    requires symbol { symbol < 140 }
+    requires room { length out.old ≡ 19200 }
+    requires before { HasSamples out.old (frame_sample signals.now.cell.now signals.now.sfn) (first_sample symbol) }
+    ensures { HasSamples out.new (frame_sample signals.now.cell.now signals.now.sfn) (first_sample (symbol + 1)) }
+{
+    let slot = symbol / 7;
+    let useful = useful_of(signals, slot as u8, (symbol % 7) as u8);
+    for i in first_of(symbol)..first_of(symbol + 1) {
+        out[i] = sample_of_slot(signals, &useful, slot, i % 960);
+    }
+}
+
+/// Sample `i` of the cell's endless sequence of frames, which begins with the frame numbered `sfn`
+/// (TS 36.211 section 6.12, in whole numbers). The size of a sample is at most 1,153.
+pub fn sample(cell: &Cell, sfn: Sfn, i: u64) -> Sample
+    ensures value { result ≡ sample_of (sent cell.now sfn i) }
+    ensures size { square (sent cell.now sfn i) ≤ 1153 * 1153 }
+{
+    let signals = Signals::new(cell, number(sfn, i));
+    sample_of_frame(&signals, (i % 19_200) as usize)
+}
+
+/// The whole frame numbered `sfn`, over 19,200 samples: those of `sample` from 0 on. Sample `i` is
+/// sample `19,200 * j + i` of each sequence that has this frame as its frame `j`.
+pub fn frame(cell: &Cell, sfn: Sfn, out: &mut [Sample])
+    requires { length out.old ≡ 19200 }
+    ensures { out.new ≡ frame_samples cell.now sfn }
+{
+    let signals = Signals::new(cell, sfn);
+    for symbol in 0..140 {
+        put_symbol(&signals, symbol, out);
+    }
+}
+
+// The number that a sample is.
+fn value(sample: Sample) -> Cpx
+    ensures { result ≡ value_of sample }
+{
+    Cpx {
+        re: sample.re as i64,
+        im: sample.im as i64,
+    }
+}
+
+// The number that a gain is.
+fn value_of_gain(gain: (i16, i16)) -> Cpx
+    ensures { result ≡ gain_of gain }
+{
+    Cpx {
+        re: gain.0 as i64,
+        im: gain.1 as i64,
+    }
+}
+
+// A clean sample times a gain.
+fn amplified(gain: (i16, i16), clean: Sample) -> Sample
+    requires gain { IsGain (gain_of gain) }
+    requires clean { square (value_of clean) ≤ 1153 * 1153 }
+    ensures value { result ≡ sample_of (times (gain_of gain) (value_of clean)) }
+    ensures size { IsWithin 32284 (times (gain_of gain) (value_of clean)) }
+{
+    narrow(value_of_gain(gain).mul(value(clean)))
+}
+
+/// Sample `i` of a transmission: sample `i + offset` of the cell's sequence, times the gain. `i` is
+/// below the number of samples. Components have size at most 32,284.
+pub fn send(t: &Transmission, i: u32) -> Sample
+    requires { i < t.now.samples }
+    ensures value { result ≡ sample_of (received t.now.cell t.now.sfn t.now.offset (gain_of t.now.gain) i) }
+    ensures size { IsWithin 32284 (received t.now.cell t.now.sfn t.now.offset (gain_of t.now.gain) i) }
+{
+    amplified(t.gain, sample(&t.cell, t.sfn, i as u64 + t.offset as u64))
+}
+
+// Makes the frame of sample i of a transmission, where that of the sample before is another one.
+fn renew(t: &Transmission, i: usize, clean: &mut [Sample; 19200])
+    requires i { i < t.now.samples }
+    requires before { 0 < i → clean.old ≡ frame_samples t.now.cell (number_of t.now.sfn (i - 1 + t.now.offset)) }
+    ensures { clean.new ≡ frame_samples t.now.cell (number_of t.now.sfn (i + t.now.offset)) }
+{
+    let n = i as u64 + t.offset as u64;
+    if i == 0 || n % 19_200 == 0 {
+        frame(&t.cell, number(t.sfn, n), clean);
+    }
+}
+
+// Sample i of a transmission, from the samples of its frame.
+fn sent_from(t: &Transmission, i: usize, clean: &[Sample; 19200]) -> Sample
+    requires i { i < t.now.samples }
+    requires clean { clean.now ≡ frame_samples t.now.cell (number_of t.now.sfn (i + t.now.offset)) }
+    ensures { result ≡ sample_of (received t.now.cell t.now.sfn t.now.offset (gain_of t.now.gain) i) }
+{
+    amplified(t.gain, clean[(i + t.offset as usize) % 19_200])
+}
+
+/// All samples of a transmission, over as many: sample `i` is that of `send`. Each frame is made
+/// once.
+pub fn send_all(t: &Transmission, out: &mut [Sample])
+    requires { length out.old ≡ t.now.samples }
+    ensures { out.new ≡ values_below t.now.samples (λ i. sample_of (received t.now.cell t.now.sfn t.now.offset (gain_of t.now.gain) i)) }
+{
+    let mut clean = [Sample { re: 0, im: 0 }; 19_200];
+    for i in 0..out.len() {
+        renew(t, i, &mut clean);
+        out[i] = sent_from(t, i, &clean);
+    }
+}
