@@ -6,14 +6,17 @@ use Rattle.cs_outside.specs.Outside.{Outside}
 use Rattle.cs_outside.specs.Streams.{HasRead, IsAtEnd}
 use Rattle.cs_outside.proofs.Reading.{read_whole, read_front}
 use Rattle.lte_top.specs.declared.form.Form.{Form}
-use Rattle.lte_top.specs.declared.form.Form.TheVariants.{About, Certify, Check}
+use Rattle.lte_top.specs.declared.form.Form.TheVariants.{About, Certify, Check, Transmit}
 use Rattle.lte_top.specs.declared.form.Report.{Report}
 use Rattle.lte_top.specs.declared.form.Report.TheVariants.{Hits, Ids, Search}
 use Rattle.lte_top.specs.declared.status.Status.{Status}
 use Rattle.lte_top.specs.declared.status.Status.TheVariants.{Done, Usage, Ragged, TooShort, TooLong, ReadFault, WriteFault, OutOfMemory, BadCell, BadCertificate}
-use Rattle.lte_top.specs.Forms.{words_of, Input, recording, certificates, input_of, limit_of, Refuses, RefusesCertificates, IsTooLong, IsValid, IsOutput}
+use Rattle.lte_top.specs.Forms.{words_of, Input, recording, certificates, description, input_of, limit_of, Refuses, RefusesCertificates, RefusesDescription, IsTooLong, IsValid, IsOutput}
 use Rattle.lte_top.specs.Certificates.{IsFirstBroken}
 use Rattle.lte_top.specs.Run.{HasOutput, HasRefusal, IsReadTooLong, IsWriteFault, Ends, RunsForm, Outcome, IsAnswerTo, HasOneAnswer, MayAnswer, IsAnswered, IsComplete, HasRoom}
+use Rattle.cell_tx.specs.declared.error.CellError.{CellError}
+use Rattle.cell_json.specs.Reading.{refusal}
+use Rattle.lte_top.proofs.Transmitted.{one_transmitted_length}
 use Rattle.report.specs.Lines.{report_text}
 use Rattle.explain.proofs.Listed.{is_one_list}
 use Rattle.lte_top.proofs.Broken.{one_first_broken}
@@ -29,26 +32,37 @@ one_form (About Hits) (About Ids) e = absurd (cc e)
 one_form (About Hits) (About Search) e = absurd (cc e)
 one_form (About Hits) Certify e = absurd (cc e)
 one_form (About Hits) Check e = absurd (cc e)
+one_form (About Hits) Transmit e = absurd (cc e)
 one_form (About Ids) (About Hits) e = absurd (cc e)
 one_form (About Ids) (About Ids) e = refl
 one_form (About Ids) (About Search) e = absurd (cc e)
 one_form (About Ids) Certify e = absurd (cc e)
 one_form (About Ids) Check e = absurd (cc e)
+one_form (About Ids) Transmit e = absurd (cc e)
 one_form (About Search) (About Hits) e = absurd (cc e)
 one_form (About Search) (About Ids) e = absurd (cc e)
 one_form (About Search) (About Search) e = refl
 one_form (About Search) Certify e = absurd (cc e)
 one_form (About Search) Check e = absurd (cc e)
+one_form (About Search) Transmit e = absurd (cc e)
 one_form Certify (About Hits) e = absurd (cc e)
 one_form Certify (About Ids) e = absurd (cc e)
 one_form Certify (About Search) e = absurd (cc e)
 one_form Certify Certify e = refl
 one_form Certify Check e = absurd (cc e)
+one_form Certify Transmit e = absurd (cc e)
 one_form Check (About Hits) e = absurd (cc e)
 one_form Check (About Ids) e = absurd (cc e)
 one_form Check (About Search) e = absurd (cc e)
 one_form Check Certify e = absurd (cc e)
 one_form Check Check e = refl
+one_form Check Transmit e = absurd (cc e)
+one_form Transmit (About Hits) e = absurd (cc e)
+one_form Transmit (About Ids) e = absurd (cc e)
+one_form Transmit (About Search) e = absurd (cc e)
+one_form Transmit Certify e = absurd (cc e)
+one_form Transmit Check e = absurd (cc e)
+one_form Transmit Transmit e = refl
 
 -- all outputs of an input have one length
 one_length : (form : Form) (bytes first second : List ℕ) → IsOutput form bytes first → IsOutput form bytes second → length first ≡ length second
@@ -57,6 +71,7 @@ one_length (About Ids) bytes first second a b = ap length (a ∙ sym b)
 one_length (About Search) bytes first second a b = ap length (a.text ∙ ap report_text (is_one_list _ a.entries b.entries a.explained b.explained) ∙ sym b.text)
 one_length Certify bytes first second a b = one_certified_length _ first second a b
 one_length Check bytes first second a b = ap length (one_check bytes first second a b)
+one_length Transmit bytes first second a b = one_transmitted_length bytes first second a b
 
 -- ---- inputs: a new one adds a line
 
@@ -73,6 +88,19 @@ first_place bytes WriteFault r = absurd r
 first_place bytes OutOfMemory r = absurd r
 first_place bytes (BadCell cause) r = absurd r
 
+-- a refusal of a description tells its first condition that fails
+first_condition : (bytes : List ℕ) (status : Status) → RefusesDescription bytes status → (cause : CellError) × (status ≡ BadCell cause) × (refusal bytes ≡ Some cause)
+first_condition bytes (BadCell cause) r = (cause, refl, r.1)
+first_condition bytes Done r = absurd r
+first_condition bytes Usage r = absurd r
+first_condition bytes Ragged r = absurd r
+first_condition bytes TooShort r = absurd r
+first_condition bytes TooLong r = absurd r
+first_condition bytes ReadFault r = absurd r
+first_condition bytes WriteFault r = absurd r
+first_condition bytes OutOfMemory r = absurd r
+first_condition bytes (BadCertificate place) r = absurd r
+
 -- bytes have one refusal
 one_refusal : (input : Input) (bytes : List ℕ) (first second : Status) → Refuses input bytes first → Refuses input bytes second → first ≡ second
 one_refusal recording bytes first second a b = cc (sym a.1 ∙ b.1)
@@ -80,6 +108,12 @@ one_refusal certificates bytes first second a b =
     let (p, e, broken) = first_place bytes first a in
     let (q, e', broken') = first_place bytes second b in
     e ∙ ap (λ place. BadCertificate place) (one_first_broken bytes p q broken broken') ∙ sym e'
+
+one_refusal description bytes first second a b =
+    let (c, e, failed) = first_condition bytes first a in
+    let (d, e', failed') = first_condition bytes second b in
+    let same : c ≡ d = cc (sym failed ∙ failed') in
+    e ∙ ap (λ cause. BadCell cause) same ∙ sym e'
 
 -- ---- the answer to an input
 

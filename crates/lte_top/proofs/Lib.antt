@@ -6,5 +6,6 @@ pub mod AnswerLines
 pub mod Judged
 pub mod Certified
 pub mod Entries
+pub mod Transmitted
 pub mod Ending
 pub mod Complete

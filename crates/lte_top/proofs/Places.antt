@@ -1,7 +1,8 @@
 -- Bytes that are read to a place of a buffer.
-use Rattle.std.proofs.Common.{◌≡◌, ℕ, ◌+◌, ◌-◌, ◌<◌, ◌≤◌, ◌↔◌, List, [], ◌∷◌, ◌++◌, length, take, drop, Option, Some, None, refl, ap, sym, subst, ◌∙◌, arith, length-take, length-take-le}
+use Rattle.std.proofs.Common.{◌≡◌, ℕ, ◌+◌, ◌-◌, ◌<◌, ◌≤◌, ◌↔◌, List, [], ◌∷◌, ◌++◌, length, take, drop, Option, Some, None, refl, ap, sym, subst, ◌∙◌, arith, append-nil, take_all, length-take-le}
 use Rattle.std.specs.Prelude.{IfSome, IfOk, Result, Ok, Err}
 use Rattle.std.proofs.Math.Seq.{take-append-add}
+use Rattle.std.proofs.Math.ListN.{drop_of_length-le}
 use Rattle.std.proofs.lemmas.List.{take-append-le}
 use Rattle.cs_outside.specs.declared.Failed.{Failed}
 use Rattle.cs_outside.specs.Streams.{HasRead, IsAtEnd}
@@ -34,3 +35,9 @@ read_at_place a buffer into rest before now inside (Ok n) few read end =
 pub fits_place : (a e : ℕ) (into : List ℕ) → a ≤ e → length into ≤ e - a → (r : Result ℕ Failed) → IfOk r (λ n. n ≤ length into) → IfOk r (λ n. a + n ≤ e)
 fits_place a e into below size (Err f) few = tt
 fits_place a e into below size (Ok n) few = omega (arith, size, few, below)
+
+-- a buffer that is written back whole
+pub written_back : {A : Type 0} (new old : List A) (n : ℕ) → length new ≡ length old → n ≡ length old → take n (new ++ drop (length new) old) ≡ new
+written_back new old n same all =
+    let none : drop (length new) old ≡ [] = drop_of_length-le old (omega (arith, same)) in
+    rw none (ap (take n) (append-nil new) ∙ take_all n new (omega (arith, same, all)))

@@ -159,12 +159,6 @@ judged_unrefused judged h (BadCell cause) r = r
 
 -- ---- the same by what a read to a place of the buffer gave
 
--- a buffer that is written back whole
-pub written_back : (new old : List ℕ) (n : ℕ) → length new ≡ length old → n ≡ length old → take n (new ++ drop (length new) old) ≡ new
-written_back new old n same all =
-    let none : drop (length new) old ≡ [] = drop_of_length-le old (omega (arith, same)) in
-    rw none (ap (take n) (append-nil new) ∙ take_all n new (omega (arith, same, all)))
-
 end_piece : (n : ℕ) (piece : List ℕ) → length piece ≡ n → n ≡ 0 → piece ≡ []
 end_piece n [] size zero = refl
 end_piece n (x ∷ piece) size zero = absurd (omega (arith, size, zero))

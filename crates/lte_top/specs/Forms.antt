@@ -5,11 +5,13 @@ use Rattle.cs_num.specs.declared.Sample.{Sample}
 use Rattle.sample_file.specs.Recording.{samples_of}
 use Rattle.sample_file.specs.Reading.{least_bytes, most_bytes}
 use Rattle.lte_top.specs.declared.form.Form.{Form}
-use Rattle.lte_top.specs.declared.form.Form.TheVariants.{About, Certify, Check}
+use Rattle.lte_top.specs.declared.form.Form.TheVariants.{About, Certify, Check, Transmit}
 use Rattle.lte_top.specs.declared.form.Report.{Report}
 use Rattle.lte_top.specs.declared.form.Report.TheVariants.{Hits, Ids, Search}
 use Rattle.lte_top.specs.declared.status.Status.{Status}
 use Rattle.lte_top.specs.declared.status.Status.TheVariants.{Done, Usage, Ragged, TooShort, TooLong, ReadFault, WriteFault, OutOfMemory, BadCell, BadCertificate}
+use Rattle.cell_json.specs.Reading.{refusal}
+use Rattle.lte_top.specs.Transmitting.{most_description_bytes, IsTransmitted}
 use Rattle.lte_top.specs.Certificates.{IsFirstBroken, IsChecked, IsCertified}
 use Rattle.lte_types.specs.declared.entry.Entry.{Entry}
 use Rattle.explain.specs.Entries.{IsExplained}
@@ -23,6 +25,7 @@ words_of (About Ids) = codes "ids" ∷ []
 words_of (About Search) = codes "search" ∷ []
 words_of Certify = codes "certify" ∷ []
 words_of Check = codes "check" ∷ []
+words_of Transmit = codes "transmit" ∷ []
 
 -- the words are those of no form
 abbrev pub IsNoForm : List (List ℕ) → Type 0
@@ -30,15 +33,17 @@ IsNoForm words = (form : Form) → words ≢ words_of form
 
 -- ---- what is read
 
--- what a form reads: a recording, or certificates one after the other
+-- what a form reads: a recording, certificates one after the other, or a description
 pub data Input : Type 0 where
   recording : Input
   certificates : Input
+  description : Input
 
 abbrev pub input_of : Form → Input
 input_of (About report) = recording
 input_of Certify = recording
 input_of Check = certificates
+input_of Transmit = description
 
 -- the most bytes of certificates that are read
 abbrev pub most_certificate_bytes : ℕ
@@ -48,6 +53,7 @@ most_certificate_bytes = 67108864
 abbrev pub limit_of : Input → ℕ
 limit_of recording = most_bytes
 limit_of certificates = most_certificate_bytes
+limit_of description = most_description_bytes
 
 -- the refusal of a recording's bytes, where there is one: samples are four bytes each, and there must be enough of them
 abbrev pub recording_refusal : List ℕ → Option Status
@@ -67,10 +73,16 @@ RefusesCertificates bytes (BadCertificate place) =
     IsFirstBroken bytes place × ((place < most_certificate_bytes) ⊎ (length bytes ≤ most_certificate_bytes))
 RefusesCertificates bytes status = ⊥
 
+-- a description within the limit is refused for its first condition that fails
+abbrev pub RefusesDescription : List ℕ → Status → Type 0
+RefusesDescription bytes (BadCell cause) = (length bytes ≤ most_description_bytes) × (refusal bytes ≡ Some cause)
+RefusesDescription bytes status = ⊥
+
 -- these bytes have this refusal
 abbrev pub Refuses : Input → List ℕ → Status → Type 0
 Refuses recording bytes status = RefusesRecording bytes status
 Refuses certificates bytes status = RefusesCertificates bytes status
+Refuses description bytes status = RefusesDescription bytes status
 
 -- there are more bytes than the limit, and nothing in them was refused before
 pub record IsTooLong (input : Input) (bytes : List ℕ) : Type 0 where
@@ -101,6 +113,7 @@ abbrev pub IsOutput : Form → List ℕ → List ℕ → Type 0
 IsOutput (About report) bytes output = IsReport report (samples_of bytes) output
 IsOutput Certify bytes output = IsCertified (samples_of bytes) output
 IsOutput Check bytes output = IsChecked bytes output
+IsOutput Transmit bytes output = IsTransmitted bytes output
 
 -- ---- exit codes
 

@@ -1,5 +1,6 @@
 pub mod Texts
 pub mod Certificates
+pub mod Transmitting
 pub mod Forms
 pub mod Reading
 pub mod Certifying

@@ -14,6 +14,8 @@ pub enum Form {
     Certify,
     /// `check`: an answer to each of the certificates that are read.
     Check,
+    /// `transmit`: the samples of a described cell.
+    Transmit,
 }
 
 /// A report about a recording.
@@ -43,6 +45,8 @@ impl Form {
             Some(Form::Certify)
         } else if words.is_one("check") {
             Some(Form::Check)
+        } else if words.is_one("transmit") {
+            Some(Form::Transmit)
         } else {
             None
         }

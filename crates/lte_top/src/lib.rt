@@ -8,6 +8,7 @@ mod form;
 mod status;
 mod text;
 mod top;
+mod transmitting;
 mod words;
 
 pub use form::{Form, Report};

@@ -9,6 +9,7 @@ use crate::certifying::certify;
 use crate::checking::check_each;
 use crate::form::Form;
 use crate::status::Status;
+use crate::transmitting::transmit;
 use crate::words::Words;
 use cs_outside::{MemSink, MemSource, Sink, Source};
 use std::alloc::Global;
@@ -70,6 +71,7 @@ fn run_words<S: Source, K: Sink>(
         Some(Form::About(report)) => about(alloc, report, source, sink),
         Some(Form::Certify) => certify(alloc, source, sink),
         Some(Form::Check) => check_each(alloc, source, sink),
+        Some(Form::Transmit) => transmit(alloc, source, sink),
         None => Status::Usage,
     }
 }
