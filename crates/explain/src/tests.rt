@@ -1,4 +1,4 @@
-ghost use Rattle.std.specs.Prelude.{◌≡◌, ◌<◌, All, IfOk, length};
+ghost use Rattle.std.specs.Prelude.{◌≡◌, ◌+◌, ◌≤◌, All, IfOk, length};
 ghost use Rattle.cs_num.specs.Complex.{IsWithin};
 
 use crate::{EntryList, Workspace, explain, the_list_in_plain_words, values_of};
@@ -60,16 +60,18 @@ fn bounded(value: Cpx) -> Cpx
     }
 }
 
-fn empty_grid() -> [Cpx; 72]
+// The same value on all subcarriers.
+fn level(value: Cpx) -> [Cpx; 72]
+    requires { IsWithin 127 value }
     ensures { All (IsWithin 127) result }
 {
-    [sent_of(b'.'); 72]
+    [value; 72]
 }
 
 fn grid_of(row: &[u8; 72]) -> [Cpx; 72]
     ensures { All (IsWithin 127) result }
 {
-    let mut grid = empty_grid();
+    let mut grid = level(sent_of(b'.'));
     for k in 0..72 {
         grid[k] = sent_of(row[k]);
     }
@@ -81,7 +83,7 @@ fn primary_grid() -> [Cpx; 72]
     ensures { All (IsWithin 127) result }
 {
     let sequence = pss(0);
-    let mut grid = empty_grid();
+    let mut grid = level(sent_of(b'.'));
     for n in 0..62 {
         grid[n + 5] = bounded(sequence[n]);
     }
@@ -93,7 +95,7 @@ fn secondary_grid() -> [Cpx; 72]
     ensures { All (IsWithin 127) result }
 {
     let sequence = sss(0, 0, Half::Zero);
-    let mut grid = empty_grid();
+    let mut grid = level(sent_of(b'.'));
     for n in 0..62 {
         grid[n + 5] = bounded(Cpx {
             re: 127 * sequence[n] as i64,
@@ -103,37 +105,47 @@ fn secondary_grid() -> [Cpx; 72]
     grid
 }
 
-// Sends the useful part of a symbol.
-fn send(samples: &mut [Sample], grid: &[Cpx; 72])
-    requires size { length samples.old ≡ 128 }
+// Sends the useful part of a symbol at sample `at`.
+fn send(samples: &mut [Sample], at: usize, grid: &[Cpx; 72])
+    requires room { at + 128 ≤ length samples.old }
     requires small { All (IsWithin 127) grid.now }
 {
     let useful = synth(grid);
     for n in 0..128 {
-        samples[n] = Sample {
+        samples[at + n] = Sample {
             re: clamp_div(useful[n].re, 1, 32_767),
             im: clamp_div(useful[n].im, 1, 32_767),
         };
     }
 }
 
-// Sends the synchronisation signals of subframe 0; the slice begins with the secondary symbol.
-fn send_signals(samples: &mut [Sample])
-    requires { length samples.old ≡ 265 }
+// Sends the synchronisation signals of a frame that begins at sample `at`.
+fn send_signals(samples: &mut [Sample], at: usize)
+    requires { at + 960 ≤ length samples.old }
 {
-    send(&mut samples[..128], &secondary_grid());
-    send(&mut samples[137..], &primary_grid());
+    send(samples, at + 695, &secondary_grid());
+    send(samples, at + 832, &primary_grid());
 }
 
-// Sends symbols 0 to 4 of a slot; the slice begins with the useful part of symbol 0.
-fn send_rows(samples: &mut [Sample], rows: [&[u8; 72]; 5])
-    requires { length samples.old ≡ 676 }
+// Sends symbols 0 to 4 of slot 1 of a frame that begins at sample `at`.
+fn send_rows(samples: &mut [Sample], at: usize, rows: [&[u8; 72]; 5])
+    requires { at + 1920 ≤ length samples.old }
 {
-    send(&mut samples[..128], &grid_of(rows[0]));
-    send(&mut samples[137..265], &grid_of(rows[1]));
-    send(&mut samples[274..402], &grid_of(rows[2]));
-    send(&mut samples[411..539], &grid_of(rows[3]));
-    send(&mut samples[548..], &grid_of(rows[4]));
+    send(samples, at + 970, &grid_of(rows[0]));
+    send(samples, at + 970 + 137, &grid_of(rows[1]));
+    send(samples, at + 970 + 2 * 137, &grid_of(rows[2]));
+    send(samples, at + 970 + 3 * 137, &grid_of(rows[3]));
+    send(samples, at + 970 + 4 * 137, &grid_of(rows[4]));
+}
+
+// Sends a symbol at 1000 + 400 q, for q = 0 to 140.
+fn send_often(samples: &mut [Sample], grid: &[Cpx; 72])
+    requires room { length samples.old ≡ 57600 }
+    requires small { All (IsWithin 127) grid.now }
+{
+    for q in 0..141 {
+        send(samples, 1000 + 400 * q, grid);
+    }
 }
 
 fn has_fields(mib: &Mib, bandwidth: Bandwidth, duration: Duration, resource: Resource) -> bool {
@@ -156,10 +168,7 @@ fn primary_signals_alone_explain_no_cell(rt: HostRuntime) -> Result<(), Fail> {
     let mut work = Workspace::new(rt.alloc())?;
     let mut list = EntryList::new(rt.alloc())?;
     let mut samples = silent_samples(rt.alloc())?;
-    let primary = primary_grid();
-    for q in 0..141 {
-        send(&mut samples[1000 + 400 * q..1128 + 400 * q], &primary);
-    }
+    send_often(&mut samples[..], &primary_grid());
     let recording = Recording::new(samples).expect(&rt, "30 ms");
     explain(&recording, &mut work, &mut list);
     assert!(rt; list.slice().is_empty());
@@ -171,17 +180,28 @@ fn a_master_block_of_the_first_frame_is_an_entry(rt: HostRuntime) -> Result<(), 
     let mut work = Workspace::new(rt.alloc())?;
     let mut list = EntryList::new(rt.alloc())?;
     let mut samples = silent_samples(rt.alloc())?;
-    send_signals(&mut samples[695..960]);
-    send_rows(&mut samples[970..1646], PLAIN);
+    send_signals(&mut samples[..], 0);
+    send_rows(&mut samples[..], 0, PLAIN);
     let recording = Recording::new(samples).expect(&rt, "30 ms");
     explain(&recording, &mut work, &mut list);
     assert_eq!(rt; list.slice().len(), 1);
     let entry = &list.slice()[0];
-    assert_eq!(rt; (entry.id.value(), entry.start, entry.sfn.value(), entry.ports), (0, 0, 0, 1));
+    assert_eq!(rt;
+        (
+            entry.id.value(),
+            entry.start,
+            entry.sfn.value(),
+            entry.ports
+        ),
+        (0, 0, 0, 1)
+    );
     assert_eq!(rt; (entry.frame, entry.phase, entry.cost), (0, 0, 0));
     assert!(rt; has_fields(&entry.mib, Bandwidth::N50, Duration::Normal, Resource::One));
     assert_eq!(rt; (entry.mib.upper, entry.mib.spare), (0, 0));
-    assert_eq!(rt; entry.sib1.as_ref().err().copied(), Some(Sib1Reason::NotRead));
+    assert_eq!(rt;
+        entry.sib1.as_ref().err().copied(),
+        Some(Sib1Reason::NotRead)
+    );
     let values = values_of(&recording, entry);
     assert!(rt; values[0][0] < 0 && values[0][1] < 0 && values[0][2] > 0);
     assert!(rt; values[39][0] > 0 && values[39][1] < 0 && values[39][2] > 0);
@@ -195,13 +215,21 @@ fn a_later_frame_tells_the_number_of_the_first(rt: HostRuntime) -> Result<(), Fa
     let mut work = Workspace::new(rt.alloc())?;
     let mut list = EntryList::new(rt.alloc())?;
     let mut samples = silent_samples(rt.alloc())?;
-    send_signals(&mut samples[495..760]);
-    send_rows(&mut samples[39_170..39_846], OTHER);
+    send_signals(&mut samples[18_000..], 0);
+    send_rows(&mut samples[37_200..], 0, OTHER);
     let recording = Recording::new(samples).expect(&rt, "30 ms");
     explain(&recording, &mut work, &mut list);
     assert_eq!(rt; list.slice().len(), 1);
     let entry = &list.slice()[0];
-    assert_eq!(rt; (entry.id.value(), entry.start, entry.sfn.value(), entry.ports), (0, 19_000, 22, 4));
+    assert_eq!(rt;
+        (
+            entry.id.value(),
+            entry.start,
+            entry.sfn.value(),
+            entry.ports
+        ),
+        (0, 18_000, 22, 4)
+    );
     assert_eq!(rt; (entry.frame, entry.phase, entry.cost), (1, 3, 0));
     assert!(rt; has_fields(&entry.mib, Bandwidth::N6, Duration::Extended, Resource::Two));
     assert_eq!(rt; (entry.mib.upper, entry.mib.spare), (5, 1023));
