@@ -2,510 +2,125 @@ use super::*;
 use cell_tx::CellError;
 use lte_types::{Duration, Resource};
 use std::alloc::{AllocError, Global};
+use std::process::Abort;
 use std::test::Fail;
 
-// The values of the keys identity, sfn, offset, samples, gain, duration, resource and spare, and the
-// cause for which the description is refused.
-const REFUSED: [([&str; 8], CellError); 36] = [
-    (
-        [
-            "504",
-            "1024",
-            "0",
-            "57600",
-            "[1, 0]",
-            "\"normal\"",
-            "\"one\"",
-            "0",
-        ],
-        CellError::Sfn,
-    ),
-    (
-        [
-            "0",
-            "-1",
-            "19200",
-            "57600",
-            "[1, 0]",
-            "\"normal\"",
-            "\"one\"",
-            "0",
-        ],
-        CellError::Sfn,
-    ),
-    (
-        [
-            "0",
-            "0",
-            "19200",
-            "57599",
-            "[1, 0]",
-            "\"normal\"",
-            "\"one\"",
-            "0",
-        ],
-        CellError::Offset,
-    ),
-    (
-        [
-            "0",
-            "0",
-            "-1",
-            "57600",
-            "[1, 0]",
-            "\"normal\"",
-            "\"one\"",
-            "0",
-        ],
-        CellError::Offset,
-    ),
-    (
-        [
-            "0",
-            "0",
-            "4294967296",
-            "57600",
-            "[1, 0]",
-            "\"normal\"",
-            "\"one\"",
-            "0",
-        ],
-        CellError::Offset,
-    ),
-    (
-        [
-            "0",
-            "0",
-            "0",
-            "57599",
-            "[0, 0]",
-            "\"normal\"",
-            "\"one\"",
-            "0",
-        ],
-        CellError::Samples,
-    ),
-    (
-        [
-            "0",
-            "0",
-            "0",
-            "1920001",
-            "[1, 0]",
-            "\"normal\"",
-            "\"one\"",
-            "0",
-        ],
-        CellError::Samples,
-    ),
-    (
-        [
-            "504",
-            "0",
-            "0",
-            "57600",
-            "[0, 0]",
-            "\"normal\"",
-            "\"one\"",
-            "0",
-        ],
-        CellError::Gain,
-    ),
-    (
-        [
-            "0",
-            "0",
-            "0",
-            "57600",
-            "[29, 0]",
-            "\"normal\"",
-            "\"one\"",
-            "0",
-        ],
-        CellError::Gain,
-    ),
-    (
-        [
-            "0",
-            "0",
-            "0",
-            "57600",
-            "[28, -1]",
-            "\"normal\"",
-            "\"one\"",
-            "0",
-        ],
-        CellError::Gain,
-    ),
-    (
-        [
-            "0",
-            "0",
-            "0",
-            "57600",
-            "[4294967296, 0]",
-            "\"normal\"",
-            "\"one\"",
-            "0",
-        ],
-        CellError::Gain,
-    ),
-    (
-        [
-            "0",
-            "0",
-            "0",
-            "57600",
-            "[9223372036854775807, -9223372036854775808]",
-            "\"normal\"",
-            "\"one\"",
-            "0",
-        ],
-        CellError::Gain,
-    ),
-    (
-        [
-            "504",
-            "0",
-            "0",
-            "57600",
-            "[1, 0]",
-            "\"normal\"",
-            "\"one\"",
-            "1024",
-        ],
-        CellError::Identity,
-    ),
-    (
-        [
-            "-1",
-            "0",
-            "0",
-            "57600",
-            "[1, 0]",
-            "\"normal\"",
-            "\"one\"",
-            "0",
-        ],
-        CellError::Identity,
-    ),
-    (
-        [
-            "65536",
-            "0",
-            "0",
-            "57600",
-            "[1, 0]",
-            "\"normal\"",
-            "\"one\"",
-            "0",
-        ],
-        CellError::Identity,
-    ),
-    (
-        [
-            "0",
-            "0",
-            "0",
-            "57600",
-            "[1, 0]",
-            "\"normal\"",
-            "\"one\"",
-            "1024",
-        ],
-        CellError::Spare,
-    ),
-    (
-        [
-            "0",
-            "0",
-            "0",
-            "57600",
-            "[1, 0]",
-            "\"normal\"",
-            "\"one\"",
-            "-9223372036854775808",
-        ],
-        CellError::Spare,
-    ),
-    (
-        [
-            "7.0",
-            "1024",
-            "0",
-            "57600",
-            "[1, 0]",
-            "\"normal\"",
-            "\"one\"",
-            "0",
-        ],
-        CellError::Form,
-    ),
-    (
-        [
-            "0",
-            "1e2",
-            "0",
-            "57600",
-            "[1, 0]",
-            "\"normal\"",
-            "\"one\"",
-            "0",
-        ],
-        CellError::Form,
-    ),
-    (
-        [
-            "0",
-            "0",
-            "-0",
-            "57600",
-            "[1, 0]",
-            "\"normal\"",
-            "\"one\"",
-            "0",
-        ],
-        CellError::Form,
-    ),
-    (
-        [
-            "0",
-            "0",
-            "0",
-            "9223372036854775808",
-            "[1, 0]",
-            "\"normal\"",
-            "\"one\"",
-            "0",
-        ],
-        CellError::Form,
-    ),
-    (
-        [
-            "0",
-            "0",
-            "0",
-            "1e400",
-            "[1, 0]",
-            "\"normal\"",
-            "\"one\"",
-            "0",
-        ],
-        CellError::Form,
-    ),
-    (
-        [
-            "0",
-            "0",
-            "0",
-            "057600",
-            "[1, 0]",
-            "\"normal\"",
-            "\"one\"",
-            "0",
-        ],
-        CellError::Form,
-    ),
-    (
-        ["0", "0", "0", "57600", "[1]", "\"normal\"", "\"one\"", "0"],
-        CellError::Form,
-    ),
-    (
-        [
-            "0",
-            "0",
-            "0",
-            "57600",
-            "[1, 0, 0]",
-            "\"normal\"",
-            "\"one\"",
-            "0",
-        ],
-        CellError::Form,
-    ),
-    (
-        [
-            "0",
-            "0",
-            "0",
-            "57600",
-            "[1, 0.5]",
-            "\"normal\"",
-            "\"one\"",
-            "0",
-        ],
-        CellError::Form,
-    ),
-    (
-        ["0", "0", "0", "57600", "1", "\"normal\"", "\"one\"", "0"],
-        CellError::Form,
-    ),
-    (
-        [
-            "0",
-            "0",
-            "0",
-            "57600",
-            "[1, 0]",
-            "\"Normal\"",
-            "\"one\"",
-            "0",
-        ],
-        CellError::Form,
-    ),
-    (
-        ["0", "0", "0", "57600", "[1, 0]", "0", "\"one\"", "0"],
-        CellError::Form,
-    ),
-    (
-        [
-            "0",
-            "0",
-            "0",
-            "57600",
-            "[1, 0]",
-            "\"normal\"",
-            "\"1/6\"",
-            "0",
-        ],
-        CellError::Form,
-    ),
-    (
-        ["0", "0", "0", "57600", "[1, 0]", "\"normal\"", "null", "0"],
-        CellError::Form,
-    ),
-    (
-        [
-            "0",
-            "0",
-            "0",
-            "57600",
-            "[1, 0]",
-            "\"normal\"",
-            "\"one\"",
-            "\"0\"",
-        ],
-        CellError::Form,
-    ),
-    (
-        [
-            "0",
-            "0",
-            "0",
-            "57600",
-            "[1, 0]",
-            "\"normal\"",
-            "\"one\"",
-            "true",
-        ],
-        CellError::Form,
-    ),
-    (
-        [
-            "0",
-            "0",
-            "0",
-            "57600",
-            "[1, 0]",
-            "\"normal\"",
-            "\"one\"",
-            "0, \"cfi\": 2",
-        ],
-        CellError::Form,
-    ),
-    (
-        [
-            "0",
-            "0",
-            "0",
-            "57600",
-            "[1, 0]",
-            "\"normal\"",
-            "\"one\"",
-            "0}, {",
-        ],
-        CellError::Form,
-    ),
-    (
-        [
-            "0",
-            "0",
-            "0",
-            "57600",
-            "[1, 0]",
-            "\"normal\"",
-            "\"one\"",
-            "0, \"sfn\": 1024",
-        ],
-        CellError::Sfn,
-    ),
-];
+// A description but for its closing brace. Since the last value of a key stands, what follows
+// changes it.
+const PLAIN: &str =
+    "{\"identity\": 0, \"sfn\": 0, \"offset\": 0, \"samples\": 57600, \"gain\": [1, 0], \"duration\": \"normal\", \"resource\": \"one\", \"spare\": 0";
 
-// Texts that are no description at all.
-const OTHER: [&str; 7] = [
-    "",
-    " ",
-    "{}",
-    "[]",
-    "null",
-    "{\"identity\": 0",
-    "{\"sfn\": 0, \"offset\": 0, \"samples\": 57600, \"gain\": [1, 0], \"duration\": \"normal\", \"resource\": \"one\", \"spare\": 0}",
-];
-
-// A description with these values.
-fn text_of(alloc: Global, values: [&str; 8]) -> Result<String, AllocError> {
-    let [
-        identity,
-        sfn,
-        offset,
-        samples,
-        gain,
-        duration,
-        resource,
-        spare,
-    ] = values;
-    format!(in alloc;
-        "{{\"identity\": {identity}, \"sfn\": {sfn}, \"offset\": {offset}, \"samples\": {samples}, \"gain\": {gain}, \"duration\": {duration}, \"resource\": {resource}, \"spare\": {spare}}}"
-    )
+// The plain description with this change.
+fn changed(alloc: Global, change: &str) -> Result<String, AllocError> {
+    format!(in alloc; "{PLAIN}, {change}}}")
 }
 
-#[test]
-fn descriptions_are_refused_for_their_first_failed_condition(rt: HostRuntime) -> Result<(), Fail> {
-    for (values, cause) in REFUSED {
-        let text = text_of(rt.alloc(), values)?;
-        let answer = read(rt.alloc(), text.as_bytes()).err();
-        assert_eq!(rt; answer, Some(JsonError::Cell(cause)), "{}", text.as_str());
+// Each of these changes is refused for this cause.
+fn refused(
+    rt: &impl Abort,
+    alloc: Global,
+    changes: &[&str],
+    cause: CellError,
+) -> Result<(), AllocError> {
+    for change in changes {
+        let text = changed(alloc, *change)?;
+        let answer = read(alloc, text.as_bytes()).err();
+        assert_eq!(rt; answer, Some(JsonError::Cell(cause)));
     }
-    for text in OTHER {
-        let answer = read(rt.alloc(), text.as_bytes()).err();
-        assert_eq!(rt; answer, Some(JsonError::Cell(CellError::Form)), "{text}");
-    }
-    let no_text = read(rt.alloc(), b"\"\xff\"").err();
-    assert_eq!(rt; no_text, Some(JsonError::Cell(CellError::Form)));
     Ok(())
 }
 
 #[test]
-fn lists_nested_deep_are_refused(rt: HostRuntime) -> Result<(), Fail> {
-    let deep = [b'['; 200];
-    let answer = read(rt.alloc(), &deep).err();
-    assert_eq!(rt; answer, Some(JsonError::Cell(CellError::Form)));
+fn another_kind_of_value_or_key_has_not_the_form(rt: HostRuntime) -> Result<(), Fail> {
+    let alloc = rt.alloc();
+    let numbers = [
+        "\"identity\": 7.0, \"sfn\": 1024",
+        "\"sfn\": 1e2",
+        "\"offset\": -0",
+        "\"samples\": 9223372036854775808",
+        "\"samples\": 1e400",
+        "\"samples\": 057600",
+        "\"spare\": \"0\"",
+        "\"spare\": true",
+    ];
+    refused(&rt, alloc, &numbers, CellError::Form)?;
+    let others = [
+        "\"gain\": [1]",
+        "\"gain\": [1, 0, 0]",
+        "\"gain\": [1, 0.5]",
+        "\"gain\": 1",
+        "\"duration\": \"Normal\"",
+        "\"duration\": 0",
+        "\"resource\": \"1/6\"",
+        "\"resource\": null",
+        "\"cfi\": 2",
+        "}, {",
+    ];
+    refused(&rt, alloc, &others, CellError::Form)?;
     Ok(())
+}
+
+#[test]
+fn the_first_failed_condition_is_named(rt: HostRuntime) -> Result<(), Fail> {
+    let alloc = rt.alloc();
+    let sfn = [
+        "\"sfn\": 1024, \"identity\": 504",
+        "\"sfn\": -1, \"offset\": 19200",
+    ];
+    refused(&rt, alloc, &sfn, CellError::Sfn)?;
+    let offset = [
+        "\"offset\": 19200, \"samples\": 57599",
+        "\"offset\": -1",
+        "\"offset\": 4294967296",
+    ];
+    refused(&rt, alloc, &offset, CellError::Offset)?;
+    let samples = [
+        "\"samples\": 57599, \"gain\": [0, 0]",
+        "\"samples\": 1920001",
+    ];
+    refused(&rt, alloc, &samples, CellError::Samples)?;
+    let gain = [
+        "\"gain\": [0, 0], \"identity\": 504",
+        "\"gain\": [29, 0]",
+        "\"gain\": [28, -1]",
+        "\"gain\": [4294967296, 0]",
+        "\"gain\": [9223372036854775807, -9223372036854775808]",
+    ];
+    refused(&rt, alloc, &gain, CellError::Gain)?;
+    let identity = [
+        "\"identity\": 504, \"spare\": 1024",
+        "\"identity\": -1",
+        "\"identity\": 65536",
+    ];
+    refused(&rt, alloc, &identity, CellError::Identity)?;
+    let spare = ["\"spare\": 1024", "\"spare\": -9223372036854775808"];
+    refused(&rt, alloc, &spare, CellError::Spare)?;
+    Ok(())
+}
+
+// What is answered where the bytes are no description at all.
+fn answer(alloc: Global, bytes: &[u8]) -> Option<JsonError> {
+    read(alloc, bytes).err()
+}
+
+#[test]
+fn no_description_at_all_has_not_the_form(rt: HostRuntime) {
+    let alloc = rt.alloc();
+    let form = Some(JsonError::Cell(CellError::Form));
+    assert_eq!(rt; answer(alloc, b""), form);
+    assert_eq!(rt; answer(alloc, b"{}"), form);
+    assert_eq!(rt; answer(alloc, b"[]"), form);
+    assert_eq!(rt; answer(alloc, b"\"\xff\""), form);
+    assert_eq!(rt; answer(alloc, PLAIN.as_bytes()), form);
+    assert_eq!(rt; answer(alloc, &[b'['; 200]), form);
 }
 
 #[test]
 fn a_description_is_read(rt: HostRuntime) -> Result<(), Fail> {
-    let values = [
-        "503",
-        "1023",
-        "19199",
-        "1920000",
-        "[-27, 7]",
-        "\"extended\"",
-        "\"oneSixth\"",
-        "1023",
-    ];
-    let text = text_of(rt.alloc(), values)?;
+    let text = changed(
+        rt.alloc(),
+        "\"identity\": 503, \"sfn\": 1023, \"offset\": 19199, \"samples\": 1920000, \"gain\": [-27, 7], \"duration\": \"extended\", \"resource\": \"oneSixth\", \"spare\": 1023",
+    )?;
     let transmission = read(rt.alloc(), text.as_bytes())?;
     assert_eq!(rt;
         (transmission.sfn.value(), transmission.offset),
@@ -521,24 +136,5 @@ fn a_description_is_read(rt: HostRuntime) -> Result<(), Fail> {
         (plan.duration, plan.resource),
         (Duration::Extended, Resource::OneSixth)
     );
-    Ok(())
-}
-
-#[test]
-fn the_last_value_of_a_key_stands(rt: HostRuntime) -> Result<(), Fail> {
-    let values = [
-        "0",
-        "1024",
-        "0",
-        "57600",
-        "[0, 28]",
-        "\"normal\"",
-        "\"half\"",
-        "0, \"sfn\": 7",
-    ];
-    let text = text_of(rt.alloc(), values)?;
-    let transmission = read(rt.alloc(), text.as_bytes())?;
-    assert_eq!(rt; (transmission.sfn.value(), transmission.gain), (7, (0, 28)));
-    assert_eq!(rt; transmission.cell.plan().resource, Resource::Half);
     Ok(())
 }

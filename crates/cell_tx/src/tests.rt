@@ -137,7 +137,9 @@ fn sfn(rt: &impl Abort, number: u16) -> Sfn {
 }
 
 // What a transmission of identity 503 sends.
-fn turned(rt: &impl Abort) -> Result<Transmission, CellError> {
+fn turned(rt: &impl Abort) -> Result<Transmission, CellError>
+    ensures { IfOk result (λ t. t.samples ≡ 57600) }
+{
     let cell = Cell::new(plan(503, Duration::Extended, Resource::OneSixth, 677))?;
     Ok(Transmission {
         cell,
