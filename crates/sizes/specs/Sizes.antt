@@ -1,0 +1,30 @@
+-- Sizes of whole complex numbers, by their squares. (own)
+use Rattle.std.specs.Prelude.{ℕ, ◌*◌, ◌≤◌, ℤ, pos, ◌+ℤ◌, ◌-ℤ◌, ◌*ℤ◌}
+use Rattle.finite.specs.Sums.{total_below}
+use Rattle.cs_num.specs.declared.Cpx.{Cpx}
+use Rattle.cs_num.specs.Complex.{times, conjugate, square}
+use Rattle.cs_num.specs.Sums.{complex_sum_below}
+
+-- the size of z is at most c times that of a gain whose square is n: sizes in units of a gain, and no root is taken
+pub record IsSized (c n : ℕ) (z : Cpx) : Type 0 where
+  pub sized : square z ≤ c * c * n
+
+-- n times a number
+abbrev pub multiple : ℕ → Cpx → Cpx
+multiple n z = record { re = pos n *ℤ z.re; im = pos n *ℤ z.im }
+
+-- the difference
+abbrev pub minus : Cpx → Cpx → Cpx
+minus x y = record { re = x.re -ℤ y.re; im = x.im -ℤ y.im }
+
+-- the real part of x times the conjugate of y
+abbrev pub inner : Cpx → Cpx → ℤ
+inner x y = x.re *ℤ y.re +ℤ x.im *ℤ y.im
+
+-- |f 0|^2 + .. + |f (n - 1)|^2
+abbrev pub energy_below : ℕ → (ℕ → Cpx) → ℕ
+energy_below n f = total_below n (λ k. square (f k))
+
+-- f 0 * conj (g 0) + .. + f (n - 1) * conj (g (n - 1))
+abbrev pub correlation_below : ℕ → (ℕ → Cpx) → (ℕ → Cpx) → Cpx
+correlation_below n f g = complex_sum_below n (λ k. times (f k) (conjugate (g k)))
