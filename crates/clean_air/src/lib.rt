@@ -1,13 +1,10 @@
-// A library with one function.
+//! Laws of clean reception: what is sent of a cell, received with one gain and errors of at most
+//! twice its size, is found by the receiver. Each law is the contract of a function without a
+//! body, whole, with its premises; it speaks of the receiver's definitions alone.
 #![tactic(auto)]
 
-ghost use Rattle.std.specs.Prelude.{◌≡◌};
-ghost use Rattle.clean_air.specs.Echo.{echo_of};
+mod budget;
+mod table;
 
-// The `ensures` clause is the contract: what `echo` returns is `echo_of` of its argument, a definition
-// in `specs/Echo.antt`, which a caller's clause can cite too.
-pub fn echo(x: usize) -> usize
-    ensures { result ≡ echo_of x }
-{
-    x
-}
+pub use budget::seen_amplitude_is_near;
+pub use table::table_is_nearly_multiplicative;

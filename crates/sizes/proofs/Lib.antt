@@ -5,3 +5,4 @@ pub mod Terms
 pub mod Sized
 pub mod Cauchy
 pub mod Gram
+pub mod Rounding

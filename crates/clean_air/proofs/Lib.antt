@@ -1,0 +1,4 @@
+pub mod Products
+pub mod Leakage
+pub mod Causes
+pub mod Seen
