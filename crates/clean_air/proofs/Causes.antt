@@ -1,6 +1,5 @@
 -- The four causes by which what is seen of two symbols is off.
-use Rattle.std.proofs.Common.{◌≡◌, ℕ, suc, ◌+◌, ◌-◌, ◌*◌, ◌^◌, ◌<◌, ◌≤◌, arith, refl, ap, ap₂, sym, ◌∙◌, subst, ℤ, pos, ◌+ℤ◌, ◌-ℤ◌, ◌*ℤ◌, mul-le-mul, mul-le-mul_left}
-use Rattle.finite.specs.Sums.{total_below}
+use Rattle.std.proofs.Common.{◌≡◌, ℕ, ◌+◌, ◌*◌, ◌^◌, ◌<◌, ◌≤◌, arith, refl, ap, ap₂, sym, ◌∙◌, ℤ, pos, ◌+ℤ◌, ◌-ℤ◌, ◌*ℤ◌, mul-le-mul, mul-le-mul_left}
 use Rattle.finite.proofs.Sums.{total_below-within}
 use Rattle.finite.proofs.Ring.{var, lit, same}
 use Rattle.finite.proofs.Ring as ring
@@ -17,8 +16,8 @@ use Rattle.sizes.proofs.Cauchy.{cauchy, correlation_same, correlation_plus, corr
 use Rattle.sizes.proofs.Rounding.{rounded_near}
 use Rattle.fold128.specs.Symbol.{frequency, useful_term, useful_at}
 use Rattle.fold128.specs.Spectrum.{spectrum_at}
-use Rattle.clean_air.specs.Received.{AreAmplitudes, AreSum}
-use Rattle.clean_air.specs.Budget.{HasFourCauses, DeviationHasFourCauses, seen_in}
+use Rattle.clean_air.specs.Received.{AreAmplitudes}
+use Rattle.clean_air.specs.Budget.{DeviationHasFourCauses}
 use Rattle.clean_air.proofs.Products.{w-square}
 use Rattle.clean_air.proofs.Leakage.{sum_sent, tone_at, leak, seen_sent, leak-small}
 

@@ -1,18 +1,17 @@
 -- What is seen of a useful part before rounding: 2^35 times each amplitude, and what leaks from the others since the tables are rounded.
-use Rattle.std.proofs.Common.{◌≡◌, ◌≢◌, ℕ, zero, suc, ◌+◌, ◌-◌, ◌*◌, ◌%◌, ◌<◌, ◌≤◌, ◌⊎◌, inl, inr, arith, refl, ap, ap₂, sym, ◌∙◌, subst, Bool, true, false, nat_lt, pos}
-use Rattle.std.proofs.lemmas.Nat.{mul-mod_first}
+use Rattle.std.proofs.Common.{◌≡◌, ◌≢◌, ℕ, ◌+◌, ◌-◌, ◌*◌, ◌%◌, ◌<◌, ◌≤◌, ◌⊎◌, inl, inr, arith, refl, ap, sym, ◌∙◌, pos}
 use Rattle.std.proofs.lemmas.Bool.{cases_lt}
 use Rattle.std.proofs.lemmas.Bool.Decides.{nat_tests}
 use Rattle.finite.specs.Sums.{sum_below}
 use Rattle.cs_num.specs.declared.Cpx.{Cpx}
-use Rattle.cs_num.specs.Complex.{nothing, plus, times, conjugate, square}
+use Rattle.cs_num.specs.Complex.{nothing, plus, times, conjugate}
 use Rattle.cs_num.specs.Sums.{complex_sum_below}
 use Rattle.finite.proofs.Ring.{var, lit, same}
 use Rattle.finite.proofs.Ring as ring
 use Rattle.cs_num.proofs.Complex.{pair, times-plus}
 use Rattle.cs_num.proofs.Sums.{complex_sum_below_same, complex_sum_below_plus, complex_sum_below_swap}
 use Rattle.sizes.specs.Sizes.{IsSized, minus, multiple, correlation_below}
-use Rattle.sizes.proofs.Laws.{plus-minus, times-nothing, times-associates, times-multiple, sum-times, sum-multiple, sum_of_one, sum-times_right}
+use Rattle.sizes.proofs.Laws.{plus-minus, times-nothing, times-associates, sum-times, sum-multiple, sum_of_one, sum-times_right}
 use Rattle.sizes.proofs.Sized.{sized_plain, sized-times, sized-sum}
 use Rattle.fold128.specs.Tables.{quarter, cosine, w_at}
 use Rattle.fold128.specs.Symbol.{frequency, useful_term}

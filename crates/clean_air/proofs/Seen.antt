@@ -1,7 +1,6 @@
 -- What is seen of an amplitude, from the four causes: sizes in units of 2^31 times the gain.
-use Rattle.std.proofs.Common.{◌≡◌, ℕ, ◌+◌, ◌*◌, ◌^◌, ◌<◌, ◌≤◌, arith, refl, ap, ap₂, sym, ◌∙◌, subst, List, mul-le-mul, mul-le-mul_left, mul-le-mul_right}
+use Rattle.std.proofs.Common.{◌≡◌, ℕ, ◌+◌, ◌*◌, ◌^◌, ◌≤◌, arith, ap, sym, ◌∙◌, subst, mul-le-mul_left}
 use Rattle.cs_num.specs.declared.Cpx.{Cpx}
-use Rattle.cs_num.specs.declared.Sample.{Sample}
 use Rattle.cs_num.specs.Complex.{IsWithin, nothing, plus, times, square}
 use Rattle.cs_num.proofs.Complex.{times-commutes}
 use Rattle.sizes.specs.Sizes.{IsSized, minus, multiple}
@@ -11,7 +10,7 @@ use Rattle.sizes.proofs.Terms.{two_term_cauchy}
 use Rattle.sizes.proofs.Sized.{sized-plus}
 use Rattle.fold128.specs.Symbol.{useful_at}
 use Rattle.observe.specs.Seen.{seen}
-use Rattle.clean_air.specs.Received.{AreAmplitudes, AreSum, IsReceived, IsReceivedFromTwo, IsSeenAs, IsSeenAsTwo, samples_from}
+use Rattle.clean_air.specs.Received.{AreAmplitudes, samples_from}
 use Rattle.clean_air.specs.Budget.{HasFourCauses, AmplitudeIsSeen, TwoAmplitudesAreSeen, AmplitudeIsSeenInRecording, seen_in}
 use Rattle.clean_air.proofs.Causes.{four_causes}
 
@@ -72,10 +71,12 @@ amplitude_is_seen eps gain grid samples k small received l =
     let whole : multiple (2 ^ 29) d ≡ plus (times gain causes.sending) (plus causes.errors causes.rounding) =
     sym (ap (λ (z : Cpx). multiple (2 ^ 29) (minus (seen_in samples k) (multiple 64 z))) (alone gain (grid k) nothing))
     ∙ causes.whole ∙ ap (λ (z : Cpx). plus z (plus causes.errors causes.rounding)) (alone gain causes.sending causes.sending_too) in
-    record { off = within_budget (square d) (square gain) (join 111 363 1 (square gain) d (times gain causes.sending) causes.errors causes.rounding whole
-        (record { sized = gain_size gain causes.sending causes.sending_small })
-        (record { sized = errors_of_one eps (square gain) (square causes.errors) received.quiet causes.errors_small })
-        (record { sized = rounding_in (square gain) (square causes.rounding) received.sounds causes.rounding_small })) }
+    record {
+      off = within_budget (square d) (square gain) (join 111 363 1 (square gain) d (times gain causes.sending) causes.errors causes.rounding whole
+          (record { sized = gain_size gain causes.sending causes.sending_small })
+          (record { sized = errors_of_one eps (square gain) (square causes.errors) received.quiet causes.errors_small })
+          (record { sized = rounding_in (square gain) (square causes.rounding) received.sounds causes.rounding_small }));
+    }
 
 pub amplitude_is_seen_in_recording : AmplitudeIsSeenInRecording
 unfolding seen
@@ -101,9 +102,13 @@ two_amplitudes_are_seen eps gain other grid grid_too samples k small small_too r
     let x : Cpx = times gain causes.sending in
     let y : Cpx = times other causes.sending_too in
     let u : ℕ = (111 * 2 ^ 31) * (111 * 2 ^ 31) in
-    record { off = within_budget_of_two (square d) n (join 157 91 1 n d (plus x y) causes.errors causes.rounding causes.whole
-        (record { sized = both_sizes (square gain) (square other) (square (plus x y)) (two_term_cauchy x y (square gain) u (square other) u
-            (commuted u (square gain) (square x) (gain_size gain causes.sending causes.sending_small))
-            (commuted u (square other) (square y) (gain_size other causes.sending_too causes.sending_too_small))) })
-        (record { sized = errors_of_two eps n (square causes.errors) received.quiet causes.errors_small })
-        (record { sized = rounding_in n (square causes.rounding) received.sounds causes.rounding_small })) }
+    record {
+      off = within_budget_of_two (square d) n (join 157 91 1 n d (plus x y) causes.errors causes.rounding causes.whole
+          (record {
+            sized = both_sizes (square gain) (square other) (square (plus x y)) (two_term_cauchy x y (square gain) u (square other) u
+                (commuted u (square gain) (square x) (gain_size gain causes.sending causes.sending_small))
+                (commuted u (square other) (square y) (gain_size other causes.sending_too causes.sending_too_small)));
+          })
+          (record { sized = errors_of_two eps n (square causes.errors) received.quiet causes.errors_small })
+          (record { sized = rounding_in n (square causes.rounding) received.sounds causes.rounding_small }));
+    }

@@ -21,7 +21,7 @@ pub record HasFourCauses (eps : ℕ) (gain other : Cpx) (grid grid_too samples :
   pub errors : Cpx
   pub rounding : Cpx
   pub whole : multiple (2 ^ 29) (minus (seen_in samples k) (multiple 64 (plus (times gain (grid k)) (times other (grid_too k)))))
-    ≡ plus (plus (times gain sending) (times other sending_too)) (plus errors rounding)
+      ≡ plus (plus (times gain sending) (times other sending_too)) (plus errors rounding)
   pub sending_small : square sending ≤ (111 * 2 ^ 31) * (111 * 2 ^ 31)
   pub sending_too_small : square sending_too ≤ (111 * 2 ^ 31) * (111 * 2 ^ 31)
   pub errors_small : square errors ≤ 2 ^ 49 * (eps * eps) * (16385 * 16385)

@@ -4,7 +4,9 @@
 #![tactic(auto)]
 
 mod budget;
+mod peak;
 mod table;
 
 pub use budget::seen_amplitude_is_near;
+pub use peak::clean_primary_is_a_hit;
 pub use table::table_is_nearly_multiplicative;

@@ -1,12 +1,13 @@
 -- Cauchy's inequality over finite sums, and weighted bounds of energies.
-use Rattle.std.proofs.Common.{◌≡◌, ℕ, zero, suc, ◌+◌, ◌*◌, ◌<◌, ◌≤◌, ◌⊎◌, inl, inr, refl, ap, ap₂, ◌∙◌, arith}
+use Rattle.std.proofs.Common.{sym, ◌≡◌, ℕ, zero, suc, ◌+◌, ◌*◌, ◌<◌, ◌≤◌, ◌⊎◌, inl, inr, refl, ap, ap₂, ◌∙◌, arith}
 use Rattle.finite.specs.Sums.{sum_below, total_below}
 use Rattle.finite.proofs.Sums.{total_below_same, total_below_split}
 use Rattle.cs_num.specs.declared.Cpx.{Cpx}
 use Rattle.cs_num.specs.Complex.{plus, times, conjugate, square}
+use Rattle.cs_num.proofs.Complex.{times-commutes}
 use Rattle.cs_num.proofs.Sums.{complex_sum_below_same, complex_sum_below_plus, complex_sum_below_split}
 use Rattle.sizes.specs.Sizes.{multiple, energy_below, correlation_below}
-use Rattle.sizes.proofs.Laws.{sum-times, sum-multiple, times-plus_left, times-associates, multiple-times}
+use Rattle.sizes.proofs.Laws.{conjugate-plus, conjugate-times, conjugate_twice, sum-times, sum-multiple, times-plus_left, times-associates, multiple-times}
 use Rattle.sizes.proofs.Squares.{square-times, square-conjugate}
 use Rattle.sizes.proofs.Terms.{two_term_cauchy, weighted, weighted_term}
 
@@ -106,3 +107,13 @@ correlation_multiple n m f p =
 pub correlation_gain : (n : ℕ) (g : Cpx) (f e p : ℕ → Cpx) →
     correlation_below n (λ k. plus (times g (f k)) (e k)) p ≡ plus (times g (correlation_below n f p)) (correlation_below n e p)
 correlation_gain n g f e p = correlation_plus n (λ k. times g (f k)) e p ∙ ap (λ (z : Cpx). plus z (correlation_below n e p)) (correlation_times n g f p)
+
+back_and_forth : (f p : Cpx) → conjugate (times p (conjugate f)) ≡ times f (conjugate p)
+back_and_forth f p = conjugate-times p (conjugate f) ∙ ap (times (conjugate p)) (conjugate_twice f) ∙ times-commutes (conjugate p) f
+
+-- the correlation the other way round is the conjugate
+pub correlation_swap : (n : ℕ) (f p : ℕ → Cpx) → correlation_below n f p ≡ conjugate (correlation_below n p f)
+unfolding sum_below
+correlation_swap zero f p = refl
+correlation_swap (suc n) f p =
+    ap₂ plus (correlation_swap n f p) (sym (back_and_forth (f n) (p n))) ∙ sym (conjugate-plus (correlation_below n p f) (times (p n) (conjugate (f n))))
