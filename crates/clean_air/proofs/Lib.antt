@@ -6,3 +6,4 @@ pub mod Waves
 pub mod PeakSums
 pub mod Windows
 pub mod Peaks
+pub mod Scores

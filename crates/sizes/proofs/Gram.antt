@@ -7,21 +7,9 @@ use Rattle.finite.proofs.Ring.{Is, var, lit, same}
 use Rattle.finite.proofs.Ring as ring
 use Rattle.cs_num.specs.declared.Cpx.{Cpx}
 use Rattle.cs_num.specs.Complex.{nothing, plus, times, conjugate, square}
-use Rattle.cs_num.proofs.Complex.{pair}
-use Rattle.sizes.specs.Sizes.{inner, energy_below, correlation_below}
-use Rattle.sizes.proofs.Squares.{square_is, square-times, square-plus}
+use Rattle.sizes.specs.Sizes.{inner, real, energy_below, correlation_below}
+use Rattle.sizes.proofs.Squares.{times_conjugate, square-times, square-plus}
 use Rattle.sizes.proofs.Cauchy.{correlation_gain}
-
--- the number n, with no imaginary part
-abbrev real : ℕ → Cpx
-real n = record { re = pos n; im = pos 0 }
-
-times_conjugate : (x : Cpx) → times x (conjugate x) ≡ real (square x)
-times_conjugate x =
-    let a = var x.re in
-    let b = var x.im in
-    pair (same (ring.minus (ring.times a a) (ring.times b (ring.minus_one b))) (ring.plus (ring.times a a) (ring.times b b)) (omega arith) ∙ square_is x)
-    (same (ring.plus (ring.times a (ring.minus_one b)) (ring.times b a)) (lit 0) (omega arith))
 
 -- a signal's correlation with itself is its energy
 pub correlation_self : (n : ℕ) (p : ℕ → Cpx) → correlation_below n p p ≡ real (energy_below n p)

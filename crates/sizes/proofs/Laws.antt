@@ -11,7 +11,7 @@ use Rattle.cs_num.specs.Complex.{nothing, plus, times, conjugate}
 use Rattle.cs_num.specs.Sums.{complex_sum_below}
 use Rattle.cs_num.proofs.Complex.{pair, plus-nothing, plus-commutes, times-plus, times-commutes}
 use Rattle.cs_num.proofs.Sums.{complex_sum_below_same}
-use Rattle.sizes.specs.Sizes.{minus, multiple}
+use Rattle.sizes.specs.Sizes.{real, minus, multiple}
 
 -- ---- sums and differences
 
@@ -167,6 +167,12 @@ twice_part m n a = same (ring.times (lit m) (ring.times (lit n) (var a))) (ring.
 
 pub multiple_twice : (m n : ℕ) (a : Cpx) → multiple m (multiple n a) ≡ multiple (m * n) a
 multiple_twice m n a = pair (twice_part m n a.re) (twice_part m n a.im)
+
+pub times_real : (n : ℕ) (z : Cpx) → times z (real n) ≡ multiple n z
+times_real n z =
+    let a = var z.re in
+    let b = var z.im in
+    pair (same (ring.minus (ring.times a (lit n)) (ring.times b (lit 0))) (ring.times (lit n) a) (omega arith)) (same (ring.plus (ring.times a (lit 0)) (ring.times b (lit n))) (ring.times (lit n) b) (omega arith))
 
 conjugate_part : (n : ℕ) (a : ℤ) → neg_ℤ (pos n *ℤ a) ≡ pos n *ℤ neg_ℤ a
 conjugate_part n a = same (ring.minus_one (ring.times (lit n) (var a))) (ring.times (lit n) (ring.minus_one (var a))) (omega arith)

@@ -6,3 +6,5 @@ pub mod Sized
 pub mod Cauchy
 pub mod Gram
 pub mod Rounding
+pub mod Products
+pub mod Sums

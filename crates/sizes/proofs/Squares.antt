@@ -6,7 +6,8 @@ use Rattle.finite.proofs.Ring.{Is, var, lit, same}
 use Rattle.finite.proofs.Ring as ring
 use Rattle.cs_num.specs.declared.Cpx.{Cpx}
 use Rattle.cs_num.specs.Complex.{IsWithin, plus, times, conjugate, square}
-use Rattle.sizes.specs.Sizes.{inner, multiple}
+use Rattle.cs_num.proofs.Complex.{pair}
+use Rattle.sizes.specs.Sizes.{inner, real, multiple}
 use Rattle.sizes.proofs.Naturals.{root-le}
 
 pub abs_square : (a : ℤ) → a *ℤ a ≡ pos (unsigned_abs a * unsigned_abs a)
@@ -16,6 +17,14 @@ abs_square (negsuc n) = refl
 -- the square of the size, as a whole number
 pub square_is : (z : Cpx) → z.re *ℤ z.re +ℤ z.im *ℤ z.im ≡ pos (square z)
 square_is z = rw (abs_square z.re, abs_square z.im) refl
+
+-- a number times its conjugate is the square of its size
+pub times_conjugate : (x : Cpx) → times x (conjugate x) ≡ real (square x)
+times_conjugate x =
+    let a = var x.re in
+    let b = var x.im in
+    pair (same (ring.minus (ring.times a a) (ring.times b (ring.minus_one b))) (ring.plus (ring.times a a) (ring.times b b)) (omega arith) ∙ square_is x)
+    (same (ring.plus (ring.times a (ring.minus_one b)) (ring.times b a)) (lit 0) (omega arith))
 
 pos_same : (m n : ℕ) → pos m ≡ pos n → m ≡ n
 pos_same m n e = omega (arith, same_out _ _ e)
