@@ -6,4 +6,7 @@ pub mod Waves
 pub mod PeakSums
 pub mod Windows
 pub mod Peaks
+pub mod Deviations
 pub mod Scores
+pub mod Estimates
+pub mod SoftValues

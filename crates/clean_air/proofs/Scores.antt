@@ -10,12 +10,11 @@ use Rattle.finite.proofs.Lists.{values_below_same}
 use Rattle.finite.proofs.Ring.{var, lit, same}
 use Rattle.finite.proofs.Ring as ring
 use Rattle.cs_num.specs.declared.Cpx.{Cpx}
-use Rattle.cs_num.specs.Complex.{IsWithin, nothing, plus, times, conjugate, square}
+use Rattle.cs_num.specs.Complex.{IsWithin, nothing, times, conjugate, square}
 use Rattle.lte_types.specs.declared.frame.Half.{Half}
 use Rattle.lte_types.specs.declared.frame.Half.TheVariants.{Zero, Five}
 use Rattle.sizes.specs.Sizes.{IsSized, minus, multiple}
-use Rattle.sizes.proofs.Laws.{plus-minus, times-plus_left, times-associates, times-multiple, multiple-times, times_real, multiple_twice}
-use Rattle.sizes.proofs.Squares.{times_conjugate, square-multiple, square-conjugate}
+use Rattle.sizes.proofs.Squares.{square-multiple, square-conjugate}
 use Rattle.sizes.proofs.Sized.{sized_plain, sized-times}
 use Rattle.sizes.proofs.Products.{product_near, sign-turns}
 use Rattle.sizes.proofs.Sums.{terms_same}
@@ -32,6 +31,7 @@ use Rattle.observe.specs.Seen.{seen}
 use Rattle.pss_search.specs.Correlation.{pss_grid}
 use Rattle.clean_air.specs.Received.{AreAmplitudes, IsSeenAs}
 use Rattle.clean_air.specs.Score.{AreSeen, TermsArePositive, SentPairIsGreatest, SentPairIsBest, SentPairIsIdentified, sss_amplitude, sss_grid}
+use Rattle.clean_air.proofs.Deviations.{deviation, seen_is, deviation-sized, channel_is}
 use Rattle.clean_air.proofs.Seen.{amplitude_is_seen_in_recording}
 
 -- ---- sizes of the sequences
@@ -61,30 +61,6 @@ unfolding pss_at
 pss-size n2 n = z-size _
 
 -- ---- one term
-
-deviation : Cpx → Cpx → Cpx → Cpx
-deviation gain amplitude seen = minus seen (multiple 64 (times gain amplitude))
-
-seen_is : (gain amplitude seen : Cpx) → seen ≡ plus (times gain (multiple 64 amplitude)) (deviation gain amplitude seen)
-unfolding deviation
-seen_is gain amplitude seen =
-    sym (plus-minus seen (multiple 64 (times gain amplitude)))
-    ∙ ap (λ (z : Cpx). plus z (minus seen (multiple 64 (times gain amplitude)))) (sym (times-multiple 64 gain amplitude))
-
-deviation-sized : (gain amplitude seen : Cpx) → IsSeenAs gain amplitude seen → IsSized 1920 (square gain) (deviation gain amplitude seen)
-unfolding deviation
-deviation-sized gain amplitude seen is = record { sized = is.off }
-
--- what is seen of the primary signal, turned back by its value d, is 64 |d|^2 times the gain up to an error
-channel_is : (g d p : Cpx) → times p (conjugate d) ≡ plus (multiple (64 * square d) g) (times (deviation g d p) (conjugate d))
-channel_is g d p =
-    ap (λ (z : Cpx). times z (conjugate d)) (seen_is g d p) ∙ times-plus_left (times g (multiple 64 d)) (deviation g d p) (conjugate d)
-    ∙ ap (λ (z : Cpx). plus z (times (deviation g d p) (conjugate d))) main
-  where
-    main : times (times g (multiple 64 d)) (conjugate d) ≡ multiple (64 * square d) g
-    main =
-        times-associates g (multiple 64 d) (conjugate d) ∙ ap (times g) (multiple-times 64 d (conjugate d) ∙ ap (multiple 64) (times_conjugate d))
-        ∙ times-multiple 64 g (record { re = pos (square d); im = pos 0 }) ∙ ap (multiple 64) (times_real (square d) g) ∙ multiple_twice 64 (square d) g
 
 unit_square : (s : ℤ) → unsigned_abs s ≡ 1 → square (multiple 64 (record { re = pos 127 *ℤ s; im = pos 0 })) ≤ 8128 * 8128
 unit_square s unit =

@@ -1,5 +1,5 @@
 -- More laws of complex numbers and of their sums.
-use Rattle.std.proofs.Common.{◌≡◌, ◌≢◌, ℕ, zero, suc, ◌*◌, ◌<◌, inl, inr, ℤ, pos, ◌+ℤ◌, ◌-ℤ◌, ◌*ℤ◌, neg_ℤ, refl, ap, ap₂, sym, ◌∙◌, arith}
+use Rattle.std.proofs.Common.{◌+◌, ◌≡◌, ◌≢◌, ℕ, zero, suc, ◌*◌, ◌<◌, inl, inr, ℤ, pos, ◌+ℤ◌, ◌-ℤ◌, ◌*ℤ◌, neg_ℤ, refl, ap, ap₂, sym, ◌∙◌, arith}
 use Rattle.std.proofs.lemmas.Int.{ints}
 use Rattle.std.proofs.lemmas.Bool.{cases_lt}
 use Rattle.finite.specs.Sums.{sum_below}
@@ -167,6 +167,12 @@ twice_part m n a = same (ring.times (lit m) (ring.times (lit n) (var a))) (ring.
 
 pub multiple_twice : (m n : ℕ) (a : Cpx) → multiple m (multiple n a) ≡ multiple (m * n) a
 multiple_twice m n a = pair (twice_part m n a.re) (twice_part m n a.im)
+
+sum_part : (m n : ℕ) (a : ℤ) → pos (m + n) *ℤ a ≡ pos m *ℤ a +ℤ pos n *ℤ a
+sum_part m n a = same (ring.times (lit (m + n)) (var a)) (ring.plus (ring.times (lit m) (var a)) (ring.times (lit n) (var a))) (omega arith)
+
+pub multiple_sum : (m n : ℕ) (a : Cpx) → multiple (m + n) a ≡ plus (multiple m a) (multiple n a)
+multiple_sum m n a = pair (sum_part m n a.re) (sum_part m n a.im)
 
 pub times_real : (n : ℕ) (z : Cpx) → times z (real n) ≡ multiple n z
 times_real n z =
