@@ -10,3 +10,4 @@ pub mod Deviations
 pub mod Scores
 pub mod Estimates
 pub mod SoftValues
+pub mod SpokenWords

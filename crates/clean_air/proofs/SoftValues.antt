@@ -17,6 +17,7 @@ use Rattle.cs_num.specs.Rounding.{clamped}
 use Rattle.sizes.specs.Sizes.{minus, multiple}
 use Rattle.sizes.proofs.Squares.{square-times, square-multiple}
 use Rattle.sizes.proofs.Terms.{weighted, weighted_term}
+use Rattle.sizes.proofs.Sums.{total_some}
 use Rattle.sizes.proofs.Products.{product_near, sign-turns}
 use Rattle.crs.specs.Reference.{component, is_reference}
 use Rattle.observe.specs.Seen.{seen, seen_symbol}
@@ -53,18 +54,10 @@ one_pilot g d p some size seen =
         let e : x ≡ n * 66355200 = c ∙ ap (λ k. n * k) (omega (arith, a, b)) in
         record { least = omega (arith, e, h, low, some); most = omega (arith, e, h, up) }
 
-total_some : (n : ℕ) (f : ℕ → ℕ) → 0 < n → ((i : ℕ) → i < n → 1 ≤ f i) → 1 ≤ total_below n f
-unfolding total_below
-total_some zero f l h = absurd (omega arith)
-total_some (suc n) f l h = larger (total_below n f) (f n) (h n (omega arith))
-  where
-    larger : (a b : ℕ) → 1 ≤ b → 1 ≤ a + b
-    larger a b h = omega (arith, h)
-
 energy-near : (gain : Cpx) (slot : SeenSlot) → ArePilotsSeen gain slot → IsPilotEnergy (24 * square gain) (pilot_energy slot)
 unfolding pilot_energy
 energy-near gain slot seen = record {
-  least = total_some 24 (λ i. square (pilot_seen slot i)) (omega arith) (λ i l. (each i l).least);
+  least = total_some 24 0 (λ i. square (pilot_seen slot i)) (omega arith) (each 0 (omega arith)).least;
   most = sums (total_below 24 (λ i. square (pilot_seen slot i))) (square gain) (total_below-within 24 (101376000 * square gain) (λ i. square (pilot_seen slot i)) (λ i l. (each i l).most));
 }
   where

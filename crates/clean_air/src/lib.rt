@@ -8,9 +8,11 @@ mod peak;
 mod score;
 mod table;
 mod values;
+mod words;
 
 pub use budget::seen_amplitude_is_near;
 pub use peak::clean_primary_is_a_hit;
 pub use score::sent_pair_is_best;
 pub use table::table_is_nearly_multiplicative;
 pub use values::values_support_the_sent_bits;
+pub use words::spoken_word_is_the_least;
