@@ -11,3 +11,4 @@ pub mod Scores
 pub mod Estimates
 pub mod SoftValues
 pub mod SpokenWords
+pub mod Masters

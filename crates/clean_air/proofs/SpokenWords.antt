@@ -129,7 +129,7 @@ read_sum n values k t inside stream =
     ap (λ xs. get_or xs t (pos 0)) (values_below_at (λ k. values_below 3 (summed_at n values (length values) k)) n k [] inside)
     ∙ values_below_at (summed_at n values (length values) k) 3 t (pos 0) stream
 
-summed-length : (n : ℕ) (values : List ℤ) → length (summed n values) ≡ n
+pub summed-length : (n : ℕ) (values : List ℤ) → length (summed n values) ≡ n
 unfolding summed
 summed-length n values = values_below-length n (λ k. values_below 3 (summed_at n values (length values) k))
 

@@ -3,6 +3,7 @@
 //! body, whole, with its premises; it speaks of the receiver's definitions alone.
 #![tactic(auto)]
 
+mod broadcast;
 mod budget;
 mod peak;
 mod score;
@@ -10,6 +11,7 @@ mod table;
 mod values;
 mod words;
 
+pub use broadcast::sent_master_is_told;
 pub use budget::seen_amplitude_is_near;
 pub use peak::clean_primary_is_a_hit;
 pub use score::sent_pair_is_best;
