@@ -7,10 +7,10 @@ use Rattle.cs_num.specs.declared.Cpx.{Cpx}
 use Rattle.cs_num.specs.Complex.{IsWithin, plus, times, square}
 use Rattle.cs_num.specs.Rounding.{rounded}
 use Rattle.cs_num.specs.Sums.{complex_sum_below}
-use Rattle.cs_num.proofs.Complex.{pair, plus-associates}
+use Rattle.cs_num.proofs.Complex.{square-within, pair, plus-associates}
 use Rattle.sizes.specs.Sizes.{IsSized, minus, multiple, energy_below, correlation_below}
-use Rattle.sizes.proofs.Laws.{plus-minus, minus-plus, times-minus, times-multiple}
-use Rattle.sizes.proofs.Squares.{square-within, square-multiple}
+use Rattle.sizes.proofs.Algebra.{plus-minus, minus-plus, times-minus, times-multiple}
+use Rattle.sizes.proofs.Squares.{square-multiple}
 use Rattle.sizes.proofs.Sized.{sized_plain, sized-plus, sized_more}
 use Rattle.sizes.proofs.Cauchy.{cauchy, correlation_same, correlation_plus, correlation_times, correlation_multiple}
 use Rattle.sizes.proofs.Rounding.{rounded_near}

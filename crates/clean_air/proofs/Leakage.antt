@@ -11,7 +11,7 @@ use Rattle.finite.proofs.Ring as ring
 use Rattle.cs_num.proofs.Complex.{pair, times-plus}
 use Rattle.cs_num.proofs.Sums.{complex_sum_below_same, complex_sum_below_plus, complex_sum_below_swap}
 use Rattle.sizes.specs.Sizes.{IsSized, minus, multiple, correlation_below}
-use Rattle.sizes.proofs.Laws.{plus-minus, times-nothing, times-associates, sum-times, sum-multiple, sum_of_one, sum-times_right}
+use Rattle.sizes.proofs.Algebra.{plus-minus, times-nothing, times-associates, sum-times, sum-multiple, sum_of_one, sum-times_right}
 use Rattle.sizes.proofs.Sized.{sized_plain, sized-times, sized-sum}
 use Rattle.fold128.specs.Tables.{quarter, cosine, w_at}
 use Rattle.fold128.specs.Symbol.{frequency, useful_term}

@@ -12,3 +12,4 @@ pub mod Estimates
 pub mod SoftValues
 pub mod SpokenWords
 pub mod Masters
+pub mod Grids

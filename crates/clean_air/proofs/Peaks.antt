@@ -5,10 +5,10 @@ use Rattle.finite.proofs.Sums.{total_below-within}
 use Rattle.cs_num.specs.declared.Cpx.{Cpx}
 use Rattle.cs_num.specs.declared.Sample.{Sample}
 use Rattle.cs_num.specs.Complex.{plus, times, square, sample_at}
-use Rattle.cs_num.proofs.Complex.{plus-commutes}
+use Rattle.cs_num.proofs.Complex.{plus-commutes, square-within}
 use Rattle.sizes.specs.Sizes.{minus, energy_below, correlation_below}
-use Rattle.sizes.proofs.Laws.{plus-minus}
-use Rattle.sizes.proofs.Squares.{square-within, square-conjugate}
+use Rattle.sizes.proofs.Algebra.{plus-minus}
+use Rattle.sizes.proofs.Squares.{square-conjugate}
 use Rattle.sizes.proofs.Cauchy.{energy_same, energy_split, energy_part, correlation_same, correlation_split, correlation_swap}
 use Rattle.fold128.specs.Symbol.{useful_at}
 use Rattle.pss_search.specs.Correlation.{pss_grid, wave, wave_power, peak, energy}
@@ -27,11 +27,11 @@ unfolding error
 received_is g p r n = sym (plus-minus (r n) (times g (p n)))
 
 -- 128 samples are a gain times the signal p, and errors whose squares are at most 8 times the gain's
-record IsClean (g : Cpx) (p r : ℕ → Cpx) : Type 0 where
+record HasSmallErrors (g : Cpx) (p r : ℕ → Cpx) : Type 0 where
   pub some : 1 ≤ square g
   pub small : (n : ℕ) → n < 128 → square (error g p r n) ≤ 8 * square g
 
-clean_from : (eps n2 : ℕ) (g : Cpx) (r : ℕ → Cpx) → IsReceived eps g (pss_grid n2) r → IsClean g (wave n2) r
+clean_from : (eps n2 : ℕ) (g : Cpx) (r : ℕ → Cpx) → IsReceived eps g (pss_grid n2) r → HasSmallErrors g (wave n2) r
 unfolding error wave
 clean_from eps n2 g r received = record {
   some = received.sounds;
@@ -42,7 +42,7 @@ clean_from eps n2 g r received = record {
     bound s n h q = omega (arith, h, q)
 
 -- the energy of a part of the errors
-errors_small : (g : Cpx) (p r : ℕ → Cpx) → IsClean g p r → (a m : ℕ) → a + m ≤ 128 → energy_below m (λ k. error g p r (a + k)) ≤ 1024 * square g
+errors_small : (g : Cpx) (p r : ℕ → Cpx) → HasSmallErrors g p r → (a m : ℕ) → a + m ≤ 128 → energy_below m (λ k. error g p r (a + k)) ≤ 1024 * square g
 errors_small g p r clean a m l =
     sums (square g) (energy_below m (λ k. error g p r (a + k))) (total_below-within m (8 * square g) (λ k. square (error g p r (a + k))) (λ k b. clean.small (a + k) (omega arith)))
   where
@@ -64,7 +64,7 @@ rest_small : (a b w : ℕ) → w ≡ a + b → b ≤ w
 rest_small a b w e = omega (arith, e)
 
 -- the window that begins i + 1 samples later
-later : (g : Cpx) (p r x : ℕ → Cpx) (i : ℕ) → i < 9 → IsSharp p → IsClean g p r → ((n : ℕ) → x n ≡ r (i + 1 + n)) →
+later : (g : Cpx) (p r x : ℕ → Cpx) (i : ℕ) → i < 9 → IsSharp p → HasSmallErrors g p r → ((n : ℕ) → x n ≡ r (i + 1 + n)) →
     4 * square (correlation_below 128 x p) ≤ 3 * (energy_below 128 x * energy_below 128 p)
 later g p r x i l sharp clean moved =
     subst (λ (z : Cpx). 4 * square z ≤ 3 * (energy_below 128 x * w)) (sym whole)
@@ -108,7 +108,7 @@ later g p r x i l sharp clean moved =
         ∙ ap (λ n. n + energy_below d y) (energy_same m x (with_errors g q f) (λ n b. known n))
 
 -- the window that begins i + 1 samples earlier
-earlier : (g : Cpx) (p r x : ℕ → Cpx) (i : ℕ) → i < 9 → IsSharp p → IsClean g p r → ((n : ℕ) → x (i + 1 + n) ≡ r n) →
+earlier : (g : Cpx) (p r x : ℕ → Cpx) (i : ℕ) → i < 9 → IsSharp p → HasSmallErrors g p r → ((n : ℕ) → x (i + 1 + n) ≡ r n) →
     4 * square (correlation_below 128 x p) ≤ 3 * (energy_below 128 x * energy_below 128 p)
 earlier g p r x i l sharp clean moved =
     subst (λ (z : Cpx). 4 * square z ≤ 3 * (energy_below 128 x * w)) (sym whole)
@@ -162,7 +162,7 @@ earlier g p r x i l sharp clean moved =
 
 -- ---- in a recording
 
-near_low : (recording : List Sample) (t n2 : ℕ) (g : Cpx) → IsSharp (wave n2) → IsClean g (wave n2) (samples_from recording t) → (u : ℕ) → u ≢ t → u ≤ t + 9 → t ≤ u + 9 →
+near_low : (recording : List Sample) (t n2 : ℕ) (g : Cpx) → IsSharp (wave n2) → HasSmallErrors g (wave n2) (samples_from recording t) → (u : ℕ) → u ≢ t → u ≤ t + 9 → t ≤ u + 9 →
     4 * peak recording n2 u ≤ 3 * (energy recording u * wave_power n2)
 unfolding peak energy wave_power
 near_low recording t n2 g sharp clean u ne a b = elim (cases_lt t u) [
@@ -176,7 +176,7 @@ near_low recording t n2 g sharp clean u ne a b = elim (cases_lt t u) [
     place_before : (u t n : ℕ) → u ≤ t → u ≢ t → u + (t - u - 1 + 1 + n) ≡ t + n
     place_before u t n h ne = omega arith
 
-peaks_at : (recording : List Sample) (t n2 : ℕ) (g : Cpx) → IsSharp (wave n2) → IsClean g (wave n2) (samples_from recording t) →
+peaks_at : (recording : List Sample) (t n2 : ℕ) (g : Cpx) → IsSharp (wave n2) → HasSmallErrors g (wave n2) (samples_from recording t) →
     Peaks (peak recording n2 t) (energy recording t) (wave_power n2)
 unfolding peak energy wave_power
 peaks_at recording t n2 g sharp clean =

@@ -4,9 +4,9 @@ use Rattle.cs_num.specs.declared.Cpx.{Cpx}
 use Rattle.cs_num.specs.Complex.{IsWithin, nothing, plus, times, square}
 use Rattle.cs_num.proofs.Complex.{times-commutes}
 use Rattle.sizes.specs.Sizes.{IsSized, minus, multiple}
-use Rattle.sizes.proofs.Laws.{times-nothing, plus-nothing_right}
+use Rattle.sizes.proofs.Algebra.{times-nothing, plus-nothing_right}
 use Rattle.sizes.proofs.Squares.{square-times, square-multiple}
-use Rattle.sizes.proofs.Terms.{two_term_cauchy}
+use Rattle.sizes.proofs.TwoTerms.{two_term_cauchy}
 use Rattle.sizes.proofs.Sized.{sized-plus}
 use Rattle.fold128.specs.Symbol.{useful_at}
 use Rattle.observe.specs.Seen.{seen}

@@ -16,7 +16,7 @@ use Rattle.cs_num.specs.Complex.{IsWithin, nothing, plus, times, conjugate, squa
 use Rattle.cs_num.specs.Rounding.{clamped}
 use Rattle.sizes.specs.Sizes.{minus, multiple}
 use Rattle.sizes.proofs.Squares.{square-times, square-multiple}
-use Rattle.sizes.proofs.Terms.{weighted, weighted_term}
+use Rattle.sizes.proofs.TwoTerms.{weighted, weighted_term}
 use Rattle.sizes.proofs.Sums.{total_some}
 use Rattle.sizes.proofs.Products.{product_near, sign-turns}
 use Rattle.crs.specs.Reference.{component, is_reference}

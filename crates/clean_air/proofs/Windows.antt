@@ -3,9 +3,9 @@ use Rattle.std.proofs.Common.{◌≡◌, ℕ, ◌+◌, ◌*◌, ◌<◌, ◌≤�
 use Rattle.cs_num.specs.declared.Cpx.{Cpx}
 use Rattle.cs_num.specs.Complex.{plus, times, square}
 use Rattle.sizes.specs.Sizes.{multiple, energy_below, correlation_below}
-use Rattle.sizes.proofs.Laws.{multiple-plus}
+use Rattle.sizes.proofs.Algebra.{multiple-plus}
 use Rattle.sizes.proofs.Squares.{square-times, square-multiple}
-use Rattle.sizes.proofs.Terms.{two_term_cauchy, weighted}
+use Rattle.sizes.proofs.TwoTerms.{two_term_cauchy, weighted}
 use Rattle.sizes.proofs.Cauchy.{cauchy, energy_gain, energy_weighted_term, correlation_gain}
 use Rattle.sizes.proofs.Gram.{gram_le}
 
