@@ -12,9 +12,10 @@ use Rattle.sizes.proofs.Squares.{square-conjugate}
 use Rattle.sizes.proofs.Cauchy.{energy_same, energy_split, energy_part, correlation_same, correlation_split, correlation_swap}
 use Rattle.fold128.specs.Symbol.{useful_at}
 use Rattle.pss_search.specs.Correlation.{pss_grid, wave, wave_power, peak, energy}
-use Rattle.pss_search.specs.Hits.{IsAbove, IsLevel}
+use Rattle.pss_search.specs.Hits.{IsAbove, IsLevel, found}
+use Rattle.pss_search.proofs.Listed.{list_is_right}
 use Rattle.clean_air.specs.Received.{IsReceived, samples_from}
-use Rattle.clean_air.specs.Peak.{PrimaryStandsOut, PrimaryIsHit, NoneNearIsHit}
+use Rattle.clean_air.specs.Peak.{PrimaryStandsOut, PrimaryIsHit, PrimaryIsListed, NoneNearIsHit}
 use Rattle.clean_air.proofs.PeakSums.{IsSharp, overlap, wave_is_sharp}
 use Rattle.clean_air.proofs.Windows.{Peaks, with_errors, true_place, beside, above}
 
@@ -253,6 +254,14 @@ primary_is_hit recording t n2 primary low high =
   where
     same_or_not : (u t : ℕ) → (u ≡ t) ⊎ (u ≢ t)
     same_or_not u t = grind arith
+
+pub primary_is_listed : PrimaryIsListed
+primary_is_listed recording t n2 primary low high =
+    (list_is_right recording (found recording t n2)).1
+    (record { root = below primary.root; is_hit = primary_is_hit recording t n2 primary low high; measured = refl })
+  where
+    below : n2 ≤ 2 → n2 < 3
+    below h = omega arith
 
 pub none_near_is_hit : NoneNearIsHit
 none_near_is_hit recording t u n2 primary ne a b hit =

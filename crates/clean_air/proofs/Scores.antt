@@ -25,7 +25,7 @@ use Rattle.sync_seq.specs.Secondary.{sss_at, sss_list}
 use Rattle.sync_seq.proofs.SecondaryValues.{sss-size}
 use Rattle.sync_seq.proofs.Distinct.{secondary_tells}
 use Rattle.sss_detect.specs.Scores.{agreement, score}
-use Rattle.sss_detect.specs.Identity.{IsBefore, IsBest}
+use Rattle.sss_detect.specs.Identity.{IsBefore, IsBest, identity_of}
 use Rattle.sss_detect.proofs.Choices.{less, not_less, only_one_is_best}
 use Rattle.observe.specs.Seen.{seen}
 use Rattle.pss_search.specs.Correlation.{pss_grid}
@@ -251,7 +251,10 @@ pub sss_amplitudes : (n1 n2 : ℕ) (half : Half) → AreAmplitudes (sss_grid n1 
 sss_amplitudes n1 n2 half k l = in_middle (sss_amplitude n1 n2 half) k (amplitude_small n1 n2 half)
 
 pub sent_pair_is_identified : SentPairIsIdentified
-sent_pair_is_identified recording t n1 n2 half both =
+unfolding identity_of
+sent_pair_is_identified recording hit n1 half both =
+    let t : ℕ = hit.t in
+    let n2 : ℕ = hit.n2 in
     sent_pair_is_best both.gain n1 n2 half (seen recording t) (seen recording (t - 137)) (record {
       group = both.group;
       root = both.root;

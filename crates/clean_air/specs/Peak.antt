@@ -1,9 +1,10 @@
 -- How a clean primary synchronisation signal stands out of a recording. (own; the signal is that of TS 36.211 section 6.11.1)
 use Rattle.std.specs.Prelude.{◌≢◌, ℕ, ◌+◌, ◌*◌, ◌<◌, ◌≤◌, List}
+use Rattle.std.specs.List.{Contains}
 use Rattle.cs_num.specs.declared.Cpx.{Cpx}
 use Rattle.cs_num.specs.declared.Sample.{Sample}
 use Rattle.pss_search.specs.Correlation.{pss_grid, peak, energy, wave_power}
-use Rattle.pss_search.specs.Hits.{IsAbove, IsHit}
+use Rattle.pss_search.specs.Hits.{IsAbove, IsHit, found, hits_of}
 use Rattle.clean_air.specs.Received.{IsReceived, samples_from}
 
 -- the 128 samples from t on are the primary signal of n2 times a gain, with errors; what stands around them may be anything
@@ -27,6 +28,10 @@ PrimaryStandsOut = (recording : List Sample) (t n2 : ℕ) → IsPrimaryAt record
 abbrev pub PrimaryIsHit : Type 0
 PrimaryIsHit = (recording : List Sample) (t n2 : ℕ) → IsPrimaryAt recording t n2 → 137 ≤ t → t ≤ 19336 → IsHit recording t n2
 
--- and no place near it is, wherever it stands
+-- and it is listed
+abbrev pub PrimaryIsListed : Type 0
+PrimaryIsListed = (recording : List Sample) (t n2 : ℕ) → IsPrimaryAt recording t n2 → 137 ≤ t → t ≤ 19336 → Contains (hits_of recording) (found recording t n2)
+
+-- and no place near it is a hit, wherever it stands
 abbrev pub NoneNearIsHit : Type 0
 NoneNearIsHit = (recording : List Sample) (t u n2 : ℕ) → IsPrimaryAt recording t n2 → u ≢ t → u ≤ t + 9 → t ≤ u + 9 → ¬ IsHit recording u n2

@@ -33,10 +33,11 @@ pub record IsReceivedFromTwo (eps : ℕ) (gain other : Cpx) (grid grid_too sampl
 abbrev pub samples_from : List Sample → ℕ → ℕ → Cpx
 samples_from recording start n = sample_at recording (start + n)
 
--- what is seen of an amplitude is 64 times the gain times the amplitude, up to 30 times 64 times the gain's size
+-- what is seen of an amplitude is 64 times the gain times the amplitude, off by at most 1920 times the gain's size, which are 30
+-- units of amplitude
 pub record IsSeenAs (gain amplitude seen : Cpx) : Type 0 where
   pub off : square (minus seen (multiple 64 (times gain amplitude))) ≤ 1920 * 1920 * square gain
 
--- the same of two amplitudes with a gain each, up to 16 times 64 times the root of the sum of the gains' squares
+-- the same of two amplitudes with a gain each, off by at most 1024 times the root of the sum of the gains' squares: 16 units
 pub record IsSeenAsTwo (gain other amplitude amplitude_too seen : Cpx) : Type 0 where
   pub off : square (minus seen (multiple 64 (plus (times gain amplitude) (times other amplitude_too)))) ≤ 1024 * 1024 * (square gain + square other)

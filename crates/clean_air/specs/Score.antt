@@ -9,8 +9,8 @@ use Rattle.sync_seq.specs.Primary.{pss_at}
 use Rattle.sync_seq.specs.Secondary.{sss_at}
 use Rattle.pss_search.specs.Correlation.{pss_grid}
 use Rattle.sss_detect.specs.Scores.{agreement, score}
-use Rattle.sss_detect.specs.Identity.{best_pair}
-use Rattle.observe.specs.Seen.{seen}
+use Rattle.lte_types.specs.declared.hit.Hit.{Hit}
+use Rattle.sss_detect.specs.Identity.{best_pair, identity_of}
 use Rattle.clean_air.specs.Received.{IsReceived, IsSeenAs, samples_from}
 
 -- the amplitude of value n of a secondary sequence: 127 or -127
@@ -55,6 +55,7 @@ pub record AreSynchronisation (recording : List Sample) (t n1 n2 : ℕ) (half : 
   pub primary : IsReceived eps gain (pss_grid n2) (samples_from recording t)
   pub secondary : IsReceived eps gain (sss_grid n1 n2 half) (samples_from recording (t - 137))
 
+-- the sent pair is what is identified by a hit there
 abbrev pub SentPairIsIdentified : Type 0
 SentPairIsIdentified =
-    (recording : List Sample) (t n1 n2 : ℕ) (half : Half) → AreSynchronisation recording t n1 n2 half → best_pair (score (seen recording t) (seen recording (t - 137)) n2) ≡ (n1, half)
+    (recording : List Sample) (hit : Hit) (n1 : ℕ) (half : Half) → AreSynchronisation recording hit.t n1 hit.n2 half → identity_of recording hit ≡ (n1, half)

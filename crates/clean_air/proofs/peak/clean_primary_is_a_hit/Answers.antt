@@ -1,4 +1,4 @@
-use Rattle.clean_air.proofs.Peaks.{primary_stands_out, primary_is_hit, none_near_is_hit}
+use Rattle.clean_air.proofs.Peaks.{primary_stands_out, primary_is_hit, primary_is_listed, none_near_is_hit}
 use Rattle.clean_air.proofs.peak.clean_primary_is_a_hit.Goals as goal
 
 pub returns-clause-stands_out : goal.returns-clause-stands_out
@@ -9,3 +9,6 @@ returns-clause-hit c = primary_is_hit
 
 pub returns-clause-alone : goal.returns-clause-alone
 returns-clause-alone c = none_near_is_hit
+
+pub returns-clause-listed : goal.returns-clause-listed
+returns-clause-listed c = primary_is_listed
