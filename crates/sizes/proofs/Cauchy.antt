@@ -7,9 +7,9 @@ use Rattle.cs_num.specs.Complex.{plus, times, conjugate, square}
 use Rattle.cs_num.proofs.Complex.{times-commutes}
 use Rattle.cs_num.proofs.Sums.{complex_sum_below_same, complex_sum_below_plus, complex_sum_below_split}
 use Rattle.sizes.specs.Sizes.{multiple, energy_below, correlation_below}
-use Rattle.sizes.proofs.Laws.{conjugate-plus, conjugate-times, conjugate_twice, sum-times, sum-multiple, times-plus_left, times-associates, multiple-times}
+use Rattle.sizes.proofs.Algebra.{conjugate-plus, conjugate-times, conjugate_twice, sum-times, sum-multiple, times-plus_left, times-associates, multiple-times}
 use Rattle.sizes.proofs.Squares.{square-times, square-conjugate}
-use Rattle.sizes.proofs.Terms.{two_term_cauchy, weighted, weighted_term}
+use Rattle.sizes.proofs.TwoTerms.{two_term_cauchy, weighted, weighted_term}
 
 same_le : (a b : ℕ) → a ≡ b → a ≤ b
 same_le a b e = omega (arith, e)

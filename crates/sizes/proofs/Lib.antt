@@ -1,7 +1,7 @@
 pub mod Naturals
-pub mod Laws
+pub mod Algebra
 pub mod Squares
-pub mod Terms
+pub mod TwoTerms
 pub mod Sized
 pub mod Cauchy
 pub mod Gram

@@ -6,7 +6,7 @@ use Rattle.cs_num.specs.Complex.{plus, times, conjugate, square}
 use Rattle.cs_num.specs.Sums.{complex_sum_below}
 use Rattle.sizes.specs.Sizes.{IsSized}
 use Rattle.sizes.proofs.Squares.{square-times, square-conjugate, re-le, im-le}
-use Rattle.sizes.proofs.Terms.{two_term_cauchy}
+use Rattle.sizes.proofs.TwoTerms.{two_term_cauchy}
 
 sums : (a b n s : ℕ) → s ≤ (a + b) * (a * n + b * n) → s ≤ (a + b) * (a + b) * n
 sums a b n s h = omega (arith, h)

@@ -1,11 +1,11 @@
 -- Squares of sums and products of complex numbers.
-use Rattle.std.proofs.Common.{◌≡◌, ℕ, ◌+◌, ◌*◌, ◌≤◌, ℤ, pos, negsuc, ◌+ℤ◌, ◌-ℤ◌, ◌*ℤ◌, neg_ℤ, unsigned_abs, refl, sym, ◌∙◌, arith, mul-le-mul}
+use Rattle.std.proofs.Common.{◌≡◌, ℕ, ◌+◌, ◌*◌, ◌≤◌, ℤ, pos, negsuc, ◌+ℤ◌, ◌-ℤ◌, ◌*ℤ◌, neg_ℤ, unsigned_abs, refl, sym, ◌∙◌, arith}
 use Rattle.std.proofs.lemmas.Int.{ints, unsigned_abs-mul}
 use borrow.Author.Differences.{same_out, sum_is_lem}
 use Rattle.finite.proofs.Ring.{Is, var, lit, same}
 use Rattle.finite.proofs.Ring as ring
 use Rattle.cs_num.specs.declared.Cpx.{Cpx}
-use Rattle.cs_num.specs.Complex.{IsWithin, plus, times, conjugate, square}
+use Rattle.cs_num.specs.Complex.{plus, times, conjugate, square}
 use Rattle.cs_num.proofs.Complex.{pair}
 use Rattle.sizes.specs.Sizes.{inner, real, multiple}
 use Rattle.sizes.proofs.Naturals.{root-le}
@@ -47,13 +47,6 @@ abs-negative a = omega (arith, ints)
 
 pub square-conjugate : (y : Cpx) → square (conjugate y) ≡ square y
 square-conjugate y = rw (abs-negative y.im) refl
-
--- a bound of both components bounds the square
-pub square-within : (z : Cpx) (m : ℕ) → IsWithin m z → square z ≤ 2 * (m * m)
-square-within z m h = sums (unsigned_abs z.re * unsigned_abs z.re) (unsigned_abs z.im * unsigned_abs z.im) (m * m) (mul-le-mul h.re h.re) (mul-le-mul h.im h.im)
-  where
-    sums : (a b c : ℕ) → a ≤ c → b ≤ c → a + b ≤ 2 * c
-    sums a b c p q = omega arith
 
 -- a component is at most what bounds the size
 pub re-le : (z : Cpx) (m : ℕ) → square z ≤ m * m → unsigned_abs z.re ≤ m

@@ -1,0 +1,32 @@
+-- What is seen, as its main part and a deviation in units of the gain.
+use Rattle.std.proofs.Common.{◌≡◌, ◌*◌, ap, sym, ◌∙◌, pos}
+use Rattle.cs_num.specs.declared.Cpx.{Cpx}
+use Rattle.cs_num.specs.Complex.{plus, times, conjugate, square}
+use Rattle.sizes.specs.Sizes.{IsSized, minus, multiple}
+use Rattle.sizes.proofs.Algebra.{plus-minus, times-plus_left, times-associates, times-multiple, multiple-times, times_real, multiple_twice}
+use Rattle.sizes.proofs.Squares.{times_conjugate}
+use Rattle.clean_air.specs.Received.{IsSeenAs}
+
+unfoldable pub deviation : Cpx → Cpx → Cpx → Cpx
+deviation gain amplitude seen = minus seen (multiple 64 (times gain amplitude))
+
+pub seen_is : (gain amplitude seen : Cpx) → seen ≡ plus (times gain (multiple 64 amplitude)) (deviation gain amplitude seen)
+unfolding deviation
+seen_is gain amplitude seen =
+    sym (plus-minus seen (multiple 64 (times gain amplitude)))
+    ∙ ap (λ (z : Cpx). plus z (minus seen (multiple 64 (times gain amplitude)))) (sym (times-multiple 64 gain amplitude))
+
+pub deviation-sized : (gain amplitude seen : Cpx) → IsSeenAs gain amplitude seen → IsSized 1920 (square gain) (deviation gain amplitude seen)
+unfolding deviation
+deviation-sized gain amplitude seen is = record { sized = is.off }
+
+-- what is seen of a known amplitude d, turned back by it, is 64 |d|^2 times the gain up to a deviation
+pub channel_is : (g d p : Cpx) → times p (conjugate d) ≡ plus (multiple (64 * square d) g) (times (deviation g d p) (conjugate d))
+channel_is g d p =
+    ap (λ (z : Cpx). times z (conjugate d)) (seen_is g d p) ∙ times-plus_left (times g (multiple 64 d)) (deviation g d p) (conjugate d)
+    ∙ ap (λ (z : Cpx). plus z (times (deviation g d p) (conjugate d))) main
+  where
+    main : times (times g (multiple 64 d)) (conjugate d) ≡ multiple (64 * square d) g
+    main =
+        times-associates g (multiple 64 d) (conjugate d) ∙ ap (times g) (multiple-times 64 d (conjugate d) ∙ ap (multiple 64) (times_conjugate d))
+        ∙ times-multiple 64 g (record { re = pos (square d); im = pos 0 }) ∙ ap (multiple 64) (times_real (square d) g) ∙ multiple_twice 64 (square d) g

@@ -1,0 +1,17 @@
+-- What is received of a grid is received of every grid with the same amplitudes.
+use Rattle.std.proofs.Common.{◌≡◌, ℕ, ◌<◌, ◌≤◌, ◌*◌, subst}
+use Rattle.cs_num.specs.declared.Cpx.{Cpx}
+use Rattle.cs_num.specs.Complex.{IsWithin, times, square}
+use Rattle.sizes.specs.Sizes.{minus}
+use Rattle.fold128.proofs.Samples.{useful_same}
+use Rattle.clean_air.specs.Received.{AreAmplitudes, IsReceived}
+
+pub received_same : (eps : ℕ) (gain : Cpx) (grid other samples : ℕ → Cpx) → ((k : ℕ) → k < 72 → grid k ≡ other k) → IsReceived eps gain grid samples → IsReceived eps gain other samples
+received_same eps gain grid other samples same received = record {
+  sounds = received.sounds;
+  quiet = received.quiet;
+  near = λ n l. subst (λ (z : Cpx). IsWithin eps (minus (samples n) (times gain z))) (useful_same grid other n same) (received.near n l);
+}
+
+pub amplitudes_same : (grid other : ℕ → Cpx) → ((k : ℕ) → k < 72 → grid k ≡ other k) → AreAmplitudes grid → AreAmplitudes other
+amplitudes_same grid other same small k l = subst (λ (z : Cpx). square z ≤ 128 * 128) (same k l) (small k l)

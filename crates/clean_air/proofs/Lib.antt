@@ -1,0 +1,15 @@
+pub mod Products
+pub mod Leakage
+pub mod Causes
+pub mod Seen
+pub mod Waves
+pub mod PeakSums
+pub mod Windows
+pub mod Peaks
+pub mod Deviations
+pub mod Scores
+pub mod Estimates
+pub mod SoftValues
+pub mod SpokenWords
+pub mod Masters
+pub mod Grids

@@ -1,0 +1,206 @@
+-- The soft values of a clean slot: a component of a place turned back outweighs the energy of the pilots.
+use Rattle.std.proofs.Common.{◌≡◌, ℕ, zero, suc, ◌+◌, ◌*◌, ◌/◌, ◌<◌, ◌≤◌, min, arith, refl, ap, ap₂, sym, ◌∙◌, subst, Bool, true, false, nat_eq, inl, inr, List, ℤ, pos, negsuc, neg_ℤ, ◌-ℤ◌, ◌*ℤ◌, ◌≤ℤ◌, int_div, unsigned_abs}
+use Rattle.std.specs.Prelude.{if◌then◌else◌}
+use Rattle.std.proofs.lemmas.Int.{ints}
+use Rattle.std.proofs.lemmas.Bool.{cases_lt}
+use Rattle.std.proofs.lemmas.Bool.Decides.{nat_tests}
+use Rattle.std.proofs.Math.Nat.{div-lt_iff_lt-mul}
+use Rattle.finite.specs.Sums.{total_below}
+use Rattle.finite.proofs.Sums.{total_below-within}
+use Rattle.finite.proofs.Lists.{values_below_at}
+use Rattle.finite.proofs.Ring.{var, lit, same}
+use Rattle.finite.proofs.Ring as ring
+use Rattle.cs_num.specs.declared.Cpx.{Cpx}
+use Rattle.cs_num.specs.declared.Sample.{Sample}
+use Rattle.cs_num.specs.Complex.{IsWithin, nothing, plus, times, conjugate, square, value_at}
+use Rattle.cs_num.specs.Rounding.{clamped}
+use Rattle.sizes.specs.Sizes.{minus, multiple}
+use Rattle.sizes.proofs.Squares.{square-times, square-multiple}
+use Rattle.sizes.proofs.TwoTerms.{weighted, weighted_term}
+use Rattle.sizes.proofs.Sums.{total_some}
+use Rattle.sizes.proofs.Products.{product_near, sign-turns}
+use Rattle.crs.specs.Reference.{component, is_reference}
+use Rattle.observe.specs.Seen.{seen, seen_symbol}
+use Rattle.soft_bits.specs.Soft.{SeenSlot, seen_at, pilot_symbol, pilot_subcarrier, pilot_seen, pilot_sent, pilot_energy, channel, turned_back, soft_value, soft_values}
+use Rattle.clean_air.specs.Received.{IsSeenAs}
+use Rattle.clean_air.specs.Values.{Supports, point, ArePilotsSeen, IsSlotReceived, ValuesSupportBits, ReceivedValuesSupportBits}
+use Rattle.clean_air.proofs.Deviations.{deviation, seen_is, deviation-sized}
+use Rattle.clean_air.proofs.Estimates.{IsNearGain, sent-size, channel-near}
+use Rattle.clean_air.proofs.Seen.{amplitude_is_seen_in_recording}
+
+-- ---- the energy of the pilots
+
+-- the square of a pilot is near 4096 * 16200 times the gain's
+record IsPilotEnergy (n e : ℕ) : Type 0 where
+  pub least : 1 ≤ e
+  pub most : e ≤ 101376000 * n
+
+one_pilot : (g d p : Cpx) → 1 ≤ square g → square d ≡ 16200 → IsSeenAs g d p → IsPilotEnergy (square g) (square p)
+one_pilot g d p some size seen =
+    subst (λ (z : Cpx). IsPilotEnergy (square g) (square z)) (sym (seen_is g d p))
+    (numbers (square g) (square d) (square m) (square x) (square v) (square (plus x v)) some size (square-multiple 64 d) (square-times g m) (deviation-sized g d p seen).sized (weighted 4 x v) (weighted_term 1 x v))
+  where
+    m : Cpx
+    m = multiple 64 d
+
+    x : Cpx
+    x = times g m
+
+    v : Cpx
+    v = deviation g d p
+
+    numbers : (n w m x v s : ℕ) → 1 ≤ n → w ≡ 16200 → m ≡ 64 * 64 * w → x ≡ n * m → v ≤ 1920 * 1920 * n → 4 * s ≤ (4 + 1) * x + 4 * (4 + 1) * v → 1 * x ≤ (1 + 1) * s + 1 * (1 + 1) * v → IsPilotEnergy n s
+    numbers n w m x v s some a b c h up low =
+        let e : x ≡ n * 66355200 = c ∙ ap (λ k. n * k) (omega (arith, a, b)) in
+        record { least = omega (arith, e, h, low, some); most = omega (arith, e, h, up) }
+
+energy-near : (gain : Cpx) (slot : SeenSlot) → ArePilotsSeen gain slot → IsPilotEnergy (24 * square gain) (pilot_energy slot)
+unfolding pilot_energy
+energy-near gain slot seen = record {
+  least = total_some 24 0 (λ i. square (pilot_seen slot i)) (omega arith) (each 0 (omega arith)).least;
+  most = sums (total_below 24 (λ i. square (pilot_seen slot i))) (square gain) (total_below-within 24 (101376000 * square gain) (λ i. square (pilot_seen slot i)) (λ i l. (each i l).most));
+}
+  where
+    each : (i : ℕ) → i < 24 → IsPilotEnergy (square gain) (square (pilot_seen slot i))
+    each i l = one_pilot gain (pilot_sent slot.identity slot.number i) (pilot_seen slot i) seen.sounds (sent-size slot.identity slot.number i) (seen.pilot i l)
+
+    sums : (e n : ℕ) → e ≤ 24 * (101376000 * n) → e ≤ 101376000 * (24 * n)
+    sums e n h = omega (arith, h)
+
+-- ---- a component
+
+-- the sign of a bit
+abbrev sign : Bool → ℤ
+sign false = pos 1
+sign true = negsuc 0
+
+sign-unit : (bit : Bool) → unsigned_abs (sign bit) ≡ 1
+sign-unit false = refl
+sign-unit true = refl
+
+component_is : (bit : Bool) → component bit ≡ pos 90 *ℤ sign bit
+component_is false = refl
+component_is true = refl
+
+point-small : (first second : Bool) → square (multiple 64 (point first second)) ≤ 8192 * 8192
+point-small false false = omega arith
+point-small false true = omega arith
+point-small true false = omega arith
+point-small true true = omega arith
+
+regrouped : (x s : ℤ) → x *ℤ (pos 64 *ℤ (pos 90 *ℤ s)) ≡ x *ℤ pos 5760 *ℤ s
+regrouped x s = same (ring.times (var x) (ring.times (lit 64) (ring.times (lit 90) (var s)))) (ring.times (ring.times (var x) (lit 5760)) (var s)) (omega arith)
+
+-- six times the component is eight times the energy and more
+outweighs : (v : ℤ) (n q : ℕ) → q ≤ 101376000 * (24 * n) → unsigned_abs (v -ℤ pos (3110400 * n) *ℤ pos 5760) ≤ (8192 * 737280 + 1920 * (3110400 + 737280)) * n → pos (8 * q) ≤ℤ (pos 6 *ℤ v)
+outweighs v n q most h = omega (arith, ints)
+
+signed_component : (bit : Bool) (z : ℤ) (n q : ℕ) → q ≤ 101376000 * (24 * n) →
+    unsigned_abs (z -ℤ pos (3110400 * n) *ℤ (pos 64 *ℤ component bit)) ≤ (8192 * 737280 + 1920 * (3110400 + 737280)) * n → pos (8 * q) ≤ℤ (pos 6 *ℤ (sign bit *ℤ z))
+signed_component bit z n q most h =
+    outweighs (sign bit *ℤ z) n q most
+    (sign-turns (sign bit) z (pos (3110400 * n) *ℤ pos 5760) _ (sign-unit bit)
+    (subst (λ x. unsigned_abs (z -ℤ x) ≤ (8192 * 737280 + 1920 * (3110400 + 737280)) * n) (ap (λ c. pos (3110400 * n) *ℤ (pos 64 *ℤ c)) (component_is bit) ∙ regrouped (pos (3110400 * n)) (sign bit)) h))
+
+-- ---- a value
+
+quotient-least : (a q : ℕ) → 0 < q → 8 * q ≤ a → 8 ≤ a / q
+quotient-least a q some h = elim (cases_lt (a / q) 8) [
+  | inl less ↦ absurd (let k : a < 8 * q = (div-lt_iff_lt-mul some).0 less in omega (arith, h, k))
+  | inr enough ↦ enough
+]
+
+clamped_high : (x : ℤ) (q : ℕ) → 0 < q → pos (8 * q) ≤ℤ x → pos 8 ≤ℤ clamped (int_div x (pos q)) 127
+clamped_high (pos a) q some h = let k = quotient-least a q some (omega (arith, ints)) in omega (arith, ints, k)
+clamped_high (negsuc a) q some h = absurd (omega (arith, ints))
+
+clamped_negative : (m : ℕ) → 8 ≤ m → clamped (neg_ℤ (pos m)) 127 ≤ℤ neg_ℤ (pos 8)
+clamped_negative zero h = absurd (omega arith)
+clamped_negative (suc m) h = least (min (m + 1) 127) (omega arith)
+  where
+    least : (k : ℕ) → 8 ≤ k → neg_ℤ (pos k) ≤ℤ neg_ℤ (pos 8)
+    least k l = omega (arith, ints)
+
+clamped_low : (x : ℤ) (q : ℕ) → 0 < q → x ≤ℤ neg_ℤ (pos (8 * q)) → clamped (int_div x (pos q)) 127 ≤ℤ neg_ℤ (pos 8)
+clamped_low (pos a) q some h = absurd (omega (arith, ints))
+clamped_low (negsuc a) q some h = clamped_negative (suc a / q) (quotient-least (suc a) q some (omega (arith, ints)))
+
+value_is : (c : ℤ) (q : ℕ) → 1 ≤ q → soft_value c q ≡ clamped (int_div (pos 6 *ℤ c) (pos q)) 127
+value_is c q some = let e : nat_eq q 0 ≡ false = grind (arith, nat_tests) in rw e refl
+
+supports : (bit : Bool) (c : ℤ) (q : ℕ) → 1 ≤ q → pos (8 * q) ≤ℤ (pos 6 *ℤ (sign bit *ℤ c)) → Supports 8 bit (soft_value c q)
+supports false c q some h = subst (λ v. pos 8 ≤ℤ v) (sym (value_is c q some)) (clamped_high (pos 6 *ℤ c) q some (subst (λ v. pos (8 * q) ≤ℤ (pos 6 *ℤ v)) (plain c) h))
+  where
+    plain : (c : ℤ) → pos 1 *ℤ c ≡ c
+    plain c = same (ring.times (lit 1) (var c)) (var c) (omega arith)
+supports true c q some h = subst (λ v. v ≤ℤ neg_ℤ (pos 8)) (sym (value_is c q some)) (clamped_low (pos 6 *ℤ c) q some (turned (pos 6 *ℤ c) (8 * q) (subst (λ v. pos (8 * q) ≤ℤ v) (opposite c) h)))
+  where
+    opposite : (c : ℤ) → pos 6 *ℤ (negsuc 0 *ℤ c) ≡ neg_ℤ (pos 6 *ℤ c)
+    opposite c = same (ring.times (lit 6) (ring.times (ring.minus_one (lit 1)) (var c))) (ring.minus_one (ring.times (lit 6) (var c))) (omega arith)
+
+    turned : (x : ℤ) (k : ℕ) → pos k ≤ℤ neg_ℤ x → x ≤ℤ neg_ℤ (pos k)
+    turned x k h = omega (arith, ints)
+
+-- ---- a place
+
+pub values_support_bits : ValuesSupportBits
+unfolding soft_values
+values_support_bits gain slot symbol k first second seen here =
+    record {
+      re = supports first t.re q energy.least (signed_component first t.re (square gain) q energy.most near.re);
+      im = supports second t.im q energy.least (signed_component second t.im (square gain) q energy.most near.im);
+    }
+  where
+    t : Cpx
+    t = turned_back slot symbol k
+
+    q : ℕ
+    q = pilot_energy slot
+
+    a : Cpx
+    a = point first second
+
+    energy : IsPilotEnergy (24 * square gain) (pilot_energy slot)
+    energy = energy-near gain slot seen
+
+    estimate : IsNearGain gain 3110400 737280 (channel slot k)
+    estimate = channel-near gain slot k seen
+
+    near : IsWithin ((8192 * 737280 + 1920 * (3110400 + 737280)) * square gain) (minus (turned_back slot symbol k) (multiple (3110400 * square gain) (multiple 64 (point first second))))
+    near = subst (λ (z : Cpx). IsWithin ((8192 * 737280 + 1920 * (3110400 + 737280)) * square gain) (minus z (multiple (3110400 * square gain) (multiple 64 a))))
+        (ap₂ (λ (x y : Cpx). times x (conjugate y)) (sym (seen_is gain a (seen_at slot symbol k))) (sym estimate.is))
+        (product_near gain (multiple 64 a) (deviation gain a (seen_at slot symbol k)) estimate.off 3110400 8192 1920 737280 (point-small first second)
+        (deviation-sized gain a (seen_at slot symbol k) here) estimate.small)
+
+-- ---- in a recording
+
+read_symbol : (recording : List Sample) (start k : ℕ) → k < 72 → value_at (seen_symbol recording start) k ≡ seen recording start k
+unfolding seen_symbol
+read_symbol recording start k l = values_below_at (seen recording start) 72 k nothing l
+
+place_seen : (recording : List Sample) (starts : ℕ → ℕ) (grids : ℕ → ℕ → Cpx) (slot : SeenSlot) (slot_is : IsSlotReceived recording starts grids slot) (symbol k : ℕ) → symbol < 7 → k < 72 →
+    IsSeenAs slot_is.gain (grids symbol k) (seen_at slot symbol k)
+place_seen recording starts grids slot is symbol k few inside =
+    subst (λ (z : Cpx). IsSeenAs is.gain (grids symbol k) z) (sym (ap (λ (xs : List Cpx). value_at xs k) (is.seen symbol few) ∙ read_symbol recording (starts symbol) k inside))
+    (amplitude_is_seen_in_recording is.eps is.gain (grids symbol) recording (starts symbol) k (is.amplitudes symbol few) (is.received symbol few) inside)
+
+pilot_symbol-few : (identity i : ℕ) → pilot_symbol identity i < 7
+unfolding pilot_symbol
+pilot_symbol-few identity i = few (is_reference identity 0 (pilot_subcarrier identity i))
+  where
+    few : (b : Bool) → (if b then 0 else 4) < 7
+    few true = omega arith
+    few false = omega arith
+
+pilots_seen : (recording : List Sample) (starts : ℕ → ℕ) (grids : ℕ → ℕ → Cpx) (slot : SeenSlot) (slot_is : IsSlotReceived recording starts grids slot) → ArePilotsSeen slot_is.gain slot
+unfolding pilot_seen
+pilots_seen recording starts grids slot is = record {
+  sounds = (is.received 0 (omega arith)).sounds;
+  pilot = λ i l. subst (λ (z : Cpx). IsSeenAs is.gain z (seen_at slot (pilot_symbol slot.identity i) (pilot_subcarrier slot.identity i))) (is.references i l)
+      (place_seen recording starts grids slot is (pilot_symbol slot.identity i) (pilot_subcarrier slot.identity i) (pilot_symbol-few slot.identity i) (omega arith));
+}
+
+pub received_values_support_bits : ReceivedValuesSupportBits
+received_values_support_bits recording starts grids slot symbol k first second is few inside same =
+    values_support_bits is.gain slot symbol k first second (pilots_seen recording starts grids slot is)
+    (subst (λ (z : Cpx). IsSeenAs is.gain z (seen_at slot symbol k)) same (place_seen recording starts grids slot is symbol k few inside))

@@ -1,0 +1,218 @@
+-- Where all values speak for the coded bits of one word, that word costs nothing and every other word costs something.
+use Rattle.std.proofs.Common.{◌≡◌, ℕ, zero, suc, ◌+◌, ◌*◌, ◌<◌, ◌≤◌, inl, inr, arith, refl, ap, ap₂, sym, ◌∙◌, subst, Bool, true, false, nat_eq, cond, List, [], length, get_or, ℤ, pos, negsuc, ◌+ℤ◌, ◌≤ℤ◌}
+use Rattle.std.specs.Prelude.{◌&&◌}
+use Rattle.std.proofs.lemmas.Int.{ints}
+use Rattle.std.proofs.lemmas.Bool.{cases_lt, and_parts, eqb-true, eq-eqb}
+use Rattle.finite.specs.Sums.{sum_below, total_below}
+use Rattle.finite.specs.Lists.{values_below}
+use Rattle.finite.proofs.Lists.{values_below_at, values_below_same, values_below-length}
+use Rattle.sizes.proofs.Sums.{total_zero, terms_zero}
+use Rattle.paths.specs.Words.{IsBefore}
+use Rattle.paths.proofs.Words.{number-before}
+use Rattle.conv_code.specs.Code.{coded, coded_bits, coded_word, taps_0, taps_1, taps_2}
+use Rattle.conv_code.specs.Reading.{Place, bit_at_place, place_of, is_at, summed_at, summed}
+use Rattle.conv_code.specs.Cost.{disagreement, place_cost, word_cost}
+use Rattle.conv_code.proofs.OneToOne.{one_to_one}
+use Rattle.conv_code.proofs.Places.{permuting}
+use Rattle.tailbite.specs.Clean.{SpeaksFor, Speaks}
+use Rattle.clean_air.specs.Values.{Supports}
+use Rattle.clean_air.specs.Words.{FourSpeakTogether, DescramblingKeeps, SpeakInOrder, SumsSpeak, SpokenWordIsOnly}
+
+-- ---- single values
+
+pub four_speak_together : FourSpeakTogether
+four_speak_together least false a b c d p q r s = omega (arith, ints)
+four_speak_together least true a b c d p q r s = omega (arith, ints)
+
+pub descrambling_keeps : DescramblingKeeps
+descrambling_keeps least false false value h = h
+descrambling_keeps least true false value h = h
+descrambling_keeps least false true value h = omega (arith, ints)
+descrambling_keeps least true true value h = omega (arith, ints)
+
+speaks_for : (bit : Bool) (z : ℤ) → Supports 1 bit z → SpeaksFor z bit
+speaks_for false (pos n) h = record { free = refl; dear = omega (arith, ints) }
+speaks_for false (negsuc n) h = absurd (omega (arith, ints))
+speaks_for true (pos n) h = absurd (omega (arith, ints))
+speaks_for true (negsuc n) h = record { free = refl; dear = omega arith }
+
+-- ---- sums
+
+-- a value does not speak against a bit
+abbrev Allows : Bool → ℤ → Type 0
+Allows false z = pos 0 ≤ℤ z
+Allows true z = z ≤ℤ pos 0
+
+allows_nothing : (bit : Bool) → Allows bit (pos 0)
+allows_nothing false = omega (arith, ints)
+allows_nothing true = omega (arith, ints)
+
+allows : (bit : Bool) (z : ℤ) → Supports 1 bit z → Allows bit z
+allows false z h = omega (arith, ints)
+allows true z h = omega (arith, ints)
+
+allows-plus : (bit : Bool) (a b : ℤ) → Allows bit a → Allows bit b → Allows bit (a +ℤ b)
+allows-plus false a b p q = omega (arith, ints)
+allows-plus true a b p q = omega (arith, ints)
+
+supports-first : (bit : Bool) (a b : ℤ) → Supports 1 bit a → Allows bit b → Supports 1 bit (a +ℤ b)
+supports-first false a b p q = omega (arith, ints)
+supports-first true a b p q = omega (arith, ints)
+
+supports-second : (bit : Bool) (a b : ℤ) → Allows bit a → Supports 1 bit b → Supports 1 bit (a +ℤ b)
+supports-second false a b p q = omega (arith, ints)
+supports-second true a b p q = omega (arith, ints)
+
+sum-allows : (bit : Bool) (n : ℕ) (f : ℕ → ℤ) → ((k : ℕ) → k < n → Allows bit (f k)) → Allows bit (sum_below n f)
+unfolding sum_below
+sum-allows bit zero f h = allows_nothing bit
+sum-allows bit (suc n) f h = allows-plus bit (sum_below n f) (f n) (sum-allows bit n f (λ k l. h k (omega arith))) (h n (omega arith))
+
+-- a sum in which none speaks against a bit and one speaks for it
+sum-supports : (bit : Bool) (n j : ℕ) (f : ℕ → ℤ) → ((k : ℕ) → k < n → Allows bit (f k)) → j < n → Supports 1 bit (f j) → Supports 1 bit (sum_below n f)
+unfolding sum_below
+sum-supports bit zero j f h l one = absurd (omega arith)
+sum-supports bit (suc n) j f h l one = elim (cases_lt j n) [
+  | inl lower ↦ supports-first bit (sum_below n f) (f n) (sum-supports bit n j f (λ k p. h k (omega arith)) lower one) (h n (omega arith))
+  | inr here ↦ let e : j ≡ n = omega arith in
+      supports-second bit (sum_below n f) (f n) (sum-allows bit n f (λ k p. h k (omega arith))) (subst (λ k. Supports 1 bit (f k)) e one)
+]
+
+-- ---- the sums by place
+
+at_place : (word : List Bool) (k t : ℕ) → k < length word → bit_at_place (coded_word word) (record { place = k; stream = t }) ≡ get_or (coded_bits word k) t false
+unfolding coded_word
+at_place word k t l = ap (λ xs. get_or xs t false) (values_below_at (coded_bits word) (length word) k [] l)
+
+here_or_nothing : (word : List Bool) (p : Place) (k t : ℕ) (v : ℤ) → Supports 1 (bit_at_place (coded_word word) p) v →
+    Allows (bit_at_place (coded_word word) (record { place = k; stream = t })) (cond (is_at p k t) v (pos 0))
+here_or_nothing word p k t v h = settle (is_at p k t) refl
+  where
+    bit : Bool
+    bit = bit_at_place (coded_word word) (record { place = k; stream = t })
+
+    settle : (b : Bool) → is_at p k t ≡ b → Allows (bit_at_place (coded_word word) (record { place = k; stream = t })) (cond b v (pos 0))
+    settle true e =
+        let both = and_parts (nat_eq p.place k) (nat_eq p.stream t) e in
+        let place = eqb-true p.place k both.0 in
+        let stream = eqb-true p.stream t both.1 in
+        allows bit v (subst (λ b. Supports 1 b v) (ap₂ (λ (i j : ℕ). bit_at_place (coded_word word) (record { place = i; stream = j })) place stream) h)
+    settle false e = allows_nothing bit
+
+sum_at_supports : (word : List Bool) (values : List ℤ) (k t : ℕ) → 6 ≤ length word → length word ≤ 64 → SpeakInOrder word values → k < length word → t < 3 →
+    Supports 1 (bit_at_place (coded_word word) (record { place = k; stream = t })) (summed_at (length word) values (length values) k t)
+unfolding summed_at
+sum_at_supports word values k t long short speak inside stream =
+    let found = (permuting (length word) long short).each (record { place = k; stream = t }) inside stream in
+    sum-supports bit (length values) found.0 f
+    (λ i l. here_or_nothing word (place_of (length word) i) k t (get_or values i (pos 0)) (speak.value i l))
+    (within found.0 (length word) (length values) found.1 speak.enough)
+    (taken found.0 found.2 (speak.value found.0 (within found.0 (length word) (length values) found.1 speak.enough)))
+  where
+    bit : Bool
+    bit = bit_at_place (coded_word word) (record { place = k; stream = t })
+
+    f : ℕ → ℤ
+    f i = cond (is_at (place_of (length word) i) k t) (get_or values i (pos 0)) (pos 0)
+
+    within : (i n m : ℕ) → i < 3 * n → 3 * n ≤ m → i < m
+    within i n m p q = omega (arith, p, q)
+
+    taken : (i : ℕ) → place_of (length word) i ≡ record { place = k; stream = t } → Supports 1 (bit_at_place (coded_word word) (place_of (length word) i)) (get_or values i (pos 0)) → Supports 1 bit (f i)
+    taken i e h =
+        let at : is_at (place_of (length word) i) k t ≡ true = ap (λ (p : Place). is_at p k t) e ∙ ap₂ (λ (a b : Bool). a && b) (eq-eqb k k refl) (eq-eqb t t refl) in
+        subst (λ b. Supports 1 bit (cond b (get_or values i (pos 0)) (pos 0))) (sym at) (subst (λ (p : Place). Supports 1 (bit_at_place (coded_word word) p) (get_or values i (pos 0))) e h)
+
+read_sum : (n : ℕ) (values : List ℤ) (k t : ℕ) → k < n → t < 3 → get_or (get_or (summed n values) k []) t (pos 0) ≡ summed_at n values (length values) k t
+unfolding summed
+read_sum n values k t inside stream =
+    ap (λ xs. get_or xs t (pos 0)) (values_below_at (λ k. values_below 3 (summed_at n values (length values) k)) n k [] inside)
+    ∙ values_below_at (summed_at n values (length values) k) 3 t (pos 0) stream
+
+pub summed-length : (n : ℕ) (values : List ℤ) → length (summed n values) ≡ n
+unfolding summed
+summed-length n values = values_below-length n (λ k. values_below 3 (summed_at n values (length values) k))
+
+pub sums_speak : SumsSpeak
+sums_speak word values long short speak = record {
+  place = λ k below. let inside : k < length word = omega (arith, below, summed-length (length word) values) in
+      record { first = one k 0 inside (omega arith); second = one k 1 inside (omega arith); third = one k 2 inside (omega arith) };
+}
+  where
+    one : (k t : ℕ) → k < length word → t < 3 → SpeaksFor (get_or (get_or (summed (length word) values) k []) t (pos 0)) (get_or (coded_bits word k) t false)
+    one k t inside stream =
+        subst (λ z. SpeaksFor z (get_or (coded_bits word k) t false)) (sym (read_sum (length word) values k t inside stream))
+        (speaks_for (get_or (coded_bits word k) t false) (summed_at (length word) values (length values) k t)
+        (subst (λ b. Supports 1 b (summed_at (length word) values (length values) k t)) (at_place word k t inside) (sum_at_supports word values k t long short speak inside stream)))
+
+-- ---- the word
+
+-- a word's coded bits cost nothing where the values speak for them
+free_place : (values : List (List ℤ)) (word : List Bool) → Speaks values word → (k : ℕ) → k < length values → place_cost values word k ≡ 0
+free_place values word speaks k below =
+    let here = speaks.place k below in
+    let a = here.first.free in
+    let b = here.second.free in
+    let c = here.third.free in
+    omega (arith, a, b, c)
+
+agree : (z : ℤ) (a b : Bool) → SpeaksFor z b → disagreement z a ≡ 0 → a ≡ b
+agree z false false s h = refl
+agree z false true s h = let d = s.dear in absurd (omega (arith, d, h))
+agree z true false s h = let d = s.dear in absurd (omega (arith, d, h))
+agree z true true s h = refl
+
+three_zeros : (a b c : ℕ) → a + b + c ≡ 0 → (a ≡ 0) × (b ≡ 0) × (c ≡ 0)
+three_zeros a b c e = (omega (arith, e), omega (arith, e), omega (arith, e))
+
+-- a word that costs nothing at a place has the coded bits there
+same_place : (values : List (List ℤ)) (other word : List Bool) → Speaks values word → (k : ℕ) → k < length values → place_cost values other k ≡ 0 → coded_bits other k ≡ coded_bits word k
+same_place values other word speaks k below h =
+    let here = speaks.place k below in
+    let v : List ℤ = get_or values k [] in
+    let zeros = three_zeros (disagreement (get_or v 0 (pos 0)) (coded taps_0 other k)) (disagreement (get_or v 1 (pos 0)) (coded taps_1 other k)) (disagreement (get_or v 2 (pos 0)) (coded taps_2 other k)) h in
+    let a = agree _ _ _ here.first zeros.0 in
+    let b = agree _ _ _ here.second zeros.1 in
+    let c = agree _ _ _ here.third zeros.2 in
+    rw (a, b, c) refl
+
+-- a word that costs nothing is the one that the values speak for
+only_free : (values : List (List ℤ)) (other word : List Bool) → 6 ≤ length values → length word ≡ length values → length other ≡ length values → Speaks values word →
+    total_below (length values) (place_cost values other) ≡ 0 → other ≡ word
+only_free values other word long size size_too speaks zero_cost =
+    one_to_one other word (omega (arith, size_too, long)) (size_too ∙ sym size)
+    (unfold coded_word in values_below_same (length other) (coded_bits other) (coded_bits word)
+    (λ k inside. let below : k < length values = omega (arith, size_too, inside) in
+    same_place values other word speaks k below (terms_zero (length values) (place_cost values other) zero_cost k below))
+    ∙ ap (λ n. values_below n (coded_bits word)) (size_too ∙ sym size))
+
+not_before_itself : (word : List Bool) → IsBefore word word → ⊥
+not_before_itself word h = let n = number-before word word refl h in absurd (omega (arith, n))
+
+pub spoken_word_is_only : SpokenWordIsOnly
+unfolding word_cost
+spoken_word_is_only values word long size speaks = record {
+  free = free;
+  dear = dear;
+  least = record {
+    size = size;
+    least = λ other size_too. nothing_less (total_below (length values) (place_cost values word)) (total_below (length values) (place_cost values other)) free;
+    first = λ other size_too before. some_more (total_below (length values) (place_cost values word)) (total_below (length values) (place_cost values other)) free
+        (dear other size_too (λ same. not_before_itself word (subst (λ (w : List Bool). IsBefore w word) same before)));
+  };
+}
+  where
+    free : total_below (length values) (place_cost values word) ≡ 0
+    free = total_zero (length values) (place_cost values word) (free_place values word speaks)
+
+    dear : (other : List Bool) → length other ≡ length values → (other ≡ word → ⊥) → 1 ≤ total_below (length values) (place_cost values other)
+    dear other size_too apart = elim (cases_lt (total_below (length values) (place_cost values other)) 1) [
+      | inl less ↦ absurd (apart (only_free values other word long size size_too speaks (omega (arith, less))))
+      | inr some ↦ some
+    ]
+
+    nothing_less : (a b : ℕ) → a ≡ 0 → a ≤ b
+    nothing_less a b e = omega (arith, e)
+
+    some_more : (a b : ℕ) → a ≡ 0 → 1 ≤ b → a < b
+    some_more a b e h = omega (arith, e, h)

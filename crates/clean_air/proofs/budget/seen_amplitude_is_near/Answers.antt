@@ -1,0 +1,15 @@
+use Rattle.clean_air.proofs.Causes.{four_causes}
+use Rattle.clean_air.proofs.Seen.{amplitude_is_seen, two_amplitudes_are_seen, amplitude_is_seen_in_recording}
+use Rattle.clean_air.proofs.budget.seen_amplitude_is_near.Goals as goal
+
+pub returns-clause-causes : goal.returns-clause-causes
+returns-clause-causes c = four_causes
+
+pub returns-clause-one_gain : goal.returns-clause-one_gain
+returns-clause-one_gain c = amplitude_is_seen
+
+pub returns-clause-two_gains : goal.returns-clause-two_gains
+returns-clause-two_gains c = two_amplitudes_are_seen
+
+pub returns-clause-recording : goal.returns-clause-recording
+returns-clause-recording c = amplitude_is_seen_in_recording

@@ -1,0 +1,14 @@
+use Rattle.clean_air.proofs.Peaks.{primary_stands_out, primary_is_hit, primary_is_listed, none_near_is_hit}
+use Rattle.clean_air.proofs.peak.clean_primary_is_a_hit.Goals as goal
+
+pub returns-clause-stands_out : goal.returns-clause-stands_out
+returns-clause-stands_out c = primary_stands_out
+
+pub returns-clause-hit : goal.returns-clause-hit
+returns-clause-hit c = primary_is_hit
+
+pub returns-clause-alone : goal.returns-clause-alone
+returns-clause-alone c = none_near_is_hit
+
+pub returns-clause-listed : goal.returns-clause-listed
+returns-clause-listed c = primary_is_listed

@@ -1,0 +1,37 @@
+-- How a clean primary synchronisation signal stands out of a recording. (own; the signal is that of TS 36.211 section 6.11.1)
+use Rattle.std.specs.Prelude.{◌≢◌, ℕ, ◌+◌, ◌*◌, ◌<◌, ◌≤◌, List}
+use Rattle.std.specs.List.{Contains}
+use Rattle.cs_num.specs.declared.Cpx.{Cpx}
+use Rattle.cs_num.specs.declared.Sample.{Sample}
+use Rattle.pss_search.specs.Correlation.{pss_grid, peak, energy, wave_power}
+use Rattle.pss_search.specs.Hits.{IsAbove, IsHit, found, hits_of}
+use Rattle.clean_air.specs.Received.{IsReceived, samples_from}
+
+-- the 128 samples from t on are the primary signal of n2 times a gain, with errors; what stands around them may be anything
+pub record IsPrimaryAt (recording : List Sample) (t n2 : ℕ) : Type 0 where
+  pub eps : ℕ
+  pub gain : Cpx
+  pub root : n2 ≤ 2
+  pub received : IsReceived eps gain (pss_grid n2) (samples_from recording t)
+
+-- the place t has energy and four times its peak is at least its energy times the signal's power; its metric is greater than that
+-- of each place with energy at distance 1 to 9
+pub record StandsOut (recording : List Sample) (t n2 : ℕ) : Type 0 where
+  pub sounds : 0 < energy recording t
+  pub clear : energy recording t * wave_power n2 ≤ 4 * peak recording n2 t
+  pub above : (u : ℕ) → u ≢ t → u ≤ t + 9 → t ≤ u + 9 → 0 < energy recording u → IsAbove recording n2 t u
+
+abbrev pub PrimaryStandsOut : Type 0
+PrimaryStandsOut = (recording : List Sample) (t n2 : ℕ) → IsPrimaryAt recording t n2 → StandsOut recording t n2
+
+-- in the span of one frame it is a hit
+abbrev pub PrimaryIsHit : Type 0
+PrimaryIsHit = (recording : List Sample) (t n2 : ℕ) → IsPrimaryAt recording t n2 → 137 ≤ t → t ≤ 19336 → IsHit recording t n2
+
+-- and it is listed
+abbrev pub PrimaryIsListed : Type 0
+PrimaryIsListed = (recording : List Sample) (t n2 : ℕ) → IsPrimaryAt recording t n2 → 137 ≤ t → t ≤ 19336 → Contains (hits_of recording) (found recording t n2)
+
+-- and no place near it is a hit, wherever it stands
+abbrev pub NoneNearIsHit : Type 0
+NoneNearIsHit = (recording : List Sample) (t u n2 : ℕ) → IsPrimaryAt recording t n2 → u ≢ t → u ≤ t + 9 → t ≤ u + 9 → ¬ IsHit recording u n2

@@ -1,0 +1,39 @@
+-- Values that all speak for the coded bits of one word tell that word and no other. (own; the code and its reading are those of TS
+-- 36.212 sections 5.1.3.1 and 5.1.4.2)
+use Rattle.std.specs.Prelude.{◌≡◌, ℕ, ◌*◌, ◌<◌, ◌≤◌, Bool, cond, List, length, slice_index_or, ℤ, pos, ◌+ℤ◌, neg_ℤ}
+use Rattle.gold.specs.Sequence.{xor}
+use Rattle.conv_code.specs.Code.{coded_word}
+use Rattle.conv_code.specs.Reading.{bit_at_place, place_of, summed}
+use Rattle.conv_code.specs.Cost.{word_cost}
+use Rattle.tailbite.specs.LeastWord.{IsLeastWord}
+use Rattle.tailbite.specs.Clean.{Speaks}
+use Rattle.clean_air.specs.Values.{Supports}
+
+-- the sum of four values that speak for a bit with some size speaks for it with four times that size
+abbrev pub FourSpeakTogether : Type 0
+FourSpeakTogether =
+    (least : ℕ) (bit : Bool) (a b c d : ℤ) → Supports least bit a → Supports least bit b → Supports least bit c → Supports least bit d → Supports (4 * least) bit (a +ℤ b +ℤ c +ℤ d)
+
+-- a value that speaks for a scrambled bit, turned where the scrambling bit is 1, speaks for the bit before scrambling
+abbrev pub DescramblingKeeps : Type 0
+DescramblingKeeps = (least : ℕ) (bit scrambling : Bool) (value : ℤ) → Supports least (xor bit scrambling) value → Supports least bit (cond scrambling (neg_ℤ value) value)
+
+-- values in the order of the reading, of which there is at least one for each coded bit, each speak for the coded bit of a word that
+-- stands there
+pub record SpeakInOrder (word : List Bool) (values : List ℤ) : Type 0 where
+  pub enough : 3 * length word ≤ length values
+  pub value : (i : ℕ) → i < length values → Supports 1 (bit_at_place (coded_word word) (place_of (length word) i)) (slice_index_or values i (pos 0))
+
+-- then the sums of the values by place do, for words of 6 to 64 bits
+abbrev pub SumsSpeak : Type 0
+SumsSpeak = (word : List Bool) (values : List ℤ) → 6 ≤ length word → length word ≤ 64 → SpeakInOrder word values → Speaks (summed (length word) values) word
+
+-- a word costs nothing, each other word of its length costs something, and so it is the least word
+pub record IsOnlyWord (values : List (List ℤ)) (word : List Bool) : Type 0 where
+  pub free : word_cost values word ≡ 0
+  pub dear : (other : List Bool) → length other ≡ length values → (other ≡ word → ⊥) → 1 ≤ word_cost values other
+  pub least : IsLeastWord values word
+
+-- the word that all values speak for is such a word, for 6 bits and more
+abbrev pub SpokenWordIsOnly : Type 0
+SpokenWordIsOnly = (values : List (List ℤ)) (word : List Bool) → 6 ≤ length values → length word ≡ length values → Speaks values word → IsOnlyWord values word

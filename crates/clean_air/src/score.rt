@@ -1,0 +1,13 @@
+//! The synchronisation signals together.
+
+ghost use Rattle.clean_air.specs.Score.{TermsArePositive, SentPairIsGreatest, SentPairIsBest, SentPairIsIdentified};
+
+/// Where both synchronisation signals of a cell are seen with one gain, each amplitude off by at
+/// most 30 units, each term of the score of the group and the half that were sent is above 0. So
+/// theirs is the only greatest score, and they are the best pair.
+pub fn sent_pair_is_best()
+    ensures terms { TermsArePositive }
+    ensures greatest { SentPairIsGreatest }
+    ensures best { SentPairIsBest }
+    ensures recording { SentPairIsIdentified }
+{}

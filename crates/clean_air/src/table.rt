@@ -1,0 +1,9 @@
+//! The table of the 128th roots of one.
+
+ghost use Rattle.clean_air.specs.Table.{IsNearlyMultiplicative};
+
+/// The product of two entries of W, which have sizes near 16384, is 16384 times the entry at the
+/// sum of their places, up to a complex number of size 34800.
+pub fn table_is_nearly_multiplicative()
+    ensures { IsNearlyMultiplicative }
+{}

@@ -1,0 +1,13 @@
+//! The word that clean values tell.
+
+ghost use Rattle.clean_air.specs.Words.{FourSpeakTogether, DescramblingKeeps, SumsSpeak, SpokenWordIsOnly};
+
+/// Where the values of a coded word, in the order in which it is sent, each speak for the bit that
+/// stands there, with at least one value for each bit, so do their sums by place. The word then
+/// costs nothing, every other word of its length costs something, and it is the least word.
+pub fn spoken_word_is_the_least()
+    ensures together { FourSpeakTogether }
+    ensures descrambled { DescramblingKeeps }
+    ensures sums { SumsSpeak }
+    ensures only { SpokenWordIsOnly }
+{}
