@@ -1,13 +1,13 @@
 -- The groups of the PCFICH, the PHICH and the PDCCH. All sets repeat with the identity modulo 24, so
 -- that they are known by computation for all identities.
 use Rattle.std.proofs.Common.{ℕ, ◌+◌, ◌-◌, ◌*◌, ◌/◌, ◌%◌, ◌<◌, ◌≤◌, ◌≡◌, Bool, true, false, not, ◌&&◌, cond, nat_eq, nat_le, List, [], ◌∷◌, ◌++◌, filter, length, get_or, refl, append_assoc, length-append, ap, ap₂, sym, ◌∙◌, subst, arith}
-use Rattle.std.specs.List.{AllPairs}
+use Rattle.std.specs.List.{All, range_with_len, AllPairs}
 use Rattle.std.proofs.lemmas.Bool.{eqb-true, leb-true, and_parts}
 use Rattle.std.proofs.lemmas.Bool.Decides.{nat_tests}
 use Rattle.std.proofs.lemmas.List.{append-nil}
 use Rattle.std.proofs.lemmas.List.Folds.{list_any_at}
 use Rattle.std.proofs.lemmas.List.Kept.{AllPairs-filter}
-use Rattle.std.proofs.lemmas.List.Elements.{filter-append}
+use Rattle.std.proofs.lemmas.List.Elements.{All-filter, All-map, filter-append, filter_passes}
 use Rattle.finite.specs.Lists.{values_below, joined_below}
 use Rattle.finite.specs.Tests.{every_below}
 use Rattle.finite.proofs.Tests.{every_below_at}
@@ -18,8 +18,8 @@ use Rattle.lte_types.specs.declared.resource.Resource.{Resource}
 use Rattle.lte_types.specs.declared.resource.Resource.TheVariants.{OneSixth, Half, One, Two}
 use Rattle.grid_map.specs.declared.Reg.{Reg}
 use Rattle.grid_map.specs.Place.{beside}
-use Rattle.grid_map.specs.Group.{group, same_group, symbol_groups}
-use Rattle.grid_map.specs.Control.{is_in, without, pcfich_groups, left_groups, left_count, phich_count, phich_symbol, phich_number, phich_group_in, phich_group, phich_groups}
+use Rattle.grid_map.specs.Group.{is_group, group, same_group, symbol_groups}
+use Rattle.grid_map.specs.Control.{pcfich_group, is_in, without, pcfich_groups, left_groups, left_count, phich_count, phich_symbol, phich_number, phich_group_in, phich_group, phich_groups}
 use Rattle.grid_map.specs.Control.{numbered, number_of, is_in_region, region_groups, pdcch_groups, phich_inside, group_count}
 use Rattle.grid_map.proofs.Kept.{any-filter, length-filter_within}
 
@@ -315,3 +315,22 @@ room_for_one pcfich phich groups cfi n few l e is =
     let all = kept_few pcfich phich cfi (n + 1) few (omega arith) in
     let all' = rw (kept_yes pcfich phich cfi n e) at all in
     rw is (omega (arith, long, all'))
+
+-- ---- where the groups are
+
+pcfich_in_first : (identity i : ℕ) → (is_group (pcfich_group identity i) ≡ true) × ((pcfich_group identity i).symbol ≡ 0)
+pcfich_in_first identity i = (grind (arith, nat_tests), refl)
+
+pub pcfich_inside : (identity : ℕ) → All (λ (g : Reg). (is_group g ≡ true) × (g.symbol ≡ 0)) (pcfich_groups identity)
+unfolding pcfich_groups
+pcfich_inside identity =
+    All-map (λ (g : Reg). (is_group g ≡ true) × (g.symbol ≡ 0)) (pcfich_group identity) (range_with_len 0 4)
+    (λ k d l. pcfich_in_first identity (get_or (range_with_len 0 4) k d))
+
+pub pdcch_inside : (identity cfi : ℕ) (duration : Duration) (resource : Resource) →
+    All (λ (g : Reg). is_in_region cfi g ≡ true) (pdcch_groups identity cfi duration resource)
+unfolding pdcch_groups region_groups
+pdcch_inside identity cfi duration resource =
+    All-filter (λ g. not (is_in (phich_groups identity duration resource) g)) (λ (g : Reg). is_in_region cfi g ≡ true) _
+    (All-filter (λ g. not (is_in (pcfich_groups identity) g)) (λ (g : Reg). is_in_region cfi g ≡ true) _
+    (filter_passes (is_in_region cfi) (values_below 288 numbered)))

@@ -1,9 +1,9 @@
 -- The places of a resource-element group.
 use Rattle.std.proofs.Common.{ℕ, zero, suc, ◌+◌, ◌*◌, ◌/◌, ◌%◌, ◌<◌, ◌≤◌, ◌≡◌, ◌∷◌, [], Bool, true, false, not, ◌&&◌, cond, nat_eq, List, filter, length, get_or, refl, ap, ap₂, sym, ◌∙◌, subst, arith}
-use Rattle.std.specs.List.{Contains}
+use Rattle.std.specs.List.{All, Contains}
 use Rattle.std.proofs.lemmas.Bool.{false≢true}
 use Rattle.std.proofs.lemmas.Bool.Decides.{nat_tests}
-use Rattle.std.proofs.lemmas.List.Elements.{All-contains, filter_passes}
+use Rattle.std.proofs.lemmas.List.Elements.{All-contains, All-contains_itself, All-weaker, filter_passes}
 use Rattle.grid_map.specs.declared.Place.{Place}
 use Rattle.grid_map.specs.declared.Reg.{Reg}
 use Rattle.grid_map.specs.Place.{place, beside}
@@ -178,3 +178,8 @@ places_apart identity g h p is is' has has' =
     one_start : (b : Bool) (x y k : ℕ) → x % cond b 6 4 ≡ 0 → y % cond b 6 4 ≡ 0 → x ≤ k → k < x + cond b 6 4 → y ≤ k → k < y + cond b 6 4 → x ≡ y
     one_start true x y k d e l m n o = omega arith
     one_start false x y k d e l m n o = omega arith
+
+pub all_inside : (identity : ℕ) (g : Reg) → is_group g ≡ true → All (λ (p : Place). (p.symbol ≡ g.symbol) × (p.k < 72)) (group_places identity g)
+all_inside identity g is =
+    All-weaker (Contains (group_places identity g)) (λ (p : Place). (p.symbol ≡ g.symbol) × (p.k < 72))
+    (λ p has. let inside = places_inside identity g p is has in (inside.0, inside.1)) (group_places identity g) (All-contains_itself (group_places identity g))

@@ -1,6 +1,6 @@
 //! The groups of the control region that carry the PCFICH, the PHICH and the PDCCH.
 
-ghost use Rattle.std.specs.Prelude.{◌≡◌, ◌+◌, ◌*◌, ◌/◌, ◌%◌, ◌<◌, ◌≤◌, ◌&&◌, ℕ, IsTrue, not, length, slice_index_or, nat_eq, if◌then◌else◌};
+ghost use Rattle.std.specs.Prelude.{◌≡◌, ◌+◌, ◌*◌, ◌/◌, ◌%◌, ◌<◌, ◌≤◌, ◌&&◌, ℕ, All, IsTrue, not, length, slice_index_or, nat_eq, if◌then◌else◌};
 ghost use Rattle.arrayvec.specs.ArrayVec.{array_vec_len};
 ghost use Rattle.lte_types.specs.declared.duration.Duration.{Duration};
 ghost use Rattle.lte_types.specs.declared.resource.Resource.{Resource};
@@ -16,7 +16,8 @@ use lte_types::{CellId, Cfi, Duration, Mib, Resource};
 
 /// The four groups of the PCFICH, in the order in which it takes them (TS 36.211 section 6.7.4).
 pub fn pcfich(id: CellId) -> [Reg; 4]
-    ensures { result ≡ pcfich_groups id }
+    ensures groups { result ≡ pcfich_groups id }
+    ensures inside { All (λ g. IsTrue (is_group g) × (g.symbol ≡ 0)) result }
 {
     [
         pcfich_number(id, 0),
@@ -165,6 +166,7 @@ fn is_left(reg: Reg, last: u8, pcfich: &[Reg], phich: &[Reg]) -> bool
 /// follows from the indicator and the PHICH alone.
 pub fn pdcch(id: CellId, cfi: Cfi, mib: Mib) -> ArrayVec<Reg, 66>
     ensures groups { result.items ≡ pdcch_groups id cfi mib.duration mib.resource }
+    ensures inside { All (λ g. IsTrue (is_in_region cfi g)) result.items }
     ensures count { array_vec_len result ≡ group_count cfi mib.duration mib.resource }
 {
     let last = cfi.value();

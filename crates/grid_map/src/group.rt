@@ -1,6 +1,6 @@
 //! The places of a resource-element group.
 
-ghost use Rattle.std.specs.Prelude.{◌≡◌, ◌+◌, ◌*◌, ◌/◌, ◌%◌, ◌<◌, ℕ, IsTrue, length, slice_index_or, nat_eq, if◌then◌else◌};
+ghost use Rattle.std.specs.Prelude.{◌≡◌, ◌+◌, ◌*◌, ◌/◌, ◌%◌, ◌<◌, ℕ, All, IsTrue, length, slice_index_or, nat_eq, if◌then◌else◌};
 ghost use Rattle.std.specs.List.{Contains};
 ghost use Rattle.grid_map.specs.declared.Place.{Place};
 ghost use Rattle.grid_map.specs.declared.Reg.{Reg};
@@ -15,7 +15,8 @@ use lte_types::CellId;
 /// subcarrier, from the identity modulo 3 on; in symbols 1 to 3 it begins at a multiple of 4.
 pub fn reg_places(id: CellId, reg: Reg) -> [Place; 4]
     requires { IsTrue (is_group reg) }
-    ensures { result ≡ group_places id reg }
+    ensures places { result ≡ group_places id reg }
+    ensures inside { All (λ p. (p.symbol ≡ reg.symbol) × (p.k < 72)) result }
 {
     [
         place_in(id, reg, 0),

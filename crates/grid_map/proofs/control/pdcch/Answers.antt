@@ -1,5 +1,8 @@
-use Rattle.std.proofs.Common.{◌≡◌, ◌∙◌, ap, sym, length, arith}
-use Rattle.grid_map.proofs.Regions.{kept_none, kept_yes, kept_no, kept_all, room_for_one, pdcch_count}
+use Rattle.std.proofs.Common.{◌≡◌, ◌∙◌, true, ap, sym, length, arith}
+use Rattle.std.proofs.lemmas.List.Elements.{All-same}
+use Rattle.grid_map.specs.declared.Reg.{Reg}
+use Rattle.grid_map.specs.Control.{is_in_region}
+use Rattle.grid_map.proofs.Regions.{kept_none, kept_yes, kept_no, kept_all, room_for_one, pdcch_count, pdcch_inside}
 use Rattle.grid_map.proofs.control.pdcch.Goals as goal
 use Rattle.grid_map.proofs.control.pdcch.Goals.{then-is_left, else-is_left}
 
@@ -34,9 +37,14 @@ loop-n-preserved c =
 pub returns-clause-groups : goal.returns-clause-groups
 returns-clause-groups c =
     let last : c.loop-n.n ≡ 288 = omega arith in
-    c.loop-n.invariant ∙ rw (last, c.pcfich-pcfich.ensures, c.phich-phich.ensures, c.value-last.ensures.value) (kept_all c.args.id c.args.cfi c.args.mib.duration c.args.mib.resource)
+    c.loop-n.invariant ∙ rw (last, c.pcfich-pcfich.ensures.groups, c.phich-phich.ensures, c.value-last.ensures.value) (kept_all c.args.id c.args.cfi c.args.mib.duration c.args.mib.resource)
 
 pub returns-clause-count : goal.returns-clause-count
 returns-clause-count c =
     ap length (returns-clause-groups c)
     ∙ pdcch_count c.args.id c.args.cfi c.args.mib.duration c.args.mib.resource c.value-last.ensures.valid.0 c.value-last.ensures.valid.1
+
+pub returns-clause-inside : goal.returns-clause-inside
+returns-clause-inside c =
+    All-same (λ (g : Reg). is_in_region c.args.cfi g ≡ true) _ _ (returns-clause-groups c)
+    (pdcch_inside c.args.id c.args.cfi c.args.mib.duration c.args.mib.resource)
