@@ -1,9 +1,9 @@
-ghost use Rattle.std.specs.Prelude.{◌≡◌, ◌+◌, ◌<◌, ◌≤◌, ◌↔◌, ℕ, length, slice_get, IsTrue, nat_lt, if◌then◌else◌};
+ghost use Rattle.std.specs.Prelude.{◌≡◌, ◌+◌, ◌<◌, ◌≤◌, ◌↔◌, ℕ, length, slice_get, IsTrue};
 ghost use Rattle.grid_map.specs.declared.Place.{Place};
 ghost use Rattle.grid_map.specs.Place.{place_number};
 ghost use Rattle.grid_map.specs.Broadcast.{pbch_places, pbch_place, is_pbch, pbch_index};
 
-use crate::Place;
+use crate::{Place, beside};
 use lte_types::CellId;
 
 /// The place that point `i` of the broadcast channel takes: symbols 7 to 10 of the subframe, which
@@ -31,14 +31,6 @@ pub fn pbch(id: CellId, i: usize) -> Place
             k: (n % 72) as u8,
         }
     }
-}
-
-// Number n of the two subcarriers of a group of three that stand beside the reserved one.
-fn beside(n: usize, reserved: usize) -> usize
-    requires { n < 2 }
-    ensures { result ≡ (if nat_lt n reserved then n else n + 1) }
-{
-    if n < reserved { n } else { n + 1 }
 }
 
 /// The broadcast channel has 240 places, subcarriers first and then symbols, each once. Its places

@@ -2,11 +2,22 @@
 //! (TS 36.211 section 6).
 #![tactic(auto)]
 
+ghost use Rattle.std.specs.Prelude.{◌≡◌, ◌<◌};
+ghost use Rattle.grid_map.specs.Place.{beside};
+
 mod broadcast;
+mod control;
+mod group;
+mod interleaver;
+mod shared;
 #[cfg(test)]
 mod tests;
 
 pub use broadcast::{pbch, pbch_order};
+pub use control::{control_groups, pcfich, pdcch};
+pub use group::{places_of_groups, reg_places};
+pub use interleaver::{quadruplet, quadruplets_permute};
+pub use shared::{pdsch, pdsch_order};
 
 /// A place of a subframe's grid: a resource element (TS 36.211 section 6.2.2).
 #[derive(Clone, Copy, Debug, PartialEq, Eq)]
@@ -15,4 +26,21 @@ pub struct Place {
     pub symbol: u8,
     /// The subcarrier, 0 to 71.
     pub k: u8,
+}
+
+/// A resource-element group: four places of a symbol of the control region (TS 36.211 section 6.2.4).
+#[derive(Clone, Copy, Debug, Default, PartialEq, Eq)]
+pub struct Reg {
+    /// 0 to 3.
+    pub symbol: u8,
+    /// The first subcarrier that it spans: a multiple of 6 in symbol 0 and of 4 in symbols 1 to 3.
+    pub first: u8,
+}
+
+// Number n of the subcarriers from 0 on without the reserved one.
+fn beside(n: usize, reserved: usize) -> usize
+    requires { n < 5 }
+    ensures { result ≡ beside reserved n }
+{
+    if n < reserved { n } else { n + 1 }
 }

@@ -1,0 +1,106 @@
+-- The groups of the control region that carry the PCFICH, the PHICH and the PDCCH
+-- (TS 36.211 sections 6.7.4, 6.9.3 and 6.8.5), with six resource blocks.
+use Rattle.std.specs.Prelude.{ℕ, ◌+◌, ◌-◌, ◌*◌, ◌/◌, ◌%◌, Bool, not, ◌&&◌, nat_eq, nat_le, if◌then◌else◌, List, filter, length, slice_index_or}
+use Rattle.std.specs.List.{list_any}
+use Rattle.finite.specs.Lists.{values_below, joined_below}
+use Rattle.conv_code.specs.Reading.{stream_order}
+use Rattle.lte_types.specs.declared.duration.Duration.{Duration}
+use Rattle.lte_types.specs.declared.duration.Duration.TheVariants.{Normal, Extended}
+use Rattle.lte_types.specs.declared.resource.Resource.{Resource}
+use Rattle.lte_types.specs.declared.resource.Resource.TheVariants.{OneSixth, Half, One, Two}
+use Rattle.grid_map.specs.declared.Reg.{Reg}
+use Rattle.grid_map.specs.Group.{group, is_group, same_group, symbol_groups}
+
+-- a group is one of the list
+abbrev pub is_in : List Reg → Reg → Bool
+is_in groups g = list_any (same_group g) groups
+
+-- those of the groups that are not taken
+abbrev pub without : List Reg → List Reg → List Reg
+without taken groups = filter (λ g. not (is_in taken g)) groups
+
+-- group i of the PCFICH
+abbrev pub pcfich_group : ℕ → ℕ → Reg
+pcfich_group identity i = group 0 ((6 * (identity % 12) + 18 * i) % 72)
+
+-- the four groups of the PCFICH
+unfoldable pub pcfich_groups : ℕ → List Reg
+pcfich_groups identity = values_below 4 (pcfich_group identity)
+
+-- the groups of a symbol that the PCFICH leaves, in the order of subcarriers
+unfoldable pub left_groups : ℕ → ℕ → List Reg
+left_groups identity symbol = without (pcfich_groups identity) (symbol_groups symbol)
+
+-- how many groups a symbol has that the PCFICH leaves
+abbrev pub left_count : ℕ → ℕ → ℕ
+left_count identity symbol = length (left_groups identity symbol)
+
+-- how many PHICH groups there are
+abbrev pub phich_count : Resource → ℕ
+phich_count OneSixth = 1
+phich_count Half = 1
+phich_count One = 1
+phich_count Two = 2
+
+-- the symbol of quadruplet i of a PHICH group
+abbrev pub phich_symbol : Duration → ℕ → ℕ
+phich_symbol Normal i = 0
+phich_symbol Extended i = i
+
+-- which of the n groups of its symbol quadruplet i of PHICH group m takes, where symbol 0 has n0
+abbrev pub phich_number : ℕ → ℕ → ℕ → ℕ → ℕ → ℕ
+phich_number identity n n0 m i = ((identity * n) / n0 + m + (i * n) / 3) % n
+
+-- the resource-element group in a symbol that quadruplet i of PHICH group m takes
+unfoldable pub phich_group_in : ℕ → ℕ → ℕ → ℕ → Reg
+phich_group_in identity symbol m i =
+    slice_index_or (left_groups identity symbol) (phich_number identity (left_count identity symbol) (left_count identity 0) m i) (group 0 0)
+
+-- the resource-element group of quadruplet i of PHICH group m
+abbrev pub phich_group : ℕ → Duration → ℕ → ℕ → Reg
+phich_group identity duration m i = phich_group_in identity (phich_symbol duration i) m i
+
+-- all groups of the PHICH
+unfoldable pub phich_groups : ℕ → Duration → Resource → List Reg
+phich_groups identity duration resource =
+    joined_below (phich_count resource) (λ m. values_below 3 (phich_group identity duration m))
+
+-- the number n of a symbol and a first subcarrier: by first subcarrier, then by symbol
+abbrev pub numbered : ℕ → Reg
+numbered n = group (n % 4) (n / 4)
+
+abbrev pub number_of : Reg → ℕ
+number_of g = 4 * g.first + g.symbol
+
+-- the region has cfi + 1 symbols
+abbrev pub is_in_region : ℕ → Reg → Bool
+is_in_region cfi g = is_group g && nat_le g.symbol cfi
+
+-- the groups of the region, in that order
+unfoldable pub region_groups : ℕ → List Reg
+region_groups cfi = filter (is_in_region cfi) (values_below 288 numbered)
+
+-- the groups of the PDCCH: those that the PCFICH and the PHICH leave, in that order
+unfoldable pub pdcch_groups : ℕ → ℕ → Duration → Resource → List Reg
+pdcch_groups identity cfi duration resource =
+    without (phich_groups identity duration resource) (without (pcfich_groups identity) (region_groups cfi))
+
+-- how many quadruplets of each PHICH group are in the region: with the longer duration the last is
+-- in symbol 2, and with indicator 1 the region ends before it
+abbrev pub phich_inside : ℕ → Duration → ℕ
+phich_inside cfi Normal = 3
+phich_inside cfi Extended = if nat_eq cfi 1 then 2 else 3
+
+-- the count of the groups of the PDCCH: of twelve in symbol 0 and eighteen in each later symbol the
+-- PCFICH takes four
+abbrev pub group_count : ℕ → Duration → Resource → ℕ
+group_count cfi duration resource = 12 + 18 * cfi - 4 - phich_inside cfi duration * phich_count resource
+
+-- the count of control elements: one has nine groups (section 6.8.1)
+abbrev pub element_count : ℕ → Duration → Resource → ℕ
+element_count cfi duration resource = group_count cfi duration resource / 9
+
+-- the quadruplet that group r of so many carries: their numbers are interleaved as the bits of a
+-- stream are (TS 36.212 section 5.1.4.2.1), and shifted by the identity
+unfoldable pub quadruplet_at : ℕ → ℕ → ℕ → ℕ
+quadruplet_at identity count r = slice_index_or (stream_order count) ((r + identity) % count) 0

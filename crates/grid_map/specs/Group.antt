@@ -1,0 +1,40 @@
+-- The resource-element groups of the control region (TS 36.211 section 6.2.4), which has the first
+-- symbols of a subframe.
+use Rattle.std.specs.Prelude.{ℕ, ◌*◌, ◌/◌, ◌%◌, Bool, not, ◌&&◌, nat_eq, nat_lt, if◌then◌else◌, List, map, filter}
+use Rattle.std.specs.List.{range_with_len}
+use Rattle.finite.specs.Lists.{values_below}
+use Rattle.grid_map.specs.declared.Place.{Place}
+use Rattle.grid_map.specs.declared.Reg.{Reg}
+use Rattle.grid_map.specs.Place.{place}
+
+abbrev pub group : ℕ → ℕ → Reg
+group symbol first = record { symbol = symbol; first = first }
+
+-- a group spans six subcarriers in symbol 0, where two are kept for reference signals, and four in
+-- symbols 1 to 3
+abbrev pub span : ℕ → ℕ
+span symbol = if nat_eq symbol 0 then 6 else 4
+
+-- a group: it begins at a multiple of its span
+abbrev pub is_group : Reg → Bool
+is_group g = nat_lt g.symbol 4 && nat_lt g.first 72 && nat_eq (g.first % span g.symbol) 0
+
+abbrev pub same_group : Reg → Reg → Bool
+same_group g h = nat_eq g.symbol h.symbol && nat_eq g.first h.first
+
+-- the groups of a symbol, in the order of subcarriers
+unfoldable pub symbol_groups : ℕ → List Reg
+symbol_groups symbol = values_below (72 / span symbol) (λ n. group symbol (span symbol * n))
+
+-- a place is kept for reference signals: in symbol 0 every third subcarrier, from the identity
+-- modulo 3 on
+abbrev pub is_kept : ℕ → Place → Bool
+is_kept identity p = nat_eq p.symbol 0 && nat_eq (p.k % 3) (identity % 3)
+
+-- all places that a group spans
+abbrev pub spanned : Reg → List Place
+spanned g = map (place g.symbol) (range_with_len g.first (span g.symbol))
+
+-- the places of a group, in the order of subcarriers
+unfoldable pub group_places : ℕ → Reg → List Place
+group_places identity g = filter (λ p. not (is_kept identity p)) (spanned g)

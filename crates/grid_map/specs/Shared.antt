@@ -1,0 +1,50 @@
+-- The places of the physical downlink shared channel in subframe 5 (TS 36.211 section 6.4).
+use Rattle.std.specs.Prelude.{ℕ, ◌+◌, ◌*◌, ◌/◌, ◌%◌, Bool, not, ◌&&◌, ◌||◌, nat_eq, nat_lt, nat_le, if◌then◌else◌, List, filter, slice_index_or}
+use Rattle.crs.specs.Reference.{is_reference, first_subcarrier}
+use Rattle.grid_map.specs.declared.Place.{Place}
+use Rattle.grid_map.specs.Place.{place, places_of, beside}
+
+-- the symbols of the synchronisation signals, which are left out whole (own: all 72 subcarriers)
+abbrev pub is_synchronisation : ℕ → Bool
+is_synchronisation symbol = nat_eq symbol 5 || nat_eq symbol 6
+
+-- a subcarrier is in one of the resource blocks from start on
+abbrev pub is_in_blocks : ℕ → ℕ → ℕ → Bool
+is_in_blocks start blocks k = nat_le (12 * start) k && nat_lt k (12 * (start + blocks))
+
+-- a place carries the channel: after the control region, not in a symbol of the synchronisation
+-- signals, not a reference place of its slot, and in one of the blocks
+abbrev pub is_pdsch : ℕ → ℕ → ℕ → ℕ → Place → Bool
+is_pdsch identity cfi start blocks p =
+    nat_lt cfi p.symbol && not (is_synchronisation p.symbol) && not (is_reference identity (p.symbol % 7) p.k)
+    && is_in_blocks start blocks p.k
+
+-- these places of the subframe, in the order in which the points take them: subcarriers first, then
+-- symbols
+unfoldable pub pdsch_places : ℕ → ℕ → ℕ → ℕ → List Place
+pdsch_places identity cfi start blocks = filter (is_pdsch identity cfi start blocks) (places_of 0 14)
+
+-- the place that point i takes
+unfoldable pub pdsch_place : ℕ → ℕ → ℕ → ℕ → ℕ → Place
+pdsch_place identity cfi start blocks i = slice_index_or (pdsch_places identity cfi start blocks) i (place 0 0)
+
+-- how many places a block has, with indicator 2 or 3
+abbrev pub block_places : ℕ → ℕ
+block_places cfi = if nat_eq cfi 2 then 102 else 90
+
+-- ---- the same, symbol by symbol
+
+-- a symbol of the subframe has reference places
+abbrev pub has_references : ℕ → Bool
+has_references symbol = nat_eq symbol 0 || nat_eq symbol 4 || nat_eq symbol 7 || nat_eq symbol 11
+
+-- how many places of so many blocks a symbol after the control region has for the channel
+abbrev pub room : ℕ → ℕ → ℕ
+room symbol blocks =
+    if is_synchronisation symbol then 0 else (if has_references symbol then 10 * blocks else 12 * blocks)
+
+-- how many subcarriers after the first one of the blocks place n of a symbol stands: of each six
+-- subcarriers a symbol with reference places has five
+abbrev pub offset : ℕ → ℕ → ℕ → ℕ
+offset identity symbol n =
+    if has_references symbol then 6 * (n / 5) + beside (first_subcarrier identity (symbol % 7)) (n % 5) else n

@@ -1,0 +1,208 @@
+//! The groups of the control region that carry the PCFICH, the PHICH and the PDCCH.
+
+ghost use Rattle.std.specs.Prelude.{◌≡◌, ◌+◌, ◌*◌, ◌/◌, ◌%◌, ◌<◌, ◌≤◌, ◌&&◌, ℕ, All, IsTrue, not, length, slice_index_or, nat_eq, if◌then◌else◌};
+ghost use Rattle.arrayvec.specs.ArrayVec.{array_vec_len};
+ghost use Rattle.lte_types.specs.declared.duration.Duration.{Duration};
+ghost use Rattle.lte_types.specs.declared.resource.Resource.{Resource};
+ghost use Rattle.grid_map.specs.declared.Reg.{Reg};
+ghost use Rattle.grid_map.specs.Place.{beside};
+ghost use Rattle.grid_map.specs.Group.{group, is_group};
+ghost use Rattle.grid_map.specs.Control.{is_in, pcfich_group, pcfich_groups, left_groups, phich_count, phich_symbol, phich_group, phich_group_in, phich_groups};
+ghost use Rattle.grid_map.specs.Control.{is_in_region, region_groups, number_of, numbered, pdcch_groups, group_count, element_count};
+
+use crate::{Reg, beside};
+use arrayvec::ArrayVec;
+use lte_types::{CellId, Cfi, Duration, Mib, Resource};
+
+/// The four groups of the PCFICH, in the order in which it takes them (TS 36.211 section 6.7.4).
+pub fn pcfich(id: CellId) -> [Reg; 4]
+    ensures groups { result ≡ pcfich_groups id }
+    ensures inside { All (λ g. IsTrue (is_group g) × (g.symbol ≡ 0)) result }
+{
+    [
+        pcfich_number(id, 0),
+        pcfich_number(id, 1),
+        pcfich_number(id, 2),
+        pcfich_number(id, 3),
+    ]
+}
+
+// Group i of the PCFICH.
+fn pcfich_number(id: CellId, i: u16) -> Reg
+    requires { i < 4 }
+    ensures { result ≡ pcfich_group id i }
+{
+    Reg {
+        symbol: 0,
+        first: ((6 * (id.value() % 12) + 18 * i) % 72) as u8,
+    }
+}
+
+// How many groups of a symbol the PCFICH leaves.
+fn left_in(symbol: u8) -> usize
+    ensures { result ≡ (if nat_eq symbol 0 then 8 else 18) }
+{
+    if symbol == 0 { 8 } else { 18 }
+}
+
+// Where group `number` of those of a symbol that the PCFICH leaves begins: in symbol 0 it leaves two
+// of every three.
+fn left_begins(id: CellId, symbol: u8, number: usize) -> usize
+    requires { number < 18 }
+    ensures value { result ≡ (if nat_eq symbol 0 then 6 * (3 * (number / 2) + beside (id % 3) (number % 2)) else 4 * number) }
+    ensures bound { result < 256 }
+{
+    if symbol == 0 {
+        6 * (3 * (number / 2) + beside(number % 2, id.n2() as usize))
+    } else {
+        4 * number
+    }
+}
+
+// Group `number` of those of a symbol that the PCFICH leaves.
+fn left_group(id: CellId, symbol: u8, number: usize) -> Reg
+    requires symbol { symbol < 3 }
+    requires number { number < (if nat_eq symbol 0 then 8 else 18) }
+    ensures { result ≡ slice_index_or (left_groups id symbol) number (group 0 0) }
+{
+    Reg {
+        symbol,
+        first: left_begins(id, symbol, number) as u8,
+    }
+}
+
+// The group in a symbol that quadruplet i of PHICH group m takes.
+fn phich_in(id: CellId, symbol: u8, m: usize, i: usize) -> Reg
+    requires symbol { symbol < 3 }
+    requires m { m < 2 }
+    requires i { i < 3 }
+    ensures { result ≡ phich_group_in id symbol m i }
+{
+    let count = left_in(symbol);
+    let number = (id.value() as usize * count / left_in(0) + m + i * count / 3) % count;
+    left_group(id, symbol, number)
+}
+
+// The symbol of quadruplet i of a PHICH group.
+fn symbol_of(duration: Duration, i: usize) -> u8
+    requires { i < 3 }
+    ensures value { result ≡ phich_symbol duration i }
+    ensures bound { result < 3 }
+{
+    match duration {
+        Duration::Normal => 0,
+        Duration::Extended => i as u8,
+    }
+}
+
+// How many PHICH groups there are.
+fn count_of(resource: Resource) -> usize
+    ensures value { result ≡ phich_count resource }
+    ensures bound { result ≤ 2 }
+{
+    match resource {
+        Resource::OneSixth | Resource::Half | Resource::One => 1,
+        Resource::Two => 2,
+    }
+}
+
+// The group of quadruplet i of PHICH group m.
+fn phich_of(id: CellId, duration: Duration, m: usize, i: usize) -> Reg
+    requires m { m < 2 }
+    requires i { i < 3 }
+    ensures { result ≡ phich_group id duration m i }
+{
+    phich_in(id, symbol_of(duration, i), m, i)
+}
+
+// All groups of the PHICH (TS 36.211 section 6.9.3).
+fn phich(id: CellId, duration: Duration, resource: Resource) -> ArrayVec<Reg, 6>
+    ensures { result.items ≡ phich_groups id duration resource }
+{
+    let mut groups = ArrayVec::new();
+    for m in 0..count_of(resource) {
+        groups.push(phich_of(id, duration, m, 0));
+        groups.push(phich_of(id, duration, m, 1));
+        groups.push(phich_of(id, duration, m, 2));
+    }
+    groups
+}
+
+// The group is one of these.
+fn is_one_of(reg: Reg, groups: &[Reg]) -> bool
+    ensures { result ≡ is_in groups.now reg }
+{
+    groups.iter().any(|group| reg.symbol == group.symbol && reg.first == group.first)
+}
+
+// The region with this last symbol has the group.
+fn is_inside(reg: Reg, last: u8) -> bool
+    ensures { result ≡ is_in_region last reg }
+{
+    let span = if reg.symbol == 0 { 6 } else { 4 };
+    reg.symbol < 4 && reg.first < 72 && reg.first % span == 0 && reg.symbol <= last
+}
+
+// The symbol and first subcarrier with number n: by first subcarrier, then by symbol.
+fn numbered_reg(n: u16) -> Reg
+    requires { n < 288 }
+    ensures { result ≡ numbered n }
+{
+    Reg {
+        symbol: (n % 4) as u8,
+        first: (n / 4) as u8,
+    }
+}
+
+// The group is one of the region and taken neither by the PCFICH nor by the PHICH.
+fn is_left(reg: Reg, last: u8, pcfich: &[Reg], phich: &[Reg]) -> bool
+    ensures { result ≡ (is_in_region last reg && not (is_in pcfich.now reg) && not (is_in phich.now reg)) }
+{
+    is_inside(reg, last) && !is_one_of(reg, pcfich) && !is_one_of(reg, phich)
+}
+
+/// The groups of the PDCCH: those of the control region, which has `cfi` + 1 symbols, that the PCFICH
+/// and the PHICH leave, by first subcarrier and then by symbol (TS 36.211 section 6.8.5). Their count
+/// follows from the indicator and the PHICH alone.
+pub fn pdcch(id: CellId, cfi: Cfi, mib: Mib) -> ArrayVec<Reg, 66>
+    ensures groups { result.items ≡ pdcch_groups id cfi mib.duration mib.resource }
+    ensures inside { All (λ g. IsTrue (is_in_region cfi g)) result.items }
+    ensures count { array_vec_len result ≡ group_count cfi mib.duration mib.resource }
+{
+    let last = cfi.value();
+    let pcfich = pcfich(id);
+    let phich = phich(id, mib.duration, mib.resource);
+    let mut groups = ArrayVec::new();
+    for n in 0..288_u16 {
+        let reg = numbered_reg(n);
+        if is_left(reg, last, &pcfich, phich.as_slice()) {
+            groups.push(reg);
+        }
+    }
+    groups
+}
+
+/// The groups of the PCFICH are four. Those of the PDCCH are the groups of the region that neither the
+/// PCFICH nor the PHICH takes, each once, by first subcarrier and then by symbol. Their count is a
+/// fact of indicator, duration and resource alone: two control elements with indicator 1, and at
+/// least four with 2 and 3.
+pub fn control_groups()
+    ensures pcfich_inside { (identity i : ℕ) → i < 4 → IsTrue (is_group (pcfich_group identity i)) }
+    ensures pcfich_apart { (identity i j : ℕ) → i < 4 → j < 4 →
+        pcfich_group identity i ≡ pcfich_group identity j → i ≡ j }
+
+    ensures in_order { (identity cfi : ℕ) (duration : Duration) (resource : Resource) (i j : ℕ) →
+        i < j → j < length (pdcch_groups identity cfi duration resource) →
+        number_of (slice_index_or (pdcch_groups identity cfi duration resource) i (group 0 0))
+        < number_of (slice_index_or (pdcch_groups identity cfi duration resource) j (group 0 0)) }
+    ensures members { (identity cfi : ℕ) (duration : Duration) (resource : Resource) (g : Reg) →
+        is_in (pdcch_groups identity cfi duration resource) g
+        ≡ (is_in_region cfi g && not (is_in (pcfich_groups identity) g)
+        && not (is_in (phich_groups identity duration resource) g)) }
+
+    ensures count { (identity cfi : ℕ) (duration : Duration) (resource : Resource) → 1 ≤ cfi → cfi ≤ 3 →
+        length (pdcch_groups identity cfi duration resource) ≡ group_count cfi duration resource }
+    ensures two_elements { (duration : Duration) (resource : Resource) → element_count 1 duration resource ≡ 2 }
+    ensures four_elements { (cfi : ℕ) (duration : Duration) (resource : Resource) → 2 ≤ cfi → cfi ≤ 3 →
+        4 ≤ element_count cfi duration resource }
+{}

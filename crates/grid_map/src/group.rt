@@ -1,0 +1,56 @@
+//! The places of a resource-element group.
+
+ghost use Rattle.std.specs.Prelude.{◌≡◌, ◌+◌, ◌*◌, ◌/◌, ◌%◌, ◌<◌, ℕ, All, IsTrue, length, slice_index_or, nat_eq, if◌then◌else◌};
+ghost use Rattle.std.specs.List.{Contains};
+ghost use Rattle.grid_map.specs.declared.Place.{Place};
+ghost use Rattle.grid_map.specs.declared.Reg.{Reg};
+ghost use Rattle.grid_map.specs.Place.{place, beside};
+ghost use Rattle.grid_map.specs.Group.{is_group, is_kept, group_places};
+
+use crate::{Place, Reg, beside};
+use lte_types::CellId;
+
+/// The four places of a group of the control region, in the order of subcarriers
+/// (TS 36.211 section 6.2.4). In symbol 0 a group begins at a multiple of 6 and leaves out every third
+/// subcarrier, from the identity modulo 3 on; in symbols 1 to 3 it begins at a multiple of 4.
+pub fn reg_places(id: CellId, reg: Reg) -> [Place; 4]
+    requires { IsTrue (is_group reg) }
+    ensures places { result ≡ group_places id reg }
+    ensures inside { All (λ p. (p.symbol ≡ reg.symbol) × (p.k < 72)) result }
+{
+    [
+        place_in(id, reg, 0),
+        place_in(id, reg, 1),
+        place_in(id, reg, 2),
+        place_in(id, reg, 3),
+    ]
+}
+
+// Place i of a group.
+fn place_in(id: CellId, reg: Reg, i: usize) -> Place
+    requires group { IsTrue (is_group reg) }
+    requires i { i < 4 }
+    ensures { result ≡ place reg.symbol (reg.first + (if nat_eq reg.symbol 0 then 3 * (i / 2) + beside (id % 3) (i % 2) else i)) }
+{
+    let offset = if reg.symbol == 0 {
+        3 * (i / 2) + beside(i % 2, id.n2() as usize)
+    } else {
+        i
+    };
+    Place {
+        symbol: reg.symbol,
+        k: reg.first + offset as u8,
+    }
+}
+
+/// A group has four places in the order of subcarriers, all in its symbol and none kept for reference
+/// signals, and no place is in two groups.
+pub fn places_of_groups()
+    ensures count { (identity : ℕ) (g : Reg) → IsTrue (is_group g) → length (group_places identity g) ≡ 4 }
+    ensures in_order { (identity : ℕ) (g : Reg) (i j : ℕ) → IsTrue (is_group g) → i < j → j < 4 →
+        (slice_index_or (group_places identity g) i (place 0 0)).k < (slice_index_or (group_places identity g) j (place 0 0)).k }
+    ensures inside { (identity : ℕ) (g : Reg) (p : Place) → IsTrue (is_group g) → Contains (group_places identity g) p →
+        (p.symbol ≡ g.symbol) × (p.k < 72) × ¬ IsTrue (is_kept identity p) }
+    ensures apart { (identity : ℕ) (g h : Reg) (p : Place) → IsTrue (is_group g) → IsTrue (is_group h) →
+        Contains (group_places identity g) p → Contains (group_places identity h) p → g ≡ h }
+{}

@@ -1,0 +1,99 @@
+//! The places of the physical downlink shared channel.
+
+ghost use Rattle.std.specs.Prelude.{◌≡◌, ◌+◌, ◌*◌, ◌/◌, ◌%◌, ◌<◌, ◌≤◌, ℕ, IsTrue, length, slice_get, nat_eq, nat_lt, if◌then◌else◌};
+ghost use Rattle.std.specs.List.{list_any};
+ghost use Rattle.crs.specs.Reference.{first_subcarrier};
+ghost use Rattle.grid_map.specs.declared.Place.{Place};
+ghost use Rattle.grid_map.specs.Place.{place, place_number, same_place};
+ghost use Rattle.grid_map.specs.Shared.{has_references, room, offset, is_pdsch, pdsch_places, pdsch_place, block_places};
+
+use crate::{Place, beside};
+use lte_types::{CellId, Cfi};
+
+// Whether a symbol of the subframe has reference places.
+fn has_pilots(symbol: u8) -> bool
+    ensures { result ≡ has_references symbol }
+{
+    symbol == 0 || symbol == 4 || symbol == 7 || symbol == 11
+}
+
+// How many places of a symbol after the control region carry the channel.
+fn room_in(symbol: u8, blocks: u8) -> usize
+    requires { blocks ≤ 6 }
+    ensures value { result ≡ room symbol blocks }
+    ensures bound { result ≤ 72 }
+{
+    if symbol == 5 || symbol == 6 {
+        0
+    } else if has_pilots(symbol) {
+        10 * blocks as usize
+    } else {
+        12 * blocks as usize
+    }
+}
+
+// The first reference place of a symbol of the subframe that has such.
+#[tactic(auto, using(std::proofs::lemmas::Bool::Decides::nat_tests), unfolding(crs::specs::Reference::first_subcarrier))]
+fn first_reference(id: CellId, symbol: u8) -> usize
+    ensures { result ≡ first_subcarrier id (symbol % 7) }
+{
+    let shift = if symbol % 7 == 0 { 0 } else { 3 };
+    (shift + id.value() as usize) % 6
+}
+
+// How many subcarriers after the first one of the blocks place n of a symbol stands.
+fn offset_in(id: CellId, symbol: u8, n: usize) -> usize
+    requires { n < 72 }
+    ensures value { result ≡ offset id symbol n }
+    ensures bound { result ≤ n + n / 5 + 1 }
+{
+    if has_pilots(symbol) {
+        6 * (n / 5) + beside(n % 5, first_reference(id, symbol))
+    } else {
+        n
+    }
+}
+
+/// The place that point `i` of the shared channel takes in subframe 5, subcarriers first and then
+/// symbols: after the control region, which has `cfi` + 1 symbols, over `blocks` resource blocks from
+/// `start` on, without the symbols of the synchronisation signals and without the reference places
+/// (TS 36.211 section 6.4). `cfi` is 2 or 3, `blocks` at least 1 and `start` + `blocks` at most 6. A
+/// block has 102 points with `cfi` 2 and 90 with `cfi` 3, and `i` is below their number.
+pub fn pdsch(id: CellId, cfi: Cfi, start: u8, blocks: u8, i: usize) -> Place
+    requires cfi { 2 ≤ cfi }
+    requires some { 1 ≤ blocks }
+    requires assignment { start + blocks ≤ 6 }
+    requires point { i < block_places cfi * blocks }
+    ensures item { slice_get (pdsch_places id cfi start blocks) i ≡ Some result }
+    ensures place { result ≡ pdsch_place id cfi start blocks i }
+    ensures carries { IsTrue (is_pdsch id cfi start blocks result) }
+    ensures symbol { (cfi < result.symbol) × (result.symbol ≤ 13) }
+    ensures k { result.k < 72 }
+{
+    let mut left = i;
+    for symbol in cfi.value() + 1..14 {
+        let room = room_in(symbol, blocks);
+        if left < room {
+            let k = 12 * start as usize + offset_in(id, symbol, left);
+            return Place { symbol, k: k as u8 };
+        }
+        left -= room;
+    }
+    unreachable!()
+}
+
+/// The shared channel has 102 places a block with indicator 2 and 90 with 3, subcarriers first and
+/// then symbols, each once: those of the subframe that are its.
+pub fn pdsch_order()
+    ensures count { (identity cfi start blocks : ℕ) → 2 ≤ cfi → cfi ≤ 3 → start + blocks ≤ 6 →
+        length (pdsch_places identity cfi start blocks) ≡ block_places cfi * blocks }
+    ensures in_order { (identity cfi start blocks i j : ℕ) →
+        i < j → j < length (pdsch_places identity cfi start blocks) →
+        place_number (pdsch_place identity cfi start blocks i) < place_number (pdsch_place identity cfi start blocks j) }
+    ensures one_to_one { (identity cfi start blocks i j : ℕ) →
+        i < length (pdsch_places identity cfi start blocks) → j < length (pdsch_places identity cfi start blocks) →
+        pdsch_place identity cfi start blocks i ≡ pdsch_place identity cfi start blocks j → i ≡ j }
+    ensures members { (identity cfi start blocks symbol k : ℕ) → symbol < 14 → k < 72 →
+        list_any (same_place (place symbol k)) (pdsch_places identity cfi start blocks)
+        ≡ is_pdsch identity cfi start blocks (place symbol k) }
+{}

@@ -1,0 +1,70 @@
+//! The indicator that the values tell.
+
+ghost use Rattle.std.specs.Prelude.{◌≡◌, ℕ, ◌*◌, ◌<◌, ◌≤◌, ℤ, List, All, nat_abs, nat_le, ◌&&◌, length, if◌then◌else◌};
+ghost use Rattle.conv_code.specs.Cost.{disagreement};
+ghost use Rattle.pcfich.specs.Values.{indicator_values};
+ghost use Rattle.pcfich.specs.Indicator.{code_bit, cost, IsIndicator};
+
+use crate::values::received;
+use lte_types::Cfi;
+use soft_bits::Slot;
+
+/// The control format indicator of least cost in slot 10, the first of subframe 5; of equals the
+/// lowest. A cost is the sum of the sizes of the values that speak against the indicator's 32 bits.
+pub fn cfi(slot: &Slot) -> Cfi
+    requires { slot.now.number ≡ 10 }
+    ensures { IsIndicator (indicator_values slot.now) result }
+{
+    let values = received(slot);
+    let best = least_of(
+        cost_of(&values, 1),
+        cost_of(&values, 2),
+        cost_of(&values, 3),
+    );
+    Cfi::new(best).unwrap()
+}
+
+// The number of the least of three costs; of equals the first.
+fn least_of(first: u32, second: u32, third: u32) -> u8
+    ensures value { result ≡ (if nat_le first second && nat_le first third then 1 else (if nat_le second third then 2 else 3)) }
+    ensures range { (1 ≤ result) × (result ≤ 3) }
+{
+    if first <= second && first <= third {
+        1
+    } else if second <= third {
+        2
+    } else {
+        3
+    }
+}
+
+// The size of a value where it speaks against the bit.
+fn disagreement_of(value: i16, bit: bool) -> u32
+    requires { nat_abs value ≤ 127 }
+    ensures value { result ≡ disagreement value bit }
+    ensures bound { result ≤ 127 }
+{
+    if bit == (value > 0) {
+        value.unsigned_abs() as u32
+    } else {
+        0
+    }
+}
+
+// What an indicator costs.
+fn cost_of(values: &[i16; 32], indicator: usize) -> u32
+    requires some { 1 ≤ indicator }
+    requires sizes { All (λ value. nat_abs value ≤ 127) values.now }
+    ensures { result ≡ cost values.now indicator }
+{
+    let mut cost = 0;
+    for i in 0..32 {
+        cost += disagreement_of(values[i], i % 3 != indicator - 1);
+    }
+    cost
+}
+
+/// Values tell one indicator and no other.
+pub fn only_one_indicator()
+    ensures { (values : List ℤ) (a b : ℕ) → IsIndicator values a → IsIndicator values b → a ≡ b }
+{}

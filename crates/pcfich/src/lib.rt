@@ -1,0 +1,11 @@
+//! The control format indicator of a subframe: the soft values of its channel, and the indicator
+//! that they tell (TS 36.211 section 6.7, TS 36.212 section 5.3.4).
+#![tactic(auto)]
+
+mod indicator;
+mod values;
+
+pub use indicator::{cfi, only_one_indicator};
+
+#[cfg(test)]
+mod tests;
