@@ -11,8 +11,9 @@ use Rattle.cs_num.specs.Complex.{IsWithin, nothing, plus, times, conjugate, squa
 use Rattle.cs_num.specs.Rounding.{rounded}
 use Rattle.cs_num.specs.Sums.{complex_sum_below}
 use Rattle.sizes.specs.Sizes.{IsSized, minus, multiple}
-use Rattle.sizes.proofs.Laws.{plus-minus}
-use Rattle.sizes.proofs.Squares.{re-le, im-le, square-within, square-multiple, square-times}
+use Rattle.sizes.proofs.Algebra.{plus-minus}
+use Rattle.cs_num.proofs.Complex.{square-within}
+use Rattle.sizes.proofs.Squares.{re-le, im-le, square-multiple, square-times}
 use Rattle.sizes.proofs.Rounding.{rounded_near}
 use Rattle.sizes.proofs.Sized.{sized-plus, sized-times, sized-sum, sized_plain}
 use Rattle.fold128.specs.Tables.{quarter, cosine, w_at, z_at, z_half, z_real, z_imaginary}
