@@ -1,10 +1,10 @@
 -- Where the form of certificates that are read one after the other is broken.
-use Rattle.std.proofs.Common.{◌≡◌, ◌≢◌, ℕ, zero, suc, ◌+◌, ◌*◌, ◌%◌, ◌<◌, ◌≤◌, ◌⊎◌, inl, inr, List, [], ◌∷◌, ◌++◌, length, take, drop, get_or, min, take_all, refl, ap, sym, subst, ◌∙◌, arith, append_assoc, append-nil, length-append, length-drop, length-take}
-use Rattle.std.specs.Prelude.{All, nat_abs}
+use Rattle.std.proofs.Common.{◌≡◌, ℕ, zero, suc, ◌+◌, ◌*◌, ◌%◌, ◌<◌, ◌≤◌, ◌⊎◌, inl, inr, List, [], ◌∷◌, ◌++◌, length, take, drop, get_or, min, take_all, refl, ap, sym, subst, ◌∙◌, arith, append_assoc, append-nil, length-append, length-drop, length-take}
+use Rattle.std.specs.Prelude.{All}
 use Rattle.std.proofs.Math.Seq.{take-append_seam, drop-append-add}
 use Rattle.std.proofs.lemmas.List.{get_or-take, get_or-drop, get_or_append_left}
 use Rattle.std.proofs.lemmas.Bool.{cases_lt}
-use Rattle.tail_cert.specs.Form.{count, bytes_of, value_at, mark, Breaks, IsFirstBreak as IsFirstPlace}
+use Rattle.tail_cert.specs.Form.{count, bytes_of, value_at, Breaks, IsFirstBreak as IsFirstPlace}
 use Rattle.tail_cert.proofs.Codes.{length-bytes_of}
 use Rattle.tail_cert.proofs.Whole.{whole_unbroken}
 use Rattle.lte_top.specs.Certificates.{BreaksAt, IsBrokenByte, IsFirstBroken, Judged, IsRight, judged_bytes, certificate_bytes}
@@ -123,8 +123,8 @@ broken_after (j ∷ js) h tail p b =
     elim (broken_next (bytes_of j.certificate) (judged_bytes js ++ tail) p b.number b.within size b.here (subst (λ l. BreaksAt (certificate_bytes l b.number) b.within) split b.broken)) [
       | inl here ↦ absurd (whole_sound j right b.within here)
       | inr (q, e, later) ↦
-        let (r, e', found) = broken_after js (tail_right j js h) tail q later in
-        (r, omega (arith, e, e'), found)
+          let (r, e', found) = broken_after js (tail_right j js h) tail q later in
+          (r, omega (arith, e, e'), found)
     ]
 
 -- and what is broken after them is broken with them
@@ -190,20 +190,23 @@ pub first_broken : (judged : List Judged) → All IsRight judged → (part rest 
 first_broken judged h part rest q few first = record {
   here = inl (broken_later judged h (part ++ rest) q (record { number = 0; within = q; here = omega arith; broken = there }));
   before = λ earlier l b.
-    let (p, e, found) = broken_after judged h (part ++ rest) earlier b in
-    let sooner : p < q = omega (arith, e, l) in
-    first.before p sooner (broken_in_part part rest p few found (omega (arith, sooner, inside)) (inl (omega (arith, sooner, inside))));
+      let (p, e, found) = broken_after judged h (part ++ rest) earlier b in
+      let sooner : p < q = omega (arith, e, l) in
+      first.before p sooner (broken_in_part part rest p few found (omega (arith, sooner, inside)) (inl (omega (arith, sooner, inside))));
 }
   where
     inside : q < length part
     inside = (break_below part q first.here).1
+
     longer : length part ≤ length (take count (part ++ rest))
     longer = omega (arith, few, length-take count (part ++ rest), length-append part rest)
+
     by_kind : BreaksAt part q → BreaksAt (take count (part ++ rest)) q
     by_kind (inl (four, here, off)) = inl (four, omega (arith, here, longer), λ e. off (sym (part_first part rest few q here) ∙ e))
     by_kind (inr (low, high, even, room, large)) =
         let v = same_value part (take count (part ++ rest)) q (sym (part_first part rest few q inside)) (sym (part_first part rest few (q + 1) (omega (arith, room)))) in
         inr (low, high, even, omega (arith, room, longer), rw (← v) large)
+
     there : BreaksAt (take count (part ++ rest)) q
     there = by_kind first.here
 
@@ -215,16 +218,16 @@ cut_off judged h part some few sound =
     record {
       here = inr (sym size, λ e. omega (arith, e, size, some, few));
       before = λ earlier l b.
-        let (p, e, found) = broken_after judged h part earlier b in
-        sound_part part p few sound found;
+          let (p, e, found) = broken_after judged h part earlier b in
+          sound_part part p few sound found;
     }
 
 -- whole certificates are not broken anywhere
 pub none_broken : (judged : List Judged) → All IsRight judged → (place : ℕ) → IsFirstBroken (judged_bytes judged) place → ⊥
 none_broken judged h place first = elim first.here [
   | inl b ↦
-    let (p, e, found) = broken_after judged h [] place (subst (λ l. IsBrokenByte l place) (sym (append-nil (judged_bytes judged))) b) in
-    sound_part [] p (omega arith) nothing found
+      let (p, e, found) = broken_after judged h [] place (subst (λ l. IsBrokenByte l place) (sym (append-nil (judged_bytes judged))) b) in
+      sound_part [] p (omega arith) nothing found
   | inr (end, within) ↦ within (omega (arith, length-judged_bytes judged h))
 ]
   where
@@ -236,13 +239,13 @@ pub none_before_end : (judged : List Judged) → All IsRight judged → (part re
     place < count * length judged + length part → IsFirstBroken (judged_bytes judged ++ (part ++ rest)) place → ⊥
 none_before_end judged h part rest place few long sound before first = elim first.here [
   | inl b ↦
-    let (p, e, found) = broken_after judged h (part ++ rest) place b in
-    sound p (broken_in_part part rest p few found (omega (arith, e, before)) (inr long))
+      let (p, e, found) = broken_after judged h (part ++ rest) place b in
+      sound p (broken_in_part part rest p few found (omega (arith, e, before)) (inr long))
   | inr (end, within) ↦
-    let size = length-judged_bytes judged h in
-    let whole = length-append (judged_bytes judged) (part ++ rest) in
-    let last = length-append part rest in
-    omega (arith, end, before, size, whole, last)
+      let size = length-judged_bytes judged h in
+      let whole = length-append (judged_bytes judged) (part ++ rest) in
+      let last = length-append part rest in
+      omega (arith, end, before, size, whole, last)
 ]
 
 -- ---- one first place

@@ -8,7 +8,6 @@ use Rattle.std.proofs.lemmas.Int.{ints}
 use Rattle.std.proofs.lemmas.Bool.{cases_lt}
 use Rattle.std.proofs.lemmas.Bool.Decides.{eqb_tells}
 use Rattle.std.specs.List.{flat_map, AllZip, Contains}
-use Rattle.std.proofs.lemmas.Slice.Zip.{AllZip-long}
 use Rattle.std.proofs.lemmas.Grind.{flat_map-append}
 use Rattle.cs_num.specs.declared.Sample.{Sample}
 use Rattle.cs_outside.specs.Streams.{HasWritten, HasWrittenFront, HasFilled}
@@ -122,11 +121,11 @@ values_fit slot phase =
     record {
       count = values_below-length 40 row;
       all = λ k d inside.
-        let below : k < 40 = omega (arith, inside, values_below-length 40 row) in
-        record {
-          count = ap length (values_below_at row 40 k d below) ∙ values_below-length 3 (summed_at 40 bits (length bits) k);
-          all = λ t e there. let s = sizes k d inside t e there in omega (arith, s);
-        };
+          let below : k < 40 = omega (arith, inside, values_below-length 40 row) in
+          record {
+            count = ap length (values_below_at row 40 k d below) ∙ values_below-length 3 (summed_at 40 bits (length bits) k);
+            all = λ t e there. let s = sizes k d inside t e there in omega (arith, s);
+          };
     }
 
 -- each entry of the list has a certificate
@@ -136,9 +135,11 @@ entry_has_certificate samples entries entry explained inside =
     let known = is_sound samples entries entry explained inside in
     let values = coded_values (broadcast_slot samples entry.id entry.start entry.frame) entry.phase in
     let tells : TellsMaster values (master_of entry) = known.is_of.master in
-    let made = least_has_certificate values tells.word (values_fit (broadcast_slot samples entry.id entry.start entry.frame) entry.phase) tells.tells.least in
-    (certificate_of values tells.word, certifies samples entry (certificate_of values tells.word) made.whole made.accepted made.values_are tells
-      (subst (λ w. IsLeastWord (certificate_of values tells.word).values w) (sym made.word_is) (subst (λ v. IsLeastWord v tells.word) (sym made.values_are) tells.tells.least)))
+    let made = least_has_certificate values tells.word (values_fit (broadcast_slot samples entry.id entry.start entry.frame) entry.phase) tells.tells.least in (
+      certificate_of values tells.word,
+      certifies samples entry (certificate_of values tells.word) made.whole made.accepted made.values_are tells
+          (subst (λ w. IsLeastWord (certificate_of values tells.word).values w) (sym made.word_is) (subst (λ v. IsLeastWord v tells.word) (sym made.values_are) tells.tells.least)),
+    )
 
 -- and so have all
 pub entries_have : (samples : List Sample) (entries rest : List Entry) → IsExplained samples entries → ((entry : Entry) → Contains rest entry → Contains entries entry) →

@@ -1,5 +1,5 @@
 -- From how an answer comes to which answers an input may have.
-use Rattle.std.proofs.Common.{◌≡◌, ◌≢◌, ◌⊎◌, inl, inr, ℕ, ◌+◌, ◌<◌, ◌≤◌, ◌++◌, List, [], length, Option, Some, None, arith, refl, ap, sym, subst, ◌∙◌, append-nil, length-append}
+use Rattle.std.proofs.Common.{◌≡◌, ◌≢◌, ◌⊎◌, inl, inr, ℕ, ◌<◌, ◌≤◌, List, length, Option, Some, None, arith, refl, ap, sym, subst, ◌∙◌, length-append}
 use Rattle.std.specs.Prelude.{IfSome}
 use Rattle.cs_outside.specs.Counts.{Rose}
 use Rattle.cs_outside.specs.Outside.{Outside}
@@ -7,11 +7,10 @@ use Rattle.cs_outside.specs.Streams.{HasRead, IsAtEnd}
 use Rattle.cs_outside.proofs.Reading.{read_whole, read_front}
 use Rattle.lte_top.specs.declared.form.Form.{Form}
 use Rattle.lte_top.specs.declared.form.Form.TheVariants.{About, Certify, Check, Transmit}
-use Rattle.lte_top.specs.declared.form.Report.{Report}
 use Rattle.lte_top.specs.declared.form.Report.TheVariants.{Hits, Ids, Search}
 use Rattle.lte_top.specs.declared.status.Status.{Status}
 use Rattle.lte_top.specs.declared.status.Status.TheVariants.{Done, Usage, Ragged, TooShort, TooLong, ReadFault, WriteFault, OutOfMemory, BadCell, BadCertificate}
-use Rattle.lte_top.specs.Forms.{words_of, Input, recording, certificates, description, input_of, limit_of, Refuses, RefusesCertificates, RefusesDescription, IsTooLong, IsValid, IsOutput}
+use Rattle.lte_top.specs.Forms.{words_of, Input, recording, certificates, description, input_of, Refuses, RefusesCertificates, RefusesDescription, IsTooLong, IsValid, IsOutput}
 use Rattle.lte_top.specs.Certificates.{IsFirstBroken}
 use Rattle.lte_top.specs.Run.{HasOutput, HasRefusal, IsReadTooLong, IsWriteFault, Ends, RunsForm, Outcome, IsAnswerTo, HasOneAnswer, MayAnswer, IsAnswered, IsComplete, HasRoom}
 use Rattle.cell_tx.specs.declared.error.CellError.{CellError}
@@ -108,7 +107,6 @@ one_refusal certificates bytes first second a b =
     let (p, e, broken) = first_place bytes first a in
     let (q, e', broken') = first_place bytes second b in
     e ∙ ap (λ place. BadCertificate place) (one_first_broken bytes p q broken broken') ∙ sym e'
-
 one_refusal description bytes first second a b =
     let (c, e, failed) = first_condition bytes first a in
     let (d, e', failed') = first_condition bytes second b in
@@ -165,8 +163,8 @@ refusal_is_answer input told refusal left now e h =
     let (rest, split, last) = read_front h.bytes (Some told) now (subst (λ o. HasRead h.bytes o now) e h.read) in
     elim h.settled [
       | inl ended ↦
-        let whole = told_bytes h.bytes told now (subst (λ o. HasRead h.bytes o now) e h.read) ended in
-        subst (λ bytes. Refuses input bytes refusal) (sym whole) h.refused
+          let whole = told_bytes h.bytes told now (subst (λ o. HasRead h.bytes o now) e h.read) ended in
+          subst (λ bytes. Refuses input bytes refusal) (sym whole) h.refused
       | inr always ↦ subst (λ bytes. Refuses input bytes refusal) (sym split) (always rest)
     ]
 
@@ -200,6 +198,7 @@ ends_of form words before now words_are status o = by_status status o
   where
     same : (status : Status) (r : RunsForm words before now status) → Ends form before now status
     same status r = subst (λ f. Ends f before now status) (one_form r.form form (sym r.words_are ∙ words_are)) r.ends
+
     by_status : (status : Status) → Outcome words before now status → Ends form before now status
     by_status Usage o = absurd (o.no_form form words_are)
     by_status Done o = same Done o

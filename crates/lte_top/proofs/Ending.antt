@@ -1,5 +1,5 @@
 -- How the run of a form ends.
-use Rattle.std.proofs.Common.{◌≡◌, ℕ, ◌%◌, ◌<◌, ◌≤◌, List, length, Option, Some, None, Bool, true, false, nat_lt, nat_eq, refl, ap, sym, subst, ◌∙◌, arith}
+use Rattle.std.proofs.Common.{◌≡◌, ℕ, ◌%◌, ◌<◌, List, length, Option, None, Bool, true, false, nat_lt, nat_eq, refl, sym, subst, ◌∙◌, arith}
 use Rattle.std.specs.Prelude.{IfSome}
 use Rattle.std.specs.List.{flat_map}
 use Rattle.std.proofs.lemmas.Bool.{ltb-true, eq-eqb}
@@ -7,7 +7,6 @@ use Rattle.cs_num.specs.declared.Sample.{Sample}
 use Rattle.cs_outside.specs.Counts.{Rose}
 use Rattle.cs_outside.specs.Outside.{Outside}
 use Rattle.cs_outside.specs.Streams.{HasWritten, HasWrittenFront, HasFilled}
-use Rattle.sample_file.specs.Recording.{samples_of}
 use Rattle.sample_file.specs.Reading.{HasReadRecording, least_bytes}
 use Rattle.lte_types.specs.declared.entry.Entry.{Entry}
 use Rattle.tail_cert.specs.Form.{bytes_of}

@@ -1,5 +1,5 @@
 -- Entries of a list.
-use Rattle.std.proofs.Common.{◌≡◌, ◌<◌, List, length, get_or, refl, sym}
+use Rattle.std.proofs.Common.{List, get_or}
 use Rattle.std.specs.Prelude.{All}
 use Rattle.std.proofs.lemmas.List.Elements.{Contains-get_or}
 use Rattle.cs_num.specs.declared.Sample.{Sample}

@@ -1,8 +1,8 @@
 -- The answers to certificates are those of their bytes.
-use Rattle.std.proofs.Common.{◌≡◌, ℕ, suc, ◌*◌, ◌↔◌, Bool, true, false, List, [], ◌∷◌, ◌++◌, length, refl, ap, sym, subst, ◌∙◌, arith, length-append}
+use Rattle.std.proofs.Common.{◌≡◌, ℕ, suc, ◌↔◌, Bool, true, false, List, [], ◌∷◌, length, refl, ap, sym, subst, ◌∙◌, arith}
 use Rattle.std.specs.Prelude.{IsTrue, All, map}
 use Rattle.tail_cert.specs.Certificate.{IsAccepted}
-use Rattle.tail_cert.specs.Form.{count, bytes_of}
+use Rattle.tail_cert.specs.Form.{bytes_of}
 use Rattle.tail_cert.proofs.Codes.{length-bytes_of, same_certificate, same_parts}
 use Rattle.lte_top.specs.Certificates.{Judged, IsRight, judged_bytes, IsChecked}
 use Rattle.lte_top.specs.Texts.{check_text}

@@ -1,7 +1,6 @@
 -- Certificates that are read one after the other: what is known after each read.
-use Rattle.std.proofs.Common.{◌≡◌, ℕ, ◌+◌, ◌*◌, ◌<◌, ◌≤◌, ◌⊎◌, inl, inr, Bool, List, [], ◌∷◌, ◌++◌, length, take, drop, take_all, Option, refl, ap, sym, subst, ◌∙◌, arith, append_assoc, append-nil, length-append}
+use Rattle.std.proofs.Common.{◌≡◌, ℕ, ◌+◌, ◌*◌, ◌<◌, ◌≤◌, inl, inr, Bool, List, [], ◌∷◌, ◌++◌, length, take, Option, refl, ap, sym, subst, ◌∙◌, arith, append_assoc, append-nil, length-append}
 use Rattle.std.specs.Prelude.{All, map}
-use Rattle.std.proofs.Math.ListN.{drop_of_length-le}
 use Rattle.std.proofs.lemmas.List.{length-map, map-append}
 use Rattle.std.proofs.lemmas.List.Elements.{All-nil, All-cons, All-append}
 use Rattle.std.proofs.lemmas.Grind.{flat_map-append}
@@ -12,7 +11,7 @@ use Rattle.tail_cert.specs.Form.{count, bytes_of}
 use Rattle.lte_top.specs.declared.form.Form.TheVariants.{Check}
 use Rattle.lte_top.specs.declared.status.Status.{Status}
 use Rattle.lte_top.specs.declared.status.Status.TheVariants.{Done, Usage, Ragged, TooShort, TooLong, ReadFault, WriteFault, OutOfMemory, BadCell, BadCertificate}
-use Rattle.lte_top.specs.Certificates.{BreaksAt, IsFirstBroken, Judged, IsRight, judged_bytes}
+use Rattle.lte_top.specs.Certificates.{IsFirstBroken, Judged, IsRight, judged_bytes}
 use Rattle.lte_top.specs.Forms.{certificates, most_certificate_bytes, RefusesCertificates}
 use Rattle.lte_top.specs.Reading.{HasReadOn, HasAnswers, IsSound, IsFirstBreak}
 use Rattle.lte_top.specs.Texts.{check_text}
@@ -100,7 +99,7 @@ met_break answers part piece before between now within place s more size first h
     let inside : place < most_certificate_bytes = omega (arith, here, below, few) in
     let always : (rest : List ℕ) → RefusesCertificates ((judged_bytes s.judged ++ (part ++ piece)) ++ rest) (BadCertificate place) = λ rest. (
       subst (λ l. IsFirstBroken l place) (sym (append_assoc (judged_bytes s.judged) (part ++ piece) rest))
-      (subst (λ p. IsFirstBroken (judged_bytes s.judged ++ ((part ++ piece) ++ rest)) p) (omega (arith, many, here)) (first_broken s.judged s.right (part ++ piece) rest within size first)),
+          (subst (λ p. IsFirstBroken (judged_bytes s.judged ++ ((part ++ piece) ++ rest)) p) (omega (arith, many, here)) (first_broken s.judged s.right (part ++ piece) rest within size first)),
       inl inside,
     ) in
     record {
@@ -122,10 +121,13 @@ past_limit answers part piece before between now s more few sound full = record 
   where
     many : length s.judged ≡ length answers
     many = answers_count answers s.judged s.answers_are
+
     size : length (judged_bytes s.judged) ≡ count * length s.judged
     size = length-judged_bytes s.judged s.right
+
     whole : length (judged_bytes s.judged ++ (part ++ piece)) ≡ length (judged_bytes s.judged) + length (part ++ piece)
     whole = length-append (judged_bytes s.judged) (part ++ piece)
+
     refused : (rest : List ℕ) (status : Status) → RefusesCertificates ((judged_bytes s.judged ++ (part ++ piece)) ++ rest) status → ⊥
     refused rest (BadCertificate place) (first, inl inside) =
         none_before_end s.judged s.right (part ++ piece) rest place (omega (arith, few)) (omega (arith, few, full)) sound (omega (arith, many, full, inside))

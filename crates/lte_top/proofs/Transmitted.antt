@@ -1,5 +1,5 @@
 -- The bytes of a transmission.
-use Rattle.std.proofs.Common.{◌≡◌, ℕ, suc, ◌+◌, ◌*◌, ◌≤◌, ◌++◌, List, [], ◌∷◌, length, Option, Some, None, ℤ, pos, inl, inr, refl, ap, sym, subst, ◌∙◌, arith, length-append}
+use Rattle.std.proofs.Common.{◌≡◌, ℕ, ◌*◌, List, [], ◌∷◌, length, Option, pos, refl, ap, sym, subst, ◌∙◌, arith, length-append}
 use Rattle.std.specs.List.{flat_map}
 use Rattle.finite.proofs.Lists.{values_below-length}
 use Rattle.cs_num.specs.declared.Sample.{Sample}
@@ -7,7 +7,7 @@ use Rattle.cell_tx.specs.declared.transmission.Transmission.{Transmission}
 use Rattle.cell_tx.specs.Sent.{received, gain_of, sample_of}
 use Rattle.std.specs.Prelude.{codes}
 use Rattle.cell_json.specs.Description.{number_at}
-use Rattle.cell_json.specs.Reading.{Describes, refusal}
+use Rattle.cell_json.specs.Reading.{Describes}
 use Rattle.lte_top.specs.declared.form.Form.TheVariants.{Transmit}
 use Rattle.lte_top.specs.declared.status.Status.{Status}
 use Rattle.lte_top.specs.declared.status.Status.TheVariants.{Done, Usage, Ragged, TooShort, TooLong, ReadFault, WriteFault, OutOfMemory, BadCell, BadCertificate}

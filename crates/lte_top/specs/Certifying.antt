@@ -1,5 +1,5 @@
 -- What is known while certificates are written. (own)
-use Rattle.std.specs.Prelude.{◌≡◌, ℕ, ◌*◌, ◌<◌, Option, IfSome, List, length}
+use Rattle.std.specs.Prelude.{ℕ, ◌*◌, ◌<◌, Option, IfSome, List, length}
 use Rattle.std.specs.List.{flat_map, AllZip}
 use Rattle.cs_num.specs.declared.Sample.{Sample}
 use Rattle.cs_outside.specs.Streams.{HasWritten, HasWrittenFront, HasFilled}

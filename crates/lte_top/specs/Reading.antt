@@ -1,6 +1,5 @@
 -- What is known of certificates while they are read. (own)
 use Rattle.std.specs.Prelude.{◌≡◌, ℕ, ◌<◌, ◌++◌, Bool, Option, All, List, length, map}
-use Rattle.std.specs.List.{flat_map}
 use Rattle.cs_outside.specs.Streams.{HasRead, HasReadAll, IsAtEnd}
 use Rattle.tail_cert.specs.Certificate.{Held}
 use Rattle.tail_cert.specs.Form.{count, bytes_of}

@@ -19,6 +19,7 @@ const MOST_BYTES: usize = 67_108_864;
 
 // The bytes of a certificate, and those of its mark and its values, which alone can break the form.
 const BYTES: usize = 655_613;
+
 const FRONT_BYTES: usize = 244;
 
 // What the bytes of a certificate that were read so far tell.
@@ -32,11 +33,7 @@ pub(crate) enum Step {
 }
 
 // The answers to the certificates of a source, to a sink.
-pub(crate) fn check_each<S: Source, K: Sink>(
-    alloc: Global,
-    source: &mut S,
-    sink: &mut K,
-) -> Status
+pub(crate) fn check_each<S: Source, K: Sink>(alloc: Global, source: &mut S, sink: &mut K) -> Status
     ensures ends { Ends Check
         (record { left = S.left source.old; read_faults = S.faults source.old; taken = K.taken sink.old; room = K.room sink.old; write_faults = K.faults sink.old })
         (record { left = S.left source.new; read_faults = S.faults source.new; taken = K.taken sink.new; room = K.room sink.new; write_faults = K.faults sink.new })

@@ -50,8 +50,7 @@ pub fn run_in_memory(
 /// it is theirs, but for want of memory and counted faults.
 pub fn an_input_has_one_answer()
     ensures { HasOneAnswer }
-{
-}
+{}
 
 // The same, by the way each answer comes.
 fn run_words<S: Source, K: Sink>(

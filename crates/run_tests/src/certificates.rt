@@ -86,7 +86,11 @@ fn another_cost_and_a_bound_that_no_branch_allows_are_not_accepted(
     for (at, byte) in [(249, [1, 0, 0, 0]), (10_237, [255, 255, 255, 255])] {
         let (status, taken) = check_of(rt.alloc(), changed(rt.alloc(), at, &byte)?, BYTES)?;
         assert_eq!(rt; status, Status::Done, "byte {at}");
-        assert_eq!(rt; taken.as_slice(), b"certificates 1\n0 no\n".as_slice(), "byte {at}");
+        assert_eq!(rt;
+            taken.as_slice(),
+            b"certificates 1\n0 no\n".as_slice(),
+            "byte {at}"
+        );
     }
     Ok(())
 }
@@ -98,7 +102,10 @@ fn each_certificate_of_many_is_answered(rt: HostRuntime) -> Result<(), Fail> {
     bytes.extend_from_slice(&certificate_of_zeros(rt.alloc())?)?;
     let (status, taken) = check_of(rt.alloc(), bytes, 10_007)?;
     assert_eq!(rt; status, Status::Done);
-    assert_eq!(rt; taken.as_slice(), b"certificates 3\n0 yes\n1 no\n2 yes\n".as_slice());
+    assert_eq!(rt;
+        taken.as_slice(),
+        b"certificates 3\n0 yes\n1 no\n2 yes\n".as_slice()
+    );
     Ok(())
 }
 

@@ -46,8 +46,8 @@ row_is_least values start small size room (suc k) =
     later_row values start k row (values_below 64 step) (row_is_least values start small size room k) (values_below-length 64 step)
     (λ x below. values_below_at step 64 x 0 below)
     (λ x below.
-      let branch = branch_within values small k (first_from x) (bit_to x) in
-      rw (values_below_at step 64 x 0 below) (omega (arith, branch)))
+    let branch = branch_within values small k (first_from x) (bit_to x) in
+    rw (values_below_at step 64 x 0 below) (omega (arith, branch)))
 
 -- the table of a start state
 start_of : ℕ → List ℕ
@@ -111,11 +111,14 @@ least_has_certificate values word places least = record {
   where
     small : AreSmall values
     small k d inside = (places.all k d inside).all
+
     within : word_cost values word ≤ length values * 6096
     within = word_cost-within values word small
+
     holds : (s : ℕ) → s < 64 → TableHolds values (word_cost values word) s (table_of values s)
     holds s below = accepted values (word_cost values word) s (start_of s) (table_of values s) below places.count (is_start s)
         (λ other size. least.least other (size ∙ sym places.count)) (omega (arith, within, places.count)) (table_rows values s small)
+
     tables : All IsTable (values_below 64 (table_of values))
     tables s d inside =
         let below : s < 64 = omega (arith, inside, values_below-length 64 (table_of values)) in

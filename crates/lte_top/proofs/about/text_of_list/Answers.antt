@@ -1,5 +1,3 @@
-use Rattle.std.proofs.Common.{subst, sym}
-use Rattle.explain.proofs.Listed.{is_sound}
 use Rattle.lte_top.proofs.Entries.{all_valid}
 use Rattle.lte_top.proofs.about.text_of_list.Goals as goal
 

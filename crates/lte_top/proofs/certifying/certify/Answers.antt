@@ -1,4 +1,3 @@
-use Rattle.std.proofs.Common.{sym, subst}
 use Rattle.lte_top.proofs.Ending.{certified_done, certified_fault}
 use Rattle.lte_top.proofs.certifying.certify.Goals as goal
 

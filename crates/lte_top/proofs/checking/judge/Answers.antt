@@ -1,4 +1,4 @@
-use Rattle.std.proofs.Common.{arith, refl}
+use Rattle.std.proofs.Common.{refl}
 use Rattle.lte_top.proofs.Broken.{first_of_whole}
 use Rattle.lte_top.proofs.checking.judge.Goals as goal
 

@@ -1,6 +1,6 @@
 use Rattle.std.proofs.Common.{◌≡◌, ◌+◌, [], ◌∷◌, ◌++◌, arith, refl, ap, length, length-take, length-append}
 use Rattle.tail_cert.proofs.Codes.{length-bytes_of}
-use Rattle.lte_top.proofs.Progress.{whole_on, early_on, broken_on, past_on, part_on, judged_on, IsReadTo}
+use Rattle.lte_top.proofs.Progress.{whole_on, early_on, broken_on, past_on, part_on, judged_on}
 use Rattle.lte_top.proofs.checking.read_each.Goals as goal
 
 pub returns-in-Ok-eq0-clause-ok : goal.returns-in-Ok-eq0-clause-ok

@@ -1,4 +1,4 @@
-use Rattle.std.proofs.Common.{append_assoc, arith, ◌∙◌}
+use Rattle.std.proofs.Common.{append_assoc, ◌∙◌}
 use Rattle.lte_top.proofs.AnswerLines.{lines_none, lines_more, lines_all}
 use Rattle.lte_top.proofs.text.text_of_answers.Goals as goal
 

@@ -1,4 +1,4 @@
-use Rattle.std.proofs.Common.{◌≡◌, ◌++◌, length, drop, string_bytes}
+use Rattle.std.proofs.Common.{◌≡◌, ◌++◌, drop, string_bytes}
 use Rattle.lte_top.specs.Texts.{answer_lines, check_text}
 use Rattle.lte_top.proofs.text.text_of_answers.Given as goal
 
