@@ -1,7 +1,7 @@
 //! The list of the cells of a recording.
 
-ghost use Rattle.std.specs.Prelude.{◌≡◌, ℕ, ◌+◌, ◌*◌, ◌<◌, ◌≤◌, [], All, nat_abs, length};
-ghost use Rattle.pss_search.specs.Hits.{IsInSpan, hits_of};
+ghost use Rattle.std.specs.Prelude.{◌≡◌, ◌+◌, ◌<◌, ◌≤◌, [], All, nat_abs, length};
+ghost use Rattle.pss_search.specs.Hits.{IsInSpan};
 ghost use Rattle.pbch.specs.Values.{coded_values};
 ghost use Rattle.pbch.specs.Master.{TellsMaster};
 ghost use Rattle.explain.specs.Frame.{broadcast_slot as broadcast_slot_of};
