@@ -2,12 +2,12 @@
 use Rattle.std.proofs.Common.{◌≡◌, ℕ, ◌+◌, ◌-◌, ◌*◌, ◌/◌, ◌%◌, ◌<◌, ◌≤◌, ◌^◌, inl, inr, Bool, true, false, nat_lt, nat_le, arith, refl, sym, subst, ap, ◌∙◌, ℤ, pos, ◌*ℤ◌, unsigned_abs}
 use Rattle.std.specs.Prelude.{if◌then◌else◌}
 use Rattle.std.proofs.lemmas.Bool.{leb-true}
-use Rattle.std.proofs.lemmas.Int.{ints, unsigned_abs-mul}
+use Rattle.std.proofs.lemmas.Int.{unsigned_abs-mul}
 use Rattle.std.proofs.lemmas.Nat.{mul-le}
 use Rattle.finite.specs.Tests.{every_below}
 use Rattle.finite.proofs.Tests.{every_below_at}
 use Rattle.cs_num.specs.declared.Cpx.{Cpx}
-use Rattle.cs_num.specs.Complex.{IsWithin, nothing, plus, times, conjugate, square, size}
+use Rattle.cs_num.specs.Complex.{IsWithin, nothing, plus, times, square, size}
 use Rattle.cs_num.specs.Rounding.{rounded}
 use Rattle.cs_num.specs.Sums.{complex_sum_below}
 use Rattle.sizes.specs.Sizes.{IsSized, minus, multiple}
@@ -16,7 +16,7 @@ use Rattle.cs_num.proofs.Complex.{square-within}
 use Rattle.sizes.proofs.Squares.{re-le, im-le, square-multiple, square-times}
 use Rattle.sizes.proofs.Rounding.{rounded_near}
 use Rattle.sizes.proofs.Sized.{sized-plus, sized-times, sized-sum, sized_plain}
-use Rattle.fold128.specs.Tables.{quarter, cosine, w_at, z_at, z_half, z_real, z_imaginary}
+use Rattle.fold128.specs.Tables.{quarter, cosine, w_at, z_at, z_real, z_imaginary}
 use Rattle.fold128.specs.Symbol.{frequency, useful_term, useful_at}
 use Rattle.fold128.proofs.Entries.{w_period}
 use Rattle.lte_types.specs.declared.frame.Half.{Half}

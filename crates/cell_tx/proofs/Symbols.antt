@@ -1,11 +1,11 @@
 -- Where the samples of a frame's symbols stand.
 use Rattle.std.proofs.Common.{◌≡◌, ℕ, ◌+◌, ◌-◌, ◌*◌, ◌/◌, ◌%◌, ◌<◌, ◌≤◌, Bool, true, false, nat_eq, nat_lt, List, arith, refl, sym, subst, ap, ◌∙◌, ltb-true, ltb-false}
-use Rattle.std.specs.Prelude.{All, if◌then◌else◌}
+use Rattle.std.specs.Prelude.{if◌then◌else◌}
 use Rattle.std.proofs.lemmas.Bool.Decides.{nat_tests}
 use Rattle.finite.specs.Lists.{values_below}
 use Rattle.finite.proofs.Lists.{values_below_at, values_below_same}
 use Rattle.cs_num.specs.declared.Cpx.{Cpx}
-use Rattle.cs_num.specs.Complex.{IsWithin, nothing, value_at}
+use Rattle.cs_num.specs.Complex.{nothing, value_at}
 use Rattle.fold128.specs.Symbol.{useful_at, useful_part}
 use Rattle.fold128.proofs.Samples.{useful_same}
 use Rattle.cell_tx.specs.declared.cell.CellPlan.{CellPlan}

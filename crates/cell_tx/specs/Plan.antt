@@ -1,5 +1,5 @@
 -- Which plans of a cell can be sent. (own, with the ranges of TS 36.211 section 6.11 and TS 36.331 section 6.2.2)
-use Rattle.std.specs.Prelude.{ℕ, ◌≤◌, nat_le, List, [], ◌∷◌, Option}
+use Rattle.std.specs.Prelude.{◌≤◌, nat_le, List, [], ◌∷◌, Option}
 use Rattle.cell_tx.specs.declared.error.CellError.{CellError}
 use Rattle.cell_tx.specs.declared.error.CellError.TheVariants.{Identity, Spare}
 use Rattle.cell_tx.specs.declared.cell.CellPlan.{CellPlan}

@@ -1,12 +1,10 @@
 use Rattle.std.proofs.Common.{◌≡◌, ℕ, ◌+◌, ◌*◌, ◌%◌, ◌<◌, Bool, false, List, get_or, arith, refl, ap, ◌∙◌, length-set}
 use Rattle.std.proofs.lemmas.List.FromFn.{fill_by_all}
 use Rattle.std.proofs.lemmas.List.Edits.{fill_by_more}
-use Rattle.cs_num.specs.declared.Cpx.{Cpx}
 use Rattle.cs_num.specs.Complex.{nothing}
 use Rattle.gold.specs.Sequence.{xor}
 use Rattle.gold.specs.Gold.{gold_bits}
 use Rattle.gold.proofs.Bits.{get_or-gold_bits}
-use Rattle.crs.specs.Reference.{component}
 use Rattle.conv_code.specs.Code.{coded_word}
 use Rattle.conv_code.specs.Reading.{bit_at_place, place_of}
 use Rattle.cell_tx.specs.declared.cell.CellPlan.{CellPlan}

@@ -1,4 +1,4 @@
-use Rattle.std.proofs.Common.{◌≡◌, ℕ, arith, ap, ◌∙◌}
+use Rattle.std.proofs.Common.{ℕ, arith, ap, ◌∙◌}
 use Rattle.finite.proofs.Lists.{values_below_at}
 use Rattle.cs_num.specs.Complex.{nothing, value_at}
 use Rattle.grid_map.specs.Place.{place}

@@ -1,4 +1,4 @@
-use Rattle.std.proofs.Common.{◌≡◌, ℕ, ◌-◌, ◌+◌, ◌*◌, ◌/◌, ◌%◌, ◌≤◌, ◌<◌, Bool, true, false, nat_eq, nat_le, nat_lt, Option, Some, None, List, get_or, arith, refl, sym, ap, ◌∙◌}
+use Rattle.std.proofs.Common.{◌≡◌, ℕ, ◌-◌, ◌+◌, ◌*◌, ◌/◌, ◌%◌, ◌<◌, Bool, true, nat_eq, nat_le, nat_lt, Option, None, List, get_or, arith, sym, ap, ◌∙◌}
 use Rattle.std.specs.Prelude.{◌&&◌, ◌||◌}
 use Rattle.std.proofs.lemmas.Bool.{and_parts, ltb-true}
 use Rattle.finite.specs.Lists.{values_below}
@@ -6,7 +6,7 @@ use Rattle.finite.proofs.Lists.{values_below_at}
 use Rattle.cs_num.specs.declared.Cpx.{Cpx}
 use Rattle.cs_num.specs.Complex.{value_at}
 use Rattle.sync_seq.proofs.PrimaryValues.{pss_list_at}
-use Rattle.cell_tx.specs.Grid.{is_primary, is_secondary}
+use Rattle.cell_tx.specs.Grid.{is_primary}
 use Rattle.cell_tx.specs.Rows.{reference_if}
 use Rattle.cell_tx.proofs.Elements.{element_of_reference, element_of_primary, element_of_secondary, element_of_broadcast}
 use Rattle.cell_tx.proofs.grid.element_of.Goals as goal

@@ -1,4 +1,3 @@
-use Rattle.std.proofs.Common.{◌≡◌, arith}
 use Rattle.cell_tx.proofs.Elements.{pilot_found, pilot_not_found}
 use Rattle.cell_tx.proofs.grid.reference_of.Goals as goal
 

@@ -5,7 +5,6 @@ use Rattle.lte_types.specs.declared.frame.Half.{Half}
 use Rattle.lte_types.specs.declared.frame.Half.TheVariants.{Zero, Five}
 use Rattle.sync_seq.specs.Secondary.{sss_at, sss_list}
 use Rattle.sync_seq.proofs.SecondaryValues.{kept_sign, sss-size}
-use Rattle.cell_tx.specs.Grid.{half_of}
 use Rattle.cell_tx.proofs.grid.sign_of.Goals as goal
 
 sign_at_list : (signs : List ℤ) (n1 n2 : ℕ) (half : Half) (n : ℕ) → signs ≡ sss_list n1 n2 half → n < 62 → get_or signs n (pos 0) ≡ sss_at n1 n2 half n

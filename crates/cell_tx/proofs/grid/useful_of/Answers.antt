@@ -1,4 +1,4 @@
-use Rattle.std.proofs.Common.{◌≡◌, ℕ, ◌+◌, ◌*◌, ◌/◌, ◌%◌, sym, subst, ap, ◌∙◌}
+use Rattle.std.proofs.Common.{ℕ, ◌+◌, ◌*◌, ◌/◌, ◌%◌, sym, subst, ap, ◌∙◌}
 use Rattle.finite.proofs.Lists.{values_below_at}
 use Rattle.cs_num.specs.Complex.{IsWithin, value_at}
 use Rattle.fold128.specs.Symbol.{useful_part}

@@ -1,4 +1,4 @@
-use Rattle.std.proofs.Common.{◌≡◌, arith, ap, ap₂, ◌∙◌}
+use Rattle.std.proofs.Common.{arith, ap, ap₂, ◌∙◌}
 use Rattle.cs_num.specs.Complex.{value_of, times}
 use Rattle.cs_num.proofs.Complex.{within_more}
 use Rattle.cell_tx.specs.Sent.{gain_of, sample_of}

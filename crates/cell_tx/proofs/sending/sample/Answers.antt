@@ -1,5 +1,5 @@
-use Rattle.std.proofs.Common.{◌≡◌, ℕ, ◌%◌, ap, sym, ◌∙◌}
-use Rattle.cell_tx.specs.Sent.{number_of, frame_sample, sample_of}
+use Rattle.std.proofs.Common.{ℕ, ap, sym, ◌∙◌}
+use Rattle.cell_tx.specs.Sent.{sample_of}
 use Rattle.cell_tx.proofs.Bounds.{sent-square}
 use Rattle.cell_tx.proofs.Symbols.{sent_is}
 use Rattle.cell_tx.proofs.sending.sample.Goals as goal

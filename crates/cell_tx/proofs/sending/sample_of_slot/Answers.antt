@@ -1,5 +1,4 @@
-use Rattle.std.proofs.Common.{◌≡◌, ap, sym, subst, ◌∙◌}
-use Rattle.cs_num.specs.Complex.{IsWithin}
+use Rattle.std.proofs.Common.{ap, ◌∙◌}
 use Rattle.cell_tx.specs.Sent.{slot_sample, sample_of}
 use Rattle.cell_tx.proofs.Bounds.{slot-square, small-within}
 use Rattle.cell_tx.proofs.Symbols.{slot_value}
