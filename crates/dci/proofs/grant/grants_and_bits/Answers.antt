@@ -1,0 +1,11 @@
+use Rattle.dci.proofs.Words.{carried_is_grant, sent_carries, only_word}
+use Rattle.dci.proofs.grant.grants_and_bits.Goals as goal
+
+pub returns-clause-grant : goal.returns-clause-grant
+returns-clause-grant c = carried_is_grant
+
+pub returns-clause-sent : goal.returns-clause-sent
+returns-clause-sent c = sent_carries
+
+pub returns-clause-one_word : goal.returns-clause-one_word
+returns-clause-one_word c = only_word

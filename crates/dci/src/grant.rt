@@ -1,0 +1,33 @@
+//! What is granted.
+
+ghost use Rattle.std.specs.Prelude.{◌≡◌, ◌≤◌, Bool, List, Result, length};
+ghost use Rattle.lte_types.specs.declared.sib1_reason.Sib1Reason.{Sib1Reason};
+ghost use Rattle.dci.specs.declared.grant.Grant.{Grant};
+ghost use Rattle.dci.specs.Format1A.{Carries, IsSentFor, Says, IsGrant, sent_word};
+
+/// Where and how a transport block is sent.
+#[derive(Clone, Copy, Debug, PartialEq, Eq)]
+pub struct Grant {
+    /// The first resource block, 0 to 5.
+    pub start: u8,
+    /// The count of resource blocks, 1 to 6; with `start` at most 6.
+    pub blocks: u8,
+    /// The modulation and coding scheme, 0 to 26.
+    pub mcs: u8,
+    /// The column of the table of sizes: 2 or 3.
+    pub column: u8,
+    /// The redundancy version, 0 to 3.
+    pub rv: u8,
+    /// The size of the transport block in bits, without its check.
+    pub size: u16,
+}
+
+/// Bits say one thing: they carry one grant or are refused for one reason, and not both. What they
+/// carry is a grant, and the bits that are sent for a grant are 21 certain ones.
+pub fn grants_and_bits()
+    ensures one_answer { (bits : List Bool) (a b : Result Grant Sib1Reason) → Says bits a → Says bits b → a ≡ b }
+    ensures grant { (bits : List Bool) (grant : Grant) → Carries bits grant → IsGrant grant }
+    ensures sent { (grant : Grant) → IsGrant grant → IsSentFor (sent_word grant) grant }
+    ensures one_word { (bits : List Bool) (grant : Grant) → length bits ≡ 21 →
+        IsSentFor bits grant → bits ≡ sent_word grant }
+{}

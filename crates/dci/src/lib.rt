@@ -1,0 +1,18 @@
+//! The downlink control information of format 1A that grants SystemInformationBlockType1, with six
+//! resource blocks (TS 36.212 section 5.3.3.1.3, TS 36.213 section 7.1).
+#![tactic(auto)]
+
+mod assignment;
+mod grant;
+mod reading;
+mod sizes;
+mod writing;
+
+pub use assignment::{assignments_used_once, riv};
+pub use grant::{Grant, grants_and_bits};
+pub use reading::read;
+pub use sizes::size;
+pub use writing::write;
+
+#[cfg(test)]
+mod tests;
