@@ -1,0 +1,213 @@
+//! The commands `search`, `certify` and `transmit` over sources and sinks in memory.
+
+ghost use Rattle.std.specs.Prelude.{◌≡◌, ◌+◌, ◌*◌, ◌≤◌, All, IfOk, length};
+
+use crate::recordings::{add_errors, put_wide_cell, silence};
+use cell_tx::CellError;
+use cs_outside::{FailSink, FailSource, MemSink, MemSource};
+use lte_top::{Status, Words, run};
+use std::alloc::{AllocError, Global};
+use std::test::Fail;
+
+// The room of a sink where none is named.
+const ROOM: usize = 16_777_216;
+
+// A plain cell: identity 0, all from the first sample on, and the gain 1.
+const PLAIN: &str = r#"{"identity": 0, "sfn": 0, "offset": 0, "samples": 57600, "gain": [1, 0],
+ "duration": "normal", "resource": "one", "spare": 0}"#;
+
+// How a command ends over these bytes, and what it wrote.
+fn output_of(alloc: Global, word: &str, bytes: Vec<u8>) -> Result<(Status, Vec<u8>), AllocError> {
+    let mut words = Words::new(alloc);
+    words.push(word)?;
+    let mut source = MemSource::new(bytes);
+    let mut sink = MemSink::new(alloc, ROOM)?;
+    let status = run(alloc, &words, &mut source, &mut sink);
+    Ok((status, sink.taken().to_vec(alloc)?))
+}
+
+// The same of a text.
+fn output_of_text(alloc: Global, word: &str, text: &str) -> Result<(Status, Vec<u8>), AllocError> {
+    output_of(alloc, word, text.as_bytes().to_vec(alloc)?)
+}
+
+#[test]
+fn silence_holds_no_cell(rt: HostRuntime) -> Result<(), Fail> {
+    let (status, taken) = output_of(rt.alloc(), "search", silence(rt.alloc(), 230_400)?)?;
+    assert_eq!(rt; status, Status::Done);
+    assert_eq!(rt; taken.as_slice(), b"cells 0\n".as_slice());
+    let (status, taken) = output_of(rt.alloc(), "search", silence(rt.alloc(), 7_680_000)?)?;
+    assert_eq!(rt; status, Status::Done);
+    assert_eq!(rt; taken.as_slice(), b"cells 0\n".as_slice());
+    let (status, taken) = output_of(rt.alloc(), "certify", silence(rt.alloc(), 230_400)?)?;
+    assert_eq!(rt; status, Status::Done);
+    assert!(rt; taken.is_empty());
+    Ok(())
+}
+
+#[test]
+fn recordings_that_search_refuses(rt: HostRuntime) -> Result<(), Fail> {
+    for (len, refusal) in [
+        (0, Status::TooShort),
+        (230_396, Status::TooShort),
+        (230_399, Status::Ragged),
+        (7_680_001, Status::TooLong),
+    ] {
+        let (status, taken) = output_of(rt.alloc(), "search", silence(rt.alloc(), len)?)?;
+        assert_eq!(rt; status, refusal, "{len} bytes");
+        assert!(rt; taken.is_empty(), "{len} bytes");
+    }
+    Ok(())
+}
+
+#[test]
+fn calls_of_search_that_fail(rt: HostRuntime) -> Result<(), Fail> {
+    let mut words = Words::new(rt.alloc());
+    words.push("search")?;
+    let fails = vec![in rt.alloc(); 2]?;
+    let mut source = FailSource::new(silence(rt.alloc(), 230_400)?, fails, 1_000);
+    let mut sink = MemSink::new(rt.alloc(), ROOM)?;
+    assert_eq!(rt; run(rt.alloc(), &words, &mut source, &mut sink), Status::ReadFault);
+    assert!(rt; sink.taken().is_empty());
+    let mut source = FailSource::new(silence(rt.alloc(), 230_400)?, Vec::new(rt.alloc()), 1_000);
+    let mut sink = FailSink::new(rt.alloc(), vec![in rt.alloc(); 1]?, 3, ROOM)?;
+    assert_eq!(rt; run(rt.alloc(), &words, &mut source, &mut sink), Status::WriteFault);
+    assert_eq!(rt; sink.taken(), b"cel".as_slice());
+    Ok(())
+}
+
+#[test]
+fn a_sent_cell_is_found(rt: HostRuntime) -> Result<(), Fail> {
+    let (status, bytes) = output_of_text(rt.alloc(), "transmit", PLAIN)?;
+    assert_eq!(rt; status, Status::Done);
+    assert_eq!(rt; bytes.len(), 230_400);
+    let (status, taken) = output_of(rt.alloc(), "hits", bytes.clone()?)?;
+    assert_eq!(rt; status, Status::Done);
+    assert_eq!(rt; taken.as_slice(), b"hits 2\n832 0\n10432 0\n".as_slice());
+    let (status, taken) = output_of(rt.alloc(), "ids", bytes.clone()?)?;
+    assert_eq!(rt; status, Status::Done);
+    assert_eq!(rt; taken.as_slice(), b"ids 2\n832 0 0 0\n10432 0 5 0\n".as_slice());
+    let (status, taken) = output_of(rt.alloc(), "search", bytes)?;
+    assert_eq!(rt; status, Status::Done);
+    assert_eq!(rt;
+        taken.as_slice(),
+        b"cells 1\ncell 0 at 0 sfn 0 ports 1 n6 phich normal one spare 0\nsib1 none not-read\n"
+            .as_slice()
+    );
+    Ok(())
+}
+
+#[test]
+fn a_cell_that_begins_before_the_recording_is_found_with_errors_at_the_bound(
+    rt: HostRuntime,
+) -> Result<(), Fail> {
+    let text = r#"{"identity": 503, "sfn": 5, "offset": 19199, "samples": 57600, "gain": [0, 28],
+ "duration": "normal", "resource": "one", "spare": 0}"#;
+    let (status, mut bytes) = output_of_text(rt.alloc(), "transmit", text)?;
+    assert_eq!(rt; status, Status::Done);
+    add_errors(&mut bytes, 56);
+    let (status, taken) = output_of(rt.alloc(), "search", bytes)?;
+    assert_eq!(rt; status, Status::Done);
+    let line = "cell 503 at 1 sfn 6 ports 1 n6 phich normal one spare 0\nsib1 none not-read\n";
+    assert!(rt; contains(&taken, line.as_bytes()));
+    Ok(())
+}
+
+#[test]
+fn the_frame_number_goes_round(rt: HostRuntime) -> Result<(), Fail> {
+    let text = r#"{"identity": 0, "sfn": 1023, "offset": 1, "samples": 57600, "gain": [1, 0],
+ "duration": "extended", "resource": "oneSixth", "spare": 1023}"#;
+    let (status, bytes) = output_of_text(rt.alloc(), "transmit", text)?;
+    assert_eq!(rt; status, Status::Done);
+    let (status, taken) = output_of(rt.alloc(), "search", bytes)?;
+    assert_eq!(rt; status, Status::Done);
+    let line = "cell 0 at 19199 sfn 0 ports 1 n6 phich extended oneSixth spare 1023\n";
+    assert!(rt; contains(&taken, line.as_bytes()));
+    Ok(())
+}
+
+// Whether a piece stands in a text.
+fn contains(text: &[u8], piece: &[u8]) -> bool {
+    let mut rest = text;
+    while !rest.is_empty() {
+        if rest.starts_with(piece) {
+            return true;
+        }
+        rest = &rest[1..];
+    }
+    false
+}
+
+#[test]
+fn a_wider_cell_is_certified(rt: HostRuntime) -> Result<(), Fail> {
+    let mut bytes = silence(rt.alloc(), 230_400)?;
+    put_wide_cell(&mut bytes);
+    let (status, taken) = output_of(rt.alloc(), "search", bytes.clone()?)?;
+    assert_eq!(rt; status, Status::Done);
+    assert_eq!(rt;
+        taken.as_slice(),
+        b"cells 1\ncell 0 at 0 sfn 0 ports 1 n50 phich normal one spare 0\nsib1 none not-read\n"
+            .as_slice()
+    );
+    let (status, certificates) = output_of(rt.alloc(), "certify", bytes)?;
+    assert_eq!(rt; status, Status::Done);
+    assert_eq!(rt; certificates.len(), 655_613);
+    let (status, taken) = output_of(rt.alloc(), "check", certificates)?;
+    assert_eq!(rt; status, Status::Done);
+    assert_eq!(rt; taken.as_slice(), b"certificates 1\n0 yes\n".as_slice());
+    Ok(())
+}
+
+#[test]
+fn certificates_into_a_sink_that_fails_leave_a_front(rt: HostRuntime) -> Result<(), Fail> {
+    let mut bytes = silence(rt.alloc(), 230_400)?;
+    put_wide_cell(&mut bytes);
+    let (_, whole) = output_of(rt.alloc(), "certify", bytes.clone()?)?;
+    let mut words = Words::new(rt.alloc());
+    words.push("certify")?;
+    let mut source = MemSource::new(bytes);
+    let mut sink = FailSink::new(rt.alloc(), vec![in rt.alloc(); 2]?, 10_000, ROOM)?;
+    assert_eq!(rt; run(rt.alloc(), &words, &mut source, &mut sink), Status::WriteFault);
+    assert_eq!(rt; sink.taken().len(), 20_000);
+    assert!(rt; whole.starts_with(sink.taken()));
+    Ok(())
+}
+
+#[test]
+fn descriptions_that_are_refused(rt: HostRuntime) -> Result<(), Fail> {
+    for (text, cause) in [
+        ("{}", CellError::Form),
+        ("", CellError::Form),
+        (&PLAIN[..100], CellError::Form),
+        (
+            r#"{"identity": 504, "sfn": 1024, "offset": 0, "samples": 57600, "gain": [1, 0],
+ "duration": "normal", "resource": "one", "spare": 0}"#,
+            CellError::Sfn,
+        ),
+        (
+            r#"{"identity": 504, "sfn": 0, "offset": 0, "samples": 57600, "gain": [1, 0],
+ "duration": "normal", "resource": "one", "spare": 1024}"#,
+            CellError::Identity,
+        ),
+    ] {
+        let (status, taken) = output_of_text(rt.alloc(), "transmit", text)?;
+        assert_eq!(rt; status, Status::BadCell(cause), "{text}");
+        assert_eq!(rt; status.code(), 9);
+        assert!(rt; taken.is_empty());
+    }
+    Ok(())
+}
+
+#[test]
+fn a_description_that_is_too_long(rt: HostRuntime) -> Result<(), Fail> {
+    for (len, refusal) in [
+        (65_536, Status::BadCell(CellError::Form)),
+        (65_537, Status::TooLong),
+    ] {
+        let spaces = vec![in rt.alloc(); b' '; len]?;
+        let (status, taken) = output_of(rt.alloc(), "transmit", spaces)?;
+        assert_eq!(rt; status, refusal);
+        assert!(rt; taken.is_empty());
+    }
+    Ok(())
+}
