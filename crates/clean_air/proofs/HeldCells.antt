@@ -1,5 +1,5 @@
 -- The list of a clean recording holds its cell.
-use Rattle.std.proofs.Common.{◌≡◌, ◌≢◌, ℕ, ◌+◌, ◌-◌, ◌*◌, ◌/◌, ◌%◌, ◌<◌, ◌≤◌, ◌⊎◌, inl, inr, arith, refl, ap, sym, subst, ◌∙◌, List, length, nat_eq, nat_le, Bool, true}
+use Rattle.std.proofs.Common.{◌≡◌, ℕ, ◌+◌, ◌/◌, ◌%◌, ◌<◌, ◌≤◌, inl, inr, arith, refl, ap, sym, subst, ◌∙◌, List, length, nat_eq, nat_le, true}
 use Rattle.std.specs.Prelude.{◌&&◌}
 use Rattle.std.specs.List.{Contains}
 use Rattle.std.proofs.lemmas.Bool.{cases_lt, cases_eq}
@@ -12,7 +12,7 @@ use Rattle.lte_types.specs.declared.frame.Half.{Half}
 use Rattle.lte_types.specs.declared.frame.Half.TheVariants.{Zero, Five}
 use Rattle.lte_types.specs.declared.hit.Hit.{Hit}
 use Rattle.lte_types.specs.declared.entry.Entry.{Entry}
-use Rattle.pss_search.specs.Hits.{IsHit, found, hits_of}
+use Rattle.pss_search.specs.Hits.{IsHit, found}
 use Rattle.pss_search.proofs.Listed.{list_is_right}
 use Rattle.sss_detect.specs.Place.{start_of, cell_of}
 use Rattle.sss_detect.specs.Identity.{identity_of}
@@ -28,7 +28,7 @@ use Rattle.cell_tx.specs.Plan.{IsSendable}
 use Rattle.cell_tx.specs.Block.{broadcast_word}
 use Rattle.cell_tx.specs.Clean.{IsClean, start_of as start_after, number_at_start}
 use Rattle.explain.specs.Frame.{frame_at, useful_at, seen_slot, broadcast_slot}
-use Rattle.explain.specs.Entries.{identity_at, start_at, master_of, epoch, distance, is_same_cell, IsEntryOf, IsExplained}
+use Rattle.explain.specs.Entries.{master_of, epoch, distance, is_same_cell, IsExplained}
 use Rattle.explain.specs.Masters.{entry_of}
 use Rattle.explain.specs.Laws.{IsEntry}
 use Rattle.explain.proofs.Listed.{is_sound, is_complete}
@@ -118,7 +118,7 @@ module _ (recording : List Sample) (plan : CellPlan) (sfn offset : ℕ) (gain : 
       let inside : h.t + 128 ≤ length recording = omega (arith, long, h.is_hit.high) in
       let hit : Hit = found recording h.t (plan.identity % 3) in
       let pair : identity_of recording hit ≡ (plan.identity / 3, h.half) = sent_pair_is_identified recording hit (plan.identity / 3) h.half
-          (synchronisation_at recording plan sfn offset gain eps h.t clean inside h.half h.is_hit.is h.is_hit.low sendable.identity) in
+      (synchronisation_at recording plan sfn offset gain eps h.t clean inside h.half h.is_hit.is h.is_hit.low sendable.identity) in
       let cell : cell_of (plan.identity / 3) (plan.identity % 3) ≡ plan.identity = omega arith in
       record {
         hit = hit;

@@ -1,5 +1,5 @@
 -- The word that a cell broadcasts: its fields, and its check.
-use Rattle.std.proofs.Common.{◌≡◌, ℕ, zero, suc, ◌+◌, ◌-◌, ◌*◌, ◌/◌, ◌%◌, ◌^◌, ◌<◌, ◌≤◌, inl, arith, refl, ap, sym, subst, ◌∙◌, cond, List, [], ◌∷◌, ◌++◌, length, take, get_or, replicate, nat_eq, Bool, true, false, bit_xor}
+use Rattle.std.proofs.Common.{◌≡◌, ℕ, zero, suc, ◌+◌, ◌-◌, ◌/◌, ◌%◌, ◌^◌, ◌<◌, ◌≤◌, inl, arith, refl, ap, sym, subst, ◌∙◌, cond, List, [], ◌∷◌, ◌++◌, length, take, get_or, replicate, nat_eq, Bool, true, false, bit_xor}
 use Rattle.std.specs.Prelude.{slice_range}
 use Rattle.std.specs.Int.Bits.{xor_zero_r}
 use Rattle.std.proofs.Math.Nat.{div-eq_of_lt, div-one}
@@ -12,7 +12,7 @@ use Rattle.lte_types.specs.declared.duration.Duration.{Duration}
 use Rattle.lte_types.specs.declared.duration.Duration.TheVariants.{Normal, Extended}
 use Rattle.lte_types.specs.declared.resource.Resource.{Resource}
 use Rattle.lte_types.specs.declared.resource.Resource.TheVariants.{OneSixth, Half, One, Two}
-use Rattle.pbch.specs.Master.{field, block, mask, duration, resource, PassesWith}
+use Rattle.pbch.specs.Master.{field, duration, resource, PassesWith}
 use Rattle.pbch.proofs.Numbers.{number_below, number_more}
 use Rattle.cell_tx.specs.declared.cell.CellPlan.{CellPlan}
 use Rattle.cell_tx.specs.Block.{bit_of, bits_of, duration_code, resource_code, block_bits, broadcast_word}
@@ -30,17 +30,19 @@ bit_at : (width n i : ℕ) → i < width → get_or (bits_of width n) i false �
 unfolding bits_of
 bit_at width n i h = values_below_at (bit_of width n) width i false h
 
+bit_number : (width n i : ℕ) → i < width → cond (get_or (bits_of width n) i false) 1 0 ≡ n / 2 ^ (width - 1 - i) % 2
+bit_number width n i h = rw (bit_at width n i h) (as_bit (n / 2 ^ (width - 1 - i) % 2) (omega arith))
+
 -- the first i bits are the number without its last ones
 number_so_far : (width n i : ℕ) → n < 2 ^ width → i ≤ width → number (take i (bits_of width n)) ≡ n / 2 ^ (width - i)
 unfolding number
 number_so_far width n zero small fits = let e : width - 0 ≡ width = omega arith in rw e (sym (div-eq_of_lt small))
 number_so_far width n (suc i) small fits =
-    let whole : n / 2 ^ (width - i) ≡ n / 2 ^ (width - 1 - i) / 2 =
-    sym (shr-shr n (width - 1 - i) 1 ∙ ap (λ k. n / 2 ^ k) (omega arith)) in
+    let index : width - 1 - i + 1 ≡ width - i = omega (arith, fits) in
+    let whole : n / 2 ^ (width - 1 - i) / 2 ≡ n / 2 ^ (width - i) = rw (sym index) (shr-shr n (width - 1 - i) 1) in
     let before = number_so_far width n i small (omega (arith, fits)) in
     let more = number_more (bits_of width n) i (omega (arith, fits, bits-length width n)) in
-    let last : cond (get_or (bits_of width n) i false) 1 0 ≡ n / 2 ^ (width - 1 - i) % 2 =
-    ap (λ b. cond b 1 0) (bit_at width n i fits) ∙ as_bit (n / 2 ^ (width - 1 - i) % 2) (omega arith) in
+    let last = bit_number width n i fits in
     let rest : n / 2 ^ (width - suc i) ≡ n / 2 ^ (width - 1 - i) = ap (λ k. n / 2 ^ k) (omega arith) in
     let next : i + 1 ≡ suc i = omega arith in
     subst (λ k. number (take k (bits_of width n)) ≡ n / 2 ^ (width - suc i)) next (omega (arith, whole, before, more, last, rest))

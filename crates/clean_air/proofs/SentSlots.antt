@@ -1,13 +1,13 @@
 -- The broadcast channel of a clean recording: its slot is received and carries the cell's word.
-use Rattle.std.proofs.Common.{◌≡◌, ℕ, ◌+◌, ◌-◌, ◌*◌, ◌/◌, ◌%◌, ◌<◌, ◌≤◌, arith, refl, ap, sym, subst, ◌∙◌, List, [], length, get_or, nat_eq, nat_le, nat_lt, not, Bool, true, false, None}
-use Rattle.std.specs.Prelude.{if◌then◌else◌, ◌&&◌, ◌||◌}
+use Rattle.std.proofs.Common.{◌≡◌, ℕ, ◌+◌, ◌-◌, ◌*◌, ◌/◌, ◌%◌, ◌<◌, ◌≤◌, arith, refl, ap, sym, subst, ◌∙◌, List, [], length, nat_eq, nat_le, nat_lt, Bool, true, false, None}
+use Rattle.std.specs.Prelude.{if◌then◌else◌, ◌&&◌}
 use Rattle.std.proofs.lemmas.Bool.Decides.{nat_tests}
 use Rattle.cs_num.specs.declared.Cpx.{Cpx}
 use Rattle.cs_num.specs.declared.Sample.{Sample}
 use Rattle.finite.proofs.Lists.{values_below_at}
 use Rattle.crs.specs.Reference.{is_reference, first_subcarrier, reference_at}
 use Rattle.observe.specs.Seen.{seen_symbol}
-use Rattle.soft_bits.specs.Soft.{SeenSlot, pilot_symbol, pilot_subcarrier, pilot_sent}
+use Rattle.soft_bits.specs.Soft.{pilot_symbol, pilot_subcarrier, pilot_sent}
 use Rattle.grid_map.specs.declared.Place.{Place}
 use Rattle.grid_map.specs.Place.{place}
 use Rattle.grid_map.specs.Broadcast.{pbch_place, is_pbch, pbch_index}

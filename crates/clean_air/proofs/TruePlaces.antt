@@ -1,12 +1,12 @@
 -- Places of primary signals and epochs of entries, on their circles.
-use Rattle.std.proofs.Common.{◌≡◌, ◌≢◌, ℕ, ◌+◌, ◌-◌, ◌*◌, ◌/◌, ◌%◌, ◌<◌, ◌≤◌, ◌⊎◌, inl, inr, min, arith, refl, sym, ◌∙◌, subst, true, nat_eq, nat_le}
+use Rattle.std.proofs.Common.{◌≡◌, ℕ, ◌+◌, ◌-◌, ◌*◌, ◌/◌, ◌%◌, ◌<◌, ◌≤◌, ◌⊎◌, inl, inr, arith, subst}
 use Rattle.std.proofs.lemmas.Bool.{cases_lt}
 use Rattle.lte_types.specs.declared.frame.Half.{Half}
 use Rattle.lte_types.specs.declared.frame.Half.TheVariants.{Zero, Five}
 use Rattle.sss_detect.specs.Place.{start_of}
 use Rattle.explain.specs.Entries.{distance}
 use Rattle.cell_tx.specs.Clean.{start_of as start_after}
-use Rattle.clean_air.proofs.SentSymbols.{place_of, IsTruePlace}
+use Rattle.clean_air.proofs.SentSymbols.{IsTruePlace}
 
 -- ---- the true place of the span
 
@@ -23,16 +23,24 @@ pub record HasTrueHit (offset : ℕ) : Type 0 where
 
 pub true_hit : (offset : ℕ) → offset < 19200 → HasTrueHit offset
 true_hit offset within = elim (cases_lt (start_after offset) 18505) [
-  | inl low ↦ record { t = start_after offset + 832; half = Zero; is_hit = record {
+  | inl low ↦ record {
+    t = start_after offset + 832;
+    half = Zero;
+    is_hit = record {
       low = omega arith;
       high = omega (arith, low);
       is = record { frame = (start_after offset + offset) / 19200; place = omega (arith, within) };
-    } }
-  | inr high ↦ record { t = start_after offset - 8768; half = Five; is_hit = record {
+    };
+  }
+  | inr high ↦ record {
+    t = start_after offset - 8768;
+    half = Five;
+    is_hit = record {
       low = omega (arith, high);
       high = omega arith;
       is = record { frame = 0; place = omega (arith, within, high) };
-    } }
+    };
+  }
 ]
 
 -- a true place tells the start of the cell's frames
@@ -126,6 +134,6 @@ module _ (a b m n : ℕ) (start : a < 19200) (other : b < 19200) (number : m < 1
   pub same_numbers : a ≡ b → m ≡ n
   same_numbers e =
       let k : (1024 - m) % 1024 ≡ (1024 - n) % 1024 = same_by b ((1024 - m) % 1024) ((1024 - n) % 1024) other (omega arith) (omega arith)
-          (subst (λ x. ((x + 19200 * ((1024 - m) % 1024) - (b + 19200 * ((1024 - n) % 1024))) + (b + 19200 * ((1024 - n) % 1024) - (x + 19200 * ((1024 - m) % 1024))) ≤ 9)
-          ⊎ (19660791 ≤ (x + 19200 * ((1024 - m) % 1024) - (b + 19200 * ((1024 - n) % 1024))) + (b + 19200 * ((1024 - n) % 1024) - (x + 19200 * ((1024 - m) % 1024))))) e on_circle) in
+      (subst (λ x. ((x + 19200 * ((1024 - m) % 1024) - (b + 19200 * ((1024 - n) % 1024))) + (b + 19200 * ((1024 - n) % 1024) - (x + 19200 * ((1024 - m) % 1024))) ≤ 9)
+      ⊎ (19660791 ≤ (x + 19200 * ((1024 - m) % 1024) - (b + 19200 * ((1024 - n) % 1024))) + (b + 19200 * ((1024 - n) % 1024) - (x + 19200 * ((1024 - m) % 1024))))) e on_circle) in
       omega (arith, k, number, other_number)

@@ -1,6 +1,7 @@
-//! Laws of clean reception: what is sent of a cell, received with one gain and errors of at most
-//! twice its size, is found by the receiver. Each law is the contract of a function without a
-//! body, whole, with its premises; it speaks of the receiver's definitions alone.
+//! Clean reception: what is sent of a cell, received with one gain and errors of at most twice its
+//! size, is found by the receiver. The list of cells of a recording holds each cell of which it is
+//! clean. Each law on the way is the contract of a function without a body, whole, with its
+//! premises; it speaks of the receiver's definitions alone.
 #![tactic(auto)]
 
 mod broadcast;
@@ -20,3 +21,6 @@ pub use score::sent_pair_is_best;
 pub use table::table_is_nearly_multiplicative;
 pub use values::values_support_the_sent_bits;
 pub use words::spoken_word_is_the_least;
+
+#[cfg(test)]
+mod tests;
