@@ -13,3 +13,8 @@ pub mod SoftValues
 pub mod SpokenWords
 pub mod Masters
 pub mod Grids
+pub mod SentSymbols
+pub mod SentBlock
+pub mod TruePlaces
+pub mod SentSlots
+pub mod HeldCells

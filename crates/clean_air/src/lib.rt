@@ -1,10 +1,12 @@
-//! Laws of clean reception: what is sent of a cell, received with one gain and errors of at most
-//! twice its size, is found by the receiver. Each law is the contract of a function without a
-//! body, whole, with its premises; it speaks of the receiver's definitions alone.
+//! Clean reception: what is sent of a cell, received with one gain and errors of at most twice its
+//! size, is found by the receiver. The list of cells of a recording holds each cell of which it is
+//! clean. Each law on the way is the contract of a function without a body, whole, with its
+//! premises; it speaks of the receiver's definitions alone.
 #![tactic(auto)]
 
 mod broadcast;
 mod budget;
+mod clean;
 mod peak;
 mod score;
 mod table;
@@ -13,8 +15,12 @@ mod words;
 
 pub use broadcast::sent_master_is_told;
 pub use budget::seen_amplitude_is_near;
+pub use clean::explain_clean;
 pub use peak::clean_primary_is_a_hit;
 pub use score::sent_pair_is_best;
 pub use table::table_is_nearly_multiplicative;
 pub use values::values_support_the_sent_bits;
 pub use words::spoken_word_is_the_least;
+
+#[cfg(test)]
+mod tests;

@@ -11,6 +11,7 @@ use Rattle.sample_file.specs.Reading.{HasReadRecording, least_bytes}
 use Rattle.lte_types.specs.declared.entry.Entry.{Entry}
 use Rattle.tail_cert.specs.Form.{bytes_of}
 use Rattle.explain.specs.Entries.{IsExplained}
+use Rattle.clean_air.specs.Clean.{HoldsCleanCells}
 use Rattle.lte_top.specs.declared.form.Form.{Form}
 use Rattle.lte_top.specs.declared.form.Form.TheVariants.{Certify}
 use Rattle.lte_top.specs.declared.status.Status.{Status}
@@ -65,22 +66,22 @@ certified_output samples entries before now output h certified = record {
   is_output = subst (λ s. IsCertified s output) h.samples certified;
 }
 
-pub certified_done : (samples : List Sample) (entries : List Entry) (before now : Outside) → HasReadRecording samples before.left now.left → IsExplained samples entries →
+pub certified_done : (samples : List Sample) (entries : List Entry) (before now : Outside) → HasReadRecording samples before.left now.left → IsExplained samples entries → HoldsCleanCells samples entries →
     HasCertifiedAll samples entries before.taken now.taken before.room now.room → IsDone Certify before now
-certified_done samples entries before now h explained all = record {
+certified_done samples entries before now h explained holds all = record {
   output = flat_map bytes_of all.certificates;
   has_output = certified_output samples entries before.left now.left (flat_map bytes_of all.certificates) h
-      (record { entries = entries; explained = explained; certificates = all.certificates; each = all.each; bytes = refl });
+      (record { entries = entries; explained = explained; holds = holds; certificates = all.certificates; each = all.each; bytes = refl });
   written = all.written;
   filled = subst (λ n. HasFilled n before.room now.room) (sym (certified_length samples entries all.certificates all.each)) all.filled;
 }
 
-pub certified_fault : (samples : List Sample) (entries : List Entry) (before now : Outside) → HasReadRecording samples before.left now.left → IsExplained samples entries →
+pub certified_fault : (samples : List Sample) (entries : List Entry) (before now : Outside) → HasReadRecording samples before.left now.left → IsExplained samples entries → HoldsCleanCells samples entries →
     HasCertifiedSome samples entries before.taken now.taken before.room → Rose before.write_faults now.write_faults → IsWriteFault Certify before now
-certified_fault samples entries before now h explained some rose = record {
+certified_fault samples entries before now h explained holds some rose = record {
   output = flat_map bytes_of some.certificates;
   has_output = certified_output samples entries before.left now.left (flat_map bytes_of some.certificates) h
-      (record { entries = entries; explained = explained; certificates = some.certificates; each = some.each; bytes = refl });
+      (record { entries = entries; explained = explained; holds = holds; certificates = some.certificates; each = some.each; bytes = refl });
   front_written = some.front;
   counted = rose;
   full = subst (λ n. IfSome before.room (λ room. room < n)) (sym (certified_length samples entries some.certificates some.each)) some.full;

@@ -7,6 +7,7 @@ use Rattle.pbch.specs.Values.{coded_values}
 use Rattle.pbch.specs.Master.{Tells, Carries}
 use Rattle.explain.specs.Frame.{broadcast_slot}
 use Rattle.explain.specs.Entries.{IsExplained}
+use Rattle.clean_air.specs.Clean.{HoldsCleanCells}
 use Rattle.tail_cert.specs.Certificate.{Held, IsWhole, IsAccepted}
 use Rattle.tail_cert.specs.Form.{count, bytes_of, IsOffMark, IsLargeValue}
 use Rattle.lte_top.specs.Texts.{check_text}
@@ -72,10 +73,12 @@ pub record Certifies (samples : List Sample) (entry : Entry) (c : Held) : Type 0
   pub block : Carries c.word entry.mib
   pub cost : c.cost ≡ entry.cost
 
--- the output is the bytes of certificates, one for each entry of the list, in order
+-- the output is the bytes of certificates, one for each entry of the list, in order; the list holds each cell of which the
+-- recording is clean
 pub record IsCertified (samples : List Sample) (output : List ℕ) : Type 0 where
   pub entries : List Entry
   pub explained : IsExplained samples entries
+  pub holds : HoldsCleanCells samples entries
   pub certificates : List Held
   pub each : AllZip (Certifies samples) entries certificates
   pub bytes : output ≡ flat_map bytes_of certificates

@@ -15,6 +15,7 @@ use Rattle.lte_top.specs.Transmitting.{most_description_bytes, IsTransmitted}
 use Rattle.lte_top.specs.Certificates.{IsFirstBroken, IsChecked, IsCertified}
 use Rattle.lte_types.specs.declared.entry.Entry.{Entry}
 use Rattle.explain.specs.Entries.{IsExplained}
+use Rattle.clean_air.specs.Clean.{HoldsCleanCells}
 use Rattle.report.specs.Lines.{report_text}
 use Rattle.lte_top.specs.Texts.{hits_text, ids_text}
 
@@ -96,10 +97,11 @@ pub record IsValid (input : Input) (bytes : List ℕ) : Type 0 where
 
 -- ---- what is written
 
--- the text of the list of a recording
+-- the text of the list of a recording, which holds each cell of which the recording is clean
 pub record IsListText (samples : List Sample) (output : List ℕ) : Type 0 where
   pub entries : List Entry
   pub explained : IsExplained samples entries
+  pub holds : HoldsCleanCells samples entries
   pub text : output ≡ report_text entries
 
 -- the text of a report about a recording

@@ -12,8 +12,9 @@ ghost use Rattle.lte_top.specs.declared.form.Form.TheVariants.{About};
 use crate::form::Report;
 use crate::status::Status;
 use crate::text::{text_of_hits, text_of_ids};
+use clean_air::explain_clean;
 use cs_outside::{Sink, Source, write_whole};
-use explain::{EntryList, Workspace, explain};
+use explain::{EntryList, Workspace};
 use pss_search::{HitList, hits};
 use report::text;
 use sample_file::{FileError, Recording, read_recording};
@@ -96,7 +97,7 @@ fn text_of_list(alloc: Global, recording: &Recording) -> Result<String, AllocErr
     ensures { IfOk result (λ text. IsListText recording.now (string_bytes text)) }
 {
     let (mut work, mut list) = room_for_list(alloc)?;
-    explain(recording, &mut work, &mut list);
+    explain_clean(recording, &mut work, &mut list);
     text(alloc, list.slice())
 }
 

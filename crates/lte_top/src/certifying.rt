@@ -10,8 +10,9 @@ ghost use Rattle.lte_top.specs.declared.form.Form.TheVariants.{Certify};
 
 use crate::about::{recording_of, room_for_list};
 use crate::status::Status;
+use clean_air::explain_clean;
 use cs_outside::{Failed, Sink, Source, write_whole};
-use explain::{explain, values_of};
+use explain::values_of;
 use lte_types::Entry;
 use sample_file::Recording;
 use std::alloc::{AllocError, Global};
@@ -43,7 +44,7 @@ pub(crate) fn certify<S: Source, K: Sink>(alloc: Global, source: &mut S, sink: &
         Ok(room) => room,
         Err(AllocError) => return Status::OutOfMemory,
     };
-    explain(&recording, &mut work, &mut list);
+    explain_clean(&recording, &mut work, &mut list);
     match write_each(
         &recording,
         list.slice(),

@@ -1,0 +1,116 @@
+-- The broadcast channel of a clean recording: its slot is received and carries the cell's word.
+use Rattle.std.proofs.Common.{◌≡◌, ℕ, ◌+◌, ◌-◌, ◌*◌, ◌/◌, ◌%◌, ◌<◌, ◌≤◌, arith, refl, ap, sym, subst, ◌∙◌, List, [], length, nat_eq, nat_le, nat_lt, Bool, true, false, None}
+use Rattle.std.specs.Prelude.{if◌then◌else◌, ◌&&◌}
+use Rattle.std.proofs.lemmas.Bool.Decides.{nat_tests}
+use Rattle.cs_num.specs.declared.Cpx.{Cpx}
+use Rattle.cs_num.specs.declared.Sample.{Sample}
+use Rattle.finite.proofs.Lists.{values_below_at}
+use Rattle.crs.specs.Reference.{is_reference, first_subcarrier, reference_at}
+use Rattle.observe.specs.Seen.{seen_symbol}
+use Rattle.soft_bits.specs.Soft.{pilot_symbol, pilot_subcarrier, pilot_sent}
+use Rattle.grid_map.specs.declared.Place.{Place}
+use Rattle.grid_map.specs.Place.{place}
+use Rattle.grid_map.specs.Broadcast.{pbch_place, is_pbch, pbch_index}
+use Rattle.grid_map.proofs.Points.{places_inside, index_of_place}
+use Rattle.cell_tx.specs.declared.cell.CellPlan.{CellPlan}
+use Rattle.cell_tx.specs.Block.{broadcast_word, matched_bit, broadcast_bit, broadcast_point}
+use Rattle.cell_tx.specs.Grid.{element}
+use Rattle.cell_tx.specs.Clean.{IsClean, start_of, number_at_start}
+use Rattle.cell_tx.specs.Rows.{reference_if}
+use Rattle.cell_tx.proofs.Bounds.{element-square}
+use Rattle.cell_tx.proofs.Elements.{element_of_broadcast, broadcast_found}
+use Rattle.explain.specs.Frame.{frame_at, useful_at, seen_slot, broadcast_slot}
+use Rattle.clean_air.specs.Received.{IsReceived, samples_from}
+use Rattle.clean_air.specs.Values.{IsSlotReceived}
+use Rattle.clean_air.specs.Broadcast.{CarriesWord}
+use Rattle.clean_air.proofs.SentSymbols.{received_at, first_frame}
+
+-- the grid of a symbol of slot 1 of the frame with this number
+abbrev pub slot_grid : CellPlan → ℕ → ℕ → ℕ → Cpx
+slot_grid plan number l = element plan number 0 (7 + l)
+
+-- ---- the reference signals
+
+-- each pilot stands at a reference place of symbol 0 or 4
+record IsPilotPlace (identity symbol k : ℕ) : Type 0 where
+  is : is_reference identity symbol k ≡ true
+  inside : symbol < 7
+
+other_symbol : (identity i k : ℕ) → k ≡ pilot_subcarrier identity i → is_reference identity 0 k ≡ false → is_reference identity 4 k ≡ true
+unfolding is_reference first_subcarrier
+other_symbol identity i k e none = grind (arith, nat_tests)
+
+pilot_place : (identity i : ℕ) → IsPilotPlace identity (pilot_symbol identity i) (pilot_subcarrier identity i)
+unfolding pilot_symbol
+pilot_place identity i = settle (is_reference identity 0 (pilot_subcarrier identity i)) refl
+  where
+    settle : (b : Bool) → is_reference identity 0 (pilot_subcarrier identity i) ≡ b →
+        IsPilotPlace identity (if b then 0 else 4) (pilot_subcarrier identity i)
+    settle true e = record { is = e; inside = omega arith }
+    settle false e = record { is = other_symbol identity i (pilot_subcarrier identity i) refl e; inside = omega arith }
+
+reference_here : (plan : CellPlan) (number l k : ℕ) → l < 7 → is_reference plan.identity l k ≡ true → slot_grid plan number l k ≡ reference_at plan.identity 1 l k
+unfolding element
+reference_here plan number l k inside is =
+    let symbol : (7 + l) % 7 ≡ l = omega arith in
+    let slot : (7 + l) / 7 ≡ 1 = omega arith in
+    rw (symbol, slot, is) refl
+
+pub references_stand : (plan : CellPlan) (number i : ℕ) → slot_grid plan number (pilot_symbol plan.identity i) (pilot_subcarrier plan.identity i) ≡ pilot_sent plan.identity 1 i
+unfolding pilot_sent
+references_stand plan number i =
+    let p = pilot_place plan.identity i in
+    reference_here plan number (pilot_symbol plan.identity i) (pilot_subcarrier plan.identity i) p.inside p.is
+
+-- ---- the places of the broadcast channel
+
+record IsBroadcastPlace (identity symbol k : ℕ) : Type 0 where
+  low : 7 ≤ symbol
+  high : symbol < 11
+  free : is_reference identity (symbol % 7) k ≡ false
+
+broadcast_place : (identity : ℕ) (p : Place) → is_pbch identity p ≡ true → IsBroadcastPlace identity p.symbol p.k
+unfolding is_pbch is_reference first_subcarrier
+broadcast_place identity p e = record { low = grind (arith, nat_tests); high = grind (arith, nat_tests); free = grind (arith, nat_tests) }
+
+not_there : (symbol row : ℕ) (a b : Bool) → 7 ≤ symbol → row < 7 → (nat_eq symbol row && a && b) ≡ false
+not_there symbol row a b low small = let e : nat_eq symbol row ≡ false = grind (arith, nat_tests) in rw e refl
+
+point_here : (plan : CellPlan) (number symbol k i : ℕ) → IsBroadcastPlace plan.identity symbol k → i ≡ pbch_index plan.identity (place symbol k) → i < 240 →
+    element plan number 0 symbol k ≡ broadcast_point plan number i
+point_here plan number symbol k i at e inside =
+    let free : reference_if plan.identity (2 * 0 + symbol / 7) (symbol % 7) k ≡ None = rw at.free refl in
+    element_of_broadcast plan number 0 symbol k free (not_there symbol 6 (nat_le 5 k) (nat_lt k 67) at.low (omega arith)) (not_there symbol 5 (nat_le 5 k) (nat_lt k 67) at.low (omega arith))
+    ∙ sym (broadcast_found plan number 0 symbol k i e refl inside)
+
+pub points_stand : (plan : CellPlan) (number i : ℕ) → i < 240 →
+    slot_grid plan number ((pbch_place plan.identity i).symbol - 7) (pbch_place plan.identity i).k ≡ broadcast_point plan number i
+points_stand plan number i inside =
+    let p = pbch_place plan.identity i in
+    let is = places_inside plan.identity i inside in
+    let at = broadcast_place plan.identity p is in
+    let symbol : 7 + (p.symbol - 7) ≡ p.symbol = omega (arith, at.low) in
+    ap (λ n. element plan number 0 n p.k) symbol ∙ point_here plan number p.symbol p.k i at (sym (index_of_place plan.identity i inside)) inside
+
+pub carries_word : (plan : CellPlan) (number : ℕ) → length (broadcast_word plan number) ≡ 40 →
+    CarriesWord (slot_grid plan number) plan.identity (number % 4) (broadcast_word plan number)
+unfolding broadcast_point broadcast_bit matched_bit
+carries_word plan number size = record { size = size; amplitude = λ i inside. points_stand plan number i inside }
+
+-- ---- the slot
+
+pub slot_received : (recording : List Sample) (plan : CellPlan) (sfn offset : ℕ) (gain : Cpx) (eps : ℕ) → IsClean recording plan sfn offset gain eps → 57600 ≤ length recording →
+    IsSlotReceived recording (useful_at (frame_at (start_of offset) 0) 1) (slot_grid plan (number_at_start sfn offset)) (broadcast_slot recording plan.identity (start_of offset) 0)
+unfolding seen_slot
+slot_received recording plan sfn offset gain eps clean long =
+    let j : ℕ = if nat_eq offset 0 then 0 else 1 in
+    let first = first_frame sfn offset clean.number clean.within in
+    record {
+      eps = eps;
+      gain = gain;
+      seen = λ l inside. values_below_at (λ symbol. seen_symbol recording (useful_at (frame_at (start_of offset) 0) 1 symbol)) 7 l [] inside;
+      amplitudes = λ l inside k within. element-square plan (number_at_start sfn offset) 0 (7 + l) k;
+      received = λ l inside. subst (λ n. IsReceived eps gain (slot_grid plan n l) (samples_from recording (useful_at (frame_at (start_of offset) 0) 1 l))) first.number
+          (received_at recording plan sfn offset gain eps (useful_at (frame_at (start_of offset) 0) 1 l) j 1 l clean (omega arith) inside (omega (arith, long, inside)) (omega (arith, first.place)));
+      references = λ i inside. references_stand plan (number_at_start sfn offset) i;
+    }

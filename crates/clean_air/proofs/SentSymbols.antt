@@ -1,0 +1,118 @@
+-- The symbols of a clean recording: each is received as it was sent.
+use Rattle.std.proofs.Common.{◌≡◌, ℕ, ◌+◌, ◌-◌, ◌*◌, ◌/◌, ◌%◌, ◌<◌, ◌≤◌, arith, refl, ap, subst, ◌∙◌, List, length, nat_eq, nat_le, nat_lt}
+use Rattle.std.specs.Prelude.{if◌then◌else◌, ◌&&◌}
+use Rattle.std.proofs.lemmas.Bool.Decides.{nat_tests}
+use Rattle.cs_num.specs.declared.Cpx.{Cpx}
+use Rattle.cs_num.specs.declared.Sample.{Sample}
+use Rattle.cs_num.specs.Complex.{IsWithin, nothing, times, sample_at}
+use Rattle.sizes.specs.Sizes.{minus}
+use Rattle.fold128.specs.Symbol.{useful_at}
+use Rattle.lte_types.specs.declared.frame.Half.{Half}
+use Rattle.lte_types.specs.declared.frame.Half.TheVariants.{Zero, Five}
+use Rattle.grid_map.specs.Broadcast.{is_pbch}
+use Rattle.pss_search.specs.Correlation.{pss_grid}
+use Rattle.cell_tx.specs.declared.cell.CellPlan.{CellPlan}
+use Rattle.cell_tx.specs.Grid.{element}
+use Rattle.cell_tx.specs.Sent.{useful_start, sent}
+use Rattle.cell_tx.specs.Clean.{IsClean, start_of, number_at_start}
+use Rattle.cell_tx.proofs.Symbols.{frames_follow, useful_parts_stand}
+use Rattle.cell_tx.proofs.Elements.{no_reference}
+use Rattle.clean_air.specs.Received.{IsReceived, samples_from}
+use Rattle.clean_air.specs.Score.{sss_grid}
+use Rattle.clean_air.specs.Peak.{IsPrimaryAt}
+use Rattle.clean_air.specs.Score.{AreSynchronisation}
+use Rattle.clean_air.proofs.Grids.{received_same}
+
+-- ---- a symbol
+
+-- what is sent of a symbol of a frame
+sent_symbol : (plan : CellPlan) (sfn j slot l n : ℕ) → slot < 20 → l < 7 → n < 128 →
+    sent plan sfn (19200 * j + (960 * slot + useful_start l + n)) ≡ useful_at (element plan ((sfn + j) % 1024) (slot / 2) (7 * (slot % 2) + l)) n
+sent_symbol plan sfn j slot l n a b c =
+    frames_follow plan sfn j (960 * slot + useful_start l + n) (omega arith) ∙ useful_parts_stand plan ((sfn + j) % 1024) slot l n b c
+
+-- where a whole useful part stands in the recording, it is received
+pub received_at : (recording : List Sample) (plan : CellPlan) (sfn offset : ℕ) (gain : Cpx) (eps : ℕ) (t j slot l : ℕ) → IsClean recording plan sfn offset gain eps →
+    slot < 20 → l < 7 → t + 128 ≤ length recording → t + offset ≡ 19200 * j + (960 * slot + useful_start l) →
+    IsReceived eps gain (element plan ((sfn + j) % 1024) (slot / 2) (7 * (slot % 2) + l)) (samples_from recording t)
+received_at recording plan sfn offset gain eps t j slot l clean a b inside place = record {
+  sounds = clean.size.least;
+  quiet = clean.bound;
+  near = λ n c. let there : t + n + offset ≡ 19200 * j + (960 * slot + useful_start l + n) = omega (arith, place) in
+      subst (λ z. IsWithin eps (minus (sample_at recording (t + n)) (times gain z))) (ap (sent plan sfn) there ∙ sent_symbol plan sfn j slot l n a b c)
+      (clean.near (t + n) (omega (arith, inside, c)));
+}
+
+-- ---- the synchronisation signals
+
+-- the subframe that begins a half
+abbrev pub subframe_of : Half → ℕ
+subframe_of Zero = 0
+subframe_of Five = 5
+
+middle : (k : ℕ) (a b : Cpx) → (if nat_le 5 k && nat_lt k 67 then a else b) ≡ (if nat_lt k 5 then b else if nat_lt k 67 then a else b)
+middle k a b = grind (arith, nat_tests)
+
+-- symbol 6 of the subframe holds the primary signal alone
+pub primary_symbol : (plan : CellPlan) (sfn k : ℕ) (half : Half) → element plan sfn (subframe_of half) 6 k ≡ pss_grid (plan.identity % 3) k
+unfolding element is_pbch
+primary_symbol plan sfn k Zero = rw (no_reference plan.identity 6 k refl refl) (middle k _ nothing)
+primary_symbol plan sfn k Five = rw (no_reference plan.identity 6 k refl refl) (middle k _ nothing)
+
+-- symbol 5 holds the secondary signal alone
+pub secondary_symbol : (plan : CellPlan) (sfn k : ℕ) (half : Half) → element plan sfn (subframe_of half) 5 k ≡ sss_grid (plan.identity / 3) (plan.identity % 3) half k
+unfolding element is_pbch
+secondary_symbol plan sfn k Zero = rw (no_reference plan.identity 5 k refl refl) (middle k _ nothing)
+secondary_symbol plan sfn k Five = rw (no_reference plan.identity 5 k refl refl) (middle k _ nothing)
+
+-- where the useful part of the primary signal begins in a frame
+abbrev pub place_of : Half → ℕ
+place_of Zero = 832
+place_of Five = 10432
+
+-- a place of the recording is one at which a primary signal of the cell begins
+pub record IsTruePlace (offset t : ℕ) (half : Half) : Type 0 where
+  pub frame : ℕ
+  pub place : t + offset ≡ 19200 * frame + place_of half
+
+module _ (recording : List Sample) (plan : CellPlan) (sfn offset : ℕ) (gain : Cpx) (eps : ℕ) (t : ℕ) (clean : IsClean recording plan sfn offset gain eps) (inside : t + 128 ≤ length recording) where
+  primary_received : (half : Half) → IsTruePlace offset t half → IsReceived eps gain (pss_grid (plan.identity % 3)) (samples_from recording t)
+  primary_received Zero at =
+      received_same eps gain (element plan ((sfn + at.frame) % 1024) 0 6) (pss_grid (plan.identity % 3)) (samples_from recording t) (λ k l. primary_symbol plan ((sfn + at.frame) % 1024) k Zero)
+      (received_at recording plan sfn offset gain eps t at.frame 0 6 clean (omega arith) (omega arith) inside (omega (arith, at.place)))
+  primary_received Five at =
+      received_same eps gain (element plan ((sfn + at.frame) % 1024) 5 6) (pss_grid (plan.identity % 3)) (samples_from recording t) (λ k l. primary_symbol plan ((sfn + at.frame) % 1024) k Five)
+      (received_at recording plan sfn offset gain eps t at.frame 10 6 clean (omega arith) (omega arith) inside (omega (arith, at.place)))
+
+  secondary_received : (half : Half) → IsTruePlace offset t half → 137 ≤ t → IsReceived eps gain (sss_grid (plan.identity / 3) (plan.identity % 3) half) (samples_from recording (t - 137))
+  secondary_received Zero at first =
+      received_same eps gain (element plan ((sfn + at.frame) % 1024) 0 5) (sss_grid (plan.identity / 3) (plan.identity % 3) Zero) (samples_from recording (t - 137)) (λ k l. secondary_symbol plan ((sfn + at.frame) % 1024) k Zero)
+      (received_at recording plan sfn offset gain eps (t - 137) at.frame 0 5 clean (omega arith) (omega arith) (omega (arith, inside)) (omega (arith, at.place, first)))
+  secondary_received Five at first =
+      received_same eps gain (element plan ((sfn + at.frame) % 1024) 5 5) (sss_grid (plan.identity / 3) (plan.identity % 3) Five) (samples_from recording (t - 137)) (λ k l. secondary_symbol plan ((sfn + at.frame) % 1024) k Five)
+      (received_at recording plan sfn offset gain eps (t - 137) at.frame 10 5 clean (omega arith) (omega arith) (omega (arith, inside)) (omega (arith, at.place, first)))
+
+  -- a primary signal stands there
+  pub primary_at : (half : Half) → IsTruePlace offset t half → IsPrimaryAt recording t (plan.identity % 3)
+  primary_at half at = record { eps = eps; gain = gain; root = omega arith; received = primary_received half at }
+
+  -- and with it the secondary one
+  pub synchronisation_at : (half : Half) → IsTruePlace offset t half → 137 ≤ t → plan.identity ≤ 503 → AreSynchronisation recording t (plan.identity / 3) (plan.identity % 3) half
+  synchronisation_at half at first known = record {
+    group = omega arith;
+    root = omega arith;
+    eps = eps;
+    gain = gain;
+    primary = primary_received half at;
+    secondary = secondary_received half at first;
+  }
+
+-- ---- places
+
+-- the first frame that begins in the recording
+pub record IsFirstFrame (sfn offset j : ℕ) : Type 0 where
+  pub place : start_of offset + offset ≡ 19200 * j
+  pub number : (sfn + j) % 1024 ≡ number_at_start sfn offset
+
+pub first_frame : (sfn offset : ℕ) → sfn ≤ 1023 → offset < 19200 → IsFirstFrame sfn offset (if nat_eq offset 0 then 0 else 1)
+first_frame sfn offset known within = record { place = grind (arith, nat_tests); number = grind (arith, nat_tests) }

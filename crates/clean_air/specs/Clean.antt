@@ -1,0 +1,29 @@
+-- The list of cells of a clean recording: it holds the cell that was sent. (own)
+use Rattle.std.specs.Prelude.{◌≡◌, ℕ, ◌/◌, List}
+use Rattle.std.specs.List.{Contains}
+use Rattle.cs_num.specs.declared.Cpx.{Cpx}
+use Rattle.cs_num.specs.declared.Sample.{Sample}
+use Rattle.lte_types.specs.declared.bandwidth.Bandwidth.TheVariants.{N6}
+use Rattle.lte_types.specs.declared.entry.Entry.{Entry}
+use Rattle.lte_types.specs.Block.{HasFields}
+use Rattle.cell_tx.specs.declared.cell.CellPlan.{CellPlan}
+use Rattle.cell_tx.specs.Plan.{IsSendable}
+use Rattle.cell_tx.specs.Clean.{IsClean, start_of, number_at_start}
+
+-- the list has an entry with the cell's identity, the sample at which its first frame begins and that frame's number, one antenna
+-- port (TS 36.212 section 5.3.1.1), and the fields of its master block, which holds the upper 8 bits of the frame's number
+-- (TS 36.331 section 6.2.2)
+pub record HoldsCell (list : List Entry) (plan : CellPlan) (first number : ℕ) : Type 0 where
+  pub entry : Entry
+  pub inside : Contains list entry
+  pub id : entry.id ≡ plan.identity
+  pub start : entry.start ≡ first
+  pub sfn : entry.sfn ≡ number
+  pub ports : entry.ports ≡ 1
+  pub block : HasFields entry.mib N6 plan.duration plan.resource (number / 4) plan.spare
+
+-- of each cell of which the recording is clean, whatever its plan, its first frame's number, the offset, the gain and the errors are
+abbrev pub HoldsCleanCells : List Sample → List Entry → Type 0
+HoldsCleanCells recording list =
+    (plan : CellPlan) (sfn offset : ℕ) (gain : Cpx) (eps : ℕ) → IsSendable plan → IsClean recording plan sfn offset gain eps →
+    HoldsCell list plan (start_of offset) (number_at_start sfn offset)
