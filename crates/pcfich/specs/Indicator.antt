@@ -1,5 +1,5 @@
 -- The control format indicator that values tell.
-use Rattle.std.specs.Prelude.{ℕ, ◌-◌, ◌%◌, ◌<◌, ◌≤◌, Bool, not, nat_eq, List, slice_index_or, ℤ, pos}
+use Rattle.std.specs.Prelude.{◌≡◌, ℕ, ◌-◌, ◌%◌, ◌<◌, ◌≤◌, Bool, not, nat_eq, List, slice_index_or, ℤ, pos}
 use Rattle.finite.specs.Sums.{total_below}
 use Rattle.conv_code.specs.Cost.{disagreement}
 
@@ -17,3 +17,10 @@ pub record IsIndicator (values : List ℤ) (indicator : ℕ) : Type 0 where
   pub range : (1 ≤ indicator) × (indicator ≤ 3)
   pub least : (other : ℕ) → 1 ≤ other → other ≤ 3 → cost values indicator ≤ cost values other
   pub first : (other : ℕ) → 1 ≤ other → other < indicator → cost values indicator < cost values other
+
+-- every value speaks for its bit of an indicator, and is not 0 (own)
+abbrev pub Speak : List ℤ → ℕ → Type 0
+Speak values indicator =
+    (i : ℕ) → i < 32 →
+    (disagreement (slice_index_or values i (pos 0)) (code_bit indicator i) ≡ 0)
+    × (0 < disagreement (slice_index_or values i (pos 0)) (not (code_bit indicator i)))

@@ -3,7 +3,7 @@
 ghost use Rattle.std.specs.Prelude.{◌≡◌, ℕ, ◌*◌, ◌<◌, ◌≤◌, ℤ, List, All, nat_abs, nat_le, ◌&&◌, length, if◌then◌else◌};
 ghost use Rattle.conv_code.specs.Cost.{disagreement};
 ghost use Rattle.pcfich.specs.Values.{indicator_values};
-ghost use Rattle.pcfich.specs.Indicator.{code_bit, cost, IsIndicator};
+ghost use Rattle.pcfich.specs.Indicator.{code_bit, cost, IsIndicator, Speak};
 
 use crate::values::received;
 use lte_types::Cfi;
@@ -64,7 +64,10 @@ fn cost_of(values: &[i16; 32], indicator: usize) -> u32
     cost
 }
 
-/// Values tell one indicator and no other.
+/// Values tell one indicator and no other; where they all speak for the bits of an indicator, they
+/// tell that one.
 pub fn only_one_indicator()
-    ensures { (values : List ℤ) (a b : ℕ) → IsIndicator values a → IsIndicator values b → a ≡ b }
+    ensures one { (values : List ℤ) (a b : ℕ) → IsIndicator values a → IsIndicator values b → a ≡ b }
+    ensures clear { (values : List ℤ) (sent told : ℕ) → 1 ≤ sent → sent ≤ 3 → Speak values sent →
+        IsIndicator values told → told ≡ sent }
 {}

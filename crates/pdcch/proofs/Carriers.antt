@@ -1,9 +1,9 @@
 -- Which group carries a quadruplet.
-use Rattle.std.proofs.Common.{ℕ, ◌<◌, ◌≤◌, ◌≡◌, Bool, false, nat_eq, get_or, ap, sym, ◌∙◌, zero-add, arith}
+use Rattle.std.proofs.Common.{ℕ, ◌<◌, ◌≤◌, ◌≡◌, ◌⊎◌, inl, inr, Bool, false, nat_eq, get_or, ap, sym, ◌∙◌, zero-add, arith}
 use Rattle.std.specs.List.{range_with_len}
-use Rattle.std.proofs.lemmas.Bool.{eq-eqb, false≢true}
+use Rattle.std.proofs.lemmas.Bool.{cases_lt, eq-eqb, eqb-true, false≢true}
 use Rattle.std.proofs.lemmas.List.FromFn.{length-range_with_len, get_or-range_with_len}
-use Rattle.std.proofs.lemmas.List.Sums.{position_or_len_is}
+use Rattle.std.proofs.lemmas.List.Sums.{position_or_len_is, fails_before_first, passes_at_first}
 use Rattle.grid_map.specs.Control.{quadruplet_at}
 use Rattle.grid_map.proofs.Quadruplets.{quadruplet_each}
 use Rattle.pdcch.specs.Candidate.{carrier}
@@ -29,3 +29,22 @@ pub some_carrier : (identity count q r : ℕ) → count ≤ 66 → q < count →
 some_carrier identity count q r few l past none =
     let (k, below, here) = quadruplet_each identity count q few l in
     false≢true (sym (none k (omega (arith, below, past))) ∙ eq-eqb _ _ here)
+
+pub carrier_inside : (identity count q : ℕ) → count ≤ 66 → q < count → carrier identity count q < count
+unfolding carrier
+carrier_inside identity count q few l = cases (cases_lt (carrier identity count q) count)
+  where
+    cases : (carrier identity count q < count) ⊎ (count ≤ carrier identity count q) → carrier identity count q < count
+    cases (inl inside) = inside
+    cases (inr past) =
+        absurd (some_carrier identity count q count few l (omega arith)
+        (λ k m. sym (ap (carries identity count q) (number_at count k m))
+        ∙ fails_before_first (carries identity count q) (range_with_len 0 count) k 0 (omega (arith, past, m))))
+
+pub carrier_carries : (identity count q : ℕ) → count ≤ 66 → q < count → quadruplet_at identity count (carrier identity count q) ≡ q
+unfolding carrier
+carrier_carries identity count q few l =
+    let inside = carrier_inside identity count q few l in
+    let long = length-range_with_len 0 count in
+    let passes = passes_at_first (carries identity count q) (range_with_len 0 count) 0 (omega (arith, inside, long)) in
+    eqb-true _ _ (sym (ap (carries identity count q) (number_at count (carrier identity count q) inside)) ∙ passes)

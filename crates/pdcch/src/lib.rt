@@ -5,6 +5,7 @@
 mod order;
 mod search_space;
 
+pub use order::quadruplets_carried;
 pub use search_space::{candidate, elements};
 
 #[cfg(test)]

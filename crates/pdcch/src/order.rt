@@ -2,6 +2,7 @@
 
 ghost use Rattle.std.specs.Prelude.{◌≡◌, ℕ, ◌<◌, ◌≤◌, All, length};
 ghost use Rattle.finite.specs.Lists.{values_below};
+ghost use Rattle.grid_map.specs.Control.{quadruplet_at};
 ghost use Rattle.pdcch.specs.Candidate.{carrier};
 
 use grid_map::quadruplet;
@@ -35,3 +36,10 @@ pub(crate) fn carriers(id: CellId, count: u8) -> [u8; 36]
     }
     carriers
 }
+
+/// The group that carries a quadruplet is one of so many, at most 66, and carries no other.
+pub fn quadruplets_carried()
+    ensures inside { (identity count q : ℕ) → count ≤ 66 → q < count → carrier identity count q < count }
+    ensures carries { (identity count q : ℕ) → count ≤ 66 → q < count →
+        quadruplet_at identity count (carrier identity count q) ≡ q }
+{}

@@ -1,7 +1,7 @@
 ghost use Rattle.std.specs.Prelude.{◌≡◌, ℕ, ◌^◌, ◌<◌, ◌≤◌, All};
 ghost use Rattle.cs_num.specs.Complex.{IsWithin};
 
-use crate::{candidate, elements};
+use crate::{candidate, elements, quadruplets_carried};
 use cs_num::Cpx;
 use lte_types::{Bandwidth, CellId, Cfi, Duration, Mib, Resource};
 use soft_bits::Slot;
@@ -114,6 +114,7 @@ fn counts_of_control_elements(rt: HostRuntime) {
     let wide = mib_of(&rt, Duration::Extended, Resource::Two);
     assert_eq!(rt; counts_of(&rt, 0, plain), [2, 4, 6]);
     assert_eq!(rt; counts_of(&rt, 503, wide), [2, 4, 6]);
+    quadruplets_carried();
 }
 
 // The values are 67 for each coded bit 0 and -67 for each 1.

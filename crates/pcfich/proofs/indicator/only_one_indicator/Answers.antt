@@ -1,7 +1,11 @@
-use Rattle.std.proofs.Common.{ℕ, ◌<◌, ◌≤◌, ◌≡◌, arith, ◌⊎◌, inl, inr}
+use Rattle.std.proofs.Common.{ℕ, zero, suc, ◌+◌, ◌-◌, ◌%◌, ◌<◌, ◌≤◌, ◌≡◌, Bool, true, false, nat_eq, refl, sym, ◌∙◌, subst, arith, ◌⊎◌, inl, inr, pos, slice_index_or}
 use Rattle.std.specs.Prelude.{List, ℤ}
-use Rattle.std.proofs.lemmas.Bool.{cases_lt}
-use Rattle.pcfich.specs.Indicator.{IsIndicator}
+use Rattle.std.proofs.lemmas.Bool.{cases_lt, eqb-true, eq-eqb, false≢true}
+use Rattle.std.proofs.lemmas.Bool.Decides.{nat_tests}
+use Rattle.finite.specs.Sums.{total_below}
+use Rattle.finite.proofs.Sums.{total_below-within}
+use Rattle.conv_code.specs.Cost.{disagreement}
+use Rattle.pcfich.specs.Indicator.{code_bit, cost, IsIndicator, Speak}
 use Rattle.pcfich.proofs.indicator.only_one_indicator.Goals as goal
 
 only_one : (values : List ℤ) (a b : ℕ) → IsIndicator values a → IsIndicator values b → a ≡ b
@@ -12,5 +16,47 @@ only_one values a b p q = cases (cases_lt a b) (cases_lt b a)
     cases (inr l) (inl m) = absurd (let x = p.first b q.range.0 m in let y = q.least a p.range.0 p.range.1 in omega (arith, x, y))
     cases (inr l) (inr m) = omega (arith, l, m)
 
-pub returns : goal.returns
-returns c = only_one
+at_most : (n k : ℕ) (f : ℕ → ℕ) → k < n → f k ≤ total_below n f
+unfolding total_below
+at_most zero k f l = absurd (omega arith)
+at_most (suc n) k f l = cases (cases_lt k n) (λ below. at_most n k f below)
+  where
+    cases : (k < n) ⊎ (n ≤ k) → (k < n → f k ≤ total_below n f) → f k ≤ total_below n f + f n
+    cases (inl below) before = let h = before below in omega (arith, h)
+    cases (inr past) before = let same : k ≡ n = omega arith in subst (λ (m : ℕ). f m ≤ total_below n f + f n) (sym same) (omega arith)
+
+-- what is sent costs nothing
+sent_free : (values : List ℤ) (sent : ℕ) → Speak values sent → cost values sent ≡ 0
+unfolding cost
+sent_free values sent speak =
+    let within = total_below-within 32 0 (λ i. disagreement (slice_index_or values i (pos 0)) (code_bit sent i)) (λ k l. let none = (speak k l).0 in omega (arith, none)) in
+    omega (arith, within)
+
+-- another indicator has the other bit at a place
+other_dear : (values : List ℤ) (sent other : ℕ) → 1 ≤ sent → sent ≤ 3 → 1 ≤ other → other ≤ 3 → (sent ≡ other → ⊥) → Speak values sent → 0 < cost values other
+unfolding cost
+other_dear values sent other a b c d differ speak =
+    let dear = (speak (sent - 1) (omega arith)).1 in
+    let own : nat_eq ((sent - 1) % 3) (sent - 1) ≡ true = grind (arith, nat_tests) in
+    let others : nat_eq ((sent - 1) % 3) (other - 1) ≡ false = grind (arith, nat_tests, differ) in
+    let one = at_most 32 (sent - 1) (λ i. disagreement (slice_index_or values i (pos 0)) (code_bit other i)) (omega arith) in
+    let dear' = rw own at dear in
+    let one' = rw others at one in
+    omega (arith, dear', one')
+
+clear : (values : List ℤ) (sent told : ℕ) → 1 ≤ sent → sent ≤ 3 → Speak values sent → IsIndicator values told → told ≡ sent
+clear values sent told a b speak is = settle (nat_eq sent told) refl
+  where
+    settle : (t : Bool) → nat_eq sent told ≡ t → told ≡ sent
+    settle true e = sym (eqb-true _ _ e)
+    settle false e =
+        absurd (let free = sent_free values sent speak in
+        let least = is.least sent a b in
+        let dear = other_dear values sent told a b is.range.0 is.range.1 (λ same. false≢true (sym e ∙ eq-eqb _ _ same)) speak in
+        omega (arith, free, least, dear))
+
+pub returns-clause-one : goal.returns-clause-one
+returns-clause-one c = only_one
+
+pub returns-clause-clear : goal.returns-clause-clear
+returns-clause-clear c = clear
