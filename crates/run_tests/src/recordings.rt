@@ -320,7 +320,11 @@ fn put_sample(bytes: &mut [u8], at: usize, re: i16, im: i16)
 /// Adds an error to each component: this number at even samples, and its negative at odd ones.
 pub fn add_errors(bytes: &mut [u8], error: i16) {
     for i in 0..bytes.len() / 2 {
-        let signed = if i / 2 % 2 == 0 { error } else { error.saturating_neg() };
+        let signed = if i / 2 % 2 == 0 {
+            error
+        } else {
+            error.saturating_neg()
+        };
         let value = i16::from_le_bytes([bytes[2 * i], bytes[2 * i + 1]]).saturating_add(signed);
         bytes[2 * i..2 * i + 2].copy_from_slice(&value.to_le_bytes());
     }
