@@ -2,7 +2,7 @@
 
 ghost use Rattle.std.specs.Prelude.{◌≡◌, ◌+◌, ◌*◌, ◌≤◌, All, IfOk, length};
 
-use crate::recordings::{add_errors, put_wide_cell, silence};
+use crate::recordings::{add_errors, oppose, put_wide_cell, silence};
 use cell_tx::CellError;
 use cs_outside::{FailSink, FailSource, MemSink, MemSource};
 use lte_top::{Status, Words, run};
@@ -128,6 +128,45 @@ fn a_cell_that_begins_before_the_recording_is_found_with_errors_at_the_bound(
     assert_eq!(rt; status, Status::Done);
     let line = "cell 503 at 1 sfn 6 ports 1 n6 phich normal one spare 0\nsib1 none not-read\n";
     assert!(rt; contains(&taken, line.as_bytes()));
+    Ok(())
+}
+
+// The recording that a description sends, each component off by this much, against its sign.
+fn opposed_recording(alloc: Global, text: &str, error: i16) -> Result<Vec<u8>, AllocError> {
+    let (_, mut bytes) = output_of_text(alloc, "transmit", text)?;
+    oppose(&mut bytes, error);
+    Ok(bytes)
+}
+
+#[test]
+fn cells_are_found_with_errors_at_the_bound_against_the_signal(
+    rt: HostRuntime,
+) -> Result<(), Fail> {
+    for (text, error, line) in [
+        (
+            r#"{"identity": 271, "sfn": 77, "offset": 18600, "samples": 57600, "gain": [1, 0],
+ "duration": "extended", "resource": "two", "spare": 5}"#,
+            2,
+            "cell 271 at 600 sfn 78 ports 1 n6 phich extended two spare 5\n",
+        ),
+        (
+            r#"{"identity": 502, "sfn": 1022, "offset": 400, "samples": 60000, "gain": [-3, 4],
+ "duration": "normal", "resource": "half", "spare": 1023}"#,
+            10,
+            "cell 502 at 18800 sfn 1023 ports 1 n6 phich normal half spare 1023\n",
+        ),
+        (
+            r#"{"identity": 1, "sfn": 4, "offset": 0, "samples": 57600, "gain": [-19, -20],
+ "duration": "normal", "resource": "oneSixth", "spare": 512}"#,
+            55,
+            "cell 1 at 0 sfn 4 ports 1 n6 phich normal oneSixth spare 512\n",
+        ),
+    ] {
+        let bytes = opposed_recording(rt.alloc(), text, error)?;
+        let (status, taken) = output_of(rt.alloc(), "search", bytes)?;
+        assert_eq!(rt; status, Status::Done);
+        assert!(rt; contains(&taken, line.as_bytes()), "{line}");
+    }
     Ok(())
 }
 

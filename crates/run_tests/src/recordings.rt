@@ -330,6 +330,19 @@ pub fn add_errors(bytes: &mut [u8], error: i16) {
     }
 }
 
+/// Moves each component by this number against its sign.
+pub fn oppose(bytes: &mut [u8], error: i16) {
+    for i in 0..bytes.len() / 2 {
+        let sent = i16::from_le_bytes([bytes[2 * i], bytes[2 * i + 1]]);
+        let moved = if sent > 0 {
+            sent.saturating_sub(error)
+        } else {
+            sent.saturating_add(error)
+        };
+        bytes[2 * i..2 * i + 2].copy_from_slice(&moved.to_le_bytes());
+    }
+}
+
 // Symbols 0 to 4 of slot 1 of identity 0, by subcarriers, made by a second program: width n50, PHICH
 // normal and one, upper bits 0, spare bits 0, one port, phase 0. A digit is 2 where the real part is
 // negative, and 1 more where the imaginary part is; the rest is empty.
