@@ -21,7 +21,6 @@ use Rattle.soft_bits.specs.Soft.{SeenSlot}
 use Rattle.pbch.specs.declared.master.Master.{Master}
 use Rattle.pbch.specs.Values.{coded_values}
 use Rattle.pbch.specs.Master.{bandwidth, Tells, TellsMaster}
-use Rattle.pbch.specs.Laws.{IsSame}
 use Rattle.pbch.proofs.Words.{one_master}
 use Rattle.cell_tx.specs.declared.cell.CellPlan.{CellPlan}
 use Rattle.cell_tx.specs.Plan.{IsSendable}
@@ -31,6 +30,7 @@ use Rattle.explain.specs.Frame.{frame_at, useful_at, seen_slot, broadcast_slot}
 use Rattle.explain.specs.Entries.{master_of, epoch, distance, is_same_cell, IsExplained}
 use Rattle.explain.specs.Masters.{entry_of}
 use Rattle.explain.specs.Laws.{IsEntry}
+use Rattle.explain.proofs.Entries.{same_master, same_entry}
 use Rattle.explain.proofs.Listed.{is_sound, is_complete}
 use Rattle.clean_air.specs.Clean.{HoldsCell, HoldsCleanCells}
 use Rattle.clean_air.proofs.Peaks.{primary_is_listed, none_near_is_hit}
@@ -153,10 +153,9 @@ module _ (recording : List Sample) (plan : CellPlan) (sfn offset : ℕ) (gain : 
             (subst (λ n2. IsHit recording hit.t n2) root right.is_hit))
       ]
 
-  -- an entry of a hit with the cell's identity, start and number tells the cell's master block
-  master_is : (other : Entry) → IsEntry recording other → other.id ≡ plan.identity → other.start ≡ start_after offset → other.sfn ≡ number_at_start sfn offset →
-      IsSame (master_of other) (sent_master recording plan sendable.spare offset (number_at_start sfn offset))
-  master_is other is id start sfn_is =
+  -- an entry of a hit with the cell's identity, start and number is the cell's entry: it tells the same master block of the same frame
+  entry_is : (other : Entry) → IsEntry recording other → other.id ≡ plan.identity → other.start ≡ start_after offset → other.sfn ≡ number_at_start sfn offset → other ≡ sent_entry
+  entry_is other is id start sfn_is =
       let number : ℕ = number_at_start sfn offset in
       let frame : other.frame ≡ 0 = elim (cases_lt 0 other.frame) [
         | inl later ↦ absurd (is.is_of.first 0 (number % 4) later (omega arith) (broadcast_word plan number) 1
@@ -170,28 +169,27 @@ module _ (recording : List Sample) (plan : CellPlan) (sfn offset : ℕ) (gain : 
       ∙ ap (λ n. coded_values (broadcast_slot recording plan.identity n other.frame) other.phase) start
       ∙ ap (λ n. coded_values (broadcast_slot recording plan.identity (start_after offset) n) other.phase) frame
       ∙ ap (coded_values (sent_slot recording plan offset)) phase in
-      one_master (coded_values (sent_slot recording plan offset) (number % 4)) (master_of other) (sent_master recording plan sendable.spare offset number)
-      (subst (λ v. TellsMaster v (master_of other)) values is.is_of.master) master_told
+      let master = same_master (master_of other) (sent_master recording plan sendable.spare offset number)
+      (one_master (coded_values (sent_slot recording plan offset) (number % 4)) (master_of other) (sent_master recording plan sendable.spare offset number)
+      (subst (λ v. TellsMaster v (master_of other)) values is.is_of.master) master_told) in
+      same_entry other sent_entry id start (sfn_is ∙ sym sent_number) frame phase master is.is_of.sib1
 
-  -- such an entry is what the list is to hold
-  held : (list : List Entry) (other : Entry) → Contains list other → IsEntry recording other → other.id ≡ plan.identity → other.start ≡ start_after offset → other.sfn ≡ number_at_start sfn offset →
-      HoldsCell list plan (start_after offset) (number_at_start sfn offset)
-  held list other inside is id start number =
-      let same = master_is other is id start number in
-      record {
-        entry = other;
-        inside = inside;
-        id = id;
-        start = start;
-        sfn = number;
-        ports = same.ports;
-        block = record { bandwidth = same.bandwidth; duration = same.duration; resource = same.resource; upper = same.upper; spare = same.spare };
-      }
+  -- where it stands in the list, the list holds the cell
+  held : (list : List Entry) → IsExplained recording list → Contains list sent_entry → HoldsCell list plan (start_after offset) (number_at_start sfn offset)
+  held list explained inside = record {
+    entry = sent_entry;
+    inside = inside;
+    id = refl;
+    start = refl;
+    sfn = sent_number;
+    ports = refl;
+    block = record { bandwidth = refl; duration = refl; resource = refl; upper = refl; spare = refl };
+    only = λ other there id start number. entry_is other (is_sound recording list other explained there) id start number;
+  }
 
-  -- an entry of the same cell is such an entry
-  held_near : (list : List Entry) (other : Entry) → Contains list other → IsEntry recording other → is_same_cell other sent_entry ≡ true →
-      HoldsCell list plan (start_after offset) (number_at_start sfn offset)
-  held_near list other inside is same =
+  -- an entry of the same cell is the same
+  same_if_near : (other : Entry) → IsEntry recording other → is_same_cell other sent_entry ≡ true → other ≡ sent_entry
+  same_if_near other is same =
       let cell = cell_tells other.id plan.identity (distance (epoch other) (epoch sent_entry)) same in
       let small = start_small is.hit.t (identity_of recording is.hit).1 in
       let low : other.start < 19200 = omega (arith, small, is.is_of.start) in
@@ -199,17 +197,19 @@ module _ (recording : List Sample) (plan : CellPlan) (sfn offset : ℕ) (gain : 
       let number : other.sfn < 1024 = omega (arith, is.is_of.sfn) in
       let sent : sent_entry.sfn < 1024 = omega arith in
       let start = start_is other is cell.id (near_starts other.start (start_after offset) other.sfn sent_entry.sfn low first number sent cell.near) in
-      held list other inside is cell.id start (same_numbers other.start (start_after offset) other.sfn sent_entry.sfn low first number sent cell.near start ∙ sent_number)
+      entry_is other is cell.id start (same_numbers other.start (start_after offset) other.sfn sent_entry.sfn low first number sent cell.near start ∙ sent_number)
+
+  -- so the list has it
+  in_list : (list : List Entry) → IsExplained recording list → Contains list sent_entry
+  in_list list explained =
+      let (other, stands) = is_complete recording list sent_entry explained is_entry in
+      let same : other ≡ sent_entry = elim stands.same [
+        | inl here ↦ here
+        | inr near ↦ same_if_near other (is_sound recording list other explained stands.inside) near
+      ] in
+      subst (Contains list) same stands.inside
 
 -- on a clean recording of a cell that can be sent the list of cells holds that cell
 pub holds_clean_cells : (recording : List Sample) (list : List Entry) → 57600 ≤ length recording → IsExplained recording list → HoldsCleanCells recording list
 holds_clean_cells recording list long explained plan sfn offset gain eps sendable clean =
-    let entry = sent_entry recording plan sfn offset gain eps sendable clean long in
-    let is = is_entry recording plan sfn offset gain eps sendable clean long in
-    let (other, stands) = is_complete recording list entry explained is in
-    let other_is = is_sound recording list other explained stands.inside in
-    elim stands.same [
-      | inl same ↦ held recording plan sfn offset gain eps sendable clean long list other stands.inside other_is (ap (λ (e : Entry). e.id) same) (ap (λ (e : Entry). e.start) same)
-          (ap (λ (e : Entry). e.sfn) same ∙ sent_number recording plan sfn offset gain eps sendable clean long)
-      | inr near ↦ held_near recording plan sfn offset gain eps sendable clean long list other stands.inside other_is near
-    ]
+    held recording plan sfn offset gain eps sendable clean long list explained (in_list recording plan sfn offset gain eps sendable clean long list explained)

@@ -12,7 +12,7 @@ use Rattle.cell_tx.specs.Clean.{IsClean, start_of, number_at_start}
 
 -- the list has an entry with the cell's identity, the sample at which its first frame begins and that frame's number, one antenna
 -- port (TS 36.212 section 5.3.1.1), and the fields of its master block, which holds the upper 8 bits of the frame's number
--- (TS 36.331 section 6.2.2)
+-- (TS 36.331 section 6.2.2); every entry with this identity, start and number is that one
 pub record HoldsCell (list : List Entry) (plan : CellPlan) (first number : ℕ) : Type 0 where
   pub entry : Entry
   pub inside : Contains list entry
@@ -21,6 +21,7 @@ pub record HoldsCell (list : List Entry) (plan : CellPlan) (first number : ℕ) 
   pub sfn : entry.sfn ≡ number
   pub ports : entry.ports ≡ 1
   pub block : HasFields entry.mib N6 plan.duration plan.resource (number / 4) plan.spare
+  pub only : (other : Entry) → Contains list other → other.id ≡ plan.identity → other.start ≡ first → other.sfn ≡ number → other ≡ entry
 
 -- of each cell of which the recording is clean, whatever its plan, its first frame's number, the offset, the gain and the errors are
 abbrev pub HoldsCleanCells : List Sample → List Entry → Type 0
