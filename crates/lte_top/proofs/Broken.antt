@@ -174,7 +174,7 @@ past_end c n w part few there =
     omega (arith, there, cut, none, few, step)
 
 -- a sound part has no broken byte
-sound_part : (part : List ℕ) (p : ℕ) → length part < count → IsSound part → IsBrokenByte part p → ⊥
+pub sound_part : (part : List ℕ) (p : ℕ) → length part < count → IsSound part → IsBrokenByte part p → ⊥
 sound_part part p few sound b = by_number b.number b.broken
   where
     by_number : (n : ℕ) → BreaksAt (certificate_bytes part n) b.within → ⊥

@@ -184,7 +184,7 @@ form_answers : (form : Form) (told : List ℕ) (before now : Outside) → before
 form_answers form told before now left Done o = output_is_valid form told o.output before.left now.left left o.has_output
 form_answers form told before now left WriteFault o = (output_is_valid form told o.output before.left now.left left o.has_output, o.counted)
 form_answers form told before now left Usage o = absurd o.cause
-form_answers form told before now left ReadFault o = o.cause
+form_answers form told before now left ReadFault o = o.cause.0
 form_answers form told before now left OutOfMemory o = tt
 form_answers form told before now left TooLong o = past_is_too_long (input_of form) told before.left now.left left o.cause
 form_answers form told before now left Ragged o = refusal_is_answer (input_of form) told Ragged before.left now.left left o.cause

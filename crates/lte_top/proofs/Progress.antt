@@ -15,8 +15,8 @@ use Rattle.lte_top.specs.Certificates.{IsFirstBroken, Judged, IsRight, judged_by
 use Rattle.lte_top.specs.Forms.{certificates, most_certificate_bytes, RefusesCertificates}
 use Rattle.lte_top.specs.Reading.{HasReadOn, HasAnswers, IsSound, IsFirstBreak}
 use Rattle.lte_top.specs.Texts.{check_text}
-use Rattle.lte_top.specs.Run.{HasOutput, HasRefusal, IsReadTooLong}
-use Rattle.lte_top.proofs.Broken.{length-judged_bytes, break_below, first_broken, cut_off, none_broken, none_before_end}
+use Rattle.lte_top.specs.Run.{HasOutput, HasRefusal, IsReadTooLong, AreUnbroken}
+use Rattle.lte_top.proofs.Broken.{length-judged_bytes, break_below, first_broken, cut_off, none_broken, none_before_end, broken_after, sound_part}
 
 -- whole certificates with the answers to them were read, and then a part of one that does not break the form
 pub record IsReadTo (answers : List Bool) (part : List ℕ) (before now : Option (List ℕ)) : Type 0 where
@@ -208,4 +208,15 @@ output_of_answers answers output before now h e = record {
   whole = h.whole;
   unrefused = judged_unrefused h.judged h.right;
   is_output = record { judged = h.judged; read = refl; right = h.right; text = e ∙ ap check_text h.answers_are };
+}
+
+-- a read failed, and none of what was read before it breaks the form
+pub fault_on : (answers : List Bool) (part : List ℕ) (before between now : Option (List ℕ)) → IsReadTo answers part before between → now ≡ between → length part < count →
+    AreUnbroken before now
+fault_on answers part before between now s same few = record {
+  bytes = judged_bytes s.judged ++ part;
+  read = subst (λ l. HasRead (judged_bytes s.judged ++ part) before l) (sym same) s.read;
+  unbroken = λ place b.
+      let (p, e, found) = broken_after s.judged s.right part place b in
+      sound_part part p few s.sound found;
 }

@@ -6,7 +6,8 @@ use Rattle.cs_outside.specs.Streams.{HasRead, HasReadAll, IsAtEnd, HasWritten, H
 use Rattle.lte_top.specs.declared.form.Form.{Form}
 use Rattle.lte_top.specs.declared.status.Status.{Status}
 use Rattle.lte_top.specs.declared.status.Status.TheVariants.{Done, Usage, TooLong, ReadFault, WriteFault, OutOfMemory}
-use Rattle.lte_top.specs.Forms.{words_of, IsNoForm, Input, input_of, limit_of, Refuses, IsTooLong, IsValid, IsOutput}
+use Rattle.lte_top.specs.Certificates.{IsBrokenByte}
+use Rattle.lte_top.specs.Forms.{words_of, IsNoForm, Input, recording, certificates, description, input_of, limit_of, Refuses, IsTooLong, IsValid, IsOutput}
 
 -- ---- reading: what the source had left before, and what it has left now
 
@@ -31,13 +32,25 @@ pub record IsReadTooLong (input : Input) (before now : Option (List ℕ)) : Type
   pub past : length front ≡ limit_of input + 1
   pub unrefused : (rest : List ℕ) (status : Status) → Refuses input (front ++ rest) status → ⊥
 
+-- certificates were read, and none of these bytes breaks their form
+pub record AreUnbroken (before now : Option (List ℕ)) : Type 0 where
+  pub bytes : List ℕ
+  pub read : HasRead bytes before now
+  pub unbroken : (place : ℕ) → IsBrokenByte bytes place → ⊥
+
+-- nothing that was read could be refused already: recordings and descriptions are judged at their end
+abbrev pub NothingMet : Input → Option (List ℕ) → Option (List ℕ) → Type 0
+NothingMet recording before now = Unit {0}
+NothingMet description before now = Unit {0}
+NothingMet certificates before now = AreUnbroken before now
+
 -- why an input was not read and answered to its end, with the source's count of faults before and now
 abbrev pub Cause : Input → Option (List ℕ) → Option (List ℕ) → ℕ → ℕ → Status → Type 0
 Cause input before now faults faults_now Done = ⊥
 Cause input before now faults faults_now Usage = ⊥
 Cause input before now faults faults_now WriteFault = ⊥
 Cause input before now faults faults_now OutOfMemory = Unit {0}
-Cause input before now faults faults_now ReadFault = Rose faults faults_now
+Cause input before now faults faults_now ReadFault = Rose faults faults_now × NothingMet input before now
 Cause input before now faults faults_now TooLong = IsReadTooLong input before now
 Cause input before now faults faults_now refusal = HasRefusal input refusal before now
 

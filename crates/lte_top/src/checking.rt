@@ -119,6 +119,7 @@ fn read_at<S: Source>(
     requires room { end ≤ length buffer.old }
     ensures fits { IfOk result (λ n. at + n ≤ end) }
     ensures read { IfOk result (λ n. HasReadOn n (take at buffer.old) (take (at + n) buffer.new) (S.left source.old) (S.left source.new)) }
+    ensures unchanged { OnErr result (S.left source.new ≡ S.left source.old) }
     ensures cause { OnErr result (Rose (S.faults source.old) (S.faults source.new)) }
     ensures never_falls { S.faults source.old ≤ S.faults source.new }
 {

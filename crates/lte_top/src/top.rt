@@ -14,10 +14,9 @@ use crate::words::Words;
 use cs_outside::{MemSink, MemSource, Sink, Source};
 use std::alloc::Global;
 
-/// Runs the words' form: reads its input from the source to the end, makes its output and writes
-/// it to the sink.
+/// Runs the words' form: reads its input from the source, makes its output and writes it to the sink.
 ///
-/// `Done` means that the whole input was read and the whole output was taken. Every other answer
+/// `Done` means that the input was read to its end and the whole output was taken. Every other answer
 /// has its cause, and after each but `WriteFault` nothing was written; after `WriteFault` the sink
 /// took a front of the output. Want of memory is never answered after a write. Where the source tells
 /// its bytes, the answer is the one that they have, but for want of memory and counted faults.

@@ -16,6 +16,11 @@ const ROOM: usize = 16_777_216;
 const PLAIN: &str = r#"{"identity": 0, "sfn": 0, "offset": 0, "samples": 57600, "gain": [1, 0],
  "duration": "normal", "resource": "one", "spare": 0}"#;
 
+// Samples 832 to 835 of what it sends.
+const SENT: [u8; 16] = [
+    104, 0, 184, 255, 27, 0, 249, 255, 157, 255, 69, 0, 144, 255, 1, 0,
+];
+
 // How a command ends over these bytes, and what it wrote.
 fn output_of(alloc: Global, word: &str, bytes: Vec<u8>) -> Result<(Status, Vec<u8>), AllocError> {
     let mut words = Words::new(alloc);
@@ -52,6 +57,20 @@ fn silence_has_no_certificate(rt: HostRuntime) -> Result<(), Fail> {
     let (status, taken) = output_of(rt.alloc(), "certify", silence(rt.alloc(), 230_400)?)?;
     assert_eq!(rt; status, Status::Done);
     assert!(rt; taken.is_empty());
+    Ok(())
+}
+
+#[test]
+fn a_sink_without_room_keeps_a_front(rt: HostRuntime) -> Result<(), Fail> {
+    let mut words = Words::new(rt.alloc());
+    words.push("search")?;
+    let mut source = FailSource::new(silence(rt.alloc(), 230_400)?, Vec::new(rt.alloc()), 1_000);
+    let mut sink = MemSink::new(rt.alloc(), 3)?;
+    assert_eq!(rt;
+        run(rt.alloc(), &words, &mut source, &mut sink),
+        Status::WriteFault
+    );
+    assert_eq!(rt; sink.taken(), b"cel".as_slice());
     Ok(())
 }
 
@@ -97,6 +116,8 @@ fn a_sent_cell_is_found(rt: HostRuntime) -> Result<(), Fail> {
     let (status, bytes) = output_of_text(rt.alloc(), "transmit", PLAIN)?;
     assert_eq!(rt; status, Status::Done);
     assert_eq!(rt; bytes.len(), 230_400);
+    // Samples 832 to 835, made by a second program.
+    assert_eq!(rt; &bytes[3_328..3_344], SENT.as_slice());
     let (status, taken) = output_of(rt.alloc(), "hits", bytes.clone()?)?;
     assert_eq!(rt; status, Status::Done);
     assert_eq!(rt; taken.as_slice(), b"hits 2\n832 0\n10432 0\n".as_slice());
@@ -185,12 +206,10 @@ fn the_frame_number_goes_round(rt: HostRuntime) -> Result<(), Fail> {
 
 // Whether a piece stands in a text.
 fn contains(text: &[u8], piece: &[u8]) -> bool {
-    let mut rest = text;
-    while !rest.is_empty() {
-        if rest.starts_with(piece) {
+    for at in 0..text.len() {
+        if text[at..].starts_with(piece) {
             return true;
         }
-        rest = &rest[1..];
     }
     false
 }

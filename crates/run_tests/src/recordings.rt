@@ -401,18 +401,19 @@ fn bounded(value: Cpx) -> Cpx
     }
 }
 
-// Silence on all subcarriers.
-fn empty_grid() -> [Cpx; 72]
+// The same value on all subcarriers.
+fn level(value: Cpx) -> [Cpx; 72]
+    requires { IsWithin 127 value }
     ensures { All (IsWithin 127) result }
 {
-    [Cpx { re: 0, im: 0 }; 72]
+    [value; 72]
 }
 
 // A grid with these values in its middle.
 fn middle(values: &[Cpx; 62]) -> [Cpx; 72]
     ensures { All (IsWithin 127) result }
 {
-    let mut grid = empty_grid();
+    let mut grid = level(point_of(b'.'));
     for n in 0..62 {
         grid[n + 5] = bounded(values[n]);
     }
@@ -436,7 +437,7 @@ fn point_of(digit: u8) -> Cpx
 fn row_of(row: &[u8; 72]) -> [Cpx; 72]
     ensures { All (IsWithin 127) result }
 {
-    let mut grid = empty_grid();
+    let mut grid = level(point_of(b'.'));
     for k in 0..72 {
         grid[k] = point_of(row[k]);
     }

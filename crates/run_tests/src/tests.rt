@@ -105,6 +105,14 @@ fn signals_past_the_first_frame_are_not_listed(rt: HostRuntime) -> Result<(), Fa
 }
 
 #[test]
+fn many_signals_are_no_cell(rt: HostRuntime) -> Result<(), Fail> {
+    let (status, taken) = output_of(rt.alloc(), "search", many_signals(rt.alloc())?)?;
+    assert_eq!(rt; status, Status::Done);
+    assert_eq!(rt; taken.as_slice(), b"cells 0\n".as_slice());
+    Ok(())
+}
+
+#[test]
 fn each_of_many_hits_has_its_identity(rt: HostRuntime) -> Result<(), Fail> {
     let (status, taken) = output_of(rt.alloc(), "ids", many_signals(rt.alloc())?)?;
     let mut wanted = format!(in rt.alloc(); "ids 46\n")?;
@@ -277,6 +285,32 @@ fn readers_and_writers_of_std(rt: HostRuntime) -> Result<(), Fail> {
     let (status, taken) = hits_of_std(alloc, &bytes)?;
     assert_eq!(rt; status, Status::Done);
     assert_eq!(rt; taken.as_slice(), b"hits 1\n1000 0\n".as_slice());
+    Ok(())
+}
+
+#[test]
+fn texts_of_causes(rt: HostRuntime) -> Result<(), Fail> {
+    let alloc = rt.alloc();
+    for (cause, text) in [
+        (CellError::Form, "bad cell: form"),
+        (CellError::Sfn, "bad cell: sfn"),
+        (CellError::Offset, "bad cell: offset"),
+        (CellError::Samples, "bad cell: samples"),
+        (CellError::Gain, "bad cell: gain"),
+        (CellError::Sib1Range, "bad cell: sib1range"),
+        (CellError::Identity, "bad cell: identity"),
+        (CellError::Spare, "bad cell: spare"),
+        (CellError::Cfi, "bad cell: cfi"),
+        (CellError::Assignment, "bad cell: assignment"),
+        (CellError::Mcs, "bad cell: mcs"),
+        (CellError::Punctured, "bad cell: punctured"),
+        (CellError::Duplex, "bad cell: duplex"),
+        (CellError::Extension, "bad cell: extension"),
+        (CellError::Sib1Long, "bad cell: sib1long"),
+    ] {
+        let status = Status::BadCell(cause);
+        assert_eq!(rt; format!(in alloc; "{status}")?.as_str(), text);
+    }
     Ok(())
 }
 

@@ -1,6 +1,7 @@
 use Rattle.std.proofs.Common.{◌≡◌, ◌+◌, [], ◌∷◌, ◌++◌, arith, refl, ap, length, length-take, length-append}
 use Rattle.tail_cert.proofs.Codes.{length-bytes_of}
-use Rattle.lte_top.proofs.Progress.{whole_on, early_on, broken_on, past_on, part_on, judged_on}
+use Rattle.cs_outside.proofs.Faults.{rose_later}
+use Rattle.lte_top.proofs.Progress.{fault_on, whole_on, early_on, broken_on, past_on, part_on, judged_on}
 use Rattle.lte_top.proofs.checking.read_each.Goals as goal
 
 pub returns-in-Ok-eq0-clause-ok : goal.returns-in-Ok-eq0-clause-ok
@@ -47,3 +48,10 @@ loop-answers-preserved g c =
       part = omega arith;
       few = omega (arith, size, all, same, ap length pushed, length-append c.loop-answers.answers.items (c.in-Whole.answer ∷ []), c.in-Ok.ensures.fits, c.window_end-end.ensures.least);
     }
+
+pub returns-in-Err-clause-err : goal.returns-in-Err-clause-err
+returns-in-Err-clause-err g c =
+    let size = length-take c.loop-answers.filled c.loop-answers.buffer in (
+      rose_later _ _ _ c.loop-answers.invariant.later c.in-Err.ensures.cause,
+      fault_on _ _ _ _ _ c.loop-answers.invariant.so_far c.in-Err.ensures.unchanged (omega (arith, size)),
+    )
