@@ -6,3 +6,4 @@ pub mod Encoding
 pub mod Round
 pub mod Sums
 pub mod Whole
+pub mod Known

@@ -1,7 +1,7 @@
 //! The two encoders and the coded word.
 
 ghost use Rattle.std.specs.Prelude.{◌≡◌, ◌+◌, ◌<◌, ◌≤◌, ◌∷◌, ◌++◌, [], false, length, take, drop};
-ghost use Rattle.turbo_code.specs.Table.{IsRow, place};
+ghost use Rattle.turbo_code.specs.Table.{IsRow, IsSize, place};
 ghost use Rattle.turbo_code.specs.Encoder.{coded, interleaved, parities, stream, tail_x, tail_z, xor};
 
 use crate::Row;
@@ -89,7 +89,7 @@ fn encoder_of(word: &[bool]) -> Constituent
 }
 
 /// Which bit of the word the second encoder reads after i others.
-fn place_of(row: &Row, i: usize) -> usize
+pub(crate) fn place_of(row: &Row, i: usize) -> usize
     requires row { IsRow row.now }
     requires inside { i < row.now.k }
     ensures place { result ≡ place row.now i }
@@ -140,6 +140,7 @@ pub fn encode(bits: &[bool], row: Row) -> Coded
     requires row { IsRow row }
     requires count { length bits.now ≡ row.k }
     ensures k { result.k ≡ row.k }
+    ensures size { IsSize result.k }
     ensures d { result.d ≡ coded row bits.now }
 {
     let k = bits.len();

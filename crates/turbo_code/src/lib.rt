@@ -11,3 +11,6 @@ pub use encoder::{Coded, encode};
 pub use laws::{reading_is_whole, rows_permute};
 pub use matching::{Combined, combine, match_out};
 pub use rows::{Row, row_of};
+
+#[cfg(test)]
+mod tests;

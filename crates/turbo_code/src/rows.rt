@@ -1,7 +1,7 @@
 //! The table of block sizes and its interleaver.
 
-ghost use Rattle.std.specs.Prelude.{◌≡◌, ◌≢◌, ℕ, ◌+◌, MatchOption};
-ghost use Rattle.turbo_code.specs.Table.{IsRow, IsSize, place};
+ghost use Rattle.std.specs.Prelude.{◌≡◌, ◌+◌, MatchOption};
+ghost use Rattle.turbo_code.specs.Table.{IsRow, IsSize};
 
 /// A row of the table: the number K of information bits and the two factors of the interleaver.
 #[derive(Clone, Copy, Debug, PartialEq, Eq, Drop)]
@@ -11,12 +11,10 @@ pub struct Row {
     pub f2: u16,
 }
 
-/// Hands K, f1 and f2 of each row in use to the macro that is named, after what goes with them
-/// (TS 36.212 table 5.1.3-3).
+/// Hands K, f1 and f2 of each row in use to the macro that is named (TS 36.212 table 5.1.3-3).
 macro_rules! each_row {
-    ($one:ident $(, $with:ident)*) => {
+    ($one:ident) => {
         $one! {
-            $($with)* =>
             (56, 19, 42), (80, 11, 20), (96, 11, 24), (112, 41, 84), (128, 15, 32), (144, 17, 108),
             (168, 101, 84), (200, 13, 50), (232, 85, 58), (248, 33, 62), (280, 103, 210), (320, 21, 120),
             (352, 21, 44), (400, 151, 40), (416, 25, 52), (464, 247, 58), (480, 89, 180), (512, 31, 64),
@@ -27,8 +25,10 @@ macro_rules! each_row {
     };
 }
 
+pub(crate) use each_row;
+
 macro_rules! table {
-    (=> $(($k:literal, $f1:literal, $f2:literal)),*) => {
+    ($(($k:literal, $f1:literal, $f2:literal)),*) => {
         [$(Row { k: $k, f1: $f1, f2: $f2 }),*]
     };
 }

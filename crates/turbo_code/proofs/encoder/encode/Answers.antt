@@ -1,6 +1,6 @@
 use Rattle.std.proofs.Common.{◌≡◌, arith, sym, ap, ◌∙◌, length, take}
 use Rattle.std.proofs.lemmas.List.{length-take-le}
-use Rattle.turbo_code.proofs.TableFacts.{is_small}
+use Rattle.turbo_code.proofs.TableFacts.{is_small, row_size}
 use Rattle.turbo_code.proofs.Encoding.{coded_is}
 use Rattle.turbo_code.proofs.encoder.encode.Goals as goal
 
@@ -40,3 +40,6 @@ returns-clause-d c =
     (ap (λ n. take n b.result.parities) (sym long) ∙ b.ensures.parities)
     a.ensures.x a.ensures.z b.ensures.x b.ensures.z
     c.stream_of.ensures c.stream_of-2.ensures c.stream_of-3.ensures
+
+pub returns-clause-size : goal.returns-clause-size
+returns-clause-size c = row_size c.args.row c.requires.row
