@@ -7,3 +7,4 @@ pub mod Round
 pub mod Sums
 pub mod Whole
 pub mod Known
+pub mod Sizes

@@ -62,7 +62,7 @@ no_larger : (b : Bool) (v : ℤ) (bound : ℕ) → nat_abs v ≤ bound → nat_a
 no_larger true v bound h = h
 no_larger false v bound h = omega arith
 
-abs_sum : (a b : ℤ) → nat_abs (a +ℤ b) ≤ nat_abs a + nat_abs b
+pub abs_sum : (a b : ℤ) → nat_abs (a +ℤ b) ≤ nat_abs a + nat_abs b
 abs_sum a b = omega (arith, ints)
 
 -- one more value, at place q of stream s

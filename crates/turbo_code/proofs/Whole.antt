@@ -29,7 +29,7 @@ same_test a b c d f g = elim (eqb_tells a b) [
   ]
 ]
 
-different : (a b : ℕ) → (a ≡ b → ⊥) → nat_eq a b ≡ false
+pub different : (a b : ℕ) → (a ≡ b → ⊥) → nat_eq a b ≡ false
 different a b apart = elim (eqb_tells a b) [
   | inl (x, e) ↦ absurd (apart e)
   | inr (x, ne) ↦ x
@@ -41,7 +41,7 @@ same_number a = elim (eqb_tells a a) [
   | inr (x, ne) ↦ absurd (ne refl)
 ]
 
-and_false : (b : Bool) → (b && false) ≡ false
+pub and_false : (b : Bool) → (b && false) ≡ false
 and_false true = refl
 and_false false = refl
 
@@ -71,7 +71,7 @@ count-bits_in n t p (c ∷ cs) = settle (count-bits_in n t p cs) (nat_le n c.pla
 
 -- ---- a cell in what is read of one stream
 
-count_more : (test : Place → Bool) (n : ℕ) (f : ℕ → Place) → count_by test (values_below (suc n) f) ≡ count_by test (values_below n f) + cond (test (f n)) 1 0
+pub count_more : (test : Place → Bool) (n : ℕ) (f : ℕ → Place) → count_by test (values_below (suc n) f) ≡ count_by test (values_below n f) + cond (test (f n)) 1 0
 count_more test n f =
     let e : suc n ≡ n + 1 = omega arith in
     let one : cond {A = ℕ} (test (f n)) 1 0 + 0 ≡ cond (test (f n)) 1 0 = omega arith in
@@ -154,7 +154,7 @@ thirds_inverse r h = inverse_by (32 * r) (third r) (third_back r) (every_below_a
 
 -- ---- the buffer
 
-count-in_turn : (test : Place → Bool) (xs ys : List Place) → count_by test (in_turn xs ys) ≡ count_by test xs + count_by test ys
+pub count-in_turn : (test : Place → Bool) (xs ys : List Place) → count_by test (in_turn xs ys) ≡ count_by test xs + count_by test ys
 count-in_turn test [] ys = omega arith
 count-in_turn test (x ∷ xs) [] = omega arith
 count-in_turn test (x ∷ xs) (y ∷ ys) =

@@ -1,6 +1,6 @@
 //! The cyclic reading of a coded word, and the sums of received values.
 
-ghost use Rattle.std.specs.Prelude.{◌≡◌, ◌+◌, ◌*◌, ◌^◌, ◌<◌, ◌≤◌, length, nat_abs, slice_index_or};
+ghost use Rattle.std.specs.Prelude.{◌≡◌, ℕ, All, ◌+◌, ◌*◌, ◌^◌, ◌<◌, ◌≤◌, length, nat_abs, slice_index_or};
 ghost use Rattle.turbo_code.specs.Table.{IsRow, IsSize};
 ghost use Rattle.turbo_code.specs.Reading.{bit_of, buffer, cell, matrix_rows, place_of, spot, start, summed, sum_at, sums_with, turned};
 
@@ -118,14 +118,16 @@ fn add_at(sums: &mut [[i32; 1028]; 3], at: &Place, value: &i16)
     sums[at.stream][at.place] += *value as i32;
 }
 
-/// For each coded bit the sum of the values that the reading from a redundancy version maps to it.
-/// `row` is a row of the table, `rv` is 0 to 3, and there are at most 1,224 values.
+/// For each coded bit the sum of the values that the reading from a redundancy version maps to it,
+/// which are seven at most. `row` is a row of the table, `rv` is 0 to 3, and there are at most 1,224 values.
 pub fn combine(values: &[i16], row: Row, rv: u8) -> Combined
     requires row { IsRow row }
     requires version { rv < 4 }
     requires count { length values.now ≤ 1224 }
     ensures k { result.k ≡ row.k }
     ensures d { result.d ≡ summed row.k rv values.now }
+    ensures sizes { (bound : ℕ) → All (λ value. nat_abs value ≤ bound) values.now →
+        All (λ stream. All (λ sum. nat_abs sum ≤ 7 * bound) stream) result.d }
 {
     let mut d = [[0; 1028]; 3];
     for (i, value) in values.iter().enumerate() {
