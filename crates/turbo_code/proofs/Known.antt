@@ -1,0 +1,36 @@
+-- The definitions at words and sizes whose code and reading are known.
+use Rattle.std.proofs.Common.{◌≡◌, true, false, [], ◌∷◌, map, refl}
+use Rattle.turbo_code.specs.Table.{row, place}
+use Rattle.turbo_code.specs.Encoder.{before, parities, tail_x, tail_z}
+use Rattle.turbo_code.specs.Reading.{spot, columns, start, buffer, bits_in, reading, place_of}
+
+-- the interleaver of K = 144
+places_of_144 : map (place (row 144 17 108)) (0 ∷ 1 ∷ 2 ∷ 3 ∷ []) ≡ 0 ∷ 125 ∷ 34 ∷ 15 ∷ []
+unfolding place
+places_of_144 = refl
+
+-- where its reading starts
+starts_of_144 : map (start 144) (0 ∷ 1 ∷ 2 ∷ 3 ∷ []) ≡ 10 ∷ 130 ∷ 250 ∷ 370 ∷ []
+starts_of_144 = refl
+
+-- the first bits that are sent
+sent_of_144 : map (place_of 144 0) (0 ∷ 1 ∷ 2 ∷ 3 ∷ 4 ∷ []) ≡ spot 0 28 ∷ spot 0 60 ∷ spot 0 92 ∷ spot 0 124 ∷ spot 0 12 ∷ []
+unfolding place_of reading buffer bits_in columns
+sent_of_144 = refl
+
+sent_in_turn : map (place_of 144 2) (0 ∷ 1 ∷ 2 ∷ 444 ∷ []) ≡ spot 1 6 ∷ spot 2 7 ∷ spot 1 38 ∷ spot 1 6 ∷ []
+unfolding place_of reading buffer bits_in columns
+sent_in_turn = refl
+
+-- one encoder's parity bits and tail for a word of seven bits
+parities_of_seven : parities (true ∷ true ∷ true ∷ true ∷ true ∷ true ∷ false ∷ []) ≡ true ∷ false ∷ true ∷ false ∷ false ∷ false ∷ false ∷ []
+unfolding parities before
+parities_of_seven = refl
+
+tail_of_seven : map (tail_x (true ∷ true ∷ true ∷ true ∷ true ∷ true ∷ false ∷ [])) (0 ∷ 1 ∷ 2 ∷ []) ≡ false ∷ true ∷ true ∷ []
+unfolding tail_x before
+tail_of_seven = refl
+
+tail_parities_of_seven : map (tail_z (true ∷ true ∷ true ∷ true ∷ true ∷ true ∷ false ∷ [])) (0 ∷ 1 ∷ 2 ∷ []) ≡ true ∷ false ∷ true ∷ []
+unfolding tail_z before
+tail_parities_of_seven = refl

@@ -1,0 +1,44 @@
+use Rattle.std.specs.Prelude.{All, nat_abs, ◌≤◌, ◌*◌}
+use Rattle.std.proofs.Common.{subst, sym, ◌<◌, arith, refl}
+use Rattle.turbo_code.proofs.TableFacts.{is_small, row_size}
+use Rattle.turbo_code.proofs.Sizes.{sizes}
+use Rattle.turbo_code.proofs.Sums.{sums_none, sums_more, sums_all}
+use Rattle.turbo_code.proofs.matching.combine.Goals as goal
+
+pub loop-i-init : goal.loop-i-init
+loop-i-init c = sums_none c.args.row.k c.args.rv c.args.values.now
+
+pub place_in-requires-clause-size : goal.place_in-requires-clause-size
+place_in-requires-clause-size c = row_size c.args.row c.requires.row
+
+pub add_at-requires-clause-place : goal.add_at-requires-clause-place
+add_at-requires-clause-place c =
+    let high = (is_small c.args.row c.requires.row).high in
+    let inside = c.place_in.ensures.inside in
+    omega (arith, high, inside)
+
+pub add_at-requires-clause-room : goal.add_at-requires-clause-room
+add_at-requires-clause-room c =
+    let high = (is_small c.args.row c.requires.row).high in
+    let inside = c.place_in.ensures.inside in
+    let below : c.place_in.result.place < 1028 = omega (arith, high, inside) in
+    let small = c.loop-i.invariant.small c.place_in.result.stream c.place_in.result.place c.place_in.ensures.below_three below in
+    let count = c.requires.count in
+    omega (arith, small, count, c.loop-i-test.true)
+
+pub loop-i-preserved : goal.loop-i-preserved
+loop-i-preserved c =
+    let at = c.place_in.ensures in
+    let high = (is_small c.args.row c.requires.row).high in
+    let inside = at.inside in
+    rw c.add_at.ensures.sum
+    (sums_more c.args.row.k c.args.rv c.args.values.now c.loop-i.i c.loop-i.d _ _ _ at.stream at.place at.below_three (omega (arith, high, inside)) refl c.add_at.ensures.size c.loop-i.invariant)
+
+pub returns-clause-d : goal.returns-clause-d
+returns-clause-d c = sums_all c.args.row.k c.args.rv c.args.values.now c.loop-i.i c.loop-i.d (omega arith) c.loop-i.invariant
+
+pub returns-clause-sizes : goal.returns-clause-sizes
+returns-clause-sizes c bound small =
+    let is = sums_all c.args.row.k c.args.rv c.args.values.now c.loop-i.i c.loop-i.d (omega arith) c.loop-i.invariant in
+    subst (All (λ stream. All (λ sum. nat_abs sum ≤ 7 * bound) stream)) (sym is)
+    (sizes c.args.row.k c.args.rv (row_size c.args.row c.requires.row) c.requires.version c.args.values.now c.requires.count bound small)

@@ -1,0 +1,7 @@
+use Rattle.std.proofs.Common.{◌*◌, ◌%◌}
+use Rattle.turbo_code.proofs.Round.{round_cells}
+use Rattle.turbo_code.proofs.Search.{IsLeft}
+use Rattle.turbo_code.proofs.matching.place_in.Given as goal
+
+abbrev pub invariant-loop-m : goal.invariant-loop-m
+invariant-loop-m l = IsLeft l.nulls (round_cells l.rows l.rv) (l.i % (3 * l.count)) l.m l.left

@@ -1,0 +1,25 @@
+-- Laws of the interleaver and of the reading (TS 36.212 sections 5.1.3.2.3 and 5.1.4.1).
+use Rattle.std.specs.Prelude.{◌≡◌, ℕ, ◌+◌, ◌*◌, ◌<◌, length}
+use Rattle.std.specs.List.{count_by}
+use Rattle.turbo_code.specs.declared.rows.Row.{Row}
+use Rattle.turbo_code.specs.Table.{IsRow, IsSize, place}
+use Rattle.turbo_code.specs.Reading.{is_at, reading}
+
+-- f is one to one, from the numbers below n onto them
+pub record Permutes (n : ℕ) (f : ℕ → ℕ) : Type 0 where
+  pub below : (i : ℕ) → i < n → f i < n
+  pub one_to_one : (i j : ℕ) → i < n → j < n → f i ≡ f j → i ≡ j
+  pub onto : (y : ℕ) → y < n → (i : ℕ) × (i < n) × (f i ≡ y)
+
+-- each row's interleaver is a permutation
+abbrev pub RowsPermute : Type 0
+RowsPermute = (row : Row) → IsRow row → Permutes row.k (place row)
+
+-- once round the buffer are 3(K + 4) bits, and each of the K + 4 bits of each stream stands there once
+pub record ReadsEachBitOnce (k rv : ℕ) : Type 0 where
+  pub count : length (reading k rv) ≡ 3 * (k + 4)
+  pub once : (t p : ℕ) → t < 3 → p < k + 4 → count_by (is_at t p) (reading k rv) ≡ 1
+
+-- for each K of the table and each redundancy version
+abbrev pub ReadingIsWhole : Type 0
+ReadingIsWhole = (k rv : ℕ) → IsSize k → rv < 4 → ReadsEachBitOnce k rv

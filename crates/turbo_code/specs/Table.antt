@@ -1,0 +1,31 @@
+-- The table of block sizes and of the internal interleaver (TS 36.212 section 5.1.3.2.3).
+use Rattle.std.specs.Prelude.{ℕ, ◌+◌, ◌*◌, ◌%◌, ◌≡◌, List, [], ◌∷◌}
+use Rattle.std.specs.List.{Contains}
+use Rattle.turbo_code.specs.declared.rows.Row.{Row}
+
+abbrev pub row : ℕ → ℕ → ℕ → Row
+row k f1 f2 = record { k = k; f1 = f1; f2 = f2 }
+
+-- the rows in use: K, f1, f2
+unfoldable pub rows : List Row
+rows =
+    row 56 19 42 ∷ row 80 11 20 ∷ row 96 11 24 ∷ row 112 41 84 ∷
+    row 128 15 32 ∷ row 144 17 108 ∷ row 168 101 84 ∷ row 200 13 50 ∷
+    row 232 85 58 ∷ row 248 33 62 ∷ row 280 103 210 ∷ row 320 21 120 ∷
+    row 352 21 44 ∷ row 400 151 40 ∷ row 416 25 52 ∷ row 464 247 58 ∷
+    row 480 89 180 ∷ row 512 31 64 ∷ row 528 17 66 ∷ row 576 65 96 ∷
+    row 608 37 76 ∷ row 624 41 234 ∷ row 656 185 82 ∷ row 704 155 44 ∷
+    row 720 79 120 ∷ row 768 217 48 ∷ row 800 17 80 ∷ row 864 17 48 ∷
+    row 928 15 58 ∷ row 992 65 124 ∷ row 1024 31 64 ∷ []
+
+-- a row of the table
+abbrev pub IsRow : Row → Type 0
+IsRow r = Contains rows r
+
+-- a K of the table
+abbrev pub IsSize : ℕ → Type 0
+IsSize k = (r : Row) × Contains rows r × (r.k ≡ k)
+
+-- which information bit the second encoder reads after i others
+unfoldable pub place : Row → ℕ → ℕ
+place r i = (r.f1 * i + r.f2 * i * i) % r.k

@@ -1,0 +1,160 @@
+//! The two encoders and the coded word.
+
+ghost use Rattle.std.specs.Prelude.{◌≡◌, ◌+◌, ◌<◌, ◌≤◌, ◌∷◌, ◌++◌, [], false, length, take, drop};
+ghost use Rattle.turbo_code.specs.Table.{IsRow, IsSize, place};
+ghost use Rattle.turbo_code.specs.Encoder.{coded, interleaved, parities, stream, tail_x, tail_z, xor};
+
+use crate::Row;
+
+/// A coded word: K, and three streams of K bits with four tail bits each, which are followed by zeros.
+#[derive(Clone, Copy, Drop)]
+pub struct Coded {
+    pub k: u16,
+    pub d: [[bool; 1028]; 3],
+}
+
+/// The last three bits of an encoder's register: a(k - 1), a(k - 2), a(k - 3).
+#[derive(Drop)]
+struct Register {
+    one: bool,
+    two: bool,
+    three: bool,
+}
+
+/// The bits x and z of an encoder's three tail steps.
+#[derive(Drop)]
+struct Tail {
+    x: [bool; 3],
+    z: [bool; 3],
+}
+
+/// What one encoder adds to a word: its parity bits, followed by zeros, and its tail.
+#[derive(Drop)]
+struct Constituent {
+    parities: [bool; 1024],
+    tail: Tail,
+}
+
+/// Takes the next bit of the word, and gives its parity bit.
+fn step(register: &mut Register, bit: bool) -> bool
+    ensures last { register.new.one ≡ xor (xor bit register.old.two) register.old.three }
+    ensures second { register.new.two ≡ register.old.one }
+    ensures third { register.new.three ≡ register.old.two }
+    ensures parity { result ≡ xor (xor register.new.one register.old.one) register.old.three }
+{
+    let last = bit ^ register.two ^ register.three;
+    let parity = last ^ register.one ^ register.three;
+    register.three = register.two;
+    register.two = register.one;
+    register.one = last;
+    parity
+}
+
+/// The three steps that lead the register back to zeros.
+fn tail_of(register: &Register) -> Tail
+    ensures x { result.x ≡ xor register.now.two register.now.three ∷ xor register.now.one register.now.two ∷ xor false register.now.one ∷ [] }
+    ensures z { result.z ≡ xor register.now.one register.now.three ∷ xor false register.now.two ∷ xor false register.now.one ∷ [] }
+{
+    Tail {
+        x: [
+            register.two ^ register.three,
+            register.one ^ register.two,
+            register.one,
+        ],
+        z: [register.one ^ register.three, register.two, register.one],
+    }
+}
+
+/// One encoder's parity bits and tail bits for a word.
+fn encoder_of(word: &[bool]) -> Constituent
+    requires { length word.now ≤ 1024 }
+    ensures parities { take (length word.now) result.parities ≡ parities word.now }
+    ensures whole { length result.parities ≡ 1024 }
+    ensures x { result.tail.x ≡ tail_x word.now 0 ∷ tail_x word.now 1 ∷ tail_x word.now 2 ∷ [] }
+    ensures z { result.tail.z ≡ tail_z word.now 0 ∷ tail_z word.now 1 ∷ tail_z word.now 2 ∷ [] }
+{
+    let mut parities = [false; 1024];
+    let mut register = Register {
+        one: false,
+        two: false,
+        three: false,
+    };
+    for (k, bit) in word.iter().enumerate() {
+        parities[k] = step(&mut register, *bit);
+    }
+    Constituent {
+        parities,
+        tail: tail_of(&register),
+    }
+}
+
+/// Which bit of the word the second encoder reads after i others.
+pub(crate) fn place_of(row: &Row, i: usize) -> usize
+    requires row { IsRow row.now }
+    requires inside { i < row.now.k }
+    ensures place { result ≡ place row.now i }
+    ensures inside { result < row.now.k }
+{
+    let f1 = row.f1 as usize;
+    let f2 = row.f2 as usize;
+    (f1 * i + f2 * i * i) % row.k as usize
+}
+
+/// The word in the order of the second encoder, followed by zeros.
+fn in_order(word: &[bool], row: &Row) -> [bool; 1024]
+    requires row { IsRow row.now }
+    requires count { length word.now ≡ row.now.k }
+    ensures word { take (length word.now) result ≡ interleaved row.now word.now }
+    ensures whole { length result ≡ 1024 }
+{
+    let mut bits = [false; 1024];
+    for i in 0..word.len() {
+        bits[i] = word[place_of(row, i)];
+    }
+    bits
+}
+
+/// Writes the bits into a stream, from a place on.
+fn write_at(stream: &mut [bool], place: usize, bits: &[bool])
+    requires { place + length bits.now ≤ length stream.old }
+    ensures { stream.new ≡ take place stream.old ++ bits.now ++ drop (place + length bits.now) stream.old }
+{
+    stream[place..place + bits.len()].copy_from_slice(bits);
+}
+
+/// A stream: its bits, its four tail bits, and zeros.
+fn stream_of(bits: &[bool], tail: &[bool; 4]) -> [bool; 1028]
+    requires { length bits.now ≤ 1024 }
+    ensures { result ≡ stream bits.now tail.now }
+{
+    let mut stream = [false; 1028];
+    write_at(&mut stream, 0, bits);
+    write_at(&mut stream, bits.len(), tail);
+    stream
+}
+
+/// The coded word of K bits (TS 36.212 section 5.1.3.2): the word, the parity bits of the first
+/// encoder and those of the second, which reads the word in the order of the interleaver. `row` is a
+/// row of the table, and `bits` has its K bits.
+pub fn encode(bits: &[bool], row: Row) -> Coded
+    requires row { IsRow row }
+    requires count { length bits.now ≡ row.k }
+    ensures k { result.k ≡ row.k }
+    ensures size { IsSize result.k }
+    ensures d { result.d ≡ coded row bits.now }
+{
+    let k = bits.len();
+    let swapped = in_order(bits, &row);
+    let first = encoder_of(bits);
+    let second = encoder_of(&swapped[..k]);
+    let a = &first.tail;
+    let b = &second.tail;
+    Coded {
+        k: row.k,
+        d: [
+            stream_of(bits, &[a.x[0], a.z[1], b.x[0], b.z[1]]),
+            stream_of(&first.parities[..k], &[a.z[0], a.x[2], b.z[0], b.x[2]]),
+            stream_of(&second.parities[..k], &[a.x[1], a.z[2], b.x[1], b.z[2]]),
+        ],
+    }
+}

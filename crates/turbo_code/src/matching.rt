@@ -1,0 +1,137 @@
+//! The cyclic reading of a coded word, and the sums of received values.
+
+ghost use Rattle.std.specs.Prelude.{◌≡◌, ℕ, All, ◌+◌, ◌*◌, ◌^◌, ◌<◌, ◌≤◌, length, nat_abs, slice_index_or};
+ghost use Rattle.turbo_code.specs.Table.{IsRow, IsSize};
+ghost use Rattle.turbo_code.specs.Reading.{bit_of, buffer, cell, matrix_rows, place_of, spot, start, summed, sum_at, sums_with, turned};
+
+use crate::{Coded, Row};
+
+/// For each of the three streams and each place the sum of the values that were received for it.
+#[derive(Clone, Copy, Drop)]
+pub struct Combined {
+    pub k: u16,
+    pub d: [[i32; 1028]; 3],
+}
+
+/// A bit of a coded word, or a cell of one of the three matrices.
+#[derive(Clone, Copy, Drop)]
+struct Place {
+    stream: usize,
+    place: usize,
+}
+
+/// The columns of the matrix, in the order in which they are read.
+const COLUMNS: [usize; 32] = [
+    0, 16, 8, 24, 4, 20, 12, 28, 2, 18, 10, 26, 6, 22, 14, 30, 1, 17, 9, 25, 5, 21, 13, 29, 3, 19,
+    11, 27, 7, 23, 15, 31,
+];
+
+/// The cell that is read after m others in a matrix.
+fn cell_at(rows: usize, m: usize) -> usize
+    requires rows { rows ≤ 33 }
+    requires inside { m < 32 * rows }
+    ensures cell { result ≡ cell rows m }
+    ensures inside { result < 32 * rows }
+{
+    32 * (m % rows) + COLUMNS[m / rows]
+}
+
+/// Cell j of the circular buffer.
+fn buffer_at(rows: usize, j: usize) -> Place
+    requires rows { rows ≤ 33 }
+    requires inside { j < 96 * rows }
+    ensures stream { result.stream ≡ (slice_index_or (buffer rows) j (spot 0 0)).stream }
+    ensures place { result.place ≡ (slice_index_or (buffer rows) j (spot 0 0)).place }
+    ensures below_three { result.stream < 3 }
+    ensures inside { result.place < 32 * rows }
+{
+    let size = 32 * rows;
+    if j < size {
+        return Place {
+            stream: 0,
+            place: cell_at(rows, j),
+        };
+    }
+    let cell = cell_at(rows, (j - size) / 2);
+    if (j - size) % 2 == 0 {
+        Place {
+            stream: 1,
+            place: cell,
+        }
+    } else {
+        Place {
+            stream: 2,
+            place: (cell + 1) % size,
+        }
+    }
+}
+
+/// The place of bit i of the cyclic reading of three streams of k bits with their tails.
+fn place_in(k: u16, rv: u8, i: usize) -> Place
+    requires size { IsSize k }
+    requires version { rv < 4 }
+    ensures stream { result.stream ≡ (place_of k rv i).stream }
+    ensures place { result.place ≡ (place_of k rv i).place }
+    ensures below_three { result.stream < 3 }
+    ensures inside { result.place < k + 4 }
+{
+    let count = k as usize + 4;
+    let rows = count.div_ceil(32);
+    let nulls = 32 * rows - count;
+    let start = rows * (24 * rv as usize + 2);
+    let mut left = i % (3 * count);
+    for m in 0..96 * rows {
+        let cell = buffer_at(rows, (start + m) % (96 * rows));
+        if cell.place >= nulls {
+            if left == 0 {
+                return Place {
+                    stream: cell.stream,
+                    place: cell.place - nulls,
+                };
+            }
+            left -= 1;
+        }
+    }
+    unreachable!()
+}
+
+/// Bit i of the cyclic reading of a coded word from the start of a redundancy version, 0 to 3
+/// (TS 36.212 section 5.1.4.1). `i` is at most 4,096.
+pub fn match_out(coded: &Coded, rv: u8, i: usize) -> bool
+    requires size { IsSize coded.now.k }
+    requires version { rv < 4 }
+    requires count { i ≤ 4096 }
+    ensures { result ≡ bit_of coded.now.d (place_of coded.now.k rv i) }
+{
+    let at = place_in(coded.k, rv, i);
+    coded.d[at.stream][at.place]
+}
+
+/// Adds the value to the sum at a place.
+fn add_at(sums: &mut [[i32; 1028]; 3], at: &Place, value: &i16)
+    requires stream { at.now.stream < 3 }
+    requires place { at.now.place < 1028 }
+    requires room { nat_abs (sum_at sums.old at.now.stream at.now.place) ≤ 2 ^ 30 }
+    ensures sum { sums.new ≡ sums_with sums.old at.now.stream at.now.place value.now }
+    ensures size { nat_abs value.now ≤ 2 ^ 15 }
+{
+    sums[at.stream][at.place] += *value as i32;
+}
+
+/// For each coded bit the sum of the values that the reading from a redundancy version maps to it,
+/// which are seven at most. `row` is a row of the table, `rv` is 0 to 3, and there are at most 1,224 values.
+pub fn combine(values: &[i16], row: Row, rv: u8) -> Combined
+    requires row { IsRow row }
+    requires version { rv < 4 }
+    requires count { length values.now ≤ 1224 }
+    ensures k { result.k ≡ row.k }
+    ensures d { result.d ≡ summed row.k rv values.now }
+    ensures sizes { (bound : ℕ) → All (λ value. nat_abs value ≤ bound) values.now →
+        All (λ stream. All (λ sum. nat_abs sum ≤ 7 * bound) stream) result.d }
+{
+    let mut d = [[0; 1028]; 3];
+    for (i, value) in values.iter().enumerate() {
+        add_at(&mut d, &place_in(row.k, rv, i), value);
+    }
+    Combined { k: row.k, d }
+}
