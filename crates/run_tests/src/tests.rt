@@ -289,32 +289,6 @@ fn readers_and_writers_of_std(rt: HostRuntime) -> Result<(), Fail> {
 }
 
 #[test]
-fn texts_of_causes(rt: HostRuntime) -> Result<(), Fail> {
-    let alloc = rt.alloc();
-    for (cause, text) in [
-        (CellError::Form, "bad cell: form"),
-        (CellError::Sfn, "bad cell: sfn"),
-        (CellError::Offset, "bad cell: offset"),
-        (CellError::Samples, "bad cell: samples"),
-        (CellError::Gain, "bad cell: gain"),
-        (CellError::Sib1Range, "bad cell: sib1range"),
-        (CellError::Identity, "bad cell: identity"),
-        (CellError::Spare, "bad cell: spare"),
-        (CellError::Cfi, "bad cell: cfi"),
-        (CellError::Assignment, "bad cell: assignment"),
-        (CellError::Mcs, "bad cell: mcs"),
-        (CellError::Punctured, "bad cell: punctured"),
-        (CellError::Duplex, "bad cell: duplex"),
-        (CellError::Extension, "bad cell: extension"),
-        (CellError::Sib1Long, "bad cell: sib1long"),
-    ] {
-        let status = Status::BadCell(cause);
-        assert_eq!(rt; format!(in alloc; "{status}")?.as_str(), text);
-    }
-    Ok(())
-}
-
-#[test]
 fn texts_of_answers(rt: HostRuntime) -> Result<(), Fail> {
     let alloc = rt.alloc();
     for (status, code, text) in [
