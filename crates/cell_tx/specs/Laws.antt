@@ -6,7 +6,10 @@ use Rattle.cell_tx.specs.declared.cell.CellPlan.{CellPlan}
 use Rattle.cell_tx.specs.Plan.{IsSendable, plan_refusal}
 use Rattle.cell_tx.specs.Grid.{element}
 use Rattle.cell_tx.specs.Sent.{useful_start, frame_sample, sent}
-use Rattle.cell_tx.specs.Clean.{IsOffset, start_of, number_at_start}
+use Rattle.finite.specs.Lists.{values_below}
+use Rattle.cs_num.specs.declared.Cpx.{Cpx}
+use Rattle.cell_tx.specs.Sent.{sample_of, received}
+use Rattle.cell_tx.specs.Clean.{IsGain, IsClean, IsOffset, start_of, number_at_start}
 
 -- the plans that can be sent are those in which no condition fails
 abbrev pub AcceptedAreSendable : Type 0
@@ -44,3 +47,8 @@ ElementsAreSmall = (plan : CellPlan) (sfn subframe symbol k : ℕ) → square (e
 -- a sample has size at most 1,153
 abbrev pub SamplesAreSmall : Type 0
 SamplesAreSmall = (plan : CellPlan) (sfn i : ℕ) → square (sent plan sfn i) ≤ 1153 * 1153
+
+-- what is received without errors is a clean recording of the cell
+abbrev pub ReceivedIsClean : Type 0
+ReceivedIsClean = (plan : CellPlan) (sfn offset count : ℕ) (gain : Cpx) → sfn ≤ 1023 → IsOffset offset → IsGain gain →
+    IsClean (values_below count (λ i. sample_of (received plan sfn offset gain i))) plan sfn offset gain 0

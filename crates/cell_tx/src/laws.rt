@@ -1,6 +1,6 @@
 //! Laws of what a cell sends.
 
-ghost use Rattle.cell_tx.specs.Laws.{AcceptedAreSendable, UsefulPartsStand, PrefixesRepeat, FramesFollow, FramesBeginAtStart, ElementsAreWithin, ElementsAreSmall, SamplesAreSmall};
+ghost use Rattle.cell_tx.specs.Laws.{AcceptedAreSendable, UsefulPartsStand, PrefixesRepeat, FramesFollow, FramesBeginAtStart, ElementsAreWithin, ElementsAreSmall, SamplesAreSmall, ReceivedIsClean};
 
 /// The plans that `Cell::new` accepts are those that can be sent.
 pub fn accepted_are_sendable()
@@ -25,4 +25,9 @@ pub fn sizes()
     ensures within { ElementsAreWithin }
     ensures elements { ElementsAreSmall }
     ensures samples { SamplesAreSmall }
+{}
+
+/// What a cell sends, times a gain and without errors, is a clean recording of it.
+pub fn sent_is_clean()
+    ensures { ReceivedIsClean }
 {}

@@ -12,7 +12,7 @@ mod transmission;
 
 pub use cell::{Cell, CellPlan};
 pub use error::CellError;
-pub use laws::{accepted_are_sendable, frames_stand, sizes, symbols_stand};
+pub use laws::{accepted_are_sendable, frames_stand, sent_is_clean, sizes, symbols_stand};
 pub use sending::{frame, sample, send, send_all};
 pub use transmission::Transmission;
 

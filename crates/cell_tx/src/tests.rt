@@ -168,6 +168,7 @@ fn samples_of_a_sequence(rt: HostRuntime) -> Result<(), Fail> {
         assert_eq!(rt; sample(&cell, sfn(&rt, 0), i as u64), Sample { re, im });
     }
     frames_stand();
+    crate::sent_is_clean();
     Ok(())
 }
 

@@ -141,6 +141,10 @@ four_causes eps gain other grid grid_too samples k small small_too near l =
           ∙ ap (λ (z : Cpx). plus (plus (minus (multiple 131072 (times gain x)) (multiple 34359738368 (times gain (grid k)))) (minus (multiple 131072 (times other y)) (multiple 34359738368 (times other (grid_too k)))))
           (plus (multiple 131072 e) (multiple 131072 (minus (multiple 4096 (rounded s 12)) z)))) (sym (sum_is gain other grid grid_too samples k))
           ∙ ap (λ (z : Cpx). plus z (plus (multiple 131072 e) (multiple 131072 (minus (multiple 4096 (rounded s 12)) s)))) (ap₂ plus (sym (gain_in gain x (grid k))) (sym (gain_in other y (grid_too k))));
+      sending_is = refl;
+      sending_too_is = refl;
+      errors_is = refl;
+      rounding_is = refl;
       sending_small = sending-small grid k small l;
       sending_too_small = sending-small grid_too k small_too l;
       errors_small = scaled eps (square (multiple 131072 e)) (multiple-small 131072 ((256 * (eps * eps)) * (128 * 268468225)) e (seen-small (error gain other grid grid_too samples) k eps near));

@@ -5,6 +5,7 @@ use Rattle.cs_num.specs.declared.Sample.{Sample}
 use Rattle.cs_num.specs.Complex.{plus, times, square}
 use Rattle.cs_num.specs.Rounding.{rounded}
 use Rattle.sizes.specs.Sizes.{minus, multiple}
+use Rattle.fold128.specs.Symbol.{useful_at}
 use Rattle.fold128.specs.Spectrum.{spectrum_at}
 use Rattle.observe.specs.Seen.{seen}
 use Rattle.clean_air.specs.Received.{AreAmplitudes, AreSum, IsReceived, IsReceivedFromTwo, IsSeenAs, IsSeenAsTwo, samples_from}
@@ -22,6 +23,10 @@ pub record HasFourCauses (eps : ℕ) (gain other : Cpx) (grid grid_too samples :
   pub rounding : Cpx
   pub whole : multiple (2 ^ 29) (minus (seen_in samples k) (multiple 64 (plus (times gain (grid k)) (times other (grid_too k)))))
       ≡ plus (plus (times gain sending) (times other sending_too)) (plus errors rounding)
+  pub sending_is : sending ≡ minus (multiple (2 ^ 17) (spectrum_at (useful_at grid) k)) (multiple (2 ^ 35) (grid k))
+  pub sending_too_is : sending_too ≡ minus (multiple (2 ^ 17) (spectrum_at (useful_at grid_too) k)) (multiple (2 ^ 35) (grid_too k))
+  pub errors_is : errors ≡ multiple (2 ^ 17) (spectrum_at (λ n. minus (samples n) (plus (times gain (useful_at grid n)) (times other (useful_at grid_too n)))) k)
+  pub rounding_is : rounding ≡ multiple (2 ^ 17) (minus (multiple (2 ^ 12) (seen_in samples k)) (spectrum_at samples k))
   pub sending_small : square sending ≤ (111 * 2 ^ 31) * (111 * 2 ^ 31)
   pub sending_too_small : square sending_too ≤ (111 * 2 ^ 31) * (111 * 2 ^ 31)
   pub errors_small : square errors ≤ 2 ^ 49 * (eps * eps) * (16385 * 16385)

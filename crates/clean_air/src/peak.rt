@@ -3,8 +3,8 @@
 ghost use Rattle.clean_air.specs.Peak.{PrimaryStandsOut, PrimaryIsHit, PrimaryIsListed, NoneNearIsHit};
 
 /// Where 128 samples are the primary signal of a root times a gain, each component off by at most
-/// twice the gain's size, the metric of their place is above that of each place at distance 1 to
-/// 9, whatever stands before and after them. So the place is a hit where it lies in the span of
+/// twice the gain's size, the metric of their place is above that of each place with energy at
+/// distance 1 to 9, whatever stands before and after them. So the place is a hit where it lies in the span of
 /// one frame, and is listed, and no place near it is one.
 pub fn clean_primary_is_a_hit()
     ensures stands_out { PrimaryStandsOut }

@@ -2,8 +2,8 @@
 
 ghost use Rattle.clean_air.specs.Table.{IsNearlyMultiplicative};
 
-/// The product of two entries of W, which have sizes near 16384, is 16384 times the entry at the
-/// sum of their places, up to a complex number of size 34800.
+/// The product of two entries of W is 16384 times the entry at the sum of their places, up to a
+/// complex number of size at most 34800.
 pub fn table_is_nearly_multiplicative()
     ensures { IsNearlyMultiplicative }
 {}

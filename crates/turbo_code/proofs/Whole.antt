@@ -59,9 +59,12 @@ count-bits_in n t p (c ∷ cs) = settle (count-bits_in n t p cs) (nat_le n c.pla
     settle known true e =
         let inside = leb-true n c.place e in
         let same = same_test (c.place - n) p c.place (p + n) (λ h. omega (arith, h, inside)) (λ h. omega (arith, h, inside)) in
-        sum_by-cons (λ x. cond (is_at t p x) 1 0) (spot c.stream (c.place - n)) (map (λ c. spot c.stream (c.place - n)) (filter (λ c. nat_le n c.place) cs))
-        ∙ ap₂ (λ (x y : ℕ). x + y) (ap (λ b. cond (nat_eq c.stream t && b) 1 0) same) known
-        ∙ sym (sum_by-cons (λ x. cond (is_at t (p + n) x) 1 0) c cs)
+        let one = sum_by-cons (λ x. cond (is_at t p x) 1 0) (spot c.stream (c.place - n)) (map (λ c. spot c.stream (c.place - n)) (filter (λ c. nat_le n c.place) cs)) in
+        let all = sum_by-cons (λ x. cond (is_at t (p + n) x) 1 0) c cs in
+        let here : cond {A = ℕ} (nat_eq c.stream t && nat_eq (c.place - n) p) 1 0 ≡ cond {A = ℕ} (is_at t (p + n) c) 1 0
+        = ap (λ b. cond {A = ℕ} (nat_eq c.stream t && b) 1 0) same in
+        one ∙ ap (λ x. x + count_by (is_at t p) (map (λ c. spot c.stream (c.place - n)) (filter (λ c. nat_le n c.place) cs))) here
+        ∙ ap (λ y. cond {A = ℕ} (is_at t (p + n) c) 1 0 + y) known ∙ sym all
     settle known false e =
         let outside = leb-false n c.place e in
         let other = different c.place (p + n) (λ h. omega (arith, h, outside)) in

@@ -1,0 +1,24 @@
+use Rattle.std.proofs.Common.{◌≡◌, ℕ, ◌≤◌, ◌<◌, arith, ap, sym, subst, ℤ, pos, ◌-ℤ◌, unsigned_abs}
+use Rattle.std.proofs.lemmas.Int.{ints}
+use Rattle.finite.proofs.Lists.{values_below_at, values_below-length}
+use Rattle.cs_num.specs.declared.Sample.{Sample}
+use Rattle.cs_num.specs.Complex.{IsWithin, silence, value_of}
+use Rattle.fold128.specs.Folding.{minus}
+use Rattle.cell_tx.specs.Sent.{sample_of, received}
+use Rattle.cell_tx.proofs.laws.sent_is_clean.Goals as goal
+
+nothing_left : (a : ℤ) → unsigned_abs (a -ℤ a) ≤ 0
+nothing_left a = let is : a -ℤ a ≡ pos 0 = omega (arith, ints) in subst (λ z. unsigned_abs z ≤ 0) (sym is) (omega arith)
+
+pub returns : goal.returns
+returns c plan sfn offset count gain a b d = record {
+  number = a;
+  within = b;
+  size = d;
+  bound = omega arith;
+  near = λ i below.
+      let f : ℕ → Sample = λ i. sample_of (received plan sfn offset gain i) in
+      let there : i < count = subst (λ n. i < n) (values_below-length count f) below in
+      subst (λ z. IsWithin 0 (minus z (received plan sfn offset gain i))) (sym (ap value_of (values_below_at f count i silence there)))
+      (record { re = nothing_left (received plan sfn offset gain i).re; im = nothing_left (received plan sfn offset gain i).im });
+}
