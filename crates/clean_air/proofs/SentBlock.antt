@@ -13,7 +13,7 @@ use Rattle.lte_types.specs.declared.duration.Duration.TheVariants.{Normal, Exten
 use Rattle.lte_types.specs.declared.resource.Resource.{Resource}
 use Rattle.lte_types.specs.declared.resource.Resource.TheVariants.{OneSixth, Half, One, Two}
 use Rattle.pbch.specs.Master.{field, duration, resource, PassesWith}
-use Rattle.pbch.proofs.Numbers.{number_below, number_more}
+use Rattle.cs_bits.proofs.Numbers.{number_below, number_more}
 use Rattle.cell_tx.specs.declared.cell.CellPlan.{CellPlan}
 use Rattle.cell_tx.specs.Block.{bit_of, bits_of, duration_code, resource_code, block_bits, broadcast_word}
 

@@ -2,7 +2,9 @@
 #![tactic(auto)]
 
 mod crc;
+mod number;
 mod word;
 
 pub use crc::{crc16, crc24a};
+pub use number::number_of;
 pub use word::Bits;

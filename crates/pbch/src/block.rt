@@ -1,10 +1,9 @@
 //! The fields of a word of 40 bits.
 
-ghost use Rattle.std.specs.Prelude.{◌≡◌, ℕ, ◌<◌, ◌≤◌, ◌^◌, ◌-◌, length, slice_range, bit_xor, MatchOption, nat_eq, cond};
-ghost use Rattle.cs_bits.specs.Polynomial.{number};
+ghost use Rattle.std.specs.Prelude.{◌≡◌, ℕ, ◌<◌, ◌≤◌, ◌^◌, ◌-◌, length, slice_range, bit_xor, MatchOption, nat_eq};
 ghost use Rattle.pbch.specs.Master.{field, PassesWith, Carries, bandwidth, duration, resource};
 
-use cs_bits::{Bits, crc16};
+use cs_bits::{Bits, crc16, number_of};
 use lte_types::{Bandwidth, Duration, Mib, Resource};
 
 // The masks on the check bits (TS 36.212 section 5.3.1.1).
@@ -14,26 +13,6 @@ const TWO_PORTS: u16 = 0xffff;
 
 const FOUR_PORTS: u16 = 0x5555;
 
-// 1 for a bit that is set.
-fn weight(bit: bool) -> u16
-    ensures { result ≡ cond bit 1 0 }
-{
-    if bit { 1 } else { 0 }
-}
-
-// The number of the bits, the highest first.
-fn number_of(bits: &[bool]) -> u16
-    requires { length bits.now ≤ 16 }
-    ensures value { result ≡ number bits.now }
-    ensures bound { result < 2 ^ length bits.now }
-{
-    let mut number: u16 = 0;
-    for bit in bits {
-        number = 2 * number + weight(*bit);
-    }
-    number
-}
-
 // The number of the bits of a word from the first to before the end.
 fn field_of(word: &Bits<40>, first: usize, end: usize) -> u16
     requires order { first ≤ end }
@@ -42,7 +21,7 @@ fn field_of(word: &Bits<40>, first: usize, end: usize) -> u16
     ensures value { result ≡ field word.now first end }
     ensures bound { result < 2 ^ (end - first) }
 {
-    number_of(&word.slice()[first..end])
+    number_of(&word.slice()[first..end]) as u16
 }
 
 /// The count of antenna ports with whose mask the check of a word passes.

@@ -1,8 +1,13 @@
 use Rattle.std.proofs.Common.{◌≡◌, ◌≤◌, take, Bool, true, false, cond, get_or, arith, refl, ap, ◌∙◌}
 use Rattle.std.proofs.lemmas.List.{take_all}
+use mir.Val.{bool_byte}
 use Rattle.cs_bits.specs.Polynomial.{number}
-use Rattle.pbch.proofs.Numbers.{number_below, number_more, number_before}
-use Rattle.pbch.proofs.block.number_of.Goals as goal
+use Rattle.cs_bits.proofs.Numbers.{number_below, number_more, number_before}
+use Rattle.cs_bits.proofs.number.number_of.Goals as goal
+
+as_number : (b : Bool) → bool_byte b ≡ cond b 1 0
+as_number true = refl
+as_number false = refl
 
 at_most_one : (b : Bool) → cond b 1 0 ≤ 1
 at_most_one true = omega arith
@@ -22,14 +27,17 @@ pub overflow_add-number : goal.overflow_add-number
 overflow_add-number c =
     let before = number_before c.args.bits.now c.loop-bit.bit-index c.loop-bit-test.true c.requires in
     let so_far = c.loop-bit.invariant in
-    let one = at_most_one (get_or c.args.bits.now c.loop-bit.bit-index false) in
-    omega (arith, before, so_far, c.weight.ensures, one)
+    let bit = get_or c.args.bits.now c.loop-bit.bit-index false in
+    let is = as_number bit in
+    let one = at_most_one bit in
+    omega (arith, before, so_far, is, one)
 
 pub loop-bit-preserved : goal.loop-bit-preserved
 loop-bit-preserved c =
     let so_far = c.loop-bit.invariant in
     let more = number_more c.args.bits.now c.loop-bit.bit-index c.loop-bit-test.true in
-    omega (arith, so_far, more, c.weight.ensures)
+    let is = as_number (get_or c.args.bits.now c.loop-bit.bit-index false) in
+    omega (arith, so_far, more, is)
 
 pub returns-clause-bound : goal.returns-clause-bound
 returns-clause-bound c =

@@ -1,6 +1,6 @@
 use Rattle.std.proofs.Common.{◌≡◌, take}
 use Rattle.cs_bits.specs.Polynomial.{number}
-use Rattle.pbch.proofs.block.number_of.Given as goal
+use Rattle.cs_bits.proofs.number.number_of.Given as goal
 
 abbrev pub invariant-loop-bit : goal.invariant-loop-bit
 invariant-loop-bit l = l.number ≡ number (take l.bit-index l.bits)

@@ -27,10 +27,10 @@ number-append (true ∷ bits) b =
 pub number_more : (bits : List Bool) (i : ℕ) → i < length bits → number (take (i + 1) bits) ≡ 2 * number (take i bits) + cond (get_or bits i false) 1 0
 number_more bits i inside = rw (add-one, take-suc bits i false inside) (number-append (take i bits) (get_or bits i false))
 
--- of 16 bits at most, those before one more have a number below 2 ^ 15
-pub number_before : (bits : List Bool) (i : ℕ) → i < length bits → length bits ≤ 16 → number (take i bits) < 2 ^ 15
+-- of 32 bits at most, those before one more have a number below 2 ^ 31
+pub number_before : (bits : List Bool) (i : ℕ) → i < length bits → length bits ≤ 32 → number (take i bits) < 2 ^ 31
 number_before bits i inside few =
     let below = number_below (take i bits) in
-    let size : length (take i bits) ≤ 15 = rw length-take (omega arith) in
+    let size : length (take i bits) ≤ 31 = rw length-take (omega arith) in
     let power = pow_mono size in
     omega (arith, below, power)
