@@ -3,7 +3,7 @@ use Rattle.std.proofs.Common.{◌≡◌, ℕ, zero, suc, ◌+◌, ◌-◌, ◌<�
 use Rattle.std.proofs.lemmas.List.FromFn.{get_or-map-range_with_len, map-range_with_len_more, length-map-range_with_len}
 use Rattle.std.specs.List.{Contains, AllPairs}
 use Rattle.std.proofs.lemmas.List.Elements.{Contains-append_left, Contains-append_right, Contains-append_cases, Contains-get_or}
-use Rattle.std.proofs.lemmas.List.{get_or-append_right}
+use Rattle.std.proofs.lemmas.List.{ext_get_or, get_or-append_right}
 use Rattle.std.proofs.Math.ListN.{get_or-append}
 use Rattle.std.proofs.lemmas.Bool.{ltb-true, ltb-false, cases_lt}
 use Rattle.finite.specs.Lists.{values_below, joined_below}
@@ -95,3 +95,9 @@ joined_below-pairs R (suc n) f each across =
     let before = joined_below-pairs R n f (λ k l. each k (omega (arith, l))) (λ i j x y l m. across i j x y l (omega (arith, m))) in
     AllPairs-append R (joined_below n f) (f n) before (each n (omega arith))
     (λ x y a b. let (k, l, c) = Contains-in_joined n f x a in across k n x y l (omega arith) c b)
+
+-- a list whose items are those of f is the list of f
+pub values_below_is : {A : Type 0} (d : A) (n : ℕ) (f : ℕ → A) (xs : List A) → length xs ≡ n → ((k : ℕ) → k < n → get_or xs k d ≡ f k) → xs ≡ values_below n f
+values_below_is d n f xs size h =
+    ext_get_or d xs (values_below n f) (size ∙ sym (values_below-length n f)) (λ k below.
+    let inside : k < n = omega (arith, size, below) in h k inside ∙ sym (values_below_at f n k d inside))

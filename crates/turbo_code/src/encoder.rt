@@ -88,8 +88,9 @@ fn encoder_of(word: &[bool]) -> Constituent
     }
 }
 
-/// Which bit of the word the second encoder reads after i others.
-pub(crate) fn place_of(row: &Row, i: usize) -> usize
+/// Which bit of the word the second encoder reads after i others (TS 36.212 section 5.1.3.2.3). `row` is a row of the
+/// table, and `i` is below K; so is the answer.
+pub fn place_of(row: &Row, i: usize) -> usize
     requires row { IsRow row.now }
     requires inside { i < row.now.k }
     ensures place { result ≡ place row.now i }

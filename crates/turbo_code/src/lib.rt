@@ -7,7 +7,7 @@ mod laws;
 mod matching;
 mod rows;
 
-pub use encoder::{Coded, encode};
+pub use encoder::{Coded, encode, place_of};
 pub use laws::{reading_is_whole, rows_permute};
 pub use matching::{Combined, combine, match_out};
 pub use rows::{Row, row_of};

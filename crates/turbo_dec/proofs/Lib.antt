@@ -1,0 +1,6 @@
+pub mod Edges
+pub mod Registers
+pub mod Scores
+pub mod Greatest
+pub mod Rows
+pub mod Back

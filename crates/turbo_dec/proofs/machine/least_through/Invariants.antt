@@ -1,0 +1,7 @@
+use Rattle.std.proofs.Common.{get_or}
+use Rattle.paths.specs.Least.{IsLeastVia}
+use Rattle.turbo_dec.specs.Machine.{next, edge_cost}
+use Rattle.turbo_dec.proofs.machine.least_through.Given as goal
+
+abbrev pub invariant-loop-x : goal.invariant-loop-x
+invariant-loop-x l = IsLeastVia next (edge_cost l.soft.sum l.soft.parity) (λ x. get_or l.before x 0) (λ x. get_or l.after x 0) l.b l.x l.least

@@ -1,0 +1,72 @@
+-- The iterations between the two decoders, and the block: the first iterate whose check passes. (own; the check is that of TS 36.212
+-- section 5.1.1)
+use Rattle.std.specs.Prelude.{ℕ, zero, suc, ◌+◌, ◌-◌, Bool, List, [], ◌∷◌, length, map, replicate, take, drop, slice_index_or, nat_eq, ℤ, pos, ◌+ℤ◌, ◌-ℤ◌, int_div, int_lt, Option}
+use Rattle.std.specs.List.{find, position_or_len, range_with_len}
+use Rattle.std.specs.Option.{option_map}
+use Rattle.finite.specs.Lists.{values_below}
+use Rattle.cs_bits.specs.Polynomial.{number, crc24a_of}
+use Rattle.turbo_code.specs.declared.rows.Row.{Row}
+use Rattle.turbo_code.specs.Table.{place}
+use Rattle.turbo_code.specs.Reading.{sum_at}
+use Rattle.turbo_dec.specs.Decoder.{values_of, at, extrinsics}
+
+-- the values of the K bits of a stream
+abbrev pub stream : Row → List (List ℤ) → ℕ → List ℤ
+stream row sums t = take row.k (slice_index_or sums t [])
+
+-- the six values of a decoder's tail, which stand at place p and the next, stream after stream (TS 36.212 section 5.1.3.2.2)
+abbrev pub tail_values : List (List ℤ) → ℕ → List ℤ
+tail_values sums p =
+    sum_at sums 0 p ∷ sum_at sums 1 p ∷ sum_at sums 2 p ∷ sum_at sums 0 (p + 1) ∷ sum_at sums 1 (p + 1) ∷ sum_at sums 2 (p + 1) ∷ []
+
+-- a list in the order in which the second encoder reads
+unfoldable pub in_order : Row → List ℤ → List ℤ
+in_order row values = values_below row.k (λ i. at values (place row i))
+
+-- which step of the second encoder reads bit k
+abbrev pub step_of : Row → ℕ → ℕ
+step_of row k = position_or_len (λ i. nat_eq (place row i) k) (range_with_len 0 row.k)
+
+-- back in the order of the word
+unfoldable pub in_word_order : Row → List ℤ → List ℤ
+in_word_order row values = values_below row.k (λ k. at values (step_of row k))
+
+-- what is handed on of an extrinsic value: all but a quarter, which is rounded toward 0
+abbrev pub handed_on : ℤ → ℤ
+handed_on e = e -ℤ int_div e (pos 4)
+
+-- the extrinsic values of the first decoder, by the sums of the received values and a prior
+unfoldable pub first_extrinsics : Row → List (List ℤ) → List ℤ → List ℤ
+first_extrinsics row sums prior = extrinsics (values_of (stream row sums 0) (stream row sums 1) (tail_values sums row.k) prior)
+
+-- those of the second, in the order of the word: its prior is what the first hands on
+unfoldable pub second_extrinsics : Row → List (List ℤ) → List ℤ → List ℤ
+second_extrinsics row sums prior =
+    in_word_order row (extrinsics (values_of (in_order row (stream row sums 0)) (stream row sums 2) (tail_values sums (row.k + 2))
+    (in_order row (map handed_on (first_extrinsics row sums prior)))))
+
+-- the prior of the first decoder after n iterations: what the second handed on in the last of them
+unfoldable pub prior_after : Row → List (List ℤ) → ℕ → List ℤ
+prior_after row sums zero = replicate row.k (pos 0)
+prior_after row sums (suc n) = map handed_on (second_extrinsics row sums (prior_after row sums n))
+
+-- the word that an iteration tells: a bit is 1 where its value and both extrinsic values sum to less than 0
+unfoldable pub word_by : Row → List (List ℤ) → List ℤ → List Bool
+word_by row sums prior =
+    values_below row.k (λ k. int_lt (at (stream row sums 0) k +ℤ at (first_extrinsics row sums prior) k +ℤ at (second_extrinsics row sums prior) k) (pos 0))
+
+-- the first eight iterates
+abbrev pub iterates : Row → List (List ℤ) → List (List Bool)
+iterates row sums = values_below 8 (λ n. word_by row sums (prior_after row sums n))
+
+-- the bits before the check
+abbrev pub payload : List Bool → List Bool
+payload word = take (length word - 24) word
+
+-- the last 24 bits of a word are CRC24A of those before
+unfoldable pub passes : List Bool → Bool
+passes word = nat_eq (number (drop (length word - 24) word)) (crc24a_of (payload word))
+
+-- the block of the sums of received values: the first of the iterates whose check passes, without the check
+unfoldable pub block : Row → List (List ℤ) → Option (List Bool)
+block row sums = option_map payload (find passes (iterates row sums))

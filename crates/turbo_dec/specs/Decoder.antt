@@ -1,0 +1,60 @@
+-- One decoder of the turbo code: the scores of words, and extrinsic values as differences of greatest scores. (own; the encoder is
+-- that of TS 36.212 section 5.1.3.2)
+use Rattle.std.specs.Prelude.{ℕ, zero, suc, ◌+◌, ◌-◌, ◌*◌, Bool, true, false, List, [], ◌∷◌, ◌++◌, length, slice_index_or, ℤ, pos, negsuc, ◌+ℤ◌, ◌-ℤ◌}
+use Rattle.std.specs.Int.{int_min, int_max}
+use Rattle.finite.specs.Sums.{sum_below}
+use Rattle.finite.specs.Lists.{values_below}
+use Rattle.turbo_code.specs.Encoder.{bit_at, parity, tail_x, tail_z}
+
+-- what a decoder is given: a value for each bit of the word and for each of its parity bits, one for each of the six tail bits
+-- x(K), z(K), x(K + 1), z(K + 1), x(K + 2), z(K + 2), and a prior for each bit of the word
+pub record Values : Type 0 where
+  pub systematic : List ℤ
+  pub parity : List ℤ
+  pub tail : List ℤ
+  pub prior : List ℤ
+
+abbrev pub values_of : List ℤ → List ℤ → List ℤ → List ℤ → Values
+values_of systematic parity tail prior = record { systematic = systematic; parity = parity; tail = tail; prior = prior }
+
+-- value k of a list
+abbrev pub at : List ℤ → ℕ → ℤ
+at values k = slice_index_or values k (pos 0)
+
+-- a value counts where its bit is 0
+abbrev pub taken : ℤ → Bool → ℤ
+taken value false = value
+taken value true = pos 0
+
+-- what the values of place k give to a word: that of the bit with its prior, and that of the parity bit
+abbrev pub place_score : Values → List Bool → ℕ → ℤ
+place_score v word k = taken (at v.systematic k +ℤ at v.prior k) (bit_at word k) +ℤ taken (at v.parity k) (parity word k)
+
+-- what those of tail step j give
+abbrev pub tail_score : Values → List Bool → ℕ → ℤ
+tail_score v word j = taken (at v.tail (2 * j)) (tail_x word j) +ℤ taken (at v.tail (2 * j + 1)) (tail_z word j)
+
+-- the score of a word with its tail: the sum of the values whose bits are 0
+unfoldable pub score : Values → List Bool → ℤ
+score v word = sum_below (length v.systematic) (place_score v word) +ℤ sum_below 3 (tail_score v word)
+
+-- the greatest of f over all words of n bits
+unfoldable pub greatest : ℕ → (List Bool → ℤ) → ℤ
+greatest zero f = f []
+greatest (suc n) f = int_max (greatest n (λ word. f (false ∷ word))) (greatest n (λ word. f (true ∷ word)))
+
+-- the greatest score of a word whose bit k is b, over all bits before it and all after it
+unfoldable pub greatest_score : Values → ℕ → Bool → ℤ
+greatest_score v k b = greatest k (λ before. greatest (length v.systematic - k - 1) (λ after. score v (before ++ b ∷ after)))
+
+-- the nearest number from -2047 to 2047
+abbrev pub clamped : ℤ → ℤ
+clamped z = int_max (negsuc 2046) (int_min z (pos 2047))
+
+-- the extrinsic value of bit k: how much greater the greatest score with 0 is than that with 1, beyond the bit's own value and its prior
+unfoldable pub extrinsic : Values → ℕ → ℤ
+extrinsic v k = clamped (((greatest_score v k false -ℤ greatest_score v k true) -ℤ at v.systematic k) -ℤ at v.prior k)
+
+-- those of all bits
+unfoldable pub extrinsics : Values → List ℤ
+extrinsics v = values_below (length v.systematic) (extrinsic v)

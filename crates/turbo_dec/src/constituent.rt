@@ -1,0 +1,125 @@
+//! The extrinsic values of one decoder.
+
+ghost use Rattle.std.specs.Prelude.{◌≡◌, ℕ, ◌+◌, ◌*◌, ◌^◌, ◌<◌, ◌≤◌, ◌+ℤ◌, ◌-ℤ◌, All, pos, nat_abs, length, slice_index, []};
+ghost use Rattle.turbo_dec.specs.Decoder.{at, values_of, clamped, extrinsics, extrinsic};
+ghost use Rattle.turbo_dec.specs.Machine.{starts, HasRows};
+
+use crate::machine::{Soft, backward_row, forward_row, least_through, tail_row};
+use crate::work::Work;
+
+/// More than the cost of every path.
+const FAR: u32 = 0x1000_0000;
+
+/// What the step at place k reads.
+fn soft_at(systematic: &[i32], parity: &[i32], prior: &[i32], k: usize) -> Soft
+    requires place { k < length systematic.now }
+    requires parities { length parity.now ≡ length systematic.now }
+    requires priors { length prior.now ≡ length systematic.now }
+    requires small_systematic { All (λ z. nat_abs z ≤ 4096) systematic.now }
+    requires small_parity { All (λ z. nat_abs z ≤ 4096) parity.now }
+    requires small_prior { All (λ z. nat_abs z ≤ 4096) prior.now }
+    ensures sum { result.sum ≡ at systematic.now k +ℤ at prior.now k }
+    ensures parity { result.parity ≡ at parity.now k }
+{
+    let sum = systematic[k] + prior[k];
+    Soft {
+        sum,
+        parity: parity[k],
+    }
+}
+
+/// The row before the first step: the encoder starts in state 0.
+fn start_row() -> [u32; 8]
+    ensures row { (x : ℕ) → x < 8 → slice_index result x ≡ starts x }
+    ensures size { length result ≡ 8 }
+{
+    [0, FAR, FAR, FAR, FAR, FAR, FAR, FAR]
+}
+
+/// Writes the rows of least costs to each state, before the first step and after each.
+fn forward(systematic: &[i32], parity: &[i32], prior: &[i32], rows: &mut [[u32; 8]])
+    requires places { length systematic.now ≤ 1024 }
+    requires parities { length parity.now ≡ length systematic.now }
+    requires priors { length prior.now ≡ length systematic.now }
+    requires room { length systematic.now < length rows.old }
+    requires small_systematic { All (λ z. nat_abs z ≤ 4096) systematic.now }
+    requires small_parity { All (λ z. nat_abs z ≤ 4096) parity.now }
+    requires small_prior { All (λ z. nat_abs z ≤ 4096) prior.now }
+    ensures { HasRows (values_of systematic.now parity.now [] prior.now) rows.new (length systematic.now) }
+{
+    let mut row = start_row();
+    rows[0] = row;
+    for k in 0..systematic.len() {
+        row = forward_row(&soft_at(systematic, parity, prior, k), &row);
+        rows[k + 1] = row;
+    }
+}
+
+/// The extrinsic value, from the least costs of the paths with bit 0 and with bit 1.
+fn extrinsic_of(zeros: u32, ones: u32, soft: &Soft) -> i32
+    requires zeros { zeros ≤ 2 ^ 30 }
+    requires ones { ones ≤ 2 ^ 30 }
+    ensures { result ≡ clamped ((pos ones -ℤ pos zeros) -ℤ soft.now.sum) }
+{
+    let difference = ones as i32 - zeros as i32 - soft.sum;
+    difference.clamp(-2047, 2047)
+}
+
+/// Writes the extrinsic values, from the rows of the forward pass.
+fn backward(
+    systematic: &[i32],
+    parity: &[i32],
+    tail: &[i32; 6],
+    prior: &[i32],
+    rows: &[[u32; 8]],
+    out: &mut [i32],
+)
+    requires places { length systematic.now ≤ 1024 }
+    requires parities { length parity.now ≡ length systematic.now }
+    requires priors { length prior.now ≡ length systematic.now }
+    requires outs { length out.old ≡ length systematic.now }
+    requires small_systematic { All (λ z. nat_abs z ≤ 4096) systematic.now }
+    requires small_parity { All (λ z. nat_abs z ≤ 4096) parity.now }
+    requires small_tail { All (λ z. nat_abs z ≤ 4096) tail.now }
+    requires small_prior { All (λ z. nat_abs z ≤ 4096) prior.now }
+    requires room { length systematic.now < length rows.now }
+    requires rows { HasRows (values_of systematic.now parity.now [] prior.now) rows.now (length systematic.now) }
+    ensures { out.new ≡ extrinsics (values_of systematic.now parity.now tail.now prior.now) }
+{
+    let mut row = tail_row(tail);
+    let mut k = systematic.len();
+    while k > 0 {
+        k -= 1;
+        let soft = soft_at(systematic, parity, prior, k);
+        let zeros = least_through(&soft, &rows[k], &row, false);
+        let ones = least_through(&soft, &rows[k], &row, true);
+        out[k] = extrinsic_of(zeros, ones, &soft);
+        row = backward_row(&soft, &row);
+    }
+}
+
+/// Writes the extrinsic values of a word of at most 1,024 bits: for each bit the greatest score of a word
+/// with 0 there, less that of a word with 1, less the bit's value and prior, clamped to -2047 to 2047. A word
+/// scores the sum of the values whose bits are 0. `tail` has the values of x(K), z(K), x(K + 1), z(K + 1),
+/// x(K + 2) and z(K + 2). The four slices have one length, and each value is at most 4,096 in size.
+pub fn half(
+    systematic: &[i32],
+    parity: &[i32],
+    tail: &[i32; 6],
+    prior: &[i32],
+    out: &mut [i32],
+    work: &mut Work,
+)
+    requires places { length systematic.now ≤ 1024 }
+    requires parities { length parity.now ≡ length systematic.now }
+    requires priors { length prior.now ≡ length systematic.now }
+    requires outs { length out.old ≡ length systematic.now }
+    requires small_systematic { All (λ z. nat_abs z ≤ 4096) systematic.now }
+    requires small_parity { All (λ z. nat_abs z ≤ 4096) parity.now }
+    requires small_tail { All (λ z. nat_abs z ≤ 4096) tail.now }
+    requires small_prior { All (λ z. nat_abs z ≤ 4096) prior.now }
+    ensures { out.new ≡ extrinsics (values_of systematic.now parity.now tail.now prior.now) }
+{
+    forward(systematic, parity, prior, &mut work.rows);
+    backward(systematic, parity, tail, prior, &work.rows, out);
+}

@@ -1,0 +1,13 @@
+//! The turbo decoder (TS 36.212 section 5.1.3.2 has the code; the decoder is own): extrinsic values of
+//! one decoder, which are differences of maxima over all words, and the iterations between the two
+//! decoders up to the first block whose check passes.
+#![tactic(auto)]
+
+mod constituent;
+mod laws;
+mod machine;
+mod work;
+
+pub use constituent::half;
+pub use laws::greatest_scores;
+pub use work::Work;

@@ -1,0 +1,185 @@
+//! The encoder as a machine of 8 states, and the costs of its steps. A state has the last three bits of
+//! the register, the latest with weight 4.
+
+ghost use Rattle.std.specs.Prelude.{◌≡◌, ℕ, ◌+◌, ◌*◌, ◌/◌, ◌^◌, ◌<◌, ◌≤◌, All, false, length, nat_abs, slice_index};
+ghost use Rattle.paths.specs.Least.{IsLeastVia};
+ghost use Rattle.conv_code.specs.Cost.{disagreement};
+ghost use Rattle.turbo_dec.specs.Machine.{odd, register, parity_bit, next, edge_cost, tail_step_cost, tail_cost, first_from, forward_least, backward_least};
+
+const STATES: usize = 8;
+
+/// What a step reads: the value of the bit with its prior, and the value of the parity bit.
+#[derive(Drop)]
+pub(crate) struct Soft {
+    pub(crate) sum: i32,
+    pub(crate) parity: i32,
+    ghost sum_small: { nat_abs sum ≤ 8192 },
+    ghost parity_small: { nat_abs parity ≤ 4096 },
+}
+
+/// The bit a(k - 1) of a state.
+fn latest(x: usize) -> bool
+    ensures { result ≡ odd (x / 4) }
+{
+    x / 4 % 2 == 1
+}
+
+/// The bit a(k - 2).
+fn middle(x: usize) -> bool
+    ensures { result ≡ odd (x / 2) }
+{
+    x / 2 % 2 == 1
+}
+
+/// The bit a(k - 3).
+fn oldest(x: usize) -> bool
+    ensures { result ≡ odd x }
+{
+    x % 2 == 1
+}
+
+/// The register bit of a step.
+fn register_of(x: usize, u: bool) -> bool
+    ensures { result ≡ register x u }
+{
+    u ^ middle(x) ^ oldest(x)
+}
+
+/// The parity bit of a step.
+fn parity_of(x: usize, u: bool) -> bool
+    ensures { result ≡ parity_bit x u }
+{
+    register_of(x, u) ^ latest(x) ^ oldest(x)
+}
+
+/// The state after a step.
+fn step(x: usize, u: bool) -> usize
+    requires { x < 8 }
+    ensures next { result ≡ next x u }
+    ensures bound { result < 8 }
+{
+    x / 2 + if register_of(x, u) { 4 } else { 0 }
+}
+
+/// The size of a value where it speaks against the bit.
+fn disagreement_of(value: &i32, bit: bool) -> u32
+    ensures { result ≡ disagreement value.now bit }
+{
+    if bit == (*value > 0) {
+        value.unsigned_abs()
+    } else {
+        0
+    }
+}
+
+/// The cost of a step.
+fn edge(soft: &Soft, x: usize, u: bool) -> u32
+    requires state { x < 8 }
+    ensures cost { result ≡ edge_cost soft.now.sum soft.now.parity x u }
+    ensures bound { result ≤ 12288 }
+{
+    disagreement_of(&soft.sum, u) + disagreement_of(&soft.parity, parity_of(x, u))
+}
+
+/// The least cost to a state, where the row has that to each state one step before.
+fn forward_at(soft: &Soft, row: &[u32; 8], x: usize) -> u32
+    requires state { x < 8 }
+    requires room { (y : ℕ) → y < 8 → slice_index row.now y ≤ 2 ^ 31 }
+    ensures least { result ≡ forward_least soft.now.sum soft.now.parity row.now x }
+    ensures growth { result ≤ slice_index row.now (first_from x) + 12288 }
+{
+    let first = 2 * (x % 4);
+    let second = first + 1;
+    let by_first = row[first] + edge(soft, first, register_of(first, latest(x)));
+    let by_second = row[second] + edge(soft, second, register_of(second, latest(x)));
+    by_first.min(by_second)
+}
+
+/// The least cost from a state, where the row has that from each state one step on.
+fn backward_at(soft: &Soft, row: &[u32; 8], x: usize) -> u32
+    requires state { x < 8 }
+    requires room { (y : ℕ) → y < 8 → slice_index row.now y ≤ 2 ^ 31 }
+    ensures least { result ≡ backward_least soft.now.sum soft.now.parity row.now x }
+    ensures growth { result ≤ slice_index row.now (next x false) + 12288 }
+{
+    let zero = edge(soft, x, false) + row[step(x, false)];
+    let one = edge(soft, x, true) + row[step(x, true)];
+    zero.min(one)
+}
+
+/// The row of least costs to each state, one step further on.
+pub(crate) fn forward_row(soft: &Soft, row: &[u32; 8]) -> [u32; 8]
+    requires room { (y : ℕ) → y < 8 → slice_index row.now y ≤ 2 ^ 31 }
+    ensures least { (x : ℕ) → x < 8 → slice_index result x ≡ forward_least soft.now.sum soft.now.parity row.now x }
+    ensures growth { (x : ℕ) → x < 8 → slice_index result x ≤ slice_index row.now (first_from x) + 12288 }
+    ensures size { length result ≡ 8 }
+{
+    let mut later = [0; STATES];
+    for x in 0..STATES {
+        later[x] = forward_at(soft, row, x);
+    }
+    later
+}
+
+/// The row of least costs from each state, one step before.
+pub(crate) fn backward_row(soft: &Soft, row: &[u32; 8]) -> [u32; 8]
+    requires room { (y : ℕ) → y < 8 → slice_index row.now y ≤ 2 ^ 31 }
+    ensures least { (x : ℕ) → x < 8 → slice_index result x ≡ backward_least soft.now.sum soft.now.parity row.now x }
+    ensures growth { (x : ℕ) → x < 8 → slice_index result x ≤ slice_index row.now (next x false) + 12288 }
+    ensures size { length result ≡ 8 }
+{
+    let mut earlier = [0; STATES];
+    for x in 0..STATES {
+        earlier[x] = backward_at(soft, row, x);
+    }
+    earlier
+}
+
+/// The least cost of a path whose step is by the bit b, from the costs before and after the step.
+pub(crate) fn least_through(soft: &Soft, before: &[u32; 8], after: &[u32; 8], b: bool) -> u32
+    requires before { (y : ℕ) → y < 8 → slice_index before.now y ≤ 2 ^ 30 }
+    requires after { (y : ℕ) → y < 8 → slice_index after.now y ≤ 2 ^ 30 }
+    ensures least { IsLeastVia next (edge_cost soft.now.sum soft.now.parity) (slice_index before.now) (slice_index after.now) b 8 result }
+    ensures bound { result ≤ slice_index before.now 0 + 12288 + slice_index after.now (next 0 b) }
+{
+    let mut least = before[0] + edge(soft, 0, b) + after[step(0, b)];
+    for x in 1..STATES {
+        least = least.min(before[x] + edge(soft, x, b) + after[step(x, b)]);
+    }
+    least
+}
+
+/// The cost of tail step j from a state.
+fn tail_step(tail: &[i32; 6], j: usize, x: usize) -> u32
+    requires step { j < 3 }
+    requires small { All (λ z. nat_abs z ≤ 4096) tail.now }
+    ensures cost { result ≡ tail_step_cost tail.now j x }
+    ensures bound { result ≤ 8192 }
+{
+    disagreement_of(&tail[2 * j], middle(x) ^ oldest(x))
+        + disagreement_of(&tail[2 * j + 1], latest(x) ^ oldest(x))
+}
+
+/// The cost of the tail from a state.
+fn tail_at(tail: &[i32; 6], x: usize) -> u32
+    requires state { x < 8 }
+    requires small { All (λ z. nat_abs z ≤ 4096) tail.now }
+    ensures cost { result ≡ tail_cost tail.now x }
+    ensures bound { result ≤ 24576 }
+{
+    tail_step(tail, 0, x) + tail_step(tail, 1, x / 2) + tail_step(tail, 2, x / 2 / 2)
+}
+
+/// The row of costs of the tail.
+pub(crate) fn tail_row(tail: &[i32; 6]) -> [u32; 8]
+    requires small { All (λ z. nat_abs z ≤ 4096) tail.now }
+    ensures row { (x : ℕ) → x < 8 → slice_index result x ≡ tail_cost tail.now x }
+    ensures room { (x : ℕ) → x < 8 → slice_index result x ≤ 24576 }
+    ensures size { length result ≡ 8 }
+{
+    let mut row = [0; STATES];
+    for x in 0..STATES {
+        row[x] = tail_at(tail, x);
+    }
+    row
+}
