@@ -1,11 +1,15 @@
 -- Lists over the numbers below n.
-use Rattle.std.proofs.Common.{◌≡◌, ℕ, zero, suc, ◌+◌, ◌-◌, ◌<◌, ◌≤◌, ◌++◌, ◌∷◌, ◌⊎◌, inl, inr, List, [], Bool, true, false, nat_lt, arith, refl, sym, subst, ◌∙◌, length, length-append, get_or, add-one}
+use Rattle.std.proofs.Common.{◌≡◌, ℕ, zero, suc, ◌+◌, ◌-◌, ◌<◌, ◌≤◌, ◌++◌, ◌∷◌, ◌⊎◌, inl, inr, List, [], Bool, true, false, nat_lt, arith, refl, ap, sym, subst, ◌∙◌, length, length-append, get_or, set, take, find, Some, None, add-one, get_or-set_same, get_or-set_other}
 use Rattle.std.proofs.lemmas.List.FromFn.{get_or-map-range_with_len, map-range_with_len_more, length-map-range_with_len}
 use Rattle.std.specs.List.{Contains, AllPairs}
 use Rattle.std.proofs.lemmas.List.Elements.{Contains-append_left, Contains-append_right, Contains-append_cases, Contains-get_or}
-use Rattle.std.proofs.lemmas.List.{ext_get_or, get_or-append_right}
+use Rattle.std.proofs.lemmas.List.{ext_get_or, get_or-append_right, get_or-take, length-take-le}
 use Rattle.std.proofs.Math.ListN.{get_or-append}
 use Rattle.std.proofs.lemmas.Bool.{ltb-true, ltb-false, cases_lt}
+use Rattle.std.proofs.lemmas.List.Folds.{find_at, find-append}
+use Rattle.std.proofs.lemmas.List.Sums.{position_or_len_is}
+use Rattle.std.proofs.lemmas.Option.{slice_get-get_or}
+use Rattle.std.specs.List.{slice_get}
 use Rattle.finite.specs.Lists.{values_below, joined_below}
 
 pub values_below-length : {A : Type 0} (n : ℕ) (f : ℕ → A) → length (values_below n f) ≡ n
@@ -101,3 +105,39 @@ pub values_below_is : {A : Type 0} (d : A) (n : ℕ) (f : ℕ → A) (xs : List 
 values_below_is d n f xs size h =
     ext_get_or d xs (values_below n f) (size ∙ sym (values_below-length n f)) (λ k below.
     let inside : k < n = omega (arith, size, below) in h k inside ∙ sym (values_below_at f n k d inside))
+
+-- the first items of a list, which are those of f
+pub front_is : {A : Type 0} (d : A) (k : ℕ) (f : ℕ → A) (xs : List A) → k ≤ length xs → ((j : ℕ) → j < k → get_or xs j d ≡ f j) → take k xs ≡ values_below k f
+front_is d k f xs long h =
+    values_below_is d k f (take k xs) (length-take-le k xs long) (λ j below. get_or-take k xs j d below ∙ h j below)
+
+-- one more item is set
+pub set_more : {A : Type 0} (d : A) (k : ℕ) (f : ℕ → A) (xs : List A) (x : A) → k < length xs → x ≡ f k → ((j : ℕ) → j < k → get_or xs j d ≡ f j) →
+    (j : ℕ) → j < k + 1 → get_or (set xs k x) j d ≡ f j
+set_more d k f xs x inside is h j below = settle (cases_lt j k)
+  where
+    settle : (j < k) ⊎ (k ≤ j) → get_or (set xs k x) j d ≡ f j
+    settle (inl l) = get_or-set_other xs k j x d (λ e. absurd (omega (arith, e, l))) ∙ h j l
+    settle (inr m) = let e : j ≡ k = omega (arith, m, below) in rw e (get_or-set_same xs k x d inside ∙ is)
+
+-- the first of the items f 0, f 1, .. that passes
+pub find_below_first : {A : Type 0} (p : A → Bool) (f : ℕ → A) (m n : ℕ) → n < m → ((k : ℕ) → k < n → p (f k) ≡ false) → p (f n) ≡ true →
+    find p (values_below m f) ≡ Some (f n)
+find_below_first p f m n below before here =
+    let size = values_below-length m f in
+    let d = f n in
+    let inside : n < length (values_below m f) = omega (arith, size, below) in
+    let at : (k : ℕ) → k < m → get_or (values_below m f) k d ≡ f k = λ k l. values_below_at f m k d l in
+    let place = position_or_len_is p (values_below m f) n d (omega (arith, inside))
+      (λ k l. ap p (at k (omega (arith, l, below))) ∙ before k l) (λ l. ap p (at n below) ∙ here) in
+    find_at p (values_below m f) ∙ ap (slice_get (values_below m f)) place ∙ slice_get-get_or (values_below m f) n d inside ∙ ap Some (at n below)
+
+-- and where none passes
+pub find_below_none : {A : Type 0} (p : A → Bool) (f : ℕ → A) (m : ℕ) → ((k : ℕ) → k < m → p (f k) ≡ false) → find p (values_below m f) ≡ None
+find_below_none p f zero none = refl
+find_below_none p f (suc m) none =
+    let before = find_below_none p f m (λ k l. none k (omega (arith, l))) in
+    let last = none m (omega arith) in
+    let e : suc m ≡ m + 1 = omega arith in
+    subst (λ n. find p (values_below n f) ≡ None) (sym e)
+    (ap (find p) (values_below_more m f) ∙ find-append p (values_below m f) (f m ∷ []) ∙ rw (before, last) refl)

@@ -1,34 +1,14 @@
 -- What the loop over a word keeps of an encoder, and the lists that the loops fill.
-use Rattle.std.proofs.Common.{◌≡◌, ℕ, suc, ◌+◌, ◌-◌, ◌<◌, ◌≤◌, ◌⊎◌, inl, inr, Bool, true, false, List, [], ◌∷◌, ◌++◌, length, get_or, set, replicate, take, drop, refl, ap, ap₂, sym, subst, ◌∙◌, arith, get_or-set_same, get_or-set_other}
-use Rattle.std.proofs.lemmas.List.{ext_get_or, get_or-take, length-take-le, length-set, drop-replicate}
+use Rattle.std.proofs.Common.{◌≡◌, ℕ, suc, ◌+◌, ◌-◌, ◌<◌, ◌≤◌, Bool, true, false, List, [], ◌∷◌, ◌++◌, length, get_or, set, replicate, take, drop, refl, ap, ap₂, sym, subst, ◌∙◌, arith}
+use Rattle.std.proofs.lemmas.List.{length-set, drop-replicate}
 use Rattle.std.proofs.lemmas.Slice.{drop-append-drop}
 use Rattle.std.proofs.Math.Seq.{take-append_seam}
 use Rattle.finite.specs.Lists.{values_below}
-use Rattle.finite.proofs.Lists.{values_below-length, values_below_at}
+use Rattle.finite.proofs.Lists.{front_is, set_more}
 use Rattle.turbo_code.specs.declared.rows.Row.{Row}
 use Rattle.turbo_code.specs.declared.encoder.Register.{Register}
 use Rattle.turbo_code.specs.Table.{place}
 use Rattle.turbo_code.specs.Encoder.{back, before, next, bit_at, parity, parities, tail_x, tail_z, interleaved, stream, coded, xor}
-
--- the first k items of a list, which are those of f
-pub range_is : (k : ℕ) (f : ℕ → Bool) (xs : List Bool) → k ≤ length xs → ((j : ℕ) → j < k → get_or xs j false ≡ f j) → take k xs ≡ values_below k f
-range_is k f xs long h =
-    let size = length-take-le k xs long in
-    ext_get_or false (take k xs) (values_below k f) (size ∙ sym (values_below-length k f)) (λ j below.
-    let inside : j < k = omega (arith, size, below) in
-    get_or-take k xs j false inside ∙ h j inside ∙ sym (values_below_at f k j false inside))
-
--- one more item is set
-pub set_more : (k : ℕ) (f : ℕ → Bool) (xs : List Bool) (b : Bool) → k < length xs → b ≡ f k → ((j : ℕ) → j < k → get_or xs j false ≡ f j) →
-    (j : ℕ) → j < k + 1 → get_or (set xs k b) j false ≡ f j
-set_more k f xs b inside is h j below = settle (last_or_before j k below)
-  where
-    last_or_before : (j k : ℕ) → j < k + 1 → (j ≡ k) ⊎ (j < k)
-    last_or_before j k h = grind arith
-
-    settle : (j ≡ k) ⊎ (j < k) → get_or (set xs k b) j false ≡ f j
-    settle (inl e) = rw e (get_or-set_same xs k b false inside ∙ is)
-    settle (inr l) = get_or-set_other xs k j b false (λ e. absurd (omega (arith, e, l))) ∙ h j l
 
 -- the register shows the last three bits
 pub record Shows (register : Register) (past : List Bool) : Type 0 where
@@ -61,7 +41,7 @@ parities_more word k found old new z inside last second third is known =
     let one : new.one ≡ next (before word k) (bit_at word k) = last ∙ rw (s.two, s.three) refl in
     record {
       size = length-set found k z ∙ size;
-      at = set_more k (parity word) found z (omega (arith, size, inside)) (is ∙ rw (one, s.one, s.three) refl) known.at;
+      at = set_more false k (parity word) found z (omega (arith, size, inside)) (is ∙ rw (one, s.one, s.three) refl) known.at;
       shows = subst (λ n. Shows new (before word n)) (sym e) (record { one = one; two = second ∙ s.one; three = third ∙ s.two });
     }
 
@@ -70,7 +50,7 @@ pub parities_all : (word : List Bool) (k : ℕ) (found : List Bool) (register : 
 unfolding parities
 parities_all word k found register e short known =
     let size = known.size in
-    range_is (length word) (parity word) found (omega (arith, size, short)) (λ j below. known.at j (omega (arith, e, below)))
+    front_is false (length word) (parity word) found (omega (arith, size, short)) (λ j below. known.at j (omega (arith, e, below)))
 
 xor-false_left : (b : Bool) → xor false b ≡ b
 xor-false_left false = refl
@@ -97,7 +77,7 @@ pub interleaved_is : (row : Row) (word : List Bool) (i : ℕ) (found : List Bool
 unfolding interleaved
 interleaved_is row word i found count short past size at =
     let long : length word ≤ length found = omega (arith, count, short, size) in
-    range_is (length word) (λ j. bit_at word (place row j)) found long (λ j below. at j (omega (arith, past, below)))
+    front_is false (length word) (λ j. bit_at word (place row j)) found long (λ j below. at j (omega (arith, past, below)))
     ∙ ap (λ n. values_below n (λ j. bit_at word (place row j))) count
 
 -- ---- a stream

@@ -50,10 +50,13 @@ unfoldable pub prior_after : Row → List (List ℤ) → ℕ → List ℤ
 prior_after row sums zero = replicate row.k (pos 0)
 prior_after row sums (suc n) = map handed_on (second_extrinsics row sums (prior_after row sums n))
 
--- the word that an iteration tells: a bit is 1 where its value and both extrinsic values sum to less than 0
+-- bit k of a word: it is 1 where the bit's value and both extrinsic values sum to less than 0
+abbrev pub told_by : List ℤ → List ℤ → List ℤ → ℕ → Bool
+told_by systematic first second k = int_lt (at systematic k +ℤ at first k +ℤ at second k) (pos 0)
+
+-- the word that an iteration tells, by its prior
 unfoldable pub word_by : Row → List (List ℤ) → List ℤ → List Bool
-word_by row sums prior =
-    values_below row.k (λ k. int_lt (at (stream row sums 0) k +ℤ at (first_extrinsics row sums prior) k +ℤ at (second_extrinsics row sums prior) k) (pos 0))
+word_by row sums prior = values_below row.k (told_by (stream row sums 0) (first_extrinsics row sums prior) (second_extrinsics row sums prior))
 
 -- the first eight iterates
 abbrev pub iterates : Row → List (List ℤ) → List (List Bool)

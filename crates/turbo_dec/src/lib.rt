@@ -4,10 +4,12 @@
 #![tactic(auto)]
 
 mod constituent;
+mod iterations;
 mod laws;
 mod machine;
 mod work;
 
 pub use constituent::half;
+pub use iterations::{Block, decode};
 pub use laws::greatest_scores;
 pub use work::Work;

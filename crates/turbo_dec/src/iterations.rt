@@ -1,0 +1,249 @@
+//! The iterations between the two decoders.
+
+ghost use Rattle.std.specs.Prelude.{◌≡◌, ℕ, ◌+◌, ◌-◌, ◌<◌, ◌≤◌, ◌+ℤ◌, All, nat_abs, int_lt, length, map, take, pos};
+ghost use Rattle.arrayvec.specs.ArrayVec.{array_vec_len};
+ghost use Rattle.std.specs.Option.{option_map};
+ghost use Rattle.finite.specs.Lists.{values_below};
+ghost use Rattle.turbo_code.specs.Table.{IsRow};
+ghost use Rattle.turbo_dec.specs.Decoder.{at, values_of, extrinsics};
+ghost use Rattle.turbo_dec.specs.Block.{tail_values, stream, in_order, in_word_order, handed_on, first_extrinsics, second_extrinsics, told_by, word_by, payload, passes, block};
+
+use crate::constituent::half;
+use crate::work::Work;
+use arrayvec::ArrayVec;
+use cs_bits::{crc24a, number_of};
+use turbo_code::{Combined, Row, place_of};
+
+/// The bits of a block, without their check.
+pub type Block = ArrayVec<bool, 1000>;
+
+/// How many iterations are tried.
+const ITERATIONS: usize = 8;
+
+/// How many bits the check has.
+const CHECK: usize = 24;
+
+/// A value for each bit of a word, which stand in front.
+type Word = [i32; 1024];
+
+/// The six values of a decoder's tail, which begins at a place.
+fn tail_of(sums: &[[i32; 1028]; 3], place: usize) -> [i32; 6]
+    requires place { place ≤ 1026 }
+    requires small { All (λ stream. All (λ sum. nat_abs sum ≤ 4096) stream) sums.now }
+    ensures values { result ≡ tail_values sums.now place }
+    ensures small { All (λ z. nat_abs z ≤ 4096) result }
+{
+    [
+        sums[0][place],
+        sums[1][place],
+        sums[2][place],
+        sums[0][place + 1],
+        sums[1][place + 1],
+        sums[2][place + 1],
+    ]
+}
+
+/// The values in the order of the second decoder.
+fn in_order_of(row: &Row, values: &[i32]) -> Word
+    requires row { IsRow row.now }
+    requires count { length values.now ≡ row.now.k }
+    requires small { All (λ z. nat_abs z ≤ 4096) values.now }
+    ensures values { take row.now.k result ≡ in_order row.now values.now }
+    ensures size { length result ≡ 1024 }
+    ensures small { All (λ z. nat_abs z ≤ 4096) result }
+{
+    let mut ordered = [0; 1024];
+    for i in 0..row.k as usize {
+        ordered[i] = values[place_of(row, i)];
+    }
+    ordered
+}
+
+/// Values in the order of the second decoder, in the order of the word.
+fn in_word_order_of(row: &Row, values: &[i32]) -> Word
+    requires row { IsRow row.now }
+    requires count { length values.now ≡ row.now.k }
+    requires small { All (λ z. nat_abs z ≤ 4096) values.now }
+    ensures values { take row.now.k result ≡ in_word_order row.now values.now }
+    ensures size { length result ≡ 1024 }
+    ensures small { All (λ z. nat_abs z ≤ 4096) result }
+{
+    let mut ordered = [0; 1024];
+    for i in 0..row.k as usize {
+        ordered[place_of(row, i)] = values[i];
+    }
+    ordered
+}
+
+/// The extrinsic values of one decoder.
+fn extrinsics_of(
+    systematic: &[i32],
+    parity: &[i32],
+    tail: &[i32; 6],
+    prior: &[i32],
+    work: &mut Work,
+) -> Word
+    requires places { length systematic.now ≤ 1024 }
+    requires parities { length parity.now ≡ length systematic.now }
+    requires priors { length prior.now ≡ length systematic.now }
+    requires small_systematic { All (λ z. nat_abs z ≤ 4096) systematic.now }
+    requires small_parity { All (λ z. nat_abs z ≤ 4096) parity.now }
+    requires small_tail { All (λ z. nat_abs z ≤ 4096) tail.now }
+    requires small_prior { All (λ z. nat_abs z ≤ 4096) prior.now }
+    ensures values { take (length systematic.now) result ≡ extrinsics (values_of systematic.now parity.now tail.now prior.now) }
+    ensures size { length result ≡ 1024 }
+    ensures small { All (λ z. nat_abs z ≤ 4096) result }
+{
+    let mut found = [0; 1024];
+    half(
+        systematic,
+        parity,
+        tail,
+        prior,
+        &mut found[..systematic.len()],
+        work,
+    );
+    found
+}
+
+/// The extrinsic values of the first decoder.
+fn first_of(sums: &[[i32; 1028]; 3], row: &Row, prior: &Word, work: &mut Work) -> Word
+    requires row { IsRow row.now }
+    requires small { All (λ stream. All (λ sum. nat_abs sum ≤ 4096) stream) sums.now }
+    requires small_prior { All (λ z. nat_abs z ≤ 4096) prior.now }
+    ensures values { take row.now.k result ≡ first_extrinsics row.now sums.now (take row.now.k prior.now) }
+    ensures size { length result ≡ 1024 }
+    ensures small { All (λ z. nat_abs z ≤ 4096) result }
+{
+    let k = row.k as usize;
+    extrinsics_of(
+        &sums[0][..k],
+        &sums[1][..k],
+        &tail_of(sums, k),
+        &prior[..k],
+        work,
+    )
+}
+
+/// The extrinsic values of the second decoder in the order of the word, by what the first hands on.
+fn second_of(sums: &[[i32; 1028]; 3], row: &Row, handed: &Word, work: &mut Work) -> Word
+    requires row { IsRow row.now }
+    requires small { All (λ stream. All (λ sum. nat_abs sum ≤ 4096) stream) sums.now }
+    requires small_handed { All (λ z. nat_abs z ≤ 4096) handed.now }
+    ensures values { take row.now.k result ≡ in_word_order row.now (extrinsics (values_of
+        (in_order row.now (stream row.now sums.now 0)) (stream row.now sums.now 2) (tail_values sums.now (row.now.k + 2))
+        (in_order row.now (take row.now.k handed.now)))) }
+    ensures size { length result ≡ 1024 }
+    ensures small { All (λ z. nat_abs z ≤ 4096) result }
+{
+    let k = row.k as usize;
+    let systematic = in_order_of(row, &sums[0][..k]);
+    let prior = in_order_of(row, &handed[..k]);
+    let found = extrinsics_of(
+        &systematic[..k],
+        &sums[2][..k],
+        &tail_of(sums, k + 2),
+        &prior[..k],
+        work,
+    );
+    in_word_order_of(row, &found[..k])
+}
+
+/// What is handed on of an extrinsic value.
+fn handed_on_of(e: &i32) -> i32
+    requires { nat_abs e.now ≤ 4096 }
+    ensures value { result ≡ handed_on e.now }
+    ensures small { nat_abs result ≤ 4096 }
+{
+    e - e / 4
+}
+
+/// What is handed on of each.
+fn hand_on(found: &Word) -> Word
+    requires small { All (λ z. nat_abs z ≤ 4096) found.now }
+    ensures values { result ≡ map handed_on found.now }
+    ensures small { All (λ z. nat_abs z ≤ 4096) result }
+{
+    let mut handed = [0; 1024];
+    for k in 0..1024 {
+        handed[k] = handed_on_of(&found[k]);
+    }
+    handed
+}
+
+/// The word that an iteration tells.
+fn told_of(systematic: &[i32], first: &[i32], second: &[i32]) -> [bool; 1024]
+    requires count { length systematic.now ≤ 1024 }
+    requires firsts { length first.now ≡ length systematic.now }
+    requires seconds { length second.now ≡ length systematic.now }
+    requires small { All (λ z. nat_abs z ≤ 4096) systematic.now }
+    requires small_first { All (λ z. nat_abs z ≤ 4096) first.now }
+    requires small_second { All (λ z. nat_abs z ≤ 4096) second.now }
+    ensures word { take (length systematic.now) result ≡ values_below (length systematic.now) (told_by systematic.now first.now second.now) }
+    ensures size { length result ≡ 1024 }
+{
+    let mut word = [false; 1024];
+    for k in 0..systematic.len() {
+        word[k] = systematic[k] + first[k] + second[k] < 0;
+    }
+    word
+}
+
+/// The word of one iteration; `prior` becomes what the second decoder hands on.
+fn iterate(sums: &[[i32; 1028]; 3], row: &Row, prior: &mut Word, work: &mut Work) -> [bool; 1024]
+    requires row { IsRow row.now }
+    requires small { All (λ stream. All (λ sum. nat_abs sum ≤ 4096) stream) sums.now }
+    requires small_prior { All (λ z. nat_abs z ≤ 4096) prior.old }
+    ensures word { take row.now.k result ≡ word_by row.now sums.now (take row.now.k prior.old) }
+    ensures size { length result ≡ 1024 }
+    ensures prior { take row.now.k prior.new ≡ map handed_on (second_extrinsics row.now sums.now (take row.now.k prior.old)) }
+    ensures small { All (λ z. nat_abs z ≤ 4096) prior.new }
+{
+    let k = row.k as usize;
+    let first = first_of(sums, row, prior, work);
+    let second = second_of(sums, row, &hand_on(&first), work);
+    *prior = hand_on(&second);
+    told_of(&sums[0][..k], &first[..k], &second[..k])
+}
+
+/// Whether the last 24 bits of a word are the check of those before.
+fn is_whole(word: &[bool]) -> bool
+    requires { 24 ≤ length word.now }
+    ensures { result ≡ passes word.now }
+{
+    let size = word.len() - CHECK;
+    number_of(&word[size..]) == crc24a(&word[..size])
+}
+
+/// The bits before the check.
+fn payload_of(word: &[bool]) -> Block
+    requires low { 24 ≤ length word.now }
+    requires high { length word.now ≤ 1024 }
+    ensures { result.items ≡ payload word.now }
+{
+    let mut block = ArrayVec::new();
+    for bit in &word[..word.len() - CHECK] {
+        block.push(*bit);
+    }
+    block
+}
+
+/// The block of the sums of received values: the first of eight iterates whose check passes (CRC24A, TS
+/// 36.212 section 5.1.1), without the check; `None` exactly where none passes. An iteration is one pass of
+/// each decoder, which hands on three quarters of its extrinsic values as the prior of the other. `row` is a
+/// row of the table, the sums are those of its K, and each is at most 4,096 in size.
+pub fn decode(values: &Combined, row: Row, work: &mut Work) -> Option<Block>
+    requires row { IsRow row }
+    requires sizes { All (λ stream. All (λ sum. nat_abs sum ≤ 4096) stream) values.now.d }
+    ensures { option_map (λ found. found.items) result ≡ block row values.now.d }
+{
+    let k = row.k as usize;
+    let mut prior = [0; 1024];
+    for _ in 0..ITERATIONS {
+        let word = iterate(&values.d, &row, &mut prior, work);
+        if is_whole(&word[..k]) {
+            return Some(payload_of(&word[..k]));
+        }
+    }
+    None
+}
