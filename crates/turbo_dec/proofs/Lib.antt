@@ -4,3 +4,4 @@ pub mod Scores
 pub mod Greatest
 pub mod Rows
 pub mod Back
+pub mod Iterating

@@ -28,10 +28,8 @@ type Word = [i32; 1024];
 
 /// The six values of a decoder's tail, which begins at a place.
 fn tail_of(sums: &[[i32; 1028]; 3], place: usize) -> [i32; 6]
-    requires place { place ≤ 1026 }
-    requires small { All (λ stream. All (λ sum. nat_abs sum ≤ 4096) stream) sums.now }
-    ensures values { result ≡ tail_values sums.now place }
-    ensures small { All (λ z. nat_abs z ≤ 4096) result }
+    requires { place ≤ 1026 }
+    ensures { result ≡ tail_values sums.now place }
 {
     [
         sums[0][place],
@@ -41,6 +39,37 @@ fn tail_of(sums: &[[i32; 1028]; 3], place: usize) -> [i32; 6]
         sums[1][place + 1],
         sums[2][place + 1],
     ]
+}
+
+/// The values of the bits of a stream.
+fn stream_of<'a>(stream: &'a [i32; 1028], row: &Row) -> &'a [i32]
+    requires row { IsRow row.now }
+    ensures values { result.now ≡ take row.now.k stream.now }
+    ensures count { length result.now ≡ row.now.k }
+    ensures small { All (λ z. nat_abs z ≤ 4096) stream.now → All (λ z. nat_abs z ≤ 4096) result.now }
+{
+    &stream[..row.k as usize]
+}
+
+/// The values of the bits of a word.
+fn word_part<'a>(values: &'a Word, row: &Row) -> &'a [i32]
+    requires row { IsRow row.now }
+    ensures values { result.now ≡ take row.now.k values.now }
+    ensures count { length result.now ≡ row.now.k }
+    ensures small { All (λ z. nat_abs z ≤ 4096) values.now → All (λ z. nat_abs z ≤ 4096) result.now }
+{
+    &values[..row.k as usize]
+}
+
+/// The bits of a word.
+fn bits_of<'a>(word: &'a [bool; 1024], row: &Row) -> &'a [bool]
+    requires row { IsRow row.now }
+    ensures bits { result.now ≡ take row.now.k word.now }
+    ensures count { length result.now ≡ row.now.k }
+    ensures low { 56 ≤ length result.now }
+    ensures high { length result.now ≤ 1024 }
+{
+    &word[..row.k as usize]
 }
 
 /// The values in the order of the second decoder.
@@ -115,12 +144,11 @@ fn first_of(sums: &[[i32; 1028]; 3], row: &Row, prior: &Word, work: &mut Work) -
     ensures size { length result ≡ 1024 }
     ensures small { All (λ z. nat_abs z ≤ 4096) result }
 {
-    let k = row.k as usize;
     extrinsics_of(
-        &sums[0][..k],
-        &sums[1][..k],
-        &tail_of(sums, k),
-        &prior[..k],
+        stream_of(&sums[0], row),
+        stream_of(&sums[1], row),
+        &tail_of(sums, row.k as usize),
+        word_part(prior, row),
         work,
     )
 }
@@ -136,17 +164,16 @@ fn second_of(sums: &[[i32; 1028]; 3], row: &Row, handed: &Word, work: &mut Work)
     ensures size { length result ≡ 1024 }
     ensures small { All (λ z. nat_abs z ≤ 4096) result }
 {
-    let k = row.k as usize;
-    let systematic = in_order_of(row, &sums[0][..k]);
-    let prior = in_order_of(row, &handed[..k]);
+    let systematic = in_order_of(row, stream_of(&sums[0], row));
+    let prior = in_order_of(row, word_part(handed, row));
     let found = extrinsics_of(
-        &systematic[..k],
-        &sums[2][..k],
-        &tail_of(sums, k + 2),
-        &prior[..k],
+        word_part(&systematic, row),
+        stream_of(&sums[2], row),
+        &tail_of(sums, row.k as usize + 2),
+        word_part(&prior, row),
         work,
     );
-    in_word_order_of(row, &found[..k])
+    in_word_order_of(row, word_part(&found, row))
 }
 
 /// What is handed on of an extrinsic value.
@@ -171,6 +198,16 @@ fn hand_on(found: &Word) -> Word
     handed
 }
 
+/// Whether a bit is told as 1, by its value and its two extrinsic values.
+fn is_one(value: &i32, first: &i32, second: &i32) -> bool
+    requires value { nat_abs value.now ≤ 4096 }
+    requires first { nat_abs first.now ≤ 4096 }
+    requires second { nat_abs second.now ≤ 4096 }
+    ensures { result ≡ int_lt (value.now +ℤ first.now +ℤ second.now) (pos 0) }
+{
+    value + first + second < 0
+}
+
 /// The word that an iteration tells.
 fn told_of(systematic: &[i32], first: &[i32], second: &[i32]) -> [bool; 1024]
     requires count { length systematic.now ≤ 1024 }
@@ -184,7 +221,7 @@ fn told_of(systematic: &[i32], first: &[i32], second: &[i32]) -> [bool; 1024]
 {
     let mut word = [false; 1024];
     for k in 0..systematic.len() {
-        word[k] = systematic[k] + first[k] + second[k] < 0;
+        word[k] = is_one(&systematic[k], &first[k], &second[k]);
     }
     word
 }
@@ -199,11 +236,14 @@ fn iterate(sums: &[[i32; 1028]; 3], row: &Row, prior: &mut Word, work: &mut Work
     ensures prior { take row.now.k prior.new ≡ map handed_on (second_extrinsics row.now sums.now (take row.now.k prior.old)) }
     ensures small { All (λ z. nat_abs z ≤ 4096) prior.new }
 {
-    let k = row.k as usize;
     let first = first_of(sums, row, prior, work);
     let second = second_of(sums, row, &hand_on(&first), work);
     *prior = hand_on(&second);
-    told_of(&sums[0][..k], &first[..k], &second[..k])
+    told_of(
+        stream_of(&sums[0], row),
+        word_part(&first, row),
+        word_part(&second, row),
+    )
 }
 
 /// Whether the last 24 bits of a word are the check of those before.
@@ -237,12 +277,12 @@ pub fn decode(values: &Combined, row: Row, work: &mut Work) -> Option<Block>
     requires sizes { All (λ stream. All (λ sum. nat_abs sum ≤ 4096) stream) values.now.d }
     ensures { option_map (λ found. found.items) result ≡ block row values.now.d }
 {
-    let k = row.k as usize;
     let mut prior = [0; 1024];
     for _ in 0..ITERATIONS {
         let word = iterate(&values.d, &row, &mut prior, work);
-        if is_whole(&word[..k]) {
-            return Some(payload_of(&word[..k]));
+        let bits = bits_of(&word, &row);
+        if is_whole(bits) {
+            return Some(payload_of(bits));
         }
     }
     None
