@@ -13,3 +13,6 @@ pub use constituent::half;
 pub use iterations::{Block, decode};
 pub use laws::greatest_scores;
 pub use work::Work;
+
+#[cfg(test)]
+mod tests;
