@@ -14,6 +14,7 @@ use Rattle.crs.proofs.Values.{reference-IsReferenceValue}
 use Rattle.soft_bits.specs.Soft.{SeenSlot, pilot_symbol, pilot_subcarrier, pilot_seen, pilot_sent, pilot, between, channel}
 use Rattle.clean_air.specs.Values.{ArePilotsSeen}
 use Rattle.clean_air.proofs.Deviations.{deviation, deviation-sized, channel_is}
+use Rattle.cell_tx.proofs.Bounds.{full_size}
 
 -- z is c times the gain, up to t times the gain's size
 pub record IsNearGain (g : Cpx) (c t : ℕ) (z : Cpx) : Type 0 where
@@ -41,11 +42,7 @@ full_square : (z : ℕ) → z ≡ 90 → z * z ≡ 8100
 full_square z e = rw e refl
 
 pub full-size : (a : Cpx) → IsReferenceValue a → square a ≡ 16200
-full-size a full = ap₂ (λ m n. m + n) (full_square _ (ninety _ full.re)) (full_square _ (ninety _ full.im))
-  where
-    ninety : (z : ℤ) → IsFull z → unsigned_abs z ≡ 90
-    ninety z (inl e) = ap unsigned_abs e
-    ninety z (inr e) = ap unsigned_abs e
+full-size a full = ap₂ (λ m n. m + n) (full_square _ (full_size _ full.re)) (full_square _ (full_size _ full.im))
 
 pub sent-size : (identity number i : ℕ) → square (pilot_sent identity number i) ≡ 16200
 unfolding pilot_sent reference_at

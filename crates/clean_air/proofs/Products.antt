@@ -24,17 +24,3 @@ nearly_multiplicative a b =
   where
     low : (a b : ℕ) → a < 128 → b < 128 → square (minus (times (w_at a) (w_at b)) (multiple 16384 (w_at (a + b)))) ≤ 1211040000
     low a b p q = leb-true _ _ (unfold product_near in every_below_at 128 (product_near a) (every_below_at 128 (λ a. every_below 128 (product_near a)) all_near a p) b q)
-
-unfoldable entry_small : ℕ → Bool
-entry_small m = nat_le (square (w_at m)) 268468225
-
-all_small : every_below 128 entry_small ≡ true
-unfolding quarter cosine w_at entry_small every_below
-all_small = refl
-
--- an entry has size at most 16385
-pub w-square : (m : ℕ) → square (w_at m) ≤ 16385 * 16385
-w-square m = rw (← (w_period m)) (low (m % 128) (omega arith))
-  where
-    low : (m : ℕ) → m < 128 → square (w_at m) ≤ 268468225
-    low m p = leb-true _ _ (unfold entry_small in every_below_at 128 entry_small all_small m p)

@@ -5,12 +5,7 @@ use Rattle.std.proofs.lemmas.List.{length-append, length-take}
 use Rattle.std.proofs.Math.Seq.{take-suc}
 use Rattle.std.proofs.Math.Pow.{pow_mono}
 use Rattle.cs_bits.specs.Polynomial.{number}
-
-pub number_below : (bits : List Bool) → number bits < 2 ^ length bits
-unfolding number
-number_below [] = omega arith
-number_below (false ∷ bits) = let before = number_below bits in let e = pow-suc 2 (length bits) in omega (arith, before, e)
-number_below (true ∷ bits) = let before = number_below bits in let e = pow-suc 2 (length bits) in omega (arith, before, e)
+use Rattle.cs_bits.proofs.Numbers.{number_below}
 
 number-append : (bits : List Bool) (b : Bool) → number (bits ++ b ∷ []) ≡ 2 * number bits + cond b 1 0
 unfolding number

@@ -65,9 +65,6 @@ associates_im a b c d e f =
 pub times-associates : (a b c : Cpx) → times (times a b) c ≡ times a (times b c)
 times-associates a b c = pair (associates_re a.re a.im b.re b.im c.re c.im) (associates_im a.re a.im b.re b.im c.re c.im)
 
-pub times-plus_left : (a b c : Cpx) → times (plus a b) c ≡ plus (times a c) (times b c)
-times-plus_left a b c = times-commutes (plus a b) c ∙ times-plus c a b ∙ ap₂ plus (times-commutes c a) (times-commutes c b)
-
 pub times-nothing : (a : Cpx) → times a nothing ≡ nothing
 times-nothing a =
     let p = var a.re in

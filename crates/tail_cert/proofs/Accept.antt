@@ -13,6 +13,7 @@ use Rattle.conv_code.specs.Cost.{disagreement, place_cost, word_cost}
 use Rattle.tailbite.specs.Machine.{shift, step_cost}
 use Rattle.tailbite.proofs.Windows.{same_end, shift_below}
 use Rattle.tailbite.proofs.Branches.{word_cost-path}
+use Rattle.tailbite.proofs.Keys.{disagreement-le}
 use Rattle.tail_cert.specs.Certificate.{none, bound, IsLowerBound, TableHolds}
 use Rattle.tail_cert.specs.Forward.{HasLeastRows, IsStartRow}
 
@@ -56,12 +57,6 @@ accepted values cost s start table below places is_start lower small rows = reco
         ]
 
 -- ---- no word costs much
-
-pub disagreement-le : (z : ℤ) (b : Bool) → disagreement z b ≤ nat_abs z
-disagreement-le (pos n) false = omega arith
-disagreement-le (pos n) true = omega arith
-disagreement-le (negsuc n) false = omega arith
-disagreement-le (negsuc n) true = omega arith
 
 -- a value of a list of lists of small values is small
 pub size_at : (limit : ℕ) (values : List (List ℤ)) → All (λ v. All (λ z. nat_abs z ≤ limit) v) values → (k t : ℕ) →

@@ -1,7 +1,8 @@
 use Rattle.std.proofs.Common.{◌≡◌, ◌≤◌, take, Bool, true, false, cond, get_or, arith, refl, ap, ◌∙◌}
 use Rattle.std.proofs.lemmas.List.{take_all}
 use Rattle.cs_bits.specs.Polynomial.{number}
-use Rattle.pbch.proofs.Numbers.{number_below, number_more, number_before}
+use Rattle.cs_bits.proofs.Numbers.{number_below}
+use Rattle.pbch.proofs.Numbers.{number_more, number_before}
 use Rattle.pbch.proofs.block.number_of.Goals as goal
 
 at_most_one : (b : Bool) → cond b 1 0 ≤ 1
