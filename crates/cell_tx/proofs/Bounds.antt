@@ -7,10 +7,10 @@ use Rattle.std.proofs.lemmas.Nat.{mul-le}
 use Rattle.finite.specs.Tests.{every_below}
 use Rattle.finite.proofs.Tests.{every_below_at}
 use Rattle.cs_num.specs.declared.Cpx.{Cpx}
-use Rattle.cs_num.specs.Complex.{IsWithin, nothing, plus, times, square, size}
+use Rattle.cs_num.specs.Complex.{IsWithin, nothing, plus, times, square, size, minus, multiple}
 use Rattle.cs_num.specs.Rounding.{rounded}
 use Rattle.cs_num.specs.Sums.{complex_sum_below}
-use Rattle.sizes.specs.Sizes.{IsSized, minus, multiple}
+use Rattle.sizes.specs.Sizes.{IsSized}
 use Rattle.sizes.proofs.Algebra.{plus-minus}
 use Rattle.cs_num.proofs.Complex.{square-within}
 use Rattle.sizes.proofs.Squares.{re-le, im-le, square-multiple, square-times}

@@ -3,8 +3,7 @@ use Rattle.std.proofs.Common.{◌≡◌, ℕ, ◌+◌, ◌*◌, ◌%◌, ◌<◌
 use Rattle.std.proofs.lemmas.Bool.{leb-true}
 use Rattle.finite.specs.Tests.{every_below}
 use Rattle.finite.proofs.Tests.{every_below_at}
-use Rattle.cs_num.specs.Complex.{times, square}
-use Rattle.sizes.specs.Sizes.{minus, multiple}
+use Rattle.cs_num.specs.Complex.{times, square, minus, multiple}
 use Rattle.fold128.specs.Tables.{quarter, cosine, w_at}
 use Rattle.fold128.proofs.Laws.{w_same}
 use Rattle.fold128.proofs.Entries.{w_period}

@@ -11,10 +11,10 @@ use Rattle.finite.proofs.Ring.{var, lit, same}
 use Rattle.finite.proofs.Ring as ring
 use Rattle.finite.proofs.Integers.{lt-le, lt-not_le}
 use Rattle.cs_num.specs.declared.Cpx.{Cpx}
-use Rattle.cs_num.specs.Complex.{IsWithin, nothing, times, conjugate, square}
+use Rattle.cs_num.specs.Complex.{IsWithin, nothing, times, conjugate, square, minus, multiple}
 use Rattle.lte_types.specs.declared.frame.Half.{Half}
 use Rattle.lte_types.specs.declared.frame.Half.TheVariants.{Zero, Five}
-use Rattle.sizes.specs.Sizes.{IsSized, minus, multiple}
+use Rattle.sizes.specs.Sizes.{IsSized}
 use Rattle.sizes.proofs.Squares.{square-multiple, square-conjugate}
 use Rattle.sizes.proofs.Sized.{sized_plain, sized-times}
 use Rattle.sizes.proofs.Products.{product_near, sign-turns}

@@ -12,9 +12,8 @@ use Rattle.finite.proofs.Ring.{var, lit, same}
 use Rattle.finite.proofs.Ring as ring
 use Rattle.cs_num.specs.declared.Cpx.{Cpx}
 use Rattle.cs_num.specs.declared.Sample.{Sample}
-use Rattle.cs_num.specs.Complex.{IsWithin, nothing, plus, times, conjugate, square, value_at}
+use Rattle.cs_num.specs.Complex.{IsWithin, nothing, plus, times, conjugate, square, value_at, minus, multiple}
 use Rattle.cs_num.specs.Rounding.{clamped}
-use Rattle.sizes.specs.Sizes.{minus, multiple}
 use Rattle.sizes.proofs.Squares.{square-times, square-multiple}
 use Rattle.sizes.proofs.TwoTerms.{weighted, weighted_term}
 use Rattle.sizes.proofs.Sums.{total_some}

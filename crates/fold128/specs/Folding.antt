@@ -16,10 +16,6 @@ unfoldable pub back_by : ℕ → Cpx → Cpx
 back_by zero z = z
 back_by (suc q) z = back_by q (turned_back z)
 
--- the difference
-abbrev pub minus : Cpx → Cpx → Cpx
-minus a b = record { re = a.re -ℤ b.re; im = a.im -ℤ b.im }
-
 -- what the frequencies that leave r modulo 4 see of four samples 32 apart
 unfoldable pub seen_of_four : ℕ → Cpx → Cpx → Cpx → Cpx → Cpx
 seen_of_four r a b c d = plus a (plus (back_by r b) (plus (back_by (2 * r) c) (back_by (3 * r) d)))

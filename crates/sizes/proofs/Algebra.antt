@@ -7,11 +7,11 @@ use Rattle.finite.proofs.Ring.{Is, var, lit, same}
 use Rattle.finite.proofs.Ring as ring
 use Rattle.finite.proofs.Sums.{sum_below_scaled}
 use Rattle.cs_num.specs.declared.Cpx.{Cpx}
-use Rattle.cs_num.specs.Complex.{nothing, plus, times, conjugate}
+use Rattle.cs_num.specs.Complex.{nothing, plus, times, conjugate, minus, multiple}
 use Rattle.cs_num.specs.Sums.{complex_sum_below}
 use Rattle.cs_num.proofs.Complex.{pair, plus-nothing, plus-commutes, times-plus, times-commutes}
 use Rattle.cs_num.proofs.Sums.{complex_sum_below_same}
-use Rattle.sizes.specs.Sizes.{real, minus, multiple}
+use Rattle.sizes.specs.Sizes.{real}
 
 -- ---- sums and differences
 

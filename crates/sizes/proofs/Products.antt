@@ -5,9 +5,9 @@ use Rattle.std.proofs.lemmas.Int.{unsigned_abs-mul}
 use Rattle.finite.proofs.Ring.{var, lit, same}
 use Rattle.finite.proofs.Ring as ring
 use Rattle.cs_num.specs.declared.Cpx.{Cpx}
-use Rattle.cs_num.specs.Complex.{IsWithin, plus, times, conjugate, square}
+use Rattle.cs_num.specs.Complex.{IsWithin, plus, times, conjugate, square, minus, multiple}
 use Rattle.cs_num.proofs.Complex.{plus-associates, times-plus, times-commutes, times-plus_left}
-use Rattle.sizes.specs.Sizes.{IsSized, minus, multiple}
+use Rattle.sizes.specs.Sizes.{IsSized}
 use Rattle.sizes.proofs.Algebra.{minus-plus, times-associates, times-multiple, times_real, multiple_twice, conjugate-plus, conjugate-multiple}
 use Rattle.sizes.proofs.Squares.{abs_square, times_conjugate, square-multiple}
 use Rattle.sizes.proofs.Sized.{sized_gain, sized_plain, sized-plus, sized-times, sized-conjugate, sized_re, sized_im}
