@@ -22,7 +22,7 @@ bit_of width number i = nat_eq (number / 2 ^ (width - 1 - i) % 2) 1
 unfoldable pub bits_of : ℕ → ℕ → List Bool
 bits_of width number = values_below width (bit_of width number)
 
--- the codes of phich-Duration and phich-Resource (TS 36.331 section 6.2.2)
+-- the codes of phich-Duration and phich-Resource (TS 36.331 section 6.3.2, PHICH-Config)
 abbrev pub duration_code : Duration → ℕ
 duration_code Normal = 0
 duration_code Extended = 1
