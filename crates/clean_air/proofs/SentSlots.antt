@@ -13,7 +13,7 @@ use Rattle.grid_map.specs.Place.{place}
 use Rattle.grid_map.specs.Broadcast.{pbch_place, is_pbch, pbch_index}
 use Rattle.grid_map.proofs.Points.{places_inside, index_of_place}
 use Rattle.cell_tx.specs.declared.cell.CellPlan.{CellPlan}
-use Rattle.cell_tx.specs.Block.{broadcast_word, matched_bit, broadcast_bit, broadcast_point}
+use Rattle.cell_tx.specs.Block.{broadcast_word, broadcast_bit, broadcast_point}
 use Rattle.cell_tx.specs.Grid.{element}
 use Rattle.cell_tx.specs.Clean.{IsClean, start_of, number_at_start}
 use Rattle.cell_tx.specs.Rows.{reference_if}
@@ -94,7 +94,7 @@ points_stand plan number i inside =
 
 pub carries_word : (plan : CellPlan) (number : ℕ) → length (broadcast_word plan number) ≡ 40 →
     CarriesWord (slot_grid plan number) plan.identity (number % 4) (broadcast_word plan number)
-unfolding broadcast_point broadcast_bit matched_bit
+unfolding broadcast_point broadcast_bit
 carries_word plan number size = record { size = size; amplitude = λ i inside. points_stand plan number i inside }
 
 -- ---- the slot
