@@ -7,7 +7,7 @@ use Rattle.std.proofs.lemmas.Bool.Decides.{nat_tests}
 use Rattle.finite.specs.Sums.{total_below}
 use Rattle.finite.proofs.Lists.{values_below_at, values_below-length}
 use Rattle.finite.specs.Tables.{sum_at}
-use Rattle.sizes.proofs.Sums.{total_some}
+use Rattle.finite.proofs.Sums.{total_some}
 use Rattle.gold.specs.Gold.{gold_bit}
 use Rattle.conv_code.specs.Code.{coded, coded_word, taps_0}
 use Rattle.conv_code.specs.Reading.{bit_at_place, place_of, summed}

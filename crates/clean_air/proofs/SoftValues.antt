@@ -6,7 +6,7 @@ use Rattle.std.proofs.lemmas.Bool.{cases_lt}
 use Rattle.std.proofs.lemmas.Bool.Decides.{nat_tests}
 use Rattle.std.proofs.Math.Nat.{div-lt_iff_lt-mul}
 use Rattle.finite.specs.Sums.{total_below}
-use Rattle.finite.proofs.Sums.{total_below-within}
+use Rattle.finite.proofs.Sums.{total_below-within, total_some}
 use Rattle.finite.proofs.Lists.{values_below_at}
 use Rattle.finite.proofs.Ring.{var, lit, same}
 use Rattle.finite.proofs.Ring as ring
@@ -16,7 +16,6 @@ use Rattle.cs_num.specs.Complex.{IsWithin, nothing, plus, times, conjugate, squa
 use Rattle.cs_num.specs.Rounding.{clamped}
 use Rattle.sizes.proofs.Squares.{square-times, square-multiple}
 use Rattle.sizes.proofs.TwoTerms.{weighted, weighted_term}
-use Rattle.sizes.proofs.Sums.{total_some}
 use Rattle.sizes.proofs.Products.{product_near, sign-turns}
 use Rattle.crs.specs.Reference.{component, is_reference}
 use Rattle.observe.specs.Seen.{seen, seen_symbol}
