@@ -10,6 +10,7 @@ use Rattle.std.proofs.lemmas.List.Elements.{All-get_or, All-from_get_or}
 use Rattle.std.proofs.Math.ListN.{get_or-eq_default}
 use Rattle.std.proofs.Math.Seq.{take-length}
 use Rattle.std.proofs.Math.Nat.{mul-le-mul_left}
+use Rattle.std.proofs.Math.Bool.{and-false}
 use Rattle.finite.specs.Lists.{values_below}
 use Rattle.finite.specs.Sums.{sum_below, total_below}
 use Rattle.finite.proofs.Lists.{values_below-length, values_below_at, values_below-All}
@@ -21,7 +22,7 @@ use Rattle.turbo_code.proofs.TableFacts.{is_small_size}
 use Rattle.turbo_code.proofs.Cells.{cell_below}
 use Rattle.turbo_code.proofs.Search.{count-turned}
 use Rattle.turbo_code.proofs.Round.{reading_count}
-use Rattle.turbo_code.proofs.Whole.{different, and_false, count_more, count-in_turn, count-bits_in, whole}
+use Rattle.turbo_code.proofs.Whole.{different, count_more, count-in_turn, count-bits_in, whole}
 
 -- ---- a place that is none of a coded word is not read
 
@@ -31,7 +32,7 @@ count_none n s t c f below (suc k) h =
     let before = count_none n s t c f below k (omega (arith, h)) in
     let low = below k (omega (arith, h)) in
     let other = different (f k) c (λ e. omega (arith, e, low)) in
-    let none : cond {A = ℕ} (is_at t c (spot s (f k))) 1 0 ≡ 0 = ap (λ b. cond {A = ℕ} (nat_eq s t && b) 1 0) other ∙ ap (λ b. cond {A = ℕ} b 1 0) (and_false (nat_eq s t)) in
+    let none : cond {A = ℕ} (is_at t c (spot s (f k))) 1 0 ≡ 0 = ap (λ b. cond {A = ℕ} (nat_eq s t && b) 1 0) other ∙ ap (λ b. cond {A = ℕ} b 1 0) (and-false (nat_eq s t)) in
     count_more (is_at t c) k (λ m. spot s (f m)) ∙ ap₂ (λ (x y : ℕ). x + y) before none
 
 buffer_none : (r t c : ℕ) → 0 < r → 32 * r ≤ c → count_by (is_at t c) (buffer r) ≡ 0
