@@ -19,12 +19,12 @@ use Rattle.grid_map.proofs.Points.{places_inside}
 use Rattle.soft_bits.specs.Soft.{SeenSlot, soft_values}
 use Rattle.pbch.specs.Values.{seen_value, value, frame_values, coded_values}
 use Rattle.pbch.specs.Master.{total}
+use Rattle.cell_tx.specs.Block.{scrambled_bit}
 use Rattle.clean_air.specs.Values.{Supports, SupportBoth}
 use Rattle.clean_air.specs.Words.{SpeakInOrder}
 use Rattle.clean_air.specs.Broadcast.{SpeaksOfWord, SentWordIsOnly, SentWordIsTold, ReceivedSlotSpeaks}
 use Rattle.clean_air.proofs.SoftValues.{received_values_support_bits}
 use Rattle.clean_air.proofs.SpokenWords.{descrambling_keeps, summed-length, sums_speak, spoken_word_is_only}
-use Rattle.cell_tx.specs.Block.{scrambled_bit}
 
 -- ---- the values in the order of the reading
 

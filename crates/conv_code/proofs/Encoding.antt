@@ -3,9 +3,9 @@ use Rattle.std.proofs.Common.{◌≡◌, ℕ, ◌+◌, ◌<◌, ◌≤◌, Bool,
 use Rattle.std.specs.Bool.{beq}
 use Rattle.std.proofs.Math.Seq.{drop-cons}
 use Rattle.finite.proofs.Lists.{values_below_is}
-use Rattle.conv_code.specs.Code.{parity, coded_bits, coded_word}
 use Rattle.cs_bits.specs.Polynomial.{xor}
 use Rattle.cs_bits.proofs.Xor.{xor-false, xor_assoc, ne_xor}
+use Rattle.conv_code.specs.Code.{parity, coded_bits, coded_word}
 
 -- what the loop over the taps keeps, after i of them
 pub record IsPartSum (f : ℕ → Bool) (taps : List ℕ) (i : ℕ) (sum : Bool) : Type 0 where

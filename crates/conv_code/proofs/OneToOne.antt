@@ -3,9 +3,9 @@ use Rattle.std.proofs.Common.{◌≡◌, ℕ, zero, suc, ◌+◌, ◌-◌, ◌%�
 use Rattle.std.proofs.lemmas.List.{ext_get_or}
 use Rattle.std.proofs.Math.Nat.{mod-eq_of_lt, add-mod_right, mod-lt}
 use Rattle.finite.proofs.Lists.{values_below_at}
-use Rattle.conv_code.specs.Code.{parity, bit_back, taps_0, taps_1, taps_2, coded, coded_bits, coded_word}
 use Rattle.cs_bits.specs.Polynomial.{xor}
 use Rattle.cs_bits.proofs.Xor.{xor-false, xor_assoc}
+use Rattle.conv_code.specs.Code.{parity, bit_back, taps_0, taps_1, taps_2, coded, coded_bits, coded_word}
 use Rattle.conv_code.specs.Laws.{IsOneToOne}
 
 -- ---- the sum modulo 2
