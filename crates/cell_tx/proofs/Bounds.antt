@@ -21,7 +21,7 @@ use Rattle.fold128.specs.Symbol.{frequency, useful_term, useful_at}
 use Rattle.fold128.proofs.Entries.{w_period}
 use Rattle.fold128.proofs.Laws.{z_period}
 use Rattle.lte_types.specs.declared.frame.Half.{Half}
-use Rattle.crs.specs.Reference.{component, IsFull, IsReferenceValue, is_reference}
+use Rattle.crs.specs.Reference.{IsFull, IsReferenceValue, is_reference}
 use Rattle.crs.proofs.Values.{reference-IsReferenceValue, component-IsFull}
 use Rattle.sync_seq.specs.Primary.{root_of, turns, pss_at}
 use Rattle.sync_seq.specs.Secondary.{sss_at}

@@ -1,5 +1,5 @@
 -- The channel estimate of a clean slot: a multiple of the gain, up to a deviation.
-use Rattle.std.proofs.Common.{◌≡◌, ℕ, ◌+◌, ◌-◌, ◌*◌, ◌/◌, ◌%◌, ◌<◌, ◌≤◌, inl, inr, arith, refl, ap, ap₂, sym, ◌∙◌, subst, Bool, true, false, nat_lt, ℤ, unsigned_abs}
+use Rattle.std.proofs.Common.{◌≡◌, ℕ, ◌+◌, ◌-◌, ◌*◌, ◌/◌, ◌%◌, ◌<◌, ◌≤◌, arith, refl, ap, ap₂, sym, ◌∙◌, subst, Bool, true, false, nat_lt}
 use Rattle.std.specs.Prelude.{if◌then◌else◌}
 use Rattle.std.proofs.lemmas.Bool.{ltb-true}
 use Rattle.cs_num.specs.declared.Cpx.{Cpx}
@@ -9,7 +9,7 @@ use Rattle.sizes.proofs.Algebra.{plus-exchanges, multiple-plus, multiple_twice, 
 use Rattle.sizes.proofs.Squares.{square-conjugate}
 use Rattle.sizes.proofs.Sized.{sized_plain, sized-plus, sized-times}
 use Rattle.sizes.proofs.Products.{sized-multiple}
-use Rattle.crs.specs.Reference.{IsFull, IsReferenceValue, reference_at}
+use Rattle.crs.specs.Reference.{IsReferenceValue, reference_at}
 use Rattle.crs.proofs.Values.{reference-IsReferenceValue}
 use Rattle.soft_bits.specs.Soft.{SeenSlot, pilot_symbol, pilot_subcarrier, pilot_seen, pilot_sent, pilot, between, channel}
 use Rattle.cell_tx.proofs.Bounds.{full_size}

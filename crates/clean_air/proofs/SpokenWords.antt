@@ -9,9 +9,9 @@ use Rattle.finite.proofs.Lists.{values_below_at, values_below_same, values_below
 use Rattle.finite.proofs.Sums.{total_zero, terms_zero}
 use Rattle.paths.specs.Words.{IsBefore}
 use Rattle.paths.proofs.Words.{number-before}
-use Rattle.conv_code.specs.Code.{coded, coded_bits, coded_word, taps_0, taps_1, taps_2}
+use Rattle.conv_code.specs.Code.{coded_bits, coded_word}
 use Rattle.conv_code.specs.Reading.{Place, bit_at_place, place_of, is_at, summed_at, summed}
-use Rattle.conv_code.specs.Cost.{disagreement, place_cost, word_cost}
+use Rattle.conv_code.specs.Cost.{place_cost, word_cost}
 use Rattle.conv_code.proofs.OneToOne.{one_to_one}
 use Rattle.conv_code.proofs.Places.{permuting}
 use Rattle.tailbite.specs.Clean.{SpeaksFor, Speaks}

@@ -1,5 +1,5 @@
 -- The number of a word's bits.
-use Rattle.std.proofs.Common.{ℕ, ◌*◌, ◌^◌, ◌<◌, Bool, true, false, List, [], ◌∷◌, length, arith}
+use Rattle.std.proofs.Common.{◌^◌, ◌<◌, Bool, true, false, List, [], ◌∷◌, length, arith}
 use Rattle.std.proofs.Math.Nat.{pow-suc}
 use Rattle.cs_bits.specs.Polynomial.{number}
 

@@ -7,7 +7,7 @@ use Rattle.finite.proofs.Ring as ring
 use Rattle.cs_num.specs.declared.Cpx.{Cpx}
 use Rattle.cs_num.specs.Complex.{plus, times, turned, conjugate}
 use Rattle.cs_num.specs.Sums.{complex_sum_below}
-use Rattle.cs_num.proofs.Complex.{pair, times-plus, times-commutes, times-plus_left}
+use Rattle.cs_num.proofs.Complex.{pair, times-plus_left}
 use Rattle.cs_num.proofs.Sums.{complex_sum_below_split, complex_sum_below_plus, complex_sum_below_same}
 use Rattle.fold128.specs.Tables.{w_at}
 use Rattle.fold128.specs.Symbol.{frequency}

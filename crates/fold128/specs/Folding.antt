@@ -1,6 +1,6 @@
 -- How 128 samples are folded to 32 places: a quarter turn of W is a product with j, so a frequency sees the samples 32 apart
 -- as one number, which depends on the frequency modulo 4 alone. (own)
-use Rattle.std.specs.Prelude.{ℕ, zero, suc, ◌+◌, ◌*◌, ◌%◌, List, slice_index_or, ◌-ℤ◌, neg_ℤ, nat_eq, if◌then◌else◌}
+use Rattle.std.specs.Prelude.{ℕ, zero, suc, ◌+◌, ◌*◌, ◌%◌, List, slice_index_or, neg_ℤ, nat_eq, if◌then◌else◌}
 use Rattle.cs_num.specs.declared.Cpx.{Cpx}
 use Rattle.cs_num.specs.Complex.{IsWithin, nothing, plus, times, conjugate}
 use Rattle.finite.specs.Lists.{values_below}

@@ -2,11 +2,11 @@
 use Rattle.std.proofs.Common.{◌≡◌, ℕ, ◌+◌, ◌<◌, ◌≤◌, true, List, [], length, get_or, ℤ, pos, nat_abs, refl, arith, sym, ap, ◌∙◌}
 use Rattle.std.specs.Prelude.{All}
 use Rattle.std.proofs.lemmas.Bool.Decides.{nat_tests}
-use Rattle.std.proofs.lemmas.List.Elements.{All-get_or, All-from_get_or}
+use Rattle.std.proofs.lemmas.List.Elements.{All-get_or}
 use Rattle.std.proofs.Math.Nat.{add-mod_left}
 use Rattle.finite.specs.Lists.{values_below}
 use Rattle.finite.specs.Tests.{count_below}
-use Rattle.finite.proofs.Lists.{values_below-length, values_below_at, values_below-All}
+use Rattle.finite.proofs.Lists.{values_below-All}
 use Rattle.conv_code.specs.Reading.{Place, place_of, is_at, summed, summed_at}
 use Rattle.conv_code.proofs.Places.{permuting}
 use Rattle.pbch.proofs.Counts.{sum_of_passing-within, count_once, count_split}

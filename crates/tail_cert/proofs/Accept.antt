@@ -1,5 +1,5 @@
 -- Least costs from a start state make a table that holds.
-use Rattle.std.proofs.Common.{◌≡◌, ◌≢◌, ℕ, zero, suc, ◌+◌, ◌*◌, ◌^◌, ◌<◌, ◌≤◌, Bool, List, [], length, get_or, ℤ, pos, negsuc, refl, sym, ◌∙◌, inl, inr, arith, false, true}
+use Rattle.std.proofs.Common.{◌≡◌, ◌≢◌, ℕ, zero, suc, ◌+◌, ◌*◌, ◌^◌, ◌<◌, ◌≤◌, Bool, List, [], length, get_or, ℤ, pos, refl, sym, ◌∙◌, inl, inr, arith}
 use Rattle.std.specs.Prelude.{All, nat_abs}
 use Rattle.std.proofs.lemmas.Bool.{cases_lt}
 use Rattle.std.proofs.lemmas.List.{get_or_past}
@@ -9,7 +9,7 @@ use Rattle.paths.specs.Paths.{end_of}
 use Rattle.paths.proofs.Rounds.{ends_in_same, ends_in_other}
 use Rattle.paths.proofs.Forward.{least_to_none, least_to-le}
 use Rattle.conv_code.specs.Code.{coded, taps_0, taps_1, taps_2}
-use Rattle.conv_code.specs.Cost.{disagreement, place_cost, word_cost}
+use Rattle.conv_code.specs.Cost.{place_cost, word_cost}
 use Rattle.tailbite.specs.Machine.{shift, step_cost}
 use Rattle.tailbite.proofs.Windows.{same_end, shift_below}
 use Rattle.tailbite.proofs.Branches.{word_cost-path}

@@ -1,8 +1,7 @@
 -- The code's `^` of five bits is their sum modulo 2.
-use Rattle.std.proofs.Common.{◌≡◌, Bool, true, false, not, [], ◌∷◌, refl}
+use Rattle.std.proofs.Common.{◌≡◌, Bool, not, [], ◌∷◌}
 use Rattle.std.specs.Bool.{beq}
 use Rattle.conv_code.specs.Code.{parity}
-use Rattle.cs_bits.specs.Polynomial.{xor}
 use Rattle.cs_bits.proofs.Xor.{xor-false, ne_xor}
 
 pub five_bits : (a b c d e e' : Bool) → e ≡ e' →

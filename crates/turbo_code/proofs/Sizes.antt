@@ -6,14 +6,14 @@ use Rattle.std.proofs.lemmas.Bool.{cases_lt}
 use Rattle.std.proofs.lemmas.Nat.{mod-mul-add}
 use Rattle.std.proofs.lemmas.List.Sums.{sum_by-append, length-filter}
 use Rattle.std.proofs.lemmas.List.Filters.{length-filter_more}
-use Rattle.std.proofs.lemmas.List.Elements.{All-get_or, All-from_get_or}
+use Rattle.std.proofs.lemmas.List.Elements.{All-get_or}
 use Rattle.std.proofs.Math.ListN.{get_or-eq_default}
 use Rattle.std.proofs.Math.Seq.{take-length}
 use Rattle.std.proofs.Math.Nat.{mul-le-mul_left}
 use Rattle.std.proofs.Math.Bool.{and-false}
 use Rattle.finite.specs.Lists.{values_below}
 use Rattle.finite.specs.Sums.{sum_below, total_below}
-use Rattle.finite.proofs.Lists.{values_below-length, values_below_at, values_below-All}
+use Rattle.finite.proofs.Lists.{values_below-All}
 use Rattle.finite.proofs.Sums.{sum_below_none, sum_below_more, total_below_none, total_below_more, total_below_same, total_below_split}
 use Rattle.finite.proofs.Tables.{abs_sum}
 use Rattle.turbo_code.specs.Table.{IsSize}
