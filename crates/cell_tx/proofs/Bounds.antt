@@ -7,10 +7,10 @@ use Rattle.std.proofs.lemmas.Nat.{mul-le}
 use Rattle.finite.specs.Tests.{every_below}
 use Rattle.finite.proofs.Tests.{every_below_at}
 use Rattle.cs_num.specs.declared.Cpx.{Cpx}
-use Rattle.cs_num.specs.Complex.{IsWithin, nothing, plus, times, square, size}
+use Rattle.cs_num.specs.Complex.{IsWithin, nothing, plus, times, square, size, minus, multiple}
 use Rattle.cs_num.specs.Rounding.{rounded}
 use Rattle.cs_num.specs.Sums.{complex_sum_below}
-use Rattle.sizes.specs.Sizes.{IsSized, minus, multiple}
+use Rattle.sizes.specs.Sizes.{IsSized}
 use Rattle.sizes.proofs.Algebra.{plus-minus}
 use Rattle.cs_num.proofs.Complex.{square-within}
 use Rattle.sizes.proofs.Squares.{re-le, im-le, square-multiple, square-times}
@@ -19,9 +19,10 @@ use Rattle.sizes.proofs.Sized.{sized-plus, sized-times, sized-sum, sized_plain}
 use Rattle.fold128.specs.Tables.{quarter, cosine, w_at, z_at, z_real, z_imaginary}
 use Rattle.fold128.specs.Symbol.{frequency, useful_term, useful_at}
 use Rattle.fold128.proofs.Entries.{w_period}
+use Rattle.fold128.proofs.Laws.{z_period}
 use Rattle.lte_types.specs.declared.frame.Half.{Half}
-use Rattle.crs.specs.Reference.{component, IsFull, IsReferenceValue, is_reference}
-use Rattle.crs.proofs.Values.{reference-IsReferenceValue}
+use Rattle.crs.specs.Reference.{IsFull, IsReferenceValue, is_reference}
+use Rattle.crs.proofs.Values.{reference-IsReferenceValue, component-IsFull}
 use Rattle.sync_seq.specs.Primary.{root_of, turns, pss_at}
 use Rattle.sync_seq.specs.Secondary.{sss_at}
 use Rattle.sync_seq.proofs.PrimaryValues.{pss_is, pss-within}
@@ -39,13 +40,9 @@ pick : (P : Cpx → Type 0) (c : Bool) (a b : Cpx) → P a → P b → P (if c t
 pick P true a b p q = p
 pick P false a b p q = q
 
-component_full : (bit : Bool) → IsFull (component bit)
-component_full false = inl refl
-component_full true = inr refl
-
 point_full : (plan : CellPlan) (sfn i : ℕ) → IsReferenceValue (broadcast_point plan sfn i)
 unfolding broadcast_point
-point_full plan sfn i = record { re = component_full (broadcast_bit plan sfn (2 * i)); im = component_full (broadcast_bit plan sfn (2 * i + 1)) }
+point_full plan sfn i = record { re = component-IsFull (broadcast_bit plan sfn (2 * i)); im = component-IsFull (broadcast_bit plan sfn (2 * i + 1)) }
 
 -- what holds of each kind of value holds of every element
 element_all : (P : Cpx → Type 0) → ((z : Cpx) → IsReferenceValue z → P z) → ((n2 n : ℕ) → P (pss_at n2 n))
@@ -60,7 +57,7 @@ element_all P full primary secondary none plan sfn subframe symbol k =
     (pick P (is_secondary subframe symbol k) _ _ (secondary (plan.identity / 3) (plan.identity % 3) (half_of subframe) (k - 5))
     (pick P (is_broadcast plan.identity subframe symbol k) _ _ (full _ (point_full plan sfn _)) none)))
 
-full_size : (z : ℤ) → IsFull z → unsigned_abs z ≡ 90
+pub full_size : (z : ℤ) → IsFull z → unsigned_abs z ≡ 90
 full_size z (inl e) = rw e refl
 full_size z (inr e) = rw e refl
 
@@ -82,12 +79,8 @@ all_short_small : every_below 63 short_small ≡ true
 unfolding z_real z_imaginary z_at short_small every_below
 all_short_small = refl
 
-z_again : (m : ℕ) → z_at (m % 63) ≡ z_at m
-unfolding z_at
-z_again m = let e : m % 63 % 63 ≡ m % 63 = omega arith in rw e refl
-
 z-square : (m : ℕ) → square (z_at m) ≤ 128 * 128
-z-square m = rw (← (z_again m)) (low (m % 63) (omega arith))
+z-square m = rw (← (z_period m)) (low (m % 63) (omega arith))
   where
     low : (m : ℕ) → m < 63 → square (z_at m) ≤ 16384
     low m p = leb-true _ _ (unfold short_small in every_below_at 63 short_small all_short_small m p)
@@ -112,7 +105,7 @@ all_entries_small : every_below 128 entry_small ≡ true
 unfolding quarter cosine w_at entry_small every_below
 all_entries_small = refl
 
-w-square : (m : ℕ) → square (w_at m) ≤ 16385 * 16385
+pub w-square : (m : ℕ) → square (w_at m) ≤ 16385 * 16385
 w-square m = rw (← (w_period m)) (low (m % 128) (omega arith))
   where
     low : (m : ℕ) → m < 128 → square (w_at m) ≤ 268468225

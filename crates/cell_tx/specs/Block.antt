@@ -22,7 +22,7 @@ bit_of width number i = nat_eq (number / 2 ^ (width - 1 - i) % 2) 1
 unfoldable pub bits_of : ℕ → ℕ → List Bool
 bits_of width number = values_below width (bit_of width number)
 
--- the codes of phich-Duration and phich-Resource (TS 36.331 section 6.2.2)
+-- the codes of phich-Duration and phich-Resource (TS 36.331 section 6.3.2, PHICH-Config)
 abbrev pub duration_code : Duration → ℕ
 duration_code Normal = 0
 duration_code Extended = 1
@@ -44,14 +44,15 @@ block_bits plan sfn =
 unfoldable pub broadcast_word : CellPlan → ℕ → List Bool
 broadcast_word plan sfn = block_bits plan sfn ++ bits_of 16 (crc16_of (block_bits plan sfn))
 
--- bit i of the coded and matched word, which is repeated without end (TS 36.212 sections 5.3.1.2 and 5.3.1.3)
-unfoldable pub matched_bit : CellPlan → ℕ → ℕ → Bool
-matched_bit plan sfn i = bit_at_place (coded_word (broadcast_word plan sfn)) (place_of 40 i)
+-- bit n of the coded and matched bits of a word, which are repeated without end, scrambled by a cell's identity (TS 36.212 sections
+-- 5.3.1.2 and 5.3.1.3, TS 36.211 section 6.6.1)
+abbrev pub scrambled_bit : ℕ → List Bool → ℕ → Bool
+scrambled_bit identity word n = xor (bit_at_place (coded_word word) (place_of 40 n)) (gold_bit identity n)
 
 -- bit i of the 480 that a frame carries: the frames whose numbers are 0, 1, 2 and 3 modulo 4 carry the 1,920 scrambled bits in
 -- this order (TS 36.211 sections 6.6.1 and 6.6.4)
 unfoldable pub broadcast_bit : CellPlan → ℕ → ℕ → Bool
-broadcast_bit plan sfn i = let n : ℕ = 480 * (sfn % 4) + i in xor (matched_bit plan sfn n) (gold_bit plan.identity n)
+broadcast_bit plan sfn i = scrambled_bit plan.identity (broadcast_word plan sfn) (480 * (sfn % 4) + i)
 
 -- point i of the 240 that a frame carries (QPSK, TS 36.211 section 7.1.2; the amplitude is own)
 unfoldable pub broadcast_point : CellPlan → ℕ → ℕ → Cpx

@@ -4,11 +4,11 @@ use Rattle.finite.proofs.Sums.{total_below-within}
 use Rattle.finite.proofs.Ring.{var, lit, same}
 use Rattle.finite.proofs.Ring as ring
 use Rattle.cs_num.specs.declared.Cpx.{Cpx}
-use Rattle.cs_num.specs.Complex.{IsWithin, plus, times, square}
+use Rattle.cs_num.specs.Complex.{IsWithin, plus, times, square, minus, multiple}
 use Rattle.cs_num.specs.Rounding.{rounded}
 use Rattle.cs_num.specs.Sums.{complex_sum_below}
 use Rattle.cs_num.proofs.Complex.{square-within, pair, plus-associates}
-use Rattle.sizes.specs.Sizes.{IsSized, minus, multiple, energy_below, correlation_below}
+use Rattle.sizes.specs.Sizes.{IsSized, energy_below, correlation_below}
 use Rattle.sizes.proofs.Algebra.{plus-minus, minus-plus, times-minus, times-multiple}
 use Rattle.sizes.proofs.Squares.{square-multiple}
 use Rattle.sizes.proofs.Sized.{sized_plain, sized-plus, sized_more}
@@ -16,9 +16,9 @@ use Rattle.sizes.proofs.Cauchy.{cauchy, correlation_same, correlation_plus, corr
 use Rattle.sizes.proofs.Rounding.{rounded_near}
 use Rattle.fold128.specs.Symbol.{frequency, useful_term, useful_at}
 use Rattle.fold128.specs.Spectrum.{spectrum_at}
+use Rattle.cell_tx.proofs.Bounds.{w-square}
 use Rattle.clean_air.specs.Received.{AreAmplitudes}
 use Rattle.clean_air.specs.Budget.{DeviationHasFourCauses}
-use Rattle.clean_air.proofs.Products.{w-square}
 use Rattle.clean_air.proofs.Leakage.{sum_sent, tone_at, leak, seen_sent, leak-small}
 
 -- ---- energies

@@ -1,9 +1,10 @@
 -- What is seen, as its main part and a deviation in units of the gain.
 use Rattle.std.proofs.Common.{◌≡◌, ◌*◌, ap, sym, ◌∙◌, pos}
 use Rattle.cs_num.specs.declared.Cpx.{Cpx}
-use Rattle.cs_num.specs.Complex.{plus, times, conjugate, square}
-use Rattle.sizes.specs.Sizes.{IsSized, minus, multiple}
-use Rattle.sizes.proofs.Algebra.{plus-minus, times-plus_left, times-associates, times-multiple, multiple-times, times_real, multiple_twice}
+use Rattle.cs_num.specs.Complex.{plus, times, conjugate, square, minus, multiple}
+use Rattle.cs_num.proofs.Complex.{times-plus_left}
+use Rattle.sizes.specs.Sizes.{IsSized}
+use Rattle.sizes.proofs.Algebra.{plus-minus, times-associates, times-multiple, multiple-times, times_real, multiple_twice}
 use Rattle.sizes.proofs.Squares.{times_conjugate}
 use Rattle.clean_air.specs.Received.{IsSeenAs}
 

@@ -1,17 +1,18 @@
 -- The channel estimate of a clean slot: a multiple of the gain, up to a deviation.
-use Rattle.std.proofs.Common.{◌≡◌, ℕ, ◌+◌, ◌-◌, ◌*◌, ◌/◌, ◌%◌, ◌<◌, ◌≤◌, inl, inr, arith, refl, ap, ap₂, sym, ◌∙◌, subst, Bool, true, false, nat_lt, ℤ, unsigned_abs}
+use Rattle.std.proofs.Common.{◌≡◌, ℕ, ◌+◌, ◌-◌, ◌*◌, ◌/◌, ◌%◌, ◌<◌, ◌≤◌, arith, refl, ap, ap₂, sym, ◌∙◌, subst, Bool, true, false, nat_lt}
 use Rattle.std.specs.Prelude.{if◌then◌else◌}
 use Rattle.std.proofs.lemmas.Bool.{ltb-true}
 use Rattle.cs_num.specs.declared.Cpx.{Cpx}
-use Rattle.cs_num.specs.Complex.{plus, times, conjugate, square}
-use Rattle.sizes.specs.Sizes.{IsSized, multiple}
+use Rattle.cs_num.specs.Complex.{plus, times, conjugate, square, multiple}
+use Rattle.sizes.specs.Sizes.{IsSized}
 use Rattle.sizes.proofs.Algebra.{plus-exchanges, multiple-plus, multiple_twice, multiple_sum}
 use Rattle.sizes.proofs.Squares.{square-conjugate}
 use Rattle.sizes.proofs.Sized.{sized_plain, sized-plus, sized-times}
 use Rattle.sizes.proofs.Products.{sized-multiple}
-use Rattle.crs.specs.Reference.{IsFull, IsReferenceValue, reference_at}
+use Rattle.crs.specs.Reference.{IsReferenceValue, reference_at}
 use Rattle.crs.proofs.Values.{reference-IsReferenceValue}
 use Rattle.soft_bits.specs.Soft.{SeenSlot, pilot_symbol, pilot_subcarrier, pilot_seen, pilot_sent, pilot, between, channel}
+use Rattle.cell_tx.proofs.Bounds.{full_size}
 use Rattle.clean_air.specs.Values.{ArePilotsSeen}
 use Rattle.clean_air.proofs.Deviations.{deviation, deviation-sized, channel_is}
 
@@ -41,11 +42,7 @@ full_square : (z : ℕ) → z ≡ 90 → z * z ≡ 8100
 full_square z e = rw e refl
 
 pub full-size : (a : Cpx) → IsReferenceValue a → square a ≡ 16200
-full-size a full = ap₂ (λ m n. m + n) (full_square _ (ninety _ full.re)) (full_square _ (ninety _ full.im))
-  where
-    ninety : (z : ℤ) → IsFull z → unsigned_abs z ≡ 90
-    ninety z (inl e) = ap unsigned_abs e
-    ninety z (inr e) = ap unsigned_abs e
+full-size a full = ap₂ (λ m n. m + n) (full_square _ (full_size _ full.re)) (full_square _ (full_size _ full.im))
 
 pub sent-size : (identity number i : ℕ) → square (pilot_sent identity number i) ≡ 16200
 unfolding pilot_sent reference_at

@@ -1,8 +1,7 @@
 -- What is received of a grid is received of every grid with the same amplitudes.
 use Rattle.std.proofs.Common.{◌≡◌, ℕ, ◌<◌, ◌≤◌, ◌*◌, subst}
 use Rattle.cs_num.specs.declared.Cpx.{Cpx}
-use Rattle.cs_num.specs.Complex.{IsWithin, times, square}
-use Rattle.sizes.specs.Sizes.{minus}
+use Rattle.cs_num.specs.Complex.{IsWithin, times, square, minus}
 use Rattle.fold128.proofs.Samples.{useful_same}
 use Rattle.clean_air.specs.Received.{AreAmplitudes, IsReceived}
 

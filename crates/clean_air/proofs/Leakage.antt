@@ -4,13 +4,13 @@ use Rattle.std.proofs.lemmas.Bool.{cases_lt}
 use Rattle.std.proofs.lemmas.Bool.Decides.{nat_tests}
 use Rattle.finite.specs.Sums.{sum_below}
 use Rattle.cs_num.specs.declared.Cpx.{Cpx}
-use Rattle.cs_num.specs.Complex.{nothing, plus, times, conjugate}
+use Rattle.cs_num.specs.Complex.{nothing, plus, times, conjugate, minus, multiple}
 use Rattle.cs_num.specs.Sums.{complex_sum_below}
 use Rattle.finite.proofs.Ring.{var, lit, same}
 use Rattle.finite.proofs.Ring as ring
 use Rattle.cs_num.proofs.Complex.{pair, times-plus}
 use Rattle.cs_num.proofs.Sums.{complex_sum_below_same, complex_sum_below_plus, complex_sum_below_swap}
-use Rattle.sizes.specs.Sizes.{IsSized, minus, multiple, correlation_below}
+use Rattle.sizes.specs.Sizes.{IsSized, correlation_below}
 use Rattle.sizes.proofs.Algebra.{plus-minus, times-nothing, times-associates, sum-times, sum-multiple, sum_of_one, sum-times_right}
 use Rattle.sizes.proofs.Sized.{sized_plain, sized-times, sized-sum}
 use Rattle.fold128.specs.Tables.{quarter, cosine, w_at}

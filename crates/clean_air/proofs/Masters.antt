@@ -6,10 +6,11 @@ use Rattle.std.proofs.lemmas.Bool.{cases_lt}
 use Rattle.std.proofs.lemmas.Bool.Decides.{nat_tests}
 use Rattle.finite.specs.Sums.{total_below}
 use Rattle.finite.proofs.Lists.{values_below_at, values_below-length}
-use Rattle.sizes.proofs.Sums.{total_some}
+use Rattle.finite.specs.Tables.{sum_at}
+use Rattle.finite.proofs.Sums.{total_some}
 use Rattle.gold.specs.Gold.{gold_bit}
 use Rattle.conv_code.specs.Code.{coded, coded_word, taps_0}
-use Rattle.conv_code.specs.Reading.{bit_at_place, place_of, summed, sum_at}
+use Rattle.conv_code.specs.Reading.{bit_at_place, place_of, summed}
 use Rattle.conv_code.specs.Cost.{word_cost}
 use Rattle.tailbite.specs.Clean.{SpeaksFor, Speaks}
 use Rattle.grid_map.specs.declared.Place.{Place}
@@ -18,9 +19,10 @@ use Rattle.grid_map.proofs.Points.{places_inside}
 use Rattle.soft_bits.specs.Soft.{SeenSlot, soft_values}
 use Rattle.pbch.specs.Values.{seen_value, value, frame_values, coded_values}
 use Rattle.pbch.specs.Master.{total}
+use Rattle.cell_tx.specs.Block.{scrambled_bit}
 use Rattle.clean_air.specs.Values.{Supports, SupportBoth}
 use Rattle.clean_air.specs.Words.{SpeakInOrder}
-use Rattle.clean_air.specs.Broadcast.{broadcast_bit, SpeaksOfWord, SentWordIsOnly, SentWordIsTold, ReceivedSlotSpeaks}
+use Rattle.clean_air.specs.Broadcast.{SpeaksOfWord, SentWordIsOnly, SentWordIsTold, ReceivedSlotSpeaks}
 use Rattle.clean_air.proofs.SoftValues.{received_values_support_bits}
 use Rattle.clean_air.proofs.SpokenWords.{descrambling_keeps, summed-length, sums_speak, spoken_word_is_only}
 
@@ -133,7 +135,7 @@ received_slot_speaks recording starts grids slot phase word received carries = r
   size = carries.size;
   value = λ i l. let inside : i / 2 < 240 = omega (arith, l) in
       let place = in_slot slot.identity (i / 2) inside in
-      one_value slot i (λ n. broadcast_bit slot.identity word (480 * phase + n))
+      one_value slot i (λ n. scrambled_bit slot.identity word (480 * phase + n))
       (received_values_support_bits recording starts grids slot ((pbch_place slot.identity (i / 2)).symbol - 7) (pbch_place slot.identity (i / 2)).k
-      (broadcast_bit slot.identity word (480 * phase + 2 * (i / 2))) (broadcast_bit slot.identity word (480 * phase + (2 * (i / 2) + 1))) received place.symbol place.k (carries.amplitude (i / 2) inside));
+      (scrambled_bit slot.identity word (480 * phase + 2 * (i / 2))) (scrambled_bit slot.identity word (480 * phase + (2 * (i / 2) + 1))) received place.symbol place.k (carries.amplitude (i / 2) inside));
 }

@@ -4,9 +4,9 @@ use Rattle.std.proofs.lemmas.Bool.{cases_lt}
 use Rattle.finite.proofs.Sums.{total_below-within}
 use Rattle.cs_num.specs.declared.Cpx.{Cpx}
 use Rattle.cs_num.specs.declared.Sample.{Sample}
-use Rattle.cs_num.specs.Complex.{plus, times, square, sample_at}
+use Rattle.cs_num.specs.Complex.{plus, times, square, sample_at, minus}
 use Rattle.cs_num.proofs.Complex.{plus-commutes, square-within}
-use Rattle.sizes.specs.Sizes.{minus, energy_below, correlation_below}
+use Rattle.sizes.specs.Sizes.{energy_below, correlation_below}
 use Rattle.sizes.proofs.Algebra.{plus-minus}
 use Rattle.sizes.proofs.Squares.{square-conjugate}
 use Rattle.sizes.proofs.Cauchy.{energy_same, energy_split, energy_part, correlation_same, correlation_split, correlation_swap}

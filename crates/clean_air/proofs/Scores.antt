@@ -9,11 +9,12 @@ use Rattle.finite.proofs.Tests.{every_below_at}
 use Rattle.finite.proofs.Lists.{values_below_same}
 use Rattle.finite.proofs.Ring.{var, lit, same}
 use Rattle.finite.proofs.Ring as ring
+use Rattle.finite.proofs.Integers.{lt-le, lt-not_le}
 use Rattle.cs_num.specs.declared.Cpx.{Cpx}
-use Rattle.cs_num.specs.Complex.{IsWithin, nothing, times, conjugate, square}
+use Rattle.cs_num.specs.Complex.{IsWithin, nothing, times, conjugate, square, minus, multiple}
 use Rattle.lte_types.specs.declared.frame.Half.{Half}
 use Rattle.lte_types.specs.declared.frame.Half.TheVariants.{Zero, Five}
-use Rattle.sizes.specs.Sizes.{IsSized, minus, multiple}
+use Rattle.sizes.specs.Sizes.{IsSized}
 use Rattle.sizes.proofs.Squares.{square-multiple, square-conjugate}
 use Rattle.sizes.proofs.Sized.{sized_plain, sized-times}
 use Rattle.sizes.proofs.Products.{product_near, sign-turns}
@@ -177,18 +178,12 @@ not_before_itself : (n : ℕ) (half : Half) → IsBefore n half n half → ⊥
 not_before_itself n Zero h = omega (arith, h)
 not_before_itself n Five h = omega (arith, h)
 
-weaker : (a b : ℤ) → a <ℤ b → a ≤ℤ b
-weaker a b h = omega (arith, ints)
-
-never : (a b : ℤ) → a <ℤ b → b ≤ℤ a → ⊥
-never a b h k = absurd (omega (arith, ints))
-
 is_best : (gain : Cpx) (n1 n2 : ℕ) (half : Half) (pss_seen sss_seen : ℕ → Cpx) → AreSeen gain n1 n2 half pss_seen sss_seen → IsBest (score pss_seen sss_seen n2) n1 half
 is_best gain n1 n2 half pss_seen sss_seen seen = record {
   known = seen.group;
   greatest = λ m other l. elim (less_or_not (points n1 half) (points m other)) [
-    | inl more ↦ absurd (let same = told m other l (weaker (points n1 half) (points m other) more) in
-        never (points n1 half) (points m other) more (subst (λ (k : ℕ). points m other ≤ℤ points k half) same.0 (subst (λ (h : Half). points m other ≤ℤ points m h) same.1 (itself (points m other)))))
+    | inl more ↦ absurd (let same = told m other l (lt-le (points n1 half) (points m other) more) in
+        lt-not_le (points n1 half) (points m other) more (subst (λ (k : ℕ). points m other ≤ℤ points k half) same.0 (subst (λ (h : Half). points m other ≤ℤ points m h) same.1 (itself (points m other)))))
     | inr no_more ↦ no_more
   ];
   first = λ m other l before. elim (less_or_not (points m other) (points n1 half)) [

@@ -1,9 +1,9 @@
 -- What is seen of an amplitude, from the four causes: sizes in units of 2^31 times the gain.
 use Rattle.std.proofs.Common.{◌≡◌, ℕ, ◌+◌, ◌*◌, ◌^◌, ◌≤◌, arith, ap, sym, ◌∙◌, subst, mul-le-mul_left}
 use Rattle.cs_num.specs.declared.Cpx.{Cpx}
-use Rattle.cs_num.specs.Complex.{IsWithin, nothing, plus, times, square}
+use Rattle.cs_num.specs.Complex.{IsWithin, nothing, plus, times, square, minus, multiple}
 use Rattle.cs_num.proofs.Complex.{times-commutes}
-use Rattle.sizes.specs.Sizes.{IsSized, minus, multiple}
+use Rattle.sizes.specs.Sizes.{IsSized}
 use Rattle.sizes.proofs.Algebra.{times-nothing, plus-nothing_right}
 use Rattle.sizes.proofs.Squares.{square-times, square-multiple}
 use Rattle.sizes.proofs.TwoTerms.{two_term_cauchy}

@@ -8,12 +8,12 @@ use Rattle.std.proofs.lemmas.List.{take_all, length-append, length-replicate}
 use Rattle.std.proofs.lemmas.Bool.Decides.{nat_tests}
 use Rattle.finite.proofs.Lists.{values_below_at, values_below-length}
 use Rattle.cs_bits.specs.Polynomial.{number, xor_onto, divide, remainder, generator_16, crc16_of}
+use Rattle.cs_bits.proofs.Numbers.{number_below, number_more}
 use Rattle.lte_types.specs.declared.duration.Duration.{Duration}
 use Rattle.lte_types.specs.declared.duration.Duration.TheVariants.{Normal, Extended}
 use Rattle.lte_types.specs.declared.resource.Resource.{Resource}
 use Rattle.lte_types.specs.declared.resource.Resource.TheVariants.{OneSixth, Half, One, Two}
 use Rattle.pbch.specs.Master.{field, duration, resource, PassesWith}
-use Rattle.cs_bits.proofs.Numbers.{number_below, number_more}
 use Rattle.cell_tx.specs.declared.cell.CellPlan.{CellPlan}
 use Rattle.cell_tx.specs.Block.{bit_of, bits_of, duration_code, resource_code, block_bits, broadcast_word}
 

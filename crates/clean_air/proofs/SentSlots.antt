@@ -13,13 +13,13 @@ use Rattle.grid_map.specs.Place.{place}
 use Rattle.grid_map.specs.Broadcast.{pbch_place, is_pbch, pbch_index}
 use Rattle.grid_map.proofs.Points.{places_inside, index_of_place}
 use Rattle.cell_tx.specs.declared.cell.CellPlan.{CellPlan}
-use Rattle.cell_tx.specs.Block.{broadcast_word, matched_bit, broadcast_bit, broadcast_point}
+use Rattle.cell_tx.specs.Block.{broadcast_word, broadcast_bit, broadcast_point}
 use Rattle.cell_tx.specs.Grid.{element}
 use Rattle.cell_tx.specs.Clean.{IsClean, start_of, number_at_start}
 use Rattle.cell_tx.specs.Rows.{reference_if}
 use Rattle.cell_tx.proofs.Bounds.{element-square}
 use Rattle.cell_tx.proofs.Elements.{element_of_broadcast, broadcast_found}
-use Rattle.explain.specs.Frame.{frame_at, useful_at, seen_slot, broadcast_slot}
+use Rattle.explain.specs.Frame.{frame_at, useful_start, seen_slot, broadcast_slot}
 use Rattle.clean_air.specs.Received.{IsReceived, samples_from}
 use Rattle.clean_air.specs.Values.{IsSlotReceived}
 use Rattle.clean_air.specs.Broadcast.{CarriesWord}
@@ -94,13 +94,13 @@ points_stand plan number i inside =
 
 pub carries_word : (plan : CellPlan) (number : ℕ) → length (broadcast_word plan number) ≡ 40 →
     CarriesWord (slot_grid plan number) plan.identity (number % 4) (broadcast_word plan number)
-unfolding broadcast_point broadcast_bit matched_bit
+unfolding broadcast_point broadcast_bit
 carries_word plan number size = record { size = size; amplitude = λ i inside. points_stand plan number i inside }
 
 -- ---- the slot
 
 pub slot_received : (recording : List Sample) (plan : CellPlan) (sfn offset : ℕ) (gain : Cpx) (eps : ℕ) → IsClean recording plan sfn offset gain eps → 57600 ≤ length recording →
-    IsSlotReceived recording (useful_at (frame_at (start_of offset) 0) 1) (slot_grid plan (number_at_start sfn offset)) (broadcast_slot recording plan.identity (start_of offset) 0)
+    IsSlotReceived recording (useful_start (frame_at (start_of offset) 0) 1) (slot_grid plan (number_at_start sfn offset)) (broadcast_slot recording plan.identity (start_of offset) 0)
 unfolding seen_slot
 slot_received recording plan sfn offset gain eps clean long =
     let j : ℕ = if nat_eq offset 0 then 0 else 1 in
@@ -108,9 +108,9 @@ slot_received recording plan sfn offset gain eps clean long =
     record {
       eps = eps;
       gain = gain;
-      seen = λ l inside. values_below_at (λ symbol. seen_symbol recording (useful_at (frame_at (start_of offset) 0) 1 symbol)) 7 l [] inside;
+      seen = λ l inside. values_below_at (λ symbol. seen_symbol recording (useful_start (frame_at (start_of offset) 0) 1 symbol)) 7 l [] inside;
       amplitudes = λ l inside k within. element-square plan (number_at_start sfn offset) 0 (7 + l) k;
-      received = λ l inside. subst (λ n. IsReceived eps gain (slot_grid plan n l) (samples_from recording (useful_at (frame_at (start_of offset) 0) 1 l))) first.number
-          (received_at recording plan sfn offset gain eps (useful_at (frame_at (start_of offset) 0) 1 l) j 1 l clean (omega arith) inside (omega (arith, long, inside)) (omega (arith, first.place)));
+      received = λ l inside. subst (λ n. IsReceived eps gain (slot_grid plan n l) (samples_from recording (useful_start (frame_at (start_of offset) 0) 1 l))) first.number
+          (received_at recording plan sfn offset gain eps (useful_start (frame_at (start_of offset) 0) 1 l) j 1 l clean (omega arith) inside (omega (arith, long, inside)) (omega (arith, first.place)));
       references = λ i inside. references_stand plan (number_at_start sfn offset) i;
     }

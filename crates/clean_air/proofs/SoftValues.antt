@@ -6,19 +6,17 @@ use Rattle.std.proofs.lemmas.Bool.{cases_lt}
 use Rattle.std.proofs.lemmas.Bool.Decides.{nat_tests}
 use Rattle.std.proofs.Math.Nat.{div-lt_iff_lt-mul}
 use Rattle.finite.specs.Sums.{total_below}
-use Rattle.finite.proofs.Sums.{total_below-within}
+use Rattle.finite.proofs.Sums.{total_below-within, total_some}
 use Rattle.finite.proofs.Lists.{values_below_at}
 use Rattle.finite.proofs.Ring.{var, lit, same}
 use Rattle.finite.proofs.Ring as ring
 use Rattle.cs_num.specs.declared.Cpx.{Cpx}
 use Rattle.cs_num.specs.declared.Sample.{Sample}
-use Rattle.cs_num.specs.Complex.{IsWithin, nothing, plus, times, conjugate, square, value_at}
+use Rattle.cs_num.specs.Complex.{IsWithin, nothing, plus, times, conjugate, square, value_at, minus, multiple}
 use Rattle.cs_num.specs.Rounding.{clamped}
-use Rattle.sizes.specs.Sizes.{minus, multiple}
 use Rattle.sizes.proofs.Squares.{square-times, square-multiple}
 use Rattle.sizes.proofs.TwoTerms.{weighted, weighted_term}
-use Rattle.sizes.proofs.Sums.{total_some}
-use Rattle.sizes.proofs.Products.{product_near, sign-turns}
+use Rattle.sizes.proofs.Products.{product_near, sign-turns, one-times}
 use Rattle.crs.specs.Reference.{component, is_reference}
 use Rattle.observe.specs.Seen.{seen, seen_symbol}
 use Rattle.soft_bits.specs.Soft.{SeenSlot, seen_at, pilot_symbol, pilot_subcarrier, pilot_seen, pilot_sent, pilot_energy, channel, turned_back, soft_value, soft_values}
@@ -129,10 +127,7 @@ value_is : (c : ℤ) (q : ℕ) → 1 ≤ q → soft_value c q ≡ clamped (int_d
 value_is c q some = let e : nat_eq q 0 ≡ false = grind (arith, nat_tests) in rw e refl
 
 supports : (bit : Bool) (c : ℤ) (q : ℕ) → 1 ≤ q → pos (8 * q) ≤ℤ (pos 6 *ℤ (sign bit *ℤ c)) → Supports 8 bit (soft_value c q)
-supports false c q some h = subst (λ v. pos 8 ≤ℤ v) (sym (value_is c q some)) (clamped_high (pos 6 *ℤ c) q some (subst (λ v. pos (8 * q) ≤ℤ (pos 6 *ℤ v)) (plain c) h))
-  where
-    plain : (c : ℤ) → pos 1 *ℤ c ≡ c
-    plain c = same (ring.times (lit 1) (var c)) (var c) (omega arith)
+supports false c q some h = subst (λ v. pos 8 ≤ℤ v) (sym (value_is c q some)) (clamped_high (pos 6 *ℤ c) q some (subst (λ v. pos (8 * q) ≤ℤ (pos 6 *ℤ v)) (one-times c) h))
 supports true c q some h = subst (λ v. v ≤ℤ neg_ℤ (pos 8)) (sym (value_is c q some)) (clamped_low (pos 6 *ℤ c) q some (turned (pos 6 *ℤ c) (8 * q) (subst (λ v. pos (8 * q) ≤ℤ v) (opposite c) h)))
   where
     opposite : (c : ℤ) → pos 6 *ℤ (negsuc 0 *ℤ c) ≡ neg_ℤ (pos 6 *ℤ c)

@@ -6,15 +6,16 @@ use Rattle.std.proofs.lemmas.Bool.{cases_lt, and_parts, eqb-true, eq-eqb}
 use Rattle.finite.specs.Sums.{sum_below, total_below}
 use Rattle.finite.specs.Lists.{values_below}
 use Rattle.finite.proofs.Lists.{values_below_at, values_below_same, values_below-length}
-use Rattle.sizes.proofs.Sums.{total_zero, terms_zero}
+use Rattle.finite.proofs.Sums.{total_zero, terms_zero}
 use Rattle.paths.specs.Words.{IsBefore}
 use Rattle.paths.proofs.Words.{number-before}
-use Rattle.conv_code.specs.Code.{coded, coded_bits, coded_word, taps_0, taps_1, taps_2}
+use Rattle.conv_code.specs.Code.{coded_bits, coded_word}
 use Rattle.conv_code.specs.Reading.{Place, bit_at_place, place_of, is_at, summed_at, summed}
-use Rattle.conv_code.specs.Cost.{disagreement, place_cost, word_cost}
+use Rattle.conv_code.specs.Cost.{place_cost, word_cost}
 use Rattle.conv_code.proofs.OneToOne.{one_to_one}
 use Rattle.conv_code.proofs.Places.{permuting}
 use Rattle.tailbite.specs.Clean.{SpeaksFor, Speaks}
+use Rattle.tailbite.proofs.Only.{free_place, same_place}
 use Rattle.clean_air.specs.Values.{Supports}
 use Rattle.clean_air.specs.Words.{FourSpeakTogether, DescramblingKeeps, SpeakInOrder, SumsSpeak, SpokenWordIsOnly}
 
@@ -146,35 +147,6 @@ sums_speak word values long short speak = record {
         (subst (λ b. Supports 1 b (summed_at (length word) values (length values) k t)) (at_place word k t inside) (sum_at_supports word values k t long short speak inside stream)))
 
 -- ---- the word
-
--- a word's coded bits cost nothing where the values speak for them
-free_place : (values : List (List ℤ)) (word : List Bool) → Speaks values word → (k : ℕ) → k < length values → place_cost values word k ≡ 0
-free_place values word speaks k below =
-    let here = speaks.place k below in
-    let a = here.first.free in
-    let b = here.second.free in
-    let c = here.third.free in
-    omega (arith, a, b, c)
-
-agree : (z : ℤ) (a b : Bool) → SpeaksFor z b → disagreement z a ≡ 0 → a ≡ b
-agree z false false s h = refl
-agree z false true s h = let d = s.dear in absurd (omega (arith, d, h))
-agree z true false s h = let d = s.dear in absurd (omega (arith, d, h))
-agree z true true s h = refl
-
-three_zeros : (a b c : ℕ) → a + b + c ≡ 0 → (a ≡ 0) × (b ≡ 0) × (c ≡ 0)
-three_zeros a b c e = (omega (arith, e), omega (arith, e), omega (arith, e))
-
--- a word that costs nothing at a place has the coded bits there
-same_place : (values : List (List ℤ)) (other word : List Bool) → Speaks values word → (k : ℕ) → k < length values → place_cost values other k ≡ 0 → coded_bits other k ≡ coded_bits word k
-same_place values other word speaks k below h =
-    let here = speaks.place k below in
-    let v : List ℤ = get_or values k [] in
-    let zeros = three_zeros (disagreement (get_or v 0 (pos 0)) (coded taps_0 other k)) (disagreement (get_or v 1 (pos 0)) (coded taps_1 other k)) (disagreement (get_or v 2 (pos 0)) (coded taps_2 other k)) h in
-    let a = agree _ _ _ here.first zeros.0 in
-    let b = agree _ _ _ here.second zeros.1 in
-    let c = agree _ _ _ here.third zeros.2 in
-    rw (a, b, c) refl
 
 -- a word that costs nothing is the one that the values speak for
 only_free : (values : List (List ℤ)) (other word : List Bool) → 6 ≤ length values → length word ≡ length values → length other ≡ length values → Speaks values word →

@@ -11,6 +11,15 @@ use Rattle.fold128.specs.Symbol.{useful_at}
 use Rattle.sync_seq.specs.Primary.{pss_at}
 use Rattle.pss_search.specs.Correlation.{wave}
 
+-- sample n of a root's signal is that of a table
+unfoldable is_sample : ℕ → (ℕ → Cpx) → ℕ → Bool
+is_sample n2 samples n = is_same (wave n2 n) (samples n)
+
+-- the tests of all 128 places tell that the table holds the signal
+samples_tell : (n2 : ℕ) (samples : ℕ → Cpx) → every_below 128 (is_sample n2 samples) ≡ true → (n : ℕ) → n < 128 → wave n2 n ≡ samples n
+unfolding is_sample
+samples_tell n2 samples all n l = is_same_tells _ _ (every_below_at 128 (is_sample n2 samples) all n l)
+
 unfoldable pub re_25 : List ℤ
 re_25 =
     pos 104 ∷ pos 27 ∷ negsuc 98 ∷ negsuc 111 ∷ negsuc 2 ∷ pos 101 ∷ pos 111 ∷ pos 49 ∷ negsuc 28 ∷ negsuc 88 ∷
@@ -45,16 +54,12 @@ im_25 =
 unfoldable pub samples_25 : ℕ → Cpx
 samples_25 n = record { re = get_or re_25 n (pos 0); im = get_or im_25 n (pos 0) }
 
-same_25 : ℕ → Bool
-same_25 n = is_same (wave 0 n) (samples_25 n)
-
-all_25 : every_below 128 same_25 ≡ true
-unfolding re_25 im_25 samples_25 same_25 quarter cosine w_at z_real z_imaginary z_at pss_at useful_at wave sum_below every_below
+all_25 : every_below 128 (is_sample 0 samples_25) ≡ true
+unfolding re_25 im_25 samples_25 is_sample quarter cosine w_at z_real z_imaginary z_at pss_at useful_at wave sum_below every_below
 all_25 = refl
 
 pub wave_25 : (n : ℕ) → n < 128 → wave 0 n ≡ samples_25 n
-unfolding same_25
-wave_25 n l = is_same_tells _ _ (every_below_at 128 same_25 all_25 n l)
+wave_25 = samples_tell 0 samples_25 all_25
 
 unfoldable pub re_29 : List ℤ
 re_29 =
@@ -91,16 +96,12 @@ im_29 =
 unfoldable pub samples_29 : ℕ → Cpx
 samples_29 n = record { re = get_or re_29 n (pos 0); im = get_or im_29 n (pos 0) }
 
-same_29 : ℕ → Bool
-same_29 n = is_same (wave 1 n) (samples_29 n)
-
-all_29 : every_below 128 same_29 ≡ true
-unfolding re_29 im_29 samples_29 same_29 quarter cosine w_at z_real z_imaginary z_at pss_at useful_at wave sum_below every_below
+all_29 : every_below 128 (is_sample 1 samples_29) ≡ true
+unfolding re_29 im_29 samples_29 is_sample quarter cosine w_at z_real z_imaginary z_at pss_at useful_at wave sum_below every_below
 all_29 = refl
 
 pub wave_29 : (n : ℕ) → n < 128 → wave 1 n ≡ samples_29 n
-unfolding same_29
-wave_29 n l = is_same_tells _ _ (every_below_at 128 same_29 all_29 n l)
+wave_29 = samples_tell 1 samples_29 all_29
 
 unfoldable pub re_34 : List ℤ
 re_34 =
@@ -137,13 +138,9 @@ im_34 =
 unfoldable pub samples_34 : ℕ → Cpx
 samples_34 n = record { re = get_or re_34 n (pos 0); im = get_or im_34 n (pos 0) }
 
-same_34 : ℕ → Bool
-same_34 n = is_same (wave 2 n) (samples_34 n)
-
-all_34 : every_below 128 same_34 ≡ true
-unfolding re_34 im_34 samples_34 same_34 quarter cosine w_at z_real z_imaginary z_at pss_at useful_at wave sum_below every_below
+all_34 : every_below 128 (is_sample 2 samples_34) ≡ true
+unfolding re_34 im_34 samples_34 is_sample quarter cosine w_at z_real z_imaginary z_at pss_at useful_at wave sum_below every_below
 all_34 = refl
 
 pub wave_34 : (n : ℕ) → n < 128 → wave 2 n ≡ samples_34 n
-unfolding same_34
-wave_34 n l = is_same_tells _ _ (every_below_at 128 same_34 all_34 n l)
+wave_34 = samples_tell 2 samples_34 all_34

@@ -1,8 +1,8 @@
 -- A window of 128 samples that is a gain times a known signal with errors, and a window beside it.
 use Rattle.std.proofs.Common.{◌≡◌, ℕ, ◌+◌, ◌*◌, ◌<◌, ◌≤◌, arith, ap, mul-le-mul, mul-le-mul_left, mul-le-mul_right, mul-pos}
 use Rattle.cs_num.specs.declared.Cpx.{Cpx}
-use Rattle.cs_num.specs.Complex.{plus, times, square}
-use Rattle.sizes.specs.Sizes.{multiple, energy_below, correlation_below}
+use Rattle.cs_num.specs.Complex.{plus, times, square, multiple}
+use Rattle.sizes.specs.Sizes.{energy_below, correlation_below}
 use Rattle.sizes.proofs.Algebra.{multiple-plus}
 use Rattle.sizes.proofs.Squares.{square-times, square-multiple}
 use Rattle.sizes.proofs.TwoTerms.{two_term_cauchy, weighted}

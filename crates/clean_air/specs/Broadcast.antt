@@ -2,25 +2,18 @@
 use Rattle.std.specs.Prelude.{◌≡◌, ℕ, ◌+◌, ◌-◌, ◌*◌, ◌<◌, ◌≤◌, Bool, List, length}
 use Rattle.cs_num.specs.declared.Cpx.{Cpx}
 use Rattle.cs_num.specs.declared.Sample.{Sample}
-use Rattle.gold.specs.Sequence.{xor}
-use Rattle.gold.specs.Gold.{gold_bit}
-use Rattle.conv_code.specs.Code.{coded_word}
-use Rattle.conv_code.specs.Reading.{bit_at_place, place_of}
 use Rattle.grid_map.specs.Broadcast.{pbch_place}
 use Rattle.soft_bits.specs.Soft.{SeenSlot}
 use Rattle.pbch.specs.Values.{seen_value, coded_values}
 use Rattle.pbch.specs.Master.{field, PassesWith, Tells}
+use Rattle.cell_tx.specs.Block.{scrambled_bit}
 use Rattle.clean_air.specs.Values.{Supports, IsSlotReceived, point}
 use Rattle.clean_air.specs.Words.{IsOnlyWord}
-
--- bit n of a cell's broadcast channel: of the coded word, which is read again and again, scrambled
-abbrev pub broadcast_bit : ℕ → List Bool → ℕ → Bool
-broadcast_bit identity word n = xor (bit_at_place (coded_word word) (place_of 40 n)) (gold_bit identity n)
 
 -- each of the 480 soft values of a slot speaks for the bit of this word of 40 bits that a frame of this phase carries there
 pub record SpeaksOfWord (slot : SeenSlot) (phase : ℕ) (word : List Bool) : Type 0 where
   pub size : length word ≡ 40
-  pub value : (i : ℕ) → i < 480 → Supports 1 (broadcast_bit slot.identity word (480 * phase + i)) (seen_value slot i)
+  pub value : (i : ℕ) → i < 480 → Supports 1 (scrambled_bit slot.identity word (480 * phase + i)) (seen_value slot i)
 
 -- then the slot's values tell the word and no other
 abbrev pub SentWordIsOnly : Type 0
@@ -35,7 +28,7 @@ SentWordIsTold =
 pub record CarriesWord (grids : ℕ → ℕ → Cpx) (identity phase : ℕ) (word : List Bool) : Type 0 where
   pub size : length word ≡ 40
   pub amplitude : (i : ℕ) → i < 240 → grids ((pbch_place identity i).symbol - 7) (pbch_place identity i).k
-      ≡ point (broadcast_bit identity word (480 * phase + 2 * i)) (broadcast_bit identity word (480 * phase + (2 * i + 1)))
+      ≡ point (scrambled_bit identity word (480 * phase + 2 * i)) (scrambled_bit identity word (480 * phase + (2 * i + 1)))
 
 -- in a recording: a slot that is received and carries a word speaks of it
 abbrev pub ReceivedSlotSpeaks : Type 0

@@ -2,9 +2,8 @@
 use Rattle.std.specs.Prelude.{◌≡◌, ℕ, ◌*◌, ◌^◌, ◌<◌, ◌≤◌, List}
 use Rattle.cs_num.specs.declared.Cpx.{Cpx}
 use Rattle.cs_num.specs.declared.Sample.{Sample}
-use Rattle.cs_num.specs.Complex.{plus, times, square}
+use Rattle.cs_num.specs.Complex.{plus, times, square, minus, multiple}
 use Rattle.cs_num.specs.Rounding.{rounded}
-use Rattle.sizes.specs.Sizes.{minus, multiple}
 use Rattle.fold128.specs.Symbol.{useful_at}
 use Rattle.fold128.specs.Spectrum.{spectrum_at}
 use Rattle.observe.specs.Seen.{seen}

@@ -3,8 +3,7 @@
 use Rattle.std.specs.Prelude.{ℕ, ◌+◌, ◌*◌, ◌<◌, ◌≤◌, List}
 use Rattle.cs_num.specs.declared.Cpx.{Cpx}
 use Rattle.cs_num.specs.declared.Sample.{Sample}
-use Rattle.cs_num.specs.Complex.{IsWithin, plus, times, square, sample_at}
-use Rattle.sizes.specs.Sizes.{minus, multiple}
+use Rattle.cs_num.specs.Complex.{IsWithin, plus, times, square, sample_at, minus, multiple}
 use Rattle.fold128.specs.Symbol.{useful_at}
 
 -- the amplitudes of a grid have size at most 128

@@ -1,7 +1,6 @@
 -- The table W is nearly multiplicative, although its entries are rounded. (own)
 use Rattle.std.specs.Prelude.{ℕ, ◌+◌, ◌*◌, ◌≤◌}
-use Rattle.cs_num.specs.Complex.{times, square}
-use Rattle.sizes.specs.Sizes.{minus, multiple}
+use Rattle.cs_num.specs.Complex.{times, square, minus, multiple}
 use Rattle.fold128.specs.Tables.{w_at}
 
 -- the product of two entries is 16384 times the entry of the sum, up to a number of size 34800

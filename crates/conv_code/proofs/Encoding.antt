@@ -1,28 +1,11 @@
 -- The coded bits, one tap after another.
-use Rattle.std.proofs.Common.{◌≡◌, ℕ, ◌+◌, ◌<◌, ◌≤◌, Bool, true, false, not, List, [], length, map, get_or, drop, suc, refl, ap, sym, ◌∙◌, arith, drop_of_length-le}
+use Rattle.std.proofs.Common.{◌≡◌, ℕ, ◌+◌, ◌<◌, ◌≤◌, Bool, false, not, List, [], length, map, get_or, drop, suc, refl, ap, sym, ◌∙◌, arith, drop_of_length-le}
 use Rattle.std.specs.Bool.{beq}
 use Rattle.std.proofs.Math.Seq.{drop-cons}
-use Rattle.conv_code.specs.Code.{parity, coded_bits, coded_word}
+use Rattle.finite.proofs.Lists.{values_below_is}
 use Rattle.cs_bits.specs.Polynomial.{xor}
-use Rattle.conv_code.proofs.Lists.{values_below_is}
-
-xor_assoc : (a b c : Bool) → xor (xor a b) c ≡ xor a (xor b c)
-xor_assoc true true true = refl
-xor_assoc true true false = refl
-xor_assoc true false true = refl
-xor_assoc true false false = refl
-xor_assoc false b c = refl
-
--- the code's `^`
-ne_xor : (a b : Bool) → not (beq a b) ≡ xor a b
-ne_xor false false = refl
-ne_xor false true = refl
-ne_xor true false = refl
-ne_xor true true = refl
-
-xor-false : (a : Bool) → xor a false ≡ a
-xor-false true = refl
-xor-false false = refl
+use Rattle.cs_bits.proofs.Xor.{xor-false, xor_assoc, ne_xor}
+use Rattle.conv_code.specs.Code.{parity, coded_bits, coded_word}
 
 -- what the loop over the taps keeps, after i of them
 pub record IsPartSum (f : ℕ → Bool) (taps : List ℕ) (i : ℕ) (sum : Bool) : Type 0 where

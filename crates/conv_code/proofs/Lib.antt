@@ -1,4 +1,3 @@
-pub mod Lists
 pub mod Encoding
 pub mod Orders
 pub mod Places

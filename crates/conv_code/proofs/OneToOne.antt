@@ -3,8 +3,9 @@ use Rattle.std.proofs.Common.{◌≡◌, ℕ, zero, suc, ◌+◌, ◌-◌, ◌%�
 use Rattle.std.proofs.lemmas.List.{ext_get_or}
 use Rattle.std.proofs.Math.Nat.{mod-eq_of_lt, add-mod_right, mod-lt}
 use Rattle.finite.proofs.Lists.{values_below_at}
-use Rattle.conv_code.specs.Code.{parity, bit_back, taps_0, taps_1, taps_2, coded, coded_bits, coded_word}
 use Rattle.cs_bits.specs.Polynomial.{xor}
+use Rattle.cs_bits.proofs.Xor.{xor-false, xor_assoc}
+use Rattle.conv_code.specs.Code.{parity, bit_back, taps_0, taps_1, taps_2, coded, coded_bits, coded_word}
 use Rattle.conv_code.specs.Laws.{IsOneToOne}
 
 -- ---- the sum modulo 2
@@ -15,15 +16,8 @@ x_comm true false = refl
 x_comm false true = refl
 x_comm false false = refl
 
-x_assoc : (a b c : Bool) → xor (xor a b) c ≡ xor a (xor b c)
-x_assoc true true true = refl
-x_assoc true true false = refl
-x_assoc true false true = refl
-x_assoc true false false = refl
-x_assoc false b c = refl
-
 x_left : (a b c : Bool) → xor a (xor b c) ≡ xor b (xor a c)
-x_left a b c = sym (x_assoc a b c) ∙ ap (λ d. xor d c) (x_comm a b) ∙ x_assoc b a c
+x_left a b c = sym (xor_assoc a b c) ∙ ap (λ d. xor d c) (x_comm a b) ∙ xor_assoc b a c
 
 x_self : (a : Bool) → xor a a ≡ false
 x_self true = refl
@@ -34,10 +28,6 @@ x_again true true = refl
 x_again true false = refl
 x_again false b = refl
 
-x_none : (a : Bool) → xor a false ≡ a
-x_none true = refl
-x_none false = refl
-
 -- with D one step back, (1 + D) times the first taps and the second taps and (1 + D) times the third taps add up to 1
 pub five : (f : ℕ → Bool) →
     xor (parity (map f taps_0)) (xor (parity (map (λ t. f (suc t)) taps_0)) (xor (parity (map f taps_1)) (xor (parity (map f taps_2)) (parity (map (λ t. f (suc t)) taps_2))))) ≡ f 0
@@ -45,7 +35,7 @@ five f = eight (f 0) (f 1) (f 2) (f 3) (f 4) (f 5) (f 6) (f 7)
   where
     eight : (a b c d e g h i : Bool) →
         xor (parity (a ∷ c ∷ d ∷ g ∷ h ∷ [])) (xor (parity (b ∷ d ∷ e ∷ h ∷ i ∷ [])) (xor (parity (a ∷ b ∷ c ∷ d ∷ h ∷ [])) (xor (parity (a ∷ b ∷ c ∷ e ∷ h ∷ [])) (parity (b ∷ c ∷ d ∷ g ∷ i ∷ []))))) ≡ a
-    eight a b c d e g h i = simp (x_assoc, x_none, x_comm, x_left, x_self, x_again)
+    eight a b c d e g h i = simp (xor_assoc, xor-false, x_comm, x_left, x_self, x_again)
 
 -- ---- places, cyclically
 

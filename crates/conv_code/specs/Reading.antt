@@ -1,5 +1,5 @@
 -- The order in which a coded word is sent, and the sums of what was received (TS 36.212 section 5.1.4.2).
-use Rattle.std.specs.Prelude.{ℕ, ◌+◌, ◌-◌, ◌*◌, ◌/◌, ◌%◌, Bool, false, ◌&&◌, cond, nat_eq, nat_le, List, [], ◌∷◌, ◌++◌, length, map, filter, slice_index_or, slice_set, ℤ, pos, ◌+ℤ◌}
+use Rattle.std.specs.Prelude.{ℕ, ◌+◌, ◌-◌, ◌*◌, ◌/◌, ◌%◌, Bool, false, ◌&&◌, cond, nat_eq, nat_le, List, [], ◌∷◌, ◌++◌, length, map, filter, slice_index_or, ℤ, pos}
 use Rattle.std.specs.List.{flat_map}
 use Rattle.finite.specs.Lists.{values_below}
 use Rattle.finite.specs.Sums.{sum_below}
@@ -62,11 +62,3 @@ summed_at n values m k t = sum_below m (λ i. cond (is_at (place_of n i) k t) (s
 -- for each of n places and three streams, the sum of the values that the reading maps to it
 unfoldable pub summed : ℕ → List ℤ → List (List ℤ)
 summed n values = values_below n (λ k. values_below 3 (summed_at n values (length values) k))
-
--- the sum at place k of stream t
-abbrev pub sum_at : List (List ℤ) → ℕ → ℕ → ℤ
-sum_at sums k t = slice_index_or (slice_index_or sums k []) t (pos 0)
-
--- the sums with a value added at place k of stream t
-abbrev pub sums_with : List (List ℤ) → ℕ → ℕ → ℤ → List (List ℤ)
-sums_with sums k t v = slice_set sums k (slice_set (slice_index_or sums k []) t (sum_at sums k t +ℤ v))

@@ -1,5 +1,6 @@
 ghost use Rattle.std.specs.Prelude.{◌≡◌, ◌+◌, ◌*◌, ◌^◌, ◌<◌, ◌≤◌, length, nat_abs, slice_index_or};
-ghost use Rattle.conv_code.specs.Reading.{bit_at_place, cells, place_of, stream_order, sum_at, summed, sums_with};
+ghost use Rattle.finite.specs.Tables.{sum_at, sums_with};
+ghost use Rattle.conv_code.specs.Reading.{bit_at_place, cells, place_of, stream_order, summed};
 
 /// A bit of a coded word: its place in the stream with this number.
 #[derive(Clone, Copy, Drop)]

@@ -18,7 +18,7 @@ value_by-gold_bits identity slot symbol m few =
     let im : get_or (gold_bits c 232) (2 * (m + 104) + 1) false ≡ gold_bit c (2 * (m + 104) + 1) = get_or-gold_bits c 232 (2 * (m + 104) + 1) false (omega arith) in
     rw (re, im)
 
-component-IsFull : (bit : Bool) → IsFull (component bit)
+pub component-IsFull : (bit : Bool) → IsFull (component bit)
 component-IsFull false = inl refl
 component-IsFull true = inr refl
 

@@ -6,6 +6,7 @@ use Rattle.std.proofs.lemmas.Bool.Decides.{nat_tests}
 use Rattle.std.proofs.lemmas.Nat.{mod-mul-add}
 use Rattle.cs_bits.specs.Polynomial.{xor, xor_onto, divide, remainder, number}
 use Rattle.cs_bits.specs.Register.{next}
+use Rattle.cs_bits.proofs.Xor.{xor-false, xor_assoc}
 
 -- the low w bits, the highest first
 unfoldable pub bits_of : ℕ → ℕ → List Bool
@@ -46,10 +47,6 @@ bits_of-double h (suc w) r l = rw (bit_at_double h r w l, bits_of-double h w r (
 
 -- ---- lists alone
 
-xor-false : (x : Bool) → xor x false ≡ x
-xor-false true = refl
-xor-false false = refl
-
 pub xor_onto-none : (xs : List Bool) → xor_onto xs [] ≡ xs
 unfolding xor_onto
 xor_onto-none [] = refl
@@ -60,13 +57,6 @@ unfolding xor_onto
 xor_onto-false [] ts = refl
 xor_onto-false (x ∷ xs) [] = rw (xor-false x, xor_onto-none xs) refl
 xor_onto-false (x ∷ xs) (t ∷ ts) = ap (λ zs. xor x t ∷ zs) (xor_onto-false xs ts)
-
-xor_assoc : (a b c : Bool) → xor (xor a b) c ≡ xor a (xor b c)
-xor_assoc true true true = refl
-xor_assoc true true false = refl
-xor_assoc true false true = refl
-xor_assoc true false false = refl
-xor_assoc false b c = refl
 
 pub xor_onto-twice : (xs us gs : List Bool) → length us ≡ length gs → xor_onto (xor_onto xs us) gs ≡ xor_onto xs (xor_onto us gs)
 unfolding xor_onto

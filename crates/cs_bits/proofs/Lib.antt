@@ -1,3 +1,4 @@
+pub mod Xor
+pub mod Numbers
 pub mod Division
 pub mod Vectors
-pub mod Numbers

@@ -1,5 +1,5 @@
 -- Sizes of complex numbers, and the laws of their ring.
-use Rattle.std.proofs.Common.{◌≡◌, ℕ, ◌+◌, ◌*◌, ◌≤◌, arith, ℤ, pos, ◌+ℤ◌, ◌-ℤ◌, ◌*ℤ◌, unsigned_abs}
+use Rattle.std.proofs.Common.{◌≡◌, ℕ, ◌+◌, ◌*◌, ◌≤◌, arith, ℤ, pos, ◌+ℤ◌, ◌-ℤ◌, ◌*ℤ◌, unsigned_abs, ap₂, ◌∙◌}
 use Rattle.std.proofs.lemmas.Int.{ints}
 use Rattle.std.proofs.lemmas.Nat.{mul-le}
 use Rattle.finite.proofs.Integers.{abs-sum, abs-difference, product_within}
@@ -88,3 +88,6 @@ commutes_im a b c d = same (ring.plus (ring.times (var a) (var d)) (ring.times (
 
 pub times-commutes : (a b : Cpx) → times a b ≡ times b a
 times-commutes a b = pair (commutes_re a.re b.re a.im b.im) (commutes_im a.re b.re a.im b.im)
+
+pub times-plus_left : (a b c : Cpx) → times (plus a b) c ≡ plus (times a c) (times b c)
+times-plus_left a b c = times-commutes (plus a b) c ∙ times-plus c a b ∙ ap₂ plus (times-commutes c a) (times-commutes c b)

@@ -10,6 +10,14 @@ nothing = record { re = pos 0; im = pos 0 }
 abbrev pub plus : Cpx → Cpx → Cpx
 plus a b = record { re = a.re +ℤ b.re; im = a.im +ℤ b.im }
 
+-- the difference
+abbrev pub minus : Cpx → Cpx → Cpx
+minus a b = record { re = a.re -ℤ b.re; im = a.im -ℤ b.im }
+
+-- n times a number
+abbrev pub multiple : ℕ → Cpx → Cpx
+multiple n a = record { re = pos n *ℤ a.re; im = pos n *ℤ a.im }
+
 -- the product
 abbrev pub times : Cpx → Cpx → Cpx
 times a b = record { re = a.re *ℤ b.re -ℤ a.im *ℤ b.im; im = a.re *ℤ b.im +ℤ a.im *ℤ b.re }

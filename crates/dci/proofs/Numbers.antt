@@ -1,17 +1,11 @@
 -- The numbers of a few bits.
 use Rattle.std.proofs.Common.{◌≡◌, ℕ, ◌+◌, ◌*◌, ◌^◌, ◌<◌, Bool, true, false, cond, nat_eq, List, [], ◌∷◌, length, refl, ap, arith}
-use Rattle.std.proofs.Math.Nat.{pow-suc}
 use Rattle.std.proofs.lemmas.Bool.{eqb-true}
 use Rattle.finite.specs.Tests.{every_below}
 use Rattle.finite.proofs.Tests.{every_below_at}
 use Rattle.cs_bits.specs.Polynomial.{number}
+use Rattle.cs_bits.proofs.Numbers.{number_below}
 use Rattle.dci.specs.Fields.{bit, field, bits_of}
-
-number_below : (bits : List Bool) → number bits < 2 ^ length bits
-unfolding number
-number_below [] = omega arith
-number_below (false ∷ bits) = let before = number_below bits in let e = pow-suc 2 (length bits) in omega (arith, before, e)
-number_below (true ∷ bits) = let before = number_below bits in let e = pow-suc 2 (length bits) in omega (arith, before, e)
 
 -- bits of one length with one number are the same
 pub number_same : (xs ys : List Bool) → length xs ≡ length ys → number xs ≡ number ys → xs ≡ ys

@@ -1,5 +1,5 @@
 -- The first frame that has a master block, and the entries that are made of its blocks.
-use Rattle.std.proofs.Common.{◌≡◌, ◌⊎◌, inl, inr, ℕ, zero, suc, ◌+◌, ◌-◌, ◌*◌, ◌%◌, ◌<◌, ◌≤◌, Bool, true, false, ◌||◌, List, [], ◌∷◌, Option, None, Some, arith, refl, ap, sym, subst, ◌∙◌}
+use Rattle.std.proofs.Common.{◌≡◌, ◌⊎◌, inl, inr, ℕ, zero, suc, ◌-◌, ◌<◌, ◌≤◌, Bool, true, false, ◌||◌, List, [], ◌∷◌, Option, None, Some, arith, refl, ap, sym, subst, ◌∙◌}
 use Rattle.std.specs.Prelude.{is_some, MatchOption, IsTrue}
 use Rattle.std.specs.List.{AllPairs, Contains}
 use Rattle.std.proofs.lemmas.Bool.{cases_lt}
@@ -15,7 +15,7 @@ use Rattle.pbch.specs.Values.{coded_values}
 use Rattle.pbch.specs.Master.{IsMaster, HasNoMaster}
 use Rattle.pbch.proofs.Words.{one_master}
 use Rattle.explain.specs.Frame.{IsWhole, seen_slot, broadcast_slot}
-use Rattle.explain.specs.Entries.{identity_at, start_at, master_of, HasNoMasterBefore, IsEntryOf, AreEntriesOf}
+use Rattle.explain.specs.Entries.{identity_at, start_at, master_of, HasNoMasterBefore, IsEntryOf, AreEntriesOf, first_number}
 use Rattle.explain.specs.Masters.{master_at, IsTold, AreMasters, HasNoMasters, HasMaster, IsFirstWith, entry_of, entry_at, entries_of, Adds, AddsHit}
 use Rattle.explain.proofs.Sorted.{in_none, in_one, Contains-here}
 use Rattle.explain.proofs.Entries.{same_master, same_entry}
@@ -157,7 +157,7 @@ entry_is_made recording hit frame masters entry f h =
     by_told (Some master) is =
         let same : master_of entry ≡ master = same_master (master_of entry) master (one_master (coded_values slot entry.phase) (master_of entry) master of_entry is) in
         let frames = same_frame recording hit frame masters entry f h in
-        let sfn = h.sfn ∙ ap (λ (m : Master). (4 * m.mib.upper + entry.phase + (1024 - entry.frame)) % 1024) same ∙ ap (λ j. (4 * master.mib.upper + entry.phase + (1024 - j)) % 1024) frames in
+        let sfn = h.sfn ∙ ap (λ (m : Master). first_number m.mib.upper entry.phase entry.frame) same ∙ ap (first_number master.mib.upper entry.phase) frames in
         let whole : entry ≡ entry_of identity start frame entry.phase master = same_entry entry (entry_of identity start frame entry.phase master) h.id h.start sfn frames refl same h.sib1 in
         subst (λ e. Contains (entry_of identity start frame entry.phase master ∷ []) e) (sym whole) (Contains-here (entry_of identity start frame entry.phase master) [])
 

@@ -32,8 +32,12 @@ abbrev pub HasNoMasterBefore : List Sample → ℕ → ℕ → ℕ → Type 0
 HasNoMasterBefore recording identity start j =
     (i phase : ℕ) → i < j → phase < 4 → HasNoMaster (broadcast_slot recording identity start i) phase
 
--- the entry tells a master block of the hit: one of the first of its whole frames 0 to 7 that has any. The frame's number is four
--- times the block's upper bits and the phase; that of the first frame is as much less as there are frames before
+-- the number of the first frame, by that of frame j: four times the upper bits of its block and its phase, and as much less as there
+-- are frames before
+abbrev pub first_number : ℕ → ℕ → ℕ → ℕ
+first_number upper phase j = (4 * upper + phase + (1024 - j)) % 1024
+
+-- the entry tells a master block of the hit: one of the first of its whole frames 0 to 7 that has any
 pub record IsEntryOf (recording : List Sample) (hit : Hit) (entry : Entry) : Type 0 where
   pub id : entry.id ≡ identity_at recording hit
   pub start : entry.start ≡ start_at recording hit
@@ -42,7 +46,7 @@ pub record IsEntryOf (recording : List Sample) (hit : Hit) (entry : Entry) : Typ
   pub whole : IsWhole recording entry.start entry.frame
   pub first : HasNoMasterBefore recording entry.id entry.start entry.frame
   pub master : IsMaster (broadcast_slot recording entry.id entry.start entry.frame) entry.phase (master_of entry)
-  pub sfn : entry.sfn ≡ (4 * entry.mib.upper + entry.phase + (1024 - entry.frame)) % 1024
+  pub sfn : entry.sfn ≡ first_number entry.mib.upper entry.phase entry.frame
   pub sib1 : entry.sib1 ≡ Err NotRead
 
 -- the entries of a hit: one for each of its master blocks, by phase

@@ -15,13 +15,13 @@ IsWhole recording start j = start + 19200 * (j + 1) ≤ length recording
 
 -- where the useful part of a symbol of a slot begins, in a frame that begins at f: a slot has 960 samples, its first cyclic prefix
 -- has 10, and from one useful part to the next there are 137 (TS 36.211 section 6.12)
-abbrev pub useful_at : ℕ → ℕ → ℕ → ℕ
-useful_at f slot symbol = f + 960 * slot + 10 + 137 * symbol
+abbrev pub useful_start : ℕ → ℕ → ℕ → ℕ
+useful_start f slot symbol = f + 960 * slot + 10 + 137 * symbol
 
 -- the slot of a cell's frame, as it is seen: its seven symbols
 unfoldable pub seen_slot : List Sample → ℕ → ℕ → ℕ → SeenSlot
 seen_slot recording f number identity =
-    record { symbols = values_below 7 (λ symbol. seen_symbol recording (useful_at f number symbol)); number = number; identity = identity }
+    record { symbols = values_below 7 (λ symbol. seen_symbol recording (useful_start f number symbol)); number = number; identity = identity }
 
 -- the slot of frame j of a cell's start that carries the broadcast channel (TS 36.211 section 6.6.4)
 abbrev pub broadcast_slot : List Sample → ℕ → ℕ → ℕ → SeenSlot

@@ -1,5 +1,5 @@
 -- The master blocks of a hit, and the entries that are made of them. (own)
-use Rattle.std.specs.Prelude.{◌≡◌, ℕ, ◌+◌, ◌-◌, ◌*◌, ◌%◌, ◌<◌, ◌≤◌, List, [], ◌∷◌, ◌++◌, Option, None, Some, MatchOption, length, slice_index_or, Err}
+use Rattle.std.specs.Prelude.{◌≡◌, ℕ, ◌+◌, ◌<◌, ◌≤◌, List, [], ◌∷◌, ◌++◌, Option, None, Some, MatchOption, length, slice_index_or, Err}
 use Rattle.finite.specs.Lists.{joined_below}
 use Rattle.cs_num.specs.declared.Sample.{Sample}
 use Rattle.lte_types.specs.declared.hit.Hit.{Hit}
@@ -9,7 +9,7 @@ use Rattle.soft_bits.specs.Soft.{SeenSlot}
 use Rattle.pbch.specs.declared.master.Master.{Master}
 use Rattle.pbch.specs.Master.{IsMaster, HasNoMaster}
 use Rattle.explain.specs.Frame.{IsWhole, broadcast_slot}
-use Rattle.explain.specs.Entries.{HasNoMasterBefore, AreEntriesOf, IsListOf}
+use Rattle.explain.specs.Entries.{HasNoMasterBefore, AreEntriesOf, IsListOf, first_number}
 
 -- what a list of master blocks has for a phase
 abbrev pub master_at : List (Option Master) → ℕ → Option Master
@@ -46,10 +46,6 @@ pub record IsFirstWith (recording : List Sample) (identity start frame : ℕ) (m
   pub first : HasNoMasterBefore recording identity start frame
   pub are : AreMasters (broadcast_slot recording identity start frame) masters
   pub some : HasMaster masters
-
--- the number of the first frame, by that of frame j: the upper bits of its block, and its phase
-abbrev pub first_number : ℕ → ℕ → ℕ → ℕ
-first_number upper phase j = (4 * upper + phase + (1024 - j)) % 1024
 
 -- the entry of a master block
 abbrev pub entry_of : ℕ → ℕ → ℕ → ℕ → Master → Entry

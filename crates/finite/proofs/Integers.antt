@@ -1,5 +1,5 @@
 -- Sizes of whole numbers, and the ring laws of ℤ.
-use Rattle.std.proofs.Common.{◌≡◌, ℕ, ◌+◌, ◌*◌, ◌≤◌, min, arith, ℤ, pos, negsuc, ◌+ℤ◌, ◌-ℤ◌, ◌*ℤ◌, unsigned_abs}
+use Rattle.std.proofs.Common.{◌≡◌, ℕ, ◌+◌, ◌*◌, ◌≤◌, min, arith, ℤ, pos, negsuc, ◌+ℤ◌, ◌-ℤ◌, ◌*ℤ◌, unsigned_abs, ◌<ℤ◌, ◌≤ℤ◌}
 use Rattle.std.proofs.Math.Nat.{mul-le-mul}
 use Rattle.std.proofs.lemmas.Int.{ints, unsigned_abs-mul}
 use borrow.Author.Differences.{up, down}
@@ -19,6 +19,12 @@ mul-associates a b c = same (times (times (var a) (var b)) (var c)) (times (var 
 
 pub product_within : (a b : ℤ) (m n bound : ℕ) → unsigned_abs a ≤ m → unsigned_abs b ≤ n → m * n ≤ bound → unsigned_abs (a *ℤ b) ≤ bound
 product_within a b m n bound p q r = omega (arith, unsigned_abs-mul a b, mul-le-mul p q)
+
+pub lt-le : (a b : ℤ) → a <ℤ b → a ≤ℤ b
+lt-le a b h = omega (arith, ints)
+
+pub lt-not_le : (a b : ℤ) → a <ℤ b → b ≤ℤ a → ⊥
+lt-not_le a b h k = absurd (omega (arith, ints))
 
 -- one of the two parts that `omega` reads a number by is 0, which it is not told
 pub one_part : (x : ℤ) → min (up x) (down x) ≡ 0

@@ -3,3 +3,4 @@ pub mod Ring
 pub mod Sums
 pub mod Tests
 pub mod Lists
+pub mod Tables

@@ -2,7 +2,8 @@
 use Rattle.std.proofs.Common.{◌≡◌, ℕ, zero, suc, ◌+◌, ◌-◌, ◌<◌, ◌≤◌, ◌++◌, ◌∷◌, ◌⊎◌, inl, inr, List, [], Bool, true, false, nat_lt, arith, refl, ap, sym, subst, ◌∙◌, length, length-append, get_or, set, take, find, Some, None, add-one, get_or-set_same, get_or-set_other}
 use Rattle.std.proofs.lemmas.List.FromFn.{get_or-map-range_with_len, map-range_with_len_more, length-map-range_with_len}
 use Rattle.std.specs.List.{Contains, AllPairs}
-use Rattle.std.proofs.lemmas.List.Elements.{Contains-append_left, Contains-append_right, Contains-append_cases, Contains-get_or}
+use Rattle.std.specs.Prelude.{All}
+use Rattle.std.proofs.lemmas.List.Elements.{All-from_get_or, Contains-append_left, Contains-append_right, Contains-append_cases, Contains-get_or}
 use Rattle.std.proofs.lemmas.List.{ext_get_or, get_or-append_right, get_or-take, length-take-le}
 use Rattle.std.proofs.Math.ListN.{get_or-append}
 use Rattle.std.proofs.lemmas.Bool.{ltb-true, ltb-false, cases_lt}
@@ -18,6 +19,19 @@ values_below-length n f = length-map-range_with_len f 0 n
 -- the list, read at a place
 pub values_below_at : {A : Type 0} (f : ℕ → A) (n k : ℕ) (d : A) → k < n → get_or (values_below n f) k d ≡ f k
 values_below_at f n k d l = get_or-map-range_with_len f 0 n k k d l (omega arith)
+
+-- a list whose items are those of f is the list of f
+pub values_below_is : {A : Type 0} (d : A) (n : ℕ) (f : ℕ → A) (xs : List A) → length xs ≡ n → ((k : ℕ) → k < n → get_or xs k d ≡ f k) → xs ≡ values_below n f
+values_below_is d n f xs size h =
+    ext_get_or d xs (values_below n f) (size ∙ sym (values_below-length n f)) (λ k below.
+    let inside : k < n = omega (arith, size, below) in h k inside ∙ sym (values_below_at f n k d inside))
+
+-- what holds of each value holds of the list
+pub values_below-All : {A : Type 0} (P : A → Type 0) (n : ℕ) (f : ℕ → A) (d : A) → ((k : ℕ) → k < n → P (f k)) → All P (values_below n f)
+values_below-All P n f d each =
+    All-from_get_or P (values_below n f) d (λ k below.
+    let inside : k < n = let e = values_below-length n f in omega (arith, e, below) in
+    subst P (sym (values_below_at f n k d inside)) (each k inside))
 
 pub values_below_more : {A : Type 0} (n : ℕ) (f : ℕ → A) → values_below (n + 1) f ≡ values_below n f ++ (f n ∷ [])
 values_below_more n f = map-range_with_len_more f 0 n n (omega arith)
@@ -99,12 +113,6 @@ joined_below-pairs R (suc n) f each across =
     let before = joined_below-pairs R n f (λ k l. each k (omega (arith, l))) (λ i j x y l m. across i j x y l (omega (arith, m))) in
     AllPairs-append R (joined_below n f) (f n) before (each n (omega arith))
     (λ x y a b. let (k, l, c) = Contains-in_joined n f x a in across k n x y l (omega arith) c b)
-
--- a list whose items are those of f is the list of f
-pub values_below_is : {A : Type 0} (d : A) (n : ℕ) (f : ℕ → A) (xs : List A) → length xs ≡ n → ((k : ℕ) → k < n → get_or xs k d ≡ f k) → xs ≡ values_below n f
-values_below_is d n f xs size h =
-    ext_get_or d xs (values_below n f) (size ∙ sym (values_below-length n f)) (λ k below.
-    let inside : k < n = omega (arith, size, below) in h k inside ∙ sym (values_below_at f n k d inside))
 
 -- the first items of a list, which are those of f
 pub front_is : {A : Type 0} (d : A) (k : ℕ) (f : ℕ → A) (xs : List A) → k ≤ length xs → ((j : ℕ) → j < k → get_or xs j d ≡ f j) → take k xs ≡ values_below k f

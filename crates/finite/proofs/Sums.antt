@@ -1,5 +1,6 @@
 -- Steps, bounds and laws of finite sums.
-use Rattle.std.proofs.Common.{◌≡◌, ℕ, zero, suc, ◌+◌, ◌*◌, ◌<◌, ◌≤◌, arith, refl, ap, ◌∙◌, sym, subst, add-one, ℤ, pos, ◌+ℤ◌, ◌*ℤ◌, unsigned_abs}
+use Rattle.std.proofs.Common.{◌≡◌, ℕ, zero, suc, ◌+◌, ◌*◌, ◌<◌, ◌≤◌, arith, refl, ap, ◌∙◌, sym, subst, add-one, ℤ, pos, ◌+ℤ◌, ◌*ℤ◌, unsigned_abs, inl, inr}
+use Rattle.std.proofs.lemmas.Bool.{cases_lt}
 use Rattle.std.proofs.lemmas.Int.{ints}
 use Rattle.finite.specs.Sums.{sum_below, total_below}
 use Rattle.finite.proofs.Integers.{abs-sum, mul-distributes}
@@ -94,3 +95,41 @@ total_below_split n (suc m) f =
     let e : n + suc m ≡ suc (n + m) = omega arith in
     let h = total_below_split n m f in
     subst (λ l. total_below l f ≡ total_below n f + (total_below m (λ k. f (n + k)) + f (n + m))) (sym e) (omega (arith, h))
+
+-- a sum is 0 exactly where all of it is
+pub total_zero : (n : ℕ) (f : ℕ → ℕ) → ((k : ℕ) → k < n → f k ≡ 0) → total_below n f ≡ 0
+unfolding total_below
+total_zero zero f h = refl
+total_zero (suc n) f h =
+    let before = total_zero n f (λ k l. h k (omega arith)) in
+    let here = h n (omega arith) in
+    omega (arith, before, here)
+
+pub terms_zero : (n : ℕ) (f : ℕ → ℕ) → total_below n f ≡ 0 → (k : ℕ) → k < n → f k ≡ 0
+unfolding total_below
+terms_zero zero f h k l = absurd (omega arith)
+terms_zero (suc n) f h k l = elim (cases_lt k n) [
+  | inl lower ↦ terms_zero n f (first (total_below n f) (f n) h) k lower
+  | inr here ↦ let e : n ≡ k = omega arith in subst (λ i. f i ≡ 0) e (last (total_below n f) (f n) h)
+]
+  where
+    first : (a b : ℕ) → a + b ≡ 0 → a ≡ 0
+    first a b e = omega (arith, e)
+
+    last : (a b : ℕ) → a + b ≡ 0 → b ≡ 0
+    last a b e = omega (arith, e)
+
+-- a sum of one term that is not 0
+pub total_some : (n k : ℕ) (f : ℕ → ℕ) → k < n → 1 ≤ f k → 1 ≤ total_below n f
+unfolding total_below
+total_some zero k f l h = absurd (omega arith)
+total_some (suc n) k f l h = elim (cases_lt k n) [
+  | inl lower ↦ first (total_below n f) (f n) (total_some n k f lower h)
+  | inr here ↦ let e : k ≡ n = omega arith in last (total_below n f) (f n) (subst (λ i. 1 ≤ f i) e h)
+]
+  where
+    first : (a b : ℕ) → 1 ≤ a → 1 ≤ a + b
+    first a b h = omega (arith, h)
+
+    last : (a b : ℕ) → 1 ≤ b → 1 ≤ a + b
+    last a b h = omega (arith, h)

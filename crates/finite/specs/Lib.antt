@@ -1,3 +1,4 @@
 pub mod Sums
 pub mod Tests
 pub mod Lists
+pub mod Tables

@@ -9,13 +9,13 @@ use Rattle.finite.specs.Tests.{every_below}
 use Rattle.finite.proofs.Tests.{every_below_at}
 use Rattle.finite.proofs.Integers.{abs-sum, abs-difference}
 use Rattle.cs_num.specs.declared.Cpx.{Cpx}
-use Rattle.cs_num.specs.Complex.{IsWithin, size, plus, times, conjugate}
+use Rattle.cs_num.specs.Complex.{IsWithin, size, plus, times, conjugate, minus}
 use Rattle.cs_num.specs.Sums.{complex_sum_below}
 use Rattle.cs_num.proofs.Complex.{pair, size-le, plus-within}
 use Rattle.cs_num.proofs.Sums.{complex_sum_below-within}
 use Rattle.fold128.specs.declared.spectrum.Quartet.{Quartet}
 use Rattle.fold128.specs.Tables.{quarter, cosine, w_at}
-use Rattle.fold128.specs.Folding.{turned_back, back_by, minus, seen_of_four, quartet_of, taken, empty_quartet, folded_term, IsSmallQuartet}
+use Rattle.fold128.specs.Folding.{turned_back, back_by, seen_of_four, quartet_of, taken, empty_quartet, folded_term, IsSmallQuartet}
 use Rattle.fold128.proofs.Entries.{w_period}
 
 -- ---- the two components of an entry together

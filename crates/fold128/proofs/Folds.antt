@@ -7,7 +7,7 @@ use Rattle.finite.proofs.Ring as ring
 use Rattle.cs_num.specs.declared.Cpx.{Cpx}
 use Rattle.cs_num.specs.Complex.{plus, times, turned, conjugate}
 use Rattle.cs_num.specs.Sums.{complex_sum_below}
-use Rattle.cs_num.proofs.Complex.{pair, times-plus, times-commutes}
+use Rattle.cs_num.proofs.Complex.{pair, times-plus_left}
 use Rattle.cs_num.proofs.Sums.{complex_sum_below_split, complex_sum_below_plus, complex_sum_below_same}
 use Rattle.fold128.specs.Tables.{w_at}
 use Rattle.fold128.specs.Symbol.{frequency}
@@ -41,14 +41,6 @@ back_turns (suc q) x z =
     let e : w_at (x + 32 * suc q) ≡ turned (w_at (x + 32 * q)) = w_same (x + 32 * suc q) (x + 32 * q + 32) (omega arith) ∙ quarter_turn_is_j (x + 32 * q) in
     ap (λ v. times z (conjugate v)) e ∙ once z (w_at (x + 32 * q)) ∙ back_turns q x (turned_back z)
 
-plus_times : (a b v : Cpx) → times (plus a b) v ≡ plus (times a v) (times b v)
-plus_times a b v =
-    let whole = times-commutes (plus a b) v in
-    let split = times-plus v a b in
-    let left = times-commutes v a in
-    let right = times-commutes v b in
-    whole ∙ split ∙ ap (λ x. plus x (times v b)) left ∙ ap (plus (times a v)) right
-
 -- ---- four samples 32 apart
 
 -- what sample n gives to a frequency
@@ -74,9 +66,9 @@ four_parts samples f m =
     ap (λ x. plus (part samples f m) (plus x (plus (part samples f (m + 64)) (part samples f (m + 96))))) eb
     ∙ ap (λ x. plus (part samples f m) (plus (times b v) (plus x (part samples f (m + 96))))) ec
     ∙ ap (λ x. plus (part samples f m) (plus (times b v) (plus (times c v) x))) ed
-    ∙ ap (λ x. plus (part samples f m) (plus (times b v) x)) (sym (plus_times c d v))
-    ∙ ap (plus (part samples f m)) (sym (plus_times b (plus c d) v))
-    ∙ sym (plus_times (samples m) (plus b (plus c d)) v)
+    ∙ ap (λ x. plus (part samples f m) (plus (times b v) x)) (sym (times-plus_left c d v))
+    ∙ ap (plus (part samples f m)) (sym (times-plus_left b (plus c d) v))
+    ∙ sym (times-plus_left (samples m) (plus b (plus c d)) v)
 
 -- ---- the whole sum
 

@@ -82,7 +82,7 @@ tones_that_turn_cancel d turns =
 
 -- ---- Z
 
-z_period : (m : ℕ) → z_at (m % 63) ≡ z_at m
+pub z_period : (m : ℕ) → z_at (m % 63) ≡ z_at m
 unfolding z_at
 z_period m = let e : m % 63 % 63 ≡ m % 63 = omega arith in rw e refl
 

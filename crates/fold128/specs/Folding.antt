@@ -1,6 +1,6 @@
 -- How 128 samples are folded to 32 places: a quarter turn of W is a product with j, so a frequency sees the samples 32 apart
 -- as one number, which depends on the frequency modulo 4 alone. (own)
-use Rattle.std.specs.Prelude.{ℕ, zero, suc, ◌+◌, ◌*◌, ◌%◌, List, slice_index_or, ◌-ℤ◌, neg_ℤ, nat_eq, if◌then◌else◌}
+use Rattle.std.specs.Prelude.{ℕ, zero, suc, ◌+◌, ◌*◌, ◌%◌, List, slice_index_or, neg_ℤ, nat_eq, if◌then◌else◌}
 use Rattle.cs_num.specs.declared.Cpx.{Cpx}
 use Rattle.cs_num.specs.Complex.{IsWithin, nothing, plus, times, conjugate}
 use Rattle.finite.specs.Lists.{values_below}
@@ -15,10 +15,6 @@ turned_back z = record { re = z.im; im = neg_ℤ z.re }
 unfoldable pub back_by : ℕ → Cpx → Cpx
 back_by zero z = z
 back_by (suc q) z = back_by q (turned_back z)
-
--- the difference
-abbrev pub minus : Cpx → Cpx → Cpx
-minus a b = record { re = a.re -ℤ b.re; im = a.im -ℤ b.im }
 
 -- what the frequencies that leave r modulo 4 see of four samples 32 apart
 unfoldable pub seen_of_four : ℕ → Cpx → Cpx → Cpx → Cpx → Cpx

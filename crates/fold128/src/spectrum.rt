@@ -1,10 +1,10 @@
 //! The 72 sums by which a symbol is seen, folded by the symmetries of W.
 
 ghost use Rattle.std.specs.Prelude.{◌≡◌, ℕ, ◌+◌, ◌%◌, ◌^◌, ◌<◌, All, unsigned_abs};
-ghost use Rattle.cs_num.specs.Complex.{IsWithin, size, sample_at};
+ghost use Rattle.cs_num.specs.Complex.{IsWithin, size, sample_at, minus};
 ghost use Rattle.cs_num.specs.Sums.{complex_sum_below};
 ghost use Rattle.fold128.specs.Spectrum.{spectrum};
-ghost use Rattle.fold128.specs.Folding.{turned_back, quartet_of, folded_places, minus, taken, folded_term, IsSmallQuartet};
+ghost use Rattle.fold128.specs.Folding.{turned_back, quartet_of, folded_places, taken, folded_term, IsSmallQuartet};
 
 use crate::symbol::frequency_of;
 use crate::tables::w;

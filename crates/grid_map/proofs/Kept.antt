@@ -2,6 +2,7 @@
 use Rattle.std.proofs.Common.{◌≤◌, ◌≡◌, Bool, true, false, ◌&&◌, ◌||◌, cond, List, [], ◌∷◌, ◌++◌, filter, map, length, refl, ap, sym, ◌∙◌, arith}
 use Rattle.std.specs.List.{list_any, flat_map}
 use Rattle.std.proofs.lemmas.List.Elements.{filter-append}
+use Rattle.std.proofs.Math.Bool.{and-false}
 
 -- an item is among those kept where it passes and is among all
 pub any-filter : {X : Type 0} (same : X → X → Bool) → ((x y : X) → same x y ≡ true → x ≡ y) → (p : X → Bool) (x : X) (xs : List X) →
@@ -11,10 +12,6 @@ any-filter same sound p x (y ∷ ys) = cases (same x y) (p y) refl refl (any-fil
   where
     or-false : (a : Bool) → (false || a) ≡ a
     or-false a = refl
-
-    and-false : (a : Bool) → (a && false) ≡ false
-    and-false true = refl
-    and-false false = refl
 
     cases : (a b : Bool) → same x y ≡ a → p y ≡ b → list_any (same x) (filter p ys) ≡ (list_any (same x) ys && p x) →
         list_any (same x) (cond (p y) (y ∷ filter p ys) (filter p ys)) ≡ ((same x y || list_any (same x) ys) && p x)

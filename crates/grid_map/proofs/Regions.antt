@@ -8,6 +8,7 @@ use Rattle.std.proofs.lemmas.List.{append-nil}
 use Rattle.std.proofs.lemmas.List.Folds.{list_any_at}
 use Rattle.std.proofs.lemmas.List.Kept.{AllPairs-filter}
 use Rattle.std.proofs.lemmas.List.Elements.{All-filter, All-map, filter-append, filter_passes}
+use Rattle.std.proofs.Math.Bool.{and-false}
 use Rattle.finite.specs.Lists.{values_below, joined_below}
 use Rattle.finite.specs.Tests.{every_below}
 use Rattle.finite.proofs.Tests.{every_below_at}
@@ -223,10 +224,6 @@ numbers_found cfi g = cases (is_in_region cfi g) refl
         let back : numbered (number_of g) ≡ g = ap₂ group (grind (arith, nat_tests)) (grind (arith, nat_tests)) in
         list_any_at (same_group g) (values_below 288 numbered) (number_of g) g (omega (arith, values_below-length 288 numbered, small))
         (ap (same_group g) (here ∙ back) ∙ same_group-refl g)
-
-    and-false : (a : Bool) → (a && false) ≡ false
-    and-false true = refl
-    and-false false = refl
 
     cases : (b : Bool) → is_in_region cfi g ≡ b → (is_in (values_below 288 numbered) g && is_in_region cfi g) ≡ is_in_region cfi g
     cases true e = rw (e, there e) refl

@@ -1,6 +1,6 @@
 //! The duration of the PHICH.
 
-/// phich-Duration (TS 36.331 section 6.2.2).
+/// phich-Duration (TS 36.331 section 6.3.2, PHICH-Config).
 #[derive(Clone, Copy, Debug, PartialEq, Eq)]
 pub enum Duration {
     Normal,

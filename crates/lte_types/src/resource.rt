@@ -1,6 +1,6 @@
 //! The resource of the PHICH.
 
-/// phich-Resource, Ng (TS 36.331 section 6.2.2).
+/// phich-Resource, Ng (TS 36.331 section 6.3.2, PHICH-Config).
 #[derive(Clone, Copy, Debug, PartialEq, Eq)]
 pub enum Resource {
     OneSixth,

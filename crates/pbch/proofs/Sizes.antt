@@ -2,11 +2,11 @@
 use Rattle.std.proofs.Common.{◌≡◌, ℕ, ◌+◌, ◌<◌, ◌≤◌, true, List, [], length, get_or, ℤ, pos, nat_abs, refl, arith, sym, ap, ◌∙◌}
 use Rattle.std.specs.Prelude.{All}
 use Rattle.std.proofs.lemmas.Bool.Decides.{nat_tests}
-use Rattle.std.proofs.lemmas.List.Elements.{All-get_or, All-from_get_or}
+use Rattle.std.proofs.lemmas.List.Elements.{All-get_or}
 use Rattle.std.proofs.Math.Nat.{add-mod_left}
 use Rattle.finite.specs.Lists.{values_below}
 use Rattle.finite.specs.Tests.{count_below}
-use Rattle.finite.proofs.Lists.{values_below-length, values_below_at}
+use Rattle.finite.proofs.Lists.{values_below-All}
 use Rattle.conv_code.specs.Reading.{Place, place_of, is_at, summed, summed_at}
 use Rattle.conv_code.proofs.Places.{permuting}
 use Rattle.pbch.proofs.Counts.{sum_of_passing-within, count_once, count_split}
@@ -43,11 +43,6 @@ four_times k t =
     let third_split = count_split 120 120 (λ i. is_at (place_of 40 (120 + (120 + i))) k t) in
     omega (arith, a, b, c, d, first_split, second_split, third_split)
 
-all_below : {A : Type 0} (P : A → Type 0) (n : ℕ) (f : ℕ → A) (d : A) → ((k : ℕ) → k < n → P (f k)) → All P (values_below n f)
-all_below P n f d each =
-    All-from_get_or P (values_below n f) d
-    (λ k below. let inside : k < n = rw values_below-length at below in rw (values_below_at f n k d inside) (each k inside))
-
 sum_small : (values : List ℤ) → length values ≡ 480 → All (λ z. nat_abs z ≤ 127) values → (k t : ℕ) →
     nat_abs (summed_at 40 values (length values) k t) ≤ 508
 unfolding summed_at
@@ -62,5 +57,5 @@ pub sizes_of_sums : (values : List ℤ) → length values ≡ 480 → All (λ z.
     All (λ place. All (λ sum. nat_abs sum ≤ 508) place) (summed 40 values)
 unfolding summed
 sizes_of_sums values whole small =
-    all_below (λ place. All (λ sum. nat_abs sum ≤ 508) place) 40 (λ k. values_below 3 (summed_at 40 values (length values) k)) []
-    (λ k _. all_below (λ sum. nat_abs sum ≤ 508) 3 (summed_at 40 values (length values) k) (pos 0) (λ t _. sum_small values whole small k t))
+    values_below-All (λ place. All (λ sum. nat_abs sum ≤ 508) place) 40 (λ k. values_below 3 (summed_at 40 values (length values) k)) []
+    (λ k _. values_below-All (λ sum. nat_abs sum ≤ 508) 3 (summed_at 40 values (length values) k) (pos 0) (λ t _. sum_small values whole small k t))

@@ -1,8 +1,8 @@
 -- The master block that a slot tells (TS 36.212 section 5.3.1, TS 36.331 section 6.2.2).
 use Rattle.std.specs.Prelude.{ℕ, ◌*◌, ◌<◌, ◌≤◌, ◌≡◌, ◌⊎◌, nat_eq, if◌then◌else◌, Bool, List, [], ◌∷◌, slice_range, slice_index_or, ℤ, nat_abs, bit_xor}
 use Rattle.finite.specs.Sums.{total_below}
+use Rattle.finite.specs.Tables.{sum_at}
 use Rattle.cs_bits.specs.Polynomial.{number, crc16_of}
-use Rattle.conv_code.specs.Reading.{sum_at}
 use Rattle.conv_code.specs.Cost.{word_cost}
 use Rattle.tailbite.specs.LeastWord.{IsLeastWord}
 use Rattle.soft_bits.specs.Soft.{SeenSlot}

@@ -8,6 +8,7 @@ use Rattle.finite.specs.Tests.{count_below}
 use Rattle.finite.specs.Lists.{joined_below}
 use Rattle.finite.proofs.Lists.{joined_below_more}
 use Rattle.finite.proofs.Tests.{count_below_more}
+use Rattle.finite.proofs.Sums.{total_below_none}
 use Rattle.pss_search.specs.Hits.{so_far, found, is_hit, hit_at, hits_at, hits_before}
 use Rattle.pss_search.specs.Laws.{ListIsShort}
 use Rattle.pss_search.proofs.Sparse.{IsSparse, count_more_yes, count_within}
@@ -54,10 +55,6 @@ so_far_length recording i (suc n2) =
 pub hits_before_more : (recording : List Sample) (i : ℕ) → hits_before recording (i + 1) ≡ so_far recording i 3
 unfolding hits_before hits_at
 hits_before_more recording i = joined_below_more i (λ k. joined_below 3 (hit_at recording (137 + k)))
-
-none_of : (f : ℕ → ℕ) → total_below 0 f ≡ 0
-unfolding total_below
-none_of f = refl
 
 one_of : (f : ℕ → ℕ) → total_below 1 f ≡ f 0
 unfolding total_below
@@ -111,7 +108,7 @@ room recording i zero l r e =
     omega (
       arith,
       so_far_length recording i 0,
-      none_of (λ k. if is_hit recording (137 + i) k then 1 else 0),
+      total_below_none (λ k. if is_hit recording (137 + i) k then 1 else 0),
       hits_length recording i,
       count_more_yes i (passes recording 0) e,
       count_at_most recording 0 (i + 1) (omega arith),

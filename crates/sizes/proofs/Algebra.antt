@@ -7,11 +7,11 @@ use Rattle.finite.proofs.Ring.{Is, var, lit, same}
 use Rattle.finite.proofs.Ring as ring
 use Rattle.finite.proofs.Sums.{sum_below_scaled}
 use Rattle.cs_num.specs.declared.Cpx.{Cpx}
-use Rattle.cs_num.specs.Complex.{nothing, plus, times, conjugate}
+use Rattle.cs_num.specs.Complex.{nothing, plus, times, conjugate, minus, multiple}
 use Rattle.cs_num.specs.Sums.{complex_sum_below}
 use Rattle.cs_num.proofs.Complex.{pair, plus-nothing, plus-commutes, times-plus, times-commutes}
 use Rattle.cs_num.proofs.Sums.{complex_sum_below_same}
-use Rattle.sizes.specs.Sizes.{real, minus, multiple}
+use Rattle.sizes.specs.Sizes.{real}
 
 -- ---- sums and differences
 
@@ -64,9 +64,6 @@ associates_im a b c d e f =
 
 pub times-associates : (a b c : Cpx) → times (times a b) c ≡ times a (times b c)
 times-associates a b c = pair (associates_re a.re a.im b.re b.im c.re c.im) (associates_im a.re a.im b.re b.im c.re c.im)
-
-pub times-plus_left : (a b c : Cpx) → times (plus a b) c ≡ plus (times a c) (times b c)
-times-plus_left a b c = times-commutes (plus a b) c ∙ times-plus c a b ∙ ap₂ plus (times-commutes c a) (times-commutes c b)
 
 pub times-nothing : (a : Cpx) → times a nothing ≡ nothing
 times-nothing a =

@@ -3,11 +3,11 @@ use Rattle.std.proofs.Common.{sym, ◌≡◌, ℕ, zero, suc, ◌+◌, ◌*◌, 
 use Rattle.finite.specs.Sums.{sum_below, total_below}
 use Rattle.finite.proofs.Sums.{total_below_same, total_below_split}
 use Rattle.cs_num.specs.declared.Cpx.{Cpx}
-use Rattle.cs_num.specs.Complex.{plus, times, conjugate, square}
-use Rattle.cs_num.proofs.Complex.{times-commutes}
+use Rattle.cs_num.specs.Complex.{plus, times, conjugate, square, multiple}
+use Rattle.cs_num.proofs.Complex.{times-commutes, times-plus_left}
 use Rattle.cs_num.proofs.Sums.{complex_sum_below_same, complex_sum_below_plus, complex_sum_below_split}
-use Rattle.sizes.specs.Sizes.{multiple, energy_below, correlation_below}
-use Rattle.sizes.proofs.Algebra.{conjugate-plus, conjugate-times, conjugate_twice, sum-times, sum-multiple, times-plus_left, times-associates, multiple-times}
+use Rattle.sizes.specs.Sizes.{energy_below, correlation_below}
+use Rattle.sizes.proofs.Algebra.{conjugate-plus, conjugate-times, conjugate_twice, sum-times, sum-multiple, times-associates, multiple-times}
 use Rattle.sizes.proofs.Squares.{square-times, square-conjugate}
 use Rattle.sizes.proofs.TwoTerms.{two_term_cauchy, weighted, weighted_term}
 

@@ -5,10 +5,10 @@ use Rattle.std.proofs.lemmas.Int.{unsigned_abs-mul}
 use Rattle.finite.proofs.Ring.{var, lit, same}
 use Rattle.finite.proofs.Ring as ring
 use Rattle.cs_num.specs.declared.Cpx.{Cpx}
-use Rattle.cs_num.specs.Complex.{IsWithin, plus, times, conjugate, square}
-use Rattle.cs_num.proofs.Complex.{plus-associates, times-plus, times-commutes}
-use Rattle.sizes.specs.Sizes.{IsSized, minus, multiple}
-use Rattle.sizes.proofs.Algebra.{minus-plus, times-plus_left, times-associates, times-multiple, times_real, multiple_twice, conjugate-plus, conjugate-multiple}
+use Rattle.cs_num.specs.Complex.{IsWithin, plus, times, conjugate, square, minus, multiple}
+use Rattle.cs_num.proofs.Complex.{plus-associates, times-plus, times-commutes, times-plus_left}
+use Rattle.sizes.specs.Sizes.{IsSized}
+use Rattle.sizes.proofs.Algebra.{minus-plus, times-associates, times-multiple, times_real, multiple_twice, conjugate-plus, conjugate-multiple}
 use Rattle.sizes.proofs.Squares.{abs_square, times_conjugate, square-multiple}
 use Rattle.sizes.proofs.Sized.{sized_gain, sized_plain, sized-plus, sized-times, sized-conjugate, sized_re, sized_im}
 
@@ -84,13 +84,13 @@ spread s z x =
     let c = var x in
     same (ring.times a (ring.minus b (ring.times c a))) (ring.minus (ring.times a b) (ring.times (ring.times a a) c)) (omega arith)
 
-once_z : (x : ℤ) → pos 1 *ℤ x ≡ x
-once_z x = same (ring.times (lit 1) (var x)) (var x) (omega arith)
+pub one-times : (x : ℤ) → pos 1 *ℤ x ≡ x
+one-times x = same (ring.times (lit 1) (var x)) (var x) (omega arith)
 
 -- where z is near x times a sign, the sign times z is near x
 pub sign-turns : (s z x : ℤ) (k : ℕ) → unsigned_abs s ≡ 1 → unsigned_abs (z -ℤ x *ℤ s) ≤ k → unsigned_abs (s *ℤ z -ℤ x) ≤ k
 sign-turns s z x k unit h =
-    let e : s *ℤ (z -ℤ x *ℤ s) ≡ s *ℤ z -ℤ x = spread s z x ∙ ap (λ y. s *ℤ z -ℤ y) (ap (λ y. y *ℤ x) (square_of_sign s unit) ∙ once_z x) in
+    let e : s *ℤ (z -ℤ x *ℤ s) ≡ s *ℤ z -ℤ x = spread s z x ∙ ap (λ y. s *ℤ z -ℤ y) (ap (λ y. y *ℤ x) (square_of_sign s unit) ∙ one-times x) in
     subst (λ y. unsigned_abs y ≤ k) e (kept (unsigned_abs (s *ℤ (z -ℤ x *ℤ s))) (unsigned_abs s) (unsigned_abs (z -ℤ x *ℤ s)) (unsigned_abs-mul s (z -ℤ x *ℤ s)) unit h)
   where
     kept : (a b c : ℕ) → a ≡ b * c → b ≡ 1 → c ≤ k → a ≤ k

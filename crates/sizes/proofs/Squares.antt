@@ -5,9 +5,9 @@ use borrow.Author.Differences.{same_out, sum_is_lem}
 use Rattle.finite.proofs.Ring.{Is, var, lit, same}
 use Rattle.finite.proofs.Ring as ring
 use Rattle.cs_num.specs.declared.Cpx.{Cpx}
-use Rattle.cs_num.specs.Complex.{plus, times, conjugate, square}
+use Rattle.cs_num.specs.Complex.{plus, times, conjugate, square, multiple}
 use Rattle.cs_num.proofs.Complex.{pair}
-use Rattle.sizes.specs.Sizes.{inner, real, multiple}
+use Rattle.sizes.specs.Sizes.{inner, real}
 use Rattle.sizes.proofs.Naturals.{root-le}
 
 pub abs_square : (a : ℤ) → a *ℤ a ≡ pos (unsigned_abs a * unsigned_abs a)

@@ -1,5 +1,5 @@
 -- Sizes of whole complex numbers, by their squares. (own)
-use Rattle.std.specs.Prelude.{ℕ, ◌*◌, ◌≤◌, ℤ, pos, ◌+ℤ◌, ◌-ℤ◌, ◌*ℤ◌}
+use Rattle.std.specs.Prelude.{ℕ, ◌*◌, ◌≤◌, ℤ, pos, ◌+ℤ◌, ◌*ℤ◌}
 use Rattle.finite.specs.Sums.{total_below}
 use Rattle.cs_num.specs.declared.Cpx.{Cpx}
 use Rattle.cs_num.specs.Complex.{times, conjugate, square}
@@ -9,17 +9,9 @@ use Rattle.cs_num.specs.Sums.{complex_sum_below}
 pub record IsSized (c n : ℕ) (z : Cpx) : Type 0 where
   pub sized : square z ≤ c * c * n
 
--- n times a number
-abbrev pub multiple : ℕ → Cpx → Cpx
-multiple n z = record { re = pos n *ℤ z.re; im = pos n *ℤ z.im }
-
 -- the number n, with no imaginary part
 abbrev pub real : ℕ → Cpx
 real n = record { re = pos n; im = pos 0 }
-
--- the difference
-abbrev pub minus : Cpx → Cpx → Cpx
-minus x y = record { re = x.re -ℤ y.re; im = x.im -ℤ y.im }
 
 -- the real part of x times the conjugate of y
 abbrev pub inner : Cpx → Cpx → ℤ

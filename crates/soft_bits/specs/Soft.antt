@@ -3,7 +3,7 @@ use Rattle.std.specs.Prelude.{ℕ, ◌+◌, ◌-◌, ◌*◌, ◌/◌, ◌%◌, 
 use Rattle.finite.specs.Sums.{total_below}
 use Rattle.finite.specs.Lists.{values_below}
 use Rattle.cs_num.specs.declared.Cpx.{Cpx}
-use Rattle.cs_num.specs.Complex.{plus, times, conjugate, square, value_at, IsWithin}
+use Rattle.cs_num.specs.Complex.{plus, times, conjugate, square, value_at, IsWithin, multiple}
 use Rattle.cs_num.specs.Rounding.{clamped}
 use Rattle.crs.specs.Reference.{is_reference, reference_at}
 
@@ -46,10 +46,6 @@ pilot slot i = times (pilot_seen slot i) (conjugate (pilot_sent slot.identity sl
 -- the energy of the pilots
 unfoldable pub pilot_energy : SeenSlot → ℕ
 pilot_energy slot = total_below 24 (λ i. square (pilot_seen slot i))
-
--- n times a number
-abbrev pub multiple : ℕ → Cpx → Cpx
-multiple n a = record { re = pos n *ℤ a.re; im = pos n *ℤ a.im }
 
 -- r thirds of the way from pilot i to the next, three times
 abbrev pub between : SeenSlot → ℕ → ℕ → Cpx

@@ -1,8 +1,8 @@
 //! The soft values of a place.
 
 ghost use Rattle.std.specs.Prelude.{◌≡◌, ℕ, ◌+◌, ◌*◌, ◌^◌, ◌<◌, ◌≤◌, All, unsigned_abs};
-ghost use Rattle.cs_num.specs.Complex.{IsWithin};
-ghost use Rattle.soft_bits.specs.Soft.{multiple, between, channel, soft_value, soft_values};
+ghost use Rattle.cs_num.specs.Complex.{IsWithin, multiple};
+ghost use Rattle.soft_bits.specs.Soft.{between, channel, soft_value, soft_values};
 
 use crate::Slot;
 use crate::pilots::subcarrier_of;

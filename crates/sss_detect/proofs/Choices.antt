@@ -2,6 +2,7 @@
 use Rattle.std.proofs.Common.{◌≡◌, ℕ, zero, suc, ◌-◌, ◌<◌, ◌≤◌, ◌⊎◌, inl, inr, arith, refl, ap, sym, subst, ◌∙◌, Bool, true, false, ℤ, ◌<ℤ◌, ◌≤ℤ◌, int_lt}
 use Rattle.std.specs.Prelude.{if◌then◌else◌}
 use Rattle.std.proofs.lemmas.Int.{ints}
+use Rattle.finite.proofs.Integers.{lt-le, lt-not_le}
 use Rattle.lte_types.specs.declared.frame.Half.{Half}
 use Rattle.lte_types.specs.declared.frame.Half.TheVariants.{Zero, Five}
 use Rattle.sss_detect.specs.declared.choose.Candidate.{Candidate}
@@ -23,14 +24,8 @@ under a b c p q = omega (arith, ints)
 below : (a b c : ℤ) → a <ℤ b → b ≤ℤ c → a <ℤ c
 below a b c p q = omega (arith, ints)
 
-weaker : (a b : ℤ) → a <ℤ b → a ≤ℤ b
-weaker a b p = omega (arith, ints)
-
 equal-le : (a : ℤ) → a ≤ℤ a
 equal-le a = omega (arith, ints)
-
-never : (a b : ℤ) → a <ℤ b → b ≤ℤ a → ⊥
-never a b p q = absurd (omega (arith, ints))
 
 before_or_last : (k n : ℕ) → k ≤ suc n → (k ≤ n) ⊎ (k ≡ suc n)
 before_or_last k n l = grind arith
@@ -53,7 +48,7 @@ first_greatest_is f (suc n) k l = settle (int_lt (f (first_greatest f n)) (f (su
   where
     settle : (b : Bool) → int_lt (f (first_greatest f n)) (f (suc n)) ≡ b → (k ≤ n) ⊎ (k ≡ suc n) → (k ≤ n → f k ≤ℤ f (first_greatest f n)) →
         f k ≤ℤ f (if b then suc n else first_greatest f n)
-    settle true e (inl p) before = weaker _ _ (under _ _ _ (before p) (less _ _ e))
+    settle true e (inl p) before = lt-le _ _ (under _ _ _ (before p) (less _ _ e))
     settle true e (inr p) before = subst (λ i. f i ≤ℤ f (suc n)) (sym p) (equal-le (f (suc n)))
     settle false e (inl p) before = before p
     settle false e (inr p) before = subst (λ i. f i ≤ℤ f (first_greatest f n)) (sym p) (not_less _ _ e)
@@ -138,7 +133,7 @@ five_best points above = record {
 }
   where
     greatest : (m : ℕ) (other : Half) → m ≤ 167 → points m other ≤ℤ points (best_group points Five) Five
-    greatest m Zero l = weaker _ _ (under _ _ _ (in_half points Zero m l) above)
+    greatest m Zero l = lt-le _ _ (under _ _ _ (in_half points Zero m l) above)
     greatest m Five l = in_half points Five m l
 
     first : (m : ℕ) (other : Half) → m ≤ 167 → IsBefore m other (best_group points Five) Five → points m other <ℤ points (best_group points Five) Five
@@ -175,7 +170,7 @@ best_pair_is_best points = settle (int_lt (points (best_group points Zero) Zero)
 
 -- neither of two best pairs comes before the other
 not_before : (points : ℕ → Half → ℤ) (n m : ℕ) (half other : Half) → IsBest points n half → IsBest points m other → IsBefore n half m other → ⊥
-not_before points n m half other p q b = never _ _ (q.first n half p.known b) (p.greatest m other q.known)
+not_before points n m half other p q b = lt-not_le _ _ (q.first n half p.known b) (p.greatest m other q.known)
 
 same_pair : (n m : ℕ) (half other : Half) → (IsBefore n half m other → ⊥) → (IsBefore m other n half → ⊥) → (n ≡ m) × (half ≡ other)
 same_pair n m Zero Zero p q = (grind arith, refl)

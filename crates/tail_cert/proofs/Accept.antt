@@ -1,5 +1,5 @@
 -- Least costs from a start state make a table that holds.
-use Rattle.std.proofs.Common.{◌≡◌, ◌≢◌, ℕ, zero, suc, ◌+◌, ◌*◌, ◌^◌, ◌<◌, ◌≤◌, Bool, List, [], length, get_or, ℤ, pos, negsuc, refl, sym, ◌∙◌, inl, inr, arith, false, true}
+use Rattle.std.proofs.Common.{◌≡◌, ◌≢◌, ℕ, zero, suc, ◌+◌, ◌*◌, ◌^◌, ◌<◌, ◌≤◌, Bool, List, [], length, get_or, ℤ, pos, refl, sym, ◌∙◌, inl, inr, arith}
 use Rattle.std.specs.Prelude.{All, nat_abs}
 use Rattle.std.proofs.lemmas.Bool.{cases_lt}
 use Rattle.std.proofs.lemmas.List.{get_or_past}
@@ -9,10 +9,11 @@ use Rattle.paths.specs.Paths.{end_of}
 use Rattle.paths.proofs.Rounds.{ends_in_same, ends_in_other}
 use Rattle.paths.proofs.Forward.{least_to_none, least_to-le}
 use Rattle.conv_code.specs.Code.{coded, taps_0, taps_1, taps_2}
-use Rattle.conv_code.specs.Cost.{disagreement, place_cost, word_cost}
+use Rattle.conv_code.specs.Cost.{place_cost, word_cost}
 use Rattle.tailbite.specs.Machine.{shift, step_cost}
 use Rattle.tailbite.proofs.Windows.{same_end, shift_below}
 use Rattle.tailbite.proofs.Branches.{word_cost-path}
+use Rattle.tailbite.proofs.Keys.{disagreement-le}
 use Rattle.tail_cert.specs.Certificate.{none, bound, IsLowerBound, TableHolds}
 use Rattle.tail_cert.specs.Forward.{HasLeastRows, IsStartRow}
 
@@ -56,12 +57,6 @@ accepted values cost s start table below places is_start lower small rows = reco
         ]
 
 -- ---- no word costs much
-
-pub disagreement-le : (z : ℤ) (b : Bool) → disagreement z b ≤ nat_abs z
-disagreement-le (pos n) false = omega arith
-disagreement-le (pos n) true = omega arith
-disagreement-le (negsuc n) false = omega arith
-disagreement-le (negsuc n) true = omega arith
 
 -- a value of a list of lists of small values is small
 pub size_at : (limit : ℕ) (values : List (List ℤ)) → All (λ v. All (λ z. nat_abs z ≤ limit) v) values → (k t : ℕ) →

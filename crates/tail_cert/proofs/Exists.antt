@@ -11,9 +11,10 @@ use Rattle.conv_code.specs.Code.{parity, taps_0, taps_1, taps_2}
 use Rattle.conv_code.specs.Cost.{word_cost}
 use Rattle.tailbite.specs.LeastWord.{IsLeastWord}
 use Rattle.tailbite.specs.Machine.{branch_cost, window_bit}
+use Rattle.tailbite.proofs.Keys.{disagreement-le}
 use Rattle.tail_cert.specs.Certificate.{Held, IsWhole, IsAccepted, IsTriple, IsTable, Counted, TableHolds}
 use Rattle.tail_cert.specs.Forward.{forward_least, first_from, second_from, bit_to, IsLeastRow, HasLeastRows, IsStartRow}
-use Rattle.tail_cert.proofs.Accept.{accepted, disagreement-le, size_at, word_cost-within}
+use Rattle.tail_cert.proofs.Accept.{accepted, size_at, word_cost-within}
 use Rattle.tail_cert.proofs.Rows.{start_row, later_row, rows_fit}
 
 abbrev AreSmall : List (List ℤ) → Type 0

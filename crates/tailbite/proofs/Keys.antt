@@ -21,7 +21,7 @@ use Rattle.tailbite.proofs.Rows.{key_cost}
 
 -- ---- sizes
 
-disagreement-le : (z : ℤ) (b : Bool) → disagreement z b ≤ nat_abs z
+pub disagreement-le : (z : ℤ) (b : Bool) → disagreement z b ≤ nat_abs z
 disagreement-le (pos n) false = omega arith
 disagreement-le (pos n) true = omega arith
 disagreement-le (negsuc n) false = omega arith

@@ -1,10 +1,9 @@
 -- Where all values speak for a word, it is the only least one.
-use Rattle.std.proofs.Common.{◌≡◌, ℕ, zero, suc, ◌<◌, Bool, true, false, List, [], length, get_or, ℤ, pos, refl, sym, ◌∙◌, arith, ap}
-use Rattle.std.proofs.Common.{inl, inr}
-use Rattle.std.proofs.lemmas.Bool.{cases_lt}
+use Rattle.std.proofs.Common.{◌≡◌, ℕ, ◌<◌, Bool, true, false, List, [], length, get_or, ℤ, pos, refl, sym, ◌∙◌, arith, ap}
 use Rattle.finite.specs.Sums.{total_below}
 use Rattle.finite.specs.Lists.{values_below}
 use Rattle.finite.proofs.Lists.{values_below_same}
+use Rattle.finite.proofs.Sums.{total_zero, terms_zero}
 use Rattle.conv_code.specs.Code.{coded, coded_bits, coded_word, taps_0, taps_1, taps_2}
 use Rattle.conv_code.specs.Cost.{disagreement, place_cost, word_cost}
 use Rattle.conv_code.proofs.OneToOne.{one_to_one}
@@ -16,25 +15,8 @@ agree z false true s h = let d = s.dear in absurd (omega (arith, d, h))
 agree z true false s h = let d = s.dear in absurd (omega (arith, d, h))
 agree z true true s h = refl
 
--- a sum is 0 exactly where all of it is
-total_zero : (n : ℕ) (f : ℕ → ℕ) → ((k : ℕ) → k < n → f k ≡ 0) → total_below n f ≡ 0
-unfolding total_below
-total_zero zero f h = refl
-total_zero (suc n) f h =
-    let before = total_zero n f (λ k below. h k (omega arith)) in
-    let here = h n (omega arith) in
-    omega (arith, before, here)
-
-all_zero : (n : ℕ) (f : ℕ → ℕ) → total_below n f ≡ 0 → (k : ℕ) → k < n → f k ≡ 0
-unfolding total_below
-all_zero zero f h k below = absurd (omega arith)
-all_zero (suc n) f h k below = elim (cases_lt k n) [
-  | inl lower ↦ all_zero n f (omega (arith, h)) k lower
-  | inr here ↦ let e : k ≡ n = omega arith in rw e (omega (arith, h))
-]
-
 -- a word's coded bits cost nothing where the values speak for them
-free_place : (values : List (List ℤ)) (word : List Bool) → Speaks values word → (k : ℕ) → k < length values → place_cost values word k ≡ 0
+pub free_place : (values : List (List ℤ)) (word : List Bool) → Speaks values word → (k : ℕ) → k < length values → place_cost values word k ≡ 0
 free_place values word speaks k below =
     let here = speaks.place k below in
     let a = here.first.free in
@@ -43,7 +25,7 @@ free_place values word speaks k below =
     omega (arith, a, b, c)
 
 -- a word that costs nothing at a place has the coded bits there
-same_place : (values : List (List ℤ)) (u word : List Bool) → Speaks values word → (k : ℕ) → k < length values → place_cost values u k ≡ 0 →
+pub same_place : (values : List (List ℤ)) (u word : List Bool) → Speaks values word → (k : ℕ) → k < length values → place_cost values u k ≡ 0 →
     coded_bits u k ≡ coded_bits word k
 same_place values u word speaks k below h =
     let here = speaks.place k below in
@@ -66,5 +48,5 @@ only_least values word least long size speaks is =
     one_to_one least word (omega (arith, is.size)) same_size
     (values_below_same (length least) (coded_bits least) (coded_bits word) (λ k inside.
     let below : k < length values = omega (arith, is.size) in
-    same_place values least word speaks k below (all_zero (length values) (place_cost values least) zero_least k below))
+    same_place values least word speaks k below (terms_zero (length values) (place_cost values least) zero_least k below))
     ∙ ap (λ n. values_below n (coded_bits word)) same_size)

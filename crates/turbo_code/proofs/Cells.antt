@@ -17,14 +17,10 @@ columns_small = refl
 pub column_below : (c : ℕ) → c < 32 → get_or columns c 0 < 32
 column_below c h = ltb-true _ _ (every_below_at 32 (λ c. nat_lt (get_or columns c 0) 32) columns_small c h)
 
--- a cell of r rows is in one of the 32 columns
-pub in_table : (m r : ℕ) → 0 < r → m < 32 * r → m / r < 32
-in_table m r some h = (div-lt_iff_lt-mul some).1 h
-
 pub cell_below : (r m : ℕ) → m < 32 * r → cell r m < 32 * r
 cell_below r m h =
     let some : 0 < r = omega (arith, h) in
-    inside (m % r) (get_or columns (m / r) 0) r (mod-lt m some) (column_below (m / r) (in_table m r some h))
+    inside (m % r) (get_or columns (m / r) 0) r (mod-lt m some) (column_below (m / r) ((div-lt_iff_lt-mul some).1 h))
   where
     inside : (a column r : ℕ) → a < r → column < 32 → 32 * a + column < 32 * r
     inside a column r h k = omega (arith, h, k)

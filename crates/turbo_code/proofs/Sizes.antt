@@ -6,22 +6,23 @@ use Rattle.std.proofs.lemmas.Bool.{cases_lt}
 use Rattle.std.proofs.lemmas.Nat.{mod-mul-add}
 use Rattle.std.proofs.lemmas.List.Sums.{sum_by-append, length-filter}
 use Rattle.std.proofs.lemmas.List.Filters.{length-filter_more}
-use Rattle.std.proofs.lemmas.List.Elements.{All-get_or, All-from_get_or}
+use Rattle.std.proofs.lemmas.List.Elements.{All-get_or}
 use Rattle.std.proofs.Math.ListN.{get_or-eq_default}
 use Rattle.std.proofs.Math.Seq.{take-length}
 use Rattle.std.proofs.Math.Nat.{mul-le-mul_left}
+use Rattle.std.proofs.Math.Bool.{and-false}
 use Rattle.finite.specs.Lists.{values_below}
 use Rattle.finite.specs.Sums.{sum_below, total_below}
-use Rattle.finite.proofs.Lists.{values_below-length, values_below_at}
+use Rattle.finite.proofs.Lists.{values_below-All}
 use Rattle.finite.proofs.Sums.{sum_below_none, sum_below_more, total_below_none, total_below_more, total_below_same, total_below_split}
+use Rattle.finite.proofs.Tables.{abs_sum}
 use Rattle.turbo_code.specs.Table.{IsSize}
 use Rattle.turbo_code.specs.Reading.{Place, spot, cell, v0, v1, v2, in_turn, buffer, turned, nulls, matrix_rows, start, reading, place_of, is_at, summed_at, summed}
 use Rattle.turbo_code.proofs.TableFacts.{is_small_size}
 use Rattle.turbo_code.proofs.Cells.{cell_below}
 use Rattle.turbo_code.proofs.Search.{count-turned}
 use Rattle.turbo_code.proofs.Round.{reading_count}
-use Rattle.turbo_code.proofs.Sums.{abs_sum}
-use Rattle.turbo_code.proofs.Whole.{different, and_false, count_more, count-in_turn, count-bits_in, whole}
+use Rattle.turbo_code.proofs.Whole.{different, count_more, count-in_turn, count-bits_in, whole}
 
 -- ---- a place that is none of a coded word is not read
 
@@ -31,7 +32,7 @@ count_none n s t c f below (suc k) h =
     let before = count_none n s t c f below k (omega (arith, h)) in
     let low = below k (omega (arith, h)) in
     let other = different (f k) c (λ e. omega (arith, e, low)) in
-    let none : cond {A = ℕ} (is_at t c (spot s (f k))) 1 0 ≡ 0 = ap (λ b. cond {A = ℕ} (nat_eq s t && b) 1 0) other ∙ ap (λ b. cond {A = ℕ} b 1 0) (and_false (nat_eq s t)) in
+    let none : cond {A = ℕ} (is_at t c (spot s (f k))) 1 0 ≡ 0 = ap (λ b. cond {A = ℕ} (nat_eq s t && b) 1 0) other ∙ ap (λ b. cond {A = ℕ} b 1 0) (and-false (nat_eq s t)) in
     count_more (is_at t c) k (λ m. spot s (f m)) ∙ ap₂ (λ (x y : ℕ). x + y) before none
 
 buffer_none : (r t c : ℕ) → 0 < r → 32 * r ≤ c → count_by (is_at t c) (buffer r) ≡ 0
@@ -123,12 +124,6 @@ sum_small bound b v small (suc m) =
     let before = sum_small bound b v small m in
     rw e (rw (sum_below_more m (λ i. cond (b i) (v i) (pos 0)), total_below_more m (λ i. cond (b i) 1 0)) (step (b m) _ (v m) _ bound before (small m)))
 
-all_below : {A : Type 0} (P : A → Type 0) (n : ℕ) (f : ℕ → A) (d : A) → ((k : ℕ) → k < n → P (f k)) → All P (values_below n f)
-all_below P n f d h =
-    All-from_get_or P (values_below n f) d (λ k below.
-    let inside : k < n = let e = values_below-length n f in omega (arith, e, below) in
-    subst P (sym (values_below_at f n k d inside)) (h k inside))
-
 value_small : (values : List ℤ) (bound : ℕ) → All (λ v. nat_abs v ≤ bound) values → (i : ℕ) → nat_abs (get_or values i (pos 0)) ≤ bound
 value_small values bound small i = settle (cases_lt i (length values))
   where
@@ -140,8 +135,8 @@ pub sizes : (k rv : ℕ) → IsSize k → rv < 4 → (values : List ℤ) → len
     All (λ stream. All (λ sum. nat_abs sum ≤ 7 * bound) stream) (summed k rv values)
 unfolding summed summed_at
 sizes k rv size version values few bound small =
-    all_below (λ stream. All (λ sum. nat_abs sum ≤ 7 * bound) stream) 3 (λ t. values_below 1028 (summed_at k rv values (length values) t)) [] (λ t below.
-    all_below (λ sum. nat_abs sum ≤ 7 * bound) 1028 (summed_at k rv values (length values) t) (pos 0) (λ p inside.
+    values_below-All (λ stream. All (λ sum. nat_abs sum ≤ 7 * bound) stream) 3 (λ t. values_below 1028 (summed_at k rv values (length values) t)) [] (λ t below.
+    values_below-All (λ sum. nat_abs sum ≤ 7 * bound) 1028 (summed_at k rv values (length values) t) (pos 0) (λ p inside.
     let a = sum_small bound (λ i. is_at t p (place_of k rv i)) (λ i. get_or values i (pos 0)) (value_small values bound small) (length values) in
     let s = seven k rv t p (length values) size version below few in
     let m = mul-le-mul_left bound s in

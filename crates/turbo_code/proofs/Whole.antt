@@ -5,6 +5,7 @@ use Rattle.std.specs.List.{count_by}
 use Rattle.std.proofs.lemmas.Bool.{eqb-true, ltb-true, leb-true, leb-false, and_parts}
 use Rattle.std.proofs.lemmas.Bool.Decides.{eqb_tells, nat_tests}
 use Rattle.std.proofs.lemmas.List.Sums.{sum_by-append, sum_by-cons}
+use Rattle.std.proofs.Math.Bool.{and-false}
 use Rattle.finite.specs.Tests.{every_below}
 use Rattle.finite.specs.Lists.{values_below}
 use Rattle.finite.proofs.Tests.{every_below_at}
@@ -41,10 +42,6 @@ same_number a = elim (eqb_tells a a) [
   | inr (x, ne) ↦ absurd (ne refl)
 ]
 
-pub and_false : (b : Bool) → (b && false) ≡ false
-and_false true = refl
-and_false false = refl
-
 -- ---- nulls are skipped
 
 pub count-bits_in : (n t p : ℕ) (cells : List Place) → count_by (is_at t p) (bits_in n cells) ≡ count_by (is_at t (p + n)) cells
@@ -68,7 +65,7 @@ count-bits_in n t p (c ∷ cs) = settle (count-bits_in n t p cs) (nat_le n c.pla
     settle known false e =
         let outside = leb-false n c.place e in
         let other = different c.place (p + n) (λ h. omega (arith, h, outside)) in
-        let none : cond {A = ℕ} (is_at t (p + n) c) 1 0 ≡ 0 = ap (λ b. cond (nat_eq c.stream t && b) 1 0) other ∙ ap (λ b. cond b 1 0) (and_false (nat_eq c.stream t)) in
+        let none : cond {A = ℕ} (is_at t (p + n) c) 1 0 ≡ 0 = ap (λ b. cond (nat_eq c.stream t && b) 1 0) other ∙ ap (λ b. cond b 1 0) (and-false (nat_eq c.stream t)) in
         let all = sum_by-cons (λ x. cond (is_at t (p + n) x) 1 0) c cs in
         known ∙ omega (arith, all, none)
 

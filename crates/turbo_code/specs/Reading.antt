@@ -1,5 +1,5 @@
 -- The order in which a coded word is sent, and the sums of what was received (TS 36.212 section 5.1.4.1).
-use Rattle.std.specs.Prelude.{ℕ, ◌+◌, ◌-◌, ◌*◌, ◌/◌, ◌%◌, Bool, false, ◌&&◌, cond, nat_eq, nat_le, List, [], ◌∷◌, ◌++◌, length, map, filter, take, drop, slice_index_or, slice_set, ℤ, pos, ◌+ℤ◌}
+use Rattle.std.specs.Prelude.{ℕ, ◌+◌, ◌-◌, ◌*◌, ◌/◌, ◌%◌, Bool, false, ◌&&◌, cond, nat_eq, nat_le, List, [], ◌∷◌, ◌++◌, length, map, filter, take, drop, slice_index_or, ℤ, pos}
 use Rattle.finite.specs.Lists.{values_below}
 use Rattle.finite.specs.Sums.{sum_below}
 
@@ -84,11 +84,3 @@ summed_at k rv values m t p = sum_below m (λ i. cond (is_at t p (place_of k rv 
 -- for each of three streams and 1,028 places, the sum of the values that the reading maps to it
 unfoldable pub summed : ℕ → ℕ → List ℤ → List (List ℤ)
 summed k rv values = values_below 3 (λ t. values_below 1028 (summed_at k rv values (length values) t))
-
--- the sum at place p of stream t
-abbrev pub sum_at : List (List ℤ) → ℕ → ℕ → ℤ
-sum_at sums t p = slice_index_or (slice_index_or sums t []) p (pos 0)
-
--- the sums with a value added at place p of stream t
-abbrev pub sums_with : List (List ℤ) → ℕ → ℕ → ℤ → List (List ℤ)
-sums_with sums t p v = slice_set sums t (slice_set (slice_index_or sums t []) p (sum_at sums t p +ℤ v))

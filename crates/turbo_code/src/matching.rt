@@ -1,8 +1,9 @@
 //! The cyclic reading of a coded word, and the sums of received values.
 
 ghost use Rattle.std.specs.Prelude.{◌≡◌, ℕ, All, ◌+◌, ◌*◌, ◌^◌, ◌<◌, ◌≤◌, length, nat_abs, slice_index_or};
+ghost use Rattle.finite.specs.Tables.{sum_at, sums_with};
 ghost use Rattle.turbo_code.specs.Table.{IsRow, IsSize};
-ghost use Rattle.turbo_code.specs.Reading.{bit_of, buffer, cell, matrix_rows, place_of, spot, start, summed, sum_at, sums_with, turned};
+ghost use Rattle.turbo_code.specs.Reading.{bit_of, buffer, cell, matrix_rows, place_of, spot, start, summed, turned};
 
 use crate::{Coded, Row};
 

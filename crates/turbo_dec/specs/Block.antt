@@ -7,7 +7,7 @@ use Rattle.finite.specs.Lists.{values_below}
 use Rattle.cs_bits.specs.Polynomial.{number, crc24a_of}
 use Rattle.turbo_code.specs.declared.rows.Row.{Row}
 use Rattle.turbo_code.specs.Table.{place}
-use Rattle.turbo_code.specs.Reading.{sum_at}
+use Rattle.finite.specs.Tables.{sum_at}
 use Rattle.turbo_dec.specs.Decoder.{values_of, at, extrinsics}
 
 -- the values of the K bits of a stream

@@ -8,14 +8,14 @@ use Rattle.gold.proofs.Bits.{get_or-gold_bits}
 use Rattle.conv_code.specs.Code.{coded_word}
 use Rattle.conv_code.specs.Reading.{bit_at_place, place_of}
 use Rattle.cell_tx.specs.declared.cell.CellPlan.{CellPlan}
-use Rattle.cell_tx.specs.Block.{broadcast_word, matched_bit, broadcast_bit, broadcast_point}
+use Rattle.cell_tx.specs.Block.{broadcast_word, broadcast_bit, broadcast_point}
 use Rattle.cell_tx.proofs.block.broadcast_points.Goals as goal
 
 -- a bit of the frame, from the coded word and the scrambling bits
 bit_is : (plan : CellPlan) (sfn i n : ℕ) (coded : List (List Bool)) (scrambling : List Bool) → coded ≡ coded_word (broadcast_word plan sfn)
     → scrambling ≡ gold_bits plan.identity 1920 → n ≡ 480 * (sfn % 4) + i → n < 1920
     → xor (bit_at_place coded (place_of 40 n)) (get_or scrambling n false) ≡ broadcast_bit plan sfn i
-unfolding broadcast_bit matched_bit
+unfolding broadcast_bit
 bit_is plan sfn i n coded scrambling e f g inside = rw (e, f, get_or-gold_bits plan.identity 1920 n false inside, g) refl
 
 pub loop-i-preserved : goal.loop-i-preserved

@@ -2,8 +2,7 @@ use Rattle.std.proofs.Common.{◌≡◌, ℕ, ◌≤◌, ◌<◌, arith, ap, sym
 use Rattle.std.proofs.lemmas.Int.{ints}
 use Rattle.finite.proofs.Lists.{values_below_at, values_below-length}
 use Rattle.cs_num.specs.declared.Sample.{Sample}
-use Rattle.cs_num.specs.Complex.{IsWithin, silence, value_of}
-use Rattle.fold128.specs.Folding.{minus}
+use Rattle.cs_num.specs.Complex.{IsWithin, silence, value_of, minus}
 use Rattle.cell_tx.specs.Sent.{sample_of, received}
 use Rattle.cell_tx.proofs.laws.sent_is_clean.Goals as goal
 

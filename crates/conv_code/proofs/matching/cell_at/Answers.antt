@@ -4,14 +4,10 @@ use Rattle.conv_code.specs.Reading.{columns}
 use Rattle.conv_code.proofs.Orders.{are_cells, column_below}
 use Rattle.conv_code.proofs.matching.cell_at.Goals as goal
 
--- a cell of r rows is in one of the 32 columns
-in_table : (m r : ℕ) → 0 < r → m < 32 * r → m / r < 32
-in_table m r some h = (div-lt_iff_lt-mul some).1 h
-
 pub overflow_add-result : goal.overflow_add-result
 unfolding columns
 overflow_add-result c =
-    let column = column_below (c.args.m / c.args.rows) (in_table c.args.m c.args.rows c.requires.some c.requires.cells) in
+    let column = column_below (c.args.m / c.args.rows) ((div-lt_iff_lt-mul c.requires.some).1 c.requires.cells) in
     omega (arith, column)
 
 pub returns-clause-cell : goal.returns-clause-cell
@@ -21,7 +17,7 @@ returns-clause-cell c = sym ((are_cells c.args.rows c.requires.some c.requires.f
 pub returns-clause-inside : goal.returns-clause-inside
 unfolding columns
 returns-clause-inside c =
-    let column = column_below (c.args.m / c.args.rows) (in_table c.args.m c.args.rows c.requires.some c.requires.cells) in
+    let column = column_below (c.args.m / c.args.rows) ((div-lt_iff_lt-mul c.requires.some).1 c.requires.cells) in
     inside (c.args.m) c.args.rows _ c.requires.some c.requires.few column
   where
     inside : (m r column : ℕ) → 0 < r → r ≤ 2 → column < 32 → 32 * (m % r) + column < 32 * r

@@ -1,7 +1,7 @@
 use Rattle.std.proofs.Common.{◌≡◌, ℕ, nat_abs, arith, refl, ◌∙◌, ap}
 use Rattle.finite.specs.Sums.{total_below}
 use Rattle.finite.proofs.Sums.{total_below_more}
-use Rattle.conv_code.specs.Reading.{sum_at}
+use Rattle.finite.specs.Tables.{sum_at}
 use Rattle.pbch.specs.Master.{total}
 use Rattle.pbch.proofs.explain.total_of.Goals as goal
 

@@ -1,6 +1,6 @@
 use Rattle.std.proofs.Common.{◌≡◌, ◌*◌, ◌≤◌, nat_abs}
 use Rattle.finite.specs.Sums.{total_below}
-use Rattle.conv_code.specs.Reading.{sum_at}
+use Rattle.finite.specs.Tables.{sum_at}
 use Rattle.pbch.proofs.explain.total_of.Given as goal
 
 abbrev pub invariant-loop-place : goal.invariant-loop-place
