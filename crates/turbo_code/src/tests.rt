@@ -1,4 +1,4 @@
-ghost use Rattle.std.specs.Prelude.{◌≡◌, ◌+◌, ◌<◌, ◌≤◌};
+ghost use Rattle.std.specs.Prelude.{◌≡◌, ◌+◌, ◌<◌, ◌≤◌, ◌&&◌, nat_eq};
 ghost use Rattle.turbo_code.specs.Table.{IsRow, IsSize};
 
 use super::*;
@@ -44,12 +44,19 @@ fn permutes(row: &Row) -> bool
     true
 }
 
+/// Whether two rows are equal: K, f1 and f2 of one are those of the other.
+fn are_equal(one: &Row, other: &Row) -> bool
+    ensures { result ≡ nat_eq one.now.k other.now.k && nat_eq one.now.f1 other.now.f1 && nat_eq one.now.f2 other.now.f2 }
+{
+    one == other
+}
+
 /// Whether the row of K is this one, and permutes.
 fn is_sound(k: u16, f1: u16, f2: u16) -> bool {
     let Some(row) = row_of(k.saturating_sub(24)) else {
         return false;
     };
-    row == Row { k, f1, f2 } && permutes(&row)
+    are_equal(&row, &Row { k, f1, f2 }) && permutes(&row)
 }
 
 macro_rules! checks {
