@@ -1,6 +1,6 @@
 -- What the iterations fill and hand on.
 use Rattle.std.proofs.Common.{◌≡◌, ◌≢◌, ℕ, zero, suc, ◌+◌, ◌<◌, ◌≤◌, inl, inr, Bool, true, false, List, [], ◌∷◌, length, get_or, set, take, map, replicate, Some, None, ℤ, pos, refl, ap, sym, subst, ◌∙◌, arith, rules, get_or-set_same, get_or-set_other}
-use Rattle.std.specs.Prelude.{All, nat_abs, nat_eq}
+use Rattle.std.specs.Prelude.{All, nat_eq}
 use Rattle.std.specs.List.{range_with_len}
 use Rattle.std.specs.Option.{option_map}
 use Rattle.std.proofs.lemmas.Bool.{cases_lt}
@@ -13,18 +13,14 @@ use Rattle.std.proofs.lemmas.List.Elements.{All-get_or, All-from_get_or, All-rep
 use Rattle.std.proofs.lemmas.List.Sums.{position_or_len_is}
 use Rattle.std.proofs.lemmas.List.FromFn.{get_or-range_with_len, length-range_with_len}
 use Rattle.finite.specs.Lists.{values_below}
-use Rattle.finite.proofs.Lists.{values_below-length, values_below_at, front_is, find_below_first, find_below_none}
+use Rattle.finite.proofs.Lists.{values_below-length, values_below_at, values_below_is, front_is, find_below_first, find_below_none}
 use Rattle.turbo_code.specs.declared.rows.Row.{Row}
 use Rattle.turbo_code.specs.Table.{IsRow, place}
 use Rattle.turbo_code.specs.Laws.{Permutes}
 use Rattle.turbo_code.proofs.TableFacts.{is_small}
 use Rattle.turbo_code.proofs.Permutes.{all_permute}
-use Rattle.turbo_dec.specs.Decoder.{Values, values_of, at, extrinsic, extrinsics}
+use Rattle.turbo_dec.specs.Decoder.{IsSmall, Values, values_of, at, extrinsic, extrinsics}
 use Rattle.turbo_dec.specs.Block.{tail_values, stream, in_order, in_word_order, step_of, handed_on, prior_after, told_by, word_by, payload, passes, block, first_extrinsics, second_extrinsics}
-
--- a size of at most 4,096
-abbrev pub IsSmall : ℤ → Type 0
-IsSmall z = nat_abs z ≤ 4096
 
 -- such a number comes back from its 32 bits
 pub small_back : (z : ℤ) → IsSmall z → to_z w32 (of_z w32 z) ≡ z
@@ -138,6 +134,15 @@ in_word_order_is row values found i is_row past size each =
     let (j, inside, is) = (all_permute row is_row).onto k below in
     subst (λ m. get_or found m (pos 0) ≡ at values (step_of row m)) is
     (each j (omega (arith, past, inside)) ∙ ap (at values) (sym (step_is row j is_row inside))))
+
+pub orders_undo : (row : Row) (values : List ℤ) → IsRow row → length values ≡ row.k → in_word_order row (in_order row values) ≡ values
+unfolding in_order in_word_order
+orders_undo row values is_row size =
+    sym (values_below_is (pos 0) row.k (λ k. at (in_order row values) (step_of row k)) values size (λ k below.
+    let (i, inside, is) = (all_permute row is_row).onto k below in
+    let there : at (in_order row values) i ≡ at values (place row i) = values_below_at (λ j. at values (place row j)) row.k i (pos 0) inside in
+    subst (λ m. at values m ≡ at (in_order row values) (step_of row m)) is
+    (sym there ∙ ap (at (in_order row values)) (sym (step_is row i is_row inside)))))
 
 -- what is handed on of each
 pub handed_is : (found handed : List ℤ) (k : ℕ) → length found ≡ 1024 → length handed ≡ 1024 → 1024 ≤ k →

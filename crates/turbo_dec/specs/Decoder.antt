@@ -1,6 +1,6 @@
 -- One decoder of the turbo code: the scores of words, and extrinsic values as differences of greatest scores. (own; the encoder is
 -- that of TS 36.212 section 5.1.3.2)
-use Rattle.std.specs.Prelude.{ℕ, zero, suc, ◌+◌, ◌-◌, ◌*◌, Bool, true, false, List, [], ◌∷◌, ◌++◌, length, slice_index_or, ℤ, pos, negsuc, ◌+ℤ◌, ◌-ℤ◌}
+use Rattle.std.specs.Prelude.{ℕ, zero, suc, ◌+◌, ◌-◌, ◌*◌, ◌≤◌, Bool, true, false, List, [], ◌∷◌, ◌++◌, length, slice_index_or, nat_abs, ℤ, pos, negsuc, ◌+ℤ◌, ◌-ℤ◌}
 use Rattle.std.specs.Int.{int_min, int_max}
 use Rattle.finite.specs.Sums.{sum_below}
 use Rattle.finite.specs.Lists.{values_below}
@@ -20,6 +20,10 @@ values_of systematic parity tail prior = record { systematic = systematic; parit
 -- value k of a list
 abbrev pub at : List ℤ → ℕ → ℤ
 at values k = slice_index_or values k (pos 0)
+
+-- its size is at most 4,096
+abbrev pub IsSmall : ℤ → Type 0
+IsSmall value = nat_abs value ≤ 4096
 
 -- a value counts where its bit is 0
 abbrev pub taken : ℤ → Bool → ℤ

@@ -1,7 +1,10 @@
--- The greatest score in plain words. (own)
+-- The greatest score in plain words, and the two orders of a word. (own)
 use Rattle.std.specs.Prelude.{◌≡◌, ℕ, ◌<◌, Bool, List, length, ℤ, ◌≤ℤ◌}
 use Rattle.turbo_code.specs.Encoder.{bit_at}
+use Rattle.turbo_code.specs.declared.rows.Row.{Row}
+use Rattle.turbo_code.specs.Table.{IsRow}
 use Rattle.turbo_dec.specs.Decoder.{Values, score, greatest_score}
+use Rattle.turbo_dec.specs.Block.{in_order, in_word_order}
 
 -- m is the greatest score of a word whose bit k is b: one has it, and none has more
 pub record IsGreatest (v : Values) (k : ℕ) (b : Bool) (m : ℤ) : Type 0 where
@@ -11,3 +14,7 @@ pub record IsGreatest (v : Values) (k : ℕ) (b : Bool) (m : ℤ) : Type 0 where
 -- for all values and each bit
 abbrev pub GreatestScoresAreGreatest : Type 0
 GreatestScoresAreGreatest = (v : Values) (k : ℕ) (b : Bool) → k < length v.systematic → IsGreatest v k b (greatest_score v k b)
+
+-- values in the order of the second decoder, put back in the order of the word, are the values
+abbrev pub OrdersUndoEachOther : Type 0
+OrdersUndoEachOther = (row : Row) (values : List ℤ) → IsRow row → length values ≡ row.k → in_word_order row (in_order row values) ≡ values

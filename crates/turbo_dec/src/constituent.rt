@@ -1,7 +1,7 @@
 //! The extrinsic values of one decoder.
 
 ghost use Rattle.std.specs.Prelude.{◌≡◌, ℕ, ◌+◌, ◌*◌, ◌^◌, ◌<◌, ◌≤◌, ◌+ℤ◌, ◌-ℤ◌, All, pos, nat_abs, length, slice_index, []};
-ghost use Rattle.turbo_dec.specs.Decoder.{at, values_of, clamped, extrinsics, extrinsic};
+ghost use Rattle.turbo_dec.specs.Decoder.{IsSmall, at, values_of, clamped, extrinsics, extrinsic};
 ghost use Rattle.turbo_dec.specs.Machine.{starts, HasRows};
 
 use crate::machine::{Soft, backward_row, forward_row, least_through, tail_row};
@@ -15,9 +15,9 @@ fn soft_at(systematic: &[i32], parity: &[i32], prior: &[i32], k: usize) -> Soft
     requires place { k < length systematic.now }
     requires parities { length parity.now ≡ length systematic.now }
     requires priors { length prior.now ≡ length systematic.now }
-    requires small_systematic { All (λ z. nat_abs z ≤ 4096) systematic.now }
-    requires small_parity { All (λ z. nat_abs z ≤ 4096) parity.now }
-    requires small_prior { All (λ z. nat_abs z ≤ 4096) prior.now }
+    requires small_systematic { All IsSmall systematic.now }
+    requires small_parity { All IsSmall parity.now }
+    requires small_prior { All IsSmall prior.now }
     ensures sum { result.sum ≡ at systematic.now k +ℤ at prior.now k }
     ensures parity { result.parity ≡ at parity.now k }
 {
@@ -42,9 +42,9 @@ fn forward(systematic: &[i32], parity: &[i32], prior: &[i32], rows: &mut [[u32; 
     requires parities { length parity.now ≡ length systematic.now }
     requires priors { length prior.now ≡ length systematic.now }
     requires room { length systematic.now < length rows.old }
-    requires small_systematic { All (λ z. nat_abs z ≤ 4096) systematic.now }
-    requires small_parity { All (λ z. nat_abs z ≤ 4096) parity.now }
-    requires small_prior { All (λ z. nat_abs z ≤ 4096) prior.now }
+    requires small_systematic { All IsSmall systematic.now }
+    requires small_parity { All IsSmall parity.now }
+    requires small_prior { All IsSmall prior.now }
     ensures { HasRows (values_of systematic.now parity.now [] prior.now) rows.new (length systematic.now) }
 {
     let mut row = start_row();
@@ -78,10 +78,10 @@ fn backward(
     requires parities { length parity.now ≡ length systematic.now }
     requires priors { length prior.now ≡ length systematic.now }
     requires outs { length out.old ≡ length systematic.now }
-    requires small_systematic { All (λ z. nat_abs z ≤ 4096) systematic.now }
-    requires small_parity { All (λ z. nat_abs z ≤ 4096) parity.now }
-    requires small_tail { All (λ z. nat_abs z ≤ 4096) tail.now }
-    requires small_prior { All (λ z. nat_abs z ≤ 4096) prior.now }
+    requires small_systematic { All IsSmall systematic.now }
+    requires small_parity { All IsSmall parity.now }
+    requires small_tail { All IsSmall tail.now }
+    requires small_prior { All IsSmall prior.now }
     requires room { length systematic.now < length rows.now }
     requires rows { HasRows (values_of systematic.now parity.now [] prior.now) rows.now (length systematic.now) }
     ensures { out.new ≡ extrinsics (values_of systematic.now parity.now tail.now prior.now) }
@@ -114,10 +114,10 @@ pub fn half(
     requires parities { length parity.now ≡ length systematic.now }
     requires priors { length prior.now ≡ length systematic.now }
     requires outs { length out.old ≡ length systematic.now }
-    requires small_systematic { All (λ z. nat_abs z ≤ 4096) systematic.now }
-    requires small_parity { All (λ z. nat_abs z ≤ 4096) parity.now }
-    requires small_tail { All (λ z. nat_abs z ≤ 4096) tail.now }
-    requires small_prior { All (λ z. nat_abs z ≤ 4096) prior.now }
+    requires small_systematic { All IsSmall systematic.now }
+    requires small_parity { All IsSmall parity.now }
+    requires small_tail { All IsSmall tail.now }
+    requires small_prior { All IsSmall prior.now }
     ensures { out.new ≡ extrinsics (values_of systematic.now parity.now tail.now prior.now) }
 {
     forward(systematic, parity, prior, &mut work.rows);

@@ -5,7 +5,7 @@ ghost use Rattle.arrayvec.specs.ArrayVec.{array_vec_len};
 ghost use Rattle.std.specs.Option.{option_map};
 ghost use Rattle.finite.specs.Lists.{values_below};
 ghost use Rattle.turbo_code.specs.Table.{IsRow};
-ghost use Rattle.turbo_dec.specs.Decoder.{at, values_of, extrinsics};
+ghost use Rattle.turbo_dec.specs.Decoder.{IsSmall, at, values_of, extrinsics};
 ghost use Rattle.turbo_dec.specs.Block.{tail_values, stream, in_order, in_word_order, handed_on, first_extrinsics, second_extrinsics, told_by, word_by, payload, passes, block};
 
 use crate::constituent::half;
@@ -23,8 +23,8 @@ const ITERATIONS: usize = 8;
 /// How many bits the check has.
 const CHECK: usize = 24;
 
-/// A value for each bit of a word, which stand in front.
-type Word = [i32; 1024];
+/// A value for each bit of a word, and others after them.
+type BitValues = [i32; 1024];
 
 /// The six values of a decoder's tail, which begins at a place.
 fn tail_of(sums: &[[i32; 1028]; 3], place: usize) -> [i32; 6]
@@ -46,17 +46,17 @@ fn stream_of<'a>(stream: &'a [i32; 1028], row: &Row) -> &'a [i32]
     requires row { IsRow row.now }
     ensures values { result.now ≡ take row.now.k stream.now }
     ensures count { length result.now ≡ row.now.k }
-    ensures small { All (λ z. nat_abs z ≤ 4096) stream.now → All (λ z. nat_abs z ≤ 4096) result.now }
+    ensures small { All IsSmall stream.now → All IsSmall result.now }
 {
     &stream[..row.k as usize]
 }
 
 /// The values of the bits of a word.
-fn word_part<'a>(values: &'a Word, row: &Row) -> &'a [i32]
+fn front_of<'a>(values: &'a BitValues, row: &Row) -> &'a [i32]
     requires row { IsRow row.now }
     ensures values { result.now ≡ take row.now.k values.now }
     ensures count { length result.now ≡ row.now.k }
-    ensures small { All (λ z. nat_abs z ≤ 4096) values.now → All (λ z. nat_abs z ≤ 4096) result.now }
+    ensures small { All IsSmall values.now → All IsSmall result.now }
 {
     &values[..row.k as usize]
 }
@@ -73,13 +73,13 @@ fn bits_of<'a>(word: &'a [bool; 1024], row: &Row) -> &'a [bool]
 }
 
 /// The values in the order of the second decoder.
-fn in_order_of(row: &Row, values: &[i32]) -> Word
+fn in_order_of(row: &Row, values: &[i32]) -> BitValues
     requires row { IsRow row.now }
     requires count { length values.now ≡ row.now.k }
-    requires small { All (λ z. nat_abs z ≤ 4096) values.now }
+    requires small { All IsSmall values.now }
     ensures values { take row.now.k result ≡ in_order row.now values.now }
     ensures size { length result ≡ 1024 }
-    ensures small { All (λ z. nat_abs z ≤ 4096) result }
+    ensures small { All IsSmall result }
 {
     let mut ordered = [0; 1024];
     for i in 0..row.k as usize {
@@ -89,13 +89,13 @@ fn in_order_of(row: &Row, values: &[i32]) -> Word
 }
 
 /// Values in the order of the second decoder, in the order of the word.
-fn in_word_order_of(row: &Row, values: &[i32]) -> Word
+fn in_word_order_of(row: &Row, values: &[i32]) -> BitValues
     requires row { IsRow row.now }
     requires count { length values.now ≡ row.now.k }
-    requires small { All (λ z. nat_abs z ≤ 4096) values.now }
+    requires small { All IsSmall values.now }
     ensures values { take row.now.k result ≡ in_word_order row.now values.now }
     ensures size { length result ≡ 1024 }
-    ensures small { All (λ z. nat_abs z ≤ 4096) result }
+    ensures small { All IsSmall result }
 {
     let mut ordered = [0; 1024];
     for i in 0..row.k as usize {
@@ -111,17 +111,17 @@ fn extrinsics_of(
     tail: &[i32; 6],
     prior: &[i32],
     work: &mut Work,
-) -> Word
+) -> BitValues
     requires places { length systematic.now ≤ 1024 }
     requires parities { length parity.now ≡ length systematic.now }
     requires priors { length prior.now ≡ length systematic.now }
-    requires small_systematic { All (λ z. nat_abs z ≤ 4096) systematic.now }
-    requires small_parity { All (λ z. nat_abs z ≤ 4096) parity.now }
-    requires small_tail { All (λ z. nat_abs z ≤ 4096) tail.now }
-    requires small_prior { All (λ z. nat_abs z ≤ 4096) prior.now }
+    requires small_systematic { All IsSmall systematic.now }
+    requires small_parity { All IsSmall parity.now }
+    requires small_tail { All IsSmall tail.now }
+    requires small_prior { All IsSmall prior.now }
     ensures values { take (length systematic.now) result ≡ extrinsics (values_of systematic.now parity.now tail.now prior.now) }
     ensures size { length result ≡ 1024 }
-    ensures small { All (λ z. nat_abs z ≤ 4096) result }
+    ensures small { All IsSmall result }
 {
     let mut found = [0; 1024];
     half(
@@ -136,60 +136,60 @@ fn extrinsics_of(
 }
 
 /// The extrinsic values of the first decoder.
-fn first_of(sums: &[[i32; 1028]; 3], row: &Row, prior: &Word, work: &mut Work) -> Word
+fn first_of(sums: &[[i32; 1028]; 3], row: &Row, prior: &BitValues, work: &mut Work) -> BitValues
     requires row { IsRow row.now }
-    requires small { All (λ stream. All (λ sum. nat_abs sum ≤ 4096) stream) sums.now }
-    requires small_prior { All (λ z. nat_abs z ≤ 4096) prior.now }
+    requires small { All (All IsSmall) sums.now }
+    requires small_prior { All IsSmall prior.now }
     ensures values { take row.now.k result ≡ first_extrinsics row.now sums.now (take row.now.k prior.now) }
     ensures size { length result ≡ 1024 }
-    ensures small { All (λ z. nat_abs z ≤ 4096) result }
+    ensures small { All IsSmall result }
 {
     extrinsics_of(
         stream_of(&sums[0], row),
         stream_of(&sums[1], row),
         &tail_of(sums, row.k as usize),
-        word_part(prior, row),
+        front_of(prior, row),
         work,
     )
 }
 
 /// The extrinsic values of the second decoder in the order of the word, by what the first hands on.
-fn second_of(sums: &[[i32; 1028]; 3], row: &Row, handed: &Word, work: &mut Work) -> Word
+fn second_of(sums: &[[i32; 1028]; 3], row: &Row, handed: &BitValues, work: &mut Work) -> BitValues
     requires row { IsRow row.now }
-    requires small { All (λ stream. All (λ sum. nat_abs sum ≤ 4096) stream) sums.now }
-    requires small_handed { All (λ z. nat_abs z ≤ 4096) handed.now }
+    requires small { All (All IsSmall) sums.now }
+    requires small_handed { All IsSmall handed.now }
     ensures values { take row.now.k result ≡ in_word_order row.now (extrinsics (values_of
         (in_order row.now (stream row.now sums.now 0)) (stream row.now sums.now 2) (tail_values sums.now (row.now.k + 2))
         (in_order row.now (take row.now.k handed.now)))) }
     ensures size { length result ≡ 1024 }
-    ensures small { All (λ z. nat_abs z ≤ 4096) result }
+    ensures small { All IsSmall result }
 {
     let systematic = in_order_of(row, stream_of(&sums[0], row));
-    let prior = in_order_of(row, word_part(handed, row));
+    let prior = in_order_of(row, front_of(handed, row));
     let found = extrinsics_of(
-        word_part(&systematic, row),
+        front_of(&systematic, row),
         stream_of(&sums[2], row),
         &tail_of(sums, row.k as usize + 2),
-        word_part(&prior, row),
+        front_of(&prior, row),
         work,
     );
-    in_word_order_of(row, word_part(&found, row))
+    in_word_order_of(row, front_of(&found, row))
 }
 
 /// What is handed on of an extrinsic value.
 fn handed_on_of(e: &i32) -> i32
-    requires { nat_abs e.now ≤ 4096 }
+    requires { IsSmall e.now }
     ensures value { result ≡ handed_on e.now }
-    ensures small { nat_abs result ≤ 4096 }
+    ensures small { IsSmall result }
 {
     e - e / 4
 }
 
 /// What is handed on of each.
-fn hand_on(found: &Word) -> Word
-    requires small { All (λ z. nat_abs z ≤ 4096) found.now }
+fn hand_on(found: &BitValues) -> BitValues
+    requires small { All IsSmall found.now }
     ensures values { result ≡ map handed_on found.now }
-    ensures small { All (λ z. nat_abs z ≤ 4096) result }
+    ensures small { All IsSmall result }
 {
     let mut handed = [0; 1024];
     for k in 0..1024 {
@@ -200,9 +200,9 @@ fn hand_on(found: &Word) -> Word
 
 /// Whether a bit is told as 1, by its value and its two extrinsic values.
 fn is_one(value: &i32, first: &i32, second: &i32) -> bool
-    requires value { nat_abs value.now ≤ 4096 }
-    requires first { nat_abs first.now ≤ 4096 }
-    requires second { nat_abs second.now ≤ 4096 }
+    requires value { IsSmall value.now }
+    requires first { IsSmall first.now }
+    requires second { IsSmall second.now }
     ensures { result ≡ int_lt (value.now +ℤ first.now +ℤ second.now) (pos 0) }
 {
     value + first + second < 0
@@ -213,9 +213,9 @@ fn told_of(systematic: &[i32], first: &[i32], second: &[i32]) -> [bool; 1024]
     requires count { length systematic.now ≤ 1024 }
     requires firsts { length first.now ≡ length systematic.now }
     requires seconds { length second.now ≡ length systematic.now }
-    requires small { All (λ z. nat_abs z ≤ 4096) systematic.now }
-    requires small_first { All (λ z. nat_abs z ≤ 4096) first.now }
-    requires small_second { All (λ z. nat_abs z ≤ 4096) second.now }
+    requires small { All IsSmall systematic.now }
+    requires small_first { All IsSmall first.now }
+    requires small_second { All IsSmall second.now }
     ensures word { take (length systematic.now) result ≡ values_below (length systematic.now) (told_by systematic.now first.now second.now) }
     ensures size { length result ≡ 1024 }
 {
@@ -227,27 +227,32 @@ fn told_of(systematic: &[i32], first: &[i32], second: &[i32]) -> [bool; 1024]
 }
 
 /// The word of one iteration; `prior` becomes what the second decoder hands on.
-fn iterate(sums: &[[i32; 1028]; 3], row: &Row, prior: &mut Word, work: &mut Work) -> [bool; 1024]
+fn iterate(
+    sums: &[[i32; 1028]; 3],
+    row: &Row,
+    prior: &mut BitValues,
+    work: &mut Work,
+) -> [bool; 1024]
     requires row { IsRow row.now }
-    requires small { All (λ stream. All (λ sum. nat_abs sum ≤ 4096) stream) sums.now }
-    requires small_prior { All (λ z. nat_abs z ≤ 4096) prior.old }
+    requires small { All (All IsSmall) sums.now }
+    requires small_prior { All IsSmall prior.old }
     ensures word { take row.now.k result ≡ word_by row.now sums.now (take row.now.k prior.old) }
     ensures size { length result ≡ 1024 }
     ensures prior { take row.now.k prior.new ≡ map handed_on (second_extrinsics row.now sums.now (take row.now.k prior.old)) }
-    ensures small { All (λ z. nat_abs z ≤ 4096) prior.new }
+    ensures small { All IsSmall prior.new }
 {
     let first = first_of(sums, row, prior, work);
     let second = second_of(sums, row, &hand_on(&first), work);
     *prior = hand_on(&second);
     told_of(
         stream_of(&sums[0], row),
-        word_part(&first, row),
-        word_part(&second, row),
+        front_of(&first, row),
+        front_of(&second, row),
     )
 }
 
 /// Whether the last 24 bits of a word are the check of those before.
-fn is_whole(word: &[bool]) -> bool
+fn has_check(word: &[bool]) -> bool
     requires { 24 ≤ length word.now }
     ensures { result ≡ passes word.now }
 {
@@ -274,14 +279,14 @@ fn payload_of(word: &[bool]) -> Block
 /// row of the table, the sums are those of its K, and each is at most 4,096 in size.
 pub fn decode(values: &Combined, row: Row, work: &mut Work) -> Option<Block>
     requires row { IsRow row }
-    requires sizes { All (λ stream. All (λ sum. nat_abs sum ≤ 4096) stream) values.now.d }
+    requires sizes { All (All IsSmall) values.now.d }
     ensures { option_map (λ found. found.items) result ≡ block row values.now.d }
 {
     let mut prior = [0; 1024];
     for _ in 0..ITERATIONS {
         let word = iterate(&values.d, &row, &mut prior, work);
         let bits = bits_of(&word, &row);
-        if is_whole(bits) {
+        if has_check(bits) {
             return Some(payload_of(bits));
         }
     }

@@ -11,7 +11,7 @@ mod work;
 
 pub use constituent::half;
 pub use iterations::{Block, decode};
-pub use laws::greatest_scores;
+pub use laws::{greatest_scores, orders_undo_each_other};
 pub use work::Work;
 
 #[cfg(test)]

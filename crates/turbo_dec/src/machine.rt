@@ -4,6 +4,7 @@
 ghost use Rattle.std.specs.Prelude.{◌≡◌, ℕ, ◌+◌, ◌*◌, ◌/◌, ◌^◌, ◌<◌, ◌≤◌, All, false, length, nat_abs, slice_index};
 ghost use Rattle.paths.specs.Least.{IsLeastVia};
 ghost use Rattle.conv_code.specs.Cost.{disagreement};
+ghost use Rattle.turbo_dec.specs.Decoder.{IsSmall};
 ghost use Rattle.turbo_dec.specs.Machine.{odd, register, parity_bit, next, edge_cost, tail_step_cost, tail_cost, first_from, forward_least, backward_least};
 
 const STATES: usize = 8;
@@ -152,7 +153,7 @@ pub(crate) fn least_through(soft: &Soft, before: &[u32; 8], after: &[u32; 8], b:
 /// The cost of tail step j from a state.
 fn tail_step(tail: &[i32; 6], j: usize, x: usize) -> u32
     requires step { j < 3 }
-    requires small { All (λ z. nat_abs z ≤ 4096) tail.now }
+    requires small { All IsSmall tail.now }
     ensures cost { result ≡ tail_step_cost tail.now j x }
     ensures bound { result ≤ 8192 }
 {
@@ -163,7 +164,7 @@ fn tail_step(tail: &[i32; 6], j: usize, x: usize) -> u32
 /// The cost of the tail from a state.
 fn tail_at(tail: &[i32; 6], x: usize) -> u32
     requires state { x < 8 }
-    requires small { All (λ z. nat_abs z ≤ 4096) tail.now }
+    requires small { All IsSmall tail.now }
     ensures cost { result ≡ tail_cost tail.now x }
     ensures bound { result ≤ 24576 }
 {
@@ -172,7 +173,7 @@ fn tail_at(tail: &[i32; 6], x: usize) -> u32
 
 /// The row of costs of the tail.
 pub(crate) fn tail_row(tail: &[i32; 6]) -> [u32; 8]
-    requires small { All (λ z. nat_abs z ≤ 4096) tail.now }
+    requires small { All IsSmall tail.now }
     ensures row { (x : ℕ) → x < 8 → slice_index result x ≡ tail_cost tail.now x }
     ensures room { (x : ℕ) → x < 8 → slice_index result x ≤ 24576 }
     ensures size { length result ≡ 8 }

@@ -1,5 +1,6 @@
 ghost use Rattle.std.specs.Prelude.{◌≡◌, ◌+◌, ◌*◌, ◌<◌, ◌≤◌, All, IsTrue, length, nat_abs};
 ghost use Rattle.turbo_code.specs.Table.{IsRow};
+ghost use Rattle.turbo_dec.specs.Decoder.{IsSmall};
 
 use super::*;
 use cs_bits::crc24a;
@@ -9,7 +10,7 @@ use turbo_code::{Combined, Row, encode, row_of};
 
 /// Whether each value is at most 4,096 in size.
 fn are_small(values: &[i32]) -> bool
-    ensures { IsTrue result → All (λ z. nat_abs z ≤ 4096) values.now }
+    ensures { IsTrue result → All IsSmall values.now }
 {
     values.iter().all(|value| value.unsigned_abs() <= 4096)
 }
@@ -59,6 +60,7 @@ fn extrinsic_value_of_one_bit(rt: HostRuntime) -> Result<(), Fail> {
         [1904],
         [-2047]
     );
+    greatest_scores();
     Ok(())
 }
 
@@ -238,7 +240,7 @@ fn received(reception: &Reception, row: Row, word: &[bool]) -> Combined
 
 /// Whether all sums are at most 4,096 in size.
 fn are_all_small(sums: &[[i32; 1028]; 3]) -> bool
-    ensures { IsTrue result → All (λ stream. All (λ sum. nat_abs sum ≤ 4096) stream) sums.now }
+    ensures { IsTrue result → All (All IsSmall) sums.now }
 {
     sums.iter().all(|stream| are_small(stream))
 }
@@ -395,6 +397,7 @@ fn longer_blocks(rt: HostRuntime) -> Result<(), Fail> {
         sizes: 7131,
     };
     assert_eq!(rt; told(rt.alloc(), &second)?, Answer::Sent);
+    orders_undo_each_other();
     Ok(())
 }
 

@@ -10,8 +10,8 @@ loop-k-init c =
 
 pub loop-k-preserved : goal.loop-k-preserved
 loop-k-preserved c =
-    let known = c.loop-k.invariant in
-    let later = later_row _ _ _ _ _ _ known.0 c.soft_at.ensures.sum c.soft_at.ensures.parity c.forward_row-row.ensures.least c.forward_row-row.ensures.growth in
     let e : c.loop-k.k + 1 ≡ suc c.loop-k.k = omega arith in
     let inside : suc c.loop-k.k < length c.loop-k.rows = omega (arith, simp length-set at c.loop-k.auto.rows, c.requires.room, c.loop-k-test.true) in
+    let known = c.loop-k.invariant in
+    let later = later_row _ _ _ _ _ _ known.0 c.soft_at.ensures.sum c.soft_at.ensures.parity c.forward_row-row.ensures.least c.forward_row-row.ensures.growth in
     rw e (later, rows_more _ _ _ _ inside known.1 later)

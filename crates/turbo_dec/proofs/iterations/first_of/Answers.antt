@@ -12,4 +12,4 @@ extrinsics_of-requires-clause-small_tail c = rw c.tail_of.ensures (small_tail c.
 pub returns-clause-values : goal.returns-clause-values
 returns-clause-values c =
     first_is c.args.row.now c.args.sums.now _ _ _ _ _ c.extrinsics_of.result c.stream_of.ensures.values c.stream_of-2.ensures.values c.tail_of.ensures
-    c.word_part.ensures.values c.stream_of.ensures.count c.extrinsics_of.ensures.values
+    c.front_of.ensures.values c.stream_of.ensures.count c.extrinsics_of.ensures.values

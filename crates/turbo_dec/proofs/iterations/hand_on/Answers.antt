@@ -1,7 +1,8 @@
 use Rattle.std.proofs.Common.{arith, pos}
 use Rattle.std.proofs.lemmas.List.{length-replicate}
 use Rattle.std.proofs.lemmas.List.Elements.{All-replicate}
-use Rattle.turbo_dec.proofs.Iterating.{IsSmall, handed_is}
+use Rattle.turbo_dec.specs.Decoder.{IsSmall}
+use Rattle.turbo_dec.proofs.Iterating.{handed_is}
 use Rattle.turbo_dec.proofs.iterations.hand_on.Goals as goal
 
 pub loop-k-init : goal.loop-k-init

@@ -9,7 +9,7 @@ returns-clause-word c =
     let first = c.first_of-first.ensures.values in
     let second = second_is c.args.row.now c.args.sums.now _ c.first_of-first.result c.hand_on.result c.second_of-second.result c.hand_on.ensures.values first c.second_of-second.ensures.values in
     told_is c.args.row.now c.args.sums.now _ _ _ _ c.told_of.result c.stream_of.ensures.values c.stream_of.ensures.count
-    (c.word_part.ensures.values ∙ first) (c.word_part-2.ensures.values ∙ second) c.told_of.ensures.word
+    (c.front_of.ensures.values ∙ first) (c.front_of-2.ensures.values ∙ second) c.told_of.ensures.word
 
 pub returns-clause-prior : goal.returns-clause-prior
 returns-clause-prior c =

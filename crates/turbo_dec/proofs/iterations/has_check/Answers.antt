@@ -1,7 +1,7 @@
 use Rattle.std.proofs.Common.{◌≡◌, ◌-◌, arith, refl, take, drop, length, length-drop}
 use Rattle.std.proofs.lemmas.List.{take_all}
 use Rattle.turbo_dec.specs.Block.{passes}
-use Rattle.turbo_dec.proofs.iterations.is_whole.Goals as goal
+use Rattle.turbo_dec.proofs.iterations.has_check.Goals as goal
 
 pub returns : goal.returns
 unfolding passes
