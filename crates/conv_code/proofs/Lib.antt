@@ -4,3 +4,4 @@ pub mod Places
 pub mod Sums
 pub mod OneToOne
 pub mod Rows
+pub mod Costs

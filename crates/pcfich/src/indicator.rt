@@ -1,11 +1,11 @@
 //! The indicator that the values tell.
 
 ghost use Rattle.std.specs.Prelude.{◌≡◌, ℕ, ◌*◌, ◌<◌, ◌≤◌, ℤ, List, All, nat_abs, nat_le, ◌&&◌, length, if◌then◌else◌};
-ghost use Rattle.conv_code.specs.Cost.{disagreement};
 ghost use Rattle.pcfich.specs.Values.{indicator_values};
 ghost use Rattle.pcfich.specs.Indicator.{code_bit, cost, IsIndicator, Speak};
 
 use crate::values::received;
+use conv_code::disagreement_of;
 use lte_types::Cfi;
 use soft_bits::Slot;
 
@@ -38,19 +38,6 @@ fn least_of(first: u32, second: u32, third: u32) -> u8
     }
 }
 
-// The size of a value where it speaks against the bit.
-fn disagreement_of(value: i16, bit: bool) -> u32
-    requires { nat_abs value ≤ 127 }
-    ensures value { result ≡ disagreement value bit }
-    ensures bound { result ≤ 127 }
-{
-    if bit == (value > 0) {
-        value.unsigned_abs() as u32
-    } else {
-        0
-    }
-}
-
 // What an indicator costs.
 fn cost_of(values: &[i16; 32], indicator: usize) -> u32
     requires some { 1 ≤ indicator }
@@ -59,7 +46,7 @@ fn cost_of(values: &[i16; 32], indicator: usize) -> u32
 {
     let mut cost = 0;
     for i in 0..32 {
-        cost += disagreement_of(values[i], i % 3 != indicator - 1);
+        cost += disagreement_of(values[i] as i32, i % 3 != indicator - 1);
     }
     cost
 }

@@ -13,7 +13,7 @@ use Rattle.conv_code.specs.Cost.{place_cost, word_cost}
 use Rattle.tailbite.specs.Machine.{shift, step_cost}
 use Rattle.tailbite.proofs.Windows.{same_end, shift_below}
 use Rattle.tailbite.proofs.Branches.{word_cost-path}
-use Rattle.tailbite.proofs.Keys.{disagreement-le}
+use Rattle.conv_code.proofs.Costs.{disagreement-le}
 use Rattle.tail_cert.specs.Certificate.{none, bound, IsLowerBound, TableHolds}
 use Rattle.tail_cert.specs.Forward.{HasLeastRows, IsStartRow}
 

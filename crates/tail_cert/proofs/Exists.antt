@@ -1,8 +1,7 @@
 -- Values of a small size have an accepted certificate with their least word.
-use Rattle.std.proofs.Common.{◌≡◌, ℕ, zero, suc, ◌+◌, ◌*◌, ◌^◌, ◌<◌, ◌≤◌, Bool, List, [], length, get_or, ℤ, pos, map, refl, sym, subst, ◌∙◌, inl, inr, arith}
+use Rattle.std.proofs.Common.{◌≡◌, ℕ, zero, suc, ◌*◌, ◌^◌, ◌<◌, ◌≤◌, Bool, List, [], length, get_or, ℤ, pos, map, refl, sym, subst, ◌∙◌, inl, inr, arith}
 use Rattle.std.specs.Prelude.{All, nat_abs}
 use Rattle.std.proofs.lemmas.Bool.Decides.{eqb_tells}
-use Rattle.std.proofs.lemmas.List.{get_or_default}
 use Rattle.finite.specs.Lists.{values_below}
 use Rattle.finite.proofs.Lists.{values_below-length, values_below_at}
 use Rattle.paths.specs.Least.{ends_in}
@@ -11,9 +10,9 @@ use Rattle.conv_code.specs.Code.{parity, taps_0, taps_1, taps_2}
 use Rattle.conv_code.specs.Cost.{word_cost}
 use Rattle.tailbite.specs.LeastWord.{IsLeastWord}
 use Rattle.tailbite.specs.Machine.{branch_cost, window_bit}
-use Rattle.tailbite.proofs.Keys.{disagreement-le}
+use Rattle.conv_code.proofs.Costs.{disagreement-le}
 use Rattle.tail_cert.specs.Certificate.{Held, IsWhole, IsAccepted, IsTriple, IsTable, Counted, TableHolds}
-use Rattle.tail_cert.specs.Forward.{forward_least, first_from, second_from, bit_to, IsLeastRow, HasLeastRows, IsStartRow}
+use Rattle.tail_cert.specs.Forward.{forward_least, first_from, bit_to, IsLeastRow, HasLeastRows, IsStartRow}
 use Rattle.tail_cert.proofs.Accept.{accepted, size_at, word_cost-within}
 use Rattle.tail_cert.proofs.Rows.{start_row, later_row, rows_fit}
 

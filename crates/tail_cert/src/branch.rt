@@ -1,18 +1,9 @@
 ghost use Rattle.std.specs.Prelude.{◌≡◌, ◌<◌, ◌≤◌, All, false, map, nat_abs, slice_index_or};
 ghost use Rattle.conv_code.specs.Code.{parity, taps_0, taps_1, taps_2};
-ghost use Rattle.conv_code.specs.Cost.{disagreement, triple_cost};
+ghost use Rattle.conv_code.specs.Cost.{triple_cost};
 ghost use Rattle.tailbite.specs.Machine.{branch_cost, shift, window_bit};
 
-/// The size of a value where it speaks against the bit.
-fn disagreement_of(value: i32, bit: bool) -> u32
-    ensures { result ≡ disagreement value bit }
-{
-    if bit == (value > 0) {
-        value.unsigned_abs()
-    } else {
-        0
-    }
-}
+use conv_code::disagreement_of;
 
 /// What the three values of a place speak against three coded bits.
 pub(crate) fn against(values: &[i32; 3], bits: &[bool; 3]) -> u32

@@ -1,5 +1,5 @@
 -- The least key over the start states is that of the least word.
-use Rattle.std.proofs.Common.{◌≡◌, ℕ, ◌+◌, ◌-◌, ◌*◌, ◌/◌, ◌%◌, ◌^◌, ◌<◌, ◌≤◌, Bool, true, false, List, [], length, get_or, ℤ, pos, negsuc, refl, sym, ◌∙◌, subst, inl, inr, arith}
+use Rattle.std.proofs.Common.{◌≡◌, ℕ, ◌+◌, ◌-◌, ◌*◌, ◌/◌, ◌%◌, ◌^◌, ◌<◌, ◌≤◌, Bool, false, List, [], length, get_or, ℤ, pos, refl, sym, ◌∙◌, subst, inl, inr, arith}
 use Rattle.std.specs.Prelude.{nat_abs, All}
 use Rattle.std.proofs.lemmas.Bool.{cases_lt}
 use Rattle.std.proofs.lemmas.Bool.Decides.{eqb_tells}
@@ -12,7 +12,8 @@ use Rattle.paths.specs.Words.{word_number}
 use Rattle.paths.proofs.Words.{number_below, number-before, path_cost-keyed, word_bit}
 use Rattle.paths.proofs.Rounds.{ends_in_same, ends_in_other}
 use Rattle.conv_code.specs.Code.{coded, taps_0, taps_1, taps_2}
-use Rattle.conv_code.specs.Cost.{disagreement, place_cost, word_cost}
+use Rattle.conv_code.specs.Cost.{place_cost, word_cost}
+use Rattle.conv_code.proofs.Costs.{disagreement-le}
 use Rattle.tailbite.specs.LeastWord.{IsLeastWord}
 use Rattle.tailbite.specs.Machine.{shift, odd, step_cost}
 use Rattle.tailbite.proofs.Windows.{same_end, end_below}
@@ -20,12 +21,6 @@ use Rattle.tailbite.proofs.Branches.{word_cost-path}
 use Rattle.tailbite.proofs.Rows.{key_cost}
 
 -- ---- sizes
-
-pub disagreement-le : (z : ℤ) (b : Bool) → disagreement z b ≤ nat_abs z
-disagreement-le (pos n) false = omega arith
-disagreement-le (pos n) true = omega arith
-disagreement-le (negsuc n) false = omega arith
-disagreement-le (negsuc n) true = omega arith
 
 -- no value of a place is larger than 2 ^ 20
 record AreSmall (values : List (List ℤ)) : Type 0 where

@@ -1,18 +1,8 @@
 ghost use Rattle.std.specs.Prelude.{◌≡◌, ◌+◌, ◌*◌, ◌^◌, ◌<◌, ◌≤◌, All, map, nat_abs};
 ghost use Rattle.conv_code.specs.Code.{parity, taps_0, taps_1, taps_2};
-ghost use Rattle.conv_code.specs.Cost.{disagreement};
 ghost use Rattle.tailbite.specs.Machine.{branch_cost, shift, window_bit};
 
-/// The size of a value where it speaks against the bit.
-fn disagreement_of(value: i32, bit: bool) -> u32
-    ensures { result ≡ disagreement value bit }
-{
-    if bit == (value > 0) {
-        value.unsigned_abs()
-    } else {
-        0
-    }
-}
+use conv_code::disagreement_of;
 
 /// The three coded bits of a step from state x by the bit b.
 fn coded_bits(x: usize, b: bool) -> (bool, bool, bool)

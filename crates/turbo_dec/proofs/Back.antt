@@ -1,8 +1,6 @@
 -- The backward pass.
 use Rattle.std.proofs.Common.{◌≡◌, ◌≢◌, ℕ, suc, ◌+◌, ◌-◌, ◌*◌, ◌<◌, ◌≤◌, Bool, true, false, List, [], length, get_or, set, ℤ, pos, ◌+ℤ◌, ◌-ℤ◌, refl, ap, ◌∙◌, inl, inr, arith, get_or-set_other, get_or-set_same, length-set}
-use Rattle.std.specs.Prelude.{nat_abs, All}
 use Rattle.std.proofs.lemmas.Bool.{cases_lt}
-use Rattle.std.proofs.lemmas.List.{get_or_past}
 use Rattle.std.proofs.lemmas.Int.{ints}
 use Rattle.finite.proofs.Lists.{values_below_is}
 use Rattle.paths.specs.Paths.{best}
@@ -12,7 +10,8 @@ use Rattle.turbo_dec.specs.Decoder.{Values, values_of, at, clamped, extrinsic, e
 use Rattle.turbo_dec.specs.Laws.{IsGreatest}
 use Rattle.turbo_dec.specs.Machine.{next, edge_cost, step_cost, tail_cost, starts, backward_least, IsForwardRow, HasRows}
 use Rattle.turbo_dec.proofs.Scores.{worth}
-use Rattle.turbo_dec.proofs.Greatest.{AreSmall, least_gives_greatest, extrinsic_is}
+use Rattle.turbo_dec.proofs.Small.{AreSmall}
+use Rattle.turbo_dec.proofs.Greatest.{least_gives_greatest, extrinsic_is}
 use Rattle.turbo_dec.proofs.Edges.{next_below}
 
 -- the row has the least costs from each state at place k on, and the extrinsic values from there on are found
@@ -85,21 +84,6 @@ pub back_all : (v : Values) (row : List ℕ) (out : List ℤ) (k : ℕ) → k �
 unfolding extrinsics
 back_all v row out k none known =
     values_below_is (pos 0) (length v.systematic) (extrinsic v) out known.size (λ j below. known.done j (omega (arith, none)) below)
-
-small_at : (zs : List ℤ) (k : ℕ) → All (λ z. nat_abs z ≤ 4096) zs → nat_abs (at zs k) ≤ 4096
-small_at zs k h = elim (cases_lt k (length zs)) [
-  | inl inside ↦ h k (pos 0) inside
-  | inr past ↦ rw (get_or_past zs k (pos 0) past) (omega arith)
-]
-
-pub all_small : (s p t q : List ℤ) → All (λ z. nat_abs z ≤ 4096) s → All (λ z. nat_abs z ≤ 4096) p → All (λ z. nat_abs z ≤ 4096) t → All (λ z. nat_abs z ≤ 4096) q →
-    AreSmall (values_of s p t q)
-all_small s p t q hs hp ht hq = record {
-  systematic = λ k. small_at s k hs;
-  parity = λ k. small_at p k hp;
-  tail = λ k. small_at t k ht;
-  prior = λ k. small_at q k hq;
-}
 
 -- the rows do not read the tail
 pub forward_row_of : (s p t q : List ℤ) (rows : List (List ℕ)) (n k : ℕ) → HasRows (values_of s p [] q) rows n → k ≤ n →

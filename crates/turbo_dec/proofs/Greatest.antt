@@ -5,6 +5,7 @@ use Rattle.std.specs.Int.{int_max}
 use Rattle.std.proofs.lemmas.Bool.Decides.{eqb_tells}
 use Rattle.std.proofs.lemmas.Int.{ints, clamps}
 use Rattle.std.proofs.Math.Seq.{split_at, get_or-append_seam}
+use Rattle.conv_code.proofs.Costs.{disagreement-le}
 use Rattle.paths.specs.Paths.{end_of}
 use Rattle.paths.specs.Least.{IsLeastWith}
 use Rattle.paths.proofs.Paths.{path_cost-le}
@@ -12,7 +13,8 @@ use Rattle.turbo_code.specs.Encoder.{bit_at}
 use Rattle.turbo_dec.specs.Decoder.{Values, at, score, greatest, greatest_score, extrinsic, clamped}
 use Rattle.turbo_dec.specs.Laws.{IsGreatest}
 use Rattle.turbo_dec.specs.Machine.{next, step_cost, tail_cost, tail_bit, tail_parity, parity_bit, far, starts}
-use Rattle.turbo_dec.proofs.Scores.{disagreement-le, worth, score_cost}
+use Rattle.turbo_dec.proofs.Small.{AreSmall}
+use Rattle.turbo_dec.proofs.Scores.{worth, score_cost}
 
 -- ---- the greatest of a function over all words
 
@@ -102,13 +104,6 @@ extrinsic_is v k zeros ones e inside by_zeros by_ones is =
     ∙ ap (λ m. clamped (((greatest_score v k false -ℤ m) -ℤ at v.systematic k) -ℤ at v.prior k)) o
 
 -- ---- from the least cost
-
--- every value has a size of at most 4,096
-pub record AreSmall (v : Values) : Type 0 where
-  pub systematic : (k : ℕ) → nat_abs (at v.systematic k) ≤ 4096
-  pub parity : (k : ℕ) → nat_abs (at v.parity k) ≤ 4096
-  pub tail : (k : ℕ) → nat_abs (at v.tail k) ≤ 4096
-  pub prior : (k : ℕ) → nat_abs (at v.prior k) ≤ 4096
 
 sum_small : (a b : ℤ) → nat_abs a ≤ 4096 → nat_abs b ≤ 4096 → nat_abs (a +ℤ b) ≤ 8192
 sum_small a b h k = omega (arith, ints, h, k)

@@ -1,82 +1,23 @@
 -- What the iterations fill and hand on.
-use Rattle.std.proofs.Common.{◌≡◌, ◌≢◌, ℕ, zero, suc, ◌+◌, ◌<◌, ◌≤◌, inl, inr, Bool, true, false, List, [], ◌∷◌, length, get_or, set, take, map, replicate, Some, None, ℤ, pos, refl, ap, sym, subst, ◌∙◌, arith, rules, get_or-set_same, get_or-set_other}
+use Rattle.std.proofs.Common.{◌≡◌, ◌≢◌, ℕ, suc, ◌+◌, ◌<◌, ◌≤◌, inl, inr, Bool, true, false, List, length, get_or, set, take, map, replicate, Some, None, ℤ, pos, refl, ap, sym, subst, ◌∙◌, arith, get_or-set_same, get_or-set_other}
 use Rattle.std.specs.Prelude.{All, nat_eq}
 use Rattle.std.specs.List.{range_with_len}
 use Rattle.std.specs.Option.{option_map}
 use Rattle.std.proofs.lemmas.Bool.{cases_lt}
 use Rattle.std.proofs.lemmas.Bool.Decides.{eqb_tells}
-use Rattle.std.proofs.lemmas.Int.{ints, clamps, to_z-of_z}
-use mir.Val.{SFits, to_z, of_z}
-use mir.Syntax.{w32}
-use Rattle.std.proofs.lemmas.List.{ext_get_or, get_or-map, get_or_past, length-map, take-map, take-replicate}
-use Rattle.std.proofs.lemmas.List.Elements.{All-get_or, All-from_get_or, All-replicate}
+use Rattle.std.proofs.lemmas.List.{ext_get_or, get_or-map, length-map, take-map, take-replicate}
+use Rattle.std.proofs.lemmas.List.Elements.{All-replicate}
 use Rattle.std.proofs.lemmas.List.Sums.{position_or_len_is}
 use Rattle.std.proofs.lemmas.List.FromFn.{get_or-range_with_len, length-range_with_len}
 use Rattle.finite.specs.Lists.{values_below}
-use Rattle.finite.proofs.Lists.{values_below-length, values_below_at, values_below_is, front_is, find_below_first, find_below_none}
+use Rattle.finite.proofs.Lists.{values_below_at, values_below_is, front_is, find_below_first, find_below_none}
 use Rattle.turbo_code.specs.declared.rows.Row.{Row}
 use Rattle.turbo_code.specs.Table.{IsRow, place}
 use Rattle.turbo_code.specs.Laws.{Permutes}
 use Rattle.turbo_code.proofs.TableFacts.{is_small}
 use Rattle.turbo_code.proofs.Permutes.{all_permute}
-use Rattle.turbo_dec.specs.Decoder.{IsSmall, Values, values_of, at, extrinsic, extrinsics}
+use Rattle.turbo_dec.specs.Decoder.{IsSmall, values_of, at, extrinsics}
 use Rattle.turbo_dec.specs.Block.{tail_values, stream, in_order, in_word_order, step_of, handed_on, prior_after, told_by, word_by, payload, passes, block, first_extrinsics, second_extrinsics}
-
--- such a number comes back from its 32 bits
-pub small_back : (z : ℤ) → IsSmall z → to_z w32 (of_z w32 z) ≡ z
-small_back z h = let fits : SFits w32 z = search (arith, ints, rules) in to_z-of_z w32 z fits
-
--- an item of a list of small numbers, and 0 past its end
-pub small_item : (zs : List ℤ) (k : ℕ) → All IsSmall zs → IsSmall (get_or zs k (pos 0))
-small_item zs k h = elim (cases_lt k (length zs)) [
-  | inl inside ↦ All-get_or IsSmall zs k (pos 0) inside h
-  | inr past ↦ rw (get_or_past zs k (pos 0) past) (omega arith)
-]
-
--- a stream of small sums
-pub small_stream : (sums : List (List ℤ)) (t : ℕ) → All (All IsSmall) sums → All IsSmall (get_or sums t [])
-small_stream sums t h = elim (cases_lt t (length sums)) [
-  | inl inside ↦ All-get_or (All IsSmall) sums t [] inside h
-  | inr past ↦ rw (get_or_past sums t [] past) (All-from_get_or IsSmall [] (pos 0) (λ i below. absurd (omega (arith, below))))
-]
-
-pub small_six : (a b c d e f : ℤ) → IsSmall a → IsSmall b → IsSmall c → IsSmall d → IsSmall e → IsSmall f →
-    All IsSmall (a ∷ b ∷ c ∷ d ∷ e ∷ f ∷ [])
-small_six a b c d e f ha hb hc hd he hf = All-from_get_or IsSmall (a ∷ b ∷ c ∷ d ∷ e ∷ f ∷ []) (pos 0) each
-  where
-    each : (i : ℕ) → i < 6 → IsSmall (get_or (a ∷ b ∷ c ∷ d ∷ e ∷ f ∷ []) i (pos 0))
-    each zero h = ha
-    each (suc zero) h = hb
-    each (suc (suc zero)) h = hc
-    each (suc (suc (suc zero))) h = hd
-    each (suc (suc (suc (suc zero)))) h = he
-    each (suc (suc (suc (suc (suc zero))))) h = hf
-    each (suc (suc (suc (suc (suc (suc i)))))) h = absurd (omega (arith, h))
-
--- the values of a tail
-pub small_tail : (sums : List (List ℤ)) (p : ℕ) → All (All IsSmall) sums → All IsSmall (tail_values sums p)
-small_tail sums p h =
-    let s0 = small_stream sums 0 h in
-    let s1 = small_stream sums 1 h in
-    let s2 = small_stream sums 2 h in
-    small_six _ _ _ _ _ _ (small_item _ p s0) (small_item _ p s1) (small_item _ p s2)
-    (small_item _ (p + 1) s0) (small_item _ (p + 1) s1) (small_item _ (p + 1) s2)
-
--- extrinsic values are small
-small_extrinsic : (v : Values) (k : ℕ) → IsSmall (extrinsic v k)
-unfolding extrinsic
-small_extrinsic v k = omega (arith, ints, clamps)
-
-pub small_extrinsics : (v : Values) → All IsSmall (extrinsics v)
-unfolding extrinsics
-small_extrinsics v = All-from_get_or IsSmall (values_below (length v.systematic) (extrinsic v)) (pos 0) (λ i below.
-    let size = values_below-length (length v.systematic) (extrinsic v) in
-    let inside : i < length v.systematic = omega (arith, size, below) in
-    rw (values_below_at (extrinsic v) (length v.systematic) i (pos 0) inside) (small_extrinsic v i))
-
-pub extrinsics-length : (v : Values) → length (extrinsics v) ≡ length v.systematic
-unfolding extrinsics
-extrinsics-length v = values_below-length (length v.systematic) (extrinsic v)
 
 -- ---- the order of the second decoder
 
@@ -86,10 +27,6 @@ unfolding in_order
 in_order_is row values found i is_row past size each =
     let high = (is_small row is_row).high in
     front_is (pos 0) row.k (λ j. at values (place row j)) found (omega (arith, high, size)) (λ j below. each j (omega (arith, past, below)))
-
-pub in_order-length : (row : Row) (values : List ℤ) → length (in_order row values) ≡ row.k
-unfolding in_order
-in_order-length row values = values_below-length row.k (λ j. at values (place row j))
 
 -- one more value, at its place in the word
 pub placed_more : (row : Row) (values found : List ℤ) (i : ℕ) (v : ℤ) → IsRow row → i < row.k → length found ≡ 1024 → v ≡ at values i →

@@ -1,3 +1,4 @@
+pub mod Small
 pub mod Edges
 pub mod Registers
 pub mod Scores

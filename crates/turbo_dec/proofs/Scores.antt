@@ -1,6 +1,5 @@
 -- The score of a word and the cost of its path make a constant.
-use Rattle.std.proofs.Common.{◌≡◌, ℕ, zero, suc, ◌+◌, ◌*◌, ◌/◌, ◌≤◌, Bool, true, false, List, length, ℤ, pos, negsuc, ◌+ℤ◌, refl, ap, ap₂, sym, ◌∙◌, arith}
-use Rattle.std.specs.Prelude.{nat_abs}
+use Rattle.std.proofs.Common.{◌≡◌, ℕ, zero, suc, ◌+◌, ◌*◌, ◌/◌, Bool, true, false, List, length, ℤ, pos, negsuc, ◌+ℤ◌, refl, ap, ap₂, sym, ◌∙◌, arith}
 use Rattle.std.proofs.lemmas.Int.{ints}
 use Rattle.finite.specs.Sums.{sum_below, total_below}
 use Rattle.conv_code.specs.Cost.{disagreement}
@@ -9,12 +8,6 @@ use Rattle.turbo_code.specs.Encoder.{bit_at, back, before, parity, tail_x, tail_
 use Rattle.turbo_dec.specs.Decoder.{Values, at, taken, place_score, tail_score, score}
 use Rattle.turbo_dec.specs.Machine.{next, step_cost, tail_step_cost, tail_cost, tail_bit, tail_parity}
 use Rattle.turbo_dec.proofs.Registers.{state, state_at, parity_at, tail_bit_is, tail_parity_is, half_is, path_is}
-
-pub disagreement-le : (z : ℤ) (b : Bool) → disagreement z b ≤ nat_abs z
-disagreement-le (pos n) false = omega arith
-disagreement-le (pos n) true = omega arith
-disagreement-le (negsuc n) false = omega arith
-disagreement-le (negsuc n) true = omega arith
 
 -- what a value gives and what it costs
 taken_cost : (z : ℤ) (b : Bool) → taken z b +ℤ pos (disagreement z b) ≡ pos (disagreement z true)

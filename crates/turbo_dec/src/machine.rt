@@ -3,9 +3,10 @@
 
 ghost use Rattle.std.specs.Prelude.{◌≡◌, ℕ, ◌+◌, ◌*◌, ◌/◌, ◌^◌, ◌<◌, ◌≤◌, All, false, length, nat_abs, slice_index};
 ghost use Rattle.paths.specs.Least.{IsLeastVia};
-ghost use Rattle.conv_code.specs.Cost.{disagreement};
 ghost use Rattle.turbo_dec.specs.Decoder.{IsSmall};
 ghost use Rattle.turbo_dec.specs.Machine.{odd, register, parity_bit, next, edge_cost, tail_step_cost, tail_cost, first_from, forward_least, backward_least};
+
+use conv_code::disagreement_of;
 
 const STATES: usize = 8;
 
@@ -62,24 +63,13 @@ fn step(x: usize, u: bool) -> usize
     x / 2 + if register_of(x, u) { 4 } else { 0 }
 }
 
-/// The size of a value where it speaks against the bit.
-fn disagreement_of(value: &i32, bit: bool) -> u32
-    ensures { result ≡ disagreement value.now bit }
-{
-    if bit == (*value > 0) {
-        value.unsigned_abs()
-    } else {
-        0
-    }
-}
-
 /// The cost of a step.
 fn edge(soft: &Soft, x: usize, u: bool) -> u32
     requires state { x < 8 }
     ensures cost { result ≡ edge_cost soft.now.sum soft.now.parity x u }
     ensures bound { result ≤ 12288 }
 {
-    disagreement_of(&soft.sum, u) + disagreement_of(&soft.parity, parity_of(x, u))
+    disagreement_of(soft.sum, u) + disagreement_of(soft.parity, parity_of(x, u))
 }
 
 /// The least cost to a state, where the row has that to each state one step before.
@@ -157,8 +147,8 @@ fn tail_step(tail: &[i32; 6], j: usize, x: usize) -> u32
     ensures cost { result ≡ tail_step_cost tail.now j x }
     ensures bound { result ≤ 8192 }
 {
-    disagreement_of(&tail[2 * j], middle(x) ^ oldest(x))
-        + disagreement_of(&tail[2 * j + 1], latest(x) ^ oldest(x))
+    disagreement_of(tail[2 * j], middle(x) ^ oldest(x))
+        + disagreement_of(tail[2 * j + 1], latest(x) ^ oldest(x))
 }
 
 /// The cost of the tail from a state.

@@ -1,9 +1,10 @@
-use Rattle.std.proofs.Common.{◌≡◌, ◌≤◌, ℕ, nat_abs, w16, pos, slice_index_or, arith, refl, ◌∙◌, ap}
+use Rattle.std.proofs.Common.{◌≡◌, ◌≤◌, ℕ, nat_abs, w16, w32, pos, slice_index_or, arith, refl, ◌∙◌, ap}
 use Rattle.std.proofs.lemmas.Int.{to_z-of_z, fits_signed_from_abs}
 use Rattle.std.proofs.lemmas.List.Elements.{All-get_or}
 use Rattle.finite.specs.Sums.{total_below}
 use Rattle.finite.proofs.Sums.{total_below_more}
 use Rattle.conv_code.specs.Cost.{disagreement}
+use Rattle.conv_code.proofs.Costs.{disagreement-le}
 use Rattle.pcfich.specs.Indicator.{code_bit, cost}
 use Rattle.pcfich.proofs.indicator.cost_of.Goals as goal
 
@@ -17,9 +18,11 @@ loop-i-preserved c =
     let before = c.loop-i.invariant.so_far in
     let small = c.loop-i.invariant.small in
     let few = All-get_or (λ value. nat_abs value ≤ 127) c.args.values.now c.loop-i.i (pos 0) (omega arith) c.requires.sizes in
-    let kept = to_z-of_z w16 _ (fits_signed_from_abs w16 (slice_index_or c.args.values.now c.loop-i.i (pos 0)) (omega (arith, few))) in
-    let here = rw kept at c.disagreement_of-cost.ensures.value in
-    let bound = c.disagreement_of-cost.ensures.bound in
+    let value = slice_index_or c.args.values.now c.loop-i.i (pos 0) in
+    let kept = to_z-of_z w16 value (fits_signed_from_abs w16 value (omega (arith, few))) in
+    let widened = to_z-of_z w32 value (fits_signed_from_abs w32 value (omega (arith, few))) in
+    let here = rw (kept, widened) at c.disagreement_of-cost.ensures in
+    let bound = disagreement-le value (code_bit c.args.indicator c.loop-i.i) in
     let more = total_below_more c.loop-i.i one in
     record { so_far = cc; small = omega arith }
 

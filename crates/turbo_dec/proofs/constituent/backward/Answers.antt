@@ -2,7 +2,8 @@ use Rattle.std.proofs.Common.{◌≡◌, suc, ◌-◌, arith, rules}
 use Rattle.std.proofs.lemmas.Int.{to_z-of_z}
 use mir.Val.{SFits}
 use mir.Syntax.{w32}
-use Rattle.turbo_dec.proofs.Back.{back_all, back_step, all_small, forward_row_of}
+use Rattle.turbo_dec.proofs.Small.{all_small}
+use Rattle.turbo_dec.proofs.Back.{back_all, back_step, forward_row_of}
 use Rattle.turbo_dec.proofs.constituent.backward.Goals as goal
 
 pub extrinsic_of-requires-clause-zeros : goal.extrinsic_of-requires-clause-zeros

@@ -1,7 +1,7 @@
 use Rattle.std.proofs.Common.{arith, pos, length, drop, replicate}
 use Rattle.std.proofs.lemmas.List.Elements.{All-append, All-drop, All-replicate}
 use Rattle.turbo_dec.specs.Decoder.{IsSmall, values_of}
-use Rattle.turbo_dec.proofs.Iterating.{small_extrinsics}
+use Rattle.turbo_dec.proofs.Small.{small_extrinsics}
 use Rattle.turbo_dec.proofs.iterations.extrinsics_of.Goals as goal
 
 pub returns-clause-small : goal.returns-clause-small

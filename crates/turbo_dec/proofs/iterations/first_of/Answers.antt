@@ -1,6 +1,7 @@
 use Rattle.std.proofs.Common.{arith}
 use Rattle.turbo_code.proofs.TableFacts.{is_small}
-use Rattle.turbo_dec.proofs.Iterating.{small_tail, first_is}
+use Rattle.turbo_dec.proofs.Small.{small_tail}
+use Rattle.turbo_dec.proofs.Iterating.{first_is}
 use Rattle.turbo_dec.proofs.iterations.first_of.Goals as goal
 
 pub tail_of-requires : goal.tail_of-requires

@@ -5,7 +5,8 @@ use Rattle.finite.proofs.Lists.{set_more}
 use Rattle.turbo_code.specs.Table.{place}
 use Rattle.turbo_code.proofs.TableFacts.{is_small}
 use Rattle.turbo_dec.specs.Decoder.{IsSmall, at}
-use Rattle.turbo_dec.proofs.Iterating.{small_back, small_item, in_order_is}
+use Rattle.turbo_dec.proofs.Small.{small_back, small_item}
+use Rattle.turbo_dec.proofs.Iterating.{in_order_is}
 use Rattle.turbo_dec.proofs.iterations.in_order_of.Goals as goal
 
 pub loop-i-init : goal.loop-i-init

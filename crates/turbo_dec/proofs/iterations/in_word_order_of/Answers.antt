@@ -4,7 +4,8 @@ use Rattle.std.proofs.lemmas.List.Elements.{All-set, All-replicate}
 use Rattle.turbo_code.specs.Table.{place}
 use Rattle.turbo_code.proofs.TableFacts.{is_small}
 use Rattle.turbo_dec.specs.Decoder.{IsSmall, at}
-use Rattle.turbo_dec.proofs.Iterating.{small_back, small_item, placed_more, in_word_order_is}
+use Rattle.turbo_dec.proofs.Small.{small_back, small_item}
+use Rattle.turbo_dec.proofs.Iterating.{placed_more, in_word_order_is}
 use Rattle.turbo_dec.proofs.iterations.in_word_order_of.Goals as goal
 
 pub loop-i-init : goal.loop-i-init

@@ -1,5 +1,5 @@
 use Rattle.std.proofs.Common.{◌+◌}
-use Rattle.turbo_dec.proofs.Iterating.{small_tail}
+use Rattle.turbo_dec.proofs.Small.{small_tail}
 use Rattle.turbo_dec.proofs.iterations.second_of.Goals as goal
 
 pub extrinsics_of-found-requires-clause-small_tail : goal.extrinsics_of-found-requires-clause-small_tail
