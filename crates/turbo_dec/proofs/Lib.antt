@@ -6,3 +6,4 @@ pub mod Greatest
 pub mod Rows
 pub mod Back
 pub mod Iterating
+pub mod Known
