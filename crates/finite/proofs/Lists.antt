@@ -137,7 +137,7 @@ find_below_first p f m n below before here =
     let inside : n < length (values_below m f) = omega (arith, size, below) in
     let at : (k : ℕ) → k < m → get_or (values_below m f) k d ≡ f k = λ k l. values_below_at f m k d l in
     let place = position_or_len_is p (values_below m f) n d (omega (arith, inside))
-      (λ k l. ap p (at k (omega (arith, l, below))) ∙ before k l) (λ l. ap p (at n below) ∙ here) in
+    (λ k l. ap p (at k (omega (arith, l, below))) ∙ before k l) (λ l. ap p (at n below) ∙ here) in
     find_at p (values_below m f) ∙ ap (slice_get (values_below m f)) place ∙ slice_get-get_or (values_below m f) n d inside ∙ ap Some (at n below)
 
 -- and where none passes
