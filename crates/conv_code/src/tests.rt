@@ -133,3 +133,14 @@ fn sums_by_place_of_40_bits(rt: HostRuntime) -> Result<(), Fail> {
 fn no_values_give_sums_of_0(rt: HostRuntime) {
     assert_eq!(rt; combine::<6>(&[]), [[0; 3]; 6]);
 }
+
+#[test]
+fn a_value_speaks_against_one_bit(rt: HostRuntime) {
+    assert_eq!(rt; disagreement_of(5, true), 5);
+    assert_eq!(rt; disagreement_of(5, false), 0);
+    assert_eq!(rt; disagreement_of(-3, true), 0);
+    assert_eq!(rt; disagreement_of(-3, false), 3);
+    assert_eq!(rt; disagreement_of(0, true), 0);
+    assert_eq!(rt; disagreement_of(0, false), 0);
+    assert_eq!(rt; disagreement_of(i32::MIN, false), 2_147_483_648);
+}
