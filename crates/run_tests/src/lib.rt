@@ -7,3 +7,5 @@ mod certificates;
 mod recordings;
 #[cfg(test)]
 mod tests;
+#[cfg(test)]
+mod texts;

@@ -3,8 +3,7 @@ use Rattle.std.proofs.Common.{◌≡◌, ◌≢◌, ℕ, suc, ◌+◌, ◌<◌, 
 use Rattle.std.specs.Prelude.{All, nat_eq}
 use Rattle.std.specs.List.{range_with_len}
 use Rattle.std.specs.Option.{option_map}
-use Rattle.std.proofs.lemmas.Bool.{cases_lt}
-use Rattle.std.proofs.lemmas.Bool.Decides.{eqb_tells}
+use Rattle.std.proofs.lemmas.Bool.{cases_lt, eq-eqb, ne_eqb}
 use Rattle.std.proofs.lemmas.List.{ext_get_or, get_or-map, length-map, take-map, take-replicate}
 use Rattle.std.proofs.lemmas.List.Elements.{All-replicate}
 use Rattle.std.proofs.lemmas.List.Sums.{position_or_len_is}
@@ -53,14 +52,8 @@ step_is row i is_row inside =
     let at : (j : ℕ) → j < row.k → get_or (range_with_len 0 row.k) j 0 ≡ j = λ j l. get_or-range_with_len 0 row.k j 0 l ∙ omega arith in
     position_or_len_is (λ j. nat_eq (place row j) (place row i)) (range_with_len 0 row.k) i 0 (omega (arith, size, inside))
     (λ j before. ap (λ m. nat_eq (place row m) (place row i)) (at j (omega (arith, before, inside)))
-    ∙ differs (place row j) (place row i) (λ e. let same = permutes.one_to_one j i (omega (arith, before, inside)) inside e in absurd (omega (arith, same, before))))
-    (λ l. ap (λ m. nat_eq (place row m) (place row i)) (at i inside) ∙ same (place row i))
-  where
-    differs : (a b : ℕ) → a ≢ b → nat_eq a b ≡ false
-    differs a b ne = elim (eqb_tells a b) [ inl (t, e) ↦ absurd (ne e) | inr (f, h) ↦ f ]
-
-    same : (a : ℕ) → nat_eq a a ≡ true
-    same a = elim (eqb_tells a a) [ inl (t, e) ↦ t | inr (f, h) ↦ absurd (h refl) ]
+    ∙ ne_eqb (place row j) (place row i) (λ e. let same = permutes.one_to_one j i (omega (arith, before, inside)) inside e in absurd (omega (arith, same, before))))
+    (λ l. ap (λ m. nat_eq (place row m) (place row i)) (at i inside) ∙ eq-eqb (place row i) (place row i) refl)
 
 pub in_word_order_is : (row : Row) (values found : List ℤ) (i : ℕ) → IsRow row → row.k ≤ i → length found ≡ 1024 →
     ((j : ℕ) → j < i → get_or found (place row j) (pos 0) ≡ at values j) → take row.k found ≡ in_word_order row values

@@ -73,7 +73,7 @@ far = 2 ^ 28
 abbrev pub starts : ℕ → ℕ
 starts x = cond (nat_eq x 0) 0 far
 
--- the row has the least costs of k steps to each state
+-- the row has the least costs of k steps to each state; a step costs at most 12,288, since no value is greater than 4,096
 pub record IsForwardRow (v : Values) (k : ℕ) (row : List ℕ) : Type 0 where
   pub least : (x : ℕ) → x < 8 → IsLeastTo next (step_cost v) starts 8 k x (slice_index row x)
   pub room : (x : ℕ) → x < 8 → slice_index row x ≤ far + k * 12288

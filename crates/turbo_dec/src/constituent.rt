@@ -87,9 +87,7 @@ fn backward(
     ensures { out.new ≡ extrinsics (values_of systematic.now parity.now tail.now prior.now) }
 {
     let mut row = tail_row(tail);
-    let mut k = systematic.len();
-    while k > 0 {
-        k -= 1;
+    for k in (0..systematic.len()).rev() {
         let soft = soft_at(systematic, parity, prior, k);
         let zeros = least_through(&soft, &rows[k], &row, false);
         let ones = least_through(&soft, &rows[k], &row, true);
@@ -98,10 +96,12 @@ fn backward(
     }
 }
 
-/// Writes the extrinsic values of a word of at most 1,024 bits: for each bit the greatest score of a word
-/// with 0 there, less that of a word with 1, less the bit's value and prior, clamped to -2047 to 2047. A word
-/// scores the sum of the values whose bits are 0. `tail` has the values of x(K), z(K), x(K + 1), z(K + 1),
-/// x(K + 2) and z(K + 2). The four slices have one length, and each value is at most 4,096 in size.
+/// Writes the extrinsic values (own) of a word of at most 1,024 bits: for each bit the greatest score of a
+/// word with 0 there, less that of a word with 1, less the bit's value and prior, clamped to -2047 to 2047. A
+/// word scores the sum of the values whose bits are 0 in it, its parity bits and its tail (TS 36.212 sections
+/// 5.1.3.2.1 and 5.1.3.2.2), where a bit of the word counts its value and its prior. `tail` has the values of
+/// x(K), z(K), x(K + 1), z(K + 1), x(K + 2) and z(K + 2). The four slices have one length, and each value that
+/// is read is at most 4,096 in size.
 pub fn half(
     systematic: &[i32],
     parity: &[i32],

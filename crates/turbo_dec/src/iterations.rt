@@ -14,7 +14,7 @@ use arrayvec::ArrayVec;
 use cs_bits::{crc24a, number_of};
 use turbo_code::{Combined, Row, place_of};
 
-/// The bits of a block, without their check.
+/// The bits of a block, at most 1,000, without their check.
 pub type Block = ArrayVec<bool, 1000>;
 
 /// How many iterations are tried.
@@ -274,9 +274,12 @@ fn payload_of(word: &[bool]) -> Block
 }
 
 /// The block of the sums of received values: the first of eight iterates whose check passes (CRC24A, TS
-/// 36.212 section 5.1.1), without the check; `None` exactly where none passes. An iteration is one pass of
-/// each decoder, which hands on three quarters of its extrinsic values as the prior of the other. `row` is a
-/// row of the table, the sums are those of its K, and each is at most 4,096 in size.
+/// 36.212 section 5.1.1), without the check; `None` exactly where none passes. The iteration is own: one pass
+/// of the first decoder, then one of the second, which reads the word in the order of the interleaver. The
+/// prior of each is what the other handed on last: its extrinsic values, each less its quarter rounded toward
+/// 0; the first prior is 0. A bit is told as 1 where its value and both extrinsic values, with no quarter
+/// taken off, sum to less than 0. `row` is a row of the table, the sums are those of its K, and each is at
+/// most 4,096 in size.
 pub fn decode(values: &Combined, row: Row, work: &mut Work) -> Option<Block>
     requires row { IsRow row }
     requires sizes { All (All IsSmall) values.now.d }

@@ -3,6 +3,7 @@ ghost use Rattle.turbo_code.specs.Table.{IsRow};
 ghost use Rattle.turbo_dec.specs.Decoder.{IsSmall};
 
 use super::*;
+use arrayvec::ArrayVec;
 use cs_bits::crc24a;
 use std::alloc::{AllocError, Global};
 use std::test::Fail;
@@ -401,32 +402,30 @@ fn longer_blocks(rt: HostRuntime) -> Result<(), Fail> {
     Ok(())
 }
 
-/// The block of 56 bits whose sums are all this value, but for the first; none where they do not fit.
-fn constant(alloc: Global, first: i32, value: i32) -> Result<Option<Block>, AllocError> {
+/// What the decoder tells of sums that are all this value, but for the first, where zeros were sent.
+fn told_of(alloc: Global, first: i32, value: i32) -> Result<Answer, AllocError> {
     let mut work = Work::new(alloc)?;
     let Some(row) = row_of(32) else {
-        return Ok(None);
+        return Ok(Answer::Unfit);
     };
     let mut d = [[value; 1028]; 3];
     d[0][0] = first;
     if !are_all_small(&d) {
-        return Ok(None);
+        return Ok(Answer::Unfit);
     }
-    Ok(decode(&Combined { k: row.k, d }, row, &mut work))
-}
-
-/// Whether there is a block, of 32 zeros.
-fn is_zeros(block: &Option<Block>) -> bool {
+    let block: Option<ArrayVec<bool, 1000>> = decode(&Combined { k: row.k, d }, row, &mut work);
     match block {
-        Some(bits) => bits.as_slice() == [false; 32].as_slice(),
-        None => false,
+        None => Ok(Answer::Nothing),
+        Some(bits) if bits.as_slice() == [false; 32].as_slice() => Ok(Answer::Sent),
+        Some(_) => Ok(Answer::Other),
     }
 }
 
 #[test]
 fn blocks_of_sums_that_are_all_the_same(rt: HostRuntime) -> Result<(), Fail> {
-    assert!(rt; is_zeros(&constant(rt.alloc(), 0, 0)?));
-    assert!(rt; is_zeros(&constant(rt.alloc(), 8, 8)?));
-    assert!(rt; constant(rt.alloc(), -2047, 0)?.is_none());
+    assert_eq!(rt; told_of(rt.alloc(), 0, 0)?, Answer::Sent);
+    assert_eq!(rt; told_of(rt.alloc(), 8, 8)?, Answer::Sent);
+    assert_eq!(rt; told_of(rt.alloc(), -2047, 0)?, Answer::Nothing);
+    assert_eq!(rt; told_of(rt.alloc(), 0, -4097)?, Answer::Unfit);
     Ok(())
 }

@@ -4,6 +4,3 @@ use Rattle.turbo_dec.proofs.constituent.backward.Given as goal
 
 abbrev pub invariant-loop-k : goal.invariant-loop-k
 invariant-loop-k l = IsBackTo (values_of l.systematic l.parity l.tail l.prior) l.row l.out l.k
-
-abbrev pub decreases-loop-k : goal.decreases-loop-k
-decreases-loop-k l = l.k
