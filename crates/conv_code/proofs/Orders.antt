@@ -23,6 +23,10 @@ two_rows : cells_test 2 ≡ true
 unfolding cells_test cells columns every_below
 two_rows = refl
 
+three_rows : cells_test 3 ≡ true
+unfolding cells_test cells columns every_below
+three_rows = refl
+
 pub record AreCells (r : ℕ) : Type 0 where
   pub count : length (cells r) ≡ 32 * r
   pub cell : (m : ℕ) → m < 32 * r → get_or (cells r) m 0 ≡ 32 * (m % r) + get_or columns (m / r) 0
@@ -36,11 +40,12 @@ from_test r e =
       cell = λ m inside. eqb-true _ _ (every_below_at (32 * r) _ parts.1 m inside);
     }
 
-pub are_cells : (r : ℕ) → 0 < r → r ≤ 2 → AreCells r
+pub are_cells : (r : ℕ) → 0 < r → r ≤ 3 → AreCells r
 are_cells zero h k = absurd (omega arith)
 are_cells (suc zero) h k = from_test 1 one_row
 are_cells (suc (suc zero)) h k = from_test 2 two_rows
-are_cells (suc (suc (suc r))) h k = absurd (omega arith)
+are_cells (suc (suc (suc zero))) h k = from_test 3 three_rows
+are_cells (suc (suc (suc (suc r)))) h k = absurd (omega arith)
 
 columns_test : every_below 32 (λ c. nat_lt (get_or columns c 0) 32) ≡ true
 unfolding every_below columns
@@ -60,7 +65,7 @@ order_test n order =
     nat_eq (length order) n && (every_below n (λ p. nat_lt (get_or order p 0) n && nat_eq (spot (get_or order p 0) order) p)
     && every_below n (λ k. nat_lt (spot k order) n && nat_eq (get_or order (spot k order) 0) k))
 
-all_orders : every_below 65 (λ n. order_test n (stream_order n)) ≡ true
+all_orders : every_below 67 (λ n. order_test n (stream_order n)) ≡ true
 unfolding every_below order_test stream_order bits_in cells columns
 all_orders = refl
 
@@ -90,8 +95,8 @@ order_facts n e =
       each = λ k h. eqb-true _ _ (back k h).1;
     }
 
-pub is_order : (n : ℕ) → n ≤ 64 → IsOrder n
-is_order n h = order_facts n (every_below_at 65 (λ n. order_test n (stream_order n)) all_orders n (omega arith))
+pub is_order : (n : ℕ) → n ≤ 66 → IsOrder n
+is_order n h = order_facts n (every_below_at 67 (λ n. order_test n (stream_order n)) all_orders n (omega arith))
 
 -- ---- the search for a place
 
@@ -108,7 +113,7 @@ pub record IsLeft (n r p m left : ℕ) : Type 0 where
   pub same : get_or (stream_order n) p 0 ≡ get_or (bits_in (32 * r - n) (drop m (cells r))) left 0
   pub inside : left < length (bits_in (32 * r - n) (drop m (cells r)))
 
-pub left_first : (n r p : ℕ) → r ≡ rows n → n ≤ 64 → p < n → IsLeft n r p 0 p
+pub left_first : (n r p : ℕ) → r ≡ rows n → n ≤ 66 → p < n → IsLeft n r p 0 p
 unfolding stream_order
 left_first n r p e h below = rw e (record {
   same = refl;

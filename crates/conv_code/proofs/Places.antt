@@ -62,7 +62,7 @@ three n q some h = (div-lt_iff_lt-mul some).1 h
 pub place_of-stream : (n i : ℕ) → 0 < n → n ≤ 64 → place_of n i ≡ place_in n (i % (3 * n) % n) (i % (3 * n) / n)
 unfolding place_of
 place_of-stream n i some short =
-    let o = is_order n short in
+    let o = is_order n (omega (arith, short)) in
     let q : ℕ = i % (3 * n) in
     let below : q % n < n = omega arith in
     let e : q / n * n + q % n ≡ q = omega arith in
@@ -76,7 +76,7 @@ spread n t p some below = (div-mul-add t n p below, mod-mul-add t n p below)
 
 each_once : (n : ℕ) → 6 ≤ n → n ≤ 64 → ReadsEachPlaceOnce n
 each_once n long short =
-    let o = is_order n short in
+    let o = is_order n (omega (arith, short)) in
     let some : 0 < n = omega arith in
     record {
       count = length-reading n o;

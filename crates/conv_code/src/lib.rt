@@ -11,7 +11,7 @@ mod matching;
 pub use cost::disagreement_of;
 pub use encoder::encode;
 pub use laws::{coded_words_tell_words, reading_permutes};
-pub use matching::{combine, match_out};
+pub use matching::{combine, match_out, stream_place};
 
 #[cfg(test)]
 mod tests;

@@ -15,10 +15,10 @@ const COLUMNS: [usize; 32] = [
     10, 26, 6, 22, 14, 30,
 ];
 
-/// The cell that is read after m others in a matrix of 1 or 2 rows.
+/// The cell that is read after m others in a matrix of 1 to 3 rows.
 fn cell_at(rows: usize, m: usize) -> usize
     requires some { 0 < rows }
-    requires few { rows ≤ 2 }
+    requires few { rows ≤ 3 }
     requires cells { m < 32 * rows }
     ensures cell { result ≡ slice_index_or (cells rows) m 0 }
     ensures inside { result < 32 * rows }
@@ -26,10 +26,10 @@ fn cell_at(rows: usize, m: usize) -> usize
     32 * (m % rows) + COLUMNS[m / rows]
 }
 
-/// The place of the bit that is read after p others of a stream of n bits.
-fn stream_place(n: usize, p: usize) -> usize
-    requires low { 6 ≤ n }
-    requires high { n ≤ 64 }
+/// The place of the bit that is read after p others of a stream of n bits, n at most 66 (TS 36.212 section
+/// 5.1.4.2.1). `p` is below n, and so is the answer.
+pub fn stream_place(n: usize, p: usize) -> usize
+    requires high { n ≤ 66 }
     requires bits { p < n }
     ensures place { result ≡ slice_index_or (stream_order n) p 0 }
     ensures inside { result < n }

@@ -144,3 +144,11 @@ fn a_value_speaks_against_one_bit(rt: HostRuntime) {
     assert_eq!(rt; disagreement_of(0, false), 0);
     assert_eq!(rt; disagreement_of(i32::MIN, false), 2_147_483_648);
 }
+
+#[test]
+fn the_first_places_of_a_stream_of_40(rt: HostRuntime) {
+    let places = [9, 25, 17, 1, 33, 13, 29, 21, 5, 37];
+    for p in 0..10_usize {
+        assert_eq!(rt; stream_place(40, p), places[p]);
+    }
+}

@@ -12,6 +12,3 @@ pub use broadcast::values;
 pub use explain::explain_slot;
 pub use laws::at_most_one_master;
 pub use master::Master;
-
-#[cfg(test)]
-mod tests;

@@ -6,6 +6,3 @@ mod indicator;
 mod values;
 
 pub use indicator::{cfi, only_one_indicator};
-
-#[cfg(test)]
-mod tests;

@@ -7,6 +7,3 @@ mod search_space;
 
 pub use order::quadruplets_carried;
 pub use search_space::{candidate, elements};
-
-#[cfg(test)]
-mod tests;

@@ -1,4 +1,4 @@
-use Rattle.std.proofs.Common.{ℕ, ◌*◌, ◌/◌, ◌%◌, ◌+◌, ◌<◌, ◌≤◌, arith, sym, suc, zero}
+use Rattle.std.proofs.Common.{ℕ, ◌*◌, ◌/◌, ◌%◌, ◌+◌, ◌<◌, arith, sym}
 use Rattle.std.proofs.Math.Nat.{div-lt_iff_lt-mul}
 use Rattle.conv_code.specs.Reading.{columns}
 use Rattle.conv_code.proofs.Orders.{are_cells, column_below}
@@ -18,10 +18,7 @@ pub returns-clause-inside : goal.returns-clause-inside
 unfolding columns
 returns-clause-inside c =
     let column = column_below (c.args.m / c.args.rows) ((div-lt_iff_lt-mul c.requires.some).1 c.requires.cells) in
-    inside (c.args.m) c.args.rows _ c.requires.some c.requires.few column
+    inside (c.args.m) c.args.rows _ c.requires.some column
   where
-    inside : (m r column : ℕ) → 0 < r → r ≤ 2 → column < 32 → 32 * (m % r) + column < 32 * r
-    inside m zero column h k below = absurd (omega arith)
-    inside m (suc zero) column h k below = omega arith
-    inside m (suc (suc zero)) column h k below = omega arith
-    inside m (suc (suc (suc r))) column h k below = absurd (omega arith)
+    inside : (m r column : ℕ) → 0 < r → column < 32 → 32 * (m % r) + column < 32 * r
+    inside m r column h below = let rest : m % r < r = omega arith in omega (arith, rest)

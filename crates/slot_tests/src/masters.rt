@@ -1,19 +1,13 @@
-ghost use Rattle.std.specs.Prelude.{◌≡◌, ℕ, ◌^◌, ◌<◌, ◌≤◌, All};
-ghost use Rattle.cs_num.specs.Complex.{IsWithin};
-
-use crate::{Master, at_most_one_master, explain_slot, values};
-use cs_num::Cpx;
-use lte_types::{Bandwidth, CellId, Duration, Resource};
-use soft_bits::Slot;
-use std::process::Abort;
+use crate::seen::{EMPTY, Rows, slot_of};
+use lte_types::{Bandwidth, Duration, Resource};
+use pbch::{Master, at_most_one_master, explain_slot, values};
 use std::test::Fail;
 use tailbite::Trellis;
 
-// Symbols 0 to 4 of slot 1, by subcarriers. A digit is 2 where the real part is negative, and 1 more
-// where the imaginary part is; the other symbols are empty.
+// Slots 1, which carry the broadcast channel.
 
 // Bandwidth code 6, of identity 0 at phase 1.
-const CODE_6: [&[u8; 72]; 5] = [
+const CODE_6: Rows = [
     b"321.00231.00320.11212.03002.23310.20130.00210.31022.33102.00200.01103.00",
     b".22.30.21.31.12.01.33.00.31.01.30.20.03.23.32.23.11.32.20.33.13.00.02.32",
     b"122012302103232220231200201321302010023213010100311200022332010110211133",
@@ -22,7 +16,7 @@ const CODE_6: [&[u8; 72]; 5] = [
 ];
 
 // One port, of identity 0 at phase 0.
-const ONE_PORT: [&[u8; 72]; 5] = [
+const ONE_PORT: Rows = [
     b"321.02230.20323.13213.20012.12330.11100.03212.02021.30103.21212.01121.21",
     b".21.33.13.31.13.01.31.22.32.01.13.32.00.00.13.10.00.22.00.12.01.03.21.11",
     b"111303301223012310100111011322222122201103220203201310313223213002230300",
@@ -31,7 +25,7 @@ const ONE_PORT: [&[u8; 72]; 5] = [
 ];
 
 // Two ports, of identity 301 at phase 2.
-const TWO_PORTS: [&[u8; 72]; 5] = [
+const TWO_PORTS: Rows = [
     b"0323.30203.00330.03010.23210.00022.00131.23210.21321.01033.32000.21013.2",
     b"3.32.01.20.11.31.03.03.13.02.23.20.02.22.01.03.03.22.02.11.22.21.11.11.0",
     b"031021303121130230000232213120323330010013201110032213122103101331332021",
@@ -40,7 +34,7 @@ const TWO_PORTS: [&[u8; 72]; 5] = [
 ];
 
 // Four ports, of identity 503 at phase 3.
-const FOUR_PORTS: [&[u8; 72]; 5] = [
+const FOUR_PORTS: Rows = [
     b"13.22101.10221.12203.10123.33301.23310.20211.02022.13330.12223.33132.031",
     b"22.22.03.10.21.11.00.00.20.20.12.20.11.00.21.02.01.23.12.23.01.23.21.21.",
     b"020200231031122223221332313110030123103203222021232101301212022032001132",
@@ -49,7 +43,7 @@ const FOUR_PORTS: [&[u8; 72]; 5] = [
 ];
 
 // Other fields, of identity 77 at phase 1, with eight real parts turned.
-const DAMAGED: [&[u8; 72]; 5] = [
+const DAMAGED: Rows = [
     b"13.20022.02101.22322.20221.13103.22020.31113.20222.03001.20103.21031.231",
     b"00.13.33.13.01.23.20.33.01.12.02.00.33.30.32.00.12.33.03.20.30.00.11.33.",
     b"332003130123022331111330212023110300322103013103202123132113011222022023",
@@ -58,68 +52,7 @@ const DAMAGED: [&[u8; 72]; 5] = [
 ];
 
 // Nothing at all.
-const SILENCE: [&[u8; 72]; 5] = [EMPTY; 5];
-
-const EMPTY: &[u8; 72] =
-    b"........................................................................";
-
-// What is seen of a sent value: 64 times as much.
-fn seen_of(digit: u8) -> Cpx
-    ensures { IsWithin (2 ^ 25) result }
-{
-    match digit {
-        b'0' => Cpx { re: 5760, im: 5760 },
-        b'1' => Cpx {
-            re: 5760,
-            im: -5760,
-        },
-        b'2' => Cpx {
-            re: -5760,
-            im: 5760,
-        },
-        b'3' => Cpx {
-            re: -5760,
-            im: -5760,
-        },
-        _ => Cpx { re: 0, im: 0 },
-    }
-}
-
-// The same value on all subcarriers.
-fn level(value: Cpx) -> [Cpx; 72]
-    requires { IsWithin (2 ^ 25) value }
-    ensures { All (IsWithin (2 ^ 25)) result }
-{
-    [value; 72]
-}
-
-fn symbol_of(row: &[u8; 72]) -> [Cpx; 72]
-    ensures { All (IsWithin (2 ^ 25)) result }
-{
-    let mut seen = level(seen_of(b'.'));
-    for k in 0..72 {
-        seen[k] = seen_of(row[k]);
-    }
-    seen
-}
-
-// Slot 1 with these symbols.
-fn slot_of(rt: &impl Abort, identity: u16, rows: [&[u8; 72]; 5]) -> Slot
-    ensures { result.number ≡ 1 }
-{
-    let id = CellId::new(identity).expect(rt, "in range");
-    let nothing = level(seen_of(b'.'));
-    let seen = [
-        symbol_of(rows[0]),
-        symbol_of(rows[1]),
-        symbol_of(rows[2]),
-        symbol_of(rows[3]),
-        symbol_of(rows[4]),
-        nothing,
-        nothing,
-    ];
-    Slot::new(seen, 1, id)
-}
+const SILENCE: Rows = [EMPTY; 5];
 
 // The ports and the cost of a master block with bandwidth n6, duration normal, resource one and no
 // other bit.
@@ -139,7 +72,7 @@ fn ports_and_cost(master: Option<Master>) -> Option<(u8, u32)> {
 #[test]
 fn a_silent_slot_has_no_master(rt: HostRuntime) -> Result<(), Fail> {
     let mut work = Trellis::new(rt.alloc())?;
-    let slot = slot_of(&rt, 0, SILENCE);
+    let slot = slot_of(&rt, 0, 1, SILENCE);
     for phase in 0..4_u8 {
         assert!(rt; explain_slot(&slot, phase, &mut work).is_none());
     }
@@ -150,7 +83,7 @@ fn a_silent_slot_has_no_master(rt: HostRuntime) -> Result<(), Fail> {
 #[test]
 fn bandwidth_code_6_is_no_master(rt: HostRuntime) -> Result<(), Fail> {
     let mut work = Trellis::new(rt.alloc())?;
-    let slot = slot_of(&rt, 0, CODE_6);
+    let slot = slot_of(&rt, 0, 1, CODE_6);
     assert_eq!(rt; values(&slot, 1)[0], [268, -268, 268]);
     for phase in 0..4_u8 {
         assert!(rt; explain_slot(&slot, phase, &mut work).is_none());
@@ -161,9 +94,9 @@ fn bandwidth_code_6_is_no_master(rt: HostRuntime) -> Result<(), Fail> {
 #[test]
 fn the_mask_tells_the_ports(rt: HostRuntime) -> Result<(), Fail> {
     let mut work = Trellis::new(rt.alloc())?;
-    let one = slot_of(&rt, 0, ONE_PORT);
-    let two = slot_of(&rt, 301, TWO_PORTS);
-    let four = slot_of(&rt, 503, FOUR_PORTS);
+    let one = slot_of(&rt, 0, 1, ONE_PORT);
+    let two = slot_of(&rt, 301, 1, TWO_PORTS);
+    let four = slot_of(&rt, 503, 1, FOUR_PORTS);
     assert_eq!(rt;
         ports_and_cost(explain_slot(&one, 0, &mut work)),
         Some((1, 0))
@@ -185,7 +118,7 @@ fn the_mask_tells_the_ports(rt: HostRuntime) -> Result<(), Fail> {
 #[test]
 fn a_damaged_block_is_read_at_its_cost(rt: HostRuntime) -> Result<(), Fail> {
     let mut work = Trellis::new(rt.alloc())?;
-    let slot = slot_of(&rt, 77, DAMAGED);
+    let slot = slot_of(&rt, 77, 1, DAMAGED);
     let master = explain_slot(&slot, 1, &mut work).ok_or("no master")?;
     let mib = master.mib;
     assert_eq!(rt;

@@ -1,18 +1,13 @@
-ghost use Rattle.std.specs.Prelude.{◌≡◌, ℕ, ◌^◌, ◌<◌, ◌≤◌, All};
-ghost use Rattle.cs_num.specs.Complex.{IsWithin};
-
-use crate::{candidate, elements, quadruplets_carried};
-use cs_num::Cpx;
+use crate::seen::{Rows, slot_of};
 use lte_types::{Bandwidth, CellId, Cfi, Duration, Mib, Resource};
-use soft_bits::Slot;
+use pdcch::{candidate, elements, quadruplets_carried};
 use std::process::Abort;
 use std::test::Fail;
 
-// Symbols 0 to 4 of slot 10, by subcarriers. A digit is 2 where the real part is negative, and 1 more
-// where the imaginary part is; the other symbols are empty. The control information is the same.
+// Slots 10, whose first symbols carry the control channel. The control information is the same in both.
 
 // Identity 0, indicator 2, duration normal and resource one.
-const PLAIN: [&[u8; 72]; 5] = [
+const PLAIN: Rows = [
     b"020.111.....120.31332.003.....213.02211.32021.111.....230.30033.33130.11",
     b"0313131123113130....2210320133112132....01203100101003121102100130013121",
     b"301301022230100232000121....233132021023302121030311....222101123011....",
@@ -21,7 +16,7 @@ const PLAIN: [&[u8; 72]; 5] = [
 ];
 
 // Identity 503, indicator 3, duration extended and resource two.
-const WIDE: [&[u8; 72]; 5] = [
+const WIDE: Rows = [
     b".....113.32122.311.....233.33223.020.....311.01303.31133.110.....023.021",
     b"....................13122313001210200111....32233201....0013032321201303",
     b"132013130012........223230323221....................1000....13222012....",
@@ -35,64 +30,6 @@ const CODED: &[u8; 288] =
     001100010111100011001101011000111100000111011001110110001100011001110111\
     000001011000101001000111000100000110000001100010111100011001101011000111\
     100000111011001110110001100011001110111000001011000101001000111000100000";
-
-// What is seen of a sent value: 64 times as much.
-fn seen_of(digit: u8) -> Cpx
-    ensures { IsWithin (2 ^ 25) result }
-{
-    match digit {
-        b'0' => Cpx { re: 5760, im: 5760 },
-        b'1' => Cpx {
-            re: 5760,
-            im: -5760,
-        },
-        b'2' => Cpx {
-            re: -5760,
-            im: 5760,
-        },
-        b'3' => Cpx {
-            re: -5760,
-            im: -5760,
-        },
-        _ => Cpx { re: 0, im: 0 },
-    }
-}
-
-// The same value on all subcarriers.
-fn level(value: Cpx) -> [Cpx; 72]
-    requires { IsWithin (2 ^ 25) value }
-    ensures { All (IsWithin (2 ^ 25)) result }
-{
-    [value; 72]
-}
-
-fn symbol_of(row: &[u8; 72]) -> [Cpx; 72]
-    ensures { All (IsWithin (2 ^ 25)) result }
-{
-    let mut seen = level(seen_of(b'.'));
-    for k in 0..72 {
-        seen[k] = seen_of(row[k]);
-    }
-    seen
-}
-
-// Slot 10 with these symbols.
-fn slot_of(rt: &impl Abort, identity: u16, rows: [&[u8; 72]; 5]) -> Slot
-    ensures { result.number ≡ 10 }
-{
-    let id = CellId::new(identity).expect(rt, "in range");
-    let nothing = level(seen_of(b'.'));
-    let seen = [
-        symbol_of(rows[0]),
-        symbol_of(rows[1]),
-        symbol_of(rows[2]),
-        symbol_of(rows[3]),
-        symbol_of(rows[4]),
-        nothing,
-        nothing,
-    ];
-    Slot::new(seen, 10, id)
-}
 
 fn mib_of(rt: &impl Abort, duration: Duration, resource: Resource) -> Mib {
     Mib::new(Bandwidth::N6, duration, resource, 0, 0).expect(rt, "in range")
@@ -125,12 +62,12 @@ fn speaks_for(values: &[i16; 288], coded: &[u8; 288]) -> bool {
 #[test]
 fn the_candidate_has_the_coded_bits(rt: HostRuntime) -> Result<(), Fail> {
     let plain = mib_of(&rt, Duration::Normal, Resource::One);
-    let values = candidate(&slot_of(&rt, 0, PLAIN), cfi_of(&rt, 2), plain).ok_or("none")?;
+    let values = candidate(&slot_of(&rt, 0, 10, PLAIN), cfi_of(&rt, 2), plain).ok_or("none")?;
     assert!(rt; speaks_for(&values, CODED));
     let wide = mib_of(&rt, Duration::Extended, Resource::Two);
-    let values = candidate(&slot_of(&rt, 503, WIDE), cfi_of(&rt, 3), wide).ok_or("none")?;
+    let values = candidate(&slot_of(&rt, 503, 10, WIDE), cfi_of(&rt, 3), wide).ok_or("none")?;
     assert!(rt; speaks_for(&values, CODED));
-    let other = candidate(&slot_of(&rt, 503, WIDE), cfi_of(&rt, 3), plain).ok_or("none")?;
+    let other = candidate(&slot_of(&rt, 503, 10, WIDE), cfi_of(&rt, 3), plain).ok_or("none")?;
     assert!(rt; !speaks_for(&other, CODED));
     Ok(())
 }
@@ -138,5 +75,5 @@ fn the_candidate_has_the_coded_bits(rt: HostRuntime) -> Result<(), Fail> {
 #[test]
 fn two_elements_are_no_candidate(rt: HostRuntime) {
     let mib = mib_of(&rt, Duration::Normal, Resource::OneSixth);
-    assert!(rt; candidate(&slot_of(&rt, 0, PLAIN), cfi_of(&rt, 1), mib).is_none());
+    assert!(rt; candidate(&slot_of(&rt, 0, 10, PLAIN), cfi_of(&rt, 1), mib).is_none());
 }

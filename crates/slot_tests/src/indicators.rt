@@ -1,0 +1,47 @@
+use crate::seen::{EMPTY, Rows, slot_of};
+use pcfich::{cfi, only_one_indicator};
+
+// Slots 10, whose symbol 0 carries the control format indicator.
+
+// Indicator 1 of identity 77, with three real parts turned.
+const DAMAGED_1: Rows = [
+    b".....2.....312.002.....2.....203.300.....0.....300.002.....3.....113.313",
+    EMPTY,
+    EMPTY,
+    EMPTY,
+    b"..3.....0.....2.....0.....3.....3.....2.....2.....1.....2.....1.....0...",
+];
+
+// Indicator 2 of identity 0.
+const TWO: Rows = [
+    b"020.111.....120.31332.003.....213.02211.32021.111.....230.30033.33130.11",
+    EMPTY,
+    EMPTY,
+    EMPTY,
+    b"...3.....0.....1.....2.....1.....3.....3.....3.....2.....0.....2.....0..",
+];
+
+// Indicator 3 of identity 503.
+const THREE: Rows = [
+    b".....113.32122.311.....233.33223.020.....311.01303.31133.110.....023.021",
+    EMPTY,
+    EMPTY,
+    EMPTY,
+    b"..2.....1.....3.....2.....0.....2.....0.....0.....2.....0.....1.....1...",
+];
+
+// Nothing at all.
+const SILENCE: Rows = [EMPTY; 5];
+
+#[test]
+fn the_values_tell_the_indicator(rt: HostRuntime) {
+    assert_eq!(rt; cfi(&slot_of(&rt, 77, 10, DAMAGED_1)).value(), 1);
+    assert_eq!(rt; cfi(&slot_of(&rt, 0, 10, TWO)).value(), 2);
+    assert_eq!(rt; cfi(&slot_of(&rt, 503, 10, THREE)).value(), 3);
+    only_one_indicator();
+}
+
+#[test]
+fn a_silent_slot_tells_the_lowest(rt: HostRuntime) {
+    assert_eq!(rt; cfi(&slot_of(&rt, 0, 10, SILENCE)).value(), 1);
+}
