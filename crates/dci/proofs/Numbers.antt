@@ -1,5 +1,9 @@
 -- The numbers of a few bits.
-use Rattle.std.proofs.Common.{◌≡◌, ℕ, ◌+◌, ◌*◌, ◌^◌, ◌<◌, Bool, true, false, cond, nat_eq, List, [], ◌∷◌, length, refl, ap, arith}
+use Rattle.std.proofs.Common.{◌≡◌, ℕ, ◌+◌, ◌-◌, ◌^◌, ◌<◌, ◌≤◌, Bool, true, false, nat_eq, List, [], ◌∷◌, length, length-drop, map, take, drop, refl, ap, sym, ◌∙◌, arith}
+use Rattle.std.specs.Prelude.{slice_range}
+use Rattle.std.specs.List.{range_with_len}
+use Rattle.std.proofs.lemmas.List.{ext_get_or, get_or-take, get_or-drop, length-take-le}
+use Rattle.std.proofs.lemmas.List.FromFn.{length-map-range_with_len, get_or-map-range_with_len}
 use Rattle.std.proofs.lemmas.Bool.{eqb-true}
 use Rattle.finite.specs.Tests.{every_below}
 use Rattle.finite.proofs.Tests.{every_below_at}
@@ -52,11 +56,15 @@ pub no_bits : number (bits_of 3 0) ≡ 0
 unfolding number
 no_bits = refl
 
--- five bits by two, one and two
-pub five_by_parts : (bits : List Bool) (first : ℕ) →
-    8 * field bits first 2 + 4 * cond (bit bits (first + 2)) 1 0 + field bits (first + 3) 2 ≡ field bits first 5
-unfolding number
-five_by_parts bits first =
-    let second : first + 1 + 1 ≡ first + 2 = omega arith in
-    let third : first + 2 + 1 ≡ first + 3 = omega arith in
-    rw (second, third) (omega arith)
+-- a field is a part of the bits
+pub field_is_part : (bits : List Bool) (first width : ℕ) → first + width ≤ length bits → number (slice_range bits first (first + width)) ≡ field bits first width
+field_is_part bits first width inside =
+    let e : first + width - first ≡ width = omega arith in
+    let rest = length-drop first bits in
+    let size : length (take width (drop first bits)) ≡ width = length-take-le width (drop first bits) (omega (arith, rest, inside)) in
+    ap number (ap (λ n. take n (drop first bits)) e
+    ∙ ext_get_or false (take width (drop first bits)) (map (bit bits) (range_with_len first width)) (size ∙ sym (length-map-range_with_len (bit bits) first width))
+    (λ i below.
+    let short : i < width = omega (arith, size, below) in
+    get_or-take width (drop first bits) i false short ∙ get_or-drop first bits i false
+    ∙ sym (get_or-map-range_with_len (bit bits) first width i (first + i) false short refl)))

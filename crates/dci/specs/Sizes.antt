@@ -1,5 +1,5 @@
--- The sizes of transport blocks by scheme (own tables; TS 36.213 section 7.1.7.2.1 has those of 2 and
--- 3 resource blocks).
+-- The sizes of transport blocks by scheme, up to 1,000 bits (own tables; TS 36.213 section 7.1.7.2.1 has the
+-- columns of 2 and 3 resource blocks, whose larger sizes are left out).
 use Rattle.std.specs.Prelude.{ℕ, nat_eq, if◌then◌else◌, List, [], ◌∷◌, Option, slice_get}
 
 -- column 2

@@ -1,12 +1,12 @@
 //! A grant, read from its bits.
 
-ghost use Rattle.std.specs.Prelude.{◌≡◌, ◌+◌, ◌<◌, ◌≤◌, IfOk, cond};
+ghost use Rattle.std.specs.Prelude.{◌≡◌, ◌+◌, ◌<◌, ◌≤◌, ◌^◌, IfOk};
 ghost use Rattle.dci.specs.Fields.{field};
 ghost use Rattle.dci.specs.Format1A.{Says, IsGrant, column_of};
 
 use crate::assignment::blocks_of;
 use crate::{Grant, size};
-use cs_bits::Bits;
+use cs_bits::{Bits, number_of};
 use lte_types::Sib1Reason;
 
 /// The grant that 21 bits carry, or the first reason that applies why they carry none: another
@@ -23,11 +23,11 @@ pub fn read(word: &Bits<21>) -> Result<Grant, Sib1Reason>
     if word.get(1) {
         return Err(Sib1Reason::Distributed);
     }
-    let riv = five_bits(word, 2);
+    let riv = field_of(word, 2, 5);
     if riv > 20 {
         return Err(Sib1Reason::BadRiv(riv));
     }
-    let mcs = five_bits(word, 7);
+    let mcs = field_of(word, 7, 5);
     if mcs > 26 {
         return Err(Sib1Reason::ReservedMcs(mcs));
     }
@@ -36,7 +36,7 @@ pub fn read(word: &Bits<21>) -> Result<Grant, Sib1Reason>
         return Err(Sib1Reason::BlockTooLarge);
     };
     let (start, blocks) = blocks_of(riv);
-    let rv = two_bits(word, 16);
+    let rv = field_of(word, 16, 2);
     Ok(Grant {
         start,
         blocks,
@@ -54,28 +54,12 @@ fn column_by(low: bool) -> u8
     if low { 3 } else { 2 }
 }
 
-// 1 for a bit that is set.
-fn weight(bit: bool) -> u8
-    ensures value { result ≡ cond bit 1 0 }
-    ensures bound { result ≤ 1 }
+// The number of so many bits from a first one on.
+fn field_of(word: &Bits<21>, first: usize, width: usize) -> u8
+    requires inside { first + width ≤ 21 }
+    requires few { width ≤ 8 }
+    ensures value { result ≡ field word.now first width }
+    ensures bound { result < 2 ^ width }
 {
-    if bit { 1 } else { 0 }
-}
-
-// The number of two bits.
-fn two_bits(word: &Bits<21>, first: usize) -> u8
-    requires { first + 2 ≤ 21 }
-    ensures value { result ≡ field word.now first 2 }
-    ensures bound { result < 4 }
-{
-    2 * weight(word.get(first)) + weight(word.get(first + 1))
-}
-
-// The number of five bits.
-fn five_bits(word: &Bits<21>, first: usize) -> u8
-    requires { first + 5 ≤ 21 }
-    ensures value { result ≡ field word.now first 5 }
-    ensures bound { result < 32 }
-{
-    8 * two_bits(word, first) + 4 * weight(word.get(first + 2)) + two_bits(word, first + 3)
+    number_of(&word.slice()[first..first + width]) as u8
 }

@@ -13,7 +13,7 @@ const COLUMN_3: [u16; 17] = [
 ];
 
 /// The size of a transport block in bits, by scheme and column; `None` exactly where the table has no
-/// entry. `column` is 2 or 3.
+/// entry, which it has for sizes up to 1,000. `column` is 2 or 3.
 pub fn size(mcs: u8, column: u8) -> Option<u16>
     requires { (column ≡ 2) ⊎ (column ≡ 3) }
     ensures { result ≡ size_of mcs column }

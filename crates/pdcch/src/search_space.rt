@@ -1,6 +1,6 @@
 //! The values of the candidate.
 
-ghost use Rattle.std.specs.Prelude.{◌≡◌, ℕ, ◌+◌, ◌*◌, ◌/◌, ◌%◌, ◌^◌, ◌<◌, ◌≤◌, All, IsTrue, MatchOption, nat_abs, cond, neg_ℤ, length, slice_index_or};
+ghost use Rattle.std.specs.Prelude.{◌≡◌, ℕ, ◌+◌, ◌*◌, ◌/◌, ◌%◌, ◌^◌, ◌<◌, ◌≤◌, All, IfSome, IsTrue, MatchOption, nat_abs, cond, neg_ℤ, length, slice_index_or};
 ghost use Rattle.gold.specs.Gold.{gold_bits};
 ghost use Rattle.finite.specs.Lists.{values_below};
 ghost use Rattle.grid_map.specs.Place.{place};
@@ -30,13 +30,12 @@ pub fn candidate(slot: &Slot, cfi: Cfi, mib: Mib) -> Option<[i16; 288]>
         (element_count cfi mib.duration mib.resource < 4)
         (λ values. (4 ≤ element_count cfi mib.duration mib.resource)
         × (values ≡ candidate_values slot.now cfi mib.duration mib.resource)) }
-    ensures sizes { MatchOption result (element_count cfi mib.duration mib.resource < 4)
-        (λ values. All (λ value. nat_abs value ≤ 127) values) }
+    ensures sizes { IfSome result (λ values. All (λ value. nat_abs value ≤ 127) values) }
 {
-    if elements(slot.id(), cfi, mib) < 4 {
+    let groups = pdcch(slot.id(), cfi, mib);
+    if groups.len() < 4 * 9 {
         return None;
     }
-    let groups = pdcch(slot.id(), cfi, mib);
     Some(stream(slot, groups.as_slice()))
 }
 
