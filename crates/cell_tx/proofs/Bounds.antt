@@ -18,8 +18,7 @@ use Rattle.sizes.proofs.Rounding.{rounded_near}
 use Rattle.sizes.proofs.Sized.{sized-plus, sized-times, sized-sum, sized_plain}
 use Rattle.fold128.specs.Tables.{quarter, cosine, w_at, z_at, z_real, z_imaginary}
 use Rattle.fold128.specs.Symbol.{frequency, useful_term, useful_at}
-use Rattle.fold128.proofs.Entries.{w_period}
-use Rattle.fold128.proofs.Laws.{z_period}
+use Rattle.fold128.proofs.EntrySizes.{w-square, z-square}
 use Rattle.lte_types.specs.declared.frame.Half.{Half}
 use Rattle.crs.specs.Reference.{IsFull, IsReferenceValue, is_reference}
 use Rattle.crs.proofs.Values.{reference-IsReferenceValue, component-IsFull}
@@ -72,19 +71,6 @@ element-within =
     (λ n1 n2 half n. record { re = omega (arith, secondary_size n1 n2 half n); im = omega arith })
     (record { re = omega arith; im = omega arith })
 
-unfoldable short_small : ℕ → Bool
-short_small m = nat_le (square (z_at m)) 16384
-
-all_short_small : every_below 63 short_small ≡ true
-unfolding z_real z_imaginary z_at short_small every_below
-all_short_small = refl
-
-z-square : (m : ℕ) → square (z_at m) ≤ 128 * 128
-z-square m = rw (← (z_period m)) (low (m % 63) (omega arith))
-  where
-    low : (m : ℕ) → m < 63 → square (z_at m) ≤ 16384
-    low m p = leb-true _ _ (unfold short_small in every_below_at 63 short_small all_short_small m p)
-
 primary-square : (n2 n : ℕ) → square (pss_at n2 n) ≤ 128 * 128
 primary-square n2 n = rw (pss_is n2 n) (z-square ((63 - root_of n2) * turns n))
 
@@ -97,19 +83,6 @@ element-square =
     (omega arith)
 
 -- ---- samples
-
-unfoldable entry_small : ℕ → Bool
-entry_small m = nat_le (square (w_at m)) 268468225
-
-all_entries_small : every_below 128 entry_small ≡ true
-unfolding quarter cosine w_at entry_small every_below
-all_entries_small = refl
-
-pub w-square : (m : ℕ) → square (w_at m) ≤ 16385 * 16385
-w-square m = rw (← (w_period m)) (low (m % 128) (omega arith))
-  where
-    low : (m : ℕ) → m < 128 → square (w_at m) ≤ 268468225
-    low m p = leb-true _ _ (unfold entry_small in every_below_at 128 entry_small all_entries_small m p)
 
 -- what rounding leaves of a sum of size at most 72 * 128 * 16385
 rounded-square : (z : Cpx) → IsSized 151004160 1 z → square (rounded z 17) ≤ 1153 * 1153

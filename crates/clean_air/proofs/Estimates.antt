@@ -14,7 +14,7 @@ use Rattle.crs.proofs.Values.{reference-IsReferenceValue}
 use Rattle.soft_bits.specs.Soft.{SeenSlot, pilot_symbol, pilot_subcarrier, pilot_seen, pilot_sent, pilot, between, channel}
 use Rattle.cell_tx.proofs.Bounds.{full_size}
 use Rattle.clean_air.specs.Values.{ArePilotsSeen}
-use Rattle.clean_air.proofs.Deviations.{deviation, deviation-sized, channel_is}
+use Rattle.budget.proofs.Deviations.{deviation, deviation-sized, channel_is}
 
 -- z is c times the gain, up to t times the gain's size
 pub record IsNearGain (g : Cpx) (c t : ℕ) (z : Cpx) : Type 0 where

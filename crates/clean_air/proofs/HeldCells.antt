@@ -33,8 +33,8 @@ use Rattle.explain.specs.Laws.{IsEntry}
 use Rattle.explain.proofs.Entries.{same_master, same_entry}
 use Rattle.explain.proofs.Listed.{is_sound, is_complete}
 use Rattle.clean_air.specs.Clean.{HoldsCell, HoldsCleanCells}
-use Rattle.clean_air.proofs.Peaks.{primary_is_listed, none_near_is_hit}
-use Rattle.clean_air.proofs.Scores.{sent_pair_is_identified}
+use Rattle.budget.proofs.Peaks.{primary_is_listed, none_near_is_hit}
+use Rattle.budget.proofs.Scores.{sent_pair_is_identified}
 use Rattle.clean_air.proofs.Masters.{sent_word_is_told, received_slot_speaks}
 use Rattle.clean_air.proofs.SentSymbols.{IsTruePlace, first_frame, primary_at, synchronisation_at}
 use Rattle.clean_air.proofs.SentBlock.{is_block}

@@ -1,20 +1,20 @@
-pub mod Products
-pub mod Leakage
-pub mod Causes
-pub mod Seen
-pub mod Waves
-pub mod PeakSums
-pub mod Windows
-pub mod Peaks
-pub mod Deviations
-pub mod Scores
+-- Soft values. The channel estimate is a multiple of the gain, up to a deviation.
 pub mod Estimates
+-- So each soft value has the sign of the sent bit.
 pub mod SoftValues
+-- Words. Where all values speak for one word, it alone costs nothing.
 pub mod SpokenWords
+-- So the broadcast channel of a slot tells the word that was sent.
 pub mod Masters
+-- The described cell. Equal amplitudes are received equally.
 pub mod Grids
+-- Each symbol of a clean recording is received as it was sent.
 pub mod SentSymbols
+-- The word that a cell broadcasts has its fields, and its check passes.
 pub mod SentBlock
+-- Where its primary signals stand, and what the epochs of its entries are.
 pub mod TruePlaces
+-- Its broadcast slot is received and carries the word.
 pub mod SentSlots
+-- All together: the list holds the cell.
 pub mod HeldCells

@@ -20,7 +20,7 @@ use Rattle.cell_tx.specs.Rows.{reference_if}
 use Rattle.cell_tx.proofs.Bounds.{element-square}
 use Rattle.cell_tx.proofs.Elements.{element_of_broadcast, broadcast_found}
 use Rattle.explain.specs.Frame.{frame_at, useful_start, seen_slot, broadcast_slot}
-use Rattle.clean_air.specs.Received.{IsReceived, samples_from}
+use Rattle.budget.specs.Received.{IsReceived, samples_from}
 use Rattle.clean_air.specs.Values.{IsSlotReceived}
 use Rattle.clean_air.specs.Broadcast.{CarriesWord}
 use Rattle.clean_air.proofs.SentSymbols.{received_at, first_frame}

@@ -16,10 +16,10 @@ use Rattle.cell_tx.specs.Sent.{useful_start, sent}
 use Rattle.cell_tx.specs.Clean.{IsClean, start_of, number_at_start}
 use Rattle.cell_tx.proofs.Symbols.{frames_follow, useful_parts_stand}
 use Rattle.cell_tx.proofs.Elements.{no_reference}
-use Rattle.clean_air.specs.Received.{IsReceived, samples_from}
-use Rattle.clean_air.specs.Score.{sss_grid}
-use Rattle.clean_air.specs.Peak.{IsPrimaryAt}
-use Rattle.clean_air.specs.Score.{AreSynchronisation}
+use Rattle.budget.specs.Received.{IsReceived, samples_from}
+use Rattle.budget.specs.Score.{sss_grid}
+use Rattle.budget.specs.Peak.{IsPrimaryAt}
+use Rattle.budget.specs.Score.{AreSynchronisation}
 use Rattle.clean_air.proofs.Grids.{received_same}
 
 -- ---- a symbol

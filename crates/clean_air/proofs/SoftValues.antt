@@ -20,11 +20,11 @@ use Rattle.sizes.proofs.Products.{product_near, sign-turns, one-times}
 use Rattle.crs.specs.Reference.{component, is_reference}
 use Rattle.observe.specs.Seen.{seen, seen_symbol}
 use Rattle.soft_bits.specs.Soft.{SeenSlot, seen_at, pilot_symbol, pilot_subcarrier, pilot_seen, pilot_sent, pilot_energy, channel, turned_back, soft_value, soft_values}
-use Rattle.clean_air.specs.Received.{IsSeenAs}
+use Rattle.budget.specs.Received.{IsSeenAs}
 use Rattle.clean_air.specs.Values.{Supports, point, ArePilotsSeen, IsSlotReceived, ValuesSupportBits, ReceivedValuesSupportBits}
-use Rattle.clean_air.proofs.Deviations.{deviation, seen_is, deviation-sized}
+use Rattle.budget.proofs.Deviations.{deviation, seen_is, deviation-sized}
 use Rattle.clean_air.proofs.Estimates.{IsNearGain, sent-size, channel-near}
-use Rattle.clean_air.proofs.Seen.{amplitude_is_seen_in_recording}
+use Rattle.budget.proofs.Seen.{amplitude_is_seen_in_recording}
 
 -- ---- the energy of the pilots
 

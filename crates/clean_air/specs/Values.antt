@@ -6,7 +6,7 @@ use Rattle.cs_num.specs.Complex.{square}
 use Rattle.crs.specs.Reference.{component}
 use Rattle.observe.specs.Seen.{seen_symbol}
 use Rattle.soft_bits.specs.Soft.{SeenSlot, seen_at, pilot_symbol, pilot_subcarrier, pilot_seen, pilot_sent, soft_values}
-use Rattle.clean_air.specs.Received.{AreAmplitudes, IsReceived, IsSeenAs, samples_from}
+use Rattle.budget.specs.Received.{AreAmplitudes, IsReceived, IsSeenAs, samples_from}
 
 -- a value speaks for a bit with at least this size: from that number on for 0, and down from its negative for 1
 abbrev pub Supports : ℕ → Bool → ℤ → Type 0

@@ -3,3 +3,4 @@ pub mod Samples
 pub mod Laws
 pub mod Folds
 pub mod FoldSizes
+pub mod EntrySizes

@@ -1,6 +1,6 @@
 //! The table of the 128th roots of one.
 
-ghost use Rattle.clean_air.specs.Table.{IsNearlyMultiplicative};
+ghost use Rattle.budget.specs.Table.{IsNearlyMultiplicative};
 
 /// The product of two entries of W is 16384 times the entry at the sum of their places, up to a
 /// complex number of size at most 34800.

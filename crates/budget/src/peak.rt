@@ -1,6 +1,6 @@
 //! The primary synchronisation signal.
 
-ghost use Rattle.clean_air.specs.Peak.{PrimaryStandsOut, PrimaryIsHit, PrimaryIsListed, NoneNearIsHit};
+ghost use Rattle.budget.specs.Peak.{PrimaryStandsOut, PrimaryIsHit, PrimaryIsListed, NoneNearIsHit};
 
 /// Where 128 samples are the primary signal of a root times a gain, each component off by at most
 /// twice the gain's size, the metric of their place is above that of each place with energy at

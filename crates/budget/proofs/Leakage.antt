@@ -16,8 +16,8 @@ use Rattle.sizes.proofs.Sized.{sized_plain, sized-times, sized-sum}
 use Rattle.fold128.specs.Tables.{quarter, cosine, w_at}
 use Rattle.fold128.specs.Symbol.{frequency, useful_term}
 use Rattle.fold128.proofs.Laws.{w_same, backward_is_conjugate, tones_that_turn_cancel}
-use Rattle.clean_air.specs.Received.{AreAmplitudes}
-use Rattle.clean_air.proofs.Products.{nearly_multiplicative}
+use Rattle.budget.specs.Received.{AreAmplitudes}
+use Rattle.budget.proofs.Products.{nearly_multiplicative}
 
 -- ---- frequencies
 

@@ -16,10 +16,10 @@ use Rattle.sizes.proofs.Cauchy.{cauchy, correlation_same, correlation_plus, corr
 use Rattle.sizes.proofs.Rounding.{rounded_near}
 use Rattle.fold128.specs.Symbol.{frequency, useful_term, useful_at}
 use Rattle.fold128.specs.Spectrum.{spectrum_at}
-use Rattle.cell_tx.proofs.Bounds.{w-square}
-use Rattle.clean_air.specs.Received.{AreAmplitudes}
-use Rattle.clean_air.specs.Budget.{DeviationHasFourCauses}
-use Rattle.clean_air.proofs.Leakage.{sum_sent, tone_at, leak, seen_sent, leak-small}
+use Rattle.fold128.proofs.EntrySizes.{w-square}
+use Rattle.budget.specs.Received.{AreAmplitudes}
+use Rattle.budget.specs.Budget.{DeviationHasFourCauses}
+use Rattle.budget.proofs.Leakage.{sum_sent, tone_at, leak, seen_sent, leak-small}
 
 -- ---- energies
 

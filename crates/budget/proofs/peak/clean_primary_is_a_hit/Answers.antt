@@ -1,5 +1,5 @@
-use Rattle.clean_air.proofs.Peaks.{primary_stands_out, primary_is_hit, primary_is_listed, none_near_is_hit}
-use Rattle.clean_air.proofs.peak.clean_primary_is_a_hit.Goals as goal
+use Rattle.budget.proofs.Peaks.{primary_stands_out, primary_is_hit, primary_is_listed, none_near_is_hit}
+use Rattle.budget.proofs.peak.clean_primary_is_a_hit.Goals as goal
 
 pub returns-clause-stands_out : goal.returns-clause-stands_out
 returns-clause-stands_out c = primary_stands_out

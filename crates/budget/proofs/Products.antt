@@ -7,7 +7,7 @@ use Rattle.cs_num.specs.Complex.{times, square, minus, multiple}
 use Rattle.fold128.specs.Tables.{quarter, cosine, w_at}
 use Rattle.fold128.proofs.Laws.{w_same}
 use Rattle.fold128.proofs.Entries.{w_period}
-use Rattle.clean_air.specs.Table.{IsNearlyMultiplicative}
+use Rattle.budget.specs.Table.{IsNearlyMultiplicative}
 
 unfoldable product_near : ℕ → ℕ → Bool
 product_near a b = nat_le (square (minus (times (w_at a) (w_at b)) (multiple 16384 (w_at (a + b))))) 1211040000

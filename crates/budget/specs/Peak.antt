@@ -5,7 +5,7 @@ use Rattle.cs_num.specs.declared.Cpx.{Cpx}
 use Rattle.cs_num.specs.declared.Sample.{Sample}
 use Rattle.pss_search.specs.Correlation.{pss_grid, peak, energy, wave_power}
 use Rattle.pss_search.specs.Hits.{IsAbove, IsHit, found, hits_of}
-use Rattle.clean_air.specs.Received.{IsReceived, samples_from}
+use Rattle.budget.specs.Received.{IsReceived, samples_from}
 
 -- the 128 samples from t on are the primary signal of n2 times a gain, with errors; what stands around them may be anything
 pub record IsPrimaryAt (recording : List Sample) (t n2 : ℕ) : Type 0 where

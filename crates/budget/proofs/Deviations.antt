@@ -6,7 +6,7 @@ use Rattle.cs_num.proofs.Complex.{times-plus_left}
 use Rattle.sizes.specs.Sizes.{IsSized}
 use Rattle.sizes.proofs.Algebra.{plus-minus, times-associates, times-multiple, multiple-times, times_real, multiple_twice}
 use Rattle.sizes.proofs.Squares.{times_conjugate}
-use Rattle.clean_air.specs.Received.{IsSeenAs}
+use Rattle.budget.specs.Received.{IsSeenAs}
 
 unfoldable pub deviation : Cpx → Cpx → Cpx → Cpx
 deviation gain amplitude seen = minus seen (multiple 64 (times gain amplitude))

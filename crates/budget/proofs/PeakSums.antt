@@ -11,7 +11,7 @@ use Rattle.cs_num.specs.Complex.{square}
 use Rattle.sizes.specs.Sizes.{energy_below, correlation_below}
 use Rattle.sizes.proofs.Cauchy.{energy_same, correlation_same}
 use Rattle.pss_search.specs.Correlation.{wave}
-use Rattle.clean_air.proofs.Waves.{re_25, im_25, samples_25, re_29, im_29, samples_29, re_34, im_34, samples_34, wave_25, wave_29, wave_34}
+use Rattle.budget.proofs.Waves.{re_25, im_25, samples_25, re_29, im_29, samples_29, re_34, im_34, samples_34, wave_25, wave_29, wave_34}
 
 -- the signal i + 1 samples later, against itself
 abbrev pub overlap : (ℕ → Cpx) → ℕ → Cpx

@@ -30,10 +30,10 @@ use Rattle.sss_detect.specs.Identity.{IsBefore, IsBest, identity_of}
 use Rattle.sss_detect.proofs.Choices.{less, not_less, only_one_is_best}
 use Rattle.observe.specs.Seen.{seen}
 use Rattle.pss_search.specs.Correlation.{pss_grid}
-use Rattle.clean_air.specs.Received.{AreAmplitudes, IsSeenAs}
-use Rattle.clean_air.specs.Score.{AreSeen, TermsArePositive, SentPairIsGreatest, SentPairIsBest, SentPairIsIdentified, sss_amplitude, sss_grid}
-use Rattle.clean_air.proofs.Deviations.{deviation, seen_is, deviation-sized, channel_is}
-use Rattle.clean_air.proofs.Seen.{amplitude_is_seen_in_recording}
+use Rattle.budget.specs.Received.{AreAmplitudes, IsSeenAs}
+use Rattle.budget.specs.Score.{AreSeen, TermsArePositive, SentPairIsGreatest, SentPairIsBest, SentPairIsIdentified, sss_amplitude, sss_grid}
+use Rattle.budget.proofs.Deviations.{deviation, seen_is, deviation-sized, channel_is}
+use Rattle.budget.proofs.Seen.{amplitude_is_seen_in_recording}
 
 -- ---- sizes of the sequences
 

@@ -7,7 +7,7 @@ use Rattle.cs_num.specs.Rounding.{rounded}
 use Rattle.fold128.specs.Symbol.{useful_at}
 use Rattle.fold128.specs.Spectrum.{spectrum_at}
 use Rattle.observe.specs.Seen.{seen}
-use Rattle.clean_air.specs.Received.{AreAmplitudes, AreSum, IsReceived, IsReceivedFromTwo, IsSeenAs, IsSeenAsTwo, samples_from}
+use Rattle.budget.specs.Received.{AreAmplitudes, AreSum, IsReceived, IsReceivedFromTwo, IsSeenAs, IsSeenAsTwo, samples_from}
 
 -- what is seen of samples at subcarrier k
 abbrev pub seen_in : (ℕ → Cpx) → ℕ → Cpx

@@ -1,6 +1,6 @@
 //! What is seen of a symbol.
 
-ghost use Rattle.clean_air.specs.Budget.{DeviationHasFourCauses, AmplitudeIsSeen, TwoAmplitudesAreSeen, AmplitudeIsSeenInRecording};
+ghost use Rattle.budget.specs.Budget.{DeviationHasFourCauses, AmplitudeIsSeen, TwoAmplitudesAreSeen, AmplitudeIsSeenInRecording};
 
 /// What is seen of an amplitude is 64 times the amplitude times the gain, off by at most 30 units
 /// of amplitude, where the error of each component of a sample is at most twice the gain's size.

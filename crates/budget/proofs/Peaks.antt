@@ -14,10 +14,10 @@ use Rattle.fold128.specs.Symbol.{useful_at}
 use Rattle.pss_search.specs.Correlation.{pss_grid, wave, wave_power, peak, energy}
 use Rattle.pss_search.specs.Hits.{IsAbove, IsLevel, found}
 use Rattle.pss_search.proofs.Listed.{list_is_right}
-use Rattle.clean_air.specs.Received.{IsReceived, samples_from}
-use Rattle.clean_air.specs.Peak.{PrimaryStandsOut, PrimaryIsHit, PrimaryIsListed, NoneNearIsHit}
-use Rattle.clean_air.proofs.PeakSums.{IsSharp, overlap, wave_is_sharp}
-use Rattle.clean_air.proofs.Windows.{Peaks, with_errors, true_place, beside, above}
+use Rattle.budget.specs.Received.{IsReceived, samples_from}
+use Rattle.budget.specs.Peak.{PrimaryStandsOut, PrimaryIsHit, PrimaryIsListed, NoneNearIsHit}
+use Rattle.budget.proofs.PeakSums.{IsSharp, overlap, wave_is_sharp}
+use Rattle.budget.proofs.Windows.{Peaks, with_errors, true_place, beside, above}
 
 -- the errors of a window
 error : Cpx → (ℕ → Cpx) → (ℕ → Cpx) → ℕ → Cpx

@@ -1,6 +1,6 @@
 //! The synchronisation signals together.
 
-ghost use Rattle.clean_air.specs.Score.{TermsArePositive, SentPairIsGreatest, SentPairIsBest, SentPairIsIdentified};
+ghost use Rattle.budget.specs.Score.{TermsArePositive, SentPairIsGreatest, SentPairIsBest, SentPairIsIdentified};
 
 /// Where both synchronisation signals of a cell are seen with one gain, each amplitude off by at
 /// most 30 units, each term of the score of the group and the half that were sent is above 0. So

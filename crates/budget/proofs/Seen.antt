@@ -10,9 +10,9 @@ use Rattle.sizes.proofs.TwoTerms.{two_term_cauchy}
 use Rattle.sizes.proofs.Sized.{sized-plus}
 use Rattle.fold128.specs.Symbol.{useful_at}
 use Rattle.observe.specs.Seen.{seen}
-use Rattle.clean_air.specs.Received.{AreAmplitudes, samples_from}
-use Rattle.clean_air.specs.Budget.{HasFourCauses, AmplitudeIsSeen, TwoAmplitudesAreSeen, AmplitudeIsSeenInRecording, seen_in}
-use Rattle.clean_air.proofs.Causes.{four_causes}
+use Rattle.budget.specs.Received.{AreAmplitudes, samples_from}
+use Rattle.budget.specs.Budget.{HasFourCauses, AmplitudeIsSeen, TwoAmplitudesAreSeen, AmplitudeIsSeenInRecording, seen_in}
+use Rattle.budget.proofs.Causes.{four_causes}
 
 -- three sizes in units of 2^31 times the gain, of what is 2^29 times the deviation
 join : (a b c n : ℕ) (d x y z : Cpx) → multiple (2 ^ 29) d ≡ plus x (plus y z) → IsSized (a * 2 ^ 31) n x → IsSized (b * 2 ^ 31) n y → IsSized (c * 2 ^ 31) n z →

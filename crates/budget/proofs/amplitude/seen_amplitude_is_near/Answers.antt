@@ -1,6 +1,6 @@
-use Rattle.clean_air.proofs.Causes.{four_causes}
-use Rattle.clean_air.proofs.Seen.{amplitude_is_seen, two_amplitudes_are_seen, amplitude_is_seen_in_recording}
-use Rattle.clean_air.proofs.budget.seen_amplitude_is_near.Goals as goal
+use Rattle.budget.proofs.Causes.{four_causes}
+use Rattle.budget.proofs.Seen.{amplitude_is_seen, two_amplitudes_are_seen, amplitude_is_seen_in_recording}
+use Rattle.budget.proofs.amplitude.seen_amplitude_is_near.Goals as goal
 
 pub returns-clause-causes : goal.returns-clause-causes
 returns-clause-causes c = four_causes

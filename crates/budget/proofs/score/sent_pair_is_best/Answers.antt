@@ -1,5 +1,5 @@
-use Rattle.clean_air.proofs.Scores.{terms_are_positive, sent_pair_is_greatest, sent_pair_is_best, sent_pair_is_identified}
-use Rattle.clean_air.proofs.score.sent_pair_is_best.Goals as goal
+use Rattle.budget.proofs.Scores.{terms_are_positive, sent_pair_is_greatest, sent_pair_is_best, sent_pair_is_identified}
+use Rattle.budget.proofs.score.sent_pair_is_best.Goals as goal
 
 pub returns-clause-terms : goal.returns-clause-terms
 returns-clause-terms c = terms_are_positive

@@ -11,7 +11,7 @@ use Rattle.pss_search.specs.Correlation.{pss_grid}
 use Rattle.sss_detect.specs.Scores.{agreement, score}
 use Rattle.lte_types.specs.declared.hit.Hit.{Hit}
 use Rattle.sss_detect.specs.Identity.{best_pair, identity_of}
-use Rattle.clean_air.specs.Received.{IsReceived, IsSeenAs, samples_from}
+use Rattle.budget.specs.Received.{IsReceived, IsSeenAs, samples_from}
 
 -- the amplitude of value n of a secondary sequence: 127 or -127
 abbrev pub sss_amplitude : ℕ → ℕ → Half → ℕ → Cpx

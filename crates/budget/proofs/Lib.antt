@@ -1,0 +1,20 @@
+-- The table W: the product of two entries is nearly the entry of the sum of their places (a finite check).
+pub mod Products
+-- Four causes of a deviation. First cause: what the tables and the rounding of the sent samples leak from subcarrier to subcarrier.
+pub mod Leakage
+-- The errors of the samples and the rounding of what is seen, and the sum of all.
+pub mod Causes
+-- Together: what is seen is near 64 times the gain times the amplitude.
+pub mod Seen
+-- The samples of the three primary signals, as a table.
+pub mod Waves
+-- Their sums: power, overlaps with themselves shifted, and edges (finite checks).
+pub mod PeakSums
+-- Two windows of samples that overlap, by Cauchy's inequality.
+pub mod Windows
+-- So the metric of a shifted place is less, and the primary signal's place is a hit.
+pub mod Peaks
+-- A product of two seen numbers, by what both are off.
+pub mod Deviations
+-- So each term of the sent pair's score is above 0, and its score is the only greatest.
+pub mod Scores

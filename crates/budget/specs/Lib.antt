@@ -1,0 +1,5 @@
+pub mod Table
+pub mod Received
+pub mod Budget
+pub mod Peak
+pub mod Score

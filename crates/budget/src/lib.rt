@@ -1,0 +1,14 @@
+//! The reception of one symbol: how far what is seen of an amplitude may be from what was sent, and
+//! why the synchronisation signals of a clean cell stand out. The list of cells is not known here.
+//! Each law is the contract of a function without a body, whole, with its premises.
+#![tactic(auto)]
+
+mod amplitude;
+mod peak;
+mod score;
+mod table;
+
+pub use amplitude::seen_amplitude_is_near;
+pub use peak::clean_primary_is_a_hit;
+pub use score::sent_pair_is_best;
+pub use table::table_is_nearly_multiplicative;
