@@ -83,21 +83,21 @@ sending-small grid k small l =
 -- ---- the whole
 
 error : Cpx → Cpx → (ℕ → Cpx) → (ℕ → Cpx) → (ℕ → Cpx) → ℕ → Cpx
-error gain other grid grid_too samples n = minus (samples n) (plus (times gain (useful_at grid n)) (times other (useful_at grid_too n)))
+error gain other grid second_grid samples n = minus (samples n) (plus (times gain (useful_at grid n)) (times other (useful_at second_grid n)))
 
 -- the plain sum of the samples, by its parts
-sum_is : (gain other : Cpx) (grid grid_too samples : ℕ → Cpx) (k : ℕ) →
+sum_is : (gain other : Cpx) (grid second_grid samples : ℕ → Cpx) (k : ℕ) →
     correlation_below 128 samples (tone_at k)
-    ≡ plus (plus (times gain (correlation_below 128 (useful_at grid) (tone_at k))) (times other (correlation_below 128 (useful_at grid_too) (tone_at k))))
-    (correlation_below 128 (error gain other grid grid_too samples) (tone_at k))
+    ≡ plus (plus (times gain (correlation_below 128 (useful_at grid) (tone_at k))) (times other (correlation_below 128 (useful_at second_grid) (tone_at k))))
+    (correlation_below 128 (error gain other grid second_grid samples) (tone_at k))
 unfolding error
-sum_is gain other grid grid_too samples k =
-    let sent : ℕ → Cpx = λ n. plus (times gain (useful_at grid n)) (times other (useful_at grid_too n)) in
+sum_is gain other grid second_grid samples k =
+    let sent : ℕ → Cpx = λ n. plus (times gain (useful_at grid n)) (times other (useful_at second_grid n)) in
     correlation_same 128 samples (λ n. plus (sent n) (minus (samples n) (sent n))) (tone_at k) (tone_at k) (λ n p. sym (plus-minus (samples n) (sent n))) (λ n p. refl)
     ∙ correlation_plus 128 sent (λ n. minus (samples n) (sent n)) (tone_at k)
     ∙ ap (λ (z : Cpx). plus z (correlation_below 128 (λ n. minus (samples n) (sent n)) (tone_at k)))
-    (correlation_plus 128 (λ n. times gain (useful_at grid n)) (λ n. times other (useful_at grid_too n)) (tone_at k)
-    ∙ ap₂ plus (correlation_times 128 gain (useful_at grid) (tone_at k)) (correlation_times 128 other (useful_at grid_too) (tone_at k)))
+    (correlation_plus 128 (λ n. times gain (useful_at grid n)) (λ n. times other (useful_at second_grid n)) (tone_at k)
+    ∙ ap₂ plus (correlation_times 128 gain (useful_at grid) (tone_at k)) (correlation_times 128 other (useful_at second_grid) (tone_at k)))
 
 whole_part : (s p q x y e : ℤ) →
     pos 536870912 *ℤ (s -ℤ pos 64 *ℤ (p +ℤ q))
@@ -126,28 +126,28 @@ multiple-small m b z h = rw (square-multiple m z) (mul-le-mul_left (m * m) h)
 
 pub four_causes : DeviationHasFourCauses
 unfolding sending error spectrum_at
-four_causes eps gain other grid grid_too samples k small small_too near l =
+four_causes eps gain other grid second_grid samples k small second_small near l =
     let s : Cpx = correlation_below 128 samples (tone_at k) in
     let x : Cpx = correlation_below 128 (useful_at grid) (tone_at k) in
-    let y : Cpx = correlation_below 128 (useful_at grid_too) (tone_at k) in
-    let e : Cpx = correlation_below 128 (error gain other grid grid_too samples) (tone_at k) in
+    let y : Cpx = correlation_below 128 (useful_at second_grid) (tone_at k) in
+    let e : Cpx = correlation_below 128 (error gain other grid second_grid samples) (tone_at k) in
     record {
       sending = sending grid k;
-      sending_too = sending grid_too k;
+      second_sending = sending second_grid k;
       errors = multiple 131072 e;
       rounding = multiple 131072 (minus (multiple 4096 (rounded s 12)) s);
       whole =
-          whole_is (rounded s 12) (times gain (grid k)) (times other (grid_too k)) (times gain x) (times other y) e
-          ∙ ap (λ (z : Cpx). plus (plus (minus (multiple 131072 (times gain x)) (multiple 34359738368 (times gain (grid k)))) (minus (multiple 131072 (times other y)) (multiple 34359738368 (times other (grid_too k)))))
-          (plus (multiple 131072 e) (multiple 131072 (minus (multiple 4096 (rounded s 12)) z)))) (sym (sum_is gain other grid grid_too samples k))
-          ∙ ap (λ (z : Cpx). plus z (plus (multiple 131072 e) (multiple 131072 (minus (multiple 4096 (rounded s 12)) s)))) (ap₂ plus (sym (gain_in gain x (grid k))) (sym (gain_in other y (grid_too k))));
+          whole_is (rounded s 12) (times gain (grid k)) (times other (second_grid k)) (times gain x) (times other y) e
+          ∙ ap (λ (z : Cpx). plus (plus (minus (multiple 131072 (times gain x)) (multiple 34359738368 (times gain (grid k)))) (minus (multiple 131072 (times other y)) (multiple 34359738368 (times other (second_grid k)))))
+          (plus (multiple 131072 e) (multiple 131072 (minus (multiple 4096 (rounded s 12)) z)))) (sym (sum_is gain other grid second_grid samples k))
+          ∙ ap (λ (z : Cpx). plus z (plus (multiple 131072 e) (multiple 131072 (minus (multiple 4096 (rounded s 12)) s)))) (ap₂ plus (sym (gain_in gain x (grid k))) (sym (gain_in other y (second_grid k))));
       sending_is = refl;
-      sending_too_is = refl;
+      second_sending_is = refl;
       errors_is = refl;
       rounding_is = refl;
       sending_small = sending-small grid k small l;
-      sending_too_small = sending-small grid_too k small_too l;
-      errors_small = scaled eps (square (multiple 131072 e)) (multiple-small 131072 ((256 * (eps * eps)) * (128 * 268468225)) e (seen-small (error gain other grid grid_too samples) k eps near));
+      second_sending_small = sending-small second_grid k second_small l;
+      errors_small = scaled eps (square (multiple 131072 e)) (multiple-small 131072 ((256 * (eps * eps)) * (128 * 268468225)) e (seen-small (error gain other grid second_grid samples) k eps near));
       rounding_small = multiple-small 131072 8388608 (minus (multiple 4096 (rounded s 12)) s) (square-within (minus (multiple 4096 (rounded s 12)) s) 2048 (rounded_near s 12 2048 (omega arith) refl refl));
     }
   where

@@ -11,7 +11,7 @@ use Rattle.sizes.proofs.Sized.{sized-plus}
 use Rattle.fold128.specs.Symbol.{useful_at}
 use Rattle.observe.specs.Seen.{seen}
 use Rattle.budget.specs.Received.{AreAmplitudes, samples_from}
-use Rattle.budget.specs.Budget.{HasFourCauses, AmplitudeIsSeen, TwoAmplitudesAreSeen, AmplitudeIsSeenInRecording, seen_in}
+use Rattle.budget.specs.Budget.{HasFourCauses, AmplitudeIsSeen, TwoAmplitudesAreSeen, AmplitudeIsSeenInRecording, TwoAmplitudesAreSeenInRecording, seen_in}
 use Rattle.budget.proofs.Causes.{four_causes}
 
 -- three sizes in units of 2^31 times the gain, of what is 2^29 times the deviation
@@ -70,7 +70,7 @@ amplitude_is_seen eps gain grid samples k small received l =
     let d : Cpx = minus (seen_in samples k) (multiple 64 (times gain (grid k))) in
     let whole : multiple (2 ^ 29) d ≡ plus (times gain causes.sending) (plus causes.errors causes.rounding) =
     sym (ap (λ (z : Cpx). multiple (2 ^ 29) (minus (seen_in samples k) (multiple 64 z))) (alone gain (grid k) nothing))
-    ∙ causes.whole ∙ ap (λ (z : Cpx). plus z (plus causes.errors causes.rounding)) (alone gain causes.sending causes.sending_too) in
+    ∙ causes.whole ∙ ap (λ (z : Cpx). plus z (plus causes.errors causes.rounding)) (alone gain causes.sending causes.second_sending) in
     record {
       off = within_budget (square d) (square gain) (join 111 363 1 (square gain) d (times gain causes.sending) causes.errors causes.rounding whole
           (record { sized = gain_size gain causes.sending causes.sending_small })
@@ -95,20 +95,25 @@ within_budget_of_two : (s n : ℕ) → s ≤ 16 * ((157 + (91 + 1)) * (157 + (91
 within_budget_of_two s n h = omega (arith, h)
 
 pub two_amplitudes_are_seen : TwoAmplitudesAreSeen
-two_amplitudes_are_seen eps gain other grid grid_too samples k small small_too received l =
-    let causes = four_causes eps gain other grid grid_too samples k small small_too received.near l in
+two_amplitudes_are_seen eps gain other grid second_grid samples k small second_small received l =
+    let causes = four_causes eps gain other grid second_grid samples k small second_small received.near l in
     let n : ℕ = square gain + square other in
-    let d : Cpx = minus (seen_in samples k) (multiple 64 (plus (times gain (grid k)) (times other (grid_too k)))) in
+    let d : Cpx = minus (seen_in samples k) (multiple 64 (plus (times gain (grid k)) (times other (second_grid k)))) in
     let x : Cpx = times gain causes.sending in
-    let y : Cpx = times other causes.sending_too in
+    let y : Cpx = times other causes.second_sending in
     let u : ℕ = (111 * 2 ^ 31) * (111 * 2 ^ 31) in
     record {
       off = within_budget_of_two (square d) n (join 157 91 1 n d (plus x y) causes.errors causes.rounding causes.whole
           (record {
             sized = both_sizes (square gain) (square other) (square (plus x y)) (two_term_cauchy x y (square gain) u (square other) u
                 (commuted u (square gain) (square x) (gain_size gain causes.sending causes.sending_small))
-                (commuted u (square other) (square y) (gain_size other causes.sending_too causes.sending_too_small)));
+                (commuted u (square other) (square y) (gain_size other causes.second_sending causes.second_sending_small)));
           })
           (record { sized = errors_of_two eps n (square causes.errors) received.quiet causes.errors_small })
           (record { sized = rounding_in n (square causes.rounding) received.sounds causes.rounding_small }));
     }
+
+pub two_amplitudes_are_seen_in_recording : TwoAmplitudesAreSeenInRecording
+unfolding seen
+two_amplitudes_are_seen_in_recording eps gain other grid second_grid recording start k small second_small received l =
+    two_amplitudes_are_seen eps gain other grid second_grid (samples_from recording start) k small second_small received l

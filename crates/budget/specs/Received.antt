@@ -19,14 +19,14 @@ pub record IsReceived (eps : ℕ) (gain : Cpx) (grid samples : ℕ → Cpx) : Ty
 
 -- 128 samples are the sum of the useful parts of two symbols, each times a gain, with components off by at most eps
 abbrev pub AreSum : ℕ → Cpx → Cpx → (ℕ → Cpx) → (ℕ → Cpx) → (ℕ → Cpx) → Type 0
-AreSum eps gain other grid grid_too samples =
-    (n : ℕ) → n < 128 → IsWithin eps (minus (samples n) (plus (times gain (useful_at grid n)) (times other (useful_at grid_too n))))
+AreSum eps gain other grid second_grid samples =
+    (n : ℕ) → n < 128 → IsWithin eps (minus (samples n) (plus (times gain (useful_at grid n)) (times other (useful_at second_grid n))))
 
 -- the same where not both gains are 0, and eps is at most half the root of the sum of their squares
-pub record IsReceivedFromTwo (eps : ℕ) (gain other : Cpx) (grid grid_too samples : ℕ → Cpx) : Type 0 where
+pub record IsReceivedFromTwo (eps : ℕ) (gain other : Cpx) (grid second_grid samples : ℕ → Cpx) : Type 0 where
   pub sounds : 1 ≤ square gain + square other
   pub quiet : 4 * (eps * eps) ≤ square gain + square other
-  pub near : AreSum eps gain other grid grid_too samples
+  pub near : AreSum eps gain other grid second_grid samples
 
 -- the samples of a recording from a place on
 abbrev pub samples_from : List Sample → ℕ → ℕ → Cpx
@@ -38,5 +38,5 @@ pub record IsSeenAs (gain amplitude seen : Cpx) : Type 0 where
   pub off : square (minus seen (multiple 64 (times gain amplitude))) ≤ 1920 * 1920 * square gain
 
 -- the same of two amplitudes with a gain each, off by at most 1024 times the root of the sum of the gains' squares: 16 units
-pub record IsSeenAsTwo (gain other amplitude amplitude_too seen : Cpx) : Type 0 where
-  pub off : square (minus seen (multiple 64 (plus (times gain amplitude) (times other amplitude_too)))) ≤ 1024 * 1024 * (square gain + square other)
+pub record IsSeenAsTwo (gain other amplitude second_amplitude seen : Cpx) : Type 0 where
+  pub off : square (minus seen (multiple 64 (plus (times gain amplitude) (times other second_amplitude)))) ≤ 1024 * 1024 * (square gain + square other)

@@ -1,6 +1,6 @@
 //! What is seen of a symbol.
 
-ghost use Rattle.budget.specs.Budget.{DeviationHasFourCauses, AmplitudeIsSeen, TwoAmplitudesAreSeen, AmplitudeIsSeenInRecording};
+ghost use Rattle.budget.specs.Budget.{DeviationHasFourCauses, AmplitudeIsSeen, TwoAmplitudesAreSeen, AmplitudeIsSeenInRecording, TwoAmplitudesAreSeenInRecording};
 
 /// What is seen of an amplitude is 64 times the amplitude times the gain, off by at most 30 units
 /// of amplitude, where the error of each component of a sample is at most twice the gain's size.
@@ -13,4 +13,5 @@ pub fn seen_amplitude_is_near()
     ensures one_gain { AmplitudeIsSeen }
     ensures two_gains { TwoAmplitudesAreSeen }
     ensures recording { AmplitudeIsSeenInRecording }
+    ensures recording_of_two { TwoAmplitudesAreSeenInRecording }
 {}
