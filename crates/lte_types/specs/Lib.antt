@@ -1,2 +1,4 @@
 pub mod Block
 pub mod Ranges
+pub mod Identity
+pub mod Numerology

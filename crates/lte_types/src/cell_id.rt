@@ -1,6 +1,7 @@
 //! The identity of a cell.
 
 ghost use Rattle.std.specs.Prelude.{◌≡◌, ℕ, ◌/◌, ◌%◌, ◌<◌, ◌≤◌, IsSome, IfSome, ◌↔◌};
+ghost use Rattle.lte_types.specs.Identity.{cell_of};
 
 use std::marker::Model;
 
@@ -31,6 +32,18 @@ impl CellId {
             Some(CellId { value })
         } else {
             None
+        }
+    }
+
+    /// The identity of a group, 0 to 167, and an identity within it, 0 to 2: three times the group
+    /// and the identity within it.
+    pub fn of(n1: u16, n2: u8) -> Self
+        requires group { n1 ≤ 167 }
+        requires member { n2 ≤ 2 }
+        ensures { result ≡ cell_of n1 n2 }
+    {
+        CellId {
+            value: 3 * n1 + n2 as u16,
         }
     }
 

@@ -1,7 +1,9 @@
 //! Frame numbers and half frames.
 
-ghost use Rattle.std.specs.Prelude.{◌≡◌, ℕ, ◌≤◌, IsSome, IfSome, ◌↔◌};
+ghost use Rattle.std.specs.Prelude.{◌≡◌, ℕ, ◌%◌, ◌<◌, ◌≤◌, IsSome, IfSome, ◌↔◌};
+ghost use Rattle.lte_types.specs.Numerology.{subframe_of, half_of, primary_start as primary_start_of};
 
+use crate::Prefix;
 use std::marker::Model;
 
 /// A system frame number, 0 to 1023 (TS 36.331 section 6.2.2). Contracts see it as that number.
@@ -33,6 +35,15 @@ impl Sfn {
         }
     }
 
+    /// The number of a frame that is so many frames after one numbered 0: the count modulo 1,024.
+    pub fn modulo(count: u64) -> Self
+        ensures { result ≡ count % 1024 }
+    {
+        Sfn {
+            value: (count % 1024) as u16,
+        }
+    }
+
     /// The number, 0 to 1023.
     pub fn value(self) -> u16
         ensures value { result ≡ self }
@@ -48,4 +59,35 @@ impl Sfn {
 pub enum Half {
     Zero,
     Five,
+}
+
+impl Half {
+    /// The half that begins with a subframe, 0 or 5.
+    pub fn of_subframe(subframe: u8) -> Half
+        ensures { result ≡ half_of subframe }
+    {
+        if subframe == 0 {
+            Half::Zero
+        } else {
+            Half::Five
+        }
+    }
+
+    /// The subframe that the half begins with, 0 or 5.
+    pub fn subframe(self) -> u8
+        ensures { result ≡ subframe_of self }
+    {
+        match self {
+            Half::Zero => 0,
+            Half::Five => 5,
+        }
+    }
+    /// From the start of a frame to the useful part of the primary synchronisation signal of this
+    /// half, in samples: 832 or 10,432 (TS 36.211 section 6.11.1.2).
+    pub fn primary_start(self) -> u32
+        ensures value { result ≡ primary_start_of self }
+        ensures inside { result < 19200 }
+    {
+        Prefix::NORMAL.useful_start(0, 2 * self.subframe() as usize, 6) as u32
+    }
 }

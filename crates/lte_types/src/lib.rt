@@ -11,6 +11,7 @@ mod frame;
 mod hit;
 mod mib;
 mod mnc;
+mod numerology;
 mod plmn;
 mod plmns;
 mod resource;
@@ -29,6 +30,9 @@ pub use frame::{Half, Sfn};
 pub use hit::Hit;
 pub use mib::Mib;
 pub use mnc::Mnc;
+pub use numerology::{
+    CYCLE_LENGTH, FRAME_LENGTH, HALF_FRAME_LENGTH, Prefix, SLOT_LENGTH, USEFUL_LENGTH,
+};
 pub use plmn::Plmn;
 pub use plmns::Plmns;
 pub use resource::Resource;

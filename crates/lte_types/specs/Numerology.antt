@@ -1,0 +1,57 @@
+-- Frames, slots and symbols, in samples: 128 to the useful part of a symbol (TS 36.211 sections 4.1 and 6.12).
+use Rattle.std.specs.Prelude.{ℕ, ◌+◌, ◌-◌, ◌*◌, ◌/◌, nat_eq, if◌then◌else◌}
+use Rattle.lte_types.specs.declared.frame.Half.{Half}
+use Rattle.lte_types.specs.declared.frame.Half.TheVariants.{Zero, Five}
+use Rattle.lte_types.specs.declared.numerology.Prefix.{Prefix}
+
+-- ---- lengths
+
+abbrev pub frame_length : ℕ
+frame_length = 19200
+
+abbrev pub half_frame_length : ℕ
+half_frame_length = 9600
+
+abbrev pub slot_length : ℕ
+slot_length = 960
+
+abbrev pub useful_length : ℕ
+useful_length = 128
+
+-- 1,024 frames, after which the frame numbers begin again
+abbrev pub cycle_length : ℕ
+cycle_length = 19660800
+
+-- ---- symbols
+
+-- the normal cyclic prefix: 10 samples before the first symbol of a slot, and 9 before each later one
+abbrev pub normal : Prefix
+normal = record { first = 10; other = 9 }
+
+-- from the useful part of a symbol to that of the next one in its slot
+abbrev pub symbol_step : Prefix → ℕ
+symbol_step prefix = useful_length + prefix.other
+
+-- where the useful part of a symbol of a slot begins, in a frame that begins at the given sample
+abbrev pub useful_start : Prefix → ℕ → ℕ → ℕ → ℕ
+useful_start prefix frame slot symbol = frame + slot_length * slot + prefix.first + symbol_step prefix * symbol
+
+-- the symbol of a slot that sample i of the slot is in
+abbrev pub symbol_of : Prefix → ℕ → ℕ
+symbol_of prefix i = (i - (prefix.first - prefix.other)) / symbol_step prefix
+
+-- ---- halves of a frame
+
+-- the subframe that a half begins with
+abbrev pub subframe_of : Half → ℕ
+subframe_of Zero = 0
+subframe_of Five = 5
+
+-- the half that begins with a subframe, 0 or 5
+abbrev pub half_of : ℕ → Half
+half_of subframe = if nat_eq subframe 0 then Zero else Five
+
+-- from the start of a frame to the useful part of the primary synchronisation signal of a half, which is in the last symbol of
+-- slot 0 or 10 (TS 36.211 section 6.11.1.2): 832 and 10,432
+abbrev pub primary_start : Half → ℕ
+primary_start half = useful_start normal 0 (2 * subframe_of half) 6
