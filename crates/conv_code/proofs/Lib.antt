@@ -5,3 +5,4 @@ pub mod Sums
 pub mod OneToOne
 pub mod Rows
 pub mod Costs
+pub mod Sizes

@@ -1,4 +1,4 @@
-ghost use Rattle.std.specs.Prelude.{◌≡◌, ◌+◌, ◌*◌, ◌^◌, ◌<◌, ◌≤◌, length, nat_abs, slice_index_or};
+ghost use Rattle.std.specs.Prelude.{◌≡◌, ℕ, All, ◌+◌, ◌*◌, ◌^◌, ◌<◌, ◌≤◌, length, nat_abs, slice_index_or};
 ghost use Rattle.finite.specs.Tables.{sum_at, sums_with};
 ghost use Rattle.conv_code.specs.Reading.{bit_at_place, cells, place_of, stream_order, summed};
 
@@ -92,7 +92,10 @@ pub fn combine<const N: usize>(values: &[i16]) -> [[i32; 3]; N]
     requires low { 6 ≤ N }
     requires high { N ≤ 64 }
     requires count { length values.now ≤ 1920 }
-    ensures { result ≡ summed N values.now }
+    ensures sums { result ≡ summed N values.now }
+    ensures sizes { (bound rounds : ℕ) → All (λ value. nat_abs value ≤ bound) values.now →
+        length values.now ≤ rounds * (3 * N) →
+        All (λ place. All (λ sum. nat_abs sum ≤ rounds * bound) place) result }
 {
     let mut sums = [[0; 3]; N];
     for (i, value) in values.iter().enumerate() {

@@ -4,3 +4,4 @@ pub mod Sums
 pub mod Tests
 pub mod Lists
 pub mod Tables
+pub mod Counts

@@ -25,7 +25,7 @@ use Rattle.tailbite.specs.LeastWord.{IsLeastWord}
 use Rattle.pbch.specs.Values.{seen_value, value, frame_values, coded_values}
 use Rattle.pbch.specs.Master.{Tells, TellsMaster, Carries}
 use Rattle.pbch.proofs.Words.{one_word}
-use Rattle.pbch.proofs.Sizes.{sizes_of_sums}
+use Rattle.conv_code.proofs.Sizes.{sizes_of_sums}
 use Rattle.tail_cert.specs.Certificate.{Held, IsWhole, IsAccepted, IsTriple, Counted}
 use Rattle.tail_cert.specs.Form.{count, bytes_of}
 use Rattle.tail_cert.proofs.Codes.{length-bytes_of}
@@ -116,7 +116,8 @@ values_fit slot phase =
     let small : All (λ z. nat_abs z ≤ 127) bits = λ i d inside.
     let below : i < 480 = omega (arith, inside, values_below-length 480 (value slot phase)) in
     rw (values_below_at (value slot phase) 480 i d below) (value_small slot phase i) in
-    let sizes = sizes_of_sums bits (values_below-length 480 (value slot phase)) small in
+    let whole = values_below-length 480 (value slot phase) in
+    let sizes = sizes_of_sums 40 bits 127 4 (omega arith) (omega arith) small (omega (arith, whole)) in
     let row = λ (k : ℕ). values_below 3 (summed_at 40 bits (length bits) k) in
     record {
       count = values_below-length 40 row;

@@ -1,4 +1,6 @@
-use Rattle.std.proofs.Common.{arith, refl}
+use Rattle.std.proofs.Common.{arith, refl, sym, subst, nat_abs, ◌*◌, ◌≤◌}
+use Rattle.std.specs.Prelude.{All}
+use Rattle.conv_code.proofs.Sizes.{sizes_of_sums}
 use Rattle.conv_code.proofs.Sums.{sums_none, sums_more, sums_all}
 use Rattle.conv_code.proofs.matching.combine.Goals as goal
 
@@ -11,5 +13,11 @@ loop-i-preserved g c =
     rw c.add_at.ensures.sum
     (sums_more g.row.N c.args.values.now c.loop-i.i c.loop-i.sums _ _ _ at.place at.stream at.inside at.below_three refl c.add_at.ensures.size c.loop-i.invariant)
 
-pub returns : goal.returns
-returns g c = sums_all g.row.N c.args.values.now c.loop-i.i c.loop-i.sums (omega arith) c.loop-i.invariant
+pub returns-clause-sums : goal.returns-clause-sums
+returns-clause-sums g c = sums_all g.row.N c.args.values.now c.loop-i.i c.loop-i.sums (omega arith) c.loop-i.invariant
+
+pub returns-clause-sizes : goal.returns-clause-sizes
+returns-clause-sizes g c bound rounds small few =
+    let sums = sums_all g.row.N c.args.values.now c.loop-i.i c.loop-i.sums (omega arith) c.loop-i.invariant in
+    subst (λ table. All (λ place. All (λ sum. nat_abs sum ≤ rounds * bound) place) table) (sym sums)
+    (sizes_of_sums g.row.N c.args.values.now bound rounds c.requires.low c.requires.high small few)
