@@ -1,8 +1,9 @@
--- The finite sums by which the primary signals stand out: their powers, their overlaps with themselves 1 to 9 samples apart, and
--- the energies of their first and last samples.
-use Rattle.std.proofs.Common.{◌≡◌, ℕ, zero, suc, ◌+◌, ◌-◌, ◌<◌, ◌≤◌, Bool, true, arith, refl, sym, subst, nat_le}
-use Rattle.std.specs.Prelude.{◌&&◌}
+-- The finite sums by which the primary signals stand out: their powers, and of each signal against itself or another one, up to 9
+-- samples apart, the correlation of what overlaps, its energy, and the energy of what does not.
+use Rattle.std.proofs.Common.{◌≡◌, ◌≢◌, ℕ, zero, suc, ◌+◌, ◌-◌, ◌*◌, ◌<◌, ◌≤◌, Bool, true, false, arith, refl, ap, ap₂, ◌∙◌, nat_le, nat_eq}
+use Rattle.std.specs.Prelude.{◌&&◌, ◌||◌}
 use Rattle.std.proofs.lemmas.Bool.{leb-true, and_parts}
+use Rattle.std.proofs.lemmas.Bool.Decides.{nat_tests}
 use Rattle.finite.specs.Sums.{sum_below, total_below}
 use Rattle.finite.specs.Tests.{every_below}
 use Rattle.finite.proofs.Tests.{every_below_at}
@@ -13,59 +14,175 @@ use Rattle.sizes.proofs.Cauchy.{energy_same, correlation_same}
 use Rattle.pss_search.specs.Correlation.{wave}
 use Rattle.budget.proofs.Waves.{re_25, im_25, samples_25, re_29, im_29, samples_29, re_34, im_34, samples_34, wave_25, wave_29, wave_34}
 
--- the signal i + 1 samples later, against itself
-abbrev pub overlap : (ℕ → Cpx) → ℕ → Cpx
-overlap p i = correlation_below (127 - i) (λ n. p (i + 1 + n)) p
+-- A window of 128 samples begins d samples after one that begins 9 samples before a signal. So many of its samples stand before the
+-- signal, so many of the signal's before the window, and so many in both.
+abbrev pub before : ℕ → ℕ
+before d = 9 - d
 
--- its first and its last i + 1 samples
-abbrev pub first_energy : (ℕ → Cpx) → ℕ → ℕ
-first_energy p i = energy_below (i + 1) p
+abbrev pub skipped : ℕ → ℕ
+skipped d = d - 9
 
-abbrev pub last_energy : (ℕ → Cpx) → ℕ → ℕ
-last_energy p i = energy_below (i + 1) (λ n. p (127 - i + n))
+abbrev pub common : ℕ → ℕ
+common d = 128 - (9 - d) - (d - 9)
+
+-- what the window has of the signal p, correlated with the signal q
+abbrev pub overlap : (ℕ → Cpx) → (ℕ → Cpx) → ℕ → Cpx
+overlap p q d = correlation_below (common d) (λ n. p (skipped d + n)) (λ n. q (before d + n))
+
+-- the energy of what it has of p
+abbrev pub kept : (ℕ → Cpx) → ℕ → ℕ
+kept p d = energy_below (common d) (λ n. p (skipped d + n))
+
+-- the energy of q where it has nothing of p
+abbrev pub edges : (ℕ → Cpx) → ℕ → ℕ
+edges q d = energy_below (before d) q + energy_below (skipped d) (λ n. q (before d + common d + n))
+
+-- by these four numbers: whatever stands beside p, four times the peak of q is at most so much of the window's energy
+pub record IsFaint (share power overlap kept edges : ℕ) : Type 0 where
+  pub rest : 4 * edges ≤ share
+  pub much : 112640 ≤ 10 * kept
+  pub small : 44 * (11 * overlap + 112640 * power) ≤ 10 * ((share - 4 * edges) * (10 * kept - 112640))
+
+unfoldable is_faint : ℕ → ℕ → ℕ → ℕ → ℕ → Bool
+is_faint share power overlap kept edges =
+    nat_le (4 * edges) share && (nat_le 112640 (10 * kept) && nat_le (44 * (11 * overlap + 112640 * power)) (10 * ((share - 4 * edges) * (10 * kept - 112640))))
+
+faint_tells : (share power overlap kept edges : ℕ) → is_faint share power overlap kept edges ≡ true → IsFaint share power overlap kept edges
+unfolding is_faint
+faint_tells share power overlap kept edges test =
+    let one = and_parts _ _ test in
+    let two = and_parts _ _ one.1 in
+    record { rest = leb-true _ _ one.0; much = leb-true _ _ two.0; small = leb-true _ _ two.1 }
+
+-- in a window beside p itself, or one that holds another signal p, the signal q is faint
+abbrev pub IsFaintAt : ℕ → (ℕ → Cpx) → (ℕ → Cpx) → ℕ → Type 0
+IsFaintAt share p q d = IsFaint share (energy_below 128 q) (square (overlap p q d)) (kept p d) (edges q d)
+
+abbrev faint_at : ℕ → (ℕ → Cpx) → (ℕ → Cpx) → ℕ → Bool
+faint_at share p q d = is_faint share (energy_below 128 q) (square (overlap p q d)) (kept p d) (edges q d)
+
+-- the numbers of signals that agree are the same
+abbrev Agree : (ℕ → Cpx) → (ℕ → Cpx) → Type 0
+Agree p q = (n : ℕ) → n < 128 → p n ≡ q n
+
+four_same : (share a b c d a' b' c' d' : ℕ) → a ≡ a' → b ≡ b' → c ≡ c' → d ≡ d' → is_faint share a b c d ≡ is_faint share a' b' c' d'
+four_same share a b c d a' b' c' d' e f g h = rw (e, f, g, h) refl
+
+faint_same : (share : ℕ) (p q v w : ℕ → Cpx) (d : ℕ) → d < 19 → Agree p v → Agree q w → faint_at share p q d ≡ faint_at share v w d
+faint_same share p q v w d l first second =
+    four_same share _ _ _ _ _ _ _ _ (energy_same 128 q w second)
+    (ap (λ (z : Cpx). square z) (correlation_same (common d) (λ n. p (skipped d + n)) (λ n. v (skipped d + n)) (λ n. q (before d + n)) (λ n. w (before d + n))
+    (λ n b. first (skipped d + n) (omega (arith, l, b))) (λ n b. second (before d + n) (omega (arith, l, b)))))
+    (energy_same (common d) (λ n. p (skipped d + n)) (λ n. v (skipped d + n)) (λ n b. first (skipped d + n) (omega (arith, l, b))))
+    (ap₂ (λ (i j : ℕ). i + j) (energy_same (before d) q w (λ n b. second n (omega (arith, l, b))))
+    (energy_same (skipped d) (λ n. q (before d + common d + n)) (λ n. w (before d + common d + n)) (λ n b. second (before d + common d + n) (omega (arith, l, b)))))
+
+-- ---- a signal against itself
 
 pub record IsSharp (p : ℕ → Cpx) : Type 0 where
   pub power : 1990000 ≤ energy_below 128 p
-  pub overlaps : (i : ℕ) → i < 9 → square (overlap p i) ≤ 1640000000000
-  pub first : (i : ℕ) → i < 9 → first_energy p i ≤ 160000
-  pub last : (i : ℕ) → i < 9 → last_energy p i ≤ 160000
+  pub beside : (d : ℕ) → d < 19 → d ≢ 9 → IsFaintAt (3 * energy_below 128 p) p p d
 
 unfoldable sharp_at : (ℕ → Cpx) → ℕ → Bool
-sharp_at p i = nat_le (square (overlap p i)) 1640000000000 && (nat_le (first_energy p i) 160000 && nat_le (last_energy p i) 160000)
+sharp_at p d = nat_eq d 9 || faint_at (3 * energy_below 128 p) p p d
 
 unfoldable is_sharp : (ℕ → Cpx) → Bool
-is_sharp p = nat_le 1990000 (energy_below 128 p) && every_below 9 (sharp_at p)
+is_sharp p = nat_le 1990000 (energy_below 128 p) && every_below 19 (sharp_at p)
 
 sharp_25 : is_sharp samples_25 ≡ true
-unfolding is_sharp sharp_at re_25 im_25 samples_25 sum_below total_below every_below
+unfolding is_sharp sharp_at is_faint re_25 im_25 samples_25 sum_below total_below every_below
 sharp_25 = refl
 
 sharp_29 : is_sharp samples_29 ≡ true
-unfolding is_sharp sharp_at re_29 im_29 samples_29 sum_below total_below every_below
+unfolding is_sharp sharp_at is_faint re_29 im_29 samples_29 sum_below total_below every_below
 sharp_29 = refl
 
 sharp_34 : is_sharp samples_34 ≡ true
-unfolding is_sharp sharp_at re_34 im_34 samples_34 sum_below total_below every_below
+unfolding is_sharp sharp_at is_faint re_34 im_34 samples_34 sum_below total_below every_below
 sharp_34 = refl
 
+or_second : (a b : Bool) → a ≡ false → (a || b) ≡ true → b ≡ true
+or_second true b e h = absurd cc
+or_second false b e h = h
+
+apart : (d : ℕ) → d ≢ 9 → nat_eq d 9 ≡ false
+apart d ne = grind (arith, nat_tests)
+
 -- the test tells of a signal that agrees with the list
-sharp_tells : (p q : ℕ → Cpx) → ((n : ℕ) → n < 128 → p n ≡ q n) → is_sharp q ≡ true → IsSharp p
+sharp_tells : (p q : ℕ → Cpx) → Agree p q → is_sharp q ≡ true → IsSharp p
 unfolding is_sharp sharp_at
 sharp_tells p q same test = record {
   power = rw (energy_same 128 p q same) (leb-true _ _ parts.0);
-  overlaps = λ i l. subst (λ (z : Cpx). square z ≤ 1640000000000) (sym (correlation_same (127 - i) (λ n. p (i + 1 + n)) (λ n. q (i + 1 + n)) p q (λ n k. same (i + 1 + n) (omega arith)) (λ n k. same n (omega arith)))) (leb-true _ _ (at i l).0);
-  first = λ i l. rw (energy_same (i + 1) p q (λ n k. same n (omega arith))) (leb-true _ _ (and_parts _ _ (at i l).1).0);
-  last = λ i l. rw (energy_same (i + 1) (λ n. p (127 - i + n)) (λ n. q (127 - i + n)) (λ n k. same (127 - i + n) (omega arith))) (leb-true _ _ (and_parts _ _ (at i l).1).1);
+  beside = λ d l ne. faint_tells _ _ _ _ _
+      (ap (λ (share : ℕ). faint_at share p p d) (ap (λ (n : ℕ). 3 * n) (energy_same 128 p q same)) ∙ faint_same (3 * energy_below 128 q) p p q q d l same same
+      ∙ or_second _ _ (apart d ne) (every_below_at 19 (sharp_at q) parts.1 d l));
 }
   where
-    parts : (nat_le 1990000 (energy_below 128 q) ≡ true) × (every_below 9 (sharp_at q) ≡ true)
+    parts : (nat_le 1990000 (energy_below 128 q) ≡ true) × (every_below 19 (sharp_at q) ≡ true)
     parts = and_parts _ _ test
-
-    at : (i : ℕ) → i < 9 → (nat_le (square (overlap q i)) 1640000000000 ≡ true) × ((nat_le (first_energy q i) 160000 && nat_le (last_energy q i) 160000) ≡ true)
-    at i l = and_parts _ _ (every_below_at 9 (sharp_at q) parts.1 i l)
 
 pub wave_is_sharp : (n2 : ℕ) → n2 ≤ 2 → IsSharp (wave n2)
 wave_is_sharp zero h = sharp_tells (wave 0) samples_25 wave_25 sharp_25
 wave_is_sharp (suc zero) h = sharp_tells (wave 1) samples_29 wave_29 sharp_29
 wave_is_sharp (suc (suc zero)) h = sharp_tells (wave 2) samples_34 wave_34 sharp_34
 wave_is_sharp (suc (suc (suc n2))) h = absurd (omega arith)
+
+-- ---- a signal against another one
+
+-- where p stands, within 9 samples q is no hit: four times its peak is less than its power times the energy
+abbrev pub AreApart : (ℕ → Cpx) → (ℕ → Cpx) → Type 0
+AreApart p q = (d : ℕ) → d < 19 → IsFaintAt (energy_below 128 q - 1) p q d
+
+unfoldable apart_at : (ℕ → Cpx) → (ℕ → Cpx) → ℕ → Bool
+apart_at p q d = faint_at (energy_below 128 q - 1) p q d
+
+unfoldable are_apart : (ℕ → Cpx) → (ℕ → Cpx) → Bool
+are_apart p q = every_below 19 (apart_at p q) && every_below 19 (apart_at q p)
+
+apart_25_29 : are_apart samples_25 samples_29 ≡ true
+unfolding are_apart apart_at is_faint re_25 im_25 samples_25 re_29 im_29 samples_29 sum_below total_below every_below
+apart_25_29 = refl
+
+apart_25_34 : are_apart samples_25 samples_34 ≡ true
+unfolding are_apart apart_at is_faint re_25 im_25 samples_25 re_34 im_34 samples_34 sum_below total_below every_below
+apart_25_34 = refl
+
+apart_29_34 : are_apart samples_29 samples_34 ≡ true
+unfolding are_apart apart_at is_faint re_29 im_29 samples_29 re_34 im_34 samples_34 sum_below total_below every_below
+apart_29_34 = refl
+
+one_way : (p q v w : ℕ → Cpx) → Agree p v → Agree q w → every_below 19 (apart_at v w) ≡ true → AreApart p q
+unfolding apart_at
+one_way p q v w first second test d l = faint_tells _ _ _ _ _
+    (ap (λ (share : ℕ). faint_at share p q d) (ap (λ (n : ℕ). n - 1) (energy_same 128 q w second)) ∙ faint_same (energy_below 128 w - 1) p q v w d l first second
+    ∙ every_below_at 19 (apart_at v w) test d l)
+
+both_ways : (p q v w : ℕ → Cpx) → Agree p v → Agree q w → are_apart v w ≡ true → AreApart p q × AreApart q p
+unfolding are_apart
+both_ways p q v w first second test =
+    let parts = and_parts _ _ test in
+    (one_way p q v w first second parts.0, one_way q p w v second first parts.1)
+
+waves_25_29 : AreApart (wave 0) (wave 1) × AreApart (wave 1) (wave 0)
+waves_25_29 = both_ways (wave 0) (wave 1) samples_25 samples_29 wave_25 wave_29 apart_25_29
+
+waves_25_34 : AreApart (wave 0) (wave 2) × AreApart (wave 2) (wave 0)
+waves_25_34 = both_ways (wave 0) (wave 2) samples_25 samples_34 wave_25 wave_34 apart_25_34
+
+waves_29_34 : AreApart (wave 1) (wave 2) × AreApart (wave 2) (wave 1)
+waves_29_34 = both_ways (wave 1) (wave 2) samples_29 samples_34 wave_29 wave_34 apart_29_34
+
+pub waves_are_apart : (n2 m2 : ℕ) → n2 ≤ 2 → m2 ≤ 2 → n2 ≢ m2 → AreApart (wave n2) (wave m2)
+waves_are_apart zero zero h k ne = absurd (ne refl)
+waves_are_apart zero (suc zero) h k ne = waves_25_29.0
+waves_are_apart zero (suc (suc zero)) h k ne = waves_25_34.0
+waves_are_apart (suc zero) zero h k ne = waves_25_29.1
+waves_are_apart (suc zero) (suc zero) h k ne = absurd (ne refl)
+waves_are_apart (suc zero) (suc (suc zero)) h k ne = waves_29_34.0
+waves_are_apart (suc (suc zero)) zero h k ne = waves_25_34.1
+waves_are_apart (suc (suc zero)) (suc zero) h k ne = waves_29_34.1
+waves_are_apart (suc (suc zero)) (suc (suc zero)) h k ne = absurd (ne refl)
+waves_are_apart (suc (suc (suc n2))) m2 h k ne = absurd (omega arith)
+waves_are_apart zero (suc (suc (suc m2))) h k ne = absurd (omega arith)
+waves_are_apart (suc zero) (suc (suc (suc m2))) h k ne = absurd (omega arith)
+waves_are_apart (suc (suc zero)) (suc (suc (suc m2))) h k ne = absurd (omega arith)

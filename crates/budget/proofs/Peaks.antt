@@ -1,22 +1,20 @@
 -- A clean primary signal stands out, so that its place is a hit and no place near it is.
 use Rattle.std.proofs.Common.{◌≡◌, ◌≢◌, ℕ, ◌+◌, ◌-◌, ◌*◌, ◌<◌, ◌≤◌, ◌⊎◌, inl, inr, arith, refl, ap, sym, ◌∙◌, subst, List, mul-le-mul_right}
-use Rattle.std.proofs.lemmas.Bool.{cases_lt}
 use Rattle.finite.proofs.Sums.{total_below-within}
 use Rattle.cs_num.specs.declared.Cpx.{Cpx}
 use Rattle.cs_num.specs.declared.Sample.{Sample}
 use Rattle.cs_num.specs.Complex.{plus, times, square, sample_at, minus}
-use Rattle.cs_num.proofs.Complex.{plus-commutes, square-within}
+use Rattle.cs_num.proofs.Complex.{plus-associates, plus-commutes, square-within}
 use Rattle.sizes.specs.Sizes.{energy_below, correlation_below}
 use Rattle.sizes.proofs.Algebra.{plus-minus}
-use Rattle.sizes.proofs.Squares.{square-conjugate}
-use Rattle.sizes.proofs.Cauchy.{energy_same, energy_split, energy_part, correlation_same, correlation_split, correlation_swap}
+use Rattle.sizes.proofs.Cauchy.{energy_same, energy_split, correlation_same, correlation_split}
 use Rattle.fold128.specs.Symbol.{useful_at}
 use Rattle.pss_search.specs.Correlation.{pss_grid, wave, wave_power, peak, energy}
-use Rattle.pss_search.specs.Hits.{IsAbove, IsLevel, found}
+use Rattle.pss_search.specs.Hits.{IsAbove, IsLevel, IsHit, found}
 use Rattle.pss_search.proofs.Listed.{list_is_right}
 use Rattle.budget.specs.Received.{IsReceived, samples_from}
-use Rattle.budget.specs.Peak.{PrimaryStandsOut, PrimaryIsHit, PrimaryIsListed, NoneNearIsHit}
-use Rattle.budget.proofs.PeakSums.{IsSharp, overlap, wave_is_sharp}
+use Rattle.budget.specs.Peak.{PrimaryStandsOut, PrimaryIsHit, PrimaryIsListed, OnlyHitNear, IsPrimaryAt}
+use Rattle.budget.proofs.PeakSums.{IsSharp, IsFaintAt, AreApart, before, skipped, common, wave_is_sharp, waves_are_apart}
 use Rattle.budget.proofs.Windows.{Peaks, with_errors, true_place, beside, above}
 
 -- the errors of a window
@@ -26,6 +24,9 @@ error g p r n = minus (r n) (times g (p n))
 received_is : (g : Cpx) (p r : ℕ → Cpx) (n : ℕ) → r n ≡ with_errors g p (error g p r) n
 unfolding error
 received_is g p r n = sym (plus-minus (r n) (times g (p n)))
+
+middle_first : (a b c : Cpx) → plus (plus a b) c ≡ plus b (plus a c)
+middle_first a b c = ap (λ (z : Cpx). plus z c) (plus-commutes a b) ∙ plus-associates b a c
 
 -- 128 samples are a gain times the signal p, and errors whose squares are at most 8 times the gain's
 record HasSmallErrors (g : Cpx) (p r : ℕ → Cpx) : Type 0 where
@@ -52,130 +53,89 @@ errors_small g p r clean a m l =
         let k : m * (8 * n) ≤ 128 * (8 * n) = mul-le-mul_right (8 * n) (omega arith) in
         omega (arith, h, k)
 
-parts : (i : ℕ) → i < 9 → i + 1 + (127 - i) ≡ 128
-parts i l = omega arith
-
-parts_too : (i : ℕ) → i < 9 → 127 - i + (i + 1) ≡ 128
-parts_too i l = omega arith
-
-rest_large : (a b w : ℕ) → w ≡ a + b → 1990000 ≤ w → a ≤ 160000 → 1830000 ≤ b
-rest_large a b w e power edge = omega (arith, e, power, edge)
-
-rest_small : (a b w : ℕ) → w ≡ a + b → b ≤ w
-rest_small a b w e = omega (arith, e)
-
--- the window that begins i + 1 samples later
-later : (g : Cpx) (p r x : ℕ → Cpx) (i : ℕ) → i < 9 → IsSharp p → HasSmallErrors g p r → ((n : ℕ) → x n ≡ r (i + 1 + n)) →
-    4 * square (correlation_below 128 x p) ≤ 3 * (energy_below 128 x * energy_below 128 p)
-later g p r x i l sharp clean moved =
-    subst (λ (z : Cpx). 4 * square z ≤ 3 * (energy_below 128 x * w)) (sym whole)
-    (subst (λ (n : ℕ). 4 * square (plus (correlation_below m (with_errors g q f) p) (correlation_below d y o)) ≤ 3 * (n * w)) (sym energies)
-    (beside m d g q f p y o w sharp.power (sharp.overlaps i l) (rest_large (energy_below d p) (energy_below m q) w split sharp.power (sharp.first i l))
-    (energy_part m 128 p (omega arith)) (errors_small g p r clean (i + 1) m (omega arith)) (sharp.last i l)))
+-- a window x that begins at most 9 samples before or after 128 samples r of a signal p with errors, correlated with a signal q
+near : (g : Cpx) (p q r x : ℕ → Cpx) (d share : ℕ) → d < 19 → HasSmallErrors g p r → ((n : ℕ) → x (before d + n) ≡ r (skipped d + n)) → IsFaintAt share p q d →
+    4 * square (correlation_below 128 x q) ≤ share * energy_below 128 x
+near g p q r x d share l clean known faint =
+    subst (λ (z : Cpx). 4 * square z ≤ share * energy_below 128 x) (sym whole)
+    (subst (λ (n : ℕ). 4 * square (plus (correlation_below m (with_errors g v e) f) (plus (correlation_below a x q) (correlation_below s y o))) ≤ share * n) (sym energies)
+    (beside a m s g x v e y q f o (energy_below 128 q) share (part_le (energy_below a q) (energy_below m f) (energy_below s o) (energy_below 128 q) (split q))
+    (errors_small g p r clean s m (omega (arith, l))) faint))
   where
+    a : ℕ
+    a = before d
+
+    s : ℕ
+    s = skipped d
+
     m : ℕ
-    m = 127 - i
+    m = common d
 
-    d : ℕ
-    d = i + 1
-
-    w : ℕ
-    w = energy_below 128 p
-
-    q : ℕ → Cpx
-    q n = p (i + 1 + n)
-
-    f : ℕ → Cpx
-    f n = error g p r (i + 1 + n)
-
-    y : ℕ → Cpx
-    y k = x (127 - i + k)
-
-    o : ℕ → Cpx
-    o k = p (127 - i + k)
-
-    known : (n : ℕ) → x n ≡ with_errors g q f n
-    known n = moved n ∙ received_is g p r (i + 1 + n)
-
-    split : w ≡ energy_below d p + energy_below m q
-    split = ap (λ n. energy_below n p) (sym (parts i l)) ∙ energy_split (i + 1) (127 - i) p
-
-    whole : correlation_below 128 x p ≡ plus (correlation_below m (with_errors g q f) p) (correlation_below d y o)
-    whole = ap (λ (n : ℕ). correlation_below n x p) (sym (parts_too i l)) ∙ correlation_split (127 - i) (i + 1) x p
-        ∙ ap (λ (z : Cpx). plus z (correlation_below d y o)) (correlation_same m x (with_errors g q f) p p (λ n b. known n) (λ n b. refl))
-
-    energies : energy_below 128 x ≡ energy_below m (with_errors g q f) + energy_below d y
-    energies = ap (λ n. energy_below n x) (sym (parts_too i l)) ∙ energy_split (127 - i) (i + 1) x
-        ∙ ap (λ n. n + energy_below d y) (energy_same m x (with_errors g q f) (λ n b. known n))
-
--- the window that begins i + 1 samples earlier
-earlier : (g : Cpx) (p r x : ℕ → Cpx) (i : ℕ) → i < 9 → IsSharp p → HasSmallErrors g p r → ((n : ℕ) → x (i + 1 + n) ≡ r n) →
-    4 * square (correlation_below 128 x p) ≤ 3 * (energy_below 128 x * energy_below 128 p)
-earlier g p r x i l sharp clean moved =
-    subst (λ (z : Cpx). 4 * square z ≤ 3 * (energy_below 128 x * w)) (sym whole)
-    (subst (λ (n : ℕ). 4 * square (plus (correlation_below m (with_errors g p e) q) (correlation_below d x p)) ≤ 3 * (n * w)) (sym energies)
-    (beside m d g p e q x p w sharp.power (subst (λ (n : ℕ). n ≤ 1640000000000) (sym turned) (sharp.overlaps i l))
-    (rest_large (energy_below d (λ k. p (127 - i + k))) (energy_below m p) w (split_back ∙ swapped (energy_below m p) (energy_below d (λ k. p (127 - i + k)))) sharp.power (sharp.last i l))
-    (rest_small (energy_below d p) (energy_below m q) w split) (errors_small g p r clean 0 m (omega arith)) (sharp.first i l)))
-  where
-    m : ℕ
-    m = 127 - i
-
-    d : ℕ
-    d = i + 1
-
-    w : ℕ
-    w = energy_below 128 p
-
-    q : ℕ → Cpx
-    q n = p (i + 1 + n)
+    v : ℕ → Cpx
+    v n = p (skipped d + n)
 
     e : ℕ → Cpx
-    e n = error g p r (0 + n)
+    e n = error g p r (skipped d + n)
 
-    none : (n : ℕ) → n ≡ 0 + n
-    none n = omega arith
+    f : ℕ → Cpx
+    f n = q (before d + n)
 
-    swapped : (a b : ℕ) → a + b ≡ b + a
-    swapped a b = omega arith
+    y : ℕ → Cpx
+    y n = x (before d + common d + n)
 
-    known : (n : ℕ) → x (i + 1 + n) ≡ with_errors g p e n
-    known n = moved n ∙ received_is g p r n ∙ ap (λ j. plus (times g (p n)) (error g p r j)) (none n)
+    o : ℕ → Cpx
+    o n = q (before d + common d + n)
 
-    split : w ≡ energy_below d p + energy_below m q
-    split = ap (λ n. energy_below n p) (sym (parts i l)) ∙ energy_split (i + 1) (127 - i) p
+    all : before d + common d + skipped d ≡ 128
+    all = omega (arith, l)
 
-    split_back : w ≡ energy_below m p + energy_below d (λ k. p (127 - i + k))
-    split_back = ap (λ n. energy_below n p) (sym (parts_too i l)) ∙ energy_split (127 - i) (i + 1) p
+    same : (n : ℕ) → x (before d + n) ≡ with_errors g v e n
+    same n = known n ∙ received_is g p r (skipped d + n)
 
-    turned : square (correlation_below m p q) ≡ square (overlap p i)
-    turned = ap (λ (z : Cpx). square z) (correlation_swap m p q) ∙ square-conjugate (overlap p i)
+    part_le : (i j k w : ℕ) → w ≡ i + j + k → j ≤ w
+    part_le i j k w h = omega (arith, h)
 
-    whole : correlation_below 128 x p ≡ plus (correlation_below m (with_errors g p e) q) (correlation_below d x p)
-    whole = ap (λ (n : ℕ). correlation_below n x p) (sym (parts i l)) ∙ correlation_split (i + 1) (127 - i) x p
-        ∙ ap (plus (correlation_below d x p)) (correlation_same m (λ k. x (i + 1 + k)) (with_errors g p e) q q (λ n b. known n) (λ n b. refl))
-        ∙ plus-commutes (correlation_below d x p) (correlation_below m (with_errors g p e) q)
+    split : (z : ℕ → Cpx) → energy_below 128 z ≡ energy_below a z + energy_below m (λ n. z (before d + n)) + energy_below s (λ n. z (before d + common d + n))
+    split z = ap (λ n. energy_below n z) (sym all) ∙ energy_split (before d + common d) (skipped d) z
+        ∙ ap (λ n. n + energy_below (skipped d) (λ n. z (before d + common d + n))) (energy_split (before d) (common d) z)
 
-    energies : energy_below 128 x ≡ energy_below m (with_errors g p e) + energy_below d x
-    energies = ap (λ n. energy_below n x) (sym (parts i l)) ∙ energy_split (i + 1) (127 - i) x
-        ∙ ap (λ n. energy_below d x + n) (energy_same m (λ k. x (i + 1 + k)) (with_errors g p e) (λ n b. known n))
-        ∙ swapped (energy_below d x) (energy_below m (with_errors g p e))
+    ordered : (i j k : ℕ) → i + j + k ≡ j + (i + k)
+    ordered i j k = omega arith
+
+    energies : energy_below 128 x ≡ energy_below m (with_errors g v e) + (energy_below a x + energy_below s y)
+    energies = split x ∙ ordered (energy_below a x) (energy_below m (λ n. x (before d + n))) (energy_below s y)
+        ∙ ap (λ n. n + (energy_below a x + energy_below s y)) (energy_same m (λ n. x (before d + n)) (with_errors g v e) (λ n b. same n))
+
+    whole : correlation_below 128 x q ≡ plus (correlation_below m (with_errors g v e) f) (plus (correlation_below a x q) (correlation_below s y o))
+    whole = ap (λ (n : ℕ). correlation_below n x q) (sym all) ∙ correlation_split (before d + common d) (skipped d) x q
+        ∙ ap (λ (z : Cpx). plus z (correlation_below s y o)) (correlation_split (before d) (common d) x q)
+        ∙ middle_first (correlation_below a x q) (correlation_below m (λ n. x (before d + n)) f) (correlation_below s y o)
+        ∙ ap (λ (z : Cpx). plus z (plus (correlation_below a x q) (correlation_below s y o))) (correlation_same m (λ n. x (before d + n)) (with_errors g v e) f f (λ n b. same n) (λ n b. refl))
 
 -- ---- in a recording
 
-near_low : (recording : List Sample) (t n2 : ℕ) (g : Cpx) → IsSharp (wave n2) → HasSmallErrors g (wave n2) (samples_from recording t) → (u : ℕ) → u ≢ t → u ≤ t + 9 → t ≤ u + 9 →
-    4 * peak recording n2 u ≤ 3 * (energy recording u * wave_power n2)
-unfolding peak energy wave_power
-near_low recording t n2 g sharp clean u ne a b = elim (cases_lt t u) [
-  | inl after ↦ later g (wave n2) (samples_from recording t) (samples_from recording u) (u - t - 1) (omega arith) sharp clean (λ n. ap (sample_at recording) (place_after u t n after))
-  | inr before ↦ earlier g (wave n2) (samples_from recording t) (samples_from recording u) (t - u - 1) (omega arith) sharp clean (λ n. ap (sample_at recording) (place_before u t n before ne))
-]
+-- at a place within 9, the metric of another signal, or of the same one beside its place, is small
+near_low : (recording : List Sample) (t u n2 m2 share : ℕ) (g : Cpx) → HasSmallErrors g (wave n2) (samples_from recording t) → u ≤ t + 9 → t ≤ u + 9 →
+    IsFaintAt share (wave n2) (wave m2) (u + 9 - t) → 4 * peak recording m2 u ≤ share * energy recording u
+unfolding peak energy
+near_low recording t u n2 m2 share g clean a b faint =
+    near g (wave n2) (wave m2) (samples_from recording t) (samples_from recording u) (u + 9 - t) share (omega (arith, a)) clean
+    (λ n. ap (sample_at recording) (place n)) faint
   where
-    place_after : (u t n : ℕ) → t < u → u + n ≡ t + (u - t - 1 + 1 + n)
-    place_after u t n h = omega arith
+    place : (n : ℕ) → u + (before (u + 9 - t) + n) ≡ t + (skipped (u + 9 - t) + n)
+    place n = omega (arith, a, b)
 
-    place_before : (u t n : ℕ) → u ≤ t → u ≢ t → u + (t - u - 1 + 1 + n) ≡ t + n
-    place_before u t n h ne = omega arith
+beside_low : (recording : List Sample) (t u n2 : ℕ) (g : Cpx) → IsSharp (wave n2) → HasSmallErrors g (wave n2) (samples_from recording t) → u ≢ t → u ≤ t + 9 → t ≤ u + 9 →
+    4 * peak recording n2 u ≤ 3 * wave_power n2 * energy recording u
+unfolding wave_power
+beside_low recording t u n2 g sharp clean ne a b =
+    near_low recording t u n2 n2 (3 * energy_below 128 (wave n2)) g clean a b (sharp.beside (u + 9 - t) (omega (arith, a)) (omega (arith, ne, a, b)))
+
+other_low : (recording : List Sample) (t u n2 m2 : ℕ) (g : Cpx) → AreApart (wave n2) (wave m2) → HasSmallErrors g (wave n2) (samples_from recording t) → u ≤ t + 9 → t ≤ u + 9 →
+    4 * peak recording m2 u ≤ (wave_power m2 - 1) * energy recording u
+unfolding wave_power
+other_low recording t u n2 m2 g apart clean a b =
+    near_low recording t u n2 m2 (energy_below 128 (wave m2) - 1) g clean a b (apart (u + 9 - t) (omega (arith, a)))
 
 peaks_at : (recording : List Sample) (t n2 : ℕ) (g : Cpx) → IsSharp (wave n2) → HasSmallErrors g (wave n2) (samples_from recording t) →
     Peaks (peak recording n2 t) (energy recording t) (wave_power n2)
@@ -214,7 +174,7 @@ primary_stands_out recording t n2 primary =
         first_sounds = here.some;
         second_sounds = sounds;
         greater = above (peak recording n2 t) (energy recording t) (wave_power n2) (peak recording n2 u) (energy recording u) here.high
-            (near_low recording t n2 primary.gain sharp clean u ne a b) here.some sounds (power_some n2 sharp);
+            (beside_low recording t u n2 primary.gain sharp clean ne a b) here.some sounds (power_some n2 sharp);
       };
     }
 
@@ -237,6 +197,9 @@ not_above_itself recording n2 t h = clash (peak recording n2 t * energy recordin
     clash : (a : ℕ) → a < a → ⊥
     clash a p = omega (arith, p)
 
+same_or_not : (u t : ℕ) → (u ≡ t) ⊎ (u ≢ t)
+same_or_not u t = grind arith
+
 pub primary_is_hit : PrimaryIsHit
 primary_is_hit recording t n2 primary low high =
     let stands = primary_stands_out recording t n2 primary in
@@ -251,9 +214,6 @@ primary_is_hit recording t n2 primary low high =
       ];
       none_level_before = λ u before b level. not_level recording n2 t u (stands.above u (omega arith) (omega arith) b level.first_sounds) level;
     }
-  where
-    same_or_not : (u t : ℕ) → (u ≡ t) ⊎ (u ≢ t)
-    same_or_not u t = grind arith
 
 pub primary_is_listed : PrimaryIsListed
 primary_is_listed recording t n2 primary low high =
@@ -263,6 +223,34 @@ primary_is_listed recording t n2 primary low high =
     below : n2 ≤ 2 → n2 < 3
     below h = omega arith
 
-pub none_near_is_hit : NoneNearIsHit
-none_near_is_hit recording t u n2 primary ne a b hit =
-    hit.none_above t b a ((primary_stands_out recording t n2 primary).above u ne a b hit.sounds)
+-- four times the peak is less than the power times the energy, so it is no hit
+faint_is_no_hit : (c e w : ℕ) → 1990000 ≤ w → 0 < e → 4 * c ≤ (w - 1) * e → e * w ≤ 4 * c → ⊥
+faint_is_no_hit c e w power some low clear =
+    let less : (w - 1) * e + e ≡ w * e = step e (w - 1) w (omega (arith, power)) in
+    omega (arith, low, clear, less, some)
+  where
+    step : (e v w : ℕ) → v + 1 ≡ w → v * e + e ≡ w * e
+    step e v w h = let same : (v + 1) * e ≡ w * e = ap (λ (n : ℕ). n * e) h in omega (arith, same)
+
+power_high : (n2 : ℕ) → n2 ≤ 2 → 1990000 ≤ wave_power n2
+unfolding wave_power
+power_high n2 root = (wave_is_sharp n2 root).power
+
+same_place : (recording : List Sample) (t u n2 : ℕ) → IsPrimaryAt recording t n2 → u ≤ t + 9 → t ≤ u + 9 → IsHit recording u n2 → u ≡ t
+same_place recording t u n2 primary a b hit = elim (same_or_not u t) [
+  | inl same ↦ same
+  | inr ne ↦ absurd (hit.none_above t b a ((primary_stands_out recording t n2 primary).above u ne a b hit.sounds))
+]
+
+same_root : (recording : List Sample) (t u n2 m2 : ℕ) → IsPrimaryAt recording t n2 → m2 ≤ 2 → u ≤ t + 9 → t ≤ u + 9 → IsHit recording u m2 → m2 ≡ n2
+same_root recording t u n2 m2 primary root a b hit = elim (same_or_not m2 n2) [
+  | inl same ↦ same
+  | inr ne ↦ absurd (faint_is_no_hit (peak recording m2 u) (energy recording u) (wave_power m2) (power_high m2 root) hit.sounds
+      (other_low recording t u n2 m2 primary.gain (waves_are_apart n2 m2 primary.root root (λ e. ne (sym e)))
+      (clean_from primary.eps n2 primary.gain (samples_from recording t) primary.received) a b) hit.clear)
+]
+
+pub only_hit_near : OnlyHitNear
+only_hit_near recording t u n2 m2 primary root a b hit =
+    let same : m2 ≡ n2 = same_root recording t u n2 m2 primary root a b hit in
+    (same_place recording t u n2 primary a b (subst (λ n. IsHit recording u n) same hit), same)

@@ -1,5 +1,5 @@
 -- A window of 128 samples that is a gain times a known signal with errors, and a window beside it.
-use Rattle.std.proofs.Common.{◌≡◌, ℕ, ◌+◌, ◌*◌, ◌<◌, ◌≤◌, arith, ap, mul-le-mul, mul-le-mul_left, mul-le-mul_right, mul-pos}
+use Rattle.std.proofs.Common.{◌≡◌, ℕ, ◌+◌, ◌-◌, ◌*◌, ◌<◌, ◌≤◌, arith, ap, mul-le-mul, mul-le-mul_left, mul-le-mul_right, mul-pos}
 use Rattle.cs_num.specs.declared.Cpx.{Cpx}
 use Rattle.cs_num.specs.Complex.{plus, times, square, multiple}
 use Rattle.sizes.specs.Sizes.{energy_below, correlation_below}
@@ -8,6 +8,7 @@ use Rattle.sizes.proofs.Squares.{square-times, square-multiple}
 use Rattle.sizes.proofs.TwoTerms.{two_term_cauchy, weighted}
 use Rattle.sizes.proofs.Cauchy.{cauchy, energy_gain, energy_weighted_term, correlation_gain}
 use Rattle.sizes.proofs.Gram.{gram_le}
+use Rattle.budget.proofs.PeakSums.{IsFaint}
 
 -- a gain times a signal, and errors
 abbrev pub with_errors : Cpx → (ℕ → Cpx) → (ℕ → Cpx) → ℕ → Cpx
@@ -39,72 +40,84 @@ true_place g p e some power small =
 
 -- ---- a window beside it
 
--- what 8 |X|^2 is at most, for the known part X: |A|^2 = a, the signal's power w, of which `kept` stands in the known part
-known_part : (n w a kept k x : ℕ) → 1990000 ≤ w → a ≤ 1640000000000 → 1830000 ≤ kept → 10 * x ≤ 11 * (n * a) + 110 * (1024 * n * w) → 10 * (n * kept) ≤ 11 * k + 110 * (1024 * n) → 8 * x ≤ 5 * (w * k)
-known_part n w a kept k x power overlap much high low =
-    let wide : w * 1830000 ≤ w * kept = mul-le-mul_left w much in
-    let room : 968 * a + 15544320 * w ≤ 500 * (w * kept) = omega (arith, wide, power, overlap) in
-    let roomy : n * (968 * a + 15544320 * w) ≤ n * (500 * (w * kept)) = mul-le-mul_left n room in
-    let scaled : w * (10 * (n * kept)) ≤ w * (11 * k + 110 * (1024 * n)) = mul-le-mul_left w low in
-    omega (arith, roomy, scaled, high)
+-- the known part X of the correlation, whose square is x: |A|^2 = a, where A is the correlation of the signals that overlap, k the
+-- energy of the known part, and `share` quarters are wanted
+known_part : (n a w kept k x share : ℕ) → 112640 ≤ 10 * kept → 44 * (11 * a + 112640 * w) ≤ 10 * (share * (10 * kept - 112640)) →
+    10 * x ≤ 11 * (n * a) + 110 * (1024 * n * w) → 10 * (n * kept) ≤ 11 * k + 110 * (1024 * n) → 4 * x ≤ share * k
+known_part n a w kept k x share much small high low =
+    let left : ℕ = 10 * kept - 112640 in
+    let whole : left + 112640 ≡ 10 * kept = omega (arith, much) in
+    let fits : n * left ≤ 11 * k = fewer n left kept k whole low in
+    let scaled : n * (44 * (11 * a + 112640 * w)) ≤ n * (10 * (share * left)) = mul-le-mul_left n small in
+    let room : share * (n * left) ≤ share * (11 * k) = mul-le-mul_left share fits in
+    omega (arith, scaled, room, high)
+  where
+    fewer : (n left kept k : ℕ) → left + 112640 ≡ 10 * kept → 10 * (n * kept) ≤ 11 * k + 110 * (1024 * n) → n * left ≤ 11 * k
+    fewer n left kept k whole low =
+        let all : n * (left + 112640) ≡ n * (10 * kept) = ap (λ (j : ℕ). n * j) whole in
+        omega (arith, all, low)
 
 -- the known part X, and a part Y of which nothing but its energy u is known
-both_parts : (x y : Cpx) (w k u : ℕ) → 8 * square x ≤ 5 * (w * k) → 8 * square y ≤ w * u → 4 * square (plus x y) ≤ 3 * ((k + u) * w)
-both_parts x y w k u p q =
-    down (square (plus x y)) (square (multiple 8 (plus x y))) (square (plus (multiple 8 x) (multiple 8 y))) (square-multiple 8 (plus x y)) (ap (λ (z : Cpx). square z) (multiple-plus 8 x y))
-    (two_term_cauchy (multiple 8 x) (multiple 8 y) (40 * w) k (8 * w) u (first (square x) (square (multiple 8 x)) (square-multiple 8 x) p) (second (square y) (square (multiple 8 y)) (square-multiple 8 y) q))
+both_parts : (x y : Cpx) (k u share edges : ℕ) → 4 * edges ≤ share → 4 * square x ≤ (share - 4 * edges) * k → square y ≤ u * edges →
+    4 * square (plus x y) ≤ share * (k + u)
+both_parts x y k u share edges rest p q =
+    down (square (plus x y)) (square (multiple 2 (plus x y))) (square (plus (multiple 2 x) (multiple 2 y))) (share - 4 * edges) (square-multiple 2 (plus x y))
+    (ap (λ (z : Cpx). square z) (multiple-plus 2 x y)) (omega (arith, rest))
+    (two_term_cauchy (multiple 2 x) (multiple 2 y) (share - 4 * edges) k (4 * edges) u (first (square x) (square (multiple 2 x)) (share - 4 * edges) (square-multiple 2 x) p)
+    (second (square y) (square (multiple 2 y)) (square-multiple 2 y) q))
   where
-    first : (s t : ℕ) → t ≡ 8 * 8 * s → 8 * s ≤ 5 * (w * k) → t ≤ 40 * w * k
-    first s t e h = omega (arith, e, h)
+    first : (s t a : ℕ) → t ≡ 2 * 2 * s → 4 * s ≤ a * k → t ≤ a * k
+    first s t a e h = omega (arith, e, h)
 
-    second : (s t : ℕ) → t ≡ 8 * 8 * s → 8 * s ≤ w * u → t ≤ 8 * w * u
+    second : (s t : ℕ) → t ≡ 2 * 2 * s → s ≤ u * edges → t ≤ 4 * edges * u
     second s t e h = omega (arith, e, h)
 
-    down : (s t v : ℕ) → t ≡ 8 * 8 * s → t ≡ v → v ≤ (40 * w + 8 * w) * (k + u) → 4 * s ≤ 3 * ((k + u) * w)
-    down s t v e f h = omega (arith, e, f, h)
+    down : (s t v a : ℕ) → t ≡ 2 * 2 * s → t ≡ v → a + 4 * edges ≡ share → v ≤ (a + 4 * edges) * (k + u) → 4 * s ≤ share * (k + u)
+    down s t v a e f whole h =
+        let same : (a + 4 * edges) * (k + u) ≡ share * (k + u) = ap (λ (n : ℕ). n * (k + u)) whole in
+        omega (arith, e, f, same, h)
 
--- m known samples, of the signal q with errors e, correlated with p, and d unknown ones r, correlated with o
-pub beside : (m d : ℕ) (g : Cpx) (q e p r o : ℕ → Cpx) (w : ℕ) → 1990000 ≤ w → square (correlation_below m q p) ≤ 1640000000000 → 1830000 ≤ energy_below m q → energy_below m p ≤ w →
-    energy_below m e ≤ 1024 * square g → energy_below d o ≤ 160000 →
-    4 * square (plus (correlation_below m (with_errors g q e) p) (correlation_below d r o)) ≤ 3 * ((energy_below m (with_errors g q e) + energy_below d r) * w)
-beside m d g q e p r o w power overlap much part small edge =
-    both_parts x (correlation_below d r o) w (energy_below m (with_errors g q e)) (energy_below d r)
-    (known_part (square g) w (square (correlation_below m q p)) (energy_below m q) (energy_below m (with_errors g q e)) (square x) power overlap much
-    (high (square g) w (square a) (square (correlation_below m q p)) (square z) (square x) (energy_below m e) (energy_below m p)
-    (ap (λ (v : Cpx). square v) (correlation_gain m g q e p)) (square-times g (correlation_below m q p)) (cauchy m e p) (weighted 10 a z) small part)
-    (low (square g) (energy_below m q) (energy_below m (λ k. times g (q k))) (energy_below m (with_errors g q e)) (energy_below m e) (energy_gain m g q) small (energy_weighted_term 10 m (λ k. times g (q k)) e)))
-    (unknown (square (correlation_below d r o)) (energy_below d r) (energy_below d o) (cauchy d r o) edge)
+-- Of the 128 samples of a window, a unknown ones, m known ones of the signal p with errors e, and s unknown ones, correlated with q:
+-- f, g and h are q there.
+pub beside : (a m s : ℕ) (gain : Cpx) (x p e z f g h : ℕ → Cpx) (w share : ℕ) → energy_below m g ≤ w → energy_below m e ≤ 1024 * square gain →
+    IsFaint share w (square (correlation_below m p g)) (energy_below m p) (energy_below a f + energy_below s h) →
+    4 * square (plus (correlation_below m (with_errors gain p e) g) (plus (correlation_below a x f) (correlation_below s z h)))
+    ≤ share * (energy_below m (with_errors gain p e) + (energy_below a x + energy_below s z))
+beside a m s gain x p e z f g h w share part small faint =
+    both_parts y (plus (correlation_below a x f) (correlation_below s z h)) (energy_below m (with_errors gain p e)) (energy_below a x + energy_below s z) share
+    (energy_below a f + energy_below s h) faint.rest
+    (known_part (square gain) (square (correlation_below m p g)) w (energy_below m p) (energy_below m (with_errors gain p e)) (square y) (share - 4 * (energy_below a f + energy_below s h))
+    faint.much faint.small
+    (high (square gain) w (square b) (square (correlation_below m p g)) (square c) (square y) (energy_below m e) (energy_below m g)
+    (ap (λ (v : Cpx). square v) (correlation_gain m gain p e g)) (square-times gain (correlation_below m p g)) (cauchy m e g) (weighted 10 b c) small part)
+    (low (square gain) (energy_below m p) (energy_below m (λ k. times gain (p k))) (energy_below m (with_errors gain p e)) (energy_below m e) (energy_gain m gain p) small
+    (energy_weighted_term 10 m (λ k. times gain (p k)) e)))
+    (two_term_cauchy (correlation_below a x f) (correlation_below s z h) (energy_below a x) (energy_below a f) (energy_below s z) (energy_below s h) (cauchy a x f) (cauchy s z h))
   where
-    x : Cpx
-    x = correlation_below m (with_errors g q e) p
+    y : Cpx
+    y = correlation_below m (with_errors gain p e) g
 
-    a : Cpx
-    a = times g (correlation_below m q p)
+    b : Cpx
+    b = times gain (correlation_below m p g)
 
-    z : Cpx
-    z = correlation_below m e p
+    c : Cpx
+    c = correlation_below m e g
 
-    high : (n w b c z x ee pp : ℕ) → x ≡ square (plus a (correlation_below m e p)) → b ≡ n * c → z ≤ ee * pp → 10 * square (plus a (correlation_below m e p)) ≤ (10 + 1) * b + 10 * (10 + 1) * z →
-        ee ≤ 1024 * n → pp ≤ w → 10 * x ≤ 11 * (n * c) + 110 * (1024 * n * w)
-    high n w b c z x ee pp same size bound all small part =
+    high : (n w t d c x ee pp : ℕ) → x ≡ square (plus b (correlation_below m e g)) → t ≡ n * d → c ≤ ee * pp → 10 * square (plus b (correlation_below m e g)) ≤ (10 + 1) * t + 10 * (10 + 1) * c →
+        ee ≤ 1024 * n → pp ≤ w → 10 * x ≤ 11 * (n * d) + 110 * (1024 * n * w)
+    high n w t d c x ee pp same size bound all small part =
         let k : ee * pp ≤ 1024 * n * w = mul-le-mul small part in
         omega (arith, same, size, bound, all, k)
 
     low : (n kept t k ee : ℕ) → t ≡ n * kept → ee ≤ 1024 * n → 10 * t ≤ (10 + 1) * k + 10 * (10 + 1) * ee → 10 * (n * kept) ≤ 11 * k + 110 * (1024 * n)
     low n kept t k ee same small all = omega (arith, same, small, all)
 
-    unknown : (y u o : ℕ) → y ≤ u * o → o ≤ 160000 → 8 * y ≤ w * u
-    unknown y u o h l =
-        let k : u * o ≤ u * 160000 = mul-le-mul_left u l in
-        let j : 1990000 * u ≤ w * u = mul-le-mul_right u power in
-        omega (arith, h, k, j)
-
 -- ---- the two compared
 
 -- at least 99/100 is above at most 3/4
-pub above : (c e w c' e' : ℕ) → 99 * (e * w) ≤ 100 * c → 4 * c' ≤ 3 * (e' * w) → 0 < e → 0 < e' → 0 < w → c' * e < c * e'
+pub above : (c e w c' e' : ℕ) → 99 * (e * w) ≤ 100 * c → 4 * c' ≤ 3 * w * e' → 0 < e → 0 < e' → 0 < w → c' * e < c * e'
 above c e w c' e' high low some some' power =
     let a : 99 * (e * w) * e' ≤ 100 * c * e' = mul-le-mul_right e' high in
-    let b : 4 * c' * e ≤ 3 * (e' * w) * e = mul-le-mul_right e low in
+    let b : 4 * c' * e ≤ 3 * w * e' * e = mul-le-mul_right e low in
     let p : 0 < e * w * e' = mul-pos (mul-pos some power) some' in
     omega (arith, a, b, p)

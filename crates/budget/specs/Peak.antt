@@ -1,5 +1,5 @@
 -- How a clean primary synchronisation signal stands out of a recording. (own; the signal is that of TS 36.211 section 6.11.1)
-use Rattle.std.specs.Prelude.{◌≢◌, ℕ, ◌+◌, ◌*◌, ◌<◌, ◌≤◌, List}
+use Rattle.std.specs.Prelude.{◌≡◌, ◌≢◌, ℕ, ◌+◌, ◌*◌, ◌<◌, ◌≤◌, List}
 use Rattle.std.specs.List.{Contains}
 use Rattle.cs_num.specs.declared.Cpx.{Cpx}
 use Rattle.cs_num.specs.declared.Sample.{Sample}
@@ -32,6 +32,8 @@ PrimaryIsHit = (recording : List Sample) (t n2 : ℕ) → IsPrimaryAt recording 
 abbrev pub PrimaryIsListed : Type 0
 PrimaryIsListed = (recording : List Sample) (t n2 : ℕ) → IsPrimaryAt recording t n2 → 137 ≤ t → t ≤ 19336 → Contains (hits_of recording) (found recording t n2)
 
--- and no place near it is a hit, wherever it stands
-abbrev pub NoneNearIsHit : Type 0
-NoneNearIsHit = (recording : List Sample) (t u n2 : ℕ) → IsPrimaryAt recording t n2 → u ≢ t → u ≤ t + 9 → t ≤ u + 9 → ¬ IsHit recording u n2
+-- and of all places within 9 and all roots it is the only hit, wherever it stands
+abbrev pub OnlyHitNear : Type 0
+OnlyHitNear =
+    (recording : List Sample) (t u n2 m2 : ℕ) → IsPrimaryAt recording t n2 → m2 ≤ 2 → u ≤ t + 9 → t ≤ u + 9 → IsHit recording u m2 →
+    (u ≡ t) × (m2 ≡ n2)
