@@ -20,8 +20,9 @@ use Rattle.fold128.specs.Tables.{quarter, cosine, w_at, z_at, z_real, z_imaginar
 use Rattle.fold128.specs.Symbol.{frequency, useful_term, useful_at}
 use Rattle.fold128.proofs.EntrySizes.{w-square, z-square}
 use Rattle.lte_types.specs.declared.frame.Half.{Half}
-use Rattle.crs.specs.Reference.{IsFull, IsReferenceValue, is_reference}
-use Rattle.crs.proofs.Values.{reference-IsReferenceValue, component-IsFull}
+use Rattle.crs.specs.Qpsk.{IsFull, IsPoint}
+use Rattle.crs.specs.Reference.{is_reference}
+use Rattle.crs.proofs.Values.{reference-IsPoint, component-IsFull}
 use Rattle.sync_seq.specs.Primary.{root_of, turns, pss_at}
 use Rattle.sync_seq.specs.Secondary.{sss_at}
 use Rattle.sync_seq.proofs.PrimaryValues.{pss_is, pss-within}
@@ -39,19 +40,19 @@ pick : (P : Cpx → Type 0) (c : Bool) (a b : Cpx) → P a → P b → P (if c t
 pick P true a b p q = p
 pick P false a b p q = q
 
-point_full : (plan : CellPlan) (sfn i : ℕ) → IsReferenceValue (broadcast_point plan sfn i)
+point_full : (plan : CellPlan) (sfn i : ℕ) → IsPoint (broadcast_point plan sfn i)
 unfolding broadcast_point
 point_full plan sfn i = record { re = component-IsFull (broadcast_bit plan sfn (2 * i)); im = component-IsFull (broadcast_bit plan sfn (2 * i + 1)) }
 
 -- what holds of each kind of value holds of every element
-element_all : (P : Cpx → Type 0) → ((z : Cpx) → IsReferenceValue z → P z) → ((n2 n : ℕ) → P (pss_at n2 n))
+element_all : (P : Cpx → Type 0) → ((z : Cpx) → IsPoint z → P z) → ((n2 n : ℕ) → P (pss_at n2 n))
     → ((n1 n2 : ℕ) (half : Half) (n : ℕ) → P (record { re = pos 127 *ℤ sss_at n1 n2 half n; im = pos 0 })) → P nothing
     → (plan : CellPlan) (sfn subframe symbol k : ℕ) → P (element plan sfn subframe symbol k)
 unfolding element
 element_all P full primary secondary none plan sfn subframe symbol k =
     pick P (is_reference plan.identity (symbol % 7) k) _ _
     (subst P (sym (reference_at_is plan.identity (2 * subframe + symbol / 7) (symbol % 7) k))
-    (full _ (reference-IsReferenceValue plan.identity (2 * subframe + symbol / 7) (symbol % 7) (k / 6))))
+    (full _ (reference-IsPoint plan.identity (2 * subframe + symbol / 7) (symbol % 7) (k / 6))))
     (pick P (is_primary subframe symbol k) _ _ (primary (plan.identity % 3) (k - 5))
     (pick P (is_secondary subframe symbol k) _ _ (secondary (plan.identity / 3) (plan.identity % 3) (half_of subframe) (k - 5))
     (pick P (is_broadcast plan.identity subframe symbol k) _ _ (full _ (point_full plan sfn _)) none)))

@@ -4,8 +4,8 @@ use Rattle.std.specs.Prelude.{if◌then◌else◌, ◌&&◌}
 use Rattle.std.proofs.lemmas.Bool.Decides.{nat_tests}
 use Rattle.cs_num.specs.declared.Cpx.{Cpx}
 use Rattle.cs_num.specs.Complex.{nothing}
-use Rattle.crs.specs.Reference.{first_subcarrier, reference, reference_at, is_reference, reference_list, no_pair}
-use Rattle.crs.proofs.Values.{get_or-reference_list}
+use Rattle.crs.specs.Reference.{first_subcarrier, reference, reference_at, is_reference, reference_list}
+use Rattle.crs.proofs.Values.{no_pair, get_or-reference_list}
 use Rattle.grid_map.specs.Place.{place}
 use Rattle.grid_map.specs.Broadcast.{is_pbch, pbch_index}
 use Rattle.grid_map.proofs.Points.{index_fits, carries_at_index}

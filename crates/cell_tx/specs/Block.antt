@@ -11,7 +11,7 @@ use Rattle.conv_code.specs.Code.{coded_word}
 use Rattle.conv_code.specs.Reading.{bit_at_place, place_of}
 use Rattle.gold.specs.Sequence.{xor}
 use Rattle.gold.specs.Gold.{gold_bit}
-use Rattle.crs.specs.Reference.{component}
+use Rattle.crs.specs.Qpsk.{point}
 use Rattle.cell_tx.specs.declared.cell.CellPlan.{CellPlan}
 
 -- bit i of the width low bits of a number, the highest first
@@ -57,4 +57,4 @@ broadcast_bit plan sfn i = scrambled_bit plan.identity (broadcast_word plan sfn)
 -- point i of the 240 that a frame carries (QPSK, TS 36.211 section 7.1.2; the amplitude is own)
 unfoldable pub broadcast_point : CellPlan → ℕ → ℕ → Cpx
 broadcast_point plan sfn i =
-    record { re = component (broadcast_bit plan sfn (2 * i)); im = component (broadcast_bit plan sfn (2 * i + 1)) }
+    point (broadcast_bit plan sfn (2 * i)) (broadcast_bit plan sfn (2 * i + 1))

@@ -4,12 +4,12 @@ ghost use Rattle.std.specs.Prelude.{◌≡◌, ◌+◌, ◌*◌, ◌<◌, ◌≤
 ghost use Rattle.finite.specs.Lists.{values_below};
 ghost use Rattle.gold.specs.Sequence.{xor};
 ghost use Rattle.gold.specs.Gold.{gold_bits};
-ghost use Rattle.crs.specs.Reference.{component};
 ghost use Rattle.conv_code.specs.Reading.{bit_at_place, place_of};
 ghost use Rattle.cell_tx.specs.Block.{bits_of, duration_code, resource_code, broadcast_word, broadcast_point};
 
 use crate::Cell;
 use conv_code::{encode, match_out};
+use crs::point;
 use cs_bits::{Bits, crc16};
 use cs_num::Cpx;
 use lte_types::{CellId, Duration, Resource, Sfn};
@@ -78,23 +78,6 @@ fn scrambled(coded: &[[bool; 3]; 40], scrambling: &[bool; 1920], n: usize) -> bo
     ensures { result ≡ xor (bit_at_place coded.now (place_of 40 n)) (slice_index_or scrambling.now n false) }
 {
     match_out(coded, n) != scrambling[n]
-}
-
-// The component that a bit gives.
-fn component_of(bit: bool) -> i64
-    ensures { result ≡ component bit }
-{
-    if bit { -90 } else { 90 }
-}
-
-// The point that two bits give.
-fn point(first: bool, second: bool) -> Cpx
-    ensures { result ≡ record { re = component first; im = component second } }
-{
-    Cpx {
-        re: component_of(first),
-        im: component_of(second),
-    }
 }
 
 /// The 240 points of the broadcast channel in a frame.

@@ -9,9 +9,11 @@ use Rattle.sizes.proofs.Algebra.{plus-exchanges, multiple-plus, multiple_twice, 
 use Rattle.sizes.proofs.Squares.{square-conjugate}
 use Rattle.sizes.proofs.Sized.{sized_plain, sized-plus, sized-times}
 use Rattle.sizes.proofs.Products.{sized-multiple}
-use Rattle.crs.specs.Reference.{IsReferenceValue, reference_at}
-use Rattle.crs.proofs.Values.{reference-IsReferenceValue}
-use Rattle.soft_bits.specs.Soft.{SeenSlot, pilot_symbol, pilot_subcarrier, pilot_seen, pilot_sent, pilot, between, channel}
+use Rattle.crs.specs.Qpsk.{IsPoint}
+use Rattle.crs.specs.Reference.{reference_at}
+use Rattle.crs.proofs.Values.{reference-IsPoint}
+use Rattle.soft_bits.specs.Estimate.{between}
+use Rattle.soft_bits.specs.Soft.{SeenSlot, pilot_symbol, pilot_subcarrier, pilot_seen, pilot_sent, pilot, channel}
 use Rattle.cell_tx.proofs.Bounds.{full_size}
 use Rattle.clean_air.specs.Values.{ArePilotsSeen}
 use Rattle.budget.proofs.Deviations.{deviation, deviation-sized, channel_is}
@@ -41,12 +43,12 @@ near-plus g x y a b s t p q = record {
 full_square : (z : ℕ) → z ≡ 90 → z * z ≡ 8100
 full_square z e = rw e refl
 
-pub full-size : (a : Cpx) → IsReferenceValue a → square a ≡ 16200
+pub full-size : (a : Cpx) → IsPoint a → square a ≡ 16200
 full-size a full = ap₂ (λ m n. m + n) (full_square _ (full_size _ full.re)) (full_square _ (full_size _ full.im))
 
 pub sent-size : (identity number i : ℕ) → square (pilot_sent identity number i) ≡ 16200
 unfolding pilot_sent reference_at
-sent-size identity number i = full-size _ (reference-IsReferenceValue identity number (pilot_symbol identity i) (pilot_subcarrier identity i / 6))
+sent-size identity number i = full-size _ (reference-IsPoint identity number (pilot_symbol identity i) (pilot_subcarrier identity i / 6))
 
 pilot-near : (gain : Cpx) (slot : SeenSlot) (i : ℕ) → i < 24 → ArePilotsSeen gain slot → IsNearGain gain 1036800 245760 (pilot slot i)
 unfolding pilot
@@ -80,9 +82,9 @@ pilot-near gain slot i l seen = record {
 outer : (gain : Cpx) (slot : SeenSlot) (i : ℕ) → i < 24 → ArePilotsSeen gain slot → IsNearGain gain 3110400 737280 (multiple 3 (pilot slot i))
 outer gain slot i l seen = near-multiple gain (pilot slot i) 3 1036800 245760 (pilot-near gain slot i l seen)
 
-inner : (gain : Cpx) (slot : SeenSlot) (i r : ℕ) → i + 1 < 24 → r < 3 → ArePilotsSeen gain slot → IsNearGain gain 3110400 737280 (between slot i r)
+inner : (gain : Cpx) (slot : SeenSlot) (i r : ℕ) → i + 1 < 24 → r < 3 → ArePilotsSeen gain slot → IsNearGain gain 3110400 737280 (between (pilot slot) i r)
 inner gain slot i r l few seen =
-    subst (λ (c : ℕ). IsNearGain gain c 737280 (between slot i r)) (thirds r 1036800 few) (subst (λ (t : ℕ). IsNearGain gain ((3 - r) * 1036800 + r * 1036800) t (between slot i r)) (thirds r 245760 few)
+    subst (λ (c : ℕ). IsNearGain gain c 737280 (between (pilot slot) i r)) (thirds r 1036800 few) (subst (λ (t : ℕ). IsNearGain gain ((3 - r) * 1036800 + r * 1036800) t (between (pilot slot) i r)) (thirds r 245760 few)
     (near-plus gain (multiple (3 - r) (pilot slot i)) (multiple r (pilot slot (i + 1))) ((3 - r) * 1036800) (r * 1036800) ((3 - r) * 245760) (r * 245760)
     (near-multiple gain (pilot slot i) (3 - r) 1036800 245760 (pilot-near gain slot i (omega arith) seen))
     (near-multiple gain (pilot slot (i + 1)) r 1036800 245760 (pilot-near gain slot (i + 1) l seen))))
@@ -102,7 +104,7 @@ channel-near gain slot k seen = first (nat_lt k (pilot_subcarrier slot.identity 
     s = slot.identity % 3
 
     second : (b : Bool) → nat_lt k (pilot_subcarrier slot.identity 23) ≡ b →
-        IsNearGain gain 3110400 737280 (if b then between slot ((k - slot.identity % 3) / 3) ((k - slot.identity % 3) % 3) else multiple 3 (pilot slot 23))
+        IsNearGain gain 3110400 737280 (if b then between (pilot slot) ((k - slot.identity % 3) / 3) ((k - slot.identity % 3) % 3) else multiple 3 (pilot slot 23))
     second true e =
         let below : k - slot.identity % 3 < 23 * 3 = omega (arith, ltb-true k (pilot_subcarrier slot.identity 23) e) in
         inner gain slot ((k - slot.identity % 3) / 3) ((k - slot.identity % 3) % 3) (omega (arith, below)) (omega arith) seen
@@ -110,6 +112,6 @@ channel-near gain slot k seen = first (nat_lt k (pilot_subcarrier slot.identity 
 
     first : (b : Bool) → nat_lt k (pilot_subcarrier slot.identity 0) ≡ b →
         IsNearGain gain 3110400 737280 (if b then multiple 3 (pilot slot 0)
-        else (if nat_lt k (pilot_subcarrier slot.identity 23) then between slot ((k - slot.identity % 3) / 3) ((k - slot.identity % 3) % 3) else multiple 3 (pilot slot 23)))
+        else (if nat_lt k (pilot_subcarrier slot.identity 23) then between (pilot slot) ((k - slot.identity % 3) / 3) ((k - slot.identity % 3) % 3) else multiple 3 (pilot slot 23)))
     first true e = outer gain slot 0 (omega arith) seen
     first false e = second (nat_lt k (pilot_subcarrier slot.identity 23)) refl

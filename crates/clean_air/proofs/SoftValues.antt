@@ -17,11 +17,12 @@ use Rattle.cs_num.specs.Rounding.{clamped}
 use Rattle.sizes.proofs.Squares.{square-times, square-multiple}
 use Rattle.sizes.proofs.TwoTerms.{weighted, weighted_term}
 use Rattle.sizes.proofs.Products.{product_near, sign-turns, one-times}
-use Rattle.crs.specs.Reference.{component, is_reference}
+use Rattle.crs.specs.Qpsk.{component, point}
+use Rattle.crs.specs.Reference.{is_reference}
 use Rattle.observe.specs.Seen.{seen, seen_symbol}
 use Rattle.soft_bits.specs.Soft.{SeenSlot, seen_at, pilot_symbol, pilot_subcarrier, pilot_seen, pilot_sent, pilot_energy, channel, turned_back, soft_value, soft_values}
 use Rattle.budget.specs.Received.{IsSeenAs}
-use Rattle.clean_air.specs.Values.{Supports, point, ArePilotsSeen, IsSlotReceived, ValuesSupportBits, ReceivedValuesSupportBits}
+use Rattle.clean_air.specs.Values.{Supports, ArePilotsSeen, IsSlotReceived, ValuesSupportBits, ReceivedValuesSupportBits}
 use Rattle.budget.proofs.Deviations.{deviation, seen_is, deviation-sized}
 use Rattle.clean_air.proofs.Estimates.{IsNearGain, sent-size, channel-near}
 use Rattle.budget.proofs.Seen.{amplitude_is_seen_in_recording}

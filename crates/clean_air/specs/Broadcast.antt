@@ -7,7 +7,8 @@ use Rattle.soft_bits.specs.Soft.{SeenSlot}
 use Rattle.pbch.specs.Values.{seen_value, coded_values}
 use Rattle.pbch.specs.Master.{field, PassesWith, Tells}
 use Rattle.cell_tx.specs.Block.{scrambled_bit}
-use Rattle.clean_air.specs.Values.{Supports, IsSlotReceived, point}
+use Rattle.crs.specs.Qpsk.{point}
+use Rattle.clean_air.specs.Values.{Supports, IsSlotReceived}
 use Rattle.clean_air.specs.Words.{IsOnlyWord}
 
 -- each of the 480 soft values of a slot speaks for the bit of this word of 40 bits that a frame of this phase carries there

@@ -3,7 +3,7 @@ use Rattle.std.specs.Prelude.{◌≡◌, ℕ, ◌<◌, ◌≤◌, Bool, true, fa
 use Rattle.cs_num.specs.declared.Cpx.{Cpx}
 use Rattle.cs_num.specs.declared.Sample.{Sample}
 use Rattle.cs_num.specs.Complex.{square}
-use Rattle.crs.specs.Reference.{component}
+use Rattle.crs.specs.Qpsk.{point}
 use Rattle.observe.specs.Seen.{seen_symbol}
 use Rattle.soft_bits.specs.Soft.{SeenSlot, seen_at, pilot_symbol, pilot_subcarrier, pilot_seen, pilot_sent, soft_values}
 use Rattle.budget.specs.Received.{AreAmplitudes, IsReceived, IsSeenAs, samples_from}
@@ -17,10 +17,6 @@ Supports least true value = value ≤ℤ neg_ℤ (pos least)
 pub record SupportBoth (least : ℕ) (first second : Bool) (values : List ℤ) : Type 0 where
   pub re : Supports least first (slice_index_or values 0 (pos 0))
   pub im : Supports least second (slice_index_or values 1 (pos 0))
-
--- the amplitude that carries two bits (QPSK, TS 36.211 section 7.1.2; its size is own)
-abbrev pub point : Bool → Bool → Cpx
-point first second = record { re = component first; im = component second }
 
 -- the 24 pilots of a slot are seen with one gain that is not 0
 pub record ArePilotsSeen (gain : Cpx) (slot : SeenSlot) : Type 0 where

@@ -3,10 +3,16 @@ use Rattle.std.proofs.Common.{ℕ, ◌+◌, ◌*◌, ◌<◌, ◌≡◌, Bool, f
 use Rattle.cs_num.specs.declared.Cpx.{Cpx}
 use Rattle.gold.specs.Gold.{gold_bit, gold_bits}
 use Rattle.gold.proofs.Bits.{get_or-gold_bits}
-use Rattle.crs.specs.Reference.{component, value_by, reference_c_init, reference, IsFull, IsReferenceValue, reference_list, reference_pair}
+use Rattle.crs.specs.Qpsk.{component, IsFull, IsPoint}
+use Rattle.crs.specs.Reference.{value_by, reference_c_init, reference, reference_list, reference_pair}
+use Rattle.cs_num.specs.Complex.{nothing}
 use Rattle.std.specs.List.{range_with_len}
 use Rattle.std.proofs.lemmas.List.FromFn.{length-map-range_with_len, get_or-map-range_with_len}
 use Rattle.std.proofs.lemmas.List.Elements.{All-map}
+
+-- the pair that stands past the end of a list
+abbrev pub no_pair : ℕ × Cpx
+no_pair = (0, nothing)
 
 -- the values take bits below 232
 pub value_by-gold_bits : (identity slot symbol m : ℕ) → m < 12 →
@@ -23,15 +29,15 @@ component-IsFull false = inl refl
 component-IsFull true = inr refl
 
 -- both components have the full amplitude
-pub reference-IsReferenceValue : (identity slot symbol m : ℕ) → IsReferenceValue (reference identity slot symbol m)
+pub reference-IsPoint : (identity slot symbol m : ℕ) → IsPoint (reference identity slot symbol m)
 unfolding reference
-reference-IsReferenceValue identity slot symbol m = record { re = component-IsFull _; im = component-IsFull _ }
+reference-IsPoint identity slot symbol m = record { re = component-IsFull _; im = component-IsFull _ }
 
-pub reference_list-full : (identity slot symbol : ℕ) → All (λ pilot. IsReferenceValue pilot.1) (reference_list identity slot symbol)
+pub reference_list-full : (identity slot symbol : ℕ) → All (λ pilot. IsPoint pilot.1) (reference_list identity slot symbol)
 unfolding reference_list
 reference_list-full identity slot symbol =
-    All-map (λ (pilot : ℕ × Cpx). IsReferenceValue pilot.1) (reference_pair identity slot symbol) (range_with_len 0 12)
-    (λ k d inside. reference-IsReferenceValue identity slot symbol _)
+    All-map (λ (pilot : ℕ × Cpx). IsPoint pilot.1) (reference_pair identity slot symbol) (range_with_len 0 12)
+    (λ k d inside. reference-IsPoint identity slot symbol _)
 
 pub length-reference_list : (identity slot symbol : ℕ) → length (reference_list identity slot symbol) ≡ 12
 unfolding reference_list

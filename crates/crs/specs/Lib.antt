@@ -1,1 +1,2 @@
+pub mod Qpsk
 pub mod Reference

@@ -1,32 +1,60 @@
--- The cell-specific reference signals of antenna port 0 (TS 36.211 section 6.10.1).
-use Rattle.std.specs.Prelude.{ℕ, ◌≡◌, ◌+◌, ◌*◌, ◌/◌, ◌%◌, ◌^◌, ◌⊎◌, Bool, true, false, ◌&&◌, ◌||◌, nat_eq, if◌then◌else◌, List, map, ℤ, pos, negsuc}
+-- The cell-specific reference signals of an antenna port (TS 36.211 section 6.10.1).
+use Rattle.std.specs.Prelude.{ℕ, ◌≡◌, ◌+◌, ◌-◌, ◌*◌, ◌/◌, ◌%◌, ◌^◌, Bool, ◌&&◌, ◌||◌, nat_eq, if◌then◌else◌, List, map}
 use Rattle.std.specs.List.{range_with_len}
 use Rattle.cs_num.specs.declared.Cpx.{Cpx}
-use Rattle.cs_num.specs.Complex.{nothing}
 use Rattle.gold.specs.Gold.{gold_bit}
+use Rattle.crs.specs.Qpsk.{point}
 
--- c_init of the sequence for a slot and a symbol of it, with the normal prefix (section 6.10.1.1)
-unfoldable pub reference_c_init : ℕ → ℕ → ℕ → ℕ
-reference_c_init identity slot symbol =
-    2 ^ 10 * (7 * (slot + 1) + symbol + 1) * (2 * identity + 1) + 2 * identity + 1
+-- what the reference signals of a port and a prefix differ in
+pub record Pattern : Type 0 where
+  -- the second symbol of a slot that has them: 4, and 3 with the extended prefix
+  pub later : ℕ
+  -- v in symbol 0: 0 for port 0 and 3 for port 1; in the later symbol v is 3 less it
+  pub shift : ℕ
+  -- N_CP: 1 with the normal prefix and 0 with the extended one
+  pub prefix : ℕ
 
--- a component: 90 for the bit 0 and -90 for the bit 1 (QPSK; the amplitude is own)
-abbrev pub component : Bool → ℤ
-component false = pos 90
-component true = negsuc 89
+-- port 0 with the normal prefix: the one that is meant where no pattern is named
+abbrev pub port_0 : Pattern
+port_0 = record { later = 4; shift = 0; prefix = 1 }
+
+-- ---- for any pattern
+
+-- c_init of the sequence for a slot and a symbol of it (section 6.10.1.1)
+abbrev pub pattern_c_init : Pattern → ℕ → ℕ → ℕ → ℕ
+pattern_c_init pattern identity slot symbol =
+    2 ^ 10 * (7 * (slot + 1) + symbol + 1) * (2 * identity + 1) + 2 * identity + pattern.prefix
 
 -- value m of a symbol, by its sequence: with six resource blocks it takes the bits 2(m + 104) and
 -- 2(m + 104) + 1
 abbrev pub value_by : (ℕ → Bool) → ℕ → Cpx
-value_by bit m =
-    record { re = component (bit (2 * (m + 104))); im = component (bit (2 * (m + 104) + 1)) }
+value_by bit m = point (bit (2 * (m + 104))) (bit (2 * (m + 104) + 1))
+
+-- the first subcarrier (section 6.10.1.2)
+abbrev pub pattern_first : Pattern → ℕ → ℕ → ℕ
+pattern_first pattern identity symbol =
+    ((if nat_eq symbol 0 then pattern.shift else 3 - pattern.shift) + identity) % 6
+
+-- a symbol has reference places
+abbrev pub has_pilots : Pattern → ℕ → Bool
+has_pilots pattern symbol = nat_eq symbol 0 || nat_eq symbol pattern.later
+
+-- symbol and subcarrier are a reference place: every sixth subcarrier of two symbols of a slot
+abbrev pub is_pattern_place : Pattern → ℕ → ℕ → ℕ → Bool
+is_pattern_place pattern identity symbol k =
+    has_pilots pattern symbol && nat_eq (k % 6) (pattern_first pattern identity symbol)
+
+-- ---- for port 0 with the normal prefix
+
+unfoldable pub reference_c_init : ℕ → ℕ → ℕ → ℕ
+reference_c_init identity slot symbol = pattern_c_init port_0 identity slot symbol
 
 unfoldable pub reference : ℕ → ℕ → ℕ → ℕ → Cpx
 reference identity slot symbol m = value_by (gold_bit (reference_c_init identity slot symbol)) m
 
--- the first subcarrier: v is 0 in symbol 0 and 3 in symbol 4 (section 6.10.1.2)
+-- v is 0 in symbol 0 and 3 in symbol 4
 unfoldable pub first_subcarrier : ℕ → ℕ → ℕ
-first_subcarrier identity symbol = ((if nat_eq symbol 0 then 0 else 3) + identity) % 6
+first_subcarrier identity symbol = pattern_first port_0 identity symbol
 
 -- the subcarrier of value m
 abbrev pub subcarrier : ℕ → ℕ → ℕ → ℕ
@@ -42,22 +70,11 @@ unfoldable pub reference_list : ℕ → ℕ → ℕ → List (ℕ × Cpx)
 reference_list identity slot symbol =
     map (reference_pair identity slot symbol) (range_with_len 0 12)
 
-abbrev pub no_pair : ℕ × Cpx
-no_pair = (0, nothing)
-
--- symbol and subcarrier are a reference place: every sixth subcarrier of symbols 0 and 4 of a slot
+-- every sixth subcarrier of symbols 0 and 4
 unfoldable pub is_reference : ℕ → ℕ → ℕ → Bool
 is_reference identity symbol k =
-    (nat_eq symbol 0 || nat_eq symbol 4) && nat_eq (k % 6) (first_subcarrier identity symbol)
+    has_pilots port_0 symbol && nat_eq (k % 6) (first_subcarrier identity symbol)
 
 -- the value at a reference place
 unfoldable pub reference_at : ℕ → ℕ → ℕ → ℕ → Cpx
 reference_at identity slot symbol k = reference identity slot symbol (k / 6)
-
--- a component is 90 or -90
-abbrev pub IsFull : ℤ → Type 0
-IsFull z = (z ≡ pos 90) ⊎ (z ≡ negsuc 89)
-
-pub record IsReferenceValue (a : Cpx) : Type 0 where
-  pub re : IsFull a.re
-  pub im : IsFull a.im

@@ -3,11 +3,16 @@
 #![tactic(auto)]
 
 ghost use Rattle.std.specs.Prelude.{◌≡◌, ◌⊎◌, ◌%◌, ◌^◌, ◌<◌, ◌↔◌, ◌/◌, ◌||◌, ℕ, length, false, get_or, All, IsTrue};
-ghost use Rattle.crs.specs.Reference.{reference_c_init, component, value_by, reference, reference_list};
-ghost use Rattle.crs.specs.Reference.{first_subcarrier, subcarrier, is_reference, reference_at, IsReferenceValue};
+ghost use Rattle.crs.specs.Qpsk.{component};
+ghost use Rattle.crs.specs.Reference.{reference_c_init, value_by, reference, reference_list};
+ghost use Rattle.crs.specs.Qpsk.{IsPoint};
+ghost use Rattle.crs.specs.Reference.{first_subcarrier, subcarrier, is_reference, reference_at};
+
+mod qpsk;
 
 use cs_num::Cpx;
 use lte_types::CellId;
+pub use qpsk::point;
 
 // c_init of the sequence for a slot and a symbol of it.
 #[tactic(auto, unfolding(crate::specs::Reference::reference_c_init))]
@@ -21,13 +26,6 @@ fn c_init(id: CellId, slot: u8, symbol: u8) -> u32
     (7 * (u32::from(slot) + 1) + u32::from(symbol) + 1) * twice * 1024 + twice
 }
 
-// The component that a bit gives.
-fn component_of(bit: bool) -> i64
-    ensures { result ≡ component bit }
-{
-    if bit { -90 } else { 90 }
-}
-
 // The value of subcarrier number m, by the bits of the symbol's sequence.
 fn value_of(bits: &[bool], m: u8) -> Cpx
     requires bits { length bits.now ≡ 232 }
@@ -35,17 +33,15 @@ fn value_of(bits: &[bool], m: u8) -> Cpx
     ensures { result ≡ value_by (λ n. get_or bits.now n false) m }
 {
     let first = 2 * (m as usize + 104);
-    Cpx {
-        re: component_of(bits[first]),
-        im: component_of(bits[first + 1]),
-    }
+    point(bits[first], bits[first + 1])
 }
 
-// The first subcarrier of the symbol's reference places.
+/// The first of the subcarriers of a symbol that have reference places: each sixth from it on has one
+/// (TS 36.211 section 6.10.1.2). `symbol` is 0 or 4.
 #[tactic(auto, using(std::proofs::lemmas::Bool::Decides::nat_tests), unfolding(crate::specs::Reference::first_subcarrier))]
-fn first_of(id: CellId, symbol: u8) -> u8
-    ensures fits { result < 6 }
+pub fn first_subcarrier(id: CellId, symbol: u8) -> u8
     ensures value { result ≡ first_subcarrier id symbol }
+    ensures bound { result < 6 }
 {
     let shift = if symbol == 0 { 0 } else { 3 };
     ((shift + id.value()) % 6) as u8
@@ -57,11 +53,11 @@ pub fn pilots(id: CellId, slot: u8, symbol: u8) -> [(u8, Cpx); 12]
     requires slot { slot < 20 }
     requires symbol { (symbol ≡ 0) ⊎ (symbol ≡ 4) }
     ensures pilots { result ≡ reference_list id slot symbol }
-    ensures full { All (λ pilot. IsReferenceValue pilot.1) result }
+    ensures full { All (λ pilot. IsPoint pilot.1) result }
 {
     let mut bits = [false; 232];
     gold::fill(c_init(id, slot, symbol), &mut bits);
-    let first = first_of(id, symbol);
+    let first = first_subcarrier(id, symbol);
     let mut pilots = [(0, Cpx { re: 0, im: 0 }); 12];
     for m in 0..12_u8 {
         pilots[m as usize] = (6 * m + first, value_of(&bits, m));
@@ -84,7 +80,7 @@ pub fn reference_places()
         reference_at identity slot symbol (subcarrier identity symbol m)
         ≡ reference identity slot symbol m }
     ensures full { (identity slot symbol m : ℕ) →
-        IsReferenceValue (reference identity slot symbol m) }
+        IsPoint (reference identity slot symbol m) }
 
     ensures third { (identity k : ℕ) →
         IsTrue (is_reference identity 0 k || is_reference identity 4 k) ↔ (k % 3 ≡ identity % 3) }

@@ -2,12 +2,12 @@
 
 ghost use Rattle.std.specs.Prelude.{◌≡◌, ◌+◌, ◌*◌, ◌/◌, ◌%◌, ◌<◌, ◌≤◌, ℕ, IsTrue, length, slice_get, nat_eq, nat_lt, if◌then◌else◌};
 ghost use Rattle.std.specs.List.{list_any};
-ghost use Rattle.crs.specs.Reference.{first_subcarrier};
 ghost use Rattle.grid_map.specs.declared.Place.{Place};
 ghost use Rattle.grid_map.specs.Place.{place, place_number, same_place};
 ghost use Rattle.grid_map.specs.Shared.{has_references, room, offset, is_pdsch, pdsch_places, pdsch_place, block_places};
 
 use crate::{Place, beside};
+use crs::first_subcarrier;
 use lte_types::{CellId, Cfi};
 
 // Whether a symbol of the subframe has reference places.
@@ -32,15 +32,6 @@ fn room_in(symbol: u8, blocks: u8) -> usize
     }
 }
 
-// The first reference place of a symbol of the subframe that has such.
-#[tactic(auto, using(std::proofs::lemmas::Bool::Decides::nat_tests), unfolding(crs::specs::Reference::first_subcarrier))]
-fn first_reference(id: CellId, symbol: u8) -> usize
-    ensures { result ≡ first_subcarrier id (symbol % 7) }
-{
-    let shift = if symbol % 7 == 0 { 0 } else { 3 };
-    (shift + id.value() as usize) % 6
-}
-
 // How many subcarriers after the first one of the blocks place n of a symbol stands.
 fn offset_in(id: CellId, symbol: u8, n: usize) -> usize
     requires { n < 72 }
@@ -48,7 +39,7 @@ fn offset_in(id: CellId, symbol: u8, n: usize) -> usize
     ensures bound { result ≤ n + n / 5 + 1 }
 {
     if has_pilots(symbol) {
-        6 * (n / 5) + beside(n % 5, first_reference(id, symbol))
+        6 * (n / 5) + beside(n % 5, first_subcarrier(id, symbol % 7) as usize)
     } else {
         n
     }

@@ -4,8 +4,9 @@ use Rattle.std.proofs.lemmas.List.Elements.{All-nil, All-head, All-tail}
 use Rattle.cs_num.specs.Complex.{IsWithin, nothing, conjugate, square}
 use Rattle.cs_num.proofs.Complex.{times-within, conjugate-within, square-within}
 use Rattle.finite.proofs.Sums.{total_below-within}
-use Rattle.crs.specs.Reference.{IsFull, reference_at}
-use Rattle.crs.proofs.Values.{reference-IsReferenceValue}
+use Rattle.crs.specs.Qpsk.{IsFull}
+use Rattle.crs.specs.Reference.{reference_at}
+use Rattle.crs.proofs.Values.{reference-IsPoint}
 use Rattle.soft_bits.specs.Soft.{SeenSlot, AreSmall, seen_at, pilot_symbol, pilot_subcarrier, pilot_seen, pilot_sent, pilot, pilot_energy}
 
 -- what holds of all values and of the one past the end holds at each place
@@ -30,7 +31,7 @@ pilot_seen-within slot i small = seen_at-within slot (pilot_symbol slot.identity
 pub pilot_sent-within : (identity number i : ℕ) → IsWithin 90 (pilot_sent identity number i)
 unfolding pilot_sent reference_at
 pilot_sent-within identity number i =
-    let full = reference-IsReferenceValue identity number (pilot_symbol identity i) (pilot_subcarrier identity i / 6) in
+    let full = reference-IsPoint identity number (pilot_symbol identity i) (pilot_subcarrier identity i / 6) in
     record { re = full_within _ full.re; im = full_within _ full.im }
 
 pub pilot-within : (slot : SeenSlot) (i : ℕ) → AreSmall slot.symbols → IsWithin (180 * 2 ^ 25) (pilot slot i)

@@ -1,1 +1,3 @@
+pub mod Estimate
 pub mod Soft
+pub mod Kept

@@ -1,11 +1,11 @@
 -- The channel estimate of a slot, and the soft values of its places. (own)
-use Rattle.std.specs.Prelude.{ℕ, ◌+◌, ◌-◌, ◌*◌, ◌/◌, ◌%◌, ◌^◌, ◌<◌, ◌≡◌, nat_eq, nat_lt, if◌then◌else◌, List, [], ◌∷◌, All, slice_index_or, ℤ, pos, ◌*ℤ◌, int_div}
+use Rattle.std.specs.Prelude.{ℕ, ◌%◌, ◌^◌, nat_eq, if◌then◌else◌, List, [], ◌∷◌, All, slice_index_or, ℤ, pos, ◌*ℤ◌, int_div}
 use Rattle.finite.specs.Sums.{total_below}
-use Rattle.finite.specs.Lists.{values_below}
 use Rattle.cs_num.specs.declared.Cpx.{Cpx}
-use Rattle.cs_num.specs.Complex.{plus, times, conjugate, square, value_at, IsWithin, multiple}
+use Rattle.cs_num.specs.Complex.{times, conjugate, square, value_at, IsWithin}
 use Rattle.cs_num.specs.Rounding.{clamped}
 use Rattle.crs.specs.Reference.{is_reference, reference_at}
+use Rattle.soft_bits.specs.Estimate.{pilot_place, estimate}
 
 -- a slot as it was seen: its symbols, its number and the identity of its cell
 pub record SeenSlot : Type 0 where
@@ -21,10 +21,10 @@ seen_at slot symbol k = value_at (slice_index_or slot.symbols symbol []) k
 abbrev pub AreSmall : List (List Cpx) → Type 0
 AreSmall symbols = All (All (IsWithin (2 ^ 25))) symbols
 
--- pilot i of 24: the reference places of symbols 0 and 4 together are every third subcarrier
+-- the subcarrier of pilot i of 24, the reference places of symbols 0 and 4
 -- (TS 36.211 section 6.10.1.2)
 abbrev pub pilot_subcarrier : ℕ → ℕ → ℕ
-pilot_subcarrier identity i = identity % 3 + 3 * i
+pilot_subcarrier identity i = pilot_place (identity % 3) i
 
 -- the symbol that holds it
 unfoldable pub pilot_symbol : ℕ → ℕ → ℕ
@@ -47,18 +47,9 @@ pilot slot i = times (pilot_seen slot i) (conjugate (pilot_sent slot.identity sl
 unfoldable pub pilot_energy : SeenSlot → ℕ
 pilot_energy slot = total_below 24 (λ i. square (pilot_seen slot i))
 
--- r thirds of the way from pilot i to the next, three times
-abbrev pub between : SeenSlot → ℕ → ℕ → Cpx
-between slot i r = plus (multiple (3 - r) (pilot slot i)) (multiple r (pilot slot (i + 1)))
-
--- three times the channel at a subcarrier: that of the first pilot before it, that of the last
--- from it on, and linear between two pilots
+-- three times the channel at a subcarrier
 unfoldable pub channel : SeenSlot → ℕ → Cpx
-channel slot k =
-    if nat_lt k (pilot_subcarrier slot.identity 0) then multiple 3 (pilot slot 0)
-    else (if nat_lt k (pilot_subcarrier slot.identity 23)
-    then between slot ((k - slot.identity % 3) / 3) ((k - slot.identity % 3) % 3)
-    else multiple 3 (pilot slot 23))
+channel slot k = estimate (pilot slot) (slot.identity % 3) k
 
 -- six times a component by the energy of the pilots, rounded toward zero and clamped to -127 to 127;
 -- 0 where no pilot was seen
@@ -75,10 +66,3 @@ unfoldable pub soft_values : SeenSlot → ℕ → ℕ → List ℤ
 soft_values slot symbol k =
     soft_value (turned_back slot symbol k).re (pilot_energy slot)
     ∷ soft_value (turned_back slot symbol k).im (pilot_energy slot) ∷ []
-
--- what a slot keeps, made once: its pilots and their energy
-pub record IsKept (slot : SeenSlot) (pilots : List Cpx) (energy : ℕ) : Type 0 where
-  pub number : slot.number < 20
-  pub small : AreSmall slot.symbols
-  pub channel : pilots ≡ values_below 24 (pilot slot)
-  pub total : energy ≡ pilot_energy slot

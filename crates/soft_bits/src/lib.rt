@@ -1,12 +1,14 @@
 //! The channel estimate of a slot from its reference signals, and the soft values of its places.
 #![tactic(auto)]
 
+mod line;
 mod pilots;
 mod slot;
 #[cfg(test)]
 mod tests;
 mod value;
 
+pub use line::estimate;
 pub use pilots::pilots_are_the_reference_places;
 pub use slot::Slot;
 pub use value::soft;

@@ -21,7 +21,7 @@ pub fn pilots_are_the_reference_places()
 {}
 
 // The subcarrier of pilot i.
-pub(crate) fn subcarrier_of(id: CellId, i: u8) -> u8
+fn subcarrier_of(id: CellId, i: u8) -> u8
     requires { i < 24 }
     ensures value { result ≡ pilot_subcarrier id i }
     ensures fits { result < 72 }

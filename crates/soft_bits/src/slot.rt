@@ -3,8 +3,10 @@
 ghost use Rattle.std.specs.Prelude.{◌≡◌, ℕ, ◌*◌, ◌^◌, ◌<◌, ◌≤◌, List};
 ghost use Rattle.cs_num.specs.declared.Cpx.{Cpx};
 ghost use Rattle.cs_num.specs.Complex.{IsWithin, value_at};
-ghost use Rattle.soft_bits.specs.Soft.{SeenSlot, AreSmall, IsKept, seen_at, pilot, pilot_energy};
+ghost use Rattle.soft_bits.specs.Soft.{SeenSlot, AreSmall, seen_at, channel, pilot_energy};
+ghost use Rattle.soft_bits.specs.Kept.{IsKept};
 
+use crate::line::estimate;
 use crate::pilots::{energy_of, pilots_of};
 use cs_num::Cpx;
 use lte_types::CellId;
@@ -115,13 +117,13 @@ impl Slot {
         self.symbols[symbol as usize].at(k)
     }
 
-    // Pilot i.
-    pub(crate) fn pilot(&self, i: u8) -> Cpx
-        requires { i < 24 }
-        ensures value { result ≡ pilot self.now i }
-        ensures small { IsWithin (180 * 2 ^ 25) result }
+    // Three times the channel at a subcarrier.
+    pub(crate) fn channel(&self, k: u8) -> Cpx
+        requires { k < 72 }
+        ensures value { result ≡ channel self.now k }
+        ensures small { IsWithin (540 * 2 ^ 25) result }
     {
-        self.pilots[i as usize]
+        estimate(&self.pilots, self.id.n2() as u8, k)
     }
 
     // The energy of the pilots.

@@ -1,5 +1,6 @@
 use Rattle.std.proofs.Common.{◌≡◌, ℕ, ◌<◌, length, slice_index_or}
-use Rattle.crs.specs.Reference.{reference_pair, no_pair}
+use Rattle.crs.proofs.Values.{no_pair}
+use Rattle.crs.specs.Reference.{reference_pair}
 use Rattle.crs.proofs.pilots.Given as goal
 
 abbrev pub invariant-loop-m : goal.invariant-loop-m

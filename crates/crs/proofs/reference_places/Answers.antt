@@ -1,7 +1,7 @@
 use Rattle.std.proofs.Common.{arith, ap, ◌≡◌, ◌/◌}
 use Rattle.std.proofs.lemmas.Bool.Decides.{nat_tests}
 use Rattle.crs.specs.Reference.{first_subcarrier, subcarrier, is_reference, reference_at, reference}
-use Rattle.crs.proofs.Values.{reference-IsReferenceValue}
+use Rattle.crs.proofs.Values.{reference-IsPoint}
 use Rattle.crs.proofs.reference_places.Goals as goal
 
 pub returns-clause-inside : goal.returns-clause-inside
@@ -23,7 +23,7 @@ returns-clause-value c identity slot symbol m =
     ap (reference identity slot symbol) number
 
 pub returns-clause-full : goal.returns-clause-full
-returns-clause-full c identity slot symbol m = reference-IsReferenceValue identity slot symbol m
+returns-clause-full c identity slot symbol m = reference-IsPoint identity slot symbol m
 
 pub returns-clause-third : goal.returns-clause-third
 unfolding first_subcarrier is_reference

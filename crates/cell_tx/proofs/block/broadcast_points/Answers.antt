@@ -29,7 +29,7 @@ loop-i-preserved c =
     let number : c.value.result ≡ c.args.sfn = c.value.ensures.value in
     let first = c.scrambled.ensures ∙ bit_is plan c.args.sfn (2 * i) n _ _ coded scrambling (omega (arith, number)) (omega arith) in
     let second = c.scrambled-in-loop-i.ensures ∙ bit_is plan c.args.sfn (2 * i + 1) (n + 1) _ _ coded scrambling (omega (arith, number)) (omega arith) in
-    let here : c.point.result ≡ broadcast_point plan c.args.sfn i = c.point.ensures ∙ rw (first, second) refl in
+    let here : c.point.result ≡ broadcast_point plan c.args.sfn i = c.point.ensures.point ∙ rw (first, second) refl in
     record {
       whole = length-set c.loop-i.points i _ ∙ c.loop-i.invariant.whole;
       each = rw here (fill_by_more (broadcast_point plan c.args.sfn) c.loop-i.points i nothing (omega (arith, c.loop-i.invariant.whole)) c.loop-i.invariant.each);

@@ -1,7 +1,7 @@
 use Rattle.std.proofs.Common.{◌≡◌, ◌∙◌, ◌/◌, ◌<◌, arith, ap, slice_index_or, ℕ, List, refl}
 use Rattle.cs_num.specs.declared.Cpx.{Cpx}
-use Rattle.crs.specs.Reference.{reference_list, reference_at, no_pair}
-use Rattle.crs.proofs.Values.{get_or-reference_list}
+use Rattle.crs.specs.Reference.{reference_list, reference_at}
+use Rattle.crs.proofs.Values.{no_pair, get_or-reference_list}
 use Rattle.soft_bits.specs.Soft.{pilot_sent, pilot_symbol, pilot_subcarrier}
 use Rattle.soft_bits.proofs.Sizes.{pilot_sent-within}
 use Rattle.soft_bits.proofs.pilots.sent_of.Goals as goal

@@ -17,7 +17,7 @@ within a b h e p q =
 
 pub mul-value-requires : goal.mul-value-requires
 mul-value-requires c =
-    let both = within c.seen.result c.channel_at.result c.conj.result c.conj.ensures c.seen.ensures.small c.channel_at.ensures.small in
+    let both = within c.seen.result c.channel.result c.conj.result c.conj.ensures c.seen.ensures.small c.channel.ensures.small in
     omega (arith, mul-le (size c.seen.result) (size c.conj.result) (2 ^ 25) (540 * 2 ^ 25) (size-le _ _ c.seen.ensures.small) (size-le _ _ both.0))
 
 -- what the machine reads back
@@ -26,13 +26,13 @@ back z s = to_z-of_z w64 z (fits_signed_from_abs w64 z (omega (arith, s.re)))
 
 pub value_of-requires-clause-component : goal.value_of-requires-clause-component
 value_of-requires-clause-component c =
-    let both = within c.seen.result c.channel_at.result c.conj.result c.conj.ensures c.seen.ensures.small c.channel_at.ensures.small in
+    let both = within c.seen.result c.channel.result c.conj.result c.conj.ensures c.seen.ensures.small c.channel.ensures.small in
     let s : IsWithin (1080 * 2 ^ 50) c.mul-value.result = rw c.mul-value.ensures both.1 in
     rw (back c.mul-value.result.re (record { re = s.re; im = s.re })) s.re
 
 pub value_of-requires-2-clause-component : goal.value_of-requires-2-clause-component
 value_of-requires-2-clause-component c =
-    let both = within c.seen.result c.channel_at.result c.conj.result c.conj.ensures c.seen.ensures.small c.channel_at.ensures.small in
+    let both = within c.seen.result c.channel.result c.conj.result c.conj.ensures c.seen.ensures.small c.channel.ensures.small in
     let s : IsWithin (1080 * 2 ^ 50) c.mul-value.result = rw c.mul-value.ensures both.1 in
     rw (back c.mul-value.result.im (record { re = s.im; im = s.im })) s.im
 
@@ -50,10 +50,10 @@ returns-clause-range c =
 pub returns-clause-values : goal.returns-clause-values
 unfolding soft_values
 returns-clause-values c =
-    let both = within c.seen.result c.channel_at.result c.conj.result c.conj.ensures c.seen.ensures.small c.channel_at.ensures.small in
+    let both = within c.seen.result c.channel.result c.conj.result c.conj.ensures c.seen.ensures.small c.channel.ensures.small in
     let s : IsWithin (1080 * 2 ^ 50) c.mul-value.result = rw c.mul-value.ensures both.1 in
     let turned : c.mul-value.result ≡ turned_back c.args.slot.now c.args.symbol c.args.k =
-    c.mul-value.ensures ∙ ap₂ times c.seen.ensures.value (c.conj.ensures ∙ ap conjugate c.channel_at.ensures.value) in
+    c.mul-value.ensures ∙ ap₂ times c.seen.ensures.value (c.conj.ensures ∙ ap conjugate c.channel.ensures.value) in
     let re : to_z w64 (of_z w64 c.mul-value.result.re) ≡ (turned_back c.args.slot.now c.args.symbol c.args.k).re =
     back c.mul-value.result.re (record { re = s.re; im = s.re }) ∙ ap (λ (z : Cpx). z.re) turned in
     let im : to_z w64 (of_z w64 c.mul-value.result.im) ≡ (turned_back c.args.slot.now c.args.symbol c.args.k).im =

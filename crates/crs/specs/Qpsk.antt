@@ -1,0 +1,21 @@
+-- Points of two bits: QPSK (TS 36.211 section 7.1.2). The amplitude is own.
+use Rattle.std.specs.Prelude.{◌≡◌, ◌⊎◌, Bool, true, false, ℤ, pos, negsuc}
+use Rattle.cs_num.specs.declared.Cpx.{Cpx}
+
+-- a component: 90 for the bit 0 and -90 for the bit 1
+abbrev pub component : Bool → ℤ
+component false = pos 90
+component true = negsuc 89
+
+-- the point of two bits: the first in the real part, the second in the imaginary part
+abbrev pub point : Bool → Bool → Cpx
+point first second = record { re = component first; im = component second }
+
+-- a component is 90 or -90
+abbrev pub IsFull : ℤ → Type 0
+IsFull z = (z ≡ pos 90) ⊎ (z ≡ negsuc 89)
+
+-- both components are
+pub record IsPoint (a : Cpx) : Type 0 where
+  pub re : IsFull a.re
+  pub im : IsFull a.im

@@ -1,0 +1,25 @@
+//! Points of two bits (TS 36.211 section 7.1.2).
+
+ghost use Rattle.std.specs.Prelude.{◌≡◌};
+ghost use Rattle.crs.specs.Qpsk.{component, point, IsPoint};
+
+use cs_num::Cpx;
+
+// The component that a bit gives.
+fn component_of(bit: bool) -> i64
+    ensures { result ≡ component bit }
+{
+    if bit { -90 } else { 90 }
+}
+
+/// The point of two bits by QPSK: the first in the real part, the second in the imaginary part.
+/// Each component is 90 for the bit 0 and -90 for the bit 1.
+pub fn point(first: bool, second: bool) -> Cpx
+    ensures point { result ≡ point first second }
+    ensures full { IsPoint result }
+{
+    Cpx {
+        re: component_of(first),
+        im: component_of(second),
+    }
+}

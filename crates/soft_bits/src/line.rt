@@ -1,0 +1,53 @@
+//! The channel between the pilots.
+
+ghost use Rattle.std.specs.Prelude.{◌≡◌, ℕ, ◌*◌, ◌^◌, ◌<◌, ◌≤◌, All};
+ghost use Rattle.cs_num.specs.Complex.{IsWithin, multiple, value_at};
+ghost use Rattle.soft_bits.specs.Estimate.{between, estimate};
+
+use cs_num::Cpx;
+
+const LAST: u8 = 23;
+
+/// Three times the channel at subcarrier `k`, by 24 pilots that stand at every third subcarrier from
+/// `first` on: linear between two of them, and level before the first and from the last on. `first`
+/// is 0 to 2 and `k` 0 to 71; a pilot is what was seen times the conjugate of what was sent.
+pub fn estimate(pilots: &[Cpx; 24], first: u8, k: u8) -> Cpx
+    requires pilots { All (IsWithin (180 * 2 ^ 25)) pilots.now }
+    requires first { first < 3 }
+    requires k { k < 72 }
+    ensures value { result ≡ estimate (value_at pilots.now) first k }
+    ensures small { IsWithin (540 * 2 ^ 25) result }
+{
+    if k < first {
+        multiple_of(3, pilots[0])
+    } else if k < first + 3 * LAST {
+        between(pilots, (k - first) / 3, (k - first) % 3)
+    } else {
+        multiple_of(3, pilots[LAST as usize])
+    }
+}
+
+// The same, r thirds of the way from pilot i to the next.
+fn between(pilots: &[Cpx; 24], i: u8, r: u8) -> Cpx
+    requires pilots { All (IsWithin (180 * 2 ^ 25)) pilots.now }
+    requires i { i < 23 }
+    requires r { r < 3 }
+    ensures value { result ≡ between (value_at pilots.now) i r }
+    ensures small { IsWithin (540 * 2 ^ 25) result }
+{
+    multiple_of(3 - r, pilots[i as usize]).add(multiple_of(r, pilots[i as usize + 1]))
+}
+
+// The multiple of a pilot.
+fn multiple_of(n: u8, a: Cpx) -> Cpx
+    requires n { n ≤ 3 }
+    requires small { IsWithin (180 * 2 ^ 25) a }
+    ensures value { result ≡ multiple n a }
+    ensures small { IsWithin (n * (180 * 2 ^ 25)) result }
+{
+    let n = n as i64;
+    Cpx {
+        re: n * a.re,
+        im: n * a.im,
+    }
+}
