@@ -1,0 +1,95 @@
+#!/usr/bin/env bash
+# test.sh [PROGRAM]
+#
+# Tries each recipe of docs/RECORDINGS.md that a machine without a radio can: writes what a radio would have written of a
+# sent cell, makes a recording of it, and looks for the cell in its list. Takes about half a minute. PROGRAM is
+# lte_cli, crates/lte_cli/out/lte_cli where it is left out. A recipe whose tool is not there is left out, and said so.
+# The status is the number of recipes that failed.
+set -u
+here=$(cd "$(dirname "$0")" && pwd)
+program=$(realpath "${1:-$here/../../crates/lte_cli/out/lte_cli}")
+room=$(mktemp -d)
+trap 'rm -rf "$room"' EXIT
+cd "$room" || exit 1
+failed=0
+
+has() { # has WORD..: whether these commands are there
+    for word; do command -v "$word" > /dev/null || return 1; done
+}
+
+finds() { # finds NAME < LIST: the list has the sent cell, within 12 samples of its place
+    if awk '$1 == "cell" && $2 == 217 && $4 >= 14188 && $4 <= 14212 { $4 = ""; print }' | grep -q 'sfn 101 ports 1 n6 phich normal two spare 5'
+    then echo "ok      $1"
+    else echo "FAILED  $1"; failed=$((failed + 1))
+    fi
+}
+
+says() { # says NAME WANTED < TEXT: the text is what is wanted
+    if [ "$(cat)" = "$2" ]; then echo "ok      $1"; else echo "FAILED  $1"; failed=$((failed + 1)); fi
+}
+
+echo '{"identity": 217, "sfn": 100, "offset": 5000, "samples": 192000, "gain": [20, 0],
+       "duration": "normal", "resource": "two", "spare": 5}' | "$program" transmit > sent.ci16
+"$program" search < sent.ci16 | finds 'a recording as it is'
+
+if has jq; then
+    echo '{"global": {"core:datatype": "ci16_le", "core:sample_rate": 1920000}, "captures": [{}]}' > a.sigmf-meta
+    cp sent.ci16 a.sigmf-data
+    "$here/from_sigmf.sh" a.sigmf-meta | cmp - sent.ci16 > same
+    says 'SigMF ci16_le at 1.92 Ms/s is the recording' '' < same
+    echo '{"global": {"core:datatype": "cf32_le", "core:sample_rate": 2.4e6}, "captures": [{"core:frequency": 796000000}]}' > b.sigmf-meta
+    "$here/as_radio.py" f32 2400000 300000 < sent.ci16 > b.sigmf-data
+    "$here/from_sigmf.sh" b.sigmf-meta 796300000 | "$program" search | finds 'SigMF cf32_le at 2.4 Ms/s, 300 kHz beside the centre'
+else
+    echo 'left out SigMF: no jq'
+fi
+
+for form in 'u8 1920000' 'u8 2048000' 's8 15360000' 's16 30720000' 'f32 10000000'; do
+    set -- $form
+    "$here/as_radio.py" "$1" "$2" < sent.ci16 > radio
+    "$here/to_ci16.py" "$1" "$2" < radio | "$program" search | finds "to_ci16.py $form"
+    if has sox; then
+        case $1 in u8) type='-t u8' ;; s8) type='-t s8' ;; s16) type='-t s16 -L' ;; f32) type='-t f32' ;; esac
+        sox -D $type -c 2 -r "$2" radio -t s16 -L - rate 1920000 sinc -600k norm -6 trim 0 1 2> /dev/null |
+            "$program" search | finds "sox $form"
+    else
+        echo 'left out sox'
+    fi
+done
+
+if /usr/bin/python3 -c 'import gnuradio' 2> /dev/null; then
+    "$here/as_radio.py" f32 2000000 100000 < sent.ci16 > radio
+    "$here/gr_to_ci16.py" radio 2000000 100000 made > /dev/null 2>&1
+    "$program" search < made | finds 'GNU Radio, 2 Ms/s, 100 kHz beside the centre'
+else
+    echo 'left out GNU Radio'
+fi
+
+"$here/as_radio.py" s16 1920000 21500 < sent.ci16 > turned
+"$program" search < turned | says 'an offset of 21.5 kHz hides the cell' 'cells 0'
+"$here/offset.py" "$program" < turned 2> told | "$program" search | finds 'offset.py takes it off'
+awk '$2 > 21400 && $2 < 21600 { print "near" }' told | says 'offset.py tells it' near
+
+head -c 400000 /dev/zero | cat - sent.ci16 > long
+"$here/windows.sh" "$program" long 96000 50000 | says 'windows.sh finds it in a longer file' \
+'100000 cell 217 at 14200 sfn 101 ports 1 n6 phich normal two spare 5
+150000 cell 217 at 2600 sfn 103 ports 1 n6 phich normal two spare 5'
+
+if has parallel; then
+    cp sent.ci16 'a b.ci16'
+    head -c 1001 sent.ci16 > cut.ci16
+    "$here/many.sh" "$program" 'a b.ci16' cut.ci16 2> causes | grep -c 'cell 217' | says 'many.sh searches each file' 1
+    grep -o 'lte_cli: .*' causes | says 'many.sh says which was refused' 'lte_cli: ragged'
+else
+    echo 'left out many.sh: no parallel'
+fi
+
+"$program" certify < sent.ci16 > certificate
+"$program" check < certificate > answers
+"$here/../check_certificates.py" < certificate | says 'check_certificates.py answers as check does' "$(cat answers)"
+printf '\377' | dd of=certificate bs=1 seek=244 conv=notrunc status=none
+"$program" check < certificate | says 'another word is refused' 'certificates 1
+0 no'
+"$here/../check_certificates.py" < certificate | says 'by check_certificates.py too' 'certificates 1
+0 no'
+exit "$failed"
