@@ -2,7 +2,7 @@
 use Rattle.std.proofs.Common.{◌≡◌, ℕ, ◌+◌, ◌/◌, ◌%◌, ◌<◌, ◌≤◌, inl, inr, arith, refl, ap, sym, subst, ◌∙◌, List, length, nat_eq, nat_le, true}
 use Rattle.std.specs.Prelude.{◌&&◌}
 use Rattle.std.specs.List.{Contains}
-use Rattle.std.proofs.lemmas.Bool.{cases_lt, cases_eq}
+use Rattle.std.proofs.lemmas.Bool.{cases_lt}
 use Rattle.std.proofs.lemmas.Bool.Decides.{nat_tests}
 use Rattle.cs_num.specs.declared.Cpx.{Cpx}
 use Rattle.cs_num.specs.declared.Sample.{Sample}
@@ -12,7 +12,7 @@ use Rattle.lte_types.specs.declared.frame.Half.{Half}
 use Rattle.lte_types.specs.declared.frame.Half.TheVariants.{Zero, Five}
 use Rattle.lte_types.specs.declared.hit.Hit.{Hit}
 use Rattle.lte_types.specs.declared.entry.Entry.{Entry}
-use Rattle.pss_search.specs.Hits.{IsHit, found}
+use Rattle.pss_search.specs.Hits.{found}
 use Rattle.pss_search.proofs.Listed.{list_is_right}
 use Rattle.sss_detect.specs.Place.{start_of, cell_of}
 use Rattle.sss_detect.specs.Identity.{identity_of}
@@ -33,7 +33,7 @@ use Rattle.explain.specs.Laws.{IsEntry}
 use Rattle.explain.proofs.Entries.{same_master, same_entry}
 use Rattle.explain.proofs.Listed.{is_sound, is_complete}
 use Rattle.clean_air.specs.Clean.{HoldsCell, HoldsCleanCells}
-use Rattle.budget.proofs.Peaks.{primary_is_listed, none_near_is_hit}
+use Rattle.budget.proofs.Peaks.{primary_is_listed, only_hit_near}
 use Rattle.budget.proofs.Scores.{sent_pair_is_identified}
 use Rattle.clean_air.proofs.Masters.{sent_word_is_told, received_slot_speaks}
 use Rattle.clean_air.proofs.SentSymbols.{IsTruePlace, first_frame, primary_at, synchronisation_at}
@@ -143,15 +143,11 @@ module _ (recording : List Sample) (plan : CellPlan) (sfn offset : ℕ) (gain : 
       let hit = is.hit in
       let half = (identity_of recording hit).1 in
       let right = (list_is_right recording hit).0 is.listed in
-      let root : hit.n2 ≡ plan.identity % 3 = omega (arith, right.root, id, is.is_of.id) in
       let place = near_true offset hit.t half clean.within right.is_hit.from_first (subst (λ a. AreNear a (start_after offset)) is.is_of.start near) in
       let inside : place.u + 128 ≤ length recording = omega (arith, long, place.above, right.is_hit.to_last) in
       let primary = primary_at recording plan sfn offset gain eps place.u clean inside half place.is in
-      elim (cases_eq hit.t place.u) [
-        | inl same ↦ is.is_of.start ∙ true_start offset hit.t half clean.within (subst (λ t. IsTruePlace offset t half) (sym same) place.is)
-        | inr differ ↦ absurd (none_near_is_hit recording place.u hit.t (plan.identity % 3) primary differ place.below place.above
-            (subst (λ n2. IsHit recording hit.t n2) root right.is_hit))
-      ]
+      let same = (only_hit_near recording place.u hit.t (plan.identity % 3) hit.n2 primary (omega (arith, right.root)) place.below place.above right.is_hit).0 in
+      is.is_of.start ∙ true_start offset hit.t half clean.within (subst (λ t. IsTruePlace offset t half) (sym same) place.is)
 
   -- an entry of a hit with the cell's identity, start and number is the cell's entry: it tells the same master block of the same frame
   entry_is : (other : Entry) → IsEntry recording other → other.id ≡ plan.identity → other.start ≡ start_after offset → other.sfn ≡ number_at_start sfn offset → other ≡ sent_entry
