@@ -9,7 +9,7 @@ use Rattle.lte_types.specs.declared.resource.Resource.TheVariants.{OneSixth, Hal
 use Rattle.cs_bits.specs.Polynomial.{crc16_of}
 use Rattle.conv_code.specs.Code.{coded_word}
 use Rattle.conv_code.specs.Reading.{bit_at_place, place_of}
-use Rattle.gold.specs.Sequence.{xor}
+use Rattle.finite.specs.Bits.{xor}
 use Rattle.gold.specs.Gold.{gold_bit}
 use Rattle.crs.specs.Qpsk.{point}
 use Rattle.cell_tx.specs.declared.cell.CellPlan.{CellPlan}

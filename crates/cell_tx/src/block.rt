@@ -2,7 +2,7 @@
 
 ghost use Rattle.std.specs.Prelude.{◌≡◌, ◌+◌, ◌*◌, ◌<◌, ◌≤◌, ◌++◌, false, take, slice_index_or};
 ghost use Rattle.finite.specs.Lists.{values_below};
-ghost use Rattle.gold.specs.Sequence.{xor};
+ghost use Rattle.finite.specs.Bits.{xor};
 ghost use Rattle.gold.specs.Gold.{gold_bits};
 ghost use Rattle.conv_code.specs.Reading.{bit_at_place, place_of};
 ghost use Rattle.cell_tx.specs.Block.{bits_of, duration_code, resource_code, broadcast_word, broadcast_point};

@@ -1,7 +1,7 @@
 -- Values that all speak for the coded bits of one word tell that word and no other. (own; the code and its reading are those of TS
 -- 36.212 sections 5.1.3.1 and 5.1.4.2)
 use Rattle.std.specs.Prelude.{◌≡◌, ℕ, ◌*◌, ◌<◌, ◌≤◌, Bool, cond, List, length, slice_index_or, ℤ, pos, ◌+ℤ◌, neg_ℤ}
-use Rattle.gold.specs.Sequence.{xor}
+use Rattle.finite.specs.Bits.{xor}
 use Rattle.conv_code.specs.Code.{coded_word}
 use Rattle.conv_code.specs.Reading.{bit_at_place, place_of, summed}
 use Rattle.conv_code.specs.Cost.{word_cost}

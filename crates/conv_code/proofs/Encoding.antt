@@ -1,10 +1,9 @@
 -- The coded bits, one tap after another.
-use Rattle.std.proofs.Common.{◌≡◌, ℕ, ◌+◌, ◌<◌, ◌≤◌, Bool, false, not, List, [], length, map, get_or, drop, suc, refl, ap, sym, ◌∙◌, arith, drop_of_length-le}
-use Rattle.std.specs.Bool.{beq}
+use Rattle.std.proofs.Common.{◌≡◌, ℕ, ◌+◌, ◌<◌, ◌≤◌, Bool, false, List, [], length, map, get_or, drop, suc, refl, ap, sym, ◌∙◌, arith, drop_of_length-le}
 use Rattle.std.proofs.Math.Seq.{drop-cons}
 use Rattle.finite.proofs.Lists.{values_below_is}
-use Rattle.cs_bits.specs.Polynomial.{xor}
-use Rattle.cs_bits.proofs.Xor.{xor-false, xor_assoc, ne_xor}
+use Rattle.finite.specs.Bits.{xor}
+use Rattle.finite.proofs.Bits.{xor-false, false-xor, xor_assoc}
 use Rattle.conv_code.specs.Code.{parity, coded_bits, coded_word}
 
 -- what the loop over the taps keeps, after i of them
@@ -12,17 +11,16 @@ pub record IsPartSum (f : ℕ → Bool) (taps : List ℕ) (i : ℕ) (sum : Bool)
   pub whole : xor sum (parity (map f (drop i taps))) ≡ parity (map f taps)
 
 pub part_none : (f : ℕ → Bool) (taps : List ℕ) → IsPartSum f taps 0 false
-part_none f taps = record { whole = refl }
+part_none f taps = record { whole = false-xor (parity (map f taps)) }
 
 pub part_more : (f : ℕ → Bool) (taps : List ℕ) (i : ℕ) (sum b : Bool) → i < length taps → b ≡ f (get_or taps i 0) →
-    IsPartSum f taps i sum → IsPartSum f taps (i + 1) (not (beq sum b))
+    IsPartSum f taps i sum → IsPartSum f taps (i + 1) (xor sum b)
 part_more f taps i sum b inside is known =
     let e : suc i ≡ i + 1 = omega arith in
     let d = drop-cons taps i 0 inside in
     record {
       whole =
-          ap (λ s. xor s (parity (map f (drop (i + 1) taps)))) (ne_xor sum b)
-          ∙ xor_assoc sum b (parity (map f (drop (i + 1) taps)))
+          xor_assoc sum b (parity (map f (drop (i + 1) taps)))
           ∙ rw (is, ← e) (sym (ap (λ ts. xor sum (parity (map f ts))) d))
           ∙ known.whole;
     }

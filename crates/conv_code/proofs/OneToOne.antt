@@ -3,30 +3,10 @@ use Rattle.std.proofs.Common.{◌≡◌, ℕ, zero, suc, ◌+◌, ◌-◌, ◌%�
 use Rattle.std.proofs.lemmas.List.{ext_get_or}
 use Rattle.std.proofs.Math.Nat.{mod-eq_of_lt, add-mod_right, mod-lt}
 use Rattle.finite.proofs.Lists.{values_below_at}
-use Rattle.cs_bits.specs.Polynomial.{xor}
-use Rattle.cs_bits.proofs.Xor.{xor-false, xor_assoc}
+use Rattle.finite.specs.Bits.{xor}
+use Rattle.finite.proofs.Bits.{xor-false, xor_assoc, xor_comm, xor_left, xor_self, xor_again}
 use Rattle.conv_code.specs.Code.{parity, bit_back, taps_0, taps_1, taps_2, coded, coded_bits, coded_word}
 use Rattle.conv_code.specs.Laws.{IsOneToOne}
-
--- ---- the sum modulo 2
-
-x_comm : (a b : Bool) → xor a b ≡ xor b a
-x_comm true true = refl
-x_comm true false = refl
-x_comm false true = refl
-x_comm false false = refl
-
-x_left : (a b c : Bool) → xor a (xor b c) ≡ xor b (xor a c)
-x_left a b c = sym (xor_assoc a b c) ∙ ap (λ d. xor d c) (x_comm a b) ∙ xor_assoc b a c
-
-x_self : (a : Bool) → xor a a ≡ false
-x_self true = refl
-x_self false = refl
-
-x_again : (a b : Bool) → xor a (xor a b) ≡ b
-x_again true true = refl
-x_again true false = refl
-x_again false b = refl
 
 -- with D one step back, (1 + D) times the first taps and the second taps and (1 + D) times the third taps add up to 1
 pub five : (f : ℕ → Bool) →
@@ -35,7 +15,7 @@ five f = eight (f 0) (f 1) (f 2) (f 3) (f 4) (f 5) (f 6) (f 7)
   where
     eight : (a b c d e g h i : Bool) →
         xor (parity (a ∷ c ∷ d ∷ g ∷ h ∷ [])) (xor (parity (b ∷ d ∷ e ∷ h ∷ i ∷ [])) (xor (parity (a ∷ b ∷ c ∷ d ∷ h ∷ [])) (xor (parity (a ∷ b ∷ c ∷ e ∷ h ∷ [])) (parity (b ∷ c ∷ d ∷ g ∷ i ∷ []))))) ≡ a
-    eight a b c d e g h i = simp (xor_assoc, xor-false, x_comm, x_left, x_self, x_again)
+    eight a b c d e g h i = simp (xor_assoc, xor-false, xor_comm, xor_left, xor_self, xor_again)
 
 -- ---- places, cyclically
 

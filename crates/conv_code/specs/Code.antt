@@ -1,6 +1,6 @@
 -- The tail-biting convolutional code of rate 1/3 (TS 36.212 section 5.1.3.1).
 use Rattle.std.specs.Prelude.{ℕ, ◌+◌, ◌-◌, ◌%◌, Bool, false, List, [], ◌∷◌, length, map, slice_index_or}
-use Rattle.cs_bits.specs.Polynomial.{xor}
+use Rattle.finite.specs.Bits.{xor}
 use Rattle.finite.specs.Lists.{values_below}
 
 -- the sum of the bits modulo 2

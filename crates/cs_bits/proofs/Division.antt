@@ -4,9 +4,10 @@ use Rattle.std.specs.Int.{bit_at}
 use Rattle.std.proofs.lemmas.Nat.Bits.{bit_at_xor, bit_at-lt, bit_at-suc, bit_at_lowest, bit_at_cat_low, bit_at-zero}
 use Rattle.std.proofs.lemmas.Bool.Decides.{nat_tests}
 use Rattle.std.proofs.lemmas.Nat.{mod-mul-add}
-use Rattle.cs_bits.specs.Polynomial.{xor, xor_onto, divide, remainder, number}
+use Rattle.finite.specs.Bits.{xor}
+use Rattle.cs_bits.specs.Polynomial.{xor_onto, divide, remainder, number}
 use Rattle.cs_bits.specs.Register.{next}
-use Rattle.cs_bits.proofs.Xor.{xor-false, xor_assoc}
+use Rattle.finite.proofs.Bits.{xor-false, false-xor, xor_assoc}
 
 -- the low w bits, the highest first
 unfoldable pub bits_of : ℕ → ℕ → List Bool
@@ -133,7 +134,7 @@ xor_onto-zeros (x ∷ xs) (suc w) = rw (xor-false x, xor_onto-zeros xs w) refl
 zeros-xor_onto : (ts : List Bool) → xor_onto (replicate (length ts) false) ts ≡ ts
 unfolding xor_onto
 zeros-xor_onto [] = refl
-zeros-xor_onto (t ∷ ts) = ap (λ zs. t ∷ zs) (zeros-xor_onto ts)
+zeros-xor_onto (t ∷ ts) = rw (false-xor t, zeros-xor_onto ts) refl
 
 pub kept_none : (k g : ℕ) (bits : List Bool) → Kept k g bits 0 0
 unfolding remainder

@@ -1,4 +1,3 @@
-pub mod Xor
 pub mod Numbers
 pub mod Division
 pub mod Vectors

@@ -1,12 +1,7 @@
 -- Polynomials modulo 2, as the lists of their coefficients with the highest power first, and the
 -- remainders that LTE takes as checks (TS 36.212 section 5.1.1).
 use Rattle.std.specs.Prelude.{ℕ, zero, suc, ◌+◌, ◌*◌, ◌^◌, Bool, true, false, ◌||◌, cond, List, [], ◌∷◌, ◌++◌, length, replicate, nat_eq}
-
--- the sum modulo 2
-abbrev pub xor : Bool → Bool → Bool
-xor true true = false
-xor true false = true
-xor false b = b
+use Rattle.finite.specs.Bits.{xor}
 
 -- the first polynomial with the second added to its highest powers
 unfoldable pub xor_onto : List Bool → List Bool → List Bool

@@ -1,7 +1,7 @@
 -- The shift register that divides one bit at a time. (own)
 use Rattle.std.specs.Prelude.{ℕ, suc, ◌*◌, ◌%◌, ◌^◌, Bool, cond, bit_xor, nat_eq}
 use Rattle.std.specs.Int.{bit_at}
-use Rattle.cs_bits.specs.Polynomial.{xor}
+use Rattle.finite.specs.Bits.{xor}
 
 -- the register of suc k bits after the bit x, where g has the divisor's coefficients below its first
 abbrev pub next : ℕ → ℕ → ℕ → Bool → ℕ

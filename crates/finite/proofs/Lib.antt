@@ -1,3 +1,4 @@
+pub mod Bits
 pub mod Integers
 pub mod Ring
 pub mod Sums

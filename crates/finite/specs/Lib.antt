@@ -1,3 +1,4 @@
+pub mod Bits
 pub mod Sums
 pub mod Tests
 pub mod Lists

@@ -1,9 +1,11 @@
 -- A register of 31 bits is a window of a sequence, the lowest bit first.
-use Rattle.std.proofs.Common.{ℕ, zero, suc, ◌+◌, ◌*◌, ◌/◌, ◌%◌, ◌^◌, ◌<◌, ◌≡◌, Bool, true, false, not, nat_eq, List, [], ◌∷◌, ◌++◌, length, get_or, refl, ap, ap₂, sym, ◌∙◌, arith, lit<, bit_xor, bit_and, pow-suc}
+use Rattle.std.proofs.Common.{ℕ, zero, suc, ◌+◌, ◌*◌, ◌/◌, ◌%◌, ◌^◌, ◌<◌, ◌≡◌, Bool, true, false, nat_eq, List, [], ◌∷◌, ◌++◌, length, get_or, refl, ap, ap₂, sym, ◌∙◌, arith, lit<, bit_xor, bit_and, pow-suc}
 use Rattle.std.specs.Int.{bit_at}
 use Rattle.std.proofs.lemmas.Nat.{xor_mod, and_mask}
 use Rattle.std.proofs.lemmas.Nat.Bits.{bit_at-suc, bit_at_lowest}
-use Rattle.gold.specs.Sequence.{xor, sum_at, step, window, low_bits, x1_taps, x1_start, x2_taps, x2_start, x1, x2}
+use Rattle.finite.specs.Bits.{xor}
+use Rattle.finite.proofs.Bits.{xor-false, xor_assoc}
+use Rattle.gold.specs.Sequence.{sum_at, step, window, low_bits, x1_taps, x1_start, x2_taps, x2_start, x1, x2}
 use Rattle.gold.specs.Gold.{gold_bit}
 
 -- ---- the low bits of a number
@@ -61,19 +63,6 @@ and_one n = and_mask n 1
 pub and_one-fits : (n : ℕ) → bit_and n 1 < 2
 and_one-fits n = omega (arith, and_one n)
 
-pub xor-none : (a : Bool) → xor a false ≡ a
-xor-none true = refl
-xor-none false = refl
-
-not_not : (c : Bool) → c ≡ not (not c)
-not_not true = refl
-not_not false = refl
-
-xor_assoc : (a b c : Bool) → xor (xor a b) c ≡ xor a (xor b c)
-xor_assoc true true c = not_not c
-xor_assoc true false c = refl
-xor_assoc false b c = refl
-
 halves2 : (r : ℕ) → r / 2 / 2 ≡ r / 4
 halves2 r = omega arith
 
@@ -82,11 +71,11 @@ halves3 r = omega arith
 
 pub x1_sum : (r : ℕ) → nat_eq (bit_and (bit_xor (r / 8) r) 1) 1 ≡ sum_at x1_taps (low_bits 31 r)
 unfolding sum_at low_bits x1_taps
-x1_sum r = simp (and_one, xor_odd, xor-none, halves2, halves3)
+x1_sum r = simp (and_one, xor_odd, xor-false, halves2, halves3)
 
 pub x2_sum : (r : ℕ) → nat_eq (bit_and (bit_xor (bit_xor (bit_xor (r / 8) (r / 4)) (r / 2)) r) 1) 1 ≡ sum_at x2_taps (low_bits 31 r)
 unfolding sum_at low_bits x2_taps
-x2_sum r = simp (and_one, xor_odd, xor-none, xor_assoc, halves2, halves3)
+x2_sum r = simp (and_one, xor_odd, xor-false, xor_assoc, halves2, halves3)
 
 -- ---- both registers
 

@@ -1,7 +1,8 @@
 -- The pseudo-random sequence c (TS 36.211 section 7.2).
 use Rattle.std.specs.Prelude.{ℕ, ◌+◌, Bool, List, map}
 use Rattle.std.specs.List.{range_with_len}
-use Rattle.gold.specs.Sequence.{xor, x1, x2}
+use Rattle.finite.specs.Bits.{xor}
+use Rattle.gold.specs.Sequence.{x1, x2}
 
 -- c(n)
 unfoldable pub gold_bit : ℕ → ℕ → Bool

@@ -1,11 +1,7 @@
 -- Binary sequences in which each bit from place 31 on is a sum of earlier ones
 -- (TS 36.211 section 7.2).
-use Rattle.std.specs.Prelude.{ℕ, zero, suc, ◌/◌, ◌%◌, Bool, true, false, not, List, [], ◌∷◌, ◌++◌, get_or, nat_eq, replicate}
-
--- the sum modulo 2
-abbrev pub xor : Bool → Bool → Bool
-xor true b = not b
-xor false b = b
+use Rattle.std.specs.Prelude.{ℕ, zero, suc, ◌/◌, ◌%◌, Bool, true, false, List, [], ◌∷◌, ◌++◌, get_or, nat_eq, replicate}
+use Rattle.finite.specs.Bits.{xor, odd}
 
 -- the sum modulo 2 of the bits at the taps
 unfoldable pub sum_at : List ℕ → List Bool → Bool
@@ -25,7 +21,7 @@ window taps start (suc n) = step taps (window taps start n)
 -- the low bits of a number, the lowest first
 unfoldable pub low_bits : ℕ → ℕ → List Bool
 low_bits zero number = []
-low_bits (suc count) number = nat_eq (number % 2) 1 ∷ low_bits count (number / 2)
+low_bits (suc count) number = odd number ∷ low_bits count (number / 2)
 
 -- x1(n + 31) = x1(n + 3) + x1(n)
 unfoldable pub x1_taps : List ℕ

@@ -5,7 +5,8 @@
 
 ghost use Rattle.std.specs.Prelude.{◌≡◌, ◌+◌, ◌*◌, ◌/◌, ◌^◌, ◌<◌, ◌↔◌, ℕ, true, false, IsTrue, IsBitSet, length};
 ghost use Rattle.gold.specs.Gold.{gold_bit, gold_bits};
-ghost use Rattle.gold.specs.Sequence.{xor, step, low_bits, x1, x2, x1_taps, x2_taps};
+ghost use Rattle.finite.specs.Bits.{xor};
+ghost use Rattle.gold.specs.Sequence.{step, low_bits, x1, x2, x1_taps, x2_taps};
 
 // The register one place on, where this bit comes in.
 fn shift_in(register: u32, bit: u32) -> u32

@@ -1,14 +1,11 @@
 -- The secondary synchronisation sequence. (TS 36.211 section 6.11.2.1)
 use Rattle.std.specs.Prelude.{ℕ, zero, suc, ◌+◌, ◌*◌, ◌/◌, ◌%◌, Bool, true, false, ◌==◌, List, [], ◌∷◌, ◌++◌, ℤ, pos, negsuc, ◌*ℤ◌, if◌then◌else◌, slice_index_or}
+use Rattle.finite.specs.Bits.{xor}
 use Rattle.finite.specs.Lists.{values_below}
 use Rattle.lte_types.specs.declared.frame.Half.{Half}
 use Rattle.lte_types.specs.declared.frame.Half.TheVariants.{Zero, Five}
 use Rattle.sync_seq.specs.declared.secondary.Recurrence.{Recurrence}
 use Rattle.sync_seq.specs.declared.secondary.Recurrence.TheVariants.{S, C, Z}
-
--- the sum modulo 2
-abbrev pub xor : Bool → Bool → Bool
-xor a b = if a then (if b then false else true) else b
 
 -- bit i of a list, and 0 past its end
 abbrev pub bit_at : List Bool → ℕ → Bool

@@ -3,7 +3,8 @@ use Rattle.std.proofs.Common.{◌≡◌, ◌≢◌, ℕ, suc, ◌+◌, ◌*◌, 
 use Rattle.std.proofs.lemmas.Bool.{cases_lt}
 use Rattle.std.proofs.lemmas.List.{get_or_default}
 use Rattle.paths.proofs.Forward.{HasEdges, least_to_none, least_to_more}
-use Rattle.tailbite.specs.Machine.{shift, odd, step_cost}
+use Rattle.finite.specs.Bits.{odd}
+use Rattle.tailbite.specs.Machine.{shift, step_cost}
 use Rattle.tailbite.proofs.Windows.{shift_below}
 use Rattle.tail_cert.specs.Certificate.{IsTable}
 use Rattle.tail_cert.specs.Forward.{first_from, second_from, bit_to, forward_least, IsLeastRow, HasLeastRows}

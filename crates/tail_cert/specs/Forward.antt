@@ -1,7 +1,8 @@
 -- The least costs up to each state, step by step (own).
 use Rattle.std.specs.Prelude.{◌≡◌, ℕ, suc, ◌+◌, ◌*◌, ◌/◌, ◌%◌, ◌^◌, ◌<◌, ◌≤◌, min, Bool, List, [], length, slice_index, slice_index_or, ℤ}
 use Rattle.paths.specs.Least.{IsLeastTo, ends_in}
-use Rattle.tailbite.specs.Machine.{branch_cost, shift, odd, step_cost}
+use Rattle.finite.specs.Bits.{odd}
+use Rattle.tailbite.specs.Machine.{branch_cost, shift, step_cost}
 
 -- the states from which a step leads to x, and the bit that does
 abbrev pub first_from : ℕ → ℕ

@@ -2,8 +2,8 @@
 use Rattle.std.proofs.Common.{◌≡◌, Bool, not, [], ◌∷◌}
 use Rattle.std.specs.Bool.{beq}
 use Rattle.conv_code.specs.Code.{parity}
-use Rattle.cs_bits.proofs.Xor.{xor-false, ne_xor}
+use Rattle.finite.proofs.Bits.{xor-false}
 
 pub five_bits : (a b c d e e' : Bool) → e ≡ e' →
     not (beq a (not (beq b (not (beq c (not (beq d e))))))) ≡ parity (a ∷ b ∷ c ∷ d ∷ e' ∷ [])
-five_bits a b c d e e' h = simp (ne_xor, xor-false, h)
+five_bits a b c d e e' h = simp (xor-false, h)

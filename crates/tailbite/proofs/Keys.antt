@@ -15,7 +15,8 @@ use Rattle.conv_code.specs.Code.{coded, taps_0, taps_1, taps_2}
 use Rattle.conv_code.specs.Cost.{place_cost, word_cost}
 use Rattle.conv_code.proofs.Costs.{disagreement-le}
 use Rattle.tailbite.specs.LeastWord.{IsLeastWord}
-use Rattle.tailbite.specs.Machine.{shift, odd, step_cost}
+use Rattle.finite.specs.Bits.{odd}
+use Rattle.tailbite.specs.Machine.{shift, step_cost}
 use Rattle.tailbite.proofs.Windows.{same_end, end_below}
 use Rattle.tailbite.proofs.Branches.{word_cost-path}
 use Rattle.tailbite.proofs.Rows.{key_cost}

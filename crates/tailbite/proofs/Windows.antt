@@ -8,7 +8,8 @@ use Rattle.std.proofs.Math.Seq.{get_or-append_seam}
 use Rattle.paths.specs.Paths.{end_of}
 use Rattle.paths.proofs.Paths as paths
 use Rattle.conv_code.specs.Code.{bit_back}
-use Rattle.tailbite.specs.Machine.{shift, odd, window_bit}
+use Rattle.finite.specs.Bits.{odd}
+use Rattle.tailbite.specs.Machine.{shift, window_bit}
 
 pub shift_below : (x : ℕ) (b : Bool) → x < 64 → shift x b < 64
 shift_below x false h = omega arith

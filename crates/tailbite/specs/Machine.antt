@@ -1,15 +1,12 @@
 -- The encoder as a machine of 64 states. A state holds the last six bits, the newest with weight 32 (TS 36.212 section 5.1.3.1).
 use Rattle.std.specs.Prelude.{ℕ, zero, suc, ◌+◌, ◌-◌, ◌/◌, ◌%◌, ◌^◌, min, Bool, true, false, cond, List, [], map, slice_index, slice_index_or, nat_eq, ℤ}
+use Rattle.finite.specs.Bits.{odd}
 use Rattle.conv_code.specs.Code.{parity, taps_0, taps_1, taps_2}
 use Rattle.conv_code.specs.Cost.{triple_cost}
 
 -- the state after the bit b
 abbrev pub shift : ℕ → Bool → ℕ
 shift x b = x / 2 + cond b 32 0
-
--- whether a number is odd
-abbrev pub odd : ℕ → Bool
-odd n = nat_eq (n % 2) 1
 
 -- the bit t steps back, where the state was x before the newest bit b; it has weight 2 ^ (6 - t) in x
 abbrev pub window_bit : ℕ → Bool → ℕ → Bool

@@ -2,7 +2,8 @@ ghost use Rattle.std.specs.Prelude.{◌≡◌, ℕ, ◌+◌, ◌-◌, ◌*◌, �
 ghost use Rattle.paths.specs.Least.{IsLeastFrom, IsLeastRound, ends_in};
 ghost use Rattle.paths.specs.Words.{key_step, keyed};
 ghost use Rattle.conv_code.specs.Cost.{word_cost};
-ghost use Rattle.tailbite.specs.Machine.{branch_cost, odd, shift, step_cost, step_least};
+ghost use Rattle.finite.specs.Bits.{odd};
+ghost use Rattle.tailbite.specs.Machine.{branch_cost, shift, step_cost, step_least};
 ghost use Rattle.tailbite.specs.LeastWord.{IsLeastWord};
 
 use crate::branch::{branch, next};

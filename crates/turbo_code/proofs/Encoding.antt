@@ -8,7 +8,9 @@ use Rattle.finite.proofs.Lists.{front_is, set_more}
 use Rattle.turbo_code.specs.declared.rows.Row.{Row}
 use Rattle.turbo_code.specs.declared.encoder.Register.{Register}
 use Rattle.turbo_code.specs.Table.{place}
-use Rattle.turbo_code.specs.Encoder.{back, before, next, bit_at, parity, parities, tail_x, tail_z, interleaved, stream, coded, xor}
+use Rattle.finite.specs.Bits.{xor}
+use Rattle.finite.proofs.Bits.{false-xor}
+use Rattle.turbo_code.specs.Encoder.{back, before, next, bit_at, parity, parities, tail_x, tail_z, interleaved, stream, coded}
 
 -- the register shows the last three bits
 pub record Shows (register : Register) (past : List Bool) : Type 0 where
@@ -52,15 +54,11 @@ parities_all word k found register e short known =
     let size = known.size in
     front_is false (length word) (parity word) found (omega (arith, size, short)) (λ j below. known.at j (omega (arith, e, below)))
 
-xor-false_left : (b : Bool) → xor false b ≡ b
-xor-false_left false = refl
-xor-false_left true = refl
-
 pub three_x : (r : Register) → (xor r.two r.three ∷ xor r.one r.two ∷ r.one ∷ []) ≡ xor r.two r.three ∷ xor r.one r.two ∷ xor false r.one ∷ []
-three_x r = rw (xor-false_left r.one) refl
+three_x r = rw (false-xor r.one) refl
 
 pub three_z : (r : Register) → (xor r.one r.three ∷ r.two ∷ r.one ∷ []) ≡ xor r.one r.three ∷ xor false r.two ∷ xor false r.one ∷ []
-three_z r = rw (xor-false_left r.one, xor-false_left r.two) refl
+three_z r = rw (false-xor r.one, false-xor r.two) refl
 
 pub tails_x : (word : List Bool) (k : ℕ) (r : Register) → k ≡ length word → Shows r (before word k) →
     (xor r.two r.three ∷ xor r.one r.two ∷ xor false r.one ∷ []) ≡ tail_x word 0 ∷ tail_x word 1 ∷ tail_x word 2 ∷ []

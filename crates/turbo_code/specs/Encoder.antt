@@ -1,13 +1,9 @@
 -- The turbo code's two encoders and their coded word (TS 36.212 section 5.1.3.2).
-use Rattle.std.specs.Prelude.{ℕ, zero, suc, ◌-◌, Bool, false, not, List, [], ◌∷◌, ◌++◌, length, replicate, slice_index_or}
-use Rattle.std.specs.Bool.{beq}
+use Rattle.std.specs.Prelude.{ℕ, zero, suc, ◌-◌, Bool, false, List, [], ◌∷◌, ◌++◌, length, replicate, slice_index_or}
+use Rattle.finite.specs.Bits.{xor}
 use Rattle.finite.specs.Lists.{values_below}
 use Rattle.turbo_code.specs.declared.rows.Row.{Row}
 use Rattle.turbo_code.specs.Table.{place}
-
--- the sum modulo 2: whether the two bits differ
-abbrev pub xor : Bool → Bool → Bool
-xor a b = not (beq a b)
 
 -- bit k of a word
 abbrev pub bit_at : List Bool → ℕ → Bool

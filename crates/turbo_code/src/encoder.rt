@@ -2,7 +2,8 @@
 
 ghost use Rattle.std.specs.Prelude.{◌≡◌, ◌+◌, ◌<◌, ◌≤◌, ◌∷◌, ◌++◌, [], false, length, take, drop};
 ghost use Rattle.turbo_code.specs.Table.{IsRow, IsSize, place};
-ghost use Rattle.turbo_code.specs.Encoder.{coded, interleaved, parities, stream, tail_x, tail_z, xor};
+ghost use Rattle.finite.specs.Bits.{xor};
+ghost use Rattle.turbo_code.specs.Encoder.{coded, interleaved, parities, stream, tail_x, tail_z};
 
 use crate::Row;
 

@@ -3,12 +3,8 @@
 use Rattle.std.specs.Prelude.{ℕ, ◌+◌, ◌*◌, ◌/◌, ◌%◌, ◌^◌, ◌<◌, ◌≤◌, min, Bool, true, false, cond, List, [], slice_index, slice_index_or, nat_eq, ℤ, ◌+ℤ◌}
 use Rattle.paths.specs.Least.{IsLeastTo}
 use Rattle.conv_code.specs.Cost.{disagreement}
-use Rattle.turbo_code.specs.Encoder.{xor}
+use Rattle.finite.specs.Bits.{xor, odd}
 use Rattle.turbo_dec.specs.Decoder.{Values, at}
-
--- whether a number is odd
-abbrev pub odd : ℕ → Bool
-odd n = nat_eq (n % 2) 1
 
 -- the register bit of a step: a(k) = u(k) + a(k - 2) + a(k - 3)
 abbrev pub register : ℕ → Bool → Bool

@@ -4,7 +4,8 @@
 ghost use Rattle.std.specs.Prelude.{◌≡◌, ℕ, ◌+◌, ◌*◌, ◌/◌, ◌^◌, ◌<◌, ◌≤◌, All, false, length, nat_abs, slice_index};
 ghost use Rattle.paths.specs.Least.{IsLeastVia};
 ghost use Rattle.turbo_dec.specs.Decoder.{IsSmall};
-ghost use Rattle.turbo_dec.specs.Machine.{odd, register, parity_bit, next, edge_cost, tail_step_cost, tail_cost, first_from, forward_least, backward_least};
+ghost use Rattle.finite.specs.Bits.{odd};
+ghost use Rattle.turbo_dec.specs.Machine.{register, parity_bit, next, edge_cost, tail_step_cost, tail_cost, first_from, forward_least, backward_least};
 
 use conv_code::disagreement_of;
 

@@ -3,10 +3,12 @@ use Rattle.std.proofs.lemmas.List.{get_or-replicate}
 use Rattle.std.specs.Int.{bit_at}
 use Rattle.std.proofs.lemmas.Nat.{bit_set_by_shift, and_mask}
 use Rattle.std.proofs.lemmas.Bool.{eqb-true, eq-eqb}
-use Rattle.gold.specs.Sequence.{xor, sum_at, window, x1_taps, x1_start, x2_taps, x2_start, x1, x2}
+use Rattle.finite.specs.Bits.{xor}
+use Rattle.finite.proofs.Bits.{xor-false}
+use Rattle.gold.specs.Sequence.{sum_at, window, x1_taps, x1_start, x2_taps, x2_start, x1, x2}
 use Rattle.gold.specs.Gold.{gold_bit}
 use Rattle.gold.proofs.Windows.{recurrence, get_or-window}
-use Rattle.gold.proofs.Registers.{length-low_bits, get_or-low_bits, xor-none}
+use Rattle.gold.proofs.Registers.{length-low_bits, get_or-low_bits}
 use Rattle.gold.proofs.recurrences.Goals as goal
 
 x1_long : length x1_start ≡ 31
@@ -44,7 +46,7 @@ returns-clause-x1_start c n some inside = sym (x1-start n inside) ∙ zeros n so
 
 x1-sum : (n : ℕ) → sum_at x1_taps (window x1_taps x1_start n) ≡ xor (x1 (n + 3)) (x1 n)
 unfolding sum_at x1_taps x1
-x1-sum n = ap₂ xor (x1-window n 3 (lit< tt)) (xor-none _)
+x1-sum n = ap₂ xor (x1-window n 3 (lit< tt)) (xor-false _)
 
 pub returns-clause-x1_next : goal.returns-clause-x1_next
 unfolding x1
@@ -67,7 +69,7 @@ returns-clause-x2_start c c_init n inside = (
 x2-sum : (c_init n : ℕ) → sum_at x2_taps (window x2_taps (x2_start c_init) n) ≡ xor (x2 c_init (n + 3)) (xor (x2 c_init (n + 2)) (xor (x2 c_init (n + 1)) (x2 c_init n)))
 unfolding sum_at x2_taps x2
 x2-sum c_init n =
-    ap₂ xor (x2-window c_init n 3 (lit< tt)) (ap₂ xor (x2-window c_init n 2 (lit< tt)) (ap₂ xor (x2-window c_init n 1 (lit< tt)) (xor-none _)))
+    ap₂ xor (x2-window c_init n 3 (lit< tt)) (ap₂ xor (x2-window c_init n 2 (lit< tt)) (ap₂ xor (x2-window c_init n 1 (lit< tt)) (xor-false _)))
 
 pub returns-clause-x2_next : goal.returns-clause-x2_next
 unfolding x2

@@ -2,7 +2,7 @@ use Rattle.std.proofs.Common.{◌≡◌, ℕ, ◌+◌, ◌*◌, ◌%◌, ◌<◌
 use Rattle.std.proofs.lemmas.List.FromFn.{fill_by_all}
 use Rattle.std.proofs.lemmas.List.Edits.{fill_by_more}
 use Rattle.cs_num.specs.Complex.{nothing}
-use Rattle.gold.specs.Sequence.{xor}
+use Rattle.finite.specs.Bits.{xor}
 use Rattle.gold.specs.Gold.{gold_bits}
 use Rattle.gold.proofs.Bits.{get_or-gold_bits}
 use Rattle.conv_code.specs.Code.{coded_word}

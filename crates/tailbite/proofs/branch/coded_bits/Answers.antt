@@ -1,6 +1,6 @@
 use Rattle.std.proofs.Common.{ap, sym}
 use Rattle.std.proofs.Math.Nat.{div-one}
-use Rattle.tailbite.specs.Machine.{odd}
+use Rattle.finite.specs.Bits.{odd}
 use Rattle.tailbite.proofs.Bits.{five_bits}
 use Rattle.tailbite.proofs.branch.coded_bits.Goals as goal
 

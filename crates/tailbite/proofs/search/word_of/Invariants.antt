@@ -1,5 +1,5 @@
 use Rattle.std.proofs.Common.{◌≡◌, ℕ, ◌-◌, ◌/◌, ◌^◌, ◌<◌, get_or, false, length}
-use Rattle.tailbite.specs.Machine.{odd}
+use Rattle.finite.specs.Bits.{odd}
 use Rattle.tailbite.proofs.search.word_of.Given as goal
 
 abbrev pub invariant-loop-k : goal.invariant-loop-k
