@@ -5,6 +5,7 @@ use Rattle.cs_num.specs.declared.Cpx.{Cpx}
 use Rattle.cs_num.specs.declared.Sample.{Sample}
 use Rattle.cs_num.specs.Complex.{nothing, square}
 use Rattle.lte_types.specs.declared.frame.Half.{Half}
+use Rattle.lte_types.specs.Numerology.{normal, symbol_step}
 use Rattle.sync_seq.specs.Primary.{pss_at}
 use Rattle.sync_seq.specs.Secondary.{sss_at}
 use Rattle.pss_search.specs.Correlation.{pss_grid}
@@ -46,14 +47,14 @@ abbrev pub SentPairIsBest : Type 0
 SentPairIsBest =
     (gain : Cpx) (n1 n2 : ℕ) (half : Half) (pss_seen sss_seen : ℕ → Cpx) → AreSeen gain n1 n2 half pss_seen sss_seen → best_pair (score pss_seen sss_seen n2) ≡ (n1, half)
 
--- in a recording: the primary signal is received from t on, and the secondary one from 137 samples before it
+-- in a recording: the primary signal is received from t on, and the secondary one from one symbol before it
 pub record AreSynchronisation (recording : List Sample) (t n1 n2 : ℕ) (half : Half) : Type 0 where
   pub group : n1 ≤ 167
   pub root : n2 ≤ 2
   pub eps : ℕ
   pub gain : Cpx
   pub primary : IsReceived eps gain (pss_grid n2) (samples_from recording t)
-  pub secondary : IsReceived eps gain (sss_grid n1 n2 half) (samples_from recording (t - 137))
+  pub secondary : IsReceived eps gain (sss_grid n1 n2 half) (samples_from recording (t - symbol_step normal))
 
 -- the sent pair is what is identified by a hit there
 abbrev pub SentPairIsIdentified : Type 0

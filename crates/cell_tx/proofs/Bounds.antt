@@ -1,11 +1,8 @@
 -- Sizes of elements and of samples.
-use Rattle.std.proofs.Common.{◌≡◌, ℕ, ◌+◌, ◌-◌, ◌*◌, ◌/◌, ◌%◌, ◌<◌, ◌≤◌, ◌^◌, inl, inr, Bool, true, false, nat_lt, nat_le, arith, refl, sym, subst, ap, ◌∙◌, ℤ, pos, ◌*ℤ◌, unsigned_abs}
+use Rattle.std.proofs.Common.{◌≡◌, ℕ, ◌+◌, ◌-◌, ◌*◌, ◌/◌, ◌%◌, ◌<◌, ◌≤◌, ◌^◌, inl, inr, Bool, true, false, nat_lt, arith, refl, sym, subst, ap, ◌∙◌, ℤ, pos, ◌*ℤ◌, unsigned_abs}
 use Rattle.std.specs.Prelude.{if◌then◌else◌}
-use Rattle.std.proofs.lemmas.Bool.{leb-true}
 use Rattle.std.proofs.lemmas.Int.{unsigned_abs-mul}
 use Rattle.std.proofs.lemmas.Nat.{mul-le}
-use Rattle.finite.specs.Tests.{every_below}
-use Rattle.finite.proofs.Tests.{every_below_at}
 use Rattle.cs_num.specs.declared.Cpx.{Cpx}
 use Rattle.cs_num.specs.Complex.{IsWithin, nothing, plus, times, square, size, minus, multiple}
 use Rattle.cs_num.specs.Rounding.{rounded}
@@ -16,7 +13,7 @@ use Rattle.cs_num.proofs.Complex.{square-within}
 use Rattle.sizes.proofs.Squares.{re-le, im-le, square-multiple, square-times}
 use Rattle.sizes.proofs.Rounding.{rounded_near}
 use Rattle.sizes.proofs.Sized.{sized-plus, sized-times, sized-sum, sized_plain}
-use Rattle.fold128.specs.Tables.{quarter, cosine, w_at, z_at, z_real, z_imaginary}
+use Rattle.fold128.specs.Tables.{w_at}
 use Rattle.fold128.specs.Symbol.{frequency, useful_term, useful_at}
 use Rattle.fold128.proofs.EntrySizes.{w-square, z-square}
 use Rattle.lte_types.specs.declared.frame.Half.{Half}
@@ -29,9 +26,10 @@ use Rattle.sync_seq.proofs.PrimaryValues.{pss_is, pss-within}
 use Rattle.sync_seq.proofs.SecondaryValues.{sss-size}
 use Rattle.cell_tx.specs.declared.cell.CellPlan.{CellPlan}
 use Rattle.cell_tx.specs.Block.{broadcast_bit, broadcast_point}
-use Rattle.cell_tx.specs.Grid.{is_primary, is_secondary, is_broadcast, half_of, element}
+use Rattle.cell_tx.specs.Grid.{is_primary, is_secondary, is_broadcast, element}
 use Rattle.cell_tx.specs.Clean.{IsGain}
-use Rattle.cell_tx.specs.Sent.{useful_start, symbol_of, slot_sample, frame_sample, number_of, sent}
+use Rattle.lte_types.specs.Numerology.{normal, half_of, useful_start, symbol_of}
+use Rattle.cell_tx.specs.Sent.{slot_sample, frame_sample, number_of, sent}
 use Rattle.cell_tx.proofs.Elements.{reference_at_is}
 
 -- ---- elements
@@ -108,10 +106,10 @@ useful-square grid n small =
 
 pub slot-square : (plan : CellPlan) (sfn slot i : ℕ) → square (slot_sample plan sfn slot i) ≤ 1153 * 1153
 slot-square plan sfn slot i =
-    let l : ℕ = symbol_of i in
+    let l : ℕ = symbol_of normal i in
     let grid : ℕ → Cpx = element plan sfn (slot / 2) (7 * (slot % 2) + l) in
     let each = λ (n : ℕ). useful-square grid n (λ k inside. element-square plan sfn (slot / 2) (7 * (slot % 2) + l) k) in
-    pick (λ z. square z ≤ 1153 * 1153) (nat_lt i (useful_start l)) _ _ (each _) (each _)
+    pick (λ z. square z ≤ 1153 * 1153) (nat_lt i (useful_start normal 0 0 l)) _ _ (each _) (each _)
 
 pub frame-square : (plan : CellPlan) (sfn i : ℕ) → square (frame_sample plan sfn i) ≤ 1153 * 1153
 unfolding frame_sample

@@ -10,9 +10,9 @@ use Rattle.fold128.specs.Symbol.{useful_at, useful_part}
 use Rattle.fold128.proofs.Samples.{useful_same}
 use Rattle.cell_tx.specs.declared.cell.CellPlan.{CellPlan}
 use Rattle.cell_tx.specs.Grid.{element}
-use Rattle.cell_tx.specs.Sent.{useful_start, symbol_of, symbol_sample, slot_sample, frame_sample, number_of, sent}
+use Rattle.lte_types.specs.Numerology.{normal, prefix_length, useful_start, symbol_of}
+use Rattle.cell_tx.specs.Sent.{symbol_sample, slot_sample, frame_sample, number_of, sent}
 use Rattle.cell_tx.specs.Clean.{start_of, number_at_start}
-use Rattle.cell_tx.specs.Laws.{prefix_length}
 use Rattle.cell_tx.specs.Rows.{useful_place, first_sample}
 
 -- a list that holds a grid makes its useful part
@@ -27,22 +27,22 @@ useful_part_at grid n l = values_below_at (useful_at grid) 128 n nothing l
 
 -- ---- a sample of a slot
 
-symbol_sample_is : (useful : ℕ → Cpx) (l i n : ℕ) (before : Bool) → nat_lt i (useful_start l) ≡ before → l ≡ symbol_of i → i < 960 → n ≡ (i + 118 - 137 * l) % 128
-    → symbol_sample useful (useful_start l) i ≡ useful n
-symbol_sample_is useful l i n true e is inside f = let g : i + 128 - useful_start l ≡ n = omega (arith, ltb-true _ _ e, is, f) in rw (e, g) refl
-symbol_sample_is useful l i n false e is inside f = let g : i - useful_start l ≡ n = omega (arith, ltb-false _ _ e, is, f) in rw (e, g) refl
+symbol_sample_is : (useful : ℕ → Cpx) (l i n : ℕ) (before : Bool) → nat_lt i (useful_start normal 0 0 l) ≡ before → l ≡ symbol_of normal i → i < 960 → n ≡ (i + 118 - 137 * l) % 128
+    → symbol_sample useful (useful_start normal 0 0 l) i ≡ useful n
+symbol_sample_is useful l i n true e is inside f = let g : i + 128 - useful_start normal 0 0 l ≡ n = omega (arith, ltb-true _ _ e, is, f) in rw (e, g) refl
+symbol_sample_is useful l i n false e is inside f = let g : i - useful_start normal 0 0 l ≡ n = omega (arith, ltb-false _ _ e, is, f) in rw (e, g) refl
 
 pub slot_sample_is : (plan : CellPlan) (sfn slot i : ℕ) → i < 960 →
-    slot_sample plan sfn slot i ≡ useful_at (element plan sfn (slot / 2) (7 * (slot % 2) + symbol_of i)) (useful_place i)
+    slot_sample plan sfn slot i ≡ useful_at (element plan sfn (slot / 2) (7 * (slot % 2) + symbol_of normal i)) (useful_place i)
 slot_sample_is plan sfn slot i inside =
-    symbol_sample_is (useful_at (element plan sfn (slot / 2) (7 * (slot % 2) + symbol_of i))) (symbol_of i) i (useful_place i)
-    (nat_lt i (useful_start (symbol_of i))) refl refl inside refl
+    symbol_sample_is (useful_at (element plan sfn (slot / 2) (7 * (slot % 2) + symbol_of normal i))) (symbol_of normal i) i (useful_place i)
+    (nat_lt i (useful_start normal 0 0 (symbol_of normal i))) refl refl inside refl
 
 -- a sample of a slot, read from the useful part of its symbol
 pub slot_value : (plan : CellPlan) (sfn slot i n : ℕ) (useful : List Cpx) → i < 960
-    → useful ≡ useful_part (element plan sfn (slot / 2) (7 * (slot % 2) + symbol_of i)) → n ≡ useful_place i → value_at useful n ≡ slot_sample plan sfn slot i
+    → useful ≡ useful_part (element plan sfn (slot / 2) (7 * (slot % 2) + symbol_of normal i)) → n ≡ useful_place i → value_at useful n ≡ slot_sample plan sfn slot i
 slot_value plan sfn slot i n useful inside is place =
-    let grid : ℕ → Cpx = element plan sfn (slot / 2) (7 * (slot % 2) + symbol_of i) in
+    let grid : ℕ → Cpx = element plan sfn (slot / 2) (7 * (slot % 2) + symbol_of normal i) in
     rw place (ap (λ list. value_at list (useful_place i)) is ∙ useful_part_at grid (useful_place i) (omega arith) ∙ sym (slot_sample_is plan sfn slot i inside))
 
 pub frame_sample_is : (plan : CellPlan) (sfn i : ℕ) → frame_sample plan sfn i ≡ slot_sample plan sfn (i / 960) (i % 960)
@@ -77,10 +77,10 @@ first_later l h = let e : nat_eq l 0 ≡ false = grind (arith, nat_tests) in rw 
 pub slot_of_symbol : (n i : ℕ) → first_sample n ≤ i → i < first_sample (n + 1) → i / 960 ≡ n / 7
 slot_of_symbol n i low high = omega (arith, low, rw (first_next n) at high, first_from (n % 7))
 
-pub symbol_in_slot : (n i : ℕ) → first_sample n ≤ i → i < first_sample (n + 1) → symbol_of (i % 960) ≡ n % 7
+pub symbol_in_slot : (n i : ℕ) → first_sample n ≤ i → i < first_sample (n + 1) → symbol_of normal (i % 960) ≡ n % 7
 symbol_in_slot n i low high = settle (nat_lt 0 (n % 7)) refl
   where
-    settle : (b : Bool) → nat_lt 0 (n % 7) ≡ b → symbol_of (i % 960) ≡ n % 7
+    settle : (b : Bool) → nat_lt 0 (n % 7) ≡ b → symbol_of normal (i % 960) ≡ n % 7
     settle true e = omega (arith, low, rw (first_next n) at high, first_later (n % 7) (ltb-true _ _ e))
     settle false e = omega (arith, low, rw (first_next n) at high, first_from (n % 7), ltb-false _ _ e)
 
@@ -122,7 +122,7 @@ frames_begin plan sfn offset j i small inside few =
 
 -- ---- useful parts and prefixes
 
-in_slot : (plan : CellPlan) (sfn slot l i : ℕ) → i < 960 → symbol_of i ≡ l →
+in_slot : (plan : CellPlan) (sfn slot l i : ℕ) → i < 960 → symbol_of normal i ≡ l →
     frame_sample plan sfn (960 * slot + i) ≡ useful_at (element plan sfn (slot / 2) (7 * (slot % 2) + l)) (useful_place i)
 in_slot plan sfn slot l i inside is =
     let first : (960 * slot + i) / 960 ≡ slot = omega (arith, inside) in
@@ -130,30 +130,30 @@ in_slot plan sfn slot l i inside is =
     frame_sample_is plan sfn (960 * slot + i) ∙ rw (first, rest) (subst (λ (s : ℕ). slot_sample plan sfn slot i ≡ useful_at (element plan sfn (slot / 2) (7 * (slot % 2) + s)) (useful_place i)) is (slot_sample_is plan sfn slot i inside))
 
 pub useful_parts_stand : (plan : CellPlan) (sfn slot l n : ℕ) → l < 7 → n < 128 →
-    frame_sample plan sfn (960 * slot + useful_start l + n) ≡ useful_at (element plan sfn (slot / 2) (7 * (slot % 2) + l)) n
+    frame_sample plan sfn (useful_start normal 0 slot l + n) ≡ useful_at (element plan sfn (slot / 2) (7 * (slot % 2) + l)) n
 useful_parts_stand plan sfn slot l n few inside =
     let i : ℕ = 10 + 137 * l + n in
-    let e : 960 * slot + (10 + 137 * l) + n ≡ 960 * slot + i = omega arith in
-    let is : symbol_of i ≡ l = omega (arith, few, inside) in
+    let e : useful_start normal 0 slot l + n ≡ 960 * slot + i = omega arith in
+    let is : symbol_of normal i ≡ l = omega (arith, few, inside) in
     let place : useful_place i ≡ n = rw is (omega (arith, inside)) in
-    rw e (in_slot plan sfn slot l i (omega (arith, few, inside)) is ∙ ap (useful_at (element plan sfn (slot / 2) (7 * (slot % 2) + l))) place)
+    ap (frame_sample plan sfn) e ∙ in_slot plan sfn slot l i (omega (arith, few, inside)) is ∙ ap (useful_at (element plan sfn (slot / 2) (7 * (slot % 2) + l))) place
 
-prefix_fits : (l d : ℕ) → d ≤ prefix_length l → (d ≤ 10) × (0 < l → d ≤ 9)
+prefix_fits : (l d : ℕ) → d ≤ prefix_length normal l → (d ≤ 10) × (0 < l → d ≤ 9)
 prefix_fits l d h = grind (arith, nat_tests)
 
-pub prefixes_repeat : (plan : CellPlan) (sfn slot l d : ℕ) → l < 7 → 1 ≤ d → d ≤ prefix_length l →
-    frame_sample plan sfn (960 * slot + useful_start l - d) ≡ useful_at (element plan sfn (slot / 2) (7 * (slot % 2) + l)) (128 - d)
+pub prefixes_repeat : (plan : CellPlan) (sfn slot l d : ℕ) → l < 7 → 1 ≤ d → d ≤ prefix_length normal l →
+    frame_sample plan sfn (useful_start normal 0 slot l - d) ≡ useful_at (element plan sfn (slot / 2) (7 * (slot % 2) + l)) (128 - d)
 prefixes_repeat plan sfn slot l d few some fits =
     let both = prefix_fits l d fits in
     let i : ℕ = 10 + 137 * l - d in
-    let e : 960 * slot + (10 + 137 * l) - d ≡ 960 * slot + i = omega (arith, both.0) in
-    let is : symbol_of i ≡ l = first_symbol l d some both.0 both.1 in
+    let e : useful_start normal 0 slot l - d ≡ 960 * slot + i = omega (arith, both.0) in
+    let is : symbol_of normal i ≡ l = first_symbol l d some both.0 both.1 in
     let place : useful_place i ≡ 128 - d = rw is (omega (arith, some, both.0)) in
-    rw e (in_slot plan sfn slot l i (omega (arith, few)) is ∙ ap (useful_at (element plan sfn (slot / 2) (7 * (slot % 2) + l))) place)
+    ap (frame_sample plan sfn) e ∙ in_slot plan sfn slot l i (omega (arith, few)) is ∙ ap (useful_at (element plan sfn (slot / 2) (7 * (slot % 2) + l))) place
   where
-    first_symbol : (l d : ℕ) → 1 ≤ d → d ≤ 10 → (0 < l → d ≤ 9) → symbol_of (10 + 137 * l - d) ≡ l
+    first_symbol : (l d : ℕ) → 1 ≤ d → d ≤ 10 → (0 < l → d ≤ 9) → symbol_of normal (10 + 137 * l - d) ≡ l
     first_symbol l d some ten nine = settle (nat_lt 0 l) refl
       where
-        settle : (b : Bool) → nat_lt 0 l ≡ b → symbol_of (10 + 137 * l - d) ≡ l
+        settle : (b : Bool) → nat_lt 0 l ≡ b → symbol_of normal (10 + 137 * l - d) ≡ l
         settle true e = omega (arith, some, nine (ltb-true _ _ e))
         settle false e = omega (arith, some, ten, ltb-false _ _ e)

@@ -3,6 +3,7 @@ use Rattle.std.specs.Prelude.{ℕ, ◌+◌, ◌-◌, ◌*◌, ◌%◌, ◌<◌, 
 use Rattle.cs_num.specs.declared.Cpx.{Cpx}
 use Rattle.cs_num.specs.declared.Sample.{Sample}
 use Rattle.cs_num.specs.Complex.{square, sample_at, IsWithin, minus}
+use Rattle.lte_types.specs.Numerology.{frame_length}
 use Rattle.cell_tx.specs.declared.cell.CellPlan.{CellPlan}
 use Rattle.cell_tx.specs.Sent.{received}
 
@@ -13,7 +14,7 @@ pub record IsGain (gain : Cpx) : Type 0 where
 
 -- where a transmission may begin, and how many samples it may have
 abbrev pub IsOffset : ℕ → Type 0
-IsOffset offset = offset < 19200
+IsOffset offset = offset < frame_length
 
 pub record IsCount (samples : ℕ) : Type 0 where
   pub least : 57600 ≤ samples
@@ -34,7 +35,7 @@ pub record IsClean (recording : List Sample) (plan : CellPlan) (sfn offset : ℕ
 
 -- the first sample of it at which a frame of the cell begins
 abbrev pub start_of : ℕ → ℕ
-start_of offset = (19200 - offset) % 19200
+start_of offset = (frame_length - offset) % frame_length
 
 -- the number of that frame
 abbrev pub number_at_start : ℕ → ℕ → ℕ

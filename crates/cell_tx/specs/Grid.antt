@@ -2,8 +2,7 @@
 use Rattle.std.specs.Prelude.{ℕ, ◌+◌, ◌-◌, ◌*◌, ◌/◌, ◌%◌, Bool, ◌&&◌, ◌||◌, nat_eq, nat_le, nat_lt, if◌then◌else◌, pos, ◌*ℤ◌}
 use Rattle.cs_num.specs.declared.Cpx.{Cpx}
 use Rattle.cs_num.specs.Complex.{nothing}
-use Rattle.lte_types.specs.declared.frame.Half.{Half}
-use Rattle.lte_types.specs.declared.frame.Half.TheVariants.{Zero, Five}
+use Rattle.lte_types.specs.Numerology.{half_of}
 use Rattle.crs.specs.Reference.{is_reference, reference_at}
 use Rattle.sync_seq.specs.Primary.{pss_at}
 use Rattle.sync_seq.specs.Secondary.{sss_at}
@@ -23,10 +22,6 @@ is_primary subframe symbol k = is_synchronised 6 subframe symbol k
 
 abbrev pub is_secondary : ℕ → ℕ → ℕ → Bool
 is_secondary subframe symbol k = is_synchronised 5 subframe symbol k
-
--- the half that begins with a subframe
-abbrev pub half_of : ℕ → Half
-half_of subframe = if nat_eq subframe 0 then Zero else Five
 
 -- the broadcast channel is in subframe 0 (TS 36.211 section 6.6.4)
 abbrev pub is_broadcast : ℕ → ℕ → ℕ → ℕ → Bool

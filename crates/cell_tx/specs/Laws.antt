@@ -1,14 +1,14 @@
 -- Laws of what a cell sends.
-use Rattle.std.specs.Prelude.{◌≡◌, ◌↔◌, ℕ, ◌+◌, ◌-◌, ◌*◌, ◌/◌, ◌%◌, ◌<◌, ◌≤◌, nat_eq, if◌then◌else◌, None}
+use Rattle.std.specs.Prelude.{◌≡◌, ◌↔◌, ℕ, ◌+◌, ◌-◌, ◌*◌, ◌/◌, ◌%◌, ◌<◌, ◌≤◌, None}
 use Rattle.cs_num.specs.Complex.{IsWithin, square}
 use Rattle.fold128.specs.Symbol.{useful_at}
+use Rattle.lte_types.specs.Numerology.{frame_length, normal, prefix_length, useful_start}
 use Rattle.cell_tx.specs.declared.cell.CellPlan.{CellPlan}
 use Rattle.cell_tx.specs.Plan.{IsSendable, plan_refusal}
 use Rattle.cell_tx.specs.Grid.{element}
-use Rattle.cell_tx.specs.Sent.{useful_start, frame_sample, sent}
+use Rattle.cell_tx.specs.Sent.{frame_sample, sent, sample_of, received}
 use Rattle.finite.specs.Lists.{values_below}
 use Rattle.cs_num.specs.declared.Cpx.{Cpx}
-use Rattle.cell_tx.specs.Sent.{sample_of, received}
 use Rattle.cell_tx.specs.Clean.{IsGain, IsClean, IsOffset, start_of, number_at_start}
 
 -- the plans that can be sent are those in which no condition fails
@@ -18,24 +18,21 @@ AcceptedAreSendable = (plan : CellPlan) → (plan_refusal plan ≡ None) ↔ IsS
 -- the useful part of symbol l of a slot stands from its first sample on
 abbrev pub UsefulPartsStand : Type 0
 UsefulPartsStand = (plan : CellPlan) (sfn slot l n : ℕ) → l < 7 → n < 128 →
-    frame_sample plan sfn (960 * slot + useful_start l + n) ≡ useful_at (element plan sfn (slot / 2) (7 * (slot % 2) + l)) n
+    frame_sample plan sfn (useful_start normal 0 slot l + n) ≡ useful_at (element plan sfn (slot / 2) (7 * (slot % 2) + l)) n
 
--- before it stand its last samples: ten of them in symbol 0, and nine in the others
-abbrev pub prefix_length : ℕ → ℕ
-prefix_length l = if nat_eq l 0 then 10 else 9
-
+-- before it stand its last samples, as many as its prefix has
 abbrev pub PrefixesRepeat : Type 0
-PrefixesRepeat = (plan : CellPlan) (sfn slot l d : ℕ) → l < 7 → 1 ≤ d → d ≤ prefix_length l →
-    frame_sample plan sfn (960 * slot + useful_start l - d) ≡ useful_at (element plan sfn (slot / 2) (7 * (slot % 2) + l)) (128 - d)
+PrefixesRepeat = (plan : CellPlan) (sfn slot l d : ℕ) → l < 7 → 1 ≤ d → d ≤ prefix_length normal l →
+    frame_sample plan sfn (useful_start normal 0 slot l - d) ≡ useful_at (element plan sfn (slot / 2) (7 * (slot % 2) + l)) (128 - d)
 
 -- frame j of a sequence has the number of its first frame and j more
 abbrev pub FramesFollow : Type 0
-FramesFollow = (plan : CellPlan) (sfn j i : ℕ) → i < 19200 → sent plan sfn (19200 * j + i) ≡ frame_sample plan ((sfn + j) % 1024) i
+FramesFollow = (plan : CellPlan) (sfn j i : ℕ) → i < frame_length → sent plan sfn (frame_length * j + i) ≡ frame_sample plan ((sfn + j) % 1024) i
 
 -- what is sent from an offset on has a frame at its start and then one after the other, with the number at the start and on
 abbrev pub FramesBeginAtStart : Type 0
-FramesBeginAtStart = (plan : CellPlan) (sfn offset j i : ℕ) → sfn ≤ 1023 → IsOffset offset → i < 19200 →
-    sent plan sfn (start_of offset + 19200 * j + i + offset) ≡ frame_sample plan ((number_at_start sfn offset + j) % 1024) i
+FramesBeginAtStart = (plan : CellPlan) (sfn offset j i : ℕ) → sfn ≤ 1023 → IsOffset offset → i < frame_length →
+    sent plan sfn (start_of offset + frame_length * j + i + offset) ≡ frame_sample plan ((number_at_start sfn offset + j) % 1024) i
 
 -- an element has components of size at most 127, and size at most 128
 abbrev pub ElementsAreWithin : Type 0

@@ -4,10 +4,11 @@ use Rattle.finite.specs.Lists.{values_below}
 use Rattle.cs_num.specs.declared.Cpx.{Cpx}
 use Rattle.cs_num.specs.declared.Sample.{Sample}
 use Rattle.cs_num.specs.Complex.{nothing, silence}
+use Rattle.lte_types.specs.Numerology.{frame_length, slot_length, useful_length, normal, symbol_step, symbol_of}
 use Rattle.crs.specs.Reference.{is_reference, reference_at}
 use Rattle.cell_tx.specs.declared.cell.CellPlan.{CellPlan}
 use Rattle.cell_tx.specs.Grid.{is_broadcast, broadcast_value}
-use Rattle.cell_tx.specs.Sent.{symbol_of, frame_sample, sample_of}
+use Rattle.cell_tx.specs.Sent.{frame_sample, sample_of}
 
 -- the reference value at a place of a slot, where there is one
 abbrev pub reference_if : ℕ → ℕ → ℕ → ℕ → Option Cpx
@@ -19,15 +20,16 @@ broadcast_if plan sfn subframe symbol k = if is_broadcast plan.identity subframe
 
 -- the sample of the useful part of its symbol that sample i of a slot repeats or is
 abbrev pub useful_place : ℕ → ℕ
-useful_place i = (i + 118 - 137 * symbol_of i) % 128
+useful_place i = (i + (useful_length - normal.first) - symbol_step normal * symbol_of normal i) % useful_length
 
 -- the first sample of symbol number n of a frame's 140, and of what follows the last
 abbrev pub first_sample : ℕ → ℕ
-first_sample n = 960 * (n / 7) + (if nat_eq (n % 7) 0 then 0 else 1 + 137 * (n % 7))
+first_sample n =
+    slot_length * (n / 7) + (if nat_eq (n % 7) 0 then 0 else normal.first - normal.other + symbol_step normal * (n % 7))
 
--- the 19,200 samples of the frame with this number
+-- the samples of the frame with this number
 unfoldable pub frame_samples : CellPlan → ℕ → List Sample
-frame_samples plan sfn = values_below 19200 (λ i. sample_of (frame_sample plan sfn i))
+frame_samples plan sfn = values_below frame_length (λ i. sample_of (frame_sample plan sfn i))
 
 -- the first samples of a list, so many, are these
 abbrev pub HasSamples : List Sample → (ℕ → Cpx) → ℕ → Type 0

@@ -4,6 +4,7 @@ ghost use Rattle.std.specs.Prelude.{ℕ, ◌≡◌, ◌⊎◌, ◌+◌, ◌*◌,
 ghost use Rattle.finite.specs.Lists.{values_below};
 ghost use Rattle.cs_num.specs.Complex.{IsWithin};
 ghost use Rattle.lte_types.specs.declared.frame.Half.TheVariants.{Zero, Five};
+ghost use Rattle.lte_types.specs.Numerology.{half_of};
 ghost use Rattle.sync_seq.specs.Primary.{pss_list};
 ghost use Rattle.sync_seq.specs.Secondary.{sss_at, sss_list};
 ghost use Rattle.crs.specs.Reference.{is_reference, reference_at, reference_list};
@@ -11,7 +12,7 @@ ghost use Rattle.grid_map.specs.Place.{place};
 ghost use Rattle.grid_map.specs.Broadcast.{pbch_index};
 ghost use Rattle.cell_tx.specs.Block.{broadcast_point};
 ghost use Rattle.fold128.specs.Symbol.{useful_part};
-ghost use Rattle.cell_tx.specs.Grid.{is_synchronised, half_of, secondary_value, element};
+ghost use Rattle.cell_tx.specs.Grid.{is_synchronised, secondary_value, element};
 ghost use Rattle.cell_tx.specs.Rows.{reference_if, broadcast_if};
 
 use crate::Cell;

@@ -4,15 +4,19 @@ ghost use Rattle.std.specs.Prelude.{◌≡◌, ℕ, ◌+◌, ◌-◌, ◌*◌, �
 ghost use Rattle.finite.specs.Lists.{values_below};
 ghost use Rattle.cs_num.specs.Complex.{IsWithin, silence, square, times, value_of, value_at};
 ghost use Rattle.fold128.specs.Symbol.{useful_part};
+ghost use Rattle.lte_types.specs.Numerology.{frame_length, slot_length, useful_length, normal, symbol_of};
 ghost use Rattle.cell_tx.specs.Clean.{IsGain};
 ghost use Rattle.cell_tx.specs.Grid.{element};
 ghost use Rattle.cell_tx.specs.Rows.{useful_place, first_sample, frame_samples, HasSamples};
-ghost use Rattle.cell_tx.specs.Sent.{symbol_of, slot_sample, frame_sample, number_of, sent, received, sample_of, gain_of};
+ghost use Rattle.cell_tx.specs.Sent.{slot_sample, frame_sample, number_of, sent, received, sample_of, gain_of};
 
 use crate::grid::{Signals, useful_of};
 use crate::{Cell, Transmission};
 use cs_num::{Cpx, Sample};
-use lte_types::Sfn;
+use lte_types::{FRAME_LENGTH, Prefix, SLOT_LENGTH, Sfn, USEFUL_LENGTH};
+
+// The samples of a frame.
+const FRAME: u64 = FRAME_LENGTH as u64;
 
 // The sample that a small number is.
 fn narrow(z: Cpx) -> Sample
@@ -29,34 +33,33 @@ fn narrow(z: Cpx) -> Sample
 fn number(sfn: Sfn, i: u64) -> Sfn
     ensures { result ≡ number_of sfn i }
 {
-    match Sfn::new(((sfn.value() as u64 + i / 19_200) % 1024) as u16) {
-        Some(number) => number,
-        None => unreachable!(),
-    }
+    Sfn::modulo(sfn.value() as u64 + i / FRAME)
 }
 
 // The symbol of a slot that sample i of it is in.
 fn symbol_at(i: usize) -> usize
-    requires { i < 960 }
-    ensures value { result ≡ symbol_of i }
+    requires { i < slot_length }
+    ensures value { result ≡ symbol_of normal i }
     ensures small { result < 7 }
 {
-    i.saturating_sub(1) / 137
+    Prefix::NORMAL.symbol_of(i)
 }
 
 // The sample of the useful part of its symbol that sample i of a slot repeats or is.
 fn place_at(i: usize) -> usize
-    requires { i < 960 }
+    requires { i < slot_length }
     ensures value { result ≡ useful_place i }
-    ensures small { result < 128 }
+    ensures small { result < useful_length }
 {
-    (i + 118 - 137 * symbol_at(i)) % 128
+    let prefix = Prefix::NORMAL;
+    let first = USEFUL_LENGTH - prefix.first as usize;
+    (i + first - prefix.step() * symbol_at(i)) % USEFUL_LENGTH
 }
 
 // Sample i of a slot, from the useful part of its symbol.
 fn sample_of_slot(signals: &Signals, useful: &[Cpx; 128], slot: usize, i: usize) -> Sample
-    requires i { i < 960 }
-    requires useful { useful.now ≡ useful_part (element signals.now.cell.now signals.now.sfn (slot / 2) (7 * (slot % 2) + symbol_of i)) }
+    requires i { i < slot_length }
+    requires useful { useful.now ≡ useful_part (element signals.now.cell.now signals.now.sfn (slot / 2) (7 * (slot % 2) + symbol_of normal i)) }
     ensures { result ≡ sample_of (slot_sample signals.now.cell.now signals.now.sfn slot i) }
 {
     narrow(useful[place_at(i)])
@@ -64,36 +67,41 @@ fn sample_of_slot(signals: &Signals, useful: &[Cpx; 128], slot: usize, i: usize)
 
 // Sample i of a frame.
 fn sample_of_frame(signals: &Signals, i: usize) -> Sample
-    requires { i < 19200 }
+    requires { i < frame_length }
     ensures { result ≡ sample_of (frame_sample signals.now.cell.now signals.now.sfn i) }
 {
-    let slot = i / 960;
-    let useful = useful_of(signals, slot as u8, symbol_at(i % 960) as u8);
-    sample_of_slot(signals, &useful, slot, i % 960)
+    let slot = i / SLOT_LENGTH;
+    let useful = useful_of(signals, slot as u8, symbol_at(i % SLOT_LENGTH) as u8);
+    sample_of_slot(signals, &useful, slot, i % SLOT_LENGTH)
 }
 
 // The first sample of a symbol of a frame, counted from 0 to 140, which is the end.
 fn first_of(symbol: usize) -> usize
     requires { symbol ≤ 140 }
     ensures value { result ≡ first_sample symbol }
-    ensures inside { result ≤ 19200 }
+    ensures inside { result ≤ frame_length }
 {
     let l = symbol % 7;
-    let first = if l == 0 { 0 } else { 1 + 137 * l };
-    960 * (symbol / 7) + first
+    let prefix = Prefix::NORMAL;
+    let first = if l == 0 {
+        0
+    } else {
+        (prefix.first - prefix.other) as usize + prefix.step() * l
+    };
+    SLOT_LENGTH * (symbol / 7) + first
 }
 
 // Writes the samples of a symbol of a frame, after those of the symbols before it.
 fn put_symbol(signals: &Signals, symbol: usize, out: &mut [Sample])
     requires symbol { symbol < 140 }
-    requires room { length out.old ≡ 19200 }
+    requires room { length out.old ≡ frame_length }
     requires before { HasSamples out.old (frame_sample signals.now.cell.now signals.now.sfn) (first_sample symbol) }
     ensures { HasSamples out.new (frame_sample signals.now.cell.now signals.now.sfn) (first_sample (symbol + 1)) }
 {
     let slot = symbol / 7;
     let useful = useful_of(signals, slot as u8, (symbol % 7) as u8);
     for i in first_of(symbol)..first_of(symbol + 1) {
-        out[i] = sample_of_slot(signals, &useful, slot, i % 960);
+        out[i] = sample_of_slot(signals, &useful, slot, i % SLOT_LENGTH);
     }
 }
 
@@ -104,13 +112,13 @@ pub fn sample(cell: &Cell, sfn: Sfn, i: u64) -> Sample
     ensures size { square (sent cell.now sfn i) ≤ 1153 * 1153 }
 {
     let signals = Signals::new(cell, number(sfn, i));
-    sample_of_frame(&signals, (i % 19_200) as usize)
+    sample_of_frame(&signals, (i % FRAME) as usize)
 }
 
 /// The whole frame numbered `sfn`, over 19,200 samples: those of `sample` from 0 on. Sample `i` is
 /// sample `19,200 * j + i` of each sequence that has this frame as its frame `j`.
 pub fn frame(cell: &Cell, sfn: Sfn, out: &mut [Sample])
-    requires { length out.old ≡ 19200 }
+    requires { length out.old ≡ frame_length }
     ensures { out.new ≡ frame_samples cell.now sfn }
 {
     let signals = Signals::new(cell, sfn);
@@ -160,24 +168,24 @@ pub fn send(t: &Transmission, i: u32) -> Sample
 }
 
 // Makes the frame of sample i of a transmission, where that of the sample before is another one.
-fn renew(t: &Transmission, i: usize, clean: &mut [Sample; 19200])
+fn renew(t: &Transmission, i: usize, clean: &mut [Sample; FRAME_LENGTH])
     requires i { i < t.now.samples }
     requires before { 0 < i → clean.old ≡ frame_samples t.now.cell (number_of t.now.sfn (i - 1 + t.now.offset)) }
     ensures { clean.new ≡ frame_samples t.now.cell (number_of t.now.sfn (i + t.now.offset)) }
 {
     let n = i as u64 + t.offset as u64;
-    if i == 0 || n % 19_200 == 0 {
+    if i == 0 || n % FRAME == 0 {
         frame(&t.cell, number(t.sfn, n), clean);
     }
 }
 
 // Sample i of a transmission, from the samples of its frame.
-fn sent_from(t: &Transmission, i: usize, clean: &[Sample; 19200]) -> Sample
+fn sent_from(t: &Transmission, i: usize, clean: &[Sample; FRAME_LENGTH]) -> Sample
     requires i { i < t.now.samples }
     requires clean { clean.now ≡ frame_samples t.now.cell (number_of t.now.sfn (i + t.now.offset)) }
     ensures { result ≡ sample_of (received t.now.cell t.now.sfn t.now.offset (gain_of t.now.gain) i) }
 {
-    amplified(t.gain, clean[(i + t.offset as usize) % 19_200])
+    amplified(t.gain, clean[(i + t.offset as usize) % FRAME_LENGTH])
 }
 
 /// All samples of a transmission, over as many: sample `i` is that of `send`. Each frame is made
@@ -186,7 +194,7 @@ pub fn send_all(t: &Transmission, out: &mut [Sample])
     requires { length out.old ≡ t.now.samples }
     ensures { out.new ≡ values_below t.now.samples (λ i. sample_of (received t.now.cell t.now.sfn t.now.offset (gain_of t.now.gain) i)) }
 {
-    let mut clean = [Sample { re: 0, im: 0 }; 19_200];
+    let mut clean = [Sample { re: 0, im: 0 }; FRAME_LENGTH];
     for i in 0..out.len() {
         renew(t, i, &mut clean);
         out[i] = sent_from(t, i, &clean);

@@ -14,7 +14,9 @@ use Rattle.lte_types.specs.declared.hit.Hit.{Hit}
 use Rattle.lte_types.specs.declared.entry.Entry.{Entry}
 use Rattle.pss_search.specs.Hits.{found}
 use Rattle.pss_search.proofs.Listed.{list_is_right}
-use Rattle.sss_detect.specs.Place.{start_of, cell_of}
+use Rattle.lte_types.specs.Identity.{cell_of}
+use Rattle.lte_types.specs.Numerology.{normal, useful_start}
+use Rattle.sss_detect.specs.Place.{start_of}
 use Rattle.sss_detect.specs.Identity.{identity_of}
 use Rattle.conv_code.specs.Cost.{word_cost}
 use Rattle.soft_bits.specs.Soft.{SeenSlot}
@@ -26,7 +28,7 @@ use Rattle.cell_tx.specs.declared.cell.CellPlan.{CellPlan}
 use Rattle.cell_tx.specs.Plan.{IsSendable}
 use Rattle.cell_tx.specs.Block.{broadcast_word}
 use Rattle.cell_tx.specs.Clean.{IsClean, start_of as start_after, number_at_start}
-use Rattle.explain.specs.Frame.{frame_at, useful_start, seen_slot, broadcast_slot}
+use Rattle.explain.specs.Frame.{frame_at, seen_slot, broadcast_slot}
 use Rattle.explain.specs.Entries.{master_of, epoch, distance, is_same_cell, IsExplained}
 use Rattle.explain.specs.Masters.{entry_of}
 use Rattle.explain.specs.Laws.{IsEntry}
@@ -82,7 +84,7 @@ module _ (recording : List Sample) (plan : CellPlan) (sfn offset : ℕ) (gain : 
       let number : ℕ = number_at_start sfn offset in
       let block = is_block plan number sendable.spare (number_fits sfn offset clean.number clean.within) in
       sent_word_is_told (sent_slot recording plan offset) (number % 4) 1 (broadcast_word plan number)
-      (received_slot_speaks recording (useful_start (frame_at (start_after offset) 0) 1) (slot_grid plan number) (sent_slot recording plan offset) (number % 4) (broadcast_word plan number)
+      (received_slot_speaks recording (useful_start normal (frame_at (start_after offset) 0) 1) (slot_grid plan number) (sent_slot recording plan offset) (number % 4) (broadcast_word plan number)
       (slot_received recording plan sfn offset gain eps clean long) (carries_word plan number block.size))
       block.check (omega (arith, block.width))
 

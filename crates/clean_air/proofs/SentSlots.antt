@@ -19,7 +19,8 @@ use Rattle.cell_tx.specs.Clean.{IsClean, start_of, number_at_start}
 use Rattle.cell_tx.specs.Rows.{reference_if}
 use Rattle.cell_tx.proofs.Bounds.{element-square}
 use Rattle.cell_tx.proofs.Elements.{element_of_broadcast, broadcast_found}
-use Rattle.explain.specs.Frame.{frame_at, useful_start, seen_slot, broadcast_slot}
+use Rattle.lte_types.specs.Numerology.{normal, useful_start}
+use Rattle.explain.specs.Frame.{frame_at, seen_slot, broadcast_slot}
 use Rattle.budget.specs.Received.{IsReceived, samples_from}
 use Rattle.clean_air.specs.Values.{IsSlotReceived}
 use Rattle.clean_air.specs.Broadcast.{CarriesWord}
@@ -100,7 +101,7 @@ carries_word plan number size = record { size = size; amplitude = λ i inside. p
 -- ---- the slot
 
 pub slot_received : (recording : List Sample) (plan : CellPlan) (sfn offset : ℕ) (gain : Cpx) (eps : ℕ) → IsClean recording plan sfn offset gain eps → 57600 ≤ length recording →
-    IsSlotReceived recording (useful_start (frame_at (start_of offset) 0) 1) (slot_grid plan (number_at_start sfn offset)) (broadcast_slot recording plan.identity (start_of offset) 0)
+    IsSlotReceived recording (useful_start normal (frame_at (start_of offset) 0) 1) (slot_grid plan (number_at_start sfn offset)) (broadcast_slot recording plan.identity (start_of offset) 0)
 unfolding seen_slot
 slot_received recording plan sfn offset gain eps clean long =
     let j : ℕ = if nat_eq offset 0 then 0 else 1 in
@@ -108,9 +109,9 @@ slot_received recording plan sfn offset gain eps clean long =
     record {
       eps = eps;
       gain = gain;
-      seen = λ l inside. values_below_at (λ symbol. seen_symbol recording (useful_start (frame_at (start_of offset) 0) 1 symbol)) 7 l [] inside;
+      seen = λ l inside. values_below_at (λ symbol. seen_symbol recording (useful_start normal (frame_at (start_of offset) 0) 1 symbol)) 7 l [] inside;
       amplitudes = λ l inside k within. element-square plan (number_at_start sfn offset) 0 (7 + l) k;
-      received = λ l inside. subst (λ n. IsReceived eps gain (slot_grid plan n l) (samples_from recording (useful_start (frame_at (start_of offset) 0) 1 l))) first.number
-          (received_at recording plan sfn offset gain eps (useful_start (frame_at (start_of offset) 0) 1 l) j 1 l clean (omega arith) inside (omega (arith, long, inside)) (omega (arith, first.place)));
+      received = λ l inside. subst (λ n. IsReceived eps gain (slot_grid plan n l) (samples_from recording (useful_start normal (frame_at (start_of offset) 0) 1 l))) first.number
+          (received_at recording plan sfn offset gain eps (useful_start normal (frame_at (start_of offset) 0) 1 l) j 1 l clean (omega arith) inside (omega (arith, long, inside)) (omega (arith, first.place)));
       references = λ i inside. references_stand plan (number_at_start sfn offset) i;
     }

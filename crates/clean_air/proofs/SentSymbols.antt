@@ -12,7 +12,8 @@ use Rattle.grid_map.specs.Broadcast.{is_pbch}
 use Rattle.pss_search.specs.Correlation.{pss_grid}
 use Rattle.cell_tx.specs.declared.cell.CellPlan.{CellPlan}
 use Rattle.cell_tx.specs.Grid.{element}
-use Rattle.cell_tx.specs.Sent.{useful_start, sent}
+use Rattle.lte_types.specs.Numerology.{normal, useful_start, subframe_of, primary_start}
+use Rattle.cell_tx.specs.Sent.{sent}
 use Rattle.cell_tx.specs.Clean.{IsClean, start_of, number_at_start}
 use Rattle.cell_tx.proofs.Symbols.{frames_follow, useful_parts_stand}
 use Rattle.cell_tx.proofs.Elements.{no_reference}
@@ -26,28 +27,23 @@ use Rattle.clean_air.proofs.Grids.{received_same}
 
 -- what is sent of a symbol of a frame
 sent_symbol : (plan : CellPlan) (sfn j slot l n : ℕ) → slot < 20 → l < 7 → n < 128 →
-    sent plan sfn (19200 * j + (960 * slot + useful_start l + n)) ≡ useful_at (element plan ((sfn + j) % 1024) (slot / 2) (7 * (slot % 2) + l)) n
+    sent plan sfn (19200 * j + (useful_start normal 0 slot l + n)) ≡ useful_at (element plan ((sfn + j) % 1024) (slot / 2) (7 * (slot % 2) + l)) n
 sent_symbol plan sfn j slot l n a b c =
-    frames_follow plan sfn j (960 * slot + useful_start l + n) (omega arith) ∙ useful_parts_stand plan ((sfn + j) % 1024) slot l n b c
+    frames_follow plan sfn j (useful_start normal 0 slot l + n) (omega arith) ∙ useful_parts_stand plan ((sfn + j) % 1024) slot l n b c
 
 -- where a whole useful part stands in the recording, it is received
 pub received_at : (recording : List Sample) (plan : CellPlan) (sfn offset : ℕ) (gain : Cpx) (eps : ℕ) (t j slot l : ℕ) → IsClean recording plan sfn offset gain eps →
-    slot < 20 → l < 7 → t + 128 ≤ length recording → t + offset ≡ 19200 * j + (960 * slot + useful_start l) →
+    slot < 20 → l < 7 → t + 128 ≤ length recording → t + offset ≡ 19200 * j + useful_start normal 0 slot l →
     IsReceived eps gain (element plan ((sfn + j) % 1024) (slot / 2) (7 * (slot % 2) + l)) (samples_from recording t)
 received_at recording plan sfn offset gain eps t j slot l clean a b inside place = record {
   sounds = clean.size.least;
   quiet = clean.bound;
-  near = λ n c. let there : t + n + offset ≡ 19200 * j + (960 * slot + useful_start l + n) = omega (arith, place) in
+  near = λ n c. let there : t + n + offset ≡ 19200 * j + (useful_start normal 0 slot l + n) = omega (arith, place) in
       subst (λ z. IsWithin eps (minus (sample_at recording (t + n)) (times gain z))) (ap (sent plan sfn) there ∙ sent_symbol plan sfn j slot l n a b c)
       (clean.near (t + n) (omega (arith, inside, c)));
 }
 
 -- ---- the synchronisation signals
-
--- the subframe that begins a half
-abbrev pub subframe_of : Half → ℕ
-subframe_of Zero = 0
-subframe_of Five = 5
 
 middle : (k : ℕ) (a b : Cpx) → (if nat_le 5 k && nat_lt k 67 then a else b) ≡ (if nat_lt k 5 then b else if nat_lt k 67 then a else b)
 middle k a b = grind (arith, nat_tests)
@@ -64,15 +60,10 @@ unfolding element is_pbch
 secondary_symbol plan sfn k Zero = rw (no_reference plan.identity 5 k refl refl) (middle k _ nothing)
 secondary_symbol plan sfn k Five = rw (no_reference plan.identity 5 k refl refl) (middle k _ nothing)
 
--- where the useful part of the primary signal begins in a frame
-abbrev pub place_of : Half → ℕ
-place_of Zero = 832
-place_of Five = 10432
-
 -- a place of the recording is one at which a primary signal of the cell begins
 pub record IsTruePlace (offset t : ℕ) (half : Half) : Type 0 where
   pub frame : ℕ
-  pub place : t + offset ≡ 19200 * frame + place_of half
+  pub place : t + offset ≡ 19200 * frame + primary_start half
 
 module _ (recording : List Sample) (plan : CellPlan) (sfn offset : ℕ) (gain : Cpx) (eps : ℕ) (t : ℕ) (clean : IsClean recording plan sfn offset gain eps) (inside : t + 128 ≤ length recording) where
   primary_received : (half : Half) → IsTruePlace offset t half → IsReceived eps gain (pss_grid (plan.identity % 3)) (samples_from recording t)

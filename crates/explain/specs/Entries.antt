@@ -8,7 +8,9 @@ use Rattle.lte_types.specs.declared.entry.Entry.{Entry}
 use Rattle.lte_types.specs.declared.sib1_reason.Sib1Reason.TheVariants.{NotRead}
 use Rattle.pss_search.specs.Hits.{hits_of}
 use Rattle.sss_detect.specs.Identity.{identity_of}
-use Rattle.sss_detect.specs.Place.{start_of, cell_of}
+use Rattle.lte_types.specs.Identity.{cell_of}
+use Rattle.lte_types.specs.Numerology.{cycle_length, frame_length}
+use Rattle.sss_detect.specs.Place.{start_of}
 use Rattle.pbch.specs.declared.master.Master.{Master}
 use Rattle.pbch.specs.Master.{IsMaster, HasNoMaster}
 use Rattle.explain.specs.Frame.{IsWhole, broadcast_slot}
@@ -58,11 +60,11 @@ pub record AreEntriesOf (recording : List Sample) (hit : Hit) (entries : List En
 
 -- when frame 0 began, modulo the samples of 1,024 frames
 abbrev pub epoch : Entry → ℕ
-epoch entry = (entry.start + (19660800 - 19200 * entry.sfn)) % 19660800
+epoch entry = (entry.start + (cycle_length - frame_length * entry.sfn)) % cycle_length
 
 -- how far two epochs are apart, by the shorter way
 abbrev pub distance : ℕ → ℕ → ℕ
-distance a b = let gap = (a - b) + (b - a) in min gap (19660800 - gap)
+distance a b = let gap = (a - b) + (b - a) in min gap (cycle_length - gap)
 
 -- two entries are of one cell: of one identity, and their epochs at most 9 samples apart
 abbrev pub is_same_cell : Entry → Entry → Bool

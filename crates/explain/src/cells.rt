@@ -123,15 +123,11 @@ fn entry_of(id: CellId, start: u32, frame: u8, phase: u8, master: Master) -> Ent
     requires phase { phase < 4 }
     ensures { result ≡ entry_of_master id start frame phase master }
 {
-    let number = (4 * master.mib.upper as u16 + phase as u16 + (1024 - frame as u16)) % 1024;
-    let sfn = match Sfn::new(number) {
-        Some(sfn) => sfn,
-        None => unreachable!(),
-    };
+    let number = 4 * master.mib.upper as u64 + phase as u64 + (1024 - frame as u64);
     Entry {
         id,
         start,
-        sfn,
+        sfn: Sfn::modulo(number),
         ports: master.ports,
         mib: master.mib,
         frame,

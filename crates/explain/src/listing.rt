@@ -2,11 +2,15 @@
 
 ghost use Rattle.std.specs.Prelude.{◌≡◌, ◌+◌, ◌<◌, ◌≤◌, ◌↔◌, [], ◌∷◌, IsTrue, length};
 ghost use Rattle.std.specs.List.{AllWithin, HoldsAt, list_any};
+ghost use Rattle.lte_types.specs.Numerology.{cycle_length};
 ghost use Rattle.explain.specs.Entries.{IsBefore, epoch as epoch_of, is_same_cell as same_cell};
 ghost use Rattle.explain.specs.Masters.{Adds};
 
 use crate::EntryList;
-use lte_types::Entry;
+use lte_types::{CYCLE_LENGTH, Entry, FRAME_LENGTH};
+
+// The samples of 1,024 frames.
+const CYCLE: u32 = CYCLE_LENGTH as u32;
 
 /// Adds an entry at its place, unless the list has one of its cell.
 pub(crate) fn add(list: &mut EntryList, entry: Entry)
@@ -24,9 +28,10 @@ pub(crate) fn add(list: &mut EntryList, entry: Entry)
 // When frame 0 of an entry began, modulo the samples of 1,024 frames.
 fn epoch(entry: &Entry) -> u32
     ensures value { result ≡ epoch_of entry.now }
-    ensures small { result < 19660800 }
+    ensures small { result < cycle_length }
 {
-    (entry.start % 19_660_800 + (19_660_800 - 19_200 * entry.sfn.value() as u32)) % 19_660_800
+    let before = FRAME_LENGTH as u32 * entry.sfn.value() as u32;
+    (entry.start % CYCLE + (CYCLE - before)) % CYCLE
 }
 
 // Whether two entries are of one cell.
@@ -34,7 +39,7 @@ fn is_same_cell(a: &Entry, b: &Entry) -> bool
     ensures { result ≡ same_cell a.now b.now }
 {
     let gap = epoch(a).abs_diff(epoch(b));
-    a.id == b.id && gap.min(19_660_800 - gap) <= 9
+    a.id == b.id && gap.min(CYCLE - gap) <= 9
 }
 
 // Whether the first entry stands before the second.

@@ -5,9 +5,10 @@ use Rattle.std.specs.Fmt.{decimal}
 use Rattle.cs_num.specs.declared.Sample.{Sample}
 use Rattle.lte_types.specs.declared.hit.Hit.{Hit}
 use Rattle.lte_types.specs.declared.frame.Half.{Half}
-use Rattle.lte_types.specs.declared.frame.Half.TheVariants.{Zero, Five}
 use Rattle.sss_detect.specs.Identity.{identity_of}
-use Rattle.sss_detect.specs.Place.{start_of, cell_of}
+use Rattle.lte_types.specs.Identity.{cell_of}
+use Rattle.lte_types.specs.Numerology.{subframe_of}
+use Rattle.sss_detect.specs.Place.{start_of}
 
 -- the line of a hit: its place and its identity within the group
 abbrev pub hit_line : Hit → List ℕ
@@ -20,11 +21,6 @@ hits_head count = codes "hits " ++ decimal count ++ codes "\n"
 -- then a line for each
 unfoldable pub hits_text : List Hit → List ℕ
 hits_text hits = hits_head (length hits) ++ flat_map hit_line hits
-
--- the subframe of a half
-abbrev pub subframe_of : Half → ℕ
-subframe_of Zero = 0
-subframe_of Five = 5
 
 -- the line of a place: the place, the identity, the subframe and the frame start
 abbrev pub place_line : ℕ → ℕ → ℕ → ℕ → List ℕ

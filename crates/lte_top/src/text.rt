@@ -3,9 +3,9 @@
 ghost use Rattle.std.specs.Prelude.{◌≡◌, All, IfOk, string_bytes};
 ghost use Rattle.sample_file.specs.Recording.{IsRecording};
 ghost use Rattle.pss_search.specs.Hits.{IsInSpan};
-ghost use Rattle.lte_top.specs.Texts.{hits_text, subframe_of, place_line, id_line, ids_text, answer_word, answer_line, check_text};
+ghost use Rattle.lte_top.specs.Texts.{hits_text, place_line, id_line, ids_text, answer_word, answer_line, check_text};
 
-use lte_types::{Half, Hit};
+use lte_types::Hit;
 use sample_file::Recording;
 use sss_detect::{cell_id, frame_start, identity};
 use std::alloc::{AllocError, Global};
@@ -49,7 +49,7 @@ fn line_of_id(alloc: Global, recording: &Recording, hit: &Hit) -> Result<String,
 {
     let (n1, half) = identity(recording, hit);
     let id = cell_id(n1, hit.n2).value();
-    line_of_place(alloc, hit.t, id, subframe(half), frame_start(hit, half))
+    line_of_place(alloc, hit.t, id, half.subframe(), frame_start(hit, half))
 }
 
 // A line of four numbers.
@@ -63,16 +63,6 @@ fn line_of_place(
     ensures { IfOk result (λ line. string_bytes line ≡ place_line t id subframe start) }
 {
     format!(in alloc; "{t} {id} {subframe} {start}\n")
-}
-
-// The subframe of a half.
-fn subframe(half: Half) -> u8
-    ensures { result ≡ subframe_of half }
-{
-    match half {
-        Half::Zero => 0,
-        Half::Five => 5,
-    }
 }
 
 // The number of certificates, and then a line for each with the answer to it.

@@ -28,6 +28,10 @@ cycle_length = 19660800
 abbrev pub normal : Prefix
 normal = record { first = 10; other = 9 }
 
+-- the samples of the prefix of a symbol of a slot
+abbrev pub prefix_length : Prefix → ℕ → ℕ
+prefix_length prefix symbol = if nat_eq symbol 0 then prefix.first else prefix.other
+
 -- from the useful part of a symbol to that of the next one in its slot
 abbrev pub symbol_step : Prefix → ℕ
 symbol_step prefix = useful_length + prefix.other

@@ -1,7 +1,7 @@
 //! Frame numbers and half frames.
 
 ghost use Rattle.std.specs.Prelude.{◌≡◌, ℕ, ◌%◌, ◌<◌, ◌≤◌, IsSome, IfSome, ◌↔◌};
-ghost use Rattle.lte_types.specs.Numerology.{subframe_of, half_of, primary_start as primary_start_of};
+ghost use Rattle.lte_types.specs.Numerology.{frame_length, subframe_of, half_of, primary_start as primary_start_of};
 
 use crate::Prefix;
 use std::marker::Model;
@@ -82,11 +82,12 @@ impl Half {
             Half::Five => 5,
         }
     }
+
     /// From the start of a frame to the useful part of the primary synchronisation signal of this
     /// half, in samples: 832 or 10,432 (TS 36.211 section 6.11.1.2).
     pub fn primary_start(self) -> u32
         ensures value { result ≡ primary_start_of self }
-        ensures inside { result < 19200 }
+        ensures inside { result < frame_length }
     {
         Prefix::NORMAL.useful_start(0, 2 * self.subframe() as usize, 6) as u32
     }

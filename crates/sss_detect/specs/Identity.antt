@@ -4,6 +4,7 @@ use Rattle.cs_num.specs.declared.Sample.{Sample}
 use Rattle.lte_types.specs.declared.frame.Half.{Half}
 use Rattle.lte_types.specs.declared.frame.Half.TheVariants.{Zero, Five}
 use Rattle.lte_types.specs.declared.hit.Hit.{Hit}
+use Rattle.lte_types.specs.Numerology.{normal, symbol_step}
 use Rattle.observe.specs.Seen.{seen}
 use Rattle.sss_detect.specs.Scores.{score}
 
@@ -37,7 +38,7 @@ best_pair points =
 
 -- the points of a hit: the scores of what is seen of the primary symbol at the hit and of the secondary one before it
 abbrev pub points_of : List Sample → Hit → ℕ → Half → ℤ
-points_of recording hit = score (seen recording hit.t) (seen recording (hit.t - 137)) hit.n2
+points_of recording hit = score (seen recording hit.t) (seen recording (hit.t - symbol_step normal)) hit.n2
 
 -- the identity group and the half of a hit
 unfoldable pub identity_of : List Sample → Hit → ℕ × Half

@@ -7,11 +7,12 @@ mod place;
 mod score;
 
 ghost use Rattle.std.specs.Prelude.{◌≡◌, ◌+◌, ◌≤◌, length};
+ghost use Rattle.lte_types.specs.Numerology.{normal, symbol_step};
 ghost use Rattle.sss_detect.specs.Identity.{IsBest, points_of, identity_of};
 ghost use Rattle.sss_detect.specs.Laws.{BestPairIsBest, OnlyOneIsBest};
 
 pub use choose::best;
-use lte_types::{Half, Hit};
+use lte_types::{Half, Hit, Prefix};
 use observe::symbol;
 pub use place::{cell_id, frame_start};
 use sample_file::Recording;
@@ -20,14 +21,18 @@ use sample_file::Recording;
 /// at the hit and of the secondary symbol one symbol before it (TS 36.211 section 6.11). `t` is at
 /// least 137, the primary symbol ends within the recording, and `n2` is 0 to 2.
 pub fn identity(recording: &Recording, hit: &Hit) -> (u16, Half)
-    requires after { 137 ≤ hit.now.t }
+    requires after { symbol_step normal ≤ hit.now.t }
     requires within { hit.now.t + 128 ≤ length recording.now }
     requires member { hit.now.n2 ≤ 2 }
     ensures value { result ≡ identity_of recording.now hit.now }
     ensures best { IsBest (points_of recording.now hit.now) result.0 result.1 }
 {
     let t = hit.t as usize;
-    best(&symbol(recording, t), &symbol(recording, t - 137), hit.n2)
+    best(
+        &symbol(recording, t),
+        &symbol(recording, t - Prefix::NORMAL.step()),
+        hit.n2,
+    )
 }
 
 /// The best pair in plain words: it is the first of the pairs of greatest points, and the only one.

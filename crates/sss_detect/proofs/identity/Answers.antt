@@ -1,4 +1,4 @@
-use Rattle.std.proofs.Common.{◌∙◌, ap, sym, subst, ℕ}
+use Rattle.std.proofs.Common.{◌∙◌, ap, sym, subst, ℕ, ◌-◌}
 use Rattle.cs_num.specs.Complex.{value_at}
 use Rattle.lte_types.specs.declared.frame.Half.{Half}
 use Rattle.observe.specs.Seen.{seen_symbol}
@@ -14,7 +14,8 @@ returns-clause-value c =
     let hit = c.args.hit.now in
     c.best.ensures.value
     ∙ ap (λ primary. best_pair (score (value_at primary) (value_at c.symbol-2.result) hit.n2)) c.symbol.ensures.value
-    ∙ ap (λ secondary. best_pair (score (value_at (seen_symbol c.args.recording.now hit.t)) (value_at secondary) hit.n2)) c.symbol-2.ensures.value
+    ∙ ap (λ secondary. best_pair (score (value_at (seen_symbol c.args.recording.now hit.t)) (value_at secondary) hit.n2))
+    (c.symbol-2.ensures.value ∙ ap (λ step. seen_symbol c.args.recording.now (hit.t - step)) c.step.ensures)
     ∙ ap best_pair (points_are c.args.recording.now hit)
 
 pub returns-clause-best : goal.returns-clause-best

@@ -1,6 +1,7 @@
 use Rattle.std.proofs.Common.{◌≡◌, ◌∙◌, ℕ, ap}
 use Rattle.lte_types.specs.declared.frame.Half.{Half}
-use Rattle.sss_detect.specs.Place.{start_of, cell_of}
+use Rattle.lte_types.specs.Identity.{cell_of}
+use Rattle.sss_detect.specs.Place.{start_of}
 use Rattle.explain.specs.Entries.{identity_at, start_at}
 use Rattle.explain.proofs.FirstFrame.{adds_entries, adds_nothing}
 use Rattle.explain.proofs.Kept.{adds_none}
