@@ -18,3 +18,5 @@ pub mod Peaks
 pub mod Deviations
 -- So each term of the sent pair's score is above 0, and its score is the only greatest.
 pub mod Scores
+-- Channel estimates: a multiple of a gain up to a deviation, at every subcarrier as at the pilots.
+pub mod Near

@@ -24,7 +24,8 @@ use Rattle.soft_bits.specs.Soft.{SeenSlot, seen_at, pilot_symbol, pilot_subcarri
 use Rattle.budget.specs.Received.{IsSeenAs}
 use Rattle.clean_air.specs.Values.{Supports, ArePilotsSeen, IsSlotReceived, ValuesSupportBits, ReceivedValuesSupportBits}
 use Rattle.budget.proofs.Deviations.{deviation, seen_is, deviation-sized}
-use Rattle.clean_air.proofs.Estimates.{IsNearGain, sent-size, channel-near}
+use Rattle.budget.proofs.Near.{IsNear}
+use Rattle.clean_air.proofs.Estimates.{sent-size, channel-near}
 use Rattle.budget.proofs.Seen.{amplitude_is_seen_in_recording}
 
 -- ---- the energy of the pilots
@@ -159,7 +160,7 @@ values_support_bits gain slot symbol k first second seen here =
     energy : IsPilotEnergy (24 * square gain) (pilot_energy slot)
     energy = energy-near gain slot seen
 
-    estimate : IsNearGain gain 3110400 737280 (channel slot k)
+    estimate : IsNear (square gain) gain 3110400 737280 (channel slot k)
     estimate = channel-near gain slot k seen
 
     near : IsWithin ((8192 * 737280 + 1920 * (3110400 + 737280)) * square gain) (minus (turned_back slot symbol k) (multiple (3110400 * square gain) (multiple 64 (point first second))))
