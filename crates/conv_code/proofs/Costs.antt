@@ -1,7 +1,10 @@
--- What a value costs.
-use Rattle.std.proofs.Common.{◌≤◌, Bool, true, false, ℤ, pos, negsuc, arith}
-use Rattle.std.specs.Prelude.{nat_abs}
-use Rattle.conv_code.specs.Cost.{disagreement}
+-- What a value, a place and a word cost at most.
+use Rattle.std.proofs.Common.{ℕ, ◌*◌, ◌≤◌, Bool, true, false, List, [], length, get_or, ℤ, pos, negsuc, arith}
+use Rattle.std.specs.Prelude.{nat_abs, All}
+use Rattle.finite.proofs.Items.{item-within}
+use Rattle.finite.proofs.Sums.{total_below-within}
+use Rattle.conv_code.specs.Code.{coded, taps_0, taps_1, taps_2}
+use Rattle.conv_code.specs.Cost.{disagreement, triple_cost, place_cost, word_cost}
 
 -- a value speaks against a bit with its size at most
 pub disagreement-le : (z : ℤ) (b : Bool) → disagreement z b ≤ nat_abs z
@@ -9,3 +12,22 @@ disagreement-le (pos n) false = omega arith
 disagreement-le (pos n) true = omega arith
 disagreement-le (negsuc n) false = omega arith
 disagreement-le (negsuc n) true = omega arith
+
+-- three values speak against three bits with three times the greatest size at most
+pub triple_cost-le : (n : ℕ) (v : List ℤ) (a b c : Bool) → All (λ z. nat_abs z ≤ n) v → triple_cost v a b c ≤ 3 * n
+triple_cost-le n v a b c small =
+    let s0 = item-within n v 0 small in
+    let s1 = item-within n v 1 small in
+    let s2 = item-within n v 2 small in
+    let d0 = disagreement-le (get_or v 0 (pos 0)) a in
+    let d1 = disagreement-le (get_or v 1 (pos 0)) b in
+    let d2 = disagreement-le (get_or v 2 (pos 0)) c in
+    omega (arith, s0, s1, s2, d0, d1, d2)
+
+-- and a word costs no more than that times its places
+pub word_cost-le : (n : ℕ) (values : List (List ℤ)) (word : List Bool) → All (λ v. All (λ z. nat_abs z ≤ n) v) values →
+    word_cost values word ≤ length values * (3 * n)
+unfolding word_cost
+word_cost-le n values word small =
+    total_below-within (length values) (3 * n) (place_cost values word) (λ k below.
+    triple_cost-le n (get_or values k []) (coded taps_0 word k) (coded taps_1 word k) (coded taps_2 word k) (small k [] below))

@@ -7,11 +7,13 @@ mod cost;
 mod encoder;
 mod laws;
 mod matching;
+mod place;
 
 pub use cost::disagreement_of;
 pub use encoder::encode;
 pub use laws::{coded_words_tell_words, reading_permutes};
 pub use matching::{combine, match_out, stream_place};
+pub use place::against;
 
 #[cfg(test)]
 mod tests;

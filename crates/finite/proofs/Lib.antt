@@ -6,3 +6,4 @@ pub mod Tests
 pub mod Lists
 pub mod Tables
 pub mod Counts
+pub mod Items

@@ -24,7 +24,7 @@ use Rattle.conv_code.specs.Cost.{word_cost}
 use Rattle.tailbite.specs.LeastWord.{IsLeastWord}
 use Rattle.pbch.specs.Values.{seen_value, value, frame_values, coded_values}
 use Rattle.pbch.specs.Master.{Tells, TellsMaster, Carries}
-use Rattle.pbch.proofs.Words.{one_word}
+use Rattle.tailbite.proofs.Only.{one_word}
 use Rattle.conv_code.proofs.Sizes.{sizes_of_sums}
 use Rattle.tail_cert.specs.Certificate.{Held, IsWhole, IsAccepted, IsTriple, Counted}
 use Rattle.tail_cert.specs.Form.{count, bytes_of}

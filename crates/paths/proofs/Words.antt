@@ -1,5 +1,5 @@
 -- A word's number, and the key of a path: its cost at a scale, and its word's number.
-use Rattle.std.proofs.Common.{◌≡◌, ℕ, zero, suc, ◌+◌, ◌-◌, ◌*◌, ◌/◌, ◌%◌, ◌^◌, ◌<◌, Bool, true, false, List, [], ◌∷◌, length, get_or, refl, ap, sym, ◌∙◌, arith, eqb, pow-add}
+use Rattle.std.proofs.Common.{◌≡◌, ℕ, zero, suc, ◌+◌, ◌-◌, ◌*◌, ◌/◌, ◌%◌, ◌^◌, ◌<◌, ◌⊎◌, inl, inr, Bool, true, false, List, [], ◌∷◌, length, get_or, refl, ap, sym, ◌∙◌, arith, eqb, pow-add}
 use Rattle.std.specs.Prelude.{nat_eq}
 use Rattle.std.proofs.lemmas.Nat.{div-mul-add, pow_pos}
 use Rattle.std.proofs.Math.Nat.{div-eq_of_lt, pow-suc, add_comm, add-mul-div_right}
@@ -66,3 +66,19 @@ word_bit (true ∷ w) (suc k) h =
     ap (λ a. (a + word_number w) / 2 ^ j) p ∙ ap (λ a. a / 2 ^ j) (add_comm (2 ^ k * 2 * 2 ^ j) (word_number w)) ∙ add-mul-div_right (word_number w) (2 ^ k * 2) (pow_pos j) in
     let o : (word_number w / 2 ^ j + 2 ^ k * 2) % 2 ≡ word_number w / 2 ^ j % 2 = omega arith in
     rw (e, d) (word_bit w k (omega arith) ∙ sym (ap (λ a. eqb a 1) o))
+
+-- of two words of one length that are not the same, one stands before the other
+pub either_before : (u w : List Bool) → length u ≡ length w → (u ≡ w) ⊎ (IsBefore u w ⊎ IsBefore w u)
+either_before [] [] size = inl refl
+either_before [] (x ∷ w) size = absurd (omega (arith, size))
+either_before (x ∷ u) [] size = absurd (omega (arith, size))
+either_before (false ∷ u) (true ∷ w) size = inr (inl tt)
+either_before (true ∷ u) (false ∷ w) size = inr (inr tt)
+either_before (false ∷ u) (false ∷ w) size = elim (either_before u w (omega (arith, size))) [
+  | inl same ↦ inl (ap (λ v. false ∷ v) same)
+  | inr other ↦ inr other
+]
+either_before (true ∷ u) (true ∷ w) size = elim (either_before u w (omega (arith, size))) [
+  | inl same ↦ inl (ap (λ v. true ∷ v) same)
+  | inr other ↦ inr other
+]

@@ -1,39 +1,13 @@
--- The least word is one, and so is the master block that values tell.
-use Rattle.std.proofs.Common.{◌≡◌, ℕ, ◌≤◌, ◌⊎◌, inl, inr, Bool, true, false, List, [], ◌∷◌, length, ℤ, refl, arith, sym, ap, subst, ◌∙◌, bit_xor}
+-- The master block that values tell is one.
+use Rattle.std.proofs.Common.{◌≡◌, ℕ, ◌≤◌, ◌⊎◌, Bool, List, ℤ, arith, sym, ap, subst, ◌∙◌, bit_xor}
 use Rattle.std.specs.Int.Bits.{xor_assoc, xor_self, xor_zero_l}
 use Rattle.std.proofs.lemmas.Bool.Decides.{nat_tests}
-use Rattle.paths.specs.Words.{IsBefore}
 use Rattle.conv_code.specs.Cost.{word_cost}
 use Rattle.tailbite.specs.LeastWord.{IsLeastWord}
 use Rattle.cs_bits.specs.Polynomial.{crc16_of}
 use Rattle.pbch.specs.Master.{mask, field, block, bandwidth, duration, resource, PassesWith, Tells}
-use Rattle.pbch.specs.Laws.{IsOneWord, IsOneMaster}
-
--- of two words of one length that are not the same, one stands before the other
-either_before : (u w : List Bool) → length u ≡ length w → (u ≡ w) ⊎ (IsBefore u w ⊎ IsBefore w u)
-either_before [] [] size = inl refl
-either_before [] (x ∷ w) size = absurd (omega (arith, size))
-either_before (x ∷ u) [] size = absurd (omega (arith, size))
-either_before (false ∷ u) (true ∷ w) size = inr (inl tt)
-either_before (true ∷ u) (false ∷ w) size = inr (inr tt)
-either_before (false ∷ u) (false ∷ w) size = elim (either_before u w (omega (arith, size))) [
-  | inl same ↦ inl (ap (λ v. false ∷ v) same)
-  | inr other ↦ inr other
-]
-either_before (true ∷ u) (true ∷ w) size = elim (either_before u w (omega (arith, size))) [
-  | inl same ↦ inl (ap (λ v. true ∷ v) same)
-  | inr other ↦ inr other
-]
-
-pub one_word : IsOneWord
-one_word values u w hu hw =
-    elim (either_before u w (hu.size ∙ sym hw.size)) [
-      | inl same ↦ same
-      | inr other ↦ elim other [
-        | inl before ↦ absurd (let less = hw.first u hu.size before in let least = hu.least w hw.size in omega (arith, less, least))
-        | inr before ↦ absurd (let less = hu.first w hw.size before in let least = hw.least u hu.size in omega (arith, less, least))
-      ]
-    ]
+use Rattle.pbch.specs.Laws.{IsOneMaster}
+use Rattle.tailbite.proofs.Only.{one_word}
 
 -- values tell no word where the least one has no mask, or has another width
 pub none_by : (values : List (List ℤ)) (w : List Bool) → IsLeastWord values w →

@@ -1,12 +1,7 @@
 -- Laws of the master blocks.
-use Rattle.std.specs.Prelude.{◌≡◌, List, Bool, ℤ}
-use Rattle.tailbite.specs.LeastWord.{IsLeastWord}
+use Rattle.std.specs.Prelude.{◌≡◌, List, ℤ}
 use Rattle.pbch.specs.declared.master.Master.{Master}
 use Rattle.pbch.specs.Master.{TellsMaster}
-
--- there is only one least word
-abbrev pub IsOneWord : Type 0
-IsOneWord = (values : List (List ℤ)) (u w : List Bool) → IsLeastWord values u → IsLeastWord values w → u ≡ w
 
 -- two masters have the same ports, the same cost and the same fields
 pub record IsSame (a b : Master) : Type 0 where

@@ -1,9 +1,8 @@
 //! Laws of the master blocks.
 
-ghost use Rattle.pbch.specs.Laws.{IsOneWord, IsOneMaster};
+ghost use Rattle.pbch.specs.Laws.{IsOneMaster};
 
-/// There is only one least word of values, and they tell at most one master block.
+/// Values tell at most one master block.
 pub fn at_most_one_master()
-    ensures word { IsOneWord }
-    ensures master { IsOneMaster }
+    ensures { IsOneMaster }
 {}

@@ -1,5 +1,5 @@
 -- Values of a small size have an accepted certificate with their least word.
-use Rattle.std.proofs.Common.{◌≡◌, ℕ, zero, suc, ◌*◌, ◌^◌, ◌<◌, ◌≤◌, Bool, List, [], length, get_or, ℤ, pos, map, refl, sym, subst, ◌∙◌, inl, inr, arith}
+use Rattle.std.proofs.Common.{◌≡◌, ℕ, zero, suc, ◌*◌, ◌^◌, ◌<◌, ◌≤◌, Bool, List, [], length, get_or, ℤ, map, refl, sym, subst, ◌∙◌, inl, inr, arith}
 use Rattle.std.specs.Prelude.{All, nat_abs}
 use Rattle.std.proofs.lemmas.Bool.Decides.{eqb_tells}
 use Rattle.finite.specs.Lists.{values_below}
@@ -9,27 +9,22 @@ use Rattle.paths.proofs.Rounds.{ends_in_same, ends_in_other}
 use Rattle.conv_code.specs.Code.{parity, taps_0, taps_1, taps_2}
 use Rattle.conv_code.specs.Cost.{word_cost}
 use Rattle.tailbite.specs.LeastWord.{IsLeastWord}
-use Rattle.tailbite.specs.Machine.{branch_cost, window_bit}
-use Rattle.conv_code.proofs.Costs.{disagreement-le}
+use Rattle.tailbite.specs.Machine.{branch_cost, window_bit, forward_least, first_from, bit_to}
+use Rattle.conv_code.proofs.Costs.{triple_cost-le, word_cost-le}
+use Rattle.finite.proofs.Items.{row-within}
 use Rattle.tail_cert.specs.Certificate.{Held, IsWhole, IsAccepted, IsTriple, IsTable, Counted, TableHolds}
-use Rattle.tail_cert.specs.Forward.{forward_least, first_from, bit_to, IsLeastRow, HasLeastRows, IsStartRow}
-use Rattle.tail_cert.proofs.Accept.{accepted, size_at, word_cost-within}
+use Rattle.tail_cert.specs.Forward.{IsStepRow, HasLeastRows, IsStartRow}
+use Rattle.tail_cert.proofs.Accept.{accepted}
 use Rattle.tail_cert.proofs.Rows.{start_row, later_row, rows_fit}
 
 abbrev AreSmall : List (List ℤ) → Type 0
 AreSmall values = All (λ v. All (λ z. nat_abs z ≤ 2032) v) values
 
 -- no branch costs more than three values
-branch_within : (values : List (List ℤ)) → AreSmall values → (k x : ℕ) (b : Bool) → branch_cost (get_or values k []) x b ≤ 6096
+branch_within : (values : List (List ℤ)) → AreSmall values → (k x : ℕ) (b : Bool) → branch_cost (get_or values k []) x b ≤ 3 * 2032
 branch_within values small k x b =
-    let v = get_or values k [] in
-    let d0 = disagreement-le (get_or v 0 (pos 0)) (parity (map (window_bit x b) taps_0)) in
-    let d1 = disagreement-le (get_or v 1 (pos 0)) (parity (map (window_bit x b) taps_1)) in
-    let d2 = disagreement-le (get_or v 2 (pos 0)) (parity (map (window_bit x b) taps_2)) in
-    let s0 = size_at 2032 values small k 0 in
-    let s1 = size_at 2032 values small k 1 in
-    let s2 = size_at 2032 values small k 2 in
-    omega (arith, d0, d1, d2, s0, s1, s2)
+    triple_cost-le 2032 (get_or values k []) (parity (map (window_bit x b) taps_0)) (parity (map (window_bit x b) taps_1)) (parity (map (window_bit x b) taps_2))
+    (row-within 2032 values k small)
 
 -- the least costs of k steps from a start row
 row_after : List (List ℤ) → List ℕ → ℕ → List ℕ
@@ -37,7 +32,7 @@ row_after values start zero = start
 row_after values start (suc k) = values_below 64 (forward_least (get_or values k []) (row_after values start k))
 
 row_is_least : (values : List (List ℤ)) (start : List ℕ) → AreSmall values → length start ≡ 64 → ((y : ℕ) → y < 64 → get_or start y 0 ≤ 2 ^ 30) →
-    (k : ℕ) → IsLeastRow values start k (row_after values start k)
+    (k : ℕ) → IsStepRow values start k (row_after values start k)
 unfolding row_after
 row_is_least values start small size room zero = start_row values start size room
 row_is_least values start small size room (suc k) =
@@ -73,7 +68,7 @@ start_size s = values_below-length 64 (ends_in (2 ^ 30) s)
 table_rows : (values : List (List ℤ)) (s : ℕ) → AreSmall values → HasLeastRows values (start_of s) (table_of values s) 40
 unfolding table_of
 table_rows values s small = record {
-  row = λ i inside. subst (λ row. IsLeastRow values (start_of s) (suc i) row) (sym (values_below_at (λ i. row_after values (start_of s) (suc i)) 40 i [] inside))
+  row = λ i inside. subst (λ row. IsStepRow values (start_of s) (suc i) row) (sym (values_below_at (λ i. row_after values (start_of s) (suc i)) 40 i [] inside))
       (row_is_least values (start_of s) small (start_size s) (start_room s) (suc i));
 }
 
@@ -112,8 +107,8 @@ least_has_certificate values word places least = record {
     small : AreSmall values
     small k d inside = (places.all k d inside).all
 
-    within : word_cost values word ≤ length values * 6096
-    within = word_cost-within values word small
+    within : word_cost values word ≤ length values * (3 * 2032)
+    within = word_cost-le 2032 values word small
 
     holds : (s : ℕ) → s < 64 → TableHolds values (word_cost values word) s (table_of values s)
     holds s below = accepted values (word_cost values word) s (start_of s) (table_of values s) below places.count (is_start s)

@@ -3,13 +3,13 @@ use Rattle.std.proofs.Common.{◌≡◌, ◌≢◌, ℕ, suc, ◌+◌, ◌<◌, 
 use Rattle.std.proofs.lemmas.Bool.{cases_lt}
 use Rattle.std.proofs.lemmas.List.{get_or_default}
 use Rattle.tailbite.specs.Machine.{shift, step_cost}
-use Rattle.tail_cert.specs.Certificate.{none, bound, TableHolds}
+use Rattle.tail_cert.specs.Certificate.{unbounded, bound, TableHolds}
 use Rattle.tail_cert.specs.Steps.{BothHold, BothRise, RowHolds, RowRises, StepHolds, StepRises}
 
 pub record HoldsTo (values : List (List ℤ)) (s : ℕ) (table : List (List ℕ)) (from : List ℕ) (n : ℕ) : Type 0 where
   pub row : (x : ℕ) → x < 64 → get_or from x 0 ≡ bound table s n x
   pub steps : (i x : ℕ) (b : Bool) → i < n → x < 64 →
-      bound table s i x ≢ none → bound table s (suc i) (shift x b) ≤ bound table s i x + step_cost values i x b
+      bound table s i x ≢ unbounded → bound table s (suc i) (shift x b) ≤ bound table s i x + step_cost values i x b
   pub rises : (i x : ℕ) (b : Bool) → i < n → x < 64 →
       bound table s (suc i) (shift x b) ≤ bound table s i x + step_cost values i x b
 

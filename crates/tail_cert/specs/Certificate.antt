@@ -13,19 +13,19 @@ pub record Held : Type 0 where
 -- ---- what is accepted
 
 -- the entry that bounds nothing
-abbrev pub none : ℕ
-none = 2 ^ 32 - 1
+abbrev pub unbounded : ℕ
+unbounded = 2 ^ 32 - 1
 
 -- the lower bound of the cost of i steps from the start state s to x; the table holds the rows from step 1 on
 abbrev pub bound : List (List ℕ) → ℕ → ℕ → ℕ → ℕ
-bound table s zero x = cond (nat_eq x s) 0 none
+bound table s zero x = cond (nat_eq x s) 0 unbounded
 bound table s (suc i) x = slice_index (slice_index_or table i []) x
 
 -- in the table of a start state, each branch from an entry that bounds something leads to one that is greater by
 -- no more than the branch costs, and the end in the start state is bounded by the cost
 pub record TableHolds (values : List (List ℤ)) (cost s : ℕ) (table : List (List ℕ)) : Type 0 where
   pub steps : (i x : ℕ) (b : Bool) → i < 40 → x < 64 →
-      bound table s i x ≢ none → bound table s (suc i) (shift x b) ≤ bound table s i x + step_cost values i x b
+      bound table s i x ≢ unbounded → bound table s (suc i) (shift x b) ≤ bound table s i x + step_cost values i x b
   pub ends : cost ≤ bound table s 40 s
 
 -- the certificate is accepted: the stated cost is the word's, and the tables of all start states hold

@@ -1,11 +1,11 @@
 -- The inequalities of one branch and of one step, with and without the exception of entries that bound nothing (own).
 use Rattle.std.specs.Prelude.{◌≢◌, ℕ, suc, ◌+◌, ◌<◌, ◌≤◌, Bool, true, false, List, slice_index, ℤ}
 use Rattle.tailbite.specs.Machine.{shift, branch_cost, step_cost}
-use Rattle.tail_cert.specs.Certificate.{none, bound}
+use Rattle.tail_cert.specs.Certificate.{unbounded, bound}
 
 -- the inequality of a branch
 abbrev pub StepHolds : List ℤ → ℕ → List ℕ → ℕ → Bool → Type 0
-StepHolds v from to x b = from ≢ none → slice_index to (shift x b) ≤ from + branch_cost v x b
+StepHolds v from to x b = from ≢ unbounded → slice_index to (shift x b) ≤ from + branch_cost v x b
 
 -- the inequalities of both branches from a state
 abbrev pub BothHold : List ℤ → ℕ → List ℕ → ℕ → Type 0

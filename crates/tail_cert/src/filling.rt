@@ -4,11 +4,10 @@ ghost use Rattle.std.specs.Prelude.{◌≡◌, ◌+◌, ◌*◌, ◌^◌, ◌<�
 ghost use Rattle.conv_code.specs.Cost.{word_cost};
 ghost use Rattle.tailbite.specs.LeastWord.{IsLeastWord};
 ghost use Rattle.tail_cert.specs.Certificate.{Counted, IsAccepted, IsLowerBound, IsRow, IsTable, TableHolds};
-ghost use Rattle.tail_cert.specs.Forward.{first_from, forward_least, HasLeastRows, IsStartRow};
+ghost use Rattle.tail_cert.specs.Forward.{HasLeastRows, IsStartRow};
 
 use crate::Certificate;
-use crate::branch::branch;
-use tailbite::{Trellis, least};
+use tailbite::{Trellis, forward_row, least};
 
 const STATES: usize = 64;
 
@@ -17,40 +16,9 @@ const STEPS: usize = 40;
 /// More than the cost of every word.
 const FAR: u32 = 0x4000_0000;
 
-/// The least cost to the state x, where the row has that to each state one step before.
-fn forward_at(values: &[i32; 3], row: &[u32; 64], x: usize) -> u32
-    requires state { x < 64 }
-    requires sizes { All (λ v. nat_abs v ≤ 2032) values.now }
-    requires room { (y : ℕ) → y < 64 → slice_index row.now y ≤ 2 ^ 31 }
-    ensures least { result ≡ forward_least values.now row.now x }
-    ensures growth { result ≤ slice_index row.now (first_from x) + 6096 }
-{
-    let first = 2 * (x % 32);
-    let second = 2 * (x % 32) + 1;
-    let newest = x / 32 % 2 == 1;
-    let by_first = row[first] + branch(values, first, newest);
-    let by_second = row[second] + branch(values, second, newest);
-    by_first.min(by_second)
-}
-
-/// The row one step later.
-fn forward_row(values: &[i32; 3], row: &[u32; 64]) -> [u32; 64]
-    requires sizes { All (λ v. nat_abs v ≤ 2032) values.now }
-    requires room { (y : ℕ) → y < 64 → slice_index row.now y ≤ 2 ^ 31 }
-    ensures least { (x : ℕ) → x < 64 → slice_index result x ≡ forward_least values.now row.now x }
-    ensures growth { (x : ℕ) → x < 64 → slice_index result x ≤ slice_index row.now (first_from x) + 6096 }
-    ensures size { length result ≡ 64 }
-{
-    let mut later = [0; 64];
-    for x in 0..STATES {
-        later[x] = forward_at(values, row, x);
-    }
-    later
-}
-
 /// Fills the rows of least costs after each step.
 fn fill_table(values: &[[i32; 3]; 40], start: &[u32; 64], table: &mut [[u32; 64]; 40])
-    requires sizes { All (λ v. All (λ z. nat_abs z ≤ 2032) v) values.now }
+    requires sizes { All (λ v. All (λ z. nat_abs z ≤ 2 ^ 20) v) values.now }
     requires room { (y : ℕ) → y < 64 → slice_index start.now y ≤ 2 ^ 30 }
     ensures rows { HasLeastRows values.now start.now table.new 40 }
     ensures size { length table.new ≡ 40 }
@@ -68,17 +36,15 @@ fn start_at(s: usize) -> [u32; 64]
     ensures start { IsStartRow s result }
     ensures room { (y : ℕ) → y < 64 → slice_index result y ≤ 2 ^ 30 }
 {
-    let mut row = [0; 64];
-    for x in 0..STATES {
-        row[x] = if x == s { 0 } else { FAR };
-    }
+    let mut row = [FAR; 64];
+    row[s] = 0;
     row
 }
 
 /// Fills the table of the start state s.
 fn fill_start(values: &[[i32; 3]; 40], cost: u32, s: usize, table: &mut [[u32; 64]; 40])
     requires state { s < 64 }
-    requires sizes { All (λ v. All (λ z. nat_abs z ≤ 2032) v) values.now }
+    requires sizes { All (λ v. All (λ z. nat_abs z ≤ 2 ^ 20) v) values.now }
     requires cost { cost ≤ 2 ^ 30 }
     requires least { IsLowerBound values.now cost }
     ensures holds { TableHolds values.now cost s table.new }
@@ -89,7 +55,7 @@ fn fill_start(values: &[[i32; 3]; 40], cost: u32, s: usize, table: &mut [[u32; 6
 
 /// Fills the tables of all start states.
 fn fill_tables(values: &[[i32; 3]; 40], cost: u32, tables: &mut [[[u32; 64]; 40]])
-    requires sizes { All (λ v. All (λ z. nat_abs z ≤ 2032) v) values.now }
+    requires sizes { All (λ v. All (λ z. nat_abs z ≤ 2 ^ 20) v) values.now }
     requires cost { cost ≤ 2 ^ 30 }
     requires least { IsLowerBound values.now cost }
     requires starts { length tables.old ≡ 64 }

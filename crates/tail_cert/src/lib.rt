@@ -3,7 +3,6 @@
 //! A certificate is checked without a decoder.
 #![tactic(auto)]
 
-mod branch;
 mod certificate;
 mod checker;
 mod filling;

@@ -7,54 +7,28 @@ use Rattle.std.proofs.lemmas.List.{ext_get_or, get_or_past}
 use Rattle.std.proofs.Math.Pow.{pow_mono}
 use Rattle.finite.proofs.Sums.{total_below-within}
 use Rattle.paths.specs.Paths.{end_of, path_cost}
-use Rattle.paths.specs.Least.{IsLeastRound}
 use Rattle.paths.specs.Words.{word_number}
 use Rattle.paths.proofs.Words.{number_below, number-before, path_cost-keyed, word_bit}
 use Rattle.paths.proofs.Rounds.{ends_in_same, ends_in_other}
 use Rattle.conv_code.specs.Code.{coded, taps_0, taps_1, taps_2}
 use Rattle.conv_code.specs.Cost.{place_cost, word_cost}
-use Rattle.conv_code.proofs.Costs.{disagreement-le}
+use Rattle.conv_code.proofs.Costs.{word_cost-le}
 use Rattle.tailbite.specs.LeastWord.{IsLeastWord}
 use Rattle.finite.specs.Bits.{odd}
 use Rattle.tailbite.specs.Machine.{shift, step_cost}
 use Rattle.tailbite.proofs.Windows.{same_end, end_below}
 use Rattle.tailbite.proofs.Branches.{word_cost-path}
-use Rattle.tailbite.proofs.Rows.{key_cost}
-
--- ---- sizes
-
--- no value of a place is larger than 2 ^ 20
-record AreSmall (values : List (List ℤ)) : Type 0 where
-  pub at : (k t : ℕ) → nat_abs (get_or (get_or values k []) t (pos 0)) ≤ 2 ^ 20
-
-small_from_all : (values : List (List ℤ)) → All (λ v. All (λ z. nat_abs z ≤ 2 ^ 20) v) values → AreSmall values
-small_from_all values h = record {
-  at = λ k t. elim (cases_lt k (length values)) [
-    | inl a ↦ elim (cases_lt t (length (get_or values k []))) [
-      | inl b ↦ h k [] a t (pos 0) b
-      | inr b ↦ rw (get_or_past (get_or values k []) t (pos 0) b) (omega arith)
-    ]
-    | inr a ↦ rw (get_or_past values k [] a) (omega arith)
-  ];
-}
-
-word_cost-le : (values : List (List ℤ)) (word : List Bool) → AreSmall values → word_cost values word ≤ length values * (3 * 2 ^ 20)
-unfolding word_cost
-word_cost-le values word small = total_below-within (length values) (3 * 2 ^ 20) (place_cost values word) (λ k below.
-    let v = get_or values k [] in
-    let d0 = disagreement-le (get_or v 0 (pos 0)) (coded taps_0 word k) in
-    let d1 = disagreement-le (get_or v 1 (pos 0)) (coded taps_1 word k) in
-    let d2 = disagreement-le (get_or v 2 (pos 0)) (coded taps_2 word k) in
-    let s0 = small.at k 0 in
-    let s1 = small.at k 1 in
-    let s2 = small.at k 2 in
-    omega (arith, d0, d1, d2, s0, s1, s2))
+use Rattle.tailbite.specs.Keys.{scale, far, key_cost, IsLeastKeyBelow}
 
 -- ---- keys
 
+-- no value of a place is larger than 2 ^ 20
+abbrev AreSmall : List (List ℤ) → Type 0
+AreSmall values = All (λ v. All (λ z. nat_abs z ≤ 2 ^ 20) v) values
+
 -- the key of a word
 unfoldable key_of : List (List ℤ) → List Bool → ℕ
-key_of values word = word_cost values word * 2 ^ 64 + word_number word
+key_of values word = word_cost values word * scale + word_number word
 
 -- what a path back to its start costs is the key of its word
 path_key : (values : List (List ℤ)) (s : ℕ) (bs : List Bool) → length bs ≡ length values → 6 ≤ length values → s < 64 → end_of shift s bs ≡ s →
@@ -63,40 +37,36 @@ unfolding key_of
 path_key values s bs size long below back =
     let s_is : end_of shift 0 bs ≡ s = same_end 0 s bs (omega arith) below (omega arith) ∙ back in
     let size' : 0 + length bs ≡ length values = omega (arith, size) in
-    path_cost-keyed shift (2 ^ 64) (length values) (step_cost values) 0 s bs size' ∙
+    path_cost-keyed shift (scale) (length values) (step_cost values) 0 s bs size' ∙
     (rw (word_cost-path values bs size (omega arith), s_is) refl)
 
--- m is the least key of a path back to its start
-abbrev IsLeastKey : List (List ℤ) → ℕ → Type 0
-IsLeastKey values m = IsLeastRound shift (key_cost values) (2 ^ 100) (length values) 64 m
-
 -- no word has a smaller key
-key_least : (values : List (List ℤ)) (m : ℕ) → IsLeastKey values m → 6 ≤ length values →
+key_least : (values : List (List ℤ)) (m : ℕ) → IsLeastKeyBelow values 64 m → 6 ≤ length values →
     (other : List Bool) → length other ≡ length values → m ≤ key_of values other
 key_least values m round long other size =
     let s = end_of shift 0 other in
     let below : s < 64 = end_below 0 other (omega arith) in
     let back : end_of shift s other ≡ s = same_end s 0 other below (omega arith) (omega arith) in
     let h = round.least s other below size in
-    let free = ends_in_same (2 ^ 100) s (end_of shift s other) back in
+    let free = ends_in_same (far) s (end_of shift s other) back in
     let key = path_key values s other size long below back in
     omega (arith, h, free, key)
 
 -- the least key is that of a word
-key_reached : (values : List (List ℤ)) (m : ℕ) → IsLeastKey values m → 6 ≤ length values → length values ≤ 64 → AreSmall values →
+key_reached : (values : List (List ℤ)) (m : ℕ) → IsLeastKeyBelow values 64 m → 6 ≤ length values → length values ≤ 64 → AreSmall values →
     (word : List Bool) × (length word ≡ length values) × (key_of values word ≡ m)
 unfolding key_of
 key_reached values m round long short small =
     let (s, bs, below, size, e) = round.reached in
     elim (eqb_tells (end_of shift s bs) s) [
       | inl (t, back) ↦
-          let free = ends_in_same (2 ^ 100) s (end_of shift s bs) back in
+          let free = ends_in_same (far) s (end_of shift s bs) back in
           let key = path_key values s bs size long below back in
           (bs, size, omega (arith, e, free, key))
       | inr (f, away) ↦
           let h = key_least values m round long bs size in
-          let far = ends_in_other (2 ^ 100) s (end_of shift s bs) f in
-          let cost = word_cost-le values bs small in
+          let far = ends_in_other (far) s (end_of shift s bs) f in
+          let cost = word_cost-le (2 ^ 20) values bs small in
           let number = number_below bs in
           let power : 2 ^ length bs ≤ 2 ^ 64 = pow_mono {j = 64} (omega arith) in
           absurd (omega (arith, h, far, cost, number, power, e))
@@ -113,7 +83,7 @@ least_word values word size short h = record {
   least = λ other size'.
       let k = h other size' in
       let number = number_below other in
-      let power : 2 ^ length other ≤ 2 ^ 64 = pow_mono {j = 64} (omega arith) in
+      let power : 2 ^ length other ≤ scale = pow_mono {j = 64} (omega arith) in
       omega (arith, k, number, power);
   first = λ other size' before.
       let k = h other size' in
@@ -124,20 +94,20 @@ least_word values word size short h = record {
 -- what is read from the least key
 pub record IsDecoded (values : List (List ℤ)) (m : ℕ) (word : List Bool) : Type 0 where
   pub word_is : IsLeastWord values word
-  pub cost_is : m / 2 ^ 64 ≡ word_cost values word
-  pub small : m / 2 ^ 64 ≤ 64 * (3 * 2 ^ 20)
+  pub cost_is : m / scale ≡ word_cost values word
+  pub small : m / scale ≤ 64 * (3 * 2 ^ 20)
 
-decoded : (values : List (List ℤ)) (m : ℕ) (word : List Bool) → IsLeastKey values m →
+decoded : (values : List (List ℤ)) (m : ℕ) (word : List Bool) → IsLeastKeyBelow values 64 m →
     6 ≤ length values → length values ≤ 64 → AreSmall values → length word ≡ length values →
-    ((k : ℕ) → k < length values → get_or word k false ≡ odd (m % 2 ^ 64 / 2 ^ (length values - 1 - k))) → IsDecoded values m word
+    ((k : ℕ) → k < length values → get_or word k false ≡ odd (m % scale / 2 ^ (length values - 1 - k))) → IsDecoded values m word
 unfolding key_of
 decoded values m word round long short small size bits =
     let (w, size', key) = key_reached values m round long short small in
     let number = number_below w in
-    let power : 2 ^ length w ≤ 2 ^ 64 = pow_mono {j = 64} (omega arith) in
-    let cost = word_cost-le values w small in
-    let low : m % 2 ^ 64 ≡ word_number w = omega (arith, key, number, power) in
-    let high : m / 2 ^ 64 ≡ word_cost values w = omega (arith, key, number, power) in
+    let power : 2 ^ length w ≤ scale = pow_mono {j = 64} (omega arith) in
+    let cost = word_cost-le (2 ^ 20) values w small in
+    let low : m % scale ≡ word_number w = omega (arith, key, number, power) in
+    let high : m / scale ≡ word_cost values w = omega (arith, key, number, power) in
     let e : w ≡ word = ext_get_or false w word (omega arith) (λ k h.
     word_bit w k h ∙ rw (size', ← low) (sym (bits k (omega arith)))) in
     let least : IsLeastWord values w = least_word values w size' short
@@ -149,8 +119,8 @@ decoded values m word round long short small size bits =
     }
 
 -- the same, for an array of n places
-pub decoded_array : (n : ℕ) (values : List (List ℤ)) (m : ℕ) (word : List Bool) → length values ≡ n → IsLeastKey values m →
+pub decoded_array : (n : ℕ) (values : List (List ℤ)) (m : ℕ) (word : List Bool) → length values ≡ n → IsLeastKeyBelow values 64 m →
     6 ≤ n → n ≤ 64 → All (λ v. All (λ z. nat_abs z ≤ 2 ^ 20) v) values → length word ≡ n →
-    ((k : ℕ) → k < n → get_or word k false ≡ odd (m % 2 ^ 64 / 2 ^ (n - 1 - k))) → IsDecoded values m word
+    ((k : ℕ) → k < n → get_or word k false ≡ odd (m % scale / 2 ^ (n - 1 - k))) → IsDecoded values m word
 decoded_array n values m word e round long short small size bits =
-    decoded values m word round (rw e long) (rw e short) (small_from_all values small) (size ∙ sym e) (rw e bits)
+    decoded values m word round (rw e long) (rw e short) small (size ∙ sym e) (rw e bits)

@@ -1,5 +1,5 @@
--- Where all values speak for a word, it is the only least one.
-use Rattle.std.proofs.Common.{◌≡◌, ℕ, ◌<◌, Bool, true, false, List, [], length, get_or, ℤ, pos, refl, sym, ◌∙◌, arith, ap}
+-- The least word is one; where all values speak for a word, it is that.
+use Rattle.std.proofs.Common.{◌≡◌, ℕ, ◌<◌, inl, inr, Bool, true, false, List, [], length, get_or, ℤ, pos, refl, sym, ◌∙◌, arith, ap}
 use Rattle.finite.specs.Sums.{total_below}
 use Rattle.finite.specs.Lists.{values_below}
 use Rattle.finite.proofs.Lists.{values_below_same}
@@ -7,6 +7,8 @@ use Rattle.finite.proofs.Sums.{total_zero, terms_zero}
 use Rattle.conv_code.specs.Code.{coded, coded_bits, coded_word, taps_0, taps_1, taps_2}
 use Rattle.conv_code.specs.Cost.{disagreement, place_cost, word_cost}
 use Rattle.conv_code.proofs.OneToOne.{one_to_one}
+use Rattle.paths.proofs.Words.{either_before}
+use Rattle.tailbite.specs.Laws.{IsOneWord}
 use Rattle.tailbite.specs.Clean.{SpeaksFor, Speaks, IsOnlyLeast}
 
 agree : (z : ℤ) (a b : Bool) → SpeaksFor z b → disagreement z a ≡ 0 → a ≡ b
@@ -50,3 +52,14 @@ only_least values word least long size speaks is =
     let below : k < length values = omega (arith, is.size) in
     same_place values least word speaks k below (terms_zero (length values) (place_cost values least) zero_least k below))
     ∙ ap (λ n. values_below n (coded_bits word)) same_size)
+
+-- there is only one least word
+pub one_word : IsOneWord
+one_word values u w hu hw =
+    elim (either_before u w (hu.size ∙ sym hw.size)) [
+      | inl same ↦ same
+      | inr other ↦ elim other [
+        | inl before ↦ absurd (let less = hw.first u hu.size before in let least = hu.least w hw.size in omega (arith, less, least))
+        | inr before ↦ absurd (let less = hu.first w hw.size before in let least = hw.least u hu.size in omega (arith, less, least))
+      ]
+    ]

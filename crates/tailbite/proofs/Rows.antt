@@ -2,28 +2,26 @@
 use Rattle.std.proofs.Common.{◌≡◌, ℕ, suc, ◌+◌, ◌-◌, ◌*◌, ◌^◌, ◌<◌, ◌≤◌, Bool, true, false, List, [], length, get_or, ℤ, refl, ap, arith}
 use Rattle.std.proofs.Math.Nat.{pow-suc}
 use Rattle.paths.specs.Paths.{best}
-use Rattle.paths.specs.Least.{IsLeastFrom, ends_in}
-use Rattle.paths.specs.Words.{key_step, keyed}
+use Rattle.paths.specs.Least.{ends_in}
+use Rattle.paths.specs.Rows.{least_out}
+use Rattle.paths.specs.Words.{key_step}
 use Rattle.paths.proofs.Best.{best_is_least}
 use Rattle.paths.proofs.Rounds.{ends_in-le}
-use Rattle.tailbite.specs.Machine.{branch_cost, shift, step_cost, step_least}
+use Rattle.tailbite.specs.Machine.{branch_cost, shift}
+use Rattle.tailbite.specs.Keys.{scale, far, key_cost, IsLeastKeyFrom}
 use Rattle.tailbite.proofs.Windows.{shift_below}
-
--- the costs of the steps as keys
-abbrev pub key_cost : List (List ℤ) → ℕ → ℕ → Bool → ℕ
-key_cost values = keyed (2 ^ 64) (length values) (step_cost values)
 
 -- the row has the least keys of the places from i on
 pub record IsRowAt (values : List (List ℤ)) (start : ℕ) (row : List ℕ) (bit i : ℕ) : Type 0 where
   pub size : length row ≡ 64
   pub place : i ≤ length values
   pub weight : bit ≡ 2 ^ (length values - i)
-  pub least : (x : ℕ) → x < 64 → get_or row x 0 ≡ best shift (key_cost values) (ends_in (2 ^ 100) start) i (length values - i) x
-  pub room : (x : ℕ) → x < 64 → get_or row x 0 ≤ 2 ^ 100 + (length values - i) * 2 ^ 86
+  pub least : (x : ℕ) → x < 64 → get_or row x 0 ≡ best shift (key_cost values) (ends_in far start) i (length values - i) x
+  pub room : (x : ℕ) → x < 64 → get_or row x 0 ≤ far + (length values - i) * 2 ^ 86
 
 -- at the end nothing is left
 pub row_end : (values : List (List ℤ)) (start : ℕ) (row : List ℕ) → length row ≡ 64 →
-    ((x : ℕ) → x < 64 → get_or row x 0 ≡ ends_in (2 ^ 100) start x) → IsRowAt values start row 1 (length values)
+    ((x : ℕ) → x < 64 → get_or row x 0 ≡ ends_in far start x) → IsRowAt values start row 1 (length values)
 row_end values start row size h =
     let none : length values - length values ≡ 0 = omega arith in
     record {
@@ -31,13 +29,13 @@ row_end values start row size h =
       place = omega arith;
       weight = rw none refl;
       least = λ x below. rw none (h x below);
-      room = λ x below. let k = h x below in let k' = ends_in-le (2 ^ 100) start x in omega (arith, k, k');
+      room = λ x below. let k = h x below in let k' = ends_in-le far start x in omega (arith, k, k');
     }
 
 -- one place back
 pub row_step : (values : List (List ℤ)) (start : ℕ) (row earlier : List ℕ) (bit i : ℕ) → IsRowAt values start row bit (suc i) →
     length earlier ≡ 64 →
-    ((x : ℕ) → x < 64 → get_or earlier x 0 ≡ step_least (key_step (2 ^ 64) bit (branch_cost (get_or values i []))) row x) →
+    ((x : ℕ) → x < 64 → get_or earlier x 0 ≡ least_out shift (key_step scale bit (branch_cost (get_or values i []))) row x) →
     ((x : ℕ) → x < 64 → get_or earlier x 0 ≤ get_or row (shift x false) 0 + 2 ^ 86) →
     IsRowAt values start earlier (bit * 2) i
 row_step values start row earlier bit i known size step growth =
@@ -58,7 +56,7 @@ row_step values start row earlier bit i known size step growth =
 
 -- at the start the row has the least key of a path through all places
 pub row_start : (values : List (List ℤ)) (start : ℕ) (row : List ℕ) (bit i : ℕ) → IsRowAt values start row bit i → i ≤ 0 →
-    start < 64 → IsLeastFrom shift (key_cost values) (ends_in (2 ^ 100) start) 0 (length values) start (get_or row start 0)
+    start < 64 → IsLeastKeyFrom values start (get_or row start 0)
 row_start values start row bit i known done below =
     let e : i ≡ 0 = omega arith in
     let known' = rw e at known in

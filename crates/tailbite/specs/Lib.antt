@@ -1,3 +1,5 @@
 pub mod LeastWord
-pub mod Machine
+pub mod Laws
 pub mod Clean
+pub mod Machine
+pub mod Keys

@@ -1,6 +1,7 @@
 -- The encoder as a machine of 64 states. A state holds the last six bits, the newest with weight 32 (TS 36.212 section 5.1.3.1).
-use Rattle.std.specs.Prelude.{ℕ, zero, suc, ◌+◌, ◌-◌, ◌/◌, ◌%◌, ◌^◌, min, Bool, true, false, cond, List, [], map, slice_index, slice_index_or, nat_eq, ℤ}
+use Rattle.std.specs.Prelude.{ℕ, zero, suc, ◌+◌, ◌-◌, ◌*◌, ◌/◌, ◌%◌, ◌^◌, Bool, true, false, cond, List, [], map, slice_index_or, ℤ}
 use Rattle.finite.specs.Bits.{odd}
+use Rattle.paths.specs.Rows.{least_in}
 use Rattle.conv_code.specs.Code.{parity, taps_0, taps_1, taps_2}
 use Rattle.conv_code.specs.Cost.{triple_cost}
 
@@ -22,6 +23,16 @@ branch_cost v x b =
 abbrev pub step_cost : List (List ℤ) → ℕ → ℕ → Bool → ℕ
 step_cost values k = branch_cost (slice_index_or values k [])
 
--- the least cost from x, where the row has the least cost from each state one step on
-abbrev pub step_least : (ℕ → Bool → ℕ) → List ℕ → ℕ → ℕ
-step_least edge row x = min (edge x false + slice_index row (shift x false)) (edge x true + slice_index row (shift x true))
+-- the two states from which a step leads to x, and the bit that does
+abbrev pub first_from : ℕ → ℕ
+first_from x = 2 * (x % 32)
+
+abbrev pub second_from : ℕ → ℕ
+second_from x = 2 * (x % 32) + 1
+
+abbrev pub bit_to : ℕ → Bool
+bit_to x = odd (x / 32)
+
+-- the least cost to x, where the row has the least cost to each state one step before
+abbrev pub forward_least : List ℤ → List ℕ → ℕ → ℕ
+forward_least v row x = least_in (branch_cost v) row (first_from x) (bit_to x) (second_from x) (bit_to x)

@@ -1,15 +1,17 @@
 //! The least word of the tail-biting code: of all words of 6 to 64 bits the one whose coded bits the
 //! received values speak against least, and the first of equals in lexicographic order.
 //! The search goes over the 64 states of the encoder, once for each state that a word may start and end in.
+//! Its steps stand here too: what one costs, the states that it joins, and a row of least costs one step on.
 #![tactic(auto)]
 
-mod branch;
-mod clean;
+mod laws;
 mod search;
+mod steps;
 mod trellis;
 
-pub use clean::values_tell_the_word;
+pub use laws::{one_least_word, values_tell_the_word};
 pub use search::least;
+pub use steps::{before, branch, forward_row, next};
 pub use trellis::Trellis;
 
 #[cfg(test)]

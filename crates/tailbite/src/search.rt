@@ -1,12 +1,17 @@
+//! The search for the least key, over the start states and back over the places. A key is the cost of a path times
+//! 2^64 plus the number of its word: it tells words of equal cost apart, and the least key is that of the least word.
+
 ghost use Rattle.std.specs.Prelude.{◌≡◌, ℕ, ◌+◌, ◌-◌, ◌*◌, ◌/◌, ◌^◌, ◌<◌, ◌≤◌, All, false, length, nat_abs, slice_index, slice_index_or};
-ghost use Rattle.paths.specs.Least.{IsLeastFrom, IsLeastRound, ends_in};
-ghost use Rattle.paths.specs.Words.{key_step, keyed};
+ghost use Rattle.paths.specs.Least.{ends_in};
+ghost use Rattle.paths.specs.Rows.{least_out};
+ghost use Rattle.paths.specs.Words.{key_step};
 ghost use Rattle.conv_code.specs.Cost.{word_cost};
 ghost use Rattle.finite.specs.Bits.{odd};
-ghost use Rattle.tailbite.specs.Machine.{branch_cost, shift, step_cost, step_least};
+ghost use Rattle.tailbite.specs.Machine.{branch_cost, shift};
+ghost use Rattle.tailbite.specs.Keys.{IsLeastKeyBelow, IsLeastKeyFrom, far, scale};
 ghost use Rattle.tailbite.specs.LeastWord.{IsLeastWord};
 
-use crate::branch::{branch, next};
+use crate::steps::{branch, next};
 use crate::trellis::Trellis;
 use cs_bits::Bits;
 
@@ -25,7 +30,7 @@ fn least_at(values: &[i32; 3], bit: u128, row: &[u128], x: usize) -> u128
     requires sizes { All (λ v. nat_abs v ≤ 2 ^ 20) values.now }
     requires bit { bit < 2 ^ 64 }
     requires room { (x : ℕ) → x < 64 → slice_index row.now x ≤ 2 ^ 120 }
-    ensures least { result ≡ step_least (key_step (2 ^ 64) bit (branch_cost values.now)) row.now x }
+    ensures least { result ≡ least_out shift (key_step scale bit (branch_cost values.now)) row.now x }
     ensures growth { result ≤ slice_index row.now (shift x false) + 2 ^ 86 }
 {
     let zero = branch(values, x, false) as u128 * SCALE + row[next(x, false)];
@@ -40,23 +45,24 @@ fn step_back(values: &[i32; 3], bit: u128, row: &[u128], earlier: &mut [u128])
     requires sizes { All (λ v. nat_abs v ≤ 2 ^ 20) values.now }
     requires bit { bit < 2 ^ 64 }
     requires room { (x : ℕ) → x < 64 → slice_index row.now x ≤ 2 ^ 120 }
-    ensures row { (x : ℕ) → x < 64 → slice_index earlier.new x ≡ step_least (key_step (2 ^ 64) bit (branch_cost values.now)) row.now x }
-    ensures growth { (x : ℕ) → x < 64 → slice_index earlier.new x ≤ slice_index row.now (shift x false) + 2 ^ 86 }
+    ensures row { (x : ℕ) → x < 64 →
+        slice_index earlier.new x ≡ least_out shift (key_step scale bit (branch_cost values.now)) row.now x }
+    ensures growth { (x : ℕ) → x < 64 →
+        slice_index earlier.new x ≤ slice_index row.now (shift x false) + 2 ^ 86 }
 {
     for x in 0..STATES {
         earlier[x] = least_at(values, bit, row, x);
     }
 }
 
-/// Writes the row after the last place: the start state is free.
+/// Writes the row after the last place: only an end in the start state is free.
 fn fill_ends(start: usize, row: &mut [u128])
     requires start { start < 64 }
     requires states { length row.old ≡ 64 }
-    ensures { (x : ℕ) → x < 64 → slice_index row.new x ≡ ends_in (2 ^ 100) start x }
+    ensures { (x : ℕ) → x < 64 → slice_index row.new x ≡ ends_in far start x }
 {
-    for x in 0..STATES {
-        row[x] = if x == start { 0 } else { FAR };
-    }
+    row.fill(FAR);
+    row[start] = 0;
 }
 
 /// The least key of a path through all places from the start state, which is free only if it ends there.
@@ -66,7 +72,7 @@ fn least_key(values: &[[i32; 3]], start: usize, row: &mut [u128], earlier: &mut 
     requires start { start < 64 }
     requires states { length row.old ≡ 64 }
     requires earlier { length earlier.old ≡ 64 }
-    ensures { IsLeastFrom shift (keyed (2 ^ 64) (length values.now) (step_cost values.now)) (ends_in (2 ^ 100) start) 0 (length values.now) start result }
+    ensures { IsLeastKeyFrom values.now start result }
 {
     fill_ends(start, row);
     let mut bit: u128 = 1;
@@ -84,7 +90,7 @@ fn least_key(values: &[[i32; 3]], start: usize, row: &mut [u128], earlier: &mut 
 fn least_round(values: &[[i32; 3]], work: &mut Trellis) -> u128
     requires places { length values.now ≤ 64 }
     requires sizes { All (λ v. All (λ z. nat_abs z ≤ 2 ^ 20) v) values.now }
-    ensures { IsLeastRound shift (keyed (2 ^ 64) (length values.now) (step_cost values.now)) (2 ^ 100) (length values.now) 64 result }
+    ensures { IsLeastKeyBelow values.now 64 result }
 {
     let mut least = least_key(values, 0, &mut work.row, &mut work.earlier);
     for start in 1..STATES {

@@ -4,4 +4,4 @@ use Rattle.conv_code.specs.Cost.{place_cost}
 use Rattle.tail_cert.proofs.checker.cost_of.Given as goal
 
 abbrev pub invariant-loop-k : goal.invariant-loop-k
-invariant-loop-k l = (l.cost ≡ total_below l.k (place_cost l.values l.word)) × (l.cost ≤ l.k * 6096)
+invariant-loop-k l = (l.cost ≡ total_below l.k (place_cost l.values l.word)) × (l.cost ≤ l.k * 3145728)

@@ -1,16 +1,16 @@
 use Rattle.std.proofs.Common.{◌≡◌, length, [], ◌∙◌, arith, take, drop, ◌++◌}
 use Rattle.std.proofs.lemmas.List.{get_or_default, take_at}
-use Rattle.tail_cert.proofs.Accept.{word_cost-within}
+use Rattle.conv_code.proofs.Costs.{word_cost-le}
 use Rattle.tail_cert.proofs.filling.fill.Goals as goal
 
 pub fill_tables-requires-clause-cost : goal.fill_tables-requires-clause-cost
 fill_tables-requires-clause-cost c =
-    let h = word_cost-within c.args.values.now c.least-word.result.0 c.requires in
+    let h = word_cost-le 2032 c.args.values.now c.least-word.result.0 c.requires in
     omega (arith, h, c.least-word.ensures.cost, c.told-values)
 
 pub invariant_of-certificate : goal.invariant_of-certificate
 invariant_of-certificate c =
-    let h = word_cost-within c.args.values.now c.least-word.result.0 c.requires in
+    let h = word_cost-le 2032 c.args.values.now c.least-word.result.0 c.requires in
     let e : c.copy_of-copied.result ≡ c.args.values.now = c.copy_of-copied.ensures.same in
     let size : length c.copy_of-copied.result ≡ 40 = rw e c.told-values in
     let kept : take c.certificate.inside.tables.len (c.fill_tables.new.tables ++ drop (length c.fill_tables.new.tables) c.certificate.inside.tables.items) ≡ c.fill_tables.new.tables =

@@ -1,0 +1,94 @@
+//! The steps of the encoder, as a machine of 64 states, and what they cost.
+
+ghost use Rattle.std.specs.Prelude.{◌≡◌, ℕ, ◌+◌, ◌*◌, ◌^◌, ◌<◌, ◌≤◌, ◌∷◌, [], All, length, map, nat_abs, slice_index};
+ghost use Rattle.conv_code.specs.Code.{parity, taps_0, taps_1, taps_2};
+ghost use Rattle.tailbite.specs.Machine.{bit_to, branch_cost, first_from, forward_least, second_from, shift, window_bit};
+
+use conv_code::against;
+
+const STATES: usize = 64;
+
+/// The three coded bits of a step from state x by the bit b.
+fn coded_bits(x: usize, b: bool) -> [bool; 3]
+    requires { x < 64 }
+    ensures { result ≡ parity (map (window_bit x b) taps_0) ∷ parity (map (window_bit x b) taps_1)
+        ∷ parity (map (window_bit x b) taps_2) ∷ [] }
+{
+    let one = x / 32 % 2 == 1;
+    let two = x / 16 % 2 == 1;
+    let three = x / 8 % 2 == 1;
+    let four = x / 4 % 2 == 1;
+    let five = x / 2 % 2 == 1;
+    let six = x % 2 == 1;
+    [
+        b ^ (two ^ (three ^ (five ^ six))),
+        b ^ (one ^ (two ^ (three ^ six))),
+        b ^ (one ^ (two ^ (four ^ six))),
+    ]
+}
+
+/// What the three values of a place speak against the coded bits of a step (own): the step from state x,
+/// which is below 64 and holds the last six bits, the newest with weight 32, by the bit b (TS 36.212 section
+/// 5.1.3.1). The values are at most 2^20 in size.
+pub fn branch(values: &[i32; 3], x: usize, b: bool) -> u32
+    requires state { x < 64 }
+    requires sizes { All (λ value. nat_abs value ≤ 2 ^ 20) values.now }
+    ensures cost { result ≡ branch_cost values.now x b }
+    ensures bound { (n : ℕ) → All (λ value. nat_abs value ≤ n) values.now → result ≤ 3 * n }
+{
+    against(values, &coded_bits(x, b))
+}
+
+/// The state after the bit b, from state x, which is below 64; so is the answer.
+pub fn next(x: usize, b: bool) -> usize
+    requires { x < 64 }
+    ensures next { result ≡ shift x b }
+    ensures bound { result < 64 }
+{
+    x / 2 + if b { 32 } else { 0 }
+}
+
+/// The two states from which a step leads to state x, which is below 64, and the bit that does.
+pub fn before(x: usize) -> (usize, usize, bool)
+    requires { x < 64 }
+    ensures first { result.0 ≡ first_from x }
+    ensures second { result.1 ≡ second_from x }
+    ensures bit { result.2 ≡ bit_to x }
+    ensures bound { result.1 < 64 }
+{
+    let first = 2 * (x % 32);
+    (first, first + 1, x / 32 == 1)
+}
+
+/// The least cost to the state x, where the row has that to each state one step before.
+fn forward_at(values: &[i32; 3], row: &[u32; 64], x: usize) -> u32
+    requires state { x < 64 }
+    requires sizes { All (λ value. nat_abs value ≤ 2 ^ 20) values.now }
+    requires room { (y : ℕ) → y < 64 → slice_index row.now y ≤ 2 ^ 31 }
+    ensures least { result ≡ forward_least values.now row.now x }
+    ensures growth { (n : ℕ) → All (λ value. nat_abs value ≤ n) values.now →
+        result ≤ slice_index row.now (first_from x) + 3 * n }
+{
+    let (first, second, newest) = before(x);
+    let by_first = row[first] + branch(values, first, newest);
+    let by_second = row[second] + branch(values, second, newest);
+    by_first.min(by_second)
+}
+
+/// The row of least costs to each of the 64 states, one step on: for each state the lesser of the two costs
+/// by which a step leads there, from a row of costs one step before. These are at most 2^31, and the three
+/// values of the step's place at most 2^20 in size.
+pub fn forward_row(values: &[i32; 3], row: &[u32; 64]) -> [u32; 64]
+    requires sizes { All (λ value. nat_abs value ≤ 2 ^ 20) values.now }
+    requires room { (y : ℕ) → y < 64 → slice_index row.now y ≤ 2 ^ 31 }
+    ensures least { (x : ℕ) → x < 64 → slice_index result x ≡ forward_least values.now row.now x }
+    ensures growth { (n : ℕ) → All (λ value. nat_abs value ≤ n) values.now →
+        (x : ℕ) → x < 64 → slice_index result x ≤ slice_index row.now (first_from x) + 3 * n }
+    ensures size { length result ≡ 64 }
+{
+    let mut later = [0; STATES];
+    for x in 0..STATES {
+        later[x] = forward_at(values, row, x);
+    }
+    later
+}
