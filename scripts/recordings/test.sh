@@ -2,9 +2,9 @@
 # test.sh [PROGRAM]
 #
 # Tries each recipe of docs/RECORDINGS.md that a machine without a radio can: writes what a radio would have written of a
-# sent cell, makes a recording of it, and looks for the cell in its list. Takes about half a minute. PROGRAM is
-# lte_cli, crates/lte_cli/out/lte_cli where it is left out. A recipe whose tool is not there is left out, and said so.
-# The status is the number of recipes that failed.
+# sent cell, makes a recording of it, and looks for the cell in its list; and the two programs that were written from the
+# documents. Takes about half a minute. PROGRAM is lte_cli, crates/lte_cli/out/lte_cli where it is left out. A recipe
+# whose tool is not there is left out, and said so. The status is the number of recipes that failed.
 set -u
 here=$(cd "$(dirname "$0")" && pwd)
 program=$(realpath "${1:-$here/../../crates/lte_cli/out/lte_cli}")
@@ -87,6 +87,8 @@ fi
 "$program" certify < sent.ci16 > certificate
 "$program" check < certificate > answers
 "$here/../check_certificates.py" < certificate | says 'check_certificates.py answers as check does' "$(cat answers)"
+head -c 384000 sent.ci16 > five
+"$here/../second_search.py" < five | says 'second_search.py lists what search lists' "$("$program" search < five)"
 printf '\377' | dd of=certificate bs=1 seek=244 conv=notrunc status=none
 "$program" check < certificate | says 'another word is refused' 'certificates 1
 0 no'
