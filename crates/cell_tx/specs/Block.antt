@@ -6,21 +6,14 @@ use Rattle.lte_types.specs.declared.duration.Duration.{Duration}
 use Rattle.lte_types.specs.declared.duration.Duration.TheVariants.{Normal, Extended}
 use Rattle.lte_types.specs.declared.resource.Resource.{Resource}
 use Rattle.lte_types.specs.declared.resource.Resource.TheVariants.{OneSixth, Half, One, Two}
-use Rattle.cs_bits.specs.Polynomial.{crc16_of}
+use Rattle.cs_bits.specs.Numbers.{bits_of}
+use Rattle.cs_bits.specs.Checks.{with_check_16}
 use Rattle.conv_code.specs.Code.{coded_word}
 use Rattle.conv_code.specs.Reading.{bit_at_place, place_of}
 use Rattle.finite.specs.Bits.{xor}
 use Rattle.gold.specs.Gold.{gold_bit}
 use Rattle.crs.specs.Qpsk.{point}
 use Rattle.cell_tx.specs.declared.cell.CellPlan.{CellPlan}
-
--- bit i of the width low bits of a number, the highest first
-abbrev pub bit_of : ℕ → ℕ → ℕ → Bool
-bit_of width number i = nat_eq (number / 2 ^ (width - 1 - i) % 2) 1
-
--- these bits
-unfoldable pub bits_of : ℕ → ℕ → List Bool
-bits_of width number = values_below width (bit_of width number)
 
 -- the codes of phich-Duration and phich-Resource (TS 36.331 section 6.3.2, PHICH-Config)
 abbrev pub duration_code : Duration → ℕ
@@ -42,7 +35,7 @@ block_bits plan sfn =
 
 -- the block and its check, which has the mask 0000 of one antenna port (TS 36.212 section 5.3.1.1)
 unfoldable pub broadcast_word : CellPlan → ℕ → List Bool
-broadcast_word plan sfn = block_bits plan sfn ++ bits_of 16 (crc16_of (block_bits plan sfn))
+broadcast_word plan sfn = with_check_16 0 (block_bits plan sfn)
 
 -- bit n of the coded and matched bits of a word, which are repeated without end, scrambled by a cell's identity (TS 36.212 sections
 -- 5.3.1.2 and 5.3.1.3, TS 36.211 section 6.6.1)

@@ -5,12 +5,13 @@ ghost use Rattle.finite.specs.Lists.{values_below};
 ghost use Rattle.finite.specs.Bits.{xor};
 ghost use Rattle.gold.specs.Gold.{gold_bits};
 ghost use Rattle.conv_code.specs.Reading.{bit_at_place, place_of};
-ghost use Rattle.cell_tx.specs.Block.{bits_of, duration_code, resource_code, broadcast_word, broadcast_point};
+ghost use Rattle.cs_bits.specs.Numbers.{bits_of};
+ghost use Rattle.cell_tx.specs.Block.{duration_code, resource_code, broadcast_word, broadcast_point};
 
 use crate::Cell;
 use conv_code::{encode, match_out};
 use crs::point;
-use cs_bits::{Bits, crc16};
+use cs_bits::{Bits, crc16, put_number};
 use cs_num::Cpx;
 use lte_types::{CellId, Duration, Resource, Sfn};
 
@@ -42,9 +43,7 @@ fn put_bits(bits: &mut [bool; 40], first: usize, width: usize, number: u16)
     requires width { width ≤ 16 }
     ensures { take (first + width) bits.new ≡ take first bits.old ++ bits_of width number }
 {
-    for i in 0..width {
-        bits[first + i] = number >> (width - 1 - i) & 1 == 1;
-    }
+    put_number(number as u64, &mut bits[first..first + width]);
 }
 
 // The master block with its check.

@@ -12,7 +12,8 @@ use Rattle.gold.specs.Gold.{gold_bit}
 use Rattle.conv_code.specs.Code.{coded, coded_word, taps_0}
 use Rattle.conv_code.specs.Reading.{bit_at_place, place_of, summed}
 use Rattle.conv_code.specs.Cost.{word_cost}
-use Rattle.tailbite.specs.Clean.{SpeaksFor, Speaks}
+use Rattle.cs_bits.proofs.Signs.{speaks_with_size, supports-less}
+use Rattle.tailbite.specs.Clean.{Speaks}
 use Rattle.grid_map.specs.declared.Place.{Place}
 use Rattle.grid_map.specs.Broadcast.{pbch_place, is_pbch}
 use Rattle.grid_map.proofs.Points.{places_inside}
@@ -20,7 +21,8 @@ use Rattle.soft_bits.specs.Soft.{SeenSlot, soft_values}
 use Rattle.pbch.specs.Values.{seen_value, value, frame_values, coded_values}
 use Rattle.pbch.specs.Master.{total}
 use Rattle.cell_tx.specs.Block.{scrambled_bit}
-use Rattle.clean_air.specs.Values.{Supports, SupportBoth}
+use Rattle.cs_bits.specs.Signs.{Supports}
+use Rattle.clean_air.specs.Values.{SupportBoth}
 use Rattle.clean_air.specs.Words.{SpeakInOrder}
 use Rattle.clean_air.specs.Broadcast.{SpeaksOfWord, SentWordIsOnly, SentWordIsTold, ReceivedSlotSpeaks}
 use Rattle.clean_air.proofs.SoftValues.{received_values_support_bits}
@@ -67,17 +69,11 @@ sent_word_is_only slot phase word speaks =
 
 -- ---- the master
 
--- a value that speaks for a bit is not 0
-some_size : (z : ℤ) (bit : Bool) → SpeaksFor z bit → 1 ≤ nat_abs z
-some_size (pos n) false s = let d = s.dear in omega (arith, d)
-some_size (pos n) true s = let d = s.dear in omega (arith, d)
-some_size (negsuc n) bit s = omega arith
-
 heard : (values : List (List ℤ)) (word : List Bool) → length values ≡ 40 → Speaks values word → 0 < total values
 unfolding total
 heard values word size speaks =
     total_some 40 0 (λ k. total_below 3 (λ t. nat_abs (sum_at values k t))) (omega arith)
-    (total_some 3 0 (λ t. nat_abs (sum_at values 0 t)) (omega arith) (some_size (sum_at values 0 0) (coded taps_0 word 0) (speaks.place 0 (omega (arith, size))).first))
+    (total_some 3 0 (λ t. nat_abs (sum_at values 0 t)) (omega arith) (speaks_with_size (sum_at values 0 0) (coded taps_0 word 0) (speaks.place 0 (omega (arith, size))).first))
 
 pub sent_word_is_told : SentWordIsTold
 sent_word_is_told slot phase ports word speaks passes width =
@@ -106,10 +102,6 @@ in_slot identity i l = tells (pbch_place identity i) (identity % 3) (places_insi
     tells : (p : Place) (shift : ℕ) → (nat_le 7 p.symbol && nat_lt p.symbol 11 && nat_lt p.k 72 && not (nat_lt p.symbol 9 && nat_eq (p.k % 3) shift)) ≡ true → IsInSlot p
     tells p shift e = record { symbol = grind (arith, nat_tests); k = grind (arith, nat_tests) }
 
-loud_enough : (bit : Bool) (z : ℤ) → Supports 8 bit z → Supports 1 bit z
-loud_enough false z h = omega (arith, ints)
-loud_enough true z h = omega (arith, ints)
-
 even_or_odd : (i : ℕ) → ((i % 2 ≡ 0) × (2 * (i / 2) ≡ i)) ⊎ ((i % 2 ≡ 1) × (2 * (i / 2) + 1 ≡ i))
 even_or_odd i = elim (cases_lt (i % 2) 1) [
   | inl h ↦ inl (omega arith, omega arith)
@@ -122,9 +114,9 @@ one_value : (slot : SeenSlot) (i : ℕ) (bit : ℕ → Bool) →
     Supports 1 (bit i) (seen_value slot i)
 one_value slot i bit both = elim (even_or_odd i) [
   | inl (place, index) ↦ subst (λ (n : ℕ). Supports 1 (bit i) (get_or values n (pos 0))) (sym place)
-      (subst (λ (n : ℕ). Supports 1 (bit n) (get_or values 0 (pos 0))) index (loud_enough (bit (2 * (i / 2))) (get_or values 0 (pos 0)) both.re))
+      (subst (λ (n : ℕ). Supports 1 (bit n) (get_or values 0 (pos 0))) index (supports-less 1 8 (bit (2 * (i / 2))) (get_or values 0 (pos 0)) (omega arith) both.re))
   | inr (place, index) ↦ subst (λ (n : ℕ). Supports 1 (bit i) (get_or values n (pos 0))) (sym place)
-      (subst (λ (n : ℕ). Supports 1 (bit n) (get_or values 1 (pos 0))) index (loud_enough (bit (2 * (i / 2) + 1)) (get_or values 1 (pos 0)) both.im))
+      (subst (λ (n : ℕ). Supports 1 (bit n) (get_or values 1 (pos 0))) index (supports-less 1 8 (bit (2 * (i / 2) + 1)) (get_or values 1 (pos 0)) (omega arith) both.im))
 ]
   where
     values : List ℤ

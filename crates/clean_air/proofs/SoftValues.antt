@@ -22,7 +22,8 @@ use Rattle.crs.specs.Reference.{is_reference}
 use Rattle.observe.specs.Seen.{seen, seen_symbol}
 use Rattle.soft_bits.specs.Soft.{SeenSlot, seen_at, pilot_symbol, pilot_subcarrier, pilot_seen, pilot_sent, pilot_energy, channel, turned_back, soft_value, soft_values}
 use Rattle.budget.specs.Received.{IsSeenAs}
-use Rattle.clean_air.specs.Values.{Supports, ArePilotsSeen, IsSlotReceived, ValuesSupportBits, ReceivedValuesSupportBits}
+use Rattle.cs_bits.specs.Signs.{Supports}
+use Rattle.clean_air.specs.Values.{ArePilotsSeen, IsSlotReceived, ValuesSupportBits, ReceivedValuesSupportBits}
 use Rattle.budget.proofs.Deviations.{deviation, seen_is, deviation-sized}
 use Rattle.budget.proofs.Near.{IsNear}
 use Rattle.clean_air.proofs.Estimates.{sent-size, channel-near}

@@ -14,9 +14,11 @@ use Rattle.conv_code.specs.Reading.{Place, bit_at_place, place_of, is_at, summed
 use Rattle.conv_code.specs.Cost.{place_cost, word_cost}
 use Rattle.conv_code.proofs.OneToOne.{one_to_one}
 use Rattle.conv_code.proofs.Places.{permuting}
-use Rattle.tailbite.specs.Clean.{SpeaksFor, Speaks}
+use Rattle.cs_bits.specs.Signs.{SpeaksFor}
+use Rattle.cs_bits.proofs.Signs.{supports-speaks, supports-less}
+use Rattle.tailbite.specs.Clean.{Speaks}
 use Rattle.tailbite.proofs.Only.{free_place, same_place}
-use Rattle.clean_air.specs.Values.{Supports}
+use Rattle.cs_bits.specs.Signs.{Supports}
 use Rattle.clean_air.specs.Words.{FourSpeakTogether, DescramblingKeeps, SpeakInOrder, SumsSpeak, SpokenWordIsOnly}
 
 -- ---- single values
@@ -31,46 +33,31 @@ descrambling_keeps least true false value h = h
 descrambling_keeps least false true value h = omega (arith, ints)
 descrambling_keeps least true true value h = omega (arith, ints)
 
-speaks_for : (bit : Bool) (z : ℤ) → Supports 1 bit z → SpeaksFor z bit
-speaks_for false (pos n) h = record { free = refl; dear = omega (arith, ints) }
-speaks_for false (negsuc n) h = absurd (omega (arith, ints))
-speaks_for true (pos n) h = absurd (omega (arith, ints))
-speaks_for true (negsuc n) h = record { free = refl; dear = omega arith }
-
 -- ---- sums
 
--- a value does not speak against a bit
-abbrev Allows : Bool → ℤ → Type 0
-Allows false z = pos 0 ≤ℤ z
-Allows true z = z ≤ℤ pos 0
-
-allows_nothing : (bit : Bool) → Allows bit (pos 0)
+allows_nothing : (bit : Bool) → Supports 0 bit (pos 0)
 allows_nothing false = omega (arith, ints)
 allows_nothing true = omega (arith, ints)
 
-allows : (bit : Bool) (z : ℤ) → Supports 1 bit z → Allows bit z
-allows false z h = omega (arith, ints)
-allows true z h = omega (arith, ints)
-
-allows-plus : (bit : Bool) (a b : ℤ) → Allows bit a → Allows bit b → Allows bit (a +ℤ b)
+allows-plus : (bit : Bool) (a b : ℤ) → Supports 0 bit a → Supports 0 bit b → Supports 0 bit (a +ℤ b)
 allows-plus false a b p q = omega (arith, ints)
 allows-plus true a b p q = omega (arith, ints)
 
-supports-first : (bit : Bool) (a b : ℤ) → Supports 1 bit a → Allows bit b → Supports 1 bit (a +ℤ b)
+supports-first : (bit : Bool) (a b : ℤ) → Supports 1 bit a → Supports 0 bit b → Supports 1 bit (a +ℤ b)
 supports-first false a b p q = omega (arith, ints)
 supports-first true a b p q = omega (arith, ints)
 
-supports-second : (bit : Bool) (a b : ℤ) → Allows bit a → Supports 1 bit b → Supports 1 bit (a +ℤ b)
+supports-second : (bit : Bool) (a b : ℤ) → Supports 0 bit a → Supports 1 bit b → Supports 1 bit (a +ℤ b)
 supports-second false a b p q = omega (arith, ints)
 supports-second true a b p q = omega (arith, ints)
 
-sum-allows : (bit : Bool) (n : ℕ) (f : ℕ → ℤ) → ((k : ℕ) → k < n → Allows bit (f k)) → Allows bit (sum_below n f)
+sum-allows : (bit : Bool) (n : ℕ) (f : ℕ → ℤ) → ((k : ℕ) → k < n → Supports 0 bit (f k)) → Supports 0 bit (sum_below n f)
 unfolding sum_below
 sum-allows bit zero f h = allows_nothing bit
 sum-allows bit (suc n) f h = allows-plus bit (sum_below n f) (f n) (sum-allows bit n f (λ k l. h k (omega arith))) (h n (omega arith))
 
 -- a sum in which none speaks against a bit and one speaks for it
-sum-supports : (bit : Bool) (n j : ℕ) (f : ℕ → ℤ) → ((k : ℕ) → k < n → Allows bit (f k)) → j < n → Supports 1 bit (f j) → Supports 1 bit (sum_below n f)
+sum-supports : (bit : Bool) (n j : ℕ) (f : ℕ → ℤ) → ((k : ℕ) → k < n → Supports 0 bit (f k)) → j < n → Supports 1 bit (f j) → Supports 1 bit (sum_below n f)
 unfolding sum_below
 sum-supports bit zero j f h l one = absurd (omega arith)
 sum-supports bit (suc n) j f h l one = elim (cases_lt j n) [
@@ -86,18 +73,18 @@ unfolding coded_word
 at_place word k t l = ap (λ xs. get_or xs t false) (values_below_at (coded_bits word) (length word) k [] l)
 
 here_or_nothing : (word : List Bool) (p : Place) (k t : ℕ) (v : ℤ) → Supports 1 (bit_at_place (coded_word word) p) v →
-    Allows (bit_at_place (coded_word word) (record { place = k; stream = t })) (cond (is_at p k t) v (pos 0))
+    Supports 0 (bit_at_place (coded_word word) (record { place = k; stream = t })) (cond (is_at p k t) v (pos 0))
 here_or_nothing word p k t v h = settle (is_at p k t) refl
   where
     bit : Bool
     bit = bit_at_place (coded_word word) (record { place = k; stream = t })
 
-    settle : (b : Bool) → is_at p k t ≡ b → Allows (bit_at_place (coded_word word) (record { place = k; stream = t })) (cond b v (pos 0))
+    settle : (b : Bool) → is_at p k t ≡ b → Supports 0 (bit_at_place (coded_word word) (record { place = k; stream = t })) (cond b v (pos 0))
     settle true e =
         let both = and_parts (nat_eq p.place k) (nat_eq p.stream t) e in
         let place = eqb-true p.place k both.0 in
         let stream = eqb-true p.stream t both.1 in
-        allows bit v (subst (λ b. Supports 1 b v) (ap₂ (λ (i j : ℕ). bit_at_place (coded_word word) (record { place = i; stream = j })) place stream) h)
+        supports-less 0 1 bit v (omega arith) (subst (λ b. Supports 1 b v) (ap₂ (λ (i j : ℕ). bit_at_place (coded_word word) (record { place = i; stream = j })) place stream) h)
     settle false e = allows_nothing bit
 
 sum_at_supports : (word : List Bool) (values : List ℤ) (k t : ℕ) → 6 ≤ length word → length word ≤ 64 → SpeakInOrder word values → k < length word → t < 3 →
@@ -143,7 +130,7 @@ sums_speak word values long short speak = record {
     one : (k t : ℕ) → k < length word → t < 3 → SpeaksFor (get_or (get_or (summed (length word) values) k []) t (pos 0)) (get_or (coded_bits word k) t false)
     one k t inside stream =
         subst (λ z. SpeaksFor z (get_or (coded_bits word k) t false)) (sym (read_sum (length word) values k t inside stream))
-        (speaks_for (get_or (coded_bits word k) t false) (summed_at (length word) values (length values) k t)
+        (supports-speaks (get_or (coded_bits word k) t false) (summed_at (length word) values (length values) k t)
         (subst (λ b. Supports 1 b (summed_at (length word) values (length values) k t)) (at_place word k t inside) (sum_at_supports word values k t long short speak inside stream)))
 
 -- ---- the word

@@ -5,10 +5,12 @@ use Rattle.cs_num.specs.declared.Sample.{Sample}
 use Rattle.grid_map.specs.Broadcast.{pbch_place}
 use Rattle.soft_bits.specs.Soft.{SeenSlot}
 use Rattle.pbch.specs.Values.{seen_value, coded_values}
-use Rattle.pbch.specs.Master.{field, PassesWith, Tells}
+use Rattle.cs_bits.specs.Numbers.{field}
+use Rattle.pbch.specs.Master.{PassesWith, Tells}
 use Rattle.cell_tx.specs.Block.{scrambled_bit}
 use Rattle.crs.specs.Qpsk.{point}
-use Rattle.clean_air.specs.Values.{Supports, IsSlotReceived}
+use Rattle.cs_bits.specs.Signs.{Supports}
+use Rattle.clean_air.specs.Values.{IsSlotReceived}
 use Rattle.clean_air.specs.Words.{IsOnlyWord}
 
 -- each of the 480 soft values of a slot speaks for the bit of this word of 40 bits that a frame of this phase carries there

@@ -3,15 +3,11 @@ use Rattle.std.specs.Prelude.{◌≡◌, ℕ, ◌<◌, ◌≤◌, Bool, true, fa
 use Rattle.cs_num.specs.declared.Cpx.{Cpx}
 use Rattle.cs_num.specs.declared.Sample.{Sample}
 use Rattle.cs_num.specs.Complex.{square}
+use Rattle.cs_bits.specs.Signs.{Supports}
 use Rattle.crs.specs.Qpsk.{point}
 use Rattle.observe.specs.Seen.{seen_symbol}
 use Rattle.soft_bits.specs.Soft.{SeenSlot, seen_at, pilot_symbol, pilot_subcarrier, pilot_seen, pilot_sent, soft_values}
 use Rattle.budget.specs.Received.{AreAmplitudes, IsReceived, IsSeenAs, samples_from}
-
--- a value speaks for a bit with at least this size: from that number on for 0, and down from its negative for 1
-abbrev pub Supports : ℕ → Bool → ℤ → Type 0
-Supports least false value = pos least ≤ℤ value
-Supports least true value = value ≤ℤ neg_ℤ (pos least)
 
 -- both soft values of a place do, for two bits
 pub record SupportBoth (least : ℕ) (first second : Bool) (values : List ℤ) : Type 0 where

@@ -7,7 +7,7 @@ use Rattle.conv_code.specs.Reading.{bit_at_place, place_of, summed}
 use Rattle.conv_code.specs.Cost.{word_cost}
 use Rattle.tailbite.specs.LeastWord.{IsLeastWord}
 use Rattle.tailbite.specs.Clean.{Speaks}
-use Rattle.clean_air.specs.Values.{Supports}
+use Rattle.cs_bits.specs.Signs.{Supports}
 
 -- the sum of four values that speak for a bit with some size speaks for it with four times that size
 abbrev pub FourSpeakTogether : Type 0

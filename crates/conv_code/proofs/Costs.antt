@@ -4,14 +4,8 @@ use Rattle.std.specs.Prelude.{nat_abs, All}
 use Rattle.finite.proofs.Items.{item-within}
 use Rattle.finite.proofs.Sums.{total_below-within}
 use Rattle.conv_code.specs.Code.{coded, taps_0, taps_1, taps_2}
-use Rattle.conv_code.specs.Cost.{disagreement, triple_cost, place_cost, word_cost}
-
--- a value speaks against a bit with its size at most
-pub disagreement-le : (z : ℤ) (b : Bool) → disagreement z b ≤ nat_abs z
-disagreement-le (pos n) false = omega arith
-disagreement-le (pos n) true = omega arith
-disagreement-le (negsuc n) false = omega arith
-disagreement-le (negsuc n) true = omega arith
+use Rattle.cs_bits.proofs.Signs.{disagreement-le}
+use Rattle.conv_code.specs.Cost.{triple_cost, place_cost, word_cost}
 
 -- three values speak against three bits with three times the greatest size at most
 pub triple_cost-le : (n : ℕ) (v : List ℤ) (a b c : Bool) → All (λ z. nat_abs z ≤ n) v → triple_cost v a b c ≤ 3 * n

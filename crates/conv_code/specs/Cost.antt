@@ -1,14 +1,8 @@
 -- What a word costs, by received values: one above 0 speaks for a coded bit 0, one below 0 for 1 (own).
-use Rattle.std.specs.Prelude.{ℕ, suc, ◌+◌, Bool, true, false, List, [], length, slice_index_or, ℤ, pos, negsuc}
+use Rattle.std.specs.Prelude.{ℕ, ◌+◌, Bool, List, [], length, slice_index_or, ℤ, pos}
 use Rattle.finite.specs.Sums.{total_below}
+use Rattle.cs_bits.specs.Signs.{disagreement}
 use Rattle.conv_code.specs.Code.{coded, taps_0, taps_1, taps_2}
-
--- the size of a value where it speaks against the bit, and 0 elsewhere
-abbrev pub disagreement : ℤ → Bool → ℕ
-disagreement (pos n) true = n
-disagreement (pos n) false = 0
-disagreement (negsuc n) true = 0
-disagreement (negsuc n) false = suc n
 
 -- the disagreement of the three values of a place with three bits
 abbrev pub triple_cost : List ℤ → Bool → Bool → Bool → ℕ

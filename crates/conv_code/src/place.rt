@@ -3,7 +3,7 @@
 ghost use Rattle.std.specs.Prelude.{◌≡◌, ℕ, ◌*◌, ◌^◌, ◌≤◌, All, false, nat_abs, slice_index_or};
 ghost use Rattle.conv_code.specs.Cost.{triple_cost};
 
-use crate::cost::disagreement_of;
+use cs_bits::disagreement_of;
 
 /// The sum of the sizes of those of the three values of a place that speak against their coded bits (own).
 /// The values are at most 2^20 in size.

@@ -135,17 +135,6 @@ fn no_values_give_sums_of_0(rt: HostRuntime) {
 }
 
 #[test]
-fn a_value_speaks_against_one_bit(rt: HostRuntime) {
-    assert_eq!(rt; disagreement_of(5, true), 5);
-    assert_eq!(rt; disagreement_of(5, false), 0);
-    assert_eq!(rt; disagreement_of(-3, true), 0);
-    assert_eq!(rt; disagreement_of(-3, false), 3);
-    assert_eq!(rt; disagreement_of(0, true), 0);
-    assert_eq!(rt; disagreement_of(0, false), 0);
-    assert_eq!(rt; disagreement_of(i32::MIN, false), 2_147_483_648);
-}
-
-#[test]
 fn the_first_places_of_a_stream_of_40(rt: HostRuntime) {
     let places = [9, 25, 17, 1, 33, 13, 29, 21, 5, 37];
     for p in 0..10_usize {

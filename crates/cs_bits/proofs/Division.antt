@@ -5,25 +5,17 @@ use Rattle.std.proofs.lemmas.Nat.Bits.{bit_at_xor, bit_at-lt, bit_at-suc, bit_at
 use Rattle.std.proofs.lemmas.Bool.Decides.{nat_tests}
 use Rattle.std.proofs.lemmas.Nat.{mod-mul-add}
 use Rattle.finite.specs.Bits.{xor}
-use Rattle.cs_bits.specs.Polynomial.{xor_onto, divide, remainder, number}
+use Rattle.cs_bits.specs.Numbers.{number, bits_of}
+use Rattle.cs_bits.specs.Polynomial.{xor_onto, divide, remainder}
 use Rattle.cs_bits.specs.Register.{next}
+use Rattle.cs_bits.proofs.Numbers.{length-bits_of, number-bits_of}
 use Rattle.finite.proofs.Bits.{xor-false, false-xor, xor_assoc}
-
--- the low w bits, the highest first
-unfoldable pub bits_of : ℕ → ℕ → List Bool
-bits_of zero r = []
-bits_of (suc w) r = eqb (bit_at r w) 1 ∷ bits_of w r
-
-pub length-bits_of : (w r : ℕ) → length (bits_of w r) ≡ w
-unfolding bits_of
-length-bits_of zero r = refl
-length-bits_of (suc w) r = ap suc (length-bits_of w r)
 
 xor_bits : (a b : ℕ) → a < 2 → b < 2 → eqb ((a + b) % 2) 1 ≡ xor (eqb a 1) (eqb b 1)
 xor_bits a b p q = grind (arith, nat_tests)
 
 pub bits_of-xor : (w a b : ℕ) → bits_of w (bit_xor a b) ≡ xor_onto (bits_of w a) (bits_of w b)
-unfolding bits_of xor_onto
+unfolding xor_onto
 bits_of-xor zero a b = refl
 bits_of-xor (suc w) a b =
     rw (bit_at_xor a b w, xor_bits (bit_at a w) (bit_at b w) (bit_at-lt a w) (bit_at-lt b w), bits_of-xor w a b) refl
@@ -42,7 +34,6 @@ bit_at_double_lowest : (h r : ℕ) → 0 < h → bit_at ((r * 2) % 2 ^ h) 0 ≡ 
 bit_at_double_lowest h r l = bit_at_below h (r * 2) 0 l ∙ bit_at_lowest (r * 2) ∙ omega arith
 
 pub bits_of-double : (h w r : ℕ) → suc w ≤ h → bits_of (suc w) ((r * 2) % 2 ^ h) ≡ bits_of w r ++ (false ∷ [])
-unfolding bits_of
 bits_of-double h zero r l = rw (bit_at_double_lowest h r l) refl
 bits_of-double h (suc w) r l = rw (bit_at_double h r w l, bits_of-double h w r (omega arith)) refl
 
@@ -80,33 +71,12 @@ pub divide_step : (n : ℕ) (g xs ts : List Bool) (x t : Bool) → length g ≡ 
 unfolding divide xor_onto
 divide_step n g xs ts x t e = ap (divide n g) (fold_in g xs ts (xor x t) e)
 
-split_mod : (p r : ℕ) → 0 < p → (r / p % 2) * p + r % p ≡ r % (p * 2)
-split_mod p r h =
-    let q = r / p in
-    let s : r % p < p = mod-lt r h in
-    let b : q % 2 < 2 = omega arith in
-    let k : (q % 2) * p ≤ 1 * p = mul-le-mul_right p (omega arith) in
-    let e : (q / 2) * (p * 2) + ((q % 2) * p + r % p) ≡ r =
-    omega (arith, div-add-mod' r p, ap (λ (n : ℕ). n * p) (div-add-mod' q 2)) in
-    sym (mod-mul-add (q / 2) (p * 2) ((q % 2) * p + r % p) (omega arith)) ∙ ap (λ (n : ℕ). n % (p * 2)) e
-
-as_bit : (b : ℕ) → b < 2 → cond (eqb b 1) 1 0 ≡ b
-as_bit b h = grind (arith, nat_tests)
-
--- the number of the low w bits
-pub number-bits_of : (w r : ℕ) → number (bits_of w r) ≡ r % 2 ^ w
-unfolding number bits_of
-number-bits_of zero r = omega arith
-number-bits_of (suc w) r =
-    rw (as_bit (bit_at r w) (bit_at-lt r w), length-bits_of w r, number-bits_of w r) (split_mod (2 ^ w) r (pow_pos w) ∙ ap (λ (n : ℕ). r % n) (sym (pow-suc 2 w)))
-
 bits_of-next : (k g r : ℕ) (b : Bool) →
     cond b (xor_onto (bits_of k r ++ (false ∷ [])) (bits_of (suc k) g)) (bits_of k r ++ (false ∷ [])) ≡ bits_of (suc k) (cond b (bit_xor ((r * 2) % 2 ^ suc k) g) ((r * 2) % 2 ^ suc k))
 bits_of-next k g r true = rw (← (bits_of-double (suc k) k r (omega arith))) (sym (bits_of-xor (suc k) ((r * 2) % 2 ^ suc k) g))
 bits_of-next k g r false = sym (bits_of-double (suc k) k r (omega arith))
 
 bits_of-suc : (w r : ℕ) → bits_of (suc w) r ≡ eqb (bit_at r w) 1 ∷ bits_of w r
-unfolding bits_of
 bits_of-suc w r = refl
 
 pub divide_next : (k g r n : ℕ) (xs : List Bool) (x : Bool) →
@@ -121,7 +91,6 @@ pub record Kept (k g : ℕ) (bits : List Bool) (i r : ℕ) : Type 0 where
   pub rest : divide (length bits - i) (bits_of (suc k) g) (xor_onto (drop i bits ++ replicate (suc k) false) (bits_of (suc k) r)) ≡ remainder (suc k) (bits_of (suc k) g) bits
 
 bits_of-none : (w : ℕ) → bits_of w 0 ≡ replicate w false
-unfolding bits_of
 bits_of-none zero = refl
 bits_of-none (suc w) = rw (bit_at-zero w, bits_of-none w) refl
 

@@ -1,3 +1,5 @@
 pub mod Numbers
+pub mod Signs
 pub mod Division
+pub mod Checks
 pub mod Vectors

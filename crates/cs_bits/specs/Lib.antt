@@ -1,2 +1,5 @@
+pub mod Numbers
 pub mod Polynomial
+pub mod Checks
+pub mod Signs
 pub mod Register

@@ -1,6 +1,6 @@
 -- Polynomials modulo 2, as the lists of their coefficients with the highest power first, and the
 -- remainders that LTE takes as checks (TS 36.212 section 5.1.1).
-use Rattle.std.specs.Prelude.{ℕ, zero, suc, ◌+◌, ◌*◌, ◌^◌, Bool, true, false, ◌||◌, cond, List, [], ◌∷◌, ◌++◌, length, replicate, nat_eq}
+use Rattle.std.specs.Prelude.{ℕ, zero, suc, Bool, false, ◌||◌, cond, List, [], ◌∷◌, ◌++◌, length, replicate, nat_eq}
 use Rattle.finite.specs.Bits.{xor}
 
 -- the first polynomial with the second added to its highest powers
@@ -20,11 +20,6 @@ divide (suc n) divisor (x ∷ xs) = divide n divisor (cond x (xor_onto xs diviso
 unfoldable pub remainder : ℕ → List Bool → List Bool → List Bool
 remainder w divisor message = divide (length message) divisor (message ++ replicate w false)
 
--- the number with these bits, the highest first
-unfoldable pub number : List Bool → ℕ
-number [] = 0
-number (b ∷ bs) = cond b 1 0 * 2 ^ length bs + number bs
-
 -- one of the powers is k
 unfoldable pub has_power : List ℕ → ℕ → Bool
 has_power [] k = false
@@ -42,11 +37,3 @@ generator_16 = powers_below 16 (12 ∷ 5 ∷ 0 ∷ [])
 -- D^24 + D^23 + D^18 + D^17 + D^14 + D^11 + D^10 + D^7 + D^6 + D^5 + D^4 + D^3 + D + 1, without its first term
 unfoldable pub generator_24a : List Bool
 generator_24a = powers_below 24 (23 ∷ 18 ∷ 17 ∷ 14 ∷ 11 ∷ 10 ∷ 7 ∷ 6 ∷ 5 ∷ 4 ∷ 3 ∷ 1 ∷ 0 ∷ [])
-
--- CRC16 of a message, whose first bit has the highest power
-unfoldable pub crc16_of : List Bool → ℕ
-crc16_of message = number (remainder 16 generator_16 message)
-
--- CRC24A of a message, whose first bit has the highest power
-unfoldable pub crc24a_of : List Bool → ℕ
-crc24a_of message = number (remainder 24 generator_24a message)

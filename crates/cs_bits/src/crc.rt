@@ -1,6 +1,10 @@
-ghost use Rattle.std.specs.Prelude.{◌≡◌, ◌<◌, ◌^◌};
-ghost use Rattle.cs_bits.specs.Polynomial.{crc16_of, crc24a_of};
+//! The cyclic redundancy checks of LTE, one bit at a time.
+
+ghost use Rattle.std.specs.Prelude.{◌≡◌, ◌<◌, ◌≤◌, ◌^◌, length};
+ghost use Rattle.cs_bits.specs.Checks.{crc16_of, crc24a_of, has_check_24};
 ghost use Rattle.cs_bits.specs.Register.{next};
+
+use crate::number_of;
 
 /// D^16 + D^12 + D^5 + 1, without its first term.
 const GENERATOR_16: u16 = 0x1021;
@@ -56,6 +60,15 @@ pub fn crc24a(bits: &[bool]) -> u32
         register = take_in_24(register, *bit);
     }
     register
+}
+
+/// Whether the last 24 bits are CRC24A of those before (TS 36.212 section 5.1.1).
+pub fn has_check_24(word: &[bool]) -> bool
+    requires { 24 ≤ length word.now }
+    ensures { result ≡ has_check_24 word.now }
+{
+    let (message, check) = word.split_at(word.len() - 24);
+    number_of(check) == crc24a(message) as u64
 }
 
 #[cfg(test)]

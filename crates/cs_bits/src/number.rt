@@ -1,17 +1,31 @@
-ghost use Rattle.std.specs.Prelude.{◌≡◌, ◌^◌, ◌<◌, ◌≤◌, length};
-ghost use Rattle.cs_bits.specs.Polynomial.{number};
+//! Words of bits and their numbers.
 
-/// The number of at most 32 bits, the first of the highest power.
-pub fn number_of(bits: &[bool]) -> u32
-    requires { length bits.now ≤ 32 }
+ghost use Rattle.std.specs.Prelude.{◌≡◌, ◌^◌, ◌<◌, ◌≤◌, length};
+ghost use Rattle.cs_bits.specs.Numbers.{number, bits_of};
+
+/// The number of at most 64 bits, the first of the highest power.
+pub fn number_of(bits: &[bool]) -> u64
+    requires { length bits.now ≤ 64 }
     ensures value { result ≡ number bits.now }
     ensures bound { result < 2 ^ length bits.now }
 {
-    let mut number: u32 = 0;
+    let mut number: u64 = 0;
     for bit in bits {
-        number = 2 * number + *bit as u32;
+        number = 2 * number + *bit as u64;
     }
     number
+}
+
+/// Writes the low bits of a number over the whole of `out`, which has at most 64 places: the last bit is
+/// the lowest.
+pub fn put_number(number: u64, out: &mut [bool])
+    requires { length out.old ≤ 64 }
+    ensures { out.new ≡ bits_of (length out.old) number }
+{
+    let width = out.len();
+    for i in 0..width {
+        out[i] = (number >> (width - 1 - i)) % 2 == 1;
+    }
 }
 
 #[cfg(test)]
@@ -22,6 +36,15 @@ mod tests {
     fn the_first_bit_is_the_highest(rt: HostRuntime) {
         assert_eq!(rt; number_of(&[]), 0);
         assert_eq!(rt; number_of(&[true, false, false, true, false]), 18);
-        assert_eq!(rt; number_of(&[true; 32]), 4_294_967_295);
+        assert_eq!(rt; number_of(&[true; 64]), u64::MAX);
+    }
+
+    #[test]
+    fn a_number_is_written_from_its_highest_bit(rt: HostRuntime) {
+        let mut bits = [true; 5];
+        put_number(18, &mut bits);
+        assert_eq!(rt; bits, [true, false, false, true, false]);
+        put_number(33, &mut bits[1..3]);
+        assert_eq!(rt; bits, [true, false, true, true, false]);
     }
 }

@@ -1,5 +1,9 @@
-ghost use Rattle.std.specs.Prelude.{◌≡◌, ◌<◌, ◌≤◌, length, false, slice_index_or};
+//! A word of a fixed number of bits.
 
+ghost use Rattle.std.specs.Prelude.{◌≡◌, ◌+◌, ◌^◌, ◌<◌, ◌≤◌, length, false, slice_index_or};
+ghost use Rattle.cs_bits.specs.Numbers.{bits_of, field};
+
+use crate::{number_of, put_number};
 use std::marker::Model;
 
 /// A word of N bits, N at most 64. Contracts see it as the list of its bits.
@@ -27,6 +31,17 @@ impl<const N: usize> Bits<N> {
         Bits { bits }
     }
 
+    /// The word of the N low bits of a number, the last bit the lowest.
+    pub fn of_number(number: u64) -> Bits<N>
+        requires { N ≤ 64 }
+        ensures word { result ≡ bits_of N number }
+        ensures count { length result ≡ N }
+    {
+        let mut bits = [false; N];
+        put_number(number, &mut bits);
+        Bits { bits }
+    }
+
     /// The bits, in order.
     pub fn slice(&self) -> &[bool]
         requires { N ≤ 64 }
@@ -44,6 +59,16 @@ impl<const N: usize> Bits<N> {
     {
         self.bits[i]
     }
+
+    /// The number of `width` bits from the bit at place `first` on.
+    pub fn field(&self, first: usize, width: usize) -> u64
+        requires size { N ≤ 64 }
+        requires inside { first + width ≤ N }
+        ensures value { result ≡ field self.now first width }
+        ensures bound { result < 2 ^ width }
+    {
+        number_of(&self.slice()[first..first + width])
+    }
 }
 
 #[cfg(test)]
@@ -58,6 +83,14 @@ mod tests {
         assert_eq!(rt; word.slice().len(), 3);
         assert!(rt; word == Bits::new([true, false, false]));
         assert!(rt; word != Bits::new([true, false, true]));
+    }
+
+    #[test]
+    fn a_word_and_its_number(rt: HostRuntime) {
+        let word = Bits::<6>::of_number(38);
+        assert!(rt; word == Bits::new([true, false, false, true, true, false]));
+        assert_eq!(rt; word.field(0, 6), 38);
+        assert_eq!(rt; word.field(3, 2), 3);
     }
 
     #[test]

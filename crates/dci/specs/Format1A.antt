@@ -2,8 +2,9 @@
 use Rattle.std.specs.Prelude.{◌≡◌, ℕ, ◌<◌, ◌≤◌, ◌⊎◌, Bool, true, false, if◌then◌else◌, nat_eq, List, [], ◌∷◌, ◌++◌, None, Some, Result, Ok, Err}
 use Rattle.lte_types.specs.declared.sib1_reason.Sib1Reason.{Sib1Reason}
 use Rattle.lte_types.specs.declared.sib1_reason.Sib1Reason.TheVariants.{NotFormat1A, Distributed, BadRiv, ReservedMcs, BlockTooLarge}
+use Rattle.cs_bits.specs.Numbers.{bits_of}
 use Rattle.dci.specs.declared.grant.Grant.{Grant}
-use Rattle.dci.specs.Fields.{is_1a, is_distributed, assignment, scheme, process, is_new, version, high_power, low_power, padding, bits_of}
+use Rattle.dci.specs.Fields.{is_1a, is_distributed, assignment, mcs, harq, new_data, rv, tpc_high, tpc_low, padding}
 use Rattle.dci.specs.Assignment.{riv_of, AreBlocks}
 use Rattle.dci.specs.Sizes.{size_of}
 
@@ -17,18 +18,18 @@ pub record Carries (bits : List Bool) (grant : Grant) : Type 0 where
   pub localised : is_distributed bits ≡ false
   pub blocks : AreBlocks grant.start grant.blocks
   pub assigned : assignment bits ≡ riv_of grant.start grant.blocks
-  pub scheme_is : scheme bits ≡ grant.mcs
-  pub scheme_valid : grant.mcs ≤ 26
-  pub version_is : version bits ≡ grant.rv
-  pub column_is : grant.column ≡ column_of (low_power bits)
+  pub mcs_is : mcs bits ≡ grant.mcs
+  pub mcs_valid : grant.mcs ≤ 26
+  pub rv_is : rv bits ≡ grant.rv
+  pub column_is : grant.column ≡ column_of (tpc_low bits)
   pub size_is : size_of grant.mcs grant.column ≡ Some grant.size
 
 -- the same bits, as they are sent: what is not looked at is 0
 pub record IsSentFor (bits : List Bool) (grant : Grant) : Type 0 where
   pub carries : Carries bits grant
-  pub process_is : process bits ≡ 0
-  pub old : is_new bits ≡ false
-  pub power : high_power bits ≡ false
+  pub harq_is : harq bits ≡ 0
+  pub old : new_data bits ≡ false
+  pub power : tpc_high bits ≡ false
   pub pads : padding bits ≡ false
 
 -- the first of five refusals that applies, and none of those before it
@@ -39,32 +40,32 @@ pub record IsDistributed (bits : List Bool) : Type 0 where
   pub format : is_1a bits ≡ true
   pub distributed : is_distributed bits ≡ true
 
-pub record HasBadRiv (bits : List Bool) (riv : ℕ) : Type 0 where
+pub record HasBadRiv (bits : List Bool) (told : ℕ) : Type 0 where
   pub format : is_1a bits ≡ true
   pub localised : is_distributed bits ≡ false
-  pub value : riv ≡ assignment bits
-  pub above : 20 < riv
+  pub value : told ≡ assignment bits
+  pub above : 20 < told
 
-pub record HasReservedScheme (bits : List Bool) (mcs : ℕ) : Type 0 where
+pub record HasReservedMcs (bits : List Bool) (told : ℕ) : Type 0 where
   pub format : is_1a bits ≡ true
   pub localised : is_distributed bits ≡ false
   pub assigned : assignment bits ≤ 20
-  pub value : mcs ≡ scheme bits
-  pub above : 26 < mcs
+  pub value : told ≡ mcs bits
+  pub above : 26 < told
 
 pub record HasNoSize (bits : List Bool) : Type 0 where
   pub format : is_1a bits ≡ true
   pub localised : is_distributed bits ≡ false
   pub assigned : assignment bits ≤ 20
-  pub scheme_valid : scheme bits ≤ 26
-  pub none : size_of (scheme bits) (column_of (low_power bits)) ≡ None
+  pub mcs_valid : mcs bits ≤ 26
+  pub none : size_of (mcs bits) (column_of (tpc_low bits)) ≡ None
 
 -- the bits are refused for this reason, and never for one of another kind
 abbrev pub IsRefused : List Bool → Sib1Reason → Type 0
 IsRefused bits NotFormat1A = IsOther bits
 IsRefused bits Distributed = IsDistributed bits
-IsRefused bits (BadRiv riv) = HasBadRiv bits riv
-IsRefused bits (ReservedMcs mcs) = HasReservedScheme bits mcs
+IsRefused bits (BadRiv told) = HasBadRiv bits told
+IsRefused bits (ReservedMcs told) = HasReservedMcs bits told
 IsRefused bits BlockTooLarge = HasNoSize bits
 IsRefused bits _ = ⊥
 
@@ -76,8 +77,8 @@ Says bits (Err reason) = IsRefused bits reason
 -- a grant that some bits carry
 pub record IsGrant (grant : Grant) : Type 0 where
   pub blocks : AreBlocks grant.start grant.blocks
-  pub scheme_valid : grant.mcs ≤ 26
-  pub version_valid : grant.rv ≤ 3
+  pub mcs_valid : grant.mcs ≤ 26
+  pub rv_valid : grant.rv ≤ 3
   pub column_valid : (grant.column ≡ 2) ⊎ (grant.column ≡ 3)
   pub size_is : size_of grant.mcs grant.column ≡ Some grant.size
 

@@ -10,11 +10,6 @@ IsBefore (false ∷ xs) (true ∷ ys) = Unit {0}
 IsBefore (true ∷ xs) (false ∷ ys) = ⊥
 IsBefore (true ∷ xs) (true ∷ ys) = IsBefore xs ys
 
--- the order of words as a number: a bit weighs 2 to the count of the bits after it
-abbrev pub word_number : List Bool → ℕ
-word_number [] = 0
-word_number (b ∷ bs) = cond b (2 ^ length bs) 0 + word_number bs
-
 -- a step's cost at a scale, with a weight for the bit 1
 abbrev pub key_step : ℕ → ℕ → (ℕ → Bool → ℕ) → ℕ → Bool → ℕ
 key_step scale weight edge x b = edge x b * scale + cond b weight 0

@@ -4,8 +4,9 @@ use Rattle.std.specs.Int.Bits.{xor_assoc, xor_self, xor_zero_l}
 use Rattle.std.proofs.lemmas.Bool.Decides.{nat_tests}
 use Rattle.conv_code.specs.Cost.{word_cost}
 use Rattle.tailbite.specs.LeastWord.{IsLeastWord}
-use Rattle.cs_bits.specs.Polynomial.{crc16_of}
-use Rattle.pbch.specs.Master.{mask, field, block, bandwidth, duration, resource, PassesWith, Tells}
+use Rattle.cs_bits.specs.Checks.{crc16_of, message_of, check_of}
+use Rattle.cs_bits.specs.Numbers.{field}
+use Rattle.pbch.specs.Master.{mask, bandwidth, duration, resource, PassesWith, Tells}
 use Rattle.pbch.specs.Laws.{IsOneMaster}
 use Rattle.tailbite.proofs.Only.{one_word}
 
@@ -33,14 +34,14 @@ one_master values a b ha hb =
     let same : ha.word ≡ hb.word = one_word values ha.word hb.word ha.tells.least hb.tells.least in
     let fa = ha.mib in
     let fb = hb.mib in
-    let checks : bit_xor (crc16_of (block ha.word)) (mask a.ports) ≡ bit_xor (crc16_of (block ha.word)) (mask b.ports) =
-    sym ha.tells.check.check ∙ ap (λ w. field w 24 40) same ∙ hb.tells.check.check ∙ ap (λ w. bit_xor (crc16_of (block w)) (mask b.ports)) (sym same) in
+    let checks : bit_xor (crc16_of (message_of 16 ha.word)) (mask a.ports) ≡ bit_xor (crc16_of (message_of 16 ha.word)) (mask b.ports) =
+    sym ha.tells.check.check ∙ ap (check_of 16) same ∙ hb.tells.check.check ∙ ap (λ w. bit_xor (crc16_of (message_of 16 w)) (mask b.ports)) (sym same) in
     record {
       ports = same_ports a.ports b.ports ha.tells.check.count hb.tells.check.count (same_mask _ a.ports b.ports checks);
       cost = ha.cost ∙ ap (word_cost values) same ∙ sym hb.cost;
       bandwidth = fa.bandwidth ∙ ap (λ w. bandwidth (field w 0 3)) same ∙ sym fb.bandwidth;
-      duration = fa.duration ∙ ap (λ w. duration (field w 3 4)) same ∙ sym fb.duration;
-      resource = fa.resource ∙ ap (λ w. resource (field w 4 6)) same ∙ sym fb.resource;
-      upper = fa.upper ∙ ap (λ w. field w 6 14) same ∙ sym fb.upper;
-      spare = fa.spare ∙ ap (λ w. field w 14 24) same ∙ sym fb.spare;
+      duration = fa.duration ∙ ap (λ w. duration (field w 3 1)) same ∙ sym fb.duration;
+      resource = fa.resource ∙ ap (λ w. resource (field w 4 2)) same ∙ sym fb.resource;
+      upper = fa.upper ∙ ap (λ w. field w 6 8) same ∙ sym fb.upper;
+      spare = fa.spare ∙ ap (λ w. field w 14 10) same ∙ sym fb.spare;
     }

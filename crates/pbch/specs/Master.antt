@@ -2,7 +2,8 @@
 use Rattle.std.specs.Prelude.{ℕ, ◌*◌, ◌<◌, ◌≤◌, ◌≡◌, ◌⊎◌, nat_eq, if◌then◌else◌, Bool, List, [], ◌∷◌, slice_range, slice_index_or, ℤ, nat_abs, bit_xor}
 use Rattle.finite.specs.Sums.{total_below}
 use Rattle.finite.specs.Tables.{sum_at}
-use Rattle.cs_bits.specs.Polynomial.{number, crc16_of}
+use Rattle.cs_bits.specs.Numbers.{field}
+use Rattle.cs_bits.specs.Checks.{HasCheck16}
 use Rattle.conv_code.specs.Cost.{word_cost}
 use Rattle.tailbite.specs.LeastWord.{IsLeastWord}
 use Rattle.soft_bits.specs.Soft.{SeenSlot}
@@ -21,14 +22,6 @@ use Rattle.pbch.specs.Values.{coded_values}
 unfoldable pub total : List (List ℤ) → ℕ
 total values = total_below 40 (λ k. total_below 3 (λ t. nat_abs (sum_at values k t)))
 
--- the number of the bits from the first to before the end, the highest first
-abbrev pub field : List Bool → ℕ → ℕ → ℕ
-field bits first end = number (slice_range bits first end)
-
--- the 24 bits of the block, before their check
-abbrev pub block : List Bool → List Bool
-block word = slice_range word 0 24
-
 -- the mask on the check bits, by the count of antenna ports
 abbrev pub mask : ℕ → ℕ
 mask ports = if nat_eq ports 1 then 0 else (if nat_eq ports 2 then 0xffff else 0x5555)
@@ -36,7 +29,7 @@ mask ports = if nat_eq ports 1 then 0 else (if nat_eq ports 2 then 0xffff else 0
 -- the check of a word passes with the mask of so many antenna ports: 1, 2 or 4
 pub record PassesWith (ports : ℕ) (word : List Bool) : Type 0 where
   pub count : (ports ≡ 1) ⊎ (ports ≡ 2) ⊎ (ports ≡ 4)
-  pub check : field word 24 40 ≡ bit_xor (crc16_of (block word)) (mask ports)
+  pub check : HasCheck16 (mask ports) word
 
 -- dl-Bandwidth by its code, which is at most 5
 abbrev pub bandwidth : ℕ → Bandwidth
@@ -53,7 +46,7 @@ resource code = slice_index_or (OneSixth ∷ Half ∷ One ∷ Two ∷ []) code O
 -- the block of a word has these fields
 abbrev pub Carries : List Bool → Mib → Type 0
 Carries word mib =
-    HasFields mib (bandwidth (field word 0 3)) (duration (field word 3 4)) (resource (field word 4 6)) (field word 6 14) (field word 14 24)
+    HasFields mib (bandwidth (field word 0 3)) (duration (field word 3 1)) (resource (field word 4 2)) (field word 6 8) (field word 14 10)
 
 -- these values tell this word, as one of so many antenna ports
 pub record Tells (values : List (List ℤ)) (word : List Bool) (ports : ℕ) : Type 0 where

@@ -1,7 +1,8 @@
 //! The fields of a word of 40 bits.
 
 ghost use Rattle.std.specs.Prelude.{◌≡◌, ℕ, ◌<◌, ◌≤◌, ◌^◌, ◌-◌, length, slice_range, bit_xor, MatchOption, nat_eq};
-ghost use Rattle.pbch.specs.Master.{field, PassesWith, Carries, bandwidth, duration, resource};
+ghost use Rattle.cs_bits.specs.Numbers.{field};
+ghost use Rattle.pbch.specs.Master.{PassesWith, Carries, bandwidth, duration, resource};
 
 use cs_bits::{Bits, crc16, number_of};
 use lte_types::{Bandwidth, Duration, Mib, Resource};
@@ -13,23 +14,14 @@ const TWO_PORTS: u16 = 0xffff;
 
 const FOUR_PORTS: u16 = 0x5555;
 
-// The number of the bits of a word from the first to before the end.
-fn field_of(word: &Bits<40>, first: usize, end: usize) -> u16
-    requires order { first ≤ end }
-    requires inside { end ≤ 40 }
-    requires few { end - first ≤ 16 }
-    ensures value { result ≡ field word.now first end }
-    ensures bound { result < 2 ^ (end - first) }
-{
-    number_of(&word.slice()[first..end]) as u16
-}
-
 /// The count of antenna ports with whose mask the check of a word passes.
 pub(crate) fn ports_of(word: &Bits<40>) -> Option<u8>
     ensures { MatchOption result ((ports : ℕ) → PassesWith ports word.now → ⊥) (λ ports. PassesWith ports word.now) }
 {
-    let check = field_of(word, 24, 40);
-    let remainder = crc16(&word.slice()[..24]);
+    let word = word.slice();
+    let (block, check) = word.split_at(word.len() - 16);
+    let check = number_of(check) as u16;
+    let remainder = crc16(block);
     if check == remainder ^ ONE_PORT {
         Some(1)
     } else if check == remainder ^ TWO_PORTS {
@@ -83,10 +75,10 @@ pub(crate) fn mib_of(word: &Bits<40>) -> Option<Mib>
     ensures { MatchOption result (5 < field word.now 0 3) (λ mib. (field word.now 0 3 ≤ 5) × Carries word.now mib) }
 {
     Mib::new(
-        bandwidth_of(field_of(word, 0, 3))?,
-        duration_of(field_of(word, 3, 4)),
-        resource_of(field_of(word, 4, 6)),
-        field_of(word, 6, 14) as u8,
-        field_of(word, 14, 24),
+        bandwidth_of(word.field(0, 3) as u16)?,
+        duration_of(word.field(3, 1) as u16),
+        resource_of(word.field(4, 2) as u16),
+        word.field(6, 8) as u8,
+        word.field(14, 10) as u16,
     )
 }

@@ -1,7 +1,7 @@
 -- The control format indicator that values tell.
 use Rattle.std.specs.Prelude.{◌≡◌, ℕ, ◌-◌, ◌%◌, ◌<◌, ◌≤◌, Bool, not, nat_eq, List, slice_index_or, ℤ, pos}
 use Rattle.finite.specs.Sums.{total_below}
-use Rattle.conv_code.specs.Cost.{disagreement}
+use Rattle.cs_bits.specs.Signs.{disagreement, SpeaksFor}
 
 -- bit i of the 32 that are sent for an indicator: 0 at every third place (TS 36.212 section 5.3.4)
 abbrev pub code_bit : ℕ → ℕ → Bool
@@ -18,9 +18,6 @@ pub record IsIndicator (values : List ℤ) (indicator : ℕ) : Type 0 where
   pub least : (other : ℕ) → 1 ≤ other → other ≤ 3 → cost values indicator ≤ cost values other
   pub first : (other : ℕ) → 1 ≤ other → other < indicator → cost values indicator < cost values other
 
--- every value speaks for its bit of an indicator, and is not 0 (own)
+-- every value speaks for its bit of an indicator (own)
 abbrev pub Speak : List ℤ → ℕ → Type 0
-Speak values indicator =
-    (i : ℕ) → i < 32 →
-    (disagreement (slice_index_or values i (pos 0)) (code_bit indicator i) ≡ 0)
-    × (0 < disagreement (slice_index_or values i (pos 0)) (not (code_bit indicator i)))
+Speak values indicator = (i : ℕ) → i < 32 → SpeaksFor (slice_index_or values i (pos 0)) (code_bit indicator i)

@@ -5,7 +5,7 @@ ghost use Rattle.pcfich.specs.Values.{indicator_values};
 ghost use Rattle.pcfich.specs.Indicator.{code_bit, cost, IsIndicator, Speak};
 
 use crate::values::received;
-use conv_code::disagreement_of;
+use cs_bits::disagreement_of;
 use lte_types::Cfi;
 use soft_bits::Slot;
 

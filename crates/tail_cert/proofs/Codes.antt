@@ -6,8 +6,8 @@ use Rattle.std.specs.Int.{w16, cast_unsigned, cast_signed}
 use Rattle.std.proofs.lemmas.Int.{to_z-of_z}
 use Rattle.std.proofs.lemmas.List.{length-append, take_at, drop_at, ext_get_or}
 use Rattle.byteorder.specs.Endian.{little_bytes, little_number, big_bytes, big_number}
-use Rattle.paths.specs.Words.{word_number}
-use Rattle.paths.proofs.Words.{number_below, word_bit}
+use Rattle.cs_bits.specs.Numbers.{number}
+use Rattle.cs_bits.proofs.Numbers.{number_below, number_same}
 use Rattle.tail_cert.specs.Certificate.{Counted, Held, IsRow, IsTable, IsTriple, IsWhole}
 use Rattle.tail_cert.specs.Form.{bytes_of, entry_bytes, mark, place_bytes, row_bytes, table_bytes, value_bytes, word_bytes}
 use Rattle.tail_cert.proofs.Values.{fits_16}
@@ -86,19 +86,15 @@ entry_code = record {
   same = λ m n p q e. sym (little_back m p) ∙ ap (little_number 4) e ∙ little_back n q;
 }
 
-number_small : (w : List Bool) → length w ≡ 40 → word_number w < 2 ^ 40
+number_small : (w : List Bool) → length w ≡ 40 → number w < 2 ^ 40
 number_small w e = let below = number_below w in rw e at below
-
-same_number : (u w : List Bool) → length u ≡ 40 → length w ≡ 40 → word_number u ≡ word_number w → u ≡ w
-same_number u w p q e = ext_get_or false u w (p ∙ sym q) (λ k inside.
-    word_bit u k inside ∙ (rw (p, e) (rw q at (sym (word_bit w k (omega (arith, p, q, inside)))))))
 
 word_code : IsCode (λ w. length w ≡ 40) word_bytes 5
 unfolding word_bytes
 word_code = record {
   size = λ w h. refl;
-  same = λ u w p q e. same_number u w p q
-      (sym (big_back (word_number u) (number_small u p)) ∙ ap (big_number 5) e ∙ big_back (word_number w) (number_small w q));
+  same = λ u w p q e. number_same u w (p ∙ sym q)
+      (sym (big_back (number u) (number_small u p)) ∙ ap (big_number 5) e ∙ big_back (number w) (number_small w q));
 }
 
 pub place_code : IsCode IsTriple place_bytes 6

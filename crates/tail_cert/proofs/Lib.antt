@@ -6,7 +6,6 @@ pub mod Places
 pub mod Zeros
 pub mod Pieces
 pub mod Values
-pub mod Bits
 pub mod Numbers
 pub mod Elements
 pub mod Breaks

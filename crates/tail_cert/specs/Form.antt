@@ -3,7 +3,7 @@ use Rattle.std.specs.Prelude.{◌≡◌, ◌≢◌, ℕ, ◌+◌, ◌%◌, ◌<�
 use Rattle.std.specs.List.{flat_map}
 use Rattle.std.specs.Int.{w16, cast_signed, cast_unsigned}
 use Rattle.byteorder.specs.Endian.{little_bytes, big_bytes, little_number}
-use Rattle.paths.specs.Words.{word_number}
+use Rattle.cs_bits.specs.Numbers.{number}
 use Rattle.tail_cert.specs.Certificate.{Held}
 
 -- the first four bytes
@@ -20,7 +20,7 @@ entry_bytes n = little_bytes 4 n
 
 -- the 40 bits of a word, the first in the highest place of the first byte
 unfoldable pub word_bytes : List Bool → List ℕ
-word_bytes word = big_bytes 5 (word_number word)
+word_bytes word = big_bytes 5 (number word)
 
 -- the values of a place, the bounds of a step, and those of a start state
 unfoldable pub place_bytes : List ℤ → List ℕ

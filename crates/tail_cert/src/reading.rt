@@ -2,7 +2,6 @@
 
 ghost use Rattle.std.specs.Prelude.{◌≡◌, ◌+◌, ◌*◌, ◌%◌, ◌^◌, ◌<◌, ◌≤◌, ◌↔◌, ℕ, All, IfSome, IfOk, IsErr, IsErrOf, IsNone, IsOk, IsTrue, List, drop, length, nat_abs, take};
 ghost use Rattle.std.specs.List.{flat_map};
-ghost use Rattle.paths.specs.Words.{word_number};
 ghost use Rattle.tail_cert.specs.Certificate.{Counted, Held, IsRow, IsTable, IsTriple, IsWhole};
 ghost use Rattle.tail_cert.specs.Form.{Breaks, IsEarlyEnd, IsFirstBreak, IsLargeValue, IsOffMark, bytes_of, entry_bytes, place_bytes, row_bytes, table_bytes, value_at, value_bytes, word_bytes};
 
@@ -140,30 +139,13 @@ fn get_tables(bytes: &[u8], at: usize, tables: &mut [[[u32; 64]; 40]])
     }
 }
 
-/// The word of a number: bit 0 is the heaviest.
-fn word_of(number: u64) -> [bool; 40]
-    requires { number < 2 ^ 40 }
-    ensures number { word_number result ≡ number }
-    ensures size { length result ≡ 40 }
-{
-    let mut word = [false; 40];
-    let mut rest = number;
-    let mut k: usize = 40;
-    while k > 0 {
-        k -= 1;
-        word[k] = rest % 2 == 1;
-        rest /= 2;
-    }
-    word
-}
-
 /// Reads the bits of a word.
 fn get_word(bytes: &[u8], at: usize) -> Bits<40>
     requires { at + 5 ≤ length bytes.now }
     ensures bytes { word_bytes result ≡ take 5 (drop at bytes.now) }
     ensures size { length result ≡ 40 }
 {
-    Bits::new(word_of(BigEndian::read_uint(&bytes[at..], 5)))
+    Bits::of_number(BigEndian::read_uint(&bytes[at..], 5))
 }
 
 /// Reads a whole certificate whose form is not broken.

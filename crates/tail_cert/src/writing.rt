@@ -2,13 +2,12 @@
 
 ghost use Rattle.std.specs.Prelude.{◌≡◌, ◌+◌, ◌*◌, ◌^◌, ◌<◌, ◌≤◌, All, Bool, cond, length, nat_abs, pos, slice_index_or};
 ghost use Rattle.std.specs.List.{flat_map};
-ghost use Rattle.paths.specs.Words.{word_number};
 ghost use Rattle.tail_cert.specs.Certificate.{IsWhole};
 ghost use Rattle.tail_cert.specs.Form.{bytes_of, entry_bytes, mark, place_bytes, row_bytes, table_bytes, value_bytes, with_piece, word_bytes};
 
 use crate::Certificate;
 use byteorder::{BigEndian, ByteOrder, LittleEndian};
-use cs_bits::Bits;
+use cs_bits::{Bits, number_of};
 
 /// Writes the mark.
 fn put_mark(out: &mut [u8])
@@ -94,32 +93,6 @@ fn put_tables(tables: &[[[u32; 64]; 40]], at: usize, out: &mut [u8])
     for s in 0..64 {
         put_table(&tables[s], at + 10240 * s, out);
     }
-}
-
-/// The number with a bit of this weight.
-fn with_bit(number: u64, bit: bool, weight: u64) -> u64
-    requires number { number < 2 ^ 40 }
-    requires weight { weight ≤ 2 ^ 40 }
-    ensures { result ≡ cond bit weight 0 + number }
-{
-    if bit { weight + number } else { number }
-}
-
-/// The number of a word: bit 0 is the heaviest.
-fn number_of(word: &[bool]) -> u64
-    requires { length word.now ≡ 40 }
-    ensures number { result ≡ word_number word.now }
-    ensures fits { result < 2 ^ 40 }
-{
-    let mut number: u64 = 0;
-    let mut weight: u64 = 1;
-    let mut k = word.len();
-    while k > 0 {
-        k -= 1;
-        number = with_bit(number, word[k], weight);
-        weight *= 2;
-    }
-    number
 }
 
 /// Writes the bits of a word at a place.

@@ -7,14 +7,14 @@ use Rattle.std.proofs.lemmas.List.{ext_get_or, get_or_past}
 use Rattle.std.proofs.Math.Pow.{pow_mono}
 use Rattle.finite.proofs.Sums.{total_below-within}
 use Rattle.paths.specs.Paths.{end_of, path_cost}
-use Rattle.paths.specs.Words.{word_number}
-use Rattle.paths.proofs.Words.{number_below, number-before, path_cost-keyed, word_bit}
+use Rattle.cs_bits.specs.Numbers.{number, bits_of}
+use Rattle.cs_bits.proofs.Numbers.{number_below, bits_of_is}
+use Rattle.paths.proofs.Words.{number-before, path_cost-keyed}
 use Rattle.paths.proofs.Rounds.{ends_in_same, ends_in_other}
 use Rattle.conv_code.specs.Code.{coded, taps_0, taps_1, taps_2}
 use Rattle.conv_code.specs.Cost.{place_cost, word_cost}
 use Rattle.conv_code.proofs.Costs.{word_cost-le}
 use Rattle.tailbite.specs.LeastWord.{IsLeastWord}
-use Rattle.finite.specs.Bits.{odd}
 use Rattle.tailbite.specs.Machine.{shift, step_cost}
 use Rattle.tailbite.proofs.Windows.{same_end, end_below}
 use Rattle.tailbite.proofs.Branches.{word_cost-path}
@@ -28,7 +28,7 @@ AreSmall values = All (λ v. All (λ z. nat_abs z ≤ 2 ^ 20) v) values
 
 -- the key of a word
 unfoldable key_of : List (List ℤ) → List Bool → ℕ
-key_of values word = word_cost values word * scale + word_number word
+key_of values word = word_cost values word * scale + number word
 
 -- what a path back to its start costs is the key of its word
 path_key : (values : List (List ℤ)) (s : ℕ) (bs : List Bool) → length bs ≡ length values → 6 ≤ length values → s < 64 → end_of shift s bs ≡ s →
@@ -65,11 +65,11 @@ key_reached values m round long short small =
           (bs, size, omega (arith, e, free, key))
       | inr (f, away) ↦
           let h = key_least values m round long bs size in
-          let far = ends_in_other (far) s (end_of shift s bs) f in
+          let away_costs = ends_in_other (far) s (end_of shift s bs) f in
           let cost = word_cost-le (2 ^ 20) values bs small in
-          let number = number_below bs in
+          let below = number_below bs in
           let power : 2 ^ length bs ≤ 2 ^ 64 = pow_mono {j = 64} (omega arith) in
-          absurd (omega (arith, h, far, cost, number, power, e))
+          absurd (omega (arith, h, away_costs, cost, below, power, e))
     ]
 
 -- ---- the choice among equals
@@ -82,13 +82,13 @@ least_word values word size short h = record {
   size = size;
   least = λ other size'.
       let k = h other size' in
-      let number = number_below other in
+      let below = number_below other in
       let power : 2 ^ length other ≤ scale = pow_mono {j = 64} (omega arith) in
-      omega (arith, k, number, power);
+      omega (arith, k, below, power);
   first = λ other size' before.
       let k = h other size' in
-      let number = number-before other word (omega arith) before in
-      omega (arith, k, number);
+      let below = number-before other word (omega arith) before in
+      omega (arith, k, below);
 }
 
 -- what is read from the least key
@@ -98,18 +98,16 @@ pub record IsDecoded (values : List (List ℤ)) (m : ℕ) (word : List Bool) : T
   pub small : m / scale ≤ 64 * (3 * 2 ^ 20)
 
 decoded : (values : List (List ℤ)) (m : ℕ) (word : List Bool) → IsLeastKeyBelow values 64 m →
-    6 ≤ length values → length values ≤ 64 → AreSmall values → length word ≡ length values →
-    ((k : ℕ) → k < length values → get_or word k false ≡ odd (m % scale / 2 ^ (length values - 1 - k))) → IsDecoded values m word
+    6 ≤ length values → length values ≤ 64 → AreSmall values → word ≡ bits_of (length values) (m % scale) → IsDecoded values m word
 unfolding key_of
-decoded values m word round long short small size bits =
+decoded values m word round long short small bits =
     let (w, size', key) = key_reached values m round long short small in
-    let number = number_below w in
+    let below = number_below w in
     let power : 2 ^ length w ≤ scale = pow_mono {j = 64} (omega arith) in
     let cost = word_cost-le (2 ^ 20) values w small in
-    let low : m % scale ≡ word_number w = omega (arith, key, number, power) in
-    let high : m / scale ≡ word_cost values w = omega (arith, key, number, power) in
-    let e : w ≡ word = ext_get_or false w word (omega arith) (λ k h.
-    word_bit w k h ∙ rw (size', ← low) (sym (bits k (omega arith)))) in
+    let low : m % scale ≡ number w = omega (arith, key, below, power) in
+    let high : m / scale ≡ word_cost values w = omega (arith, key, below, power) in
+    let e : w ≡ word = bits_of_is (length values) (m % scale) w size' (sym low) ∙ sym bits in
     let least : IsLeastWord values w = least_word values w size' short
     (λ other size_other. rw key (key_least values m round long other size_other)) in
     record {
@@ -120,7 +118,6 @@ decoded values m word round long short small size bits =
 
 -- the same, for an array of n places
 pub decoded_array : (n : ℕ) (values : List (List ℤ)) (m : ℕ) (word : List Bool) → length values ≡ n → IsLeastKeyBelow values 64 m →
-    6 ≤ n → n ≤ 64 → All (λ v. All (λ z. nat_abs z ≤ 2 ^ 20) v) values → length word ≡ n →
-    ((k : ℕ) → k < n → get_or word k false ≡ odd (m % scale / 2 ^ (n - 1 - k))) → IsDecoded values m word
-decoded_array n values m word e round long short small size bits =
-    decoded values m word round (rw e long) (rw e short) small (size ∙ sym e) (rw e bits)
+    6 ≤ n → n ≤ 64 → All (λ v. All (λ z. nat_abs z ≤ 2 ^ 20) v) values → word ≡ bits_of n (m % scale) → IsDecoded values m word
+decoded_array n values m word e round long short small bits =
+    decoded values m word round (rw e long) (rw e short) small (rw e bits)

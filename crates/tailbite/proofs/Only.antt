@@ -5,17 +5,13 @@ use Rattle.finite.specs.Lists.{values_below}
 use Rattle.finite.proofs.Lists.{values_below_same}
 use Rattle.finite.proofs.Sums.{total_zero, terms_zero}
 use Rattle.conv_code.specs.Code.{coded, coded_bits, coded_word, taps_0, taps_1, taps_2}
-use Rattle.conv_code.specs.Cost.{disagreement, place_cost, word_cost}
+use Rattle.cs_bits.specs.Signs.{disagreement}
+use Rattle.cs_bits.proofs.Signs.{speaks_for_one}
+use Rattle.conv_code.specs.Cost.{place_cost, word_cost}
 use Rattle.conv_code.proofs.OneToOne.{one_to_one}
 use Rattle.paths.proofs.Words.{either_before}
 use Rattle.tailbite.specs.Laws.{IsOneWord}
-use Rattle.tailbite.specs.Clean.{SpeaksFor, Speaks, IsOnlyLeast}
-
-agree : (z : ℤ) (a b : Bool) → SpeaksFor z b → disagreement z a ≡ 0 → a ≡ b
-agree z false false s h = refl
-agree z false true s h = let d = s.dear in absurd (omega (arith, d, h))
-agree z true false s h = let d = s.dear in absurd (omega (arith, d, h))
-agree z true true s h = refl
+use Rattle.tailbite.specs.Clean.{Speaks, IsOnlyLeast}
 
 -- a word's coded bits cost nothing where the values speak for them
 pub free_place : (values : List (List ℤ)) (word : List Bool) → Speaks values word → (k : ℕ) → k < length values → place_cost values word k ≡ 0
@@ -35,9 +31,9 @@ same_place values u word speaks k below h =
     let first : disagreement (get_or v 0 (pos 0)) (coded taps_0 u k) ≡ 0 = omega (arith, h) in
     let second : disagreement (get_or v 1 (pos 0)) (coded taps_1 u k) ≡ 0 = omega (arith, h) in
     let third : disagreement (get_or v 2 (pos 0)) (coded taps_2 u k) ≡ 0 = omega (arith, h) in
-    let a = agree _ _ _ here.first first in
-    let b = agree _ _ _ here.second second in
-    let c = agree _ _ _ here.third third in
+    let a = speaks_for_one _ _ _ here.first first in
+    let b = speaks_for_one _ _ _ here.second second in
+    let c = speaks_for_one _ _ _ here.third third in
     rw (a, b, c) refl
 
 pub only_least : IsOnlyLeast

@@ -1,13 +1,8 @@
 -- Values that all speak for the coded bits of one word (own).
-use Rattle.std.specs.Prelude.{◌≡◌, ℕ, ◌<◌, ◌≤◌, Bool, not, List, [], length, slice_index_or, ℤ, pos}
+use Rattle.std.specs.Prelude.{◌≡◌, ℕ, ◌<◌, ◌≤◌, Bool, List, [], length, slice_index_or, ℤ, pos}
 use Rattle.conv_code.specs.Code.{coded, taps_0, taps_1, taps_2}
-use Rattle.conv_code.specs.Cost.{disagreement}
+use Rattle.cs_bits.specs.Signs.{SpeaksFor}
 use Rattle.tailbite.specs.LeastWord.{IsLeastWord}
-
--- the value speaks for this bit, and is not 0
-pub record SpeaksFor (z : ℤ) (b : Bool) : Type 0 where
-  pub free : disagreement z b ≡ 0
-  pub dear : 0 < disagreement z (not b)
 
 -- the three values of a place speak for the coded bits of a word at place k
 pub record PlaceSpeaks (v : List ℤ) (word : List Bool) (k : ℕ) : Type 0 where

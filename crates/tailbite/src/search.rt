@@ -99,19 +99,6 @@ fn least_round(values: &[[i32; 3]], work: &mut Trellis) -> u128
     least
 }
 
-/// The word of a number: bit 0 has the greatest weight.
-fn word_of<const N: usize>(number: u64) -> [bool; N]
-    requires places { N ≤ 64 }
-    ensures bits { (k : ℕ) → k < N → slice_index_or result k false ≡ odd (number / 2 ^ (N - 1 - k)) }
-    ensures size { length result ≡ N }
-{
-    let mut word = [false; N];
-    for k in 0..N {
-        word[k] = (number >> (N - 1 - k)) % 2 == 1;
-    }
-    word
-}
-
 /// The least word and its cost: no word of N bits costs less by these values, and each that stands before
 /// it in lexicographic order (bit 0 first, 0 before 1) costs more. A value speaks for the coded bit 0 where
 /// it is above 0, for 1 where it is below; a word costs the sizes of those that speak against it.
@@ -123,8 +110,5 @@ pub fn least<const N: usize>(values: &[[i32; 3]; N], work: &mut Trellis) -> (Bit
     ensures cost { result.1 ≡ word_cost values.now result.0 }
 {
     let key = least_round(values, work);
-    (
-        Bits::new(word_of((key % SCALE) as u64)),
-        (key / SCALE) as u32,
-    )
+    (Bits::of_number((key % SCALE) as u64), (key / SCALE) as u32)
 }

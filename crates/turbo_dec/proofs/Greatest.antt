@@ -5,7 +5,7 @@ use Rattle.std.specs.Int.{int_max}
 use Rattle.std.proofs.lemmas.Bool.Decides.{eqb_tells}
 use Rattle.std.proofs.lemmas.Int.{ints, clamps}
 use Rattle.std.proofs.Math.Seq.{split_at, get_or-append_seam}
-use Rattle.conv_code.proofs.Costs.{disagreement-le}
+use Rattle.cs_bits.proofs.Signs.{disagreement-le}
 use Rattle.paths.specs.Paths.{end_of}
 use Rattle.paths.specs.Least.{IsLeastWith}
 use Rattle.paths.proofs.Paths.{path_cost-le}

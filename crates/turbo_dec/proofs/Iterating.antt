@@ -16,7 +16,8 @@ use Rattle.turbo_code.specs.Laws.{Permutes}
 use Rattle.turbo_code.proofs.TableFacts.{is_small}
 use Rattle.turbo_code.proofs.Permutes.{all_permute}
 use Rattle.turbo_dec.specs.Decoder.{IsSmall, values_of, at, extrinsics}
-use Rattle.turbo_dec.specs.Block.{tail_values, stream, in_order, in_word_order, step_of, handed_on, prior_after, told_by, word_by, payload, passes, block, first_extrinsics, second_extrinsics}
+use Rattle.cs_bits.specs.Checks.{message_of, has_check_24}
+use Rattle.turbo_dec.specs.Block.{tail_values, stream, in_order, in_word_order, step_of, handed_on, prior_after, told_by, word_by, block, first_extrinsics, second_extrinsics}
 
 -- ---- the order of the second decoder
 
@@ -114,7 +115,7 @@ told_is row sums prior s first second word es size ef ese h =
 pub record IsAfter (row : Row) (sums : List (List ℤ)) (prior : List ℤ) (n : ℕ) : Type 0 where
   pub small : All IsSmall prior
   pub prior_is : take row.k prior ≡ prior_after row sums n
-  pub none : (j : ℕ) → j < n → passes (word_by row sums (prior_after row sums j)) ≡ false
+  pub none : (j : ℕ) → j < n → has_check_24 (word_by row sums (prior_after row sums j)) ≡ false
 
 pub after_none : (row : Row) (sums : List (List ℤ)) → IsRow row → IsAfter row sums (replicate 1024 (pos 0)) 0
 unfolding prior_after
@@ -127,7 +128,7 @@ after_none row sums is_row =
     }
 
 pub after_more : (row : Row) (sums : List (List ℤ)) (prior later : List ℤ) (word : List Bool) (n : ℕ) → IsAfter row sums prior n → All IsSmall later →
-    take row.k later ≡ map handed_on (second_extrinsics row sums (take row.k prior)) → word ≡ word_by row sums (take row.k prior) → passes word ≡ false →
+    take row.k later ≡ map handed_on (second_extrinsics row sums (take row.k prior)) → word ≡ word_by row sums (take row.k prior) → has_check_24 word ≡ false →
     IsAfter row sums later (n + 1)
 unfolding prior_after
 after_more row sums prior later word n known small is told fails =
@@ -139,19 +140,19 @@ after_more row sums prior later word n known small is told fails =
         | inl before ↦ known.none j before
         | inr after ↦
             let here : j ≡ n = omega (arith, after, below) in
-            rw here (ap (λ q. passes (word_by row sums q)) (sym known.prior_is) ∙ ap passes (sym told) ∙ fails)
+            rw here (ap (λ q. has_check_24 (word_by row sums q)) (sym known.prior_is) ∙ ap has_check_24 (sym told) ∙ fails)
       ];
     }
 
 pub block_found : (row : Row) (sums : List (List ℤ)) (prior : List ℤ) (word : List Bool) (n : ℕ) → n < 8 → IsAfter row sums prior n →
-    word ≡ word_by row sums (take row.k prior) → passes word ≡ true → Some (payload word) ≡ block row sums
+    word ≡ word_by row sums (take row.k prior) → has_check_24 word ≡ true → Some (message_of 24 word) ≡ block row sums
 unfolding block
 block_found row sums prior word n below known told passed =
     let is : word ≡ word_by row sums (prior_after row sums n) = told ∙ ap (word_by row sums) known.prior_is in
-    let found = find_below_first passes (λ m. word_by row sums (prior_after row sums m)) 8 n below known.none (ap passes (sym is) ∙ passed) in
-    ap (λ w. Some (payload w)) is ∙ sym (ap (option_map payload) found)
+    let found = find_below_first has_check_24 (λ m. word_by row sums (prior_after row sums m)) 8 n below known.none (ap has_check_24 (sym is) ∙ passed) in
+    ap (λ w. Some (message_of 24 w)) is ∙ sym (ap (option_map (message_of 24)) found)
 
 pub block_none : (row : Row) (sums : List (List ℤ)) (prior : List ℤ) (n : ℕ) → 8 ≤ n → IsAfter row sums prior n → None ≡ block row sums
 unfolding block
 block_none row sums prior n past known =
-    sym (ap (option_map payload) (find_below_none passes (λ m. word_by row sums (prior_after row sums m)) 8 (λ j below. known.none j (omega (arith, past, below)))))
+    sym (ap (option_map (message_of 24)) (find_below_none has_check_24 (λ m. word_by row sums (prior_after row sums m)) 8 (λ j below. known.none j (omega (arith, past, below)))))

@@ -2,7 +2,7 @@
 use Rattle.std.proofs.Common.{◌≡◌, ℕ, zero, suc, ◌+◌, ◌*◌, ◌/◌, Bool, true, false, List, length, ℤ, pos, negsuc, ◌+ℤ◌, refl, ap, ap₂, sym, ◌∙◌, arith}
 use Rattle.std.proofs.lemmas.Int.{ints}
 use Rattle.finite.specs.Sums.{sum_below, total_below}
-use Rattle.conv_code.specs.Cost.{disagreement}
+use Rattle.cs_bits.specs.Signs.{disagreement}
 use Rattle.paths.specs.Paths.{end_of, path_cost}
 use Rattle.turbo_code.specs.Encoder.{bit_at, back, before, parity, tail_x, tail_z}
 use Rattle.turbo_dec.specs.Decoder.{Values, at, taken, place_score, tail_score, score}

@@ -4,7 +4,7 @@ use Rattle.std.specs.Prelude.{ℕ, zero, suc, ◌+◌, ◌-◌, Bool, List, [], 
 use Rattle.std.specs.List.{find, position_or_len, range_with_len}
 use Rattle.std.specs.Option.{option_map}
 use Rattle.finite.specs.Lists.{values_below}
-use Rattle.cs_bits.specs.Polynomial.{number, crc24a_of}
+use Rattle.cs_bits.specs.Checks.{message_of, has_check_24}
 use Rattle.turbo_code.specs.declared.rows.Row.{Row}
 use Rattle.turbo_code.specs.Table.{place}
 use Rattle.finite.specs.Tables.{sum_at}
@@ -62,14 +62,6 @@ word_by row sums prior = values_below row.k (told_by (stream row sums 0) (first_
 abbrev pub iterates : Row → List (List ℤ) → List (List Bool)
 iterates row sums = values_below 8 (λ n. word_by row sums (prior_after row sums n))
 
--- the bits before the check
-abbrev pub payload : List Bool → List Bool
-payload word = take (length word - 24) word
-
--- the last 24 bits of a word are CRC24A of those before
-unfoldable pub passes : List Bool → Bool
-passes word = nat_eq (number (drop (length word - 24) word)) (crc24a_of (payload word))
-
 -- the block of the sums of received values: the first of the iterates whose check passes, without the check
 unfoldable pub block : Row → List (List ℤ) → Option (List Bool)
-block row sums = option_map payload (find passes (iterates row sums))
+block row sums = option_map (message_of 24) (find has_check_24 (iterates row sums))

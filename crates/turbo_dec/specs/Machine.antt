@@ -2,7 +2,7 @@
 -- register, the latest with weight 4 (TS 36.212 section 5.1.3.2.1).
 use Rattle.std.specs.Prelude.{ℕ, ◌+◌, ◌*◌, ◌/◌, ◌%◌, ◌^◌, ◌<◌, ◌≤◌, min, Bool, true, false, cond, List, [], slice_index, slice_index_or, nat_eq, ℤ, ◌+ℤ◌}
 use Rattle.paths.specs.Least.{IsLeastTo}
-use Rattle.conv_code.specs.Cost.{disagreement}
+use Rattle.cs_bits.specs.Signs.{disagreement}
 use Rattle.finite.specs.Bits.{xor, odd}
 use Rattle.turbo_dec.specs.Decoder.{Values, at}
 

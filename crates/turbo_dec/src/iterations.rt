@@ -6,12 +6,13 @@ ghost use Rattle.std.specs.Option.{option_map};
 ghost use Rattle.finite.specs.Lists.{values_below};
 ghost use Rattle.turbo_code.specs.Table.{IsRow};
 ghost use Rattle.turbo_dec.specs.Decoder.{IsSmall, at, values_of, extrinsics};
-ghost use Rattle.turbo_dec.specs.Block.{tail_values, stream, in_order, in_word_order, handed_on, first_extrinsics, second_extrinsics, told_by, word_by, payload, passes, block};
+ghost use Rattle.cs_bits.specs.Checks.{message_of, has_check_24};
+ghost use Rattle.turbo_dec.specs.Block.{tail_values, stream, in_order, in_word_order, handed_on, first_extrinsics, second_extrinsics, told_by, word_by, block};
 
 use crate::constituent::half;
 use crate::work::Work;
 use arrayvec::ArrayVec;
-use cs_bits::{crc24a, number_of};
+use cs_bits::has_check_24;
 use turbo_code::{Combined, Row, place_of};
 
 /// The bits of a block, at most 1,000, without their check.
@@ -251,20 +252,11 @@ fn iterate(
     )
 }
 
-/// Whether the last 24 bits of a word are the check of those before.
-fn has_check(word: &[bool]) -> bool
-    requires { 24 ≤ length word.now }
-    ensures { result ≡ passes word.now }
-{
-    let size = word.len() - CHECK;
-    number_of(&word[size..]) == crc24a(&word[..size])
-}
-
 /// The bits before the check.
 fn payload_of(word: &[bool]) -> Block
     requires low { 24 ≤ length word.now }
     requires high { length word.now ≤ 1024 }
-    ensures { result.items ≡ payload word.now }
+    ensures { result.items ≡ message_of 24 word.now }
 {
     let mut block = ArrayVec::new();
     for bit in &word[..word.len() - CHECK] {
@@ -273,7 +265,7 @@ fn payload_of(word: &[bool]) -> Block
     block
 }
 
-/// The block of the sums of received values: the first of eight iterates whose check passes (CRC24A, TS
+/// The block of the sums of received values: the first of eight iterates whose check has_check_24 (CRC24A, TS
 /// 36.212 section 5.1.1), without the check; `None` exactly where none passes. The iteration is own: one pass
 /// of the first decoder, then one of the second, which reads the word in the order of the interleaver. The
 /// prior of each is what the other handed on last: its extrinsic values, each less its quarter rounded toward
@@ -289,7 +281,7 @@ pub fn decode(values: &Combined, row: Row, work: &mut Work) -> Option<Block>
     for _ in 0..ITERATIONS {
         let word = iterate(&values.d, &row, &mut prior, work);
         let bits = bits_of(&word, &row);
-        if has_check(bits) {
+        if has_check_24(bits) {
             return Some(payload_of(bits));
         }
     }

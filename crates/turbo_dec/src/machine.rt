@@ -7,7 +7,7 @@ ghost use Rattle.turbo_dec.specs.Decoder.{IsSmall};
 ghost use Rattle.finite.specs.Bits.{odd};
 ghost use Rattle.turbo_dec.specs.Machine.{register, parity_bit, next, edge_cost, tail_step_cost, tail_cost, first_from, forward_least, backward_least};
 
-use conv_code::disagreement_of;
+use cs_bits::disagreement_of;
 
 const STATES: usize = 8;
 

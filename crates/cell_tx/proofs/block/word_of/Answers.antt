@@ -1,8 +1,10 @@
-use Rattle.std.proofs.Common.{◌≡◌, ℕ, ◌/◌, ◌++◌, List, Bool, take, arith, refl, ap, ◌∙◌, sym}
+use Rattle.std.proofs.Common.{◌≡◌, ℕ, ◌/◌, ◌++◌, List, Bool, take, arith, refl, ap, ◌∙◌, sym, bit_xor}
+use Rattle.std.specs.Int.Bits.{xor_zero_r}
 use Rattle.std.proofs.lemmas.List.{take_all}
-use Rattle.cs_bits.specs.Polynomial.{crc16_of}
+use Rattle.cs_bits.specs.Checks.{crc16_of}
 use Rattle.cell_tx.specs.declared.cell.CellPlan.{CellPlan}
-use Rattle.cell_tx.specs.Block.{bits_of, duration_code, resource_code, block_bits, broadcast_word}
+use Rattle.cs_bits.specs.Numbers.{bits_of}
+use Rattle.cell_tx.specs.Block.{duration_code, resource_code, block_bits, broadcast_word}
 use Rattle.cell_tx.proofs.block.word_of.Goals as goal
 
 -- bits after other bits
@@ -18,5 +20,5 @@ returns c =
     let third = next 2 _ (resource_code plan.resource) _ _ _ c.put_bits-3.ensures (c.code_of_resource.ensures ∙ ap (λ (p : CellPlan). resource_code p.resource) c.plan-plan.ensures.plan) second in
     let fourth = next 8 _ (c.args.sfn / 4) _ _ _ c.put_bits-4.ensures (ap (λ (n : ℕ). n / 4) c.value.ensures.value) third in
     let fifth = next 10 _ plan.spare _ _ _ c.put_bits-5.ensures (ap (λ (p : CellPlan). p.spare) c.plan-plan.ensures.plan) fourth in
-    let sixth = next 16 _ (crc16_of (block_bits plan c.args.sfn)) _ _ _ c.put_bits-6.ensures (c.crc16-check.ensures ∙ ap crc16_of fifth) fifth in
+    let sixth = next 16 _ (bit_xor (crc16_of (block_bits plan c.args.sfn)) 0) _ _ _ c.put_bits-6.ensures (c.crc16-check.ensures ∙ ap crc16_of fifth ∙ sym (xor_zero_r _)) fifth in
     c.new.ensures ∙ sym (take_all 40 c.put_bits-6.new.bits (omega (arith, c.put_bits-6.array_long))) ∙ sixth

@@ -3,7 +3,7 @@ use mir.Val.{to_z, of_z}
 use mir.Syntax.{w32}
 use Rattle.std.proofs.lemmas.Int.{to_z-of_z, fits_signed_from_abs}
 use Rattle.finite.proofs.Items.{item-within}
-use Rattle.conv_code.specs.Cost.{disagreement}
+use Rattle.cs_bits.specs.Signs.{disagreement}
 use Rattle.conv_code.proofs.Costs.{triple_cost-le}
 use Rattle.conv_code.proofs.place.against.Goals as goal
 

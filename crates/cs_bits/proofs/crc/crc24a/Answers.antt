@@ -1,6 +1,7 @@
 use Rattle.std.proofs.Common.{◌+◌, refl, lit<, sym, subst}
-use Rattle.cs_bits.specs.Polynomial.{generator_24a, powers_below, has_power, crc24a_of}
-use Rattle.cs_bits.proofs.Division.{kept_none, kept_more, kept_all, bits_of, Kept}
+use Rattle.cs_bits.specs.Polynomial.{generator_24a, powers_below, has_power}
+use Rattle.cs_bits.specs.Checks.{crc24a_of}
+use Rattle.cs_bits.proofs.Division.{kept_none, kept_more, kept_all, Kept}
 use Rattle.cs_bits.proofs.crc.crc24a.Goals as goal
 
 pub loop-bit-init : goal.loop-bit-init
@@ -13,5 +14,5 @@ loop-bit-preserved c = record {
 }
 
 pub returns-clause-value : goal.returns-clause-value
-unfolding crc24a_of generator_24a powers_below has_power bits_of
+unfolding crc24a_of generator_24a powers_below has_power
 returns-clause-value c = kept_all 23 8801531 c.args.bits.now c.loop-bit.bit-index c.loop-bit.register c.loop-bit-test.false c.loop-bit.invariant.fits c.loop-bit.invariant.kept

@@ -1,7 +1,7 @@
 use Rattle.std.proofs.Common.{◌≡◌, ◌≤◌, take, Bool, true, false, cond, get_or, arith, refl, ap, ◌∙◌}
 use Rattle.std.proofs.lemmas.List.{take_all}
 use mir.Val.{bool_byte}
-use Rattle.cs_bits.specs.Polynomial.{number}
+use Rattle.cs_bits.specs.Numbers.{number}
 use Rattle.cs_bits.proofs.Numbers.{number_below, number_more, number_before}
 use Rattle.cs_bits.proofs.number.number_of.Goals as goal
 
@@ -14,7 +14,6 @@ at_most_one true = omega arith
 at_most_one false = omega arith
 
 pub loop-bit-init : goal.loop-bit-init
-unfolding number
 loop-bit-init c = refl
 
 pub overflow_mul-number : goal.overflow_mul-number

@@ -1,5 +1,5 @@
 use Rattle.std.proofs.Common.{◌≡◌, take}
-use Rattle.cs_bits.specs.Polynomial.{number}
+use Rattle.cs_bits.specs.Numbers.{number}
 use Rattle.cs_bits.proofs.number.number_of.Given as goal
 
 abbrev pub invariant-loop-bit : goal.invariant-loop-bit

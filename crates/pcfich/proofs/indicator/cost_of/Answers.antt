@@ -3,8 +3,8 @@ use Rattle.std.proofs.lemmas.Int.{to_z-of_z, fits_signed_from_abs}
 use Rattle.std.proofs.lemmas.List.Elements.{All-get_or}
 use Rattle.finite.specs.Sums.{total_below}
 use Rattle.finite.proofs.Sums.{total_below_more}
-use Rattle.conv_code.specs.Cost.{disagreement}
-use Rattle.conv_code.proofs.Costs.{disagreement-le}
+use Rattle.cs_bits.specs.Signs.{disagreement}
+use Rattle.cs_bits.proofs.Signs.{disagreement-le}
 use Rattle.pcfich.specs.Indicator.{code_bit, cost}
 use Rattle.pcfich.proofs.indicator.cost_of.Goals as goal
 

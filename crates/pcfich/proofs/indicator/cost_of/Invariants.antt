@@ -1,6 +1,6 @@
 use Rattle.std.proofs.Common.{◌≡◌, ◌*◌, ◌≤◌, pos, slice_index_or}
 use Rattle.finite.specs.Sums.{total_below}
-use Rattle.conv_code.specs.Cost.{disagreement}
+use Rattle.cs_bits.specs.Signs.{disagreement}
 use Rattle.pcfich.specs.Indicator.{code_bit}
 use Rattle.pcfich.proofs.indicator.cost_of.Given as goal
 

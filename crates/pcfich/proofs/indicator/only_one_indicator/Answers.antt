@@ -4,7 +4,7 @@ use Rattle.std.proofs.lemmas.Bool.{cases_lt, eqb-true, eq-eqb, false≢true}
 use Rattle.std.proofs.lemmas.Bool.Decides.{nat_tests}
 use Rattle.finite.specs.Sums.{total_below}
 use Rattle.finite.proofs.Sums.{total_below-within}
-use Rattle.conv_code.specs.Cost.{disagreement}
+use Rattle.cs_bits.specs.Signs.{disagreement}
 use Rattle.pcfich.specs.Indicator.{code_bit, cost, IsIndicator, Speak}
 use Rattle.pcfich.proofs.indicator.only_one_indicator.Goals as goal
 
@@ -29,14 +29,14 @@ at_most (suc n) k f l = cases (cases_lt k n) (λ below. at_most n k f below)
 sent_free : (values : List ℤ) (sent : ℕ) → Speak values sent → cost values sent ≡ 0
 unfolding cost
 sent_free values sent speak =
-    let within = total_below-within 32 0 (λ i. disagreement (slice_index_or values i (pos 0)) (code_bit sent i)) (λ k l. let none = (speak k l).0 in omega (arith, none)) in
+    let within = total_below-within 32 0 (λ i. disagreement (slice_index_or values i (pos 0)) (code_bit sent i)) (λ k l. let none = (speak k l).free in omega (arith, none)) in
     omega (arith, within)
 
 -- another indicator has the other bit at a place
 other_dear : (values : List ℤ) (sent other : ℕ) → 1 ≤ sent → sent ≤ 3 → 1 ≤ other → other ≤ 3 → (sent ≡ other → ⊥) → Speak values sent → 0 < cost values other
 unfolding cost
 other_dear values sent other a b c d differ speak =
-    let dear = (speak (sent - 1) (omega arith)).1 in
+    let dear = (speak (sent - 1) (omega arith)).dear in
     let own : nat_eq ((sent - 1) % 3) (sent - 1) ≡ true = grind (arith, nat_tests) in
     let others : nat_eq ((sent - 1) % 3) (other - 1) ≡ false = grind (arith, nat_tests, differ) in
     let one = at_most 32 (sent - 1) (λ i. disagreement (slice_index_or values i (pos 0)) (code_bit other i)) (omega arith) in
