@@ -35,9 +35,7 @@ impl<R: Read> StdSource<R> {
 }
 
 impl<R: Read> Source for StdSource<R> {
-    ghost left = { λ _. None };
-
-    ghost faults = { λ s. s.faults };
+    ghost told = { λ s. record { left = None; faults = s.faults } };
 
     /// Gives what the reader gives. Each `Err` of the reader is a fault.
     fn read(&mut self, into: &mut [u8]) -> Result<usize, Failed>
@@ -87,11 +85,7 @@ impl<W: Write> StdSink<W> {
 }
 
 impl<W: Write> Sink for StdSink<W> {
-    ghost taken = { λ _. None };
-
-    ghost room = { λ _. None };
-
-    ghost faults = { λ s. s.faults };
+    ghost told = { λ s. record { taken = None; room = None; faults = s.faults } };
 
     /// Takes what the writer takes. Each `Err` and each `Ok(0)` of the writer is a fault.
     fn write(&mut self, piece: &[u8]) -> Result<usize, Failed>

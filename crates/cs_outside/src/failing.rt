@@ -73,9 +73,7 @@ impl FailSource {
 }
 
 impl Source for FailSource {
-    ghost left = { λ s. Some s.left };
-
-    ghost faults = { λ s. s.faults };
+    ghost told = { λ s. record { left = Some s.left; faults = s.faults } };
 
     /// Fails exactly in the listed calls. Each other gives as many bytes as `most`, `into` and what is left allow.
     fn read(&mut self, into: &mut [u8]) -> Result<usize, Failed>
@@ -158,11 +156,7 @@ impl FailSink {
 }
 
 impl Sink for FailSink {
-    ghost taken = { λ s. Some s.taken };
-
-    ghost room = { λ _. None };
-
-    ghost faults = { λ s. s.faults };
+    ghost told = { λ s. record { taken = Some s.taken; room = None; faults = s.faults } };
 
     /// Fails exactly in the listed calls and where no room is left.
     /// Each other takes as many bytes as the piece, `most` and the room that is left allow.

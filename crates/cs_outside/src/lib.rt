@@ -2,9 +2,10 @@
 //! Those in memory serve tests, some of them fail on purpose, and two wrap a reader and a writer of std.
 #![tactic(auto)]
 
-ghost use Rattle.std.specs.Prelude.{◌≡◌, ◌↔◌, ◌<◌, ◌≤◌, ℕ, Option, List, [], length, take, IfOk, IfSome, OnErr};
+ghost use Rattle.std.specs.Prelude.{◌≡◌, ◌↔◌, ◌<◌, ◌≤◌, [], length, take, IfOk, IfSome, OnErr};
 ghost use Rattle.cs_outside.specs.Counts.{last_count, Rose};
-ghost use Rattle.cs_outside.specs.Streams.{HasRead, HasWritten, HasFilled};
+ghost use Rattle.cs_outside.specs.Outside.{SourceTold, SinkTold};
+ghost use Rattle.cs_outside.specs.Streams.{HasRead, HasWritten};
 
 mod adapters;
 mod counts;
@@ -27,11 +28,9 @@ pub struct Failed;
 
 /// A source of bytes.
 pub trait Source {
-    /// The bytes that are left, where it tells them.
-    ghost left: { Self → Option (List ℕ) };
-
-    /// Its count of faults, from 0 to 2^64 - 1, where it stays.
-    ghost faults: { Self → ℕ };
+    /// What it tells: the bytes that are left, or nothing of them, and its count of faults, from 0 to
+    /// 2^64 - 1, where it stays.
+    ghost told: { Self → SourceTold };
 
     /// Puts the next bytes first into `into`, which is not empty, and gives their number: 0 at the end of the input.
     /// What `into` holds past them is not said. `Failed` is a fault that was counted.
@@ -39,24 +38,19 @@ pub trait Source {
         requires { 0 < length into.old }
         ensures same_length { length into.new ≡ length into.old }
         ensures fits { IfOk result (λ n. n ≤ length into.new) }
-        ensures next { IfOk result (λ n. HasRead (take n into.new) (left self.old) (left self.new)) }
-        ensures end { IfOk result (λ n. IfSome (left self.old) (λ input. (n ≡ 0) ↔ (input ≡ []))) }
-        ensures unchanged { OnErr result (left self.new ≡ left self.old) }
-        ensures cause { OnErr result (Rose (faults self.old) (faults self.new)) }
-        ensures never_falls { faults self.old ≤ faults self.new }
-        ensures counted { faults self.new ≤ last_count };
+        ensures next { IfOk result (λ n. HasRead (take n into.new) (told self.old) (told self.new)) }
+        ensures end { IfOk result (λ n. IfSome (told self.old).left (λ input. (n ≡ 0) ↔ (input ≡ []))) }
+        ensures unchanged { OnErr result ((told self.new).left ≡ (told self.old).left) }
+        ensures cause { OnErr result (Rose (told self.old).faults (told self.new).faults) }
+        ensures never_falls { (told self.old).faults ≤ (told self.new).faults }
+        ensures counted { (told self.new).faults ≤ last_count };
 }
 
 /// A sink of bytes.
 pub trait Sink {
-    /// The bytes that it took, where it tells them.
-    ghost taken: { Self → Option (List ℕ) };
-
-    /// The room that is left, where it tells it.
-    ghost room: { Self → Option ℕ };
-
-    /// Its count of faults, from 0 to 2^64 - 1, where it stays.
-    ghost faults: { Self → ℕ };
+    /// What it tells: the bytes that it took and the room that is left, or nothing of them, and its
+    /// count of faults, from 0 to 2^64 - 1, where it stays.
+    ghost told: { Self → SinkTold };
 
     /// Takes one or more of the first bytes of `piece`, which is not empty, and gives their number.
     /// `Failed` is a fault that was counted; where the room is told, it is then 0.
@@ -64,12 +58,11 @@ pub trait Sink {
         requires { 0 < length piece.now }
         ensures some { IfOk result (λ n. 0 < n) }
         ensures fits { IfOk result (λ n. n ≤ length piece.now) }
-        ensures appended { IfOk result (λ n. HasWritten (take n piece.now) (taken self.old) (taken self.new)) }
-        ensures filled { IfOk result (λ n. HasFilled n (room self.old) (room self.new)) }
-        ensures unchanged { OnErr result (taken self.new ≡ taken self.old) }
-        ensures full { OnErr result (IfSome (room self.old) (λ left. left ≡ 0)) }
-        ensures still_full { OnErr result (room self.new ≡ room self.old) }
-        ensures cause { OnErr result (Rose (faults self.old) (faults self.new)) }
-        ensures never_falls { faults self.old ≤ faults self.new }
-        ensures counted { faults self.new ≤ last_count };
+        ensures written { IfOk result (λ n. HasWritten (take n piece.now) (told self.old) (told self.new)) }
+        ensures unchanged { OnErr result ((told self.new).taken ≡ (told self.old).taken) }
+        ensures full { OnErr result (IfSome (told self.old).room (λ left. left ≡ 0)) }
+        ensures still_full { OnErr result ((told self.new).room ≡ (told self.old).room) }
+        ensures cause { OnErr result (Rose (told self.old).faults (told self.new).faults) }
+        ensures never_falls { (told self.old).faults ≤ (told self.new).faults }
+        ensures counted { (told self.new).faults ≤ last_count };
 }

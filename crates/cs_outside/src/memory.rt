@@ -34,9 +34,7 @@ impl MemSource {
 }
 
 impl Source for MemSource {
-    ghost left = { λ s. Some s };
-
-    ghost faults = { λ _. 0 };
+    ghost told = { λ s. record { left = Some s; faults = 0 } };
 
     /// Gives as many bytes as `into` and what is left allow.
     fn read(&mut self, into: &mut [u8]) -> Result<usize, Failed>
@@ -100,11 +98,7 @@ impl MemSink {
 }
 
 impl Sink for MemSink {
-    ghost taken = { λ s. Some s.taken };
-
-    ghost room = { λ s. Some s.room };
-
-    ghost faults = { λ s. s.faults };
+    ghost told = { λ s. record { taken = Some s.taken; room = Some s.room; faults = s.faults } };
 
     /// Takes as many bytes as the piece and the room that is left allow. It fails exactly where no room is left.
     fn write(&mut self, piece: &[u8]) -> Result<usize, Failed>

@@ -1,7 +1,7 @@
 //! A source read to its end, and a piece written whole.
-ghost use Rattle.std.specs.Prelude.{◌≡◌, ◌<◌, ◌≤◌, length, IfOk, IfSome, IsErrOf, OnOk, OnErr};
+ghost use Rattle.std.specs.Prelude.{◌<◌, ◌≤◌, length, IfOk, IsErrOf, OnOk, OnErr};
 ghost use Rattle.cs_outside.specs.Counts.{Rose};
-ghost use Rattle.cs_outside.specs.Streams.{HasReadAll, HasReadPast, HasWritten, HasWrittenFront, HasFilled};
+ghost use Rattle.cs_outside.specs.Streams.{HasReadAll, HasReadPast, HasReadFault, HasWritten, HasWrittenFront, IsShortOf};
 
 use crate::{Failed, Sink, Source};
 use std::alloc::Global;
@@ -24,8 +24,8 @@ pub enum ReadError {
 // The most bytes that one call of a source is asked for.
 const PIECE: usize = 4_096;
 
-/// Reads a source to its end, which has to come within `limit` bytes. Of a longer input `limit + 1` bytes are read.
-/// After an error what was read is dropped.
+/// Reads a source to its end, which has to come within `limit` bytes. Of a longer input `limit + 1` bytes are read,
+/// and nothing after them. After an error what was read is dropped.
 pub fn read_to_end<S: Source>(
     alloc: Global,
     source: &mut S,
@@ -33,12 +33,12 @@ pub fn read_to_end<S: Source>(
 ) -> Result<Vec<u8>, ReadError>
     requires { limit < usize.MAX }
     ensures ok { IfOk result (λ bytes.
-        HasReadAll limit bytes.items (S.left source.old) (S.left source.new)) }
+        HasReadAll limit bytes.items (S.told source.old) (S.told source.new)) }
     ensures too_long { IsErrOf result ReadError.TooLong →
-        HasReadPast limit (S.left source.old) (S.left source.new) }
+        HasReadPast limit (S.told source.old) (S.told source.new) }
     ensures fault { IsErrOf result ReadError.ReadFault →
-        Rose (S.faults source.old) (S.faults source.new) }
-    ensures never_falls { S.faults source.old ≤ S.faults source.new }
+        HasReadFault limit (S.told source.old) (S.told source.new) }
+    ensures never_falls { (S.told source.old).faults ≤ (S.told source.new).faults }
 {
     let mut bytes = Vec::new(alloc);
     let mut buffer = [0u8; PIECE];
@@ -61,12 +61,11 @@ pub fn read_to_end<S: Source>(
 
 /// Writes a piece to its end. Each call of the sink is given all that is left of it.
 pub fn write_whole<K: Sink>(sink: &mut K, piece: &[u8]) -> Result<(), Failed>
-    ensures ok { OnOk result (HasWritten piece.now (K.taken sink.old) (K.taken sink.new)) }
-    ensures filled { OnOk result (HasFilled (length piece.now) (K.room sink.old) (K.room sink.new)) }
-    ensures front { OnErr result (HasWrittenFront piece.now (K.taken sink.old) (K.taken sink.new)) }
-    ensures full { OnErr result (IfSome (K.room sink.old) (λ room. room < length piece.now)) }
-    ensures fault { OnErr result (Rose (K.faults sink.old) (K.faults sink.new)) }
-    ensures never_falls { K.faults sink.old ≤ K.faults sink.new }
+    ensures ok { OnOk result (HasWritten piece.now (K.told sink.old) (K.told sink.new)) }
+    ensures front { OnErr result (HasWrittenFront piece.now (K.told sink.old) (K.told sink.new)) }
+    ensures full { OnErr result (IsShortOf (length piece.now) (K.told sink.old)) }
+    ensures fault { OnErr result (Rose (K.told sink.old).faults (K.told sink.new).faults) }
+    ensures never_falls { (K.told sink.old).faults ≤ (K.told sink.new).faults }
 {
     let mut rest = piece;
     while !rest.is_empty() {

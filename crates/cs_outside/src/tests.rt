@@ -78,6 +78,20 @@ fn a_piece_is_written_as_far_as_there_is_room(rt: HostRuntime) -> Result<(), Fai
     Ok(())
 }
 
+#[test]
+fn each_write_is_given_all_that_is_left_of_its_piece(rt: HostRuntime) -> Result<(), Fail> {
+    let alloc = rt.alloc();
+    // The second call fails, so the first has to be given the whole piece.
+    let mut sink = FailSink::new(alloc, [1u64].to_vec(alloc)?, 16, 16)?;
+    assert_eq!(rt; write_whole(&mut sink, b"hello world"), Ok(()));
+    assert_eq!(rt; sink.taken(), b"hello world".as_slice());
+    // Of eleven bytes each call takes five at most, so the fourth is not made.
+    let mut sink = FailSink::new(alloc, [3u64].to_vec(alloc)?, 5, 16)?;
+    assert_eq!(rt; write_whole(&mut sink, b"hello world"), Ok(()));
+    assert_eq!(rt; sink.taken(), b"hello world".as_slice());
+    Ok(())
+}
+
 // A reader and a writer of which each call fails, and a writer that takes nothing.
 #[derive(Drop)]
 struct Broken;

@@ -10,8 +10,9 @@ use Rattle.std.proofs.lemmas.Bool.Decides.{eqb_tells}
 use Rattle.std.specs.List.{flat_map, AllZip, Contains}
 use Rattle.std.proofs.lemmas.Grind.{flat_map-append}
 use Rattle.cs_num.specs.declared.Sample.{Sample}
-use Rattle.cs_outside.specs.Streams.{HasWritten, HasWrittenFront, HasFilled}
-use Rattle.cs_outside.proofs.Writing.{write_nothing, write_then, fill_nothing, fill_then, front_after, front_of_longer, full_after}
+use Rattle.cs_outside.specs.Outside.{SinkTold}
+use Rattle.cs_outside.specs.Streams.{HasWritten, HasWrittenFront, IsShortOf}
+use Rattle.cs_outside.proofs.Writing.{write_nothing, write_then, front_after, front_of_longer, short_after}
 use Rattle.lte_types.specs.declared.entry.Entry.{Entry}
 use Rattle.finite.specs.Lists.{values_below}
 use Rattle.finite.proofs.Lists.{values_below-length, values_below_at}
@@ -52,7 +53,7 @@ certified_length samples (e ∷ es) (c ∷ cs) (first, rest) =
 -- all certificates of a recording's list have one length
 pub one_certified_length : (samples : List Sample) (first second : List ℕ) → IsCertified samples first → IsCertified samples second → length first ≡ length second
 one_certified_length samples first second a b =
-    let same = is_one_list samples a.entries b.entries a.explained b.explained in
+    let same = is_one_list samples a.entries b.entries a.is_list.explained b.is_list.explained in
     let p = certified_length samples a.entries a.certificates a.each in
     let q = certified_length samples b.entries b.certificates b.each in
     ap length a.bytes ∙ p ∙ ap (λ l. count * length l) same ∙ sym q ∙ sym (ap length b.bytes)
@@ -153,33 +154,31 @@ entries_have samples entries (e ∷ rest) explained inside =
 
 -- ---- one certificate is written
 
-pub certified_ok : (samples : List Sample) (entry : Entry) (c : Held) (piece : List ℕ) (before now : Option (List ℕ)) (room room_now : Option ℕ) (r : Result (Unit {0}) Failed) →
-    Certifies samples entry c → piece ≡ bytes_of c → OnOk r (HasWritten piece before now) → OnOk r (HasFilled (length piece) room room_now) →
-    OnOk r (HasCertified samples entry before now room room_now)
-certified_ok samples entry c piece before now room room_now (Err e) h same written filled = tt
-certified_ok samples entry c piece before now room room_now (Ok u) h same written filled = record {
+pub certified_ok : (samples : List Sample) (entry : Entry) (c : Held) (piece : List ℕ) (before now : SinkTold) (r : Result (Unit {0}) Failed) →
+    Certifies samples entry c → piece ≡ bytes_of c → OnOk r (HasWritten piece before now) → OnOk r (HasCertified samples entry before now)
+certified_ok samples entry c piece before now (Err e) h same written = tt
+certified_ok samples entry c piece before now (Ok u) h same written = record {
   certificate = c;
   certifies = h;
   written = subst (λ l. HasWritten l before now) same written;
-  filled = subst (λ n. HasFilled n room room_now) (ap length same ∙ length-bytes_of c h.whole) filled;
 }
 
-pub certified_err : (samples : List Sample) (entry : Entry) (c : Held) (piece : List ℕ) (before now : Option (List ℕ)) (room : Option ℕ) (r : Result (Unit {0}) Failed) →
-    Certifies samples entry c → piece ≡ bytes_of c → OnErr r (HasWrittenFront piece before now) → OnErr r (IfSome room (λ left. left < length piece)) →
-    OnErr r (HasCertifiedFront samples entry before now room)
-certified_err samples entry c piece before now room (Ok u) h same front full = tt
-certified_err samples entry c piece before now room (Err e) h same front full = record {
+pub certified_err : (samples : List Sample) (entry : Entry) (c : Held) (piece : List ℕ) (before now : SinkTold) (r : Result (Unit {0}) Failed) →
+    Certifies samples entry c → piece ≡ bytes_of c → OnErr r (HasWrittenFront piece before now) → OnErr r (IsShortOf (length piece) before) →
+    OnErr r (HasCertifiedFront samples entry before now)
+certified_err samples entry c piece before now (Ok u) h same front full = tt
+certified_err samples entry c piece before now (Err e) h same front full = record {
   certificate = c;
   certifies = h;
   front = subst (λ l. HasWrittenFront l before now) same front;
-  full = subst (λ n. IfSome room (λ left. left < n)) (ap length same ∙ length-bytes_of c h.whole) full;
+  full = subst (λ l. IsShortOf (length l) before) same full;
 }
 
 -- ---- one after the other
 
 -- at first none is written
-pub written_none : (samples : List Sample) (before : Option (List ℕ)) (room : Option ℕ) → HasCertifiedAll samples [] before before room room
-written_none samples before room = record { certificates = []; each = tt; written = write_nothing before; filled = fill_nothing room }
+pub written_none : (samples : List Sample) (before : SinkTold) → HasCertifiedAll samples [] before before
+written_none samples before = record { certificates = []; each = tt; written = write_nothing before }
 
 zip_append : (samples : List Sample) (es fs : List Entry) (cs ds : List Held) → AllZip (Certifies samples) es cs → AllZip (Certifies samples) fs ds → AllZip (Certifies samples) (es ++ fs) (cs ++ ds)
 zip_append samples [] fs [] ds a b = b
@@ -187,57 +186,62 @@ zip_append samples [] fs (c ∷ cs) ds a b = absurd a
 zip_append samples (e ∷ es) fs [] ds a b = absurd a
 zip_append samples (e ∷ es) fs (c ∷ cs) ds (first, rest) b = (first, zip_append samples es fs cs ds rest b)
 
-one_flat : (c : Held) → flat_map bytes_of (c ∷ []) ≡ bytes_of c
-one_flat c = append-nil (bytes_of c)
+-- the bytes of certificates and of one more
+bytes_and_one : (cs : List Held) (c : Held) → flat_map bytes_of (cs ++ c ∷ []) ≡ flat_map bytes_of cs ++ bytes_of c
+bytes_and_one cs c = flat_map-append bytes_of cs (c ∷ []) ∙ ap (λ l. flat_map bytes_of cs ++ l) (append-nil (bytes_of c))
 
-pub written_more : (samples : List Sample) (entries : List Entry) (entry : Entry) (before between now : Option (List ℕ)) (room room_between room_now : Option ℕ) →
-    HasCertifiedAll samples entries before between room room_between → HasCertified samples entry between now room_between room_now →
-    HasCertifiedAll samples (entries ++ entry ∷ []) before now room room_now
-written_more samples entries entry before between now room room_between room_now a h = record {
+pub written_more : (samples : List Sample) (entries : List Entry) (entry : Entry) (before between now : SinkTold) →
+    HasCertifiedAll samples entries before between → HasCertified samples entry between now → HasCertifiedAll samples (entries ++ entry ∷ []) before now
+written_more samples entries entry before between now a h = record {
   certificates = a.certificates ++ h.certificate ∷ [];
   each = zip_append samples entries (entry ∷ []) a.certificates (h.certificate ∷ []) a.each (h.certifies, tt);
-  written = subst (λ l. HasWritten l before now) (sym (flat_map-append bytes_of a.certificates (h.certificate ∷ []) ∙ ap (λ l. flat_map bytes_of a.certificates ++ l) (one_flat h.certificate)))
+  written = subst (λ l. HasWritten l before now) (sym (bytes_and_one a.certificates h.certificate))
       (write_then (flat_map bytes_of a.certificates) (bytes_of h.certificate) before between now a.written h.written);
-  filled = subst (λ n. HasFilled n room room_now) (omega (arith, length-append entries (entry ∷ [])))
-      (fill_then (count * length entries) count room room_between room_now a.filled h.filled);
 }
 
+-- less room than for a front is less than for all
+short_of_more : (n m : ℕ) (before : SinkTold) → n ≤ m → IsShortOf n before → IsShortOf m before
+short_of_more n m before few short = by_room before.room short
+  where
+    by_room : (room : Option ℕ) → IfSome room (λ left. left < n) → IfSome room (λ left. left < m)
+    by_room None short = tt
+    by_room (Some left) short = omega (arith, short, few)
+
 -- where a front of one is written, a front of all is
-pub written_some : (samples : List Sample) (list entries : List Entry) (entry : Entry) (rest : List Entry) (before between now : Option (List ℕ)) (room room_between : Option ℕ) →
-    IsExplained samples list → list ≡ (entries ++ entry ∷ []) ++ rest → HasCertifiedAll samples entries before between room room_between →
-    HasCertifiedFront samples entry between now room_between → HasCertifiedSome samples list before now room
-written_some samples list entries entry rest before between now room room_between explained split a h =
+pub written_some : (samples : List Sample) (list entries : List Entry) (entry : Entry) (rest : List Entry) (before between now : SinkTold) →
+    IsExplained samples list → list ≡ (entries ++ entry ∷ []) ++ rest → HasCertifiedAll samples entries before between →
+    HasCertifiedFront samples entry between now → HasCertifiedSome samples list before now
+written_some samples list entries entry rest before between now explained split a h =
     let (cs, more) = entries_have samples list rest explained (λ other there. subst (λ l. Contains l other) (sym split) (Contains-append_right (entries ++ entry ∷ []) rest other there)) in
+    let first : List ℕ = flat_map bytes_of a.certificates in
     let all : List Held = (a.certificates ++ h.certificate ∷ []) ++ cs in
     let zip : AllZip (Certifies samples) list all = subst (λ l. AllZip (Certifies samples) l all) (sym split)
     (zip_append samples (entries ++ entry ∷ []) rest (a.certificates ++ h.certificate ∷ []) cs (zip_append samples entries (entry ∷ []) a.certificates (h.certificate ∷ []) a.each (h.certifies, tt)) more) in
-    let joined : flat_map bytes_of all ≡ (flat_map bytes_of a.certificates ++ bytes_of h.certificate) ++ flat_map bytes_of cs =
-    flat_map-append bytes_of (a.certificates ++ h.certificate ∷ []) cs ∙ ap (λ l. l ++ flat_map bytes_of cs) (flat_map-append bytes_of a.certificates (h.certificate ∷ []) ∙ ap (λ l. flat_map bytes_of a.certificates ++ l) (one_flat h.certificate)) in
-    let short = full_after (count * length entries) count room room_between a.filled h.full in
+    let joined : flat_map bytes_of all ≡ (first ++ bytes_of h.certificate) ++ flat_map bytes_of cs =
+    flat_map-append bytes_of (a.certificates ++ h.certificate ∷ []) cs ∙ ap (λ l. l ++ flat_map bytes_of cs) (bytes_and_one a.certificates h.certificate) in
+    let fewer : length first + length (bytes_of h.certificate) ≤ length (flat_map bytes_of all) =
+    omega (arith, ap length joined, length-append (first ++ bytes_of h.certificate) (flat_map bytes_of cs), length-append first (bytes_of h.certificate)) in
     record {
       certificates = all;
       each = zip;
       front = subst (λ l. HasWrittenFront l before now) (sym joined)
-          (front_of_longer (flat_map bytes_of a.certificates ++ bytes_of h.certificate) (flat_map bytes_of cs) before now (front_after (flat_map bytes_of a.certificates) (bytes_of h.certificate) before between now a.written h.front));
-      full = fewer room short (omega (arith, ap length split, length-append (entries ++ entry ∷ []) rest, length-append entries (entry ∷ [])));
+          (front_of_longer (first ++ bytes_of h.certificate) (flat_map bytes_of cs) before now (front_after first (bytes_of h.certificate) before between now a.written h.front));
+      full = short_of_more (length first + length (bytes_of h.certificate)) (length (flat_map bytes_of all)) before fewer
+          (short_after first (length (bytes_of h.certificate)) before between a.written h.full);
     }
-  where
-    fewer : (room : Option ℕ) → IfSome room (λ left. left < count * length entries + count) → count * length entries + count ≤ count * length list → IfSome room (λ left. left < count * length list)
-    fewer None short more = tt
-    fewer (Some left) short more = omega (arith, short, more)
 
 -- the same by the index of the entry
-pub written_next : (samples : List Sample) (list : List Entry) (i : ℕ) (entry : Entry) (before between now : Option (List ℕ)) (room room_between room_now : Option ℕ) →
-    i < length list → entry ≡ get_or list i entry → HasCertifiedAll samples (take i list) before between room room_between →
-    HasCertified samples entry between now room_between room_now → HasCertifiedAll samples (take (i + 1) list) before now room room_now
-written_next samples list i entry before between now room room_between room_now inside is a h =
+pub written_next : (samples : List Sample) (list : List Entry) (i : ℕ) (entry : Entry) (before between now : SinkTold) →
+    i < length list → entry ≡ get_or list i entry → HasCertifiedAll samples (take i list) before between →
+    HasCertified samples entry between now → HasCertifiedAll samples (take (i + 1) list) before now
+written_next samples list i entry before between now inside is a h =
     let next : take (i + 1) list ≡ take i list ++ entry ∷ [] = rw (add-one i) (take-suc list i entry inside ∙ ap (λ e. take i list ++ e ∷ []) (sym is)) in
-    subst (λ l. HasCertifiedAll samples l before now room room_now) (sym next) (written_more samples (take i list) entry before between now room room_between room_now a h)
+    subst (λ l. HasCertifiedAll samples l before now) (sym next) (written_more samples (take i list) entry before between now a h)
 
-pub written_some_at : (samples : List Sample) (list : List Entry) (i : ℕ) (entry : Entry) (before between now : Option (List ℕ)) (room room_between : Option ℕ) →
-    i < length list → entry ≡ get_or list i entry → IsExplained samples list → HasCertifiedAll samples (take i list) before between room room_between →
-    HasCertifiedFront samples entry between now room_between → HasCertifiedSome samples list before now room
-written_some_at samples list i entry before between now room room_between inside is explained a h =
+pub written_some_at : (samples : List Sample) (list : List Entry) (i : ℕ) (entry : Entry) (before between now : SinkTold) →
+    i < length list → entry ≡ get_or list i entry → IsExplained samples list → HasCertifiedAll samples (take i list) before between →
+    HasCertifiedFront samples entry between now → HasCertifiedSome samples list before now
+written_some_at samples list i entry before between now inside is explained a h =
     let next : take (suc i) list ≡ take i list ++ entry ∷ [] = take-suc list i entry inside ∙ ap (λ e. take i list ++ e ∷ []) (sym is) in
     let split : list ≡ (take i list ++ entry ∷ []) ++ drop (suc i) list = sym (take-append-drop (suc i) list) ∙ ap (λ l. l ++ drop (suc i) list) next in
-    written_some samples list (take i list) entry (drop (suc i) list) before between now room room_between explained split a h
+    written_some samples list (take i list) entry (drop (suc i) list) before between now explained split a h

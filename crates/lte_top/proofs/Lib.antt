@@ -8,4 +8,5 @@ pub mod Certified
 pub mod Entries
 pub mod Transmitted
 pub mod Ending
+pub mod OneForm
 pub mod Complete

@@ -1,10 +1,12 @@
 -- Bytes that are read to a place of a buffer.
-use Rattle.std.proofs.Common.{◌≡◌, ℕ, ◌+◌, ◌-◌, ◌≤◌, ◌↔◌, List, [], ◌∷◌, ◌++◌, length, take, drop, Option, Some, None, ap, sym, subst, ◌∙◌, arith, append-nil, take_all, length-take-le}
+use Rattle.std.proofs.Common.{◌≡◌, ℕ, ◌+◌, ◌-◌, ◌≤◌, ◌↔◌, List, [], ◌∷◌, ◌++◌, length, take, drop, Option, Some, None, refl, length-append, ap, subst, ◌∙◌, arith, append-nil, take_all, length-take-le}
 use Rattle.std.specs.Prelude.{IfSome, IfOk, Result, Ok, Err}
+use Rattle.std.specs.Option.{option_map}
 use Rattle.std.proofs.Math.Seq.{take-append-add}
 use Rattle.std.proofs.Math.ListN.{drop_of_length-le}
 use Rattle.std.proofs.lemmas.List.{take-append-le}
 use Rattle.cs_outside.specs.declared.Failed.{Failed}
+use Rattle.cs_outside.specs.Outside.{SourceTold}
 use Rattle.cs_outside.specs.Streams.{HasRead, IsAtEnd}
 use Rattle.lte_top.specs.Reading.{HasReadOn}
 
@@ -16,16 +18,22 @@ take_put a n buffer into rest inside few =
     subst (λ m. take (m + n) (take a buffer ++ (into ++ rest)) ≡ take a buffer ++ take n into) front (seam ∙ ap (λ l. take a buffer ++ l) (take-append-le n into rest few))
 
 -- a read of no byte is the end
-at_end : (n : ℕ) (piece : List ℕ) (before now : Option (List ℕ)) → length piece ≡ n → HasRead piece before now → IfSome before (λ input. (n ≡ 0) ↔ (input ≡ [])) → n ≡ 0 → IsAtEnd now
-at_end n piece before None size read end zero = tt
-at_end n piece None (Some rest) size read end zero = absurd (cc read.in_order)
-at_end n [] (Some input) (Some rest) size read end zero =
-    let same : input ≡ rest = cc read.in_order in
-    sym same ∙ end.0 zero
-at_end n (x ∷ piece) (Some input) (Some rest) size read end zero = absurd (omega (arith, size, zero))
+at_end : (n : ℕ) (piece : List ℕ) (before now : SourceTold) → length piece ≡ n → HasRead piece before now → IfSome before.left (λ input. (n ≡ 0) ↔ (input ≡ [])) → n ≡ 0 → IsAtEnd now
+at_end n piece before now size read end zero = by_left before.left now.left read.in_order end
+  where
+    no_bytes : (l : List ℕ) → length l ≡ 0 → l ≡ []
+    no_bytes [] none = refl
+    no_bytes (x ∷ l) none = absurd (omega (arith, none))
 
-pub read_at_place : (a : ℕ) (buffer into rest : List ℕ) (before now : Option (List ℕ)) → a ≤ length buffer → (r : Result ℕ Failed) → IfOk r (λ n. n ≤ length into) →
-    IfOk r (λ n. HasRead (take n into) before now) → IfOk r (λ n. IfSome before (λ input. (n ≡ 0) ↔ (input ≡ []))) →
+    by_left : (left rest : Option (List ℕ)) → left ≡ option_map (λ l. piece ++ l) rest → IfSome left (λ input. (n ≡ 0) ↔ (input ≡ [])) → IfSome rest (λ l. l ≡ [])
+    by_left left None e empty = tt
+    by_left None (Some rest) e empty = absurd (cc e)
+    by_left (Some input) (Some rest) e empty =
+        let split : input ≡ piece ++ rest = cc e in
+        no_bytes rest (omega (arith, ap length (empty.0 zero), ap length split, length-append piece rest))
+
+pub read_at_place : (a : ℕ) (buffer into rest : List ℕ) (before now : SourceTold) → a ≤ length buffer → (r : Result ℕ Failed) → IfOk r (λ n. n ≤ length into) →
+    IfOk r (λ n. HasRead (take n into) before now) → IfOk r (λ n. IfSome before.left (λ input. (n ≡ 0) ↔ (input ≡ []))) →
     IfOk r (λ n. HasReadOn n (take a buffer) (take (a + n) (take a buffer ++ (into ++ rest))) before now)
 read_at_place a buffer into rest before now inside (Err e) few read end = tt
 read_at_place a buffer into rest before now inside (Ok n) few read end =

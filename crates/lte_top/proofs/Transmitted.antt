@@ -1,8 +1,9 @@
 -- The bytes of a transmission.
-use Rattle.std.proofs.Common.{◌≡◌, ℕ, ◌*◌, List, [], ◌∷◌, length, Option, pos, refl, ap, sym, subst, ◌∙◌, arith, length-append}
-use Rattle.std.specs.List.{flat_map}
+use Rattle.std.proofs.Common.{◌≡◌, ℕ, ◌*◌, List, [], ◌∷◌, length, pos, refl, ap, sym, subst, ◌∙◌, arith, length-append}
 use Rattle.finite.proofs.Lists.{values_below-length}
 use Rattle.cs_num.specs.declared.Sample.{Sample}
+use Rattle.cs_outside.specs.Outside.{SourceTold}
+use Rattle.sample_file.specs.Recording.{sample_bytes, bytes_of}
 use Rattle.cell_tx.specs.declared.transmission.Transmission.{Transmission}
 use Rattle.cell_tx.specs.Sent.{received, gain_of, sample_of}
 use Rattle.std.specs.Prelude.{codes}
@@ -13,14 +14,14 @@ use Rattle.lte_top.specs.declared.status.Status.{Status}
 use Rattle.lte_top.specs.declared.status.Status.TheVariants.{Done, Usage, Ragged, TooShort, TooLong, ReadFault, WriteFault, OutOfMemory, BadCell, BadCertificate}
 use Rattle.lte_top.specs.Forms.{RefusesDescription}
 use Rattle.lte_top.specs.Run.{HasOutput}
-use Rattle.lte_top.specs.Transmitting.{sent_samples, sample_bytes, IsTransmitted, HasDescription}
+use Rattle.lte_top.specs.Transmitting.{sent_samples, IsTransmitted, HasDescription}
 
 -- four bytes a sample
-bytes_length : (samples : List Sample) → length (flat_map sample_bytes samples) ≡ 4 * length samples
+bytes_length : (samples : List Sample) → length (bytes_of samples) ≡ 4 * length samples
 bytes_length [] = refl
 bytes_length (s ∷ samples) =
     let more = bytes_length samples in
-    let all = length-append (sample_bytes s) (flat_map sample_bytes samples) in
+    let all = length-append (sample_bytes s) (bytes_of samples) in
     let four : length (sample_bytes s) ≡ 4 = refl in
     omega (arith, more, all, four)
 
@@ -57,7 +58,7 @@ unrefused bytes t d WriteFault r = r
 unrefused bytes t d OutOfMemory r = r
 unrefused bytes t d (BadCertificate place) r = r
 
-pub transmitted_output : (t : Transmission) (output : List ℕ) (before now : Option (List ℕ)) → HasDescription t before now → output ≡ flat_map sample_bytes (sent_samples t) → HasOutput Transmit output before now
+pub transmitted_output : (t : Transmission) (output : List ℕ) (before now : SourceTold) → HasDescription t before now → output ≡ bytes_of (sent_samples t) → HasOutput Transmit output before now
 transmitted_output t output before now h e = record {
   bytes = h.bytes;
   whole = h.whole;

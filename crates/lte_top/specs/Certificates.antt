@@ -73,12 +73,15 @@ pub record Certifies (samples : List Sample) (entry : Entry) (c : Held) : Type 0
   pub block : Carries c.word entry.mib
   pub cost : c.cost ≡ entry.cost
 
--- the output is the bytes of certificates, one for each entry of the list, in order; the list holds each cell of which the
--- recording is clean
-pub record IsCertified (samples : List Sample) (output : List ℕ) : Type 0 where
-  pub entries : List Entry
+-- the list of a recording, which holds each cell of which the recording is clean
+pub record IsListOfCells (samples : List Sample) (entries : List Entry) : Type 0 where
   pub explained : IsExplained samples entries
   pub holds : HoldsCleanCells samples entries
+
+-- the output is the bytes of certificates, one for each entry of the list, in order
+pub record IsCertified (samples : List Sample) (output : List ℕ) : Type 0 where
+  pub entries : List Entry
+  pub is_list : IsListOfCells samples entries
   pub certificates : List Held
   pub each : AllZip (Certifies samples) entries certificates
   pub bytes : output ≡ flat_map bytes_of certificates

@@ -1,48 +1,51 @@
 -- The forms of words that are run: what each reads, which inputs it refuses, and what it writes. (own)
-use Rattle.std.specs.Prelude.{◌≡◌, ◌≢◌, ◌⊎◌, ℕ, ◌%◌, ◌<◌, ◌≤◌, Option, Some, None, List, [], ◌∷◌, length, codes, nat_lt, not, ◌==◌, if◌then◌else◌}
+use Rattle.std.specs.Prelude.{◌≡◌, ◌⊎◌, ℕ, ◌%◌, ◌<◌, ◌≤◌, Option, Some, None, List, [], ◌∷◌, length, codes, nat_lt, not, ◌==◌, if◌then◌else◌}
 use Rattle.pss_search.specs.Hits.{hits_of}
 use Rattle.cs_num.specs.declared.Sample.{Sample}
-use Rattle.sample_file.specs.Recording.{samples_of}
+use Rattle.sample_file.specs.Recording.{SampleForm, form_16, samples_of}
 use Rattle.sample_file.specs.Reading.{least_bytes, most_bytes}
 use Rattle.lte_top.specs.declared.form.Form.{Form}
-use Rattle.lte_top.specs.declared.form.Form.TheVariants.{About, Certify, Check, Transmit}
+use Rattle.lte_top.specs.declared.form.Form.TheVariants.{Report as Reports, Certify, Check, Transmit}
 use Rattle.lte_top.specs.declared.form.Report.{Report}
 use Rattle.lte_top.specs.declared.form.Report.TheVariants.{Hits, Ids, Search}
 use Rattle.lte_top.specs.declared.status.Status.{Status}
 use Rattle.lte_top.specs.declared.status.Status.TheVariants.{Done, Usage, Ragged, TooShort, TooLong, ReadFault, WriteFault, OutOfMemory, BadCell, BadCertificate}
 use Rattle.cell_json.specs.Reading.{refusal}
 use Rattle.lte_top.specs.Transmitting.{most_description_bytes, IsTransmitted}
-use Rattle.lte_top.specs.Certificates.{IsFirstBroken, IsChecked, IsCertified}
+use Rattle.lte_top.specs.Certificates.{IsFirstBroken, IsChecked, IsListOfCells, IsCertified}
 use Rattle.lte_types.specs.declared.entry.Entry.{Entry}
-use Rattle.explain.specs.Entries.{IsExplained}
-use Rattle.clean_air.specs.Clean.{HoldsCleanCells}
 use Rattle.report.specs.Lines.{report_text}
 use Rattle.lte_top.specs.Texts.{hits_text, ids_text}
 
 -- the words of a form, each as its bytes
 abbrev pub words_of : Form → List (List ℕ)
-words_of (About Hits) = codes "hits" ∷ []
-words_of (About Ids) = codes "ids" ∷ []
-words_of (About Search) = codes "search" ∷ []
+words_of (Reports Hits) = codes "hits" ∷ []
+words_of (Reports Ids) = codes "ids" ∷ []
+words_of (Reports Search) = codes "search" ∷ []
 words_of Certify = codes "certify" ∷ []
 words_of Check = codes "check" ∷ []
 words_of Transmit = codes "transmit" ∷ []
 
+-- the words are those of this form
+pub record IsWordsOf (words : List (List ℕ)) (form : Form) : Type 0 where
+  pub words_are : words ≡ words_of form
+
 -- the words are those of no form
 abbrev pub IsNoForm : List (List ℕ) → Type 0
-IsNoForm words = (form : Form) → words ≢ words_of form
+IsNoForm words = (form : Form) → IsWordsOf words form → ⊥
 
 -- ---- what is read
 
--- what a form reads: a recording, certificates one after the other, or a description
+-- what a form reads: nothing, a recording of samples in a form, certificates one after the other, or a description
 pub data Input : Type 0 where
-  recording : Input
+  nothing : Input
+  recording : SampleForm → Input
   certificates : Input
   description : Input
 
 abbrev pub input_of : Form → Input
-input_of (About report) = recording
-input_of Certify = recording
+input_of (Reports report) = recording form_16
+input_of Certify = recording form_16
 input_of Check = certificates
 input_of Transmit = description
 
@@ -52,20 +55,21 @@ most_certificate_bytes = 67108864
 
 -- the most bytes that are read
 abbrev pub limit_of : Input → ℕ
-limit_of recording = most_bytes
+limit_of nothing = 0
+limit_of (recording form) = most_bytes form
 limit_of certificates = most_certificate_bytes
 limit_of description = most_description_bytes
 
--- the refusal of a recording's bytes, where there is one: samples are four bytes each, and there must be enough of them
-abbrev pub recording_refusal : List ℕ → Option Status
-recording_refusal bytes =
-    if not (length bytes % 4 == 0) then Some Ragged
-    else if nat_lt (length bytes) least_bytes then Some TooShort
+-- the refusal of a recording's bytes, where there is one: they must be of whole samples, and of enough of them
+abbrev pub recording_refusal : SampleForm → List ℕ → Option Status
+recording_refusal form bytes =
+    if not (length bytes % form.width == 0) then Some Ragged
+    else if nat_lt (length bytes) (least_bytes form) then Some TooShort
     else None
 
 -- a recording within the limit has this refusal
-abbrev pub RefusesRecording : List ℕ → Status → Type 0
-RefusesRecording bytes status = (length bytes ≤ most_bytes) × (recording_refusal bytes ≡ Some status)
+abbrev pub RefusesRecording : SampleForm → List ℕ → Status → Type 0
+RefusesRecording form bytes status = (length bytes ≤ most_bytes form) × (recording_refusal form bytes ≡ Some status)
 
 -- certificates are refused at the first place that breaks their form: a byte within the limit, or the end of an input
 -- within it
@@ -81,7 +85,8 @@ RefusesDescription bytes status = ⊥
 
 -- these bytes have this refusal
 abbrev pub Refuses : Input → List ℕ → Status → Type 0
-Refuses recording bytes status = RefusesRecording bytes status
+Refuses nothing bytes status = ⊥
+Refuses (recording form) bytes status = RefusesRecording form bytes status
 Refuses certificates bytes status = RefusesCertificates bytes status
 Refuses description bytes status = RefusesDescription bytes status
 
@@ -97,22 +102,21 @@ pub record IsValid (input : Input) (bytes : List ℕ) : Type 0 where
 
 -- ---- what is written
 
--- the text of the list of a recording, which holds each cell of which the recording is clean
-pub record IsListText (samples : List Sample) (output : List ℕ) : Type 0 where
+-- a list of the recording by this rule, as this text
+pub record IsTextOfList (IsListOf : List Sample → List Entry → Type 0) (text_of : List Entry → List ℕ) (samples : List Sample) (output : List ℕ) : Type 0 where
   pub entries : List Entry
-  pub explained : IsExplained samples entries
-  pub holds : HoldsCleanCells samples entries
-  pub text : output ≡ report_text entries
+  pub is_list : IsListOf samples entries
+  pub text : output ≡ text_of entries
 
 -- the text of a report about a recording
 abbrev pub IsReport : Report → List Sample → List ℕ → Type 0
 IsReport Hits samples output = output ≡ hits_text (hits_of samples)
 IsReport Ids samples output = output ≡ ids_text samples (hits_of samples)
-IsReport Search samples output = IsListText samples output
+IsReport Search samples output = IsTextOfList IsListOfCells report_text samples output
 
 -- what a form writes for valid bytes
 abbrev pub IsOutput : Form → List ℕ → List ℕ → Type 0
-IsOutput (About report) bytes output = IsReport report (samples_of bytes) output
+IsOutput (Reports report) bytes output = IsReport report (samples_of bytes) output
 IsOutput Certify bytes output = IsCertified (samples_of bytes) output
 IsOutput Check bytes output = IsChecked bytes output
 IsOutput Transmit bytes output = IsTransmitted bytes output

@@ -1,5 +1,6 @@
 -- What is known of certificates while they are read. (own)
-use Rattle.std.specs.Prelude.{◌≡◌, ℕ, ◌<◌, ◌++◌, Bool, Option, All, List, length, map}
+use Rattle.std.specs.Prelude.{◌≡◌, ℕ, ◌<◌, ◌++◌, Bool, All, List, length, map}
+use Rattle.cs_outside.specs.Outside.{SourceTold}
 use Rattle.cs_outside.specs.Streams.{HasRead, HasReadAll, IsAtEnd}
 use Rattle.tail_cert.specs.Certificate.{Held}
 use Rattle.tail_cert.specs.Form.{count, bytes_of}
@@ -9,7 +10,7 @@ use Rattle.lte_top.specs.Certificates.{BreaksAt, Judged, IsRight, judged_bytes}
 use Rattle.lte_top.specs.Forms.{most_certificate_bytes}
 
 -- n more bytes were read, which come after those that stood in the buffer; none is the end of the input
-pub record HasReadOn (n : ℕ) (old new : List ℕ) (before now : Option (List ℕ)) : Type 0 where
+pub record HasReadOn (n : ℕ) (old new : List ℕ) (before now : SourceTold) : Type 0 where
   pub piece : List ℕ
   pub count : length piece ≡ n
   pub joined : new ≡ old ++ piece
@@ -32,7 +33,7 @@ IsStep part (Whole answer) = (certificate : Held) × IsRight (record { certifica
 IsStep part (Broken place) = IsFirstBreak part place
 
 -- certificates were read to the end of the input, and these are the answers to them
-pub record HasAnswers (answers : List Bool) (before now : Option (List ℕ)) : Type 0 where
+pub record HasAnswers (answers : List Bool) (before now : SourceTold) : Type 0 where
   pub judged : List Judged
   pub right : All IsRight judged
   pub answers_are : answers ≡ map (λ j. j.answer) judged

@@ -1,81 +1,98 @@
 -- What a run does: how each answer comes, and which answer an input has. (own)
-use Rattle.std.specs.Prelude.{◌≡◌, ◌≢◌, ◌⊎◌, ℕ, ◌+◌, ◌<◌, ◌≤◌, ◌++◌, Option, IfSome, List, length}
+-- A moment is what the source and the sink tell: the source first.
+use Rattle.std.specs.Prelude.{◌≡◌, ◌≢◌, ◌⊎◌, ℕ, ◌+◌, ◌≤◌, ◌++◌, Some, List, [], length}
 use Rattle.cs_outside.specs.Counts.{Rose}
-use Rattle.cs_outside.specs.Outside.{Outside, NothingRead, NothingWritten}
-use Rattle.cs_outside.specs.Streams.{HasRead, HasReadAll, IsAtEnd, HasWritten, HasWrittenFront, HasFilled}
+use Rattle.cs_outside.specs.Outside.{SourceTold, Outside, NothingRead, NothingWritten}
+use Rattle.cs_outside.specs.Streams.{HasRead, HasReadAll, HasFailedAfter, IsAtEnd, HasWritten, HasWrittenFront, IsShortOf}
 use Rattle.lte_top.specs.declared.form.Form.{Form}
 use Rattle.lte_top.specs.declared.status.Status.{Status}
 use Rattle.lte_top.specs.declared.status.Status.TheVariants.{Done, Usage, TooLong, ReadFault, WriteFault, OutOfMemory}
 use Rattle.lte_top.specs.Certificates.{IsBrokenByte}
-use Rattle.lte_top.specs.Forms.{words_of, IsNoForm, Input, recording, certificates, description, input_of, limit_of, Refuses, IsTooLong, IsValid, IsOutput}
+use Rattle.lte_top.specs.Forms.{IsWordsOf, IsNoForm, Input, nothing, recording, certificates, description, input_of, limit_of, Refuses, IsTooLong, IsValid, IsOutput}
 
--- ---- reading: what the source had left before, and what it has left now
+-- ---- reading: what the source told before, and what it tells now
 
--- valid bytes were read to the end of the input, and this is an output of them
-pub record HasOutput (form : Form) (output : List ℕ) (before now : Option (List ℕ)) : Type 0 where
+-- something is read
+abbrev pub IsRead : Input → Type 0
+IsRead nothing = ⊥
+IsRead (recording form) = Unit {0}
+IsRead certificates = Unit {0}
+IsRead description = Unit {0}
+
+-- these bytes are the whole input, which was read to its end; where none is read there are none, and the source is as it was
+abbrev pub HasReadInput : Input → List ℕ → SourceTold → SourceTold → Type 0
+HasReadInput nothing bytes before now = (bytes ≡ []) × NothingRead before now
+HasReadInput (recording form) bytes before now = HasReadAll (limit_of (recording form)) bytes before now
+HasReadInput certificates bytes before now = HasReadAll (limit_of certificates) bytes before now
+HasReadInput description bytes before now = HasReadAll (limit_of description) bytes before now
+
+-- a valid input was read, and this is an output of it
+pub record HasOutput (form : Form) (output : List ℕ) (before now : SourceTold) : Type 0 where
   pub bytes : List ℕ
-  pub whole : HasReadAll (limit_of (input_of form)) bytes before now
+  pub whole : HasReadInput (input_of form) bytes before now
   pub unrefused : (status : Status) → Refuses (input_of form) bytes status → ⊥
   pub is_output : IsOutput form bytes output
 
 -- what was read has this refusal, and it ended there or has it however it goes on
-pub record HasRefusal (input : Input) (status : Status) (before now : Option (List ℕ)) : Type 0 where
+pub record HasRefusal (input : Input) (status : Status) (before now : SourceTold) : Type 0 where
   pub bytes : List ℕ
   pub read : HasRead bytes before now
   pub refused : Refuses input bytes status
   pub settled : IsAtEnd now ⊎ ((rest : List ℕ) → Refuses input (bytes ++ rest) status)
 
 -- one byte more than the limit was read, and however it goes on nothing in it is refused
-pub record IsReadTooLong (input : Input) (before now : Option (List ℕ)) : Type 0 where
+pub record IsReadTooLong (input : Input) (before now : SourceTold) : Type 0 where
+  pub is_read : IsRead input
   pub front : List ℕ
   pub read : HasRead front before now
   pub past : length front ≡ limit_of input + 1
   pub unrefused : (rest : List ℕ) (status : Status) → Refuses input (front ++ rest) status → ⊥
 
--- certificates were read, and none of these bytes breaks their form
-pub record AreUnbroken (before now : Option (List ℕ)) : Type 0 where
-  pub bytes : List ℕ
-  pub read : HasRead bytes before now
-  pub unbroken : (place : ℕ) → IsBrokenByte bytes place → ⊥
+-- nothing in these bytes could be refused already: certificates are judged byte by byte, the others at their end
+abbrev pub NothingMet : Input → List ℕ → Type 0
+NothingMet nothing bytes = Unit {0}
+NothingMet (recording form) bytes = Unit {0}
+NothingMet certificates bytes = (place : ℕ) → IsBrokenByte bytes place → ⊥
+NothingMet description bytes = Unit {0}
 
--- nothing that was read could be refused already: recordings and descriptions are judged at their end
-abbrev pub NothingMet : Input → Option (List ℕ) → Option (List ℕ) → Type 0
-NothingMet recording before now = Unit {0}
-NothingMet description before now = Unit {0}
-NothingMet certificates before now = AreUnbroken before now
+-- a read failed after no more than the limit was read, and what was read could not be refused already
+pub record IsReadFault (input : Input) (before now : SourceTold) : Type 0 where
+  pub is_read : IsRead input
+  pub front : List ℕ
+  pub failed : HasFailedAfter (limit_of input) front before now
+  pub unmet : NothingMet input front
 
--- why an input was not read and answered to its end, with the source's count of faults before and now
-abbrev pub Cause : Input → Option (List ℕ) → Option (List ℕ) → ℕ → ℕ → Status → Type 0
-Cause input before now faults faults_now Done = ⊥
-Cause input before now faults faults_now Usage = ⊥
-Cause input before now faults faults_now WriteFault = ⊥
-Cause input before now faults faults_now OutOfMemory = Unit {0}
-Cause input before now faults faults_now ReadFault = Rose faults faults_now × NothingMet input before now
-Cause input before now faults faults_now TooLong = IsReadTooLong input before now
-Cause input before now faults faults_now refusal = HasRefusal input refusal before now
+-- why an input was not read and answered to its end
+abbrev pub Cause : Input → SourceTold → SourceTold → Status → Type 0
+Cause input before now Done = ⊥
+Cause input before now Usage = ⊥
+Cause input before now WriteFault = ⊥
+Cause input before now OutOfMemory = Unit {0}
+Cause input before now ReadFault = IsReadFault input before now
+Cause input before now TooLong = IsReadTooLong input before now
+Cause input before now refusal = HasRefusal input refusal before now
 
 -- ---- how each answer comes
 
--- Done: valid bytes were read to their end, and the sink took their whole output, which filled so much of its room
+-- Done: a valid input was read to its end, and the sink took its whole output
 pub record IsDone (form : Form) (before now : Outside) : Type 0 where
   pub output : List ℕ
-  pub has_output : HasOutput form output before.left now.left
-  pub written : HasWritten output before.taken now.taken
-  pub filled : HasFilled (length output) before.room now.room
+  pub has_output : HasOutput form output before.0 now.0
+  pub written : HasWritten output before.1 now.1
 
--- WriteFault: valid bytes were read to their end, the sink took a front of their output and counted a fault, and it told no
--- room or too little for the whole
+-- WriteFault: a valid input was read to its end, the sink took a front of its output and counted a fault, and it told no room
+-- or too little for the whole
 pub record IsWriteFault (form : Form) (before now : Outside) : Type 0 where
   pub output : List ℕ
-  pub has_output : HasOutput form output before.left now.left
-  pub front_written : HasWrittenFront output before.taken now.taken
-  pub counted : Rose before.write_faults now.write_faults
-  pub full : IfSome before.room (λ room. room < length output)
+  pub has_output : HasOutput form output before.0 now.0
+  pub front_written : HasWrittenFront output before.1 now.1
+  pub counted : Rose before.1.faults now.1.faults
+  pub full : IsShortOf (length output) before.1
 
 -- any other answer of a form: it has its cause, and nothing was written
 pub record IsRefused (form : Form) (status : Status) (before now : Outside) : Type 0 where
-  pub cause : Cause (input_of form) before.left now.left before.read_faults now.read_faults status
-  pub unwritten : NothingWritten before now
+  pub cause : Cause (input_of form) before.0 now.0 status
+  pub unwritten : NothingWritten before.1 now.1
 
 -- how the run of a form ends
 abbrev pub Ends : Form → Outside → Outside → Status → Type 0
@@ -86,14 +103,14 @@ Ends form before now status = IsRefused form status before now
 -- the words are of a form, whose run ended so
 pub record RunsForm (words : List (List ℕ)) (before now : Outside) (status : Status) : Type 0 where
   pub form : Form
-  pub words_are : words ≡ words_of form
+  pub is_of : IsWordsOf words form
   pub ends : Ends form before now status
 
 -- Usage: the words are those of no form, and nothing was read or written
 pub record IsUsage (words : List (List ℕ)) (before now : Outside) : Type 0 where
   pub no_form : IsNoForm words
-  pub unread : NothingRead before now
-  pub unwritten : NothingWritten before now
+  pub unread : NothingRead before.0 now.0
+  pub unwritten : NothingWritten before.1 now.1
 
 abbrev pub Outcome : List (List ℕ) → Outside → Outside → Status → Type 0
 Outcome words before now Usage = IsUsage words before now
@@ -115,24 +132,35 @@ HasOneAnswer = (input : Input) (bytes : List ℕ) (first second : Status) → Is
 -- which answers bytes may have: want of memory, a fault that was counted, or their own
 abbrev pub MayAnswer : Input → List ℕ → Outside → Outside → Status → Type 0
 MayAnswer input bytes before now OutOfMemory = Unit {0}
-MayAnswer input bytes before now ReadFault = Rose before.read_faults now.read_faults
-MayAnswer input bytes before now WriteFault = IsValid input bytes × Rose before.write_faults now.write_faults
+MayAnswer input bytes before now ReadFault = Rose before.0.faults now.0.faults
+MayAnswer input bytes before now WriteFault = IsValid input bytes × Rose before.1.faults now.1.faults
 MayAnswer input bytes before now status = IsAnswerTo input bytes status
 
--- where the source tells its bytes, the answer is one that they may have
+-- the source tells that these bytes are left; where none is read there are none, whatever it tells
+abbrev pub IsTold : Input → List ℕ → SourceTold → Type 0
+IsTold nothing bytes before = bytes ≡ []
+IsTold (recording form) bytes before = before.left ≡ Some bytes
+IsTold certificates bytes before = before.left ≡ Some bytes
+IsTold description bytes before = before.left ≡ Some bytes
+
+-- words of a form, and the bytes of its input, where the source tells them
+pub record IsAsked (words : List (List ℕ)) (before : Outside) (form : Form) (bytes : List ℕ) : Type 0 where
+  pub is_of : IsWordsOf words form
+  pub told : IsTold (input_of form) bytes before.0
+
+-- the answer is one that the input may have
 abbrev pub IsAnswered : List (List ℕ) → Outside → Outside → Status → Type 0
-IsAnswered words before now status = (form : Form) → words ≡ words_of form → IfSome before.left (λ bytes. MayAnswer (input_of form) bytes before now status)
+IsAnswered words before now status = (form : Form) (bytes : List ℕ) → IsAsked words before form bytes → MayAnswer (input_of form) bytes before now status
 
 -- valid bytes are done where no fault was counted, but for want of memory
 abbrev pub IsComplete : List (List ℕ) → Outside → Outside → Status → Type 0
-IsComplete words before now status = (form : Form) → words ≡ words_of form → IfSome before.left (λ bytes.
-    IsValid (input_of form) bytes → ¬ Rose before.read_faults now.read_faults → ¬ Rose before.write_faults now.write_faults →
-    (status ≡ Done) ⊎ (status ≡ OutOfMemory))
+IsComplete words before now status = (form : Form) (bytes : List ℕ) → IsAsked words before form bytes → IsValid (input_of form) bytes →
+    ¬ Rose before.0.faults now.0.faults → ¬ Rose before.1.faults now.1.faults → (status ≡ Done) ⊎ (status ≡ OutOfMemory)
 
 -- a sink that tells room for the whole output has no fault
 abbrev pub HasRoom : List (List ℕ) → Outside → Status → Type 0
-HasRoom words before status = (form : Form) → words ≡ words_of form → IfSome before.left (λ bytes. IfSome before.room (λ room.
-    (output : List ℕ) → IsOutput form bytes output → length output ≤ room → status ≢ WriteFault))
+HasRoom words before status = (form : Form) (bytes output : List ℕ) (room : ℕ) → IsAsked words before form bytes → before.1.room ≡ Some room →
+    IsOutput form bytes output → length output ≤ room → status ≢ WriteFault
 
 -- what a run of these words does between two moments
 pub record Runs (words : List (List ℕ)) (before now : Outside) (status : Status) : Type 0 where
@@ -140,5 +168,5 @@ pub record Runs (words : List (List ℕ)) (before now : Outside) (status : Statu
   pub answered : IsAnswered words before now status
   pub complete : IsComplete words before now status
   pub has_room : HasRoom words before status
-  pub read_faults_stay : before.read_faults ≤ now.read_faults
-  pub write_faults_stay : before.write_faults ≤ now.write_faults
+  pub read_faults_stay : before.0.faults ≤ now.0.faults
+  pub write_faults_stay : before.1.faults ≤ now.1.faults

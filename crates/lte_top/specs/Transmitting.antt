@@ -1,10 +1,10 @@
 -- The samples of a described cell as bytes. (own)
-use Rattle.std.specs.Prelude.{◌≡◌, ℕ, ◌++◌, Option, List, ℤ}
-use Rattle.std.specs.List.{flat_map}
-use Rattle.std.specs.Int.{w16, cast_unsigned, to_le_bytes}
+use Rattle.std.specs.Prelude.{◌≡◌, ℕ, List}
 use Rattle.finite.specs.Lists.{values_below}
 use Rattle.cs_num.specs.declared.Sample.{Sample}
+use Rattle.cs_outside.specs.Outside.{SourceTold}
 use Rattle.cs_outside.specs.Streams.{HasReadAll}
+use Rattle.sample_file.specs.Recording.{bytes_of}
 use Rattle.cell_tx.specs.declared.transmission.Transmission.{Transmission}
 use Rattle.cell_tx.specs.Sent.{received, gain_of, sample_of}
 use Rattle.cell_json.specs.Reading.{Describes}
@@ -17,22 +17,14 @@ most_description_bytes = 65536
 unfoldable pub sent_samples : Transmission → List Sample
 sent_samples t = values_below t.samples (λ i. sample_of (received t.cell t.sfn t.offset (gain_of t.gain) i))
 
--- a component in two bytes, as two's complement with the low byte first
-abbrev pub component_bytes : ℤ → List ℕ
-component_bytes z = to_le_bytes w16 (cast_unsigned w16 z)
-
--- a sample: the real component, then the imaginary one
-abbrev pub sample_bytes : Sample → List ℕ
-sample_bytes sample = component_bytes sample.re ++ component_bytes sample.im
-
 -- the output is the samples of the transmission that the bytes describe
 pub record IsTransmitted (bytes output : List ℕ) : Type 0 where
   pub transmission : Transmission
   pub describes : Describes bytes transmission
-  pub sent : output ≡ flat_map sample_bytes (sent_samples transmission)
+  pub sent : output ≡ bytes_of (sent_samples transmission)
 
 -- a description was read to the end of the input, and this is the transmission
-pub record HasDescription (t : Transmission) (before now : Option (List ℕ)) : Type 0 where
+pub record HasDescription (t : Transmission) (before now : SourceTold) : Type 0 where
   pub bytes : List ℕ
   pub whole : HasReadAll most_description_bytes bytes before now
   pub describes : Describes bytes t

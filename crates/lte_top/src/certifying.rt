@@ -2,13 +2,13 @@
 
 ghost use Rattle.std.specs.Prelude.{◌≡◌, ◌≤◌, length, IfOk, OnOk, OnErr};
 ghost use Rattle.cs_outside.specs.Counts.{Rose};
-ghost use Rattle.cs_outside.specs.Outside.{Outside};
+ghost use Rattle.cs_outside.specs.Outside.{SourceTold, SinkTold};
 ghost use Rattle.explain.specs.Entries.{IsExplained, IsInList};
 ghost use Rattle.lte_top.specs.Certifying.{HasCertified, HasCertifiedFront, HasCertifiedAll, HasCertifiedSome};
 ghost use Rattle.lte_top.specs.Run.{Ends};
 ghost use Rattle.lte_top.specs.declared.form.Form.TheVariants.{Certify};
 
-use crate::about::{recording_of, room_for_list};
+use crate::reporting::{recording_of, room_for_list};
 use crate::status::Status;
 use clean_air::explain_clean;
 use cs_outside::{Failed, Sink, Source, write_whole};
@@ -25,12 +25,9 @@ const BYTES: usize = 655_613;
 // The certificates of a source's recording, to a sink: one for each entry of the list, in order. All
 // memory is taken before the first is written.
 pub(crate) fn certify<S: Source, K: Sink>(alloc: Global, source: &mut S, sink: &mut K) -> Status
-    ensures ends { Ends Certify
-        (record { left = S.left source.old; read_faults = S.faults source.old; taken = K.taken sink.old; room = K.room sink.old; write_faults = K.faults sink.old })
-        (record { left = S.left source.new; read_faults = S.faults source.new; taken = K.taken sink.new; room = K.room sink.new; write_faults = K.faults sink.new })
-        result }
-    ensures reads { S.faults source.old ≤ S.faults source.new }
-    ensures writes { K.faults sink.old ≤ K.faults sink.new }
+    ensures ends { Ends Certify (S.told source.old, K.told sink.old) (S.told source.new, K.told sink.new) result }
+    ensures reads { (S.told source.old).faults ≤ (S.told source.new).faults }
+    ensures writes { (K.told sink.old).faults ≤ (K.told sink.new).faults }
 {
     let recording = match recording_of(alloc, source) {
         Ok(recording) => recording,
@@ -79,10 +76,10 @@ fn write_each<K: Sink>(
 ) -> Result<(), Failed>
     requires list { IsExplained recording.now entries.now }
     requires buffer { length buffer.old ≡ 655613 }
-    ensures ok { OnOk result (HasCertifiedAll recording.now entries.now (K.taken sink.old) (K.taken sink.new) (K.room sink.old) (K.room sink.new)) }
-    ensures err { OnErr result (HasCertifiedSome recording.now entries.now (K.taken sink.old) (K.taken sink.new) (K.room sink.old)) }
-    ensures fault { OnErr result (Rose (K.faults sink.old) (K.faults sink.new)) }
-    ensures never_falls { K.faults sink.old ≤ K.faults sink.new }
+    ensures ok { OnOk result (HasCertifiedAll recording.now entries.now (K.told sink.old) (K.told sink.new)) }
+    ensures err { OnErr result (HasCertifiedSome recording.now entries.now (K.told sink.old) (K.told sink.new)) }
+    ensures fault { OnErr result (Rose (K.told sink.old).faults (K.told sink.new).faults) }
+    ensures never_falls { (K.told sink.old).faults ≤ (K.told sink.new).faults }
 {
     for entry in entries {
         match write_one(recording, entry, certificate, trellis, buffer, sink) {
@@ -104,10 +101,10 @@ fn write_one<K: Sink>(
 ) -> Result<(), Failed>
     requires entry { IsInList recording.now entry.now }
     requires buffer { length buffer.old ≡ 655613 }
-    ensures ok { OnOk result (HasCertified recording.now entry.now (K.taken sink.old) (K.taken sink.new) (K.room sink.old) (K.room sink.new)) }
-    ensures err { OnErr result (HasCertifiedFront recording.now entry.now (K.taken sink.old) (K.taken sink.new) (K.room sink.old)) }
-    ensures fault { OnErr result (Rose (K.faults sink.old) (K.faults sink.new)) }
-    ensures never_falls { K.faults sink.old ≤ K.faults sink.new }
+    ensures ok { OnOk result (HasCertified recording.now entry.now (K.told sink.old) (K.told sink.new)) }
+    ensures err { OnErr result (HasCertifiedFront recording.now entry.now (K.told sink.old) (K.told sink.new)) }
+    ensures fault { OnErr result (Rose (K.told sink.old).faults (K.told sink.new).faults) }
+    ensures never_falls { (K.told sink.old).faults ≤ (K.told sink.new).faults }
 {
     let values = values_of(recording, entry);
     fill(certificate, &values, trellis);

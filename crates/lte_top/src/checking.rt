@@ -6,7 +6,7 @@ ghost use Rattle.lte_top.specs.Reading.{HasReadOn, HasAnswers, IsSound, IsFirstB
 ghost use Rattle.lte_top.specs.Forms.{certificates};
 ghost use Rattle.lte_top.specs.Run.{Cause, Ends};
 ghost use Rattle.lte_top.specs.declared.form.Form.TheVariants.{Check};
-ghost use Rattle.cs_outside.specs.Outside.{Outside};
+ghost use Rattle.cs_outside.specs.Outside.{SourceTold, SinkTold};
 
 use crate::status::Status;
 use crate::text::text_of_answers;
@@ -34,12 +34,9 @@ pub(crate) enum Step {
 
 // The answers to the certificates of a source, to a sink.
 pub(crate) fn check_each<S: Source, K: Sink>(alloc: Global, source: &mut S, sink: &mut K) -> Status
-    ensures ends { Ends Check
-        (record { left = S.left source.old; read_faults = S.faults source.old; taken = K.taken sink.old; room = K.room sink.old; write_faults = K.faults sink.old })
-        (record { left = S.left source.new; read_faults = S.faults source.new; taken = K.taken sink.new; room = K.room sink.new; write_faults = K.faults sink.new })
-        result }
-    ensures reads { S.faults source.old ≤ S.faults source.new }
-    ensures writes { K.faults sink.old ≤ K.faults sink.new }
+    ensures ends { Ends Check (S.told source.old, K.told sink.old) (S.told source.new, K.told sink.new) result }
+    ensures reads { (S.told source.old).faults ≤ (S.told source.new).faults }
+    ensures writes { (K.told sink.old).faults ≤ (K.told sink.new).faults }
 {
     let answers = match read_answers(alloc, source) {
         Ok(answers) => answers,
@@ -58,9 +55,9 @@ pub(crate) fn check_each<S: Source, K: Sink>(alloc: Global, source: &mut S, sink
 // The answers to the certificates of a source, which are read to the end of the input. They are
 // checked as they are read, and nothing is read after a byte that breaks their form was seen.
 fn read_answers<S: Source>(alloc: Global, source: &mut S) -> Result<Vec<bool>, Status>
-    ensures ok { IfOk result (λ answers. HasAnswers answers.items (S.left source.old) (S.left source.new)) }
-    ensures err { IfErr result (λ status. Cause certificates (S.left source.old) (S.left source.new) (S.faults source.old) (S.faults source.new) status) }
-    ensures never_falls { S.faults source.old ≤ S.faults source.new }
+    ensures ok { IfOk result (λ answers. HasAnswers answers.items (S.told source.old) (S.told source.new)) }
+    ensures err { IfErr result (Cause certificates (S.told source.old) (S.told source.new)) }
+    ensures never_falls { (S.told source.old).faults ≤ (S.told source.new).faults }
 {
     let (mut certificate, mut buffer) = match room_for_one(alloc) {
         Ok(room) => room,
@@ -77,9 +74,9 @@ fn read_each<S: Source>(
     buffer: &mut [u8],
 ) -> Result<Vec<bool>, Status>
     requires { length buffer.old ≡ 655613 }
-    ensures ok { IfOk result (λ answers. HasAnswers answers.items (S.left source.old) (S.left source.new)) }
-    ensures err { IfErr result (λ status. Cause certificates (S.left source.old) (S.left source.new) (S.faults source.old) (S.faults source.new) status) }
-    ensures never_falls { S.faults source.old ≤ S.faults source.new }
+    ensures ok { IfOk result (λ answers. HasAnswers answers.items (S.told source.old) (S.told source.new)) }
+    ensures err { IfErr result (Cause certificates (S.told source.old) (S.told source.new)) }
+    ensures never_falls { (S.told source.old).faults ≤ (S.told source.new).faults }
 {
     let mut answers = Vec::new(alloc);
     let mut filled = 0;
@@ -118,10 +115,11 @@ fn read_at<S: Source>(
     requires some { at < end }
     requires room { end ≤ length buffer.old }
     ensures fits { IfOk result (λ n. at + n ≤ end) }
-    ensures read { IfOk result (λ n. HasReadOn n (take at buffer.old) (take (at + n) buffer.new) (S.left source.old) (S.left source.new)) }
-    ensures unchanged { OnErr result (S.left source.new ≡ S.left source.old) }
-    ensures cause { OnErr result (Rose (S.faults source.old) (S.faults source.new)) }
-    ensures never_falls { S.faults source.old ≤ S.faults source.new }
+    ensures read { IfOk result (λ n.
+        HasReadOn n (take at buffer.old) (take (at + n) buffer.new) (S.told source.old) (S.told source.new)) }
+    ensures unchanged { OnErr result ((S.told source.new).left ≡ (S.told source.old).left) }
+    ensures cause { OnErr result (Rose (S.told source.old).faults (S.told source.new).faults) }
+    ensures never_falls { (S.told source.old).faults ≤ (S.told source.new).faults }
 {
     source.read(&mut buffer[at..end])
 }

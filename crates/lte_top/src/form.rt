@@ -1,7 +1,7 @@
 //! The forms of words that are run.
 
-ghost use Rattle.std.specs.Prelude.{◌≡◌, IfSome, IsNone};
-ghost use Rattle.lte_top.specs.Forms.{words_of, IsNoForm};
+ghost use Rattle.std.specs.Prelude.{IfSome, IsNone};
+ghost use Rattle.lte_top.specs.Forms.{IsWordsOf, IsNoForm};
 
 use crate::words::Words;
 
@@ -9,7 +9,7 @@ use crate::words::Words;
 #[derive(Clone, Copy, Debug, PartialEq, Eq)]
 pub enum Form {
     /// A report about a recording.
-    About(Report),
+    Report(Report),
     /// `certify`: a certificate for each master block of the list of a recording.
     Certify,
     /// `check`: an answer to each of the certificates that are read.
@@ -32,15 +32,15 @@ pub enum Report {
 impl Form {
     /// The form that the words are of; `None` exactly where they are those of no form.
     pub fn of(words: &Words) -> Option<Form>
-        ensures some { IfSome result (λ form. words.now ≡ words_of form) }
+        ensures some { IfSome result (IsWordsOf words.now) }
         ensures none { IsNone result → IsNoForm words.now }
     {
         if words.is_one("hits") {
-            Some(Form::About(Report::Hits))
+            Some(Form::Report(Report::Hits))
         } else if words.is_one("ids") {
-            Some(Form::About(Report::Ids))
+            Some(Form::Report(Report::Ids))
         } else if words.is_one("search") {
-            Some(Form::About(Report::Search))
+            Some(Form::Report(Report::Search))
         } else if words.is_one("certify") {
             Some(Form::Certify)
         } else if words.is_one("check") {

@@ -1,10 +1,10 @@
 //! The top call: the words of a command line, a source and a sink in, a status out.
 #![tactic(auto)]
 
-mod about;
 mod certifying;
 mod checking;
 mod form;
+mod reporting;
 mod status;
 mod text;
 mod top;

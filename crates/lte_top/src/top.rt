@@ -1,13 +1,13 @@
 //! The top call.
 
 ghost use Rattle.std.specs.Prelude.{◌≡◌, ◌≤◌, Some};
-ghost use Rattle.cs_outside.specs.Outside.{Outside};
+ghost use Rattle.cs_outside.specs.Outside.{SourceTold, SinkTold};
 ghost use Rattle.lte_top.specs.Run.{HasOneAnswer, Outcome, Runs};
 
-use crate::about::about;
 use crate::certifying::certify;
 use crate::checking::check_each;
 use crate::form::Form;
+use crate::reporting::report_on;
 use crate::status::Status;
 use crate::transmitting::transmit;
 use crate::words::Words;
@@ -21,10 +21,7 @@ use std::alloc::Global;
 /// took a front of the output. Want of memory is never answered after a write. Where the source tells
 /// its bytes, the answer is the one that they have, but for want of memory and counted faults.
 pub fn run<S: Source, K: Sink>(alloc: Global, words: &Words, source: &mut S, sink: &mut K) -> Status
-    ensures { Runs words.now
-        (record { left = S.left source.old; read_faults = S.faults source.old; taken = K.taken sink.old; room = K.room sink.old; write_faults = K.faults sink.old })
-        (record { left = S.left source.new; read_faults = S.faults source.new; taken = K.taken sink.new; room = K.room sink.new; write_faults = K.faults sink.new })
-        result }
+    ensures { Runs words.now (S.told source.old, K.told sink.old) (S.told source.new, K.told sink.new) result }
 {
     run_words(alloc, words, source, sink)
 }
@@ -37,9 +34,13 @@ pub fn run_in_memory(
     source: &mut MemSource,
     sink: &mut MemSink,
 ) -> Status
-    ensures { Runs words.now
-        (record { left = Some source.old; read_faults = 0; taken = Some sink.old.taken; room = Some sink.old.room; write_faults = sink.old.faults })
-        (record { left = Some source.new; read_faults = 0; taken = Some sink.new.taken; room = Some sink.new.room; write_faults = sink.new.faults })
+    ensures { Runs words.now (
+      record { left = Some source.old; faults = 0 },
+      record { taken = Some sink.old.taken; room = Some sink.old.room; faults = sink.old.faults },
+    ) (
+      record { left = Some source.new; faults = 0 },
+      record { taken = Some sink.new.taken; room = Some sink.new.room; faults = sink.new.faults },
+    )
         result }
 {
     run(alloc, words, source, sink)
@@ -59,14 +60,12 @@ fn run_words<S: Source, K: Sink>(
     sink: &mut K,
 ) -> Status
     ensures outcome { Outcome words.now
-        (record { left = S.left source.old; read_faults = S.faults source.old; taken = K.taken sink.old; room = K.room sink.old; write_faults = K.faults sink.old })
-        (record { left = S.left source.new; read_faults = S.faults source.new; taken = K.taken sink.new; room = K.room sink.new; write_faults = K.faults sink.new })
-        result }
-    ensures reads { S.faults source.old ≤ S.faults source.new }
-    ensures writes { K.faults sink.old ≤ K.faults sink.new }
+        (S.told source.old, K.told sink.old) (S.told source.new, K.told sink.new) result }
+    ensures reads { (S.told source.old).faults ≤ (S.told source.new).faults }
+    ensures writes { (K.told sink.old).faults ≤ (K.told sink.new).faults }
 {
     match Form::of(words) {
-        Some(Form::About(report)) => about(alloc, report, source, sink),
+        Some(Form::Report(report)) => report_on(alloc, report, source, sink),
         Some(Form::Certify) => certify(alloc, source, sink),
         Some(Form::Check) => check_each(alloc, source, sink),
         Some(Form::Transmit) => transmit(alloc, source, sink),

@@ -1,9 +1,9 @@
 //! The samples of a described cell.
 
 ghost use Rattle.std.specs.Prelude.{◌≡◌, ◌≤◌, length, IfOk, IfErr};
-ghost use Rattle.std.specs.List.{flat_map};
-ghost use Rattle.cs_outside.specs.Outside.{Outside};
-ghost use Rattle.lte_top.specs.Transmitting.{sample_bytes, sent_samples, HasDescription};
+ghost use Rattle.sample_file.specs.Recording.{bytes_of as all_bytes};
+ghost use Rattle.cs_outside.specs.Outside.{SourceTold, SinkTold};
+ghost use Rattle.lte_top.specs.Transmitting.{sent_samples, HasDescription};
 ghost use Rattle.lte_top.specs.Forms.{description};
 ghost use Rattle.lte_top.specs.Run.{Cause, Ends};
 ghost use Rattle.lte_top.specs.declared.form.Form.TheVariants.{Transmit};
@@ -20,12 +20,9 @@ const MOST_BYTES: usize = 65_536;
 
 // The samples of the cell that a source describes, to a sink.
 pub(crate) fn transmit<S: Source, K: Sink>(alloc: Global, source: &mut S, sink: &mut K) -> Status
-    ensures ends { Ends Transmit
-        (record { left = S.left source.old; read_faults = S.faults source.old; taken = K.taken sink.old; room = K.room sink.old; write_faults = K.faults sink.old })
-        (record { left = S.left source.new; read_faults = S.faults source.new; taken = K.taken sink.new; room = K.room sink.new; write_faults = K.faults sink.new })
-        result }
-    ensures reads { S.faults source.old ≤ S.faults source.new }
-    ensures writes { K.faults sink.old ≤ K.faults sink.new }
+    ensures ends { Ends Transmit (S.told source.old, K.told sink.old) (S.told source.new, K.told sink.new) result }
+    ensures reads { (S.told source.old).faults ≤ (S.told source.new).faults }
+    ensures writes { (K.told sink.old).faults ≤ (K.told sink.new).faults }
 {
     let transmission = match transmission_of(alloc, source) {
         Ok(transmission) => transmission,
@@ -43,9 +40,9 @@ pub(crate) fn transmit<S: Source, K: Sink>(alloc: Global, source: &mut S, sink: 
 
 // The transmission that a source describes, which is read to its end.
 fn transmission_of<S: Source>(alloc: Global, source: &mut S) -> Result<Transmission, Status>
-    ensures ok { IfOk result (λ t. HasDescription t (S.left source.old) (S.left source.new)) }
-    ensures err { IfErr result (λ status. Cause description (S.left source.old) (S.left source.new) (S.faults source.old) (S.faults source.new) status) }
-    ensures never_falls { S.faults source.old ≤ S.faults source.new }
+    ensures ok { IfOk result (λ t. HasDescription t (S.told source.old) (S.told source.new)) }
+    ensures err { IfErr result (Cause description (S.told source.old) (S.told source.new)) }
+    ensures never_falls { (S.told source.old).faults ≤ (S.told source.new).faults }
 {
     let bytes = match read_to_end(alloc, source, MOST_BYTES) {
         Ok(bytes) => bytes,
@@ -62,11 +59,11 @@ fn transmission_of<S: Source>(alloc: Global, source: &mut S) -> Result<Transmiss
 
 // The samples of a transmission as bytes.
 fn bytes_of(alloc: Global, t: &Transmission) -> Result<Vec<u8>, AllocError>
-    ensures { IfOk result (λ bytes. bytes.items ≡ flat_map sample_bytes (sent_samples t.now)) }
+    ensures { IfOk result (λ bytes. bytes.items ≡ all_bytes (sent_samples t.now)) }
 {
     let mut samples = silence(alloc, t.samples as usize)?;
     send_all(t, &mut samples);
-    bytes_of_samples(alloc, &samples)
+    sample_file::bytes_of(alloc, &samples)
 }
 
 // So many samples of silence.
@@ -74,24 +71,4 @@ fn silence(alloc: Global, count: usize) -> Result<Vec<Sample>, AllocError>
     ensures { IfOk result (λ samples. length samples.items ≡ count) }
 {
     vec![in alloc; Sample { re: 0, im: 0 }; count]
-}
-
-// Samples as bytes.
-fn bytes_of_samples(alloc: Global, samples: &[Sample]) -> Result<Vec<u8>, AllocError>
-    ensures { IfOk result (λ bytes. bytes.items ≡ flat_map sample_bytes samples.now) }
-{
-    let mut bytes = Vec::new(alloc);
-    for sample in samples {
-        bytes.extend_from_slice(&bytes_of_sample(sample))?;
-    }
-    Ok(bytes)
-}
-
-// A sample as bytes.
-fn bytes_of_sample(sample: &Sample) -> [u8; 4]
-    ensures { result ≡ sample_bytes sample.now }
-{
-    let [a, b] = sample.re.to_le_bytes();
-    let [c, d] = sample.im.to_le_bytes();
-    [a, b, c, d]
 }

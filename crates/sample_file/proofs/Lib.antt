@@ -1,1 +1,1 @@
-mod Samples
+pub mod Samples

@@ -1,34 +1,45 @@
--- What a source gave when a recording was read from it (own): what was left before, and what is left now.
-use Rattle.std.specs.Prelude.{◌≡◌, ◌≢◌, ℕ, ◌%◌, ◌<◌, ◌≤◌, Option, List, length}
+-- What a source gave when a recording was read from it (own): what it told before, and what it tells now.
+use Rattle.std.specs.Prelude.{◌≡◌, ◌≢◌, ℕ, ◌*◌, ◌%◌, ◌<◌, ◌≤◌, List, length}
 use Rattle.cs_num.specs.declared.Sample.{Sample}
+use Rattle.cs_outside.specs.Outside.{SourceTold}
 use Rattle.cs_outside.specs.Streams.{HasReadAll}
-use Rattle.sample_file.specs.Recording.{samples_of}
+use Rattle.cs_outside.specs.declared.streams.ReadError.{ReadError}
+use Rattle.cs_outside.specs.declared.streams.ReadError.TheVariants.{TooLong as PastLimit, ReadFault as Failed, OutOfMemory as NoMemory}
+use Rattle.sample_file.specs.declared.reading.FileError.{FileError}
+use Rattle.sample_file.specs.declared.reading.FileError.TheVariants.{TooLong, ReadFault, OutOfMemory}
+use Rattle.sample_file.specs.Recording.{SampleForm, least_samples, most_samples}
 
--- the bytes of 57,600 samples, the fewest that a recording has
-abbrev pub least_bytes : ℕ
-least_bytes = 230400
+-- the fewest bytes that a recording has
+abbrev pub least_bytes : SampleForm → ℕ
+least_bytes form = least_samples * form.width
 
--- the bytes of 1,920,000 samples, the most that a recording has
-abbrev pub most_bytes : ℕ
-most_bytes = 7680000
+-- the most bytes that a recording has
+abbrev pub most_bytes : SampleForm → ℕ
+most_bytes form = most_samples * form.width
 
 -- the whole input was read, it is long enough and of whole samples, and the recording is all of them
-pub record HasReadRecording (recording : List Sample) (before now : Option (List ℕ)) : Type 0 where
+pub record HasReadRecording (form : SampleForm) (recording : List Sample) (before now : SourceTold) : Type 0 where
   pub input : List ℕ
-  pub read : HasReadAll most_bytes input before now
-  pub whole_samples : length input % 4 ≡ 0
-  pub enough : least_bytes ≤ length input
-  pub samples : recording ≡ samples_of input
+  pub read : HasReadAll (most_bytes form) input before now
+  pub whole_samples : length input % form.width ≡ 0
+  pub enough : least_bytes form ≤ length input
+  pub samples : recording ≡ form.samples input
 
--- the whole input was read, and 4 does not divide its length
-pub record HasReadRagged (before now : Option (List ℕ)) : Type 0 where
+-- the whole input was read, and it is not of whole samples
+pub record HasReadRagged (form : SampleForm) (before now : SourceTold) : Type 0 where
   pub input : List ℕ
-  pub read : HasReadAll most_bytes input before now
-  pub ragged : length input % 4 ≢ 0
+  pub read : HasReadAll (most_bytes form) input before now
+  pub ragged : length input % form.width ≢ 0
 
 -- the whole input was read, and it is of whole samples, but too few
-pub record HasReadTooShort (before now : Option (List ℕ)) : Type 0 where
+pub record HasReadTooShort (form : SampleForm) (before now : SourceTold) : Type 0 where
   pub input : List ℕ
-  pub read : HasReadAll most_bytes input before now
-  pub whole_samples : length input % 4 ≡ 0
-  pub too_short : length input < least_bytes
+  pub read : HasReadAll (most_bytes form) input before now
+  pub whole_samples : length input % form.width ≡ 0
+  pub too_short : length input < least_bytes form
+
+-- the same error of a recording's input
+abbrev pub error_of : ReadError → FileError
+error_of PastLimit = TooLong
+error_of Failed = ReadFault
+error_of NoMemory = OutOfMemory

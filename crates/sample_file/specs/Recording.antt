@@ -1,7 +1,12 @@
 -- Recordings: lists of samples, and the bytes that stand for them. (own; the form of raw 16-bit captures)
-use Rattle.std.specs.Prelude.{ℕ, ◌≤◌, ◌+◌, ◌*◌, List, [], ◌∷◌, length, ℤ}
-use Rattle.byteorder.specs.Endian.{twos_complement}
+use Rattle.std.specs.Prelude.{◌≡◌, ℕ, ◌≤◌, ◌+◌, ◌*◌, ◌++◌, List, [], ◌∷◌, length, All, ℤ}
+use Rattle.std.specs.List.{flat_map}
+use Rattle.std.specs.Int.{w16, cast_unsigned}
+use Rattle.byteorder.specs.Endian.{twos_complement, little_bytes}
 use Rattle.cs_num.specs.declared.Sample.{Sample}
+use Rattle.cs_num.specs.Complex.{IsWithin, value_of}
+
+-- ---- a sample and its bytes
 
 -- the signed number of two bytes, the low one first: 65,536 less where it is 32,768 or more
 abbrev pub component_of : ℕ → ℕ → ℤ
@@ -12,7 +17,44 @@ abbrev pub samples_of : List ℕ → List Sample
 samples_of (a ∷ b ∷ c ∷ d ∷ bytes) = record { re = component_of a b; im = component_of c d } ∷ samples_of bytes
 samples_of bytes = []
 
+-- the two bytes of a component, the low one first, as two's complement
+abbrev pub component_bytes : ℤ → List ℕ
+component_bytes z = little_bytes 2 (cast_unsigned w16 z)
+
+-- the four bytes of a sample, the real component first
+abbrev pub sample_bytes : Sample → List ℕ
+sample_bytes sample = component_bytes sample.re ++ component_bytes sample.im
+
+-- the bytes of samples, one after the other
+abbrev pub bytes_of : List Sample → List ℕ
+bytes_of samples = flat_map sample_bytes samples
+
+-- a law: the bytes of samples stand for these samples
+abbrev pub AreReadBack : Type 0
+AreReadBack = (samples : List Sample) → All (λ s. IsWithin 32767 (value_of s)) samples → samples_of (bytes_of samples) ≡ samples
+
+-- ---- forms of samples
+
+-- so many bytes a sample, and the samples that bytes stand for
+pub record SampleForm : Type 0 where
+  pub width : ℕ
+  pub samples : List ℕ → List Sample
+
+-- 16 bits a component
+abbrev pub form_16 : SampleForm
+form_16 = record { width = 4; samples = samples_of }
+
+-- ---- how many samples a recording has
+
+-- at least these: 30 ms
+abbrev pub least_samples : ℕ
+least_samples = 57600
+
+-- at most these: one second
+abbrev pub most_samples : ℕ
+most_samples = 1920000
+
 -- a recording has 57,600 to 1,920,000 samples
 pub record IsRecording (samples : List Sample) : Type 0 where
-  pub least : 57600 ≤ length samples
-  pub most : length samples ≤ 1920000
+  pub least : least_samples ≤ length samples
+  pub most : length samples ≤ most_samples

@@ -1,12 +1,13 @@
 //! A recording read from a source of bytes.
 
 ghost use Rattle.std.specs.Prelude.{◌≡◌, ◌≤◌, length, slice_index, IfOk, IsErrOf};
-ghost use Rattle.cs_outside.specs.Counts.{Rose};
-ghost use Rattle.cs_outside.specs.Streams.{HasReadPast};
-ghost use Rattle.sample_file.specs.Reading.{HasReadRecording, HasReadRagged, HasReadTooShort, most_bytes};
-ghost use Rattle.sample_file.specs.Recording.{IsRecording, component_of, samples_of};
+ghost use Rattle.cs_outside.specs.Outside.{SourceTold};
+ghost use Rattle.cs_outside.specs.Streams.{HasReadPast, HasReadFault};
+ghost use Rattle.sample_file.specs.Reading.{HasReadRecording, HasReadRagged, HasReadTooShort, most_bytes, error_of};
+ghost use Rattle.sample_file.specs.Recording.{IsRecording, component_of, samples_of, form_16};
+ghost use Rattle.sample_file.specs.declared.reading.FileError.TheVariants.{OutOfMemory};
 
-use crate::Recording;
+use crate::recording::{LEAST, MOST, Recording};
 use byteorder::{ByteOrder, LittleEndian};
 use cs_num::Sample;
 use cs_outside::{ReadError, Source, read_to_end};
@@ -33,12 +34,32 @@ pub enum FileError {
     OutOfMemory,
 }
 
+impl From<ReadError> for FileError {
+    ghost from_gives = { λ error same. same ≡ error_of error };
+
+    fn from(error: ReadError) -> FileError {
+        match error {
+            ReadError::TooLong => FileError::TooLong,
+            ReadError::ReadFault => FileError::ReadFault,
+            ReadError::OutOfMemory => FileError::OutOfMemory,
+        }
+    }
+}
+
+impl From<AllocError> for FileError {
+    ghost from_gives = { λ _ error. error ≡ OutOfMemory };
+
+    fn from(_error: AllocError) -> FileError {
+        FileError::OutOfMemory
+    }
+}
+
 // A sample has four bytes, two for each component.
 const SAMPLE_BYTES: usize = 4;
 
-const LEAST_BYTES: usize = 57_600 * SAMPLE_BYTES;
+const LEAST_BYTES: usize = LEAST * SAMPLE_BYTES;
 
-const MOST_BYTES: usize = 1_920_000 * SAMPLE_BYTES;
+const MOST_BYTES: usize = MOST * SAMPLE_BYTES;
 
 /// Reads a recording of 57,600 to 1,920,000 samples from a source, to its end. A sample has four bytes:
 /// the real, then the imaginary component, each a signed 16-bit number with its low byte first. (own)
@@ -46,34 +67,26 @@ const MOST_BYTES: usize = 1_920_000 * SAMPLE_BYTES;
 /// short it is. Of one that is too long 7,680,001 bytes are read. After an error what was read is dropped.
 pub fn read_recording<S: Source>(alloc: Global, source: &mut S) -> Result<Recording, FileError>
     ensures ok { IfOk result (λ recording.
-        HasReadRecording recording (S.left source.old) (S.left source.new)) }
-    ensures valid { IfOk result (λ recording. IsRecording recording) }
+        HasReadRecording form_16 recording (S.told source.old) (S.told source.new)) }
+    ensures valid { IfOk result IsRecording }
     ensures ragged { IsErrOf result FileError.Ragged →
-        HasReadRagged (S.left source.old) (S.left source.new) }
+        HasReadRagged form_16 (S.told source.old) (S.told source.new) }
     ensures too_short { IsErrOf result FileError.TooShort →
-        HasReadTooShort (S.left source.old) (S.left source.new) }
+        HasReadTooShort form_16 (S.told source.old) (S.told source.new) }
     ensures too_long { IsErrOf result FileError.TooLong →
-        HasReadPast most_bytes (S.left source.old) (S.left source.new) }
+        HasReadPast (most_bytes form_16) (S.told source.old) (S.told source.new) }
     ensures fault { IsErrOf result FileError.ReadFault →
-        Rose (S.faults source.old) (S.faults source.new) }
-    ensures never_falls { S.faults source.old ≤ S.faults source.new }
+        HasReadFault (most_bytes form_16) (S.told source.old) (S.told source.new) }
+    ensures never_falls { (S.told source.old).faults ≤ (S.told source.new).faults }
 {
-    let bytes = match read_to_end(alloc, source, MOST_BYTES) {
-        Ok(bytes) => bytes,
-        Err(ReadError::TooLong) => return Err(FileError::TooLong),
-        Err(ReadError::ReadFault) => return Err(FileError::ReadFault),
-        Err(ReadError::OutOfMemory) => return Err(FileError::OutOfMemory),
-    };
+    let bytes = read_to_end(alloc, source, MOST_BYTES)?;
     if bytes.len() % SAMPLE_BYTES != 0 {
         return Err(FileError::Ragged);
     }
     if bytes.len() < LEAST_BYTES {
         return Err(FileError::TooShort);
     }
-    let samples = match samples_from(alloc, &bytes) {
-        Ok(samples) => samples,
-        Err(AllocError) => return Err(FileError::OutOfMemory),
-    };
+    let samples = samples_from(alloc, &bytes)?;
     match Recording::new(samples) {
         Some(recording) => Ok(recording),
         None => unreachable!(),
@@ -110,5 +123,5 @@ fn first_component(bytes: &[u8]) -> i16
     requires { 2 ≤ length bytes.now }
     ensures { result ≡ component_of (slice_index bytes.now 0) (slice_index bytes.now 1) }
 {
-    LittleEndian::read_u16(bytes).cast_signed()
+    LittleEndian::read_i16(bytes)
 }

@@ -8,6 +8,12 @@ ghost use Rattle.cs_num.specs.Complex.{silence};
 use cs_num::Sample;
 use std::marker::Model;
 
+/// The fewest samples of a recording: 30 ms.
+pub(crate) const LEAST: usize = 57_600;
+
+/// The most samples of a recording: one second.
+pub(crate) const MOST: usize = 1_920_000;
+
 /// A list of 57,600 to 1,920,000 samples at 1.92 million samples per second: 30 ms to one second.
 /// Contracts see it as the list of its samples. (own)
 #[derive(Drop)]
@@ -30,10 +36,10 @@ impl Recording {
         ensures valid { IsSome result ↔ IsRecording samples.items }
         ensures value { IfSome result (λ recording. recording ≡ samples.items) }
     {
-        if samples.len() < 57_600 || samples.len() > 1_920_000 {
-            None
-        } else {
+        if (LEAST..=MOST).contains(&samples.len()) {
             Some(Recording { samples })
+        } else {
+            None
         }
     }
 

@@ -4,7 +4,7 @@ use Rattle.lte_top.proofs.certifying.write_each.Given as goal
 
 abbrev pub invariant-loop-entry : goal.invariant-loop-entry
 invariant-loop-entry g l = record {
-  so_far : HasCertifiedAll l.recording (take l.entry-index l.entries) (g.K.Sink.taken l.fn.sink) (g.K.Sink.taken l.sink) (g.K.Sink.room l.fn.sink) (g.K.Sink.room l.sink);
-  later : g.K.Sink.faults l.fn.sink ≤ g.K.Sink.faults l.sink;
+  so_far : HasCertifiedAll l.recording (take l.entry-index l.entries) (g.K.Sink.told l.fn.sink) (g.K.Sink.told l.sink);
+  later : (g.K.Sink.told l.fn.sink).faults ≤ (g.K.Sink.told l.sink).faults;
   whole : length l.buffer ≡ 655613;
 }

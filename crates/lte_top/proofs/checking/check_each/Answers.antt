@@ -7,7 +7,7 @@ use Rattle.lte_top.proofs.checking.check_each.Goals as goal
 pub returns-in-Ok-write_whole-clause-ends : goal.returns-in-Ok-write_whole-clause-ends
 returns-in-Ok-write_whole-clause-ends g c =
     done_by _ _ _ _ _ (output_of_answers _ _ _ _ c.in-Ok.ensures.ok (c.in-Ok-text_of_answers.ensures ∙ ap check_text c.deref.ensures.value))
-    c.as_bytes.ensures.value c.in-Ok-write_whole.ensures.ok c.in-Ok-write_whole.ensures.filled
+    c.as_bytes.ensures.value c.in-Ok-write_whole.ensures.ok
 
 pub returns-clause-ends : goal.returns-clause-ends
 returns-clause-ends g c =

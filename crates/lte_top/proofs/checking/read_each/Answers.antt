@@ -51,7 +51,6 @@ loop-answers-preserved g c =
 
 pub returns-in-Err-clause-err : goal.returns-in-Err-clause-err
 returns-in-Err-clause-err g c =
-    let size = length-take c.loop-answers.filled c.loop-answers.buffer in (
-      rose_later _ _ _ c.loop-answers.invariant.later c.in-Err.ensures.cause,
-      fault_on _ _ _ _ _ c.loop-answers.invariant.so_far c.in-Err.ensures.unchanged (omega (arith, size)),
-    )
+    let size = length-take c.loop-answers.filled c.loop-answers.buffer in
+    fault_on _ _ _ _ _ c.loop-answers.invariant.so_far c.in-Err.ensures.unchanged (rose_later _ _ _ c.loop-answers.invariant.later c.in-Err.ensures.cause)
+    (omega (arith, size)) (omega (arith, size))

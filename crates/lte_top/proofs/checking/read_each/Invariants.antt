@@ -4,8 +4,8 @@ use Rattle.lte_top.proofs.checking.read_each.Given as goal
 
 abbrev pub invariant-loop-answers : goal.invariant-loop-answers
 invariant-loop-answers g l = record {
-  so_far : IsReadTo l.answers.items (take l.filled l.buffer) (g.S.Source.left l.fn.source) (g.S.Source.left l.source);
-  later : g.S.Source.faults l.fn.source ≤ g.S.Source.faults l.source;
+  so_far : IsReadTo l.answers.items (take l.filled l.buffer) (g.S.Source.told l.fn.source) (g.S.Source.told l.source);
+  later : (g.S.Source.told l.fn.source).faults ≤ (g.S.Source.told l.source).faults;
   whole : length l.buffer ≡ 655613;
   part : l.filled < 655613;
   few : 655613 * length l.answers.items + l.filled ≤ 67108864;

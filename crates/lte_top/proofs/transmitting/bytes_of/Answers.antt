@@ -10,4 +10,4 @@ returns c =
     let long = c.send_all.auto.out in
     let back : c.deref.result.now ≡ sent_samples c.args.t.now =
     c.deref.ensures.value ∙ written_back c.send_all.new.out c.in_ok-samples.samples.items c.in_ok-samples.samples.len (omega (arith, long, size, c.deref_mut.ensures.len)) (omega (arith, size)) ∙ c.send_all.ensures in
-    rw back at c.bytes_of_samples.ensures
+    rw back at c.bytes_of.ensures

@@ -1,13 +1,15 @@
 //! Reports about a recording.
 
 ghost use Rattle.std.specs.Prelude.{◌≡◌, ◌≤◌, All, IfOk, IfErr, string_bytes};
-ghost use Rattle.cs_outside.specs.Outside.{Outside};
+ghost use Rattle.cs_outside.specs.Outside.{SourceTold, SinkTold};
 ghost use Rattle.sample_file.specs.Reading.{HasReadRecording};
-ghost use Rattle.sample_file.specs.Recording.{IsRecording};
-ghost use Rattle.lte_top.specs.Forms.{recording, IsReport, IsListText};
+ghost use Rattle.sample_file.specs.Recording.{IsRecording, form_16};
+ghost use Rattle.report.specs.Lines.{report_text};
+ghost use Rattle.lte_top.specs.Certificates.{IsListOfCells};
+ghost use Rattle.lte_top.specs.Forms.{recording, IsReport, IsTextOfList};
 ghost use Rattle.pss_search.specs.Hits.{IsInSpan, hits_of as all_hits};
 ghost use Rattle.lte_top.specs.Run.{Cause, Ends};
-ghost use Rattle.lte_top.specs.declared.form.Form.TheVariants.{About};
+ghost use Rattle.lte_top.specs.declared.form.Form.TheVariants.{Report as Reports};
 
 use crate::form::Report;
 use crate::status::Status;
@@ -21,18 +23,16 @@ use sample_file::{FileError, Recording, read_recording};
 use std::alloc::{AllocError, Global};
 
 // The report about the recording of a source, to a sink.
-pub(crate) fn about<S: Source, K: Sink>(
+pub(crate) fn report_on<S: Source, K: Sink>(
     alloc: Global,
     report: Report,
     source: &mut S,
     sink: &mut K,
 ) -> Status
-    ensures ends { Ends (About report)
-        (record { left = S.left source.old; read_faults = S.faults source.old; taken = K.taken sink.old; room = K.room sink.old; write_faults = K.faults sink.old })
-        (record { left = S.left source.new; read_faults = S.faults source.new; taken = K.taken sink.new; room = K.room sink.new; write_faults = K.faults sink.new })
-        result }
-    ensures reads { S.faults source.old ≤ S.faults source.new }
-    ensures writes { K.faults sink.old ≤ K.faults sink.new }
+    ensures ends { Ends (Reports report)
+        (S.told source.old, K.told sink.old) (S.told source.new, K.told sink.new) result }
+    ensures reads { (S.told source.old).faults ≤ (S.told source.new).faults }
+    ensures writes { (K.told sink.old).faults ≤ (K.told sink.new).faults }
 {
     let recording = match recording_of(alloc, source) {
         Ok(recording) => recording,
@@ -50,10 +50,10 @@ pub(crate) fn about<S: Source, K: Sink>(
 
 // The recording of a source, which is read to its end.
 pub(crate) fn recording_of<S: Source>(alloc: Global, source: &mut S) -> Result<Recording, Status>
-    ensures ok { IfOk result (λ samples. HasReadRecording samples (S.left source.old) (S.left source.new)) }
-    ensures valid { IfOk result (λ samples. IsRecording samples) }
-    ensures err { IfErr result (λ status. Cause recording (S.left source.old) (S.left source.new) (S.faults source.old) (S.faults source.new) status) }
-    ensures never_falls { S.faults source.old ≤ S.faults source.new }
+    ensures ok { IfOk result (λ samples. HasReadRecording form_16 samples (S.told source.old) (S.told source.new)) }
+    ensures valid { IfOk result IsRecording }
+    ensures err { IfErr result (Cause (recording form_16) (S.told source.old) (S.told source.new)) }
+    ensures never_falls { (S.told source.old).faults ≤ (S.told source.new).faults }
 {
     match read_recording(alloc, source) {
         Ok(recording) => Ok(recording),
@@ -94,7 +94,8 @@ fn hits_of(alloc: Global, recording: &Recording) -> Result<HitList, AllocError>
 
 // The text of the list of a recording.
 fn text_of_list(alloc: Global, recording: &Recording) -> Result<String, AllocError>
-    ensures { IfOk result (λ text. IsListText recording.now (string_bytes text)) }
+    ensures { IfOk result (λ text.
+        IsTextOfList IsListOfCells report_text recording.now (string_bytes text)) }
 {
     let (mut work, mut list) = room_for_list(alloc)?;
     explain_clean(recording, &mut work, &mut list);
