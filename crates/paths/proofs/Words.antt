@@ -1,7 +1,8 @@
 -- A word's number, and the key of a path: its cost at a scale, and its word's number.
-use Rattle.std.proofs.Common.{◌≡◌, ℕ, zero, suc, ◌+◌, ◌-◌, ◌*◌, ◌/◌, ◌%◌, ◌^◌, ◌<◌, ◌⊎◌, inl, inr, Bool, true, false, List, [], ◌∷◌, length, get_or, refl, ap, sym, ◌∙◌, arith, eqb, pow-add}
+use Rattle.std.proofs.Common.{◌≡◌, ℕ, zero, suc, ◌+◌, ◌-◌, ◌*◌, ◌/◌, ◌%◌, ◌^◌, ◌<◌, ◌⊎◌, inl, inr, ◌++◌, take, drop, subst, length-drop, length-take-le, Bool, true, false, List, [], ◌∷◌, length, get_or, refl, ap, sym, ◌∙◌, arith, eqb, pow-add}
 use Rattle.std.specs.Prelude.{nat_eq}
 use Rattle.std.proofs.lemmas.Nat.{div-mul-add, pow_pos}
+use Rattle.std.proofs.Math.Seq.{split_at, get_or-append_seam}
 use Rattle.std.proofs.Math.Nat.{div-eq_of_lt, pow-suc, add_comm, add-mul-div_right}
 use Rattle.paths.specs.Paths.{path_cost}
 use Rattle.cs_bits.specs.Numbers.{number}
@@ -48,3 +49,18 @@ either_before (true ∷ u) (true ∷ w) size = elim (either_before u w (omega (a
   | inl same ↦ inl (ap (λ v. true ∷ v) same)
   | inr other ↦ inr other
 ]
+
+-- the bit between two words
+pub bit_between : (us ws : List Bool) (b : Bool) (k : ℕ) → length us ≡ k → get_or (us ++ b ∷ ws) k false ≡ b
+bit_between us ws b k size = subst (λ i. get_or (us ++ b ∷ ws) i false ≡ b) size (get_or-append_seam us b ws false)
+
+-- a word is the bits before place k, the bit there, and those after it
+pub with_bit : (word : List Bool) (k n : ℕ) (b : Bool) → k + suc n ≡ length word → get_or word k false ≡ b →
+    (us : List Bool) × (ws : List Bool) × (length us ≡ k) × (length ws ≡ n) × (word ≡ us ++ b ∷ ws)
+with_bit word k n b size bit = (
+  take k word,
+  drop (suc k) word,
+  length-take-le k word (omega (arith, size)),
+  length-drop (suc k) word ∙ omega (arith, size),
+  split_at word k false (omega (arith, size)) ∙ ap (λ a. take k word ++ a ∷ drop (suc k) word) bit,
+)

@@ -1,5 +1,5 @@
 -- What the loop over a word keeps of an encoder, and the lists that the loops fill.
-use Rattle.std.proofs.Common.{◌≡◌, ℕ, suc, ◌+◌, ◌-◌, ◌<◌, ◌≤◌, Bool, true, false, List, [], ◌∷◌, ◌++◌, length, get_or, set, replicate, take, drop, refl, ap, ap₂, sym, subst, ◌∙◌, arith}
+use Rattle.std.proofs.Common.{◌≡◌, ℕ, suc, ◌+◌, ◌-◌, ◌<◌, ◌≤◌, Bool, false, List, [], ◌∷◌, ◌++◌, length, get_or, set, replicate, take, drop, refl, ap, ap₂, sym, subst, ◌∙◌, arith}
 use Rattle.std.proofs.lemmas.List.{length-set, drop-replicate}
 use Rattle.std.proofs.lemmas.Slice.{drop-append-drop}
 use Rattle.std.proofs.Math.Seq.{take-append_seam}
@@ -7,7 +7,8 @@ use Rattle.finite.specs.Lists.{values_below}
 use Rattle.finite.proofs.Lists.{front_is, set_more}
 use Rattle.turbo_code.specs.declared.rows.Row.{Row}
 use Rattle.turbo_code.specs.declared.encoder.Register.{Register}
-use Rattle.turbo_code.specs.Table.{place}
+use Rattle.turbo_code.specs.Table.{interleaver}
+use Rattle.turbo_code.specs.Streams.{in_order}
 use Rattle.finite.specs.Bits.{xor}
 use Rattle.finite.proofs.Bits.{false-xor}
 use Rattle.turbo_code.specs.Encoder.{back, before, next, bit_at, parity, parities, tail_x, tail_z, interleaved, stream, coded}
@@ -71,12 +72,12 @@ unfolding tail_z
 tails_z word k r e s = rw (← e) (rw (s.one, s.two, s.three) refl)
 
 pub interleaved_is : (row : Row) (word : List Bool) (i : ℕ) (found : List Bool) → length word ≡ row.k → row.k ≤ 1024 → length word ≤ i → length found ≡ 1024 →
-    ((j : ℕ) → j < i → get_or found j false ≡ bit_at word (place row j)) → take (length word) found ≡ interleaved row word
-unfolding interleaved
+    ((j : ℕ) → j < i → get_or found j false ≡ bit_at word (interleaver row j)) → take (length word) found ≡ interleaved row word
+unfolding in_order
 interleaved_is row word i found count short past size at =
     let long : length word ≤ length found = omega (arith, count, short, size) in
-    front_is false (length word) (λ j. bit_at word (place row j)) found long (λ j below. at j (omega (arith, past, below)))
-    ∙ ap (λ n. values_below n (λ j. bit_at word (place row j))) count
+    front_is false (length word) (λ j. bit_at word (interleaver row j)) found long (λ j below. at j (omega (arith, past, below)))
+    ∙ ap (λ n. values_below n (λ j. bit_at word (interleaver row j))) count
 
 -- ---- a stream
 

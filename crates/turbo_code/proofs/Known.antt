@@ -1,12 +1,12 @@
 -- The definitions at words and sizes whose code and reading are known.
 use Rattle.std.proofs.Common.{◌≡◌, true, false, [], ◌∷◌, map, refl}
-use Rattle.turbo_code.specs.Table.{row, place}
+use Rattle.turbo_code.specs.Table.{row, interleaver}
 use Rattle.turbo_code.specs.Encoder.{before, parities, tail_x, tail_z}
 use Rattle.turbo_code.specs.Reading.{spot, columns, start, buffer, bits_in, reading, place_of}
 
 -- the interleaver of K = 144
-places_of_144 : map (place (row 144 17 108)) (0 ∷ 1 ∷ 2 ∷ 3 ∷ []) ≡ 0 ∷ 125 ∷ 34 ∷ 15 ∷ []
-unfolding place
+places_of_144 : map (interleaver (row 144 17 108)) (0 ∷ 1 ∷ 2 ∷ 3 ∷ []) ≡ 0 ∷ 125 ∷ 34 ∷ 15 ∷ []
+unfolding interleaver
 places_of_144 = refl
 
 -- where its reading starts

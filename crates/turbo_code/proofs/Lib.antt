@@ -3,6 +3,9 @@ pub mod Permutes
 pub mod Cells
 pub mod Search
 pub mod Encoding
+pub mod Registers
+pub mod Edges
+pub mod Orders
 pub mod Round
 pub mod Sums
 pub mod Whole

@@ -5,7 +5,7 @@ use Rattle.std.proofs.lemmas.Bool.{eqb-true, ltb-true, and_parts}
 use Rattle.finite.specs.Tests.{every_below}
 use Rattle.finite.proofs.Tests.{every_below_at}
 use Rattle.turbo_code.specs.declared.rows.Row.{Row}
-use Rattle.turbo_code.specs.Table.{rows, place}
+use Rattle.turbo_code.specs.Table.{rows, interleaver}
 use Rattle.turbo_code.specs.Laws.{Permutes, RowsPermute}
 
 -- the inverse of each row's f1 modulo K
@@ -22,7 +22,7 @@ place_back r back y =
     (back * (y + (r.k - r.f2) * (b * b))) % r.k
 
 both_ways : Row → ℕ → ℕ → Bool
-both_ways r back i = nat_eq (place_back r back (place r i)) i && nat_eq (place r (place_back r back i)) i
+both_ways r back i = nat_eq (place_back r back (interleaver r i)) i && nat_eq (interleaver r (place_back r back i)) i
 
 row_test : Row → ℕ → Bool
 row_test r back = nat_lt 0 r.k && every_below r.k (both_ways r back)
@@ -33,7 +33,7 @@ rows_test [] k = true
 rows_test (r ∷ rs) k = row_test r (get_or backs k 0) && rows_test rs (suc k)
 
 tested : rows_test rows 0 ≡ true
-unfolding rows_test row_test both_ways place place_back rows backs every_below
+unfolding rows_test row_test both_ways interleaver place_back rows backs every_below
 tested = refl
 
 row_passes : (rs : List Row) (first : ℕ) → rows_test rs first ≡ true → (k : ℕ) (r : Row) → k < length rs → get_or rs k r ≡ r →
@@ -45,15 +45,15 @@ row_passes (x ∷ xs) first h zero r l e =
 row_passes (x ∷ xs) first h (suc k) r l e =
     row_passes xs (suc first) (and_parts (row_test x (get_or backs first 0)) (rows_test xs (suc first)) h).1 k r (omega (arith, l)) e
 
-permutes_by : (r : Row) (b : ℕ) → row_test r b ≡ true → Permutes r.k (place r)
+permutes_by : (r : Row) (b : ℕ) → row_test r b ≡ true → Permutes r.k (interleaver r)
 unfolding row_test both_ways
 permutes_by r b h =
     let parts = and_parts (nat_lt 0 r.k) (every_below r.k (both_ways r b)) h in
     let some : 0 < r.k = ltb-true 0 r.k parts.0 in
-    let at : (i : ℕ) → i < r.k → (nat_eq (place_back r b (place r i)) i ≡ true) × (nat_eq (place r (place_back r b i)) i ≡ true)
-    = λ i l. and_parts (nat_eq (place_back r b (place r i)) i) (nat_eq (place r (place_back r b i)) i) (every_below_at r.k (both_ways r b) parts.1 i l) in
+    let at : (i : ℕ) → i < r.k → (nat_eq (place_back r b (interleaver r i)) i ≡ true) × (nat_eq (interleaver r (place_back r b i)) i ≡ true)
+    = λ i l. and_parts (nat_eq (place_back r b (interleaver r i)) i) (nat_eq (interleaver r (place_back r b i)) i) (every_below_at r.k (both_ways r b) parts.1 i l) in
     record {
-      below = λ i l. unfold place in mod-lt (r.f1 * i + r.f2 * i * i) some;
+      below = λ i l. unfold interleaver in mod-lt (r.f1 * i + r.f2 * i * i) some;
       one_to_one = λ i j l m e. sym (eqb-true _ i (at i l).0) ∙ ap (place_back r b) e ∙ eqb-true _ j (at j m).0;
       onto = λ y l. (place_back r b y, (unfold place_back in mod-lt _ some), eqb-true _ y (at y l).1);
     }

@@ -3,7 +3,7 @@ use Rattle.std.specs.Prelude.{ℕ, zero, suc, ◌-◌, Bool, false, List, [], �
 use Rattle.finite.specs.Bits.{xor}
 use Rattle.finite.specs.Lists.{values_below}
 use Rattle.turbo_code.specs.declared.rows.Row.{Row}
-use Rattle.turbo_code.specs.Table.{place}
+use Rattle.turbo_code.specs.Streams.{in_order}
 
 -- bit k of a word
 abbrev pub bit_at : List Bool → ℕ → Bool
@@ -47,8 +47,8 @@ unfoldable pub tail_z : List Bool → ℕ → Bool
 tail_z word j = xor (back (before_tail word j) 1) (back (before_tail word j) 3)
 
 -- the word in the order of the second encoder
-unfoldable pub interleaved : Row → List Bool → List Bool
-interleaved row word = values_below row.k (λ i. bit_at word (place row i))
+abbrev pub interleaved : Row → List Bool → List Bool
+interleaved row word = in_order false row word
 
 -- a stream: its bits, the four tail bits, and zeros up to 1,028
 abbrev pub stream : List Bool → List Bool → List Bool

@@ -2,7 +2,7 @@
 use Rattle.std.specs.Prelude.{◌≡◌, ℕ, ◌+◌, ◌*◌, ◌<◌, length}
 use Rattle.std.specs.List.{count_by}
 use Rattle.turbo_code.specs.declared.rows.Row.{Row}
-use Rattle.turbo_code.specs.Table.{IsRow, IsSize, place}
+use Rattle.turbo_code.specs.Table.{IsRow, IsSize, interleaver}
 use Rattle.turbo_code.specs.Reading.{is_at, reading}
 
 -- f is one to one, from the numbers below n onto them
@@ -13,7 +13,7 @@ pub record Permutes (n : ℕ) (f : ℕ → ℕ) : Type 0 where
 
 -- each row's interleaver is a permutation
 abbrev pub RowsPermute : Type 0
-RowsPermute = (row : Row) → IsRow row → Permutes row.k (place row)
+RowsPermute = (row : Row) → IsRow row → Permutes row.k (interleaver row)
 
 -- once round the buffer are 3(K + 4) bits, and each of the K + 4 bits of each stream stands there once
 pub record ReadsEachBitOnce (k rv : ℕ) : Type 0 where

@@ -1,4 +1,6 @@
 pub mod Table
+pub mod Streams
 pub mod Encoder
+pub mod Machine
 pub mod Reading
 pub mod Laws

@@ -1,6 +1,6 @@
 -- The table of block sizes and of the internal interleaver (TS 36.212 section 5.1.3.2.3).
-use Rattle.std.specs.Prelude.{ℕ, ◌+◌, ◌*◌, ◌%◌, ◌≡◌, List, [], ◌∷◌}
-use Rattle.std.specs.List.{Contains}
+use Rattle.std.specs.Prelude.{ℕ, ◌+◌, ◌*◌, ◌%◌, ◌≡◌, List, [], ◌∷◌, nat_eq}
+use Rattle.std.specs.List.{Contains, position_or_len, range_with_len}
 use Rattle.turbo_code.specs.declared.rows.Row.{Row}
 
 abbrev pub row : ℕ → ℕ → ℕ → Row
@@ -27,5 +27,9 @@ abbrev pub IsSize : ℕ → Type 0
 IsSize k = (r : Row) × Contains rows r × (r.k ≡ k)
 
 -- which information bit the second encoder reads after i others
-unfoldable pub place : Row → ℕ → ℕ
-place r i = (r.f1 * i + r.f2 * i * i) % r.k
+unfoldable pub interleaver : Row → ℕ → ℕ
+interleaver r i = (r.f1 * i + r.f2 * i * i) % r.k
+
+-- which step of the second encoder reads bit k: the inverse of the interleaver
+abbrev pub step_of : Row → ℕ → ℕ
+step_of r k = position_or_len (λ i. nat_eq (interleaver r i) k) (range_with_len 0 r.k)

@@ -1,7 +1,7 @@
 //! The two encoders and the coded word.
 
 ghost use Rattle.std.specs.Prelude.{◌≡◌, ◌+◌, ◌<◌, ◌≤◌, ◌∷◌, ◌++◌, [], false, length, take, drop};
-ghost use Rattle.turbo_code.specs.Table.{IsRow, IsSize, place};
+ghost use Rattle.turbo_code.specs.Table.{IsRow, IsSize, interleaver};
 ghost use Rattle.finite.specs.Bits.{xor};
 ghost use Rattle.turbo_code.specs.Encoder.{coded, interleaved, parities, stream, tail_x, tail_z};
 
@@ -91,10 +91,10 @@ fn encoder_of(word: &[bool]) -> Constituent
 
 /// Which bit of the word the second encoder reads after i others (TS 36.212 section 5.1.3.2.3). `row` is a row of the
 /// table, and `i` is below K; so is the answer.
-pub fn place_of(row: &Row, i: usize) -> usize
+pub fn interleaver(row: &Row, i: usize) -> usize
     requires row { IsRow row.now }
     requires inside { i < row.now.k }
-    ensures place { result ≡ place row.now i }
+    ensures bit { result ≡ interleaver row.now i }
     ensures inside { result < row.now.k }
 {
     let f1 = row.f1 as usize;
@@ -111,7 +111,7 @@ fn in_order(word: &[bool], row: &Row) -> [bool; 1024]
 {
     let mut bits = [false; 1024];
     for i in 0..word.len() {
-        bits[i] = word[place_of(row, i)];
+        bits[i] = word[interleaver(row, i)];
     }
     bits
 }

@@ -1,14 +1,17 @@
 //! The turbo code of rate 1/3 (TS 36.212 sections 5.1.3.2 and 5.1.4.1): the table of block sizes, the
-//! coded word, the cyclic reading of its bits, and the sums of received values by coded bit.
+//! coded word, its encoder as a machine, the cyclic reading of its bits, and the sums of received values by
+//! coded bit.
 #![tactic(auto)]
 
 mod encoder;
 mod laws;
+mod machine;
 mod matching;
 mod rows;
 
-pub use encoder::{Coded, encode, place_of};
+pub use encoder::{Coded, encode, interleaver};
 pub use laws::{reading_is_whole, rows_permute};
+pub use machine::{before, bit_to, next, parity_bit, register, tail_bit, tail_parity};
 pub use matching::{Combined, combine, match_out};
 pub use rows::{Row, row_of};
 

@@ -2,7 +2,7 @@ ghost use Rattle.std.specs.Prelude.{◌≡◌, ◌+◌, ◌<◌, ◌≤◌, ◌&
 ghost use Rattle.turbo_code.specs.Table.{IsRow, IsSize};
 
 use super::*;
-use crate::encoder::place_of;
+use crate::encoder::interleaver;
 use crate::rows::each_row;
 use std::alloc::{AllocError, Global};
 use std::test::Fail;
@@ -36,7 +36,7 @@ fn permutes(row: &Row) -> bool
 {
     let mut seen = [false; 1024];
     for i in 0..row.k {
-        match seen.get_mut(place_of(row, i as usize)) {
+        match seen.get_mut(interleaver(row, i as usize)) {
             Some(place) if !*place => *place = true,
             _ => return false,
         }

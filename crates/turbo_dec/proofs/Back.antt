@@ -8,11 +8,12 @@ use Rattle.paths.specs.Least.{IsLeastVia}
 use Rattle.paths.proofs.Through.{least_split}
 use Rattle.turbo_dec.specs.Decoder.{Values, values_of, at, clamped, extrinsic, extrinsics}
 use Rattle.turbo_dec.specs.Laws.{IsGreatest}
-use Rattle.turbo_dec.specs.Machine.{next, edge_cost, step_cost, tail_cost, starts, backward_least, IsForwardRow, HasRows}
+use Rattle.turbo_code.specs.Machine.{next}
+use Rattle.turbo_dec.specs.Costs.{edge_cost, step_cost, tail_cost, starts, backward_least, IsForwardRow, HasRows}
 use Rattle.turbo_dec.proofs.Scores.{worth}
 use Rattle.turbo_dec.proofs.Small.{AreSmall}
 use Rattle.turbo_dec.proofs.Greatest.{least_gives_greatest, extrinsic_is}
-use Rattle.turbo_dec.proofs.Edges.{next_below}
+use Rattle.turbo_code.proofs.Edges.{next_below}
 
 -- the row has the least costs from each state at place k on, and the extrinsic values from there on are found
 pub record IsBackTo (v : Values) (row : List ℕ) (out : List ℤ) (k : ℕ) : Type 0 where

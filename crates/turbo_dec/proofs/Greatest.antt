@@ -1,18 +1,18 @@
 -- The greatest score of a word with a bit, by its definition, and from the least cost of a path with that bit.
-use Rattle.std.proofs.Common.{◌≡◌, ℕ, zero, suc, ◌+◌, ◌-◌, ◌/◌, ◌<◌, ◌≤◌, Bool, true, false, cond, List, [], ◌∷◌, ◌++◌, length, take, drop, ℤ, pos, ◌+ℤ◌, ◌-ℤ◌, refl, ap, sym, subst, ◌∙◌, inl, inr, ◌⊎◌, arith, length-append, length-drop, length-take-le}
+use Rattle.std.proofs.Common.{◌≡◌, ℕ, zero, suc, ◌+◌, ◌-◌, ◌/◌, ◌<◌, ◌≤◌, Bool, true, false, cond, List, [], ◌∷◌, ◌++◌, length, ℤ, pos, ◌+ℤ◌, ◌-ℤ◌, refl, ap, sym, ◌∙◌, inl, inr, ◌⊎◌, arith, length-append}
 use Rattle.std.specs.Prelude.{nat_abs, ◌≤ℤ◌, int_lt}
 use Rattle.std.specs.Int.{int_max}
 use Rattle.std.proofs.lemmas.Bool.Decides.{eqb_tells}
 use Rattle.std.proofs.lemmas.Int.{ints, clamps}
-use Rattle.std.proofs.Math.Seq.{split_at, get_or-append_seam}
 use Rattle.cs_bits.proofs.Signs.{disagreement-le}
 use Rattle.paths.specs.Paths.{end_of}
 use Rattle.paths.specs.Least.{IsLeastWith}
 use Rattle.paths.proofs.Paths.{path_cost-le}
-use Rattle.turbo_code.specs.Encoder.{bit_at}
+use Rattle.paths.proofs.Words.{bit_between, with_bit}
 use Rattle.turbo_dec.specs.Decoder.{Values, at, score, greatest, greatest_score, extrinsic, clamped}
 use Rattle.turbo_dec.specs.Laws.{IsGreatest}
-use Rattle.turbo_dec.specs.Machine.{next, step_cost, tail_cost, tail_bit, tail_parity, parity_bit, far, starts}
+use Rattle.turbo_code.specs.Machine.{next, tail_bit, tail_parity, parity_bit}
+use Rattle.turbo_dec.specs.Costs.{step_cost, tail_cost, far, starts}
 use Rattle.turbo_dec.proofs.Small.{AreSmall}
 use Rattle.turbo_dec.proofs.Scores.{worth, score_cost}
 
@@ -49,21 +49,6 @@ greatest_reached (suc n) f = elim (max_cases (greatest n (λ w. f (false ∷ w))
   | inr e ↦ let (word, size, is) = greatest_reached n (λ w. f (true ∷ w)) in (true ∷ word, ap suc size, is ∙ sym e)
 ]
 
--- the bit between them
-bit_between : (us ws : List Bool) (b : Bool) (k : ℕ) → length us ≡ k → bit_at (us ++ b ∷ ws) k ≡ b
-bit_between us ws b k size = subst (λ i. bit_at (us ++ b ∷ ws) i ≡ b) size (get_or-append_seam us b ws false)
-
--- a word is the bits before place k, the bit there, and those after it
-with_bit : (word : List Bool) (k n : ℕ) (b : Bool) → k + suc n ≡ length word → bit_at word k ≡ b →
-    (us : List Bool) × (ws : List Bool) × (length us ≡ k) × (length ws ≡ n) × (word ≡ us ++ b ∷ ws)
-with_bit word k n b size bit = (
-  take k word,
-  drop (suc k) word,
-  length-take-le k word (omega (arith, size)),
-  length-drop (suc k) word ∙ omega (arith, size),
-  split_at word k false (omega (arith, size)) ∙ ap (λ a. take k word ++ a ∷ drop (suc k) word) bit,
-)
-
 pub greatest_score_is_greatest : (v : Values) (k : ℕ) (b : Bool) → k < length v.systematic → IsGreatest v k b (greatest_score v k b)
 unfolding greatest_score
 greatest_score_is_greatest v k b inside = record {
@@ -85,7 +70,7 @@ greatest_score_is_greatest v k b inside = record {
     n : ℕ
     n = length v.systematic - k - 1
 
-greatest_is_one : (v : Values) (k : ℕ) (b : Bool) (m m' : ℤ) → IsGreatest v k b m → IsGreatest v k b m' → m ≡ m'
+pub greatest_is_one : (v : Values) (k : ℕ) (b : Bool) (m m' : ℤ) → IsGreatest v k b m → IsGreatest v k b m' → m ≡ m'
 greatest_is_one v k b m m' one other =
     let (word, size, bit, is) = one.reached in
     let (word', size', bit', is') = other.reached in

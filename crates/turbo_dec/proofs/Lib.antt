@@ -1,6 +1,4 @@
 pub mod Small
-pub mod Edges
-pub mod Registers
 pub mod Scores
 pub mod Greatest
 pub mod Rows

@@ -1,34 +1,27 @@
 -- The rows of the forward pass.
-use Rattle.std.proofs.Common.{◌≡◌, ◌≢◌, ℕ, suc, ◌+◌, ◌*◌, ◌<◌, ◌≤◌, List, [], length, get_or, set, ℤ, ◌+ℤ◌, inl, inr, arith, get_or-set_other, get_or-set_same}
+use Rattle.std.proofs.Common.{◌≡◌, ◌≢◌, ℕ, suc, ◌+◌, ◌<◌, ◌≤◌, List, [], length, get_or, set, ℤ, ◌+ℤ◌, inl, inr, arith, get_or-set_other, get_or-set_same}
 use Rattle.std.specs.Prelude.{nat_eq, cond, true, false}
 use Rattle.std.proofs.lemmas.Bool.{cases_lt}
 use Rattle.turbo_dec.specs.Decoder.{Values, at}
-use Rattle.turbo_dec.specs.Machine.{next, step_cost, starts, far, forward_least, first_from, second_from, bit_to, IsForwardRow, HasRows}
-use Rattle.paths.proofs.Forward.{least_to_none, least_to_more}
-use Rattle.turbo_dec.proofs.Edges.{edges, next_below}
+use Rattle.turbo_code.specs.Machine.{next, first_from, second_from, bit_to}
+use Rattle.turbo_dec.specs.Costs.{step_cost, starts, far, forward_least, IsForwardRow, HasRows}
+use Rattle.paths.proofs.Rows.{row_first, row_later}
+use Rattle.turbo_code.proofs.Edges.{edges, next_below}
 
 pub first_row : (v : Values) (row : List ℕ) → ((x : ℕ) → x < 8 → get_or row x 0 ≡ starts x) → IsForwardRow v 0 row
-first_row v row h = record {
-  least = λ x below. rw (h x below) (least_to_none next (step_cost v) starts 8 x below);
-  room = λ x below. rw (h x below) (starts_le x);
-}
+first_row v row is = row_first next (step_cost v) starts 8 far 12288 row is (λ x below. rw (is x below) (starts_le x))
   where
-    starts_le : (x : ℕ) → starts x ≤ far + 0 * 12288
-    starts_le x = elim (nat_eq x 0) as (λ t. cond t 0 far ≤ far + 0 * 12288) [ true ↦ omega arith | false ↦ omega arith ]
+    starts_le : (x : ℕ) → starts x ≤ far
+    starts_le x = elim (nat_eq x 0) as (λ t. cond t 0 far ≤ far) [ true ↦ omega arith | false ↦ omega arith ]
 
 pub later_row : (v : Values) (k : ℕ) (row later : List ℕ) (sum parity : ℤ) → IsForwardRow v k row →
     sum ≡ at v.systematic k +ℤ at v.prior k → parity ≡ at v.parity k →
     ((x : ℕ) → x < 8 → get_or later x 0 ≡ forward_least sum parity row x) →
     ((x : ℕ) → x < 8 → get_or later x 0 ≤ get_or row (first_from x) 0 + 12288) →
     IsForwardRow v (suc k) later
-later_row v k row later sum parity known s p step growth = record {
-  least = λ x below.
-      rw (step x below, s, p)
-      (least_to_more next (step_cost v) starts 8 k x (first_from x) (bit_to (first_from x) x) (second_from x) (bit_to (second_from x) x)
-      (get_or row (first_from x) 0) (get_or row (second_from x) 0) next_below (edges x below)
-      (known.least (first_from x) (omega arith)) (known.least (second_from x) (omega arith)));
-  room = λ x below. let g = growth x below in let r = known.room (first_from x) (omega arith) in omega (arith, g, r);
-}
+later_row v k row later sum parity known s p step growth =
+    row_later next (step_cost v) starts 8 far 12288 k first_from (λ x. bit_to (first_from x) x) second_from (λ x. bit_to (second_from x) x) row later
+    next_below edges known (λ x below. rw (← s, ← p) (step x below)) growth
 
 pub rows_first : (v : Values) (rows : List (List ℕ)) (row : List ℕ) → 0 < length rows → IsForwardRow v 0 row → HasRows v (set rows 0 row) 0
 rows_first v rows row inside h = record {

@@ -6,8 +6,9 @@ use Rattle.cs_bits.specs.Signs.{disagreement}
 use Rattle.paths.specs.Paths.{end_of, path_cost}
 use Rattle.turbo_code.specs.Encoder.{bit_at, back, before, parity, tail_x, tail_z}
 use Rattle.turbo_dec.specs.Decoder.{Values, at, taken, place_score, tail_score, score}
-use Rattle.turbo_dec.specs.Machine.{next, step_cost, tail_step_cost, tail_cost, tail_bit, tail_parity}
-use Rattle.turbo_dec.proofs.Registers.{state, state_at, parity_at, tail_bit_is, tail_parity_is, half_is, path_is}
+use Rattle.turbo_code.specs.Machine.{next, tail_bit, tail_parity}
+use Rattle.turbo_dec.specs.Costs.{step_cost, tail_step_cost, tail_cost}
+use Rattle.turbo_code.proofs.Registers.{state, state_at, parity_at, tail_bit_is, tail_parity_is, half_is, path_is}
 
 -- what a value gives and what it costs
 taken_cost : (z : ℤ) (b : Bool) → taken z b +ℤ pos (disagreement z b) ≡ pos (disagreement z true)

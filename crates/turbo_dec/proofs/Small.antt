@@ -9,7 +9,7 @@ use Rattle.std.proofs.lemmas.List.{get_or_past}
 use Rattle.std.proofs.lemmas.List.Elements.{All-get_or, All-from_get_or}
 use Rattle.finite.proofs.Lists.{values_below-All}
 use Rattle.turbo_dec.specs.Decoder.{IsSmall, Values, values_of, at, extrinsic, extrinsics}
-use Rattle.turbo_dec.specs.Block.{tail_values}
+use Rattle.turbo_code.specs.Streams.{tail_items}
 
 -- such a number comes back from its 32 bits
 pub small_back : (z : ℤ) → IsSmall z → to_z w32 (of_z w32 z) ≡ z
@@ -43,7 +43,7 @@ small_six a b c d e f ha hb hc hd he hf = All-from_get_or IsSmall (a ∷ b ∷ c
     each (suc (suc (suc (suc (suc (suc i)))))) h = absurd (omega (arith, h))
 
 -- the values of a tail
-pub small_tail : (sums : List (List ℤ)) (p : ℕ) → All (All IsSmall) sums → All IsSmall (tail_values sums p)
+pub small_tail : (sums : List (List ℤ)) (p : ℕ) → All (All IsSmall) sums → All IsSmall (tail_items (pos 0) sums p)
 small_tail sums p h =
     let s0 = small_stream sums 0 h in
     let s1 = small_stream sums 1 h in

@@ -1,35 +1,13 @@
 -- The iterations between the two decoders, and the block: the first iterate whose check passes. (own; the check is that of TS 36.212
 -- section 5.1.1)
-use Rattle.std.specs.Prelude.{ℕ, zero, suc, ◌+◌, ◌-◌, Bool, List, [], ◌∷◌, length, map, replicate, take, drop, slice_index_or, nat_eq, ℤ, pos, ◌+ℤ◌, ◌-ℤ◌, int_div, int_lt, Option}
-use Rattle.std.specs.List.{find, position_or_len, range_with_len}
+use Rattle.std.specs.Prelude.{ℕ, zero, suc, ◌+◌, Bool, List, map, replicate, ℤ, pos, ◌+ℤ◌, ◌-ℤ◌, int_div, int_lt, Option}
+use Rattle.std.specs.List.{find}
 use Rattle.std.specs.Option.{option_map}
 use Rattle.finite.specs.Lists.{values_below}
 use Rattle.cs_bits.specs.Checks.{message_of, has_check_24}
 use Rattle.turbo_code.specs.declared.rows.Row.{Row}
-use Rattle.turbo_code.specs.Table.{place}
-use Rattle.finite.specs.Tables.{sum_at}
+use Rattle.turbo_code.specs.Streams.{bits_of_stream, tail_items, in_order, in_word_order}
 use Rattle.turbo_dec.specs.Decoder.{values_of, at, extrinsics}
-
--- the values of the K bits of a stream
-abbrev pub stream : Row → List (List ℤ) → ℕ → List ℤ
-stream row sums t = take row.k (slice_index_or sums t [])
-
--- the six values of a decoder's tail, which stand at place p and the next, stream after stream (TS 36.212 section 5.1.3.2.2)
-abbrev pub tail_values : List (List ℤ) → ℕ → List ℤ
-tail_values sums p =
-    sum_at sums 0 p ∷ sum_at sums 1 p ∷ sum_at sums 2 p ∷ sum_at sums 0 (p + 1) ∷ sum_at sums 1 (p + 1) ∷ sum_at sums 2 (p + 1) ∷ []
-
--- a list in the order in which the second encoder reads
-unfoldable pub in_order : Row → List ℤ → List ℤ
-in_order row values = values_below row.k (λ i. at values (place row i))
-
--- which step of the second encoder reads bit k
-abbrev pub step_of : Row → ℕ → ℕ
-step_of row k = position_or_len (λ i. nat_eq (place row i) k) (range_with_len 0 row.k)
-
--- back in the order of the word
-unfoldable pub in_word_order : Row → List ℤ → List ℤ
-in_word_order row values = values_below row.k (λ k. at values (step_of row k))
 
 -- what is handed on of an extrinsic value: all but a quarter, which is rounded toward 0
 abbrev pub handed_on : ℤ → ℤ
@@ -37,13 +15,15 @@ handed_on e = e -ℤ int_div e (pos 4)
 
 -- the extrinsic values of the first decoder, by the sums of the received values and a prior
 unfoldable pub first_extrinsics : Row → List (List ℤ) → List ℤ → List ℤ
-first_extrinsics row sums prior = extrinsics (values_of (stream row sums 0) (stream row sums 1) (tail_values sums row.k) prior)
+first_extrinsics row sums prior =
+    extrinsics (values_of (bits_of_stream (pos 0) row sums 0) (bits_of_stream (pos 0) row sums 1) (tail_items (pos 0) sums row.k) prior)
 
 -- those of the second, in the order of the word: its prior is what the first hands on
 unfoldable pub second_extrinsics : Row → List (List ℤ) → List ℤ → List ℤ
 second_extrinsics row sums prior =
-    in_word_order row (extrinsics (values_of (in_order row (stream row sums 0)) (stream row sums 2) (tail_values sums (row.k + 2))
-    (in_order row (map handed_on (first_extrinsics row sums prior)))))
+    in_word_order (pos 0) row (extrinsics (values_of
+    (in_order (pos 0) row (bits_of_stream (pos 0) row sums 0)) (bits_of_stream (pos 0) row sums 2) (tail_items (pos 0) sums (row.k + 2))
+    (in_order (pos 0) row (map handed_on (first_extrinsics row sums prior)))))
 
 -- the prior of the first decoder after n iterations: what the second handed on in the last of them
 unfoldable pub prior_after : Row → List (List ℤ) → ℕ → List ℤ
@@ -56,7 +36,8 @@ told_by systematic first second k = int_lt (at systematic k +ℤ at first k +ℤ
 
 -- the word that an iteration tells, by its prior
 unfoldable pub word_by : Row → List (List ℤ) → List ℤ → List Bool
-word_by row sums prior = values_below row.k (told_by (stream row sums 0) (first_extrinsics row sums prior) (second_extrinsics row sums prior))
+word_by row sums prior =
+    values_below row.k (told_by (bits_of_stream (pos 0) row sums 0) (first_extrinsics row sums prior) (second_extrinsics row sums prior))
 
 -- the first eight iterates
 abbrev pub iterates : Row → List (List ℤ) → List (List Bool)

@@ -1,10 +1,10 @@
 -- The greatest score in plain words, and the two orders of a word. (own)
-use Rattle.std.specs.Prelude.{◌≡◌, ℕ, ◌<◌, Bool, List, length, ℤ, ◌≤ℤ◌}
+use Rattle.std.specs.Prelude.{◌≡◌, ℕ, ◌<◌, Bool, List, length, ℤ, pos, ◌≤ℤ◌}
 use Rattle.turbo_code.specs.Encoder.{bit_at}
 use Rattle.turbo_code.specs.declared.rows.Row.{Row}
 use Rattle.turbo_code.specs.Table.{IsRow}
 use Rattle.turbo_dec.specs.Decoder.{Values, score, greatest_score}
-use Rattle.turbo_dec.specs.Block.{in_order, in_word_order}
+use Rattle.turbo_code.specs.Streams.{in_order, in_word_order}
 
 -- m is the greatest score of a word whose bit k is b: one has it, and none has more
 pub record IsGreatest (v : Values) (k : ℕ) (b : Bool) (m : ℤ) : Type 0 where
@@ -17,4 +17,5 @@ GreatestScoresAreGreatest = (v : Values) (k : ℕ) (b : Bool) → k < length v.s
 
 -- values in the order of the second decoder, put back in the order of the word, are the values
 abbrev pub OrdersUndoEachOther : Type 0
-OrdersUndoEachOther = (row : Row) (values : List ℤ) → IsRow row → length values ≡ row.k → in_word_order row (in_order row values) ≡ values
+OrdersUndoEachOther =
+    (row : Row) (values : List ℤ) → IsRow row → length values ≡ row.k → in_word_order (pos 0) row (in_order (pos 0) row values) ≡ values

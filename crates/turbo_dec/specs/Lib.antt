@@ -1,4 +1,4 @@
 pub mod Decoder
 pub mod Block
 pub mod Laws
-pub mod Machine
+pub mod Costs

@@ -2,9 +2,9 @@
 
 ghost use Rattle.std.specs.Prelude.{◌≡◌, ℕ, ◌+◌, ◌*◌, ◌^◌, ◌<◌, ◌≤◌, ◌+ℤ◌, ◌-ℤ◌, All, pos, nat_abs, length, slice_index, []};
 ghost use Rattle.turbo_dec.specs.Decoder.{IsSmall, at, values_of, clamped, extrinsics, extrinsic};
-ghost use Rattle.turbo_dec.specs.Machine.{starts, HasRows};
+ghost use Rattle.turbo_dec.specs.Costs.{starts, HasRows};
 
-use crate::machine::{Soft, backward_row, forward_row, least_through, tail_row};
+use crate::costs::{Soft, backward_row, forward_row, least_through, tail_row};
 use crate::work::Work;
 
 /// More than the cost of every path.

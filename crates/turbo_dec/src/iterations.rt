@@ -7,13 +7,14 @@ ghost use Rattle.finite.specs.Lists.{values_below};
 ghost use Rattle.turbo_code.specs.Table.{IsRow};
 ghost use Rattle.turbo_dec.specs.Decoder.{IsSmall, at, values_of, extrinsics};
 ghost use Rattle.cs_bits.specs.Checks.{message_of, has_check_24};
-ghost use Rattle.turbo_dec.specs.Block.{tail_values, stream, in_order, in_word_order, handed_on, first_extrinsics, second_extrinsics, told_by, word_by, block};
+ghost use Rattle.turbo_code.specs.Streams.{tail_items, bits_of_stream, in_order, in_word_order};
+ghost use Rattle.turbo_dec.specs.Block.{handed_on, first_extrinsics, second_extrinsics, told_by, word_by, block};
 
 use crate::constituent::half;
 use crate::work::Work;
 use arrayvec::ArrayVec;
 use cs_bits::has_check_24;
-use turbo_code::{Combined, Row, place_of};
+use turbo_code::{Combined, Row, interleaver};
 
 /// The bits of a block, at most 1,000, without their check.
 pub type Block = ArrayVec<bool, 1000>;
@@ -30,7 +31,7 @@ type BitValues = [i32; 1024];
 /// The six values of a decoder's tail, which begins at a place.
 fn tail_of(sums: &[[i32; 1028]; 3], place: usize) -> [i32; 6]
     requires { place ≤ 1026 }
-    ensures { result ≡ tail_values sums.now place }
+    ensures { result ≡ tail_items (pos 0) sums.now place }
 {
     [
         sums[0][place],
@@ -45,7 +46,7 @@ fn tail_of(sums: &[[i32; 1028]; 3], place: usize) -> [i32; 6]
 /// The values of the bits of a stream.
 fn stream_of<'a>(stream: &'a [i32; 1028], row: &Row) -> &'a [i32]
     requires row { IsRow row.now }
-    ensures values { result.now ≡ take row.now.k stream.now }
+    ensures values { result.now ≡ values_below row.now.k (at stream.now) }
     ensures count { length result.now ≡ row.now.k }
     ensures small { All IsSmall stream.now → All IsSmall result.now }
 {
@@ -78,13 +79,13 @@ fn in_order_of(row: &Row, values: &[i32]) -> BitValues
     requires row { IsRow row.now }
     requires count { length values.now ≡ row.now.k }
     requires small { All IsSmall values.now }
-    ensures values { take row.now.k result ≡ in_order row.now values.now }
+    ensures values { take row.now.k result ≡ in_order (pos 0) row.now values.now }
     ensures size { length result ≡ 1024 }
     ensures small { All IsSmall result }
 {
     let mut ordered = [0; 1024];
     for i in 0..row.k as usize {
-        ordered[i] = values[place_of(row, i)];
+        ordered[i] = values[interleaver(row, i)];
     }
     ordered
 }
@@ -94,13 +95,13 @@ fn in_word_order_of(row: &Row, values: &[i32]) -> BitValues
     requires row { IsRow row.now }
     requires count { length values.now ≡ row.now.k }
     requires small { All IsSmall values.now }
-    ensures values { take row.now.k result ≡ in_word_order row.now values.now }
+    ensures values { take row.now.k result ≡ in_word_order (pos 0) row.now values.now }
     ensures size { length result ≡ 1024 }
     ensures small { All IsSmall result }
 {
     let mut ordered = [0; 1024];
     for i in 0..row.k as usize {
-        ordered[place_of(row, i)] = values[i];
+        ordered[interleaver(row, i)] = values[i];
     }
     ordered
 }
@@ -159,9 +160,10 @@ fn second_of(sums: &[[i32; 1028]; 3], row: &Row, handed: &BitValues, work: &mut 
     requires row { IsRow row.now }
     requires small { All (All IsSmall) sums.now }
     requires small_handed { All IsSmall handed.now }
-    ensures values { take row.now.k result ≡ in_word_order row.now (extrinsics (values_of
-        (in_order row.now (stream row.now sums.now 0)) (stream row.now sums.now 2) (tail_values sums.now (row.now.k + 2))
-        (in_order row.now (take row.now.k handed.now)))) }
+    ensures values { take row.now.k result ≡ in_word_order (pos 0) row.now (extrinsics (values_of
+        (in_order (pos 0) row.now (bits_of_stream (pos 0) row.now sums.now 0))
+        (bits_of_stream (pos 0) row.now sums.now 2) (tail_items (pos 0) sums.now (row.now.k + 2))
+        (in_order (pos 0) row.now (take row.now.k handed.now)))) }
     ensures size { length result ≡ 1024 }
     ensures small { All IsSmall result }
 {

@@ -4,9 +4,9 @@
 #![tactic(auto)]
 
 mod constituent;
+mod costs;
 mod iterations;
 mod laws;
-mod machine;
 mod work;
 
 pub use constituent::half;

@@ -1,6 +1,6 @@
 use Rattle.std.proofs.Common.{ap, arith, false, ◌∙◌}
 use Rattle.std.proofs.lemmas.List.{length-set}
-use Rattle.turbo_code.specs.Table.{place}
+use Rattle.turbo_code.specs.Table.{interleaver}
 use Rattle.turbo_code.specs.Encoder.{bit_at}
 use Rattle.turbo_code.proofs.TableFacts.{is_small}
 use Rattle.finite.proofs.Lists.{set_more}
@@ -22,7 +22,7 @@ loop-i-preserved c =
     let size = c.loop-i.invariant.size in
     record {
       size = length-set c.loop-i.bits c.loop-i.i _ ∙ size;
-      at = set_more false c.loop-i.i (λ j. bit_at c.args.word.now (place c.args.row.now j)) c.loop-i.bits _ (omega (arith, high, count, size, c.loop-i-test.true)) (ap (bit_at c.args.word.now) c.place_of.ensures.place) c.loop-i.invariant.at;
+      at = set_more false c.loop-i.i (λ j. bit_at c.args.word.now (interleaver c.args.row.now j)) c.loop-i.bits _ (omega (arith, high, count, size, c.loop-i-test.true)) (ap (bit_at c.args.word.now) c.interleaver.ensures.bit) c.loop-i.invariant.at;
     }
 
 pub returns-clause-word : goal.returns-clause-word

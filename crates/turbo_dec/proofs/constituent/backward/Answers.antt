@@ -27,7 +27,7 @@ loop-k-preserved c =
     rw (to_z-of_z w32 c.extrinsic_of.result fits)
     (back_step _ _ _ _ _ (c.loop-k.k - 1) _ _ _ _ _ (all_small _ _ _ _ c.requires.small_systematic c.requires.small_parity c.requires.small_tail c.requires.small_prior)
     c.requires.places (rw (← e) c.loop-k.invariant)
-    (forward_row_of _ _ _ _ _ _ (c.loop-k.k - 1) c.requires.rows (omega (arith, c.loop-k.invariant.place)))
+    (forward_row_of _ _ c.args.tail.now _ _ _ (c.loop-k.k - 1) c.requires.rows (omega (arith, c.loop-k.invariant.place)))
     c.soft_at-soft.ensures.sum c.soft_at-soft.ensures.parity
     c.least_through-zeros.ensures.least c.least_through-ones.ensures.least c.extrinsic_of.ensures
     c.backward_row-row.ensures.least c.backward_row-row.ensures.growth)

@@ -1,6 +1,6 @@
 use Rattle.std.proofs.Common.{[]}
 use Rattle.turbo_dec.specs.Decoder.{values_of}
-use Rattle.turbo_dec.specs.Machine.{HasRows, IsForwardRow}
+use Rattle.turbo_dec.specs.Costs.{HasRows, IsForwardRow}
 use Rattle.turbo_dec.proofs.constituent.forward.Given as goal
 
 abbrev pub invariant-loop-k : goal.invariant-loop-k

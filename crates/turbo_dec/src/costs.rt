@@ -1,13 +1,13 @@
-//! The encoder as a machine of 8 states, and the costs of its steps. A state has the last three bits of
-//! the register, the latest with weight 4.
+//! The costs of the encoder's steps, and rows of least costs.
 
 ghost use Rattle.std.specs.Prelude.{◌≡◌, ℕ, ◌+◌, ◌*◌, ◌/◌, ◌^◌, ◌<◌, ◌≤◌, All, false, length, nat_abs, slice_index};
 ghost use Rattle.paths.specs.Least.{IsLeastVia};
 ghost use Rattle.turbo_dec.specs.Decoder.{IsSmall};
-ghost use Rattle.finite.specs.Bits.{odd};
-ghost use Rattle.turbo_dec.specs.Machine.{register, parity_bit, next, edge_cost, tail_step_cost, tail_cost, first_from, forward_least, backward_least};
+ghost use Rattle.turbo_code.specs.Machine.{register, parity_bit, next, first_from};
+ghost use Rattle.turbo_dec.specs.Costs.{edge_cost, tail_step_cost, tail_cost, forward_least, backward_least};
 
 use cs_bits::disagreement_of;
+use turbo_code::{before, bit_to, next, parity_bit, tail_bit, tail_parity};
 
 const STATES: usize = 8;
 
@@ -20,57 +20,13 @@ pub(crate) struct Soft {
     ghost parity_small: { nat_abs parity ≤ 4096 },
 }
 
-/// The bit a(k - 1) of a state.
-fn latest(x: usize) -> bool
-    ensures { result ≡ odd (x / 4) }
-{
-    x / 4 % 2 == 1
-}
-
-/// The bit a(k - 2).
-fn middle(x: usize) -> bool
-    ensures { result ≡ odd (x / 2) }
-{
-    x / 2 % 2 == 1
-}
-
-/// The bit a(k - 3).
-fn oldest(x: usize) -> bool
-    ensures { result ≡ odd x }
-{
-    x % 2 == 1
-}
-
-/// The register bit of a step.
-fn register_of(x: usize, u: bool) -> bool
-    ensures { result ≡ register x u }
-{
-    u ^ middle(x) ^ oldest(x)
-}
-
-/// The parity bit of a step.
-fn parity_of(x: usize, u: bool) -> bool
-    ensures { result ≡ parity_bit x u }
-{
-    register_of(x, u) ^ latest(x) ^ oldest(x)
-}
-
-/// The state after a step.
-fn step(x: usize, u: bool) -> usize
-    requires { x < 8 }
-    ensures next { result ≡ next x u }
-    ensures bound { result < 8 }
-{
-    x / 2 + if register_of(x, u) { 4 } else { 0 }
-}
-
 /// The cost of a step.
 fn edge(soft: &Soft, x: usize, u: bool) -> u32
     requires state { x < 8 }
     ensures cost { result ≡ edge_cost soft.now.sum soft.now.parity x u }
     ensures bound { result ≤ 12288 }
 {
-    disagreement_of(soft.sum, u) + disagreement_of(soft.parity, parity_of(x, u))
+    disagreement_of(soft.sum, u) + disagreement_of(soft.parity, parity_bit(x, u))
 }
 
 /// The least cost to a state, where the row has that to each state one step before.
@@ -80,10 +36,9 @@ fn forward_at(soft: &Soft, row: &[u32; 8], x: usize) -> u32
     ensures least { result ≡ forward_least soft.now.sum soft.now.parity row.now x }
     ensures growth { result ≤ slice_index row.now (first_from x) + 12288 }
 {
-    let first = 2 * (x % 4);
-    let second = first + 1;
-    let by_first = row[first] + edge(soft, first, register_of(first, latest(x)));
-    let by_second = row[second] + edge(soft, second, register_of(second, latest(x)));
+    let (first, second) = before(x);
+    let by_first = row[first] + edge(soft, first, bit_to(first, x));
+    let by_second = row[second] + edge(soft, second, bit_to(second, x));
     by_first.min(by_second)
 }
 
@@ -94,8 +49,8 @@ fn backward_at(soft: &Soft, row: &[u32; 8], x: usize) -> u32
     ensures least { result ≡ backward_least soft.now.sum soft.now.parity row.now x }
     ensures growth { result ≤ slice_index row.now (next x false) + 12288 }
 {
-    let zero = edge(soft, x, false) + row[step(x, false)];
-    let one = edge(soft, x, true) + row[step(x, true)];
+    let zero = edge(soft, x, false) + row[next(x, false)];
+    let one = edge(soft, x, true) + row[next(x, true)];
     zero.min(one)
 }
 
@@ -134,9 +89,9 @@ pub(crate) fn least_through(soft: &Soft, before: &[u32; 8], after: &[u32; 8], b:
     ensures least { IsLeastVia next (edge_cost soft.now.sum soft.now.parity) (slice_index before.now) (slice_index after.now) b 8 result }
     ensures bound { result ≤ slice_index before.now 0 + 12288 + slice_index after.now (next 0 b) }
 {
-    let mut least = before[0] + edge(soft, 0, b) + after[step(0, b)];
+    let mut least = before[0] + edge(soft, 0, b) + after[next(0, b)];
     for x in 1..STATES {
-        least = least.min(before[x] + edge(soft, x, b) + after[step(x, b)]);
+        least = least.min(before[x] + edge(soft, x, b) + after[next(x, b)]);
     }
     least
 }
@@ -148,8 +103,7 @@ fn tail_step(tail: &[i32; 6], j: usize, x: usize) -> u32
     ensures cost { result ≡ tail_step_cost tail.now j x }
     ensures bound { result ≤ 8192 }
 {
-    disagreement_of(tail[2 * j], middle(x) ^ oldest(x))
-        + disagreement_of(tail[2 * j + 1], latest(x) ^ oldest(x))
+    disagreement_of(tail[2 * j], tail_bit(x)) + disagreement_of(tail[2 * j + 1], tail_parity(x))
 }
 
 /// The cost of the tail from a state.

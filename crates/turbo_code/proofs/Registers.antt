@@ -7,7 +7,7 @@ use Rattle.paths.specs.Paths.{end_of, path_cost}
 use Rattle.paths.proofs.Paths.{end_of-append, path_cost-last}
 use Rattle.finite.specs.Bits.{xor}
 use Rattle.turbo_code.specs.Encoder.{bit_at, back, before, parity}
-use Rattle.turbo_dec.specs.Machine.{parity_bit, next, tail_bit, tail_parity}
+use Rattle.turbo_code.specs.Machine.{parity_bit, next, tail_bit, tail_parity}
 
 -- the state of three bits, the latest first
 abbrev pub state : Bool → Bool → Bool → ℕ

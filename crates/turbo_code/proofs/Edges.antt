@@ -1,6 +1,6 @@
 -- The two edges into each state.
 use Rattle.std.proofs.Common.{◌≡◌, ℕ, zero, suc, ◌+◌, ◌/◌, ◌<◌, Bool, true, false, cond, refl, inl, inr, ◌⊎◌, arith}
-use Rattle.turbo_dec.specs.Machine.{next, register, first_from, second_from, bit_to}
+use Rattle.turbo_code.specs.Machine.{next, register, first_from, second_from, bit_to}
 use Rattle.paths.proofs.Forward.{HasEdges}
 
 pub next_below : (x : ℕ) (b : Bool) → x < 8 → next x b < 8

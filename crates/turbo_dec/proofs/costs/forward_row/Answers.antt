@@ -1,7 +1,8 @@
 use Rattle.std.proofs.Common.{◌≡◌, ◌+◌, ◌≤◌, get_or, arith, length-set}
-use Rattle.turbo_dec.specs.Machine.{forward_least, first_from}
+use Rattle.turbo_code.specs.Machine.{first_from}
+use Rattle.turbo_dec.specs.Costs.{forward_least}
 use Rattle.paths.proofs.Rows.{row_more}
-use Rattle.turbo_dec.proofs.machine.forward_row.Goals as goal
+use Rattle.turbo_dec.proofs.costs.forward_row.Goals as goal
 
 pub loop-x-preserved : goal.loop-x-preserved
 loop-x-preserved c = (

@@ -1,0 +1,82 @@
+//! The encoder as a machine of 8 states. A state has the last three bits of the register, the latest with
+//! weight 4.
+
+ghost use Rattle.std.specs.Prelude.{◌≡◌, ◌/◌, ◌<◌};
+ghost use Rattle.finite.specs.Bits.{odd};
+ghost use Rattle.turbo_code.specs.Machine.{bit_to, first_from, next, parity_bit, register, second_from, tail_bit, tail_parity};
+
+/// The bit a(k - 1) of a state.
+fn latest(x: usize) -> bool
+    ensures { result ≡ odd (x / 4) }
+{
+    x / 4 % 2 == 1
+}
+
+/// The bit a(k - 2).
+fn middle(x: usize) -> bool
+    ensures { result ≡ odd (x / 2) }
+{
+    x / 2 % 2 == 1
+}
+
+/// The bit a(k - 3).
+fn oldest(x: usize) -> bool
+    ensures { result ≡ odd x }
+{
+    x % 2 == 1
+}
+
+/// The register bit of a step from state x by the bit u (TS 36.212 section 5.1.3.2.1).
+pub fn register(x: usize, u: bool) -> bool
+    ensures { result ≡ register x u }
+{
+    u ^ middle(x) ^ oldest(x)
+}
+
+/// The parity bit of a step from state x by the bit u.
+pub fn parity_bit(x: usize, u: bool) -> bool
+    ensures { result ≡ parity_bit x u }
+{
+    register(x, u) ^ latest(x) ^ oldest(x)
+}
+
+/// The state after a step from state x, which is below 8, by the bit u; so is the answer.
+pub fn next(x: usize, u: bool) -> usize
+    requires { x < 8 }
+    ensures next { result ≡ next x u }
+    ensures bound { result < 8 }
+{
+    x / 2 + if register(x, u) { 4 } else { 0 }
+}
+
+/// The two states from which a step leads to state x, which is below 8.
+pub fn before(x: usize) -> (usize, usize)
+    requires { x < 8 }
+    ensures first { result.0 ≡ first_from x }
+    ensures second { result.1 ≡ second_from x }
+    ensures bound { result.1 < 8 }
+{
+    let first = 2 * (x % 4);
+    (first, first + 1)
+}
+
+/// The bit of the step from state p to state x, where one leads there.
+pub fn bit_to(p: usize, x: usize) -> bool
+    ensures { result ≡ bit_to p x }
+{
+    register(p, latest(x))
+}
+
+/// The bit x of a tail step, which leads from state x to x / 2 (TS 36.212 section 5.1.3.2.2).
+pub fn tail_bit(x: usize) -> bool
+    ensures { result ≡ tail_bit x }
+{
+    middle(x) ^ oldest(x)
+}
+
+/// The parity bit of a tail step.
+pub fn tail_parity(x: usize) -> bool
+    ensures { result ≡ tail_parity x }
+{
+    latest(x) ^ oldest(x)
+}
