@@ -1,0 +1,37 @@
+-- What bits say of SystemInformationBlockType1.
+use Rattle.std.specs.Prelude.{◌≡◌, Bool, true, false, List, [], ◌∷◌, ◌++◌, length, ◌≤◌, ◌↔◌, if◌then◌else◌, Result, Ok, Err}
+use Rattle.lte_types.specs.declared.sib1.Sib1.{Sib1}
+use Rattle.lte_types.specs.declared.sib1_reason.Sib1Reason.{Sib1Reason}
+use Rattle.lte_types.specs.declared.sib1_reason.Sib1Reason.TheVariants.{NotSib1, BadFields}
+use Rattle.uper.specs.Texts.{IsText, Refuses}
+use Rattle.sib1.specs.Layout.{sib1}
+
+-- the first two bits, 0 and 1, tell this message from others
+pub record IsSib1 (bits : List Bool) : Type 0 where
+  pub rest : List Bool
+  pub begins : bits ≡ false ∷ true ∷ rest
+
+-- the bits begin with a text of these fields; what follows is not looked at
+pub record BeginsWith (bits : List Bool) (fields : Sib1) : Type 0 where
+  pub text : List Bool
+  pub rest : List Bool
+  pub parts : bits ≡ text ++ rest
+  pub is_text : IsText sib1 text fields
+
+-- the bits are refused for this reason: another message, or a first bad field and its place
+abbrev pub IsRefused : List Bool → Sib1Reason → Type 0
+IsRefused bits NotSib1 = IsSib1 bits → ⊥
+IsRefused bits (BadFields place) = IsSib1 bits × Refuses sib1 bits place
+IsRefused bits _ = ⊥
+
+-- what the bits say
+abbrev pub Says : List Bool → Result Sib1 Sib1Reason → Type 0
+Says bits (Ok fields) = BeginsWith bits fields
+Says bits (Err reason) = IsRefused bits reason
+
+-- the text of the fields was written; or it has more than 1,000 bits, and nothing was
+pub record Writes (fields : Sib1) (did : Bool) (bits : List Bool) : Type 0 where
+  pub text : List Bool
+  pub is_text : IsText sib1 text fields
+  pub room : (did ≡ true) ↔ (length text ≤ 1000)
+  pub written : bits ≡ (if did then text else [])

@@ -1,0 +1,6 @@
+pub mod Numbers
+pub mod Texts
+pub mod Reading
+pub mod Steps
+pub mod Putting
+pub mod Laws

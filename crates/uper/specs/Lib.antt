@@ -1,0 +1,6 @@
+pub mod Numbers
+pub mod Grammar
+pub mod Texts
+pub mod Cursor
+pub mod Reading
+pub mod Sheet

@@ -1,0 +1,15 @@
+-- Texts that are put one after the other, as long as they have at most 1,000 bits.
+use Rattle.std.specs.Prelude.{◌≡◌, ◌-◌, nat_le, if◌then◌else◌, Bool, List, ◌++◌, length, Option, Some, None}
+use Rattle.uper.specs.Grammar.{Grammar}
+use Rattle.uper.specs.Texts.{IsText}
+
+-- with more bits at the end; none once there was no room for all of them
+abbrev pub append : Option (List Bool) → List Bool → Option (List Bool)
+append None more = None
+append (Some bits) more = if nat_le (length more) (1000 - length bits) then Some (bits ++ more) else None
+
+-- a text of the value was put at the end
+pub record Puts {A : Type 0} (grammar : Grammar A) (value : A) (old new : Option (List Bool)) : Type 0 where
+  pub text : List Bool
+  pub is_text : IsText grammar text value
+  pub put : new ≡ append old text

@@ -1,0 +1,29 @@
+-- The texts of a grammar, and what it refuses.
+use Rattle.std.specs.Prelude.{◌≡◌, ℕ, ◌+◌, ◌<◌, ◌≤◌, ◌⊎◌, Bool, List, [], ◌++◌, length, take}
+use Rattle.cs_bits.specs.Polynomial.{number}
+use Rattle.uper.specs.Grammar.{Grammar, done, field}
+
+-- bits begin with a field of so many bits, whose number is within the range
+pub record Begins (width least greatest : ℕ) (bits front rest : List Bool) : Type 0 where
+  pub parts : bits ≡ front ++ rest
+  pub whole : length front ≡ width
+  pub above : least ≤ number front
+  pub below : number front ≤ greatest
+
+-- the bits are a text of the grammar, which stands for the value
+unfoldable pub IsText : {A : Type 0} → Grammar A → List Bool → A → Type 0
+IsText (done x) bits value = (bits ≡ []) × (x ≡ value)
+IsText (field width least greatest next) bits value =
+    (front : List Bool) × ((rest : List Bool) × Begins width least greatest bits front rest × IsText (next (number front)) rest value)
+
+-- the first field is cut off, or its number is out of the range
+abbrev pub IsBad : ℕ → ℕ → ℕ → List Bool → Type 0
+IsBad width least greatest bits =
+    (length bits < width) ⊎ ((width ≤ length bits) × ((number (take width bits) < least) ⊎ (greatest < number (take width bits))))
+
+-- at this place is the first bit of the first field that is cut off or out of its range
+unfoldable pub Refuses : {A : Type 0} → Grammar A → List Bool → ℕ → Type 0
+Refuses (done x) bits place = ⊥
+Refuses (field width least greatest next) bits place =
+    (IsBad width least greatest bits × (place ≡ 0))
+    ⊎ ((front : List Bool) × ((rest : List Bool) × ((after : ℕ) × Begins width least greatest bits front rest × (place ≡ width + after) × Refuses (next (number front)) rest after)))
