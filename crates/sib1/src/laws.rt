@@ -14,11 +14,17 @@ ghost use Rattle.sib1.specs.Message.{Says, Writes};
 /// most, no text is a front of another, and what has a text is in its ranges. What was written is read, and
 /// nothing else.
 pub fn texts_and_bits()
-    ensures one_answer { (bits : List Bool) (a b : Result Fields Sib1Reason) → Says bits a → Says bits b → a ≡ b }
-    ensures whatever_follows { (text more : List Bool) (fields : Fields) → IsText sib1 text fields → Says (text ++ more) (Ok fields) }
-    ensures no_other { (text more : List Bool) (fields : Fields) (answer : Result Fields Sib1Reason) → IsText sib1 text fields → Says (text ++ more) answer → answer ≡ Ok fields }
-    ensures one_text { (a b : List Bool) (fields : Fields) → IsText sib1 a fields → IsText sib1 b fields → a ≡ b }
-    ensures no_front { (text more : List Bool) (fields other : Fields) → IsText sib1 text fields → IsText sib1 (text ++ more) other → (more ≡ []) × (other ≡ fields) }
+    ensures one_answer { (bits : List Bool) (a b : Result Fields Sib1Reason)
+        → Says bits a → Says bits b → a ≡ b }
+    ensures whatever_follows { (text more : List Bool) (fields : Fields)
+        → IsText sib1 text fields → Says (text ++ more) (Ok fields) }
+    ensures no_other { (text more : List Bool) (fields : Fields) (answer : Result Fields Sib1Reason)
+        → IsText sib1 text fields → Says (text ++ more) answer → answer ≡ Ok fields }
+    ensures one_text { (a b : List Bool) (fields : Fields)
+        → IsText sib1 a fields → IsText sib1 b fields → a ≡ b }
+    ensures no_front { (text more : List Bool) (fields other : Fields)
+        → IsText sib1 text fields → IsText sib1 (text ++ more) other → (more ≡ []) × (other ≡ fields) }
     ensures valid { (text : List Bool) (fields : Fields) → IsText sib1 text fields → IsValid fields }
-    ensures written_is_read { (bits more : List Bool) (fields : Fields) (answer : Result Fields Sib1Reason) → Writes fields true bits → Says (bits ++ more) answer → answer ≡ Ok fields }
+    ensures written_is_read { (bits more : List Bool) (fields : Fields) (answer : Result Fields Sib1Reason)
+        → Writes fields true bits → Says (bits ++ more) answer → answer ≡ Ok fields }
 {}

@@ -46,7 +46,8 @@ fn put_mnc(sheet: &mut Sheet, code: &Mnc)
 // An entry, as one that may do without a country code, and, where it has one, as one that may not.
 fn put_plmn_identity_info(sheet: &mut Sheet, network: &Plmn)
     requires { IsValidPlmn network.now }
-    ensures { (least : ℕ) → least ≤ (if is_some network.now.mcc then 1 else 0) → Puts (plmn_identity_info least) network.now sheet.old sheet.new }
+    ensures { (least : ℕ) → least ≤ (if is_some network.now.mcc then 1 else 0)
+        → Puts (plmn_identity_info least) network.now sheet.old sheet.new }
 {
     sheet.put(network.mcc.is_some() as u32, 1);
     put_mcc(sheet, &network.mcc);

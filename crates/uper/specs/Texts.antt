@@ -14,16 +14,26 @@ pub record Begins (width least greatest : ℕ) (bits front rest : List Bool) : T
 unfoldable pub IsText : {A : Type 0} → Grammar A → List Bool → A → Type 0
 IsText (done x) bits value = (bits ≡ []) × (x ≡ value)
 IsText (field width least greatest next) bits value =
-    (front : List Bool) × ((rest : List Bool) × Begins width least greatest bits front rest × IsText (next (number front)) rest value)
+    (front : List Bool) × ((rest : List Bool) ×
+    Begins width least greatest bits front rest × IsText (next (number front)) rest value)
+
+-- the bits begin with a text of the grammar, which stands for the value; what follows is not looked at
+pub record BeginsWith {A : Type 0} (grammar : Grammar A) (bits : List Bool) (value : A) : Type 0 where
+  pub text : List Bool
+  pub rest : List Bool
+  pub parts : bits ≡ text ++ rest
+  pub is_text : IsText grammar text value
 
 -- the first field is cut off, or its number is out of the range
 abbrev pub IsBad : ℕ → ℕ → ℕ → List Bool → Type 0
 IsBad width least greatest bits =
-    (length bits < width) ⊎ ((width ≤ length bits) × ((number (take width bits) < least) ⊎ (greatest < number (take width bits))))
+    (length bits < width)
+    ⊎ ((width ≤ length bits) × ((number (take width bits) < least) ⊎ (greatest < number (take width bits))))
 
 -- at this place is the first bit of the first field that is cut off or out of its range
 unfoldable pub Refuses : {A : Type 0} → Grammar A → List Bool → ℕ → Type 0
 Refuses (done x) bits place = ⊥
 Refuses (field width least greatest next) bits place =
     (IsBad width least greatest bits × (place ≡ 0))
-    ⊎ ((front : List Bool) × ((rest : List Bool) × ((after : ℕ) × Begins width least greatest bits front rest × (place ≡ width + after) × Refuses (next (number front)) rest after)))
+    ⊎ ((front : List Bool) × ((rest : List Bool) × ((after : ℕ) ×
+      Begins width least greatest bits front rest × (place ≡ width + after) × Refuses (next (number front)) rest after)))

@@ -43,7 +43,8 @@ impl<'a> Reader<'a> {
         ensures left { IsNone result ↔ (length self.old.bits < self.old.place + n) }
         ensures unchanged { IfNone result (self.new ≡ self.old) }
         ensures bits { self.new.bits ≡ self.old.bits }
-        ensures value { IfSome result (λ value. value ≡ number (slice_range self.old.bits self.old.place (self.old.place + n))) }
+        ensures value { IfSome result (λ value.
+            value ≡ number (slice_range self.old.bits self.old.place (self.old.place + n))) }
         ensures bound { IfSome result (λ value. value < 2 ^ n) }
         ensures place { IfSome result (λ value. self.new.place ≡ self.old.place + n) }
     {

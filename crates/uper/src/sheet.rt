@@ -43,7 +43,8 @@ impl Sheet {
         requires few { width ≤ 32 }
         requires fits { number < 2 ^ width }
         ensures put { self.new ≡ append self.old (bits_of width number) }
-        ensures puts { (least greatest : ℕ) → least ≤ number → number ≤ greatest → Puts (from_to width least greatest) number self.old self.new }
+        ensures puts { (least greatest : ℕ) → least ≤ number → number ≤ greatest
+            → Puts (from_to width least greatest) number self.old self.new }
     {
         if self.is_full {
             return;

@@ -1,5 +1,7 @@
 use Rattle.std.proofs.Common.{◌++◌, Ok}
-use Rattle.sib1.proofs.Messages.{one_answer, whatever_follows, no_front, written_is_read}
+use Rattle.uper.proofs.Fronts.{no_front}
+use Rattle.sib1.specs.Layout.{sib1}
+use Rattle.sib1.proofs.Messages.{one_answer, whatever_follows, written_is_read}
 use Rattle.sib1.proofs.Once.{once_sib1}
 use Rattle.sib1.proofs.Valid.{sib1_holds}
 use Rattle.sib1.proofs.laws.texts_and_bits.Goals as goal
@@ -17,7 +19,7 @@ pub returns-clause-one_text : goal.returns-clause-one_text
 returns-clause-one_text c = λ a b fields s r. (once_sib1 a b fields s r).1
 
 pub returns-clause-no_front : goal.returns-clause-no_front
-returns-clause-no_front c = no_front
+returns-clause-no_front c = no_front sib1
 
 pub returns-clause-valid : goal.returns-clause-valid
 returns-clause-valid c = λ text fields s. sib1_holds text fields s
