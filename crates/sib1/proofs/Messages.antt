@@ -1,6 +1,6 @@
 -- Bits say one thing.
-use Rattle.std.proofs.Common.{◌≡◌, ℕ, ◌≤◌, ◌⊎◌, inl, inr, Bool, true, false, List, [], ◌∷◌, ◌++◌, length, Result, Ok, Err, refl, ap, ap₂, sym, subst, ◌∙◌, arith}
-use Rattle.cs_bits.specs.Polynomial.{number}
+use Rattle.std.proofs.Common.{◌≡◌, ℕ, ◌⊎◌, inl, inr, Bool, true, false, List, [], ◌∷◌, ◌++◌, Result, Ok, Err, refl, ap, ap₂, sym, subst, ◌∙◌, arith}
+use Rattle.cs_bits.specs.Numbers.{number}
 use Rattle.lte_types.specs.declared.sib1.Sib1.{Sib1}
 use Rattle.lte_types.specs.declared.sib1_reason.Sib1Reason.{Sib1Reason}
 use Rattle.lte_types.specs.declared.sib1_reason.Sib1Reason.TheVariants.{NotSib1, BadFields}
@@ -17,12 +17,10 @@ one_bit value bits (x ∷ []) rest b = (x, refl, let l = b.above in let g = b.be
 one_bit value bits (x ∷ y ∷ zs) rest b = absurd (let w = b.whole in omega (arith, w))
 
 zero_bit : (b : Bool) → number (b ∷ []) ≡ 0 → b ≡ false
-unfolding number
 zero_bit false e = refl
 zero_bit true e = absurd (omega (arith, e))
 
 one_is : (b : Bool) → number (b ∷ []) ≡ 1 → b ≡ true
-unfolding number
 one_is true e = refl
 one_is false e = absurd (omega (arith, e))
 

@@ -1,5 +1,5 @@
 -- What bits say of SystemInformationBlockType1.
-use Rattle.std.specs.Prelude.{◌≡◌, Bool, true, false, List, [], ◌∷◌, ◌++◌, length, ◌≤◌, ◌↔◌, if◌then◌else◌, Result, Ok, Err}
+use Rattle.std.specs.Prelude.{◌≡◌, Bool, true, false, List, [], ◌∷◌, length, ◌≤◌, ◌↔◌, if◌then◌else◌, Result, Ok, Err}
 use Rattle.lte_types.specs.declared.sib1.Sib1.{Sib1}
 use Rattle.lte_types.specs.declared.sib1_reason.Sib1Reason.{Sib1Reason}
 use Rattle.lte_types.specs.declared.sib1_reason.Sib1Reason.TheVariants.{NotSib1, BadFields}

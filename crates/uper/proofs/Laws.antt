@@ -4,10 +4,10 @@ use Rattle.std.specs.Prelude.{⊤, is_some, IfSome, All}
 use Rattle.std.specs.List.{AllByRecursion}
 use Rattle.std.proofs.lemmas.List.{append-nil}
 use Rattle.std.proofs.lemmas.List.Elements.{All-from_recursion}
-use Rattle.cs_bits.specs.Polynomial.{number}
+use Rattle.cs_bits.specs.Numbers.{number}
 use Rattle.uper.specs.Grammar.{Grammar, done, ◌>>=◌, from_to, flag, if_present, times}
 use Rattle.uper.specs.Texts.{IsText}
-use Rattle.uper.proofs.Numbers.{number_same}
+use Rattle.cs_bits.proofs.Numbers.{number_same}
 use Rattle.uper.proofs.Texts.{done_is, both}
 
 -- ---- what holds of what a text stands for

@@ -5,11 +5,11 @@ use Rattle.std.proofs.lemmas.List.{append-nil, length-append}
 use Rattle.std.proofs.Math.Seq.{take-suc}
 use Rattle.std.specs.Prelude.{◌↔◌, is_some}
 use mir.Val.{bool_byte}
-use Rattle.uper.specs.Numbers.{bits_of}
+use Rattle.cs_bits.specs.Numbers.{bits_of}
 use Rattle.uper.specs.Grammar.{Grammar, done, ◌>>=◌, from_to, flag, if_present, times}
 use Rattle.uper.specs.Texts.{IsText}
 use Rattle.uper.specs.Sheet.{append, Puts}
-use Rattle.uper.proofs.Numbers.{length-bits_of, number-bits_of}
+use Rattle.cs_bits.proofs.Numbers.{length-bits_of, number_of_bits}
 use Rattle.uper.proofs.Texts.{text_done, done_is, Both, both, text_bind}
 
 append_append : (old : Option (List Bool)) (a b : List Bool) → append (append old a) b ≡ append old (a ++ b)
@@ -53,7 +53,7 @@ puts_same t x y old new e p = subst (λ v. Puts t v old new) e p
 text_number : (width least greatest n : ℕ) → n < 2 ^ width → least ≤ n → n ≤ greatest → IsText (from_to width least greatest) (bits_of width n) n
 unfolding IsText
 text_number width least greatest n fits above below =
-    let e = number-bits_of width n fits in
+    let e = number_of_bits width n fits in
     (bits_of width n, ([], record { parts = sym (append-nil (bits_of width n)); whole = length-bits_of width n; above = rw e above; below = rw e below }, (refl, e)))
 
 pub puts_number : (width n : ℕ) (old new : Option (List Bool)) → n < 2 ^ width → new ≡ append old (bits_of width n) → (least greatest : ℕ) → least ≤ n → n ≤ greatest → Puts (from_to width least greatest) n old new

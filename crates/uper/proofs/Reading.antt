@@ -2,7 +2,7 @@
 use Rattle.std.proofs.Common.{◌≡◌, ℕ, ◌+◌, ◌-◌, ◌<◌, ◌≤◌, ◌⊎◌, inl, inr, Bool, cond, ltb, leb, ◌&&◌, List, [], ◌++◌, length, take, drop, Result, Ok, Err, refl, ap, ap₂, sym, subst, ◌∙◌, append_assoc, arith, length-drop}
 use Rattle.std.proofs.lemmas.Bool.{cases_lt, lt-ltb, le-ltb, le-leb, lt-leb, and_from, and_left, and_right}
 use Rattle.std.proofs.lemmas.List.{drop_at, drop-drop, take-append-drop, length-take-le, length-append}
-use Rattle.cs_bits.specs.Polynomial.{number}
+use Rattle.cs_bits.specs.Numbers.{number}
 use Rattle.uper.specs.Cursor.{Cursor}
 use Rattle.uper.specs.Grammar.{Grammar, done, field, ◌>>=◌}
 use Rattle.uper.specs.Texts.{Begins, IsText, IsBad, Refuses}

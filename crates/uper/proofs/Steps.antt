@@ -4,7 +4,7 @@ use Rattle.std.specs.Prelude.{slice_range, IsErrAnd, ◌↔◌}
 use Rattle.std.proofs.lemmas.Bool.{lt-ltb, le-ltb}
 use Rattle.std.proofs.lemmas.List.{append-nil}
 use Rattle.std.proofs.lemmas.Result.{err_from_is_err_and}
-use Rattle.cs_bits.specs.Polynomial.{number}
+use Rattle.cs_bits.specs.Numbers.{number}
 use Rattle.uper.specs.Cursor.{Cursor}
 use Rattle.uper.specs.Grammar.{Grammar, done, ◌>>=◌, from_to, times}
 use Rattle.uper.specs.Reading.{and_then, reading, Reads}

@@ -1,7 +1,7 @@
 -- Texts of one part and then of another, and the first field of bits.
 use Rattle.std.proofs.Common.{◌≡◌, ℕ, inl, inr, Bool, List, [], ◌++◌, length, take, drop, refl, ap, sym, subst, ◌∙◌, append_assoc, arith}
 use Rattle.std.proofs.lemmas.List.{take_at, drop_at, length-append}
-use Rattle.cs_bits.specs.Polynomial.{number}
+use Rattle.cs_bits.specs.Numbers.{number}
 use Rattle.uper.specs.Grammar.{Grammar, done, field, ◌>>=◌}
 use Rattle.uper.specs.Texts.{Begins, IsText, IsBad}
 

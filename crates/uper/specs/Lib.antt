@@ -1,4 +1,3 @@
-pub mod Numbers
 pub mod Grammar
 pub mod Texts
 pub mod Cursor

@@ -1,6 +1,6 @@
 -- A grammar read from a place on, as a reader goes. (own)
 use Rattle.std.specs.Prelude.{◌≡◌, ℕ, ◌+◌, nat_lt, nat_le, ◌&&◌, if◌then◌else◌, length, slice_range, Result, Ok, Err}
-use Rattle.cs_bits.specs.Polynomial.{number}
+use Rattle.cs_bits.specs.Numbers.{number}
 use Rattle.uper.specs.Cursor.{Cursor}
 use Rattle.uper.specs.Grammar.{Grammar, done, field}
 

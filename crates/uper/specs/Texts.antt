@@ -1,6 +1,6 @@
 -- The texts of a grammar, and what it refuses.
 use Rattle.std.specs.Prelude.{◌≡◌, ℕ, ◌+◌, ◌<◌, ◌≤◌, ◌⊎◌, Bool, List, [], ◌++◌, length, take}
-use Rattle.cs_bits.specs.Polynomial.{number}
+use Rattle.cs_bits.specs.Numbers.{number}
 use Rattle.uper.specs.Grammar.{Grammar, done, field}
 
 -- bits begin with a field of so many bits, whose number is within the range
@@ -36,4 +36,4 @@ Refuses (done x) bits place = ⊥
 Refuses (field width least greatest next) bits place =
     (IsBad width least greatest bits × (place ≡ 0))
     ⊎ ((front : List Bool) × ((rest : List Bool) × ((after : ℕ) ×
-      Begins width least greatest bits front rest × (place ≡ width + after) × Refuses (next (number front)) rest after)))
+    Begins width least greatest bits front rest × (place ≡ width + after) × Refuses (next (number front)) rest after)))

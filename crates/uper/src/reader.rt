@@ -1,7 +1,7 @@
 //! Numbers out of bits.
 
 ghost use Rattle.std.specs.Prelude.{◌≡◌, ◌+◌, ◌<◌, ◌≤◌, ◌^◌, ◌↔◌, ◌&&◌, nat_le, length, slice_range, IfSome, IfNone, IsNone, IfOk};
-ghost use Rattle.cs_bits.specs.Polynomial.{number};
+ghost use Rattle.cs_bits.specs.Numbers.{number};
 ghost use Rattle.uper.specs.Cursor.{Cursor};
 ghost use Rattle.uper.specs.Grammar.{from_to, flag};
 ghost use Rattle.uper.specs.Reading.{Reads};
@@ -54,7 +54,7 @@ impl<'a> Reader<'a> {
         }
         let first = self.place;
         self.place += n;
-        Some(number_of(&self.bits[first..self.place]))
+        Some(number_of(&self.bits[first..self.place]) as u32)
     }
 
     /// The count of the bits that were taken.

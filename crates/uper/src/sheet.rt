@@ -2,7 +2,7 @@
 
 ghost use Rattle.std.specs.Prelude.{◌≡◌, ◌≤◌, ◌<◌, ◌^◌, ℕ, [], Some};
 ghost use Rattle.uper.specs.Grammar.{from_to, flag};
-ghost use Rattle.uper.specs.Numbers.{bits_of};
+ghost use Rattle.cs_bits.specs.Numbers.{bits_of};
 ghost use Rattle.uper.specs.Sheet.{append, Puts};
 
 use crate::Writer;

@@ -1,9 +1,10 @@
 //! Bits of numbers.
 
 ghost use Rattle.std.specs.Prelude.{◌≡◌, ◌+◌, ◌<◌, ◌≤◌, ◌^◌, ◌++◌, ◌↔◌, [], length, IsTrue, if◌then◌else◌};
-ghost use Rattle.uper.specs.Numbers.{bits_of};
+ghost use Rattle.cs_bits.specs.Numbers.{bits_of};
 
 use arrayvec::ArrayVec;
+use cs_bits::put_number;
 use std::marker::Model;
 
 // The greatest count of bits.
@@ -41,13 +42,10 @@ impl Writer {
         ensures room { IsTrue result ↔ (length self.old + n ≤ 1000) }
         ensures bits { self.new ≡ (if result then self.old ++ bits_of n value else self.old) }
     {
-        if ROOM - self.bits.len() < n as usize {
-            return false;
-        }
-        for i in 0..n {
-            self.bits.push((value >> (n - 1 - i)) % 2 == 1);
-        }
-        true
+        let mut word = [false; 32];
+        let bits = &mut word[..n as usize];
+        put_number(value as u64, bits);
+        self.bits.try_extend_from_slice(bits).is_ok()
     }
 
     /// The bits, at most 1,000.

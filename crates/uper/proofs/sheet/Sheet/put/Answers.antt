@@ -1,6 +1,6 @@
 use Rattle.std.proofs.Common.{◌≡◌, cond, None, Some, ap, sym, ◌∙◌}
-use Rattle.uper.specs.Numbers.{bits_of}
-use Rattle.uper.proofs.Numbers.{length-bits_of}
+use Rattle.cs_bits.specs.Numbers.{bits_of}
+use Rattle.cs_bits.proofs.Numbers.{length-bits_of}
 use Rattle.uper.proofs.Putting.{full_put, room_put, puts_number}
 use Rattle.uper.proofs.sheet.Sheet.put.Goals as goal
 
