@@ -1,6 +1,6 @@
 -- The score of what was sent: each term is above 0, so no other sequence agrees as well.
-use Rattle.std.proofs.Common.{◌≡◌, ℕ, ◌+◌, ◌-◌, ◌*◌, ◌%◌, ◌<◌, ◌≤◌, ◌⊎◌, inl, inr, neg_ℤ, arith, refl, ap, ap₂, sym, ◌∙◌, subst, Bool, true, false, nat_le, nat_lt, ℤ, pos, negsuc, ◌-ℤ◌, ◌*ℤ◌, ◌<ℤ◌, ◌≤ℤ◌, int_lt, unsigned_abs, mul-le-mul_right}
-use Rattle.std.specs.Prelude.{◌&&◌, if◌then◌else◌}
+use Rattle.std.proofs.Common.{◌≡◌, ℕ, ◌+◌, ◌-◌, ◌*◌, ◌%◌, ◌<◌, ◌≤◌, ◌⊎◌, inl, inr, neg_ℤ, arith, refl, ap, ap₂, sym, ◌∙◌, subst, Bool, true, false, nat_le, nat_lt, ℤ, pos, negsuc, ◌-ℤ◌, ◌*ℤ◌, ◌<ℤ◌, ◌≤ℤ◌, int_lt, mul-le-mul_right}
+use Rattle.std.specs.Prelude.{◌&&◌, if◌then◌else◌, nat_abs}
 use Rattle.std.proofs.lemmas.Int.{ints, unsigned_abs-mul}
 use Rattle.std.proofs.lemmas.Bool.{leb-true, and_parts}
 use Rattle.std.proofs.lemmas.Bool.Decides.{nat_tests}
@@ -63,12 +63,12 @@ pss-size n2 n = z-size _
 
 -- ---- one term
 
-unit_square : (s : ℤ) → unsigned_abs s ≡ 1 → square (multiple 64 (record { re = pos 127 *ℤ s; im = pos 0 })) ≤ 8128 * 8128
+unit_square : (s : ℤ) → nat_abs s ≡ 1 → square (multiple 64 (record { re = pos 127 *ℤ s; im = pos 0 })) ≤ 8128 * 8128
 unit_square s unit =
-    let a : unsigned_abs (pos 127 *ℤ s) ≡ 127 = unsigned_abs-mul (pos 127) s ∙ ap (λ m. 127 * m) unit in
+    let a : nat_abs (pos 127 *ℤ s) ≡ 127 = unsigned_abs-mul (pos 127) s ∙ ap (λ m. 127 * m) unit in
     rw (square-multiple 64 (record { re = pos 127 *ℤ s; im = pos 0 })) (rw a (omega arith))
 
-numbers : (v : ℤ) (w n : ℕ) → 16000 ≤ w → 1 ≤ n → unsigned_abs (v -ℤ pos (64 * w * n) *ℤ pos 8128) ≤ (8128 * 245760 + 1920 * (64 * w + 245760)) * n → pos 0 <ℤ v
+numbers : (v : ℤ) (w n : ℕ) → 16000 ≤ w → 1 ≤ n → nat_abs (v -ℤ pos (64 * w * n) *ℤ pos 8128) ≤ (8128 * 245760 + 1920 * (64 * w + 245760)) * n → pos 0 <ℤ v
 numbers v w n least some h =
     let m : 16000 * n ≤ w * n = mul-le-mul_right n least in
     omega (arith, ints)
@@ -76,12 +76,12 @@ numbers v w n least some h =
 regrouped : (x s : ℤ) → x *ℤ (pos 64 *ℤ (pos 127 *ℤ s)) ≡ x *ℤ pos 8128 *ℤ s
 regrouped x s = same (ring.times (var x) (ring.times (lit 64) (ring.times (lit 127) (var s)))) (ring.times (ring.times (var x) (lit 8128)) (var s)) (omega arith)
 
-one_term : (g d p q : Cpx) (s : ℤ) → 1 ≤ square g → HasZSize (square d) → unsigned_abs s ≡ 1 → IsSeenAs g d p → IsSeenAs g (record { re = pos 127 *ℤ s; im = pos 0 }) q →
+one_term : (g d p q : Cpx) (s : ℤ) → 1 ≤ square g → HasZSize (square d) → nat_abs s ≡ 1 → IsSeenAs g d p → IsSeenAs g (record { re = pos 127 *ℤ s; im = pos 0 }) q →
     pos 0 <ℤ (s *ℤ (times q (conjugate (times p (conjugate d)))).re)
 one_term g d p q s some size unit primary secondary =
     numbers (s *ℤ (times q (conjugate (times p (conjugate d)))).re) (square d) (square g) size.least some
     (sign-turns s (times q (conjugate (times p (conjugate d)))).re (pos (64 * square d * square g) *ℤ pos 8128) _ unit
-    (subst (λ x. unsigned_abs ((times q (conjugate (times p (conjugate d)))).re -ℤ x) ≤ (8128 * 245760 + 1920 * (64 * square d + 245760)) * square g) (regrouped (pos (64 * square d * square g)) s) near.re))
+    (subst (λ x. nat_abs ((times q (conjugate (times p (conjugate d)))).re -ℤ x) ≤ (8128 * 245760 + 1920 * (64 * square d + 245760)) * square g) (regrouped (pos (64 * square d * square g)) s) near.re))
   where
     a : Cpx
     a = record { re = pos 127 *ℤ s; im = pos 0 }
@@ -108,17 +108,17 @@ terms_are_positive gain n1 n2 half primary secondary seen n l =
 -- ---- all pairs
 
 -- another sign gives less
-no_more : (s o x : ℤ) → unsigned_abs s ≡ 1 → unsigned_abs o ≡ 1 → pos 0 <ℤ (s *ℤ x) → (o *ℤ x) ≤ℤ (s *ℤ x)
+no_more : (s o x : ℤ) → nat_abs s ≡ 1 → nat_abs o ≡ 1 → pos 0 <ℤ (s *ℤ x) → (o *ℤ x) ≤ℤ (s *ℤ x)
 no_more s o x p q some = compare (o *ℤ x) (s *ℤ x) (unsigned_abs-mul o x) (unsigned_abs-mul s x) some
   where
-    compare : (y z : ℤ) → unsigned_abs y ≡ unsigned_abs o * unsigned_abs x → unsigned_abs z ≡ unsigned_abs s * unsigned_abs x → pos 0 <ℤ z → y ≤ℤ z
+    compare : (y z : ℤ) → nat_abs y ≡ nat_abs o * nat_abs x → nat_abs z ≡ nat_abs s * nat_abs x → pos 0 <ℤ z → y ≤ℤ z
     compare y z e f h =
-        let a : unsigned_abs o * unsigned_abs x ≡ 1 * unsigned_abs x = ap (λ m. m * unsigned_abs x) q in
-        let b : unsigned_abs s * unsigned_abs x ≡ 1 * unsigned_abs x = ap (λ m. m * unsigned_abs x) p in
-        let c : unsigned_abs y ≡ unsigned_abs z = e ∙ a ∙ sym b ∙ sym f in
+        let a : nat_abs o * nat_abs x ≡ 1 * nat_abs x = ap (λ m. m * nat_abs x) q in
+        let b : nat_abs s * nat_abs x ≡ 1 * nat_abs x = ap (λ m. m * nat_abs x) p in
+        let c : nat_abs y ≡ nat_abs z = e ∙ a ∙ sym b ∙ sym f in
         omega (arith, ints)
 
-sign_cases : (s : ℤ) → unsigned_abs s ≡ 1 → (s ≡ pos 1) ⊎ (s ≡ negsuc 0)
+sign_cases : (s : ℤ) → nat_abs s ≡ 1 → (s ≡ pos 1) ⊎ (s ≡ negsuc 0)
 sign_cases (pos n) e = inl (ap pos e)
 sign_cases (negsuc n) e = let z : n ≡ 0 = omega (arith, e) in inr (ap negsuc z)
 
@@ -134,7 +134,7 @@ opposite_too x h e = clash (pos 1 *ℤ x) (negsuc 0 *ℤ x) h e (same (ring.time
     clash : (a b : ℤ) → pos 0 <ℤ b → a ≡ b → b ≡ neg_ℤ a → ⊥
     clash a b p q r = absurd (omega (arith, ints))
 
-same_sign : (s o x : ℤ) → unsigned_abs s ≡ 1 → unsigned_abs o ≡ 1 → pos 0 <ℤ (s *ℤ x) → o *ℤ x ≡ s *ℤ x → o ≡ s
+same_sign : (s o x : ℤ) → nat_abs s ≡ 1 → nat_abs o ≡ 1 → pos 0 <ℤ (s *ℤ x) → o *ℤ x ≡ s *ℤ x → o ≡ s
 same_sign s o x p q = elim (sign_cases s p) [
   | inl a ↦ elim (sign_cases o q) [ inl b ↦ (λ h e. b ∙ sym a) | inr b ↦ rw (a, b) (λ h e. absurd (opposite x h e)) ]
   | inr a ↦ elim (sign_cases o q) [ inl b ↦ rw (a, b) (λ h e. absurd (opposite_too x h e)) | inr b ↦ (λ h e. b ∙ sym a) ]
@@ -225,7 +225,7 @@ sss_in_grid n1 n2 half n l =
 
 amplitude_small : (n1 n2 : ℕ) (half : Half) (n : ℕ) → square (sss_amplitude n1 n2 half n) ≤ 128 * 128
 amplitude_small n1 n2 half n =
-    let a : unsigned_abs (pos 127 *ℤ sss_at n1 n2 half n) ≡ 127 = unsigned_abs-mul (pos 127) (sss_at n1 n2 half n) ∙ ap (λ m. 127 * m) (sss-size n1 n2 half n) in
+    let a : nat_abs (pos 127 *ℤ sss_at n1 n2 half n) ≡ 127 = unsigned_abs-mul (pos 127) (sss_at n1 n2 half n) ∙ ap (λ m. 127 * m) (sss-size n1 n2 half n) in
     rw a (omega arith)
 
 in_middle : (f : ℕ → Cpx) (k : ℕ) → ((n : ℕ) → square (f n) ≤ 128 * 128) → square (if nat_lt k 5 then nothing else if nat_lt k 67 then f (k - 5) else nothing) ≤ 128 * 128

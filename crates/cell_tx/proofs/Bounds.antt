@@ -1,6 +1,6 @@
 -- Sizes of elements and of samples.
-use Rattle.std.proofs.Common.{◌≡◌, ℕ, ◌+◌, ◌-◌, ◌*◌, ◌/◌, ◌%◌, ◌<◌, ◌≤◌, ◌^◌, inl, inr, Bool, true, false, nat_lt, arith, refl, sym, subst, ap, ◌∙◌, ℤ, pos, ◌*ℤ◌, unsigned_abs}
-use Rattle.std.specs.Prelude.{if◌then◌else◌}
+use Rattle.std.proofs.Common.{◌≡◌, ℕ, ◌+◌, ◌-◌, ◌*◌, ◌/◌, ◌%◌, ◌<◌, ◌≤◌, ◌^◌, inl, inr, Bool, true, false, nat_lt, arith, refl, sym, subst, ap, ◌∙◌, ℤ, pos, ◌*ℤ◌}
+use Rattle.std.specs.Prelude.{if◌then◌else◌, nat_abs}
 use Rattle.std.proofs.lemmas.Int.{unsigned_abs-mul}
 use Rattle.std.proofs.lemmas.Nat.{mul-le}
 use Rattle.cs_num.specs.declared.Cpx.{Cpx}
@@ -55,11 +55,11 @@ element_all P full primary secondary none plan sfn subframe symbol k =
     (pick P (is_secondary subframe symbol k) _ _ (secondary (plan.identity / 3) (plan.identity % 3) (half_of subframe) (k - 5))
     (pick P (is_broadcast plan.identity subframe symbol k) _ _ (full _ (point_full plan sfn _)) none)))
 
-pub full_size : (z : ℤ) → IsFull z → unsigned_abs z ≡ 90
+pub full_size : (z : ℤ) → IsFull z → nat_abs z ≡ 90
 full_size z (inl e) = rw e refl
 full_size z (inr e) = rw e refl
 
-secondary_size : (n1 n2 : ℕ) (half : Half) (n : ℕ) → unsigned_abs (pos 127 *ℤ sss_at n1 n2 half n) ≡ 127
+secondary_size : (n1 n2 : ℕ) (half : Half) (n : ℕ) → nat_abs (pos 127 *ℤ sss_at n1 n2 half n) ≡ 127
 secondary_size n1 n2 half n = unsigned_abs-mul (pos 127) (sss_at n1 n2 half n) ∙ rw (sss-size n1 n2 half n) refl
 
 pub element-within : (plan : CellPlan) (sfn subframe symbol k : ℕ) → IsWithin 127 (element plan sfn subframe symbol k)

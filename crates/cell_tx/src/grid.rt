@@ -1,6 +1,6 @@
 //! The resource grid of a frame, symbol by symbol.
 
-ghost use Rattle.std.specs.Prelude.{ℕ, ◌≡◌, ◌⊎◌, ◌+◌, ◌*◌, ◌/◌, ◌%◌, ◌<◌, ◌≤◌, Some, None, All, unsigned_abs, if◌then◌else◌};
+ghost use Rattle.std.specs.Prelude.{ℕ, ◌≡◌, ◌⊎◌, ◌+◌, ◌*◌, ◌/◌, ◌%◌, ◌<◌, ◌≤◌, Some, None, All, nat_abs, if◌then◌else◌};
 ghost use Rattle.finite.specs.Lists.{values_below};
 ghost use Rattle.cs_num.specs.Complex.{IsWithin};
 ghost use Rattle.lte_types.specs.declared.frame.Half.TheVariants.{Zero, Five};
@@ -102,7 +102,7 @@ fn is_row(row: u8, subframe: u8, symbol: u8, k: u8) -> bool
 fn sign_of(signals: &Signals, subframe: u8, n: usize) -> i8
     requires { n < 62 }
     ensures value { result ≡ sss_at (signals.now.cell.now.identity / 3) (signals.now.cell.now.identity % 3) (half_of subframe) n }
-    ensures size { unsigned_abs result ≡ 1 }
+    ensures size { nat_abs result ≡ 1 }
 {
     if subframe == 0 {
         signals.zero[n]

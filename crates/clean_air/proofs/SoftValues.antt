@@ -1,6 +1,6 @@
 -- The soft values of a clean slot: a component of a place turned back outweighs the energy of the pilots.
-use Rattle.std.proofs.Common.{◌≡◌, ℕ, zero, suc, ◌+◌, ◌*◌, ◌/◌, ◌<◌, ◌≤◌, min, arith, refl, ap, ap₂, sym, ◌∙◌, subst, Bool, true, false, nat_eq, inl, inr, List, ℤ, pos, negsuc, neg_ℤ, ◌-ℤ◌, ◌*ℤ◌, ◌≤ℤ◌, int_div, unsigned_abs}
-use Rattle.std.specs.Prelude.{if◌then◌else◌}
+use Rattle.std.proofs.Common.{◌≡◌, ℕ, zero, suc, ◌+◌, ◌*◌, ◌/◌, ◌<◌, ◌≤◌, min, arith, refl, ap, ap₂, sym, ◌∙◌, subst, Bool, true, false, nat_eq, inl, inr, List, ℤ, pos, negsuc, neg_ℤ, ◌-ℤ◌, ◌*ℤ◌, ◌≤ℤ◌, int_div}
+use Rattle.std.specs.Prelude.{if◌then◌else◌, nat_abs}
 use Rattle.std.proofs.lemmas.Int.{ints}
 use Rattle.std.proofs.lemmas.Bool.{cases_lt}
 use Rattle.std.proofs.lemmas.Bool.Decides.{nat_tests}
@@ -75,7 +75,7 @@ abbrev sign : Bool → ℤ
 sign false = pos 1
 sign true = negsuc 0
 
-sign-unit : (bit : Bool) → unsigned_abs (sign bit) ≡ 1
+sign-unit : (bit : Bool) → nat_abs (sign bit) ≡ 1
 sign-unit false = refl
 sign-unit true = refl
 
@@ -93,15 +93,15 @@ regrouped : (x s : ℤ) → x *ℤ (pos 64 *ℤ (pos 90 *ℤ s)) ≡ x *ℤ pos 
 regrouped x s = same (ring.times (var x) (ring.times (lit 64) (ring.times (lit 90) (var s)))) (ring.times (ring.times (var x) (lit 5760)) (var s)) (omega arith)
 
 -- six times the component is eight times the energy and more
-outweighs : (v : ℤ) (n q : ℕ) → q ≤ 101376000 * (24 * n) → unsigned_abs (v -ℤ pos (3110400 * n) *ℤ pos 5760) ≤ (8192 * 737280 + 1920 * (3110400 + 737280)) * n → pos (8 * q) ≤ℤ (pos 6 *ℤ v)
+outweighs : (v : ℤ) (n q : ℕ) → q ≤ 101376000 * (24 * n) → nat_abs (v -ℤ pos (3110400 * n) *ℤ pos 5760) ≤ (8192 * 737280 + 1920 * (3110400 + 737280)) * n → pos (8 * q) ≤ℤ (pos 6 *ℤ v)
 outweighs v n q most h = omega (arith, ints)
 
 signed_component : (bit : Bool) (z : ℤ) (n q : ℕ) → q ≤ 101376000 * (24 * n) →
-    unsigned_abs (z -ℤ pos (3110400 * n) *ℤ (pos 64 *ℤ component bit)) ≤ (8192 * 737280 + 1920 * (3110400 + 737280)) * n → pos (8 * q) ≤ℤ (pos 6 *ℤ (sign bit *ℤ z))
+    nat_abs (z -ℤ pos (3110400 * n) *ℤ (pos 64 *ℤ component bit)) ≤ (8192 * 737280 + 1920 * (3110400 + 737280)) * n → pos (8 * q) ≤ℤ (pos 6 *ℤ (sign bit *ℤ z))
 signed_component bit z n q most h =
     outweighs (sign bit *ℤ z) n q most
     (sign-turns (sign bit) z (pos (3110400 * n) *ℤ pos 5760) _ (sign-unit bit)
-    (subst (λ x. unsigned_abs (z -ℤ x) ≤ (8192 * 737280 + 1920 * (3110400 + 737280)) * n) (ap (λ c. pos (3110400 * n) *ℤ (pos 64 *ℤ c)) (component_is bit) ∙ regrouped (pos (3110400 * n)) (sign bit)) h))
+    (subst (λ x. nat_abs (z -ℤ x) ≤ (8192 * 737280 + 1920 * (3110400 + 737280)) * n) (ap (λ c. pos (3110400 * n) *ℤ (pos 64 *ℤ c)) (component_is bit) ∙ regrouped (pos (3110400 * n)) (sign bit)) h))
 
 -- ---- a value
 

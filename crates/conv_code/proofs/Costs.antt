@@ -1,6 +1,6 @@
 -- What a value, a place and a word cost at most.
 use Rattle.std.proofs.Common.{ℕ, ◌*◌, ◌≤◌, Bool, true, false, List, [], length, get_or, ℤ, pos, negsuc, arith}
-use Rattle.std.specs.Prelude.{nat_abs, All}
+use Rattle.finite.specs.Sizes.{AllWithin, RowsWithin}
 use Rattle.finite.proofs.Items.{item-within}
 use Rattle.finite.proofs.Sums.{total_below-within}
 use Rattle.conv_code.specs.Code.{coded, taps_0, taps_1, taps_2}
@@ -8,7 +8,7 @@ use Rattle.cs_bits.proofs.Signs.{disagreement-le}
 use Rattle.conv_code.specs.Cost.{triple_cost, place_cost, word_cost}
 
 -- three values speak against three bits with three times the greatest size at most
-pub triple_cost-le : (n : ℕ) (v : List ℤ) (a b c : Bool) → All (λ z. nat_abs z ≤ n) v → triple_cost v a b c ≤ 3 * n
+pub triple_cost-le : (n : ℕ) (v : List ℤ) (a b c : Bool) → AllWithin n v → triple_cost v a b c ≤ 3 * n
 triple_cost-le n v a b c small =
     let s0 = item-within n v 0 small in
     let s1 = item-within n v 1 small in
@@ -19,7 +19,7 @@ triple_cost-le n v a b c small =
     omega (arith, s0, s1, s2, d0, d1, d2)
 
 -- and a word costs no more than that times its places
-pub word_cost-le : (n : ℕ) (values : List (List ℤ)) (word : List Bool) → All (λ v. All (λ z. nat_abs z ≤ n) v) values →
+pub word_cost-le : (n : ℕ) (values : List (List ℤ)) (word : List Bool) → RowsWithin n values →
     word_cost values word ≤ length values * (3 * n)
 unfolding word_cost
 word_cost-le n values word small =

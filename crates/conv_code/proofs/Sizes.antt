@@ -1,12 +1,12 @@
 -- How great the sums can be: in so many rounds of the reading each place is read as often.
 use Rattle.std.proofs.Common.{◌≡◌, ℕ, zero, suc, ◌+◌, ◌-◌, ◌*◌, ◌<◌, ◌≤◌, true, List, [], length, get_or, ℤ, pos, nat_abs, refl, arith, sym, ap, subst, ◌∙◌}
-use Rattle.std.specs.Prelude.{All}
 use Rattle.std.proofs.lemmas.Bool.Decides.{nat_tests}
 use Rattle.std.proofs.lemmas.Nat.{mod-mul-add}
 use Rattle.std.proofs.lemmas.List.Elements.{All-get_or}
 use Rattle.std.proofs.Math.Nat.{mod-eq_of_lt, mul-le-mul_right}
+use Rattle.finite.specs.Sizes.{AllWithin, RowsWithin}
 use Rattle.finite.specs.Lists.{values_below}
-use Rattle.finite.specs.Tests.{count_below}
+use Rattle.finite.proofs.Counts.{count_below}
 use Rattle.finite.proofs.Lists.{values_below-All}
 use Rattle.conv_code.specs.Reading.{Place, place_of, is_at, summed, summed_at}
 use Rattle.conv_code.proofs.Places.{permuting}
@@ -53,7 +53,7 @@ in_rounds n m q k t long short few =
     let whole : m + (q * (3 * n) - m) ≡ q * (3 * n) = omega (arith, few) in
     fewer m (q * (3 * n) - m) k t n q (subst (λ x. count_below x (λ i. is_at (place_of n i) k t) ≤ q) (sym whole) (once_each n q k t long short))
 
-sum_small : (n : ℕ) (values : List ℤ) (bound q : ℕ) → 6 ≤ n → n ≤ 64 → length values ≤ q * (3 * n) → All (λ z. nat_abs z ≤ bound) values → (k t : ℕ) →
+sum_small : (n : ℕ) (values : List ℤ) (bound q : ℕ) → 6 ≤ n → n ≤ 64 → length values ≤ q * (3 * n) → AllWithin bound values → (k t : ℕ) →
     nat_abs (summed_at n values (length values) k t) ≤ q * bound
 unfolding summed_at
 sum_small n values bound q long short few small k t =
@@ -65,9 +65,9 @@ sum_small n values bound q long short few small k t =
     omega (arith, sum, times)
 
 -- in so many rounds each sum is at most as many times the greatest value
-pub sizes_of_sums : (n : ℕ) (values : List ℤ) (bound q : ℕ) → 6 ≤ n → n ≤ 64 → All (λ z. nat_abs z ≤ bound) values → length values ≤ q * (3 * n) →
-    All (λ place. All (λ sum. nat_abs sum ≤ q * bound) place) (summed n values)
+pub sizes_of_sums : (n : ℕ) (values : List ℤ) (bound q : ℕ) → 6 ≤ n → n ≤ 64 → AllWithin bound values → length values ≤ q * (3 * n) →
+    RowsWithin (q * bound) (summed n values)
 unfolding summed
 sizes_of_sums n values bound q long short small few =
-    values_below-All (λ place. All (λ sum. nat_abs sum ≤ q * bound) place) n (λ k. values_below 3 (summed_at n values (length values) k)) []
+    values_below-All (AllWithin (q * bound)) n (λ k. values_below 3 (summed_at n values (length values) k)) []
     (λ k _. values_below-All (λ sum. nat_abs sum ≤ q * bound) 3 (summed_at n values (length values) k) (pos 0) (λ t _. sum_small n values bound q long short few small k t))

@@ -1,4 +1,5 @@
-ghost use Rattle.std.specs.Prelude.{◌≡◌, ℕ, All, ◌+◌, ◌*◌, ◌^◌, ◌<◌, ◌≤◌, length, nat_abs, slice_index_or};
+ghost use Rattle.std.specs.Prelude.{◌≡◌, ℕ, ◌+◌, ◌*◌, ◌^◌, ◌<◌, ◌≤◌, length, nat_abs, slice_index_or};
+ghost use Rattle.finite.specs.Sizes.{AllWithin, RowsWithin};
 ghost use Rattle.finite.specs.Tables.{sum_at, sums_with};
 ghost use Rattle.conv_code.specs.Reading.{bit_at_place, cells, place_of, stream_order, summed};
 
@@ -93,9 +94,9 @@ pub fn combine<const N: usize>(values: &[i16]) -> [[i32; 3]; N]
     requires high { N ≤ 64 }
     requires count { length values.now ≤ 1920 }
     ensures sums { result ≡ summed N values.now }
-    ensures sizes { (bound rounds : ℕ) → All (λ value. nat_abs value ≤ bound) values.now →
+    ensures sizes { (bound rounds : ℕ) → AllWithin bound values.now →
         length values.now ≤ rounds * (3 * N) →
-        All (λ place. All (λ sum. nat_abs sum ≤ rounds * bound) place) result }
+        RowsWithin (rounds * bound) result }
 {
     let mut sums = [[0; 3]; N];
     for (i, value) in values.iter().enumerate() {

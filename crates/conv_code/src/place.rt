@@ -1,6 +1,7 @@
 //! What the values of a place cost.
 
-ghost use Rattle.std.specs.Prelude.{◌≡◌, ℕ, ◌*◌, ◌^◌, ◌≤◌, All, false, nat_abs, slice_index_or};
+ghost use Rattle.std.specs.Prelude.{◌≡◌, ℕ, ◌*◌, ◌^◌, ◌≤◌, false, slice_index_or};
+ghost use Rattle.finite.specs.Sizes.{AllWithin};
 ghost use Rattle.conv_code.specs.Cost.{triple_cost};
 
 use cs_bits::disagreement_of;
@@ -8,10 +9,10 @@ use cs_bits::disagreement_of;
 /// The sum of the sizes of those of the three values of a place that speak against their coded bits (own).
 /// The values are at most 2^20 in size.
 pub fn against(values: &[i32; 3], bits: &[bool; 3]) -> u32
-    requires { All (λ value. nat_abs value ≤ 2 ^ 20) values.now }
+    requires { AllWithin (2 ^ 20) values.now }
     ensures cost { result ≡ triple_cost values.now (slice_index_or bits.now 0 false)
         (slice_index_or bits.now 1 false) (slice_index_or bits.now 2 false) }
-    ensures bound { (n : ℕ) → All (λ value. nat_abs value ≤ n) values.now → result ≤ 3 * n }
+    ensures bound { (n : ℕ) → AllWithin n values.now → result ≤ 3 * n }
 {
     disagreement_of(values[0], bits[0])
         + disagreement_of(values[1], bits[1])

@@ -1,7 +1,8 @@
 -- Sizes of complex numbers, and the laws of their ring.
-use Rattle.std.proofs.Common.{◌≡◌, ℕ, ◌+◌, ◌*◌, ◌≤◌, arith, ℤ, pos, ◌+ℤ◌, ◌-ℤ◌, ◌*ℤ◌, unsigned_abs, ap₂, ◌∙◌}
+use Rattle.std.proofs.Common.{◌≡◌, ℕ, ◌+◌, ◌*◌, ◌≤◌, arith, ℤ, pos, ◌+ℤ◌, ◌-ℤ◌, ◌*ℤ◌, ap₂, ◌∙◌}
 use Rattle.std.proofs.lemmas.Int.{ints}
 use Rattle.std.proofs.lemmas.Nat.{mul-le}
+use Rattle.std.specs.Prelude.{nat_abs}
 use Rattle.finite.proofs.Integers.{abs-sum, abs-difference, product_within}
 use Rattle.finite.proofs.Ring.{Is, var, lit, same}
 use Rattle.finite.proofs.Ring as ring
@@ -41,7 +42,7 @@ times-within a b m n bound p q e =
     }
 
 pub square-within : (a : Cpx) (m : ℕ) → IsWithin m a → square a ≤ 2 * (m * m)
-square-within a m p = omega (arith, mul-le (unsigned_abs a.re) (unsigned_abs a.re) m m p.re p.re, mul-le (unsigned_abs a.im) (unsigned_abs a.im) m m p.im p.im)
+square-within a m p = omega (arith, mul-le (nat_abs a.re) (nat_abs a.re) m m p.re p.re, mul-le (nat_abs a.im) (nat_abs a.im) m m p.im p.im)
 
 -- ---- the ring
 

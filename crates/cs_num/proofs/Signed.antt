@@ -1,5 +1,5 @@
 -- The machine's signed numbers under the arithmetic of this crate.
-use Rattle.std.proofs.Common.{◌≡◌, ℕ, ◌+◌, ◌*◌, ◌-◌, ◌^◌, ◌%◌, ◌≤◌, min, arith, refl, ◌∙◌, to_z, of_z, ℤ, pos, negsuc, ◌+ℤ◌, ◌-ℤ◌, ◌*ℤ◌, ◌≤ℤ◌, FitsSigned, unsigned_abs, w64}
+use Rattle.std.proofs.Common.{◌≡◌, ℕ, ◌+◌, ◌*◌, ◌-◌, ◌^◌, ◌%◌, ◌≤◌, min, arith, refl, ◌∙◌, to_z, of_z, ℤ, pos, negsuc, ◌+ℤ◌, ◌-ℤ◌, ◌*ℤ◌, ◌≤ℤ◌, FitsSigned, w64}
 use Rattle.cs_num.specs.declared.Cpx.{Cpx}
 use Rattle.cs_num.specs.Complex.{size}
 use Rattle.cs_num.specs.Rounding.{floor_div, clamped, round_shifted}
@@ -10,6 +10,7 @@ use Rattle.std.proofs.Math.Pow.{pow_mono}
 use borrow.Author.Differences.{up, down, neg_is}
 use Rattle.std.specs.Int.Signed.{shr_z}
 use Rattle.std.proofs.lemmas.Int.{to_z-of_z, clamps, ints, fits_signed_from_abs}
+use Rattle.std.specs.Prelude.{nat_abs}
 
 -- the products and sums of a complex product fit 64 bits
 pub record Products (a b : Cpx) : Type 0 where
@@ -41,7 +42,7 @@ half_is bits h =
     let small : 2 ^ (bits - 1) ≤ 2 ^ 39 = pow_mono {i = bits - 1} {j = 39} (omega arith) in
     omega (arith, ints)
 
-pub shifted_fits : (x : ℤ) (bits : ℕ) → unsigned_abs x ≤ 2 ^ 62 → (1 ≤ bits) × (bits ≤ 40) → FitsSigned w64 (x +ℤ pos (2 ^ (bits - 1)))
+pub shifted_fits : (x : ℤ) (bits : ℕ) → nat_abs x ≤ 2 ^ 62 → (1 ≤ bits) × (bits ≤ 40) → FitsSigned w64 (x +ℤ pos (2 ^ (bits - 1)))
 shifted_fits x bits h b =
     let small : 2 ^ (bits - 1) ≤ 2 ^ 39 = pow_mono {i = bits - 1} {j = 39} (omega arith) in
     fits_signed_from_abs w64 _ (omega (arith, abs-sum x (pos (2 ^ (bits - 1)))))
@@ -55,14 +56,14 @@ clamp_up : (x : ℤ) (l : ℕ) → (up (clamped x l) ≡ min (up x) l) × (down 
 clamp_up (pos n) l = (refl, omega arith)
 clamp_up (negsuc n) l = ((neg_is (pos (min (n + 1) l))).0 ∙ omega arith, (neg_is (pos (min (n + 1) l))).1 ∙ omega arith)
 
-pub clamp_is : (x limit : ℤ) → pos 0 ≤ℤ limit → int_max (pos 0 -ℤ limit) (int_min x limit) ≡ clamped x (unsigned_abs limit)
-clamp_is x limit h = omega (arith, ints, clamps, clamp_up x (unsigned_abs limit), one_part x)
+pub clamp_is : (x limit : ℤ) → pos 0 ≤ℤ limit → int_max (pos 0 -ℤ limit) (int_min x limit) ≡ clamped x (nat_abs limit)
+clamp_is x limit h = omega (arith, ints, clamps, clamp_up x (nat_abs limit), one_part x)
 
 shifted_back : (x : ℤ) (d : ℕ) → FitsSigned w64 x → FitsSigned w64 (floor_div x d)
 shifted_back (pos n) d f = record { sfits = omega (arith, f.sfits, div-le_self n d) }
 shifted_back (negsuc n) d f = record { sfits = omega (arith, f.sfits, div-le_self n d) }
 
-pub rounds : (x : ℤ) (bits : ℕ) → FitsSigned w64 x → unsigned_abs x ≤ 2 ^ 62 → (1 ≤ bits) × (bits ≤ 40) →
+pub rounds : (x : ℤ) (bits : ℕ) → FitsSigned w64 x → nat_abs x ≤ 2 ^ 62 → (1 ≤ bits) × (bits ≤ 40) →
     to_z w64 (of_z w64 (shr_z (to_z w64 (of_z w64 (to_z w64 (of_z w64 x) +ℤ to_z w64 (1 * 2 ^ (bits - 1) % 18446744073709551616)))) (2 ^ bits))) ≡ round_shifted x bits
 rounds x bits f h b =
     let g = shifted_fits x bits h b in

@@ -1,5 +1,5 @@
 -- Whole complex numbers: pairs of whole numbers, with the ring's operations.
-use Rattle.std.specs.Prelude.{List, slice_index_or, ℕ, ◌+◌, ◌*◌, ◌≤◌, pos, ◌+ℤ◌, ◌-ℤ◌, ◌*ℤ◌, neg_ℤ, unsigned_abs, max}
+use Rattle.std.specs.Prelude.{List, slice_index_or, ℕ, ◌+◌, ◌*◌, ◌≤◌, pos, ◌+ℤ◌, ◌-ℤ◌, ◌*ℤ◌, neg_ℤ, nat_abs, max}
 use Rattle.cs_num.specs.declared.Cpx.{Cpx}
 use Rattle.cs_num.specs.declared.Sample.{Sample}
 
@@ -36,16 +36,16 @@ conjugate a = record { re = a.re; im = neg_ℤ a.im }
 
 -- the square of the size
 abbrev pub square : Cpx → ℕ
-square a = unsigned_abs a.re * unsigned_abs a.re + unsigned_abs a.im * unsigned_abs a.im
+square a = nat_abs a.re * nat_abs a.re + nat_abs a.im * nat_abs a.im
 
 -- the greatest size of a component
 abbrev pub size : Cpx → ℕ
-size a = max (unsigned_abs a.re) (unsigned_abs a.im)
+size a = max (nat_abs a.re) (nat_abs a.im)
 
 -- both components have at most this size
 pub record IsWithin (bound : ℕ) (a : Cpx) : Type 0 where
-  pub re : unsigned_abs a.re ≤ bound
-  pub im : unsigned_abs a.im ≤ bound
+  pub re : nat_abs a.re ≤ bound
+  pub im : nat_abs a.im ≤ bound
 
 -- the number that a sample is
 abbrev pub value_of : Sample → Cpx

@@ -2,7 +2,7 @@
 //! rounding that the receiver rests on. Each call gives its exact value under its condition.
 #![tactic(auto)]
 
-ghost use Rattle.std.specs.Prelude.{◌≡◌, ℕ, ◌+◌, ◌*◌, ◌^◌, ◌<◌, ◌≤◌, pos, negsuc, ◌≤ℤ◌, ◌<ℤ◌, unsigned_abs, int_div};
+ghost use Rattle.std.specs.Prelude.{◌≡◌, ℕ, ◌+◌, ◌*◌, ◌^◌, ◌<◌, ◌≤◌, pos, negsuc, ◌≤ℤ◌, ◌<ℤ◌, nat_abs, int_div};
 ghost use Rattle.cs_num.specs.Complex.{plus, times, conjugate, square, size};
 ghost use Rattle.cs_num.specs.Rounding.{clamped, round_shifted, rounded};
 
@@ -46,7 +46,7 @@ impl Cpx {
 
     /// The conjugate. The imaginary part is not the least `i64`.
     pub fn conj(self) -> Cpx
-        requires { unsigned_abs self.im < 2 ^ 63 }
+        requires { nat_abs self.im < 2 ^ 63 }
         ensures { result ≡ conjugate self }
     {
         Cpx {
@@ -81,7 +81,7 @@ impl Cpx {
 // One component of `round_shift`.
 fn round_part(x: i64, bits: u32) -> i64
     requires bits { (1 ≤ bits) × (bits ≤ 40) }
-    requires size { unsigned_abs x ≤ 2 ^ 62 }
+    requires size { nat_abs x ≤ 2 ^ 62 }
     ensures { result ≡ round_shifted x bits }
 {
     (x + (1i64 << (bits - 1))) >> bits
@@ -92,7 +92,7 @@ fn round_part(x: i64, bits: u32) -> i64
 pub fn clamp_div(top: i64, bottom: i64, limit: i16) -> i16
     requires bottom { pos 0 <ℤ bottom }
     requires limit { pos 0 ≤ℤ limit }
-    ensures { result ≡ clamped (int_div top bottom) (unsigned_abs limit) }
+    ensures { result ≡ clamped (int_div top bottom) (nat_abs limit) }
 {
     (top / bottom).clamp(-(limit as i64), limit as i64) as i16
 }

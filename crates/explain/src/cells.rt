@@ -1,6 +1,7 @@
 //! The list of the cells of a recording.
 
-ghost use Rattle.std.specs.Prelude.{◌≡◌, ◌+◌, ◌<◌, ◌≤◌, [], All, nat_abs, length};
+ghost use Rattle.std.specs.Prelude.{◌≡◌, ◌+◌, ◌<◌, ◌≤◌, [], All, length};
+ghost use Rattle.finite.specs.Sizes.{RowsWithin};
 ghost use Rattle.pss_search.specs.Hits.{IsInSpan};
 ghost use Rattle.pbch.specs.Values.{coded_values};
 ghost use Rattle.pbch.specs.Master.{TellsMaster};
@@ -40,7 +41,7 @@ pub fn values_of(recording: &Recording, entry: &Entry) -> [[i32; 3]; 40]
     requires { IsInList recording.now entry.now }
     ensures values { result ≡ coded_values (broadcast_slot_of recording.now entry.now.id entry.now.start entry.now.frame) entry.now.phase }
     ensures master { TellsMaster result (master_of entry.now) }
-    ensures sizes { All (λ place. All (λ sum. nat_abs sum ≤ 508) place) result }
+    ensures sizes { RowsWithin 508 result }
 {
     let slot = broadcast_slot(recording, entry.id, entry.start, entry.frame);
     values(&slot, entry.phase)

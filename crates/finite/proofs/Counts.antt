@@ -1,8 +1,20 @@
 -- Counts of the numbers below n that pass a test, and sums over them.
-use Rattle.std.proofs.Common.{◌≡◌, ℕ, zero, suc, ◌+◌, ◌*◌, ◌<◌, ◌≤◌, Bool, true, false, cond, ℤ, pos, ◌+ℤ◌, nat_abs, refl, arith, sym, ap, ◌∙◌, add-zero}
+use Rattle.std.proofs.Common.{◌≡◌, ℕ, zero, suc, ◌+◌, ◌*◌, ◌<◌, ◌≤◌, Bool, true, false, cond, ℤ, pos, ◌+ℤ◌, nat_abs, refl, arith, sym, ap, ◌∙◌, add-zero, add-one}
 use Rattle.finite.specs.Sums.{sum_below}
-use Rattle.finite.specs.Tests.{count_below}
 use Rattle.finite.proofs.Integers.{abs-sum}
+
+-- how many numbers below n pass
+unfoldable pub count_below : ℕ → (ℕ → Bool) → ℕ
+count_below zero p = 0
+count_below (suc n) p = count_below n p + cond (p n) 1 0
+
+pub count_below_none : (p : ℕ → Bool) → count_below 0 p ≡ 0
+unfolding count_below
+count_below_none p = refl
+
+pub count_below_more : (n : ℕ) (p : ℕ → Bool) → count_below (n + 1) p ≡ count_below n p + cond (p n) 1 0
+unfolding count_below
+count_below_more n p = rw add-one refl
 
 with_one : (sum z : ℤ) (b : Bool) (count bound : ℕ) → nat_abs sum ≤ count * bound → nat_abs z ≤ bound →
     nat_abs (sum +ℤ cond b z (pos 0)) ≤ (count + cond b 1 0) * bound

@@ -1,7 +1,8 @@
 -- Steps, bounds and laws of finite sums.
-use Rattle.std.proofs.Common.{◌≡◌, ℕ, zero, suc, ◌+◌, ◌*◌, ◌<◌, ◌≤◌, arith, refl, ap, ◌∙◌, sym, subst, add-one, ℤ, pos, ◌+ℤ◌, ◌*ℤ◌, unsigned_abs, inl, inr}
+use Rattle.std.proofs.Common.{◌≡◌, ℕ, zero, suc, ◌+◌, ◌*◌, ◌<◌, ◌≤◌, arith, refl, ap, ◌∙◌, sym, subst, add-one, ℤ, pos, ◌+ℤ◌, ◌*ℤ◌, inl, inr}
 use Rattle.std.proofs.lemmas.Bool.{cases_lt}
 use Rattle.std.proofs.lemmas.Int.{ints}
+use Rattle.std.specs.Prelude.{nat_abs}
 use Rattle.finite.specs.Sums.{sum_below, total_below}
 use Rattle.finite.proofs.Integers.{abs-sum, mul-distributes}
 
@@ -23,7 +24,7 @@ sum_below_same (suc n) f g h =
     let here = h n (omega arith) in
     cc
 
-pub sum_below-within : (n bound : ℕ) (f : ℕ → ℤ) → ((k : ℕ) → k < n → unsigned_abs (f k) ≤ bound) → unsigned_abs (sum_below n f) ≤ n * bound
+pub sum_below-within : (n bound : ℕ) (f : ℕ → ℤ) → ((k : ℕ) → k < n → nat_abs (f k) ≤ bound) → nat_abs (sum_below n f) ≤ n * bound
 unfolding sum_below
 sum_below-within zero bound f h = omega arith
 sum_below-within (suc n) bound f h =
@@ -40,7 +41,7 @@ unfolding sum_below
 sum_below_scaled zero a f = omega (arith, ints)
 sum_below_scaled (suc n) a f = ap (λ s. s +ℤ a *ℤ f n) (sum_below_scaled n a f) ∙ sym (mul-distributes a (sum_below n f) (f n))
 
-pub sum_below_zeros : (n : ℕ) → sum_below n (λ _. pos 0) ≡ pos 0
+sum_below_zeros : (n : ℕ) → sum_below n (λ _. pos 0) ≡ pos 0
 unfolding sum_below
 sum_below_zeros zero = refl
 sum_below_zeros (suc n) = let h = sum_below_zeros n in omega (arith, ints, h)
@@ -82,11 +83,6 @@ total_below-within zero bound f h = omega arith
 total_below-within (suc n) bound f h =
     let before = total_below-within n bound f (λ k l. h k (omega arith)) in
     omega (arith, before, h n (omega arith))
-
-pub total_below_plus : (n : ℕ) (f g : ℕ → ℕ) → total_below n (λ k. f k + g k) ≡ total_below n f + total_below n g
-unfolding total_below
-total_below_plus zero f g = refl
-total_below_plus (suc n) f g = let h = total_below_plus n f g in omega (arith, h)
 
 pub total_below_split : (n m : ℕ) (f : ℕ → ℕ) → total_below (n + m) f ≡ total_below n f + total_below m (λ k. f (n + k))
 unfolding total_below

@@ -7,14 +7,12 @@ use Rattle.std.proofs.lemmas.List.{get_or-replicate, length-replicate, length-se
 use Rattle.finite.specs.Lists.{values_below}
 use Rattle.finite.specs.Sums.{sum_below}
 use Rattle.finite.specs.Tables.{sum_at, sums_with}
+use Rattle.finite.proofs.Integers.{abs-sum}
 use Rattle.finite.proofs.Lists.{values_below_is}
 use Rattle.finite.proofs.Sums.{sum_below_none, sum_below_more}
 
 plus_zero : (z : ℤ) → z ≡ z +ℤ pos 0
 plus_zero z = omega (arith, ints)
-
-pub abs_sum : (a b : ℤ) → nat_abs (a +ℤ b) ≤ nat_abs a + nat_abs b
-abs_sum a b = omega (arith, ints)
 
 no_larger : (b : Bool) (v : ℤ) (bound : ℕ) → nat_abs v ≤ bound → nat_abs (cond b v (pos 0)) ≤ bound
 no_larger true v bound h = h
@@ -87,7 +85,7 @@ sums_more rows columns bound row_of column_of values m sums p q v here there ins
           let e = added_at sums p q r c v inside_sums inside_row in
           let old = known.small r c h below in
           let new = no_larger (nat_eq p r && nat_eq q c) v bound size in
-          let both = abs_sum (sum_at sums r c) (cond (nat_eq p r && nat_eq q c) v (pos 0)) in
+          let both = abs-sum (sum_at sums r c) (cond (nat_eq p r && nat_eq q c) v (pos 0)) in
           let more : (m + 1) * bound ≡ m * bound + bound = omega arith in
           rw (e, more) (omega (arith, old, new, both));
     }

@@ -1,22 +1,15 @@
 -- What tests of the numbers below n tell.
 use Rattle.std.proofs.Common.{◌≡◌, ℕ, zero, suc, ◌+◌, ◌<◌, arith, refl, ap, ◌∙◌, sym, subst, Bool, true, false, nat_lt, add-one}
-use Rattle.std.specs.Prelude.{◌&&◌, ◌||◌, cond}
-use Rattle.std.proofs.lemmas.Bool.{ltb-true, ltb-false, and_parts}
+use Rattle.std.specs.Prelude.{◌&&◌, ◌||◌}
+use Rattle.std.proofs.lemmas.Bool.{ltb-true, ltb-false, and_parts, or_left, or_right}
 use Rattle.std.proofs.Math.Bool.{true≢false}
-use Rattle.finite.specs.Tests.{any_below, every_below, count_below}
+use Rattle.finite.specs.Tests.{any_below, every_below}
 
 -- ---- some number passes
 
 pub any_below_more : (n : ℕ) (p : ℕ → Bool) → any_below (n + 1) p ≡ (any_below n p || p n)
 unfolding any_below
 any_below_more n p = rw add-one refl
-
-or_right : (a b : Bool) → b ≡ true → (a || b) ≡ true
-or_right true b e = refl
-or_right false b e = e
-
-or_left : (a b : Bool) → a ≡ true → (a || b) ≡ true
-or_left a b e = rw e refl
 
 -- one that passes settles it
 pub any_below_at : (n k : ℕ) (p : ℕ → Bool) → k < n → p k ≡ true → any_below n p ≡ true
@@ -47,10 +40,6 @@ any_below_all (suc n) p h =
 
 -- ---- every number passes
 
-pub every_below_more : (n : ℕ) (p : ℕ → Bool) → every_below (n + 1) p ≡ (every_below n p && p n)
-unfolding every_below
-every_below_more n p = rw add-one refl
-
 -- what was computed for each number below n, read at one of them
 pub every_below_at : (n : ℕ) (p : ℕ → Bool) → every_below n p ≡ true → (k : ℕ) → k < n → p k ≡ true
 unfolding every_below
@@ -63,21 +52,3 @@ every_below_at (suc n) p e k l = settle (nat_lt k n) refl (λ below. every_below
     settle : (b : Bool) → nat_lt k n ≡ b → (k < n → p k ≡ true) → p k ≡ true
     settle true h before = before (ltb-true k n h)
     settle false h before = let s : n ≡ k = omega (arith, ltb-false k n h) in subst (λ i. p i ≡ true) s parts.1
-
-pub every_below_all : (n : ℕ) (p : ℕ → Bool) → ((k : ℕ) → k < n → p k ≡ true) → every_below n p ≡ true
-unfolding every_below
-every_below_all zero p h = refl
-every_below_all (suc n) p h =
-    let before = every_below_all n p (λ k l. h k (omega arith)) in
-    let here = h n (omega arith) in
-    rw (before, here) refl
-
--- ---- how many pass
-
-pub count_below_none : (p : ℕ → Bool) → count_below 0 p ≡ 0
-unfolding count_below
-count_below_none p = refl
-
-pub count_below_more : (n : ℕ) (p : ℕ → Bool) → count_below (n + 1) p ≡ count_below n p + cond (p n) 1 0
-unfolding count_below
-count_below_more n p = rw add-one refl

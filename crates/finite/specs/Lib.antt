@@ -1,4 +1,5 @@
 pub mod Bits
+pub mod Sizes
 pub mod Sums
 pub mod Tests
 pub mod Lists

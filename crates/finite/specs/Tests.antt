@@ -1,5 +1,5 @@
 -- Tests of the numbers below n.
-use Rattle.std.specs.Prelude.{ℕ, zero, suc, ◌+◌, Bool, true, false, cond, ◌&&◌, ◌||◌}
+use Rattle.std.specs.Prelude.{ℕ, zero, suc, Bool, true, false, ◌&&◌, ◌||◌}
 
 -- some number below n passes
 unfoldable pub any_below : ℕ → (ℕ → Bool) → Bool
@@ -10,8 +10,3 @@ any_below (suc n) p = any_below n p || p n
 unfoldable pub every_below : ℕ → (ℕ → Bool) → Bool
 every_below zero p = true
 every_below (suc n) p = every_below n p && p n
-
--- how many numbers below n pass
-unfoldable pub count_below : ℕ → (ℕ → Bool) → ℕ
-count_below zero p = 0
-count_below (suc n) p = count_below n p + cond (p n) 1 0

@@ -1,8 +1,8 @@
 -- The tables' entries: sizes, and how an entry is found by octant.
-use Rattle.std.proofs.Common.{◌≡◌, ℕ, ◌+◌, ◌-◌, ◌%◌, ◌<◌, ◌≤◌, List, length, Bool, true, false, arith, refl, ℤ, pos, unsigned_abs, nat_le, slice_index, slice_index_or, get_or, to_z, of_z, w8, w64}
+use Rattle.std.proofs.Common.{◌≡◌, ℕ, ◌+◌, ◌-◌, ◌%◌, ◌<◌, ◌≤◌, List, length, Bool, true, false, arith, refl, ℤ, pos, nat_le, slice_index, slice_index_or, get_or, to_z, of_z, w8, w64}
 use Rattle.std.proofs.lemmas.Int.{ints}
 use Rattle.cs_num.specs.Complex.{IsWithin, conjugate}
-use Rattle.std.specs.Prelude.{neg_ℤ, if◌then◌else◌}
+use Rattle.std.specs.Prelude.{neg_ℤ, if◌then◌else◌, nat_abs}
 use Rattle.std.specs.List.{list_all}
 use Rattle.std.proofs.lemmas.Bool.{leb-true, leb-false, le-leb}
 use Rattle.std.proofs.lemmas.List.Sums.{AllPass-from_list_all}
@@ -18,13 +18,13 @@ pub quarter_small : (i : ℕ) → i ≤ 32 → slice_index quarter i ≤ 16384
 unfolding quarter
 quarter_small i h = leb-true _ _ (entry_passes (λ x. nat_le x 16384) quarter i 0 refl (omega arith))
 
-pub z_real_small : (i : ℕ) → i < 32 → unsigned_abs (slice_index_or z_real i (pos 0)) ≤ 127
+pub z_real_small : (i : ℕ) → i < 32 → nat_abs (slice_index_or z_real i (pos 0)) ≤ 127
 unfolding z_real
-z_real_small i h = leb-true _ _ (entry_passes (λ x. nat_le (unsigned_abs x) 127) z_real i (pos 0) refl h)
+z_real_small i h = leb-true _ _ (entry_passes (λ x. nat_le (nat_abs x) 127) z_real i (pos 0) refl h)
 
-pub z_imaginary_small : (i : ℕ) → i < 32 → unsigned_abs (slice_index_or z_imaginary i (pos 0)) ≤ 127
+pub z_imaginary_small : (i : ℕ) → i < 32 → nat_abs (slice_index_or z_imaginary i (pos 0)) ≤ 127
 unfolding z_imaginary
-z_imaginary_small i h = leb-true _ _ (entry_passes (λ x. nat_le (unsigned_abs x) 127) z_imaginary i (pos 0) refl h)
+z_imaginary_small i h = leb-true _ _ (entry_passes (λ x. nat_le (nat_abs x) 127) z_imaginary i (pos 0) refl h)
 
 pub cosine_low : (m half : ℕ) → half ≡ folded m → half ≤ 32 → cosine m ≡ pos (slice_index quarter half)
 unfolding cosine
@@ -35,7 +35,7 @@ unfolding cosine
 cosine_high m half e h = grind (arith, nat_tests)
 
 -- a small number, widened from 8 to 64 bits
-pub widened : (x : ℤ) → unsigned_abs x ≤ 127 → to_z w64 (of_z w64 (to_z w8 (of_z w8 x))) ≡ x
+pub widened : (x : ℤ) → nat_abs x ≤ 127 → to_z w64 (of_z w64 (to_z w8 (of_z w8 x))) ≡ x
 widened x h = omega (arith, ints)
 
 pub cosine_period : (m : ℕ) → cosine (m % 128) ≡ cosine m
@@ -56,13 +56,13 @@ w_from m = refl
 folded_le : (m : ℕ) → folded m ≤ 64
 folded_le m = grind (arith, nat_tests)
 
-half_turn_small : (h : ℕ) (low : Bool) → nat_le h 32 ≡ low → h ≤ 64 → unsigned_abs (half_turn h) ≤ 16384
+half_turn_small : (h : ℕ) (low : Bool) → nat_le h 32 ≡ low → h ≤ 64 → nat_abs (half_turn h) ≤ 16384
 half_turn_small h true e l = rw e (quarter_small h (leb-true _ _ e))
 half_turn_small h false e l =
     let q : slice_index quarter (64 - h) ≤ 16384 = quarter_small (64 - h) (grind (arith, nat_tests)) in
     rw e (omega (arith, ints))
 
-pub cosine_small : (m : ℕ) → unsigned_abs (cosine m) ≤ 16384
+pub cosine_small : (m : ℕ) → nat_abs (cosine m) ≤ 16384
 unfolding cosine
 cosine_small m = half_turn_small (folded m) (nat_le (folded m) 32) refl (folded_le m)
 

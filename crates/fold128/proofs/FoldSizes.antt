@@ -1,6 +1,6 @@
 -- Quartets of folded samples: how butterflies make them, and the sizes of their sums.
-use Rattle.std.proofs.Common.{◌≡◌, ℕ, zero, suc, ◌+◌, ◌*◌, ◌%◌, ◌^◌, ◌<◌, ◌≤◌, arith, refl, subst, Bool, true, List, length, neg_ℤ, ◌*ℤ◌, unsigned_abs, nat_le, slice_index_or}
-use Rattle.std.specs.Prelude.{All}
+use Rattle.std.proofs.Common.{◌≡◌, ℕ, zero, suc, ◌+◌, ◌*◌, ◌%◌, ◌^◌, ◌<◌, ◌≤◌, arith, refl, subst, Bool, true, List, length, neg_ℤ, ◌*ℤ◌, nat_le, slice_index_or}
+use Rattle.std.specs.Prelude.{All, nat_abs}
 use Rattle.std.proofs.lemmas.Int.{ints, unsigned_abs-mul}
 use Rattle.std.proofs.lemmas.Nat.{mul-le}
 use Rattle.std.proofs.lemmas.Bool.{leb-true}
@@ -21,26 +21,26 @@ use Rattle.fold128.proofs.Entries.{w_period}
 -- ---- the two components of an entry together
 
 unfoldable pub entry_passes_at : ℕ → Bool
-entry_passes_at m = nat_le (unsigned_abs (w_at m).re + unsigned_abs (w_at m).im) 23170
+entry_passes_at m = nat_le (nat_abs (w_at m).re + nat_abs (w_at m).im) 23170
 
 all_entries : every_below 128 entry_passes_at ≡ true
 unfolding quarter cosine w_at entry_passes_at every_below
 all_entries = refl
 
-pub entry-le : (m : ℕ) → unsigned_abs (w_at m).re + unsigned_abs (w_at m).im ≤ 23170
+pub entry-le : (m : ℕ) → nat_abs (w_at m).re + nat_abs (w_at m).im ≤ 23170
 unfolding entry_passes_at
 entry-le m =
     let here = leb-true _ _ (every_below_at 128 entry_passes_at all_entries (m % 128) (omega arith)) in
-    subst (λ (v : Cpx). unsigned_abs v.re + unsigned_abs v.im ≤ 23170) (w_period m) here
+    subst (λ (v : Cpx). nat_abs v.re + nat_abs v.im ≤ 23170) (w_period m) here
 
 -- a product with a number whose two components together are small
-product-within : (z v : Cpx) (m n : ℕ) → IsWithin m z → unsigned_abs v.re + unsigned_abs v.im ≤ n → IsWithin (m * n) (times z v)
+product-within : (z v : Cpx) (m n : ℕ) → IsWithin m z → nat_abs v.re + nat_abs v.im ≤ n → IsWithin (m * n) (times z v)
 product-within z v m n p h =
-    let rr = mul-le (unsigned_abs z.re) (unsigned_abs v.re) m (unsigned_abs v.re) p.re (omega arith) in
-    let ii = mul-le (unsigned_abs z.im) (unsigned_abs v.im) m (unsigned_abs v.im) p.im (omega arith) in
-    let ri = mul-le (unsigned_abs z.re) (unsigned_abs v.im) m (unsigned_abs v.im) p.re (omega arith) in
-    let ir = mul-le (unsigned_abs z.im) (unsigned_abs v.re) m (unsigned_abs v.re) p.im (omega arith) in
-    let whole = mul-le m (unsigned_abs v.re + unsigned_abs v.im) m n (omega arith) h in
+    let rr = mul-le (nat_abs z.re) (nat_abs v.re) m (nat_abs v.re) p.re (omega arith) in
+    let ii = mul-le (nat_abs z.im) (nat_abs v.im) m (nat_abs v.im) p.im (omega arith) in
+    let ri = mul-le (nat_abs z.re) (nat_abs v.im) m (nat_abs v.im) p.re (omega arith) in
+    let ir = mul-le (nat_abs z.im) (nat_abs v.re) m (nat_abs v.re) p.im (omega arith) in
+    let whole = mul-le m (nat_abs v.re + nat_abs v.im) m n (omega arith) h in
     record {
       re = omega (arith, unsigned_abs-mul z.re v.re, unsigned_abs-mul z.im v.im, abs-difference (z.re *ℤ v.re) (z.im *ℤ v.im));
       im = omega (arith, unsigned_abs-mul z.re v.im, unsigned_abs-mul z.im v.re, abs-sum (z.re *ℤ v.im) (z.im *ℤ v.re));
@@ -49,7 +49,7 @@ product-within z v m n p h =
 pub turned_product-within : (z : Cpx) (m x : ℕ) → IsWithin m z → IsWithin (m * 23170) (times z (conjugate (w_at x)))
 turned_product-within z m x p =
     let e = entry-le x in
-    let h : unsigned_abs (w_at x).re + unsigned_abs (neg_ℤ (w_at x).im) ≤ 23170 = omega (arith, ints) in
+    let h : nat_abs (w_at x).re + nat_abs (neg_ℤ (w_at x).im) ≤ 23170 = omega (arith, ints) in
     product-within z (conjugate (w_at x)) m 23170 p h
 
 -- ---- quartets

@@ -1,6 +1,6 @@
 //! The 72 sums by which a symbol is seen, folded by the symmetries of W.
 
-ghost use Rattle.std.specs.Prelude.{◌≡◌, ℕ, ◌+◌, ◌%◌, ◌^◌, ◌<◌, All, unsigned_abs};
+ghost use Rattle.std.specs.Prelude.{◌≡◌, ℕ, ◌+◌, ◌%◌, ◌^◌, ◌<◌, All, nat_abs};
 ghost use Rattle.cs_num.specs.Complex.{IsWithin, size, sample_at, minus};
 ghost use Rattle.cs_num.specs.Sums.{complex_sum_below};
 ghost use Rattle.fold128.specs.Spectrum.{spectrum};
@@ -112,7 +112,7 @@ fn less(a: Cpx, b: Cpx) -> Cpx
 
 // -j times a number.
 fn back(z: Cpx) -> Cpx
-    requires { unsigned_abs z.re < 2 ^ 63 }
+    requires { nat_abs z.re < 2 ^ 63 }
     ensures { result ≡ turned_back z }
 {
     Cpx {

@@ -5,7 +5,8 @@ use Rattle.std.proofs.lemmas.Nat.{xor_mod, and_mask}
 use Rattle.std.proofs.lemmas.Nat.Bits.{bit_at-suc, bit_at_lowest}
 use Rattle.finite.specs.Bits.{xor}
 use Rattle.finite.proofs.Bits.{xor-false, xor_assoc}
-use Rattle.gold.specs.Sequence.{sum_at, step, window, low_bits, x1_taps, x1_start, x2_taps, x2_start, x1, x2}
+use Rattle.gold.specs.Register.{sum_at, step, window, low_bits}
+use Rattle.gold.specs.Sequence.{x1_taps, x1_start, x2_taps, x2_start, x1, x2}
 use Rattle.gold.specs.Gold.{gold_bit}
 
 -- ---- the low bits of a number

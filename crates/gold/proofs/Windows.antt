@@ -1,7 +1,7 @@
 -- The windows of a sequence: what each bit of them is, and the recurrence.
 use Rattle.std.proofs.Common.{ℕ, zero, suc, ◌+◌, ◌<◌, ◌≡◌, Bool, false, List, [], ◌∷◌, ◌++◌, length, get_or, refl, ap, sym, ◌∙◌, arith, length-append, add-zero}
 use Rattle.std.proofs.lemmas.List.{get_or_append_left}
-use Rattle.gold.specs.Sequence.{sum_at, step, window}
+use Rattle.gold.specs.Register.{sum_at, step, window}
 
 length-step : (taps : List ℕ) (bits : List Bool) → length (step taps bits) ≡ length bits
 unfolding step

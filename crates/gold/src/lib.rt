@@ -1,12 +1,13 @@
-//! The pseudo-random sequence of length 31 (TS 36.211 section 7.2): the sum modulo 2 of the
-//! sequences x1 and x2 of two shift registers, from place 1600 on. It scrambles the channels' bits
-//! and makes the reference signals.
+//! The pseudo-random sequence c, a length-31 Gold sequence (TS 36.211 section 7.2): the sum modulo 2
+//! of the sequences x1 and x2 of two shift registers of 31 bits, from place 1600 on. Sums of two such
+//! sequences are named after R. Gold. c scrambles the channels' bits and makes the reference signals.
 #![tactic(auto)]
 
 ghost use Rattle.std.specs.Prelude.{◌≡◌, ◌+◌, ◌*◌, ◌/◌, ◌^◌, ◌<◌, ◌↔◌, ℕ, true, false, IsTrue, IsBitSet, length};
 ghost use Rattle.gold.specs.Gold.{gold_bit, gold_bits};
 ghost use Rattle.finite.specs.Bits.{xor};
-ghost use Rattle.gold.specs.Sequence.{step, low_bits, x1, x2, x1_taps, x2_taps};
+ghost use Rattle.gold.specs.Register.{step, low_bits};
+ghost use Rattle.gold.specs.Sequence.{x1, x2, x1_taps, x2_taps};
 
 // The register one place on, where this bit comes in.
 fn shift_in(register: u32, bit: u32) -> u32

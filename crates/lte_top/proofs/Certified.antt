@@ -1,6 +1,6 @@
 -- Certificates that are written one after the other.
 use Rattle.std.proofs.Common.{◌≡◌, ℕ, suc, ◌+◌, ◌*◌, ◌<◌, ◌≤◌, List, [], ◌∷◌, ◌++◌, length, take, drop, get_or, Option, Some, None, Bool, true, false, ◌-◌, ◌/◌, ◌%◌, pos, negsuc, ℤ, ◌*ℤ◌, refl, ap, sym, subst, ◌∙◌, inl, inr, arith, add-one, append-nil, length-append}
-use Rattle.std.specs.Prelude.{All, IfSome, nat_abs, neg_ℤ, int_div, cond, Result, Ok, Err, OnOk, OnErr}
+use Rattle.std.specs.Prelude.{IfSome, nat_abs, neg_ℤ, int_div, cond, Result, Ok, Err, OnOk, OnErr}
 use Rattle.std.proofs.Math.Seq.{take-suc}
 use Rattle.std.proofs.lemmas.List.{take-append-drop}
 use Rattle.std.proofs.lemmas.List.Elements.{Contains-append_right}
@@ -9,6 +9,7 @@ use Rattle.std.proofs.lemmas.Bool.{cases_lt}
 use Rattle.std.proofs.lemmas.Bool.Decides.{eqb_tells}
 use Rattle.std.specs.List.{flat_map, AllZip, Contains}
 use Rattle.std.proofs.lemmas.Grind.{flat_map-append}
+use Rattle.finite.specs.Sizes.{AllWithin}
 use Rattle.cs_num.specs.declared.Sample.{Sample}
 use Rattle.cs_outside.specs.Outside.{SinkTold}
 use Rattle.cs_outside.specs.Streams.{HasWritten, HasWrittenFront, IsShortOf}
@@ -114,7 +115,7 @@ values_fit : (slot : SeenSlot) (phase : ℕ) → Counted 40 IsTriple (coded_valu
 unfolding coded_values frame_values summed
 values_fit slot phase =
     let bits = values_below 480 (value slot phase) in
-    let small : All (λ z. nat_abs z ≤ 127) bits = λ i d inside.
+    let small : AllWithin 127 bits = λ i d inside.
     let below : i < 480 = omega (arith, inside, values_below-length 480 (value slot phase)) in
     rw (values_below_at (value slot phase) 480 i d below) (value_small slot phase i) in
     let whole = values_below-length 480 (value slot phase) in

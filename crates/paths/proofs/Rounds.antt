@@ -38,23 +38,3 @@ round_more next c far n s m m' known from = record {
     | inr h ↦ let z : s' ≡ s = omega arith in rw z (let h' = from.least bs size in let k = min-le_right m m' in omega (arith, h', k))
   ];
 }
-
--- a start state may be left out where the least cost from any state to it is, at the scale, above the least key so far
-pub round_skip : (next : ℕ → Bool → ℕ) (c : ℕ → ℕ → Bool → ℕ) (scale far n limit s m bound : ℕ) → s < limit → IsLeastRound next (keyed scale n c) far n s m →
-    IsLeastTo next c (λ y. 0) limit n s bound → m < bound * scale → m ≤ far → IsLeastRound next (keyed scale n c) far n (s + 1) m
-round_skip next c scale far n limit s m bound below known to above short = record {
-  reached = let (s', bs, below', size, e) = known.reached in (s', bs, omega arith, size, e);
-  least = λ s' bs below' size. elim (cases_lt s' s) [
-    | inl h ↦ known.least s' bs h size
-    | inr h ↦
-        let e : s' ≡ s = omega arith in
-        rw e (elim (eqb_tells (end_of next s bs) s) [
-          | inl (t, back) ↦
-              let low = to.least s bs below size back in
-              let times : bound * scale ≤ path_cost next c 0 s bs * scale = mul-le-mul_right scale (omega (arith, low)) in
-              let key = path_cost-keyed next scale n c 0 s bs (omega (arith, size)) in
-              omega (arith, times, key, above)
-          | inr (f, away) ↦ let is_far : ends_in far s (end_of next s bs) ≡ far = ends_in_other far s _ f in omega (arith, is_far, short)
-        ])
-  ];
-}

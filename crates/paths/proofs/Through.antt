@@ -34,14 +34,6 @@ least_split next c starts ends before limit k n b m closed to via = record {
       omega (arith, h, h_to, h_from, split, ends_is);
 }
 
--- over the first state alone
-pub via_first : (next : ℕ → Bool → ℕ) (edge : ℕ → Bool → ℕ) (before after : ℕ → ℕ) (b : Bool) (v : ℕ) →
-    v ≡ before 0 + edge 0 b + after (next 0 b) → IsLeastVia next edge before after b 1 v
-via_first next edge before after b v is = record {
-  reached = (0, omega arith, sym is);
-  least = λ y below. let e : y ≡ 0 = omega arith in rw (e, ← is) (omega arith);
-}
-
 -- over one more state
 pub via_more : (next : ℕ → Bool → ℕ) (edge : ℕ → Bool → ℕ) (before after : ℕ → ℕ) (b : Bool) (x m v : ℕ) → IsLeastVia next edge before after b x m →
     v ≡ before x + edge x b + after (next x b) → IsLeastVia next edge before after b (x + 1) (min m v)

@@ -1,6 +1,7 @@
 //! The soft values of the broadcast channel.
 
-ghost use Rattle.std.specs.Prelude.{◌≡◌, ℕ, ◌+◌, ◌*◌, ◌^◌, ◌<◌, ◌≤◌, All, nat_abs, cond, neg_ℤ, length};
+ghost use Rattle.std.specs.Prelude.{◌≡◌, ℕ, ◌+◌, ◌*◌, ◌^◌, ◌<◌, ◌≤◌, nat_abs, cond, neg_ℤ, length};
+ghost use Rattle.finite.specs.Sizes.{AllWithin, RowsWithin};
 ghost use Rattle.gold.specs.Gold.{gold_bits};
 ghost use Rattle.pbch.specs.Values.{seen_value, frame_values, coded_values};
 
@@ -16,7 +17,7 @@ pub fn values(slot: &Slot, phase: u8) -> [[i32; 3]; 40]
     requires number { slot.now.number ≡ 1 }
     requires phase { phase < 4 }
     ensures values { result ≡ coded_values slot.now phase }
-    ensures sizes { All (λ place. All (λ sum. nat_abs sum ≤ 508) place) result }
+    ensures sizes { RowsWithin 508 result }
 {
     combine(&received(slot, phase))
 }
@@ -26,7 +27,7 @@ fn received(slot: &Slot, phase: u8) -> [i16; 480]
     requires { phase < 4 }
     ensures values { result ≡ frame_values slot.now phase }
     ensures whole { length result ≡ 480 }
-    ensures sizes { All (λ value. nat_abs value ≤ 127) result }
+    ensures sizes { AllWithin 127 result }
 {
     let scrambling = scrambling(slot.id());
     let mut values = [0; 480];

@@ -1,6 +1,7 @@
 //! The master block of a slot.
 
-ghost use Rattle.std.specs.Prelude.{◌≡◌, ℕ, ◌*◌, ◌^◌, ◌<◌, ◌≤◌, All, nat_abs, length, slice_index_or, pos, MatchOption};
+ghost use Rattle.std.specs.Prelude.{◌≡◌, ℕ, ◌*◌, ◌^◌, ◌<◌, ◌≤◌, nat_abs, length, slice_index_or, pos, MatchOption};
+ghost use Rattle.finite.specs.Sizes.{AllWithin, RowsWithin};
 ghost use Rattle.finite.specs.Sums.{total_below};
 ghost use Rattle.pbch.specs.Master.{total, IsMaster, HasNoMaster};
 
@@ -33,7 +34,7 @@ pub fn explain_slot(slot: &Slot, phase: u8, work: &mut Trellis) -> Option<Master
 
 // The sum of the sizes of the three values of a place.
 fn size_of(place: &[i32; 3]) -> u32
-    requires { All (λ sum. nat_abs sum ≤ 508) place.now }
+    requires { AllWithin 508 place.now }
     ensures value { result ≡ total_below 3 (λ t. nat_abs (slice_index_or place.now t (pos 0))) }
     ensures bound { result ≤ 3 * 508 }
 {
@@ -42,7 +43,7 @@ fn size_of(place: &[i32; 3]) -> u32
 
 // The sum of the sizes of all values.
 fn total_of(values: &[[i32; 3]; 40]) -> u32
-    requires { All (λ place. All (λ sum. nat_abs sum ≤ 508) place) values.now }
+    requires { RowsWithin 508 values.now }
     ensures { result ≡ total values.now }
 {
     let mut total = 0;

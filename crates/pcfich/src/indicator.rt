@@ -1,6 +1,7 @@
 //! The indicator that the values tell.
 
-ghost use Rattle.std.specs.Prelude.{◌≡◌, ℕ, ◌*◌, ◌<◌, ◌≤◌, ℤ, List, All, nat_abs, nat_le, ◌&&◌, length, if◌then◌else◌};
+ghost use Rattle.std.specs.Prelude.{◌≡◌, ℕ, ◌*◌, ◌<◌, ◌≤◌, ℤ, List, nat_le, ◌&&◌, length, if◌then◌else◌};
+ghost use Rattle.finite.specs.Sizes.{AllWithin};
 ghost use Rattle.pcfich.specs.Values.{indicator_values};
 ghost use Rattle.pcfich.specs.Indicator.{code_bit, cost, IsIndicator, Speak};
 
@@ -41,7 +42,7 @@ fn least_of(first: u32, second: u32, third: u32) -> u8
 // What an indicator costs.
 fn cost_of(values: &[i16; 32], indicator: usize) -> u32
     requires some { 1 ≤ indicator }
-    requires sizes { All (λ value. nat_abs value ≤ 127) values.now }
+    requires sizes { AllWithin 127 values.now }
     ensures { result ≡ cost values.now indicator }
 {
     let mut cost = 0;

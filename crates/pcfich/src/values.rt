@@ -1,6 +1,7 @@
 //! The soft values of the channel.
 
-ghost use Rattle.std.specs.Prelude.{◌≡◌, ℕ, ◌+◌, ◌*◌, ◌^◌, ◌<◌, ◌≤◌, All, nat_abs, cond, neg_ℤ, length};
+ghost use Rattle.std.specs.Prelude.{◌≡◌, ℕ, ◌+◌, ◌*◌, ◌^◌, ◌<◌, ◌≤◌, nat_abs, cond, neg_ℤ, length};
+ghost use Rattle.finite.specs.Sizes.{AllWithin};
 ghost use Rattle.gold.specs.Gold.{gold_bits};
 ghost use Rattle.pcfich.specs.Values.{point_place, seen_value, c_init, indicator_values};
 
@@ -13,7 +14,7 @@ pub(crate) fn received(slot: &Slot) -> [i16; 32]
     requires { slot.now.number ≡ 10 }
     ensures values { result ≡ indicator_values slot.now }
     ensures whole { length result ≡ 32 }
-    ensures sizes { All (λ value. nat_abs value ≤ 127) result }
+    ensures sizes { AllWithin 127 result }
 {
     let scrambling = scrambling(slot.id());
     let mut values = [0; 32];

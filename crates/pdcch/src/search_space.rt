@@ -1,6 +1,7 @@
 //! The values of the candidate.
 
 ghost use Rattle.std.specs.Prelude.{◌≡◌, ℕ, ◌+◌, ◌*◌, ◌/◌, ◌%◌, ◌^◌, ◌<◌, ◌≤◌, All, IfSome, IsTrue, MatchOption, nat_abs, cond, neg_ℤ, length, slice_index_or};
+ghost use Rattle.finite.specs.Sizes.{AllWithin};
 ghost use Rattle.gold.specs.Gold.{gold_bits};
 ghost use Rattle.finite.specs.Lists.{values_below};
 ghost use Rattle.grid_map.specs.Place.{place};
@@ -30,7 +31,7 @@ pub fn candidate(slot: &Slot, cfi: Cfi, mib: Mib) -> Option<[i16; 288]>
         (element_count cfi mib.duration mib.resource < 4)
         (λ values. (4 ≤ element_count cfi mib.duration mib.resource)
         × (values ≡ candidate_values slot.now cfi mib.duration mib.resource)) }
-    ensures sizes { IfSome result (λ values. All (λ value. nat_abs value ≤ 127) values) }
+    ensures sizes { IfSome result (λ values. AllWithin 127 values) }
 {
     let groups = pdcch(slot.id(), cfi, mib);
     if groups.len() < 4 * 9 {
@@ -46,7 +47,7 @@ fn stream(slot: &Slot, groups: &[Reg]) -> [i16; 288]
     requires enough { 36 ≤ length groups.now }
     requires inside { All (λ g. IsTrue (is_group g)) groups.now }
     ensures values { result ≡ stream_values slot.now groups.now }
-    ensures sizes { All (λ value. nat_abs value ≤ 127) result }
+    ensures sizes { AllWithin 127 result }
 {
     let carriers = carriers(slot.id(), groups.len() as u8);
     let scrambling = scrambling(slot.id());

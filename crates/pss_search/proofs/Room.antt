@@ -4,10 +4,10 @@ use Rattle.std.specs.Prelude.{if◌then◌else◌}
 use Rattle.cs_num.specs.declared.Sample.{Sample}
 use Rattle.lte_types.specs.declared.Hit.{Hit}
 use Rattle.finite.specs.Sums.{total_below}
-use Rattle.finite.specs.Tests.{count_below}
+use Rattle.finite.proofs.Counts.{count_below}
 use Rattle.finite.specs.Lists.{joined_below}
 use Rattle.finite.proofs.Lists.{joined_below_more}
-use Rattle.finite.proofs.Tests.{count_below_more}
+use Rattle.finite.proofs.Counts.{count_below_more}
 use Rattle.finite.proofs.Sums.{total_below_none}
 use Rattle.pss_search.specs.Hits.{so_far, found, is_hit, hit_at, hits_at, hits_before}
 use Rattle.pss_search.specs.Laws.{ListIsShort}

@@ -1,7 +1,7 @@
 -- Tests of which two numbers that pass stand at least a step apart: at most one number in a step passes.
 use Rattle.std.proofs.Common.{◌≡◌, ℕ, zero, suc, ◌+◌, ◌-◌, ◌*◌, ◌<◌, ◌≤◌, arith, refl, ap, sym, ◌∙◌, Bool, true, false}
-use Rattle.finite.specs.Tests.{count_below}
-use Rattle.finite.proofs.Tests.{count_below_none, count_below_more}
+use Rattle.finite.proofs.Counts.{count_below}
+use Rattle.finite.proofs.Counts.{count_below_none, count_below_more}
 
 -- two numbers that pass are at least ten apart
 abbrev pub IsSparse : (ℕ → Bool) → Type 0

@@ -1,6 +1,6 @@
 -- The samples that bytes stand for.
 use Rattle.std.proofs.Common.{◌≡◌, ℕ, suc, ◌+◌, ◌-◌, ◌*◌, ◌/◌, ◌%◌, ◌<◌, ◌≤◌, arith, refl, ap, ◌∙◌, List, [], ◌∷◌, ◌++◌, length, ℤ, pos, negsuc}
-use Rattle.std.specs.Prelude.{All, unsigned_abs}
+use Rattle.std.specs.Prelude.{All, nat_abs}
 use Rattle.std.specs.Int.{w16, cast_unsigned}
 use Rattle.std.proofs.lemmas.Int.{ints}
 use Rattle.std.proofs.lemmas.Bool.Decides.{nat_tests}
@@ -34,7 +34,7 @@ high : (m : ℕ) → m < 32768 → twos_complement 2 (65536 - suc m) ≡ negsuc 
 high m below = grind (arith, ints, nat_tests)
 
 -- a component is the one of its bytes
-component_back : (z : ℤ) → unsigned_abs z ≤ 32767 → component_of (cast_unsigned w16 z % 256) (cast_unsigned w16 z / 256 % 256) ≡ z
+component_back : (z : ℤ) → nat_abs z ≤ 32767 → component_of (cast_unsigned w16 z % 256) (cast_unsigned w16 z / 256 % 256) ≡ z
 component_back (pos n) small = ap (twos_complement 2) (two_bytes n (omega (arith, small))) ∙ low n (omega (arith, small))
 component_back (negsuc m) small = ap (twos_complement 2) (two_bytes (65536 - suc m) (omega (arith, small))) ∙ high m (omega (arith, small))
 

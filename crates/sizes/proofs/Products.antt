@@ -1,7 +1,8 @@
 -- What the product of two received numbers is off by, in units of the gain: one is the gain times a number, the other a multiple of
 -- the gain, and each has an error.
-use Rattle.std.proofs.Common.{◌≡◌, ℕ, ◌+◌, ◌*◌, ◌≤◌, ℤ, pos, ◌-ℤ◌, ◌*ℤ◌, unsigned_abs, ap, ap₂, sym, ◌∙◌, subst, arith, mul-le-mul_left}
+use Rattle.std.proofs.Common.{◌≡◌, ℕ, ◌+◌, ◌*◌, ◌≤◌, ℤ, pos, ◌-ℤ◌, ◌*ℤ◌, ap, ap₂, sym, ◌∙◌, subst, arith, mul-le-mul_left}
 use Rattle.std.proofs.lemmas.Int.{unsigned_abs-mul}
+use Rattle.std.specs.Prelude.{nat_abs}
 use Rattle.finite.proofs.Ring.{var, lit, same}
 use Rattle.finite.proofs.Ring as ring
 use Rattle.cs_num.specs.declared.Cpx.{Cpx}
@@ -74,7 +75,7 @@ product_near g a d h c m s t small p q =
 
 -- ---- signs
 
-square_of_sign : (s : ℤ) → unsigned_abs s ≡ 1 → s *ℤ s ≡ pos 1
+square_of_sign : (s : ℤ) → nat_abs s ≡ 1 → s *ℤ s ≡ pos 1
 square_of_sign s e = abs_square s ∙ ap pos (ap₂ (λ m n. m * n) e e)
 
 spread : (s z x : ℤ) → s *ℤ (z -ℤ x *ℤ s) ≡ s *ℤ z -ℤ s *ℤ s *ℤ x
@@ -88,10 +89,10 @@ pub one-times : (x : ℤ) → pos 1 *ℤ x ≡ x
 one-times x = same (ring.times (lit 1) (var x)) (var x) (omega arith)
 
 -- where z is near x times a sign, the sign times z is near x
-pub sign-turns : (s z x : ℤ) (k : ℕ) → unsigned_abs s ≡ 1 → unsigned_abs (z -ℤ x *ℤ s) ≤ k → unsigned_abs (s *ℤ z -ℤ x) ≤ k
+pub sign-turns : (s z x : ℤ) (k : ℕ) → nat_abs s ≡ 1 → nat_abs (z -ℤ x *ℤ s) ≤ k → nat_abs (s *ℤ z -ℤ x) ≤ k
 sign-turns s z x k unit h =
     let e : s *ℤ (z -ℤ x *ℤ s) ≡ s *ℤ z -ℤ x = spread s z x ∙ ap (λ y. s *ℤ z -ℤ y) (ap (λ y. y *ℤ x) (square_of_sign s unit) ∙ one-times x) in
-    subst (λ y. unsigned_abs y ≤ k) e (kept (unsigned_abs (s *ℤ (z -ℤ x *ℤ s))) (unsigned_abs s) (unsigned_abs (z -ℤ x *ℤ s)) (unsigned_abs-mul s (z -ℤ x *ℤ s)) unit h)
+    subst (λ y. nat_abs y ≤ k) e (kept (nat_abs (s *ℤ (z -ℤ x *ℤ s))) (nat_abs s) (nat_abs (z -ℤ x *ℤ s)) (unsigned_abs-mul s (z -ℤ x *ℤ s)) unit h)
   where
     kept : (a b c : ℕ) → a ≡ b * c → b ≡ 1 → c ≤ k → a ≤ k
     kept a b c e f l = let g : b * c ≡ 1 * c = ap (λ m. m * c) f in omega (arith, e, g, l)

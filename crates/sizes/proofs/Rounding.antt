@@ -1,6 +1,7 @@
 -- What rounding takes off a number.
-use Rattle.std.proofs.Common.{◌≡◌, ℕ, ◌-◌, ◌*◌, ◌^◌, ◌<◌, ◌≤◌, ℤ, pos, negsuc, ◌+ℤ◌, ◌-ℤ◌, ◌*ℤ◌, ◌≤ℤ◌, ◌<ℤ◌, unsigned_abs, arith}
+use Rattle.std.proofs.Common.{◌≡◌, ℕ, ◌-◌, ◌*◌, ◌^◌, ◌<◌, ◌≤◌, ℤ, pos, negsuc, ◌+ℤ◌, ◌-ℤ◌, ◌*ℤ◌, ◌≤ℤ◌, ◌<ℤ◌, arith}
 use Rattle.std.proofs.lemmas.Int.{ints}
+use Rattle.std.specs.Prelude.{nat_abs}
 use Rattle.cs_num.specs.declared.Cpx.{Cpx}
 use Rattle.cs_num.specs.Complex.{IsWithin, minus, multiple}
 use Rattle.cs_num.specs.Rounding.{floor_div, rounded}
@@ -13,7 +14,7 @@ floor_high : (z : ℤ) (m : ℕ) → 0 < m → z <ℤ (floor_div z m *ℤ pos m 
 floor_high (pos a) m h = omega (arith, ints)
 floor_high (negsuc a) m h = omega (arith, ints)
 
-part_near : (z : ℤ) (h : ℕ) → 0 < h → unsigned_abs (pos (2 * h) *ℤ floor_div (z +ℤ pos h) (2 * h) -ℤ z) ≤ h
+part_near : (z : ℤ) (h : ℕ) → 0 < h → nat_abs (pos (2 * h) *ℤ floor_div (z +ℤ pos h) (2 * h) -ℤ z) ≤ h
 part_near z h p =
     let low = floor_low (z +ℤ pos h) (2 * h) (omega arith) in
     let high = floor_high (z +ℤ pos h) (2 * h) (omega arith) in

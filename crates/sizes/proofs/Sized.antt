@@ -1,5 +1,6 @@
 -- Sizes in units of a gain.
-use Rattle.std.proofs.Common.{◌≡◌, ℕ, zero, suc, ◌+◌, ◌*◌, ◌<◌, ◌≤◌, unsigned_abs, arith, mul-le-mul, mul-le-mul_left, mul-le-mul_right}
+use Rattle.std.proofs.Common.{◌≡◌, ℕ, zero, suc, ◌+◌, ◌*◌, ◌<◌, ◌≤◌, arith, mul-le-mul, mul-le-mul_left, mul-le-mul_right}
+use Rattle.std.specs.Prelude.{nat_abs}
 use Rattle.finite.specs.Sums.{sum_below}
 use Rattle.cs_num.specs.declared.Cpx.{Cpx}
 use Rattle.cs_num.specs.Complex.{plus, times, conjugate, square}
@@ -69,8 +70,8 @@ rooted : (a n s : ℕ) → s ≤ a * a * (n * n) → s ≤ (a * n) * (a * n)
 rooted a n s h = omega (arith, h)
 
 -- where the unit is itself a square, the components have a bound
-pub sized_re : (z : Cpx) (a n : ℕ) → IsSized a (n * n) z → unsigned_abs z.re ≤ a * n
+pub sized_re : (z : Cpx) (a n : ℕ) → IsSized a (n * n) z → nat_abs z.re ≤ a * n
 sized_re z a n p = re-le z (a * n) (rooted a n (square z) p.sized)
 
-pub sized_im : (z : Cpx) (a n : ℕ) → IsSized a (n * n) z → unsigned_abs z.im ≤ a * n
+pub sized_im : (z : Cpx) (a n : ℕ) → IsSized a (n * n) z → nat_abs z.im ≤ a * n
 sized_im z a n p = im-le z (a * n) (rooted a n (square z) p.sized)

@@ -1,6 +1,7 @@
 -- The size of a sum of two terms.
-use Rattle.std.proofs.Common.{◌≡◌, ℕ, ◌+◌, ◌*◌, ◌≤◌, ℤ, pos, ◌+ℤ◌, ◌*ℤ◌, unsigned_abs, arith, mul-le-mul, mul-le-mul_left}
+use Rattle.std.proofs.Common.{◌≡◌, ℕ, ◌+◌, ◌*◌, ◌≤◌, ℤ, pos, ◌+ℤ◌, ◌*ℤ◌, arith, mul-le-mul, mul-le-mul_left}
 use Rattle.std.proofs.lemmas.Int.{ints}
+use Rattle.std.specs.Prelude.{nat_abs}
 use Rattle.cs_num.specs.declared.Cpx.{Cpx}
 use Rattle.cs_num.specs.Complex.{plus, square}
 use Rattle.sizes.specs.Sizes.{inner}
@@ -14,7 +15,7 @@ two_terms s x y i a b c d h k p q =
 
 -- Cauchy's inequality for two terms: |x|^2 ≤ a b and |y|^2 ≤ c d, so |x + y|^2 ≤ (a + c) (b + d)
 pub two_term_cauchy : (x y : Cpx) (a b c d : ℕ) → square x ≤ a * b → square y ≤ c * d → square (plus x y) ≤ (a + c) * (b + d)
-two_term_cauchy x y a b c d p q = two_terms (square (plus x y)) (square x) (square y) (unsigned_abs (inner x y)) a b c d (square-plus_le x y) (inner-le x y) p q
+two_term_cauchy x y a b c d p q = two_terms (square (plus x y)) (square x) (square y) (nat_abs (inner x y)) a b c d (square-plus_le x y) (inner-le x y) p q
 
 weights : (m x y i : ℕ) → i * i ≤ x * y → 2 * (m * i) ≤ x + m * m * y
 weights m x y i h = root-le _ _ (omega (arith, scaled, means-le x (m * m * y)))
@@ -29,13 +30,13 @@ weighted_sum m s x y i h k =
 
 -- m |x + y|^2 ≤ (m + 1) |x|^2 + m (m + 1) |y|^2, since the difference is |x - m y|^2
 pub weighted : (m : ℕ) (x y : Cpx) → m * square (plus x y) ≤ (m + 1) * square x + m * (m + 1) * square y
-weighted m x y = weighted_sum m (square (plus x y)) (square x) (square y) (unsigned_abs (inner x y)) (square-plus_le x y) (inner-le x y)
+weighted m x y = weighted_sum m (square (plus x y)) (square x) (square y) (nat_abs (inner x y)) (square-plus_le x y) (inner-le x y)
 
-weighted_less : (m s x y : ℕ) (i : ℤ) → pos s ≡ pos x +ℤ pos y +ℤ pos 2 *ℤ i → unsigned_abs i * unsigned_abs i ≤ x * y → m * x ≤ (m + 1) * s + m * (m + 1) * y
+weighted_less : (m s x y : ℕ) (i : ℤ) → pos s ≡ pos x +ℤ pos y +ℤ pos 2 *ℤ i → nat_abs i * nat_abs i ≤ x * y → m * x ≤ (m + 1) * s + m * (m + 1) * y
 weighted_less m s x y i e k =
-    let low : x + y ≤ s + 2 * unsigned_abs i = omega (arith, ints) in
-    let t : (m + 1) * (x + y) ≤ (m + 1) * (s + 2 * unsigned_abs i) = mul-le-mul_left (m + 1) low in
-    let w : 2 * ((m + 1) * unsigned_abs i) ≤ x + (m + 1) * (m + 1) * y = weights (m + 1) x y (unsigned_abs i) k in
+    let low : x + y ≤ s + 2 * nat_abs i = omega (arith, ints) in
+    let t : (m + 1) * (x + y) ≤ (m + 1) * (s + 2 * nat_abs i) = mul-le-mul_left (m + 1) low in
+    let w : 2 * ((m + 1) * nat_abs i) ≤ x + (m + 1) * (m + 1) * y = weights (m + 1) x y (nat_abs i) k in
     omega (arith, t, w)
 
 -- the same for a term of the sum: m |x|^2 ≤ (m + 1) |x + y|^2 + m (m + 1) |y|^2

@@ -1,6 +1,7 @@
 -- Sizes of what was seen and sent at the pilots.
-use Rattle.std.proofs.Common.{ℕ, ◌*◌, ◌^◌, ◌≤◌, ◌/◌, arith, inl, inr, List, [], ◌∷◌, All, get_or, slice_index_or, ℤ, unsigned_abs, zero, suc}
+use Rattle.std.proofs.Common.{ℕ, ◌*◌, ◌^◌, ◌≤◌, ◌/◌, arith, inl, inr, List, [], ◌∷◌, All, get_or, slice_index_or, ℤ, zero, suc}
 use Rattle.std.proofs.lemmas.List.Elements.{All-nil, All-head, All-tail}
+use Rattle.std.specs.Prelude.{nat_abs}
 use Rattle.cs_num.specs.Complex.{IsWithin, nothing, conjugate, square}
 use Rattle.cs_num.proofs.Complex.{times-within, conjugate-within, square-within}
 use Rattle.finite.proofs.Sums.{total_below-within}
@@ -15,7 +16,7 @@ all_at P [] i d base all = base
 all_at P (x ∷ xs) zero d base all = All-head P x xs all
 all_at P (x ∷ xs) (suc i) d base all = all_at P xs i d base (All-tail P x xs all)
 
-full_within : (z : ℤ) → IsFull z → unsigned_abs z ≤ 90
+full_within : (z : ℤ) → IsFull z → nat_abs z ≤ 90
 full_within z (inl e) = rw e (omega arith)
 full_within z (inr e) = rw e (omega arith)
 

@@ -1,6 +1,7 @@
 //! The soft values of a place.
 
-ghost use Rattle.std.specs.Prelude.{◌≡◌, ℕ, ◌*◌, ◌^◌, ◌<◌, ◌≤◌, All, unsigned_abs};
+ghost use Rattle.std.specs.Prelude.{◌≡◌, ℕ, ◌*◌, ◌^◌, ◌<◌, ◌≤◌, nat_abs};
+ghost use Rattle.finite.specs.Sizes.{AllWithin};
 ghost use Rattle.soft_bits.specs.Soft.{soft_value, soft_values};
 
 use crate::Slot;
@@ -14,7 +15,7 @@ pub fn soft(slot: &Slot, symbol: u8, k: u8) -> [i16; 2]
     requires symbol { symbol < 7 }
     requires k { k < 72 }
     ensures values { result ≡ soft_values slot.now symbol k }
-    ensures range { All (λ value. unsigned_abs value ≤ 127) result }
+    ensures range { AllWithin 127 result }
 {
     let value = slot.seen(symbol, k).mul(slot.channel(k).conj());
     let energy = slot.energy();
@@ -24,10 +25,10 @@ pub fn soft(slot: &Slot, symbol: u8, k: u8) -> [i16; 2]
 // The soft value of a component.
 #[tactic(auto, using(std::proofs::lemmas::Bool::Decides::nat_tests))]
 fn value_of(component: i64, energy: u64) -> i16
-    requires component { unsigned_abs component ≤ 1080 * 2 ^ 50 }
+    requires component { nat_abs component ≤ 1080 * 2 ^ 50 }
     requires energy { energy ≤ 24 * 2 ^ 51 }
     ensures value { result ≡ soft_value component energy }
-    ensures range { unsigned_abs result ≤ 127 }
+    ensures range { nat_abs result ≤ 127 }
 {
     if energy == 0 {
         0

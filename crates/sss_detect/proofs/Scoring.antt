@@ -1,8 +1,10 @@
 -- Scores by way of lists, sizes of agreements, and what a hit is scored by.
-use Rattle.std.proofs.Common.{◌≡◌, ℕ, ◌+◌, ◌-◌, ◌*◌, ◌^◌, ◌<◌, ◌≤◌, All, length, arith, refl, ap, ◌∙◌, List, ℤ, pos, ◌+ℤ◌, ◌*ℤ◌, unsigned_abs, slice_index_or}
+use Rattle.std.proofs.Common.{◌≡◌, ℕ, ◌+◌, ◌-◌, ◌*◌, ◌^◌, ◌<◌, ◌≤◌, All, length, arith, refl, ap, ◌∙◌, List, ℤ, pos, ◌+ℤ◌, ◌*ℤ◌, slice_index_or}
 use Rattle.std.proofs.Math.Path.{fun_ext}
 use Rattle.std.proofs.lemmas.Int.{unsigned_abs-mul}
 use Rattle.std.proofs.lemmas.List.Elements.{All-get_or, All-from_get_or}
+use Rattle.std.specs.Prelude.{nat_abs}
+use Rattle.finite.specs.Sizes.{AllWithin}
 use Rattle.finite.proofs.Sums.{sum_below_same, sum_below-within, sum_below_more}
 use Rattle.finite.specs.Lists.{values_below}
 use Rattle.finite.proofs.Lists.{values_below_at, values_below-length}
@@ -69,20 +71,20 @@ pub signed_sum_more : (signs numbers : List ℤ) (n : ℕ) →
 unfolding signed_sum
 signed_sum_more signs numbers n = sum_below_more n (λ k. slice_index_or signs k (pos 0) *ℤ slice_index_or numbers k (pos 0))
 
-pub signed_sum-size : (signs numbers : List ℤ) (n : ℕ) → All (λ x. unsigned_abs x ≡ 1) signs → All (λ x. unsigned_abs x ≤ 2 ^ 59) numbers →
-    n ≤ length signs → n ≤ length numbers → unsigned_abs (signed_sum signs numbers n) ≤ n * 2 ^ 59
+pub signed_sum-size : (signs numbers : List ℤ) (n : ℕ) → All (λ x. nat_abs x ≡ 1) signs → AllWithin (2 ^ 59) numbers →
+    n ≤ length signs → n ≤ length numbers → nat_abs (signed_sum signs numbers n) ≤ n * 2 ^ 59
 unfolding signed_sum
 signed_sum-size signs numbers n p q l m = sum_below-within n (2 ^ 59) (λ k. slice_index_or signs k (pos 0) *ℤ slice_index_or numbers k (pos 0)) (λ k below.
-    let one = All-get_or (λ x. unsigned_abs x ≡ 1) signs k (pos 0) (omega arith) p in
-    let small = All-get_or (λ x. unsigned_abs x ≤ 2 ^ 59) numbers k (pos 0) (omega arith) q in
+    let one = All-get_or (λ x. nat_abs x ≡ 1) signs k (pos 0) (omega arith) p in
+    let small = All-get_or (λ x. nat_abs x ≤ 2 ^ 59) numbers k (pos 0) (omega arith) q in
     rw (unsigned_abs-mul (slice_index_or signs k (pos 0)) (slice_index_or numbers k (pos 0)), one) (omega arith))
 
 -- the values of a sequence are signs
-pub signs_of : (n1 n2 : ℕ) (half : Half) → All (λ x. unsigned_abs x ≡ 1) (sss_list n1 n2 half)
+pub signs_of : (n1 n2 : ℕ) (half : Half) → All (λ x. nat_abs x ≡ 1) (sss_list n1 n2 half)
 unfolding sss_list
-signs_of n1 n2 half = All-from_get_or (λ x. unsigned_abs x ≡ 1) (values_below 62 (sss_at n1 n2 half)) (pos 0) (λ k l.
+signs_of n1 n2 half = All-from_get_or (λ x. nat_abs x ≡ 1) (values_below 62 (sss_at n1 n2 half)) (pos 0) (λ k l.
     let below : k < 62 = omega (arith, values_below-length 62 (sss_at n1 n2 half)) in
-    ap unsigned_abs (values_below_at (sss_at n1 n2 half) 62 k (pos 0) below) ∙ sss-size n1 n2 half k)
+    ap nat_abs (values_below_at (sss_at n1 n2 half) 62 k (pos 0) below) ∙ sss-size n1 n2 half k)
 
 pub agreement-size : (primary secondary value : Cpx) → IsWithin 33554432 primary → IsWithin 33554432 secondary → IsWithin 127 value →
     IsWithin (2 ^ 59) (times secondary (conjugate (times primary (conjugate value))))

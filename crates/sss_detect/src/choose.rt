@@ -1,6 +1,7 @@
 //! The choice of a group and a half.
 
-ghost use Rattle.std.specs.Prelude.{◌≡◌, ◌^◌, ◌≤◌, All, unsigned_abs, int_lt, if◌then◌else◌};
+ghost use Rattle.std.specs.Prelude.{◌≡◌, ◌^◌, ◌≤◌, All, int_lt, if◌then◌else◌};
+ghost use Rattle.finite.specs.Sizes.{AllWithin};
 ghost use Rattle.cs_num.specs.Complex.{IsWithin, value_at};
 ghost use Rattle.sss_detect.specs.Scores.{score, score_by};
 ghost use Rattle.sss_detect.specs.Identity.{IsBest, best_group, best_pair};
@@ -33,7 +34,7 @@ pub fn best(pss_seen: &[Cpx; 72], sss_seen: &[Cpx; 72], n2: u8) -> (u16, Half)
 
 // The best pair that agreements give.
 fn best_by(agreements: &[i64; 62], n2: u8) -> (u16, Half)
-    requires small { All (λ x. unsigned_abs x ≤ 2 ^ 59) agreements.now }
+    requires small { AllWithin (2 ^ 59) agreements.now }
     requires member { n2 ≤ 2 }
     ensures { result ≡ best_pair (score_by agreements.now n2) }
 {
@@ -48,7 +49,7 @@ fn best_by(agreements: &[i64; 62], n2: u8) -> (u16, Half)
 
 // The best group of a half.
 fn best_of_half(agreements: &[i64; 62], n2: u8, half: Half) -> Candidate
-    requires small { All (λ x. unsigned_abs x ≤ 2 ^ 59) agreements.now }
+    requires small { AllWithin (2 ^ 59) agreements.now }
     requires member { n2 ≤ 2 }
     ensures group { result.n1 ≡ best_group (score_by agreements.now n2) half }
     ensures score { result.score ≡ score_by agreements.now n2 result.n1 half }
@@ -62,7 +63,7 @@ fn best_of_half(agreements: &[i64; 62], n2: u8, half: Half) -> Candidate
 
 // A group with the score that agreements give it.
 fn scored(agreements: &[i64; 62], n1: u16, n2: u8, half: Half) -> Candidate
-    requires small { All (λ x. unsigned_abs x ≤ 2 ^ 59) agreements.now }
+    requires small { AllWithin (2 ^ 59) agreements.now }
     requires group { n1 ≤ 167 }
     requires member { n2 ≤ 2 }
     ensures group { result.n1 ≡ n1 }

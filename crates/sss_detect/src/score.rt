@@ -1,6 +1,7 @@
 //! Scores of secondary sequences.
 
-ghost use Rattle.std.specs.Prelude.{◌≡◌, ◌+◌, ◌^◌, ◌<◌, ◌≤◌, All, pos, ◌*ℤ◌, unsigned_abs, slice_index_or};
+ghost use Rattle.std.specs.Prelude.{◌≡◌, ◌+◌, ◌^◌, ◌<◌, ◌≤◌, All, pos, ◌*ℤ◌, nat_abs, slice_index_or};
+ghost use Rattle.finite.specs.Sizes.{AllWithin};
 ghost use Rattle.cs_num.specs.Complex.{IsWithin, times, conjugate, value_at};
 ghost use Rattle.sss_detect.specs.Scores.{agreement, agreements_of, signed_sum, score_by};
 
@@ -14,7 +15,7 @@ pub(crate) fn agreements(primary: &[Cpx; 72], secondary: &[Cpx; 72], n2: u8) -> 
     requires primary { All (IsWithin (2 ^ 25)) primary.now }
     requires secondary { All (IsWithin (2 ^ 25)) secondary.now }
     ensures value { result ≡ agreements_of (value_at primary.now) (value_at secondary.now) n2 }
-    ensures small { All (λ x. unsigned_abs x ≤ 2 ^ 59) result }
+    ensures small { AllWithin (2 ^ 59) result }
 {
     let values = pss(n2);
     let mut out = [0; 62];
@@ -30,7 +31,7 @@ fn agree(primary: Cpx, secondary: Cpx, value: Cpx) -> i64
     requires secondary { IsWithin (2 ^ 25) secondary }
     requires value { IsWithin 127 value }
     ensures value { result ≡ (times secondary (conjugate (times primary (conjugate value)))).re }
-    ensures small { unsigned_abs result ≤ 2 ^ 59 }
+    ensures small { nat_abs result ≤ 2 ^ 59 }
 {
     let channel = primary.mul(value.conj());
     secondary.mul(channel.conj()).re
@@ -38,7 +39,7 @@ fn agree(primary: Cpx, secondary: Cpx, value: Cpx) -> i64
 
 // The score of a group and a half.
 pub(crate) fn score_of(agreements: &[i64; 62], n1: u16, n2: u8, half: Half) -> i128
-    requires small { All (λ x. unsigned_abs x ≤ 2 ^ 59) agreements.now }
+    requires small { AllWithin (2 ^ 59) agreements.now }
     requires group { n1 ≤ 167 }
     requires member { n2 ≤ 2 }
     ensures { result ≡ score_by agreements.now n2 n1 half }
@@ -48,8 +49,8 @@ pub(crate) fn score_of(agreements: &[i64; 62], n1: u16, n2: u8, half: Half) -> i
 
 // The sum of numbers with signs.
 fn signed_total(numbers: &[i64; 62], signs: &[i8; 62]) -> i128
-    requires small { All (λ x. unsigned_abs x ≤ 2 ^ 59) numbers.now }
-    requires signs { All (λ x. unsigned_abs x ≡ 1) signs.now }
+    requires small { AllWithin (2 ^ 59) numbers.now }
+    requires signs { All (λ x. nat_abs x ≡ 1) signs.now }
     ensures { result ≡ signed_sum signs.now numbers.now 62 }
 {
     let mut sum = 0;
@@ -61,10 +62,10 @@ fn signed_total(numbers: &[i64; 62], signs: &[i8; 62]) -> i128
 
 // A number with a sign.
 fn signed(number: i64, sign: i8) -> i64
-    requires small { unsigned_abs number ≤ 2 ^ 59 }
-    requires sign { unsigned_abs sign ≡ 1 }
+    requires small { nat_abs number ≤ 2 ^ 59 }
+    requires sign { nat_abs sign ≡ 1 }
     ensures value { result ≡ sign *ℤ number }
-    ensures small { unsigned_abs result ≤ 2 ^ 59 }
+    ensures small { nat_abs result ≤ 2 ^ 59 }
 {
     if sign < 0 { -number } else { number }
 }

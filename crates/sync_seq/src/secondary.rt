@@ -1,6 +1,6 @@
 //! The secondary sequence.
 
-ghost use Rattle.std.specs.Prelude.{◌≡◌, ◌<◌, ◌≤◌, unsigned_abs};
+ghost use Rattle.std.specs.Prelude.{◌≡◌, ◌<◌, ◌≤◌, nat_abs};
 ghost use Rattle.sync_seq.specs.declared.secondary.Recurrence.TheVariants.{S, C, Z};
 ghost use Rattle.sync_seq.specs.Secondary.{next_bit, bits_of, sign_at, shift_sum, even_shift, odd_shift, shifted_value, sss_list};
 
@@ -105,7 +105,7 @@ fn value(sequences: &Sequences, n2: u8, even: usize, odd: usize, k: usize) -> i8
     requires odd { odd < 31 }
     requires k { k < 62 }
     ensures value { result ≡ shifted_value (bits_of S) (bits_of C) (bits_of Z) n2 even odd k }
-    ensures small { unsigned_abs result ≡ 1 }
+    ensures small { nat_abs result ≡ 1 }
 {
     let n = k / 2;
     let member = n2 as usize;
@@ -121,7 +121,7 @@ fn value(sequences: &Sequences, n2: u8, even: usize, odd: usize, k: usize) -> i8
 // 1 - 2 x(n), all places modulo 31.
 fn sign(bits: &[bool; 31], n: usize) -> i8
     ensures value { result ≡ sign_at bits.now n }
-    ensures small { unsigned_abs result ≡ 1 }
+    ensures small { nat_abs result ≡ 1 }
 {
     if bits[n % 31] { -1 } else { 1 }
 }

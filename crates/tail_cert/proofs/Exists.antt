@@ -1,7 +1,8 @@
 -- Values of a small size have an accepted certificate with their least word.
 use Rattle.std.proofs.Common.{◌≡◌, ℕ, zero, suc, ◌*◌, ◌^◌, ◌<◌, ◌≤◌, Bool, List, [], length, get_or, ℤ, map, refl, sym, subst, ◌∙◌, inl, inr, arith}
-use Rattle.std.specs.Prelude.{All, nat_abs}
+use Rattle.std.specs.Prelude.{All}
 use Rattle.std.proofs.lemmas.Bool.Decides.{eqb_tells}
+use Rattle.finite.specs.Sizes.{RowsWithin}
 use Rattle.finite.specs.Lists.{values_below}
 use Rattle.finite.proofs.Lists.{values_below-length, values_below_at}
 use Rattle.paths.specs.Least.{ends_in}
@@ -18,7 +19,7 @@ use Rattle.tail_cert.proofs.Accept.{accepted}
 use Rattle.tail_cert.proofs.Rows.{start_row, later_row, rows_fit}
 
 abbrev AreSmall : List (List ℤ) → Type 0
-AreSmall values = All (λ v. All (λ z. nat_abs z ≤ 2032) v) values
+AreSmall values = RowsWithin 2032 values
 
 -- no branch costs more than three values
 branch_within : (values : List (List ℤ)) → AreSmall values → (k x : ℕ) (b : Bool) → branch_cost (get_or values k []) x b ≤ 3 * 2032

@@ -1,6 +1,7 @@
 //! The check of a certificate.
 
-ghost use Rattle.std.specs.Prelude.{◌≡◌, ◌^◌, ◌<◌, ◌≤◌, ◌↔◌, ℕ, All, IsTrue, [], length, nat_abs, slice_index, slice_index_or};
+ghost use Rattle.std.specs.Prelude.{◌≡◌, ◌^◌, ◌<◌, ◌≤◌, ◌↔◌, ℕ, IsTrue, [], length, slice_index, slice_index_or};
+ghost use Rattle.finite.specs.Sizes.{AllWithin, RowsWithin};
 ghost use Rattle.conv_code.specs.Cost.{word_cost};
 ghost use Rattle.tail_cert.specs.Certificate.{bound, IsAccepted, IsLowerBound, TableHolds};
 ghost use Rattle.tail_cert.specs.Steps.{BothHold, BothRise, RowHolds, RowRises, StepHolds, StepRises, TableRises};
@@ -20,7 +21,7 @@ const UNBOUNDED: u32 = 0xffff_ffff;
 /// Whether the inequality of a branch holds.
 fn step_holds(values: &[i32; 3], from: u32, to: &[u32; 64], x: usize, b: bool) -> bool
     requires state { x < 64 }
-    requires sizes { All (λ v. nat_abs v ≤ 2 ^ 20) values.now }
+    requires sizes { AllWithin (2 ^ 20) values.now }
     ensures holds { IsTrue result ↔ StepHolds values.now from to.now x b }
     ensures rises { IsTrue result → StepRises values.now from to.now x b }
 {
@@ -30,7 +31,7 @@ fn step_holds(values: &[i32; 3], from: u32, to: &[u32; 64], x: usize, b: bool) -
 /// Whether the inequalities of both branches from a state hold.
 fn both_hold(values: &[i32; 3], from: u32, to: &[u32; 64], x: usize) -> bool
     requires state { x < 64 }
-    requires sizes { All (λ v. nat_abs v ≤ 2 ^ 20) values.now }
+    requires sizes { AllWithin (2 ^ 20) values.now }
     ensures holds { IsTrue result ↔ BothHold values.now from to.now x }
     ensures rises { IsTrue result → BothRise values.now from to.now x }
 {
@@ -39,7 +40,7 @@ fn both_hold(values: &[i32; 3], from: u32, to: &[u32; 64], x: usize) -> bool
 
 /// Whether the inequalities of all branches of a step hold.
 fn row_holds(values: &[i32; 3], from: &[u32; 64], to: &[u32; 64]) -> bool
-    requires { All (λ v. nat_abs v ≤ 2 ^ 20) values.now }
+    requires { AllWithin (2 ^ 20) values.now }
     ensures holds { IsTrue result ↔ RowHolds values.now from.now to.now }
     ensures rises { IsTrue result → RowRises values.now from.now to.now }
 {
@@ -64,7 +65,7 @@ fn first_row(start: usize) -> [u32; 64]
 /// Whether the table of a start state holds, and bounds its end by the cost.
 fn table_holds(values: &[[i32; 3]; 40], cost: u32, start: usize, table: &[[u32; 64]; 40]) -> bool
     requires start { start < 64 }
-    requires sizes { All (λ v. All (λ z. nat_abs z ≤ 2 ^ 20) v) values.now }
+    requires sizes { RowsWithin (2 ^ 20) values.now }
     ensures holds { IsTrue result ↔ TableHolds values.now cost start table.now }
     ensures rises { IsTrue result → TableRises values.now cost start table.now }
 {
@@ -80,7 +81,7 @@ fn table_holds(values: &[[i32; 3]; 40], cost: u32, start: usize, table: &[[u32; 
 
 /// Whether the tables of all start states do.
 fn tables_hold(values: &[[i32; 3]; 40], cost: u32, tables: &[[[u32; 64]; 40]]) -> bool
-    requires sizes { All (λ v. All (λ z. nat_abs z ≤ 2 ^ 20) v) values.now }
+    requires sizes { RowsWithin (2 ^ 20) values.now }
     requires starts { length tables.now ≡ 64 }
     ensures holds { IsTrue result ↔ ((s : ℕ) → s < 64 →
         TableHolds values.now cost s (slice_index_or tables.now s [])) }
@@ -97,7 +98,7 @@ fn tables_hold(values: &[[i32; 3]; 40], cost: u32, tables: &[[[u32; 64]; 40]]) -
 
 /// The cost of a word.
 fn cost_of(values: &[[i32; 3]; 40], word: &Bits<40>) -> u32
-    requires sizes { All (λ v. All (λ z. nat_abs z ≤ 2 ^ 20) v) values.now }
+    requires sizes { RowsWithin (2 ^ 20) values.now }
     requires bits { length word.now ≡ 40 }
     ensures { result ≡ word_cost values.now word.now }
 {

@@ -1,6 +1,7 @@
 //! How a certificate is filled.
 
-ghost use Rattle.std.specs.Prelude.{◌≡◌, ◌+◌, ◌*◌, ◌^◌, ◌<◌, ◌≤◌, ℕ, All, [], length, nat_abs, slice_index, slice_index_or};
+ghost use Rattle.std.specs.Prelude.{◌≡◌, ◌+◌, ◌*◌, ◌^◌, ◌<◌, ◌≤◌, ℕ, [], length, slice_index, slice_index_or};
+ghost use Rattle.finite.specs.Sizes.{RowsWithin};
 ghost use Rattle.conv_code.specs.Cost.{word_cost};
 ghost use Rattle.tailbite.specs.LeastWord.{IsLeastWord};
 ghost use Rattle.tail_cert.specs.Certificate.{Counted, IsAccepted, IsLowerBound, IsRow, IsTable, TableHolds};
@@ -18,7 +19,7 @@ const FAR: u32 = 0x4000_0000;
 
 /// Fills the rows of least costs after each step.
 fn fill_table(values: &[[i32; 3]; 40], start: &[u32; 64], table: &mut [[u32; 64]; 40])
-    requires sizes { All (λ v. All (λ z. nat_abs z ≤ 2 ^ 20) v) values.now }
+    requires sizes { RowsWithin (2 ^ 20) values.now }
     requires room { (y : ℕ) → y < 64 → slice_index start.now y ≤ 2 ^ 30 }
     ensures rows { HasLeastRows values.now start.now table.new 40 }
     ensures size { length table.new ≡ 40 }
@@ -44,7 +45,7 @@ fn start_at(s: usize) -> [u32; 64]
 /// Fills the table of the start state s.
 fn fill_start(values: &[[i32; 3]; 40], cost: u32, s: usize, table: &mut [[u32; 64]; 40])
     requires state { s < 64 }
-    requires sizes { All (λ v. All (λ z. nat_abs z ≤ 2 ^ 20) v) values.now }
+    requires sizes { RowsWithin (2 ^ 20) values.now }
     requires cost { cost ≤ 2 ^ 30 }
     requires least { IsLowerBound values.now cost }
     ensures holds { TableHolds values.now cost s table.new }
@@ -55,7 +56,7 @@ fn fill_start(values: &[[i32; 3]; 40], cost: u32, s: usize, table: &mut [[u32; 6
 
 /// Fills the tables of all start states.
 fn fill_tables(values: &[[i32; 3]; 40], cost: u32, tables: &mut [[[u32; 64]; 40]])
-    requires sizes { All (λ v. All (λ z. nat_abs z ≤ 2 ^ 20) v) values.now }
+    requires sizes { RowsWithin (2 ^ 20) values.now }
     requires cost { cost ≤ 2 ^ 30 }
     requires least { IsLowerBound values.now cost }
     requires starts { length tables.old ≡ 64 }
@@ -90,7 +91,7 @@ fn copy_of(values: &[[i32; 3]; 40]) -> [[i32; 3]; 40]
 /// Fills a certificate with values of size at most 2,032, three for each place, their least word and its
 /// cost, and tables that show that no word costs less. The certificate is then accepted.
 pub fn fill(certificate: &mut Certificate, values: &[[i32; 3]; 40], work: &mut Trellis)
-    requires { All (λ v. All (λ z. nat_abs z ≤ 2032) v) values.now }
+    requires { RowsWithin 2032 values.now }
     ensures accepted { IsAccepted certificate.new }
     ensures values { certificate.new.values ≡ values.now }
     ensures word { IsLeastWord values.now certificate.new.word }

@@ -1,4 +1,5 @@
-ghost use Rattle.std.specs.Prelude.{◌≡◌, ◌≤◌, ◌<◌, All, IfOk, length, nat_abs};
+ghost use Rattle.std.specs.Prelude.{◌≡◌, ◌≤◌, ◌<◌, IfOk, length};
+ghost use Rattle.finite.specs.Sizes.{AllWithin, RowsWithin};
 
 use super::*;
 use std::alloc::{AllocError, Global};
@@ -16,14 +17,14 @@ fn room(alloc: Global) -> Result<Vec<u8>, AllocError>
 
 /// Three values.
 fn three(first: i8) -> [i32; 3]
-    ensures { All (λ z. nat_abs z ≤ 2032) result }
+    ensures { AllWithin 2032 result }
 {
     [first as i32, 0, 0]
 }
 
 /// 120 values: the first one, and zeros.
 fn values_from(first: i8) -> [[i32; 3]; 40]
-    ensures { All (λ v. All (λ z. nat_abs z ≤ 2032) v) result }
+    ensures { RowsWithin 2032 result }
 {
     let mut values = [three(0); 40];
     for k in 0..40 {

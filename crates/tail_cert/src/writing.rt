@@ -1,7 +1,8 @@
 //! The bytes of a certificate, written.
 
-ghost use Rattle.std.specs.Prelude.{◌≡◌, ◌+◌, ◌*◌, ◌^◌, ◌<◌, ◌≤◌, All, Bool, cond, length, nat_abs, pos, slice_index_or};
+ghost use Rattle.std.specs.Prelude.{◌≡◌, ◌+◌, ◌*◌, ◌^◌, ◌<◌, ◌≤◌, Bool, cond, length, pos, slice_index_or};
 ghost use Rattle.std.specs.List.{flat_map};
+ghost use Rattle.finite.specs.Sizes.{AllWithin, RowsWithin};
 ghost use Rattle.tail_cert.specs.Certificate.{IsWhole};
 ghost use Rattle.tail_cert.specs.Form.{bytes_of, entry_bytes, mark, place_bytes, row_bytes, table_bytes, value_bytes, with_piece, word_bytes};
 
@@ -20,7 +21,7 @@ fn put_mark(out: &mut [u8])
 /// Writes value t of a place.
 fn put_value(values: &[i32; 3], t: usize, at: usize, out: &mut [u8])
     requires stream { t < 3 }
-    requires sizes { All (λ z. nat_abs z ≤ 2032) values.now }
+    requires sizes { AllWithin 2032 values.now }
     requires room { at + 2 ≤ length out.old }
     ensures bytes { out.new ≡ with_piece at (value_bytes (slice_index_or values.now t (pos 0))) out.old }
     ensures count { length (value_bytes (slice_index_or values.now t (pos 0))) ≡ 2 }
@@ -30,7 +31,7 @@ fn put_value(values: &[i32; 3], t: usize, at: usize, out: &mut [u8])
 
 /// Writes the values of a place.
 fn put_place(values: &[i32; 3], at: usize, out: &mut [u8])
-    requires sizes { All (λ z. nat_abs z ≤ 2032) values.now }
+    requires sizes { AllWithin 2032 values.now }
     requires room { at + 6 ≤ length out.old }
     ensures bytes { out.new ≡ with_piece at (place_bytes values.now) out.old }
     ensures count { length (place_bytes values.now) ≡ 6 }
@@ -42,7 +43,7 @@ fn put_place(values: &[i32; 3], at: usize, out: &mut [u8])
 
 /// Writes the values of all places.
 fn put_values(values: &[[i32; 3]; 40], at: usize, out: &mut [u8])
-    requires sizes { All (λ v. All (λ z. nat_abs z ≤ 2032) v) values.now }
+    requires sizes { RowsWithin 2032 values.now }
     requires room { at + 240 ≤ length out.old }
     ensures bytes { out.new ≡ with_piece at (flat_map place_bytes values.now) out.old }
     ensures count { length (flat_map place_bytes values.now) ≡ 240 }

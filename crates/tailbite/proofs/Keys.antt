@@ -1,10 +1,10 @@
 -- The least key over the start states is that of the least word.
 use Rattle.std.proofs.Common.{◌≡◌, ℕ, ◌+◌, ◌-◌, ◌*◌, ◌/◌, ◌%◌, ◌^◌, ◌<◌, ◌≤◌, Bool, false, List, [], length, get_or, ℤ, pos, refl, sym, ◌∙◌, subst, inl, inr, arith}
-use Rattle.std.specs.Prelude.{nat_abs, All}
 use Rattle.std.proofs.lemmas.Bool.{cases_lt}
 use Rattle.std.proofs.lemmas.Bool.Decides.{eqb_tells}
 use Rattle.std.proofs.lemmas.List.{ext_get_or, get_or_past}
 use Rattle.std.proofs.Math.Pow.{pow_mono}
+use Rattle.finite.specs.Sizes.{RowsWithin}
 use Rattle.finite.proofs.Sums.{total_below-within}
 use Rattle.paths.specs.Paths.{end_of, path_cost}
 use Rattle.cs_bits.specs.Numbers.{number, bits_of}
@@ -24,7 +24,7 @@ use Rattle.tailbite.specs.Keys.{scale, far, key_cost, IsLeastKeyBelow}
 
 -- no value of a place is larger than 2 ^ 20
 abbrev AreSmall : List (List ℤ) → Type 0
-AreSmall values = All (λ v. All (λ z. nat_abs z ≤ 2 ^ 20) v) values
+AreSmall values = RowsWithin (2 ^ 20) values
 
 -- the key of a word
 unfoldable key_of : List (List ℤ) → List Bool → ℕ
@@ -118,6 +118,6 @@ decoded values m word round long short small bits =
 
 -- the same, for an array of n places
 pub decoded_array : (n : ℕ) (values : List (List ℤ)) (m : ℕ) (word : List Bool) → length values ≡ n → IsLeastKeyBelow values 64 m →
-    6 ≤ n → n ≤ 64 → All (λ v. All (λ z. nat_abs z ≤ 2 ^ 20) v) values → word ≡ bits_of n (m % scale) → IsDecoded values m word
+    6 ≤ n → n ≤ 64 → RowsWithin (2 ^ 20) values → word ≡ bits_of n (m % scale) → IsDecoded values m word
 decoded_array n values m word e round long short small bits =
     decoded values m word round (rw e long) (rw e short) small (rw e bits)

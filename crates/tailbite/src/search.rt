@@ -1,7 +1,8 @@
 //! The search for the least key, over the start states and back over the places. A key is the cost of a path times
 //! 2^64 plus the number of its word: it tells words of equal cost apart, and the least key is that of the least word.
 
-ghost use Rattle.std.specs.Prelude.{◌≡◌, ℕ, ◌+◌, ◌-◌, ◌*◌, ◌/◌, ◌^◌, ◌<◌, ◌≤◌, All, false, length, nat_abs, slice_index, slice_index_or};
+ghost use Rattle.std.specs.Prelude.{◌≡◌, ℕ, ◌+◌, ◌-◌, ◌*◌, ◌/◌, ◌^◌, ◌<◌, ◌≤◌, false, length, slice_index, slice_index_or};
+ghost use Rattle.finite.specs.Sizes.{AllWithin, RowsWithin};
 ghost use Rattle.paths.specs.Least.{ends_in};
 ghost use Rattle.paths.specs.Rows.{least_out};
 ghost use Rattle.paths.specs.Words.{key_step};
@@ -27,7 +28,7 @@ const FAR: u128 = 0x10_0000_0000_0000_0000_0000_0000;
 fn least_at(values: &[i32; 3], bit: u128, row: &[u128], x: usize) -> u128
     requires states { length row.now ≡ 64 }
     requires state { x < 64 }
-    requires sizes { All (λ v. nat_abs v ≤ 2 ^ 20) values.now }
+    requires sizes { AllWithin (2 ^ 20) values.now }
     requires bit { bit < 2 ^ 64 }
     requires room { (x : ℕ) → x < 64 → slice_index row.now x ≤ 2 ^ 120 }
     ensures least { result ≡ least_out shift (key_step scale bit (branch_cost values.now)) row.now x }
@@ -42,7 +43,7 @@ fn least_at(values: &[i32; 3], bit: u128, row: &[u128], x: usize) -> u128
 fn step_back(values: &[i32; 3], bit: u128, row: &[u128], earlier: &mut [u128])
     requires states { length row.now ≡ 64 }
     requires earlier { length earlier.old ≡ 64 }
-    requires sizes { All (λ v. nat_abs v ≤ 2 ^ 20) values.now }
+    requires sizes { AllWithin (2 ^ 20) values.now }
     requires bit { bit < 2 ^ 64 }
     requires room { (x : ℕ) → x < 64 → slice_index row.now x ≤ 2 ^ 120 }
     ensures row { (x : ℕ) → x < 64 →
@@ -68,7 +69,7 @@ fn fill_ends(start: usize, row: &mut [u128])
 /// The least key of a path through all places from the start state, which is free only if it ends there.
 fn least_key(values: &[[i32; 3]], start: usize, row: &mut [u128], earlier: &mut [u128]) -> u128
     requires places { length values.now ≤ 64 }
-    requires sizes { All (λ v. All (λ z. nat_abs z ≤ 2 ^ 20) v) values.now }
+    requires sizes { RowsWithin (2 ^ 20) values.now }
     requires start { start < 64 }
     requires states { length row.old ≡ 64 }
     requires earlier { length earlier.old ≡ 64 }
@@ -89,7 +90,7 @@ fn least_key(values: &[[i32; 3]], start: usize, row: &mut [u128], earlier: &mut 
 /// The least key of a path from any start state back to it.
 fn least_round(values: &[[i32; 3]], work: &mut Trellis) -> u128
     requires places { length values.now ≤ 64 }
-    requires sizes { All (λ v. All (λ z. nat_abs z ≤ 2 ^ 20) v) values.now }
+    requires sizes { RowsWithin (2 ^ 20) values.now }
     ensures { IsLeastKeyBelow values.now 64 result }
 {
     let mut least = least_key(values, 0, &mut work.row, &mut work.earlier);
@@ -105,7 +106,7 @@ fn least_round(values: &[[i32; 3]], work: &mut Trellis) -> u128
 pub fn least<const N: usize>(values: &[[i32; 3]; N], work: &mut Trellis) -> (Bits<N>, u32)
     requires low { 6 ≤ N }
     requires high { N ≤ 64 }
-    requires sizes { All (λ v. All (λ z. nat_abs z ≤ 2 ^ 20) v) values.now }
+    requires sizes { RowsWithin (2 ^ 20) values.now }
     ensures word { IsLeastWord values.now result.0 }
     ensures cost { result.1 ≡ word_cost values.now result.0 }
 {

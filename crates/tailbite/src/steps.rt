@@ -1,6 +1,7 @@
 //! The steps of the encoder, as a machine of 64 states, and what they cost.
 
-ghost use Rattle.std.specs.Prelude.{◌≡◌, ℕ, ◌+◌, ◌*◌, ◌^◌, ◌<◌, ◌≤◌, ◌∷◌, [], All, length, map, nat_abs, slice_index};
+ghost use Rattle.std.specs.Prelude.{◌≡◌, ℕ, ◌+◌, ◌*◌, ◌^◌, ◌<◌, ◌≤◌, ◌∷◌, [], length, map, slice_index};
+ghost use Rattle.finite.specs.Sizes.{AllWithin};
 ghost use Rattle.conv_code.specs.Code.{parity, taps_0, taps_1, taps_2};
 ghost use Rattle.tailbite.specs.Machine.{bit_to, branch_cost, first_from, forward_least, second_from, shift, window_bit};
 
@@ -32,9 +33,9 @@ fn coded_bits(x: usize, b: bool) -> [bool; 3]
 /// 5.1.3.1). The values are at most 2^20 in size.
 pub fn branch(values: &[i32; 3], x: usize, b: bool) -> u32
     requires state { x < 64 }
-    requires sizes { All (λ value. nat_abs value ≤ 2 ^ 20) values.now }
+    requires sizes { AllWithin (2 ^ 20) values.now }
     ensures cost { result ≡ branch_cost values.now x b }
-    ensures bound { (n : ℕ) → All (λ value. nat_abs value ≤ n) values.now → result ≤ 3 * n }
+    ensures bound { (n : ℕ) → AllWithin n values.now → result ≤ 3 * n }
 {
     against(values, &coded_bits(x, b))
 }
@@ -63,10 +64,10 @@ pub fn before(x: usize) -> (usize, usize, bool)
 /// The least cost to the state x, where the row has that to each state one step before.
 fn forward_at(values: &[i32; 3], row: &[u32; 64], x: usize) -> u32
     requires state { x < 64 }
-    requires sizes { All (λ value. nat_abs value ≤ 2 ^ 20) values.now }
+    requires sizes { AllWithin (2 ^ 20) values.now }
     requires room { (y : ℕ) → y < 64 → slice_index row.now y ≤ 2 ^ 31 }
     ensures least { result ≡ forward_least values.now row.now x }
-    ensures growth { (n : ℕ) → All (λ value. nat_abs value ≤ n) values.now →
+    ensures growth { (n : ℕ) → AllWithin n values.now →
         result ≤ slice_index row.now (first_from x) + 3 * n }
 {
     let (first, second, newest) = before(x);
@@ -79,10 +80,10 @@ fn forward_at(values: &[i32; 3], row: &[u32; 64], x: usize) -> u32
 /// by which a step leads there, from a row of costs one step before. These are at most 2^31, and the three
 /// values of the step's place at most 2^20 in size.
 pub fn forward_row(values: &[i32; 3], row: &[u32; 64]) -> [u32; 64]
-    requires sizes { All (λ value. nat_abs value ≤ 2 ^ 20) values.now }
+    requires sizes { AllWithin (2 ^ 20) values.now }
     requires room { (y : ℕ) → y < 64 → slice_index row.now y ≤ 2 ^ 31 }
     ensures least { (x : ℕ) → x < 64 → slice_index result x ≡ forward_least values.now row.now x }
-    ensures growth { (n : ℕ) → All (λ value. nat_abs value ≤ n) values.now →
+    ensures growth { (n : ℕ) → AllWithin n values.now →
         (x : ℕ) → x < 64 → slice_index result x ≤ slice_index row.now (first_from x) + 3 * n }
     ensures size { length result ≡ 64 }
 {

@@ -1,4 +1,5 @@
-ghost use Rattle.std.specs.Prelude.{◌^◌, ◌≤◌, ◌<◌, All, nat_abs};
+ghost use Rattle.std.specs.Prelude.{◌^◌, ◌≤◌, ◌<◌, nat_abs};
+ghost use Rattle.finite.specs.Sizes.{AllWithin, RowsWithin};
 
 use super::*;
 use cs_bits::Bits;
@@ -28,14 +29,14 @@ fn triple(first: i32, second: i32, third: i32) -> [i32; 3]
     requires first { nat_abs first ≤ 255 }
     requires second { nat_abs second ≤ 255 }
     requires third { nat_abs third ≤ 255 }
-    ensures { All (λ z. nat_abs z ≤ 2 ^ 20) result }
+    ensures { AllWithin (2 ^ 20) result }
 {
     [first, second, third]
 }
 
 /// Values of size at most `spread` by a number that they begin with.
 fn values_of<const N: usize>(seed: u32, spread: u8) -> [[i32; 3]; N]
-    ensures { All (λ v. All (λ z. nat_abs z ≤ 2 ^ 20) v) result }
+    ensures { RowsWithin (2 ^ 20) result }
 {
     let mut numbers = Numbers { state: seed };
     let mut values = [triple(0, 0, 0); N];

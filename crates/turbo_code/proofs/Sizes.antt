@@ -1,6 +1,6 @@
 -- How large the sums are: of 1,224 bits that are sent, at most seven are one coded bit.
 use Rattle.std.proofs.Common.{◌≡◌, ℕ, zero, suc, ◌+◌, ◌-◌, ◌*◌, ◌%◌, ◌<◌, ◌≤◌, ◌⊎◌, inl, inr, Bool, true, false, List, [], length, get_or, take, ℤ, pos, ◌+ℤ◌, refl, ap, ap₂, sym, subst, ◌∙◌, arith, mod-lt}
-use Rattle.std.specs.Prelude.{◌&&◌, All, nat_eq, nat_abs, cond}
+use Rattle.std.specs.Prelude.{◌&&◌, nat_eq, nat_abs, cond}
 use Rattle.std.specs.List.{count_by}
 use Rattle.std.proofs.lemmas.Bool.{cases_lt}
 use Rattle.std.proofs.lemmas.Nat.{mod-mul-add}
@@ -11,11 +11,12 @@ use Rattle.std.proofs.Math.ListN.{get_or-eq_default}
 use Rattle.std.proofs.Math.Seq.{take-length}
 use Rattle.std.proofs.Math.Nat.{mul-le-mul_left}
 use Rattle.std.proofs.Math.Bool.{and-false}
+use Rattle.finite.specs.Sizes.{AllWithin, RowsWithin}
 use Rattle.finite.specs.Lists.{values_below}
 use Rattle.finite.specs.Sums.{sum_below, total_below}
 use Rattle.finite.proofs.Lists.{values_below-All}
 use Rattle.finite.proofs.Sums.{sum_below_none, sum_below_more, total_below_none, total_below_more, total_below_same, total_below_split}
-use Rattle.finite.proofs.Tables.{abs_sum}
+use Rattle.finite.proofs.Integers.{abs-sum}
 use Rattle.turbo_code.specs.Table.{IsSize}
 use Rattle.turbo_code.specs.Reading.{Place, spot, cell, v0, v1, v2, in_turn, buffer, turned, nulls, matrix_rows, start, reading, place_of, is_at, summed_at, summed}
 use Rattle.turbo_code.proofs.TableFacts.{is_small_size}
@@ -113,8 +114,8 @@ seven k rv t p m size version below few =
 -- ---- the sums
 
 step : (b : Bool) (s x : ℤ) (t bound : ℕ) → nat_abs s ≤ bound * t → nat_abs x ≤ bound → nat_abs (s +ℤ cond b x (pos 0)) ≤ bound * (t + cond b 1 0)
-step true s x t bound h k = let e : bound * (t + 1) ≡ bound * t + bound = omega arith in let both = abs_sum s x in rw e (omega (arith, both, h, k))
-step false s x t bound h k = let e : bound * (t + 0) ≡ bound * t = omega arith in let both = abs_sum s (pos 0) in rw e (omega (arith, both, h))
+step true s x t bound h k = let e : bound * (t + 1) ≡ bound * t + bound = omega arith in let both = abs-sum s x in rw e (omega (arith, both, h, k))
+step false s x t bound h k = let e : bound * (t + 0) ≡ bound * t = omega arith in let both = abs-sum s (pos 0) in rw e (omega (arith, both, h))
 
 sum_small : (bound : ℕ) (b : ℕ → Bool) (v : ℕ → ℤ) → ((i : ℕ) → nat_abs (v i) ≤ bound) → (m : ℕ) →
     nat_abs (sum_below m (λ i. cond (b i) (v i) (pos 0))) ≤ bound * total_below m (λ i. cond (b i) 1 0)
@@ -124,18 +125,18 @@ sum_small bound b v small (suc m) =
     let before = sum_small bound b v small m in
     rw e (rw (sum_below_more m (λ i. cond (b i) (v i) (pos 0)), total_below_more m (λ i. cond (b i) 1 0)) (step (b m) _ (v m) _ bound before (small m)))
 
-value_small : (values : List ℤ) (bound : ℕ) → All (λ v. nat_abs v ≤ bound) values → (i : ℕ) → nat_abs (get_or values i (pos 0)) ≤ bound
+value_small : (values : List ℤ) (bound : ℕ) → AllWithin bound values → (i : ℕ) → nat_abs (get_or values i (pos 0)) ≤ bound
 value_small values bound small i = settle (cases_lt i (length values))
   where
     settle : (i < length values) ⊎ (length values ≤ i) → nat_abs (get_or values i (pos 0)) ≤ bound
     settle (inl inside) = All-get_or (λ v. nat_abs v ≤ bound) values i (pos 0) inside small
     settle (inr past) = rw (get_or-eq_default values (pos 0) past) (omega arith)
 
-pub sizes : (k rv : ℕ) → IsSize k → rv < 4 → (values : List ℤ) → length values ≤ 1224 → (bound : ℕ) → All (λ v. nat_abs v ≤ bound) values →
-    All (λ stream. All (λ sum. nat_abs sum ≤ 7 * bound) stream) (summed k rv values)
+pub sizes : (k rv : ℕ) → IsSize k → rv < 4 → (values : List ℤ) → length values ≤ 1224 → (bound : ℕ) → AllWithin bound values →
+    RowsWithin (7 * bound) (summed k rv values)
 unfolding summed summed_at
 sizes k rv size version values few bound small =
-    values_below-All (λ stream. All (λ sum. nat_abs sum ≤ 7 * bound) stream) 3 (λ t. values_below 1028 (summed_at k rv values (length values) t)) [] (λ t below.
+    values_below-All (AllWithin (7 * bound)) 3 (λ t. values_below 1028 (summed_at k rv values (length values) t)) [] (λ t below.
     values_below-All (λ sum. nat_abs sum ≤ 7 * bound) 1028 (summed_at k rv values (length values) t) (pos 0) (λ p inside.
     let a = sum_small bound (λ i. is_at t p (place_of k rv i)) (λ i. get_or values i (pos 0)) (value_small values bound small) (length values) in
     let s = seven k rv t p (length values) size version below few in

@@ -1,6 +1,7 @@
 //! The cyclic reading of a coded word, and the sums of received values.
 
-ghost use Rattle.std.specs.Prelude.{◌≡◌, ℕ, All, ◌+◌, ◌*◌, ◌^◌, ◌<◌, ◌≤◌, length, nat_abs, slice_index_or};
+ghost use Rattle.std.specs.Prelude.{◌≡◌, ℕ, ◌+◌, ◌*◌, ◌^◌, ◌<◌, ◌≤◌, length, nat_abs, slice_index_or};
+ghost use Rattle.finite.specs.Sizes.{AllWithin, RowsWithin};
 ghost use Rattle.finite.specs.Tables.{sum_at, sums_with};
 ghost use Rattle.turbo_code.specs.Table.{IsRow, IsSize};
 ghost use Rattle.turbo_code.specs.Reading.{bit_of, buffer, cell, matrix_rows, place_of, spot, start, summed, turned};
@@ -127,8 +128,8 @@ pub fn combine(values: &[i16], row: Row, rv: u8) -> Combined
     requires count { length values.now ≤ 1224 }
     ensures k { result.k ≡ row.k }
     ensures d { result.d ≡ summed row.k rv values.now }
-    ensures sizes { (bound : ℕ) → All (λ value. nat_abs value ≤ bound) values.now →
-        All (λ stream. All (λ sum. nat_abs sum ≤ 7 * bound) stream) result.d }
+    ensures sizes { (bound : ℕ) → AllWithin bound values.now →
+        RowsWithin (7 * bound) result.d }
 {
     let mut d = [[0; 1028]; 3];
     for (i, value) in values.iter().enumerate() {

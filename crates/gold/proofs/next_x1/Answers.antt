@@ -1,5 +1,6 @@
 use Rattle.std.proofs.Common.{◌∙◌, ap}
-use Rattle.gold.specs.Sequence.{low_bits, x1_taps}
+use Rattle.gold.specs.Register.{low_bits}
+use Rattle.gold.specs.Sequence.{x1_taps}
 use Rattle.gold.proofs.Registers.{shifted, and_one-fits, x1_sum}
 use Rattle.gold.proofs.next_x1.Goals as goal
 

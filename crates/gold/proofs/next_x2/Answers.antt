@@ -1,5 +1,6 @@
 use Rattle.std.proofs.Common.{◌∙◌, ap}
-use Rattle.gold.specs.Sequence.{low_bits, x2_taps}
+use Rattle.gold.specs.Register.{low_bits}
+use Rattle.gold.specs.Sequence.{x2_taps}
 use Rattle.gold.proofs.Registers.{shifted, and_one-fits, x2_sum}
 use Rattle.gold.proofs.next_x2.Goals as goal
 

@@ -5,7 +5,8 @@ use Rattle.std.proofs.lemmas.Nat.{bit_set_by_shift, and_mask}
 use Rattle.std.proofs.lemmas.Bool.{eqb-true, eq-eqb}
 use Rattle.finite.specs.Bits.{xor}
 use Rattle.finite.proofs.Bits.{xor-false}
-use Rattle.gold.specs.Sequence.{sum_at, window, x1_taps, x1_start, x2_taps, x2_start, x1, x2}
+use Rattle.gold.specs.Register.{sum_at, window}
+use Rattle.gold.specs.Sequence.{x1_taps, x1_start, x2_taps, x2_start, x1, x2}
 use Rattle.gold.specs.Gold.{gold_bit}
 use Rattle.gold.proofs.Windows.{recurrence, get_or-window}
 use Rattle.gold.proofs.Registers.{length-low_bits, get_or-low_bits}

@@ -1,12 +1,13 @@
-use Rattle.std.proofs.Common.{◌≡◌, ℕ, ◌≤◌, true, nat_le, ℤ, to_z, of_z, w16, w64, unsigned_abs, arith, refl, le-leb}
+use Rattle.std.proofs.Common.{◌≡◌, ℕ, ◌≤◌, true, nat_le, ℤ, to_z, of_z, w16, w64, arith, refl, le-leb}
 use Rattle.std.proofs.lemmas.Int.{ints}
+use Rattle.std.specs.Prelude.{nat_abs}
 use Rattle.cs_num.specs.Complex.{square}
 use Rattle.sizes.proofs.Squares.{re-le, im-le}
 use Rattle.cell_tx.specs.Sent.{gain_of}
 use Rattle.cell_json.proofs.reading.gain_within.Goals as goal
 
 -- a small number in 16 bits
-kept : (x : ℤ) → unsigned_abs x ≤ 28 → to_z w16 (of_z w16 (to_z w64 (of_z w64 x))) ≡ x
+kept : (x : ℤ) → nat_abs x ≤ 28 → to_z w16 (of_z w16 (to_z w64 (of_z w64 x))) ≡ x
 kept x h = omega (arith, ints)
 
 pub returns-then-square-le784 : goal.returns-then-square-le784

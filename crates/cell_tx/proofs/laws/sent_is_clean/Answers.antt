@@ -1,13 +1,14 @@
-use Rattle.std.proofs.Common.{◌≡◌, ℕ, ◌≤◌, ◌<◌, arith, ap, sym, subst, ℤ, pos, ◌-ℤ◌, unsigned_abs}
+use Rattle.std.proofs.Common.{◌≡◌, ℕ, ◌≤◌, ◌<◌, arith, ap, sym, subst, ℤ, pos, ◌-ℤ◌}
 use Rattle.std.proofs.lemmas.Int.{ints}
+use Rattle.std.specs.Prelude.{nat_abs}
 use Rattle.finite.proofs.Lists.{values_below_at, values_below-length}
 use Rattle.cs_num.specs.declared.Sample.{Sample}
 use Rattle.cs_num.specs.Complex.{IsWithin, silence, value_of, minus}
 use Rattle.cell_tx.specs.Sent.{sample_of, received}
 use Rattle.cell_tx.proofs.laws.sent_is_clean.Goals as goal
 
-nothing_left : (a : ℤ) → unsigned_abs (a -ℤ a) ≤ 0
-nothing_left a = let is : a -ℤ a ≡ pos 0 = omega (arith, ints) in subst (λ z. unsigned_abs z ≤ 0) (sym is) (omega arith)
+nothing_left : (a : ℤ) → nat_abs (a -ℤ a) ≤ 0
+nothing_left a = let is : a -ℤ a ≡ pos 0 = omega (arith, ints) in subst (λ z. nat_abs z ≤ 0) (sym is) (omega arith)
 
 pub returns : goal.returns
 returns c plan sfn offset count gain a b d = record {

@@ -1,5 +1,5 @@
-use Rattle.std.proofs.Common.{arith, refl, sym, subst, nat_abs, ◌*◌, ◌≤◌}
-use Rattle.std.specs.Prelude.{All}
+use Rattle.std.proofs.Common.{arith, refl, sym, subst, ◌*◌, ◌≤◌}
+use Rattle.finite.specs.Sizes.{RowsWithin}
 use Rattle.conv_code.proofs.Sizes.{sizes_of_sums}
 use Rattle.conv_code.proofs.Sums.{sums_none, sums_more, sums_all}
 use Rattle.conv_code.proofs.matching.combine.Goals as goal
@@ -19,5 +19,5 @@ returns-clause-sums g c = sums_all g.row.N c.args.values.now c.loop-i.i c.loop-i
 pub returns-clause-sizes : goal.returns-clause-sizes
 returns-clause-sizes g c bound rounds small few =
     let sums = sums_all g.row.N c.args.values.now c.loop-i.i c.loop-i.sums (omega arith) c.loop-i.invariant in
-    subst (λ table. All (λ place. All (λ sum. nat_abs sum ≤ rounds * bound) place) table) (sym sums)
+    subst (λ table. RowsWithin (rounds * bound) table) (sym sums)
     (sizes_of_sums g.row.N c.args.values.now bound rounds c.requires.low c.requires.high small few)

@@ -3,7 +3,7 @@ use Rattle.std.specs.Prelude.{List, ℤ}
 use Rattle.std.proofs.lemmas.Bool.{cases_lt, eqb-true, eq-eqb, false≢true}
 use Rattle.std.proofs.lemmas.Bool.Decides.{nat_tests}
 use Rattle.finite.specs.Sums.{total_below}
-use Rattle.finite.proofs.Sums.{total_below-within}
+use Rattle.finite.proofs.Sums.{total_below-within, total_some}
 use Rattle.cs_bits.specs.Signs.{disagreement}
 use Rattle.pcfich.specs.Indicator.{code_bit, cost, IsIndicator, Speak}
 use Rattle.pcfich.proofs.indicator.only_one_indicator.Goals as goal
@@ -15,15 +15,6 @@ only_one values a b p q = cases (cases_lt a b) (cases_lt b a)
     cases (inl l) r = absurd (let x = q.first a p.range.0 l in let y = p.least b q.range.0 q.range.1 in omega (arith, x, y))
     cases (inr l) (inl m) = absurd (let x = p.first b q.range.0 m in let y = q.least a p.range.0 p.range.1 in omega (arith, x, y))
     cases (inr l) (inr m) = omega (arith, l, m)
-
-at_most : (n k : ℕ) (f : ℕ → ℕ) → k < n → f k ≤ total_below n f
-unfolding total_below
-at_most zero k f l = absurd (omega arith)
-at_most (suc n) k f l = cases (cases_lt k n) (λ below. at_most n k f below)
-  where
-    cases : (k < n) ⊎ (n ≤ k) → (k < n → f k ≤ total_below n f) → f k ≤ total_below n f + f n
-    cases (inl below) before = let h = before below in omega (arith, h)
-    cases (inr past) before = let same : k ≡ n = omega arith in subst (λ (m : ℕ). f m ≤ total_below n f + f n) (sym same) (omega arith)
 
 -- what is sent costs nothing
 sent_free : (values : List ℤ) (sent : ℕ) → Speak values sent → cost values sent ≡ 0
@@ -39,10 +30,8 @@ other_dear values sent other a b c d differ speak =
     let dear = (speak (sent - 1) (omega arith)).dear in
     let own : nat_eq ((sent - 1) % 3) (sent - 1) ≡ true = grind (arith, nat_tests) in
     let others : nat_eq ((sent - 1) % 3) (other - 1) ≡ false = grind (arith, nat_tests, differ) in
-    let one = at_most 32 (sent - 1) (λ i. disagreement (slice_index_or values i (pos 0)) (code_bit other i)) (omega arith) in
     let dear' = rw own at dear in
-    let one' = rw others at one in
-    omega (arith, dear', one')
+    total_some 32 (sent - 1) (λ i. disagreement (slice_index_or values i (pos 0)) (code_bit other i)) (omega arith) (rw others (omega (arith, dear')))
 
 clear : (values : List ℤ) (sent told : ℕ) → 1 ≤ sent → sent ≤ 3 → Speak values sent → IsIndicator values told → told ≡ sent
 clear values sent told a b speak is = settle (nat_eq sent told) refl

@@ -1,5 +1,5 @@
-use Rattle.std.proofs.Common.{◌≡◌, ℕ, ◌<◌, ◌≤◌, length, slice_index_or, pos, nat_abs}
-use Rattle.std.specs.Prelude.{All}
+use Rattle.std.proofs.Common.{◌≡◌, ℕ, ◌<◌, ◌≤◌, length, slice_index_or, pos}
+use Rattle.finite.specs.Sizes.{AllWithin}
 use Rattle.pcfich.specs.Values.{value}
 use Rattle.pcfich.proofs.values.received.Given as goal
 
@@ -7,5 +7,5 @@ abbrev pub invariant-loop-i : goal.invariant-loop-i
 invariant-loop-i l = record {
   whole : length l.values ≡ 32;
   each : (k : ℕ) → k < l.i → slice_index_or l.values k (pos 0) ≡ value l.slot k;
-  small : All (λ value. nat_abs value ≤ 127) l.values;
+  small : AllWithin 127 l.values;
 }

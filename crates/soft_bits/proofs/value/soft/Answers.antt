@@ -1,8 +1,10 @@
-use Rattle.std.proofs.Common.{rules, arith, ◌≡◌, ◌∙◌, ◌*◌, ◌^◌, ◌≤◌, ap, ap₂, ℤ, [], ◌∷◌, All, unsigned_abs, FitsSigned, to_z, of_z, w64}
+use Rattle.std.proofs.Common.{rules, arith, ◌≡◌, ◌∙◌, ◌*◌, ◌^◌, ◌≤◌, ap, ap₂, ℤ, [], ◌∷◌, FitsSigned, to_z, of_z, w64}
 use Rattle.std.specs.Int.{w16}
 use Rattle.std.proofs.lemmas.Int.{to_z-of_z, fits_signed_from_abs}
 use Rattle.std.proofs.lemmas.Nat.{mul-le}
 use Rattle.std.proofs.lemmas.List.Elements.{All-cons, All-nil}
+use Rattle.std.specs.Prelude.{nat_abs}
+use Rattle.finite.specs.Sizes.{AllWithin}
 use Rattle.cs_num.specs.declared.Cpx.{Cpx}
 use Rattle.cs_num.specs.Complex.{IsWithin, times, conjugate, size}
 use Rattle.cs_num.proofs.Complex.{times-within, size-le, conjugate-within}
@@ -36,9 +38,9 @@ value_of-requires-2-clause-component c =
     let s : IsWithin (1080 * 2 ^ 50) c.mul-value.result = rw c.mul-value.ensures both.1 in
     rw (back c.mul-value.result.im (record { re = s.im; im = s.im })) s.im
 
-two_within : (x y a b : ℤ) → a ≡ x → b ≡ y → unsigned_abs x ≤ 127 → unsigned_abs y ≤ 127 → All (λ z. unsigned_abs z ≤ 127) (a ∷ b ∷ [])
+two_within : (x y a b : ℤ) → a ≡ x → b ≡ y → nat_abs x ≤ 127 → nat_abs y ≤ 127 → AllWithin 127 (a ∷ b ∷ [])
 two_within x y a b e f p q =
-    let P : ℤ → Type 0 = λ z. unsigned_abs z ≤ 127 in
+    let P : ℤ → Type 0 = λ z. nat_abs z ≤ 127 in
     All-cons P a (b ∷ []) (rw e p) (All-cons P b [] (rw f q) (All-nil P))
 
 pub returns-clause-range : goal.returns-clause-range

@@ -1,8 +1,9 @@
-use Rattle.std.proofs.Common.{arith, ◌≡◌, ◌≤◌, ◌+◌, ◌∙◌, ap, sym, subst, refl, pos, unsigned_abs, length-set, w64, to_z, of_z, FitsSigned}
+use Rattle.std.proofs.Common.{arith, ◌≡◌, ◌≤◌, ◌+◌, ◌∙◌, ap, sym, subst, refl, pos, length-set, w64, to_z, of_z, FitsSigned}
 use Rattle.std.proofs.lemmas.Int.{to_z-of_z, fits_signed_from_abs}
 use Rattle.std.proofs.lemmas.List.Elements.{All-set, All-replicate}
 use Rattle.std.proofs.lemmas.List.FromFn.{fill_by_all}
 use Rattle.std.proofs.lemmas.List.Edits.{fill_by_more}
+use Rattle.std.specs.Prelude.{nat_abs}
 use Rattle.cs_num.specs.Complex.{IsWithin, times, conjugate, value_at}
 use Rattle.sync_seq.specs.Primary.{pss_at}
 use Rattle.sync_seq.proofs.PrimaryValues.{pss-within, pss_list_at}
@@ -13,7 +14,7 @@ pub loop-n-init : goal.loop-n-init
 loop-n-init c = record {
   whole = refl;
   each = λ k below. absurd (omega arith);
-  small = All-replicate (λ x. unsigned_abs x ≤ 576460752303423488) 62 (pos 0) (omega arith);
+  small = All-replicate (λ x. nat_abs x ≤ 576460752303423488) 62 (pos 0) (omega arith);
 }
 
 pub agree-requires-clause-value : goal.agree-requires-clause-value
@@ -36,7 +37,7 @@ loop-n-preserved c =
     rw kept (record {
       whole = length-set c.loop-n.out n _ ∙ c.loop-n.invariant.whole;
       each = rw here (fill_by_more (agreement primary secondary c.args.n2) c.loop-n.out n (pos 0) (omega arith) c.loop-n.invariant.each);
-      small = All-set (λ x. unsigned_abs x ≤ 576460752303423488) c.loop-n.out n c.agree.result small c.loop-n.invariant.small;
+      small = All-set (λ x. nat_abs x ≤ 576460752303423488) c.loop-n.out n c.agree.result small c.loop-n.invariant.small;
     })
 
 pub returns-clause-value : goal.returns-clause-value

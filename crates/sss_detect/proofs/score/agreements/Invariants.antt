@@ -1,4 +1,5 @@
-use Rattle.std.proofs.Common.{◌≡◌, ℕ, ◌<◌, ◌≤◌, All, length, pos, unsigned_abs, slice_index_or}
+use Rattle.std.proofs.Common.{◌≡◌, ℕ, ◌<◌, ◌≤◌, length, pos, slice_index_or}
+use Rattle.finite.specs.Sizes.{AllWithin}
 use Rattle.cs_num.specs.Complex.{value_at}
 use Rattle.sss_detect.specs.Scores.{agreement}
 use Rattle.sss_detect.proofs.score.agreements.Given as goal
@@ -7,5 +8,5 @@ abbrev pub invariant-loop-n : goal.invariant-loop-n
 invariant-loop-n l = record {
   whole : length l.out ≡ 62;
   each : (k : ℕ) → k < l.n → slice_index_or l.out k (pos 0) ≡ agreement (value_at l.primary) (value_at l.secondary) l.fn.n2 k;
-  small : All (λ x. unsigned_abs x ≤ 576460752303423488) l.out;
+  small : AllWithin 576460752303423488 l.out;
 }

@@ -1,7 +1,8 @@
-use Rattle.std.proofs.Common.{arith, rules, refl, ◌≡◌, ◌≤◌, ◌+◌, ◌^◌, ◌∙◌, ap, sym, length, pos, ◌+ℤ◌, ◌*ℤ◌, unsigned_abs, slice_index_or, to_z, of_z, w64, FitsSigned}
+use Rattle.std.proofs.Common.{arith, rules, refl, ◌≡◌, ◌≤◌, ◌+◌, ◌^◌, ◌∙◌, ap, sym, length, pos, ◌+ℤ◌, ◌*ℤ◌, slice_index_or, to_z, of_z, w64, FitsSigned}
 use Rattle.std.specs.Int.{w8, w128}
 use Rattle.std.proofs.lemmas.Int.{to_z-of_z, fits_signed_from_abs}
 use Rattle.std.proofs.lemmas.List.Elements.{All-get_or}
+use Rattle.std.specs.Prelude.{nat_abs}
 use Rattle.finite.specs.Sums.{sum_below}
 use Rattle.finite.proofs.Integers.{abs-sum}
 use Rattle.sss_detect.specs.Scores.{signed_sum}
@@ -37,8 +38,8 @@ loop-n-preserved c =
     let long : length numbers ≡ 62 = search rules in
     let so_far : to_z w128 c.loop-n.sum-bits ≡ signed_sum signs numbers n = c.loop-n.invariant in
     let size = signed_sum-size signs numbers n c.requires.signs c.requires.small (omega arith) (omega arith) in
-    let one : unsigned_abs (slice_index_or signs n (pos 0)) ≡ 1 = All-get_or (λ x. unsigned_abs x ≡ 1) signs n (pos 0) (omega arith) c.requires.signs in
-    let less : unsigned_abs (slice_index_or numbers n (pos 0)) ≤ 2 ^ 59 = All-get_or (λ x. unsigned_abs x ≤ 2 ^ 59) numbers n (pos 0) (omega arith) c.requires.small in
+    let one : nat_abs (slice_index_or signs n (pos 0)) ≡ 1 = All-get_or (λ x. nat_abs x ≡ 1) signs n (pos 0) (omega arith) c.requires.signs in
+    let less : nat_abs (slice_index_or numbers n (pos 0)) ≤ 2 ^ 59 = All-get_or (λ x. nat_abs x ≤ 2 ^ 59) numbers n (pos 0) (omega arith) c.requires.small in
     let sign : FitsSigned w8 (slice_index_or signs n (pos 0)) = fits_signed_from_abs w8 _ (omega arith) in
     let number : FitsSigned w64 (slice_index_or numbers n (pos 0)) = fits_signed_from_abs w64 _ (omega arith) in
     let value : c.signed.result ≡ slice_index_or signs n (pos 0) *ℤ slice_index_or numbers n (pos 0) = simp to_z-of_z at c.signed.ensures.value in

@@ -1,5 +1,6 @@
-use Rattle.std.specs.Prelude.{All, nat_abs, ◌≤◌, ◌*◌}
+use Rattle.std.specs.Prelude.{◌≤◌, ◌*◌}
 use Rattle.std.proofs.Common.{subst, sym, ◌<◌, arith, refl}
+use Rattle.finite.specs.Sizes.{RowsWithin}
 use Rattle.turbo_code.proofs.TableFacts.{is_small, row_size}
 use Rattle.turbo_code.proofs.Sizes.{sizes}
 use Rattle.turbo_code.proofs.Sums.{sums_none, sums_more, sums_all}
@@ -40,5 +41,5 @@ returns-clause-d c = sums_all c.args.row.k c.args.rv c.args.values.now c.loop-i.
 pub returns-clause-sizes : goal.returns-clause-sizes
 returns-clause-sizes c bound small =
     let is = sums_all c.args.row.k c.args.rv c.args.values.now c.loop-i.i c.loop-i.d (omega arith) c.loop-i.invariant in
-    subst (All (λ stream. All (λ sum. nat_abs sum ≤ 7 * bound) stream)) (sym is)
+    subst (RowsWithin (7 * bound)) (sym is)
     (sizes c.args.row.k c.args.rv (row_size c.args.row c.requires.row) c.requires.version c.args.values.now c.requires.count bound small)
