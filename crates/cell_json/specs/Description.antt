@@ -5,9 +5,10 @@ use Rattle.serde_json.specs.Events.{members_len}
 use Rattle.serde_json.specs.Find.{get, as_number, as_i64, as_str, as_array}
 use Rattle.cs_num.specs.Complex.{square}
 use Rattle.lte_types.specs.declared.duration.Duration.{Duration}
-use Rattle.lte_types.specs.declared.duration.Duration.TheVariants.{Normal, Extended}
+use Rattle.lte_types.specs.declared.duration.Duration.TheVariants.{Normal}
 use Rattle.lte_types.specs.declared.resource.Resource.{Resource}
-use Rattle.lte_types.specs.declared.resource.Resource.TheVariants.{OneSixth, Half, One, Two}
+use Rattle.lte_types.specs.declared.resource.Resource.TheVariants.{OneSixth}
+use Rattle.lte_types.specs.Codes.{duration_named, resource_named}
 use Rattle.cell_tx.specs.declared.error.CellError.TheVariants.{Form, Sfn, Offset, Samples, Gain, Identity, Spare}
 use Rattle.cell_tx.specs.Conditions.{Condition, condition}
 use Rattle.cell_tx.specs.Sent.{gain_of}
@@ -27,24 +28,10 @@ abbrev pub pair_of : Data → Option (ℤ × ℤ)
 pair_of json = option_and_then pair_in (as_array json)
 
 -- phich-Duration by its name
-abbrev pub duration_named : List ℕ → Option Duration
-duration_named name =
-    if bytes_eq name (codes "normal") then Some Normal
-    else (if bytes_eq name (codes "extended") then Some Extended
-    else None)
-
 abbrev pub duration_of : Data → Option Duration
 duration_of json = option_and_then duration_named (as_str json)
 
 -- phich-Resource by its name
-abbrev pub resource_named : List ℕ → Option Resource
-resource_named name =
-    if bytes_eq name (codes "oneSixth") then Some OneSixth
-    else (if bytes_eq name (codes "half") then Some Half
-    else (if bytes_eq name (codes "one") then Some One
-    else (if bytes_eq name (codes "two") then Some Two
-    else None)))
-
 abbrev pub resource_of : Data → Option Resource
 resource_of json = option_and_then resource_named (as_str json)
 

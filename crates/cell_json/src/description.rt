@@ -1,9 +1,9 @@
 //! What a JSON value describes.
 
-ghost use Rattle.std.specs.Prelude.{◌≡◌, ◌≤◌, ◌&&◌, nat_eq, true, false, codes, option_map, option_and_then, MatchOption, is_some, List, ℕ};
+ghost use Rattle.std.specs.Prelude.{◌≡◌, ◌≤◌, ◌&&◌, nat_eq, IsTrue, IsFalse, codes, option_map, option_and_then, MatchOption, is_some, List, ℕ};
 ghost use Rattle.serde_json.specs.Data.{Data};
 ghost use Rattle.serde_json.specs.View.{view};
-ghost use Rattle.cell_json.specs.Description.{whole_of, pair_of, duration_of, resource_of, duration_named, resource_named, at_key, key_count, has_form};
+ghost use Rattle.cell_json.specs.Description.{whole_of, pair_of, duration_of, resource_of, at_key, key_count, has_form};
 ghost use Rattle.cell_json.specs.Parts.{HasParts};
 
 use cs_num::Cpx;
@@ -61,47 +61,24 @@ fn pair(value: &Value, key: &str) -> Option<Cpx>
     pair_in(value.get(key)?)
 }
 
-// phich-Duration by its name.
-fn named_duration(name: &str) -> Option<Duration>
-    ensures { result ≡ duration_named name.now }
-{
-    match name {
-        "normal" => Some(Duration::Normal),
-        "extended" => Some(Duration::Extended),
-        _ => None,
-    }
-}
-
 // phich-Duration at a key.
 fn duration(value: &Value, key: &str) -> Option<Duration>
     ensures { result ≡ at_key duration_of key.now (view value.now) }
 {
-    named_duration(value.get(key)?.as_str()?)
-}
-
-// phich-Resource by its name.
-fn named_resource(name: &str) -> Option<Resource>
-    ensures { result ≡ resource_named name.now }
-{
-    match name {
-        "oneSixth" => Some(Resource::OneSixth),
-        "half" => Some(Resource::Half),
-        "one" => Some(Resource::One),
-        "two" => Some(Resource::Two),
-        _ => None,
-    }
+    Duration::from_name(value.get(key)?.as_str()?)
 }
 
 // phich-Resource at a key.
 fn resource(value: &Value, key: &str) -> Option<Resource>
     ensures { result ≡ at_key resource_of key.now (view value.now) }
 {
-    named_resource(value.get(key)?.as_str()?)
+    Resource::from_name(value.get(key)?.as_str()?)
 }
 
 /// The values of a description; `None` exactly where the JSON value has not its form.
 pub(crate) fn description_of(value: &Value) -> Option<Description>
-    ensures { MatchOption result (has_form (view value.now) ≡ false) (λ d. (has_form (view value.now) ≡ true) × HasParts d (view value.now)) }
+    ensures { MatchOption result (IsFalse (has_form (view value.now)))
+        (λ d. IsTrue (has_form (view value.now)) × HasParts d (view value.now)) }
 {
     if count_keys(value) != 8 {
         return None;

@@ -1,12 +1,12 @@
 //! Descriptions as bytes.
 
-ghost use Rattle.std.specs.Prelude.{◌≡◌, ◌≤◌, ◌<◌, ◌*◌, ℕ, pos, Some, None, true, false, MatchOption, MatchResult, nat_le};
+ghost use Rattle.std.specs.Prelude.{◌≡◌, ◌≤◌, pos, Some, None, IsTrue, IsFalse, IfSome, MatchOption, MatchResult};
 ghost use Rattle.serde_json.specs.Data.{Data};
 ghost use Rattle.cell_tx.specs.Clean.{IsGain};
 ghost use Rattle.cell_tx.specs.Sent.{gain_of};
 ghost use Rattle.cell_tx.specs.Conditions.{first_failed};
 ghost use Rattle.cell_json.specs.Description.{is_between, is_gain, has_form, conditions};
-ghost use Rattle.cell_json.specs.Parts.{HasParts};
+ghost use Rattle.cell_json.specs.Parts.{HasParts, HasCell, cell_conditions};
 ghost use Rattle.cell_json.specs.Reading.{HasValues, Describes, IsRefused};
 
 use crate::JsonError;
@@ -40,8 +40,10 @@ pub fn read(alloc: Global, bytes: &[u8]) -> Result<Transmission, JsonError>
 
 // A number within a range.
 fn within(number: &i64, least: u32, most: u32) -> Option<u32>
-    ensures { MatchOption result (is_between least most number.now ≡ false)
-        (λ n. (is_between least most number.now ≡ true) × (pos n ≡ number.now) × (least ≤ n) × (n ≤ most)) }
+    ensures found { MatchOption result (IsFalse (is_between least most number.now))
+        (λ _. IsTrue (is_between least most number.now)) }
+    ensures value { IfSome result (λ n. pos n ≡ number.now) }
+    ensures range { IfSome result (λ n. (least ≤ n) × (n ≤ most)) }
 {
     if least as i64 <= *number && *number <= most as i64 {
         Some(*number as u32)
@@ -50,18 +52,10 @@ fn within(number: &i64, least: u32, most: u32) -> Option<u32>
     }
 }
 
-// The number in 16 bits; one that does not fit becomes the greatest, which no condition allows.
-fn narrowed(number: &i64) -> u16
-    ensures same { (most : ℕ) → most < 65535 → is_between 0 most number.now ≡ nat_le result most }
-    ensures value { result < 65535 → pos result ≡ number.now }
-{
-    u16::try_from(*number).unwrap_or(u16::MAX)
-}
-
 // A gain, where the square of its size is 1 to 784.
 fn gain_within(gain: &Cpx) -> Option<(i16, i16)>
-    ensures { MatchOption result (is_gain (gain.now.re, gain.now.im) ≡ false)
-        (λ pair. (is_gain (gain.now.re, gain.now.im) ≡ true) × (pair ≡ (gain.now.re, gain.now.im)) × IsGain (gain_of pair)) }
+    ensures { MatchOption result (IsFalse (is_gain (gain.now.re, gain.now.im)))
+        (λ pair. IsTrue (is_gain (gain.now.re, gain.now.im)) × (pair ≡ (gain.now.re, gain.now.im)) × IsGain (gain_of pair)) }
 {
     let square = gain.norm();
     if 1 <= square && square <= 784 {
@@ -73,15 +67,37 @@ fn gain_within(gain: &Cpx) -> Option<(i16, i16)>
 
 // The frame number within its range.
 fn sfn_of(number: &i64) -> Option<Sfn>
-    ensures { MatchOption result (is_between 0 1023 number.now ≡ false) (λ sfn. (is_between 0 1023 number.now ≡ true) × (pos sfn ≡ number.now)) }
+    ensures { MatchOption result (IsFalse (is_between 0 1023 number.now))
+        (λ sfn. IsTrue (is_between 0 1023 number.now) × (pos sfn ≡ number.now)) }
 {
     Sfn::new(within(number, 0, 1023)? as u16)
 }
 
+// The cell of a description, or its first failed condition.
+fn cell_of(description: &Description) -> Result<Cell, CellError>
+    ensures { MatchResult result
+        (λ cell. (first_failed (cell_conditions description.now) ≡ None) × HasCell description.now cell)
+        (λ cause. first_failed (cell_conditions description.now) ≡ Some cause) }
+{
+    let Some(identity) = within(&description.identity, 0, 503) else {
+        return Err(CellError::Identity);
+    };
+    let Some(spare) = within(&description.spare, 0, 1023) else {
+        return Err(CellError::Spare);
+    };
+    Cell::new(CellPlan {
+        identity: identity as u16,
+        duration: description.duration,
+        resource: description.resource,
+        spare: spare as u16,
+    })
+}
+
 // The transmission of a description, or the first failed condition after the form.
 fn transmission_of(description: &Description) -> Result<Transmission, CellError>
-    ensures { (json : Data) → has_form json ≡ true → HasParts description.now json →
-        MatchResult result (λ t. (first_failed (conditions json) ≡ None) × HasValues t json) (λ cause. first_failed (conditions json) ≡ Some cause) }
+    ensures { (json : Data) → IsTrue (has_form json) → HasParts description.now json →
+        MatchResult result (λ t. (first_failed (conditions json) ≡ None) × HasValues t json)
+        (λ cause. first_failed (conditions json) ≡ Some cause) }
 {
     let Some(sfn) = sfn_of(&description.sfn) else {
         return Err(CellError::Sfn);
@@ -95,13 +111,7 @@ fn transmission_of(description: &Description) -> Result<Transmission, CellError>
     let Some(gain) = gain_within(&description.gain) else {
         return Err(CellError::Gain);
     };
-    let plan = CellPlan {
-        identity: narrowed(&description.identity),
-        duration: description.duration,
-        resource: description.resource,
-        spare: narrowed(&description.spare),
-    };
-    match Cell::new(plan) {
+    match cell_of(description) {
         Ok(cell) => Ok(Transmission {
             cell,
             sfn,

@@ -2,12 +2,15 @@
 
 ghost use Rattle.std.specs.Prelude.{◌≡◌, ◌+◌, ◌*◌, ◌≤◌, All, IfOk, length};
 
-use crate::recordings::{add_errors, oppose, put_wide_cell, silence};
+use crate::rows::WIDE;
 use cell_tx::CellError;
 use cs_outside::{FailSink, FailSource, MemSink, MemSource};
 use lte_top::{Status, Words, run};
+use run_tests::output_of;
+use sample_file::bytes_of;
 use std::alloc::{AllocError, Global};
 use std::test::Fail;
+use test_signals::{add_errors, oppose, put_rows, put_signals, silence, silent};
 
 // The room of a sink where none is named.
 const ROOM: usize = 16_777_216;
@@ -21,17 +24,7 @@ const SENT: [u8; 16] = [
     104, 0, 184, 255, 27, 0, 249, 255, 157, 255, 69, 0, 144, 255, 1, 0,
 ];
 
-// How a command ends over these bytes, and what it wrote.
-fn output_of(alloc: Global, word: &str, bytes: Vec<u8>) -> Result<(Status, Vec<u8>), AllocError> {
-    let mut words = Words::new(alloc);
-    words.push(word)?;
-    let mut source = MemSource::new(bytes);
-    let mut sink = MemSink::new(alloc, ROOM)?;
-    let status = run(alloc, &words, &mut source, &mut sink);
-    Ok((status, sink.taken().to_vec(alloc)?))
-}
-
-// The same of a text.
+// How a command ends over a text, and what it wrote.
 fn output_of_text(alloc: Global, word: &str, text: &str) -> Result<(Status, Vec<u8>), AllocError> {
     output_of(alloc, word, text.as_bytes().to_vec(alloc)?)
 }
@@ -214,10 +207,17 @@ fn contains(text: &[u8], piece: &[u8]) -> bool {
     false
 }
 
+// A cell of 50 resource blocks, with one master block.
+fn wide_cell(alloc: Global) -> Result<Vec<u8>, AllocError> {
+    let mut samples = silent(alloc, 57_600)?;
+    put_signals(&mut samples[..], 0);
+    put_rows(&mut samples[..], 0, &WIDE);
+    bytes_of(alloc, &samples)
+}
+
 #[test]
 fn a_wider_cell_is_certified(rt: HostRuntime) -> Result<(), Fail> {
-    let mut bytes = silence(rt.alloc(), 230_400)?;
-    put_wide_cell(&mut bytes);
+    let bytes = wide_cell(rt.alloc())?;
     let (status, taken) = output_of(rt.alloc(), "search", bytes.clone()?)?;
     assert_eq!(rt; status, Status::Done);
     assert_eq!(rt;
@@ -235,8 +235,7 @@ fn a_wider_cell_is_certified(rt: HostRuntime) -> Result<(), Fail> {
 
 #[test]
 fn certificates_into_a_sink_that_fails_leave_a_front(rt: HostRuntime) -> Result<(), Fail> {
-    let mut bytes = silence(rt.alloc(), 230_400)?;
-    put_wide_cell(&mut bytes);
+    let bytes = wide_cell(rt.alloc())?;
     let (_, whole) = output_of(rt.alloc(), "certify", bytes.clone()?)?;
     let mut words = Words::new(rt.alloc());
     words.push("certify")?;

@@ -1,7 +1,9 @@
-//! Tests of `search`, `certify` and `transmit` over sources and sinks in memory.
+//! Tests of the list, and of `search`, `certify` and `transmit` over sources and sinks in memory.
 #![tactic(auto)]
 
 #[cfg(test)]
 mod cells;
 #[cfg(test)]
-mod recordings;
+mod lists;
+#[cfg(test)]
+mod rows;

@@ -2,10 +2,8 @@
 use Rattle.std.specs.Prelude.{ℕ, ◌+◌, ◌-◌, ◌*◌, ◌/◌, ◌%◌, ◌^◌, nat_eq, Bool, List, ◌++◌}
 use Rattle.finite.specs.Lists.{values_below}
 use Rattle.cs_num.specs.declared.Cpx.{Cpx}
-use Rattle.lte_types.specs.declared.duration.Duration.{Duration}
-use Rattle.lte_types.specs.declared.duration.Duration.TheVariants.{Normal, Extended}
-use Rattle.lte_types.specs.declared.resource.Resource.{Resource}
-use Rattle.lte_types.specs.declared.resource.Resource.TheVariants.{OneSixth, Half, One, Two}
+use Rattle.lte_types.specs.declared.bandwidth.Bandwidth.TheVariants.{N6}
+use Rattle.lte_types.specs.Codes.{bandwidth_code, duration_code, resource_code}
 use Rattle.cs_bits.specs.Numbers.{bits_of}
 use Rattle.cs_bits.specs.Checks.{with_check_16}
 use Rattle.conv_code.specs.Code.{coded_word}
@@ -15,22 +13,11 @@ use Rattle.gold.specs.Gold.{gold_bit}
 use Rattle.crs.specs.Qpsk.{point}
 use Rattle.cell_tx.specs.declared.cell.CellPlan.{CellPlan}
 
--- the codes of phich-Duration and phich-Resource (TS 36.331 section 6.3.2, PHICH-Config)
-abbrev pub duration_code : Duration → ℕ
-duration_code Normal = 0
-duration_code Extended = 1
-
-abbrev pub resource_code : Resource → ℕ
-resource_code OneSixth = 0
-resource_code Half = 1
-resource_code One = 2
-resource_code Two = 3
-
 -- the 24 bits of the master block in the frame with this number: dl-Bandwidth n6, phich-Config, the upper 8 bits of the frame
 -- number, and the spare bits (TS 36.331 section 6.2.2)
 unfoldable pub block_bits : CellPlan → ℕ → List Bool
 block_bits plan sfn =
-    bits_of 3 0 ++ bits_of 1 (duration_code plan.duration) ++ bits_of 2 (resource_code plan.resource) ++ bits_of 8 (sfn / 4)
+    bits_of 3 (bandwidth_code N6) ++ bits_of 1 (duration_code plan.duration) ++ bits_of 2 (resource_code plan.resource) ++ bits_of 8 (sfn / 4)
     ++ bits_of 10 plan.spare
 
 -- the block and its check, which has the mask 0000 of one antenna port (TS 36.212 section 5.3.1.1)

@@ -11,10 +11,10 @@ use Rattle.grid_map.specs.Broadcast.{is_pbch, pbch_index}
 use Rattle.cell_tx.specs.declared.cell.CellPlan.{CellPlan}
 use Rattle.cell_tx.specs.Block.{broadcast_point}
 
--- the middle 62 subcarriers of this row of subframes 0 and 5 hold a synchronisation signal (TS 36.211 sections 6.11.1.2 and 6.11.2.2)
+-- the middle 62 subcarriers of this symbol of subframes 0 and 5 hold a synchronisation signal (TS 36.211 sections 6.11.1.2 and 6.11.2.2)
 abbrev pub is_synchronised : ℕ → ℕ → ℕ → ℕ → Bool
-is_synchronised row subframe symbol k =
-    (nat_eq subframe 0 || nat_eq subframe 5) && nat_eq symbol row && nat_le 5 k && nat_lt k 67
+is_synchronised signal subframe symbol k =
+    (nat_eq subframe 0 || nat_eq subframe 5) && nat_eq symbol signal && nat_le 5 k && nat_lt k 67
 
 -- the primary signal is in symbol 6, the secondary one in symbol 5
 abbrev pub is_primary : ℕ → ℕ → ℕ → Bool

@@ -6,36 +6,14 @@ ghost use Rattle.finite.specs.Bits.{xor};
 ghost use Rattle.gold.specs.Gold.{gold_bits};
 ghost use Rattle.conv_code.specs.Reading.{bit_at_place, place_of};
 ghost use Rattle.cs_bits.specs.Numbers.{bits_of};
-ghost use Rattle.cell_tx.specs.Block.{duration_code, resource_code, broadcast_word, broadcast_point};
+ghost use Rattle.cell_tx.specs.Block.{broadcast_word, broadcast_point};
 
 use crate::Cell;
 use conv_code::{encode, match_out};
 use crs::point;
 use cs_bits::{Bits, crc16, put_number};
 use cs_num::Cpx;
-use lte_types::{CellId, Duration, Resource, Sfn};
-
-// The code of phich-Duration.
-fn code_of_duration(duration: Duration) -> u16
-    ensures { result ≡ duration_code duration }
-{
-    match duration {
-        Duration::Normal => 0,
-        Duration::Extended => 1,
-    }
-}
-
-// The code of phich-Resource.
-fn code_of_resource(resource: Resource) -> u16
-    ensures { result ≡ resource_code resource }
-{
-    match resource {
-        Resource::OneSixth => 0,
-        Resource::Half => 1,
-        Resource::One => 2,
-        Resource::Two => 3,
-    }
-}
+use lte_types::{Bandwidth, CellId, Sfn};
 
 // Writes the low bits of a number from place `first` on, the highest first.
 fn put_bits(bits: &mut [bool; 40], first: usize, width: usize, number: u16)
@@ -52,9 +30,9 @@ fn word_of(cell: &Cell, sfn: Sfn) -> Bits<40>
 {
     let plan = cell.plan();
     let mut bits = [false; 40];
-    put_bits(&mut bits, 0, 3, 0);
-    put_bits(&mut bits, 3, 1, code_of_duration(plan.duration));
-    put_bits(&mut bits, 4, 2, code_of_resource(plan.resource));
+    put_bits(&mut bits, 0, 3, Bandwidth::N6.code() as u16);
+    put_bits(&mut bits, 3, 1, plan.duration.code() as u16);
+    put_bits(&mut bits, 4, 2, plan.resource.code() as u16);
     put_bits(&mut bits, 6, 8, sfn.value() / 4);
     put_bits(&mut bits, 14, 10, plan.spare);
     let check = crc16(&bits[..24]);

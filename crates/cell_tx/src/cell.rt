@@ -24,11 +24,9 @@ pub struct CellPlan {
 #[derive(Debug, Drop)]
 pub struct Cell {
     plan: CellPlan,
-    id: CellId,
 }
 
 impl Model for Cell {
-    ghost use Rattle.std.specs.Prelude.{◌≡◌};
     ghost use Rattle.cell_tx.specs.declared.cell.CellPlan.{CellPlan as Plan};
     ghost use Rattle.cell_tx.specs.Plan.{IsSendable};
 
@@ -36,7 +34,7 @@ impl Model for Cell {
 
     ghost view = { λ c. c.plan };
 
-    ghost invariant = { λ c. IsSendable c.plan × (c.id ≡ c.plan.identity) };
+    ghost invariant = { λ c. IsSendable c.plan };
 }
 
 impl Cell {
@@ -49,13 +47,13 @@ impl Cell {
         ensures plan { IfOk result (λ cell. cell ≡ plan) }
         ensures sendable { IfOk result IsSendable }
     {
-        let Some(id) = CellId::new(plan.identity) else {
+        if CellId::new(plan.identity).is_none() {
             return Err(CellError::Identity);
-        };
+        }
         if plan.spare > 1023 {
             return Err(CellError::Spare);
         }
-        Ok(Cell { plan, id })
+        Ok(Cell { plan })
     }
 
     /// The plan.
@@ -71,6 +69,9 @@ impl Cell {
         ensures value { result ≡ self.now.identity }
         ensures sendable { IsSendable self.now }
     {
-        self.id
+        match CellId::new(self.plan.identity) {
+            Some(id) => id,
+            None => unreachable!(),
+        }
     }
 }

@@ -91,11 +91,11 @@ fn references(id: CellId, slot: u8, symbol: u8) -> [Option<Cpx>; 72]
     row
 }
 
-// Whether a synchronisation signal in this row of its subframe is at a place.
-fn is_row(row: u8, subframe: u8, symbol: u8, k: u8) -> bool
-    ensures { result ≡ is_synchronised row subframe symbol k }
+// Whether the synchronisation signal in this symbol of its subframes is at a place.
+fn is_signal(signal: u8, subframe: u8, symbol: u8, k: u8) -> bool
+    ensures { result ≡ is_synchronised signal subframe symbol k }
 {
-    (subframe == 0 || subframe == 5) && symbol == row && 5 <= k && k < 67
+    (subframe == 0 || subframe == 5) && symbol == signal && 5 <= k && k < 67
 }
 
 // Sign n of the secondary sequence in a subframe.
@@ -163,9 +163,9 @@ fn element_of(
 {
     if let Some(value) = references[k as usize] {
         value
-    } else if is_row(6, subframe, symbol, k) {
+    } else if is_signal(6, subframe, symbol, k) {
         signals.primary[k as usize - 5]
-    } else if is_row(5, subframe, symbol, k) {
+    } else if is_signal(5, subframe, symbol, k) {
         secondary_of(signals, subframe, k)
     } else {
         broadcast_of(signals, subframe, symbol, k)

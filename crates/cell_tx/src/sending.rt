@@ -19,7 +19,7 @@ use lte_types::{FRAME_LENGTH, Prefix, SLOT_LENGTH, Sfn, USEFUL_LENGTH};
 const FRAME: u64 = FRAME_LENGTH as u64;
 
 // The sample that a small number is.
-fn narrow(z: Cpx) -> Sample
+fn to_sample(z: Cpx) -> Sample
     requires { IsWithin 32767 z }
     ensures { result ≡ sample_of z }
 {
@@ -62,7 +62,7 @@ fn sample_of_slot(signals: &Signals, useful: &[Cpx; 128], slot: usize, i: usize)
     requires useful { useful.now ≡ useful_part (element signals.now.cell.now signals.now.sfn (slot / 2) (7 * (slot % 2) + symbol_of normal i)) }
     ensures { result ≡ sample_of (slot_sample signals.now.cell.now signals.now.sfn slot i) }
 {
-    narrow(useful[place_at(i)])
+    to_sample(useful[place_at(i)])
 }
 
 // Sample i of a frame.
@@ -154,7 +154,7 @@ fn amplified(gain: (i16, i16), clean: Sample) -> Sample
     ensures value { result ≡ sample_of (times (gain_of gain) (value_of clean)) }
     ensures size { IsWithin 32284 (times (gain_of gain) (value_of clean)) }
 {
-    narrow(value_of_gain(gain).mul(value(clean)))
+    to_sample(value_of_gain(gain).mul(value(clean)))
 }
 
 /// Sample `i` of a transmission: sample `i + offset` of the cell's sequence, times the gain. `i` is
@@ -168,7 +168,7 @@ pub fn send(t: &Transmission, i: u32) -> Sample
 }
 
 // Makes the frame of sample i of a transmission, where that of the sample before is another one.
-fn renew(t: &Transmission, i: usize, clean: &mut [Sample; FRAME_LENGTH])
+fn enter_frame(t: &Transmission, i: usize, clean: &mut [Sample; FRAME_LENGTH])
     requires i { i < t.now.samples }
     requires before { 0 < i → clean.old ≡ frame_samples t.now.cell (number_of t.now.sfn (i - 1 + t.now.offset)) }
     ensures { clean.new ≡ frame_samples t.now.cell (number_of t.now.sfn (i + t.now.offset)) }
@@ -196,7 +196,7 @@ pub fn send_all(t: &Transmission, out: &mut [Sample])
 {
     let mut clean = [Sample { re: 0, im: 0 }; FRAME_LENGTH];
     for i in 0..out.len() {
-        renew(t, i, &mut clean);
+        enter_frame(t, i, &mut clean);
         out[i] = sent_from(t, i, &clean);
     }
 }

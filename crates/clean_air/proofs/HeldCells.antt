@@ -22,7 +22,8 @@ use Rattle.conv_code.specs.Cost.{word_cost}
 use Rattle.soft_bits.specs.Soft.{SeenSlot}
 use Rattle.pbch.specs.declared.master.Master.{Master}
 use Rattle.pbch.specs.Values.{coded_values}
-use Rattle.pbch.specs.Master.{bandwidth, Tells, TellsMaster}
+use Rattle.lte_types.specs.Codes.{bandwidth}
+use Rattle.pbch.specs.Master.{Tells, TellsMaster}
 use Rattle.pbch.proofs.Words.{one_master}
 use Rattle.cell_tx.specs.declared.cell.CellPlan.{CellPlan}
 use Rattle.cell_tx.specs.Plan.{IsSendable}

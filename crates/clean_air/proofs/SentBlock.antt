@@ -7,18 +7,16 @@ use Rattle.std.proofs.lemmas.Nat.{shr-shr}
 use Rattle.std.proofs.lemmas.List.{take_all, length-append, length-replicate}
 use Rattle.std.proofs.lemmas.Bool.Decides.{nat_tests}
 use Rattle.finite.proofs.Lists.{values_below_at, values_below-length}
-use Rattle.cs_bits.specs.Numbers.{number, bits_of, part}
+use Rattle.cs_bits.specs.Numbers.{number, bits_of, part, field}
 use Rattle.cs_bits.specs.Checks.{crc16_of}
 use Rattle.cs_bits.proofs.Numbers.{number_of_bits}
 use Rattle.cs_bits.proofs.Checks.{checked_16}
-use Rattle.lte_types.specs.declared.duration.Duration.{Duration}
-use Rattle.lte_types.specs.declared.duration.Duration.TheVariants.{Normal, Extended}
-use Rattle.lte_types.specs.declared.resource.Resource.{Resource}
-use Rattle.lte_types.specs.declared.resource.Resource.TheVariants.{OneSixth, Half, One, Two}
-use Rattle.cs_bits.specs.Numbers.{field}
-use Rattle.pbch.specs.Master.{duration, resource, PassesWith}
+use Rattle.lte_types.specs.declared.bandwidth.Bandwidth.TheVariants.{N6}
+use Rattle.lte_types.specs.Codes.{bandwidth_code, duration, duration_code, resource, resource_code}
+use Rattle.lte_types.proofs.RoundTrips.{duration-code, duration_code_fits, resource-code, resource_code_fits}
+use Rattle.pbch.specs.Master.{PassesWith}
 use Rattle.cell_tx.specs.declared.cell.CellPlan.{CellPlan}
-use Rattle.cell_tx.specs.Block.{duration_code, resource_code, block_bits, broadcast_word}
+use Rattle.cell_tx.specs.Block.{block_bits, broadcast_word}
 
 -- ---- the parts of a word
 
@@ -47,26 +45,6 @@ pub record IsBlockOf (plan : CellPlan) (sfn : ℕ) (word : List Bool) : Type 0 w
   pub spare : field word 14 10 ≡ plan.spare
   pub check : PassesWith 1 word
 
-duration_small : (d : Duration) → duration_code d < 2 ^ 1
-duration_small Normal = omega arith
-duration_small Extended = omega arith
-
-resource_small : (r : Resource) → resource_code r < 2 ^ 2
-resource_small OneSixth = omega arith
-resource_small Half = omega arith
-resource_small One = omega arith
-resource_small Two = omega arith
-
-duration_back : (d : Duration) → duration (duration_code d) ≡ d
-duration_back Normal = refl
-duration_back Extended = refl
-
-resource_back : (r : Resource) → resource (resource_code r) ≡ r
-resource_back OneSixth = refl
-resource_back Half = refl
-resource_back One = refl
-resource_back Two = refl
-
 pub is_block : (plan : CellPlan) (sfn : ℕ) → plan.spare ≤ 1023 → sfn ≤ 1023 → IsBlockOf plan sfn (broadcast_word plan sfn)
 unfolding broadcast_word block_bits word_with
 is_block plan sfn spare known =
@@ -75,8 +53,8 @@ is_block plan sfn spare known =
     record {
       size = parts.size;
       width = ap number parts.first ∙ number_of_bits 3 0 (omega arith);
-      duration = ap duration (ap number parts.second ∙ number_of_bits 1 (duration_code plan.duration) (duration_small plan.duration)) ∙ duration_back plan.duration;
-      resource = ap resource (ap number parts.third ∙ number_of_bits 2 (resource_code plan.resource) (resource_small plan.resource)) ∙ resource_back plan.resource;
+      duration = ap duration (ap number parts.second ∙ number_of_bits 1 (duration_code plan.duration) (let fits = duration_code_fits plan.duration in omega (arith, fits))) ∙ duration-code plan.duration;
+      resource = ap resource (ap number parts.third ∙ number_of_bits 2 (resource_code plan.resource) (let fits = resource_code_fits plan.resource in omega (arith, fits))) ∙ resource-code plan.resource;
       upper = ap number parts.fourth ∙ number_of_bits 8 (sfn / 4) (omega arith);
       spare = ap number parts.fifth ∙ number_of_bits 10 plan.spare (omega arith);
       check = record { count = inl refl; check = checked_16 0 (block_bits plan sfn) (omega arith) };

@@ -15,8 +15,8 @@ use Rattle.pbch.specs.Values.{coded_values}
 use Rattle.pbch.specs.Master.{IsMaster, HasNoMaster}
 use Rattle.pbch.proofs.Words.{one_master}
 use Rattle.explain.specs.Frame.{IsWhole, seen_slot, broadcast_slot}
-use Rattle.explain.specs.Entries.{identity_at, start_at, master_of, HasNoMasterBefore, IsEntryOf, AreEntriesOf, first_number}
-use Rattle.explain.specs.Masters.{master_at, IsTold, AreMasters, HasNoMasters, HasMaster, IsFirstWith, entry_of, entry_at, entries_of, Adds, AddsHit}
+use Rattle.explain.specs.Entries.{identity_at, start_at, master_of, HasNoMasterBefore, IsEntryOf, AreEntriesOf, first_number, Adds, AddsHit}
+use Rattle.explain.specs.Masters.{master_at, IsTold, AreMasters, HasNoMasters, HasMaster, IsFirstWith, entry_of, entry_at, entries_of}
 use Rattle.explain.proofs.Sorted.{in_none, in_one, Contains-here}
 use Rattle.explain.proofs.Entries.{same_master, same_entry}
 
@@ -205,7 +205,7 @@ no_entries recording hit none = record {
 
 pub adds_entries : (recording : List Sample) (hit : Hit) (identity start frame : ℕ) (masters : List (Option Master)) (old new : List Entry) →
     identity ≡ identity_at recording hit → start ≡ start_at recording hit → IsFirstWith recording identity start frame masters →
-    Adds (entries_of identity start frame masters) old new → AddsHit recording hit old new
+    Adds (entries_of identity start frame masters) old new → AddsHit (AreEntriesOf recording) hit old new
 adds_entries recording hit identity start frame masters old new id at first adds = record {
   entries = entries_of (identity_at recording hit) (start_at recording hit) frame masters;
   are = entries_are recording hit frame masters
@@ -214,7 +214,7 @@ adds_entries recording hit identity start frame masters old new id at first adds
 }
 
 pub adds_nothing : (recording : List Sample) (hit : Hit) (identity start : ℕ) (list : List Entry) →
-    identity ≡ identity_at recording hit → start ≡ start_at recording hit → HasNoMasters recording identity start → Adds [] list list → AddsHit recording hit list list
+    identity ≡ identity_at recording hit → start ≡ start_at recording hit → HasNoMasters recording identity start → Adds [] list list → AddsHit (AreEntriesOf recording) hit list list
 adds_nothing recording hit identity start list id at none adds = record {
   entries = [];
   are = no_entries recording hit (subst (HasNoMasters recording (identity_at recording hit)) at (subst (λ i. HasNoMasters recording i start) id none));

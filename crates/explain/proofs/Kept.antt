@@ -12,8 +12,7 @@ use Rattle.std.proofs.lemmas.List.Edits.{length-insert, get_or-insert_below, get
 use Rattle.std.proofs.lemmas.List.Sorted.{IsPermutation-trans, IsPermutation-cons, IsPermutation-to_front, IsPermutation-insert, list_any-IsPermutation}
 use Rattle.finite.proofs.Lists.{AllPairs-append}
 use Rattle.lte_types.specs.declared.entry.Entry.{Entry}
-use Rattle.explain.specs.Entries.{epoch, distance, is_same_cell, with_entry, kept, IsBefore, IsListOf}
-use Rattle.explain.specs.Masters.{Adds}
+use Rattle.explain.specs.Entries.{epoch, distance, is_same_cell, with_entry, kept, IsBefore, IsListOf, Adds}
 use Rattle.explain.specs.Laws.{StandsFor}
 use Rattle.explain.proofs.Sorted.{in_none, in_one, in_cons, Contains-here}
 

@@ -10,9 +10,8 @@ use Rattle.cs_num.specs.declared.Sample.{Sample}
 use Rattle.lte_types.specs.declared.hit.Hit.{Hit}
 use Rattle.lte_types.specs.declared.entry.Entry.{Entry}
 use Rattle.pss_search.specs.Hits.{hits_of}
-use Rattle.explain.specs.Entries.{is_same_cell, kept, IsBefore, IsEntryOf, AreEntriesOf, IsListOf, IsListOfHits}
-use Rattle.explain.specs.Masters.{AddsHit}
-use Rattle.explain.specs.Laws.{IsOneList, IsSound, IsComplete, IsApart}
+use Rattle.explain.specs.Entries.{is_same_cell, kept, IsBefore, IsEntryOf, AreEntriesOf, IsListOf, IsListOfHits, AddsHit}
+use Rattle.explain.specs.Laws.{IsOneList, IsSound, IsComplete, AreApart, IsApart}
 use Rattle.explain.proofs.Sorted.{in_none, in_cons, Contains-here, Contains-later, one_in_order}
 use Rattle.explain.proofs.Kept.{same_cell_turned, same_place_same_cell, kept_only, kept_stands, kept_apart, before_after}
 
@@ -67,15 +66,19 @@ one_group recording hit first second a b =
     one_in_order (λ (x y : Entry). x.phase < y.phase) (λ x y p q. omega (arith, p, q)) first second a.by_phase b.by_phase
     (λ z h. (b.given z).1 ((a.given z).0 h)) (λ z h. (a.given z).1 ((b.given z).0 h))
 
-one_grouping : (recording : List Sample) (hits : List Hit) (first second : List (List Entry)) →
-    AllZip (AreEntriesOf recording) hits first → AllZip (AreEntriesOf recording) hits second → first ≡ second
-one_grouping recording [] [] [] a b = refl
-one_grouping recording [] [] (g ∷ gs) a b = absurd b
-one_grouping recording [] (f ∷ fs) second a b = absurd a
-one_grouping recording (hit ∷ hits) [] second a b = absurd a
-one_grouping recording (hit ∷ hits) (f ∷ fs) [] a b = absurd b
-one_grouping recording (hit ∷ hits) (f ∷ fs) (g ∷ gs) a b =
-    ap (λ x. x ∷ fs) (one_group recording hit f g a.0 b.0) ∙ ap (λ xs. g ∷ xs) (one_grouping recording hits fs gs a.1 b.1)
+-- where each hit has one list of entries, hits have one list of such lists
+abbrev pub HasOneGroup : (Hit → List Entry → Type 0) → Type 0
+HasOneGroup AreOf = (hit : Hit) (first second : List Entry) → AreOf hit first → AreOf hit second → first ≡ second
+
+one_grouping : (AreOf : Hit → List Entry → Type 0) → HasOneGroup AreOf → (hits : List Hit) (first second : List (List Entry)) →
+    AllZip AreOf hits first → AllZip AreOf hits second → first ≡ second
+one_grouping AreOf one [] [] [] a b = refl
+one_grouping AreOf one [] [] (g ∷ gs) a b = absurd b
+one_grouping AreOf one [] (f ∷ fs) second a b = absurd a
+one_grouping AreOf one (hit ∷ hits) [] second a b = absurd a
+one_grouping AreOf one (hit ∷ hits) (f ∷ fs) [] a b = absurd b
+one_grouping AreOf one (hit ∷ hits) (f ∷ fs) (g ∷ gs) a b =
+    ap (λ x. x ∷ fs) (one hit f g a.0 b.0) ∙ ap (λ xs. g ∷ xs) (one_grouping AreOf one hits fs gs a.1 b.1)
 
 one_order : (entries first second : List Entry) → IsListOf entries first → IsListOf entries second → first ≡ second
 one_order entries first second a b =
@@ -83,10 +86,15 @@ one_order entries first second a b =
     (λ z h. Contains-permutation (kept entries) second z b.same (Contains-permutation first (kept entries) z (IsPermutation-sym _ _ a.same) h))
     (λ z h. Contains-permutation (kept entries) first z a.same (Contains-permutation second (kept entries) z (IsPermutation-sym _ _ b.same) h))
 
-pub is_one_list : IsOneList
-is_one_list recording first second a b =
-    let groups = one_grouping recording (hits_of recording) a.groups b.groups a.each b.each in
+-- then hits have one list
+pub one_list : (AreOf : Hit → List Entry → Type 0) → HasOneGroup AreOf → (hits : List Hit) (first second : List Entry) →
+    IsListOfHits AreOf hits first → IsListOfHits AreOf hits second → first ≡ second
+one_list AreOf one hits first second a b =
+    let groups = one_grouping AreOf one hits a.groups b.groups a.each b.each in
     one_order (joined b.groups) first second (subst (λ g. IsListOf (joined g) first) groups a.listed) b.listed
+
+pub is_one_list : IsOneList
+is_one_list recording = one_list (AreEntriesOf recording) (one_group recording) (hits_of recording)
 
 -- two of a list of which none is of the cell of a later one, at two places
 places_apart : (entries : List Entry) (x y : Entry) (i j : ℕ) → AllPairs (λ a b. is_same_cell a b ≡ false) entries → i < length entries → j < length entries →
@@ -110,8 +118,9 @@ one_place entries x y m n e ex ey inside before =
     let same : x ≡ y = sym ex ∙ get_or_default entries m x y inside ∙ ap (λ k. get_or entries k y) e ∙ ey in
     before_after x x (subst (IsBefore x) (sym same) before) (subst (IsBefore x) (sym same) before)
 
-pub is_apart : IsApart
-is_apart recording list explained i j d below inside =
+-- no two of a list of hits are of one cell, whatever entries each hit has
+pub list_is_apart : (AreOf : Hit → List Entry → Type 0) (hits : List Hit) (list : List Entry) → IsListOfHits AreOf hits list → AllPairs AreApart list
+list_is_apart AreOf hits list explained i j d below inside =
     let entries = kept (joined explained.groups) in
     let x = get_or list i d in
     let y = get_or list j d in
@@ -126,10 +135,13 @@ is_apart recording list explained i j d below inside =
       differ = λ id start sfn. let same = same_place_same_cell x y id start sfn in absurd (cc (same, other));
     }
 
+pub is_apart : IsApart
+is_apart recording = list_is_apart (AreEntriesOf recording) (hits_of recording)
+
 -- ---- hit after hit
 
-pub of_no_hits : (recording : List Sample) → IsListOfHits recording [] []
-of_no_hits recording = record {
+pub of_no_hits : (AreOf : Hit → List Entry → Type 0) → IsListOfHits AreOf [] []
+of_no_hits AreOf = record {
   groups = [];
   each = tt;
   listed = record { same = IsPermutation-refl []; in_order = λ i j d below inside. absurd (omega (arith, inside)) };
@@ -141,12 +153,13 @@ AllZip-more R [] (b ∷ ys) x y h r = absurd h
 AllZip-more R (a ∷ xs) [] x y h r = absurd h
 AllZip-more R (a ∷ xs) (b ∷ ys) x y h r = (h.0, AllZip-more R xs ys x y h.1 r)
 
-pub of_one_more : (recording : List Sample) (hits : List Hit) (hit : Hit) (old new : List Entry) → IsListOfHits recording hits old → AddsHit recording hit old new → IsListOfHits recording (hits ++ hit ∷ []) new
-of_one_more recording hits hit old new before adds =
+pub of_one_more : (AreOf : Hit → List Entry → Type 0) (hits : List Hit) (hit : Hit) (old new : List Entry) →
+    IsListOfHits AreOf hits old → AddsHit AreOf hit old new → IsListOfHits AreOf (hits ++ hit ∷ []) new
+of_one_more AreOf hits hit old new before adds =
     let all : joined (before.groups ++ adds.entries ∷ []) ≡ joined before.groups ++ adds.entries =
     flat_map-append (λ entries. entries) before.groups (adds.entries ∷ []) ∙ ap (λ e. joined before.groups ++ e) (append-nil adds.entries) in
     record {
       groups = before.groups ++ adds.entries ∷ [];
-      each = AllZip-more (AreEntriesOf recording) hits before.groups hit adds.entries before.each adds.are;
+      each = AllZip-more AreOf hits before.groups hit adds.entries before.each adds.are;
       listed = subst (λ entries. IsListOf entries new) (sym all) (adds.adds (joined before.groups) before.listed);
     }

@@ -1,5 +1,5 @@
 -- The list of the cells that a recording explains. (own)
-use Rattle.std.specs.Prelude.{◌≡◌, ◌⊎◌, ◌↔◌, ℕ, ◌+◌, ◌-◌, ◌*◌, ◌%◌, ◌<◌, ◌≤◌, min, Bool, ◌&&◌, nat_eq, nat_le, if◌then◌else◌, List, [], ◌∷◌, ◌++◌, Err}
+use Rattle.std.specs.Prelude.{◌≡◌, ◌⊎◌, ◌↔◌, ℕ, ◌+◌, ◌-◌, ◌*◌, ◌%◌, ◌<◌, ◌≤◌, min, Bool, ◌&&◌, nat_eq, nat_le, if◌then◌else◌, List, [], ◌∷◌, ◌++◌, ℤ, Err}
 use Rattle.std.specs.List.{fold, list_any, flat_map, AllZip, AllPairs, Contains}
 use Rattle.std.specs.List.Sorted.{IsPermutation}
 use Rattle.cs_num.specs.declared.Sample.{Sample}
@@ -12,7 +12,8 @@ use Rattle.lte_types.specs.Identity.{cell_of}
 use Rattle.lte_types.specs.Numerology.{cycle_length, frame_length}
 use Rattle.sss_detect.specs.Place.{start_of}
 use Rattle.pbch.specs.declared.master.Master.{Master}
-use Rattle.pbch.specs.Master.{IsMaster, HasNoMaster}
+use Rattle.pbch.specs.Values.{coded_values}
+use Rattle.pbch.specs.Master.{TellsMaster, HasNoMaster}
 use Rattle.explain.specs.Frame.{IsWhole, broadcast_slot}
 
 -- ---- the entries of a hit
@@ -28,6 +29,11 @@ start_at recording hit = start_of hit.t (identity_of recording hit).1
 -- the master block of an entry
 abbrev pub master_of : Entry → Master
 master_of entry = record { ports = entry.ports; mib = entry.mib; cost = entry.cost }
+
+-- the values that tell it: those of the entry's frame at its phase
+abbrev pub values_of_entry : List Sample → Entry → List (List ℤ)
+values_of_entry recording entry =
+    coded_values (broadcast_slot recording entry.id entry.start entry.frame) entry.phase
 
 -- no frame before frame j has a master block, at any phase
 abbrev pub HasNoMasterBefore : List Sample → ℕ → ℕ → ℕ → Type 0
@@ -47,7 +53,7 @@ pub record IsEntryOf (recording : List Sample) (hit : Hit) (entry : Entry) : Typ
   pub phase : entry.phase < 4
   pub whole : IsWhole recording entry.start entry.frame
   pub first : HasNoMasterBefore recording entry.id entry.start entry.frame
-  pub master : IsMaster (broadcast_slot recording entry.id entry.start entry.frame) entry.phase (master_of entry)
+  pub master : TellsMaster (values_of_entry recording entry) (master_of entry)
   pub sfn : entry.sfn ≡ first_number entry.mib.upper entry.phase entry.frame
   pub sib1 : entry.sib1 ≡ Err NotRead
 
@@ -58,7 +64,7 @@ pub record AreEntriesOf (recording : List Sample) (hit : Hit) (entries : List En
 
 -- ---- the entries that are kept
 
--- when frame 0 began, modulo the samples of 1,024 frames
+-- when frame 0 of the numbering began, modulo the samples of 1,024 frames
 abbrev pub epoch : Entry → ℕ
 epoch entry = (entry.start + (cycle_length - frame_length * entry.sfn)) % cycle_length
 
@@ -90,15 +96,25 @@ pub record IsListOf (entries list : List Entry) : Type 0 where
   pub same : IsPermutation (kept entries) list
   pub in_order : AllPairs IsBefore list
 
--- the list of hits: that of their entries, those of one hit after those of the other
-pub record IsListOfHits (recording : List Sample) (hits : List Hit) (list : List Entry) : Type 0 where
+-- the list has these entries besides
+abbrev pub Adds : List Entry → List Entry → List Entry → Type 0
+Adds entries old new = (before : List Entry) → IsListOf before old → IsListOf (before ++ entries) new
+
+-- the list of hits, where `AreOf` says which entries each hit has: that of their entries, those of one hit after those of the other
+pub record IsListOfHits (AreOf : Hit → List Entry → Type 0) (hits : List Hit) (list : List Entry) : Type 0 where
   pub groups : List (List Entry)
-  pub each : AllZip (AreEntriesOf recording) hits groups
+  pub each : AllZip AreOf hits groups
   pub listed : IsListOf (flat_map (λ entries. entries) groups) list
+
+-- the list has the entries of a hit besides
+pub record AddsHit (AreOf : Hit → List Entry → Type 0) (hit : Hit) (old new : List Entry) : Type 0 where
+  pub entries : List Entry
+  pub are : AreOf hit entries
+  pub adds : Adds entries old new
 
 -- the list of a recording
 abbrev pub IsExplained : List Sample → List Entry → Type 0
-IsExplained recording list = IsListOfHits recording (hits_of recording) list
+IsExplained recording list = IsListOfHits (AreEntriesOf recording) (hits_of recording) list
 
 -- the entry is in the recording's list
 pub record IsInList (recording : List Sample) (entry : Entry) : Type 0 where

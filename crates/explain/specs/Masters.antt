@@ -9,7 +9,7 @@ use Rattle.soft_bits.specs.Soft.{SeenSlot}
 use Rattle.pbch.specs.declared.master.Master.{Master}
 use Rattle.pbch.specs.Master.{IsMaster, HasNoMaster}
 use Rattle.explain.specs.Frame.{IsWhole, broadcast_slot}
-use Rattle.explain.specs.Entries.{HasNoMasterBefore, AreEntriesOf, IsListOf, first_number}
+use Rattle.explain.specs.Entries.{HasNoMasterBefore, first_number}
 
 -- what a list of master blocks has for a phase
 abbrev pub master_at : List (Option Master) → ℕ → Option Master
@@ -69,13 +69,3 @@ entry_at identity start frame phase (Some master) = entry_of identity start fram
 -- those of all phases
 abbrev pub entries_of : ℕ → ℕ → ℕ → List (Option Master) → List Entry
 entries_of identity start frame masters = joined_below 4 (λ phase. entry_at identity start frame phase (master_at masters phase))
-
--- the list has these entries besides
-abbrev pub Adds : List Entry → List Entry → List Entry → Type 0
-Adds entries old new = (before : List Entry) → IsListOf before old → IsListOf (before ++ entries) new
-
--- the list has the entries of a hit besides
-pub record AddsHit (recording : List Sample) (hit : Hit) (old new : List Entry) : Type 0 where
-  pub entries : List Entry
-  pub are : AreEntriesOf recording hit entries
-  pub adds : Adds entries old new

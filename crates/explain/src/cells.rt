@@ -3,14 +3,11 @@
 ghost use Rattle.std.specs.Prelude.{◌≡◌, ◌+◌, ◌<◌, ◌≤◌, [], All, length};
 ghost use Rattle.finite.specs.Sizes.{RowsWithin};
 ghost use Rattle.pss_search.specs.Hits.{IsInSpan};
-ghost use Rattle.pbch.specs.Values.{coded_values};
 ghost use Rattle.pbch.specs.Master.{TellsMaster};
-ghost use Rattle.explain.specs.Frame.{broadcast_slot as broadcast_slot_of};
-ghost use Rattle.explain.specs.Entries.{IsExplained, IsInList, IsListOfHits, master_of};
-ghost use Rattle.explain.specs.Masters.{AddsHit, Adds, entry_of as entry_of_master, entry_at, entries_of};
+ghost use Rattle.explain.specs.Entries.{IsExplained, IsInList, AreEntriesOf, IsListOfHits, Adds, AddsHit, master_of, values_of_entry};
+ghost use Rattle.explain.specs.Masters.{entry_of as entry_of_master, entry_at, entries_of};
 
 use crate::frame::broadcast_slot;
-use crate::listing::add;
 use crate::masters::{Masters, first_masters};
 use crate::{EntryList, Workspace};
 use lte_types::{CellId, Entry, Hit, Sfn, Sib1Reason};
@@ -39,7 +36,7 @@ pub fn explain(recording: &Recording, work: &mut Workspace, list: &mut EntryList
 /// and its cost is that word's.
 pub fn values_of(recording: &Recording, entry: &Entry) -> [[i32; 3]; 40]
     requires { IsInList recording.now entry.now }
-    ensures values { result ≡ coded_values (broadcast_slot_of recording.now entry.now.id entry.now.start entry.now.frame) entry.now.phase }
+    ensures values { result ≡ values_of_entry recording.now entry.now }
     ensures master { TellsMaster result (master_of entry.now) }
     ensures sizes { RowsWithin 508 result }
 {
@@ -52,7 +49,7 @@ fn add_hits(recording: &Recording, hits: &[Hit], work: &mut Trellis, list: &mut 
     requires span { All IsInSpan hits.now }
     requires few { length hits.now ≤ 5760 }
     requires empty { list.old ≡ [] }
-    ensures { IsListOfHits recording.now hits.now list.new }
+    ensures { IsListOfHits (AreEntriesOf recording.now) hits.now list.new }
 {
     for hit in hits {
         add_hit(recording, hit, work, list);
@@ -63,7 +60,7 @@ fn add_hits(recording: &Recording, hits: &[Hit], work: &mut Trellis, list: &mut 
 fn add_hit(recording: &Recording, hit: &Hit, work: &mut Trellis, list: &mut EntryList)
     requires span { IsInSpan hit.now }
     requires room { length list.old + 4 ≤ 23040 }
-    ensures adds { AddsHit recording.now hit.now list.old list.new }
+    ensures adds { AddsHit (AreEntriesOf recording.now) hit.now list.old list.new }
     ensures few { length list.new ≤ length list.old + 4 }
 {
     let end = recording.len();
@@ -86,7 +83,7 @@ fn add_masters(id: CellId, start: u32, masters: &Masters, list: &mut EntryList)
     ensures few { length list.new ≤ length list.old + 4 }
 {
     for phase in 0..4 {
-        add_of(
+        add_phase(
             id,
             start,
             masters.frame,
@@ -98,7 +95,7 @@ fn add_masters(id: CellId, start: u32, masters: &Masters, list: &mut EntryList)
 }
 
 // Adds the entry of a master block, where there is one.
-fn add_of(
+fn add_phase(
     id: CellId,
     start: u32,
     frame: u8,
@@ -113,7 +110,7 @@ fn add_of(
     ensures one { length list.new ≤ length list.old + 1 }
 {
     match master {
-        Some(master) => add(list, entry_of(id, start, frame, phase, master)),
+        Some(master) => list.add(entry_of(id, start, frame, phase, master)),
         None => {}
     }
 }

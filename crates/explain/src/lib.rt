@@ -14,6 +14,3 @@ pub use cells::{explain, values_of};
 pub use entry_list::EntryList;
 pub use laws::the_list_in_plain_words;
 pub use workspace::Workspace;
-
-#[cfg(test)]
-mod tests;

@@ -3,8 +3,7 @@
 ghost use Rattle.std.specs.Prelude.{◌≡◌, ◌+◌, ◌<◌, ◌≤◌, ◌↔◌, [], ◌∷◌, IsTrue, length};
 ghost use Rattle.std.specs.List.{AllWithin, HoldsAt, list_any};
 ghost use Rattle.lte_types.specs.Numerology.{cycle_length};
-ghost use Rattle.explain.specs.Entries.{IsBefore, epoch as epoch_of, is_same_cell as same_cell};
-ghost use Rattle.explain.specs.Masters.{Adds};
+ghost use Rattle.explain.specs.Entries.{IsBefore, Adds, epoch as epoch_of, is_same_cell as same_cell};
 
 use crate::EntryList;
 use lte_types::{CYCLE_LENGTH, Entry, FRAME_LENGTH};
@@ -12,17 +11,21 @@ use lte_types::{CYCLE_LENGTH, Entry, FRAME_LENGTH};
 // The samples of 1,024 frames.
 const CYCLE: u32 = CYCLE_LENGTH as u32;
 
-/// Adds an entry at its place, unless the list has one of its cell.
-pub(crate) fn add(list: &mut EntryList, entry: Entry)
-    requires { length list.old < 23040 }
-    ensures adds { Adds (entry ∷ []) list.old list.new }
-    ensures one { length list.new ≤ length list.old + 1 }
-{
-    if has_cell(list.slice(), &entry) {
-        return;
+impl EntryList {
+    /// Adds an entry at its place, by start, identity and frame number, unless the list has one of
+    /// its cell. Where the list was that of some entries, it is that of these and this one. It takes
+    /// no memory.
+    pub fn add(&mut self, entry: Entry)
+        requires room { length self.old < 23040 }
+        ensures adds { Adds (entry ∷ []) self.old self.new }
+        ensures one { length self.new ≤ length self.old + 1 }
+    {
+        if has_cell(self.slice(), &entry) {
+            return;
+        }
+        let at = place_of(self.slice(), &entry);
+        self.insert(at, entry);
     }
-    let at = place_of(list.slice(), &entry);
-    list.insert(at, entry);
 }
 
 // When frame 0 of an entry began, modulo the samples of 1,024 frames.
@@ -46,13 +49,7 @@ fn is_same_cell(a: &Entry, b: &Entry) -> bool
 fn is_before(a: &Entry, b: &Entry) -> bool
     ensures { IsTrue result ↔ IsBefore a.now b.now }
 {
-    if a.start != b.start {
-        a.start < b.start
-    } else if a.id != b.id {
-        a.id.value() < b.id.value()
-    } else {
-        a.sfn.value() < b.sfn.value()
-    }
+    (a.start, a.id.value(), a.sfn.value()) < (b.start, b.id.value(), b.sfn.value())
 }
 
 // Whether one of the entries is of this one's cell.

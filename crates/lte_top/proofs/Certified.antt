@@ -33,7 +33,7 @@ use Rattle.tail_cert.specs.Form.{count, bytes_of}
 use Rattle.tail_cert.proofs.Codes.{length-bytes_of}
 use Rattle.tail_cert.proofs.Exists.{certificate_of, least_has_certificate}
 use Rattle.explain.specs.Frame.{broadcast_slot}
-use Rattle.explain.specs.Entries.{IsExplained, master_of}
+use Rattle.explain.specs.Entries.{IsExplained, master_of, values_of_entry}
 use Rattle.explain.proofs.Sorted.{Contains-here, Contains-later}
 use Rattle.explain.proofs.Listed.{is_one_list, is_sound}
 use Rattle.cs_outside.specs.declared.Failed.{Failed}
@@ -63,8 +63,8 @@ one_certified_length samples first second a b =
 
 -- what makes a certificate of an entry: it is accepted, with the values of the entry's frame and a least word of them
 pub certifies : (samples : List Sample) (entry : Entry) (c : Held) → IsWhole c.values c.word c.cost c.tables → IsAccepted c →
-    c.values ≡ coded_values (broadcast_slot samples entry.id entry.start entry.frame) entry.phase →
-    TellsMaster (coded_values (broadcast_slot samples entry.id entry.start entry.frame) entry.phase) (master_of entry) → IsLeastWord c.values c.word → Certifies samples entry c
+    c.values ≡ values_of_entry samples entry →
+    TellsMaster (values_of_entry samples entry) (master_of entry) → IsLeastWord c.values c.word → Certifies samples entry c
 certifies samples entry c whole accepted values tells least =
     let there : TellsMaster c.values (master_of entry) = subst (λ v. TellsMaster v (master_of entry)) (sym values) tells in
     let same : there.word ≡ c.word = one_word c.values there.word c.word there.tells.least least in
@@ -79,7 +79,7 @@ certifies samples entry c whole accepted values tells least =
 
 -- the same by the values that it was filled with
 pub certifies_filled : (samples : List Sample) (entry : Entry) (c : Held) (v : List (List ℤ)) → IsWhole c.values c.word c.cost c.tables → IsAccepted c → c.values ≡ v →
-    v ≡ coded_values (broadcast_slot samples entry.id entry.start entry.frame) entry.phase → TellsMaster v (master_of entry) → IsLeastWord v c.word → Certifies samples entry c
+    v ≡ values_of_entry samples entry → TellsMaster v (master_of entry) → IsLeastWord v c.word → Certifies samples entry c
 certifies_filled samples entry c v whole accepted filled values tells least =
     certifies samples entry c whole accepted (filled ∙ values) (subst (λ v. TellsMaster v (master_of entry)) values tells) (subst (λ v. IsLeastWord v c.word) (sym filled) least)
 
@@ -136,7 +136,7 @@ entry_has_certificate : (samples : List Sample) (entries : List Entry) (entry : 
     (c : Held) × Certifies samples entry c
 entry_has_certificate samples entries entry explained inside =
     let known = is_sound samples entries entry explained inside in
-    let values = coded_values (broadcast_slot samples entry.id entry.start entry.frame) entry.phase in
+    let values = values_of_entry samples entry in
     let tells : TellsMaster values (master_of entry) = known.is_of.master in
     let made = least_has_certificate values tells.word (values_fit (broadcast_slot samples entry.id entry.start entry.frame) entry.phase) tells.tells.least in (
       certificate_of values tells.word,

@@ -3,10 +3,8 @@ use Rattle.std.specs.Prelude.{◌≡◌, ◌≢◌, ◌⊎◌, ◌↔◌, ℕ, �
 use Rattle.std.specs.List.{flat_map, AllZip}
 use Rattle.cs_num.specs.declared.Sample.{Sample}
 use Rattle.lte_types.specs.declared.entry.Entry.{Entry}
-use Rattle.pbch.specs.Values.{coded_values}
 use Rattle.pbch.specs.Master.{Tells, Carries}
-use Rattle.explain.specs.Frame.{broadcast_slot}
-use Rattle.explain.specs.Entries.{IsExplained}
+use Rattle.explain.specs.Entries.{IsExplained, values_of_entry}
 use Rattle.clean_air.specs.Clean.{HoldsCleanCells}
 use Rattle.tail_cert.specs.Certificate.{Held, IsWhole, IsAccepted}
 use Rattle.tail_cert.specs.Form.{count, bytes_of, IsOffMark, IsLargeValue}
@@ -68,7 +66,7 @@ pub record IsChecked (input output : List ℕ) : Type 0 where
 pub record Certifies (samples : List Sample) (entry : Entry) (c : Held) : Type 0 where
   pub whole : IsWhole c.values c.word c.cost c.tables
   pub accepted : IsAccepted c
-  pub values : c.values ≡ coded_values (broadcast_slot samples entry.id entry.start entry.frame) entry.phase
+  pub values : c.values ≡ values_of_entry samples entry
   pub word : Tells c.values c.word entry.ports
   pub block : Carries c.word entry.mib
   pub cost : c.cost ≡ entry.cost

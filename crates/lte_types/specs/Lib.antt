@@ -1,4 +1,6 @@
 pub mod Block
-pub mod Ranges
+pub mod Codes
 pub mod Identity
 pub mod Numerology
+pub mod Ranges
+pub mod Reasons

@@ -6,7 +6,8 @@ use Rattle.conv_code.specs.Cost.{word_cost}
 use Rattle.tailbite.specs.LeastWord.{IsLeastWord}
 use Rattle.cs_bits.specs.Checks.{crc16_of, message_of, check_of}
 use Rattle.cs_bits.specs.Numbers.{field}
-use Rattle.pbch.specs.Master.{mask, bandwidth, duration, resource, PassesWith, Tells}
+use Rattle.lte_types.specs.Codes.{bandwidth, duration, resource}
+use Rattle.pbch.specs.Master.{mask, PassesWith, Tells}
 use Rattle.pbch.specs.Laws.{IsOneMaster}
 use Rattle.tailbite.proofs.Only.{one_word}
 

@@ -7,14 +7,9 @@ use Rattle.cs_bits.specs.Checks.{HasCheck16}
 use Rattle.conv_code.specs.Cost.{word_cost}
 use Rattle.tailbite.specs.LeastWord.{IsLeastWord}
 use Rattle.soft_bits.specs.Soft.{SeenSlot}
-use Rattle.lte_types.specs.declared.bandwidth.Bandwidth.{Bandwidth}
-use Rattle.lte_types.specs.declared.bandwidth.Bandwidth.TheVariants.{N6, N15, N25, N50, N75, N100}
-use Rattle.lte_types.specs.declared.duration.Duration.{Duration}
-use Rattle.lte_types.specs.declared.duration.Duration.TheVariants.{Normal, Extended}
-use Rattle.lte_types.specs.declared.resource.Resource.{Resource}
-use Rattle.lte_types.specs.declared.resource.Resource.TheVariants.{OneSixth, Half, One, Two}
 use Rattle.lte_types.specs.declared.mib.Mib.{Mib}
 use Rattle.lte_types.specs.Block.{HasFields}
+use Rattle.lte_types.specs.Codes.{bandwidth, duration, resource}
 use Rattle.pbch.specs.declared.master.Master.{Master}
 use Rattle.pbch.specs.Values.{coded_values}
 
@@ -30,18 +25,6 @@ mask ports = if nat_eq ports 1 then 0 else (if nat_eq ports 2 then 0xffff else 0
 pub record PassesWith (ports : ℕ) (word : List Bool) : Type 0 where
   pub count : (ports ≡ 1) ⊎ (ports ≡ 2) ⊎ (ports ≡ 4)
   pub check : HasCheck16 (mask ports) word
-
--- dl-Bandwidth by its code, which is at most 5
-abbrev pub bandwidth : ℕ → Bandwidth
-bandwidth code = slice_index_or (N6 ∷ N15 ∷ N25 ∷ N50 ∷ N75 ∷ N100 ∷ []) code N6
-
--- phich-Duration
-abbrev pub duration : ℕ → Duration
-duration code = slice_index_or (Normal ∷ Extended ∷ []) code Normal
-
--- phich-Resource
-abbrev pub resource : ℕ → Resource
-resource code = slice_index_or (OneSixth ∷ Half ∷ One ∷ Two ∷ []) code OneSixth
 
 -- the block of a word has these fields
 abbrev pub Carries : List Bool → Mib → Type 0

@@ -10,7 +10,9 @@ use Rattle.lte_types.specs.declared.sib1.Sib1.{Sib1}
 use Rattle.lte_types.specs.declared.sib1_reason.Sib1Reason.{Sib1Reason}
 use Rattle.lte_types.specs.declared.entry.Entry.{Entry}
 use Rattle.lte_types.specs.Ranges.{IsValid}
-use Rattle.report.specs.Words.{bandwidth_word, duration_word, resource_word, reason_words, or_dash, either, bit_word, digits_word, tdd_word, period_frames, window_length, sibs_word}
+use Rattle.lte_types.specs.Codes.{bandwidth_word, duration_word, resource_word}
+use Rattle.lte_types.specs.Reasons.{reason_words}
+use Rattle.report.specs.Words.{or_dash, either, bit_word, digits_word, tdd_word, period_frames, window_length, sibs_word}
 
 -- the place of a cell: its identity, start and frame number, and how many antenna ports it has
 abbrev pub place_part : ℕ → ℕ → ℕ → ℕ → List ℕ

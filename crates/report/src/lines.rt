@@ -4,7 +4,8 @@ ghost use Rattle.std.specs.Prelude.{◌≡◌, ◌≤◌, All, IfOk, string_byte
 ghost use Rattle.std.specs.List.{flat_map};
 ghost use Rattle.std.specs.Fmt.{decimal, signed_decimal};
 ghost use Rattle.lte_types.specs.Ranges.{IsValid, IsValidMessage};
-ghost use Rattle.report.specs.Words.{bandwidth_word as width_of, duration_word as duration_of, resource_word as resource_of, or_dash, either as either_of, bit_word as bit_of, tdd_word as config_of, window_length as length_of};
+ghost use Rattle.lte_types.specs.Codes.{bandwidth_word, duration_word, resource_word};
+ghost use Rattle.report.specs.Words.{or_dash as word_or_dash, either as either_of, bit_word as bit_of, tdd_word as config_of, window_length as length_of};
 ghost use Rattle.report.specs.Lines.{cell_line as cell_line_of, block_part as block_of, none_line as none_line_of, access_part as access_of, group_part as group_of, level_part as level_of, window_part as window_of, sib1_line as sib1_line_of, mnc_word as mnc_of, plmn_line as plmn_line_of, message_line as message_line_of, sib1_lines as sib1_lines_of};
 
 use crate::parts::{
@@ -12,9 +13,7 @@ use crate::parts::{
     window_part,
 };
 use crate::words::{
-    bandwidth_word, digits_word, duration_word, either, mcc_or_dash, number_or_dash,
-    offset_or_dash, period_frames, power_or_dash, reason_words, resource_word, sibs_word,
-    tdd_or_dash, window_length,
+    digits_word, either, mcc_or_dash, or_dash, period_frames, sibs_word, tdd_or_dash, window_length,
 };
 use lte_types::{Entry, Mib, Mnc, Plmn, SiMessage, Sib1, Sib1Reason};
 use std::alloc::{AllocError, Global};
@@ -33,11 +32,12 @@ pub(crate) fn cell_line(alloc: Global, entry: &Entry) -> Result<String, AllocErr
 }
 
 fn mib_part(alloc: Global, mib: &Mib) -> Result<String, AllocError>
-    ensures { IfOk result (λ part. string_bytes part ≡ block_of (width_of mib.now.bandwidth) (duration_of mib.now.duration) (resource_of mib.now.resource) mib.now.spare) }
+    ensures { IfOk result (λ part. string_bytes part ≡ block_of (bandwidth_word mib.now.bandwidth) (duration_word mib.now.duration)
+        (resource_word mib.now.resource) mib.now.spare) }
 {
-    let bandwidth = bandwidth_word(mib.bandwidth);
-    let duration = duration_word(mib.duration);
-    let resource = resource_word(mib.resource);
+    let bandwidth = mib.bandwidth.name();
+    let duration = mib.duration.name();
+    let resource = mib.resource.name();
     block_part(alloc, bandwidth, duration, resource, mib.spare)
 }
 
@@ -45,8 +45,7 @@ fn mib_part(alloc: Global, mib: &Mib) -> Result<String, AllocError>
 pub(crate) fn none_line(alloc: Global, reason: Sib1Reason) -> Result<String, AllocError>
     ensures { IfOk result (λ line. string_bytes line ≡ none_line_of reason) }
 {
-    let words = reason_words(alloc, reason)?;
-    format!(in alloc; "sib1 none {words}\n")
+    format!(in alloc; "sib1 none {reason}\n")
 }
 
 /// The lines of a cell's system information.
@@ -86,24 +85,25 @@ fn access_of_cell(alloc: Global, sib1: &Sib1) -> Result<String, AllocError>
 }
 
 fn group_of_cell(alloc: Global, sib1: &Sib1) -> Result<String, AllocError>
-    ensures { IfOk result (λ part. string_bytes part ≡ group_of (bit_of sib1.now.csg) (or_dash decimal sib1.now.csg_identity)) }
+    ensures { IfOk result (λ part. string_bytes part ≡ group_of (bit_of sib1.now.csg) (word_or_dash decimal sib1.now.csg_identity)) }
 {
     let csg = either(sib1.csg, "1", "0");
-    let identity = number_or_dash(alloc, sib1.csg_identity)?;
+    let identity = or_dash(alloc, sib1.csg_identity)?;
     group_part(alloc, csg, identity.as_str())
 }
 
 fn levels_of_cell(alloc: Global, sib1: &Sib1) -> Result<String, AllocError>
-    ensures { IfOk result (λ part. string_bytes part ≡ level_of sib1.now.q_rx (or_dash decimal sib1.now.q_offset) (or_dash signed_decimal sib1.now.p_max) sib1.now.band) }
+    ensures { IfOk result (λ part. string_bytes part ≡ level_of sib1.now.q_rx
+        (word_or_dash decimal sib1.now.q_offset) (word_or_dash signed_decimal sib1.now.p_max) sib1.now.band) }
 {
-    let offset = offset_or_dash(alloc, sib1.q_offset)?;
-    let power = power_or_dash(alloc, sib1.p_max)?;
+    let offset = or_dash(alloc, sib1.q_offset)?;
+    let power = or_dash(alloc, sib1.p_max)?;
     level_part(alloc, sib1.q_rx, offset.as_str(), power.as_str(), sib1.band)
 }
 
 fn timing_of_cell(alloc: Global, sib1: &Sib1) -> Result<String, AllocError>
     requires { sib1.now.window ≤ 6 }
-    ensures { IfOk result (λ part. string_bytes part ≡ window_of (length_of sib1.now.window) sib1.now.tag (or_dash config_of sib1.now.tdd) (bit_of sib1.now.extended)) }
+    ensures { IfOk result (λ part. string_bytes part ≡ window_of (length_of sib1.now.window) sib1.now.tag (word_or_dash config_of sib1.now.tdd) (bit_of sib1.now.extended)) }
 {
     let window = window_length(sib1.window);
     let tdd = tdd_or_dash(alloc, sib1.tdd)?;

@@ -2,11 +2,11 @@
 
 ghost use Rattle.std.specs.Prelude.{◌≡◌, ◌+◌, ◌≤◌, ◌<◌, length, IfOk};
 
-use crate::recordings::silence;
 use cs_outside::{FailSource, MemSink, MemSource};
 use lte_top::{Status, Words, run};
 use std::alloc::{AllocError, Global};
 use std::test::Fail;
+use test_signals::silence;
 
 // The bytes of a certificate.
 const BYTES: usize = 655_613;

@@ -1,6 +1,10 @@
 //! Tests of the top call over sources and sinks in memory, some of which fail on purpose.
 #![tactic(auto)]
 
+mod commands;
+
+pub use commands::{command, output_of};
+
 #[cfg(test)]
 mod certificates;
 #[cfg(test)]

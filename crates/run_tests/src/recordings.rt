@@ -1,8 +1,8 @@
 //! Recordings that the tests make, as bytes.
 
-ghost use Rattle.std.specs.Prelude.{◌≡◌, ◌+◌, ◌*◌, ◌≤◌, length, IfOk};
+ghost use Rattle.std.specs.Prelude.{◌+◌, ◌*◌, ◌≤◌, length};
 
-use std::alloc::{AllocError, Global};
+use test_signals::put_sample;
 
 /// The useful part of a symbol that holds the primary sequence of root 25 alone, made by a second
 /// program.
@@ -270,13 +270,6 @@ pub const SECONDARY: [(i16, i16); 128] = [
     (6, 46),
 ];
 
-/// So many zero bytes.
-pub fn silence(alloc: Global, len: usize) -> Result<Vec<u8>, AllocError>
-    ensures { IfOk result (λ bytes. length bytes.items ≡ len) }
-{
-    vec![in alloc; 0u8; len]
-}
-
 /// Writes the signal from a sample on.
 pub fn put_signal(bytes: &mut [u8], at: usize)
     requires { 4 * at + 512 ≤ length bytes.old }
@@ -302,12 +295,4 @@ pub fn put_turned_signal(bytes: &mut [u8], at: usize)
     for (n, (re, im)) in SIGNAL.iter().enumerate() {
         put_sample(bytes, at + n, im.saturating_mul(-28), re.saturating_mul(28));
     }
-}
-
-// Writes one sample.
-fn put_sample(bytes: &mut [u8], at: usize, re: i16, im: i16)
-    requires { 4 * at + 4 ≤ length bytes.old }
-{
-    bytes[4 * at..4 * at + 2].copy_from_slice(&re.to_le_bytes());
-    bytes[4 * at + 2..4 * at + 4].copy_from_slice(&im.to_le_bytes());
 }

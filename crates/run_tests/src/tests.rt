@@ -1,32 +1,18 @@
-use crate::recordings::{put_secondary, put_signal, put_turned_signal, silence};
+use crate::recordings::{put_secondary, put_signal, put_turned_signal};
+use crate::{command, output_of};
 use cell_tx::CellError;
 use cs_outside::{FailSink, FailSource, MemSink, MemSource, Source, StdSink, StdSource};
-use lte_top::{Status, Words, run, run_in_memory};
+use lte_top::{Status, Words, run};
 use std::alloc::{AllocError, Global};
 use std::test::Fail;
+use test_signals::silence;
 
 // The room of a sink where none is named.
 const ROOM: usize = 16_777_216;
 
-// The words of a command of one word.
-fn command(alloc: Global, word: &str) -> Result<Words, AllocError> {
-    let mut words = Words::new(alloc);
-    words.push(word)?;
-    Ok(words)
-}
-
 // How `hits` ends over these bytes, and what it wrote.
 fn hits_of(alloc: Global, bytes: Vec<u8>) -> Result<(Status, Vec<u8>), AllocError> {
     output_of(alloc, "hits", bytes)
-}
-
-// How a command ends over these bytes, and what it wrote.
-fn output_of(alloc: Global, word: &str, bytes: Vec<u8>) -> Result<(Status, Vec<u8>), AllocError> {
-    let words = command(alloc, word)?;
-    let mut source = MemSource::new(bytes);
-    let mut sink = MemSink::new(alloc, ROOM)?;
-    let status = run_in_memory(alloc, &words, &mut source, &mut sink);
-    Ok((status, sink.taken().to_vec(alloc)?))
 }
 
 #[test]

@@ -1,8 +1,9 @@
-use crate::seen::{Rows, slot_of};
+use crate::seen::slot_of;
 use lte_types::{Bandwidth, CellId, Cfi, Duration, Mib, Resource};
 use pdcch::{candidate, elements, quadruplets_carried};
 use std::process::Abort;
 use std::test::Fail;
+use test_signals::Rows;
 
 // Slots 10, whose first symbols carry the control channel. The control information is the same in both.
 

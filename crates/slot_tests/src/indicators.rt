@@ -1,5 +1,6 @@
-use crate::seen::{EMPTY, Rows, slot_of};
+use crate::seen::slot_of;
 use pcfich::{cfi, only_one_indicator};
+use test_signals::{EMPTY, Rows};
 
 // Slots 10, whose symbol 0 carries the control format indicator.
 

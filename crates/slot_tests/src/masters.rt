@@ -1,8 +1,9 @@
-use crate::seen::{EMPTY, Rows, slot_of};
+use crate::seen::slot_of;
 use lte_types::{Bandwidth, Duration, Resource};
 use pbch::{Master, at_most_one_master, explain_slot, values};
 use std::test::Fail;
 use tailbite::Trellis;
+use test_signals::{EMPTY, Rows};
 
 // Slots 1, which carry the broadcast channel.
 

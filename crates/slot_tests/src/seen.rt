@@ -7,45 +7,20 @@ use cs_num::Cpx;
 use lte_types::CellId;
 use soft_bits::Slot;
 use std::process::Abort;
-
-/// Symbols 0 to 4 of a slot, by subcarriers. A digit is 2 where the real part is negative, and 1 more where
-/// the imaginary part is; a point is an empty place.
-pub(crate) type Rows = [&'static [u8; 72]; 5];
-
-/// An empty symbol.
-pub(crate) const EMPTY: &[u8; 72] =
-    b"........................................................................";
+use test_signals::{Rows, level, point_of};
 
 // What is seen of a sent value: 64 times as much.
 fn seen_of(digit: u8) -> Cpx
     ensures { IsWithin (2 ^ 25) result }
 {
-    match digit {
-        b'0' => Cpx { re: 5760, im: 5760 },
-        b'1' => Cpx {
-            re: 5760,
-            im: -5760,
-        },
-        b'2' => Cpx {
-            re: -5760,
-            im: 5760,
-        },
-        b'3' => Cpx {
-            re: -5760,
-            im: -5760,
-        },
-        _ => Cpx { re: 0, im: 0 },
+    let sent = point_of(digit);
+    Cpx {
+        re: 64 * sent.re,
+        im: 64 * sent.im,
     }
 }
 
-// The same value on all subcarriers.
-fn level(value: Cpx) -> [Cpx; 72]
-    requires { IsWithin (2 ^ 25) value }
-    ensures { All (IsWithin (2 ^ 25)) result }
-{
-    [value; 72]
-}
-
+// What is seen of a symbol.
 fn symbol_of(row: &[u8; 72]) -> [Cpx; 72]
     ensures { All (IsWithin (2 ^ 25)) result }
 {

@@ -1,10 +1,11 @@
 use Rattle.std.proofs.Common.{◌≡◌, ℕ, ◌/◌, ◌++◌, List, Bool, take, arith, refl, ap, ◌∙◌, sym, bit_xor}
 use Rattle.std.specs.Int.Bits.{xor_zero_r}
 use Rattle.std.proofs.lemmas.List.{take_all}
+use Rattle.lte_types.specs.Codes.{duration_code, resource_code}
+use Rattle.cs_bits.specs.Numbers.{bits_of}
 use Rattle.cs_bits.specs.Checks.{crc16_of}
 use Rattle.cell_tx.specs.declared.cell.CellPlan.{CellPlan}
-use Rattle.cs_bits.specs.Numbers.{bits_of}
-use Rattle.cell_tx.specs.Block.{duration_code, resource_code, block_bits, broadcast_word}
+use Rattle.cell_tx.specs.Block.{block_bits, broadcast_word}
 use Rattle.cell_tx.proofs.block.word_of.Goals as goal
 
 -- bits after other bits
@@ -15,9 +16,9 @@ pub returns : goal.returns
 unfolding broadcast_word block_bits
 returns c =
     let plan = c.args.cell.now in
-    let first : take 3 c.put_bits.new.bits ≡ bits_of 3 0 = c.put_bits.ensures in
-    let second = next 1 _ (duration_code plan.duration) _ _ _ c.put_bits-2.ensures (c.code_of_duration.ensures ∙ ap (λ (p : CellPlan). duration_code p.duration) c.plan-plan.ensures.plan) first in
-    let third = next 2 _ (resource_code plan.resource) _ _ _ c.put_bits-3.ensures (c.code_of_resource.ensures ∙ ap (λ (p : CellPlan). resource_code p.resource) c.plan-plan.ensures.plan) second in
+    let first : take 3 c.put_bits.new.bits ≡ bits_of 3 0 = c.put_bits.ensures ∙ ap (bits_of 3) c.code.ensures.value in
+    let second = next 1 _ (duration_code plan.duration) _ _ _ c.put_bits-2.ensures (c.code-2.ensures.value ∙ ap (λ (p : CellPlan). duration_code p.duration) c.plan-plan.ensures.plan) first in
+    let third = next 2 _ (resource_code plan.resource) _ _ _ c.put_bits-3.ensures (c.code-3.ensures.value ∙ ap (λ (p : CellPlan). resource_code p.resource) c.plan-plan.ensures.plan) second in
     let fourth = next 8 _ (c.args.sfn / 4) _ _ _ c.put_bits-4.ensures (ap (λ (n : ℕ). n / 4) c.value.ensures.value) third in
     let fifth = next 10 _ plan.spare _ _ _ c.put_bits-5.ensures (ap (λ (p : CellPlan). p.spare) c.plan-plan.ensures.plan) fourth in
     let sixth = next 16 _ (bit_xor (crc16_of (block_bits plan c.args.sfn)) 0) _ _ _ c.put_bits-6.ensures (c.crc16-check.ensures ∙ ap crc16_of fifth ∙ sym (xor_zero_r _)) fifth in

@@ -30,27 +30,27 @@ is_before subframe symbol k = (nat_eq subframe 0 || nat_eq subframe 5) && nat_eq
 last_place : (subframe symbol k : ℕ) → is_primary subframe symbol k ≡ true → k - 5 < 62
 last_place subframe symbol k e = let parts = and_parts (is_before subframe symbol k) (nat_lt k 67) e in omega (arith, ltb-true k 67 parts.1)
 
-pub returns-then-is_row : goal.returns-then-is_row
-returns-then-is_row c =
+pub returns-then-is_signal : goal.returns-then-is_signal
+returns-then-is_signal c =
     let plan = c.args.signals.now.cell.now in
     let none = none_at c.args.references.now plan.identity (2 * c.args.subframe + c.args.symbol / 7) (c.args.symbol % 7) c.args.k c.requires.k c.requires.references c.in_default.is in
-    let here : is_primary c.args.subframe c.args.symbol c.args.k ≡ true = sym c.is_row.ensures ∙ c.if-is_row.true in
+    let here : is_primary c.args.subframe c.args.symbol c.args.k ≡ true = sym c.is_signal.ensures ∙ c.if-is_signal.true in
     ap (λ values. value_at values (c.args.k - 5)) c.args.signals.now.primary_is
     ∙ pss_list_at (plan.identity % 3) (c.args.k - 5) (last_place c.args.subframe c.args.symbol c.args.k here)
     ∙ sym (element_of_primary plan c.args.signals.now.sfn c.args.subframe c.args.symbol c.args.k none here)
 
-pub returns-then-is_row-2 : goal.returns-then-is_row-2
-returns-then-is_row-2 c =
+pub returns-then-is_signal-2 : goal.returns-then-is_signal-2
+returns-then-is_signal-2 c =
     let plan = c.args.signals.now.cell.now in
     let none = none_at c.args.references.now plan.identity (2 * c.args.subframe + c.args.symbol / 7) (c.args.symbol % 7) c.args.k c.requires.k c.requires.references c.in_default.is in
     c.secondary_of.ensures
     ∙ sym (element_of_secondary plan c.args.signals.now.sfn c.args.subframe c.args.symbol c.args.k none
-    (sym c.is_row.ensures ∙ c.if-is_row.false) (sym c.is_row-else-is_row.ensures ∙ c.if-is_row-2.true))
+    (sym c.is_signal.ensures ∙ c.if-is_signal.false) (sym c.is_signal-else-is_signal.ensures ∙ c.if-is_signal-2.true))
 
-pub returns-else-is_row-2 : goal.returns-else-is_row-2
-returns-else-is_row-2 c =
+pub returns-else-is_signal-2 : goal.returns-else-is_signal-2
+returns-else-is_signal-2 c =
     let plan = c.args.signals.now.cell.now in
     let none = none_at c.args.references.now plan.identity (2 * c.args.subframe + c.args.symbol / 7) (c.args.symbol % 7) c.args.k c.requires.k c.requires.references c.in_default.is in
     c.broadcast_of.ensures
     ∙ sym (element_of_broadcast plan c.args.signals.now.sfn c.args.subframe c.args.symbol c.args.k none
-    (sym c.is_row.ensures ∙ c.if-is_row.false) (sym c.is_row-else-is_row.ensures ∙ c.if-is_row-2.false))
+    (sym c.is_signal.ensures ∙ c.if-is_signal.false) (sym c.is_signal-else-is_signal.ensures ∙ c.if-is_signal-2.false))

@@ -8,8 +8,8 @@ use Rattle.cell_tx.proofs.sending.amplified.Goals as goal
 pub mul-requires : goal.mul-requires
 mul-requires c = rw (c.value_of_gain.ensures, c.value.ensures) (amplified (gain_of c.args.gain) (value_of c.args.clean) c.requires.gain c.requires.clean).fits
 
-pub narrow-requires : goal.narrow-requires
-narrow-requires c =
+pub to_sample-requires : goal.to_sample-requires
+to_sample-requires c =
     let product = c.mul.ensures ∙ ap₂ times c.value_of_gain.ensures c.value.ensures in
     let both = amplified (gain_of c.args.gain) (value_of c.args.clean) c.requires.gain c.requires.clean in
     rw product (within_more (times (gain_of c.args.gain) (value_of c.args.clean)) 32284 32767 both.small (omega arith))
@@ -18,6 +18,6 @@ pub returns : goal.returns
 returns c =
     let product = c.mul.ensures ∙ ap₂ times c.value_of_gain.ensures c.value.ensures in
     record {
-      value = c.narrow.ensures ∙ ap sample_of product;
+      value = c.to_sample.ensures ∙ ap sample_of product;
       size = (amplified (gain_of c.args.gain) (value_of c.args.clean) c.requires.gain c.requires.clean).small;
     }

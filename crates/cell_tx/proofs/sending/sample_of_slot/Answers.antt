@@ -4,8 +4,8 @@ use Rattle.cell_tx.proofs.Bounds.{slot-square, small-within}
 use Rattle.cell_tx.proofs.Symbols.{slot_value}
 use Rattle.cell_tx.proofs.sending.sample_of_slot.Goals as goal
 
-pub narrow-requires : goal.narrow-requires
-narrow-requires c =
+pub to_sample-requires : goal.to_sample-requires
+to_sample-requires c =
     let plan = c.args.signals.now.cell.now in
     let value = slot_value plan c.args.signals.now.sfn c.args.slot c.args.i c.place_at.result c.args.useful.now c.requires.i c.requires.useful c.place_at.ensures.value in
     rw value (small-within (slot_sample plan c.args.signals.now.sfn c.args.slot c.args.i) (slot-square plan c.args.signals.now.sfn c.args.slot c.args.i))
@@ -14,4 +14,4 @@ pub returns : goal.returns
 returns c =
     let plan = c.args.signals.now.cell.now in
     let value = slot_value plan c.args.signals.now.sfn c.args.slot c.args.i c.place_at.result c.args.useful.now c.requires.i c.requires.useful c.place_at.ensures.value in
-    c.narrow.ensures ∙ ap sample_of value
+    c.to_sample.ensures ∙ ap sample_of value

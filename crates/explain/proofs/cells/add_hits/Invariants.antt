@@ -1,9 +1,9 @@
 use Rattle.std.proofs.Common.{◌*◌, ◌≤◌, length, take}
-use Rattle.explain.specs.Entries.{IsListOfHits}
+use Rattle.explain.specs.Entries.{AreEntriesOf, IsListOfHits}
 use Rattle.explain.proofs.cells.add_hits.Given as goal
 
 abbrev pub invariant-loop-hit : goal.invariant-loop-hit
 invariant-loop-hit l = record {
-  listed : IsListOfHits l.recording (take l.hit-index l.hits) l.list;
+  listed : IsListOfHits (AreEntriesOf l.recording) (take l.hit-index l.hits) l.list;
   few : length l.list ≤ 4 * l.hit-index;
 }

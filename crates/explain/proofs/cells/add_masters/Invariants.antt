@@ -1,6 +1,7 @@
 use Rattle.std.proofs.Common.{◌+◌, ◌≤◌, length}
 use Rattle.finite.specs.Lists.{joined_below}
-use Rattle.explain.specs.Masters.{Adds, entry_at, master_at}
+use Rattle.explain.specs.Entries.{Adds}
+use Rattle.explain.specs.Masters.{entry_at, master_at}
 use Rattle.explain.proofs.cells.add_masters.Given as goal
 
 abbrev pub invariant-loop-phase : goal.invariant-loop-phase

@@ -1,0 +1,84 @@
+-- The codes and the names of the fields of a master information block (TS 36.331 sections 6.2.2 and 6.3.2).
+use Rattle.std.specs.Prelude.{ℕ, if◌then◌else◌, Option, Some, None, List, [], ◌∷◌, codes, bytes_eq, slice_index_or}
+use Rattle.lte_types.specs.declared.bandwidth.Bandwidth.{Bandwidth}
+use Rattle.lte_types.specs.declared.bandwidth.Bandwidth.TheVariants.{N6, N15, N25, N50, N75, N100}
+use Rattle.lte_types.specs.declared.duration.Duration.{Duration}
+use Rattle.lte_types.specs.declared.duration.Duration.TheVariants.{Normal, Extended}
+use Rattle.lte_types.specs.declared.resource.Resource.{Resource}
+use Rattle.lte_types.specs.declared.resource.Resource.TheVariants.{OneSixth, Half, One, Two}
+
+-- ---- dl-Bandwidth (section 6.2.2)
+
+-- the width with a code, which is at most 5
+abbrev pub bandwidth : ℕ → Bandwidth
+bandwidth code = slice_index_or (N6 ∷ N15 ∷ N25 ∷ N50 ∷ N75 ∷ N100 ∷ []) code N6
+
+-- the code of a width
+abbrev pub bandwidth_code : Bandwidth → ℕ
+bandwidth_code N6 = 0
+bandwidth_code N15 = 1
+bandwidth_code N25 = 2
+bandwidth_code N50 = 3
+bandwidth_code N75 = 4
+bandwidth_code N100 = 5
+
+-- its name
+abbrev pub bandwidth_word : Bandwidth → List ℕ
+bandwidth_word N6 = codes "n6"
+bandwidth_word N15 = codes "n15"
+bandwidth_word N25 = codes "n25"
+bandwidth_word N50 = codes "n50"
+bandwidth_word N75 = codes "n75"
+bandwidth_word N100 = codes "n100"
+
+-- ---- phich-Duration (section 6.3.2, PHICH-Config)
+
+-- the duration with a code, which is at most 1
+abbrev pub duration : ℕ → Duration
+duration code = slice_index_or (Normal ∷ Extended ∷ []) code Normal
+
+-- the code of a duration
+abbrev pub duration_code : Duration → ℕ
+duration_code Normal = 0
+duration_code Extended = 1
+
+-- its name
+abbrev pub duration_word : Duration → List ℕ
+duration_word Normal = codes "normal"
+duration_word Extended = codes "extended"
+
+-- the duration with a name
+abbrev pub duration_named : List ℕ → Option Duration
+duration_named name =
+    if bytes_eq name (duration_word Normal) then Some Normal
+    else (if bytes_eq name (duration_word Extended) then Some Extended
+    else None)
+
+-- ---- phich-Resource, Ng (section 6.3.2, PHICH-Config)
+
+-- the resource with a code, which is at most 3
+abbrev pub resource : ℕ → Resource
+resource code = slice_index_or (OneSixth ∷ Half ∷ One ∷ Two ∷ []) code OneSixth
+
+-- the code of a resource
+abbrev pub resource_code : Resource → ℕ
+resource_code OneSixth = 0
+resource_code Half = 1
+resource_code One = 2
+resource_code Two = 3
+
+-- its name
+abbrev pub resource_word : Resource → List ℕ
+resource_word OneSixth = codes "oneSixth"
+resource_word Half = codes "half"
+resource_word One = codes "one"
+resource_word Two = codes "two"
+
+-- the resource with a name
+abbrev pub resource_named : List ℕ → Option Resource
+resource_named name =
+    if bytes_eq name (resource_word OneSixth) then Some OneSixth
+    else (if bytes_eq name (resource_word Half) then Some Half
+    else (if bytes_eq name (resource_word One) then Some One
+    else (if bytes_eq name (resource_word Two) then Some Two
+    else None)))

@@ -1,0 +1,21 @@
+-- Why a cell has no system information, in words. (own)
+use Rattle.std.specs.Prelude.{ℕ, List, ◌++◌, codes}
+use Rattle.std.specs.Fmt.{decimal}
+use Rattle.lte_types.specs.declared.sib1_reason.Sib1Reason.{Sib1Reason}
+use Rattle.lte_types.specs.declared.sib1_reason.Sib1Reason.TheVariants.{NotOnePort, Bandwidth as OtherWidth, NoSearchSpace, NoControl, NotFormat1A, Distributed, BadRiv, ReservedMcs, BlockTooLarge, NotDecoded, NotSib1, BadFields, NotRead}
+use Rattle.lte_types.specs.Codes.{bandwidth_word}
+
+abbrev pub reason_words : Sib1Reason → List ℕ
+reason_words (NotOnePort ports) = codes "ports " ++ decimal ports
+reason_words (OtherWidth width) = codes "bandwidth " ++ bandwidth_word width
+reason_words (NoSearchSpace count) = codes "no-search-space " ++ decimal count
+reason_words NoControl = codes "no-control"
+reason_words NotFormat1A = codes "not-1a"
+reason_words Distributed = codes "distributed"
+reason_words (BadRiv riv) = codes "bad-riv " ++ decimal riv
+reason_words (ReservedMcs mcs) = codes "reserved-mcs " ++ decimal mcs
+reason_words BlockTooLarge = codes "block-too-large"
+reason_words NotDecoded = codes "not-decoded"
+reason_words NotSib1 = codes "not-sib1"
+reason_words (BadFields bit) = codes "bad-fields " ++ decimal bit
+reason_words NotRead = codes "not-read"

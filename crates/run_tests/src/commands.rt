@@ -1,0 +1,28 @@
+//! Commands over bytes in memory.
+
+use cs_outside::{MemSink, MemSource};
+use lte_top::{Status, Words, run_in_memory};
+use std::alloc::{AllocError, Global};
+
+// The room of a sink.
+const ROOM: usize = 16_777_216;
+
+/// The words of a command of one word.
+pub fn command(alloc: Global, word: &str) -> Result<Words, AllocError> {
+    let mut words = Words::new(alloc);
+    words.push(word)?;
+    Ok(words)
+}
+
+/// How a command of one word ends over these bytes, and what it wrote.
+pub fn output_of(
+    alloc: Global,
+    word: &str,
+    bytes: Vec<u8>,
+) -> Result<(Status, Vec<u8>), AllocError> {
+    let words = command(alloc, word)?;
+    let mut source = MemSource::new(bytes);
+    let mut sink = MemSink::new(alloc, ROOM)?;
+    let status = run_in_memory(alloc, &words, &mut source, &mut sink);
+    Ok((status, sink.taken().to_vec(alloc)?))
+}
