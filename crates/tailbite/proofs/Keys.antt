@@ -1,18 +1,14 @@
 -- The least key over the start states is that of the least word.
-use Rattle.std.proofs.Common.{◌≡◌, ℕ, ◌+◌, ◌-◌, ◌*◌, ◌/◌, ◌%◌, ◌^◌, ◌<◌, ◌≤◌, Bool, false, List, [], length, get_or, ℤ, pos, refl, sym, ◌∙◌, subst, inl, inr, arith}
-use Rattle.std.proofs.lemmas.Bool.{cases_lt}
+use Rattle.std.proofs.Common.{◌≡◌, ℕ, ◌+◌, ◌*◌, ◌/◌, ◌%◌, ◌^◌, ◌<◌, ◌≤◌, Bool, List, length, ℤ, refl, sym, ◌∙◌, subst, inl, inr, arith}
 use Rattle.std.proofs.lemmas.Bool.Decides.{eqb_tells}
-use Rattle.std.proofs.lemmas.List.{ext_get_or, get_or_past}
 use Rattle.std.proofs.Math.Pow.{pow_mono}
 use Rattle.finite.specs.Sizes.{RowsWithin}
-use Rattle.finite.proofs.Sums.{total_below-within}
 use Rattle.paths.specs.Paths.{end_of, path_cost}
 use Rattle.cs_bits.specs.Numbers.{number, bits_of}
 use Rattle.cs_bits.proofs.Numbers.{number_below, bits_of_is}
 use Rattle.paths.proofs.Words.{number-before, path_cost-keyed}
 use Rattle.paths.proofs.Rounds.{ends_in_same, ends_in_other}
-use Rattle.conv_code.specs.Code.{coded, taps_0, taps_1, taps_2}
-use Rattle.conv_code.specs.Cost.{place_cost, word_cost}
+use Rattle.conv_code.specs.Cost.{word_cost}
 use Rattle.conv_code.proofs.Costs.{word_cost-le}
 use Rattle.tailbite.specs.LeastWord.{IsLeastWord}
 use Rattle.tailbite.specs.Machine.{shift, step_cost}

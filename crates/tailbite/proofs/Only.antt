@@ -1,5 +1,5 @@
 -- The least word is one; where all values speak for a word, it is that.
-use Rattle.std.proofs.Common.{◌≡◌, ℕ, ◌<◌, inl, inr, Bool, true, false, List, [], length, get_or, ℤ, pos, refl, sym, ◌∙◌, arith, ap}
+use Rattle.std.proofs.Common.{◌≡◌, ℕ, ◌<◌, inl, inr, Bool, List, [], length, get_or, ℤ, pos, refl, sym, ◌∙◌, arith, ap}
 use Rattle.finite.specs.Sums.{total_below}
 use Rattle.finite.specs.Lists.{values_below}
 use Rattle.finite.proofs.Lists.{values_below_same}

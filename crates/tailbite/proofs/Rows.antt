@@ -1,5 +1,6 @@
 -- The row of least keys, kept by the loop over the places.
-use Rattle.std.proofs.Common.{◌≡◌, ℕ, suc, ◌+◌, ◌-◌, ◌*◌, ◌^◌, ◌<◌, ◌≤◌, Bool, true, false, List, [], length, get_or, ℤ, refl, ap, arith}
+use Rattle.std.proofs.Common.{◌≡◌, ℕ, suc, ◌+◌, ◌-◌, ◌*◌, ◌^◌, ◌<◌, ◌≤◌, true, false, List, [], length, get_or, ℤ, refl, ap, ap₂, arith}
+use Rattle.std.specs.Prelude.{min}
 use Rattle.std.proofs.Math.Nat.{pow-suc}
 use Rattle.paths.specs.Paths.{best}
 use Rattle.paths.specs.Least.{ends_in}
@@ -9,6 +10,7 @@ use Rattle.paths.proofs.Best.{best_is_least}
 use Rattle.paths.proofs.Rounds.{ends_in-le}
 use Rattle.tailbite.specs.Machine.{branch_cost, shift}
 use Rattle.tailbite.specs.Keys.{scale, far, key_cost, IsLeastKeyFrom}
+use Rattle.tailbite.specs.Costs.{AreCosts, cost_in}
 use Rattle.tailbite.proofs.Windows.{shift_below}
 
 -- the row has the least keys of the places from i on
@@ -63,3 +65,10 @@ row_start values start row bit i known done below =
     let all : length values - 0 ≡ length values = omega arith in
     let least = rw all at (known'.least start below) in
     rw least (best_is_least _ _ _ _ _ _)
+
+-- a row one step back, by a table of the steps' costs
+pub by_costs : (values : List ℤ) (costs row : List ℕ) (bit x : ℕ) → AreCosts values costs → x < 64 →
+    least_out shift (key_step scale bit (cost_in costs)) row x ≡ least_out shift (key_step scale bit (branch_cost values)) row x
+by_costs values costs row bit x are below =
+    ap₂ (λ (m n : ℕ). min (m * scale + 0 + get_or row (shift x false) 0) (n * scale + bit + get_or row (shift x true) 0))
+    (are.cost x false below) (are.cost x true below)

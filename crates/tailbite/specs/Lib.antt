@@ -3,3 +3,4 @@ pub mod Laws
 pub mod Clean
 pub mod Machine
 pub mod Keys
+pub mod Costs

@@ -1,5 +1,5 @@
 -- The encoder as a machine of 64 states. A state holds the last six bits, the newest with weight 32 (TS 36.212 section 5.1.3.1).
-use Rattle.std.specs.Prelude.{ℕ, zero, suc, ◌+◌, ◌-◌, ◌*◌, ◌/◌, ◌%◌, ◌^◌, Bool, true, false, cond, List, [], map, slice_index_or, ℤ}
+use Rattle.std.specs.Prelude.{ℕ, zero, suc, ◌+◌, ◌-◌, ◌*◌, ◌/◌, ◌%◌, ◌^◌, Bool, cond, List, [], map, slice_index_or, ℤ}
 use Rattle.finite.specs.Bits.{odd}
 use Rattle.paths.specs.Rows.{least_in}
 use Rattle.conv_code.specs.Code.{parity, taps_0, taps_1, taps_2}

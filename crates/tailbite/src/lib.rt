@@ -4,6 +4,7 @@
 //! Its steps stand here too: what one costs, the states that it joins, and a row of least costs one step on.
 #![tactic(auto)]
 
+mod costs;
 mod laws;
 mod search;
 mod steps;

@@ -2,17 +2,19 @@
 //! 2^64 plus the number of its word: it tells words of equal cost apart, and the least key is that of the least word.
 
 ghost use Rattle.std.specs.Prelude.{◌≡◌, ℕ, ◌+◌, ◌-◌, ◌*◌, ◌/◌, ◌^◌, ◌<◌, ◌≤◌, false, length, slice_index, slice_index_or};
-ghost use Rattle.finite.specs.Sizes.{AllWithin, RowsWithin};
+ghost use Rattle.finite.specs.Sizes.{RowsWithin};
 ghost use Rattle.paths.specs.Least.{ends_in};
 ghost use Rattle.paths.specs.Rows.{least_out};
 ghost use Rattle.paths.specs.Words.{key_step};
 ghost use Rattle.conv_code.specs.Cost.{word_cost};
 ghost use Rattle.finite.specs.Bits.{odd};
-ghost use Rattle.tailbite.specs.Machine.{branch_cost, shift};
+ghost use Rattle.tailbite.specs.Machine.{shift};
+ghost use Rattle.tailbite.specs.Costs.{HaveCosts, cost_in};
 ghost use Rattle.tailbite.specs.Keys.{IsLeastKeyBelow, IsLeastKeyFrom, far, scale};
 ghost use Rattle.tailbite.specs.LeastWord.{IsLeastWord};
 
-use crate::steps::{branch, next};
+use crate::costs::{StepCosts, fill_costs};
+use crate::steps::next;
 use crate::trellis::Trellis;
 use cs_bits::Bits;
 
@@ -25,34 +27,34 @@ const SCALE: u128 = 0x1_0000_0000_0000_0000;
 const FAR: u128 = 0x10_0000_0000_0000_0000_0000_0000;
 
 /// The least key from the state x, where the row has those from each state one step on.
-fn least_at(values: &[i32; 3], bit: u128, row: &[u128], x: usize) -> u128
+fn least_at(costs: &StepCosts, bit: u128, row: &[u128], x: usize) -> u128
     requires states { length row.now ≡ 64 }
     requires state { x < 64 }
-    requires sizes { AllWithin (2 ^ 20) values.now }
+    requires small { (y : ℕ) → y < 128 → slice_index costs.now y ≤ 3 * 2 ^ 20 }
     requires bit { bit < 2 ^ 64 }
     requires room { (x : ℕ) → x < 64 → slice_index row.now x ≤ 2 ^ 120 }
-    ensures least { result ≡ least_out shift (key_step scale bit (branch_cost values.now)) row.now x }
+    ensures least { result ≡ least_out shift (key_step scale bit (cost_in costs.now)) row.now x }
     ensures growth { result ≤ slice_index row.now (shift x false) + 2 ^ 86 }
 {
-    let zero = branch(values, x, false) as u128 * SCALE + row[next(x, false)];
-    let one = branch(values, x, true) as u128 * SCALE + bit + row[next(x, true)];
+    let zero = costs[x] as u128 * SCALE + row[next(x, false)];
+    let one = costs[STATES + x] as u128 * SCALE + bit + row[next(x, true)];
     zero.min(one)
 }
 
 /// Writes the row of least keys from each state, one step before the given row.
-fn step_back(values: &[i32; 3], bit: u128, row: &[u128], earlier: &mut [u128])
+fn step_back(costs: &StepCosts, bit: u128, row: &[u128], earlier: &mut [u128])
     requires states { length row.now ≡ 64 }
     requires earlier { length earlier.old ≡ 64 }
-    requires sizes { AllWithin (2 ^ 20) values.now }
+    requires small { (y : ℕ) → y < 128 → slice_index costs.now y ≤ 3 * 2 ^ 20 }
     requires bit { bit < 2 ^ 64 }
     requires room { (x : ℕ) → x < 64 → slice_index row.now x ≤ 2 ^ 120 }
     ensures row { (x : ℕ) → x < 64 →
-        slice_index earlier.new x ≡ least_out shift (key_step scale bit (branch_cost values.now)) row.now x }
+        slice_index earlier.new x ≡ least_out shift (key_step scale bit (cost_in costs.now)) row.now x }
     ensures growth { (x : ℕ) → x < 64 →
         slice_index earlier.new x ≤ slice_index row.now (shift x false) + 2 ^ 86 }
 {
     for x in 0..STATES {
-        earlier[x] = least_at(values, bit, row, x);
+        earlier[x] = least_at(costs, bit, row, x);
     }
 }
 
@@ -67,9 +69,16 @@ fn fill_ends(start: usize, row: &mut [u128])
 }
 
 /// The least key of a path through all places from the start state, which is free only if it ends there.
-fn least_key(values: &[[i32; 3]], start: usize, row: &mut [u128], earlier: &mut [u128]) -> u128
+fn least_key(
+    values: &[[i32; 3]],
+    tables: &[StepCosts],
+    start: usize,
+    row: &mut [u128],
+    earlier: &mut [u128],
+) -> u128
     requires places { length values.now ≤ 64 }
-    requires sizes { RowsWithin (2 ^ 20) values.now }
+    requires tables { length values.now ≤ length tables.now }
+    requires costs { HaveCosts values.now tables.now (length values.now) }
     requires start { start < 64 }
     requires states { length row.old ≡ 64 }
     requires earlier { length earlier.old ≡ 64 }
@@ -80,7 +89,7 @@ fn least_key(values: &[[i32; 3]], start: usize, row: &mut [u128], earlier: &mut 
     let mut i = values.len();
     while i > 0 {
         i -= 1;
-        step_back(&values[i], bit, row, earlier);
+        step_back(&tables[i], bit, row, earlier);
         row.copy_from_slice(earlier);
         bit *= 2;
     }
@@ -88,16 +97,34 @@ fn least_key(values: &[[i32; 3]], start: usize, row: &mut [u128], earlier: &mut 
 }
 
 /// The least key of a path from any start state back to it.
+fn least_of_starts(
+    values: &[[i32; 3]],
+    tables: &[StepCosts],
+    row: &mut [u128],
+    earlier: &mut [u128],
+) -> u128
+    requires places { length values.now ≤ 64 }
+    requires tables { length values.now ≤ length tables.now }
+    requires costs { HaveCosts values.now tables.now (length values.now) }
+    requires states { length row.old ≡ 64 }
+    requires earlier { length earlier.old ≡ 64 }
+    ensures { IsLeastKeyBelow values.now 64 result }
+{
+    let mut least = least_key(values, tables, 0, row, earlier);
+    for start in 1..STATES {
+        least = least.min(least_key(values, tables, start, row, earlier));
+    }
+    least
+}
+
+/// The least key of a path from any start state back to it, by the costs of all steps, which are made once.
 fn least_round(values: &[[i32; 3]], work: &mut Trellis) -> u128
     requires places { length values.now ≤ 64 }
     requires sizes { RowsWithin (2 ^ 20) values.now }
     ensures { IsLeastKeyBelow values.now 64 result }
 {
-    let mut least = least_key(values, 0, &mut work.row, &mut work.earlier);
-    for start in 1..STATES {
-        least = least.min(least_key(values, start, &mut work.row, &mut work.earlier));
-    }
-    least
+    fill_costs(values, &mut work.tables);
+    least_of_starts(values, &work.tables, &mut work.row, &mut work.earlier)
 }
 
 /// The least word and its cost: no word of N bits costs less by these values, and each that stands before

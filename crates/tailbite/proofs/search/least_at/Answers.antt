@@ -3,6 +3,6 @@ use Rattle.tailbite.proofs.search.least_at.Goals as goal
 
 pub returns-clause-growth : goal.returns-clause-growth
 returns-clause-growth c =
-    let cost = c.branch-zero.ensures.bound 1048576 c.requires.sizes in
+    let cost = c.requires.small c.args.x (omega (arith, c.requires.state)) in
     let same = ap (λ y. get_or c.args.row.now y 0) c.next.ensures.next in
     omega (arith, cost, same, c.min.ensures)

@@ -1,5 +1,5 @@
 use Rattle.paths.proofs.Rounds.{round_first, round_more}
-use Rattle.tailbite.proofs.search.least_round.Goals as goal
+use Rattle.tailbite.proofs.search.least_of_starts.Goals as goal
 
 pub loop-start-init : goal.loop-start-init
 loop-start-init c = round_first _ _ _ _ _ c.least_key-least.ensures
