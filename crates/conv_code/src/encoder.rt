@@ -1,3 +1,5 @@
+//! The coded word.
+
 ghost use Rattle.std.specs.Prelude.{◌≡◌, ◌<◌, ◌≤◌, length, All};
 ghost use Rattle.conv_code.specs.Code.{bit_back, coded, coded_bits, coded_word};
 

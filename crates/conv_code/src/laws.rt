@@ -1,3 +1,5 @@
+//! Laws of the code and of its reading.
+
 ghost use Rattle.conv_code.specs.Laws.{IsOneToOne, IsPermuting};
 
 /// A law of the code: words of one length, 6 or more, with the same coded word are the same.

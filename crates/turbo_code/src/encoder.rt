@@ -53,8 +53,10 @@ fn step(register: &mut Register, bit: bool) -> bool
 
 /// The three steps that lead the register back to zeros.
 fn tail_of(register: &Register) -> Tail
-    ensures x { result.x ≡ xor register.now.two register.now.three ∷ xor register.now.one register.now.two ∷ xor false register.now.one ∷ [] }
-    ensures z { result.z ≡ xor register.now.one register.now.three ∷ xor false register.now.two ∷ xor false register.now.one ∷ [] }
+    ensures x { result.x ≡ xor register.now.two register.now.three
+        ∷ xor register.now.one register.now.two ∷ xor false register.now.one ∷ [] }
+    ensures z { result.z ≡ xor register.now.one register.now.three
+        ∷ xor false register.now.two ∷ xor false register.now.one ∷ [] }
 {
     Tail {
         x: [

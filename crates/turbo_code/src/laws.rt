@@ -1,3 +1,5 @@
+//! Laws of the interleaver and of the reading.
+
 ghost use Rattle.turbo_code.specs.Laws.{ReadingIsWhole, RowsPermute};
 
 /// A law of the table: the interleaver of each row is a permutation of the places 0 to K - 1.

@@ -57,7 +57,8 @@ fn backward_at(soft: &Soft, row: &[u32; 8], x: usize) -> u32
 /// The row of least costs to each state, one step further on.
 pub(crate) fn forward_row(soft: &Soft, row: &[u32; 8]) -> [u32; 8]
     requires room { (y : ℕ) → y < 8 → slice_index row.now y ≤ 2 ^ 31 }
-    ensures least { (x : ℕ) → x < 8 → slice_index result x ≡ forward_least soft.now.sum soft.now.parity row.now x }
+    ensures least { (x : ℕ) → x < 8 →
+        slice_index result x ≡ forward_least soft.now.sum soft.now.parity row.now x }
     ensures growth { (x : ℕ) → x < 8 → slice_index result x ≤ slice_index row.now (first_from x) + 12288 }
     ensures size { length result ≡ 8 }
 {
@@ -71,7 +72,8 @@ pub(crate) fn forward_row(soft: &Soft, row: &[u32; 8]) -> [u32; 8]
 /// The row of least costs from each state, one step before.
 pub(crate) fn backward_row(soft: &Soft, row: &[u32; 8]) -> [u32; 8]
     requires room { (y : ℕ) → y < 8 → slice_index row.now y ≤ 2 ^ 31 }
-    ensures least { (x : ℕ) → x < 8 → slice_index result x ≡ backward_least soft.now.sum soft.now.parity row.now x }
+    ensures least { (x : ℕ) → x < 8 →
+        slice_index result x ≡ backward_least soft.now.sum soft.now.parity row.now x }
     ensures growth { (x : ℕ) → x < 8 → slice_index result x ≤ slice_index row.now (next x false) + 12288 }
     ensures size { length result ≡ 8 }
 {
@@ -86,7 +88,8 @@ pub(crate) fn backward_row(soft: &Soft, row: &[u32; 8]) -> [u32; 8]
 pub(crate) fn least_through(soft: &Soft, before: &[u32; 8], after: &[u32; 8], b: bool) -> u32
     requires before { (y : ℕ) → y < 8 → slice_index before.now y ≤ 2 ^ 30 }
     requires after { (y : ℕ) → y < 8 → slice_index after.now y ≤ 2 ^ 30 }
-    ensures least { IsLeastVia next (edge_cost soft.now.sum soft.now.parity) (slice_index before.now) (slice_index after.now) b 8 result }
+    ensures least { IsLeastVia next (edge_cost soft.now.sum soft.now.parity)
+        (slice_index before.now) (slice_index after.now) b 8 result }
     ensures bound { result ≤ slice_index before.now 0 + 12288 + slice_index after.now (next 0 b) }
 {
     let mut least = before[0] + edge(soft, 0, b) + after[next(0, b)];

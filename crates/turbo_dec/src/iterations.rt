@@ -121,7 +121,8 @@ fn extrinsics_of(
     requires small_parity { All IsSmall parity.now }
     requires small_tail { All IsSmall tail.now }
     requires small_prior { All IsSmall prior.now }
-    ensures values { take (length systematic.now) result ≡ extrinsics (values_of systematic.now parity.now tail.now prior.now) }
+    ensures values { take (length systematic.now) result
+        ≡ extrinsics (values_of systematic.now parity.now tail.now prior.now) }
     ensures size { length result ≡ 1024 }
     ensures small { All IsSmall result }
 {
@@ -219,7 +220,8 @@ fn told_of(systematic: &[i32], first: &[i32], second: &[i32]) -> [bool; 1024]
     requires small { All IsSmall systematic.now }
     requires small_first { All IsSmall first.now }
     requires small_second { All IsSmall second.now }
-    ensures word { take (length systematic.now) result ≡ values_below (length systematic.now) (told_by systematic.now first.now second.now) }
+    ensures word { take (length systematic.now) result
+        ≡ values_below (length systematic.now) (told_by systematic.now first.now second.now) }
     ensures size { length result ≡ 1024 }
 {
     let mut word = [false; 1024];
@@ -241,7 +243,8 @@ fn iterate(
     requires small_prior { All IsSmall prior.old }
     ensures word { take row.now.k result ≡ word_by row.now sums.now (take row.now.k prior.old) }
     ensures size { length result ≡ 1024 }
-    ensures prior { take row.now.k prior.new ≡ map handed_on (second_extrinsics row.now sums.now (take row.now.k prior.old)) }
+    ensures prior { take row.now.k prior.new
+        ≡ map handed_on (second_extrinsics row.now sums.now (take row.now.k prior.old)) }
     ensures small { All IsSmall prior.new }
 {
     let first = first_of(sums, row, prior, work);
@@ -261,13 +264,13 @@ fn payload_of(word: &[bool]) -> Block
     ensures { result.items ≡ message_of 24 word.now }
 {
     let mut block = ArrayVec::new();
-    for bit in &word[..word.len() - CHECK] {
-        block.push(*bit);
+    match block.try_extend_from_slice(&word[..word.len() - CHECK]) {
+        Ok(()) => block,
+        Err(_) => unreachable!(),
     }
-    block
 }
 
-/// The block of the sums of received values: the first of eight iterates whose check has_check_24 (CRC24A, TS
+/// The block of the sums of received values: the first of eight iterates whose check passes (CRC24A, TS
 /// 36.212 section 5.1.1), without the check; `None` exactly where none passes. The iteration is own: one pass
 /// of the first decoder, then one of the second, which reads the word in the order of the interleaver. The
 /// prior of each is what the other handed on last: its extrinsic values, each less its quarter rounded toward
