@@ -1,8 +1,10 @@
 -- Each coded bit stands in the reading once.
-use Rattle.std.proofs.Common.{◌≡◌, ℕ, zero, suc, ◌+◌, ◌-◌, ◌*◌, ◌/◌, ◌%◌, ◌<◌, ◌≤◌, inl, inr, Bool, true, false, List, [], ◌∷◌, get_or, refl, ap, ap₂, sym, subst, ◌∙◌, arith}
+use Rattle.std.proofs.Common.{◌≡◌, ℕ, zero, suc, ◌+◌, ◌-◌, ◌*◌, ◌/◌, ◌%◌, ◌<◌, ◌≤◌, inl, inr, Bool, true, false, List, [], ◌∷◌, length, get_or, refl, ap, ap₂, sym, subst, ◌∙◌, arith}
 use Rattle.std.specs.Prelude.{◌&&◌, nat_eq, nat_lt, nat_le, cond, filter, map}
 use Rattle.std.specs.List.{count_by}
-use Rattle.std.proofs.lemmas.Bool.{eqb-true, ltb-true, leb-true, leb-false, and_parts}
+use Rattle.std.proofs.Math.Nat.{mod-eq_of_lt}
+use Rattle.turbo_code.specs.Table.{IsSize}
+use Rattle.std.proofs.lemmas.Bool.{cases_Bool, eqb-true, ltb-true, leb-true, leb-false, and_parts}
 use Rattle.std.proofs.lemmas.Bool.Decides.{eqb_tells, nat_tests}
 use Rattle.std.proofs.lemmas.List.Sums.{sum_by-append, sum_by-cons}
 use Rattle.std.proofs.Math.Bool.{and-false}
@@ -10,7 +12,7 @@ use Rattle.finite.specs.Tests.{every_below}
 use Rattle.finite.specs.Lists.{values_below}
 use Rattle.finite.proofs.Tests.{every_below_at}
 use Rattle.finite.proofs.Lists.{values_below_more}
-use Rattle.turbo_code.specs.Reading.{Place, spot, columns, cell, v0, v1, v2, in_turn, buffer, bits_in, turned, nulls, matrix_rows, start, reading, is_at}
+use Rattle.turbo_code.specs.Reading.{Place, spot, columns, cell, v0, v1, v2, in_turn, buffer, bits_in, turned, nulls, matrix_rows, start, reading, place_of, is_at}
 use Rattle.turbo_code.specs.Laws.{ReadingIsWhole}
 use Rattle.turbo_code.proofs.TableFacts.{is_small_size}
 use Rattle.turbo_code.proofs.Search.{count-turned}
@@ -196,17 +198,49 @@ count-buffer r t c few below h =
     one (suc (suc zero)) h = refl
     one (suc (suc (suc t))) h = absurd (omega (arith, h))
 
-pub whole : ReadingIsWhole
+-- ---- by index
+
+-- an item that passes, where some do
+counted_some : (test : Place → Bool) (xs : List Place) (d : Place) → 1 ≤ count_by test xs → (i : ℕ) × (i < length xs) × (test (get_or xs i d) ≡ true)
+counted_some test [] d h = absurd (omega (arith, h))
+counted_some test (x ∷ xs) d h = elim (cases_Bool (test x)) [
+  | inl e ↦ (0, omega arith, e)
+  | inr e ↦
+      let total = sum_by-cons (λ x. cond (test x) 1 0) x xs ∙ ap (λ b. cond b 1 0 + count_by test xs) e in
+      let rest : 1 ≤ count_by test xs = let known = subst (λ n. 1 ≤ n) total h in omega (arith, known) in
+      let (i, below, is) = counted_some test xs d rest in (suc i, omega (arith, below), is)
+]
+
+same_spot : (here : Place) (t p : ℕ) → is_at t p here ≡ true → here ≡ spot t p
+same_spot here t p h =
+    let stream : here.stream ≡ t = grind (arith, nat_tests, h) in
+    let place : here.place ≡ p = grind (arith, nat_tests, h) in
+    ap (λ (n : ℕ). spot n here.place) stream ∙ ap (λ (n : ℕ). spot t n) place
+
+read_there : (k rv t p n : ℕ) → length (reading k rv) ≡ n → count_by (is_at t p) (reading k rv) ≡ 1 → (i : ℕ) × (i < n) × (place_of k rv i ≡ spot t p)
+unfolding place_of
+read_there k rv t p n count once =
+    let (i, below, is) = counted_some (is_at t p) (reading k rv) (spot 0 0) (omega (arith, once)) in
+    let same : i % length (reading k rv) ≡ i = mod-eq_of_lt below in (
+      i,
+      omega (arith, below, count),
+      ap (λ j. get_or (reading k rv) j (spot 0 0)) same ∙ same_spot (get_or (reading k rv) i (spot 0 0)) t p is,
+    )
+
+counted_once : (k rv : ℕ) → IsSize k → rv < 4 → (t p : ℕ) → t < 3 → p < k + 4 → count_by (is_at t p) (reading k rv) ≡ 1
 unfolding reading
-whole k rv size version =
+counted_once k rv size version t p below inside =
     let small = is_small_size k size in
     let high = small.high in
-    record {
-      count = reading_count k rv size;
-      once = λ t p below inside.
-          let few : matrix_rows k ≤ 33 = omega (arith, high) in
-          let cell_inside : p + nulls k < 32 * matrix_rows k = omega (arith, inside) in
-          count-bits_in (nulls k) t p (turned (start k rv) (buffer (matrix_rows k)))
-          ∙ count-turned (is_at t (p + nulls k)) (start k rv) (buffer (matrix_rows k))
-          ∙ count-buffer (matrix_rows k) t (p + nulls k) few below cell_inside;
-    }
+    let few : matrix_rows k ≤ 33 = omega (arith, high) in
+    let cell_inside : p + nulls k < 32 * matrix_rows k = omega (arith, inside) in
+    count-bits_in (nulls k) t p (turned (start k rv) (buffer (matrix_rows k)))
+    ∙ count-turned (is_at t (p + nulls k)) (start k rv) (buffer (matrix_rows k))
+    ∙ count-buffer (matrix_rows k) t (p + nulls k) few below cell_inside
+
+pub whole : ReadingIsWhole
+whole k rv size version = record {
+  count = reading_count k rv size;
+  once = counted_once k rv size version;
+  each = λ t p below inside. read_there k rv t p (3 * (k + 4)) (reading_count k rv size) (counted_once k rv size version t p below inside);
+}

@@ -1,4 +1,4 @@
-use Rattle.std.specs.Prelude.{◌≤◌, ◌*◌}
+use Rattle.std.specs.Prelude.{◌*◌}
 use Rattle.std.proofs.Common.{subst, sym, ◌<◌, arith, refl}
 use Rattle.finite.specs.Sizes.{RowsWithin}
 use Rattle.turbo_code.proofs.TableFacts.{is_small, row_size}
