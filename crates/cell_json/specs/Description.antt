@@ -1,5 +1,6 @@
 -- Descriptions of a transmission as JSON values. (own)
-use Rattle.std.specs.Prelude.{ℕ, Bool, ◌&&◌, nat_eq, nat_le, if◌then◌else◌, List, [], ◌∷◌, codes, bytes_eq, Option, Some, None, is_some, option_map, option_and_then, ℤ, pos, int_le}
+use Rattle.std.specs.Prelude.{ℕ, Bool, ◌&&◌, nat_eq, nat_le, List, [], ◌∷◌, length, codes, Option, Some, None, is_some, option_map, option_and_then, ℤ, pos, int_le}
+use Rattle.std.specs.List.{list_all}
 use Rattle.serde_json.specs.Data.{Data, null, boolean, number, string, array, object, Items, no_items, item}
 use Rattle.serde_json.specs.Events.{members_len}
 use Rattle.serde_json.specs.Find.{get, as_number, as_i64, as_str, as_array}
@@ -46,18 +47,26 @@ abbrev pub key_count : Data → ℕ
 key_count (object members) = members_len members
 key_count _ = 0
 
--- the object has exactly the eight keys, each with a value of its kind: it has eight keys, and these are among them
+-- a key with a value of a kind
+abbrev pub has : {A : Type 0} → List ℕ → (Data → Option A) → Data → Bool
+has key kind json = is_some (at_key kind key json)
+
+-- the keys of a description, and of which kind each is
+abbrev pub keys : List (Data → Bool)
+keys =
+    has (codes "identity") whole_of
+    ∷ has (codes "sfn") whole_of
+    ∷ has (codes "offset") whole_of
+    ∷ has (codes "samples") whole_of
+    ∷ has (codes "gain") pair_of
+    ∷ has (codes "duration") duration_of
+    ∷ has (codes "resource") resource_of
+    ∷ has (codes "spare") whole_of
+    ∷ []
+
+-- the object has exactly these keys, each with a value of its kind: it has so many, and these are among them
 abbrev pub has_form : Data → Bool
-has_form json =
-    nat_eq (key_count json) 8
-    && is_some (at_key whole_of (codes "identity") json)
-    && is_some (at_key whole_of (codes "sfn") json)
-    && is_some (at_key whole_of (codes "offset") json)
-    && is_some (at_key whole_of (codes "samples") json)
-    && is_some (at_key pair_of (codes "gain") json)
-    && is_some (at_key duration_of (codes "duration") json)
-    && is_some (at_key resource_of (codes "resource") json)
-    && is_some (at_key whole_of (codes "spare") json)
+has_form json = nat_eq (key_count json) (length keys) && list_all (λ is_there. is_there json) keys
 
 -- the value, where there is one
 abbrev pub value_or : {A : Type 0} → A → Option A → A
