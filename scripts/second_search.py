@@ -11,15 +11,16 @@ import sys
 
 import numpy as np
 
-QUARTER = (16384, 16364, 16305, 16207, 16069, 15893, 15679, 15426, 15137, 14811, 14449, 14053, 13623, 13160, 12665, 12140, 11585,
-           11003, 10394, 9760, 9102, 8423, 7723, 7005, 6270, 5520, 4756, 3981, 3196, 2404, 1606, 804, 0)
+QUARTER = (16384, 16364, 16305, 16207, 16069, 15893, 15679, 15426, 15137, 14811, 14449, 14053, 13623, 13160, 12665, 12140,
+           11585, 11003, 10394, 9760, 9102, 8423, 7723, 7005, 6270, 5520, 4756, 3981, 3196, 2404, 1606, 804, 0)
 Z_REAL = (127, 126, 124, 121, 117, 112, 105, 97, 89, 79, 69, 58, 46, 34, 22, 9, -3, -16, -28, -40, -52, -64, -74, -84, -93,
           -101, -108, -114, -119, -123, -126, -127)
 Z_IMAG = (0, 13, 25, 37, 49, 61, 72, 82, 91, 99, 107, 113, 118, 122, 125, 127, 127, 126, 124, 120, 116, 110, 103, 95, 86, 77,
           66, 55, 43, 31, 19, 6)
 ROOTS = (25, 29, 34)
 TAPS = ((0, 2, 3, 5, 6), (0, 1, 2, 3, 6), (0, 1, 2, 4, 6))
-COLUMNS = (1, 17, 9, 25, 5, 21, 13, 29, 3, 19, 11, 27, 7, 23, 15, 31, 0, 16, 8, 24, 4, 20, 12, 28, 2, 18, 10, 26, 6, 22, 14, 30)
+COLUMNS = (1, 17, 9, 25, 5, 21, 13, 29, 3, 19, 11, 27, 7, 23, 15, 31,
+           0, 16, 8, 24, 4, 20, 12, 28, 2, 18, 10, 26, 6, 22, 14, 30)
 FRAME, CYCLE = 19_200, 19_660_800
 PORTS = {0: 1, 0xffff: 2, 0x5555: 4}
 
@@ -82,7 +83,8 @@ def hits(r):
             return energy[other] > 0 and (left > right or left == right and other < i)
 
         for i in range(137 - first, 19_337 - first):
-            if energy[i] and 4 * peak[i] >= energy[i] * power and not any(rules_out(u, i) for u in range(i - 9, i + 10) if u != i):
+            near = (u for u in range(i - 9, i + 10) if u != i)
+            if energy[i] and 4 * peak[i] >= energy[i] * power and not any(rules_out(u, i) for u in near):
                 found.append((first + i, n2))
     return sorted(found)
 
@@ -116,7 +118,8 @@ def identity(r, t, n2):
     channel = a * p + b * q, b * p - a * q
     c, e = seen(r, t - 137)[5:67].T
     agreement = [int(x) for x in c * channel[0] + e * channel[1]]
-    scores = [(sum(s * x for s, x in zip(secondary(n1, n2, half), agreement)), -half, -n1) for half in (0, 5) for n1 in range(168)]
+    scores = [(sum(s * x for s, x in zip(secondary(n1, n2, half), agreement)), -half, -n1)
+              for half in (0, 5) for n1 in range(168)]
     _, half, n1 = max(scores)
     return 3 * -n1 + n2, (t - (10_432 if half else 832)) % FRAME
 
@@ -146,7 +149,9 @@ def channel(pilots, first, k):
     i, r = divmod(max(k - first, 0), 3)
     if k < first:
         return tuple(3 * x for x in pilots[0])
-    return tuple((3 - r) * x + r * y for x, y in zip(pilots[i], pilots[i + 1])) if i < 23 else tuple(3 * x for x in pilots[23])
+    if i >= 23:
+        return tuple(3 * x for x in pilots[23])
+    return tuple((3 - r) * x + r * y for x, y in zip(pilots[i], pilots[i + 1]))
 
 
 def soft_values(symbols, cell):
@@ -168,7 +173,8 @@ def soft_values(symbols, cell):
 
 # ---- the least word
 
-READING = [(32 * row + column - 24, stream) for stream in range(3) for column in COLUMNS for row in range(2) if 32 * row + column >= 24]
+READING = [(32 * row + column - 24, stream)
+           for stream in range(3) for column in COLUMNS for row in range(2) if 32 * row + column >= 24]
 CODED = [[[sum(b if t == 0 else x >> 6 - t & 1 for t in taps) % 2 for taps in TAPS] for b in (0, 1)] for x in range(64)]
 
 
@@ -183,7 +189,8 @@ def coded_sums(values, scrambling):
 
 def least(sums):
     """The least cost, and the first word of it as a number."""
-    costs = [[[sum(abs(v) for v, c in zip(row, CODED[x][b]) if (v > 0) == c and v) for b in (0, 1)] for x in range(64)] for row in sums]
+    costs = [[[sum(abs(v) for v, c in zip(row, CODED[x][b]) if v and (v > 0) == c) for b in (0, 1)] for x in range(64)]
+             for row in sums]
     best = None
     for start in range(64):
         now = {start: (0, 0)}
@@ -247,7 +254,8 @@ def line(entry):
     width = ('n6', 'n15', 'n25', 'n50', 'n75', 'n100')[block >> 21]
     duration = ('normal', 'extended')[block >> 20 & 1]
     resource = ('oneSixth', 'half', 'one', 'two')[block >> 18 & 3]
-    return f'cell {cell} at {start} sfn {sfn} ports {ports} {width} phich {duration} {resource} spare {block & 1023}\nsib1 none not-read'
+    fields = f'ports {ports} {width} phich {duration} {resource} spare {block & 1023}'
+    return f'cell {cell} at {start} sfn {sfn} {fields}\nsib1 none not-read'
 
 
 def main(*why):

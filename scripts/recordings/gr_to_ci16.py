@@ -1,9 +1,10 @@
 #!/usr/bin/python3
 """gr_to_ci16.py IN RATE SHIFT OUT [GAIN]
 
-The same by GNU Radio 3.10 without a screen: IN is complex float32 at RATE samples per second, with the cell SHIFT hertz above
-the centre. Moves it to 0, filters, resamples to 1.92 million samples per second, and writes interleaved shorts; a
-component of 1.0 becomes 32,767 times GAIN. The filter's delay costs a few samples: give it four frames or more.
+Makes a recording by GNU Radio 3.10, without a screen: IN is complex float32 at RATE samples per second, with the cell
+SHIFT hertz above the centre. Moves it to 0, filters, resamples to 1.92 million samples per second, and writes
+interleaved shorts; a component of 1.0 becomes 32,767 times GAIN. The filter's delay costs a few samples: give it
+four frames or more.
 
 Debian: gnuradio.
 """

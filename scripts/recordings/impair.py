@@ -6,8 +6,8 @@ how many the list holds the cell, how many have a hit at its place, and how many
 sent. PATTERN is a regular expression that the conditions have to match. Each number is an observation: nothing here is
 proved. The numbers are drawn with fixed seeds, so a second run prints the same table.
 
-A cell is five frames that `transmit` sends, with nothing but reference and synchronisation signals and the broadcast channel;
-in a full carrier every other resource element has a random QPSK point. Es/N0 is the energy of an element by that of
+A cell is five frames that `transmit` sends, with nothing but reference and synchronisation signals and the broadcast
+channel; in a full carrier every other resource element has a random QPSK point. Es/N0 is the energy of an element by that of
 the noise in one. Debian: python3-numpy, python3-scipy.
 """
 import json
@@ -153,7 +153,8 @@ def conditions(program):
     both = [('as it is', [])]
     both += [(f'offset {h} Hz', [turned(h)]) for h in (300, 500, 700, 1000, 1250, 1500, 2000, 5000)]
     both += [(f'offset {h} Hz, 10 dB', [turned(h), noise(10)]) for h in (500, 1000, 1500)]
-    both += [(f'offset {h} Hz, 10 dB, then offset.py', [turned(h), noise(10), tuned]) for h in (1000, 5000, 15000, -30000, 45000)]
+    both += [(f'offset {h} Hz, 10 dB, then offset.py', [turned(h), noise(10), tuned])
+             for h in (1000, 5000, 15000, -30000, 45000)]
     both += [(f'clock {p} ppm', [clock(p)]) for p in (2, 10, 50)]
     both += [(f'Es/N0 {d} dB', [noise(d)]) for d in (20, 10, 5, 3, 2, 1, 0, -1, -2, -3, -5)]
     both += [(f'Es/N0 {d} dB, filtered to 1.2 MHz', [noise(d), filtered]) for d in (0, -2, -3, -5)]

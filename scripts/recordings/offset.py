@@ -30,8 +30,8 @@ def fraction(x, place, n2):
 
 
 def rest(x, place):
-    """The offset within half a subcarrier, by the cyclic prefixes: symbols 0 and 4 of each slot, 5 and 6 where they carry the
-    synchronisation signals. Nine samples of each prefix come again 128 later."""
+    """The offset within half a subcarrier, by the cyclic prefixes: symbols 0 and 4 of each slot, 5 and 6 where they carry
+    the synchronisation signals. Nine samples of each prefix come again 128 later."""
     total = 0
     half = (place - PSS_AT) % (10 * SLOT)
     for slot in range((len(x) - half) // SLOT):

@@ -18,7 +18,7 @@ has() { # has WORD..: whether these commands are there
 }
 
 finds() { # finds NAME < LIST: the list has the sent cell, within 12 samples of its place
-    if awk '$1 == "cell" && $2 == 217 && $4 >= 14188 && $4 <= 14212 { $4 = ""; print }' | grep -q 'sfn 101 ports 1 n6 phich normal two spare 5'
+    if awk '$1 == "cell" && $2 == 217 && $4 >= 14188 && $4 <= 14212' | grep -q 'sfn 101 ports 1 n6 phich normal two spare 5'
     then echo "ok      $1"
     else echo "FAILED  $1"; failed=$((failed + 1))
     fi
@@ -37,9 +37,11 @@ if has jq; then
     cp sent.ci16 a.sigmf-data
     "$here/from_sigmf.sh" a.sigmf-meta | cmp - sent.ci16 > same
     says 'SigMF ci16_le at 1.92 Ms/s is the recording' '' < same
-    echo '{"global": {"core:datatype": "cf32_le", "core:sample_rate": 2.4e6}, "captures": [{"core:frequency": 796000000}]}' > b.sigmf-meta
+    echo '{"global": {"core:datatype": "cf32_le", "core:sample_rate": 2.4e6},
+           "captures": [{"core:frequency": 796000000}]}' > b.sigmf-meta
     "$here/as_radio.py" f32 2400000 300000 < sent.ci16 > b.sigmf-data
-    "$here/from_sigmf.sh" b.sigmf-meta 796300000 | "$program" search | finds 'SigMF cf32_le at 2.4 Ms/s, 300 kHz beside the centre'
+    "$here/from_sigmf.sh" b.sigmf-meta 796300000 | "$program" search |
+        finds 'SigMF cf32_le at 2.4 Ms/s, 300 kHz beside the centre'
 else
     echo 'left out SigMF: no jq'
 fi

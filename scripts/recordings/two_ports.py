@@ -1,10 +1,10 @@
 #!/usr/bin/python3
 """two_ports.py PROGRAM [CELLS]
 
-Sends CELLS random cells (10) of two antenna ports, whose broadcast channel is sent with transmit diversity (TS 36.211 sections 6.3.3.3
-and 6.3.4.3), adds noise, searches each, and prints of how many the list holds the cell, by how much stronger
-port 1 is received than port 0. Both channels are flat, of a random phase; the synchronisation signals come from port 0. These
-are observations: nothing here is proved. The numbers are drawn with fixed seeds.
+Sends CELLS random cells (10) of two antenna ports, whose broadcast channel is sent with transmit diversity (TS 36.211
+sections 6.3.3.3 and 6.3.4.3), adds noise, searches each, and prints of how many the list holds the cell, by how much
+stronger port 1 is received than port 0. Both channels are flat, of a random phase; the synchronisation signals come from
+port 0. These are observations: nothing here is proved. The numbers are drawn with fixed seeds.
 
 Debian: python3-numpy. It takes its sequences from ../second_search.py.
 """
@@ -73,8 +73,8 @@ def is_found(program, seed, ratio, noise):
     cell, sfn, cut = int(draw.integers(504)), int(draw.integers(1000)), int(draw.integers(200, 19_000))
     phases = np.exp(2j * np.pi * draw.random(2))
     frames = [grid(cell, sfn + j) for j in range(6)]
-    first, second = (np.concatenate([samples(frame[port]) for frame in frames])[cut:cut + 5 * radio.FRAME] for port in (0, 1))
-    x = GAIN * (first * phases[0] + 10 ** (ratio / 20) * second * phases[1])
+    first, second = (np.concatenate([samples(frame[port]) for frame in frames]) for port in (0, 1))
+    x = GAIN * (first * phases[0] + 10 ** (ratio / 20) * second * phases[1])[cut:cut + 5 * radio.FRAME]
     size = GAIN * np.sqrt(NOISE / 10 ** (noise / 10) / 2)
     x = x + size * (draw.standard_normal(len(x)) + 1j * draw.standard_normal(len(x)))
     return any(words[0] == str(cell) and words[4] == str(sfn + 1) and words[6] == '2' for words in radio.cells(program, x))
