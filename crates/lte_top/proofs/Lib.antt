@@ -10,3 +10,4 @@ pub mod Transmitted
 pub mod Ending
 pub mod OneForm
 pub mod Complete
+pub mod Found

@@ -5,3 +5,4 @@ pub mod Forms
 pub mod Reading
 pub mod Certifying
 pub mod Run
+pub mod Found

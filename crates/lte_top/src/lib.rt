@@ -4,6 +4,7 @@
 mod certifying;
 mod checking;
 mod form;
+mod laws;
 mod reporting;
 mod status;
 mod text;
@@ -12,6 +13,7 @@ mod transmitting;
 mod words;
 
 pub use form::{Form, Report};
+pub use laws::{an_input_has_one_answer, what_is_sent_is_found};
 pub use status::Status;
-pub use top::{an_input_has_one_answer, run, run_in_memory};
+pub use top::{run, run_in_memory};
 pub use words::Words;

@@ -2,7 +2,7 @@
 
 ghost use Rattle.std.specs.Prelude.{◌≡◌, ◌≤◌, Some};
 ghost use Rattle.cs_outside.specs.Outside.{SourceTold, SinkTold};
-ghost use Rattle.lte_top.specs.Run.{HasOneAnswer, Outcome, Runs};
+ghost use Rattle.lte_top.specs.Run.{Outcome, Runs};
 
 use crate::certifying::certify;
 use crate::checking::check_each;
@@ -45,12 +45,6 @@ pub fn run_in_memory(
 {
     run(alloc, words, source, sink)
 }
-
-/// A law of the answers: the bytes of an input have one answer, so that each is given exactly where
-/// it is theirs, but for want of memory and counted faults.
-pub fn an_input_has_one_answer()
-    ensures { HasOneAnswer }
-{}
 
 // The same, by the way each answer comes.
 fn run_words<S: Source, K: Sink>(

@@ -1,0 +1,63 @@
+-- What is sent is found.
+use Rattle.std.proofs.Common.{◌≡◌, ℕ, ◌+◌, arith, refl, ap, sym, subst, ◌∙◌, List}
+use Rattle.std.specs.Prelude.{All}
+use Rattle.finite.specs.Lists.{values_below}
+use Rattle.finite.proofs.Lists.{values_below-All}
+use Rattle.cs_num.specs.declared.Cpx.{Cpx}
+use Rattle.cs_num.specs.declared.Sample.{Sample}
+use Rattle.cs_num.specs.Complex.{IsWithin, silence, value_of}
+use Rattle.cs_num.proofs.Complex.{within_more}
+use Rattle.sample_file.specs.Recording.{samples_of, bytes_of}
+use Rattle.sample_file.proofs.Samples.{samples_back}
+use Rattle.lte_types.specs.declared.entry.Entry.{Entry}
+use Rattle.cell_tx.specs.declared.cell.CellPlan.{CellPlan}
+use Rattle.cell_tx.specs.declared.transmission.Transmission.{Transmission}
+use Rattle.cell_tx.specs.Sent.{sample_of, received, sent, gain_of}
+use Rattle.cell_tx.specs.Clean.{IsGain, IsClean, start_of, number_at_start}
+use Rattle.cell_tx.specs.Laws.{ReceivedIsClean}
+use Rattle.cell_tx.proofs.Bounds.{amplified, sent-square}
+use Rattle.clean_air.specs.Clean.{HoldsCell}
+use Rattle.cell_json.specs.Reading.{Describes}
+use Rattle.cell_json.proofs.Ranges.{described_ranges}
+use Rattle.report.specs.Lines.{cell_line, report_text}
+use Rattle.report.specs.Pieces.{IsPiece}
+use Rattle.report.proofs.Pieces.{lines_stand}
+use Rattle.lte_top.specs.Transmitting.{sent_samples}
+use Rattle.lte_top.specs.Found.{sent_line, WhatIsSentIsFound}
+
+-- what a transmission sends fits the bytes of samples
+sent_fits : (t : Transmission) → IsGain (gain_of t.gain) → All (λ s. IsWithin 32767 (value_of s)) (sent_samples t)
+unfolding sent_samples
+sent_fits t size =
+    let f : ℕ → Sample = λ i. sample_of (received t.cell t.sfn t.offset (gain_of t.gain) i) in
+    values_below-All (λ s. IsWithin 32767 (value_of s)) t.samples f silence (λ k below.
+    within_more (received t.cell t.sfn t.offset (gain_of t.gain) k) 32284 32767
+    (amplified (gain_of t.gain) (sent t.cell t.sfn (k + t.offset)) size (sent-square t.cell t.sfn (k + t.offset))).small (omega arith))
+
+-- so it is read back as it was
+sent_back : (t : Transmission) (bytes : List ℕ) → IsGain (gain_of t.gain) → bytes ≡ bytes_of (sent_samples t) → samples_of bytes ≡ sent_samples t
+sent_back t bytes size e = ap samples_of e ∙ samples_back (sent_samples t) (sent_fits t size)
+
+-- the line of a held cell stands in the text of the list
+held_line : (list : List Entry) (plan : CellPlan) (first number : ℕ) → HoldsCell list plan first number → IsPiece (sent_line plan first number) (report_text list)
+held_line list plan first number held =
+    let is : cell_line held.entry ≡ sent_line plan first number =
+    rw (held.id, held.start, held.sfn, held.ports, held.block.bandwidth, held.block.duration, held.block.resource, held.block.spare) refl in
+    subst (λ l. IsPiece l (report_text list)) is (lines_stand list held.entry held.inside)
+
+pub sent_is_found : ReceivedIsClean → WhatIsSentIsFound
+unfolding sent_samples
+sent_is_found is_clean description bytes text a b =
+    let t = a.transmission in
+    let ranges = described_ranges description t a.describes in
+    let clean : IsClean (samples_of bytes) t.cell t.sfn t.offset (gain_of t.gain) 0 =
+    subst (λ samples. IsClean samples t.cell t.sfn t.offset (gain_of t.gain) 0) (sym (sent_back t bytes ranges.gain a.sent))
+    (is_clean t.cell t.sfn t.offset t.samples (gain_of t.gain) ranges.number ranges.offset ranges.gain) in
+    let held = b.is_list.holds t.cell t.sfn t.offset (gain_of t.gain) 0 ranges.sendable clean in
+    record {
+      t = t;
+      describes = a.describes;
+      clean = clean;
+      line = subst (IsPiece (sent_line t.cell (start_of t.offset) (number_at_start t.sfn t.offset))) (sym b.text)
+          (held_line b.entries t.cell (start_of t.offset) (number_at_start t.sfn t.offset) held);
+    }

@@ -1,0 +1,20 @@
+//! Laws of what is answered and written.
+
+ghost use Rattle.lte_top.specs.Found.{WhatIsSentIsFound};
+ghost use Rattle.lte_top.specs.Run.{HasOneAnswer};
+
+use cell_tx::sent_is_clean;
+
+/// A law of the answers: the bytes of an input have one answer, so that each is given exactly where
+/// it is theirs, but for want of memory and counted faults.
+pub fn an_input_has_one_answer()
+    ensures { HasOneAnswer }
+{}
+
+/// What `transmit` writes for a description is, read as a recording, free of errors, and what `search`
+/// writes for that recording has the line of the described cell.
+pub fn what_is_sent_is_found()
+    ensures { WhatIsSentIsFound }
+{
+    sent_is_clean();
+}
