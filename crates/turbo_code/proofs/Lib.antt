@@ -8,6 +8,7 @@ pub mod Edges
 pub mod Orders
 pub mod Round
 pub mod Sums
+pub mod Inside
 pub mod Whole
 pub mod Known
 pub mod Sizes

@@ -23,7 +23,7 @@ use Rattle.turbo_code.proofs.TableFacts.{is_small_size}
 use Rattle.turbo_code.proofs.Cells.{cell_below}
 use Rattle.turbo_code.proofs.Search.{count-turned}
 use Rattle.turbo_code.proofs.Round.{reading_count}
-use Rattle.turbo_code.proofs.Whole.{different, count_more, count-in_turn, count-bits_in, whole}
+use Rattle.turbo_code.proofs.Whole.{different, count_more, count-in_turn, count-bits_in, counted_once}
 
 -- ---- a place that is none of a coded word is not read
 
@@ -54,7 +54,7 @@ unfolding reading
 at_most_once k rv t p size version below = settle (cases_lt p (k + 4))
   where
     settle : (p < k + 4) ⊎ (k + 4 ≤ p) → count_by (is_at t p) (reading k rv) ≤ 1
-    settle (inl inside) = let e = (whole k rv size version).once t p below inside in omega (arith, e)
+    settle (inl inside) = let e = counted_once k rv size version t p below inside in omega (arith, e)
     settle (inr outside) =
         let low = (is_small_size k size).low in
         let some : 0 < matrix_rows k = omega (arith, low) in

@@ -17,6 +17,7 @@ use Rattle.turbo_code.specs.Laws.{ReadingIsWhole}
 use Rattle.turbo_code.proofs.TableFacts.{is_small_size}
 use Rattle.turbo_code.proofs.Search.{count-turned}
 use Rattle.turbo_code.proofs.Round.{reading_count}
+use Rattle.turbo_code.proofs.Inside.{place_inside, one_place}
 
 -- ---- tests of numbers
 
@@ -227,7 +228,7 @@ read_there k rv t p n count once =
       ap (λ j. get_or (reading k rv) j (spot 0 0)) same ∙ same_spot (get_or (reading k rv) i (spot 0 0)) t p is,
     )
 
-counted_once : (k rv : ℕ) → IsSize k → rv < 4 → (t p : ℕ) → t < 3 → p < k + 4 → count_by (is_at t p) (reading k rv) ≡ 1
+pub counted_once : (k rv : ℕ) → IsSize k → rv < 4 → (t p : ℕ) → t < 3 → p < k + 4 → count_by (is_at t p) (reading k rv) ≡ 1
 unfolding reading
 counted_once k rv size version t p below inside =
     let small = is_small_size k size in
@@ -238,9 +239,24 @@ counted_once k rv size version t p below inside =
     ∙ count-turned (is_at t (p + nulls k)) (start k rv) (buffer (matrix_rows k))
     ∙ count-buffer (matrix_rows k) t (p + nulls k) few below cell_inside
 
+read_once : (k rv i j : ℕ) → IsSize k → rv < 4 → i < 3 * (k + 4) → j < 3 * (k + 4) → place_of k rv i ≡ place_of k rv j → i ≡ j
+unfolding place_of
+read_once k rv i j size version hi hj same =
+    let count = reading_count k rv size in
+    let below_i : i < length (reading k rv) = omega (arith, count, hi) in
+    let below_j : j < length (reading k rv) = omega (arith, count, hj) in
+    let at : (m : ℕ) → m < length (reading k rv) → get_or (reading k rv) (m % length (reading k rv)) (spot 0 0) ≡ get_or (reading k rv) m (spot 0 0)
+    = λ m inside. ap (λ n. get_or (reading k rv) n (spot 0 0)) (mod-eq_of_lt inside) in
+    one_place (reading k rv) (spot 0 0) i j below_i below_j
+    (λ m inside.
+    let here = subst (λ p. (p.stream < 3) × (p.place < k + 4)) (at m inside) (place_inside k rv m size) in
+    counted_once k rv size version _ _ here.0 here.1)
+    (sym (at i below_i) ∙ same ∙ at j below_j)
+
 pub whole : ReadingIsWhole
 whole k rv size version = record {
   count = reading_count k rv size;
-  once = counted_once k rv size version;
+  inside = λ i. place_inside k rv i size;
+  once = λ i j hi hj same. read_once k rv i j size version hi hj same;
   each = λ t p below inside. read_there k rv t p (3 * (k + 4)) (reading_count k rv size) (counted_once k rv size version t p below inside);
 }

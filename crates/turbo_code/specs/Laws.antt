@@ -1,9 +1,8 @@
 -- Laws of the interleaver and of the reading (TS 36.212 sections 5.1.3.2.3 and 5.1.4.1).
 use Rattle.std.specs.Prelude.{◌≡◌, ℕ, ◌+◌, ◌*◌, ◌<◌, length}
-use Rattle.std.specs.List.{count_by}
 use Rattle.turbo_code.specs.declared.rows.Row.{Row}
 use Rattle.turbo_code.specs.Table.{IsRow, IsSize, interleaver}
-use Rattle.turbo_code.specs.Reading.{is_at, place_of, reading, spot}
+use Rattle.turbo_code.specs.Reading.{place_of, reading, spot}
 
 -- f is one to one, from the numbers below n onto them
 pub record Permutes (n : ℕ) (f : ℕ → ℕ) : Type 0 where
@@ -15,11 +14,11 @@ pub record Permutes (n : ℕ) (f : ℕ → ℕ) : Type 0 where
 abbrev pub RowsPermute : Type 0
 RowsPermute = (row : Row) → IsRow row → Permutes row.k (interleaver row)
 
--- once round the buffer are 3(K + 4) bits, and each of the K + 4 bits of each stream stands there once: that bit of the
--- reading is it
+-- once round the buffer are 3(K + 4) bits, each at another place, and each of the K + 4 bits of each stream is read
 pub record ReadsEachBitOnce (k rv : ℕ) : Type 0 where
   pub count : length (reading k rv) ≡ 3 * (k + 4)
-  pub once : (t p : ℕ) → t < 3 → p < k + 4 → count_by (is_at t p) (reading k rv) ≡ 1
+  pub inside : (i : ℕ) → ((place_of k rv i).stream < 3) × ((place_of k rv i).place < k + 4)
+  pub once : (i j : ℕ) → i < 3 * (k + 4) → j < 3 * (k + 4) → place_of k rv i ≡ place_of k rv j → i ≡ j
   pub each : (t p : ℕ) → t < 3 → p < k + 4 → (i : ℕ) × (i < 3 * (k + 4)) × (place_of k rv i ≡ spot t p)
 
 -- for each K of the table and each redundancy version
