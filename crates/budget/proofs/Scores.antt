@@ -31,7 +31,8 @@ use Rattle.sss_detect.proofs.Choices.{less, not_less, only_one_is_best}
 use Rattle.observe.specs.Seen.{seen}
 use Rattle.pss_search.specs.Correlation.{pss_grid}
 use Rattle.budget.specs.Received.{AreAmplitudes, IsSeenAs}
-use Rattle.budget.specs.Score.{AreSeen, TermsArePositive, SentPairIsGreatest, SentPairIsBest, SentPairIsIdentified, sss_amplitude, sss_grid}
+use Rattle.budget.specs.Score.{AreSeen, TermsArePositive, SentPairIsGreatest, SentPairIsBest, SentPairIsIdentified, sss_grid}
+use Rattle.sync_seq.specs.Secondary.{sss_amplitude}
 use Rattle.budget.proofs.Deviations.{deviation, seen_is, deviation-sized, channel_is}
 use Rattle.budget.proofs.Seen.{amplitude_is_seen_in_recording}
 

@@ -1,34 +1,31 @@
 -- The score of a clean cell: that of the group and the half that were sent is the greatest. (own; the signals are those of TS 36.211
 -- section 6.11)
-use Rattle.std.specs.Prelude.{◌≡◌, ℕ, ◌+◌, ◌-◌, ◌<◌, ◌≤◌, nat_lt, if◌then◌else◌, List, pos, ◌*ℤ◌, ◌<ℤ◌}
+use Rattle.std.specs.Prelude.{◌≡◌, ℕ, ◌-◌, ◌<◌, ◌≤◌, List, pos, ◌*ℤ◌, ◌<ℤ◌}
 use Rattle.cs_num.specs.declared.Cpx.{Cpx}
 use Rattle.cs_num.specs.declared.Sample.{Sample}
-use Rattle.cs_num.specs.Complex.{nothing, square}
+use Rattle.cs_num.specs.Complex.{square}
 use Rattle.lte_types.specs.declared.frame.Half.{Half}
 use Rattle.lte_types.specs.Numerology.{normal, symbol_step}
 use Rattle.sync_seq.specs.Primary.{pss_at}
-use Rattle.sync_seq.specs.Secondary.{sss_at}
+use Rattle.sync_seq.specs.Middle.{in_middle, middle}
+use Rattle.sync_seq.specs.Secondary.{sss_amplitude, sss_at}
 use Rattle.pss_search.specs.Correlation.{pss_grid}
 use Rattle.sss_detect.specs.Scores.{agreement, score}
 use Rattle.lte_types.specs.declared.hit.Hit.{Hit}
 use Rattle.sss_detect.specs.Identity.{best_pair, identity_of}
 use Rattle.budget.specs.Received.{IsReceived, IsSeenAs, samples_from}
 
--- the amplitude of value n of a secondary sequence: 127 or -127
-abbrev pub sss_amplitude : ℕ → ℕ → Half → ℕ → Cpx
-sss_amplitude n1 n2 half n = record { re = pos 127 *ℤ sss_at n1 n2 half n; im = pos 0 }
-
--- the grid of a symbol that holds the secondary sequence alone, in the middle 62 subcarriers
+-- the grid of a symbol that holds the secondary sequence alone
 abbrev pub sss_grid : ℕ → ℕ → Half → ℕ → Cpx
-sss_grid n1 n2 half k = if nat_lt k 5 then nothing else if nat_lt k 67 then sss_amplitude n1 n2 half (k - 5) else nothing
+sss_grid n1 n2 half = in_middle (sss_amplitude n1 n2 half)
 
 -- of the cell's identity and half, both synchronisation signals are seen with the same gain, which is not 0
 pub record AreSeen (gain : Cpx) (n1 n2 : ℕ) (half : Half) (pss_seen sss_seen : ℕ → Cpx) : Type 0 where
   pub group : n1 ≤ 167
   pub root : n2 ≤ 2
   pub sounds : 1 ≤ square gain
-  pub primary : (n : ℕ) → n < 62 → IsSeenAs gain (pss_at n2 n) (pss_seen (n + 5))
-  pub secondary : (n : ℕ) → n < 62 → IsSeenAs gain (sss_amplitude n1 n2 half n) (sss_seen (n + 5))
+  pub primary : (n : ℕ) → n < 62 → IsSeenAs gain (pss_at n2 n) (pss_seen (middle n))
+  pub secondary : (n : ℕ) → n < 62 → IsSeenAs gain (sss_amplitude n1 n2 half n) (sss_seen (middle n))
 
 -- each term of the score of what was sent is above 0
 abbrev pub TermsArePositive : Type 0

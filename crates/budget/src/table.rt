@@ -1,4 +1,4 @@
-//! The table of the 128th roots of one.
+//! The table of the 128th roots of unity.
 
 ghost use Rattle.budget.specs.Table.{IsNearlyMultiplicative};
 

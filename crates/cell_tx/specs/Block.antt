@@ -1,6 +1,5 @@
 -- The broadcast channel of a plan: its master block, coded, matched and scrambled (TS 36.212 section 5.3.1, TS 36.211 section 6.6).
-use Rattle.std.specs.Prelude.{ℕ, ◌+◌, ◌-◌, ◌*◌, ◌/◌, ◌%◌, ◌^◌, nat_eq, Bool, List, ◌++◌}
-use Rattle.finite.specs.Lists.{values_below}
+use Rattle.std.specs.Prelude.{ℕ, ◌+◌, ◌*◌, ◌/◌, ◌%◌, Bool, List, ◌++◌}
 use Rattle.cs_num.specs.declared.Cpx.{Cpx}
 use Rattle.lte_types.specs.declared.bandwidth.Bandwidth.TheVariants.{N6}
 use Rattle.lte_types.specs.Codes.{bandwidth_code, duration_code, resource_code}

@@ -1,11 +1,12 @@
 -- The resource grid of a sent frame: by subframe, symbol 0 to 13 of it and subcarrier (TS 36.211 section 6.2).
-use Rattle.std.specs.Prelude.{ℕ, ◌+◌, ◌-◌, ◌*◌, ◌/◌, ◌%◌, Bool, ◌&&◌, ◌||◌, nat_eq, nat_le, nat_lt, if◌then◌else◌, pos, ◌*ℤ◌}
+use Rattle.std.specs.Prelude.{ℕ, ◌+◌, ◌-◌, ◌*◌, ◌/◌, ◌%◌, Bool, ◌&&◌, ◌||◌, nat_eq, if◌then◌else◌}
 use Rattle.cs_num.specs.declared.Cpx.{Cpx}
 use Rattle.cs_num.specs.Complex.{nothing}
 use Rattle.lte_types.specs.Numerology.{half_of}
 use Rattle.crs.specs.Reference.{is_reference, reference_at}
 use Rattle.sync_seq.specs.Primary.{pss_at}
-use Rattle.sync_seq.specs.Secondary.{sss_at}
+use Rattle.sync_seq.specs.Middle.{is_middle}
+use Rattle.sync_seq.specs.Secondary.{sss_amplitude}
 use Rattle.grid_map.specs.Place.{place}
 use Rattle.grid_map.specs.Broadcast.{is_pbch, pbch_index}
 use Rattle.cell_tx.specs.declared.cell.CellPlan.{CellPlan}
@@ -14,7 +15,7 @@ use Rattle.cell_tx.specs.Block.{broadcast_point}
 -- the middle 62 subcarriers of this symbol of subframes 0 and 5 hold a synchronisation signal (TS 36.211 sections 6.11.1.2 and 6.11.2.2)
 abbrev pub is_synchronised : ℕ → ℕ → ℕ → ℕ → Bool
 is_synchronised signal subframe symbol k =
-    (nat_eq subframe 0 || nat_eq subframe 5) && nat_eq symbol signal && nat_le 5 k && nat_lt k 67
+    (nat_eq subframe 0 || nat_eq subframe 5) && nat_eq symbol signal && is_middle k
 
 -- the primary signal is in symbol 6, the secondary one in symbol 5
 abbrev pub is_primary : ℕ → ℕ → ℕ → Bool
@@ -37,10 +38,10 @@ reference_value plan subframe symbol k = reference_at plan.identity (2 * subfram
 abbrev pub primary_value : CellPlan → ℕ → Cpx
 primary_value plan k = pss_at (plan.identity % 3) (k - 5)
 
--- the secondary synchronisation signal (TS 36.211 section 6.11.2; the amplitude is own)
+-- the secondary synchronisation signal (TS 36.211 section 6.11.2)
 abbrev pub secondary_value : CellPlan → ℕ → ℕ → Cpx
 secondary_value plan subframe k =
-    record { re = pos 127 *ℤ sss_at (plan.identity / 3) (plan.identity % 3) (half_of subframe) (k - 5); im = pos 0 }
+    sss_amplitude (plan.identity / 3) (plan.identity % 3) (half_of subframe) (k - 5)
 
 -- the physical broadcast channel (TS 36.211 section 6.6)
 abbrev pub broadcast_value : CellPlan → ℕ → ℕ → ℕ → Cpx

@@ -64,7 +64,7 @@ pub(crate) fn broadcast_points(cell: &Cell, sfn: Sfn) -> [Cpx; 240]
     let coded = encode(&word_of(cell, sfn));
     let scrambling = scrambling_of(cell.id());
     let first = 480 * (sfn.value() % 4) as usize;
-    let mut points = [Cpx { re: 0, im: 0 }; 240];
+    let mut points = [Cpx::ZERO; 240];
     for i in 0..240 {
         points[i] = point(
             scrambled(&coded, &scrambling, first + 2 * i),

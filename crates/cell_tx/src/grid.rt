@@ -22,7 +22,7 @@ use cs_num::Cpx;
 use fold128::synth;
 use grid_map::{Place, pbch, pbch_order};
 use lte_types::{CellId, Half, Sfn};
-use sync_seq::{pss, sss};
+use sync_seq::{MIDDLE, amplitude, is_middle, pss, sss};
 
 // What a frame of a cell sends, made once for all its symbols.
 #[derive(Drop)]
@@ -95,7 +95,7 @@ fn references(id: CellId, slot: u8, symbol: u8) -> [Option<Cpx>; 72]
 fn is_signal(signal: u8, subframe: u8, symbol: u8, k: u8) -> bool
     ensures { result ≡ is_synchronised signal subframe symbol k }
 {
-    (subframe == 0 || subframe == 5) && symbol == signal && 5 <= k && k < 67
+    (subframe == 0 || subframe == 5) && symbol == signal && is_middle(k as usize)
 }
 
 // Sign n of the secondary sequence in a subframe.
@@ -117,10 +117,7 @@ fn secondary_of(signals: &Signals, subframe: u8, k: u8) -> Cpx
     requires high { k < 67 }
     ensures { result ≡ secondary_value signals.now.cell.now subframe k }
 {
-    Cpx {
-        re: 127 * sign_of(signals, subframe, k as usize - 5) as i64,
-        im: 0,
-    }
+    amplitude(sign_of(signals, subframe, k as usize - MIDDLE))
 }
 
 // The number of the point of the broadcast channel that a place carries; 240 at every other place.
@@ -141,12 +138,15 @@ fn point_at(id: CellId, symbol: u8, k: u8) -> usize
 fn broadcast_of(signals: &Signals, subframe: u8, symbol: u8, k: u8) -> Cpx
     ensures { result ≡ broadcast_if signals.now.cell.now signals.now.sfn subframe symbol k }
 {
-    let nothing = Cpx { re: 0, im: 0 };
     if subframe > 0 {
-        return nothing;
+        return Cpx::ZERO;
     }
     let i = point_at(signals.cell.id(), symbol, k);
-    if i < 240 { signals.points[i] } else { nothing }
+    if i < 240 {
+        signals.points[i]
+    } else {
+        Cpx::ZERO
+    }
 }
 
 // The value at a place.
@@ -164,7 +164,7 @@ fn element_of(
     if let Some(value) = references[k as usize] {
         value
     } else if is_signal(6, subframe, symbol, k) {
-        signals.primary[k as usize - 5]
+        signals.primary[k as usize - MIDDLE]
     } else if is_signal(5, subframe, symbol, k) {
         secondary_of(signals, subframe, k)
     } else {
@@ -179,7 +179,7 @@ fn grid_of(signals: &Signals, subframe: u8, symbol: u8) -> [Cpx; 72]
     ensures { result ≡ values_below 72 (element signals.now.cell.now signals.now.sfn subframe symbol) }
 {
     let references = references(signals.cell.id(), 2 * subframe + symbol / 7, symbol % 7);
-    let mut grid = [Cpx { re: 0, im: 0 }; 72];
+    let mut grid = [Cpx::ZERO; 72];
     for k in 0..72_u8 {
         grid[k as usize] = element_of(signals, &references, subframe, symbol, k);
     }

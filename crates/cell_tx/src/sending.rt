@@ -127,16 +127,6 @@ pub fn frame(cell: &Cell, sfn: Sfn, out: &mut [Sample])
     }
 }
 
-// The number that a sample is.
-fn value(sample: Sample) -> Cpx
-    ensures { result ≡ value_of sample }
-{
-    Cpx {
-        re: sample.re as i64,
-        im: sample.im as i64,
-    }
-}
-
 // The number that a gain is.
 fn value_of_gain(gain: (i16, i16)) -> Cpx
     ensures { result ≡ gain_of gain }
@@ -154,7 +144,7 @@ fn amplified(gain: (i16, i16), clean: Sample) -> Sample
     ensures value { result ≡ sample_of (times (gain_of gain) (value_of clean)) }
     ensures size { IsWithin 32284 (times (gain_of gain) (value_of clean)) }
 {
-    to_sample(value_of_gain(gain).mul(value(clean)))
+    to_sample(value_of_gain(gain).mul(Cpx::from(clean)))
 }
 
 /// Sample `i` of a transmission: sample `i + offset` of the cell's sequence, times the gain. `i` is

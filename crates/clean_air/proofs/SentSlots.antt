@@ -1,5 +1,5 @@
 -- The broadcast channel of a clean recording: its slot is received and carries the cell's word.
-use Rattle.std.proofs.Common.{◌≡◌, ℕ, ◌+◌, ◌-◌, ◌*◌, ◌/◌, ◌%◌, ◌<◌, ◌≤◌, arith, refl, ap, sym, subst, ◌∙◌, List, [], length, nat_eq, nat_le, nat_lt, Bool, true, false, None}
+use Rattle.std.proofs.Common.{◌≡◌, ℕ, ◌+◌, ◌-◌, ◌*◌, ◌/◌, ◌%◌, ◌<◌, ◌≤◌, arith, refl, ap, sym, subst, ◌∙◌, List, [], length, nat_eq, Bool, true, false, None}
 use Rattle.std.specs.Prelude.{if◌then◌else◌, ◌&&◌}
 use Rattle.std.proofs.lemmas.Bool.Decides.{nat_tests}
 use Rattle.cs_num.specs.declared.Cpx.{Cpx}
@@ -7,6 +7,7 @@ use Rattle.cs_num.specs.declared.Sample.{Sample}
 use Rattle.finite.proofs.Lists.{values_below_at}
 use Rattle.crs.specs.Reference.{is_reference, first_subcarrier, reference_at}
 use Rattle.observe.specs.Seen.{seen_symbol}
+use Rattle.sync_seq.specs.Middle.{is_middle}
 use Rattle.soft_bits.specs.Soft.{pilot_symbol, pilot_subcarrier, pilot_sent}
 use Rattle.grid_map.specs.declared.Place.{Place}
 use Rattle.grid_map.specs.Place.{place}
@@ -74,14 +75,14 @@ broadcast_place : (identity : ℕ) (p : Place) → is_pbch identity p ≡ true �
 unfolding is_pbch is_reference first_subcarrier
 broadcast_place identity p e = record { low = grind (arith, nat_tests); high = grind (arith, nat_tests); free = grind (arith, nat_tests) }
 
-not_there : (symbol row : ℕ) (a b : Bool) → 7 ≤ symbol → row < 7 → (nat_eq symbol row && a && b) ≡ false
-not_there symbol row a b low small = let e : nat_eq symbol row ≡ false = grind (arith, nat_tests) in rw e refl
+not_there : (symbol row : ℕ) (a : Bool) → 7 ≤ symbol → row < 7 → (nat_eq symbol row && a) ≡ false
+not_there symbol row a low small = let e : nat_eq symbol row ≡ false = grind (arith, nat_tests) in rw e refl
 
 point_here : (plan : CellPlan) (number symbol k i : ℕ) → IsBroadcastPlace plan.identity symbol k → i ≡ pbch_index plan.identity (place symbol k) → i < 240 →
     element plan number 0 symbol k ≡ broadcast_point plan number i
 point_here plan number symbol k i at e inside =
     let free : reference_if plan.identity (2 * 0 + symbol / 7) (symbol % 7) k ≡ None = rw at.free refl in
-    element_of_broadcast plan number 0 symbol k free (not_there symbol 6 (nat_le 5 k) (nat_lt k 67) at.low (omega arith)) (not_there symbol 5 (nat_le 5 k) (nat_lt k 67) at.low (omega arith))
+    element_of_broadcast plan number 0 symbol k free (not_there symbol 6 (is_middle k) at.low (omega arith)) (not_there symbol 5 (is_middle k) at.low (omega arith))
     ∙ sym (broadcast_found plan number 0 symbol k i e refl inside)
 
 pub points_stand : (plan : CellPlan) (number i : ℕ) → i < 240 →

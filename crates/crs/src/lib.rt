@@ -58,7 +58,7 @@ pub fn pilots(id: CellId, slot: u8, symbol: u8) -> [(u8, Cpx); 12]
     let mut bits = [false; 232];
     gold::fill(c_init(id, slot, symbol), &mut bits);
     let first = first_subcarrier(id, symbol);
-    let mut pilots = [(0, Cpx { re: 0, im: 0 }); 12];
+    let mut pilots = [(0, Cpx::ZERO); 12];
     for m in 0..12_u8 {
         pilots[m as usize] = (6 * m + first, value_of(&bits, m));
     }

@@ -7,7 +7,7 @@ use Rattle.finite.proofs.Integers.{abs-sum, abs-difference, product_within}
 use Rattle.finite.proofs.Ring.{Is, var, lit, same}
 use Rattle.finite.proofs.Ring as ring
 use Rattle.cs_num.specs.declared.Cpx.{Cpx}
-use Rattle.cs_num.specs.Complex.{IsWithin, size, nothing, plus, times, conjugate, square}
+use Rattle.cs_num.specs.Complex.{IsWithin, size, nothing, plus, multiple, times, conjugate, square}
 
 -- two complex numbers with the same components
 pub pair : {x y u v : ℤ} → x ≡ y → u ≡ v → ◌≡◌ {A = Cpx} (record { re = x; im = u }) (record { re = y; im = v })
@@ -29,6 +29,12 @@ plus-within a b m n bound p q e = record {
 
 pub conjugate-within : (a : Cpx) (m : ℕ) → IsWithin m a → IsWithin m (conjugate a)
 conjugate-within a m p = record { re = p.re; im = omega (arith, ints, p.im) }
+
+pub multiple-within : (n : ℕ) (a : Cpx) (m : ℕ) → IsWithin m a → IsWithin (n * m) (multiple n a)
+multiple-within n a m p = record {
+  re = product_within (pos n) a.re n m (n * m) (omega arith) p.re (omega arith);
+  im = product_within (pos n) a.im n m (n * m) (omega arith) p.im (omega arith);
+}
 
 pub times-within : (a b : Cpx) (m n bound : ℕ) → IsWithin m a → IsWithin n b → m * n ≤ bound → IsWithin (2 * bound) (times a b)
 times-within a b m n bound p q e =

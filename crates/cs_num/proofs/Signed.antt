@@ -1,5 +1,5 @@
 -- The machine's signed numbers under the arithmetic of this crate.
-use Rattle.std.proofs.Common.{◌≡◌, ℕ, ◌+◌, ◌*◌, ◌-◌, ◌^◌, ◌%◌, ◌≤◌, min, arith, refl, ◌∙◌, to_z, of_z, ℤ, pos, negsuc, ◌+ℤ◌, ◌-ℤ◌, ◌*ℤ◌, ◌≤ℤ◌, FitsSigned, w64}
+use Rattle.std.proofs.Common.{◌≡◌, ℕ, ◌+◌, ◌*◌, ◌-◌, ◌^◌, ◌%◌, ◌<◌, ◌≤◌, min, arith, refl, ◌∙◌, to_z, of_z, ℤ, pos, negsuc, ◌+ℤ◌, ◌-ℤ◌, ◌*ℤ◌, ◌≤ℤ◌, FitsSigned, w64}
 use Rattle.cs_num.specs.declared.Cpx.{Cpx}
 use Rattle.cs_num.specs.Complex.{size}
 use Rattle.cs_num.specs.Rounding.{floor_div, clamped, round_shifted}
@@ -35,6 +35,17 @@ products_fit a b h =
       difference = fits_signed_from_abs w64 _ (omega (arith, abs-difference (a.re *ℤ b.re) (a.im *ℤ b.im)));
       total = fits_signed_from_abs w64 _ (omega (arith, abs-sum (a.re *ℤ b.im) (a.im *ℤ b.re)));
     }
+
+-- the components of a multiple fit 64 bits
+pub record Multiples (n : ℕ) (a : Cpx) : Type 0 where
+  pub re : FitsSigned w64 (pos n *ℤ a.re)
+  pub im : FitsSigned w64 (pos n *ℤ a.im)
+
+pub multiples_fit : (n : ℕ) (a : Cpx) → n * size a < 2 ^ 63 → Multiples n a
+multiples_fit n a h = record {
+  re = fits_signed_from_abs w64 _ (omega (arith, h, product_within (pos n) a.re n (size a) (n * size a) (omega arith) (omega arith) (omega arith)));
+  im = fits_signed_from_abs w64 _ (omega (arith, h, product_within (pos n) a.im n (size a) (n * size a) (omega arith) (omega arith) (omega arith)));
+}
 
 -- 1 << (bits - 1)
 pub half_is : (bits : ℕ) → (1 ≤ bits) × (bits ≤ 40) → to_z w64 (1 * 2 ^ (bits - 1) % 18446744073709551616) ≡ pos (2 ^ (bits - 1))

@@ -23,8 +23,12 @@ abbrev pub times : Cpx → Cpx → Cpx
 times a b = record { re = a.re *ℤ b.re -ℤ a.im *ℤ b.im; im = a.re *ℤ b.im +ℤ a.im *ℤ b.re }
 
 -- j times a number
-abbrev pub turned : Cpx → Cpx
-turned a = record { re = neg_ℤ a.im; im = a.re }
+abbrev pub times_j : Cpx → Cpx
+times_j a = record { re = neg_ℤ a.im; im = a.re }
+
+-- -j times a number
+abbrev pub times_minus_j : Cpx → Cpx
+times_minus_j a = record { re = a.im; im = neg_ℤ a.re }
 
 -- the negative
 abbrev pub negated : Cpx → Cpx

@@ -3,8 +3,10 @@
 #![tactic(auto)]
 
 ghost use Rattle.std.specs.Prelude.{◌≡◌, ℕ, ◌+◌, ◌*◌, ◌^◌, ◌<◌, ◌≤◌, pos, negsuc, ◌≤ℤ◌, ◌<ℤ◌, nat_abs, int_div};
-ghost use Rattle.cs_num.specs.Complex.{plus, times, conjugate, square, size};
+ghost use Rattle.cs_num.specs.Complex.{IsWithin, value_of, plus, minus, negated, multiple, times, times_j as times_j_of, times_minus_j as times_minus_j_of, conjugate, square, size};
 ghost use Rattle.cs_num.specs.Rounding.{clamped, round_shifted, rounded};
+
+use std::ops::{Add, Neg, Sub};
 
 /// A sample of a recording: a pair of 16-bit numbers.
 #[derive(Clone, Copy, Debug, PartialEq, Eq)]
@@ -20,7 +22,68 @@ pub struct Cpx {
     pub im: i64,
 }
 
+/// The number that a sample is. Its components have size at most 32,768.
+impl From<Sample> for Cpx {
+    ghost from_gives = { λ s z. (z ≡ value_of s) × IsWithin 32768 z };
+
+    fn from(sample: Sample) -> Cpx {
+        Cpx {
+            re: sample.re as i64,
+            im: sample.im as i64,
+        }
+    }
+}
+
+/// The sum. The two greatest component sizes together are below 2^63.
+impl Add for Cpx {
+    type Output = Cpx;
+
+    ghost can_add = { λ a b. size a + size b < 2 ^ 63 };
+
+    ghost add_gives = { λ a b z. z ≡ plus a b };
+
+    fn add(self, other: Cpx) -> Cpx {
+        Cpx {
+            re: self.re + other.re,
+            im: self.im + other.im,
+        }
+    }
+}
+
+/// The difference. The two greatest component sizes together are below 2^63.
+impl Sub for Cpx {
+    type Output = Cpx;
+
+    ghost can_sub = { λ a b. size a + size b < 2 ^ 63 };
+
+    ghost sub_gives = { λ a b z. z ≡ minus a b };
+
+    fn sub(self, other: Cpx) -> Cpx {
+        Cpx {
+            re: self.re - other.re,
+            im: self.im - other.im,
+        }
+    }
+}
+
+/// The negative. No component is the least `i64`.
+impl Neg for Cpx {
+    type Output = Cpx;
+
+    ghost can_neg = { λ a. size a < 2 ^ 63 };
+
+    ghost neg_gives = { λ a z. z ≡ negated a };
+
+    fn neg(self) -> Cpx {
+        let Cpx { re, im } = self;
+        Cpx { re: -re, im: -im }
+    }
+}
+
 impl Cpx {
+    /// Zero.
+    pub const ZERO: Cpx = Cpx { re: 0, im: 0 };
+
     /// The product. The greatest component size of the one number times that of the other is
     /// at most 2^61.
     pub fn mul(self, other: Cpx) -> Cpx
@@ -33,17 +96,6 @@ impl Cpx {
         }
     }
 
-    /// The sum. The two greatest component sizes together are below 2^63.
-    pub fn add(self, other: Cpx) -> Cpx
-        requires { size self + size other < 2 ^ 63 }
-        ensures { result ≡ plus self other }
-    {
-        Cpx {
-            re: self.re + other.re,
-            im: self.im + other.im,
-        }
-    }
-
     /// The conjugate. The imaginary part is not the least `i64`.
     pub fn conj(self) -> Cpx
         requires { nat_abs self.im < 2 ^ 63 }
@@ -52,6 +104,39 @@ impl Cpx {
         Cpx {
             re: self.re,
             im: -self.im,
+        }
+    }
+
+    /// `j` times the number. The imaginary part is not the least `i64`.
+    pub fn times_j(self) -> Cpx
+        requires { nat_abs self.im < 2 ^ 63 }
+        ensures { result ≡ times_j_of self }
+    {
+        Cpx {
+            re: -self.im,
+            im: self.re,
+        }
+    }
+
+    /// `-j` times the number. The real part is not the least `i64`.
+    pub fn times_minus_j(self) -> Cpx
+        requires { nat_abs self.re < 2 ^ 63 }
+        ensures { result ≡ times_minus_j_of self }
+    {
+        Cpx {
+            re: self.im,
+            im: -self.re,
+        }
+    }
+
+    /// `n` times the number. `n` times the greatest component size is below 2^63.
+    pub fn scaled(self, n: u8) -> Cpx
+        requires { n * size self < 2 ^ 63 }
+        ensures { result ≡ multiple n self }
+    {
+        Cpx {
+            re: n as i64 * self.re,
+            im: n as i64 * self.im,
         }
     }
 

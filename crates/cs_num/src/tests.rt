@@ -5,7 +5,7 @@ fn products_and_sums_of_small_numbers(rt: HostRuntime) {
     let a = Cpx { re: 3, im: -4 };
     let b = Cpx { re: -2, im: 5 };
     assert_eq!(rt; a.mul(b), Cpx { re: 14, im: 23 });
-    assert_eq!(rt; a.add(b), Cpx { re: 1, im: 1 });
+    assert_eq!(rt; a + b, Cpx { re: 1, im: 1 });
     assert_eq!(rt; a.conj(), Cpx { re: 3, im: 4 });
     assert_eq!(rt; a.norm(), 25);
 }

@@ -1,4 +1,4 @@
--- The tables' entries: sizes, and how an entry is found by octant.
+-- The tables' entries: sizes, and how an entry is found by symmetry.
 use Rattle.std.proofs.Common.{◌≡◌, ℕ, ◌+◌, ◌-◌, ◌%◌, ◌<◌, ◌≤◌, List, length, Bool, true, false, arith, refl, ℤ, pos, nat_le, slice_index, slice_index_or, get_or, to_z, of_z, w8, w64}
 use Rattle.std.proofs.lemmas.Int.{ints}
 use Rattle.cs_num.specs.Complex.{IsWithin, conjugate}

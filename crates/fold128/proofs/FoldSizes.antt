@@ -9,13 +9,13 @@ use Rattle.finite.specs.Tests.{every_below}
 use Rattle.finite.proofs.Tests.{every_below_at}
 use Rattle.finite.proofs.Integers.{abs-sum, abs-difference}
 use Rattle.cs_num.specs.declared.Cpx.{Cpx}
-use Rattle.cs_num.specs.Complex.{IsWithin, size, plus, times, conjugate, minus}
+use Rattle.cs_num.specs.Complex.{IsWithin, size, plus, times, conjugate, minus, times_minus_j}
 use Rattle.cs_num.specs.Sums.{complex_sum_below}
 use Rattle.cs_num.proofs.Complex.{pair, size-le, plus-within}
 use Rattle.cs_num.proofs.Sums.{complex_sum_below-within}
 use Rattle.fold128.specs.declared.spectrum.Quartet.{Quartet}
 use Rattle.fold128.specs.Tables.{quarter, cosine, w_at}
-use Rattle.fold128.specs.Folding.{turned_back, back_by, seen_of_four, quartet_of, taken, empty_quartet, folded_term, IsSmallQuartet}
+use Rattle.fold128.specs.Folding.{back_by, seen_of_four, quartet_of, taken, empty_quartet, folded_term, IsSmallQuartet}
 use Rattle.fold128.proofs.Entries.{w_period}
 
 -- ---- the two components of an entry together
@@ -57,7 +57,7 @@ turned_product-within z m x p =
 back_by-within : (q n : ℕ) (z : Cpx) → IsWithin n z → IsWithin n (back_by q z)
 unfolding back_by
 back_by-within zero n z p = p
-back_by-within (suc q) n z p = back_by-within q n (turned_back z) (record { re = p.im; im = omega (arith, ints, p.re) })
+back_by-within (suc q) n z p = back_by-within q n (times_minus_j z) (record { re = p.im; im = omega (arith, ints, p.re) })
 
 seen_of_four-within : (r : ℕ) (a b c d : Cpx) → IsWithin 32768 a → IsWithin 32768 b → IsWithin 32768 c → IsWithin 32768 d → IsWithin 131072 (seen_of_four r a b c d)
 unfolding seen_of_four
@@ -78,7 +78,7 @@ by_zero : (a b c d : Cpx) → plus (plus a c) (plus b d) ≡ seen_of_four 0 a b 
 unfolding seen_of_four back_by
 by_zero a b c d = pair (omega (arith, ints)) (omega (arith, ints))
 
-by_one : (a b c d : Cpx) → plus (minus a c) (turned_back (minus b d)) ≡ seen_of_four 1 a b c d
+by_one : (a b c d : Cpx) → plus (minus a c) (times_minus_j (minus b d)) ≡ seen_of_four 1 a b c d
 unfolding seen_of_four back_by
 by_one a b c d = pair (omega (arith, ints)) (omega (arith, ints))
 
@@ -86,7 +86,7 @@ by_two : (a b c d : Cpx) → minus (plus a c) (plus b d) ≡ seen_of_four 2 a b 
 unfolding seen_of_four back_by
 by_two a b c d = pair (omega (arith, ints)) (omega (arith, ints))
 
-by_three : (a b c d : Cpx) → minus (minus a c) (turned_back (minus b d)) ≡ seen_of_four 3 a b c d
+by_three : (a b c d : Cpx) → minus (minus a c) (times_minus_j (minus b d)) ≡ seen_of_four 3 a b c d
 unfolding seen_of_four back_by
 by_three a b c d = pair (omega (arith, ints)) (omega (arith, ints))
 
@@ -98,7 +98,7 @@ sums-small a b c d ha hb hc hd =
     omega arith
 
 pub differences-small : (a b c d : Cpx) → IsWithin 32768 a → IsWithin 32768 b → IsWithin 32768 c → IsWithin 32768 d →
-    size (minus a c) + size (turned_back (minus b d)) < 2 ^ 63
+    size (minus a c) + size (times_minus_j (minus b d)) < 2 ^ 63
 differences-small a b c d ha hb hc hd =
     omega (
       arith,
@@ -122,9 +122,9 @@ pub by_butterflies : (a b c d : Cpx) →
     ◌≡◌ {A = Quartet}
     (record {
       zero = plus (plus a c) (plus b d);
-      one = plus (minus a c) (turned_back (minus b d));
+      one = plus (minus a c) (times_minus_j (minus b d));
       two = minus (plus a c) (plus b d);
-      three = minus (minus a c) (turned_back (minus b d));
+      three = minus (minus a c) (times_minus_j (minus b d));
     })
     (quartet_of a b c d)
 by_butterflies a b c d =

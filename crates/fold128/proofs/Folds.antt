@@ -5,14 +5,14 @@ use Rattle.finite.proofs.Lists.{values_below_at}
 use Rattle.finite.proofs.Ring.{var, same}
 use Rattle.finite.proofs.Ring as ring
 use Rattle.cs_num.specs.declared.Cpx.{Cpx}
-use Rattle.cs_num.specs.Complex.{plus, times, turned, conjugate}
+use Rattle.cs_num.specs.Complex.{plus, times, times_j, conjugate, times_minus_j}
 use Rattle.cs_num.specs.Sums.{complex_sum_below}
 use Rattle.cs_num.proofs.Complex.{pair, times-plus_left}
 use Rattle.cs_num.proofs.Sums.{complex_sum_below_split, complex_sum_below_plus, complex_sum_below_same}
 use Rattle.fold128.specs.Tables.{w_at}
 use Rattle.fold128.specs.Symbol.{frequency}
 use Rattle.fold128.specs.Spectrum.{spectrum_term, spectrum_at}
-use Rattle.fold128.specs.Folding.{turned_back, back_by, seen_of_four, quartet_of, quartet_at, folded_places, taken, empty_quartet, folded_term}
+use Rattle.fold128.specs.Folding.{back_by, seen_of_four, quartet_of, quartet_at, folded_places, taken, empty_quartet, folded_term}
 use Rattle.fold128.proofs.Laws.{w_same, quarter_turn_is_j}
 
 -- ---- a quarter turn of W turns the other factor back
@@ -31,15 +31,15 @@ once_im a b c d =
     (ring.plus (ring.times (var b) (ring.minus_one (var d))) (ring.times (ring.minus_one (var a)) (var c)))
     (omega arith)
 
-once : (z v : Cpx) → times z (conjugate (turned v)) ≡ times (turned_back z) (conjugate v)
+once : (z v : Cpx) → times z (conjugate (times_j v)) ≡ times (times_minus_j z) (conjugate v)
 once z v = pair (once_re z.re z.im v.re v.im) (once_im z.re z.im v.re v.im)
 
 back_turns : (q x : ℕ) (z : Cpx) → times z (conjugate (w_at (x + 32 * q))) ≡ times (back_by q z) (conjugate (w_at x))
 unfolding back_by
 back_turns zero x z = let e : x + 32 * 0 ≡ x = omega arith in rw e refl
 back_turns (suc q) x z =
-    let e : w_at (x + 32 * suc q) ≡ turned (w_at (x + 32 * q)) = w_same (x + 32 * suc q) (x + 32 * q + 32) (omega arith) ∙ quarter_turn_is_j (x + 32 * q) in
-    ap (λ v. times z (conjugate v)) e ∙ once z (w_at (x + 32 * q)) ∙ back_turns q x (turned_back z)
+    let e : w_at (x + 32 * suc q) ≡ times_j (w_at (x + 32 * q)) = w_same (x + 32 * suc q) (x + 32 * q + 32) (omega arith) ∙ quarter_turn_is_j (x + 32 * q) in
+    ap (λ v. times z (conjugate v)) e ∙ once z (w_at (x + 32 * q)) ∙ back_turns q x (times_minus_j z)
 
 -- ---- four samples 32 apart
 

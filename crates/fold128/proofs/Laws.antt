@@ -5,7 +5,7 @@ use Rattle.finite.specs.Sums.{sum_below}
 use Rattle.finite.specs.Tests.{every_below}
 use Rattle.finite.proofs.Tests.{every_below_at}
 use Rattle.cs_num.specs.declared.Cpx.{Cpx}
-use Rattle.cs_num.specs.Complex.{nothing, turned, negated, conjugate}
+use Rattle.cs_num.specs.Complex.{nothing, times_j, negated, conjugate}
 use Rattle.cs_num.specs.Sums.{complex_sum_below}
 use Rattle.cs_num.proofs.Sums.{complex_sum_below_same}
 use Rattle.cs_num.proofs.Tested.{is_same, is_same_tells}
@@ -35,7 +35,7 @@ half_turn_negates m =
     w_same (m + 64) (m % 128 + 64) (omega arith) ∙ here ∙ ap negated (w_period m)
 
 unfoldable pub turns_at : ℕ → Bool
-turns_at m = is_same (w_at (m + 32)) (turned (w_at m))
+turns_at m = is_same (w_at (m + 32)) (times_j (w_at m))
 
 all_turn : every_below 128 turns_at ≡ true
 unfolding quarter cosine w_at turns_at every_below
@@ -45,7 +45,7 @@ pub quarter_turn_is_j : QuarterTurnIsJ
 unfolding turns_at
 quarter_turn_is_j m =
     let here = is_same_tells _ _ (every_below_at 128 turns_at all_turn (m % 128) (omega arith)) in
-    w_same (m + 32) (m % 128 + 32) (omega arith) ∙ here ∙ ap turned (w_period m)
+    w_same (m + 32) (m % 128 + 32) (omega arith) ∙ here ∙ ap times_j (w_period m)
 
 unfoldable pub mirrors_at : ℕ → Bool
 mirrors_at m = is_same (w_at (127 * m)) (conjugate (w_at m))

@@ -1,20 +1,16 @@
 -- How 128 samples are folded to 32 places: a quarter turn of W is a product with j, so a frequency sees the samples 32 apart
 -- as one number, which depends on the frequency modulo 4 alone. (own)
-use Rattle.std.specs.Prelude.{ℕ, zero, suc, ◌+◌, ◌*◌, ◌%◌, List, slice_index_or, neg_ℤ, nat_eq, if◌then◌else◌}
+use Rattle.std.specs.Prelude.{ℕ, zero, suc, ◌+◌, ◌*◌, ◌%◌, List, slice_index_or, nat_eq, if◌then◌else◌}
 use Rattle.cs_num.specs.declared.Cpx.{Cpx}
-use Rattle.cs_num.specs.Complex.{IsWithin, nothing, plus, times, conjugate}
+use Rattle.cs_num.specs.Complex.{IsWithin, nothing, plus, times, times_minus_j, conjugate}
 use Rattle.finite.specs.Lists.{values_below}
 use Rattle.fold128.specs.declared.spectrum.Quartet.{Quartet}
 use Rattle.fold128.specs.Tables.{w_at}
 
--- -j times a number
-abbrev pub turned_back : Cpx → Cpx
-turned_back z = record { re = z.im; im = neg_ℤ z.re }
-
--- the same, q times over
+-- -j times a number, q times over
 unfoldable pub back_by : ℕ → Cpx → Cpx
 back_by zero z = z
-back_by (suc q) z = back_by q (turned_back z)
+back_by (suc q) z = back_by q (times_minus_j z)
 
 -- what the frequencies that leave r modulo 4 see of four samples 32 apart
 unfoldable pub seen_of_four : ℕ → Cpx → Cpx → Cpx → Cpx → Cpx

@@ -1,6 +1,6 @@
 -- Laws of the tables, which are exact although the entries are rounded. (own)
 use Rattle.std.specs.Prelude.{◌≡◌, ℕ, ◌+◌, ◌*◌, ◌%◌, ◌≤◌}
-use Rattle.cs_num.specs.Complex.{nothing, turned, negated, conjugate}
+use Rattle.cs_num.specs.Complex.{nothing, times_j, negated, conjugate}
 use Rattle.cs_num.specs.Sums.{complex_sum_below}
 use Rattle.fold128.specs.Tables.{w_at, z_at}
 
@@ -12,7 +12,7 @@ HalfTurnNegates = (m : ℕ) → w_at (m + 64) ≡ negated (w_at m)
 
 -- a quarter turn is a product with j
 abbrev pub QuarterTurnIsJ : Type 0
-QuarterTurnIsJ = (m : ℕ) → w_at (m + 32) ≡ turned (w_at m)
+QuarterTurnIsJ = (m : ℕ) → w_at (m + 32) ≡ times_j (w_at m)
 
 -- W(-m) is the conjugate of W(m)
 abbrev pub BackwardIsConjugate : Type 0

@@ -1,4 +1,4 @@
--- The tables W and Z: whole numbers near 16384 and 127 times the 128th and the 63rd roots of one. (own)
+-- The tables W and Z: whole numbers near 16384 and 127 times the 128th and the 63rd roots of unity. (own)
 use Rattle.std.specs.Prelude.{ℕ, ◌+◌, ◌-◌, ◌%◌, List, [], ◌∷◌, ℤ, pos, negsuc, neg_ℤ, nat_le, if◌then◌else◌, slice_index, slice_index_or}
 use Rattle.cs_num.specs.declared.Cpx.{Cpx}
 use Rattle.cs_num.specs.Complex.{conjugate}

@@ -1,4 +1,4 @@
-//! The tables of the 128th and 63rd roots of one, the useful part of a symbol, and the sums by
+//! The tables of the 128th and 63rd roots of unity, the useful part of a symbol, and the sums by
 //! which a symbol is seen. Each call equals its plain definition.
 #![tactic(auto)]
 

@@ -1,10 +1,10 @@
 //! The 72 sums by which a symbol is seen, folded by the symmetries of W.
 
-ghost use Rattle.std.specs.Prelude.{◌≡◌, ℕ, ◌+◌, ◌%◌, ◌^◌, ◌<◌, All, nat_abs};
-ghost use Rattle.cs_num.specs.Complex.{IsWithin, size, sample_at, minus};
+ghost use Rattle.std.specs.Prelude.{◌≡◌, ℕ, ◌+◌, ◌%◌, ◌^◌, ◌<◌, All};
+ghost use Rattle.cs_num.specs.Complex.{IsWithin, sample_at};
 ghost use Rattle.cs_num.specs.Sums.{complex_sum_below};
 ghost use Rattle.fold128.specs.Spectrum.{spectrum};
-ghost use Rattle.fold128.specs.Folding.{turned_back, quartet_of, folded_places, taken, folded_term, IsSmallQuartet};
+ghost use Rattle.fold128.specs.Folding.{quartet_of, folded_places, taken, folded_term as term_of_place, IsSmallQuartet};
 
 use crate::symbol::frequency_of;
 use crate::tables::w;
@@ -13,8 +13,8 @@ use cs_num::{Cpx, Sample};
 // The sum and the difference of two numbers.
 macro_rules! butterfly {
     ($a:ident, $b:ident => $sum:ident, $difference:ident) => {
-        let $sum = $a.add($b);
-        let $difference = less($a, $b);
+        let $sum = $a + $b;
+        let $difference = $a - $b;
     };
 }
 
@@ -27,6 +27,27 @@ struct Quartet {
     three: Cpx,
 }
 
+impl Quartet {
+    const EMPTY: Quartet = Quartet {
+        zero: Cpx::ZERO,
+        one: Cpx::ZERO,
+        two: Cpx::ZERO,
+        three: Cpx::ZERO,
+    };
+
+    // The number that a frequency takes.
+    fn of_frequency(&self, frequency: usize) -> Cpx
+        ensures { result ≡ taken self.now (frequency % 4) }
+    {
+        match frequency % 4 {
+            0 => self.zero,
+            1 => self.one,
+            2 => self.two,
+            _ => self.three,
+        }
+    }
+}
+
 /// The 72 plain sums of a symbol's 128 samples, each sample times the conjugate of W at the
 /// frequency of the subcarrier. They are not rounded, and components have size at most
 /// 97,182,023,680.
@@ -35,7 +56,7 @@ pub fn transform(samples: &[Sample; 128]) -> [Cpx; 72]
     ensures small { All (IsWithin 97182023680) result }
 {
     let folded = fold(samples);
-    let mut out = [Cpx { re: 0, im: 0 }; 72];
+    let mut out = [Cpx::ZERO; 72];
     for k in 0..72 {
         out[k] = folded_sum(&folded, frequency_of(k));
     }
@@ -47,34 +68,16 @@ fn fold(samples: &[Sample; 128]) -> [Quartet; 32]
     ensures value { result ≡ folded_places (sample_at samples.now) }
     ensures small { All IsSmallQuartet result }
 {
-    let nothing = Cpx { re: 0, im: 0 };
-    let mut folded = [Quartet {
-        zero: nothing,
-        one: nothing,
-        two: nothing,
-        three: nothing,
-    }; 32];
+    let mut folded = [Quartet::EMPTY; 32];
     for m in 0..32 {
         folded[m] = fold_four(
-            value(samples, m),
-            value(samples, m + 32),
-            value(samples, m + 64),
-            value(samples, m + 96),
+            samples[m].into(),
+            samples[m + 32].into(),
+            samples[m + 64].into(),
+            samples[m + 96].into(),
         );
     }
     folded
-}
-
-// Sample n as a number.
-fn value(samples: &[Sample; 128], n: usize) -> Cpx
-    requires { n < 128 }
-    ensures value { result ≡ sample_at samples.now n }
-    ensures small { IsWithin 32768 result }
-{
-    Cpx {
-        re: samples[n].re as i64,
-        im: samples[n].im as i64,
-    }
 }
 
 // Two butterflies on the samples half a turn apart, and two on what they leave.
@@ -88,7 +91,7 @@ fn fold_four(a: Cpx, b: Cpx, c: Cpx, d: Cpx) -> Quartet
 {
     butterfly!(a, c => sum, difference);
     butterfly!(b, d => other_sum, other_difference);
-    let turned = back(other_difference);
+    let turned = other_difference.times_minus_j();
     butterfly!(sum, other_sum => zero, two);
     butterfly!(difference, turned => one, three);
     Quartet {
@@ -99,61 +102,29 @@ fn fold_four(a: Cpx, b: Cpx, c: Cpx, d: Cpx) -> Quartet
     }
 }
 
-// The difference of two numbers.
-fn less(a: Cpx, b: Cpx) -> Cpx
-    requires { size a + size b < 2 ^ 63 }
-    ensures { result ≡ minus a b }
-{
-    Cpx {
-        re: a.re - b.re,
-        im: a.im - b.im,
-    }
-}
-
-// -j times a number.
-fn back(z: Cpx) -> Cpx
-    requires { nat_abs z.re < 2 ^ 63 }
-    ensures { result ≡ turned_back z }
-{
-    Cpx {
-        re: z.im,
-        im: -z.re,
-    }
-}
-
 // The sum at a frequency over the 32 places.
 fn folded_sum(folded: &[Quartet; 32], frequency: usize) -> Cpx
     requires small { All IsSmallQuartet folded.now }
     requires frequency { frequency < 128 }
-    ensures value { result ≡ complex_sum_below 32 (folded_term folded.now frequency) }
+    ensures value { result ≡ complex_sum_below 32 (term_of_place folded.now frequency) }
     ensures small { IsWithin 97182023680 result }
 {
-    let mut sum = Cpx { re: 0, im: 0 };
+    let mut sum = Cpx::ZERO;
     for m in 0..32 {
-        sum = sum.add(term(folded, frequency, m));
+        sum = sum + folded_term(folded, frequency, m);
     }
     sum
 }
 
 // What place m gives to it.
-fn term(folded: &[Quartet; 32], frequency: usize, m: usize) -> Cpx
+fn folded_term(folded: &[Quartet; 32], frequency: usize, m: usize) -> Cpx
     requires small { All IsSmallQuartet folded.now }
     requires frequency { frequency < 128 }
     requires m { m < 32 }
-    ensures value { result ≡ folded_term folded.now frequency m }
+    ensures value { result ≡ term_of_place folded.now frequency m }
     ensures small { IsWithin 3036938240 result }
 {
-    take(&folded[m], frequency).mul(w(frequency * m).conj())
-}
-
-// The number of a quartet that a frequency takes.
-fn take(quartet: &Quartet, frequency: usize) -> Cpx
-    ensures { result ≡ taken quartet.now (frequency % 4) }
-{
-    match frequency % 4 {
-        0 => quartet.zero,
-        1 => quartet.one,
-        2 => quartet.two,
-        _ => quartet.three,
-    }
+    folded[m]
+        .of_frequency(frequency)
+        .mul(w(frequency * m).conj())
 }

@@ -14,7 +14,7 @@ pub fn synth(grid: &[Cpx; 72]) -> [Cpx; 128]
     requires { All (IsWithin 127) grid.now }
     ensures { result ≡ useful_part (value_at grid.now) }
 {
-    let mut out = [Cpx { re: 0, im: 0 }; 128];
+    let mut out = [Cpx::ZERO; 128];
     for n in 0..128 {
         out[n] = sample(grid, n);
     }
@@ -27,15 +27,15 @@ fn sample(grid: &[Cpx; 72], n: usize) -> Cpx
     requires n { n < 128 }
     ensures { result ≡ useful_at (value_at grid.now) n }
 {
-    let mut sum = Cpx { re: 0, im: 0 };
+    let mut sum = Cpx::ZERO;
     for k in 0..72 {
-        sum = sum.add(term(grid, k, n));
+        sum = sum + useful_term_of(grid, k, n);
     }
     sum.round_shift(17)
 }
 
 // What subcarrier k gives to sample n.
-fn term(grid: &[Cpx; 72], k: usize, n: usize) -> Cpx
+fn useful_term_of(grid: &[Cpx; 72], k: usize, n: usize) -> Cpx
     requires small { All (IsWithin 127) grid.now }
     requires k { k < 72 }
     requires n { n < 128 }

@@ -1,4 +1,4 @@
-//! The tables W and Z, read by octant and by half period.
+//! The tables W and Z, read by quarter turn and by half period.
 
 ghost use Rattle.std.specs.Prelude.{◌≡◌, ◌<◌, ◌≤◌, slice_index};
 ghost use Rattle.cs_num.specs.Complex.{IsWithin};
@@ -25,8 +25,8 @@ const Z_IMAGINARY: [i8; 32] = [
     110, 103, 95, 86, 77, 66, 55, 43, 31, 19, 6,
 ];
 
-// One check of an octant: how a place up to the last one is read, and how a later one.
-macro_rules! octant {
+// How a place up to the last one of a part is read, and how a later one.
+macro_rules! by_symmetry {
     ($place:ident <= $last:literal => $value:expr, else $later:expr) => {
         if $place <= $last { $value } else { $later }
     };
@@ -46,11 +46,11 @@ fn cosine_of(m: usize) -> i64
     ensures { result ≡ cosine m }
 {
     let place = m % 128;
-    let half = octant!(place <= 64 => place, else 128 - place);
-    octant!(half <= 32 => quarter_of(half) as i64, else -(quarter_of(64 - half) as i64))
+    let half = by_symmetry!(place <= 64 => place, else 128 - place);
+    by_symmetry!(half <= 32 => quarter_of(half) as i64, else -(quarter_of(64 - half) as i64))
 }
 
-/// W(m), near 16384 times the 128th root of one to the power m, of period 128. (own)
+/// W(m), near 16384 times the 128th root of unity to the power m, of period 128. (own)
 pub fn w(m: usize) -> Cpx
     ensures { result ≡ w_at m }
 {
@@ -73,10 +73,10 @@ fn z_half_of(m: usize) -> Cpx
     }
 }
 
-/// Z(m), near 127 times the 63rd root of one to the power m, of period 63. (own)
+/// Z(m), near 127 times the 63rd root of unity to the power m, of period 63. (own)
 pub fn z63(m: usize) -> Cpx
     ensures { result ≡ z_at m }
 {
     let place = m % 63;
-    octant!(place <= 31 => z_half_of(place), else z_half_of(63 - place).conj())
+    by_symmetry!(place <= 31 => z_half_of(place), else z_half_of(63 - place).conj())
 }

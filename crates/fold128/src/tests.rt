@@ -10,13 +10,13 @@ fn one_value(k: usize, value: Cpx) -> [Cpx; 72]
     requires small { IsWithin 127 value }
     ensures { All (IsWithin 127) result }
 {
-    let mut grid = [Cpx { re: 0, im: 0 }; 72];
+    let mut grid = [Cpx::ZERO; 72];
     grid[k] = value;
     grid
 }
 
 #[test]
-fn tables_at_the_ends_of_their_octants(rt: HostRuntime) {
+fn tables_at_the_ends_of_their_parts(rt: HostRuntime) {
     assert_eq!(rt; w(0), Cpx { re: 16384, im: 0 });
     assert_eq!(rt;
         w(7),

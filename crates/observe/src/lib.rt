@@ -46,7 +46,7 @@ fn round_all(sums: &[Cpx; 72]) -> [Cpx; 72]
     ensures value { result ≡ rounded_values (value_at sums.now) }
     ensures small { All (IsWithin 23726080) result }
 {
-    let mut out = [Cpx { re: 0, im: 0 }; 72];
+    let mut out = [Cpx::ZERO; 72];
     for k in 0..72 {
         out[k] = sums[k].round_shift(12);
     }

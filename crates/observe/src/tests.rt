@@ -24,7 +24,7 @@ fn one_sample_is_seen_alike_at_all_subcarriers(rt: HostRuntime) {
 #[test]
 fn a_constant_is_not_seen(rt: HostRuntime) {
     for value in values_of(&[Sample { re: 1, im: 0 }; 128]) {
-        assert_eq!(rt; value, Cpx { re: 0, im: 0 });
+        assert_eq!(rt; value, Cpx::ZERO);
     }
 }
 
@@ -34,6 +34,6 @@ fn a_symbol_begins_at_its_first_sample(rt: HostRuntime) -> Result<(), std::test:
     samples[1000] = Sample { re: 1, im: 0 };
     let recording = Recording::new(samples).expect(&rt, "30 ms");
     assert_eq!(rt; symbol(&recording, 1000)[71], Cpx { re: 4, im: 0 });
-    assert_eq!(rt; symbol(&recording, 1001)[71], Cpx { re: 0, im: 0 });
+    assert_eq!(rt; symbol(&recording, 1001)[71], Cpx::ZERO);
     Ok(())
 }

@@ -1,16 +1,17 @@
 -- The correlation of a recording with the primary synchronisation signals. (own)
-use Rattle.std.specs.Prelude.{ℕ, ◌+◌, ◌-◌, List, nat_lt, if◌then◌else◌}
+use Rattle.std.specs.Prelude.{ℕ, ◌+◌, List}
 use Rattle.cs_num.specs.declared.Cpx.{Cpx}
 use Rattle.cs_num.specs.declared.Sample.{Sample}
-use Rattle.cs_num.specs.Complex.{nothing, times, conjugate, square, sample_at}
+use Rattle.cs_num.specs.Complex.{times, conjugate, square, sample_at}
 use Rattle.cs_num.specs.Sums.{complex_sum_below}
 use Rattle.finite.specs.Sums.{total_below}
 use Rattle.fold128.specs.Symbol.{useful_at, useful_part}
+use Rattle.sync_seq.specs.Middle.{in_middle}
 use Rattle.sync_seq.specs.Primary.{pss_at}
 
--- the grid of a symbol that holds the primary sequence of n2 alone, in the middle 62 subcarriers
+-- the grid of a symbol that holds the primary sequence of n2 alone
 abbrev pub pss_grid : ℕ → ℕ → Cpx
-pss_grid n2 k = if nat_lt k 5 then nothing else if nat_lt k 67 then pss_at n2 (k - 5) else nothing
+pss_grid n2 = in_middle (pss_at n2)
 
 -- p: sample n of the useful part of that symbol
 unfoldable pub wave : ℕ → ℕ → Cpx

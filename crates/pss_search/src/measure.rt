@@ -35,9 +35,9 @@ fn peak_sum(recording: &[Sample], root: &Root, t: usize) -> Cpx
     ensures value { result ≡ complex_sum_below 128 (peak_term (wave root.now.n2) recording.now t) }
     ensures small { IsWithin 19184746496 result }
 {
-    let mut sum = Cpx { re: 0, im: 0 };
+    let mut sum = Cpx::ZERO;
     for n in 0..128 {
-        sum = sum.add(peak_part(recording, root, t, n));
+        sum = sum + peak_part(recording, root, t, n);
     }
     sum
 }
@@ -49,7 +49,7 @@ fn peak_part(recording: &[Sample], root: &Root, t: usize, n: usize) -> Cpx
     ensures value { result ≡ peak_term (wave root.now.n2) recording.now t n }
     ensures small { IsWithin 149880832 result }
 {
-    number_of(recording[t + n]).mul(root.wave[n].conj())
+    Cpx::from(recording[t + n]).mul(root.wave[n].conj())
 }
 
 // The energy.
@@ -70,16 +70,5 @@ fn energy_part(sample: Sample) -> u64
     ensures value { result ≡ square (value_of sample) }
     ensures small { result ≤ 2 ^ 31 }
 {
-    number_of(sample).norm() as u64
-}
-
-// A sample as a number.
-fn number_of(sample: Sample) -> Cpx
-    ensures value { result ≡ value_of sample }
-    ensures small { IsWithin 32768 result }
-{
-    Cpx {
-        re: sample.re as i64,
-        im: sample.im as i64,
-    }
+    Cpx::from(sample).norm() as u64
 }

@@ -3,37 +3,18 @@
 ghost use Rattle.std.specs.Prelude.{◌≡◌, ◌^◌, ◌<◌, ◌≤◌};
 ghost use Rattle.finite.specs.Lists.{values_below};
 ghost use Rattle.cs_num.specs.Complex.{square};
-ghost use Rattle.sync_seq.specs.Primary.{pss_list};
 ghost use Rattle.pss_search.specs.Correlation.{wave, pss_grid, wave_list, wave_power};
 
 use cs_num::Cpx;
 use fold128::synth;
-use sync_seq::pss;
+use sync_seq::{in_middle, pss};
 
 // The grid of a symbol that holds that sequence alone.
 fn grid_of(n2: u8) -> [Cpx; 72]
     requires { n2 ≤ 2 }
     ensures { result ≡ values_below 72 (pss_grid n2) }
 {
-    let values = pss(n2);
-    let mut grid = [Cpx { re: 0, im: 0 }; 72];
-    for k in 0..72 {
-        grid[k] = grid_value(&values, n2, k);
-    }
-    grid
-}
-
-// The value of subcarrier k.
-fn grid_value(values: &[Cpx; 62], n2: u8, k: usize) -> Cpx
-    requires values { values.now ≡ pss_list n2 }
-    requires k { k < 72 }
-    ensures { result ≡ pss_grid n2 k }
-{
-    if k < 5 || k > 66 {
-        Cpx { re: 0, im: 0 }
-    } else {
-        values[k - 5]
-    }
+    in_middle(&pss(n2))
 }
 
 // The useful part of that symbol.

@@ -19,11 +19,11 @@ pub fn estimate(pilots: &[Cpx; 24], first: u8, k: u8) -> Cpx
     ensures small { IsWithin (540 * 2 ^ 25) result }
 {
     if k < first {
-        multiple_of(3, pilots[0])
+        pilots[0].scaled(3)
     } else if k < first + 3 * LAST {
         between(pilots, (k - first) / 3, (k - first) % 3)
     } else {
-        multiple_of(3, pilots[LAST as usize])
+        pilots[LAST as usize].scaled(3)
     }
 }
 
@@ -35,19 +35,5 @@ fn between(pilots: &[Cpx; 24], i: u8, r: u8) -> Cpx
     ensures value { result ≡ between (value_at pilots.now) i r }
     ensures small { IsWithin (540 * 2 ^ 25) result }
 {
-    multiple_of(3 - r, pilots[i as usize]).add(multiple_of(r, pilots[i as usize + 1]))
-}
-
-// The multiple of a pilot.
-fn multiple_of(n: u8, a: Cpx) -> Cpx
-    requires n { n ≤ 3 }
-    requires small { IsWithin (180 * 2 ^ 25) a }
-    ensures value { result ≡ multiple n a }
-    ensures small { IsWithin (n * (180 * 2 ^ 25)) result }
-{
-    let n = n as i64;
-    Cpx {
-        re: n * a.re,
-        im: n * a.im,
-    }
+    pilots[i as usize].scaled(3 - r) + pilots[i as usize + 1].scaled(r)
 }

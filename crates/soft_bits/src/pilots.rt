@@ -96,7 +96,7 @@ pub(crate) fn pilots_of(seen: &[[Cpx; 72]; 7], number: u8, id: CellId) -> [Cpx; 
 {
     let first = crs::pilots(id, number, 0);
     let second = crs::pilots(id, number, 4);
-    let mut pilots = [Cpx { re: 0, im: 0 }; 24];
+    let mut pilots = [Cpx::ZERO; 24];
     for i in 0..24_u8 {
         pilots[i as usize] = pilot_of(seen, number, id, &first, &second, i);
     }

@@ -46,7 +46,7 @@ fn references(id: CellId, number: u8, symbol: u8, channel: Channel) -> [Cpx; 72]
     ensures { All (IsWithin (2 ^ 25)) result }
 {
     let pilots = crs::pilots(id, number, symbol);
-    let mut seen = level(Cpx { re: 0, im: 0 });
+    let mut seen = level(Cpx::ZERO);
     for m in 0..12 {
         let (k, sent) = pilots[m];
         if k < 72 {
@@ -112,7 +112,7 @@ fn values_are_rounded_toward_zero_and_stop_at_127(rt: HostRuntime) {
 #[test]
 fn a_silent_slot_speaks_for_no_bit(rt: HostRuntime) {
     let id = CellId::new(7).expect(&rt, "in range");
-    let nothing = level(Cpx { re: 0, im: 0 });
+    let nothing = level(Cpx::ZERO);
     let seen = [
         nothing, nothing, nothing, nothing, nothing, nothing, nothing,
     ];

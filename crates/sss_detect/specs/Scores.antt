@@ -1,20 +1,21 @@
 -- How well a secondary synchronisation sequence agrees with what is seen of two symbols. (own)
-use Rattle.std.specs.Prelude.{ℕ, ◌+◌, List, ℤ, pos, ◌*ℤ◌, slice_index_or}
+use Rattle.std.specs.Prelude.{ℕ, List, ℤ, pos, ◌*ℤ◌, slice_index_or}
 use Rattle.finite.specs.Sums.{sum_below}
 use Rattle.finite.specs.Lists.{values_below}
 use Rattle.cs_num.specs.declared.Cpx.{Cpx}
 use Rattle.cs_num.specs.Complex.{times, conjugate}
 use Rattle.lte_types.specs.declared.frame.Half.{Half}
+use Rattle.sync_seq.specs.Middle.{middle}
 use Rattle.sync_seq.specs.Primary.{pss_at}
 use Rattle.sync_seq.specs.Secondary.{sss_at}
 
 -- A: what is seen at the place of value n of the primary sequence, times the conjugate of the value
 abbrev pub channel : (ℕ → Cpx) → ℕ → ℕ → Cpx
-channel primary n2 n = times (primary (n + 5)) (conjugate (pss_at n2 n))
+channel primary n2 n = times (primary (middle n)) (conjugate (pss_at n2 n))
 
 -- re (B conj A), where B is what is seen of the secondary symbol at the same subcarrier
 abbrev pub agreement : (ℕ → Cpx) → (ℕ → Cpx) → ℕ → ℕ → ℤ
-agreement primary secondary n2 n = (times (secondary (n + 5)) (conjugate (channel primary n2 n))).re
+agreement primary secondary n2 n = (times (secondary (middle n)) (conjugate (channel primary n2 n))).re
 
 -- the score of a group and a half: the sum of the agreements, with the signs of their secondary sequence
 unfoldable pub score : (ℕ → Cpx) → (ℕ → Cpx) → ℕ → ℕ → Half → ℤ

@@ -7,7 +7,7 @@ ghost use Rattle.sss_detect.specs.Scores.{agreement, agreements_of, signed_sum, 
 
 use cs_num::Cpx;
 use lte_types::Half;
-use sync_seq::{pss, sss};
+use sync_seq::{MIDDLE, pss, sss};
 
 // What the two symbols say of each value of a secondary sequence.
 pub(crate) fn agreements(primary: &[Cpx; 72], secondary: &[Cpx; 72], n2: u8) -> [i64; 62]
@@ -20,7 +20,7 @@ pub(crate) fn agreements(primary: &[Cpx; 72], secondary: &[Cpx; 72], n2: u8) -> 
     let values = pss(n2);
     let mut out = [0; 62];
     for n in 0..62 {
-        out[n] = agree(primary[n + 5], secondary[n + 5], values[n]);
+        out[n] = agree(primary[n + MIDDLE], secondary[n + MIDDLE], values[n]);
     }
     out
 }

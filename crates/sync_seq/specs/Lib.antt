@@ -1,3 +1,4 @@
 pub mod Primary
 pub mod Secondary
+pub mod Middle
 pub mod Laws

@@ -2,6 +2,7 @@
 use Rattle.std.specs.Prelude.{ℕ, zero, suc, ◌+◌, ◌*◌, ◌/◌, ◌%◌, Bool, true, false, ◌==◌, List, [], ◌∷◌, ◌++◌, ℤ, pos, negsuc, ◌*ℤ◌, if◌then◌else◌, slice_index_or}
 use Rattle.finite.specs.Bits.{xor}
 use Rattle.finite.specs.Lists.{values_below}
+use Rattle.cs_num.specs.declared.Cpx.{Cpx}
 use Rattle.lte_types.specs.declared.frame.Half.{Half}
 use Rattle.lte_types.specs.declared.frame.Half.TheVariants.{Zero, Five}
 use Rattle.sync_seq.specs.declared.secondary.Recurrence.{Recurrence}
@@ -67,6 +68,14 @@ shifted_value s c z n2 even odd k = if k % 2 == 0 then even_value s c n2 even (k
 -- value k of the sequence of an identity and a half
 unfoldable pub sss_at : ℕ → ℕ → Half → ℕ → ℤ
 sss_at n1 n2 half k = shifted_value (bits_of S) (bits_of C) (bits_of Z) n2 (even_shift half n1) (odd_shift half n1) k
+
+-- what is sent for a sign (the amplitude is own)
+abbrev pub amplitude : ℤ → Cpx
+amplitude sign = record { re = pos 127 *ℤ sign; im = pos 0 }
+
+-- what is sent for value n of the sequence of an identity and a half
+abbrev pub sss_amplitude : ℕ → ℕ → Half → ℕ → Cpx
+sss_amplitude n1 n2 half n = amplitude (sss_at n1 n2 half n)
 
 -- the whole sequence
 unfoldable pub sss_list : ℕ → ℕ → Half → List ℤ

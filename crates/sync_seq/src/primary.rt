@@ -7,12 +7,12 @@ use cs_num::Cpx;
 use fold128::z63;
 
 /// The 62 values of the primary synchronisation sequence of an identity within its group
-/// (TS 36.211 section 6.11.1), from the table of 63rd roots of one. `n2` is 0 to 2.
+/// (TS 36.211 section 6.11.1), from the table of 63rd roots of unity. `n2` is 0 to 2.
 pub fn pss(n2: u8) -> [Cpx; 62]
     requires { n2 ≤ 2 }
     ensures { result ≡ pss_list n2 }
 {
-    let mut values = [Cpx { re: 0, im: 0 }; 62];
+    let mut values = [Cpx::ZERO; 62];
     for n in 0..62 {
         values[n] = pss_value(n2, n);
     }

@@ -2,8 +2,9 @@
 
 ghost use Rattle.std.specs.Prelude.{◌≡◌, ◌<◌, ◌≤◌, nat_abs};
 ghost use Rattle.sync_seq.specs.declared.secondary.Recurrence.TheVariants.{S, C, Z};
-ghost use Rattle.sync_seq.specs.Secondary.{next_bit, bits_of, sign_at, shift_sum, even_shift, odd_shift, shifted_value, sss_list};
+ghost use Rattle.sync_seq.specs.Secondary.{next_bit, bits_of, sign_at, shift_sum, even_shift, odd_shift, shifted_value, sss_list, amplitude as amplitude_of};
 
+use cs_num::Cpx;
 use lte_types::Half;
 
 // The three recurrences.
@@ -44,6 +45,17 @@ pub fn sss(n1: u16, n2: u8, half: Half) -> [i8; 62]
         values[k] = value(&sequences, n2, even, odd, k);
     }
     values
+}
+
+/// What is sent for a sign, 1 or -1: 127 times the sign. (own)
+pub fn amplitude(sign: i8) -> Cpx
+    requires { nat_abs sign ≤ 1 }
+    ensures { result ≡ amplitude_of sign }
+{
+    Cpx {
+        re: 127 * sign as i64,
+        im: 0,
+    }
 }
 
 // The 31 bits of a sequence, each after the fifth from the five before it.

@@ -24,7 +24,7 @@ pub fn point_of(digit: u8) -> Cpx
         b'1' => Cpx { re: 90, im: -90 },
         b'2' => Cpx { re: -90, im: 90 },
         b'3' => Cpx { re: -90, im: -90 },
-        _ => Cpx { re: 0, im: 0 },
+        _ => Cpx::ZERO,
     }
 }
 
@@ -59,7 +59,7 @@ pub fn secondary_grid() -> [Cpx; 72]
     ensures { All (IsWithin 127) result }
 {
     let signs = sss(0, 0, Half::Zero);
-    let mut values = [Cpx { re: 0, im: 0 }; 62];
+    let mut values = [Cpx::ZERO; 62];
     for n in 0..62 {
         values[n].re = if signs[n] > 0 { 127 } else { -127 };
     }
@@ -81,7 +81,7 @@ fn middle(values: &[Cpx; 62]) -> [Cpx; 72]
 fn empty() -> [Cpx; 72]
     ensures { All (IsWithin 127) result }
 {
-    level(bounded(Cpx { re: 0, im: 0 }))
+    level(bounded(Cpx::ZERO))
 }
 
 // The value, or the nearest of at most 127.

@@ -5,6 +5,7 @@ use Rattle.finite.specs.Lists.{values_below}
 use Rattle.finite.proofs.Lists.{values_below_at}
 use Rattle.cs_num.specs.declared.Cpx.{Cpx}
 use Rattle.cs_num.specs.Complex.{value_at}
+use Rattle.sync_seq.specs.Middle.{is_middle}
 use Rattle.sync_seq.proofs.PrimaryValues.{pss_list_at}
 use Rattle.cell_tx.specs.Grid.{is_primary}
 use Rattle.cell_tx.specs.Rows.{reference_if}
@@ -24,11 +25,14 @@ returns-in-Some c =
 none_at : (row : List (Option Cpx)) (identity slot symbol k : ℕ) → k < 72 → row ≡ values_below 72 (reference_if identity slot symbol) → get_or row k None ≡ None → reference_if identity slot symbol k ≡ None
 none_at row identity slot symbol k inside is none = sym (read_row row identity slot symbol k inside is) ∙ none
 
-abbrev is_before : ℕ → ℕ → ℕ → Bool
-is_before subframe symbol k = (nat_eq subframe 0 || nat_eq subframe 5) && nat_eq symbol 6 && nat_le 5 k
+abbrev is_row : ℕ → ℕ → Bool
+is_row subframe symbol = (nat_eq subframe 0 || nat_eq subframe 5) && nat_eq symbol 6
 
 last_place : (subframe symbol k : ℕ) → is_primary subframe symbol k ≡ true → k - 5 < 62
-last_place subframe symbol k e = let parts = and_parts (is_before subframe symbol k) (nat_lt k 67) e in omega (arith, ltb-true k 67 parts.1)
+last_place subframe symbol k e =
+    let parts = and_parts (is_row subframe symbol) (is_middle k) e in
+    let ends = and_parts (nat_le 5 k) (nat_lt k 67) parts.1 in
+    omega (arith, ltb-true k 67 ends.1)
 
 pub returns-then-is_signal : goal.returns-then-is_signal
 returns-then-is_signal c =

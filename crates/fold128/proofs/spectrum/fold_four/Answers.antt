@@ -8,21 +8,21 @@ add-zero-requires c =
     let r = c.requires in
     rw (c.add-sum.ensures, c.add-other_sum.ensures) (sums-small c.args.a c.args.b c.args.c c.args.d r.a r.b r.c r.d)
 
-pub less-two-requires : goal.less-two-requires
-less-two-requires c =
+pub sub-two-requires : goal.sub-two-requires
+sub-two-requires c =
     let r = c.requires in
     rw (c.add-sum.ensures, c.add-other_sum.ensures) (sums-small c.args.a c.args.b c.args.c c.args.d r.a r.b r.c r.d)
 
 pub add-one-requires : goal.add-one-requires
 add-one-requires c =
     let r = c.requires in
-    rw (c.less-difference.ensures, c.back-turned.ensures, c.less-other_difference.ensures)
+    rw (c.sub-difference.ensures, c.times_minus_j-turned.ensures, c.sub-other_difference.ensures)
     (differences-small c.args.a c.args.b c.args.c c.args.d r.a r.b r.c r.d)
 
-pub less-three-requires : goal.less-three-requires
-less-three-requires c =
+pub sub-three-requires : goal.sub-three-requires
+sub-three-requires c =
     let r = c.requires in
-    rw (c.less-difference.ensures, c.back-turned.ensures, c.less-other_difference.ensures)
+    rw (c.sub-difference.ensures, c.times_minus_j-turned.ensures, c.sub-other_difference.ensures)
     (differences-small c.args.a c.args.b c.args.c c.args.d r.a r.b r.c r.d)
 
 pub returns-clause-value : goal.returns-clause-value

@@ -16,14 +16,14 @@ pub add-sum-requires : goal.add-sum-requires
 add-sum-requires c =
     let long : length c.args.folded.now ≡ 32 = search rules in
     let s = size-le _ _ (folded_sum-within c.args.folded.now c.args.frequency c.loop-m.m c.requires.small (omega arith)) in
-    let t = size-le _ _ c.term.ensures.small in
+    let t = size-le _ _ c.folded_term.ensures.small in
     rw c.loop-m.invariant (omega arith)
 
 pub loop-m-preserved : goal.loop-m-preserved
 loop-m-preserved c =
     c.add-sum.ensures
-    ∙ ap (λ s. plus s c.term.result) c.loop-m.invariant
-    ∙ ap (plus (complex_sum_below c.loop-m.m (folded_term c.args.folded.now c.args.frequency))) c.term.ensures.value
+    ∙ ap (λ s. plus s c.folded_term.result) c.loop-m.invariant
+    ∙ ap (plus (complex_sum_below c.loop-m.m (folded_term c.args.folded.now c.args.frequency))) c.folded_term.ensures.value
     ∙ sym (complex_sum_below_more c.loop-m.m (folded_term c.args.folded.now c.args.frequency))
 
 pub returns-clause-value : goal.returns-clause-value

@@ -19,13 +19,13 @@ add-sum-requires c =
     let long : length c.args.grid.now ≡ 72 = search rules in
     let s = sum-size c.args.grid.now c.args.n c.loop-k.k c.requires.small (omega arith) in
     let t = size-le _ _ (term-within c.args.grid.now c.args.n c.loop-k.k c.requires.small (omega arith)) in
-    rw (c.loop-k.invariant, c.term.ensures.value) (omega arith)
+    rw (c.loop-k.invariant, c.useful_term_of.ensures.value) (omega arith)
 
 pub loop-k-preserved : goal.loop-k-preserved
 loop-k-preserved c =
     c.add-sum.ensures
-    ∙ ap (λ s. plus s c.term.result) c.loop-k.invariant
-    ∙ ap (plus (complex_sum_below c.loop-k.k (useful_term (value_at c.args.grid.now) c.args.n))) c.term.ensures.value
+    ∙ ap (λ s. plus s c.useful_term_of.result) c.loop-k.invariant
+    ∙ ap (plus (complex_sum_below c.loop-k.k (useful_term (value_at c.args.grid.now) c.args.n))) c.useful_term_of.ensures.value
     ∙ sym (complex_sum_below_more c.loop-k.k (useful_term (value_at c.args.grid.now) c.args.n))
 
 pub round_shift-requires-clause-size : goal.round_shift-requires-clause-size

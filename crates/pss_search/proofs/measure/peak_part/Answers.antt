@@ -22,8 +22,8 @@ mul-requires c =
     let s = conjugate-within (wave c.args.root.now.n2 c.args.n) 2287 (wave-within c.args.root.now.n2 c.args.n) in
     rw d (omega (
       arith,
-      mul-le (size c.number_of.result) (size (conjugate (wave c.args.root.now.n2 c.args.n))) 32768 2287
-          (size-le _ _ c.number_of.ensures.small) (size-le _ _ s),
+      mul-le (size c.from.result) (size (conjugate (wave c.args.root.now.n2 c.args.n))) 32768 2287
+          (size-le _ _ c.from.ensures.1) (size-le _ _ s),
     ))
 
 pub returns : goal.returns
@@ -32,8 +32,8 @@ returns c =
     ap (λ w. value_at w c.args.n) c.args.root.now.samples ∙ wave_at c.args.root.now.n2 c.args.n c.requires.n in
     let d : c.conj.result ≡ conjugate (wave c.args.root.now.n2 c.args.n) = c.conj.ensures ∙ ap conjugate e in
     let s = conjugate-within (wave c.args.root.now.n2 c.args.n) 2287 (wave-within c.args.root.now.n2 c.args.n) in
-    let v : c.mul.result ≡ times c.number_of.result (conjugate (wave c.args.root.now.n2 c.args.n)) = c.mul.ensures ∙ ap (times c.number_of.result) d in
+    let v : c.mul.result ≡ times c.from.result (conjugate (wave c.args.root.now.n2 c.args.n)) = c.mul.ensures ∙ ap (times c.from.result) d in
     record {
-      value = v ∙ ap (λ z. times z (conjugate (wave c.args.root.now.n2 c.args.n))) c.number_of.ensures.value;
-      small = rw v (times-within c.number_of.result (conjugate (wave c.args.root.now.n2 c.args.n)) 32768 2287 74940416 c.number_of.ensures.small s (omega arith));
+      value = v ∙ ap (λ z. times z (conjugate (wave c.args.root.now.n2 c.args.n))) c.from.ensures.0;
+      small = rw v (times-within c.from.result (conjugate (wave c.args.root.now.n2 c.args.n)) 32768 2287 74940416 c.from.ensures.1 s (omega arith));
     }

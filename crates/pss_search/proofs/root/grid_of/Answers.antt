@@ -1,17 +1,14 @@
-use Rattle.std.proofs.Common.{arith, ◌≡◌, ◌∙◌, length-set}
-use Rattle.cs_num.specs.Complex.{nothing}
-use Rattle.pss_search.specs.Correlation.{pss_grid}
-use Rattle.std.proofs.lemmas.List.FromFn.{fill_by_all}
-use Rattle.std.proofs.lemmas.List.Edits.{fill_by_more}
+use Rattle.std.proofs.Common.{◌∙◌, ap}
+use Rattle.finite.specs.Lists.{values_below}
+use Rattle.cs_num.specs.Complex.{value_at}
+use Rattle.sync_seq.specs.Middle.{in_middle}
+use Rattle.sync_seq.specs.Primary.{pss_at, pss_list}
+use Rattle.sync_seq.proofs.Grids.{in_middle_list}
 use Rattle.pss_search.proofs.root.grid_of.Goals as goal
 
-pub loop-k-preserved : goal.loop-k-preserved
-loop-k-preserved c = record {
-  whole = length-set c.loop-k.grid c.loop-k.k _ ∙ c.loop-k.invariant.whole;
-  each = rw c.grid_value.ensures (fill_by_more (pss_grid c.args.n2) c.loop-k.grid c.loop-k.k nothing (omega arith) c.loop-k.invariant.each);
-}
-
 pub returns : goal.returns
+unfolding pss_list
 returns c =
-    let last : c.loop-k.k ≡ 72 = omega arith in
-    fill_by_all (pss_grid c.args.n2) c.loop-k.grid 72 nothing c.loop-k.invariant.whole (λ k l. c.loop-k.invariant.each k (omega arith))
+    c.in_middle.ensures
+    ∙ ap (λ values. values_below 72 (in_middle (value_at values))) c.pss.ensures
+    ∙ in_middle_list (pss_at c.args.n2)

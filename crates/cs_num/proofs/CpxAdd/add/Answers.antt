@@ -1,7 +1,7 @@
 use Rattle.std.proofs.Common.{rules, arith, ◌+ℤ◌, w64, FitsSigned}
 use Rattle.std.proofs.lemmas.Int.{to_z-of_z, fits_signed_from_abs}
 use Rattle.finite.proofs.Integers.{abs-sum}
-use Rattle.cs_num.proofs.Cpx.add.Goals as goal
+use Rattle.cs_num.proofs.CpxAdd.add.Goals as goal
 
 pub returns : goal.returns
 returns c =

@@ -7,7 +7,7 @@ use Rattle.fold128.specs.Tables.{w_at}
 use Rattle.cs_num.specs.Complex.{value_at}
 use Rattle.fold128.proofs.Entries.{w_small}
 use Rattle.cs_num.proofs.Complex.{size-le}
-use Rattle.fold128.proofs.symbol.term.Goals as goal
+use Rattle.fold128.proofs.symbol.useful_term_of.Goals as goal
 
 pub mul-requires : goal.mul-requires
 mul-requires c =

@@ -6,7 +6,7 @@ use Rattle.cs_num.proofs.Complex.{size-le, conjugate-within}
 use Rattle.fold128.specs.Folding.{empty_quartet, IsSmallQuartet}
 use Rattle.fold128.proofs.Entries.{w_small}
 use Rattle.fold128.proofs.FoldSizes.{taken-small, folded_term-within}
-use Rattle.fold128.proofs.spectrum.term.Goals as goal
+use Rattle.fold128.proofs.spectrum.folded_term.Goals as goal
 
 pub conj-requires : goal.conj-requires
 conj-requires c = let t = w_small (c.args.frequency * c.args.m) in rw c.w.ensures (omega (arith, t.im))
@@ -16,9 +16,9 @@ mul-requires c =
     let long : length c.args.folded.now ≡ 32 = search rules in
     let q : IsSmallQuartet (slice_index_or c.args.folded.now c.args.m empty_quartet) = All-get_or IsSmallQuartet c.args.folded.now c.args.m empty_quartet (omega arith) c.requires.small in
     let r : c.args.frequency % 4 ≤ 3 = omega arith in
-    let t : IsWithin 131072 c.take.result = subst (IsWithin 131072) (sym c.take.ensures) (taken-small (slice_index_or c.args.folded.now c.args.m empty_quartet) (c.args.frequency % 4) q (omega arith)) in
+    let t : IsWithin 131072 c.of_frequency.result = subst (IsWithin 131072) (sym c.of_frequency.ensures) (taken-small (slice_index_or c.args.folded.now c.args.m empty_quartet) (c.args.frequency % 4) q (omega arith)) in
     let v : IsWithin 16384 c.conj.result = subst (IsWithin 16384) (sym c.conj.ensures) (conjugate-within c.w.result 16384 (subst (IsWithin 16384) (sym c.w.ensures) (w_small (c.args.frequency * c.args.m)))) in
-    omega (arith, mul-le (size c.take.result) (size c.conj.result) 131072 16384 (size-le _ _ t) (size-le _ _ v))
+    omega (arith, mul-le (size c.of_frequency.result) (size c.conj.result) 131072 16384 (size-le _ _ t) (size-le _ _ v))
 
 pub returns-clause-value : goal.returns-clause-value
 returns-clause-value c = cc

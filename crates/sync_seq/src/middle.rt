@@ -1,0 +1,43 @@
+//! The middle 62 of 72 subcarriers, which hold the synchronisation signals.
+
+ghost use Rattle.std.specs.Prelude.{◌≡◌, ◌<◌};
+ghost use Rattle.finite.specs.Lists.{values_below};
+ghost use Rattle.cs_num.specs.Complex.{value_at};
+ghost use Rattle.sync_seq.specs.Middle.{is_middle as is_in_middle, in_middle as middle_grid};
+
+use cs_num::Cpx;
+
+/// The subcarrier of value 0. Those of the later values follow it (TS 36.211 sections 6.11.1.2 and
+/// 6.11.2.2).
+pub const MIDDLE: usize = 5;
+
+/// Whether a subcarrier is one of the middle 62.
+pub fn is_middle(k: usize) -> bool
+    ensures { result ≡ is_in_middle k }
+{
+    MIDDLE <= k && k < MIDDLE + 62
+}
+
+/// The grid of a symbol that holds these values alone.
+pub fn in_middle(values: &[Cpx; 62]) -> [Cpx; 72]
+    ensures { result ≡ values_below 72 (middle_grid (value_at values.now)) }
+{
+    let mut grid = [Cpx::ZERO; 72];
+    for k in 0..72 {
+        grid[k] = middle_value(values, k);
+    }
+    grid
+}
+
+// The value of subcarrier k.
+#[tactic(auto, using(std::proofs::lemmas::Bool::Decides::nat_tests))]
+fn middle_value(values: &[Cpx; 62], k: usize) -> Cpx
+    requires { k < 72 }
+    ensures { result ≡ middle_grid (value_at values.now) k }
+{
+    if is_middle(k) {
+        values[k - MIDDLE]
+    } else {
+        Cpx::ZERO
+    }
+}
