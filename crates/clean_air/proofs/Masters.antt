@@ -15,10 +15,12 @@ use Rattle.conv_code.specs.Cost.{word_cost}
 use Rattle.cs_bits.proofs.Signs.{speaks_with_size, supports-less}
 use Rattle.tailbite.specs.Clean.{Speaks}
 use Rattle.grid_map.specs.declared.Place.{Place}
-use Rattle.grid_map.specs.Broadcast.{pbch_place, is_pbch}
+use Rattle.grid_map.specs.Broadcast.{pbch_places, pbch_place, is_pbch}
 use Rattle.grid_map.proofs.Points.{places_inside}
 use Rattle.soft_bits.specs.Soft.{SeenSlot, soft_values}
-use Rattle.pbch.specs.Values.{seen_value, value, frame_values, coded_values}
+use Rattle.soft_bits.specs.Places.{soft_value_at, descrambled_value}
+use Rattle.pbch.specs.Values.{frame_values, coded_values}
+use Rattle.pbch.proofs.Sums.{length-frame_values, frame_value, length-coded_values}
 use Rattle.pbch.specs.Master.{total}
 use Rattle.cell_tx.specs.Block.{scrambled_bit}
 use Rattle.cs_bits.specs.Signs.{Supports}
@@ -30,27 +32,23 @@ use Rattle.clean_air.proofs.SpokenWords.{descrambling_keeps, summed-length, sums
 
 -- ---- the values in the order of the reading
 
+-- value i of the channel's 480 in a slot
+abbrev sent_value : SeenSlot → ℕ → ℤ
+sent_value slot i = soft_value_at slot (pbch_places slot.identity) i
+
 -- 480 bits are four readings of the coded word
 same_place : (phase i : ℕ) → place_of 40 (480 * phase + i) ≡ place_of 40 i
 unfolding place_of
 same_place phase i = let e : (480 * phase + i) % 120 ≡ i % 120 = omega arith in rw e refl
 
-read_value : (slot : SeenSlot) (phase i : ℕ) → i < 480 → get_or (frame_values slot phase) i (pos 0) ≡ value slot phase i
-unfolding frame_values
-read_value slot phase i l = values_below_at (value slot phase) 480 i (pos 0) l
-
-values-length : (slot : SeenSlot) (phase : ℕ) → length (frame_values slot phase) ≡ 480
-unfolding frame_values
-values-length slot phase = values_below-length 480 (value slot phase)
-
 in_order : (slot : SeenSlot) (phase : ℕ) (word : List Bool) → SpeaksOfWord slot phase word → SpeakInOrder word (frame_values slot phase)
 in_order slot phase word speaks = record {
-  enough = omega (arith, speaks.size, values-length slot phase);
-  value = λ i l. let inside : i < 480 = omega (arith, l, values-length slot phase) in
+  enough = omega (arith, speaks.size, length-frame_values slot phase);
+  value = λ i l. let inside : i < 480 = omega (arith, l, length-frame_values slot phase) in
       subst (λ (n : ℕ). Supports 1 (bit_at_place (coded_word word) (place_of n i)) (get_or (frame_values slot phase) i (pos 0))) (sym speaks.size)
-      (subst (λ z. Supports 1 (bit_at_place (coded_word word) (place_of 40 i)) z) (sym (read_value slot phase i inside))
-      (subst (λ p. Supports 1 (bit_at_place (coded_word word) p) (value slot phase i)) (same_place phase i)
-      (descrambling_keeps 1 (bit_at_place (coded_word word) (place_of 40 (480 * phase + i))) (gold_bit slot.identity (480 * phase + i)) (seen_value slot i) (speaks.value i inside))));
+      (subst (λ z. Supports 1 (bit_at_place (coded_word word) (place_of 40 i)) z) (sym (frame_value slot phase i inside))
+      (subst (λ p. Supports 1 (bit_at_place (coded_word word) p) (descrambled_value (gold_bit slot.identity (480 * phase + i)) (sent_value slot i))) (same_place phase i)
+      (descrambling_keeps 1 (bit_at_place (coded_word word) (place_of 40 (480 * phase + i))) (gold_bit slot.identity (480 * phase + i)) (sent_value slot i) (speaks.value i inside))));
 }
 
 speaks_all : (slot : SeenSlot) (phase : ℕ) (word : List Bool) → SpeaksOfWord slot phase word → Speaks (coded_values slot phase) word
@@ -59,13 +57,9 @@ speaks_all slot phase word speaks =
     subst (λ (n : ℕ). Speaks (summed n (frame_values slot phase)) word) speaks.size
     (sums_speak word (frame_values slot phase) (omega (arith, speaks.size)) (omega (arith, speaks.size)) (in_order slot phase word speaks))
 
-coded_values-length : (slot : SeenSlot) (phase : ℕ) → length (coded_values slot phase) ≡ 40
-unfolding coded_values
-coded_values-length slot phase = summed-length 40 (frame_values slot phase)
-
 pub sent_word_is_only : SentWordIsOnly
 sent_word_is_only slot phase word speaks =
-    spoken_word_is_only (coded_values slot phase) word (omega (arith, coded_values-length slot phase)) (speaks.size ∙ sym (coded_values-length slot phase)) (speaks_all slot phase word speaks)
+    spoken_word_is_only (coded_values slot phase) word (omega (arith, coded_length-frame_values slot phase)) (speaks.size ∙ sym (coded_length-frame_values slot phase)) (speaks_all slot phase word speaks)
 
 -- ---- the master
 
@@ -80,7 +74,7 @@ sent_word_is_told slot phase ports word speaks passes width =
     let only = sent_word_is_only slot phase word speaks in
     record {
       least = only.least;
-      heard = heard (coded_values slot phase) word (coded_values-length slot phase) (speaks_all slot phase word speaks);
+      heard = heard (coded_values slot phase) word (coded_length-frame_values slot phase) (speaks_all slot phase word speaks);
       clear = nothing (word_cost (coded_values slot phase) word) (total (coded_values slot phase)) only.free;
       check = passes;
       width = width;
@@ -111,7 +105,7 @@ even_or_odd i = elim (cases_lt (i % 2) 1) [
 -- the values of a place are two of the channel's
 one_value : (slot : SeenSlot) (i : ℕ) (bit : ℕ → Bool) →
     SupportBoth 8 (bit (2 * (i / 2))) (bit (2 * (i / 2) + 1)) (soft_values slot ((pbch_place slot.identity (i / 2)).symbol - 7) (pbch_place slot.identity (i / 2)).k) →
-    Supports 1 (bit i) (seen_value slot i)
+    Supports 1 (bit i) (sent_value slot i)
 one_value slot i bit both = elim (even_or_odd i) [
   | inl (place, index) ↦ subst (λ (n : ℕ). Supports 1 (bit i) (get_or values n (pos 0))) (sym place)
       (subst (λ (n : ℕ). Supports 1 (bit n) (get_or values 0 (pos 0))) index (supports-less 1 8 (bit (2 * (i / 2))) (get_or values 0 (pos 0)) (omega arith) both.re))

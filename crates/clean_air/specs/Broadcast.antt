@@ -2,9 +2,10 @@
 use Rattle.std.specs.Prelude.{◌≡◌, ℕ, ◌+◌, ◌-◌, ◌*◌, ◌<◌, ◌≤◌, Bool, List, length}
 use Rattle.cs_num.specs.declared.Cpx.{Cpx}
 use Rattle.cs_num.specs.declared.Sample.{Sample}
-use Rattle.grid_map.specs.Broadcast.{pbch_place}
+use Rattle.grid_map.specs.Broadcast.{pbch_places, pbch_place}
 use Rattle.soft_bits.specs.Soft.{SeenSlot}
-use Rattle.pbch.specs.Values.{seen_value, coded_values}
+use Rattle.soft_bits.specs.Places.{soft_value_at}
+use Rattle.pbch.specs.Values.{coded_values}
 use Rattle.cs_bits.specs.Numbers.{field}
 use Rattle.pbch.specs.Master.{PassesWith, Tells}
 use Rattle.cell_tx.specs.Block.{scrambled_bit}
@@ -16,7 +17,7 @@ use Rattle.clean_air.specs.Words.{IsOnlyWord}
 -- each of the 480 soft values of a slot speaks for the bit of this word of 40 bits that a frame of this phase carries there
 pub record SpeaksOfWord (slot : SeenSlot) (phase : ℕ) (word : List Bool) : Type 0 where
   pub size : length word ≡ 40
-  pub value : (i : ℕ) → i < 480 → Supports 1 (scrambled_bit slot.identity word (480 * phase + i)) (seen_value slot i)
+  pub value : (i : ℕ) → i < 480 → Supports 1 (scrambled_bit slot.identity word (480 * phase + i)) (soft_value_at slot (pbch_places slot.identity) i)
 
 -- then the slot's values tell the word and no other
 abbrev pub SentWordIsOnly : Type 0

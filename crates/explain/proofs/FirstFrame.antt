@@ -12,11 +12,11 @@ use Rattle.lte_types.specs.declared.entry.Entry.{Entry}
 use Rattle.soft_bits.specs.Soft.{SeenSlot}
 use Rattle.pbch.specs.declared.master.Master.{Master}
 use Rattle.pbch.specs.Values.{coded_values}
-use Rattle.pbch.specs.Master.{IsMaster, HasNoMaster}
+use Rattle.pbch.specs.Master.{IsMaster, HasNoMaster, master_at, IsTold, AreMasters}
 use Rattle.pbch.proofs.Words.{one_master}
 use Rattle.explain.specs.Frame.{IsWhole, seen_slot, broadcast_slot}
 use Rattle.explain.specs.Entries.{identity_at, start_at, master_of, HasNoMasterBefore, IsEntryOf, AreEntriesOf, first_number, Adds, AddsHit}
-use Rattle.explain.specs.Masters.{master_at, IsTold, AreMasters, HasNoMasters, HasMaster, IsFirstWith, entry_of, entry_at, entries_of}
+use Rattle.explain.specs.Masters.{HasNoMasters, HasMaster, IsFirstWith, entry_of, entry_at, entries_of}
 use Rattle.explain.proofs.Sorted.{in_none, in_one, Contains-here}
 use Rattle.explain.proofs.Entries.{same_master, same_entry}
 

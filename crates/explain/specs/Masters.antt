@@ -5,27 +5,10 @@ use Rattle.cs_num.specs.declared.Sample.{Sample}
 use Rattle.lte_types.specs.declared.hit.Hit.{Hit}
 use Rattle.lte_types.specs.declared.entry.Entry.{Entry}
 use Rattle.lte_types.specs.declared.sib1_reason.Sib1Reason.TheVariants.{NotRead}
-use Rattle.soft_bits.specs.Soft.{SeenSlot}
 use Rattle.pbch.specs.declared.master.Master.{Master}
-use Rattle.pbch.specs.Master.{IsMaster, HasNoMaster}
+use Rattle.pbch.specs.Master.{HasNoMaster, master_at, AreMasters}
 use Rattle.explain.specs.Frame.{IsWhole, broadcast_slot}
 use Rattle.explain.specs.Entries.{HasNoMasterBefore, first_number}
-
--- what a list of master blocks has for a phase
-abbrev pub master_at : List (Option Master) → ℕ → Option Master
-master_at masters phase = slice_index_or masters phase None
-
--- it is what the slot tells at that phase
-abbrev pub IsTold : SeenSlot → List (Option Master) → ℕ → Type 0
-IsTold slot masters phase = MatchOption (master_at masters phase) (HasNoMaster slot phase) (IsMaster slot phase)
-
--- these are the master blocks of a slot, by phase
-pub record AreMasters (slot : SeenSlot) (masters : List (Option Master)) : Type 0 where
-  pub count : length masters ≡ 4
-  pub first : IsTold slot masters 0
-  pub second : IsTold slot masters 1
-  pub third : IsTold slot masters 2
-  pub fourth : IsTold slot masters 3
 
 -- no whole frame of 0 to 7 has a master block
 abbrev pub HasNoMasters : List Sample → ℕ → ℕ → Type 0

@@ -2,13 +2,13 @@
 
 ghost use Rattle.std.specs.Prelude.{◌≡◌, MatchOption, is_some};
 ghost use Rattle.finite.specs.Tests.{any_below};
-ghost use Rattle.explain.specs.Masters.{AreMasters, master_at, HasNoMasters, IsFirstWith};
+ghost use Rattle.pbch.specs.Master.{AreMasters, master_at};
+ghost use Rattle.explain.specs.Masters.{HasNoMasters, IsFirstWith};
 
 use crate::frame::{broadcast_slot, is_whole};
 use lte_types::CellId;
-use pbch::{Master, explain_slot};
+use pbch::Master;
 use sample_file::Recording;
-use soft_bits::Slot;
 use tailbite::Trellis;
 
 /// A frame of a cell, from the first on, with the master block that it tells at each phase.
@@ -33,25 +33,12 @@ pub(crate) fn first_masters(
         if !is_whole(recording, start, frame) {
             return None;
         }
-        let at = masters_of(&broadcast_slot(recording, id, start, frame), work);
+        let at = pbch::masters(&broadcast_slot(recording, id, start, frame), work);
         if has_master(&at) {
             return Some(Masters { frame, at });
         }
     }
     None
-}
-
-// The master blocks of a slot, by phase.
-fn masters_of(slot: &Slot, work: &mut Trellis) -> [Option<Master>; 4]
-    requires { slot.now.number ≡ 1 }
-    ensures { AreMasters slot.now result }
-{
-    [
-        explain_slot(slot, 0, work),
-        explain_slot(slot, 1, work),
-        explain_slot(slot, 2, work),
-        explain_slot(slot, 3, work),
-    ]
 }
 
 // Whether any phase has a master block.

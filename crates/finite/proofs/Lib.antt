@@ -7,3 +7,4 @@ pub mod Lists
 pub mod Tables
 pub mod Counts
 pub mod Items
+pub mod Pieces

@@ -5,3 +5,5 @@ pub mod Quadruplets
 pub mod Kept
 pub mod Regions
 pub mod Symbols
+pub mod Carried
+pub mod Pieces

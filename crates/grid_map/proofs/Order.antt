@@ -180,7 +180,7 @@ unfolding found
 found_at shift n few inside = every_below_at 288 (found shift) (all_found shift few) n inside
 
 pub number_of-is : (shift : ℕ) (p : Place) → shift < 3 → is_free shift p ≡ true → (number_of shift p < 240) × (nth_place shift (number_of shift p) ≡ p)
-number_of-is shift p few beside =
+number_of-is shift p few skipping =
     let low : 7 ≤ p.symbol = grind (arith, nat_tests) in
     let high : p.symbol < 11 = grind (arith, nat_tests) in
     let k_fits : p.k < 72 = grind (arith, nat_tests) in
@@ -191,5 +191,5 @@ number_of-is shift p few beside =
     let here : place (7 + n / 72) (n % 72) ≡ p = ap₂ place symbol_is k_is in
     let test : (not (is_free shift p) || has_point shift p) ≡ true =
     subst (λ (q : Place). (not (is_free shift q) || has_point shift q) ≡ true) here (found_at shift n few inside) in
-    let parts = and_parts (nat_lt (number_of shift p) 240) (same_place (nth_place shift (number_of shift p)) p) (implied (is_free shift p) (has_point shift p) test beside) in
+    let parts = and_parts (nat_lt (number_of shift p) 240) (same_place (nth_place shift (number_of shift p)) p) (implied (is_free shift p) (has_point shift p) test skipping) in
     (ltb-true _ _ parts.0, same_place-true _ _ parts.1)

@@ -76,20 +76,20 @@ carries_at_index identity p few =
 
 -- ---- the place of a point, as it is computed
 
-place_in_shared-nth : (shift i beside : ℕ) → i < 96 → beside ≡ skip shift (i % 48 % 2) →
-    place (7 + i / 48) (3 * (i % 48 / 2) + beside) ≡ nth_place shift i
+place_in_shared-nth : (shift i skipping : ℕ) → i < 96 → skipping ≡ skip shift (i % 48 % 2) →
+    place (7 + i / 48) (3 * (i % 48 / 2) + skipping) ≡ nth_place shift i
 unfolding nth_place
-place_in_shared-nth shift i beside low is = let test = lt-ltb i 96 low in rw (test, is) refl
+place_in_shared-nth shift i skipping low is = let test = lt-ltb i 96 low in rw (test, is) refl
 
 place_in_whole-nth : (shift i : ℕ) → 96 ≤ i → place (9 + (i - 96) / 72) ((i - 96) % 72) ≡ nth_place shift i
 unfolding nth_place
 place_in_whole-nth shift i high = let test = le-ltb i 96 high in rw test refl
 
-pub place_in_shared : (identity shift i beside : ℕ) → shift ≡ identity % 3 → i < 96 → beside ≡ (if nat_lt (i % 48 % 2) shift then i % 48 % 2 else i % 48 % 2 + 1) →
-    place (7 + i / 48) (3 * (i % 48 / 2) + beside) ≡ pbch_place identity i
+pub place_in_shared : (identity shift i skipping : ℕ) → shift ≡ identity % 3 → i < 96 → skipping ≡ (if nat_lt (i % 48 % 2) shift then i % 48 % 2 else i % 48 % 2 + 1) →
+    place (7 + i / 48) (3 * (i % 48 / 2) + skipping) ≡ pbch_place identity i
 unfolding skip
-place_in_shared identity shift i beside of low is =
-    place_in_shared-nth (identity % 3) i beside low (is ∙ ap (λ (s : ℕ). skip s (i % 48 % 2)) of) ∙ sym (pbch_place-nth identity i (omega arith))
+place_in_shared identity shift i skipping of low is =
+    place_in_shared-nth (identity % 3) i skipping low (is ∙ ap (λ (s : ℕ). skip s (i % 48 % 2)) of) ∙ sym (pbch_place-nth identity i (omega arith))
 
 pub place_in_whole : (identity i : ℕ) → 96 ≤ i → i < 240 → place (9 + (i - 96) / 72) ((i - 96) % 72) ≡ pbch_place identity i
 place_in_whole identity i high inside = place_in_whole-nth (identity % 3) i high ∙ sym (pbch_place-nth identity i inside)

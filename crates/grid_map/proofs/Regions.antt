@@ -18,7 +18,7 @@ use Rattle.lte_types.specs.declared.duration.Duration.TheVariants.{Normal, Exten
 use Rattle.lte_types.specs.declared.resource.Resource.{Resource}
 use Rattle.lte_types.specs.declared.resource.Resource.TheVariants.{OneSixth, Half, One, Two}
 use Rattle.grid_map.specs.declared.Reg.{Reg}
-use Rattle.grid_map.specs.Place.{beside}
+use Rattle.grid_map.specs.Place.{skipping}
 use Rattle.grid_map.specs.Group.{is_group, group, same_group, symbol_groups}
 use Rattle.grid_map.specs.Control.{pcfich_group, is_in, without, pcfich_groups, left_groups, left_count, phich_count, phich_symbol, phich_number, phich_group_in, phich_group, phich_groups}
 use Rattle.grid_map.specs.Control.{numbered, number_of, is_in_region, region_groups, pdcch_groups, phich_inside, group_count}
@@ -41,7 +41,7 @@ abbrev pub some_left : ℕ → ℕ
 some_left symbol = cond (nat_eq symbol 0) 8 18
 
 abbrev pub nth_left : ℕ → ℕ → ℕ → Reg
-nth_left shift symbol j = group symbol (cond (nat_eq symbol 0) (6 * (3 * (j / 2) + beside shift (j % 2))) (4 * j))
+nth_left shift symbol j = group symbol (cond (nat_eq symbol 0) (6 * (3 * (j / 2) + skipping shift (j % 2))) (4 * j))
 
 left_test : ℕ → ℕ → Bool
 left_test symbol s =

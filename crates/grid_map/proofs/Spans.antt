@@ -6,7 +6,7 @@ use Rattle.std.proofs.lemmas.Bool.Decides.{nat_tests}
 use Rattle.std.proofs.lemmas.List.Elements.{All-contains, All-contains_itself, All-weaker, filter_passes}
 use Rattle.grid_map.specs.declared.Place.{Place}
 use Rattle.grid_map.specs.declared.Reg.{Reg}
-use Rattle.grid_map.specs.Place.{place, beside}
+use Rattle.grid_map.specs.Place.{place, skipping}
 use Rattle.grid_map.specs.Group.{group, span, spanned, is_group, is_kept, group_places}
 
 abbrev pub four : {A : Type 0} → (ℕ → A) → List A
@@ -17,7 +17,7 @@ four-same a b c d e f g h p q r s = cc
 
 -- where place i of a group stands after its first subcarrier
 abbrev pub step_to : ℕ → ℕ → ℕ → ℕ
-step_to symbol shift i = cond (nat_eq symbol 0) (3 * (i / 2) + beside shift (i % 2)) i
+step_to symbol shift i = cond (nat_eq symbol 0) (3 * (i / 2) + skipping shift (i % 2)) i
 
 abbrev pub nth_in : ℕ → Reg → ℕ → Place
 nth_in shift g i = place g.symbol (g.first + step_to g.symbol shift i)
@@ -98,7 +98,7 @@ place_at : (identity : ℕ) (g : Reg) (i : ℕ) (d : Place) → is_group g ≡ t
 place_at identity g i d is l = rw (group_places-four identity g is) (four_at (nth_in (identity % 3) g) i d l)
 
 -- what is known of two places of a group of symbol 0, i and j, where x and y are the places beside
-steps_first : (shift i j : ℕ) → shift < 3 → i < j → j < 4 → 3 * (i / 2) + beside shift (i % 2) < 3 * (j / 2) + beside shift (j % 2)
+steps_first : (shift i j : ℕ) → shift < 3 → i < j → j < 4 → 3 * (i / 2) + skipping shift (i % 2) < 3 * (j / 2) + skipping shift (j % 2)
 steps_first shift i zero few l m = absurd (omega arith)
 steps_first shift zero (suc zero) few l m = grind (arith, nat_tests)
 steps_first shift zero (suc (suc zero)) few l m = grind (arith, nat_tests)
@@ -114,7 +114,7 @@ steps_first shift i (suc (suc (suc (suc j)))) few l m = absurd (omega arith)
 steps_rise : (symbol shift i j : ℕ) → shift < 3 → i < j → j < 4 → step_to symbol shift i < step_to symbol shift j
 steps_rise symbol shift i j few l m = cases (nat_eq symbol 0)
   where
-    cases : (b : Bool) → cond b (3 * (i / 2) + beside shift (i % 2)) i < cond b (3 * (j / 2) + beside shift (j % 2)) j
+    cases : (b : Bool) → cond b (3 * (i / 2) + skipping shift (i % 2)) i < cond b (3 * (j / 2) + skipping shift (j % 2)) j
     cases true = steps_first shift i j few l m
     cases false = l
 
@@ -128,7 +128,7 @@ places_rise identity g i j is l m =
 steps_short : (symbol shift i : ℕ) → i < 4 → step_to symbol shift i < span symbol
 steps_short symbol shift i l = cases (nat_eq symbol 0)
   where
-    cases : (b : Bool) → cond b (3 * (i / 2) + beside shift (i % 2)) i < cond b 6 4
+    cases : (b : Bool) → cond b (3 * (i / 2) + skipping shift (i % 2)) i < cond b 6 4
     cases true = grind (arith, nat_tests)
     cases false = l
 

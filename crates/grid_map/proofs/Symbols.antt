@@ -15,7 +15,7 @@ use Rattle.finite.specs.Tests.{every_below}
 use Rattle.finite.proofs.Tests.{every_below_at}
 use Rattle.crs.specs.Reference.{is_reference, first_subcarrier}
 use Rattle.grid_map.specs.declared.Place.{Place}
-use Rattle.grid_map.specs.Place.{place, symbol_places, places_of, place_number, same_place, beside}
+use Rattle.grid_map.specs.Place.{place, symbol_places, places_of, place_number, same_place, skipping}
 use Rattle.grid_map.specs.Shared.{is_synchronisation, is_in_blocks, is_pdsch, pdsch_places, pdsch_place, block_places, has_references, room, offset}
 use Rattle.grid_map.proofs.Kept.{filter-flat_map, filter-map, filter-same, filter-none, any-filter}
 use Rattle.grid_map.proofs.Order.{same_place-refl, same_place-true}
@@ -33,7 +33,7 @@ abbrev kept_of : ℕ → ℕ
 kept_of shift = cond (nat_eq shift 6) 12 10
 
 abbrev kept_offset : ℕ → ℕ → ℕ
-kept_offset shift n = cond (nat_eq shift 6) n (6 * (n / 5) + beside shift (n % 5))
+kept_offset shift n = cond (nat_eq shift 6) n (6 * (n / 5) + skipping shift (n % 5))
 
 kept_test : ℕ → ℕ → ℕ → Bool
 kept_test shift start blocks =
@@ -140,7 +140,7 @@ offset_is identity symbol n = cases (has_references symbol)
     never = let l = first_small identity (symbol % 7) in grind (arith, nat_tests, l)
 
     cases : (b : Bool) → kept_offset (cond b (first_subcarrier identity (symbol % 7)) 6) n
-        ≡ cond b (6 * (n / 5) + beside (first_subcarrier identity (symbol % 7)) (n % 5)) n
+        ≡ cond b (6 * (n / 5) + skipping (first_subcarrier identity (symbol % 7)) (n % 5)) n
     cases true = rw never refl
     cases false = refl
 

@@ -2,9 +2,8 @@
 -- slot 1, that is symbols 7 to 10 of the subframe, without the places kept for the reference
 -- signals of four antenna ports.
 use Rattle.std.specs.Prelude.{ℕ, ◌%◌, Bool, not, ◌&&◌, nat_eq, nat_lt, nat_le, List, filter, slice_index_or}
-use Rattle.std.specs.List.{position_or_len}
 use Rattle.grid_map.specs.declared.Place.{Place}
-use Rattle.grid_map.specs.Place.{place, places_of, same_place}
+use Rattle.grid_map.specs.Place.{place, places_of, index_in}
 
 -- a place is kept for them: in symbols 7 and 8 every third subcarrier, from the identity modulo 3
 abbrev pub is_reserved : ℕ → Place → Bool
@@ -33,4 +32,4 @@ is_pbch identity p = is_free (identity % 3) p
 
 -- the number of the point that a place carries; 240 at every other place
 unfoldable pub pbch_index : ℕ → Place → ℕ
-pbch_index identity p = position_or_len (same_place p) (pbch_places identity)
+pbch_index identity p = index_in (pbch_places identity) p

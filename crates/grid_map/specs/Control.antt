@@ -1,7 +1,7 @@
 -- The groups of the control region that carry the PCFICH, the PHICH and the PDCCH
 -- (TS 36.211 sections 6.7.4, 6.9.3 and 6.8.5), with six resource blocks.
 use Rattle.std.specs.Prelude.{ℕ, ◌+◌, ◌-◌, ◌*◌, ◌/◌, ◌%◌, Bool, not, ◌&&◌, nat_eq, nat_le, if◌then◌else◌, List, filter, length, slice_index_or}
-use Rattle.std.specs.List.{list_any}
+use Rattle.std.specs.List.{list_any, flat_map}
 use Rattle.finite.specs.Lists.{values_below, joined_below}
 use Rattle.conv_code.specs.Reading.{stream_order}
 use Rattle.lte_types.specs.declared.duration.Duration.{Duration}
@@ -9,7 +9,8 @@ use Rattle.lte_types.specs.declared.duration.Duration.TheVariants.{Normal, Exten
 use Rattle.lte_types.specs.declared.resource.Resource.{Resource}
 use Rattle.lte_types.specs.declared.resource.Resource.TheVariants.{OneSixth, Half, One, Two}
 use Rattle.grid_map.specs.declared.Reg.{Reg}
-use Rattle.grid_map.specs.Group.{group, is_group, same_group, symbol_groups}
+use Rattle.grid_map.specs.declared.Place.{Place}
+use Rattle.grid_map.specs.Group.{group, is_group, same_group, symbol_groups, group_places}
 
 -- a group is one of the list
 abbrev pub is_in : List Reg → Reg → Bool
@@ -26,6 +27,10 @@ pcfich_group identity i = group 0 ((6 * (identity % 12) + 18 * i) % 72)
 -- the four groups of the PCFICH
 unfoldable pub pcfich_groups : ℕ → List Reg
 pcfich_groups identity = values_below 4 (pcfich_group identity)
+
+-- the sixteen places of the PCFICH, in the order in which its points take them
+unfoldable pub pcfich_places : ℕ → List Place
+pcfich_places identity = flat_map (group_places identity) (pcfich_groups identity)
 
 -- the groups of a symbol that the PCFICH leaves, in the order of subcarriers
 unfoldable pub left_groups : ℕ → ℕ → List Reg
@@ -96,7 +101,7 @@ phich_inside cfi Extended = if nat_eq cfi 1 then 2 else 3
 abbrev pub group_count : ℕ → Duration → Resource → ℕ
 group_count cfi duration resource = 12 + 18 * cfi - 4 - phich_inside cfi duration * phich_count resource
 
--- the count of control elements: one has nine groups (section 6.8.1)
+-- the count of control channel elements (CCE): one has nine groups (section 6.8.1)
 abbrev pub element_count : ℕ → Duration → Resource → ℕ
 element_count cfi duration resource = group_count cfi duration resource / 9
 

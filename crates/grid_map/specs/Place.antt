@@ -1,7 +1,7 @@
 -- Places of a subframe's grid: symbols 0 to 13, each with subcarriers 0 to 71
 -- (TS 36.211 section 6.2.2).
 use Rattle.std.specs.Prelude.{ℕ, ◌+◌, ◌*◌, Bool, ◌&&◌, nat_eq, nat_lt, if◌then◌else◌, List, map}
-use Rattle.std.specs.List.{range_with_len, flat_map}
+use Rattle.std.specs.List.{range_with_len, flat_map, position_or_len}
 use Rattle.grid_map.specs.declared.Place.{Place}
 
 abbrev pub place : ℕ → ℕ → Place
@@ -22,6 +22,10 @@ place_number p = 72 * p.symbol + p.k
 abbrev pub same_place : Place → Place → Bool
 same_place p q = nat_eq p.symbol q.symbol && nat_eq p.k q.k
 
+-- the number of a place in a list of places; their count where it is not in it
+abbrev pub index_in : List Place → Place → ℕ
+index_in places p = position_or_len (same_place p) places
+
 -- number n of the numbers from 0 on without the reserved one
-abbrev pub beside : ℕ → ℕ → ℕ
-beside reserved n = if nat_lt n reserved then n else n + 1
+abbrev pub skipping : ℕ → ℕ → ℕ
+skipping reserved n = if nat_lt n reserved then n else n + 1

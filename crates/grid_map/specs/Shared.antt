@@ -2,7 +2,7 @@
 use Rattle.std.specs.Prelude.{ℕ, ◌+◌, ◌*◌, ◌/◌, ◌%◌, Bool, not, ◌&&◌, ◌||◌, nat_eq, nat_lt, nat_le, if◌then◌else◌, List, filter, slice_index_or}
 use Rattle.crs.specs.Reference.{is_reference, first_subcarrier}
 use Rattle.grid_map.specs.declared.Place.{Place}
-use Rattle.grid_map.specs.Place.{place, places_of, beside}
+use Rattle.grid_map.specs.Place.{place, places_of, skipping}
 
 -- the symbols of the synchronisation signals, which are left out whole (own: all 72 subcarriers)
 abbrev pub is_synchronisation : ℕ → Bool
@@ -47,4 +47,4 @@ room symbol blocks =
 -- subcarriers a symbol with reference places has five
 abbrev pub offset : ℕ → ℕ → ℕ → ℕ
 offset identity symbol n =
-    if has_references symbol then 6 * (n / 5) + beside (first_subcarrier identity (symbol % 7)) (n % 5) else n
+    if has_references symbol then 6 * (n / 5) + skipping (first_subcarrier identity (symbol % 7)) (n % 5) else n

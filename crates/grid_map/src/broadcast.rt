@@ -1,9 +1,11 @@
-ghost use Rattle.std.specs.Prelude.{◌≡◌, ◌+◌, ◌<◌, ◌≤◌, ◌↔◌, ℕ, length, slice_get, IsTrue};
+//! The places of the physical broadcast channel.
+
+ghost use Rattle.std.specs.Prelude.{◌≡◌, ◌+◌, ◌<◌, ◌≤◌, ◌↔◌, ℕ, All, length, slice_get, IsTrue};
 ghost use Rattle.grid_map.specs.declared.Place.{Place};
 ghost use Rattle.grid_map.specs.Place.{place_number};
 ghost use Rattle.grid_map.specs.Broadcast.{pbch_places, pbch_place, is_pbch, pbch_index};
 
-use crate::{Place, beside};
+use crate::{Place, skipping};
 use lte_types::CellId;
 
 /// The place that point `i` of the broadcast channel takes: symbols 7 to 10 of the subframe, which
@@ -19,7 +21,7 @@ pub fn pbch(id: CellId, i: usize) -> Place
 {
     if i < 96 {
         let n = i % 48;
-        let k = 3 * (n / 2) + beside(n % 2, id.n2() as usize);
+        let k = 3 * (n / 2) + skipping(n % 2, id.n2() as usize);
         Place {
             symbol: (7 + i / 48) as u8,
             k: k as u8,
@@ -31,6 +33,18 @@ pub fn pbch(id: CellId, i: usize) -> Place
             k: (n % 72) as u8,
         }
     }
+}
+
+/// The places of all its 240 points, in their order.
+pub fn pbch_places(id: CellId) -> [Place; 240]
+    ensures places { result ≡ pbch_places id }
+    ensures inside { All (λ p. (p.symbol < 14) × (p.k < 72)) result }
+{
+    let mut places = [Place { symbol: 0, k: 0 }; 240];
+    for i in 0..240 {
+        places[i] = pbch(id, i);
+    }
+    places
 }
 
 /// The broadcast channel has 240 places, subcarriers first and then symbols, each once. Its places

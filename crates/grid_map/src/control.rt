@@ -5,12 +5,13 @@ ghost use Rattle.arrayvec.specs.ArrayVec.{array_vec_len};
 ghost use Rattle.lte_types.specs.declared.duration.Duration.{Duration};
 ghost use Rattle.lte_types.specs.declared.resource.Resource.{Resource};
 ghost use Rattle.grid_map.specs.declared.Reg.{Reg};
-ghost use Rattle.grid_map.specs.Place.{beside};
+ghost use Rattle.grid_map.specs.declared.Place.{Place};
+ghost use Rattle.grid_map.specs.Place.{place, skipping};
 ghost use Rattle.grid_map.specs.Group.{group, is_group};
-ghost use Rattle.grid_map.specs.Control.{is_in, pcfich_group, pcfich_groups, left_groups, phich_count, phich_symbol, phich_group, phich_group_in, phich_groups};
+ghost use Rattle.grid_map.specs.Control.{is_in, pcfich_group, pcfich_groups, pcfich_places, left_groups, phich_count, phich_symbol, phich_group, phich_group_in, phich_groups};
 ghost use Rattle.grid_map.specs.Control.{is_in_region, region_groups, number_of, numbered, pdcch_groups, group_count, element_count};
 
-use crate::{Reg, beside};
+use crate::{Place, Reg, reg_places, skipping};
 use arrayvec::ArrayVec;
 use lte_types::{CellId, Cfi, Duration, Mib, Resource};
 
@@ -38,6 +39,32 @@ fn pcfich_number(id: CellId, i: u16) -> Reg
     }
 }
 
+// Point i of its sixteen: four in each group.
+fn pcfich_point(id: CellId, groups: &[Reg; 4], i: usize) -> Place
+    requires groups { groups.now ≡ pcfich_groups id }
+    requires inside { All (λ g. IsTrue (is_group g) × (g.symbol ≡ 0)) groups.now }
+    requires i { i < 16 }
+    ensures place { result ≡ slice_index_or (pcfich_places id) i (place 0 0) }
+    ensures symbol { result.symbol ≡ 0 }
+    ensures k { result.k < 72 }
+{
+    reg_places(id, groups[i / 4])[i % 4]
+}
+
+/// The sixteen places of the PCFICH, in the order in which its points take them: those of its groups,
+/// one after the other (TS 36.211 section 6.7.4).
+pub fn pcfich_places(id: CellId) -> [Place; 16]
+    ensures places { result ≡ pcfich_places id }
+    ensures inside { All (λ p. (p.symbol < 14) × (p.k < 72)) result }
+{
+    let groups = pcfich(id);
+    let mut places = [Place { symbol: 0, k: 0 }; 16];
+    for i in 0..16 {
+        places[i] = pcfich_point(id, &groups, i);
+    }
+    places
+}
+
 // How many groups of a symbol the PCFICH leaves.
 fn left_in(symbol: u8) -> usize
     ensures { result ≡ (if nat_eq symbol 0 then 8 else 18) }
@@ -49,11 +76,11 @@ fn left_in(symbol: u8) -> usize
 // of every three.
 fn left_begins(id: CellId, symbol: u8, number: usize) -> usize
     requires { number < 18 }
-    ensures value { result ≡ (if nat_eq symbol 0 then 6 * (3 * (number / 2) + beside (id % 3) (number % 2)) else 4 * number) }
+    ensures value { result ≡ (if nat_eq symbol 0 then 6 * (3 * (number / 2) + skipping (id % 3) (number % 2)) else 4 * number) }
     ensures bound { result < 256 }
 {
     if symbol == 0 {
-        6 * (3 * (number / 2) + beside(number % 2, id.n2() as usize))
+        6 * (3 * (number / 2) + skipping(number % 2, id.n2() as usize))
     } else {
         4 * number
     }
@@ -128,13 +155,6 @@ fn phich(id: CellId, duration: Duration, resource: Resource) -> ArrayVec<Reg, 6>
     groups
 }
 
-// The group is one of these.
-fn is_one_of(reg: Reg, groups: &[Reg]) -> bool
-    ensures { result ≡ is_in groups.now reg }
-{
-    groups.iter().any(|group| reg.symbol == group.symbol && reg.first == group.first)
-}
-
 // The region with this last symbol has the group.
 fn is_inside(reg: Reg, last: u8) -> bool
     ensures { result ≡ is_in_region last reg }
@@ -158,7 +178,7 @@ fn numbered_reg(n: u16) -> Reg
 fn is_left(reg: Reg, last: u8, pcfich: &[Reg], phich: &[Reg]) -> bool
     ensures { result ≡ (is_in_region last reg && not (is_in pcfich.now reg) && not (is_in phich.now reg)) }
 {
-    is_inside(reg, last) && !is_one_of(reg, pcfich) && !is_one_of(reg, phich)
+    is_inside(reg, last) && !pcfich.contains(&reg) && !phich.contains(&reg)
 }
 
 /// The groups of the PDCCH: those of the control region, which has `cfi` + 1 symbols, that the PCFICH
@@ -184,7 +204,7 @@ pub fn pdcch(id: CellId, cfi: Cfi, mib: Mib) -> ArrayVec<Reg, 66>
 
 /// The groups of the PCFICH are four. Those of the PDCCH are the groups of the region that neither the
 /// PCFICH nor the PHICH takes, each once, by first subcarrier and then by symbol. Their count is a
-/// fact of indicator, duration and resource alone: two control elements with indicator 1, and at
+/// fact of indicator, duration and resource alone: two control channel elements with indicator 1, and at
 /// least four with 2 and 3.
 pub fn control_groups()
     ensures pcfich_inside { (identity i : ℕ) → i < 4 → IsTrue (is_group (pcfich_group identity i)) }

@@ -4,10 +4,10 @@ ghost use Rattle.std.specs.Prelude.{◌≡◌, ◌+◌, ◌*◌, ◌/◌, ◌%�
 ghost use Rattle.std.specs.List.{Contains};
 ghost use Rattle.grid_map.specs.declared.Place.{Place};
 ghost use Rattle.grid_map.specs.declared.Reg.{Reg};
-ghost use Rattle.grid_map.specs.Place.{place, beside};
+ghost use Rattle.grid_map.specs.Place.{place, skipping};
 ghost use Rattle.grid_map.specs.Group.{is_group, is_kept, group_places};
 
-use crate::{Place, Reg, beside};
+use crate::{Place, Reg, skipping};
 use lte_types::CellId;
 
 /// The four places of a group of the control region, in the order of subcarriers
@@ -30,10 +30,10 @@ pub fn reg_places(id: CellId, reg: Reg) -> [Place; 4]
 fn place_in(id: CellId, reg: Reg, i: usize) -> Place
     requires group { IsTrue (is_group reg) }
     requires i { i < 4 }
-    ensures { result ≡ place reg.symbol (reg.first + (if nat_eq reg.symbol 0 then 3 * (i / 2) + beside (id % 3) (i % 2) else i)) }
+    ensures { result ≡ place reg.symbol (reg.first + (if nat_eq reg.symbol 0 then 3 * (i / 2) + skipping (id % 3) (i % 2) else i)) }
 {
     let offset = if reg.symbol == 0 {
-        3 * (i / 2) + beside(i % 2, id.n2() as usize)
+        3 * (i / 2) + skipping(i % 2, id.n2() as usize)
     } else {
         i
     };

@@ -3,20 +3,24 @@
 #![tactic(auto)]
 
 ghost use Rattle.std.specs.Prelude.{◌≡◌, ◌<◌};
-ghost use Rattle.grid_map.specs.Place.{beside};
+ghost use Rattle.grid_map.specs.Place.{skipping};
 
 mod broadcast;
+mod candidate;
 mod control;
 mod group;
 mod interleaver;
+mod scrambling;
 mod shared;
 #[cfg(test)]
 mod tests;
 
-pub use broadcast::{pbch, pbch_order};
-pub use control::{control_groups, pcfich, pdcch};
+pub use broadcast::{pbch, pbch_order, pbch_places};
+pub use candidate::{candidate_places, quadruplets_carried};
+pub use control::{control_groups, pcfich, pcfich_places, pdcch};
 pub use group::{places_of_groups, reg_places};
 pub use interleaver::{quadruplet, quadruplets_permute};
+pub use scrambling::{indicator_bit, pbch_c_init, pcfich_c_init, pdcch_c_init, pdsch_c_init};
 pub use shared::{pdsch, pdsch_order};
 
 /// A place of a subframe's grid: a resource element (TS 36.211 section 6.2.2).
@@ -38,9 +42,9 @@ pub struct Reg {
 }
 
 // Number n of the subcarriers from 0 on without the reserved one.
-fn beside(n: usize, reserved: usize) -> usize
+fn skipping(n: usize, reserved: usize) -> usize
     requires { n < 5 }
-    ensures { result ≡ beside reserved n }
+    ensures { result ≡ skipping reserved n }
 {
     if n < reserved { n } else { n + 1 }
 }

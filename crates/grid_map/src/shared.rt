@@ -6,7 +6,7 @@ ghost use Rattle.grid_map.specs.declared.Place.{Place};
 ghost use Rattle.grid_map.specs.Place.{place, place_number, same_place};
 ghost use Rattle.grid_map.specs.Shared.{has_references, room, offset, is_pdsch, pdsch_places, pdsch_place, block_places};
 
-use crate::{Place, beside};
+use crate::{Place, skipping};
 use crs::first_subcarrier;
 use lte_types::{CellId, Cfi};
 
@@ -39,7 +39,7 @@ fn offset_in(id: CellId, symbol: u8, n: usize) -> usize
     ensures bound { result ≤ n + n / 5 + 1 }
 {
     if has_pilots(symbol) {
-        6 * (n / 5) + beside(n % 5, first_subcarrier(id, symbol % 7) as usize)
+        6 * (n / 5) + skipping(n % 5, first_subcarrier(id, symbol % 7) as usize)
     } else {
         n
     }

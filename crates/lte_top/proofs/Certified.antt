@@ -17,17 +17,14 @@ use Rattle.cs_outside.proofs.Writing.{write_nothing, write_then, front_after, fr
 use Rattle.lte_types.specs.declared.entry.Entry.{Entry}
 use Rattle.finite.specs.Lists.{values_below}
 use Rattle.finite.proofs.Lists.{values_below-length, values_below_at}
-use Rattle.cs_num.specs.Rounding.{clamped}
-use Rattle.gold.specs.Gold.{gold_bit}
-use Rattle.grid_map.specs.Broadcast.{pbch_place}
-use Rattle.soft_bits.specs.Soft.{SeenSlot, soft_value, soft_values, turned_back, pilot_energy}
+use Rattle.soft_bits.specs.Soft.{SeenSlot}
 use Rattle.conv_code.specs.Reading.{summed, summed_at}
 use Rattle.conv_code.specs.Cost.{word_cost}
 use Rattle.tailbite.specs.LeastWord.{IsLeastWord}
-use Rattle.pbch.specs.Values.{seen_value, value, frame_values, coded_values}
+use Rattle.pbch.specs.Values.{frame_values, coded_values}
 use Rattle.pbch.specs.Master.{Tells, TellsMaster, Carries}
 use Rattle.tailbite.proofs.Only.{one_word}
-use Rattle.conv_code.proofs.Sizes.{sizes_of_sums}
+use Rattle.pbch.proofs.Sums.{coded_values-small}
 use Rattle.tail_cert.specs.Certificate.{Held, IsWhole, IsAccepted, IsTriple, Counted}
 use Rattle.tail_cert.specs.Form.{count, bytes_of}
 use Rattle.tail_cert.proofs.Codes.{length-bytes_of}
@@ -83,43 +80,12 @@ pub certifies_filled : (samples : List Sample) (entry : Entry) (c : Held) (v : L
 certifies_filled samples entry c v whole accepted filled values tells least =
     certifies samples entry c whole accepted (filled ∙ values) (subst (λ v. TellsMaster v (master_of entry)) values tells) (subst (λ v. IsLeastWord v c.word) (sym filled) least)
 
--- soft values are small
-soft_small : (z : ℤ) (energy : ℕ) → nat_abs (soft_value z energy) ≤ 127
-soft_small z energy = elim (eqb_tells energy 0) [
-  | inl (t, same) ↦ rw t (omega arith)
-  | inr (f, other) ↦ rw f (clamped_small (int_div (pos 6 *ℤ z) (pos energy)))
-]
-  where
-    clamped_small : (x : ℤ) → nat_abs (clamped x 127) ≤ 127
-    clamped_small (pos n) = omega arith
-    clamped_small (negsuc n) = omega (arith, ints)
-
-seen_small : (slot : SeenSlot) (i : ℕ) → nat_abs (seen_value slot i) ≤ 127
-unfolding soft_values
-seen_small slot i =
-    let place = pbch_place slot.identity (i / 2) in
-    elim (cases_lt (i % 2) 1) [
-      | inl real ↦ let e : i % 2 ≡ 0 = omega arith in rw e (soft_small (turned_back slot (place.symbol - 7) place.k).re (pilot_energy slot))
-      | inr imaginary ↦ let e : i % 2 ≡ 1 = omega arith in rw e (soft_small (turned_back slot (place.symbol - 7) place.k).im (pilot_energy slot))
-    ]
-
-value_small : (slot : SeenSlot) (phase i : ℕ) → nat_abs (value slot phase i) ≤ 127
-value_small slot phase i = by_bit (gold_bit slot.identity (480 * phase + i))
-  where
-    by_bit : (b : Bool) → nat_abs (cond b (neg_ℤ (seen_value slot i)) (seen_value slot i)) ≤ 127
-    by_bit false = seen_small slot i
-    by_bit true = let s = seen_small slot i in omega (arith, ints, s)
-
 -- the values of a slot have the shape and the sizes of a certificate
 values_fit : (slot : SeenSlot) (phase : ℕ) → Counted 40 IsTriple (coded_values slot phase)
-unfolding coded_values frame_values summed
+unfolding coded_values summed
 values_fit slot phase =
-    let bits = values_below 480 (value slot phase) in
-    let small : AllWithin 127 bits = λ i d inside.
-    let below : i < 480 = omega (arith, inside, values_below-length 480 (value slot phase)) in
-    rw (values_below_at (value slot phase) 480 i d below) (value_small slot phase i) in
-    let whole = values_below-length 480 (value slot phase) in
-    let sizes = sizes_of_sums 40 bits 127 4 (omega arith) (omega arith) small (omega (arith, whole)) in
+    let bits = frame_values slot phase in
+    let sizes = coded_values-small slot phase in
     let row = λ (k : ℕ). values_below 3 (summed_at 40 bits (length bits) k) in
     record {
       count = values_below-length 40 row;

@@ -1,3 +1,4 @@
 pub mod Values
+pub mod Frames
 pub mod Master
 pub mod Laws

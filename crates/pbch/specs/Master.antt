@@ -1,5 +1,5 @@
 -- The master block that a slot tells (TS 36.212 section 5.3.1, TS 36.331 section 6.2.2).
-use Rattle.std.specs.Prelude.{ℕ, ◌*◌, ◌<◌, ◌≤◌, ◌≡◌, ◌⊎◌, nat_eq, if◌then◌else◌, Bool, List, [], ◌∷◌, slice_range, slice_index_or, ℤ, nat_abs, bit_xor}
+use Rattle.std.specs.Prelude.{ℕ, ◌*◌, ◌<◌, ◌≤◌, ◌≡◌, ◌⊎◌, nat_eq, if◌then◌else◌, Bool, List, [], ◌∷◌, slice_range, slice_index_or, ℤ, nat_abs, bit_xor, Option, None, MatchOption, length}
 use Rattle.finite.specs.Sums.{total_below}
 use Rattle.finite.specs.Tables.{sum_at}
 use Rattle.cs_bits.specs.Numbers.{field}
@@ -46,10 +46,32 @@ pub record TellsMaster (values : List (List ℤ)) (master : Master) : Type 0 whe
   pub mib : Carries word master.mib
   pub cost : master.cost ≡ word_cost values word
 
+-- these values tell no word
+abbrev pub TellsNothing : List (List ℤ) → Type 0
+TellsNothing values = (word : List Bool) (ports : ℕ) → Tells values word ports → ⊥
+
 -- the slot has this master at the phase
 abbrev pub IsMaster : SeenSlot → ℕ → Master → Type 0
 IsMaster slot phase master = TellsMaster (coded_values slot phase) master
 
--- the slot has no master at the phase: its values tell no word
+-- the slot has no master at the phase
 abbrev pub HasNoMaster : SeenSlot → ℕ → Type 0
-HasNoMaster slot phase = (word : List Bool) (ports : ℕ) → Tells (coded_values slot phase) word ports → ⊥
+HasNoMaster slot phase = TellsNothing (coded_values slot phase)
+
+-- ---- at all four phases
+
+-- what a list of master blocks has for a phase
+abbrev pub master_at : List (Option Master) → ℕ → Option Master
+master_at masters phase = slice_index_or masters phase None
+
+-- it is what the slot tells at that phase
+abbrev pub IsTold : SeenSlot → List (Option Master) → ℕ → Type 0
+IsTold slot masters phase = MatchOption (master_at masters phase) (HasNoMaster slot phase) (IsMaster slot phase)
+
+-- these are the master blocks of a slot, by phase
+pub record AreMasters (slot : SeenSlot) (masters : List (Option Master)) : Type 0 where
+  pub count : length masters ≡ 4
+  pub first : IsTold slot masters 0
+  pub second : IsTold slot masters 1
+  pub third : IsTold slot masters 2
+  pub fourth : IsTold slot masters 3

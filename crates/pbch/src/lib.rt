@@ -8,7 +8,7 @@ mod explain;
 mod laws;
 mod master;
 
-pub use broadcast::values;
-pub use explain::explain_slot;
+pub use broadcast::{frames, values};
+pub use explain::{explain_slot, master_of, masters};
 pub use laws::at_most_one_master;
 pub use master::Master;

@@ -2,7 +2,7 @@
 //! that they tell (TS 36.211 section 6.7, TS 36.212 section 5.3.4).
 #![tactic(auto)]
 
-mod indicator;
+mod least;
 mod values;
 
-pub use indicator::{cfi, only_one_indicator};
+pub use least::{cfi, indicator, only_one_indicator};

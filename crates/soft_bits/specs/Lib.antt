@@ -1,3 +1,4 @@
 pub mod Estimate
 pub mod Soft
 pub mod Kept
+pub mod Places

@@ -3,6 +3,7 @@
 
 mod line;
 mod pilots;
+mod places;
 mod slot;
 #[cfg(test)]
 mod tests;
@@ -10,5 +11,6 @@ mod value;
 
 pub use line::estimate;
 pub use pilots::pilots_are_the_reference_places;
+pub use places::{descramble, fill_soft};
 pub use slot::Slot;
 pub use value::soft;

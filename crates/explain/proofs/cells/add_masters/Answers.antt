@@ -3,8 +3,9 @@ use Rattle.std.proofs.lemmas.List.{get_or_default}
 use Rattle.finite.specs.Lists.{joined_below}
 use Rattle.finite.proofs.Lists.{joined_below_none, joined_below_more}
 use Rattle.lte_types.specs.declared.entry.Entry.{Entry}
+use Rattle.pbch.specs.Master.{master_at}
 use Rattle.explain.specs.Entries.{Adds}
-use Rattle.explain.specs.Masters.{entry_at, master_at}
+use Rattle.explain.specs.Masters.{entry_at}
 use Rattle.explain.proofs.Kept.{adds_none, adds_more}
 use Rattle.explain.proofs.cells.add_masters.Goals as goal
 

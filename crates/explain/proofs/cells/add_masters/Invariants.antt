@@ -1,7 +1,8 @@
 use Rattle.std.proofs.Common.{◌+◌, ◌≤◌, length}
 use Rattle.finite.specs.Lists.{joined_below}
+use Rattle.pbch.specs.Master.{master_at}
 use Rattle.explain.specs.Entries.{Adds}
-use Rattle.explain.specs.Masters.{entry_at, master_at}
+use Rattle.explain.specs.Masters.{entry_at}
 use Rattle.explain.proofs.cells.add_masters.Given as goal
 
 abbrev pub invariant-loop-phase : goal.invariant-loop-phase

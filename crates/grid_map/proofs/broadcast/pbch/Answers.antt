@@ -5,7 +5,7 @@ use Rattle.grid_map.proofs.broadcast.pbch.Goals as goal
 
 pub returns-then-i-lt96-clause-place : goal.returns-then-i-lt96-clause-place
 returns-then-i-lt96-clause-place c =
-    place_in_shared c.args.id c.n2.result c.args.i c.beside.result c.n2.ensures.value c.if-i-lt96.true c.beside.ensures
+    place_in_shared c.args.id c.n2.result c.args.i c.skipping.result c.n2.ensures.value c.if-i-lt96.true c.skipping.ensures
 
 pub returns-then-i-lt96-clause-item : goal.returns-then-i-lt96-clause-item
 returns-then-i-lt96-clause-item c =

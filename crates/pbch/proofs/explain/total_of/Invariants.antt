@@ -6,5 +6,5 @@ use Rattle.pbch.proofs.explain.total_of.Given as goal
 abbrev pub invariant-loop-place : goal.invariant-loop-place
 invariant-loop-place l = record {
   so_far : l.total ≡ total_below l.place-index (λ k. total_below 3 (λ t. nat_abs (sum_at l.values k t)));
-  small : l.total ≤ l.place-index * 1524;
+  small : l.total ≤ l.place-index * 3145728;
 }

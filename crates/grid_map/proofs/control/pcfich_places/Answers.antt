@@ -1,0 +1,33 @@
+use Rattle.std.proofs.Common.{◌≡◌, ℕ, ◌+◌, ◌/◌, ◌%◌, ◌<◌, ◌∙◌, get_or, length, length-set, refl, ap, sym, arith}
+use Rattle.std.specs.Prelude.{All}
+use Rattle.std.proofs.lemmas.List.{ext_get_or}
+use Rattle.std.proofs.lemmas.List.Elements.{All-replicate, All-set}
+use Rattle.std.proofs.lemmas.List.Edits.{fill_by_more}
+use Rattle.grid_map.specs.declared.Place.{Place}
+use Rattle.grid_map.specs.Place.{place}
+use Rattle.grid_map.specs.Control.{pcfich_places}
+use Rattle.grid_map.proofs.Pieces.{length-pcfich_places}
+use Rattle.grid_map.proofs.control.pcfich_places.Goals as goal
+
+pub loop-i-init : goal.loop-i-init
+loop-i-init c = record {
+  whole = refl;
+  each = λ k below. absurd (omega (arith, below));
+  inside = All-replicate (λ (p : Place). (p.symbol < 14) × (p.k < 72)) 16 (place 0 0) (omega arith, omega arith);
+}
+
+pub loop-i-preserved : goal.loop-i-preserved
+loop-i-preserved c =
+    let i : ℕ = c.loop-i.i in
+    let here = c.pcfich_point.ensures.place in
+    record {
+      whole = length-set c.loop-i.places i _ ∙ c.loop-i.invariant.whole;
+      each = rw here (fill_by_more (λ k. get_or (pcfich_places c.args.id) k (place 0 0)) c.loop-i.places i (place 0 0) (omega (arith, c.loop-i.invariant.whole)) c.loop-i.invariant.each);
+      inside = All-set (λ (p : Place). (p.symbol < 14) × (p.k < 72)) c.loop-i.places i _ (omega (arith, c.pcfich_point.ensures.symbol), c.pcfich_point.ensures.k) c.loop-i.invariant.inside;
+    }
+
+pub returns-clause-places : goal.returns-clause-places
+returns-clause-places c =
+    let size = length-pcfich_places c.args.id in
+    ext_get_or (place 0 0) c.loop-i.places (pcfich_places c.args.id) (c.loop-i.invariant.whole ∙ sym size)
+    (λ k below. c.loop-i.invariant.each k (let whole = c.loop-i.invariant.whole in omega (arith, below, whole)))

@@ -1,0 +1,78 @@
+//! The places of the candidate of the common search space.
+
+ghost use Rattle.std.specs.Prelude.{◌≡◌, ◌<◌, ◌≤◌, ◌*◌, ℕ, All, IsTrue, length, slice_index_or};
+ghost use Rattle.finite.specs.Lists.{values_below};
+ghost use Rattle.grid_map.specs.Place.{place};
+ghost use Rattle.grid_map.specs.Group.{group, group_places, is_group};
+ghost use Rattle.grid_map.specs.Control.{quadruplet_at};
+ghost use Rattle.grid_map.specs.Candidate.{group_of_quadruplet, candidate_places};
+
+use crate::{Place, Reg, quadruplet, reg_places};
+use lte_types::CellId;
+
+// Which of `count` groups carries quadruplet q.
+fn group_of(id: CellId, count: u8, q: u8) -> u8
+    requires few { count ≤ 66 }
+    requires q { q < count }
+    ensures value { result ≡ group_of_quadruplet id count q }
+    ensures bound { result < count }
+{
+    for r in 0..count {
+        if quadruplet(id, count, r) == q {
+            return r;
+        }
+    }
+    unreachable!()
+}
+
+// Which of `count` groups carry quadruplets 0 to 35.
+fn groups_of(id: CellId, count: u8) -> [u8; 36]
+    requires few { count ≤ 66 }
+    requires enough { 36 ≤ count }
+    ensures values { result ≡ values_below 36 (group_of_quadruplet id count) }
+    ensures inside { All (λ r. r < count) result }
+{
+    let mut groups = [0; 36];
+    for q in 0..36_u8 {
+        groups[q as usize] = group_of(id, count, q);
+    }
+    groups
+}
+
+// Place j of a group of these.
+fn place_of(id: CellId, groups: &[Reg], number: u8, j: usize) -> Place
+    requires inside { All (λ g. IsTrue (is_group g)) groups.now }
+    requires number { number < length groups.now }
+    requires j { j < 4 }
+    ensures place { result ≡ slice_index_or (group_places id (slice_index_or groups.now number (group 0 0))) j (place 0 0) }
+    ensures symbol { result.symbol < 14 }
+    ensures k { result.k < 72 }
+{
+    reg_places(id, groups[number as usize])[j]
+}
+
+/// The places of control channel elements 0 to 3, where these are the groups of the PDCCH: those of
+/// the groups that carry quadruplets 0 to 35, in the order of the quadruplets
+/// (TS 36.211 section 6.8.5). `groups` are 36 to 66.
+pub fn candidate_places(id: CellId, groups: &[Reg]) -> [Place; 144]
+    requires few { length groups.now ≤ 66 }
+    requires enough { 36 ≤ length groups.now }
+    requires inside { All (λ g. IsTrue (is_group g)) groups.now }
+    ensures places { result ≡ candidate_places id groups.now }
+    ensures inside { All (λ p. (p.symbol < 14) × (p.k < 72)) result }
+{
+    let order = groups_of(id, groups.len() as u8);
+    let mut places = [Place { symbol: 0, k: 0 }; 144];
+    for i in 0..144 {
+        places[i] = place_of(id, groups, order[i / 4], i % 4);
+    }
+    places
+}
+
+/// The group that carries a quadruplet is one of so many, at most 66, and carries no other.
+pub fn quadruplets_carried()
+    ensures inside { (identity count q : ℕ) → count ≤ 66 → q < count →
+        group_of_quadruplet identity count q < count }
+    ensures carries { (identity count q : ℕ) → count ≤ 66 → q < count →
+        quadruplet_at identity count (group_of_quadruplet identity count q) ≡ q }
+{}

@@ -1,0 +1,66 @@
+//! The indicator that the values tell.
+
+ghost use Rattle.std.specs.Prelude.{◌≡◌, ℕ, ◌*◌, ◌<◌, ◌≤◌, ℤ, List, nat_le, ◌&&◌, length, if◌then◌else◌};
+ghost use Rattle.finite.specs.Sizes.{AllWithin};
+ghost use Rattle.pcfich.specs.Values.{indicator_values};
+ghost use Rattle.pcfich.specs.Indicator.{cost, IsIndicator, Speak};
+
+use crate::values::received;
+use cs_bits::disagreement_of;
+use grid_map::indicator_bit;
+use lte_types::Cfi;
+use soft_bits::Slot;
+
+/// The control format indicator of least cost in slot 10, the first of subframe 5; of equals the
+/// lowest. A cost is the sum of the sizes of the values that speak against the indicator's 32 bits.
+pub fn cfi(slot: &Slot) -> Cfi
+    requires { slot.now.number ≡ 10 }
+    ensures { IsIndicator (indicator_values slot.now) result }
+{
+    indicator(&received(slot))
+}
+
+/// The control format indicator of least cost by the 32 values of its channel, each of size at most
+/// 127; of equals the lowest.
+pub fn indicator(values: &[i16; 32]) -> Cfi
+    requires { All (λ value. nat_abs value ≤ 127) values.now }
+    ensures { IsIndicator values.now result }
+{
+    let best = least_of(cost_of(values, 1), cost_of(values, 2), cost_of(values, 3));
+    Cfi::new(best).unwrap()
+}
+
+// The number of the least of three costs; of equals the first.
+fn least_of(first: u32, second: u32, third: u32) -> u8
+    ensures value { result ≡ (if nat_le first second && nat_le first third then 1 else (if nat_le second third then 2 else 3)) }
+    ensures range { (1 ≤ result) × (result ≤ 3) }
+{
+    if first <= second && first <= third {
+        1
+    } else if second <= third {
+        2
+    } else {
+        3
+    }
+}
+
+// What an indicator costs.
+fn cost_of(values: &[i16; 32], indicator: u8) -> u32
+    requires some { 1 ≤ indicator }
+    requires sizes { AllWithin 127 values.now }
+    ensures { result ≡ cost values.now indicator }
+{
+    let mut cost = 0;
+    for i in 0..32 {
+        cost += disagreement_of(values[i] as i32, indicator_bit(indicator, i));
+    }
+    cost
+}
+
+/// Values tell one indicator and no other; where they all speak for the bits of an indicator, they
+/// tell that one.
+pub fn only_one_indicator()
+    ensures one { (values : List ℤ) (a b : ℕ) → IsIndicator values a → IsIndicator values b → a ≡ b }
+    ensures clear { (values : List ℤ) (sent told : ℕ) → 1 ≤ sent → sent ≤ 3 → Speak values sent →
+        IsIndicator values told → told ≡ sent }
+{}
