@@ -15,10 +15,11 @@ use Rattle.conv_code.specs.Cost.{word_cost}
 use Rattle.cs_bits.proofs.Signs.{speaks_with_size, supports-less}
 use Rattle.tailbite.specs.Clean.{Speaks}
 use Rattle.grid_map.specs.declared.Place.{Place}
+use Rattle.grid_map.specs.Place.{place}
 use Rattle.grid_map.specs.Broadcast.{pbch_places, pbch_place, is_pbch}
 use Rattle.grid_map.proofs.Points.{places_inside}
 use Rattle.soft_bits.specs.Soft.{SeenSlot, soft_values}
-use Rattle.soft_bits.specs.Places.{soft_value_at, descrambled_value}
+use Rattle.soft_bits.specs.Places.{values_at, soft_value_at, descrambled_value}
 use Rattle.pbch.specs.Values.{frame_values, coded_values}
 use Rattle.pbch.proofs.Sums.{length-frame_values, frame_value, length-coded_values}
 use Rattle.pbch.specs.Master.{total}
@@ -59,7 +60,7 @@ speaks_all slot phase word speaks =
 
 pub sent_word_is_only : SentWordIsOnly
 sent_word_is_only slot phase word speaks =
-    spoken_word_is_only (coded_values slot phase) word (omega (arith, coded_length-frame_values slot phase)) (speaks.size ∙ sym (coded_length-frame_values slot phase)) (speaks_all slot phase word speaks)
+    spoken_word_is_only (coded_values slot phase) word (omega (arith, length-coded_values slot phase)) (speaks.size ∙ sym (length-coded_values slot phase)) (speaks_all slot phase word speaks)
 
 -- ---- the master
 
@@ -74,7 +75,7 @@ sent_word_is_told slot phase ports word speaks passes width =
     let only = sent_word_is_only slot phase word speaks in
     record {
       least = only.least;
-      heard = heard (coded_values slot phase) word (coded_length-frame_values slot phase) (speaks_all slot phase word speaks);
+      heard = heard (coded_values slot phase) word (length-coded_values slot phase) (speaks_all slot phase word speaks);
       clear = nothing (word_cost (coded_values slot phase) word) (total (coded_values slot phase)) only.free;
       check = passes;
       width = width;
@@ -87,6 +88,7 @@ sent_word_is_told slot phase ports word speaks passes width =
 
 record IsInSlot (p : Place) : Type 0 where
   pub symbol : p.symbol - 7 < 7
+  pub same : p.symbol - 7 ≡ p.symbol % 7
   pub k : p.k < 72
 
 in_slot : (identity i : ℕ) → i < 240 → IsInSlot (pbch_place identity i)
@@ -94,7 +96,7 @@ unfolding is_pbch
 in_slot identity i l = tells (pbch_place identity i) (identity % 3) (places_inside identity i l)
   where
     tells : (p : Place) (shift : ℕ) → (nat_le 7 p.symbol && nat_lt p.symbol 11 && nat_lt p.k 72 && not (nat_lt p.symbol 9 && nat_eq (p.k % 3) shift)) ≡ true → IsInSlot p
-    tells p shift e = record { symbol = grind (arith, nat_tests); k = grind (arith, nat_tests) }
+    tells p shift e = record { symbol = grind (arith, nat_tests); same = grind (arith, nat_tests); k = grind (arith, nat_tests) }
 
 even_or_odd : (i : ℕ) → ((i % 2 ≡ 0) × (2 * (i / 2) ≡ i)) ⊎ ((i % 2 ≡ 1) × (2 * (i / 2) + 1 ≡ i))
 even_or_odd i = elim (cases_lt (i % 2) 1) [
@@ -104,8 +106,9 @@ even_or_odd i = elim (cases_lt (i % 2) 1) [
 
 -- the values of a place are two of the channel's
 one_value : (slot : SeenSlot) (i : ℕ) (bit : ℕ → Bool) →
-    SupportBoth 8 (bit (2 * (i / 2))) (bit (2 * (i / 2) + 1)) (soft_values slot ((pbch_place slot.identity (i / 2)).symbol - 7) (pbch_place slot.identity (i / 2)).k) →
+    SupportBoth 8 (bit (2 * (i / 2))) (bit (2 * (i / 2) + 1)) (values_at slot (pbch_place slot.identity (i / 2))) →
     Supports 1 (bit i) (sent_value slot i)
+unfolding pbch_place
 one_value slot i bit both = elim (even_or_odd i) [
   | inl (place, index) ↦ subst (λ (n : ℕ). Supports 1 (bit i) (get_or values n (pos 0))) (sym place)
       (subst (λ (n : ℕ). Supports 1 (bit n) (get_or values 0 (pos 0))) index (supports-less 1 8 (bit (2 * (i / 2))) (get_or values 0 (pos 0)) (omega arith) both.re))
@@ -114,14 +117,17 @@ one_value slot i bit both = elim (even_or_odd i) [
 ]
   where
     values : List ℤ
-    values = soft_values slot ((pbch_place slot.identity (i / 2)).symbol - 7) (pbch_place slot.identity (i / 2)).k
+    values = values_at slot (get_or (pbch_places slot.identity) (i / 2) (place 0 0))
 
 pub received_slot_speaks : ReceivedSlotSpeaks
 received_slot_speaks recording starts grids slot phase word received carries = record {
   size = carries.size;
   value = λ i l. let inside : i / 2 < 240 = omega (arith, l) in
       let place = in_slot slot.identity (i / 2) inside in
+      let p = pbch_place slot.identity (i / 2) in
+      let first = scrambled_bit slot.identity word (480 * phase + 2 * (i / 2)) in
+      let second = scrambled_bit slot.identity word (480 * phase + (2 * (i / 2) + 1)) in
       one_value slot i (λ n. scrambled_bit slot.identity word (480 * phase + n))
-      (received_values_support_bits recording starts grids slot ((pbch_place slot.identity (i / 2)).symbol - 7) (pbch_place slot.identity (i / 2)).k
-      (scrambled_bit slot.identity word (480 * phase + 2 * (i / 2))) (scrambled_bit slot.identity word (480 * phase + (2 * (i / 2) + 1))) received place.symbol place.k (carries.amplitude (i / 2) inside));
+      (subst (λ symbol. SupportBoth 8 first second (soft_values slot symbol p.k)) place.same
+      (received_values_support_bits recording starts grids slot (p.symbol - 7) p.k first second received place.symbol place.k (carries.amplitude (i / 2) inside)));
 }
