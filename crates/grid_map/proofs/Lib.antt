@@ -7,3 +7,4 @@ pub mod Regions
 pub mod Symbols
 pub mod Carried
 pub mod Pieces
+pub mod Indexed

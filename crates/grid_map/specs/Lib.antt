@@ -5,3 +5,4 @@ pub mod Control
 pub mod Candidate
 pub mod Shared
 pub mod Scrambling
+pub mod Laws

@@ -10,6 +10,7 @@ mod candidate;
 mod control;
 mod group;
 mod interleaver;
+mod laws;
 mod scrambling;
 mod shared;
 #[cfg(test)]
@@ -20,6 +21,7 @@ pub use candidate::{candidate_places, quadruplets_carried};
 pub use control::{control_groups, pcfich, pcfich_places, pdcch};
 pub use group::{places_of_groups, reg_places};
 pub use interleaver::{quadruplet, quadruplets_permute};
+pub use laws::control_places;
 pub use scrambling::{indicator_bit, pbch_c_init, pcfich_c_init, pdcch_c_init, pdsch_c_init};
 pub use shared::{pdsch, pdsch_order};
 
