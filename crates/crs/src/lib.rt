@@ -1,11 +1,10 @@
 //! The cell-specific reference signals of antenna port 0 (TS 36.211 section 6.10.1): which
-//! subcarriers of a symbol carry them, and their values.
+//! subcarriers of a symbol carry them, and their values; and points of two bits by QPSK.
 #![tactic(auto)]
 
 ghost use Rattle.std.specs.Prelude.{◌≡◌, ◌⊎◌, ◌%◌, ◌^◌, ◌<◌, ◌↔◌, ◌/◌, ◌||◌, ℕ, length, false, get_or, All, IsTrue};
-ghost use Rattle.crs.specs.Qpsk.{component};
-ghost use Rattle.crs.specs.Reference.{reference_c_init, value_by, reference, reference_list};
 ghost use Rattle.crs.specs.Qpsk.{IsPoint};
+ghost use Rattle.crs.specs.Reference.{reference_c_init, value_by, reference, reference_list};
 ghost use Rattle.crs.specs.Reference.{first_subcarrier, subcarrier, is_reference, reference_at};
 
 mod qpsk;

@@ -16,7 +16,8 @@ use Rattle.finite.proofs.Tests.{every_below_at}
 use Rattle.crs.specs.Reference.{is_reference, first_subcarrier}
 use Rattle.grid_map.specs.declared.Place.{Place}
 use Rattle.grid_map.specs.Place.{place, symbol_places, places_of, place_number, same_place, skipping}
-use Rattle.grid_map.specs.Shared.{is_synchronisation, is_in_blocks, is_pdsch, pdsch_places, pdsch_place, block_places, has_references, room, offset}
+use Rattle.grid_map.specs.Shared.{is_synchronisation, is_in_blocks, is_pdsch, pdsch_places, pdsch_place, block_places}
+use Rattle.grid_map.specs.Steps.{has_references, room, offset}
 use Rattle.grid_map.proofs.Kept.{filter-flat_map, filter-map, filter-same, filter-none, any-filter}
 use Rattle.grid_map.proofs.Order.{same_place-refl, same_place-true}
 

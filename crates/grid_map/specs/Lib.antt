@@ -4,5 +4,6 @@ pub mod Group
 pub mod Control
 pub mod Candidate
 pub mod Shared
+pub mod Steps
 pub mod Scrambling
 pub mod Laws

@@ -1,8 +1,8 @@
 -- The places of the physical downlink shared channel in subframe 5 (TS 36.211 section 6.4).
-use Rattle.std.specs.Prelude.{ℕ, ◌+◌, ◌*◌, ◌/◌, ◌%◌, Bool, not, ◌&&◌, ◌||◌, nat_eq, nat_lt, nat_le, if◌then◌else◌, List, filter, slice_index_or}
-use Rattle.crs.specs.Reference.{is_reference, first_subcarrier}
+use Rattle.std.specs.Prelude.{ℕ, ◌+◌, ◌*◌, ◌%◌, Bool, not, ◌&&◌, ◌||◌, nat_eq, nat_lt, nat_le, if◌then◌else◌, List, filter, slice_index_or}
+use Rattle.crs.specs.Reference.{is_reference}
 use Rattle.grid_map.specs.declared.Place.{Place}
-use Rattle.grid_map.specs.Place.{place, places_of, skipping}
+use Rattle.grid_map.specs.Place.{place, places_of}
 
 -- the symbols of the synchronisation signals, which are left out whole (own: all 72 subcarriers)
 abbrev pub is_synchronisation : ℕ → Bool
@@ -31,20 +31,3 @@ pdsch_place identity cfi start blocks i = slice_index_or (pdsch_places identity 
 -- how many places a block has, with indicator 2 or 3
 abbrev pub block_places : ℕ → ℕ
 block_places cfi = if nat_eq cfi 2 then 102 else 90
-
--- ---- the same, symbol by symbol
-
--- a symbol of the subframe has reference places
-abbrev pub has_references : ℕ → Bool
-has_references symbol = nat_eq symbol 0 || nat_eq symbol 4 || nat_eq symbol 7 || nat_eq symbol 11
-
--- how many places of so many blocks a symbol after the control region has for the channel
-abbrev pub room : ℕ → ℕ → ℕ
-room symbol blocks =
-    if is_synchronisation symbol then 0 else (if has_references symbol then 10 * blocks else 12 * blocks)
-
--- how many subcarriers after the first one of the blocks place n of a symbol stands: of each six
--- subcarriers a symbol with reference places has five
-abbrev pub offset : ℕ → ℕ → ℕ → ℕ
-offset identity symbol n =
-    if has_references symbol then 6 * (n / 5) + skipping (first_subcarrier identity (symbol % 7)) (n % 5) else n

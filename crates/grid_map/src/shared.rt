@@ -4,7 +4,8 @@ ghost use Rattle.std.specs.Prelude.{◌≡◌, ◌+◌, ◌*◌, ◌/◌, ◌%�
 ghost use Rattle.std.specs.List.{list_any};
 ghost use Rattle.grid_map.specs.declared.Place.{Place};
 ghost use Rattle.grid_map.specs.Place.{place, place_number, same_place};
-ghost use Rattle.grid_map.specs.Shared.{has_references, room, offset, is_pdsch, pdsch_places, pdsch_place, block_places};
+ghost use Rattle.grid_map.specs.Shared.{is_pdsch, pdsch_places, pdsch_place, block_places};
+ghost use Rattle.grid_map.specs.Steps.{has_references, room, offset};
 
 use crate::{Place, skipping};
 use crs::first_subcarrier;

@@ -23,7 +23,7 @@ pub fn cfi(slot: &Slot) -> Cfi
 /// The control format indicator of least cost by the 32 values of its channel, each of size at most
 /// 127; of equals the lowest.
 pub fn indicator(values: &[i16; 32]) -> Cfi
-    requires { All (λ value. nat_abs value ≤ 127) values.now }
+    requires { AllWithin 127 values.now }
     ensures { IsIndicator values.now result }
 {
     let best = least_of(cost_of(values, 1), cost_of(values, 2), cost_of(values, 3));

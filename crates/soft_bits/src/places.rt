@@ -1,6 +1,7 @@
 //! The values of a channel: the soft values of its places, by the bits before scrambling.
 
 ghost use Rattle.std.specs.Prelude.{◌≡◌, ◌+◌, ◌*◌, ◌^◌, ◌<◌, ◌≤◌, All, length, nat_abs};
+ghost use Rattle.finite.specs.Sizes.{AllWithin};
 ghost use Rattle.soft_bits.specs.Places.{values_at, soft_values_of, descrambled_value, descrambled};
 
 use crate::{Slot, soft};
@@ -15,7 +16,7 @@ pub fn fill_soft(slot: &Slot, places: &[Place], values: &mut [i16])
     requires inside { All (λ p. (p.symbol < 14) × (p.k < 72)) places.now }
     requires room { length values.old ≡ 2 * length places.now }
     ensures values { values.new ≡ soft_values_of slot.now places.now }
-    ensures sizes { All (λ value. nat_abs value ≤ 127) values.new }
+    ensures sizes { AllWithin 127 values.new }
 {
     for i in 0..places.len() {
         let pair = soft_at(slot, &places[i]);
@@ -28,7 +29,7 @@ pub fn fill_soft(slot: &Slot, places: &[Place], values: &mut [i16])
 fn soft_at(slot: &Slot, place: &Place) -> [i16; 2]
     requires { place.now.k < 72 }
     ensures values { result ≡ values_at slot.now place.now }
-    ensures sizes { All (λ value. nat_abs value ≤ 127) result }
+    ensures sizes { AllWithin 127 result }
 {
     soft(slot, place.symbol % 7, place.k)
 }
@@ -40,9 +41,9 @@ fn soft_at(slot: &Slot, place: &Place) -> [i16; 2]
 pub fn descramble(c_init: u32, first: usize, values: &mut [i16])
     requires c_init { c_init < 2 ^ 31 }
     requires few { first + length values.old ≤ 1920 }
-    requires sizes { All (λ value. nat_abs value ≤ 127) values.old }
+    requires sizes { AllWithin 127 values.old }
     ensures values { values.new ≡ descrambled c_init first values.old }
-    ensures sizes { All (λ value. nat_abs value ≤ 127) values.new }
+    ensures sizes { AllWithin 127 values.new }
 {
     let mut bits = [false; MOST];
     gold::fill(c_init, &mut bits);

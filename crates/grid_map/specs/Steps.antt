@@ -1,0 +1,20 @@
+-- The places of the shared channel symbol by symbol, as the code goes through them.
+use Rattle.std.specs.Prelude.{ℕ, ◌+◌, ◌*◌, ◌/◌, ◌%◌, Bool, ◌||◌, nat_eq, if◌then◌else◌}
+use Rattle.crs.specs.Reference.{first_subcarrier}
+use Rattle.grid_map.specs.Place.{skipping}
+use Rattle.grid_map.specs.Shared.{is_synchronisation}
+
+-- a symbol of the subframe has reference places
+abbrev pub has_references : ℕ → Bool
+has_references symbol = nat_eq symbol 0 || nat_eq symbol 4 || nat_eq symbol 7 || nat_eq symbol 11
+
+-- how many places of so many blocks a symbol after the control region has for the channel
+abbrev pub room : ℕ → ℕ → ℕ
+room symbol blocks =
+    if is_synchronisation symbol then 0 else (if has_references symbol then 10 * blocks else 12 * blocks)
+
+-- how many subcarriers after the first one of the blocks place n of a symbol stands: of each six
+-- subcarriers a symbol with reference places has five
+abbrev pub offset : ℕ → ℕ → ℕ → ℕ
+offset identity symbol n =
+    if has_references symbol then 6 * (n / 5) + skipping (first_subcarrier identity (symbol % 7)) (n % 5) else n
