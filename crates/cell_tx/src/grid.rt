@@ -65,7 +65,8 @@ impl<'a> Signals<'a> {
 // The value of a reference place by the symbol's twelve; `None` at every other place.
 fn reference_of(pilots: &[(u8, Cpx); 12], k: usize) -> Option<Cpx>
     requires { k < 72 }
-    ensures { (identity slot symbol : ℕ) → (symbol ≡ 0) ⊎ (symbol ≡ 4) → pilots.now ≡ reference_list identity slot symbol →
+    ensures { (identity slot symbol : ℕ) → (symbol ≡ 0) ⊎ (symbol ≡ 4) →
+        pilots.now ≡ reference_list identity slot symbol →
         result ≡ reference_if identity slot symbol k }
 {
     if k % 6 == pilots[0].0 as usize {
@@ -101,7 +102,8 @@ fn is_signal(signal: u8, subframe: u8, symbol: u8, k: u8) -> bool
 // Sign n of the secondary sequence in a subframe.
 fn sign_of(signals: &Signals, subframe: u8, n: usize) -> i8
     requires { n < 62 }
-    ensures value { result ≡ sss_at (signals.now.cell.now.identity / 3) (signals.now.cell.now.identity % 3) (half_of subframe) n }
+    ensures value { result ≡ sss_at (signals.now.cell.now.identity / 3)
+        (signals.now.cell.now.identity % 3) (half_of subframe) n }
     ensures size { nat_abs result ≡ 1 }
 {
     if subframe == 0 {
@@ -157,7 +159,8 @@ fn element_of(
     symbol: u8,
     k: u8,
 ) -> Cpx
-    requires references { references.now ≡ values_below 72 (reference_if signals.now.cell.now.identity (2 * subframe + symbol / 7) (symbol % 7)) }
+    requires references { references.now ≡ values_below 72
+        (reference_if signals.now.cell.now.identity (2 * subframe + symbol / 7) (symbol % 7)) }
     requires k { k < 72 }
     ensures { result ≡ element signals.now.cell.now signals.now.sfn subframe symbol k }
 {

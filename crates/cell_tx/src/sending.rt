@@ -59,7 +59,8 @@ fn place_at(i: usize) -> usize
 // Sample i of a slot, from the useful part of its symbol.
 fn sample_of_slot(signals: &Signals, useful: &[Cpx; 128], slot: usize, i: usize) -> Sample
     requires i { i < slot_length }
-    requires useful { useful.now ≡ useful_part (element signals.now.cell.now signals.now.sfn (slot / 2) (7 * (slot % 2) + symbol_of normal i)) }
+    requires useful { useful.now ≡ useful_part (element signals.now.cell.now signals.now.sfn
+        (slot / 2) (7 * (slot % 2) + symbol_of normal i)) }
     ensures { result ≡ sample_of (slot_sample signals.now.cell.now signals.now.sfn slot i) }
 {
     to_sample(useful[place_at(i)])
@@ -182,7 +183,8 @@ fn sent_from(t: &Transmission, i: usize, clean: &[Sample; FRAME_LENGTH]) -> Samp
 /// once.
 pub fn send_all(t: &Transmission, out: &mut [Sample])
     requires { length out.old ≡ t.now.samples }
-    ensures { out.new ≡ values_below t.now.samples (λ i. sample_of (received t.now.cell t.now.sfn t.now.offset (gain_of t.now.gain) i)) }
+    ensures { out.new ≡ values_below t.now.samples
+        (λ i. sample_of (received t.now.cell t.now.sfn t.now.offset (gain_of t.now.gain) i)) }
 {
     let mut clean = [Sample { re: 0, im: 0 }; FRAME_LENGTH];
     for i in 0..out.len() {

@@ -44,7 +44,8 @@ fn place_of(id: CellId, groups: &[Reg], number: u8, j: usize) -> Place
     requires inside { All (λ g. IsTrue (is_group g)) groups.now }
     requires number { number < length groups.now }
     requires j { j < 4 }
-    ensures place { result ≡ slice_index_or (group_places id (slice_index_or groups.now number (group 0 0))) j (place 0 0) }
+    ensures place { result ≡
+        slice_index_or (group_places id (slice_index_or groups.now number (group 0 0))) j (place 0 0) }
     ensures symbol { result.symbol < 14 }
     ensures k { result.k < 72 }
 {

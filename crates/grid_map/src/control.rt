@@ -76,7 +76,8 @@ fn left_in(symbol: u8) -> usize
 // of every three.
 fn left_begins(id: CellId, symbol: u8, number: usize) -> usize
     requires { number < 18 }
-    ensures value { result ≡ (if nat_eq symbol 0 then 6 * (3 * (number / 2) + skipping (id % 3) (number % 2)) else 4 * number) }
+    ensures value { result ≡ (if nat_eq symbol 0
+        then 6 * (3 * (number / 2) + skipping (id % 3) (number % 2)) else 4 * number) }
     ensures bound { result < 256 }
 {
     if symbol == 0 {

@@ -30,7 +30,8 @@ pub fn reg_places(id: CellId, reg: Reg) -> [Place; 4]
 fn place_in(id: CellId, reg: Reg, i: usize) -> Place
     requires group { IsTrue (is_group reg) }
     requires i { i < 4 }
-    ensures { result ≡ place reg.symbol (reg.first + (if nat_eq reg.symbol 0 then 3 * (i / 2) + skipping (id % 3) (i % 2) else i)) }
+    ensures { result ≡ place reg.symbol
+        (reg.first + (if nat_eq reg.symbol 0 then 3 * (i / 2) + skipping (id % 3) (i % 2) else i)) }
 {
     let offset = if reg.symbol == 0 {
         3 * (i / 2) + skipping(i % 2, id.n2() as usize)

@@ -51,7 +51,8 @@ impl Sib1 {
     }
 
     fn identities_fit(&self) -> bool
-        ensures { IsTrue result ↔ ((self.now.cell < 2 ^ 28) × IfSome self.now.csg_identity (λ identity. identity < 2 ^ 27)) }
+        ensures { IsTrue result ↔ ((self.now.cell < 2 ^ 28)
+            × IfSome self.now.csg_identity (λ identity. identity < 2 ^ 27)) }
     {
         self.cell < 1 << 28 && identity_fits(self.csg_identity)
     }
@@ -112,7 +113,8 @@ fn plmn_fits(plmn: &Plmn) -> bool
 }
 
 fn plmns_fit(plmns: &Plmns) -> bool
-    ensures { IsTrue result ↔ (((1 ≤ length plmns.now) × (length plmns.now ≤ 6)) × All IsValidPlmn plmns.now × FirstHasMcc plmns.now) }
+    ensures { IsTrue result ↔ (((1 ≤ length plmns.now) × (length plmns.now ≤ 6))
+        × All IsValidPlmn plmns.now × FirstHasMcc plmns.now) }
 {
     match plmns.slice() {
         [] => false,
@@ -127,7 +129,8 @@ fn message_fits(message: &SiMessage) -> bool
 }
 
 fn entries_fit(schedule: &Schedule) -> bool
-    ensures { IsTrue result ↔ (((1 ≤ length schedule.now) × (length schedule.now ≤ 32)) × All IsValidMessage schedule.now) }
+    ensures { IsTrue result ↔ (((1 ≤ length schedule.now) × (length schedule.now ≤ 32))
+        × All IsValidMessage schedule.now) }
 {
     let entries = schedule.slice();
     !entries.is_empty() && entries.iter().all(message_fits)

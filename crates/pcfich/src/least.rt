@@ -32,7 +32,8 @@ pub fn indicator(values: &[i16; 32]) -> Cfi
 
 // The number of the least of three costs; of equals the first.
 fn least_of(first: u32, second: u32, third: u32) -> u8
-    ensures value { result ≡ (if nat_le first second && nat_le first third then 1 else (if nat_le second third then 2 else 3)) }
+    ensures value { result ≡ (if nat_le first second && nat_le first third then 1
+        else (if nat_le second third then 2 else 3)) }
     ensures range { (1 ≤ result) × (result ≤ 3) }
 {
     if first <= second && first <= third {

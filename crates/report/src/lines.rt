@@ -32,7 +32,8 @@ pub(crate) fn cell_line(alloc: Global, entry: &Entry) -> Result<String, AllocErr
 }
 
 fn mib_part(alloc: Global, mib: &Mib) -> Result<String, AllocError>
-    ensures { IfOk result (λ part. string_bytes part ≡ block_of (bandwidth_word mib.now.bandwidth) (duration_word mib.now.duration)
+    ensures { IfOk result (λ part. string_bytes part ≡
+        block_of (bandwidth_word mib.now.bandwidth) (duration_word mib.now.duration)
         (resource_word mib.now.resource) mib.now.spare) }
 {
     let bandwidth = mib.bandwidth.name();
@@ -85,7 +86,8 @@ fn access_of_cell(alloc: Global, sib1: &Sib1) -> Result<String, AllocError>
 }
 
 fn group_of_cell(alloc: Global, sib1: &Sib1) -> Result<String, AllocError>
-    ensures { IfOk result (λ part. string_bytes part ≡ group_of (bit_of sib1.now.csg) (word_or_dash decimal sib1.now.csg_identity)) }
+    ensures { IfOk result (λ part. string_bytes part ≡
+        group_of (bit_of sib1.now.csg) (word_or_dash decimal sib1.now.csg_identity)) }
 {
     let csg = either(sib1.csg, "1", "0");
     let identity = or_dash(alloc, sib1.csg_identity)?;
@@ -103,7 +105,9 @@ fn levels_of_cell(alloc: Global, sib1: &Sib1) -> Result<String, AllocError>
 
 fn timing_of_cell(alloc: Global, sib1: &Sib1) -> Result<String, AllocError>
     requires { sib1.now.window ≤ 6 }
-    ensures { IfOk result (λ part. string_bytes part ≡ window_of (length_of sib1.now.window) sib1.now.tag (word_or_dash config_of sib1.now.tdd) (bit_of sib1.now.extended)) }
+    ensures { IfOk result (λ part. string_bytes part ≡
+        window_of (length_of sib1.now.window) sib1.now.tag (word_or_dash config_of sib1.now.tdd)
+        (bit_of sib1.now.extended)) }
 {
     let window = window_length(sib1.window);
     let tdd = tdd_or_dash(alloc, sib1.tdd)?;

@@ -46,7 +46,8 @@ fn permutes(row: &Row) -> bool
 
 /// Whether two rows are equal: K, f1 and f2 of one are those of the other.
 fn are_equal(one: &Row, other: &Row) -> bool
-    ensures { result ≡ nat_eq one.now.k other.now.k && nat_eq one.now.f1 other.now.f1 && nat_eq one.now.f2 other.now.f2 }
+    ensures { result ≡ nat_eq one.now.k other.now.k && nat_eq one.now.f1 other.now.f1
+        && nat_eq one.now.f2 other.now.f2 }
 {
     one == other
 }
