@@ -1,6 +1,7 @@
 use crate::seen::slot_of;
+use grid_map::quadruplets_carried;
 use lte_types::{Bandwidth, CellId, Cfi, Duration, Mib, Resource};
-use pdcch::{candidate, elements, quadruplets_carried};
+use pdcch::{candidate, elements};
 use std::process::Abort;
 use std::test::Fail;
 use test_signals::Rows;
