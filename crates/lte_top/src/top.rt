@@ -17,9 +17,10 @@ use std::alloc::Global;
 /// Runs the words' form: reads its input from the source, makes its output and writes it to the sink.
 ///
 /// `Done` means that the input was read to its end and the whole output was taken. Every other answer
-/// has its cause, and after each but `WriteFault` nothing was written; after `WriteFault` the sink
-/// took a front of the output. Want of memory is never answered after a write. Where the source tells
-/// its bytes, the answer is the one that they have, but for want of memory and counted faults.
+/// but `OutOfMemory` has its cause, and after each but `WriteFault` nothing was written; after
+/// `WriteFault` the sink took a front of the output. Want of memory is never answered after a write.
+/// Where the source tells its bytes, the answer is the one that they have, but for want of memory and
+/// counted faults.
 pub fn run<S: Source, K: Sink>(alloc: Global, words: &Words, source: &mut S, sink: &mut K) -> Status
     ensures { Runs words.now (S.told source.old, K.told sink.old) (S.told source.new, K.told sink.new) result }
 {
