@@ -20,11 +20,18 @@ fn seen_of(digit: u8) -> Cpx
     }
 }
 
+// What is seen of an empty symbol.
+fn empty_symbol() -> [Cpx; 72]
+    ensures { All (IsWithin (2 ^ 25)) result }
+{
+    level(seen_of(b'.'))
+}
+
 // What is seen of a symbol.
 fn symbol_of(row: &[u8; 72]) -> [Cpx; 72]
     ensures { All (IsWithin (2 ^ 25)) result }
 {
-    let mut seen = level(seen_of(b'.'));
+    let mut seen = empty_symbol();
     for k in 0..72 {
         seen[k] = seen_of(row[k]);
     }
@@ -37,7 +44,7 @@ pub(crate) fn slot_of(rt: &impl Abort, identity: u16, number: u8, rows: Rows) ->
     ensures { result.number ≡ number }
 {
     let id = CellId::new(identity).expect(rt, "in range");
-    let nothing = level(seen_of(b'.'));
+    let nothing = empty_symbol();
     let seen = [
         symbol_of(rows[0]),
         symbol_of(rows[1]),
