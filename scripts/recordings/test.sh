@@ -7,7 +7,8 @@
 # whose tool is not there is left out, and said so. The status is the number of recipes that failed.
 set -u
 here=$(cd "$(dirname "$0")" && pwd)
-program=$(realpath "${1:-$here/../../crates/lte_cli/out/lte_cli}")
+program=$(realpath -m "${1:-$here/../../crates/lte_cli/out/lte_cli}")
+[ -x "$program" ] || { echo "test.sh: no program at $program; rt run in crates/lte_cli builds it" >&2; exit 1; }
 room=$(mktemp -d)
 trap 'rm -rf "$room"' EXIT
 cd "$room" || exit 1
