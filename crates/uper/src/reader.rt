@@ -1,6 +1,6 @@
 //! Numbers out of bits.
 
-ghost use Rattle.std.specs.Prelude.{◌≡◌, ◌+◌, ◌<◌, ◌≤◌, ◌^◌, ◌↔◌, ◌&&◌, nat_le, length, slice_range, IfSome, IfNone, IsNone, IfOk};
+ghost use Rattle.std.specs.Prelude.{◌≡◌, ◌+◌, ◌<◌, ◌≤◌, ◌^◌, ◌↔◌, ◌&&◌, nat_le, length, slice_range, IfSome, IfNone, IsNone, IfOk, OnErr};
 ghost use Rattle.cs_bits.specs.Numbers.{number};
 ghost use Rattle.uper.specs.Cursor.{Cursor};
 ghost use Rattle.uper.specs.Grammar.{from_to, flag};
@@ -65,16 +65,25 @@ impl<'a> Reader<'a> {
         self.place
     }
 
-    /// A number of `width` bits (at most 32) from `least` to `greatest`; else the place of its first bit.
+    /// A number of `width` bits (at most 32) from `least` to `greatest`; else the place of its first bit,
+    /// and the reader is then unchanged.
     pub fn number(&mut self, width: u32, least: u32, greatest: u32) -> Result<u32, usize>
         requires { width ≤ 32 }
         ensures reads { Reads (from_to width least greatest) self.old result self.new }
         ensures range { IfOk result (λ n. (least ≤ n) × (n ≤ greatest)) }
+        ensures unchanged { OnErr result (self.new ≡ self.old) }
     {
         let place = self.place();
         match self.take(width) {
-            Some(number) if is_within(number, least, greatest) => Ok(number),
-            _ => Err(place),
+            Some(number) => {
+                if is_within(number, least, greatest) {
+                    Ok(number)
+                } else {
+                    self.place = place;
+                    Err(place)
+                }
+            }
+            None => Err(place),
         }
     }
 
