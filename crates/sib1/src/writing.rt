@@ -112,8 +112,8 @@ fn put_fields(sheet: &mut Sheet, fields: &Sib1)
     sheet.put(fields.tag as u32, 5);
 }
 
-/// Writes the whole text of the fields, each of which is in its range, to `out`, which is empty before;
-/// `read` answers with these fields, whatever bits follow. False exactly where the text has more than 1,000
+/// Writes the whole text of the fields, each of which is in its range and which have no extension, to
+/// `out`, which is empty before; `read` answers with these fields, whatever bits follow. False exactly where the text has more than 1,000
 /// bits, and `out` is then empty.
 pub fn write(fields: &Sib1, out: &mut Writer) -> bool
     requires empty { out.old ≡ [] }

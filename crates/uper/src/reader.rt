@@ -87,7 +87,7 @@ impl<'a> Reader<'a> {
         }
     }
 
-    /// One bit; its place where there is none.
+    /// One bit; its place where there is none, and where the reader then stands is not said.
     pub fn flag(&mut self) -> Result<bool, usize>
         ensures { Reads flag self.old result self.new }
     {
