@@ -113,8 +113,8 @@ fn put_fields(sheet: &mut Sheet, fields: &Sib1)
 }
 
 /// Writes the whole text of the fields, each of which is in its range and which have no extension, to
-/// `out`, which is empty before; `read` answers with these fields, whatever bits follow. False exactly where the text has more than 1,000
-/// bits, and `out` is then empty.
+/// `out`, which is empty before; `read` answers with these fields, whatever bits follow. False exactly
+/// where the text has more than 1,000 bits, and `out` is then empty.
 pub fn write(fields: &Sib1, out: &mut Writer) -> bool
     requires empty { out.old ≡ [] }
     requires valid { IsValid fields.now }
