@@ -18,6 +18,8 @@ fn a_bad_field_is_told_by_its_place(rt: HostRuntime) {
     assert_eq!(rt; reader.flag().ok(), Some(true));
     assert_eq!(rt; reader.number(3, 0, 3).ok(), Some(3));
     assert_eq!(rt; reader.number(1, 1, 1).err(), Some(4));
+    assert_eq!(rt; reader.place(), 4);
+    assert_eq!(rt; reader.flag().ok(), Some(false));
     assert_eq!(rt; reader.flag().err(), Some(5));
 }
 
