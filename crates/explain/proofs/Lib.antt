@@ -3,3 +3,4 @@ pub mod Entries
 pub mod FirstFrame
 pub mod Kept
 pub mod Listed
+pub mod Deciding

@@ -2,3 +2,4 @@ pub mod Frame
 pub mod Entries
 pub mod Masters
 pub mod Laws
+pub mod Deciding

@@ -1,6 +1,7 @@
 //! Laws of the list.
 
 ghost use Rattle.explain.specs.Laws.{IsOneList, IsSound, IsComplete, IsApart};
+ghost use Rattle.explain.specs.Deciding.{FirstFramesDecide};
 
 /// The list of a recording in plain words: there is only one; each of its entries is one of some
 /// hit; for each entry of each hit it has that entry or one of the same cell; and no two of it are of
@@ -10,4 +11,10 @@ pub fn the_list_in_plain_words()
     ensures sound { IsSound }
     ensures complete { IsComplete }
     ensures apart { IsApart }
+{}
+
+/// Two recordings of at least 326,400 samples, 17 frames, that agree in these have the same list: a longer
+/// recording may be cut there, and nothing of its list is lost. (own)
+pub fn the_first_frames_decide()
+    ensures { FirstFramesDecide }
 {}

@@ -12,5 +12,5 @@ mod workspace;
 
 pub use cells::{explain, values_of};
 pub use entry_list::EntryList;
-pub use laws::the_list_in_plain_words;
+pub use laws::{the_first_frames_decide, the_list_in_plain_words};
 pub use workspace::Workspace;

@@ -4,3 +4,4 @@ pub mod Sparse
 pub mod Room
 pub mod RightTest
 pub mod Listed
+pub mod Agree

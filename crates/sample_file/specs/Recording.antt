@@ -1,5 +1,5 @@
 -- Recordings: lists of samples, and the bytes that stand for them. (own; the form of raw 16-bit captures)
-use Rattle.std.specs.Prelude.{◌≡◌, ℕ, ◌≤◌, ◌+◌, ◌*◌, ◌++◌, List, [], ◌∷◌, length, All, ℤ}
+use Rattle.std.specs.Prelude.{◌≡◌, ℕ, ◌≤◌, ◌+◌, ◌*◌, ◌++◌, List, [], ◌∷◌, length, take, All, ℤ}
 use Rattle.std.specs.List.{flat_map}
 use Rattle.std.specs.Int.{w16, cast_unsigned}
 use Rattle.byteorder.specs.Endian.{twos_complement, little_bytes}
@@ -58,3 +58,7 @@ most_samples = 1920000
 pub record IsRecording (samples : List Sample) : Type 0 where
   pub least : least_samples ≤ length samples
   pub most : length samples ≤ most_samples
+
+-- two recordings have the same first samples, so many
+abbrev pub AgreeBefore : ℕ → List Sample → List Sample → Type 0
+AgreeBefore count first second = take count first ≡ take count second

@@ -1,0 +1,96 @@
+-- Two recordings that agree in their first 17 frames tell the same hits, identities and slots, and so the same list.
+use Rattle.std.proofs.Common.{◌≡◌, ℕ, suc, ◌+◌, ◌*◌, ◌<◌, ◌≤◌, List, [], ◌∷◌, length, arith, refl, ap, sym, subst, ◌∙◌}
+use Rattle.std.specs.Prelude.{All, ◌↔◌}
+use Rattle.std.specs.List.{AllZip, Contains}
+use Rattle.finite.proofs.Lists.{values_below_same}
+use Rattle.cs_num.specs.declared.Cpx.{Cpx}
+use Rattle.cs_num.specs.declared.Sample.{Sample}
+use Rattle.lte_types.specs.declared.hit.Hit.{Hit}
+use Rattle.lte_types.specs.declared.entry.Entry.{Entry}
+use Rattle.lte_types.specs.Numerology.{normal, useful_start, frame_length}
+use Rattle.pss_search.specs.Hits.{IsInSpan, hits_of}
+use Rattle.pss_search.proofs.Listed.{listed_in_span}
+use Rattle.pss_search.proofs.Agree.{hits_agree}
+use Rattle.sample_file.specs.Recording.{AgreeBefore}
+use Rattle.observe.specs.Seen.{seen_symbol}
+use Rattle.observe.proofs.Agree.{symbol_agrees}
+use Rattle.sss_detect.specs.Identity.{identity_of}
+use Rattle.sss_detect.specs.Place.{start_of}
+use Rattle.sss_detect.proofs.Agree.{identity_agrees}
+use Rattle.pbch.specs.Master.{HasNoMaster, TellsMaster}
+use Rattle.pbch.specs.Values.{coded_values}
+use Rattle.explain.specs.Frame.{IsWhole, frame_at, seen_slot, broadcast_slot}
+use Rattle.explain.specs.Entries.{IsEntryOf, AreEntriesOf, IsExplained, identity_at, start_at, master_of}
+use Rattle.explain.specs.Deciding.{deciding_length, FirstFramesDecide}
+
+-- ---- slots
+
+-- a slot of a frame that begins at f and lies where the recordings agree
+pub slot_agrees : (count f number identity : ℕ) (a b : List Sample) → AgreeBefore count a b → f + frame_length ≤ count → number < 20 →
+    seen_slot a f number identity ≡ seen_slot b f number identity
+unfolding seen_slot
+slot_agrees count f number identity a b agree within known = ap (λ (s : List (List Cpx)). record { symbols = s; number = number; identity = identity })
+    (values_below_same 7 (λ l. seen_symbol a (useful_start normal f number l)) (λ l. seen_symbol b (useful_start normal f number l))
+    (λ l below. symbol_agrees count (useful_start normal f number l) a b agree (omega (arith, within, known, below))))
+
+-- where the recordings agree in 17 frames, the slots of frames 0 to 15 of a start within the first are the same
+deciding_slot : (start j number identity : ℕ) (a b : List Sample) → AgreeBefore deciding_length a b → start < frame_length → j ≤ 15 → number < 20 →
+    seen_slot a (frame_at start j) number identity ≡ seen_slot b (frame_at start j) number identity
+deciding_slot start j number identity a b agree early few known =
+    slot_agrees deciding_length (frame_at start j) number identity a b agree (omega (arith, early, few)) known
+
+-- ---- the entries of a hit
+
+start_early : (recording : List Sample) (hit : Hit) → start_at recording hit < frame_length
+start_early recording hit = omega arith
+
+-- an entry of a hit in the one recording is one in the other
+entry_agrees : (a b : List Sample) (hit : Hit) (entry : Entry) → AgreeBefore deciding_length a b → deciding_length ≤ length b → IsInSpan hit →
+    IsEntryOf a hit entry → IsEntryOf b hit entry
+entry_agrees a b hit entry agree long span is = record {
+  id = is.id ∙ ap (λ i. 3 * i.0 + hit.n2) same_identity;
+  start = is.start ∙ ap (λ i. start_of hit.t i.1) same_identity;
+  frame = is.frame;
+  phase = is.phase;
+  whole = omega (arith, long, early, is.frame);
+  first = λ i phase before known. subst (λ s. HasNoMaster s phase) (slot i (omega (arith, before, is.frame))) (is.first i phase before known);
+  master = subst (λ s. TellsMaster (coded_values s entry.phase) (master_of entry)) (slot entry.frame is.frame) is.master;
+  sfn = is.sfn;
+  sib1 = is.sib1;
+}
+  where
+    same_identity : identity_of a hit ≡ identity_of b hit
+    same_identity = identity_agrees deciding_length a b hit agree (omega (arith, span.to_last))
+    early : entry.start < frame_length
+    early = subst (λ s. s < frame_length) (sym is.start) (start_early a hit)
+    slot : (j : ℕ) → j ≤ 7 → broadcast_slot a entry.id entry.start j ≡ broadcast_slot b entry.id entry.start j
+    slot j few = deciding_slot entry.start j 1 entry.id a b agree early (omega (arith, few)) (omega arith)
+
+-- the entries of a hit are the same
+entries_agree : (a b : List Sample) (hit : Hit) (entries : List Entry) → AgreeBefore deciding_length a b → deciding_length ≤ length a → deciding_length ≤ length b →
+    IsInSpan hit → AreEntriesOf a hit entries → AreEntriesOf b hit entries
+entries_agree a b hit entries agree long_a long_b span are = record {
+  given = λ entry. (
+    (λ inside. entry_agrees a b hit entry agree long_b span ((are.given entry).0 inside)),
+    (λ is. (are.given entry).1 (entry_agrees b a hit entry (sym agree) long_a span is)));
+  by_phase = are.by_phase;
+}
+
+-- ---- the list
+
+each_agrees : (a b : List Sample) (hits : List Hit) (groups : List (List Entry)) → AgreeBefore deciding_length a b → deciding_length ≤ length a → deciding_length ≤ length b →
+    All IsInSpan hits → AllZip (AreEntriesOf a) hits groups → AllZip (AreEntriesOf b) hits groups
+each_agrees a b [] [] agree long_a long_b span each = tt
+each_agrees a b [] (g ∷ gs) agree long_a long_b span each = each
+each_agrees a b (hit ∷ hits) [] agree long_a long_b span each = each
+each_agrees a b (hit ∷ hits) (g ∷ gs) agree long_a long_b span each =
+    (entries_agree a b hit g agree long_a long_b (span 0 hit (omega arith)) each.0,
+    each_agrees a b hits gs agree long_a long_b (λ k d l. span (suc k) d (omega (arith, l))) each.1)
+
+pub first_frames_decide : FirstFramesDecide
+first_frames_decide a b list long_a long_b agree explained = record {
+  groups = explained.groups;
+  each = subst (λ hits. AllZip (AreEntriesOf b) hits explained.groups) (hits_agree deciding_length a b agree (omega arith))
+    (each_agrees a b (hits_of a) explained.groups agree long_a long_b (listed_in_span a) explained.each);
+  listed = explained.listed;
+}
