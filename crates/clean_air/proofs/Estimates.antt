@@ -1,14 +1,10 @@
 -- The channel estimate of a clean slot: a multiple of the gain, up to a deviation.
-use Rattle.std.proofs.Common.{◌≡◌, ℕ, ◌+◌, ◌-◌, ◌*◌, ◌/◌, ◌%◌, ◌<◌, ◌≤◌, arith, refl, ap, ap₂, sym, ◌∙◌, subst, Bool, true, false, nat_lt}
-use Rattle.std.specs.Prelude.{if◌then◌else◌}
-use Rattle.std.proofs.lemmas.Bool.{ltb-true}
+use Rattle.std.proofs.Common.{◌≡◌, ℕ, ◌+◌, ◌*◌, ◌/◌, ◌%◌, ◌<◌, ◌≤◌, arith, refl, ap, ap₂, ◌∙◌, subst}
 use Rattle.cs_num.specs.declared.Cpx.{Cpx}
 use Rattle.cs_num.specs.Complex.{plus, times, conjugate, square, multiple}
 use Rattle.sizes.specs.Sizes.{IsSized}
-use Rattle.sizes.proofs.Algebra.{plus-exchanges, multiple-plus, multiple_twice, multiple_sum}
 use Rattle.sizes.proofs.Squares.{square-conjugate}
-use Rattle.sizes.proofs.Sized.{sized_plain, sized-plus, sized-times}
-use Rattle.sizes.proofs.Products.{sized-multiple}
+use Rattle.sizes.proofs.Sized.{sized_plain, sized-times}
 use Rattle.crs.specs.Qpsk.{IsPoint}
 use Rattle.crs.specs.Reference.{reference_at}
 use Rattle.crs.proofs.Values.{reference-IsPoint}

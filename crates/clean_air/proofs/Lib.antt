@@ -16,5 +16,7 @@ pub mod SentBlock
 pub mod TruePlaces
 -- Its broadcast slot is received and carries the word.
 pub mod SentSlots
--- All together: the list holds the cell.
+-- A list holds each cell that is heard.
+pub mod Held
+-- All together: the list of a clean recording holds its cell.
 pub mod HeldCells

@@ -1,11 +1,9 @@
 -- The broadcast channel of a clean slot: its values speak for the word that was sent.
-use Rattle.std.proofs.Common.{◌≡◌, ℕ, ◌+◌, ◌-◌, ◌*◌, ◌/◌, ◌%◌, ◌<◌, ◌≤◌, ◌⊎◌, inl, inr, arith, refl, sym, ◌∙◌, subst, Bool, true, false, not, List, length, get_or, ℤ, pos, negsuc, nat_abs, nat_le, nat_lt, nat_eq}
+use Rattle.std.proofs.Common.{◌≡◌, ℕ, ◌+◌, ◌-◌, ◌*◌, ◌/◌, ◌%◌, ◌<◌, ◌≤◌, ◌⊎◌, inl, inr, arith, refl, sym, ◌∙◌, subst, Bool, true, not, List, length, get_or, ℤ, pos, nat_abs, nat_le, nat_lt, nat_eq}
 use Rattle.std.specs.Prelude.{◌&&◌}
-use Rattle.std.proofs.lemmas.Int.{ints}
 use Rattle.std.proofs.lemmas.Bool.{cases_lt}
 use Rattle.std.proofs.lemmas.Bool.Decides.{nat_tests}
 use Rattle.finite.specs.Sums.{total_below}
-use Rattle.finite.proofs.Lists.{values_below_at, values_below-length}
 use Rattle.finite.specs.Tables.{sum_at}
 use Rattle.finite.proofs.Sums.{total_some}
 use Rattle.gold.specs.Gold.{gold_bit}
@@ -29,7 +27,7 @@ use Rattle.clean_air.specs.Values.{SupportBoth}
 use Rattle.clean_air.specs.Words.{SpeakInOrder}
 use Rattle.clean_air.specs.Broadcast.{SpeaksOfWord, SentWordIsOnly, SentWordIsTold, ReceivedSlotSpeaks}
 use Rattle.clean_air.proofs.SoftValues.{received_values_support_bits}
-use Rattle.clean_air.proofs.SpokenWords.{descrambling_keeps, summed-length, sums_speak, spoken_word_is_only}
+use Rattle.clean_air.proofs.SpokenWords.{descrambling_keeps, sums_speak, spoken_word_is_only}
 
 -- ---- the values in the order of the reading
 

@@ -1,18 +1,10 @@
 -- The word that a cell broadcasts: its fields, and its check.
-use Rattle.std.proofs.Common.{◌≡◌, ℕ, zero, suc, ◌+◌, ◌-◌, ◌/◌, ◌%◌, ◌^◌, ◌<◌, ◌≤◌, inl, arith, refl, ap, sym, subst, ◌∙◌, cond, List, [], ◌∷◌, ◌++◌, length, take, get_or, replicate, nat_eq, Bool, true, false, bit_xor}
-use Rattle.std.specs.Prelude.{slice_range}
-use Rattle.std.specs.Int.Bits.{xor_zero_r}
-use Rattle.std.proofs.Math.Nat.{div-eq_of_lt, div-one}
-use Rattle.std.proofs.lemmas.Nat.{shr-shr}
-use Rattle.std.proofs.lemmas.List.{take_all, length-append, length-replicate}
-use Rattle.std.proofs.lemmas.Bool.Decides.{nat_tests}
-use Rattle.finite.proofs.Lists.{values_below_at, values_below-length}
+use Rattle.std.proofs.Common.{◌≡◌, ℕ, ◌/◌, ◌≤◌, inl, arith, refl, ap, ◌∙◌, List, ◌++◌, length, Bool, bit_xor}
 use Rattle.cs_bits.specs.Numbers.{number, bits_of, part, field}
 use Rattle.cs_bits.specs.Checks.{crc16_of}
 use Rattle.cs_bits.proofs.Numbers.{number_of_bits}
 use Rattle.cs_bits.proofs.Checks.{checked_16}
-use Rattle.lte_types.specs.declared.bandwidth.Bandwidth.TheVariants.{N6}
-use Rattle.lte_types.specs.Codes.{bandwidth_code, duration, duration_code, resource, resource_code}
+use Rattle.lte_types.specs.Codes.{duration, duration_code, resource, resource_code}
 use Rattle.lte_types.proofs.RoundTrips.{duration-code, duration_code_fits, resource-code, resource_code_fits}
 use Rattle.pbch.specs.Master.{PassesWith}
 use Rattle.cell_tx.specs.declared.cell.CellPlan.{CellPlan}

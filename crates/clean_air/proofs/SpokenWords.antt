@@ -1,5 +1,5 @@
 -- Where all values speak for the coded bits of one word, that word costs nothing and every other word costs something.
-use Rattle.std.proofs.Common.{◌≡◌, ℕ, zero, suc, ◌*◌, ◌<◌, ◌≤◌, inl, inr, arith, refl, ap, ap₂, sym, ◌∙◌, subst, Bool, true, false, nat_eq, cond, List, [], length, get_or, ℤ, pos, negsuc, ◌+ℤ◌, ◌≤ℤ◌}
+use Rattle.std.proofs.Common.{◌≡◌, ℕ, zero, suc, ◌*◌, ◌<◌, ◌≤◌, inl, inr, arith, refl, ap, ap₂, sym, ◌∙◌, subst, Bool, true, false, nat_eq, cond, List, [], length, get_or, ℤ, pos, ◌+ℤ◌}
 use Rattle.std.specs.Prelude.{◌&&◌}
 use Rattle.std.proofs.lemmas.Int.{ints}
 use Rattle.std.proofs.lemmas.Bool.{cases_lt, and_parts, eqb-true, eq-eqb}

@@ -10,18 +10,25 @@ use Rattle.cell_tx.specs.declared.cell.CellPlan.{CellPlan}
 use Rattle.cell_tx.specs.Plan.{IsSendable}
 use Rattle.cell_tx.specs.Clean.{IsClean, start_of, number_at_start}
 
--- the list has an entry with the cell's identity, the sample at which its first frame begins and that frame's number, one antenna
--- port (TS 36.212 section 5.3.1.1), and the fields of its master block, which holds the upper 8 bits of the frame's number
--- (TS 36.331 section 6.2.2); every entry with this identity, start and number is that one
-pub record HoldsCell (list : List Entry) (plan : CellPlan) (first number : ℕ) : Type 0 where
+-- the list has an entry with this identity, start and frame number, which is as it was sent; every entry with these three is that one
+pub record HoldsOne (list : List Entry) (identity first number : ℕ) (is_sent : Entry → Type 0) : Type 0 where
   pub entry : Entry
   pub inside : Contains list entry
-  pub id : entry.id ≡ plan.identity
+  pub id : entry.id ≡ identity
   pub start : entry.start ≡ first
   pub sfn : entry.sfn ≡ number
+  pub sent : is_sent entry
+  pub only : (other : Entry) → Contains list other → other.id ≡ identity → other.start ≡ first → other.sfn ≡ number → other ≡ entry
+
+-- the entry has one antenna port (TS 36.212 section 5.3.1.1), and the fields of the master block of a cell in the frame with this number,
+-- which holds the upper 8 bits of it (TS 36.331 section 6.2.2)
+pub record IsSentEntry (plan : CellPlan) (number : ℕ) (entry : Entry) : Type 0 where
   pub ports : entry.ports ≡ 1
   pub block : HasFields entry.mib N6 plan.duration plan.resource (number / 4) plan.spare
-  pub only : (other : Entry) → Contains list other → other.id ≡ plan.identity → other.start ≡ first → other.sfn ≡ number → other ≡ entry
+
+-- the list holds the cell of which a frame begins at this sample with this number
+abbrev pub HoldsCell : List Entry → CellPlan → ℕ → ℕ → Type 0
+HoldsCell list plan first number = HoldsOne list plan.identity first number (IsSentEntry plan number)
 
 -- of each cell of which the recording is clean, whatever its plan, its first frame's number, the offset, the gain and the errors are
 abbrev pub HoldsCleanCells : List Sample → List Entry → Type 0

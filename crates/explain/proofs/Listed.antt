@@ -6,63 +6,61 @@ use Rattle.std.proofs.lemmas.List.{get_or_default}
 use Rattle.std.proofs.lemmas.List.Elements.{Contains-append_left, Contains-append_right, Contains-append_cases, Contains-get_or}
 use Rattle.std.proofs.lemmas.List.Sorted.{IsPermutation-refl, IsPermutation-sym, Contains-permutation}
 use Rattle.std.proofs.lemmas.Grind.{flat_map-append}
-use Rattle.cs_num.specs.declared.Sample.{Sample}
 use Rattle.lte_types.specs.declared.hit.Hit.{Hit}
 use Rattle.lte_types.specs.declared.entry.Entry.{Entry}
 use Rattle.pss_search.specs.Hits.{hits_of}
-use Rattle.explain.specs.Entries.{is_same_cell, kept, IsBefore, IsEntryOf, AreEntriesOf, IsListOf, IsListOfHits, AddsHit}
-use Rattle.explain.specs.Laws.{IsOneList, IsSound, IsComplete, AreApart, IsApart}
+use Rattle.explain.specs.Entries.{is_same_cell, kept, IsBefore, IsEntryOf, AreEntries, IsListOf, IsListOfHits, AddsHit}
+use Rattle.explain.specs.Laws.{HaveOneList, IsOneList, IsEntryOfSome, IsSoundOf, IsSound, IsCompleteOf, IsComplete, AreApart, IsApartOf, IsApart}
 use Rattle.explain.proofs.Sorted.{in_none, in_cons, Contains-here, Contains-later, one_in_order}
 use Rattle.explain.proofs.Kept.{same_cell_turned, same_place_same_cell, kept_only, kept_stands, kept_apart, before_after}
 
 abbrev pub joined : List (List Entry) → List Entry
 joined groups = flat_map (λ entries. entries) groups
 
--- ---- entries of hits
+-- ---- entries of hits, where `IsOf` says which entries a hit has
 
--- an entry of some of these hits
-record IsOfSome (recording : List Sample) (hits : List Hit) (entry : Entry) : Type 0 where
-  hit : Hit
-  listed : Contains hits hit
-  is_of : IsEntryOf recording hit entry
-
-of_some : (recording : List Sample) (hits : List Hit) (groups : List (List Entry)) (entry : Entry) →
-    AllZip (AreEntriesOf recording) hits groups → Contains (joined groups) entry → IsOfSome recording hits entry
-of_some recording [] [] entry each h = absurd (in_none entry h)
-of_some recording [] (g ∷ gs) entry each h = absurd each
-of_some recording (hit ∷ hits) [] entry each h = absurd each
-of_some recording (hit ∷ hits) (g ∷ gs) entry each h = elim (Contains-append_cases g (joined gs) entry h) [
+of_some : (IsOf : Hit → Entry → Type 0) (hits : List Hit) (groups : List (List Entry)) (entry : Entry) →
+    AllZip (λ hit. AreEntries (IsOf hit)) hits groups → Contains (joined groups) entry → IsEntryOfSome IsOf hits entry
+of_some IsOf [] [] entry each h = absurd (in_none entry h)
+of_some IsOf [] (g ∷ gs) entry each h = absurd each
+of_some IsOf (hit ∷ hits) [] entry each h = absurd each
+of_some IsOf (hit ∷ hits) (g ∷ gs) entry each h = elim (Contains-append_cases g (joined gs) entry h) [
   | inl own ↦ record { hit = hit; listed = Contains-here hit hits; is_of = (each.0.given entry).0 own }
-  | inr rest ↦ let s = of_some recording hits gs entry each.1 rest in record { hit = s.hit; listed = Contains-later hit hits s.hit s.listed; is_of = s.is_of }
+  | inr rest ↦ let s = of_some IsOf hits gs entry each.1 rest in record { hit = s.hit; listed = Contains-later hit hits s.hit s.listed; is_of = s.is_of }
 ]
 
-in_groups : (recording : List Sample) (hits : List Hit) (groups : List (List Entry)) (entry : Entry) (hit : Hit) →
-    AllZip (AreEntriesOf recording) hits groups → Contains hits hit → IsEntryOf recording hit entry → Contains (joined groups) entry
-in_groups recording [] [] entry hit each listed is_of = absurd (in_none hit listed)
-in_groups recording [] (g ∷ gs) entry hit each listed is_of = absurd each
-in_groups recording (h ∷ hits) [] entry hit each listed is_of = absurd each
-in_groups recording (h ∷ hits) (g ∷ gs) entry hit each listed is_of = elim (in_cons h hits hit listed) [
-  | inl is ↦ Contains-append_left g (joined gs) entry ((each.0.given entry).1 (subst (λ x. IsEntryOf recording x entry) (sym is) is_of))
-  | inr later ↦ Contains-append_right g (joined gs) entry (in_groups recording hits gs entry hit each.1 later is_of)
+in_groups : (IsOf : Hit → Entry → Type 0) (hits : List Hit) (groups : List (List Entry)) (entry : Entry) (hit : Hit) →
+    AllZip (λ hit. AreEntries (IsOf hit)) hits groups → Contains hits hit → IsOf hit entry → Contains (joined groups) entry
+in_groups IsOf [] [] entry hit each listed is_of = absurd (in_none hit listed)
+in_groups IsOf [] (g ∷ gs) entry hit each listed is_of = absurd each
+in_groups IsOf (h ∷ hits) [] entry hit each listed is_of = absurd each
+in_groups IsOf (h ∷ hits) (g ∷ gs) entry hit each listed is_of = elim (in_cons h hits hit listed) [
+  | inl is ↦ Contains-append_left g (joined gs) entry ((each.0.given entry).1 (subst (λ x. IsOf x entry) (sym is) is_of))
+  | inr later ↦ Contains-append_right g (joined gs) entry (in_groups IsOf hits gs entry hit each.1 later is_of)
 ]
 
 -- ---- laws
 
-pub is_sound : IsSound
-is_sound recording list entry explained h =
-    let s = of_some recording (hits_of recording) explained.groups entry explained.each
-    (kept_only (joined explained.groups) entry (Contains-permutation list (kept (joined explained.groups)) entry (IsPermutation-sym _ _ explained.listed.same) h)) in
-    record { hit = s.hit; listed = s.listed; is_of = s.is_of }
+pub sound_of : (IsOf : Hit → Entry → Type 0) (hits : List Hit) → IsSoundOf IsOf hits
+sound_of IsOf hits list entry explained h =
+    of_some IsOf hits explained.groups entry explained.each
+    (kept_only (joined explained.groups) entry (Contains-permutation list (kept (joined explained.groups)) entry (IsPermutation-sym _ _ explained.listed.same) h))
 
-pub is_complete : IsComplete
-is_complete recording list entry explained is =
-    let inside = in_groups recording (hits_of recording) explained.groups entry is.hit explained.each is.listed is.is_of in
+pub is_sound : IsSound
+is_sound recording = sound_of (IsEntryOf recording) (hits_of recording)
+
+pub complete_of : (IsOf : Hit → Entry → Type 0) (hits : List Hit) → IsCompleteOf IsOf hits
+complete_of IsOf hits list entry explained is =
+    let inside = in_groups IsOf hits explained.groups entry is.hit explained.each is.listed is.is_of in
     let (other, s) = kept_stands (joined explained.groups) entry inside in
     (other, record { inside = Contains-permutation (kept (joined explained.groups)) list other explained.listed.same s.inside; same = s.same })
 
+pub is_complete : IsComplete
+is_complete recording = complete_of (IsEntryOf recording) (hits_of recording)
+
 -- the entries of a hit are one list
-one_group : (recording : List Sample) (hit : Hit) (first second : List Entry) → AreEntriesOf recording hit first → AreEntriesOf recording hit second → first ≡ second
-one_group recording hit first second a b =
+one_group : (IsOf : Hit → Entry → Type 0) (hit : Hit) (first second : List Entry) → AreEntries (IsOf hit) first → AreEntries (IsOf hit) second → first ≡ second
+one_group IsOf hit first second a b =
     one_in_order (λ (x y : Entry). x.phase < y.phase) (λ x y p q. omega (arith, p, q)) first second a.by_phase b.by_phase
     (λ z h. (b.given z).1 ((a.given z).0 h)) (λ z h. (a.given z).1 ((b.given z).0 h))
 
@@ -93,8 +91,11 @@ one_list AreOf one hits first second a b =
     let groups = one_grouping AreOf one hits a.groups b.groups a.each b.each in
     one_order (joined b.groups) first second (subst (λ g. IsListOf (joined g) first) groups a.listed) b.listed
 
+pub one_list_of : (IsOf : Hit → Entry → Type 0) (hits : List Hit) → HaveOneList IsOf hits
+one_list_of IsOf = one_list (λ hit. AreEntries (IsOf hit)) (one_group IsOf)
+
 pub is_one_list : IsOneList
-is_one_list recording = one_list (AreEntriesOf recording) (one_group recording) (hits_of recording)
+is_one_list recording = one_list_of (IsEntryOf recording) (hits_of recording)
 
 -- two of a list of which none is of the cell of a later one, at two places
 places_apart : (entries : List Entry) (x y : Entry) (i j : ℕ) → AllPairs (λ a b. is_same_cell a b ≡ false) entries → i < length entries → j < length entries →
@@ -135,8 +136,11 @@ list_is_apart AreOf hits list explained i j d below inside =
       differ = λ id start sfn. let same = same_place_same_cell x y id start sfn in absurd (cc (same, other));
     }
 
+pub apart_of : (IsOf : Hit → Entry → Type 0) (hits : List Hit) → IsApartOf IsOf hits
+apart_of IsOf = list_is_apart (λ hit. AreEntries (IsOf hit))
+
 pub is_apart : IsApart
-is_apart recording = list_is_apart (AreEntriesOf recording) (hits_of recording)
+is_apart recording = apart_of (IsEntryOf recording) (hits_of recording)
 
 -- ---- hit after hit
 

@@ -1,11 +1,13 @@
 -- The list of the cells that a recording explains. (own)
-use Rattle.std.specs.Prelude.{◌≡◌, ◌⊎◌, ◌↔◌, ℕ, ◌+◌, ◌-◌, ◌*◌, ◌%◌, ◌<◌, ◌≤◌, min, Bool, ◌&&◌, nat_eq, nat_le, if◌then◌else◌, List, [], ◌∷◌, ◌++◌, ℤ, Err}
+use Rattle.std.specs.Prelude.{◌≡◌, ◌⊎◌, ◌↔◌, ℕ, ◌+◌, ◌-◌, ◌*◌, ◌%◌, ◌<◌, min, Bool, ◌&&◌, nat_eq, nat_le, if◌then◌else◌, List, [], ◌∷◌, ◌++◌, ℤ, Result}
 use Rattle.std.specs.List.{fold, list_any, flat_map, AllZip, AllPairs, Contains}
 use Rattle.std.specs.List.Sorted.{IsPermutation}
 use Rattle.cs_num.specs.declared.Sample.{Sample}
 use Rattle.lte_types.specs.declared.hit.Hit.{Hit}
 use Rattle.lte_types.specs.declared.entry.Entry.{Entry}
-use Rattle.lte_types.specs.declared.sib1_reason.Sib1Reason.TheVariants.{NotRead}
+use Rattle.lte_types.specs.declared.mib.Mib.{Mib}
+use Rattle.lte_types.specs.declared.sib1.Sib1.{Sib1}
+use Rattle.lte_types.specs.declared.sib1_reason.Sib1Reason.{Sib1Reason}
 use Rattle.pss_search.specs.Hits.{hits_of}
 use Rattle.sss_detect.specs.Identity.{identity_of}
 use Rattle.lte_types.specs.Identity.{cell_of}
@@ -13,8 +15,9 @@ use Rattle.lte_types.specs.Numerology.{cycle_length, frame_length}
 use Rattle.sss_detect.specs.Place.{start_of}
 use Rattle.pbch.specs.declared.master.Master.{Master}
 use Rattle.pbch.specs.Values.{coded_values}
-use Rattle.pbch.specs.Master.{TellsMaster, HasNoMaster}
-use Rattle.explain.specs.Frame.{IsWhole, broadcast_slot}
+use Rattle.explain.specs.Frame.{broadcast_slot}
+use Rattle.explain.specs.System.{IsSystemOf}
+use Rattle.explain.specs.Window.{IsFirstFrame, IsMasterAt}
 
 -- ---- the entries of a hit
 
@@ -35,32 +38,36 @@ abbrev pub values_of_entry : List Sample → Entry → List (List ℤ)
 values_of_entry recording entry =
     coded_values (broadcast_slot recording entry.id entry.start entry.frame) entry.phase
 
--- no frame before frame j has a master block, at any phase
-abbrev pub HasNoMasterBefore : List Sample → ℕ → ℕ → ℕ → Type 0
-HasNoMasterBefore recording identity start j =
-    (i phase : ℕ) → i < j → phase < 4 → HasNoMaster (broadcast_slot recording identity start i) phase
-
 -- the number of the first frame, by that of frame j: four times the upper bits of its block and its phase, and as much less as there
 -- are frames before
 abbrev pub first_number : ℕ → ℕ → ℕ → ℕ
 first_number upper phase j = (4 * upper + phase + (1024 - j)) % 1024
 
--- the entry tells a master block of the hit: one of the first of its whole frames 0 to 7 that has any
-pub record IsEntryOf (recording : List Sample) (hit : Hit) (entry : Entry) : Type 0 where
-  pub id : entry.id ≡ identity_at recording hit
-  pub start : entry.start ≡ start_at recording hit
-  pub frame : entry.frame ≤ 7
+-- the entry tells a master block of a cell with this identity, whose first frame begins at this sample: one of the first of its frames
+-- that has any. `Tells` says which master block a frame tells, by identity, start, frame and phase, and `IsSystem` what is told of the
+-- system information, by identity, start, frame number, antenna ports and master block
+pub record IsEntryBy (Tells : ℕ → ℕ → ℕ → ℕ → Master → Type 0) (IsSystem : ℕ → ℕ → ℕ → ℕ → Mib → Result Sib1 Sib1Reason → Type 0)
+    (recording : List Sample) (identity sample : ℕ) (entry : Entry) : Type 0 where
+  pub id : entry.id ≡ identity
+  pub start : entry.start ≡ sample
   pub phase : entry.phase < 4
-  pub whole : IsWhole recording entry.start entry.frame
-  pub first : HasNoMasterBefore recording entry.id entry.start entry.frame
-  pub master : TellsMaster (values_of_entry recording entry) (master_of entry)
+  pub frame : IsFirstFrame Tells recording entry.id entry.start entry.frame
+  pub master : Tells entry.id entry.start entry.frame entry.phase (master_of entry)
   pub sfn : entry.sfn ≡ first_number entry.mib.upper entry.phase entry.frame
-  pub sib1 : entry.sib1 ≡ Err NotRead
+  pub sib1 : IsSystem entry.id entry.start entry.sfn entry.ports entry.mib entry.sib1
+
+-- the entry tells a master block of the hit, by one antenna port
+abbrev pub IsEntryOf : List Sample → Hit → Entry → Type 0
+IsEntryOf recording hit entry = IsEntryBy (IsMasterAt recording) (IsSystemOf recording) recording (identity_at recording hit) (start_at recording hit) entry
+
+-- entries by phase, where `Is` says which there are
+pub record AreEntries (Is : Entry → Type 0) (entries : List Entry) : Type 0 where
+  pub given : (entry : Entry) → Contains entries entry ↔ Is entry
+  pub by_phase : AllPairs (λ first second. first.phase < second.phase) entries
 
 -- the entries of a hit: one for each of its master blocks, by phase
-pub record AreEntriesOf (recording : List Sample) (hit : Hit) (entries : List Entry) : Type 0 where
-  pub given : (entry : Entry) → Contains entries entry ↔ IsEntryOf recording hit entry
-  pub by_phase : AllPairs (λ first second. first.phase < second.phase) entries
+abbrev pub AreEntriesOf : List Sample → Hit → List Entry → Type 0
+AreEntriesOf recording hit = AreEntries (IsEntryOf recording hit)
 
 -- ---- the entries that are kept
 

@@ -1,4 +1,6 @@
 pub mod Frame
+pub mod System
+pub mod Window
 pub mod Entries
 pub mod Masters
 pub mod Laws

@@ -1,19 +1,20 @@
--- The master blocks of a hit, and the entries that are made of them. (own)
-use Rattle.std.specs.Prelude.{◌≡◌, ℕ, ◌<◌, ◌≤◌, List, [], ◌∷◌, ◌++◌, Option, None, Some, MatchOption, length, slice_index_or, Err}
+-- The master blocks of a frame, and the entries that are made of them. `Tells` and `IsSystem` are those of an entry. (own)
+use Rattle.std.specs.Prelude.{◌≡◌, ℕ, ◌<◌, List, [], ◌∷◌, Option, None, Some, MatchOption, IfSome, Result}
 use Rattle.finite.specs.Lists.{joined_below}
 use Rattle.cs_num.specs.declared.Sample.{Sample}
-use Rattle.lte_types.specs.declared.hit.Hit.{Hit}
 use Rattle.lte_types.specs.declared.entry.Entry.{Entry}
-use Rattle.lte_types.specs.declared.sib1_reason.Sib1Reason.TheVariants.{NotRead}
+use Rattle.lte_types.specs.declared.mib.Mib.{Mib}
+use Rattle.lte_types.specs.declared.sib1.Sib1.{Sib1}
+use Rattle.lte_types.specs.declared.sib1_reason.Sib1Reason.{Sib1Reason}
 use Rattle.pbch.specs.declared.master.Master.{Master}
-use Rattle.pbch.specs.Master.{HasNoMaster, master_at, AreMasters}
-use Rattle.explain.specs.Frame.{IsWhole, broadcast_slot}
-use Rattle.explain.specs.Entries.{HasNoMasterBefore, first_number}
+use Rattle.pbch.specs.Master.{master_at}
+use Rattle.explain.specs.Window.{IsFirstFrame}
+use Rattle.explain.specs.Entries.{first_number, Adds}
 
--- no whole frame of 0 to 7 has a master block
-abbrev pub HasNoMasters : List Sample → ℕ → ℕ → Type 0
-HasNoMasters recording identity start =
-    (j phase : ℕ) → j ≤ 7 → IsWhole recording start j → phase < 4 → HasNoMaster (broadcast_slot recording identity start j) phase
+-- a frame tells this master block at a phase, or none
+abbrev pub IsToldAt : (ℕ → ℕ → ℕ → ℕ → Master → Type 0) → ℕ → ℕ → ℕ → ℕ → Option Master → Type 0
+IsToldAt Tells identity start frame phase o =
+    MatchOption o ((master : Master) → Tells identity start frame phase master → ⊥) (Tells identity start frame phase)
 
 -- some phase has a master block
 pub record HasMaster (masters : List (Option Master)) : Type 0 where
@@ -22,17 +23,17 @@ pub record HasMaster (masters : List (Option Master)) : Type 0 where
   pub master : Master
   pub is : master_at masters phase ≡ Some master
 
--- the frame is the first that has a master block, and these are its master blocks
-pub record IsFirstWith (recording : List Sample) (identity start frame : ℕ) (masters : List (Option Master)) : Type 0 where
-  pub within : frame ≤ 7
-  pub whole : IsWhole recording start frame
-  pub first : HasNoMasterBefore recording identity start frame
-  pub are : AreMasters (broadcast_slot recording identity start frame) masters
+-- frame j is the first that has a master block, and these are its master blocks
+pub record IsFirstWith (Tells : ℕ → ℕ → ℕ → ℕ → Master → Type 0) (recording : List Sample) (identity start j : ℕ) (masters : List (Option Master)) : Type 0 where
+  pub frame : IsFirstFrame Tells recording identity start j
+  pub are : (phase : ℕ) → phase < 4 → IsToldAt Tells identity start j phase (master_at masters phase)
   pub some : HasMaster masters
 
--- the entry of a master block
-abbrev pub entry_of : ℕ → ℕ → ℕ → ℕ → Master → Entry
-entry_of identity start frame phase master = record {
+-- ---- entries
+
+-- the entry of a master block with this system information
+abbrev pub entry_of : ℕ → ℕ → ℕ → ℕ → Master → Result Sib1 Sib1Reason → Entry
+entry_of identity start frame phase master sib1 = record {
   id = identity;
   start = start;
   sfn = first_number master.mib.upper phase frame;
@@ -41,14 +42,34 @@ entry_of identity start frame phase master = record {
   frame = frame;
   phase = phase;
   cost = master.cost;
-  sib1 = Err NotRead;
+  sib1 = sib1;
 }
 
 -- that of a phase, where it has a master block
-abbrev pub entry_at : ℕ → ℕ → ℕ → ℕ → Option Master → List Entry
-entry_at identity start frame phase None = []
-entry_at identity start frame phase (Some master) = entry_of identity start frame phase master ∷ []
+abbrev pub entry_at : ℕ → ℕ → ℕ → ℕ → Option Master → Result Sib1 Sib1Reason → List Entry
+entry_at identity start frame phase None sib1 = []
+entry_at identity start frame phase (Some master) sib1 = entry_of identity start frame phase master sib1 ∷ []
 
--- those of all phases
-abbrev pub entries_of : ℕ → ℕ → ℕ → List (Option Master) → List Entry
-entries_of identity start frame masters = joined_below 4 (λ phase. entry_at identity start frame phase (master_at masters phase))
+-- those of the first phases, so many, with their system information by phase
+abbrev pub entries_of : ℕ → ℕ → ℕ → List (Option Master) → (ℕ → Result Sib1 Sib1Reason) → ℕ → List Entry
+entries_of identity start frame masters systems count =
+    joined_below count (λ phase. entry_at identity start frame phase (master_at masters phase) (systems phase))
+
+-- ---- system information
+
+-- where a phase has a master block, this is told of its system information
+abbrev pub IsSystemAt : (ℕ → ℕ → ℕ → ℕ → Mib → Result Sib1 Sib1Reason → Type 0) → ℕ → ℕ → ℕ → ℕ → Option Master → Result Sib1 Sib1Reason → Type 0
+IsSystemAt IsSystem identity start frame phase o sib1 =
+    IfSome o (λ master. IsSystem identity start (first_number master.mib.upper phase frame) master.ports master.mib sib1)
+
+-- the list has the entry of a phase besides
+pub record AddsPhase (IsSystem : ℕ → ℕ → ℕ → ℕ → Mib → Result Sib1 Sib1Reason → Type 0) (identity start frame phase : ℕ) (o : Option Master) (old new : List Entry) : Type 0 where
+  pub sib1 : Result Sib1 Sib1Reason
+  pub told : IsSystemAt IsSystem identity start frame phase o sib1
+  pub adds : Adds (entry_at identity start frame phase o sib1) old new
+
+-- the list has the entries of the first phases besides, so many
+pub record AddsPhases (IsSystem : ℕ → ℕ → ℕ → ℕ → Mib → Result Sib1 Sib1Reason → Type 0) (identity start frame : ℕ) (masters : List (Option Master)) (count : ℕ) (old new : List Entry) : Type 0 where
+  pub systems : ℕ → Result Sib1 Sib1Reason
+  pub told : (phase : ℕ) → phase < count → IsSystemAt IsSystem identity start frame phase (master_at masters phase) (systems phase)
+  pub adds : Adds (entries_of identity start frame masters systems count) old new

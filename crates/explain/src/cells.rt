@@ -4,13 +4,15 @@ ghost use Rattle.std.specs.Prelude.{◌≡◌, ◌+◌, ◌<◌, ◌≤◌, [], 
 ghost use Rattle.finite.specs.Sizes.{RowsWithin};
 ghost use Rattle.pss_search.specs.Hits.{IsInSpan};
 ghost use Rattle.pbch.specs.Master.{TellsMaster};
-ghost use Rattle.explain.specs.Entries.{IsExplained, IsInList, AreEntriesOf, IsListOfHits, Adds, AddsHit, master_of, values_of_entry};
-ghost use Rattle.explain.specs.Masters.{entry_of as entry_of_master, entry_at, entries_of};
+ghost use Rattle.explain.specs.Entries.{IsExplained, IsInList, AreEntriesOf, IsListOfHits, AddsHit, master_of, values_of_entry};
+ghost use Rattle.explain.specs.Masters.{entry_of as entry_of_master, AddsPhase, AddsPhases};
+ghost use Rattle.explain.specs.System.{IsSystemOf};
 
 use crate::frame::broadcast_slot;
 use crate::masters::{Masters, first_masters};
+use crate::system::system_of;
 use crate::{EntryList, Workspace};
-use lte_types::{CellId, Entry, Hit, Sfn, Sib1Reason};
+use lte_types::{CellId, Entry, Hit, Sfn};
 use pbch::{Master, values};
 use pss_search::hits;
 use sample_file::Recording;
@@ -69,21 +71,28 @@ fn add_hit(recording: &Recording, hit: &Hit, work: &mut Trellis, list: &mut Entr
     let id = cell_id(n1, hit.n2);
     let start = frame_start(hit, half);
     match first_masters(recording, id, start, work) {
-        Some(masters) => add_masters(id, start, &masters, list),
+        Some(masters) => add_masters(recording, id, start, &masters, list),
         None => {}
     }
 }
 
 // Adds the entries of a frame's master blocks.
-fn add_masters(id: CellId, start: u32, masters: &Masters, list: &mut EntryList)
+fn add_masters(
+    recording: &Recording,
+    id: CellId,
+    start: u32,
+    masters: &Masters,
+    list: &mut EntryList,
+)
     requires frame { masters.now.frame ≤ 7 }
     requires count { length masters.now.at ≡ 4 }
     requires room { length list.old + 4 ≤ 23040 }
-    ensures adds { Adds (entries_of id start masters.now.frame masters.now.at) list.old list.new }
+    ensures adds { AddsPhases (IsSystemOf recording.now) id start masters.now.frame masters.now.at 4 list.old list.new }
     ensures few { length list.new ≤ length list.old + 4 }
 {
     for phase in 0..4 {
         add_phase(
+            recording,
             id,
             start,
             masters.frame,
@@ -96,6 +105,7 @@ fn add_masters(id: CellId, start: u32, masters: &Masters, list: &mut EntryList)
 
 // Adds the entry of a master block, where there is one.
 fn add_phase(
+    recording: &Recording,
     id: CellId,
     start: u32,
     frame: u8,
@@ -106,31 +116,40 @@ fn add_phase(
     requires frame { frame ≤ 7 }
     requires phase { phase < 4 }
     requires room { length list.old < 23040 }
-    ensures adds { Adds (entry_at id start frame phase master) list.old list.new }
+    ensures adds { AddsPhase (IsSystemOf recording.now) id start frame phase master list.old list.new }
     ensures one { length list.new ≤ length list.old + 1 }
 {
     match master {
-        Some(master) => list.add(entry_of(id, start, frame, phase, master)),
+        Some(master) => list.add(entry_of(recording, id, start, frame, phase, master)),
         None => {}
     }
 }
 
 // The entry of a master block.
-fn entry_of(id: CellId, start: u32, frame: u8, phase: u8, master: Master) -> Entry
+fn entry_of(
+    recording: &Recording,
+    id: CellId,
+    start: u32,
+    frame: u8,
+    phase: u8,
+    master: Master,
+) -> Entry
     requires frame { frame ≤ 7 }
     requires phase { phase < 4 }
-    ensures { result ≡ entry_of_master id start frame phase master }
+    ensures entry { result ≡ entry_of_master id start frame phase master result.sib1 }
+    ensures system { IsSystemOf recording.now id start result.sfn master.ports master.mib result.sib1 }
 {
     let number = 4 * master.mib.upper as u64 + phase as u64 + (1024 - frame as u64);
+    let sfn = Sfn::modulo(number);
     Entry {
         id,
         start,
-        sfn: Sfn::modulo(number),
+        sfn,
         ports: master.ports,
         mib: master.mib,
         frame,
         phase,
         cost: master.cost,
-        sib1: Err(Sib1Reason::NotRead),
+        sib1: system_of(recording, id, start, sfn, master),
     }
 }

@@ -8,6 +8,7 @@ mod frame;
 mod laws;
 mod listing;
 mod masters;
+mod system;
 mod workspace;
 
 pub use cells::{explain, values_of};

@@ -3,7 +3,8 @@
 ghost use Rattle.std.specs.Prelude.{◌≡◌, MatchOption, is_some};
 ghost use Rattle.finite.specs.Tests.{any_below};
 ghost use Rattle.pbch.specs.Master.{AreMasters, master_at};
-ghost use Rattle.explain.specs.Masters.{HasNoMasters, IsFirstWith};
+ghost use Rattle.explain.specs.Masters.{IsFirstWith};
+ghost use Rattle.explain.specs.Window.{HasNoMasters, IsMasterAt};
 
 use crate::frame::{broadcast_slot, is_whole};
 use lte_types::CellId;
@@ -26,8 +27,8 @@ pub(crate) fn first_masters(
     start: u32,
     work: &mut Trellis,
 ) -> Option<Masters>
-    ensures { MatchOption result (HasNoMasters recording.now id start)
-        (λ found. IsFirstWith recording.now id start found.frame found.at) }
+    ensures { MatchOption result (HasNoMasters (IsMasterAt recording.now) recording.now id start)
+        (λ found. IsFirstWith (IsMasterAt recording.now) recording.now id start found.frame found.at) }
 {
     for frame in 0..8 {
         if !is_whole(recording, start, frame) {

@@ -42,7 +42,7 @@ sent_back t bytes size e = ap samples_of e ∙ samples_back (sent_samples t) (se
 held_line : (list : List Entry) (plan : CellPlan) (first number : ℕ) → HoldsCell list plan first number → IsPiece (sent_line plan first number) (report_text list)
 held_line list plan first number held =
     let is : cell_line held.entry ≡ sent_line plan first number =
-    rw (held.id, held.start, held.sfn, held.ports, held.block.bandwidth, held.block.duration, held.block.resource, held.block.spare) refl in
+    rw (held.id, held.start, held.sfn, held.sent.ports, held.sent.block.bandwidth, held.sent.block.duration, held.sent.block.resource, held.sent.block.spare) refl in
     subst (λ l. IsPiece l (report_text list)) is (lines_stand list held.entry held.inside)
 
 pub sent_is_found : ReceivedIsClean → WhatIsSentIsFound

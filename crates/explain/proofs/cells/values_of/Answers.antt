@@ -9,7 +9,7 @@ use Rattle.explain.proofs.cells.values_of.Goals as goal
 pub broadcast_slot-slot-requires : goal.broadcast_slot-slot-requires
 broadcast_slot-slot-requires c =
     let s = is_sound c.args.recording.now c.requires.list c.args.entry.now c.requires.explained c.requires.inside in
-    s.is_of.whole
+    s.is_of.frame.inside.whole
 
 pub values-requires-clause-number : goal.values-requires-clause-number
 values-requires-clause-number c =

@@ -1,0 +1,173 @@
+-- A list holds each cell that is heard: whose signals stand at its places, and whose first frame tells a master block of its number.
+use Rattle.std.proofs.Common.{◌≡◌, ℕ, ◌+◌, ◌/◌, ◌%◌, ◌<◌, ◌≤◌, inl, inr, arith, refl, ap, sym, subst, ◌∙◌, List, length, nat_eq, nat_le, true}
+use Rattle.std.specs.Prelude.{◌&&◌, Result}
+use Rattle.std.specs.List.{Contains}
+use Rattle.std.proofs.lemmas.Bool.{cases_lt}
+use Rattle.std.proofs.lemmas.Bool.Decides.{nat_tests}
+use Rattle.cs_num.specs.declared.Sample.{Sample}
+use Rattle.lte_types.specs.declared.mib.Mib.{Mib}
+use Rattle.lte_types.specs.declared.sib1.Sib1.{Sib1}
+use Rattle.lte_types.specs.declared.sib1_reason.Sib1Reason.{Sib1Reason}
+use Rattle.lte_types.specs.declared.frame.Half.{Half}
+use Rattle.lte_types.specs.declared.frame.Half.TheVariants.{Zero, Five}
+use Rattle.lte_types.specs.declared.hit.Hit.{Hit}
+use Rattle.lte_types.specs.declared.entry.Entry.{Entry}
+use Rattle.pss_search.specs.Hits.{found, hits_of}
+use Rattle.pss_search.proofs.Listed.{list_is_right}
+use Rattle.lte_types.specs.Identity.{cell_of}
+use Rattle.sss_detect.specs.Place.{start_of}
+use Rattle.sss_detect.specs.Identity.{identity_of}
+use Rattle.pbch.specs.declared.master.Master.{Master}
+use Rattle.cell_tx.specs.Clean.{start_of as start_after}
+use Rattle.explain.specs.Entries.{identity_at, start_at, master_of, epoch, distance, is_same_cell, IsEntryBy, AreEntries, IsListOfHits}
+use Rattle.explain.specs.Masters.{entry_of}
+use Rattle.explain.specs.Laws.{IsEntryOfSome}
+use Rattle.explain.proofs.Entries.{same_entry}
+use Rattle.explain.proofs.Listed.{sound_of, complete_of}
+use Rattle.budget.specs.Peak.{IsPrimaryAt}
+use Rattle.budget.specs.Score.{AreSynchronisation}
+use Rattle.budget.proofs.Peaks.{primary_is_listed, only_hit_near}
+use Rattle.budget.proofs.Scores.{sent_pair_is_identified}
+use Rattle.clean_air.specs.Clean.{HoldsOne}
+use Rattle.clean_air.proofs.SentSymbols.{IsTruePlace}
+use Rattle.clean_air.proofs.TruePlaces.{AreNear, true_hit, true_start, near_true, near_starts, same_numbers}
+
+-- what is used of a cell that begins at this offset: its synchronisation signals stand at its places, and its first whole frame, of this
+-- number, tells this master block
+pub record IsHeard (Tells : ℕ → ℕ → ℕ → ℕ → Master → Type 0) (recording : List Sample) (identity offset number : ℕ) (master : Master) : Type 0 where
+  pub long : 57600 ≤ length recording
+  pub within : offset < 19200
+  pub known : number ≤ 1023
+  pub primary : (t : ℕ) (half : Half) → IsTruePlace offset t half → t + 128 ≤ length recording → IsPrimaryAt recording t (identity % 3)
+  pub secondary : (t : ℕ) (half : Half) → IsTruePlace offset t half → 137 ≤ t → t + 128 ≤ length recording → AreSynchronisation recording t (identity / 3) (identity % 3) half
+  pub tells : Tells identity (start_after offset) 0 (number % 4) master
+  pub upper : master.mib.upper ≡ number / 4
+
+-- what it says of two entries that they are of one cell
+record IsOneCell (m n gap : ℕ) : Type 0 where
+  id : m ≡ n
+  near : gap ≤ 9
+
+cell_tells : (m n gap : ℕ) → (nat_eq m n && nat_le gap 9) ≡ true → IsOneCell m n gap
+cell_tells m n gap e = record { id = grind (arith, nat_tests); near = grind (arith, nat_tests) }
+
+start_small : (t : ℕ) (half : Half) → start_of t half < 19200
+start_small t Zero = omega arith
+start_small t Five = omega arith
+
+-- where a frame tells at most one master block at a phase, and there is at most one answer on system information
+module _ (Tells : ℕ → ℕ → ℕ → ℕ → Master → Type 0) (IsSystem : ℕ → ℕ → ℕ → ℕ → Mib → Result Sib1 Sib1Reason → Type 0)
+    (one : (identity start j phase : ℕ) (a b : Master) → Tells identity start j phase a → Tells identity start j phase b → a ≡ b)
+    (one_answer : (identity start sfn ports : ℕ) (mib : Mib) (a b : Result Sib1 Sib1Reason) → IsSystem identity start sfn ports mib a → IsSystem identity start sfn ports mib b → a ≡ b)
+    (recording : List Sample) where
+  -- the entries of a hit
+  abbrev pub IsOf : Hit → Entry → Type 0
+  IsOf hit entry = IsEntryBy Tells IsSystem recording (identity_at recording hit) (start_at recording hit) entry
+
+  abbrev pub IsOfSome : Entry → Type 0
+  IsOfSome entry = IsEntryOfSome IsOf (hits_of recording) entry
+
+  module _ (identity offset number : ℕ) (master : Master) (sib1 : Result Sib1 Sib1Reason) (heard : IsHeard Tells recording identity offset number master)
+      (system : IsSystem identity (start_after offset) number master.ports master.mib sib1) where
+    -- the cell's entry
+    abbrev sent_entry : Entry
+    sent_entry = entry_of identity (start_after offset) 0 (number % 4) master sib1
+
+    sent_number : sent_entry.sfn ≡ number
+    sent_number = let e = heard.upper in let fits = heard.known in omega (arith, e, fits)
+
+    -- it is one of a listed hit
+    is_entry : IsOfSome sent_entry
+    is_entry =
+        let h = true_hit offset heard.within in
+        let long = heard.long in
+        let inside : h.t + 128 ≤ length recording = omega (arith, long, h.is_hit.high) in
+        let hit : Hit = found recording h.t (identity % 3) in
+        let pair : identity_of recording hit ≡ (identity / 3, h.half) = sent_pair_is_identified recording hit (identity / 3) h.half
+        (heard.secondary h.t h.half h.is_hit.is h.is_hit.low inside) in
+        let cell : cell_of (identity / 3) (identity % 3) ≡ identity = omega arith in
+        record {
+          hit = hit;
+          listed = primary_is_listed recording h.t (identity % 3) (heard.primary h.t h.half h.is_hit.is inside) h.is_hit.low h.is_hit.high;
+          is_of = record {
+            id = sym (ap (λ (p : ℕ × Half). cell_of p.0 (identity % 3)) pair ∙ cell);
+            start = sym (ap (λ (p : ℕ × Half). start_of h.t p.1) pair ∙ true_start offset h.t h.half heard.within h.is_hit.is);
+            phase = omega arith;
+            frame = record { inside = record { known = omega arith; whole = omega (arith, long) }; first = λ i phase other before known. absurd (omega (arith, before)) };
+            master = heard.tells;
+            sfn = refl;
+            sib1 = subst (λ n. IsSystem identity (start_after offset) n master.ports master.mib sib1) (sym sent_number) system;
+          };
+        }
+
+    -- an entry of a hit with the cell's identity and a start near the cell's has the cell's start: its hit is near a true place, and
+    -- no place near that one is a hit
+    start_is : (other : Entry) (is : IsOfSome other) → other.id ≡ identity → AreNear other.start (start_after offset) → other.start ≡ start_after offset
+    start_is other is id near =
+        let hit = is.hit in
+        let half = (identity_of recording hit).1 in
+        let right = (list_is_right recording hit).0 is.listed in
+        let place = near_true offset hit.t half heard.within right.is_hit.from_first (subst (λ a. AreNear a (start_after offset)) is.is_of.start near) in
+        let long = heard.long in
+        let inside : place.u + 128 ≤ length recording = omega (arith, long, place.above, right.is_hit.to_last) in
+        let primary = heard.primary place.u half place.is inside in
+        let same = (only_hit_near recording place.u hit.t (identity % 3) hit.n2 primary (omega (arith, right.root)) place.below place.above right.is_hit).0 in
+        is.is_of.start ∙ true_start offset hit.t half heard.within (subst (λ t. IsTruePlace offset t half) (sym same) place.is)
+
+    -- what an entry with the cell's identity and start tells, by these
+    there : (other : Entry) → IsOfSome other → other.id ≡ identity → other.start ≡ start_after offset → Tells identity (start_after offset) other.frame other.phase (master_of other)
+    there other is id start =
+        subst (λ n. Tells identity n other.frame other.phase (master_of other)) start (subst (λ n. Tells n other.start other.frame other.phase (master_of other)) id is.is_of.master)
+
+    -- an entry of a hit with the cell's identity, start and number is the cell's entry: it tells the same master block of the same frame
+    entry_is : (other : Entry) → IsOfSome other → other.id ≡ identity → other.start ≡ start_after offset → other.sfn ≡ number → other ≡ sent_entry
+    entry_is other is id start sfn_is =
+        let frame : other.frame ≡ 0 = elim (cases_lt 0 other.frame) [
+          | inl later ↦ absurd (is.is_of.frame.first 0 (number % 4) master later (omega arith)
+              (subst (λ f. Tells other.id f 0 (number % 4) master) (sym start) (subst (λ n. Tells n (start_after offset) 0 (number % 4) master) (sym id) heard.tells)))
+          | inr none ↦ omega (arith, none)
+        ] in
+        let phase : other.phase ≡ number % 4 = omega (arith, is.is_of.sfn, is.is_of.phase, frame, sfn_is) in
+        let same : master_of other ≡ master = one identity (start_after offset) 0 (number % 4) (master_of other) master
+        (subst (λ p. Tells identity (start_after offset) 0 p (master_of other)) phase
+        (subst (λ j. Tells identity (start_after offset) j other.phase (master_of other)) frame (there other is id start))) heard.tells in
+        let own : IsSystem identity (start_after offset) number master.ports master.mib other.sib1 =
+        subst (λ (m : Master). IsSystem identity (start_after offset) number m.ports m.mib other.sib1) same
+        (subst (λ n. IsSystem identity (start_after offset) n other.ports other.mib other.sib1) sfn_is
+        (subst (λ n. IsSystem identity n other.sfn other.ports other.mib other.sib1) start (subst (λ n. IsSystem n other.start other.sfn other.ports other.mib other.sib1) id is.is_of.sib1))) in
+        same_entry other sent_entry id start (sfn_is ∙ sym sent_number) frame phase same
+        (one_answer identity (start_after offset) number master.ports master.mib other.sib1 sib1 own system)
+
+    -- an entry of the same cell is the same
+    same_if_near : (other : Entry) → IsOfSome other → is_same_cell other sent_entry ≡ true → other ≡ sent_entry
+    same_if_near other is same =
+        let cell = cell_tells other.id identity (distance (epoch other) (epoch sent_entry)) same in
+        let small = start_small is.hit.t (identity_of recording is.hit).1 in
+        let low : other.start < 19200 = omega (arith, small, is.is_of.start) in
+        let first : start_after offset < 19200 = omega arith in
+        let fits : other.sfn < 1024 = omega (arith, is.is_of.sfn) in
+        let sent : sent_entry.sfn < 1024 = omega arith in
+        let start = start_is other is cell.id (near_starts other.start (start_after offset) other.sfn sent_entry.sfn low first fits sent cell.near) in
+        entry_is other is cell.id start (same_numbers other.start (start_after offset) other.sfn sent_entry.sfn low first fits sent cell.near start ∙ sent_number)
+
+    module _ (list : List Entry) (listed : IsListOfHits (λ hit. AreEntries (IsOf hit)) (hits_of recording) list) where
+      -- so the list has it
+      in_list : Contains list sent_entry
+      in_list =
+          let (other, stands) = complete_of IsOf (hits_of recording) list sent_entry listed is_entry in
+          let same : other ≡ sent_entry = elim stands.same [
+            | inl here ↦ here
+            | inr near ↦ same_if_near other (sound_of IsOf (hits_of recording) list other listed stands.inside) near
+          ] in
+          subst (Contains list) same stands.inside
+
+      pub heard_is_held : (is_sent : Entry → Type 0) → is_sent sent_entry → HoldsOne list identity (start_after offset) number is_sent
+      heard_is_held is_sent sent = record {
+        entry = sent_entry;
+        inside = in_list;
+        id = refl;
+        start = refl;
+        sfn = sent_number;
+        sent = sent;
+        only = λ other there id start number. entry_is other (sound_of IsOf (hits_of recording) list other listed there) id start number;
+      }

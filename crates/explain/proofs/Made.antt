@@ -1,0 +1,64 @@
+-- The entries of a frame's master blocks, phase after phase.
+use Rattle.std.proofs.Common.{◌≡◌, ℕ, ◌+◌, ◌<◌, inl, inr, true, false, nat_lt, List, ◌++◌, Option, arith, refl, ap, sym, subst, ◌∙◌}
+use Rattle.std.specs.Prelude.{Result, if◌then◌else◌}
+use Rattle.std.proofs.lemmas.Bool.{cases_lt}
+use Rattle.std.proofs.lemmas.Bool.Decides.{nat_tests}
+use Rattle.finite.proofs.Lists.{joined_below_none, joined_below_more, joined_below_same}
+use Rattle.lte_types.specs.declared.entry.Entry.{Entry}
+use Rattle.lte_types.specs.declared.mib.Mib.{Mib}
+use Rattle.lte_types.specs.declared.sib1.Sib1.{Sib1}
+use Rattle.lte_types.specs.declared.sib1_reason.Sib1Reason.{Sib1Reason}
+use Rattle.pbch.specs.declared.master.Master.{Master}
+use Rattle.pbch.specs.Master.{master_at}
+use Rattle.explain.specs.Entries.{Adds}
+use Rattle.explain.specs.Masters.{entry_at, entries_of, IsSystemAt, AddsPhase, AddsPhases}
+use Rattle.explain.proofs.Kept.{adds_none, adds_more}
+
+-- the system information of the first phases, and of one more
+with_system : (ℕ → Result Sib1 Sib1Reason) → ℕ → Result Sib1 Sib1Reason → ℕ → Result Sib1 Sib1Reason
+with_system systems count sib1 phase = if nat_lt phase count then systems phase else sib1
+
+at_before : (systems : ℕ → Result Sib1 Sib1Reason) (count : ℕ) (sib1 : Result Sib1 Sib1Reason) (phase : ℕ) → phase < count → with_system systems count sib1 phase ≡ systems phase
+unfolding with_system
+at_before systems count sib1 phase l = let e : nat_lt phase count ≡ true = grind (arith, nat_tests) in rw e refl
+
+at_last : (systems : ℕ → Result Sib1 Sib1Reason) (count : ℕ) (sib1 : Result Sib1 Sib1Reason) → with_system systems count sib1 count ≡ sib1
+unfolding with_system
+at_last systems count sib1 = let e : nat_lt count count ≡ false = grind (arith, nat_tests) in rw e refl
+
+module _ (IsSystem : ℕ → ℕ → ℕ → ℕ → Mib → Result Sib1 Sib1Reason → Type 0) (identity start frame : ℕ) (masters : List (Option Master)) where
+  pub no_phases : (list : List Entry) (systems : ℕ → Result Sib1 Sib1Reason) → AddsPhases IsSystem identity start frame masters 0 list list
+  no_phases list systems = record {
+    systems = systems;
+    told = λ phase l. absurd (omega (arith, l));
+    adds = subst (λ entries. Adds entries list list) (sym (joined_below_none (λ phase. entry_at identity start frame phase (master_at masters phase) (systems phase)))) (adds_none list);
+  }
+
+  pub one_more_phase : (count : ℕ) (first old new : List Entry) → AddsPhases IsSystem identity start frame masters count first old →
+      AddsPhase IsSystem identity start frame count (master_at masters count) old new → AddsPhases IsSystem identity start frame masters (count + 1) first new
+  one_more_phase count first old new before one = record {
+    systems = systems;
+    told = told;
+    adds = subst (λ entries. Adds entries first new) (sym whole)
+        (adds_more (entries_of identity start frame masters before.systems count) (entry_at identity start frame count (master_at masters count) one.sib1) first old new before.adds one.adds);
+  }
+    where
+      systems : ℕ → Result Sib1 Sib1Reason
+      systems = with_system before.systems count one.sib1
+
+      told : (phase : ℕ) → phase < count + 1 → IsSystemAt IsSystem identity start frame phase (master_at masters phase) (systems phase)
+      told phase l = elim (cases_lt phase count) [
+        | inl less ↦ subst (IsSystemAt IsSystem identity start frame phase (master_at masters phase)) (sym (at_before before.systems count one.sib1 phase less)) (before.told phase less)
+        | inr not_less ↦ let same : count ≡ phase = omega (arith, l, not_less) in
+            subst (λ n. IsSystemAt IsSystem identity start frame n (master_at masters n) (systems n)) same
+            (subst (IsSystemAt IsSystem identity start frame count (master_at masters count)) (sym (at_last before.systems count one.sib1)) one.told)
+      ]
+
+      whole : entries_of identity start frame masters systems (count + 1)
+          ≡ entries_of identity start frame masters before.systems count ++ entry_at identity start frame count (master_at masters count) one.sib1
+      whole =
+          joined_below_more count (λ phase. entry_at identity start frame phase (master_at masters phase) (systems phase))
+          ∙ ap (λ entries. entries ++ entry_at identity start frame count (master_at masters count) (systems count))
+          (joined_below_same count (λ phase. entry_at identity start frame phase (master_at masters phase) (systems phase)) (λ phase. entry_at identity start frame phase (master_at masters phase) (before.systems phase))
+          (λ phase l. ap (entry_at identity start frame phase (master_at masters phase)) (at_before before.systems count one.sib1 phase l)))
+          ∙ ap (λ sib1. entries_of identity start frame masters before.systems count ++ entry_at identity start frame count (master_at masters count) sib1) (at_last before.systems count one.sib1)
