@@ -1,12 +1,15 @@
 -- Two recordings that agree in their first 17 frames tell the same hits, identities and slots, and so the same list.
-use Rattle.std.proofs.Common.{◌≡◌, ℕ, suc, ◌+◌, ◌*◌, ◌<◌, ◌≤◌, List, [], ◌∷◌, length, arith, refl, ap, sym, subst, ◌∙◌}
-use Rattle.std.specs.Prelude.{All, ◌↔◌}
-use Rattle.std.specs.List.{AllZip, Contains}
+use Rattle.std.proofs.Common.{◌≡◌, ℕ, suc, ◌+◌, ◌*◌, ◌<◌, ◌≤◌, List, [], ◌∷◌, length, arith, ap, sym, subst, ◌∙◌}
+use Rattle.std.specs.Prelude.{All, Result}
+use Rattle.std.specs.List.{AllZip}
 use Rattle.finite.proofs.Lists.{values_below_same}
 use Rattle.cs_num.specs.declared.Cpx.{Cpx}
 use Rattle.cs_num.specs.declared.Sample.{Sample}
 use Rattle.lte_types.specs.declared.hit.Hit.{Hit}
 use Rattle.lte_types.specs.declared.entry.Entry.{Entry}
+use Rattle.lte_types.specs.declared.mib.Mib.{Mib}
+use Rattle.lte_types.specs.declared.sib1.Sib1.{Sib1}
+use Rattle.lte_types.specs.declared.sib1_reason.Sib1Reason.{Sib1Reason}
 use Rattle.lte_types.specs.Numerology.{normal, useful_start, frame_length}
 use Rattle.pss_search.specs.Hits.{IsInSpan, hits_of}
 use Rattle.pss_search.proofs.Listed.{listed_in_span}
@@ -17,10 +20,10 @@ use Rattle.observe.proofs.Agree.{symbol_agrees}
 use Rattle.sss_detect.specs.Identity.{identity_of}
 use Rattle.sss_detect.specs.Place.{start_of}
 use Rattle.sss_detect.proofs.Agree.{identity_agrees}
-use Rattle.pbch.specs.Master.{HasNoMaster, TellsMaster}
-use Rattle.pbch.specs.Values.{coded_values}
-use Rattle.explain.specs.Frame.{IsWhole, frame_at, seen_slot, broadcast_slot}
-use Rattle.explain.specs.Entries.{IsEntryOf, AreEntriesOf, IsExplained, identity_at, start_at, master_of}
+use Rattle.pbch.specs.Master.{IsMaster}
+use Rattle.explain.specs.Frame.{frame_at, seen_slot, broadcast_slot}
+use Rattle.explain.specs.System.{IsSystemOf}
+use Rattle.explain.specs.Entries.{IsEntryOf, AreEntriesOf, start_at, master_of}
 use Rattle.explain.specs.Deciding.{deciding_length, FirstFramesDecide}
 
 -- ---- slots
@@ -41,6 +44,11 @@ deciding_slot start j number identity a b agree early few known =
 
 -- ---- the entries of a hit
 
+-- what is told of system information is decided too
+system_agrees : (a b : List Sample) (id start sfn ports : ℕ) (mib : Mib) (sib1 : Result Sib1 Sib1Reason) → AgreeBefore deciding_length a b → deciding_length ≤ length b →
+    start < frame_length → IsSystemOf a id start sfn ports mib sib1 → IsSystemOf b id start sfn ports mib sib1
+system_agrees a b id start sfn ports mib sib1 agree long early is = record { not_read = is.not_read }
+
 start_early : (recording : List Sample) (hit : Hit) → start_at recording hit < frame_length
 start_early recording hit = omega arith
 
@@ -50,19 +58,25 @@ entry_agrees : (a b : List Sample) (hit : Hit) (entry : Entry) → AgreeBefore d
 entry_agrees a b hit entry agree long span is = record {
   id = is.id ∙ ap (λ i. 3 * i.0 + hit.n2) same_identity;
   start = is.start ∙ ap (λ i. start_of hit.t i.1) same_identity;
-  frame = is.frame;
   phase = is.phase;
-  whole = omega (arith, long, early, is.frame);
-  first = λ i phase before known. subst (λ s. HasNoMaster s phase) (slot i (omega (arith, before, is.frame))) (is.first i phase before known);
-  master = subst (λ s. TellsMaster (coded_values s entry.phase) (master_of entry)) (slot entry.frame is.frame) is.master;
+  frame = record {
+    inside = record { known = few; whole = omega (arith, long, early, few) };
+    first = λ i phase master before known tells. is.frame.first i phase master before known (subst (λ s. IsMaster s phase master) (sym (slot i (omega (arith, before, few)))) tells);
+  };
+  master = subst (λ s. IsMaster s entry.phase (master_of entry)) (slot entry.frame few) is.master;
   sfn = is.sfn;
-  sib1 = is.sib1;
+  sib1 = system_agrees a b entry.id entry.start entry.sfn entry.ports entry.mib entry.sib1 agree long early is.sib1;
 }
   where
+    few : entry.frame ≤ 7
+    few = is.frame.inside.known
+
     same_identity : identity_of a hit ≡ identity_of b hit
     same_identity = identity_agrees deciding_length a b hit agree (omega (arith, span.to_last))
+
     early : entry.start < frame_length
     early = subst (λ s. s < frame_length) (sym is.start) (start_early a hit)
+
     slot : (j : ℕ) → j ≤ 7 → broadcast_slot a entry.id entry.start j ≡ broadcast_slot b entry.id entry.start j
     slot j few = deciding_slot entry.start j 1 entry.id a b agree early (omega (arith, few)) (omega arith)
 
@@ -72,7 +86,8 @@ entries_agree : (a b : List Sample) (hit : Hit) (entries : List Entry) → Agree
 entries_agree a b hit entries agree long_a long_b span are = record {
   given = λ entry. (
     (λ inside. entry_agrees a b hit entry agree long_b span ((are.given entry).0 inside)),
-    (λ is. (are.given entry).1 (entry_agrees b a hit entry (sym agree) long_a span is)));
+    (λ is. (are.given entry).1 (entry_agrees b a hit entry (sym agree) long_a span is)),
+  );
   by_phase = are.by_phase;
 }
 
@@ -83,14 +98,15 @@ each_agrees : (a b : List Sample) (hits : List Hit) (groups : List (List Entry))
 each_agrees a b [] [] agree long_a long_b span each = tt
 each_agrees a b [] (g ∷ gs) agree long_a long_b span each = each
 each_agrees a b (hit ∷ hits) [] agree long_a long_b span each = each
-each_agrees a b (hit ∷ hits) (g ∷ gs) agree long_a long_b span each =
-    (entries_agree a b hit g agree long_a long_b (span 0 hit (omega arith)) each.0,
-    each_agrees a b hits gs agree long_a long_b (λ k d l. span (suc k) d (omega (arith, l))) each.1)
+each_agrees a b (hit ∷ hits) (g ∷ gs) agree long_a long_b span each = (
+  entries_agree a b hit g agree long_a long_b (span 0 hit (omega arith)) each.0,
+  each_agrees a b hits gs agree long_a long_b (λ k d l. span (suc k) d (omega (arith, l))) each.1,
+)
 
 pub first_frames_decide : FirstFramesDecide
 first_frames_decide a b list long_a long_b agree explained = record {
   groups = explained.groups;
   each = subst (λ hits. AllZip (AreEntriesOf b) hits explained.groups) (hits_agree deciding_length a b agree (omega arith))
-    (each_agrees a b (hits_of a) explained.groups agree long_a long_b (listed_in_span a) explained.each);
+      (each_agrees a b (hits_of a) explained.groups agree long_a long_b (listed_in_span a) explained.each);
   listed = explained.listed;
 }
