@@ -1,0 +1,28 @@
+-- The soft values of the physical downlink shared channel that carries SystemInformationBlockType1, in
+-- subframe 5, of which both slots were seen (TS 36.211 sections 6.3.1 and 6.4).
+use Rattle.std.specs.Prelude.{ℕ, nat_lt, if◌then◌else◌, List, ℤ}
+use Rattle.std.specs.List.{flat_map}
+use Rattle.grid_map.specs.declared.Place.{Place}
+use Rattle.grid_map.specs.Shared.{pdsch_places}
+use Rattle.grid_map.specs.Scrambling.{pdsch_c_init}
+use Rattle.soft_bits.specs.Soft.{SeenSlot}
+use Rattle.soft_bits.specs.Places.{values_at, descrambled}
+
+-- the identifier for which system information is scrambled, SI-RNTI (TS 36.321 section 7.1)
+abbrev pub system_information_rnti : ℕ
+system_information_rnti = 65535
+
+-- the slot that has a symbol of the subframe: symbols 7 to 13 are those of the second
+abbrev pub slot_with : SeenSlot → SeenSlot → ℕ → SeenSlot
+slot_with first second symbol = if nat_lt symbol 7 then first else second
+
+-- the soft values of a list of places, each seen in its slot, one place after the other
+unfoldable pub subframe_values : SeenSlot → SeenSlot → List Place → List ℤ
+subframe_values first second places = flat_map (λ p. values_at (slot_with first second p.symbol) p) places
+
+-- the values of so many blocks from a first one on, by the bits before scrambling; the sequence begins
+-- with the first place of the subframe and runs on through both slots
+unfoldable pub shared_values : SeenSlot → SeenSlot → ℕ → ℕ → ℕ → List ℤ
+shared_values first second cfi start blocks =
+    descrambled (pdsch_c_init first.identity first.number system_information_rnti) 0
+    (subframe_values first second (pdsch_places first.identity cfi start blocks))

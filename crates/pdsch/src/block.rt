@@ -1,0 +1,85 @@
+//! The values of a block.
+
+ghost use Rattle.std.specs.Prelude.{◌≡◌, ◌*◌, ◌<◌, ◌≤◌, length, take, drop};
+ghost use Rattle.finite.specs.Sizes.{AllWithin};
+ghost use Rattle.grid_map.specs.Shared.{block_places};
+ghost use Rattle.soft_bits.specs.Soft.{SeenSlot};
+ghost use Rattle.soft_bits.specs.Places.{values_at};
+ghost use Rattle.dci.specs.Format1A.{IsGrant};
+ghost use Rattle.pdsch.specs.Values.{slot_with, shared_values};
+
+use dci::Grant;
+use grid_map::{Place, pdsch, pdsch_c_init};
+use lte_types::Cfi;
+use soft_bits::{Slot, descramble, fill_soft};
+
+/// The most values that a grant has: those of six blocks with indicator 2.
+pub const MOST_VALUES: usize = 1224;
+
+// The identifier of the terminals for which system information is scrambled, SI-RNTI
+// (TS 36.321 section 7.1).
+const SI_RNTI: u16 = 0xffff;
+
+/// Writes the values of a grant's blocks, by the bits before scrambling, to the front of `out`, and
+/// gives their count, 204 a block with `cfi` 2 and 180 with 3; what stands behind them is unchanged.
+///
+/// There are two values a place, of size at most 127, in the order of the places
+/// (TS 36.211 section 6.4). The scrambling sequence begins once, with the subframe (section 6.3.1).
+/// `first` and `second` are slots 10 and 11 of one cell, `cfi` is 2 or 3, and the grant is one that
+/// `dci::read` can answer.
+pub fn values(
+    first: &Slot,
+    second: &Slot,
+    cfi: Cfi,
+    grant: &Grant,
+    out: &mut [i16; MOST_VALUES],
+) -> usize
+    requires first { first.now.number ≡ 10 }
+    requires second { second.now.number ≡ 11 }
+    requires cell { second.now.identity ≡ first.now.identity }
+    requires cfi { 2 ≤ cfi }
+    requires grant { IsGrant grant.now }
+    ensures count { result ≡ 2 * (block_places cfi * grant.now.blocks) }
+    ensures values { take result out.new ≡ shared_values first.now second.now cfi grant.now.start grant.now.blocks }
+    ensures sizes { AllWithin 127 (take result out.new) }
+    ensures rest { drop result out.new ≡ drop result out.old }
+{
+    let places = places_of(cfi, grant.blocks);
+    let count = 2 * places;
+    for i in 0..places {
+        let place = pdsch(first.id(), cfi, grant.start, grant.blocks, i);
+        fill_place(first, second, place, &mut out[2 * i..2 * i + 2]);
+    }
+    let c_init = pdsch_c_init(first.id(), first.number(), SI_RNTI);
+    descramble(c_init, 0, &mut out[..count]);
+    count
+}
+
+// How many places so many blocks have.
+fn places_of(cfi: Cfi, blocks: u8) -> usize
+    requires cfi { 2 ≤ cfi }
+    requires few { blocks ≤ 6 }
+    ensures value { result ≡ block_places cfi * blocks }
+    ensures bound { 2 * result ≤ 1224 }
+    ensures known { cfi ≤ 3 }
+{
+    let places = if cfi.value() == 2 { 102 } else { 90 };
+    places * blocks as usize
+}
+
+// Writes both values of a place.
+fn fill_place(first: &Slot, second: &Slot, place: Place, pair: &mut [i16])
+    requires symbol { place.symbol < 14 }
+    requires k { place.k < 72 }
+    requires room { length pair.old ≡ 2 }
+    ensures { pair.new ≡ values_at (slot_with first.now second.now place.symbol) place }
+{
+    fill_soft(slot_of(first, second, place.symbol), &[place], pair);
+}
+
+// The slot that has a symbol of the subframe.
+fn slot_of<'a>(first: &'a Slot, second: &'a Slot, symbol: u8) -> &'a Slot
+    ensures { result.now ≡ slot_with first.now second.now symbol }
+{
+    if symbol < 7 { first } else { second }
+}

@@ -1,0 +1,206 @@
+#!/usr/bin/env python3
+"""A second transmitter of subframe 5 with SystemInformationBlockType1, from which the rows of the tests of the
+shared channel and of the system information come (`crates/slot_tests`). Nothing is shared with the repository's
+code: TS 36.211 sections 6.3 to 6.10 and 7.2, TS 36.212 sections 5.1 and 5.3.
+
+    python3 scripts/subframe_reference.py
+
+A row is a symbol of 72 subcarriers: a digit is 2 where the real part of a point is negative, and 1 more where the
+imaginary part is; a dot is an empty place.
+"""
+import sys
+
+INTERLEAVER = {56: (19, 42), 80: (11, 20), 96: (11, 24), 128: (15, 32), 144: (17, 108), 168: (101, 84), 200: (13, 50),
+               232: (85, 58)}
+# 0 to 31, each with its five bits reversed
+REVERSED = [int(format(c, "05b")[::-1], 2) for c in range(32)]
+SIZES = {2: [32, 56, 72, 104, 120, 144, 176, 224, 256, 296, 328], 3: [56, 88, 144, 176, 208, 224, 256, 328]}
+
+# a block of SIB1 with one network, and the same with changed bits
+PLAIN = "404004030001000000180000000000"
+# TDD configuration, two networks, an offset and a barred cell
+RICH = None
+
+
+def bits_of(value, width):
+    return [value >> (width - 1 - i) & 1 for i in range(width)]
+
+
+def gold(c_init, count):
+    x1 = [1] + [0] * 30
+    x2 = [c_init >> i & 1 for i in range(31)]
+    for n in range(1600 + count - 31):
+        x1.append((x1[n + 3] + x1[n]) % 2)
+        x2.append((x2[n + 3] + x2[n + 2] + x2[n + 1] + x2[n]) % 2)
+    return [(x1[n + 1600] + x2[n + 1600]) % 2 for n in range(count)]
+
+
+def remainder(bits, powers, width):
+    work = list(bits) + [0] * width
+    for i in range(len(bits)):
+        if work[i]:
+            for p in powers:
+                work[i + width - p] ^= 1
+    return work[-width:]
+
+
+def crc16(bits):
+    return remainder(bits, (16, 12, 5, 0), 16)
+
+
+def crc24a(bits):
+    return remainder(bits, (24, 23, 18, 17, 14, 11, 10, 7, 6, 5, 4, 3, 1, 0), 24)
+
+
+def interleaved(items, order):
+    """A list written into rows of 32 with nulls in front, and read column by column (TS 36.212 section 5.1.4)."""
+    rows = (len(items) + 31) // 32
+    filled = [None] * (32 * rows - len(items)) + list(items)
+    return [filled[32 * r + c] for c in order for r in range(rows)]
+
+
+def tail_biting(word, count):
+    n = len(word)
+    taps = ((0, 2, 3, 5, 6), (0, 1, 2, 3, 6), (0, 1, 2, 4, 6))
+    stream = []
+    for t in taps:
+        coded = [sum(word[(k - d) % n] for d in t) % 2 for k in range(n)]
+        stream += [b for b in interleaved(coded, REVERSED[16:] + REVERSED[:16]) if b is not None]
+    return [stream[i % len(stream)] for i in range(count)]
+
+
+def constituent(word):
+    a = [0, 0, 0]
+    parity, xs, zs = [], [], []
+    for u in word:
+        a.append((u + a[-2] + a[-3]) % 2)
+        parity.append((a[-1] + a[-2] + a[-4]) % 2)
+    for _ in range(3):
+        xs.append((a[-2] + a[-3]) % 2)
+        a.append(0)
+        zs.append((a[-2] + a[-4]) % 2)
+    return parity, xs, zs
+
+
+def turbo(block, rv, count, good=True):
+    word = block + crc24a(block)
+    if not good:
+        word[-1] ^= 1
+    k = len(word)
+    f1, f2 = INTERLEAVER[k]
+    z, x, t = constituent(word)
+    z2, x2, t2 = constituent([word[(f1 * i + f2 * i * i) % k] for i in range(k)])
+    d0 = word + [x[0], t[1], x2[0], t2[1]]
+    d1 = z + [t[0], x[2], t2[0], x2[2]]
+    d2 = z2 + [x[1], t[2], x2[1], t2[2]]
+    rows = (k + 4 + 31) // 32
+    size = 32 * rows
+    v0, v1 = interleaved(d0, REVERSED), interleaved(d1, REVERSED)
+    filled = [None] * (size - k - 4) + d2
+    v2 = [filled[(REVERSED[i // rows] + 32 * (i % rows) + 1) % size] for i in range(size)]
+    buffer = v0 + [b for pair in zip(v1, v2) for b in pair]
+    start = rows * (2 * ((3 * size + 8 * rows - 1) // (8 * rows)) * rv + 2)
+    out, at = [], start
+    while len(out) < count:
+        b = buffer[at % len(buffer)]
+        if b is not None:
+            out.append(b)
+        at += 1
+    return out
+
+
+def riv(start, blocks):
+    return 6 * (blocks - 1) + start if blocks - 1 <= 3 else 6 * (6 - blocks + 1) + (6 - 1 - start)
+
+
+def control_word(value, mcs, rv, low, flag=1, distributed=0, check=True):
+    word = [flag, distributed] + bits_of(value, 5) + bits_of(mcs, 5) + bits_of(0, 4) + bits_of(rv, 2) + [0, low, 0]
+    mask = [1] * 16 if check else [0] * 16
+    return word + [a ^ b for a, b in zip(crc16(word), mask)]
+
+
+class Subframe:
+    def __init__(self, identity, cfi):
+        self.identity, self.cfi = identity, cfi
+        self.grid = {}
+
+    def put(self, places, bits, c_init):
+        sequence = gold(c_init, len(bits))
+        sent = [a ^ b for a, b in zip(bits, sequence)]
+        for i, place in enumerate(places[:len(bits) // 2]):
+            self.grid[place] = 2 * sent[2 * i] + sent[2 * i + 1]
+
+    def references(self):
+        i = self.identity
+        for symbol in (0, 4, 7, 11):
+            slot, l = 10 + symbol // 7, symbol % 7
+            c = gold(2 ** 10 * (7 * (slot + 1) + l + 1) * (2 * i + 1) + 2 * i + 1, 240)
+            for m in range(12):
+                k = 6 * m + ((0 if l == 0 else 3) + i) % 6
+                self.grid[symbol, k] = 2 * c[2 * (m + 104)] + c[2 * (m + 104) + 1]
+
+    def group(self, symbol, first):
+        if symbol == 0:
+            return [(0, k) for k in range(first, first + 6) if k % 3 != self.identity % 3]
+        return [(symbol, k) for k in range(first, first + 4)]
+
+    def indicator_groups(self):
+        return [(0, (6 * (self.identity % 12) + 18 * i) % 72) for i in range(4)]
+
+    def indicator(self):
+        i = self.identity
+        bits = [0 if n % 3 == self.cfi - 1 else 1 for n in range(32)]
+        places = [p for g in self.indicator_groups() for p in self.group(*g)]
+        self.put(places, bits, (5 + 1) * (2 * i + 1) * 2 ** 9 + i)
+
+    def control_groups(self, extended, phich):
+        taken = self.indicator_groups()
+        by_symbol = [[(s, f) for f in range(0, 72, 6 if s == 0 else 4) if (s, f) not in taken] for s in range(4)]
+        n0 = len(by_symbol[0])
+        hidden = set()
+        for m in range(phich):
+            for i in range(3):
+                groups = by_symbol[i if extended else 0]
+                n = len(groups)
+                hidden.add(groups[(self.identity * n // n0 + m + i * n // 3) % n])
+        region = [g for s in range(self.cfi + 1) for g in by_symbol[s] if g not in hidden]
+        return sorted(region, key=lambda g: (g[1], g[0]))
+
+    def control(self, word, extended, phich):
+        groups = self.control_groups(extended, phich)
+        bits = tail_biting(word, 288)
+        scrambled = [a ^ b for a, b in zip(bits, gold(5 * 2 ** 9 + self.identity, 288))]
+        order = [q for q in interleaved(range(len(groups)), REVERSED[16:] + REVERSED[:16]) if q is not None]
+        for r, g in enumerate(groups):
+            q = order[(r + self.identity) % len(groups)]
+            if q < 36:
+                for j, place in enumerate(self.group(*g)):
+                    self.grid[place] = 2 * scrambled[8 * q + 2 * j] + scrambled[8 * q + 2 * j + 1]
+
+    def shared_places(self, start, blocks):
+        places = []
+        for symbol in range(self.cfi + 1, 14):
+            if symbol in (5, 6):
+                continue
+            for k in range(12 * start, 12 * (start + blocks)):
+                if symbol in (0, 4, 7, 11) and (k - self.identity - (3 if symbol % 7 == 4 else 0)) % 6 == 0:
+                    continue
+                places.append((symbol, k))
+        return places
+
+    def shared(self, block, start, blocks, rv, good=True):
+        places = self.shared_places(start, blocks)
+        bits = turbo(block, rv, 2 * len(places), good)
+        self.put(places, bits, 65535 * 2 ** 14 + 5 * 2 ** 9 + self.identity)
+        return bits
+
+    def row(self, symbol):
+        return "".join(str(self.grid.get((symbol, k), ".")) for k in range(72))
+
+
+def show(name, rows):
+    kind = "Rows" if len(rows) == 5 else "[&[u8; 72]; %d]" % len(rows)
+    print("const %s: %s = [" % (name, kind))
+    for row in rows:
+        print("    EMPTY," if set(row) == {"."} else '    b"%s",' % row)
+    print("];\n")
