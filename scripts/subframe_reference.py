@@ -8,18 +8,14 @@ code: TS 36.211 sections 6.3 to 6.10 and 7.2, TS 36.212 sections 5.1 and 5.3.
 A row is a symbol of 72 subcarriers: a digit is 2 where the real part of a point is negative, and 1 more where the
 imaginary part is; a dot is an empty place.
 """
-import sys
 
 INTERLEAVER = {56: (19, 42), 80: (11, 20), 96: (11, 24), 128: (15, 32), 144: (17, 108), 168: (101, 84), 200: (13, 50),
                232: (85, 58)}
 # 0 to 31, each with its five bits reversed
 REVERSED = [int(format(c, "05b")[::-1], 2) for c in range(32)]
-SIZES = {2: [32, 56, 72, 104, 120, 144, 176, 224, 256, 296, 328], 3: [56, 88, 144, 176, 208, 224, 256, 328]}
 
-# a block of SIB1 with one network, and the same with changed bits
+# a block of SIB1 with one network
 PLAIN = "404004030001000000180000000000"
-# TDD configuration, two networks, an offset and a barred cell
-RICH = None
 
 
 def bits_of(value, width):
@@ -204,3 +200,99 @@ def show(name, rows):
     for row in rows:
         print("    EMPTY," if set(row) == {"."} else '    b"%s",' % row)
     print("];\n")
+
+
+def digits_of(number, count):
+    return [b for d in str(number).zfill(count) for b in bits_of(int(d), 4)]
+
+
+def rich_text():
+    """SIB1 with two networks, p-Max, TDD configuration, an offset and two entries of the schedule."""
+    text = [0, 1, 1, 1, 0, 0] + bits_of(1, 3)
+    text += [1] + digits_of(262, 3) + [1] + digits_of(17, 3) + [1]
+    text += [0, 0] + digits_of(42, 2) + [0]
+    text += bits_of(0xABCD, 16) + bits_of(0x1234567, 28) + [0, 1, 0]
+    text += [1] + bits_of(20, 6) + bits_of(2, 3) + bits_of(53, 6) + bits_of(39, 6)
+    text += bits_of(1, 5) + bits_of(2, 3) + bits_of(0, 5)
+    text += bits_of(1, 3) + bits_of(2, 5) + [0] + bits_of(3, 4) + [1, 0] + bits_of(1, 6)
+    return text + bits_of(2, 3) + bits_of(7, 4) + bits_of(3, 3) + bits_of(19, 5)
+
+
+def filled(text, size):
+    return text + [0] * (size - len(text))
+
+
+def text_of_hex(digits):
+    return bits_of(int(digits, 16), 4 * len(digits))
+
+
+def show_bits(name, bits):
+    print("const %s: &[u8; %d] =" % (name, len(bits)))
+    digits = "".join(map(str, bits))
+    lines = [digits[i:i + 72] for i in range(0, len(digits), 72)]
+    print('    b"' + "\\\n    ".join(lines) + '";\n')
+
+
+def show_shared(name, identity, cfi, start, blocks, size, column_rv, text):
+    """The shared channel alone, with its coded bits."""
+    sent = Subframe(identity, cfi)
+    sent.references()
+    bits = sent.shared(filled(text, size), start, blocks, column_rv)
+    show(name + "_10", [sent.row(s) for s in range(5)])
+    show(name + "_11", [sent.row(s) for s in range(7, 14)])
+    show_bits(name + "_BITS", bits)
+
+
+def whole(identity, cfi, extended, phich, word, block, start, blocks, rv, good=True):
+    sent = Subframe(identity, cfi)
+    sent.references()
+    sent.indicator()
+    if word:
+        sent.control(word, extended, phich)
+    if block:
+        sent.shared(block, start, blocks, rv, good)
+    return sent
+
+
+def plain(word=None, block=None, good=True):
+    """Identity 0, indicator 2, duration normal and resource one, all six blocks."""
+    word = word or control_word(riv(0, 6), 4, 0, 0)
+    return whole(0, 2, False, 1, word, block or text_of_hex(PLAIN), 0, 6, 0, good)
+
+
+def changed(first, bits):
+    text = text_of_hex(PLAIN)
+    return text[:first] + bits + text[first + len(bits):]
+
+
+def show_control(name, sent):
+    show(name, [sent.row(s) for s in range(3)])
+
+
+def show_block(name, sent):
+    show(name, [sent.row(s) for s in (3, 4)] + [sent.row(s) for s in range(7, 14)])
+
+
+def main():
+    show_shared("ONE", 77, 2, 2, 1, 32, 0, bits_of(0x9A3B5D71, 32))
+    show_shared("TWO", 503, 3, 4, 2, 120, 3, text_of_hex(PLAIN))
+    sent = plain()
+    show_control("PLAIN_CONTROL", sent)
+    show_block("PLAIN_BLOCK", sent)
+    rich = whole(503, 3, True, 2, control_word(riv(1, 5), 3, 2, 1), filled(rich_text(), 176), 1, 5, 2)
+    show("RICH_10", [rich.row(s) for s in range(5)])
+    show("RICH_11", [rich.row(s) for s in range(7, 14)])
+    show_control("NO_CHECK", plain(control_word(riv(0, 6), 4, 0, 0, check=False)))
+    show_control("ANOTHER_FORMAT", plain(control_word(riv(0, 6), 4, 0, 0, flag=0)))
+    show_control("DISTRIBUTED", plain(control_word(riv(0, 6), 4, 0, 0, distributed=1)))
+    show_control("VALUE_21", plain(control_word(21, 4, 0, 0)))
+    show_control("SCHEME_27", plain(control_word(riv(0, 6), 27, 0, 0)))
+    show_control("SCHEME_22", plain(control_word(riv(0, 6), 22, 0, 0)))
+    show_control("ONE_SYMBOL", whole(0, 1, False, 1, None, None, 0, 6, 0))
+    show_block("BAD_CHECK", plain(good=False))
+    show_block("OTHER_MESSAGE", plain(block=changed(0, [0, 0])))
+    show_block("DIGIT_11", plain(block=changed(10, [1, 0, 1, 1])))
+
+
+if __name__ == "__main__":
+    main()

@@ -1,0 +1,14 @@
+-- Laws of attempts.
+use Rattle.std.specs.Prelude.{◌≡◌, Result}
+use Rattle.lte_types.specs.declared.sib1.Sib1.{Sib1}
+use Rattle.lte_types.specs.declared.sib1_reason.Sib1Reason.{Sib1Reason}
+use Rattle.system_block.specs.Subframe.{Subframe}
+use Rattle.system_block.specs.Attempt.{Attempt, IsAttempt, Reads}
+
+-- there is only one attempt on a subframe
+abbrev pub IsOneAttempt : Type 0
+IsOneAttempt = (values : Subframe) (a b : Attempt) → IsAttempt values a → IsAttempt values b → a ≡ b
+
+-- and only one answer
+abbrev pub IsOneAnswer : Type 0
+IsOneAnswer = (values : Subframe) (a b : Result Sib1 Sib1Reason) → Reads values a → Reads values b → a ≡ b

@@ -1,0 +1,29 @@
+-- The soft values of subframe 5 of a frame, by the bits before scrambling: all that system information is
+-- read from.
+use Rattle.std.specs.Prelude.{ℕ, List, ℤ}
+use Rattle.lte_types.specs.declared.duration.Duration.{Duration}
+use Rattle.lte_types.specs.declared.resource.Resource.{Resource}
+use Rattle.grid_map.specs.Control.{element_count}
+use Rattle.soft_bits.specs.Soft.{SeenSlot}
+use Rattle.pcfich.specs.Values.{indicator_values}
+use Rattle.pdcch.specs.Candidate.{candidate_values}
+use Rattle.pdsch.specs.Values.{shared_values}
+
+pub record Subframe : Type 0 where
+  -- the 32 values of the control format indicator
+  pub indicator : List ℤ
+  -- how many control channel elements there are, by indicator
+  pub elements : ℕ → ℕ
+  -- the 288 values of control channel elements 0 to 3, by indicator
+  pub candidate : ℕ → List ℤ
+  -- those of the shared channel, by indicator, first block and count of blocks
+  pub shared : ℕ → ℕ → ℕ → List ℤ
+
+-- with one antenna port, of which both slots were seen, and PHICH by the master block
+abbrev pub one_port : SeenSlot → SeenSlot → Duration → Resource → Subframe
+one_port first second duration resource = record {
+  indicator = indicator_values first;
+  elements = λ indicator. element_count indicator duration resource;
+  candidate = λ indicator. candidate_values first indicator duration resource;
+  shared = shared_values first second;
+}

@@ -1,0 +1,16 @@
+//! SystemInformationBlockType1 of one frame, read from its subframe 5: the control format indicator, the
+//! control information of the common search space, the transport block that it grants, and the fields
+//! (TS 36.211 section 6, TS 36.212 section 5.3, TS 36.213 sections 7.1 and 9.1.1, TS 36.331 section 6.2.2).
+#![tactic(auto)]
+
+mod block;
+mod control;
+mod decoders;
+mod laws;
+mod reading;
+
+pub use block::{block_of, fields_of};
+pub use control::{grant_of, granted};
+pub use decoders::Decoders;
+pub use laws::one_answer;
+pub use reading::read;
