@@ -9,13 +9,14 @@ A row is a symbol of 72 subcarriers: a digit is 2 where the real part of a point
 imaginary part is; a dot is an empty place.
 """
 
-INTERLEAVER = {56: (19, 42), 80: (11, 20), 96: (11, 24), 128: (15, 32), 144: (17, 108), 168: (101, 84), 200: (13, 50),
-               232: (85, 58)}
+# the factors of the turbo code's interleaver by K
+INTERLEAVER = {56: (19, 42), 144: (17, 108), 248: (33, 62)}
 # 0 to 31, each with its five bits reversed
 REVERSED = [int(format(c, "05b")[::-1], 2) for c in range(32)]
 
-# a block of SIB1 with one network
+# SIB1 with one network in a block of 120 bits, and one of 205 bits with all that may be there but an extension
 PLAIN = "404004030001000000180000000000"
+FULL = "74cc4282109834561579bdeed2d2d2c9e07e12205fe13e0346f8"
 
 
 def bits_of(value, width):
@@ -202,22 +203,6 @@ def show(name, rows):
     print("];\n")
 
 
-def digits_of(number, count):
-    return [b for d in str(number).zfill(count) for b in bits_of(int(d), 4)]
-
-
-def rich_text():
-    """SIB1 with two networks, p-Max, TDD configuration, an offset and two entries of the schedule."""
-    text = [0, 1, 1, 1, 0, 0] + bits_of(1, 3)
-    text += [1] + digits_of(262, 3) + [1] + digits_of(17, 3) + [1]
-    text += [0, 0] + digits_of(42, 2) + [0]
-    text += bits_of(0xABCD, 16) + bits_of(0x1234567, 28) + [0, 1, 0]
-    text += [1] + bits_of(20, 6) + bits_of(2, 3) + bits_of(53, 6) + bits_of(39, 6)
-    text += bits_of(1, 5) + bits_of(2, 3) + bits_of(0, 5)
-    text += bits_of(1, 3) + bits_of(2, 5) + [0] + bits_of(3, 4) + [1, 0] + bits_of(1, 6)
-    return text + bits_of(2, 3) + bits_of(7, 4) + bits_of(3, 3) + bits_of(19, 5)
-
-
 def filled(text, size):
     return text + [0] * (size - len(text))
 
@@ -279,9 +264,9 @@ def main():
     sent = plain()
     show_control("PLAIN_CONTROL", sent)
     show_block("PLAIN_BLOCK", sent)
-    rich = whole(503, 3, True, 2, control_word(riv(1, 5), 3, 2, 1), filled(rich_text(), 176), 1, 5, 2)
-    show("RICH_10", [rich.row(s) for s in range(5)])
-    show("RICH_11", [rich.row(s) for s in range(7, 14)])
+    full = whole(503, 3, True, 2, control_word(riv(1, 5), 5, 2, 1), filled(text_of_hex(FULL), 224), 1, 5, 2)
+    show("FULL_10", [full.row(s) for s in range(5)])
+    show("FULL_11", [full.row(s) for s in range(7, 14)])
     show_control("NO_CHECK", plain(control_word(riv(0, 6), 4, 0, 0, check=False)))
     show_control("ANOTHER_FORMAT", plain(control_word(riv(0, 6), 4, 0, 0, flag=0)))
     show_control("DISTRIBUTED", plain(control_word(riv(0, 6), 4, 0, 0, distributed=1)))

@@ -8,7 +8,8 @@ use Rattle.grid_map.specs.Scrambling.{pdsch_c_init}
 use Rattle.soft_bits.specs.Soft.{SeenSlot}
 use Rattle.soft_bits.specs.Places.{values_at, descrambled}
 
--- the identifier for which system information is scrambled, SI-RNTI (TS 36.321 section 7.1)
+-- the identifier for which system information is scrambled and its control information is masked: SI-RNTI
+-- (TS 36.321 section 7.1)
 abbrev pub system_information_rnti : ℕ
 system_information_rnti = 65535
 

@@ -16,9 +16,9 @@ use soft_bits::{Slot, descramble, fill_soft};
 /// The most values that a grant has: those of six blocks with indicator 2.
 pub const MOST_VALUES: usize = 1224;
 
-// The identifier of the terminals for which system information is scrambled, SI-RNTI
-// (TS 36.321 section 7.1).
-const SI_RNTI: u16 = 0xffff;
+/// The identifier for which system information is scrambled and its control information is masked:
+/// SI-RNTI (TS 36.321 section 7.1).
+pub const SI_RNTI: u16 = 0xffff;
 
 /// Writes the values of a grant's blocks, by the bits before scrambling, to the front of `out`, and
 /// gives their count, 204 a block with `cfi` 2 and 180 with 3; what stands behind them is unchanged.

@@ -1,3 +1,5 @@
+ghost use Rattle.std.specs.Prelude.{◌≡◌};
+
 use crate::seen::slot_of;
 use grid_map::quadruplets_carried;
 use lte_types::{Bandwidth, CellId, Cfi, Duration, Mib, Resource};
@@ -33,11 +35,13 @@ const CODED: &[u8; 288] =
     000001011000101001000111000100000110000001100010111100011001101011000111\
     100000111011001110110001100011001110111000001011000101001000111000100000";
 
-fn mib_of(rt: &impl Abort, duration: Duration, resource: Resource) -> Mib {
+pub(crate) fn mib_of(rt: &impl Abort, duration: Duration, resource: Resource) -> Mib {
     Mib::new(Bandwidth::N6, duration, resource, 0, 0).expect(rt, "in range")
 }
 
-fn cfi_of(rt: &impl Abort, value: u8) -> Cfi {
+pub(crate) fn cfi_of(rt: &impl Abort, value: u8) -> Cfi
+    ensures { result ≡ value }
+{
     Cfi::new(value).expect(rt, "in range")
 }
 

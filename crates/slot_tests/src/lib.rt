@@ -1,4 +1,5 @@
-//! Tests of what slots tell: master blocks, control format indicators and candidates of the control channel.
+//! Tests of what slots tell: master blocks, control format indicators, candidates of the
+//! control channel, values of the shared channel and system information.
 #![tactic(auto)]
 
 #[cfg(test)]
@@ -9,3 +10,7 @@ mod indicators;
 mod masters;
 #[cfg(test)]
 mod seen;
+#[cfg(test)]
+mod shared;
+#[cfg(test)]
+mod system;

@@ -7,7 +7,10 @@ use cs_num::Cpx;
 use lte_types::CellId;
 use soft_bits::Slot;
 use std::process::Abort;
-use test_signals::{Rows, level, point_of};
+use test_signals::{EMPTY, Rows, level, point_of};
+
+/// All symbols of a slot, by subcarriers.
+pub(crate) type SlotRows = [&'static [u8; 72]; 7];
 
 // What is seen of a sent value: 64 times as much.
 fn seen_of(digit: u8) -> Cpx
@@ -55,4 +58,40 @@ pub(crate) fn slot_of(rt: &impl Abort, identity: u16, number: u8, rows: Rows) ->
         nothing,
     ];
     Slot::new(seen, number, id)
+}
+
+// The slot with these symbols.
+fn whole_slot_of(id: CellId, number: u8, rows: SlotRows) -> Slot
+    requires { number < 20 }
+    ensures number { result.number ≡ number }
+    ensures identity { result.identity ≡ id }
+{
+    let seen = [
+        symbol_of(rows[0]),
+        symbol_of(rows[1]),
+        symbol_of(rows[2]),
+        symbol_of(rows[3]),
+        symbol_of(rows[4]),
+        symbol_of(rows[5]),
+        symbol_of(rows[6]),
+    ];
+    Slot::new(seen, number, id)
+}
+
+/// Slots 10 and 11 of a cell, of which the first has these symbols and two empty ones.
+pub(crate) fn subframe_of(
+    rt: &impl Abort,
+    identity: u16,
+    first: Rows,
+    second: SlotRows,
+) -> (Slot, Slot)
+    ensures first { result.0.number ≡ 10 }
+    ensures second { result.1.number ≡ 11 }
+    ensures cell { result.1.identity ≡ result.0.identity }
+{
+    let id = CellId::new(identity).expect(rt, "in range");
+    let rows = [
+        first[0], first[1], first[2], first[3], first[4], EMPTY, EMPTY,
+    ];
+    (whole_slot_of(id, 10, rows), whole_slot_of(id, 11, second))
 }

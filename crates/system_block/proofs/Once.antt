@@ -1,5 +1,5 @@
 -- There is only one attempt on a subframe.
-use Rattle.std.proofs.Common.{◌≡◌, ℕ, ◌<◌, ◌≤◌, ◌⊎◌, inl, inr, Bool, true, false, List, ℤ, Option, None, Some, Result, Ok, Err, refl, ap, ap₂, sym, subst, ◌∙◌, arith}
+use Rattle.std.proofs.Common.{◌≡◌, ℕ, ◌⊎◌, inl, inr, Bool, true, false, List, ℤ, Option, None, Some, Result, Ok, Err, refl, ap, sym, subst, ◌∙◌, arith}
 use Rattle.std.specs.Prelude.{unwrap_or}
 use Rattle.std.proofs.lemmas.Bool.{false≢true}
 use Rattle.std.proofs.lemmas.Option.{none-some}
@@ -17,10 +17,12 @@ use Rattle.turbo_dec.specs.Block.{block}
 use Rattle.sib1.specs.Message.{Says}
 use Rattle.sib1.proofs.Messages.{one_answer as one_message}
 use Rattle.pcfich.specs.Indicator.{IsIndicator}
+use Rattle.pdsch.specs.Values.{system_information_rnti}
 use Rattle.system_block.specs.Subframe.{Subframe}
-use Rattle.system_block.specs.Control.{mask, HasNoSearchSpace, IsWord, HasNoControl, ControlSays, Grants}
+use Rattle.system_block.specs.Control.{HasNoSearchSpace, IsWord, HasNoControl, ControlSays, Grants}
 use Rattle.system_block.specs.Block.{IsBlock, BlockSays, Tells}
-use Rattle.system_block.specs.Attempt.{Attempt, IsGranted, Follows, IsAttempt, Reads}
+use Rattle.system_block.specs.declared.reading.Attempt.{Attempt}
+use Rattle.system_block.specs.Attempt.{Follows}
 use Rattle.system_block.specs.Laws.{IsOneAttempt, IsOneAnswer}
 use Rattle.system_block.proofs.Rows.{one_row}
 
@@ -72,7 +74,7 @@ pub one_grant : OneSaying → (count : ℕ) (values : List ℤ) (a b : Result Gr
 one_grant one count values a b g h = cases (grants_so count values a g) (grants_so count values b h)
   where
     failed_and_passed : HasNoControl count values → {r : Result Grant Sib1Reason} → ControlSays count values r → ⊥
-    failed_and_passed n s = n.fails (subst (HasCheck16 mask) (one_control_word count values s.word n.word s.is n.is) s.passes)
+    failed_and_passed n s = n.fails (subst (HasCheck16 system_information_rnti) (one_control_word count values s.word n.word s.is n.is) s.passes)
 
     cases : ((told : ℕ) × (a ≡ Err (NoSearchSpace told)) × HasNoSearchSpace count told) ⊎ (((a ≡ Err NoControl) × HasNoControl count values) ⊎ ControlSays count values a) →
         ((told : ℕ) × (b ≡ Err (NoSearchSpace told)) × HasNoSearchSpace count told) ⊎ (((b ≡ Err NoControl) × HasNoControl count values) ⊎ ControlSays count values b) → a ≡ b
@@ -115,9 +117,10 @@ one_text values grant a b s t = cases (tells_so values grant a s) (tells_so valu
 follows_once : OneSaying → (values : Subframe) (i : ℕ) (g h : Option Grant) (a b : Result Sib1 Sib1Reason) →
     Follows values i g a → Follows values i h b → (g ≡ h) × (a ≡ b)
 follows_once one values i (Some g) (Some h) a b s t =
-    let same : g ≡ h = same_ok g h (Ok g) refl (one_grant one (values.elements i) (values.candidate i) (Ok g) (Ok h) s.grants t.grants) in
-    (ap (λ (grant : Grant). Some grant) same,
-    one_text (values.shared i h.start h.blocks) h a b (subst (λ (grant : Grant). Tells (values.shared i grant.start grant.blocks) grant a) same s.tells) t.tells)
+    let same : g ≡ h = same_ok g h (Ok g) refl (one_grant one (values.elements i) (values.candidate i) (Ok g) (Ok h) s.grants t.grants) in (
+      ap (λ (grant : Grant). Some grant) same,
+      one_text (values.shared i h.start h.blocks) h a b (subst (λ (grant : Grant). Tells (values.shared i grant.start grant.blocks) grant a) same s.tells) t.tells,
+    )
 follows_once one values i (Some g) None a (Err r) s t = absurd (not_ok_and_err g r (one_grant one (values.elements i) (values.candidate i) (Ok g) (Err r) s.grants t))
 follows_once one values i None (Some h) (Err q) b s t = absurd (not_ok_and_err h q (one_grant one (values.elements i) (values.candidate i) (Ok h) (Err q) t.grants s))
 follows_once one values i None None (Err q) (Err r) s t =
@@ -128,7 +131,7 @@ follows_once one values i None None (Ok x) b s t = absurd s
 follows_once one values i None None (Err q) (Ok y) s t = absurd t
 
 attempt_of : ℕ → Option Grant → Result Sib1 Sib1Reason → Attempt
-attempt_of i g a = record { indicator = i; grant = g; answer = a }
+attempt_of i g a = record { cfi = i; grant = g; answer = a }
 
 same_attempt : (i j : ℕ) (g h : Option Grant) (a b : Result Sib1 Sib1Reason) → i ≡ j → g ≡ h → a ≡ b → attempt_of i g a ≡ attempt_of j h b
 same_attempt i j g h a b x y z = rw (x, y, z) refl
@@ -136,9 +139,9 @@ same_attempt i j g h a b x y z = rw (x, y, z) refl
 pub one_attempt : OneIndicator → OneSaying → IsOneAttempt
 unfolding attempt_of
 one_attempt told one values a b x y =
-    let same : a.indicator ≡ b.indicator = told values.indicator a.indicator b.indicator x.told y.told in
-    let rest = follows_once one values b.indicator a.grant b.grant a.answer b.answer (subst (λ i. Follows values i a.grant a.answer) same x.follows) y.follows in
-    same_attempt a.indicator b.indicator a.grant b.grant a.answer b.answer same rest.0 rest.1
+    let same : a.cfi ≡ b.cfi = told values.indicator a.cfi b.cfi x.told y.told in
+    let rest = follows_once one values b.cfi a.grant b.grant a.answer b.answer (subst (λ i. Follows values i a.grant a.answer) same x.follows) y.follows in
+    same_attempt a.cfi b.cfi a.grant b.grant a.answer b.answer same rest.0 rest.1
 
 pub one_reading : OneIndicator → OneSaying → IsOneAnswer
 one_reading told one values a b x y =

@@ -1,5 +1,5 @@
 -- Each size of the tables of transport blocks has a row of the table of the turbo code, and only one.
-use Rattle.std.proofs.Common.{◌≡◌, ℕ, zero, suc, ◌+◌, ◌<◌, Bool, true, false, List, [], ◌∷◌, length, get_or, Some, refl, ap, ap₂, subst, sym, ◌∙◌, arith}
+use Rattle.std.proofs.Common.{◌≡◌, ℕ, zero, suc, ◌+◌, ◌<◌, Bool, true, false, List, [], ◌∷◌, length, get_or, Some, refl, subst, arith}
 use Rattle.std.specs.Prelude.{if◌then◌else◌, ◌&&◌, ◌||◌, not, nat_eq, nat_lt, slice_get}
 use Rattle.std.specs.List.{list_all, position_or_len}
 use Rattle.std.proofs.lemmas.Bool.{eqb-true, eq-eqb, ltb-true, and_parts}
@@ -32,9 +32,11 @@ is_sized : (size : ℕ) → has_row size ≡ true → IsSize (size + 24)
 unfolding has_row row_number
 is_sized size has =
     let inside : row_number size < 31 = ltb-true (row_number size) 31 has in
-    let all = length-rows in
-    (get_or rows (row_number size) (row 0 0 0), row_at (row_number size) (row 0 0 0) inside,
-    eqb-true _ _ (passes_at_first (λ r. nat_eq r.k (size + 24)) rows (row 0 0 0) (omega (arith, all, inside))))
+    let all = length-rows in (
+      get_or rows (row_number size) (row 0 0 0),
+      row_at (row_number size) (row 0 0 0) inside,
+      eqb-true _ _ (passes_at_first (λ r. nat_eq r.k (size + 24)) rows (row 0 0 0) (omega (arith, all, inside))),
+    )
 
 -- a test that each number of a list passes
 passed : (test : ℕ → Bool) (xs : List ℕ) (i d : ℕ) → list_all test xs ≡ true → i < length xs → test (get_or xs i d) ≡ true

@@ -4,15 +4,10 @@ use Rattle.lte_types.specs.declared.sib1.Sib1.{Sib1}
 use Rattle.lte_types.specs.declared.sib1_reason.Sib1Reason.{Sib1Reason}
 use Rattle.dci.specs.declared.grant.Grant.{Grant}
 use Rattle.pcfich.specs.Indicator.{IsIndicator}
+use Rattle.system_block.specs.declared.reading.Attempt.{Attempt}
 use Rattle.system_block.specs.Subframe.{Subframe}
 use Rattle.system_block.specs.Control.{Grants}
 use Rattle.system_block.specs.Block.{Tells}
-
--- what was read on the way: the control format indicator, the grant, where there is one, and the answer
-pub record Attempt : Type 0 where
-  pub indicator : ℕ
-  pub grant : Option Grant
-  pub answer : Result Sib1 Sib1Reason
 
 -- the grant tells the blocks whose values tell the answer
 pub record IsGranted (values : Subframe) (indicator : ℕ) (grant : Grant) (answer : Result Sib1 Sib1Reason) : Type 0 where
@@ -27,8 +22,8 @@ Follows values indicator None (Ok fields) = ⊥
 
 -- the attempt on a subframe with these values
 pub record IsAttempt (values : Subframe) (attempt : Attempt) : Type 0 where
-  pub told : IsIndicator values.indicator attempt.indicator
-  pub follows : Follows values attempt.indicator attempt.grant attempt.answer
+  pub told : IsIndicator values.indicator attempt.cfi
+  pub follows : Follows values attempt.cfi attempt.grant attempt.answer
 
 -- the answer of a subframe with these values
 pub record Reads (values : Subframe) (answer : Result Sib1 Sib1Reason) : Type 0 where

@@ -1,5 +1,5 @@
 -- What the transport block of a grant says, by the values of the shared channel (TS 36.212 section 5.3.2).
-use Rattle.std.specs.Prelude.{◌≡◌, ℕ, ◌+◌, Bool, List, ℤ, Option, None, Some, Result, Err}
+use Rattle.std.specs.Prelude.{◌≡◌, ◌+◌, Bool, List, ℤ, Option, None, Some, Result, Err}
 use Rattle.lte_types.specs.declared.sib1.Sib1.{Sib1}
 use Rattle.lte_types.specs.declared.sib1_reason.Sib1Reason.{Sib1Reason}
 use Rattle.lte_types.specs.declared.sib1_reason.Sib1Reason.TheVariants.{NotDecoded}

@@ -1,6 +1,6 @@
 -- What the control information of the common search space says (TS 36.212 sections 5.3.3.1.3 and 5.3.3.2,
 -- TS 36.213 section 9.1.1), by the count of control channel elements and the 288 values of the first four.
-use Rattle.std.specs.Prelude.{◌≡◌, ℕ, ◌<◌, ◌≤◌, Bool, List, ℤ, Result, Ok, Err}
+use Rattle.std.specs.Prelude.{◌≡◌, ℕ, ◌<◌, ◌≤◌, Bool, List, ℤ, Result, Err}
 use Rattle.lte_types.specs.declared.sib1_reason.Sib1Reason.{Sib1Reason}
 use Rattle.lte_types.specs.declared.sib1_reason.Sib1Reason.TheVariants.{NoSearchSpace, NoControl}
 use Rattle.cs_bits.specs.Checks.{HasCheck16, message_of}
@@ -8,10 +8,7 @@ use Rattle.conv_code.specs.Reading.{summed}
 use Rattle.tailbite.specs.LeastWord.{IsLeastWord}
 use Rattle.dci.specs.declared.grant.Grant.{Grant}
 use Rattle.dci.specs.Format1A.{Says}
-
--- the identifier that masks the check, SI-RNTI (TS 36.212 section 5.3.3.2, TS 36.321 section 7.1)
-abbrev pub mask : ℕ
-mask = 0xffff
+use Rattle.pdsch.specs.Values.{system_information_rnti}
 
 -- there are so many elements, too few for a candidate
 pub record HasNoSearchSpace (count told : ℕ) : Type 0 where
@@ -23,17 +20,17 @@ pub record IsWord (count : ℕ) (candidate : List ℤ) (word : List Bool) : Type
   pub enough : 4 ≤ count
   pub least : IsLeastWord (summed 37 candidate) word
 
--- its check fails
+-- its check, masked by the identifier, fails
 pub record HasNoControl (count : ℕ) (candidate : List ℤ) : Type 0 where
   pub word : List Bool
   pub is : IsWord count candidate word
-  pub fails : HasCheck16 mask word → ⊥
+  pub fails : HasCheck16 system_information_rnti word → ⊥
 
--- its check passes, and its 21 bits before the check say this
+-- that check passes, and the 21 bits before it say this
 pub record ControlSays (count : ℕ) (candidate : List ℤ) (answer : Result Grant Sib1Reason) : Type 0 where
   pub word : List Bool
   pub is : IsWord count candidate word
-  pub passes : HasCheck16 mask word
+  pub passes : HasCheck16 system_information_rnti word
   pub says : Says (message_of 16 word) answer
 
 -- the grant, or the first reason that applies why there is none

@@ -3,7 +3,8 @@ use Rattle.std.specs.Prelude.{◌≡◌, Result}
 use Rattle.lte_types.specs.declared.sib1.Sib1.{Sib1}
 use Rattle.lte_types.specs.declared.sib1_reason.Sib1Reason.{Sib1Reason}
 use Rattle.system_block.specs.Subframe.{Subframe}
-use Rattle.system_block.specs.Attempt.{Attempt, IsAttempt, Reads}
+use Rattle.system_block.specs.declared.reading.Attempt.{Attempt}
+use Rattle.system_block.specs.Attempt.{IsAttempt, Reads}
 
 -- there is only one attempt on a subframe
 abbrev pub IsOneAttempt : Type 0

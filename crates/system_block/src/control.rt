@@ -7,18 +7,17 @@ ghost use Rattle.cs_bits.specs.Checks.{HasCheck16, message_of};
 ghost use Rattle.conv_code.specs.Reading.{summed};
 ghost use Rattle.dci.specs.Format1A.{IsGrant};
 ghost use Rattle.pdcch.specs.Candidate.{candidate_values};
-ghost use Rattle.system_block.specs.Control.{mask, Grants};
+ghost use Rattle.pdsch.specs.Values.{system_information_rnti};
+ghost use Rattle.system_block.specs.Control.{Grants};
 
 use conv_code::combine;
 use cs_bits::{Bits, crc16, number_of};
 use dci::Grant;
 use lte_types::{Cfi, Mib, Sib1Reason};
 use pdcch::{candidate, elements};
+use pdsch::SI_RNTI;
 use soft_bits::Slot;
 use tailbite::{Trellis, least};
-
-// The identifier that masks the check: SI-RNTI (TS 36.212 section 5.3.3.2, TS 36.321 section 7.1).
-const SI_RNTI: u16 = 0xffff;
 
 // How many bits the control information has before its check.
 const INFORMATION: usize = 21;
@@ -62,9 +61,10 @@ fn sums_of(values: &[i16; 288]) -> [[i32; 3]; 37]
     combine(values)
 }
 
-// Whether the last 16 bits are the check of the others, masked by the identifier.
+// Whether the last 16 bits are the check of the others, masked by the identifier
+// (TS 36.212 section 5.3.3.2).
 fn is_checked(word: &Bits<37>) -> bool
-    ensures { IsTrue result ↔ HasCheck16 mask word.now }
+    ensures { IsTrue result ↔ HasCheck16 system_information_rnti word.now }
 {
     let (information, check) = word.slice().split_at(INFORMATION);
     number_of(check) as u16 == crc16(information) ^ SI_RNTI

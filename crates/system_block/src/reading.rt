@@ -1,19 +1,32 @@
 //! System information, read from one frame.
 
-ghost use Rattle.std.specs.Prelude.{◌≡◌, IfOk};
+ghost use Rattle.std.specs.Prelude.{◌≡◌, IfOk, IfSome};
 ghost use Rattle.lte_types.specs.Ranges.{IsValid};
+ghost use Rattle.dci.specs.Format1A.{IsGrant};
 ghost use Rattle.system_block.specs.Subframe.{one_port};
-ghost use Rattle.system_block.specs.Attempt.{Reads};
+ghost use Rattle.system_block.specs.Attempt.{IsAttempt, Reads};
 
 use crate::Decoders;
 use crate::block::fields_in;
 use crate::control::granted;
-use lte_types::{Mib, Sib1, Sib1Reason};
+use dci::Grant;
+use lte_types::{Cfi, Mib, Sib1, Sib1Reason};
 use pcfich::cfi;
 use soft_bits::Slot;
 
-/// The fields of SystemInformationBlockType1 in subframe 5 of a frame, each in its range, or the first
-/// reason that applies why there are none:
+/// One attempt to read SystemInformationBlockType1: what was read on the way, and the answer. (own)
+#[derive(Debug, Drop)]
+pub struct Attempt {
+    /// The control format indicator.
+    pub cfi: Cfi,
+    /// The grant, where one was read.
+    pub grant: Option<Grant>,
+    /// The fields, or the first reason that applies why there are none.
+    pub answer: Result<Sib1, Sib1Reason>,
+}
+
+/// The attempt on subframe 5 of a frame. Its answer is the fields, each in its range, or the first reason
+/// that applies why there are none:
 ///
 /// - `NoSearchSpace` with the count of control channel elements, where there are fewer than four;
 /// - `NoControl`, where the least word of the first four fails its check;
@@ -23,19 +36,36 @@ use soft_bits::Slot;
 ///
 /// `first` and `second` are slots 10 and 11 of one cell with one antenna port, and `mib` is its master
 /// block, of which only the duration and the resource of the PHICH are looked at.
-pub fn read(
-    first: &Slot,
-    second: &Slot,
-    mib: Mib,
-    work: &mut Decoders,
-) -> Result<Sib1, Sib1Reason>
+pub fn attempt_in(first: &Slot, second: &Slot, mib: Mib, work: &mut Decoders) -> Attempt
+    requires first { first.now.number ≡ 10 }
+    requires second { second.now.number ≡ 11 }
+    requires cell { second.now.identity ≡ first.now.identity }
+    ensures attempt { IsAttempt (one_port first.now second.now mib.duration mib.resource) result }
+    ensures grant { IfSome result.grant IsGrant }
+    ensures valid { IfOk result.answer IsValid }
+{
+    let cfi = cfi(first);
+    match granted(first, cfi, mib, &mut work.trellis) {
+        Ok(grant) => Attempt {
+            cfi,
+            grant: Some(grant),
+            answer: fields_in(first, second, cfi, &grant, &mut work.turbo),
+        },
+        Err(reason) => Attempt {
+            cfi,
+            grant: None,
+            answer: Err(reason),
+        },
+    }
+}
+
+/// The answer of the attempt on subframe 5 of a frame, as `attempt_in` gives it.
+pub fn read(first: &Slot, second: &Slot, mib: Mib, work: &mut Decoders) -> Result<Sib1, Sib1Reason>
     requires first { first.now.number ≡ 10 }
     requires second { second.now.number ≡ 11 }
     requires cell { second.now.identity ≡ first.now.identity }
     ensures answer { Reads (one_port first.now second.now mib.duration mib.resource) result }
     ensures valid { IfOk result IsValid }
 {
-    let cfi = cfi(first);
-    let grant = granted(first, cfi, mib, &mut work.trellis)?;
-    fields_in(first, second, cfi, &grant, &mut work.turbo)
+    attempt_in(first, second, mib, work).answer
 }
