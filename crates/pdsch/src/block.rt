@@ -3,7 +3,6 @@
 ghost use Rattle.std.specs.Prelude.{◌≡◌, ◌*◌, ◌<◌, ◌≤◌, length, take, drop};
 ghost use Rattle.finite.specs.Sizes.{AllWithin};
 ghost use Rattle.grid_map.specs.Shared.{block_places};
-ghost use Rattle.soft_bits.specs.Soft.{SeenSlot};
 ghost use Rattle.soft_bits.specs.Places.{values_at};
 ghost use Rattle.dci.specs.Format1A.{IsGrant};
 ghost use Rattle.pdsch.specs.Values.{slot_with, shared_values};
