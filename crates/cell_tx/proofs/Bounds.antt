@@ -1,7 +1,8 @@
 -- Sizes of elements and of samples.
-use Rattle.std.proofs.Common.{◌≡◌, ℕ, ◌+◌, ◌-◌, ◌*◌, ◌/◌, ◌%◌, ◌<◌, ◌≤◌, ◌^◌, inl, inr, Bool, true, false, nat_lt, arith, refl, sym, subst, ap, ◌∙◌, ℤ, pos, ◌*ℤ◌}
+use Rattle.std.proofs.Common.{◌≡◌, ℕ, ◌+◌, ◌-◌, ◌*◌, ◌/◌, ◌%◌, ◌<◌, ◌≤◌, ◌^◌, inl, inr, Bool, true, false, nat_lt, arith, refl, sym, subst, ap, ◌∙◌, ℤ, pos, ◌+ℤ◌, ◌*ℤ◌}
 use Rattle.std.specs.Prelude.{if◌then◌else◌, nat_abs}
-use Rattle.std.proofs.lemmas.Int.{unsigned_abs-mul}
+use Rattle.std.proofs.lemmas.Bool.{cases_lt}
+use Rattle.std.proofs.lemmas.Int.{ints, unsigned_abs-mul}
 use Rattle.std.proofs.lemmas.Nat.{mul-le}
 use Rattle.cs_num.specs.declared.Cpx.{Cpx}
 use Rattle.cs_num.specs.Complex.{IsWithin, nothing, plus, times, square, size, minus, multiple}
@@ -29,7 +30,7 @@ use Rattle.cell_tx.specs.Block.{broadcast_bit, broadcast_point}
 use Rattle.cell_tx.specs.Grid.{is_primary, is_secondary, is_broadcast, element}
 use Rattle.cell_tx.specs.Clean.{IsGain}
 use Rattle.lte_types.specs.Numerology.{normal, half_of, useful_start, symbol_of}
-use Rattle.cell_tx.specs.Sent.{slot_sample, frame_sample, number_of, sent}
+use Rattle.cell_tx.specs.Sent.{Elements, slot_sample, frame_sample, number_of, sent, received}
 use Rattle.cell_tx.proofs.Elements.{reference_at_is}
 
 -- ---- elements
@@ -104,24 +105,29 @@ useful-square grid n small =
     (sized-sum 72 (useful_term grid n) 2097280 1
     (λ k inside. sized-times (grid k) (w_at (frequency k * n)) 128 16385 1 1 (sized_plain (grid k) 128 (small k inside)) (sized_plain (w_at (frequency k * n)) 16385 (w-square (frequency k * n)))))
 
-pub slot-square : (plan : CellPlan) (sfn slot i : ℕ) → square (slot_sample plan sfn slot i) ≤ 1153 * 1153
-slot-square plan sfn slot i =
-    let l : ℕ = symbol_of normal i in
-    let grid : ℕ → Cpx = element plan sfn (slot / 2) (7 * (slot % 2) + l) in
-    let each = λ (n : ℕ). useful-square grid n (λ k inside. element-square plan sfn (slot / 2) (7 * (slot % 2) + l) k) in
-    pick (λ z. square z ≤ 1153 * 1153) (nat_lt i (useful_start normal 0 0 l)) _ _ (each _) (each _)
+-- and of a whole sequence, where no element has more
+module _ (grid : Elements) (small : (sfn subframe symbol k : ℕ) → square (grid sfn subframe symbol k) ≤ 128 * 128) where
+  pub slot-square : (sfn slot i : ℕ) → square (slot_sample grid sfn slot i) ≤ 1153 * 1153
+  slot-square sfn slot i =
+      let l : ℕ = symbol_of normal i in
+      let row : ℕ → Cpx = grid sfn (slot / 2) (7 * (slot % 2) + l) in
+      let each = λ (n : ℕ). useful-square row n (λ k inside. small sfn (slot / 2) (7 * (slot % 2) + l) k) in
+      pick (λ z. square z ≤ 1153 * 1153) (nat_lt i (useful_start normal 0 0 l)) _ _ (each _) (each _)
 
-pub frame-square : (plan : CellPlan) (sfn i : ℕ) → square (frame_sample plan sfn i) ≤ 1153 * 1153
-unfolding frame_sample
-frame-square plan sfn i = slot-square plan sfn (i / 960) (i % 960)
+  pub frame-square : (sfn i : ℕ) → square (frame_sample grid sfn i) ≤ 1153 * 1153
+  unfolding frame_sample
+  frame-square sfn i = slot-square sfn (i / 960) (i % 960)
+
+  pub small-sent-square : (sfn i : ℕ) → square (sent grid sfn i) ≤ 1153 * 1153
+  unfolding sent
+  small-sent-square sfn i = frame-square (number_of sfn i) (i % 19200)
+
+pub sent-square : (plan : CellPlan) (sfn i : ℕ) → square (sent (element plan) sfn i) ≤ 1153 * 1153
+sent-square plan = small-sent-square (element plan) (element-square plan)
 
 -- a number of that size fits 16 bits
 pub small-within : (z : Cpx) → square z ≤ 1153 * 1153 → IsWithin 32767 z
 small-within z h = record { re = omega (arith, re-le z 1153 h); im = omega (arith, im-le z 1153 h) }
-
-pub sent-square : (plan : CellPlan) (sfn i : ℕ) → square (sent plan sfn i) ≤ 1153 * 1153
-unfolding sent
-sent-square plan sfn i = frame-square plan (number_of sfn i) (i % 19200)
 
 -- ---- a gain times a sample
 
@@ -139,4 +145,30 @@ amplified gain clean g c =
     record {
       fits = omega (arith, mul-le (size gain) (size clean) 28 1153 large small);
       small = record { re = re-le (times gain clean) 32284 whole; im = im-le (times gain clean) 32284 whole };
+    }
+
+-- what is received of a cell
+pub received-within : (plan : CellPlan) (sfn offset : ℕ) (gain : Cpx) (i : ℕ) → IsGain gain → IsWithin 32284 (received plan sfn offset gain i)
+received-within plan sfn offset gain i g = (amplified gain (sent (element plan) sfn (i + offset)) g (sent-square plan sfn (i + offset))).small
+
+-- ---- errors
+
+-- an error is at most twice as large as the greatest gain
+error-bound : (eps n : ℕ) → eps * eps ≤ 4 * n → n ≤ 784 → eps ≤ 56
+error-bound eps n e m = elim (cases_lt 56 eps) [
+  | inl more ↦ absurd (let k : 57 * 57 ≤ eps * eps = mul-le 57 57 eps eps (omega (arith, more)) (omega (arith, more)) in omega (arith, e, m, k))
+  | inr fits ↦ omega (arith, fits)
+]
+
+added : (a b : ℤ) (m n : ℕ) → nat_abs a ≤ m → nat_abs b ≤ n → nat_abs (a +ℤ b) ≤ m + n
+added a b m n p q = omega (arith, ints, p, q)
+
+pub with-error-fits : (clean gain error : Cpx) (eps : ℕ) → square clean ≤ 1153 * 1153 → IsGain gain → eps * eps ≤ 4 * square gain → IsWithin eps error →
+    IsWithin 32340 (plus (times gain clean) error)
+with-error-fits clean gain error eps c g bound e =
+    let most = error-bound eps (square gain) bound g.most in
+    let whole = (amplified gain clean g c).small in
+    record {
+      re = omega (arith, most, added (times gain clean).re error.re 32284 eps whole.re e.re);
+      im = omega (arith, most, added (times gain clean).im error.im 32284 eps whole.im e.im);
     }

@@ -1,3 +1,4 @@
+pub mod Word
 pub mod Elements
 pub mod Bounds
 pub mod Symbols

@@ -8,10 +8,8 @@ use Rattle.cs_num.specs.declared.Cpx.{Cpx}
 use Rattle.cs_num.specs.Complex.{nothing, value_at}
 use Rattle.fold128.specs.Symbol.{useful_at, useful_part}
 use Rattle.fold128.proofs.Samples.{useful_same}
-use Rattle.cell_tx.specs.declared.cell.CellPlan.{CellPlan}
-use Rattle.cell_tx.specs.Grid.{element}
 use Rattle.lte_types.specs.Numerology.{normal, prefix_length, useful_start, symbol_of}
-use Rattle.cell_tx.specs.Sent.{symbol_sample, slot_sample, frame_sample, number_of, sent}
+use Rattle.cell_tx.specs.Sent.{Elements, symbol_sample, slot_sample, frame_sample, number_of, sent}
 use Rattle.cell_tx.specs.Clean.{start_of, number_at_start}
 use Rattle.cell_tx.specs.Rows.{useful_place, first_sample}
 
@@ -32,22 +30,22 @@ symbol_sample_is : (useful : ℕ → Cpx) (l i n : ℕ) (before : Bool) → nat_
 symbol_sample_is useful l i n true e is inside f = let g : i + 128 - useful_start normal 0 0 l ≡ n = omega (arith, ltb-true _ _ e, is, f) in rw (e, g) refl
 symbol_sample_is useful l i n false e is inside f = let g : i - useful_start normal 0 0 l ≡ n = omega (arith, ltb-false _ _ e, is, f) in rw (e, g) refl
 
-pub slot_sample_is : (plan : CellPlan) (sfn slot i : ℕ) → i < 960 →
-    slot_sample plan sfn slot i ≡ useful_at (element plan sfn (slot / 2) (7 * (slot % 2) + symbol_of normal i)) (useful_place i)
-slot_sample_is plan sfn slot i inside =
-    symbol_sample_is (useful_at (element plan sfn (slot / 2) (7 * (slot % 2) + symbol_of normal i))) (symbol_of normal i) i (useful_place i)
+pub slot_sample_is : (grid : Elements) (sfn slot i : ℕ) → i < 960 →
+    slot_sample grid sfn slot i ≡ useful_at (grid sfn (slot / 2) (7 * (slot % 2) + symbol_of normal i)) (useful_place i)
+slot_sample_is grid sfn slot i inside =
+    symbol_sample_is (useful_at (grid sfn (slot / 2) (7 * (slot % 2) + symbol_of normal i))) (symbol_of normal i) i (useful_place i)
     (nat_lt i (useful_start normal 0 0 (symbol_of normal i))) refl refl inside refl
 
 -- a sample of a slot, read from the useful part of its symbol
-pub slot_value : (plan : CellPlan) (sfn slot i n : ℕ) (useful : List Cpx) → i < 960
-    → useful ≡ useful_part (element plan sfn (slot / 2) (7 * (slot % 2) + symbol_of normal i)) → n ≡ useful_place i → value_at useful n ≡ slot_sample plan sfn slot i
-slot_value plan sfn slot i n useful inside is place =
-    let grid : ℕ → Cpx = element plan sfn (slot / 2) (7 * (slot % 2) + symbol_of normal i) in
-    rw place (ap (λ list. value_at list (useful_place i)) is ∙ useful_part_at grid (useful_place i) (omega arith) ∙ sym (slot_sample_is plan sfn slot i inside))
+pub slot_value : (grid : Elements) (sfn slot i n : ℕ) (useful : List Cpx) → i < 960
+    → useful ≡ useful_part (grid sfn (slot / 2) (7 * (slot % 2) + symbol_of normal i)) → n ≡ useful_place i → value_at useful n ≡ slot_sample grid sfn slot i
+slot_value grid sfn slot i n useful inside is place =
+    let row : ℕ → Cpx = grid sfn (slot / 2) (7 * (slot % 2) + symbol_of normal i) in
+    rw place (ap (λ list. value_at list (useful_place i)) is ∙ useful_part_at row (useful_place i) (omega arith) ∙ sym (slot_sample_is grid sfn slot i inside))
 
-pub frame_sample_is : (plan : CellPlan) (sfn i : ℕ) → frame_sample plan sfn i ≡ slot_sample plan sfn (i / 960) (i % 960)
+pub frame_sample_is : (grid : Elements) (sfn i : ℕ) → frame_sample grid sfn i ≡ slot_sample grid sfn (i / 960) (i % 960)
 unfolding frame_sample
-frame_sample_is plan sfn i = refl
+frame_sample_is grid sfn i = refl
 
 -- ---- the symbols of a frame, by their number from 0 to 139
 
@@ -89,17 +87,17 @@ first_last = refl
 
 -- ---- the frames of a sequence
 
-pub sent_is : (plan : CellPlan) (sfn i : ℕ) → sent plan sfn i ≡ frame_sample plan (number_of sfn i) (i % 19200)
+pub sent_is : (grid : Elements) (sfn i : ℕ) → sent grid sfn i ≡ frame_sample grid (number_of sfn i) (i % 19200)
 unfolding sent
-sent_is plan sfn i = refl
+sent_is grid sfn i = refl
 
-pub sent_in_frame : (plan : CellPlan) (sfn i n m : ℕ) → number_of sfn i ≡ n → i % 19200 ≡ m → sent plan sfn i ≡ frame_sample plan n m
-sent_in_frame plan sfn i n m e f = sent_is plan sfn i ∙ rw (e, f) refl
+pub sent_in_frame : (grid : Elements) (sfn i n m : ℕ) → number_of sfn i ≡ n → i % 19200 ≡ m → sent grid sfn i ≡ frame_sample grid n m
+sent_in_frame grid sfn i n m e f = sent_is grid sfn i ∙ rw (e, f) refl
 
-pub frames_follow : (plan : CellPlan) (sfn j i : ℕ) → i < 19200 → sent plan sfn (19200 * j + i) ≡ frame_sample plan ((sfn + j) % 1024) i
-frames_follow plan sfn j i inside =
+pub frames_follow : (grid : Elements) (sfn j i : ℕ) → i < 19200 → sent grid sfn (19200 * j + i) ≡ frame_sample grid ((sfn + j) % 1024) i
+frames_follow grid sfn j i inside =
     let whole : (19200 * j + i) / 19200 ≡ j = omega (arith, inside) in
-    sent_in_frame plan sfn (19200 * j + i) ((sfn + j) % 1024) i (ap (λ (n : ℕ). (sfn + n) % 1024) whole) (omega (arith, inside))
+    sent_in_frame grid sfn (19200 * j + i) ((sfn + j) % 1024) i (ap (λ (n : ℕ). (sfn + n) % 1024) whole) (omega (arith, inside))
 
 -- the number of a frame from the start on
 number_from_start : (sfn offset j : ℕ) (none : Bool) → nat_eq offset 0 ≡ none → sfn ≤ 1023 → offset < 19200 →
@@ -112,44 +110,44 @@ start_in_frames : (offset j i : ℕ) (none : Bool) → nat_eq offset 0 ≡ none 
 start_in_frames offset j i true e inside few = let z : offset ≡ 0 = grind (arith, nat_tests) in rw z (omega arith)
 start_in_frames offset j i false e inside few = let z : 0 < offset = grind (arith, nat_tests) in omega (arith, z, inside)
 
-pub frames_begin : (plan : CellPlan) (sfn offset j i : ℕ) → sfn ≤ 1023 → offset < 19200 → i < 19200 →
-    sent plan sfn (start_of offset + 19200 * j + i + offset) ≡ frame_sample plan ((number_at_start sfn offset + j) % 1024) i
-frames_begin plan sfn offset j i small inside few =
+pub frames_begin : (grid : Elements) (sfn offset j i : ℕ) → sfn ≤ 1023 → offset < 19200 → i < 19200 →
+    sent grid sfn (start_of offset + 19200 * j + i + offset) ≡ frame_sample grid ((number_at_start sfn offset + j) % 1024) i
+frames_begin grid sfn offset j i small inside few =
     let frames : ℕ = if nat_eq offset 0 then j else j + 1 in
     let place = start_in_frames offset j i (nat_eq offset 0) refl inside few in
     let number = number_from_start sfn offset j (nat_eq offset 0) refl small inside in
-    ap (sent plan sfn) place ∙ frames_follow plan sfn frames i few ∙ ap (λ (n : ℕ). frame_sample plan n i) number
+    ap (sent grid sfn) place ∙ frames_follow grid sfn frames i few ∙ ap (λ (n : ℕ). frame_sample grid n i) number
 
 -- ---- useful parts and prefixes
 
-in_slot : (plan : CellPlan) (sfn slot l i : ℕ) → i < 960 → symbol_of normal i ≡ l →
-    frame_sample plan sfn (960 * slot + i) ≡ useful_at (element plan sfn (slot / 2) (7 * (slot % 2) + l)) (useful_place i)
-in_slot plan sfn slot l i inside is =
+in_slot : (grid : Elements) (sfn slot l i : ℕ) → i < 960 → symbol_of normal i ≡ l →
+    frame_sample grid sfn (960 * slot + i) ≡ useful_at (grid sfn (slot / 2) (7 * (slot % 2) + l)) (useful_place i)
+in_slot grid sfn slot l i inside is =
     let first : (960 * slot + i) / 960 ≡ slot = omega (arith, inside) in
     let rest : (960 * slot + i) % 960 ≡ i = omega (arith, inside) in
-    frame_sample_is plan sfn (960 * slot + i) ∙ rw (first, rest) (subst (λ (s : ℕ). slot_sample plan sfn slot i ≡ useful_at (element plan sfn (slot / 2) (7 * (slot % 2) + s)) (useful_place i)) is (slot_sample_is plan sfn slot i inside))
+    frame_sample_is grid sfn (960 * slot + i) ∙ rw (first, rest) (subst (λ (s : ℕ). slot_sample grid sfn slot i ≡ useful_at (grid sfn (slot / 2) (7 * (slot % 2) + s)) (useful_place i)) is (slot_sample_is grid sfn slot i inside))
 
-pub useful_parts_stand : (plan : CellPlan) (sfn slot l n : ℕ) → l < 7 → n < 128 →
-    frame_sample plan sfn (useful_start normal 0 slot l + n) ≡ useful_at (element plan sfn (slot / 2) (7 * (slot % 2) + l)) n
-useful_parts_stand plan sfn slot l n few inside =
+pub useful_parts_stand : (grid : Elements) (sfn slot l n : ℕ) → l < 7 → n < 128 →
+    frame_sample grid sfn (useful_start normal 0 slot l + n) ≡ useful_at (grid sfn (slot / 2) (7 * (slot % 2) + l)) n
+useful_parts_stand grid sfn slot l n few inside =
     let i : ℕ = 10 + 137 * l + n in
     let e : useful_start normal 0 slot l + n ≡ 960 * slot + i = omega arith in
     let is : symbol_of normal i ≡ l = omega (arith, few, inside) in
     let place : useful_place i ≡ n = rw is (omega (arith, inside)) in
-    ap (frame_sample plan sfn) e ∙ in_slot plan sfn slot l i (omega (arith, few, inside)) is ∙ ap (useful_at (element plan sfn (slot / 2) (7 * (slot % 2) + l))) place
+    ap (frame_sample grid sfn) e ∙ in_slot grid sfn slot l i (omega (arith, few, inside)) is ∙ ap (useful_at (grid sfn (slot / 2) (7 * (slot % 2) + l))) place
 
 prefix_fits : (l d : ℕ) → d ≤ prefix_length normal l → (d ≤ 10) × (0 < l → d ≤ 9)
 prefix_fits l d h = grind (arith, nat_tests)
 
-pub prefixes_repeat : (plan : CellPlan) (sfn slot l d : ℕ) → l < 7 → 1 ≤ d → d ≤ prefix_length normal l →
-    frame_sample plan sfn (useful_start normal 0 slot l - d) ≡ useful_at (element plan sfn (slot / 2) (7 * (slot % 2) + l)) (128 - d)
-prefixes_repeat plan sfn slot l d few some fits =
+pub prefixes_repeat : (grid : Elements) (sfn slot l d : ℕ) → l < 7 → 1 ≤ d → d ≤ prefix_length normal l →
+    frame_sample grid sfn (useful_start normal 0 slot l - d) ≡ useful_at (grid sfn (slot / 2) (7 * (slot % 2) + l)) (128 - d)
+prefixes_repeat grid sfn slot l d few some fits =
     let both = prefix_fits l d fits in
     let i : ℕ = 10 + 137 * l - d in
     let e : useful_start normal 0 slot l - d ≡ 960 * slot + i = omega (arith, both.0) in
     let is : symbol_of normal i ≡ l = first_symbol l d some both.0 both.1 in
     let place : useful_place i ≡ 128 - d = rw is (omega (arith, some, both.0)) in
-    ap (frame_sample plan sfn) e ∙ in_slot plan sfn slot l i (omega (arith, few)) is ∙ ap (useful_at (element plan sfn (slot / 2) (7 * (slot % 2) + l))) place
+    ap (frame_sample grid sfn) e ∙ in_slot grid sfn slot l i (omega (arith, few)) is ∙ ap (useful_at (grid sfn (slot / 2) (7 * (slot % 2) + l))) place
   where
     first_symbol : (l d : ℕ) → 1 ≤ d → d ≤ 10 → (0 < l → d ≤ 9) → symbol_of normal (10 + 137 * l - d) ≡ l
     first_symbol l d some ten nine = settle (nat_lt 0 l) refl

@@ -1,5 +1,5 @@
 -- The broadcast channel of a plan: its master block, coded, matched and scrambled (TS 36.212 section 5.3.1, TS 36.211 section 6.6).
-use Rattle.std.specs.Prelude.{ℕ, ◌+◌, ◌*◌, ◌/◌, ◌%◌, Bool, List, ◌++◌}
+use Rattle.std.specs.Prelude.{ℕ, ◌+◌, ◌*◌, ◌/◌, ◌%◌, Bool, List, ◌++◌, length}
 use Rattle.cs_num.specs.declared.Cpx.{Cpx}
 use Rattle.lte_types.specs.declared.bandwidth.Bandwidth.TheVariants.{N6}
 use Rattle.lte_types.specs.Codes.{bandwidth_code, duration_code, resource_code}
@@ -10,6 +10,7 @@ use Rattle.conv_code.specs.Reading.{bit_at_place, place_of}
 use Rattle.finite.specs.Bits.{xor}
 use Rattle.gold.specs.Gold.{gold_bit}
 use Rattle.crs.specs.Qpsk.{point}
+use Rattle.grid_map.specs.Scrambling.{pbch_c_init}
 use Rattle.cell_tx.specs.declared.cell.CellPlan.{CellPlan}
 
 -- the 24 bits of the master block in the frame with this number: dl-Bandwidth n6, phich-Config, the upper 8 bits of the frame
@@ -23,15 +24,15 @@ block_bits plan sfn =
 unfoldable pub broadcast_word : CellPlan → ℕ → List Bool
 broadcast_word plan sfn = with_check_16 0 (block_bits plan sfn)
 
--- bit n of the coded and matched bits of a word, which are repeated without end, scrambled by a cell's identity (TS 36.212 sections
--- 5.3.1.2 and 5.3.1.3, TS 36.211 section 6.6.1)
+-- bit n of the coded and matched bits of a word, which are repeated without end, scrambled by the sequence of c_init (TS 36.212
+-- sections 5.1.3.1 and 5.1.4.2, TS 36.211 section 7.2)
 abbrev pub scrambled_bit : ℕ → List Bool → ℕ → Bool
-scrambled_bit identity word n = xor (bit_at_place (coded_word word) (place_of 40 n)) (gold_bit identity n)
+scrambled_bit c_init word n = xor (bit_at_place (coded_word word) (place_of (length word) n)) (gold_bit c_init n)
 
 -- bit i of the 480 that a frame carries: the frames whose numbers are 0, 1, 2 and 3 modulo 4 carry the 1,920 scrambled bits in
--- this order (TS 36.211 sections 6.6.1 and 6.6.4)
+-- this order (TS 36.212 sections 5.3.1.2 and 5.3.1.3, TS 36.211 sections 6.6.1 and 6.6.4)
 unfoldable pub broadcast_bit : CellPlan → ℕ → ℕ → Bool
-broadcast_bit plan sfn i = scrambled_bit plan.identity (broadcast_word plan sfn) (480 * (sfn % 4) + i)
+broadcast_bit plan sfn i = scrambled_bit (pbch_c_init plan.identity) (broadcast_word plan sfn) (480 * (sfn % 4) + i)
 
 -- point i of the 240 that a frame carries (QPSK, TS 36.211 section 7.1.2; the amplitude is own)
 unfoldable pub broadcast_point : CellPlan → ℕ → ℕ → Cpx

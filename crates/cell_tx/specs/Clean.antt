@@ -1,11 +1,12 @@
--- Clean recordings of a cell: its frames times a whole-number gain, up to a small error. (own)
+-- Clean recordings of what is sent: its samples times a whole-number gain, up to a small error. (own)
 use Rattle.std.specs.Prelude.{ℕ, ◌+◌, ◌-◌, ◌*◌, ◌%◌, ◌<◌, ◌≤◌, nat_eq, if◌then◌else◌, List, length}
 use Rattle.cs_num.specs.declared.Cpx.{Cpx}
 use Rattle.cs_num.specs.declared.Sample.{Sample}
-use Rattle.cs_num.specs.Complex.{square, sample_at, IsWithin, minus}
+use Rattle.cs_num.specs.Complex.{square, sample_at, times, IsWithin, minus}
 use Rattle.lte_types.specs.Numerology.{frame_length}
 use Rattle.cell_tx.specs.declared.cell.CellPlan.{CellPlan}
-use Rattle.cell_tx.specs.Sent.{received}
+use Rattle.cell_tx.specs.Grid.{element}
+use Rattle.cell_tx.specs.Sent.{sent}
 
 -- the square of a gain's size is 1 to 784
 pub record IsGain (gain : Cpx) : Type 0 where
@@ -20,18 +21,22 @@ pub record IsCount (samples : ℕ) : Type 0 where
   pub least : 57600 ≤ samples
   pub most : samples ≤ 1920000
 
--- sample i of a list less what is received of the cell there
-abbrev pub error_at : List Sample → CellPlan → ℕ → ℕ → Cpx → ℕ → Cpx
-error_at recording plan sfn offset gain i = minus (sample_at recording i) (received plan sfn offset gain i)
+-- each component of each sample is off from these values by at most eps
+abbrev pub AreNear : List Sample → (ℕ → Cpx) → ℕ → Type 0
+AreNear recording values eps = (i : ℕ) → i < length recording → IsWithin eps (minus (sample_at recording i) (values i))
 
--- the samples are the cell's, from the sample at offset of the frame numbered sfn on, times the gain, and each component is off
--- by at most eps, which is at most twice the gain's size
-pub record IsClean (recording : List Sample) (plan : CellPlan) (sfn offset : ℕ) (gain : Cpx) (eps : ℕ) : Type 0 where
-  pub number : sfn ≤ 1023
+-- the samples are those of a sequence, from its sample at offset on, times the gain, and each component is off by at most eps, which
+-- is at most twice the gain's size
+pub record IsCleanOf (sequence : ℕ → Cpx) (recording : List Sample) (offset : ℕ) (gain : Cpx) (eps : ℕ) : Type 0 where
   pub within : IsOffset offset
   pub size : IsGain gain
   pub bound : eps * eps ≤ 4 * square gain
-  pub near : (i : ℕ) → i < length recording → IsWithin eps (error_at recording plan sfn offset gain i)
+  pub near : AreNear recording (λ i. times gain (sequence (i + offset))) eps
+
+-- the same of what a cell sends from the frame numbered sfn on
+pub record IsClean (recording : List Sample) (plan : CellPlan) (sfn offset : ℕ) (gain : Cpx) (eps : ℕ) : Type 0 where
+  pub number : sfn ≤ 1023
+  pub samples : IsCleanOf (sent (element plan) sfn) recording offset gain eps
 
 -- the first sample of it at which a frame of the cell begins
 abbrev pub start_of : ℕ → ℕ

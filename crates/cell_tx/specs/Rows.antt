@@ -8,7 +8,7 @@ use Rattle.lte_types.specs.Numerology.{frame_length, slot_length, useful_length,
 use Rattle.crs.specs.Reference.{is_reference, reference_at}
 use Rattle.cell_tx.specs.declared.cell.CellPlan.{CellPlan}
 use Rattle.cell_tx.specs.Grid.{is_broadcast, broadcast_value}
-use Rattle.cell_tx.specs.Sent.{frame_sample, sample_of}
+use Rattle.cell_tx.specs.Sent.{Elements, frame_sample, sample_of}
 
 -- the reference value at a place of a slot, where there is one
 abbrev pub reference_if : ℕ → ℕ → ℕ → ℕ → Option Cpx
@@ -28,8 +28,8 @@ first_sample n =
     slot_length * (n / 7) + (if nat_eq (n % 7) 0 then 0 else normal.first - normal.other + symbol_step normal * (n % 7))
 
 -- the samples of the frame with this number
-unfoldable pub frame_samples : CellPlan → ℕ → List Sample
-frame_samples plan sfn = values_below frame_length (λ i. sample_of (frame_sample plan sfn i))
+unfoldable pub frame_samples : Elements → ℕ → List Sample
+frame_samples grid sfn = values_below frame_length (λ i. sample_of (frame_sample grid sfn i))
 
 -- the first samples of a list, so many, are these
 abbrev pub HasSamples : List Sample → (ℕ → Cpx) → ℕ → Type 0

@@ -1,4 +1,5 @@
--- The samples that a cell sends without end (TS 36.211 section 6.12, in whole numbers).
+-- The samples that elements make, frame after frame without end (TS 36.211 section 6.12, in whole numbers); a cell sends those of its
+-- own.
 use Rattle.std.specs.Prelude.{ℕ, ◌+◌, ◌-◌, ◌*◌, ◌/◌, ◌%◌, nat_lt, if◌then◌else◌, ℤ}
 use Rattle.cs_num.specs.declared.Cpx.{Cpx}
 use Rattle.cs_num.specs.declared.Sample.{Sample}
@@ -8,32 +9,36 @@ use Rattle.lte_types.specs.Numerology.{frame_length, slot_length, useful_length,
 use Rattle.cell_tx.specs.declared.cell.CellPlan.{CellPlan}
 use Rattle.cell_tx.specs.Grid.{element}
 
+-- the elements of frames: by the number of the frame, the subframe, its symbol 0 to 13 and the subcarrier
+abbrev pub Elements : Type 0
+Elements = ℕ → ℕ → ℕ → ℕ → Cpx
+
 -- a sample of a symbol whose useful part begins at the given sample: before it the useful sample 128 places later,
 -- which makes the cyclic prefix
 abbrev pub symbol_sample : (ℕ → Cpx) → ℕ → ℕ → Cpx
 symbol_sample useful start i = if nat_lt i start then useful (i + useful_length - start) else useful (i - start)
 
 -- sample i of slot 0 to 19 of the frame with this number
-abbrev pub slot_sample : CellPlan → ℕ → ℕ → ℕ → Cpx
-slot_sample plan sfn slot i =
-    symbol_sample (useful_at (element plan sfn (slot / 2) (7 * (slot % 2) + symbol_of normal i)))
+abbrev pub slot_sample : Elements → ℕ → ℕ → ℕ → Cpx
+slot_sample grid sfn slot i =
+    symbol_sample (useful_at (grid sfn (slot / 2) (7 * (slot % 2) + symbol_of normal i)))
     (useful_start normal 0 0 (symbol_of normal i)) i
 
 -- sample i of the frame with this number
-unfoldable pub frame_sample : CellPlan → ℕ → ℕ → Cpx
-frame_sample plan sfn i = slot_sample plan sfn (i / slot_length) (i % slot_length)
+unfoldable pub frame_sample : Elements → ℕ → ℕ → Cpx
+frame_sample grid sfn i = slot_sample grid sfn (i / slot_length) (i % slot_length)
 
 -- the number of the frame that sample i is in, where sample 0 is the first of the frame numbered sfn
 abbrev pub number_of : ℕ → ℕ → ℕ
 number_of sfn i = (sfn + i / frame_length) % 1024
 
--- sample i of the cell's endless sequence of frames, which begins with the frame numbered sfn
-unfoldable pub sent : CellPlan → ℕ → ℕ → Cpx
-sent plan sfn i = frame_sample plan (number_of sfn i) (i % frame_length)
+-- sample i of the endless sequence of frames that begins with the frame numbered sfn
+unfoldable pub sent : Elements → ℕ → ℕ → Cpx
+sent grid sfn i = frame_sample grid (number_of sfn i) (i % frame_length)
 
--- what is received of it, from the sample at offset on, by a channel that is one number
+-- what is received of a cell's sequence, from the sample at offset on, by a channel that is one number
 abbrev pub received : CellPlan → ℕ → ℕ → Cpx → ℕ → Cpx
-received plan sfn offset gain i = times gain (sent plan sfn (i + offset))
+received plan sfn offset gain i = times gain (sent (element plan) sfn (i + offset))
 
 -- the sample that is a number
 abbrev pub sample_of : Cpx → Sample

@@ -1,9 +1,8 @@
 //! The broadcast channel of a frame.
 
-ghost use Rattle.std.specs.Prelude.{◌≡◌, ◌+◌, ◌*◌, ◌<◌, ◌≤◌, ◌++◌, false, take, slice_index_or};
+ghost use Rattle.std.specs.Prelude.{◌≡◌, ◌+◌, ◌*◌, ◌<◌, ◌≤◌, ◌++◌, false, take, length, slice_index_or};
 ghost use Rattle.finite.specs.Lists.{values_below};
 ghost use Rattle.finite.specs.Bits.{xor};
-ghost use Rattle.gold.specs.Gold.{gold_bits};
 ghost use Rattle.conv_code.specs.Reading.{bit_at_place, place_of};
 ghost use Rattle.cs_bits.specs.Numbers.{bits_of};
 ghost use Rattle.cell_tx.specs.Block.{broadcast_word, broadcast_point};
@@ -13,7 +12,8 @@ use conv_code::{encode, match_out};
 use crs::point;
 use cs_bits::{Bits, crc16, put_number};
 use cs_num::Cpx;
-use lte_types::{Bandwidth, CellId, Sfn};
+use grid_map::pbch_c_init;
+use lte_types::{Bandwidth, Sfn};
 
 // Writes the low bits of a number from place `first` on, the highest first.
 fn put_bits(bits: &mut [bool; 40], first: usize, width: usize, number: u16)
@@ -40,19 +40,12 @@ fn word_of(cell: &Cell, sfn: Sfn) -> Bits<40>
     Bits::new(bits)
 }
 
-// The scrambling bits of four frames.
-fn scrambling_of(id: CellId) -> [bool; 1920]
-    ensures { result ≡ gold_bits id 1920 }
-{
-    let mut bits = [false; 1920];
-    gold::fill(id.value() as u32, &mut bits);
-    bits
-}
-
-// Bit n of the 1,920 of four frames.
-fn scrambled(coded: &[[bool; 3]; 40], scrambling: &[bool; 1920], n: usize) -> bool
-    requires { n < 1920 }
-    ensures { result ≡ xor (bit_at_place coded.now (place_of 40 n)) (slice_index_or scrambling.now n false) }
+// Bit n of a coded and matched word, scrambled.
+fn scrambled<const N: usize>(coded: &[[bool; 3]; N], scrambling: &[bool], n: usize) -> bool
+    requires low { 6 ≤ N }
+    requires high { N ≤ 64 }
+    requires inside { n < length scrambling.now }
+    ensures { result ≡ xor (bit_at_place coded.now (place_of N n)) (slice_index_or scrambling.now n false) }
 {
     match_out(coded, n) != scrambling[n]
 }
@@ -62,7 +55,8 @@ pub(crate) fn broadcast_points(cell: &Cell, sfn: Sfn) -> [Cpx; 240]
     ensures { result ≡ values_below 240 (broadcast_point cell.now sfn) }
 {
     let coded = encode(&word_of(cell, sfn));
-    let scrambling = scrambling_of(cell.id());
+    let mut scrambling = [false; 1920];
+    gold::fill(pbch_c_init(cell.id()), &mut scrambling);
     let first = 480 * (sfn.value() % 4) as usize;
     let mut points = [Cpx::ZERO; 240];
     for i in 0..240 {

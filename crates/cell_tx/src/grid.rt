@@ -8,8 +8,8 @@ ghost use Rattle.lte_types.specs.Numerology.{half_of};
 ghost use Rattle.sync_seq.specs.Primary.{pss_list};
 ghost use Rattle.sync_seq.specs.Secondary.{sss_at, sss_list};
 ghost use Rattle.crs.specs.Reference.{is_reference, reference_at, reference_list};
-ghost use Rattle.grid_map.specs.Place.{place};
-ghost use Rattle.grid_map.specs.Broadcast.{pbch_index};
+ghost use Rattle.grid_map.specs.Place.{index_in as index_of};
+ghost use Rattle.grid_map.specs.Broadcast.{pbch_places as places_of_channel};
 ghost use Rattle.cell_tx.specs.Block.{broadcast_point};
 ghost use Rattle.fold128.specs.Symbol.{useful_part};
 ghost use Rattle.cell_tx.specs.Grid.{is_synchronised, secondary_value, element};
@@ -20,7 +20,7 @@ use crate::block::broadcast_points;
 use crs::pilots;
 use cs_num::Cpx;
 use fold128::synth;
-use grid_map::{Place, pbch, pbch_order};
+use grid_map::{Place, pbch_places};
 use lte_types::{CellId, Half, Sfn};
 use sync_seq::{MIDDLE, amplitude, is_middle, pss, sss};
 
@@ -32,10 +32,12 @@ pub(crate) struct Signals<'a> {
     primary: [Cpx; 62],
     zero: [i8; 62],
     five: [i8; 62],
+    places: [Place; 240],
     points: [Cpx; 240],
     ghost primary_is: { primary ≡ pss_list (cell.now.identity % 3) },
     ghost zero_is: { zero ≡ sss_list (cell.now.identity / 3) (cell.now.identity % 3) Zero },
     ghost five_is: { five ≡ sss_list (cell.now.identity / 3) (cell.now.identity % 3) Five },
+    ghost places_are: { places ≡ places_of_channel cell.now.identity },
     ghost points_are: { points ≡ values_below 240 (broadcast_point cell.now sfn) },
 }
 
@@ -50,6 +52,7 @@ impl<'a> Signals<'a> {
         let primary = pss(n2);
         let zero = sss(id.n1(), n2, Half::Zero);
         let five = sss(id.n1(), n2, Half::Five);
+        let places = pbch_places(id);
         let points = broadcast_points(cell, sfn);
         Signals {
             cell,
@@ -57,6 +60,7 @@ impl<'a> Signals<'a> {
             primary,
             zero,
             five,
+            places,
             points,
         }
     }
@@ -122,18 +126,16 @@ fn secondary_of(signals: &Signals, subframe: u8, k: u8) -> Cpx
     amplitude(sign_of(signals, subframe, k as usize - MIDDLE))
 }
 
-// The number of the point of the broadcast channel that a place carries; 240 at every other place.
-fn point_at(id: CellId, symbol: u8, k: u8) -> usize
-    ensures { result ≡ pbch_index id (place symbol k) }
+// The number of a place in a list of places; their count where it is not among them.
+fn index_in(places: &[Place], here: Place) -> usize
+    ensures { result ≡ index_of places.now here }
 {
-    pbch_order();
-    let here = Place { symbol, k };
-    for i in 0..240 {
-        if pbch(id, i) == here {
+    for (i, place) in places.iter().enumerate() {
+        if here == *place {
             return i;
         }
     }
-    240
+    places.len()
 }
 
 // The value of the broadcast channel, and 0 at every other place.
@@ -143,7 +145,7 @@ fn broadcast_of(signals: &Signals, subframe: u8, symbol: u8, k: u8) -> Cpx
     if subframe > 0 {
         return Cpx::ZERO;
     }
-    let i = point_at(signals.cell.id(), symbol, k);
+    let i = index_in(&signals.places, Place { symbol, k });
     if i < 240 {
         signals.points[i]
     } else {

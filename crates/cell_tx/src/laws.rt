@@ -1,33 +1,38 @@
 //! Laws of what a cell sends.
 
-ghost use Rattle.cell_tx.specs.Laws.{AcceptedAreSendable, UsefulPartsStand, PrefixesRepeat, FramesFollow, FramesBeginAtStart, ElementsAreWithin, ElementsAreSmall, SamplesAreSmall, ReceivedIsClean};
+ghost use Rattle.cell_tx.specs.Laws.{AcceptedAreSendable, UsefulPartsStand, PrefixesRepeat, FramesFollow, FramesBeginAtStart, ElementsAreWithin, ElementsAreSmall, SmallElementsMakeSmallSamples, SamplesAreSmall, ReceivedWithErrorsIsClean, ReceivedWithErrorsFits, ReceivedIsClean};
 
 /// The plans that `Cell::new` accepts are those that can be sent.
 pub fn accepted_are_sendable()
     ensures { AcceptedAreSendable }
 {}
 
-/// Where the useful parts of a frame's symbols stand, and the prefixes before them (TS 36.211
-/// section 6.12).
+/// Where the useful parts of the symbols of a frame stand, and the prefixes before them, whatever its
+/// elements are (TS 36.211 section 6.12).
 pub fn symbols_stand()
     ensures useful { UsefulPartsStand }
     ensures prefix { PrefixesRepeat }
 {}
 
-/// Where the frames of a sequence stand, and those of what is sent from an offset on.
+/// Where the frames of a sequence stand, and those of what is sent from an offset on, whatever their
+/// elements are.
 pub fn frames_stand()
     ensures follow { FramesFollow }
     ensures begin { FramesBeginAtStart }
 {}
 
-/// Elements have size at most 128, and samples 1,153. (own amplitudes)
+/// Elements of a cell have size at most 128, and samples of such elements 1,153. (own amplitudes)
 pub fn sizes()
     ensures within { ElementsAreWithin }
     ensures elements { ElementsAreSmall }
+    ensures any { SmallElementsMakeSmallSamples }
     ensures samples { SamplesAreSmall }
 {}
 
-/// What a cell sends, times a gain and without errors, is a clean recording of it.
+/// What is sent, times a gain, with any errors of at most twice the gain's size, is a clean recording
+/// of it, and fits 16 bits; so is what a cell sends without errors.
 pub fn sent_is_clean()
-    ensures { ReceivedIsClean }
+    ensures errors { ReceivedWithErrorsIsClean }
+    ensures fits { ReceivedWithErrorsFits }
+    ensures exact { ReceivedIsClean }
 {}

@@ -61,7 +61,7 @@ fn sample_of_slot(signals: &Signals, useful: &[Cpx; 128], slot: usize, i: usize)
     requires i { i < slot_length }
     requires useful { useful.now ≡ useful_part (element signals.now.cell.now signals.now.sfn
         (slot / 2) (7 * (slot % 2) + symbol_of normal i)) }
-    ensures { result ≡ sample_of (slot_sample signals.now.cell.now signals.now.sfn slot i) }
+    ensures { result ≡ sample_of (slot_sample (element signals.now.cell.now) signals.now.sfn slot i) }
 {
     to_sample(useful[place_at(i)])
 }
@@ -69,7 +69,7 @@ fn sample_of_slot(signals: &Signals, useful: &[Cpx; 128], slot: usize, i: usize)
 // Sample i of a frame.
 fn sample_of_frame(signals: &Signals, i: usize) -> Sample
     requires { i < frame_length }
-    ensures { result ≡ sample_of (frame_sample signals.now.cell.now signals.now.sfn i) }
+    ensures { result ≡ sample_of (frame_sample (element signals.now.cell.now) signals.now.sfn i) }
 {
     let slot = i / SLOT_LENGTH;
     let useful = useful_of(signals, slot as u8, symbol_at(i % SLOT_LENGTH) as u8);
@@ -96,8 +96,8 @@ fn first_of(symbol: usize) -> usize
 fn put_symbol(signals: &Signals, symbol: usize, out: &mut [Sample])
     requires symbol { symbol < 140 }
     requires room { length out.old ≡ frame_length }
-    requires before { HasSamples out.old (frame_sample signals.now.cell.now signals.now.sfn) (first_sample symbol) }
-    ensures { HasSamples out.new (frame_sample signals.now.cell.now signals.now.sfn) (first_sample (symbol + 1)) }
+    requires before { HasSamples out.old (frame_sample (element signals.now.cell.now) signals.now.sfn) (first_sample symbol) }
+    ensures { HasSamples out.new (frame_sample (element signals.now.cell.now) signals.now.sfn) (first_sample (symbol + 1)) }
 {
     let slot = symbol / 7;
     let useful = useful_of(signals, slot as u8, (symbol % 7) as u8);
@@ -109,8 +109,8 @@ fn put_symbol(signals: &Signals, symbol: usize, out: &mut [Sample])
 /// Sample `i` of the cell's endless sequence of frames, which begins with the frame numbered `sfn`
 /// (TS 36.211 section 6.12, in whole numbers). The size of a sample is at most 1,153.
 pub fn sample(cell: &Cell, sfn: Sfn, i: u64) -> Sample
-    ensures value { result ≡ sample_of (sent cell.now sfn i) }
-    ensures size { square (sent cell.now sfn i) ≤ 1153 * 1153 }
+    ensures value { result ≡ sample_of (sent (element cell.now) sfn i) }
+    ensures size { square (sent (element cell.now) sfn i) ≤ 1153 * 1153 }
 {
     let signals = Signals::new(cell, number(sfn, i));
     sample_of_frame(&signals, (i % FRAME) as usize)
@@ -120,7 +120,7 @@ pub fn sample(cell: &Cell, sfn: Sfn, i: u64) -> Sample
 /// sample `19,200 * j + i` of each sequence that has this frame as its frame `j`.
 pub fn frame(cell: &Cell, sfn: Sfn, out: &mut [Sample])
     requires { length out.old ≡ frame_length }
-    ensures { out.new ≡ frame_samples cell.now sfn }
+    ensures { out.new ≡ frame_samples (element cell.now) sfn }
 {
     let signals = Signals::new(cell, sfn);
     for symbol in 0..140 {
@@ -161,8 +161,8 @@ pub fn send(t: &Transmission, i: u32) -> Sample
 // Makes the frame of sample i of a transmission, where that of the sample before is another one.
 fn enter_frame(t: &Transmission, i: usize, clean: &mut [Sample; FRAME_LENGTH])
     requires i { i < t.now.samples }
-    requires before { 0 < i → clean.old ≡ frame_samples t.now.cell (number_of t.now.sfn (i - 1 + t.now.offset)) }
-    ensures { clean.new ≡ frame_samples t.now.cell (number_of t.now.sfn (i + t.now.offset)) }
+    requires before { 0 < i → clean.old ≡ frame_samples (element t.now.cell) (number_of t.now.sfn (i - 1 + t.now.offset)) }
+    ensures { clean.new ≡ frame_samples (element t.now.cell) (number_of t.now.sfn (i + t.now.offset)) }
 {
     let n = i as u64 + t.offset as u64;
     if i == 0 || n % FRAME == 0 {
@@ -173,7 +173,7 @@ fn enter_frame(t: &Transmission, i: usize, clean: &mut [Sample; FRAME_LENGTH])
 // Sample i of a transmission, from the samples of its frame.
 fn sent_from(t: &Transmission, i: usize, clean: &[Sample; FRAME_LENGTH]) -> Sample
     requires i { i < t.now.samples }
-    requires clean { clean.now ≡ frame_samples t.now.cell (number_of t.now.sfn (i + t.now.offset)) }
+    requires clean { clean.now ≡ frame_samples (element t.now.cell) (number_of t.now.sfn (i + t.now.offset)) }
     ensures { result ≡ sample_of (received t.now.cell t.now.sfn t.now.offset (gain_of t.now.gain) i) }
 {
     amplified(t.gain, clean[(i + t.offset as usize) % FRAME_LENGTH])

@@ -24,7 +24,7 @@ use Rattle.explain.proofs.FirstFrame.{one_master_at}
 use Rattle.explain.proofs.Information.{one_system, some_system}
 use Rattle.clean_air.specs.Clean.{IsSentEntry, HoldsCleanCells}
 use Rattle.clean_air.proofs.Held.{IsHeard, heard_is_held}
-use Rattle.clean_air.proofs.Masters.{sent_word_is_told, received_slot_speaks}
+use Rattle.clean_air.proofs.Masters.{received_slot_tells}
 use Rattle.clean_air.proofs.SentSymbols.{first_frame, primary_at, synchronisation_at}
 use Rattle.clean_air.proofs.SentBlock.{is_block}
 use Rattle.clean_air.proofs.SentSlots.{slot_grid, slot_received, carries_word}
@@ -56,17 +56,15 @@ module _ (recording : List Sample) (plan : CellPlan) (sfn offset : ℕ) (gain : 
   unfolding seen_slot
   word_told =
       let number : ℕ = number_at_start sfn offset in
-      let block = is_block plan number sendable.spare (number_fits sfn offset clean.number clean.within) in
-      sent_word_is_told (sent_slot recording plan offset) (number % 4) 1 (broadcast_word plan number)
-      (received_slot_speaks recording (useful_start normal (frame_at (start_after offset) 0) 1) (slot_grid plan number) (sent_slot recording plan offset) (number % 4) (broadcast_word plan number)
-      (slot_received recording plan sfn offset gain eps clean long) (carries_word plan number block.size))
-      block.check (omega (arith, block.width))
+      let block = is_block plan number sendable.spare (number_fits sfn offset clean.number clean.samples.within) in
+      received_slot_tells recording (useful_start normal (frame_at (start_after offset) 0) 1) (slot_grid plan number) (sent_slot recording plan offset) (number % 4) 1 (broadcast_word plan number)
+      (slot_received recording plan sfn offset gain eps clean long) block.size (carries_word plan number) block.check (omega (arith, block.width))
 
   -- so they tell its master block
   master_told : TellsMaster (coded_values (sent_slot recording plan offset) (number_at_start sfn offset % 4)) (sent_master recording plan sendable.spare offset (number_at_start sfn offset))
   master_told =
       let number : ℕ = number_at_start sfn offset in
-      let block = is_block plan number sendable.spare (number_fits sfn offset clean.number clean.within) in
+      let block = is_block plan number sendable.spare (number_fits sfn offset clean.number clean.samples.within) in
       record {
         word = broadcast_word plan number;
         tells = word_told;
@@ -84,8 +82,8 @@ module _ (recording : List Sample) (plan : CellPlan) (sfn offset : ℕ) (gain : 
   is_heard : IsHeard (IsMasterAt recording) recording plan.identity offset (number_at_start sfn offset) (sent_master recording plan sendable.spare offset (number_at_start sfn offset))
   is_heard = record {
     long = long;
-    within = clean.within;
-    known = number_fits sfn offset clean.number clean.within;
+    within = clean.samples.within;
+    known = number_fits sfn offset clean.number clean.samples.within;
     primary = λ t half at inside. primary_at recording plan sfn offset gain eps t clean inside half at;
     secondary = λ t half at first inside. synchronisation_at recording plan sfn offset gain eps t clean inside half at first sendable.identity;
     tells = master_told;

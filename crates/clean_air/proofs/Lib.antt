@@ -4,7 +4,9 @@ pub mod Estimates
 pub mod SoftValues
 -- Words. Where all values speak for one word, it alone costs nothing.
 pub mod SpokenWords
--- So the broadcast channel of a slot tells the word that was sent.
+-- So the values of places that carry a word tell it.
+pub mod Speaking
+-- And the broadcast channel of a slot tells the master block that was sent.
 pub mod Masters
 -- The described cell. Equal amplitudes are received equally.
 pub mod Grids

@@ -1,5 +1,5 @@
 -- The broadcast channel of a clean recording: its slot is received and carries the cell's word.
-use Rattle.std.proofs.Common.{◌≡◌, ℕ, ◌+◌, ◌-◌, ◌*◌, ◌/◌, ◌%◌, ◌<◌, ◌≤◌, arith, refl, ap, sym, subst, ◌∙◌, List, [], length, nat_eq, Bool, true, false, None}
+use Rattle.std.proofs.Common.{◌≡◌, ℕ, ◌+◌, ◌*◌, ◌/◌, ◌%◌, ◌<◌, ◌≤◌, arith, refl, ap, sym, subst, ◌∙◌, List, [], length, nat_eq, Bool, true, false, None}
 use Rattle.std.specs.Prelude.{if◌then◌else◌, ◌&&◌}
 use Rattle.std.proofs.lemmas.Bool.Decides.{nat_tests}
 use Rattle.cs_num.specs.declared.Cpx.{Cpx}
@@ -11,8 +11,9 @@ use Rattle.sync_seq.specs.Middle.{is_middle}
 use Rattle.soft_bits.specs.Soft.{pilot_symbol, pilot_subcarrier, pilot_sent}
 use Rattle.grid_map.specs.declared.Place.{Place}
 use Rattle.grid_map.specs.Place.{place}
-use Rattle.grid_map.specs.Broadcast.{pbch_place, is_pbch, pbch_index}
-use Rattle.grid_map.proofs.Points.{places_inside, index_of_place}
+use Rattle.grid_map.specs.Broadcast.{pbch_places, pbch_place, is_pbch, pbch_index}
+use Rattle.grid_map.specs.Scrambling.{pbch_c_init}
+use Rattle.grid_map.proofs.Points.{length-pbch_places, places_inside, index_of_place}
 use Rattle.cell_tx.specs.declared.cell.CellPlan.{CellPlan}
 use Rattle.cell_tx.specs.Block.{broadcast_word, broadcast_bit, broadcast_point}
 use Rattle.cell_tx.specs.Grid.{element}
@@ -24,7 +25,7 @@ use Rattle.lte_types.specs.Numerology.{normal, useful_start}
 use Rattle.explain.specs.Frame.{frame_at, seen_slot, broadcast_slot}
 use Rattle.budget.specs.Received.{IsReceived, samples_from}
 use Rattle.clean_air.specs.Values.{IsSlotReceived}
-use Rattle.clean_air.specs.Broadcast.{CarriesWord}
+use Rattle.clean_air.specs.Carried.{CarryWord}
 use Rattle.clean_air.proofs.SentSymbols.{received_at, first_frame}
 
 -- the grid of a symbol of slot 1 of the frame with this number
@@ -86,18 +87,18 @@ point_here plan number symbol k i at e inside =
     ∙ sym (broadcast_found plan number 0 symbol k i e refl inside)
 
 pub points_stand : (plan : CellPlan) (number i : ℕ) → i < 240 →
-    slot_grid plan number ((pbch_place plan.identity i).symbol - 7) (pbch_place plan.identity i).k ≡ broadcast_point plan number i
+    slot_grid plan number ((pbch_place plan.identity i).symbol % 7) (pbch_place plan.identity i).k ≡ broadcast_point plan number i
 points_stand plan number i inside =
     let p = pbch_place plan.identity i in
     let is = places_inside plan.identity i inside in
     let at = broadcast_place plan.identity p is in
-    let symbol : 7 + (p.symbol - 7) ≡ p.symbol = omega (arith, at.low) in
+    let symbol : 7 + p.symbol % 7 ≡ p.symbol = omega (arith, at.low, at.high) in
     ap (λ n. element plan number 0 n p.k) symbol ∙ point_here plan number p.symbol p.k i at (sym (index_of_place plan.identity i inside)) inside
 
-pub carries_word : (plan : CellPlan) (number : ℕ) → length (broadcast_word plan number) ≡ 40 →
-    CarriesWord (slot_grid plan number) plan.identity (number % 4) (broadcast_word plan number)
-unfolding broadcast_point broadcast_bit
-carries_word plan number size = record { size = size; amplitude = λ i inside. points_stand plan number i inside }
+pub carries_word : (plan : CellPlan) (number : ℕ) →
+    CarryWord (slot_grid plan number) (pbch_places plan.identity) (pbch_c_init plan.identity) (480 * (number % 4)) (broadcast_word plan number)
+unfolding pbch_place broadcast_point broadcast_bit
+carries_word plan number i inside = points_stand plan number i (omega (arith, inside, length-pbch_places plan.identity))
 
 -- ---- the slot
 
@@ -106,13 +107,13 @@ pub slot_received : (recording : List Sample) (plan : CellPlan) (sfn offset : �
 unfolding seen_slot
 slot_received recording plan sfn offset gain eps clean long =
     let j : ℕ = if nat_eq offset 0 then 0 else 1 in
-    let first = first_frame sfn offset clean.number clean.within in
+    let first = first_frame sfn offset clean.number clean.samples.within in
     record {
       eps = eps;
       gain = gain;
       seen = λ l inside. values_below_at (λ symbol. seen_symbol recording (useful_start normal (frame_at (start_of offset) 0) 1 symbol)) 7 l [] inside;
       amplitudes = λ l inside k within. element-square plan (number_at_start sfn offset) 0 (7 + l) k;
       received = λ l inside. subst (λ n. IsReceived eps gain (slot_grid plan n l) (samples_from recording (useful_start normal (frame_at (start_of offset) 0) 1 l))) first.number
-          (received_at recording plan sfn offset gain eps (useful_start normal (frame_at (start_of offset) 0) 1 l) j 1 l clean (omega arith) inside (omega (arith, long, inside)) (omega (arith, first.place)));
+          (received_at recording (element plan) sfn offset gain eps (useful_start normal (frame_at (start_of offset) 0) 1 l) j 1 l clean.samples (omega arith) inside (omega (arith, long, inside)) (omega (arith, first.place)));
       references = λ i inside. references_stand plan (number_at_start sfn offset) i;
     }

@@ -13,8 +13,8 @@ use Rattle.pss_search.specs.Correlation.{pss_grid}
 use Rattle.cell_tx.specs.declared.cell.CellPlan.{CellPlan}
 use Rattle.cell_tx.specs.Grid.{element}
 use Rattle.lte_types.specs.Numerology.{normal, useful_start, subframe_of, primary_start}
-use Rattle.cell_tx.specs.Sent.{sent}
-use Rattle.cell_tx.specs.Clean.{IsClean, start_of, number_at_start}
+use Rattle.cell_tx.specs.Sent.{Elements, sent}
+use Rattle.cell_tx.specs.Clean.{IsCleanOf, IsClean, start_of, number_at_start}
 use Rattle.cell_tx.proofs.Symbols.{frames_follow, useful_parts_stand}
 use Rattle.cell_tx.proofs.Elements.{no_reference}
 use Rattle.budget.specs.Received.{IsReceived, samples_from}
@@ -26,20 +26,20 @@ use Rattle.clean_air.proofs.Grids.{received_same}
 -- ---- a symbol
 
 -- what is sent of a symbol of a frame
-sent_symbol : (plan : CellPlan) (sfn j slot l n : ℕ) → slot < 20 → l < 7 → n < 128 →
-    sent plan sfn (19200 * j + (useful_start normal 0 slot l + n)) ≡ useful_at (element plan ((sfn + j) % 1024) (slot / 2) (7 * (slot % 2) + l)) n
-sent_symbol plan sfn j slot l n a b c =
-    frames_follow plan sfn j (useful_start normal 0 slot l + n) (omega arith) ∙ useful_parts_stand plan ((sfn + j) % 1024) slot l n b c
+sent_symbol : (grid : Elements) (sfn j slot l n : ℕ) → slot < 20 → l < 7 → n < 128 →
+    sent grid sfn (19200 * j + (useful_start normal 0 slot l + n)) ≡ useful_at (grid ((sfn + j) % 1024) (slot / 2) (7 * (slot % 2) + l)) n
+sent_symbol grid sfn j slot l n a b c =
+    frames_follow grid sfn j (useful_start normal 0 slot l + n) (omega arith) ∙ useful_parts_stand grid ((sfn + j) % 1024) slot l n b c
 
 -- where a whole useful part stands in the recording, it is received
-pub received_at : (recording : List Sample) (plan : CellPlan) (sfn offset : ℕ) (gain : Cpx) (eps : ℕ) (t j slot l : ℕ) → IsClean recording plan sfn offset gain eps →
+pub received_at : (recording : List Sample) (grid : Elements) (sfn offset : ℕ) (gain : Cpx) (eps : ℕ) (t j slot l : ℕ) → IsCleanOf (sent grid sfn) recording offset gain eps →
     slot < 20 → l < 7 → t + 128 ≤ length recording → t + offset ≡ 19200 * j + useful_start normal 0 slot l →
-    IsReceived eps gain (element plan ((sfn + j) % 1024) (slot / 2) (7 * (slot % 2) + l)) (samples_from recording t)
-received_at recording plan sfn offset gain eps t j slot l clean a b inside place = record {
+    IsReceived eps gain (grid ((sfn + j) % 1024) (slot / 2) (7 * (slot % 2) + l)) (samples_from recording t)
+received_at recording grid sfn offset gain eps t j slot l clean a b inside place = record {
   sounds = clean.size.least;
   quiet = clean.bound;
   near = λ n c. let there : t + n + offset ≡ 19200 * j + (useful_start normal 0 slot l + n) = omega (arith, place) in
-      subst (λ z. IsWithin eps (minus (sample_at recording (t + n)) (times gain z))) (ap (sent plan sfn) there ∙ sent_symbol plan sfn j slot l n a b c)
+      subst (λ z. IsWithin eps (minus (sample_at recording (t + n)) (times gain z))) (ap (sent grid sfn) there ∙ sent_symbol grid sfn j slot l n a b c)
       (clean.near (t + n) (omega (arith, inside, c)));
 }
 
@@ -66,21 +66,21 @@ pub record IsTruePlace (offset t : ℕ) (half : Half) : Type 0 where
   pub place : t + offset ≡ 19200 * frame + primary_start half
 
 module _ (recording : List Sample) (plan : CellPlan) (sfn offset : ℕ) (gain : Cpx) (eps : ℕ) (t : ℕ) (clean : IsClean recording plan sfn offset gain eps) (inside : t + 128 ≤ length recording) where
-  primary_received : (half : Half) → IsTruePlace offset t half → IsReceived eps gain (pss_grid (plan.identity % 3)) (samples_from recording t)
+  pub primary_received : (half : Half) → IsTruePlace offset t half → IsReceived eps gain (pss_grid (plan.identity % 3)) (samples_from recording t)
   primary_received Zero at =
       received_same eps gain (element plan ((sfn + at.frame) % 1024) 0 6) (pss_grid (plan.identity % 3)) (samples_from recording t) (λ k l. primary_symbol plan ((sfn + at.frame) % 1024) k Zero)
-      (received_at recording plan sfn offset gain eps t at.frame 0 6 clean (omega arith) (omega arith) inside (omega (arith, at.place)))
+      (received_at recording (element plan) sfn offset gain eps t at.frame 0 6 clean.samples (omega arith) (omega arith) inside (omega (arith, at.place)))
   primary_received Five at =
       received_same eps gain (element plan ((sfn + at.frame) % 1024) 5 6) (pss_grid (plan.identity % 3)) (samples_from recording t) (λ k l. primary_symbol plan ((sfn + at.frame) % 1024) k Five)
-      (received_at recording plan sfn offset gain eps t at.frame 10 6 clean (omega arith) (omega arith) inside (omega (arith, at.place)))
+      (received_at recording (element plan) sfn offset gain eps t at.frame 10 6 clean.samples (omega arith) (omega arith) inside (omega (arith, at.place)))
 
-  secondary_received : (half : Half) → IsTruePlace offset t half → 137 ≤ t → IsReceived eps gain (sss_grid (plan.identity / 3) (plan.identity % 3) half) (samples_from recording (t - 137))
+  pub secondary_received : (half : Half) → IsTruePlace offset t half → 137 ≤ t → IsReceived eps gain (sss_grid (plan.identity / 3) (plan.identity % 3) half) (samples_from recording (t - 137))
   secondary_received Zero at first =
       received_same eps gain (element plan ((sfn + at.frame) % 1024) 0 5) (sss_grid (plan.identity / 3) (plan.identity % 3) Zero) (samples_from recording (t - 137)) (λ k l. secondary_symbol plan ((sfn + at.frame) % 1024) k Zero)
-      (received_at recording plan sfn offset gain eps (t - 137) at.frame 0 5 clean (omega arith) (omega arith) (omega (arith, inside)) (omega (arith, at.place, first)))
+      (received_at recording (element plan) sfn offset gain eps (t - 137) at.frame 0 5 clean.samples (omega arith) (omega arith) (omega (arith, inside)) (omega (arith, at.place, first)))
   secondary_received Five at first =
       received_same eps gain (element plan ((sfn + at.frame) % 1024) 5 5) (sss_grid (plan.identity / 3) (plan.identity % 3) Five) (samples_from recording (t - 137)) (λ k l. secondary_symbol plan ((sfn + at.frame) % 1024) k Five)
-      (received_at recording plan sfn offset gain eps (t - 137) at.frame 10 5 clean (omega arith) (omega arith) (omega (arith, inside)) (omega (arith, at.place, first)))
+      (received_at recording (element plan) sfn offset gain eps (t - 137) at.frame 10 5 clean.samples (omega arith) (omega arith) (omega (arith, inside)) (omega (arith, at.place, first)))
 
   -- a primary signal stands there
   pub primary_at : (half : Half) → IsTruePlace offset t half → IsPrimaryAt recording t (plan.identity % 3)

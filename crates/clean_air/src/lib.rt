@@ -5,11 +5,13 @@
 #![tactic(auto)]
 
 mod broadcast;
+mod carried;
 mod clean;
 mod values;
 mod words;
 
 pub use broadcast::sent_master_is_told;
+pub use carried::carried_word_is_heard;
 pub use clean::explain_clean;
 pub use values::values_support_the_sent_bits;
 pub use words::spoken_word_is_the_least;

@@ -12,10 +12,10 @@ use Rattle.sample_file.proofs.Samples.{samples_back}
 use Rattle.lte_types.specs.declared.entry.Entry.{Entry}
 use Rattle.cell_tx.specs.declared.cell.CellPlan.{CellPlan}
 use Rattle.cell_tx.specs.declared.transmission.Transmission.{Transmission}
-use Rattle.cell_tx.specs.Sent.{sample_of, received, sent, gain_of}
+use Rattle.cell_tx.specs.Sent.{sample_of, received, gain_of}
 use Rattle.cell_tx.specs.Clean.{IsGain, IsClean, start_of, number_at_start}
 use Rattle.cell_tx.specs.Laws.{ReceivedIsClean}
-use Rattle.cell_tx.proofs.Bounds.{amplified, sent-square}
+use Rattle.cell_tx.proofs.Bounds.{received-within}
 use Rattle.clean_air.specs.Clean.{HoldsCell}
 use Rattle.cell_json.specs.Reading.{Describes}
 use Rattle.cell_json.proofs.Ranges.{described_ranges}
@@ -31,8 +31,7 @@ unfolding sent_samples
 sent_fits t size =
     let f : ℕ → Sample = λ i. sample_of (received t.cell t.sfn t.offset (gain_of t.gain) i) in
     values_below-All (λ s. IsWithin 32767 (value_of s)) t.samples f silence (λ k below.
-    within_more (received t.cell t.sfn t.offset (gain_of t.gain) k) 32284 32767
-    (amplified (gain_of t.gain) (sent t.cell t.sfn (k + t.offset)) size (sent-square t.cell t.sfn (k + t.offset))).small (omega arith))
+    within_more (received t.cell t.sfn t.offset (gain_of t.gain) k) 32284 32767 (received-within t.cell t.sfn t.offset (gain_of t.gain) k size) (omega arith))
 
 -- so it is read back as it was
 sent_back : (t : Transmission) (bytes : List ℕ) → IsGain (gain_of t.gain) → bytes ≡ bytes_of (sent_samples t) → samples_of bytes ≡ sent_samples t

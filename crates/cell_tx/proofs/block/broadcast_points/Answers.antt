@@ -1,4 +1,4 @@
-use Rattle.std.proofs.Common.{◌≡◌, ℕ, ◌+◌, ◌*◌, ◌%◌, ◌<◌, Bool, false, List, get_or, arith, refl, ap, ◌∙◌, length-set}
+use Rattle.std.proofs.Common.{◌≡◌, ℕ, ◌+◌, ◌*◌, ◌%◌, ◌<◌, Bool, false, List, length, get_or, arith, refl, ap, sym, ◌∙◌, length-set}
 use Rattle.std.proofs.lemmas.List.FromFn.{fill_by_all}
 use Rattle.std.proofs.lemmas.List.Edits.{fill_by_more}
 use Rattle.cs_num.specs.Complex.{nothing}
@@ -8,15 +8,19 @@ use Rattle.gold.proofs.Bits.{get_or-gold_bits}
 use Rattle.conv_code.specs.Code.{coded_word}
 use Rattle.conv_code.specs.Reading.{bit_at_place, place_of}
 use Rattle.cell_tx.specs.declared.cell.CellPlan.{CellPlan}
-use Rattle.cell_tx.specs.Block.{broadcast_word, broadcast_bit, broadcast_point}
+use Rattle.cell_tx.specs.Block.{scrambled_bit, broadcast_word, broadcast_bit, broadcast_point}
+use Rattle.cell_tx.proofs.Word.{broadcast_word-length}
 use Rattle.cell_tx.proofs.block.broadcast_points.Goals as goal
 
--- a bit of the frame, from the coded word and the scrambling bits
-bit_is : (plan : CellPlan) (sfn i n : ℕ) (coded : List (List Bool)) (scrambling : List Bool) → coded ≡ coded_word (broadcast_word plan sfn)
-    → scrambling ≡ gold_bits plan.identity 1920 → n ≡ 480 * (sfn % 4) + i → n < 1920
-    → xor (bit_at_place coded (place_of 40 n)) (get_or scrambling n false) ≡ broadcast_bit plan sfn i
+-- a scrambled bit, from the coded word and the scrambling bits
+bit_is : (c_init size count n : ℕ) (word : List Bool) (coded : List (List Bool)) (scrambling : List Bool) → length word ≡ size → coded ≡ coded_word word →
+    scrambling ≡ gold_bits c_init count → n < count → xor (bit_at_place coded (place_of size n)) (get_or scrambling n false) ≡ scrambled_bit c_init word n
+bit_is c_init size count n word coded scrambling e f g inside = rw (sym e, f, g, get_or-gold_bits c_init count n false inside) refl
+
+-- bit i of a frame
+frame_bit : (plan : CellPlan) (sfn i n : ℕ) → n ≡ 480 * (sfn % 4) + i → scrambled_bit plan.identity (broadcast_word plan sfn) n ≡ broadcast_bit plan sfn i
 unfolding broadcast_bit
-bit_is plan sfn i n coded scrambling e f g inside = rw (e, f, get_or-gold_bits plan.identity 1920 n false inside, g) refl
+frame_bit plan sfn i n e = rw e refl
 
 pub loop-i-preserved : goal.loop-i-preserved
 unfolding broadcast_point
@@ -25,10 +29,12 @@ loop-i-preserved c =
     let i : ℕ = c.loop-i.i in
     let n : ℕ = 480 * (c.value.result % 4) + 2 * i in
     let coded = c.encode-coded.ensures ∙ ap coded_word c.word_of.ensures in
-    let scrambling = c.scrambling_of-scrambling.ensures ∙ ap (λ (identity : ℕ). gold_bits identity 1920) c.id.ensures.value in
+    let scrambling = c.fill.ensures ∙ ap (λ (c_init : ℕ). gold_bits c_init 1920) (c.pbch_c_init.ensures.value ∙ c.id.ensures.value) in
+    let word : List Bool = broadcast_word plan c.args.sfn in
+    let size = broadcast_word-length plan c.args.sfn in
     let number : c.value.result ≡ c.args.sfn = c.value.ensures.value in
-    let first = c.scrambled.ensures ∙ bit_is plan c.args.sfn (2 * i) n _ _ coded scrambling (omega (arith, number)) (omega arith) in
-    let second = c.scrambled-in-loop-i.ensures ∙ bit_is plan c.args.sfn (2 * i + 1) (n + 1) _ _ coded scrambling (omega (arith, number)) (omega arith) in
+    let first = c.scrambled.ensures ∙ bit_is plan.identity 40 1920 n word _ _ size coded scrambling (omega arith) ∙ frame_bit plan c.args.sfn (2 * i) n (omega (arith, number)) in
+    let second = c.scrambled-in-loop-i.ensures ∙ bit_is plan.identity 40 1920 (n + 1) word _ _ size coded scrambling (omega arith) ∙ frame_bit plan c.args.sfn (2 * i + 1) (n + 1) (omega (arith, number)) in
     let here : c.point.result ≡ broadcast_point plan c.args.sfn i = c.point.ensures.point ∙ rw (first, second) refl in
     record {
       whole = length-set c.loop-i.points i _ ∙ c.loop-i.invariant.whole;

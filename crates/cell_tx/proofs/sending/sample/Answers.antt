@@ -1,4 +1,5 @@
 use Rattle.std.proofs.Common.{ℕ, ap, sym, ◌∙◌}
+use Rattle.cell_tx.specs.Grid.{element}
 use Rattle.cell_tx.specs.Sent.{sample_of}
 use Rattle.cell_tx.proofs.Bounds.{sent-square}
 use Rattle.cell_tx.proofs.Symbols.{sent_is}
@@ -8,7 +9,7 @@ pub returns-clause-value : goal.returns-clause-value
 returns-clause-value c =
     let i : ℕ = c.args.i in
     let number = c.new-signals.ensures.sfn ∙ c.number.ensures in
-    c.sample_of_frame.ensures ∙ rw (c.new-signals.ensures.cell, number) (ap sample_of (sym (sent_is c.args.cell.now c.args.sfn i)))
+    c.sample_of_frame.ensures ∙ rw (c.new-signals.ensures.cell, number) (ap sample_of (sym (sent_is (element c.args.cell.now) c.args.sfn i)))
 
 pub returns-clause-size : goal.returns-clause-size
 returns-clause-size c = sent-square c.args.cell.now c.args.sfn c.args.i

@@ -1,17 +1,18 @@
 use Rattle.std.proofs.Common.{ap, ◌∙◌}
+use Rattle.cell_tx.specs.Grid.{element}
 use Rattle.cell_tx.specs.Sent.{slot_sample, sample_of}
-use Rattle.cell_tx.proofs.Bounds.{slot-square, small-within}
+use Rattle.cell_tx.proofs.Bounds.{element-square, slot-square, small-within}
 use Rattle.cell_tx.proofs.Symbols.{slot_value}
 use Rattle.cell_tx.proofs.sending.sample_of_slot.Goals as goal
 
 pub to_sample-requires : goal.to_sample-requires
 to_sample-requires c =
     let plan = c.args.signals.now.cell.now in
-    let value = slot_value plan c.args.signals.now.sfn c.args.slot c.args.i c.place_at.result c.args.useful.now c.requires.i c.requires.useful c.place_at.ensures.value in
-    rw value (small-within (slot_sample plan c.args.signals.now.sfn c.args.slot c.args.i) (slot-square plan c.args.signals.now.sfn c.args.slot c.args.i))
+    let value = slot_value (element plan) c.args.signals.now.sfn c.args.slot c.args.i c.place_at.result c.args.useful.now c.requires.i c.requires.useful c.place_at.ensures.value in
+    rw value (small-within (slot_sample (element plan) c.args.signals.now.sfn c.args.slot c.args.i) (slot-square (element plan) (element-square plan) c.args.signals.now.sfn c.args.slot c.args.i))
 
 pub returns : goal.returns
 returns c =
     let plan = c.args.signals.now.cell.now in
-    let value = slot_value plan c.args.signals.now.sfn c.args.slot c.args.i c.place_at.result c.args.useful.now c.requires.i c.requires.useful c.place_at.ensures.value in
+    let value = slot_value (element plan) c.args.signals.now.sfn c.args.slot c.args.i c.place_at.result c.args.useful.now c.requires.i c.requires.useful c.place_at.ensures.value in
     c.to_sample.ensures ∙ ap sample_of value

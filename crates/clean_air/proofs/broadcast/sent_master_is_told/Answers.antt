@@ -1,11 +1,8 @@
-use Rattle.clean_air.proofs.Masters.{sent_word_is_only, sent_word_is_told, received_slot_speaks}
+use Rattle.clean_air.proofs.Masters.{sent_word_is_told, received_slot_tells}
 use Rattle.clean_air.proofs.broadcast.sent_master_is_told.Goals as goal
-
-pub returns-clause-only : goal.returns-clause-only
-returns-clause-only c = sent_word_is_only
 
 pub returns-clause-told : goal.returns-clause-told
 returns-clause-told c = sent_word_is_told
 
 pub returns-clause-recording : goal.returns-clause-recording
-returns-clause-recording c = received_slot_speaks
+returns-clause-recording c = received_slot_tells

@@ -1,0 +1,82 @@
+-- The values of places that carry the scrambled bits of a word: they speak for it, and tell it alone.
+use Rattle.std.proofs.Common.{◌≡◌, ℕ, ◌+◌, ◌*◌, ◌/◌, ◌%◌, ◌<◌, ◌≤◌, ◌⊎◌, inl, inr, arith, refl, ap, sym, ◌∙◌, subst, Bool, List, length, get_or, ℤ, pos}
+use Rattle.std.proofs.Math.Nat.{mod-add-div', mul-add-mod_self_right}
+use Rattle.std.proofs.lemmas.Bool.{cases_lt}
+use Rattle.gold.specs.Gold.{gold_bit}
+use Rattle.conv_code.specs.Code.{coded_word}
+use Rattle.conv_code.specs.Reading.{bit_at_place, place_of}
+use Rattle.cs_bits.specs.Signs.{Supports}
+use Rattle.tailbite.specs.Clean.{Speaks}
+use Rattle.grid_map.specs.declared.Place.{Place}
+use Rattle.grid_map.specs.Place.{place}
+use Rattle.soft_bits.specs.Places.{values_at, descrambled, descrambled_value}
+use Rattle.soft_bits.proofs.Channel.{soft_values_of-at, length-descrambled, descrambled-at}
+use Rattle.cell_tx.specs.Block.{scrambled_bit}
+use Rattle.clean_air.specs.Values.{SupportBoth}
+use Rattle.clean_air.specs.Words.{SpeakInOrder}
+use Rattle.clean_air.specs.Carried.{SpeakOfWord, sums_of, SentWordIsOnly, CarriedBitsAreHeard}
+use Rattle.clean_air.proofs.SoftValues.{received_values_support_bits}
+use Rattle.clean_air.proofs.SpokenWords.{descrambling_keeps, summed-length, sums_speak, spoken_word_is_only}
+
+-- ---- values in the order of the reading
+
+-- after whole readings the next one begins
+begins_again : (m first i : ℕ) → first % m ≡ 0 → (first + i) % m ≡ i % m
+begins_again m first i h = ap (λ n. (n + i) % m) whole ∙ mul-add-mod_self_right (first / m) m i
+  where
+    nothing_more : (n : ℕ) → 0 + n ≡ n
+    nothing_more n = omega arith
+
+    whole : first ≡ first / m * m
+    whole = sym (mod-add-div' first m) ∙ ap (λ r. r + first / m * m) h ∙ nothing_more (first / m * m)
+
+same_place : (size first i : ℕ) → first % (3 * size) ≡ 0 → place_of size (first + i) ≡ place_of size i
+unfolding place_of
+same_place size first i h = let e : (first + i) % (3 * size) ≡ i % (3 * size) = begins_again (3 * size) first i h in rw e refl
+
+in_order : (c_init first : ℕ) (word : List Bool) (values : List ℤ) → SpeakOfWord c_init first word values → SpeakInOrder word (descrambled c_init first values)
+in_order c_init first word values s = record {
+  enough = omega (arith, s.enough, length-descrambled c_init first values);
+  value = λ i l.
+      let inside : i < length values = omega (arith, l, length-descrambled c_init first values) in
+      subst (Supports 1 (bit_at_place (coded_word word) (place_of (length word) i))) (sym (descrambled-at c_init first values i inside))
+      (subst (λ p. Supports 1 (bit_at_place (coded_word word) p) (descrambled_value (gold_bit c_init (first + i)) (get_or values i (pos 0)))) (same_place (length word) first i s.begins)
+      (descrambling_keeps 1 (bit_at_place (coded_word word) (place_of (length word) (first + i))) (gold_bit c_init (first + i)) (get_or values i (pos 0)) (s.value i inside)));
+}
+
+pub sums_speak_all : (c_init first : ℕ) (word : List Bool) (values : List ℤ) → 6 ≤ length word → length word ≤ 64 → SpeakOfWord c_init first word values →
+    Speaks (sums_of c_init first (length word) values) word
+sums_speak_all c_init first word values low high speaks = sums_speak word (descrambled c_init first values) low high (in_order c_init first word values speaks)
+
+pub sent_word_is_only : SentWordIsOnly
+sent_word_is_only c_init first word values low high speaks =
+    let size = summed-length (length word) (descrambled c_init first values) in
+    spoken_word_is_only (sums_of c_init first (length word) values) word (omega (arith, low, size)) (sym size) (sums_speak_all c_init first word values low high speaks)
+
+-- ---- in a recording
+
+even_or_odd : (i : ℕ) → ((i % 2 ≡ 0) × (2 * (i / 2) ≡ i)) ⊎ ((i % 2 ≡ 1) × (2 * (i / 2) + 1 ≡ i))
+even_or_odd i = elim (cases_lt (i % 2) 1) [
+  | inl h ↦ inl (omega arith, omega arith)
+  | inr h ↦ inr (omega arith, omega arith)
+]
+
+-- one of the two values of a place
+one_value : (values : List ℤ) (i : ℕ) (bit : ℕ → Bool) → SupportBoth 8 (bit (2 * (i / 2))) (bit (2 * (i / 2) + 1)) values → Supports 8 (bit i) (get_or values (i % 2) (pos 0))
+one_value values i bit both = elim (even_or_odd i) [
+  | inl (place, index) ↦ subst (λ (n : ℕ). Supports 8 (bit i) (get_or values n (pos 0))) (sym place) (subst (λ (n : ℕ). Supports 8 (bit n) (get_or values 0 (pos 0))) index both.re)
+  | inr (place, index) ↦ subst (λ (n : ℕ). Supports 8 (bit i) (get_or values n (pos 0))) (sym place) (subst (λ (n : ℕ). Supports 8 (bit n) (get_or values 1 (pos 0))) index both.im)
+]
+
+pub carried_bits_are_heard : CarriedBitsAreHeard
+carried_bits_are_heard recording starts grids slot places c_init first word received inside carry i l =
+    subst (Supports 8 (scrambled_bit c_init word (first + i))) (sym (soft_values_of-at slot places i l))
+    (one_value (values_at slot p) i (λ n. scrambled_bit c_init word (first + n))
+    (received_values_support_bits recording starts grids slot (p.symbol % 7) p.k (scrambled_bit c_init word (first + 2 * (i / 2))) (scrambled_bit c_init word (first + (2 * (i / 2) + 1)))
+    received (omega arith) (inside (i / 2) (place 0 0) half) (carry (i / 2) half)))
+  where
+    half : i / 2 < length places
+    half = omega (arith, l)
+
+    p : Place
+    p = get_or places (i / 2) (place 0 0)

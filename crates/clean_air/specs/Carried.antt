@@ -1,0 +1,44 @@
+-- A coded word that is sent at places of a slot, matched and scrambled: the soft values of these places speak for it, and tell it alone.
+-- (own; the coding is that of TS 36.212 sections 5.1.3.1 and 5.1.4.2, the scrambling that of TS 36.211 section 7.2)
+use Rattle.std.specs.Prelude.{◌≡◌, ℕ, ◌+◌, ◌*◌, ◌%◌, ◌<◌, ◌≤◌, Bool, All, List, length, slice_index_or, ℤ, pos}
+use Rattle.cs_num.specs.declared.Cpx.{Cpx}
+use Rattle.cs_num.specs.declared.Sample.{Sample}
+use Rattle.cs_bits.specs.Signs.{Supports}
+use Rattle.crs.specs.Qpsk.{point}
+use Rattle.grid_map.specs.declared.Place.{Place}
+use Rattle.grid_map.specs.Place.{place}
+use Rattle.conv_code.specs.Reading.{summed}
+use Rattle.soft_bits.specs.Soft.{SeenSlot}
+use Rattle.soft_bits.specs.Places.{soft_values_of, descrambled}
+use Rattle.cell_tx.specs.Block.{scrambled_bit}
+use Rattle.clean_air.specs.Values.{IsSlotReceived}
+use Rattle.clean_air.specs.Words.{IsOnlyWord}
+
+-- each value speaks for a scrambled bit of the word: for bit `first`, with which a reading of the coded word begins, and the bits after
+-- it; there is one at least for each coded bit
+pub record SpeakOfWord (c_init first : ℕ) (word : List Bool) (values : List ℤ) : Type 0 where
+  pub begins : first % (3 * length word) ≡ 0
+  pub enough : 3 * length word ≤ length values
+  pub value : (i : ℕ) → i < length values → Supports 1 (scrambled_bit c_init word (first + i)) (slice_index_or values i (pos 0))
+
+-- what such values tell: their sums by place of the coded word, before scrambling
+abbrev pub sums_of : ℕ → ℕ → ℕ → List ℤ → List (List ℤ)
+sums_of c_init first size values = summed size (descrambled c_init first values)
+
+-- these tell the word and no other, where it has 6 to 64 bits
+abbrev pub SentWordIsOnly : Type 0
+SentWordIsOnly = (c_init first : ℕ) (word : List Bool) (values : List ℤ) → 6 ≤ length word → length word ≤ 64 → SpeakOfWord c_init first word values →
+    IsOnlyWord (sums_of c_init first (length word) values) word
+
+-- places of the subframe of a slot carry the scrambled bits of a word from bit `first` on, each two of them
+abbrev pub CarryWord : (ℕ → ℕ → Cpx) → List Place → ℕ → ℕ → List Bool → Type 0
+CarryWord grids places c_init first word = (i : ℕ) → i < length places →
+    let p = slice_index_or places i (place 0 0) in
+    grids (p.symbol % 7) p.k ≡ point (scrambled_bit c_init word (first + 2 * i)) (scrambled_bit c_init word (first + (2 * i + 1)))
+
+-- in a recording: where a slot is received, the soft values of such places speak for these bits with size 8 and more
+abbrev pub CarriedBitsAreHeard : Type 0
+CarriedBitsAreHeard =
+    (recording : List Sample) (starts : ℕ → ℕ) (grids : ℕ → ℕ → Cpx) (slot : SeenSlot) (places : List Place) (c_init first : ℕ) (word : List Bool) →
+    IsSlotReceived recording starts grids slot → All (λ p. p.k < 72) places → CarryWord grids places c_init first word →
+    (i : ℕ) → i < 2 * length places → Supports 8 (scrambled_bit c_init word (first + i)) (slice_index_or (soft_values_of slot places) i (pos 0))
