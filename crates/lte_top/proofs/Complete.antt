@@ -13,7 +13,8 @@ use Rattle.lte_top.specs.declared.form.Report.TheVariants.{Hits, Ids, Search}
 use Rattle.lte_top.specs.declared.status.Status.{Status}
 use Rattle.lte_top.specs.declared.status.Status.TheVariants.{Done, Usage, Ragged, TooShort, TooLong, ReadFault, WriteFault, OutOfMemory, BadCell, BadCertificate}
 use Rattle.lte_top.specs.Certificates.{IsFirstBroken, IsListOfCells}
-use Rattle.lte_top.specs.Forms.{IsWordsOf, Input, nothing, recording, certificates, description, input_of, limit_of, Refuses, RefusesCertificates, RefusesDescription, IsTooLong, IsValid, IsTextOfList, IsOutput}
+use Rattle.lte_top.specs.Forms.{IsWordsOf, Input, nothing, recording, certificates, description, input_of, limit_of, Refuses, RefusesCertificates, RefusesDescription, IsTooLong, IsValid, IsOutput}
+use Rattle.lte_top.specs.Reports.{IsTextOfList}
 use Rattle.lte_top.specs.Run.{IsRead, HasReadInput, HasOutput, HasRefusal, IsReadTooLong, IsWriteFault, Ends, RunsForm, Outcome, IsAnswerTo, HasOneAnswer, MayAnswer, IsTold, IsAnswered, IsComplete, HasRoom}
 use Rattle.cell_tx.specs.declared.error.CellError.{CellError}
 use Rattle.cell_json.specs.Reading.{refusal}

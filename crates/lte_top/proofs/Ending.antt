@@ -5,38 +5,16 @@ use Rattle.std.proofs.lemmas.Bool.{ltb-true, eq-eqb}
 use Rattle.cs_num.specs.declared.Sample.{Sample}
 use Rattle.cs_outside.specs.Counts.{Rose}
 use Rattle.cs_outside.specs.Outside.{SourceTold, Outside}
-use Rattle.cs_outside.specs.Streams.{HasWritten, HasWrittenFront, IsShortOf}
 use Rattle.sample_file.specs.Recording.{SampleForm, form_16}
 use Rattle.sample_file.specs.Reading.{HasReadRecording, least_bytes}
 use Rattle.lte_types.specs.declared.entry.Entry.{Entry}
 use Rattle.tail_cert.specs.Form.{bytes_of}
-use Rattle.lte_top.specs.declared.form.Form.{Form}
 use Rattle.lte_top.specs.declared.form.Form.TheVariants.{Certify}
 use Rattle.lte_top.specs.declared.status.Status.{Status}
 use Rattle.lte_top.specs.Certificates.{IsListOfCells, IsCertified}
 use Rattle.lte_top.specs.Certifying.{HasCertifiedAll, HasCertifiedSome}
 use Rattle.lte_top.specs.Forms.{recording_refusal, RefusesRecording}
 use Rattle.lte_top.specs.Run.{HasOutput, IsDone, IsWriteFault}
-
--- the whole output was written as one piece
-pub done_by : (form : Form) (output piece : List ℕ) (before now : Outside) → HasOutput form output before.0 now.0 → piece ≡ output →
-    HasWritten piece before.1 now.1 → IsDone form before now
-done_by form output piece before now has same written = record {
-  output = output;
-  has_output = has;
-  written = subst (λ l. HasWritten l before.1 now.1) same written;
-}
-
--- a front of it was
-pub fault_by : (form : Form) (output piece : List ℕ) (before now : Outside) → HasOutput form output before.0 now.0 → piece ≡ output →
-    HasWrittenFront piece before.1 now.1 → Rose before.1.faults now.1.faults → IsShortOf (length piece) before.1 → IsWriteFault form before now
-fault_by form output piece before now has same front rose full = record {
-  output = output;
-  has_output = has;
-  front_written = subst (λ l. HasWrittenFront l before.1 now.1) same front;
-  counted = rose;
-  full = subst (λ l. IsShortOf (length l) before.1) same full;
-}
 
 -- nothing refuses the bytes of a recording
 pub recording_unrefused : (form : SampleForm) (samples : List Sample) (before now : SourceTold) (h : HasReadRecording form samples before now) (status : Status) →

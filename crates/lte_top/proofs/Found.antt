@@ -1,9 +1,7 @@
 -- What is sent is found.
 use Rattle.std.proofs.Common.{◌≡◌, ℕ, ◌+◌, arith, refl, ap, sym, subst, ◌∙◌, List}
 use Rattle.std.specs.Prelude.{All}
-use Rattle.finite.specs.Lists.{values_below}
 use Rattle.finite.proofs.Lists.{values_below-All}
-use Rattle.cs_num.specs.declared.Cpx.{Cpx}
 use Rattle.cs_num.specs.declared.Sample.{Sample}
 use Rattle.cs_num.specs.Complex.{IsWithin, silence, value_of}
 use Rattle.cs_num.proofs.Complex.{within_more}
@@ -17,7 +15,6 @@ use Rattle.cell_tx.specs.Clean.{IsGain, IsClean, start_of, number_at_start}
 use Rattle.cell_tx.specs.Laws.{ReceivedIsClean}
 use Rattle.cell_tx.proofs.Bounds.{received-within}
 use Rattle.clean_air.specs.Clean.{HoldsCell}
-use Rattle.cell_json.specs.Reading.{Describes}
 use Rattle.cell_json.proofs.Ranges.{described_ranges}
 use Rattle.report.specs.Lines.{cell_line, report_text}
 use Rattle.report.specs.Pieces.{IsPiece}

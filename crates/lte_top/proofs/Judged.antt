@@ -5,7 +5,7 @@ use Rattle.tail_cert.specs.Certificate.{IsAccepted}
 use Rattle.tail_cert.specs.Form.{bytes_of}
 use Rattle.tail_cert.proofs.Codes.{length-bytes_of, same_certificate, same_parts}
 use Rattle.lte_top.specs.Certificates.{Judged, IsRight, judged_bytes, IsChecked}
-use Rattle.lte_top.specs.Texts.{check_text}
+use Rattle.report.specs.Answers.{check_text}
 use Rattle.lte_top.proofs.Broken.{length-judged_bytes}
 
 -- answers that are yes exactly where the same holds are the same

@@ -17,7 +17,7 @@ use Rattle.lte_top.specs.declared.status.Status.TheVariants.{Done, Usage, Ragged
 use Rattle.lte_top.specs.Certificates.{IsFirstBroken, Judged, IsRight, judged_bytes}
 use Rattle.lte_top.specs.Forms.{certificates, most_certificate_bytes, RefusesCertificates}
 use Rattle.lte_top.specs.Reading.{HasReadOn, HasAnswers, IsSound, IsFirstBreak}
-use Rattle.lte_top.specs.Texts.{check_text}
+use Rattle.report.specs.Answers.{check_text}
 use Rattle.lte_top.specs.Run.{HasOutput, HasRefusal, IsReadTooLong, IsReadFault}
 use Rattle.lte_top.proofs.Broken.{length-judged_bytes, break_below, first_broken, cut_off, none_broken, none_before_end, broken_after, sound_part}
 

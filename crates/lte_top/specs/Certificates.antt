@@ -8,7 +8,7 @@ use Rattle.explain.specs.Entries.{IsExplained, values_of_entry}
 use Rattle.clean_air.specs.Clean.{HoldsCleanCells}
 use Rattle.tail_cert.specs.Certificate.{Held, IsWhole, IsAccepted}
 use Rattle.tail_cert.specs.Form.{count, bytes_of, IsOffMark, IsLargeValue}
-use Rattle.lte_top.specs.Texts.{check_text}
+use Rattle.report.specs.Answers.{check_text}
 
 -- ---- where the form is broken
 

@@ -1,21 +1,16 @@
 -- The forms of words that are run: what each reads, which inputs it refuses, and what it writes. (own)
 use Rattle.std.specs.Prelude.{◌≡◌, ◌⊎◌, ℕ, ◌%◌, ◌<◌, ◌≤◌, Option, Some, None, List, [], ◌∷◌, length, codes, nat_lt, not, ◌==◌, if◌then◌else◌}
-use Rattle.pss_search.specs.Hits.{hits_of}
-use Rattle.cs_num.specs.declared.Sample.{Sample}
 use Rattle.sample_file.specs.Recording.{SampleForm, form_16, samples_of}
 use Rattle.sample_file.specs.Reading.{least_bytes, most_bytes}
 use Rattle.lte_top.specs.declared.form.Form.{Form}
 use Rattle.lte_top.specs.declared.form.Form.TheVariants.{Report as Reports, Certify, Check, Transmit}
-use Rattle.lte_top.specs.declared.form.Report.{Report}
 use Rattle.lte_top.specs.declared.form.Report.TheVariants.{Hits, Ids, Search}
 use Rattle.lte_top.specs.declared.status.Status.{Status}
 use Rattle.lte_top.specs.declared.status.Status.TheVariants.{Done, Usage, Ragged, TooShort, TooLong, ReadFault, WriteFault, OutOfMemory, BadCell, BadCertificate}
 use Rattle.cell_json.specs.Reading.{refusal}
 use Rattle.lte_top.specs.Transmitting.{most_description_bytes, IsTransmitted}
-use Rattle.lte_top.specs.Certificates.{IsFirstBroken, IsChecked, IsListOfCells, IsCertified}
-use Rattle.lte_types.specs.declared.entry.Entry.{Entry}
-use Rattle.report.specs.Lines.{report_text}
-use Rattle.lte_top.specs.Texts.{hits_text, ids_text}
+use Rattle.lte_top.specs.Certificates.{IsFirstBroken, IsChecked, IsCertified}
+use Rattle.lte_top.specs.Reports.{IsReport}
 
 -- the words of a form, each as its bytes
 abbrev pub words_of : Form → List (List ℕ)
@@ -101,18 +96,6 @@ pub record IsValid (input : Input) (bytes : List ℕ) : Type 0 where
   pub unrefused : (status : Status) → Refuses input bytes status → ⊥
 
 -- ---- what is written
-
--- a list of the recording by this rule, as this text
-pub record IsTextOfList (IsListOf : List Sample → List Entry → Type 0) (text_of : List Entry → List ℕ) (samples : List Sample) (output : List ℕ) : Type 0 where
-  pub entries : List Entry
-  pub is_list : IsListOf samples entries
-  pub text : output ≡ text_of entries
-
--- the text of a report about a recording
-abbrev pub IsReport : Report → List Sample → List ℕ → Type 0
-IsReport Hits samples output = output ≡ hits_text (hits_of samples)
-IsReport Ids samples output = output ≡ ids_text samples (hits_of samples)
-IsReport Search samples output = IsTextOfList IsListOfCells report_text samples output
 
 -- what a form writes for valid bytes
 abbrev pub IsOutput : Form → List ℕ → List ℕ → Type 0

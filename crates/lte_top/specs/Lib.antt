@@ -1,7 +1,8 @@
-pub mod Texts
 pub mod Certificates
 pub mod Transmitting
+pub mod Reports
 pub mod Forms
+pub mod Errors
 pub mod Reading
 pub mod Certifying
 pub mod Run

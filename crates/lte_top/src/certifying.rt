@@ -1,11 +1,11 @@
 //! A certificate for each master block of the list of a recording.
 
-ghost use Rattle.std.specs.Prelude.{◌≡◌, ◌≤◌, length, IfOk, OnOk, OnErr};
+ghost use Rattle.std.specs.Prelude.{◌≡◌, ◌≤◌, length, IfOk, IfErr, OnOk, OnErr};
 ghost use Rattle.cs_outside.specs.Counts.{Rose};
 ghost use Rattle.cs_outside.specs.Outside.{SourceTold, SinkTold};
 ghost use Rattle.explain.specs.Entries.{IsExplained, IsInList};
 ghost use Rattle.lte_top.specs.Certifying.{HasCertified, HasCertifiedFront, HasCertifiedAll, HasCertifiedSome};
-ghost use Rattle.lte_top.specs.Run.{Ends};
+ghost use Rattle.lte_top.specs.Run.{IsDone, Ends};
 ghost use Rattle.lte_top.specs.declared.form.Form.TheVariants.{Certify};
 
 use crate::reporting::{recording_of, room_for_list};
@@ -22,25 +22,23 @@ use tailbite::Trellis;
 // The bytes of a certificate.
 const BYTES: usize = 655_613;
 
-// The certificates of a source's recording, to a sink: one for each entry of the list, in order. All
+// Writes the certificates of a source's recording: one for each entry of the list, in order. All
 // memory is taken before the first is written.
-pub(crate) fn certify<S: Source, K: Sink>(alloc: Global, source: &mut S, sink: &mut K) -> Status
-    ensures ends { Ends Certify (S.told source.old, K.told sink.old) (S.told source.new, K.told sink.new) result }
+pub(crate) fn certify<S: Source, K: Sink>(
+    alloc: Global,
+    source: &mut S,
+    sink: &mut K,
+) -> Result<(), Status>
+    ensures done { OnOk result (IsDone Certify
+        (S.told source.old, K.told sink.old) (S.told source.new, K.told sink.new)) }
+    ensures ended { IfErr result (Ends Certify
+        (S.told source.old, K.told sink.old) (S.told source.new, K.told sink.new)) }
     ensures reads { (S.told source.old).faults ≤ (S.told source.new).faults }
     ensures writes { (K.told sink.old).faults ≤ (K.told sink.new).faults }
 {
-    let recording = match recording_of(alloc, source) {
-        Ok(recording) => recording,
-        Err(status) => return status,
-    };
-    let (mut work, mut list) = match room_for_list(alloc) {
-        Ok(room) => room,
-        Err(AllocError) => return Status::OutOfMemory,
-    };
-    let (mut certificate, mut trellis, mut buffer) = match room_for_certificate(alloc) {
-        Ok(room) => room,
-        Err(AllocError) => return Status::OutOfMemory,
-    };
+    let recording = recording_of(alloc, source)?;
+    let (mut work, mut list) = room_for_list(alloc)?;
+    let (mut certificate, mut trellis, mut buffer) = room_for_certificate(alloc)?;
     explain_clean(&recording, &mut work, &mut list);
     match write_each(
         &recording,
@@ -50,8 +48,8 @@ pub(crate) fn certify<S: Source, K: Sink>(alloc: Global, source: &mut S, sink: &
         &mut buffer,
         sink,
     ) {
-        Ok(()) => Status::Done,
-        Err(Failed) => Status::WriteFault,
+        Ok(()) => Ok(()),
+        Err(Failed) => Err(Status::WriteFault),
     }
 }
 
@@ -82,10 +80,7 @@ fn write_each<K: Sink>(
     ensures never_falls { (K.told sink.old).faults ≤ (K.told sink.new).faults }
 {
     for entry in entries {
-        match write_one(recording, entry, certificate, trellis, buffer, sink) {
-            Ok(()) => {}
-            Err(Failed) => return Err(Failed),
-        }
+        write_one(recording, entry, certificate, trellis, buffer, sink)?;
     }
     Ok(())
 }

@@ -1,16 +1,16 @@
 //! Certificates, read one after the other and checked.
 
-ghost use Rattle.std.specs.Prelude.{◌≡◌, ◌<◌, ◌≤◌, ◌*◌, ◌+◌, ◌-◌, min, length, take, IfOk, IfErr, OnErr, MatchOption};
+ghost use Rattle.std.specs.Prelude.{◌≡◌, ◌<◌, ◌≤◌, ◌*◌, ◌+◌, ◌-◌, min, length, take, IfOk, IfErr, OnErr, MatchOption, string_bytes};
 ghost use Rattle.cs_outside.specs.Counts.{Rose};
 ghost use Rattle.lte_top.specs.Reading.{HasReadOn, HasAnswers, IsSound, IsFirstBreak, IsStep};
 ghost use Rattle.lte_top.specs.Forms.{certificates};
-ghost use Rattle.lte_top.specs.Run.{Cause, Ends};
+ghost use Rattle.lte_top.specs.Run.{Cause, HasOutput};
 ghost use Rattle.lte_top.specs.declared.form.Form.TheVariants.{Check};
-ghost use Rattle.cs_outside.specs.Outside.{SourceTold, SinkTold};
+ghost use Rattle.cs_outside.specs.Outside.{SourceTold};
 
 use crate::status::Status;
-use crate::text::text_of_answers;
-use cs_outside::{Failed, Sink, Source, write_whole};
+use cs_outside::{Failed, Source};
+use report::text_of_answers;
 use std::alloc::{AllocError, Global};
 use tail_cert::{Certificate, check, parse};
 
@@ -32,24 +32,16 @@ pub(crate) enum Step {
     Broken(u64),
 }
 
-// The answers to the certificates of a source, to a sink.
-pub(crate) fn check_each<S: Source, K: Sink>(alloc: Global, source: &mut S, sink: &mut K) -> Status
-    ensures ends { Ends Check (S.told source.old, K.told sink.old) (S.told source.new, K.told sink.new) result }
-    ensures reads { (S.told source.old).faults ≤ (S.told source.new).faults }
-    ensures writes { (K.told sink.old).faults ≤ (K.told sink.new).faults }
+// The text of the answers to the certificates of a source, which are read to the end of the input.
+pub(crate) fn answers_text<S: Source>(alloc: Global, source: &mut S) -> Result<String, Status>
+    ensures ok { IfOk result (λ text.
+        HasOutput Check (string_bytes text) (S.told source.old) (S.told source.new)) }
+    ensures err { IfErr result (Cause certificates (S.told source.old) (S.told source.new)) }
+    ensures never_falls { (S.told source.old).faults ≤ (S.told source.new).faults }
 {
-    let answers = match read_answers(alloc, source) {
-        Ok(answers) => answers,
-        Err(status) => return status,
-    };
-    let text = match text_of_answers(alloc, &answers) {
-        Ok(text) => text,
-        Err(AllocError) => return Status::OutOfMemory,
-    };
-    match write_whole(sink, text.as_bytes()) {
-        Ok(()) => Status::Done,
-        Err(_) => Status::WriteFault,
-    }
+    let answers = read_answers(alloc, source)?;
+    let text = text_of_answers(alloc, &answers)?;
+    Ok(text)
 }
 
 // The answers to the certificates of a source, which are read to the end of the input. They are
@@ -59,10 +51,7 @@ fn read_answers<S: Source>(alloc: Global, source: &mut S) -> Result<Vec<bool>, S
     ensures err { IfErr result (Cause certificates (S.told source.old) (S.told source.new)) }
     ensures never_falls { (S.told source.old).faults ≤ (S.told source.new).faults }
 {
-    let (mut certificate, mut buffer) = match room_for_one(alloc) {
-        Ok(room) => room,
-        Err(AllocError) => return Err(Status::OutOfMemory),
-    };
+    let (mut certificate, mut buffer) = room_for_one(alloc)?;
     read_each(alloc, source, &mut certificate, &mut buffer)
 }
 

@@ -7,7 +7,6 @@ mod form;
 mod laws;
 mod reporting;
 mod status;
-mod text;
 mod top;
 mod transmitting;
 mod words;

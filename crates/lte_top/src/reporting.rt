@@ -1,51 +1,44 @@
 //! Reports about a recording.
 
-ghost use Rattle.std.specs.Prelude.{◌≡◌, ◌≤◌, All, IfOk, IfErr, string_bytes};
-ghost use Rattle.cs_outside.specs.Outside.{SourceTold, SinkTold};
+ghost use Rattle.std.specs.Prelude.{◌≡◌, ◌≤◌, All, IfOk, IfErr, map, string_bytes};
+ghost use Rattle.cs_outside.specs.Outside.{SourceTold};
 ghost use Rattle.sample_file.specs.Reading.{HasReadRecording};
 ghost use Rattle.sample_file.specs.Recording.{IsRecording, form_16};
-ghost use Rattle.report.specs.Lines.{report_text};
-ghost use Rattle.lte_top.specs.Certificates.{IsListOfCells};
-ghost use Rattle.lte_top.specs.Forms.{recording, IsReport, IsTextOfList};
 ghost use Rattle.pss_search.specs.Hits.{IsInSpan, hits_of as all_hits};
-ghost use Rattle.lte_top.specs.Run.{Cause, Ends};
+ghost use Rattle.report.specs.Hits.{ids_text};
+ghost use Rattle.report.specs.Lines.{report_text as list_text};
+ghost use Rattle.lte_top.specs.Certificates.{IsListOfCells};
+ghost use Rattle.lte_top.specs.Forms.{recording};
+ghost use Rattle.lte_top.specs.Reports.{identified, IsReport, IsTextOfList};
+ghost use Rattle.lte_top.specs.Run.{Cause, HasOutput};
 ghost use Rattle.lte_top.specs.declared.form.Form.TheVariants.{Report as Reports};
 
 use crate::form::Report;
 use crate::status::Status;
-use crate::text::{text_of_hits, text_of_ids};
 use clean_air::explain_clean;
-use cs_outside::{Sink, Source, write_whole};
+use cs_outside::Source;
 use explain::{EntryList, Workspace};
+use lte_types::Hit;
 use pss_search::{HitList, hits};
-use report::text;
-use sample_file::{FileError, Recording, read_recording};
+use report::{IdentifiedHit, text, text_of_hits, text_of_ids};
+use sample_file::{Recording, read_recording};
+use sss_detect::{cell_id, frame_start, identity};
 use std::alloc::{AllocError, Global};
 
-// The report about the recording of a source, to a sink.
-pub(crate) fn report_on<S: Source, K: Sink>(
+// The text of a report about the recording of a source, which is read to its end.
+pub(crate) fn report_text<S: Source>(
     alloc: Global,
     report: Report,
     source: &mut S,
-    sink: &mut K,
-) -> Status
-    ensures ends { Ends (Reports report)
-        (S.told source.old, K.told sink.old) (S.told source.new, K.told sink.new) result }
-    ensures reads { (S.told source.old).faults ≤ (S.told source.new).faults }
-    ensures writes { (K.told sink.old).faults ≤ (K.told sink.new).faults }
+) -> Result<String, Status>
+    ensures ok { IfOk result (λ text.
+        HasOutput (Reports report) (string_bytes text) (S.told source.old) (S.told source.new)) }
+    ensures err { IfErr result (Cause (recording form_16) (S.told source.old) (S.told source.new)) }
+    ensures never_falls { (S.told source.old).faults ≤ (S.told source.new).faults }
 {
-    let recording = match recording_of(alloc, source) {
-        Ok(recording) => recording,
-        Err(status) => return status,
-    };
-    let text = match text_of_report(alloc, report, &recording) {
-        Ok(text) => text,
-        Err(AllocError) => return Status::OutOfMemory,
-    };
-    match write_whole(sink, text.as_bytes()) {
-        Ok(()) => Status::Done,
-        Err(_) => Status::WriteFault,
-    }
+    let recording = recording_of(alloc, source)?;
+    let text = text_of_report(alloc, report, &recording)?;
+    Ok(text)
 }
 
 // The recording of a source, which is read to its end.
@@ -55,14 +48,8 @@ pub(crate) fn recording_of<S: Source>(alloc: Global, source: &mut S) -> Result<R
     ensures err { IfErr result (Cause (recording form_16) (S.told source.old) (S.told source.new)) }
     ensures never_falls { (S.told source.old).faults ≤ (S.told source.new).faults }
 {
-    match read_recording(alloc, source) {
-        Ok(recording) => Ok(recording),
-        Err(FileError::Ragged) => Err(Status::Ragged),
-        Err(FileError::TooShort) => Err(Status::TooShort),
-        Err(FileError::TooLong) => Err(Status::TooLong),
-        Err(FileError::ReadFault) => Err(Status::ReadFault),
-        Err(FileError::OutOfMemory) => Err(Status::OutOfMemory),
-    }
+    let recording = read_recording(alloc, source)?;
+    Ok(recording)
 }
 
 // The text of a report about a recording.
@@ -76,7 +63,7 @@ fn text_of_report(
 {
     match report {
         Report::Hits => text_of_hits(alloc, hits_of(alloc, recording)?.slice()),
-        Report::Ids => text_of_ids(alloc, recording, hits_of(alloc, recording)?.slice()),
+        Report::Ids => ids_of(alloc, recording, hits_of(alloc, recording)?.slice()),
         Report::Search => text_of_list(alloc, recording),
     }
 }
@@ -92,10 +79,38 @@ fn hits_of(alloc: Global, recording: &Recording) -> Result<HitList, AllocError>
     Ok(list)
 }
 
+// The text of hits of a recording with their identities.
+fn ids_of(alloc: Global, recording: &Recording, hits: &[Hit]) -> Result<String, AllocError>
+    requires recording { IsRecording recording.now }
+    requires span { All IsInSpan hits.now }
+    ensures { IfOk result (λ text. string_bytes text ≡ ids_text (map (identified recording.now) hits.now)) }
+{
+    let mut found = Vec::with_capacity(alloc, hits.len())?;
+    for hit in hits {
+        found.push(identity_of(recording, hit))?;
+    }
+    text_of_ids(alloc, &found)
+}
+
+// A hit of a recording with what it tells of its cell.
+fn identity_of(recording: &Recording, hit: &Hit) -> IdentifiedHit
+    requires recording { IsRecording recording.now }
+    requires span { IsInSpan hit.now }
+    ensures { result ≡ identified recording.now hit.now }
+{
+    let (n1, half) = identity(recording, hit);
+    IdentifiedHit {
+        hit: *hit,
+        id: cell_id(n1, hit.n2),
+        half,
+        start: frame_start(hit, half),
+    }
+}
+
 // The text of the list of a recording.
 fn text_of_list(alloc: Global, recording: &Recording) -> Result<String, AllocError>
     ensures { IfOk result (λ text.
-        IsTextOfList IsListOfCells report_text recording.now (string_bytes text)) }
+        IsTextOfList IsListOfCells list_text recording.now (string_bytes text)) }
 {
     let (mut work, mut list) = room_for_list(alloc)?;
     explain_clean(recording, &mut work, &mut list);

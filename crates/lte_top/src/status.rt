@@ -1,9 +1,15 @@
 //! How a run ends.
 
 ghost use Rattle.std.specs.Prelude.{◌≡◌};
+ghost use Rattle.lte_top.specs.Errors.{of_read, of_file, of_json};
 ghost use Rattle.lte_top.specs.Forms.{code_of};
+ghost use Rattle.lte_top.specs.declared.status.Status.TheVariants.{OutOfMemory};
 
+use cell_json::JsonError;
 use cell_tx::CellError;
+use cs_outside::ReadError;
+use sample_file::FileError;
+use std::alloc::AllocError;
 use std::fmt;
 
 /// How a run ended. Every answer but `Done` is a refusal, a fault or want of memory.
@@ -48,6 +54,51 @@ impl Status {
             Status::BadCell(_) => 9,
             Status::BadCertificate(_) => 10,
         }
+    }
+}
+
+impl From<ReadError> for Status {
+    ghost from_gives = { λ error status. status ≡ of_read error };
+
+    fn from(error: ReadError) -> Status {
+        match error {
+            ReadError::TooLong => Status::TooLong,
+            ReadError::ReadFault => Status::ReadFault,
+            ReadError::OutOfMemory => Status::OutOfMemory,
+        }
+    }
+}
+
+impl From<FileError> for Status {
+    ghost from_gives = { λ error status. status ≡ of_file error };
+
+    fn from(error: FileError) -> Status {
+        match error {
+            FileError::Ragged => Status::Ragged,
+            FileError::TooShort => Status::TooShort,
+            FileError::TooLong => Status::TooLong,
+            FileError::ReadFault => Status::ReadFault,
+            FileError::OutOfMemory => Status::OutOfMemory,
+        }
+    }
+}
+
+impl From<JsonError> for Status {
+    ghost from_gives = { λ error status. status ≡ of_json error };
+
+    fn from(error: JsonError) -> Status {
+        match error {
+            JsonError::Cell(cause) => Status::BadCell(cause),
+            JsonError::OutOfMemory => Status::OutOfMemory,
+        }
+    }
+}
+
+impl From<AllocError> for Status {
+    ghost from_gives = { λ _ status. status ≡ OutOfMemory };
+
+    fn from(_error: AllocError) -> Status {
+        Status::OutOfMemory
     }
 }
 

@@ -1,17 +1,20 @@
 //! The top call.
 
-ghost use Rattle.std.specs.Prelude.{◌≡◌, ◌≤◌, Some};
+ghost use Rattle.std.specs.Prelude.{◌≡◌, ◌≤◌, Some, length, IfErr, OnOk, OnErr};
+ghost use Rattle.cs_outside.specs.Counts.{Rose};
 ghost use Rattle.cs_outside.specs.Outside.{SourceTold, SinkTold};
-ghost use Rattle.lte_top.specs.Run.{Outcome, Runs};
+ghost use Rattle.cs_outside.specs.Streams.{HasWritten, HasWrittenFront, IsShortOf};
+ghost use Rattle.lte_top.specs.Run.{IsDone, Ends, Outcome, Runs};
+ghost use Rattle.lte_top.specs.declared.status.Status.TheVariants.{WriteFault};
 
 use crate::certifying::certify;
-use crate::checking::check_each;
+use crate::checking::answers_text;
 use crate::form::Form;
-use crate::reporting::report_on;
+use crate::reporting::report_text;
 use crate::status::Status;
-use crate::transmitting::transmit;
+use crate::transmitting::transmitted_bytes;
 use crate::words::Words;
-use cs_outside::{MemSink, MemSource, Sink, Source};
+use cs_outside::{Failed, MemSink, MemSource, Sink, Source, write_whole};
 use std::alloc::Global;
 
 /// Runs the words' form: reads its input from the source, makes its output and writes it to the sink.
@@ -59,11 +62,57 @@ fn run_words<S: Source, K: Sink>(
     ensures reads { (S.told source.old).faults ≤ (S.told source.new).faults }
     ensures writes { (K.told sink.old).faults ≤ (K.told sink.new).faults }
 {
-    match Form::of(words) {
-        Some(Form::Report(report)) => report_on(alloc, report, source, sink),
-        Some(Form::Certify) => certify(alloc, source, sink),
-        Some(Form::Check) => check_each(alloc, source, sink),
-        Some(Form::Transmit) => transmit(alloc, source, sink),
-        None => Status::Usage,
+    let Some(form) = Form::of(words) else {
+        return Status::Usage;
+    };
+    match run_form(alloc, form, source, sink) {
+        Ok(()) => Status::Done,
+        Err(status) => status,
+    }
+}
+
+// Runs a form: reads its input, makes its output, and writes it.
+fn run_form<S: Source, K: Sink>(
+    alloc: Global,
+    form: Form,
+    source: &mut S,
+    sink: &mut K,
+) -> Result<(), Status>
+    ensures done { OnOk result (IsDone form
+        (S.told source.old, K.told sink.old) (S.told source.new, K.told sink.new)) }
+    ensures ended { IfErr result (Ends form
+        (S.told source.old, K.told sink.old) (S.told source.new, K.told sink.new)) }
+    ensures reads { (S.told source.old).faults ≤ (S.told source.new).faults }
+    ensures writes { (K.told sink.old).faults ≤ (K.told sink.new).faults }
+{
+    match form {
+        Form::Report(report) => {
+            let text = report_text(alloc, report, source)?;
+            write_output(sink, text.as_bytes())
+        }
+        Form::Certify => certify(alloc, source, sink),
+        Form::Check => {
+            let text = answers_text(alloc, source)?;
+            write_output(sink, text.as_bytes())
+        }
+        Form::Transmit => {
+            let bytes = transmitted_bytes(alloc, source)?;
+            write_output(sink, &bytes)
+        }
+    }
+}
+
+// Writes a whole output.
+fn write_output<K: Sink>(sink: &mut K, output: &[u8]) -> Result<(), Status>
+    ensures ok { OnOk result (HasWritten output.now (K.told sink.old) (K.told sink.new)) }
+    ensures status { IfErr result (λ status. status ≡ WriteFault) }
+    ensures front { OnErr result (HasWrittenFront output.now (K.told sink.old) (K.told sink.new)) }
+    ensures full { OnErr result (IsShortOf (length output.now) (K.told sink.old)) }
+    ensures fault { OnErr result (Rose (K.told sink.old).faults (K.told sink.new).faults) }
+    ensures never_falls { (K.told sink.old).faults ≤ (K.told sink.new).faults }
+{
+    match write_whole(sink, output) {
+        Ok(()) => Ok(()),
+        Err(Failed) => Err(Status::WriteFault),
     }
 }

@@ -2,7 +2,6 @@
 use Rattle.std.proofs.Common.{◌≡◌, ℕ, zero, suc, ◌<◌, arith, ap, sym, ◌∙◌, List, [], ◌∷◌, ◌++◌, length, append_assoc}
 use Rattle.std.specs.Prelude.{slice_index_or}
 use Rattle.std.specs.List.{flat_map}
-use Rattle.lte_types.specs.declared.entry.Entry.{Entry}
 use Rattle.report.specs.Lines.{cell_line, system_lines, entry_lines, head_line, report_text}
 use Rattle.report.specs.Pieces.{IsPiece, ListedLinesStand}
 

@@ -1,3 +1,5 @@
 pub mod Words
 pub mod Lines
 pub mod Pieces
+pub mod Hits
+pub mod Answers

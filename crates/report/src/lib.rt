@@ -1,12 +1,16 @@
-//! The text of a list of cells.
+//! The texts of a list of cells, of hits, and of the answers to certificates.
 #![tactic(auto)]
 
+mod answers;
+mod hits;
 mod laws;
 mod lines;
 mod listing;
 mod parts;
 mod words;
 
+pub use answers::text_of_answers;
+pub use hits::{IdentifiedHit, text_of_hits, text_of_ids};
 pub use laws::listed_lines_stand;
 pub use listing::text;
 

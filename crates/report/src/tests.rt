@@ -1,10 +1,10 @@
 ghost use Rattle.std.specs.Prelude.{◌↔◌, IsTrue};
 ghost use Rattle.report.specs.Lines.{IsValidEntry};
 
-use crate::text;
+use crate::{IdentifiedHit, text, text_of_answers, text_of_hits, text_of_ids};
 use lte_types::{
-    Bandwidth, CellId, Duration, Entry, Mib, Mnc, Plmn, Plmns, Resource, Schedule, Sfn, SiMessage,
-    Sib1, Sib1Reason, Sibs,
+    Bandwidth, CellId, Duration, Entry, Half, Hit, Mib, Mnc, Plmn, Plmns, Resource, Schedule, Sfn,
+    SiMessage, Sib1, Sib1Reason, Sibs,
 };
 use std::alloc::Global;
 use std::test::Fail;
@@ -183,5 +183,57 @@ fn each_reason_has_its_words(rt: HostRuntime) -> Result<(), Fail> {
         );
         assert_eq!(rt; rest, Some(words));
     }
+    Ok(())
+}
+
+// A hit at a place, of an identity within its group.
+fn hit_at(t: u32, n2: u8) -> Hit {
+    Hit {
+        t,
+        n2,
+        peak: 1,
+        energy: 1,
+    }
+}
+
+#[test]
+fn hits_have_a_line_each(rt: HostRuntime) -> Result<(), Fail> {
+    let none = text_of_hits(rt.alloc(), &[])?;
+    assert_eq!(rt; none.as_str(), "hits 0\n");
+    let two = text_of_hits(rt.alloc(), &[hit_at(960, 2), hit_at(19_345, 0)])?;
+    assert_eq!(rt; two.as_str(), "hits 2\n960 2\n19345 0\n");
+    Ok(())
+}
+
+#[test]
+fn identified_hits_have_a_line_each(rt: HostRuntime) -> Result<(), Fail> {
+    let none = text_of_ids(rt.alloc(), &[])?;
+    assert_eq!(rt; none.as_str(), "ids 0\n");
+    let id = CellId::new(503).ok_or("out of range")?;
+    let found = [
+        IdentifiedHit {
+            hit: hit_at(960, 2),
+            id,
+            half: Half::Five,
+            start: 9_728,
+        },
+        IdentifiedHit {
+            hit: hit_at(832, 2),
+            id,
+            half: Half::Zero,
+            start: 0,
+        },
+    ];
+    let two = text_of_ids(rt.alloc(), &found)?;
+    assert_eq!(rt; two.as_str(), "ids 2\n960 503 5 9728\n832 503 0 0\n");
+    Ok(())
+}
+
+#[test]
+fn answers_have_a_line_each(rt: HostRuntime) -> Result<(), Fail> {
+    let none = text_of_answers(rt.alloc(), &[])?;
+    assert_eq!(rt; none.as_str(), "certificates 0\n");
+    let two = text_of_answers(rt.alloc(), &[true, false])?;
+    assert_eq!(rt; two.as_str(), "certificates 2\n0 yes\n1 no\n");
     Ok(())
 }

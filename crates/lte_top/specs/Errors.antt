@@ -1,0 +1,28 @@
+-- The status of an error, as which it ends the run. (own)
+use Rattle.cs_outside.specs.declared.streams.ReadError.{ReadError}
+use Rattle.cs_outside.specs.declared.streams.ReadError.TheVariants.{TooLong as PastLimit, ReadFault as Failed, OutOfMemory as NoMemory}
+use Rattle.sample_file.specs.declared.reading.FileError.{FileError}
+use Rattle.sample_file.specs.declared.reading.FileError.TheVariants.{Ragged as WithinSample, TooShort as TooFew, TooLong as PastMost, ReadFault as Fault, OutOfMemory as Memory}
+use Rattle.cell_json.specs.declared.error.JsonError.{JsonError}
+use Rattle.cell_json.specs.declared.error.JsonError.TheVariants.{Cell, OutOfMemory as Wanting}
+use Rattle.lte_top.specs.declared.status.Status.{Status}
+use Rattle.lte_top.specs.declared.status.Status.TheVariants.{Ragged, TooShort, TooLong, ReadFault, OutOfMemory, BadCell}
+
+-- of an input that was not read whole
+abbrev pub of_read : ReadError → Status
+of_read PastLimit = TooLong
+of_read Failed = ReadFault
+of_read NoMemory = OutOfMemory
+
+-- of a recording
+abbrev pub of_file : FileError → Status
+of_file WithinSample = Ragged
+of_file TooFew = TooShort
+of_file PastMost = TooLong
+of_file Fault = ReadFault
+of_file Memory = OutOfMemory
+
+-- of a description
+abbrev pub of_json : JsonError → Status
+of_json (Cell cause) = BadCell cause
+of_json Wanting = OutOfMemory

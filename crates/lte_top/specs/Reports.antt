@@ -1,0 +1,36 @@
+-- The reports about a recording. (own)
+use Rattle.std.specs.Prelude.{◌≡◌, ℕ, List, map}
+use Rattle.cs_num.specs.declared.Sample.{Sample}
+use Rattle.lte_types.specs.declared.entry.Entry.{Entry}
+use Rattle.lte_types.specs.declared.hit.Hit.{Hit}
+use Rattle.lte_types.specs.Identity.{cell_of}
+use Rattle.pss_search.specs.Hits.{hits_of}
+use Rattle.sss_detect.specs.Identity.{identity_of}
+use Rattle.sss_detect.specs.Place.{start_of}
+use Rattle.report.specs.declared.hits.IdentifiedHit.{IdentifiedHit}
+use Rattle.report.specs.Hits.{hits_text, ids_text}
+use Rattle.report.specs.Lines.{report_text}
+use Rattle.lte_top.specs.declared.form.Report.{Report}
+use Rattle.lte_top.specs.declared.form.Report.TheVariants.{Hits, Ids, Search}
+use Rattle.lte_top.specs.Certificates.{IsListOfCells}
+
+-- a hit of a recording with the identity of its cell, the half that it stands in, and where a frame begins
+abbrev pub identified : List Sample → Hit → IdentifiedHit
+identified samples hit = record {
+  hit = hit;
+  id = cell_of (identity_of samples hit).0 hit.n2;
+  half = (identity_of samples hit).1;
+  start = start_of hit.t (identity_of samples hit).1;
+}
+
+-- a list of the recording by this rule, as this text
+pub record IsTextOfList (IsListOf : List Sample → List Entry → Type 0) (text_of : List Entry → List ℕ) (samples : List Sample) (output : List ℕ) : Type 0 where
+  pub entries : List Entry
+  pub is_list : IsListOf samples entries
+  pub text : output ≡ text_of entries
+
+-- the text of a report
+abbrev pub IsReport : Report → List Sample → List ℕ → Type 0
+IsReport Hits samples output = output ≡ hits_text (hits_of samples)
+IsReport Ids samples output = output ≡ ids_text (map (identified samples) (hits_of samples))
+IsReport Search samples output = IsTextOfList IsListOfCells report_text samples output
