@@ -223,7 +223,10 @@ fn a_later_version_of_some_blocks_is_read(rt: HostRuntime) -> Result<(), Fail> {
         (0x1a2b, 0x0abcdef, -61)
     );
     assert_eq!(rt; (fields.p_max, fields.tdd), (Some(-30), Some((6, 8))));
-    assert_eq!(rt; (fields.plmns.slice().len(), fields.scheduling.slice().len()), (2, 2));
+    assert_eq!(rt;
+        (fields.plmns.slice().len(), fields.scheduling.slice().len()),
+        (2, 2)
+    );
     Ok(())
 }
 
