@@ -4,7 +4,7 @@ use Rattle.std.specs.List.{Contains}
 use Rattle.cs_num.specs.declared.Cpx.{Cpx}
 use Rattle.cs_num.specs.declared.Sample.{Sample}
 use Rattle.pss_search.specs.Correlation.{pss_grid, peak, energy, wave_power}
-use Rattle.pss_search.specs.Hits.{IsAbove, IsHit, found, hits_of}
+use Rattle.pss_search.specs.Hits.{IsAbove, IsHit, first_place, last_place, found, hits_of}
 use Rattle.budget.specs.Received.{IsReceived, samples_from}
 
 -- the 128 samples from t on are the primary signal of n2 times a gain, with errors; what stands around them may be anything
@@ -26,11 +26,12 @@ PrimaryStandsOut = (recording : List Sample) (t n2 : ℕ) → IsPrimaryAt record
 
 -- in the span of one frame it is a hit
 abbrev pub PrimaryIsHit : Type 0
-PrimaryIsHit = (recording : List Sample) (t n2 : ℕ) → IsPrimaryAt recording t n2 → 137 ≤ t → t ≤ 19336 → IsHit recording t n2
+PrimaryIsHit = (recording : List Sample) (t n2 : ℕ) → IsPrimaryAt recording t n2 → first_place ≤ t → t ≤ last_place → IsHit recording t n2
 
 -- and it is listed
 abbrev pub PrimaryIsListed : Type 0
-PrimaryIsListed = (recording : List Sample) (t n2 : ℕ) → IsPrimaryAt recording t n2 → 137 ≤ t → t ≤ 19336 → Contains (hits_of recording) (found recording t n2)
+PrimaryIsListed =
+    (recording : List Sample) (t n2 : ℕ) → IsPrimaryAt recording t n2 → first_place ≤ t → t ≤ last_place → Contains (hits_of recording) (found recording t n2)
 
 -- and of all places within 9 and all roots it is the only hit, wherever it stands
 abbrev pub OnlyHitNear : Type 0

@@ -6,7 +6,8 @@ use Rattle.std.proofs.lemmas.List.Elements.{Contains-get_or}
 use Rattle.cs_num.specs.declared.Sample.{Sample}
 use Rattle.lte_types.specs.declared.Hit.{Hit}
 use Rattle.finite.proofs.Lists.{Contains-in_joined, Contains-joined, joined_below-pairs}
-use Rattle.pss_search.specs.Hits.{IsHit, IsInSpan, is_hit, found, hit_at, hits_at, hits_before, hits_of}
+use Rattle.pss_search.specs.Tests.{is_hit}
+use Rattle.pss_search.specs.Hits.{IsHit, IsInSpan, found, hit_at, hits_at, hits_before, hits_of}
 use Rattle.pss_search.specs.Laws.{IsHitOf, ListIsRight, IsEarlier, ListIsInOrder}
 use Rattle.pss_search.proofs.RightTest.{right_test}
 

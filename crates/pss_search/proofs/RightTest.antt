@@ -6,7 +6,8 @@ use Rattle.std.proofs.lemmas.Bool.{lt-ltb, le-leb, ltb-true}
 use Rattle.cs_num.specs.declared.Sample.{Sample}
 use Rattle.finite.proofs.Tests.{any_below_all}
 use Rattle.pss_search.specs.Correlation.{energy, peak, wave_power}
-use Rattle.pss_search.specs.Hits.{is_above, is_level, IsAbove, IsLevel, IsHit, rules_out, is_ruled_out, is_hit}
+use Rattle.pss_search.specs.Tests.{is_above, is_level, rules_out, is_ruled_out, is_hit}
+use Rattle.pss_search.specs.Hits.{IsAbove, IsLevel, IsHit}
 use Rattle.pss_search.specs.Laws.{TestIsRight}
 use Rattle.pss_search.proofs.Window.{hit_tells, near_free, or_false_left, or_false_right}
 

@@ -9,7 +9,9 @@ use Rattle.finite.specs.Lists.{joined_below}
 use Rattle.finite.proofs.Lists.{joined_below_more}
 use Rattle.finite.proofs.Counts.{count_below_more}
 use Rattle.finite.proofs.Sums.{total_below_none}
-use Rattle.pss_search.specs.Hits.{so_far, found, is_hit, hit_at, hits_at, hits_before}
+use Rattle.pss_search.specs.Tests.{is_hit}
+use Rattle.pss_search.specs.Hits.{found, hit_at, hits_at, hits_before}
+use Rattle.pss_search.specs.Steps.{so_far}
 use Rattle.pss_search.specs.Laws.{ListIsShort}
 use Rattle.pss_search.proofs.Sparse.{IsSparse, count_more_yes, count_within}
 use Rattle.pss_search.proofs.Window.{hits_sparse}

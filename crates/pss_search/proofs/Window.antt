@@ -7,7 +7,7 @@ use Rattle.std.proofs.Math.Bool.{true≢false}
 use Rattle.finite.proofs.Tests.{any_below_none}
 use Rattle.cs_num.specs.declared.Sample.{Sample}
 use Rattle.pss_search.specs.Correlation.{energy, peak, wave_power}
-use Rattle.pss_search.specs.Hits.{is_above, is_level, rules_out, is_ruled_out, is_hit}
+use Rattle.pss_search.specs.Tests.{is_above, is_level, rules_out, is_ruled_out, is_hit}
 
 -- neither fraction is greater and the earlier is not equal: not both
 clash : (first_energy first_peak second_energy second_peak : ℕ) → 0 < first_energy → 0 < second_energy →

@@ -1,11 +1,24 @@
 -- The places where a primary synchronisation signal stands out. The metric of a place is the fraction peak / energy;
 -- fractions are compared by cross products, and only places with energy are compared. (own)
-use Rattle.std.specs.Prelude.{◌≡◌, ℕ, ◌+◌, ◌-◌, ◌*◌, ◌<◌, ◌≤◌, List, [], ◌∷◌, ◌++◌, Bool, nat_lt, nat_le, not, ◌==◌, ◌&&◌, ◌||◌, if◌then◌else◌}
+use Rattle.std.specs.Prelude.{◌≡◌, ℕ, ◌+◌, ◌*◌, ◌<◌, ◌≤◌, List, [], ◌∷◌, if◌then◌else◌}
 use Rattle.cs_num.specs.declared.Sample.{Sample}
 use Rattle.lte_types.specs.declared.Hit.{Hit}
-use Rattle.finite.specs.Tests.{any_below}
 use Rattle.finite.specs.Lists.{joined_below}
+use Rattle.lte_types.specs.Numerology.{frame_length}
 use Rattle.pss_search.specs.Correlation.{peak, energy, wave_power}
+use Rattle.pss_search.specs.Tests.{is_hit}
+
+-- ---- the span
+
+-- the places of one frame's worth: before each of them there is room for the useful part of the symbol before, which has the
+-- secondary signal
+abbrev pub first_place : ℕ
+first_place = 137
+
+abbrev pub last_place : ℕ
+last_place = 19336
+
+-- ---- a hit
 
 -- the metric of the first place is greater than that of the second
 pub record IsAbove (recording : List Sample) (n2 first second : ℕ) : Type 0 where
@@ -22,33 +35,12 @@ pub record IsLevel (recording : List Sample) (n2 first second : ℕ) : Type 0 wh
 -- the place t is a hit of n2: it lies in the span of one frame and has energy, four times its peak is at least its energy
 -- times the signal's power, no place at distance 1 to 9 is above it, and none before it there is level with it
 pub record IsHit (recording : List Sample) (t n2 : ℕ) : Type 0 where
-  pub from_first : 137 ≤ t
-  pub to_last : t ≤ 19336
+  pub from_first : first_place ≤ t
+  pub to_last : t ≤ last_place
   pub sounds : 0 < energy recording t
   pub clear : energy recording t * wave_power n2 ≤ 4 * peak recording n2 t
   pub none_above : (u : ℕ) → u ≤ t + 9 → t ≤ u + 9 → ¬ IsAbove recording n2 u t
   pub none_level_before : (u : ℕ) → u < t → t ≤ u + 9 → ¬ IsLevel recording n2 u t
-
--- ---- the same as tests
-
-abbrev pub is_above : List Sample → ℕ → ℕ → ℕ → Bool
-is_above recording n2 first second = nat_lt 0 (energy recording first) && nat_lt 0 (energy recording second) &&
-    nat_lt (peak recording n2 second * energy recording first) (peak recording n2 first * energy recording second)
-
-abbrev pub is_level : List Sample → ℕ → ℕ → ℕ → Bool
-is_level recording n2 first second = nat_lt 0 (energy recording first) && nat_lt 0 (energy recording second) &&
-    (peak recording n2 second * energy recording first == peak recording n2 first * energy recording second)
-
--- the place u rules t out, where it is near enough
-unfoldable pub rules_out : List Sample → ℕ → ℕ → ℕ → Bool
-rules_out recording n2 t u = is_above recording n2 u t || (nat_lt u t && is_level recording n2 u t)
-
--- some place within 9 does
-unfoldable pub is_ruled_out : List Sample → ℕ → ℕ → Bool
-is_ruled_out recording n2 t = any_below 19 (λ d. rules_out recording n2 t (t - 9 + d))
-
-unfoldable pub is_hit : List Sample → ℕ → ℕ → Bool
-is_hit recording t n2 = nat_lt 0 (energy recording t) && nat_le (energy recording t * wave_power n2) (4 * peak recording n2 t) && not (is_ruled_out recording n2 t)
 
 -- ---- the list of hits
 
@@ -66,18 +58,14 @@ hits_at recording t = joined_below 3 (hit_at recording t)
 
 -- those of the first places of the span, by place
 unfoldable pub hits_before : List Sample → ℕ → List Hit
-hits_before recording count = joined_below count (λ i. hits_at recording (137 + i))
+hits_before recording count = joined_below count (λ i. hits_at recording (first_place + i))
 
 -- all of them
 abbrev pub hits_of : List Sample → List Hit
-hits_of recording = hits_before recording 19200
+hits_of recording = hits_before recording frame_length
 
 -- a hit lies in the span of one frame and names one of the three roots
 pub record IsInSpan (hit : Hit) : Type 0 where
-  pub from_first : 137 ≤ hit.t
-  pub to_last : hit.t ≤ 19336
+  pub from_first : first_place ≤ hit.t
+  pub to_last : hit.t ≤ last_place
   pub root : hit.n2 ≤ 2
-
--- those of the first places, and of the lower roots at the next
-abbrev pub so_far : List Sample → ℕ → ℕ → List Hit
-so_far recording i n2 = hits_before recording i ++ joined_below n2 (hit_at recording (137 + i))

@@ -3,11 +3,12 @@ use Rattle.std.specs.Prelude.{◌≡◌, ℕ, ◌+◌, ◌*◌, ◌<◌, ◌≤�
 use Rattle.std.specs.List.{Contains, AllPairs}
 use Rattle.cs_num.specs.declared.Sample.{Sample}
 use Rattle.lte_types.specs.declared.Hit.{Hit}
-use Rattle.pss_search.specs.Hits.{IsHit, is_hit, found, hits_of}
+use Rattle.pss_search.specs.Tests.{is_hit}
+use Rattle.pss_search.specs.Hits.{IsHit, first_place, last_place, found, hits_of}
 
 -- the test of a place of the span is the definition of a hit
 abbrev pub TestIsRight : Type 0
-TestIsRight = (recording : List Sample) (t n2 : ℕ) → 137 ≤ t → t ≤ 19336 →
+TestIsRight = (recording : List Sample) (t n2 : ℕ) → first_place ≤ t → t ≤ last_place →
     (is_hit recording t n2 ≡ true → IsHit recording t n2) × (IsHit recording t n2 → is_hit recording t n2 ≡ true)
 
 -- what is listed is a hit of one of the three roots, with its peak and energy

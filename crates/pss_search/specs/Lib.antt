@@ -1,3 +1,5 @@
 pub mod Correlation
+pub mod Tests
 pub mod Hits
 pub mod Laws
+pub mod Steps

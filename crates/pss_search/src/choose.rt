@@ -1,20 +1,24 @@
 //! Which places are hits.
 
-ghost use Rattle.std.specs.Prelude.{◌≡◌, ℕ, ◌+◌, ◌*◌, ◌^◌, ◌<◌, ◌≤◌, length};
+ghost use Rattle.std.specs.Prelude.{◌≡◌, ◌+◌, ◌≤◌, length};
 ghost use Rattle.std.specs.Option.{option_to_list};
-ghost use Rattle.pss_search.specs.Correlation.{peak, energy};
-ghost use Rattle.pss_search.specs.Hits.{rules_out, is_ruled_out, is_hit, hit_at};
+ghost use Rattle.pss_search.specs.Tests.{rules_out, is_ruled_out, is_hit};
+ghost use Rattle.pss_search.specs.Hits.{first_place, last_place, hit_at};
+ghost use Rattle.pss_search.specs.Steps.{IsMetricOf};
 
 use crate::measure::{Metric, metric_at};
 use crate::root::Root;
 use cs_num::Sample;
 use lte_types::Hit;
 
+// The first place that is measured: the useful part of the symbol before it is in the recording.
+pub(crate) const FIRST_PLACE: usize = 137;
+
 // The hit of a root at a place, where there is one.
 #[tactic(auto, unfolding(crate::specs::Hits::hit_at))]
 pub(crate) fn hit_of(recording: &[Sample], root: &Root, t: usize) -> Option<Hit>
-    requires first { 137 ≤ t }
-    requires last { t ≤ 19336 }
+    requires first { first_place ≤ t }
+    requires last { t ≤ last_place }
     requires long { 57600 ≤ length recording.now }
     ensures { option_to_list result ≡ hit_at recording.now t root.now.n2 }
 {
@@ -32,15 +36,12 @@ pub(crate) fn hit_of(recording: &[Sample], root: &Root, t: usize) -> Option<Hit>
 }
 
 // Whether the place is a hit, its own metric being known.
-#[tactic(auto, using(std::proofs::lemmas::Bool::Decides::nat_tests), unfolding(crate::specs::Hits::is_hit))]
+#[tactic(auto, using(std::proofs::lemmas::Bool::Decides::nat_tests), unfolding(crate::specs::Tests::is_hit))]
 fn stands_out(recording: &[Sample], root: &Root, t: usize, own: Metric) -> bool
-    requires first { 137 ≤ t }
-    requires last { t ≤ 19336 }
+    requires first { first_place ≤ t }
+    requires last { t ≤ last_place }
     requires long { 57600 ≤ length recording.now }
-    requires peak { own.peak ≡ peak recording.now root.now.n2 t }
-    requires energy { own.energy ≡ energy recording.now t }
-    requires small_peak { own.peak < 2 ^ 70 }
-    requires small_energy { own.energy ≤ 2 ^ 38 }
+    requires metric { IsMetricOf recording.now root.now.n2 t own }
     ensures { result ≡ is_hit recording.now t root.now.n2 }
 {
     own.energy > 0
@@ -50,13 +51,10 @@ fn stands_out(recording: &[Sample], root: &Root, t: usize, own: Metric) -> bool
 
 // Whether some place within 9 rules it out.
 fn is_ruled_out_at(recording: &[Sample], root: &Root, t: usize, own: Metric) -> bool
-    requires first { 137 ≤ t }
-    requires last { t ≤ 19336 }
+    requires first { first_place ≤ t }
+    requires last { t ≤ last_place }
     requires long { 57600 ≤ length recording.now }
-    requires peak { own.peak ≡ peak recording.now root.now.n2 t }
-    requires energy { own.energy ≡ energy recording.now t }
-    requires small_peak { own.peak < 2 ^ 70 }
-    requires small_energy { own.energy ≤ 2 ^ 38 }
+    requires metric { IsMetricOf recording.now root.now.n2 t own }
     ensures { result ≡ is_ruled_out recording.now root.now.n2 t }
 {
     for d in 0..19 {
@@ -68,13 +66,10 @@ fn is_ruled_out_at(recording: &[Sample], root: &Root, t: usize, own: Metric) -> 
 }
 
 // Whether the place u does: it is above t, or stands before t and is level with it.
-#[tactic(auto, using(std::proofs::lemmas::Bool::Decides::nat_tests), unfolding(crate::specs::Hits::rules_out))]
+#[tactic(auto, using(std::proofs::lemmas::Bool::Decides::nat_tests), unfolding(crate::specs::Tests::rules_out))]
 fn rules_out_at(recording: &[Sample], root: &Root, t: usize, own: Metric, u: usize) -> bool
     requires room { u + 128 ≤ length recording.now }
-    requires peak { own.peak ≡ peak recording.now root.now.n2 t }
-    requires energy { own.energy ≡ energy recording.now t }
-    requires small_peak { own.peak < 2 ^ 70 }
-    requires small_energy { own.energy ≤ 2 ^ 38 }
+    requires metric { IsMetricOf recording.now root.now.n2 t own }
     ensures { result ≡ rules_out recording.now root.now.n2 t u }
 {
     let other = metric_at(recording, root, u);

@@ -5,6 +5,8 @@ mod choose;
 mod list;
 mod measure;
 mod root;
+#[cfg(test)]
+mod tests;
 
 ghost use Rattle.pss_search.specs.Laws.{TestIsRight, ListIsRight, ListIsInOrder, ListIsShort};
 

@@ -4,12 +4,14 @@ ghost use Rattle.std.specs.Prelude.{◌≡◌, ℕ, ◌+◌, ◌≤◌, ◌<◌,
 ghost use Rattle.std.specs.Option.{option_to_list};
 ghost use Rattle.std.specs.Vec.{vec_capacity};
 ghost use Rattle.lte_types.specs.declared.Hit.{Hit};
-ghost use Rattle.pss_search.specs.Hits.{IsInSpan, hits_of, so_far};
+ghost use Rattle.lte_types.specs.Numerology.{frame_length};
+ghost use Rattle.pss_search.specs.Hits.{IsInSpan, hits_of};
+ghost use Rattle.pss_search.specs.Steps.{so_far};
 
-use crate::choose::hit_of;
+use crate::choose::{FIRST_PLACE, hit_of};
 use crate::root::Root;
 use cs_num::Sample;
-use lte_types::Hit;
+use lte_types::{FRAME_LENGTH, Hit};
 use sample_file::Recording;
 use std::alloc::{AllocError, Global};
 use std::marker::Model;
@@ -64,8 +66,8 @@ impl HitList {
 }
 
 /// Afterwards the list holds the hits of the recording, by place and then by identity within the
-/// group, each with its peak and energy, whatever it held before: the places of the first frame at
-/// which a primary synchronisation signal stands out. It takes no memory. (own)
+/// group, each with its peak and energy, whatever it held before: the places 137 to 19,336, one
+/// frame's worth, at which a primary synchronisation signal stands out. It takes no memory. (own)
 pub fn hits(recording: &Recording, list: &mut HitList)
     ensures list { list.new ≡ hits_of recording.now }
     ensures span { All IsInSpan list.new }
@@ -75,7 +77,7 @@ pub fn hits(recording: &Recording, list: &mut HitList)
     let second = Root::new(1);
     let third = Root::new(2);
     list.clear();
-    for i in 0..19200 {
+    for i in 0..FRAME_LENGTH {
         add_of(samples, &first, i, list);
         add_of(samples, &second, i, list);
         add_of(samples, &third, i, list);
@@ -85,11 +87,11 @@ pub fn hits(recording: &Recording, list: &mut HitList)
 // Adds the hit of a root at place i of the span, where there is one.
 fn add_of(recording: &[Sample], root: &Root, i: usize, list: &mut HitList)
     requires long { 57600 ≤ length recording.now }
-    requires i { i < 19200 }
+    requires i { i < frame_length }
     requires before { list.old ≡ so_far recording.now i root.now.n2 }
     ensures { list.new ≡ so_far recording.now i (root.now.n2 + 1) }
 {
-    match hit_of(recording, root, 137 + i) {
+    match hit_of(recording, root, FIRST_PLACE + i) {
         Some(hit) => list.add(hit),
         None => {}
     }

@@ -3,7 +3,8 @@
 ghost use Rattle.std.specs.Prelude.{◌≡◌, ℕ, ◌+◌, ◌*◌, ◌^◌, ◌<◌, ◌≤◌, length};
 ghost use Rattle.cs_num.specs.Complex.{IsWithin, square, value_of};
 ghost use Rattle.cs_num.specs.Sums.{complex_sum_below};
-ghost use Rattle.pss_search.specs.Correlation.{peak_term, wave, peak, energy};
+ghost use Rattle.pss_search.specs.Correlation.{peak_term, wave, energy};
+ghost use Rattle.pss_search.specs.Steps.{IsMetricOf};
 
 use crate::root::Root;
 use cs_num::{Cpx, Sample};
@@ -18,10 +19,7 @@ pub(crate) struct Metric {
 // The metric of a place for a root.
 pub(crate) fn metric_at(recording: &[Sample], root: &Root, t: usize) -> Metric
     requires { t + 128 ≤ length recording.now }
-    ensures peak { result.peak ≡ peak recording.now root.now.n2 t }
-    ensures energy { result.energy ≡ energy recording.now t }
-    ensures small_peak { result.peak < 2 ^ 70 }
-    ensures small_energy { result.energy ≤ 2 ^ 38 }
+    ensures { IsMetricOf recording.now root.now.n2 t result }
 {
     Metric {
         peak: peak_sum(recording, root, t).norm(),

@@ -1,6 +1,6 @@
 use Rattle.std.proofs.Common.{arith, refl, ◌≡◌, ◌∙◌, ◌+◌, ◌-◌, ℕ, Bool, false, sym, ap}
 use Rattle.finite.specs.Tests.{any_below}
-use Rattle.pss_search.specs.Hits.{rules_out, is_ruled_out}
+use Rattle.pss_search.specs.Tests.{rules_out, is_ruled_out}
 use Rattle.finite.proofs.Tests.{any_below_more, any_below_at}
 use Rattle.pss_search.proofs.choose.is_ruled_out_at.Goals as goal
 

@@ -1,5 +1,5 @@
 use Rattle.std.proofs.Common.{arith, ◌∙◌, ◌+◌, ◌++◌, ◌∷◌, [], sym, ap, append-nil}
-use Rattle.pss_search.specs.Hits.{so_far}
+use Rattle.pss_search.specs.Steps.{so_far}
 use Rattle.pss_search.proofs.Room.{room, so_far_more, one_is_hit}
 use Rattle.pss_search.proofs.list.add_of.Goals as goal
 

@@ -1,8 +1,14 @@
-use Rattle.std.proofs.Common.{◌∙◌, ap}
+use Rattle.std.proofs.Common.{◌∙◌, ap, arith}
+use Rattle.std.proofs.lemmas.Grind.{common_steps}
 use Rattle.cs_num.specs.Complex.{square}
 use Rattle.pss_search.specs.Correlation.{peak}
 use Rattle.pss_search.proofs.measure.metric_at.Goals as goal
 
-pub returns-clause-peak : goal.returns-clause-peak
+pub returns : goal.returns
 unfolding peak
-returns-clause-peak c = c.norm.ensures ∙ ap square c.peak_sum.ensures.value
+returns c = record {
+  peak = c.norm.ensures ∙ ap square c.peak_sum.ensures.value;
+  energy = c.energy_sum.ensures.value;
+  small_peak = grind (arith, common_steps);
+  small_energy = c.energy_sum.ensures.small;
+}

@@ -1,0 +1,79 @@
+ghost use Rattle.std.specs.Prelude.{◌≡◌, ◌+◌, ◌≤◌, IfOk, length};
+
+use crate::root::Root;
+use crate::{HitList, hits};
+use cs_num::{Sample, clamp_div};
+use lte_types::Hit;
+use sample_file::Recording;
+use std::alloc::{AllocError, Global};
+use std::test::Fail;
+
+// The samples of 30 ms of silence.
+fn silent_samples(alloc: Global) -> Result<Vec<Sample>, AllocError>
+    ensures { IfOk result (λ samples. length samples.items ≡ 57600) }
+{
+    vec![in alloc; Sample { re: 0, im: 0 }; 57_600]
+}
+
+// The samples of the primary signal of a root, in the order of sending.
+fn write(samples: &mut [Sample], root: &Root)
+    requires { length samples.old ≡ 128 }
+{
+    for n in 0..128 {
+        samples[n] = Sample {
+            re: clamp_div(root.wave[n].re, 1, 32_767),
+            im: clamp_div(root.wave[n].im, 1, 32_767),
+        };
+    }
+}
+
+// The hit of a primary signal alone, its peak and energy by a second program.
+fn lone_hit(t: u32) -> Hit {
+    Hit {
+        t,
+        n2: 0,
+        peak: 3_985_589_003_236,
+        energy: 1_996_394,
+    }
+}
+
+// The recording that is silent but for the signal of root 0 from sample `t` on, with its hits in
+// the list.
+fn hits_with_signal_at(alloc: Global, t: usize) -> Result<HitList, Fail>
+    requires { t + 128 ≤ 57600 }
+{
+    let mut samples = silent_samples(alloc)?;
+    write(&mut samples[t..t + 128], &Root::new(0));
+    let mut list = HitList::new(alloc)?;
+    if let Some(recording) = Recording::new(samples) {
+        hits(&recording, &mut list);
+    }
+    Ok(list)
+}
+
+#[test]
+fn a_signal_alone_is_the_one_hit(rt: HostRuntime) -> Result<(), Fail> {
+    let list = hits_with_signal_at(rt.alloc(), 1000)?;
+    assert_eq!(rt; list.slice(), [lone_hit(1000)].as_slice());
+    Ok(())
+}
+
+#[test]
+fn the_places_137_to_19336_are_searched(rt: HostRuntime) -> Result<(), Fail> {
+    let first = hits_with_signal_at(rt.alloc(), 137)?;
+    assert_eq!(rt; first.slice(), [lone_hit(137)].as_slice());
+    let last = hits_with_signal_at(rt.alloc(), 19_336)?;
+    assert_eq!(rt; last.slice(), [lone_hit(19_336)].as_slice());
+    assert_eq!(rt; hits_with_signal_at(rt.alloc(), 136)?.slice().len(), 0);
+    assert_eq!(rt; hits_with_signal_at(rt.alloc(), 19_337)?.slice().len(), 0);
+    Ok(())
+}
+
+#[test]
+fn a_list_is_emptied_before_it_is_filled(rt: HostRuntime) -> Result<(), Fail> {
+    let mut list = hits_with_signal_at(rt.alloc(), 1000)?;
+    let silence = Recording::new(silent_samples(rt.alloc())?).expect(&rt, "30 ms");
+    hits(&silence, &mut list);
+    assert_eq!(rt; list.slice().len(), 0);
+    Ok(())
+}
