@@ -12,7 +12,8 @@ use Rattle.cs_num.proofs.Sums.{complex_sum_below_same}
 use Rattle.fold128.specs.Tables.{w_at}
 use Rattle.fold128.specs.Symbol.{frequency}
 use Rattle.fold128.specs.Spectrum.{spectrum_term, spectrum_at, spectrum}
-use Rattle.observe.specs.Seen.{seen, seen_symbol, seen_of, rounded_values}
+use Rattle.observe.specs.Seen.{seen, seen_symbol}
+use Rattle.observe.specs.Steps.{seen_of, rounded_values}
 use Rattle.std.proofs.lemmas.List.{get_or-take, get_or-drop}
 
 pub rounded-within : (z : Cpx) → IsWithin 97182023680 z → IsWithin 23726080 (rounded z 12)

@@ -14,11 +14,3 @@ seen recording start k = rounded (spectrum_at (λ n. sample_at recording (start 
 -- what is seen at all its subcarriers
 unfoldable pub seen_symbol : List Sample → ℕ → List Cpx
 seen_symbol recording start = values_below 72 (seen recording start)
-
--- the sums of 128 samples, rounded
-unfoldable pub seen_of : (ℕ → Cpx) → List Cpx
-seen_of samples = values_below 72 (λ k. rounded (spectrum_at samples k) 12)
-
--- 72 sums, rounded
-unfoldable pub rounded_values : (ℕ → Cpx) → List Cpx
-rounded_values sums = values_below 72 (λ k. rounded (sums k) 12)

@@ -3,7 +3,8 @@
 
 ghost use Rattle.std.specs.Prelude.{◌≡◌, ℕ, ◌+◌, ◌^◌, ◌≤◌, All, length, slice_range};
 ghost use Rattle.cs_num.specs.Complex.{IsWithin, value_at, sample_at};
-ghost use Rattle.observe.specs.Seen.{seen_of, seen_symbol, rounded_values};
+ghost use Rattle.observe.specs.Seen.{seen_symbol};
+ghost use Rattle.observe.specs.Steps.{seen_of, rounded_values};
 
 use cs_num::{Cpx, Sample};
 use fold128::transform;

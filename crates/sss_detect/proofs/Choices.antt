@@ -102,75 +102,75 @@ better_of_two f n first second chosen l p e g h = settle (int_lt first.score sec
 
 -- ---- the best pair
 
-pub five_chosen : (points : ℕ → Half → ℤ) (a b : ℕ) → a ≡ best_group points Zero → b ≡ best_group points Five →
-    int_lt (points a Zero) (points b Five) ≡ true → (b, Five) ≡ best_pair points
+pub five_chosen : (scores : ℕ → Half → ℤ) (a b : ℕ) → a ≡ best_group scores Zero → b ≡ best_group scores Five →
+    int_lt (scores a Zero) (scores b Five) ≡ true → (b, Five) ≡ best_pair scores
 unfolding best_pair
-five_chosen points a b e g t =
-    let above : int_lt (points (best_group points Zero) Zero) (points (best_group points Five) Five) ≡ true =
-    ap (λ z. int_lt (points z Zero) (points (best_group points Five) Five)) (sym e) ∙ ap (λ f. int_lt (points a Zero) (points f Five)) (sym g) ∙ t in
+five_chosen scores a b e g t =
+    let above : int_lt (scores (best_group scores Zero) Zero) (scores (best_group scores Five) Five) ≡ true =
+    ap (λ z. int_lt (scores z Zero) (scores (best_group scores Five) Five)) (sym e) ∙ ap (λ f. int_lt (scores a Zero) (scores f Five)) (sym g) ∙ t in
     rw above (ap (λ n. (n, Five)) g)
 
-pub zero_chosen : (points : ℕ → Half → ℤ) (a b : ℕ) → a ≡ best_group points Zero → b ≡ best_group points Five →
-    int_lt (points a Zero) (points b Five) ≡ false → (a, Zero) ≡ best_pair points
+pub zero_chosen : (scores : ℕ → Half → ℤ) (a b : ℕ) → a ≡ best_group scores Zero → b ≡ best_group scores Five →
+    int_lt (scores a Zero) (scores b Five) ≡ false → (a, Zero) ≡ best_pair scores
 unfolding best_pair
-zero_chosen points a b e g t =
-    let above : int_lt (points (best_group points Zero) Zero) (points (best_group points Five) Five) ≡ false =
-    ap (λ z. int_lt (points z Zero) (points (best_group points Five) Five)) (sym e) ∙ ap (λ f. int_lt (points a Zero) (points f Five)) (sym g) ∙ t in
+zero_chosen scores a b e g t =
+    let above : int_lt (scores (best_group scores Zero) Zero) (scores (best_group scores Five) Five) ≡ false =
+    ap (λ z. int_lt (scores z Zero) (scores (best_group scores Five) Five)) (sym e) ∙ ap (λ f. int_lt (scores a Zero) (scores f Five)) (sym g) ∙ t in
     rw above (ap (λ n. (n, Zero)) e)
 
 -- the best group of a half against another of it
-in_half : (points : ℕ → Half → ℤ) (half : Half) (m : ℕ) → m ≤ 167 → points m half ≤ℤ points (best_group points half) half
-in_half points half m l = first_greatest_is (λ n1. points n1 half) 167 m l
+in_half : (scores : ℕ → Half → ℤ) (half : Half) (m : ℕ) → m ≤ 167 → scores m half ≤ℤ scores (best_group scores half) half
+in_half scores half m l = first_greatest_is (λ n1. scores n1 half) 167 m l
 
-in_half_first : (points : ℕ → Half → ℤ) (half : Half) (m : ℕ) → m < best_group points half → points m half <ℤ points (best_group points half) half
-in_half_first points half m l = first_greatest_first (λ n1. points n1 half) 167 m l
+in_half_first : (scores : ℕ → Half → ℤ) (half : Half) (m : ℕ) → m < best_group scores half → scores m half <ℤ scores (best_group scores half) half
+in_half_first scores half m l = first_greatest_first (λ n1. scores n1 half) 167 m l
 
-five_best : (points : ℕ → Half → ℤ) → points (best_group points Zero) Zero <ℤ points (best_group points Five) Five → IsBest points (best_group points Five) Five
-five_best points above = record {
-  known = first_greatest-le (λ n1. points n1 Five) 167;
+five_best : (scores : ℕ → Half → ℤ) → scores (best_group scores Zero) Zero <ℤ scores (best_group scores Five) Five → IsBest scores (best_group scores Five) Five
+five_best scores above = record {
+  known = first_greatest-le (λ n1. scores n1 Five) 167;
   greatest = greatest;
   first = first;
 }
   where
-    greatest : (m : ℕ) (other : Half) → m ≤ 167 → points m other ≤ℤ points (best_group points Five) Five
-    greatest m Zero l = lt-le _ _ (under _ _ _ (in_half points Zero m l) above)
-    greatest m Five l = in_half points Five m l
+    greatest : (m : ℕ) (other : Half) → m ≤ 167 → scores m other ≤ℤ scores (best_group scores Five) Five
+    greatest m Zero l = lt-le _ _ (under _ _ _ (in_half scores Zero m l) above)
+    greatest m Five l = in_half scores Five m l
 
-    first : (m : ℕ) (other : Half) → m ≤ 167 → IsBefore m other (best_group points Five) Five → points m other <ℤ points (best_group points Five) Five
-    first m Zero l p = under _ _ _ (in_half points Zero m l) above
-    first m Five l p = in_half_first points Five m p
+    first : (m : ℕ) (other : Half) → m ≤ 167 → IsBefore m other (best_group scores Five) Five → scores m other <ℤ scores (best_group scores Five) Five
+    first m Zero l p = under _ _ _ (in_half scores Zero m l) above
+    first m Five l p = in_half_first scores Five m p
 
-zero_best : (points : ℕ → Half → ℤ) → points (best_group points Five) Five ≤ℤ points (best_group points Zero) Zero → IsBest points (best_group points Zero) Zero
-zero_best points above = record {
-  known = first_greatest-le (λ n1. points n1 Zero) 167;
+zero_best : (scores : ℕ → Half → ℤ) → scores (best_group scores Five) Five ≤ℤ scores (best_group scores Zero) Zero → IsBest scores (best_group scores Zero) Zero
+zero_best scores above = record {
+  known = first_greatest-le (λ n1. scores n1 Zero) 167;
   greatest = greatest;
   first = first;
 }
   where
-    greatest : (m : ℕ) (other : Half) → m ≤ 167 → points m other ≤ℤ points (best_group points Zero) Zero
-    greatest m Zero l = in_half points Zero m l
-    greatest m Five l = no_more _ _ _ (in_half points Five m l) above
+    greatest : (m : ℕ) (other : Half) → m ≤ 167 → scores m other ≤ℤ scores (best_group scores Zero) Zero
+    greatest m Zero l = in_half scores Zero m l
+    greatest m Five l = no_more _ _ _ (in_half scores Five m l) above
 
-    first : (m : ℕ) (other : Half) → m ≤ 167 → IsBefore m other (best_group points Zero) Zero → points m other <ℤ points (best_group points Zero) Zero
-    first m Zero l p = in_half_first points Zero m p
+    first : (m : ℕ) (other : Half) → m ≤ 167 → IsBefore m other (best_group scores Zero) Zero → scores m other <ℤ scores (best_group scores Zero) Zero
+    first m Zero l p = in_half_first scores Zero m p
     first m Five l p = absurd p
 
 pub best_pair_is_best : BestPairIsBest
 unfolding best_pair
-best_pair_is_best points = settle (int_lt (points (best_group points Zero) Zero) (points (best_group points Five) Five)) refl
+best_pair_is_best scores = settle (int_lt (scores (best_group scores Zero) Zero) (scores (best_group scores Five) Five)) refl
   where
     chosen : Bool → ℕ × Half
-    chosen b = if b then (best_group points Five, Five) else (best_group points Zero, Zero)
+    chosen b = if b then (best_group scores Five, Five) else (best_group scores Zero, Zero)
 
-    settle : (b : Bool) → int_lt (points (best_group points Zero) Zero) (points (best_group points Five) Five) ≡ b → IsBest points (chosen b).0 (chosen b).1
-    settle true e = five_best points (less _ _ e)
-    settle false e = zero_best points (not_less _ _ e)
+    settle : (b : Bool) → int_lt (scores (best_group scores Zero) Zero) (scores (best_group scores Five) Five) ≡ b → IsBest scores (chosen b).0 (chosen b).1
+    settle true e = five_best scores (less _ _ e)
+    settle false e = zero_best scores (not_less _ _ e)
 
 -- ---- and the only one
 
 -- neither of two best pairs comes before the other
-not_before : (points : ℕ → Half → ℤ) (n m : ℕ) (half other : Half) → IsBest points n half → IsBest points m other → IsBefore n half m other → ⊥
-not_before points n m half other p q b = lt-not_le _ _ (q.first n half p.known b) (p.greatest m other q.known)
+not_before : (scores : ℕ → Half → ℤ) (n m : ℕ) (half other : Half) → IsBest scores n half → IsBest scores m other → IsBefore n half m other → ⊥
+not_before scores n m half other p q b = lt-not_le _ _ (q.first n half p.known b) (p.greatest m other q.known)
 
 same_pair : (n m : ℕ) (half other : Half) → (IsBefore n half m other → ⊥) → (IsBefore m other n half → ⊥) → (n ≡ m) × (half ≡ other)
 same_pair n m Zero Zero p q = (grind arith, refl)
@@ -179,8 +179,8 @@ same_pair n m Five Zero p q = absurd (q tt)
 same_pair n m Five Five p q = (grind arith, refl)
 
 pub only_one_is_best : OnlyOneIsBest
-only_one_is_best points n1 half p =
-    let best = best_pair_is_best points in
-    same_pair n1 (best_pair points).0 half (best_pair points).1
-    (not_before points n1 (best_pair points).0 half (best_pair points).1 p best)
-    (not_before points (best_pair points).0 n1 (best_pair points).1 half best p)
+only_one_is_best scores n1 half p =
+    let best = best_pair_is_best scores in
+    same_pair n1 (best_pair scores).0 half (best_pair scores).1
+    (not_before scores n1 (best_pair scores).0 half (best_pair scores).1 p best)
+    (not_before scores (best_pair scores).0 n1 (best_pair scores).1 half best p)

@@ -17,8 +17,9 @@ use Rattle.lte_types.specs.declared.hit.Hit.{Hit}
 use Rattle.sync_seq.specs.Secondary.{sss_at, sss_list}
 use Rattle.sync_seq.proofs.SecondaryValues.{sss-size}
 use Rattle.observe.specs.Seen.{seen, seen_symbol}
-use Rattle.sss_detect.specs.Scores.{agreement, agreements_of, score, score_by, signed_sum}
-use Rattle.sss_detect.specs.Identity.{points_of}
+use Rattle.sss_detect.specs.Scores.{agreement, score}
+use Rattle.sss_detect.specs.Steps.{agreements_of, score_by, signed_sum}
+use Rattle.sss_detect.specs.Identity.{scores_of}
 
 -- the sequence as a list of signs gives the score
 pub signed_sum_is : (agreements : List ℤ) (n1 n2 : ℕ) (half : Half) → signed_sum (sss_list n1 n2 half) agreements 62 ≡ score_by agreements n2 n1 half
@@ -54,11 +55,11 @@ score_same p q r s n2 h g = fun_ext (λ n1. fun_ext (λ half. at n1 half))
         (λ n. sss_at n1 n2 half n *ℤ agreement p r n2 n) (λ n. sss_at n1 n2 half n *ℤ agreement q s n2 n)
         (λ n l. ap (λ x. sss_at n1 n2 half n *ℤ x) (agree n l))
 
--- the symbols that are seen as lists give the points of a hit
-pub points_are : (recording : List Sample) (hit : Hit) →
-    score (value_at (seen_symbol recording hit.t)) (value_at (seen_symbol recording (hit.t - 137))) hit.n2 ≡ points_of recording hit
+-- the symbols that are seen as lists give the scores of a hit
+pub scores_of_hit : (recording : List Sample) (hit : Hit) →
+    score (value_at (seen_symbol recording hit.t)) (value_at (seen_symbol recording (hit.t - 137))) hit.n2 ≡ scores_of recording hit
 unfolding seen_symbol
-points_are recording hit = score_same
+scores_of_hit recording hit = score_same
     (value_at (values_below 72 (seen recording hit.t))) (seen recording hit.t)
     (value_at (values_below 72 (seen recording (hit.t - 137)))) (seen recording (hit.t - 137)) hit.n2
     (λ k l. values_below_at (seen recording hit.t) 72 k nothing l)

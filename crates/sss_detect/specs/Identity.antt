@@ -15,11 +15,11 @@ IsBefore m Zero n Five = Unit {0}
 IsBefore m Five n Zero = ⊥
 IsBefore m Five n Five = m < n
 
--- of all 336 pairs this one has the greatest points, and those before it have less
-pub record IsBest (points : ℕ → Half → ℤ) (n1 : ℕ) (half : Half) : Type 0 where
+-- of all 336 pairs this one has the greatest score, and each before it a smaller one
+pub record IsBest (scores : ℕ → Half → ℤ) (n1 : ℕ) (half : Half) : Type 0 where
   pub known : n1 ≤ 167
-  pub greatest : (m : ℕ) (other : Half) → m ≤ 167 → points m other ≤ℤ points n1 half
-  pub first : (m : ℕ) (other : Half) → m ≤ 167 → IsBefore m other n1 half → points m other <ℤ points n1 half
+  pub greatest : (m : ℕ) (other : Half) → m ≤ 167 → scores m other ≤ℤ scores n1 half
+  pub first : (m : ℕ) (other : Half) → m ≤ 167 → IsBefore m other n1 half → scores m other <ℤ scores n1 half
 
 -- the place of the first greatest of f 0 to f n
 unfoldable pub first_greatest : (ℕ → ℤ) → ℕ → ℕ
@@ -28,18 +28,18 @@ first_greatest f (suc n) = if int_lt (f (first_greatest f n)) (f (suc n)) then s
 
 -- the best group of a half
 abbrev pub best_group : (ℕ → Half → ℤ) → Half → ℕ
-best_group points half = first_greatest (λ n1. points n1 half) 167
+best_group scores half = first_greatest (λ n1. scores n1 half) 167
 
 -- the best pair
 unfoldable pub best_pair : (ℕ → Half → ℤ) → ℕ × Half
-best_pair points =
-    if int_lt (points (best_group points Zero) Zero) (points (best_group points Five) Five) then (best_group points Five, Five)
-    else (best_group points Zero, Zero)
+best_pair scores =
+    if int_lt (scores (best_group scores Zero) Zero) (scores (best_group scores Five) Five) then (best_group scores Five, Five)
+    else (best_group scores Zero, Zero)
 
--- the points of a hit: the scores of what is seen of the primary symbol at the hit and of the secondary one before it
-abbrev pub points_of : List Sample → Hit → ℕ → Half → ℤ
-points_of recording hit = score (seen recording hit.t) (seen recording (hit.t - symbol_step normal)) hit.n2
+-- the scores of a hit: those of what is seen of the primary symbol at the hit and of the secondary one before it
+abbrev pub scores_of : List Sample → Hit → ℕ → Half → ℤ
+scores_of recording hit = score (seen recording hit.t) (seen recording (hit.t - symbol_step normal)) hit.n2
 
 -- the identity group and the half of a hit
 unfoldable pub identity_of : List Sample → Hit → ℕ × Half
-identity_of recording hit = best_pair (points_of recording hit)
+identity_of recording hit = best_pair (scores_of recording hit)

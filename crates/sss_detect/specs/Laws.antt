@@ -5,8 +5,8 @@ use Rattle.sss_detect.specs.Identity.{IsBest, best_pair}
 
 -- the best pair is the first of the greatest of all 336
 abbrev pub BestPairIsBest : Type 0
-BestPairIsBest = (points : ℕ → Half → ℤ) → IsBest points (best_pair points).0 (best_pair points).1
+BestPairIsBest = (scores : ℕ → Half → ℤ) → IsBest scores (best_pair scores).0 (best_pair scores).1
 
 -- and no other pair is
 abbrev pub OnlyOneIsBest : Type 0
-OnlyOneIsBest = (points : ℕ → Half → ℤ) (n1 : ℕ) (half : Half) → IsBest points n1 half → (n1 ≡ (best_pair points).0) × (half ≡ (best_pair points).1)
+OnlyOneIsBest = (scores : ℕ → Half → ℤ) (n1 : ℕ) (half : Half) → IsBest scores n1 half → (n1 ≡ (best_pair scores).0) × (half ≡ (best_pair scores).1)

@@ -2,3 +2,4 @@ pub mod Scores
 pub mod Identity
 pub mod Place
 pub mod Laws
+pub mod Steps

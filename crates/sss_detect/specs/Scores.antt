@@ -1,7 +1,6 @@
 -- How well a secondary synchronisation sequence agrees with what is seen of two symbols. (own)
-use Rattle.std.specs.Prelude.{ℕ, List, ℤ, pos, ◌*ℤ◌, slice_index_or}
+use Rattle.std.specs.Prelude.{ℕ, ℤ, ◌*ℤ◌}
 use Rattle.finite.specs.Sums.{sum_below}
-use Rattle.finite.specs.Lists.{values_below}
 use Rattle.cs_num.specs.declared.Cpx.{Cpx}
 use Rattle.cs_num.specs.Complex.{times, conjugate}
 use Rattle.lte_types.specs.declared.frame.Half.{Half}
@@ -20,17 +19,3 @@ agreement primary secondary n2 n = (times (secondary (middle n)) (conjugate (cha
 -- the score of a group and a half: the sum of the agreements, with the signs of their secondary sequence
 unfoldable pub score : (ℕ → Cpx) → (ℕ → Cpx) → ℕ → ℕ → Half → ℤ
 score primary secondary n2 n1 half = sum_below 62 (λ n. sss_at n1 n2 half n *ℤ agreement primary secondary n2 n)
-
--- ---- the same by way of lists
-
--- all agreements
-unfoldable pub agreements_of : (ℕ → Cpx) → (ℕ → Cpx) → ℕ → List ℤ
-agreements_of primary secondary n2 = values_below 62 (agreement primary secondary n2)
-
--- the sum of numbers with signs
-unfoldable pub signed_sum : List ℤ → List ℤ → ℕ → ℤ
-signed_sum signs numbers n = sum_below n (λ k. slice_index_or signs k (pos 0) *ℤ slice_index_or numbers k (pos 0))
-
--- the score that a list of agreements gives a group and a half
-unfoldable pub score_by : List ℤ → ℕ → ℕ → Half → ℤ
-score_by agreements n2 n1 half = sum_below 62 (λ n. sss_at n1 n2 half n *ℤ slice_index_or agreements n (pos 0))

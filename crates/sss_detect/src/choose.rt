@@ -3,7 +3,8 @@
 ghost use Rattle.std.specs.Prelude.{◌≡◌, ◌^◌, ◌≤◌, All, int_lt, if◌then◌else◌};
 ghost use Rattle.finite.specs.Sizes.{AllWithin};
 ghost use Rattle.cs_num.specs.Complex.{IsWithin, value_at};
-ghost use Rattle.sss_detect.specs.Scores.{score, score_by};
+ghost use Rattle.sss_detect.specs.Scores.{score};
+ghost use Rattle.sss_detect.specs.Steps.{score_by};
 ghost use Rattle.sss_detect.specs.Identity.{IsBest, best_group, best_pair};
 
 use crate::score::{agreements, score_of};

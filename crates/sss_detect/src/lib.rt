@@ -8,7 +8,7 @@ mod score;
 
 ghost use Rattle.std.specs.Prelude.{◌≡◌, ◌+◌, ◌≤◌, length};
 ghost use Rattle.lte_types.specs.Numerology.{normal, symbol_step};
-ghost use Rattle.sss_detect.specs.Identity.{IsBest, points_of, identity_of};
+ghost use Rattle.sss_detect.specs.Identity.{IsBest, scores_of, identity_of};
 ghost use Rattle.sss_detect.specs.Laws.{BestPairIsBest, OnlyOneIsBest};
 
 pub use choose::best;
@@ -25,7 +25,7 @@ pub fn identity(recording: &Recording, hit: &Hit) -> (u16, Half)
     requires within { hit.now.t + 128 ≤ length recording.now }
     requires member { hit.now.n2 ≤ 2 }
     ensures value { result ≡ identity_of recording.now hit.now }
-    ensures best { IsBest (points_of recording.now hit.now) result.0 result.1 }
+    ensures best { IsBest (scores_of recording.now hit.now) result.0 result.1 }
 {
     let t = hit.t as usize;
     best(
@@ -35,7 +35,7 @@ pub fn identity(recording: &Recording, hit: &Hit) -> (u16, Half)
     )
 }
 
-/// The best pair in plain words: it is the first of the pairs of greatest points, and the only one.
+/// The best pair in plain words: it is the first of the pairs of greatest score, and no other is.
 pub fn best_pair_is_first_of_greatest()
     ensures best { BestPairIsBest }
     ensures only { OnlyOneIsBest }

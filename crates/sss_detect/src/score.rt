@@ -3,7 +3,8 @@
 ghost use Rattle.std.specs.Prelude.{◌≡◌, ◌+◌, ◌^◌, ◌<◌, ◌≤◌, All, pos, ◌*ℤ◌, nat_abs, slice_index_or};
 ghost use Rattle.finite.specs.Sizes.{AllWithin};
 ghost use Rattle.cs_num.specs.Complex.{IsWithin, times, conjugate, value_at};
-ghost use Rattle.sss_detect.specs.Scores.{agreement, agreements_of, signed_sum, score_by};
+ghost use Rattle.sss_detect.specs.Scores.{agreement};
+ghost use Rattle.sss_detect.specs.Steps.{agreements_of, signed_sum, score_by};
 
 use cs_num::Cpx;
 use lte_types::Half;

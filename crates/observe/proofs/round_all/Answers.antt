@@ -4,7 +4,7 @@ use Rattle.std.proofs.lemmas.List.FromFn.{fill_by_all}
 use Rattle.std.proofs.lemmas.List.Edits.{fill_by_more}
 use Rattle.cs_num.specs.Complex.{IsWithin, nothing, value_at}
 use Rattle.cs_num.specs.Rounding.{rounded}
-use Rattle.observe.specs.Seen.{rounded_values}
+use Rattle.observe.specs.Steps.{rounded_values}
 use Rattle.observe.proofs.Seen.{rounded-within}
 use Rattle.observe.proofs.round_all.Goals as goal
 

@@ -2,7 +2,7 @@ use Rattle.std.proofs.Common.{arith, ◌∙◌, ap}
 use Rattle.std.proofs.lemmas.List.Elements.{All-weaker}
 use Rattle.cs_num.specs.Complex.{IsWithin, sample_at}
 use Rattle.cs_num.proofs.Complex.{within_more}
-use Rattle.observe.specs.Seen.{seen_of}
+use Rattle.observe.specs.Steps.{seen_of}
 use Rattle.observe.proofs.Seen.{seen_is}
 use Rattle.observe.proofs.symbol.Goals as goal
 

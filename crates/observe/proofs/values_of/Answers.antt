@@ -1,6 +1,6 @@
 use Rattle.std.proofs.Common.{◌∙◌, ap}
 use Rattle.cs_num.specs.Complex.{value_at, sample_at}
-use Rattle.observe.specs.Seen.{rounded_values}
+use Rattle.observe.specs.Steps.{rounded_values}
 use Rattle.observe.proofs.Seen.{rounded_is}
 use Rattle.observe.proofs.values_of.Goals as goal
 

@@ -1,7 +1,8 @@
 use Rattle.std.proofs.Common.{◌∙◌, ap, sym, subst, ℕ}
 use Rattle.cs_num.specs.Complex.{value_at}
 use Rattle.lte_types.specs.declared.frame.Half.{Half}
-use Rattle.sss_detect.specs.Scores.{score, score_by}
+use Rattle.sss_detect.specs.Scores.{score}
+use Rattle.sss_detect.specs.Steps.{score_by}
 use Rattle.sss_detect.specs.Identity.{IsBest, best_pair}
 use Rattle.sss_detect.proofs.Scoring.{scores_are}
 use Rattle.sss_detect.proofs.Choices.{best_pair_is_best}
@@ -14,5 +15,5 @@ returns-clause-value c =
 
 pub returns-clause-best : goal.returns-clause-best
 returns-clause-best c =
-    let points = score (value_at c.args.pss_seen.now) (value_at c.args.sss_seen.now) c.args.n2 in
-    subst (λ (pair : ℕ × Half). IsBest points pair.0 pair.1) (sym (returns-clause-value c)) (best_pair_is_best points)
+    let scores = score (value_at c.args.pss_seen.now) (value_at c.args.sss_seen.now) c.args.n2 in
+    subst (λ (pair : ℕ × Half). IsBest scores pair.0 pair.1) (sym (returns-clause-value c)) (best_pair_is_best scores)

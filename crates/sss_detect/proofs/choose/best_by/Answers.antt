@@ -2,7 +2,7 @@ use Rattle.std.proofs.Common.{rules, FitsSigned, int_lt, ◌∙◌, ap, sym}
 use Rattle.std.specs.Int.{w128}
 use Rattle.std.proofs.lemmas.Int.{to_z-of_z}
 use Rattle.lte_types.specs.declared.frame.Half.TheVariants.{Five}
-use Rattle.sss_detect.specs.Scores.{score_by}
+use Rattle.sss_detect.specs.Steps.{score_by}
 use Rattle.sss_detect.proofs.Choices.{five_chosen, zero_chosen}
 use Rattle.sss_detect.proofs.choose.best_by.Goals as goal
 
@@ -13,9 +13,9 @@ returns-then-zero-five c =
     let a : FitsSigned w128 first.result.score = search rules in
     let b : FitsSigned w128 second.result.score = search rules in
     let test = simp to_z-of_z at c.if-zero-five.true in
-    let points = score_by c.args.agreements.now c.args.n2 in
-    five_chosen points first.result.n1 second.result.n1 first.ensures.group second.ensures.group
-    (ap (λ x. int_lt x (points second.result.n1 Five)) (sym first.ensures.score) ∙ ap (int_lt first.result.score) (sym second.ensures.score) ∙ test)
+    let scores = score_by c.args.agreements.now c.args.n2 in
+    five_chosen scores first.result.n1 second.result.n1 first.ensures.group second.ensures.group
+    (ap (λ x. int_lt x (scores second.result.n1 Five)) (sym first.ensures.score) ∙ ap (int_lt first.result.score) (sym second.ensures.score) ∙ test)
 
 pub returns-else-zero-five : goal.returns-else-zero-five
 returns-else-zero-five c =
@@ -24,6 +24,6 @@ returns-else-zero-five c =
     let a : FitsSigned w128 first.result.score = search rules in
     let b : FitsSigned w128 second.result.score = search rules in
     let test = simp to_z-of_z at c.if-zero-five.false in
-    let points = score_by c.args.agreements.now c.args.n2 in
-    zero_chosen points first.result.n1 second.result.n1 first.ensures.group second.ensures.group
-    (ap (λ x. int_lt x (points second.result.n1 Five)) (sym first.ensures.score) ∙ ap (int_lt first.result.score) (sym second.ensures.score) ∙ test)
+    let scores = score_by c.args.agreements.now c.args.n2 in
+    zero_chosen scores first.result.n1 second.result.n1 first.ensures.group second.ensures.group
+    (ap (λ x. int_lt x (scores second.result.n1 Five)) (sym first.ensures.score) ∙ ap (int_lt first.result.score) (sym second.ensures.score) ∙ test)

@@ -1,5 +1,5 @@
 use Rattle.std.proofs.Common.{arith, ◌≡◌, ◌+◌, ◌-◌, ℕ, ℤ, sym, subst}
-use Rattle.sss_detect.specs.Scores.{score_by}
+use Rattle.sss_detect.specs.Steps.{score_by}
 use Rattle.sss_detect.proofs.Choices.{IsBestSoFar, best_of_one, better_of_two}
 use Rattle.sss_detect.proofs.choose.best_of_half.Goals as goal
 

@@ -1,5 +1,5 @@
 use Rattle.std.proofs.Common.{◌-◌}
-use Rattle.sss_detect.specs.Scores.{score_by}
+use Rattle.sss_detect.specs.Steps.{score_by}
 use Rattle.sss_detect.proofs.Choices.{IsBestSoFar}
 use Rattle.sss_detect.proofs.choose.best_of_half.Given as goal
 

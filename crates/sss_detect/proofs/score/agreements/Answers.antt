@@ -7,7 +7,8 @@ use Rattle.std.specs.Prelude.{nat_abs}
 use Rattle.cs_num.specs.Complex.{IsWithin, times, conjugate, value_at}
 use Rattle.sync_seq.specs.Primary.{pss_at}
 use Rattle.sync_seq.proofs.PrimaryValues.{pss-within, pss_list_at}
-use Rattle.sss_detect.specs.Scores.{agreement, agreements_of}
+use Rattle.sss_detect.specs.Scores.{agreement}
+use Rattle.sss_detect.specs.Steps.{agreements_of}
 use Rattle.sss_detect.proofs.score.agreements.Goals as goal
 
 pub loop-n-init : goal.loop-n-init

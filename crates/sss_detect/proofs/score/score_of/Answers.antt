@@ -2,7 +2,7 @@ use Rattle.std.proofs.Common.{rules, ◌≡◌, ◌∙◌, ap, sym, subst, FitsS
 use Rattle.std.specs.Int.{w128}
 use Rattle.std.proofs.lemmas.Int.{to_z-of_z}
 use Rattle.std.specs.Prelude.{nat_abs}
-use Rattle.sss_detect.specs.Scores.{signed_sum}
+use Rattle.sss_detect.specs.Steps.{signed_sum}
 use Rattle.sss_detect.proofs.Scoring.{signed_sum_is, signs_of}
 use Rattle.sss_detect.proofs.score.score_of.Goals as goal
 

@@ -5,7 +5,7 @@ use Rattle.std.proofs.lemmas.List.Elements.{All-get_or}
 use Rattle.std.specs.Prelude.{nat_abs}
 use Rattle.finite.specs.Sums.{sum_below}
 use Rattle.finite.proofs.Integers.{abs-sum}
-use Rattle.sss_detect.specs.Scores.{signed_sum}
+use Rattle.sss_detect.specs.Steps.{signed_sum}
 use Rattle.sss_detect.proofs.Scoring.{signed_sum_more, signed_sum-size}
 use Rattle.sss_detect.proofs.score.signed_total.Goals as goal
 

@@ -1,5 +1,5 @@
 use Rattle.std.proofs.Common.{◌≡◌}
-use Rattle.sss_detect.specs.Scores.{signed_sum}
+use Rattle.sss_detect.specs.Steps.{signed_sum}
 use Rattle.sss_detect.proofs.score.signed_total.Given as goal
 
 abbrev pub invariant-loop-n : goal.invariant-loop-n

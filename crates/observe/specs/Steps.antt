@@ -1,0 +1,14 @@
+-- The code's way to what is seen: sums, and then values.
+use Rattle.std.specs.Prelude.{ℕ, List}
+use Rattle.finite.specs.Lists.{values_below}
+use Rattle.cs_num.specs.declared.Cpx.{Cpx}
+use Rattle.cs_num.specs.Rounding.{rounded}
+use Rattle.fold128.specs.Spectrum.{spectrum_at}
+
+-- the sums of 128 samples, rounded
+unfoldable pub seen_of : (ℕ → Cpx) → List Cpx
+seen_of samples = values_below 72 (λ k. rounded (spectrum_at samples k) 12)
+
+-- 72 sums, rounded
+unfoldable pub rounded_values : (ℕ → Cpx) → List Cpx
+rounded_values sums = values_below 72 (λ k. rounded (sums k) 12)
