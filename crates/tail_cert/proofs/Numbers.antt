@@ -1,13 +1,22 @@
 -- Numbers that were read from bytes have these bytes.
-use Rattle.std.proofs.Common.{◌≡◌, ℕ, ◌+◌, ◌*◌, ◌/◌, ◌%◌, ◌^◌, ◌<◌, ◌≤◌, List, [], ◌∷◌, length, take, drop, get_or, Fits, w8, refl, ap, ◌∙◌, arith}
+use Rattle.std.proofs.Common.{◌≡◌, ℕ, ◌+◌, ◌*◌, ◌/◌, ◌%◌, ◌^◌, ◌<◌, ◌≤◌, List, [], ◌∷◌, length, take, drop, get_or, ◌++◌, take-append-drop, drop-drop, length-drop, sym, suc, inl, inr, Fits, w8, refl, ap, ◌∙◌, arith}
 use Rattle.std.specs.Int.{w16, w32, cast_unsigned, cast_signed}
 use Rattle.std.proofs.Math.Facts.{sfits_to_z, sfits_widen}
 use Rattle.std.proofs.lemmas.Int.{of_z-to_z, to_z-of_z}
-use Rattle.std.proofs.lemmas.List.{get_or-drop}
-use Rattle.byteorder.specs.Endian.{little_bytes, little_number, big_bytes, big_number}
+use Rattle.std.proofs.lemmas.List.{get_or-drop, get_or-take, get_or_past, length-take}
+use Rattle.std.proofs.lemmas.Bool.{cases_lt}
+use Rattle.std.specs.List.{flat_map}
+use Rattle.std.proofs.lemmas.List.Concat.{flat_map-cons}
+use Rattle.byteorder.specs.Endian.{IsRead, little_bytes, little_number, big_bytes, big_number}
 
 pub rest_bytes : (bytes : List ℕ) (at : ℕ) → ((i : ℕ) → Fits w8 (get_or bytes i 0)) → (i : ℕ) → get_or (drop at bytes) i 0 < 256
 rest_bytes bytes at fits i = rw (get_or-drop at bytes i 0) (fits (at + i)).fits
+
+pub part_bytes : (bytes : List ℕ) (at n : ℕ) → ((i : ℕ) → Fits w8 (get_or bytes i 0)) → (i : ℕ) → get_or (take n (drop at bytes)) i 0 < 256
+part_bytes bytes at n fits i = elim (cases_lt i n) [
+  | inl within ↦ rw (get_or-take n (drop at bytes) i 0 within) (rest_bytes bytes at fits i)
+  | inr past ↦ rw (get_or_past (take n (drop at bytes)) i 0 (omega (arith, past, length-take n (drop at bytes)))) (omega arith)
+]
 
 pub two_bytes : (xs : List ℕ) → 2 ≤ length xs → ((i : ℕ) → get_or xs i 0 < 256) → (little_bytes 2 (little_number 2 xs) ≡ take 2 xs) × (little_number 2 xs < 2 ^ 16)
 two_bytes [] l h = absurd (omega arith)
@@ -34,6 +43,23 @@ four_bytes (a ∷ b ∷ c ∷ d ∷ xs) l h =
     let e2 : (a + 256 * (b + 256 * (c + 256 * (d + 256 * 0)))) / 65536 % 256 ≡ c = omega arith in
     let e3 : (a + 256 * (b + 256 * (c + 256 * (d + 256 * 0)))) / 16777216 % 256 ≡ d = omega arith in
     rw (e0, e1, e2, e3) refl
+
+-- numbers of four bytes each, read one after the other
+pub entries_read : (bytes xs : List ℕ) → length bytes ≡ 4 * length xs → ((i : ℕ) → get_or bytes i 0 < 256) → IsRead little_number 4 bytes xs →
+    flat_map (little_bytes 4) xs ≡ bytes
+entries_read [] [] size fits h = refl
+entries_read (b ∷ bytes) [] size fits h = absurd (omega (arith, size))
+entries_read bytes (x ∷ xs) size fits h =
+    let first : x ≡ little_number 4 bytes = h 0 (omega arith) in
+    let four = four_bytes bytes (omega (arith, size)) fits in
+    let rest = entries_read (drop 4 bytes) xs (omega (arith, size, length-drop 4 bytes)) (rest_bytes_of bytes fits) (λ k l.
+    let e : 4 * suc k ≡ 4 + 4 * k = omega arith in
+    h (suc k) (omega (arith, l)) ∙ ap (λ n. little_number 4 (drop n bytes)) e ∙ ap (little_number 4) (sym (drop-drop (4 * k) 4 bytes))) in
+    flat_map-cons (little_bytes 4) x xs ∙ ap (λ n. little_bytes 4 n ++ flat_map (little_bytes 4) xs) first
+    ∙ ap (λ l. l ++ flat_map (little_bytes 4) xs) four ∙ ap (λ l. take 4 bytes ++ l) rest ∙ take-append-drop 4 bytes
+  where
+    rest_bytes_of : (bytes : List ℕ) → ((i : ℕ) → get_or bytes i 0 < 256) → (i : ℕ) → get_or (drop 4 bytes) i 0 < 256
+    rest_bytes_of bytes fits i = rw (get_or-drop 4 bytes i 0) (fits (4 + i))
 
 pub five_bytes : (xs : List ℕ) → 5 ≤ length xs → ((i : ℕ) → get_or xs i 0 < 256) → (big_bytes 5 (big_number 5 xs) ≡ take 5 xs) × (big_number 5 xs < 2 ^ 40)
 five_bytes [] l h = absurd (omega arith)

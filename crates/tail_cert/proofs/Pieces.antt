@@ -2,7 +2,7 @@
 use Rattle.std.proofs.Common.{◌≡◌, ℕ, ◌+◌, ◌*◌, ◌-◌, ◌<◌, ◌≤◌, List, [], ◌∷◌, ◌++◌, length, take, drop, get_or, refl, sym, ap, ◌∙◌, arith}
 use Rattle.std.specs.List.{flat_map}
 use Rattle.std.proofs.lemmas.List.{append_assoc, append-nil, length-append, length-take-le, take_at, drop_at, take_more, take_all, drop_all, drop-drop, length-drop, take-append-drop, take_rest}
-use Rattle.std.proofs.lemmas.List.Concat.{flat_map-append}
+use Rattle.std.proofs.lemmas.List.Concat.{flat_map-append, flat_map-cons}
 use Rattle.tail_cert.specs.Form.{with_piece}
 
 -- a write to the rest of the bytes from a place on
@@ -15,6 +15,19 @@ put_piece at piece bytes mid e inside =
     let whole : take (length bytes - at) (drop at bytes) ≡ drop at bytes = take_rest bytes at in
     let mid' : mid ≡ piece ++ drop (at + length piece) bytes = e ∙ ap (λ l. piece ++ drop (length piece) l) whole ∙ ap (λ l. piece ++ l) (drop-drop (length piece) at bytes) in
     rw (past, mid', append-nil (piece ++ drop (at + length piece) bytes)) (sym (append_assoc (take at bytes) piece (drop (at + length piece) bytes)))
+
+-- a write to a part of the bytes
+pub put_part : (at n : ℕ) (piece bytes part : List ℕ) → part ≡ piece → length piece ≡ n →
+    take at bytes ++ (part ++ drop (at + n - at) (drop at bytes)) ≡ with_piece at piece bytes
+unfolding with_piece
+put_part at n piece bytes part e size =
+    let count : at + n - at ≡ length piece = omega (arith, size) in
+    rw (count, e, drop-drop (length piece) at bytes) (sym (append_assoc (take at bytes) piece (drop (at + length piece) bytes)))
+
+-- pieces of w bytes each
+pub pieces_size : {A : Type 0} (f : A → List ℕ) (w : ℕ) → ((x : A) → length (f x) ≡ w) → (xs : List A) → length (flat_map f xs) ≡ w * length xs
+pieces_size f w wide [] = omega arith
+pieces_size f w wide (x ∷ xs) = omega (arith, ap length (flat_map-cons f x xs), length-append (f x) (flat_map f xs), wide x, pieces_size f w wide xs)
 
 -- one piece after another
 pub with_pieces : (at : ℕ) (a b bytes : List ℕ) → at + length a ≤ length bytes →

@@ -111,9 +111,7 @@ fn get_row(bytes: &[u8], at: usize, row: &mut [u32; 64])
     ensures bytes { row_bytes row.new ≡ take 256 (drop at bytes.now) }
     ensures row { IsRow row.new }
 {
-    for x in 0..64 {
-        row[x] = get_entry(bytes, at + 4 * x);
-    }
+    LittleEndian::read_u32_into(&bytes[at..at + 256], row);
 }
 
 /// Reads the entries of a start state.

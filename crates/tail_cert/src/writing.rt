@@ -68,9 +68,7 @@ fn put_row(row: &[u32; 64], at: usize, out: &mut [u8])
     ensures bytes { out.new ≡ with_piece at (row_bytes row.now) out.old }
     ensures count { length (row_bytes row.now) ≡ 256 }
 {
-    for x in 0..64 {
-        put_entry(row[x], at + 4 * x, out);
-    }
+    LittleEndian::write_u32_into(row, &mut out[at..at + 256]);
 }
 
 /// Writes the entries of a start state.

@@ -1,17 +1,13 @@
-use Rattle.std.proofs.Common.{arith}
-use Rattle.tail_cert.specs.Form.{row_bytes}
-use Rattle.tail_cert.proofs.Elements.{read_none, read_more, read_all}
+use Rattle.std.proofs.Common.{◌≡◌, ◌∙◌, ◌+◌, ◌-◌, take, drop, ap, arith}
+use Rattle.std.proofs.lemmas.List.{length-take-le, length-drop}
+use Rattle.tail_cert.specs.Form.{entry_bytes, row_bytes}
+use Rattle.tail_cert.proofs.Numbers.{entries_read, part_bytes}
 use Rattle.tail_cert.proofs.reading.get_row.Goals as goal
 
-pub loop-x-init : goal.loop-x-init
-loop-x-init c = read_none _ _ _ _ _ _ _ c.told-row
-
-pub loop-x-preserved : goal.loop-x-preserved
-loop-x-preserved c = read_more _ _ _ _ _ _ _ _ _ c.loop-x.invariant (omega arith) c.get_entry.ensures (omega (arith, c.get_entry.type_inv))
-
 pub returns-clause-bytes : goal.returns-clause-bytes
-unfolding row_bytes
-returns-clause-bytes c = (read_all _ _ _ _ _ _ _ _ c.loop-x.invariant (omega arith) (omega arith)).0
-
-pub returns-clause-row : goal.returns-clause-row
-returns-clause-row c = (read_all _ _ _ _ _ _ _ _ c.loop-x.invariant (omega arith) (omega arith)).1
+unfolding row_bytes entry_bytes
+returns-clause-bytes c =
+    let count : c.args.at + 256 - c.args.at ≡ 256 = omega arith in
+    let size = length-take-le 256 (drop c.args.at c.args.bytes.now) (omega (arith, length-drop c.args.at c.args.bytes.now)) in
+    entries_read _ c.read_u32_into.new.dst (omega (arith, size, count, c.read_u32_into.auto.dst)) (part_bytes c.args.bytes.now c.args.at _ c.type_inv.bytes) c.read_u32_into.ensures
+    ∙ ap (λ n. take n (drop c.args.at c.args.bytes.now)) count
