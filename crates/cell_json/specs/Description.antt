@@ -101,7 +101,7 @@ conditions json =
     condition (has_form json) Form
     ∷ condition (is_between 0 1023 (number_at (codes "sfn") json)) Sfn
     ∷ condition (is_between 0 19199 (number_at (codes "offset") json)) Offset
-    ∷ condition (is_between 57600 1920000 (number_at (codes "samples") json)) Samples
+    ∷ condition (is_between least_count most_count (number_at (codes "samples") json)) Samples
     ∷ condition (is_gain (gain_at json)) Gain
     ∷ condition (is_between 0 503 (number_at (codes "identity") json)) Identity
     ∷ condition (is_between 0 1023 (number_at (codes "spare") json)) Spare

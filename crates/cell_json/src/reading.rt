@@ -55,7 +55,8 @@ fn within(number: &i64, least: u32, most: u32) -> Option<u32>
 // A gain, where the square of its size is 1 to 784.
 fn gain_within(gain: &Cpx) -> Option<(i16, i16)>
     ensures { MatchOption result (IsFalse (is_gain (gain.now.re, gain.now.im)))
-        (λ pair. IsTrue (is_gain (gain.now.re, gain.now.im)) × (pair ≡ (gain.now.re, gain.now.im)) × IsGain (gain_of pair)) }
+        (λ pair. IsTrue (is_gain (gain.now.re, gain.now.im)) ×
+            (pair ≡ (gain.now.re, gain.now.im)) × IsGain (gain_of pair)) }
 {
     let square = gain.norm();
     if 1 <= square && square <= 784 {

@@ -17,9 +17,16 @@ pub record IsGain (gain : Cpx) : Type 0 where
 abbrev pub IsOffset : ℕ → Type 0
 IsOffset offset = offset < frame_length
 
+-- 30 ms and one second
+abbrev pub least_count : ℕ
+least_count = 57600
+
+abbrev pub most_count : ℕ
+most_count = 1920000
+
 pub record IsCount (samples : ℕ) : Type 0 where
-  pub least : 57600 ≤ samples
-  pub most : samples ≤ 1920000
+  pub least : least_count ≤ samples
+  pub most : samples ≤ most_count
 
 -- each component of each sample is off from these values by at most eps
 abbrev pub AreNear : List Sample → (ℕ → Cpx) → ℕ → Type 0

@@ -1,4 +1,4 @@
--- The soft values of a clean slot: a component of a place turned back outweighs the energy of the pilots.
+-- The soft values of a clean slot: a component of an equalised place outweighs the energy of the pilots.
 use Rattle.std.proofs.Common.{◌≡◌, ℕ, zero, suc, ◌+◌, ◌*◌, ◌/◌, ◌<◌, ◌≤◌, min, arith, refl, ap, ap₂, sym, ◌∙◌, subst, Bool, true, false, nat_eq, inl, inr, List, ℤ, pos, negsuc, neg_ℤ, ◌-ℤ◌, ◌*ℤ◌, ◌≤ℤ◌, int_div}
 use Rattle.std.specs.Prelude.{if◌then◌else◌, nat_abs}
 use Rattle.std.proofs.lemmas.Int.{ints}
@@ -20,7 +20,7 @@ use Rattle.sizes.proofs.Products.{product_near, sign-turns, one-times}
 use Rattle.crs.specs.Qpsk.{component, point}
 use Rattle.crs.specs.Reference.{is_reference}
 use Rattle.observe.specs.Seen.{seen, seen_symbol}
-use Rattle.soft_bits.specs.Soft.{SeenSlot, seen_at, pilot_symbol, pilot_subcarrier, pilot_seen, pilot_sent, pilot_energy, channel, turned_back, soft_value, soft_values}
+use Rattle.soft_bits.specs.Soft.{SeenSlot, seen_at, pilot_symbol, pilot_subcarrier, pilot_seen, pilot_sent, pilot_energy, channel, equalised, soft_value, soft_values}
 use Rattle.budget.specs.Received.{IsSeenAs}
 use Rattle.cs_bits.specs.Signs.{Supports}
 use Rattle.clean_air.specs.Values.{ArePilotsSeen, IsSlotReceived, ValuesSupportBits, ReceivedValuesSupportBits}
@@ -150,7 +150,7 @@ values_support_bits gain slot symbol k first second seen here =
     }
   where
     t : Cpx
-    t = turned_back slot symbol k
+    t = equalised slot symbol k
 
     q : ℕ
     q = pilot_energy slot
@@ -164,7 +164,7 @@ values_support_bits gain slot symbol k first second seen here =
     estimate : IsNear (square gain) gain 3110400 737280 (channel slot k)
     estimate = channel-near gain slot k seen
 
-    near : IsWithin ((8192 * 737280 + 1920 * (3110400 + 737280)) * square gain) (minus (turned_back slot symbol k) (multiple (3110400 * square gain) (multiple 64 (point first second))))
+    near : IsWithin ((8192 * 737280 + 1920 * (3110400 + 737280)) * square gain) (minus (equalised slot symbol k) (multiple (3110400 * square gain) (multiple 64 (point first second))))
     near = subst (λ (z : Cpx). IsWithin ((8192 * 737280 + 1920 * (3110400 + 737280)) * square gain) (minus z (multiple (3110400 * square gain) (multiple 64 a))))
         (ap₂ (λ (x y : Cpx). times x (conjugate y)) (sym (seen_is gain a (seen_at slot symbol k))) (sym estimate.is))
         (product_near gain (multiple 64 a) (deviation gain a (seen_at slot symbol k)) estimate.off 3110400 8192 1920 737280 (point-small first second)

@@ -78,7 +78,8 @@ fn sib1_line(alloc: Global, sib1: &Sib1) -> Result<String, AllocError>
 
 fn access_of_cell(alloc: Global, sib1: &Sib1) -> Result<String, AllocError>
     ensures { IfOk result (λ part. string_bytes part ≡ access_of sib1.now.tac sib1.now.cell
-        (either_of sib1.now.barred (codes "barred") (codes "open")) (either_of sib1.now.intra (codes "allowed") (codes "forbidden"))) }
+        (either_of sib1.now.barred (codes "barred") (codes "open"))
+        (either_of sib1.now.intra (codes "allowed") (codes "forbidden"))) }
 {
     let barred = either(sib1.barred, "barred", "open");
     let intra = either(sib1.intra, "allowed", "forbidden");

@@ -1,6 +1,6 @@
 -- The soft values of a list of places, and descrambled values.
 use Rattle.std.proofs.Common.{◌≡◌, ℕ, ◌+◌, ◌*◌, ◌/◌, ◌%◌, ◌<◌, ◌≤◌, Bool, true, false, List, [], ◌∷◌, length, get_or, ℤ, pos, negsuc, nat_abs, inl, inr, refl, subst, sym, arith}
-use Rattle.std.specs.Prelude.{All, neg_ℤ, int_div, ◌*ℤ◌}
+use Rattle.std.specs.Prelude.{All, int_div, ◌*ℤ◌}
 use Rattle.std.proofs.lemmas.Int.{ints}
 use Rattle.std.proofs.lemmas.Bool.Decides.{eqb_tells}
 use Rattle.std.proofs.lemmas.List.Elements.{All-cons, All-nil, All-get_or, All-from_get_or}
@@ -10,7 +10,7 @@ use Rattle.cs_num.specs.Rounding.{clamped}
 use Rattle.gold.specs.Gold.{gold_bit}
 use Rattle.grid_map.specs.declared.Place.{Place}
 use Rattle.grid_map.specs.Place.{place}
-use Rattle.soft_bits.specs.Soft.{SeenSlot, soft_value, soft_values, turned_back, pilot_energy}
+use Rattle.soft_bits.specs.Soft.{SeenSlot, soft_value, soft_values, equalised, pilot_energy}
 use Rattle.soft_bits.specs.Places.{values_at, soft_values_of, soft_value_at, descrambled_value, descrambled}
 
 -- ---- the values of places
@@ -48,10 +48,10 @@ pub soft_values-small : (slot : SeenSlot) (symbol k : ℕ) → All (λ z. nat_ab
 unfolding soft_values
 soft_values-small slot symbol k =
     let P : ℤ → Type 0 = λ z. nat_abs z ≤ 127 in
-    let re = soft_value (turned_back slot symbol k).re (pilot_energy slot) in
-    let im = soft_value (turned_back slot symbol k).im (pilot_energy slot) in
-    All-cons P re (im ∷ []) (soft_value-small (turned_back slot symbol k).re (pilot_energy slot))
-    (All-cons P im [] (soft_value-small (turned_back slot symbol k).im (pilot_energy slot)) (All-nil P))
+    let re = soft_value (equalised slot symbol k).re (pilot_energy slot) in
+    let im = soft_value (equalised slot symbol k).im (pilot_energy slot) in
+    All-cons P re (im ∷ []) (soft_value-small (equalised slot symbol k).re (pilot_energy slot))
+    (All-cons P im [] (soft_value-small (equalised slot symbol k).im (pilot_energy slot)) (All-nil P))
 
 soft_value_at-small : (slot : SeenSlot) (places : List Place) (i : ℕ) → nat_abs (soft_value_at slot places i) ≤ 127
 soft_value_at-small slot places i =

@@ -57,12 +57,12 @@ abbrev pub soft_value : ℤ → ℕ → ℤ
 soft_value component energy =
     if nat_eq energy 0 then pos 0 else clamped (int_div (pos 6 *ℤ component) (pos energy)) 127
 
--- a place turned back by the channel there
-abbrev pub turned_back : SeenSlot → ℕ → ℕ → Cpx
-turned_back slot symbol k = times (seen_at slot symbol k) (conjugate (channel slot k))
+-- a place equalised: times the conjugate of the channel there
+abbrev pub equalised : SeenSlot → ℕ → ℕ → Cpx
+equalised slot symbol k = times (seen_at slot symbol k) (conjugate (channel slot k))
 
 -- the soft values of a place: of the bit in the real part, then of that in the imaginary part
 unfoldable pub soft_values : SeenSlot → ℕ → ℕ → List ℤ
 soft_values slot symbol k =
-    soft_value (turned_back slot symbol k).re (pilot_energy slot)
-    ∷ soft_value (turned_back slot symbol k).im (pilot_energy slot) ∷ []
+    soft_value (equalised slot symbol k).re (pilot_energy slot)
+    ∷ soft_value (equalised slot symbol k).im (pilot_energy slot) ∷ []

@@ -4,6 +4,7 @@
 mod line;
 mod pilots;
 mod places;
+mod seen;
 mod slot;
 #[cfg(test)]
 mod tests;

@@ -1,12 +1,14 @@
 //! The pilots of a slot: what was seen at its reference places, against what was sent.
 
-ghost use Rattle.std.specs.Prelude.{◌≡◌, ◌⊎◌, ℕ, ◌+◌, ◌*◌, ◌%◌, ◌/◌, ◌^◌, ◌<◌, ◌≤◌, IsTrue};
+ghost use Rattle.std.specs.Prelude.{◌≡◌, ◌⊎◌, ℕ, ◌%◌, ◌/◌, ◌^◌, ◌<◌, ◌≤◌, IsTrue};
 ghost use Rattle.finite.specs.Lists.{values_below};
 ghost use Rattle.cs_num.specs.Complex.{IsWithin, square};
 ghost use Rattle.crs.specs.Reference.{is_reference, reference_list};
-ghost use Rattle.soft_bits.specs.Soft.{SeenSlot, AreSmall, seen_at, pilot_subcarrier, pilot_symbol};
+ghost use Rattle.soft_bits.specs.Soft.{pilot_subcarrier, pilot_symbol};
 ghost use Rattle.soft_bits.specs.Soft.{pilot_seen, pilot_sent, pilot, pilot_energy};
+ghost use Rattle.soft_bits.specs.Kept.{slot_of};
 
+use crate::seen::Seen;
 use cs_num::Cpx;
 use lte_types::CellId;
 
@@ -44,25 +46,24 @@ fn symbol_of(id: CellId, i: u8) -> u8
 }
 
 // What was seen at pilot i.
-fn seen_of(seen: &[[Cpx; 72]; 7], number: u8, id: CellId, i: u8) -> Cpx
-    requires small { AreSmall seen.now }
-    requires i { i < 24 }
-    ensures value { result ≡ pilot_seen (record { symbols = seen.now; number = number; identity = id }) i }
+fn seen_of(seen: &Seen, i: u8) -> Cpx
+    requires { i < 24 }
+    ensures value { result ≡ pilot_seen (slot_of seen.now) i }
     ensures small { IsWithin (2 ^ 25) result }
 {
-    seen[symbol_of(id, i) as usize][subcarrier_of(id, i) as usize]
+    seen.symbols[symbol_of(seen.id, i) as usize][subcarrier_of(seen.id, i) as usize]
 }
 
 // What was sent there, by the values of symbols 0 and 4.
-fn sent_of(number: u8, id: CellId, first: &[(u8, Cpx); 12], second: &[(u8, Cpx); 12], i: u8) -> Cpx
-    requires first { first.now ≡ reference_list id number 0 }
-    requires second { second.now ≡ reference_list id number 4 }
+fn sent_of(seen: &Seen, first: &[(u8, Cpx); 12], second: &[(u8, Cpx); 12], i: u8) -> Cpx
+    requires first { first.now ≡ reference_list seen.now.id seen.now.number 0 }
+    requires second { second.now ≡ reference_list seen.now.id seen.now.number 4 }
     requires i { i < 24 }
-    ensures value { result ≡ pilot_sent id number i }
+    ensures value { result ≡ pilot_sent seen.now.id seen.now.number i }
     ensures small { IsWithin 90 result }
 {
-    let m = subcarrier_of(id, i) as usize / 6;
-    if symbol_of(id, i) == 0 {
+    let m = subcarrier_of(seen.id, i) as usize / 6;
+    if symbol_of(seen.id, i) == 0 {
         first[m].1
     } else {
         second[m].1
@@ -70,57 +71,45 @@ fn sent_of(number: u8, id: CellId, first: &[(u8, Cpx); 12], second: &[(u8, Cpx);
 }
 
 // Pilot i.
-fn pilot_of(
-    seen: &[[Cpx; 72]; 7],
-    number: u8,
-    id: CellId,
-    first: &[(u8, Cpx); 12],
-    second: &[(u8, Cpx); 12],
-    i: u8,
-) -> Cpx
-    requires small { AreSmall seen.now }
-    requires first { first.now ≡ reference_list id number 0 }
-    requires second { second.now ≡ reference_list id number 4 }
+fn pilot_of(seen: &Seen, first: &[(u8, Cpx); 12], second: &[(u8, Cpx); 12], i: u8) -> Cpx
+    requires first { first.now ≡ reference_list seen.now.id seen.now.number 0 }
+    requires second { second.now ≡ reference_list seen.now.id seen.now.number 4 }
     requires i { i < 24 }
-    ensures { result ≡ pilot (record { symbols = seen.now; number = number; identity = id }) i }
+    ensures { result ≡ pilot (slot_of seen.now) i }
 {
-    let sent = sent_of(number, id, first, second, i);
-    seen_of(seen, number, id, i).mul(sent.conj())
+    let sent = sent_of(seen, first, second, i);
+    seen_of(seen, i).mul(sent.conj())
 }
 
 // All of them.
-pub(crate) fn pilots_of(seen: &[[Cpx; 72]; 7], number: u8, id: CellId) -> [Cpx; 24]
-    requires number { number < 20 }
-    requires small { AreSmall seen.now }
-    ensures { result ≡ values_below 24 (pilot (record { symbols = seen.now; number = number; identity = id })) }
+pub(crate) fn pilots_of(seen: &Seen) -> [Cpx; 24]
+    ensures { result ≡ values_below 24 (pilot (slot_of seen.now)) }
 {
-    let first = crs::pilots(id, number, 0);
-    let second = crs::pilots(id, number, 4);
+    let first = crs::pilots(seen.id, seen.number, 0);
+    let second = crs::pilots(seen.id, seen.number, 4);
     let mut pilots = [Cpx::ZERO; 24];
     for i in 0..24_u8 {
-        pilots[i as usize] = pilot_of(seen, number, id, &first, &second, i);
+        pilots[i as usize] = pilot_of(seen, &first, &second, i);
     }
     pilots
 }
 
 // Their energy.
-pub(crate) fn energy_of(seen: &[[Cpx; 72]; 7], number: u8, id: CellId) -> u64
-    requires small { AreSmall seen.now }
-    ensures { result ≡ pilot_energy (record { symbols = seen.now; number = number; identity = id }) }
+pub(crate) fn energy_of(seen: &Seen) -> u64
+    ensures { result ≡ pilot_energy (slot_of seen.now) }
 {
     let mut sum: u64 = 0;
     for i in 0..24_u8 {
-        sum += energy_part(seen, number, id, i);
+        sum += energy_part(seen, i);
     }
     sum
 }
 
 // What pilot i gives to it.
-fn energy_part(seen: &[[Cpx; 72]; 7], number: u8, id: CellId, i: u8) -> u64
-    requires small { AreSmall seen.now }
-    requires i { i < 24 }
-    ensures value { result ≡ square (pilot_seen (record { symbols = seen.now; number = number; identity = id }) i) }
+fn energy_part(seen: &Seen, i: u8) -> u64
+    requires { i < 24 }
+    ensures value { result ≡ square (pilot_seen (slot_of seen.now) i) }
     ensures small { result ≤ 2 ^ 51 }
 {
-    seen_of(seen, number, id, i).norm() as u64
+    seen_of(seen, i).norm() as u64
 }

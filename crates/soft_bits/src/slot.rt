@@ -8,6 +8,7 @@ ghost use Rattle.soft_bits.specs.Kept.{IsKept};
 
 use crate::line::estimate;
 use crate::pilots::{energy_of, pilots_of};
+use crate::seen::Seen;
 use cs_num::Cpx;
 use lte_types::CellId;
 use std::marker::Model;
@@ -81,8 +82,13 @@ impl Slot {
         requires small { AreSmall seen }
         ensures { result ≡ record { symbols = seen; number = number; identity = id } }
     {
-        let pilots = pilots_of(&seen, number, id);
-        let energy = energy_of(&seen, number, id);
+        let slot = Seen {
+            symbols: &seen,
+            number,
+            id,
+        };
+        let pilots = pilots_of(&slot);
+        let energy = energy_of(&slot);
         Slot {
             symbols: symbols_of(seen),
             number,

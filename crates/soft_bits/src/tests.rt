@@ -127,7 +127,7 @@ fn a_silent_slot_speaks_for_no_bit(rt: HostRuntime) {
 }
 
 #[test]
-fn a_turned_channel_is_turned_back(rt: HostRuntime) {
+fn a_turned_channel_is_equalised(rt: HostRuntime) {
     let slot = slot_of(
         &rt,
         1,

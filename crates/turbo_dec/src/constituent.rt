@@ -10,21 +10,30 @@ use crate::work::Work;
 /// More than the cost of every path.
 const FAR: u32 = 0x1000_0000;
 
+/// What a decoder reads of a word: of each bit its value, that of its parity bit, and its prior.
+#[derive(Clone, Copy)]
+struct Received<'a> {
+    systematic: &'a [i32],
+    parity: &'a [i32],
+    prior: &'a [i32],
+    ghost places: { length systematic.now ≤ 1024 },
+    ghost parities: { length parity.now ≡ length systematic.now },
+    ghost priors: { length prior.now ≡ length systematic.now },
+    ghost small_systematic: { All IsSmall systematic.now },
+    ghost small_parity: { All IsSmall parity.now },
+    ghost small_prior: { All IsSmall prior.now },
+}
+
 /// What the step at place k reads.
-fn soft_at(systematic: &[i32], parity: &[i32], prior: &[i32], k: usize) -> Soft
-    requires place { k < length systematic.now }
-    requires parities { length parity.now ≡ length systematic.now }
-    requires priors { length prior.now ≡ length systematic.now }
-    requires small_systematic { All IsSmall systematic.now }
-    requires small_parity { All IsSmall parity.now }
-    requires small_prior { All IsSmall prior.now }
-    ensures sum { result.sum ≡ at systematic.now k +ℤ at prior.now k }
-    ensures parity { result.parity ≡ at parity.now k }
+fn soft_at(received: &Received, k: usize) -> Soft
+    requires place { k < length received.now.systematic.now }
+    ensures sum { result.sum ≡ at received.now.systematic.now k +ℤ at received.now.prior.now k }
+    ensures parity { result.parity ≡ at received.now.parity.now k }
 {
-    let sum = systematic[k] + prior[k];
+    let sum = received.systematic[k] + received.prior[k];
     Soft {
         sum,
-        parity: parity[k],
+        parity: received.parity[k],
     }
 }
 
@@ -37,20 +46,15 @@ fn start_row() -> [u32; 8]
 }
 
 /// Writes the rows of least costs to each state, before the first step and after each.
-fn forward(systematic: &[i32], parity: &[i32], prior: &[i32], rows: &mut [[u32; 8]])
-    requires places { length systematic.now ≤ 1024 }
-    requires parities { length parity.now ≡ length systematic.now }
-    requires priors { length prior.now ≡ length systematic.now }
-    requires room { length systematic.now < length rows.old }
-    requires small_systematic { All IsSmall systematic.now }
-    requires small_parity { All IsSmall parity.now }
-    requires small_prior { All IsSmall prior.now }
-    ensures { HasRows (values_of systematic.now parity.now [] prior.now) rows.new (length systematic.now) }
+fn forward(received: &Received, rows: &mut [[u32; 8]])
+    requires room { length received.now.systematic.now < length rows.old }
+    ensures { HasRows (values_of received.now.systematic.now received.now.parity.now [] received.now.prior.now)
+        rows.new (length received.now.systematic.now) }
 {
     let mut row = start_row();
     rows[0] = row;
-    for k in 0..systematic.len() {
-        row = forward_row(&soft_at(systematic, parity, prior, k), &row);
+    for k in 0..received.systematic.len() {
+        row = forward_row(&soft_at(received, k), &row);
         rows[k + 1] = row;
     }
 }
@@ -66,29 +70,18 @@ fn extrinsic_of(zeros: u32, ones: u32, soft: &Soft) -> i32
 }
 
 /// Writes the extrinsic values, from the rows of the forward pass.
-fn backward(
-    systematic: &[i32],
-    parity: &[i32],
-    tail: &[i32; 6],
-    prior: &[i32],
-    rows: &[[u32; 8]],
-    out: &mut [i32],
-)
-    requires places { length systematic.now ≤ 1024 }
-    requires parities { length parity.now ≡ length systematic.now }
-    requires priors { length prior.now ≡ length systematic.now }
-    requires outs { length out.old ≡ length systematic.now }
-    requires small_systematic { All IsSmall systematic.now }
-    requires small_parity { All IsSmall parity.now }
+fn backward(received: &Received, tail: &[i32; 6], rows: &[[u32; 8]], out: &mut [i32])
+    requires outs { length out.old ≡ length received.now.systematic.now }
     requires small_tail { All IsSmall tail.now }
-    requires small_prior { All IsSmall prior.now }
-    requires room { length systematic.now < length rows.now }
-    requires rows { HasRows (values_of systematic.now parity.now [] prior.now) rows.now (length systematic.now) }
-    ensures { out.new ≡ extrinsics (values_of systematic.now parity.now tail.now prior.now) }
+    requires room { length received.now.systematic.now < length rows.now }
+    requires rows { HasRows (values_of received.now.systematic.now received.now.parity.now [] received.now.prior.now)
+        rows.now (length received.now.systematic.now) }
+    ensures { out.new ≡ extrinsics (values_of received.now.systematic.now
+        received.now.parity.now tail.now received.now.prior.now) }
 {
     let mut row = tail_row(tail);
-    for k in (0..systematic.len()).rev() {
-        let soft = soft_at(systematic, parity, prior, k);
+    for k in (0..received.systematic.len()).rev() {
+        let soft = soft_at(received, k);
         let zeros = least_through(&soft, &rows[k], &row, false);
         let ones = least_through(&soft, &rows[k], &row, true);
         out[k] = extrinsic_of(zeros, ones, &soft);
@@ -120,6 +113,11 @@ pub fn half(
     requires small_prior { All IsSmall prior.now }
     ensures { out.new ≡ extrinsics (values_of systematic.now parity.now tail.now prior.now) }
 {
-    forward(systematic, parity, prior, &mut work.rows);
-    backward(systematic, parity, tail, prior, &work.rows, out);
+    let received = Received {
+        systematic,
+        parity,
+        prior,
+    };
+    forward(&received, &mut work.rows);
+    backward(&received, tail, &work.rows, out);
 }

@@ -17,14 +17,14 @@ found identity number symbol i k values e p fits s =
 
 pub returns-then-symbol_of-eq0-clause-value : goal.returns-then-symbol_of-eq0-clause-value
 returns-then-symbol_of-eq0-clause-value c =
-    found c.args.id c.args.number 0 c.args.i c.subcarrier_of.result c.args.first.now c.requires.first c.subcarrier_of.ensures.value c.subcarrier_of.ensures.fits (grind arith)
+    found c.args.seen.now.id c.args.seen.now.number 0 c.args.i c.subcarrier_of.result c.args.first.now c.requires.first c.subcarrier_of.ensures.value c.subcarrier_of.ensures.fits (grind arith)
 
 pub returns-then-symbol_of-eq0-clause-small : goal.returns-then-symbol_of-eq0-clause-small
-returns-then-symbol_of-eq0-clause-small c = rw (returns-then-symbol_of-eq0-clause-value c) (pilot_sent-within c.args.id c.args.number c.args.i)
+returns-then-symbol_of-eq0-clause-small c = rw (returns-then-symbol_of-eq0-clause-value c) (pilot_sent-within c.args.seen.now.id c.args.seen.now.number c.args.i)
 
 pub returns-else-symbol_of-eq0-clause-value : goal.returns-else-symbol_of-eq0-clause-value
 returns-else-symbol_of-eq0-clause-value c =
-    found c.args.id c.args.number 4 c.args.i c.subcarrier_of.result c.args.second.now c.requires.second c.subcarrier_of.ensures.value c.subcarrier_of.ensures.fits (grind arith)
+    found c.args.seen.now.id c.args.seen.now.number 4 c.args.i c.subcarrier_of.result c.args.second.now c.requires.second c.subcarrier_of.ensures.value c.subcarrier_of.ensures.fits (grind arith)
 
 pub returns-else-symbol_of-eq0-clause-small : goal.returns-else-symbol_of-eq0-clause-small
-returns-else-symbol_of-eq0-clause-small c = rw (returns-else-symbol_of-eq0-clause-value c) (pilot_sent-within c.args.id c.args.number c.args.i)
+returns-else-symbol_of-eq0-clause-small c = rw (returns-else-symbol_of-eq0-clause-value c) (pilot_sent-within c.args.seen.now.id c.args.seen.now.number c.args.i)

@@ -1,4 +1,4 @@
-use Rattle.std.proofs.Common.{◌≡◌, ◌≤◌, nat_abs, pos, sym, subst, ◌∙◌, arith}
+use Rattle.std.proofs.Common.{◌≤◌, nat_abs, pos, sym, subst, ◌∙◌, arith}
 use Rattle.std.specs.Prelude.{All}
 use Rattle.std.proofs.lemmas.List.{ext_get_or}
 use Rattle.soft_bits.specs.Places.{soft_values_of}

@@ -8,7 +8,7 @@ use Rattle.finite.specs.Sizes.{AllWithin}
 use Rattle.cs_num.specs.declared.Cpx.{Cpx}
 use Rattle.cs_num.specs.Complex.{IsWithin, times, conjugate, size}
 use Rattle.cs_num.proofs.Complex.{times-within, size-le, conjugate-within}
-use Rattle.soft_bits.specs.Soft.{turned_back, soft_value, soft_values}
+use Rattle.soft_bits.specs.Soft.{equalised, soft_value, soft_values}
 use Rattle.soft_bits.proofs.value.soft.Goals as goal
 
 -- a product of what was seen and the channel turned round
@@ -54,11 +54,11 @@ unfolding soft_values
 returns-clause-values c =
     let both = within c.seen.result c.channel.result c.conj.result c.conj.ensures c.seen.ensures.small c.channel.ensures.small in
     let s : IsWithin (1080 * 2 ^ 50) c.mul-value.result = rw c.mul-value.ensures both.1 in
-    let turned : c.mul-value.result ≡ turned_back c.args.slot.now c.args.symbol c.args.k =
+    let turned : c.mul-value.result ≡ equalised c.args.slot.now c.args.symbol c.args.k =
     c.mul-value.ensures ∙ ap₂ times c.seen.ensures.value (c.conj.ensures ∙ ap conjugate c.channel.ensures.value) in
-    let re : to_z w64 (of_z w64 c.mul-value.result.re) ≡ (turned_back c.args.slot.now c.args.symbol c.args.k).re =
+    let re : to_z w64 (of_z w64 c.mul-value.result.re) ≡ (equalised c.args.slot.now c.args.symbol c.args.k).re =
     back c.mul-value.result.re (record { re = s.re; im = s.re }) ∙ ap (λ (z : Cpx). z.re) turned in
-    let im : to_z w64 (of_z w64 c.mul-value.result.im) ≡ (turned_back c.args.slot.now c.args.symbol c.args.k).im =
+    let im : to_z w64 (of_z w64 c.mul-value.result.im) ≡ (equalised c.args.slot.now c.args.symbol c.args.k).im =
     back c.mul-value.result.im (record { re = s.im; im = s.im }) ∙ ap (λ (z : Cpx). z.im) turned in
     let a : FitsSigned w16 c.value_of.result = search rules in
     let b : FitsSigned w16 c.value_of-2.result = search rules in

@@ -11,22 +11,22 @@ extrinsic_of-requires-clause-zeros c =
     let h = c.least_through-zeros.ensures.bound in
     let before = (c.requires.rows.row (c.loop-k.k - 1) (omega (arith, c.loop-k.invariant.place))).room 0 (omega arith) in
     let after = c.loop-k.invariant.room 0 (omega arith) in
-    omega (arith, h, before, after, c.loop-k.invariant.place, c.requires.places)
+    omega (arith, h, before, after, c.loop-k.invariant.place, c.args.received.now.places)
 
 pub extrinsic_of-requires-clause-ones : goal.extrinsic_of-requires-clause-ones
 extrinsic_of-requires-clause-ones c =
     let h = c.least_through-ones.ensures.bound in
     let before = (c.requires.rows.row (c.loop-k.k - 1) (omega (arith, c.loop-k.invariant.place))).room 0 (omega arith) in
     let after = c.loop-k.invariant.room 4 (omega arith) in
-    omega (arith, h, before, after, c.loop-k.invariant.place, c.requires.places)
+    omega (arith, h, before, after, c.loop-k.invariant.place, c.args.received.now.places)
 
 pub loop-k-preserved : goal.loop-k-preserved
 loop-k-preserved c =
     let e : c.loop-k.k ≡ suc (c.loop-k.k - 1) = omega arith in
     let fits : SFits w32 c.extrinsic_of.result = search rules in
     rw (to_z-of_z w32 c.extrinsic_of.result fits)
-    (back_step _ _ _ _ _ (c.loop-k.k - 1) _ _ _ _ _ (all_small _ _ _ _ c.requires.small_systematic c.requires.small_parity c.requires.small_tail c.requires.small_prior)
-    c.requires.places (rw (← e) c.loop-k.invariant)
+    (back_step _ _ _ _ _ (c.loop-k.k - 1) _ _ _ _ _ (all_small _ _ _ _ c.args.received.now.small_systematic c.args.received.now.small_parity c.requires.small_tail c.args.received.now.small_prior)
+    c.args.received.now.places (rw (← e) c.loop-k.invariant)
     (forward_row_of _ _ c.args.tail.now _ _ _ (c.loop-k.k - 1) c.requires.rows (omega (arith, c.loop-k.invariant.place)))
     c.soft_at-soft.ensures.sum c.soft_at-soft.ensures.parity
     c.least_through-zeros.ensures.least c.least_through-ones.ensures.least c.extrinsic_of.ensures

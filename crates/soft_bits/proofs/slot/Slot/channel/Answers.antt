@@ -1,4 +1,4 @@
-use Rattle.std.proofs.Common.{◌≡◌, ◌∙◌, ◌*◌, ◌^◌, ◌%◌, ap, sym, subst}
+use Rattle.std.proofs.Common.{◌∙◌, ◌*◌, ◌^◌, ◌%◌, ap, sym, subst}
 use Rattle.std.specs.Prelude.{All}
 use Rattle.cs_num.specs.Complex.{IsWithin, nothing, value_at}
 use Rattle.finite.proofs.Lists.{values_below_at, values_below-All}
