@@ -26,12 +26,13 @@ PrimaryStandsOut = (recording : List Sample) (t n2 : ℕ) → IsPrimaryAt record
 
 -- in the span of one frame it is a hit
 abbrev pub PrimaryIsHit : Type 0
-PrimaryIsHit = (recording : List Sample) (t n2 : ℕ) → IsPrimaryAt recording t n2 → first_place ≤ t → t ≤ last_place → IsHit recording t n2
+PrimaryIsHit = (recording : List Sample) (t n2 : ℕ) → IsPrimaryAt recording t n2 → first_place ≤ t → t ≤ last_place →
+    IsHit recording t n2
 
 -- and it is listed
 abbrev pub PrimaryIsListed : Type 0
-PrimaryIsListed =
-    (recording : List Sample) (t n2 : ℕ) → IsPrimaryAt recording t n2 → first_place ≤ t → t ≤ last_place → Contains (hits_of recording) (found recording t n2)
+PrimaryIsListed = (recording : List Sample) (t n2 : ℕ) → IsPrimaryAt recording t n2 → first_place ≤ t → t ≤ last_place →
+    Contains (hits_of recording) (found recording t n2)
 
 -- and of all places within 9 and all roots it is the only hit, wherever it stands
 abbrev pub OnlyHitNear : Type 0

@@ -11,6 +11,7 @@ use Rattle.lte_types.specs.declared.resource.Resource.{Resource}
 use Rattle.lte_types.specs.declared.resource.Resource.TheVariants.{OneSixth}
 use Rattle.lte_types.specs.Codes.{duration_named, resource_named}
 use Rattle.cell_tx.specs.declared.error.CellError.TheVariants.{Form, Sfn, Offset, Samples, Gain, Identity, Spare}
+use Rattle.cell_tx.specs.Clean.{least_count, most_count}
 use Rattle.cell_tx.specs.Conditions.{Condition, condition}
 use Rattle.cell_tx.specs.Sent.{gain_of}
 

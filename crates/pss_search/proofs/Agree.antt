@@ -9,7 +9,8 @@ use Rattle.cs_num.proofs.Sums.{complex_sum_below_same}
 use Rattle.sample_file.specs.Recording.{AgreeBefore}
 use Rattle.sample_file.proofs.Agree.{sample_agrees}
 use Rattle.pss_search.specs.Correlation.{wave, peak, peak_term, energy, energy_term}
-use Rattle.pss_search.specs.Hits.{rules_out, is_ruled_out, is_hit, hit_at, hits_at, hits_before, hits_of}
+use Rattle.pss_search.specs.Tests.{rules_out, is_ruled_out, is_hit}
+use Rattle.pss_search.specs.Hits.{hit_at, hits_at, hits_before, hits_of}
 
 peak_agrees : (count t n2 : ℕ) (a b : List Sample) → AgreeBefore count a b → t + 128 ≤ count → peak a n2 t ≡ peak b n2 t
 unfolding peak

@@ -10,8 +10,8 @@ use Rattle.pss_search.specs.Tests.{is_hit}
 
 -- ---- the span
 
--- the places of one frame's worth: before each of them there is room for the useful part of the symbol before, which has the
--- secondary signal
+-- the places of one frame's worth: before the first of them there is just room for the useful part of the symbol
+-- before, which has the secondary signal
 abbrev pub first_place : ℕ
 first_place = 137
 
@@ -32,8 +32,8 @@ pub record IsLevel (recording : List Sample) (n2 first second : ℕ) : Type 0 wh
   pub second_sounds : 0 < energy recording second
   pub equal : peak recording n2 second * energy recording first ≡ peak recording n2 first * energy recording second
 
--- the place t is a hit of n2: it lies in the span of one frame and has energy, four times its peak is at least its energy
--- times the signal's power, no place at distance 1 to 9 is above it, and none before it there is level with it
+-- the place t is a hit of n2: it lies in the span of one frame and has energy, four times its peak is at least its
+-- energy times the signal's power, no place at distance 1 to 9 is above it, and none before it there is level with it
 pub record IsHit (recording : List Sample) (t n2 : ℕ) : Type 0 where
   pub from_first : first_place ≤ t
   pub to_last : t ≤ last_place

@@ -24,5 +24,5 @@ is_ruled_out recording n2 t = any_below 19 (λ d. rules_out recording n2 t (t - 
 
 -- the place has energy, the signal's share of it is great enough, and no place near rules it out
 unfoldable pub is_hit : List Sample → ℕ → ℕ → Bool
-is_hit recording t n2 = nat_lt 0 (energy recording t) && nat_le (energy recording t * wave_power n2) (4 * peak recording n2 t) &&
-    not (is_ruled_out recording n2 t)
+is_hit recording t n2 = nat_lt 0 (energy recording t) &&
+    nat_le (energy recording t * wave_power n2) (4 * peak recording n2 t) && not (is_ruled_out recording n2 t)
