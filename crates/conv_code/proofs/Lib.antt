@@ -1,5 +1,6 @@
 pub mod Encoding
 pub mod Orders
+pub mod Streams
 pub mod Places
 pub mod Sums
 pub mod Costs

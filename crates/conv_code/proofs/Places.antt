@@ -4,15 +4,15 @@ use Rattle.std.proofs.lemmas.Nat.{div-mul-add, mod-mul-add}
 use Rattle.std.proofs.lemmas.List.{length-map, get_or-map, get_or-append_right}
 use Rattle.std.proofs.Math.ListN.{get_or-append}
 use Rattle.std.proofs.Math.Nat.{div-lt_iff_lt-mul}
-use Rattle.conv_code.specs.Reading.{Place, stream_order, stream_reading, reading, place_of}
-use Rattle.conv_code.specs.Laws.{ReadsEachPlaceOnce, IsPermuting}
-use Rattle.conv_code.proofs.Orders.{spot, IsOrder, is_order}
-
-abbrev first_place : Place
-first_place = record { place = 0; stream = 0 }
+use Rattle.sub_block.specs.declared.Place.{Place}
+use Rattle.sub_block.specs.Places.{spot, ReadsEachOnce}
+use Rattle.conv_code.specs.Reading.{stream_order, reading, place_of}
+use Rattle.conv_code.specs.Laws.{IsPermuting}
+use Rattle.conv_code.proofs.Orders.{index_of, IsOrder, is_order}
+use Rattle.conv_code.proofs.Streams.{stream_reading, streams_in_order}
 
 abbrev place_in : ℕ → ℕ → ℕ → Place
-place_in n p t = record { place = get_or (stream_order n) p 0; stream = t }
+place_in n p t = spot t (get_or (stream_order n) p 0)
 
 length-stream_reading : (n t : ℕ) → IsOrder n → length (stream_reading n t) ≡ n
 length-stream_reading n t o = length-map (stream_order n) _ ∙ o.count
@@ -23,43 +23,45 @@ length-two n o =
     let b = length-stream_reading n 1 o in
     length-append (stream_reading n 0) (stream_reading n 1) ∙ rw (a, b) refl
 
-pub length-reading : (n : ℕ) → IsOrder n → length (reading n) ≡ 3 * n
-unfolding reading
+length-reading : (n : ℕ) → IsOrder n → length (reading n) ≡ 3 * n
 length-reading n o =
     let a = length-two n o in
     let b = length-stream_reading n 2 o in
-    length-append (stream_reading n 0 ++ stream_reading n 1) (stream_reading n 2) ∙ rw (a, b) (omega arith)
+    ap length (streams_in_order n) ∙ length-append (stream_reading n 0 ++ stream_reading n 1) (stream_reading n 2) ∙ rw (a, b) (omega arith)
 
-in_stream : (n t p : ℕ) → IsOrder n → p < n → get_or (stream_reading n t) p first_place ≡ place_in n p t
-in_stream n t p o below = get_or-map (λ k. record { place = k; stream = t }) (stream_order n) p 0 first_place (let e = o.count in omega (arith, e))
+in_stream : (n t p : ℕ) → IsOrder n → p < n → get_or (stream_reading n t) p (spot 0 0) ≡ place_in n p t
+in_stream n t p o below = get_or-map (spot t) (stream_order n) p 0 (spot 0 0) (let e = o.count in omega (arith, e))
 
-pub reading_at : (n t p : ℕ) → IsOrder n → p < n → t < 3 → get_or (reading n) (t * n + p) first_place ≡ place_in n p t
-unfolding reading
-reading_at n zero p o below h =
+streams_at : (n t p : ℕ) → IsOrder n → p < n → t < 3 →
+    get_or (stream_reading n 0 ++ stream_reading n 1 ++ stream_reading n 2) (t * n + p) (spot 0 0) ≡ place_in n p t
+streams_at n zero p o below h =
     let e : 0 * n + p ≡ p = omega arith in
     let two = length-two n o in
     let one = length-stream_reading n 0 o in
-    rw e (get_or-append (stream_reading n 0 ++ stream_reading n 1) (stream_reading n 2) first_place p (omega (arith, two))
-    ∙ get_or-append (stream_reading n 0) (stream_reading n 1) first_place p (omega (arith, one)) ∙ in_stream n 0 p o below)
-reading_at n (suc zero) p o below h =
+    rw e (get_or-append (stream_reading n 0 ++ stream_reading n 1) (stream_reading n 2) (spot 0 0) p (omega (arith, two))
+    ∙ get_or-append (stream_reading n 0) (stream_reading n 1) (spot 0 0) p (omega (arith, one)) ∙ in_stream n 0 p o below)
+streams_at n (suc zero) p o below h =
     let e : 1 * n + p ≡ n + p = omega arith in
     let e' : n + p - n ≡ p = omega arith in
     let two = length-two n o in
     let one = length-stream_reading n 0 o in
-    rw e (get_or-append (stream_reading n 0 ++ stream_reading n 1) (stream_reading n 2) first_place (n + p) (omega (arith, two))
-    ∙ get_or-append_right (stream_reading n 0) (stream_reading n 1) n (n + p) first_place one (omega arith) ∙ rw e' (in_stream n 1 p o below))
-reading_at n (suc (suc zero)) p o below h =
+    rw e (get_or-append (stream_reading n 0 ++ stream_reading n 1) (stream_reading n 2) (spot 0 0) (n + p) (omega (arith, two))
+    ∙ get_or-append_right (stream_reading n 0) (stream_reading n 1) n (n + p) (spot 0 0) one (omega arith) ∙ rw e' (in_stream n 1 p o below))
+streams_at n (suc (suc zero)) p o below h =
     let e' : 2 * n + p - (n + n) ≡ p = omega arith in
     let two = length-two n o in
-    get_or-append_right (stream_reading n 0 ++ stream_reading n 1) (stream_reading n 2) (n + n) (2 * n + p) first_place two (omega arith)
+    get_or-append_right (stream_reading n 0 ++ stream_reading n 1) (stream_reading n 2) (n + n) (2 * n + p) (spot 0 0) two (omega arith)
     ∙ rw e' (in_stream n 2 p o below)
-reading_at n (suc (suc (suc t))) p o below h = absurd (omega arith)
+streams_at n (suc (suc (suc t))) p o below h = absurd (omega arith)
+
+reading_at : (n t p : ℕ) → IsOrder n → p < n → t < 3 → get_or (reading n) (t * n + p) (spot 0 0) ≡ place_in n p t
+reading_at n t p o below h = ap (λ bits. get_or bits (t * n + p) (spot 0 0)) (streams_in_order n) ∙ streams_at n t p o below h
 
 three : (n q : ℕ) → 0 < n → q < 3 * n → q / n < 3
 three n q some h = (div-lt_iff_lt-mul some).1 h
 
 -- a bit of the reading, by its stream and its place there
-pub place_of-stream : (n i : ℕ) → 0 < n → n ≤ 64 → place_of n i ≡ place_in n (i % (3 * n) % n) (i % (3 * n) / n)
+place_of-stream : (n i : ℕ) → 0 < n → n ≤ 64 → place_of n i ≡ place_in n (i % (3 * n) % n) (i % (3 * n) / n)
 unfolding place_of
 place_of-stream n i some short =
     let o = is_order n (omega (arith, short)) in
@@ -67,24 +69,23 @@ place_of-stream n i some short =
     let below : q % n < n = omega arith in
     let e : q / n * n + q % n ≡ q = omega arith in
     let h : q < 3 * n = omega arith in
-    ap (λ j. get_or (reading n) j first_place) (sym e) ∙ reading_at n (q / n) (q % n) o below (three n q some h)
+    ap (λ j. get_or (reading n) j (spot 0 0)) (sym e) ∙ reading_at n (q / n) (q % n) o below (three n q some h)
 
 -- ---- each place once
 
 spread : (n t p : ℕ) → 0 < n → p < n → ((t * n + p) / n ≡ t) × ((t * n + p) % n ≡ p)
 spread n t p some below = (div-mul-add t n p below, mod-mul-add t n p below)
 
-each_once : (n : ℕ) → 6 ≤ n → n ≤ 64 → ReadsEachPlaceOnce n
+each_once : (n : ℕ) → 6 ≤ n → n ≤ 64 → ReadsEachOnce n (place_of n)
 each_once n long short =
     let o = is_order n (omega (arith, short)) in
     let some : 0 < n = omega arith in
     record {
-      count = length-reading n o;
       inside = λ i.
           let at = place_of-stream n i some short in
           let below : i % (3 * n) % n < n = omega arith in
           let t = three n (i % (3 * n)) some (omega arith) in
-          (rw at (o.inside (i % (3 * n) % n) below), rw at t);
+          (rw at t, rw at (o.inside (i % (3 * n) % n) below));
       once = λ i j hi hj same.
           let ei : i % (3 * n) ≡ i = mod-eq_of_lt hi in
           let ej : j % (3 * n) ≡ j = mod-eq_of_lt hj in
@@ -95,17 +96,17 @@ each_once n long short =
           let places : get_or (stream_order n) (i % n) 0 ≡ get_or (stream_order n) (j % n) 0 = ap (λ (p : Place). p.place) both in
           let below_i : i % n < n = omega arith in
           let below_j : j % n < n = omega arith in
-          let rest : i % n ≡ j % n = sym (o.once (i % n) below_i) ∙ ap (λ k. spot k (stream_order n)) places ∙ o.once (j % n) below_j in
+          let rest : i % n ≡ j % n = sym (o.once (i % n) below_i) ∙ ap (λ k. index_of k (stream_order n)) places ∙ o.once (j % n) below_j in
           sym (div-add-mod' i n) ∙ ap₂ (λ (t p : ℕ). t * n + p) streams rest ∙ div-add-mod' j n;
-      each = λ p below stream.
-          let q = spot p.place (stream_order n) in
-          let q_below = o.spot_inside p.place below in
-          let i = p.stream * n + q in
-          let parts = spread n p.stream q some q_below in
-          let top : p.stream * n + q < 3 * n = place_top n p.stream q stream q_below in
+      each = λ t p stream below.
+          let q = index_of p (stream_order n) in
+          let q_below = o.index_inside p below in
+          let i = t * n + q in
+          let parts = spread n t q some q_below in
+          let top : t * n + q < 3 * n = place_top n t q stream q_below in
           let e : i % (3 * n) ≡ i = mod-eq_of_lt top in
           let at = rw (e, parts.0, parts.1) at (place_of-stream n i some short) in
-          (i, top, at ∙ ap₂ (λ (k t : ℕ). record { place = k; stream = t }) (o.each p.place below) refl);
+          (i, top, at ∙ ap (spot t) (o.each p below));
     }
   where
     place_top : (n t q : ℕ) → t < 3 → q < n → t * n + q < 3 * n
@@ -115,11 +116,8 @@ each_once n long short =
     place_top n (suc (suc (suc t))) q h k = absurd (omega arith)
 
 pub permuting : IsPermuting
-permuting n long short = each_once n long short
+permuting n long short = record { count = length-reading n (is_order n (omega (arith, short))); reads = each_once n long short }
 
 -- the place that is found in the order
-pub place_is : (n i : ℕ) → 6 ≤ n → n ≤ 64 → (place_of n i).place ≡ get_or (stream_order n) (i % (3 * n) % n) 0
-place_is n i some short = ap (λ (p : Place). p.place) (place_of-stream n i (omega arith) short)
-
-pub stream_is : (n i : ℕ) → 6 ≤ n → n ≤ 64 → (place_of n i).stream ≡ i % (3 * n) / n
-stream_is n i some short = ap (λ (p : Place). p.stream) (place_of-stream n i (omega arith) short)
+pub place_is : (n i : ℕ) → 6 ≤ n → n ≤ 64 → place_of n i ≡ spot (i % (3 * n) / n) (get_or (stream_order n) (i % (3 * n) % n) 0)
+place_is n i some short = place_of-stream n i (omega arith) short

@@ -3,31 +3,9 @@
 ghost use Rattle.std.specs.Prelude.{◌≡◌, ℕ, ◌+◌, ◌*◌, ◌^◌, ◌<◌, ◌≤◌, length, nat_abs, slice_index_or};
 ghost use Rattle.finite.specs.Sizes.{AllWithin, RowsWithin};
 ghost use Rattle.finite.specs.Tables.{sum_at, sums_with};
-ghost use Rattle.conv_code.specs.Reading.{bit_at_place, cells, place_of, stream_order, summed};
+ghost use Rattle.conv_code.specs.Reading.{bit_at_place, place_of, stream_order, summed};
 
-/// A bit of a coded word: its place in the stream with this number.
-#[derive(Clone, Copy, Drop)]
-pub struct Place {
-    place: usize,
-    stream: usize,
-}
-
-/// The columns of the matrix, in the order in which they are read.
-const COLUMNS: [usize; 32] = [
-    1, 17, 9, 25, 5, 21, 13, 29, 3, 19, 11, 27, 7, 23, 15, 31, 0, 16, 8, 24, 4, 20, 12, 28, 2, 18,
-    10, 26, 6, 22, 14, 30,
-];
-
-/// The cell that is read after m others in a matrix of 1 to 3 rows.
-fn cell_at(rows: usize, m: usize) -> usize
-    requires some { 0 < rows }
-    requires few { rows ≤ 3 }
-    requires cells { m < 32 * rows }
-    ensures cell { result ≡ slice_index_or (cells rows) m 0 }
-    ensures inside { result < 32 * rows }
-{
-    32 * (m % rows) + COLUMNS[m / rows]
-}
+use sub_block::{Code, Place, cell_at};
 
 /// The place of the bit that is read after p others of a stream of n bits, n at most 66 (TS 36.212 section
 /// 5.1.4.2.1). `p` is below n, and so is the answer.
@@ -41,7 +19,7 @@ pub fn stream_place(n: usize, p: usize) -> usize
     let nulls = 32 * rows - n;
     let mut left = p;
     for m in 0..32 * rows {
-        let cell = cell_at(rows, m);
+        let cell = cell_at(Code::Convolutional, rows, m);
         if cell >= nulls {
             if left == 0 {
                 return cell - nulls;
@@ -56,15 +34,14 @@ pub fn stream_place(n: usize, p: usize) -> usize
 fn place_in(n: usize, i: usize) -> Place
     requires low { 6 ≤ n }
     requires high { n ≤ 64 }
-    ensures place { result.place ≡ (place_of n i).place }
-    ensures stream { result.stream ≡ (place_of n i).stream }
+    ensures place { result ≡ place_of n i }
     ensures inside { result.place < n }
     ensures below_three { result.stream < 3 }
 {
     let i = i % (3 * n);
     Place {
-        place: stream_place(n, i % n),
         stream: i / n,
+        place: stream_place(n, i % n),
     }
 }
 

@@ -1,4 +1,4 @@
--- The cells of a matrix in the order of the reading, and the circular buffer, cell by cell.
+-- The circular buffer, cell by cell.
 use Rattle.std.proofs.Common.{◌≡◌, ℕ, zero, suc, ◌+◌, ◌-◌, ◌*◌, ◌/◌, ◌%◌, ◌<◌, true, List, [], ◌∷◌, length, get_or, refl, ap, sym, ◌∙◌, arith, mod-lt, length-append}
 use Rattle.std.specs.Prelude.{nat_lt}
 use Rattle.std.proofs.lemmas.Bool.{ltb-true}
@@ -8,22 +8,12 @@ use Rattle.std.proofs.Math.Nat.{div-lt_iff_lt-mul}
 use Rattle.finite.specs.Tests.{every_below}
 use Rattle.finite.proofs.Tests.{every_below_at}
 use Rattle.finite.proofs.Lists.{values_below-length, values_below_at}
-use Rattle.turbo_code.specs.Reading.{Place, spot, columns, cell, v0, v1, v2, in_turn, buffer}
-
-columns_small : every_below 32 (λ c. nat_lt (get_or columns c 0) 32) ≡ true
-unfolding every_below columns
-columns_small = refl
-
-pub column_below : (c : ℕ) → c < 32 → get_or columns c 0 < 32
-column_below c h = ltb-true _ _ (every_below_at 32 (λ c. nat_lt (get_or columns c 0) 32) columns_small c h)
-
-pub cell_below : (r m : ℕ) → m < 32 * r → cell r m < 32 * r
-cell_below r m h =
-    let some : 0 < r = omega (arith, h) in
-    inside (m % r) (get_or columns (m / r) 0) r (mod-lt m some) (column_below (m / r) ((div-lt_iff_lt-mul some).1 h))
-  where
-    inside : (a column r : ℕ) → a < r → column < 32 → 32 * a + column < 32 * r
-    inside a column r h k = omega (arith, h, k)
+use Rattle.sub_block.specs.declared.Code.TheVariants.{Turbo}
+use Rattle.sub_block.specs.declared.Place.{Place}
+use Rattle.sub_block.specs.Matrix.{columns, cell, turbo_columns}
+use Rattle.sub_block.specs.Places.{spot}
+use Rattle.sub_block.proofs.Cells.{length-cells_read, cells_read-at}
+use Rattle.turbo_code.specs.Reading.{v0, v1, v2, in_turn, buffer}
 
 -- ---- two lists in turn
 
@@ -53,13 +43,7 @@ in_turn-odd (x ∷ xs) (y ∷ ys) (suc m) d e =
 -- ---- the buffer
 
 abbrev third : ℕ → ℕ → ℕ
-third r m = (cell r m + 1) % (32 * r)
-
-length-v0 : (r : ℕ) → length (v0 r) ≡ 32 * r
-length-v0 r = values_below-length (32 * r) (λ m. spot 0 (cell r m))
-
-length-v1 : (r : ℕ) → length (v1 r) ≡ 32 * r
-length-v1 r = values_below-length (32 * r) (λ m. spot 1 (cell r m))
+third r m = (cell Turbo r m + 1) % (32 * r)
 
 length-v2 : (r : ℕ) → length (v2 r) ≡ 32 * r
 length-v2 r = values_below-length (32 * r) (λ m. spot 2 (third r m))
@@ -69,33 +53,33 @@ unfolding buffer
 length-buffer r =
     let e = length-append (v0 r) (in_turn (v1 r) (v2 r)) in
     let f = length-in_turn (v1 r) (v2 r) in
-    let a = length-v0 r in
-    let b = length-v1 r in
+    let a = length-cells_read Turbo r 0 in
+    let b = length-cells_read Turbo r 1 in
     let c = length-v2 r in
     omega (arith, e, f, a, b, c)
 
-pub buffer_first : (r j : ℕ) → j < 32 * r → get_or (buffer r) j (spot 0 0) ≡ spot 0 (cell r j)
+pub buffer_first : (r j : ℕ) → j < 32 * r → get_or (buffer r) j (spot 0 0) ≡ spot 0 (cell Turbo r j)
 unfolding buffer
 buffer_first r j h =
-    let a = length-v0 r in
-    get_or-append (v0 r) (in_turn (v1 r) (v2 r)) (spot 0 0) j (omega (arith, a, h)) ∙ values_below_at (λ m. spot 0 (cell r m)) (32 * r) j (spot 0 0) h
+    let a = length-cells_read Turbo r 0 in
+    get_or-append (v0 r) (in_turn (v1 r) (v2 r)) (spot 0 0) j (omega (arith, a, h)) ∙ cells_read-at Turbo r 0 j h
 
-pub buffer_second : (r j m : ℕ) → j ≡ 32 * r + 2 * m → m < 32 * r → get_or (buffer r) j (spot 0 0) ≡ spot 1 (cell r m)
+pub buffer_second : (r j m : ℕ) → j ≡ 32 * r + 2 * m → m < 32 * r → get_or (buffer r) j (spot 0 0) ≡ spot 1 (cell Turbo r m)
 unfolding buffer
 buffer_second r j m e h =
-    let a = length-v0 r in
-    let same = length-v1 r ∙ sym (length-v2 r) in
+    let a = length-cells_read Turbo r 0 in
+    let same = length-cells_read Turbo r 1 ∙ sym (length-v2 r) in
     let left : j - 32 * r ≡ 2 * m = omega (arith, e) in
     get_or-append_right (v0 r) (in_turn (v1 r) (v2 r)) (32 * r) j (spot 0 0) a (omega (arith, e))
     ∙ ap (λ i. get_or (in_turn (v1 r) (v2 r)) i (spot 0 0)) left
     ∙ in_turn-even (v1 r) (v2 r) m (spot 0 0) same
-    ∙ values_below_at (λ m. spot 1 (cell r m)) (32 * r) m (spot 0 0) h
+    ∙ cells_read-at Turbo r 1 m h
 
-pub buffer_third : (r j m : ℕ) → j ≡ 32 * r + suc (2 * m) → m < 32 * r → get_or (buffer r) j (spot 0 0) ≡ spot 2 ((cell r m + 1) % (32 * r))
+pub buffer_third : (r j m : ℕ) → j ≡ 32 * r + suc (2 * m) → m < 32 * r → get_or (buffer r) j (spot 0 0) ≡ spot 2 ((cell Turbo r m + 1) % (32 * r))
 unfolding buffer
 buffer_third r j m e h =
-    let a = length-v0 r in
-    let same = length-v1 r ∙ sym (length-v2 r) in
+    let a = length-cells_read Turbo r 0 in
+    let same = length-cells_read Turbo r 1 ∙ sym (length-v2 r) in
     let left : j - 32 * r ≡ suc (2 * m) = omega (arith, e) in
     get_or-append_right (v0 r) (in_turn (v1 r) (v2 r)) (32 * r) j (spot 0 0) a (omega (arith, e))
     ∙ ap (λ i. get_or (in_turn (v1 r) (v2 r)) i (spot 0 0)) left

@@ -7,8 +7,13 @@ use Rattle.std.proofs.lemmas.List.Elements.{All-append, All-cons, All-drop, All-
 use Rattle.std.proofs.lemmas.List.Sums.{sum_by-cons}
 use Rattle.finite.proofs.Lists.{values_below-All}
 use Rattle.turbo_code.specs.Table.{IsSize}
-use Rattle.turbo_code.specs.Reading.{Place, spot, cell, v0, v1, v2, in_turn, buffer, bits_in, turned, nulls, matrix_rows, start, reading, place_of, is_at}
-use Rattle.turbo_code.proofs.Cells.{cell_below}
+use Rattle.sub_block.specs.declared.Code.TheVariants.{Turbo}
+use Rattle.sub_block.specs.declared.Place.{Place}
+use Rattle.sub_block.specs.Matrix.{cell, nulls, matrix_rows}
+use Rattle.sub_block.specs.Places.{spot, bits_in, is_at}
+use Rattle.turbo_code.specs.Reading.{v0, v1, v2, in_turn, buffer, turned, start, reading, place_of}
+use Rattle.sub_block.proofs.Cells.{cell_below}
+use Rattle.sub_block.proofs.Sums.{at_itself}
 use Rattle.turbo_code.proofs.Round.{reading_count}
 
 -- one of the first m places of a stream
@@ -27,10 +32,10 @@ buffer_inside : (r : ℕ) → 0 < r → All (IsBelow (32 * r)) (buffer r)
 unfolding buffer
 buffer_inside r some =
     All-append (IsBelow (32 * r)) (v0 r) (in_turn (v1 r) (v2 r))
-    (values_below-All (IsBelow (32 * r)) (32 * r) (λ m. spot 0 (cell r m)) (spot 0 0) (λ m below. (omega arith, cell_below r m below)))
+    (values_below-All (IsBelow (32 * r)) (32 * r) (λ m. spot 0 (cell Turbo r m)) (spot 0 0) (λ m below. (omega arith, cell_below Turbo r m below)))
     (All-in_turn (IsBelow (32 * r)) (v1 r) (v2 r)
-    (values_below-All (IsBelow (32 * r)) (32 * r) (λ m. spot 1 (cell r m)) (spot 0 0) (λ m below. (omega arith, cell_below r m below)))
-    (values_below-All (IsBelow (32 * r)) (32 * r) (λ m. spot 2 ((cell r m + 1) % (32 * r))) (spot 0 0) (λ m below. (omega arith, mod-lt (cell r m + 1) (omega (arith, some))))))
+    (values_below-All (IsBelow (32 * r)) (32 * r) (λ m. spot 1 (cell Turbo r m)) (spot 0 0) (λ m below. (omega arith, cell_below Turbo r m below)))
+    (values_below-All (IsBelow (32 * r)) (32 * r) (λ m. spot 2 ((cell Turbo r m + 1) % (32 * r))) (spot 0 0) (λ m below. (omega arith, mod-lt (cell Turbo r m + 1) (omega (arith, some))))))
 
 bits_inside : (n m : ℕ) (cells : List Place) → 0 < m → All (IsBelow (n + m)) cells → All (IsBelow m) (bits_in n cells)
 unfolding bits_in
@@ -42,11 +47,11 @@ bits_inside n m cells some each =
 reading_inside : (k rv : ℕ) → All (IsBelow (k + 4)) (reading k rv)
 unfolding reading
 reading_inside k rv =
-    let r = matrix_rows k in
-    let some : 0 < matrix_rows k = omega arith in
-    let whole : 32 * matrix_rows k ≡ nulls k + (k + 4) = omega arith in
+    let r = matrix_rows (k + 4) in
+    let some : 0 < matrix_rows (k + 4) = omega arith in
+    let whole : 32 * matrix_rows (k + 4) ≡ nulls (k + 4) + (k + 4) = omega arith in
     let cells = buffer_inside r some in
-    bits_inside (nulls k) (k + 4) (turned (start k rv) (buffer r)) (omega arith)
+    bits_inside (nulls (k + 4)) (k + 4) (turned (start k rv) (buffer r)) (omega arith)
     (subst (λ n. All (IsBelow n) (turned (start k rv) (buffer r))) whole
     (All-append (IsBelow (32 * r)) _ _ (All-drop (IsBelow (32 * r)) (start k rv) (buffer r) cells) (All-take (IsBelow (32 * r)) (start k rv) (buffer r) cells)))
 
@@ -80,9 +85,6 @@ counted_two test (x ∷ xs) d (suc i) (suc j) order inside is also =
     let rest = counted_two test xs d i j (omega (arith, order)) (omega (arith, inside)) is also in
     let total = sum_by-cons (λ x. cond (test x) 1 0) x xs in
     omega (arith, rest, total)
-
-at_itself : (here : Place) → is_at here.stream here.place here ≡ true
-at_itself here = ap₂ (λ (a b : Bool). a && b) (eq-eqb here.stream here.stream refl) (eq-eqb here.place here.place refl)
 
 apart : (xs : List Place) (d : Place) (i j : ℕ) → i < j → j < length xs → get_or xs i d ≡ get_or xs j d →
     count_by (is_at (get_or xs i d).stream (get_or xs i d).place) xs ≡ 1 → ⊥

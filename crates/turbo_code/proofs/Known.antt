@@ -2,7 +2,9 @@
 use Rattle.std.proofs.Common.{◌≡◌, true, false, [], ◌∷◌, map, refl}
 use Rattle.turbo_code.specs.Table.{row, interleaver}
 use Rattle.turbo_code.specs.Encoder.{before, parities, tail_x, tail_z}
-use Rattle.turbo_code.specs.Reading.{spot, columns, start, buffer, bits_in, reading, place_of}
+use Rattle.sub_block.specs.Matrix.{columns, turbo_columns}
+use Rattle.sub_block.specs.Places.{spot, bits_in}
+use Rattle.turbo_code.specs.Reading.{start, buffer, reading, place_of}
 
 -- the interleaver of K = 144
 places_of_144 : map (interleaver (row 144 17 108)) (0 ∷ 1 ∷ 2 ∷ 3 ∷ []) ≡ 0 ∷ 125 ∷ 34 ∷ 15 ∷ []
@@ -15,11 +17,11 @@ starts_of_144 = refl
 
 -- the first bits that are sent
 sent_of_144 : map (place_of 144 0) (0 ∷ 1 ∷ 2 ∷ 3 ∷ 4 ∷ []) ≡ spot 0 28 ∷ spot 0 60 ∷ spot 0 92 ∷ spot 0 124 ∷ spot 0 12 ∷ []
-unfolding place_of reading buffer bits_in columns
+unfolding place_of reading buffer bits_in columns turbo_columns
 sent_of_144 = refl
 
 sent_in_turn : map (place_of 144 2) (0 ∷ 1 ∷ 2 ∷ 444 ∷ []) ≡ spot 1 6 ∷ spot 2 7 ∷ spot 1 38 ∷ spot 1 6 ∷ []
-unfolding place_of reading buffer bits_in columns
+unfolding place_of reading buffer bits_in columns turbo_columns
 sent_in_turn = refl
 
 -- one encoder's parity bits and tail for a word of seven bits

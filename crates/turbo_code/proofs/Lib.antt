@@ -1,7 +1,7 @@
 pub mod TableFacts
 pub mod Permutes
 pub mod Cells
-pub mod Search
+pub mod Turned
 pub mod Encoding
 pub mod Registers
 pub mod Edges

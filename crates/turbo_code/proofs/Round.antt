@@ -2,10 +2,13 @@
 use Rattle.std.proofs.Common.{◌≡◌, ℕ, ◌+◌, ◌-◌, ◌*◌, ◌%◌, ◌<◌, ◌≤◌, List, length, get_or, ap, sym, subst, ◌∙◌, arith}
 use Rattle.std.proofs.Math.Nat.{mul-le-mul_left}
 use Rattle.turbo_code.specs.Table.{IsSize}
-use Rattle.turbo_code.specs.Reading.{Place, spot, matrix_rows, nulls, start, buffer, turned, bits_in, reading, place_of}
+use Rattle.sub_block.specs.declared.Place.{Place}
+use Rattle.sub_block.specs.Matrix.{matrix_rows, nulls}
+use Rattle.sub_block.specs.Places.{spot, bits_in}
+use Rattle.turbo_code.specs.Reading.{start, buffer, turned, reading, place_of}
 use Rattle.turbo_code.proofs.TableFacts.{is_small_size, bits_count}
 use Rattle.turbo_code.proofs.Cells.{length-buffer}
-use Rattle.turbo_code.proofs.Search.{length-turned, turned_at, length-bits_in-turned}
+use Rattle.turbo_code.proofs.Turned.{length-turned, turned_at, length-bits_in-turned}
 
 abbrev pub round_cells : ℕ → ℕ → List Place
 round_cells r rv = turned (r * (24 * rv + 2)) (buffer r)
@@ -27,15 +30,15 @@ start_inside r rv h =
 
 pub reading_count : (k rv : ℕ) → IsSize k → length (reading k rv) ≡ 3 * (k + 4)
 unfolding reading
-reading_count k rv size = length-bits_in-turned (nulls k) (start k rv) (buffer (matrix_rows k)) ∙ bits_count k size
+reading_count k rv size = length-bits_in-turned (nulls (k + 4)) (start k rv) (buffer (matrix_rows (k + 4))) ∙ bits_count k size
 
-round_of : (k rv : ℕ) → IsSize k → rv < 4 → IsRound k rv (matrix_rows k)
+round_of : (k rv : ℕ) → IsSize k → rv < 4 → IsRound k rv (matrix_rows (k + 4))
 unfolding reading place_of
 round_of k rv size h =
     let small = is_small_size k size in
     let low = small.low in
     let high = small.high in
-    let r = matrix_rows k in
+    let r = matrix_rows (k + 4) in
     let long = length-buffer r in
     let within : start k rv ≤ length (buffer r) = let s = start_inside r rv h in omega (arith, s, long) in
     record {
@@ -47,5 +50,5 @@ round_of k rv size h =
       place = λ i. let n = reading_count k rv size in ap (λ n. get_or (reading k rv) (i % n) (spot 0 0)) n;
     }
 
-pub round : (k rv r : ℕ) → IsSize k → rv < 4 → r ≡ matrix_rows k → IsRound k rv r
+pub round : (k rv r : ℕ) → IsSize k → rv < 4 → r ≡ matrix_rows (k + 4) → IsRound k rv r
 round k rv r size h e = subst (IsRound k rv) (sym e) (round_of k rv size h)

@@ -7,7 +7,9 @@ use Rattle.std.proofs.lemmas.List.{get_or_default}
 use Rattle.std.proofs.lemmas.List.Elements.{Contains-get_or}
 use Rattle.turbo_code.specs.declared.rows.Row.{Row}
 use Rattle.turbo_code.specs.Table.{rows, row, IsRow, IsSize}
-use Rattle.turbo_code.specs.Reading.{columns, matrix_rows, nulls, buffer, bits_in}
+use Rattle.sub_block.specs.Matrix.{columns, matrix_rows, nulls, turbo_columns}
+use Rattle.sub_block.specs.Places.{bits_in}
+use Rattle.turbo_code.specs.Reading.{buffer}
 
 -- what a list's items pass, its item k passes
 passes : (test : Row → Bool) (rs : List Row) → list_all test rs ≡ true → (k : ℕ) (r : Row) → k < length rs → get_or rs k r ≡ r → test r ≡ true
@@ -59,15 +61,15 @@ row_size r h = (r, h, refl)
 -- ---- the buffer without its nulls has 3(K + 4) bits
 
 count_test : Row → Bool
-count_test r = nat_eq (length (bits_in (nulls r.k) (buffer (matrix_rows r.k)))) (3 * (r.k + 4))
+count_test r = nat_eq (length (bits_in (nulls (r.k + 4)) (buffer (matrix_rows (r.k + 4))))) (3 * (r.k + 4))
 
 all_counted : list_all count_test rows ≡ true
-unfolding rows count_test bits_in buffer columns
+unfolding rows count_test bits_in buffer columns turbo_columns
 all_counted = refl
 
-pub bits_count : (k : ℕ) → IsSize k → length (bits_in (nulls k) (buffer (matrix_rows k))) ≡ 3 * (k + 4)
+pub bits_count : (k : ℕ) → IsSize k → length (bits_in (nulls (k + 4)) (buffer (matrix_rows (k + 4)))) ≡ 3 * (k + 4)
 unfolding count_test
-bits_count k (r, h, e) = subst (λ n. length (bits_in (nulls n) (buffer (matrix_rows n))) ≡ 3 * (n + 4)) e (eqb-true _ _ (row_passes count_test all_counted r h))
+bits_count k (r, h, e) = subst (λ n. length (bits_in (nulls (n + 4)) (buffer (matrix_rows (n + 4)))) ≡ 3 * (n + 4)) e (eqb-true _ _ (row_passes count_test all_counted r h))
 
 -- ---- the search for a row
 

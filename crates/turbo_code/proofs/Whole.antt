@@ -12,10 +12,15 @@ use Rattle.finite.specs.Tests.{every_below}
 use Rattle.finite.specs.Lists.{values_below}
 use Rattle.finite.proofs.Tests.{every_below_at}
 use Rattle.finite.proofs.Lists.{values_below_more}
-use Rattle.turbo_code.specs.Reading.{Place, spot, columns, cell, v0, v1, v2, in_turn, buffer, bits_in, turned, nulls, matrix_rows, start, reading, place_of, is_at}
+use Rattle.sub_block.specs.declared.Code.TheVariants.{Turbo}
+use Rattle.sub_block.specs.declared.Place.{Place}
+use Rattle.sub_block.specs.Matrix.{columns, cell, nulls, matrix_rows, turbo_columns}
+use Rattle.sub_block.specs.Places.{spot, bits_in, is_at}
+use Rattle.turbo_code.specs.Reading.{v0, v1, v2, in_turn, buffer, turned, start, reading, place_of}
 use Rattle.turbo_code.specs.Laws.{ReadingIsWhole}
+use Rattle.sub_block.proofs.Sums.{same_spot}
 use Rattle.turbo_code.proofs.TableFacts.{is_small_size}
-use Rattle.turbo_code.proofs.Search.{count-turned}
+use Rattle.turbo_code.proofs.Turned.{count-turned}
 use Rattle.turbo_code.proofs.Round.{reading_count}
 use Rattle.turbo_code.proofs.Inside.{place_inside, one_place}
 
@@ -33,7 +38,7 @@ same_test a b c d f g = elim (eqb_tells a b) [
   ]
 ]
 
-pub different : (a b : ℕ) → (a ≡ b → ⊥) → nat_eq a b ≡ false
+different : (a b : ℕ) → (a ≡ b → ⊥) → nat_eq a b ≡ false
 different a b apart = elim (eqb_tells a b) [
   | inl (x, e) ↦ absurd (apart e)
   | inr (x, ne) ↦ x
@@ -47,7 +52,7 @@ same_number a = elim (eqb_tells a a) [
 
 -- ---- nulls are skipped
 
-pub count-bits_in : (n t p : ℕ) (cells : List Place) → count_by (is_at t p) (bits_in n cells) ≡ count_by (is_at t (p + n)) cells
+count-bits_in : (n t p : ℕ) (cells : List Place) → count_by (is_at t p) (bits_in n cells) ≡ count_by (is_at t (p + n)) cells
 unfolding bits_in
 count-bits_in n t p [] = refl
 count-bits_in n t p (c ∷ cs) = settle (count-bits_in n t p cs) (nat_le n c.place) refl
@@ -74,7 +79,7 @@ count-bits_in n t p (c ∷ cs) = settle (count-bits_in n t p cs) (nat_le n c.pla
 
 -- ---- a cell in what is read of one stream
 
-pub count_more : (test : Place → Bool) (n : ℕ) (f : ℕ → Place) → count_by test (values_below (suc n) f) ≡ count_by test (values_below n f) + cond (test (f n)) 1 0
+count_more : (test : Place → Bool) (n : ℕ) (f : ℕ → Place) → count_by test (values_below (suc n) f) ≡ count_by test (values_below n f) + cond (test (f n)) 1 0
 count_more test n f =
     let e : suc n ≡ n + 1 = omega arith in
     let one : cond {A = ℕ} (test (f n)) 1 0 + 0 ≡ cond (test (f n)) 1 0 = omega arith in
@@ -119,10 +124,10 @@ count_this n t c f g inverse h =
 -- ---- the cells of a matrix, by computation: the columns are their own inverse
 
 cell_back : ℕ → ℕ → ℕ
-cell_back r c = get_or columns (c % 32) 0 * r + c / 32
+cell_back r c = get_or (columns Turbo) (c % 32) 0 * r + c / 32
 
 third : ℕ → ℕ → ℕ
-third r m = (cell r m + 1) % (32 * r)
+third r m = (cell Turbo r m + 1) % (32 * r)
 
 third_back : ℕ → ℕ → ℕ
 third_back r c = cell_back r ((c + (32 * r - 1)) % (32 * r))
@@ -130,12 +135,12 @@ third_back r c = cell_back r ((c + (32 * r - 1)) % (32 * r))
 inverse_test : ℕ → (ℕ → ℕ) → (ℕ → ℕ) → ℕ → Bool
 inverse_test n f g m = nat_eq (g (f m)) m && (nat_eq (f (g m)) m && nat_lt (g m) n)
 
-all_cells : every_below 34 (λ r. every_below (32 * r) (inverse_test (32 * r) (cell r) (cell_back r))) ≡ true
-unfolding every_below inverse_test cell_back columns
+all_cells : every_below 34 (λ r. every_below (32 * r) (inverse_test (32 * r) (cell Turbo r) (cell_back r))) ≡ true
+unfolding every_below inverse_test cell_back columns turbo_columns
 all_cells = refl
 
 all_thirds : every_below 34 (λ r. every_below (32 * r) (inverse_test (32 * r) (third r) (third_back r))) ≡ true
-unfolding every_below inverse_test third third_back cell_back columns
+unfolding every_below inverse_test third third_back cell_back columns turbo_columns
 all_thirds = refl
 
 inverse_by : (n : ℕ) (f g : ℕ → ℕ) → every_below n (inverse_test n f g) ≡ true → IsInverse n f g
@@ -149,15 +154,15 @@ inverse_by n f g h =
       inside = λ c l. ltb-true _ n (and_parts (nat_eq (f (g c)) c) (nat_lt (g c) n) (at c l).1).1;
     }
 
-cells_inverse : (r : ℕ) → r ≤ 33 → IsInverse (32 * r) (cell r) (cell_back r)
-cells_inverse r h = inverse_by (32 * r) (cell r) (cell_back r) (every_below_at 34 (λ r. every_below (32 * r) (inverse_test (32 * r) (cell r) (cell_back r))) all_cells r (omega (arith, h)))
+cells_inverse : (r : ℕ) → r ≤ 33 → IsInverse (32 * r) (cell Turbo r) (cell_back r)
+cells_inverse r h = inverse_by (32 * r) (cell Turbo r) (cell_back r) (every_below_at 34 (λ r. every_below (32 * r) (inverse_test (32 * r) (cell Turbo r) (cell_back r))) all_cells r (omega (arith, h)))
 
 thirds_inverse : (r : ℕ) → r ≤ 33 → IsInverse (32 * r) (third r) (third_back r)
 thirds_inverse r h = inverse_by (32 * r) (third r) (third_back r) (every_below_at 34 (λ r. every_below (32 * r) (inverse_test (32 * r) (third r) (third_back r))) all_thirds r (omega (arith, h)))
 
 -- ---- the buffer
 
-pub count-in_turn : (test : Place → Bool) (xs ys : List Place) → count_by test (in_turn xs ys) ≡ count_by test xs + count_by test ys
+count-in_turn : (test : Place → Bool) (xs ys : List Place) → count_by test (in_turn xs ys) ≡ count_by test xs + count_by test ys
 count-in_turn test [] ys = omega arith
 count-in_turn test (x ∷ xs) [] = omega arith
 count-in_turn test (x ∷ xs) (y ∷ ys) =
@@ -170,13 +175,13 @@ count-in_turn test (x ∷ xs) (y ∷ ys) =
     omega (arith, a, b, c, d, e)
 
 count-v0 : (r t c : ℕ) → r ≤ 33 → c < 32 * r → count_by (is_at t c) (v0 r) ≡ cond (nat_eq 0 t) 1 0
-count-v0 r zero c few h = count_this (32 * r) 0 c (cell r) (cell_back r) (cells_inverse r few) h
-count-v0 r (suc t) c few h = count_other (32 * r) 0 (suc t) c (cell r) (different 0 (suc t) (λ e. omega (arith, e))) ∙ rw (different 0 (suc t) (λ e. omega (arith, e))) refl
+count-v0 r zero c few h = count_this (32 * r) 0 c (cell Turbo r) (cell_back r) (cells_inverse r few) h
+count-v0 r (suc t) c few h = count_other (32 * r) 0 (suc t) c (cell Turbo r) (different 0 (suc t) (λ e. omega (arith, e))) ∙ rw (different 0 (suc t) (λ e. omega (arith, e))) refl
 
 count-v1 : (r t c : ℕ) → r ≤ 33 → c < 32 * r → count_by (is_at t c) (v1 r) ≡ cond (nat_eq 1 t) 1 0
 count-v1 r t c few h = elim (eqb_tells 1 t) [
-  | inl (x, e) ↦ subst (λ s. count_by (is_at s c) (v1 r) ≡ cond (nat_eq 1 s) 1 0) e (count_this (32 * r) 1 c (cell r) (cell_back r) (cells_inverse r few) h)
-  | inr (x, ne) ↦ rw x (count_other (32 * r) 1 t c (cell r) x)
+  | inl (x, e) ↦ subst (λ s. count_by (is_at s c) (v1 r) ≡ cond (nat_eq 1 s) 1 0) e (count_this (32 * r) 1 c (cell Turbo r) (cell_back r) (cells_inverse r few) h)
+  | inr (x, ne) ↦ rw x (count_other (32 * r) 1 t c (cell Turbo r) x)
 ]
 
 count-v2 : (r t c : ℕ) → r ≤ 33 → c < 32 * r → count_by (is_at t c) (v2 r) ≡ cond (nat_eq 2 t) 1 0
@@ -212,12 +217,6 @@ counted_some test (x ∷ xs) d h = elim (cases_Bool (test x)) [
       let (i, below, is) = counted_some test xs d rest in (suc i, omega (arith, below), is)
 ]
 
-same_spot : (here : Place) (t p : ℕ) → is_at t p here ≡ true → here ≡ spot t p
-same_spot here t p h =
-    let stream : here.stream ≡ t = grind (arith, nat_tests, h) in
-    let place : here.place ≡ p = grind (arith, nat_tests, h) in
-    ap (λ (n : ℕ). spot n here.place) stream ∙ ap (λ (n : ℕ). spot t n) place
-
 read_there : (k rv t p n : ℕ) → length (reading k rv) ≡ n → count_by (is_at t p) (reading k rv) ≡ 1 → (i : ℕ) × (i < n) × (place_of k rv i ≡ spot t p)
 unfolding place_of
 read_there k rv t p n count once =
@@ -228,16 +227,16 @@ read_there k rv t p n count once =
       ap (λ j. get_or (reading k rv) j (spot 0 0)) same ∙ same_spot (get_or (reading k rv) i (spot 0 0)) t p is,
     )
 
-pub counted_once : (k rv : ℕ) → IsSize k → rv < 4 → (t p : ℕ) → t < 3 → p < k + 4 → count_by (is_at t p) (reading k rv) ≡ 1
+counted_once : (k rv : ℕ) → IsSize k → rv < 4 → (t p : ℕ) → t < 3 → p < k + 4 → count_by (is_at t p) (reading k rv) ≡ 1
 unfolding reading
 counted_once k rv size version t p below inside =
     let small = is_small_size k size in
     let high = small.high in
-    let few : matrix_rows k ≤ 33 = omega (arith, high) in
-    let cell_inside : p + nulls k < 32 * matrix_rows k = omega (arith, inside) in
-    count-bits_in (nulls k) t p (turned (start k rv) (buffer (matrix_rows k)))
-    ∙ count-turned (is_at t (p + nulls k)) (start k rv) (buffer (matrix_rows k))
-    ∙ count-buffer (matrix_rows k) t (p + nulls k) few below cell_inside
+    let few : matrix_rows (k + 4) ≤ 33 = omega (arith, high) in
+    let cell_inside : p + nulls (k + 4) < 32 * matrix_rows (k + 4) = omega (arith, inside) in
+    count-bits_in (nulls (k + 4)) t p (turned (start k rv) (buffer (matrix_rows (k + 4))))
+    ∙ count-turned (is_at t (p + nulls (k + 4))) (start k rv) (buffer (matrix_rows (k + 4)))
+    ∙ count-buffer (matrix_rows (k + 4)) t (p + nulls (k + 4)) few below cell_inside
 
 read_once : (k rv i j : ℕ) → IsSize k → rv < 4 → i < 3 * (k + 4) → j < 3 * (k + 4) → place_of k rv i ≡ place_of k rv j → i ≡ j
 unfolding place_of
@@ -256,7 +255,9 @@ read_once k rv i j size version hi hj same =
 pub whole : ReadingIsWhole
 whole k rv size version = record {
   count = reading_count k rv size;
-  inside = λ i. place_inside k rv i size;
-  once = λ i j hi hj same. read_once k rv i j size version hi hj same;
-  each = λ t p below inside. read_there k rv t p (3 * (k + 4)) (reading_count k rv size) (counted_once k rv size version t p below inside);
+  reads = record {
+    inside = λ i. place_inside k rv i size;
+    once = λ i j hi hj same. read_once k rv i j size version hi hj same;
+    each = λ t p below inside. read_there k rv t p (3 * (k + 4)) (reading_count k rv size) (counted_once k rv size version t p below inside);
+  };
 }

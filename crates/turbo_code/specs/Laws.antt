@@ -2,7 +2,8 @@
 use Rattle.std.specs.Prelude.{◌≡◌, ℕ, ◌+◌, ◌*◌, ◌<◌, length}
 use Rattle.turbo_code.specs.declared.rows.Row.{Row}
 use Rattle.turbo_code.specs.Table.{IsRow, IsSize, interleaver}
-use Rattle.turbo_code.specs.Reading.{place_of, reading, spot}
+use Rattle.sub_block.specs.Places.{ReadsEachOnce}
+use Rattle.turbo_code.specs.Reading.{place_of, reading}
 
 -- f is one to one, from the numbers below n onto them
 pub record Permutes (n : ℕ) (f : ℕ → ℕ) : Type 0 where
@@ -14,12 +15,10 @@ pub record Permutes (n : ℕ) (f : ℕ → ℕ) : Type 0 where
 abbrev pub RowsPermute : Type 0
 RowsPermute = (row : Row) → IsRow row → Permutes row.k (interleaver row)
 
--- once round the buffer are 3(K + 4) bits, each at another place, and each of the K + 4 bits of each stream is read
+-- once round the buffer are 3(K + 4) bits, which are each bit of three streams of K + 4 once
 pub record ReadsEachBitOnce (k rv : ℕ) : Type 0 where
   pub count : length (reading k rv) ≡ 3 * (k + 4)
-  pub inside : (i : ℕ) → ((place_of k rv i).stream < 3) × ((place_of k rv i).place < k + 4)
-  pub once : (i j : ℕ) → i < 3 * (k + 4) → j < 3 * (k + 4) → place_of k rv i ≡ place_of k rv j → i ≡ j
-  pub each : (t p : ℕ) → t < 3 → p < k + 4 → (i : ℕ) × (i < 3 * (k + 4)) × (place_of k rv i ≡ spot t p)
+  pub reads : ReadsEachOnce (k + 4) (place_of k rv)
 
 -- for each K of the table and each redundancy version
 abbrev pub ReadingIsWhole : Type 0

@@ -4,9 +4,11 @@ ghost use Rattle.std.specs.Prelude.{◌≡◌, ℕ, ◌+◌, ◌*◌, ◌^◌, �
 ghost use Rattle.finite.specs.Sizes.{AllWithin, RowsWithin};
 ghost use Rattle.finite.specs.Tables.{sum_at, sums_with};
 ghost use Rattle.turbo_code.specs.Table.{IsRow, IsSize};
-ghost use Rattle.turbo_code.specs.Reading.{bit_of, buffer, cell, matrix_rows, place_of, spot, start, summed, turned};
+ghost use Rattle.sub_block.specs.Places.{spot};
+ghost use Rattle.turbo_code.specs.Reading.{bit_of, buffer, place_of, summed};
 
 use crate::{Coded, Row};
+use sub_block::{Code, Place, cell_at};
 
 /// For each of the three streams and each place the sum of the values that were received for it.
 #[derive(Clone, Copy, Drop)]
@@ -15,35 +17,11 @@ pub struct Combined {
     pub d: [[i32; 1028]; 3],
 }
 
-/// A bit of a coded word, or a cell of one of the three matrices.
-#[derive(Clone, Copy, Drop)]
-struct Place {
-    stream: usize,
-    place: usize,
-}
-
-/// The columns of the matrix, in the order in which they are read.
-const COLUMNS: [usize; 32] = [
-    0, 16, 8, 24, 4, 20, 12, 28, 2, 18, 10, 26, 6, 22, 14, 30, 1, 17, 9, 25, 5, 21, 13, 29, 3, 19,
-    11, 27, 7, 23, 15, 31,
-];
-
-/// The cell that is read after m others in a matrix.
-fn cell_at(rows: usize, m: usize) -> usize
-    requires rows { rows ≤ 33 }
-    requires inside { m < 32 * rows }
-    ensures cell { result ≡ cell rows m }
-    ensures inside { result < 32 * rows }
-{
-    32 * (m % rows) + COLUMNS[m / rows]
-}
-
 /// Cell j of the circular buffer.
 fn buffer_at(rows: usize, j: usize) -> Place
     requires rows { rows ≤ 33 }
     requires inside { j < 96 * rows }
-    ensures stream { result.stream ≡ (slice_index_or (buffer rows) j (spot 0 0)).stream }
-    ensures place { result.place ≡ (slice_index_or (buffer rows) j (spot 0 0)).place }
+    ensures cell { result ≡ slice_index_or (buffer rows) j (spot 0 0) }
     ensures below_three { result.stream < 3 }
     ensures inside { result.place < 32 * rows }
 {
@@ -51,10 +29,10 @@ fn buffer_at(rows: usize, j: usize) -> Place
     if j < size {
         return Place {
             stream: 0,
-            place: cell_at(rows, j),
+            place: cell_at(Code::Turbo, rows, j),
         };
     }
-    let cell = cell_at(rows, (j - size) / 2);
+    let cell = cell_at(Code::Turbo, rows, (j - size) / 2);
     if (j - size) % 2 == 0 {
         Place {
             stream: 1,
@@ -72,8 +50,7 @@ fn buffer_at(rows: usize, j: usize) -> Place
 fn place_in(k: u16, rv: u8, i: usize) -> Place
     requires size { IsSize k }
     requires version { rv < 4 }
-    ensures stream { result.stream ≡ (place_of k rv i).stream }
-    ensures place { result.place ≡ (place_of k rv i).place }
+    ensures place { result ≡ place_of k rv i }
     ensures below_three { result.stream < 3 }
     ensures inside { result.place < k + 4 }
 {

@@ -1,17 +1,21 @@
-use Rattle.std.proofs.Common.{arith, refl, sym, subst, ◌*◌, ◌≤◌}
+use Rattle.std.proofs.Common.{arith, refl, sym, subst, ap, ◌*◌, ◌^◌, ◌≤◌}
 use Rattle.finite.specs.Sizes.{RowsWithin}
+use Rattle.finite.proofs.Tables.{sums_none, sums_more}
+use Rattle.sub_block.specs.declared.Place.{Place}
+use Rattle.conv_code.specs.Reading.{place_of}
 use Rattle.conv_code.proofs.Sizes.{sizes_of_sums}
-use Rattle.conv_code.proofs.Sums.{sums_none, sums_more, sums_all}
+use Rattle.conv_code.proofs.Sums.{sums_all}
 use Rattle.conv_code.proofs.matching.combine.Goals as goal
 
 pub loop-i-init : goal.loop-i-init
-loop-i-init g c = sums_none g.row.N c.args.values.now
+loop-i-init g c = sums_none g.row.N 3 (2 ^ 15) _ _ c.args.values.now
 
 pub loop-i-preserved : goal.loop-i-preserved
 loop-i-preserved g c =
     let at = c.place_in.ensures in
     rw c.add_at.ensures.sum
-    (sums_more g.row.N c.args.values.now c.loop-i.i c.loop-i.sums _ _ _ at.place at.stream at.inside at.below_three refl c.add_at.ensures.size c.loop-i.invariant)
+    (sums_more g.row.N 3 (2 ^ 15) (λ i. (place_of g.row.N i).place) (λ i. (place_of g.row.N i).stream) c.args.values.now c.loop-i.i c.loop-i.sums _ _ _
+    (ap (λ (p : Place). p.place) at.place) (ap (λ (p : Place). p.stream) at.place) at.inside at.below_three refl c.add_at.ensures.size c.loop-i.invariant)
 
 pub returns-clause-sums : goal.returns-clause-sums
 returns-clause-sums g c = sums_all g.row.N c.args.values.now c.loop-i.i c.loop-i.sums (omega arith) c.loop-i.invariant

@@ -1,37 +1,50 @@
-use Rattle.std.proofs.Common.{◌≡◌, ◌<◌, suc, length, arith}
-use Rattle.conv_code.specs.Reading.{cells}
-use Rattle.conv_code.proofs.Orders.{AreCells, are_cells, left_first, left_null, left_bit, left_found, left_none}
+use Rattle.std.proofs.Common.{◌≡◌, ℕ, ◌-◌, ◌*◌, ◌<◌, ◌≤◌, List, suc, length, get_or, ap, sym, ◌∙◌, arith}
+use Rattle.sub_block.specs.declared.Code.TheVariants.{Convolutional}
+use Rattle.sub_block.specs.declared.Place.{Place}
+use Rattle.sub_block.specs.Places.{spot, cells_read}
+use Rattle.sub_block.proofs.Cells.{length-cells_read}
+use Rattle.sub_block.proofs.Search.{left_first, left_null, left_bit, left_found, left_none}
+use Rattle.conv_code.proofs.Streams.{cell_is, count_of_stream, order_at}
 use Rattle.conv_code.proofs.matching.stream_place.Goals as goal
 use Rattle.conv_code.proofs.matching.stream_place.Goals.{then-cell-nulls+else-left-eq0, else-cell-nulls}
 
 pub loop-m-init : goal.loop-m-init
-loop-m-init c = left_first c.args.n c.div_ceil-rows.result c.args.p (omega arith) c.requires.high c.requires.bits
+loop-m-init c =
+    let r = c.div_ceil-rows.result in
+    let count = count_of_stream c.args.n r (omega arith) c.requires.high in
+    left_first (32 * r - c.args.n) (cells_read Convolutional r 0) c.args.p (let below = c.requires.bits in omega (arith, count, below))
 
 pub returns-then-left-eq0-clause-place : goal.returns-then-left-eq0-clause-place
 returns-then-left-eq0-clause-place c =
     let r = c.div_ceil-rows.result in
-    let known : AreCells r = are_cells r (omega arith) (omega arith) in
-    let count = known.count in
-    let inside : c.loop-m.m < length (cells r) = omega (arith, count) in
-    left_found c.args.n r c.args.p c.loop-m.m c.cell_at-cell.result inside c.cell_at-cell.ensures.cell c.if-cell-nulls.true (rw c.if-left-eq0.true at c.loop-m.invariant)
+    let cells : List Place = cells_read Convolutional r 0 in
+    let count = length-cells_read Convolutional r 0 in
+    let is = cell_is r c.loop-m.m c.cell_at-cell.result c.loop-m-test.true c.cell_at-cell.ensures.cell in
+    let place : (get_or cells c.loop-m.m (spot 0 0)).place ≡ c.cell_at-cell.result = ap (λ (p : Place). p.place) is in
+    let bit : 32 * r - c.args.n ≤ (get_or cells c.loop-m.m (spot 0 0)).place = omega (arith, place, c.if-cell-nulls.true) in
+    let inside : c.loop-m.m < length cells = omega (arith, count, c.loop-m-test.true) in
+    let found = left_found (32 * r - c.args.n) cells c.args.p c.loop-m.m inside bit (rw c.if-left-eq0.true at c.loop-m.invariant) in
+    order_at c.args.n r c.args.p (c.cell_at-cell.result - (32 * r - c.args.n)) (omega arith) c.requires.high c.requires.bits
+    (found ∙ ap (λ (p : Place). spot p.stream (p.place - (32 * r - c.args.n))) is)
 
 pub loop-m-preserved : goal.loop-m-preserved
 loop-m-preserved c =
     let r = c.div_ceil-rows.result in
-    let known : AreCells r = are_cells r (omega arith) (omega arith) in
-    let count = known.count in
-    let inside : c.loop-m.m < length (cells r) = omega (arith, count) in
+    let cells : List Place = cells_read Convolutional r 0 in
+    let count = length-cells_read Convolutional r 0 in
+    let is = cell_is r c.loop-m.m c.cell_at-cell.result c.loop-m-test.true c.cell_at-cell.ensures.cell in
+    let place : (get_or cells c.loop-m.m (spot 0 0)).place ≡ c.cell_at-cell.result = ap (λ (p : Place). p.place) is in
+    let inside : c.loop-m.m < length cells = omega (arith, count, c.loop-m-test.true) in
     elim c.if-cell-nulls.branch [
       | then-cell-nulls+else-left-eq0 w ↦
           let e : c.loop-m.left ≡ suc c.if-cell-nulls.left = omega arith in
-          left_bit c.args.n r c.args.p c.loop-m.m c.if-cell-nulls.left c.cell_at-cell.result inside c.cell_at-cell.ensures.cell (omega arith) (rw e at c.loop-m.invariant)
+          left_bit (32 * r - c.args.n) cells c.args.p c.loop-m.m c.if-cell-nulls.left inside (let h = w.if-cell-nulls in omega (arith, place, h)) (rw e at c.loop-m.invariant)
       | else-cell-nulls w ↦
-          rw w.left-is (left_null c.args.n r c.args.p c.loop-m.m c.loop-m.left c.cell_at-cell.result inside c.cell_at-cell.ensures.cell (omega arith) c.loop-m.invariant)
+          rw w.left-is (left_null (32 * r - c.args.n) cells c.args.p c.loop-m.m c.loop-m.left inside (let h = w.if-cell-nulls in omega (arith, place, h)) c.loop-m.invariant)
     ]
 
 pub unreachable-requires : goal.unreachable-requires
 unreachable-requires c =
     let r = c.div_ceil-rows.result in
-    let known : AreCells r = are_cells r (omega arith) (omega arith) in
-    let count = known.count in
-    left_none c.args.n r c.args.p c.loop-m.m c.loop-m.left (omega (arith, count)) c.loop-m.invariant
+    let count = length-cells_read Convolutional r 0 in
+    left_none (32 * r - c.args.n) (cells_read Convolutional r 0) c.args.p c.loop-m.m c.loop-m.left (omega (arith, count, c.loop-m-test.false)) c.loop-m.invariant

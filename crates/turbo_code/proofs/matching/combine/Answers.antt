@@ -1,13 +1,16 @@
-use Rattle.std.specs.Prelude.{◌*◌}
-use Rattle.std.proofs.Common.{subst, sym, ◌<◌, arith, refl}
+use Rattle.std.specs.Prelude.{◌*◌, ◌^◌}
+use Rattle.std.proofs.Common.{subst, sym, ◌<◌, arith, refl, ap}
 use Rattle.finite.specs.Sizes.{RowsWithin}
+use Rattle.finite.proofs.Tables.{sums_none, sums_more}
+use Rattle.sub_block.specs.declared.Place.{Place}
+use Rattle.turbo_code.specs.Reading.{place_of}
 use Rattle.turbo_code.proofs.TableFacts.{is_small, row_size}
 use Rattle.turbo_code.proofs.Sizes.{sizes}
-use Rattle.turbo_code.proofs.Sums.{sums_none, sums_more, sums_all}
+use Rattle.turbo_code.proofs.Sums.{sums_all}
 use Rattle.turbo_code.proofs.matching.combine.Goals as goal
 
 pub loop-i-init : goal.loop-i-init
-loop-i-init c = sums_none c.args.row.k c.args.rv c.args.values.now
+loop-i-init c = sums_none 3 1028 (2 ^ 15) _ _ c.args.values.now
 
 pub place_in-requires-clause-size : goal.place_in-requires-clause-size
 place_in-requires-clause-size c = row_size c.args.row c.requires.row
@@ -33,7 +36,8 @@ loop-i-preserved c =
     let high = (is_small c.args.row c.requires.row).high in
     let inside = at.inside in
     rw c.add_at.ensures.sum
-    (sums_more c.args.row.k c.args.rv c.args.values.now c.loop-i.i c.loop-i.d _ _ _ at.stream at.place at.below_three (omega (arith, high, inside)) refl c.add_at.ensures.size c.loop-i.invariant)
+    (sums_more 3 1028 (2 ^ 15) (λ i. (place_of c.args.row.k c.args.rv i).stream) (λ i. (place_of c.args.row.k c.args.rv i).place) c.args.values.now c.loop-i.i c.loop-i.d _ _ _
+    (ap (λ (p : Place). p.stream) at.place) (ap (λ (p : Place). p.place) at.place) at.below_three (omega (arith, high, inside)) refl c.add_at.ensures.size c.loop-i.invariant)
 
 pub returns-clause-d : goal.returns-clause-d
 returns-clause-d c = sums_all c.args.row.k c.args.rv c.args.values.now c.loop-i.i c.loop-i.d (omega arith) c.loop-i.invariant

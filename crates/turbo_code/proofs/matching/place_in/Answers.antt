@@ -1,7 +1,8 @@
 use Rattle.std.proofs.Common.{◌≡◌, ℕ, ◌+◌, ◌-◌, ◌*◌, ◌%◌, ◌<◌, ◌≤◌, suc, arith, ap, sym, ◌∙◌, get_or, length, mod-lt}
-use Rattle.turbo_code.specs.Reading.{Place, spot, buffer}
+use Rattle.sub_block.specs.declared.Place.{Place}
+use Rattle.sub_block.specs.Places.{spot}
+use Rattle.sub_block.proofs.Search.{left_first, left_null, left_bit, left_found, left_none}
 use Rattle.turbo_code.proofs.Round.{IsRound, round, round_cells}
-use Rattle.turbo_code.proofs.Search.{left_first, left_null, left_bit, left_found, left_none}
 use Rattle.turbo_code.proofs.matching.place_in.Goals as goal
 use Rattle.turbo_code.proofs.matching.place_in.Goals.{then-cell-nulls+else-left-eq0, else-cell-nulls}
 
@@ -18,48 +19,31 @@ pub buffer_at-cell-requires-clause-rows : goal.buffer_at-cell-requires-clause-ro
 buffer_at-cell-requires-clause-rows c =
     (round c.args.k c.args.rv c.div_ceil-rows.result c.requires.size c.requires.version (omega arith)).few
 
--- the cell that was read
-cell_is : (k rv r m : ℕ) (stream place : ℕ) → IsRound k rv r → m < 96 * r →
-    stream ≡ (get_or (buffer r) ((r * (24 * rv + 2) + m) % (96 * r)) (spot 0 0)).stream →
-    place ≡ (get_or (buffer r) ((r * (24 * rv + 2) + m) % (96 * r)) (spot 0 0)).place →
-    (stream ≡ (get_or (round_cells r rv) m (spot 0 0)).stream) × (place ≡ (get_or (round_cells r rv) m (spot 0 0)).place)
-cell_is k rv r m stream place known inside s p =
-    let e = sym (known.cell m inside) in (s ∙ ap (λ (p : Place). p.stream) e, p ∙ ap (λ (p : Place). p.place) e)
-
-pub returns-then-left-eq0-clause-stream : goal.returns-then-left-eq0-clause-stream
-returns-then-left-eq0-clause-stream c =
-    let r = c.div_ceil-rows.result in
-    let known : IsRound c.args.k c.args.rv r = round c.args.k c.args.rv r c.requires.size c.requires.version (omega arith) in
-    let long = known.long in
-    let is = cell_is c.args.k c.args.rv r c.loop-m.m _ _ known c.loop-m-test.true c.buffer_at-cell.ensures.stream c.buffer_at-cell.ensures.place in
-    let bit : 32 * r - (c.args.k + 4) ≤ (get_or (round_cells r c.args.rv) c.loop-m.m (spot 0 0)).place = let p = is.1 in let h = c.if-cell-nulls.true in omega (arith, p, h) in
-    let found = left_found (32 * r - (c.args.k + 4)) (round_cells r c.args.rv) (c.args.i % (3 * (c.args.k + 4))) c.loop-m.m (omega (arith, long, c.loop-m-test.true)) bit (rw c.if-left-eq0.true at c.loop-m.invariant) in
-    is.0 ∙ ap (λ (p : Place). p.stream) (sym found) ∙ ap (λ (p : Place). p.stream) (sym (known.place c.args.i))
-
 pub returns-then-left-eq0-clause-place : goal.returns-then-left-eq0-clause-place
 returns-then-left-eq0-clause-place c =
     let r = c.div_ceil-rows.result in
     let known : IsRound c.args.k c.args.rv r = round c.args.k c.args.rv r c.requires.size c.requires.version (omega arith) in
     let long = known.long in
-    let is = cell_is c.args.k c.args.rv r c.loop-m.m _ _ known c.loop-m-test.true c.buffer_at-cell.ensures.stream c.buffer_at-cell.ensures.place in
-    let bit : 32 * r - (c.args.k + 4) ≤ (get_or (round_cells r c.args.rv) c.loop-m.m (spot 0 0)).place = let p = is.1 in let h = c.if-cell-nulls.true in omega (arith, p, h) in
+    let is = c.buffer_at-cell.ensures.cell ∙ sym (known.cell c.loop-m.m c.loop-m-test.true) in
+    let place : c.buffer_at-cell.result.place ≡ (get_or (round_cells r c.args.rv) c.loop-m.m (spot 0 0)).place = ap (λ (p : Place). p.place) is in
+    let bit : 32 * r - (c.args.k + 4) ≤ (get_or (round_cells r c.args.rv) c.loop-m.m (spot 0 0)).place = let h = c.if-cell-nulls.true in omega (arith, place, h) in
     let found = left_found (32 * r - (c.args.k + 4)) (round_cells r c.args.rv) (c.args.i % (3 * (c.args.k + 4))) c.loop-m.m (omega (arith, long, c.loop-m-test.true)) bit (rw c.if-left-eq0.true at c.loop-m.invariant) in
-    ap (λ n. n - (32 * r - (c.args.k + 4))) is.1 ∙ ap (λ (p : Place). p.place) (sym found) ∙ ap (λ (p : Place). p.place) (sym (known.place c.args.i))
+    ap (λ (p : Place). spot p.stream (p.place - (32 * r - (c.args.k + 4)))) is ∙ sym found ∙ sym (known.place c.args.i)
 
 pub loop-m-preserved : goal.loop-m-preserved
 loop-m-preserved c =
     let r = c.div_ceil-rows.result in
     let known : IsRound c.args.k c.args.rv r = round c.args.k c.args.rv r c.requires.size c.requires.version (omega arith) in
     let long = known.long in
-    let is = cell_is c.args.k c.args.rv r c.loop-m.m _ _ known c.loop-m-test.true c.buffer_at-cell.ensures.stream c.buffer_at-cell.ensures.place in
-    let p = is.1 in
+    let is = c.buffer_at-cell.ensures.cell ∙ sym (known.cell c.loop-m.m c.loop-m-test.true) in
+    let place : c.buffer_at-cell.result.place ≡ (get_or (round_cells r c.args.rv) c.loop-m.m (spot 0 0)).place = ap (λ (p : Place). p.place) is in
     let inside : c.loop-m.m < length (round_cells r c.args.rv) = omega (arith, long, c.loop-m-test.true) in
     elim c.if-cell-nulls.branch [
       | then-cell-nulls+else-left-eq0 w ↦
           let e : c.loop-m.left ≡ suc c.if-cell-nulls.left = omega arith in
-          left_bit (32 * r - (c.args.k + 4)) (round_cells r c.args.rv) (c.args.i % (3 * (c.args.k + 4))) c.loop-m.m c.if-cell-nulls.left inside (let h = w.if-cell-nulls in omega (arith, p, h)) (rw e at c.loop-m.invariant)
+          left_bit (32 * r - (c.args.k + 4)) (round_cells r c.args.rv) (c.args.i % (3 * (c.args.k + 4))) c.loop-m.m c.if-cell-nulls.left inside (let h = w.if-cell-nulls in omega (arith, place, h)) (rw e at c.loop-m.invariant)
       | else-cell-nulls w ↦
-          rw w.left-is (left_null (32 * r - (c.args.k + 4)) (round_cells r c.args.rv) (c.args.i % (3 * (c.args.k + 4))) c.loop-m.m c.loop-m.left inside (let h = w.if-cell-nulls in omega (arith, p, h)) c.loop-m.invariant)
+          rw w.left-is (left_null (32 * r - (c.args.k + 4)) (round_cells r c.args.rv) (c.args.i % (3 * (c.args.k + 4))) c.loop-m.m c.loop-m.left inside (let h = w.if-cell-nulls in omega (arith, place, h)) c.loop-m.invariant)
     ]
 
 pub unreachable-requires : goal.unreachable-requires

@@ -1,6 +1,6 @@
 use Rattle.std.proofs.Common.{◌*◌, ◌%◌}
+use Rattle.sub_block.proofs.Search.{IsLeft}
 use Rattle.turbo_code.proofs.Round.{round_cells}
-use Rattle.turbo_code.proofs.Search.{IsLeft}
 use Rattle.turbo_code.proofs.matching.place_in.Given as goal
 
 abbrev pub invariant-loop-m : goal.invariant-loop-m

@@ -1,0 +1,4 @@
+pub mod Cells
+pub mod Search
+pub mod Sums
+pub mod Rounds

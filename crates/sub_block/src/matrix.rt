@@ -1,0 +1,37 @@
+//! The matrix of the sub-block interleaver.
+
+ghost use Rattle.std.specs.Prelude.{◌≡◌, ◌*◌, ◌<◌, ◌≤◌, slice_index_or};
+ghost use Rattle.sub_block.specs.Matrix.{cell, columns};
+
+use crate::Code;
+
+/// The columns in the order in which the turbo code reads them (TS 36.212 table 5.1.4-1).
+const COLUMNS: [usize; 32] = [
+    0, 16, 8, 24, 4, 20, 12, 28, 2, 18, 10, 26, 6, 22, 14, 30, 1, 17, 9, 25, 5, 21, 13, 29, 3, 19,
+    11, 27, 7, 23, 15, 31,
+];
+
+/// The column that a code reads after c others.
+fn column_at(code: Code, c: usize) -> usize
+    requires { c < 32 }
+    ensures column { result ≡ slice_index_or (columns code) c 0 }
+    ensures inside { result < 32 }
+{
+    match code {
+        // The second half of the turbo code's columns comes first (table 5.1.4-2).
+        Code::Convolutional => COLUMNS[(c + 16) % 32],
+        Code::Turbo => COLUMNS[c],
+    }
+}
+
+/// The cell that is read after m others in a code's matrix, whose cells are counted row by row.
+/// There are at most 193 rows, which hold a stream of the largest code block, and `m` is below 32 `rows`, as is
+/// the answer.
+pub fn cell_at(code: Code, rows: usize, m: usize) -> usize
+    requires rows { rows ≤ 193 }
+    requires inside { m < 32 * rows }
+    ensures cell { result ≡ cell code rows m }
+    ensures inside { result < 32 * rows }
+{
+    32 * (m % rows) + column_at(code, m / rows)
+}
