@@ -10,10 +10,14 @@ use Rattle.finite.proofs.Sums.{total_zero, terms_zero}
 use Rattle.paths.specs.Words.{IsBefore}
 use Rattle.paths.proofs.Words.{number-before}
 use Rattle.conv_code.specs.Code.{coded_bits, coded_word}
-use Rattle.conv_code.specs.Reading.{Place, bit_at_place, place_of, is_at, summed_at, summed}
+use Rattle.sub_block.specs.declared.Place.{Place}
+use Rattle.sub_block.specs.Places.{spot, is_at, summed_at}
+use Rattle.sub_block.proofs.Sums.{at_itself, same_spot}
+use Rattle.conv_code.specs.Reading.{bit_at_place, place_of, summed}
 use Rattle.conv_code.specs.Cost.{place_cost, word_cost}
 use Rattle.conv_code.proofs.OneToOne.{one_to_one}
 use Rattle.conv_code.proofs.Places.{permuting}
+use Rattle.conv_code.proofs.Sums.{length-summed, summed-at}
 use Rattle.cs_bits.specs.Signs.{SpeaksFor}
 use Rattle.cs_bits.proofs.Signs.{supports-speaks, supports-less}
 use Rattle.tailbite.specs.Clean.{Speaks}
@@ -68,70 +72,56 @@ sum-supports bit (suc n) j f h l one = elim (cases_lt j n) [
 
 -- ---- the sums by place
 
-at_place : (word : List Bool) (k t : ℕ) → k < length word → bit_at_place (coded_word word) (record { place = k; stream = t }) ≡ get_or (coded_bits word k) t false
+at_place : (word : List Bool) (k t : ℕ) → k < length word → bit_at_place (coded_word word) (spot t k) ≡ get_or (coded_bits word k) t false
 unfolding coded_word
 at_place word k t l = ap (λ xs. get_or xs t false) (values_below_at (coded_bits word) (length word) k [] l)
 
 here_or_nothing : (word : List Bool) (p : Place) (k t : ℕ) (v : ℤ) → Supports 1 (bit_at_place (coded_word word) p) v →
-    Supports 0 (bit_at_place (coded_word word) (record { place = k; stream = t })) (cond (is_at p k t) v (pos 0))
-here_or_nothing word p k t v h = settle (is_at p k t) refl
+    Supports 0 (bit_at_place (coded_word word) (spot t k)) (cond (is_at t k p) v (pos 0))
+here_or_nothing word p k t v h = settle (is_at t k p) refl
   where
     bit : Bool
-    bit = bit_at_place (coded_word word) (record { place = k; stream = t })
+    bit = bit_at_place (coded_word word) (spot t k)
 
-    settle : (b : Bool) → is_at p k t ≡ b → Supports 0 (bit_at_place (coded_word word) (record { place = k; stream = t })) (cond b v (pos 0))
-    settle true e =
-        let both = and_parts (nat_eq p.place k) (nat_eq p.stream t) e in
-        let place = eqb-true p.place k both.0 in
-        let stream = eqb-true p.stream t both.1 in
-        supports-less 0 1 bit v (omega arith) (subst (λ b. Supports 1 b v) (ap₂ (λ (i j : ℕ). bit_at_place (coded_word word) (record { place = i; stream = j })) place stream) h)
+    settle : (b : Bool) → is_at t k p ≡ b → Supports 0 (bit_at_place (coded_word word) (spot t k)) (cond b v (pos 0))
+    settle true e = supports-less 0 1 bit v (omega arith) (subst (λ (q : Place). Supports 1 (bit_at_place (coded_word word) q) v) (same_spot p t k e) h)
     settle false e = allows_nothing bit
 
 sum_at_supports : (word : List Bool) (values : List ℤ) (k t : ℕ) → 6 ≤ length word → length word ≤ 64 → SpeakInOrder word values → k < length word → t < 3 →
-    Supports 1 (bit_at_place (coded_word word) (record { place = k; stream = t })) (summed_at (length word) values (length values) k t)
+    Supports 1 (bit_at_place (coded_word word) (spot t k)) (summed_at (place_of (length word)) values (length values) t k)
 unfolding summed_at
 sum_at_supports word values k t long short speak inside stream =
-    let found = (permuting (length word) long short).each (record { place = k; stream = t }) inside stream in
+    let found = (permuting (length word) long short).reads.each t k stream inside in
     sum-supports bit (length values) found.0 f
     (λ i l. here_or_nothing word (place_of (length word) i) k t (get_or values i (pos 0)) (speak.value i l))
     (within found.0 (length word) (length values) found.1 speak.enough)
     (taken found.0 found.2 (speak.value found.0 (within found.0 (length word) (length values) found.1 speak.enough)))
   where
     bit : Bool
-    bit = bit_at_place (coded_word word) (record { place = k; stream = t })
+    bit = bit_at_place (coded_word word) (spot t k)
 
     f : ℕ → ℤ
-    f i = cond (is_at (place_of (length word) i) k t) (get_or values i (pos 0)) (pos 0)
+    f i = cond (is_at t k (place_of (length word) i)) (get_or values i (pos 0)) (pos 0)
 
     within : (i n m : ℕ) → i < 3 * n → 3 * n ≤ m → i < m
     within i n m p q = omega (arith, p, q)
 
-    taken : (i : ℕ) → place_of (length word) i ≡ record { place = k; stream = t } → Supports 1 (bit_at_place (coded_word word) (place_of (length word) i)) (get_or values i (pos 0)) → Supports 1 bit (f i)
+    taken : (i : ℕ) → place_of (length word) i ≡ spot t k → Supports 1 (bit_at_place (coded_word word) (place_of (length word) i)) (get_or values i (pos 0)) → Supports 1 bit (f i)
     taken i e h =
-        let at : is_at (place_of (length word) i) k t ≡ true = ap (λ (p : Place). is_at p k t) e ∙ ap₂ (λ (a b : Bool). a && b) (eq-eqb k k refl) (eq-eqb t t refl) in
+        let at : is_at t k (place_of (length word) i) ≡ true = ap (is_at t k) e ∙ at_itself (spot t k) in
         subst (λ b. Supports 1 bit (cond b (get_or values i (pos 0)) (pos 0))) (sym at) (subst (λ (p : Place). Supports 1 (bit_at_place (coded_word word) p) (get_or values i (pos 0))) e h)
-
-read_sum : (n : ℕ) (values : List ℤ) (k t : ℕ) → k < n → t < 3 → get_or (get_or (summed n values) k []) t (pos 0) ≡ summed_at n values (length values) k t
-unfolding summed
-read_sum n values k t inside stream =
-    ap (λ xs. get_or xs t (pos 0)) (values_below_at (λ k. values_below 3 (summed_at n values (length values) k)) n k [] inside)
-    ∙ values_below_at (summed_at n values (length values) k) 3 t (pos 0) stream
-
-pub summed-length : (n : ℕ) (values : List ℤ) → length (summed n values) ≡ n
-unfolding summed
-summed-length n values = values_below-length n (λ k. values_below 3 (summed_at n values (length values) k))
 
 pub sums_speak : SumsSpeak
 sums_speak word values long short speak = record {
-  place = λ k below. let inside : k < length word = omega (arith, below, summed-length (length word) values) in
+  place = λ k below. let inside : k < length word = omega (arith, below, length-summed (length word) values) in
       record { first = one k 0 inside (omega arith); second = one k 1 inside (omega arith); third = one k 2 inside (omega arith) };
 }
   where
     one : (k t : ℕ) → k < length word → t < 3 → SpeaksFor (get_or (get_or (summed (length word) values) k []) t (pos 0)) (get_or (coded_bits word k) t false)
     one k t inside stream =
-        subst (λ z. SpeaksFor z (get_or (coded_bits word k) t false)) (sym (read_sum (length word) values k t inside stream))
-        (supports-speaks (get_or (coded_bits word k) t false) (summed_at (length word) values (length values) k t)
-        (subst (λ b. Supports 1 b (summed_at (length word) values (length values) k t)) (at_place word k t inside) (sum_at_supports word values k t long short speak inside stream)))
+        subst (λ z. SpeaksFor z (get_or (coded_bits word k) t false)) (sym (summed-at (length word) values k t inside stream))
+        (supports-speaks (get_or (coded_bits word k) t false) (summed_at (place_of (length word)) values (length values) t k)
+        (subst (λ b. Supports 1 b (summed_at (place_of (length word)) values (length values) t k)) (at_place word k t inside) (sum_at_supports word values k t long short speak inside stream)))
 
 -- ---- the word
 

@@ -1,5 +1,5 @@
 -- What a value, a place and a word cost at most.
-use Rattle.std.proofs.Common.{ℕ, ◌*◌, ◌≤◌, Bool, true, false, List, [], length, get_or, ℤ, pos, negsuc, arith}
+use Rattle.std.proofs.Common.{ℕ, ◌*◌, ◌≤◌, Bool, List, [], length, get_or, ℤ, pos, arith}
 use Rattle.finite.specs.Sizes.{AllWithin, RowsWithin}
 use Rattle.finite.proofs.Items.{item-within}
 use Rattle.finite.proofs.Sums.{total_below-within}

@@ -1,5 +1,5 @@
 -- The bits of each stream in the order of the reading, and the search for one of them.
-use Rattle.std.proofs.Common.{◌≡◌, ℕ, ◌+◌, ◌-◌, ◌*◌, ◌<◌, ◌≤◌, inl, inr, List, [], ◌∷◌, ◌++◌, length, get_or, map, refl, ap, sym, ◌∙◌, arith}
+use Rattle.std.proofs.Common.{◌≡◌, ℕ, ◌-◌, ◌*◌, ◌<◌, ◌≤◌, inl, inr, List, [], ◌∷◌, ◌++◌, length, get_or, map, refl, ap, sym, ◌∙◌, arith}
 use Rattle.std.specs.Prelude.{nat_le, filter}
 use Rattle.std.specs.List.{range_with_len}
 use Rattle.std.proofs.lemmas.Bool.{cases_lt}
@@ -11,7 +11,7 @@ use Rattle.sub_block.specs.Matrix.{matrix_rows, nulls, cell}
 use Rattle.sub_block.specs.Places.{spot, cells_read, bits_in}
 use Rattle.sub_block.proofs.Cells.{cells_read-at}
 use Rattle.sub_block.proofs.Search.{bits_in-kept, bits_in-skipped}
-use Rattle.conv_code.specs.Reading.{buffer, reading, stream_order}
+use Rattle.conv_code.specs.Reading.{reading, stream_order}
 use Rattle.conv_code.proofs.Orders.{is_order}
 
 -- ---- every stream is read in the order of stream 0

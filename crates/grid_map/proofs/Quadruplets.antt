@@ -3,7 +3,7 @@ use Rattle.std.proofs.Common.{◌≡◌, ℕ, ◌+◌, ◌-◌, ◌*◌, ◌/◌
 use Rattle.std.proofs.lemmas.Bool.{cases_lt}
 use Rattle.std.proofs.lemmas.Nat.{mod-mul-add, mul-le}
 use Rattle.conv_code.specs.Reading.{stream_order}
-use Rattle.conv_code.proofs.Orders.{spot, is_order}
+use Rattle.conv_code.proofs.Orders.{index_of, is_order}
 use Rattle.grid_map.specs.Control.{quadruplet_at}
 
 -- two multiples of n that differ by less than n are the same
@@ -61,11 +61,11 @@ quadruplet_once identity count r s few a b same =
     let o = is_order count few in
     let first : (r + identity) % count < count = omega arith in
     let second : (s + identity) % count < count = omega arith in
-    shifts_apart identity count r s a b (sym (o.once _ first) ∙ ap (λ k. spot k (stream_order count)) same ∙ o.once _ second)
+    shifts_apart identity count r s a b (sym (o.once _ first) ∙ ap (λ k. index_of k (stream_order count)) same ∙ o.once _ second)
 
 pub quadruplet_each : (identity count q : ℕ) → count ≤ 66 → q < count → (r : ℕ) × (r < count) × (quadruplet_at identity count r ≡ q)
 unfolding quadruplet_at
 quadruplet_each identity count q few l =
     let o = is_order count few in
-    let (r, below, there) = shift_of identity count (spot q (stream_order count)) (o.spot_inside q l) in
+    let (r, below, there) = shift_of identity count (index_of q (stream_order count)) (o.index_inside q l) in
     (r, below, ap (λ p. get_or (stream_order count) p 0) there ∙ o.each q l)

@@ -14,7 +14,7 @@ use Rattle.lte_types.specs.declared.entry.Entry.{Entry}
 use Rattle.finite.specs.Lists.{values_below}
 use Rattle.finite.proofs.Lists.{values_below-length, values_below_at}
 use Rattle.soft_bits.specs.Soft.{SeenSlot}
-use Rattle.conv_code.specs.Reading.{summed, summed_at}
+use Rattle.conv_code.proofs.Sums.{length-summed, length-summed_row}
 use Rattle.conv_code.specs.Cost.{word_cost}
 use Rattle.tailbite.specs.LeastWord.{IsLeastWord}
 use Rattle.pbch.specs.Values.{frame_values, coded_values}
@@ -78,17 +78,16 @@ certifies_filled samples entry c v whole accepted filled values tells least =
 
 -- the values of a slot have the shape and the sizes of a certificate
 values_fit : (slot : SeenSlot) (phase : ℕ) → Counted 40 IsTriple (coded_values slot phase)
-unfolding coded_values summed
+unfolding coded_values
 values_fit slot phase =
     let bits = frame_values slot phase in
     let sizes = coded_values-small slot phase in
-    let row = λ (k : ℕ). values_below 3 (summed_at 40 bits (length bits) k) in
     record {
-      count = values_below-length 40 row;
+      count = length-summed 40 bits;
       all = λ k d inside.
-          let below : k < 40 = omega (arith, inside, values_below-length 40 row) in
+          let below : k < 40 = omega (arith, inside, length-summed 40 bits) in
           record {
-            count = ap length (values_below_at row 40 k d below) ∙ values_below-length 3 (summed_at 40 bits (length bits) k);
+            count = length-summed_row 40 bits k d below;
             all = λ t e there. let s = sizes k d inside t e there in omega (arith, s);
           };
     }

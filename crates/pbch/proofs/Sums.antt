@@ -10,9 +10,9 @@ use Rattle.grid_map.proofs.Points.{length-pbch_places}
 use Rattle.soft_bits.specs.Soft.{SeenSlot}
 use Rattle.soft_bits.specs.Places.{soft_value_at, descrambled_value}
 use Rattle.soft_bits.proofs.Channel.{length-soft_values_of, soft_values_of-at, soft_values_of-small, length-descrambled, descrambled-at, descrambled-small}
-use Rattle.conv_code.specs.Reading.{summed, summed_at}
 use Rattle.pbch.specs.Values.{received_values, frame_values, coded_values}
 use Rattle.conv_code.proofs.Sizes.{sizes_of_sums}
+use Rattle.conv_code.proofs.Sums.{length-summed}
 
 pub length-received_values : (slot : SeenSlot) → length (received_values slot) ≡ 480
 length-received_values slot = length-soft_values_of slot (pbch_places slot.identity) ∙ ap (λ n. 2 * n) (length-pbch_places slot.identity)
@@ -44,7 +44,5 @@ coded_values-small slot phase =
     sizes_of_sums 40 (frame_values slot phase) 127 4 (omega arith) (omega arith) (frame_values-small slot phase) (let whole = length-frame_values slot phase in omega (arith, whole))
 
 pub length-coded_values : (slot : SeenSlot) (phase : ℕ) → length (coded_values slot phase) ≡ 40
-unfolding coded_values summed
-length-coded_values slot phase =
-    let values = frame_values slot phase in
-    values_below-length 40 (λ k. values_below 3 (summed_at 40 values (length values) k))
+unfolding coded_values
+length-coded_values slot phase = length-summed 40 (frame_values slot phase)

@@ -1,16 +1,11 @@
 -- The circular buffer, cell by cell.
-use Rattle.std.proofs.Common.{◌≡◌, ℕ, zero, suc, ◌+◌, ◌-◌, ◌*◌, ◌/◌, ◌%◌, ◌<◌, true, List, [], ◌∷◌, length, get_or, refl, ap, sym, ◌∙◌, arith, mod-lt, length-append}
-use Rattle.std.specs.Prelude.{nat_lt}
-use Rattle.std.proofs.lemmas.Bool.{ltb-true}
+use Rattle.std.proofs.Common.{◌≡◌, ℕ, zero, suc, ◌+◌, ◌-◌, ◌*◌, ◌%◌, ◌<◌, List, [], ◌∷◌, length, get_or, refl, ap, sym, ◌∙◌, arith, length-append}
 use Rattle.std.proofs.lemmas.List.{get_or-append_right}
 use Rattle.std.proofs.Math.ListN.{get_or-append}
-use Rattle.std.proofs.Math.Nat.{div-lt_iff_lt-mul}
-use Rattle.finite.specs.Tests.{every_below}
-use Rattle.finite.proofs.Tests.{every_below_at}
 use Rattle.finite.proofs.Lists.{values_below-length, values_below_at}
 use Rattle.sub_block.specs.declared.Code.TheVariants.{Turbo}
 use Rattle.sub_block.specs.declared.Place.{Place}
-use Rattle.sub_block.specs.Matrix.{columns, cell, turbo_columns}
+use Rattle.sub_block.specs.Matrix.{cell}
 use Rattle.sub_block.specs.Places.{spot}
 use Rattle.sub_block.proofs.Cells.{length-cells_read, cells_read-at}
 use Rattle.turbo_code.specs.Reading.{v0, v1, v2, in_turn, buffer}

@@ -1,5 +1,5 @@
 -- How large the sums are: of 1,224 bits that are sent, at most seven are one coded bit.
-use Rattle.std.proofs.Common.{◌≡◌, ℕ, ◌+◌, ◌*◌, ◌<◌, ◌≤◌, List, [], length, get_or, ℤ, pos, refl, arith}
+use Rattle.std.proofs.Common.{◌≡◌, ℕ, ◌+◌, ◌*◌, ◌<◌, ◌≤◌, List, [], length, ℤ, pos, refl, arith}
 use Rattle.std.specs.Prelude.{nat_abs}
 use Rattle.std.proofs.lemmas.Nat.{mod-mul-add}
 use Rattle.std.proofs.Math.Nat.{mod-eq_of_lt}
@@ -9,7 +9,7 @@ use Rattle.finite.proofs.Lists.{values_below-All}
 use Rattle.sub_block.specs.Places.{summed_at}
 use Rattle.sub_block.proofs.Rounds.{GoesRound, summed_at-small}
 use Rattle.turbo_code.specs.Table.{IsSize}
-use Rattle.turbo_code.specs.Reading.{reading, place_of, summed}
+use Rattle.turbo_code.specs.Reading.{place_of, summed}
 use Rattle.turbo_code.proofs.TableFacts.{is_small_size}
 use Rattle.turbo_code.proofs.Round.{reading_count}
 use Rattle.turbo_code.proofs.Whole.{whole}

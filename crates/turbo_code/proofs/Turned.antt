@@ -1,12 +1,11 @@
 -- The list from a place on and round.
-use Rattle.std.proofs.Common.{◌≡◌, ℕ, suc, ◌+◌, ◌-◌, ◌%◌, ◌<◌, ◌≤◌, ◌⊎◌, inl, inr, Bool, true, false, List, ◌∷◌, length, get_or, take, drop, refl, ap, sym, ◌∙◌, arith, mod-eq_of_lt, add_comm, length-append, length-drop, drop_of_length-le}
+use Rattle.std.proofs.Common.{◌≡◌, ℕ, ◌+◌, ◌-◌, ◌%◌, ◌<◌, ◌≤◌, ◌⊎◌, inl, inr, Bool, List, length, get_or, take, drop, ap, sym, ◌∙◌, arith, mod-eq_of_lt, add_comm, length-append, length-drop}
 use Rattle.std.specs.Prelude.{nat_le, filter, cond}
 use Rattle.std.specs.List.{count_by}
 use Rattle.std.proofs.lemmas.Bool.{cases_lt}
 use Rattle.std.proofs.lemmas.List.{get_or-take, get_or-drop, get_or-append_right, length-take-le, length-map, take-append-drop}
 use Rattle.std.proofs.lemmas.List.Sums.{sum_by-append, length-filter}
 use Rattle.std.proofs.Math.ListN.{get_or-append}
-use Rattle.std.proofs.Math.Seq.{drop-cons}
 use Rattle.std.proofs.Math.Nat.{mod-eq-sub-mod}
 use Rattle.sub_block.specs.declared.Place.{Place}
 use Rattle.sub_block.specs.Places.{spot, bits_in}

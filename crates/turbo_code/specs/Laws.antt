@@ -1,8 +1,8 @@
 -- Laws of the interleaver and of the reading (TS 36.212 sections 5.1.3.2.3 and 5.1.4.1).
 use Rattle.std.specs.Prelude.{◌≡◌, ℕ, ◌+◌, ◌*◌, ◌<◌, length}
+use Rattle.sub_block.specs.Places.{ReadsEachOnce}
 use Rattle.turbo_code.specs.declared.rows.Row.{Row}
 use Rattle.turbo_code.specs.Table.{IsRow, IsSize, interleaver}
-use Rattle.sub_block.specs.Places.{ReadsEachOnce}
 use Rattle.turbo_code.specs.Reading.{place_of, reading}
 
 -- f is one to one, from the numbers below n onto them

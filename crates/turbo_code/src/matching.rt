@@ -3,8 +3,8 @@
 ghost use Rattle.std.specs.Prelude.{◌≡◌, ℕ, ◌+◌, ◌*◌, ◌^◌, ◌<◌, ◌≤◌, length, nat_abs, slice_index_or};
 ghost use Rattle.finite.specs.Sizes.{AllWithin, RowsWithin};
 ghost use Rattle.finite.specs.Tables.{sum_at, sums_with};
-ghost use Rattle.turbo_code.specs.Table.{IsRow, IsSize};
 ghost use Rattle.sub_block.specs.Places.{spot};
+ghost use Rattle.turbo_code.specs.Table.{IsRow, IsSize};
 ghost use Rattle.turbo_code.specs.Reading.{bit_of, buffer, place_of, summed};
 
 use crate::{Coded, Row};

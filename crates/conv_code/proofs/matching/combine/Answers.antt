@@ -1,4 +1,4 @@
-use Rattle.std.proofs.Common.{arith, refl, sym, subst, ap, ◌*◌, ◌^◌, ◌≤◌}
+use Rattle.std.proofs.Common.{arith, refl, sym, subst, ap, ◌*◌, ◌^◌}
 use Rattle.finite.specs.Sizes.{RowsWithin}
 use Rattle.finite.proofs.Tables.{sums_none, sums_more}
 use Rattle.sub_block.specs.declared.Place.{Place}

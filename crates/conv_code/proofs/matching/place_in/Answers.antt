@@ -1,4 +1,4 @@
-use Rattle.std.proofs.Common.{ℕ, ap, sym, ◌∙◌}
+use Rattle.std.proofs.Common.{ap, sym, ◌∙◌}
 use Rattle.sub_block.specs.Places.{spot}
 use Rattle.conv_code.proofs.Places.{place_is}
 use Rattle.conv_code.proofs.matching.place_in.Goals as goal

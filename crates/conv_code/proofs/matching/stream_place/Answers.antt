@@ -1,4 +1,4 @@
-use Rattle.std.proofs.Common.{◌≡◌, ℕ, ◌-◌, ◌*◌, ◌<◌, ◌≤◌, List, suc, length, get_or, ap, sym, ◌∙◌, arith}
+use Rattle.std.proofs.Common.{◌≡◌, ◌-◌, ◌*◌, ◌<◌, ◌≤◌, List, suc, length, get_or, ap, ◌∙◌, arith}
 use Rattle.sub_block.specs.declared.Code.TheVariants.{Convolutional}
 use Rattle.sub_block.specs.declared.Place.{Place}
 use Rattle.sub_block.specs.Places.{spot, cells_read}

@@ -1,4 +1,4 @@
-use Rattle.std.proofs.Common.{◌≡◌, ℕ, ◌+◌, ◌-◌, ◌*◌, ◌%◌, ◌<◌, ◌≤◌, suc, arith, ap, sym, ◌∙◌, get_or, length, mod-lt}
+use Rattle.std.proofs.Common.{◌≡◌, ◌+◌, ◌-◌, ◌*◌, ◌%◌, ◌<◌, ◌≤◌, suc, arith, ap, sym, ◌∙◌, get_or, length, mod-lt}
 use Rattle.sub_block.specs.declared.Place.{Place}
 use Rattle.sub_block.specs.Places.{spot}
 use Rattle.sub_block.proofs.Search.{left_first, left_null, left_bit, left_found, left_none}
