@@ -1,8 +1,8 @@
 -- The definitions at words and lengths whose code and reading are known.
 use Rattle.std.proofs.Common.{◌≡◌, true, false, [], ◌∷◌, ◌++◌, replicate, take, map, refl}
-use Rattle.conv_code.specs.Code.{taps_0, coded}
 use Rattle.sub_block.specs.Matrix.{turbo_columns, columns}
 use Rattle.sub_block.specs.Places.{spot, bits_in}
+use Rattle.conv_code.specs.Code.{taps_0, coded}
 use Rattle.conv_code.specs.Reading.{stream_order, reading, place_of}
 
 -- stream 0 of the word of 40 bits with bit 39 alone

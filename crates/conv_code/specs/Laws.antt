@@ -1,7 +1,7 @@
 -- Laws of the code and of its reading. (of TS 36.212 sections 5.1.3.1 and 5.1.4.2)
 use Rattle.std.specs.Prelude.{◌≡◌, ℕ, ◌*◌, ◌≤◌, Bool, List, length}
-use Rattle.conv_code.specs.Code.{coded_word}
 use Rattle.sub_block.specs.Places.{ReadsEachOnce}
+use Rattle.conv_code.specs.Code.{coded_word}
 use Rattle.conv_code.specs.Reading.{reading, place_of}
 
 -- words of one length with the same coded word are the same

@@ -11,8 +11,6 @@ use Rattle.cs_outside.specs.Outside.{SinkTold}
 use Rattle.cs_outside.specs.Streams.{HasWritten, HasWrittenFront, IsShortOf}
 use Rattle.cs_outside.proofs.Writing.{write_nothing, write_then, front_after, front_of_longer, short_after}
 use Rattle.lte_types.specs.declared.entry.Entry.{Entry}
-use Rattle.finite.specs.Lists.{values_below}
-use Rattle.finite.proofs.Lists.{values_below-length, values_below_at}
 use Rattle.soft_bits.specs.Soft.{SeenSlot}
 use Rattle.conv_code.proofs.Sums.{length-summed, length-summed_row}
 use Rattle.conv_code.specs.Cost.{word_cost}

@@ -1,8 +1,6 @@
 -- The values of a frame and their sums.
-use Rattle.std.proofs.Common.{◌≡◌, ℕ, ◌+◌, ◌*◌, ◌<◌, ◌≤◌, ◌∙◌, List, length, get_or, ℤ, pos, nat_abs, ap, arith}
+use Rattle.std.proofs.Common.{◌≡◌, ℕ, ◌+◌, ◌*◌, ◌<◌, ◌≤◌, ◌∙◌, length, get_or, pos, nat_abs, ap, arith}
 use Rattle.std.specs.Prelude.{All}
-use Rattle.finite.specs.Lists.{values_below}
-use Rattle.finite.proofs.Lists.{values_below-length}
 use Rattle.gold.specs.Gold.{gold_bit}
 use Rattle.grid_map.specs.Broadcast.{pbch_places}
 use Rattle.grid_map.specs.Scrambling.{pbch_c_init}

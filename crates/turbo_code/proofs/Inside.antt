@@ -6,14 +6,14 @@ use Rattle.std.proofs.lemmas.Bool.{cases_lt}
 use Rattle.std.proofs.lemmas.List.Elements.{All-append, All-cons, All-drop, All-filter, All-map, All-take}
 use Rattle.std.proofs.lemmas.List.Sums.{sum_by-cons}
 use Rattle.finite.proofs.Lists.{values_below-All}
-use Rattle.turbo_code.specs.Table.{IsSize}
 use Rattle.sub_block.specs.declared.Code.TheVariants.{Turbo}
 use Rattle.sub_block.specs.declared.Place.{Place}
 use Rattle.sub_block.specs.Matrix.{cell, nulls, matrix_rows}
 use Rattle.sub_block.specs.Places.{spot, bits_in, is_at}
-use Rattle.turbo_code.specs.Reading.{v0, v1, v2, in_turn, buffer, turned, start, reading, place_of}
 use Rattle.sub_block.proofs.Cells.{cell_below}
 use Rattle.sub_block.proofs.Sums.{at_itself}
+use Rattle.turbo_code.specs.Table.{IsSize}
+use Rattle.turbo_code.specs.Reading.{v0, v1, v2, in_turn, buffer, turned, start, reading, place_of}
 use Rattle.turbo_code.proofs.Round.{reading_count}
 
 -- one of the first m places of a stream

@@ -1,9 +1,9 @@
 -- The definitions at words and sizes whose code and reading are known.
 use Rattle.std.proofs.Common.{◌≡◌, true, false, [], ◌∷◌, map, refl}
-use Rattle.turbo_code.specs.Table.{row, interleaver}
-use Rattle.turbo_code.specs.Encoder.{before, parities, tail_x, tail_z}
 use Rattle.sub_block.specs.Matrix.{columns, turbo_columns}
 use Rattle.sub_block.specs.Places.{spot, bits_in}
+use Rattle.turbo_code.specs.Table.{row, interleaver}
+use Rattle.turbo_code.specs.Encoder.{before, parities, tail_x, tail_z}
 use Rattle.turbo_code.specs.Reading.{start, buffer, reading, place_of}
 
 -- the interleaver of K = 144

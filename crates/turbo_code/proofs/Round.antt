@@ -1,10 +1,10 @@
 -- Once round the buffer from a start: what the search of a place needs.
 use Rattle.std.proofs.Common.{◌≡◌, ℕ, ◌+◌, ◌-◌, ◌*◌, ◌%◌, ◌<◌, ◌≤◌, List, length, get_or, ap, sym, subst, ◌∙◌, arith}
 use Rattle.std.proofs.Math.Nat.{mul-le-mul_left}
-use Rattle.turbo_code.specs.Table.{IsSize}
 use Rattle.sub_block.specs.declared.Place.{Place}
 use Rattle.sub_block.specs.Matrix.{matrix_rows, nulls}
 use Rattle.sub_block.specs.Places.{spot, bits_in}
+use Rattle.turbo_code.specs.Table.{IsSize}
 use Rattle.turbo_code.specs.Reading.{start, buffer, turned, reading, place_of}
 use Rattle.turbo_code.proofs.TableFacts.{is_small_size, bits_count}
 use Rattle.turbo_code.proofs.Cells.{length-buffer}

@@ -5,10 +5,10 @@ use Rattle.std.specs.List.{list_all}
 use Rattle.std.proofs.lemmas.Bool.{eqb-true, leb-true, ltb-true, and_parts}
 use Rattle.std.proofs.lemmas.List.{get_or_default}
 use Rattle.std.proofs.lemmas.List.Elements.{Contains-get_or}
-use Rattle.turbo_code.specs.declared.rows.Row.{Row}
-use Rattle.turbo_code.specs.Table.{rows, row, IsRow, IsSize}
 use Rattle.sub_block.specs.Matrix.{columns, matrix_rows, nulls, turbo_columns}
 use Rattle.sub_block.specs.Places.{bits_in}
+use Rattle.turbo_code.specs.declared.rows.Row.{Row}
+use Rattle.turbo_code.specs.Table.{rows, row, IsRow, IsSize}
 use Rattle.turbo_code.specs.Reading.{buffer}
 
 -- what a list's items pass, its item k passes

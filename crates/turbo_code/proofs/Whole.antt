@@ -3,6 +3,11 @@ use Rattle.std.proofs.Common.{◌≡◌, ℕ, zero, suc, ◌+◌, ◌-◌, ◌*�
 use Rattle.std.specs.Prelude.{◌&&◌, nat_eq, nat_lt, nat_le, cond, filter, map}
 use Rattle.std.specs.List.{count_by}
 use Rattle.std.proofs.Math.Nat.{mod-eq_of_lt}
+use Rattle.sub_block.specs.declared.Code.TheVariants.{Turbo}
+use Rattle.sub_block.specs.declared.Place.{Place}
+use Rattle.sub_block.specs.Matrix.{columns, cell, nulls, matrix_rows, turbo_columns}
+use Rattle.sub_block.specs.Places.{spot, bits_in, is_at}
+use Rattle.sub_block.proofs.Sums.{same_spot}
 use Rattle.turbo_code.specs.Table.{IsSize}
 use Rattle.std.proofs.lemmas.Bool.{cases_Bool, eqb-true, ltb-true, leb-true, leb-false, and_parts}
 use Rattle.std.proofs.lemmas.Bool.Decides.{eqb_tells, nat_tests}
@@ -12,13 +17,8 @@ use Rattle.finite.specs.Tests.{every_below}
 use Rattle.finite.specs.Lists.{values_below}
 use Rattle.finite.proofs.Tests.{every_below_at}
 use Rattle.finite.proofs.Lists.{values_below_more}
-use Rattle.sub_block.specs.declared.Code.TheVariants.{Turbo}
-use Rattle.sub_block.specs.declared.Place.{Place}
-use Rattle.sub_block.specs.Matrix.{columns, cell, nulls, matrix_rows, turbo_columns}
-use Rattle.sub_block.specs.Places.{spot, bits_in, is_at}
 use Rattle.turbo_code.specs.Reading.{v0, v1, v2, in_turn, buffer, turned, start, reading, place_of}
 use Rattle.turbo_code.specs.Laws.{ReadingIsWhole}
-use Rattle.sub_block.proofs.Sums.{same_spot}
 use Rattle.turbo_code.proofs.TableFacts.{is_small_size}
 use Rattle.turbo_code.proofs.Turned.{count-turned}
 use Rattle.turbo_code.proofs.Round.{reading_count}
