@@ -8,6 +8,7 @@ use Rattle.finite.specs.Tables.{sum_at}
 use Rattle.finite.proofs.Sums.{total_some}
 use Rattle.conv_code.specs.Code.{coded, taps_0}
 use Rattle.conv_code.specs.Cost.{word_cost}
+use Rattle.conv_code.proofs.Sums.{length-summed}
 use Rattle.cs_bits.proofs.Signs.{speaks_with_size, supports-less}
 use Rattle.tailbite.specs.Clean.{Speaks}
 use Rattle.grid_map.specs.declared.Place.{Place}
@@ -22,7 +23,6 @@ use Rattle.pbch.proofs.Sums.{length-received_values}
 use Rattle.clean_air.specs.Words.{IsOnlyWord}
 use Rattle.clean_air.specs.Carried.{SpeakOfWord, sums_of}
 use Rattle.clean_air.specs.Broadcast.{SentWordIsTold, ReceivedSlotTells}
-use Rattle.clean_air.proofs.SpokenWords.{summed-length}
 use Rattle.clean_air.proofs.Speaking.{sums_speak_all, sent_word_is_only, carried_bits_are_heard}
 
 -- ---- the word
@@ -36,7 +36,7 @@ heard values word size speaks =
 pub sent_word_is_told : SentWordIsTold
 sent_word_is_told c_init first ports word values size speaks passes width = record {
   least = only.least;
-  heard = heard sums word (summed-length 40 (descrambled c_init first values)) (subst (λ n. Speaks (sums_of c_init first n values) word) size (sums_speak_all c_init first word values low high speaks));
+  heard = heard sums word (length-summed 40 (descrambled c_init first values)) (subst (λ n. Speaks (sums_of c_init first n values) word) size (sums_speak_all c_init first word values low high speaks));
   clear = nothing (word_cost sums word) (total sums) only.free;
   check = passes;
   width = width;

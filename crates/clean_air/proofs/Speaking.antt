@@ -5,6 +5,7 @@ use Rattle.std.proofs.lemmas.Bool.{cases_lt}
 use Rattle.gold.specs.Gold.{gold_bit}
 use Rattle.conv_code.specs.Code.{coded_word}
 use Rattle.conv_code.specs.Reading.{bit_at_place, place_of}
+use Rattle.conv_code.proofs.Sums.{length-summed}
 use Rattle.cs_bits.specs.Signs.{Supports}
 use Rattle.tailbite.specs.Clean.{Speaks}
 use Rattle.grid_map.specs.declared.Place.{Place}
@@ -16,7 +17,7 @@ use Rattle.clean_air.specs.Values.{SupportBoth}
 use Rattle.clean_air.specs.Words.{SpeakInOrder}
 use Rattle.clean_air.specs.Carried.{SpeakOfWord, sums_of, SentWordIsOnly, CarriedBitsAreHeard}
 use Rattle.clean_air.proofs.SoftValues.{received_values_support_bits}
-use Rattle.clean_air.proofs.SpokenWords.{descrambling_keeps, summed-length, sums_speak, spoken_word_is_only}
+use Rattle.clean_air.proofs.SpokenWords.{descrambling_keeps, sums_speak, spoken_word_is_only}
 
 -- ---- values in the order of the reading
 
@@ -50,7 +51,7 @@ sums_speak_all c_init first word values low high speaks = sums_speak word (descr
 
 pub sent_word_is_only : SentWordIsOnly
 sent_word_is_only c_init first word values low high speaks =
-    let size = summed-length (length word) (descrambled c_init first values) in
+    let size = length-summed (length word) (descrambled c_init first values) in
     spoken_word_is_only (sums_of c_init first (length word) values) word (omega (arith, low, size)) (sym size) (sums_speak_all c_init first word values low high speaks)
 
 -- ---- in a recording
