@@ -26,6 +26,7 @@ pub struct Grant {
 /// carry is a grant, and the bits that are sent for a grant are 21 certain ones.
 pub fn grants_and_bits()
     ensures one_answer { (bits : List Bool) (a b : Result Grant Sib1Reason) → Says bits a → Says bits b → a ≡ b }
+    ensures some_answer { (bits : List Bool) → (answer : Result Grant Sib1Reason) × Says bits answer }
     ensures grant { (bits : List Bool) (grant : Grant) → Carries bits grant → IsGrant grant }
     ensures sent { (grant : Grant) → IsGrant grant → IsSentFor (sent_word grant) grant }
     ensures one_word { (bits : List Bool) (grant : Grant) → length bits ≡ 21 →

@@ -4,5 +4,6 @@ pub mod Forward
 pub mod Through
 pub mod Potential
 pub mod Words
+pub mod Exists
 pub mod Rounds
 pub mod Rows

@@ -58,10 +58,11 @@ fn cost_of(values: &[i16; 32], indicator: u8) -> u32
     cost
 }
 
-/// Values tell one indicator and no other; where they all speak for the bits of an indicator, they
+/// Values tell one indicator, and no other; where they all speak for the bits of an indicator, they
 /// tell that one.
 pub fn only_one_indicator()
     ensures one { (values : List ℤ) (a b : ℕ) → IsIndicator values a → IsIndicator values b → a ≡ b }
+    ensures some { (values : List ℤ) → (indicator : ℕ) × IsIndicator values indicator }
     ensures clear { (values : List ℤ) (sent told : ℕ) → 1 ≤ sent → sent ≤ 3 → Speak values sent →
         IsIndicator values told → told ≡ sent }
 {}

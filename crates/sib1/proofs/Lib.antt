@@ -1,5 +1,6 @@
 pub mod Whole
 pub mod Messages
+pub mod Exists
 pub mod Written
 pub mod Blocks
 pub mod Once

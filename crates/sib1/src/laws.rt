@@ -16,6 +16,7 @@ ghost use Rattle.sib1.specs.Message.{Says, Writes};
 pub fn texts_and_bits()
     ensures one_answer { (bits : List Bool) (a b : Result Fields Sib1Reason)
         → Says bits a → Says bits b → a ≡ b }
+    ensures some_answer { (bits : List Bool) → (answer : Result Fields Sib1Reason) × Says bits answer }
     ensures whatever_follows { (text more : List Bool) (fields : Fields)
         → IsText sib1 text fields → Says (text ++ more) (Ok fields) }
     ensures no_other { (text more : List Bool) (fields : Fields) (answer : Result Fields Sib1Reason)

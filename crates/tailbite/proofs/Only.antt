@@ -10,7 +10,8 @@ use Rattle.cs_bits.proofs.Signs.{speaks_for_one}
 use Rattle.conv_code.specs.Cost.{place_cost, word_cost}
 use Rattle.conv_code.proofs.OneToOne.{one_to_one}
 use Rattle.paths.proofs.Words.{either_before}
-use Rattle.tailbite.specs.Laws.{IsOneWord}
+use Rattle.paths.proofs.Exists.{some_first_least}
+use Rattle.tailbite.specs.Laws.{IsOneWord, IsSomeWord}
 use Rattle.tailbite.specs.Clean.{Speaks, IsOnlyLeast}
 
 -- a word's coded bits cost nothing where the values speak for them
@@ -59,3 +60,8 @@ one_word values u w hu hw =
         | inr before ↦ absurd (let less = hu.first w hw.size before in let least = hw.least u hu.size in omega (arith, less, least))
       ]
     ]
+
+pub some_word : IsSomeWord
+some_word values =
+    let (word, is) = some_first_least (length values) (word_cost values) in
+    (word, record { size = is.size; least = is.least; first = is.first })

@@ -1,11 +1,12 @@
 //! Laws of the least word.
 
 ghost use Rattle.tailbite.specs.Clean.{IsOnlyLeast};
-ghost use Rattle.tailbite.specs.Laws.{IsOneWord};
+ghost use Rattle.tailbite.specs.Laws.{IsOneWord, IsSomeWord};
 
-/// There is only one least word of values.
+/// Values have one least word, and no other.
 pub fn one_least_word()
-    ensures { IsOneWord }
+    ensures one { IsOneWord }
+    ensures some { IsSomeWord }
 {}
 
 /// Where each value speaks for the coded bit of one word, and none is 0, that word is the only least one.

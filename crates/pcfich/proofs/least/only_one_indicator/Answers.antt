@@ -7,6 +7,7 @@ use Rattle.finite.proofs.Sums.{total_below-within, total_some}
 use Rattle.cs_bits.specs.Signs.{disagreement}
 use Rattle.grid_map.specs.Scrambling.{indicator_bit}
 use Rattle.pcfich.specs.Indicator.{cost, IsIndicator, Speak}
+use Rattle.pcfich.proofs.Exists.{some_indicator}
 use Rattle.pcfich.proofs.least.only_one_indicator.Goals as goal
 
 only_one : (values : List ℤ) (a b : ℕ) → IsIndicator values a → IsIndicator values b → a ≡ b
@@ -50,3 +51,6 @@ returns-clause-one c = only_one
 
 pub returns-clause-clear : goal.returns-clause-clear
 returns-clause-clear c = clear
+
+pub returns-clause-some : goal.returns-clause-some
+returns-clause-some c = some_indicator

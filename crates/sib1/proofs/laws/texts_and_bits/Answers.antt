@@ -2,12 +2,16 @@ use Rattle.std.proofs.Common.{◌++◌, Ok}
 use Rattle.uper.proofs.Fronts.{no_front}
 use Rattle.sib1.specs.Layout.{sib1}
 use Rattle.sib1.proofs.Messages.{one_answer, whatever_follows, written_is_read}
+use Rattle.sib1.proofs.Exists.{some_answer}
 use Rattle.sib1.proofs.Once.{once_sib1}
 use Rattle.sib1.proofs.Valid.{sib1_holds}
 use Rattle.sib1.proofs.laws.texts_and_bits.Goals as goal
 
 pub returns-clause-one_answer : goal.returns-clause-one_answer
 returns-clause-one_answer c = one_answer
+
+pub returns-clause-some_answer : goal.returns-clause-some_answer
+returns-clause-some_answer c = some_answer
 
 pub returns-clause-whatever_follows : goal.returns-clause-whatever_follows
 returns-clause-whatever_follows c = whatever_follows

@@ -1,0 +1,54 @@
+-- Of the words of n bits one costs least, and of those that do it stands first, whatever the cost is.
+use Rattle.std.proofs.Common.{◌≡◌, ℕ, zero, suc, ◌<◌, ◌≤◌, inl, inr, Bool, true, false, List, [], ◌∷◌, length, refl, arith}
+use Rattle.std.proofs.lemmas.Bool.{cases_lt}
+use Rattle.paths.specs.Words.{IsBefore}
+
+-- this word of n bits costs least, and those before it cost more
+pub record IsFirstLeast (n : ℕ) (cost : List Bool → ℕ) (word : List Bool) : Type 0 where
+  pub size : length word ≡ n
+  pub least : (other : List Bool) → length other ≡ n → cost word ≤ cost other
+  pub first : (other : List Bool) → length other ≡ n → IsBefore other word → cost word < cost other
+
+-- that of the words with the first bit 0 is it, where it costs no more than that of those with the first bit 1
+begins_with_0 : (n : ℕ) (cost : List Bool → ℕ) (u w : List Bool) → IsFirstLeast n (λ v. cost (false ∷ v)) u → IsFirstLeast n (λ v. cost (true ∷ v)) w →
+    cost (false ∷ u) ≤ cost (true ∷ w) → IsFirstLeast (suc n) cost (false ∷ u)
+begins_with_0 n cost u w a b lower = record { size = let s = a.size in omega (arith, s); least = least; first = first }
+  where
+    least : (other : List Bool) → length other ≡ suc n → cost (false ∷ u) ≤ cost other
+    least [] size = absurd (omega (arith, size))
+    least (false ∷ v) size = a.least v (omega (arith, size))
+    least (true ∷ v) size = let h = b.least v (omega (arith, size)) in omega (arith, lower, h)
+    first : (other : List Bool) → length other ≡ suc n → IsBefore other (false ∷ u) → cost (false ∷ u) < cost other
+    first [] size before = absurd before
+    first (false ∷ v) size before = a.first v (omega (arith, size)) before
+    first (true ∷ v) size before = absurd before
+
+begins_with_1 : (n : ℕ) (cost : List Bool → ℕ) (u w : List Bool) → IsFirstLeast n (λ v. cost (false ∷ v)) u → IsFirstLeast n (λ v. cost (true ∷ v)) w →
+    cost (true ∷ w) < cost (false ∷ u) → IsFirstLeast (suc n) cost (true ∷ w)
+begins_with_1 n cost u w a b lower = record { size = let s = b.size in omega (arith, s); least = least; first = first }
+  where
+    least : (other : List Bool) → length other ≡ suc n → cost (true ∷ w) ≤ cost other
+    least [] size = absurd (omega (arith, size))
+    least (false ∷ v) size = let h = a.least v (omega (arith, size)) in omega (arith, lower, h)
+    least (true ∷ v) size = b.least v (omega (arith, size))
+    first : (other : List Bool) → length other ≡ suc n → IsBefore other (true ∷ w) → cost (true ∷ w) < cost other
+    first [] size before = absurd before
+    first (false ∷ v) size before = let h = a.least v (omega (arith, size)) in omega (arith, lower, h)
+    first (true ∷ v) size before = b.first v (omega (arith, size)) before
+
+pub some_first_least : (n : ℕ) (cost : List Bool → ℕ) → (word : List Bool) × IsFirstLeast n cost word
+some_first_least zero cost = ([], record { size = refl; least = least; first = first })
+  where
+    least : (other : List Bool) → length other ≡ 0 → cost [] ≤ cost other
+    least [] size = omega arith
+    least (b ∷ v) size = absurd (omega (arith, size))
+    first : (other : List Bool) → length other ≡ 0 → IsBefore other [] → cost [] < cost other
+    first [] size before = absurd before
+    first (b ∷ v) size before = absurd before
+some_first_least (suc n) cost =
+    let (u, a) = some_first_least n (λ v. cost (false ∷ v)) in
+    let (w, b) = some_first_least n (λ v. cost (true ∷ v)) in
+    elim (cases_lt (cost (true ∷ w)) (cost (false ∷ u))) [
+      | inl lower ↦ (true ∷ w, begins_with_1 n cost u w a b lower)
+      | inr lower ↦ (false ∷ u, begins_with_0 n cost u w a b lower)
+    ]

@@ -1,0 +1,34 @@
+-- Values tell an indicator.
+use Rattle.std.proofs.Common.{ℕ, zero, suc, ◌<◌, ◌≤◌, inl, inr, List, ℤ, arith}
+use Rattle.std.proofs.lemmas.Bool.{cases_lt}
+use Rattle.pcfich.specs.Indicator.{cost, IsIndicator}
+
+-- what holds of 1, 2 and 3 holds of each indicator
+of_each : (P : ℕ → Type 0) → P 1 → P 2 → P 3 → (k : ℕ) → 1 ≤ k → k ≤ 3 → P k
+of_each P a b c zero low high = absurd (omega (arith, low))
+of_each P a b c (suc zero) low high = a
+of_each P a b c (suc (suc zero)) low high = b
+of_each P a b c (suc (suc (suc zero))) low high = c
+of_each P a b c (suc (suc (suc (suc k)))) low high = absurd (omega (arith, high))
+
+-- an indicator that costs no more than the others, and less than those before it
+best : (values : List ℤ) (k : ℕ) → 1 ≤ k → k ≤ 3 → cost values k ≤ cost values 1 → cost values k ≤ cost values 2 → cost values k ≤ cost values 3 →
+    (1 < k → cost values k < cost values 1) → (2 < k → cost values k < cost values 2) → IsIndicator values k
+best values k low high one two three first second = record {
+  range = (low, high);
+  least = of_each (λ other. cost values k ≤ cost values other) one two three;
+  first = λ other some before.
+      of_each (λ other. other < k → cost values k < cost values other) first second (λ l. absurd (omega (arith, l, high))) other some (omega (arith, before, high)) before;
+}
+
+pub some_indicator : (values : List ℤ) → (indicator : ℕ) × IsIndicator values indicator
+some_indicator values = elim (cases_lt (cost values 2) (cost values 1)) [
+  | inl a ↦ elim (cases_lt (cost values 3) (cost values 2)) [
+      | inl b ↦ (3, best values 3 (omega arith) (omega arith) (omega (arith, a, b)) (omega (arith, b)) (omega arith) (λ _. omega (arith, a, b)) (λ _. b))
+      | inr b ↦ (2, best values 2 (omega arith) (omega arith) (omega (arith, a)) (omega arith) b (λ _. a) (λ l. absurd (omega (arith, l))))
+    ]
+  | inr a ↦ elim (cases_lt (cost values 3) (cost values 1)) [
+      | inl b ↦ (3, best values 3 (omega arith) (omega arith) (omega (arith, b)) (omega (arith, a, b)) (omega arith) (λ _. b) (λ _. omega (arith, a, b)))
+      | inr b ↦ (1, best values 1 (omega arith) (omega arith) (omega arith) a b (λ l. absurd (omega (arith, l))) (λ l. absurd (omega (arith, l))))
+    ]
+]
