@@ -1,16 +1,19 @@
 -- Two recordings that agree in their first 17 frames tell the same hits, identities and slots, and so the same list.
-use Rattle.std.proofs.Common.{◌≡◌, ℕ, suc, ◌+◌, ◌*◌, ◌<◌, ◌≤◌, List, [], ◌∷◌, length, arith, ap, sym, subst, ◌∙◌}
-use Rattle.std.specs.Prelude.{All, Result}
-use Rattle.std.specs.List.{AllZip}
+use Rattle.std.proofs.Common.{◌≡◌, ℕ, suc, ◌+◌, ◌*◌, ◌<◌, ◌≤◌, Result, Ok, Err, List, [], ◌∷◌, length, arith, refl, ap, sym, subst, ◌∙◌}
+use Rattle.std.specs.Prelude.{All, ◌↔◌}
+use Rattle.std.specs.List.{AllZip, Contains}
 use Rattle.finite.proofs.Lists.{values_below_same}
 use Rattle.cs_num.specs.declared.Cpx.{Cpx}
 use Rattle.cs_num.specs.declared.Sample.{Sample}
 use Rattle.lte_types.specs.declared.hit.Hit.{Hit}
 use Rattle.lte_types.specs.declared.entry.Entry.{Entry}
+use Rattle.lte_types.specs.Numerology.{normal, useful_start, frame_length}
 use Rattle.lte_types.specs.declared.mib.Mib.{Mib}
 use Rattle.lte_types.specs.declared.sib1.Sib1.{Sib1}
 use Rattle.lte_types.specs.declared.sib1_reason.Sib1Reason.{Sib1Reason}
-use Rattle.lte_types.specs.Numerology.{normal, useful_start, frame_length}
+use Rattle.lte_types.specs.declared.sib1_reason.Sib1Reason.TheVariants.{NotOnePort, Bandwidth as OtherWidth}
+use Rattle.system_block.specs.Subframe.{one_port}
+use Rattle.system_block.specs.Attempt.{Reads}
 use Rattle.pss_search.specs.Hits.{IsInSpan, hits_of}
 use Rattle.pss_search.proofs.Listed.{listed_in_span}
 use Rattle.pss_search.proofs.Agree.{hits_agree}
@@ -21,9 +24,9 @@ use Rattle.sss_detect.specs.Identity.{identity_of}
 use Rattle.sss_detect.specs.Place.{start_of}
 use Rattle.sss_detect.proofs.Agree.{identity_agrees}
 use Rattle.pbch.specs.Master.{IsMaster}
-use Rattle.explain.specs.Frame.{frame_at, seen_slot, broadcast_slot}
-use Rattle.explain.specs.System.{IsSystemOf}
-use Rattle.explain.specs.Entries.{IsEntryOf, AreEntriesOf, start_at, master_of}
+use Rattle.explain.specs.Frame.{IsWhole, frame_at, seen_slot, broadcast_slot}
+use Rattle.explain.specs.Entries.{IsEntryOf, AreEntriesOf, IsExplained, identity_at, start_at, master_of}
+use Rattle.explain.specs.System.{even_frame, IsTried, IsReadFrom, FrameAnswers, IsSystemOf}
 use Rattle.explain.specs.Deciding.{deciding_length, FirstFramesDecide}
 
 -- ---- slots
@@ -42,52 +45,80 @@ deciding_slot : (start j number identity : ℕ) (a b : List Sample) → AgreeBef
 deciding_slot start j number identity a b agree early few known =
     slot_agrees deciding_length (frame_at start j) number identity a b agree (omega (arith, early, few)) known
 
--- ---- the entries of a hit
+-- ---- system information
 
--- what is told of system information is decided too
-system_agrees : (a b : List Sample) (id start sfn ports : ℕ) (mib : Mib) (sib1 : Result Sib1 Sib1Reason) → AgreeBefore deciding_length a b → deciding_length ≤ length b →
+frame_agrees : (a b : List Sample) (id start : ℕ) (mib : Mib) (j : ℕ) (answer : Result Sib1 Sib1Reason) → AgreeBefore deciding_length a b → start < frame_length → j ≤ 15 →
+    FrameAnswers a id start mib j answer → FrameAnswers b id start mib j answer
+frame_agrees a b id start mib j answer agree early few reads =
+    subst (λ s. Reads (one_port s (seen_slot b (frame_at start j) 11 id) mib.duration mib.resource) answer) (deciding_slot start j 10 id a b agree early few (omega arith))
+    (subst (λ s. Reads (one_port (seen_slot a (frame_at start j) 10 id) s mib.duration mib.resource) answer) (deciding_slot start j 11 id a b agree early few (omega arith)) reads)
+
+-- the first eight frames of even number are all tried
+tried_frame : (recording : List Sample) (start sfn i : ℕ) → deciding_length ≤ length recording → start < frame_length → i < 8 → IsTried recording start sfn i
+tried_frame recording start sfn i long early among = record { among = among; whole = omega (arith, long, early, among) }
+
+read_agrees : (a b : List Sample) (id start sfn : ℕ) (mib : Mib) (sib1 : Result Sib1 Sib1Reason) → AgreeBefore deciding_length a b → deciding_length ≤ length a → deciding_length ≤ length b →
+    start < frame_length → IsReadFrom (FrameAnswers a id start mib) a start sfn sib1 → IsReadFrom (FrameAnswers b id start mib) b start sfn sib1
+read_agrees a b id start sfn mib (Ok fields) agree long_a long_b early read =
+    let few = read.tried.among in
+    record {
+      i = read.i;
+      tried = tried_frame b start sfn read.i long_b early few;
+      answers = frame_agrees a b id start mib (even_frame sfn read.i) (Ok fields) agree early (omega (arith, few)) read.answers;
+      first = λ h other before answers.
+          read.first h other before (frame_agrees b a id start mib (even_frame sfn h) (Ok other) (sym agree) early (omega (arith, few, before)) answers);
+    }
+read_agrees a b id start sfn mib (Err reason) agree long_a long_b early read = record {
+  none = λ i fields tried answers.
+      let few = tried.among in
+      read.none i fields (tried_frame a start sfn i long_a early few) (frame_agrees b a id start mib (even_frame sfn i) (Ok fields) (sym agree) early (omega (arith, few)) answers);
+  refused = frame_agrees a b id start mib (even_frame sfn 0) (Err reason) agree early (omega arith) read.refused;
+}
+
+system_agrees : (a b : List Sample) (id start sfn ports : ℕ) (mib : Mib) (sib1 : Result Sib1 Sib1Reason) → AgreeBefore deciding_length a b → deciding_length ≤ length a → deciding_length ≤ length b →
     start < frame_length → IsSystemOf a id start sfn ports mib sib1 → IsSystemOf b id start sfn ports mib sib1
-system_agrees a b id start sfn ports mib sib1 agree long early is = record { not_read = is.not_read }
+system_agrees a b id start sfn ports mib (Err (NotOnePort told)) agree long_a long_b early s = s
+system_agrees a b id start sfn ports mib (Err (OtherWidth told)) agree long_a long_b early s = s
+system_agrees a b id start sfn ports mib sib1 agree long_a long_b early s =
+    record { one_port = s.one_port; six_blocks = s.six_blocks; read = read_agrees a b id start sfn mib sib1 agree long_a long_b early s.read }
+
+-- ---- the entries of a hit
 
 start_early : (recording : List Sample) (hit : Hit) → start_at recording hit < frame_length
 start_early recording hit = omega arith
 
 -- an entry of a hit in the one recording is one in the other
-entry_agrees : (a b : List Sample) (hit : Hit) (entry : Entry) → AgreeBefore deciding_length a b → deciding_length ≤ length b → IsInSpan hit →
+entry_agrees : (a b : List Sample) (hit : Hit) (entry : Entry) → AgreeBefore deciding_length a b → deciding_length ≤ length a → deciding_length ≤ length b → IsInSpan hit →
     IsEntryOf a hit entry → IsEntryOf b hit entry
-entry_agrees a b hit entry agree long span is = record {
+entry_agrees a b hit entry agree long_a long_b span is = record {
   id = is.id ∙ ap (λ i. 3 * i.0 + hit.n2) same_identity;
   start = is.start ∙ ap (λ i. start_of hit.t i.1) same_identity;
   phase = is.phase;
   frame = record {
-    inside = record { known = few; whole = omega (arith, long, early, few) };
-    first = λ i phase master before known tells. is.frame.first i phase master before known (subst (λ s. IsMaster s phase master) (sym (slot i (omega (arith, before, few)))) tells);
+    inside = record { known = few; whole = omega (arith, long_b, early, few) };
+    first = λ i phase master before known told. is.frame.first i phase master before known (subst (λ s. IsMaster s phase master) (sym (slot i (omega (arith, before, few)))) told);
   };
   master = subst (λ s. IsMaster s entry.phase (master_of entry)) (slot entry.frame few) is.master;
   sfn = is.sfn;
-  sib1 = system_agrees a b entry.id entry.start entry.sfn entry.ports entry.mib entry.sib1 agree long early is.sib1;
+  sib1 = system_agrees a b entry.id entry.start entry.sfn entry.ports entry.mib entry.sib1 agree long_a long_b early is.sib1;
 }
   where
     few : entry.frame ≤ 7
     few = is.frame.inside.known
-
     same_identity : identity_of a hit ≡ identity_of b hit
-    same_identity = identity_agrees deciding_length a b hit agree (omega (arith, span.to_last))
-
+    same_identity = identity_agrees deciding_length a b hit agree (let last = span.to_last in omega (arith, last))
     early : entry.start < frame_length
     early = subst (λ s. s < frame_length) (sym is.start) (start_early a hit)
-
     slot : (j : ℕ) → j ≤ 7 → broadcast_slot a entry.id entry.start j ≡ broadcast_slot b entry.id entry.start j
-    slot j few = deciding_slot entry.start j 1 entry.id a b agree early (omega (arith, few)) (omega arith)
+    slot j low = deciding_slot entry.start j 1 entry.id a b agree early (omega (arith, low)) (omega arith)
 
 -- the entries of a hit are the same
 entries_agree : (a b : List Sample) (hit : Hit) (entries : List Entry) → AgreeBefore deciding_length a b → deciding_length ≤ length a → deciding_length ≤ length b →
     IsInSpan hit → AreEntriesOf a hit entries → AreEntriesOf b hit entries
 entries_agree a b hit entries agree long_a long_b span are = record {
   given = λ entry. (
-    (λ inside. entry_agrees a b hit entry agree long_b span ((are.given entry).0 inside)),
-    (λ is. (are.given entry).1 (entry_agrees b a hit entry (sym agree) long_a span is)),
-  );
+    (λ inside. entry_agrees a b hit entry agree long_a long_b span ((are.given entry).0 inside)),
+    (λ is. (are.given entry).1 (entry_agrees b a hit entry (sym agree) long_b long_a span is)));
   by_phase = are.by_phase;
 }
 
@@ -98,15 +129,14 @@ each_agrees : (a b : List Sample) (hits : List Hit) (groups : List (List Entry))
 each_agrees a b [] [] agree long_a long_b span each = tt
 each_agrees a b [] (g ∷ gs) agree long_a long_b span each = each
 each_agrees a b (hit ∷ hits) [] agree long_a long_b span each = each
-each_agrees a b (hit ∷ hits) (g ∷ gs) agree long_a long_b span each = (
-  entries_agree a b hit g agree long_a long_b (span 0 hit (omega arith)) each.0,
-  each_agrees a b hits gs agree long_a long_b (λ k d l. span (suc k) d (omega (arith, l))) each.1,
-)
+each_agrees a b (hit ∷ hits) (g ∷ gs) agree long_a long_b span each =
+    (entries_agree a b hit g agree long_a long_b (span 0 hit (omega arith)) each.0,
+    each_agrees a b hits gs agree long_a long_b (λ k d l. span (suc k) d (omega (arith, l))) each.1)
 
 pub first_frames_decide : FirstFramesDecide
 first_frames_decide a b list long_a long_b agree explained = record {
   groups = explained.groups;
   each = subst (λ hits. AllZip (AreEntriesOf b) hits explained.groups) (hits_agree deciding_length a b agree (omega arith))
-      (each_agrees a b (hits_of a) explained.groups agree long_a long_b (listed_in_span a) explained.each);
+    (each_agrees a b (hits_of a) explained.groups agree long_a long_b (listed_in_span a) explained.each);
   listed = explained.listed;
 }

@@ -17,7 +17,7 @@ use Rattle.pbch.specs.declared.master.Master.{Master}
 use Rattle.pbch.specs.Values.{coded_values}
 use Rattle.pbch.specs.Master.{IsMaster, HasNoMaster, master_at, IsTold, AreMasters}
 use Rattle.pbch.proofs.Words.{one_master}
-use Rattle.explain.specs.Frame.{IsWhole, seen_slot, broadcast_slot}
+use Rattle.explain.specs.Frame.{IsWhole, frame_at, seen_slot, broadcast_slot}
 use Rattle.explain.specs.System.{IsSystemOf}
 use Rattle.explain.specs.Window.{IsInWindow, HasNoMasterBefore, HasNoMasters, IsMasterAt}
 use Rattle.explain.specs.Entries.{identity_at, start_at, master_of, IsEntryBy, AreEntries, AreEntriesOf, first_number, Adds, AddsHit}
@@ -26,9 +26,16 @@ use Rattle.explain.proofs.Sorted.{in_none, in_one, Contains-here}
 use Rattle.explain.proofs.Entries.{same_master, same_entry}
 use Rattle.explain.proofs.Information.{one_system}
 
-pub broadcast_number : (recording : List Sample) (identity start j : ℕ) → (broadcast_slot recording identity start j).number ≡ 1
+pub slot_number : (recording : List Sample) (f number identity : ℕ) → (seen_slot recording f number identity).number ≡ number
 unfolding seen_slot
-broadcast_number recording identity start j = refl
+slot_number recording f number identity = refl
+
+pub slot_identity : (recording : List Sample) (f number identity : ℕ) → (seen_slot recording f number identity).identity ≡ identity
+unfolding seen_slot
+slot_identity recording f number identity = refl
+
+pub broadcast_number : (recording : List Sample) (identity start j : ℕ) → (broadcast_slot recording identity start j).number ≡ 1
+broadcast_number recording identity start j = slot_number recording (frame_at start j) 1 identity
 
 -- a whole frame comes before one that is not
 pub whole_before : (recording : List Sample) (start j k : ℕ) → (IsWhole recording start k → IsTrue false) → IsWhole recording start j → j < k

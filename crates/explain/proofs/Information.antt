@@ -1,22 +1,183 @@
--- What the list needs of system information: there is one answer for each cell, and it is in its ranges.
-use Rattle.std.proofs.Common.{◌≡◌, ℕ, List, refl, sym, ◌∙◌}
-use Rattle.std.specs.Prelude.{Result, Err, IfOk}
+-- There is one answer on the system information of a cell, and it is in its ranges.
+use Rattle.std.proofs.Common.{◌≡◌, ◌≢◌, ℕ, zero, suc, ◌+◌, ◌*◌, ◌%◌, ◌<◌, ◌≤◌, ◌⊎◌, inl, inr, Bool, true, false, List, length, Result, Ok, Err, refl, ap, sym, subst, ◌∙◌, arith}
+use Rattle.std.specs.Prelude.{IfOk}
+use Rattle.std.proofs.lemmas.Bool.{cases_lt}
+use Rattle.std.proofs.lemmas.Bool.Decides.{eqb_tells}
 use Rattle.cs_num.specs.declared.Sample.{Sample}
+use Rattle.lte_types.specs.declared.bandwidth.Bandwidth.{Bandwidth}
+use Rattle.lte_types.specs.declared.bandwidth.Bandwidth.TheVariants.{N6, N15, N25, N50, N75, N100}
 use Rattle.lte_types.specs.declared.mib.Mib.{Mib}
 use Rattle.lte_types.specs.declared.sib1.Sib1.{Sib1}
 use Rattle.lte_types.specs.declared.sib1_reason.Sib1Reason.{Sib1Reason}
-use Rattle.lte_types.specs.declared.sib1_reason.Sib1Reason.TheVariants.{NotRead}
+use Rattle.lte_types.specs.declared.sib1_reason.Sib1Reason.TheVariants.{NotOnePort, Bandwidth as OtherWidth}
 use Rattle.lte_types.specs.Ranges.{IsValid}
-use Rattle.explain.specs.System.{IsSystemOf}
+use Rattle.dci.proofs.Once.{one_answer}
+use Rattle.pcfich.proofs.Indicators.{one_indicator}
+use Rattle.system_block.specs.Attempt.{Reads}
+use Rattle.system_block.proofs.Once.{one_reading}
+use Rattle.system_block.proofs.Exists.{some_reading, read_is_valid, never_ports, never_width}
+use Rattle.explain.specs.System.{even_frame, IsTried, IsFirstRead, IsNoneRead, IsReadFrom, HasOtherPorts, HasOtherWidth, IsSearched, IsSystemBy, FrameAnswers, IsSystemOf}
+
+abbrev answer_with : Sib1 → Result Sib1 Sib1Reason
+answer_with fields = Ok fields
+
+-- where a frame answers in one way
+module _ (Answers : ℕ → Result Sib1 Sib1Reason → Type 0) (one : (j : ℕ) (a b : Result Sib1 Sib1Reason) → Answers j a → Answers j b → a ≡ b)
+    (recording : List Sample) (start sfn : ℕ) where
+  -- a frame that has a reason has no fields
+  not_both : (j : ℕ) (fields : Sib1) (reason : Sib1Reason) → Answers j (Ok fields) → Answers j (Err reason) → ⊥
+  not_both j fields reason a b = let e = one j (Ok fields) (Err reason) a b in absurd cc
+
+  -- the frames tell one answer
+  first_read_first : (x y : Sib1) (a : IsFirstRead Answers recording start sfn x) (b : IsFirstRead Answers recording start sfn y) → a.i < b.i → ⊥
+  first_read_first x y a b before = b.first a.i x before a.answers
+
+  one_read : (a b : Result Sib1 Sib1Reason) → IsReadFrom Answers recording start sfn a → IsReadFrom Answers recording start sfn b → a ≡ b
+  one_read (Ok x) (Ok y) a b = by_order (cases_lt a.i b.i) (cases_lt b.i a.i)
+    where
+      by_order : (a.i < b.i) ⊎ (b.i ≤ a.i) → (b.i < a.i) ⊎ (a.i ≤ b.i) → answer_with x ≡ answer_with y
+      by_order (inl before) other = absurd (first_read_first x y a b before)
+      by_order (inr low) (inl before) = absurd (first_read_first y x b a before)
+      by_order (inr low) (inr high) =
+          let same : a.i ≡ b.i = omega (arith, low, high) in
+          one (even_frame sfn b.i) (Ok x) (Ok y) (subst (λ i. Answers (even_frame sfn i) (Ok x)) same a.answers) b.answers
+  one_read (Ok x) (Err r) a b = absurd (b.none a.i x a.tried a.answers)
+  one_read (Err q) (Ok y) a b = absurd (a.none b.i y b.tried b.answers)
+  one_read (Err q) (Err r) a b = one (even_frame sfn 0) (Err q) (Err r) a.refused b.refused
+
+  -- which rule told an answer
+  rule : (ports : ℕ) (mib : Mib) (sib1 : Result Sib1 Sib1Reason) → IsSystemBy Answers recording start sfn ports mib sib1 →
+      ((told : ℕ) × (sib1 ≡ Err (NotOnePort told)) × HasOtherPorts ports told)
+      ⊎ (((told : Bandwidth) × (sib1 ≡ Err (OtherWidth told)) × HasOtherWidth ports mib.bandwidth told)
+      ⊎ IsSearched Answers recording start sfn ports mib.bandwidth sib1)
+  rule ports mib (Err (NotOnePort told)) s = inl (told, refl, s)
+  rule ports mib (Err (OtherWidth told)) s = inr (inl (told, refl, s))
+  rule ports mib sib1 s = inr (inr s)
+
+  one_by : (ports : ℕ) (mib : Mib) (a b : Result Sib1 Sib1Reason) → IsSystemBy Answers recording start sfn ports mib a → IsSystemBy Answers recording start sfn ports mib b → a ≡ b
+  one_by ports mib a b s t = cases (rule ports mib a s) (rule ports mib b t)
+    where
+      cases : ((told : ℕ) × (a ≡ Err (NotOnePort told)) × HasOtherPorts ports told)
+          ⊎ (((told : Bandwidth) × (a ≡ Err (OtherWidth told)) × HasOtherWidth ports mib.bandwidth told) ⊎ IsSearched Answers recording start sfn ports mib.bandwidth a) →
+          ((told : ℕ) × (b ≡ Err (NotOnePort told)) × HasOtherPorts ports told)
+          ⊎ (((told : Bandwidth) × (b ≡ Err (OtherWidth told)) × HasOtherWidth ports mib.bandwidth told) ⊎ IsSearched Answers recording start sfn ports mib.bandwidth b) → a ≡ b
+      cases (inl n) (inl m) = n.1 ∙ ap (λ told. Err (NotOnePort told)) (n.2.told_is ∙ sym m.2.told_is) ∙ sym m.1
+      cases (inl n) (inr (inl m)) = absurd (n.2.other m.2.one_port)
+      cases (inl n) (inr (inr m)) = absurd (n.2.other m.one_port)
+      cases (inr (inl n)) (inl m) = absurd (m.2.other n.2.one_port)
+      cases (inr (inl n)) (inr (inl m)) = n.1 ∙ ap (λ (told : Bandwidth). Err (OtherWidth told)) (n.2.told_is ∙ sym m.2.told_is) ∙ sym m.1
+      cases (inr (inl n)) (inr (inr m)) = absurd (n.2.other m.six_blocks)
+      cases (inr (inr n)) (inl m) = absurd (m.2.other n.one_port)
+      cases (inr (inr n)) (inr (inl m)) = absurd (m.2.other n.six_blocks)
+      cases (inr (inr n)) (inr (inr m)) = one_read a b n.read m.read
+
+  -- a frame before a tried one is tried
+  tried_before : (h i : ℕ) → h ≤ i → IsTried recording start sfn i → IsTried recording start sfn h
+  tried_before h i before t = let a = t.among in let w = t.whole in record { among = omega (arith, before, a); whole = omega (arith, before, w) }
+
+  -- where each frame answers, and never for the sake of antenna ports or bandwidth
+  module _ (some : (j : ℕ) → (answer : Result Sib1 Sib1Reason) × Answers j answer)
+      (never_ports : (j told : ℕ) → Answers j (Err (NotOnePort told)) → ⊥) (never_width : (j : ℕ) (told : Bandwidth) → Answers j (Err (OtherWidth told)) → ⊥)
+      (long : 57600 ≤ length recording) (early : start < 19200) where
+    -- the first frame of even number is tried: it is one of the first two
+    first_tried : IsTried recording start sfn 0
+    first_tried = record { among = omega arith; whole = omega (arith, long, early) }
+
+    by_answer : (n i : ℕ) → n + i ≡ 7 → IsTried recording start sfn i → ((h : ℕ) (fields : Sib1) → h < i → Answers (even_frame sfn h) (Ok fields) → ⊥) →
+        ((((h : ℕ) (fields : Sib1) → h < suc i → Answers (even_frame sfn h) (Ok fields) → ⊥) → (sib1 : Result Sib1 Sib1Reason) × IsReadFrom Answers recording start sfn sib1)) →
+        (answer : Result Sib1 Sib1Reason) → Answers (even_frame sfn i) answer → (sib1 : Result Sib1 Sib1Reason) × IsReadFrom Answers recording start sfn sib1
+    by_answer n i sum tried none later (Ok fields) is = (Ok fields, record { i = i; tried = tried; answers = is; first = none })
+    by_answer n i sum tried none later (Err reason) is = later (λ h fields before a. elim (cases_lt h i) [
+      | inl below ↦ none h fields below a
+      | inr above ↦ let same : h ≡ i = omega (arith, before, above) in not_both (even_frame sfn i) fields reason (subst (λ k. Answers (even_frame sfn k) (Ok fields)) same a) is
+    ])
+
+    -- where no tried frame has fields, the first has a reason
+    no_fields : ((h : ℕ) (fields : Sib1) → IsTried recording start sfn h → Answers (even_frame sfn h) (Ok fields) → ⊥) →
+        (answer : Result Sib1 Sib1Reason) → Answers (even_frame sfn 0) answer → (sib1 : Result Sib1 Sib1Reason) × IsReadFrom Answers recording start sfn sib1
+    no_fields none (Ok fields) is = absurd (none 0 fields first_tried is)
+    no_fields none (Err reason) is = (Err reason, record { none = none; refused = is })
+
+    search : (n i : ℕ) → n + i ≡ 8 → ((h : ℕ) (fields : Sib1) → h < i → Answers (even_frame sfn h) (Ok fields) → ⊥) →
+        (sib1 : Result Sib1 Sib1Reason) × IsReadFrom Answers recording start sfn sib1
+    search zero i sum none =
+        let (answer, is) = some (even_frame sfn 0) in
+        no_fields (λ h fields t a. none h fields (let l = t.among in omega (arith, l, sum)) a) answer is
+    search (suc n) i sum none = elim (cases_lt (length recording) (start + 19200 * (even_frame sfn i + 1))) [
+      | inl short ↦
+          let (answer, is) = some (even_frame sfn 0) in
+          no_fields (λ h fields t a. none h fields (let w = t.whole in omega (arith, short, w)) a) answer is
+      | inr whole ↦
+          let (answer, is) = some (even_frame sfn i) in
+          by_answer n i (omega (arith, sum)) (record { among = omega (arith, sum); whole = whole }) none (λ more. search n (suc i) (omega (arith, sum)) more) answer is
+    ]
+
+    searched : (ports : ℕ) (mib : Mib) → ports ≡ 1 → mib.bandwidth ≡ N6 → (sib1 : Result Sib1 Sib1Reason) → IsReadFrom Answers recording start sfn sib1 →
+        IsSystemBy Answers recording start sfn ports mib sib1
+    searched ports mib one_port six (Err (NotOnePort told)) read = absurd (never_ports (even_frame sfn 0) told read.refused)
+    searched ports mib one_port six (Err (OtherWidth told)) read = absurd (never_width (even_frame sfn 0) told read.refused)
+    searched ports mib one_port six sib1 read = record { one_port = one_port; six_blocks = six; read = read }
+
+    other_width : (ports : ℕ) (mib : Mib) → ports ≡ 1 → mib.bandwidth ≢ N6 → (sib1 : Result Sib1 Sib1Reason) × IsSystemBy Answers recording start sfn ports mib sib1
+    other_width ports mib one_port other = (Err (OtherWidth mib.bandwidth), record { one_port = one_port; told_is = refl; other = other })
+
+    by_width : (ports : ℕ) (mib : Mib) → ports ≡ 1 → (width : Bandwidth) → mib.bandwidth ≡ width → (sib1 : Result Sib1 Sib1Reason) × IsSystemBy Answers recording start sfn ports mib sib1
+    by_width ports mib one_port N6 e =
+        let (sib1, read) = search 8 0 refl (λ h fields below a. absurd (omega (arith, below))) in
+        (sib1, searched ports mib one_port e sib1 read)
+    by_width ports mib one_port N15 e = other_width ports mib one_port (λ six. let same : N15 ≡ N6 = sym e ∙ six in absurd cc)
+    by_width ports mib one_port N25 e = other_width ports mib one_port (λ six. let same : N25 ≡ N6 = sym e ∙ six in absurd cc)
+    by_width ports mib one_port N50 e = other_width ports mib one_port (λ six. let same : N50 ≡ N6 = sym e ∙ six in absurd cc)
+    by_width ports mib one_port N75 e = other_width ports mib one_port (λ six. let same : N75 ≡ N6 = sym e ∙ six in absurd cc)
+    by_width ports mib one_port N100 e = other_width ports mib one_port (λ six. let same : N100 ≡ N6 = sym e ∙ six in absurd cc)
+
+    some_by : (ports : ℕ) (mib : Mib) → (sib1 : Result Sib1 Sib1Reason) × IsSystemBy Answers recording start sfn ports mib sib1
+    some_by ports mib = elim (eqb_tells ports 1) [
+      | inl same ↦ by_width ports mib same.1 mib.bandwidth refl
+      | inr other ↦ (Err (NotOnePort ports), record { told_is = refl; other = other.1 })
+    ]
+
+-- ---- by one antenna port
+
+one_of_frame : (recording : List Sample) (id start : ℕ) (mib : Mib) (j : ℕ) (a b : Result Sib1 Sib1Reason) →
+    FrameAnswers recording id start mib j a → FrameAnswers recording id start mib j b → a ≡ b
+one_of_frame recording id start mib j a b p q = one_reading one_indicator one_answer _ a b p q
 
 -- there is at most one answer
 pub one_system : (recording : List Sample) (id start sfn ports : ℕ) (mib : Mib) (a b : Result Sib1 Sib1Reason) →
     IsSystemOf recording id start sfn ports mib a → IsSystemOf recording id start sfn ports mib b → a ≡ b
-one_system recording id start sfn ports mib a b p q = p.not_read ∙ sym q.not_read
+one_system recording id start sfn ports mib a b p q =
+    one_by (FrameAnswers recording id start mib) (one_of_frame recording id start mib) recording start sfn ports mib a b p q
 
 -- and there is one
-pub some_system : (recording : List Sample) (id start sfn ports : ℕ) (mib : Mib) → (sib1 : Result Sib1 Sib1Reason) × IsSystemOf recording id start sfn ports mib sib1
-some_system recording id start sfn ports mib = (Err NotRead, record { not_read = refl })
+pub some_system : (recording : List Sample) (id start sfn ports : ℕ) (mib : Mib) → 57600 ≤ length recording → start < 19200 →
+    (sib1 : Result Sib1 Sib1Reason) × IsSystemOf recording id start sfn ports mib sib1
+some_system recording id start sfn ports mib long early =
+    some_by (FrameAnswers recording id start mib) (one_of_frame recording id start mib) recording start sfn
+    (λ j. some_reading _) (λ j told reads. never_ports _ told reads) (λ j told reads. never_width _ told reads) long early ports mib
+
+-- what is read is in its ranges
+valid_read : (recording : List Sample) (id start sfn : ℕ) (mib : Mib) (sib1 : Result Sib1 Sib1Reason) → IsReadFrom (FrameAnswers recording id start mib) recording start sfn sib1 → IfOk sib1 IsValid
+valid_read recording id start sfn mib (Ok fields) read = read_is_valid _ fields read.answers
+valid_read recording id start sfn mib (Err reason) read = tt
 
 pub system_is_valid : (recording : List Sample) (id start sfn ports : ℕ) (mib : Mib) (sib1 : Result Sib1 Sib1Reason) → IsSystemOf recording id start sfn ports mib sib1 → IfOk sib1 IsValid
-system_is_valid recording id start sfn ports mib sib1 p = rw p.not_read tt
+system_is_valid recording id start sfn ports mib (Err reason) s = tt
+system_is_valid recording id start sfn ports mib (Ok fields) s = valid_read recording id start sfn mib (Ok fields) s.read
+
+-- ---- frame by frame
+
+-- no frame of even number before number i has fields
+abbrev pub HasNoFields : List Sample → ℕ → ℕ → ℕ → Mib → ℕ → Type 0
+HasNoFields recording id start sfn mib i = (h : ℕ) (fields : Sib1) → h < i → FrameAnswers recording id start mib (even_frame sfn h) (Ok fields) → ⊥
+
+-- where the next one has a reason, it has none either
+pub no_more_fields : (recording : List Sample) (id start sfn : ℕ) (mib : Mib) (i : ℕ) (reason : Sib1Reason) → HasNoFields recording id start sfn mib i →
+    FrameAnswers recording id start mib (even_frame sfn i) (Err reason) → HasNoFields recording id start sfn mib (i + 1)
+no_more_fields recording id start sfn mib i reason none refused h fields before a = elim (cases_lt h i) [
+  | inl below ↦ none h fields below a
+  | inr above ↦
+      let same : h ≡ i = omega (arith, before, above) in
+      let both = one_of_frame recording id start mib (even_frame sfn i) (Ok fields) (Err reason) (subst (λ k. FrameAnswers recording id start mib (even_frame sfn k) (Ok fields)) same a) refused in
+      absurd cc
+]

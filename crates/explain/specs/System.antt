@@ -1,12 +1,77 @@
--- The first block of system information of an entry. (own)
-use Rattle.std.specs.Prelude.{◌≡◌, ℕ, List, Result, Err}
+-- The system information of an entry: SystemInformationBlockType1, which subframe 5 of the frames of even number carries (TS 36.331
+-- section 5.2.1.2). Which frames are tried is own.
+use Rattle.std.specs.Prelude.{◌≡◌, ◌≢◌, ℕ, ◌+◌, ◌*◌, ◌%◌, ◌<◌, List, Result, Ok, Err}
 use Rattle.cs_num.specs.declared.Sample.{Sample}
+use Rattle.lte_types.specs.declared.bandwidth.Bandwidth.{Bandwidth}
+use Rattle.lte_types.specs.declared.bandwidth.Bandwidth.TheVariants.{N6}
 use Rattle.lte_types.specs.declared.mib.Mib.{Mib}
 use Rattle.lte_types.specs.declared.sib1.Sib1.{Sib1}
 use Rattle.lte_types.specs.declared.sib1_reason.Sib1Reason.{Sib1Reason}
-use Rattle.lte_types.specs.declared.sib1_reason.Sib1Reason.TheVariants.{NotRead}
+use Rattle.lte_types.specs.declared.sib1_reason.Sib1Reason.TheVariants.{NotOnePort, Bandwidth as OtherWidth}
+use Rattle.system_block.specs.Subframe.{one_port}
+use Rattle.system_block.specs.Attempt.{Reads}
+use Rattle.explain.specs.Frame.{IsWhole, frame_at, seen_slot}
+
+-- ---- the frames that are tried. `Answers` says what a frame answers, by its place after the first
+
+-- number i of the frames of even number, where the first frame has the number sfn
+abbrev pub even_frame : ℕ → ℕ → ℕ
+even_frame sfn i = sfn % 2 + 2 * i
+
+-- it is tried: it is one of the first eight of them, and lies within the recording
+pub record IsTried (recording : List Sample) (start sfn i : ℕ) : Type 0 where
+  pub among : i < 8
+  pub whole : IsWhole recording start (even_frame sfn i)
+
+-- a tried frame answers with these fields, and none before it with any
+pub record IsFirstRead (Answers : ℕ → Result Sib1 Sib1Reason → Type 0) (recording : List Sample) (start sfn : ℕ) (fields : Sib1) : Type 0 where
+  pub i : ℕ
+  pub tried : IsTried recording start sfn i
+  pub answers : Answers (even_frame sfn i) (Ok fields)
+  pub first : (h : ℕ) (other : Sib1) → h < i → Answers (even_frame sfn h) (Ok other) → ⊥
+
+-- no tried frame answers with fields, and the first of them has this reason
+pub record IsNoneRead (Answers : ℕ → Result Sib1 Sib1Reason → Type 0) (recording : List Sample) (start sfn : ℕ) (reason : Sib1Reason) : Type 0 where
+  pub none : (i : ℕ) (fields : Sib1) → IsTried recording start sfn i → Answers (even_frame sfn i) (Ok fields) → ⊥
+  pub refused : Answers (even_frame sfn 0) (Err reason)
+
+-- the first fields that are read, or else the reason of the first frame
+abbrev pub IsReadFrom : (ℕ → Result Sib1 Sib1Reason → Type 0) → List Sample → ℕ → ℕ → Result Sib1 Sib1Reason → Type 0
+IsReadFrom Answers recording start sfn (Ok fields) = IsFirstRead Answers recording start sfn fields
+IsReadFrom Answers recording start sfn (Err reason) = IsNoneRead Answers recording start sfn reason
+
+-- ---- the first rule that applies
+
+-- there are other antenna ports than one
+pub record HasOtherPorts (ports told : ℕ) : Type 0 where
+  pub told_is : told ≡ ports
+  pub other : ports ≢ 1
+
+-- there is one, and another bandwidth than 6 resource blocks
+pub record HasOtherWidth (ports : ℕ) (width told : Bandwidth) : Type 0 where
+  pub one_port : ports ≡ 1
+  pub told_is : told ≡ width
+  pub other : width ≢ N6
+
+-- there are one antenna port and 6 resource blocks, and the frames answer so
+pub record IsSearched (Answers : ℕ → Result Sib1 Sib1Reason → Type 0) (recording : List Sample) (start sfn ports : ℕ) (width : Bandwidth) (sib1 : Result Sib1 Sib1Reason) : Type 0 where
+  pub one_port : ports ≡ 1
+  pub six_blocks : width ≡ N6
+  pub read : IsReadFrom Answers recording start sfn sib1
+
+abbrev pub IsSystemBy : (ℕ → Result Sib1 Sib1Reason → Type 0) → List Sample → ℕ → ℕ → ℕ → Mib → Result Sib1 Sib1Reason → Type 0
+IsSystemBy Answers recording start sfn ports mib (Err (NotOnePort told)) = HasOtherPorts ports told
+IsSystemBy Answers recording start sfn ports mib (Err (OtherWidth told)) = HasOtherWidth ports mib.bandwidth told
+IsSystemBy Answers recording start sfn ports mib sib1 = IsSearched Answers recording start sfn ports mib.bandwidth sib1
+
+-- ---- by one antenna port
+
+-- frame j of a cell answers so: its subframe 5, slots 10 and 11, does
+abbrev pub FrameAnswers : List Sample → ℕ → ℕ → Mib → ℕ → Result Sib1 Sib1Reason → Type 0
+FrameAnswers recording identity start mib j answer =
+    Reads (one_port (seen_slot recording (frame_at start j) 10 identity) (seen_slot recording (frame_at start j) 11 identity) mib.duration mib.resource) answer
 
 -- what is told of the system information of a cell with this identity, whose first frame begins at this sample and has this number,
--- with so many antenna ports and this master block: it is not looked for
-pub record IsSystemOf (recording : List Sample) (id start sfn ports : ℕ) (mib : Mib) (sib1 : Result Sib1 Sib1Reason) : Type 0 where
-  pub not_read : sib1 ≡ Err NotRead
+-- with so many antenna ports and this master block
+abbrev pub IsSystemOf : List Sample → ℕ → ℕ → ℕ → ℕ → Mib → Result Sib1 Sib1Reason → Type 0
+IsSystemOf recording identity start sfn ports mib sib1 = IsSystemBy (FrameAnswers recording identity start mib) recording start sfn ports mib sib1

@@ -7,6 +7,7 @@ ghost use Rattle.pbch.specs.Master.{TellsMaster};
 ghost use Rattle.explain.specs.Entries.{IsExplained, IsInList, AreEntriesOf, IsListOfHits, AddsHit, master_of, values_of_entry};
 ghost use Rattle.explain.specs.Masters.{entry_of as entry_of_master, AddsPhase, AddsPhases};
 ghost use Rattle.explain.specs.System.{IsSystemOf};
+ghost use Rattle.lte_types.specs.Numerology.{frame_length};
 
 use crate::frame::broadcast_slot;
 use crate::masters::{Masters, first_masters};
@@ -17,7 +18,7 @@ use pbch::{Master, values};
 use pss_search::hits;
 use sample_file::Recording;
 use sss_detect::{cell_id, frame_start, identity};
-use tailbite::Trellis;
+use system_block::Decoders;
 
 /// Afterwards the list is that of the recording, whatever it held before. Each hit, by place, tells
 /// an identity and a start of frames, and the first of its whole frames 0 to 7 that has a master
@@ -29,7 +30,7 @@ pub fn explain(recording: &Recording, work: &mut Workspace, list: &mut EntryList
 {
     hits(recording, &mut work.hits);
     list.clear();
-    add_hits(recording, work.hits.slice(), &mut work.trellis, list);
+    add_hits(recording, work.hits.slice(), &mut work.decoders, list);
 }
 
 /// The values of an entry's master block: for each place and stream of its coded word the sum of the
@@ -47,7 +48,7 @@ pub fn values_of(recording: &Recording, entry: &Entry) -> [[i32; 3]; 40]
 }
 
 // Adds the entries of hits to the empty list.
-fn add_hits(recording: &Recording, hits: &[Hit], work: &mut Trellis, list: &mut EntryList)
+fn add_hits(recording: &Recording, hits: &[Hit], work: &mut Decoders, list: &mut EntryList)
     requires span { All IsInSpan hits.now }
     requires few { length hits.now ≤ 5760 }
     requires empty { list.old ≡ [] }
@@ -59,7 +60,7 @@ fn add_hits(recording: &Recording, hits: &[Hit], work: &mut Trellis, list: &mut 
 }
 
 // Adds the entries of a hit.
-fn add_hit(recording: &Recording, hit: &Hit, work: &mut Trellis, list: &mut EntryList)
+fn add_hit(recording: &Recording, hit: &Hit, work: &mut Decoders, list: &mut EntryList)
     requires span { IsInSpan hit.now }
     requires room { length list.old + 4 ≤ 23040 }
     ensures adds { AddsHit (AreEntriesOf recording.now) hit.now list.old list.new }
@@ -70,8 +71,8 @@ fn add_hit(recording: &Recording, hit: &Hit, work: &mut Trellis, list: &mut Entr
     let (n1, half) = identity(recording, hit);
     let id = cell_id(n1, hit.n2);
     let start = frame_start(hit, half);
-    match first_masters(recording, id, start, work) {
-        Some(masters) => add_masters(recording, id, start, &masters, list),
+    match first_masters(recording, id, start, &mut work.trellis) {
+        Some(masters) => add_masters(recording, id, start, &masters, work, list),
         None => {}
     }
 }
@@ -82,8 +83,10 @@ fn add_masters(
     id: CellId,
     start: u32,
     masters: &Masters,
+    work: &mut Decoders,
     list: &mut EntryList,
 )
+    requires early { start < frame_length }
     requires frame { masters.now.frame ≤ 7 }
     requires count { length masters.now.at ≡ 4 }
     requires room { length list.old + 4 ≤ 23040 }
@@ -98,6 +101,7 @@ fn add_masters(
             masters.frame,
             phase,
             masters.at[phase as usize],
+            work,
             list,
         );
     }
@@ -111,8 +115,10 @@ fn add_phase(
     frame: u8,
     phase: u8,
     master: Option<Master>,
+    work: &mut Decoders,
     list: &mut EntryList,
 )
+    requires early { start < frame_length }
     requires frame { frame ≤ 7 }
     requires phase { phase < 4 }
     requires room { length list.old < 23040 }
@@ -120,7 +126,7 @@ fn add_phase(
     ensures one { length list.new ≤ length list.old + 1 }
 {
     match master {
-        Some(master) => list.add(entry_of(recording, id, start, frame, phase, master)),
+        Some(master) => list.add(entry_of(recording, id, start, frame, phase, master, work)),
         None => {}
     }
 }
@@ -133,7 +139,9 @@ fn entry_of(
     frame: u8,
     phase: u8,
     master: Master,
+    work: &mut Decoders,
 ) -> Entry
+    requires early { start < frame_length }
     requires frame { frame ≤ 7 }
     requires phase { phase < 4 }
     ensures entry { result ≡ entry_of_master id start frame phase master result.sib1 }
@@ -150,6 +158,6 @@ fn entry_of(
         frame,
         phase,
         cost: master.cost,
-        sib1: system_of(recording, id, start, sfn, master),
+        sib1: system_of(recording, id, start, sfn, master, work),
     }
 }

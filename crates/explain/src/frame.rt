@@ -4,7 +4,7 @@ ghost use Rattle.std.specs.Prelude.{◌≡◌, ◌+◌, ◌^◌, ◌<◌, ◌≤
 ghost use Rattle.cs_num.specs.Complex.{IsWithin};
 ghost use Rattle.lte_types.specs.Numerology.{frame_length, normal, useful_start};
 ghost use Rattle.observe.specs.Seen.{seen_symbol};
-ghost use Rattle.explain.specs.Frame.{IsWhole, broadcast_slot as broadcast_slot_of};
+ghost use Rattle.explain.specs.Frame.{IsWhole, frame_at, seen_slot, broadcast_slot as broadcast_slot_of};
 
 use cs_num::Cpx;
 use lte_types::{CellId, FRAME_LENGTH, Prefix};
@@ -19,16 +19,38 @@ pub(crate) fn is_whole(recording: &Recording, start: u32, j: u8) -> bool
     start as usize + FRAME_LENGTH * (j as usize + 1) <= recording.len()
 }
 
-// Symbol l of the slot that carries the broadcast channel, in a frame that begins at the given
-// sample.
-fn broadcast_symbol(recording: &Recording, frame: usize, l: usize) -> [Cpx; 72]
+// Symbol l of a slot, in a frame that begins at the given sample.
+fn symbol_of(recording: &Recording, frame: usize, number: u8, l: usize) -> [Cpx; 72]
     requires within { frame + frame_length ≤ length recording.now }
     requires small { frame < 2 ^ 40 }
+    requires number { number < 20 }
     requires l { l < 7 }
-    ensures value { result ≡ seen_symbol recording.now (useful_start normal frame 1 l) }
+    ensures value { result ≡ seen_symbol recording.now (useful_start normal frame number l) }
     ensures small { All (IsWithin (2 ^ 25)) result }
 {
-    symbol(recording, Prefix::NORMAL.useful_start(frame, 1, l))
+    symbol(
+        recording,
+        Prefix::NORMAL.useful_start(frame, number as usize, l),
+    )
+}
+
+/// A slot of frame `j` of a start by its number, 0 to 19, as it is seen. The frame lies within the recording.
+pub(crate) fn slot_of(recording: &Recording, id: CellId, start: u32, j: u8, number: u8) -> Slot
+    requires whole { IsWhole recording.now start j }
+    requires number { number < 20 }
+    ensures { result ≡ seen_slot recording.now (frame_at start j) number id }
+{
+    let frame = start as usize + FRAME_LENGTH * j as usize;
+    let seen = [
+        symbol_of(recording, frame, number, 0),
+        symbol_of(recording, frame, number, 1),
+        symbol_of(recording, frame, number, 2),
+        symbol_of(recording, frame, number, 3),
+        symbol_of(recording, frame, number, 4),
+        symbol_of(recording, frame, number, 5),
+        symbol_of(recording, frame, number, 6),
+    ];
+    Slot::new(seen, number, id)
 }
 
 /// The slot of frame `j` of a start that carries the broadcast channel, as it is seen. The frame
@@ -37,15 +59,5 @@ pub(crate) fn broadcast_slot(recording: &Recording, id: CellId, start: u32, j: u
     requires { IsWhole recording.now start j }
     ensures { result ≡ broadcast_slot_of recording.now id start j }
 {
-    let frame = start as usize + FRAME_LENGTH * j as usize;
-    let seen = [
-        broadcast_symbol(recording, frame, 0),
-        broadcast_symbol(recording, frame, 1),
-        broadcast_symbol(recording, frame, 2),
-        broadcast_symbol(recording, frame, 3),
-        broadcast_symbol(recording, frame, 4),
-        broadcast_symbol(recording, frame, 5),
-        broadcast_symbol(recording, frame, 6),
-    ];
-    Slot::new(seen, 1, id)
+    slot_of(recording, id, start, j, 1)
 }

@@ -1,21 +1,95 @@
 //! The system information of a cell.
 
-ghost use Rattle.explain.specs.System.{IsSystemOf};
+ghost use Rattle.std.specs.Prelude.{◌≡◌, ◌<◌, ◌+◌, ◌*◌, ◌%◌};
+ghost use Rattle.lte_types.specs.Numerology.{frame_length};
+ghost use Rattle.explain.specs.Frame.{IsWhole};
+ghost use Rattle.explain.specs.System.{even_frame as even_frame_of, FrameAnswers, IsReadFrom, IsSystemOf};
 
-use lte_types::{CellId, Sfn, Sib1, Sib1Reason};
+use crate::frame::{is_whole, slot_of};
+use lte_types::{Bandwidth, CellId, Mib, Sfn, Sib1, Sib1Reason};
 use pbch::Master;
 use sample_file::Recording;
+use system_block::{Decoders, read};
 
-/// What is told of the first block of system information of a cell whose first frame begins at
-/// `start` and has the number `sfn`: it is not looked for.
+/// SystemInformationBlockType1 of a cell whose first frame begins at `start`, below 19,200, and has the number
+/// `sfn`: `NotOnePort` where the master block tells other antenna ports than one, `Bandwidth` where it tells
+/// another bandwidth than 6 resource blocks; otherwise the first fields that one of the first eight whole
+/// frames of even number tells, or the reason of the first of these frames.
 pub(crate) fn system_of(
     recording: &Recording,
     id: CellId,
     start: u32,
     sfn: Sfn,
     master: Master,
+    work: &mut Decoders,
 ) -> Result<Sib1, Sib1Reason>
+    requires early { start < frame_length }
     ensures { IsSystemOf recording.now id start sfn master.ports master.mib result }
 {
-    Err(Sib1Reason::NotRead)
+    if master.ports != 1 {
+        return Err(Sib1Reason::NotOnePort(master.ports));
+    }
+    if master.mib.bandwidth != Bandwidth::N6 {
+        return Err(Sib1Reason::Bandwidth(master.mib.bandwidth));
+    }
+    read_frames(recording, id, start, sfn, master.mib, work)
+}
+
+// The first fields that a tried frame tells, or else the reason of the first.
+fn read_frames(
+    recording: &Recording,
+    id: CellId,
+    start: u32,
+    sfn: Sfn,
+    mib: Mib,
+    work: &mut Decoders,
+) -> Result<Sib1, Sib1Reason>
+    requires early { start < frame_length }
+    ensures { IsReadFrom (FrameAnswers recording.now id start mib) recording.now start sfn result }
+{
+    let first = even_frame(sfn, 0);
+    // A recording has at least three frames, so that the first of even number lies within it.
+    let count = recording.len();
+    prove!(57_600 <= count);
+    let reason = match answer_of(recording, id, start, first, mib, work) {
+        Ok(fields) => return Ok(fields),
+        Err(reason) => reason,
+    };
+    for i in 1..8 {
+        let j = even_frame(sfn, i);
+        if !is_whole(recording, start, j) {
+            return Err(reason);
+        }
+        match answer_of(recording, id, start, j, mib, work) {
+            Ok(fields) => return Ok(fields),
+            Err(_) => {}
+        }
+    }
+    Err(reason)
+}
+
+// Number i of the frames of even number, by its place after the first frame.
+fn even_frame(sfn: Sfn, i: u8) -> u8
+    requires { i < 8 }
+    ensures value { result ≡ even_frame_of sfn i }
+    ensures few { result < 16 }
+{
+    (sfn.value() % 2) as u8 + 2 * i
+}
+
+// What subframe 5 of a frame answers.
+fn answer_of(
+    recording: &Recording,
+    id: CellId,
+    start: u32,
+    j: u8,
+    mib: Mib,
+    work: &mut Decoders,
+) -> Result<Sib1, Sib1Reason>
+    requires { IsWhole recording.now start j }
+    ensures { FrameAnswers recording.now id start mib j result }
+{
+    let first = slot_of(recording, id, start, j, 10);
+    let second = slot_of(recording, id, start, j, 11);
+    read(&first, &second, mib, work)
 }

@@ -2,20 +2,20 @@
 
 use pss_search::HitList;
 use std::alloc::{AllocError, Global};
-use tailbite::Trellis;
+use system_block::Decoders;
 
 /// The working memory of a search for cells. What it holds between two searches means nothing.
 #[derive(Drop)]
 pub struct Workspace {
     pub(crate) hits: HitList,
-    pub(crate) trellis: Trellis,
+    pub(crate) decoders: Decoders,
 }
 
 impl Workspace {
     /// Takes all the memory. Only memory can be wanting.
     pub fn new(alloc: Global) -> Result<Workspace, AllocError> {
         let hits = HitList::new(alloc)?;
-        let trellis = Trellis::new(alloc)?;
-        Ok(Workspace { hits, trellis })
+        let decoders = Decoders::new(alloc)?;
+        Ok(Workspace { hits, decoders })
     }
 }

@@ -1,1 +1,1 @@
-pub mod Exists
+pub mod Indicators

@@ -1,7 +1,7 @@
 use Rattle.std.proofs.Common.{◌≡◌, ◌<◌, None, length, arith, subst}
 use Rattle.std.specs.Prelude.{Err}
 use Rattle.std.proofs.lemmas.List.{get_or_default}
-use Rattle.lte_types.specs.declared.sib1_reason.Sib1Reason.TheVariants.{NotRead}
+use Rattle.lte_types.specs.declared.sib1_reason.Sib1Reason.TheVariants.{NotDecoded}
 use Rattle.explain.specs.Masters.{AddsPhase, AddsPhases}
 use Rattle.explain.specs.System.{IsSystemOf}
 use Rattle.explain.proofs.Made.{no_phases, one_more_phase}
@@ -9,7 +9,7 @@ use Rattle.explain.proofs.cells.add_masters.Goals as goal
 
 pub loop-phase-init : goal.loop-phase-init
 loop-phase-init c = record {
-  adds = no_phases (IsSystemOf c.args.recording.now) c.args.id c.args.start c.args.masters.now.frame c.args.masters.now.at c.args.list.now (λ phase. Err NotRead);
+  adds = no_phases (IsSystemOf c.args.recording.now) c.args.id c.args.start c.args.masters.now.frame c.args.masters.now.at c.args.list.now (λ phase. Err NotDecoded);
   few = omega arith;
 }
 

@@ -1,6 +1,6 @@
 use Rattle.std.proofs.Common.{◌∷◌, [], ap, sym, subst}
 use Rattle.std.specs.Prelude.{Err}
-use Rattle.lte_types.specs.declared.sib1_reason.Sib1Reason.TheVariants.{NotRead}
+use Rattle.lte_types.specs.declared.sib1_reason.Sib1Reason.TheVariants.{NotDecoded}
 use Rattle.lte_types.specs.declared.entry.Entry.{Entry}
 use Rattle.explain.specs.Entries.{Adds}
 use Rattle.explain.specs.Masters.{AddsPhase}
@@ -21,4 +21,4 @@ returns-in-Some-clause-adds c =
 pub returns-in-None-clause-adds : goal.returns-in-None-clause-adds
 returns-in-None-clause-adds c =
     subst (λ m. AddsPhase (IsSystemOf c.args.recording.now) c.args.id c.args.start c.args.frame c.args.phase m c.args.list.now c.args.list.now) (sym c.in-None.is)
-    (record { sib1 = Err NotRead; told = tt; adds = adds_none c.args.list.now })
+    (record { sib1 = Err NotDecoded; told = tt; adds = adds_none c.args.list.now })

@@ -7,16 +7,8 @@ use Rattle.finite.proofs.Sums.{total_below-within, total_some}
 use Rattle.cs_bits.specs.Signs.{disagreement}
 use Rattle.grid_map.specs.Scrambling.{indicator_bit}
 use Rattle.pcfich.specs.Indicator.{cost, IsIndicator, Speak}
-use Rattle.pcfich.proofs.Exists.{some_indicator}
+use Rattle.pcfich.proofs.Indicators.{one_indicator, some_indicator}
 use Rattle.pcfich.proofs.least.only_one_indicator.Goals as goal
-
-only_one : (values : List ℤ) (a b : ℕ) → IsIndicator values a → IsIndicator values b → a ≡ b
-only_one values a b p q = cases (cases_lt a b) (cases_lt b a)
-  where
-    cases : (a < b) ⊎ (b ≤ a) → (b < a) ⊎ (a ≤ b) → a ≡ b
-    cases (inl l) r = absurd (let x = q.first a p.range.0 l in let y = p.least b q.range.0 q.range.1 in omega (arith, x, y))
-    cases (inr l) (inl m) = absurd (let x = p.first b q.range.0 m in let y = q.least a p.range.0 p.range.1 in omega (arith, x, y))
-    cases (inr l) (inr m) = omega (arith, l, m)
 
 -- what is sent costs nothing
 sent_free : (values : List ℤ) (sent : ℕ) → Speak values sent → cost values sent ≡ 0
@@ -47,7 +39,7 @@ clear values sent told a b speak is = settle (nat_eq sent told) refl
         omega (arith, free, least, dear))
 
 pub returns-clause-one : goal.returns-clause-one
-returns-clause-one c = only_one
+returns-clause-one c = one_indicator
 
 pub returns-clause-clear : goal.returns-clause-clear
 returns-clause-clear c = clear

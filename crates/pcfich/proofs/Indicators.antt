@@ -1,5 +1,5 @@
--- Values tell an indicator.
-use Rattle.std.proofs.Common.{ℕ, zero, suc, ◌<◌, ◌≤◌, inl, inr, List, ℤ, arith}
+-- Values tell one indicator.
+use Rattle.std.proofs.Common.{◌≡◌, ◌⊎◌, ℕ, zero, suc, ◌<◌, ◌≤◌, inl, inr, List, ℤ, arith}
 use Rattle.std.proofs.lemmas.Bool.{cases_lt}
 use Rattle.pcfich.specs.Indicator.{cost, IsIndicator}
 
@@ -32,3 +32,12 @@ some_indicator values = elim (cases_lt (cost values 2) (cost values 1)) [
       | inr b ↦ (1, best values 1 (omega arith) (omega arith) (omega arith) a b (λ l. absurd (omega (arith, l))) (λ l. absurd (omega (arith, l))))
     ]
 ]
+
+-- and no other
+pub one_indicator : (values : List ℤ) (a b : ℕ) → IsIndicator values a → IsIndicator values b → a ≡ b
+one_indicator values a b p q = cases (cases_lt a b) (cases_lt b a)
+  where
+    cases : (a < b) ⊎ (b ≤ a) → (b < a) ⊎ (a ≤ b) → a ≡ b
+    cases (inl l) r = absurd (let x = q.first a p.range.0 l in let y = p.least b q.range.0 q.range.1 in omega (arith, x, y))
+    cases (inr l) (inl m) = absurd (let x = p.first b q.range.0 m in let y = q.least a p.range.0 p.range.1 in omega (arith, x, y))
+    cases (inr l) (inr m) = omega (arith, l, m)

@@ -1,0 +1,10 @@
+use Rattle.std.proofs.Common.{◌∙◌, refl}
+use Rattle.explain.specs.Frame.{seen_slot}
+use Rattle.explain.proofs.frame.slot_of.Goals as goal
+
+pub returns : goal.returns
+unfolding seen_slot
+returns c =
+    c.new.ensures
+    ∙ rw (c.symbol_of.ensures.value, c.symbol_of-2.ensures.value, c.symbol_of-3.ensures.value, c.symbol_of-4.ensures.value, c.symbol_of-5.ensures.value, c.symbol_of-6.ensures.value, c.symbol_of-7.ensures.value)
+    refl
