@@ -11,8 +11,6 @@ use Rattle.lte_types.specs.declared.sib1.Sib1.{Sib1}
 use Rattle.lte_types.specs.declared.sib1_reason.Sib1Reason.{Sib1Reason}
 use Rattle.lte_types.specs.declared.sib1_reason.Sib1Reason.TheVariants.{NotOnePort, Bandwidth as OtherWidth}
 use Rattle.lte_types.specs.Ranges.{IsValid}
-use Rattle.dci.proofs.Once.{one_answer}
-use Rattle.pcfich.proofs.Indicators.{one_indicator}
 use Rattle.system_block.specs.Attempt.{Reads}
 use Rattle.system_block.proofs.Once.{one_reading}
 use Rattle.system_block.proofs.Exists.{some_reading, read_is_valid, never_ports, never_width}
@@ -141,7 +139,7 @@ module _ (Answers : ℕ → Result Sib1 Sib1Reason → Type 0) (one : (j : ℕ) 
 
 one_of_frame : (recording : List Sample) (id start : ℕ) (mib : Mib) (j : ℕ) (a b : Result Sib1 Sib1Reason) →
     FrameAnswers recording id start mib j a → FrameAnswers recording id start mib j b → a ≡ b
-one_of_frame recording id start mib j a b p q = one_reading one_indicator one_answer _ a b p q
+one_of_frame recording id start mib j a b p q = one_reading _ a b p q
 
 -- there is at most one answer
 pub one_system : (recording : List Sample) (id start sfn ports : ℕ) (mib : Mib) (a b : Result Sib1 Sib1Reason) →

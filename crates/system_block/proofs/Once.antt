@@ -11,12 +11,13 @@ use Rattle.conv_code.specs.Reading.{summed as summed_by_place}
 use Rattle.tailbite.proofs.Only.{one_word}
 use Rattle.dci.specs.declared.grant.Grant.{Grant}
 use Rattle.dci.specs.Format1A.{Says as BitsSay}
+use Rattle.dci.proofs.Once.{one_answer as one_saying}
 use Rattle.turbo_code.specs.declared.rows.Row.{Row}
 use Rattle.turbo_code.specs.Reading.{summed}
 use Rattle.turbo_dec.specs.Block.{block}
 use Rattle.sib1.specs.Message.{Says}
 use Rattle.sib1.proofs.Messages.{one_answer as one_message}
-use Rattle.pcfich.specs.Indicator.{IsIndicator}
+use Rattle.pcfich.proofs.Indicators.{one_indicator}
 use Rattle.pdsch.specs.Values.{system_information_rnti}
 use Rattle.system_block.specs.Subframe.{Subframe}
 use Rattle.system_block.specs.Control.{HasNoSearchSpace, IsWord, HasNoControl, ControlSays, Grants}
@@ -25,13 +26,6 @@ use Rattle.system_block.specs.declared.reading.Attempt.{Attempt}
 use Rattle.system_block.specs.Attempt.{Follows}
 use Rattle.system_block.specs.Laws.{IsOneAttempt, IsOneAnswer}
 use Rattle.system_block.proofs.Rows.{one_row}
-
--- what the laws below say
-abbrev pub OneIndicator : Type 0
-OneIndicator = (values : List ℤ) (a b : ℕ) → IsIndicator values a → IsIndicator values b → a ≡ b
-
-abbrev pub OneSaying : Type 0
-OneSaying = (bits : List Bool) (a b : Result Grant Sib1Reason) → BitsSay bits a → BitsSay bits b → a ≡ b
 
 -- ---- variants differ
 
@@ -70,8 +64,8 @@ grants_so count values (Err (NoSearchSpace told)) g = inl (told, refl, g)
 grants_so count values (Err NoControl) g = inr (inl (refl, g))
 grants_so count values a g = inr (inr g)
 
-pub one_grant : OneSaying → (count : ℕ) (values : List ℤ) (a b : Result Grant Sib1Reason) → Grants count values a → Grants count values b → a ≡ b
-one_grant one count values a b g h = cases (grants_so count values a g) (grants_so count values b h)
+pub one_grant : (count : ℕ) (values : List ℤ) (a b : Result Grant Sib1Reason) → Grants count values a → Grants count values b → a ≡ b
+one_grant count values a b g h = cases (grants_so count values a g) (grants_so count values b h)
   where
     failed_and_passed : HasNoControl count values → {r : Result Grant Sib1Reason} → ControlSays count values r → ⊥
     failed_and_passed n s = n.fails (subst (HasCheck16 system_information_rnti) (one_control_word count values s.word n.word s.is n.is) s.passes)
@@ -87,7 +81,7 @@ one_grant one count values a b g h = cases (grants_so count values a g) (grants_
     cases (inr (inr n)) (inl m) = absurd (let few = m.2.few in let enough = n.is.enough in omega (arith, few, enough))
     cases (inr (inr n)) (inr (inl m)) = absurd (failed_and_passed m.1 n)
     cases (inr (inr n)) (inr (inr m)) =
-        one (message_of 16 n.word) a b n.says (subst (λ w. BitsSay (message_of 16 w) b) (one_control_word count values m.word n.word m.is n.is) m.says)
+        one_saying (message_of 16 n.word) a b n.says (subst (λ w. BitsSay (message_of 16 w) b) (one_control_word count values m.word n.word m.is n.is) m.says)
 
 -- ---- the block
 
@@ -114,21 +108,21 @@ one_text values grant a b s t = cases (tells_so values grant a s) (tells_so valu
 
 -- ---- the attempt
 
-follows_once : OneSaying → (values : Subframe) (i : ℕ) (g h : Option Grant) (a b : Result Sib1 Sib1Reason) →
+follows_once : (values : Subframe) (i : ℕ) (g h : Option Grant) (a b : Result Sib1 Sib1Reason) →
     Follows values i g a → Follows values i h b → (g ≡ h) × (a ≡ b)
-follows_once one values i (Some g) (Some h) a b s t =
-    let same : g ≡ h = same_ok g h (Ok g) refl (one_grant one (values.elements i) (values.candidate i) (Ok g) (Ok h) s.grants t.grants) in (
+follows_once values i (Some g) (Some h) a b s t =
+    let same : g ≡ h = same_ok g h (Ok g) refl (one_grant (values.elements i) (values.candidate i) (Ok g) (Ok h) s.grants t.grants) in (
       ap (λ (grant : Grant). Some grant) same,
       one_text (values.shared i h.start h.blocks) h a b (subst (λ (grant : Grant). Tells (values.shared i grant.start grant.blocks) grant a) same s.tells) t.tells,
     )
-follows_once one values i (Some g) None a (Err r) s t = absurd (not_ok_and_err g r (one_grant one (values.elements i) (values.candidate i) (Ok g) (Err r) s.grants t))
-follows_once one values i None (Some h) (Err q) b s t = absurd (not_ok_and_err h q (one_grant one (values.elements i) (values.candidate i) (Ok h) (Err q) t.grants s))
-follows_once one values i None None (Err q) (Err r) s t =
-    (refl, ap (λ (e : Sib1Reason). Err e) (same_error q r (Err q) refl (one_grant one (values.elements i) (values.candidate i) (Err q) (Err r) s t)))
-follows_once one values i (Some g) None a (Ok y) s t = absurd t
-follows_once one values i None (Some h) (Ok x) b s t = absurd s
-follows_once one values i None None (Ok x) b s t = absurd s
-follows_once one values i None None (Err q) (Ok y) s t = absurd t
+follows_once values i (Some g) None a (Err r) s t = absurd (not_ok_and_err g r (one_grant (values.elements i) (values.candidate i) (Ok g) (Err r) s.grants t))
+follows_once values i None (Some h) (Err q) b s t = absurd (not_ok_and_err h q (one_grant (values.elements i) (values.candidate i) (Ok h) (Err q) t.grants s))
+follows_once values i None None (Err q) (Err r) s t =
+    (refl, ap (λ (e : Sib1Reason). Err e) (same_error q r (Err q) refl (one_grant (values.elements i) (values.candidate i) (Err q) (Err r) s t)))
+follows_once values i (Some g) None a (Ok y) s t = absurd t
+follows_once values i None (Some h) (Ok x) b s t = absurd s
+follows_once values i None None (Ok x) b s t = absurd s
+follows_once values i None None (Err q) (Ok y) s t = absurd t
 
 attempt_of : ℕ → Option Grant → Result Sib1 Sib1Reason → Attempt
 attempt_of i g a = record { cfi = i; grant = g; answer = a }
@@ -136,13 +130,13 @@ attempt_of i g a = record { cfi = i; grant = g; answer = a }
 same_attempt : (i j : ℕ) (g h : Option Grant) (a b : Result Sib1 Sib1Reason) → i ≡ j → g ≡ h → a ≡ b → attempt_of i g a ≡ attempt_of j h b
 same_attempt i j g h a b x y z = rw (x, y, z) refl
 
-pub one_attempt : OneIndicator → OneSaying → IsOneAttempt
+pub one_attempt : IsOneAttempt
 unfolding attempt_of
-one_attempt told one values a b x y =
-    let same : a.cfi ≡ b.cfi = told values.indicator a.cfi b.cfi x.told y.told in
-    let rest = follows_once one values b.cfi a.grant b.grant a.answer b.answer (subst (λ i. Follows values i a.grant a.answer) same x.follows) y.follows in
+one_attempt values a b x y =
+    let same : a.cfi ≡ b.cfi = one_indicator values.indicator a.cfi b.cfi x.told y.told in
+    let rest = follows_once values b.cfi a.grant b.grant a.answer b.answer (subst (λ i. Follows values i a.grant a.answer) same x.follows) y.follows in
     same_attempt a.cfi b.cfi a.grant b.grant a.answer b.answer same rest.0 rest.1
 
-pub one_reading : OneIndicator → OneSaying → IsOneAnswer
-one_reading told one values a b x y =
-    sym x.answers ∙ ap (λ (attempt : Attempt). attempt.answer) (one_attempt told one values x.attempt y.attempt x.is y.is) ∙ y.answers
+pub one_reading : IsOneAnswer
+one_reading values a b x y =
+    sym x.answers ∙ ap (λ (attempt : Attempt). attempt.answer) (one_attempt values x.attempt y.attempt x.is y.is) ∙ y.answers

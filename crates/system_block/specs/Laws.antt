@@ -1,6 +1,7 @@
 -- Laws of attempts.
-use Rattle.std.specs.Prelude.{◌≡◌, Result}
+use Rattle.std.specs.Prelude.{◌≡◌, Result, Ok}
 use Rattle.lte_types.specs.declared.sib1.Sib1.{Sib1}
+use Rattle.lte_types.specs.Ranges.{IsValid}
 use Rattle.lte_types.specs.declared.sib1_reason.Sib1Reason.{Sib1Reason}
 use Rattle.system_block.specs.Subframe.{Subframe}
 use Rattle.system_block.specs.declared.reading.Attempt.{Attempt}
@@ -13,3 +14,14 @@ IsOneAttempt = (values : Subframe) (a b : Attempt) → IsAttempt values a → Is
 -- and only one answer
 abbrev pub IsOneAnswer : Type 0
 IsOneAnswer = (values : Subframe) (a b : Result Sib1 Sib1Reason) → Reads values a → Reads values b → a ≡ b
+
+-- there is one
+abbrev pub IsSomeAttempt : Type 0
+IsSomeAttempt = (values : Subframe) → (attempt : Attempt) × IsAttempt values attempt
+
+abbrev pub IsSomeAnswer : Type 0
+IsSomeAnswer = (values : Subframe) → (answer : Result Sib1 Sib1Reason) × Reads values answer
+
+-- and fields that are read are in their ranges
+abbrev pub IsReadValid : Type 0
+IsReadValid = (values : Subframe) (fields : Sib1) → Reads values (Ok fields) → IsValid fields

@@ -1,15 +1,13 @@
 //! Laws of attempts.
 
-ghost use Rattle.system_block.specs.Laws.{IsOneAttempt, IsOneAnswer};
+ghost use Rattle.system_block.specs.Laws.{IsOneAttempt, IsOneAnswer, IsSomeAttempt, IsSomeAnswer, IsReadValid};
 
-use dci::grants_and_bits;
-use pcfich::only_one_indicator;
-
-/// There is only one attempt on a subframe with its values, and so only one answer.
+/// On each subframe there is one attempt and no other, and so one answer; fields that are read are in their
+/// ranges.
 pub fn one_answer()
     ensures attempt { IsOneAttempt }
     ensures answer { IsOneAnswer }
-{
-    only_one_indicator();
-    grants_and_bits();
-}
+    ensures some_attempt { IsSomeAttempt }
+    ensures some_answer { IsSomeAnswer }
+    ensures valid { IsReadValid }
+{}
