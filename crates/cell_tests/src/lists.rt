@@ -83,7 +83,7 @@ fn a_master_block_of_the_first_frame_is_an_entry(rt: HostRuntime) -> Result<(), 
     assert_eq!(rt; (entry.mib.upper, entry.mib.spare), (0, 0));
     assert_eq!(rt;
         entry.sib1.as_ref().err().copied(),
-        Some(Sib1Reason::NotRead)
+        Some(Sib1Reason::Bandwidth(Bandwidth::N50))
     );
     let values = values_of(&recording, entry);
     assert!(rt; values[0][0] < 0 && values[0][1] < 0 && values[0][2] > 0);

@@ -32,8 +32,6 @@ pub enum Sib1Reason {
     NotSib1,
     /// The field that begins at this bit is cut off or out of its range.
     BadFields(u16),
-    /// System information was not looked for.
-    NotRead,
 }
 
 impl fmt::Display for Sib1Reason {
@@ -55,7 +53,6 @@ impl fmt::Display for Sib1Reason {
             Sib1Reason::NotDecoded => f.write_str("not-decoded"),
             Sib1Reason::NotSib1 => f.write_str("not-sib1"),
             Sib1Reason::BadFields(bit) => write!(f, "bad-fields {bit}"),
-            Sib1Reason::NotRead => f.write_str("not-read"),
         }
     }
 }
