@@ -95,7 +95,7 @@ pub holds_clean_cells : (recording : List Sample) (list : List Entry) → 57600 
 holds_clean_cells recording list long explained plan sfn offset gain eps sendable clean =
     let number : ℕ = number_at_start sfn offset in
     let master : Master = sent_master recording plan sendable.spare offset number in
-    let (sib1, system) = some_system recording plan.identity (start_after offset) number master.ports master.mib in
+    let (sib1, system) = some_system recording plan.identity (start_after offset) number master.ports master.mib long (omega arith) in
     heard_is_held (IsMasterAt recording) (IsSystemOf recording) (one_master_at recording) (one_system recording) recording plan.identity offset number master sib1
     (is_heard recording plan sfn offset gain eps sendable clean long) system list explained (IsSentEntry plan number)
     (record { ports = refl; block = record { bandwidth = refl; duration = refl; resource = refl; upper = refl; spare = refl } })
