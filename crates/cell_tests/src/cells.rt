@@ -124,7 +124,7 @@ fn a_sent_cell_is_found(rt: HostRuntime) -> Result<(), Fail> {
     assert_eq!(rt; status, Status::Done);
     assert_eq!(rt;
         taken.as_slice(),
-        b"cells 1\ncell 0 at 0 sfn 0 ports 1 n6 phich normal one spare 0\nsib1 none not-read\n".as_slice()
+        b"cells 1\ncell 0 at 0 sfn 0 ports 1 n6 phich normal one spare 0\nsib1 none no-search-space 2\n".as_slice()
     );
     Ok(())
 }
@@ -140,7 +140,7 @@ fn a_cell_that_begins_before_the_recording_is_found_with_errors_at_the_bound(
     add_errors(&mut bytes, 56);
     let (status, taken) = output_of(rt.alloc(), "search", bytes)?;
     assert_eq!(rt; status, Status::Done);
-    let line = "cell 503 at 1 sfn 6 ports 1 n6 phich normal one spare 0\nsib1 none not-read\n";
+    let line = "cell 503 at 1 sfn 6 ports 1 n6 phich normal one spare 0\nsib1 none no-search-space 2\n";
     assert!(rt; contains(&taken, line.as_bytes()));
     Ok(())
 }
@@ -222,7 +222,7 @@ fn a_wider_cell_is_certified(rt: HostRuntime) -> Result<(), Fail> {
     assert_eq!(rt; status, Status::Done);
     assert_eq!(rt;
         taken.as_slice(),
-        b"cells 1\ncell 0 at 0 sfn 0 ports 1 n50 phich normal one spare 0\nsib1 none not-read\n".as_slice()
+        b"cells 1\ncell 0 at 0 sfn 0 ports 1 n50 phich normal one spare 0\nsib1 none bandwidth n50\n".as_slice()
     );
     let (status, certificates) = output_of(rt.alloc(), "certify", bytes)?;
     assert_eq!(rt; status, Status::Done);
