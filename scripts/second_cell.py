@@ -2,25 +2,30 @@
 """second_cell.py < DESCRIPTION > RECORDING
 
 A second transmitter: whole frames of a cell of 6 resource blocks with one antenna port, in the form of a recording
-(docs/FORMATS.md). Reference and synchronisation signals and PBCH; where `sib1` is described, PCFICH in every subframe, and in
-subframe 5 of frames of even number PDCCH and PDSCH with SystemInformationBlockType1. Tables and sequences are those of
-second_search.py; what codes, maps and sends is written the other way round, from TS 36.211, 36.212, 36.213 and 36.331.
+(docs/FORMATS.md). Reference and synchronisation signals and PBCH; where `sib1` is described, PCFICH in every subframe, and
+in subframe 5 of frames of even number PDCCH and PDSCH with SystemInformationBlockType1. Tables and sequences are those of
+second_search.py; what codes, maps and sends stands here, from TS 36.211, 36.212, 36.213 and 36.331.
 
-The description is JSON: the keys of `transmit`, then, all or none, `cfi`, `start`, `blocks`, `mcs`, `column` and `sib1`; for
-trials `control` (21 bits that are sent in place of the grant), `block` (a transport block in hexadecimal, in place of the
-text) and `noise` (the greatest error of a component; its seed is the identity). In Bash, with D for the first part:
+The description is JSON: the keys of `transmit`, then, all or none, `cfi`, `start`, `blocks`, `mcs`, `column` and `sib1`. Of
+a key that is written twice the last value stands. For trials there are `control` (21 bits, sent in place of the grant),
+`block` (a transport block in hexadecimal, in place of the text) and `noise` (the greatest error of a component, drawn by
+the identity). In Bash:
 
-    D='"identity": 0, "sfn": 0, "offset": 0, "samples": 57600, "gain": [20, 9], "duration": "normal", "resource": "one", "spare": 0'
-    S='"plmns": [{"mcc": "001", "mnc": "01", "reserved": false}], "tac": 1, "cell": 1, "barred": false, "intra": true,
-       "csg": false, "csg_identity": null, "q_rx": -70, "q_offset": null, "p_max": null, "band": 1, "window": 1, "tag": 0'
-    G='"cfi": 2, "start": 0, "blocks": 6, "mcs": 4, "column": 2'
-    T="\"sib1\": {$S, \"scheduling\": [{\"period\": 8, \"sibs\": []}]}"
+    D='"identity": 0, "sfn": 0, "offset": 0, "samples": 57600, "gain": [20, 9],
+       "duration": "normal", "resource": "one", "spare": 0, "cfi": 2, "start": 0, "blocks": 6, "mcs": 4, "column": 2,
+       "sib1": {"plmns": [{"mcc": "001", "mnc": "01", "reserved": false}], "tac": 1, "cell": 1, "barred": false,
+                "intra": true, "csg": false, "csg_identity": null, "q_rx": -70, "q_offset": null, "p_max": null, "band": 1,
+                "scheduling": [{"period": 8, "sibs": []}], "window": 1, "tag": 0}'
 
-    echo "{$D, $G, $T}" | scripts/second_cell.py                        # plain: its block is 40400403 00010000 00180000 000000
-    echo "{$D, $G, $T, \"noise\": 800}" | scripts/second_cell.py        # several iterations
-    echo "{$D, $G, $T, \"identity\": 301, \"sfn\": 1023, \"offset\": 7000, \"cfi\": 3, \"mcs\": 5, \"column\": 3,
-           \"duration\": \"extended\", \"resource\": \"two\"}" | scripts/second_cell.py        # an odd frame first, six quadruplets of PHICH
-    echo "{$D, $G, $T, \"control\": \"100101111100000000000\"}" | scripts/second_cell.py       # not the scheme that is sent: not-decoded
+    # plain, its block is 404004030001000000180000000000; noise, read by the second frame of even number after 6 iterations
+    scripts/second_cell.py <<< "{$D}"
+    scripts/second_cell.py <<< "{$D, \"sfn\": 5, \"offset\": 7000, \"samples\": 115200, \"mcs\": 13, \"noise\": 3500}"
+    # another identity and PHICH, and a frame of odd number at the start
+    scripts/second_cell.py <<< "{$D, \"identity\": 301, \"sfn\": 1022, \"offset\": 7000, \"cfi\": 3, \"mcs\": 5,
+                                \"column\": 3, \"duration\": \"extended\", \"resource\": \"two\"}"
+    # refused: another size is granted than is sent, not-decoded; a digit of 11, bad-fields 10
+    scripts/second_cell.py <<< "{$D, \"control\": \"100101100101000000000\"}"
+    scripts/second_cell.py <<< "{$D, \"block\": \"406c04030001000000180000000000\"}"
 
 Debian: python3-numpy.
 """
@@ -30,8 +35,8 @@ import sys
 
 import numpy as np
 
-from second_search import (COLUMNS, INTERLEAVER, SIZES, TAPS, W_IMAG, W_REAL, crc, primary, pseudo_random, reference, rounded,
-                           secondary)
+from second_search import (COLUMNS, INTERLEAVER, SIZES, TAPS, W_IMAG, W_REAL, crc, primary, pseudo_random, reference,
+                           rounded, secondary)
 
 DURATIONS, RESOURCES = ('normal', 'extended'), ('oneSixth', 'half', 'one', 'two')
 WINDOWS = (1, 2, 5, 10, 15, 20, 40)
