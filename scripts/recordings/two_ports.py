@@ -25,10 +25,10 @@ NOISE = 32_400                      # of a sample, where a resource element of e
 def broadcast_bits(cell, sfn):
     """The 480 bits of a frame: n6, normal PHICH, resource one, and the check of two ports (TS 36.212 section 5.3.1)."""
     block = 0b000_0_10 << 18 | sfn // 4 << 10
-    word = block << 16 | standard.crc16(block, 24) ^ 0xffff
+    word = block << 16 | standard.crc(block, 24) ^ 0xffff
     bits = [word >> 39 - k & 1 for k in range(40)]
     coded = [[sum(bits[(k - t) % 40] for t in taps) % 2 for taps in standard.TAPS] for k in range(40)]
-    places = [standard.READING[i % 120] for i in range(480)]
+    places = 4 * standard.coded_reading(40)
     sequence = standard.pseudo_random(cell, 1920)[480 * (sfn % 4):]
     return [coded[place][stream] ^ sequence[i] for i, (place, stream) in enumerate(places)]
 
