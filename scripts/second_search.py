@@ -5,8 +5,7 @@ A second program for the list, written from docs/DEFINITION.md and the standard 
 in view), which shares nothing with the repository's code. It prints what `lte_cli search` prints. With `why` it says on
 standard error what it finds on the way: each hit, the identity that it tells, and of each frame and phase the cost, the
 total and the antenna ports whose check passes (0: none); then, of each cell and each frame of even number that is tried, how
-far rule 11 comes in it, and why it stops. Slow, some seconds for each hit. Debian: python3-numpy. `second_cell.py` makes
-recordings for it.
+far rule 11 comes in it, and why it stops. Slow: seconds for each hit. Debian: python3-numpy. Recordings: second_cell.py.
 """
 import sys
 
