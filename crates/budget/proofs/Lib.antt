@@ -20,3 +20,5 @@ pub mod Deviations
 pub mod Scores
 -- Channel estimates: a multiple of a gain up to a deviation, at every subcarrier as at the pilots.
 pub mod Near
+-- The sign and size of a soft value, by its component and the energy of the pilots.
+pub mod Signs

@@ -3,3 +3,4 @@ pub mod Received
 pub mod Budget
 pub mod Peak
 pub mod Score
+pub mod Sign

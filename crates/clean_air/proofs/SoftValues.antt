@@ -1,22 +1,17 @@
 -- The soft values of a clean slot: a component of an equalised place outweighs the energy of the pilots.
-use Rattle.std.proofs.Common.{◌≡◌, ℕ, zero, suc, ◌+◌, ◌*◌, ◌/◌, ◌<◌, ◌≤◌, min, arith, refl, ap, ap₂, sym, ◌∙◌, subst, Bool, true, false, nat_eq, inl, inr, List, ℤ, pos, negsuc, neg_ℤ, ◌-ℤ◌, ◌*ℤ◌, ◌≤ℤ◌, int_div}
+use Rattle.std.proofs.Common.{◌≡◌, ℕ, ◌+◌, ◌*◌, ◌<◌, ◌≤◌, arith, ap, ap₂, sym, ◌∙◌, subst, Bool, true, false, List, ℤ, pos, ◌-ℤ◌, ◌*ℤ◌}
 use Rattle.std.specs.Prelude.{if◌then◌else◌, nat_abs}
-use Rattle.std.proofs.lemmas.Int.{ints}
-use Rattle.std.proofs.lemmas.Bool.{cases_lt}
-use Rattle.std.proofs.lemmas.Bool.Decides.{nat_tests}
-use Rattle.std.proofs.Math.Nat.{div-lt_iff_lt-mul}
 use Rattle.finite.specs.Sums.{total_below}
 use Rattle.finite.proofs.Sums.{total_below-within, total_some}
 use Rattle.finite.proofs.Lists.{values_below_at}
-use Rattle.finite.proofs.Ring.{var, lit, same}
-use Rattle.finite.proofs.Ring as ring
+use Rattle.finite.proofs.Ring.{same}
 use Rattle.cs_num.specs.declared.Cpx.{Cpx}
 use Rattle.cs_num.specs.declared.Sample.{Sample}
 use Rattle.cs_num.specs.Complex.{IsWithin, nothing, plus, times, conjugate, square, value_at, minus, multiple}
-use Rattle.cs_num.specs.Rounding.{clamped}
+use Rattle.sizes.proofs.Algebra.{multiple_twice}
 use Rattle.sizes.proofs.Squares.{square-times, square-multiple}
 use Rattle.sizes.proofs.TwoTerms.{weighted, weighted_term}
-use Rattle.sizes.proofs.Products.{product_near, sign-turns, one-times}
+use Rattle.sizes.proofs.Products.{product_near}
 use Rattle.crs.specs.Qpsk.{component, point}
 use Rattle.crs.specs.Reference.{is_reference}
 use Rattle.observe.specs.Seen.{seen, seen_symbol}
@@ -26,6 +21,7 @@ use Rattle.cs_bits.specs.Signs.{Supports}
 use Rattle.clean_air.specs.Values.{ArePilotsSeen, IsSlotReceived, ValuesSupportBits, ReceivedValuesSupportBits}
 use Rattle.budget.proofs.Deviations.{deviation, seen_is, deviation-sized}
 use Rattle.budget.proofs.Near.{IsNear}
+use Rattle.budget.proofs.Signs.{near_component_speaks}
 use Rattle.clean_air.proofs.Estimates.{sent-size, channel-near}
 use Rattle.budget.proofs.Seen.{amplitude_is_seen_in_recording}
 
@@ -68,86 +64,18 @@ energy-near gain slot seen = record {
     sums : (e n : ℕ) → e ≤ 24 * (101376000 * n) → e ≤ 101376000 * (24 * n)
     sums e n h = omega (arith, h)
 
--- ---- a component
-
--- the sign of a bit
-abbrev sign : Bool → ℤ
-sign false = pos 1
-sign true = negsuc 0
-
-sign-unit : (bit : Bool) → nat_abs (sign bit) ≡ 1
-sign-unit false = refl
-sign-unit true = refl
-
-component_is : (bit : Bool) → component bit ≡ pos 90 *ℤ sign bit
-component_is false = refl
-component_is true = refl
-
 point-small : (first second : Bool) → square (multiple 64 (point first second)) ≤ 8192 * 8192
 point-small false false = omega arith
 point-small false true = omega arith
 point-small true false = omega arith
 point-small true true = omega arith
 
-regrouped : (x s : ℤ) → x *ℤ (pos 64 *ℤ (pos 90 *ℤ s)) ≡ x *ℤ pos 5760 *ℤ s
-regrouped x s = same (ring.times (var x) (ring.times (lit 64) (ring.times (lit 90) (var s)))) (ring.times (ring.times (var x) (lit 5760)) (var s)) (omega arith)
-
--- six times the component is eight times the energy and more
-outweighs : (v : ℤ) (n q : ℕ) → q ≤ 101376000 * (24 * n) → nat_abs (v -ℤ pos (3110400 * n) *ℤ pos 5760) ≤ (8192 * 737280 + 1920 * (3110400 + 737280)) * n → pos (8 * q) ≤ℤ (pos 6 *ℤ v)
-outweighs v n q most h = omega (arith, ints)
-
-signed_component : (bit : Bool) (z : ℤ) (n q : ℕ) → q ≤ 101376000 * (24 * n) →
-    nat_abs (z -ℤ pos (3110400 * n) *ℤ (pos 64 *ℤ component bit)) ≤ (8192 * 737280 + 1920 * (3110400 + 737280)) * n → pos (8 * q) ≤ℤ (pos 6 *ℤ (sign bit *ℤ z))
-signed_component bit z n q most h =
-    outweighs (sign bit *ℤ z) n q most
-    (sign-turns (sign bit) z (pos (3110400 * n) *ℤ pos 5760) _ (sign-unit bit)
-    (subst (λ x. nat_abs (z -ℤ x) ≤ (8192 * 737280 + 1920 * (3110400 + 737280)) * n) (ap (λ c. pos (3110400 * n) *ℤ (pos 64 *ℤ c)) (component_is bit) ∙ regrouped (pos (3110400 * n)) (sign bit)) h))
-
--- ---- a value
-
-quotient-least : (a q : ℕ) → 0 < q → 8 * q ≤ a → 8 ≤ a / q
-quotient-least a q some h = elim (cases_lt (a / q) 8) [
-  | inl less ↦ absurd (let k : a < 8 * q = (div-lt_iff_lt-mul some).0 less in omega (arith, h, k))
-  | inr enough ↦ enough
-]
-
-clamped_high : (x : ℤ) (q : ℕ) → 0 < q → pos (8 * q) ≤ℤ x → pos 8 ≤ℤ clamped (int_div x (pos q)) 127
-clamped_high (pos a) q some h = let k = quotient-least a q some (omega (arith, ints)) in omega (arith, ints, k)
-clamped_high (negsuc a) q some h = absurd (omega (arith, ints))
-
-clamped_negative : (m : ℕ) → 8 ≤ m → clamped (neg_ℤ (pos m)) 127 ≤ℤ neg_ℤ (pos 8)
-clamped_negative zero h = absurd (omega arith)
-clamped_negative (suc m) h = least (min (m + 1) 127) (omega arith)
-  where
-    least : (k : ℕ) → 8 ≤ k → neg_ℤ (pos k) ≤ℤ neg_ℤ (pos 8)
-    least k l = omega (arith, ints)
-
-clamped_low : (x : ℤ) (q : ℕ) → 0 < q → x ≤ℤ neg_ℤ (pos (8 * q)) → clamped (int_div x (pos q)) 127 ≤ℤ neg_ℤ (pos 8)
-clamped_low (pos a) q some h = absurd (omega (arith, ints))
-clamped_low (negsuc a) q some h = clamped_negative (suc a / q) (quotient-least (suc a) q some (omega (arith, ints)))
-
-value_is : (c : ℤ) (q : ℕ) → 1 ≤ q → soft_value c q ≡ clamped (int_div (pos 6 *ℤ c) (pos q)) 127
-value_is c q some = let e : nat_eq q 0 ≡ false = grind (arith, nat_tests) in rw e refl
-
-supports : (bit : Bool) (c : ℤ) (q : ℕ) → 1 ≤ q → pos (8 * q) ≤ℤ (pos 6 *ℤ (sign bit *ℤ c)) → Supports 8 bit (soft_value c q)
-supports false c q some h = subst (λ v. pos 8 ≤ℤ v) (sym (value_is c q some)) (clamped_high (pos 6 *ℤ c) q some (subst (λ v. pos (8 * q) ≤ℤ (pos 6 *ℤ v)) (one-times c) h))
-supports true c q some h = subst (λ v. v ≤ℤ neg_ℤ (pos 8)) (sym (value_is c q some)) (clamped_low (pos 6 *ℤ c) q some (turned (pos 6 *ℤ c) (8 * q) (subst (λ v. pos (8 * q) ≤ℤ v) (opposite c) h)))
-  where
-    opposite : (c : ℤ) → pos 6 *ℤ (negsuc 0 *ℤ c) ≡ neg_ℤ (pos 6 *ℤ c)
-    opposite c = same (ring.times (lit 6) (ring.times (ring.minus_one (lit 1)) (var c))) (ring.minus_one (ring.times (lit 6) (var c))) (omega arith)
-
-    turned : (x : ℤ) (k : ℕ) → pos k ≤ℤ neg_ℤ x → x ≤ℤ neg_ℤ (pos k)
-    turned x k h = omega (arith, ints)
-
 -- ---- a place
 
 pub values_support_bits : ValuesSupportBits
 unfolding soft_values
 values_support_bits gain slot symbol k first second seen here =
-    record {
-      re = supports first t.re q energy.least (signed_component first t.re (square gain) q energy.most near.re);
-      im = supports second t.im q energy.least (signed_component second t.im (square gain) q energy.most near.im);
-    }
+    record { re = each first t.re near.re; im = each second t.im near.im }
   where
     t : Cpx
     t = equalised slot symbol k
@@ -164,11 +92,25 @@ values_support_bits gain slot symbol k first second seen here =
     estimate : IsNear (square gain) gain 3110400 737280 (channel slot k)
     estimate = channel-near gain slot k seen
 
-    near : IsWithin ((8192 * 737280 + 1920 * (3110400 + 737280)) * square gain) (minus (equalised slot symbol k) (multiple (3110400 * square gain) (multiple 64 (point first second))))
-    near = subst (λ (z : Cpx). IsWithin ((8192 * 737280 + 1920 * (3110400 + 737280)) * square gain) (minus z (multiple (3110400 * square gain) (multiple 64 a))))
+    product : IsWithin (13427343360 * square gain) (minus (equalised slot symbol k) (multiple (3110400 * square gain) (multiple 64 (point first second))))
+    product = subst (λ (z : Cpx). IsWithin (13427343360 * square gain) (minus z (multiple (3110400 * square gain) (multiple 64 a))))
         (ap₂ (λ (x y : Cpx). times x (conjugate y)) (sym (seen_is gain a (seen_at slot symbol k))) (sym estimate.is))
         (product_near gain (multiple 64 a) (deviation gain a (seen_at slot symbol k)) estimate.off 3110400 8192 1920 737280 (point-small first second)
         (deviation-sized gain a (seen_at slot symbol k) here) estimate.small)
+
+    near : IsWithin (13427343360 * square gain) (minus t (multiple (199065600 * square gain) a))
+    near = subst (λ (z : Cpx). IsWithin (13427343360 * square gain) (minus t z))
+        (multiple_twice (3110400 * square gain) 64 a ∙ ap (λ n. multiple n a) (unit (square gain))) product
+      where
+        unit : (n : ℕ) → 3110400 * n * 64 ≡ 199065600 * n
+        unit n = omega arith
+
+    few : q ≤ 2433024000 * square gain
+    few = omega (arith, energy.most)
+
+    -- 8 * 2433024000 and 6 * 13427343360 are less than 540 * 199065600
+    each : (bit : Bool) (c : ℤ) → nat_abs (c -ℤ pos (199065600 * square gain) *ℤ component bit) ≤ 13427343360 * square gain → Supports 8 bit (soft_value c q)
+    each bit c h = near_component_speaks 8 199065600 13427343360 2433024000 (omega arith) (omega arith) (omega arith) (square gain) q bit c energy.least few h
 
 -- ---- in a recording
 

@@ -1,0 +1,21 @@
+-- The sign of a soft value, and its size: what a component says of the bit that it stands for. (own)
+use Rattle.std.specs.Prelude.{ℕ, ◌+◌, ◌*◌, ◌≤◌, Bool, true, false, ℤ, pos, negsuc, ◌-ℤ◌, ◌*ℤ◌, ◌≤ℤ◌, nat_abs}
+use Rattle.cs_bits.specs.Signs.{Supports}
+use Rattle.crs.specs.Qpsk.{component}
+use Rattle.soft_bits.specs.Soft.{soft_value}
+
+-- the sign of a bit: 1 for 0 and -1 for 1
+abbrev pub sign : Bool → ℤ
+sign false = pos 1
+sign true = negsuc 0
+
+-- a value speaks for a bit with a size of 1 to 127 where six times the component, by the bit's sign, is at least so many times the energy
+abbrev pub LargeComponentSpeaks : Type 0
+LargeComponentSpeaks = (size energy : ℕ) (bit : Bool) (c : ℤ) → 1 ≤ size → size ≤ 127 → 1 ≤ energy → pos (size * energy) ≤ℤ (pos 6 *ℤ (sign bit *ℤ c)) →
+    Supports size bit (soft_value c energy)
+
+-- so it does where the component is a multiple of that of the bit, in any unit, up to a deviation that leaves enough: of six times 90
+-- times `main` units, six times `off` taken away, at least the size times `most`, where the energy has at most `most` units
+abbrev pub NearComponentSpeaks : Type 0
+NearComponentSpeaks = (size main off most : ℕ) → 1 ≤ size → size ≤ 127 → size * most + 6 * off ≤ 540 * main →
+    (unit energy : ℕ) (bit : Bool) (c : ℤ) → 1 ≤ energy → energy ≤ most * unit → nat_abs (c -ℤ pos (main * unit) *ℤ component bit) ≤ off * unit → Supports size bit (soft_value c energy)
