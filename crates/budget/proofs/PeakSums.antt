@@ -1,6 +1,6 @@
 -- The finite sums by which the primary signals stand out: their powers, and of each signal against itself or another one, up to 9
 -- samples apart, the correlation of what overlaps, its energy, and the energy of what does not.
-use Rattle.std.proofs.Common.{◌≡◌, ◌≢◌, ℕ, zero, suc, ◌+◌, ◌-◌, ◌*◌, ◌<◌, ◌≤◌, Bool, true, false, arith, refl, ap, ap₂, ◌∙◌, nat_le, nat_eq}
+use Rattle.std.proofs.Common.{◌≡◌, ◌≢◌, ℕ, ◌+◌, ◌-◌, ◌*◌, ◌<◌, ◌≤◌, Bool, true, false, arith, refl, ap, ap₂, ◌∙◌, nat_le, nat_eq}
 use Rattle.std.specs.Prelude.{◌&&◌, ◌||◌}
 use Rattle.std.proofs.lemmas.Bool.{leb-true, and_parts}
 use Rattle.std.proofs.lemmas.Bool.Decides.{nat_tests}
@@ -12,7 +12,7 @@ use Rattle.cs_num.specs.Complex.{square}
 use Rattle.sizes.specs.Sizes.{energy_below, correlation_below}
 use Rattle.sizes.proofs.Cauchy.{energy_same, correlation_same}
 use Rattle.pss_search.specs.Correlation.{wave}
-use Rattle.budget.proofs.Waves.{re_25, im_25, samples_25, re_29, im_29, samples_29, re_34, im_34, samples_34, wave_25, wave_29, wave_34}
+use Rattle.budget.proofs.Waves.{re_25, im_25, re_29, im_29, re_34, im_34, re_of, im_of, samples, wave_is}
 
 -- A window of 128 samples begins d samples after one that begins 9 samples before a signal. So many of its samples stand before the
 -- signal, so many of the signal's before the window, and so many in both.
@@ -89,17 +89,9 @@ sharp_at p d = nat_eq d 9 || faint_at (3 * energy_below 128 p) p p d
 unfoldable is_sharp : (ℕ → Cpx) → Bool
 is_sharp p = nat_le 1990000 (energy_below 128 p) && every_below 19 (sharp_at p)
 
-sharp_25 : is_sharp samples_25 ≡ true
-unfolding is_sharp sharp_at is_faint re_25 im_25 samples_25 sum_below total_below every_below
-sharp_25 = refl
-
-sharp_29 : is_sharp samples_29 ≡ true
-unfolding is_sharp sharp_at is_faint re_29 im_29 samples_29 sum_below total_below every_below
-sharp_29 = refl
-
-sharp_34 : is_sharp samples_34 ≡ true
-unfolding is_sharp sharp_at is_faint re_34 im_34 samples_34 sum_below total_below every_below
-sharp_34 = refl
+all_sharp : every_below 3 (λ n2. is_sharp (samples n2)) ≡ true
+unfolding is_sharp sharp_at is_faint re_25 im_25 re_29 im_29 re_34 im_34 re_of im_of samples sum_below total_below every_below
+all_sharp = refl
 
 or_second : (a b : Bool) → a ≡ false → (a || b) ≡ true → b ≡ true
 or_second true b e h = absurd cc
@@ -122,10 +114,9 @@ sharp_tells p q same test = record {
     parts = and_parts _ _ test
 
 pub wave_is_sharp : (n2 : ℕ) → n2 ≤ 2 → IsSharp (wave n2)
-wave_is_sharp zero h = sharp_tells (wave 0) samples_25 wave_25 sharp_25
-wave_is_sharp (suc zero) h = sharp_tells (wave 1) samples_29 wave_29 sharp_29
-wave_is_sharp (suc (suc zero)) h = sharp_tells (wave 2) samples_34 wave_34 sharp_34
-wave_is_sharp (suc (suc (suc n2))) h = absurd (omega arith)
+wave_is_sharp n2 h =
+    let known : n2 < 3 = omega (arith, h) in
+    sharp_tells (wave n2) (samples n2) (λ n l. wave_is n2 n known l) (every_below_at 3 (λ n2. is_sharp (samples n2)) all_sharp n2 known)
 
 -- ---- a signal against another one
 
@@ -136,20 +127,13 @@ AreApart p q = (d : ℕ) → d < 19 → IsFaintAt (energy_below 128 q - 1) p q d
 unfoldable apart_at : (ℕ → Cpx) → (ℕ → Cpx) → ℕ → Bool
 apart_at p q d = faint_at (energy_below 128 q - 1) p q d
 
-unfoldable are_apart : (ℕ → Cpx) → (ℕ → Cpx) → Bool
-are_apart p q = every_below 19 (apart_at p q) && every_below 19 (apart_at q p)
+-- of two numbers that differ
+unfoldable are_apart : ℕ → ℕ → Bool
+are_apart n2 m2 = nat_eq n2 m2 || every_below 19 (apart_at (samples n2) (samples m2))
 
-apart_25_29 : are_apart samples_25 samples_29 ≡ true
-unfolding are_apart apart_at is_faint re_25 im_25 samples_25 re_29 im_29 samples_29 sum_below total_below every_below
-apart_25_29 = refl
-
-apart_25_34 : are_apart samples_25 samples_34 ≡ true
-unfolding are_apart apart_at is_faint re_25 im_25 samples_25 re_34 im_34 samples_34 sum_below total_below every_below
-apart_25_34 = refl
-
-apart_29_34 : are_apart samples_29 samples_34 ≡ true
-unfolding are_apart apart_at is_faint re_29 im_29 samples_29 re_34 im_34 samples_34 sum_below total_below every_below
-apart_29_34 = refl
+all_apart : every_below 3 (λ n2. every_below 3 (are_apart n2)) ≡ true
+unfolding are_apart apart_at is_faint re_25 im_25 re_29 im_29 re_34 im_34 re_of im_of samples sum_below total_below every_below
+all_apart = refl
 
 one_way : (p q v w : ℕ → Cpx) → Agree p v → Agree q w → every_below 19 (apart_at v w) ≡ true → AreApart p q
 unfolding apart_at
@@ -157,32 +141,11 @@ one_way p q v w first second test d l = faint_tells _ _ _ _ _
     (ap (λ (share : ℕ). faint_at share p q d) (ap (λ (n : ℕ). n - 1) (energy_same 128 q w second)) ∙ faint_same (energy_below 128 w - 1) p q v w d l first second
     ∙ every_below_at 19 (apart_at v w) test d l)
 
-both_ways : (p q v w : ℕ → Cpx) → Agree p v → Agree q w → are_apart v w ≡ true → AreApart p q × AreApart q p
-unfolding are_apart
-both_ways p q v w first second test =
-    let parts = and_parts _ _ test in
-    (one_way p q v w first second parts.0, one_way q p w v second first parts.1)
-
-waves_25_29 : AreApart (wave 0) (wave 1) × AreApart (wave 1) (wave 0)
-waves_25_29 = both_ways (wave 0) (wave 1) samples_25 samples_29 wave_25 wave_29 apart_25_29
-
-waves_25_34 : AreApart (wave 0) (wave 2) × AreApart (wave 2) (wave 0)
-waves_25_34 = both_ways (wave 0) (wave 2) samples_25 samples_34 wave_25 wave_34 apart_25_34
-
-waves_29_34 : AreApart (wave 1) (wave 2) × AreApart (wave 2) (wave 1)
-waves_29_34 = both_ways (wave 1) (wave 2) samples_29 samples_34 wave_29 wave_34 apart_29_34
-
 pub waves_are_apart : (n2 m2 : ℕ) → n2 ≤ 2 → m2 ≤ 2 → n2 ≢ m2 → AreApart (wave n2) (wave m2)
-waves_are_apart zero zero h k ne = absurd (ne refl)
-waves_are_apart zero (suc zero) h k ne = waves_25_29.0
-waves_are_apart zero (suc (suc zero)) h k ne = waves_25_34.0
-waves_are_apart (suc zero) zero h k ne = waves_25_29.1
-waves_are_apart (suc zero) (suc zero) h k ne = absurd (ne refl)
-waves_are_apart (suc zero) (suc (suc zero)) h k ne = waves_29_34.0
-waves_are_apart (suc (suc zero)) zero h k ne = waves_25_34.1
-waves_are_apart (suc (suc zero)) (suc zero) h k ne = waves_29_34.1
-waves_are_apart (suc (suc zero)) (suc (suc zero)) h k ne = absurd (ne refl)
-waves_are_apart (suc (suc (suc n2))) m2 h k ne = absurd (omega arith)
-waves_are_apart zero (suc (suc (suc m2))) h k ne = absurd (omega arith)
-waves_are_apart (suc zero) (suc (suc (suc m2))) h k ne = absurd (omega arith)
-waves_are_apart (suc (suc zero)) (suc (suc (suc m2))) h k ne = absurd (omega arith)
+unfolding are_apart
+waves_are_apart n2 m2 h k ne =
+    let first : n2 < 3 = omega (arith, h) in
+    let second : m2 < 3 = omega (arith, k) in
+    let test = every_below_at 3 (are_apart n2) (every_below_at 3 (λ n2. every_below 3 (are_apart n2)) all_apart n2 first) m2 second in
+    let differ : nat_eq n2 m2 ≡ false = grind (arith, nat_tests) in
+    one_way (wave n2) (wave m2) (samples n2) (samples m2) (λ n l. wave_is n2 n first l) (λ n l. wave_is m2 n second l) (or_second _ _ differ test)

@@ -1,6 +1,6 @@
 -- The samples of the three primary signals, computed once: the useful parts of the symbols that hold them, by the roots 25, 29
 -- and 34. (of TS 36.211 sections 6.11.1 and 6.12)
-use Rattle.std.proofs.Common.{◌≡◌, ℕ, ◌<◌, Bool, true, List, [], ◌∷◌, ℤ, pos, negsuc, get_or, refl}
+use Rattle.std.proofs.Common.{◌≡◌, ℕ, zero, suc, ◌<◌, Bool, true, List, [], ◌∷◌, ℤ, pos, negsuc, get_or, refl}
 use Rattle.finite.specs.Sums.{sum_below}
 use Rattle.finite.specs.Tests.{every_below}
 use Rattle.finite.proofs.Tests.{every_below_at}
@@ -10,15 +10,6 @@ use Rattle.fold128.specs.Tables.{quarter, cosine, w_at, z_real, z_imaginary, z_a
 use Rattle.fold128.specs.Symbol.{useful_at}
 use Rattle.sync_seq.specs.Primary.{pss_at}
 use Rattle.pss_search.specs.Correlation.{wave}
-
--- sample n of a root's signal is that of a table
-unfoldable is_sample : ℕ → (ℕ → Cpx) → ℕ → Bool
-is_sample n2 samples n = is_same (wave n2 n) (samples n)
-
--- the tests of all 128 places tell that the table holds the signal
-samples_tell : (n2 : ℕ) (samples : ℕ → Cpx) → every_below 128 (is_sample n2 samples) ≡ true → (n : ℕ) → n < 128 → wave n2 n ≡ samples n
-unfolding is_sample
-samples_tell n2 samples all n l = is_same_tells _ _ (every_below_at 128 (is_sample n2 samples) all n l)
 
 unfoldable pub re_25 : List ℤ
 re_25 =
@@ -50,16 +41,6 @@ im_25 =
     negsuc 144 ∷ negsuc 80 ∷ pos 56 ∷ pos 122 ∷ pos 26 ∷ negsuc 115 ∷ negsuc 110 ∷ pos 37 ∷ pos 117 ∷ pos 8 ∷
     negsuc 144 ∷ negsuc 140 ∷ pos 1 ∷ pos 104 ∷ pos 100 ∷ pos 70 ∷ pos 70 ∷ pos 49 ∷ negsuc 11 ∷ negsuc 40 ∷ pos 0 ∷
     pos 41 ∷ pos 35 ∷ pos 48 ∷ pos 117 ∷ pos 140 ∷ pos 21 ∷ negsuc 131 ∷ negsuc 133 ∷ pos 1 ∷ pos 69 ∷ negsuc 6 ∷ []
-
-unfoldable pub samples_25 : ℕ → Cpx
-samples_25 n = record { re = get_or re_25 n (pos 0); im = get_or im_25 n (pos 0) }
-
-all_25 : every_below 128 (is_sample 0 samples_25) ≡ true
-unfolding re_25 im_25 samples_25 is_sample quarter cosine w_at z_real z_imaginary z_at pss_at useful_at wave sum_below every_below
-all_25 = refl
-
-pub wave_25 : (n : ℕ) → n < 128 → wave 0 n ≡ samples_25 n
-wave_25 = samples_tell 0 samples_25 all_25
 
 unfoldable pub re_29 : List ℤ
 re_29 =
@@ -93,16 +74,6 @@ im_29 =
     negsuc 86 ∷ pos 57 ∷ pos 112 ∷ pos 7 ∷ negsuc 118 ∷ negsuc 101 ∷ pos 30 ∷ pos 100 ∷ pos 22 ∷ negsuc 90 ∷ negsuc 93 ∷
     pos 6 ∷ []
 
-unfoldable pub samples_29 : ℕ → Cpx
-samples_29 n = record { re = get_or re_29 n (pos 0); im = get_or im_29 n (pos 0) }
-
-all_29 : every_below 128 (is_sample 1 samples_29) ≡ true
-unfolding re_29 im_29 samples_29 is_sample quarter cosine w_at z_real z_imaginary z_at pss_at useful_at wave sum_below every_below
-all_29 = refl
-
-pub wave_29 : (n : ℕ) → n < 128 → wave 1 n ≡ samples_29 n
-wave_29 = samples_tell 1 samples_29 all_29
-
 unfoldable pub re_34 : List ℤ
 re_34 =
     negsuc 108 ∷ negsuc 50 ∷ pos 63 ∷ pos 133 ∷ pos 133 ∷ pos 120 ∷ pos 131 ∷ pos 120 ∷ pos 44 ∷ negsuc 46 ∷ negsuc 72 ∷
@@ -135,12 +106,28 @@ im_34 =
     pos 124 ∷ pos 81 ∷ pos 42 ∷ pos 90 ∷ pos 147 ∷ pos 87 ∷ negsuc 56 ∷ negsuc 111 ∷ negsuc 6 ∷ pos 119 ∷ pos 102 ∷
     negsuc 29 ∷ negsuc 99 ∷ negsuc 21 ∷ pos 91 ∷ pos 94 ∷ negsuc 5 ∷ []
 
-unfoldable pub samples_34 : ℕ → Cpx
-samples_34 n = record { re = get_or re_34 n (pos 0); im = get_or im_34 n (pos 0) }
+-- the tables by the signal's number
+unfoldable pub re_of : ℕ → List ℤ
+re_of zero = re_25
+re_of (suc zero) = re_29
+re_of (suc (suc n2)) = re_34
 
-all_34 : every_below 128 (is_sample 2 samples_34) ≡ true
-unfolding re_34 im_34 samples_34 is_sample quarter cosine w_at z_real z_imaginary z_at pss_at useful_at wave sum_below every_below
-all_34 = refl
+unfoldable pub im_of : ℕ → List ℤ
+im_of zero = im_25
+im_of (suc zero) = im_29
+im_of (suc (suc n2)) = im_34
 
-pub wave_34 : (n : ℕ) → n < 128 → wave 2 n ≡ samples_34 n
-wave_34 = samples_tell 2 samples_34 all_34
+unfoldable pub samples : ℕ → ℕ → Cpx
+samples n2 n = record { re = get_or (re_of n2) n (pos 0); im = get_or (im_of n2) n (pos 0) }
+
+-- sample n of a signal is that of its table
+unfoldable is_sample : ℕ → ℕ → Bool
+is_sample n2 n = is_same (wave n2 n) (samples n2 n)
+
+all_are : every_below 3 (λ n2. every_below 128 (is_sample n2)) ≡ true
+unfolding re_25 im_25 re_29 im_29 re_34 im_34 re_of im_of samples is_sample quarter cosine w_at z_real z_imaginary z_at pss_at useful_at wave sum_below every_below
+all_are = refl
+
+pub wave_is : (n2 n : ℕ) → n2 < 3 → n < 128 → wave n2 n ≡ samples n2 n
+unfolding is_sample
+wave_is n2 n known l = is_same_tells _ _ (every_below_at 128 (is_sample n2) (every_below_at 3 (λ n2. every_below 128 (is_sample n2)) all_are n2 known) n l)

@@ -24,8 +24,8 @@ block_bits plan sfn =
 unfoldable pub broadcast_word : CellPlan → ℕ → List Bool
 broadcast_word plan sfn = with_check_16 0 (block_bits plan sfn)
 
--- bit n of the coded and matched bits of a word, which are repeated without end, scrambled by the sequence of c_init (TS 36.212
--- sections 5.1.3.1 and 5.1.4.2, TS 36.211 section 7.2)
+-- bit n of the coded and matched bits of a word, which are repeated without end, scrambled by the sequence of c_init
+-- (TS 36.212 sections 5.1.3.1 and 5.1.4.2, TS 36.211 section 7.2)
 abbrev pub scrambled_bit : ℕ → List Bool → ℕ → Bool
 scrambled_bit c_init word n = xor (bit_at_place (coded_word word) (place_of (length word) n)) (gold_bit c_init n)
 

@@ -32,8 +32,8 @@ pub record IsCount (samples : ℕ) : Type 0 where
 abbrev pub AreNear : List Sample → (ℕ → Cpx) → ℕ → Type 0
 AreNear recording values eps = (i : ℕ) → i < length recording → IsWithin eps (minus (sample_at recording i) (values i))
 
--- the samples are those of a sequence, from its sample at offset on, times the gain, and each component is off by at most eps, which
--- is at most twice the gain's size
+-- the samples are those of a sequence, from its sample at offset on, times the gain, and each component is off by at
+-- most eps, which is at most twice the gain's size
 pub record IsCleanOf (sequence : ℕ → Cpx) (recording : List Sample) (offset : ℕ) (gain : Cpx) (eps : ℕ) : Type 0 where
   pub within : IsOffset offset
   pub size : IsGain gain

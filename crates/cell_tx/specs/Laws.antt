@@ -60,7 +60,8 @@ abbrev pub ReceivedWithErrorsIsClean : Type 0
 ReceivedWithErrorsIsClean = (sequence : ℕ → Cpx) (offset count : ℕ) (gain : Cpx) (eps : ℕ) (errors : ℕ → Cpx) → IsOffset offset → IsGain gain →
     eps * eps ≤ 4 * square gain → ((i : ℕ) → i < count → IsWithin eps (errors i)) → IsCleanOf sequence (received_with sequence offset count gain errors) offset gain eps
 
--- and where no sample of the sequence has a size above 1,153, their components have sizes of at most 32,340, so that they fit 16 bits
+-- and where no sample of the sequence has a size above 1,153, their components have sizes of at most 32,340, so that
+-- they fit 16 bits
 abbrev pub ReceivedWithErrorsFits : Type 0
 ReceivedWithErrorsFits = (clean gain error : Cpx) (eps : ℕ) → square clean ≤ 1153 * 1153 → IsGain gain → eps * eps ≤ 4 * square gain → IsWithin eps error →
     IsWithin 32340 (plus (times gain clean) error)

@@ -1,5 +1,5 @@
--- The samples that elements make, frame after frame without end (TS 36.211 section 6.12, in whole numbers); a cell sends those of its
--- own.
+-- The samples that elements make, frame after frame without end (TS 36.211 section 6.12, in whole numbers); a cell
+-- sends those of its own.
 use Rattle.std.specs.Prelude.{ℕ, ◌+◌, ◌-◌, ◌*◌, ◌/◌, ◌%◌, nat_lt, if◌then◌else◌, ℤ}
 use Rattle.cs_num.specs.declared.Cpx.{Cpx}
 use Rattle.cs_num.specs.declared.Sample.{Sample}

@@ -96,8 +96,10 @@ fn first_of(symbol: usize) -> usize
 fn put_symbol(signals: &Signals, symbol: usize, out: &mut [Sample])
     requires symbol { symbol < 140 }
     requires room { length out.old ≡ frame_length }
-    requires before { HasSamples out.old (frame_sample (element signals.now.cell.now) signals.now.sfn) (first_sample symbol) }
-    ensures { HasSamples out.new (frame_sample (element signals.now.cell.now) signals.now.sfn) (first_sample (symbol + 1)) }
+    requires before { HasSamples out.old (frame_sample (element signals.now.cell.now) signals.now.sfn)
+        (first_sample symbol) }
+    ensures { HasSamples out.new (frame_sample (element signals.now.cell.now) signals.now.sfn)
+        (first_sample (symbol + 1)) }
 {
     let slot = symbol / 7;
     let useful = useful_of(signals, slot as u8, (symbol % 7) as u8);
@@ -161,7 +163,8 @@ pub fn send(t: &Transmission, i: u32) -> Sample
 // Makes the frame of sample i of a transmission, where that of the sample before is another one.
 fn enter_frame(t: &Transmission, i: usize, clean: &mut [Sample; FRAME_LENGTH])
     requires i { i < t.now.samples }
-    requires before { 0 < i → clean.old ≡ frame_samples (element t.now.cell) (number_of t.now.sfn (i - 1 + t.now.offset)) }
+    requires before { 0 < i → clean.old
+        ≡ frame_samples (element t.now.cell) (number_of t.now.sfn (i - 1 + t.now.offset)) }
     ensures { clean.new ≡ frame_samples (element t.now.cell) (number_of t.now.sfn (i + t.now.offset)) }
 {
     let n = i as u64 + t.offset as u64;

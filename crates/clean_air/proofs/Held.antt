@@ -1,4 +1,5 @@
--- A list holds each cell that is heard: whose signals stand at its places, and whose first frame tells a master block of its number.
+-- A list holds each cell that is heard: whose signals stand at its places, and whose first frame tells a master block
+-- of its number.
 use Rattle.std.proofs.Common.{◌≡◌, ℕ, ◌+◌, ◌/◌, ◌%◌, ◌<◌, ◌≤◌, inl, inr, arith, refl, ap, sym, subst, ◌∙◌, List, length, nat_eq, nat_le, true}
 use Rattle.std.specs.Prelude.{◌&&◌, Result}
 use Rattle.std.specs.List.{Contains}
@@ -32,8 +33,8 @@ use Rattle.clean_air.specs.Clean.{HoldsOne}
 use Rattle.clean_air.proofs.SentSymbols.{IsTruePlace}
 use Rattle.clean_air.proofs.TruePlaces.{AreNear, true_hit, true_start, near_true, near_starts, same_numbers}
 
--- what is used of a cell that begins at this offset: its synchronisation signals stand at its places, and its first whole frame, of this
--- number, tells this master block
+-- what is used of a cell that begins at this offset: its synchronisation signals stand at its places, and its first
+-- whole frame, of this number, tells this master block
 pub record IsHeard (Tells : ℕ → ℕ → ℕ → ℕ → Master → Type 0) (recording : List Sample) (identity offset number : ℕ) (master : Master) : Type 0 where
   pub long : 57600 ≤ length recording
   pub within : offset < 19200
@@ -100,8 +101,8 @@ module _ (Tells : ℕ → ℕ → ℕ → ℕ → Master → Type 0) (IsSystem :
           };
         }
 
-    -- an entry of a hit with the cell's identity and a start near the cell's has the cell's start: its hit is near a true place, and
-    -- no place near that one is a hit
+    -- an entry of a hit with the cell's identity and a start near the cell's has the cell's start: its hit is near a
+    -- true place, and no place near that one is a hit
     start_is : (other : Entry) (is : IsOfSome other) → other.id ≡ identity → AreNear other.start (start_after offset) → other.start ≡ start_after offset
     start_is other is id near =
         let hit = is.hit in
@@ -119,7 +120,8 @@ module _ (Tells : ℕ → ℕ → ℕ → ℕ → Master → Type 0) (IsSystem :
     there other is id start =
         subst (λ n. Tells identity n other.frame other.phase (master_of other)) start (subst (λ n. Tells n other.start other.frame other.phase (master_of other)) id is.is_of.master)
 
-    -- an entry of a hit with the cell's identity, start and number is the cell's entry: it tells the same master block of the same frame
+    -- an entry of a hit with the cell's identity, start and number is the cell's entry: it tells the same master block
+    -- of the same frame
     entry_is : (other : Entry) → IsOfSome other → other.id ≡ identity → other.start ≡ start_after offset → other.sfn ≡ number → other ≡ sent_entry
     entry_is other is id start sfn_is =
         let frame : other.frame ≡ 0 = elim (cases_lt 0 other.frame) [

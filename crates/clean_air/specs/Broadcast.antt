@@ -11,14 +11,15 @@ use Rattle.pbch.specs.Master.{PassesWith, Tells}
 use Rattle.clean_air.specs.Values.{IsSlotReceived}
 use Rattle.clean_air.specs.Carried.{SpeakOfWord, sums_of, CarryWord}
 
--- where values speak of a word of 40 bits whose check passes with the mask of so many ports, and whose code of the bandwidth is one, it
--- is what they tell
+-- where values speak of a word of 40 bits whose check passes with the mask of so many ports, and whose code of the
+-- bandwidth is one, it is what they tell
 abbrev pub SentWordIsTold : Type 0
 SentWordIsTold =
     (c_init first ports : ℕ) (word : List Bool) (values : List ℤ) → length word ≡ 40 → SpeakOfWord c_init first word values → PassesWith ports word → field word 0 3 ≤ 5 →
     Tells (sums_of c_init first 40 values) word ports
 
--- in a recording: a slot that is received, and whose broadcast channel carries such a word in a frame of this phase, tells it
+-- in a recording: a slot that is received, and whose broadcast channel carries such a word in a frame of this phase,
+-- tells it
 abbrev pub ReceivedSlotTells : Type 0
 ReceivedSlotTells =
     (recording : List Sample) (starts : ℕ → ℕ) (grids : ℕ → ℕ → Cpx) (slot : SeenSlot) (phase ports : ℕ) (word : List Bool) → IsSlotReceived recording starts grids slot →

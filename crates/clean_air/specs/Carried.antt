@@ -1,5 +1,6 @@
--- A coded word that is sent at places of a slot, matched and scrambled: the soft values of these places speak for it, and tell it alone.
--- (own; the coding is that of TS 36.212 sections 5.1.3.1 and 5.1.4.2, the scrambling that of TS 36.211 section 7.2)
+-- A coded word that is sent at places of a slot, matched and scrambled: the soft values of these places speak for it,
+-- and tell it alone. (own; the coding is that of TS 36.212 sections 5.1.3.1 and 5.1.4.2, the scrambling that of TS
+-- 36.211 section 7.2)
 use Rattle.std.specs.Prelude.{◌≡◌, ℕ, ◌+◌, ◌*◌, ◌%◌, ◌<◌, ◌≤◌, Bool, All, List, length, slice_index_or, ℤ, pos}
 use Rattle.cs_num.specs.declared.Cpx.{Cpx}
 use Rattle.cs_num.specs.declared.Sample.{Sample}
@@ -14,8 +15,8 @@ use Rattle.cell_tx.specs.Block.{scrambled_bit}
 use Rattle.clean_air.specs.Values.{IsSlotReceived}
 use Rattle.clean_air.specs.Words.{IsOnlyWord}
 
--- each value speaks for a scrambled bit of the word: for bit `first`, with which a reading of the coded word begins, and the bits after
--- it; there is one at least for each coded bit
+-- each value speaks for a scrambled bit of the word: for bit `first`, with which a reading of the coded word begins,
+-- and the bits after it; there is one at least for each coded bit
 pub record SpeakOfWord (c_init first : ℕ) (word : List Bool) (values : List ℤ) : Type 0 where
   pub begins : first % (3 * length word) ≡ 0
   pub enough : 3 * length word ≤ length values

@@ -10,7 +10,8 @@ use Rattle.cell_tx.specs.declared.cell.CellPlan.{CellPlan}
 use Rattle.cell_tx.specs.Plan.{IsSendable}
 use Rattle.cell_tx.specs.Clean.{IsClean, start_of, number_at_start}
 
--- the list has an entry with this identity, start and frame number, which is as it was sent; every entry with these three is that one
+-- the list has an entry with this identity, start and frame number, which is as it was sent; every entry with these
+-- three is that one
 pub record HoldsOne (list : List Entry) (identity first number : ℕ) (is_sent : Entry → Type 0) : Type 0 where
   pub entry : Entry
   pub inside : Contains list entry
@@ -20,8 +21,8 @@ pub record HoldsOne (list : List Entry) (identity first number : ℕ) (is_sent :
   pub sent : is_sent entry
   pub only : (other : Entry) → Contains list other → other.id ≡ identity → other.start ≡ first → other.sfn ≡ number → other ≡ entry
 
--- the entry has one antenna port (TS 36.212 section 5.3.1.1), and the fields of the master block of a cell in the frame with this number,
--- which holds the upper 8 bits of it (TS 36.331 section 6.2.2)
+-- the entry has one antenna port (TS 36.212 section 5.3.1.1), and the fields of the master block of a cell in the
+-- frame with this number, which holds the upper 8 bits of it (TS 36.331 section 6.2.2)
 pub record IsSentEntry (plan : CellPlan) (number : ℕ) (entry : Entry) : Type 0 where
   pub ports : entry.ports ≡ 1
   pub block : HasFields entry.mib N6 plan.duration plan.resource (number / 4) plan.spare

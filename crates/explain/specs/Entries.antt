@@ -43,11 +43,12 @@ values_of_entry recording entry =
 abbrev pub first_number : ℕ → ℕ → ℕ → ℕ
 first_number upper phase j = (4 * upper + phase + (1024 - j)) % 1024
 
--- the entry tells a master block of a cell with this identity, whose first frame begins at this sample: one of the first of its frames
--- that has any. `Tells` says which master block a frame tells, by identity, start, frame and phase, and `IsSystem` what is told of the
--- system information, by identity, start, frame number, antenna ports and master block
-pub record IsEntryBy (Tells : ℕ → ℕ → ℕ → ℕ → Master → Type 0) (IsSystem : ℕ → ℕ → ℕ → ℕ → Mib → Result Sib1 Sib1Reason → Type 0)
-    (recording : List Sample) (identity sample : ℕ) (entry : Entry) : Type 0 where
+-- the entry tells a master block of a cell with this identity, whose first frame begins at this sample: one of the
+-- first of its frames that has any. `Tells` says which master block a frame tells, by identity, start, frame and
+-- phase, and `IsSystem` what is told of the system information, by identity, start, frame number, antenna ports and
+-- master block
+pub record IsEntryBy (Tells : ℕ → ℕ → ℕ → ℕ → Master → Type 0)
+    (IsSystem : ℕ → ℕ → ℕ → ℕ → Mib → Result Sib1 Sib1Reason → Type 0) (recording : List Sample) (identity sample : ℕ) (entry : Entry) : Type 0 where
   pub id : entry.id ≡ identity
   pub start : entry.start ≡ sample
   pub phase : entry.phase < 4
@@ -58,7 +59,8 @@ pub record IsEntryBy (Tells : ℕ → ℕ → ℕ → ℕ → Master → Type 0)
 
 -- the entry tells a master block of the hit, by one antenna port
 abbrev pub IsEntryOf : List Sample → Hit → Entry → Type 0
-IsEntryOf recording hit entry = IsEntryBy (IsMasterAt recording) (IsSystemOf recording) recording (identity_at recording hit) (start_at recording hit) entry
+IsEntryOf recording hit entry =
+    IsEntryBy (IsMasterAt recording) (IsSystemOf recording) recording (identity_at recording hit) (start_at recording hit) entry
 
 -- entries by phase, where `Is` says which there are
 pub record AreEntries (Is : Entry → Type 0) (entries : List Entry) : Type 0 where

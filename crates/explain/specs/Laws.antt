@@ -1,4 +1,5 @@
--- What the list of a recording is, in plain words; and the same of any list of hits, where `IsOf` says which entries a hit has. (own)
+-- What the list of a recording is, in plain words; and the same of any list of hits, where `IsOf` says which entries a
+-- hit has. (own)
 use Rattle.std.specs.Prelude.{◌≡◌, ◌≢◌, ◌⊎◌, true, List}
 use Rattle.std.specs.List.{AllPairs, Contains}
 use Rattle.cs_num.specs.declared.Sample.{Sample}
@@ -10,7 +11,8 @@ use Rattle.explain.specs.Entries.{IsEntryOf, AreEntries, IsListOfHits, is_same_c
 -- hits have one list
 abbrev pub HaveOneList : (Hit → Entry → Type 0) → List Hit → Type 0
 HaveOneList IsOf hits =
-    (first second : List Entry) → IsListOfHits (λ hit. AreEntries (IsOf hit)) hits first → IsListOfHits (λ hit. AreEntries (IsOf hit)) hits second → first ≡ second
+    (first second : List Entry) → IsListOfHits (λ hit. AreEntries (IsOf hit)) hits first →
+    IsListOfHits (λ hit. AreEntries (IsOf hit)) hits second → first ≡ second
 
 -- a recording has one list
 abbrev pub IsOneList : Type 0
@@ -28,7 +30,9 @@ IsEntry recording entry = IsEntryOfSome (IsEntryOf recording) (hits_of recording
 
 -- each entry of the list of hits is one of some hit
 abbrev pub IsSoundOf : (Hit → Entry → Type 0) → List Hit → Type 0
-IsSoundOf IsOf hits = (list : List Entry) (entry : Entry) → IsListOfHits (λ hit. AreEntries (IsOf hit)) hits list → Contains list entry → IsEntryOfSome IsOf hits entry
+IsSoundOf IsOf hits =
+    (list : List Entry) (entry : Entry) → IsListOfHits (λ hit. AreEntries (IsOf hit)) hits list → Contains list entry →
+    IsEntryOfSome IsOf hits entry
 
 abbrev pub IsSound : Type 0
 IsSound = (recording : List Sample) → IsSoundOf (IsEntryOf recording) (hits_of recording)
@@ -41,7 +45,8 @@ pub record StandsFor (list : List Entry) (entry other : Entry) : Type 0 where
 -- for each entry of each hit one stands in the list: itself, or one of its cell
 abbrev pub IsCompleteOf : (Hit → Entry → Type 0) → List Hit → Type 0
 IsCompleteOf IsOf hits =
-    (list : List Entry) (entry : Entry) → IsListOfHits (λ hit. AreEntries (IsOf hit)) hits list → IsEntryOfSome IsOf hits entry → (other : Entry) × StandsFor list entry other
+    (list : List Entry) (entry : Entry) → IsListOfHits (λ hit. AreEntries (IsOf hit)) hits list → IsEntryOfSome IsOf hits entry →
+    (other : Entry) × StandsFor list entry other
 
 abbrev pub IsComplete : Type 0
 IsComplete = (recording : List Sample) → IsCompleteOf (IsEntryOf recording) (hits_of recording)

@@ -1,4 +1,5 @@
--- The master blocks of a frame, and the entries that are made of them. `Tells` and `IsSystem` are those of an entry. (own)
+-- The master blocks of a frame, and the entries that are made of them. `Tells` and `IsSystem` are those of an entry.
+-- (own)
 use Rattle.std.specs.Prelude.{◌≡◌, ℕ, ◌<◌, List, [], ◌∷◌, Option, None, Some, MatchOption, IfSome, Result}
 use Rattle.finite.specs.Lists.{joined_below}
 use Rattle.cs_num.specs.declared.Sample.{Sample}
@@ -24,7 +25,8 @@ pub record HasMaster (masters : List (Option Master)) : Type 0 where
   pub is : master_at masters phase ≡ Some master
 
 -- frame j is the first that has a master block, and these are its master blocks
-pub record IsFirstWith (Tells : ℕ → ℕ → ℕ → ℕ → Master → Type 0) (recording : List Sample) (identity start j : ℕ) (masters : List (Option Master)) : Type 0 where
+pub record IsFirstWith (Tells : ℕ → ℕ → ℕ → ℕ → Master → Type 0) (recording : List Sample) (identity start j : ℕ)
+    (masters : List (Option Master)) : Type 0 where
   pub frame : IsFirstFrame Tells recording identity start j
   pub are : (phase : ℕ) → phase < 4 → IsToldAt Tells identity start j phase (master_at masters phase)
   pub some : HasMaster masters
@@ -58,18 +60,21 @@ entries_of identity start frame masters systems count =
 -- ---- system information
 
 -- where a phase has a master block, this is told of its system information
-abbrev pub IsSystemAt : (ℕ → ℕ → ℕ → ℕ → Mib → Result Sib1 Sib1Reason → Type 0) → ℕ → ℕ → ℕ → ℕ → Option Master → Result Sib1 Sib1Reason → Type 0
+abbrev pub IsSystemAt : (ℕ → ℕ → ℕ → ℕ → Mib → Result Sib1 Sib1Reason → Type 0) → ℕ → ℕ → ℕ → ℕ → Option Master →
+    Result Sib1 Sib1Reason → Type 0
 IsSystemAt IsSystem identity start frame phase o sib1 =
     IfSome o (λ master. IsSystem identity start (first_number master.mib.upper phase frame) master.ports master.mib sib1)
 
 -- the list has the entry of a phase besides
-pub record AddsPhase (IsSystem : ℕ → ℕ → ℕ → ℕ → Mib → Result Sib1 Sib1Reason → Type 0) (identity start frame phase : ℕ) (o : Option Master) (old new : List Entry) : Type 0 where
+pub record AddsPhase (IsSystem : ℕ → ℕ → ℕ → ℕ → Mib → Result Sib1 Sib1Reason → Type 0) (identity start frame phase : ℕ)
+    (o : Option Master) (old new : List Entry) : Type 0 where
   pub sib1 : Result Sib1 Sib1Reason
   pub told : IsSystemAt IsSystem identity start frame phase o sib1
   pub adds : Adds (entry_at identity start frame phase o sib1) old new
 
 -- the list has the entries of the first phases besides, so many
-pub record AddsPhases (IsSystem : ℕ → ℕ → ℕ → ℕ → Mib → Result Sib1 Sib1Reason → Type 0) (identity start frame : ℕ) (masters : List (Option Master)) (count : ℕ) (old new : List Entry) : Type 0 where
+pub record AddsPhases (IsSystem : ℕ → ℕ → ℕ → ℕ → Mib → Result Sib1 Sib1Reason → Type 0) (identity start frame : ℕ)
+    (masters : List (Option Master)) (count : ℕ) (old new : List Entry) : Type 0 where
   pub systems : ℕ → Result Sib1 Sib1Reason
   pub told : (phase : ℕ) → phase < count → IsSystemAt IsSystem identity start frame phase (master_at masters phase) (systems phase)
   pub adds : Adds (entries_of identity start frame masters systems count) old new

@@ -1,5 +1,5 @@
--- The frames of a cell in which its master blocks are looked for: frames 0 to 7 of its start, as far as they lie within the recording.
--- `Tells` says which master block a frame tells, by identity, start, frame and phase. (own)
+-- The frames of a cell in which its master blocks are looked for: frames 0 to 7 of its start, as far as they lie
+-- within the recording. `Tells` says which master block a frame tells, by identity, start, frame and phase. (own)
 use Rattle.std.specs.Prelude.{ℕ, ◌<◌, ◌≤◌, List}
 use Rattle.cs_num.specs.declared.Sample.{Sample}
 use Rattle.pbch.specs.declared.master.Master.{Master}
