@@ -12,7 +12,8 @@ use Rattle.lte_top.specs.declared.form.Form.TheVariants.{Report as Reports, Cert
 use Rattle.lte_top.specs.declared.form.Report.TheVariants.{Hits, Ids, Search}
 use Rattle.lte_top.specs.declared.status.Status.{Status}
 use Rattle.lte_top.specs.declared.status.Status.TheVariants.{Done, Usage, Ragged, TooShort, TooLong, ReadFault, WriteFault, OutOfMemory, BadCell, BadCertificate}
-use Rattle.lte_top.specs.Certificates.{IsFirstBroken, IsListOfCells}
+use Rattle.cert_stream.specs.Stream.{IsBrokenAt}
+use Rattle.lte_top.specs.Certificates.{IsListOfCells}
 use Rattle.lte_top.specs.Forms.{IsWordsOf, Input, nothing, recording, certificates, description, input_of, limit_of, Refuses, RefusesCertificates, RefusesDescription, IsTooLong, IsValid, IsOutput}
 use Rattle.lte_top.specs.Reports.{IsTextOfList}
 use Rattle.lte_top.specs.Run.{IsRead, HasReadInput, HasOutput, HasRefusal, IsReadTooLong, IsWriteFault, Ends, RunsForm, Outcome, IsAnswerTo, HasOneAnswer, MayAnswer, IsTold, IsAnswered, IsComplete, HasRoom}
@@ -21,9 +22,8 @@ use Rattle.cell_json.specs.Reading.{refusal}
 use Rattle.lte_top.proofs.Transmitted.{one_transmitted_length}
 use Rattle.report.specs.Lines.{report_text}
 use Rattle.explain.proofs.Listed.{is_one_list}
-use Rattle.lte_top.proofs.Broken.{one_first_broken}
-use Rattle.lte_top.proofs.Judged.{one_check}
-use Rattle.lte_top.proofs.Certified.{one_certified_length}
+use Rattle.cert_stream.proofs.Rest.{one_first_broken}
+use Rattle.lte_top.proofs.Checked.{one_check, one_certified_length}
 use Rattle.lte_top.proofs.OneForm.{one_form}
 
 -- ---- outputs: a new form adds a line
@@ -49,8 +49,8 @@ one_length Transmit bytes first second a b = one_transmitted_length bytes first 
 -- ---- inputs: a new one adds a line
 
 -- a refusal of certificates tells the first place that breaks their form
-first_place : (bytes : List ℕ) (status : Status) → RefusesCertificates bytes status → (place : ℕ) × (status ≡ BadCertificate place) × IsFirstBroken bytes place
-first_place bytes (BadCertificate place) r = (place, refl, r.0)
+first_place : (bytes : List ℕ) (status : Status) → RefusesCertificates bytes status → (place : ℕ) × (status ≡ BadCertificate place) × IsBrokenAt bytes place
+first_place bytes (BadCertificate place) r = (place, refl, r)
 first_place bytes Done r = absurd r
 first_place bytes Usage r = absurd r
 first_place bytes Ragged r = absurd r
@@ -81,7 +81,7 @@ one_refusal (recording form) bytes first second a b = cc (sym a.1 ∙ b.1)
 one_refusal certificates bytes first second a b =
     let (p, e, broken) = first_place bytes first a in
     let (q, e', broken') = first_place bytes second b in
-    e ∙ ap (λ place. BadCertificate place) (one_first_broken bytes p q broken broken') ∙ sym e'
+    e ∙ ap (λ place. BadCertificate place) (one_first_broken bytes p q broken.first broken'.first) ∙ sym e'
 one_refusal description bytes first second a b =
     let (c, e, failed) = first_condition bytes first a in
     let (d, e', failed') = first_condition bytes second b in

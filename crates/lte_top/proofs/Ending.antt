@@ -1,6 +1,5 @@
 -- How the run of a form ends.
 use Rattle.std.proofs.Common.{◌≡◌, ◌%◌, List, length, None, Bool, true, false, ℕ, nat_lt, nat_eq, refl, sym, subst, ◌∙◌, arith}
-use Rattle.std.specs.List.{flat_map}
 use Rattle.std.proofs.lemmas.Bool.{ltb-true, eq-eqb}
 use Rattle.cs_num.specs.declared.Sample.{Sample}
 use Rattle.cs_outside.specs.Counts.{Rose}
@@ -8,11 +7,11 @@ use Rattle.cs_outside.specs.Outside.{SourceTold, Outside}
 use Rattle.sample_file.specs.Recording.{SampleForm, form_16}
 use Rattle.sample_file.specs.Reading.{HasReadRecording, least_bytes}
 use Rattle.lte_types.specs.declared.entry.Entry.{Entry}
-use Rattle.tail_cert.specs.Form.{bytes_of}
 use Rattle.lte_top.specs.declared.form.Form.TheVariants.{Certify}
 use Rattle.lte_top.specs.declared.status.Status.{Status}
 use Rattle.lte_top.specs.Certificates.{IsListOfCells, IsCertified}
-use Rattle.lte_top.specs.Certifying.{HasCertifiedAll, HasCertifiedSome}
+use Rattle.cert_stream.specs.Certifying.{HasCertifiedAll, HasCertifiedSome}
+use Rattle.cert_stream.specs.Stream.{all_bytes}
 use Rattle.lte_top.specs.Forms.{recording_refusal, RefusesRecording}
 use Rattle.lte_top.specs.Run.{HasOutput, IsDone, IsWriteFault}
 
@@ -42,8 +41,8 @@ certified_output samples before now output h certified = record {
 pub certified_done : (samples : List Sample) (entries : List Entry) (before now : Outside) → HasReadRecording form_16 samples before.0 now.0 → IsListOfCells samples entries →
     HasCertifiedAll samples entries before.1 now.1 → IsDone Certify before now
 certified_done samples entries before now h is_list all = record {
-  output = flat_map bytes_of all.certificates;
-  has_output = certified_output samples before.0 now.0 (flat_map bytes_of all.certificates) h
+  output = all_bytes all.certificates;
+  has_output = certified_output samples before.0 now.0 (all_bytes all.certificates) h
       (record { entries = entries; is_list = is_list; certificates = all.certificates; each = all.each; bytes = refl });
   written = all.written;
 }
@@ -51,8 +50,8 @@ certified_done samples entries before now h is_list all = record {
 pub certified_fault : (samples : List Sample) (entries : List Entry) (before now : Outside) → HasReadRecording form_16 samples before.0 now.0 → IsListOfCells samples entries →
     HasCertifiedSome samples entries before.1 now.1 → Rose before.1.faults now.1.faults → IsWriteFault Certify before now
 certified_fault samples entries before now h is_list some rose = record {
-  output = flat_map bytes_of some.certificates;
-  has_output = certified_output samples before.0 now.0 (flat_map bytes_of some.certificates) h
+  output = all_bytes some.certificates;
+  has_output = certified_output samples before.0 now.0 (all_bytes some.certificates) h
       (record { entries = entries; is_list = is_list; certificates = some.certificates; each = some.each; bytes = refl });
   front_written = some.front;
   counted = rose;

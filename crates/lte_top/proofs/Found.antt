@@ -1,5 +1,5 @@
 -- What is sent is found.
-use Rattle.std.proofs.Common.{◌≡◌, ℕ, ◌+◌, arith, refl, ap, sym, subst, ◌∙◌, List}
+use Rattle.std.proofs.Common.{◌≡◌, ℕ, arith, refl, ap, sym, subst, ◌∙◌, List}
 use Rattle.std.specs.Prelude.{All}
 use Rattle.finite.proofs.Lists.{values_below-All}
 use Rattle.cs_num.specs.declared.Sample.{Sample}

@@ -1,10 +1,6 @@
 pub mod WordLists
-pub mod Broken
-pub mod Places
-pub mod Progress
-pub mod Judged
-pub mod Certified
 pub mod Entries
+pub mod Checked
 pub mod Transmitted
 pub mod Ending
 pub mod OneForm

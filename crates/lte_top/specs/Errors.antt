@@ -5,8 +5,10 @@ use Rattle.sample_file.specs.declared.reading.FileError.{FileError}
 use Rattle.sample_file.specs.declared.reading.FileError.TheVariants.{Ragged as WithinSample, TooShort as TooFew, TooLong as PastMost, ReadFault as Fault, OutOfMemory as Memory}
 use Rattle.cell_json.specs.declared.error.JsonError.{JsonError}
 use Rattle.cell_json.specs.declared.error.JsonError.TheVariants.{Cell, OutOfMemory as Wanting}
+use Rattle.cert_stream.specs.declared.error.StreamError.{StreamError}
+use Rattle.cert_stream.specs.declared.error.StreamError.TheVariants.{Broken, TooLong as PastBytes, ReadFault as Stopped, OutOfMemory as Refused}
 use Rattle.lte_top.specs.declared.status.Status.{Status}
-use Rattle.lte_top.specs.declared.status.Status.TheVariants.{Ragged, TooShort, TooLong, ReadFault, OutOfMemory, BadCell}
+use Rattle.lte_top.specs.declared.status.Status.TheVariants.{Ragged, TooShort, TooLong, ReadFault, OutOfMemory, BadCell, BadCertificate}
 
 -- of an input that was not read whole
 abbrev pub of_read : ReadError → Status
@@ -26,3 +28,10 @@ of_file Memory = OutOfMemory
 abbrev pub of_json : JsonError → Status
 of_json (Cell cause) = BadCell cause
 of_json Wanting = OutOfMemory
+
+-- of certificates
+abbrev pub of_stream : StreamError → Status
+of_stream (Broken place) = BadCertificate place
+of_stream PastBytes = TooLong
+of_stream Stopped = ReadFault
+of_stream Refused = OutOfMemory

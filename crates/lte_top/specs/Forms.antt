@@ -1,5 +1,5 @@
 -- The forms of words that are run: what each reads, which inputs it refuses, and what it writes. (own)
-use Rattle.std.specs.Prelude.{◌≡◌, ◌⊎◌, ℕ, ◌%◌, ◌<◌, ◌≤◌, Option, Some, None, List, [], ◌∷◌, length, codes, nat_lt, not, ◌==◌, if◌then◌else◌}
+use Rattle.std.specs.Prelude.{◌≡◌, ℕ, ◌%◌, ◌<◌, ◌≤◌, Option, Some, None, List, [], ◌∷◌, length, codes, nat_lt, not, ◌==◌, if◌then◌else◌}
 use Rattle.sample_file.specs.Recording.{SampleForm, form_16, samples_of}
 use Rattle.sample_file.specs.Reading.{least_bytes, most_bytes}
 use Rattle.lte_top.specs.declared.form.Form.{Form}
@@ -9,7 +9,8 @@ use Rattle.lte_top.specs.declared.status.Status.{Status}
 use Rattle.lte_top.specs.declared.status.Status.TheVariants.{Done, Usage, Ragged, TooShort, TooLong, ReadFault, WriteFault, OutOfMemory, BadCell, BadCertificate}
 use Rattle.cell_json.specs.Reading.{refusal}
 use Rattle.lte_top.specs.Transmitting.{most_description_bytes, IsTransmitted}
-use Rattle.lte_top.specs.Certificates.{IsFirstBroken, IsChecked, IsCertified}
+use Rattle.lte_top.specs.Certificates.{IsChecked, IsCertified}
+use Rattle.cert_stream.specs.Stream.{most_bytes as most_certificate_bytes, IsBrokenAt}
 use Rattle.lte_top.specs.Reports.{IsReport}
 
 -- the words of a form, each as its bytes
@@ -44,10 +45,6 @@ input_of Certify = recording form_16
 input_of Check = certificates
 input_of Transmit = description
 
--- the most bytes of certificates that are read
-abbrev pub most_certificate_bytes : ℕ
-most_certificate_bytes = 67108864
-
 -- the most bytes that are read
 abbrev pub limit_of : Input → ℕ
 limit_of nothing = 0
@@ -69,8 +66,7 @@ RefusesRecording form bytes status = (length bytes ≤ most_bytes form) × (reco
 -- certificates are refused at the first place that breaks their form: a byte within the limit, or the end of an input
 -- within it
 abbrev pub RefusesCertificates : List ℕ → Status → Type 0
-RefusesCertificates bytes (BadCertificate place) =
-    IsFirstBroken bytes place × ((place < most_certificate_bytes) ⊎ (length bytes ≤ most_certificate_bytes))
+RefusesCertificates bytes (BadCertificate place) = IsBrokenAt bytes place
 RefusesCertificates bytes status = ⊥
 
 -- a description within the limit is refused for its first condition that fails

@@ -3,7 +3,5 @@ pub mod Transmitting
 pub mod Reports
 pub mod Forms
 pub mod Errors
-pub mod Reading
-pub mod Certifying
 pub mod Run
 pub mod Found

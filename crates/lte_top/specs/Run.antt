@@ -7,7 +7,7 @@ use Rattle.cs_outside.specs.Streams.{HasRead, HasReadAll, HasFailedAfter, IsAtEn
 use Rattle.lte_top.specs.declared.form.Form.{Form}
 use Rattle.lte_top.specs.declared.status.Status.{Status}
 use Rattle.lte_top.specs.declared.status.Status.TheVariants.{Done, Usage, TooLong, ReadFault, WriteFault, OutOfMemory}
-use Rattle.lte_top.specs.Certificates.{IsBrokenByte}
+use Rattle.cert_stream.specs.Stream.{IsUnbroken}
 use Rattle.lte_top.specs.Forms.{IsWordsOf, IsNoForm, Input, nothing, recording, certificates, description, input_of, limit_of, Refuses, IsTooLong, IsValid, IsOutput}
 
 -- ---- reading: what the source told before, and what it tells now
@@ -52,7 +52,7 @@ pub record IsReadTooLong (input : Input) (before now : SourceTold) : Type 0 wher
 abbrev pub NothingMet : Input → List ℕ → Type 0
 NothingMet nothing bytes = Unit {0}
 NothingMet (recording form) bytes = Unit {0}
-NothingMet certificates bytes = (place : ℕ) → IsBrokenByte bytes place → ⊥
+NothingMet certificates bytes = IsUnbroken bytes
 NothingMet description bytes = Unit {0}
 
 -- a read failed after no more than the limit was read, and what was read could not be refused already
@@ -62,12 +62,19 @@ pub record IsReadFault (input : Input) (before now : SourceTold) : Type 0 where
   pub failed : HasFailedAfter (limit_of input) front before now
   pub unmet : NothingMet input front
 
+-- nothing is said of the source, but where none is read it is as it was
+abbrev pub IsLeft : Input → SourceTold → SourceTold → Type 0
+IsLeft nothing before now = NothingRead before now
+IsLeft (recording form) before now = Unit {0}
+IsLeft certificates before now = Unit {0}
+IsLeft description before now = Unit {0}
+
 -- why an input was not read and answered to its end
 abbrev pub Cause : Input → SourceTold → SourceTold → Status → Type 0
 Cause input before now Done = ⊥
 Cause input before now Usage = ⊥
 Cause input before now WriteFault = ⊥
-Cause input before now OutOfMemory = Unit {0}
+Cause input before now OutOfMemory = IsLeft input before now
 Cause input before now ReadFault = IsReadFault input before now
 Cause input before now TooLong = IsReadTooLong input before now
 Cause input before now refusal = HasRefusal input refusal before now

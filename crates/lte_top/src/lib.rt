@@ -1,8 +1,7 @@
 //! The top call: the words of a command line, a source and a sink in, a status out.
 #![tactic(auto)]
 
-mod certifying;
-mod checking;
+mod certificates;
 mod form;
 mod laws;
 mod reporting;

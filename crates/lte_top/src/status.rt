@@ -1,12 +1,13 @@
 //! How a run ends.
 
 ghost use Rattle.std.specs.Prelude.{◌≡◌};
-ghost use Rattle.lte_top.specs.Errors.{of_read, of_file, of_json};
+ghost use Rattle.lte_top.specs.Errors.{of_read, of_file, of_json, of_stream};
 ghost use Rattle.lte_top.specs.Forms.{code_of};
 ghost use Rattle.lte_top.specs.declared.status.Status.TheVariants.{OutOfMemory};
 
 use cell_json::JsonError;
 use cell_tx::CellError;
+use cert_stream::StreamError;
 use cs_outside::ReadError;
 use sample_file::FileError;
 use std::alloc::AllocError;
@@ -90,6 +91,19 @@ impl From<JsonError> for Status {
         match error {
             JsonError::Cell(cause) => Status::BadCell(cause),
             JsonError::OutOfMemory => Status::OutOfMemory,
+        }
+    }
+}
+
+impl From<StreamError> for Status {
+    ghost from_gives = { λ error status. status ≡ of_stream error };
+
+    fn from(error: StreamError) -> Status {
+        match error {
+            StreamError::Broken(place) => Status::BadCertificate(place),
+            StreamError::TooLong => Status::TooLong,
+            StreamError::ReadFault => Status::ReadFault,
+            StreamError::OutOfMemory => Status::OutOfMemory,
         }
     }
 }

@@ -7,8 +7,7 @@ ghost use Rattle.cs_outside.specs.Streams.{HasWritten, HasWrittenFront, IsShortO
 ghost use Rattle.lte_top.specs.Run.{IsDone, Ends, Outcome, Runs};
 ghost use Rattle.lte_top.specs.declared.status.Status.TheVariants.{WriteFault};
 
-use crate::certifying::certify;
-use crate::checking::answers_text;
+use crate::certificates::{answers_text, certify_recording};
 use crate::form::Form;
 use crate::reporting::report_text;
 use crate::status::Status;
@@ -90,7 +89,7 @@ fn run_form<S: Source, K: Sink>(
             let text = report_text(alloc, report, source)?;
             write_output(sink, text.as_bytes())
         }
-        Form::Certify => certify(alloc, source, sink),
+        Form::Certify => certify_recording(alloc, source, sink),
         Form::Check => {
             let text = answers_text(alloc, source)?;
             write_output(sink, text.as_bytes())

@@ -8,7 +8,7 @@ use Rattle.std.proofs.lemmas.List.{length-append, take_at, drop_at}
 use Rattle.byteorder.specs.Endian.{little_bytes, little_number, big_bytes, big_number}
 use Rattle.cs_bits.specs.Numbers.{number}
 use Rattle.cs_bits.proofs.Numbers.{number_below, number_same}
-use Rattle.tail_cert.specs.Certificate.{Counted, Held, IsRow, IsTable, IsTriple, IsWhole}
+use Rattle.tail_cert.specs.Certificate.{Counted, Held, IsRow, IsTable, IsTriple, IsWholeHeld}
 use Rattle.tail_cert.specs.Form.{bytes_of, entry_bytes, mark, place_bytes, row_bytes, table_bytes, value_bytes, word_bytes}
 use Rattle.tail_cert.proofs.Values.{fits_16}
 
@@ -116,9 +116,6 @@ tables_code : IsCode (Counted 64 IsTable) (flat_map table_bytes) 655360
 tables_code = list_code IsTable table_bytes 10240 64 table_code
 
 -- ---- whole certificates
-
-abbrev pub IsWholeHeld : Held → Type 0
-IsWholeHeld c = IsWhole c.values c.word c.cost c.tables
 
 -- the five parts of the bytes, and how long they are
 pub length-bytes_of : (c : Held) → IsWholeHeld c → length (bytes_of c) ≡ 655613

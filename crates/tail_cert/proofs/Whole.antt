@@ -3,10 +3,10 @@ use Rattle.std.proofs.Common.{◌≡◌, ℕ, zero, suc, ◌+◌, ◌*◌, ◌-�
 use Rattle.std.specs.Prelude.{All, nat_abs}
 use Rattle.std.specs.List.{flat_map}
 use Rattle.std.proofs.lemmas.List.{length-append, get_or_append_left, get_or-append-add, get_or-drop}
-use Rattle.tail_cert.specs.Certificate.{Held, IsTriple}
+use Rattle.tail_cert.specs.Certificate.{Held, IsTriple, IsWholeHeld}
 use Rattle.tail_cert.specs.Form.{bytes_of, entry_bytes, mark, place_bytes, table_bytes, value_at, value_bytes, word_bytes}
 use Rattle.tail_cert.proofs.Breaks.{IsUnbroken}
-use Rattle.tail_cert.proofs.Codes.{IsCode, IsWholeHeld, front_size, length-bytes_of, place_code, value_code, value_back}
+use Rattle.tail_cert.proofs.Codes.{IsCode, front_size, length-bytes_of, place_code, value_code, value_back}
 
 -- byte r of element i
 code_at : {A : Type 0} (P : A → Type 0) (f : A → List ℕ) (w : ℕ) → IsCode P f w → (xs : List A) (i r : ℕ) (d : A) → All P xs → i < length xs → r < w →

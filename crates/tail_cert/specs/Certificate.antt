@@ -63,6 +63,10 @@ pub record IsWhole (values : List (List ℤ)) (word : List Bool) (cost : ℕ) (t
   pub fits : cost < 2 ^ 32
   pub starts : Counted 64 IsTable tables
 
+-- a certificate has all that
+abbrev pub IsWholeHeld : Held → Type 0
+IsWholeHeld c = IsWhole c.values c.word c.cost c.tables
+
 -- the certificate with zeros everywhere
 abbrev pub of_zeros : Held
 of_zeros = record {

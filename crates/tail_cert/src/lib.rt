@@ -15,5 +15,11 @@ pub use filling::fill;
 pub use reading::{BadCertificate, parse};
 pub use writing::to_bytes;
 
+/// The bytes of a certificate.
+pub const CERTIFICATE_BYTES: usize = 655_613;
+
+/// The bytes of its mark and its values, which alone can break the form.
+pub const FRONT_BYTES: usize = 244;
+
 #[cfg(test)]
 mod tests;

@@ -3,9 +3,9 @@
 ghost use Rattle.std.specs.Prelude.{◌≡◌, ◌+◌, ◌*◌, ◌%◌, ◌^◌, ◌<◌, ◌≤◌, ◌↔◌, ℕ, All, IfSome, IfOk, IsErr, IsErrOf, IsNone, IsOk, IsTrue, List, drop, length, nat_abs, take};
 ghost use Rattle.std.specs.List.{flat_map};
 ghost use Rattle.tail_cert.specs.Certificate.{Counted, Held, IsRow, IsTable, IsTriple, IsWhole};
-ghost use Rattle.tail_cert.specs.Form.{Breaks, IsEarlyEnd, IsFirstBreak, IsLargeValue, IsOffMark, bytes_of, entry_bytes, place_bytes, row_bytes, table_bytes, value_at, value_bytes, word_bytes};
+ghost use Rattle.tail_cert.specs.Form.{count, Breaks, IsEarlyEnd, IsFirstBreak, IsLargeValue, IsOffMark, bytes_of, entry_bytes, place_bytes, row_bytes, table_bytes, value_at, value_bytes, word_bytes};
 
-use crate::Certificate;
+use crate::{CERTIFICATE_BYTES, Certificate};
 use byteorder::{BigEndian, ByteOrder, LittleEndian};
 use cs_bits::Bits;
 use thiserror::Error;
@@ -20,8 +20,6 @@ pub struct BadCertificate {
 }
 
 const MARK: [u8; 4] = [0x4c, 0x54, 0x43, 0x31];
-
-const BYTES: usize = 655_613;
 
 /// Whether the byte at a place is another than the mark's.
 fn is_off_mark(bytes: &[u8], p: usize) -> bool
@@ -41,7 +39,7 @@ fn get_value(bytes: &[u8], at: usize) -> i32
 
 /// Whether a value of size above 2,032 begins at a place.
 fn is_large_value(bytes: &[u8], p: usize) -> bool
-    requires { length bytes.now ≤ 655613 }
+    requires { length bytes.now ≤ count }
     ensures { IsTrue result ↔ IsLargeValue bytes.now p }
 {
     4 <= p
@@ -53,15 +51,15 @@ fn is_large_value(bytes: &[u8], p: usize) -> bool
 
 /// Whether the form is broken at a place.
 fn breaks(bytes: &[u8], p: usize) -> bool
-    requires { length bytes.now ≤ 655613 }
+    requires { length bytes.now ≤ count }
     ensures { IsTrue result ↔ Breaks bytes.now p }
 {
-    is_off_mark(bytes, p) || is_large_value(bytes, p) || (p == bytes.len() && p < BYTES)
+    is_off_mark(bytes, p) || is_large_value(bytes, p) || (p == bytes.len() && p < CERTIFICATE_BYTES)
 }
 
 /// The first place where the form is broken.
 fn first_break(bytes: &[u8]) -> Option<usize>
-    requires { length bytes.now ≤ 655613 }
+    requires { length bytes.now ≤ count }
     ensures some { IfSome result (λ p. IsFirstBreak bytes.now p) }
     ensures none { IsNone result → ((p : ℕ) → Breaks bytes.now p → ⊥) }
 {
@@ -149,7 +147,7 @@ fn get_word(bytes: &[u8], at: usize) -> Bits<40>
 /// Reads a whole certificate whose form is not broken.
 fn get_all(bytes: &[u8], into: &mut Certificate)
     requires unbroken { (p : ℕ) → Breaks bytes.now p → ⊥ }
-    requires size { length bytes.now ≤ 655613 }
+    requires size { length bytes.now ≤ count }
     ensures bytes { bytes.now ≡ bytes_of into.new }
     ensures whole { IsWhole into.new.values into.new.word into.new.cost into.new.tables }
 {
@@ -162,7 +160,7 @@ fn get_all(bytes: &[u8], into: &mut Certificate)
 /// Reads a certificate from its 655,613 bytes. A wrong one of the first four bytes, a value of size above
 /// 2,032 and an early end break the form; then the answer is the first place, and `into` is unchanged.
 pub fn parse(bytes: &[u8], into: &mut Certificate) -> Result<(), BadCertificate>
-    requires { length bytes.now ≤ 655613 }
+    requires { length bytes.now ≤ count }
     ensures ok { IfOk result (λ _. bytes.now ≡ bytes_of into.new) }
     ensures whole { IfOk result (λ _. IsWhole into.new.values into.new.word into.new.cost into.new.tables) }
     ensures refused { (place : ℕ) →

@@ -4,7 +4,7 @@ ghost use Rattle.std.specs.Prelude.{◌≡◌, ◌+◌, ◌*◌, ◌^◌, ◌<�
 ghost use Rattle.std.specs.List.{flat_map};
 ghost use Rattle.finite.specs.Sizes.{AllWithin, RowsWithin};
 ghost use Rattle.tail_cert.specs.Certificate.{IsWhole};
-ghost use Rattle.tail_cert.specs.Form.{bytes_of, entry_bytes, mark, place_bytes, row_bytes, table_bytes, value_bytes, with_piece, word_bytes};
+ghost use Rattle.tail_cert.specs.Form.{count, bytes_of, entry_bytes, mark, place_bytes, row_bytes, table_bytes, value_bytes, with_piece, word_bytes};
 
 use crate::Certificate;
 use byteorder::{BigEndian, ByteOrder, LittleEndian};
@@ -105,7 +105,7 @@ fn put_word(word: &Bits<40>, at: usize, out: &mut [u8])
 
 /// Writes the 655,613 bytes of a certificate.
 pub fn to_bytes(certificate: &Certificate, out: &mut [u8])
-    requires { length out.old ≡ 655613 }
+    requires { length out.old ≡ count }
     ensures bytes { out.new ≡ bytes_of certificate.now }
     ensures whole { IsWhole certificate.now.values certificate.now.word certificate.now.cost certificate.now.tables }
 {

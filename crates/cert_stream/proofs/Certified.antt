@@ -1,0 +1,194 @@
+-- Certificates that are written one after the other.
+use Rattle.std.proofs.Common.{◌≡◌, ℕ, suc, ◌+◌, ◌*◌, ◌<◌, ◌≤◌, List, [], ◌∷◌, ◌++◌, length, take, drop, get_or, Option, Some, None, ℤ, refl, ap, sym, subst, ◌∙◌, arith, add-one, append-nil, length-append}
+use Rattle.std.specs.Prelude.{IfSome, Result, Ok, Err, OnOk, OnErr}
+use Rattle.std.proofs.Math.Seq.{take-suc}
+use Rattle.std.proofs.lemmas.List.{take-append-drop}
+use Rattle.std.proofs.lemmas.List.Elements.{Contains-append_right}
+use Rattle.std.specs.List.{AllZip, Contains}
+use Rattle.std.proofs.lemmas.Grind.{flat_map-append}
+use Rattle.cs_num.specs.declared.Sample.{Sample}
+use Rattle.cs_outside.specs.Outside.{SinkTold}
+use Rattle.cs_outside.specs.Streams.{HasWritten, HasWrittenFront, IsShortOf}
+use Rattle.cs_outside.proofs.Writing.{write_nothing, write_then, front_after, front_of_longer, short_after}
+use Rattle.lte_types.specs.declared.entry.Entry.{Entry}
+use Rattle.soft_bits.specs.Soft.{SeenSlot}
+use Rattle.conv_code.proofs.Sums.{length-summed, length-summed_row}
+use Rattle.conv_code.specs.Cost.{word_cost}
+use Rattle.tailbite.specs.LeastWord.{IsLeastWord}
+use Rattle.pbch.specs.Values.{frame_values, coded_values}
+use Rattle.pbch.specs.Master.{Tells, TellsMaster, Carries}
+use Rattle.tailbite.proofs.Only.{one_word}
+use Rattle.pbch.proofs.Sums.{coded_values-small}
+use Rattle.tail_cert.specs.Certificate.{Held, IsWhole, IsAccepted, IsTriple, Counted}
+use Rattle.tail_cert.specs.Form.{count, bytes_of}
+use Rattle.tail_cert.proofs.Codes.{length-bytes_of}
+use Rattle.tail_cert.proofs.Exists.{certificate_of, least_has_certificate}
+use Rattle.explain.specs.Frame.{broadcast_slot}
+use Rattle.explain.specs.Entries.{IsExplained, master_of, values_of_entry}
+use Rattle.explain.proofs.Sorted.{Contains-here, Contains-later}
+use Rattle.explain.proofs.Listed.{is_sound}
+use Rattle.cs_outside.specs.declared.Failed.{Failed}
+use Rattle.cert_stream.specs.Stream.{all_bytes}
+use Rattle.cert_stream.specs.Certifying.{Certifies, IsCertificateOf, HasCertified, HasCertifiedFront, HasCertifiedAll, HasCertifiedSome}
+use Rattle.cert_stream.proofs.Judged.{zip_append}
+
+-- certificates of entries are as long as there are entries
+pub certified_length : (samples : List Sample) (entries : List Entry) (certificates : List Held) → AllZip (Certifies samples) entries certificates →
+    length (all_bytes certificates) ≡ count * length entries
+certified_length samples [] [] z = refl
+certified_length samples [] (c ∷ cs) z = absurd z
+certified_length samples (e ∷ es) [] z = absurd z
+certified_length samples (e ∷ es) (c ∷ cs) (first, rest) =
+    let one = length-bytes_of c first.whole in
+    let more = certified_length samples es cs rest in
+    omega (arith, one, more, length-append (bytes_of c) (all_bytes cs))
+
+-- ---- an entry's certificate
+
+-- what makes a certificate of an entry: it is accepted, with the values of the entry's frame and a least word of them
+pub certifies : (samples : List Sample) (entry : Entry) (c : Held) → IsWhole c.values c.word c.cost c.tables → IsAccepted c →
+    c.values ≡ values_of_entry samples entry →
+    TellsMaster (values_of_entry samples entry) (master_of entry) → IsLeastWord c.values c.word → Certifies samples entry c
+certifies samples entry c whole accepted values tells least =
+    let there : TellsMaster c.values (master_of entry) = subst (λ v. TellsMaster v (master_of entry)) (sym values) tells in
+    let same : there.word ≡ c.word = one_word c.values there.word c.word there.tells.least least in
+    record {
+      whole = whole;
+      accepted = accepted;
+      values = values;
+      word = subst (λ w. Tells c.values w entry.ports) same there.tells;
+      block = subst (λ w. Carries w entry.mib) same there.mib;
+      cost = accepted.stated ∙ ap (word_cost c.values) (sym same) ∙ sym there.cost;
+    }
+
+-- the same by the values that it was filled with
+pub certifies_filled : (samples : List Sample) (entry : Entry) (c : Held) (v : List (List ℤ)) → IsWhole c.values c.word c.cost c.tables → IsAccepted c → c.values ≡ v →
+    v ≡ values_of_entry samples entry → TellsMaster v (master_of entry) → IsLeastWord v c.word → Certifies samples entry c
+certifies_filled samples entry c v whole accepted filled values tells least =
+    certifies samples entry c whole accepted (filled ∙ values) (subst (λ v. TellsMaster v (master_of entry)) values tells) (subst (λ v. IsLeastWord v c.word) (sym filled) least)
+
+-- the values of a slot have the shape and the sizes of a certificate
+values_fit : (slot : SeenSlot) (phase : ℕ) → Counted 40 IsTriple (coded_values slot phase)
+unfolding coded_values
+values_fit slot phase =
+    let bits = frame_values slot phase in
+    let sizes = coded_values-small slot phase in
+    record {
+      count = length-summed 40 bits;
+      all = λ k d inside.
+          let below : k < 40 = omega (arith, inside, length-summed 40 bits) in
+          record {
+            count = length-summed_row 40 bits k d below;
+            all = λ t e there. let s = sizes k d inside t e there in omega (arith, s);
+          };
+    }
+
+-- each entry of the list has a certificate
+entry_has_certificate : (samples : List Sample) (entries : List Entry) (entry : Entry) → IsExplained samples entries → Contains entries entry →
+    (c : Held) × Certifies samples entry c
+entry_has_certificate samples entries entry explained inside =
+    let known = is_sound samples entries entry explained inside in
+    let values = values_of_entry samples entry in
+    let tells : TellsMaster values (master_of entry) = known.is_of.master in
+    let made = least_has_certificate values tells.word (values_fit (broadcast_slot samples entry.id entry.start entry.frame) entry.phase) tells.tells.least in (
+      certificate_of values tells.word,
+      certifies samples entry (certificate_of values tells.word) made.whole made.accepted made.values_are tells
+          (subst (λ w. IsLeastWord (certificate_of values tells.word).values w) (sym made.word_is) (subst (λ v. IsLeastWord v tells.word) (sym made.values_are) tells.tells.least)),
+    )
+
+-- and so have all
+pub entries_have : (samples : List Sample) (entries rest : List Entry) → IsExplained samples entries → ((entry : Entry) → Contains rest entry → Contains entries entry) →
+    (cs : List Held) × AllZip (Certifies samples) rest cs
+entries_have samples entries [] explained inside = ([], tt)
+entries_have samples entries (e ∷ rest) explained inside =
+    let (c, first) = entry_has_certificate samples entries e explained (inside e (Contains-here e rest)) in
+    let (cs, more) = entries_have samples entries rest explained (λ entry there. inside entry (Contains-later e rest entry there)) in
+    (c ∷ cs, (first, more))
+
+-- ---- one certificate is written
+
+pub certified_ok : (samples : List Sample) (entry : Entry) (made piece : List ℕ) (before now : SinkTold) (r : Result (Unit {0}) Failed) →
+    IsCertificateOf samples entry made → piece ≡ made → OnOk r (HasWritten piece before now) → OnOk r (HasCertified samples entry before now)
+certified_ok samples entry made piece before now (Err e) h same written = tt
+certified_ok samples entry made piece before now (Ok u) h same written = record {
+  certificate = h.certificate;
+  certifies = h.certifies;
+  written = subst (λ l. HasWritten l before now) (same ∙ h.bytes_are) written;
+}
+
+pub certified_err : (samples : List Sample) (entry : Entry) (made piece : List ℕ) (before now : SinkTold) (r : Result (Unit {0}) Failed) →
+    IsCertificateOf samples entry made → piece ≡ made → OnErr r (HasWrittenFront piece before now) → OnErr r (IsShortOf (length piece) before) →
+    OnErr r (HasCertifiedFront samples entry before now)
+certified_err samples entry made piece before now (Ok u) h same front full = tt
+certified_err samples entry made piece before now (Err e) h same front full = record {
+  certificate = h.certificate;
+  certifies = h.certifies;
+  front = subst (λ l. HasWrittenFront l before now) (same ∙ h.bytes_are) front;
+  full = subst (λ l. IsShortOf (length l) before) (same ∙ h.bytes_are) full;
+}
+
+-- ---- one after the other
+
+-- at first none is written
+pub written_none : (samples : List Sample) (before : SinkTold) → HasCertifiedAll samples [] before before
+written_none samples before = record { certificates = []; each = tt; written = write_nothing before }
+
+-- the bytes of certificates and of one more
+bytes_and_one : (cs : List Held) (c : Held) → all_bytes (cs ++ c ∷ []) ≡ all_bytes cs ++ bytes_of c
+bytes_and_one cs c = flat_map-append bytes_of cs (c ∷ []) ∙ ap (λ l. all_bytes cs ++ l) (append-nil (bytes_of c))
+
+pub written_more : (samples : List Sample) (entries : List Entry) (entry : Entry) (before between now : SinkTold) →
+    HasCertifiedAll samples entries before between → HasCertified samples entry between now → HasCertifiedAll samples (entries ++ entry ∷ []) before now
+written_more samples entries entry before between now a h = record {
+  certificates = a.certificates ++ h.certificate ∷ [];
+  each = zip_append (Certifies samples) entries (entry ∷ []) a.certificates (h.certificate ∷ []) a.each (h.certifies, tt);
+  written = subst (λ l. HasWritten l before now) (sym (bytes_and_one a.certificates h.certificate))
+      (write_then (all_bytes a.certificates) (bytes_of h.certificate) before between now a.written h.written);
+}
+
+-- less room than for a front is less than for all
+short_of_more : (n m : ℕ) (before : SinkTold) → n ≤ m → IsShortOf n before → IsShortOf m before
+short_of_more n m before few short = by_room before.room short
+  where
+    by_room : (room : Option ℕ) → IfSome room (λ left. left < n) → IfSome room (λ left. left < m)
+    by_room None short = tt
+    by_room (Some left) short = omega (arith, short, few)
+
+-- where a front of one is written, a front of all is
+pub written_some : (samples : List Sample) (list entries : List Entry) (entry : Entry) (rest : List Entry) (before between now : SinkTold) →
+    IsExplained samples list → list ≡ (entries ++ entry ∷ []) ++ rest → HasCertifiedAll samples entries before between →
+    HasCertifiedFront samples entry between now → HasCertifiedSome samples list before now
+written_some samples list entries entry rest before between now explained split a h =
+    let (cs, more) = entries_have samples list rest explained (λ other there. subst (λ l. Contains l other) (sym split) (Contains-append_right (entries ++ entry ∷ []) rest other there)) in
+    let first : List ℕ = all_bytes a.certificates in
+    let all : List Held = (a.certificates ++ h.certificate ∷ []) ++ cs in
+    let zip : AllZip (Certifies samples) list all = subst (λ l. AllZip (Certifies samples) l all) (sym split)
+    (zip_append (Certifies samples) (entries ++ entry ∷ []) rest (a.certificates ++ h.certificate ∷ []) cs (zip_append (Certifies samples) entries (entry ∷ []) a.certificates (h.certificate ∷ []) a.each (h.certifies, tt)) more) in
+    let joined : all_bytes all ≡ (first ++ bytes_of h.certificate) ++ all_bytes cs =
+    flat_map-append bytes_of (a.certificates ++ h.certificate ∷ []) cs ∙ ap (λ l. l ++ all_bytes cs) (bytes_and_one a.certificates h.certificate) in
+    let fewer : length first + length (bytes_of h.certificate) ≤ length (all_bytes all) =
+    omega (arith, ap length joined, length-append (first ++ bytes_of h.certificate) (all_bytes cs), length-append first (bytes_of h.certificate)) in
+    record {
+      certificates = all;
+      each = zip;
+      front = subst (λ l. HasWrittenFront l before now) (sym joined)
+          (front_of_longer (first ++ bytes_of h.certificate) (all_bytes cs) before now (front_after first (bytes_of h.certificate) before between now a.written h.front));
+      full = short_of_more (length first + length (bytes_of h.certificate)) (length (all_bytes all)) before fewer
+          (short_after first (length (bytes_of h.certificate)) before between a.written h.full);
+    }
+
+-- the same by the index of the entry
+pub written_next : (samples : List Sample) (list : List Entry) (i : ℕ) (entry : Entry) (before between now : SinkTold) →
+    i < length list → entry ≡ get_or list i entry → HasCertifiedAll samples (take i list) before between →
+    HasCertified samples entry between now → HasCertifiedAll samples (take (i + 1) list) before now
+written_next samples list i entry before between now inside is a h =
+    let next : take (i + 1) list ≡ take i list ++ entry ∷ [] = rw (add-one i) (take-suc list i entry inside ∙ ap (λ e. take i list ++ e ∷ []) (sym is)) in
+    subst (λ l. HasCertifiedAll samples l before now) (sym next) (written_more samples (take i list) entry before between now a h)
+
+pub written_some_at : (samples : List Sample) (list : List Entry) (i : ℕ) (entry : Entry) (before between now : SinkTold) →
+    i < length list → entry ≡ get_or list i entry → IsExplained samples list → HasCertifiedAll samples (take i list) before between →
+    HasCertifiedFront samples entry between now → HasCertifiedSome samples list before now
+written_some_at samples list i entry before between now inside is explained a h =
+    let next : take (suc i) list ≡ take i list ++ entry ∷ [] = take-suc list i entry inside ∙ ap (λ e. take i list ++ e ∷ []) (sym is) in
+    let split : list ≡ (take i list ++ entry ∷ []) ++ drop (suc i) list = sym (take-append-drop (suc i) list) ∙ ap (λ l. l ++ drop (suc i) list) next in
+    written_some samples list (take i list) entry (drop (suc i) list) before between now explained split a h

@@ -1,0 +1,167 @@
+-- Certificates that are read one after the other: what is known after each read.
+use Rattle.std.proofs.Common.{◌≡◌, ℕ, ◌+◌, ◌*◌, ◌<◌, ◌≤◌, inl, inr, Bool, List, [], ◌∷◌, ◌++◌, length, take, refl, ap, sym, subst, ◌∙◌, arith, append_assoc, append-nil, length-append}
+use Rattle.std.specs.List.{AllZip}
+use Rattle.std.proofs.lemmas.Grind.{flat_map-append}
+use Rattle.std.specs.Option.{option_map}
+use Rattle.cs_outside.specs.Counts.{Rose}
+use Rattle.cs_outside.specs.Outside.{SourceTold}
+use Rattle.cs_outside.specs.Streams.{HasRead}
+use Rattle.cs_outside.proofs.Reading.{read_nothing, read_then}
+use Rattle.tail_cert.specs.Certificate.{Held}
+use Rattle.tail_cert.specs.Form.{count, bytes_of, IsFirstBreak}
+use Rattle.cert_stream.specs.Stream.{most_bytes, all_bytes, IsAnswer, IsFirstBroken, IsBrokenAt}
+use Rattle.cert_stream.specs.Reading.{HasReadOn, IsSound, HasReadAnswers, HasReadBroken, HasReadTooMany, HasFailedUnbroken}
+use Rattle.cert_stream.proofs.Fronts.{early_break}
+use Rattle.cert_stream.proofs.Judged.{zip_append, all_whole, answered_length}
+use Rattle.cert_stream.proofs.Parts.{cut_off, first_broken, none_however, none_so_far}
+
+-- whole certificates with the answers to them were read, and then a part of one in which no byte breaks the form
+pub record IsReadTo (answers : List Bool) (part : List ℕ) (before now : SourceTold) : Type 0 where
+  pub certificates : List Held
+  pub each : AllZip IsAnswer certificates answers
+  pub read : HasRead (all_bytes certificates ++ part) before now
+  pub sound : IsSound part
+
+nothing_sound : IsSound []
+nothing_sound place inside b = omega (arith, inside)
+
+pub read_none : (before : SourceTold) → IsReadTo [] [] before before
+read_none before = record { certificates = []; each = tt; read = read_nothing before; sound = nothing_sound }
+
+-- a further piece makes the part longer
+longer : (answers : List Bool) (part piece : List ℕ) (before between now : SourceTold) (s : IsReadTo answers part before between) → HasRead piece between now →
+    HasRead (all_bytes s.certificates ++ (part ++ piece)) before now
+longer answers part piece before between now s more =
+    subst (λ l. HasRead l before now) (append_assoc (all_bytes s.certificates) part piece) (read_then _ piece before between now s.read more)
+
+-- the same of a piece that was read to a place of the buffer
+longer_on : (answers : List Bool) (n : ℕ) (part next : List ℕ) (before between now : SourceTold) (s : IsReadTo answers part before between) → HasReadOn n part next between now →
+    HasRead (all_bytes s.certificates ++ next) before now
+longer_on answers n part next before between now s h =
+    subst (λ l. HasRead (all_bytes s.certificates ++ l) before now) (sym h.joined) (longer answers part h.piece before between now s h.read)
+
+no_piece : (n : ℕ) (piece : List ℕ) → length piece ≡ n → n ≡ 0 → piece ≡ []
+no_piece n [] size zero = refl
+no_piece n (x ∷ piece) size zero = absurd (omega (arith, size, zero))
+
+-- and of no piece
+ended_on : (answers : List Bool) (n : ℕ) (part next : List ℕ) (before between now : SourceTold) (s : IsReadTo answers part before between) → HasReadOn n part next between now →
+    n ≡ 0 → HasRead (all_bytes s.certificates ++ part) before now
+ended_on answers n part next before between now s h zero =
+    let same : part ++ h.piece ≡ part = ap (λ l. part ++ l) (no_piece n h.piece h.count zero) ∙ append-nil part in
+    subst (λ l. HasRead (all_bytes s.certificates ++ l) before now) same (longer answers part h.piece before between now s h.read)
+
+-- ---- the reading goes on
+
+-- the longer part goes on
+pub part_on : (answers : List Bool) (n : ℕ) (part next : List ℕ) (before between now : SourceTold) → IsReadTo answers part before between →
+    HasReadOn n part next between now → IsSound next → IsReadTo answers next before now
+part_on answers n part next before between now s h sound =
+    record { certificates = s.certificates; each = s.each; read = longer_on answers n part next before between now s h; sound = sound }
+
+-- the longer part is a whole certificate
+pub judged_on : (answers : List Bool) (n : ℕ) (part next : List ℕ) (before between now : SourceTold) (answer : Bool) → IsReadTo answers part before between →
+    HasReadOn n part next between now → ((certificate : Held) × IsAnswer certificate answer × (next ≡ bytes_of certificate)) →
+    IsReadTo (answers ++ (answer ∷ [])) [] before now
+judged_on answers n part next before between now answer s h (certificate, right, bytes) =
+    let one : all_bytes (s.certificates ++ (certificate ∷ [])) ≡ all_bytes s.certificates ++ (bytes_of certificate ++ []) = flat_map-append bytes_of s.certificates (certificate ∷ []) in
+    let joined : all_bytes s.certificates ++ next ≡ all_bytes (s.certificates ++ (certificate ∷ [])) ++ [] =
+    ap (λ l. all_bytes s.certificates ++ l) (bytes ∙ sym (append-nil (bytes_of certificate))) ∙ sym one ∙ sym (append-nil (all_bytes (s.certificates ++ (certificate ∷ [])))) in
+    record {
+      certificates = s.certificates ++ (certificate ∷ []);
+      each = zip_append IsAnswer s.certificates (certificate ∷ []) answers (answer ∷ []) s.each (right, tt);
+      read = subst (λ l. HasRead l before now) joined (longer_on answers n part next before between now s h);
+      sound = nothing_sound;
+    }
+
+-- ---- how the reading ends
+
+-- at the end of the input, after whole certificates
+pub whole_on : (answers : List Bool) (n filled : ℕ) (buffer next : List ℕ) (before between now : SourceTold) → IsReadTo answers (take filled buffer) before between →
+    HasReadOn n (take filled buffer) next between now → n ≡ 0 → filled ≡ 0 → count * length answers ≤ most_bytes → HasReadAnswers answers before now
+whole_on answers n filled buffer next before between now s h zero empty few =
+    let all : HasRead (all_bytes s.certificates ++ take filled buffer) before now = ended_on answers n (take filled buffer) next before between now s h zero in
+    let none : all_bytes s.certificates ++ take filled buffer ≡ all_bytes s.certificates =
+    ap (λ m. all_bytes s.certificates ++ take m buffer) empty ∙ append-nil (all_bytes s.certificates) in
+    record {
+      bytes = all_bytes s.certificates;
+      are_answers = record { certificates = s.certificates; each = s.each; read = refl };
+      whole = record {
+        read = subst (λ l. HasRead l before now) none all;
+        ended = h.end zero;
+        within = omega (arith, answered_length s.certificates answers s.each, few);
+      };
+    }
+
+-- at the end of the input, within a certificate
+pub early_on : (answers : List Bool) (n : ℕ) (part next : List ℕ) (before between now : SourceTold) (place : ℕ) → IsReadTo answers part before between →
+    HasReadOn n part next between now → n ≡ 0 → 0 < length part → length part < count → place ≡ count * length answers + length part → place ≤ most_bytes →
+    HasReadBroken place before now
+early_on answers n part next before between now place s h zero some few here within =
+    let size = answered_length s.certificates answers s.each in
+    let first : IsFirstBroken (all_bytes s.certificates ++ part) place =
+    subst (λ p. IsFirstBroken (all_bytes s.certificates ++ part) p) (omega (arith, size, here)) (cut_off s.certificates (all_whole s.certificates answers s.each) part some few s.sound) in
+    record {
+      bytes = all_bytes s.certificates ++ part;
+      read = ended_on answers n part next before between now s h zero;
+      broken = record { first = first; within = inr (omega (arith, size, length-append (all_bytes s.certificates) part, here, within)) };
+      settled = inl (h.end zero);
+    }
+
+-- at a byte that breaks the form
+pub broken_on : (answers : List Bool) (n : ℕ) (part next : List ℕ) (before between now : SourceTold) (within place : ℕ) → IsReadTo answers part before between →
+    HasReadOn n part next between now → (within < length next) × IsFirstBreak next within → place ≡ count * length answers + within → count * length answers ≤ most_bytes →
+    HasReadBroken place before now
+broken_on answers n part next before between now within place s h (inside, first) here few =
+    let size = answered_length s.certificates answers s.each in
+    let early = early_break next within inside first.here in
+    let below : place < most_bytes = omega (arith, here, early, few) in
+    let bytes : List ℕ = all_bytes s.certificates ++ next in
+    let always : (rest : List ℕ) → IsBrokenAt (bytes ++ rest) place = λ rest. record {
+      first = subst (λ l. IsFirstBroken l place) (sym (append_assoc (all_bytes s.certificates) next rest))
+          (subst (λ p. IsFirstBroken (all_bytes s.certificates ++ (next ++ rest)) p) (omega (arith, size, here))
+          (first_broken s.certificates (all_whole s.certificates answers s.each) next within inside first rest));
+      within = inl below;
+    } in
+    record {
+      bytes = bytes;
+      read = longer_on answers n part next before between now s h;
+      broken = subst (λ l. IsBrokenAt l place) (append-nil bytes) (always []);
+      settled = inr always;
+    }
+
+-- one byte past the limit
+pub past_on : (answers : List Bool) (n : ℕ) (part next : List ℕ) (before between now : SourceTold) → IsReadTo answers part before between →
+    HasReadOn n part next between now → (length next < count) × IsSound next → count * length answers + length next ≡ most_bytes + 1 → HasReadTooMany before now
+past_on answers n part next before between now s h (few, sound) full =
+    let size = answered_length s.certificates answers s.each in
+    let whole = all_whole s.certificates answers s.each in
+    let all = length-append (all_bytes s.certificates) next in
+    record {
+      front = all_bytes s.certificates ++ next;
+      read = longer_on answers n part next before between now s h;
+      past = omega (arith, size, all, full);
+      unbroken = λ rest place b.
+          let least = none_however s.certificates whole next few (omega (arith, few, full)) sound rest place
+          (subst (λ l. IsFirstBroken l place) (append_assoc (all_bytes s.certificates) next rest) b) in
+          omega (arith, least, all);
+    }
+
+-- at a read that failed
+pub fault_on : (answers : List Bool) (part : List ℕ) (before between now : SourceTold) → IsReadTo answers part before between → now.left ≡ between.left →
+    Rose before.faults now.faults → length part < count → count * length answers + length part ≤ most_bytes → HasFailedUnbroken before now
+fault_on answers part before between now s same rose few within =
+    let front : List ℕ = all_bytes s.certificates ++ part in
+    let size = answered_length s.certificates answers s.each in
+    let all = length-append (all_bytes s.certificates) part in
+    record {
+      front = front;
+      failed = record {
+        read = record { in_order = s.read.in_order ∙ ap (option_map (λ rest. front ++ rest)) (sym same) };
+        within = omega (arith, size, within, all);
+        failed = rose;
+      };
+      unbroken = λ place b.
+          let least = none_so_far s.certificates (all_whole s.certificates answers s.each) part few s.sound place b in
+          omega (arith, least, all);
+    }

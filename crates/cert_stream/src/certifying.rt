@@ -1,0 +1,88 @@
+//! A certificate for each master block of the list of a recording.
+
+ghost use Rattle.std.specs.Prelude.{◌≡◌, ◌≤◌, OnOk, OnErr, vec_len};
+ghost use Rattle.cs_outside.specs.Counts.{Rose};
+ghost use Rattle.explain.specs.Entries.{IsExplained, IsInList};
+ghost use Rattle.tail_cert.specs.Form.{count};
+ghost use Rattle.cert_stream.specs.Certifying.{IsCertificateOf, HasCertified, HasCertifiedFront, HasCertifiedAll, HasCertifiedSome};
+
+use cs_outside::{Failed, Sink, write_whole};
+use explain::values_of;
+use lte_types::Entry;
+use sample_file::Recording;
+use std::alloc::{AllocError, Global};
+use tail_cert::{CERTIFICATE_BYTES, Certificate, fill, to_bytes};
+use tailbite::Trellis;
+
+/// The memory in which certificates are made: that of one certificate, of the search for its word,
+/// and of its bytes. What it holds between two calls means nothing.
+#[derive(Drop)]
+pub struct CertificateWork {
+    certificate: Certificate,
+    trellis: Trellis,
+    buffer: Vec<u8>,
+    ghost size: { vec_len buffer ≡ count },
+}
+
+impl CertificateWork {
+    /// Takes all the memory. Only memory can be wanting.
+    pub fn new(alloc: Global) -> Result<CertificateWork, AllocError> {
+        let certificate = Certificate::new(alloc)?;
+        let trellis = Trellis::new(alloc)?;
+        let buffer = vec![in alloc; 0u8; CERTIFICATE_BYTES]?;
+        Ok(CertificateWork {
+            certificate,
+            trellis,
+            buffer,
+        })
+    }
+}
+
+/// Writes a certificate for each entry of a recording's list, in order: the values of the entry's
+/// frame, their least word, which tells the entry's master block, and its cost. The certificates are
+/// accepted. `Failed` means that the sink counted a fault, after a front of them was written; where
+/// the sink tells its room, that was too little for all. It takes no memory. (own)
+pub fn certify<K: Sink>(
+    recording: &Recording,
+    entries: &[Entry],
+    work: &mut CertificateWork,
+    sink: &mut K,
+) -> Result<(), Failed>
+    requires { IsExplained recording.now entries.now }
+    ensures ok { OnOk result (HasCertifiedAll recording.now entries.now (K.told sink.old) (K.told sink.new)) }
+    ensures err { OnErr result (HasCertifiedSome recording.now entries.now (K.told sink.old) (K.told sink.new)) }
+    ensures fault { OnErr result (Rose (K.told sink.old).faults (K.told sink.new).faults) }
+    ensures never_falls { (K.told sink.old).faults ≤ (K.told sink.new).faults }
+{
+    for entry in entries {
+        certify_one(recording, entry, work, sink)?;
+    }
+    Ok(())
+}
+
+// Writes the certificate of an entry.
+fn certify_one<K: Sink>(
+    recording: &Recording,
+    entry: &Entry,
+    work: &mut CertificateWork,
+    sink: &mut K,
+) -> Result<(), Failed>
+    requires { IsInList recording.now entry.now }
+    ensures ok { OnOk result (HasCertified recording.now entry.now (K.told sink.old) (K.told sink.new)) }
+    ensures err { OnErr result (HasCertifiedFront recording.now entry.now (K.told sink.old) (K.told sink.new)) }
+    ensures fault { OnErr result (Rose (K.told sink.old).faults (K.told sink.new).faults) }
+    ensures never_falls { (K.told sink.old).faults ≤ (K.told sink.new).faults }
+{
+    make(recording, entry, work);
+    write_whole(sink, &work.buffer)
+}
+
+// Makes the certificate of an entry, and its bytes.
+fn make(recording: &Recording, entry: &Entry, work: &mut CertificateWork)
+    requires { IsInList recording.now entry.now }
+    ensures { IsCertificateOf recording.now entry.now work.new.buffer.items }
+{
+    let values = values_of(recording, entry);
+    fill(&mut work.certificate, &values, &mut work.trellis);
+    to_bytes(&work.certificate, &mut work.buffer);
+}

@@ -1,0 +1,90 @@
+-- Certificates that are checked, and those that are written.
+use Rattle.std.proofs.Common.{◌≡◌, ℕ, ◌+◌, ◌*◌, ◌≤◌, inl, inr, Bool, List, ◌++◌, length, ap, sym, subst, ◌∙◌, arith, length-append}
+use Rattle.cs_num.specs.declared.Sample.{Sample}
+use Rattle.cs_outside.specs.Outside.{SourceTold}
+use Rattle.tail_cert.specs.Form.{count}
+use Rattle.cert_stream.specs.Stream.{most_bytes, IsFirstBroken}
+use Rattle.cert_stream.specs.Reading.{HasReadAnswers, IsCause}
+use Rattle.cert_stream.specs.declared.error.StreamError.{StreamError}
+use Rattle.cert_stream.specs.declared.error.StreamError.TheVariants.{Broken, TooLong as PastBytes, ReadFault as Stopped, OutOfMemory as Refused}
+use Rattle.cert_stream.proofs.Certified.{certified_length}
+use Rattle.cert_stream.proofs.Judged.{all_whole, one_answers}
+use Rattle.cert_stream.proofs.Rest.{none_broken}
+use Rattle.explain.proofs.Listed.{is_one_list}
+use Rattle.report.specs.Answers.{check_text}
+use Rattle.lte_top.specs.declared.form.Form.TheVariants.{Check}
+use Rattle.lte_top.specs.declared.status.Status.{Status}
+use Rattle.lte_top.specs.declared.status.Status.TheVariants.{Done, Usage, Ragged, TooShort, TooLong, ReadFault, WriteFault, OutOfMemory, BadCell, BadCertificate}
+use Rattle.lte_top.specs.Certificates.{IsChecked, IsCertified}
+use Rattle.lte_top.specs.Errors.{of_stream}
+use Rattle.lte_top.specs.Forms.{certificates, RefusesCertificates}
+use Rattle.lte_top.specs.Run.{Cause, HasOutput}
+
+-- an input has one output
+pub one_check : (input first second : List ℕ) → IsChecked input first → IsChecked input second → first ≡ second
+one_check input first second a b = a.text ∙ ap check_text (one_answers input a.answers b.answers a.are_answers b.are_answers) ∙ sym b.text
+
+-- all certificates of a recording's list have one length
+pub one_certified_length : (samples : List Sample) (first second : List ℕ) → IsCertified samples first → IsCertified samples second → length first ≡ length second
+one_certified_length samples first second a b =
+    let same = is_one_list samples a.entries b.entries a.is_list.explained b.is_list.explained in
+    let p = certified_length samples a.entries a.certificates a.each in
+    let q = certified_length samples b.entries b.certificates b.each in
+    ap length a.bytes ∙ p ∙ ap (λ l. count * length l) same ∙ sym q ∙ sym (ap length b.bytes)
+
+-- nothing refuses certificates that were answered
+answered_unrefused : (answers : List Bool) (before now : SourceTold) (h : HasReadAnswers answers before now) (status : Status) → RefusesCertificates h.bytes status → ⊥
+answered_unrefused answers before now h (BadCertificate place) r =
+    none_broken h.are_answers.certificates (all_whole h.are_answers.certificates answers h.are_answers.each) place (subst (λ l. IsFirstBroken l place) h.are_answers.read r.first)
+answered_unrefused answers before now h Done r = r
+answered_unrefused answers before now h Usage r = r
+answered_unrefused answers before now h Ragged r = r
+answered_unrefused answers before now h TooShort r = r
+answered_unrefused answers before now h TooLong r = r
+answered_unrefused answers before now h ReadFault r = r
+answered_unrefused answers before now h WriteFault r = r
+answered_unrefused answers before now h OutOfMemory r = r
+answered_unrefused answers before now h (BadCell cause) r = r
+
+-- the text of the answers is the output
+pub output_of_answers : (answers : List Bool) (output : List ℕ) (before now : SourceTold) → HasReadAnswers answers before now → output ≡ check_text answers → HasOutput Check output before now
+output_of_answers answers output before now h e = record {
+  bytes = h.bytes;
+  whole = h.whole;
+  unrefused = answered_unrefused answers before now h;
+  is_output = record { answers = answers; are_answers = h.are_answers; text = e };
+}
+
+-- ---- why certificates were not answered
+
+-- where no byte up to one past the limit breaks the form, nothing is refused
+past_unrefused : (front rest : List ℕ) → length front ≡ most_bytes + 1 → ((place : ℕ) → IsFirstBroken (front ++ rest) place → length front ≤ place) → (status : Status) →
+    RefusesCertificates (front ++ rest) status → ⊥
+past_unrefused front rest past unbroken (BadCertificate place) r =
+    let least = unbroken place r.first in
+    elim r.within [
+      | inl below ↦ omega (arith, least, past, below)
+      | inr short ↦ omega (arith, past, short, length-append front rest)
+    ]
+past_unrefused front rest past unbroken Done r = r
+past_unrefused front rest past unbroken Usage r = r
+past_unrefused front rest past unbroken Ragged r = r
+past_unrefused front rest past unbroken TooShort r = r
+past_unrefused front rest past unbroken TooLong r = r
+past_unrefused front rest past unbroken ReadFault r = r
+past_unrefused front rest past unbroken WriteFault r = r
+past_unrefused front rest past unbroken OutOfMemory r = r
+past_unrefused front rest past unbroken (BadCell cause) r = r
+
+-- the cause of an error is that of its status
+pub stream_cause : (error : StreamError) (before now : SourceTold) → IsCause before now error → Cause certificates before now (of_stream error)
+stream_cause (Broken place) before now h = record { bytes = h.bytes; read = h.read; refused = h.broken; settled = h.settled }
+stream_cause PastBytes before now h = record {
+  is_read = tt;
+  front = h.front;
+  read = h.read;
+  past = h.past;
+  unrefused = λ rest status r. past_unrefused h.front rest h.past (h.unbroken rest) status r;
+}
+stream_cause Stopped before now h = record { is_read = tt; front = h.front; failed = h.failed; unmet = h.unbroken }
+stream_cause Refused before now h = tt
