@@ -18,26 +18,28 @@ by_size bits format localised assigned valid None e = (Err BlockTooLarge, record
 by_size bits format localised assigned valid (Some size) e =
     let (start, found) = blocks_with (assignment bits) assigned in
     let (blocks, are, told) = found in
-    let grant : Grant = record { start = start; blocks = blocks; mcs = mcs bits; column = column_of (tpc_low bits); rv = rv bits; size = size } in
-    (Ok grant, record {
-      format = format;
-      localised = localised;
-      blocks = are;
-      assigned = sym told;
-      mcs_is = refl;
-      mcs_valid = valid;
-      rv_is = refl;
-      column_is = refl;
-      size_is = e;
-    })
+    let grant : Grant = record { start = start; blocks = blocks; mcs = mcs bits; column = column_of (tpc_low bits); rv = rv bits; size = size } in (
+      Ok grant,
+      record {
+        format = format;
+        localised = localised;
+        blocks = are;
+        assigned = sym told;
+        mcs_is = refl;
+        mcs_valid = valid;
+        rv_is = refl;
+        column_is = refl;
+        size_is = e;
+      },
+    )
 
 localised_answer : (bits : List Bool) → is_1a bits ≡ true → is_distributed bits ≡ false → Answer bits
 localised_answer bits format localised = elim (cases_lt 20 (assignment bits)) [
   | inl above ↦ (Err (BadRiv (assignment bits)), record { format = format; localised = localised; value = refl; above = above })
   | inr assigned ↦ elim (cases_lt 26 (mcs bits)) [
-      | inl above ↦ (Err (ReservedMcs (mcs bits)), record { format = format; localised = localised; assigned = assigned; value = refl; above = above })
-      | inr valid ↦ by_size bits format localised assigned valid (size_of (mcs bits) (column_of (tpc_low bits))) refl
-    ]
+    | inl above ↦ (Err (ReservedMcs (mcs bits)), record { format = format; localised = localised; assigned = assigned; value = refl; above = above })
+    | inr valid ↦ by_size bits format localised assigned valid (size_of (mcs bits) (column_of (tpc_low bits))) refl
+  ]
 ]
 
 by_form : (bits : List Bool) → is_1a bits ≡ true → (distributed : Bool) → is_distributed bits ≡ distributed → Answer bits

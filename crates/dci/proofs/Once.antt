@@ -35,9 +35,9 @@ one_grant bits a b s t =
     let column = s.column_is ∙ sym t.column_is in
     let sized : Some a.size ≡ Some b.size = sym s.size_is ∙ ap₂ size_of mcs column ∙ t.size_is in
     same_fields a b
-        (same_start a.start a.blocks b.start b.blocks s.blocks t.blocks told)
-        (same_count a.start a.blocks b.start b.blocks s.blocks t.blocks told)
-        mcs column (sym s.rv_is ∙ t.rv_is) (ap (λ o. unwrap_or o 0) sized)
+    (same_start a.start a.blocks b.start b.blocks s.blocks t.blocks told)
+    (same_count a.start a.blocks b.start b.blocks s.blocks t.blocks told)
+    mcs column (sym s.rv_is ∙ t.rv_is) (ap (λ o. unwrap_or o 0) sized)
 
 -- ---- one reason
 

@@ -43,3 +43,8 @@ tpc_low bits = bit bits 19
 
 abbrev pub padding : List Bool → Bool
 padding bits = bit bits 20
+
+-- the identifier that masks the check of these bits and scrambles what they grant, where that is system information: SI-RNTI
+-- (TS 36.321 section 7.1)
+abbrev pub system_information_rnti : ℕ
+system_information_rnti = 65535

@@ -5,3 +5,4 @@ pub mod Written
 pub mod Blocks
 pub mod Once
 pub mod Valid
+pub mod Texts

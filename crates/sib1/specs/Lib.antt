@@ -1,3 +1,4 @@
 pub mod Layout
 pub mod Message
 pub mod Parts
+pub mod Text

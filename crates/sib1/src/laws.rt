@@ -1,18 +1,19 @@
 //! Texts and what they stand for.
 
-ghost use Rattle.std.specs.Prelude.{◌≡◌, [], ◌++◌, Bool, true, List, Result, Ok};
+ghost use Rattle.std.specs.Prelude.{◌≡◌, ◌↔◌, [], ◌++◌, Bool, true, List, Some, Result, Ok};
 ghost use Rattle.lte_types.specs.declared.sib1.Sib1.{Sib1 as Fields};
 ghost use Rattle.lte_types.specs.declared.sib1_reason.Sib1Reason.{Sib1Reason};
 ghost use Rattle.lte_types.specs.Ranges.{IsValid};
 ghost use Rattle.uper.specs.Texts.{IsText};
 ghost use Rattle.sib1.specs.Layout.{sib1};
 ghost use Rattle.sib1.specs.Message.{Says, Writes};
+ghost use Rattle.sib1.specs.Text.{text_of};
 
 /// Bits say one thing: they begin with a text of one block or are refused for one reason, and not both.
 ///
 /// A text of a block stands for it, whatever bits follow, and for no other block. A block has one text at
-/// most, no text is a front of another, and what has a text is in its ranges. What was written is read, and
-/// nothing else.
+/// most, no text is a front of another, and what has a text is in its ranges. `text_of` is that text. What
+/// was written is read, and nothing else.
 pub fn texts_and_bits()
     ensures one_answer { (bits : List Bool) (a b : Result Fields Sib1Reason)
         → Says bits a → Says bits b → a ≡ b }
@@ -25,6 +26,7 @@ pub fn texts_and_bits()
         → IsText sib1 a fields → IsText sib1 b fields → a ≡ b }
     ensures no_front { (text more : List Bool) (fields other : Fields)
         → IsText sib1 text fields → IsText sib1 (text ++ more) other → (more ≡ []) × (other ≡ fields) }
+    ensures text_is { (text : List Bool) (fields : Fields) → (text_of fields ≡ Some text) ↔ IsText sib1 text fields }
     ensures valid { (text : List Bool) (fields : Fields) → IsText sib1 text fields → IsValid fields }
     ensures written_is_read { (bits more : List Bool) (fields : Fields) (answer : Result Fields Sib1Reason)
         → Writes fields true bits → Says (bits ++ more) answer → answer ≡ Ok fields }

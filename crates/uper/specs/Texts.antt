@@ -1,6 +1,7 @@
 -- The texts of a grammar, and what it refuses.
-use Rattle.std.specs.Prelude.{◌≡◌, ℕ, ◌+◌, ◌<◌, ◌≤◌, ◌⊎◌, Bool, List, [], ◌++◌, length, take}
-use Rattle.cs_bits.specs.Numbers.{number}
+use Rattle.std.specs.Prelude.{◌≡◌, ℕ, zero, suc, ◌+◌, ◌^◌, ◌<◌, ◌≤◌, ◌⊎◌, Bool, ◌&&◌, nat_le, if◌then◌else◌, List, [], ◌++◌, length, take, Option, Some, None}
+use Rattle.std.specs.Option.{option_map, option_or}
+use Rattle.cs_bits.specs.Numbers.{number, bits_of}
 use Rattle.uper.specs.Grammar.{Grammar, done, field}
 
 -- bits begin with a field of so many bits, whose number is within the range
@@ -37,3 +38,21 @@ Refuses (field width least greatest next) bits place =
     (IsBad width least greatest bits × (place ≡ 0))
     ⊎ ((front : List Bool) × ((rest : List Bool) × ((after : ℕ) ×
     Begins width least greatest bits front rest × (place ≡ width + after) × Refuses (next (number front)) rest after)))
+
+-- ---- the text of a value, found among all texts (own)
+
+-- the first that is there of so many
+unfoldable pub first_some : {A : Type 0} → ℕ → (ℕ → Option A) → Option A
+first_some zero f = None
+first_some (suc n) f = option_or (first_some n f) (f n)
+
+-- the bits of a field's number before a text of what follows, where the number is within the range
+abbrev pub after_field : ℕ → ℕ → ℕ → ℕ → Option (List Bool) → Option (List Bool)
+after_field width least greatest n rest =
+    if nat_le least n && nat_le n greatest then option_map (λ bits. bits_of width n ++ bits) rest else None
+
+-- the first text of the grammar that stands for a value which passes the test
+unfoldable pub first_text : {A : Type 0} → (A → Bool) → Grammar A → Option (List Bool)
+first_text test (done x) = if test x then Some [] else None
+first_text test (field width least greatest next) =
+    first_some (2 ^ width) (λ n. after_field width least greatest n (first_text test (next n)))

@@ -5,6 +5,7 @@ use Rattle.sib1.proofs.Messages.{one_answer, whatever_follows, written_is_read}
 use Rattle.sib1.proofs.Exists.{some_answer}
 use Rattle.sib1.proofs.Once.{once_sib1}
 use Rattle.sib1.proofs.Valid.{sib1_holds}
+use Rattle.sib1.proofs.Texts.{text_of_is, is_text_of}
 use Rattle.sib1.proofs.laws.texts_and_bits.Goals as goal
 
 pub returns-clause-one_answer : goal.returns-clause-one_answer
@@ -24,6 +25,9 @@ returns-clause-one_text c = λ a b fields s r. (once_sib1 a b fields s r).1
 
 pub returns-clause-no_front : goal.returns-clause-no_front
 returns-clause-no_front c = no_front sib1
+
+pub returns-clause-text_is : goal.returns-clause-text_is
+returns-clause-text_is c = λ text fields. (is_text_of text fields, text_of_is text fields)
 
 pub returns-clause-valid : goal.returns-clause-valid
 returns-clause-valid c = λ text fields s. sib1_holds text fields s
