@@ -26,8 +26,13 @@ use Rattle.sync_seq.specs.Secondary.{sss_at}
 use Rattle.sync_seq.proofs.PrimaryValues.{pss_is, pss-within}
 use Rattle.sync_seq.proofs.SecondaryValues.{sss-size}
 use Rattle.cell_tx.specs.declared.cell.CellPlan.{CellPlan}
-use Rattle.cell_tx.specs.Block.{broadcast_bit, broadcast_point}
-use Rattle.cell_tx.specs.Grid.{is_primary, is_secondary, is_broadcast, element}
+use Rattle.cell_tx.specs.Block.{broadcast_bit, broadcast_point, scrambled_bit}
+use Rattle.cell_tx.specs.Grid.{is_primary, is_secondary, is_broadcast, is_indicator, is_control, is_shared, channel_value, element}
+use Rattle.cell_tx.specs.Points.{scrambled, point_of}
+use Rattle.cell_tx.specs.Control.{indicator_point, control_word, control_point}
+use Rattle.cell_tx.specs.Shared.{shared_bit, shared_point}
+use Rattle.grid_map.specs.Scrambling.{pcfich_c_init, pdcch_c_init, pdsch_c_init, indicator_bit}
+use Rattle.dci.specs.Fields.{system_information_rnti}
 use Rattle.cell_tx.specs.Clean.{IsGain}
 use Rattle.lte_types.specs.Numerology.{normal, half_of, useful_start, symbol_of}
 use Rattle.cell_tx.specs.Sent.{Elements, slot_sample, frame_sample, number_of, sent, received}
@@ -43,6 +48,29 @@ point_full : (plan : CellPlan) (sfn i : ℕ) → IsPoint (broadcast_point plan s
 unfolding broadcast_point
 point_full plan sfn i = record { re = component-IsFull (broadcast_bit plan sfn (2 * i)); im = component-IsFull (broadcast_bit plan sfn (2 * i + 1)) }
 
+bits_full : (bits : ℕ → Bool) (i : ℕ) → IsPoint (point_of bits i)
+bits_full bits i = record { re = component-IsFull (bits (2 * i)); im = component-IsFull (bits (2 * i + 1)) }
+
+indicator_full : (plan : CellPlan) (subframe i : ℕ) → IsPoint (indicator_point plan subframe i)
+unfolding indicator_point
+indicator_full plan subframe i = bits_full (scrambled (pcfich_c_init plan.identity (2 * subframe)) (indicator_bit plan.cfi)) i
+
+control_full : (plan : CellPlan) (sfn i : ℕ) → IsPoint (control_point plan sfn i)
+unfolding control_point
+control_full plan sfn i = bits_full (scrambled_bit (pdcch_c_init plan.identity 10) (control_word plan sfn)) i
+
+shared_full : (plan : CellPlan) (sfn i : ℕ) → IsPoint (shared_point plan sfn i)
+unfolding shared_point
+shared_full plan sfn i = bits_full (scrambled (pdsch_c_init plan.identity 10 system_information_rnti) (shared_bit plan sfn)) i
+
+channel_all : (P : Cpx → Type 0) → ((z : Cpx) → IsPoint z → P z) → P nothing → (plan : CellPlan) (sfn subframe symbol k : ℕ) → P (channel_value plan sfn subframe symbol k)
+unfolding channel_value
+channel_all P full none plan sfn subframe symbol k =
+    pick P (is_broadcast plan.identity subframe symbol k) _ _ (full _ (point_full plan sfn _))
+    (pick P (is_indicator plan symbol k) _ _ (full _ (indicator_full plan subframe _))
+    (pick P (is_control plan sfn subframe symbol k) _ _ (full _ (control_full plan sfn _))
+    (pick P (is_shared plan sfn subframe symbol k) _ _ (full _ (shared_full plan sfn _)) none)))
+
 -- what holds of each kind of value holds of every element
 element_all : (P : Cpx → Type 0) → ((z : Cpx) → IsPoint z → P z) → ((n2 n : ℕ) → P (pss_at n2 n))
     → ((n1 n2 : ℕ) (half : Half) (n : ℕ) → P (record { re = pos 127 *ℤ sss_at n1 n2 half n; im = pos 0 })) → P nothing
@@ -54,7 +82,7 @@ element_all P full primary secondary none plan sfn subframe symbol k =
     (full _ (reference-IsPoint plan.identity (2 * subframe + symbol / 7) (symbol % 7) (k / 6))))
     (pick P (is_primary subframe symbol k) _ _ (primary (plan.identity % 3) (k - 5))
     (pick P (is_secondary subframe symbol k) _ _ (secondary (plan.identity / 3) (plan.identity % 3) (half_of subframe) (k - 5))
-    (pick P (is_broadcast plan.identity subframe symbol k) _ _ (full _ (point_full plan sfn _)) none)))
+    (channel_all P full none plan sfn subframe symbol k)))
 
 pub full_size : (z : ℤ) → IsFull z → nat_abs z ≡ 90
 full_size z (inl e) = rw e refl

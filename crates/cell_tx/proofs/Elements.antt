@@ -1,18 +1,15 @@
 -- The elements of a grid, case by case.
-use Rattle.std.proofs.Common.{◌≡◌, ℕ, ◌+◌, ◌*◌, ◌/◌, ◌%◌, ◌<◌, ◌≤◌, ◌⊎◌, inl, inr, Bool, true, false, nat_eq, Some, None, List, get_or, arith, refl, sym, ap, ◌∙◌, eq-eqb}
-use Rattle.std.specs.Prelude.{if◌then◌else◌, ◌&&◌}
+use Rattle.std.proofs.Common.{◌≡◌, ℕ, ◌+◌, ◌*◌, ◌/◌, ◌%◌, ◌<◌, ◌⊎◌, inl, inr, Bool, true, false, nat_eq, Some, None, List, get_or, arith, refl, sym, ap, ◌∙◌, eq-eqb}
+use Rattle.std.specs.Prelude.{if◌then◌else◌}
+use Rattle.std.specs.Option.{unwrap_or}
 use Rattle.std.proofs.lemmas.Bool.Decides.{nat_tests}
 use Rattle.cs_num.specs.declared.Cpx.{Cpx}
 use Rattle.cs_num.specs.Complex.{nothing}
 use Rattle.crs.specs.Reference.{first_subcarrier, reference, reference_at, is_reference, reference_list}
 use Rattle.crs.proofs.Values.{no_pair, get_or-reference_list}
-use Rattle.grid_map.specs.Place.{place}
-use Rattle.grid_map.specs.Broadcast.{is_pbch, pbch_index}
-use Rattle.grid_map.proofs.Points.{index_fits, carries_at_index}
 use Rattle.cell_tx.specs.declared.cell.CellPlan.{CellPlan}
-use Rattle.cell_tx.specs.Block.{broadcast_point}
-use Rattle.cell_tx.specs.Grid.{is_primary, is_secondary, reference_value, primary_value, secondary_value, broadcast_value, element}
-use Rattle.cell_tx.specs.Rows.{reference_if, broadcast_if}
+use Rattle.cell_tx.specs.Grid.{is_primary, is_secondary, is_broadcast, is_indicator, is_control, is_shared, reference_value, primary_value, secondary_value, broadcast_value, indicator_value, control_value, shared_value, channel_value, element}
+use Rattle.cell_tx.specs.Rows.{reference_if, broadcast_if, indicator_if, control_if, shared_if}
 
 -- ---- reference places
 
@@ -62,7 +59,7 @@ module _ (plan : CellPlan) (sfn subframe symbol k : ℕ) where
       element plan sfn subframe symbol k
       ≡ (if is_primary subframe symbol k then primary_value plan k
       else (if is_secondary subframe symbol k then secondary_value plan subframe k
-      else broadcast_if plan sfn subframe symbol k))
+      else channel_value plan sfn subframe symbol k))
   unfolding element
   element_elsewhere = settle (is_reference plan.identity (symbol % 7) k) refl
     where
@@ -71,28 +68,9 @@ module _ (plan : CellPlan) (sfn subframe symbol k : ℕ) where
           → element plan sfn subframe symbol k
           ≡ (if is_primary subframe symbol k then primary_value plan k
           else (if is_secondary subframe symbol k then secondary_value plan subframe k
-          else broadcast_if plan sfn subframe symbol k))
+          else channel_value plan sfn subframe symbol k))
       settle true e f = absurd (cc)
       settle false e f = rw e refl
-
--- ---- the broadcast channel at a place
-
-module _ (plan : CellPlan) (sfn subframe symbol k i : ℕ) (number : i ≡ pbch_index plan.identity (place symbol k)) where
-  pub broadcast_found : subframe ≡ 0 → i < 240 → broadcast_point plan sfn i ≡ broadcast_if plan sfn subframe symbol k
-  broadcast_found first inside =
-      let here : is_pbch plan.identity (place symbol k) ≡ true = carries_at_index plan.identity (place symbol k) (omega (arith, number, inside)) in
-      rw (first, here, number) refl
-
-  pub broadcast_missed : 240 ≤ i → nothing ≡ broadcast_if plan sfn subframe symbol k
-  broadcast_missed past = settle (is_pbch plan.identity (place symbol k)) refl
-    where
-      apart : (b : Bool) → nothing ≡ (if b && false then broadcast_value plan sfn symbol k else nothing)
-      apart true = refl
-      apart false = refl
-
-      settle : (b : Bool) → is_pbch plan.identity (place symbol k) ≡ b → nothing ≡ broadcast_if plan sfn subframe symbol k
-      settle true e = absurd (omega (arith, number, past, index_fits plan.identity (place symbol k) e))
-      settle false e = rw e (apart (nat_eq subframe 0))
 
 -- ---- elements that are no reference signal
 
@@ -103,5 +81,26 @@ module _ (plan : CellPlan) (sfn subframe symbol k : ℕ) (no : reference_if plan
   pub element_of_secondary : is_primary subframe symbol k ≡ false → is_secondary subframe symbol k ≡ true → element plan sfn subframe symbol k ≡ secondary_value plan subframe k
   element_of_secondary e f = element_elsewhere plan sfn subframe symbol k no ∙ rw (e, f) refl
 
-  pub element_of_broadcast : is_primary subframe symbol k ≡ false → is_secondary subframe symbol k ≡ false → element plan sfn subframe symbol k ≡ broadcast_if plan sfn subframe symbol k
-  element_of_broadcast e f = element_elsewhere plan sfn subframe symbol k no ∙ rw (e, f) refl
+  pub element_of_channel : is_primary subframe symbol k ≡ false → is_secondary subframe symbol k ≡ false → element plan sfn subframe symbol k ≡ channel_value plan sfn subframe symbol k
+  element_of_channel e f = element_elsewhere plan sfn subframe symbol k no ∙ rw (e, f) refl
+
+-- ---- the channels
+
+if_there : (here : Bool) (x z : Cpx) → (if here then x else z) ≡ unwrap_or (if here then Some x else None) z
+if_there true x z = refl
+if_there false x z = refl
+
+pub channel_is : (plan : CellPlan) (sfn subframe symbol k : ℕ) → channel_value plan sfn subframe symbol k
+    ≡ unwrap_or (broadcast_if plan sfn subframe symbol k) (unwrap_or (indicator_if plan subframe symbol k)
+    (unwrap_or (control_if plan sfn subframe symbol k) (unwrap_or (shared_if plan sfn subframe symbol k) nothing)))
+unfolding channel_value
+channel_is plan sfn subframe symbol k =
+    if_there (is_broadcast plan.identity subframe symbol k) (broadcast_value plan sfn symbol k) _
+    ∙ ap (unwrap_or (broadcast_if plan sfn subframe symbol k)) (if_there (is_indicator plan symbol k) (indicator_value plan subframe symbol k) _
+    ∙ ap (unwrap_or (indicator_if plan subframe symbol k)) (if_there (is_control plan sfn subframe symbol k) (control_value plan sfn symbol k) _
+    ∙ ap (unwrap_or (control_if plan sfn subframe symbol k)) (if_there (is_shared plan sfn subframe symbol k) (shared_value plan sfn symbol k) nothing)))
+
+-- where the broadcast channel is, it is the first
+pub channel_of_broadcast : (plan : CellPlan) (sfn subframe symbol k : ℕ) → is_broadcast plan.identity subframe symbol k ≡ true → channel_value plan sfn subframe symbol k ≡ broadcast_value plan sfn symbol k
+unfolding channel_value
+channel_of_broadcast plan sfn subframe symbol k e = rw e refl

@@ -2,3 +2,10 @@ pub mod Word
 pub mod Elements
 pub mod Bounds
 pub mod Symbols
+pub mod Sendable
+pub mod BlockRows
+pub mod PlaceValues
+pub mod BitPoints
+pub mod NewCells
+pub mod ChannelValues
+pub mod SignalSymbols

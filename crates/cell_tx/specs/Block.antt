@@ -7,11 +7,9 @@ use Rattle.cs_bits.specs.Numbers.{bits_of}
 use Rattle.cs_bits.specs.Checks.{with_check_16}
 use Rattle.conv_code.specs.Code.{coded_word}
 use Rattle.conv_code.specs.Reading.{bit_at_place, place_of}
-use Rattle.finite.specs.Bits.{xor}
-use Rattle.gold.specs.Gold.{gold_bit}
-use Rattle.crs.specs.Qpsk.{point}
 use Rattle.grid_map.specs.Scrambling.{pbch_c_init}
 use Rattle.cell_tx.specs.declared.cell.CellPlan.{CellPlan}
+use Rattle.cell_tx.specs.Points.{scrambled, point_of}
 
 -- the 24 bits of the master block in the frame with this number: dl-Bandwidth n6, phich-Config, the upper 8 bits of the frame
 -- number, and the spare bits (TS 36.331 section 6.2.2)
@@ -24,10 +22,13 @@ block_bits plan sfn =
 unfoldable pub broadcast_word : CellPlan → ℕ → List Bool
 broadcast_word plan sfn = with_check_16 0 (block_bits plan sfn)
 
--- bit n of the coded and matched bits of a word, which are repeated without end, scrambled by the sequence of c_init
--- (TS 36.212 sections 5.1.3.1 and 5.1.4.2, TS 36.211 section 7.2)
+-- bit n of the coded and matched bits of a word, which are repeated without end (TS 36.212 sections 5.1.3.1 and 5.1.4.2)
+abbrev pub coded_bit : List Bool → ℕ → Bool
+coded_bit word n = bit_at_place (coded_word word) (place_of (length word) n)
+
+-- it, scrambled by the sequence of c_init (TS 36.211 section 7.2)
 abbrev pub scrambled_bit : ℕ → List Bool → ℕ → Bool
-scrambled_bit c_init word n = xor (bit_at_place (coded_word word) (place_of (length word) n)) (gold_bit c_init n)
+scrambled_bit c_init word n = scrambled c_init (coded_bit word) n
 
 -- bit i of the 480 that a frame carries: the frames whose numbers are 0, 1, 2 and 3 modulo 4 carry the 1,920 scrambled bits in
 -- this order (TS 36.212 sections 5.3.1.2 and 5.3.1.3, TS 36.211 sections 6.6.1 and 6.6.4)
@@ -36,5 +37,4 @@ broadcast_bit plan sfn i = scrambled_bit (pbch_c_init plan.identity) (broadcast_
 
 -- point i of the 240 that a frame carries (QPSK, TS 36.211 section 7.1.2; the amplitude is own)
 unfoldable pub broadcast_point : CellPlan → ℕ → ℕ → Cpx
-broadcast_point plan sfn i =
-    point (broadcast_bit plan sfn (2 * i)) (broadcast_bit plan sfn (2 * i + 1))
+broadcast_point plan sfn i = point_of (broadcast_bit plan sfn) i

@@ -1,5 +1,5 @@
 -- The resource grid of a sent frame: by subframe, symbol 0 to 13 of it and subcarrier (TS 36.211 section 6.2).
-use Rattle.std.specs.Prelude.{ℕ, ◌+◌, ◌-◌, ◌*◌, ◌/◌, ◌%◌, Bool, ◌&&◌, ◌||◌, nat_eq, if◌then◌else◌}
+use Rattle.std.specs.Prelude.{ℕ, ◌+◌, ◌-◌, ◌*◌, ◌/◌, ◌%◌, Bool, ◌&&◌, ◌||◌, nat_eq, nat_lt, if◌then◌else◌, List, length}
 use Rattle.cs_num.specs.declared.Cpx.{Cpx}
 use Rattle.cs_num.specs.Complex.{nothing}
 use Rattle.lte_types.specs.Numerology.{half_of}
@@ -7,10 +7,14 @@ use Rattle.crs.specs.Reference.{is_reference, reference_at}
 use Rattle.sync_seq.specs.Primary.{pss_at}
 use Rattle.sync_seq.specs.Middle.{is_middle}
 use Rattle.sync_seq.specs.Secondary.{sss_amplitude}
-use Rattle.grid_map.specs.Place.{place}
+use Rattle.grid_map.specs.declared.Place.{Place}
+use Rattle.grid_map.specs.Place.{place, index_in}
 use Rattle.grid_map.specs.Broadcast.{is_pbch, pbch_index}
+use Rattle.grid_map.specs.Control.{pcfich_places}
 use Rattle.cell_tx.specs.declared.cell.CellPlan.{CellPlan}
 use Rattle.cell_tx.specs.Block.{broadcast_point}
+use Rattle.cell_tx.specs.Control.{control_places, indicator_point, control_point}
+use Rattle.cell_tx.specs.Shared.{shared_places, shared_point}
 
 -- the middle 62 subcarriers of this symbol of subframes 0 and 5 hold a synchronisation signal (TS 36.211 sections 6.11.1.2 and 6.11.2.2)
 abbrev pub is_synchronised : ℕ → ℕ → ℕ → ℕ → Bool
@@ -27,6 +31,28 @@ is_secondary subframe symbol k = is_synchronised 5 subframe symbol k
 -- the broadcast channel is in subframe 0 (TS 36.211 section 6.6.4)
 abbrev pub is_broadcast : ℕ → ℕ → ℕ → ℕ → Bool
 is_broadcast identity subframe symbol k = nat_eq subframe 0 && is_pbch identity (place symbol k)
+
+-- a place is one of a channel's
+abbrev pub is_one_of : List Place → Place → Bool
+is_one_of places p = nat_lt (index_in places p) (length places)
+
+-- the control format indicator is in every subframe (TS 36.211 section 6.7)
+abbrev pub is_indicator : CellPlan → ℕ → ℕ → Bool
+is_indicator plan symbol k = is_one_of (pcfich_places plan.identity) (place symbol k)
+
+-- system information is in subframe 5 of the frames of even number (TS 36.331 section 5.2.1.2)
+abbrev pub has_system_information : ℕ → ℕ → Bool
+has_system_information sfn subframe = nat_eq subframe 5 && nat_eq (sfn % 2) 0
+
+-- what grants it (TS 36.211 section 6.8)
+abbrev pub is_control : CellPlan → ℕ → ℕ → ℕ → ℕ → Bool
+is_control plan sfn subframe symbol k =
+    has_system_information sfn subframe && is_one_of (control_places plan) (place symbol k)
+
+-- and the shared channel that carries it (TS 36.211 section 6.4)
+abbrev pub is_shared : CellPlan → ℕ → ℕ → ℕ → ℕ → Bool
+is_shared plan sfn subframe symbol k =
+    has_system_information sfn subframe && is_one_of (shared_places plan) (place symbol k)
 
 -- ---- the values
 
@@ -47,13 +73,34 @@ secondary_value plan subframe k =
 abbrev pub broadcast_value : CellPlan → ℕ → ℕ → ℕ → Cpx
 broadcast_value plan sfn symbol k = broadcast_point plan sfn (pbch_index plan.identity (place symbol k))
 
+-- the physical control format indicator channel (TS 36.211 section 6.7)
+abbrev pub indicator_value : CellPlan → ℕ → ℕ → ℕ → Cpx
+indicator_value plan subframe symbol k =
+    indicator_point plan subframe (index_in (pcfich_places plan.identity) (place symbol k))
+
+-- the physical downlink control channel (TS 36.211 section 6.8)
+abbrev pub control_value : CellPlan → ℕ → ℕ → ℕ → Cpx
+control_value plan sfn symbol k = control_point plan sfn (index_in (control_places plan) (place symbol k))
+
+-- the physical downlink shared channel (TS 36.211 section 6.4)
+abbrev pub shared_value : CellPlan → ℕ → ℕ → ℕ → Cpx
+shared_value plan sfn symbol k = shared_point plan sfn (index_in (shared_places plan) (place symbol k))
+
 -- ---- the element
 
--- the value at a place of the frame with this number: that of the first case that applies
+-- what the channels have at a place: the value of the first that is there
+unfoldable pub channel_value : CellPlan → ℕ → ℕ → ℕ → ℕ → Cpx
+channel_value plan sfn subframe symbol k =
+    if is_broadcast plan.identity subframe symbol k then broadcast_value plan sfn symbol k
+    else (if is_indicator plan symbol k then indicator_value plan subframe symbol k
+    else (if is_control plan sfn subframe symbol k then control_value plan sfn symbol k
+    else (if is_shared plan sfn subframe symbol k then shared_value plan sfn symbol k
+    else nothing)))
+
+-- the value at a place of the frame with this number: that of the first case that applies, the signals before the channels
 unfoldable pub element : CellPlan → ℕ → ℕ → ℕ → ℕ → Cpx
 element plan sfn subframe symbol k =
     if is_reference plan.identity (symbol % 7) k then reference_value plan subframe symbol k
     else (if is_primary subframe symbol k then primary_value plan k
     else (if is_secondary subframe symbol k then secondary_value plan subframe k
-    else (if is_broadcast plan.identity subframe symbol k then broadcast_value plan sfn symbol k
-    else nothing)))
+    else channel_value plan sfn subframe symbol k))

@@ -3,6 +3,7 @@ use Rattle.std.specs.Prelude.{◌≡◌, ◌↔◌, ℕ, ◌+◌, ◌-◌, ◌*�
 use Rattle.cs_num.specs.declared.Sample.{Sample}
 use Rattle.cs_num.specs.Complex.{IsWithin, square, plus, times}
 use Rattle.fold128.specs.Symbol.{useful_at}
+use Rattle.lte_types.specs.Ranges.{IsValid}
 use Rattle.lte_types.specs.Numerology.{frame_length, normal, prefix_length, useful_start}
 use Rattle.cell_tx.specs.declared.cell.CellPlan.{CellPlan}
 use Rattle.cell_tx.specs.Plan.{IsSendable, plan_refusal}
@@ -12,9 +13,9 @@ use Rattle.finite.specs.Lists.{values_below}
 use Rattle.cs_num.specs.declared.Cpx.{Cpx}
 use Rattle.cell_tx.specs.Clean.{IsGain, IsCleanOf, IsClean, IsOffset, start_of, number_at_start}
 
--- the plans that can be sent are those in which no condition fails
+-- the plans that can be sent are those with a block of system information in its ranges in which no condition fails
 abbrev pub AcceptedAreSendable : Type 0
-AcceptedAreSendable = (plan : CellPlan) → (plan_refusal plan ≡ None) ↔ IsSendable plan
+AcceptedAreSendable = (plan : CellPlan) → (IsValid plan.sib1 × (plan_refusal plan ≡ None)) ↔ IsSendable plan
 
 -- the useful part of symbol l of a slot stands from its first sample on
 abbrev pub UsefulPartsStand : Type 0

@@ -1,6 +1,9 @@
 pub mod Conditions
 pub mod Plan
+pub mod Points
 pub mod Block
+pub mod Control
+pub mod Shared
 pub mod Grid
 pub mod Sent
 pub mod Rows

@@ -1,22 +1,59 @@
 -- What the code makes of a frame, part by part. (own)
-use Rattle.std.specs.Prelude.{ℕ, ◌+◌, ◌-◌, ◌*◌, ◌/◌, ◌%◌, ◌<◌, ◌≡◌, nat_eq, if◌then◌else◌, Option, Some, None, List, slice_index_or}
+use Rattle.std.specs.Prelude.{ℕ, ◌+◌, ◌-◌, ◌*◌, ◌/◌, ◌%◌, ◌<◌, ◌≤◌, ◌≡◌, nat_eq, if◌then◌else◌, Option, Some, None, List, take, slice_index_or}
 use Rattle.finite.specs.Lists.{values_below}
 use Rattle.cs_num.specs.declared.Cpx.{Cpx}
 use Rattle.cs_num.specs.declared.Sample.{Sample}
-use Rattle.cs_num.specs.Complex.{nothing, silence}
+use Rattle.cs_num.specs.Complex.{silence, value_at}
 use Rattle.lte_types.specs.Numerology.{frame_length, slot_length, useful_length, normal, symbol_step, symbol_of}
 use Rattle.crs.specs.Reference.{is_reference, reference_at}
+use Rattle.grid_map.specs.declared.Place.{Place}
+use Rattle.grid_map.specs.Place.{index_in}
+use Rattle.grid_map.specs.Broadcast.{pbch_places}
+use Rattle.grid_map.specs.Control.{pcfich_places}
 use Rattle.cell_tx.specs.declared.cell.CellPlan.{CellPlan}
-use Rattle.cell_tx.specs.Grid.{is_broadcast, broadcast_value}
+use Rattle.cell_tx.specs.declared.channels.Channels.{Channels}
+use Rattle.cell_tx.specs.Block.{broadcast_point}
+use Rattle.cell_tx.specs.Control.{indicator_point, control_places, control_point}
+use Rattle.cell_tx.specs.Shared.{shared_places, shared_point}
+use Rattle.cell_tx.specs.Grid.{is_broadcast, broadcast_value, is_one_of, is_indicator, indicator_value, is_control, control_value, is_shared, shared_value}
 use Rattle.cell_tx.specs.Sent.{Elements, frame_sample, sample_of}
 
 -- the reference value at a place of a slot, where there is one
 abbrev pub reference_if : ℕ → ℕ → ℕ → ℕ → Option Cpx
 reference_if identity slot symbol k = if is_reference identity symbol k then Some (reference_at identity slot symbol k) else None
 
--- the value of the broadcast channel at a place of a subframe, and nothing elsewhere
-abbrev pub broadcast_if : CellPlan → ℕ → ℕ → ℕ → ℕ → Cpx
-broadcast_if plan sfn subframe symbol k = if is_broadcast plan.identity subframe symbol k then broadcast_value plan sfn symbol k else nothing
+-- the point that a place carries, by a channel's places and points; none at every other place
+abbrev pub value_in : List Place → List Cpx → Place → Option Cpx
+value_in places points p = if is_one_of places p then Some (value_at points (index_in places p)) else None
+
+-- the value of a channel at a place of a subframe; none at every other place
+abbrev pub broadcast_if : CellPlan → ℕ → ℕ → ℕ → ℕ → Option Cpx
+broadcast_if plan sfn subframe symbol k =
+    if is_broadcast plan.identity subframe symbol k then Some (broadcast_value plan sfn symbol k) else None
+
+abbrev pub indicator_if : CellPlan → ℕ → ℕ → ℕ → Option Cpx
+indicator_if plan subframe symbol k =
+    if is_indicator plan symbol k then Some (indicator_value plan subframe symbol k) else None
+
+abbrev pub control_if : CellPlan → ℕ → ℕ → ℕ → ℕ → Option Cpx
+control_if plan sfn subframe symbol k =
+    if is_control plan sfn subframe symbol k then Some (control_value plan sfn symbol k) else None
+
+abbrev pub shared_if : CellPlan → ℕ → ℕ → ℕ → ℕ → Option Cpx
+shared_if plan sfn subframe symbol k =
+    if is_shared plan sfn subframe symbol k then Some (shared_value plan sfn symbol k) else None
+
+-- what the channels of a plan's frame carry, and where
+pub record AreChannels (plan : CellPlan) (sfn : ℕ) (channels : Channels) : Type 0 where
+  pub broadcast_places : channels.broadcast_places ≡ pbch_places plan.identity
+  pub broadcast : channels.broadcast ≡ values_below 240 (broadcast_point plan sfn)
+  pub indicator_places : channels.indicator_places ≡ pcfich_places plan.identity
+  pub indicators : channels.indicators ≡ values_below 10 (λ subframe. values_below 16 (indicator_point plan subframe))
+  pub control_places : channels.control_places ≡ control_places plan
+  pub control : channels.control ≡ values_below 144 (control_point plan sfn)
+  pub count : channels.shared_count ≤ 612
+  pub shared_places : take channels.shared_count channels.shared_places ≡ shared_places plan
+  pub shared : channels.shared ≡ values_below 612 (shared_point plan sfn)
 
 -- the sample of the useful part of its symbol that sample i of a slot repeats or is
 abbrev pub useful_place : ℕ → ℕ

@@ -1,28 +1,19 @@
 //! The broadcast channel of a frame.
 
-ghost use Rattle.std.specs.Prelude.{◌≡◌, ◌+◌, ◌*◌, ◌<◌, ◌≤◌, ◌++◌, false, take, length, slice_index_or};
+ghost use Rattle.std.specs.Prelude.{◌≡◌, ◌<◌, ◌≤◌, false, length, slice_index_or};
 ghost use Rattle.finite.specs.Lists.{values_below};
 ghost use Rattle.finite.specs.Bits.{xor};
 ghost use Rattle.conv_code.specs.Reading.{bit_at_place, place_of};
-ghost use Rattle.cs_bits.specs.Numbers.{bits_of};
 ghost use Rattle.cell_tx.specs.Block.{broadcast_word, broadcast_point};
 
 use crate::Cell;
+use crate::bits::put_bits;
 use conv_code::{encode, match_out};
 use crs::point;
-use cs_bits::{Bits, crc16, put_number};
+use cs_bits::{Bits, crc16};
 use cs_num::Cpx;
 use grid_map::pbch_c_init;
 use lte_types::{Bandwidth, Sfn};
-
-// Writes the low bits of a number from place `first` on, the highest first.
-fn put_bits(bits: &mut [bool; 40], first: usize, width: usize, number: u16)
-    requires inside { first + width ≤ 40 }
-    requires width { width ≤ 16 }
-    ensures { take (first + width) bits.new ≡ take first bits.old ++ bits_of width number }
-{
-    put_number(number as u64, &mut bits[first..first + width]);
-}
 
 // The master block with its check.
 fn word_of(cell: &Cell, sfn: Sfn) -> Bits<40>
@@ -30,13 +21,13 @@ fn word_of(cell: &Cell, sfn: Sfn) -> Bits<40>
 {
     let plan = cell.plan();
     let mut bits = [false; 40];
-    put_bits(&mut bits, 0, 3, Bandwidth::N6.code() as u16);
-    put_bits(&mut bits, 3, 1, plan.duration.code() as u16);
-    put_bits(&mut bits, 4, 2, plan.resource.code() as u16);
-    put_bits(&mut bits, 6, 8, sfn.value() / 4);
-    put_bits(&mut bits, 14, 10, plan.spare);
+    put_bits(&mut bits, 0, 3, Bandwidth::N6.code() as u64);
+    put_bits(&mut bits, 3, 1, plan.duration.code() as u64);
+    put_bits(&mut bits, 4, 2, plan.resource.code() as u64);
+    put_bits(&mut bits, 6, 8, sfn.value() as u64 / 4);
+    put_bits(&mut bits, 14, 10, plan.spare as u64);
     let check = crc16(&bits[..24]);
-    put_bits(&mut bits, 24, 16, check);
+    put_bits(&mut bits, 24, 16, check as u64);
     Bits::new(bits)
 }
 

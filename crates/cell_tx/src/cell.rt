@@ -1,10 +1,18 @@
 //! Plans of cells, and the cells that can be sent.
 
-ghost use Rattle.std.specs.Prelude.{◌≡◌, Some, None, MatchResult, IfOk};
+ghost use Rattle.std.specs.Prelude.{◌≡◌, ◌+◌, ◌*◌, ◌≤◌, ◌&&◌, ◌||◌, nat_eq, nat_le, false, if◌then◌else◌, length, Some, None, MatchOption, MatchResult, IfOk};
+ghost use Rattle.std.specs.Option.{option_map_or};
+ghost use Rattle.lte_types.specs.Ranges.{IsValid};
+ghost use Rattle.dci.specs.Sizes.{size_of};
+ghost use Rattle.sib1.specs.Text.{text_of};
 
 use crate::CellError;
-use lte_types::{CellId, Duration, Resource};
+use crate::shared::coded_block;
+use lte_types::{CellId, Cfi, Duration, Resource, Sib1};
+use std::fmt::{self, Debug, Formatter, Write};
 use std::marker::Model;
+use turbo_code::Coded;
+use uper::Writer;
 
 /// What a cell is to send. Its master block has bandwidth n6, one antenna port, and the upper bits
 /// of the frame's number.
@@ -18,31 +26,123 @@ pub struct CellPlan {
     pub resource: Resource,
     /// The 10 spare bits of the master block, 0 to 1023.
     pub spare: u16,
+    /// The control format indicator, 2 or 3 (TS 36.212 section 5.3.4).
+    pub cfi: u8,
+    /// The first resource block of SystemInformationBlockType1, 0 to 5.
+    pub start: u8,
+    /// The count of its resource blocks, 1 to 6; with `start` at most 6.
+    pub blocks: u8,
+    /// Its modulation and coding scheme, of which `column` has a size.
+    pub mcs: u8,
+    /// The column of the table of sizes, 2 or 3.
+    pub column: u8,
+    /// The block itself, without TDD-Config and extension.
+    pub sib1: Sib1,
 }
 
 /// A plan that was accepted. Contracts see it as the plan.
-#[derive(Debug, Drop)]
+#[derive(Drop)]
 pub struct Cell {
     plan: CellPlan,
+    // The coded word of its transport block, made once.
+    coded: Coded,
+}
+
+impl CellPlan {
+    ghost use Rattle.std.specs.Prelude.{◌*◌};
+    ghost use Rattle.grid_map.specs.Shared.{block_places};
+
+    // The places of the assigned resource blocks.
+    pub(crate) fn assigned_places(&self) -> usize
+        ensures { result ≡ block_places self.now.cfi * self.now.blocks }
+    {
+        let places = if self.cfi == 2 { 102 } else { 90 };
+        places * self.blocks as usize
+    }
+}
+
+// Some of the six resource blocks are assigned, one after the other.
+fn has_blocks(plan: &CellPlan) -> bool
+    ensures { result ≡ (nat_le 1 plan.now.blocks && nat_le (plan.now.start + plan.now.blocks) 6) }
+{
+    1 <= plan.blocks && plan.start as u32 + plan.blocks as u32 <= 6
+}
+
+// The size of the transport block, where the plan's column is one of the table and has one.
+fn size_of(plan: &CellPlan) -> Option<u16>
+    ensures { result ≡ (if nat_eq plan.now.column 2 || nat_eq plan.now.column 3
+        then size_of plan.now.mcs plan.now.column else None) }
+{
+    if plan.column == 2 || plan.column == 3 {
+        dci::size(plan.mcs, plan.column)
+    } else {
+        None
+    }
+}
+
+// The coded bits of a transport block and its check: three streams, each with four bits of its tails.
+fn coded_bits(size: u16) -> usize
+    ensures { result ≡ 3 * (size + 24 + 4) }
+{
+    3 * (size as usize + 24 + 4)
+}
+
+// The text of a block without an extension, which has at most so many bits; `None` exactly where it has more.
+fn text_of(fields: &Sib1, size: u16) -> Option<Writer>
+    requires valid { IsValid fields.now }
+    requires plain { fields.now.extended ≡ false }
+    requires size { size ≤ 1000 }
+    ensures { MatchOption result
+        (option_map_or (λ text. nat_le (length text) size) (text_of fields.now) false ≡ false)
+        (λ text. (text_of fields.now ≡ Some text) × (length text ≤ size)) }
+{
+    let mut text = Writer::new();
+    if sib1::write(fields, &mut text) && text.bits().len() <= size as usize {
+        Some(text)
+    } else {
+        None
+    }
 }
 
 impl Model for Cell {
     ghost use Rattle.cell_tx.specs.declared.cell.CellPlan.{CellPlan as Plan};
     ghost use Rattle.cell_tx.specs.Plan.{IsSendable};
+    ghost use Rattle.cell_tx.specs.Shared.{IsCoded};
 
     ghost Value = { Plan };
 
     ghost view = { λ c. c.plan };
 
-    ghost invariant = { λ c. IsSendable c.plan };
+    ghost invariant = { λ c. IsSendable c.plan × IsCoded c.plan c.coded };
+}
+
+impl Debug for Cell {
+    fn fmt<W: Write>(&self, f: &mut Formatter<W>) -> fmt::Result {
+        self.plan.fmt(f)
+    }
 }
 
 impl Cell {
-    ghost use Rattle.cell_tx.specs.Plan.{IsSendable, plan_refusal};
+    ghost use Rattle.dci.specs.Sizes.{size_of};
+    ghost use Rattle.grid_map.specs.Shared.{block_places};
+    ghost use Rattle.cell_tx.specs.Plan.{IsSendable, plan_refusal, block_size};
+    ghost use Rattle.cell_tx.specs.Shared.{IsCoded};
 
-    /// The cell of a plan, or the first failed condition: `Identity`, at most 503, then `Spare`, at
-    /// most 1023.
+    /// The cell of a plan whose SystemInformationBlockType1 is in its ranges, or the first failed condition:
+    ///
+    /// - `Identity`: at most 503.
+    /// - `Spare`: at most 1023.
+    /// - `Cfi`: 2 or 3.
+    /// - `Assignment`: `blocks` is at least 1, and `start` + `blocks` at most 6.
+    /// - `Mcs`: `column` is 2 or 3, and its table has a size for `mcs`.
+    /// - `Punctured`: the assigned blocks carry each coded bit at least once. They carry 204 bits each with
+    ///   `cfi` 2 and 180 with 3, and a block of so many bits and its check has three bits for each of them
+    ///   and twelve more.
+    /// - `Duplex`: there is no TDD-Config.
+    /// - `Extension`: there is no extension.
+    /// - `Sib1Long`: the text of SystemInformationBlockType1 fits the size.
     pub fn new(plan: CellPlan) -> Result<Cell, CellError>
+        requires { IsValid plan.sib1 }
         ensures refusal { MatchResult result (λ _. plan_refusal plan ≡ None) (λ cause. plan_refusal plan ≡ Some cause) }
         ensures plan { IfOk result (λ cell. cell ≡ plan) }
         ensures sendable { IfOk result IsSendable }
@@ -53,7 +153,29 @@ impl Cell {
         if plan.spare > 1023 {
             return Err(CellError::Spare);
         }
-        Ok(Cell { plan })
+        if plan.cfi < 2 || plan.cfi > 3 {
+            return Err(CellError::Cfi);
+        }
+        if !has_blocks(&plan) {
+            return Err(CellError::Assignment);
+        }
+        let Some(size) = size_of(&plan) else {
+            return Err(CellError::Mcs);
+        };
+        if coded_bits(size) > 2 * plan.assigned_places() {
+            return Err(CellError::Punctured);
+        }
+        if plan.sib1.tdd.is_some() {
+            return Err(CellError::Duplex);
+        }
+        if plan.sib1.extended {
+            return Err(CellError::Extension);
+        }
+        let Some(text) = text_of(&plan.sib1, size) else {
+            return Err(CellError::Sib1Long);
+        };
+        let coded = coded_block(text.bits(), size);
+        Ok(Cell { plan, coded })
     }
 
     /// The plan.
@@ -73,5 +195,41 @@ impl Cell {
             Some(id) => id,
             None => unreachable!(),
         }
+    }
+
+    // The control format indicator.
+    pub(crate) fn cfi(&self) -> Cfi
+        ensures value { result ≡ self.now.cfi }
+    {
+        match Cfi::new(self.plan.cfi) {
+            Some(cfi) => cfi,
+            None => unreachable!(),
+        }
+    }
+
+    // The places of the assigned resource blocks.
+    pub(crate) fn assigned_places(&self) -> usize
+        ensures value { result ≡ block_places self.now.cfi * self.now.blocks }
+        ensures bound { result ≤ 612 }
+    {
+        self.plan().assigned_places()
+    }
+
+    // The size of the transport block.
+    pub(crate) fn size(&self) -> u16
+        ensures value { result ≡ block_size self.now }
+        ensures entry { size_of self.now.mcs self.now.column ≡ Some result }
+    {
+        match dci::size(self.plan.mcs, self.plan.column) {
+            Some(size) => size,
+            None => unreachable!(),
+        }
+    }
+
+    // The coded word of the transport block.
+    pub(crate) fn coded(&self) -> &Coded
+        ensures { IsCoded self.now result.now }
+    {
+        &self.coded
     }
 }

@@ -8,37 +8,32 @@ ghost use Rattle.lte_types.specs.Numerology.{half_of};
 ghost use Rattle.sync_seq.specs.Primary.{pss_list};
 ghost use Rattle.sync_seq.specs.Secondary.{sss_at, sss_list};
 ghost use Rattle.crs.specs.Reference.{is_reference, reference_at, reference_list};
-ghost use Rattle.grid_map.specs.Place.{index_in as index_of};
-ghost use Rattle.grid_map.specs.Broadcast.{pbch_places as places_of_channel};
-ghost use Rattle.cell_tx.specs.Block.{broadcast_point};
 ghost use Rattle.fold128.specs.Symbol.{useful_part};
 ghost use Rattle.cell_tx.specs.Grid.{is_synchronised, secondary_value, element};
-ghost use Rattle.cell_tx.specs.Rows.{reference_if, broadcast_if};
+ghost use Rattle.cell_tx.specs.Rows.{reference_if, AreChannels};
 
 use crate::Cell;
-use crate::block::broadcast_points;
+use crate::channels::{Channels, channel_value, channels_of};
 use crs::pilots;
 use cs_num::Cpx;
 use fold128::synth;
-use grid_map::{Place, pbch_places};
+use grid_map::Place;
 use lte_types::{CellId, Half, Sfn};
 use sync_seq::{MIDDLE, amplitude, is_middle, pss, sss};
 
 // What a frame of a cell sends, made once for all its symbols.
 #[derive(Drop)]
 pub(crate) struct Signals<'a> {
-    cell: &'a Cell,
-    sfn: Sfn,
+    pub cell: &'a Cell,
+    pub sfn: Sfn,
     primary: [Cpx; 62],
     zero: [i8; 62],
     five: [i8; 62],
-    places: [Place; 240],
-    points: [Cpx; 240],
+    pub channels: Channels,
     ghost primary_is: { primary ≡ pss_list (cell.now.identity % 3) },
     ghost zero_is: { zero ≡ sss_list (cell.now.identity / 3) (cell.now.identity % 3) Zero },
     ghost five_is: { five ≡ sss_list (cell.now.identity / 3) (cell.now.identity % 3) Five },
-    ghost places_are: { places ≡ places_of_channel cell.now.identity },
-    ghost points_are: { points ≡ values_below 240 (broadcast_point cell.now sfn) },
+    ghost channels_are: { AreChannels cell.now sfn channels },
 }
 
 impl<'a> Signals<'a> {
@@ -52,16 +47,14 @@ impl<'a> Signals<'a> {
         let primary = pss(n2);
         let zero = sss(id.n1(), n2, Half::Zero);
         let five = sss(id.n1(), n2, Half::Five);
-        let places = pbch_places(id);
-        let points = broadcast_points(cell, sfn);
+        let channels = channels_of(cell, sfn);
         Signals {
             cell,
             sfn,
             primary,
             zero,
             five,
-            places,
-            points,
+            channels,
         }
     }
 }
@@ -126,33 +119,6 @@ fn secondary_of(signals: &Signals, subframe: u8, k: u8) -> Cpx
     amplitude(sign_of(signals, subframe, k as usize - MIDDLE))
 }
 
-// The number of a place in a list of places; their count where it is not among them.
-fn index_in(places: &[Place], here: Place) -> usize
-    ensures { result ≡ index_of places.now here }
-{
-    for (i, place) in places.iter().enumerate() {
-        if here == *place {
-            return i;
-        }
-    }
-    places.len()
-}
-
-// The value of the broadcast channel, and 0 at every other place.
-fn broadcast_of(signals: &Signals, subframe: u8, symbol: u8, k: u8) -> Cpx
-    ensures { result ≡ broadcast_if signals.now.cell.now signals.now.sfn subframe symbol k }
-{
-    if subframe > 0 {
-        return Cpx::ZERO;
-    }
-    let i = index_in(&signals.places, Place { symbol, k });
-    if i < 240 {
-        signals.points[i]
-    } else {
-        Cpx::ZERO
-    }
-}
-
 // The value at a place.
 fn element_of(
     signals: &Signals,
@@ -163,6 +129,7 @@ fn element_of(
 ) -> Cpx
     requires references { references.now ≡ values_below 72
         (reference_if signals.now.cell.now.identity (2 * subframe + symbol / 7) (symbol % 7)) }
+    requires subframe { subframe < 10 }
     requires k { k < 72 }
     ensures { result ≡ element signals.now.cell.now signals.now.sfn subframe symbol k }
 {
@@ -173,7 +140,7 @@ fn element_of(
     } else if is_signal(5, subframe, symbol, k) {
         secondary_of(signals, subframe, k)
     } else {
-        broadcast_of(signals, subframe, symbol, k)
+        channel_value(signals, subframe, Place { symbol, k })
     }
 }
 

@@ -1,13 +1,18 @@
-//! The transmitter of a described cell, to its master block: synchronisation signals, reference
-//! signals and the broadcast channel (TS 36.211 section 6).
+//! The transmitter of a described cell: synchronisation signals, reference signals, the broadcast channel,
+//! and the control region and the shared channel with SystemInformationBlockType1 (TS 36.211 section 6).
 #![tactic(auto)]
 
+mod bits;
 mod block;
 mod cell;
+mod channels;
+mod control;
 mod error;
 mod grid;
 mod laws;
+mod points;
 mod sending;
+mod shared;
 mod transmission;
 
 pub use cell::{Cell, CellPlan};

@@ -1,135 +1,250 @@
-// The samples were made by a second program.
+// The samples are those of a second program, `scripts/second_cell.py`.
 
 ghost use Rattle.std.specs.Prelude.{◌≡◌, IfOk, length};
 
 use super::*;
 use cs_num::Sample;
-use lte_types::{Duration, Resource, Sfn};
+use lte_types::{Duration, Mnc, Plmn, Plmns, Resource, Schedule, Sfn, SiMessage, Sib1, Sibs};
 use std::alloc::{AllocError, Global};
 use std::process::Abort;
 use std::test::Fail;
 
-// Samples of identity 0 from frame 0 on, normal, one, spare 0.
-const ROW: [(u32, i16, i16); 37] = [
-    (0, -33, 28),
-    (9, -83, 1),
-    (10, -45, 23),
-    (137, -83, 1),
-    (138, 0, 0),
+// Samples of the plain cell from frame 0 on.
+const ROW: [(u32, i16, i16); 52] = [
+    (0, -99, 131),
+    (9, -58, -3),
+    (10, -67, -22),
+    (137, -58, -3),
     (823, -89, 48),
     (832, 104, -72),
-    (900, 3, 86),
-    (959, 27, -7),
     (960, 33, 31),
     (967, 147, 24),
     (970, 23, 45),
-    (1097, 32, -66),
     (1107, 90, -45),
     (1300, 0, -50),
-    (1400, 103, -144),
-    (4135, 0, 0),
-    (7727, 54, 30),
-    (8805, 0, 0),
+    (9610, 45, -90),
+    (9747, 180, -135),
+    (9900, 253, 54),
+    (10021, 0, 90),
+    (10200, 150, -121),
+    (10400, 9, -57),
     (10432, 104, -72),
-    (13759, 0, 0),
-    (16716, 0, 0),
-    (19199, 0, 0),
+    (10500, 3, 86),
+    (10569, 74, -118),
+    (10700, -38, -68),
+    (10850, 125, -86),
+    (11000, 135, 8),
+    (11140, 41, 55),
+    (11300, -186, -19),
+    (11519, -57, -5),
+    (19200, -99, 131),
+    (19209, -58, -3),
+    (19210, -67, -22),
+    (19337, -58, -3),
+    (20023, -89, 48),
+    (20032, 104, -72),
+    (20160, -22, 155),
+    (20167, 97, -25),
     (20170, 113, 90),
-    (20311, -40, -37),
-    (24878, 0, 0),
-    (29457, 12, 8),
-    (30949, 0, 0),
-    (32468, 0, 0),
-    (37303, 0, 0),
-    (39511, 29, -51),
-    (42702, 0, 0),
-    (49870, 0, 0),
-    (50054, -20, 50),
-    (51689, 0, 0),
-    (52577, 0, 0),
-    (55537, 0, 0),
+    (20307, 68, -22),
+    (20500, -71, -13),
+    (48010, -22, 0),
+    (48147, 90, 0),
+    (48300, 50, -26),
+    (48421, -67, 203),
+    (48600, 143, 50),
+    (48800, 9, -57),
+    (48832, 104, -72),
+    (48900, 3, 86),
+    (48969, 84, 195),
+    (49100, 133, 150),
+    (49250, -118, 150),
+    (49400, -16, -56),
+    (49540, -51, -27),
+    (49700, 82, 138),
+    (49919, 109, -129),
 ];
 
-// Samples of identity 503 from sample 19,199 of frame 1023 on, extended, oneSixth, spare 677, times -11 + 23j.
-const TURNED: [(u32, i16, i16); 27] = [
-    (0, 0, 0),
-    (1, 298, 736),
-    (10, 487, 459),
-    (700, -2136, -852),
+// Samples of identity 503 from sample 19,199 of frame 1023 on, times -11 + 23j.
+const TURNED: [(u32, i16, i16); 52] = [
+    (1, 1349, 843),
+    (10, -754, -728),
+    (11, -1530, 540),
+    (138, -754, -728),
+    (824, 678, -1004),
     (833, 2740, -1770),
+    (961, 880, 760),
+    (968, 2595, 4915),
     (971, -574, -2818),
-    (1112, -6458, -856),
-    (1250, 1883, -1219),
-    (1400, -9, 137),
-    (3706, 0, 0),
-    (5562, 0, 0),
-    (6002, 0, 0),
-    (11081, 0, 0),
-    (13907, 0, 0),
-    (16487, 0, 0),
-    (20194, 4233, -2469),
-    (20313, 508, 1006),
-    (23662, 2337, -691),
-    (39711, 628, 5896),
-    (43891, 0, 0),
-    (48232, 0, 0),
-    (53016, 0, 0),
-    (54755, 991, -63),
-    (55643, 0, 0),
-    (55956, 0, 0),
-    (56564, 0, 0),
-    (57599, 0, 0),
+    (1108, 242, -506),
+    (1301, 2931, 1967),
+    (9611, 506, 242),
+    (9748, 1575, 2025),
+    (9901, -529, -253),
+    (10022, -3049, 2357),
+    (10201, 1353, 1721),
+    (10401, 23, -3239),
+    (10433, 2740, -1770),
+    (10501, 1993, -149),
+    (10570, -609, -2213),
+    (10701, 990, -4670),
+    (10851, 1886, 4802),
+    (11001, -913, 1259),
+    (11141, 2186, 452),
+    (11301, 4448, -614),
+    (11520, -2935, -2845),
+    (38401, 1349, 843),
+    (38410, -754, -728),
+    (38411, -1530, 540),
+    (38538, -754, -728),
+    (39224, 678, -1004),
+    (39233, 2740, -1770),
+    (39361, 1735, -2505),
+    (39368, 1073, 2661),
+    (39371, 956, -3358),
+    (39508, -3589, 827),
+    (39701, -2027, -5039),
+    (48011, 3071, 197),
+    (48148, -1530, 540),
+    (48301, -3492, -2744),
+    (48422, -484, 2312),
+    (48601, -3630, -210),
+    (48801, 23, -3239),
+    (48833, 2740, -1770),
+    (48901, 1993, -149),
+    (48970, 1765, 2455),
+    (49101, -2674, 332),
+    (49251, 2295, 815),
+    (49401, -3333, -2131),
+    (49541, 4862, 234),
+    (49701, -1166, -812),
+    (49920, -1353, 4129),
 ];
 
-// Samples of frame 6 of identity 301, normal, two, spare 1023.
-const FRAME: [(u32, i16, i16); 34] = [
-    (0, 8, 32),
-    (9, 5, -19),
-    (10, 23, -22),
-    (137, 5, -19),
-    (138, 0, 0),
-    (431, 0, 0),
+// Samples of frame 6 of identity 301.
+const FRAME: [(u32, i16, i16); 26] = [
+    (0, 59, -27),
+    (9, 70, -40),
+    (10, 45, -22),
+    (137, 70, -40),
     (823, -47, 7),
     (832, -109, 68),
-    (900, -39, 68),
-    (959, -51, 6),
     (960, -26, -83),
     (967, -27, 48),
     (970, 23, -22),
-    (1097, 1, -129),
     (1107, 68, -22),
     (1300, 27, 54),
-    (1400, -142, 28),
-    (2147, 0, 0),
-    (4273, 0, 0),
-    (6283, 0, 0),
-    (7678, 0, 0),
-    (7797, -3, 27),
-    (8498, 0, 0),
+    (9610, 90, -45),
+    (9747, 23, -45),
+    (9900, -92, 23),
+    (10021, 0, 0),
+    (10200, 37, 122),
+    (10400, -33, -36),
     (10432, -109, 68),
-    (12122, -18, -9),
-    (15375, -78, 12),
-    (15409, 35, 33),
-    (15533, 0, 0),
-    (17726, 0, 0),
-    (17833, -28, 34),
-    (18010, 0, 0),
-    (18048, 0, 0),
-    (19033, 0, 0),
-    (19199, 0, 0),
+    (10500, -39, 68),
+    (10569, 10, -172),
+    (10700, 0, 6),
+    (10850, -79, 56),
+    (11000, -17, 118),
+    (11140, 28, 45),
+    (11300, -33, -8),
+    (11519, 82, 19),
 ];
 
-fn plan(identity: u16, duration: Duration, resource: Resource, spare: u16) -> CellPlan {
-    CellPlan {
-        identity,
-        duration,
-        resource,
-        spare,
+// One network 001/01 without options, and one entry of the schedule without blocks.
+fn plain_block() -> Sib1 {
+    let mut plmns = Plmns::new();
+    plmns.push(Plmn {
+        mcc: Some([0, 0, 1]),
+        mnc: Mnc::Two([0, 1]),
+        reserved: false,
+    });
+    let mut scheduling = Schedule::new();
+    scheduling.push(message(0, &[]));
+    Sib1 {
+        plmns,
+        tac: 1,
+        cell: 1,
+        barred: false,
+        intra: true,
+        csg: false,
+        csg_identity: None,
+        q_rx: -70,
+        q_offset: None,
+        p_max: None,
+        band: 1,
+        scheduling,
+        tdd: None,
+        window: 0,
+        tag: 0,
+        extended: false,
     }
 }
 
-fn first_cell() -> Result<Cell, CellError> {
-    Cell::new(plan(0, Duration::Normal, Resource::One, 0))
+// An entry of the schedule.
+fn message(period: u8, codes: &[u8]) -> SiMessage {
+    let mut sibs = Sibs::new();
+    for code in codes {
+        sibs.push(*code);
+    }
+    SiMessage { period, sibs }
+}
+
+// A usual block, of 163 bits.
+fn usual_block() -> Sib1 {
+    let mut plmns = Plmns::new();
+    plmns.push(Plmn {
+        mcc: Some([2, 6, 2]),
+        mnc: Mnc::Two([0, 1]),
+        reserved: false,
+    });
+    let mut scheduling = Schedule::new();
+    scheduling.push(message(0, &[]));
+    scheduling.push(message(1, &[0]));
+    scheduling.push(message(2, &[1]));
+    scheduling.push(message(3, &[2, 3]));
+    Sib1 {
+        plmns,
+        tac: 0x1234,
+        cell: 0x123_4567,
+        q_rx: -64,
+        p_max: Some(23),
+        band: 20,
+        scheduling,
+        window: 5,
+        tag: 9,
+        ..plain_block()
+    }
+}
+
+// The plan of a plain cell.
+fn plain_plan() -> CellPlan {
+    CellPlan {
+        identity: 0,
+        duration: Duration::Normal,
+        resource: Resource::One,
+        spare: 0,
+        cfi: 2,
+        start: 0,
+        blocks: 6,
+        mcs: 4,
+        column: 2,
+        sib1: plain_block(),
+    }
+}
+
+// The cell of a plan.
+fn cell_of(plan: CellPlan) -> Result<Cell, CellError> {
+    if plan.sib1.valid() {
+        Cell::new(plan)
+    } else {
+        Err(CellError::Sib1Range)
+    }
+}
+
+// Why a plan is refused.
+fn refusal(plan: CellPlan) -> Option<CellError> {
+    cell_of(plan).err()
 }
 
 fn sfn(rt: &impl Abort, number: u16) -> Sfn {
@@ -140,7 +255,18 @@ fn sfn(rt: &impl Abort, number: u16) -> Sfn {
 fn turned(rt: &impl Abort) -> Result<Transmission, CellError>
     ensures { IfOk result (λ t. t.samples ≡ 57600) }
 {
-    let cell = Cell::new(plan(503, Duration::Extended, Resource::OneSixth, 677))?;
+    let cell = cell_of(CellPlan {
+        identity: 503,
+        duration: Duration::Extended,
+        resource: Resource::OneSixth,
+        spare: 677,
+        cfi: 3,
+        start: 1,
+        blocks: 5,
+        mcs: 2,
+        column: 3,
+        sib1: plain_block(),
+    })?;
     Ok(Transmission {
         cell,
         sfn: sfn(rt, 1023),
@@ -151,19 +277,110 @@ fn turned(rt: &impl Abort) -> Result<Transmission, CellError>
 }
 
 #[test]
-fn a_plan_is_refused_for_its_first_failed_condition(rt: HostRuntime) {
-    let both = Cell::new(plan(504, Duration::Normal, Resource::One, 1024));
-    assert_eq!(rt; both.err(), Some(CellError::Identity));
-    let spare = Cell::new(plan(503, Duration::Normal, Resource::One, 1024));
-    assert_eq!(rt; spare.err(), Some(CellError::Spare));
-    let last = Cell::new(plan(503, Duration::Extended, Resource::Two, 1023));
-    assert_eq!(rt; last.map(|cell| cell.plan().spare), Ok(1023));
+fn refusals_by_numbers(rt: HostRuntime) {
+    let identity = CellPlan {
+        identity: 504,
+        spare: 1024,
+        ..plain_plan()
+    };
+    assert_eq!(rt; refusal(identity), Some(CellError::Identity));
+    let spare = CellPlan {
+        spare: 1024,
+        cfi: 1,
+        ..plain_plan()
+    };
+    assert_eq!(rt; refusal(spare), Some(CellError::Spare));
+    let cfi = CellPlan {
+        cfi: 1,
+        blocks: 0,
+        ..plain_plan()
+    };
+    assert_eq!(rt; refusal(cfi), Some(CellError::Cfi));
+    let assignment = CellPlan {
+        start: 1,
+        column: 4,
+        ..plain_plan()
+    };
+    assert_eq!(rt; refusal(assignment), Some(CellError::Assignment));
+    let mcs = CellPlan {
+        mcs: 17,
+        column: 3,
+        ..plain_plan()
+    };
+    assert_eq!(rt; refusal(mcs), Some(CellError::Mcs));
     accepted_are_sendable();
 }
 
 #[test]
+fn each_coded_bit_has_to_be_sent(rt: HostRuntime) {
+    // K = 400 needs 1,212 of 1,224 bits, and K = 416 needs 1,260.
+    let fits = CellPlan {
+        mcs: 11,
+        ..plain_plan()
+    };
+    assert_eq!(rt; refusal(fits), None);
+    let punctured = CellPlan {
+        mcs: 8,
+        column: 3,
+        sib1: Sib1 {
+            tdd: Some((1, 2)),
+            ..plain_block()
+        },
+        ..plain_plan()
+    };
+    assert_eq!(rt; refusal(punctured), Some(CellError::Punctured));
+    let control = CellPlan {
+        mcs: 11,
+        cfi: 3,
+        ..plain_plan()
+    };
+    assert_eq!(rt; refusal(control), Some(CellError::Punctured));
+}
+
+#[test]
+fn refusals_by_the_block(rt: HostRuntime) {
+    let duplex = CellPlan {
+        sib1: Sib1 {
+            tdd: Some((1, 2)),
+            extended: true,
+            ..plain_block()
+        },
+        ..plain_plan()
+    };
+    assert_eq!(rt; refusal(duplex), Some(CellError::Duplex));
+    let extension = CellPlan {
+        mcs: 0,
+        sib1: Sib1 {
+            extended: true,
+            ..plain_block()
+        },
+        ..plain_plan()
+    };
+    assert_eq!(rt; refusal(extension), Some(CellError::Extension));
+    // A text of 113 bits in 104 and in 120; one of 163 bits in 144 and in 176.
+    let long = CellPlan {
+        mcs: 3,
+        ..plain_plan()
+    };
+    assert_eq!(rt; refusal(long), Some(CellError::Sib1Long));
+    assert_eq!(rt; refusal(plain_plan()), None);
+    let usual = CellPlan {
+        mcs: 5,
+        sib1: usual_block(),
+        ..plain_plan()
+    };
+    assert_eq!(rt; refusal(usual), Some(CellError::Sib1Long));
+    let fits = CellPlan {
+        mcs: 6,
+        sib1: usual_block(),
+        ..plain_plan()
+    };
+    assert_eq!(rt; cell_of(fits).map(|cell| cell.plan().mcs), Ok(6));
+}
+
+#[test]
 fn samples_of_a_sequence(rt: HostRuntime) -> Result<(), Fail> {
-    let cell = first_cell()?;
+    let cell = cell_of(plain_plan())?;
     for (i, re, im) in ROW {
         assert_eq!(rt; sample(&cell, sfn(&rt, 0), i as u64), Sample { re, im });
     }
@@ -192,7 +409,16 @@ fn silence(alloc: Global, count: usize) -> Result<Vec<Sample>, AllocError>
 
 #[test]
 fn a_whole_frame(rt: HostRuntime) -> Result<(), Fail> {
-    let cell = Cell::new(plan(301, Duration::Normal, Resource::Two, 1023))?;
+    let cell = cell_of(CellPlan {
+        identity: 301,
+        resource: Resource::Two,
+        spare: 1023,
+        start: 2,
+        blocks: 4,
+        mcs: 6,
+        sib1: usual_block(),
+        ..plain_plan()
+    })?;
     let mut out = silence(rt.alloc(), 19_200)?;
     frame(&cell, sfn(&rt, 6), &mut out);
     for (i, re, im) in FRAME {

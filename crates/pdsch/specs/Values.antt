@@ -5,13 +5,9 @@ use Rattle.std.specs.List.{flat_map}
 use Rattle.grid_map.specs.declared.Place.{Place}
 use Rattle.grid_map.specs.Shared.{pdsch_places}
 use Rattle.grid_map.specs.Scrambling.{pdsch_c_init}
+use Rattle.dci.specs.Fields.{system_information_rnti}
 use Rattle.soft_bits.specs.Soft.{SeenSlot}
 use Rattle.soft_bits.specs.Places.{values_at, descrambled}
-
--- the identifier for which system information is scrambled and its control information is masked: SI-RNTI
--- (TS 36.321 section 7.1)
-abbrev pub system_information_rnti : ℕ
-system_information_rnti = 65535
 
 -- the slot that has a symbol of the subframe: symbols 7 to 13 are those of the second
 abbrev pub slot_with : SeenSlot → SeenSlot → ℕ → SeenSlot

@@ -7,17 +7,13 @@ ghost use Rattle.soft_bits.specs.Places.{values_at};
 ghost use Rattle.dci.specs.Format1A.{IsGrant};
 ghost use Rattle.pdsch.specs.Values.{slot_with, shared_values};
 
-use dci::Grant;
+use dci::{Grant, SI_RNTI};
 use grid_map::{Place, pdsch, pdsch_c_init};
 use lte_types::Cfi;
 use soft_bits::{Slot, descramble, fill_soft};
 
 /// The most values that a grant has: those of six blocks with indicator 2.
 pub const MOST_VALUES: usize = 1224;
-
-/// The identifier for which system information is scrambled and its control information is masked:
-/// SI-RNTI (TS 36.321 section 7.1).
-pub const SI_RNTI: u16 = 0xffff;
 
 /// Writes the values of a grant's blocks, by the bits before scrambling, to the front of `out`, and
 /// gives their count, 204 a block with `cfi` 2 and 180 with 3; what stands behind them is unchanged.

@@ -4,4 +4,4 @@
 
 mod block;
 
-pub use block::{MOST_VALUES, SI_RNTI, values};
+pub use block::{MOST_VALUES, values};

@@ -20,7 +20,7 @@ use Rattle.sib1.proofs.Exists.{some_answer as some_message}
 use Rattle.sib1.proofs.Valid.{sib1_holds}
 use Rattle.pcfich.specs.Indicator.{IsIndicator}
 use Rattle.pcfich.proofs.Indicators.{some_indicator}
-use Rattle.pdsch.specs.Values.{system_information_rnti}
+use Rattle.dci.specs.Fields.{system_information_rnti}
 use Rattle.system_block.specs.Subframe.{Subframe}
 use Rattle.system_block.specs.Control.{IsWord, ControlSays, Grants}
 use Rattle.system_block.specs.Block.{IsBlock, BlockSays, Tells}
@@ -41,11 +41,14 @@ by_check : (count : ℕ) (candidate : List ℤ) (word : List Bool) → IsWord co
 by_check count candidate word is true e =
     let (answer, says) = some_grant (message_of 16 word) in
     (answer, of_control count candidate answer (record { word = word; is = is; passes = eqb-true (check_of 16 word) (bit_xor (crc16_of (message_of 16 word)) system_information_rnti) e; says = says }))
-by_check count candidate word is false e = (Err NoControl, record {
-  word = word;
-  is = is;
-  fails = λ passes. false≢true (sym e ∙ eq-eqb (check_of 16 word) (bit_xor (crc16_of (message_of 16 word)) system_information_rnti) passes);
-})
+by_check count candidate word is false e = (
+  Err NoControl,
+  record {
+    word = word;
+    is = is;
+    fails = λ passes. false≢true (sym e ∙ eq-eqb (check_of 16 word) (bit_xor (crc16_of (message_of 16 word)) system_information_rnti) passes);
+  },
+)
 
 some_control : (count : ℕ) (candidate : List ℤ) → (answer : Result Grant Sib1Reason) × Grants count candidate answer
 some_control count candidate = elim (cases_lt count 4) [

@@ -18,7 +18,7 @@ use Rattle.turbo_dec.specs.Block.{block}
 use Rattle.sib1.specs.Message.{Says}
 use Rattle.sib1.proofs.Messages.{one_answer as one_message}
 use Rattle.pcfich.proofs.Indicators.{one_indicator}
-use Rattle.pdsch.specs.Values.{system_information_rnti}
+use Rattle.dci.specs.Fields.{system_information_rnti}
 use Rattle.system_block.specs.Subframe.{Subframe}
 use Rattle.system_block.specs.Control.{HasNoSearchSpace, IsWord, HasNoControl, ControlSays, Grants}
 use Rattle.system_block.specs.Block.{IsBlock, BlockSays, Tells}

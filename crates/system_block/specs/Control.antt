@@ -8,7 +8,7 @@ use Rattle.conv_code.specs.Reading.{summed}
 use Rattle.tailbite.specs.LeastWord.{IsLeastWord}
 use Rattle.dci.specs.declared.grant.Grant.{Grant}
 use Rattle.dci.specs.Format1A.{Says}
-use Rattle.pdsch.specs.Values.{system_information_rnti}
+use Rattle.dci.specs.Fields.{system_information_rnti}
 
 -- there are so many elements, too few for a candidate
 pub record HasNoSearchSpace (count told : ℕ) : Type 0 where

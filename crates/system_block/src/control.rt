@@ -7,15 +7,14 @@ ghost use Rattle.cs_bits.specs.Checks.{HasCheck16, message_of};
 ghost use Rattle.conv_code.specs.Reading.{summed};
 ghost use Rattle.dci.specs.Format1A.{IsGrant};
 ghost use Rattle.pdcch.specs.Candidate.{candidate_values};
-ghost use Rattle.pdsch.specs.Values.{system_information_rnti};
+ghost use Rattle.dci.specs.Fields.{system_information_rnti};
 ghost use Rattle.system_block.specs.Control.{Grants};
 
 use conv_code::combine;
 use cs_bits::{Bits, crc16, number_of};
-use dci::Grant;
+use dci::{Grant, SI_RNTI};
 use lte_types::{Cfi, Mib, Sib1Reason};
 use pdcch::{candidate, elements};
-use pdsch::SI_RNTI;
 use soft_bits::Slot;
 use tailbite::{Trellis, least};
 

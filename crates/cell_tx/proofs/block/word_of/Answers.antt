@@ -16,10 +16,11 @@ pub returns : goal.returns
 unfolding broadcast_word block_bits
 returns c =
     let plan = c.args.cell.now in
-    let first : take 3 c.put_bits.new.bits ≡ bits_of 3 0 = c.put_bits.ensures ∙ ap (bits_of 3) c.code.ensures.value in
-    let second = next 1 _ (duration_code plan.duration) _ _ _ c.put_bits-2.ensures (c.code-2.ensures.value ∙ ap (λ (p : CellPlan). duration_code p.duration) c.plan-plan.ensures.plan) first in
-    let third = next 2 _ (resource_code plan.resource) _ _ _ c.put_bits-3.ensures (c.code-3.ensures.value ∙ ap (λ (p : CellPlan). resource_code p.resource) c.plan-plan.ensures.plan) second in
-    let fourth = next 8 _ (c.args.sfn / 4) _ _ _ c.put_bits-4.ensures (ap (λ (n : ℕ). n / 4) c.value.ensures.value) third in
-    let fifth = next 10 _ plan.spare _ _ _ c.put_bits-5.ensures (ap (λ (p : CellPlan). p.spare) c.plan-plan.ensures.plan) fourth in
-    let sixth = next 16 _ (bit_xor (crc16_of (block_bits plan c.args.sfn)) 0) _ _ _ c.put_bits-6.ensures (c.crc16-check.ensures ∙ ap crc16_of fifth ∙ sym (xor_zero_r _)) fifth in
-    c.new.ensures ∙ sym (take_all 40 c.put_bits-6.new.bits (omega (arith, c.put_bits-6.array_long))) ∙ sixth
+    let first : take 3 c.put_bits.new.bits ≡ bits_of 3 0 = c.put_bits.ensures.bits ∙ ap (bits_of 3) c.code.ensures.value in
+    let second = next 1 _ (duration_code plan.duration) _ _ _ c.put_bits-2.ensures.bits (c.code-2.ensures.value ∙ ap (λ (p : CellPlan). duration_code p.duration) c.plan-plan.ensures.plan) first in
+    let third = next 2 _ (resource_code plan.resource) _ _ _ c.put_bits-3.ensures.bits (c.code-3.ensures.value ∙ ap (λ (p : CellPlan). resource_code p.resource) c.plan-plan.ensures.plan) second in
+    let fourth = next 8 _ (c.args.sfn / 4) _ _ _ c.put_bits-4.ensures.bits (ap (λ (n : ℕ). n / 4) c.value.ensures.value) third in
+    let fifth = next 10 _ plan.spare _ _ _ c.put_bits-5.ensures.bits (ap (λ (p : CellPlan). p.spare) c.plan-plan.ensures.plan) fourth in
+    let sixth = next 16 _ (bit_xor (crc16_of (block_bits plan c.args.sfn)) 0) _ _ _ c.put_bits-6.ensures.bits (c.crc16-check.ensures ∙ ap crc16_of fifth ∙ sym (xor_zero_r _)) fifth in
+    c.new.ensures ∙ sym (take_all 40 c.put_bits-6.new.bits (let a = c.put_bits.ensures.count in let b = c.put_bits-2.ensures.count in let d = c.put_bits-3.ensures.count in
+    let e = c.put_bits-4.ensures.count in let f = c.put_bits-5.ensures.count in let g = c.put_bits-6.ensures.count in omega (arith, a, b, d, e, f, g))) ∙ sixth

@@ -9,7 +9,7 @@ use Rattle.sync_seq.specs.Middle.{is_middle}
 use Rattle.sync_seq.proofs.PrimaryValues.{pss_list_at}
 use Rattle.cell_tx.specs.Grid.{is_primary}
 use Rattle.cell_tx.specs.Rows.{reference_if}
-use Rattle.cell_tx.proofs.Elements.{element_of_reference, element_of_primary, element_of_secondary, element_of_broadcast}
+use Rattle.cell_tx.proofs.Elements.{element_of_reference, element_of_primary, element_of_secondary, element_of_channel}
 use Rattle.cell_tx.proofs.grid.element_of.Goals as goal
 
 read_row : (row : List (Option Cpx)) (identity slot symbol k : ℕ) → k < 72 → row ≡ values_below 72 (reference_if identity slot symbol) → get_or row k None ≡ reference_if identity slot symbol k
@@ -55,6 +55,6 @@ pub returns-else-is_signal-2 : goal.returns-else-is_signal-2
 returns-else-is_signal-2 c =
     let plan = c.args.signals.now.cell.now in
     let none = none_at c.args.references.now plan.identity (2 * c.args.subframe + c.args.symbol / 7) (c.args.symbol % 7) c.args.k c.requires.k c.requires.references c.in_default.is in
-    c.broadcast_of.ensures
-    ∙ sym (element_of_broadcast plan c.args.signals.now.sfn c.args.subframe c.args.symbol c.args.k none
+    c.channel_value.ensures
+    ∙ sym (element_of_channel plan c.args.signals.now.sfn c.args.subframe c.args.symbol c.args.k none
     (sym c.is_signal.ensures ∙ c.if-is_signal.false) (sym c.is_signal-else-is_signal.ensures ∙ c.if-is_signal-2.false))

@@ -6,7 +6,8 @@ use Rattle.grid_map.specs.Scrambling.{pdsch_c_init}
 use Rattle.grid_map.proofs.Symbols.{pdsch_count}
 use Rattle.soft_bits.specs.Places.{descrambled}
 use Rattle.soft_bits.proofs.Channel.{length-descrambled}
-use Rattle.pdsch.specs.Values.{subframe_values, shared_values, system_information_rnti}
+use Rattle.dci.specs.Fields.{system_information_rnti}
+use Rattle.pdsch.specs.Values.{subframe_values, shared_values}
 use Rattle.pdsch.proofs.Filled.{filled_none, filled_more, filled_all, subframe-small}
 use Rattle.pdsch.proofs.block.values.Goals as goal
 

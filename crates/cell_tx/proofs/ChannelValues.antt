@@ -1,0 +1,73 @@
+-- What the code finds of each channel at a place is its value there.
+use Rattle.std.proofs.Common.{◌≡◌, ℕ, ◌<◌, ◌≤◌, Bool, true, false, ◌&&◌, nat_eq, List, length, take, get_or, Some, None, if◌then◌else◌, refl, ap, ap₂, sym, ◌∙◌, arith}
+use Rattle.std.proofs.lemmas.Bool.{lt-ltb, ltb-true}
+use Rattle.std.proofs.lemmas.List.{length-take}
+use Rattle.finite.specs.Lists.{values_below}
+use Rattle.finite.proofs.Lists.{values_below_at}
+use Rattle.cs_num.specs.declared.Cpx.{Cpx}
+use Rattle.grid_map.specs.declared.Place.{Place}
+use Rattle.grid_map.specs.Place.{place, index_in}
+use Rattle.grid_map.specs.Broadcast.{pbch_places, pbch_index, is_pbch}
+use Rattle.grid_map.specs.Control.{pcfich_places}
+use Rattle.grid_map.proofs.Points.{length-pbch_places, index_fits, carries_at_index}
+use Rattle.grid_map.proofs.Pieces.{length-pcfich_places}
+use Rattle.cell_tx.specs.declared.cell.CellPlan.{CellPlan}
+use Rattle.cell_tx.specs.declared.channels.Channels.{Channels}
+use Rattle.cell_tx.specs.Block.{broadcast_point}
+use Rattle.cell_tx.specs.Control.{indicator_point, control_places, control_point}
+use Rattle.cell_tx.specs.Shared.{shared_places, shared_point}
+use Rattle.cell_tx.specs.Grid.{is_one_of, has_system_information, broadcast_value, control_value, shared_value}
+use Rattle.cell_tx.specs.Rows.{value_in, broadcast_if, indicator_if, control_if, shared_if, AreChannels}
+use Rattle.cell_tx.proofs.PlaceValues.{values_are}
+
+-- the list of the broadcast channel's places has those that carry it
+pub is_pbch_place : (identity : ℕ) (p : Place) → is_one_of (pbch_places identity) p ≡ is_pbch identity p
+unfolding pbch_index
+is_pbch_place identity p = by (is_pbch identity p) refl (is_one_of (pbch_places identity) p) refl
+  where
+    by : (b : Bool) → is_pbch identity p ≡ b → (t : Bool) → is_one_of (pbch_places identity) p ≡ t → is_one_of (pbch_places identity) p ≡ is_pbch identity p
+    by true e t f = lt-ltb (index_in (pbch_places identity) p) (length (pbch_places identity)) (let l = index_fits identity p e in let n = length-pbch_places identity in omega (arith, l, n)) ∙ sym e
+    by false e false f = f ∙ sym e
+    by false e true f =
+        let inside = ltb-true (index_in (pbch_places identity) p) (length (pbch_places identity)) f in
+        let n = length-pbch_places identity in
+        f ∙ sym (carries_at_index identity p (omega (arith, inside, n)))
+
+both_true : (a b c : Bool) → a ≡ true → b ≡ c → b ≡ (a && c)
+both_true true b c e f = f
+both_true false b c e f = absurd cc
+
+-- a channel that the code looks up
+looked_up : (places others : List Place) (points : List Cpx) (n : ℕ) (f : ℕ → Cpx) (p : Place) → places ≡ others → points ≡ values_below n f → length others ≤ n
+    → value_in places points p ≡ (if is_one_of others p then Some (f (index_in others p)) else None)
+looked_up places others points n f p e g room = ap₂ (λ (ps : List Place) (zs : List Cpx). value_in ps zs p) e g ∙ values_are others p n f room
+
+module _ (plan : CellPlan) (sfn : ℕ) (channels : Channels) (a : AreChannels plan sfn channels) (subframe symbol k : ℕ) where
+  abbrev here : Place
+  here = place symbol k
+
+  pub broadcast_is : subframe ≡ 0 → value_in channels.broadcast_places channels.broadcast here ≡ broadcast_if plan sfn subframe symbol k
+  unfolding pbch_index
+  broadcast_is first =
+      looked_up channels.broadcast_places (pbch_places plan.identity) channels.broadcast 240 (broadcast_point plan sfn) here a.broadcast_places a.broadcast (let n = length-pbch_places plan.identity in omega (arith, n))
+      ∙ ap (λ (b : Bool). if b then Some (broadcast_value plan sfn symbol k) else None)
+      (both_true (nat_eq subframe 0) _ (is_pbch plan.identity here) (ap (λ s. nat_eq s 0) first) (is_pbch_place plan.identity here))
+
+  pub indicator_is : (points others : List Cpx) → subframe < 10 → points ≡ get_or channels.indicators subframe others → value_in channels.indicator_places points here ≡ indicator_if plan subframe symbol k
+  indicator_is points others inside is =
+      looked_up channels.indicator_places (pcfich_places plan.identity) points 16 (indicator_point plan subframe) here a.indicator_places
+      (is ∙ ap (λ rows. get_or rows subframe others) a.indicators ∙ values_below_at (λ s. values_below 16 (indicator_point plan s)) 10 subframe others inside)
+      (let n = length-pcfich_places plan.identity in omega (arith, n))
+
+  pub control_is : length channels.control_places ≡ 144 → has_system_information sfn subframe ≡ true → value_in channels.control_places channels.control here ≡ control_if plan sfn subframe symbol k
+  control_is whole e =
+      looked_up channels.control_places (control_places plan) channels.control 144 (control_point plan sfn) here a.control_places a.control
+      (let n = ap length a.control_places in omega (arith, n, whole))
+      ∙ ap (λ (b : Bool). if b then Some (control_value plan sfn symbol k) else None) (both_true (has_system_information sfn subframe) _ _ e refl)
+
+  pub shared_is : (places : List Place) → places ≡ take channels.shared_count channels.shared_places → has_system_information sfn subframe ≡ true
+      → value_in places channels.shared here ≡ shared_if plan sfn subframe symbol k
+  shared_is places is e =
+      looked_up places (shared_places plan) channels.shared 612 (shared_point plan sfn) here (is ∙ a.shared_places) a.shared
+      (let n = ap length a.shared_places in let t = length-take channels.shared_count channels.shared_places in let few = a.count in omega (arith, n, t, few))
+      ∙ ap (λ (b : Bool). if b then Some (shared_value plan sfn symbol k) else None) (both_true (has_system_information sfn subframe) _ _ e refl)

@@ -1,0 +1,103 @@
+-- The plans in which no condition fails are those that can be sent.
+use Rattle.std.proofs.Common.{◌≡◌, ◌⊎◌, ℕ, ◌+◌, ◌*◌, ◌≤◌, Bool, true, false, not, ◌&&◌, ◌||◌, nat_eq, nat_le, List, length, Option, Some, None, if◌then◌else◌, refl}
+use Rattle.std.specs.Prelude.{is_some, is_none, IsSome, IsSomeAnd, ◌↔◌}
+use Rattle.std.specs.Bool.{Decides}
+use Rattle.std.specs.Option.{option_map_or}
+use Rattle.std.specs.Cmp.{unsigned_Decides}
+use Rattle.std.proofs.lemmas.Bool.{le-leb, leb-true as leb-le}
+use Rattle.std.proofs.lemmas.Bool.Decides.{Decides-and, Decides-or}
+use Rattle.lte_types.specs.Ranges.{IsValid}
+use Rattle.dci.specs.Sizes.{size_of}
+use Rattle.sib1.specs.Text.{text_of}
+use Rattle.cell_tx.specs.declared.error.CellError.{CellError}
+use Rattle.cell_tx.specs.declared.cell.CellPlan.{CellPlan}
+use Rattle.cell_tx.specs.Plan.{IsSendable, block_size, checked_size, assigned_bits, plan_refusal}
+
+-- ---- the first condition and the others
+
+record Passed (holds : Bool) (rest : Option CellError) : Type 0 where
+  first : holds ≡ true
+  others : rest ≡ None
+
+passed : (holds : Bool) (cause : CellError) (rest : Option CellError) → (if holds then rest else Some cause) ≡ None → Passed holds rest
+passed true cause rest e = record { first = refl; others = e }
+passed false cause rest e = absurd cc
+
+pass : (holds : Bool) (cause : CellError) (rest : Option CellError) → holds ≡ true → rest ≡ None → (if holds then rest else Some cause) ≡ None
+pass true cause rest h e = e
+pass false cause rest h e = absurd cc
+
+-- ---- what each condition says
+
+le_decides : (a b : ℕ) → Decides (nat_le a b) (a ≤ b)
+le_decides a b = (leb-le a b, le-leb a b)
+
+is_there : {A : Type 0} (o : Option A) → Decides (is_some o) (IsSome o)
+is_there None = (λ e. cc, λ s. cc)
+is_there (Some x) = (λ e. refl, λ s. refl)
+
+is_absent : {A : Type 0} (o : Option A) → Decides (is_none o) (o ≡ None)
+is_absent None = (λ e. refl, λ e. refl)
+is_absent (Some x) = (λ e. absurd cc, λ e. absurd cc)
+
+is_not : (b : Bool) → Decides (not b) (b ≡ false)
+is_not true = (λ e. absurd cc, λ e. absurd cc)
+is_not false = (λ e. refl, λ e. refl)
+
+fits : (o : Option (List Bool)) (size : ℕ) → Decides (option_map_or (λ text. nat_le (length text) size) o false) (IsSomeAnd o (λ text. length text ≤ size))
+fits None size = (λ e. absurd cc, λ s. absurd s)
+fits (Some text) size = le_decides (length text) size
+
+module _ (plan : CellPlan) where
+  in_range : Decides (nat_le 2 plan.cfi && nat_le plan.cfi 3) ((2 ≤ plan.cfi) × (plan.cfi ≤ 3))
+  in_range = Decides-and _ _ (le_decides 2 plan.cfi) (le_decides plan.cfi 3)
+
+  pub assigned : Decides (nat_le 1 plan.blocks && nat_le (plan.start + plan.blocks) 6) ((1 ≤ plan.blocks) × (plan.start + plan.blocks ≤ 6))
+  assigned = Decides-and _ _ (le_decides 1 plan.blocks) (le_decides (plan.start + plan.blocks) 6)
+
+  sized : Decides ((nat_eq plan.column 2 || nat_eq plan.column 3) && is_some (size_of plan.mcs plan.column)) (((plan.column ≡ 2) ⊎ (plan.column ≡ 3)) × IsSome (size_of plan.mcs plan.column))
+  sized = Decides-and _ _ (Decides-or _ _ (unsigned_Decides plan.column 2) (unsigned_Decides plan.column 3)) (is_there (size_of plan.mcs plan.column))
+
+  sendable : IsValid plan.sib1 × (plan_refusal plan ≡ None) → IsSendable plan
+  sendable h =
+      let a = passed (nat_le plan.identity 503) _ _ h.1 in
+      let b = passed (nat_le plan.spare 1023) _ _ a.others in
+      let c = passed (nat_le 2 plan.cfi && nat_le plan.cfi 3) _ _ b.others in
+      let d = passed (nat_le 1 plan.blocks && nat_le (plan.start + plan.blocks) 6) _ _ c.others in
+      let e = passed ((nat_eq plan.column 2 || nat_eq plan.column 3) && is_some (size_of plan.mcs plan.column)) _ _ d.others in
+      let f = passed (nat_le (3 * (checked_size plan + 4)) (assigned_bits plan)) _ _ e.others in
+      let g = passed (is_none plan.sib1.tdd) _ _ f.others in
+      let i = passed (not plan.sib1.extended) _ _ g.others in
+      let j = passed (option_map_or (λ text. nat_le (length text) (block_size plan)) (text_of plan.sib1) false) _ _ i.others in
+      let blocks = assigned.0 d.first in
+      let size = sized.0 e.first in
+      record {
+        valid = h.0;
+        identity = leb-le plan.identity 503 a.first;
+        spare = leb-le plan.spare 1023 b.first;
+        cfi = in_range.0 c.first;
+        assignment = record { some = blocks.0; inside = blocks.1 };
+        column = size.0;
+        mcs = size.1;
+        whole = leb-le (3 * (checked_size plan + 4)) (assigned_bits plan) f.first;
+        duplex = (is_absent plan.sib1.tdd).0 g.first;
+        extension = (is_not plan.sib1.extended).0 i.first;
+        text = (fits (text_of plan.sib1) (block_size plan)).0 j.first;
+      }
+
+  accepted : IsSendable plan → IsValid plan.sib1 × (plan_refusal plan ≡ None)
+  accepted s = (
+    s.valid,
+    pass (nat_le plan.identity 503) _ _ (le-leb plan.identity 503 s.identity)
+        (pass (nat_le plan.spare 1023) _ _ (le-leb plan.spare 1023 s.spare)
+        (pass (nat_le 2 plan.cfi && nat_le plan.cfi 3) _ _ (in_range.1 s.cfi)
+        (pass (nat_le 1 plan.blocks && nat_le (plan.start + plan.blocks) 6) _ _ (assigned.1 (s.assignment.some, s.assignment.inside))
+        (pass ((nat_eq plan.column 2 || nat_eq plan.column 3) && is_some (size_of plan.mcs plan.column)) _ _ (sized.1 (s.column, s.mcs))
+        (pass (nat_le (3 * (checked_size plan + 4)) (assigned_bits plan)) _ _ (le-leb _ _ s.whole)
+        (pass (is_none plan.sib1.tdd) _ _ ((is_absent plan.sib1.tdd).1 s.duplex)
+        (pass (not plan.sib1.extended) _ _ ((is_not plan.sib1.extended).1 s.extension)
+        (pass (option_map_or (λ text. nat_le (length text) (block_size plan)) (text_of plan.sib1) false) _ _ ((fits (text_of plan.sib1) (block_size plan)).1 s.text) refl)))))))),
+  )
+
+  pub accepted_is_sendable : (IsValid plan.sib1 × (plan_refusal plan ≡ None)) ↔ IsSendable plan
+  accepted_is_sendable = (sendable, accepted)

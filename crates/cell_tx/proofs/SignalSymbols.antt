@@ -1,0 +1,156 @@
+-- In the symbols of the synchronisation signals no channel stands.
+use Rattle.std.proofs.Common.{◌≡◌, ℕ, zero, suc, ◌<◌, ◌≤◌, ◌⊎◌, inl, inr, Bool, true, false, ◌&&◌, ◌||◌, not, nat_eq, nat_le, nat_lt, List, [], ◌∷◌, ◌++◌, map, length, get_or, refl, ap, sym, subst, ◌∙◌, arith}
+use Rattle.std.specs.Prelude.{All, if◌then◌else◌}
+use Rattle.std.specs.List.{list_any, flat_map, range_with_len}
+use Rattle.std.proofs.Math.Bool.{and-false}
+use Rattle.std.proofs.lemmas.Bool.{and_parts, le-ltb, ltb-true, cases_lt}
+use Rattle.std.proofs.lemmas.Bool.Decides.{nat_tests}
+use Rattle.finite.proofs.Lists.{values_below-All}
+use Rattle.cs_num.specs.declared.Cpx.{Cpx}
+use Rattle.cs_num.specs.Complex.{nothing}
+use Rattle.grid_map.specs.declared.Place.{Place}
+use Rattle.grid_map.specs.declared.Reg.{Reg}
+use Rattle.grid_map.specs.Place.{place, same_place, places_of, index_in}
+use Rattle.grid_map.specs.Group.{group, is_group, spanned, span, is_kept, group_places}
+use Rattle.grid_map.specs.Broadcast.{is_pbch}
+use Rattle.grid_map.specs.Control.{pcfich_places, pcfich_groups, pdcch_groups, is_in_region}
+use Rattle.grid_map.specs.Candidate.{candidate_places, candidate_groups, quadruplet_group, group_of_quadruplet}
+use Rattle.grid_map.specs.Shared.{is_pdsch, pdsch_places, is_synchronisation}
+use Rattle.grid_map.proofs.Order.{same_place-refl, same_place-true}
+use Rattle.grid_map.proofs.Kept.{any-filter}
+use Rattle.grid_map.proofs.Regions.{pcfich_inside, pdcch_inside}
+use Rattle.cell_tx.specs.declared.cell.CellPlan.{CellPlan}
+use Rattle.cell_tx.specs.Control.{control_places}
+use Rattle.cell_tx.specs.Shared.{shared_places}
+use Rattle.cell_tx.specs.Grid.{is_one_of, is_indicator, has_system_information, broadcast_value, indicator_value, control_value, shared_value, channel_value}
+use Rattle.cell_tx.proofs.PlaceValues.{index_is}
+
+-- ---- lists without a place
+
+none_at : (test : Place → Bool) (ps : List Place) (j : ℕ) (d : Place) → list_any test ps ≡ false → j < length ps → test (get_or ps j d) ≡ false
+none_at test [] j d e inside = absurd (omega (arith, inside))
+none_at test (p ∷ ps) zero d e inside = first (test p) (list_any test ps) e
+  where
+    first : (a b : Bool) → (a || b) ≡ false → a ≡ false
+    first false b e = refl
+    first true b e = absurd cc
+none_at test (p ∷ ps) (suc j) d e inside = none_at test ps j d (others (test p) (list_any test ps) e) (omega (arith, inside))
+  where
+    others : (a b : Bool) → (a || b) ≡ false → b ≡ false
+    others false b e = e
+    others true b e = absurd cc
+
+absent : (ps : List Place) (p : Place) → list_any (same_place p) ps ≡ false → is_one_of ps p ≡ false
+absent ps p e =
+    let at : index_in ps p ≡ length ps = index_is ps p (length ps) (omega arith)
+    (λ j inside here. let no : same_place p (get_or ps j (place 0 0)) ≡ false = none_at (same_place p) ps j (place 0 0) e inside in
+    let yes : same_place p (get_or ps j (place 0 0)) ≡ true = ap (same_place p) here ∙ same_place-refl p in absurd cc)
+    (λ inside. absurd (omega (arith, inside))) in
+    le-ltb (index_in ps p) (length ps) (omega (arith, at))
+
+any_append : (test : Place → Bool) (ps qs : List Place) → list_any test ps ≡ false → list_any test qs ≡ false → list_any test (ps ++ qs) ≡ false
+any_append test [] qs e f = f
+any_append test (p ∷ ps) qs e f = by (test p) refl (any_append test ps qs)
+  where
+    by : (a : Bool) → test p ≡ a → (list_any test ps ≡ false → list_any test qs ≡ false → list_any test (ps ++ qs) ≡ false) → list_any test ((p ∷ ps) ++ qs) ≡ false
+    by false h rest = rw h (rest (rw h at e) f)
+    by true h rest = absurd (let t = (rw h at e) in cc)
+
+any_pieces : (test : Place → Bool) (P : Reg → Type 0) (f : Reg → List Place) (gs : List Reg) → ((g : Reg) → P g → list_any test (f g) ≡ false) → All P gs → list_any test (flat_map f gs) ≡ false
+any_pieces test P f [] none each = refl
+any_pieces test P f (g ∷ gs) none each =
+    any_append test (f g) (flat_map f gs) (none g (each 0 g (omega arith)))
+    (any_pieces test P f gs none (λ k d inside. each (suc k) d (omega (arith, inside))))
+
+-- ---- groups of other symbols
+
+any_spanned : (p : Place) (symbol : ℕ) (ks : List ℕ) → nat_eq p.symbol symbol ≡ false → list_any (same_place p) (map (place symbol) ks) ≡ false
+any_spanned p symbol [] e = refl
+any_spanned p symbol (k ∷ ks) e = rw e (any_spanned p symbol ks e)
+
+other_group : (identity : ℕ) (p : Place) (g : Reg) → nat_eq p.symbol g.symbol ≡ false → list_any (same_place p) (group_places identity g) ≡ false
+unfolding group_places
+other_group identity p g e =
+    any-filter same_place (λ x y h. same_place-true x y h) (λ q. not (is_kept identity q)) p (spanned g)
+    ∙ ap (λ b. b && not (is_kept identity p)) (any_spanned p g.symbol (range_with_len g.first (span g.symbol)) e)
+
+abbrev IsLow : Reg → Type 0
+IsLow g = g.symbol < 4
+
+low_group : (identity : ℕ) (p : Place) → 4 ≤ p.symbol → (g : Reg) → IsLow g → list_any (same_place p) (group_places identity g) ≡ false
+low_group identity p late g low = other_group identity p g (grind (arith, nat_tests))
+
+region_low : (cfi : ℕ) (g : Reg) → is_in_region cfi g ≡ true → IsLow g
+region_low cfi g e =
+    let inside = and_parts (is_group g) (nat_le g.symbol cfi) e in
+    let begins = and_parts (nat_lt g.symbol 4 && nat_lt g.first 72) _ inside.0 in
+    ltb-true g.symbol 4 (and_parts (nat_lt g.symbol 4) (nat_lt g.first 72) begins.0).0
+
+past_end : (gs : List Reg) (n : ℕ) (d : Reg) → length gs ≤ n → get_or gs n d ≡ d
+past_end [] n d past = refl
+past_end (g ∷ gs) zero d past = absurd (omega (arith, past))
+past_end (g ∷ gs) (suc n) d past = past_end gs n d (omega (arith, past))
+
+carriers_low : (identity : ℕ) (groups : List Reg) → All IsLow groups → All IsLow (candidate_groups identity groups)
+unfolding candidate_groups
+carriers_low identity groups low = values_below-All IsLow 36 (quadruplet_group identity groups) (group 0 0) (λ q below. one (group_of_quadruplet identity (length groups) q))
+  where
+    one : (n : ℕ) → IsLow (get_or groups n (group 0 0))
+    one n = elim (cases_lt n (length groups)) [
+      | inl inside ↦ low n (group 0 0) inside
+      | inr past ↦ subst IsLow (sym (past_end groups n (group 0 0) past)) (omega arith)
+    ]
+
+-- ---- the channels
+
+module _ (plan : CellPlan) (symbol k : ℕ) where
+  no_indicator : 4 ≤ symbol → is_indicator plan symbol k ≡ false
+  unfolding pcfich_places
+  no_indicator late =
+      absent (pcfich_places plan.identity) (place symbol k)
+      (any_pieces (same_place (place symbol k)) IsLow (group_places plan.identity) (pcfich_groups plan.identity) (low_group plan.identity (place symbol k) late)
+      (λ j d inside. let first = (pcfich_inside plan.identity j d inside).1 in omega (arith, first)))
+
+  no_control : 4 ≤ symbol → is_one_of (control_places plan) (place symbol k) ≡ false
+  unfolding candidate_places
+  no_control late =
+      let groups : List Reg = pdcch_groups plan.identity plan.cfi plan.duration plan.resource in
+      absent (control_places plan) (place symbol k)
+      (any_pieces (same_place (place symbol k)) IsLow (group_places plan.identity) (candidate_groups plan.identity groups) (low_group plan.identity (place symbol k) late)
+      (carriers_low plan.identity groups (λ j d inside. region_low plan.cfi (get_or groups j d) (pdcch_inside plan.identity plan.cfi plan.duration plan.resource j d inside))))
+
+  not_pdsch : is_synchronisation symbol ≡ true → is_pdsch plan.identity plan.cfi plan.start plan.blocks (place symbol k) ≡ false
+  not_pdsch e = by (nat_lt plan.cfi symbol) _ _
+    where
+      by : (a b c : Bool) → (((a && not (is_synchronisation symbol)) && b) && c) ≡ false
+      by true b c = rw e refl
+      by false b c = refl
+
+  no_shared : is_synchronisation symbol ≡ true → is_one_of (shared_places plan) (place symbol k) ≡ false
+  unfolding pdsch_places
+  no_shared e =
+      let test : Place → Bool = is_pdsch plan.identity plan.cfi plan.start plan.blocks in
+      absent (shared_places plan) (place symbol k)
+      (any-filter same_place (λ x y h. same_place-true x y h) test (place symbol k) (places_of 0 14)
+      ∙ ap (λ b. list_any (same_place (place symbol k)) (places_of 0 14) && b) (not_pdsch e) ∙ and-false _)
+
+no_broadcast : (identity symbol k : ℕ) → symbol < 7 → is_pbch identity (place symbol k) ≡ false
+unfolding is_pbch
+no_broadcast identity symbol k early = let e : nat_le 7 symbol ≡ false = grind (arith, nat_tests) in rw e refl
+
+-- no channel is in symbols 5 and 6 of a subframe
+pub no_channel : (plan : CellPlan) (sfn subframe symbol k : ℕ) → (symbol ≡ 5) ⊎ (symbol ≡ 6) → channel_value plan sfn subframe symbol k ≡ nothing
+unfolding channel_value
+no_channel plan sfn subframe symbol k row =
+    let late : 4 ≤ symbol = elim row [ inl e ↦ omega (arith, e) | inr e ↦ omega (arith, e) ] in
+    let middle : is_synchronisation symbol ≡ true = elim row [ inl e ↦ rw e refl | inr e ↦ rw e refl ] in
+    let early : symbol < 7 = elim row [ inl e ↦ omega (arith, e) | inr e ↦ omega (arith, e) ] in
+    rw (no_broadcast plan.identity symbol k early, no_indicator plan symbol k late, no_control plan symbol k late, no_shared plan symbol k middle) (by (has_system_information sfn subframe))
+  where
+    pick : (a : Bool) (x z : Cpx) → (if a && false then x else z) ≡ z
+    pick true x z = refl
+    pick false x z = refl
+
+    by : (s : Bool) → (if nat_eq subframe 0 && false then broadcast_value plan sfn symbol k else (if false then indicator_value plan subframe symbol k
+        else (if s && false then control_value plan sfn symbol k else (if s && false then shared_value plan sfn symbol k else nothing)))) ≡ nothing
+    by s = pick (nat_eq subframe 0) _ _ ∙ pick s _ _ ∙ pick s _ _

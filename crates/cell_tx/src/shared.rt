@@ -1,0 +1,100 @@
+//! The shared channel of a frame, which carries system information.
+
+ghost use Rattle.std.specs.Prelude.{◌≡◌, ℕ, ◌+◌, ◌*◌, ◌<◌, ◌≤◌, ◌++◌, length, take, drop, unwrap_or, MatchOption};
+ghost use Rattle.finite.specs.Lists.{values_below};
+ghost use Rattle.cs_bits.specs.Checks.{with_check_24};
+ghost use Rattle.turbo_code.specs.Table.{IsSize};
+ghost use Rattle.turbo_code.specs.Encoder.{coded};
+ghost use Rattle.cell_tx.specs.Shared.{filled, row_with, shared_places, shared_bit, shared_point};
+
+use crate::Cell;
+use crate::bits::put_bits;
+use crate::control::version_of;
+use crate::points::fill_points;
+use cs_bits::crc24a;
+use cs_num::Cpx;
+use dci::SI_RNTI;
+use grid_map::{Place, pdsch, pdsch_c_init};
+use lte_types::Sfn;
+use turbo_code::{Coded, encode, match_out, row_of};
+
+// Writes a text over the first bits.
+fn put_text(word: &mut [bool; 1024], text: &[bool])
+    requires { length text.now ≤ 1000 }
+    ensures { word.new ≡ text.now ++ drop (length text.now) word.old }
+{
+    word[..text.len()].copy_from_slice(text);
+}
+
+// A text, followed by zeros.
+fn filled(text: &[bool]) -> [bool; 1024]
+    requires { length text.now ≤ 1000 }
+    ensures { (size : ℕ) → length text.now ≤ size → size ≤ 1024 → take size result ≡ filled size text.now }
+{
+    let mut word = [false; 1024];
+    put_text(&mut word, text);
+    word
+}
+
+// Writes the check of the first bits behind them.
+fn put_check(word: &mut [bool; 1024], size: usize)
+    requires { size ≤ 1000 }
+    ensures { take (size + 24) word.new ≡ with_check_24 (take size word.old) }
+{
+    let check = crc24a(&word[..size]);
+    put_bits(word, size, 24, check as u64);
+}
+
+/// The coded word of a transport block of this size (TS 36.212 section 5.3.2): a text, followed by zeros.
+/// The size and 24 bits are a K of the table.
+pub(crate) fn coded_block(text: &[bool], size: u16) -> Coded
+    requires size { IsSize (size + 24) }
+    requires room { size ≤ 1000 }
+    requires fits { length text.now ≤ size }
+    ensures k { result.k ≡ size + 24 }
+    ensures d { result.d ≡ coded (row_with (size + 24)) (with_check_24 (filled size text.now)) }
+{
+    let Some(row) = row_of(size) else {
+        unreachable!()
+    };
+    let mut word = filled(text);
+    put_check(&mut word, size as usize);
+    encode(&word[..size as usize + 24], row)
+}
+
+// The bits of the coded word in a frame, as they are matched.
+fn shared_bits(cell: &Cell, sfn: Sfn) -> [bool; 1224]
+    ensures { result ≡ values_below 1224 (shared_bit cell.now sfn) }
+{
+    let version = version_of(sfn);
+    let mut bits = [false; 1224];
+    for i in 0..1224 {
+        bits[i] = match_out(cell.coded(), version, i);
+    }
+    bits
+}
+
+/// The points that six resource blocks carry in a frame.
+pub(crate) fn shared_points(cell: &Cell, sfn: Sfn) -> [Cpx; 612]
+    ensures { result ≡ values_below 612 (shared_point cell.now sfn) }
+{
+    let c_init = pdsch_c_init(cell.id(), 10, SI_RNTI);
+    let mut points = [Cpx::ZERO; 612];
+    fill_points(c_init, &shared_bits(cell, sfn), &mut points);
+    points
+}
+
+/// The places of the assigned resource blocks, and how many there are.
+pub(crate) fn shared_places(cell: &Cell) -> (usize, [Place; 612])
+    ensures places { take result.0 result.1 ≡ shared_places cell.now }
+    ensures count { result.0 ≤ 612 }
+    ensures whole { length result.1 ≡ 612 }
+{
+    let plan = cell.plan();
+    let count = cell.assigned_places();
+    let mut places = [Place { symbol: 0, k: 0 }; 612];
+    for i in 0..count {
+        places[i] = pdsch(cell.id(), cell.cfi(), plan.start, plan.blocks, i);
+    }
+    (count, places)
+}
