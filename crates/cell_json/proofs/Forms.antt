@@ -1,17 +1,18 @@
 -- What a JSON value has the form of.
-use Rattle.std.proofs.Common.{◌≡◌, ℕ, List, [], ◌∷◌, length, Bool, true, false, Option, Some, None, arith, refl, sym, ap, ◌∙◌}
+use Rattle.std.proofs.Common.{◌≡◌, ℕ, List, [], ◌∷◌, length, Bool, true, false, Some, None, refl, ap}
 use Rattle.std.specs.Prelude.{IsUtf8, if◌then◌else◌}
 use Rattle.std.specs.Str.{is_utf8}
 use Rattle.std.proofs.lemmas.Str.{IsUtf8-from_is_utf8, is_utf8-from_IsUtf8}
-use Rattle.serde_json.specs.Data.{Data, null, boolean, number, string, array, object, Items, no_items, item, Members, no_members, member}
+use Rattle.serde_json.specs.Data.{Data, null, boolean, number, string, array, object, Members}
 use Rattle.serde_json.specs.Events.{members_len}
 use Rattle.serde_json.specs.Find.{as_object}
 use Rattle.serde_json.specs.Read.{read as value_of_text}
-use Rattle.serde_json.specs.View.{view, items_view}
+use Rattle.serde_json.specs.View.{items_view}
 use Rattle.serde_json.specs.declared.value.Value.{Value}
 use Rattle.cell_tx.specs.declared.error.CellError.TheVariants.{Form}
-use Rattle.cell_json.specs.Description.{pair_in, key_count}
+use Rattle.cell_json.specs.Kinds.{key_count}
 use Rattle.cell_json.specs.Reading.{json_of, refusal_of, refusal}
+use Rattle.cell_json.specs.Description.{pair_in}
 
 -- the members of an object are its keys
 pub members_are_keys : (json : Data) (members : Members) → Some members ≡ as_object json → members_len members ≡ key_count json

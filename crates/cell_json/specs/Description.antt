@@ -1,27 +1,27 @@
--- Descriptions of a transmission as JSON values. (own)
-use Rattle.std.specs.Prelude.{ℕ, Bool, ◌&&◌, nat_eq, nat_le, List, [], ◌∷◌, length, codes, Option, Some, None, is_some, option_map, option_and_then, ℤ, pos, int_le}
-use Rattle.std.specs.List.{list_all}
-use Rattle.serde_json.specs.Data.{Data, null, boolean, number, string, array, object, Items, no_items, item}
-use Rattle.serde_json.specs.Events.{members_len}
-use Rattle.serde_json.specs.Find.{get, as_number, as_i64, as_str, as_array}
+-- The keys of a description, and the conditions on what stands there. (own)
+use Rattle.std.specs.Prelude.{ℕ, Bool, ◌&&◌, nat_le, if◌then◌else◌, List, [], ◌∷◌, ◌++◌, codes, Option, None, is_some, option_map, option_and_then, ℤ, pos, nat_abs}
+use Rattle.std.specs.Option.{unwrap_or, option_map_or}
+use Rattle.serde_json.specs.Data.{Data, Items, no_items, item}
+use Rattle.serde_json.specs.Find.{as_bool, as_str, as_array}
 use Rattle.cs_num.specs.Complex.{square}
 use Rattle.lte_types.specs.declared.duration.Duration.{Duration}
 use Rattle.lte_types.specs.declared.duration.Duration.TheVariants.{Normal}
 use Rattle.lte_types.specs.declared.resource.Resource.{Resource}
 use Rattle.lte_types.specs.declared.resource.Resource.TheVariants.{OneSixth}
+use Rattle.lte_types.specs.declared.sib1.Sib1.{Sib1}
 use Rattle.lte_types.specs.Codes.{duration_named, resource_named}
-use Rattle.cell_tx.specs.declared.error.CellError.TheVariants.{Form, Sfn, Offset, Samples, Gain, Identity, Spare}
+use Rattle.cell_tx.specs.declared.cell.CellPlan.{CellPlan}
+use Rattle.cell_tx.specs.declared.error.CellError.TheVariants.{Form, Sfn, Offset, Samples, Gain, Sib1Range}
 use Rattle.cell_tx.specs.Clean.{least_count, most_count}
 use Rattle.cell_tx.specs.Conditions.{Condition, condition}
+use Rattle.cell_tx.specs.Plan.{plan_conditions}
 use Rattle.cell_tx.specs.Sent.{gain_of}
+use Rattle.cell_json.specs.Kinds.{whole_of, is_between, null_or, list_of, at_key, has, has_exactly, object_of}
+use Rattle.cell_json.specs.Information.{sib1_of}
 
--- ---- what the value of a key is
+-- ---- kinds of its own
 
--- a whole number of 64 signed bits
-abbrev pub whole_of : Data → Option ℤ
-whole_of json = option_and_then as_i64 (as_number json)
-
--- a list of exactly two of them
+-- a list of exactly two whole numbers
 abbrev pub pair_in : Items → Option (ℤ × ℤ)
 pair_in (item a (item b no_items)) = option_and_then (λ x. option_map (λ y. (x, y)) (whole_of b)) (whole_of a)
 pair_in _ = None
@@ -37,73 +37,145 @@ duration_of json = option_and_then duration_named (as_str json)
 abbrev pub resource_of : Data → Option Resource
 resource_of json = option_and_then resource_named (as_str json)
 
--- ---- the keys of a description
+-- ---- the keys, and of which kind each is
 
--- what an object has at a key, where it is of a kind
-abbrev pub at_key : {A : Type 0} → (Data → Option A) → List ℕ → Data → Option A
-at_key kind key json = option_and_then kind (get key json)
+-- of an identity of a network
+abbrev pub network_keys : List (Data → Bool)
+network_keys =
+    has (codes "mcc") (null_or as_str)
+    ∷ has (codes "mnc") as_str
+    ∷ has (codes "reserved") as_bool
+    ∷ []
 
--- how many keys an object has: each once
-abbrev pub key_count : Data → ℕ
-key_count (object members) = members_len members
-key_count _ = 0
+-- of an entry of the schedule
+abbrev pub message_keys : List (Data → Bool)
+message_keys =
+    has (codes "period") whole_of
+    ∷ has (codes "sibs") (list_of whole_of)
+    ∷ []
 
--- a key with a value of a kind
-abbrev pub has : {A : Type 0} → List ℕ → (Data → Option A) → Data → Bool
-has key kind json = is_some (at_key kind key json)
+-- of SystemInformationBlockType1: of cellAccessRelatedInfo,
+unfoldable pub access_keys : List (Data → Bool)
+access_keys =
+    has (codes "plmns") (list_of (object_of network_keys))
+    ∷ has (codes "tac") whole_of
+    ∷ has (codes "cell") whole_of
+    ∷ has (codes "barred") as_bool
+    ∷ has (codes "intra") as_bool
+    ∷ has (codes "csg") as_bool
+    ∷ has (codes "csg_identity") (null_or whole_of)
+    ∷ []
 
--- the keys of a description, and of which kind each is
-abbrev pub keys : List (Data → Bool)
-keys =
-    has (codes "identity") whole_of
-    ∷ has (codes "sfn") whole_of
+-- of cellSelectionInfo with p-Max and freqBandIndicator,
+unfoldable pub selection_keys : List (Data → Bool)
+selection_keys =
+    has (codes "q_rx") whole_of
+    ∷ has (codes "q_offset") (null_or whole_of)
+    ∷ has (codes "p_max") (null_or whole_of)
+    ∷ has (codes "band") whole_of
+    ∷ []
+
+-- of the schedule with systemInfoValueTag,
+unfoldable pub schedule_keys : List (Data → Bool)
+schedule_keys =
+    has (codes "scheduling") (list_of (object_of message_keys))
+    ∷ has (codes "window") whole_of
+    ∷ has (codes "tag") whole_of
+    ∷ []
+
+-- and all
+abbrev pub sib1_keys : List (Data → Bool)
+sib1_keys = access_keys ++ selection_keys ++ schedule_keys
+
+-- of a description: of what is sent,
+unfoldable pub sending_keys : List (Data → Bool)
+sending_keys =
+    has (codes "sfn") whole_of
     ∷ has (codes "offset") whole_of
     ∷ has (codes "samples") whole_of
     ∷ has (codes "gain") pair_of
-    ∷ has (codes "duration") duration_of
-    ∷ has (codes "resource") resource_of
-    ∷ has (codes "spare") whole_of
     ∷ []
 
--- the object has exactly these keys, each with a value of its kind: it has so many, and these are among them
-abbrev pub has_form : Data → Bool
-has_form json = nat_eq (key_count json) (length keys) && list_all (λ is_there. is_there json) keys
+-- of the numbers of the plan,
+unfoldable pub number_keys : List (Data → Bool)
+number_keys =
+    has (codes "identity") whole_of
+    ∷ has (codes "spare") whole_of
+    ∷ has (codes "cfi") whole_of
+    ∷ has (codes "start") whole_of
+    ∷ has (codes "blocks") whole_of
+    ∷ has (codes "mcs") whole_of
+    ∷ has (codes "column") whole_of
+    ∷ []
 
--- the value, where there is one
-abbrev pub value_or : {A : Type 0} → A → Option A → A
-value_or default None = default
-value_or default (Some value) = value
+-- and all
+abbrev pub keys : List (Data → Bool)
+keys =
+    sending_keys
+    ++ number_keys
+    ++ has (codes "duration") duration_of
+    ∷ has (codes "resource") resource_of
+    ∷ has (codes "sib1") (object_of sib1_keys)
+    ∷ []
+
+abbrev pub has_form : Data → Bool
+has_form json = has_exactly keys json
+
+-- ---- what stands at the keys
 
 -- the whole number at a key
 abbrev pub number_at : List ℕ → Data → ℤ
-number_at key json = value_or (pos 0) (at_key whole_of key json)
+number_at key json = unwrap_or (at_key whole_of key json) (pos 0)
 
 abbrev pub gain_at : Data → ℤ × ℤ
-gain_at json = value_or (pos 0, pos 0) (at_key pair_of (codes "gain") json)
+gain_at json = unwrap_or (at_key pair_of (codes "gain") json) (pos 0, pos 0)
 
 abbrev pub duration_at : Data → Duration
-duration_at json = value_or Normal (at_key duration_of (codes "duration") json)
+duration_at json = unwrap_or (at_key duration_of (codes "duration") json) Normal
 
 abbrev pub resource_at : Data → Resource
-resource_at json = value_or OneSixth (at_key resource_of (codes "resource") json)
+resource_at json = unwrap_or (at_key resource_of (codes "resource") json) OneSixth
+
+-- SystemInformationBlockType1, where each of its values is in its range
+abbrev pub sib1_at : Data → Option Sib1
+sib1_at json = at_key sib1_of (codes "sib1") json
+
+-- a number in a field of the plan; what the field cannot hold stands as its greatest number, which no condition accepts
+abbrev pub in_field : ℕ → ℤ → ℕ
+in_field most z = if is_between (pos 0) (pos most) z then nat_abs z else most
+
+-- the plan of the cell, with this block
+abbrev pub plan_of : Data → Sib1 → CellPlan
+plan_of json sib1 = record {
+  identity = in_field 65535 (number_at (codes "identity") json);
+  duration = duration_at json;
+  resource = resource_at json;
+  spare = in_field 65535 (number_at (codes "spare") json);
+  cfi = in_field 255 (number_at (codes "cfi") json);
+  start = in_field 255 (number_at (codes "start") json);
+  blocks = in_field 255 (number_at (codes "blocks") json);
+  mcs = in_field 255 (number_at (codes "mcs") json);
+  column = in_field 255 (number_at (codes "column") json);
+  sib1 = sib1;
+}
 
 -- ---- the conditions
-
-abbrev pub is_between : ℕ → ℕ → ℤ → Bool
-is_between least most z = int_le (pos least) z && int_le z (pos most)
 
 -- the square of the gain's size is 1 to 784
 abbrev pub is_gain : ℤ × ℤ → Bool
 is_gain gain = nat_le 1 (square (gain_of gain)) && nat_le (square (gain_of gain)) 784
 
--- all conditions in their order: the form, what is sent, and then those of the cell's plan
+-- those of the plan, which there is where the block's values are in their ranges
+unfoldable pub cell_conditions : Data → List Condition
+cell_conditions json = option_map_or (λ sib1. plan_conditions (plan_of json sib1)) (sib1_at json) []
+
+-- all conditions in their order: the form, what is sent, the block's ranges, and then those of the cell's plan
 abbrev pub conditions : Data → List Condition
 conditions json =
     condition (has_form json) Form
-    ∷ condition (is_between 0 1023 (number_at (codes "sfn") json)) Sfn
-    ∷ condition (is_between 0 19199 (number_at (codes "offset") json)) Offset
-    ∷ condition (is_between least_count most_count (number_at (codes "samples") json)) Samples
+    ∷ condition (is_between (pos 0) (pos 1023) (number_at (codes "sfn") json)) Sfn
+    ∷ condition (is_between (pos 0) (pos 19199) (number_at (codes "offset") json)) Offset
+    ∷ condition (is_between (pos least_count) (pos most_count) (number_at (codes "samples") json)) Samples
     ∷ condition (is_gain (gain_at json)) Gain
-    ∷ condition (is_between 0 503 (number_at (codes "identity") json)) Identity
-    ∷ condition (is_between 0 1023 (number_at (codes "spare") json)) Spare
-    ∷ []
+    ∷ condition (is_some (sib1_at json)) Sib1Range
+    ∷ cell_conditions json

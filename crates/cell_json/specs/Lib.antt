@@ -1,3 +1,5 @@
+pub mod Kinds
+pub mod Information
 pub mod Description
 pub mod Parts
 pub mod Reading

@@ -9,7 +9,7 @@ use Rattle.cell_tx.specs.declared.transmission.Transmission.{Transmission}
 use Rattle.cell_tx.specs.Conditions.{first_failed}
 use Rattle.cell_json.specs.declared.error.JsonError.{JsonError}
 use Rattle.cell_json.specs.declared.error.JsonError.TheVariants.{Cell, OutOfMemory}
-use Rattle.cell_json.specs.Description.{number_at, gain_at, duration_at, resource_at, conditions}
+use Rattle.cell_json.specs.Description.{number_at, gain_at, duration_at, resource_at, sib1_at, conditions}
 
 -- the JSON value of a text; None where the bytes are no text or the text is no JSON
 abbrev pub json_of : List ℕ → Option Data
@@ -30,6 +30,12 @@ pub record HasValues (t : Transmission) (json : Data) : Type 0 where
   pub duration : t.cell.duration ≡ duration_at json
   pub resource : t.cell.resource ≡ resource_at json
   pub spare : pos t.cell.spare ≡ number_at (codes "spare") json
+  pub cfi : pos t.cell.cfi ≡ number_at (codes "cfi") json
+  pub start : pos t.cell.start ≡ number_at (codes "start") json
+  pub blocks : pos t.cell.blocks ≡ number_at (codes "blocks") json
+  pub mcs : pos t.cell.mcs ≡ number_at (codes "mcs") json
+  pub column : pos t.cell.column ≡ number_at (codes "column") json
+  pub sib1 : Some t.cell.sib1 ≡ sib1_at json
   pub sfn : pos t.sfn ≡ number_at (codes "sfn") json
   pub offset : pos t.offset ≡ number_at (codes "offset") json
   pub samples : pos t.samples ≡ number_at (codes "samples") json

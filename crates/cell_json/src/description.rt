@@ -1,43 +1,45 @@
 //! What a JSON value describes.
 
-ghost use Rattle.std.specs.Prelude.{◌≡◌, ◌≤◌, ◌&&◌, nat_eq, IsTrue, IsFalse, codes, option_map, option_and_then, MatchOption, is_some, List, ℕ};
-ghost use Rattle.serde_json.specs.Data.{Data};
+ghost use Rattle.std.specs.Prelude.{◌≡◌, IsTrue, IsFalse, MatchOption, option_map, codes};
 ghost use Rattle.serde_json.specs.View.{view};
-ghost use Rattle.cell_json.specs.Description.{whole_of, pair_of, duration_of, resource_of, at_key, key_count, has_form};
-ghost use Rattle.cell_json.specs.Parts.{HasParts};
+ghost use Rattle.cell_json.specs.Kinds.{at_key, has, has_all, object_of};
+ghost use Rattle.cell_json.specs.Description.{pair_of, duration_of, resource_of, sib1_keys, sending_keys, number_keys, has_form};
+ghost use Rattle.cell_json.specs.Parts.{HasSending, HasNumbers, HasParts};
 
+use crate::form::is_sib1;
+use crate::kinds::{count_keys, whole};
 use cs_num::Cpx;
 use lte_types::{Duration, Resource};
 use serde_json::Value;
 
-/// The values of a description, not yet checked.
+/// What is sent of the cell, not yet checked.
 #[derive(Clone, Copy)]
-pub(crate) struct Description {
-    pub identity: i64,
+pub(crate) struct Sending {
     pub sfn: i64,
     pub offset: i64,
     pub samples: i64,
     pub gain: Cpx,
+}
+
+/// The numbers of the cell's plan, not yet checked.
+#[derive(Clone, Copy)]
+pub(crate) struct Numbers {
+    pub identity: i64,
+    pub spare: i64,
+    pub cfi: i64,
+    pub start: i64,
+    pub blocks: i64,
+    pub mcs: i64,
+    pub column: i64,
+}
+
+/// The values of a description but for SystemInformationBlockType1.
+#[derive(Clone, Copy)]
+pub(crate) struct Description {
+    pub sending: Sending,
+    pub numbers: Numbers,
     pub duration: Duration,
     pub resource: Resource,
-    pub spare: i64,
-}
-
-// How many keys the value has.
-fn count_keys(value: &Value) -> usize
-    ensures { result ≡ key_count (view value.now) }
-{
-    match value.as_object() {
-        Some(members) => members.len(),
-        None => 0,
-    }
-}
-
-// The whole number at a key.
-fn whole(value: &Value, key: &str) -> Option<i64>
-    ensures { result ≡ at_key whole_of key.now (view value.now) }
-{
-    value.get(key)?.as_i64()
 }
 
 // The value, as a list of exactly two whole numbers.
@@ -75,22 +77,60 @@ fn resource(value: &Value, key: &str) -> Option<Resource>
     Resource::from_name(value.get(key)?.as_str()?)
 }
 
-/// The values of a description; `None` exactly where the JSON value has not its form.
-pub(crate) fn description_of(value: &Value) -> Option<Description>
-    ensures { MatchOption result (IsFalse (has_form (view value.now)))
-        (λ d. IsTrue (has_form (view value.now)) × HasParts d (view value.now)) }
+// What is sent of the cell.
+#[tactic(auto, unfolding(crate::specs::Description::sending_keys))]
+fn sending_of(value: &Value) -> Option<Sending>
+    ensures { MatchOption result (IsFalse (has_all sending_keys (view value.now)))
+        (λ d. IsTrue (has_all sending_keys (view value.now)) × HasSending d (view value.now)) }
 {
-    if count_keys(value) != 8 {
-        return None;
-    }
-    Some(Description {
-        identity: whole(value, "identity")?,
+    Some(Sending {
         sfn: whole(value, "sfn")?,
         offset: whole(value, "offset")?,
         samples: whole(value, "samples")?,
         gain: pair(value, "gain")?,
+    })
+}
+
+// The numbers of the cell's plan.
+#[tactic(auto, unfolding(crate::specs::Description::number_keys))]
+fn numbers_of(value: &Value) -> Option<Numbers>
+    ensures { MatchOption result (IsFalse (has_all number_keys (view value.now)))
+        (λ d. IsTrue (has_all number_keys (view value.now)) × HasNumbers d (view value.now)) }
+{
+    Some(Numbers {
+        identity: whole(value, "identity")?,
+        spare: whole(value, "spare")?,
+        cfi: whole(value, "cfi")?,
+        start: whole(value, "start")?,
+        blocks: whole(value, "blocks")?,
+        mcs: whole(value, "mcs")?,
+        column: whole(value, "column")?,
+    })
+}
+
+// Whether SystemInformationBlockType1 is there and has its form.
+fn has_sib1(value: &Value) -> bool
+    ensures { result ≡ has (codes "sib1") (object_of sib1_keys) (view value.now) }
+{
+    match value.get("sib1") {
+        Some(inner) => is_sib1(inner),
+        None => false,
+    }
+}
+
+/// The values of a description; `None` exactly where the JSON value has not its form.
+#[tactic(auto, using(crate::proofs::Tables::form_parts))]
+pub(crate) fn description_of(value: &Value) -> Option<Description>
+    ensures { MatchOption result (IsFalse (has_form (view value.now)))
+        (λ d. IsTrue (has_form (view value.now)) × HasParts d (view value.now)) }
+{
+    if count_keys(value) != 14 || !has_sib1(value) {
+        return None;
+    }
+    Some(Description {
+        sending: sending_of(value)?,
+        numbers: numbers_of(value)?,
         duration: duration(value, "duration")?,
         resource: resource(value, "resource")?,
-        spare: whole(value, "spare")?,
     })
 }

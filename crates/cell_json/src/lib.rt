@@ -3,6 +3,9 @@
 
 mod description;
 mod error;
+mod form;
+mod information;
+mod kinds;
 mod reading;
 
 pub use error::JsonError;

@@ -1,26 +1,32 @@
 //! Descriptions as bytes.
 
-ghost use Rattle.std.specs.Prelude.{◌≡◌, ◌≤◌, pos, Some, None, IsTrue, IsFalse, IfSome, MatchOption, MatchResult};
+ghost use Rattle.std.specs.Prelude.{◌≡◌, pos, Some, None, IsTrue, IsFalse, IfSome, IfOk, MatchOption, MatchResult};
 ghost use Rattle.serde_json.specs.Data.{Data};
+ghost use Rattle.serde_json.specs.View.{view};
+ghost use Rattle.lte_types.specs.Ranges.{IsValid};
 ghost use Rattle.cell_tx.specs.Clean.{IsGain};
 ghost use Rattle.cell_tx.specs.Sent.{gain_of};
 ghost use Rattle.cell_tx.specs.Conditions.{first_failed};
-ghost use Rattle.cell_json.specs.Description.{is_between, is_gain, has_form, conditions};
-ghost use Rattle.cell_json.specs.Parts.{HasParts, HasCell, cell_conditions};
+ghost use Rattle.cell_tx.specs.Plan.{IsSendable, plan_refusal};
+ghost use Rattle.cell_json.specs.Kinds.{is_between};
+ghost use Rattle.cell_json.specs.Description.{is_gain, in_field, sib1_at, plan_of as described_plan, has_form, conditions};
+ghost use Rattle.cell_json.specs.Parts.{HasParts};
 ghost use Rattle.cell_json.specs.Reading.{HasValues, Describes, IsRefused};
 
 use crate::JsonError;
 use crate::description::{Description, description_of};
+use crate::information::sib1_of;
+use crate::kinds::within;
 use cell_tx::{Cell, CellError, CellPlan, Transmission};
 use cs_num::Cpx;
-use lte_types::Sfn;
+use lte_types::{Sfn, Sib1};
 use serde_json::Value;
 use std::alloc::Global;
 
 /// The transmission that a description in JSON has the values of, or the first failed condition in
-/// this order: `Form`, `Sfn`, `Offset`, `Samples`, `Gain`, and those of `Cell::new`. JSON is what
-/// `serde_json` reads, so of a key that is written twice the last value stands. Want of memory may
-/// come at any bytes.
+/// this order: `Form`, `Sfn`, `Offset`, `Samples`, `Gain`, `Sib1Range`, and those of `Cell::new`. JSON
+/// is what `serde_json` reads, so of a key that is written twice the last value stands. Want of memory
+/// may come at any bytes.
 pub fn read(alloc: Global, bytes: &[u8]) -> Result<Transmission, JsonError>
     ensures { MatchResult result (Describes bytes.now) (IsRefused bytes.now) }
 {
@@ -32,23 +38,9 @@ pub fn read(alloc: Global, bytes: &[u8]) -> Result<Transmission, JsonError>
     let Some(description) = description_of(&value) else {
         return Err(JsonError::Cell(CellError::Form));
     };
-    match transmission_of(&description) {
+    match transmission_of(&description, &value) {
         Ok(transmission) => Ok(transmission),
         Err(cause) => Err(JsonError::Cell(cause)),
-    }
-}
-
-// A number within a range.
-fn within(number: &i64, least: u32, most: u32) -> Option<u32>
-    ensures found { MatchOption result (IsFalse (is_between least most number.now))
-        (λ _. IsTrue (is_between least most number.now)) }
-    ensures value { IfSome result (λ n. pos n ≡ number.now) }
-    ensures range { IfSome result (λ n. (least ≤ n) × (n ≤ most)) }
-{
-    if least as i64 <= *number && *number <= most as i64 {
-        Some(*number as u32)
-    } else {
-        None
     }
 }
 
@@ -56,7 +48,7 @@ fn within(number: &i64, least: u32, most: u32) -> Option<u32>
 fn gain_within(gain: &Cpx) -> Option<(i16, i16)>
     ensures { MatchOption result (IsFalse (is_gain (gain.now.re, gain.now.im)))
         (λ pair. IsTrue (is_gain (gain.now.re, gain.now.im)) ×
-            (pair ≡ (gain.now.re, gain.now.im)) × IsGain (gain_of pair)) }
+        (pair ≡ (gain.now.re, gain.now.im)) × IsGain (gain_of pair)) }
 {
     let square = gain.norm();
     if 1 <= square && square <= 784 {
@@ -68,58 +60,90 @@ fn gain_within(gain: &Cpx) -> Option<(i16, i16)>
 
 // The frame number within its range.
 fn sfn_of(number: &i64) -> Option<Sfn>
-    ensures { MatchOption result (IsFalse (is_between 0 1023 number.now))
-        (λ sfn. IsTrue (is_between 0 1023 number.now) × (pos sfn ≡ number.now)) }
+    ensures { MatchOption result (IsFalse (is_between (pos 0) (pos 1023) number.now))
+        (λ sfn. IsTrue (is_between (pos 0) (pos 1023) number.now) × (pos sfn ≡ number.now)) }
 {
     Sfn::new(within(number, 0, 1023)? as u16)
 }
 
-// The cell of a description, or its first failed condition.
-fn cell_of(description: &Description) -> Result<Cell, CellError>
-    ensures { MatchResult result
-        (λ cell. (first_failed (cell_conditions description.now) ≡ None) × HasCell description.now cell)
-        (λ cause. first_failed (cell_conditions description.now) ≡ Some cause) }
+// A number in a field of 16 bits; what the field cannot hold stands as its greatest number.
+fn in_16_bits(number: &i64) -> u16
+    ensures { result ≡ in_field 65535 number.now }
 {
-    let Some(identity) = within(&description.identity, 0, 503) else {
-        return Err(CellError::Identity);
-    };
-    let Some(spare) = within(&description.spare, 0, 1023) else {
-        return Err(CellError::Spare);
-    };
-    Cell::new(CellPlan {
-        identity: identity as u16,
+    match within(number, 0, 65_535) {
+        Some(small) => small as u16,
+        None => u16::MAX,
+    }
+}
+
+// The same in a field of 8 bits.
+fn in_8_bits(number: &i64) -> u8
+    ensures { result ≡ in_field 255 number.now }
+{
+    match within(number, 0, 255) {
+        Some(small) => small as u8,
+        None => u8::MAX,
+    }
+}
+
+// The plan of a description with this block.
+fn plan_of(description: &Description, sib1: Sib1) -> CellPlan
+    ensures values { (json : Data) → HasParts description.now json → result ≡ described_plan json sib1 }
+    ensures block { result.sib1 ≡ sib1 }
+{
+    let numbers = &description.numbers;
+    CellPlan {
+        identity: in_16_bits(&numbers.identity),
         duration: description.duration,
         resource: description.resource,
-        spare: spare as u16,
-    })
+        spare: in_16_bits(&numbers.spare),
+        cfi: in_8_bits(&numbers.cfi),
+        start: in_8_bits(&numbers.start),
+        blocks: in_8_bits(&numbers.blocks),
+        mcs: in_8_bits(&numbers.mcs),
+        column: in_8_bits(&numbers.column),
+        sib1,
+    }
+}
+
+// The cell of a description with this block, or its first failed condition.
+fn cell_of(description: &Description, sib1: Sib1) -> Result<Cell, CellError>
+    requires { IsValid sib1 }
+    ensures sendable { IfOk result IsSendable }
+    ensures decided { (json : Data) → HasParts description.now json → MatchResult result
+        (λ cell. (plan_refusal (described_plan json sib1) ≡ None) × (cell ≡ described_plan json sib1))
+        (λ cause. plan_refusal (described_plan json sib1) ≡ Some cause) }
+{
+    Cell::new(plan_of(description, sib1))
+}
+
+// SystemInformationBlockType1 of a description, where each value is in its range.
+#[tactic(auto, using(crate::proofs::Valid::read_is_valid))]
+fn information_of(value: &Value) -> Option<Sib1>
+    ensures value { result ≡ sib1_at (view value.now) }
+    ensures valid { IfSome result IsValid }
+{
+    sib1_of(value.get("sib1")?)
 }
 
 // The transmission of a description, or the first failed condition after the form.
-fn transmission_of(description: &Description) -> Result<Transmission, CellError>
-    ensures { (json : Data) → IsTrue (has_form json) → HasParts description.now json →
-        MatchResult result (λ t. (first_failed (conditions json) ≡ None) × HasValues t json)
-        (λ cause. first_failed (conditions json) ≡ Some cause) }
+fn transmission_of(description: &Description, value: &Value) -> Result<Transmission, CellError>
+    ensures { IsTrue (has_form (view value.now)) → HasParts description.now (view value.now) → MatchResult result
+        (λ t. (first_failed (conditions (view value.now)) ≡ None) × HasValues t (view value.now))
+        (λ cause. first_failed (conditions (view value.now)) ≡ Some cause) }
 {
-    let Some(sfn) = sfn_of(&description.sfn) else {
-        return Err(CellError::Sfn);
-    };
-    let Some(offset) = within(&description.offset, 0, 19_199) else {
-        return Err(CellError::Offset);
-    };
-    let Some(samples) = within(&description.samples, 57_600, 1_920_000) else {
-        return Err(CellError::Samples);
-    };
-    let Some(gain) = gain_within(&description.gain) else {
-        return Err(CellError::Gain);
-    };
-    match cell_of(description) {
-        Ok(cell) => Ok(Transmission {
-            cell,
-            sfn,
-            offset,
-            samples,
-            gain,
-        }),
-        Err(cause) => Err(cause),
-    }
+    let sending = &description.sending;
+    let sfn = sfn_of(&sending.sfn).ok_or(CellError::Sfn)?;
+    let offset = within(&sending.offset, 0, 19_199).ok_or(CellError::Offset)?;
+    let samples = within(&sending.samples, 57_600, 1_920_000).ok_or(CellError::Samples)?;
+    let gain = gain_within(&sending.gain).ok_or(CellError::Gain)?;
+    let sib1 = information_of(value).ok_or(CellError::Sib1Range)?;
+    let cell = cell_of(description, sib1)?;
+    Ok(Transmission {
+        cell,
+        sfn,
+        offset,
+        samples,
+        gain,
+    })
 }

@@ -1,5 +1,4 @@
-use Rattle.std.proofs.Common.{◌≡◌, ℤ, List, length, Option, Some, None, option_and_then, sym, ap, ◌∙◌, arith}
-use Rattle.serde_json.specs.Data.{Items}
+use Rattle.std.proofs.Common.{◌≡◌, List, length, Some, None, option_and_then, sym, ap, ◌∙◌, arith}
 use Rattle.serde_json.specs.Find.{as_array}
 use Rattle.serde_json.specs.View.{view, items_view}
 use Rattle.serde_json.specs.declared.value.Value.{Value}

@@ -1,9 +1,8 @@
-use Rattle.std.proofs.Common.{◌≡◌, ℕ, ◌≤◌, true, nat_le, ℤ, to_z, of_z, w16, w64, arith, refl, le-leb}
+use Rattle.std.proofs.Common.{◌≡◌, ◌≤◌, true, nat_le, ℤ, to_z, of_z, w16, w64, arith, refl, le-leb}
 use Rattle.std.proofs.lemmas.Int.{ints}
 use Rattle.std.specs.Prelude.{nat_abs}
 use Rattle.cs_num.specs.Complex.{square}
 use Rattle.sizes.proofs.Squares.{re-le, im-le}
-use Rattle.cell_tx.specs.Sent.{gain_of}
 use Rattle.cell_json.proofs.reading.gain_within.Goals as goal
 
 -- a small number in 16 bits

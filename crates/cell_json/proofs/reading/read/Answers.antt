@@ -1,9 +1,8 @@
-use Rattle.std.proofs.Common.{◌≡◌, Some, true, false, sym, ap, ◌∙◌}
+use Rattle.std.proofs.Common.{sym, ap, ◌∙◌}
 use Rattle.std.proofs.Math.Bool.{true≢false}
 use Rattle.serde_json.specs.View.{view}
-use Rattle.cell_json.specs.Reading.{refusal_of, refusal}
+use Rattle.cell_json.specs.Reading.{refusal_of}
 use Rattle.cell_json.proofs.Forms.{text_has_value, no_json}
-use Rattle.cell_json.proofs.Refusals.{form_fails}
 use Rattle.cell_json.proofs.reading.read.Goals as goal
 
 pub returns-in-Err-2 : goal.returns-in-Err-2
@@ -14,7 +13,7 @@ returns-in-Err-2 c =
 pub returns-in-Ok-transmission_of : goal.returns-in-Ok-transmission_of
 returns-in-Ok-transmission_of c =
     let json = text_has_value c.args.bytes.now (view c.in-Ok.value) c.in-Ok.ensures.ok.0 c.in-Ok.ensures.ok.1 in
-    let both = c.in-Ok-transmission_of.ensures (view c.in-Ok.value) c.in-Some.ensures.0 c.in-Some.ensures.1 in
+    let both = c.in-Ok-transmission_of.ensures c.in-Some.ensures.0 c.in-Some.ensures.1 in
     record {
       value = view c.in-Ok.value;
       json = json;
@@ -25,4 +24,4 @@ returns-in-Ok-transmission_of c =
 pub returns : goal.returns
 returns c =
     let json = text_has_value c.args.bytes.now (view c.in-Ok.value) c.in-Ok.ensures.ok.0 c.in-Ok.ensures.ok.1 in
-    ap refusal_of json ∙ c.in-Err-transmission_of.ensures (view c.in-Ok.value) c.in-Some.ensures.0 c.in-Some.ensures.1
+    ap refusal_of json ∙ c.in-Err-transmission_of.ensures c.in-Some.ensures.0 c.in-Some.ensures.1

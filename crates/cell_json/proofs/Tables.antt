@@ -1,0 +1,26 @@
+-- The tables of keys, part by part.
+use Rattle.std.proofs.Common.{◌≡◌, [], ◌∷◌, ◌++◌, length, ◌&&◌, nat_eq, true, refl}
+use Rattle.std.proofs.lemmas.List.Folds.{list_all-append}
+use Rattle.std.specs.Prelude.{codes}
+use Rattle.serde_json.specs.Data.{Data}
+use Rattle.cell_json.specs.Kinds.{has, has_all, has_exactly, key_count, object_of}
+use Rattle.cell_json.specs.Description.{access_keys, selection_keys, schedule_keys, sib1_keys, sending_keys, number_keys, duration_of, resource_of, has_form}
+
+sib1_count : length sib1_keys ≡ 14
+unfolding access_keys selection_keys schedule_keys
+sib1_count = refl
+
+-- SystemInformationBlockType1 has its form where its three parts do
+pub sib1_parts : (json : Data) → (nat_eq (key_count json) 14 && (has_all access_keys json && (has_all selection_keys json && has_all schedule_keys json)))
+    ≡ has_exactly sib1_keys json
+unfolding access_keys
+sib1_parts json = rw (sib1_count, list_all-append (λ is_there. is_there json) access_keys (selection_keys ++ schedule_keys), list_all-append (λ is_there. is_there json) selection_keys schedule_keys) refl
+
+-- a description has its form where its parts have theirs
+pub form_parts : (json : Data) → (nat_eq (key_count json) 14 && (has_all sending_keys json && (has_all number_keys json && (has (codes "duration") duration_of json
+    && (has (codes "resource") resource_of json && (has (codes "sib1") (object_of sib1_keys) json && true)))))) ≡ has_form json
+unfolding sending_keys number_keys
+form_parts json = rw (
+  list_all-append (λ is_there. is_there json) sending_keys (number_keys ++ has (codes "duration") duration_of ∷ has (codes "resource") resource_of ∷ has (codes "sib1") (object_of sib1_keys) ∷ []),
+  list_all-append (λ is_there. is_there json) number_keys (has (codes "duration") duration_of ∷ has (codes "resource") resource_of ∷ has (codes "sib1") (object_of sib1_keys) ∷ []),
+) refl

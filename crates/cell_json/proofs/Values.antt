@@ -1,0 +1,68 @@
+-- The values of a transmission and those of its description.
+use Rattle.std.proofs.Common.{◌≡◌, ℕ, ◌<◌, ℤ, pos, negsuc, Bool, true, false, nat_eq, List, length, ◌⊎◌, inl, inr, Option, is_some, if◌then◌else◌, nat_abs, Some, None, arith, refl, ap, ◌∙◌}
+use Rattle.std.specs.Prelude.{codes, IsSome, slice_get}
+use Rattle.std.proofs.lemmas.Option.{slice_get_within}
+use Rattle.serde_json.specs.Data.{Data}
+use Rattle.lte_types.specs.declared.sib1.Sib1.{Sib1}
+use Rattle.dci.specs.Sizes.{size_of, column_2, column_3}
+use Rattle.cell_tx.specs.declared.transmission.Transmission.{Transmission}
+use Rattle.cell_tx.specs.Plan.{IsSendable}
+use Rattle.cell_json.specs.Kinds.{is_between}
+use Rattle.cell_json.specs.Description.{in_field, number_at, gain_at, sib1_at, plan_of}
+use Rattle.cell_json.specs.Reading.{HasValues}
+
+not_negative : (most : ℕ) (z : ℤ) → is_between (pos 0) (pos most) z ≡ true → pos (nat_abs z) ≡ z
+not_negative most (pos n) e = refl
+not_negative most (negsuc n) e = absurd (cc e)
+
+-- a field that does not stand at its greatest number holds the number itself
+kept : (most n : ℕ) (z : ℤ) → n ≡ in_field most z → n < most → pos n ≡ z
+kept most n z e below = settle (is_between (pos 0) (pos most) z) refl e
+  where
+    settle : (b : Bool) → is_between (pos 0) (pos most) z ≡ b → n ≡ (if b then nat_abs z else most) → pos n ≡ z
+    settle true is h = ap pos h ∙ not_negative most z is
+    settle false is h = absurd (omega (arith, h, below))
+
+some_place : (table : List ℕ) (n : ℕ) → IsSome (slice_get table n) → n < length table
+some_place table n h = settle (slice_get table n) refl h
+  where
+    settle : (found : Option ℕ) → slice_get table n ≡ found → is_some found ≡ true → n < length table
+    settle None is there = absurd (cc there)
+    settle (Some x) is there = slice_get_within table n x is
+
+few_schemes : (length column_2 ≡ 22) × (length column_3 ≡ 17)
+unfolding column_2 column_3
+few_schemes = (refl, refl)
+
+-- a scheme that has a size is a small number
+pub small_scheme : (mcs column : ℕ) → IsSome (size_of mcs column) → mcs < 255
+small_scheme mcs column h = settle (nat_eq column 2) h
+  where
+    settle : (b : Bool) → IsSome (slice_get (if b then column_2 else column_3) mcs) → mcs < 255
+    settle true h = let below = some_place column_2 mcs h in omega (arith, below, few_schemes.0)
+    settle false h = let below = some_place column_3 mcs h in omega (arith, below, few_schemes.1)
+
+pub small_column : (column : ℕ) → (column ≡ 2) ⊎ (column ≡ 3) → column < 255
+small_column column (inl e) = omega (arith, e)
+small_column column (inr e) = omega (arith, e)
+
+-- a cell with the plan of a description has its values
+pub has_values : (t : Transmission) (json : Data) (sib1 : Sib1) → IsSendable t.cell → t.cell ≡ plan_of json sib1 → Some sib1 ≡ sib1_at json
+    → pos t.sfn ≡ number_at (codes "sfn") json → pos t.offset ≡ number_at (codes "offset") json → pos t.samples ≡ number_at (codes "samples") json
+    → t.gain ≡ gain_at json → HasValues t json
+has_values t json sib1 sendable is there sfn offset samples gain = record {
+  identity = kept 65535 t.cell.identity (number_at (codes "identity") json) (ap (λ plan. plan.identity) is) (omega (arith, sendable.identity));
+  duration = ap (λ plan. plan.duration) is;
+  resource = ap (λ plan. plan.resource) is;
+  spare = kept 65535 t.cell.spare (number_at (codes "spare") json) (ap (λ plan. plan.spare) is) (omega (arith, sendable.spare));
+  cfi = kept 255 t.cell.cfi (number_at (codes "cfi") json) (ap (λ plan. plan.cfi) is) (omega (arith, sendable.cfi.1));
+  start = kept 255 t.cell.start (number_at (codes "start") json) (ap (λ plan. plan.start) is) (omega (arith, sendable.assignment.inside));
+  blocks = kept 255 t.cell.blocks (number_at (codes "blocks") json) (ap (λ plan. plan.blocks) is) (omega (arith, sendable.assignment.inside));
+  mcs = kept 255 t.cell.mcs (number_at (codes "mcs") json) (ap (λ plan. plan.mcs) is) (small_scheme t.cell.mcs t.cell.column sendable.mcs);
+  column = kept 255 t.cell.column (number_at (codes "column") json) (ap (λ plan. plan.column) is) (small_column t.cell.column sendable.column);
+  sib1 = ap (λ plan. Some plan.sib1) is ∙ there;
+  sfn = sfn;
+  offset = offset;
+  samples = samples;
+  gain = gain;
+}

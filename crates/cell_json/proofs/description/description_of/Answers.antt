@@ -1,0 +1,26 @@
+use Rattle.std.proofs.Common.{◌≡◌, Bool, true, false, nat_eq, ◌&&◌, sym, ◌∙◌, rules}
+use Rattle.std.specs.Prelude.{codes}
+use Rattle.serde_json.specs.Data.{Data}
+use Rattle.serde_json.specs.View.{view}
+use Rattle.cell_json.specs.Kinds.{has, has_all, key_count, object_of}
+use Rattle.cell_json.specs.Description.{sending_keys, number_keys, duration_of, resource_of, sib1_keys}
+use Rattle.cell_json.proofs.Tables.{form_parts}
+use Rattle.cell_json.proofs.description.description_of.Goals as goal
+
+-- whether the parts have their forms
+abbrev parts_fit : Data → Bool
+parts_fit json =
+    nat_eq (key_count json) 14 && (has_all sending_keys json && (has_all number_keys json && (has (codes "duration") duration_of json
+    && (has (codes "resource") resource_of json && (has (codes "sib1") (object_of sib1_keys) json && true)))))
+
+pub returns-then-count_keys-ne14 : goal.returns-then-count_keys-ne14
+returns-then-count_keys-ne14 c =
+    let json = view c.args.value.now in
+    let parts : parts_fit json ≡ false = search rules in
+    sym (form_parts json) ∙ parts
+
+pub returns : goal.returns
+returns c =
+    let json = view c.args.value.now in
+    let parts : parts_fit json ≡ true = search rules in
+    (sym (form_parts json) ∙ parts, search rules)

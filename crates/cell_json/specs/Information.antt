@@ -1,0 +1,121 @@
+-- SystemInformationBlockType1 of a description, each value in its range. (own; ranges of TS 36.331 section 6.2.2)
+use Rattle.std.specs.Prelude.{ℕ, ◌-◌, Bool, false, ◌&&◌, nat_eq, nat_le, if◌then◌else◌, List, [], ◌∷◌, length, codes, Option, Some, None, is_some, option_map, option_and_then, pos, negsuc}
+use Rattle.std.specs.List.{position}
+use Rattle.std.specs.Ordering.{int_eq}
+use Rattle.serde_json.specs.Data.{Data}
+use Rattle.serde_json.specs.Find.{as_bool, as_str}
+use Rattle.lte_types.specs.declared.mnc.Mnc.{Mnc}
+use Rattle.lte_types.specs.declared.mnc.Mnc.TheVariants.{Two, Three}
+use Rattle.lte_types.specs.declared.plmn.Plmn.{Plmn}
+use Rattle.lte_types.specs.declared.si_message.SiMessage.{SiMessage}
+use Rattle.lte_types.specs.declared.sib1.Sib1.{Sib1}
+use Rattle.cell_json.specs.Kinds.{◌>>=◌, given, whole_of, whole_within, natural_within, null_or, list_within, at_key}
+
+-- ---- identities of networks
+
+-- a digit by its code, in which `0` to `9` are 48 to 57
+abbrev pub digit_of : ℕ → Option ℕ
+digit_of code = given (nat_le 48 code && nat_le code 57) (code - 48)
+
+abbrev pub two_digits : List ℕ → Option (List ℕ)
+two_digits (a ∷ b ∷ []) = do
+  first ← digit_of a
+  second ← digit_of b
+  Some (first ∷ second ∷ [])
+two_digits _ = None
+
+abbrev pub three_digits : List ℕ → Option (List ℕ)
+three_digits (a ∷ b ∷ c ∷ []) = do
+  first ← digit_of a
+  second ← digit_of b
+  third ← digit_of c
+  Some (first ∷ second ∷ third ∷ [])
+three_digits _ = None
+
+-- a mobile country code: a text of three digits
+abbrev pub mcc_of : Data → Option (List ℕ)
+mcc_of json = option_and_then three_digits (as_str json)
+
+-- a mobile network code: a text of two or three digits
+abbrev pub mnc_in : List ℕ → Option Mnc
+mnc_in text = if nat_eq (length text) 2 then option_map Two (two_digits text) else option_map Three (three_digits text)
+
+abbrev pub mnc_of : Data → Option Mnc
+mnc_of json = option_and_then mnc_in (as_str json)
+
+abbrev pub network_of : Data → Option Plmn
+network_of json = do
+  mcc ← at_key (null_or mcc_of) (codes "mcc") json
+  mnc ← at_key mnc_of (codes "mnc") json
+  reserved ← at_key as_bool (codes "reserved") json
+  Some (record { mcc = mcc; mnc = mnc; reserved = reserved })
+
+abbrev pub first_has_mcc : List Plmn → Bool
+first_has_mcc [] = false
+first_has_mcc (first ∷ rest) = is_some first.mcc
+
+-- 1 to 6 identities, of which the first has a country code
+abbrev pub networks_of : Data → Option (List Plmn)
+networks_of json = do
+  networks ← list_within 1 6 network_of json
+  given (first_has_mcc networks) networks
+
+-- ---- the schedule
+
+-- the code of a number: its place in a table
+abbrev pub code_in : List ℕ → Data → Option ℕ
+code_in table json = do
+  z ← whole_of json
+  position (λ n. int_eq (pos n) z) table
+
+-- the periods, in frames
+abbrev pub periods : List ℕ
+periods = 8 ∷ 16 ∷ 32 ∷ 64 ∷ 128 ∷ 256 ∷ 512 ∷ []
+
+-- the lengths of the window, in milliseconds
+abbrev pub windows : List ℕ
+windows = 1 ∷ 2 ∷ 5 ∷ 10 ∷ 15 ∷ 20 ∷ 40 ∷ []
+
+-- an entry: the code of its period, and the codes of at most 31 blocks
+abbrev pub message_of : Data → Option SiMessage
+message_of json = do
+  period ← at_key (code_in periods) (codes "period") json
+  sibs ← at_key (list_within 0 31 (natural_within 0 79)) (codes "sibs") json
+  Some (record { period = period; sibs = sibs })
+
+-- ---- the block; a description has no TDD-Config and no extension
+
+unfoldable pub sib1_of : Data → Option Sib1
+sib1_of json = do
+  plmns ← at_key networks_of (codes "plmns") json
+  tac ← at_key (natural_within 0 65535) (codes "tac") json
+  cell ← at_key (natural_within 0 268435455) (codes "cell") json
+  barred ← at_key as_bool (codes "barred") json
+  intra ← at_key as_bool (codes "intra") json
+  csg ← at_key as_bool (codes "csg") json
+  csg_identity ← at_key (null_or (natural_within 0 134217727)) (codes "csg_identity") json
+  q_rx ← at_key (whole_within (negsuc 69) (negsuc 21)) (codes "q_rx") json
+  q_offset ← at_key (null_or (natural_within 1 8)) (codes "q_offset") json
+  p_max ← at_key (null_or (whole_within (negsuc 29) (pos 33))) (codes "p_max") json
+  band ← at_key (natural_within 1 64) (codes "band") json
+  scheduling ← at_key (list_within 1 32 message_of) (codes "scheduling") json
+  window ← at_key (code_in windows) (codes "window") json
+  tag ← at_key (natural_within 0 31) (codes "tag") json
+  Some (record {
+    plmns = plmns;
+    tac = tac;
+    cell = cell;
+    barred = barred;
+    intra = intra;
+    csg = csg;
+    csg_identity = csg_identity;
+    q_rx = q_rx;
+    q_offset = q_offset;
+    p_max = p_max;
+    band = band;
+    scheduling = scheduling;
+    tdd = None;
+    window = window;
+    tag = tag;
+    extended = false;
+  })

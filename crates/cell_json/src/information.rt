@@ -1,0 +1,240 @@
+//! SystemInformationBlockType1 of a description.
+
+ghost use Rattle.std.specs.Prelude.{◌≡◌, ◌≤◌, ◌<◌, ◌^◌, ◌≤ℤ◌, pos, negsuc, All, IfSome, length};
+ghost use Rattle.serde_json.specs.View.{view, items_view};
+ghost use Rattle.lte_types.specs.Ranges.{AreDigits, HasDigits, IsValidPlmn, IsValidMessage, FirstHasMcc, IsValid};
+ghost use Rattle.cell_json.specs.Kinds.{natural_within as natural_of, whole_within as whole_of, null_or, each, list_within, at_key};
+ghost use Rattle.cell_json.specs.Information.{mcc_of, mnc_in, mnc_of as network_code_of, network_of, networks_of, code_in, periods, windows};
+ghost use Rattle.cell_json.specs.Information.{digit_of as digit_in, two_digits as two_in, three_digits as three_in, message_of as entry_of, first_has_mcc as first_of, sib1_of as block_of};
+
+use crate::kinds::{
+    items_within, natural_at, natural_or_null_at, natural_within, small_within, truth,
+};
+use lte_types::{Mnc, Plmn, Plmns, Schedule, SiMessage, Sib1, Sibs};
+use serde_json::Value;
+
+// A digit by its code.
+fn digit_of(code: u8) -> Option<u8>
+    ensures { result ≡ digit_in code }
+{
+    if code.is_ascii_digit() {
+        Some(code - b'0')
+    } else {
+        None
+    }
+}
+
+fn two_digits(text: &str) -> Option<[u8; 2]>
+    ensures { result ≡ two_in text.now }
+{
+    match text.as_bytes() {
+        [a, b] => Some([digit_of(*a)?, digit_of(*b)?]),
+        _ => None,
+    }
+}
+
+fn three_digits(text: &str) -> Option<[u8; 3]>
+    ensures { result ≡ three_in text.now }
+{
+    match text.as_bytes() {
+        [a, b, c] => Some([digit_of(*a)?, digit_of(*b)?, digit_of(*c)?]),
+        _ => None,
+    }
+}
+
+// A mobile country code or null.
+fn mcc_or_null(value: &Value) -> Option<Option<[u8; 3]>>
+    ensures { result ≡ null_or mcc_of (view value.now) }
+{
+    if value.is_null() {
+        return Some(None);
+    }
+    Some(Some(three_digits(value.as_str()?)?))
+}
+
+// A mobile network code by its text.
+fn mnc_in_text(text: &str) -> Option<Mnc>
+    ensures { result ≡ mnc_in text.now }
+{
+    if text.len() == 2 {
+        Some(Mnc::Two(two_digits(text)?))
+    } else {
+        Some(Mnc::Three(three_digits(text)?))
+    }
+}
+
+fn mnc_of(value: &Value) -> Option<Mnc>
+    ensures { result ≡ network_code_of (view value.now) }
+{
+    mnc_in_text(value.as_str()?)
+}
+
+// An identity of a network.
+fn plmn_of(value: &Value) -> Option<Plmn>
+    ensures { result ≡ network_of (view value.now) }
+{
+    Some(Plmn {
+        mcc: mcc_or_null(value.get("mcc")?)?,
+        mnc: mnc_of(value.get("mnc")?)?,
+        reserved: truth(value, "reserved")?,
+    })
+}
+
+// The code of a period by its frames.
+fn period_of(value: &Value) -> Option<u8>
+    ensures { result ≡ code_in periods (view value.now) }
+{
+    match value.as_i64()? {
+        8 => Some(0),
+        16 => Some(1),
+        32 => Some(2),
+        64 => Some(3),
+        128 => Some(4),
+        256 => Some(5),
+        512 => Some(6),
+        _ => None,
+    }
+}
+
+// The code of a window by its milliseconds.
+fn window_of(value: &Value) -> Option<u8>
+    ensures { result ≡ code_in windows (view value.now) }
+{
+    match value.as_i64()? {
+        1 => Some(0),
+        2 => Some(1),
+        5 => Some(2),
+        10 => Some(3),
+        15 => Some(4),
+        20 => Some(5),
+        40 => Some(6),
+        _ => None,
+    }
+}
+
+// 1 to 6 identities of networks, of which the first has a country code.
+fn plmns_of(value: &Value) -> Option<Plmns>
+    ensures { result ≡ networks_of (view value.now) }
+{
+    let plmns = plmns_in(items_within(value, 1, 6)?)?;
+    if !first_has_mcc(&plmns) {
+        return None;
+    }
+    Some(plmns)
+}
+
+fn first_has_mcc(plmns: &Plmns) -> bool
+    ensures { result ≡ first_of plmns.now }
+{
+    match plmns.slice() {
+        [first, ..] => first.mcc.is_some(),
+        [] => false,
+    }
+}
+
+// Each item as an identity.
+fn plmns_in(items: &[Value]) -> Option<Plmns>
+    requires { length items.now ≤ 6 }
+    ensures { result ≡ each network_of (items_view items.now) }
+{
+    let mut plmns = Plmns::new();
+    for item in items {
+        plmns.push(plmn_of(item)?);
+    }
+    Some(plmns)
+}
+
+// Each item as the code of a block.
+fn sibs_in(items: &[Value]) -> Option<Sibs>
+    requires { length items.now ≤ 31 }
+    ensures { result ≡ each (natural_of 0 79) (items_view items.now) }
+{
+    let mut sibs = Sibs::new();
+    for item in items {
+        sibs.push(natural_within(item, 0, 79)? as u8);
+    }
+    Some(sibs)
+}
+
+// At most 31 of them.
+fn sibs_of(value: &Value) -> Option<Sibs>
+    ensures { result ≡ list_within 0 31 (natural_of 0 79) (view value.now) }
+{
+    sibs_in(items_within(value, 0, 31)?)
+}
+
+// An entry of the schedule.
+fn message_of(value: &Value) -> Option<SiMessage>
+    ensures { result ≡ entry_of (view value.now) }
+{
+    Some(SiMessage {
+        period: period_of(value.get("period")?)?,
+        sibs: sibs_of(value.get("sibs")?)?,
+    })
+}
+
+// Each item as an entry.
+fn schedule_in(items: &[Value]) -> Option<Schedule>
+    requires { length items.now ≤ 32 }
+    ensures { result ≡ each entry_of (items_view items.now) }
+{
+    let mut schedule = Schedule::new();
+    for item in items {
+        schedule.push(message_of(item)?);
+    }
+    Some(schedule)
+}
+
+// 1 to 32 of them.
+fn schedule_of(value: &Value) -> Option<Schedule>
+    ensures { result ≡ list_within 1 32 entry_of (view value.now) }
+{
+    schedule_in(items_within(value, 1, 32)?)
+}
+
+// p-Max at its key, or null.
+fn p_max_at(value: &Value, key: &str) -> Option<Option<i8>>
+    ensures { result ≡ at_key (null_or (whole_of (negsuc 29) (pos 33))) key.now (view value.now) }
+{
+    let inner = value.get(key)?;
+    if inner.is_null() {
+        return Some(None);
+    }
+    Some(Some(small_within(inner, -30, 33)?))
+}
+
+// q-RxLevMinOffset at its key, or null.
+fn q_offset_at(value: &Value, key: &str) -> Option<Option<u8>>
+    ensures { result ≡ at_key (null_or (natural_of 1 8)) key.now (view value.now) }
+{
+    let inner = value.get(key)?;
+    if inner.is_null() {
+        return Some(None);
+    }
+    Some(Some(natural_within(inner, 1, 8)? as u8))
+}
+
+/// SystemInformationBlockType1 with each value in its range.
+#[tactic(auto, unfolding(crate::specs::Information::sib1_of))]
+pub(crate) fn sib1_of(value: &Value) -> Option<Sib1>
+    ensures { result ≡ block_of (view value.now) }
+{
+    Some(Sib1 {
+        plmns: plmns_of(value.get("plmns")?)?,
+        tac: natural_at(value, "tac", 0, 65_535)? as u16,
+        cell: natural_at(value, "cell", 0, 268_435_455)?,
+        barred: truth(value, "barred")?,
+        intra: truth(value, "intra")?,
+        csg: truth(value, "csg")?,
+        csg_identity: natural_or_null_at(value, "csg_identity", 0, 134_217_727)?,
+        q_rx: small_within(value.get("q_rx")?, -70, -22)?,
+        q_offset: q_offset_at(value, "q_offset")?,
+        p_max: p_max_at(value, "p_max")?,
+        band: natural_at(value, "band", 1, 64)? as u8,
+        scheduling: schedule_of(value.get("scheduling")?)?,
+        tdd: None,
+        window: window_of(value.get("window")?)?,
+        tag: natural_at(value, "tag", 0, 31)? as u8,
+        extended: false,
+    })
+}
