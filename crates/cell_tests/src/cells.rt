@@ -17,16 +17,29 @@ const ROOM: usize = 16_777_216;
 
 // A plain cell: identity 0, all from the first sample on, and the gain 1.
 const PLAIN: &str = r#"{"identity": 0, "sfn": 0, "offset": 0, "samples": 57600, "gain": [1, 0],
- "duration": "normal", "resource": "one", "spare": 0}"#;
+ "duration": "normal", "resource": "one", "spare": 0"#;
+
+// The rest of a description: what grants system information, and the information itself.
+const REST: &str = r#", "cfi": 2, "start": 0, "blocks": 6, "mcs": 4, "column": 2, "sib1":
+ {"plmns": [{"mcc": "001", "mnc": "01", "reserved": false}], "tac": 1, "cell": 1, "barred": false, "intra": true,
+ "csg": false, "csg_identity": null, "q_rx": -70, "q_offset": null, "p_max": null, "band": 1,
+ "scheduling": [{"period": 8, "sibs": []}], "window": 1, "tag": 0}}"#;
 
 // Samples 832 to 835 of what it sends.
 const SENT: [u8; 16] = [
     104, 0, 184, 255, 27, 0, 249, 255, 157, 255, 69, 0, 144, 255, 1, 0,
 ];
 
-// How a command ends over a text, and what it wrote.
-fn output_of_text(alloc: Global, word: &str, text: &str) -> Result<(Status, Vec<u8>), AllocError> {
-    output_of(alloc, word, text.as_bytes().to_vec(alloc)?)
+// How `transmit` ends over a text, and what it wrote.
+fn sent_by_text(alloc: Global, text: &str) -> Result<(Status, Vec<u8>), AllocError> {
+    output_of(alloc, "transmit", text.as_bytes().to_vec(alloc)?)
+}
+
+// The same over the front of a description and its rest.
+fn sent_by(alloc: Global, front: &str) -> Result<(Status, Vec<u8>), AllocError> {
+    let mut text = front.as_bytes().to_vec(alloc)?;
+    text.extend_from_slice(REST.as_bytes())?;
+    output_of(alloc, "transmit", text)
 }
 
 #[test]
@@ -106,7 +119,7 @@ fn calls_of_search_that_fail(rt: HostRuntime) -> Result<(), Fail> {
 
 #[test]
 fn a_sent_cell_is_found(rt: HostRuntime) -> Result<(), Fail> {
-    let (status, bytes) = output_of_text(rt.alloc(), "transmit", PLAIN)?;
+    let (status, bytes) = sent_by(rt.alloc(), PLAIN)?;
     assert_eq!(rt; status, Status::Done);
     assert_eq!(rt; bytes.len(), 230_400);
     // Samples 832 to 835, made by a second program.
@@ -124,7 +137,10 @@ fn a_sent_cell_is_found(rt: HostRuntime) -> Result<(), Fail> {
     assert_eq!(rt; status, Status::Done);
     assert_eq!(rt;
         taken.as_slice(),
-        b"cells 1\ncell 0 at 0 sfn 0 ports 1 n6 phich normal one spare 0\nsib1 none no-search-space 2\n".as_slice()
+        b"cells 1\ncell 0 at 0 sfn 0 ports 1 n6 phich normal one spare 0\n\
+sib1 tac 1 cell 1 open allowed csg 0 - rx -70 offset - pmax - band 1 window ms1 tag 0 tdd - extension 0\n\
+plmn 001 01 free\nsi rf8 -\n"
+            .as_slice()
     );
     Ok(())
 }
@@ -134,20 +150,39 @@ fn a_cell_that_begins_before_the_recording_is_found_with_errors_at_the_bound(
     rt: HostRuntime,
 ) -> Result<(), Fail> {
     let text = r#"{"identity": 503, "sfn": 5, "offset": 19199, "samples": 57600, "gain": [0, 28],
- "duration": "normal", "resource": "one", "spare": 0}"#;
-    let (status, mut bytes) = output_of_text(rt.alloc(), "transmit", text)?;
+ "duration": "normal", "resource": "one", "spare": 0"#;
+    let (status, mut bytes) = sent_by(rt.alloc(), text)?;
     assert_eq!(rt; status, Status::Done);
     add_errors(&mut bytes, 56);
     let (status, taken) = output_of(rt.alloc(), "search", bytes)?;
     assert_eq!(rt; status, Status::Done);
-    let line = "cell 503 at 1 sfn 6 ports 1 n6 phich normal one spare 0\nsib1 none no-search-space 2\n";
+    let line = "cell 503 at 1 sfn 6 ports 1 n6 phich normal one spare 0\nsib1 tac 1 cell 1 ";
     assert!(rt; contains(&taken, line.as_bytes()));
+    Ok(())
+}
+
+#[test]
+fn a_usual_cell_is_found_with_its_schedule(rt: HostRuntime) -> Result<(), Fail> {
+    let text = r#"{"identity": 21, "sfn": 101, "offset": 300, "samples": 57600, "gain": [2, 1],
+ "duration": "normal", "resource": "one", "spare": 0, "cfi": 2, "start": 1, "blocks": 4, "mcs": 6, "column": 2, "sib1":
+ {"plmns": [{"mcc": "262", "mnc": "042", "reserved": false}], "tac": 77, "cell": 258, "barred": false, "intra": true,
+ "csg": false, "csg_identity": null, "q_rx": -64, "q_offset": null, "p_max": 23, "band": 3,
+ "scheduling": [{"period": 8, "sibs": []}, {"period": 16, "sibs": [0]}, {"period": 32, "sibs": [1]},
+ {"period": 64, "sibs": [2, 3]}], "window": 20, "tag": 9}}"#;
+    let (status, bytes) = sent_by_text(rt.alloc(), text)?;
+    assert_eq!(rt; status, Status::Done);
+    let (status, taken) = output_of(rt.alloc(), "search", bytes)?;
+    assert_eq!(rt; status, Status::Done);
+    let lines = "cell 21 at 18900 sfn 102 ports 1 n6 phich normal one spare 0\n\
+sib1 tac 77 cell 258 open allowed csg 0 - rx -64 offset - pmax 23 band 3 window ms20 tag 9 tdd - extension 0\n\
+plmn 262 042 free\nsi rf8 -\nsi rf16 0\nsi rf32 1\nsi rf64 2,3\n";
+    assert!(rt; contains(&taken, lines.as_bytes()));
     Ok(())
 }
 
 // The recording that a description sends, each component off by this much, against its sign.
 fn opposed_recording(alloc: Global, text: &str, error: i16) -> Result<Vec<u8>, AllocError> {
-    let (_, mut bytes) = output_of_text(alloc, "transmit", text)?;
+    let (_, mut bytes) = sent_by(alloc, text)?;
     oppose(&mut bytes, error);
     Ok(bytes)
 }
@@ -159,19 +194,19 @@ fn cells_are_found_with_errors_at_the_bound_against_the_signal(
     for (text, error, line) in [
         (
             r#"{"identity": 271, "sfn": 77, "offset": 18600, "samples": 57600, "gain": [1, 0],
- "duration": "extended", "resource": "two", "spare": 5}"#,
+ "duration": "extended", "resource": "two", "spare": 5"#,
             2,
             "cell 271 at 600 sfn 78 ports 1 n6 phich extended two spare 5\n",
         ),
         (
             r#"{"identity": 502, "sfn": 1022, "offset": 400, "samples": 60000, "gain": [-3, 4],
- "duration": "normal", "resource": "half", "spare": 1023}"#,
+ "duration": "normal", "resource": "half", "spare": 1023"#,
             10,
             "cell 502 at 18800 sfn 1023 ports 1 n6 phich normal half spare 1023\n",
         ),
         (
             r#"{"identity": 1, "sfn": 4, "offset": 0, "samples": 57600, "gain": [-19, -20],
- "duration": "normal", "resource": "oneSixth", "spare": 512}"#,
+ "duration": "normal", "resource": "oneSixth", "spare": 512"#,
             55,
             "cell 1 at 0 sfn 4 ports 1 n6 phich normal oneSixth spare 512\n",
         ),
@@ -187,8 +222,8 @@ fn cells_are_found_with_errors_at_the_bound_against_the_signal(
 #[test]
 fn the_frame_number_goes_round(rt: HostRuntime) -> Result<(), Fail> {
     let text = r#"{"identity": 0, "sfn": 1023, "offset": 1, "samples": 57600, "gain": [1, 0],
- "duration": "extended", "resource": "oneSixth", "spare": 1023}"#;
-    let (status, bytes) = output_of_text(rt.alloc(), "transmit", text)?;
+ "duration": "extended", "resource": "oneSixth", "spare": 1023"#;
+    let (status, bytes) = sent_by(rt.alloc(), text)?;
     assert_eq!(rt; status, Status::Done);
     let (status, taken) = output_of(rt.alloc(), "search", bytes)?;
     assert_eq!(rt; status, Status::Done);
@@ -252,23 +287,26 @@ fn certificates_into_a_sink_that_fails_leave_a_front(rt: HostRuntime) -> Result<
 
 #[test]
 fn descriptions_that_are_refused(rt: HostRuntime) -> Result<(), Fail> {
-    for (text, cause) in [
-        ("{}", CellError::Form),
-        ("", CellError::Form),
-        (&PLAIN[..100], CellError::Form),
+    for text in ["{}", "", &PLAIN[..100]] {
+        let (status, taken) = sent_by_text(rt.alloc(), text)?;
+        assert_eq!(rt; status, Status::BadCell(CellError::Form), "{text}");
+        assert_eq!(rt; status.code(), 9);
+        assert!(rt; taken.is_empty());
+    }
+    for (front, cause) in [
         (
             r#"{"identity": 504, "sfn": 1024, "offset": 0, "samples": 57600, "gain": [1, 0],
- "duration": "normal", "resource": "one", "spare": 0}"#,
+ "duration": "normal", "resource": "one", "spare": 0"#,
             CellError::Sfn,
         ),
         (
             r#"{"identity": 504, "sfn": 0, "offset": 0, "samples": 57600, "gain": [1, 0],
- "duration": "normal", "resource": "one", "spare": 1024}"#,
+ "duration": "normal", "resource": "one", "spare": 1024"#,
             CellError::Identity,
         ),
     ] {
-        let (status, taken) = output_of_text(rt.alloc(), "transmit", text)?;
-        assert_eq!(rt; status, Status::BadCell(cause), "{text}");
+        let (status, taken) = sent_by(rt.alloc(), front)?;
+        assert_eq!(rt; status, Status::BadCell(cause), "{front}");
         assert_eq!(rt; status.code(), 9);
         assert!(rt; taken.is_empty());
     }

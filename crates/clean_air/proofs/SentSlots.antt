@@ -16,11 +16,11 @@ use Rattle.grid_map.specs.Scrambling.{pbch_c_init}
 use Rattle.grid_map.proofs.Points.{length-pbch_places, places_inside, index_of_place}
 use Rattle.cell_tx.specs.declared.cell.CellPlan.{CellPlan}
 use Rattle.cell_tx.specs.Block.{broadcast_word, broadcast_bit, broadcast_point}
-use Rattle.cell_tx.specs.Grid.{element}
+use Rattle.cell_tx.specs.Grid.{is_broadcast, element}
 use Rattle.cell_tx.specs.Clean.{IsClean, start_of, number_at_start}
 use Rattle.cell_tx.specs.Rows.{reference_if}
 use Rattle.cell_tx.proofs.Bounds.{element-square}
-use Rattle.cell_tx.proofs.Elements.{element_of_broadcast, broadcast_found}
+use Rattle.cell_tx.proofs.Elements.{element_of_channel, channel_of_broadcast}
 use Rattle.lte_types.specs.Numerology.{normal, useful_start}
 use Rattle.explain.specs.Frame.{frame_at, seen_slot, broadcast_slot}
 use Rattle.budget.specs.Received.{IsReceived, samples_from}
@@ -71,20 +71,21 @@ record IsBroadcastPlace (identity symbol k : ℕ) : Type 0 where
   low : 7 ≤ symbol
   high : symbol < 11
   free : is_reference identity (symbol % 7) k ≡ false
+  here : is_broadcast identity 0 symbol k ≡ true
 
 broadcast_place : (identity : ℕ) (p : Place) → is_pbch identity p ≡ true → IsBroadcastPlace identity p.symbol p.k
 unfolding is_pbch is_reference first_subcarrier
-broadcast_place identity p e = record { low = grind (arith, nat_tests); high = grind (arith, nat_tests); free = grind (arith, nat_tests) }
+broadcast_place identity p e = record { low = grind (arith, nat_tests); high = grind (arith, nat_tests); free = grind (arith, nat_tests); here = e }
 
 not_there : (symbol row : ℕ) (a : Bool) → 7 ≤ symbol → row < 7 → (nat_eq symbol row && a) ≡ false
 not_there symbol row a low small = let e : nat_eq symbol row ≡ false = grind (arith, nat_tests) in rw e refl
 
-point_here : (plan : CellPlan) (number symbol k i : ℕ) → IsBroadcastPlace plan.identity symbol k → i ≡ pbch_index plan.identity (place symbol k) → i < 240 →
+point_here : (plan : CellPlan) (number symbol k i : ℕ) → IsBroadcastPlace plan.identity symbol k → i ≡ pbch_index plan.identity (place symbol k) →
     element plan number 0 symbol k ≡ broadcast_point plan number i
-point_here plan number symbol k i at e inside =
+point_here plan number symbol k i at e =
     let free : reference_if plan.identity (2 * 0 + symbol / 7) (symbol % 7) k ≡ None = rw at.free refl in
-    element_of_broadcast plan number 0 symbol k free (not_there symbol 6 (is_middle k) at.low (omega arith)) (not_there symbol 5 (is_middle k) at.low (omega arith))
-    ∙ sym (broadcast_found plan number 0 symbol k i e refl inside)
+    element_of_channel plan number 0 symbol k free (not_there symbol 6 (is_middle k) at.low (omega arith)) (not_there symbol 5 (is_middle k) at.low (omega arith))
+    ∙ channel_of_broadcast plan number 0 symbol k at.here ∙ ap (broadcast_point plan number) (sym e)
 
 pub points_stand : (plan : CellPlan) (number i : ℕ) → i < 240 →
     slot_grid plan number ((pbch_place plan.identity i).symbol % 7) (pbch_place plan.identity i).k ≡ broadcast_point plan number i
@@ -93,7 +94,7 @@ points_stand plan number i inside =
     let is = places_inside plan.identity i inside in
     let at = broadcast_place plan.identity p is in
     let symbol : 7 + p.symbol % 7 ≡ p.symbol = omega (arith, at.low, at.high) in
-    ap (λ n. element plan number 0 n p.k) symbol ∙ point_here plan number p.symbol p.k i at (sym (index_of_place plan.identity i inside)) inside
+    ap (λ n. element plan number 0 n p.k) symbol ∙ point_here plan number p.symbol p.k i at (sym (index_of_place plan.identity i inside))
 
 pub carries_word : (plan : CellPlan) (number : ℕ) →
     CarryWord (slot_grid plan number) (pbch_places plan.identity) (pbch_c_init plan.identity) (480 * (number % 4)) (broadcast_word plan number)

@@ -1,5 +1,5 @@
 -- The symbols of a clean recording: each is received as it was sent.
-use Rattle.std.proofs.Common.{◌≡◌, ℕ, ◌+◌, ◌-◌, ◌*◌, ◌/◌, ◌%◌, ◌<◌, ◌≤◌, arith, refl, ap, subst, ◌∙◌, List, length, nat_eq, nat_le, nat_lt}
+use Rattle.std.proofs.Common.{◌≡◌, ℕ, ◌+◌, ◌-◌, ◌*◌, ◌/◌, ◌%◌, ◌<◌, ◌≤◌, arith, inl, inr, refl, ap, subst, ◌∙◌, List, length, nat_eq, nat_le, nat_lt}
 use Rattle.std.specs.Prelude.{if◌then◌else◌, ◌&&◌}
 use Rattle.std.proofs.lemmas.Bool.Decides.{nat_tests}
 use Rattle.cs_num.specs.declared.Cpx.{Cpx}
@@ -8,7 +8,6 @@ use Rattle.cs_num.specs.Complex.{IsWithin, nothing, times, sample_at, minus}
 use Rattle.fold128.specs.Symbol.{useful_at}
 use Rattle.lte_types.specs.declared.frame.Half.{Half}
 use Rattle.lte_types.specs.declared.frame.Half.TheVariants.{Zero, Five}
-use Rattle.grid_map.specs.Broadcast.{is_pbch}
 use Rattle.pss_search.specs.Correlation.{pss_grid}
 use Rattle.cell_tx.specs.declared.cell.CellPlan.{CellPlan}
 use Rattle.cell_tx.specs.Grid.{element}
@@ -17,6 +16,7 @@ use Rattle.cell_tx.specs.Sent.{Elements, sent}
 use Rattle.cell_tx.specs.Clean.{IsCleanOf, IsClean, start_of, number_at_start}
 use Rattle.cell_tx.proofs.Symbols.{frames_follow, useful_parts_stand}
 use Rattle.cell_tx.proofs.Elements.{no_reference}
+use Rattle.cell_tx.proofs.SignalSymbols.{no_channel}
 use Rattle.budget.specs.Received.{IsReceived, samples_from}
 use Rattle.budget.specs.Score.{sss_grid}
 use Rattle.budget.specs.Peak.{IsPrimaryAt}
@@ -50,15 +50,15 @@ middle k a b = grind (arith, nat_tests)
 
 -- symbol 6 of the subframe holds the primary signal alone
 pub primary_symbol : (plan : CellPlan) (sfn k : ℕ) (half : Half) → element plan sfn (subframe_of half) 6 k ≡ pss_grid (plan.identity % 3) k
-unfolding element is_pbch
-primary_symbol plan sfn k Zero = rw (no_reference plan.identity 6 k refl refl) (middle k _ nothing)
-primary_symbol plan sfn k Five = rw (no_reference plan.identity 6 k refl refl) (middle k _ nothing)
+unfolding element
+primary_symbol plan sfn k Zero = rw (no_reference plan.identity 6 k refl refl, no_channel plan sfn 0 6 k (inr refl)) (middle k _ nothing)
+primary_symbol plan sfn k Five = rw (no_reference plan.identity 6 k refl refl, no_channel plan sfn 5 6 k (inr refl)) (middle k _ nothing)
 
 -- symbol 5 holds the secondary signal alone
 pub secondary_symbol : (plan : CellPlan) (sfn k : ℕ) (half : Half) → element plan sfn (subframe_of half) 5 k ≡ sss_grid (plan.identity / 3) (plan.identity % 3) half k
-unfolding element is_pbch
-secondary_symbol plan sfn k Zero = rw (no_reference plan.identity 5 k refl refl) (middle k _ nothing)
-secondary_symbol plan sfn k Five = rw (no_reference plan.identity 5 k refl refl) (middle k _ nothing)
+unfolding element
+secondary_symbol plan sfn k Zero = rw (no_reference plan.identity 5 k refl refl, no_channel plan sfn 0 5 k (inl refl)) (middle k _ nothing)
+secondary_symbol plan sfn k Five = rw (no_reference plan.identity 5 k refl refl, no_channel plan sfn 5 5 k (inl refl)) (middle k _ nothing)
 
 -- a place of the recording is one at which a primary signal of the cell begins
 pub record IsTruePlace (offset t : ℕ) (half : Half) : Type 0 where
