@@ -6,11 +6,12 @@ how many the list holds the cell, how many have a hit at its place, and how many
 sent. PATTERN is a regular expression that the conditions have to match. Each number is an observation: nothing here is
 proved. The numbers are drawn with fixed seeds, so a second run prints the same table.
 
-A cell is five frames that `transmit` sends, with nothing but reference and synchronisation signals and the broadcast
-channel; in a full carrier every other resource element has a random QPSK point. Es/N0 is the energy of an element by that of
-the noise in one. Debian: python3-numpy, python3-scipy.
+A cell is five frames that `transmit` sends, with nothing but signals, the broadcast channel, the control format indicator
+and system information; in a full carrier every other resource element has a random QPSK point. Es/N0 is the energy of an
+element by that of the noise in one. Debian: python3-numpy, python3-scipy.
 """
 import json
+import pathlib
 import re
 import subprocess
 import sys
@@ -25,6 +26,7 @@ GAIN = 20                           # what is sent is multiplied by it
 ELEMENT = 2 * 90 ** 2               # energy of a QPSK or reference point
 TRANSFORM = 16                      # a grid value a comes out of a transform of 128 as 16a
 NEAR = 24                           # samples by which a found cell may stand elsewhere: paths move it
+PLAIN = json.loads((pathlib.Path(__file__).parent.parent / 'plain_cell.json').read_text())
 LOW_PASS = signal.firwin(129, 600e3, fs=radio.RATE)
 
 
@@ -37,7 +39,7 @@ class Sent:
         duration = ('normal', 'extended')[draw.integers(2)]
         resource = ('oneSixth', 'half', 'one', 'two')[draw.integers(4)]
         spare = int(draw.integers(1024))
-        plan = {'identity': identity, 'sfn': sfn, 'offset': offset_in_frame, 'samples': 5 * radio.FRAME,
+        plan = {**PLAIN, 'identity': identity, 'sfn': sfn, 'offset': offset_in_frame, 'samples': 5 * radio.FRAME,
                 'gain': [GAIN, 0], 'duration': duration, 'resource': resource, 'spare': spare}
         done = subprocess.run([program, 'transmit'], input=json.dumps(plan).encode(), stdout=subprocess.PIPE, check=True)
         self.start = radio.FRAME - offset_in_frame

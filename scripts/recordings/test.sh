@@ -30,7 +30,11 @@ says() { # says NAME WANTED < TEXT: the text is what is wanted
 }
 
 echo '{"identity": 217, "sfn": 100, "offset": 5000, "samples": 192000, "gain": [20, 0],
-       "duration": "normal", "resource": "two", "spare": 5}' | "$program" transmit > sent.ci16
+       "duration": "normal", "resource": "two", "spare": 5,
+       "cfi": 2, "start": 0, "blocks": 6, "mcs": 4, "column": 2,
+       "sib1": {"plmns": [{"mcc": "001", "mnc": "01", "reserved": false}], "tac": 1, "cell": 1, "barred": false,
+                "intra": true, "csg": false, "csg_identity": null, "q_rx": -70, "q_offset": null, "p_max": null,
+                "band": 1, "scheduling": [{"period": 8, "sibs": []}], "window": 1, "tag": 0}}' | "$program" transmit > sent.ci16
 "$program" search < sent.ci16 | finds 'a recording as it is'
 
 if has jq; then
