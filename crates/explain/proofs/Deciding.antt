@@ -105,10 +105,13 @@ entry_agrees a b hit entry agree long_a long_b span is = record {
   where
     few : entry.frame ≤ 7
     few = is.frame.inside.known
+
     same_identity : identity_of a hit ≡ identity_of b hit
     same_identity = identity_agrees deciding_length a b hit agree (let last = span.to_last in omega (arith, last))
+
     early : entry.start < frame_length
     early = subst (λ s. s < frame_length) (sym is.start) (start_early a hit)
+
     slot : (j : ℕ) → j ≤ 7 → broadcast_slot a entry.id entry.start j ≡ broadcast_slot b entry.id entry.start j
     slot j low = deciding_slot entry.start j 1 entry.id a b agree early (omega (arith, low)) (omega arith)
 
@@ -118,7 +121,8 @@ entries_agree : (a b : List Sample) (hit : Hit) (entries : List Entry) → Agree
 entries_agree a b hit entries agree long_a long_b span are = record {
   given = λ entry. (
     (λ inside. entry_agrees a b hit entry agree long_a long_b span ((are.given entry).0 inside)),
-    (λ is. (are.given entry).1 (entry_agrees b a hit entry (sym agree) long_b long_a span is)));
+    (λ is. (are.given entry).1 (entry_agrees b a hit entry (sym agree) long_b long_a span is)),
+  );
   by_phase = are.by_phase;
 }
 
@@ -129,14 +133,15 @@ each_agrees : (a b : List Sample) (hits : List Hit) (groups : List (List Entry))
 each_agrees a b [] [] agree long_a long_b span each = tt
 each_agrees a b [] (g ∷ gs) agree long_a long_b span each = each
 each_agrees a b (hit ∷ hits) [] agree long_a long_b span each = each
-each_agrees a b (hit ∷ hits) (g ∷ gs) agree long_a long_b span each =
-    (entries_agree a b hit g agree long_a long_b (span 0 hit (omega arith)) each.0,
-    each_agrees a b hits gs agree long_a long_b (λ k d l. span (suc k) d (omega (arith, l))) each.1)
+each_agrees a b (hit ∷ hits) (g ∷ gs) agree long_a long_b span each = (
+  entries_agree a b hit g agree long_a long_b (span 0 hit (omega arith)) each.0,
+  each_agrees a b hits gs agree long_a long_b (λ k d l. span (suc k) d (omega (arith, l))) each.1,
+)
 
 pub first_frames_decide : FirstFramesDecide
 first_frames_decide a b list long_a long_b agree explained = record {
   groups = explained.groups;
   each = subst (λ hits. AllZip (AreEntriesOf b) hits explained.groups) (hits_agree deciding_length a b agree (omega arith))
-    (each_agrees a b (hits_of a) explained.groups agree long_a long_b (listed_in_span a) explained.each);
+      (each_agrees a b (hits_of a) explained.groups agree long_a long_b (listed_in_span a) explained.each);
   listed = explained.listed;
 }

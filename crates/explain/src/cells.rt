@@ -22,9 +22,11 @@ use system_block::Decoders;
 
 /// Afterwards the list is that of the recording, whatever it held before. Each hit, by place, tells
 /// an identity and a start of frames, and the first of its whole frames 0 to 7 that has a master
-/// block at any phase gives an entry for each of its master blocks, by phase. An entry is dropped
-/// where a kept one before it has the same identity and an epoch at most 9 samples away, modulo
-/// 1,024 frames. The list is in order of start, identity and frame number. It takes no memory. (own)
+/// block at any phase gives an entry for each of its master blocks, by phase. An entry has the first fields
+/// of SystemInformationBlockType1 that one of its first eight whole frames of even number tells, or a
+/// `Sib1Reason` where none does. An entry is dropped where a kept one before it has the same identity and
+/// an epoch at most 9 samples away, modulo 1,024 frames. The list is in order of start, identity and frame
+/// number. It takes no memory. (own)
 pub fn explain(recording: &Recording, work: &mut Workspace, list: &mut EntryList)
     ensures { IsExplained recording.now list.new }
 {

@@ -1,5 +1,5 @@
 //! The list of the cells that a recording explains: the master blocks that its hits tell, each cell
-//! once.
+//! once, with its system information or why there is none.
 #![tactic(auto)]
 
 mod cells;

@@ -50,7 +50,7 @@ pub fn places_of_groups()
     ensures count { (identity : ℕ) (g : Reg) → IsTrue (is_group g) → length (group_places identity g) ≡ 4 }
     ensures in_order { (identity : ℕ) (g : Reg) (i j : ℕ) → IsTrue (is_group g) → i < j → j < 4 →
         (slice_index_or (group_places identity g) i (place 0 0)).k <
-            (slice_index_or (group_places identity g) j (place 0 0)).k }
+        (slice_index_or (group_places identity g) j (place 0 0)).k }
     ensures inside { (identity : ℕ) (g : Reg) (p : Place) → IsTrue (is_group g) → Contains (group_places identity g) p →
         (p.symbol ≡ g.symbol) × (p.k < 72) × ¬ IsTrue (is_kept identity p) }
     ensures apart { (identity : ℕ) (g h : Reg) (p : Place) → IsTrue (is_group g) → IsTrue (is_group h) →

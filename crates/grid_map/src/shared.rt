@@ -82,7 +82,7 @@ pub fn pdsch_order()
     ensures in_order { (identity cfi start blocks i j : ℕ) →
         i < j → j < length (pdsch_places identity cfi start blocks) →
         place_number (pdsch_place identity cfi start blocks i) <
-            place_number (pdsch_place identity cfi start blocks j) }
+        place_number (pdsch_place identity cfi start blocks j) }
     ensures one_to_one { (identity cfi start blocks i j : ℕ) →
         i < length (pdsch_places identity cfi start blocks) → j < length (pdsch_places identity cfi start blocks) →
         pdsch_place identity cfi start blocks i ≡ pdsch_place identity cfi start blocks j → i ≡ j }

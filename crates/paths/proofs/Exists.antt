@@ -18,6 +18,7 @@ begins_with_0 n cost u w a b lower = record { size = let s = a.size in omega (ar
     least [] size = absurd (omega (arith, size))
     least (false ∷ v) size = a.least v (omega (arith, size))
     least (true ∷ v) size = let h = b.least v (omega (arith, size)) in omega (arith, lower, h)
+
     first : (other : List Bool) → length other ≡ suc n → IsBefore other (false ∷ u) → cost (false ∷ u) < cost other
     first [] size before = absurd before
     first (false ∷ v) size before = a.first v (omega (arith, size)) before
@@ -31,6 +32,7 @@ begins_with_1 n cost u w a b lower = record { size = let s = b.size in omega (ar
     least [] size = absurd (omega (arith, size))
     least (false ∷ v) size = let h = a.least v (omega (arith, size)) in omega (arith, lower, h)
     least (true ∷ v) size = b.least v (omega (arith, size))
+
     first : (other : List Bool) → length other ≡ suc n → IsBefore other (true ∷ w) → cost (true ∷ w) < cost other
     first [] size before = absurd before
     first (false ∷ v) size before = let h = a.least v (omega (arith, size)) in omega (arith, lower, h)
@@ -42,6 +44,7 @@ some_first_least zero cost = ([], record { size = refl; least = least; first = f
     least : (other : List Bool) → length other ≡ 0 → cost [] ≤ cost other
     least [] size = omega arith
     least (b ∷ v) size = absurd (omega (arith, size))
+
     first : (other : List Bool) → length other ≡ 0 → IsBefore other [] → cost [] < cost other
     first [] size before = absurd before
     first (b ∷ v) size before = absurd before

@@ -24,13 +24,13 @@ best values k low high one two three first second = record {
 pub some_indicator : (values : List ℤ) → (indicator : ℕ) × IsIndicator values indicator
 some_indicator values = elim (cases_lt (cost values 2) (cost values 1)) [
   | inl a ↦ elim (cases_lt (cost values 3) (cost values 2)) [
-      | inl b ↦ (3, best values 3 (omega arith) (omega arith) (omega (arith, a, b)) (omega (arith, b)) (omega arith) (λ _. omega (arith, a, b)) (λ _. b))
-      | inr b ↦ (2, best values 2 (omega arith) (omega arith) (omega (arith, a)) (omega arith) b (λ _. a) (λ l. absurd (omega (arith, l))))
-    ]
+    | inl b ↦ (3, best values 3 (omega arith) (omega arith) (omega (arith, a, b)) (omega (arith, b)) (omega arith) (λ _. omega (arith, a, b)) (λ _. b))
+    | inr b ↦ (2, best values 2 (omega arith) (omega arith) (omega (arith, a)) (omega arith) b (λ _. a) (λ l. absurd (omega (arith, l))))
+  ]
   | inr a ↦ elim (cases_lt (cost values 3) (cost values 1)) [
-      | inl b ↦ (3, best values 3 (omega arith) (omega arith) (omega (arith, b)) (omega (arith, a, b)) (omega arith) (λ _. b) (λ _. omega (arith, a, b)))
-      | inr b ↦ (1, best values 1 (omega arith) (omega arith) (omega arith) a b (λ l. absurd (omega (arith, l))) (λ l. absurd (omega (arith, l))))
-    ]
+    | inl b ↦ (3, best values 3 (omega arith) (omega arith) (omega (arith, b)) (omega (arith, a, b)) (omega arith) (λ _. b) (λ _. omega (arith, a, b)))
+    | inr b ↦ (1, best values 1 (omega arith) (omega arith) (omega arith) a b (λ l. absurd (omega (arith, l))) (λ l. absurd (omega (arith, l))))
+  ]
 ]
 
 -- and no other
