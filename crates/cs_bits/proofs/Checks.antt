@@ -43,7 +43,7 @@ crc24a-fits message =
 
 -- ---- the message and the check, of both
 
-message_is : (width : ℕ) (message check : List Bool) → length check ≡ width → message_of width (message ++ check) ≡ message
+pub message_is : (width : ℕ) (message check : List Bool) → length check ≡ width → message_of width (message ++ check) ≡ message
 message_is width message check size =
     let long = length-append message check in
     let e : length (message ++ check) - width ≡ length message = omega (arith, long, size) in

@@ -1,9 +1,10 @@
 -- Steps, bounds and laws of finite sums.
-use Rattle.std.proofs.Common.{◌≡◌, ℕ, zero, suc, ◌+◌, ◌*◌, ◌<◌, ◌≤◌, arith, refl, ap, ◌∙◌, sym, subst, add-one, ℤ, pos, ◌+ℤ◌, ◌*ℤ◌, inl, inr}
-use Rattle.std.proofs.lemmas.Bool.{cases_lt}
+use Rattle.std.proofs.Common.{◌≡◌, ◌≢◌, ℕ, zero, suc, ◌+◌, ◌*◌, ◌<◌, ◌≤◌, Bool, true, false, arith, refl, ap, ap₂, ◌∙◌, sym, subst, add-one, ℤ, pos, ◌+ℤ◌, ◌*ℤ◌, inl, inr}
+use Rattle.std.proofs.lemmas.Bool.{cases_lt, false≢true}
 use Rattle.std.proofs.lemmas.Int.{ints}
-use Rattle.std.specs.Prelude.{nat_abs}
+use Rattle.std.specs.Prelude.{◌||◌, nat_abs}
 use Rattle.finite.specs.Sums.{sum_below, total_below}
+use Rattle.finite.specs.Tests.{any_below}
 use Rattle.finite.proofs.Integers.{abs-sum, mul-distributes}
 
 -- ---- whole numbers
@@ -92,6 +93,29 @@ total_below_split n (suc m) f =
     let h = total_below_split n m f in
     subst (λ l. total_below l f ≡ total_below n f + (total_below m (λ k. f (n + k)) + f (n + m))) (sym e) (omega (arith, h))
 
+-- as whole numbers
+pub sum_below_pos : (n : ℕ) (f : ℕ → ℕ) → sum_below n (λ k. pos (f k)) ≡ pos (total_below n f)
+unfolding sum_below total_below
+sum_below_pos zero f = refl
+sum_below_pos (suc n) f = let before = sum_below_pos n f in omega (arith, ints, before)
+
+-- one term is greater by c, and all others are the same
+pub total_below_changed : (n k c : ℕ) (f g : ℕ → ℕ) → k < n → f k ≡ g k + c → ((j : ℕ) → j ≢ k → f j ≡ g j) →
+    total_below n f ≡ total_below n g + c
+unfolding total_below
+total_below_changed zero k c f g inside here others = absurd (omega (arith, inside))
+total_below_changed (suc n) k c f g inside here others = elim (cases_lt k n) [
+  | inl lower ↦
+      let before = total_below_changed n k c f g lower here others in
+      let last = others n (λ e. omega (arith, e, lower)) in
+      omega (arith, before, last)
+  | inr past ↦
+      let e : k ≡ n = omega (arith, inside, past) in
+      let before = total_below_same n f g (λ j l. others j (λ d. omega (arith, d, l, e))) in
+      let last = subst (λ i. f i ≡ g i + c) e here in
+      omega (arith, before, last)
+]
+
 -- a sum is 0 exactly where all of it is
 pub total_zero : (n : ℕ) (f : ℕ → ℕ) → ((k : ℕ) → k < n → f k ≡ 0) → total_below n f ≡ 0
 unfolding total_below
@@ -129,3 +153,31 @@ total_some (suc n) k f l h = elim (cases_lt k n) [
 
     last : (a b : ℕ) → 1 ≤ b → 1 ≤ a + b
     last a b h = omega (arith, h)
+
+-- ---- numbers that are not 0
+
+-- whether a number is not 0
+abbrev pub positive : ℕ → Bool
+positive zero = false
+positive (suc n) = true
+
+pub positive_from : (n : ℕ) → 1 ≤ n → positive n ≡ true
+positive_from zero h = absurd (omega (arith, h))
+positive_from (suc n) h = refl
+
+pub positive_at : (n : ℕ) → positive n ≡ true → 1 ≤ n
+positive_at zero e = absurd (false≢true e)
+positive_at (suc n) e = omega arith
+
+pub positive-sum : (a b : ℕ) → positive (a + b) ≡ (positive a || positive b)
+positive-sum zero b = ap positive (omega arith)
+positive-sum (suc a) b = let e : suc a + b ≡ suc (a + b) = omega arith in ap positive e
+
+-- a sum is not 0 exactly where one of its terms is not
+pub total_below-positive : (n : ℕ) (f : ℕ → ℕ) (p : ℕ → Bool) → ((k : ℕ) → k < n → positive (f k) ≡ p k) →
+    positive (total_below n f) ≡ any_below n p
+unfolding total_below any_below
+total_below-positive zero f p each = refl
+total_below-positive (suc n) f p each =
+    positive-sum (total_below n f) (f n)
+    ∙ ap₂ ◌||◌ (total_below-positive n f p (λ k l. each k (omega (arith, l)))) (each n (omega arith))

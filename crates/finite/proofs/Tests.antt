@@ -1,7 +1,7 @@
 -- What tests of the numbers below n tell.
-use Rattle.std.proofs.Common.{◌≡◌, ℕ, zero, suc, ◌+◌, ◌<◌, arith, refl, ap, ◌∙◌, sym, subst, Bool, true, false, nat_lt, add-one}
+use Rattle.std.proofs.Common.{◌≡◌, ℕ, zero, suc, ◌+◌, ◌<◌, arith, refl, ap, ap₂, ◌∙◌, sym, subst, inl, inr, Bool, true, false, nat_lt, add-one}
 use Rattle.std.specs.Prelude.{◌&&◌, ◌||◌}
-use Rattle.std.proofs.lemmas.Bool.{ltb-true, ltb-false, and_parts, or_left, or_right}
+use Rattle.std.proofs.lemmas.Bool.{ltb-true, ltb-false, and_parts, and_from, or_cases, or_left, or_right}
 use Rattle.std.proofs.Math.Bool.{true≢false}
 use Rattle.finite.specs.Tests.{any_below, every_below}
 
@@ -38,6 +38,21 @@ any_below_all (suc n) p h =
     let here = h n (omega arith) in
     rw (before, here) refl
 
+-- one that passes, where some number does
+pub any_below_some : (n : ℕ) (p : ℕ → Bool) → any_below n p ≡ true → (k : ℕ) × (k < n) × (p k ≡ true)
+unfolding any_below
+any_below_some zero p h = absurd (true≢false (sym h))
+any_below_some (suc n) p h = elim (or_cases (any_below n p) (p n) h) [
+  | inl before ↦ let (k, below, is) = any_below_some n p before in (k, omega (arith, below), is)
+  | inr here ↦ (n, omega arith, here)
+]
+
+-- tests that agree
+pub any_below_same : (n : ℕ) (p q : ℕ → Bool) → ((k : ℕ) → k < n → p k ≡ q k) → any_below n p ≡ any_below n q
+unfolding any_below
+any_below_same zero p q h = refl
+any_below_same (suc n) p q h = ap₂ ◌||◌ (any_below_same n p q (λ k l. h k (omega (arith, l)))) (h n (omega arith))
+
 -- ---- every number passes
 
 -- what was computed for each number below n, read at one of them
@@ -52,3 +67,16 @@ every_below_at (suc n) p e k l = settle (nat_lt k n) refl (λ below. every_below
     settle : (b : Bool) → nat_lt k n ≡ b → (k < n → p k ≡ true) → p k ≡ true
     settle true h before = before (ltb-true k n h)
     settle false h before = let s : n ≡ k = omega (arith, ltb-false k n h) in subst (λ i. p i ≡ true) s parts.1
+
+-- where each passes, every number does
+pub every_below_all : (n : ℕ) (p : ℕ → Bool) → ((k : ℕ) → k < n → p k ≡ true) → every_below n p ≡ true
+unfolding every_below
+every_below_all zero p h = refl
+every_below_all (suc n) p h =
+    and_from (every_below n p) (p n) (every_below_all n p (λ k l. h k (omega (arith, l)))) (h n (omega arith))
+
+-- tests that agree
+pub every_below_same : (n : ℕ) (p q : ℕ → Bool) → ((k : ℕ) → k < n → p k ≡ q k) → every_below n p ≡ every_below n q
+unfolding every_below
+every_below_same zero p q h = refl
+every_below_same (suc n) p q h = ap₂ ◌&&◌ (every_below_same n p q (λ k l. h k (omega (arith, l)))) (h n (omega arith))

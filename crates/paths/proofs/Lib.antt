@@ -4,6 +4,7 @@ pub mod Forward
 pub mod Through
 pub mod Potential
 pub mod Words
+pub mod AllWords
 pub mod Exists
 pub mod Rounds
 pub mod Rows

@@ -1,14 +1,10 @@
 -- The least cost over the start states, of paths that end where they start.
-use Rattle.std.proofs.Common.{◌≡◌, ℕ, ◌+◌, ◌*◌, ◌<◌, ◌≤◌, Bool, true, false, cond, refl, sym, ◌∙◌, inl, inr, arith, mul-le-mul_right}
+use Rattle.std.proofs.Common.{◌≡◌, ℕ, ◌+◌, ◌≤◌, Bool, true, false, cond, refl, sym, ◌∙◌, inl, inr, arith}
 use Rattle.std.specs.Prelude.{min, nat_eq}
 use Rattle.std.proofs.lemmas.Bool.{cases_lt, eq-eqb}
-use Rattle.std.proofs.lemmas.Bool.Decides.{eqb_tells}
 use Rattle.std.proofs.Math.Nat.{min-le_left, min-le_right}
-use Rattle.paths.specs.Paths.{end_of, path_cost}
-use Rattle.paths.specs.Least.{ends_in, IsLeastFrom, IsLeastTo, IsLeastRound}
-use Rattle.paths.specs.Words.{keyed}
+use Rattle.paths.specs.Least.{ends_in, IsLeastFrom, IsLeastRound}
 use Rattle.paths.proofs.Best.{min_cases}
-use Rattle.paths.proofs.Words.{path_cost-keyed}
 
 pub ends_in_same : (far s x : ℕ) → x ≡ s → ends_in far s x ≡ 0
 ends_in_same far s x e = rw (eq-eqb x s e) refl

@@ -1,9 +1,6 @@
 -- A word's number, and the key of a path: its cost at a scale, and its word's number.
-use Rattle.std.proofs.Common.{◌≡◌, ℕ, zero, suc, ◌+◌, ◌-◌, ◌*◌, ◌/◌, ◌%◌, ◌^◌, ◌<◌, ◌⊎◌, inl, inr, ◌++◌, take, drop, subst, length-drop, length-take-le, Bool, true, false, List, [], ◌∷◌, length, get_or, refl, ap, sym, ◌∙◌, arith, eqb, pow-add}
-use Rattle.std.specs.Prelude.{nat_eq}
-use Rattle.std.proofs.lemmas.Nat.{div-mul-add, pow_pos}
+use Rattle.std.proofs.Common.{◌≡◌, ℕ, suc, ◌+◌, ◌-◌, ◌*◌, ◌^◌, ◌<◌, ◌⊎◌, inl, inr, ◌++◌, take, drop, subst, length-drop, length-take-le, Bool, true, false, List, [], ◌∷◌, length, get_or, refl, ap, ◌∙◌, arith}
 use Rattle.std.proofs.Math.Seq.{split_at, get_or-append_seam}
-use Rattle.std.proofs.Math.Nat.{div-eq_of_lt, pow-suc, add_comm, add-mul-div_right}
 use Rattle.paths.specs.Paths.{path_cost}
 use Rattle.cs_bits.specs.Numbers.{number}
 use Rattle.cs_bits.proofs.Numbers.{number_below}

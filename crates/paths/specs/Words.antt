@@ -1,5 +1,5 @@
 -- Words of bits in lexicographic order, and costs that tell words of equal cost apart (own).
-use Rattle.std.specs.Prelude.{ℕ, ◌+◌, ◌-◌, ◌*◌, ◌^◌, Bool, true, false, cond, List, [], ◌∷◌, length}
+use Rattle.std.specs.Prelude.{ℕ, ◌+◌, ◌-◌, ◌*◌, ◌^◌, Bool, true, false, cond, List, [], ◌∷◌}
 
 -- the first word stands before the second in lexicographic order, 0 before 1
 abbrev pub IsBefore : List Bool → List Bool → Type 0

@@ -3,6 +3,8 @@ pub mod Permutes
 pub mod Cells
 pub mod Turned
 pub mod Encoding
+pub mod CodedBits
+pub mod Linear
 pub mod Registers
 pub mod Edges
 pub mod Orders

@@ -1,6 +1,8 @@
 -- The sums of values by coded bit.
-use Rattle.std.proofs.Common.{◌≡◌, ℕ, ◌^◌, List, length, ℤ, ap, ◌∙◌}
+use Rattle.std.proofs.Common.{◌≡◌, ℕ, ◌^◌, ◌<◌, List, [], length, get_or, ℤ, pos, ap, ◌∙◌}
 use Rattle.finite.specs.Lists.{values_below}
+use Rattle.finite.specs.Tables.{sum_at}
+use Rattle.finite.proofs.Lists.{values_below_at}
 use Rattle.finite.proofs.Tables as tables
 use Rattle.sub_block.specs.Places.{summed_at}
 use Rattle.sub_block.proofs.Sums.{table_by_stream}
@@ -17,3 +19,11 @@ sums_all k rv values m sums e known =
     tables.sums_all 3 1028 (2 ^ 15) (λ i. (place_of k rv i).stream) (λ i. (place_of k rv i).place) values m sums known
     ∙ table_by_stream (place_of k rv) values m 3 1028
     ∙ ap (λ i. values_below 3 (λ t. values_below 1028 (summed_at (place_of k rv) values i t))) e
+
+-- the sum at a place
+pub summed-at : (k rv : ℕ) (values : List ℤ) (t p : ℕ) → t < 3 → p < 1028 →
+    sum_at (summed k rv values) t p ≡ summed_at (place_of k rv) values (length values) t p
+unfolding summed
+summed-at k rv values t p stream inside =
+    ap (λ s. get_or s p (pos 0)) (values_below_at (λ t. values_below 1028 (summed_at (place_of k rv) values (length values) t)) 3 t [] stream)
+    ∙ values_below_at (summed_at (place_of k rv) values (length values) t) 1028 p (pos 0) inside

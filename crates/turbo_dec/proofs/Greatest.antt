@@ -1,53 +1,23 @@
 -- The greatest score of a word with a bit, by its definition, and from the least cost of a path with that bit.
-use Rattle.std.proofs.Common.{◌≡◌, ℕ, zero, suc, ◌+◌, ◌-◌, ◌/◌, ◌<◌, ◌≤◌, Bool, true, false, cond, List, [], ◌∷◌, ◌++◌, length, ℤ, pos, ◌+ℤ◌, ◌-ℤ◌, refl, ap, sym, ◌∙◌, inl, inr, ◌⊎◌, arith, length-append}
-use Rattle.std.specs.Prelude.{nat_abs, ◌≤ℤ◌, int_lt}
-use Rattle.std.specs.Int.{int_max}
+use Rattle.std.proofs.Common.{◌≡◌, ℕ, suc, ◌+◌, ◌-◌, ◌/◌, ◌<◌, ◌≤◌, Bool, true, false, List, ◌∷◌, ◌++◌, length, ℤ, pos, ◌+ℤ◌, ◌-ℤ◌, refl, ap, ◌∙◌, inl, inr, arith, length-append}
+use Rattle.std.specs.Prelude.{nat_abs}
 use Rattle.std.proofs.lemmas.Bool.Decides.{eqb_tells}
-use Rattle.std.proofs.lemmas.Int.{ints, clamps}
+use Rattle.std.proofs.lemmas.Int.{ints}
 use Rattle.cs_bits.proofs.Signs.{disagreement-le}
 use Rattle.paths.specs.Paths.{end_of}
 use Rattle.paths.specs.Least.{IsLeastWith}
+use Rattle.paths.specs.AllWords.{greatest}
+use Rattle.paths.proofs.AllWords.{greatest-le, greatest_reached}
 use Rattle.paths.proofs.Paths.{path_cost-le}
 use Rattle.paths.proofs.Words.{bit_between, with_bit}
-use Rattle.turbo_dec.specs.Decoder.{Values, at, score, greatest, greatest_score, extrinsic, clamped}
+use Rattle.turbo_dec.specs.Decoder.{Values, at, score, greatest_score, extrinsic, clamped}
 use Rattle.turbo_dec.specs.Laws.{IsGreatest}
 use Rattle.turbo_code.specs.Machine.{next, tail_bit, tail_parity, parity_bit}
 use Rattle.turbo_dec.specs.Costs.{step_cost, tail_cost, far, starts}
 use Rattle.turbo_dec.proofs.Small.{AreSmall}
 use Rattle.turbo_dec.proofs.Scores.{worth, score_cost}
 
--- ---- the greatest of a function over all words
-
-max_cases : (x y : ℤ) → (int_max x y ≡ x) ⊎ (int_max x y ≡ y)
-max_cases x y = elim (int_lt y x) as (λ t. (cond t x y ≡ x) ⊎ (cond t x y ≡ y)) [ true ↦ inl refl | false ↦ inr refl ]
-
-max-le_left : (x y : ℤ) → x ≤ℤ int_max x y
-max-le_left x y = omega (arith, ints, clamps)
-
-max-le_right : (x y : ℤ) → y ≤ℤ int_max x y
-max-le_right x y = omega (arith, ints, clamps)
-
-pub greatest-le : (n : ℕ) (f : List Bool → ℤ) (word : List Bool) → length word ≡ n → f word ≤ℤ greatest n f
-unfolding greatest
-greatest-le zero f [] size = omega (arith, ints)
-greatest-le zero f (b ∷ word) size = absurd (omega (arith, size))
-greatest-le (suc n) f [] size = absurd (omega (arith, size))
-greatest-le (suc n) f (false ∷ word) size =
-    let rest = greatest-le n (λ w. f (false ∷ w)) word (omega (arith, size)) in
-    let max = max-le_left (greatest n (λ w. f (false ∷ w))) (greatest n (λ w. f (true ∷ w))) in
-    omega (arith, ints, rest, max)
-greatest-le (suc n) f (true ∷ word) size =
-    let rest = greatest-le n (λ w. f (true ∷ w)) word (omega (arith, size)) in
-    let max = max-le_right (greatest n (λ w. f (false ∷ w))) (greatest n (λ w. f (true ∷ w))) in
-    omega (arith, ints, rest, max)
-
-pub greatest_reached : (n : ℕ) (f : List Bool → ℤ) → (word : List Bool) × (length word ≡ n) × (f word ≡ greatest n f)
-unfolding greatest
-greatest_reached zero f = ([], refl, refl)
-greatest_reached (suc n) f = elim (max_cases (greatest n (λ w. f (false ∷ w))) (greatest n (λ w. f (true ∷ w)))) [
-  | inl e ↦ let (word, size, is) = greatest_reached n (λ w. f (false ∷ w)) in (false ∷ word, ap suc size, is ∙ sym e)
-  | inr e ↦ let (word, size, is) = greatest_reached n (λ w. f (true ∷ w)) in (true ∷ word, ap suc size, is ∙ sym e)
-]
+-- ---- the greatest score
 
 pub greatest_score_is_greatest : (v : Values) (k : ℕ) (b : Bool) → k < length v.systematic → IsGreatest v k b (greatest_score v k b)
 unfolding greatest_score

@@ -1,7 +1,8 @@
 -- The score of a word and the cost of its path make a constant.
-use Rattle.std.proofs.Common.{◌≡◌, ℕ, zero, suc, ◌+◌, ◌*◌, ◌/◌, Bool, true, false, List, length, ℤ, pos, negsuc, ◌+ℤ◌, refl, ap, ap₂, sym, ◌∙◌, arith}
+use Rattle.std.proofs.Common.{◌≡◌, ℕ, ◌+◌, ◌*◌, ◌/◌, Bool, true, false, List, length, ℤ, pos, negsuc, ◌+ℤ◌, refl, ap, ap₂, sym, ◌∙◌, arith}
 use Rattle.std.proofs.lemmas.Int.{ints}
 use Rattle.finite.specs.Sums.{sum_below, total_below}
+use Rattle.finite.proofs.Sums.{sum_below_plus, sum_below_pos, sum_below_same}
 use Rattle.cs_bits.specs.Signs.{disagreement}
 use Rattle.paths.specs.Paths.{end_of, path_cost}
 use Rattle.turbo_code.specs.Encoder.{bit_at, back, before, parity, tail_x, tail_z}
@@ -19,12 +20,9 @@ taken_cost (negsuc n) true = refl
 
 -- sums whose terms make those of a third
 sums_make : (n : ℕ) (f : ℕ → ℤ) (g h : ℕ → ℕ) → ((k : ℕ) → f k +ℤ pos (g k) ≡ pos (h k)) → sum_below n f +ℤ pos (total_below n g) ≡ pos (total_below n h)
-unfolding sum_below total_below
-sums_make zero f g h each = refl
-sums_make (suc n) f g h each =
-    let before = sums_make n f g h each in
-    let here = each n in
-    omega (arith, ints, before, here)
+sums_make n f g h each =
+    ap (λ s. sum_below n f +ℤ s) (sym (sum_below_pos n g)) ∙ sym (sum_below_plus n f (λ k. pos (g k)))
+    ∙ sum_below_same n (λ k. f k +ℤ pos (g k)) (λ k. pos (h k)) (λ k _. each k) ∙ sum_below_pos n h
 
 -- what the two values of a place are worth at most, and those of a tail step
 worth_at : Values → ℕ → ℕ

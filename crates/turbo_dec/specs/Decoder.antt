@@ -1,9 +1,10 @@
 -- One decoder of the turbo code: the scores of words, and extrinsic values as differences of greatest scores. (own; the encoder is
 -- that of TS 36.212 section 5.1.3.2)
-use Rattle.std.specs.Prelude.{ℕ, zero, suc, ◌+◌, ◌-◌, ◌*◌, ◌≤◌, Bool, true, false, List, [], ◌∷◌, ◌++◌, length, slice_index_or, nat_abs, ℤ, pos, negsuc, ◌+ℤ◌, ◌-ℤ◌}
+use Rattle.std.specs.Prelude.{ℕ, ◌+◌, ◌-◌, ◌*◌, ◌≤◌, Bool, true, false, List, ◌∷◌, ◌++◌, length, slice_index_or, nat_abs, ℤ, pos, negsuc, ◌+ℤ◌, ◌-ℤ◌}
 use Rattle.std.specs.Int.{int_min, int_max}
 use Rattle.finite.specs.Sums.{sum_below}
 use Rattle.finite.specs.Lists.{values_below}
+use Rattle.paths.specs.AllWords.{greatest}
 use Rattle.turbo_code.specs.Encoder.{bit_at, parity, tail_x, tail_z}
 
 -- what a decoder is given: a value for each bit of the word and for each of its parity bits, one for each of the six tail bits
@@ -41,11 +42,6 @@ tail_score v word j = taken (at v.tail (2 * j)) (tail_x word j) +ℤ taken (at v
 -- the score of a word with its tail: the sum of the values whose bits are 0
 unfoldable pub score : Values → List Bool → ℤ
 score v word = sum_below (length v.systematic) (place_score v word) +ℤ sum_below 3 (tail_score v word)
-
--- the greatest of f over all words of n bits
-unfoldable pub greatest : ℕ → (List Bool → ℤ) → ℤ
-greatest zero f = f []
-greatest (suc n) f = int_max (greatest n (λ word. f (false ∷ word))) (greatest n (λ word. f (true ∷ word)))
 
 -- the greatest score of a word whose bit k is b, over all bits before it and all after it
 unfoldable pub greatest_score : Values → ℕ → Bool → ℤ
