@@ -1,0 +1,55 @@
+-- What the values of a decoder, the sums of a block and the values received say of the bits that were sent. (own; the
+-- code and its reading are those of TS 36.212 sections 5.1.3.2 and 5.1.4.1)
+use Rattle.std.specs.Prelude.{◌≡◌, ℕ, ◌+◌, ◌*◌, ◌<◌, Bool, true, false, List, length, ℤ, pos}
+use Rattle.finite.specs.Tables.{sum_at}
+use Rattle.cs_bits.specs.Signs.{Supports}
+use Rattle.sub_block.specs.Places.{spot}
+use Rattle.turbo_code.specs.declared.rows.Row.{Row}
+use Rattle.turbo_code.specs.Encoder.{bit_at, parity, tail_x, tail_z, coded}
+use Rattle.turbo_code.specs.Reading.{bit_of, place_of}
+use Rattle.turbo_dec.specs.Decoder.{Values, at}
+use Rattle.erasure.specs.Known.{Sent}
+
+-- a value tells a bit where it is there, and is 0 elsewhere: there it is above 0 for the bit 0, and below 0 for 1
+abbrev pub Tells : Bool → Bool → ℤ → Type 0
+Tells false bit z = z ≡ pos 0
+Tells true bit z = Supports 1 bit z
+
+-- ---- one decoder
+
+-- each value and each prior of a decoder is 0 or speaks for its bit of a word and its tail
+pub record AllAllow (word : List Bool) (v : Values) : Type 0 where
+  pub size : length v.systematic ≡ length word
+  pub systematic : (k : ℕ) → k < length word → Supports 0 (bit_at word k) (at v.systematic k)
+  pub parity : (k : ℕ) → k < length word → Supports 0 (parity word k) (at v.parity k)
+  pub tail_x : (j : ℕ) → j < 3 → Supports 0 (tail_x word j) (at v.tail (2 * j))
+  pub tail_z : (j : ℕ) → j < 3 → Supports 0 (tail_z word j) (at v.tail (2 * j + 1))
+  pub prior : (k : ℕ) → k < length word → Supports 0 (bit_at word k) (at v.prior k)
+
+-- its values tell the bits that are sent, and its priors those that are known
+pub record AllTell (word : List Bool) (sent : Sent) (known : ℕ → Bool) (v : Values) : Type 0 where
+  pub size : length v.systematic ≡ length word
+  pub systematic : (k : ℕ) → k < length word → Tells (sent.information k) (bit_at word k) (at v.systematic k)
+  pub parity : (k : ℕ) → k < length word → Tells (sent.parity k) (parity word k) (at v.parity k)
+  pub tail_x : (j : ℕ) → j < 3 → Tells (sent.tail (2 * j)) (tail_x word j) (at v.tail (2 * j))
+  pub tail_z : (j : ℕ) → j < 3 → Tells (sent.tail (2 * j + 1)) (tail_z word j) (at v.tail (2 * j + 1))
+  pub prior : (k : ℕ) → k < length word → Tells (known k) (bit_at word k) (at v.prior k)
+
+-- ---- the sums of a block
+
+-- each supports its coded bit of a word with this size: with 0 none speaks against it, with 1 each speaks for it
+abbrev pub SumsSupport : ℕ → Row → List Bool → List (List ℤ) → Type 0
+SumsSupport least row word sums =
+    (t p : ℕ) → t < 3 → p < row.k + 4 → Supports least (bit_of (coded row word) (spot t p)) (sum_at sums t p)
+
+-- they tell the coded bits that are sent
+abbrev pub SumsTell : Row → List Bool → (ℕ → ℕ → Bool) → List (List ℤ) → Type 0
+SumsTell row word sent sums =
+    (t p : ℕ) → t < 3 → p < row.k + 4 → Tells (sent t p) (bit_of (coded row word) (spot t p)) (sum_at sums t p)
+
+-- ---- the values received
+
+-- each supports the coded bit of a word that the reading sends there, from a redundancy version on
+abbrev pub ValuesSupport : ℕ → Row → List Bool → ℕ → List ℤ → Type 0
+ValuesSupport least row word rv values =
+    (i : ℕ) → i < length values → Supports least (bit_of (coded row word) (place_of row.k rv i)) (at values i)

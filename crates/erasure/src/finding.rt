@@ -1,0 +1,58 @@
+//! Which bits one decoder finds.
+
+ghost use Rattle.std.specs.Prelude.{◌≡◌, ℕ, ◌<◌, ◌≤◌, false, length, slice_index_or};
+ghost use Rattle.erasure.specs.Sets.{HasSets, found_by};
+
+use crate::states::{States, any_led_through, earlier_set, later_set, start_set, tail_set};
+
+/// A mark for each bit of a word, and others after them.
+pub(crate) type Marks = [bool; 1024];
+
+/// Writes the sets of states to which steps without a known bit 1 lead, before the first step and after
+/// each.
+fn forward(own: &[bool], parity: &[bool], sets: &mut [States])
+    requires places { length own.now ≤ 1024 }
+    requires parities { length parity.now ≡ length own.now }
+    requires room { length own.now < length sets.old }
+    ensures { HasSets own.now parity.now sets.new (length own.now) }
+{
+    let mut set = start_set();
+    sets[0] = set;
+    for k in 0..own.len() {
+        set = later_set(own[k], parity[k], &set);
+        sets[k + 1] = set;
+    }
+}
+
+/// Which bits are found, from the sets of the forward pass.
+fn backward(own: &[bool], parity: &[bool], tail: &[bool; 6], sets: &[States]) -> Marks
+    requires places { length own.now ≤ 1024 }
+    requires parities { length parity.now ≡ length own.now }
+    requires room { length own.now < length sets.now }
+    requires sets { HasSets own.now parity.now sets.now (length own.now) }
+    ensures found { (k : ℕ) → k < length own.now →
+        slice_index_or result k false ≡ found_by own.now parity.now tail.now k }
+    ensures size { length result ≡ 1024 }
+{
+    let mut found = [false; 1024];
+    let mut set = tail_set(tail);
+    for k in (0..own.len()).rev() {
+        found[k] = !any_led_through(parity[k], &sets[k], &set);
+        set = earlier_set(own[k], parity[k], &set);
+    }
+    found
+}
+
+/// Which bits of a word a decoder finds: those where each word with a 1 there has a 1 at a known place too,
+/// among its other bits, its parity bits and its tail.
+pub(crate) fn find(own: &[bool], parity: &[bool], tail: &[bool; 6]) -> Marks
+    requires places { length own.now ≤ 1024 }
+    requires parities { length parity.now ≡ length own.now }
+    ensures found { (k : ℕ) → k < length own.now →
+        slice_index_or result k false ≡ found_by own.now parity.now tail.now k }
+    ensures size { length result ≡ 1024 }
+{
+    let mut sets = [[false; 8]; 1025];
+    forward(own, parity, &mut sets);
+    backward(own, parity, tail, &sets)
+}

@@ -1,0 +1,122 @@
+//! Sets of states of the encoder, to which and from which bits lead that show no known bit 1.
+
+ghost use Rattle.std.specs.Prelude.{◌≡◌, ℕ, ◌<◌, false, length, slice_index_or, nat_eq};
+ghost use Rattle.finite.specs.Tests.{any_below};
+ghost use Rattle.erasure.specs.Sets.{hides, leads_to, leads_from, leads_through, tail_step_hides, tail_hides};
+
+use turbo_code::{before, bit_to, next, parity_bit, tail_bit, tail_parity};
+
+/// How many states the encoder has.
+const STATES: usize = 8;
+
+/// A set of states.
+pub(crate) type States = [bool; STATES];
+
+/// Whether a step has no known bit 1.
+fn is_hidden(own: bool, parity: bool, x: usize, u: bool) -> bool
+    requires { x < 8 }
+    ensures { result ≡ hides own parity x u }
+{
+    !(u && own) && !(parity_bit(x, u) && parity)
+}
+
+/// Whether a step without a known bit 1 leads from the set to a state.
+fn is_led_to(own: bool, parity: bool, set: &States, y: usize) -> bool
+    requires { y < 8 }
+    ensures { result ≡ leads_to own parity set.now y }
+{
+    let (first, second) = before(y);
+    let by_first = set[first] && is_hidden(own, parity, first, bit_to(first, y));
+    let by_second = set[second] && is_hidden(own, parity, second, bit_to(second, y));
+    by_first || by_second
+}
+
+/// Whether a step without a known bit 1 leads from a state into the set.
+fn is_led_from(own: bool, parity: bool, set: &States, x: usize) -> bool
+    requires { x < 8 }
+    ensures { result ≡ leads_from own parity set.now x }
+{
+    let by_zero = is_hidden(own, parity, x, false) && set[next(x, false)];
+    let by_one = is_hidden(own, parity, x, true) && set[next(x, true)];
+    by_zero || by_one
+}
+
+/// The states before the first step.
+pub(crate) fn start_set() -> States
+    ensures set { (x : ℕ) → x < 8 → slice_index_or result x false ≡ nat_eq x 0 }
+    ensures size { length result ≡ 8 }
+{
+    [true, false, false, false, false, false, false, false]
+}
+
+/// The states one step further on.
+pub(crate) fn later_set(own: bool, parity: bool, set: &States) -> States
+    ensures set { (x : ℕ) → x < 8 → slice_index_or result x false ≡ leads_to own parity set.now x }
+    ensures size { length result ≡ 8 }
+{
+    let mut later = [false; STATES];
+    for x in 0..STATES {
+        later[x] = is_led_to(own, parity, set, x);
+    }
+    later
+}
+
+/// The states one step before.
+pub(crate) fn earlier_set(own: bool, parity: bool, set: &States) -> States
+    ensures set { (x : ℕ) → x < 8 → slice_index_or result x false ≡ leads_from own parity set.now x }
+    ensures size { length result ≡ 8 }
+{
+    let mut earlier = [false; STATES];
+    for x in 0..STATES {
+        earlier[x] = is_led_from(own, parity, set, x);
+    }
+    earlier
+}
+
+/// Whether a step by a bit 1 that is not known leads from a state of the first set into the second.
+fn is_led_through(parity: bool, before: &States, after: &States, x: usize) -> bool
+    requires { x < 8 }
+    ensures { result ≡ leads_through parity before.now after.now x }
+{
+    before[x] && is_hidden(false, parity, x, true) && after[next(x, true)]
+}
+
+/// Whether one does from any.
+pub(crate) fn any_led_through(parity: bool, before: &States, after: &States) -> bool
+    ensures { result ≡ any_below 8 (leads_through parity before.now after.now) }
+{
+    let mut any = false;
+    for x in 0..STATES {
+        any |= is_led_through(parity, before, after, x);
+    }
+    any
+}
+
+/// Whether tail step j from a state has no known bit 1.
+fn is_tail_step_hidden(tail: &[bool; 6], j: usize, x: usize) -> bool
+    requires { j < 3 }
+    ensures { result ≡ tail_step_hides tail.now j x }
+{
+    !(tail_bit(x) && tail[2 * j]) && !(tail_parity(x) && tail[2 * j + 1])
+}
+
+/// Whether the tail from a state has none.
+fn is_tail_hidden(tail: &[bool; 6], x: usize) -> bool
+    ensures { result ≡ tail_hides tail.now x }
+{
+    is_tail_step_hidden(tail, 0, x)
+        && is_tail_step_hidden(tail, 1, x / 2)
+        && is_tail_step_hidden(tail, 2, x / 2 / 2)
+}
+
+/// The states whose tail has none.
+pub(crate) fn tail_set(tail: &[bool; 6]) -> States
+    ensures set { (x : ℕ) → x < 8 → slice_index_or result x false ≡ tail_hides tail.now x }
+    ensures size { length result ≡ 8 }
+{
+    let mut set = [false; STATES];
+    for x in 0..STATES {
+        set[x] = is_tail_hidden(tail, x);
+    }
+    set
+}
