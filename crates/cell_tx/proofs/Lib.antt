@@ -9,3 +9,5 @@ pub mod BitPoints
 pub mod NewCells
 pub mod ChannelValues
 pub mod SignalSymbols
+pub mod SystemPlaces
+pub mod SystemWords

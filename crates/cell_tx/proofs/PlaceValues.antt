@@ -24,17 +24,23 @@ module _ (places : List Place) (p : Place) where
       (λ j l. fails (get_or places j (place 0 0)) (before j l) (same_place p (get_or places j (place 0 0))) refl)
       (λ l. ap (same_place p) (here l) ∙ same_place-refl p)
 
+  -- p is at no place of the list
+  abbrev IsAbsent : Type 0
+  IsAbsent = (j : ℕ) → j < length places → get_or places j (place 0 0) ≡ p → ⊥
+
+  pub absent_is : IsAbsent → is_one_of places p ≡ false
+  absent_is none =
+      let e : index_in places p ≡ length places = index_is (length places) (omega arith) none (λ l. absurd (omega (arith, l))) in
+      rw e (le-ltb (length places) (length places) (omega arith))
+
   pub found_at : (points : List Cpx) (i : ℕ) → i < length places → get_or places i (place 0 0) ≡ p → ((j : ℕ) → j < i → get_or places j (place 0 0) ≡ p → ⊥) → Some (value_at points i) ≡ value_in places points p
   found_at points i inside here before =
       let e : index_in places p ≡ i = index_is i (omega (arith, inside)) before (λ l. here) in
       let t : nat_lt i (length places) ≡ true = lt-ltb i (length places) inside in
       rw (e, t) refl
 
-  pub not_found : (points : List Cpx) → ((j : ℕ) → j < length places → get_or places j (place 0 0) ≡ p → ⊥) → None ≡ value_in places points p
-  not_found points none =
-      let e : index_in places p ≡ length places = index_is (length places) (omega arith) none (λ l. absurd (omega (arith, l))) in
-      let t : nat_lt (length places) (length places) ≡ false = le-ltb (length places) (length places) (omega arith) in
-      rw (e, t) refl
+  pub not_found : (points : List Cpx) → IsAbsent → None ≡ value_in places points p
+  not_found points none = rw (absent_is none) refl
 
   pub values_are : (n : ℕ) (f : ℕ → Cpx) → length places ≤ n → value_in places (values_below n f) p ≡ (if is_one_of places p then Some (f (index_in places p)) else None)
   values_are n f room = by (is_one_of places p) refl

@@ -3,14 +3,14 @@ use Rattle.std.proofs.Common.{◌≡◌, ℕ, zero, suc, ◌<◌, ◌≤◌, ◌
 use Rattle.std.specs.Prelude.{All, if◌then◌else◌}
 use Rattle.std.specs.List.{list_any, flat_map, range_with_len}
 use Rattle.std.proofs.Math.Bool.{and-false}
-use Rattle.std.proofs.lemmas.Bool.{and_parts, le-ltb, ltb-true, cases_lt}
+use Rattle.std.proofs.lemmas.Bool.{and_parts, ltb-true, cases_lt}
 use Rattle.std.proofs.lemmas.Bool.Decides.{nat_tests}
 use Rattle.finite.proofs.Lists.{values_below-All}
 use Rattle.cs_num.specs.declared.Cpx.{Cpx}
 use Rattle.cs_num.specs.Complex.{nothing}
 use Rattle.grid_map.specs.declared.Place.{Place}
 use Rattle.grid_map.specs.declared.Reg.{Reg}
-use Rattle.grid_map.specs.Place.{place, same_place, places_of, index_in}
+use Rattle.grid_map.specs.Place.{place, same_place, places_of}
 use Rattle.grid_map.specs.Group.{group, is_group, spanned, span, is_kept, group_places}
 use Rattle.grid_map.specs.Broadcast.{is_pbch}
 use Rattle.grid_map.specs.Control.{pcfich_places, pcfich_groups, pdcch_groups, is_in_region}
@@ -23,7 +23,7 @@ use Rattle.cell_tx.specs.declared.cell.CellPlan.{CellPlan}
 use Rattle.cell_tx.specs.Control.{control_places}
 use Rattle.cell_tx.specs.Shared.{shared_places}
 use Rattle.cell_tx.specs.Grid.{is_one_of, is_indicator, has_system_information, broadcast_value, indicator_value, control_value, shared_value, channel_value}
-use Rattle.cell_tx.proofs.PlaceValues.{index_is}
+use Rattle.cell_tx.proofs.PlaceValues.{absent_is}
 
 -- ---- lists without a place
 
@@ -42,11 +42,9 @@ none_at test (p ∷ ps) (suc j) d e inside = none_at test ps j d (others (test p
 
 absent : (ps : List Place) (p : Place) → list_any (same_place p) ps ≡ false → is_one_of ps p ≡ false
 absent ps p e =
-    let at : index_in ps p ≡ length ps = index_is ps p (length ps) (omega arith)
+    absent_is ps p
     (λ j inside here. let no : same_place p (get_or ps j (place 0 0)) ≡ false = none_at (same_place p) ps j (place 0 0) e inside in
     let yes : same_place p (get_or ps j (place 0 0)) ≡ true = ap (same_place p) here ∙ same_place-refl p in absurd cc)
-    (λ inside. absurd (omega (arith, inside))) in
-    le-ltb (index_in ps p) (length ps) (omega (arith, at))
 
 any_append : (test : Place → Bool) (ps qs : List Place) → list_any test ps ≡ false → list_any test qs ≡ false → list_any test (ps ++ qs) ≡ false
 any_append test [] qs e f = f

@@ -29,8 +29,9 @@ pub fn sizes()
     ensures samples { SamplesAreSmall }
 {}
 
-/// What is sent, times a gain, with any errors of at most twice the gain's size, is a clean recording
-/// of it, and fits 16 bits; so is what a cell sends without errors.
+/// A sequence times a gain, with any error in each component of at most twice the gain's size, is a clean
+/// recording of it; where none of its samples has a size above 1,153, the components have sizes of at
+/// most 32,340, so that they fit 16 bits. What a cell sends, times a gain, is clean without errors.
 pub fn sent_is_clean()
     ensures errors { ReceivedWithErrorsIsClean }
     ensures fits { ReceivedWithErrorsFits }

@@ -182,8 +182,7 @@ fn sent_from(t: &Transmission, i: usize, clean: &[Sample; FRAME_LENGTH]) -> Samp
     amplified(t.gain, clean[(i + t.offset as usize) % FRAME_LENGTH])
 }
 
-/// All samples of a transmission, over as many: sample `i` is that of `send`. Each frame is made
-/// once.
+/// All samples of a transmission, over as many: sample `i` is that of `send`.
 pub fn send_all(t: &Transmission, out: &mut [Sample])
     requires { length out.old ≡ t.now.samples }
     ensures { out.new ≡ values_below t.now.samples

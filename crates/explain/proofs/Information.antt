@@ -19,6 +19,14 @@ use Rattle.explain.specs.System.{even_frame, IsTried, IsFirstRead, IsNoneRead, I
 abbrev answer_with : Sib1 → Result Sib1 Sib1Reason
 answer_with fields = Ok fields
 
+-- the first frame of even number is tried: it is one of the first two
+pub first_tried : (recording : List Sample) (start sfn : ℕ) → 57600 ≤ length recording → start < 19200 → IsTried recording start sfn 0
+first_tried recording start sfn long early = record { among = omega arith; whole = omega (arith, long, early) }
+
+-- the frames that are tried have even numbers
+pub even_number : (sfn i : ℕ) → (sfn + even_frame sfn i) % 1024 % 2 ≡ 0
+even_number sfn i = omega arith
+
 -- where a frame answers in one way
 module _ (Answers : ℕ → Result Sib1 Sib1Reason → Type 0) (one : (j : ℕ) (a b : Result Sib1 Sib1Reason) → Answers j a → Answers j b → a ≡ b)
     (recording : List Sample) (start sfn : ℕ) where
@@ -77,10 +85,6 @@ module _ (Answers : ℕ → Result Sib1 Sib1Reason → Type 0) (one : (j : ℕ) 
   module _ (some : (j : ℕ) → (answer : Result Sib1 Sib1Reason) × Answers j answer)
       (never_ports : (j told : ℕ) → Answers j (Err (NotOnePort told)) → ⊥) (never_width : (j : ℕ) (told : Bandwidth) → Answers j (Err (OtherWidth told)) → ⊥)
       (long : 57600 ≤ length recording) (early : start < 19200) where
-    -- the first frame of even number is tried: it is one of the first two
-    first_tried : IsTried recording start sfn 0
-    first_tried = record { among = omega arith; whole = omega (arith, long, early) }
-
     by_answer : (n i : ℕ) → n + i ≡ 7 → IsTried recording start sfn i → ((h : ℕ) (fields : Sib1) → h < i → Answers (even_frame sfn h) (Ok fields) → ⊥) →
         ((((h : ℕ) (fields : Sib1) → h < suc i → Answers (even_frame sfn h) (Ok fields) → ⊥) → (sib1 : Result Sib1 Sib1Reason) × IsReadFrom Answers recording start sfn sib1)) →
         (answer : Result Sib1 Sib1Reason) → Answers (even_frame sfn i) answer → (sib1 : Result Sib1 Sib1Reason) × IsReadFrom Answers recording start sfn sib1
@@ -93,7 +97,7 @@ module _ (Answers : ℕ → Result Sib1 Sib1Reason → Type 0) (one : (j : ℕ) 
     -- where no tried frame has fields, the first has a reason
     no_fields : ((h : ℕ) (fields : Sib1) → IsTried recording start sfn h → Answers (even_frame sfn h) (Ok fields) → ⊥) →
         (answer : Result Sib1 Sib1Reason) → Answers (even_frame sfn 0) answer → (sib1 : Result Sib1 Sib1Reason) × IsReadFrom Answers recording start sfn sib1
-    no_fields none (Ok fields) is = absurd (none 0 fields first_tried is)
+    no_fields none (Ok fields) is = absurd (none 0 fields (first_tried recording start sfn long early) is)
     no_fields none (Err reason) is = (Err reason, record { none = none; refused = is })
 
     search : (n i : ℕ) → n + i ≡ 8 → ((h : ℕ) (fields : Sib1) → h < i → Answers (even_frame sfn h) (Ok fields) → ⊥) →
@@ -179,3 +183,12 @@ no_more_fields recording id start sfn mib i reason none refused h fields before 
       let both = one_of_frame recording id start mib (even_frame sfn i) (Ok fields) (Err reason) (subst (λ k. FrameAnswers recording id start mib (even_frame sfn k) (Ok fields)) same a) refused in
       absurd cc
 ]
+
+-- where the first frame of even number has fields, they are what is told
+pub told_at_first : (recording : List Sample) (id start sfn : ℕ) (mib : Mib) (fields : Sib1) → 57600 ≤ length recording → start < 19200 → mib.bandwidth ≡ N6 →
+    FrameAnswers recording id start mib (even_frame sfn 0) (Ok fields) → IsSystemOf recording id start sfn 1 mib (Ok fields)
+told_at_first recording id start sfn mib fields long early six answers = record {
+  one_port = refl;
+  six_blocks = six;
+  read = record { i = 0; tried = first_tried recording start sfn long early; answers = answers; first = λ h other before a. absurd (omega (arith, before)) };
+}

@@ -1,28 +1,29 @@
 -- Lists of places in which no place stands twice.
-use Rattle.std.proofs.Common.{◌≡◌, ℕ, ◌+◌, ◌*◌, ◌/◌, ◌%◌, ◌<◌, ◌≤◌, ◌⊎◌, inl, inr, Bool, true, false, List, length, get_or, refl, ap, sym, subst, ◌∙◌, arith}
-use Rattle.std.specs.Prelude.{All, ◌&&◌}
-use Rattle.std.specs.List.{flat_map, Contains}
+use Rattle.std.proofs.Common.{◌≡◌, ℕ, ◌/◌, ◌%◌, ◌<◌, ◌≤◌, ◌⊎◌, inl, inr, Bool, true, false, List, length, get_or, refl, ap, sym, subst, ◌∙◌, arith}
+use Rattle.std.specs.Prelude.{◌&&◌}
+use Rattle.std.specs.List.{Contains}
 use Rattle.std.proofs.lemmas.Bool.{cases_lt}
 use Rattle.std.proofs.lemmas.Bool.Decides.{nat_tests}
 use Rattle.std.proofs.lemmas.List.Sums.{position_or_len_is, passes_at_first}
 use Rattle.std.proofs.lemmas.List.Elements.{All-get_or, All-weaker, Contains-get_or}
 use Rattle.finite.proofs.Lists.{values_below_at}
-use Rattle.finite.proofs.Pieces.{HaveSize, get_or-pieces}
 use Rattle.lte_types.specs.declared.duration.Duration.{Duration}
 use Rattle.lte_types.specs.declared.duration.Duration.TheVariants.{Normal, Extended}
 use Rattle.lte_types.specs.declared.resource.Resource.{Resource}
 use Rattle.lte_types.specs.declared.resource.Resource.TheVariants.{OneSixth, Half, One, Two}
 use Rattle.grid_map.specs.declared.Place.{Place}
 use Rattle.grid_map.specs.declared.Reg.{Reg}
-use Rattle.grid_map.specs.Place.{place, same_place, index_in}
+use Rattle.grid_map.specs.Place.{place, same_place}
 use Rattle.grid_map.specs.Group.{group, is_group, group_places}
-use Rattle.grid_map.specs.Control.{pcfich_group, pcfich_groups, pcfich_places, pdcch_groups, number_of, quadruplet_at, is_in_region, group_count}
-use Rattle.grid_map.specs.Candidate.{group_of_quadruplet, quadruplet_group, candidate_groups, candidate_places}
+use Rattle.grid_map.specs.Control.{pcfich_group, pcfich_groups, pcfich_places, pdcch_groups, number_of, quadruplet_at, is_in_region, group_count, element_count}
+use Rattle.grid_map.specs.Candidate.{group_of_quadruplet, quadruplet_group, candidate_places}
+use Rattle.grid_map.specs.Shared.{pdsch_places, pdsch_place}
 use Rattle.grid_map.specs.Laws.{IsIndexed, CarryCandidate}
 use Rattle.grid_map.proofs.Order.{same_place-refl, same_place-true}
 use Rattle.grid_map.proofs.Spans.{four_places, places_rise, places_apart}
 use Rattle.grid_map.proofs.Regions.{pdcch_in_order, pdcch_count, pdcch_inside, pcfich_inside}
 use Rattle.grid_map.proofs.Carried.{group_inside, group_carries}
+use Rattle.grid_map.proofs.Symbols.{pdsch_once}
 use Rattle.grid_map.proofs.Pieces.{length-pcfich_places, pcfich_place_at, length-candidate_places, candidate_place_at}
 
 -- ---- numbers of places
@@ -147,6 +148,10 @@ count_fits cfi Extended Half low high = (grind (arith, nat_tests), grind (arith,
 count_fits cfi Extended One low high = (grind (arith, nat_tests), grind (arith, nat_tests))
 count_fits cfi Extended Two low high = (grind (arith, nat_tests), grind (arith, nat_tests))
 
+-- with indicator 2 or 3 there are four control channel elements
+pub elements_fit : (cfi : ℕ) (duration : Duration) (resource : Resource) → 2 ≤ cfi → cfi ≤ 3 → 4 ≤ element_count cfi duration resource
+elements_fit cfi duration resource low high = let fits = count_fits cfi duration resource low high in omega (arith, fits.0)
+
 first_of_two : (a b : Bool) → (a && b) ≡ true → a ≡ true
 first_of_two true b h = refl
 first_of_two false b h = h
@@ -171,3 +176,9 @@ pdcch_carry identity cfi duration resource low high = record {
     cases i j l m same (inr r) (inl s) =
         absurd (let rise = pdcch_in_order identity cfi duration resource j i s l in let level = ap number_of same in omega (arith, rise, level))
     cases i j l m same (inr r) (inr s) = omega (arith, r, s)
+
+-- ---- the PDSCH
+
+pub pdsch_indexed : (identity cfi start blocks : ℕ) → IsIndexed (length (pdsch_places identity cfi start blocks)) (pdsch_places identity cfi start blocks)
+unfolding pdsch_place
+pdsch_indexed identity cfi start blocks = indexed (length (pdsch_places identity cfi start blocks)) (pdsch_places identity cfi start blocks) refl (pdsch_once identity cfi start blocks)

@@ -8,3 +8,4 @@ pub mod Symbols
 pub mod Carried
 pub mod Pieces
 pub mod Indexed
+pub mod Apart

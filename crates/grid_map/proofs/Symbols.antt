@@ -301,7 +301,7 @@ ahead_never identity cfi start blocks i symbol left past known =
 
 -- ---- laws
 
-places_are : places_of 0 14 ≡ values_below 1008 (λ n. place (n / 72) (n % 72))
+pub places_are : places_of 0 14 ≡ values_below 1008 (λ n. place (n / 72) (n % 72))
 unfolding places_of
 places_are = refl
 

@@ -1,7 +1,12 @@
 -- Values tell one indicator.
-use Rattle.std.proofs.Common.{◌≡◌, ◌⊎◌, ℕ, zero, suc, ◌<◌, ◌≤◌, inl, inr, List, ℤ, arith}
-use Rattle.std.proofs.lemmas.Bool.{cases_lt}
-use Rattle.pcfich.specs.Indicator.{cost, IsIndicator}
+use Rattle.std.proofs.Common.{◌≡◌, ◌⊎◌, ℕ, zero, suc, ◌-◌, ◌%◌, ◌<◌, ◌≤◌, inl, inr, Bool, true, false, nat_eq, refl, sym, ◌∙◌, List, ℤ, pos, slice_index_or, arith}
+use Rattle.std.proofs.lemmas.Bool.{cases_lt, eqb-true, eq-eqb, false≢true}
+use Rattle.std.proofs.lemmas.Bool.Decides.{nat_tests}
+use Rattle.finite.specs.Sums.{total_below}
+use Rattle.finite.proofs.Sums.{total_below-within, total_some}
+use Rattle.cs_bits.specs.Signs.{disagreement}
+use Rattle.grid_map.specs.Scrambling.{indicator_bit}
+use Rattle.pcfich.specs.Indicator.{cost, IsIndicator, Speak}
 
 -- what holds of 1, 2 and 3 holds of each indicator
 of_each : (P : ℕ → Type 0) → P 1 → P 2 → P 3 → (k : ℕ) → 1 ≤ k → k ≤ 3 → P k
@@ -41,3 +46,34 @@ one_indicator values a b p q = cases (cases_lt a b) (cases_lt b a)
     cases (inl l) r = absurd (let x = q.first a p.range.0 l in let y = p.least b q.range.0 q.range.1 in omega (arith, x, y))
     cases (inr l) (inl m) = absurd (let x = p.first b q.range.0 m in let y = q.least a p.range.0 p.range.1 in omega (arith, x, y))
     cases (inr l) (inr m) = omega (arith, l, m)
+
+-- ---- values that speak for one
+
+-- what is sent costs nothing
+sent_free : (values : List ℤ) (sent : ℕ) → Speak values sent → cost values sent ≡ 0
+unfolding cost
+sent_free values sent speak =
+    let within = total_below-within 32 0 (λ i. disagreement (slice_index_or values i (pos 0)) (indicator_bit sent i)) (λ k l. let none = (speak k l).free in omega (arith, none)) in
+    omega (arith, within)
+
+-- another indicator has the other bit at a place
+other_dear : (values : List ℤ) (sent other : ℕ) → 1 ≤ sent → sent ≤ 3 → 1 ≤ other → other ≤ 3 → (sent ≡ other → ⊥) → Speak values sent → 0 < cost values other
+unfolding cost
+other_dear values sent other a b c d differ speak =
+    let dear = (speak (sent - 1) (omega arith)).dear in
+    let own : nat_eq ((sent - 1) % 3) (sent - 1) ≡ true = grind (arith, nat_tests) in
+    let others : nat_eq ((sent - 1) % 3) (other - 1) ≡ false = grind (arith, nat_tests, differ) in
+    let dear' = rw own at dear in
+    total_some 32 (sent - 1) (λ i. disagreement (slice_index_or values i (pos 0)) (indicator_bit other i)) (omega arith) (rw others (omega (arith, dear')))
+
+-- values that speak for one tell it
+pub spoken_indicator : (values : List ℤ) (sent told : ℕ) → 1 ≤ sent → sent ≤ 3 → Speak values sent → IsIndicator values told → told ≡ sent
+spoken_indicator values sent told a b speak is = settle (nat_eq sent told) refl
+  where
+    settle : (t : Bool) → nat_eq sent told ≡ t → told ≡ sent
+    settle true e = sym (eqb-true _ _ e)
+    settle false e =
+        absurd (let free = sent_free values sent speak in
+        let least = is.least sent a b in
+        let dear = other_dear values sent told a b is.range.0 is.range.1 (λ same. false≢true (sym e ∙ eq-eqb _ _ same)) speak in
+        omega (arith, free, least, dear))

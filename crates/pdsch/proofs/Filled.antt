@@ -1,13 +1,13 @@
 -- The values of the first places of a list, written place by place.
 use borrow.Rule.Slice.PartMut.{put_mid, same_len_mid, mid_len}
-use Rattle.std.proofs.Common.{◌≡◌, ℕ, ◌+◌, ◌-◌, ◌*◌, ◌%◌, ◌<◌, ◌≤◌, List, [], ◌∷◌, ◌++◌, length, take, drop, get_or, ℤ, nat_abs, refl, sym, ap, ◌∙◌, arith}
+use Rattle.std.proofs.Common.{◌≡◌, ℕ, ◌+◌, ◌-◌, ◌*◌, ◌/◌, ◌%◌, ◌<◌, ◌≤◌, List, [], ◌∷◌, ◌++◌, length, take, drop, get_or, ℤ, pos, nat_abs, refl, sym, ap, ◌∙◌, arith}
 use Rattle.std.specs.List.{flat_map}
 use Rattle.std.proofs.lemmas.List.{append-nil, take_more, take_all, drop-drop}
 use Rattle.std.proofs.lemmas.List.Concat.{flat_map-append}
 use Rattle.std.proofs.lemmas.List.Elements.{All-append, All-nil}
 use Rattle.std.proofs.lemmas.Slice.{take-put_mid, drop-put_mid}
 use Rattle.finite.specs.Sizes.{AllWithin}
-use Rattle.finite.proofs.Pieces.{length-pieces}
+use Rattle.finite.proofs.Pieces.{length-pieces, get_or-pieces}
 use Rattle.grid_map.specs.declared.Place.{Place}
 use Rattle.grid_map.specs.Place.{place}
 use Rattle.soft_bits.specs.Soft.{SeenSlot, soft_values}
@@ -28,6 +28,13 @@ unfolding subframe_values
 length-subframe first second places =
     let all = length-pieces 2 (pair_at first second) places (λ k d inside. length-pair first second (get_or places k d)) in
     omega (arith, all)
+
+-- value i: one of the two of its place
+pub subframe-at : (first second : SeenSlot) (places : List Place) (i : ℕ) → i < 2 * length places →
+    get_or (subframe_values first second places) i (pos 0) ≡ get_or (pair_at first second (get_or places (i / 2) (place 0 0))) (i % 2) (pos 0)
+unfolding subframe_values
+subframe-at first second places i inside =
+    get_or-pieces 2 (pair_at first second) places i (place 0 0) (pos 0) (omega arith) (λ k d _. length-pair first second (get_or places k d)) (omega (arith, inside))
 
 pub subframe-small : (first second : SeenSlot) (places : List Place) → AllWithin 127 (subframe_values first second places)
 unfolding subframe_values

@@ -1,0 +1,119 @@
+-- The system information of a plan that can be sent: what grants it, its block, and the text in it.
+use Rattle.std.proofs.Common.{◌≡◌, ℕ, zero, suc, ◌-◌, ◌/◌, ◌%◌, ◌<◌, ◌≤◌, Bool, true, false, List, [], ◌∷◌, length, replicate, Option, Some, None, Ok, refl, ap, sym, subst, ◌∙◌, arith}
+use Rattle.std.specs.Prelude.{IsSome, IsSomeAnd, slice_index_or}
+use Rattle.std.specs.Option.{unwrap_or}
+use Rattle.std.proofs.lemmas.List.{length-append, length-replicate}
+use Rattle.std.proofs.lemmas.Bool.{false≢true}
+use Rattle.cs_bits.specs.Numbers.{bits_of}
+use Rattle.cs_bits.specs.Checks.{crc24a_of, message_of, has_check_24}
+use Rattle.cs_bits.proofs.Numbers.{length-bits_of}
+use Rattle.cs_bits.proofs.Checks.{checked_24, message_is}
+use Rattle.grid_map.specs.Control.{element_count}
+use Rattle.grid_map.proofs.Indexed.{elements_fit}
+use Rattle.dci.specs.Sizes.{size_of}
+use Rattle.dci.specs.Format1A.{IsGrant}
+use Rattle.turbo_code.specs.declared.rows.Row.{Row}
+use Rattle.turbo_code.specs.Table.{IsRow}
+use Rattle.sib1.specs.Text.{text_of}
+use Rattle.sib1.specs.Message.{Says}
+use Rattle.sib1.proofs.Texts.{is_text_of}
+use Rattle.sib1.proofs.Messages.{whatever_follows}
+use Rattle.cell_tx.specs.declared.cell.CellPlan.{CellPlan}
+use Rattle.cell_tx.specs.Plan.{IsSendable, block_size, checked_size}
+use Rattle.cell_tx.specs.Control.{version_of, grant_of}
+use Rattle.cell_tx.specs.Shared.{system_text, filled, row_with, shared_word}
+use Rattle.cell_tx.proofs.BlockRows.{size_fits, row_with_is, mcs_small}
+
+-- ---- the grant
+
+turn : (n : ℕ) → n < 4 → slice_index_or (0 ∷ 2 ∷ 3 ∷ 1 ∷ []) n 0 < 4
+turn zero l = omega arith
+turn (suc zero) l = omega arith
+turn (suc (suc zero)) l = omega arith
+turn (suc (suc (suc zero))) l = omega arith
+turn (suc (suc (suc (suc n)))) l = absurd (omega (arith, l))
+
+-- there are four redundancy versions
+pub version-fits : (number : ℕ) → version_of number < 4
+version-fits number = turn (number % 8 / 2) (omega arith)
+
+some_is : (o : Option ℕ) → IsSome o → o ≡ Some (unwrap_or o 0)
+some_is (Some n) there = refl
+some_is None there = absurd (false≢true there)
+
+-- the row of its K is one of the table
+pub record IsRowOf (k : ℕ) (row : Row) : Type 0 where
+  pub is : IsRow row
+  pub size : row.k ≡ k
+
+module _ (plan : CellPlan) (sendable : IsSendable plan) where
+  -- the table has a size
+  sized : size_of plan.mcs plan.column ≡ Some (block_size plan)
+  sized = some_is (size_of plan.mcs plan.column) sendable.mcs
+
+  -- bits carry what grants it in each frame
+  pub grant_is : (number : ℕ) → IsGrant (grant_of plan number)
+  grant_is number = record {
+    blocks = sendable.assignment;
+    mcs_valid = mcs_small plan.mcs plan.column (block_size plan) sized;
+    rv_valid = let fits = version-fits number in omega (arith, fits);
+    column_valid = sendable.column;
+    size_is = sized;
+  }
+
+  -- and there are the elements to send it
+  pub elements_are : 4 ≤ element_count plan.cfi plan.duration plan.resource
+  elements_are = elements_fit plan.cfi plan.duration plan.resource sendable.cfi.0 sendable.cfi.1
+
+  -- ---- the block
+
+  -- its size has a row
+  pub row_is : IsRowOf (checked_size plan) (row_with (checked_size plan))
+  row_is =
+      let (r, is, size) = size_fits plan.mcs plan.column (block_size plan) sized in
+      let same : r ≡ row_with (checked_size plan) = sym (row_with_is r is) ∙ ap row_with size in
+      subst (IsRowOf (checked_size plan)) same (record { is = is; size = size })
+
+  -- its check passes
+  pub word_checked : has_check_24 (shared_word plan) ≡ true
+  unfolding shared_word
+  word_checked = checked_24 (filled (block_size plan) (system_text plan))
+
+  -- before its check stands the text, followed by zeros
+  pub word_message : message_of 24 (shared_word plan) ≡ filled (block_size plan) (system_text plan)
+  unfolding shared_word
+  word_message =
+      message_is 24 (filled (block_size plan) (system_text plan)) (bits_of 24 (crc24a_of (filled (block_size plan) (system_text plan))))
+      (length-bits_of 24 (crc24a_of (filled (block_size plan) (system_text plan))))
+
+  -- the text of the plan's fields, which fits
+  record HasText : Type 0 where
+    is : text_of plan.sib1 ≡ Some (system_text plan)
+    fits : length (system_text plan) ≤ block_size plan
+
+  has_text : HasText
+  has_text = there (text_of plan.sib1) refl sendable.text
+    where
+      there : (o : Option (List Bool)) → text_of plan.sib1 ≡ o → IsSomeAnd o (λ text. length text ≤ block_size plan) → HasText
+      there (Some text) e fits = let is : system_text plan ≡ text = ap (λ o. unwrap_or o []) e in record { is = e ∙ ap (λ (t : List Bool). Some t) (sym is); fits = rw is fits }
+      there None e none = absurd none
+
+  -- the word has the size of its row
+  pub word_size : length (shared_word plan) ≡ checked_size plan
+  unfolding shared_word
+  word_size =
+      let text : List Bool = system_text plan in
+      let message : List Bool = filled (block_size plan) text in
+      let a = length-append message (bits_of 24 (crc24a_of message)) in
+      let b = length-bits_of 24 (crc24a_of message) in
+      let c = length-append text (replicate (block_size plan - length text) false) in
+      let d = length-replicate (block_size plan - length text) false in
+      let fits = has_text.fits in
+      omega (arith, a, b, c, d, fits)
+
+  -- what is read of it are the fields
+  pub word_says : Says (message_of 24 (shared_word plan)) (Ok plan.sib1)
+  word_says =
+      let text : List Bool = system_text plan in
+      subst (λ bits. Says bits (Ok plan.sib1)) (sym word_message)
+      (whatever_follows text (replicate (block_size plan - length text) false) plan.sib1 (is_text_of text plan.sib1 has_text.is))
