@@ -1,5 +1,5 @@
 -- The list of a clean recording holds its cell.
-use Rattle.std.proofs.Common.{ℕ, ◌/◌, ◌%◌, ◌<◌, ◌≤◌, arith, refl, ap, sym, List, length}
+use Rattle.std.proofs.Common.{ℕ, ◌/◌, ◌%◌, ◌<◌, ◌≤◌, arith, refl, ap, sym, List, length, Ok}
 use Rattle.cs_num.specs.declared.Cpx.{Cpx}
 use Rattle.cs_num.specs.declared.Sample.{Sample}
 use Rattle.lte_types.specs.declared.bandwidth.Bandwidth.TheVariants.{N6}
@@ -18,16 +18,17 @@ use Rattle.cell_tx.specs.Block.{broadcast_word}
 use Rattle.cell_tx.specs.Clean.{IsClean, start_of as start_after, number_at_start}
 use Rattle.explain.specs.Frame.{frame_at, seen_slot, broadcast_slot}
 use Rattle.explain.specs.Entries.{IsExplained}
-use Rattle.explain.specs.System.{IsSystemOf}
+use Rattle.explain.specs.System.{even_frame, IsSystemOf}
 use Rattle.explain.specs.Window.{IsMasterAt}
 use Rattle.explain.proofs.FirstFrame.{one_master_at}
-use Rattle.explain.proofs.Information.{one_system, some_system}
+use Rattle.explain.proofs.Information.{one_system, first_tried, even_number, told_at_first}
 use Rattle.clean_air.specs.Clean.{IsSentEntry, HoldsCleanCells}
 use Rattle.clean_air.proofs.Held.{IsHeard, heard_is_held}
 use Rattle.clean_air.proofs.Masters.{received_slot_tells}
 use Rattle.clean_air.proofs.SentSymbols.{first_frame, primary_at, synchronisation_at}
 use Rattle.clean_air.proofs.SentBlock.{is_block}
 use Rattle.clean_air.proofs.SentSlots.{slot_grid, slot_received, carries_word}
+use Rattle.clean_air.proofs.SentSystem.{fields_read}
 
 -- ---- what a clean recording tells
 
@@ -57,7 +58,7 @@ module _ (recording : List Sample) (plan : CellPlan) (sfn offset : ℕ) (gain : 
   word_told =
       let number : ℕ = number_at_start sfn offset in
       let block = is_block plan number sendable.spare (number_fits sfn offset clean.number clean.samples.within) in
-      received_slot_tells recording (useful_start normal (frame_at (start_after offset) 0) 1) (slot_grid plan number) (sent_slot recording plan offset) (number % 4) 1 (broadcast_word plan number)
+      received_slot_tells recording (useful_start normal (frame_at (start_after offset) 0) 1) (slot_grid plan number 1) (sent_slot recording plan offset) (number % 4) 1 (broadcast_word plan number)
       (slot_received recording plan sfn offset gain eps clean long) block.size (carries_word plan number) block.check (omega (arith, block.width))
 
   -- so they tell its master block
@@ -95,7 +96,10 @@ pub holds_clean_cells : (recording : List Sample) (list : List Entry) → 57600 
 holds_clean_cells recording list long explained plan sfn offset gain eps sendable clean =
     let number : ℕ = number_at_start sfn offset in
     let master : Master = sent_master recording plan sendable.spare offset number in
-    let (sib1, system) = some_system recording plan.identity (start_after offset) number master.ports master.mib long (omega arith) in
-    heard_is_held (IsMasterAt recording) (IsSystemOf recording) (one_master_at recording) (one_system recording) recording plan.identity offset number master sib1
+    let early : start_after offset < 19200 = omega arith in
+    let whole = (first_tried recording (start_after offset) number long early).whole in
+    let read = fields_read recording plan sfn offset gain eps sendable clean (even_frame number 0) whole (even_number number 0) in
+    let system = told_at_first recording plan.identity (start_after offset) number master.mib plan.sib1 long early refl read in
+    heard_is_held (IsMasterAt recording) (IsSystemOf recording) (one_master_at recording) (one_system recording) recording plan.identity offset number master (Ok plan.sib1)
     (is_heard recording plan sfn offset gain eps sendable clean long) system list explained (IsSentEntry plan number)
-    (record { ports = refl; block = record { bandwidth = refl; duration = refl; resource = refl; upper = refl; spare = refl } })
+    (record { ports = refl; block = record { bandwidth = refl; duration = refl; resource = refl; upper = refl; spare = refl }; sib1 = refl })

@@ -4,8 +4,16 @@ pub mod Estimates
 pub mod SoftValues
 -- Words. Where all values speak for one word, it alone costs nothing.
 pub mod SpokenWords
--- So the values of places that carry a word tell it.
+-- The values of places that carry bits speak for them; where these are a word's, they tell it.
 pub mod Speaking
+-- Where the places of the channels stand.
+pub mod Placed
+-- So do those of a subframe, each seen in its slot.
+pub mod Subframes
+-- The control region tells the indicator and the grant that were sent, and the attempt has them.
+pub mod Controls
+-- And the block that they carry is told.
+pub mod SharedBlocks
 -- And the broadcast channel of a slot tells the master block that was sent.
 pub mod Masters
 -- The described cell. Equal amplitudes are received equally.
@@ -18,6 +26,8 @@ pub mod SentBlock
 pub mod TruePlaces
 -- Its broadcast slot is received and carries the word.
 pub mod SentSlots
+-- Its frames of even number answer with its system information.
+pub mod SentSystem
 -- A list holds each cell that is heard.
 pub mod Held
 -- All together: the list of a clean recording holds its cell.

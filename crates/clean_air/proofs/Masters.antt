@@ -1,5 +1,5 @@
 -- A slot that carries the word of a master block tells it.
-use Rattle.std.proofs.Common.{◌≡◌, ℕ, ◌*◌, ◌%◌, ◌<◌, ◌≤◌, arith, sym, subst, Bool, not, List, length, ℤ, nat_abs, nat_le, nat_lt, nat_eq, true}
+use Rattle.std.proofs.Common.{◌≡◌, ℕ, ◌+◌, ◌*◌, ◌%◌, ◌<◌, ◌≤◌, arith, sym, subst, Bool, not, List, length, ℤ, nat_abs, nat_le, nat_lt, nat_eq, true}
 use Rattle.std.specs.Prelude.{◌&&◌, All}
 use Rattle.std.proofs.lemmas.Bool.Decides.{nat_tests}
 use Rattle.std.proofs.lemmas.List.Elements.{All-from_get_or}
@@ -16,12 +16,13 @@ use Rattle.grid_map.specs.Place.{place}
 use Rattle.grid_map.specs.Broadcast.{pbch_places, pbch_place, is_pbch}
 use Rattle.grid_map.specs.Scrambling.{pbch_c_init}
 use Rattle.grid_map.proofs.Points.{length-pbch_places, places_inside}
-use Rattle.soft_bits.specs.Places.{descrambled}
+use Rattle.soft_bits.specs.Places.{soft_values_of, descrambled}
 use Rattle.pbch.specs.Values.{received_values, frame_values, coded_values}
 use Rattle.pbch.specs.Master.{total}
 use Rattle.pbch.proofs.Sums.{length-received_values}
 use Rattle.clean_air.specs.Words.{IsOnlyWord}
-use Rattle.clean_air.specs.Carried.{SpeakOfWord, sums_of}
+use Rattle.cell_tx.specs.Block.{scrambled_bit}
+use Rattle.clean_air.specs.Carried.{SpeakOfWord, sums_of, AreHeard}
 use Rattle.clean_air.specs.Broadcast.{SentWordIsTold, ReceivedSlotTells}
 use Rattle.clean_air.proofs.Speaking.{sums_speak_all, sent_word_is_only, carried_bits_are_heard}
 
@@ -81,11 +82,13 @@ received_slot_tells recording starts grids slot phase ports word received size c
     aligned : (480 * phase) % (3 * 40) ≡ 0
     aligned = omega arith
 
+    heard : AreHeard 8 (2 * length (pbch_places slot.identity)) (λ n. scrambled_bit (pbch_c_init slot.identity) word (480 * phase + n)) (soft_values_of slot (pbch_places slot.identity))
+    heard = carried_bits_are_heard recording starts grids slot (pbch_places slot.identity) (λ n. scrambled_bit (pbch_c_init slot.identity) word (480 * phase + n)) received (all_below_72 slot.identity) carry
+
     speaks : SpeakOfWord (pbch_c_init slot.identity) (480 * phase) word (received_values slot)
     speaks = record {
       begins = subst (λ n. (480 * phase) % (3 * n) ≡ 0) (sym size) aligned;
       enough = omega (arith, size, many);
       value = λ i l. supports-less 1 8 _ _ (omega arith)
-          (carried_bits_are_heard recording starts grids slot (pbch_places slot.identity) (pbch_c_init slot.identity) (480 * phase) word received (all_below_72 slot.identity) carry
-          i (omega (arith, l, many, length-pbch_places slot.identity)));
+          (heard.value i (omega (arith, l, many, length-pbch_places slot.identity)));
     }

@@ -1,4 +1,4 @@
--- The broadcast channel of a clean recording: its slot is received and carries the cell's word.
+-- The slots of a clean recording: each of a whole frame is received as it was sent, and the broadcast channel carries the cell's word.
 use Rattle.std.proofs.Common.{◌≡◌, ℕ, ◌+◌, ◌*◌, ◌/◌, ◌%◌, ◌<◌, ◌≤◌, arith, refl, ap, sym, subst, ◌∙◌, List, [], length, nat_eq, Bool, true, false, None}
 use Rattle.std.specs.Prelude.{if◌then◌else◌, ◌&&◌}
 use Rattle.std.proofs.lemmas.Bool.Decides.{nat_tests}
@@ -22,15 +22,15 @@ use Rattle.cell_tx.specs.Rows.{reference_if}
 use Rattle.cell_tx.proofs.Bounds.{element-square}
 use Rattle.cell_tx.proofs.Elements.{element_of_channel, channel_of_broadcast}
 use Rattle.lte_types.specs.Numerology.{normal, useful_start}
-use Rattle.explain.specs.Frame.{frame_at, seen_slot, broadcast_slot}
+use Rattle.explain.specs.Frame.{IsWhole, frame_at, seen_slot, broadcast_slot}
 use Rattle.budget.specs.Received.{IsReceived, samples_from}
 use Rattle.clean_air.specs.Values.{IsSlotReceived}
 use Rattle.clean_air.specs.Carried.{CarryWord}
 use Rattle.clean_air.proofs.SentSymbols.{received_at, first_frame}
 
--- the grid of a symbol of slot 1 of the frame with this number
-abbrev pub slot_grid : CellPlan → ℕ → ℕ → ℕ → Cpx
-slot_grid plan number l = element plan number 0 (7 + l)
+-- the grid of the symbols of slot 0 to 19 of the frame with this number
+abbrev pub slot_grid : CellPlan → ℕ → ℕ → ℕ → ℕ → Cpx
+slot_grid plan number slot l = element plan number (slot / 2) (7 * (slot % 2) + l)
 
 -- ---- the reference signals
 
@@ -52,18 +52,18 @@ pilot_place identity i = settle (is_reference identity 0 (pilot_subcarrier ident
     settle true e = record { is = e; inside = omega arith }
     settle false e = record { is = other_symbol identity i (pilot_subcarrier identity i) refl e; inside = omega arith }
 
-reference_here : (plan : CellPlan) (number l k : ℕ) → l < 7 → is_reference plan.identity l k ≡ true → slot_grid plan number l k ≡ reference_at plan.identity 1 l k
+reference_here : (plan : CellPlan) (number slot l k : ℕ) → l < 7 → is_reference plan.identity l k ≡ true → slot_grid plan number slot l k ≡ reference_at plan.identity slot l k
 unfolding element
-reference_here plan number l k inside is =
-    let symbol : (7 + l) % 7 ≡ l = omega arith in
-    let slot : (7 + l) / 7 ≡ 1 = omega arith in
-    rw (symbol, slot, is) refl
+reference_here plan number slot l k inside is =
+    let symbol : (7 * (slot % 2) + l) % 7 ≡ l = omega (arith, inside) in
+    let place : 2 * (slot / 2) + (7 * (slot % 2) + l) / 7 ≡ slot = omega (arith, inside) in
+    rw (symbol, place, is) refl
 
-pub references_stand : (plan : CellPlan) (number i : ℕ) → slot_grid plan number (pilot_symbol plan.identity i) (pilot_subcarrier plan.identity i) ≡ pilot_sent plan.identity 1 i
+pub references_stand : (plan : CellPlan) (number slot i : ℕ) → slot_grid plan number slot (pilot_symbol plan.identity i) (pilot_subcarrier plan.identity i) ≡ pilot_sent plan.identity slot i
 unfolding pilot_sent
-references_stand plan number i =
+references_stand plan number slot i =
     let p = pilot_place plan.identity i in
-    reference_here plan number (pilot_symbol plan.identity i) (pilot_subcarrier plan.identity i) p.inside p.is
+    reference_here plan number slot (pilot_symbol plan.identity i) (pilot_subcarrier plan.identity i) p.inside p.is
 
 -- ---- the places of the broadcast channel
 
@@ -88,7 +88,7 @@ point_here plan number symbol k i at e =
     ∙ channel_of_broadcast plan number 0 symbol k at.here ∙ ap (broadcast_point plan number) (sym e)
 
 pub points_stand : (plan : CellPlan) (number i : ℕ) → i < 240 →
-    slot_grid plan number ((pbch_place plan.identity i).symbol % 7) (pbch_place plan.identity i).k ≡ broadcast_point plan number i
+    slot_grid plan number 1 ((pbch_place plan.identity i).symbol % 7) (pbch_place plan.identity i).k ≡ broadcast_point plan number i
 points_stand plan number i inside =
     let p = pbch_place plan.identity i in
     let is = places_inside plan.identity i inside in
@@ -97,24 +97,50 @@ points_stand plan number i inside =
     ap (λ n. element plan number 0 n p.k) symbol ∙ point_here plan number p.symbol p.k i at (sym (index_of_place plan.identity i inside))
 
 pub carries_word : (plan : CellPlan) (number : ℕ) →
-    CarryWord (slot_grid plan number) (pbch_places plan.identity) (pbch_c_init plan.identity) (480 * (number % 4)) (broadcast_word plan number)
+    CarryWord (slot_grid plan number 1) (pbch_places plan.identity) (pbch_c_init plan.identity) (480 * (number % 4)) (broadcast_word plan number)
 unfolding pbch_place broadcast_point broadcast_bit
 carries_word plan number i inside = points_stand plan number i (omega (arith, inside, length-pbch_places plan.identity))
 
--- ---- the slot
+-- ---- the slots
 
-pub slot_received : (recording : List Sample) (plan : CellPlan) (sfn offset : ℕ) (gain : Cpx) (eps : ℕ) → IsClean recording plan sfn offset gain eps → 57600 ≤ length recording →
-    IsSlotReceived recording (useful_start normal (frame_at (start_of offset) 0) 1) (slot_grid plan (number_at_start sfn offset)) (broadcast_slot recording plan.identity (start_of offset) 0)
+-- the number of frame j of the recording, and where it begins in what is sent
+record IsFrameOf (sfn offset j : ℕ) (n : ℕ) : Type 0 where
+  place : frame_at (start_of offset) j + offset ≡ 19200 * n
+  number : (sfn + n) % 1024 ≡ (number_at_start sfn offset + j) % 1024
+
+frame_is : (sfn offset j : ℕ) → sfn ≤ 1023 → offset < 19200 → IsFrameOf sfn offset j ((if nat_eq offset 0 then 0 else 1) + j)
+frame_is sfn offset j known within =
+    let first = first_frame sfn offset known within in
+    record { place = omega (arith, first.place); number = omega (arith, first.number) }
+
+-- each slot of a whole frame is received
+pub each_slot_received : (recording : List Sample) (plan : CellPlan) (sfn offset : ℕ) (gain : Cpx) (eps : ℕ) → IsClean recording plan sfn offset gain eps →
+    (j slot : ℕ) → IsWhole recording (start_of offset) j → slot < 20 →
+    IsSlotReceived recording (useful_start normal (frame_at (start_of offset) j) slot) (slot_grid plan ((number_at_start sfn offset + j) % 1024) slot)
+    (seen_slot recording (frame_at (start_of offset) j) slot plan.identity)
 unfolding seen_slot
-slot_received recording plan sfn offset gain eps clean long =
-    let j : ℕ = if nat_eq offset 0 then 0 else 1 in
-    let first = first_frame sfn offset clean.number clean.samples.within in
+each_slot_received recording plan sfn offset gain eps clean j slot whole few =
+    let number : ℕ = (number_at_start sfn offset + j) % 1024 in
+    let start : ℕ → ℕ = useful_start normal (frame_at (start_of offset) j) slot in
+    let n : ℕ = (if nat_eq offset 0 then 0 else 1) + j in
+    let frame = frame_is sfn offset j clean.number clean.samples.within in
     record {
       eps = eps;
       gain = gain;
-      seen = λ l inside. values_below_at (λ symbol. seen_symbol recording (useful_start normal (frame_at (start_of offset) 0) 1 symbol)) 7 l [] inside;
-      amplitudes = λ l inside k within. element-square plan (number_at_start sfn offset) 0 (7 + l) k;
-      received = λ l inside. subst (λ n. IsReceived eps gain (slot_grid plan n l) (samples_from recording (useful_start normal (frame_at (start_of offset) 0) 1 l))) first.number
-          (received_at recording (element plan) sfn offset gain eps (useful_start normal (frame_at (start_of offset) 0) 1 l) j 1 l clean.samples (omega arith) inside (omega (arith, long, inside)) (omega (arith, first.place)));
-      references = λ i inside. references_stand plan (number_at_start sfn offset) i;
+      seen = λ l inside. values_below_at (λ symbol. seen_symbol recording (start symbol)) 7 l [] inside;
+      amplitudes = λ l inside k within. element-square plan number (slot / 2) (7 * (slot % 2) + l) k;
+      received = λ l inside. subst (λ m. IsReceived eps gain (slot_grid plan m slot l) (samples_from recording (start l))) frame.number
+          (received_at recording (element plan) sfn offset gain eps (start l) n slot l clean.samples few inside (omega (arith, whole, inside, few)) (omega (arith, frame.place)));
+      references = λ i inside. references_stand plan number slot i;
     }
+
+-- so that which carries the broadcast channel in the first frame is
+pub slot_received : (recording : List Sample) (plan : CellPlan) (sfn offset : ℕ) (gain : Cpx) (eps : ℕ) → IsClean recording plan sfn offset gain eps → 57600 ≤ length recording →
+    IsSlotReceived recording (useful_start normal (frame_at (start_of offset) 0) 1) (slot_grid plan (number_at_start sfn offset) 1) (broadcast_slot recording plan.identity (start_of offset) 0)
+slot_received recording plan sfn offset gain eps clean long =
+    let number : (number_at_start sfn offset + 0) % 1024 ≡ number_at_start sfn offset = first_number sfn offset clean.number in
+    subst (λ m. IsSlotReceived recording (useful_start normal (frame_at (start_of offset) 0) 1) (slot_grid plan m 1) (broadcast_slot recording plan.identity (start_of offset) 0)) number
+    (each_slot_received recording plan sfn offset gain eps clean 0 1 (omega (arith, long)) (omega arith))
+  where
+    first_number : (sfn offset : ℕ) → sfn ≤ 1023 → (number_at_start sfn offset + 0) % 1024 ≡ number_at_start sfn offset
+    first_number sfn offset known = grind (arith, nat_tests)

@@ -118,7 +118,8 @@ read_symbol : (recording : List Sample) (start k : ℕ) → k < 72 → value_at 
 unfolding seen_symbol
 read_symbol recording start k l = values_below_at (seen recording start) 72 k nothing l
 
-place_seen : (recording : List Sample) (starts : ℕ → ℕ) (grids : ℕ → ℕ → Cpx) (slot : SeenSlot) (slot_is : IsSlotReceived recording starts grids slot) (symbol k : ℕ) → symbol < 7 → k < 72 →
+-- each place of a received slot is seen with its gain
+pub place_seen : (recording : List Sample) (starts : ℕ → ℕ) (grids : ℕ → ℕ → Cpx) (slot : SeenSlot) (slot_is : IsSlotReceived recording starts grids slot) (symbol k : ℕ) → symbol < 7 → k < 72 →
     IsSeenAs slot_is.gain (grids symbol k) (seen_at slot symbol k)
 place_seen recording starts grids slot is symbol k few inside =
     subst (λ (z : Cpx). IsSeenAs is.gain (grids symbol k) z) (sym (ap (λ (xs : List Cpx). value_at xs k) (is.seen symbol few) ∙ read_symbol recording (starts symbol) k inside))
@@ -132,7 +133,7 @@ pilot_symbol-few identity i = few (is_reference identity 0 (pilot_subcarrier ide
     few true = omega arith
     few false = omega arith
 
-pilots_seen : (recording : List Sample) (starts : ℕ → ℕ) (grids : ℕ → ℕ → Cpx) (slot : SeenSlot) (slot_is : IsSlotReceived recording starts grids slot) → ArePilotsSeen slot_is.gain slot
+pub pilots_seen : (recording : List Sample) (starts : ℕ → ℕ) (grids : ℕ → ℕ → Cpx) (slot : SeenSlot) (slot_is : IsSlotReceived recording starts grids slot) → ArePilotsSeen slot_is.gain slot
 unfolding pilot_seen
 pilots_seen recording starts grids slot is = record {
   sounds = (is.received 0 (omega arith)).sounds;

@@ -1,7 +1,11 @@
--- The values of places that carry the scrambled bits of a word: they speak for it, and tell it alone.
+-- The values of places that carry bits: they speak for them. Where these are the scrambled bits of a word, they tell it
+-- alone.
 use Rattle.std.proofs.Common.{◌≡◌, ℕ, ◌+◌, ◌*◌, ◌/◌, ◌%◌, ◌<◌, ◌≤◌, ◌⊎◌, inl, inr, arith, refl, ap, sym, ◌∙◌, subst, Bool, List, length, get_or, ℤ, pos}
 use Rattle.std.proofs.Math.Nat.{mod-add-div', mul-add-mod_self_right}
 use Rattle.std.proofs.lemmas.Bool.{cases_lt}
+use Rattle.std.specs.Prelude.{All}
+use Rattle.cs_num.specs.declared.Cpx.{Cpx}
+use Rattle.cs_num.specs.declared.Sample.{Sample}
 use Rattle.gold.specs.Gold.{gold_bit}
 use Rattle.conv_code.specs.Code.{coded_word}
 use Rattle.conv_code.specs.Reading.{bit_at_place, place_of}
@@ -10,13 +14,14 @@ use Rattle.cs_bits.specs.Signs.{Supports}
 use Rattle.tailbite.specs.Clean.{Speaks}
 use Rattle.grid_map.specs.declared.Place.{Place}
 use Rattle.grid_map.specs.Place.{place}
+use Rattle.soft_bits.specs.Soft.{SeenSlot, seen_at}
 use Rattle.soft_bits.specs.Places.{values_at, descrambled, descrambled_value}
-use Rattle.soft_bits.proofs.Channel.{soft_values_of-at, length-descrambled, descrambled-at}
-use Rattle.cell_tx.specs.Block.{scrambled_bit}
-use Rattle.clean_air.specs.Values.{SupportBoth}
+use Rattle.soft_bits.proofs.Channel.{length-soft_values_of, soft_values_of-at, length-descrambled, descrambled-at}
+use Rattle.budget.specs.Received.{IsSeenAs}
+use Rattle.clean_air.specs.Values.{SupportBoth, IsSlotReceived}
 use Rattle.clean_air.specs.Words.{SpeakInOrder}
-use Rattle.clean_air.specs.Carried.{SpeakOfWord, sums_of, SentWordIsOnly, CarriedBitsAreHeard}
-use Rattle.clean_air.proofs.SoftValues.{received_values_support_bits}
+use Rattle.clean_air.specs.Carried.{SpeakOfWord, sums_of, SentWordIsOnly, ArePlacesSeen, SeenBitsAreHeard, DescrambledBitsAreHeard, CarryBits, CarriedBitsAreHeard}
+use Rattle.clean_air.proofs.SoftValues.{values_support_bits, place_seen, pilots_seen}
 use Rattle.clean_air.proofs.SpokenWords.{descrambling_keeps, sums_speak, spoken_word_is_only}
 
 -- ---- values in the order of the reading
@@ -54,7 +59,7 @@ sent_word_is_only c_init first word values low high speaks =
     let size = length-summed (length word) (descrambled c_init first values) in
     spoken_word_is_only (sums_of c_init first (length word) values) word (omega (arith, low, size)) (sym size) (sums_speak_all c_init first word values low high speaks)
 
--- ---- in a recording
+-- ---- the values of places
 
 even_or_odd : (i : ℕ) → ((i % 2 ≡ 0) × (2 * (i / 2) ≡ i)) ⊎ ((i % 2 ≡ 1) × (2 * (i / 2) + 1 ≡ i))
 even_or_odd i = elim (cases_lt (i % 2) 1) [
@@ -63,21 +68,47 @@ even_or_odd i = elim (cases_lt (i % 2) 1) [
 ]
 
 -- one of the two values of a place
-one_value : (values : List ℤ) (i : ℕ) (bit : ℕ → Bool) → SupportBoth 8 (bit (2 * (i / 2))) (bit (2 * (i / 2) + 1)) values → Supports 8 (bit i) (get_or values (i % 2) (pos 0))
-one_value values i bit both = elim (even_or_odd i) [
-  | inl (place, index) ↦ subst (λ (n : ℕ). Supports 8 (bit i) (get_or values n (pos 0))) (sym place) (subst (λ (n : ℕ). Supports 8 (bit n) (get_or values 0 (pos 0))) index both.re)
-  | inr (place, index) ↦ subst (λ (n : ℕ). Supports 8 (bit i) (get_or values n (pos 0))) (sym place) (subst (λ (n : ℕ). Supports 8 (bit n) (get_or values 1 (pos 0))) index both.im)
+pub one_value : (values : List ℤ) (i : ℕ) (bits : ℕ → Bool) → SupportBoth 8 (bits (2 * (i / 2))) (bits (2 * (i / 2) + 1)) values → Supports 8 (bits i) (get_or values (i % 2) (pos 0))
+one_value values i bits both = elim (even_or_odd i) [
+  | inl (place, index) ↦ subst (λ (n : ℕ). Supports 8 (bits i) (get_or values n (pos 0))) (sym place) (subst (λ (n : ℕ). Supports 8 (bits n) (get_or values 0 (pos 0))) index both.re)
+  | inr (place, index) ↦ subst (λ (n : ℕ). Supports 8 (bits i) (get_or values n (pos 0))) (sym place) (subst (λ (n : ℕ). Supports 8 (bits n) (get_or values 1 (pos 0))) index both.im)
 ]
 
-pub carried_bits_are_heard : CarriedBitsAreHeard
-carried_bits_are_heard recording starts grids slot places c_init first word received inside carry i l =
-    subst (Supports 8 (scrambled_bit c_init word (first + i))) (sym (soft_values_of-at slot places i l))
-    (one_value (values_at slot p) i (λ n. scrambled_bit c_init word (first + n))
-    (received_values_support_bits recording starts grids slot (p.symbol % 7) p.k (scrambled_bit c_init word (first + 2 * (i / 2))) (scrambled_bit c_init word (first + (2 * (i / 2) + 1)))
-    received (omega arith) (inside (i / 2) (place 0 0) half) (carry (i / 2) half)))
+pub seen_bits_are_heard : SeenBitsAreHeard
+seen_bits_are_heard gain slot places bits pilots points = record {
+  size = length-soft_values_of slot places;
+  value = λ i l. subst (Supports 8 (bits i)) (sym (soft_values_of-at slot places i l)) (one_value (values_at slot (here i)) i bits (both i (omega (arith, l))));
+}
   where
-    half : i / 2 < length places
-    half = omega (arith, l)
+    here : ℕ → Place
+    here i = get_or places (i / 2) (place 0 0)
 
+    both : (i : ℕ) → i / 2 < length places → SupportBoth 8 (bits (2 * (i / 2))) (bits (2 * (i / 2) + 1)) (values_at slot (here i))
+    both i half = values_support_bits gain slot ((here i).symbol % 7) (here i).k (bits (2 * (i / 2))) (bits (2 * (i / 2) + 1)) pilots (points (i / 2) half)
+
+pub descrambled_bits_are_heard : DescrambledBitsAreHeard
+descrambled_bits_are_heard least count c_init bits values heard = record {
+  size = length-descrambled c_init 0 values ∙ heard.size;
+  value = λ i l.
+      subst (Supports least (bits i)) (sym (descrambled-at c_init 0 values i (let size = heard.size in omega (arith, l, size))))
+      (subst (λ n. Supports least (bits i) (descrambled_value (gold_bit c_init n) (get_or values i (pos 0)))) (from_start i)
+      (descrambling_keeps least (bits i) (gold_bit c_init i) (get_or values i (pos 0)) (heard.value i l)));
+}
+  where
+    from_start : (n : ℕ) → n ≡ 0 + n
+    from_start n = omega arith
+
+-- ---- in a recording
+
+pub places_seen : (recording : List Sample) (starts : ℕ → ℕ) (grids : ℕ → ℕ → Cpx) (slot : SeenSlot) (received : IsSlotReceived recording starts grids slot) (places : List Place) (bits : ℕ → Bool) →
+    All (λ p. p.k < 72) places → CarryBits grids places bits → ArePlacesSeen received.gain slot places bits
+places_seen recording starts grids slot received places bits inside carry i l =
+    subst (λ (z : Cpx). IsSeenAs received.gain z (seen_at slot (p.symbol % 7) p.k)) (carry i l)
+    (place_seen recording starts grids slot received (p.symbol % 7) p.k (omega arith) (inside i (place 0 0) l))
+  where
     p : Place
-    p = get_or places (i / 2) (place 0 0)
+    p = get_or places i (place 0 0)
+
+pub carried_bits_are_heard : CarriedBitsAreHeard
+carried_bits_are_heard recording starts grids slot places bits received inside carry =
+    seen_bits_are_heard received.gain slot places bits (pilots_seen recording starts grids slot received) (places_seen recording starts grids slot received places bits inside carry)

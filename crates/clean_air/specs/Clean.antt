@@ -1,5 +1,5 @@
 -- The list of cells of a clean recording: it holds the cell that was sent. (own)
-use Rattle.std.specs.Prelude.{◌≡◌, ℕ, ◌/◌, List}
+use Rattle.std.specs.Prelude.{◌≡◌, ℕ, ◌/◌, List, Ok}
 use Rattle.std.specs.List.{Contains}
 use Rattle.cs_num.specs.declared.Cpx.{Cpx}
 use Rattle.cs_num.specs.declared.Sample.{Sample}
@@ -21,11 +21,13 @@ pub record HoldsOne (list : List Entry) (identity first number : ℕ) (is_sent :
   pub sent : is_sent entry
   pub only : (other : Entry) → Contains list other → other.id ≡ identity → other.start ≡ first → other.sfn ≡ number → other ≡ entry
 
--- the entry has one antenna port (TS 36.212 section 5.3.1.1), and the fields of the master block of a cell in the
--- frame with this number, which holds the upper 8 bits of it (TS 36.331 section 6.2.2)
+-- the entry has one antenna port (TS 36.212 section 5.3.1.1), the fields of the master block of a cell in the frame with
+-- this number, which holds the upper 8 bits of it, and the fields of its SystemInformationBlockType1 (TS 36.331 section
+-- 6.2.2)
 pub record IsSentEntry (plan : CellPlan) (number : ℕ) (entry : Entry) : Type 0 where
   pub ports : entry.ports ≡ 1
   pub block : HasFields entry.mib N6 plan.duration plan.resource (number / 4) plan.spare
+  pub sib1 : entry.sib1 ≡ Ok plan.sib1
 
 -- the list holds the cell of which a frame begins at this sample with this number
 abbrev pub HoldsCell : List Entry → CellPlan → ℕ → ℕ → Type 0

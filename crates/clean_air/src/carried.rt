@@ -1,12 +1,15 @@
-//! Words that are sent at places of a slot.
+//! Bits that are sent at places of a slot.
 
-ghost use Rattle.clean_air.specs.Carried.{SentWordIsOnly, CarriedBitsAreHeard};
+ghost use Rattle.clean_air.specs.Carried.{SentWordIsOnly, SeenBitsAreHeard, DescrambledBitsAreHeard, CarriedBitsAreHeard};
 
 /// Where each soft value speaks for the scrambled bit of one word that stands there, the values tell
-/// this word and no other, whatever its channel is. The soft values of places that carry such bits
-/// do, in a slot of a recording that is received with one gain, each component of a sample off by at
-/// most twice its size.
+/// this word and no other, whatever its channel is. The soft values of places that carry bits do, each
+/// with size 8 and more: where the slot's pilots and these places are seen with one gain, and so in a
+/// recording whose slot is received with one gain, each component of a sample off by at most twice its
+/// size. Once they are descrambled, they speak for the bits before scrambling (TS 36.211 section 7.2).
 pub fn carried_word_is_heard()
     ensures only { SentWordIsOnly }
+    ensures seen { SeenBitsAreHeard }
+    ensures descrambled { DescrambledBitsAreHeard }
     ensures recording { CarriedBitsAreHeard }
 {}

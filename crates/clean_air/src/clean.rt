@@ -9,8 +9,9 @@ use sample_file::Recording;
 /// Afterwards the list is that of the recording, as `explain` makes it. Wherever the recording is
 /// what a cell sends times a whole-number gain of size 1 to 28, each component off by at most
 /// twice the gain's size, the list has an entry with this cell's identity, the sample at which its
-/// first frame begins, that frame's number, one antenna port, and its master block, and no other
-/// with this identity, sample and number. It takes no memory. (own)
+/// first frame begins, that frame's number, one antenna port, its master block, and the fields of its
+/// SystemInformationBlockType1, and no other with this identity, sample and number. It takes no
+/// memory. (own)
 pub fn explain_clean(recording: &Recording, work: &mut Workspace, list: &mut EntryList)
     ensures list { IsExplained recording.now list.new }
     ensures holds { HoldsCleanCells recording.now list.new }

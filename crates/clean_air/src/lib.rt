@@ -4,15 +4,21 @@
 //! premises; it speaks of the receiver's definitions alone.
 #![tactic(auto)]
 
+mod block;
 mod broadcast;
 mod carried;
 mod clean;
+mod control;
+mod subframe;
 mod values;
 mod words;
 
+pub use block::sent_block_is_told;
 pub use broadcast::sent_master_is_told;
 pub use carried::carried_word_is_heard;
 pub use clean::explain_clean;
+pub use control::{sent_grant_is_read, sent_grant_is_told, sent_indicator_is_told};
+pub use subframe::carried_blocks_are_heard;
 pub use values::values_support_the_sent_bits;
 pub use words::spoken_word_is_the_least;
 

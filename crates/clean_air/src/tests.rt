@@ -1,11 +1,24 @@
-ghost use Rattle.std.specs.Prelude.{◌≡◌, IfOk, length};
+ghost use Rattle.std.specs.Prelude.{◌≡◌, ◌+◌, ◌*◌, ◌^◌, ◌<◌, ◌≤◌, All, IfOk, IfSome, length};
+ghost use Rattle.cs_num.specs.Complex.{IsWithin};
+ghost use Rattle.dci.specs.Format1A.{IsGrant};
 
-use crate::explain_clean;
-use cs_num::Sample;
+use crate::*;
+use cell_tx::{Cell, CellPlan, frame};
+use cs_num::{Cpx, Sample, clamp_div};
+use dci::Grant;
 use explain::{EntryList, Workspace};
+use lte_types::{
+    Bandwidth, CellId, Duration, Mib, Mnc, Plmn, Plmns, Resource, Schedule, Sfn, SiMessage, Sib1,
+    Sibs,
+};
+use observe::symbol;
+use pdcch::candidate;
+use pdsch::{MOST_VALUES, values};
 use sample_file::Recording;
+use soft_bits::Slot;
 use std::alloc::{AllocError, Global};
 use std::test::Fail;
+use system_block::{Attempt, Decoders, attempt_in};
 
 // The samples of 30 ms of silence.
 fn silent_samples(alloc: Global) -> Result<Vec<Sample>, AllocError>
@@ -21,5 +34,188 @@ fn silence_has_no_cell(rt: HostRuntime) -> Result<(), Fail> {
     let recording = Recording::new(silent_samples(rt.alloc())?).expect(&rt, "30 ms");
     explain_clean(&recording, &mut work, &mut list);
     assert!(rt; list.slice().is_empty());
+    Ok(())
+}
+
+// A network with one message of system information.
+fn information() -> Sib1 {
+    let mut plmns = Plmns::new();
+    plmns.push(Plmn {
+        mcc: Some([0, 0, 1]),
+        mnc: Mnc::Two([0, 1]),
+        reserved: false,
+    });
+    let mut scheduling = Schedule::new();
+    scheduling.push(SiMessage {
+        period: 3,
+        sibs: Sibs::new(),
+    });
+    Sib1 {
+        plmns,
+        tac: 0x1a2b,
+        cell: 0x0abcdef,
+        barred: false,
+        intra: true,
+        csg: false,
+        csg_identity: None,
+        q_rx: -61,
+        q_offset: None,
+        p_max: None,
+        band: 20,
+        scheduling,
+        tdd: None,
+        window: 5,
+        tag: 9,
+        extended: false,
+    }
+}
+
+// A cell of identity 503 with indicator 3, whose system information is in blocks 1 to 5.
+fn cell() -> Option<Cell> {
+    let sib1 = information();
+    if !sib1.valid() {
+        return None;
+    }
+    let plan = CellPlan {
+        identity: 503,
+        duration: Duration::Extended,
+        resource: Resource::Two,
+        spare: 0,
+        cfi: 3,
+        start: 1,
+        blocks: 5,
+        mcs: 5,
+        column: 3,
+        sib1,
+    };
+    Cell::new(plan).ok()
+}
+
+// A component moved by ten against its sign.
+fn opposed(component: i64) -> i16
+    requires { IsWithin (2 ^ 20) (record { re = component; im = component }) }
+{
+    let moved = if component > 0 {
+        component - 10
+    } else {
+        component + 10
+    };
+    clamp_div(moved, 1, 32_767)
+}
+
+// A sample times 3 + 4j, whose size is 5, with an error of twice this size against each component.
+fn received(sent: Sample) -> Sample {
+    let (re, im) = (sent.re as i64, sent.im as i64);
+    Sample {
+        re: opposed(3 * re - 4 * im),
+        im: opposed(4 * re + 3 * im),
+    }
+}
+
+// Writes a frame, as it is received, to the front of the samples.
+fn receive(cell: &Cell, sfn: Sfn, samples: &mut [Sample])
+    requires { length samples.old ≡ 57600 }
+{
+    frame(cell, sfn, &mut samples[..19_200]);
+    for i in 0..19_200 {
+        samples[i] = received(samples[i]);
+    }
+}
+
+// What is seen of a symbol of a slot of the first frame.
+fn symbol_of(recording: &Recording, number: u8, l: usize) -> [Cpx; 72]
+    requires number { number < 20 }
+    requires l { l < 7 }
+    ensures { All (IsWithin (2 ^ 25)) result }
+{
+    let count = recording.len();
+    let start = 960 * number as usize + 137 * l + 10;
+    prove!(start + 128 <= count);
+    symbol(recording, start)
+}
+
+// A slot of the first frame.
+fn slot_of(recording: &Recording, number: u8, id: CellId) -> Slot
+    requires { number < 20 }
+    ensures number { result.number ≡ number }
+    ensures identity { result.identity ≡ id }
+{
+    let seen = [
+        symbol_of(recording, number, 0),
+        symbol_of(recording, number, 1),
+        symbol_of(recording, number, 2),
+        symbol_of(recording, number, 3),
+        symbol_of(recording, number, 4),
+        symbol_of(recording, number, 5),
+        symbol_of(recording, number, 6),
+    ];
+    Slot::new(seen, number, id)
+}
+
+// Each value has size 8 at least.
+fn are_large(values: &[i16]) -> bool {
+    values.iter().all(|value| value.unsigned_abs() >= 8)
+}
+
+// How many values the blocks have that an attempt was granted, where each has size 8 at least.
+fn large_values(first: &Slot, second: &Slot, attempt: &Attempt) -> Option<usize>
+    requires first { first.now.number ≡ 10 }
+    requires second { second.now.number ≡ 11 }
+    requires cell { second.now.identity ≡ first.now.identity }
+    requires grant { IfSome attempt.now.grant IsGrant }
+{
+    let Some(grant) = &attempt.grant else {
+        return None;
+    };
+    if attempt.cfi.value() < 2 {
+        return None;
+    }
+    let mut out = [0; MOST_VALUES];
+    let count = values(first, second, attempt.cfi, grant, &mut out);
+    if out
+        .iter()
+        .take(count)
+        .all(|value| value.unsigned_abs() >= 8)
+    {
+        Some(count)
+    } else {
+        None
+    }
+}
+
+#[test]
+fn what_was_sent_is_read_with_errors_at_the_bound(rt: HostRuntime) -> Result<(), Fail> {
+    let cell = cell().ok_or("a plan that is sent")?;
+    let sfn = Sfn::new(6).ok_or("in range")?;
+    let id = CellId::new(503).ok_or("in range")?;
+    let mib = Mib::new(Bandwidth::N6, Duration::Extended, Resource::Two, 1, 0).ok_or("in range")?;
+    let mut samples = silent_samples(rt.alloc())?;
+    receive(&cell, sfn, &mut samples[..]);
+    let recording = Recording::new(samples).ok_or("30 ms")?;
+    let (first, second) = (slot_of(&recording, 10, id), slot_of(&recording, 11, id));
+    let control = candidate(&first, pcfich::cfi(&first), mib).ok_or("four elements")?;
+    assert!(rt; are_large(&control));
+    let mut work = Decoders::new(rt.alloc())?;
+    let attempt = attempt_in(&first, &second, mib, &mut work);
+    assert_eq!(rt; attempt.cfi.value(), 3);
+    let granted = Grant {
+        start: 1,
+        blocks: 5,
+        mcs: 5,
+        column: 3,
+        rv: 1,
+        size: 224,
+    };
+    assert_eq!(rt; attempt.grant, Some(granted));
+    assert_eq!(rt; large_values(&first, &second, &attempt), Some(900));
+    let fields = attempt.answer.ok().ok_or("the block is read")?;
+    assert_eq!(rt;
+        (fields.tac, fields.cell, fields.q_rx),
+        (0x1a2b, 0x0abcdef, -61)
+    );
+    carried_blocks_are_heard();
+    sent_indicator_is_told();
+    sent_grant_is_told();
+    sent_grant_is_read();
     Ok(())
 }

@@ -1,0 +1,213 @@
+-- The control region of a subframe whose values speak for an indicator and a grant: it tells them, and the attempt has them.
+use Rattle.std.proofs.Common.{◌≡◌, ℕ, ◌*◌, ◌/◌, ◌≤◌, arith, refl, ap, sym, ◌∙◌, subst, Bool, List, ◌++◌, length, get_or, pos, Option, None, Some, Result, Ok, Err}
+use Rattle.std.specs.Result.{result_ok}
+use Rattle.std.proofs.lemmas.Option.{none-some}
+use Rattle.cs_bits.specs.Numbers.{bits_of}
+use Rattle.cs_bits.specs.Checks.{message_of, HasCheck16}
+use Rattle.cs_bits.proofs.Signs.{supports-speaks, supports-less}
+use Rattle.cs_bits.proofs.Checks.{checked_16}
+use Rattle.lte_types.specs.declared.duration.Duration.{Duration}
+use Rattle.lte_types.specs.declared.resource.Resource.{Resource}
+use Rattle.lte_types.specs.declared.sib1.Sib1.{Sib1}
+use Rattle.lte_types.specs.declared.sib1_reason.Sib1Reason.{Sib1Reason}
+use Rattle.conv_code.specs.Reading.{summed}
+use Rattle.conv_code.proofs.Sums.{length-summed}
+use Rattle.tailbite.specs.Clean.{Speaks}
+use Rattle.grid_map.specs.Control.{pcfich_places, pdcch_groups, group_count, element_count}
+use Rattle.grid_map.specs.Scrambling.{pcfich_c_init, pdcch_c_init, indicator_bit}
+use Rattle.grid_map.specs.Laws.{CarryCandidate}
+use Rattle.grid_map.proofs.Regions.{pdcch_count}
+use Rattle.grid_map.proofs.Pieces.{length-pcfich_places, length-candidate_places}
+use Rattle.grid_map.proofs.Indexed.{pdcch_carry}
+use Rattle.dci.specs.declared.grant.Grant.{Grant}
+use Rattle.dci.specs.Fields.{system_information_rnti}
+use Rattle.dci.specs.Format1A.{IsGrant, Carries, sent_word}
+use Rattle.dci.proofs.Words.{sent_carries}
+use Rattle.soft_bits.specs.Soft.{SeenSlot}
+use Rattle.soft_bits.specs.Places.{soft_values_of}
+use Rattle.pcfich.specs.Indicator.{IsIndicator, Speak}
+use Rattle.pcfich.specs.Values.{indicator_values}
+use Rattle.pcfich.proofs.Indicators.{some_indicator, spoken_indicator}
+use Rattle.pdcch.specs.Candidate.{stream_values, candidate_values}
+use Rattle.system_block.specs.Subframe.{Subframe, one_port}
+use Rattle.system_block.specs.Control.{Grants}
+use Rattle.system_block.specs.Attempt.{Follows}
+use Rattle.system_block.proofs.Once.{one_grant}
+use Rattle.cell_tx.specs.Block.{coded_bit}
+use Rattle.clean_air.specs.Words.{SpeakInOrder, IsOnlyWord}
+use Rattle.clean_air.specs.Carried.{AreHeard}
+use Rattle.clean_air.specs.Indicator.{IsOnlyIndicator, SentIndicatorIsTold, TellsIndicator, indicator_scrambled, SeenIndicatorIsTold, ReceivedIndicatorIsTold}
+use Rattle.clean_air.specs.Grant.{grant_word, IsOnlyGrant, SentGrantIsTold, TellsGrant, grant_places, grant_scrambled, SeenGrantIsTold, ReceivedGrantIsTold}
+use Rattle.clean_air.specs.Attempt.{SpokenGrantIsRead, SeenGrantIsRead, ReceivedGrantIsRead}
+use Rattle.clean_air.proofs.SoftValues.{pilots_seen}
+use Rattle.clean_air.proofs.SpokenWords.{sums_speak, spoken_word_is_only}
+use Rattle.clean_air.proofs.Speaking.{seen_bits_are_heard, descrambled_bits_are_heard, carried_bits_are_heard, places_seen}
+use Rattle.clean_air.proofs.Placed.{pcfich_placed, candidate_placed}
+use Rattle.clean_air.proofs.Subframes.{carried_in_slot}
+
+-- ---- the indicator
+
+pub sent_indicator_is_told : SentIndicatorIsTold
+sent_indicator_is_told values indicator low high speak =
+    let found = some_indicator values in
+    record {
+      is = subst (IsIndicator values) (spoken_indicator values indicator found.0 low high speak found.1) found.1;
+      only = λ other told. spoken_indicator values indicator other low high speak told;
+    }
+
+-- values of the channel's places that speak for the scrambled bits tell the indicator
+indicator_heard : (slot : SeenSlot) (indicator : ℕ) → 1 ≤ indicator → indicator ≤ 3 →
+    AreHeard 8 (2 * length (pcfich_places slot.identity)) (indicator_scrambled slot indicator) (soft_values_of slot (pcfich_places slot.identity)) → TellsIndicator slot indicator
+unfolding indicator_values
+indicator_heard slot indicator low high heard = record { speak = speak; told = sent_indicator_is_told (indicator_values slot) indicator low high speak }
+  where
+    all : AreHeard 8 (2 * 16) (indicator_bit indicator) (indicator_values slot)
+    all = subst (λ n. AreHeard 8 (2 * n) (indicator_bit indicator) (indicator_values slot)) (length-pcfich_places slot.identity)
+        (descrambled_bits_are_heard 8 (2 * length (pcfich_places slot.identity)) (pcfich_c_init slot.identity slot.number) (indicator_bit indicator) (soft_values_of slot (pcfich_places slot.identity)) heard)
+
+    speak : Speak (indicator_values slot) indicator
+    speak i l = supports-speaks (indicator_bit indicator i) (get_or (indicator_values slot) i (pos 0))
+        (supports-less 1 8 (indicator_bit indicator i) (get_or (indicator_values slot) i (pos 0)) (omega arith) (all.value i l))
+
+pub seen_indicator_is_told : SeenIndicatorIsTold
+seen_indicator_is_told gain slot indicator low high pilots points =
+    indicator_heard slot indicator low high (seen_bits_are_heard gain slot (pcfich_places slot.identity) (indicator_scrambled slot indicator) pilots points)
+
+pub received_indicator_is_told : ReceivedIndicatorIsTold
+received_indicator_is_told recording starts grids slot indicator low high received carry =
+    indicator_heard slot indicator low high (carried_bits_are_heard recording starts grids slot (pcfich_places slot.identity) (indicator_scrambled slot indicator) received
+    (λ k d l. (pcfich_placed slot.identity k d l).1) carry)
+
+-- ---- the grant
+
+record HasParts (word bits : List Bool) : Type 0 where
+  size : length word ≡ 37
+  message : message_of 16 word ≡ bits
+
+has_parts : (grant : Grant) (check : ℕ) → HasParts (sent_word grant ++ bits_of 16 check) (sent_word grant)
+unfolding sent_word
+has_parts grant check = record { size = refl; message = refl }
+
+grant_parts : (grant : Grant) → HasParts (grant_word grant) (sent_word grant)
+grant_parts grant = has_parts grant _
+
+pub sent_grant_is_told : SentGrantIsTold
+sent_grant_is_told count candidate grant is enough speak = record {
+  word = only;
+  passes = passes;
+  told = told;
+  only = λ answer other. one_grant count candidate answer (Ok grant) other told;
+}
+  where
+    size : length (grant_word grant) ≡ 37
+    size = (grant_parts grant).size
+
+    speaks : Speaks (summed 37 candidate) (grant_word grant)
+    speaks = subst (λ n. Speaks (summed n candidate) (grant_word grant)) size (sums_speak (grant_word grant) candidate (omega (arith, size)) (omega (arith, size)) speak)
+
+    only : IsOnlyWord (summed 37 candidate) (grant_word grant)
+    only = spoken_word_is_only (summed 37 candidate) (grant_word grant) (omega (arith, length-summed 37 candidate)) (size ∙ sym (length-summed 37 candidate)) speaks
+
+    passes : HasCheck16 system_information_rnti (grant_word grant)
+    passes = checked_16 system_information_rnti (sent_word grant) (omega arith)
+
+    told : Grants count candidate (Ok grant)
+    told = record {
+      word = grant_word grant;
+      is = record { enough = enough; least = only.least };
+      passes = passes;
+      says = subst (λ bits. Carries bits grant) (sym (grant_parts grant).message) (sent_carries grant is).carries;
+    }
+
+-- with indicator 2 or 3 there are four elements at least
+four_elements : (identity indicator : ℕ) (duration : Duration) (resource : Resource) → 2 ≤ indicator → indicator ≤ 3 → 4 ≤ element_count indicator duration resource
+four_elements identity indicator duration resource low high =
+    enough (group_count indicator duration resource) (subst (λ n. 36 ≤ n) (pdcch_count identity indicator duration resource (omega (arith, low)) high) (pdcch_carry identity indicator duration resource low high).enough)
+  where
+    enough : (n : ℕ) → 36 ≤ n → 4 ≤ n / 9
+    enough n h = omega (arith, h)
+
+-- values of the elements' places that speak for the scrambled bits tell the grant
+grant_heard : (slot : SeenSlot) (indicator : ℕ) (duration : Duration) (resource : Resource) (grant : Grant) → 2 ≤ indicator → indicator ≤ 3 → IsGrant grant →
+    AreHeard 8 (2 * length (grant_places slot indicator duration resource)) (grant_scrambled slot grant) (soft_values_of slot (grant_places slot indicator duration resource)) →
+    TellsGrant slot indicator duration resource grant
+unfolding stream_values
+grant_heard slot indicator duration resource grant low high is heard = record {
+  enough = elements;
+  speak = speak;
+  told = sent_grant_is_told (element_count indicator duration resource) (candidate_values slot indicator duration resource) grant is elements speak;
+}
+  where
+    carry : CarryCandidate (pdcch_groups slot.identity indicator duration resource)
+    carry = pdcch_carry slot.identity indicator duration resource low high
+
+    elements : 4 ≤ element_count indicator duration resource
+    elements = four_elements slot.identity indicator duration resource low high
+
+    all : AreHeard 8 (2 * 144) (coded_bit (grant_word grant)) (candidate_values slot indicator duration resource)
+    all = subst (λ n. AreHeard 8 (2 * n) (coded_bit (grant_word grant)) (candidate_values slot indicator duration resource))
+        (length-candidate_places slot.identity (pdcch_groups slot.identity indicator duration resource) carry.enough carry.few carry.are)
+        (descrambled_bits_are_heard 8 (2 * length (grant_places slot indicator duration resource)) (pdcch_c_init slot.identity slot.number) (coded_bit (grant_word grant))
+        (soft_values_of slot (grant_places slot indicator duration resource)) heard)
+
+    speak : SpeakInOrder (grant_word grant) (candidate_values slot indicator duration resource)
+    speak = record {
+      enough = let size = (grant_parts grant).size in let count = all.size in omega (arith, size, count);
+      value = λ i l. supports-less 1 8 (coded_bit (grant_word grant) i) (get_or (candidate_values slot indicator duration resource) i (pos 0)) (omega arith)
+          (all.value i (let count = all.size in omega (arith, l, count)));
+    }
+
+pub seen_grant_is_told : SeenGrantIsTold
+seen_grant_is_told gain slot indicator duration resource grant low high is pilots points =
+    grant_heard slot indicator duration resource grant low high is (seen_bits_are_heard gain slot (grant_places slot indicator duration resource) (grant_scrambled slot grant) pilots points)
+
+pub received_grant_is_told : ReceivedGrantIsTold
+received_grant_is_told recording starts grids slot indicator duration resource grant low high is received carry =
+    grant_heard slot indicator duration resource grant low high is
+    (carried_bits_are_heard recording starts grids slot (grant_places slot indicator duration resource) (grant_scrambled slot grant) received
+    (λ k d l. (candidate_placed slot.identity indicator duration resource low high k d l).1) carry)
+
+-- ---- the attempt
+
+by_grant : (values : Subframe) (indicator : ℕ) (grant : Grant) → IsOnlyGrant (values.elements indicator) (values.candidate indicator) grant → (found : Option Grant) (answer : Result Sib1 Sib1Reason) →
+    Follows values indicator found answer → found ≡ Some grant
+by_grant values indicator grant only (Some other) answer follows = ap (λ (r : Result Grant Sib1Reason). result_ok r) (only.only (Ok other) follows.grants)
+by_grant values indicator grant only None (Err reason) follows = absurd (none-some grant (ap (λ (r : Result Grant Sib1Reason). result_ok r) (only.only (Err reason) follows)))
+by_grant values indicator grant only None (Ok fields) follows = absurd follows
+
+pub spoken_grant_is_read : SpokenGrantIsRead
+spoken_grant_is_read values indicator grant speak = record {
+  attempt = λ attempt is.
+      let same : attempt.cfi ≡ indicator = told.only attempt.cfi is.told in
+      let follows : Follows values indicator attempt.grant attempt.answer = subst (λ i. Follows values i attempt.grant attempt.answer) same is.follows in
+      let granted : attempt.grant ≡ Some grant = by_grant values indicator grant only attempt.grant attempt.answer follows in
+      let answered : Follows values indicator (Some grant) attempt.answer = subst (λ found. Follows values indicator found attempt.answer) granted follows in
+      record { cfi = same; granted = granted; tells = answered.tells };
+  reads = λ answer tells. record {
+    attempt = record { cfi = indicator; grant = Some grant; answer = answer };
+    is = record { told = told.is; follows = record { grants = only.told; tells = tells } };
+    answers = refl;
+  };
+}
+  where
+    told : IsOnlyIndicator values.indicator indicator
+    told = sent_indicator_is_told values.indicator indicator speak.range.0 speak.range.1 speak.of_indicator
+
+    only : IsOnlyGrant (values.elements indicator) (values.candidate indicator) grant
+    only = sent_grant_is_told (values.elements indicator) (values.candidate indicator) grant speak.is_grant speak.enough speak.of_control
+
+pub seen_grant_is_read : SeenGrantIsRead
+seen_grant_is_read gain first second indicator duration resource grant low high is pilots indicator_points grant_points =
+    let told = seen_indicator_is_told gain first indicator (omega (arith, low)) high pilots indicator_points in
+    let granted = seen_grant_is_told gain first indicator duration resource grant low high is pilots grant_points in
+    spoken_grant_is_read (one_port first second duration resource) indicator grant
+    (record { range = (omega (arith, low), high); is_grant = is; enough = granted.enough; of_indicator = told.speak; of_control = granted.speak })
+
+pub received_grant_is_read : ReceivedGrantIsRead
+received_grant_is_read recording starts grids first second indicator duration resource grant low high is received indicator_carried grant_carried =
+    let inside = candidate_placed first.identity indicator duration resource low high in
+    seen_grant_is_read received.gain first second indicator duration resource grant low high is (pilots_seen recording starts grids first received)
+    (places_seen recording starts grids first received (pcfich_places first.identity) (indicator_scrambled first indicator) (λ k d l. (pcfich_placed first.identity k d l).1)
+    (carried_in_slot grids (pcfich_places first.identity) (indicator_scrambled first indicator) (pcfich_placed first.identity) indicator_carried))
+    (places_seen recording starts grids first received (grant_places first indicator duration resource) (grant_scrambled first grant) (λ k d l. (inside k d l).1)
+    (carried_in_slot grids (grant_places first indicator duration resource) (grant_scrambled first grant) inside grant_carried))

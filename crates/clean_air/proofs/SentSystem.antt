@@ -1,0 +1,158 @@
+-- The system information of a clean recording: each whole frame of even number answers with the plan's.
+use Rattle.std.proofs.Common.{◌≡◌, ℕ, ◌+◌, ◌-◌, ◌*◌, ◌%◌, ◌<◌, List, [], length, Ok, nat_lt, ℤ, refl, ap, sym, subst, ◌∙◌, arith}
+use Rattle.std.specs.Prelude.{if◌then◌else◌, slice_index_or}
+use Rattle.std.proofs.Math.Path.{fun_ext}
+use Rattle.std.proofs.lemmas.Bool.{lt-ltb, le-ltb}
+use Rattle.cs_num.specs.declared.Cpx.{Cpx}
+use Rattle.cs_num.specs.declared.Sample.{Sample}
+use Rattle.lte_types.specs.Numerology.{normal, useful_start}
+use Rattle.observe.specs.Seen.{seen_symbol}
+use Rattle.soft_bits.specs.Soft.{SeenSlot}
+use Rattle.cs_bits.specs.Checks.{message_of}
+use Rattle.turbo_code.specs.declared.rows.Row.{Row}
+use Rattle.turbo_code.specs.Encoder.{coded}
+use Rattle.turbo_code.specs.Reading.{place_of, bit_of}
+use Rattle.grid_map.specs.Control.{pcfich_places}
+use Rattle.system_block.specs.Subframe.{one_port}
+use Rattle.system_block.specs.Block.{BlockSays}
+use Rattle.system_block.specs.Attempt.{Reads}
+use Rattle.pdsch.specs.Values.{shared_values}
+use Rattle.cell_tx.specs.declared.cell.CellPlan.{CellPlan}
+use Rattle.cell_tx.specs.Plan.{IsSendable, checked_size}
+use Rattle.cell_tx.specs.Points.{point_of}
+use Rattle.cell_tx.specs.Control.{version_of, grant_of, control_word, indicator_point, control_point}
+use Rattle.cell_tx.specs.Shared.{shared_places, row_with, shared_word, shared_coded, shared_bit, shared_point}
+use Rattle.cell_tx.specs.Grid.{element}
+use Rattle.cell_tx.specs.Clean.{IsClean, start_of, number_at_start}
+use Rattle.cell_tx.proofs.SystemPlaces.{indicator_indexed, control_indexed, shared_bits, indicator_sent, control_sent, shared_sent}
+use Rattle.cell_tx.proofs.SystemWords.{IsRowOf, version-fits, grant_is, row_is, word_checked, word_size, word_says}
+use Rattle.budget.specs.Received.{IsReceived, samples_from}
+use Rattle.explain.specs.Frame.{IsWhole, frame_at, seen_slot}
+use Rattle.clean_air.specs.Values.{IsSlotReceived}
+use Rattle.clean_air.specs.Subframe.{IsSubframeReceived, CarryInSubframe, shared_scrambled}
+use Rattle.clean_air.specs.Block.{matched_bit, IsSentBlock, TellsBlock}
+use Rattle.clean_air.specs.Indicator.{indicator_scrambled}
+use Rattle.clean_air.specs.Grant.{grant_places, grant_scrambled}
+use Rattle.clean_air.proofs.Controls.{received_grant_is_read}
+use Rattle.clean_air.proofs.SharedBlocks.{received_block_is_told}
+use Rattle.clean_air.proofs.SentSlots.{slot_grid, each_slot_received}
+
+-- ---- two slots
+
+-- where symbols 0 to 13 of two slots begin, by those of each
+abbrev both : (ℕ → ℕ) → (ℕ → ℕ) → ℕ → ℕ
+both first second l = if nat_lt l 7 then first l else second (l - 7)
+
+both_first : (first second : ℕ → ℕ) (l : ℕ) → l < 7 → first l ≡ both first second l
+both_first first second l low = rw (lt-ltb l 7 low) refl
+
+both_second : (first second : ℕ → ℕ) (l : ℕ) → second l ≡ both first second (7 + l)
+both_second first second l =
+    let e : 7 + l - 7 ≡ l = omega arith in
+    rw (le-ltb (7 + l) 7 (omega arith), e) refl
+
+-- only the seven symbols of a slot count
+same_slot : (recording : List Sample) (starts others : ℕ → ℕ) (grids : ℕ → ℕ → Cpx) (slot : SeenSlot) → ((l : ℕ) → l < 7 → starts l ≡ others l) →
+    IsSlotReceived recording starts grids slot → IsSlotReceived recording others grids slot
+same_slot recording starts others grids slot same is = record {
+  eps = is.eps;
+  gain = is.gain;
+  seen = λ l inside. subst (λ n. slice_index_or slot.symbols l [] ≡ seen_symbol recording n) (same l inside) (is.seen l inside);
+  amplitudes = is.amplitudes;
+  received = λ l inside. subst (λ n. IsReceived is.eps is.gain (grids l) (samples_from recording n)) (same l inside) (is.received l inside);
+  references = is.references;
+}
+
+-- ---- a frame of even number
+
+module _ (recording : List Sample) (plan : CellPlan) (sfn offset : ℕ) (gain : Cpx) (eps : ℕ) (sendable : IsSendable plan)
+    (clean : IsClean recording plan sfn offset gain eps) (j : ℕ) (whole : IsWhole recording (start_of offset) j) where
+  abbrev number : ℕ
+  number = (number_at_start sfn offset + j) % 1024
+
+  -- the slot of subframe 5 with this number, 10 or 11, and where its symbols begin
+  abbrev slot : ℕ → SeenSlot
+  slot s = seen_slot recording (frame_at (start_of offset) j) s plan.identity
+
+  abbrev starts : ℕ → ℕ → ℕ
+  starts s = useful_start normal (frame_at (start_of offset) j) s
+
+  -- they are received
+  first_received : IsSlotReceived recording (starts 10) (element plan number 5) (slot 10)
+  first_received =
+      let grid : slot_grid plan number 10 ≡ element plan number 5 = fun_ext (λ l. ap (element plan number 5) (omega arith)) in
+      subst (λ g. IsSlotReceived recording (starts 10) g (slot 10)) grid (each_slot_received recording plan sfn offset gain eps clean j 10 whole (omega arith))
+
+  second_received : IsSlotReceived recording (starts 11) (λ l. element plan number 5 (7 + l)) (slot 11)
+  second_received = each_slot_received recording plan sfn offset gain eps clean j 11 whole (omega arith)
+
+  both_received : IsSubframeReceived recording (both (starts 10) (starts 11)) (element plan number 5) (slot 10) (slot 11)
+  both_received = record {
+    first_slot = same_slot recording (starts 10) (both (starts 10) (starts 11)) (element plan number 5) (slot 10)
+        (λ l low. both_first (starts 10) (starts 11) l low) first_received;
+    second_slot = same_slot recording (starts 11) (λ l. both (starts 10) (starts 11) (7 + l)) (λ l. element plan number 5 (7 + l)) (slot 11)
+        (λ l low. both_second (starts 10) (starts 11) l) second_received;
+  }
+
+  module _ (even : number % 2 ≡ 0) where
+    -- they carry the indicator and the grant
+    carries_indicator : CarryInSubframe (element plan number 5) (pcfich_places (slot 10).identity) (indicator_scrambled (slot 10) plan.cfi)
+    unfolding seen_slot indicator_point
+    carries_indicator i inside = indicator_sent plan sendable number i (let size = (indicator_indexed plan sendable).size in omega (arith, size, inside))
+
+    carries_grant : CarryInSubframe (element plan number 5) (grant_places (slot 10) plan.cfi plan.duration plan.resource) (grant_scrambled (slot 10) (grant_of plan number))
+    unfolding seen_slot control_point control_word
+    carries_grant i inside = control_sent plan sendable number even i (let size = (control_indexed plan sendable).size in omega (arith, size, inside))
+
+    -- and the block
+    carries_block : CarryInSubframe (element plan number 5) (shared_places plan) (shared_scrambled (slot 10) (shared_bit plan number))
+    unfolding seen_slot shared_point
+    carries_block i inside = shared_sent plan sendable number even i inside
+
+    -- the values of its resource blocks tell the block
+    sent_block : (row : Row) → IsRowOf (checked_size plan) row → IsSentBlock row (version_of number) (2 * length (shared_places plan)) (shared_word plan)
+    sent_block row of =
+        let bits = shared_bits plan sendable in
+        let enough = sendable.whole in
+        let k = of.size in
+        record {
+          is_row = of.is;
+          version = version-fits number;
+          size = word_size plan sendable ∙ sym k;
+          passes = word_checked plan sendable;
+          whole = omega (arith, bits, enough, k);
+        }
+
+    carries_matched : (row : Row) → row ≡ row_with (checked_size plan) → row.k ≡ checked_size plan →
+        CarryInSubframe (element plan number 5) (shared_places plan) (shared_scrambled (slot 10) (matched_bit row (version_of number) (shared_word plan)))
+    unfolding shared_coded
+    carries_matched row same k i inside =
+        carries_block i inside
+        ∙ ap (λ (n : ℕ). point_of (shared_scrambled (slot 10) (λ m. bit_of (coded (row_with (checked_size plan)) (shared_word plan)) (place_of n (version_of number) m))) i) (sym k)
+        ∙ ap (λ (r : Row). point_of (shared_scrambled (slot 10) (λ m. bit_of (coded r (shared_word plan)) (place_of row.k (version_of number) m))) i) (sym same)
+
+    abbrev values : List ℤ
+    values = shared_values (slot 10) (slot 11) plan.cfi plan.start plan.blocks
+
+    block_told : (row : Row) → row ≡ row_with (checked_size plan) → IsRowOf (checked_size plan) row →
+        TellsBlock row (version_of number) (shared_word plan) values
+    unfolding seen_slot
+    block_told row same of =
+        received_block_is_told recording (both (starts 10) (starts 11)) (element plan number 5) (slot 10) (slot 11) plan.cfi plan.start plan.blocks row (version_of number) (shared_word plan)
+        (sent_block row of) both_received (carries_matched row same of.size)
+
+    says_fields : BlockSays values (grant_of plan number) (Ok plan.sib1)
+    says_fields =
+        let of = row_is plan sendable in
+        record {
+          bits = message_of 24 (shared_word plan);
+          is = record { row = row_with (checked_size plan); is_row = of.is; size = of.size; tells = (block_told (row_with (checked_size plan)) refl of).told };
+          says = word_says plan sendable;
+        }
+
+    -- so the frame answers with the plan's fields
+    pub fields_read : Reads (one_port (slot 10) (slot 11) plan.duration plan.resource) (Ok plan.sib1)
+    fields_read =
+        let read = received_grant_is_read recording (starts 10) (element plan number 5) (slot 10) (slot 11) plan.cfi plan.duration plan.resource (grant_of plan number)
+        sendable.cfi.0 sendable.cfi.1 (grant_is plan sendable number) first_received carries_indicator carries_grant in
+        read.reads (Ok plan.sib1) says_fields

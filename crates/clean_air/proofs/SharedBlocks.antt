@@ -1,0 +1,36 @@
+-- A transport block that was sent is told by the values of its resource blocks.
+use Rattle.std.proofs.Common.{ℕ, ◌+◌, ◌*◌, ◌≤◌, Bool, List, ℤ, length, arith}
+use Rattle.grid_map.specs.Shared.{pdsch_places}
+use Rattle.cs_bits.proofs.Signs.{supports-less}
+use Rattle.clean_turbo.proofs.ReceivedSums.{whole_sums_speak, sent_block_is_told}
+use Rattle.clean_air.specs.Carried.{AreHeard}
+use Rattle.clean_air.specs.Block.{matched_bit, HeardBlockIsTold, SeenBlockIsTold, ReceivedBlockIsTold}
+use Rattle.clean_air.proofs.Subframes.{seen_blocks_are_heard, received_blocks_are_heard}
+
+-- what speaks with size 8 speaks
+pub heard-less : {bits : ℕ → Bool} {values : List ℤ} (count : ℕ) → AreHeard 8 count bits values → AreHeard 1 count bits values
+heard-less {bits} {values} count heard = record {
+  size = heard.size;
+  value = λ i inside. supports-less 1 8 (bits i) _ (omega arith) (heard.value i inside);
+}
+
+pub heard_block_is_told : HeardBlockIsTold
+heard_block_is_told row rv count word values sent heard =
+    let size = heard.size in
+    let whole = sent.whole in
+    let enough : 3 * (row.k + 4) ≤ length values = omega (arith, size, whole) in
+    record {
+      sums = whole_sums_speak row word rv values sent.is_row sent.version (λ i inside. heard.value i (omega (arith, size, inside))) enough;
+      told = sent_block_is_told row word rv values sent.is_row sent.version sent.size sent.passes (λ i inside. heard.value i (omega (arith, size, inside))) enough;
+    }
+
+pub seen_block_is_told : SeenBlockIsTold
+seen_block_is_told gain later first second cfi start blocks row rv word sent seen =
+    let count : ℕ = 2 * length (pdsch_places first.identity cfi start blocks) in
+    heard_block_is_told row rv count word _ sent (heard-less count (seen_blocks_are_heard gain later first second cfi start blocks (matched_bit row rv word) seen))
+
+pub received_block_is_told : ReceivedBlockIsTold
+received_block_is_told recording starts grids first second cfi start blocks row rv word sent received carried =
+    let count : ℕ = 2 * length (pdsch_places first.identity cfi start blocks) in
+    heard_block_is_told row rv count word _ sent
+    (heard-less count (received_blocks_are_heard recording starts grids first second cfi start blocks (matched_bit row rv word) received carried))

@@ -1,0 +1,68 @@
+-- The attempt to read SystemInformationBlockType1 on a subframe whose values speak for an indicator and a grant. (own)
+use Rattle.std.specs.Prelude.{◌≡◌, ℕ, ◌≤◌, List, Some, Result}
+use Rattle.cs_num.specs.declared.Cpx.{Cpx}
+use Rattle.cs_num.specs.declared.Sample.{Sample}
+use Rattle.lte_types.specs.declared.sib1.Sib1.{Sib1}
+use Rattle.lte_types.specs.declared.sib1_reason.Sib1Reason.{Sib1Reason}
+use Rattle.lte_types.specs.declared.duration.Duration.{Duration}
+use Rattle.lte_types.specs.declared.resource.Resource.{Resource}
+use Rattle.grid_map.specs.Control.{pcfich_places}
+use Rattle.dci.specs.declared.grant.Grant.{Grant}
+use Rattle.dci.specs.Format1A.{IsGrant}
+use Rattle.soft_bits.specs.Soft.{SeenSlot}
+use Rattle.pcfich.specs.Indicator.{Speak}
+use Rattle.system_block.specs.declared.reading.Attempt.{Attempt}
+use Rattle.system_block.specs.Subframe.{Subframe, one_port}
+use Rattle.system_block.specs.Block.{Tells}
+use Rattle.system_block.specs.Attempt.{IsAttempt, Reads}
+use Rattle.clean_air.specs.Values.{ArePilotsSeen, IsSlotReceived}
+use Rattle.clean_air.specs.Words.{SpeakInOrder}
+use Rattle.clean_air.specs.Carried.{ArePlacesSeen}
+use Rattle.clean_air.specs.Subframe.{CarryInSubframe}
+use Rattle.clean_air.specs.Indicator.{indicator_scrambled}
+use Rattle.clean_air.specs.Grant.{grant_word, grant_places, grant_scrambled}
+
+-- the values of the control region speak for an indicator and a grant
+pub record SpeakOfGrant (values : Subframe) (indicator : ℕ) (grant : Grant) : Type 0 where
+  pub range : (1 ≤ indicator) × (indicator ≤ 3)
+  pub is_grant : IsGrant grant
+  pub enough : 4 ≤ values.elements indicator
+  pub of_indicator : Speak values.indicator indicator
+  pub of_control : SpeakInOrder (grant_word grant) (values.candidate indicator)
+
+-- an attempt with this indicator and this grant, whose answer is what the blocks of the grant tell
+pub record HasGrant (values : Subframe) (indicator : ℕ) (grant : Grant) (attempt : Attempt) : Type 0 where
+  pub cfi : attempt.cfi ≡ indicator
+  pub granted : attempt.grant ≡ Some grant
+  pub tells : Tells (values.shared indicator grant.start grant.blocks) grant attempt.answer
+
+-- the subframe is read with an indicator and a grant: each attempt on it has them, and what the blocks of the grant
+-- tell is read
+pub record IsReadWith (values : Subframe) (indicator : ℕ) (grant : Grant) : Type 0 where
+  pub attempt : (attempt : Attempt) → IsAttempt values attempt → HasGrant values indicator grant attempt
+  pub reads : (answer : Result Sib1 Sib1Reason) →
+      Tells (values.shared indicator grant.start grant.blocks) grant answer → Reads values answer
+
+-- so it is read with those for which its values speak
+abbrev pub SpokenGrantIsRead : Type 0
+SpokenGrantIsRead = (values : Subframe) (indicator : ℕ) (grant : Grant) → SpeakOfGrant values indicator grant →
+    IsReadWith values indicator grant
+
+-- with those whose points are seen in its first slot, with the gain of the pilots
+abbrev pub SeenGrantIsRead : Type 0
+SeenGrantIsRead =
+    (gain : Cpx) (first second : SeenSlot) (indicator : ℕ) (duration : Duration) (resource : Resource) (grant : Grant) →
+    2 ≤ indicator → indicator ≤ 3 → IsGrant grant → ArePilotsSeen gain first →
+    ArePlacesSeen gain first (pcfich_places first.identity) (indicator_scrambled first indicator) →
+    ArePlacesSeen gain first (grant_places first indicator duration resource) (grant_scrambled first grant) →
+    IsReadWith (one_port first second duration resource) indicator grant
+
+-- in a recording: with those that the subframe carries, whose first slot is received
+abbrev pub ReceivedGrantIsRead : Type 0
+ReceivedGrantIsRead =
+    (recording : List Sample) (starts : ℕ → ℕ) (grids : ℕ → ℕ → Cpx) (first second : SeenSlot) (indicator : ℕ)
+    (duration : Duration) (resource : Resource) (grant : Grant) →
+    2 ≤ indicator → indicator ≤ 3 → IsGrant grant → IsSlotReceived recording starts grids first →
+    CarryInSubframe grids (pcfich_places first.identity) (indicator_scrambled first indicator) →
+    CarryInSubframe grids (grant_places first indicator duration resource) (grant_scrambled first grant) →
+    IsReadWith (one_port first second duration resource) indicator grant

@@ -1,0 +1,60 @@
+-- A transport block that was sent is told by the values of its resource blocks (PDSCH, TS 36.211 section 6.4, TS 36.212 sections
+-- 5.1.3.2 and 5.1.4.1). (own)
+use Rattle.std.specs.Prelude.{◌≡◌, ℕ, ◌+◌, ◌*◌, ◌<◌, ◌≤◌, Bool, true, List, length, ℤ, Some}
+use Rattle.cs_num.specs.declared.Cpx.{Cpx}
+use Rattle.cs_num.specs.declared.Sample.{Sample}
+use Rattle.cs_bits.specs.Checks.{message_of, has_check_24}
+use Rattle.turbo_code.specs.declared.rows.Row.{Row}
+use Rattle.turbo_code.specs.Table.{IsRow}
+use Rattle.turbo_code.specs.Encoder.{coded}
+use Rattle.turbo_code.specs.Reading.{bit_of, place_of, summed}
+use Rattle.turbo_dec.specs.Block.{block}
+use Rattle.grid_map.specs.Shared.{pdsch_places}
+use Rattle.soft_bits.specs.Soft.{SeenSlot}
+use Rattle.pdsch.specs.Values.{shared_values}
+use Rattle.clean_turbo.specs.Tells.{SumsSupport}
+use Rattle.clean_air.specs.Carried.{AreHeard}
+use Rattle.clean_air.specs.Subframe.{IsSubframeSeen, shared_scrambled, IsSubframeReceived, CarryInSubframe}
+
+-- bit i of a coded word, as it is matched from a redundancy version on
+abbrev pub matched_bit : Row → ℕ → List Bool → ℕ → Bool
+matched_bit row rv word i = bit_of (coded row word) (place_of row.k rv i)
+
+-- a word of the size of a row, whose check passes, and of whose coded bits so many are sent: each of them at least once
+pub record IsSentBlock (row : Row) (rv count : ℕ) (word : List Bool) : Type 0 where
+  pub is_row : IsRow row
+  pub version : rv < 4
+  pub size : length word ≡ row.k
+  pub passes : has_check_24 word ≡ true
+  pub whole : 3 * (row.k + 4) ≤ count
+
+-- values tell a word: the sum of each coded bit's values speaks for it, and the block that is decoded is the word before
+-- its check
+pub record TellsBlock (row : Row) (rv : ℕ) (word : List Bool) (values : List ℤ) : Type 0 where
+  pub sums : SumsSupport 1 row word (summed row.k rv values)
+  pub told : block row (summed row.k rv values) ≡ Some (message_of 24 word)
+
+-- values that each speak for the coded bit that was sent there do
+abbrev pub HeardBlockIsTold : Type 0
+HeardBlockIsTold = (row : Row) (rv count : ℕ) (word : List Bool) (values : List ℤ) → IsSentBlock row rv count word →
+    AreHeard 1 count (matched_bit row rv word) values → TellsBlock row rv word values
+
+-- so do the values of resource blocks, where the pilots of both slots of the subframe are seen, those of each with one gain, and
+-- the places of the blocks, with the gain of their slot, as the points of the scrambled bits
+abbrev pub SeenBlockIsTold : Type 0
+SeenBlockIsTold =
+    (gain later : Cpx) (first second : SeenSlot) (cfi start blocks : ℕ) (row : Row) (rv : ℕ) (word : List Bool) →
+    let places = pdsch_places first.identity cfi start blocks in
+    IsSentBlock row rv (2 * length places) word →
+    IsSubframeSeen gain later first second places (shared_scrambled first (matched_bit row rv word)) →
+    TellsBlock row rv word (shared_values first second cfi start blocks)
+
+-- in a recording: where both slots are received, and the places of the blocks carry these bits
+abbrev pub ReceivedBlockIsTold : Type 0
+ReceivedBlockIsTold =
+    (recording : List Sample) (starts : ℕ → ℕ) (grids : ℕ → ℕ → Cpx) (first second : SeenSlot) (cfi start blocks : ℕ) (row : Row) (rv : ℕ) (word : List Bool) →
+    let places = pdsch_places first.identity cfi start blocks in
+    IsSentBlock row rv (2 * length places) word →
+    IsSubframeReceived recording starts grids first second →
+    CarryInSubframe grids places (shared_scrambled first (matched_bit row rv word)) →
+    TellsBlock row rv word (shared_values first second cfi start blocks)

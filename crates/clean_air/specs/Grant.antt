@@ -1,0 +1,77 @@
+-- A grant of system information that was sent is told by the values of its control information (PDCCH, TS 36.211
+-- section 6.8, TS 36.212 sections 5.3.3.1.3 and 5.3.3.2). (own)
+use Rattle.std.specs.Prelude.{◌≡◌, ℕ, ◌≤◌, Bool, List, ℤ, Result, Ok}
+use Rattle.cs_num.specs.declared.Cpx.{Cpx}
+use Rattle.cs_num.specs.declared.Sample.{Sample}
+use Rattle.cs_bits.specs.Checks.{with_check_16, HasCheck16}
+use Rattle.lte_types.specs.declared.sib1_reason.Sib1Reason.{Sib1Reason}
+use Rattle.lte_types.specs.declared.duration.Duration.{Duration}
+use Rattle.lte_types.specs.declared.resource.Resource.{Resource}
+use Rattle.conv_code.specs.Reading.{summed}
+use Rattle.grid_map.specs.declared.Place.{Place}
+use Rattle.grid_map.specs.Control.{pdcch_groups, element_count}
+use Rattle.grid_map.specs.Candidate.{candidate_places}
+use Rattle.grid_map.specs.Scrambling.{pdcch_c_init}
+use Rattle.dci.specs.declared.grant.Grant.{Grant}
+use Rattle.dci.specs.Fields.{system_information_rnti}
+use Rattle.dci.specs.Format1A.{IsGrant, sent_word}
+use Rattle.soft_bits.specs.Soft.{SeenSlot}
+use Rattle.pdcch.specs.Candidate.{candidate_values}
+use Rattle.system_block.specs.Control.{Grants}
+use Rattle.cell_tx.specs.Block.{scrambled_bit}
+use Rattle.clean_air.specs.Values.{ArePilotsSeen, IsSlotReceived}
+use Rattle.clean_air.specs.Words.{SpeakInOrder, IsOnlyWord}
+use Rattle.clean_air.specs.Carried.{ArePlacesSeen, CarryBits}
+
+-- the 37 bits that are sent for a grant: its 21 bits and their check, masked by the identifier of system information
+abbrev pub grant_word : Grant → List Bool
+grant_word grant = with_check_16 system_information_rnti (sent_word grant)
+
+-- so many control channel elements, and the values of the first four, tell a grant and nothing else: the word that is
+-- sent for it is the only least word of the sums, and its check passes
+pub record IsOnlyGrant (count : ℕ) (candidate : List ℤ) (grant : Grant) : Type 0 where
+  pub word : IsOnlyWord (summed 37 candidate) (grant_word grant)
+  pub passes : HasCheck16 system_information_rnti (grant_word grant)
+  pub told : Grants count candidate (Ok grant)
+  pub only : (answer : Result Grant Sib1Reason) → Grants count candidate answer → answer ≡ Ok grant
+
+-- values before scrambling, at least 111, that each speak for the coded bit of that word that stands there, tell the
+-- grant
+abbrev pub SentGrantIsTold : Type 0
+SentGrantIsTold = (count : ℕ) (candidate : List ℤ) (grant : Grant) → IsGrant grant → 4 ≤ count →
+    SpeakInOrder (grant_word grant) candidate → IsOnlyGrant count candidate grant
+
+-- a slot tells a grant, with an indicator and the PHICH of a master block: there are at least four elements, and the
+-- 288 values of the first four do
+pub record TellsGrant (slot : SeenSlot) (indicator : ℕ) (duration : Duration) (resource : Resource) (grant : Grant)
+    : Type 0 where
+  pub enough : 4 ≤ element_count indicator duration resource
+  pub speak : SpeakInOrder (grant_word grant) (candidate_values slot indicator duration resource)
+  pub told : IsOnlyGrant (element_count indicator duration resource)
+      (candidate_values slot indicator duration resource) grant
+
+-- the places of these elements in the subframe that begins with a slot, and the bits of a grant as they are sent there
+abbrev pub grant_places : SeenSlot → ℕ → Duration → Resource → List Place
+grant_places slot indicator duration resource =
+    candidate_places slot.identity (pdcch_groups slot.identity indicator duration resource)
+
+abbrev pub grant_scrambled : SeenSlot → Grant → ℕ → Bool
+grant_scrambled slot grant = scrambled_bit (pdcch_c_init slot.identity slot.number) (grant_word grant)
+
+-- so does the slot whose pilots, and these places with a grant's points, are seen with one gain, where the indicator is
+-- 2 or 3
+abbrev pub SeenGrantIsTold : Type 0
+SeenGrantIsTold =
+    (gain : Cpx) (slot : SeenSlot) (indicator : ℕ) (duration : Duration) (resource : Resource) (grant : Grant) →
+    2 ≤ indicator → indicator ≤ 3 → IsGrant grant → ArePilotsSeen gain slot →
+    ArePlacesSeen gain slot (grant_places slot indicator duration resource) (grant_scrambled slot grant) →
+    TellsGrant slot indicator duration resource grant
+
+-- in a recording: the slot that is received, and whose control channel carries a grant
+abbrev pub ReceivedGrantIsTold : Type 0
+ReceivedGrantIsTold =
+    (recording : List Sample) (starts : ℕ → ℕ) (grids : ℕ → ℕ → Cpx) (slot : SeenSlot) (indicator : ℕ)
+    (duration : Duration) (resource : Resource) (grant : Grant) →
+    2 ≤ indicator → indicator ≤ 3 → IsGrant grant → IsSlotReceived recording starts grids slot →
+    CarryBits grids (grant_places slot indicator duration resource) (grant_scrambled slot grant) →
+    TellsGrant slot indicator duration resource grant
