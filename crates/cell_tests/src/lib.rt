@@ -1,9 +1,11 @@
-//! Tests of the list, and of `search`, `certify` and `transmit` over sources and sinks in memory.
+//! Tests of the list, and of `search`, `certify`, `transmit` and `make` over sources and sinks in memory.
 #![tactic(auto)]
 
 #[cfg(test)]
 mod cells;
 #[cfg(test)]
 mod lists;
+#[cfg(test)]
+mod made;
 #[cfg(test)]
 mod rows;

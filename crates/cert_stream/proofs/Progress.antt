@@ -99,21 +99,25 @@ pub early_on : (answers : List Bool) (n : ℕ) (part next : List ℕ) (before be
     HasReadBroken place before now
 early_on answers n part next before between now place s h zero some few here within =
     let size = answered_length s.certificates answers s.each in
+    let all = length-append (all_bytes s.certificates) part in
     let first : IsFirstBroken (all_bytes s.certificates ++ part) place =
     subst (λ p. IsFirstBroken (all_bytes s.certificates ++ part) p) (omega (arith, size, here)) (cut_off s.certificates (all_whole s.certificates answers s.each) part some few s.sound) in
     record {
       bytes = all_bytes s.certificates ++ part;
       read = ended_on answers n part next before between now s h zero;
-      broken = record { first = first; within = inr (omega (arith, size, length-append (all_bytes s.certificates) part, here, within)) };
+      broken = record { first = first; within = inr (omega (arith, size, all, here, within)) };
+      near = omega (arith, size, all, here);
+      few = omega (arith, size, all, here, within);
       settled = inl (h.end zero);
     }
 
 -- at a byte that breaks the form
 pub broken_on : (answers : List Bool) (n : ℕ) (part next : List ℕ) (before between now : SourceTold) (within place : ℕ) → IsReadTo answers part before between →
     HasReadOn n part next between now → (within < length next) × IsFirstBreak next within → place ≡ count * length answers + within → count * length answers ≤ most_bytes →
-    HasReadBroken place before now
-broken_on answers n part next before between now within place s h (inside, first) here few =
+    length next ≤ count → count * length answers + length next ≤ most_bytes + 1 → HasReadBroken place before now
+broken_on answers n part next before between now within place s h (inside, first) here few one all_few =
     let size = answered_length s.certificates answers s.each in
+    let all = length-append (all_bytes s.certificates) next in
     let early = early_break next within inside first.here in
     let below : place < most_bytes = omega (arith, here, early, few) in
     let bytes : List ℕ = all_bytes s.certificates ++ next in
@@ -127,6 +131,8 @@ broken_on answers n part next before between now within place s h (inside, first
       bytes = bytes;
       read = longer_on answers n part next before between now s h;
       broken = subst (λ l. IsBrokenAt l place) (append-nil bytes) (always []);
+      near = omega (arith, size, all, here, one);
+      few = omega (arith, size, all, all_few);
       settled = inr always;
     }
 

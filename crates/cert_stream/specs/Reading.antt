@@ -38,11 +38,14 @@ pub record HasReadAnswers (answers : List Bool) (before now : SourceTold) : Type
   pub are_answers : AreAnswers bytes answers
   pub whole : HasReadAll most_bytes bytes before now
 
--- what was read breaks the form first at this place, and it ended there or does so however it goes on
+-- what was read breaks the form first at this place, and it ended there or does so however it goes on; from the place on no more
+-- was read than a certificate has, and of the whole no more than one byte past the limit
 pub record HasReadBroken (place : ℕ) (before now : SourceTold) : Type 0 where
   pub bytes : List ℕ
   pub read : HasRead bytes before now
   pub broken : IsBrokenAt bytes place
+  pub near : length bytes ≤ place + count
+  pub few : length bytes ≤ most_bytes + 1
   pub settled : IsAtEnd now ⊎ ((rest : List ℕ) → IsBrokenAt (bytes ++ rest) place)
 
 -- one byte more than the limit was read, and however it goes on none of these bytes breaks the form

@@ -13,10 +13,10 @@ pub enum StreamError {
     /// ends within one, its length.
     #[error("bad certificate at byte {0}")]
     Broken(u64),
-    /// The input is longer than 67,108,864 bytes.
+    /// The input is longer than 67,108,864 bytes, of which none breaks the form.
     #[error("too long")]
     TooLong,
-    /// A call of the source failed.
+    /// A call of the source failed before a byte that breaks the form was read.
     #[error("read fault")]
     ReadFault,
     /// Memory was refused.

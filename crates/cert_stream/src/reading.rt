@@ -25,9 +25,9 @@ pub(crate) enum Step {
 }
 
 /// The answers to the certificates of a source, which are read to the end of the input: for each
-/// whether it is accepted. They are checked as they are read, and nothing is read after a byte that
-/// breaks their form was seen. Of an input that is longer than 67,108,864 bytes one byte more is
-/// read. After an error what was read is dropped. (own)
+/// whether it is accepted. They are checked as they are read: `Broken` comes before more bytes are
+/// read, from its place on, than one certificate has, and `TooLong` after one byte more than the limit
+/// of 67,108,864. After an error what was read is dropped. (own)
 pub fn read_answers<S: Source>(alloc: Global, source: &mut S) -> Result<Vec<bool>, StreamError>
     ensures ok { IfOk result (λ answers. HasReadAnswers answers.items (S.told source.old) (S.told source.new)) }
     ensures err { IfErr result (IsCause (S.told source.old) (S.told source.new)) }

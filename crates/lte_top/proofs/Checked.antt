@@ -78,7 +78,7 @@ past_unrefused front rest past unbroken (BadCell cause) r = r
 
 -- the cause of an error is that of its status
 pub stream_cause : (error : StreamError) (before now : SourceTold) → IsCause before now error → Cause certificates before now (of_stream error)
-stream_cause (Broken place) before now h = record { bytes = h.bytes; read = h.read; refused = h.broken; settled = h.settled }
+stream_cause (Broken place) before now h = record { bytes = h.bytes; read = h.read; few = h.few; refused = h.broken; settled = h.settled }
 stream_cause PastBytes before now h = record {
   is_read = tt;
   front = h.front;

@@ -8,7 +8,7 @@ use Rattle.cs_outside.proofs.Reading.{read_whole, read_front}
 use Rattle.sample_file.specs.Recording.{samples_of}
 use Rattle.lte_types.specs.declared.entry.Entry.{Entry}
 use Rattle.lte_top.specs.declared.form.Form.{Form}
-use Rattle.lte_top.specs.declared.form.Form.TheVariants.{Report as Reports, Certify, Check, Transmit}
+use Rattle.lte_top.specs.declared.form.Form.TheVariants.{Report as Reports, Certify, Check, Transmit, Make}
 use Rattle.lte_top.specs.declared.form.Report.TheVariants.{Hits, Ids, Search}
 use Rattle.lte_top.specs.declared.status.Status.{Status}
 use Rattle.lte_top.specs.declared.status.Status.TheVariants.{Done, Usage, Ragged, TooShort, TooLong, ReadFault, WriteFault, OutOfMemory, BadCell, BadCertificate}
@@ -24,6 +24,7 @@ use Rattle.report.specs.Lines.{report_text}
 use Rattle.explain.proofs.Listed.{is_one_list}
 use Rattle.cert_stream.proofs.Rest.{one_first_broken}
 use Rattle.lte_top.proofs.Checked.{one_check, one_certified_length}
+use Rattle.lte_top.proofs.Made.{one_made}
 use Rattle.lte_top.proofs.OneForm.{one_form}
 
 -- ---- outputs: a new form adds a line
@@ -45,6 +46,7 @@ one_length (Reports Search) bytes first second a b = ap length (one_text IsListO
 one_length Certify bytes first second a b = one_certified_length _ first second a b
 one_length Check bytes first second a b = ap length (one_check bytes first second a b)
 one_length Transmit bytes first second a b = one_transmitted_length bytes first second a b
+one_length (Make n) bytes first second a b = ap length (one_made n first second a b)
 
 -- ---- inputs: a new one adds a line
 

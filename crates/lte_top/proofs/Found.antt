@@ -16,11 +16,11 @@ use Rattle.cell_tx.specs.Laws.{ReceivedIsClean}
 use Rattle.cell_tx.proofs.Bounds.{received-within}
 use Rattle.clean_air.specs.Clean.{HoldsCell}
 use Rattle.cell_json.proofs.Ranges.{described_ranges}
-use Rattle.report.specs.Lines.{cell_line, report_text}
+use Rattle.report.specs.Lines.{entry_lines, report_text}
 use Rattle.report.specs.Pieces.{IsPiece}
 use Rattle.report.proofs.Pieces.{lines_stand}
 use Rattle.lte_top.specs.Transmitting.{sent_samples}
-use Rattle.lte_top.specs.Found.{sent_line, WhatIsSentIsFound}
+use Rattle.lte_top.specs.Found.{sent_lines, WhatIsSentIsFound}
 
 -- what a transmission sends fits the bytes of samples
 sent_fits : (t : Transmission) → IsGain (gain_of t.gain) → All (λ s. IsWithin 32767 (value_of s)) (sent_samples t)
@@ -34,11 +34,11 @@ sent_fits t size =
 sent_back : (t : Transmission) (bytes : List ℕ) → IsGain (gain_of t.gain) → bytes ≡ bytes_of (sent_samples t) → samples_of bytes ≡ sent_samples t
 sent_back t bytes size e = ap samples_of e ∙ samples_back (sent_samples t) (sent_fits t size)
 
--- the line of a held cell stands in the text of the list
-held_line : (list : List Entry) (plan : CellPlan) (first number : ℕ) → HoldsCell list plan first number → IsPiece (sent_line plan first number) (report_text list)
-held_line list plan first number held =
-    let is : cell_line held.entry ≡ sent_line plan first number =
-    rw (held.id, held.start, held.sfn, held.sent.ports, held.sent.block.bandwidth, held.sent.block.duration, held.sent.block.resource, held.sent.block.spare) refl in
+-- the lines of a held cell stand in the text of the list
+held_lines : (list : List Entry) (plan : CellPlan) (first number : ℕ) → HoldsCell list plan first number → IsPiece (sent_lines plan first number) (report_text list)
+held_lines list plan first number held =
+    let is : entry_lines held.entry ≡ sent_lines plan first number =
+    rw (held.id, held.start, held.sfn, held.sent.ports, held.sent.block.bandwidth, held.sent.block.duration, held.sent.block.resource, held.sent.block.spare, held.sent.sib1) refl in
     subst (λ l. IsPiece l (report_text list)) is (lines_stand list held.entry held.inside)
 
 pub sent_is_found : ReceivedIsClean → WhatIsSentIsFound
@@ -54,6 +54,6 @@ sent_is_found is_clean description bytes text a b =
       t = t;
       describes = a.describes;
       clean = clean;
-      line = subst (IsPiece (sent_line t.cell (start_of t.offset) (number_at_start t.sfn t.offset))) (sym b.text)
-          (held_line b.entries t.cell (start_of t.offset) (number_at_start t.sfn t.offset) held);
+      lines = subst (IsPiece (sent_lines t.cell (start_of t.offset) (number_at_start t.sfn t.offset))) (sym b.text)
+          (held_lines b.entries t.cell (start_of t.offset) (number_at_start t.sfn t.offset) held);
     }

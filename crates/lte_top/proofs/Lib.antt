@@ -4,5 +4,8 @@ pub mod Checked
 pub mod Transmitted
 pub mod Ending
 pub mod OneForm
+pub mod Held
+pub mod Made
+pub mod MadeEnds
 pub mod Complete
 pub mod Found

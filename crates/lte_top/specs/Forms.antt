@@ -1,9 +1,10 @@
 -- The forms of words that are run: what each reads, which inputs it refuses, and what it writes. (own)
-use Rattle.std.specs.Prelude.{◌≡◌, ℕ, ◌%◌, ◌<◌, ◌≤◌, Option, Some, None, List, [], ◌∷◌, length, codes, nat_lt, not, ◌==◌, if◌then◌else◌}
+use Rattle.std.specs.Prelude.{◌≡◌, ℕ, ◌%◌, ◌^◌, ◌<◌, ◌≤◌, Option, Some, None, List, [], ◌∷◌, length, codes, nat_lt, not, ◌==◌, if◌then◌else◌}
+use Rattle.std.specs.Fmt.{decimal}
 use Rattle.sample_file.specs.Recording.{SampleForm, form_16, samples_of}
 use Rattle.sample_file.specs.Reading.{least_bytes, most_bytes}
 use Rattle.lte_top.specs.declared.form.Form.{Form}
-use Rattle.lte_top.specs.declared.form.Form.TheVariants.{Report as Reports, Certify, Check, Transmit}
+use Rattle.lte_top.specs.declared.form.Form.TheVariants.{Report as Reports, Certify, Check, Transmit, Make}
 use Rattle.lte_top.specs.declared.form.Report.TheVariants.{Hits, Ids, Search}
 use Rattle.lte_top.specs.declared.status.Status.{Status}
 use Rattle.lte_top.specs.declared.status.Status.TheVariants.{Done, Usage, Ragged, TooShort, TooLong, ReadFault, WriteFault, OutOfMemory, BadCell, BadCertificate}
@@ -12,6 +13,7 @@ use Rattle.lte_top.specs.Transmitting.{most_description_bytes, IsTransmitted}
 use Rattle.lte_top.specs.Certificates.{IsChecked, IsCertified}
 use Rattle.cert_stream.specs.Stream.{most_bytes as most_certificate_bytes, IsBrokenAt}
 use Rattle.lte_top.specs.Reports.{IsReport}
+use Rattle.lte_top.specs.Making.{IsMadeText}
 
 -- the words of a form, each as its bytes
 abbrev pub words_of : Form → List (List ℕ)
@@ -21,10 +23,20 @@ words_of (Reports Search) = codes "search" ∷ []
 words_of Certify = codes "certify" ∷ []
 words_of Check = codes "check" ∷ []
 words_of Transmit = codes "transmit" ∷ []
+words_of (Make n) = codes "make" ∷ decimal n ∷ []
+
+-- the number of a form is one of 32 bits
+abbrev pub IsInRange : Form → Type 0
+IsInRange (Reports report) = Unit {0}
+IsInRange Certify = Unit {0}
+IsInRange Check = Unit {0}
+IsInRange Transmit = Unit {0}
+IsInRange (Make n) = n < 2 ^ 32
 
 -- the words are those of this form
 pub record IsWordsOf (words : List (List ℕ)) (form : Form) : Type 0 where
   pub words_are : words ≡ words_of form
+  pub in_range : IsInRange form
 
 -- the words are those of no form
 abbrev pub IsNoForm : List (List ℕ) → Type 0
@@ -44,6 +56,7 @@ input_of (Reports report) = recording form_16
 input_of Certify = recording form_16
 input_of Check = certificates
 input_of Transmit = description
+input_of (Make n) = nothing
 
 -- the most bytes that are read
 abbrev pub limit_of : Input → ℕ
@@ -99,6 +112,7 @@ IsOutput (Reports report) bytes output = IsReport report (samples_of bytes) outp
 IsOutput Certify bytes output = IsCertified (samples_of bytes) output
 IsOutput Check bytes output = IsChecked bytes output
 IsOutput Transmit bytes output = IsTransmitted bytes output
+IsOutput (Make n) bytes output = IsMadeText n output
 
 -- ---- exit codes
 

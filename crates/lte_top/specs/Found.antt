@@ -8,7 +8,7 @@ use Rattle.cell_tx.specs.Sent.{gain_of}
 use Rattle.cell_tx.specs.Clean.{IsClean, start_of, number_at_start}
 use Rattle.cell_json.specs.Reading.{Describes}
 use Rattle.lte_types.specs.Codes.{duration_word, resource_word}
-use Rattle.report.specs.Lines.{place_part, block_part}
+use Rattle.report.specs.Lines.{place_part, block_part, sib1_lines}
 use Rattle.report.specs.Pieces.{IsPiece}
 use Rattle.lte_top.specs.declared.form.Form.TheVariants.{Report as Reports, Transmit}
 use Rattle.lte_top.specs.declared.form.Report.TheVariants.{Search}
@@ -19,14 +19,19 @@ abbrev pub sent_line : CellPlan → ℕ → ℕ → List ℕ
 sent_line plan first number =
     place_part plan.identity first number 1 ++ block_part (codes "n6") (duration_word plan.duration) (resource_word plan.resource) plan.spare
 
--- the described cell is in the samples without an error, and its line stands in the text
+-- this line, and those of its system information
+abbrev pub sent_lines : CellPlan → ℕ → ℕ → List ℕ
+sent_lines plan first number = sent_line plan first number ++ sib1_lines plan.sib1
+
+-- the described cell is in the samples without an error, and its lines stand together in the text
 pub record IsFoundIn (description : List ℕ) (samples : List Sample) (text : List ℕ) : Type 0 where
   pub t : Transmission
   pub describes : Describes description t
   pub clean : IsClean samples t.cell t.sfn t.offset (gain_of t.gain) 0
-  pub line : IsPiece (sent_line t.cell (start_of t.offset) (number_at_start t.sfn t.offset)) text
+  pub lines : IsPiece (sent_lines t.cell (start_of t.offset) (number_at_start t.sfn t.offset)) text
 
--- a law: what `transmit` writes for a description, read as a recording, is clean, and what `search` writes for it has the cell's line
+-- a law: what `transmit` writes for a description, read as a recording, is clean, and what `search` writes
+-- for it has the cell's lines
 abbrev pub WhatIsSentIsFound : Type 0
 WhatIsSentIsFound = (description sent text : List ℕ) → IsOutput Transmit description sent → IsOutput (Reports Search) sent text →
     IsFoundIn description (samples_of sent) text

@@ -1,6 +1,7 @@
 pub mod Certificates
 pub mod Transmitting
 pub mod Reports
+pub mod Making
 pub mod Forms
 pub mod Errors
 pub mod Run

@@ -33,10 +33,11 @@ pub record HasOutput (form : Form) (output : List ℕ) (before now : SourceTold)
   pub unrefused : (status : Status) → Refuses (input_of form) bytes status → ⊥
   pub is_output : IsOutput form bytes output
 
--- what was read has this refusal, and it ended there or has it however it goes on
+-- what was read, no more than one byte past the limit, has this refusal, and it ended there or has it however it goes on
 pub record HasRefusal (input : Input) (status : Status) (before now : SourceTold) : Type 0 where
   pub bytes : List ℕ
   pub read : HasRead bytes before now
+  pub few : length bytes ≤ limit_of input + 1
   pub refused : Refuses input bytes status
   pub settled : IsAtEnd now ⊎ ((rest : List ℕ) → Refuses input (bytes ++ rest) status)
 

@@ -16,6 +16,8 @@ pub enum Form {
     Check,
     /// `transmit`: the samples of a described cell.
     Transmit,
+    /// `make N`: the list of recording number N.
+    Make(u32),
 }
 
 /// A report about a recording.
@@ -48,7 +50,8 @@ impl Form {
         } else if words.is_one("transmit") {
             Some(Form::Transmit)
         } else {
-            None
+            let n = words.number_after("make")?;
+            Some(Form::Make(n))
         }
     }
 }

@@ -1,8 +1,10 @@
 //! Laws of what is answered and written.
 
 ghost use Rattle.lte_top.specs.Found.{WhatIsSentIsFound};
+ghost use Rattle.lte_top.specs.Making.{WhatIsMadeIsHeld};
 ghost use Rattle.lte_top.specs.Run.{HasOneAnswer};
 
+use capture_make::made_is_clean;
 use cell_tx::sent_is_clean;
 
 /// A law of the answers: the bytes of an input have one answer, so that each is given exactly where
@@ -12,9 +14,16 @@ pub fn an_input_has_one_answer()
 {}
 
 /// What `transmit` writes for a description is, read as a recording, free of errors, and what `search`
-/// writes for that recording has the line of the described cell.
+/// writes for that recording has the lines of the described cell, with its system information.
 pub fn what_is_sent_is_found()
     ensures { WhatIsSentIsFound }
 {
     sent_is_clean();
+}
+
+/// The line of `make N` ends in `held 1`, for every N: the list of the recording holds the cell that was sent once.
+pub fn what_is_made_is_held()
+    ensures { WhatIsMadeIsHeld }
+{
+    made_is_clean();
 }

@@ -24,7 +24,7 @@ pub enum Status {
     Ragged,
     /// The recording has fewer than 57,600 samples.
     TooShort,
-    /// The input is longer than its form's limit.
+    /// The input is longer than its form's limit, and no byte within it was refused before.
     TooLong,
     /// The source counted a fault.
     ReadFault,
@@ -34,7 +34,8 @@ pub enum Status {
     OutOfMemory,
     /// The first failed condition of a description.
     BadCell(CellError),
-    /// The place of the first byte of the input that breaks the form of certificates.
+    /// The place of the first byte of the input that breaks the form of certificates; where the input
+    /// ends within one, its length.
     BadCertificate(u64),
 }
 

@@ -9,6 +9,7 @@ ghost use Rattle.lte_top.specs.declared.status.Status.TheVariants.{WriteFault};
 
 use crate::certificates::{answers_text, certify_recording};
 use crate::form::Form;
+use crate::making::made_text;
 use crate::reporting::report_text;
 use crate::status::Status;
 use crate::transmitting::transmitted_bytes;
@@ -21,6 +22,7 @@ use std::alloc::Global;
 /// `Done` means that the input was read to its end and the whole output was taken. Every other answer
 /// but `OutOfMemory` has its cause, and after each but `WriteFault` nothing was written; after
 /// `WriteFault` the sink took a front of the output. Want of memory is never answered after a write.
+/// Each other answer comes after no more than one byte past the form's limit was read.
 /// Where the source tells its bytes, the answer is the one that they have, but for want of memory and
 /// counted faults.
 pub fn run<S: Source, K: Sink>(alloc: Global, words: &Words, source: &mut S, sink: &mut K) -> Status
@@ -97,6 +99,10 @@ fn run_form<S: Source, K: Sink>(
         Form::Transmit => {
             let bytes = transmitted_bytes(alloc, source)?;
             write_output(sink, &bytes)
+        }
+        Form::Make(n) => {
+            let text = made_text(alloc, n)?;
+            write_output(sink, text.as_bytes())
         }
     }
 }

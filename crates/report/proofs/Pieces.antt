@@ -2,7 +2,7 @@
 use Rattle.std.proofs.Common.{◌≡◌, ℕ, zero, suc, ◌<◌, arith, ap, sym, ◌∙◌, List, [], ◌∷◌, ◌++◌, length, append_assoc}
 use Rattle.std.specs.Prelude.{slice_index_or}
 use Rattle.std.specs.List.{flat_map}
-use Rattle.report.specs.Lines.{cell_line, system_lines, entry_lines, head_line, report_text}
+use Rattle.report.specs.Lines.{entry_lines, head_line, report_text}
 use Rattle.report.specs.Pieces.{IsPiece, ListedLinesStand}
 
 -- a piece of a text is one of a longer text
@@ -19,17 +19,8 @@ item_stands f [] x k below at = absurd (omega (arith, below))
 item_stands f (y ∷ rest) x zero below at = record { before = []; after = flat_map f rest; split = ap (λ z. f z ++ flat_map f rest) at }
 item_stands f (y ∷ rest) x (suc k) below at = further (f y) (f x) (flat_map f rest) (item_stands f rest x k (omega (arith, below)) at)
 
--- a front of a piece is a piece
-front_stands : (front rest text : List ℕ) → IsPiece (front ++ rest) text → IsPiece front text
-front_stands front rest text p = record {
-  before = p.before;
-  after = rest ++ p.after;
-  split = p.split ∙ ap (λ l. l ++ p.after) (sym (append_assoc p.before front rest)) ∙ append_assoc (p.before ++ front) rest p.after;
-}
-
 pub lines_stand : ListedLinesStand
 unfolding report_text
 lines_stand entries entry inside =
-    let whole : IsPiece (entry_lines entry) (flat_map entry_lines entries) = item_stands entry_lines entries entry inside.0 inside.1 inside.2 in
-    further (head_line (length entries)) (cell_line entry) (flat_map entry_lines entries)
-    (front_stands (cell_line entry) (system_lines entry.sib1) (flat_map entry_lines entries) whole)
+    further (head_line (length entries)) (entry_lines entry) (flat_map entry_lines entries)
+    (item_stands entry_lines entries entry inside.0 inside.1 inside.2)

@@ -99,6 +99,13 @@ head_line count = codes "cells " ++ decimal count ++ codes "\n"
 unfoldable pub report_text : List Entry → List ℕ
 report_text entries = head_line (length entries) ++ flat_map entry_lines entries
 
+-- ---- a recording by number
+
+-- the cell of the recording, where its first frame begins, that frame's number, and how often the list holds it
+abbrev pub made_line : ℕ → ℕ → ℕ → ℕ → List ℕ
+made_line id start sfn held =
+    codes "made " ++ decimal id ++ codes " at " ++ decimal start ++ codes " sfn " ++ decimal sfn ++ codes " held " ++ decimal held ++ codes "\n"
+
 -- where an entry has system information, its fields are in their ranges
 abbrev pub IsValidEntry : Entry → Type 0
 IsValidEntry entry = IfOk entry.sib1 IsValid

@@ -2,7 +2,8 @@
 
 ghost use Rattle.report.specs.Pieces.{ListedLinesStand};
 
-/// The line of each listed cell stands in the text of the list.
+/// The lines of each listed cell, its own and those on its system information, stand together in the
+/// text of the list.
 pub fn listed_lines_stand()
     ensures { ListedLinesStand }
 {}

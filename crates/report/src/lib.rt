@@ -6,6 +6,7 @@ mod hits;
 mod laws;
 mod lines;
 mod listing;
+mod made;
 mod parts;
 mod words;
 
@@ -13,6 +14,7 @@ pub use answers::text_of_answers;
 pub use hits::{IdentifiedHit, text_of_hits, text_of_ids};
 pub use laws::listed_lines_stand;
 pub use listing::text;
+pub use made::line_of_made;
 
 #[cfg(test)]
 mod tests;

@@ -14,6 +14,13 @@ pub fn command(alloc: Global, word: &str) -> Result<Words, AllocError> {
     Ok(words)
 }
 
+/// The words of a command of two words.
+pub fn command_of_two(alloc: Global, first: &str, second: &str) -> Result<Words, AllocError> {
+    let mut words = command(alloc, first)?;
+    words.push(second)?;
+    Ok(words)
+}
+
 /// How a command of one word ends over these bytes, and what it wrote.
 pub fn output_of(
     alloc: Global,

@@ -3,7 +3,7 @@
 
 mod commands;
 
-pub use commands::{command, output_of};
+pub use commands::{command, command_of_two, output_of};
 
 #[cfg(test)]
 mod certificates;

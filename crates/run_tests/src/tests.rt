@@ -1,5 +1,5 @@
 use crate::recordings::{put_secondary, put_signal, put_turned_signal};
-use crate::{command, output_of};
+use crate::{command, command_of_two, output_of};
 use cell_tx::CellError;
 use cs_outside::{FailSink, FailSource, MemSink, MemSource, Source, StdSink, StdSource};
 use lte_top::{Status, Words, run};
@@ -168,14 +168,24 @@ fn faults_of_identities(rt: HostRuntime) -> Result<(), Fail> {
 #[test]
 fn words_of_no_form_read_nothing(rt: HostRuntime) -> Result<(), Fail> {
     let alloc = rt.alloc();
-    let mut two = command(alloc, "hits")?;
-    two.push("ids")?;
     for words in [
         command(alloc, "hit")?,
         command(alloc, "hits ")?,
         command(alloc, "transmitter")?,
-        two,
+        command_of_two(alloc, "hits", "ids")?,
+        command_of_two(alloc, "search", "-x")?,
         Words::new(alloc),
+        command(alloc, "make")?,
+        command(alloc, "make 7")?,
+        command_of_two(alloc, "make", "")?,
+        command_of_two(alloc, "make", "07")?,
+        command_of_two(alloc, "make", "00")?,
+        command_of_two(alloc, "make", "+7")?,
+        command_of_two(alloc, "make", "-1")?,
+        command_of_two(alloc, "make", "7 ")?,
+        command_of_two(alloc, "make", "4294967296")?,
+        command_of_two(alloc, "make", "18446744073709551616")?,
+        command_of_two(alloc, "search", "7")?,
     ] {
         let mut source = FailSource::new(silence(alloc, 16)?, vec![in alloc; 0u64; 1]?, 16);
         let mut sink = MemSink::new(alloc, ROOM)?;

@@ -15,8 +15,11 @@ returns-in-Ok-eq0-2-clause-err g c =
 
 pub returns-in-Broken-clause-err : goal.returns-in-Broken-clause-err
 returns-in-Broken-clause-err g c =
+    let size = length-take (c.loop-answers.filled + c.in-Ok.n) c.read_at.new.buffer in
     broken_on _ _ _ _ _ _ _ _ _ c.loop-answers.invariant.so_far c.in-Ok.ensures.read c.in-Broken.ensures
     (omega (arith, c.place_of-in-Broken.ensures)) (omega arith)
+    (omega (arith, size, c.in-Ok.ensures.fits, c.window_end-end.ensures.least))
+    (omega (arith, size, c.in-Ok.ensures.fits, c.window_end-end.ensures.least))
 
 pub returns-in-Partial-clause-err : goal.returns-in-Partial-clause-err
 returns-in-Partial-clause-err g c =

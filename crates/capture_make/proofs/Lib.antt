@@ -1,0 +1,5 @@
+pub mod Information
+pub mod Plans
+pub mod Words
+pub mod Adding
+pub mod Samples

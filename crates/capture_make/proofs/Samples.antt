@@ -1,0 +1,109 @@
+-- The samples of a recording by number.
+use Rattle.std.proofs.Common.{◌≡◌, ℕ, ◌+◌, ◌*◌, ◌%◌, ◌<◌, ◌≤◌, List, length, ap, sym, subst, ◌∙◌, arith, ℤ, pos, get_or, mod-lt}
+use Rattle.std.specs.Prelude.{nat_abs, All}
+use Rattle.std.proofs.lemmas.Int.{ints}
+use Rattle.finite.specs.Lists.{values_below}
+use Rattle.finite.proofs.Lists.{values_below-length, values_below_at, values_below_same, values_below-All}
+use Rattle.cs_num.specs.declared.Cpx.{Cpx}
+use Rattle.cs_num.specs.declared.Sample.{Sample}
+use Rattle.cs_num.specs.Complex.{IsWithin, plus, times, silence, sample_at, value_of}
+use Rattle.sample_file.specs.Recording.{IsRecording}
+use Rattle.cell_tx.specs.declared.cell.CellPlan.{CellPlan}
+use Rattle.cell_tx.specs.declared.transmission.Transmission.{Transmission}
+use Rattle.cell_tx.specs.Clean.{IsGain, IsClean}
+use Rattle.cell_tx.specs.Grid.{element}
+use Rattle.cell_tx.specs.Laws.{received_with, ReceivedWithErrorsIsClean}
+use Rattle.cell_tx.specs.Sent.{sent, received, sample_of, gain_of}
+use Rattle.cell_tx.proofs.Bounds.{received-within}
+use Rattle.capture_make.specs.declared.made.Made.{Made}
+use Rattle.capture_make.specs.Recipe.{plan, number, offset, count, gain, IsBound}
+use Rattle.capture_make.specs.Errors.{drawn, error, word}
+use Rattle.capture_make.specs.Made.{samples, IsMade, IsCleanlyMade}
+
+-- ---- what is sent, with errors
+
+-- what a transmission sends
+abbrev sent_of : Transmission → List Sample
+sent_of t = values_below t.samples (λ i. sample_of (received t.cell t.sfn t.offset (gain_of t.gain) i))
+
+-- fits the errors
+pub room_is : (t : Transmission) (clean : List Sample) → IsGain (gain_of t.gain) → clean ≡ sent_of t → All (λ s. IsWithin 32284 (value_of s)) clean
+room_is t clean size e =
+    subst (λ l. All (λ s. IsWithin 32284 (value_of s)) l) (sym e)
+    (values_below-All (λ s. IsWithin 32284 (value_of s)) t.samples (λ i. sample_of (received t.cell t.sfn t.offset (gain_of t.gain) i)) silence
+    (λ k below. received-within t.cell t.sfn t.offset (gain_of t.gain) k size))
+
+pub with_errors_is : (errors : ℕ → Cpx) (plan : CellPlan) (sfn offset count : ℕ) (gain : Cpx) (clean : List Sample) → clean ≡ values_below count (λ i. sample_of (received plan sfn offset gain i))
+    → values_below (length clean) (λ i. sample_of (plus (sample_at clean i) (errors i))) ≡ received_with (sent (element plan) sfn) offset count gain errors
+with_errors_is errors plan sfn offset count gain clean e =
+    let f : ℕ → Sample = λ i. sample_of (received plan sfn offset gain i) in
+    let long : length clean ≡ count = ap length e ∙ values_below-length count f in
+    ap (λ n. values_below n (λ i. sample_of (plus (sample_at clean i) (errors i)))) long
+    ∙ values_below_same count (λ i. sample_of (plus (sample_at clean i) (errors i))) (λ i. sample_of (plus (times gain (sent (element plan) sfn (i + offset))) (errors i)))
+    (λ k below. ap (λ (s : Sample). sample_of (plus (value_of s) (errors k))) (ap (λ l. get_or l k silence) e ∙ values_below_at f count k silence below))
+
+-- where a transmission is that of a number, the samples are those of its recording
+pub samples_are : (n bound : ℕ) (t : Transmission) (clean : List Sample) → t.cell ≡ plan n → t.sfn ≡ number n → t.offset ≡ offset n → t.samples ≡ count n → gain_of t.gain ≡ gain n
+    → clean ≡ sent_of t → values_below (length clean) (λ i. sample_of (plus (sample_at clean i) (error n bound i))) ≡ samples n bound
+unfolding samples
+samples_are n bound t clean a b c d e h =
+    let g : CellPlan → ℕ → ℕ → ℕ → Cpx → List Sample = λ p s o m z. received_with (sent (element p) s) o m z (error n bound) in
+    with_errors_is (error n bound) t.cell t.sfn t.offset t.samples (gain_of t.gain) clean h
+    ∙ ap (λ p. g p t.sfn t.offset t.samples (gain_of t.gain)) a
+    ∙ ap (λ s. g (plan n) s t.offset t.samples (gain_of t.gain)) b
+    ∙ ap (λ o. g (plan n) (number n) o t.samples (gain_of t.gain)) c
+    ∙ ap (λ m. g (plan n) (number n) (offset n) m (gain_of t.gain)) d
+    ∙ ap (λ z. g (plan n) (number n) (offset n) (count n) z) e
+
+-- then these, with the errors, are the recording of that number
+pub is_made : (n bound : ℕ) (t : Transmission) (clean : List Sample) (made : Made) → t.cell ≡ plan n → t.sfn ≡ number n → t.offset ≡ offset n → t.samples ≡ count n → gain_of t.gain ≡ gain n
+    → IsBound (gain n) (pos bound) → clean ≡ sent_of t → made.sent ≡ t → made.bound ≡ pos bound → made.recording ≡ values_below (length clean) (λ i. sample_of (plus (sample_at clean i) (error n bound i))) → IsMade n made
+is_made n bound t clean made a b c d e greatest h s f r = record {
+  plan_is = ap (λ (u : Transmission). u.cell) s ∙ a;
+  number_is = ap (λ (u : Transmission). u.sfn) s ∙ b;
+  offset_is = ap (λ (u : Transmission). u.offset) s ∙ c;
+  count_is = ap (λ (u : Transmission). u.samples) s ∙ d;
+  gain_is = ap (λ (u : Transmission). gain_of u.gain) s ∙ e;
+  bound = subst (IsBound (gain n)) (sym f) greatest;
+  samples_are = r ∙ samples_are n bound t clean a b c d e h ∙ ap (λ z. samples n (nat_abs z)) (sym f);
+}
+
+-- as many as a recording has
+pub is_recording : (n bound : ℕ) (list : List Sample) → list ≡ samples n bound → IsRecording list
+unfolding samples
+is_recording n bound list e =
+    let long : length list ≡ count n = ap length e ∙ values_below-length (count n) (λ i. sample_of (plus (times (gain n) (sent (element (plan n)) (number n) (i + offset n))) (error n bound i))) in
+    record { least = omega (arith, long); most = omega (arith, long) }
+
+-- ---- and cleanly
+
+drawn-within : (bound w : ℕ) → nat_abs (drawn bound w) ≤ bound
+drawn-within bound w = let below : w % (2 * bound + 1) < 2 * bound + 1 = mod-lt w (omega arith) in omega (arith, ints, below)
+
+pub is_clean : ReceivedWithErrorsIsClean → (n : ℕ) (made : Made) → IsMade n made → IsCleanlyMade made
+unfolding samples
+is_clean law n made m =
+    let eps = nat_abs made.bound in
+    let t = made.sent in
+    let size : IsGain (gain n) = subst IsGain m.gain_is t.gain_range in
+    let whole : IsClean (samples n eps) (plan n) (number n) (offset n) (gain n) eps = record {
+      number = omega arith;
+      samples = law (sent (element (plan n)) (number n)) (offset n) (count n) (gain n) eps (error n eps) (omega arith) size m.bound.within
+          (λ i below. record { re = drawn-within eps (word n (2 * i)); im = drawn-within eps (word n (2 * i + 1)) });
+    } in
+    subst (λ l. IsClean l t.cell t.sfn t.offset (gain_of t.gain) eps) (sym m.samples_are)
+    (subst (λ p. IsClean (samples n eps) p t.sfn t.offset (gain_of t.gain) eps) (sym m.plan_is)
+    (subst (λ s. IsClean (samples n eps) (plan n) s t.offset (gain_of t.gain) eps) (sym m.number_is)
+    (subst (λ o. IsClean (samples n eps) (plan n) (number n) o (gain_of t.gain) eps) (sym m.offset_is)
+    (subst (λ z. IsClean (samples n eps) (plan n) (number n) (offset n) z eps) (sym m.gain_is) whole))))
+
+-- ---- a number has one recording
+
+one_bound : (g : Cpx) (x y : ℤ) → IsBound g x → IsBound g y → nat_abs x ≡ nat_abs y
+one_bound g x y a b =
+    let p = a.greatest (nat_abs y) b.within in
+    let q = b.greatest (nat_abs x) a.within in
+    omega (arith, ints, p, q)
+
+pub one_recording : (n : ℕ) (a b : Made) → IsMade n a → IsMade n b → a.recording ≡ b.recording
+one_recording n a b p q = p.samples_are ∙ ap (samples n) (one_bound (gain n) a.bound b.bound p.bound q.bound) ∙ sym q.samples_are

@@ -1,0 +1,3 @@
+pub mod Recipe
+pub mod Errors
+pub mod Made

@@ -1,0 +1,79 @@
+-- The recipe of recording number n: which cell is sent, and how. (own)
+use Rattle.std.specs.Prelude.{ℕ, ◌+◌, ◌*◌, ◌%◌, ◌^◌, ◌≤◌, pos, ℤ, ◌-ℤ◌, ◌≤ℤ◌, nat_abs, true, false, List, [], ◌∷◌, Some, None}
+use Rattle.cs_num.specs.declared.Cpx.{Cpx}
+use Rattle.cs_num.specs.Complex.{square}
+use Rattle.lte_types.specs.Codes.{duration, resource}
+use Rattle.lte_types.specs.Numerology.{frame_length}
+use Rattle.lte_types.specs.declared.mnc.Mnc.TheVariants.{Two}
+use Rattle.lte_types.specs.declared.plmn.Plmn.{Plmn}
+use Rattle.lte_types.specs.declared.si_message.SiMessage.{SiMessage}
+use Rattle.lte_types.specs.declared.sib1.Sib1.{Sib1}
+use Rattle.cell_tx.specs.declared.cell.CellPlan.{CellPlan}
+
+-- ---- the cell
+
+-- the network 001/01
+abbrev pub network : Plmn
+network = record { mcc = Some (0 ∷ 0 ∷ 1 ∷ []); mnc = Two (0 ∷ 1 ∷ []); reserved = false }
+
+-- an entry of the schedule, with the code of its period and those of its blocks
+abbrev pub message : ℕ → List ℕ → SiMessage
+message period sibs = record { period = period; sibs = sibs }
+
+-- its SystemInformationBlockType1, of 131 bits
+abbrev pub information : ℕ → Sib1
+information n = record {
+  plmns = network ∷ [];
+  tac = n % 65536;
+  cell = n % 2 ^ 28;
+  barred = false;
+  intra = true;
+  csg = false;
+  csg_identity = None;
+  q_rx = pos (n % 49) -ℤ pos 70;
+  q_offset = None;
+  p_max = None;
+  band = 1 + n % 64;
+  scheduling = message (n % 7) [] ∷ message (n % 7) (0 ∷ 2 ∷ []) ∷ [];
+  tdd = None;
+  window = n % 7;
+  tag = n % 32;
+  extended = false;
+}
+
+-- its plan: the size of the transport block is 144
+abbrev pub plan : ℕ → CellPlan
+plan n = record {
+  identity = n % 504;
+  duration = duration (n % 2);
+  resource = resource (n % 4);
+  spare = n % 1024;
+  cfi = 2 + n % 2;
+  start = 0;
+  blocks = 6;
+  mcs = 5;
+  column = 2;
+  sib1 = information n;
+}
+
+-- ---- what is sent of it
+
+-- the number of its first frame
+abbrev pub number : ℕ → ℕ
+number n = n % 1024
+
+-- the first sample of that frame which is sent
+abbrev pub offset : ℕ → ℕ
+offset n = n % frame_length
+
+-- 10 to 99 frames
+abbrev pub count : ℕ → ℕ
+count n = frame_length * (10 + n % 90)
+
+abbrev pub gain : ℕ → Cpx
+gain n = record { re = pos (1 + n % 19); im = pos (n % 20) }
+
+-- the bound of the errors: the greatest whole number whose square is at most four times that of the gain's size
+pub record IsBound (gain : Cpx) (bound : ℤ) : Type 0 where
+  pub within : nat_abs bound * nat_abs bound ≤ 4 * square gain
+  pub greatest : (m : ℕ) → m * m ≤ 4 * square gain → pos m ≤ℤ bound

@@ -1,0 +1,60 @@
+//! The errors of a recording.
+
+ghost use Rattle.std.specs.Prelude.{◌≡◌, ◌≤◌, ◌+◌, ◌*◌, All, length, nat_abs};
+ghost use Rattle.finite.specs.Lists.{values_below};
+ghost use Rattle.cs_num.specs.Complex.{IsWithin, plus, sample_at, value_of};
+ghost use Rattle.cell_tx.specs.Sent.{sample_of};
+ghost use Rattle.rand_pcg.specs.Pcg.{pcg32};
+ghost use Rattle.capture_make.specs.Errors.{drawn, error, generator};
+
+use cs_num::Sample;
+use rand_core::utils::NextWord;
+use rand_pcg::Lcg64Xsh32;
+
+// The next number from -bound to bound.
+fn draw(words: &mut Lcg64Xsh32, bound: u16) -> i16
+    requires { bound ≤ 56 }
+    ensures value { result ≡ drawn bound (pcg32 words.old).0 }
+    ensures next { words.new ≡ (pcg32 words.old).1 }
+    ensures small { nat_abs result ≤ 56 }
+{
+    (words.next_word() % (2 * bound as u32 + 1)) as i16 - bound as i16
+}
+
+// The error of a sample: the real component is drawn first.
+fn draw_error(words: &mut Lcg64Xsh32, bound: u16) -> Sample
+    requires { bound ≤ 56 }
+    ensures re { result.re ≡ drawn bound (pcg32 words.old).0 }
+    ensures im { result.im ≡ drawn bound (pcg32 (pcg32 words.old).1).0 }
+    ensures next { words.new ≡ (pcg32 (pcg32 words.old).1).1 }
+    ensures small { IsWithin 56 (value_of result) }
+{
+    let re = draw(words, bound);
+    let im = draw(words, bound);
+    Sample { re, im }
+}
+
+// A sample with an error.
+fn with_error(clean: Sample, error: Sample) -> Sample
+    requires clean { IsWithin 32284 (value_of clean) }
+    requires error { IsWithin 56 (value_of error) }
+    ensures { result ≡ sample_of (plus (value_of clean) (value_of error)) }
+{
+    Sample {
+        re: clean.re + error.re,
+        im: clean.im + error.im,
+    }
+}
+
+/// Adds the errors of number `n` to samples whose components have size at most 32,284.
+pub(crate) fn add_errors(n: u32, bound: u16, samples: &mut [Sample])
+    requires bound { bound ≤ 56 }
+    requires room { All (λ s. IsWithin 32284 (value_of s)) samples.old }
+    ensures { samples.new ≡ values_below (length samples.old)
+        (λ i. sample_of (plus (sample_at samples.old i) (error n bound i))) }
+{
+    let mut words = Lcg64Xsh32::new(n as u64, 1);
+    for i in 0..samples.len() {
+        samples[i] = with_error(samples[i], draw_error(&mut words, bound));
+    }
+}

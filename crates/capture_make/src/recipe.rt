@@ -1,0 +1,154 @@
+//! What is sent for a number.
+
+ghost use Rattle.std.specs.Prelude.{◌≡◌, ◌≤◌, ◌%◌, [], ◌∷◌, pos, length, None};
+ghost use Rattle.lte_types.specs.Codes.{duration as duration_with, resource as resource_with};
+ghost use Rattle.lte_types.specs.Ranges.{IsValid};
+ghost use Rattle.cell_tx.specs.Plan.{IsSendable};
+ghost use Rattle.cell_tx.specs.Sent.{gain_of};
+ghost use Rattle.capture_make.specs.Recipe.{network, message as message_of, information as information_of, plan as plan_of, number, offset, count, gain as gain_with, IsBound};
+
+use cell_tx::{Cell, CellPlan, Transmission};
+use lte_types::{Duration, Mnc, Plmn, Plmns, Resource, Schedule, Sfn, SiMessage, Sib1, Sibs};
+
+// The samples of a frame.
+const FRAME: u32 = lte_types::FRAME_LENGTH as u32;
+
+// The network 001/01.
+fn networks() -> Plmns
+    ensures { result ≡ network ∷ [] }
+{
+    let mut plmns = Plmns::new();
+    plmns.push(Plmn {
+        mcc: Some([0, 0, 1]),
+        mnc: Mnc::Two([0, 1]),
+        reserved: false,
+    });
+    plmns
+}
+
+// An entry of the schedule.
+fn message(period: u8, codes: &[u8]) -> SiMessage
+    requires { length codes.now ≤ 31 }
+    ensures { result ≡ message_of period codes.now }
+{
+    let mut sibs = Sibs::new();
+    for code in codes {
+        sibs.push(*code);
+    }
+    SiMessage { period, sibs }
+}
+
+// Two entries of the schedule: one without blocks, and one with types 3 and 5.
+fn schedule(period: u8) -> Schedule
+    ensures { result ≡ message_of period [] ∷ message_of period (0 ∷ 2 ∷ []) ∷ [] }
+{
+    let mut schedule = Schedule::new();
+    schedule.push(message(period, &[]));
+    schedule.push(message(period, &[0, 2]));
+    schedule
+}
+
+// The block of system information.
+fn information(n: u32) -> Sib1
+    ensures { result ≡ information_of n }
+{
+    Sib1 {
+        plmns: networks(),
+        tac: (n % 65_536) as u16,
+        cell: n % (1 << 28),
+        barred: false,
+        intra: true,
+        csg: false,
+        csg_identity: None,
+        q_rx: (n % 49) as i8 - 70,
+        q_offset: None,
+        p_max: None,
+        band: 1 + (n % 64) as u8,
+        scheduling: schedule((n % 7) as u8),
+        tdd: None,
+        window: (n % 7) as u8,
+        tag: (n % 32) as u8,
+        extended: false,
+    }
+}
+
+// The duration of the PHICH.
+fn duration(n: u32) -> Duration
+    ensures { result ≡ duration_with (n % 2) }
+{
+    match Duration::from_code((n % 2) as u8) {
+        Some(duration) => duration,
+        None => unreachable!(),
+    }
+}
+
+// The resource of the PHICH.
+fn resource(n: u32) -> Resource
+    ensures { result ≡ resource_with (n % 4) }
+{
+    match Resource::from_code((n % 4) as u8) {
+        Some(resource) => resource,
+        None => unreachable!(),
+    }
+}
+
+// The plan of the cell.
+fn plan(n: u32) -> CellPlan
+    ensures { result ≡ plan_of n }
+{
+    CellPlan {
+        identity: (n % 504) as u16,
+        duration: duration(n),
+        resource: resource(n),
+        spare: (n % 1024) as u16,
+        cfi: 2 + (n % 2) as u8,
+        start: 0,
+        blocks: 6,
+        mcs: 5,
+        column: 2,
+        sib1: information(n),
+    }
+}
+
+// The cell.
+fn cell(n: u32) -> Cell
+    ensures { result ≡ plan_of n }
+{
+    match Cell::new(plan(n)) {
+        Ok(cell) => cell,
+        Err(_) => unreachable!(),
+    }
+}
+
+// The gain.
+fn gain(n: u32) -> (i16, i16)
+    ensures { gain_of result ≡ gain_with n }
+{
+    ((1 + n % 19) as i16, (n % 20) as i16)
+}
+
+/// What is sent for number `n`.
+pub(crate) fn transmission(n: u32) -> Transmission
+    ensures cell { result.cell ≡ plan_of n }
+    ensures number { result.sfn ≡ number n }
+    ensures offset { result.offset ≡ offset n }
+    ensures count { result.samples ≡ count n }
+    ensures gain { gain_of result.gain ≡ gain_with n }
+{
+    Transmission {
+        cell: cell(n),
+        sfn: Sfn::modulo(n as u64),
+        offset: n % FRAME,
+        samples: FRAME * (10 + n % 90),
+        gain: gain(n),
+    }
+}
+
+/// The bound of the errors: the greatest whole number whose square is at most four times that of the gain's size.
+pub(crate) fn bound(n: u32) -> u16
+    ensures bound { IsBound (gain_with n) (pos result) }
+    ensures small { result ≤ 56 }
+{
+    let (re, im) = (1 + n % 19, n % 20);
+    (4 * (re * re + im * im)).isqrt() as u16
+}
