@@ -16,7 +16,7 @@ use Rattle.cell_tx.specs.Laws.{received_with, ReceivedWithErrorsIsClean}
 use Rattle.cell_tx.specs.Sent.{sent, received, sample_of, gain_of}
 use Rattle.cell_tx.proofs.Bounds.{received-within}
 use Rattle.capture_make.specs.declared.made.Made.{Made}
-use Rattle.capture_make.specs.Recipe.{plan, number, offset, count, gain, IsBound}
+use Rattle.capture_make.specs.Recipe.{plan, number, offset, sample_count, gain, IsBound}
 use Rattle.capture_make.specs.Errors.{drawn, error, word}
 use Rattle.capture_make.specs.Made.{samples, IsMade, IsCleanlyMade}
 
@@ -43,7 +43,7 @@ with_errors_is errors plan sfn offset count gain clean e =
     (λ k below. ap (λ (s : Sample). sample_of (plus (value_of s) (errors k))) (ap (λ l. get_or l k silence) e ∙ values_below_at f count k silence below))
 
 -- where a transmission is that of a number, the samples are those of its recording
-pub samples_are : (n bound : ℕ) (t : Transmission) (clean : List Sample) → t.cell ≡ plan n → t.sfn ≡ number n → t.offset ≡ offset n → t.samples ≡ count n → gain_of t.gain ≡ gain n
+pub samples_are : (n bound : ℕ) (t : Transmission) (clean : List Sample) → t.cell ≡ plan n → t.sfn ≡ number n → t.offset ≡ offset n → t.samples ≡ sample_count n → gain_of t.gain ≡ gain n
     → clean ≡ sent_of t → values_below (length clean) (λ i. sample_of (plus (sample_at clean i) (error n bound i))) ≡ samples n bound
 unfolding samples
 samples_are n bound t clean a b c d e h =
@@ -53,10 +53,10 @@ samples_are n bound t clean a b c d e h =
     ∙ ap (λ s. g (plan n) s t.offset t.samples (gain_of t.gain)) b
     ∙ ap (λ o. g (plan n) (number n) o t.samples (gain_of t.gain)) c
     ∙ ap (λ m. g (plan n) (number n) (offset n) m (gain_of t.gain)) d
-    ∙ ap (λ z. g (plan n) (number n) (offset n) (count n) z) e
+    ∙ ap (λ z. g (plan n) (number n) (offset n) (sample_count n) z) e
 
 -- then these, with the errors, are the recording of that number
-pub is_made : (n bound : ℕ) (t : Transmission) (clean : List Sample) (made : Made) → t.cell ≡ plan n → t.sfn ≡ number n → t.offset ≡ offset n → t.samples ≡ count n → gain_of t.gain ≡ gain n
+pub is_made : (n bound : ℕ) (t : Transmission) (clean : List Sample) (made : Made) → t.cell ≡ plan n → t.sfn ≡ number n → t.offset ≡ offset n → t.samples ≡ sample_count n → gain_of t.gain ≡ gain n
     → IsBound (gain n) (pos bound) → clean ≡ sent_of t → made.sent ≡ t → made.bound ≡ pos bound → made.recording ≡ values_below (length clean) (λ i. sample_of (plus (sample_at clean i) (error n bound i))) → IsMade n made
 is_made n bound t clean made a b c d e greatest h s f r = record {
   plan_is = ap (λ (u : Transmission). u.cell) s ∙ a;
@@ -72,7 +72,7 @@ is_made n bound t clean made a b c d e greatest h s f r = record {
 pub is_recording : (n bound : ℕ) (list : List Sample) → list ≡ samples n bound → IsRecording list
 unfolding samples
 is_recording n bound list e =
-    let long : length list ≡ count n = ap length e ∙ values_below-length (count n) (λ i. sample_of (plus (times (gain n) (sent (element (plan n)) (number n) (i + offset n))) (error n bound i))) in
+    let long : length list ≡ sample_count n = ap length e ∙ values_below-length (sample_count n) (λ i. sample_of (plus (times (gain n) (sent (element (plan n)) (number n) (i + offset n))) (error n bound i))) in
     record { least = omega (arith, long); most = omega (arith, long) }
 
 -- ---- and cleanly
@@ -88,7 +88,7 @@ is_clean law n made m =
     let size : IsGain (gain n) = subst IsGain m.gain_is t.gain_range in
     let whole : IsClean (samples n eps) (plan n) (number n) (offset n) (gain n) eps = record {
       number = omega arith;
-      samples = law (sent (element (plan n)) (number n)) (offset n) (count n) (gain n) eps (error n eps) (omega arith) size m.bound.within
+      samples = law (sent (element (plan n)) (number n)) (offset n) (sample_count n) (gain n) eps (error n eps) (omega arith) size m.bound.within
           (λ i below. record { re = drawn-within eps (word n (2 * i)); im = drawn-within eps (word n (2 * i + 1)) });
     } in
     subst (λ l. IsClean l t.cell t.sfn t.offset (gain_of t.gain) eps) (sym m.samples_are)

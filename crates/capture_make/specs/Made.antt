@@ -6,19 +6,19 @@ use Rattle.cell_tx.specs.Grid.{element}
 use Rattle.cell_tx.specs.Laws.{received_with}
 use Rattle.cell_tx.specs.Sent.{sent, gain_of}
 use Rattle.capture_make.specs.declared.made.Made.{Made}
-use Rattle.capture_make.specs.Recipe.{plan, number, offset, count, gain, IsBound}
+use Rattle.capture_make.specs.Recipe.{plan, number, offset, sample_count, gain, IsBound}
 use Rattle.capture_make.specs.Errors.{error}
 
 -- its samples, where the errors have this bound: what is sent, times the gain, and each sample's error
 unfoldable pub samples : ℕ → ℕ → List Sample
-samples n bound = received_with (sent (element (plan n)) (number n)) (offset n) (count n) (gain n) (error n bound)
+samples n bound = received_with (sent (element (plan n)) (number n)) (offset n) (sample_count n) (gain n) (error n bound)
 
 -- what was sent, the bound of the errors, and the samples are those of recording number n
 pub record IsMade (n : ℕ) (made : Made) : Type 0 where
   pub plan_is : made.sent.cell ≡ plan n
   pub number_is : made.sent.sfn ≡ number n
   pub offset_is : made.sent.offset ≡ offset n
-  pub count_is : made.sent.samples ≡ count n
+  pub count_is : made.sent.samples ≡ sample_count n
   pub gain_is : gain_of made.sent.gain ≡ gain n
   pub bound : IsBound (gain n) made.bound
   pub samples_are : made.recording ≡ samples n (nat_abs made.bound)

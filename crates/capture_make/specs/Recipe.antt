@@ -67,8 +67,8 @@ abbrev pub offset : ℕ → ℕ
 offset n = n % frame_length
 
 -- 10 to 99 frames
-abbrev pub count : ℕ → ℕ
-count n = frame_length * (10 + n % 90)
+abbrev pub sample_count : ℕ → ℕ
+sample_count n = frame_length * (10 + n % 90)
 
 abbrev pub gain : ℕ → Cpx
 gain n = record { re = pos (1 + n % 19); im = pos (n % 20) }

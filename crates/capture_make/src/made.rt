@@ -23,8 +23,8 @@ use std::alloc::{AllocError, Global};
 pub struct Made {
     /// What was sent.
     pub sent: Transmission,
-    /// The greatest size of a component of an error: the greatest whole number whose square is at most four
-    /// times that of the gain's size.
+    /// The greatest whole number whose square is at most four times that of the gain's size: no component of
+    /// an error has a greater size.
     pub bound: i16,
     /// What was sent, with the errors.
     pub recording: Recording,

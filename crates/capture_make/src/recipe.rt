@@ -5,7 +5,7 @@ ghost use Rattle.lte_types.specs.Codes.{duration as duration_with, resource as r
 ghost use Rattle.lte_types.specs.Ranges.{IsValid};
 ghost use Rattle.cell_tx.specs.Plan.{IsSendable};
 ghost use Rattle.cell_tx.specs.Sent.{gain_of};
-ghost use Rattle.capture_make.specs.Recipe.{network, message as message_of, information as information_of, plan as plan_of, number, offset, count, gain as gain_with, IsBound};
+ghost use Rattle.capture_make.specs.Recipe.{network, message as message_of, information as information_of, plan as plan_of, number, offset, sample_count, gain as gain_with, IsBound};
 
 use cell_tx::{Cell, CellPlan, Transmission};
 use lte_types::{Duration, Mnc, Plmn, Plmns, Resource, Schedule, Sfn, SiMessage, Sib1, Sibs};
@@ -132,7 +132,7 @@ pub(crate) fn transmission(n: u32) -> Transmission
     ensures cell { result.cell ≡ plan_of n }
     ensures number { result.sfn ≡ number n }
     ensures offset { result.offset ≡ offset n }
-    ensures count { result.samples ≡ count n }
+    ensures count { result.samples ≡ sample_count n }
     ensures gain { gain_of result.gain ≡ gain_with n }
 {
     Transmission {

@@ -7,7 +7,7 @@ use explain::{EntryList, Workspace, explain};
 use sample_file::Recording;
 
 /// Afterwards the list is that of the recording, as `explain` makes it. Wherever the recording is
-/// what a cell sends times a whole-number gain of size 1 to 28, each component off by at most
+/// what a cell sends, by a plan that can be sent, times a whole-number gain of size 1 to 28, each component off by at most
 /// twice the gain's size, the list has an entry with this cell's identity, the sample at which its
 /// first frame begins, that frame's number, one antenna port, its master block, and the fields of its
 /// SystemInformationBlockType1, and no other with this identity, sample and number. It takes no

@@ -24,9 +24,10 @@ pub fn sent_grant_is_told()
     ensures recording { ReceivedGrantIsTold }
 {}
 
-/// An attempt on a subframe whose values speak for an indicator and a grant has them, and its answer is
-/// what the blocks of the grant tell; whatever they tell is read. So it is where they are seen in the
-/// first slot, and so in a recording whose first slot is received.
+/// An attempt on a subframe whose values speak for an indicator and a grant, with at least four control
+/// channel elements, has them, and its answer is what the blocks of the grant tell; whatever they tell is
+/// read. So it is where they are seen in the first slot, with indicator 2 or 3, and so in a recording
+/// whose first slot is received.
 pub fn sent_grant_is_read()
     ensures spoken { SpokenGrantIsRead }
     ensures seen { SeenGrantIsRead }

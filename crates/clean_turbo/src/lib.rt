@@ -1,6 +1,6 @@
 //! Clean reception of the turbo code: where no received value speaks against the block that was sent,
-//! no extrinsic value of the decoder ever does, and the block is told. No size of the values is needed, only
-//! their signs. Each law is the contract of a function without a body, whole, with its premises; it
+//! no extrinsic value of the decoder ever does, and where the coded bits that were received are enough to
+//! resolve the block, it is told. No size of the values is needed, only their signs. Each law is the contract of a function without a body, whole, with its premises; it
 //! speaks of the decoder's definitions alone.
 #![tactic(auto)]
 
