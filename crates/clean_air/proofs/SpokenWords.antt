@@ -1,27 +1,32 @@
 -- Where all values speak for the coded bits of one word, that word costs nothing and every other word costs something.
-use Rattle.std.proofs.Common.{◌≡◌, ℕ, zero, suc, ◌*◌, ◌<◌, ◌≤◌, inl, inr, arith, refl, ap, sym, ◌∙◌, subst, Bool, true, false, cond, List, [], length, get_or, ℤ, pos, ◌+ℤ◌}
+use Rattle.std.proofs.Common.{◌≡◌, ℕ, ◌<◌, ◌≤◌, inl, inr, arith, refl, ap, sym, ◌∙◌, subst, Bool, true, false, List, [], length, get_or, ℤ, pos}
 use Rattle.std.proofs.lemmas.Int.{ints}
+use Rattle.std.specs.Prelude.{◌&&◌}
+use Rattle.std.proofs.Math.Bool.{and-true}
 use Rattle.std.proofs.lemmas.Bool.{cases_lt}
-use Rattle.finite.specs.Sums.{sum_below, total_below}
+use Rattle.finite.specs.Sums.{total_below}
+use Rattle.finite.specs.Tests.{any_below}
+use Rattle.finite.proofs.Tests.{any_below_at}
 use Rattle.finite.specs.Lists.{values_below}
 use Rattle.finite.proofs.Lists.{values_below_at, values_below_same}
 use Rattle.finite.proofs.Sums.{total_zero, terms_zero}
 use Rattle.paths.specs.Words.{IsBefore}
 use Rattle.paths.proofs.Words.{number-before}
 use Rattle.conv_code.specs.Code.{coded_bits, coded_word}
-use Rattle.sub_block.specs.declared.Place.{Place}
 use Rattle.sub_block.specs.Places.{spot, is_at, summed_at}
-use Rattle.sub_block.proofs.Sums.{at_itself, same_spot}
+use Rattle.sub_block.proofs.Sums.{at_itself}
 use Rattle.conv_code.specs.Reading.{bit_at_place, place_of, summed}
 use Rattle.conv_code.specs.Cost.{place_cost, word_cost}
 use Rattle.conv_code.proofs.OneToOne.{one_to_one}
 use Rattle.conv_code.proofs.Places.{permuting}
 use Rattle.conv_code.proofs.Sums.{length-summed, summed-at}
 use Rattle.cs_bits.specs.Signs.{SpeaksFor}
-use Rattle.cs_bits.proofs.Signs.{supports-speaks, supports-less}
+use Rattle.cs_bits.proofs.Signs.{supports-speaks}
 use Rattle.tailbite.specs.Clean.{Speaks}
 use Rattle.tailbite.proofs.Only.{free_place, same_place}
 use Rattle.cs_bits.specs.Signs.{Supports}
+use Rattle.clean_turbo.specs.Tells.{Tells}
+use Rattle.clean_turbo.proofs.ReceivedSums.{place_tells}
 use Rattle.clean_air.specs.Words.{FourSpeakTogether, DescramblingKeeps, SpeakInOrder, SumsSpeak, SpokenWordIsOnly}
 
 -- ---- single values
@@ -36,79 +41,22 @@ descrambling_keeps least true false value h = h
 descrambling_keeps least false true value h = omega (arith, ints)
 descrambling_keeps least true true value h = omega (arith, ints)
 
--- ---- sums
-
-allows_nothing : (bit : Bool) → Supports 0 bit (pos 0)
-allows_nothing false = omega (arith, ints)
-allows_nothing true = omega (arith, ints)
-
-allows-plus : (bit : Bool) (a b : ℤ) → Supports 0 bit a → Supports 0 bit b → Supports 0 bit (a +ℤ b)
-allows-plus false a b p q = omega (arith, ints)
-allows-plus true a b p q = omega (arith, ints)
-
-supports-first : (bit : Bool) (a b : ℤ) → Supports 1 bit a → Supports 0 bit b → Supports 1 bit (a +ℤ b)
-supports-first false a b p q = omega (arith, ints)
-supports-first true a b p q = omega (arith, ints)
-
-supports-second : (bit : Bool) (a b : ℤ) → Supports 0 bit a → Supports 1 bit b → Supports 1 bit (a +ℤ b)
-supports-second false a b p q = omega (arith, ints)
-supports-second true a b p q = omega (arith, ints)
-
-sum-allows : (bit : Bool) (n : ℕ) (f : ℕ → ℤ) → ((k : ℕ) → k < n → Supports 0 bit (f k)) → Supports 0 bit (sum_below n f)
-unfolding sum_below
-sum-allows bit zero f h = allows_nothing bit
-sum-allows bit (suc n) f h = allows-plus bit (sum_below n f) (f n) (sum-allows bit n f (λ k l. h k (omega arith))) (h n (omega arith))
-
--- a sum in which none speaks against a bit and one speaks for it
-sum-supports : (bit : Bool) (n j : ℕ) (f : ℕ → ℤ) → ((k : ℕ) → k < n → Supports 0 bit (f k)) → j < n → Supports 1 bit (f j) → Supports 1 bit (sum_below n f)
-unfolding sum_below
-sum-supports bit zero j f h l one = absurd (omega arith)
-sum-supports bit (suc n) j f h l one = elim (cases_lt j n) [
-  | inl lower ↦ supports-first bit (sum_below n f) (f n) (sum-supports bit n j f (λ k p. h k (omega arith)) lower one) (h n (omega arith))
-  | inr here ↦ let e : j ≡ n = omega arith in
-      supports-second bit (sum_below n f) (f n) (sum-allows bit n f (λ k p. h k (omega arith))) (subst (λ k. Supports 1 bit (f k)) e one)
-]
-
 -- ---- the sums by place
 
 at_place : (word : List Bool) (k t : ℕ) → k < length word → bit_at_place (coded_word word) (spot t k) ≡ get_or (coded_bits word k) t false
 unfolding coded_word
 at_place word k t l = ap (λ xs. get_or xs t false) (values_below_at (coded_bits word) (length word) k [] l)
 
-here_or_nothing : (word : List Bool) (p : Place) (k t : ℕ) (v : ℤ) → Supports 1 (bit_at_place (coded_word word) p) v →
-    Supports 0 (bit_at_place (coded_word word) (spot t k)) (cond (is_at t k p) v (pos 0))
-here_or_nothing word p k t v h = settle (is_at t k p) refl
-  where
-    bit : Bool
-    bit = bit_at_place (coded_word word) (spot t k)
-
-    settle : (b : Bool) → is_at t k p ≡ b → Supports 0 (bit_at_place (coded_word word) (spot t k)) (cond b v (pos 0))
-    settle true e = supports-less 0 1 bit v (omega arith) (subst (λ (q : Place). Supports 1 (bit_at_place (coded_word word) q) v) (same_spot p t k e) h)
-    settle false e = allows_nothing bit
-
+-- one of the values comes from each place, and all from there speak for its bit
 sum_at_supports : (word : List Bool) (values : List ℤ) (k t : ℕ) → 6 ≤ length word → length word ≤ 64 → SpeakInOrder word values → k < length word → t < 3 →
     Supports 1 (bit_at_place (coded_word word) (spot t k)) (summed_at (place_of (length word)) values (length values) t k)
-unfolding summed_at
 sum_at_supports word values k t long short speak inside stream =
-    let found = (permuting (length word) long short).reads.each t k stream inside in
-    sum-supports bit (length values) found.0 f
-    (λ i l. here_or_nothing word (place_of (length word) i) k t (get_or values i (pos 0)) (speak.value i l))
-    (within found.0 (length word) (length values) found.1 speak.enough)
-    (taken found.0 found.2 (speak.value found.0 (within found.0 (length word) (length values) found.1 speak.enough)))
-  where
-    bit : Bool
-    bit = bit_at_place (coded_word word) (spot t k)
-
-    f : ℕ → ℤ
-    f i = cond (is_at t k (place_of (length word) i)) (get_or values i (pos 0)) (pos 0)
-
-    within : (i n m : ℕ) → i < 3 * n → 3 * n ≤ m → i < m
-    within i n m p q = omega (arith, p, q)
-
-    taken : (i : ℕ) → place_of (length word) i ≡ spot t k → Supports 1 (bit_at_place (coded_word word) (place_of (length word) i)) (get_or values i (pos 0)) → Supports 1 bit (f i)
-    taken i e h =
-        let at : is_at t k (place_of (length word) i) ≡ true = ap (is_at t k) e ∙ at_itself (spot t k) in
-        subst (λ b. Supports 1 bit (cond b (get_or values i (pos 0)) (pos 0))) (sym at) (subst (λ (p : Place). Supports 1 (bit_at_place (coded_word word) p) (get_or values i (pos 0))) e h)
+    let (i, below, is) = (permuting (length word) long short).reads.each t k stream inside in
+    let enough = speak.enough in
+    let there : any_below (length values) (λ m. is_at t k (place_of (length word) m) && true) ≡ true =
+    any_below_at (length values) i (λ m. is_at t k (place_of (length word) m) && true) (omega (arith, below, enough)) (and-true (is_at t k (place_of (length word) i)) ∙ ap (is_at t k) is ∙ at_itself (spot t k)) in
+    subst (λ some. Tells some (bit_at_place (coded_word word) (spot t k)) (summed_at (place_of (length word)) values (length values) t k)) there
+    (place_tells (place_of (length word)) values (bit_at_place (coded_word word)) (λ _. true) t k (length values) speak.value)
 
 pub sums_speak : SumsSpeak
 sums_speak word values long short speak = record {

@@ -32,7 +32,7 @@ counted true there bit z h = h refl
 counted false there bit z h = refl
 
 -- the sum at a place tells its bit where one of the values from there is not 0
-place_tells : (reading : ℕ → Place) (values : List ℤ) (bit : Place → Bool) (given : ℕ → Bool) (t p m : ℕ) →
+pub place_tells : (reading : ℕ → Place) (values : List ℤ) (bit : Place → Bool) (given : ℕ → Bool) (t p m : ℕ) →
     ((i : ℕ) → i < m → Tells (given i) (bit (reading i)) (at values i)) →
     Tells (any_below m (λ i. is_at t p (reading i) && given i)) (bit (spot t p)) (summed_at reading values m t p)
 unfolding summed_at any_below sum_below
