@@ -1,22 +1,24 @@
 -- Quartets of folded samples: how butterflies make them, and the sizes of their sums.
-use Rattle.std.proofs.Common.{◌≡◌, ℕ, zero, suc, ◌+◌, ◌*◌, ◌%◌, ◌^◌, ◌<◌, ◌≤◌, arith, refl, subst, Bool, true, List, length, neg_ℤ, ◌*ℤ◌, nat_le, slice_index_or}
-use Rattle.std.specs.Prelude.{All, nat_abs}
-use Rattle.std.proofs.lemmas.Int.{ints, unsigned_abs-mul}
+use Rattle.std.proofs.Common.{◌≡◌, ℕ, zero, suc, ◌+◌, ◌-◌, ◌*◌, ◌%◌, ◌^◌, ◌<◌, ◌≤◌, arith, refl, subst, Bool, true, false, List, length, ℤ, neg_ℤ, ◌+ℤ◌, ◌*ℤ◌, nat_eq, nat_le, slice_index_or, FitsSigned, w64}
+use Rattle.std.specs.Prelude.{All, nat_abs, if◌then◌else◌}
+use Rattle.std.proofs.lemmas.Bool.Decides.{nat_tests}
+use Rattle.std.proofs.lemmas.Int.{ints, unsigned_abs-mul, fits_signed_from_abs}
 use Rattle.std.proofs.lemmas.Nat.{mul-le}
 use Rattle.std.proofs.lemmas.Bool.{leb-true}
 use Rattle.std.proofs.lemmas.List.Elements.{All-get_or}
 use Rattle.finite.specs.Tests.{every_below}
 use Rattle.finite.proofs.Tests.{every_below_at}
-use Rattle.finite.proofs.Integers.{abs-sum, abs-difference}
+use Rattle.finite.proofs.Integers.{abs-sum, abs-difference, product_within}
 use Rattle.cs_num.specs.declared.Cpx.{Cpx}
-use Rattle.cs_num.specs.Complex.{IsWithin, size, plus, times, conjugate, minus, times_minus_j}
+use Rattle.cs_num.specs.Complex.{IsWithin, size, nothing, plus, times, conjugate, minus, times_j, times_minus_j}
 use Rattle.cs_num.specs.Sums.{complex_sum_below}
-use Rattle.cs_num.proofs.Complex.{pair, size-le, plus-within}
+use Rattle.cs_num.proofs.Complex.{pair, size-le, plus-within, within_more}
 use Rattle.cs_num.proofs.Sums.{complex_sum_below-within}
-use Rattle.fold128.specs.declared.spectrum.Quartet.{Quartet}
+use Rattle.fold128.specs.declared.quartet.Quartet.{Quartet}
+use Rattle.fold128.specs.declared.spectrum.Mirror.{Mirror}
 use Rattle.fold128.specs.Tables.{quarter, cosine, w_at}
-use Rattle.fold128.specs.Folding.{back_by, seen_of_four, quartet_of, taken, empty_quartet, folded_term, IsSmallQuartet}
-use Rattle.fold128.proofs.Entries.{w_period}
+use Rattle.fold128.specs.Folding.{back_by, seen_of_four, quartet_of, taken, empty_quartet, folded_term, AreWithin, opposite, empty_mirror, mirrored, mirrored_term, IsSmallMirror, forward_by, given_at, unfolded, added}
+use Rattle.fold128.proofs.Entries.{w_period, w_small}
 
 -- ---- the two components of an entry together
 
@@ -54,7 +56,7 @@ turned_product-within z m x p =
 
 -- ---- quartets
 
-back_by-within : (q n : ℕ) (z : Cpx) → IsWithin n z → IsWithin n (back_by q z)
+pub back_by-within : (q n : ℕ) (z : Cpx) → IsWithin n z → IsWithin n (back_by q z)
 unfolding back_by
 back_by-within zero n z p = p
 back_by-within (suc q) n z p = back_by-within q n (times_minus_j z) (record { re = p.im; im = omega (arith, ints, p.re) })
@@ -66,7 +68,7 @@ seen_of_four-within r a b c d ha hb hc hd =
     let more = plus-within _ _ 32768 65536 98304 (back_by-within r 32768 b hb) last (omega arith) in
     plus-within _ _ 32768 98304 131072 ha more (omega arith)
 
-pub quartet-small : (a b c d : Cpx) → IsWithin 32768 a → IsWithin 32768 b → IsWithin 32768 c → IsWithin 32768 d → IsSmallQuartet (quartet_of a b c d)
+pub quartet-small : (a b c d : Cpx) → IsWithin 32768 a → IsWithin 32768 b → IsWithin 32768 c → IsWithin 32768 d → AreWithin 131072 (quartet_of a b c d)
 quartet-small a b c d ha hb hc hd = record {
   zero = seen_of_four-within 0 a b c d ha hb hc hd;
   one = seen_of_four-within 1 a b c d ha hb hc hd;
@@ -91,31 +93,34 @@ unfolding seen_of_four back_by
 by_three a b c d = pair (omega (arith, ints)) (omega (arith, ints))
 
 -- what the second two butterflies add and subtract
-pub sums-small : (a b c d : Cpx) → IsWithin 32768 a → IsWithin 32768 b → IsWithin 32768 c → IsWithin 32768 d → size (plus a c) + size (plus b d) < 2 ^ 63
-sums-small a b c d ha hb hc hd =
-    let s = size-le _ _ (plus-within a c 32768 32768 65536 ha hc (omega arith)) in
-    let t = size-le _ _ (plus-within b d 32768 32768 65536 hb hd (omega arith)) in
-    omega arith
+pub sums-small : (n : ℕ) (a b c d : Cpx) → 4 * n < 2 ^ 63 → IsWithin n a → IsWithin n b → IsWithin n c → IsWithin n d → size (plus a c) + size (plus b d) < 2 ^ 63
+sums-small n a b c d few ha hb hc hd =
+    let s = size-le _ _ (plus-within a c n n (n + n) ha hc (omega arith)) in
+    let t = size-le _ _ (plus-within b d n n (n + n) hb hd (omega arith)) in
+    omega (arith, few, s, t)
 
-pub differences-small : (a b c d : Cpx) → IsWithin 32768 a → IsWithin 32768 b → IsWithin 32768 c → IsWithin 32768 d →
+minus-within : (n : ℕ) (a b : Cpx) → IsWithin n a → IsWithin n b → IsWithin (n + n) (minus a b)
+minus-within n a b p q = record { re = omega (arith, p.re, q.re, abs-difference a.re b.re); im = omega (arith, p.im, q.im, abs-difference a.im b.im) }
+
+back-within : (n : ℕ) (z : Cpx) → IsWithin n z → IsWithin n (times_minus_j z)
+back-within n z p = record { re = p.im; im = omega (arith, ints, p.re) }
+
+forward-within : (n : ℕ) (z : Cpx) → IsWithin n z → IsWithin n (times_j z)
+forward-within n z p = record { re = omega (arith, ints, p.im); im = p.re }
+
+pub differences-small : (n : ℕ) (a b c d : Cpx) → 4 * n < 2 ^ 63 → IsWithin n a → IsWithin n b → IsWithin n c → IsWithin n d →
     size (minus a c) + size (times_minus_j (minus b d)) < 2 ^ 63
-differences-small a b c d ha hb hc hd =
-    omega (
-      arith,
-      ints,
-      ha.re,
-      ha.im,
-      hb.re,
-      hb.im,
-      hc.re,
-      hc.im,
-      hd.re,
-      hd.im,
-      abs-difference a.re c.re,
-      abs-difference a.im c.im,
-      abs-difference b.re d.re,
-      abs-difference b.im d.im,
-    )
+differences-small n a b c d few ha hb hc hd =
+    let s = size-le _ _ (minus-within n a c ha hc) in
+    let t = size-le _ _ (back-within (n + n) (minus b d) (minus-within n b d hb hd)) in
+    omega (arith, few, s, t)
+
+pub forward_differences-small : (n : ℕ) (a b c d : Cpx) → 4 * n < 2 ^ 63 → IsWithin n a → IsWithin n b → IsWithin n c → IsWithin n d →
+    size (minus a c) + size (times_j (minus b d)) < 2 ^ 63
+forward_differences-small n a b c d few ha hb hc hd =
+    let s = size-le _ _ (minus-within n a c ha hc) in
+    let t = size-le _ _ (forward-within (n + n) (minus b d) (minus-within n b d hb hd)) in
+    omega (arith, few, s, t)
 
 -- four butterflies make a quartet
 pub by_butterflies : (a b c d : Cpx) →
@@ -134,7 +139,7 @@ by_butterflies a b c d =
     let e3 = by_three a b c d in
     cc
 
-pub taken-small : (q : Quartet) (r : ℕ) → IsSmallQuartet q → r < 4 → IsWithin 131072 (taken q r)
+pub taken-small : (q : Quartet) (r : ℕ) → AreWithin 131072 q → r < 4 → IsWithin 131072 (taken q r)
 taken-small q zero p l = p.zero
 taken-small q (suc zero) p l = p.one
 taken-small q (suc (suc zero)) p l = p.two
@@ -143,10 +148,137 @@ taken-small q (suc (suc (suc (suc r)))) p l = absurd (omega arith)
 
 -- ---- folded sums
 
-pub folded_term-within : (folded : List Quartet) (f m : ℕ) → All IsSmallQuartet folded → m < length folded → IsWithin 3036938240 (folded_term folded f m)
+pub folded_term-within : (folded : List Quartet) (f m : ℕ) → All (AreWithin 131072) folded → m < length folded → IsWithin 3036938240 (folded_term folded f m)
 folded_term-within folded f m small l =
-    let q = All-get_or IsSmallQuartet folded m empty_quartet l small in
+    let q = All-get_or (AreWithin 131072) folded m empty_quartet l small in
     turned_product-within (taken (slice_index_or folded m empty_quartet) (f % 4)) 131072 (f * m) (taken-small (slice_index_or folded m empty_quartet) (f % 4) q (omega arith))
 
-pub folded_sum-within : (folded : List Quartet) (f m : ℕ) → All IsSmallQuartet folded → m ≤ length folded → IsWithin (m * 3036938240) (complex_sum_below m (folded_term folded f))
+pub folded_sum-within : (folded : List Quartet) (f m : ℕ) → All (AreWithin 131072) folded → m ≤ length folded → IsWithin (m * 3036938240) (complex_sum_below m (folded_term folded f))
 folded_sum-within folded f m small l = complex_sum_below-within m 3036938240 (folded_term folded f) (λ k below. folded_term-within folded f k small (omega arith))
+
+-- ---- the places m and 32 - m together
+
+pub opposite-within : (folded : List Quartet) (r m : ℕ) → All (AreWithin 131072) folded → length folded ≡ 32 → r < 4 → m ≤ 16 → IsWithin 131072 (opposite folded r m)
+opposite-within folded r m small long few inside = settle (nat_eq (m % 16) 0) refl
+  where
+    settle : (b : Bool) → nat_eq (m % 16) 0 ≡ b → IsWithin 131072 (if b then nothing else back_by r (taken (slice_index_or folded (32 - m) empty_quartet) r))
+    settle true e = record { re = omega arith; im = omega arith }
+    settle false e =
+        let there : 32 - m < length folded = grind (arith, nat_tests) in
+        back_by-within r 131072 _ (taken-small _ r (All-get_or (AreWithin 131072) folded (32 - m) empty_quartet there small) few)
+
+pub mirror-small : (here opposite : Cpx) → IsWithin 131072 here → IsWithin 131072 opposite → IsSmallMirror (record { real = plus here opposite; imaginary = times_minus_j (minus here opposite) })
+mirror-small here opposite p q = record {
+  real = plus-within here opposite 131072 131072 262144 p q (omega arith);
+  imaginary = back-within 262144 (minus here opposite) (minus-within 131072 here opposite p q);
+}
+
+-- one component of what both places give
+pub component-small : (a b c d : ℤ) → nat_abs a ≤ 262144 → nat_abs b ≤ 16384 → nat_abs c ≤ 262144 → nat_abs d ≤ 16384 → nat_abs (a *ℤ b +ℤ c *ℤ d) ≤ 8589934592
+component-small a b c d ha hb hc hd =
+    let p = product_within a b 262144 16384 4294967296 ha hb (omega arith) in
+    let q = product_within c d 262144 16384 4294967296 hc hd (omega arith) in
+    omega (arith, p, q, abs-sum (a *ℤ b) (c *ℤ d))
+
+-- its products and their sum fit 64 bits
+pub record ComponentFits (a b c d : ℤ) : Type 0 where
+  pub first : FitsSigned w64 (a *ℤ b)
+  pub second : FitsSigned w64 (c *ℤ d)
+  pub total : FitsSigned w64 (a *ℤ b +ℤ c *ℤ d)
+
+pub component-fits : (a b c d : ℤ) → nat_abs a ≤ 262144 → nat_abs b ≤ 16384 → nat_abs c ≤ 262144 → nat_abs d ≤ 16384 → ComponentFits a b c d
+component-fits a b c d ha hb hc hd =
+    let p = product_within a b 262144 16384 4294967296 ha hb (omega arith) in
+    let q = product_within c d 262144 16384 4294967296 hc hd (omega arith) in
+    let t = component-small a b c d ha hb hc hd in
+    record {
+      first = fits_signed_from_abs w64 _ (omega (arith, p));
+      second = fits_signed_from_abs w64 _ (omega (arith, q));
+      total = fits_signed_from_abs w64 _ (omega (arith, t));
+    }
+
+pub mirrored-within : (p : Mirror) (w : Cpx) → IsSmallMirror p → IsWithin 16384 w → IsWithin 8589934592 (mirrored p w)
+mirrored-within p w small h = record {
+  re = component-small p.real.re w.re p.imaginary.re w.im small.real.re h.re small.imaginary.re h.im;
+  im = component-small p.real.im w.re p.imaginary.im w.im small.real.im h.re small.imaginary.im h.im;
+}
+
+pub mirrored_sum-within : (row : List Mirror) (f m : ℕ) → All IsSmallMirror row → m ≤ length row → IsWithin (m * 8589934592) (complex_sum_below m (mirrored_term row f))
+mirrored_sum-within row f m small l =
+    complex_sum_below-within m 8589934592 (mirrored_term row f)
+    (λ k below. mirrored-within _ _ (All-get_or IsSmallMirror row k empty_mirror (omega arith) small) (w_small (f * k)))
+
+-- ---- the way back
+
+forward_by-within : (q n : ℕ) (z : Cpx) → IsWithin n z → IsWithin n (forward_by q z)
+unfolding forward_by
+forward_by-within zero n z p = p
+forward_by-within (suc q) n z p = forward_by-within q n (times_j z) (forward-within n z p)
+
+given_at-within : (q n : ℕ) (p : Quartet) → AreWithin n p → IsWithin (4 * n) (given_at q p)
+unfolding given_at
+given_at-within q n p small =
+    let last = plus-within _ _ n n (2 * n) (forward_by-within (2 * q) n p.two small.two) (forward_by-within (3 * q) n p.three small.three) (omega arith) in
+    let more = plus-within _ _ n (2 * n) (3 * n) (forward_by-within q n p.one small.one) last (omega arith) in
+    plus-within _ _ n (3 * n) (4 * n) small.zero more (omega arith)
+
+pub unfolded-within : (n : ℕ) (p : Quartet) → AreWithin n p → AreWithin (4 * n) (unfolded p)
+unfolded-within n p small = record {
+  zero = given_at-within 0 n p small;
+  one = given_at-within 1 n p small;
+  two = given_at-within 2 n p small;
+  three = given_at-within 3 n p small;
+}
+
+gives_zero : (a b c d : Cpx) → plus (plus a c) (plus b d) ≡ given_at 0 (record { zero = a; one = b; two = c; three = d })
+unfolding given_at forward_by
+gives_zero a b c d = pair (omega (arith, ints)) (omega (arith, ints))
+
+gives_one : (a b c d : Cpx) → plus (minus a c) (times_j (minus b d)) ≡ given_at 1 (record { zero = a; one = b; two = c; three = d })
+unfolding given_at forward_by
+gives_one a b c d = pair (omega (arith, ints)) (omega (arith, ints))
+
+gives_two : (a b c d : Cpx) → minus (plus a c) (plus b d) ≡ given_at 2 (record { zero = a; one = b; two = c; three = d })
+unfolding given_at forward_by
+gives_two a b c d = pair (omega (arith, ints)) (omega (arith, ints))
+
+gives_three : (a b c d : Cpx) → minus (minus a c) (times_j (minus b d)) ≡ given_at 3 (record { zero = a; one = b; two = c; three = d })
+unfolding given_at forward_by
+gives_three a b c d = pair (omega (arith, ints)) (omega (arith, ints))
+
+-- four butterflies give four samples
+pub by_forward_butterflies : (a b c d : Cpx) →
+    ◌≡◌ {A = Quartet}
+    (record {
+      zero = plus (plus a c) (plus b d);
+      one = plus (minus a c) (times_j (minus b d));
+      two = minus (plus a c) (plus b d);
+      three = minus (minus a c) (times_j (minus b d));
+    })
+    (unfolded (record { zero = a; one = b; two = c; three = d }))
+by_forward_butterflies a b c d =
+    let e0 = gives_zero a b c d in
+    let e1 = gives_one a b c d in
+    let e2 = gives_two a b c d in
+    let e3 = gives_three a b c d in
+    cc
+
+added_number : (t : Bool) (a z : Cpx) (m n : ℕ) → IsWithin m a → IsWithin n z → IsWithin (m + n) (if t then plus a z else a)
+added_number true a z m n p q = plus-within a z m n (m + n) p q (omega arith)
+added_number false a z m n p q = within_more a m (m + n) p (omega arith)
+
+pub added-within : (p : Quartet) (r : ℕ) (z : Cpx) (m n : ℕ) → AreWithin m p → IsWithin n z → AreWithin (m + n) (added p r z)
+added-within p r z m n small h = record {
+  zero = added_number (nat_eq r 0) p.zero z m n small.zero h;
+  one = added_number (nat_eq r 1) p.one z m n small.one h;
+  two = added_number (nat_eq r 2) p.two z m n small.two h;
+  three = added_number (nat_eq r 3) p.three z m n small.three h;
+}
+
+pub are-more : (m n : ℕ) (p : Quartet) → AreWithin m p → m ≤ n → AreWithin n p
+are-more m n p small more = record {
+  zero = within_more p.zero m n small.zero more;
+  one = within_more p.one m n small.one more;
+  two = within_more p.two m n small.two more;
+  three = within_more p.three m n small.three more;
+}

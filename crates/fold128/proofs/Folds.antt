@@ -1,19 +1,25 @@
 -- The fold: a sum over 128 samples is a sum over 32 places.
-use Rattle.std.proofs.Common.{◌≡◌, ℕ, zero, suc, ◌+◌, ◌*◌, ◌%◌, ◌<◌, arith, refl, ap, sym, ◌∙◌, ℤ, neg_ℤ, ◌+ℤ◌, ◌-ℤ◌, ◌*ℤ◌}
+use Rattle.std.proofs.Common.{◌≡◌, ℕ, zero, suc, ◌+◌, ◌-◌, ◌*◌, ◌%◌, ◌<◌, ◌≤◌, arith, refl, ap, sym, subst, ◌∙◌, true, false, nat_eq, List, ℤ, neg_ℤ, ◌+ℤ◌, ◌-ℤ◌, ◌*ℤ◌, slice_index_or}
+use Rattle.std.proofs.lemmas.Int.{ints}
+use Rattle.std.proofs.lemmas.Bool.Decides.{nat_tests}
+use Rattle.finite.specs.Sums.{sum_below}
 use Rattle.finite.specs.Lists.{values_below}
 use Rattle.finite.proofs.Lists.{values_below_at}
 use Rattle.finite.proofs.Ring.{var, same}
 use Rattle.finite.proofs.Ring as ring
 use Rattle.cs_num.specs.declared.Cpx.{Cpx}
-use Rattle.cs_num.specs.Complex.{plus, times, times_j, conjugate, times_minus_j}
+use Rattle.cs_num.specs.Complex.{nothing, plus, minus, times, times_j, conjugate, times_minus_j}
 use Rattle.cs_num.specs.Sums.{complex_sum_below}
 use Rattle.cs_num.proofs.Complex.{pair, times-plus_left}
 use Rattle.cs_num.proofs.Sums.{complex_sum_below_split, complex_sum_below_plus, complex_sum_below_same}
 use Rattle.fold128.specs.Tables.{w_at}
 use Rattle.fold128.specs.Symbol.{frequency}
 use Rattle.fold128.specs.Spectrum.{spectrum_term, spectrum_at}
-use Rattle.fold128.specs.Folding.{back_by, seen_of_four, quartet_of, quartet_at, folded_places, taken, empty_quartet, folded_term}
-use Rattle.fold128.proofs.Laws.{w_same, quarter_turn_is_j}
+use Rattle.fold128.specs.declared.quartet.Quartet.{Quartet}
+use Rattle.fold128.specs.declared.spectrum.Mirror.{Mirror}
+use Rattle.fold128.specs.Folding.{back_by, seen_of_four, quartet_of, quartet_at, folded_places, taken, empty_quartet, folded_term, opposite, mirror_at, mirrors, empty_mirror, mirrored, mirrored_term}
+use Rattle.fold128.proofs.Tones.{times-nothing}
+use Rattle.fold128.proofs.Laws.{w_same, quarter_turn_is_j, backward_is_conjugate}
 
 -- ---- a quarter turn of W turns the other factor back
 
@@ -114,3 +120,107 @@ spectrum_folds samples k = sym (quarters (spectrum_term samples k) ∙ complex_s
         ∙ four_parts samples f m
         ∙ ap (λ z. times z (conjugate (w_at (f * m)))) (sym (taken_is (f % 4) (samples m) (samples (m + 32)) (samples (m + 64)) (samples (m + 96)) (omega arith)))
         ∙ ap (λ q. times (taken q (f % 4)) (conjugate (w_at (f * m)))) (sym (values_below_at (quartet_at samples) 32 m empty_quartet l))
+
+-- ---- the places m and 32 - m together
+
+both_re : (a b c d v w : ℤ) → a *ℤ v -ℤ b *ℤ neg_ℤ w +ℤ (c *ℤ v -ℤ d *ℤ w) ≡ (a +ℤ c) *ℤ v +ℤ (b -ℤ d) *ℤ w
+both_re a b c d v w =
+    same
+    (ring.plus
+    (ring.minus (ring.times (var a) (var v)) (ring.times (var b) (ring.minus_one (var w))))
+    (ring.minus (ring.times (var c) (var v)) (ring.times (var d) (var w))))
+    (ring.plus (ring.times (ring.plus (var a) (var c)) (var v)) (ring.times (ring.minus (var b) (var d)) (var w)))
+    (omega arith)
+
+both_im : (a b c d v w : ℤ) → a *ℤ neg_ℤ w +ℤ b *ℤ v +ℤ (c *ℤ w +ℤ d *ℤ v) ≡ (b +ℤ d) *ℤ v +ℤ neg_ℤ (a -ℤ c) *ℤ w
+both_im a b c d v w =
+    same
+    (ring.plus
+    (ring.plus (ring.times (var a) (ring.minus_one (var w))) (ring.times (var b) (var v)))
+    (ring.plus (ring.times (var c) (var w)) (ring.times (var d) (var v))))
+    (ring.plus (ring.times (ring.plus (var b) (var d)) (var v)) (ring.times (ring.minus_one (ring.minus (var a) (var c))) (var w)))
+    (omega arith)
+
+-- a number that W turns back and one that it turns forward
+both : (q p v : Cpx) → plus (times q (conjugate v)) (times p v) ≡ mirrored (record { real = plus q p; imaginary = times_minus_j (minus q p) }) v
+both q p v = pair (both_re q.re q.im p.re p.im v.re v.im) (both_im q.re q.im p.re p.im v.re v.im)
+
+twice : (v : Cpx) → conjugate (conjugate v) ≡ v
+twice v = pair refl (omega (arith, ints))
+
+spread : (f a b c : ℕ) → a + b ≡ c → f * a + f * b ≡ f * c
+spread f a b c e = subst (λ n. f * a + f * b ≡ f * n) e (omega arith)
+
+-- W at place 32 - m
+opposite_turns : (f m : ℕ) (z : Cpx) → m ≤ 32 → times z (conjugate (w_at (f * (32 - m)))) ≡ times (back_by (f % 4) z) (w_at (f * m))
+opposite_turns f m z inside =
+    let whole : f * (32 - m) + f * m ≡ f * 32 = spread f (32 - m) m 32 (omega (arith, inside)) in
+    ap (λ v. times z (conjugate v)) (w_same (f * (32 - m)) (127 * (f * m) + 32 * (f % 4)) (omega (arith, whole)))
+    ∙ back_turns (f % 4) (127 * (f * m)) z
+    ∙ ap (λ v. times (back_by (f % 4) z) (conjugate v)) (backward_is_conjugate (f * m))
+    ∙ ap (times (back_by (f % 4) z)) (twice (w_at (f * m)))
+
+plus-nothing_right : (a : Cpx) → plus a nothing ≡ a
+plus-nothing_right a = pair (omega (arith, ints)) (omega (arith, ints))
+
+module _ (folded : List Quartet) (f : ℕ) where
+  read : (m : ℕ) → m < 17 → mirrored_term (mirrors folded (f % 4)) f m ≡ mirrored (mirror_at folded (f % 4) m) (w_at (f * m))
+  unfolding mirrors
+  read m l = ap (λ (p : Mirror). mirrored p (w_at (f * m))) (values_below_at (mirror_at folded (f % 4)) 17 m empty_mirror l)
+
+  alone : (m : ℕ) → m < 17 → nat_eq (m % 16) 0 ≡ true → mirrored_term (mirrors folded (f % 4)) f m ≡ folded_term folded f m
+  alone m l e =
+      let here : Cpx = taken (slice_index_or folded m empty_quartet) (f % 4) in
+      let none : opposite folded (f % 4) m ≡ nothing = rw e refl in
+      read m l
+      ∙ ap (λ (p : Cpx). mirrored (record { real = plus here p; imaginary = times_minus_j (minus here p) }) (w_at (f * m))) none
+      ∙ sym (both here nothing (w_at (f * m)))
+      ∙ ap (plus (folded_term folded f m)) (times-nothing (w_at (f * m)))
+      ∙ plus-nothing_right (folded_term folded f m)
+
+  together : (m : ℕ) → m < 17 → nat_eq (m % 16) 0 ≡ false → mirrored_term (mirrors folded (f % 4)) f m ≡ plus (folded_term folded f m) (folded_term folded f (32 - m))
+  together m l e =
+      let here : Cpx = taken (slice_index_or folded m empty_quartet) (f % 4) in
+      let there : Cpx = taken (slice_index_or folded (32 - m) empty_quartet) (f % 4) in
+      let is : opposite folded (f % 4) m ≡ back_by (f % 4) there = rw e refl in
+      read m l
+      ∙ ap (λ (p : Cpx). mirrored (record { real = plus here p; imaginary = times_minus_j (minus here p) }) (w_at (f * m))) is
+      ∙ sym (both here (back_by (f % 4) there) (w_at (f * m)))
+      ∙ ap (plus (folded_term folded f m)) (sym (opposite_turns f m there (omega arith)))
+
+-- 32 numbers, of which the first and the middle one stand alone and the others come in pairs
+paired : (g h : ℕ → ℤ) → h 0 ≡ g 0 → h 16 ≡ g 16 → ((m : ℕ) → 0 < m → m < 16 → h m ≡ g m +ℤ g (32 - m)) → sum_below 17 h ≡ sum_below 32 g
+unfolding sum_below
+paired g h first middle pairs =
+    omega (
+      arith,
+      ints,
+      first,
+      middle,
+      pairs 1 (omega arith) (omega arith),
+      pairs 2 (omega arith) (omega arith),
+      pairs 3 (omega arith) (omega arith),
+      pairs 4 (omega arith) (omega arith),
+      pairs 5 (omega arith) (omega arith),
+      pairs 6 (omega arith) (omega arith),
+      pairs 7 (omega arith) (omega arith),
+      pairs 8 (omega arith) (omega arith),
+      pairs 9 (omega arith) (omega arith),
+      pairs 10 (omega arith) (omega arith),
+      pairs 11 (omega arith) (omega arith),
+      pairs 12 (omega arith) (omega arith),
+      pairs 13 (omega arith) (omega arith),
+      pairs 14 (omega arith) (omega arith),
+      pairs 15 (omega arith) (omega arith),
+    )
+
+pub mirrors_fold : (folded : List Quartet) (f : ℕ) → complex_sum_below 17 (mirrored_term (mirrors folded (f % 4)) f) ≡ complex_sum_below 32 (folded_term folded f)
+mirrors_fold folded f =
+    let g : ℕ → Cpx = folded_term folded f in
+    let h : ℕ → Cpx = mirrored_term (mirrors folded (f % 4)) f in
+    let first : h 0 ≡ g 0 = alone folded f 0 (omega arith) refl in
+    let middle : h 16 ≡ g 16 = alone folded f 16 (omega arith) refl in
+    let pairs : (m : ℕ) → 0 < m → m < 16 → h m ≡ plus (g m) (g (32 - m)) = λ m some l. together folded f m (omega arith) (grind (arith, nat_tests)) in
+    pair
+    (paired (λ m. (g m).re) (λ m. (h m).re) (ap (λ z. z.re) first) (ap (λ z. z.re) middle) (λ m some l. ap (λ z. z.re) (pairs m some l)))
+    (paired (λ m. (g m).im) (λ m. (h m).im) (ap (λ z. z.im) first) (ap (λ z. z.im) middle) (λ m some l. ap (λ z. z.im) (pairs m some l)))

@@ -2,6 +2,7 @@
 //! which a symbol is seen. Each call equals its plain definition.
 #![tactic(auto)]
 
+mod quartet;
 mod spectrum;
 mod symbol;
 mod tables;

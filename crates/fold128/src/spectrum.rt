@@ -1,51 +1,28 @@
 //! The 72 sums by which a symbol is seen, folded by the symmetries of W.
 
-ghost use Rattle.std.specs.Prelude.{◌≡◌, ℕ, ◌+◌, ◌%◌, ◌^◌, ◌<◌, All};
+ghost use Rattle.std.specs.Prelude.{◌≡◌, ◌<◌, ◌≤◌, ◌+ℤ◌, ◌*ℤ◌, All, nat_abs};
 ghost use Rattle.cs_num.specs.Complex.{IsWithin, sample_at};
 ghost use Rattle.cs_num.specs.Sums.{complex_sum_below};
 ghost use Rattle.fold128.specs.Spectrum.{spectrum};
-ghost use Rattle.fold128.specs.Folding.{quartet_of, folded_places, taken, folded_term as term_of_place, IsSmallQuartet};
+ghost use Rattle.fold128.specs.Folding.{folded_places, AreWithin, back_by, opposite as opposite_at, mirror_at, mirrors, mirrored, mirrored_term, IsSmallMirror};
 
+use crate::quartet::{Quartet, fold_four};
 use crate::symbol::frequency_of;
 use crate::tables::w;
 use cs_num::{Cpx, Sample};
 
-// The sum and the difference of two numbers.
-macro_rules! butterfly {
-    ($a:ident, $b:ident => $sum:ident, $difference:ident) => {
-        let $sum = $a + $b;
-        let $difference = $a - $b;
-    };
-}
-
-// What the frequencies that leave 0, 1, 2 and 3 modulo 4 see of four samples 32 apart.
+// What a frequency sees of the places m and 32 - m: what the real part of W multiplies, and what its imaginary part.
 #[derive(Clone, Copy)]
-struct Quartet {
-    zero: Cpx,
-    one: Cpx,
-    two: Cpx,
-    three: Cpx,
+struct Mirror {
+    real: Cpx,
+    imaginary: Cpx,
 }
 
-impl Quartet {
-    const EMPTY: Quartet = Quartet {
-        zero: Cpx::ZERO,
-        one: Cpx::ZERO,
-        two: Cpx::ZERO,
-        three: Cpx::ZERO,
+impl Mirror {
+    const EMPTY: Mirror = Mirror {
+        real: Cpx::ZERO,
+        imaginary: Cpx::ZERO,
     };
-
-    // The number that a frequency takes.
-    fn of_frequency(&self, frequency: usize) -> Cpx
-        ensures { result ≡ taken self.now (frequency % 4) }
-    {
-        match frequency % 4 {
-            0 => self.zero,
-            1 => self.one,
-            2 => self.two,
-            _ => self.three,
-        }
-    }
 }
 
 /// The 72 plain sums of a symbol's 128 samples, each sample times the conjugate of W at the
@@ -56,9 +33,16 @@ pub fn transform(samples: &[Sample; 128]) -> [Cpx; 72]
     ensures small { All (IsWithin 97182023680) result }
 {
     let folded = fold(samples);
+    let rows = [
+        mirrors_of(&folded, 0),
+        mirrors_of(&folded, 1),
+        mirrors_of(&folded, 2),
+        mirrors_of(&folded, 3),
+    ];
     let mut out = [Cpx::ZERO; 72];
     for k in 0..72 {
-        out[k] = folded_sum(&folded, frequency_of(k));
+        let frequency = frequency_of(k);
+        out[k] = mirrored_sum(&rows[frequency % 4], frequency);
     }
     out
 }
@@ -66,7 +50,7 @@ pub fn transform(samples: &[Sample; 128]) -> [Cpx; 72]
 // The samples folded to 32 places.
 fn fold(samples: &[Sample; 128]) -> [Quartet; 32]
     ensures value { result ≡ folded_places (sample_at samples.now) }
-    ensures small { All IsSmallQuartet result }
+    ensures small { All (AreWithin 131072) result }
 {
     let mut folded = [Quartet::EMPTY; 32];
     for m in 0..32 {
@@ -80,51 +64,99 @@ fn fold(samples: &[Sample; 128]) -> [Quartet; 32]
     folded
 }
 
-// Two butterflies on the samples half a turn apart, and two on what they leave.
-fn fold_four(a: Cpx, b: Cpx, c: Cpx, d: Cpx) -> Quartet
-    requires a { IsWithin 32768 a }
-    requires b { IsWithin 32768 b }
-    requires c { IsWithin 32768 c }
-    requires d { IsWithin 32768 d }
-    ensures value { result ≡ quartet_of a b c d }
-    ensures small { IsSmallQuartet result }
+// A number times -j, so many times over.
+fn back(z: Cpx, turns: usize) -> Cpx
+    requires small { IsWithin 131072 z }
+    requires turns { turns < 4 }
+    ensures { result ≡ back_by turns z }
 {
-    butterfly!(a, c => sum, difference);
-    butterfly!(b, d => other_sum, other_difference);
-    let turned = other_difference.times_minus_j();
-    butterfly!(sum, other_sum => zero, two);
-    butterfly!(difference, turned => one, three);
-    Quartet {
-        zero,
-        one,
-        two,
-        three,
+    match turns {
+        0 => z,
+        1 => z.times_minus_j(),
+        2 => -z,
+        _ => z.times_j(),
     }
 }
 
-// The sum at a frequency over the 32 places.
-fn folded_sum(folded: &[Quartet; 32], frequency: usize) -> Cpx
-    requires small { All IsSmallQuartet folded.now }
+// What stands opposite place m for the frequencies of a residue: place 32 - m, turned back.
+fn opposite_of(folded: &[Quartet; 32], residue: usize, m: usize) -> Cpx
+    requires small { All (AreWithin 131072) folded.now }
+    requires residue { residue < 4 }
+    requires m { m ≤ 16 }
+    ensures value { result ≡ opposite_at folded.now residue m }
+    ensures small { IsWithin 131072 result }
+{
+    if m % 16 == 0 {
+        return Cpx::ZERO;
+    }
+    back(folded[32 - m].of_residue(residue), residue)
+}
+
+// What they see of both.
+fn mirror_of(folded: &[Quartet; 32], residue: usize, m: usize) -> Mirror
+    requires small { All (AreWithin 131072) folded.now }
+    requires residue { residue < 4 }
+    requires m { m ≤ 16 }
+    ensures value { result ≡ mirror_at folded.now residue m }
+    ensures small { IsSmallMirror result }
+{
+    let here = folded[m].of_residue(residue);
+    let opposite = opposite_of(folded, residue, m);
+    let real = here + opposite;
+    let difference = here - opposite;
+    Mirror {
+        real,
+        imaginary: difference.times_minus_j(),
+    }
+}
+
+// What they see of all places.
+fn mirrors_of(folded: &[Quartet; 32], residue: usize) -> [Mirror; 17]
+    requires small { All (AreWithin 131072) folded.now }
+    requires residue { residue < 4 }
+    ensures value { result ≡ mirrors folded.now residue }
+    ensures small { All IsSmallMirror result }
+{
+    let mut row = [Mirror::EMPTY; 17];
+    for m in 0..17 {
+        row[m] = mirror_of(folded, residue, m);
+    }
+    row
+}
+
+// The sum at a frequency over the 17 places.
+fn mirrored_sum(row: &[Mirror; 17], frequency: usize) -> Cpx
+    requires small { All IsSmallMirror row.now }
     requires frequency { frequency < 128 }
-    ensures value { result ≡ complex_sum_below 32 (term_of_place folded.now frequency) }
-    ensures small { IsWithin 97182023680 result }
+    ensures { result ≡ complex_sum_below 17 (mirrored_term row.now frequency) }
 {
     let mut sum = Cpx::ZERO;
-    for m in 0..32 {
-        sum = sum + folded_term(folded, frequency, m);
+    for m in 0..17 {
+        sum = sum + product(row[m], w(frequency * m));
     }
     sum
 }
 
-// What place m gives to it.
-fn folded_term(folded: &[Quartet; 32], frequency: usize, m: usize) -> Cpx
-    requires small { All IsSmallQuartet folded.now }
-    requires frequency { frequency < 128 }
-    requires m { m < 32 }
-    ensures value { result ≡ term_of_place folded.now frequency m }
-    ensures small { IsWithin 3036938240 result }
+// What both places give, with W at the first.
+fn product(mirror: Mirror, w: Cpx) -> Cpx
+    requires mirror { IsSmallMirror mirror }
+    requires w { IsWithin 16384 w }
+    ensures { result ≡ mirrored mirror w }
 {
-    folded[m]
-        .of_frequency(frequency)
-        .mul(w(frequency * m).conj())
+    let Mirror { real, imaginary } = mirror;
+    Cpx {
+        re: component(real.re, w.re, imaginary.re, w.im),
+        im: component(real.im, w.re, imaginary.im, w.im),
+    }
+}
+
+// One component of it.
+fn component(real: i64, cosine: i64, imaginary: i64, sine: i64) -> i64
+    requires real { nat_abs real ≤ 262144 }
+    requires cosine { nat_abs cosine ≤ 16384 }
+    requires imaginary { nat_abs imaginary ≤ 262144 }
+    requires sine { nat_abs sine ≤ 16384 }
+    ensures { result ≡ real *ℤ cosine +ℤ imaginary *ℤ sine }
+{
+    real * cosine + imaginary * sine
 }

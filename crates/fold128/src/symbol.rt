@@ -1,9 +1,13 @@
 //! The useful part of a symbol from its grid values.
 
-ghost use Rattle.std.specs.Prelude.{◌≡◌, ◌<◌, All};
-ghost use Rattle.cs_num.specs.Complex.{IsWithin, value_at};
-ghost use Rattle.fold128.specs.Symbol.{frequency, useful_term, useful_at, useful_part};
+ghost use Rattle.std.specs.Prelude.{◌≡◌, ℕ, ◌*◌, ◌%◌, ◌<◌, All, slice_index_or};
+ghost use Rattle.finite.specs.Lists.{values_below};
+ghost use Rattle.cs_num.specs.Complex.{IsWithin, times, value_at};
+ghost use Rattle.fold128.specs.Tables.{w_at};
+ghost use Rattle.fold128.specs.Symbol.{frequency, useful_part};
+ghost use Rattle.fold128.specs.Folding.{empty_quartet, unfolded, added, AreWithin};
 
+use crate::quartet::{Quartet, unfold_four};
 use crate::tables::w;
 use cs_num::Cpx;
 
@@ -14,34 +18,45 @@ pub fn synth(grid: &[Cpx; 72]) -> [Cpx; 128]
     requires { All (IsWithin 127) grid.now }
     ensures { result ≡ useful_part (value_at grid.now) }
 {
+    let mut parts = [Quartet::EMPTY; 32];
+    for k in 0..72 {
+        add_tone(&mut parts, grid[k], frequency_of(k));
+    }
+    let samples = unfold(&parts);
     let mut out = [Cpx::ZERO; 128];
     for n in 0..128 {
-        out[n] = sample(grid, n);
+        out[n] = samples[n % 32].of_residue(n / 32).round_shift(17);
     }
     out
 }
 
-// Sample n of that useful part.
-fn sample(grid: &[Cpx; 72], n: usize) -> Cpx
-    requires small { All (IsWithin 127) grid.now }
-    requires n { n < 128 }
-    ensures { result ≡ useful_at (value_at grid.now) n }
+// Adds what a value at a frequency gives to the samples 0 to 31, to those of its residue.
+fn add_tone(parts: &mut [Quartet; 32], value: Cpx, frequency: usize)
+    requires small { All (AreWithin 1073741824) parts.old }
+    requires value { IsWithin 127 value }
+    requires frequency { frequency < 128 }
+    ensures { (m : ℕ) → m < 32 → slice_index_or parts.new m empty_quartet
+        ≡ added (slice_index_or parts.old m empty_quartet) (frequency % 4) (times value (w_at (frequency * m))) }
 {
-    let mut sum = Cpx::ZERO;
-    for k in 0..72 {
-        sum = sum + useful_term_of(grid, k, n);
+    if value.re == 0 && value.im == 0 {
+        return;
     }
-    sum.round_shift(17)
+    for m in 0..32 {
+        parts[m] = parts[m].with(frequency % 4, value.mul(w(frequency * m)));
+    }
 }
 
-// What subcarrier k gives to sample n.
-fn useful_term_of(grid: &[Cpx; 72], k: usize, n: usize) -> Cpx
-    requires small { All (IsWithin 127) grid.now }
-    requires k { k < 72 }
-    requires n { n < 128 }
-    ensures value { result ≡ useful_term (value_at grid.now) n k }
+// The 128 samples of such parts, each place's four 32 apart.
+fn unfold(parts: &[Quartet; 32]) -> [Quartet; 32]
+    requires { All (AreWithin 1073741824) parts.now }
+    ensures value { result ≡ values_below 32 (λ m. unfolded (slice_index_or parts.now m empty_quartet)) }
+    ensures small { All (AreWithin 4294967296) result }
 {
-    grid[k].mul(w(frequency_of(k) * n))
+    let mut samples = [Quartet::EMPTY; 32];
+    for m in 0..32 {
+        samples[m] = unfold_four(parts[m]);
+    }
+    samples
 }
 
 // The frequency of subcarrier k, modulo 128.

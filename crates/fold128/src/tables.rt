@@ -1,16 +1,23 @@
-//! The tables W and Z, read by quarter turn and by half period.
+//! The tables W and Z: W read at each place of its period, Z by half period.
 
-ghost use Rattle.std.specs.Prelude.{◌≡◌, ◌<◌, ◌≤◌, slice_index};
+ghost use Rattle.std.specs.Prelude.{◌≡◌, ◌<◌};
 ghost use Rattle.cs_num.specs.Complex.{IsWithin};
-ghost use Rattle.fold128.specs.Tables.{quarter, z_half, cosine, w_at, z_at};
+ghost use Rattle.fold128.specs.Tables.{z_half, cosine, w_at, z_at};
 
 use cs_num::Cpx;
 
-// C(0) to C(32), the real parts of the first quarter turn of W.
-const QUARTER: [u16; 33] = [
+// C(0) to C(127), the real parts of W over its period.
+const COSINES: [i64; 128] = [
     16384, 16364, 16305, 16207, 16069, 15893, 15679, 15426, 15137, 14811, 14449, 14053, 13623,
     13160, 12665, 12140, 11585, 11003, 10394, 9760, 9102, 8423, 7723, 7005, 6270, 5520, 4756, 3981,
-    3196, 2404, 1606, 804, 0,
+    3196, 2404, 1606, 804, 0, -804, -1606, -2404, -3196, -3981, -4756, -5520, -6270, -7005, -7723,
+    -8423, -9102, -9760, -10394, -11003, -11585, -12140, -12665, -13160, -13623, -14053, -14449,
+    -14811, -15137, -15426, -15679, -15893, -16069, -16207, -16305, -16364, -16384, -16364, -16305,
+    -16207, -16069, -15893, -15679, -15426, -15137, -14811, -14449, -14053, -13623, -13160, -12665,
+    -12140, -11585, -11003, -10394, -9760, -9102, -8423, -7723, -7005, -6270, -5520, -4756, -3981,
+    -3196, -2404, -1606, -804, 0, 804, 1606, 2404, 3196, 3981, 4756, 5520, 6270, 7005, 7723, 8423,
+    9102, 9760, 10394, 11003, 11585, 12140, 12665, 13160, 13623, 14053, 14449, 14811, 15137, 15426,
+    15679, 15893, 16069, 16207, 16305, 16364,
 ];
 
 // The real parts of Z(0) to Z(31).
@@ -32,22 +39,11 @@ macro_rules! by_symmetry {
     };
 }
 
-// C at a place of the first quarter turn.
-fn quarter_of(m: usize) -> u16
-    requires { m ≤ 32 }
-    ensures value { result ≡ slice_index quarter m }
-    ensures small { result ≤ 16384 }
-{
-    QUARTER[m]
-}
-
 // C(m).
 fn cosine_of(m: usize) -> i64
     ensures { result ≡ cosine m }
 {
-    let place = m % 128;
-    let half = by_symmetry!(place <= 64 => place, else 128 - place);
-    by_symmetry!(half <= 32 => quarter_of(half) as i64, else -(quarter_of(64 - half) as i64))
+    COSINES[m % 128]
 }
 
 /// W(m), near 16384 times the 128th root of unity to the power m, of period 128. (own)

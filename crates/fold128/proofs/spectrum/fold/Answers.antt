@@ -3,7 +3,7 @@ use Rattle.std.proofs.lemmas.List.Elements.{All-set, All-replicate}
 use Rattle.std.proofs.lemmas.List.FromFn.{fill_by_all}
 use Rattle.std.proofs.lemmas.List.Edits.{fill_by_more}
 use Rattle.cs_num.specs.Complex.{IsWithin, nothing, sample_at}
-use Rattle.fold128.specs.Folding.{quartet_at, folded_places, empty_quartet, IsSmallQuartet}
+use Rattle.fold128.specs.Folding.{quartet_at, folded_places, empty_quartet, AreWithin}
 use Rattle.fold128.proofs.spectrum.fold.Goals as goal
 
 nothing_small : IsWithin 131072 nothing
@@ -13,7 +13,7 @@ pub loop-m-init : goal.loop-m-init
 loop-m-init c = record {
   whole = refl;
   each = λ k below. absurd (omega arith);
-  small = All-replicate IsSmallQuartet 32 empty_quartet (record { zero = nothing_small; one = nothing_small; two = nothing_small; three = nothing_small });
+  small = All-replicate (AreWithin 131072) 32 empty_quartet (record { zero = nothing_small; one = nothing_small; two = nothing_small; three = nothing_small });
 }
 
 pub loop-m-preserved : goal.loop-m-preserved
@@ -22,7 +22,7 @@ loop-m-preserved c =
     record {
       whole = length-set c.loop-m.folded c.loop-m.m _ ∙ c.loop-m.invariant.whole;
       each = rw here (fill_by_more (quartet_at (sample_at c.args.samples.now)) c.loop-m.folded c.loop-m.m empty_quartet (omega arith) c.loop-m.invariant.each);
-      small = All-set IsSmallQuartet c.loop-m.folded c.loop-m.m c.fold_four.result c.fold_four.ensures.small c.loop-m.invariant.small;
+      small = All-set (AreWithin 131072) c.loop-m.folded c.loop-m.m c.fold_four.result c.fold_four.ensures.small c.loop-m.invariant.small;
     }
 
 pub returns-clause-value : goal.returns-clause-value

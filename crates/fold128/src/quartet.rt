@@ -1,0 +1,109 @@
+//! Four numbers, one for each residue modulo 4.
+
+ghost use Rattle.std.specs.Prelude.{◌≡◌, ◌<◌};
+ghost use Rattle.cs_num.specs.Complex.{IsWithin};
+ghost use Rattle.fold128.specs.Folding.{quartet_of, unfolded, taken, added, AreWithin};
+
+use cs_num::Cpx;
+
+// The sum and the difference of two numbers.
+macro_rules! butterfly {
+    ($a:ident, $b:ident => $sum:ident, $difference:ident) => {
+        let $sum = $a + $b;
+        let $difference = $a - $b;
+    };
+}
+
+// A number for each of the residues 0, 1, 2 and 3 of a frequency, or of a quarter turn.
+#[derive(Clone, Copy)]
+pub(crate) struct Quartet {
+    pub zero: Cpx,
+    pub one: Cpx,
+    pub two: Cpx,
+    pub three: Cpx,
+}
+
+impl Quartet {
+    pub(crate) const EMPTY: Quartet = Quartet {
+        zero: Cpx::ZERO,
+        one: Cpx::ZERO,
+        two: Cpx::ZERO,
+        three: Cpx::ZERO,
+    };
+
+    // The number of a residue.
+    pub(crate) fn of_residue(&self, residue: usize) -> Cpx
+        ensures { result ≡ taken self.now residue }
+    {
+        match residue {
+            0 => self.zero,
+            1 => self.one,
+            2 => self.two,
+            _ => self.three,
+        }
+    }
+
+    // The four with a number added to that of a residue.
+    pub(crate) fn with(self, residue: usize, number: Cpx) -> Quartet
+        requires residue { residue < 4 }
+        requires small { AreWithin 1073741824 self }
+        requires number { IsWithin 4161536 number }
+        ensures { result ≡ added self residue number }
+    {
+        let sum = self.of_residue(residue) + number;
+        match residue {
+            0 => Quartet { zero: sum, ..self },
+            1 => Quartet { one: sum, ..self },
+            2 => Quartet { two: sum, ..self },
+            _ => Quartet { three: sum, ..self },
+        }
+    }
+}
+
+// What the frequencies of each residue see of four samples 32 apart: two butterflies on the samples half a
+// turn apart, and two on what they leave.
+pub(crate) fn fold_four(a: Cpx, b: Cpx, c: Cpx, d: Cpx) -> Quartet
+    requires a { IsWithin 32768 a }
+    requires b { IsWithin 32768 b }
+    requires c { IsWithin 32768 c }
+    requires d { IsWithin 32768 d }
+    ensures value { result ≡ quartet_of a b c d }
+    ensures small { AreWithin 131072 result }
+{
+    butterfly!(a, c => sum, difference);
+    butterfly!(b, d => other_sum, other_difference);
+    let turned = other_difference.times_minus_j();
+    butterfly!(sum, other_sum => zero, two);
+    butterfly!(difference, turned => one, three);
+    Quartet {
+        zero,
+        one,
+        two,
+        three,
+    }
+}
+
+// What the frequencies of each residue give to four samples 32 apart, which is the way back.
+pub(crate) fn unfold_four(parts: Quartet) -> Quartet
+    requires { AreWithin 1073741824 parts }
+    ensures value { result ≡ unfolded parts }
+    ensures small { AreWithin 4294967296 result }
+{
+    let Quartet {
+        zero: a,
+        one: b,
+        two: c,
+        three: d,
+    } = parts;
+    butterfly!(a, c => sum, difference);
+    butterfly!(b, d => other_sum, other_difference);
+    let turned = other_difference.times_j();
+    butterfly!(sum, other_sum => zero, two);
+    butterfly!(difference, turned => one, three);
+    Quartet {
+        zero,
+        one,
+        two,
+        three,
+    }
+}
