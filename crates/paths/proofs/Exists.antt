@@ -1,16 +1,10 @@
 -- Of the words of n bits one costs least, and of those that do it stands first, whatever the cost is.
 use Rattle.std.proofs.Common.{◌≡◌, ℕ, zero, suc, ◌<◌, ◌≤◌, inl, inr, Bool, true, false, List, [], ◌∷◌, length, refl, arith}
 use Rattle.std.proofs.lemmas.Bool.{cases_lt}
-use Rattle.paths.specs.Words.{IsBefore}
+use Rattle.paths.specs.Words.{IsBefore, IsFirstLeast}
 
--- this word of n bits costs least, and those before it cost more
-pub record IsFirstLeast (n : ℕ) (cost : List Bool → ℕ) (word : List Bool) : Type 0 where
-  pub size : length word ≡ n
-  pub least : (other : List Bool) → length other ≡ n → cost word ≤ cost other
-  pub first : (other : List Bool) → length other ≡ n → IsBefore other word → cost word < cost other
-
--- that of the words with the first bit 0 is it, where it costs no more than that of those with the first bit 1
-begins_with_0 : (n : ℕ) (cost : List Bool → ℕ) (u w : List Bool) → IsFirstLeast n (λ v. cost (false ∷ v)) u → IsFirstLeast n (λ v. cost (true ∷ v)) w →
+-- the first least word begins with 0, where that of the words that do costs no more than that of those with 1
+pub begins_with_0 : (n : ℕ) (cost : List Bool → ℕ) (u w : List Bool) → IsFirstLeast n (λ v. cost (false ∷ v)) u → IsFirstLeast n (λ v. cost (true ∷ v)) w →
     cost (false ∷ u) ≤ cost (true ∷ w) → IsFirstLeast (suc n) cost (false ∷ u)
 begins_with_0 n cost u w a b lower = record { size = let s = a.size in omega (arith, s); least = least; first = first }
   where
@@ -24,7 +18,7 @@ begins_with_0 n cost u w a b lower = record { size = let s = a.size in omega (ar
     first (false ∷ v) size before = a.first v (omega (arith, size)) before
     first (true ∷ v) size before = absurd before
 
-begins_with_1 : (n : ℕ) (cost : List Bool → ℕ) (u w : List Bool) → IsFirstLeast n (λ v. cost (false ∷ v)) u → IsFirstLeast n (λ v. cost (true ∷ v)) w →
+pub begins_with_1 : (n : ℕ) (cost : List Bool → ℕ) (u w : List Bool) → IsFirstLeast n (λ v. cost (false ∷ v)) u → IsFirstLeast n (λ v. cost (true ∷ v)) w →
     cost (true ∷ w) < cost (false ∷ u) → IsFirstLeast (suc n) cost (true ∷ w)
 begins_with_1 n cost u w a b lower = record { size = let s = b.size in omega (arith, s); least = least; first = first }
   where

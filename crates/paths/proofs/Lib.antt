@@ -4,7 +4,9 @@ pub mod Forward
 pub mod Through
 pub mod Potential
 pub mod Words
+pub mod Keys
 pub mod AllWords
 pub mod Exists
+pub mod Walks
 pub mod Rounds
 pub mod Rows

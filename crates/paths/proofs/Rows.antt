@@ -1,8 +1,10 @@
 -- A row that is written at one place after another, and rows of least costs.
-use Rattle.std.proofs.Common.{◌≡◌, ◌≢◌, ℕ, suc, ◌+◌, ◌*◌, ◌<◌, ◌≤◌, Bool, List, length, get_or, set, inl, inr, refl, arith, get_or-set_other, get_or-set_same, below_more}
-use Rattle.std.specs.Prelude.{replicate}
-use Rattle.std.proofs.lemmas.Bool.Decides.{eqb_tells}
+use Rattle.std.proofs.Common.{◌≡◌, ◌≢◌, ℕ, suc, ◌+◌, ◌*◌, ◌<◌, ◌≤◌, Bool, cond, List, length, get_or, set, inl, inr, refl, arith, get_or-set_other, get_or-set_same, below_more}
+use Rattle.std.specs.Prelude.{replicate, count_by, nat_lt}
+use Rattle.std.proofs.lemmas.Bool.{lt-ltb, le-ltb}
+use Rattle.std.proofs.lemmas.Bool.Decides.{eqb_tells, nat_tests}
 use Rattle.std.proofs.lemmas.List.{get_or-replicate, length-replicate}
+use Rattle.std.proofs.lemmas.List.Sums.{sum_by-set, sum_by-le-sum_by}
 use Rattle.paths.specs.Least.{ends_in}
 use Rattle.paths.specs.Rows.{least_in, IsLeastRow}
 use Rattle.paths.proofs.Forward.{HasEdges, least_to_none, least_to_more}
@@ -50,3 +52,18 @@ row_later next c starts limit first most k p b q d row later closed edges known 
       let more : suc k * most ≡ k * most + most = grind arith in
       omega (arith, g, r, more);
 }
+
+-- ---- how many of a row are below a number
+
+-- one that was is no longer, and the number is no greater
+pub fewer_below : (row : List ℕ) (i v m m' : ℕ) → i < length row → get_or row i 0 < m → m' ≤ m → m' ≤ v →
+    count_by (λ n. nat_lt n m') (set row i v) < count_by (λ n. nat_lt n m) row
+fewer_below row i v m m' inside was no_more now =
+    let without_v = rw (le-ltb v m' now) at (sum_by-set (λ n. cond (nat_lt n m') 1 0) row i v 0 inside) in
+    let without_m = rw (le-ltb m m' no_more) at (sum_by-set (λ n. cond (nat_lt n m') 1 0) row i m 0 inside) in
+    let before = rw (lt-ltb (get_or row i 0) m was, le-ltb m m (omega arith)) at (sum_by-set (λ n. cond (nat_lt n m) 1 0) row i m 0 inside) in
+    let fewer = sum_by-le-sum_by (λ n. cond (nat_lt n m') 1 0) (λ n. cond (nat_lt n m) 1 0) (set row i m) (one_less m m' no_more) in
+    omega (arith, without_v, without_m, before, fewer)
+  where
+    one_less : (m m' : ℕ) → m' ≤ m → (n : ℕ) → cond (nat_lt n m') 1 0 ≤ cond (nat_lt n m) 1 0
+    one_less m m' no_more n = grind (arith, nat_tests)

@@ -1,10 +1,9 @@
--- A word's number, and the key of a path: its cost at a scale, and its word's number.
-use Rattle.std.proofs.Common.{◌≡◌, ℕ, suc, ◌+◌, ◌-◌, ◌*◌, ◌^◌, ◌<◌, ◌⊎◌, inl, inr, ◌++◌, take, drop, subst, length-drop, length-take-le, Bool, true, false, List, [], ◌∷◌, length, get_or, refl, ap, ◌∙◌, arith}
+-- A word's number, its parts, and the order of words.
+use Rattle.std.proofs.Common.{◌≡◌, ℕ, suc, ◌+◌, ◌^◌, ◌<◌, ◌⊎◌, inl, inr, ◌++◌, take, drop, subst, length-drop, length-take-le, Bool, true, false, List, [], ◌∷◌, length, get_or, refl, ap, ◌∙◌, arith}
 use Rattle.std.proofs.Math.Seq.{split_at, get_or-append_seam}
-use Rattle.paths.specs.Paths.{path_cost}
 use Rattle.cs_bits.specs.Numbers.{number}
 use Rattle.cs_bits.proofs.Numbers.{number_below}
-use Rattle.paths.specs.Words.{IsBefore, keyed}
+use Rattle.paths.specs.Words.{IsBefore}
 
 -- a word before another has the smaller number
 pub number-before : (u w : List Bool) → length u ≡ length w → IsBefore u w → number u < number w
@@ -21,15 +20,6 @@ number-before (true ∷ u) (true ∷ w) e h =
     let ih = number-before u w (omega arith) h in
     let e' : length u ≡ length w = omega arith in
     rw e' (omega (arith, ih))
-
--- the key of a path
-pub path_cost-keyed : (next : ℕ → Bool → ℕ) (scale n : ℕ) (c : ℕ → ℕ → Bool → ℕ) (k x : ℕ) (bs : List Bool) → k + length bs ≡ n →
-    path_cost next (keyed scale n c) k x bs ≡ path_cost next c k x bs * scale + number bs
-path_cost-keyed next scale n c k x [] size = omega arith
-path_cost-keyed next scale n c k x (b ∷ bs) size =
-    let weight : n - 1 - k ≡ length bs = omega arith in
-    let ih = path_cost-keyed next scale n c (suc k) (next x b) bs (omega arith) in
-    rw (ih, weight) (omega arith)
 
 -- of two words of one length that are not the same, one stands before the other
 pub either_before : (u w : List Bool) → length u ≡ length w → (u ≡ w) ⊎ (IsBefore u w ⊎ IsBefore w u)

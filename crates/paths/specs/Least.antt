@@ -27,8 +27,3 @@ pub record IsLeastWith (next : ℕ → Bool → ℕ) (c : ℕ → ℕ → Bool �
 -- an end in s is free, and any other costs so much
 abbrev pub ends_in : ℕ → ℕ → ℕ → ℕ
 ends_in far s x = cond (nat_eq x s) 0 far
-
--- m is the least cost of n steps from any state below the limit, where only an end in its start is free
-pub record IsLeastRound (next : ℕ → Bool → ℕ) (c : ℕ → ℕ → Bool → ℕ) (far n limit m : ℕ) : Type 0 where
-  pub reached : (s : ℕ) × (bs : List Bool) × (s < limit) × (length bs ≡ n) × (path_cost next c 0 s bs + ends_in far s (end_of next s bs) ≡ m)
-  pub least : (s : ℕ) (bs : List Bool) → s < limit → length bs ≡ n → m ≤ path_cost next c 0 s bs + ends_in far s (end_of next s bs)

@@ -1,5 +1,6 @@
 -- Words of bits in lexicographic order, and costs that tell words of equal cost apart (own).
-use Rattle.std.specs.Prelude.{ℕ, ◌+◌, ◌-◌, ◌*◌, ◌^◌, Bool, true, false, cond, List, [], ◌∷◌}
+use Rattle.std.specs.Prelude.{◌≡◌, ℕ, ◌+◌, ◌*◌, ◌<◌, ◌≤◌, Bool, true, false, List, [], ◌∷◌, length}
+use Rattle.cs_bits.specs.Numbers.{number}
 
 -- the first word stands before the second in lexicographic order, 0 before 1
 abbrev pub IsBefore : List Bool → List Bool → Type 0
@@ -10,11 +11,13 @@ IsBefore (false ∷ xs) (true ∷ ys) = Unit {0}
 IsBefore (true ∷ xs) (false ∷ ys) = ⊥
 IsBefore (true ∷ xs) (true ∷ ys) = IsBefore xs ys
 
--- a step's cost at a scale, with a weight for the bit 1
-abbrev pub key_step : ℕ → ℕ → (ℕ → Bool → ℕ) → ℕ → Bool → ℕ
-key_step scale weight edge x b = edge x b * scale + cond b weight 0
+-- of the words of n bits this one costs least, and those before it cost more
+pub record IsFirstLeast (n : ℕ) (cost : List Bool → ℕ) (word : List Bool) : Type 0 where
+  pub size : length word ≡ n
+  pub least : (other : List Bool) → length other ≡ n → cost word ≤ cost other
+  pub first : (other : List Bool) → length other ≡ n → IsBefore other word → cost word < cost other
 
--- the costs of n steps at a scale, each with the weight of its bit: a path of them costs its cost at the scale,
--- and its word's number
-abbrev pub keyed : ℕ → ℕ → (ℕ → ℕ → Bool → ℕ) → ℕ → ℕ → Bool → ℕ
-keyed scale n c k = key_step scale (2 ^ (n - 1 - k)) (c k)
+-- a word's cost at a scale and its number in one: where the scale is above the numbers of all words, the least key is that
+-- of the first of the words that cost least
+abbrev pub key : ℕ → (List Bool → ℕ) → List Bool → ℕ
+key scale cost word = cost word * scale + number word

@@ -1,111 +1,157 @@
--- The least key over the start states is that of the least word.
-use Rattle.std.proofs.Common.{◌≡◌, ℕ, ◌+◌, ◌*◌, ◌/◌, ◌%◌, ◌^◌, ◌<◌, ◌≤◌, Bool, List, length, ℤ, refl, sym, ◌∙◌, subst, inl, inr, arith}
+-- The keys that passes give are bounds and keys of words, and the least key is that of the least word.
+use Rattle.std.proofs.Common.{◌≡◌, ℕ, ◌+◌, ◌*◌, ◌/◌, ◌%◌, ◌^◌, ◌<◌, ◌≤◌, Bool, List, length, get_or, set, ℤ, refl, ap, sym, ◌∙◌, subst, inl, inr, arith, get_or-set_other, get_or-set_same}
+use Rattle.std.specs.Prelude.{min}
 use Rattle.std.proofs.lemmas.Bool.Decides.{eqb_tells}
 use Rattle.std.proofs.Math.Pow.{pow_mono}
 use Rattle.finite.specs.Sizes.{RowsWithin}
-use Rattle.paths.specs.Paths.{end_of, path_cost}
 use Rattle.cs_bits.specs.Numbers.{number, bits_of}
-use Rattle.cs_bits.proofs.Numbers.{number_below, bits_of_is}
-use Rattle.paths.proofs.Words.{number-before, path_cost-keyed}
+use Rattle.cs_bits.proofs.Numbers.{number_below, bits_of_is, length-bits_of}
+use Rattle.paths.specs.Paths.{end_of, path_cost, walked}
+use Rattle.paths.specs.Words.{IsFirstLeast}
+use Rattle.paths.specs.Least.{ends_in}
+use Rattle.paths.proofs.Walks.{length-walked, walked_first, first_least_is_best}
+use Rattle.paths.proofs.Keys.{first_least-key, first_least_by_key}
+use Rattle.paths.proofs.Best.{min_cases}
 use Rattle.paths.proofs.Rounds.{ends_in_same, ends_in_other}
 use Rattle.conv_code.specs.Cost.{word_cost}
 use Rattle.conv_code.proofs.Costs.{word_cost-le}
 use Rattle.tailbite.specs.LeastWord.{IsLeastWord}
 use Rattle.tailbite.specs.Machine.{shift, step_cost}
-use Rattle.tailbite.proofs.Windows.{same_end, end_below}
+use Rattle.tailbite.specs.Passes.{bit_in, IsPass}
+use Rattle.tailbite.specs.Keys.{scale, far, word_key, IsWordKey, IsBound, AreBounds, IsKeyOrFar, IsLeastKey}
+use Rattle.tailbite.proofs.Windows.{same_end, end_below, shift_below}
 use Rattle.tailbite.proofs.Branches.{word_cost-path}
-use Rattle.tailbite.specs.Keys.{scale, far, key_cost, IsLeastKeyBelow}
 
--- ---- keys
+-- ---- words and paths
 
--- no value of a place is larger than 2 ^ 20
-abbrev AreSmall : List (List ℤ) → Type 0
-AreSmall values = RowsWithin (2 ^ 20) values
+-- the path of a word that starts in s ends there, and costs what the word does
+round : (values : List (List ℤ)) (s : ℕ) (word : List Bool) → length word ≡ length values → 6 ≤ length values → s < 64 → end_of shift 0 word ≡ s →
+    (end_of shift s word ≡ s) × (word_cost values word ≡ path_cost shift (step_cost values) 0 s word)
+round values s word size long below is = (
+  same_end s 0 word below (omega arith) (omega (arith, size, long)) ∙ is,
+  word_cost-path values word size (omega (arith, size, long)) ∙ rw is refl,
+)
 
--- the key of a word
-unfoldable key_of : List (List ℤ) → List Bool → ℕ
-key_of values word = word_cost values word * scale + number word
+-- the numbers of all words are below the scale
+wide : (n : ℕ) → n ≤ 64 → 2 ^ n ≤ scale
+wide n short = pow_mono {j = 64} short
 
--- what a path back to its start costs is the key of its word
-path_key : (values : List (List ℤ)) (s : ℕ) (bs : List Bool) → length bs ≡ length values → 6 ≤ length values → s < 64 → end_of shift s bs ≡ s →
-    path_cost shift (key_cost values) 0 s bs ≡ key_of values bs
-unfolding key_of
-path_key values s bs size long below back =
-    let s_is : end_of shift 0 bs ≡ s = same_end 0 s bs (omega arith) below (omega arith) ∙ back in
-    let size' : 0 + length bs ≡ length values = omega (arith, size) in
-    path_cost-keyed shift (scale) (length values) (step_cost values) 0 s bs size' ∙
-    (rw (word_cost-path values bs size (omega arith), s_is) refl)
+-- ---- what a pass gives
 
--- no word has a smaller key
-key_least : (values : List (List ℤ)) (m : ℕ) → IsLeastKeyBelow values 64 m → 6 ≤ length values →
-    (other : List Bool) → length other ≡ length values → m ≤ key_of values other
-key_least values m round long other size =
-    let s = end_of shift 0 other in
-    let below : s < 64 = end_below 0 other (omega arith) in
-    let back : end_of shift s other ≡ s = same_end s 0 other below (omega arith) (omega arith) in
-    let h = round.least s other below size in
-    let free = ends_in_same (far) s (end_of shift s other) back in
-    let key = path_key values s other size long below back in
-    omega (arith, h, free, key)
+-- the word that the bits tell from state s on
+abbrev told_word : List (List ℤ) → List (List Bool) → ℕ → List Bool
+told_word values bits s = walked shift (bit_in bits) 0 (length values) s
 
--- the least key is that of a word
-key_reached : (values : List (List ℤ)) (m : ℕ) → IsLeastKeyBelow values 64 m → 6 ≤ length values → length values ≤ 64 → AreSmall values →
-    (word : List Bool) × (length word ≡ length values) × (key_of values word ≡ m)
-unfolding key_of
-key_reached values m round long short small =
-    let (s, bs, below, size, e) = round.reached in
-    elim (eqb_tells (end_of shift s bs) s) [
-      | inl (t, back) ↦
-          let free = ends_in_same (far) s (end_of shift s bs) back in
-          let key = path_key values s bs size long below back in
-          (bs, size, omega (arith, e, free, key))
+told_first : (values : List (List ℤ)) (ends : ℕ → ℕ) (row : List ℕ) (bits : List (List Bool)) (s : ℕ) → IsPass values ends row bits → s < 64 →
+    IsFirstLeast (length values) (λ bs. path_cost shift (step_cost values) 0 s bs + ends (end_of shift s bs)) (told_word values bits s)
+told_first values ends row bits s passed below =
+    walked_first shift (step_cost values) ends (bit_in bits) 64 (length values) shift_below passed.bit 0 (length values) s (omega arith) below
+
+told_cost : (values : List (List ℤ)) (ends : ℕ → ℕ) (row : List ℕ) (bits : List (List Bool)) (s : ℕ) → IsPass values ends row bits → s < 64 →
+    path_cost shift (step_cost values) 0 s (told_word values bits s) + ends (end_of shift s (told_word values bits s)) ≡ get_or row s 0
+told_cost values ends row bits s passed below =
+    first_least_is_best shift (step_cost values) ends 0 (length values) s (told_word values bits s) (told_first values ends row bits s passed below)
+    ∙ sym (passed.cost s below)
+
+-- where an end in s is free, no word that starts in s has a smaller key
+pub pass_bound : (values : List (List ℤ)) (ends : ℕ → ℕ) (row : List ℕ) (bits : List (List Bool)) (s : ℕ) → IsPass values ends row bits →
+    6 ≤ length values → length values ≤ 64 → s < 64 → ends s ≡ 0 → IsBound values s (get_or row s 0 * scale + number (told_word values bits s))
+pass_bound values ends row bits s passed long short below free word size is =
+    let (back, cost) = round values s word size long below is in
+    let free_end : ends (end_of shift s word) ≡ 0 = ap ends back ∙ free in
+    let least = first_least-key (length values) (scale) (λ bs. path_cost shift (step_cost values) 0 s bs + ends (end_of shift s bs)) (told_word values bits s)
+    (wide (length values) short) (told_first values ends row bits s passed below) word size in
+    let told = told_cost values ends row bits s passed below in
+    omega (arith, cost, free_end, least, told)
+
+-- where the path ends in s too, and that is free, it is a word's
+pub pass_key : (values : List (List ℤ)) (ends : ℕ → ℕ) (row : List ℕ) (bits : List (List Bool)) (s : ℕ) → IsPass values ends row bits →
+    6 ≤ length values → s < 64 → ends s ≡ 0 → end_of shift s (told_word values bits s) ≡ s →
+    IsWordKey values (get_or row s 0 * scale + number (told_word values bits s))
+pass_key values ends row bits s passed long below free closed =
+    let word = told_word values bits s in
+    let size = length-walked shift (bit_in bits) 0 (length values) s in
+    let start : end_of shift 0 word ≡ s = same_end 0 s word (omega arith) below (omega (arith, size, long)) ∙ closed in
+    let (back, cost) = round values s word size long below start in
+    let free_end : ends (end_of shift s word) ≡ 0 = ap ends closed ∙ free in
+    let told = told_cost values ends row bits s passed below in
+    (word, size, omega (arith, cost, free_end, told))
+
+-- where only an end in s is free
+pub pass_key_or_far : (values : List (List ℤ)) (ends : ℕ → ℕ) (row : List ℕ) (bits : List (List Bool)) (s : ℕ) → IsPass values ends row bits →
+    6 ≤ length values → s < 64 → ((x : ℕ) → x < 64 → ends x ≡ ends_in far s x) →
+    IsKeyOrFar values (get_or row s 0 * scale + number (told_word values bits s))
+pass_key_or_far values ends row bits s passed long below are small =
+    let word = told_word values bits s in
+    elim (eqb_tells (end_of shift s word) s) [
+      | inl (t, closed) ↦ pass_key values ends row bits s passed long below (are s below ∙ ends_in_same (far) s s refl) closed
       | inr (f, away) ↦
-          let h = key_least values m round long bs size in
-          let away_costs = ends_in_other (far) s (end_of shift s bs) f in
-          let cost = word_cost-le (2 ^ 20) values bs small in
-          let below = number_below bs in
-          let power : 2 ^ length bs ≤ 2 ^ 64 = pow_mono {j = 64} (omega arith) in
-          absurd (omega (arith, h, away_costs, cost, below, power, e))
+          let costs : ends (end_of shift s word) ≡ far = are (end_of shift s word) (end_below s word below) ∙ ends_in_other (far) s (end_of shift s word) f in
+          let told = told_cost values ends row bits s passed below in
+          absurd (omega (arith, costs, told, small))
     ]
 
--- ---- the choice among equals
+-- ---- the least key
 
--- a word of least key is the least word
-least_word : (values : List (List ℤ)) (word : List Bool) → length word ≡ length values → length values ≤ 64 →
-    ((other : List Bool) → length other ≡ length values → key_of values word ≤ key_of values other) → IsLeastWord values word
-unfolding key_of
-least_word values word size short h = record {
-  size = size;
-  least = λ other size'.
-      let k = h other size' in
-      let below = number_below other in
-      let power : 2 ^ length other ≤ scale = pow_mono {j = 64} (omega arith) in
-      omega (arith, k, below, power);
-  first = λ other size' before.
-      let k = h other size' in
-      let below = number-before other word (omega arith) before in
-      omega (arith, k, below);
+-- the lesser of two
+pub least_or_far : (values : List (List ℤ)) (m n : ℕ) → IsKeyOrFar values m → IsKeyOrFar values n → IsKeyOrFar values (min m n)
+least_or_far values m n one other = elim (min_cases m n) [ inl e ↦ rw e one | inr e ↦ rw e other ]
+
+-- another bound at one state
+pub bounds_with : (values : List (List ℤ)) (bounds : List ℕ) (start m : ℕ) → start < length bounds → AreBounds values bounds → IsBound values start m →
+    AreBounds values (set bounds start m)
+bounds_with values bounds start m inside are here = record {
+  bound = λ s below. elim (eqb_tells s start) [
+    | inl (t, same) ↦ rw (same, get_or-set_same bounds start m 0 inside) here
+    | inr (f, other) ↦ rw (get_or-set_other bounds start s m 0 other) (are.bound s below)
+  ];
 }
 
--- what is read from the least key
+-- the key of every word is below that of a far end
+below_far : (values : List (List ℤ)) (word : List Bool) → length word ≡ length values → length values ≤ 64 → RowsWithin (2 ^ 20) values →
+    word_key values word < far * scale
+below_far values word size short sizes =
+    let cost = word_cost-le (2 ^ 20) values word sizes in
+    let below = number_below word in
+    let power : 2 ^ length word ≤ 2 ^ 64 = pow_mono {j = 64} (omega (arith, size, short)) in
+    omega (arith, cost, below, power, short)
+
+-- what is no more than every bound is the least key, if it is a key
+pub no_bound_below : (values : List (List ℤ)) (bounds : List ℕ) (start m : ℕ) → length values ≤ 64 → RowsWithin (2 ^ 20) values → AreBounds values bounds →
+    ((x : ℕ) → x < 64 → get_or bounds start 0 ≤ get_or bounds x 0) → m ≤ get_or bounds start 0 → IsKeyOrFar values m → IsLeastKey values m
+no_bound_below values bounds start m short sizes are least no_less is =
+    let lower : (word : List Bool) → length word ≡ length values → m ≤ word_key values word =
+    λ word size.
+    let s = end_of shift 0 word in
+    let below : s < 64 = end_below 0 word (omega arith) in
+    let h = are.bound s below word size refl in
+    let h' = least s below in
+    omega (arith, h, h', no_less) in
+    let some = bits_of (length values) 0 in
+    let size = length-bits_of (length values) 0 in
+    let h = lower some size in
+    let h' = below_far values some size short sizes in
+    record { reached = is (omega (arith, h, h')); least = lower }
+
+-- what is read from it
 pub record IsDecoded (values : List (List ℤ)) (m : ℕ) (word : List Bool) : Type 0 where
   pub word_is : IsLeastWord values word
   pub cost_is : m / scale ≡ word_cost values word
   pub small : m / scale ≤ 64 * (3 * 2 ^ 20)
 
-decoded : (values : List (List ℤ)) (m : ℕ) (word : List Bool) → IsLeastKeyBelow values 64 m →
-    6 ≤ length values → length values ≤ 64 → AreSmall values → word ≡ bits_of (length values) (m % scale) → IsDecoded values m word
-unfolding key_of
-decoded values m word round long short small bits =
-    let (w, size', key) = key_reached values m round long short small in
+decoded : (values : List (List ℤ)) (m : ℕ) (word : List Bool) → IsLeastKey values m → length values ≤ 64 → RowsWithin (2 ^ 20) values →
+    word ≡ bits_of (length values) (m % scale) → IsDecoded values m word
+decoded values m word known short sizes bits =
+    let (w, size, is) = known.reached in
     let below = number_below w in
-    let power : 2 ^ length w ≤ scale = pow_mono {j = 64} (omega arith) in
-    let cost = word_cost-le (2 ^ 20) values w small in
-    let low : m % scale ≡ number w = omega (arith, key, below, power) in
-    let high : m / scale ≡ word_cost values w = omega (arith, key, below, power) in
-    let e : w ≡ word = bits_of_is (length values) (m % scale) w size' (sym low) ∙ sym bits in
-    let least : IsLeastWord values w = least_word values w size' short
-    (λ other size_other. rw key (key_least values m round long other size_other)) in
+    let power : 2 ^ length w ≤ scale = pow_mono {j = 64} (omega (arith, size, short)) in
+    let cost = word_cost-le (2 ^ 20) values w sizes in
+    let low : m % scale ≡ number w = omega (arith, is, below, power) in
+    let high : m / scale ≡ word_cost values w = omega (arith, is, below, power) in
+    let e : w ≡ word = bits_of_is (length values) (m % scale) w size (sym low) ∙ sym bits in
+    let first : IsFirstLeast (length values) (word_cost values) w =
+    first_least_by_key (length values) (scale) (word_cost values) w (wide (length values) short) size (λ other size'. rw is (known.least other size')) in
+    let least : IsLeastWord values w = record { size = size; least = first.least; first = first.first } in
     record {
       word_is = subst (IsLeastWord values) e least;
       cost_is = rw (← e) high;
@@ -113,7 +159,6 @@ decoded values m word round long short small bits =
     }
 
 -- the same, for an array of n places
-pub decoded_array : (n : ℕ) (values : List (List ℤ)) (m : ℕ) (word : List Bool) → length values ≡ n → IsLeastKeyBelow values 64 m →
-    6 ≤ n → n ≤ 64 → RowsWithin (2 ^ 20) values → word ≡ bits_of n (m % scale) → IsDecoded values m word
-decoded_array n values m word e round long short small bits =
-    decoded values m word round (rw e long) (rw e short) small (rw e bits)
+pub decoded_array : (n : ℕ) (values : List (List ℤ)) (m : ℕ) (word : List Bool) → length values ≡ n → IsLeastKey values m → n ≤ 64 →
+    RowsWithin (2 ^ 20) values → word ≡ bits_of n (m % scale) → IsDecoded values m word
+decoded_array n values m word e known short sizes bits = decoded values m word known (rw e short) sizes (rw e bits)

@@ -1,7 +1,9 @@
 pub mod Bits
+pub mod Codes
 pub mod Windows
 pub mod Edges
 pub mod Branches
-pub mod Rows
+pub mod Back
+pub mod Walking
 pub mod Keys
 pub mod Only

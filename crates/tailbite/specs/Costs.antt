@@ -1,16 +1,28 @@
--- The costs of a place's steps in a table, which is made once for all start states (own).
-use Rattle.std.specs.Prelude.{◌≡◌, ℕ, ◌+◌, ◌*◌, ◌^◌, ◌<◌, ◌≤◌, Bool, true, false, List, [], slice_index, slice_index_or, ℤ}
-use Rattle.tailbite.specs.Machine.{branch_cost}
+-- The costs of a place's steps in a table, which is made once for all passes (own).
+use Rattle.std.specs.Prelude.{◌≡◌, ℕ, ◌*◌, ◌/◌, ◌^◌, ◌<◌, ◌≤◌, Bool, List, [], ◌∷◌, slice_index, slice_index_or, ℤ}
+use Rattle.finite.specs.Bits.{odd, xor}
+use Rattle.conv_code.specs.Cost.{triple_cost}
+use Rattle.tailbite.specs.Machine.{shift, branch_cost}
 
--- what the table says of the step from state x by a bit: those by 0 stand first
+-- the coded bits of the steps by 0 from the even states, in order, each three as a number: the first stream's bit weighs 4
+unfoldable pub even_codes : List ℕ
+even_codes =
+    0 ∷ 4 ∷ 1 ∷ 5 ∷ 6 ∷ 2 ∷ 7 ∷ 3 ∷ 7 ∷ 3 ∷ 6 ∷ 2 ∷ 1 ∷ 5 ∷ 0 ∷ 4 ∷
+    3 ∷ 7 ∷ 2 ∷ 6 ∷ 5 ∷ 1 ∷ 4 ∷ 0 ∷ 4 ∷ 0 ∷ 5 ∷ 1 ∷ 2 ∷ 6 ∷ 3 ∷ 7 ∷ []
+
+-- what the three values of a place speak against the coded bits with this number
+abbrev pub code_cost : List ℤ → ℕ → ℕ
+code_cost v p = triple_cost v (odd (p / 4)) (odd (p / 2)) (odd p)
+
+-- what the table says of the step from state x by the bit b. The steps from 2h by 0 and from 2h + 1 by 1 have the same coded
+-- bits, and those from 2h by 1 and from 2h + 1 by 0 the opposite ones: place h has the cost of the former, 32 + h of the latter
 abbrev pub cost_in : List ℕ → ℕ → Bool → ℕ
-cost_in costs x false = slice_index costs x
-cost_in costs x true = slice_index costs (64 + x)
+cost_in costs x b = slice_index costs (shift x (xor b (odd x)))
 
 -- it says what the steps cost by the values of a place
 pub record AreCosts (values : List ℤ) (costs : List ℕ) : Type 0 where
   pub cost : (x : ℕ) (b : Bool) → x < 64 → cost_in costs x b ≡ branch_cost values x b
-  pub small : (y : ℕ) → y < 128 → slice_index costs y ≤ 3 * 2 ^ 20
+  pub small : (y : ℕ) → y < 64 → slice_index costs y ≤ 3 * 2 ^ 20
 
 -- the tables of the first n places do
 pub record HaveCosts (values : List (List ℤ)) (tables : List (List ℕ)) (n : ℕ) : Type 0 where

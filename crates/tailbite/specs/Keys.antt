@@ -1,25 +1,39 @@
--- Keys: the cost of a path and its word in one number, so that the least key is that of the least word (own).
-use Rattle.std.specs.Prelude.{ℕ, ◌^◌, Bool, List, length, ℤ}
-use Rattle.paths.specs.Least.{IsLeastFrom, IsLeastRound, ends_in}
-use Rattle.paths.specs.Words.{keyed}
-use Rattle.tailbite.specs.Machine.{shift, step_cost}
+-- Keys: the cost of a word and its number in one number, so that the least key is that of the least word (own).
+use Rattle.std.specs.Prelude.{◌≡◌, ℕ, ◌*◌, ◌^◌, ◌<◌, ◌≤◌, Bool, List, length, slice_index, ℤ}
+use Rattle.paths.specs.Paths.{end_of}
+use Rattle.paths.specs.Words.{key}
+use Rattle.conv_code.specs.Cost.{word_cost}
+use Rattle.tailbite.specs.Machine.{shift}
 
 -- what a unit of cost weighs in a key: more than the number of every word
 abbrev pub scale : ℕ
 scale = 2 ^ 64
 
--- more than the key of every word
+-- what an end costs that is not the start state: more than every word
 abbrev pub far : ℕ
-far = 2 ^ 100
+far = 2 ^ 30
 
--- the costs of the steps as keys
-abbrev pub key_cost : List (List ℤ) → ℕ → ℕ → Bool → ℕ
-key_cost values = keyed scale (length values) (step_cost values)
+-- the key of a word
+abbrev pub word_key : List (List ℤ) → List Bool → ℕ
+word_key values = key scale (word_cost values)
 
--- m is the least key of a path through all places from a start state, where only an end in that state is free
-abbrev pub IsLeastKeyFrom : List (List ℤ) → ℕ → ℕ → Type 0
-IsLeastKeyFrom values start m = IsLeastFrom shift (key_cost values) (ends_in far start) 0 (length values) start m
+-- m is the key of a word of as many bits as there are places
+abbrev pub IsWordKey : List (List ℤ) → ℕ → Type 0
+IsWordKey values m = (word : List Bool) × (length word ≡ length values) × (word_key values word ≡ m)
 
--- m is the least key of a path from one of the states below the limit back to it
-abbrev pub IsLeastKeyBelow : List (List ℤ) → ℕ → ℕ → Type 0
-IsLeastKeyBelow values limit m = IsLeastRound shift (key_cost values) far (length values) limit m
+-- no word whose path starts in state s, and so ends there, has a key below m
+abbrev pub IsBound : List (List ℤ) → ℕ → ℕ → Type 0
+IsBound values s m = (word : List Bool) → length word ≡ length values → end_of shift 0 word ≡ s → m ≤ word_key values word
+
+-- the row has such a bound for each state
+pub record AreBounds (values : List (List ℤ)) (bounds : List ℕ) : Type 0 where
+  pub bound : (s : ℕ) → s < 64 → IsBound values s (slice_index bounds s)
+
+-- m is the key of a word, or no less than that of an end that is far
+abbrev pub IsKeyOrFar : List (List ℤ) → ℕ → Type 0
+IsKeyOrFar values m = m < far * scale → IsWordKey values m
+
+-- m is the least key of a word
+pub record IsLeastKey (values : List (List ℤ)) (m : ℕ) : Type 0 where
+  pub reached : IsWordKey values m
+  pub least : (word : List Bool) → length word ≡ length values → m ≤ word_key values word

@@ -2,5 +2,6 @@ pub mod LeastWord
 pub mod Laws
 pub mod Clean
 pub mod Machine
-pub mod Keys
 pub mod Costs
+pub mod Passes
+pub mod Keys

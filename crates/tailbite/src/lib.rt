@@ -6,6 +6,7 @@
 
 mod costs;
 mod laws;
+mod passes;
 mod search;
 mod steps;
 mod trellis;

@@ -1,20 +1,20 @@
-//! The search for the least key, over the start states and back over the places. A key is the cost of a path times
-//! 2^64 plus the number of its word: it tells words of equal cost apart, and the least key is that of the least word.
+//! The search for the least key, over the states in which a word may start and end. A key is the cost of a word times
+//! 2^64 plus its number: it tells words of equal cost apart, and the least key is that of the least word.
+//!
+//! One pass with every end free gives each start state a bound that no word from there passes below: the key of the least
+//! path from it, wherever that ends. Then the start states are searched in order of their bounds, until no bound is below
+//! the least key that was found.
 
-ghost use Rattle.std.specs.Prelude.{◌≡◌, ℕ, ◌+◌, ◌-◌, ◌*◌, ◌/◌, ◌^◌, ◌<◌, ◌≤◌, false, length, slice_index, slice_index_or};
+ghost use Rattle.std.specs.Prelude.{◌≡◌, ℕ, ◌+◌, ◌*◌, ◌^◌, ◌<◌, ◌≤◌, length, slice_index};
 ghost use Rattle.finite.specs.Sizes.{RowsWithin};
 ghost use Rattle.paths.specs.Least.{ends_in};
-ghost use Rattle.paths.specs.Rows.{least_out};
-ghost use Rattle.paths.specs.Words.{key_step};
 ghost use Rattle.conv_code.specs.Cost.{word_cost};
-ghost use Rattle.finite.specs.Bits.{odd};
-ghost use Rattle.tailbite.specs.Machine.{shift};
-ghost use Rattle.tailbite.specs.Costs.{HaveCosts, cost_in};
-ghost use Rattle.tailbite.specs.Keys.{IsLeastKeyBelow, IsLeastKeyFrom, far, scale};
+ghost use Rattle.tailbite.specs.Costs.{HaveCosts};
+ghost use Rattle.tailbite.specs.Keys.{AreBounds, IsBound, IsKeyOrFar, IsLeastKey, far, scale};
 ghost use Rattle.tailbite.specs.LeastWord.{IsLeastWord};
 
 use crate::costs::{StepCosts, fill_costs};
-use crate::steps::next;
+use crate::passes::{StepBits, pass, walk};
 use crate::trellis::Trellis;
 use cs_bits::Bits;
 
@@ -23,108 +23,124 @@ const STATES: usize = 64;
 /// The weight of a unit of cost in a key: more than the number of every word.
 const SCALE: u128 = 0x1_0000_0000_0000_0000;
 
-/// More than the key of every word.
-const FAR: u128 = 0x10_0000_0000_0000_0000_0000_0000;
+/// More than the cost of every word.
+const FAR: u32 = 0x4000_0000;
 
-/// The least key from the state x, where the row has those from each state one step on.
-fn least_at(costs: &StepCosts, bit: u128, row: &[u128], x: usize) -> u128
-    requires states { length row.now ≡ 64 }
-    requires state { x < 64 }
-    requires small { (y : ℕ) → y < 128 → slice_index costs.now y ≤ 3 * 2 ^ 20 }
-    requires bit { bit < 2 ^ 64 }
-    requires room { (x : ℕ) → x < 64 → slice_index row.now x ≤ 2 ^ 120 }
-    ensures least { result ≡ least_out shift (key_step scale bit (cost_in costs.now)) row.now x }
-    ensures growth { result ≤ slice_index row.now (shift x false) + 2 ^ 86 }
+/// The key of a cost and the number of a word.
+fn key_of(cost: u32, word: u64) -> u128
+    ensures { result ≡ cost * scale + word }
 {
-    let zero = costs[x] as u128 * SCALE + row[next(x, false)];
-    let one = costs[STATES + x] as u128 * SCALE + bit + row[next(x, true)];
-    zero.min(one)
+    cost as u128 * SCALE + word as u128
 }
 
-/// Writes the row of least keys from each state, one step before the given row.
-fn step_back(costs: &StepCosts, bit: u128, row: &[u128], earlier: &mut [u128])
-    requires states { length row.now ≡ 64 }
-    requires earlier { length earlier.old ≡ 64 }
-    requires small { (y : ℕ) → y < 128 → slice_index costs.now y ≤ 3 * 2 ^ 20 }
-    requires bit { bit < 2 ^ 64 }
-    requires room { (x : ℕ) → x < 64 → slice_index row.now x ≤ 2 ^ 120 }
-    ensures row { (x : ℕ) → x < 64 →
-        slice_index earlier.new x ≡ least_out shift (key_step scale bit (cost_in costs.now)) row.now x }
-    ensures growth { (x : ℕ) → x < 64 →
-        slice_index earlier.new x ≤ slice_index row.now (shift x false) + 2 ^ 86 }
+/// What the ends cost where all are free.
+fn free_ends() -> [u32; 64]
+    ensures { (x : ℕ) → x < 64 → slice_index result x ≡ 0 }
 {
-    for x in 0..STATES {
-        earlier[x] = least_at(costs, bit, row, x);
-    }
+    [0; STATES]
 }
 
-/// Writes the row after the last place: only an end in the start state is free.
-fn fill_ends(start: usize, row: &mut [u128])
-    requires start { start < 64 }
-    requires states { length row.old ≡ 64 }
-    ensures { (x : ℕ) → x < 64 → slice_index row.new x ≡ ends_in far start x }
+/// What the ends cost where only the start state is free.
+fn ends_at(start: usize) -> [u32; 64]
+    requires { start < 64 }
+    ensures ends { (x : ℕ) → x < 64 → slice_index result x ≡ ends_in far start x }
+    ensures room { (x : ℕ) → x < 64 → slice_index result x ≤ 2 ^ 30 }
 {
-    row.fill(FAR);
-    row[start] = 0;
+    let mut ends = [FAR; STATES];
+    ends[start] = 0;
+    ends
 }
 
-/// The least key of a path through all places from the start state, which is free only if it ends there.
-fn least_key(
-    values: &[[i32; 3]],
-    tables: &[StepCosts],
-    start: usize,
-    row: &mut [u128],
-    earlier: &mut [u128],
-) -> u128
-    requires places { length values.now ≤ 64 }
+/// The least key of a path through all places from the start state that ends there.
+fn key_from(values: &[[i32; 3]], tables: &[StepCosts], bits: &mut [StepBits], start: usize) -> u128
+    requires low { 6 ≤ length values.now }
+    requires high { length values.now ≤ 64 }
     requires tables { length values.now ≤ length tables.now }
+    requires bits { length values.now ≤ length bits.old }
     requires costs { HaveCosts values.now tables.now (length values.now) }
     requires start { start < 64 }
-    requires states { length row.old ≡ 64 }
-    requires earlier { length earlier.old ≡ 64 }
-    ensures { IsLeastKeyFrom values.now start result }
+    ensures bound { IsBound values.now start result }
+    ensures reached { IsKeyOrFar values.now result }
 {
-    fill_ends(start, row);
-    let mut bit: u128 = 1;
-    let mut i = values.len();
-    while i > 0 {
-        i -= 1;
-        step_back(&tables[i], bit, row, earlier);
-        row.copy_from_slice(earlier);
-        bit *= 2;
-    }
-    row[start]
+    let row = pass(values, tables, &ends_at(start), bits);
+    let (word, _) = walk(bits, values.len(), start);
+    key_of(row[start], word)
 }
 
-/// The least key of a path from any start state back to it.
-fn least_of_starts(
+/// Writes the key of the least path from each state, wherever it ends. The answer is the least key of those that end in
+/// the state where they start: these are the keys of words.
+fn fill_bounds(
     values: &[[i32; 3]],
     tables: &[StepCosts],
-    row: &mut [u128],
-    earlier: &mut [u128],
+    bits: &mut [StepBits],
+    bounds: &mut [u128; 64],
 ) -> u128
-    requires places { length values.now ≤ 64 }
+    requires low { 6 ≤ length values.now }
+    requires high { length values.now ≤ 64 }
     requires tables { length values.now ≤ length tables.now }
+    requires bits { length values.now ≤ length bits.old }
     requires costs { HaveCosts values.now tables.now (length values.now) }
-    requires states { length row.old ≡ 64 }
-    requires earlier { length earlier.old ≡ 64 }
-    ensures { IsLeastKeyBelow values.now 64 result }
+    ensures bounds { AreBounds values.now bounds.new }
+    ensures reached { IsKeyOrFar values.now result }
 {
-    let mut least = least_key(values, tables, 0, row, earlier);
-    for start in 1..STATES {
-        least = least.min(least_key(values, tables, start, row, earlier));
+    let row = pass(values, tables, &free_ends(), bits);
+    let mut least = key_of(FAR, 0);
+    for start in 0..STATES {
+        let (word, end) = walk(bits, values.len(), start);
+        let key = key_of(row[start], word);
+        bounds[start] = key;
+        if end == start {
+            least = least.min(key);
+        }
     }
     least
 }
 
-/// The least key of a path from any start state back to it, by the costs of all steps, which are made once.
-fn least_round(values: &[[i32; 3]], work: &mut Trellis) -> u128
-    requires places { length values.now ≤ 64 }
+/// A state of least bound.
+fn state_of_least(bounds: &[u128; 64]) -> usize
+    ensures state { result < 64 }
+    ensures least { (x : ℕ) → x < 64 → slice_index bounds.now result ≤ slice_index bounds.now x }
+{
+    let mut least = 0;
+    for x in 1..STATES {
+        if bounds[x] < bounds[least] {
+            least = x;
+        }
+    }
+    least
+}
+
+/// The least key of a word.
+fn least_key(values: &[[i32; 3]], tables: &[StepCosts], bits: &mut [StepBits]) -> u128
+    requires low { 6 ≤ length values.now }
+    requires high { length values.now ≤ 64 }
     requires sizes { RowsWithin (2 ^ 20) values.now }
-    ensures { IsLeastKeyBelow values.now 64 result }
+    requires tables { length values.now ≤ length tables.now }
+    requires bits { length values.now ≤ length bits.old }
+    requires costs { HaveCosts values.now tables.now (length values.now) }
+    ensures { IsLeastKey values.now result }
+{
+    let mut bounds = [0; STATES];
+    let mut least = fill_bounds(values, tables, bits, &mut bounds);
+    let mut start = state_of_least(&bounds);
+    while bounds[start] < least {
+        let key = key_from(values, tables, bits, start);
+        bounds[start] = key;
+        least = least.min(key);
+        start = state_of_least(&bounds);
+    }
+    least
+}
+
+/// The least key of a word, by the costs of all steps, which are made once.
+fn least_of_words(values: &[[i32; 3]], work: &mut Trellis) -> u128
+    requires low { 6 ≤ length values.now }
+    requires high { length values.now ≤ 64 }
+    requires sizes { RowsWithin (2 ^ 20) values.now }
+    ensures { IsLeastKey values.now result }
 {
     fill_costs(values, &mut work.tables);
-    least_of_starts(values, &work.tables, &mut work.row, &mut work.earlier)
+    least_key(values, &work.tables, &mut work.bits)
 }
 
 /// The least word and its cost: no word of N bits costs less by these values, and each that stands before
@@ -137,6 +153,6 @@ pub fn least<const N: usize>(values: &[[i32; 3]; N], work: &mut Trellis) -> (Bit
     ensures word { IsLeastWord values.now result.0 }
     ensures cost { result.1 ≡ word_cost values.now result.0 }
 {
-    let key = least_round(values, work);
+    let key = least_of_words(values, work);
     (Bits::of_number((key % SCALE) as u64), (key / SCALE) as u32)
 }

@@ -3,30 +3,24 @@
 ghost use Rattle.std.specs.Prelude.{◌≡◌, vec_len};
 
 use crate::costs::StepCosts;
+use crate::passes::StepBits;
 use std::alloc::{AllocError, Global};
 
-/// The working memory of a search, for words of every length: two rows of the least keys
-/// from each state, and the costs of the steps of each place.
+/// The working memory of a search, for words of every length: for each of up to 64 places the costs of its steps, and
+/// the bits with which the least costs from its states begin.
 #[derive(Drop)]
 pub struct Trellis {
-    pub(crate) row: Vec<u128>,
-    pub(crate) earlier: Vec<u128>,
     pub(crate) tables: Vec<StepCosts>,
-    ghost row_size: { vec_len row ≡ 64 },
-    ghost earlier_size: { vec_len earlier ≡ 64 },
+    pub(crate) bits: Vec<StepBits>,
     ghost tables_size: { vec_len tables ≡ 64 },
+    ghost bits_size: { vec_len bits ≡ 64 },
 }
 
 impl Trellis {
     /// Takes the memory.
     pub fn new(alloc: Global) -> Result<Trellis, AllocError> {
-        let row = vec![in alloc; 0; 64]?;
-        let earlier = vec![in alloc; 0; 64]?;
-        let tables = vec![in alloc; [0; 128]; 64]?;
-        Ok(Trellis {
-            row,
-            earlier,
-            tables,
-        })
+        let tables = vec![in alloc; [0; 64]; 64]?;
+        let bits = vec![in alloc; [false; 64]; 64]?;
+        Ok(Trellis { tables, bits })
     }
 }

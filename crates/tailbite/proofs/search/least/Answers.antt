@@ -4,13 +4,13 @@ use Rattle.tailbite.proofs.search.least.Goals as goal
 
 pub overflow_cast-result : goal.overflow_cast-result
 overflow_cast-result g c =
-    let read = decoded_array g.row.N _ _ _ c.told-values c.least_round-key.ensures c.requires.low c.requires.high c.requires.sizes c.of_number.ensures.word in
+    let read = decoded_array g.row.N _ _ _ c.told-values c.least_of_words-key.ensures c.requires.high c.requires.sizes c.of_number.ensures.word in
     omega (arith, read.small)
 
 pub returns-clause-word : goal.returns-clause-word
 returns-clause-word g c =
-    (decoded_array g.row.N _ _ _ c.told-values c.least_round-key.ensures c.requires.low c.requires.high c.requires.sizes c.of_number.ensures.word).word_is
+    (decoded_array g.row.N _ _ _ c.told-values c.least_of_words-key.ensures c.requires.high c.requires.sizes c.of_number.ensures.word).word_is
 
 pub returns-clause-cost : goal.returns-clause-cost
 returns-clause-cost g c =
-    (decoded_array g.row.N _ _ _ c.told-values c.least_round-key.ensures c.requires.low c.requires.high c.requires.sizes c.of_number.ensures.word).cost_is
+    (decoded_array g.row.N _ _ _ c.told-values c.least_of_words-key.ensures c.requires.high c.requires.sizes c.of_number.ensures.word).cost_is

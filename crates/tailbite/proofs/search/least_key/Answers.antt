@@ -1,23 +1,26 @@
-use Rattle.std.proofs.Common.{◌≡◌, suc, ◌-◌, length, arith, ◌∙◌}
-use Rattle.tailbite.proofs.Rows.{row_end, row_step, row_start, by_costs}
+use Rattle.std.proofs.Common.{◌<◌, length, length-set, arith}
+use Rattle.std.proofs.Math.Nat.{min-le_left, min-le_right}
+use Rattle.paths.proofs.Rows.{fewer_below}
+use Rattle.tailbite.proofs.Keys.{bounds_with, least_or_far, no_bound_below}
 use Rattle.tailbite.proofs.search.least_key.Goals as goal
 
-pub loop-i-init : goal.loop-i-init
-loop-i-init c =
-    let size : length c.fill_ends.new.row ≡ 64 = omega arith in
-    row_end _ _ _ size c.fill_ends.ensures
+pub loop-bounds-preserved : goal.loop-bounds-preserved
+loop-bounds-preserved c = record {
+  count = simp length-set c.loop-bounds.invariant.count;
+  bounds = bounds_with _ _ _ _ (omega (arith, c.loop-bounds.invariant.count, c.loop-bounds.invariant.state)) c.loop-bounds.invariant.bounds c.key_from-key.ensures.bound;
+  reached = rw c.min-least.ensures (least_or_far _ _ _ c.loop-bounds.invariant.reached c.key_from-key.ensures.reached);
+  state = c.state_of_least-start-in-loop-bounds.ensures.state;
+  least = c.state_of_least-start-in-loop-bounds.ensures.least;
+}
 
-pub step_back-requires-clause-small : goal.step_back-requires-clause-small
-step_back-requires-clause-small c y below = (c.requires.costs.place (c.loop-i.i - 1) (omega (arith, c.loop-i.invariant.place, c.loop-i-test.true))).small y below
-
-pub loop-i-preserved : goal.loop-i-preserved
-loop-i-preserved c =
-    let e : c.loop-i.i ≡ suc (c.loop-i.i - 1) = omega arith in
-    let size : length c.step_back.new.earlier ≡ 64 = omega arith in
-    let costs = c.requires.costs.place (c.loop-i.i - 1) (omega (arith, c.loop-i.invariant.place, c.loop-i-test.true)) in
-    rw c.copy_from_slice.ensures.after
-    (row_step _ _ _ _ _ (c.loop-i.i - 1) (rw (← e) c.loop-i.invariant) size
-    (λ x below. c.step_back.ensures.row x below ∙ by_costs _ _ c.loop-i.row c.loop-i.bit x costs below) c.step_back.ensures.growth)
+pub loop-bounds-smaller : goal.loop-bounds-smaller
+loop-bounds-smaller c =
+    let inside : c.loop-bounds.start < length c.loop-bounds.bounds = omega (arith, c.loop-bounds.invariant.count, c.loop-bounds.invariant.state) in
+    let no_more = min-le_left c.loop-bounds.least c.key_from-key.result in
+    let now = min-le_right c.loop-bounds.least c.key_from-key.result in
+    rw c.min-least.ensures (fewer_below _ _ _ _ _ inside c.loop-bounds-test.true no_more now)
 
 pub returns : goal.returns
-returns c = row_start _ _ _ _ _ c.loop-i.invariant c.loop-i-test.false c.requires.start
+returns c =
+    no_bound_below _ _ _ _ c.requires.high c.requires.sizes c.loop-bounds.invariant.bounds c.loop-bounds.invariant.least c.loop-bounds-test.false
+    c.loop-bounds.invariant.reached

@@ -1,0 +1,116 @@
+-- The coded bits of the steps by their numbers.
+use Rattle.std.proofs.Common.{◌≡◌, ◌≢◌, ℕ, ◌+◌, ◌-◌, ◌*◌, ◌/◌, ◌^◌, ◌<◌, ◌≤◌, Bool, true, false, cond, List, length, map, get_or, set, ℤ, inl, inr, refl, ap, sym, ◌∙◌, arith, length-set, get_or-set_other, get_or-set_same}
+use Rattle.std.specs.Prelude.{◌&&◌, nat_lt}
+use Rattle.std.specs.Bool.{beq}
+use Rattle.std.proofs.lemmas.Bool.{and_parts, cases_lt, ltb-true}
+use Rattle.finite.specs.Bits.{odd, xor}
+use Rattle.finite.specs.Tests.{every_below}
+use Rattle.finite.proofs.Tests.{every_below_at}
+use Rattle.paths.proofs.Rows.{row_more}
+use Rattle.conv_code.specs.Code.{parity, taps_0, taps_1, taps_2}
+use Rattle.conv_code.specs.Cost.{triple_cost}
+use Rattle.tailbite.specs.Machine.{window_bit, branch_cost}
+use Rattle.tailbite.specs.Costs.{even_codes, code_cost, AreCosts}
+
+-- the number of the coded bits of the step from x by b
+abbrev code_of : ℕ → Bool → ℕ
+code_of x b = cond (xor b (odd x)) (7 - get_or even_codes (x / 2) 0) (get_or even_codes (x / 2) 0)
+
+-- it has the three coded bits
+abbrev tells_bits : ℕ → Bool → Bool
+tells_bits x b =
+    beq (parity (map (window_bit x b) taps_0)) (odd (code_of x b / 4)) &&
+    (beq (parity (map (window_bit x b) taps_1)) (odd (code_of x b / 2)) && beq (parity (map (window_bit x b) taps_2)) (odd (code_of x b)))
+
+unfoldable code_test : ℕ → Bool
+code_test x = tells_bits x false && tells_bits x true
+
+all_codes : every_below 64 code_test ≡ true
+unfolding every_below code_test even_codes
+all_codes = refl
+
+same_bit : (a b : Bool) → beq a b ≡ true → a ≡ b
+same_bit true true e = refl
+same_bit false false e = refl
+same_bit true false e = sym e
+same_bit false true e = e
+
+told_bits : (x : ℕ) (b : Bool) → x < 64 → tells_bits x b ≡ true
+unfolding code_test
+told_bits x false below = (and_parts _ _ (every_below_at 64 code_test all_codes x below)).0
+told_bits x true below = (and_parts _ _ (every_below_at 64 code_test all_codes x below)).1
+
+same_cost : (v : List ℤ) (a a' b b' c c' : Bool) → a ≡ a' → b ≡ b' → c ≡ c' → triple_cost v a b c ≡ triple_cost v a' b' c'
+same_cost v a a' b b' c c' p q r = rw (p, q, r) refl
+
+branch_by_code : (v : List ℤ) (x : ℕ) (b : Bool) → x < 64 → branch_cost v x b ≡ code_cost v (code_of x b)
+branch_by_code v x b below =
+    let told = and_parts _ _ (told_bits x b below) in
+    let rest = and_parts _ _ told.1 in
+    same_cost v _ _ _ _ _ _ (same_bit _ _ told.0) (same_bit _ _ rest.0) (same_bit _ _ rest.1)
+
+small_test : ℕ → Bool
+small_test h = nat_lt (get_or even_codes h 0) 8
+
+all_small : every_below 32 small_test ≡ true
+unfolding every_below small_test even_codes
+all_small = refl
+
+pub code_below : (h : ℕ) → h < 32 → get_or even_codes h 0 < 8
+unfolding small_test
+code_below h below = ltb-true _ _ (every_below_at 32 small_test all_small h below)
+
+-- ---- the table of a place
+
+-- what it has for the pairs of states below h
+pub record HasPairs (v : List ℤ) (costs : List ℕ) (h : ℕ) : Type 0 where
+  pub size : length costs ≡ 64
+  pub former : (k : ℕ) → k < h → get_or costs k 0 ≡ code_cost v (get_or even_codes k 0)
+  pub latter : (k : ℕ) → k < h → get_or costs (k + 32) 0 ≡ code_cost v (7 - get_or even_codes k 0)
+  pub former_small : (k : ℕ) → k < h → get_or costs k 0 ≤ 3 * 2 ^ 20
+  pub latter_small : (k : ℕ) → k < h → get_or costs (k + 32) 0 ≤ 3 * 2 ^ 20
+
+pub pairs_more : (v : List ℤ) (costs : List ℕ) (h code a b : ℕ) → code ≡ get_or even_codes h 0 → a ≡ code_cost v code → b ≡ code_cost v (7 - code) →
+    a ≤ 3 * 2 ^ 20 → b ≤ 3 * 2 ^ 20 → h < 32 → HasPairs v costs h → HasPairs v (set (set costs h a) (h + 32) b) (h + 1)
+pairs_more v costs h code a b is a_is b_is a_small b_small inside known = record {
+  size = length-set (set costs h a) (h + 32) b ∙ length-set costs h a ∙ known.size;
+  former = λ k below. at_first (λ k n. n ≡ code_cost v (get_or even_codes k 0)) known.former (a_is ∙ ap (code_cost v) is) k below;
+  latter = λ k below. at_second (λ k n. n ≡ code_cost v (7 - get_or even_codes k 0)) known.latter (b_is ∙ ap (λ p. code_cost v (7 - p)) is) k below;
+  former_small = λ k below. at_first (λ k n. n ≤ 3 * 2 ^ 20) known.former_small a_small k below;
+  latter_small = λ k below. at_second (λ k n. n ≤ 3 * 2 ^ 20) known.latter_small b_small k below;
+}
+  where
+    at_first : (P : ℕ → ℕ → Type 0) → ((k : ℕ) → k < h → P k (get_or costs k 0)) → P h a →
+        (k : ℕ) → k < h + 1 → P k (get_or (set (set costs h a) (h + 32) b) k 0)
+    at_first P before here k below =
+        let apart : k ≢ h + 32 = omega (arith, below, inside) in
+        let size = known.size in
+        rw (get_or-set_other (set costs h a) (h + 32) k b 0 apart) (row_more P costs h a (omega (arith, inside, size)) before here k below)
+
+    at_second : (P : ℕ → ℕ → Type 0) → ((k : ℕ) → k < h → P k (get_or costs (k + 32) 0)) → P h b →
+        (k : ℕ) → k < h + 1 → P k (get_or (set (set costs h a) (h + 32) b) (k + 32) 0)
+    at_second P before here k below = elim (cases_lt k h) [
+      | inl less ↦
+          let apart : k + 32 ≢ h + 32 = omega (arith, less) in
+          let apart' : k + 32 ≢ h = omega (arith, inside) in
+          rw (get_or-set_other (set costs h a) (h + 32) (k + 32) b 0 apart, get_or-set_other costs h (k + 32) a 0 apart') (before k less)
+      | inr no_less ↦
+          let e : k ≡ h = omega (arith, below, no_less) in
+          let size = length-set costs h a in
+          let size' = known.size in
+          rw (e, get_or-set_same (set costs h a) (h + 32) b 0 (omega (arith, size, size', inside))) here
+    ]
+
+half_cost : (v : List ℤ) (costs : List ℕ) (h : ℕ) (t : Bool) → HasPairs v costs 32 → h < 32 →
+    get_or costs (h + cond t 32 0) 0 ≡ code_cost v (cond t (7 - get_or even_codes h 0) (get_or even_codes h 0))
+half_cost v costs h false pairs below = let e : h + 0 ≡ h = omega arith in rw e (pairs.former h below)
+half_cost v costs h true pairs below = pairs.latter h below
+
+pub costs_by_pairs : (v : List ℤ) (costs : List ℕ) → HasPairs v costs 32 → AreCosts v costs
+costs_by_pairs v costs pairs = record {
+  cost = λ x b below. half_cost v costs (x / 2) (xor b (odd x)) pairs (omega (arith, below)) ∙ sym (branch_by_code v x b below);
+  small = λ y below. elim (cases_lt y 32) [
+    | inl low ↦ pairs.former_small y low
+    | inr high ↦ let e : y - 32 + 32 ≡ y = omega (arith, high) in rw e at (pairs.latter_small (y - 32) (omega (arith, below)))
+  ];
+}

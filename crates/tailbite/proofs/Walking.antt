@@ -1,0 +1,58 @@
+-- A walk over rows of bits, kept by its loop.
+use Rattle.std.proofs.Common.{◌≡◌, ℕ, suc, ◌+◌, ◌-◌, ◌*◌, ◌^◌, ◌<◌, ◌≤◌, Bool, true, false, cond, List, refl, sym, ◌∙◌, arith}
+use mir.Val.{bool_byte}
+use Rattle.std.proofs.Math.Nat.{pow-suc}
+use Rattle.cs_bits.specs.Numbers.{number}
+use Rattle.paths.specs.Paths.{end_of, walked}
+use Rattle.paths.proofs.Walks.{length-walked}
+use Rattle.tailbite.specs.Machine.{shift}
+use Rattle.tailbite.specs.Passes.{bit_in}
+use Rattle.tailbite.proofs.Windows.{shift_below}
+
+-- after k of n bits: the number of these, the state that they lead to, and that the whole walk goes on from there
+pub record IsWalkAt (bits : List (List Bool)) (n start k word state : ℕ) : Type 0 where
+  pub state_below : state < 64
+  pub small : word < 2 ^ k
+  pub word_is : number (walked shift (bit_in bits) 0 n start) ≡ word * 2 ^ (n - k) + number (walked shift (bit_in bits) k (n - k) state)
+  pub end_is : end_of shift start (walked shift (bit_in bits) 0 n start) ≡ end_of shift state (walked shift (bit_in bits) k (n - k) state)
+
+pub walk_begins : (bits : List (List Bool)) (n start : ℕ) → start < 64 → IsWalkAt bits n start 0 0 start
+walk_begins bits n start below =
+    let all : n - 0 ≡ n = omega arith in
+    record {
+      state_below = below;
+      small = omega arith;
+      word_is = rw all (let e : number (walked shift (bit_in bits) 0 n start) ≡ 0 * 2 ^ n + number (walked shift (bit_in bits) 0 n start) = omega arith in e);
+      end_is = rw all refl;
+    }
+
+shifted : (word m size : ℕ) (b : Bool) (rest : ℕ) → size ≡ m → word * 2 ^ suc m + (cond b (2 ^ size) 0 + rest) ≡ (2 * word + bool_byte b) * 2 ^ m + rest
+shifted word m size false rest e = let p = pow-suc 2 m in rw p (let h : word * (2 ^ m * 2) + (0 + rest) ≡ (2 * word + 0) * 2 ^ m + rest = grind arith in h)
+shifted word m size true rest e = let p = pow-suc 2 m in rw (p, e) (let h : word * (2 ^ m * 2) + (2 ^ m + rest) ≡ (2 * word + 1) * 2 ^ m + rest = grind arith in h)
+
+bit_small : (word k : ℕ) (b : Bool) → word < 2 ^ k → 2 * word + bool_byte b < 2 ^ suc k
+bit_small word k false h = let p = pow-suc 2 k in omega (arith, p, h)
+bit_small word k true h = let p = pow-suc 2 k in omega (arith, p, h)
+
+pub walk_more : (bits : List (List Bool)) (n start k word state : ℕ) → k < n → IsWalkAt bits n start k word state →
+    IsWalkAt bits n start (k + 1) (2 * word + bool_byte (bit_in bits k state)) (shift state (bit_in bits k state))
+walk_more bits n start k word state inside known =
+    let one : k + 1 ≡ suc k = omega arith in
+    let left : n - k ≡ suc (n - suc k) = omega (arith, inside) in
+    let b = bit_in bits k state in
+    rw one (record {
+      state_below = shift_below state b known.state_below;
+      small = bit_small word k b known.small;
+      word_is =
+          (rw left at known.word_is)
+          ∙ shifted word (n - suc k) _ b _ (length-walked shift (bit_in bits) (suc k) (n - suc k) (shift state b));
+      end_is = rw left at known.end_is;
+    })
+
+pub walk_ends : (bits : List (List Bool)) (n start k word state : ℕ) → n ≤ k → IsWalkAt bits n start k word state →
+    (word ≡ number (walked shift (bit_in bits) 0 n start)) × (state ≡ end_of shift start (walked shift (bit_in bits) 0 n start))
+walk_ends bits n start k word state done known =
+    let none : n - k ≡ 0 = omega (arith, done) in
+    let w = rw none at known.word_is in
+    let e = rw none at known.end_is in
+    (omega (arith, w), sym e)

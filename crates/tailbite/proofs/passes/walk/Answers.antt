@@ -1,0 +1,5 @@
+use Rattle.tailbite.proofs.Walking.{walk_more}
+use Rattle.tailbite.proofs.passes.walk.Goals as goal
+
+pub loop-k-preserved : goal.loop-k-preserved
+loop-k-preserved c = rw c.next-state.ensures.next (walk_more _ _ _ _ _ _ c.loop-k-test.true c.loop-k.invariant)

@@ -1,0 +1,5 @@
+use Rattle.tailbite.proofs.Walking.{IsWalkAt}
+use Rattle.tailbite.proofs.passes.walk.Given as goal
+
+abbrev pub invariant-loop-k : goal.invariant-loop-k
+invariant-loop-k l = IsWalkAt l.bits l.count l.start l.k l.word l.state
