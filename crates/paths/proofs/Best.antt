@@ -4,7 +4,6 @@ use Rattle.std.specs.Prelude.{min}
 use Rattle.std.proofs.lemmas.Bool.{cases_lt}
 use Rattle.std.proofs.Math.Nat.{min-eq_left, min-eq_right}
 use Rattle.paths.specs.Paths.{end_of, path_cost, best}
-use Rattle.paths.specs.Least.{IsLeastFrom}
 
 pub min_cases : (a b : ℕ) → (min a b ≡ a) ⊎ (min a b ≡ b)
 min_cases a b = elim (cases_lt b a) [ inl h ↦ inr (min-eq_right (omega arith)) | inr h ↦ inl (min-eq_left h) ]
@@ -25,9 +24,3 @@ best_reached next c ends k (suc n) x =
       | inl e ↦ let (bs, size, reached) = best_reached next c ends (suc k) n (next x false) in (false ∷ bs, ap suc size, omega arith)
       | inr e ↦ let (bs, size, reached) = best_reached next c ends (suc k) n (next x true) in (true ∷ bs, ap suc size, omega arith)
     ]
-
-pub best_is_least : (next : ℕ → Bool → ℕ) (c : ℕ → ℕ → Bool → ℕ) (ends : ℕ → ℕ) (k n x : ℕ) → IsLeastFrom next c ends k n x (best next c ends k n x)
-best_is_least next c ends k n x = record {
-  reached = best_reached next c ends k n x;
-  least = λ bs size. rw size at (best-le next c ends k x bs);
-}

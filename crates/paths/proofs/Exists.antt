@@ -32,8 +32,9 @@ begins_with_1 n cost u w a b lower = record { size = let s = b.size in omega (ar
     first (false ∷ v) size before = let h = a.least v (omega (arith, size)) in omega (arith, lower, h)
     first (true ∷ v) size before = b.first v (omega (arith, size)) before
 
-pub some_first_least : (n : ℕ) (cost : List Bool → ℕ) → (word : List Bool) × IsFirstLeast n cost word
-some_first_least zero cost = ([], record { size = refl; least = least; first = first })
+-- of the words of no bits it is the only one
+pub first_of_none : (cost : List Bool → ℕ) → IsFirstLeast 0 cost []
+first_of_none cost = record { size = refl; least = least; first = first }
   where
     least : (other : List Bool) → length other ≡ 0 → cost [] ≤ cost other
     least [] size = omega arith
@@ -42,6 +43,9 @@ some_first_least zero cost = ([], record { size = refl; least = least; first = f
     first : (other : List Bool) → length other ≡ 0 → IsBefore other [] → cost [] < cost other
     first [] size before = absurd before
     first (b ∷ v) size before = absurd before
+
+pub some_first_least : (n : ℕ) (cost : List Bool → ℕ) → (word : List Bool) × IsFirstLeast n cost word
+some_first_least zero cost = ([], first_of_none cost)
 some_first_least (suc n) cost =
     let (u, a) = some_first_least n (λ v. cost (false ∷ v)) in
     let (w, b) = some_first_least n (λ v. cost (true ∷ v)) in

@@ -1,10 +1,10 @@
--- A walk by the bits of least costs is the first of the words that cost least.
-use Rattle.std.proofs.Common.{◌≡◌, ℕ, zero, suc, ◌+◌, ◌<◌, ◌≤◌, inl, inr, Bool, true, false, List, [], ◌∷◌, length, refl, ap, ◌∙◌, arith}
+-- A walk by the bits with which least costs begin.
+use Rattle.std.proofs.Common.{◌≡◌, ℕ, zero, suc, ◌+◌, ◌<◌, inl, inr, Bool, true, false, List, ◌∷◌, length, refl, ap, ◌∙◌, arith}
 use Rattle.std.proofs.lemmas.Bool.{cases_lt, lt-ltb, le-ltb}
 use Rattle.paths.specs.Paths.{end_of, path_cost, best, best_bit, walked}
-use Rattle.paths.specs.Words.{IsBefore, IsFirstLeast}
+use Rattle.paths.specs.Words.{IsFirstLeast}
 use Rattle.paths.proofs.Best.{best-le, best_reached}
-use Rattle.paths.proofs.Exists.{begins_with_0, begins_with_1}
+use Rattle.paths.proofs.Exists.{first_of_none, begins_with_0, begins_with_1}
 
 pub length-walked : (next : ℕ → Bool → ℕ) (choice : ℕ → ℕ → Bool) (k n x : ℕ) → length (walked next choice k n x) ≡ n
 length-walked next choice k zero x = refl
@@ -14,7 +14,7 @@ length-walked next choice k (suc n) x = ap suc (length-walked next choice (suc k
 abbrev whole_cost : (ℕ → Bool → ℕ) → (ℕ → ℕ → Bool → ℕ) → (ℕ → ℕ) → ℕ → ℕ → List Bool → ℕ
 whole_cost next c ends k x bs = path_cost next c k x bs + ends (end_of next x bs)
 
--- the cost of such a word
+-- the first of the words that cost least costs what is best
 pub first_least_is_best : (next : ℕ → Bool → ℕ) (c : ℕ → ℕ → Bool → ℕ) (ends : ℕ → ℕ) (k n x : ℕ) (word : List Bool) →
     IsFirstLeast n (λ bs. path_cost next c k x bs + ends (end_of next x bs)) word →
     path_cost next c k x word + ends (end_of next x word) ≡ best next c ends k n x
@@ -39,22 +39,13 @@ with_first : (next : ℕ → Bool → ℕ) (c : ℕ → ℕ → Bool → ℕ) (e
 with_first next c ends k m x b word known =
     more_for_all m (c k x b) (whole_cost next c ends (suc k) (next x b)) (λ v. whole_cost next c ends k x (b ∷ v)) word (λ v. omega arith) known
 
+-- each bit is that with which the least cost begins: the walk's word costs least, and those before it cost more
 pub walked_first : (next : ℕ → Bool → ℕ) (c : ℕ → ℕ → Bool → ℕ) (ends : ℕ → ℕ) (choice : ℕ → ℕ → Bool) (limit n : ℕ) →
     ((x : ℕ) (b : Bool) → x < limit → next x b < limit) →
     ((k m x : ℕ) → k + suc m ≡ n → x < limit → choice k x ≡ best_bit next c ends k m x) →
     (k m x : ℕ) → k + m ≡ n → x < limit →
     IsFirstLeast m (λ bs. path_cost next c k x bs + ends (end_of next x bs)) (walked next choice k m x)
-walked_first next c ends choice limit n closed is k zero x size below = record {
-  size = refl;
-  least = λ other none. elim other as (λ v. length v ≡ 0 → whole_cost next c ends k x [] ≤ whole_cost next c ends k x v) [
-    | [] ↦ λ e. omega arith
-    | b ∷ v ↦ λ e. absurd (omega (arith, e))
-  ] none;
-  first = λ other none before. elim other as (λ v. length v ≡ 0 → IsBefore v [] → whole_cost next c ends k x [] < whole_cost next c ends k x v) [
-    | [] ↦ λ e h. absurd h
-    | b ∷ v ↦ λ e h. absurd h
-  ] none before;
-}
+walked_first next c ends choice limit n closed is k zero x size below = first_of_none (whole_cost next c ends k x)
 walked_first next c ends choice limit n closed is k (suc m) x size below =
     let from_0 = walked_first next c ends choice limit n closed is (suc k) m (next x false) (omega (arith, size)) (closed x false below) in
     let from_1 = walked_first next c ends choice limit n closed is (suc k) m (next x true) (omega (arith, size)) (closed x true below) in

@@ -2,11 +2,6 @@
 use Rattle.std.specs.Prelude.{◌≡◌, ℕ, ◌+◌, ◌<◌, ◌≤◌, Bool, cond, List, ◌∷◌, ◌++◌, length, nat_eq}
 use Rattle.paths.specs.Paths.{end_of, path_cost}
 
--- m is the least cost of n steps from place k and state x, with what their end costs
-pub record IsLeastFrom (next : ℕ → Bool → ℕ) (c : ℕ → ℕ → Bool → ℕ) (ends : ℕ → ℕ) (k n x m : ℕ) : Type 0 where
-  pub reached : (bs : List Bool) × (length bs ≡ n) × (path_cost next c k x bs + ends (end_of next x bs) ≡ m)
-  pub least : (bs : List Bool) → length bs ≡ n → m ≤ path_cost next c k x bs + ends (end_of next x bs)
-
 -- m is the least cost of k steps that end in x, with what their start costs
 pub record IsLeastTo (next : ℕ → Bool → ℕ) (c : ℕ → ℕ → Bool → ℕ) (starts : ℕ → ℕ) (limit k x m : ℕ) : Type 0 where
   pub reached : (y : ℕ) × (bs : List Bool) × (y < limit) × (length bs ≡ k) × (end_of next y bs ≡ x) × (starts y + path_cost next c 0 y bs ≡ m)

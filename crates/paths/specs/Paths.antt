@@ -17,10 +17,12 @@ best next c ends k zero x = ends x
 best next c ends k (suc n) x =
     min (c k x false + best next c ends (suc k) n (next x false)) (c k x true + best next c ends (suc k) n (next x true))
 
--- the bit with which the least cost of n + 1 steps from place k and state x begins: 1 only where it then is less
+-- the bit with which the least cost of n + 1 steps from place k and state x begins: 1 only where it then is less,
+-- since the word that begins with 0 stands first
 abbrev pub best_bit : (ℕ → Bool → ℕ) → (ℕ → ℕ → Bool → ℕ) → (ℕ → ℕ) → ℕ → ℕ → ℕ → Bool
 best_bit next c ends k n x =
-    nat_lt (c k x true + best next c ends (suc k) n (next x true)) (c k x false + best next c ends (suc k) n (next x false))
+    nat_lt (c k x true + best next c ends (suc k) n (next x true))
+    (c k x false + best next c ends (suc k) n (next x false))
 
 -- the word of n bits from place k and state x, where each bit is chosen by its place and state
 abbrev pub walked : (ℕ → Bool → ℕ) → (ℕ → ℕ → Bool) → ℕ → ℕ → ℕ → List Bool

@@ -13,7 +13,8 @@ least_out next edge row x = min (edge x false + slice_index row (next x false)) 
 
 -- the bit with which it begins: 1 only where it then is less
 abbrev pub bit_out : (ℕ → Bool → ℕ) → (ℕ → Bool → ℕ) → List ℕ → ℕ → Bool
-bit_out next edge row x = nat_lt (edge x true + slice_index row (next x true)) (edge x false + slice_index row (next x false))
+bit_out next edge row x =
+    nat_lt (edge x true + slice_index row (next x true)) (edge x false + slice_index row (next x false))
 
 -- the row has the least cost of k steps to each state below the limit, with what their start costs; that is at most
 -- `first`, and a step adds at most `most`

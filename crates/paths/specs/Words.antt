@@ -17,7 +17,7 @@ pub record IsFirstLeast (n : ℕ) (cost : List Bool → ℕ) (word : List Bool) 
   pub least : (other : List Bool) → length other ≡ n → cost word ≤ cost other
   pub first : (other : List Bool) → length other ≡ n → IsBefore other word → cost word < cost other
 
--- a word's cost at a scale and its number in one: where the scale is above the numbers of all words, the least key is that
--- of the first of the words that cost least
+-- a word's cost at a scale and its number in one: where the scale is above the numbers of all words, the least key is
+-- that of the first of the words that cost least
 abbrev pub key : ℕ → (List Bool → ℕ) → List Bool → ℕ
 key scale cost word = cost word * scale + number word

@@ -4,7 +4,8 @@ use Rattle.finite.specs.Bits.{odd, xor}
 use Rattle.conv_code.specs.Cost.{triple_cost}
 use Rattle.tailbite.specs.Machine.{shift, branch_cost}
 
--- the coded bits of the steps by 0 from the even states, in order, each three as a number: the first stream's bit weighs 4
+-- the coded bits of the steps by 0 from the even states, in order, as numbers of three bits: the first stream's bit
+-- weighs 4
 unfoldable pub even_codes : List ℕ
 even_codes =
     0 ∷ 4 ∷ 1 ∷ 5 ∷ 6 ∷ 2 ∷ 7 ∷ 3 ∷ 7 ∷ 3 ∷ 6 ∷ 2 ∷ 1 ∷ 5 ∷ 0 ∷ 4 ∷
@@ -14,8 +15,8 @@ even_codes =
 abbrev pub code_cost : List ℤ → ℕ → ℕ
 code_cost v p = triple_cost v (odd (p / 4)) (odd (p / 2)) (odd p)
 
--- what the table says of the step from state x by the bit b. The steps from 2h by 0 and from 2h + 1 by 1 have the same coded
--- bits, and those from 2h by 1 and from 2h + 1 by 0 the opposite ones: place h has the cost of the former, 32 + h of the latter
+-- what the table says of the step from state x by the bit b: it has the cost of those from 2h by 0 and from 2h + 1
+-- by 1, which have the same coded bits, at h, and of those from 2h by 1 and from 2h + 1 by 0 at h + 32
 abbrev pub cost_in : List ℕ → ℕ → Bool → ℕ
 cost_in costs x b = slice_index costs (shift x (xor b (odd x)))
 

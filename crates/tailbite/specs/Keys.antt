@@ -23,13 +23,14 @@ IsWordKey values m = (word : List Bool) × (length word ≡ length values) × (w
 
 -- no word whose path starts in state s, and so ends there, has a key below m
 abbrev pub IsBound : List (List ℤ) → ℕ → ℕ → Type 0
-IsBound values s m = (word : List Bool) → length word ≡ length values → end_of shift 0 word ≡ s → m ≤ word_key values word
+IsBound values s m =
+    (word : List Bool) → length word ≡ length values → end_of shift 0 word ≡ s → m ≤ word_key values word
 
 -- the row has such a bound for each state
 pub record AreBounds (values : List (List ℤ)) (bounds : List ℕ) : Type 0 where
   pub bound : (s : ℕ) → s < 64 → IsBound values s (slice_index bounds s)
 
--- m is the key of a word, or no less than that of an end that is far
+-- where m is below the keys of far ends, it is the key of a word
 abbrev pub IsKeyOrFar : List (List ℤ) → ℕ → Type 0
 IsKeyOrFar values m = m < far * scale → IsWordKey values m
 

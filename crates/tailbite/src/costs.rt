@@ -6,11 +6,12 @@ ghost use Rattle.tailbite.specs.Costs.{AreCosts, HaveCosts, code_cost, even_code
 
 use conv_code::against;
 
-/// The costs of a place's steps: at h that of the steps from state 2h by 0 and from 2h + 1 by 1, which have the same
-/// coded bits, and at 32 + h that of the steps from 2h by 1 and from 2h + 1 by 0, which have the opposite ones.
+/// The costs of a place's steps: at h that of the steps from state 2h by 0 and from 2h + 1 by 1, which have the
+/// same coded bits, and at h + 32 that of the steps from 2h by 1 and from 2h + 1 by 0, which have the opposite ones.
 pub(crate) type StepCosts = [u32; 64];
 
-/// The coded bits of the steps by 0 from the even states, in order, as numbers of three bits, the first stream's highest.
+/// The coded bits of the steps by 0 from the even states, in order, as numbers of three bits: the first
+/// stream's bit weighs 4.
 const EVEN_CODES: [usize; 32] = [
     0, 4, 1, 5, 6, 2, 7, 3, 7, 3, 6, 2, 1, 5, 0, 4, 3, 7, 2, 6, 5, 1, 4, 0, 4, 0, 5, 1, 2, 6, 3, 7,
 ];

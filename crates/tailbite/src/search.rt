@@ -1,9 +1,8 @@
-//! The search for the least key, over the states in which a word may start and end. A key is the cost of a word times
-//! 2^64 plus its number: it tells words of equal cost apart, and the least key is that of the least word.
+//! The search for the least key, over the states in which a word may start and end. A key is the cost of a word
+//! times 2^64 plus its number: it tells words of equal cost apart, and the least key is that of the least word.
 //!
-//! One pass with every end free gives each start state a bound that no word from there passes below: the key of the least
-//! path from it, wherever that ends. Then the start states are searched in order of their bounds, until no bound is below
-//! the least key that was found.
+//! A pass with every end free gives each start state a bound: the key of the least path from it, wherever that ends.
+//! The start states are then searched in order of their bounds, until none is below the least key that was found.
 
 ghost use Rattle.std.specs.Prelude.{◌≡◌, ℕ, ◌+◌, ◌*◌, ◌^◌, ◌<◌, ◌≤◌, length, slice_index};
 ghost use Rattle.finite.specs.Sizes.{RowsWithin};
@@ -67,8 +66,8 @@ fn key_from(values: &[[i32; 3]], tables: &[StepCosts], bits: &mut [StepBits], st
     key_of(row[start], word)
 }
 
-/// Writes the key of the least path from each state, wherever it ends. The answer is the least key of those that end in
-/// the state where they start: these are the keys of words.
+/// Writes the key of the least path from each state, wherever it ends. The answer is the least key of those paths
+/// that end where they start, which are the paths of words; where none does, it is the key of a far end.
 fn fill_bounds(
     values: &[[i32; 3]],
     tables: &[StepCosts],
@@ -124,6 +123,7 @@ fn least_key(values: &[[i32; 3]], tables: &[StepCosts], bits: &mut [StepBits]) -
     let mut least = fill_bounds(values, tables, bits, &mut bounds);
     let mut start = state_of_least(&bounds);
     while bounds[start] < least {
+        // The least key from a state is its best bound, and it is not below the least one any more.
         let key = key_from(values, tables, bits, start);
         bounds[start] = key;
         least = least.min(key);

@@ -173,6 +173,34 @@ fn words_of_the_lengths_in_use_agree_with_a_second_program(rt: HostRuntime) -> R
 }
 
 #[test]
+fn the_longest_words_agree_with_a_second_program(rt: HostRuntime) -> Result<(), Fail> {
+    let mut work = Trellis::new(rt.alloc())?;
+    let work = &mut work;
+    for (seed, spread, number, cost) in [
+        (1, 1, 0x0456_fce0_a63b_edf7, 14),
+        (2, 20, 0xe028_3a66_3ece_2459, 304),
+        (5, 100, 0x505c_5cd9_7197_8977, 1444),
+    ] {
+        assert_eq!(rt;
+            answer::<64>(seed, spread, work),
+            (number, cost),
+            "64 bits, {seed}"
+        );
+    }
+    for (seed, spread, number, cost) in [
+        (3, 1, 0x2184_ab01_6cae_74ba, 16),
+        (4, 20, 0x65f5_526e_f1a1_cd32, 229),
+    ] {
+        assert_eq!(rt;
+            answer::<63>(seed, spread, work),
+            (number, cost),
+            "63 bits, {seed}"
+        );
+    }
+    Ok(())
+}
+
+#[test]
 fn longer_cases_agree_with_a_search_of_all_words(rt: HostRuntime) -> Result<(), Fail> {
     let mut work = Trellis::new(rt.alloc())?;
     let work = &mut work;
