@@ -1,6 +1,7 @@
 //! The least word of the tail-biting code: of all words of 6 to 64 bits the one whose coded bits the
 //! received values speak against least, and the first of equals in lexicographic order.
-//! The search goes over the 64 states of the encoder, once for each state that a word may start and end in.
+//! The search goes over the 64 states of the encoder in which a word may start and end, and leaves out those from which
+//! a bound shows that no word is less.
 //! Its steps stand here too: what one costs, the states that it joins, and a row of least costs one step on.
 #![tactic(auto)]
 
