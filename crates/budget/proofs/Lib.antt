@@ -7,7 +7,6 @@ pub mod Causes
 -- Together: what is seen is near 64 times the gain times the amplitude.
 pub mod Seen
 -- The samples of the three primary signals, as a table.
-pub mod Waves
 -- Their sums: power, overlaps with themselves shifted, and edges (finite checks).
 pub mod PeakSums
 -- Two windows of samples that overlap, by Cauchy's inequality.

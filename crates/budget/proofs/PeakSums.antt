@@ -12,7 +12,7 @@ use Rattle.cs_num.specs.Complex.{square}
 use Rattle.sizes.specs.Sizes.{energy_below, correlation_below}
 use Rattle.sizes.proofs.Cauchy.{energy_same, correlation_same}
 use Rattle.pss_search.specs.Correlation.{wave}
-use Rattle.budget.proofs.Waves.{re_25, im_25, re_29, im_29, re_34, im_34, re_of, im_of, samples, wave_is}
+use Rattle.pss_search.proofs.SignalTables.{re_25, im_25, re_29, im_29, re_34, im_34, re_of, im_of, samples, wave_is}
 
 -- A window of 128 samples begins d samples after one that begins 9 samples before a signal. So many of its samples stand before the
 -- signal, so many of the signal's before the window, and so many in both.

@@ -7,7 +7,7 @@ use Rattle.finite.proofs.Integers.{abs-sum, abs-difference, product_within}
 use Rattle.finite.proofs.Ring.{Is, var, lit, same}
 use Rattle.finite.proofs.Ring as ring
 use Rattle.cs_num.specs.declared.Cpx.{Cpx}
-use Rattle.cs_num.specs.Complex.{IsWithin, size, nothing, plus, multiple, times, conjugate, square}
+use Rattle.cs_num.specs.Complex.{IsWithin, size, nothing, plus, minus, multiple, times, times_j, conjugate, square}
 
 -- two complex numbers with the same components
 pub pair : {x y u v : ℤ} → x ≡ y → u ≡ v → ◌≡◌ {A = Cpx} (record { re = x; im = u }) (record { re = y; im = v })
@@ -26,6 +26,15 @@ plus-within a b m n bound p q e = record {
   re = omega (arith, p.re, q.re, abs-sum a.re b.re);
   im = omega (arith, p.im, q.im, abs-sum a.im b.im);
 }
+
+pub minus-within : (a b : Cpx) (m n bound : ℕ) → IsWithin m a → IsWithin n b → m + n ≤ bound → IsWithin bound (minus a b)
+minus-within a b m n bound p q e = record {
+  re = omega (arith, p.re, q.re, abs-difference a.re b.re);
+  im = omega (arith, p.im, q.im, abs-difference a.im b.im);
+}
+
+pub times_j-within : (a : Cpx) (m : ℕ) → IsWithin m a → IsWithin m (times_j a)
+times_j-within a m p = record { re = omega (arith, ints, p.im); im = p.re }
 
 pub conjugate-within : (a : Cpx) (m : ℕ) → IsWithin m a → IsWithin m (conjugate a)
 conjugate-within a m p = record { re = p.re; im = omega (arith, ints, p.im) }

@@ -1,6 +1,7 @@
 -- Steps, bounds and laws of finite sums of complex numbers.
-use Rattle.std.proofs.Common.{◌≡◌, ℕ, ◌+◌, ◌*◌, ◌<◌, ap}
-use Rattle.finite.proofs.Sums.{sum_below_none, sum_below_more, sum_below_same, sum_below-within, sum_below_plus, sum_below_split, sum_below_swap}
+use Rattle.std.proofs.Common.{◌≡◌, ℕ, ◌+◌, ◌-◌, ◌*◌, ◌<◌, arith, ap, ap₂, sym, ◌∙◌, ℤ, ◌+ℤ◌}
+use Rattle.std.proofs.lemmas.Int.{ints}
+use Rattle.finite.proofs.Sums.{sum_below_none, sum_below_more, sum_below_same, sum_below-within, sum_below_plus, sum_below_split, sum_below_swap, sum_below_one, sum_below_backward}
 use Rattle.cs_num.specs.declared.Cpx.{Cpx}
 use Rattle.cs_num.specs.Complex.{IsWithin, nothing, plus}
 use Rattle.cs_num.specs.Sums.{complex_sum_below}
@@ -38,3 +39,30 @@ pub complex_sum_below_swap : (n m : ℕ) (f : ℕ → ℕ → Cpx) →
 complex_sum_below_swap n m f = pair
     (sum_below_swap n m (λ i j. (f i j).re))
     (sum_below_swap n m (λ i j. (f i j).im))
+
+pub complex_sum_below_one : (f : ℕ → Cpx) → complex_sum_below 1 f ≡ f 0
+complex_sum_below_one f = pair (sum_below_one (λ k. (f k).re)) (sum_below_one (λ k. (f k).im))
+
+-- the terms in the other order
+pub complex_sum_below_backward : (n : ℕ) (f : ℕ → Cpx) → complex_sum_below n (λ k. f (n - 1 - k)) ≡ complex_sum_below n f
+complex_sum_below_backward n f = pair (sum_below_backward n (λ k. (f k).re)) (sum_below_backward n (λ k. (f k).im))
+
+regrouped_part : (a b c d : ℤ) → a +ℤ (b +ℤ (c +ℤ d)) ≡ a +ℤ (b +ℤ d +ℤ c)
+regrouped_part a b c d = omega (arith, ints)
+
+regrouped : (a b c d : Cpx) → plus a (plus b (plus c d)) ≡ plus a (plus (plus b d) c)
+regrouped a b c d = pair (regrouped_part a.re b.re c.re d.re) (regrouped_part a.im b.im c.im d.im)
+
+-- a sum folded in the middle: the first term, h times two terms at the same distance from the middle, and the middle one
+pub complex_sum_below_folded : (h : ℕ) (f : ℕ → Cpx) → complex_sum_below (1 + (h + (1 + h))) f
+    ≡ plus (f 0) (plus (complex_sum_below h (λ k. plus (f (1 + k)) (f (1 + (h + (1 + (h - 1 - k))))))) (f (1 + h)))
+complex_sum_below_folded h f =
+    let first : ℕ → Cpx = λ k. f (1 + k) in
+    let last : ℕ → Cpx = λ k. f (1 + (h + (1 + k))) in
+    let middle : f (1 + (h + 0)) ≡ f (1 + h) = ap f (let e : 1 + (h + 0) ≡ 1 + h = omega arith in e) in
+    complex_sum_below_split 1 (h + (1 + h)) f
+    ∙ ap₂ plus (complex_sum_below_one f)
+    (complex_sum_below_split h (1 + h) first ∙ ap (plus (complex_sum_below h first))
+    (complex_sum_below_split 1 h (λ k. first (h + k)) ∙ ap₂ plus (complex_sum_below_one (λ k. first (h + k)) ∙ middle) (sym (complex_sum_below_backward h last))))
+    ∙ regrouped (f 0) (complex_sum_below h first) (f (1 + h)) (complex_sum_below h (λ k. last (h - 1 - k)))
+    ∙ ap (λ z. plus (f 0) (plus z (f (1 + h)))) (sym (complex_sum_below_plus h first (λ k. last (h - 1 - k))))

@@ -1,5 +1,5 @@
 -- Steps, bounds and laws of finite sums.
-use Rattle.std.proofs.Common.{◌≡◌, ◌≢◌, ℕ, zero, suc, ◌+◌, ◌*◌, ◌<◌, ◌≤◌, Bool, true, false, arith, refl, ap, ap₂, ◌∙◌, sym, subst, add-one, ℤ, pos, ◌+ℤ◌, ◌*ℤ◌, inl, inr}
+use Rattle.std.proofs.Common.{◌≡◌, ◌≢◌, ℕ, zero, suc, ◌+◌, ◌-◌, ◌*◌, ◌<◌, ◌≤◌, Bool, true, false, arith, refl, ap, ap₂, ◌∙◌, sym, subst, add-one, ℤ, pos, ◌+ℤ◌, ◌-ℤ◌, ◌*ℤ◌, inl, inr}
 use Rattle.std.proofs.lemmas.Bool.{cases_lt, false≢true}
 use Rattle.std.proofs.lemmas.Int.{ints}
 use Rattle.std.specs.Prelude.{◌||◌, nat_abs}
@@ -60,6 +60,35 @@ sum_below_split n (suc m) f =
     let h = sum_below_split n m f in
     subst (λ l. sum_below l f ≡ sum_below n f +ℤ (sum_below m (λ k. f (n + k)) +ℤ f (n + m))) (sym e) (omega (arith, ints, h))
 
+pub sum_below_minus : (n : ℕ) (f g : ℕ → ℤ) → sum_below n (λ k. f k -ℤ g k) ≡ sum_below n f -ℤ sum_below n g
+unfolding sum_below
+sum_below_minus zero f g = refl
+sum_below_minus (suc n) f g = step (sum_below n (λ k. f k -ℤ g k)) (sum_below n f) (sum_below n g) (f n) (g n) (sum_below_minus n f g)
+  where
+    step : (s a b c d : ℤ) → s ≡ a -ℤ b → s +ℤ (c -ℤ d) ≡ a +ℤ c -ℤ (b +ℤ d)
+    step s a b c d e = omega (arith, ints)
+
+pub sum_below_one : (f : ℕ → ℤ) → sum_below 1 f ≡ f 0
+unfolding sum_below
+sum_below_one f = from_nothing (f 0)
+  where
+    from_nothing : (a : ℤ) → pos 0 +ℤ a ≡ a
+    from_nothing a = omega (arith, ints)
+
+-- the terms in the other order
+pub sum_below_backward : (n : ℕ) (f : ℕ → ℤ) → sum_below n (λ k. f (n - 1 - k)) ≡ sum_below n f
+unfolding sum_below
+sum_below_backward zero f = refl
+sum_below_backward (suc n) f =
+    ap₂ (λ (a b : ℤ). a +ℤ b)
+    (sum_below_same n (λ k. f (suc n - 1 - k)) (λ k. f (1 + (n - 1 - k))) (λ k l. ap f (let e : suc n - 1 - k ≡ 1 + (n - 1 - k) = omega (arith, l) in e)) ∙ sum_below_backward n (λ k. f (1 + k)))
+    (ap f (let e : suc n - 1 - n ≡ 0 = omega arith in e))
+    ∙ turned (sum_below n (λ k. f (1 + k))) (f 0) (sum_below 1 f) (sum_below_one f)
+    ∙ sym (sum_below_split 1 n f) ∙ ap (λ m. sum_below m f) (let e : 1 + n ≡ suc n = omega arith in e)
+  where
+    turned : (a b c : ℤ) → c ≡ b → a +ℤ b ≡ c +ℤ a
+    turned a b c e = omega (arith, ints)
+
 -- ---- natural numbers
 
 pub total_below_none : (f : ℕ → ℕ) → total_below 0 f ≡ 0
@@ -92,6 +121,17 @@ total_below_split n (suc m) f =
     let e : n + suc m ≡ suc (n + m) = omega arith in
     let h = total_below_split n m f in
     subst (λ l. total_below l f ≡ total_below n f + (total_below m (λ k. f (n + k)) + f (n + m))) (sym e) (omega (arith, h))
+
+-- the next n terms: without the first of these, and with the one behind them
+pub total_below_slides : (n t : ℕ) (f : ℕ → ℕ) → total_below n (λ k. f (t + 1 + k)) + f t ≡ total_below n (λ k. f (t + k)) + f (t + n)
+unfolding total_below
+total_below_slides zero t f = let e : t + 0 ≡ t = omega arith in rw e refl
+total_below_slides (suc n) t f =
+    more (total_below n (λ k. f (t + 1 + k))) (total_below n (λ k. f (t + k))) (f t) (f (t + n)) (f (t + 1 + n)) (f (t + suc n)) (total_below_slides n t f)
+    (ap f (let e : t + 1 + n ≡ t + suc n = omega arith in e))
+  where
+    more : (a b x y z w : ℕ) → a + x ≡ b + y → z ≡ w → a + z + x ≡ b + y + w
+    more a b x y z w h e = omega (arith, h, e)
 
 -- as whole numbers
 pub sum_below_pos : (n : ℕ) (f : ℕ → ℕ) → sum_below n (λ k. pos (f k)) ≡ pos (total_below n f)

@@ -1,3 +1,8 @@
+pub mod SignalTables
+pub mod Symmetry
+pub mod Folding
+pub mod Dots
+pub mod Filling
 pub mod Waves
 pub mod Window
 pub mod Sparse

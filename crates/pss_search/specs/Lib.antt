@@ -2,4 +2,6 @@ pub mod Correlation
 pub mod Tests
 pub mod Hits
 pub mod Laws
+pub mod Metrics
+pub mod Folding
 pub mod Steps

@@ -1,18 +1,69 @@
--- The code's steps: the list while it grows, and the metric of a place as a value.
-use Rattle.std.specs.Prelude.{◌≡◌, ℕ, ◌+◌, ◌^◌, ◌<◌, ◌≤◌, List, ◌++◌}
+-- The code's steps: the list while it grows, and how great its numbers are.
+use Rattle.std.specs.Prelude.{◌≡◌, ℕ, ◌+◌, ◌*◌, ◌%◌, ◌^◌, ◌<◌, ◌≤◌, List, ◌++◌, All, length, slice_index_or, nat_abs, [], ◌∷◌}
+use Rattle.finite.specs.Sizes.{AllWithin}
 use Rattle.cs_num.specs.declared.Sample.{Sample}
 use Rattle.lte_types.specs.declared.Hit.{Hit}
 use Rattle.finite.specs.Lists.{joined_below}
 use Rattle.pss_search.specs.declared.measure.Metric.{Metric}
+use Rattle.pss_search.specs.declared.fold.Folded.{Folded}
+use Rattle.pss_search.specs.declared.fold.ProductSums.{ProductSums}
+use Rattle.pss_search.specs.declared.recent.Row.{Row}
 use Rattle.pss_search.specs.Correlation.{peak, energy}
+use Rattle.pss_search.specs.Metrics.{metrics_at, end_place}
 use Rattle.pss_search.specs.Hits.{first_place, hit_at, hits_before}
 
--- the metric of place t for n2, in 70 and 39 bits
+-- ---- sizes
+
+-- the two numbers of a metric fit 70 and 46 bits
+pub record IsSmallMetric (metric : Metric) : Type 0 where
+  pub peak : metric.peak < 2 ^ 70
+  pub energy : metric.energy ≤ 2 ^ 46
+
+-- the metric of place t for n2, and so small
 pub record IsMetricOf (recording : List Sample) (n2 t : ℕ) (metric : Metric) : Type 0 where
   pub peak : metric.peak ≡ peak recording n2 t
   pub energy : metric.energy ≡ energy recording t
   pub small_peak : metric.peak < 2 ^ 70
-  pub small_energy : metric.energy ≤ 2 ^ 38
+  pub small_energy : metric.energy ≤ 2 ^ 46
+
+-- parts of folded samples have size at most 65,536
+pub record IsSmallFolded (folded : Folded) : Type 0 where
+  pub re : AllWithin 65536 folded.re
+  pub im : AllWithin 65536 folded.im
+
+-- sums of 65 products of a part of a folded sample and one of a signal, of size at most 255
+pub record AreSmallProducts (p : ProductSums) : Type 0 where
+  pub re_re : nat_abs p.re_re ≤ 1086259200
+  pub im_im : nat_abs p.im_im ≤ 1086259200
+  pub im_re : nat_abs p.im_re ≤ 1086259200
+  pub re_im : nat_abs p.re_im ≤ 1086259200
+
+-- ---- a sweep
+
+-- its place is one of those to be measured or the end, and it knows the energy there
+pub record IsReady (recording : List Sample) (place total : ℕ) : Type 0 where
+  pub long : 57600 ≤ length recording
+  pub first : 128 ≤ place
+  pub last : place ≤ end_place
+  pub energy : total ≡ energy recording place
+  pub small : total ≤ place * 2 ^ 31
+
+-- ---- the last 19 places
+
+-- a row holds the metrics of place u
+pub record IsRowOf (recording : List Sample) (u : ℕ) (row : Row) : Type 0 where
+  pub value : row.metrics ≡ metrics_at recording u
+  pub small : All IsSmallMetric row.metrics
+
+abbrev pub empty_row : Row
+empty_row = record { metrics = [] }
+
+-- the rows hold the metrics of the last 19 places before this one, that of place u at u modulo 19
+pub record HoldsLast (recording : List Sample) (place : ℕ) (rows : List Row) : Type 0 where
+  pub whole : length rows ≡ 19
+  pub each : (u : ℕ) → 128 ≤ u → u < place → place ≤ u + 19 → IsRowOf recording u (slice_index_or rows (u % 19) empty_row)
+
+-- ---- the list
 
 -- the hits of the first places, and of the lower roots at the next
 abbrev pub so_far : List Sample → ℕ → ℕ → List Hit

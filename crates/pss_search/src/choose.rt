@@ -1,29 +1,29 @@
 //! Which places are hits.
 
-ghost use Rattle.std.specs.Prelude.{◌≡◌, ◌+◌, ◌≤◌, length};
+ghost use Rattle.std.specs.Prelude.{◌≡◌, ◌+◌, ◌≤◌, ◌<◌};
 ghost use Rattle.std.specs.Option.{option_to_list};
 ghost use Rattle.pss_search.specs.Tests.{rules_out, is_ruled_out, is_hit};
 ghost use Rattle.pss_search.specs.Hits.{first_place, last_place, hit_at};
 ghost use Rattle.pss_search.specs.Steps.{IsMetricOf};
 
-use crate::measure::{Metric, metric_at};
-use crate::root::Root;
-use cs_num::Sample;
+use crate::measure::Metric;
+use crate::recent::Window;
+use crate::signals::Root;
 use lte_types::Hit;
 
-// The first place that is measured: the useful part of the symbol before it is in the recording.
+// The first place of the span: the useful part of the symbol before it is in the recording.
 pub(crate) const FIRST_PLACE: usize = 137;
 
-// The hit of a root at a place, where there is one.
+// The hit of a root at the middle place of a window, where there is one.
 #[tactic(auto, unfolding(crate::specs::Hits::hit_at))]
-pub(crate) fn hit_of(recording: &[Sample], root: &Root, t: usize) -> Option<Hit>
+pub(crate) fn hit_of(window: &Window, root: &Root, t: usize) -> Option<Hit>
     requires first { first_place ≤ t }
     requires last { t ≤ last_place }
-    requires long { 57600 ≤ length recording.now }
-    ensures { option_to_list result ≡ hit_at recording.now t root.now.n2 }
+    requires middle { window.now.place ≡ t + 10 }
+    ensures { option_to_list result ≡ hit_at window.now.recording t root.now.n2 }
 {
-    let own = metric_at(recording, root, t);
-    if stands_out(recording, root, t, own) {
+    let own = window.metric(root.n2, t);
+    if stands_out(window, root, t, own) {
         Some(Hit {
             t: t as u32,
             n2: root.n2,
@@ -37,28 +37,28 @@ pub(crate) fn hit_of(recording: &[Sample], root: &Root, t: usize) -> Option<Hit>
 
 // Whether the place is a hit, its own metric being known.
 #[tactic(auto, using(std::proofs::lemmas::Bool::Decides::nat_tests), unfolding(crate::specs::Tests::is_hit))]
-fn stands_out(recording: &[Sample], root: &Root, t: usize, own: Metric) -> bool
+fn stands_out(window: &Window, root: &Root, t: usize, own: Metric) -> bool
     requires first { first_place ≤ t }
     requires last { t ≤ last_place }
-    requires long { 57600 ≤ length recording.now }
-    requires metric { IsMetricOf recording.now root.now.n2 t own }
-    ensures { result ≡ is_hit recording.now t root.now.n2 }
+    requires middle { window.now.place ≡ t + 10 }
+    requires metric { IsMetricOf window.now.recording root.now.n2 t own }
+    ensures { result ≡ is_hit window.now.recording t root.now.n2 }
 {
     own.energy > 0
         && own.energy as u128 * root.power as u128 <= 4 * own.peak
-        && !is_ruled_out_at(recording, root, t, own)
+        && !is_ruled_out_at(window, root, t, own)
 }
 
 // Whether some place within 9 rules it out.
-fn is_ruled_out_at(recording: &[Sample], root: &Root, t: usize, own: Metric) -> bool
+fn is_ruled_out_at(window: &Window, root: &Root, t: usize, own: Metric) -> bool
     requires first { first_place ≤ t }
     requires last { t ≤ last_place }
-    requires long { 57600 ≤ length recording.now }
-    requires metric { IsMetricOf recording.now root.now.n2 t own }
-    ensures { result ≡ is_ruled_out recording.now root.now.n2 t }
+    requires middle { window.now.place ≡ t + 10 }
+    requires metric { IsMetricOf window.now.recording root.now.n2 t own }
+    ensures { result ≡ is_ruled_out window.now.recording root.now.n2 t }
 {
     for d in 0..19 {
-        if rules_out_at(recording, root, t, own, t - 9 + d) {
+        if rules_out_at(window, root, t, own, t - 9 + d) {
             return true;
         }
     }
@@ -67,12 +67,14 @@ fn is_ruled_out_at(recording: &[Sample], root: &Root, t: usize, own: Metric) -> 
 
 // Whether the place u does: it is above t, or stands before t and is level with it.
 #[tactic(auto, using(std::proofs::lemmas::Bool::Decides::nat_tests), unfolding(crate::specs::Tests::rules_out))]
-fn rules_out_at(recording: &[Sample], root: &Root, t: usize, own: Metric, u: usize) -> bool
-    requires room { u + 128 ≤ length recording.now }
-    requires metric { IsMetricOf recording.now root.now.n2 t own }
-    ensures { result ≡ rules_out recording.now root.now.n2 t u }
+fn rules_out_at(window: &Window, root: &Root, t: usize, own: Metric, u: usize) -> bool
+    requires first { 128 ≤ u }
+    requires measured { u < window.now.place }
+    requires kept { window.now.place ≤ u + 19 }
+    requires metric { IsMetricOf window.now.recording root.now.n2 t own }
+    ensures { result ≡ rules_out window.now.recording root.now.n2 t u }
 {
-    let other = metric_at(recording, root, u);
+    let other = window.metric(root.n2, u);
     let theirs = other.peak * own.energy as u128;
     let ours = own.peak * other.energy as u128;
     other.energy > 0 && own.energy > 0 && (theirs > ours || (u < t && theirs == ours))

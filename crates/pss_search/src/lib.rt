@@ -2,15 +2,18 @@
 #![tactic(auto)]
 
 mod choose;
+mod fold;
 mod list;
 mod measure;
-mod root;
+mod recent;
+mod signals;
 #[cfg(test)]
 mod tests;
 
 ghost use Rattle.pss_search.specs.Laws.{TestIsRight, ListIsRight, ListIsInOrder, ListIsShort};
 
 pub use list::{HitList, hits};
+pub use measure::{Metric, Sweep};
 
 /// The list of hits in plain words: the test of a place is the definition of a hit, each listed
 /// place is a hit and each hit is listed, the list is in order, so that none stands twice, and it has

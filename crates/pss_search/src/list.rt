@@ -9,8 +9,8 @@ ghost use Rattle.pss_search.specs.Hits.{IsInSpan, hits_of};
 ghost use Rattle.pss_search.specs.Steps.{so_far};
 
 use crate::choose::{FIRST_PLACE, hit_of};
-use crate::root::Root;
-use cs_num::Sample;
+use crate::recent::Window;
+use crate::signals::Root;
 use lte_types::{FRAME_LENGTH, Hit};
 use sample_file::Recording;
 use std::alloc::{AllocError, Global};
@@ -72,26 +72,27 @@ pub fn hits(recording: &Recording, list: &mut HitList)
     ensures list { list.new ≡ hits_of recording.now }
     ensures span { All IsInSpan list.new }
 {
-    let samples = recording.as_slice();
     let first = Root::new(0);
     let second = Root::new(1);
     let third = Root::new(2);
+    let mut window = Window::new(recording);
     list.clear();
     for i in 0..FRAME_LENGTH {
-        add_of(samples, &first, i, list);
-        add_of(samples, &second, i, list);
-        add_of(samples, &third, i, list);
+        window.advance();
+        add_of(&window, &first, i, list);
+        add_of(&window, &second, i, list);
+        add_of(&window, &third, i, list);
     }
 }
 
 // Adds the hit of a root at place i of the span, where there is one.
-fn add_of(recording: &[Sample], root: &Root, i: usize, list: &mut HitList)
-    requires long { 57600 ≤ length recording.now }
+fn add_of(window: &Window, root: &Root, i: usize, list: &mut HitList)
     requires i { i < frame_length }
-    requires before { list.old ≡ so_far recording.now i root.now.n2 }
-    ensures { list.new ≡ so_far recording.now i (root.now.n2 + 1) }
+    requires middle { window.now.place ≡ i + 147 }
+    requires before { list.old ≡ so_far window.now.recording i root.now.n2 }
+    ensures { list.new ≡ so_far window.now.recording i (root.now.n2 + 1) }
 {
-    match hit_of(recording, root, FIRST_PLACE + i) {
+    match hit_of(window, root, FIRST_PLACE + i) {
         Some(hit) => list.add(hit),
         None => {}
     }

@@ -1,64 +1,161 @@
-//! The metric of a place, by plain sums.
+//! The metrics of one place after the other.
 
-ghost use Rattle.std.specs.Prelude.{◌≡◌, ℕ, ◌+◌, ◌*◌, ◌^◌, ◌<◌, ◌≤◌, length};
-ghost use Rattle.cs_num.specs.Complex.{IsWithin, square, value_of};
-ghost use Rattle.cs_num.specs.Sums.{complex_sum_below};
-ghost use Rattle.pss_search.specs.Correlation.{peak_term, wave, energy};
-ghost use Rattle.pss_search.specs.Steps.{IsMetricOf};
+ghost use Rattle.std.specs.Prelude.{◌≡◌, ℕ, ◌+◌, ◌*◌, ◌^◌, ◌<◌, ◌≤◌, ◌↔◌, List, All, length, IsNone, IfNone, IfSome};
+ghost use Rattle.cs_num.specs.declared.Sample.{Sample as SampleValue};
+ghost use Rattle.cs_num.specs.Complex.{IsWithin, square, value_of, sample_at};
+ghost use Rattle.pss_search.specs.Correlation.{energy};
+ghost use Rattle.pss_search.specs.Metrics.{Standing, metric_of as made_metric, metrics_at, end_place};
+ghost use Rattle.pss_search.specs.Folding.{correlations_at};
+ghost use Rattle.pss_search.specs.Steps.{IsSmallMetric};
 
-use crate::root::Root;
+use crate::fold::{Folded, correlations};
+use crate::signals::Signal;
 use cs_num::{Cpx, Sample};
+use sample_file::Recording;
+use std::marker::Model;
 
-// The square of the size of the correlation at a place, and the energy there.
+/// The first place that is measured: nine before the first of the span in which hits are looked for.
+const START: usize = 128;
+
+/// The place after the last one that is measured, which is nine after the last of the span.
+const END: usize = 19_346;
+
+/// What is measured of a place against one of the three primary signals.
 #[derive(Clone, Copy, Debug, PartialEq, Eq)]
-pub(crate) struct Metric {
+pub struct Metric {
+    /// The square of the size of the correlation with the signal, below 2^70.
     pub peak: u128,
+    /// The energy of the 128 samples from the place on, below 2^46.
     pub energy: u64,
 }
 
-// The metric of a place for a root.
-pub(crate) fn metric_at(recording: &[Sample], root: &Root, t: usize) -> Metric
-    requires { t + 128 ≤ length recording.now }
-    ensures { IsMetricOf recording.now root.now.n2 t result }
+/// A sweep over the places 128 to 19,345 of a recording, which measures one after the other. Contracts
+/// see it as the recording's samples and the place that comes next. It takes no memory. (own)
+#[derive(Drop)]
+pub struct Sweep<'a> {
+    samples: &'a [Sample],
+    place: usize,
+    energy: u64,
+    first: Signal,
+    second: Signal,
+    folded: Folded,
+}
+
+impl<'a> Model for Sweep<'a> {
+    ghost use Rattle.std.specs.Prelude.{◌≡◌};
+    ghost use Rattle.pss_search.specs.Metrics.{Standing};
+    ghost use Rattle.pss_search.specs.Steps.{IsReady};
+
+    ghost Value = { Standing };
+
+    ghost view = { λ s. record { recording = s.samples.now; place = s.place } };
+
+    ghost invariant = { λ s.
+        IsReady s.samples.now s.place s.energy × (s.first.n2 ≡ 0) × (s.second.n2 ≡ 1) };
+}
+
+impl<'a> Sweep<'a> {
+    /// The sweep before place 128.
+    pub fn new(recording: &'a Recording) -> Sweep<'a>
+        ensures recording { result.recording ≡ recording.now }
+        ensures place { result.place ≡ 128 }
+    {
+        let samples = recording.as_slice();
+        Sweep {
+            samples,
+            place: START,
+            energy: energy_sum(samples, START),
+            first: Signal::new(0),
+            second: Signal::new(1),
+            folded: Folded::EMPTY,
+        }
+    }
+
+    /// The place that comes next, 128 to 19,346.
+    pub fn place(&self) -> usize
+        ensures place { result ≡ self.now.place }
+        ensures first { 128 ≤ result }
+        ensures end { result ≤ end_place }
+    {
+        self.place
+    }
+
+    /// The metrics of the place against the signals of the identities 0, 1 and 2 within the group;
+    /// the next place then comes. `None` exactly where the place is 19,346, and it then stays.
+    pub fn step(&mut self) -> Option<[Metric; 3]>
+        ensures end { IsNone result ↔ (self.old.place ≡ end_place) }
+        ensures stays { IfNone result (self.new ≡ self.old) }
+        ensures value { IfSome result (λ metrics. metrics ≡ metrics_at self.old.recording self.old.place) }
+        ensures small { IfSome result (All IsSmallMetric) }
+        ensures recording { self.new.recording ≡ self.old.recording }
+        ensures place { IfSome result (λ _. self.new.place ≡ self.old.place + 1) }
+    {
+        if self.place == END {
+            return None;
+        }
+        self.folded.fill(self.samples, self.place);
+        let sums = correlations(
+            self.samples,
+            self.place,
+            &self.folded,
+            &self.first,
+            &self.second,
+        );
+        let metrics = metrics_of(&sums, self.energy);
+        self.energy = next_energy(self.samples, self.place, self.energy);
+        self.place += 1;
+        Some(metrics)
+    }
+}
+
+// The metrics of three correlations and an energy.
+fn metrics_of(sums: &[Cpx; 3], total: u64) -> [Metric; 3]
+    requires small { All (IsWithin (2 ^ 33)) sums.now }
+    requires few { total ≤ 2 ^ 46 }
+    ensures value { (recording : List SampleValue) → (t : ℕ) → sums.now ≡ correlations_at recording t →
+        total ≡ energy recording t → result ≡ metrics_at recording t }
+    ensures small { All IsSmallMetric result }
+{
+    [
+        metric_of(sums[0], total),
+        metric_of(sums[1], total),
+        metric_of(sums[2], total),
+    ]
+}
+
+// The metric of a correlation and an energy.
+fn metric_of(correlation: Cpx, total: u64) -> Metric
+    requires small { IsWithin (2 ^ 33) correlation }
+    requires few { total ≤ 2 ^ 46 }
+    ensures value { result ≡ made_metric correlation total }
+    ensures small { IsSmallMetric result }
 {
     Metric {
-        peak: peak_sum(recording, root, t).norm(),
-        energy: energy_sum(recording, t),
+        peak: correlation.norm(),
+        energy: total,
     }
 }
 
-// The correlation.
-fn peak_sum(recording: &[Sample], root: &Root, t: usize) -> Cpx
-    requires { t + 128 ≤ length recording.now }
-    ensures value { result ≡ complex_sum_below 128 (peak_term (wave root.now.n2) recording.now t) }
-    ensures small { IsWithin 19184746496 result }
+// The energy of the next place: without the first sample of this one, and with the sample behind it.
+fn next_energy(samples: &[Sample], t: usize, total: u64) -> u64
+    requires room { t + 129 ≤ length samples.now }
+    requires energy { total ≡ energy samples.now t }
+    requires few { total ≤ 2 ^ 46 }
+    ensures value { result ≡ energy samples.now (t + 1) }
+    ensures small { result ≤ total + 2 ^ 31 }
 {
-    let mut sum = Cpx::ZERO;
-    for n in 0..128 {
-        sum = sum + peak_part(recording, root, t, n);
-    }
-    sum
+    total - energy_part(samples[t]) + energy_part(samples[t + 128])
 }
 
-// What sample n gives to it.
-fn peak_part(recording: &[Sample], root: &Root, t: usize, n: usize) -> Cpx
-    requires room { t + 128 ≤ length recording.now }
-    requires n { n < 128 }
-    ensures value { result ≡ peak_term (wave root.now.n2) recording.now t n }
-    ensures small { IsWithin 149880832 result }
-{
-    Cpx::from(recording[t + n]).mul(root.wave[n].conj())
-}
-
-// The energy.
-fn energy_sum(recording: &[Sample], t: usize) -> u64
-    requires { t + 128 ≤ length recording.now }
-    ensures value { result ≡ energy recording.now t }
+// The energy of a place.
+fn energy_sum(samples: &[Sample], t: usize) -> u64
+    requires { t + 128 ≤ length samples.now }
+    ensures value { result ≡ energy samples.now t }
     ensures small { result ≤ 2 ^ 38 }
 {
     let mut sum: u64 = 0;
     for n in 0..128 {
-        sum += energy_part(recording[t + n]);
+        sum += energy_part(samples[t + n]);
     }
     sum
 }

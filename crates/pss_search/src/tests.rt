@@ -1,12 +1,15 @@
 ghost use Rattle.std.specs.Prelude.{◌≡◌, ◌+◌, ◌≤◌, IfOk, length};
+ghost use Rattle.finite.specs.Lists.{values_below};
+ghost use Rattle.pss_search.specs.Correlation.{pss_grid, wave_list};
 
-use crate::root::Root;
-use crate::{HitList, hits};
-use cs_num::{Sample, clamp_div};
+use crate::{HitList, Metric, Sweep, hits};
+use cs_num::{Cpx, Sample, clamp_div};
+use fold128::synth;
 use lte_types::Hit;
 use sample_file::Recording;
 use std::alloc::{AllocError, Global};
 use std::test::Fail;
+use sync_seq::{in_middle, pss};
 
 // The samples of 30 ms of silence.
 fn silent_samples(alloc: Global) -> Result<Vec<Sample>, AllocError>
@@ -15,14 +18,31 @@ fn silent_samples(alloc: Global) -> Result<Vec<Sample>, AllocError>
     vec![in alloc; Sample { re: 0, im: 0 }; 57_600]
 }
 
-// The samples of the primary signal of a root, in the order of sending.
-fn write(samples: &mut [Sample], root: &Root)
+// The grid of a symbol that holds the primary sequence of an identity alone.
+fn grid_of(n2: u8) -> [Cpx; 72]
+    requires { n2 ≤ 2 }
+    ensures { result ≡ values_below 72 (pss_grid n2) }
+{
+    in_middle(&pss(n2))
+}
+
+// The useful part of that symbol.
+fn wave_of(n2: u8) -> [Cpx; 128]
+    requires { n2 ≤ 2 }
+    ensures { result ≡ wave_list n2 }
+{
+    let grid = grid_of(n2);
+    synth(&grid)
+}
+
+// The samples of a signal, in the order of sending.
+fn write(samples: &mut [Sample], wave: &[Cpx; 128])
     requires { length samples.old ≡ 128 }
 {
     for n in 0..128 {
         samples[n] = Sample {
-            re: clamp_div(root.wave[n].re, 1, 32_767),
-            im: clamp_div(root.wave[n].im, 1, 32_767),
+            re: clamp_div(wave[n].re, 1, 32_767),
+            im: clamp_div(wave[n].im, 1, 32_767),
         };
     }
 }
@@ -43,7 +63,7 @@ fn hits_with_signal_at(alloc: Global, t: usize) -> Result<HitList, Fail>
     requires { t + 128 ≤ 57600 }
 {
     let mut samples = silent_samples(alloc)?;
-    write(&mut samples[t..t + 128], &Root::new(0));
+    write(&mut samples[t..t + 128], &wave_of(0));
     let mut list = HitList::new(alloc)?;
     if let Some(recording) = Recording::new(samples) {
         hits(&recording, &mut list);
@@ -75,5 +95,19 @@ fn a_list_is_emptied_before_it_is_filled(rt: HostRuntime) -> Result<(), Fail> {
     let silence = Recording::new(silent_samples(rt.alloc())?).expect(&rt, "30 ms");
     hits(&silence, &mut list);
     assert_eq!(rt; list.slice().len(), 0);
+    Ok(())
+}
+
+#[test]
+fn a_sweep_of_silence_has_19218_places(rt: HostRuntime) -> Result<(), Fail> {
+    let silence = Recording::new(silent_samples(rt.alloc())?).expect(&rt, "30 ms");
+    let mut sweep = Sweep::new(&silence);
+    let silent = [Metric { peak: 0, energy: 0 }; 3];
+    for _ in 0..19_218 {
+        assert_eq!(rt; sweep.step(), Some(silent));
+    }
+    assert_eq!(rt; sweep.step(), None);
+    assert_eq!(rt; sweep.step(), None);
+    assert_eq!(rt; sweep.place(), 19_346);
     Ok(())
 }

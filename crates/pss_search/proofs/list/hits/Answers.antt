@@ -1,27 +1,38 @@
 use Rattle.std.proofs.Common.{◌≡◌, ◌∙◌, ◌+◌, arith, sym, ap, subst}
 use Rattle.std.specs.List.{All}
-use Rattle.pss_search.specs.Hits.{IsInSpan, hits_before}
+use Rattle.pss_search.specs.Hits.{IsInSpan, hits_before, hits_of}
 use Rattle.pss_search.specs.Steps.{so_far}
 use Rattle.pss_search.proofs.Listed.{listed_in_span}
 use Rattle.pss_search.proofs.Room.{so_far_none, hits_before_none, hits_before_more}
 use Rattle.pss_search.proofs.list.hits.Goals as goal
 
 pub loop-i-init : goal.loop-i-init
-loop-i-init c = c.clear.ensures ∙ sym (hits_before_none c.args.recording.now)
+loop-i-init c = record {
+  list = c.clear.ensures ∙ sym (hits_before_none c.args.recording.now);
+  recording = c.new-window.ensures.recording;
+  place = c.new-window.ensures.place;
+}
 
 pub add_of-requires-clause-before : goal.add_of-requires-clause-before
 add_of-requires-clause-before c =
-    rw (c.as_slice-samples.ensures.value, c.new-first.ensures) (c.loop-i.invariant ∙ sym (so_far_none c.args.recording.now c.loop-i.i))
+    rw (c.advance.ensures.recording, c.loop-i.invariant.recording, c.new-first.ensures)
+    (c.loop-i.invariant.list ∙ sym (so_far_none c.args.recording.now c.loop-i.i))
 
 pub loop-i-preserved : goal.loop-i-preserved
 loop-i-preserved c =
-    c.add_of-in-loop-i-2.ensures
-    ∙ ap (λ r. so_far r c.loop-i.i (c.new-third.result.n2 + 1)) c.as_slice-samples.ensures.value
-    ∙ ap (λ n. so_far c.args.recording.now c.loop-i.i (n + 1)) c.new-third.ensures
-    ∙ sym (hits_before_more c.args.recording.now c.loop-i.i)
+    let recording = c.advance.ensures.recording ∙ c.loop-i.invariant.recording in
+    record {
+      list =
+          c.add_of-in-loop-i-2.ensures
+          ∙ ap (λ r. so_far r c.loop-i.i (c.new-third.result.n2 + 1)) recording
+          ∙ ap (λ n. so_far c.args.recording.now c.loop-i.i (n + 1)) c.new-third.ensures
+          ∙ sym (hits_before_more c.args.recording.now c.loop-i.i);
+      recording = recording;
+      place = omega (arith, c.advance.ensures.place, c.loop-i.invariant.place);
+    }
 
 pub returns : goal.returns
 returns c =
     let last : c.loop-i.i ≡ 19200 = omega arith in
-    let whole = c.loop-i.invariant ∙ ap (hits_before c.args.recording.now) last in
+    let whole = c.loop-i.invariant.list ∙ ap (hits_before c.args.recording.now) last in
     record { list = whole; span = subst (All IsInSpan) (sym whole) (listed_in_span c.args.recording.now) }

@@ -1,6 +1,10 @@
-use Rattle.std.proofs.Common.{◌≡◌}
+use Rattle.std.proofs.Common.{◌≡◌, ◌+◌}
 use Rattle.pss_search.specs.Hits.{hits_before}
 use Rattle.pss_search.proofs.list.hits.Given as goal
 
 abbrev pub invariant-loop-i : goal.invariant-loop-i
-invariant-loop-i l = l.list ≡ hits_before l.recording l.i
+invariant-loop-i l = record {
+  list : l.list ≡ hits_before l.recording l.i;
+  recording : l.window.recording ≡ l.recording;
+  place : l.window.place ≡ l.i + 146;
+}

@@ -12,11 +12,11 @@ pub loop-n-preserved : goal.loop-n-preserved
 loop-n-preserved c =
     let before = c.loop-n.invariant.so_far in
     let here = c.energy_part-sum.ensures.value in
-    let more = total_below_more c.loop-n.n (energy_term c.args.recording.now c.args.t) in
+    let more = total_below_more c.loop-n.n (energy_term c.args.samples.now c.args.t) in
     record { so_far = cc; small = omega arith }
 
 pub returns-clause-value : goal.returns-clause-value
 unfolding energy
 returns-clause-value c =
     let last : c.loop-n.n ≡ 128 = omega arith in
-    c.loop-n.invariant.so_far ∙ ap (λ n. total_below n (energy_term c.args.recording.now c.args.t)) last
+    c.loop-n.invariant.so_far ∙ ap (λ n. total_below n (energy_term c.args.samples.now c.args.t)) last

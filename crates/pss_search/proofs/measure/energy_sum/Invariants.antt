@@ -5,6 +5,6 @@ use Rattle.pss_search.proofs.measure.energy_sum.Given as goal
 
 abbrev pub invariant-loop-n : goal.invariant-loop-n
 invariant-loop-n l = record {
-  so_far : l.sum ≡ total_below l.n (energy_term l.recording l.t);
+  so_far : l.sum ≡ total_below l.n (energy_term l.samples l.t);
   small : l.sum ≤ l.n * 2147483648;
 }

@@ -4,7 +4,7 @@ use Rattle.cs_num.specs.Complex.{value_at}
 use Rattle.sync_seq.specs.Middle.{in_middle}
 use Rattle.sync_seq.specs.Primary.{pss_at, pss_list}
 use Rattle.sync_seq.proofs.Grids.{in_middle_list}
-use Rattle.pss_search.proofs.root.grid_of.Goals as goal
+use Rattle.pss_search.proofs.tests.grid_of.Goals as goal
 
 pub returns : goal.returns
 unfolding pss_list

@@ -2,7 +2,7 @@ use Rattle.std.proofs.Common.{◌∙◌, ap}
 use Rattle.cs_num.specs.Complex.{value_at}
 use Rattle.fold128.specs.Symbol.{useful_part}
 use Rattle.pss_search.proofs.Waves.{wave_from, grid-all_within}
-use Rattle.pss_search.proofs.root.wave_of.Goals as goal
+use Rattle.pss_search.proofs.tests.wave_of.Goals as goal
 
 pub synth-requires : goal.synth-requires
 synth-requires c = rw c.grid_of-grid.ensures (grid-all_within c.args.n2)

@@ -1,0 +1,52 @@
+use Rattle.std.proofs.Common.{arith, ◌≡◌, ◌∙◌, ap, ap₂, sym, subst, [], ◌∷◌}
+use Rattle.std.proofs.lemmas.List.Elements.{All-cons, All-nil}
+use Rattle.finite.proofs.Integers.{abs-difference}
+use Rattle.cs_num.specs.declared.Cpx.{Cpx}
+use Rattle.cs_num.specs.Complex.{IsWithin, plus, minus, times_j}
+use Rattle.cs_num.proofs.Complex.{within_more, plus-within, minus-within, times_j-within}
+use Rattle.pss_search.specs.Folding.{folded_parts, products_of, with_conjugate_of, with_signal_of, half_re, half_im, correlation_at}
+use Rattle.pss_search.proofs.Folding.{by_conjugate, by_signal, folded_sum_is_plain, roots_share}
+use Rattle.pss_search.proofs.fold.correlations.Goals as goal
+
+pub returns-clause-value : goal.returns-clause-value
+returns-clause-value c =
+    let samples = c.args.samples.now in
+    let t = c.args.t in
+    let e0 : c.with_conjugate.result ≡ correlation_at samples t 0 =
+    c.with_conjugate.ensures.value
+    ∙ ap with_conjugate_of
+    (c.products-own.ensures.value
+    ∙ ap (λ f. products_of f (half_re c.args.first.now.n2) (half_im c.args.first.now.n2)) c.requires.folded
+    ∙ ap (λ n2. products_of (folded_parts samples t) (half_re n2) (half_im n2)) c.requires.first)
+    ∙ by_conjugate samples t 0 ∙ folded_sum_is_plain samples 0 t (omega arith) in
+    let e1 : c.with_conjugate-2.result ≡ correlation_at samples t 1 =
+    c.with_conjugate-2.ensures.value
+    ∙ ap with_conjugate_of
+    (c.products-shared.ensures.value
+    ∙ ap (λ f. products_of f (half_re c.args.second.now.n2) (half_im c.args.second.now.n2)) c.requires.folded
+    ∙ ap (λ n2. products_of (folded_parts samples t) (half_re n2) (half_im n2)) c.requires.second)
+    ∙ by_conjugate samples t 1 ∙ folded_sum_is_plain samples 1 t (omega arith) in
+    let e2 : c.sub.result ≡ correlation_at samples t 2 =
+    c.sub.ensures
+    ∙ ap₂ minus
+    (c.with_signal.ensures.value
+    ∙ ap with_signal_of
+    (c.products-shared.ensures.value
+    ∙ ap (λ f. products_of f (half_re c.args.second.now.n2) (half_im c.args.second.now.n2)) c.requires.folded
+    ∙ ap (λ n2. products_of (folded_parts samples t) (half_re n2) (half_im n2)) c.requires.second)
+    ∙ by_signal samples t 1)
+    (c.times_j.ensures ∙ ap times_j (c.add-ends.ensures ∙ ap₂ plus c.from.ensures.0 c.from-2.ensures.0))
+    ∙ sym (roots_share samples t) ∙ folded_sum_is_plain samples 2 t (omega arith) in
+    cc
+
+pub returns-clause-small : goal.returns-clause-small
+returns-clause-small c =
+    let both = plus-within c.from.result c.from-2.result 32768 32768 65536 c.from.ensures.1 c.from-2.ensures.1 (omega arith) in
+    let turned : IsWithin 65536 c.times_j.result = subst (IsWithin 65536) (sym (c.times_j.ensures ∙ ap times_j c.add-ends.ensures)) (times_j-within (plus c.from.result c.from-2.result) 65536 both) in
+    let third : IsWithin 8589934592 c.sub.result = subst (IsWithin 8589934592) (sym c.sub.ensures)
+    (minus-within c.with_signal.result c.times_j.result 4294967296 65536 8589934592 c.with_signal.ensures.small turned (omega arith)) in
+    let first = within_more c.with_conjugate.result 4294967296 8589934592 c.with_conjugate.ensures.small (omega arith) in
+    let second = within_more c.with_conjugate-2.result 4294967296 8589934592 c.with_conjugate-2.ensures.small (omega arith) in
+    All-cons (IsWithin 8589934592) c.with_conjugate.result (c.with_conjugate-2.result ∷ c.sub.result ∷ []) first
+    (All-cons (IsWithin 8589934592) c.with_conjugate-2.result (c.sub.result ∷ []) second
+    (All-cons (IsWithin 8589934592) c.sub.result [] third (All-nil (IsWithin 8589934592))))

@@ -1,0 +1,106 @@
+//! The samples of the three primary signals, and the sums of their squares.
+
+ghost use Rattle.std.specs.Prelude.{◌≡◌, ◌^◌, ◌≤◌};
+ghost use Rattle.pss_search.specs.Correlation.{wave_power};
+ghost use Rattle.pss_search.specs.Folding.{half_re, half_im};
+
+// The real parts of samples 0 to 64 of the signal of root 25; the later ones repeat them backward.
+const RE_25: [i32; 65] = [
+    104, 27, -99, -112, -3, 101, 111, 49, -29, -89, -120, -126, -131, -141, -137, -116, -104, -85,
+    -9, 105, 135, 30, -85, -75, 6, 20, -26, -12, 58, 44, -80, -154, -69, 69, 122, 102, 97, 114,
+    107, 90, 98, 119, 119, 94, 36, -66, -145, -93, 53, 102, -14, -102, -10, 104, 24, -151, -139,
+    66, 185, 102, 3, 26, 47, -40, -107,
+];
+
+// Their imaginary parts.
+const IM_25: [i32; 65] = [
+    -72, -7, 69, 1, -134, -132, 21, 140, 117, 48, 35, 41, 0, -41, -12, 49, 70, 70, 100, 104, 1,
+    -141, -145, 8, 117, 37, -111, -116, 26, 122, 56, -81, -145, -119, -70, -31, 13, 54, 67, 52, 36,
+    18, -26, -96, -144, -122, -34, 58, 82, 16, -77, -97, -20, 71, 69, -27, -121, -126, -53, 32, 86,
+    109, 112, 108, 105,
+];
+
+// The same of root 29.
+const RE_29: [i32; 65] = [
+    -109, -51, 63, 133, 133, 120, 131, 120, 44, -47, -73, -43, -21, 1, 75, 149, 101, -50, -119,
+    -19, 95, 55, -79, -138, -113, -110, -128, -80, 15, 38, -10, 0, 92, 147, 118, 101, 132, 110, 5,
+    -47, 24, 77, -13, -144, -161, -102, -80, -56, 53, 140, 43, -146, -171, -11, 74, -42, -164, -99,
+    48, 67, -39, -106, -57, 32, 73,
+];
+
+// Their imaginary parts.
+const IM_29: [i32; 65] = [
+    68, 6, -94, -91, 22, 100, 30, -102, -119, 7, 112, 57, -87, -147, -90, -42, -81, -124, -73, 35,
+    96, 86, 62, 36, -19, -69, -29, 93, 158, 72, -71, -112, -26, 73, 104, 88, 52, -16, -91, -84, 37,
+    154, 139, 29, -21, 46, 120, 101, 35, 21, 55, 46, -33, -112, -129, -105, -71, -12, 75, 122, 68,
+    -49, -119, -109, -87,
+];
+
+// Samples 0 to 64 of a signal, in 32 bits and in parts, by its identity within the group.
+#[derive(Clone, Copy)]
+pub(crate) struct Signal {
+    pub n2: u8,
+    pub re: [i32; 65],
+    pub im: [i32; 65],
+    ghost known: { n2 ≤ 2 },
+    ghost real: { re ≡ half_re n2 },
+    ghost imaginary: { im ≡ half_im n2 },
+}
+
+impl Signal {
+    // That of root 25 or of root 29.
+    pub(crate) fn new(n2: u8) -> Self
+        requires { n2 ≤ 1 }
+        ensures { result.n2 ≡ n2 }
+    {
+        let re = real_parts(n2);
+        let im = imaginary_parts(n2);
+        Signal { n2, re, im }
+    }
+}
+
+// Its real parts.
+fn real_parts(n2: u8) -> [i32; 65]
+    requires { n2 ≤ 1 }
+    ensures { result ≡ half_re n2 }
+{
+    if n2 == 0 { RE_25 } else { RE_29 }
+}
+
+// Its imaginary parts.
+fn imaginary_parts(n2: u8) -> [i32; 65]
+    requires { n2 ≤ 1 }
+    ensures { result ≡ half_im n2 }
+{
+    if n2 == 0 { IM_25 } else { IM_29 }
+}
+
+// The sums of the squares of all 128 samples of the signals of roots 25, 29 and 34.
+const POWERS: [u64; 3] = [1_996_394, 2_001_625, 2_001_665];
+
+// A signal by its identity within the group, with the sum of its squares.
+#[derive(Clone, Copy)]
+pub(crate) struct Root {
+    pub n2: u8,
+    pub power: u64,
+    ghost known: { n2 ≤ 2 },
+    ghost squares: { power ≡ wave_power n2 },
+}
+
+impl Root {
+    pub(crate) fn new(n2: u8) -> Self
+        requires { n2 ≤ 2 }
+        ensures { result.n2 ≡ n2 }
+    {
+        let power = power_of(n2);
+        Root { n2, power }
+    }
+}
+
+// The sum of its squares.
+fn power_of(n2: u8) -> u64
+    requires { n2 ≤ 2 }
+    ensures { result ≡ wave_power n2 }
+{
+    POWERS[n2 as usize]
+}
