@@ -1,11 +1,11 @@
--- The signals' samples: sizes, and reading them from lists.
+-- The grids of the signals, and the signals made of lists that hold them.
 use Rattle.std.proofs.Common.{◌≡◌, ℕ, ◌-◌, ◌<◌, arith, sym, subst, Bool, true, false, nat_lt}
 use Rattle.std.specs.Prelude.{All, if◌then◌else◌}
 use Rattle.finite.specs.Lists.{values_below}
 use Rattle.finite.proofs.Lists.{values_below_at, values_below_same}
 use Rattle.cs_num.specs.Complex.{IsWithin, nothing, value_at}
 use Rattle.fold128.specs.Symbol.{useful_at, useful_part}
-use Rattle.fold128.proofs.Samples.{useful_same, useful-within}
+use Rattle.fold128.proofs.Samples.{useful_same}
 use Rattle.sync_seq.specs.Primary.{pss_at}
 use Rattle.sync_seq.proofs.PrimaryValues.{pss-within}
 use Rattle.pss_search.specs.Correlation.{pss_grid, wave, wave_list}
@@ -29,14 +29,6 @@ pub wave_from : (n2 : ℕ) → useful_part (value_at (values_below 72 (pss_grid 
 unfolding useful_part
 wave_from n2 = values_below_same 128 (useful_at (value_at (values_below 72 (pss_grid n2)))) (useful_at (pss_grid n2))
     (λ n l. useful_same (value_at (values_below 72 (pss_grid n2))) (pss_grid n2) n (λ k j. values_below_at (pss_grid n2) 72 k nothing j))
-
-pub wave_at : (n2 n : ℕ) → n < 128 → value_at (wave_list n2) n ≡ wave n2 n
-unfolding useful_part wave
-wave_at n2 n l = values_below_at (useful_at (pss_grid n2)) 128 n nothing l
-
-pub wave-within : (n2 n : ℕ) → IsWithin 2287 (wave n2 n)
-unfolding wave
-wave-within n2 n = useful-within (pss_grid n2) n (λ k l. grid-within n2 k)
 
 pub grid-all_within : (n2 : ℕ) → All (IsWithin 127) (values_below 72 (pss_grid n2))
 grid-all_within n2 k d l = subst (IsWithin 127) (sym (values_below_at (pss_grid n2) 72 k d l)) (grid-within n2 k)

@@ -60,7 +60,8 @@ fn pair(samples: &[Sample], t: usize, n: usize) -> Cpx
     Cpx::from(samples[t + n]) + Cpx::from(samples[t + 128 - n])
 }
 
-// The sum of the products of two rows.
+// The sum of the products of two rows. It fits 32 bits, in any order of adding: 65 times 65,536 times 255
+// is below 2^31.
 fn dot(values: &[i32; 65], signal: &[i32; 65]) -> i32
     requires values { AllWithin 65536 values.now }
     requires signal { AllWithin 255 signal.now }

@@ -14,23 +14,24 @@ use cs_num::{Cpx, Sample};
 use sample_file::Recording;
 use std::marker::Model;
 
-/// The first place that is measured: nine before the first of the span in which hits are looked for.
+// The first place that is measured: nine before the first of the span in which hits are looked for.
 const START: usize = 128;
 
-/// The place after the last one that is measured, which is nine after the last of the span.
+// The place after the last one that is measured, which is nine after the last of the span.
 const END: usize = 19_346;
 
-/// What is measured of a place against one of the three primary signals.
+/// What is measured of a place against one of the three primary signals. (own)
 #[derive(Clone, Copy, Debug, PartialEq, Eq)]
 pub struct Metric {
     /// The square of the size of the correlation with the signal, below 2^70.
     pub peak: u128,
-    /// The energy of the 128 samples from the place on, below 2^46.
+    /// The energy of the 128 samples from the place on, at most 2^46.
     pub energy: u64,
 }
 
-/// A sweep over the places 128 to 19,345 of a recording, which measures one after the other. Contracts
-/// see it as the recording's samples and the place that comes next. It takes no memory. (own)
+/// A sweep over the places 128 to 19,345 of a recording, which measures one after the other: those of
+/// one frame's worth, and nine on each side. Contracts see it as the recording's samples and the place
+/// that comes next. It takes no memory. (own)
 #[derive(Drop)]
 pub struct Sweep<'a> {
     samples: &'a [Sample],
