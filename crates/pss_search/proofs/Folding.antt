@@ -1,11 +1,11 @@
 -- The folded sums are the plain ones, roots 29 and 34 share their products, and the energy slides.
-use Rattle.std.proofs.Common.{◌≡◌, ℕ, ◌+◌, ◌-◌, ◌<◌, ◌≤◌, arith, refl, ap, ap₂, sym, ◌∙◌, List, ℤ, pos, ◌+ℤ◌, ◌-ℤ◌, ◌*ℤ◌, neg_ℤ, slice_index_or}
+use Rattle.std.proofs.Common.{◌≡◌, ℕ, ◌+◌, ◌-◌, ◌<◌, ◌≤◌, arith, refl, ap, ap₂, sym, ◌∙◌, List, ℤ, pos, ◌+ℤ◌, ◌-ℤ◌, ◌*ℤ◌, neg_ℤ}
 use Rattle.std.proofs.lemmas.Int.{ints}
 use Rattle.std.proofs.lemmas.Bool.{lt-ltb}
 use Rattle.finite.specs.Sums.{sum_below, total_below}
 use Rattle.finite.specs.Lists.{values_below}
 use Rattle.finite.proofs.Lists.{values_below_at}
-use Rattle.finite.proofs.Sums.{sum_below_same, sum_below_plus, sum_below_minus, total_below_none, total_below_more, total_below_split, total_below_slides}
+use Rattle.finite.proofs.Sums.{sum_below_same, sum_below_plus, sum_below_minus, total_below_more, total_below_split, total_below_slides}
 use Rattle.finite.proofs.Ring.{Is, var, lit, same}
 use Rattle.finite.proofs.Ring as ring
 use Rattle.cs_num.specs.declared.Cpx.{Cpx}

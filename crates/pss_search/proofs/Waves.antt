@@ -1,5 +1,5 @@
 -- The grids of the signals, and the signals made of lists that hold them.
-use Rattle.std.proofs.Common.{◌≡◌, ℕ, ◌-◌, ◌<◌, arith, sym, subst, Bool, true, false, nat_lt}
+use Rattle.std.proofs.Common.{◌≡◌, ℕ, ◌-◌, arith, sym, subst, Bool, true, false, nat_lt}
 use Rattle.std.specs.Prelude.{All, if◌then◌else◌}
 use Rattle.finite.specs.Lists.{values_below}
 use Rattle.finite.proofs.Lists.{values_below_at, values_below_same}
@@ -8,7 +8,7 @@ use Rattle.fold128.specs.Symbol.{useful_at, useful_part}
 use Rattle.fold128.proofs.Samples.{useful_same}
 use Rattle.sync_seq.specs.Primary.{pss_at}
 use Rattle.sync_seq.proofs.PrimaryValues.{pss-within}
-use Rattle.pss_search.specs.Correlation.{pss_grid, wave, wave_list}
+use Rattle.pss_search.specs.Correlation.{pss_grid, wave_list}
 
 pub grid-within : (n2 k : ℕ) → IsWithin 127 (pss_grid n2 k)
 grid-within n2 k = first (nat_lt k 5)

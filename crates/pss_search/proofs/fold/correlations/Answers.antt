@@ -1,7 +1,5 @@
 use Rattle.std.proofs.Common.{arith, ◌≡◌, ◌∙◌, ap, ap₂, sym, subst, [], ◌∷◌}
 use Rattle.std.proofs.lemmas.List.Elements.{All-cons, All-nil}
-use Rattle.finite.proofs.Integers.{abs-difference}
-use Rattle.cs_num.specs.declared.Cpx.{Cpx}
 use Rattle.cs_num.specs.Complex.{IsWithin, plus, minus, times_j}
 use Rattle.cs_num.proofs.Complex.{within_more, plus-within, minus-within, times_j-within}
 use Rattle.pss_search.specs.Folding.{folded_parts, products_of, with_conjugate_of, with_signal_of, half_re, half_im, correlation_at}

@@ -1,6 +1,5 @@
-use Rattle.std.proofs.Common.{arith, rules, refl, ◌≡◌, ◌≤◌, ◌+◌, ◌∙◌, ap, sym, subst, length, ◌+ℤ◌, to_z, of_z, w32, FitsSigned}
+use Rattle.std.proofs.Common.{arith, rules, refl, ◌≡◌, ◌+◌, ◌∙◌, ap, sym, length, ◌+ℤ◌, to_z, of_z, w32, FitsSigned}
 use Rattle.std.proofs.lemmas.Int.{to_z-of_z, fits_signed_from_abs}
-use Rattle.std.specs.Prelude.{nat_abs}
 use Rattle.finite.specs.Sums.{sum_below}
 use Rattle.finite.proofs.Integers.{abs-sum}
 use Rattle.finite.proofs.Sums.{sum_below_more}

@@ -1,6 +1,6 @@
 use Rattle.std.proofs.Common.{◌≡◌, ◌∙◌, ◌+◌, arith, sym, ap, subst}
 use Rattle.std.specs.List.{All}
-use Rattle.pss_search.specs.Hits.{IsInSpan, hits_before, hits_of}
+use Rattle.pss_search.specs.Hits.{IsInSpan, hits_before}
 use Rattle.pss_search.specs.Steps.{so_far}
 use Rattle.pss_search.proofs.Listed.{listed_in_span}
 use Rattle.pss_search.proofs.Room.{so_far_none, hits_before_none, hits_before_more}

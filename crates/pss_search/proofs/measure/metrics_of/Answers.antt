@@ -1,6 +1,5 @@
-use Rattle.std.proofs.Common.{arith, ◌≡◌, ◌∙◌, ap, ap₂, slice_index_or}
-use Rattle.cs_num.specs.declared.Cpx.{Cpx}
-use Rattle.cs_num.specs.Complex.{nothing, value_at}
+use Rattle.std.proofs.Common.{◌∙◌, ap, ap₂}
+use Rattle.cs_num.specs.Complex.{value_at}
 use Rattle.pss_search.specs.Correlation.{peak}
 use Rattle.pss_search.specs.Metrics.{metric_of}
 use Rattle.pss_search.proofs.measure.metrics_of.Goals as goal

@@ -1,5 +1,4 @@
-use Rattle.std.proofs.Common.{arith, ◌≡◌, ◌≤◌}
-use Rattle.cs_num.specs.Complex.{square, sample_at}
+use Rattle.std.proofs.Common.{arith}
 use Rattle.pss_search.proofs.Folding.{energy_slides, first-le}
 use Rattle.pss_search.proofs.measure.next_energy.Goals as goal
 

@@ -1,4 +1,4 @@
-use Rattle.std.proofs.Common.{arith, ◌≡◌, ◌∙◌, ap, sym}
+use Rattle.std.proofs.Common.{arith, ◌≡◌, ◌∙◌, ap}
 use Rattle.pss_search.specs.Folding.{half_im}
 use Rattle.pss_search.proofs.SignalTables.{im_25, im_29, im_of}
 use Rattle.pss_search.proofs.Symmetry.{half_im_is}

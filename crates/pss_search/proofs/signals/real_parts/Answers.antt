@@ -1,4 +1,4 @@
-use Rattle.std.proofs.Common.{arith, ◌≡◌, ◌∙◌, ap, sym}
+use Rattle.std.proofs.Common.{arith, ◌≡◌, ◌∙◌, ap}
 use Rattle.pss_search.specs.Folding.{half_re}
 use Rattle.pss_search.proofs.SignalTables.{re_25, re_29, re_of}
 use Rattle.pss_search.proofs.Symmetry.{half_re_is}

@@ -1,6 +1,5 @@
 use Rattle.std.proofs.Common.{arith, rules, ◌≡◌, ◌+◌, ◌∙◌, ap, ap₂, sym, subst, length, List, ℤ}
-use Rattle.cs_num.specs.declared.Cpx.{Cpx}
-use Rattle.cs_num.specs.Complex.{IsWithin, sample_at}
+use Rattle.cs_num.specs.Complex.{sample_at}
 use Rattle.cs_num.proofs.Complex.{within_more}
 use Rattle.pss_search.specs.declared.fold.Folded.{Folded}
 use Rattle.pss_search.specs.Folding.{folded, folded_parts}
