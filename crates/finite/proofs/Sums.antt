@@ -194,6 +194,21 @@ total_some (suc n) k f l h = elim (cases_lt k n) [
     last : (a b : ℕ) → 1 ≤ b → 1 ≤ a + b
     last a b h = omega (arith, h)
 
+-- a term is at most the sum
+pub total_below-term : (n k : ℕ) (f : ℕ → ℕ) → k < n → f k ≤ total_below n f
+unfolding total_below
+total_below-term zero k f l = absurd (omega arith)
+total_below-term (suc n) k f l = elim (cases_lt k n) [
+  | inl lower ↦ first (f k) (total_below n f) (f n) (total_below-term n k f lower)
+  | inr here ↦ let e : n ≡ k = omega arith in subst (λ i. f i ≤ total_below n f + f n) e (last (total_below n f) (f n))
+]
+  where
+    first : (x a b : ℕ) → x ≤ a → x ≤ a + b
+    first x a b h = omega (arith, h)
+
+    last : (a b : ℕ) → b ≤ a + b
+    last a b = omega arith
+
 -- ---- numbers that are not 0
 
 -- whether a number is not 0

@@ -1,7 +1,7 @@
 -- What tests of the numbers below n tell.
 use Rattle.std.proofs.Common.{◌≡◌, ℕ, zero, suc, ◌+◌, ◌<◌, arith, refl, ap, ap₂, ◌∙◌, sym, subst, inl, inr, Bool, true, false, nat_lt, add-one}
 use Rattle.std.specs.Prelude.{◌&&◌, ◌||◌}
-use Rattle.std.proofs.lemmas.Bool.{ltb-true, ltb-false, and_parts, and_from, or_cases, or_left, or_right}
+use Rattle.std.proofs.lemmas.Bool.{cases_lt, ltb-true, ltb-false, and_parts, and_from, or_cases, or_left, or_right}
 use Rattle.std.proofs.Math.Bool.{true≢false}
 use Rattle.finite.specs.Tests.{any_below, every_below}
 
@@ -80,3 +80,10 @@ pub every_below_same : (n : ℕ) (p q : ℕ → Bool) → ((k : ℕ) → k < n �
 unfolding every_below
 every_below_same zero p q h = refl
 every_below_same (suc n) p q h = ap₂ ◌&&◌ (every_below_same n p q (λ k l. h k (omega (arith, l)))) (h n (omega arith))
+
+-- what holds of each number below n, and of n, holds of each below n + 1
+pub each_below_more : (P : ℕ → Type 0) (n : ℕ) → ((k : ℕ) → k < n → P k) → P n → (k : ℕ) → k < n + 1 → P k
+each_below_more P n before here k below = elim (cases_lt k n) [
+  | inl lower ↦ before k lower
+  | inr past ↦ let e : n ≡ k = omega arith in subst P e here
+]

@@ -1,10 +1,10 @@
 -- Two rows that are filled with the parts of numbers, place by place.
-use Rattle.std.proofs.Common.{◌≡◌, ℕ, ◌+◌, ◌<◌, arith, ap, subst, ◌∙◌, List, ℤ, pos, length, set, length-set, get_or, inl, inr}
-use Rattle.std.proofs.lemmas.Bool.{cases_lt}
+use Rattle.std.proofs.Common.{◌≡◌, ℕ, ◌+◌, ◌<◌, arith, ap, subst, ◌∙◌, List, ℤ, pos, length, set, length-set, get_or}
 use Rattle.std.proofs.lemmas.List.Edits.{fill_by_more}
 use Rattle.std.proofs.lemmas.List.FromFn.{fill_by_all}
 use Rattle.finite.specs.Sizes.{AllWithin}
 use Rattle.finite.specs.Lists.{values_below}
+use Rattle.finite.proofs.Tests.{each_below_more}
 use Rattle.finite.proofs.Lists.{values_below_at}
 use Rattle.cs_num.specs.declared.Cpx.{Cpx}
 use Rattle.cs_num.specs.Complex.{IsWithin}
@@ -36,16 +36,8 @@ filled_more f n re im re2 im2 value before l er ei e within =
       whole_im = length-set im n (f n).im ∙ before.whole_im;
       each_re = fill_by_more (λ k. (f k).re) re n (pos 0) (omega (arith, before.whole_re, l)) before.each_re;
       each_im = fill_by_more (λ k. (f k).im) im n (pos 0) (omega (arith, before.whole_im, l)) before.each_im;
-      small = λ k below. settle k below;
+      small = each_below_more (λ k. IsWithin 65536 (f k)) n before.small (subst (IsWithin 65536) e within);
     })
-  where
-    settle : (k : ℕ) → k < n + 1 → IsWithin 65536 (f k)
-    settle k below = elim (cases_lt k n) [
-      | inl lower ↦ before.small k lower
-      | inr past ↦
-          let here : n ≡ k = omega (arith, below, past) in
-          subst (λ j. IsWithin 65536 (f j)) here (subst (IsWithin 65536) e within)
-    ]
 
 pub filled_re : (f : ℕ → Cpx) (re im : List ℤ) → Filled f 65 re im → re ≡ values_below 65 (λ n. (f n).re)
 filled_re f re im all = fill_by_all (λ n. (f n).re) re 65 (pos 0) all.whole_re all.each_re

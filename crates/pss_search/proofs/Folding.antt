@@ -1,11 +1,11 @@
 -- The folded sums are the plain ones, roots 29 and 34 share their products, and the energy slides.
-use Rattle.std.proofs.Common.{◌≡◌, ℕ, ◌+◌, ◌-◌, ◌<◌, ◌≤◌, arith, refl, ap, ap₂, sym, ◌∙◌, List, ℤ, pos, ◌+ℤ◌, ◌-ℤ◌, ◌*ℤ◌, neg_ℤ}
+use Rattle.std.proofs.Common.{◌≡◌, ℕ, ◌+◌, ◌-◌, ◌<◌, ◌≤◌, arith, refl, ap, ap₂, sym, subst, ◌∙◌, List, ℤ, pos, ◌+ℤ◌, ◌-ℤ◌, ◌*ℤ◌, neg_ℤ}
 use Rattle.std.proofs.lemmas.Int.{ints}
 use Rattle.std.proofs.lemmas.Bool.{lt-ltb}
 use Rattle.finite.specs.Sums.{sum_below, total_below}
 use Rattle.finite.specs.Lists.{values_below}
 use Rattle.finite.proofs.Lists.{values_below_at}
-use Rattle.finite.proofs.Sums.{sum_below_same, sum_below_plus, sum_below_minus, total_below_more, total_below_split, total_below_slides}
+use Rattle.finite.proofs.Sums.{sum_below_same, sum_below_plus, sum_below_minus, total_below-within, total_below-term, total_below_slides}
 use Rattle.finite.proofs.Ring.{Is, var, lit, same}
 use Rattle.finite.proofs.Ring as ring
 use Rattle.cs_num.specs.declared.Cpx.{Cpx}
@@ -171,10 +171,15 @@ energy_slides recording t = total_below_slides 128 t (λ i. square (sample_at re
 pub first-le : (recording : List Sample) (t : ℕ) → square (sample_at recording t) ≤ energy recording t
 unfolding energy
 first-le recording t =
-    let e : energy_term recording t 0 ≡ square (sample_at recording t) = ap (λ i. square (sample_at recording i)) (let here : t + 0 ≡ t = omega arith in here) in
-    part (total_below 128 (energy_term recording t)) (total_below 1 (energy_term recording t)) (total_below 0 (energy_term recording t)) (energy_term recording t 0)
-    (total_below 127 (λ k. energy_term recording t (1 + k))) (square (sample_at recording t))
-    (total_below_split 1 127 (energy_term recording t)) (total_below_more 0 (energy_term recording t)) e
-  where
-    part : (whole one none first rest square : ℕ) → whole ≡ one + rest → one ≡ none + first → first ≡ square → square ≤ whole
-    part whole one none first rest square a b e = omega (arith, a, b, e)
+    let e : t + 0 ≡ t = omega arith in
+    subst (λ i. square (sample_at recording i) ≤ total_below 128 (energy_term recording t)) e (total_below-term 128 0 (energy_term recording t) (omega arith))
+
+-- it is at most 2 ^ 38 where each square from sample 128 on is at most 2 ^ 31
+pub energy-small : (recording : List Sample) (place : ℕ) → 128 ≤ place → ((k : ℕ) → k < place → square (sample_at recording (k + 128)) ≤ 2147483648) →
+    energy recording place ≤ 274877906944
+unfolding energy
+energy-small recording place first each =
+    total_below-within 128 2147483648 (energy_term recording place)
+    (λ n l.
+    let e : place + n - 128 + 128 ≡ place + n = omega (arith, first) in
+    subst (λ i. square (sample_at recording i) ≤ 2147483648) e (each (place + n - 128) (omega (arith, first, l))))

@@ -1,7 +1,8 @@
 -- The code's steps: the list while it grows, and how great its numbers are.
-use Rattle.std.specs.Prelude.{◌≡◌, ℕ, ◌+◌, ◌*◌, ◌%◌, ◌^◌, ◌<◌, ◌≤◌, List, ◌++◌, All, length, slice_index_or, nat_abs, []}
+use Rattle.std.specs.Prelude.{◌≡◌, ℕ, ◌+◌, ◌%◌, ◌^◌, ◌<◌, ◌≤◌, List, ◌++◌, All, length, slice_index_or, nat_abs, []}
 use Rattle.finite.specs.Sizes.{AllWithin}
 use Rattle.cs_num.specs.declared.Sample.{Sample}
+use Rattle.cs_num.specs.Complex.{square, sample_at}
 use Rattle.lte_types.specs.declared.Hit.{Hit}
 use Rattle.finite.specs.Lists.{joined_below}
 use Rattle.pss_search.specs.declared.measure.Metric.{Metric}
@@ -14,17 +15,17 @@ use Rattle.pss_search.specs.Hits.{first_place, hit_at, hits_before}
 
 -- ---- sizes
 
--- the two numbers of a metric fit 70 and 46 bits
+-- how great the two numbers of a metric are
 pub record IsSmallMetric (metric : Metric) : Type 0 where
   pub peak : metric.peak < 2 ^ 70
-  pub energy : metric.energy ≤ 2 ^ 46
+  pub energy : metric.energy ≤ 2 ^ 38
 
 -- the metric of place t for n2, and so small
 pub record IsMetricOf (recording : List Sample) (n2 t : ℕ) (metric : Metric) : Type 0 where
   pub peak : metric.peak ≡ peak recording n2 t
   pub energy : metric.energy ≡ energy recording t
   pub small_peak : metric.peak < 2 ^ 70
-  pub small_energy : metric.energy ≤ 2 ^ 46
+  pub small_energy : metric.energy ≤ 2 ^ 38
 
 -- parts of folded samples have size at most 65,536
 pub record IsSmallFolded (folded : Folded) : Type 0 where
@@ -40,13 +41,14 @@ pub record AreSmallProducts (p : ProductSums) : Type 0 where
 
 -- ---- a sweep
 
--- its place is one of those to be measured or the end, and it knows the energy there
+-- its place is one of those to be measured or the end, it knows the energy there, and the squares of the samples that it
+-- has seen are no greater than those of 16-bit numbers
 pub record IsReady (recording : List Sample) (place total : ℕ) : Type 0 where
   pub long : 57600 ≤ length recording
   pub first : 128 ≤ place
   pub last : place ≤ end_place
   pub energy : total ≡ energy recording place
-  pub small : total ≤ place * 2 ^ 31
+  pub small : (k : ℕ) → k < place → square (sample_at recording (k + 128)) ≤ 2 ^ 31
 
 -- ---- the last 19 places
 
@@ -61,7 +63,8 @@ empty_row = record { metrics = [] }
 -- the rows hold the metrics of the last 19 places before this one, that of place u at u modulo 19
 pub record HoldsLast (recording : List Sample) (place : ℕ) (rows : List Row) : Type 0 where
   pub whole : length rows ≡ 19
-  pub each : (u : ℕ) → 128 ≤ u → u < place → place ≤ u + 19 → IsRowOf recording u (slice_index_or rows (u % 19) empty_row)
+  pub each : (u : ℕ) → 128 ≤ u → u < place → place ≤ u + 19 →
+      IsRowOf recording u (slice_index_or rows (u % 19) empty_row)
 
 -- ---- the list
 

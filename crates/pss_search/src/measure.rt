@@ -25,7 +25,7 @@ const END: usize = 19_346;
 pub struct Metric {
     /// The square of the size of the correlation with the signal, below 2^70.
     pub peak: u128,
-    /// The energy of the 128 samples from the place on, at most 2^46.
+    /// The energy of the 128 samples from the place on, at most 2^38.
     pub energy: u64,
 }
 
@@ -112,7 +112,7 @@ impl<'a> Sweep<'a> {
 // The metrics of three correlations and an energy.
 fn metrics_of(sums: &[Cpx; 3], total: u64) -> [Metric; 3]
     requires small { All (IsWithin (2 ^ 33)) sums.now }
-    requires few { total ≤ 2 ^ 46 }
+    requires few { total ≤ 2 ^ 38 }
     ensures value { (recording : List SampleValue) → (t : ℕ) → sums.now ≡ correlations_at recording t →
         total ≡ energy recording t → result ≡ metrics_at recording t }
     ensures small { All IsSmallMetric result }
@@ -127,7 +127,7 @@ fn metrics_of(sums: &[Cpx; 3], total: u64) -> [Metric; 3]
 // The metric of a correlation and an energy.
 fn metric_of(correlation: Cpx, total: u64) -> Metric
     requires small { IsWithin (2 ^ 33) correlation }
-    requires few { total ≤ 2 ^ 46 }
+    requires few { total ≤ 2 ^ 38 }
     ensures value { result ≡ made_metric correlation total }
     ensures small { IsSmallMetric result }
 {
@@ -141,9 +141,9 @@ fn metric_of(correlation: Cpx, total: u64) -> Metric
 fn next_energy(samples: &[Sample], t: usize, total: u64) -> u64
     requires room { t + 129 ≤ length samples.now }
     requires energy { total ≡ energy samples.now t }
-    requires few { total ≤ 2 ^ 46 }
+    requires few { total ≤ 2 ^ 38 }
     ensures value { result ≡ energy samples.now (t + 1) }
-    ensures small { result ≤ total + 2 ^ 31 }
+    ensures last { square (sample_at samples.now (t + 128)) ≤ 2 ^ 31 }
 {
     total - energy_part(samples[t]) + energy_part(samples[t + 128])
 }
@@ -152,7 +152,7 @@ fn next_energy(samples: &[Sample], t: usize, total: u64) -> u64
 fn energy_sum(samples: &[Sample], t: usize) -> u64
     requires { t + 128 ≤ length samples.now }
     ensures value { result ≡ energy samples.now t }
-    ensures small { result ≤ 2 ^ 38 }
+    ensures each { (n : ℕ) → n < 128 → square (sample_at samples.now (t + n)) ≤ 2 ^ 31 }
 {
     let mut sum: u64 = 0;
     for n in 0..128 {

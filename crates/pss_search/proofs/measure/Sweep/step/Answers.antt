@@ -1,0 +1,13 @@
+use Rattle.std.proofs.Common.{arith}
+use Rattle.pss_search.proofs.Folding.{energy-small}
+use Rattle.pss_search.proofs.measure.Sweep.step.Goals as goal
+
+pub metrics_of-metrics-requires-clause-few : goal.metrics_of-metrics-requires-clause-few
+metrics_of-metrics-requires-clause-few c =
+    let ready = c.self.invariant.0 in
+    omega (arith, ready.energy, energy-small c.self.inside.samples.now c.self.inside.place ready.first ready.small)
+
+pub next_energy-self-inside-requires-clause-few : goal.next_energy-self-inside-requires-clause-few
+next_energy-self-inside-requires-clause-few c =
+    let ready = c.self.invariant.0 in
+    omega (arith, ready.energy, energy-small c.self.inside.samples.now c.self.inside.place ready.first ready.small)
