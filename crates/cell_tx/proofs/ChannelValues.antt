@@ -1,9 +1,7 @@
 -- What the code finds of each channel at a place is its value there.
-use Rattle.std.proofs.Common.{◌≡◌, ℕ, ◌<◌, ◌≤◌, Bool, true, false, ◌&&◌, nat_eq, List, length, take, get_or, Some, None, if◌then◌else◌, refl, ap, ap₂, sym, ◌∙◌, arith}
+use Rattle.std.proofs.Common.{◌≡◌, ℕ, ◌<◌, ◌≤◌, Bool, true, false, ◌&&◌, nat_eq, List, length, get_or, Some, None, if◌then◌else◌, refl, ap, sym, ◌∙◌, arith}
 use Rattle.std.proofs.lemmas.Bool.{lt-ltb, ltb-true}
-use Rattle.std.proofs.lemmas.List.{length-take}
 use Rattle.finite.specs.Lists.{values_below}
-use Rattle.finite.proofs.Lists.{values_below_at}
 use Rattle.cs_num.specs.declared.Cpx.{Cpx}
 use Rattle.grid_map.specs.declared.Place.{Place}
 use Rattle.grid_map.specs.Place.{place, index_in}
@@ -12,12 +10,11 @@ use Rattle.grid_map.specs.Control.{pcfich_places}
 use Rattle.grid_map.proofs.Points.{length-pbch_places, index_fits, carries_at_index}
 use Rattle.grid_map.proofs.Pieces.{length-pcfich_places}
 use Rattle.cell_tx.specs.declared.cell.CellPlan.{CellPlan}
-use Rattle.cell_tx.specs.declared.channels.Channels.{Channels}
 use Rattle.cell_tx.specs.Block.{broadcast_point}
 use Rattle.cell_tx.specs.Control.{indicator_point, control_places, control_point}
 use Rattle.cell_tx.specs.Shared.{shared_places, shared_point}
 use Rattle.cell_tx.specs.Grid.{is_one_of, has_system_information, broadcast_value, control_value, shared_value}
-use Rattle.cell_tx.specs.Rows.{value_in, broadcast_if, indicator_if, control_if, shared_if, AreChannels}
+use Rattle.cell_tx.specs.Rows.{value_in, broadcast_if, indicator_if, control_if, shared_if}
 use Rattle.cell_tx.proofs.PlaceValues.{values_are}
 
 -- the list of the broadcast channel's places has those that carry it
@@ -38,36 +35,32 @@ both_true true b c e f = f
 both_true false b c e f = absurd cc
 
 -- a channel that the code looks up
-looked_up : (places others : List Place) (points : List Cpx) (n : ℕ) (f : ℕ → Cpx) (p : Place) → places ≡ others → points ≡ values_below n f → length others ≤ n
-    → value_in places points p ≡ (if is_one_of others p then Some (f (index_in others p)) else None)
-looked_up places others points n f p e g room = ap₂ (λ (ps : List Place) (zs : List Cpx). value_in ps zs p) e g ∙ values_are others p n f room
+looked_up : (places : List Place) (points : List Cpx) (n : ℕ) (f : ℕ → Cpx) (p : Place) → points ≡ values_below n f → length places ≤ n
+    → value_in places points p ≡ (if is_one_of places p then Some (f (index_in places p)) else None)
+looked_up places points n f p e room = ap (λ (zs : List Cpx). value_in places zs p) e ∙ values_are places p n f room
 
-module _ (plan : CellPlan) (sfn : ℕ) (channels : Channels) (a : AreChannels plan sfn channels) (subframe symbol k : ℕ) where
+module _ (plan : CellPlan) (sfn subframe symbol k : ℕ) where
   abbrev here : Place
   here = place symbol k
 
-  pub broadcast_is : subframe ≡ 0 → value_in channels.broadcast_places channels.broadcast here ≡ broadcast_if plan sfn subframe symbol k
+  pub broadcast_is : (points : List Cpx) → points ≡ values_below 240 (broadcast_point plan sfn) → subframe ≡ 0 → value_in (pbch_places plan.identity) points here ≡ broadcast_if plan sfn subframe symbol k
   unfolding pbch_index
-  broadcast_is first =
-      looked_up channels.broadcast_places (pbch_places plan.identity) channels.broadcast 240 (broadcast_point plan sfn) here a.broadcast_places a.broadcast (let n = length-pbch_places plan.identity in omega (arith, n))
+  broadcast_is points is first =
+      looked_up (pbch_places plan.identity) points 240 (broadcast_point plan sfn) here is (let n = length-pbch_places plan.identity in omega (arith, n))
       ∙ ap (λ (b : Bool). if b then Some (broadcast_value plan sfn symbol k) else None)
       (both_true (nat_eq subframe 0) _ (is_pbch plan.identity here) (ap (λ s. nat_eq s 0) first) (is_pbch_place plan.identity here))
 
-  pub indicator_is : (points others : List Cpx) → subframe < 10 → points ≡ get_or channels.indicators subframe others → value_in channels.indicator_places points here ≡ indicator_if plan subframe symbol k
-  indicator_is points others inside is =
-      looked_up channels.indicator_places (pcfich_places plan.identity) points 16 (indicator_point plan subframe) here a.indicator_places
-      (is ∙ ap (λ rows. get_or rows subframe others) a.indicators ∙ values_below_at (λ s. values_below 16 (indicator_point plan s)) 10 subframe others inside)
-      (let n = length-pcfich_places plan.identity in omega (arith, n))
+  pub indicator_is : (points : List Cpx) → points ≡ values_below 16 (indicator_point plan subframe) → value_in (pcfich_places plan.identity) points here ≡ indicator_if plan subframe symbol k
+  indicator_is points is = looked_up (pcfich_places plan.identity) points 16 (indicator_point plan subframe) here is (let n = length-pcfich_places plan.identity in omega (arith, n))
 
-  pub control_is : length channels.control_places ≡ 144 → has_system_information sfn subframe ≡ true → value_in channels.control_places channels.control here ≡ control_if plan sfn subframe symbol k
-  control_is whole e =
-      looked_up channels.control_places (control_places plan) channels.control 144 (control_point plan sfn) here a.control_places a.control
-      (let n = ap length a.control_places in omega (arith, n, whole))
+  pub control_is : (points : List Cpx) → points ≡ values_below 144 (control_point plan sfn) → length (control_places plan) ≡ 144 → has_system_information sfn subframe ≡ true
+      → value_in (control_places plan) points here ≡ control_if plan sfn subframe symbol k
+  control_is points is whole e =
+      looked_up (control_places plan) points 144 (control_point plan sfn) here is (omega (arith, whole))
       ∙ ap (λ (b : Bool). if b then Some (control_value plan sfn symbol k) else None) (both_true (has_system_information sfn subframe) _ _ e refl)
 
-  pub shared_is : (places : List Place) → places ≡ take channels.shared_count channels.shared_places → has_system_information sfn subframe ≡ true
-      → value_in places channels.shared here ≡ shared_if plan sfn subframe symbol k
-  shared_is places is e =
-      looked_up places (shared_places plan) channels.shared 612 (shared_point plan sfn) here (is ∙ a.shared_places) a.shared
-      (let n = ap length a.shared_places in let t = length-take channels.shared_count channels.shared_places in let few = a.count in omega (arith, n, t, few))
+  pub shared_is : (points : List Cpx) → points ≡ values_below 612 (shared_point plan sfn) → length (shared_places plan) ≤ 612 → has_system_information sfn subframe ≡ true
+      → value_in (shared_places plan) points here ≡ shared_if plan sfn subframe symbol k
+  shared_is points is few e =
+      looked_up (shared_places plan) points 612 (shared_point plan sfn) here is few
       ∙ ap (λ (b : Bool). if b then Some (shared_value plan sfn symbol k) else None) (both_true (has_system_information sfn subframe) _ _ e refl)

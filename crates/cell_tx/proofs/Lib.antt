@@ -2,6 +2,7 @@ pub mod Word
 pub mod Elements
 pub mod Bounds
 pub mod Symbols
+pub mod Frames
 pub mod Sendable
 pub mod BlockRows
 pub mod PlaceValues

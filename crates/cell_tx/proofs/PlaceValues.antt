@@ -1,6 +1,7 @@
 -- The point that a place carries, by the places of a channel.
-use Rattle.std.proofs.Common.{◌≡◌, ℕ, ◌<◌, ◌≤◌, Bool, true, false, nat_lt, List, length, get_or, Some, None, if◌then◌else◌, refl, ap, sym, ◌∙◌, arith}
-use Rattle.std.proofs.lemmas.Bool.{lt-ltb, le-ltb, ltb-true}
+use Rattle.std.proofs.Common.{◌≡◌, ℕ, ◌+◌, ◌<◌, ◌≤◌, ◌⊎◌, inl, inr, Bool, true, false, nat_lt, List, length, get_or, Some, None, if◌then◌else◌, refl, ap, sym, subst, ◌∙◌, arith}
+use Rattle.std.proofs.lemmas.Bool.{lt-ltb, le-ltb, ltb-true, cases_lt}
+use Rattle.std.proofs.Math.Bool.{true≢false}
 use Rattle.std.proofs.lemmas.List.Sums.{position_or_len_is}
 use Rattle.finite.specs.Lists.{values_below}
 use Rattle.finite.proofs.Lists.{values_below_at}
@@ -33,18 +34,61 @@ module _ (places : List Place) (p : Place) where
       let e : index_in places p ≡ length places = index_is (length places) (omega arith) none (λ l. absurd (omega (arith, l))) in
       rw e (le-ltb (length places) (length places) (omega arith))
 
-  pub found_at : (points : List Cpx) (i : ℕ) → i < length places → get_or places i (place 0 0) ≡ p → ((j : ℕ) → j < i → get_or places j (place 0 0) ≡ p → ⊥) → Some (value_at points i) ≡ value_in places points p
-  found_at points i inside here before =
-      let e : index_in places p ≡ i = index_is i (omega (arith, inside)) before (λ l. here) in
-      let t : nat_lt i (length places) ≡ true = lt-ltb i (length places) inside in
-      rw (e, t) refl
-
-  pub not_found : (points : List Cpx) → IsAbsent → None ≡ value_in places points p
-  not_found points none = rw (absent_is none) refl
-
   pub values_are : (n : ℕ) (f : ℕ → Cpx) → length places ≤ n → value_in places (values_below n f) p ≡ (if is_one_of places p then Some (f (index_in places p)) else None)
   values_are n f room = by (is_one_of places p) refl
     where
       by : (b : Bool) → is_one_of places p ≡ b → (if b then Some (value_at (values_below n f) (index_in places p)) else None) ≡ (if b then Some (f (index_in places p)) else None)
       by true e = let inside = ltb-true (index_in places p) (length places) e in ap (λ (z : Cpx). Some z) (values_below_at f n (index_in places p) nothing (omega (arith, inside, room)))
       by false e = refl
+
+-- ---- tables of places
+
+-- no place before number i of a list is p
+abbrev pub IsNoneBefore : List Place → Place → ℕ → Type 0
+IsNoneBefore places p i = (j : ℕ) → j < i → get_or places j (place 0 0) ≡ p → ⊥
+
+-- n is the number of the first place before number i that is p, and the count of places where there is none
+abbrev pub IsFirstBefore : List Place → Place → ℕ → ℕ → Type 0
+IsFirstBefore places p i n =
+    ((n ≡ length places) × IsNoneBefore places p i) ⊎ ((n < i) × (get_or places n (place 0 0) ≡ p) × IsNoneBefore places p n)
+
+-- one place more: what a table has then
+pub first_more : (places : List Place) (p : Place) (i old new : ℕ) → i < length places
+    → (p ≡ get_or places i (place 0 0) → old ≡ length places → new ≡ i)
+    → ((old ≡ length places → ⊥) → new ≡ old)
+    → ((p ≡ get_or places i (place 0 0) → ⊥) → new ≡ old)
+    → IsFirstBefore places p i old → IsFirstBefore places p (i + 1) new
+first_more places p i old new inside here taken elsewhere (inr (few, at, none)) =
+    let same : new ≡ old = taken (λ e. absurd (omega (arith, e, few, inside))) in
+    rw same (inr (omega (arith, few), at, none))
+first_more places p i old new inside here taken elsewhere (inl (all, none)) = settle (same_place p q) refl
+  where
+    q : Place
+    q = get_or places i (place 0 0)
+
+    settle : (b : Bool) → same_place p q ≡ b → IsFirstBefore places p (i + 1) new
+    settle true e =
+        let is : p ≡ q = same_place-true p q e in
+        rw (here is all) (inr (omega arith, sym is, none))
+    settle false e =
+        let apart : p ≡ q → ⊥ = λ is. absurd (true≢false (sym (ap (same_place p) (sym is) ∙ same_place-refl p) ∙ e)) in
+        rw (elsewhere apart) (inl (all, λ j l at. elim (cases_lt j i) [
+          | inl below ↦ none j below at
+          | inr past ↦ let last : j ≡ i = omega (arith, l, past) in apart (sym (subst (λ n. get_or places n (place 0 0) ≡ p) last at))
+        ]))
+
+-- and after the last place
+pub first_of_all : (places : List Place) (p : Place) (n : ℕ) → IsFirstBefore places p (length places) n → n ≡ index_in places p
+first_of_all places p n (inl (all, none)) = all ∙ sym (index_is places p (length places) (omega arith) none (λ l. absurd (omega (arith, l))))
+first_of_all places p n (inr (few, at, none)) = sym (index_is places p n (omega (arith, few)) none (λ l. at))
+
+-- what is read from a table
+pub read_there : (places : List Place) (points : List Cpx) (p : Place) (n count : ℕ) → count ≡ length places → n ≡ index_in places p → n < count → Some (value_at points n) ≡ value_in places points p
+read_there places points p n count all is inside =
+    let t : nat_lt (index_in places p) (length places) ≡ true = lt-ltb _ _ (omega (arith, all, is, inside)) in
+    rw (t, is) refl
+
+pub read_elsewhere : (places : List Place) (points : List Cpx) (p : Place) (n count : ℕ) → count ≡ length places → n ≡ index_in places p → count ≤ n → None ≡ value_in places points p
+read_elsewhere places points p n count all is past =
+    let t : nat_lt (index_in places p) (length places) ≡ false = le-ltb _ _ (omega (arith, all, is, past)) in
+    rw t refl

@@ -1,17 +1,23 @@
 -- What the code makes of a frame, part by part. (own)
-use Rattle.std.specs.Prelude.{ℕ, ◌+◌, ◌-◌, ◌*◌, ◌/◌, ◌%◌, ◌<◌, ◌≤◌, ◌≡◌, nat_eq, if◌then◌else◌, Option, Some, None, List, take, slice_index_or}
+use Rattle.std.specs.Prelude.{ℕ, ◌+◌, ◌-◌, ◌*◌, ◌/◌, ◌%◌, ◌<◌, ◌≤◌, ◌≡◌, nat_eq, if◌then◌else◌, Option, Some, None, List, length, slice_index_or}
 use Rattle.finite.specs.Lists.{values_below}
 use Rattle.cs_num.specs.declared.Cpx.{Cpx}
 use Rattle.cs_num.specs.declared.Sample.{Sample}
 use Rattle.cs_num.specs.Complex.{silence, value_at}
 use Rattle.lte_types.specs.Numerology.{frame_length, slot_length, useful_length, normal, symbol_step, symbol_of}
+use Rattle.lte_types.specs.declared.frame.Half.TheVariants.{Zero, Five}
+use Rattle.sync_seq.specs.Primary.{pss_list}
+use Rattle.sync_seq.specs.Secondary.{sss_list}
 use Rattle.crs.specs.Reference.{is_reference, reference_at}
 use Rattle.grid_map.specs.declared.Place.{Place}
-use Rattle.grid_map.specs.Place.{index_in}
+use Rattle.grid_map.specs.Place.{place, index_in}
 use Rattle.grid_map.specs.Broadcast.{pbch_places}
 use Rattle.grid_map.specs.Control.{pcfich_places}
 use Rattle.cell_tx.specs.declared.cell.CellPlan.{CellPlan}
-use Rattle.cell_tx.specs.declared.channels.Channels.{Channels}
+use Rattle.cell_tx.specs.declared.points.PlaceTable.{PlaceTable}
+use Rattle.cell_tx.specs.declared.layout.Layout.{Layout}
+use Rattle.cell_tx.specs.declared.layout.Carried.{Carried}
+use Rattle.cell_tx.specs.declared.layout.Versions.{Versions}
 use Rattle.cell_tx.specs.Block.{broadcast_point}
 use Rattle.cell_tx.specs.Control.{indicator_point, control_places, control_point}
 use Rattle.cell_tx.specs.Shared.{shared_places, shared_point}
@@ -43,17 +49,35 @@ abbrev pub shared_if : CellPlan → ℕ → ℕ → ℕ → ℕ → Option Cpx
 shared_if plan sfn subframe symbol k =
     if is_shared plan sfn subframe symbol k then Some (shared_value plan sfn symbol k) else None
 
--- what the channels of a plan's frame carry, and where
-pub record AreChannels (plan : CellPlan) (sfn : ℕ) (channels : Channels) : Type 0 where
-  pub broadcast_places : channels.broadcast_places ≡ pbch_places plan.identity
-  pub broadcast : channels.broadcast ≡ values_below 240 (broadcast_point plan sfn)
-  pub indicator_places : channels.indicator_places ≡ pcfich_places plan.identity
-  pub indicators : channels.indicators ≡ values_below 10 (λ subframe. values_below 16 (indicator_point plan subframe))
-  pub control_places : channels.control_places ≡ control_places plan
-  pub control : channels.control ≡ values_below 144 (control_point plan sfn)
-  pub count : channels.shared_count ≤ 612
-  pub shared_places : take channels.shared_count channels.shared_places ≡ shared_places plan
-  pub shared : channels.shared ≡ values_below 612 (shared_point plan sfn)
+-- a table has for each place of a subframe its number in a list of places, and their count where it is not in it
+pub record IsTableOf (places : List Place) (table : PlaceTable) : Type 0 where
+  pub count : table.count ≡ length places
+  pub number : (symbol k : ℕ) → symbol < 14 → k < 72 → slice_index_or table.numbers (72 * symbol + k) 0 ≡ index_in places (place symbol k)
+
+-- what is the same in every frame of a plan: the synchronisation signals, where the channels stand, and the indicators
+pub record IsLayout (plan : CellPlan) (layout : Layout) : Type 0 where
+  pub primary : layout.primary ≡ pss_list (plan.identity % 3)
+  pub zero : layout.zero ≡ sss_list (plan.identity / 3) (plan.identity % 3) Zero
+  pub five : layout.five ≡ sss_list (plan.identity / 3) (plan.identity % 3) Five
+  pub broadcast : IsTableOf (pbch_places plan.identity) layout.broadcast
+  pub indicator : IsTableOf (pcfich_places plan.identity) layout.indicator
+  pub indicators : layout.indicators ≡ values_below 10 (λ subframe. values_below 16 (indicator_point plan subframe))
+  pub control : IsTableOf (control_places plan) layout.control
+  pub control_count : layout.control.count ≡ 144
+  pub shared : IsTableOf (shared_places plan) layout.shared
+  pub shared_count : layout.shared.count ≤ 612
+
+-- what grants the system information of a frame, and the points that carry it
+pub record IsCarried (plan : CellPlan) (sfn : ℕ) (carried : Carried) : Type 0 where
+  pub control : carried.control ≡ values_below 144 (control_point plan sfn)
+  pub shared : carried.shared ≡ values_below 612 (shared_point plan sfn)
+
+-- the same for each redundancy version: those of frames 0, 2, 4 and 6
+pub record AreVersions (plan : CellPlan) (versions : Versions) : Type 0 where
+  pub first : IsCarried plan 0 versions.first
+  pub second : IsCarried plan 2 versions.second
+  pub third : IsCarried plan 4 versions.third
+  pub fourth : IsCarried plan 6 versions.fourth
 
 -- the sample of the useful part of its symbol that sample i of a slot repeats or is
 abbrev pub useful_place : ℕ → ℕ
@@ -68,6 +92,11 @@ first_sample n =
 unfoldable pub frame_samples : Elements → ℕ → List Sample
 frame_samples grid sfn = values_below frame_length (λ i. sample_of (frame_sample grid sfn i))
 
--- the first samples of a list, so many, are these
-abbrev pub HasSamples : List Sample → (ℕ → Cpx) → ℕ → Type 0
-HasSamples samples values count = (i : ℕ) → i < count → slice_index_or samples i silence ≡ sample_of (values i)
+-- the samples of a list from first on up to last are these
+abbrev pub HasSamples : List Sample → (ℕ → Cpx) → ℕ → ℕ → Type 0
+HasSamples samples values first last = (i : ℕ) → first ≤ i → i < last → slice_index_or samples i silence ≡ sample_of (values i)
+
+-- two lists of samples are the same before first, and from last on
+pub record AreSameOutside (first last : ℕ) (before now : List Sample) : Type 0 where
+  pub earlier : (i : ℕ) → i < first → slice_index_or now i silence ≡ slice_index_or before i silence
+  pub later : (i : ℕ) → last ≤ i → slice_index_or now i silence ≡ slice_index_or before i silence

@@ -3,58 +3,58 @@
 ghost use Rattle.std.specs.Prelude.{ℕ, ◌≡◌, ◌⊎◌, ◌+◌, ◌*◌, ◌/◌, ◌%◌, ◌<◌, ◌≤◌, Some, None, All, nat_abs, if◌then◌else◌};
 ghost use Rattle.finite.specs.Lists.{values_below};
 ghost use Rattle.cs_num.specs.Complex.{IsWithin};
-ghost use Rattle.lte_types.specs.declared.frame.Half.TheVariants.{Zero, Five};
 ghost use Rattle.lte_types.specs.Numerology.{half_of};
-ghost use Rattle.sync_seq.specs.Primary.{pss_list};
-ghost use Rattle.sync_seq.specs.Secondary.{sss_at, sss_list};
+ghost use Rattle.sync_seq.specs.Secondary.{sss_at};
 ghost use Rattle.crs.specs.Reference.{is_reference, reference_at, reference_list};
 ghost use Rattle.fold128.specs.Symbol.{useful_part};
 ghost use Rattle.cell_tx.specs.Grid.{is_synchronised, secondary_value, element};
-ghost use Rattle.cell_tx.specs.Rows.{reference_if, AreChannels};
+ghost use Rattle.cell_tx.specs.Block.{broadcast_point};
+ghost use Rattle.cell_tx.specs.Rows.{reference_if, IsLayout, IsCarried};
 
 use crate::Cell;
-use crate::channels::{Channels, channel_value, channels_of};
+use crate::block::broadcast_points;
+use crate::channels::channel_value;
+use crate::layout::{Carried, Layout};
 use crs::pilots;
 use cs_num::Cpx;
 use fold128::synth;
 use grid_map::Place;
-use lte_types::{CellId, Half, Sfn};
-use sync_seq::{MIDDLE, amplitude, is_middle, pss, sss};
+use lte_types::{CellId, Sfn};
+use sync_seq::{MIDDLE, amplitude, is_middle};
 
 // What a frame of a cell sends, made once for all its symbols.
 #[derive(Drop)]
 pub(crate) struct Signals<'a> {
     pub cell: &'a Cell,
     pub sfn: Sfn,
-    primary: [Cpx; 62],
-    zero: [i8; 62],
-    five: [i8; 62],
-    pub channels: Channels,
-    ghost primary_is: { primary ≡ pss_list (cell.now.identity % 3) },
-    ghost zero_is: { zero ≡ sss_list (cell.now.identity / 3) (cell.now.identity % 3) Zero },
-    ghost five_is: { five ≡ sss_list (cell.now.identity / 3) (cell.now.identity % 3) Five },
-    ghost channels_are: { AreChannels cell.now sfn channels },
+    pub layout: &'a Layout,
+    pub carried: &'a Carried,
+    pub broadcast: [Cpx; 240],
+    ghost layout_is: { IsLayout cell.now layout.now },
+    ghost carried_is: { IsCarried cell.now sfn carried.now },
+    ghost broadcast_is: { broadcast ≡ values_below 240 (broadcast_point cell.now sfn) },
 }
 
 impl<'a> Signals<'a> {
     /// The signals of a cell's frame.
-    pub(crate) fn new(cell: &'a Cell, sfn: Sfn) -> Signals<'a>
+    pub(crate) fn new(
+        cell: &'a Cell,
+        layout: &'a Layout,
+        carried: &'a Carried,
+        sfn: Sfn,
+    ) -> Signals<'a>
+        requires layout { IsLayout cell.now layout.now }
+        requires carried { IsCarried cell.now sfn carried.now }
         ensures cell { result.cell.now ≡ cell.now }
         ensures sfn { result.sfn ≡ sfn }
     {
-        let id = cell.id();
-        let n2 = id.n2() as u8;
-        let primary = pss(n2);
-        let zero = sss(id.n1(), n2, Half::Zero);
-        let five = sss(id.n1(), n2, Half::Five);
-        let channels = channels_of(cell, sfn);
+        let broadcast = broadcast_points(cell, sfn);
         Signals {
             cell,
             sfn,
-            primary,
-            zero,
-            five,
-            channels,
+            layout,
+            carried,
+            broadcast,
         }
     }
 }
@@ -104,9 +104,9 @@ fn sign_of(signals: &Signals, subframe: u8, n: usize) -> i8
     ensures size { nat_abs result ≡ 1 }
 {
     if subframe == 0 {
-        signals.zero[n]
+        signals.layout.zero[n]
     } else {
-        signals.five[n]
+        signals.layout.five[n]
     }
 }
 
@@ -130,13 +130,14 @@ fn element_of(
     requires references { references.now ≡ values_below 72
         (reference_if signals.now.cell.now.identity (2 * subframe + symbol / 7) (symbol % 7)) }
     requires subframe { subframe < 10 }
+    requires symbol { symbol < 14 }
     requires k { k < 72 }
     ensures { result ≡ element signals.now.cell.now signals.now.sfn subframe symbol k }
 {
     if let Some(value) = references[k as usize] {
         value
     } else if is_signal(6, subframe, symbol, k) {
-        signals.primary[k as usize - MIDDLE]
+        signals.layout.primary[k as usize - MIDDLE]
     } else if is_signal(5, subframe, symbol, k) {
         secondary_of(signals, subframe, k)
     } else {

@@ -10,6 +10,7 @@ mod control;
 mod error;
 mod grid;
 mod laws;
+mod layout;
 mod points;
 mod sending;
 mod shared;

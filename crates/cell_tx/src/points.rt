@@ -1,11 +1,13 @@
 //! Points of scrambled bits, and the places that they take.
 
-ghost use Rattle.std.specs.Prelude.{◌≡◌, ◌*◌, ◌^◌, ◌<◌, ◌≤◌, false, length, slice_index_or};
+ghost use Rattle.std.specs.Prelude.{◌≡◌, ℕ, ◌*◌, ◌/◌, ◌%◌, ◌^◌, ◌<◌, ◌≤◌, false, List, length, slice_index_or};
 ghost use Rattle.finite.specs.Lists.{values_below};
 ghost use Rattle.finite.specs.Bits.{xor};
 ghost use Rattle.gold.specs.Gold.{gold_bits};
 ghost use Rattle.cell_tx.specs.Points.{scrambled, point_of};
-ghost use Rattle.cell_tx.specs.Rows.{value_in};
+ghost use Rattle.cell_tx.specs.Rows.{value_in, IsTableOf};
+ghost use Rattle.grid_map.specs.declared.Place.{Place};
+ghost use Rattle.grid_map.specs.Place.{place};
 
 use crs::point;
 use cs_num::Cpx;
@@ -51,16 +53,58 @@ pub(crate) fn fill_points(c_init: u32, bits: &[bool], points: &mut [Cpx])
     }
 }
 
-/// The point that a place carries, where these are a channel's places and its points in the same order;
-/// `None` at every other place.
-pub(crate) fn value_at(places: &[Place], points: &[Cpx], here: Place) -> Option<Cpx>
-    requires { length places.now ≤ length points.now }
-    ensures { result ≡ value_in places.now points.now here }
+// The places of a subframe's grid: 14 symbols of 72 subcarriers.
+const PLACES: usize = 14 * 72;
+
+/// For each place of a subframe its number in a list of places, and their count where it is not in it.
+#[derive(Drop)]
+pub(crate) struct PlaceTable {
+    pub count: u16,
+    pub numbers: [u16; PLACES],
+}
+
+// Writes the number of a place of a list, where the table has none for it yet.
+fn put_number(numbers: &mut [u16; PLACES], none: u16, here: Place, number: u16)
+    ensures here { (c : ℕ) → c < 1008 → place (c / 72) (c % 72) ≡ here → slice_index_or numbers.old c 0 ≡ none →
+        slice_index_or numbers.new c 0 ≡ number }
+    ensures taken { (c : ℕ) → (slice_index_or numbers.old c 0 ≡ none → ⊥) →
+        slice_index_or numbers.new c 0 ≡ slice_index_or numbers.old c 0 }
+    ensures elsewhere { (c : ℕ) → (place (c / 72) (c % 72) ≡ here → ⊥) →
+        slice_index_or numbers.new c 0 ≡ slice_index_or numbers.old c 0 }
 {
-    for i in 0..places.len() {
-        if places[i] == here {
-            return Some(points[i]);
+    if here.symbol < 14 && here.k < 72 {
+        let cell = 72 * here.symbol as usize + here.k as usize;
+        if numbers[cell] == none {
+            numbers[cell] = number;
         }
     }
-    None
+}
+
+/// The table of at most 612 places.
+pub(crate) fn table_of(places: &[Place]) -> PlaceTable
+    requires { length places.now ≤ 612 }
+    ensures { IsTableOf places.now result }
+{
+    let count = places.len() as u16;
+    let mut numbers = [count; PLACES];
+    for i in 0..places.len() {
+        put_number(&mut numbers, count, places[i], i as u16);
+    }
+    PlaceTable { count, numbers }
+}
+
+/// The point that a place of the grid carries, by the table of a channel's places and its points in the
+/// same order; `None` at every other place.
+pub(crate) fn value_at(table: &PlaceTable, points: &[Cpx], here: Place) -> Option<Cpx>
+    requires symbol { here.symbol < 14 }
+    requires k { here.k < 72 }
+    requires room { table.now.count ≤ length points.now }
+    ensures { (places : List Place) → IsTableOf places table.now → result ≡ value_in places points.now here }
+{
+    let number = table.numbers[72 * here.symbol as usize + here.k as usize];
+    if number < table.count {
+        Some(points[number as usize])
+    } else {
+        None
+    }
 }

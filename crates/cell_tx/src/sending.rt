@@ -7,10 +7,11 @@ ghost use Rattle.fold128.specs.Symbol.{useful_part};
 ghost use Rattle.lte_types.specs.Numerology.{frame_length, slot_length, useful_length, normal, symbol_of};
 ghost use Rattle.cell_tx.specs.Clean.{IsGain};
 ghost use Rattle.cell_tx.specs.Grid.{element};
-ghost use Rattle.cell_tx.specs.Rows.{useful_place, first_sample, frame_samples, HasSamples};
+ghost use Rattle.cell_tx.specs.Rows.{useful_place, first_sample, frame_samples, HasSamples, AreSameOutside, IsLayout, AreVersions};
 ghost use Rattle.cell_tx.specs.Sent.{slot_sample, frame_sample, number_of, sent, received, sample_of, gain_of};
 
 use crate::grid::{Signals, useful_of};
+use crate::layout::{Layout, Versions, carried_of, layout_of, versions_of};
 use crate::{Cell, Transmission};
 use cs_num::{Cpx, Sample};
 use lte_types::{FRAME_LENGTH, Prefix, SLOT_LENGTH, Sfn, USEFUL_LENGTH};
@@ -92,14 +93,13 @@ fn first_of(symbol: usize) -> usize
     SLOT_LENGTH * (symbol / 7) + first
 }
 
-// Writes the samples of a symbol of a frame, after those of the symbols before it.
+// Writes the samples of a symbol of a frame.
 fn put_symbol(signals: &Signals, symbol: usize, out: &mut [Sample])
     requires symbol { symbol < 140 }
     requires room { length out.old ≡ frame_length }
-    requires before { HasSamples out.old (frame_sample (element signals.now.cell.now) signals.now.sfn)
-        (first_sample symbol) }
-    ensures { HasSamples out.new (frame_sample (element signals.now.cell.now) signals.now.sfn)
-        (first_sample (symbol + 1)) }
+    ensures samples { HasSamples out.new (frame_sample (element signals.now.cell.now) signals.now.sfn)
+        (first_sample symbol) (first_sample (symbol + 1)) }
+    ensures rest { AreSameOutside (first_sample symbol) (first_sample (symbol + 1)) out.old out.new }
 {
     let slot = symbol / 7;
     let useful = useful_of(signals, slot as u8, (symbol % 7) as u8);
@@ -108,13 +108,49 @@ fn put_symbol(signals: &Signals, symbol: usize, out: &mut [Sample])
     }
 }
 
+// Writes the samples of some symbols of a frame, one after the other.
+fn put_symbols(signals: &Signals, first: usize, last: usize, out: &mut [Sample])
+    requires order { first ≤ last }
+    requires last { last ≤ 140 }
+    requires room { length out.old ≡ frame_length }
+    ensures samples { HasSamples out.new (frame_sample (element signals.now.cell.now) signals.now.sfn)
+        (first_sample first) (first_sample last) }
+    ensures rest { AreSameOutside (first_sample first) (first_sample last) out.old out.new }
+{
+    for symbol in first..last {
+        put_symbol(signals, symbol, out);
+    }
+}
+
+// Writes all samples of a frame.
+fn put_frame(signals: &Signals, out: &mut [Sample])
+    requires { length out.old ≡ frame_length }
+    ensures { out.new ≡ frame_samples (element signals.now.cell.now) signals.now.sfn }
+{
+    put_symbols(signals, 0, 140, out);
+}
+
+// Writes the samples of a frame over those of another frame of the cell: frames differ only in the first four
+// symbols of slot 1, which carry the broadcast channel, and in subframe 5, which carries system information.
+fn renew_frame(signals: &Signals, out: &mut [Sample])
+    requires { length out.old ≡ frame_length }
+    ensures { (other : ℕ) → out.old ≡ frame_samples (element signals.now.cell.now) other →
+        out.new ≡ frame_samples (element signals.now.cell.now) signals.now.sfn }
+{
+    put_symbols(signals, 7, 11, out);
+    put_symbols(signals, 70, 84, out);
+}
+
 /// Sample `i` of the cell's endless sequence of frames, which begins with the frame numbered `sfn`
 /// (TS 36.211 section 6.12, in whole numbers). The size of a sample is at most 1,153.
 pub fn sample(cell: &Cell, sfn: Sfn, i: u64) -> Sample
     ensures value { result ≡ sample_of (sent (element cell.now) sfn i) }
     ensures size { square (sent (element cell.now) sfn i) ≤ 1153 * 1153 }
 {
-    let signals = Signals::new(cell, number(sfn, i));
+    let sfn = number(sfn, i);
+    let layout = layout_of(cell);
+    let carried = carried_of(cell, sfn);
+    let signals = Signals::new(cell, &layout, &carried, sfn);
     sample_of_frame(&signals, (i % FRAME) as usize)
 }
 
@@ -124,10 +160,10 @@ pub fn frame(cell: &Cell, sfn: Sfn, out: &mut [Sample])
     requires { length out.old ≡ frame_length }
     ensures { out.new ≡ frame_samples (element cell.now) sfn }
 {
-    let signals = Signals::new(cell, sfn);
-    for symbol in 0..140 {
-        put_symbol(&signals, symbol, out);
-    }
+    let layout = layout_of(cell);
+    let carried = carried_of(cell, sfn);
+    let signals = Signals::new(cell, &layout, &carried, sfn);
+    put_frame(&signals, out);
 }
 
 // The number that a gain is.
@@ -161,15 +197,30 @@ pub fn send(t: &Transmission, i: u32) -> Sample
 }
 
 // Makes the frame of sample i of a transmission, where that of the sample before is another one.
-fn enter_frame(t: &Transmission, i: usize, clean: &mut [Sample; FRAME_LENGTH])
+fn enter_frame(
+    t: &Transmission,
+    layout: &Layout,
+    versions: &Versions,
+    i: usize,
+    clean: &mut [Sample; FRAME_LENGTH],
+)
+    requires layout { IsLayout t.now.cell layout.now }
+    requires versions { AreVersions t.now.cell versions.now }
     requires i { i < t.now.samples }
     requires before { 0 < i → clean.old
         ≡ frame_samples (element t.now.cell) (number_of t.now.sfn (i - 1 + t.now.offset)) }
     ensures { clean.new ≡ frame_samples (element t.now.cell) (number_of t.now.sfn (i + t.now.offset)) }
 {
     let n = i as u64 + t.offset as u64;
-    if i == 0 || n % FRAME == 0 {
-        frame(&t.cell, number(t.sfn, n), clean);
+    if i > 0 && n % FRAME > 0 {
+        return;
+    }
+    let sfn = number(t.sfn, n);
+    let signals = Signals::new(&t.cell, layout, versions.of_frame(sfn), sfn);
+    if i == 0 {
+        put_frame(&signals, clean);
+    } else {
+        renew_frame(&signals, clean);
     }
 }
 
@@ -188,9 +239,11 @@ pub fn send_all(t: &Transmission, out: &mut [Sample])
     ensures { out.new ≡ values_below t.now.samples
         (λ i. sample_of (received t.now.cell t.now.sfn t.now.offset (gain_of t.now.gain) i)) }
 {
+    let layout = layout_of(&t.cell);
+    let versions = versions_of(&t.cell);
     let mut clean = [Sample { re: 0, im: 0 }; FRAME_LENGTH];
     for i in 0..out.len() {
-        enter_frame(t, i, &mut clean);
+        enter_frame(t, &layout, &versions, i, &mut clean);
         out[i] = sent_from(t, i, &clean);
     }
 }

@@ -1,33 +1,67 @@
 -- Scores by way of lists, sizes of agreements, and what a hit is scored by.
-use Rattle.std.proofs.Common.{◌≡◌, ℕ, ◌+◌, ◌-◌, ◌*◌, ◌^◌, ◌<◌, ◌≤◌, All, length, arith, refl, ap, ◌∙◌, List, ℤ, pos, ◌+ℤ◌, ◌*ℤ◌, slice_index_or}
+use Rattle.std.proofs.Common.{◌≡◌, ◌≢◌, ℕ, zero, suc, ◌+◌, ◌-◌, ◌*◌, ◌/◌, ◌%◌, ◌^◌, ◌<◌, ◌≤◌, length, arith, refl, ap, ap₂, sym, ◌∙◌, List, Bool, ℤ, pos, ◌+ℤ◌, ◌*ℤ◌, slice_index_or}
 use Rattle.std.proofs.Math.Path.{fun_ext}
-use Rattle.std.proofs.lemmas.Int.{unsigned_abs-mul}
-use Rattle.std.proofs.lemmas.List.Elements.{All-get_or, All-from_get_or}
+use Rattle.std.proofs.lemmas.Int.{ints, unsigned_abs-mul}
+use Rattle.std.proofs.lemmas.List.Elements.{All-get_or}
+use Rattle.finite.specs.Sums.{sum_below}
 use Rattle.std.specs.Prelude.{nat_abs}
 use Rattle.finite.specs.Sizes.{AllWithin}
 use Rattle.finite.proofs.Sums.{sum_below_same, sum_below-within, sum_below_more}
 use Rattle.finite.specs.Lists.{values_below}
-use Rattle.finite.proofs.Lists.{values_below_at, values_below-length}
+use Rattle.finite.proofs.Lists.{values_below_at}
 use Rattle.cs_num.specs.declared.Cpx.{Cpx}
 use Rattle.cs_num.specs.declared.Sample.{Sample}
 use Rattle.cs_num.specs.Complex.{IsWithin, nothing, times, conjugate, value_at}
 use Rattle.cs_num.proofs.Complex.{times-within, conjugate-within}
 use Rattle.lte_types.specs.declared.frame.Half.{Half}
 use Rattle.lte_types.specs.declared.hit.Hit.{Hit}
-use Rattle.sync_seq.specs.Secondary.{sss_at, sss_list}
-use Rattle.sync_seq.proofs.SecondaryValues.{sss-size}
+use Rattle.sync_seq.specs.Secondary.{S, C, Z, bits_of, sign_at, even_shift, odd_shift, shifted_value, sss_at}
+use Rattle.sync_seq.proofs.SecondaryValues.{shifted_even, shifted_odd, shifted_value-size}
 use Rattle.observe.specs.Seen.{seen, seen_symbol}
 use Rattle.sss_detect.specs.Scores.{agreement, score}
-use Rattle.sss_detect.specs.Steps.{agreements_of, score_by, signed_sum}
+use Rattle.sss_detect.specs.Steps.{agreements_of, places_sum, score_by}
 use Rattle.sss_detect.specs.Identity.{scores_of}
 
--- the sequence as a list of signs gives the score
-pub signed_sum_is : (agreements : List ℤ) (n1 n2 : ℕ) (half : Half) → signed_sum (sss_list n1 n2 half) agreements 62 ≡ score_by agreements n2 n1 half
-unfolding signed_sum score_by sss_list
-signed_sum_is agreements n1 n2 half = sum_below_same 62
-    (λ n. slice_index_or (values_below 62 (sss_at n1 n2 half)) n (pos 0) *ℤ slice_index_or agreements n (pos 0))
-    (λ n. sss_at n1 n2 half n *ℤ slice_index_or agreements n (pos 0))
-    (λ n l. ap (λ s. s *ℤ slice_index_or agreements n (pos 0)) (values_below_at (sss_at n1 n2 half) 62 n (pos 0) l))
+-- a sum over the even and the odd places
+by_twos : (n : ℕ) (f : ℕ → ℤ) → sum_below (2 * n) f ≡ sum_below n (λ i. f (2 * i + 0)) +ℤ sum_below n (λ i. f (2 * i + 1))
+unfolding sum_below
+by_twos zero f = refl
+by_twos (suc n) f =
+    let e : 2 * suc n ≡ suc (suc (2 * n)) = omega arith in
+    let z : 2 * n + 0 ≡ 2 * n = omega arith in
+    let o : 2 * n + 1 ≡ suc (2 * n) = omega arith in
+    let before = by_twos n f in
+    rw (e, z, o) (omega (arith, ints, before))
+
+-- the even places do not see the shift of the odd ones, and these see that of the even ones modulo 8
+even_alone : (s c z : List Bool) (n2 even odd other i : ℕ) → shifted_value s c z n2 even odd (2 * i + 0) ≡ shifted_value s c z n2 even other (2 * i + 0)
+even_alone s c z n2 even odd other i =
+    let e : (2 * i + 0) % 2 ≡ 0 = omega arith in
+    shifted_even s c z n2 even odd (2 * i + 0) e ∙ sym (shifted_even s c z n2 even other (2 * i + 0) e)
+
+odd_alone : (s c z : List Bool) (n2 even odd i : ℕ) → shifted_value s c z n2 even odd (2 * i + 1) ≡ shifted_value s c z n2 (even % 8) odd (2 * i + 1)
+odd_alone s c z n2 even odd i =
+    let e : (2 * i + 1) % 2 ≢ 0 = omega arith in
+    let m : even % 8 % 8 ≡ even % 8 = omega arith in
+    shifted_odd s c z n2 even odd (2 * i + 1) e ∙ sym (shifted_odd s c z n2 (even % 8) odd (2 * i + 1) e ∙ ap (λ (r : ℕ). odd_value_at s c z n2 odd ((2 * i + 1) / 2) r) m)
+  where
+    odd_value_at : List Bool → List Bool → List Bool → ℕ → ℕ → ℕ → ℕ → ℤ
+    odd_value_at s c z n2 odd n r = sign_at s (n + odd) *ℤ sign_at c (n + n2 + 3) *ℤ sign_at z (n + r)
+
+-- both sums give the score
+pub sums_score : (agreements : List ℤ) (n2 n1 : ℕ) (half : Half) →
+    places_sum agreements n2 (even_shift half n1) 0 0 31 +ℤ places_sum agreements n2 (even_shift half n1 % 8) (odd_shift half n1) 1 31 ≡ score_by agreements n2 n1 half
+unfolding places_sum score_by sss_at
+sums_score agreements n2 n1 half =
+    let even : ℕ = even_shift half n1 in
+    let odd : ℕ = odd_shift half n1 in
+    let a : ℕ → ℤ = λ k. slice_index_or agreements k (pos 0) in
+    let value : ℕ → ℕ → ℕ → ℤ = λ e o k. shifted_value (bits_of S) (bits_of C) (bits_of Z) n2 e o k in
+    let evens = sum_below_same 31 (λ i. value even 0 (2 * i + 0) *ℤ a (2 * i + 0)) (λ i. value even odd (2 * i + 0) *ℤ a (2 * i + 0))
+    (λ i l. ap (λ x. x *ℤ a (2 * i + 0)) (even_alone (bits_of S) (bits_of C) (bits_of Z) n2 even 0 odd i)) in
+    let odds = sum_below_same 31 (λ i. value (even % 8) odd (2 * i + 1) *ℤ a (2 * i + 1)) (λ i. value even odd (2 * i + 1) *ℤ a (2 * i + 1))
+    (λ i l. ap (λ x. x *ℤ a (2 * i + 1)) (sym (odd_alone (bits_of S) (bits_of C) (bits_of Z) n2 even odd i))) in
+    ap₂ ◌+ℤ◌ evens odds ∙ sym (by_twos 31 (λ k. value even odd k *ℤ a k))
 
 -- the list of agreements gives the scores
 pub scores_are : (primary secondary : ℕ → Cpx) (n2 : ℕ) → score_by (agreements_of primary secondary n2) n2 ≡ score primary secondary n2
@@ -67,25 +101,22 @@ scores_of_hit recording hit = score_same
 
 -- ---- sizes
 
-pub signed_sum_more : (signs numbers : List ℤ) (n : ℕ) →
-    signed_sum signs numbers (n + 1) ≡ signed_sum signs numbers n +ℤ slice_index_or signs n (pos 0) *ℤ slice_index_or numbers n (pos 0)
-unfolding signed_sum
-signed_sum_more signs numbers n = sum_below_more n (λ k. slice_index_or signs k (pos 0) *ℤ slice_index_or numbers k (pos 0))
+pub places_sum_more : (agreements : List ℤ) (n2 even odd first n : ℕ) →
+    places_sum agreements n2 even odd first (n + 1)
+    ≡ places_sum agreements n2 even odd first n
+    +ℤ shifted_value (bits_of S) (bits_of C) (bits_of Z) n2 even odd (2 * n + first) *ℤ slice_index_or agreements (2 * n + first) (pos 0)
+unfolding places_sum
+places_sum_more agreements n2 even odd first n =
+    sum_below_more n (λ i. shifted_value (bits_of S) (bits_of C) (bits_of Z) n2 even odd (2 * i + first) *ℤ slice_index_or agreements (2 * i + first) (pos 0))
 
-pub signed_sum-size : (signs numbers : List ℤ) (n : ℕ) → All (λ x. nat_abs x ≡ 1) signs → AllWithin (2 ^ 59) numbers →
-    n ≤ length signs → n ≤ length numbers → nat_abs (signed_sum signs numbers n) ≤ n * 2 ^ 59
-unfolding signed_sum
-signed_sum-size signs numbers n p q l m = sum_below-within n (2 ^ 59) (λ k. slice_index_or signs k (pos 0) *ℤ slice_index_or numbers k (pos 0)) (λ k below.
-    let one = All-get_or (λ x. nat_abs x ≡ 1) signs k (pos 0) (omega arith) p in
-    let small = All-get_or (λ x. nat_abs x ≤ 2 ^ 59) numbers k (pos 0) (omega arith) q in
-    rw (unsigned_abs-mul (slice_index_or signs k (pos 0)) (slice_index_or numbers k (pos 0)), one) (omega arith))
-
--- the values of a sequence are signs
-pub signs_of : (n1 n2 : ℕ) (half : Half) → All (λ x. nat_abs x ≡ 1) (sss_list n1 n2 half)
-unfolding sss_list
-signs_of n1 n2 half = All-from_get_or (λ x. nat_abs x ≡ 1) (values_below 62 (sss_at n1 n2 half)) (pos 0) (λ k l.
-    let below : k < 62 = omega (arith, values_below-length 62 (sss_at n1 n2 half)) in
-    ap nat_abs (values_below_at (sss_at n1 n2 half) 62 k (pos 0) below) ∙ sss-size n1 n2 half k)
+pub places_sum-size : (agreements : List ℤ) (n2 even odd first n : ℕ) → AllWithin (2 ^ 59) agreements → length agreements ≡ 62 → first < 2 → n ≤ 31 →
+    nat_abs (places_sum agreements n2 even odd first n) ≤ n * 2 ^ 59
+unfolding places_sum
+places_sum-size agreements n2 even odd first n small long one few =
+    sum_below-within n (2 ^ 59) (λ i. shifted_value (bits_of S) (bits_of C) (bits_of Z) n2 even odd (2 * i + first) *ℤ slice_index_or agreements (2 * i + first) (pos 0)) (λ i below.
+    let sign = shifted_value-size (bits_of S) (bits_of C) (bits_of Z) n2 even odd (2 * i + first) in
+    let less = All-get_or (λ x. nat_abs x ≤ 2 ^ 59) agreements (2 * i + first) (pos 0) (omega (arith, below, few, one, long)) small in
+    rw (unsigned_abs-mul (shifted_value (bits_of S) (bits_of C) (bits_of Z) n2 even odd (2 * i + first)) (slice_index_or agreements (2 * i + first) (pos 0)), sign) (omega (arith, less)))
 
 pub agreement-size : (primary secondary value : Cpx) → IsWithin 33554432 primary → IsWithin 33554432 secondary → IsWithin 127 value →
     IsWithin (2 ^ 59) (times secondary (conjugate (times primary (conjugate value))))

@@ -1,19 +1,28 @@
 -- The code's way to the scores, by lists.
-use Rattle.std.specs.Prelude.{ℕ, List, ℤ, pos, ◌*ℤ◌, slice_index_or}
+use Rattle.std.specs.Prelude.{ℕ, ◌+◌, ◌*◌, ◌/◌, ◌%◌, List, ℤ, pos, ◌*ℤ◌, slice_index_or}
 use Rattle.finite.specs.Sums.{sum_below}
 use Rattle.finite.specs.Lists.{values_below}
 use Rattle.cs_num.specs.declared.Cpx.{Cpx}
 use Rattle.lte_types.specs.declared.frame.Half.{Half}
-use Rattle.sync_seq.specs.Secondary.{sss_at}
+use Rattle.sync_seq.specs.Secondary.{S, C, Z, bits_of, shifted_value, sss_at}
 use Rattle.sss_detect.specs.Scores.{agreement}
 
 -- all agreements
 unfoldable pub agreements_of : (ℕ → Cpx) → (ℕ → Cpx) → ℕ → List ℤ
 agreements_of primary secondary n2 = values_below 62 (agreement primary secondary n2)
 
--- the sum of numbers with signs
-unfoldable pub signed_sum : List ℤ → List ℤ → ℕ → ℤ
-signed_sum signs numbers n = sum_below n (λ k. slice_index_or signs k (pos 0) *ℤ slice_index_or numbers k (pos 0))
+-- the sum of the agreements at the first n of every other place from first on, with the signs of the sequence of these shifts
+unfoldable pub places_sum : List ℤ → ℕ → ℕ → ℕ → ℕ → ℕ → ℤ
+places_sum agreements n2 even odd first n =
+    sum_below n (λ i. shifted_value (bits_of S) (bits_of C) (bits_of Z) n2 even odd (2 * i + first) *ℤ slice_index_or agreements (2 * i + first) (pos 0))
+
+-- that of the even places for a shift of these; the shift of the odd ones does not matter
+abbrev pub even_sum : List ℤ → ℕ → ℕ → ℤ
+even_sum agreements n2 shift = places_sum agreements n2 shift 0 0 31
+
+-- that of the odd places for number i of their shifts, each with those of the even places modulo 8
+abbrev pub odd_sum : List ℤ → ℕ → ℕ → ℤ
+odd_sum agreements n2 i = places_sum agreements n2 (i % 8) (i / 8) 1 31
 
 -- the score that a list of agreements gives a group and a half
 unfoldable pub score_by : List ℤ → ℕ → ℕ → Half → ℤ

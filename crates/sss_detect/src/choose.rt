@@ -7,7 +7,7 @@ ghost use Rattle.sss_detect.specs.Scores.{score};
 ghost use Rattle.sss_detect.specs.Steps.{score_by};
 ghost use Rattle.sss_detect.specs.Identity.{IsBest, best_group, best_pair};
 
-use crate::score::{agreements, score_of};
+use crate::score::{Sums, agreements};
 use cs_num::Cpx;
 use lte_types::Half;
 
@@ -39,8 +39,9 @@ fn best_by(agreements: &[i64; 62], n2: u8) -> (u16, Half)
     requires member { n2 ≤ 2 }
     ensures { result ≡ best_pair (score_by agreements.now n2) }
 {
-    let zero = best_of_half(agreements, n2, Half::Zero);
-    let five = best_of_half(agreements, n2, Half::Five);
+    let sums = Sums::new(agreements, n2);
+    let zero = best_of_half(&sums, Half::Zero);
+    let five = best_of_half(&sums, Half::Five);
     if zero.score < five.score {
         (five.n1, Half::Five)
     } else {
@@ -49,30 +50,28 @@ fn best_by(agreements: &[i64; 62], n2: u8) -> (u16, Half)
 }
 
 // The best group of a half.
-fn best_of_half(agreements: &[i64; 62], n2: u8, half: Half) -> Candidate
-    requires small { AllWithin (2 ^ 59) agreements.now }
-    requires member { n2 ≤ 2 }
-    ensures group { result.n1 ≡ best_group (score_by agreements.now n2) half }
-    ensures score { result.score ≡ score_by agreements.now n2 result.n1 half }
+fn best_of_half(sums: &Sums, half: Half) -> Candidate
+    requires { AllWithin (2 ^ 59) sums.now.agreements.now }
+    ensures group { result.n1 ≡ best_group (score_by sums.now.agreements.now sums.now.n2) half }
+    ensures score { result.score ≡ score_by sums.now.agreements.now sums.now.n2 result.n1 half }
 {
-    let mut best = scored(agreements, 0, n2, half);
+    let mut best = scored(sums, 0, half);
     for n1 in 1..168 {
-        best = better(best, scored(agreements, n1, n2, half));
+        best = better(best, scored(sums, n1, half));
     }
     best
 }
 
-// A group with the score that agreements give it.
-fn scored(agreements: &[i64; 62], n1: u16, n2: u8, half: Half) -> Candidate
-    requires small { AllWithin (2 ^ 59) agreements.now }
+// A group with its score.
+fn scored(sums: &Sums, n1: u16, half: Half) -> Candidate
+    requires small { AllWithin (2 ^ 59) sums.now.agreements.now }
     requires group { n1 ≤ 167 }
-    requires member { n2 ≤ 2 }
     ensures group { result.n1 ≡ n1 }
-    ensures score { result.score ≡ score_by agreements.now n2 n1 half }
+    ensures score { result.score ≡ score_by sums.now.agreements.now sums.now.n2 n1 half }
 {
     Candidate {
         n1,
-        score: score_of(agreements, n1, n2, half),
+        score: sums.score_of(n1, half),
     }
 }
 

@@ -4,11 +4,12 @@ ghost use Rattle.std.specs.Prelude.{◌≡◌, ◌+◌, ◌^◌, ◌<◌, ◌≤
 ghost use Rattle.finite.specs.Sizes.{AllWithin};
 ghost use Rattle.cs_num.specs.Complex.{IsWithin, times, conjugate, value_at};
 ghost use Rattle.sss_detect.specs.Scores.{agreement};
-ghost use Rattle.sss_detect.specs.Steps.{agreements_of, signed_sum, score_by};
+ghost use Rattle.finite.specs.Lists.{values_below};
+ghost use Rattle.sss_detect.specs.Steps.{agreements_of, places_sum as places_sum_of, even_sum, odd_sum, score_by};
 
 use cs_num::Cpx;
 use lte_types::Half;
-use sync_seq::{MIDDLE, pss, sss};
+use sync_seq::{MIDDLE, pss, sss_shifts, sss_sign};
 
 // What the two symbols say of each value of a secondary sequence.
 pub(crate) fn agreements(primary: &[Cpx; 72], secondary: &[Cpx; 72], n2: u8) -> [i64; 62]
@@ -38,25 +39,86 @@ fn agree(primary: Cpx, secondary: Cpx, value: Cpx) -> i64
     secondary.mul(channel.conj()).re
 }
 
-// The score of a group and a half.
-pub(crate) fn score_of(agreements: &[i64; 62], n1: u16, n2: u8, half: Half) -> i128
-    requires small { AllWithin (2 ^ 59) agreements.now }
-    requires group { n1 ≤ 167 }
-    requires member { n2 ≤ 2 }
-    ensures { result ≡ score_by agreements.now n2 n1 half }
-{
-    signed_total(agreements, &sss(n1, n2, half))
+/// The sums of agreements, with the signs of secondary sequences: over the even places for each shift of these,
+/// and over the odd ones for each shift of these and each shift of the even ones modulo 8.
+#[derive(Drop)]
+pub(crate) struct Sums<'a> {
+    pub agreements: &'a [i64; 62],
+    pub n2: u8,
+    even: [i128; 31],
+    odd: [i128; 248],
+    ghost even_is: { even ≡ values_below 31 (even_sum agreements.now n2) },
+    ghost odd_is: { odd ≡ values_below 248 (odd_sum agreements.now n2) },
 }
 
-// The sum of numbers with signs.
-fn signed_total(numbers: &[i64; 62], signs: &[i8; 62]) -> i128
-    requires small { AllWithin (2 ^ 59) numbers.now }
-    requires signs { All (λ x. nat_abs x ≡ 1) signs.now }
-    ensures { result ≡ signed_sum signs.now numbers.now 62 }
+impl<'a> Sums<'a> {
+    /// The sums for an identity within its group.
+    pub(crate) fn new(agreements: &'a [i64; 62], n2: u8) -> Sums<'a>
+        requires small { AllWithin (2 ^ 59) agreements.now }
+        requires member { n2 ≤ 2 }
+        ensures agreements { result.agreements.now ≡ agreements.now }
+        ensures member { result.n2 ≡ n2 }
+    {
+        let even = even_sums(agreements, n2);
+        let odd = odd_sums(agreements, n2);
+        Sums {
+            agreements,
+            n2,
+            even,
+            odd,
+        }
+    }
+
+    /// The score of a group and a half.
+    pub(crate) fn score_of(&self, n1: u16, half: Half) -> i128
+        requires small { AllWithin (2 ^ 59) self.now.agreements.now }
+        requires group { n1 ≤ 167 }
+        ensures { result ≡ score_by self.now.agreements.now self.now.n2 n1 half }
+    {
+        let (even, odd) = sss_shifts(n1, half);
+        self.even[even] + self.odd[8 * odd + even % 8]
+    }
+}
+
+// The sums over the even places.
+fn even_sums(agreements: &[i64; 62], n2: u8) -> [i128; 31]
+    requires small { AllWithin (2 ^ 59) agreements.now }
+    requires member { n2 ≤ 2 }
+    ensures { result ≡ values_below 31 (even_sum agreements.now n2) }
+{
+    let mut sums = [0; 31];
+    for shift in 0..31 {
+        sums[shift] = places_sum(agreements, n2, shift, 0, 0);
+    }
+    sums
+}
+
+// The sums over the odd places.
+fn odd_sums(agreements: &[i64; 62], n2: u8) -> [i128; 248]
+    requires small { AllWithin (2 ^ 59) agreements.now }
+    requires member { n2 ≤ 2 }
+    ensures { result ≡ values_below 248 (odd_sum agreements.now n2) }
+{
+    let mut sums = [0; 248];
+    for i in 0..248 {
+        sums[i] = places_sum(agreements, n2, i % 8, i / 8, 1);
+    }
+    sums
+}
+
+// The sum over every other place from `first` on, with the signs of the sequence of these shifts.
+fn places_sum(agreements: &[i64; 62], n2: u8, even: usize, odd: usize, first: usize) -> i128
+    requires small { AllWithin (2 ^ 59) agreements.now }
+    requires member { n2 ≤ 2 }
+    requires even { even < 31 }
+    requires odd { odd < 31 }
+    requires first { first < 2 }
+    ensures { result ≡ places_sum_of agreements.now n2 even odd first 31 }
 {
     let mut sum = 0;
-    for n in 0..62 {
-        sum += signed(numbers[n], signs[n]) as i128;
+    for n in 0..31 {
+        let place = 2 * n + first;
+        sum += signed(agreements[place], sss_sign(n2, even, odd, place)) as i128;
     }
     sum
 }

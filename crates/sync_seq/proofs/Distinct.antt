@@ -7,8 +7,7 @@ use Rattle.finite.specs.Lists.{values_below}
 use Rattle.finite.proofs.Lists.{values_below_at, values_below-length}
 use Rattle.lte_types.specs.declared.frame.Half.{Half}
 use Rattle.lte_types.specs.declared.frame.Half.TheVariants.{Zero, Five}
-use Rattle.sync_seq.specs.declared.secondary.Recurrence.TheVariants.{S, C, Z}
-use Rattle.sync_seq.specs.Secondary.{extended, bits_of, shift_sum, even_shift, odd_shift, shifted_value, sss_at, sss_list}
+use Rattle.sync_seq.specs.Secondary.{S, C, Z, extended, bits_of, shift_sum, even_shift, odd_shift, shifted_value, sss_at, sss_list}
 use Rattle.sync_seq.specs.Laws.{SecondaryTells}
 
 -- ---- lists of distinct numbers

@@ -1,26 +1,11 @@
 -- The secondary sequence: its bits as they grow, and its signs.
-use Rattle.std.proofs.Common.{◌≡◌, ℕ, ◌+◌, ◌/◌, ◌%◌, ◌≢◌, arith, refl, Bool, true, false, List, [], ◌∷◌, ◌++◌, add-one, take, ℤ, pos, negsuc, ◌*ℤ◌, nat_eq, to_z, of_z, FitsSigned}
+use Rattle.std.proofs.Common.{◌≡◌, ℕ, ◌+◌, ◌/◌, ◌%◌, ◌<◌, ◌≢◌, ◌∙◌, ap, arith, refl, Bool, true, false, List, ℤ, pos, negsuc, ◌*ℤ◌, nat_eq, to_z, of_z, FitsSigned}
 use Rattle.std.specs.Prelude.{if◌then◌else◌, nat_abs}
 use Rattle.std.specs.Int.{w8}
 use Rattle.std.proofs.lemmas.Bool.Decides.{nat_tests}
 use Rattle.std.proofs.lemmas.Int.{to_z-of_z, fits_signed_from_abs, unsigned_abs-mul}
-use Rattle.std.proofs.lemmas.List.{get_or-take}
 use Rattle.lte_types.specs.declared.frame.Half.{Half}
-use Rattle.sync_seq.specs.declared.secondary.Recurrence.{Recurrence}
-use Rattle.sync_seq.specs.declared.secondary.Recurrence.TheVariants.{S, C, Z}
-use Rattle.sync_seq.specs.Secondary.{bit_at, next_bit, extended, even_value, odd_value, sign_at, bits_of, even_shift, odd_shift, shifted_value, sss_at}
-
--- the next bit reads the bits before it alone
-pub next_reads_before : (r : Recurrence) (x : List Bool) (i : ℕ) → next_bit r (take (i + 5) x) i ≡ next_bit r x i
-next_reads_before S x i = rw (get_or-take (i + 5) x (i + 2) false (omega arith), get_or-take (i + 5) x i false (omega arith)) refl
-next_reads_before C x i = rw (get_or-take (i + 5) x (i + 3) false (omega arith), get_or-take (i + 5) x i false (omega arith)) refl
-next_reads_before Z x i =
-    rw (get_or-take (i + 5) x (i + 4) false (omega arith), get_or-take (i + 5) x (i + 2) false (omega arith), get_or-take (i + 5) x (i + 1) false (omega arith), get_or-take (i + 5) x i false (omega arith))
-    refl
-
-pub extended_more : (r : Recurrence) (n : ℕ) → extended r (n + 1) ≡ extended r n ++ next_bit r (extended r n) n ∷ []
-unfolding extended
-extended_more r n = rw add-one refl
+use Rattle.sync_seq.specs.Secondary.{S, C, Z, bit_at, even_value, odd_value, sign_at, bits_of, even_shift, odd_shift, shifted_value, sss_at}
 
 -- ---- signs
 

@@ -5,8 +5,12 @@ use Rattle.finite.specs.Lists.{values_below}
 use Rattle.cs_num.specs.declared.Cpx.{Cpx}
 use Rattle.lte_types.specs.declared.frame.Half.{Half}
 use Rattle.lte_types.specs.declared.frame.Half.TheVariants.{Zero, Five}
-use Rattle.sync_seq.specs.declared.secondary.Recurrence.{Recurrence}
-use Rattle.sync_seq.specs.declared.secondary.Recurrence.TheVariants.{S, C, Z}
+
+-- the three sequences, by their recurrences
+pub data Recurrence : Type 0 where
+  S : Recurrence
+  C : Recurrence
+  Z : Recurrence
 
 -- bit i of a list, and 0 past its end
 abbrev pub bit_at : List Bool → ℕ → Bool

@@ -1,30 +1,29 @@
 //! The secondary sequence.
 
 ghost use Rattle.std.specs.Prelude.{◌≡◌, ◌<◌, ◌≤◌, nat_abs};
-ghost use Rattle.sync_seq.specs.declared.secondary.Recurrence.TheVariants.{S, C, Z};
-ghost use Rattle.sync_seq.specs.Secondary.{next_bit, bits_of, sign_at, shift_sum, even_shift, odd_shift, shifted_value, sss_list, amplitude as amplitude_of};
+ghost use Rattle.sync_seq.specs.Secondary.{S, C, Z, bits_of, sign_at, shift_sum, even_shift, odd_shift, shifted_value, sss_list, amplitude as amplitude_of};
 
 use cs_num::Cpx;
 use lte_types::Half;
 
-// The three recurrences.
-#[derive(Clone, Copy)]
-enum Recurrence {
-    S,
-    C,
-    Z,
-}
+// The signs of the three sequences, over two periods of 31.
+const S_SIGNS: [i8; 62] = [
+    1, 1, 1, 1, -1, 1, 1, -1, 1, -1, -1, 1, 1, -1, -1, -1, -1, -1, 1, 1, 1, -1, -1, 1, -1, -1, -1,
+    1, -1, 1, -1, 1, 1, 1, 1, -1, 1, 1, -1, 1, -1, -1, 1, 1, -1, -1, -1, -1, -1, 1, 1, 1, -1, -1, 1,
+    -1, -1, -1, 1, -1, 1, -1,
+];
 
-// The 31 bits of each of the three sequences.
-#[derive(Drop)]
-struct Sequences {
-    s: [bool; 31],
-    c: [bool; 31],
-    z: [bool; 31],
-    ghost s_is: { s ≡ bits_of S },
-    ghost c_is: { c ≡ bits_of C },
-    ghost z_is: { z ≡ bits_of Z },
-}
+const C_SIGNS: [i8; 62] = [
+    1, 1, 1, 1, -1, 1, -1, 1, -1, -1, -1, 1, -1, -1, 1, 1, 1, -1, -1, -1, -1, -1, 1, 1, -1, -1, 1,
+    -1, 1, 1, -1, 1, 1, 1, 1, -1, 1, -1, 1, -1, -1, -1, 1, -1, -1, 1, 1, 1, -1, -1, -1, -1, -1, 1,
+    1, -1, -1, 1, -1, 1, 1, -1,
+];
+
+const Z_SIGNS: [i8; 62] = [
+    1, 1, 1, 1, -1, -1, -1, 1, 1, -1, -1, 1, -1, -1, -1, -1, -1, 1, -1, 1, 1, 1, -1, 1, 1, -1, 1,
+    -1, 1, -1, -1, 1, 1, 1, 1, -1, -1, -1, 1, 1, -1, -1, 1, -1, -1, -1, -1, -1, 1, -1, 1, 1, 1, -1,
+    1, 1, -1, 1, -1, 1, -1, -1,
+];
 
 /// The 62 signs of the secondary synchronisation sequence of an identity group and an identity
 /// within it (TS 36.211 section 6.11.2), in the half of a frame that begins with subframe 0 or 5.
@@ -34,15 +33,10 @@ pub fn sss(n1: u16, n2: u8, half: Half) -> [i8; 62]
     requires member { n2 ≤ 2 }
     ensures { result ≡ sss_list n1 n2 half }
 {
-    let sequences = Sequences {
-        s: bits(Recurrence::S),
-        c: bits(Recurrence::C),
-        z: bits(Recurrence::Z),
-    };
     let (even, odd) = shifts(n1, half);
     let mut values = [0; 62];
     for k in 0..62 {
-        values[k] = value(&sequences, n2, even, odd, k);
+        values[k] = value(n2, even, odd, k);
     }
     values
 }
@@ -55,30 +49,6 @@ pub fn amplitude(sign: i8) -> Cpx
     Cpx {
         re: 127 * sign as i64,
         im: 0,
-    }
-}
-
-// The 31 bits of a sequence, each after the fifth from the five before it.
-fn bits(recurrence: Recurrence) -> [bool; 31]
-    ensures { result ≡ bits_of recurrence }
-{
-    let mut bits = [false; 31];
-    bits[4] = true;
-    for i in 0..26 {
-        bits[i + 5] = next(recurrence, &bits, i);
-    }
-    bits
-}
-
-// Bit i + 5.
-fn next(recurrence: Recurrence, bits: &[bool; 31], i: usize) -> bool
-    requires { i < 26 }
-    ensures { result ≡ next_bit recurrence bits.now i }
-{
-    match recurrence {
-        Recurrence::S => bits[i + 2] ^ bits[i],
-        Recurrence::C => bits[i + 3] ^ bits[i],
-        Recurrence::Z => bits[i + 4] ^ bits[i + 2] ^ bits[i + 1] ^ bits[i],
     }
 }
 
@@ -111,7 +81,7 @@ fn shift_sum_of(n1: usize) -> usize
 }
 
 // Value k of the sequence with these shifts.
-fn value(sequences: &Sequences, n2: u8, even: usize, odd: usize, k: usize) -> i8
+fn value(n2: u8, even: usize, odd: usize, k: usize) -> i8
     requires member { n2 ≤ 2 }
     requires even { even < 31 }
     requires odd { odd < 31 }
@@ -122,18 +92,35 @@ fn value(sequences: &Sequences, n2: u8, even: usize, odd: usize, k: usize) -> i8
     let n = k / 2;
     let member = n2 as usize;
     if k % 2 == 0 {
-        sign(&sequences.s, n + even) * sign(&sequences.c, n + member)
+        s_sign(n + even) * c_sign(n + member)
     } else {
-        sign(&sequences.s, n + odd)
-            * sign(&sequences.c, n + member + 3)
-            * sign(&sequences.z, n + even % 8)
+        s_sign(n + odd) * c_sign(n + member + 3) * z_sign(n + even % 8)
     }
 }
 
-// 1 - 2 x(n), all places modulo 31.
-fn sign(bits: &[bool; 31], n: usize) -> i8
-    ensures value { result ≡ sign_at bits.now n }
+// Sign n of s.
+fn s_sign(n: usize) -> i8
+    requires { n < 62 }
+    ensures value { result ≡ sign_at (bits_of S) n }
     ensures small { nat_abs result ≡ 1 }
 {
-    if bits[n % 31] { -1 } else { 1 }
+    S_SIGNS[n]
+}
+
+// Sign n of c.
+fn c_sign(n: usize) -> i8
+    requires { n < 62 }
+    ensures value { result ≡ sign_at (bits_of C) n }
+    ensures small { nat_abs result ≡ 1 }
+{
+    C_SIGNS[n]
+}
+
+// Sign n of z.
+fn z_sign(n: usize) -> i8
+    requires { n < 62 }
+    ensures value { result ≡ sign_at (bits_of Z) n }
+    ensures small { nat_abs result ≡ 1 }
+{
+    Z_SIGNS[n]
 }

@@ -39,7 +39,7 @@ returns-then-is_signal c =
     let plan = c.args.signals.now.cell.now in
     let none = none_at c.args.references.now plan.identity (2 * c.args.subframe + c.args.symbol / 7) (c.args.symbol % 7) c.args.k c.requires.k c.requires.references c.in_default.is in
     let here : is_primary c.args.subframe c.args.symbol c.args.k ≡ true = sym c.is_signal.ensures ∙ c.if-is_signal.true in
-    ap (λ values. value_at values (c.args.k - 5)) c.args.signals.now.primary_is
+    ap (λ values. value_at values (c.args.k - 5)) c.args.signals.now.layout_is.primary
     ∙ pss_list_at (plan.identity % 3) (c.args.k - 5) (last_place c.args.subframe c.args.symbol c.args.k here)
     ∙ sym (element_of_primary plan c.args.signals.now.sfn c.args.subframe c.args.symbol c.args.k none here)
 

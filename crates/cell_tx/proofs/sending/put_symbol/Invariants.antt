@@ -1,7 +1,13 @@
+use Rattle.std.proofs.Common.{◌≡◌, ℕ, ◌<◌, ◌≤◌, length, slice_index_or}
+use Rattle.cs_num.specs.Complex.{silence}
 use Rattle.cell_tx.specs.Grid.{element}
 use Rattle.cell_tx.specs.Sent.{frame_sample}
-use Rattle.cell_tx.specs.Rows.{HasSamples}
+use Rattle.cell_tx.specs.Rows.{HasSamples, AreSameOutside, first_sample}
 use Rattle.cell_tx.proofs.sending.put_symbol.Given as goal
 
 abbrev pub invariant-loop-i : goal.invariant-loop-i
-invariant-loop-i l = HasSamples l.out (frame_sample (element l.signals.cell.now) l.signals.sfn) l.i
+invariant-loop-i l = record {
+  whole : length l.out ≡ 19200;
+  samples : HasSamples l.out (frame_sample (element l.signals.cell.now) l.signals.sfn) (first_sample l.symbol) l.i;
+  rest : AreSameOutside (first_sample l.symbol) l.i l.fn.out l.out;
+}

@@ -8,7 +8,7 @@ use Rattle.cell_tx.proofs.sending.sample.Goals as goal
 pub returns-clause-value : goal.returns-clause-value
 returns-clause-value c =
     let i : ℕ = c.args.i in
-    let number = c.new-signals.ensures.sfn ∙ c.number.ensures in
+    let number = c.new-signals.ensures.sfn ∙ c.number-sfn.ensures in
     c.sample_of_frame.ensures ∙ rw (c.new-signals.ensures.cell, number) (ap sample_of (sym (sent_is (element c.args.cell.now) c.args.sfn i)))
 
 pub returns-clause-size : goal.returns-clause-size

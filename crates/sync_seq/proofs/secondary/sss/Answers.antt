@@ -1,8 +1,7 @@
 use Rattle.std.proofs.Common.{arith, ◌≡◌, ◌∙◌, ap, pos, length-set}
 use Rattle.std.proofs.lemmas.List.FromFn.{fill_by_all}
 use Rattle.std.proofs.lemmas.List.Edits.{fill_by_more}
-use Rattle.sync_seq.specs.declared.secondary.Recurrence.TheVariants.{S, C, Z}
-use Rattle.sync_seq.specs.Secondary.{bits_of, even_shift, shifted_value, sss_at, sss_list}
+use Rattle.sync_seq.specs.Secondary.{S, C, Z, bits_of, even_shift, shifted_value, sss_at, sss_list}
 use Rattle.sync_seq.proofs.SecondaryValues.{kept_sign}
 use Rattle.sync_seq.proofs.secondary.sss.Goals as goal
 

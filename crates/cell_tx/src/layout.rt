@@ -1,0 +1,128 @@
+//! What is made once for all frames of a cell.
+
+ghost use Rattle.std.specs.Prelude.{◌≡◌};
+ghost use Rattle.cell_tx.specs.Rows.{IsLayout, IsCarried, AreVersions};
+
+use crate::Cell;
+use crate::control::{Indicator, control_places, control_points, indicators};
+use crate::points::{PlaceTable, table_of};
+use crate::shared::{shared_places, shared_points};
+use cs_num::Cpx;
+use grid_map::{pbch_places, pcfich_places};
+use lte_types::{Half, Sfn};
+use sync_seq::{pss, sss};
+
+/// What is the same in every frame: the synchronisation signals, where the channels stand, and the
+/// control format indicators.
+#[derive(Drop)]
+pub(crate) struct Layout {
+    pub primary: [Cpx; 62],
+    pub zero: [i8; 62],
+    pub five: [i8; 62],
+    pub broadcast: PlaceTable,
+    pub indicator: PlaceTable,
+    pub indicators: [Indicator; 10],
+    pub control: PlaceTable,
+    pub shared: PlaceTable,
+}
+
+/// What grants the system information of a frame, and the points that carry it.
+#[derive(Drop)]
+pub(crate) struct Carried {
+    pub control: [Cpx; 144],
+    pub shared: [Cpx; 612],
+}
+
+/// The same for each redundancy version.
+#[derive(Drop)]
+pub(crate) struct Versions {
+    pub first: Carried,
+    pub second: Carried,
+    pub third: Carried,
+    pub fourth: Carried,
+}
+
+impl Layout {
+    ghost use Rattle.std.specs.Prelude.{ℕ, ◌<◌, length};
+    ghost use Rattle.finite.specs.Lists.{values_below};
+    ghost use Rattle.cell_tx.specs.declared.cell.CellPlan.{CellPlan as Plan};
+    ghost use Rattle.cell_tx.specs.Control.{indicator_point};
+    ghost use Rattle.cell_tx.specs.Rows.{IsLayout};
+
+    /// The points of the control format indicator in a subframe.
+    pub(crate) fn indicator_of(&self, subframe: u8) -> &[Cpx]
+        requires { subframe < 10 }
+        ensures points { (plan : Plan) → IsLayout plan self.now →
+            result.now ≡ values_below 16 (indicator_point plan subframe) }
+        ensures count { length result.now ≡ 16 }
+    {
+        self.indicators[subframe as usize].slice()
+    }
+}
+
+/// The layout of a cell.
+pub(crate) fn layout_of(cell: &Cell) -> Layout
+    ensures { IsLayout cell.now result }
+{
+    let id = cell.id();
+    let n2 = id.n2() as u8;
+    let primary = pss(n2);
+    let zero = sss(id.n1(), n2, Half::Zero);
+    let five = sss(id.n1(), n2, Half::Five);
+    let broadcast = table_of(&pbch_places(id));
+    let indicator = table_of(&pcfich_places(id));
+    let indicators = indicators(cell);
+    let control = table_of(&control_places(cell));
+    let (count, places) = shared_places(cell);
+    let shared = table_of(&places[..count]);
+    Layout {
+        primary,
+        zero,
+        five,
+        broadcast,
+        indicator,
+        indicators,
+        control,
+        shared,
+    }
+}
+
+/// What a frame carries in subframe 5, if its number is even.
+pub(crate) fn carried_of(cell: &Cell, sfn: Sfn) -> Carried
+    ensures { IsCarried cell.now sfn result }
+{
+    Carried {
+        control: control_points(cell, sfn),
+        shared: shared_points(cell, sfn),
+    }
+}
+
+/// What frames carry there by their redundancy versions.
+pub(crate) fn versions_of(cell: &Cell) -> Versions
+    ensures { AreVersions cell.now result }
+{
+    Versions {
+        first: carried_of(cell, Sfn::modulo(0)),
+        second: carried_of(cell, Sfn::modulo(2)),
+        third: carried_of(cell, Sfn::modulo(4)),
+        fourth: carried_of(cell, Sfn::modulo(6)),
+    }
+}
+
+impl Versions {
+    ghost use Rattle.std.specs.Prelude.{ℕ};
+    ghost use Rattle.cell_tx.specs.declared.cell.CellPlan.{CellPlan as Plan};
+    ghost use Rattle.cell_tx.specs.Rows.{IsCarried, AreVersions};
+
+    /// What a frame carries.
+    pub(crate) fn of_frame(&self, sfn: Sfn) -> &Carried
+        ensures { (plan : Plan) → AreVersions plan self.now → IsCarried plan sfn result.now }
+    {
+        match sfn.value() % 8 / 2 {
+            0 => &self.first,
+            1 => &self.second,
+            2 => &self.third,
+            _ => &self.fourth,
+        }
+    }
+}
