@@ -196,6 +196,30 @@ pub fn send(t: &Transmission, i: u32) -> Sample
     amplified(t.gain, sample(&t.cell, t.sfn, i as u64 + t.offset as u64))
 }
 
+// Makes the frame of sample i of a transmission, over the frame before where there is one.
+fn make_frame(
+    t: &Transmission,
+    layout: &Layout,
+    versions: &Versions,
+    i: usize,
+    clean: &mut [Sample; FRAME_LENGTH],
+)
+    requires layout { IsLayout t.now.cell layout.now }
+    requires versions { AreVersions t.now.cell versions.now }
+    requires i { i < t.now.samples }
+    requires before { 0 < i → clean.old
+        ≡ frame_samples (element t.now.cell) (number_of t.now.sfn (i - 1 + t.now.offset)) }
+    ensures { clean.new ≡ frame_samples (element t.now.cell) (number_of t.now.sfn (i + t.now.offset)) }
+{
+    let sfn = number(t.sfn, i as u64 + t.offset as u64);
+    let signals = Signals::new(&t.cell, layout, versions.of_frame(sfn), sfn);
+    if i == 0 {
+        put_frame(&signals, clean);
+    } else {
+        renew_frame(&signals, clean);
+    }
+}
+
 // Makes the frame of sample i of a transmission, where that of the sample before is another one.
 fn enter_frame(
     t: &Transmission,
@@ -211,16 +235,8 @@ fn enter_frame(
         ≡ frame_samples (element t.now.cell) (number_of t.now.sfn (i - 1 + t.now.offset)) }
     ensures { clean.new ≡ frame_samples (element t.now.cell) (number_of t.now.sfn (i + t.now.offset)) }
 {
-    let n = i as u64 + t.offset as u64;
-    if i > 0 && n % FRAME > 0 {
-        return;
-    }
-    let sfn = number(t.sfn, n);
-    let signals = Signals::new(&t.cell, layout, versions.of_frame(sfn), sfn);
-    if i == 0 {
-        put_frame(&signals, clean);
-    } else {
-        renew_frame(&signals, clean);
+    if i == 0 || (i as u64 + t.offset as u64) % FRAME == 0 {
+        make_frame(t, layout, versions, i, clean);
     }
 }
 

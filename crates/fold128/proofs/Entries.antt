@@ -26,14 +26,6 @@ pub z_imaginary_small : (i : ℕ) → i < 32 → nat_abs (slice_index_or z_imagi
 unfolding z_imaginary
 z_imaginary_small i h = leb-true _ _ (entry_passes (λ x. nat_le (nat_abs x) 127) z_imaginary i (pos 0) refl h)
 
-pub cosine_low : (m half : ℕ) → half ≡ folded m → half ≤ 32 → cosine m ≡ pos (slice_index quarter half)
-unfolding cosine
-cosine_low m half e h = grind (arith, nat_tests)
-
-pub cosine_high : (m half : ℕ) → half ≡ folded m → 32 < half → cosine m ≡ neg_ℤ (pos (slice_index quarter (64 - half)))
-unfolding cosine
-cosine_high m half e h = grind (arith, nat_tests)
-
 -- a small number, widened from 8 to 64 bits
 pub widened : (x : ℤ) → nat_abs x ≤ 127 → to_z w64 (of_z w64 (to_z w8 (of_z w8 x))) ≡ x
 widened x h = omega (arith, ints)

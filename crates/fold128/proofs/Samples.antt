@@ -13,16 +13,6 @@ use Rattle.cs_num.proofs.Complex.{size-le, times-within}
 use Rattle.cs_num.proofs.Rounding.{rounds_within}
 use Rattle.fold128.proofs.Entries.{w_small}
 
-pub term-within : (grid : List Cpx) (n k : ℕ) → All (IsWithin 127) grid → k < length grid → IsWithin 4161536 (useful_term (value_at grid) n k)
-term-within grid n k small l =
-    let g : IsWithin 127 (value_at grid k) = All-get_or (IsWithin 127) grid k nothing l small in
-    times-within (value_at grid k) (w_at (frequency k * n)) 127 16384 2080768 g (w_small (frequency k * n)) (omega arith)
-
-pub sum-size : (grid : List Cpx) (n k : ℕ) → All (IsWithin 127) grid → k ≤ length grid → size (complex_sum_below k (useful_term (value_at grid) n)) ≤ k * 4161536
-sum-size grid n k small l =
-    size-le (complex_sum_below k (useful_term (value_at grid) n)) (k * 4161536)
-    (complex_sum_below-within k 4161536 (useful_term (value_at grid) n) (λ j below. term-within grid n j small (omega arith)))
-
 pub useful_is : (grid : ℕ → Cpx) (n : ℕ) → useful_at grid n ≡ rounded (complex_sum_below 72 (useful_term grid n)) 17
 unfolding useful_at
 useful_is grid n = refl

@@ -43,19 +43,18 @@ impl Quartet {
         }
     }
 
-    // The four with a number added to that of a residue.
-    pub(crate) fn with(self, residue: usize, number: Cpx) -> Quartet
+    // Adds a number to that of a residue.
+    pub(crate) fn add(&mut self, residue: usize, number: Cpx)
         requires residue { residue < 4 }
-        requires small { AreWithin 1073741824 self }
+        requires small { AreWithin 1073741824 self.old }
         requires number { IsWithin 4161536 number }
-        ensures { result ≡ added self residue number }
+        ensures { self.new ≡ added self.old residue number }
     {
-        let sum = self.of_residue(residue) + number;
         match residue {
-            0 => Quartet { zero: sum, ..self },
-            1 => Quartet { one: sum, ..self },
-            2 => Quartet { two: sum, ..self },
-            _ => Quartet { three: sum, ..self },
+            0 => self.zero = self.zero + number,
+            1 => self.one = self.one + number,
+            2 => self.two = self.two + number,
+            _ => self.three = self.three + number,
         }
     }
 }

@@ -42,7 +42,7 @@ fn add_tone(parts: &mut [Quartet; 32], value: Cpx, frequency: usize)
         return;
     }
     for m in 0..32 {
-        parts[m] = parts[m].with(frequency % 4, value.mul(w(frequency * m)));
+        parts[m].add(frequency % 4, value.mul(w(frequency * m)));
     }
 }
 

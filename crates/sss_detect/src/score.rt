@@ -1,6 +1,6 @@
 //! Scores of secondary sequences.
 
-ghost use Rattle.std.specs.Prelude.{◌≡◌, ◌+◌, ◌^◌, ◌<◌, ◌≤◌, All, pos, ◌*ℤ◌, nat_abs, slice_index_or};
+ghost use Rattle.std.specs.Prelude.{◌≡◌, ◌+◌, ◌^◌, ◌<◌, ◌≤◌, All, length, pos, ◌*ℤ◌, nat_abs, slice_index_or};
 ghost use Rattle.finite.specs.Sizes.{AllWithin};
 ghost use Rattle.cs_num.specs.Complex.{IsWithin, times, conjugate, value_at};
 ghost use Rattle.sss_detect.specs.Scores.{agreement};
@@ -47,6 +47,7 @@ pub(crate) struct Sums<'a> {
     pub n2: u8,
     even: [i128; 31],
     odd: [i128; 248],
+    ghost long: { length agreements.now ≡ 62 },
     ghost even_is: { even ≡ values_below 31 (even_sum agreements.now n2) },
     ghost odd_is: { odd ≡ values_below 248 (odd_sum agreements.now n2) },
 }

@@ -9,7 +9,7 @@ ghost use Rattle.sync_seq.specs.Laws.{SecondaryTells};
 
 pub use middle::{MIDDLE, in_middle, is_middle};
 pub use primary::pss;
-pub use secondary::{amplitude, sss};
+pub use secondary::{amplitude, sss, sss_shifts, sss_sign};
 
 /// The secondary sequences of one identity within its group tell the group and the half: no two of
 /// the 336 are the same.

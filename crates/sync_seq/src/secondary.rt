@@ -33,10 +33,10 @@ pub fn sss(n1: u16, n2: u8, half: Half) -> [i8; 62]
     requires member { n2 ≤ 2 }
     ensures { result ≡ sss_list n1 n2 half }
 {
-    let (even, odd) = shifts(n1, half);
+    let (even, odd) = sss_shifts(n1, half);
     let mut values = [0; 62];
     for k in 0..62 {
-        values[k] = value(n2, even, odd, k);
+        values[k] = sss_sign(n2, even, odd, k);
     }
     values
 }
@@ -52,8 +52,9 @@ pub fn amplitude(sign: i8) -> Cpx
     }
 }
 
-// The shifts of the even places and of the odd ones.
-fn shifts(n1: u16, half: Half) -> (usize, usize)
+/// The shift of the even places and that of the odd ones, both below 31, of an identity group and a half
+/// (m0 and m1 of TS 36.211 section 6.11.2.1, exchanged in subframe 5). `n1` is 0 to 167.
+pub fn sss_shifts(n1: u16, half: Half) -> (usize, usize)
     requires { n1 ≤ 167 }
     ensures even { result.0 ≡ even_shift half n1 }
     ensures odd { result.1 ≡ odd_shift half n1 }
@@ -80,8 +81,10 @@ fn shift_sum_of(n1: usize) -> usize
     n1 + q * (q + 1) / 2
 }
 
-// Value k of the sequence with these shifts.
-fn value(n2: u8, even: usize, odd: usize, k: usize) -> i8
+/// Sign `k`, 0 to 61, of the sequence with these shifts (TS 36.211 section 6.11.2.1). That of an even place does
+/// not depend on the shift of the odd ones, nor that of an odd place on that of the even ones but modulo 8.
+/// `n2` is 0 to 2, and the shifts are below 31.
+pub fn sss_sign(n2: u8, even: usize, odd: usize, k: usize) -> i8
     requires member { n2 ≤ 2 }
     requires even { even < 31 }
     requires odd { odd < 31 }

@@ -23,8 +23,8 @@ mul-requires c =
     let t = w_small (c.args.frequency * c.loop-m.m) in
     rw c.w.ensures (omega (arith, mul-le (size c.args.value) (size (w_at (c.args.frequency * c.loop-m.m))) 127 16384 (size-le _ _ c.requires.value) (size-le _ _ t)))
 
-pub with-requires-clause-number : goal.with-requires-clause-number
-with-requires-clause-number c =
+pub add-requires-clause-number : goal.add-requires-clause-number
+add-requires-clause-number c =
     rw (c.mul.ensures, c.w.ensures) (times-within c.args.value (w_at (c.args.frequency * c.loop-m.m)) 127 16384 2080768 c.requires.value (w_small (c.args.frequency * c.loop-m.m)) (omega arith))
 
 pub loop-m-preserved : goal.loop-m-preserved
@@ -34,11 +34,11 @@ loop-m-preserved c =
     let m : ℕ = c.loop-m.m in
     let f : ℕ = c.args.frequency in
     let given : ℕ → Quartet = λ j. added (slice_index_or before j empty_quartet) (f % 4) (times c.args.value (w_at (f * j))) in
-    let here : c.with.result ≡ given m =
-    c.with.ensures ∙ ap (λ (q : Quartet). added q (f % 4) c.mul.result) (c.loop-m.invariant.rest m (omega arith))
+    let here : c.add.new.self ≡ given m =
+    c.add.ensures ∙ ap (λ (q : Quartet). added q (f % 4) c.mul.result) (c.loop-m.invariant.rest m (omega arith))
     ∙ ap (added (slice_index_or before m empty_quartet) (f % 4)) (c.mul.ensures ∙ ap (times c.args.value) c.w.ensures) in
     record {
       whole = length-set parts m _ ∙ c.loop-m.invariant.whole;
-      done = set_more empty_quartet m given parts c.with.result (let long = c.loop-m.invariant.whole in omega (arith, long)) here c.loop-m.invariant.done;
-      rest = λ j later. get_or-set_other parts m j c.with.result empty_quartet (λ e. absurd (omega (arith, e, later))) ∙ c.loop-m.invariant.rest j (omega (arith, later));
+      done = set_more empty_quartet m given parts c.add.new.self (let long = c.loop-m.invariant.whole in omega (arith, long)) here c.loop-m.invariant.done;
+      rest = λ j later. get_or-set_other parts m j c.add.new.self empty_quartet (λ e. absurd (omega (arith, e, later))) ∙ c.loop-m.invariant.rest j (omega (arith, later));
     }

@@ -8,11 +8,11 @@ use Rattle.sync_seq.proofs.secondary.sss.Goals as goal
 pub loop-k-preserved : goal.loop-k-preserved
 unfolding sss_at
 loop-k-preserved c =
-    let kept = kept_sign c.value.result c.value.ensures.small in
-    let here : c.value.result ≡ sss_at c.args.n1 c.args.n2 c.args.half c.loop-k.k =
-    c.value.ensures.value
-    ∙ ap (λ even. shifted_value (bits_of S) (bits_of C) (bits_of Z) c.args.n2 even c.shifts-even.result.1 c.loop-k.k) c.shifts-even.ensures.even
-    ∙ ap (λ odd. shifted_value (bits_of S) (bits_of C) (bits_of Z) c.args.n2 (even_shift c.args.half c.args.n1) odd c.loop-k.k) c.shifts-even.ensures.odd in
+    let kept = kept_sign c.sss_sign.result c.sss_sign.ensures.small in
+    let here : c.sss_sign.result ≡ sss_at c.args.n1 c.args.n2 c.args.half c.loop-k.k =
+    c.sss_sign.ensures.value
+    ∙ ap (λ even. shifted_value (bits_of S) (bits_of C) (bits_of Z) c.args.n2 even c.sss_shifts-even.result.1 c.loop-k.k) c.sss_shifts-even.ensures.even
+    ∙ ap (λ odd. shifted_value (bits_of S) (bits_of C) (bits_of Z) c.args.n2 (even_shift c.args.half c.args.n1) odd c.loop-k.k) c.sss_shifts-even.ensures.odd in
     record {
       whole = length-set c.loop-k.values c.loop-k.k _ ∙ c.loop-k.invariant.whole;
       each = rw (kept, here) (fill_by_more (sss_at c.args.n1 c.args.n2 c.args.half) c.loop-k.values c.loop-k.k (pos 0) (omega arith) c.loop-k.invariant.each);

@@ -1,7 +1,7 @@
 use Rattle.std.proofs.Common.{◌≡◌, ◌∙◌, ◌*ℤ◌, ◌/◌, ◌+◌, ◌%◌, ap, sym}
 use Rattle.sync_seq.specs.Secondary.{S, C, Z, bits_of, even_value, odd_value, sign_at}
 use Rattle.sync_seq.proofs.SecondaryValues.{kept_product, kept_products, product-size, product_same, shifted_even, shifted_odd}
-use Rattle.sync_seq.proofs.secondary.value.Goals as goal
+use Rattle.sync_seq.proofs.secondary.sss_sign.Goals as goal
 
 pub returns-then-k-eq0 : goal.returns-then-k-eq0
 returns-then-k-eq0 c =
