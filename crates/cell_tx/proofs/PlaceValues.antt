@@ -72,10 +72,13 @@ first_more places p i old new inside here taken elsewhere (inl (all, none)) = se
         rw (here is all) (inr (omega arith, sym is, none))
     settle false e =
         let apart : p ≡ q → ⊥ = λ is. absurd (true≢false (sym (ap (same_place p) (sym is) ∙ same_place-refl p) ∙ e)) in
-        rw (elsewhere apart) (inl (all, λ j l at. elim (cases_lt j i) [
-          | inl below ↦ none j below at
-          | inr past ↦ let last : j ≡ i = omega (arith, l, past) in apart (sym (subst (λ n. get_or places n (place 0 0) ≡ p) last at))
-        ]))
+        rw (elsewhere apart) (inl (
+          all,
+          λ j l at. elim (cases_lt j i) [
+            | inl below ↦ none j below at
+            | inr past ↦ let last : j ≡ i = omega (arith, l, past) in apart (sym (subst (λ n. get_or places n (place 0 0) ≡ p) last at))
+          ],
+        ))
 
 -- and after the last place
 pub first_of_all : (places : List Place) (p : Place) (n : ℕ) → IsFirstBefore places p (length places) n → n ≡ index_in places p

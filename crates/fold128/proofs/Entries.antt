@@ -2,7 +2,7 @@
 use Rattle.std.proofs.Common.{◌≡◌, ℕ, ◌+◌, ◌-◌, ◌%◌, ◌<◌, ◌≤◌, List, length, Bool, true, false, arith, refl, ℤ, pos, nat_le, slice_index, slice_index_or, get_or, to_z, of_z, w8, w64}
 use Rattle.std.proofs.lemmas.Int.{ints}
 use Rattle.cs_num.specs.Complex.{IsWithin, conjugate}
-use Rattle.std.specs.Prelude.{neg_ℤ, if◌then◌else◌, nat_abs}
+use Rattle.std.specs.Prelude.{if◌then◌else◌, nat_abs}
 use Rattle.std.specs.List.{list_all}
 use Rattle.std.proofs.lemmas.Bool.{leb-true, leb-false, le-leb}
 use Rattle.std.proofs.lemmas.List.Sums.{AllPass-from_list_all}

@@ -1,15 +1,13 @@
 -- Bounds of a symbol's sums.
-use Rattle.std.proofs.Common.{◌≡◌, ℕ, ◌*◌, ◌<◌, ◌≤◌, arith, refl, List, length, ap}
-use Rattle.std.specs.Prelude.{All}
-use Rattle.std.proofs.lemmas.List.Elements.{All-get_or}
+use Rattle.std.proofs.Common.{◌≡◌, ℕ, ◌*◌, ◌<◌, arith, refl, ap}
 use Rattle.cs_num.specs.declared.Cpx.{Cpx}
-use Rattle.cs_num.specs.Complex.{IsWithin, size, times, nothing, value_at}
+use Rattle.cs_num.specs.Complex.{IsWithin, times}
 use Rattle.cs_num.specs.Rounding.{rounded}
 use Rattle.cs_num.specs.Sums.{complex_sum_below}
 use Rattle.fold128.specs.Tables.{w_at}
 use Rattle.fold128.specs.Symbol.{useful_term, useful_at, frequency}
 use Rattle.cs_num.proofs.Sums.{complex_sum_below-within, complex_sum_below_same}
-use Rattle.cs_num.proofs.Complex.{size-le, times-within}
+use Rattle.cs_num.proofs.Complex.{times-within}
 use Rattle.cs_num.proofs.Rounding.{rounds_within}
 use Rattle.fold128.proofs.Entries.{w_small}
 
