@@ -12,7 +12,7 @@ use Rattle.finite.proofs.Integers.{abs-sum, abs-difference, product_within}
 use Rattle.cs_num.specs.declared.Cpx.{Cpx}
 use Rattle.cs_num.specs.Complex.{IsWithin, size, nothing, plus, times, conjugate, minus, times_j, times_minus_j}
 use Rattle.cs_num.specs.Sums.{complex_sum_below}
-use Rattle.cs_num.proofs.Complex.{pair, size-le, plus-within, within_more}
+use Rattle.cs_num.proofs.Complex.{pair, size-le, plus-within, minus-within, times_j-within, within_more}
 use Rattle.cs_num.proofs.Sums.{complex_sum_below-within}
 use Rattle.fold128.specs.declared.quartet.Quartet.{Quartet}
 use Rattle.fold128.specs.declared.spectrum.Mirror.{Mirror}
@@ -99,27 +99,21 @@ sums-small n a b c d few ha hb hc hd =
     let t = size-le _ _ (plus-within b d n n (n + n) hb hd (omega arith)) in
     omega (arith, few, s, t)
 
-minus-within : (n : ℕ) (a b : Cpx) → IsWithin n a → IsWithin n b → IsWithin (n + n) (minus a b)
-minus-within n a b p q = record { re = omega (arith, p.re, q.re, abs-difference a.re b.re); im = omega (arith, p.im, q.im, abs-difference a.im b.im) }
-
 back-within : (n : ℕ) (z : Cpx) → IsWithin n z → IsWithin n (times_minus_j z)
 back-within n z p = record { re = p.im; im = omega (arith, ints, p.re) }
-
-forward-within : (n : ℕ) (z : Cpx) → IsWithin n z → IsWithin n (times_j z)
-forward-within n z p = record { re = omega (arith, ints, p.im); im = p.re }
 
 pub differences-small : (n : ℕ) (a b c d : Cpx) → 4 * n < 2 ^ 63 → IsWithin n a → IsWithin n b → IsWithin n c → IsWithin n d →
     size (minus a c) + size (times_minus_j (minus b d)) < 2 ^ 63
 differences-small n a b c d few ha hb hc hd =
-    let s = size-le _ _ (minus-within n a c ha hc) in
-    let t = size-le _ _ (back-within (n + n) (minus b d) (minus-within n b d hb hd)) in
+    let s = size-le _ _ (minus-within a c n n (n + n) ha hc (omega arith)) in
+    let t = size-le _ _ (back-within (n + n) (minus b d) (minus-within b d n n (n + n) hb hd (omega arith))) in
     omega (arith, few, s, t)
 
 pub forward_differences-small : (n : ℕ) (a b c d : Cpx) → 4 * n < 2 ^ 63 → IsWithin n a → IsWithin n b → IsWithin n c → IsWithin n d →
     size (minus a c) + size (times_j (minus b d)) < 2 ^ 63
 forward_differences-small n a b c d few ha hb hc hd =
-    let s = size-le _ _ (minus-within n a c ha hc) in
-    let t = size-le _ _ (forward-within (n + n) (minus b d) (minus-within n b d hb hd)) in
+    let s = size-le _ _ (minus-within a c n n (n + n) ha hc (omega arith)) in
+    let t = size-le _ _ (times_j-within (minus b d) (n + n) (minus-within b d n n (n + n) hb hd (omega arith))) in
     omega (arith, few, s, t)
 
 -- four butterflies make a quartet
@@ -170,7 +164,7 @@ opposite-within folded r m small long few inside = settle (nat_eq (m % 16) 0) re
 pub mirror-small : (here opposite : Cpx) → IsWithin 131072 here → IsWithin 131072 opposite → IsSmallMirror (record { real = plus here opposite; imaginary = times_minus_j (minus here opposite) })
 mirror-small here opposite p q = record {
   real = plus-within here opposite 131072 131072 262144 p q (omega arith);
-  imaginary = back-within 262144 (minus here opposite) (minus-within 131072 here opposite p q);
+  imaginary = back-within 262144 (minus here opposite) (minus-within here opposite 131072 131072 262144 p q (omega arith));
 }
 
 -- one component of what both places give
@@ -213,7 +207,7 @@ mirrored_sum-within row f m small l =
 forward_by-within : (q n : ℕ) (z : Cpx) → IsWithin n z → IsWithin n (forward_by q z)
 unfolding forward_by
 forward_by-within zero n z p = p
-forward_by-within (suc q) n z p = forward_by-within q n (times_j z) (forward-within n z p)
+forward_by-within (suc q) n z p = forward_by-within q n (times_j z) (times_j-within z n p)
 
 given_at-within : (q n : ℕ) (p : Quartet) → AreWithin n p → IsWithin (4 * n) (given_at q p)
 unfolding given_at
