@@ -17,6 +17,7 @@ LIMIT = 20                          # seconds of processor time
 HANG = 300                          # seconds after which a run is ended
 TEXTS = {2: 'usage', 3: 'ragged', 4: 'too short', 5: 'too long', 6: 'read fault', 7: 'write fault', 8: 'out of memory',
          9: r'bad cell: \w+', 10: r'bad certificate at byte \d+'}
+CODES = {'check': {0, 5, 10}, 'transmit': {0, 5, 9}, 'make': {0}}
 NONSENSE = 'no command'
 SHARES = {'hits': 14, 'ids': 12, 'search': 22, 'certify': 12, 'check': 12, 'transmit': 20, 'make': 0.2, NONSENSE: 8}
 Input = collections.namedtuple('Input', 'label words data way')
@@ -69,15 +70,32 @@ class Runner:
         return Ending(os.waitstatus_to_exitcode(status), output, text, usage.ru_utime + usage.ru_stime)
 
 
-def wanted_code(given):
-    """The code that the words and the length alone tell; None where they do not."""
+def codes_of_recording(words, length):
+    """The codes that a command on a recording may end with. An earlier program has no `--json` and no `--format`."""
+    form = words[-2:] == ['--format', 'cu8']
+    size = 2 if form else 4
+    rest = words[:-2] if form else words
+    if len(rest) != 1 and rest != ['search', '--json']:
+        return {2}
+    long, short = length > size * fuzz_inputs.MOST // 4, length < size * fuzz_inputs.LEAST // 4
+    code = 5 if long else 3 if length % size else 4 if short else 0
+    return {code} if len(words) == 1 else {code, 2}
+
+
+def wanted_codes(given):
+    """The codes that words and length, and a folder as input or a full device as output, may lead to."""
     if given.label == NONSENSE:
-        return 2
-    if given.way not in ('file', 'pipe') or given.words not in (['hits'], ['ids'], ['search'], ['certify']):
-        return None
-    if len(given.data) > fuzz_inputs.MOST:
-        return 5
-    return 3 if len(given.data) % 4 else 4 if len(given.data) < fuzz_inputs.LEAST else 0
+        return {2}
+    command = given.words[0]
+    if command in CODES:
+        codes = CODES[command]
+    else:
+        codes = codes_of_recording(given.words, len(given.data))
+    if given.way == 'folder' and command != 'make':
+        return codes & {2} | {6}
+    if given.way == 'full' and 0 in codes:
+        return codes | {7} if command == 'certify' else codes - {0} | {7}   # no entry, no certificate to write
+    return codes
 
 
 def faults(given, ending):
@@ -93,11 +111,9 @@ def faults(given, ending):
         yield f'output with code {code}'
     if ending.seconds > LIMIT:
         yield f'{ending.seconds:.0f} seconds'
-    wanted = wanted_code(given)
-    if wanted is not None and code != wanted:
-        yield f'code {code}, and {wanted} was to come'
-    if code == 0 and (given.way == 'full' or given.way == 'folder' and given.label != 'make N'):
-        yield f'code 0 with {given.way}'
+    wanted = wanted_codes(given)
+    if code not in wanted:
+        yield f'code {code}, and {" or ".join(map(str, sorted(wanted)))} was to come'
     if code == 0 and '--json' in given.words:
         try:
             json.loads(ending.output)
@@ -171,6 +187,8 @@ class Inputs:
             data = fuzz_inputs.certificates(random, self.certificates)
         else:
             data = fuzz_inputs.recording(random, self.sent)
+            if words[-1] == 'cu8' and random.random() < 0.7:
+                data = fuzz_inputs.as_bytes(data)
         return Input(label, words, data, way)
 
 

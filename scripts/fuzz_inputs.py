@@ -129,6 +129,13 @@ def whole_recording(random, sent):
     return spoiled(random, data)
 
 
+def as_bytes(data):
+    """The recording as 8-bit numbers, of its greatest size (`cu8`)."""
+    numbers = array.array('h', data[:len(data) // 2 * 2])
+    factor = 127 / max(1, max(map(abs, numbers), default=1))
+    return bytes(int(128 + factor * number) for number in numbers) + data[len(data) // 2 * 2:]
+
+
 def recording(random, sent):
     chance = random.random()
     if chance < 0.55:
