@@ -1,7 +1,7 @@
 -- Two recordings that agree in their first 17 frames tell the same hits, identities and slots, and so the same list.
-use Rattle.std.proofs.Common.{◌≡◌, ℕ, suc, ◌+◌, ◌*◌, ◌<◌, ◌≤◌, Result, Ok, Err, List, [], ◌∷◌, length, arith, refl, ap, sym, subst, ◌∙◌}
-use Rattle.std.specs.Prelude.{All, ◌↔◌}
-use Rattle.std.specs.List.{AllZip, Contains}
+use Rattle.std.proofs.Common.{◌≡◌, ℕ, suc, ◌+◌, ◌*◌, ◌<◌, ◌≤◌, Result, Ok, Err, List, [], ◌∷◌, length, arith, ap, sym, subst, ◌∙◌}
+use Rattle.std.specs.Prelude.{All}
+use Rattle.std.specs.List.{AllZip}
 use Rattle.finite.proofs.Lists.{values_below_same}
 use Rattle.cs_num.specs.declared.Cpx.{Cpx}
 use Rattle.cs_num.specs.declared.Sample.{Sample}
@@ -24,8 +24,8 @@ use Rattle.sss_detect.specs.Identity.{identity_of}
 use Rattle.sss_detect.specs.Place.{start_of}
 use Rattle.sss_detect.proofs.Agree.{identity_agrees}
 use Rattle.pbch.specs.Master.{IsMaster}
-use Rattle.explain.specs.Frame.{IsWhole, frame_at, seen_slot, broadcast_slot}
-use Rattle.explain.specs.Entries.{IsEntryOf, AreEntriesOf, IsExplained, identity_at, start_at, master_of}
+use Rattle.explain.specs.Frame.{frame_at, seen_slot, broadcast_slot}
+use Rattle.explain.specs.Entries.{IsEntryOf, AreEntriesOf, start_at, master_of}
 use Rattle.explain.specs.System.{even_frame, IsTried, IsReadFrom, FrameAnswers, IsSystemOf}
 use Rattle.explain.specs.Deciding.{deciding_length, FirstFramesDecide}
 

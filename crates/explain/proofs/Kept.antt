@@ -14,7 +14,7 @@ use Rattle.finite.proofs.Lists.{AllPairs-append}
 use Rattle.lte_types.specs.declared.entry.Entry.{Entry}
 use Rattle.explain.specs.Entries.{epoch, distance, is_same_cell, with_entry, kept, IsBefore, IsListOf, Adds}
 use Rattle.explain.specs.Laws.{StandsFor}
-use Rattle.explain.proofs.Sorted.{in_none, in_one, in_cons, Contains-here}
+use Rattle.explain.proofs.Sorted.{in_none, in_one, in_cons, Contains-here, Contains-later}
 
 -- ---- one cell
 
@@ -224,3 +224,21 @@ adds_none list before h = subst (λ l. IsListOf l list) (sym (append-nil before)
 -- and then these
 pub adds_more : (first second a b d : List Entry) → Adds first a b → Adds second b d → Adds (first ++ second) a d
 adds_more first second a b d p q before h = subst (λ l. IsListOf l d) (append_assoc before first second) (q (before ++ first) (p before h))
+
+-- entries of which each is of the cell of one that stands in the list add nothing
+pub adds_again : (entries list : List Entry) → ((entry : Entry) → Contains entries entry → list_any (λ other. is_same_cell other entry) list ≡ true) → Adds entries list list
+adds_again [] list each = adds_none list
+adds_again (e ∷ es) list each =
+    adds_more (e ∷ []) es list list list (λ before h. told_already before list e h (each e (Contains-here e es))) (adds_again es list (λ x h. each x (Contains-later e es x h)))
+
+-- of each of the entries that a list is made of, one of its cell stands in the list
+pub stands_in : (entries list : List Entry) (entry : Entry) → IsListOf entries list → Contains entries entry → list_any (λ other. is_same_cell other entry) list ≡ true
+stands_in entries list entry h inside =
+    let (other, s) = kept_stands entries entry inside in
+    let (k, l, is) = s.inside in
+    sym (list_any-IsPermutation (λ other. is_same_cell other entry) (kept entries) list h.same)
+    ∙ list_any-from_Any (λ other. is_same_cell other entry) (kept entries) (k, other, l, is, same_cell other s.same)
+  where
+    same_cell : (other : Entry) → (other ≡ entry) ⊎ (is_same_cell other entry ≡ true) → is_same_cell other entry ≡ true
+    same_cell other (inl e) = same_place_same_cell other entry (ap (λ (x : Entry). x.id) e) (ap (λ (x : Entry). x.start) e) (ap (λ (x : Entry). x.sfn) e)
+    same_cell other (inr e) = e

@@ -5,4 +5,5 @@ pub mod FirstFrame
 pub mod Made
 pub mod Kept
 pub mod Listed
+pub mod Again
 pub mod Deciding

@@ -12,7 +12,7 @@ use Rattle.pss_search.specs.Hits.{hits_of}
 use Rattle.explain.specs.Entries.{is_same_cell, kept, IsBefore, IsEntryOf, AreEntries, IsListOf, IsListOfHits, AddsHit}
 use Rattle.explain.specs.Laws.{HaveOneList, IsOneList, IsEntryOfSome, IsSoundOf, IsSound, IsCompleteOf, IsComplete, AreApart, IsApartOf, IsApart}
 use Rattle.explain.proofs.Sorted.{in_none, in_cons, Contains-here, Contains-later, one_in_order}
-use Rattle.explain.proofs.Kept.{same_cell_turned, same_place_same_cell, kept_only, kept_stands, kept_apart, before_after}
+use Rattle.explain.proofs.Kept.{same_cell_turned, same_place_same_cell, kept_only, kept_stands, kept_apart, before_after, adds_again, stands_in}
 
 abbrev pub joined : List (List Entry) → List Entry
 joined groups = flat_map (λ entries. entries) groups
@@ -166,4 +166,27 @@ of_one_more AreOf hits hit old new before adds =
       groups = before.groups ++ adds.entries ∷ [];
       each = AllZip-more AreOf hits before.groups hit adds.entries before.each adds.are;
       listed = subst (λ entries. IsListOf entries new) (sym all) (adds.adds (joined before.groups) before.listed);
+    }
+
+-- one of the hits has one of the groups, which is joined with the others
+group_of : (AreOf : Hit → List Entry → Type 0) (hits : List Hit) (groups : List (List Entry)) (hit : Hit) → AllZip AreOf hits groups → Contains hits hit →
+    (group : List Entry) × AreOf hit group × ((entry : Entry) → Contains group entry → Contains (joined groups) entry)
+group_of AreOf [] [] hit each listed = absurd (in_none hit listed)
+group_of AreOf [] (g ∷ gs) hit each listed = absurd each
+group_of AreOf (h ∷ hits) [] hit each listed = absurd each
+group_of AreOf (h ∷ hits) (g ∷ gs) hit each listed = elim (in_cons h hits hit listed) [
+  | inl is ↦ (g, subst (λ x. AreOf x g) is each.0, λ entry own. Contains-append_left g (joined gs) entry own)
+  | inr later ↦
+      let (group, are, inside) = group_of AreOf hits gs hit each.1 later in
+      (group, are, λ entry own. Contains-append_right g (joined gs) entry (inside entry own))
+]
+
+-- one of the hits, once more, adds nothing to their list
+pub adds_again_of : (AreOf : Hit → List Entry → Type 0) (hits : List Hit) (list : List Entry) (hit : Hit) → IsListOfHits AreOf hits list → Contains hits hit → AddsHit AreOf hit list list
+adds_again_of AreOf hits list hit explained listed =
+    let (group, are, inside) = group_of AreOf hits explained.groups hit explained.each listed in
+    record {
+      entries = group;
+      are = are;
+      adds = adds_again group list (λ entry own. stands_in (joined explained.groups) list entry explained.listed (inside entry own));
     }

@@ -1,16 +1,18 @@
 //! The list of the cells of a recording.
 
-ghost use Rattle.std.specs.Prelude.{◌≡◌, ◌+◌, ◌<◌, ◌≤◌, [], All, length};
+ghost use Rattle.std.specs.Prelude.{◌≡◌, ◌+◌, ◌<◌, ◌≤◌, true, false, [], ◌∷◌, ◌++◌, All, length};
 ghost use Rattle.finite.specs.Sizes.{RowsWithin};
 ghost use Rattle.pss_search.specs.Hits.{IsInSpan};
 ghost use Rattle.pbch.specs.Master.{TellsMaster};
 ghost use Rattle.explain.specs.Entries.{IsExplained, IsInList, AreEntriesOf, IsListOfHits, AddsHit, master_of, values_of_entry};
+ghost use Rattle.explain.specs.Places.{place_at, is_met};
 ghost use Rattle.explain.specs.Masters.{entry_of as entry_of_master, AddsPhase, AddsPhases};
 ghost use Rattle.explain.specs.System.{IsSystemOf};
 ghost use Rattle.lte_types.specs.Numerology.{frame_length};
 
 use crate::frame::broadcast_slot;
 use crate::masters::{Masters, first_masters};
+use crate::places::{Place, Places};
 use crate::system::system_of;
 use crate::{EntryList, Workspace};
 use lte_types::{CellId, Entry, Hit, Sfn};
@@ -32,7 +34,14 @@ pub fn explain(recording: &Recording, work: &mut Workspace, list: &mut EntryList
 {
     hits(recording, &mut work.hits);
     list.clear();
-    add_hits(recording, work.hits.slice(), &mut work.decoders, list);
+    work.places.clear();
+    add_hits(
+        recording,
+        work.hits.slice(),
+        &mut work.decoders,
+        &mut work.places,
+        list,
+    );
 }
 
 /// The values of an entry's master block: for each place and stream of its coded word the sum of the
@@ -50,31 +59,67 @@ pub fn values_of(recording: &Recording, entry: &Entry) -> [[i32; 3]; 40]
 }
 
 // Adds the entries of hits to the empty list.
-fn add_hits(recording: &Recording, hits: &[Hit], work: &mut Decoders, list: &mut EntryList)
+fn add_hits(
+    recording: &Recording,
+    hits: &[Hit],
+    work: &mut Decoders,
+    places: &mut Places,
+    list: &mut EntryList,
+)
     requires span { All IsInSpan hits.now }
     requires few { length hits.now ≤ 5760 }
+    requires none_met { places.old ≡ [] }
     requires empty { list.old ≡ [] }
     ensures { IsListOfHits (AreEntriesOf recording.now) hits.now list.new }
 {
     for hit in hits {
-        add_hit(recording, hit, work, list);
+        add_hit(recording, hit, work, places, list);
     }
 }
 
-// Adds the entries of a hit.
-fn add_hit(recording: &Recording, hit: &Hit, work: &mut Decoders, list: &mut EntryList)
+// The place that a hit tells.
+fn place_of(recording: &Recording, hit: &Hit) -> Place
     requires span { IsInSpan hit.now }
-    requires room { length list.old + 4 ≤ 23040 }
-    ensures adds { AddsHit (AreEntriesOf recording.now) hit.now list.old list.new }
-    ensures few { length list.new ≤ length list.old + 4 }
+    ensures place { result ≡ place_at recording.now hit.now }
+    ensures early { result.start < frame_length }
 {
     let end = recording.len();
     prove!(hit.t as usize + 128 <= end);
     let (n1, half) = identity(recording, hit);
-    let id = cell_id(n1, hit.n2);
-    let start = frame_start(hit, half);
-    match first_masters(recording, id, start, &mut work.trellis) {
-        Some(masters) => add_masters(recording, id, start, &masters, work, list),
+    Place {
+        id: cell_id(n1, hit.n2),
+        start: frame_start(hit, half),
+    }
+}
+
+// Adds the entries of a hit, unless its place was met before: each of them is then of the cell of one that
+// stands in the list already.
+fn add_hit(
+    recording: &Recording,
+    hit: &Hit,
+    work: &mut Decoders,
+    places: &mut Places,
+    list: &mut EntryList,
+)
+    requires span { IsInSpan hit.now }
+    requires few_met { length places.old < 5760 }
+    requires room { length list.old + 4 ≤ 23040 }
+    ensures again { is_met places.old (place_at recording.now hit.now) ≡ true → list.new ≡ list.old }
+    ensures same { is_met places.old (place_at recording.now hit.now) ≡ true → places.new ≡ places.old }
+    ensures adds { is_met places.old (place_at recording.now hit.now) ≡ false →
+        AddsHit (AreEntriesOf recording.now) hit.now list.old list.new }
+    ensures met { is_met places.old (place_at recording.now hit.now) ≡ false →
+        places.new ≡ places.old ++ place_at recording.now hit.now ∷ [] }
+    ensures one_met { length places.new ≤ length places.old + 1 }
+    ensures few { length list.new ≤ length list.old + 4 }
+{
+    let place = place_of(recording, hit);
+    if places.has(&place) {
+        return;
+    }
+    places.add(&place);
+    match first_masters(recording, place.id, place.start, &mut work.trellis) {
+        Some(masters) => add_masters(recording, place.id, place.start, &masters, work, list),
         None => {}
     }
 }

@@ -8,6 +8,7 @@ mod frame;
 mod laws;
 mod listing;
 mod masters;
+mod places;
 mod system;
 mod workspace;
 

@@ -1,5 +1,6 @@
 //! The working memory of a search for cells.
 
+use crate::places::Places;
 use pss_search::HitList;
 use std::alloc::{AllocError, Global};
 use system_block::Decoders;
@@ -8,6 +9,7 @@ use system_block::Decoders;
 #[derive(Drop)]
 pub struct Workspace {
     pub(crate) hits: HitList,
+    pub(crate) places: Places,
     pub(crate) decoders: Decoders,
 }
 
@@ -15,7 +17,12 @@ impl Workspace {
     /// Takes all the memory. Only memory can be wanting.
     pub fn new(alloc: Global) -> Result<Workspace, AllocError> {
         let hits = HitList::new(alloc)?;
+        let places = Places::new(alloc)?;
         let decoders = Decoders::new(alloc)?;
-        Ok(Workspace { hits, decoders })
+        Ok(Workspace {
+            hits,
+            places,
+            decoders,
+        })
     }
 }

@@ -1,15 +1,21 @@
-use Rattle.std.proofs.Common.{arith, sym, subst}
+use Rattle.std.proofs.Common.{List, arith, sym, subst}
 use Rattle.std.proofs.lemmas.List.{take_more}
 use Rattle.lte_types.specs.declared.hit.Hit.{Hit}
 use Rattle.explain.specs.Entries.{AreEntriesOf, IsListOfHits}
-use Rattle.explain.proofs.Listed.{of_one_more}
+use Rattle.explain.proofs.Again.{AreMet, listed_more, met_more}
 use Rattle.explain.proofs.cells.add_hits.Goals as goal
 
 pub loop-hit-preserved : goal.loop-hit-preserved
 loop-hit-preserved c =
     let nowhere : Hit = record { t = 0; n2 = 0; peak = 0; energy = 0 } in
-    let one_more = of_one_more (AreEntriesOf c.args.recording.now) _ _ c.loop-hit.list c.add_hit.new.list c.loop-hit.invariant.listed c.add_hit.ensures.adds in
+    let recording = c.args.recording.now in
+    let before = c.loop-hit.invariant in
+    let more = take_more c.args.hits.now c.loop-hit.hit-index nowhere c.loop-hit-test.true in
     record {
-      listed = subst (λ hits. IsListOfHits (AreEntriesOf c.args.recording.now) hits c.add_hit.new.list) (sym (take_more c.args.hits.now c.loop-hit.hit-index nowhere c.loop-hit-test.true)) one_more;
+      listed = subst (λ (hits : List Hit). IsListOfHits (AreEntriesOf recording) hits c.add_hit.new.list) (sym more)
+          (listed_more recording _ _ c.loop-hit.places before.met c.loop-hit.list c.add_hit.new.list before.listed c.add_hit.ensures.again c.add_hit.ensures.adds);
       few = omega arith;
+      met = subst (λ (hits : List Hit). AreMet recording hits c.add_hit.new.places) (sym more)
+          (met_more recording _ _ c.loop-hit.places before.met c.add_hit.new.places c.add_hit.ensures.same c.add_hit.ensures.met);
+      few_met = omega arith;
     }

@@ -1,4 +1,4 @@
-use Rattle.std.proofs.Common.{◌≡◌, ap, sym, ◌∙◌}
+use Rattle.std.proofs.Common.{ap, sym, ◌∙◌}
 use Rattle.soft_bits.specs.Soft.{SeenSlot}
 use Rattle.explain.specs.Frame.{frame_at}
 use Rattle.explain.proofs.FirstFrame.{slot_number, slot_identity}

@@ -1,5 +1,4 @@
-use Rattle.std.proofs.Common.{ℕ, ◌+◌, ◌*◌, ◌<◌, ◌≤◌, Ok, Err, refl, sym, subst, arith}
-use Rattle.std.specs.Prelude.{IsTrue}
+use Rattle.std.proofs.Common.{◌<◌, Ok, Err, refl, sym, subst, arith}
 use Rattle.explain.specs.Frame.{IsWhole}
 use Rattle.explain.specs.System.{even_frame, FrameAnswers}
 use Rattle.explain.proofs.FirstFrame.{whole_before}

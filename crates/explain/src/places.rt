@@ -1,0 +1,68 @@
+//! The places at which cells were met.
+
+ghost use Rattle.std.specs.Prelude.{◌≡◌, ◌≤◌, ◌<◌, List, [], ◌∷◌, ◌++◌, length, IfOk};
+ghost use Rattle.std.specs.Vec.{vec_capacity};
+ghost use Rattle.explain.specs.declared.places.Place.{Place as PlaceValue};
+ghost use Rattle.explain.specs.Places.{is_met};
+
+use lte_types::CellId;
+use std::alloc::{AllocError, Global};
+use std::marker::Model;
+
+/// Where a cell was met: its identity, and the sample at which its first frame starts.
+#[derive(Clone, Copy, PartialEq, Eq)]
+pub(crate) struct Place {
+    pub id: CellId,
+    pub start: u32,
+}
+
+/// The places of hits with room for 5,760, which no recording passes. Contracts see them as the list of
+/// its items.
+#[derive(Drop)]
+pub(crate) struct Places {
+    met: Vec<Place>,
+}
+
+impl Model for Places {
+    ghost Value = { List PlaceValue };
+
+    ghost view = { λ p. p.met.items };
+
+    ghost invariant = { λ p. 5760 ≤ vec_capacity p.met };
+}
+
+impl Places {
+    /// No places, with the memory taken. Only memory can be wanting.
+    pub(crate) fn new(alloc: Global) -> Result<Self, AllocError>
+        ensures { IfOk result (λ p. p ≡ []) }
+    {
+        Ok(Places {
+            met: Vec::with_capacity(alloc, 5760)?,
+        })
+    }
+
+    /// Leaves no places.
+    pub(crate) fn clear(&mut self)
+        ensures { self.new ≡ [] }
+    {
+        self.met.clear();
+    }
+
+    /// Whether the place is one of them.
+    pub(crate) fn has(&self, place: &Place) -> bool
+        ensures { result ≡ is_met self.now place.now }
+    {
+        self.met.iter().any(|met| met == place)
+    }
+
+    /// Puts the place at the end. It takes no memory.
+    pub(crate) fn add(&mut self, place: &Place)
+        requires { length self.old < 5760 }
+        ensures { self.new ≡ self.old ++ place.now ∷ [] }
+    {
+        match self.met.push(*place) {
+            Ok(()) => {}
+            Err(_) => unreachable!(),
+        }
+    }
+}
