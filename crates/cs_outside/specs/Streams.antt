@@ -20,6 +20,14 @@ pub record HasReadAll (limit : ℕ) (bytes : List ℕ) (before now : SourceTold)
   pub ended : IsAtEnd now
   pub within : length bytes ≤ limit
 
+-- n more bytes were read, which come after those that stood in a buffer; none is the end of the input
+pub record HasReadOn (n : ℕ) (old new : List ℕ) (before now : SourceTold) : Type 0 where
+  pub piece : List ℕ
+  pub count : length piece ≡ n
+  pub joined : new ≡ old ++ piece
+  pub read : HasRead piece before now
+  pub end : n ≡ 0 → IsAtEnd now
+
 -- one byte more than the limit was read
 pub record HasReadPast (limit : ℕ) (before now : SourceTold) : Type 0 where
   pub front : List ℕ

@@ -18,7 +18,7 @@ mod tests;
 pub use adapters::{StdSink, StdSource};
 pub use failing::{FailSink, FailSource};
 pub use memory::{MemSink, MemSource};
-pub use streams::{ReadError, read_to_end, write_whole};
+pub use streams::{ReadError, read_at, read_to_end, write_whole};
 use thiserror::Error;
 
 /// A call of a source or of a sink failed.

@@ -1,7 +1,7 @@
 //! A source read to its end, and a piece written whole.
-ghost use Rattle.std.specs.Prelude.{◌<◌, ◌≤◌, length, IfOk, IsErrOf, OnOk, OnErr};
+ghost use Rattle.std.specs.Prelude.{◌≡◌, ◌+◌, ◌<◌, ◌≤◌, length, take, IfOk, IsErrOf, OnOk, OnErr};
 ghost use Rattle.cs_outside.specs.Counts.{Rose};
-ghost use Rattle.cs_outside.specs.Streams.{HasReadAll, HasReadPast, HasReadFault, HasWritten, HasWrittenFront, IsShortOf};
+ghost use Rattle.cs_outside.specs.Streams.{HasReadAll, HasReadOn, HasReadPast, HasReadFault, HasWritten, HasWrittenFront, IsShortOf};
 
 use crate::{Failed, Sink, Source};
 use std::alloc::Global;
@@ -57,6 +57,27 @@ pub fn read_to_end<S: Source>(
             }
         }
     }
+}
+
+/// Reads the next bytes of a source to the places `at` to `end - 1` of a buffer, of which the first `at` bytes stay,
+/// and gives their number: 0 at the end of the input.
+pub fn read_at<S: Source>(
+    source: &mut S,
+    buffer: &mut [u8],
+    at: usize,
+    end: usize,
+) -> Result<usize, Failed>
+    requires some { at < end }
+    requires room { end ≤ length buffer.old }
+    ensures fits { IfOk result (λ n. at + n ≤ end) }
+    ensures read { IfOk result (λ n.
+        HasReadOn n (take at buffer.old) (take (at + n) buffer.new) (S.told source.old) (S.told source.new)) }
+    ensures same_length { length buffer.new ≡ length buffer.old }
+    ensures unchanged { OnErr result ((S.told source.new).left ≡ (S.told source.old).left) }
+    ensures cause { OnErr result (Rose (S.told source.old).faults (S.told source.new).faults) }
+    ensures never_falls { (S.told source.old).faults ≤ (S.told source.new).faults }
+{
+    source.read(&mut buffer[at..end])
 }
 
 /// Writes a piece to its end. Each call of the sink is given all that is left of it.

@@ -1,5 +1,5 @@
 -- Recordings that agree have the same samples there.
-use Rattle.std.proofs.Common.{◌≡◌, ℕ, ◌<◌, List, take, get_or, ap, sym, ◌∙◌}
+use Rattle.std.proofs.Common.{◌≡◌, ℕ, ◌<◌, List, get_or, ap, sym, ◌∙◌}
 use Rattle.std.proofs.lemmas.List.{get_or-take}
 use Rattle.cs_num.specs.declared.Sample.{Sample}
 use Rattle.cs_num.specs.Complex.{sample_at, value_of, silence}

@@ -1,6 +1,6 @@
 -- The samples that bytes stand for.
-use Rattle.std.proofs.Common.{◌≡◌, ℕ, suc, ◌+◌, ◌-◌, ◌*◌, ◌/◌, ◌%◌, ◌<◌, ◌≤◌, arith, refl, ap, ◌∙◌, List, [], ◌∷◌, ◌++◌, length, ℤ, pos, negsuc}
-use Rattle.std.specs.Prelude.{All, nat_abs}
+use Rattle.std.proofs.Common.{◌≡◌, ℕ, suc, ◌+◌, ◌-◌, ◌*◌, ◌/◌, ◌%◌, ◌<◌, ◌≤◌, arith, refl, ap, ◌∙◌, List, [], ◌∷◌, ◌++◌, length, drop, ℤ, pos, negsuc}
+use Rattle.std.specs.Prelude.{nat_abs}
 use Rattle.std.specs.Int.{w16, cast_unsigned}
 use Rattle.std.proofs.lemmas.Int.{ints}
 use Rattle.std.proofs.lemmas.Bool.Decides.{nat_tests}
@@ -8,19 +8,74 @@ use Rattle.std.proofs.lemmas.List.Elements.{All-head, All-tail}
 use Rattle.byteorder.specs.Endian.{twos_complement}
 use Rattle.cs_num.specs.declared.Sample.{Sample}
 use Rattle.cs_num.specs.Complex.{IsWithin, value_of}
-use Rattle.sample_file.specs.Recording.{component_of, samples_of, sample_bytes, bytes_of, AreReadBack}
+use Rattle.sample_file.specs.declared.form.SampleForm.{SampleForm}
+use Rattle.sample_file.specs.declared.form.SampleForm.TheVariants.{Ci16, Cu8}
+use Rattle.sample_file.specs.Recording.{component_of, samples_of, centred, samples_of_8, width, samples_in, sample_in, sample_bytes, bytes_of, AreReadBack}
 
 -- the bytes 02 01 ff ff are the sample (258, -1)
 two_components : samples_of (2 ∷ 1 ∷ 255 ∷ 255 ∷ []) ≡ record { re = pos 258; im = negsuc 0 } ∷ []
 two_components = refl
 
--- a sample for each four bytes
-pub length-samples_of : (bytes : List ℕ) → (4 * length (samples_of bytes) ≤ length bytes) × (length bytes < 4 * length (samples_of bytes) + 4)
-length-samples_of [] = (omega arith, omega arith)
-length-samples_of (a ∷ []) = (omega arith, omega arith)
-length-samples_of (a ∷ b ∷ []) = (omega arith, omega arith)
-length-samples_of (a ∷ b ∷ c ∷ []) = (omega arith, omega arith)
-length-samples_of (a ∷ b ∷ c ∷ d ∷ bytes) = let rest = length-samples_of bytes in (omega (arith, rest.0), omega (arith, rest.1))
+-- the bytes 00 ff 80 7f are the samples (-255, 255) and (1, -1)
+two_samples : samples_of_8 (0 ∷ 255 ∷ 128 ∷ 127 ∷ []) ≡
+    record { re = negsuc 254; im = pos 255 } ∷ record { re = pos 1; im = negsuc 0 } ∷ []
+two_samples = refl
+
+-- ---- one sample after the other
+
+-- the first sample, and those of the bytes after its own
+pub samples_step : (form : SampleForm) (bytes : List ℕ) → width form ≤ length bytes →
+    samples_in form bytes ≡ sample_in form bytes ∷ samples_in form (drop (width form) bytes)
+samples_step Ci16 [] some = absurd (omega (arith, some))
+samples_step Ci16 (a ∷ []) some = absurd (omega (arith, some))
+samples_step Ci16 (a ∷ b ∷ []) some = absurd (omega (arith, some))
+samples_step Ci16 (a ∷ b ∷ c ∷ []) some = absurd (omega (arith, some))
+samples_step Ci16 (a ∷ b ∷ c ∷ d ∷ bytes) some = refl
+samples_step Cu8 [] some = absurd (omega (arith, some))
+samples_step Cu8 (a ∷ []) some = absurd (omega (arith, some))
+samples_step Cu8 (a ∷ b ∷ bytes) some = refl
+
+-- less than a sample is none
+pub samples_none : (form : SampleForm) (bytes : List ℕ) → length bytes < width form → samples_in form bytes ≡ []
+samples_none Ci16 [] few = refl
+samples_none Ci16 (a ∷ []) few = refl
+samples_none Ci16 (a ∷ b ∷ []) few = refl
+samples_none Ci16 (a ∷ b ∷ c ∷ []) few = refl
+samples_none Ci16 (a ∷ b ∷ c ∷ d ∷ bytes) few = absurd (omega (arith, few))
+samples_none Cu8 [] few = refl
+samples_none Cu8 (a ∷ []) few = refl
+samples_none Cu8 (a ∷ b ∷ bytes) few = absurd (omega (arith, few))
+
+-- bytes of whole samples, and then others
+pub samples_joined : (form : SampleForm) (front back : List ℕ) → length front % width form ≡ 0 →
+    samples_in form (front ++ back) ≡ samples_in form front ++ samples_in form back
+samples_joined Ci16 [] back whole = refl
+samples_joined Ci16 (a ∷ []) back whole = absurd (omega (arith, whole))
+samples_joined Ci16 (a ∷ b ∷ []) back whole = absurd (omega (arith, whole))
+samples_joined Ci16 (a ∷ b ∷ c ∷ []) back whole = absurd (omega (arith, whole))
+samples_joined Ci16 (a ∷ b ∷ c ∷ d ∷ front) back whole =
+    ap (λ more. record { re = component_of a b; im = component_of c d } ∷ more) (samples_joined Ci16 front back (omega (arith, whole)))
+samples_joined Cu8 [] back whole = refl
+samples_joined Cu8 (a ∷ []) back whole = absurd (omega (arith, whole))
+samples_joined Cu8 (a ∷ b ∷ front) back whole =
+    ap (λ more. record { re = centred a; im = centred b } ∷ more) (samples_joined Cu8 front back (omega (arith, whole)))
+
+-- a sample for each so many bytes
+pub length-samples_in : (form : SampleForm) (bytes : List ℕ) →
+    (width form * length (samples_in form bytes) ≤ length bytes) × (length bytes < width form * length (samples_in form bytes) + width form)
+length-samples_in Ci16 [] = (omega arith, omega arith)
+length-samples_in Ci16 (a ∷ []) = (omega arith, omega arith)
+length-samples_in Ci16 (a ∷ b ∷ []) = (omega arith, omega arith)
+length-samples_in Ci16 (a ∷ b ∷ c ∷ []) = (omega arith, omega arith)
+length-samples_in Ci16 (a ∷ b ∷ c ∷ d ∷ bytes) = let rest = length-samples_in Ci16 bytes in (omega (arith, rest.0), omega (arith, rest.1))
+length-samples_in Cu8 [] = (omega arith, omega arith)
+length-samples_in Cu8 (a ∷ []) = (omega arith, omega arith)
+length-samples_in Cu8 (a ∷ b ∷ bytes) = let rest = length-samples_in Cu8 bytes in (omega (arith, rest.0), omega (arith, rest.1))
+
+-- bytes of whole samples
+pub length-of_whole : (form : SampleForm) (bytes : List ℕ) → length bytes % width form ≡ 0 → width form * length (samples_in form bytes) ≡ length bytes
+length-of_whole Ci16 bytes whole = let all = length-samples_in Ci16 bytes in omega (arith, whole, all.0, all.1)
+length-of_whole Cu8 bytes whole = let all = length-samples_in Cu8 bytes in omega (arith, whole, all.0, all.1)
 
 -- ---- bytes that are read back
 

@@ -3,43 +3,34 @@ use Rattle.std.specs.Prelude.{◌≡◌, ◌≢◌, ℕ, ◌*◌, ◌%◌, ◌<�
 use Rattle.cs_num.specs.declared.Sample.{Sample}
 use Rattle.cs_outside.specs.Outside.{SourceTold}
 use Rattle.cs_outside.specs.Streams.{HasReadAll}
-use Rattle.cs_outside.specs.declared.streams.ReadError.{ReadError}
-use Rattle.cs_outside.specs.declared.streams.ReadError.TheVariants.{TooLong as PastLimit, ReadFault as Failed, OutOfMemory as NoMemory}
-use Rattle.sample_file.specs.declared.reading.FileError.{FileError}
-use Rattle.sample_file.specs.declared.reading.FileError.TheVariants.{TooLong, ReadFault, OutOfMemory}
-use Rattle.sample_file.specs.Recording.{SampleForm, least_samples, most_samples}
+use Rattle.sample_file.specs.declared.form.SampleForm.{SampleForm}
+use Rattle.sample_file.specs.Recording.{width, samples_in, least_samples, most_samples}
 
 -- the fewest bytes that a recording has
 abbrev pub least_bytes : SampleForm → ℕ
-least_bytes form = least_samples * form.width
+least_bytes form = least_samples * width form
 
 -- the most bytes that a recording has
 abbrev pub most_bytes : SampleForm → ℕ
-most_bytes form = most_samples * form.width
+most_bytes form = most_samples * width form
 
 -- the whole input was read, it is long enough and of whole samples, and the recording is all of them
 pub record HasReadRecording (form : SampleForm) (recording : List Sample) (before now : SourceTold) : Type 0 where
   pub input : List ℕ
   pub read : HasReadAll (most_bytes form) input before now
-  pub whole_samples : length input % form.width ≡ 0
+  pub whole_samples : length input % width form ≡ 0
   pub enough : least_bytes form ≤ length input
-  pub samples : recording ≡ form.samples input
+  pub samples : recording ≡ samples_in form input
 
 -- the whole input was read, and it is not of whole samples
 pub record HasReadRagged (form : SampleForm) (before now : SourceTold) : Type 0 where
   pub input : List ℕ
   pub read : HasReadAll (most_bytes form) input before now
-  pub ragged : length input % form.width ≢ 0
+  pub ragged : length input % width form ≢ 0
 
 -- the whole input was read, and it is of whole samples, but too few
 pub record HasReadTooShort (form : SampleForm) (before now : SourceTold) : Type 0 where
   pub input : List ℕ
   pub read : HasReadAll (most_bytes form) input before now
-  pub whole_samples : length input % form.width ≡ 0
+  pub whole_samples : length input % width form ≡ 0
   pub too_short : length input < least_bytes form
-
--- the same error of a recording's input
-abbrev pub error_of : ReadError → FileError
-error_of PastLimit = TooLong
-error_of Failed = ReadFault
-error_of NoMemory = OutOfMemory

@@ -1,10 +1,12 @@
--- Recordings: lists of samples, and the bytes that stand for them. (own; the form of raw 16-bit captures)
-use Rattle.std.specs.Prelude.{◌≡◌, ℕ, ◌≤◌, ◌+◌, ◌*◌, ◌++◌, List, [], ◌∷◌, length, take, All, ℤ}
+-- Recordings: lists of samples, and the bytes that stand for them. (own; the forms of raw captures)
+use Rattle.std.specs.Prelude.{◌≡◌, ℕ, ◌≤◌, ◌+◌, ◌*◌, ◌++◌, List, [], ◌∷◌, length, slice_index, take, All, ℤ, pos, ◌-ℤ◌}
 use Rattle.std.specs.List.{flat_map}
 use Rattle.std.specs.Int.{w16, cast_unsigned}
 use Rattle.byteorder.specs.Endian.{twos_complement, little_bytes}
 use Rattle.cs_num.specs.declared.Sample.{Sample}
 use Rattle.cs_num.specs.Complex.{IsWithin, value_of}
+use Rattle.sample_file.specs.declared.form.SampleForm.{SampleForm}
+use Rattle.sample_file.specs.declared.form.SampleForm.TheVariants.{Ci16, Cu8}
 
 -- ---- a sample and its bytes
 
@@ -16,6 +18,15 @@ component_of low high = twos_complement 2 (low + 256 * high)
 abbrev pub samples_of : List ℕ → List Sample
 samples_of (a ∷ b ∷ c ∷ d ∷ bytes) = record { re = component_of a b; im = component_of c d } ∷ samples_of bytes
 samples_of bytes = []
+
+-- the number that a byte stands for: 0 to 255 in steps of two about 0
+abbrev pub centred : ℕ → ℤ
+centred v = pos (2 * v) -ℤ pos 255
+
+-- the samples that bytes stand for: two bytes each, the real component first
+abbrev pub samples_of_8 : List ℕ → List Sample
+samples_of_8 (a ∷ b ∷ bytes) = record { re = centred a; im = centred b } ∷ samples_of_8 bytes
+samples_of_8 bytes = []
 
 -- the two bytes of a component, the low one first, as two's complement
 abbrev pub component_bytes : ℤ → List ℕ
@@ -35,14 +46,23 @@ AreReadBack = (samples : List Sample) → All (λ s. IsWithin 32767 (value_of s)
 
 -- ---- forms of samples
 
--- so many bytes a sample, and the samples that bytes stand for
-pub record SampleForm : Type 0 where
-  pub width : ℕ
-  pub samples : List ℕ → List Sample
+-- so many bytes a sample
+abbrev pub width : SampleForm → ℕ
+width Ci16 = 4
+width Cu8 = 2
 
--- 16 bits a component
-abbrev pub form_16 : SampleForm
-form_16 = record { width = 4; samples = samples_of }
+-- the samples that bytes stand for
+abbrev pub samples_in : SampleForm → List ℕ → List Sample
+samples_in Ci16 bytes = samples_of bytes
+samples_in Cu8 bytes = samples_of_8 bytes
+
+-- the sample of the first bytes
+abbrev pub sample_in : SampleForm → List ℕ → Sample
+sample_in Ci16 bytes = record {
+  re = component_of (slice_index bytes 0) (slice_index bytes 1);
+  im = component_of (slice_index bytes 2) (slice_index bytes 3);
+}
+sample_in Cu8 bytes = record { re = centred (slice_index bytes 0); im = centred (slice_index bytes 1) }
 
 -- ---- how many samples a recording has
 

@@ -1,12 +1,14 @@
 //! Recordings: lists of samples of a length that the receiver takes, how they are read, and the bytes of samples.
 #![tactic(auto)]
 
+mod form;
 mod reading;
 mod recording;
 #[cfg(test)]
 mod tests;
 mod writing;
 
-pub use reading::{FileError, read_recording};
+pub use form::SampleForm;
+pub use reading::{FileError, read_as, read_cu8, read_recording};
 pub use recording::Recording;
 pub use writing::{bytes_are_read_back, bytes_of};

@@ -1,16 +1,18 @@
 //! A recording read from a source of bytes.
 
-ghost use Rattle.std.specs.Prelude.{◌≡◌, ◌≤◌, length, slice_index, IfOk, IsErrOf};
+ghost use Rattle.std.specs.Prelude.{◌≡◌, ◌+◌, ◌*◌, ◌^◌, ◌<◌, ◌≤◌, ◌++◌, length, take, IfOk, IsErr, IsErrOf};
 ghost use Rattle.cs_outside.specs.Outside.{SourceTold};
 ghost use Rattle.cs_outside.specs.Streams.{HasReadPast, HasReadFault};
-ghost use Rattle.sample_file.specs.Reading.{HasReadRecording, HasReadRagged, HasReadTooShort, most_bytes, error_of};
-ghost use Rattle.sample_file.specs.Recording.{IsRecording, component_of, samples_of, form_16};
+ghost use Rattle.sample_file.specs.Reading.{HasReadRecording, HasReadRagged, HasReadTooShort, most_bytes};
+ghost use Rattle.sample_file.specs.Recording.{IsRecording, samples_in, width as width_of, least_samples, most_samples};
+ghost use Rattle.sample_file.specs.Steps.{TakesSamples};
+ghost use Rattle.sample_file.specs.declared.form.SampleForm.TheVariants.{Ci16, Cu8};
 ghost use Rattle.sample_file.specs.declared.reading.FileError.TheVariants.{OutOfMemory};
 
-use crate::recording::{LEAST, MOST, Recording};
-use byteorder::{ByteOrder, LittleEndian};
+use crate::SampleForm;
+use crate::recording::{MOST, Recording};
 use cs_num::Sample;
-use cs_outside::{ReadError, Source, read_to_end};
+use cs_outside::{Failed, Source, read_at};
 use std::alloc::{AllocError, Global};
 use thiserror::Error;
 
@@ -34,18 +36,6 @@ pub enum FileError {
     OutOfMemory,
 }
 
-impl From<ReadError> for FileError {
-    ghost from_gives = { λ error same. same ≡ error_of error };
-
-    fn from(error: ReadError) -> FileError {
-        match error {
-            ReadError::TooLong => FileError::TooLong,
-            ReadError::ReadFault => FileError::ReadFault,
-            ReadError::OutOfMemory => FileError::OutOfMemory,
-        }
-    }
-}
-
 impl From<AllocError> for FileError {
     ghost from_gives = { λ _ error. error ≡ OutOfMemory };
 
@@ -54,74 +44,144 @@ impl From<AllocError> for FileError {
     }
 }
 
-// A sample has four bytes, two for each component.
-const SAMPLE_BYTES: usize = 4;
+// The most bytes that one call of a source is asked for.
+const PIECE: usize = 4_096;
 
-const LEAST_BYTES: usize = LEAST * SAMPLE_BYTES;
-
-const MOST_BYTES: usize = MOST * SAMPLE_BYTES;
-
-/// Reads a recording of 57,600 to 1,920,000 samples from a source, to its end. A sample has four bytes:
-/// the real, then the imaginary component, each a signed 16-bit number with its low byte first. (own)
-/// The bytes may come in pieces of any size. An input that ends within a sample is ragged, however
-/// short it is. Of one that is too long 7,680,001 bytes are read. After an error what was read is dropped.
-pub fn read_recording<S: Source>(alloc: Global, source: &mut S) -> Result<Recording, FileError>
+/// Reads a recording of 57,600 to 1,920,000 samples from a source, to its end, each sample as the form
+/// says. The bytes may come in pieces of any size. An input that ends within a sample is ragged, however
+/// short it is. Of one that is too long one byte more than 1,920,000 samples have is read, and nothing after it.
+/// After an error what was read is dropped. (own)
+pub fn read_as<S: Source>(
+    alloc: Global,
+    source: &mut S,
+    form: SampleForm,
+) -> Result<Recording, FileError>
     ensures ok { IfOk result (λ recording.
-        HasReadRecording form_16 recording (S.told source.old) (S.told source.new)) }
+        HasReadRecording form recording (S.told source.old) (S.told source.new)) }
     ensures valid { IfOk result IsRecording }
     ensures ragged { IsErrOf result FileError.Ragged →
-        HasReadRagged form_16 (S.told source.old) (S.told source.new) }
+        HasReadRagged form (S.told source.old) (S.told source.new) }
     ensures too_short { IsErrOf result FileError.TooShort →
-        HasReadTooShort form_16 (S.told source.old) (S.told source.new) }
+        HasReadTooShort form (S.told source.old) (S.told source.new) }
     ensures too_long { IsErrOf result FileError.TooLong →
-        HasReadPast (most_bytes form_16) (S.told source.old) (S.told source.new) }
+        HasReadPast (most_bytes form) (S.told source.old) (S.told source.new) }
     ensures fault { IsErrOf result FileError.ReadFault →
-        HasReadFault (most_bytes form_16) (S.told source.old) (S.told source.new) }
+        HasReadFault (most_bytes form) (S.told source.old) (S.told source.new) }
     ensures never_falls { (S.told source.old).faults ≤ (S.told source.new).faults }
 {
-    let bytes = read_to_end(alloc, source, MOST_BYTES)?;
-    if bytes.len() % SAMPLE_BYTES != 0 {
-        return Err(FileError::Ragged);
+    let limit = bytes_read(form, MOST, 0);
+    let mut samples = Vec::new(alloc);
+    let mut buffer = [0u8; PIECE];
+    let mut begun = 0;
+    loop {
+        let read = bytes_read(form, samples.len(), begun);
+        let end = PIECE.min(begun + (limit + 1 - read));
+        match read_at(source, &mut buffer, begun, end) {
+            Err(Failed) => return Err(FileError::ReadFault),
+            Ok(0) if begun == 0 => return recording_of(samples),
+            Ok(0) => return Err(FileError::Ragged),
+            Ok(n) => begun = take_samples(form, &mut buffer, begun + n, &mut samples)?,
+        }
+        if bytes_read(form, samples.len(), begun) > limit {
+            return Err(FileError::TooLong);
+        }
     }
-    if bytes.len() < LEAST_BYTES {
-        return Err(FileError::TooShort);
+}
+
+/// Reads a recording of signed 16-bit numbers, four bytes a sample: `read_as` in the form `Ci16`.
+/// Of an input that is too long 7,680,001 bytes are read. (own)
+pub fn read_recording<S: Source>(alloc: Global, source: &mut S) -> Result<Recording, FileError>
+    ensures ok { IfOk result (λ recording.
+        HasReadRecording Ci16 recording (S.told source.old) (S.told source.new)) }
+    ensures valid { IfOk result IsRecording }
+    ensures ragged { IsErrOf result FileError.Ragged →
+        HasReadRagged Ci16 (S.told source.old) (S.told source.new) }
+    ensures too_short { IsErrOf result FileError.TooShort →
+        HasReadTooShort Ci16 (S.told source.old) (S.told source.new) }
+    ensures too_long { IsErrOf result FileError.TooLong →
+        HasReadPast (most_bytes Ci16) (S.told source.old) (S.told source.new) }
+    ensures fault { IsErrOf result FileError.ReadFault →
+        HasReadFault (most_bytes Ci16) (S.told source.old) (S.told source.new) }
+    ensures never_falls { (S.told source.old).faults ≤ (S.told source.new).faults }
+{
+    read_as(alloc, source, SampleForm::Ci16)
+}
+
+/// Reads a recording of 8-bit numbers, two bytes a sample: `read_as` in the form `Cu8`.
+/// Of an input that is too long 3,840,001 bytes are read. (own)
+pub fn read_cu8<S: Source>(alloc: Global, source: &mut S) -> Result<Recording, FileError>
+    ensures ok { IfOk result (λ recording.
+        HasReadRecording Cu8 recording (S.told source.old) (S.told source.new)) }
+    ensures valid { IfOk result IsRecording }
+    ensures ragged { IsErrOf result FileError.Ragged →
+        HasReadRagged Cu8 (S.told source.old) (S.told source.new) }
+    ensures too_short { IsErrOf result FileError.TooShort →
+        HasReadTooShort Cu8 (S.told source.old) (S.told source.new) }
+    ensures too_long { IsErrOf result FileError.TooLong →
+        HasReadPast (most_bytes Cu8) (S.told source.old) (S.told source.new) }
+    ensures fault { IsErrOf result FileError.ReadFault →
+        HasReadFault (most_bytes Cu8) (S.told source.old) (S.told source.new) }
+    ensures never_falls { (S.told source.old).faults ≤ (S.told source.new).faults }
+{
+    read_as(alloc, source, SampleForm::Cu8)
+}
+
+// How many bytes so many samples have, and those of one that is begun.
+fn bytes_read(form: SampleForm, samples: usize, begun: usize) -> usize
+    requires samples { samples ≤ 2 ^ 40 }
+    requires begun { begun ≤ 4 }
+    ensures { result ≡ width_of form * samples + begun }
+{
+    match form {
+        SampleForm::Ci16 => 4 * samples + begun,
+        SampleForm::Cu8 => 2 * samples + begun,
     }
-    let samples = samples_from(alloc, &bytes)?;
+}
+
+// The recording of these samples, unless they are too few.
+fn recording_of(samples: Vec<Sample>) -> Result<Recording, FileError>
+    requires { length samples.items ≤ most_samples }
+    ensures ok { IfOk result (λ recording. recording ≡ samples.items) }
+    ensures valid { IfOk result IsRecording }
+    ensures error { IsErr result → IsErrOf result FileError.TooShort }
+    ensures few { IsErrOf result FileError.TooShort → length samples.items < least_samples }
+{
     match Recording::new(samples) {
         Some(recording) => Ok(recording),
-        None => unreachable!(),
+        None => Err(FileError::TooShort),
     }
 }
 
-// The samples that these bytes stand for.
-fn samples_from(alloc: Global, bytes: &[u8]) -> Result<Vec<Sample>, AllocError>
-    ensures { IfOk result (λ samples. samples.items ≡ samples_of bytes.now) }
+// Takes the samples of the first `end` bytes of the buffer, and moves the bytes of one that is begun to its front.
+// Gives their number.
+fn take_samples(
+    form: SampleForm,
+    buffer: &mut [u8],
+    end: usize,
+    samples: &mut Vec<Sample>,
+) -> Result<usize, AllocError>
+    requires { end ≤ length buffer.old }
+    ensures takes { IfOk result (λ begun.
+        TakesSamples form (take end buffer.old) samples.old.items samples.new.items (take begun buffer.new)) }
+    ensures few { IfOk result (λ begun. begun < width_of form) }
+    ensures count { IfOk result (λ begun.
+        width_of form * length samples.new.items + begun ≡ width_of form * length samples.old.items + end) }
+    ensures same_length { length buffer.new ≡ length buffer.old }
 {
-    let mut samples = Vec::with_capacity(alloc, bytes.len() / SAMPLE_BYTES)?;
+    let whole = end - end % form.width();
+    push_samples(form, &buffer[..whole], samples)?;
+    buffer.copy_within(whole..end, 0);
+    Ok(end - whole)
+}
+
+// Appends the samples that bytes stand for.
+fn push_samples(form: SampleForm, bytes: &[u8], samples: &mut Vec<Sample>) -> Result<(), AllocError>
+    ensures { IfOk result (λ _. samples.new.items ≡ samples.old.items ++ samples_in form bytes.now) }
+{
     let mut rest = bytes;
-    while rest.len() >= SAMPLE_BYTES {
-        samples.push(first_sample(rest))?;
-        rest = &rest[SAMPLE_BYTES..];
+    while rest.len() >= form.width() {
+        samples.push(form.first_sample(rest))?;
+        rest = &rest[form.width()..];
     }
-    Ok(samples)
-}
-
-// The sample of the first four bytes.
-pub(crate) fn first_sample(bytes: &[u8]) -> Sample
-    requires { 4 ≤ length bytes.now }
-    ensures real { result.re ≡ component_of (slice_index bytes.now 0) (slice_index bytes.now 1) }
-    ensures imaginary { result.im ≡ component_of (slice_index bytes.now 2) (slice_index bytes.now 3) }
-{
-    Sample {
-        re: first_component(bytes),
-        im: first_component(&bytes[2..]),
-    }
-}
-
-// The component of the first two bytes.
-fn first_component(bytes: &[u8]) -> i16
-    requires { 2 ≤ length bytes.now }
-    ensures { result ≡ component_of (slice_index bytes.now 0) (slice_index bytes.now 1) }
-{
-    LittleEndian::read_i16(bytes)
+    Ok(())
 }

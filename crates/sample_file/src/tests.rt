@@ -1,8 +1,7 @@
 // Recordings at the bounds of their length, one sample by its bytes, and sources that end or fail.
 ghost use Rattle.std.specs.Prelude.{◌≡◌, length, IfOk};
 
-use crate::reading::first_sample;
-use crate::{FileError, Recording, read_recording};
+use crate::{FileError, Recording, SampleForm, read_as, read_cu8, read_recording};
 use cs_num::Sample;
 use cs_outside::{FailSource, MemSource};
 use std::alloc::{AllocError, Global};
@@ -15,10 +14,10 @@ fn silent(alloc: Global, count: usize) -> Result<Vec<Sample>, AllocError>
     vec![in alloc; Sample { re: 0, im: 0 }; count]
 }
 
-// What reading so many zero bytes is refused by.
-fn refusal(alloc: Global, count: usize) -> Result<Option<FileError>, AllocError> {
-    let mut source = MemSource::new(vec![in alloc; 0u8; count]?);
-    Ok(read_recording(alloc, &mut source).err())
+// What reading so many bytes in a form is refused by.
+fn refusal(alloc: Global, form: SampleForm, count: usize) -> Result<Option<FileError>, AllocError> {
+    let mut source = MemSource::new(vec![in alloc; 127u8; count]?);
+    Ok(read_as(alloc, &mut source, form).err())
 }
 
 // The same where the bytes come a thousand at a time and the listed calls fail.
@@ -36,9 +35,36 @@ fn a_sample_has_its_low_bytes_first_and_its_real_component_first(
     rt: HostRuntime,
 ) -> Result<(), Fail> {
     assert_eq!(rt;
-        first_sample(&[0x02, 0x01, 0xff, 0xff]),
+        SampleForm::Ci16.first_sample(&[0x02, 0x01, 0xff, 0xff]),
         Sample { re: 258, im: -1 }
     );
+    Ok(())
+}
+
+#[test]
+fn bytes_stand_for_odd_numbers_from_minus_255_to_255(rt: HostRuntime) -> Result<(), Fail> {
+    assert_eq!(rt;
+        SampleForm::Cu8.first_sample(&[0x00, 0xff]),
+        Sample { re: -255, im: 255 }
+    );
+    assert_eq!(rt;
+        SampleForm::Cu8.first_sample(&[0x80, 0x7f]),
+        Sample { re: 1, im: -1 }
+    );
+    Ok(())
+}
+
+#[test]
+fn samples_are_read_across_the_ends_of_pieces(rt: HostRuntime) -> Result<(), Fail> {
+    let alloc = rt.alloc();
+    let mut bytes = vec![in alloc; 0x80u8; 115_200]?;
+    bytes[2_001] = 0xff;
+    let mut source = FailSource::new(bytes, Vec::new(alloc), 1_001);
+    let recording = read_cu8(alloc, &mut source).ok().ok_or("refused")?;
+    assert_eq!(rt; recording.len(), 57_600);
+    assert_eq!(rt; recording.get(999), Sample { re: 1, im: 1 });
+    assert_eq!(rt; recording.get(1_000), Sample { re: 1, im: 255 });
+    assert_eq!(rt; recording.get(1_001), Sample { re: 1, im: 1 });
     Ok(())
 }
 
@@ -65,10 +91,23 @@ fn a_read_that_fails_is_told(rt: HostRuntime) -> Result<(), Fail> {
 #[test]
 fn an_input_of_another_length_is_refused(rt: HostRuntime) -> Result<(), Fail> {
     let alloc = rt.alloc();
-    assert_eq!(rt; refusal(alloc, 0)?, Some(FileError::TooShort));
-    assert_eq!(rt; refusal(alloc, 230_396)?, Some(FileError::TooShort));
-    assert_eq!(rt; refusal(alloc, 230_399)?, Some(FileError::Ragged));
-    assert_eq!(rt; refusal(alloc, 7_680_000)?, None);
-    assert_eq!(rt; refusal(alloc, 7_680_001)?, Some(FileError::TooLong));
+    for (form, count, refused) in [
+        (SampleForm::Ci16, 0, Some(FileError::TooShort)),
+        (SampleForm::Ci16, 230_396, Some(FileError::TooShort)),
+        (SampleForm::Ci16, 230_399, Some(FileError::Ragged)),
+        (SampleForm::Ci16, 7_680_000, None),
+        (SampleForm::Ci16, 7_680_001, Some(FileError::TooLong)),
+        (SampleForm::Cu8, 115_198, Some(FileError::TooShort)),
+        (SampleForm::Cu8, 115_201, Some(FileError::Ragged)),
+        (SampleForm::Cu8, 115_200, None),
+        (SampleForm::Cu8, 3_840_000, None),
+        (SampleForm::Cu8, 3_840_001, Some(FileError::TooLong)),
+    ] {
+        assert_eq!(rt;
+            refusal(alloc, form, count)?,
+            refused,
+            "{form:?}, {count} bytes"
+        );
+    }
     Ok(())
 }

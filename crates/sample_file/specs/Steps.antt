@@ -1,0 +1,22 @@
+-- The code's steps: bytes that come in pieces, of which a sample may be begun and not whole. (own)
+use Rattle.std.specs.Prelude.{◌≡◌, ℕ, ◌%◌, ◌<◌, ◌++◌, List, length}
+use Rattle.cs_num.specs.declared.Sample.{Sample}
+use Rattle.cs_outside.specs.Outside.{SourceTold}
+use Rattle.cs_outside.specs.Streams.{HasRead}
+use Rattle.sample_file.specs.declared.form.SampleForm.{SampleForm}
+use Rattle.sample_file.specs.Recording.{width, samples_in}
+
+-- the samples of the bytes' whole front were appended, and what is left of them is less than a sample
+pub record TakesSamples (form : SampleForm) (bytes : List ℕ) (before now : List Sample) (begun : List ℕ) : Type 0 where
+  pub whole : List ℕ
+  pub split : bytes ≡ whole ++ begun
+  pub of_whole : length whole % width form ≡ 0
+  pub samples_are : now ≡ before ++ samples_in form whole
+  pub few : length begun < width form
+
+-- what was read are the bytes of these samples, and then those of one that is begun
+pub record HasReadSamples (form : SampleForm) (samples : List Sample) (begun : List ℕ) (before now : SourceTold) : Type 0 where
+  pub whole : List ℕ
+  pub of_whole : length whole % width form ≡ 0
+  pub samples_are : samples ≡ samples_in form whole
+  pub read : HasRead (whole ++ begun) before now
