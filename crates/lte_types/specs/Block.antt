@@ -1,5 +1,5 @@
 -- The fields of a master information block (TS 36.331 section 6.2.2).
-use Rattle.std.specs.Prelude.{◌≡◌, ℕ}
+use Rattle.std.specs.Prelude.{◌≡◌, ℕ, ◌/◌, ◌%◌}
 use Rattle.lte_types.specs.declared.bandwidth.Bandwidth.{Bandwidth}
 use Rattle.lte_types.specs.declared.duration.Duration.{Duration}
 use Rattle.lte_types.specs.declared.resource.Resource.{Resource}
@@ -12,3 +12,11 @@ pub record HasFields (mib : Mib) (width : Bandwidth) (length : Duration) (share 
   pub resource : mib.resource ≡ share
   pub upper : mib.upper ≡ frame
   pub spare : mib.spare ≡ bits
+
+-- schedulingInfoSIB1-BR: the first five of the last ten bits, which were spare before Release 13
+abbrev pub br : Mib → ℕ
+br mib = mib.spare / 32
+
+-- the five bits that are spare in Release 13
+abbrev pub rest : Mib → ℕ
+rest mib = mib.spare % 32

@@ -15,13 +15,13 @@ pub struct Mib {
     pub resource: Resource,
     /// The upper 8 bits of the frame number.
     pub upper: u8,
-    /// The 10 spare bits, 0 to 1023.
+    /// The last 10 bits as a number, 0 to 1023: `32 * br + rest`.
     pub spare: u16,
     ghost spare_range: { spare ≤ 1023 },
 }
 
 impl Mib {
-    ghost use Rattle.lte_types.specs.Block.{HasFields};
+    ghost use Rattle.lte_types.specs.Block.{HasFields, br as br_of, rest as rest_of};
 
     /// The block with these fields; `None` exactly where `spare` is above 1023.
     pub fn new(
@@ -45,5 +45,21 @@ impl Mib {
         } else {
             None
         }
+    }
+
+    /// schedulingInfoSIB1-BR, 0 to 31: the first five of the last ten bits, which were spare before Release 13.
+    pub fn br(&self) -> u8
+        ensures value { result ≡ br_of self.now }
+        ensures small { result ≤ 31 }
+    {
+        (self.spare / 32) as u8
+    }
+
+    /// The spare bits of Release 13, 0 to 31: the last five.
+    pub fn rest(&self) -> u8
+        ensures value { result ≡ rest_of self.now }
+        ensures small { result ≤ 31 }
+    {
+        (self.spare % 32) as u8
     }
 }

@@ -40,6 +40,18 @@ fn spare_bits_end_at_1023(rt: HostRuntime) {
 }
 
 #[test]
+fn the_last_ten_bits_are_two_fields(rt: HostRuntime) {
+    let mib = Mib::new(Bandwidth::N6, Duration::Normal, Resource::One, 0, 33).expect(
+        &rt, "in range",
+    );
+    assert_eq!(rt; (mib.br(), mib.rest()), (1, 1));
+    let mib = Mib::new(Bandwidth::N6, Duration::Normal, Resource::One, 0, 1000).expect(
+        &rt, "in range",
+    );
+    assert_eq!(rt; (mib.br(), mib.rest()), (31, 8));
+}
+
+#[test]
 fn lists_take_so_many_items(rt: HostRuntime) {
     let mut sibs = Sibs::new();
     for code in 0..31_u8 {

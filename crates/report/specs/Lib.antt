@@ -1,5 +1,6 @@
 pub mod Words
 pub mod Lines
+pub mod Json
 pub mod Pieces
 pub mod Hits
 pub mod Answers

@@ -9,6 +9,7 @@ use Rattle.lte_types.specs.declared.si_message.SiMessage.{SiMessage}
 use Rattle.lte_types.specs.declared.sib1.Sib1.{Sib1}
 use Rattle.lte_types.specs.declared.sib1_reason.Sib1Reason.{Sib1Reason}
 use Rattle.lte_types.specs.declared.entry.Entry.{Entry}
+use Rattle.lte_types.specs.Block.{br, rest}
 use Rattle.lte_types.specs.Ranges.{IsValid}
 use Rattle.lte_types.specs.Codes.{bandwidth_word, duration_word, resource_word}
 use Rattle.lte_types.specs.Reasons.{reason_words}
@@ -19,15 +20,17 @@ abbrev pub place_part : ℕ → ℕ → ℕ → ℕ → List ℕ
 place_part id start sfn ports =
     codes "cell " ++ decimal id ++ codes " at " ++ decimal start ++ codes " sfn " ++ decimal sfn ++ codes " ports " ++ decimal ports
 
--- its master block
-abbrev pub block_part : List ℕ → List ℕ → List ℕ → ℕ → List ℕ
-block_part bandwidth duration resource spare =
-    codes " " ++ bandwidth ++ codes " phich " ++ duration ++ codes " " ++ resource ++ codes " spare " ++ decimal spare ++ codes "\n"
+-- its master block: schedulingInfoSIB1-BR stands before the bits that are still spare
+abbrev pub block_part : List ℕ → List ℕ → List ℕ → ℕ → ℕ → List ℕ
+block_part bandwidth duration resource br spare =
+    codes " " ++ bandwidth ++ codes " phich " ++ duration ++ codes " " ++ resource ++ codes " br " ++ decimal br ++ codes " spare "
+    ++ decimal spare ++ codes "\n"
 
 abbrev pub cell_line : Entry → List ℕ
 cell_line entry =
     place_part entry.id entry.start entry.sfn entry.ports
-    ++ block_part (bandwidth_word entry.mib.bandwidth) (duration_word entry.mib.duration) (resource_word entry.mib.resource) entry.mib.spare
+    ++ block_part (bandwidth_word entry.mib.bandwidth) (duration_word entry.mib.duration) (resource_word entry.mib.resource) (br entry.mib)
+    (rest entry.mib)
 
 -- why a cell has no system information
 abbrev pub none_line : Sib1Reason → List ℕ

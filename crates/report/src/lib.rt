@@ -2,6 +2,7 @@
 #![tactic(auto)]
 
 mod answers;
+mod as_json;
 mod hits;
 mod laws;
 mod lines;
@@ -11,6 +12,7 @@ mod parts;
 mod words;
 
 pub use answers::text_of_answers;
+pub use as_json::json;
 pub use hits::{IdentifiedHit, text_of_hits, text_of_ids};
 pub use laws::listed_lines_stand;
 pub use listing::text;

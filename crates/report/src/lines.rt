@@ -3,6 +3,7 @@
 ghost use Rattle.std.specs.Prelude.{◌≡◌, ◌≤◌, All, IfOk, string_bytes, codes};
 ghost use Rattle.std.specs.List.{flat_map};
 ghost use Rattle.std.specs.Fmt.{decimal, signed_decimal};
+ghost use Rattle.lte_types.specs.Block.{br as br_of, rest as rest_of};
 ghost use Rattle.lte_types.specs.Ranges.{IsValid, IsValidMessage};
 ghost use Rattle.lte_types.specs.Codes.{bandwidth_word, duration_word, resource_word};
 ghost use Rattle.report.specs.Words.{or_dash as word_or_dash, either as either_of, bit_word as bit_of, tdd_word as config_of, window_length as length_of};
@@ -34,12 +35,12 @@ pub(crate) fn cell_line(alloc: Global, entry: &Entry) -> Result<String, AllocErr
 fn mib_part(alloc: Global, mib: &Mib) -> Result<String, AllocError>
     ensures { IfOk result (λ part. string_bytes part ≡
         block_of (bandwidth_word mib.now.bandwidth) (duration_word mib.now.duration)
-        (resource_word mib.now.resource) mib.now.spare) }
+        (resource_word mib.now.resource) (br_of mib.now) (rest_of mib.now)) }
 {
     let bandwidth = mib.bandwidth.name();
     let duration = mib.duration.name();
     let resource = mib.resource.name();
-    block_part(alloc, bandwidth, duration, resource, mib.spare)
+    block_part(alloc, bandwidth, duration, resource, mib.br(), mib.rest())
 }
 
 /// Why a cell has no system information.
@@ -116,7 +117,7 @@ fn timing_of_cell(alloc: Global, sib1: &Sib1) -> Result<String, AllocError>
     window_part(alloc, window, sib1.tag, tdd.as_str(), extension)
 }
 
-fn mnc_word(alloc: Global, mnc: &Mnc) -> Result<String, AllocError>
+pub(crate) fn mnc_word(alloc: Global, mnc: &Mnc) -> Result<String, AllocError>
     ensures { IfOk result (λ text. string_bytes text ≡ mnc_of mnc.now) }
 {
     match mnc {

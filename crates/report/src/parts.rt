@@ -25,11 +25,13 @@ pub(crate) fn block_part(
     bandwidth: &str,
     duration: &str,
     resource: &str,
-    spare: u16,
+    br: u8,
+    spare: u8,
 ) -> Result<String, AllocError>
-    ensures { IfOk result (λ part. string_bytes part ≡ block_of bandwidth.now duration.now resource.now spare) }
+    ensures { IfOk result (λ part. string_bytes part ≡
+        block_of bandwidth.now duration.now resource.now br spare) }
 {
-    format!(in alloc; " {bandwidth} phich {duration} {resource} spare {spare}\n")
+    format!(in alloc; " {bandwidth} phich {duration} {resource} br {br} spare {spare}\n")
 }
 
 /// Tracking area and identity of a cell, and whether a terminal may camp on it and on others of its

@@ -1,7 +1,7 @@
 ghost use Rattle.std.specs.Prelude.{◌↔◌, IsTrue};
 ghost use Rattle.report.specs.Lines.{IsValidEntry};
 
-use crate::{IdentifiedHit, text, text_of_answers, text_of_hits, text_of_ids};
+use crate::{IdentifiedHit, json, text, text_of_answers, text_of_hits, text_of_ids};
 use lte_types::{
     Bandwidth, CellId, Duration, Entry, Half, Hit, Mib, Mnc, Plmn, Plmns, Resource, Schedule, Sfn,
     SiMessage, Sib1, Sib1Reason, Sibs,
@@ -101,7 +101,7 @@ fn a_cell_has_its_system_information(rt: HostRuntime) -> Result<(), Fail> {
     let report = report_of(rt.alloc(), entry)?;
     assert_eq!(rt;
         report.as_str(),
-        "cells 1\ncell 0 at 0 sfn 0 ports 1 n6 phich normal one spare 0\nsib1 tac 1 cell 1 open allowed csg 0 - rx -70 offset - pmax - band 1 window ms1 tag 0 tdd - extension 0\nplmn 001 01 free\nsi rf8 -\n"
+        "cells 1\ncell 0 at 0 sfn 0 ports 1 n6 phich normal one br 0 spare 0\nsib1 tac 1 cell 1 open allowed csg 0 - rx -70 offset - pmax - band 1 window ms1 tag 0 tdd - extension 0\nplmn 001 01 free\nsi rf8 -\n"
     );
     Ok(())
 }
@@ -117,16 +117,14 @@ fn a_schedule_has_a_line_for_each_entry(rt: HostRuntime) -> Result<(), Fail> {
     let report = report_of(rt.alloc(), entry_of(7, 19_193, 8, mib, Ok(sib1)))?;
     assert_eq!(rt;
         report.as_str(),
-        "cells 1\ncell 7 at 19193 sfn 8 ports 1 n6 phich extended two spare 7\nsib1 tac 7 cell 7 open allowed csg 0 - rx -63 offset - pmax - band 8 window ms1 tag 7 tdd - extension 0\nplmn 001 01 free\nsi rf8 -\nsi rf8 0,2\n"
+        "cells 1\ncell 7 at 19193 sfn 8 ports 1 n6 phich extended two br 0 spare 7\nsib1 tac 7 cell 7 open allowed csg 0 - rx -63 offset - pmax - band 8 window ms1 tag 7 tdd - extension 0\nplmn 001 01 free\nsi rf8 -\nsi rf8 0,2\n"
     );
     Ok(())
 }
 
-#[test]
-fn every_optional_field_is_written(rt: HostRuntime) -> Result<(), Fail> {
-    let mib = Mib::new(Bandwidth::N6, Duration::Normal, Resource::OneSixth, 0, 1023).ok_or(
-        "spare",
-    )?;
+// The last cell of all, with every optional field.
+fn full_entry() -> Option<Entry> {
+    let mib = Mib::new(Bandwidth::N6, Duration::Normal, Resource::OneSixth, 0, 1023)?;
     let mut sib1 = plain_sib1(65_535, -22, 64, 31);
     let _ = sib1.plmns.push(Plmn {
         mcc: None,
@@ -145,10 +143,15 @@ fn every_optional_field_is_written(rt: HostRuntime) -> Result<(), Fail> {
     let mut sibs = Sibs::new();
     let _ = sibs.push(79);
     let _ = sib1.scheduling.push(SiMessage { period: 6, sibs });
-    let report = report_of(rt.alloc(), entry_of(503, 19_199, 1023, mib, Ok(sib1)))?;
+    entry_of(503, 19_199, 1023, mib, Ok(sib1))
+}
+
+#[test]
+fn every_optional_field_is_written(rt: HostRuntime) -> Result<(), Fail> {
+    let report = report_of(rt.alloc(), full_entry())?;
     assert_eq!(rt;
         report.as_str(),
-        "cells 1\ncell 503 at 19199 sfn 1023 ports 1 n6 phich normal oneSixth spare 1023\nsib1 tac 65535 cell 65535 barred forbidden csg 1 134217727 rx -22 offset 8 pmax -30 band 64 window ms40 tag 31 tdd 6/8 extension 1\nplmn 001 01 free\nplmn - 209 reserved\nsi rf8 -\nsi rf512 79\n"
+        "cells 1\ncell 503 at 19199 sfn 1023 ports 1 n6 phich normal oneSixth br 31 spare 31\nsib1 tac 65535 cell 65535 barred forbidden csg 1 134217727 rx -22 offset 8 pmax -30 band 64 window ms40 tag 31 tdd 6/8 extension 1\nplmn 001 01 free\nplmn - 209 reserved\nsi rf8 -\nsi rf512 79\n"
     );
     Ok(())
 }
@@ -178,7 +181,7 @@ fn each_reason_has_its_words(rt: HostRuntime) -> Result<(), Fail> {
     for (reason, words) in reasons {
         let report = reason_of(rt.alloc(), reason)?;
         let rest = report.as_str().strip_prefix(
-            "cells 1\ncell 0 at 0 sfn 0 ports 1 n50 phich normal half spare 0\nsib1 none ",
+            "cells 1\ncell 0 at 0 sfn 0 ports 1 n50 phich normal half br 0 spare 0\nsib1 none ",
         );
         assert_eq!(rt; rest, Some(words));
     }
@@ -234,5 +237,44 @@ fn answers_have_a_line_each(rt: HostRuntime) -> Result<(), Fail> {
     assert_eq!(rt; none.as_str(), "certificates 0\n");
     let two = text_of_answers(rt.alloc(), &[true, false])?;
     assert_eq!(rt; two.as_str(), "certificates 2\n0 yes\n1 no\n");
+    Ok(())
+}
+
+// The JSON text of a cell.
+fn json_of(alloc: Global, entry: Option<Entry>) -> Result<String, Fail> {
+    let entry = entry.ok_or("out of range")?;
+    if !is_valid(&entry) {
+        return Err("not valid".into());
+    }
+    Ok(json(alloc, &[entry])?)
+}
+
+#[test]
+fn no_cells_are_an_empty_array(rt: HostRuntime) -> Result<(), Fail> {
+    assert_eq!(rt; json(rt.alloc(), &[])?.as_str(), "[]");
+    Ok(())
+}
+
+#[test]
+fn a_reason_is_an_object_of_its_words(rt: HostRuntime) -> Result<(), Fail> {
+    let mib = Mib::new(Bandwidth::N6, Duration::Normal, Resource::One, 0, 33).ok_or("spare")?;
+    let mut entry = entry_of(0, 0, 0, mib, Err(Sib1Reason::NotOnePort(2))).ok_or("out of range")?;
+    entry.ports = 2;
+    let text = json_of(rt.alloc(), Some(entry))?;
+    assert_eq!(rt;
+        text.as_str(),
+        "[{\"at\":0,\"bandwidth\":\"n6\",\"br\":1,\"duration\":\"normal\",\"identity\":0,\"ports\":2,\"resource\":\"one\",\"sfn\":0,\"sib1\":{\"none\":\"ports 2\"},\"spare\":1}]"
+    );
+    Ok(())
+}
+
+// The text is that of Python's json, with keys sorted and without spaces.
+#[test]
+fn every_optional_field_has_its_key(rt: HostRuntime) -> Result<(), Fail> {
+    let text = json_of(rt.alloc(), full_entry())?;
+    assert_eq!(rt;
+        text.as_str(),
+        "[{\"at\":19199,\"bandwidth\":\"n6\",\"br\":31,\"duration\":\"normal\",\"identity\":503,\"ports\":1,\"resource\":\"oneSixth\",\"sfn\":1023,\"sib1\":{\"band\":64,\"barred\":true,\"cell\":65535,\"csg\":true,\"csg_identity\":134217727,\"extension\":true,\"intra\":false,\"p_max\":-30,\"plmns\":[{\"mcc\":\"001\",\"mnc\":\"01\",\"reserved\":false},{\"mcc\":null,\"mnc\":\"209\",\"reserved\":true}],\"q_offset\":8,\"q_rx\":-22,\"scheduling\":[{\"period\":8,\"sibs\":[]},{\"period\":512,\"sibs\":[79]}],\"tac\":65535,\"tag\":31,\"tdd\":[6,8],\"window\":40},\"spare\":31}]"
+    );
     Ok(())
 }
