@@ -71,7 +71,7 @@ class Runner:
 
 
 def codes_of_recording(words, length):
-    """The codes that a command on a recording may end with. An earlier program has no `--json` and no `--format`."""
+    """The codes that a command on a recording may end with."""
     form = words[-2:] == ['--format', 'cu8']
     size = 2 if form else 4
     rest = words[:-2] if form else words
@@ -79,7 +79,7 @@ def codes_of_recording(words, length):
         return {2}
     long, short = length > size * fuzz_inputs.MOST // 4, length < size * fuzz_inputs.LEAST // 4
     code = 5 if long else 3 if length % size else 4 if short else 0
-    return {code} if len(words) == 1 else {code, 2}
+    return {code}
 
 
 def wanted_codes(given):

@@ -475,7 +475,7 @@ def cell_line(entry):
     start, cell, sfn, ports, block = entry
     duration = ('normal', 'extended')[block >> 20 & 1]
     resource = ('oneSixth', 'half', 'one', 'two')[block >> 18 & 3]
-    master = f'ports {ports} {WIDTHS[block >> 21]} phich {duration} {resource} spare {block & 1023}'
+    master = f'ports {ports} {WIDTHS[block >> 21]} phich {duration} {resource} br {block >> 5 & 31} spare {block & 31}'
     return f'cell {cell} at {start} sfn {sfn} {master}'
 
 

@@ -43,7 +43,7 @@ class Sent:
                 'gain': [GAIN, 0], 'duration': duration, 'resource': resource, 'spare': spare}
         done = subprocess.run([program, 'transmit'], input=json.dumps(plan).encode(), stdout=subprocess.PIPE, check=True)
         self.start = radio.FRAME - offset_in_frame
-        self.line = f'{identity} sfn {sfn + 1} ports 1 n6 phich {duration} {resource} spare {spare}'
+        self.line = f'{identity} sfn {sfn + 1} ports 1 n6 phich {duration} {resource} br {spare // 32} spare {spare % 32}'
         self.half = identity % 3
         self.samples = radio.from_bytes(done.stdout)
         if full:

@@ -19,7 +19,7 @@ has() { # has WORD..: whether these commands are there
 }
 
 finds() { # finds NAME < LIST: the list has the sent cell, within 12 samples of its place
-    if awk '$1 == "cell" && $2 == 217 && $4 >= 14188 && $4 <= 14212' | grep -q 'sfn 101 ports 1 n6 phich normal two spare 5'
+    if awk '$1 == "cell" && $2 == 217 && $4 >= 14188 && $4 <= 14212' | grep -q 'sfn 101 ports 1 n6 phich normal two br 0 spare 5'
     then echo "ok      $1"
     else echo "FAILED  $1"; failed=$((failed + 1))
     fi
@@ -79,8 +79,8 @@ awk '$2 > 21400 && $2 < 21600 { print "near" }' told | says 'offset.py tells it'
 
 head -c 400000 /dev/zero | cat - sent.ci16 > long
 "$here/windows.sh" "$program" long 96000 50000 | says 'windows.sh finds it in a longer file' \
-'100000 cell 217 at 14200 sfn 101 ports 1 n6 phich normal two spare 5
-150000 cell 217 at 2600 sfn 103 ports 1 n6 phich normal two spare 5'
+'100000 cell 217 at 14200 sfn 101 ports 1 n6 phich normal two br 0 spare 5
+150000 cell 217 at 2600 sfn 103 ports 1 n6 phich normal two br 0 spare 5'
 
 if has parallel; then
     cp sent.ci16 'a b.ci16'
@@ -93,12 +93,12 @@ fi
 
 "$program" certify < sent.ci16 > certificate
 "$program" check < certificate > answers
-"$here/../check_certificates.py" < certificate | says 'check_certificates.py answers as check does' "$(cat answers)"
+"$here/../check_certificate.py" < certificate | says 'check_certificate.py answers as check does' "$(cat answers)"
 head -c 384000 sent.ci16 > five
 "$here/../second_search.py" < five | says 'second_search.py lists what search lists' "$("$program" search < five)"
 printf '\377' | dd of=certificate bs=1 seek=244 conv=notrunc status=none
 "$program" check < certificate | says 'another word is refused' 'certificates 1
 0 no'
-"$here/../check_certificates.py" < certificate | says 'by check_certificates.py too' 'certificates 1
+"$here/../check_certificate.py" < certificate | says 'by check_certificate.py too' 'certificates 1
 0 no'
 exit "$failed"

@@ -1,6 +1,8 @@
 -- Certificates that are written one after the other.
-use Rattle.std.proofs.Common.{◌≡◌, ℕ, suc, ◌+◌, ◌*◌, ◌<◌, ◌≤◌, List, [], ◌∷◌, ◌++◌, length, take, drop, get_or, Option, Some, None, ℤ, refl, ap, sym, subst, ◌∙◌, arith, add-one, append-nil, length-append}
-use Rattle.std.specs.Prelude.{IfSome, Result, Ok, Err, OnOk, OnErr}
+use Rattle.std.proofs.Common.{◌≡◌, ℕ, suc, ◌+◌, ◌*◌, ◌<◌, ◌≤◌, Bool, true, false, cond, List, [], ◌∷◌, ◌++◌, length, take, drop, get_or, Option, Some, None, ℤ, refl, ap, sym, subst, ◌∙◌, arith, add-one, append-nil, take_all, length-append}
+use Rattle.finite.proofs.Sums.{total_below-within}
+use Rattle.std.specs.Prelude.{IfSome, is_some, Result, Ok, Err, OnOk, OnErr}
+use Rattle.std.proofs.Math.ListN.{drop_of_length-le}
 use Rattle.std.proofs.Math.Seq.{take-suc}
 use Rattle.std.proofs.lemmas.List.{take-append-drop}
 use Rattle.std.proofs.lemmas.List.Elements.{Contains-append_right}
@@ -19,9 +21,11 @@ use Rattle.pbch.specs.Values.{frame_values, coded_values}
 use Rattle.pbch.specs.Master.{Tells, TellsMaster, Carries}
 use Rattle.tailbite.proofs.Only.{one_word}
 use Rattle.pbch.proofs.Sums.{coded_values-small}
-use Rattle.tail_cert.specs.Certificate.{Held, IsWhole, IsAccepted, IsTriple, Counted}
-use Rattle.tail_cert.specs.Form.{count, bytes_of}
+use Rattle.tail_cert.specs.Certificate.{Held, IsWhole, IsAccepted, IsTriple, Counted, tables_there}
+use Rattle.tail_cert.specs.Form.{bytes_of, head_count, most_count, table_count}
+use Rattle.tail_cert.specs.Forward.{IsFilled}
 use Rattle.tail_cert.proofs.Codes.{length-bytes_of}
+use Rattle.tail_cert.proofs.Filled.{same_count}
 use Rattle.tail_cert.proofs.Exists.{certificate_of, least_has_certificate}
 use Rattle.explain.specs.Frame.{broadcast_slot}
 use Rattle.explain.specs.Entries.{IsExplained, master_of, values_of_entry}
@@ -32,29 +36,44 @@ use Rattle.cert_stream.specs.Stream.{all_bytes}
 use Rattle.cert_stream.specs.Certifying.{Certifies, IsCertificateOf, HasCertified, HasCertifiedFront, HasCertifiedAll, HasCertifiedSome}
 use Rattle.cert_stream.proofs.Judged.{zip_append}
 
--- certificates of entries are as long as there are entries
-pub certified_length : (samples : List Sample) (entries : List Entry) (certificates : List Held) → AllZip (Certifies samples) entries certificates →
-    length (all_bytes certificates) ≡ count * length entries
-certified_length samples [] [] z = refl
-certified_length samples [] (c ∷ cs) z = absurd z
-certified_length samples (e ∷ es) [] z = absurd z
-certified_length samples (e ∷ es) (c ∷ cs) (first, rest) =
+-- certificates of the same entries have as many bytes
+pub certified_length : (samples : List Sample) (entries : List Entry) (cs ds : List Held) → AllZip (Certifies samples) entries cs → AllZip (Certifies samples) entries ds →
+    length (all_bytes cs) ≡ length (all_bytes ds)
+certified_length samples [] [] [] a b = refl
+certified_length samples [] [] (d ∷ ds) a b = absurd b
+certified_length samples [] (c ∷ cs) ds a b = absurd a
+certified_length samples (e ∷ es) [] ds a b = absurd a
+certified_length samples (e ∷ es) (c ∷ cs) [] a b = absurd b
+certified_length samples (e ∷ es) (c ∷ cs) (d ∷ ds) (first, rest) (other, others) =
+    let many = same_count c d first.filled other.filled (first.values ∙ sym other.values) (first.cost ∙ sym other.cost) in
     let one = length-bytes_of c first.whole in
-    let more = certified_length samples es cs rest in
-    omega (arith, one, more, length-append (bytes_of c) (all_bytes cs))
+    let two = length-bytes_of d other.whole in
+    let more = certified_length samples es cs ds rest others in
+    omega (arith, many, one, two, more, length-append (bytes_of c) (all_bytes cs), length-append (bytes_of d) (all_bytes ds))
+
+-- a certificate has no more bytes than the longest
+pub tables_most : (tables : List (Option (List (List ℕ)))) → head_count + table_count * tables_there tables ≤ most_count
+tables_most tables =
+    let many = total_below-within 64 1 (λ s. cond (is_some (get_or tables s None)) 1 0) (λ s below. at_most_one (is_some (get_or tables s None))) in
+    omega (arith, many)
+  where
+    at_most_one : (b : Bool) → cond b 1 0 ≤ 1
+    at_most_one true = omega arith
+    at_most_one false = omega arith
 
 -- ---- an entry's certificate
 
 -- what makes a certificate of an entry: it is accepted, with the values of the entry's frame and a least word of them
-pub certifies : (samples : List Sample) (entry : Entry) (c : Held) → IsWhole c.values c.word c.cost c.tables → IsAccepted c →
+pub certifies : (samples : List Sample) (entry : Entry) (c : Held) → IsWhole c → IsAccepted c → IsFilled c →
     c.values ≡ values_of_entry samples entry →
     TellsMaster (values_of_entry samples entry) (master_of entry) → IsLeastWord c.values c.word → Certifies samples entry c
-certifies samples entry c whole accepted values tells least =
+certifies samples entry c whole accepted filled values tells least =
     let there : TellsMaster c.values (master_of entry) = subst (λ v. TellsMaster v (master_of entry)) (sym values) tells in
     let same : there.word ≡ c.word = one_word c.values there.word c.word there.tells.least least in
     record {
       whole = whole;
       accepted = accepted;
+      filled = filled;
       values = values;
       word = subst (λ w. Tells c.values w entry.ports) same there.tells;
       block = subst (λ w. Carries w entry.mib) same there.mib;
@@ -62,10 +81,10 @@ certifies samples entry c whole accepted values tells least =
     }
 
 -- the same by the values that it was filled with
-pub certifies_filled : (samples : List Sample) (entry : Entry) (c : Held) (v : List (List ℤ)) → IsWhole c.values c.word c.cost c.tables → IsAccepted c → c.values ≡ v →
+pub certifies_filled : (samples : List Sample) (entry : Entry) (c : Held) (v : List (List ℤ)) → IsWhole c → IsAccepted c → IsFilled c → c.values ≡ v →
     v ≡ values_of_entry samples entry → TellsMaster v (master_of entry) → IsLeastWord v c.word → Certifies samples entry c
-certifies_filled samples entry c v whole accepted filled values tells least =
-    certifies samples entry c whole accepted (filled ∙ values) (subst (λ v. TellsMaster v (master_of entry)) values tells) (subst (λ v. IsLeastWord v c.word) (sym filled) least)
+certifies_filled samples entry c v whole accepted filled same values tells least =
+    certifies samples entry c whole accepted filled (same ∙ values) (subst (λ v. TellsMaster v (master_of entry)) values tells) (subst (λ v. IsLeastWord v c.word) (sym same) least)
 
 -- the values of a slot have the shape and the sizes of a certificate
 values_fit : (slot : SeenSlot) (phase : ℕ) → Counted 40 IsTriple (coded_values slot phase)
@@ -92,7 +111,7 @@ entry_has_certificate samples entries entry explained inside =
     let tells : TellsMaster values (master_of entry) = known.is_of.master in
     let made = least_has_certificate values tells.word (values_fit (broadcast_slot samples entry.id entry.start entry.frame) entry.phase) tells.tells.least in (
       certificate_of values tells.word,
-      certifies samples entry (certificate_of values tells.word) made.whole made.accepted made.values_are tells
+      certifies samples entry (certificate_of values tells.word) made.whole made.accepted made.filled made.values_are tells
           (subst (λ w. IsLeastWord (certificate_of values tells.word).values w) (sym made.word_is) (subst (λ v. IsLeastWord v tells.word) (sym made.values_are) tells.tells.least)),
     )
 
@@ -192,3 +211,9 @@ written_some_at samples list i entry before between now inside is explained a h 
     let next : take (suc i) list ≡ take i list ++ entry ∷ [] = take-suc list i entry inside ∙ ap (λ e. take i list ++ e ∷ []) (sym is) in
     let split : list ≡ (take i list ++ entry ∷ []) ++ drop (suc i) list = sym (take-append-drop (suc i) list) ∙ ap (λ l. l ++ drop (suc i) list) next in
     written_some samples list (take i list) entry (drop (suc i) list) before between now explained split a h
+
+-- a buffer that is written back whole
+pub written_back : {A : Type 0} (new old : List A) (n : ℕ) → length new ≡ length old → n ≡ length old → take n (new ++ drop (length new) old) ≡ new
+written_back new old n same all =
+    let none : drop (length new) old ≡ [] = drop_of_length-le old (omega (arith, same)) in
+    rw none (ap (take n) (append-nil new) ∙ take_all n new (omega (arith, same, all)))

@@ -7,15 +7,17 @@ use Rattle.cs_outside.specs.Streams.{HasWritten, HasWrittenFront, IsShortOf}
 use Rattle.lte_types.specs.declared.entry.Entry.{Entry}
 use Rattle.pbch.specs.Master.{Tells, Carries}
 use Rattle.explain.specs.Entries.{values_of_entry}
-use Rattle.tail_cert.specs.Certificate.{Held, IsWholeHeld, IsAccepted}
+use Rattle.tail_cert.specs.Certificate.{Held, IsWhole, IsAccepted}
 use Rattle.tail_cert.specs.Form.{bytes_of}
+use Rattle.tail_cert.specs.Forward.{IsFilled}
 use Rattle.cert_stream.specs.Stream.{all_bytes}
 
--- the certificate shows an entry's master block: it is whole and accepted, and holds the values of the entry's frame, a word of
--- least cost that tells the entry's ports and block, and that cost
+-- the certificate shows an entry's master block: it is whole and accepted, has the tables that are needed, and holds the values
+-- of the entry's frame, a word of least cost that tells the entry's ports and block, and that cost
 pub record Certifies (samples : List Sample) (entry : Entry) (c : Held) : Type 0 where
-  pub whole : IsWholeHeld c
+  pub whole : IsWhole c
   pub accepted : IsAccepted c
+  pub filled : IsFilled c
   pub values : c.values ≡ values_of_entry samples entry
   pub word : Tells c.values c.word entry.ports
   pub block : Carries c.word entry.mib

@@ -1,7 +1,7 @@
 -- Certificates that are read one after the other: the answers to them, and where their form is broken. (own)
 use Rattle.std.specs.Prelude.{◌≡◌, ◌≢◌, ◌⊎◌, ◌↔◌, ℕ, ◌+◌, ◌<◌, ◌≤◌, ◌++◌, Bool, IsTrue, All, List, [], length}
 use Rattle.std.specs.List.{flat_map, AllZip}
-use Rattle.tail_cert.specs.Certificate.{Held, IsWholeHeld, IsAccepted}
+use Rattle.tail_cert.specs.Certificate.{Held, IsWhole, IsAccepted}
 use Rattle.tail_cert.specs.Form.{bytes_of, IsFirstBreak}
 
 -- the most bytes that are read
@@ -16,7 +16,7 @@ all_bytes certificates = flat_map bytes_of certificates
 
 -- a certificate is whole, and the answer to it is yes exactly where it is accepted
 pub record IsAnswer (certificate : Held) (answer : Bool) : Type 0 where
-  pub whole : IsWholeHeld certificate
+  pub whole : IsWhole certificate
   pub right : IsTrue answer ↔ IsAccepted certificate
 
 -- the bytes are those of certificates, and these are the answers to them, in order
@@ -31,7 +31,7 @@ pub record AreAnswers (bytes : List ℕ) (answers : List Bool) : Type 0 where
 -- breaks the form of the rest, at a byte of it or at its end
 pub record IsFirstBroken (bytes : List ℕ) (place : ℕ) : Type 0 where
   pub certificates : List Held
-  pub whole : All IsWholeHeld certificates
+  pub whole : All IsWhole certificates
   pub rest : List ℕ
   pub split : bytes ≡ all_bytes certificates ++ rest
   pub some : rest ≢ []

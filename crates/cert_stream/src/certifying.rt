@@ -1,9 +1,10 @@
 //! A certificate for each master block of the list of a recording.
 
-ghost use Rattle.std.specs.Prelude.{◌≡◌, ◌≤◌, OnOk, OnErr, vec_len};
+ghost use Rattle.std.specs.Prelude.{◌≡◌, ◌≤◌, OnOk, OnErr, length, take, vec_len};
 ghost use Rattle.cs_outside.specs.Counts.{Rose};
 ghost use Rattle.explain.specs.Entries.{IsExplained, IsInList};
-ghost use Rattle.tail_cert.specs.Form.{count};
+ghost use Rattle.tail_cert.specs.Certificate.{IsWhole};
+ghost use Rattle.tail_cert.specs.Form.{bytes_of, most_count};
 ghost use Rattle.cert_stream.specs.Certifying.{IsCertificateOf, HasCertified, HasCertifiedFront, HasCertifiedAll, HasCertifiedSome};
 
 use cs_outside::{Failed, Sink, write_whole};
@@ -11,7 +12,7 @@ use explain::values_of;
 use lte_types::Entry;
 use sample_file::Recording;
 use std::alloc::{AllocError, Global};
-use tail_cert::{CERTIFICATE_BYTES, Certificate, fill, to_bytes};
+use tail_cert::{Certificate, MOST_BYTES, fill, length, to_bytes};
 use tailbite::Trellis;
 
 /// The memory in which certificates are made: that of one certificate, of the search for its word,
@@ -21,7 +22,7 @@ pub struct CertificateWork {
     certificate: Certificate,
     trellis: Trellis,
     buffer: Vec<u8>,
-    ghost size: { vec_len buffer ≡ count },
+    ghost size: { vec_len buffer ≡ most_count },
 }
 
 impl CertificateWork {
@@ -29,7 +30,7 @@ impl CertificateWork {
     pub fn new(alloc: Global) -> Result<CertificateWork, AllocError> {
         let certificate = Certificate::new(alloc)?;
         let trellis = Trellis::new(alloc)?;
-        let buffer = vec![in alloc; 0u8; CERTIFICATE_BYTES]?;
+        let buffer = vec![in alloc; 0u8; MOST_BYTES]?;
         Ok(CertificateWork {
             certificate,
             trellis,
@@ -73,16 +74,30 @@ fn certify_one<K: Sink>(
     ensures fault { OnErr result (Rose (K.told sink.old).faults (K.told sink.new).faults) }
     ensures never_falls { (K.told sink.old).faults ≤ (K.told sink.new).faults }
 {
-    make(recording, entry, work);
-    write_whole(sink, &work.buffer)
+    let len = make(recording, entry, work);
+    write_whole(sink, &work.buffer[..len])
 }
 
-// Makes the certificate of an entry, and its bytes.
-fn make(recording: &Recording, entry: &Entry, work: &mut CertificateWork)
+// Makes the certificate of an entry, and its bytes at the front of the buffer, and gives their number.
+fn make(recording: &Recording, entry: &Entry, work: &mut CertificateWork) -> usize
     requires { IsInList recording.now entry.now }
-    ensures { IsCertificateOf recording.now entry.now work.new.buffer.items }
+    ensures fits { result ≤ most_count }
+    ensures bytes { IsCertificateOf recording.now entry.now (take result work.new.buffer.items) }
 {
     let values = values_of(recording, entry);
     fill(&mut work.certificate, &values, &mut work.trellis);
-    to_bytes(&work.certificate, &mut work.buffer);
+    put(&work.certificate, &mut work.buffer)
+}
+
+// Writes the bytes of a certificate to the front of a buffer, and gives their number.
+fn put(certificate: &Certificate, buffer: &mut [u8]) -> usize
+    requires { length buffer.old ≡ most_count }
+    ensures fits { result ≤ most_count }
+    ensures bytes { take result buffer.new ≡ bytes_of certificate.now }
+    ensures whole { IsWhole certificate.now }
+    ensures size { length buffer.new ≡ most_count }
+{
+    let len = length(certificate);
+    to_bytes(certificate, &mut buffer[..len]);
+    len
 }

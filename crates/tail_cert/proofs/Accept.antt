@@ -1,5 +1,5 @@
--- Least costs from a start state make a table that holds.
-use Rattle.std.proofs.Common.{◌≡◌, ◌≢◌, ℕ, zero, suc, ◌+◌, ◌^◌, ◌<◌, ◌≤◌, Bool, List, length, get_or, ℤ, refl, sym, ◌∙◌, inl, inr, arith}
+-- Least costs make tables that hold.
+use Rattle.std.proofs.Common.{◌≡◌, ◌≢◌, ℕ, zero, suc, ◌^◌, ◌<◌, ◌≤◌, List, Some, length, get_or, ℤ, refl, sym, ◌∙◌, inl, inr, arith}
 use Rattle.std.proofs.lemmas.Bool.Decides.{eqb_tells}
 use Rattle.paths.specs.Paths.{end_of}
 use Rattle.paths.proofs.Rounds.{ends_in_same, ends_in_other}
@@ -7,34 +7,33 @@ use Rattle.paths.proofs.Forward.{least_to_none, least_to-le}
 use Rattle.tailbite.specs.Machine.{shift, step_cost}
 use Rattle.tailbite.proofs.Windows.{same_end, shift_below}
 use Rattle.tailbite.proofs.Branches.{word_cost-path}
-use Rattle.tail_cert.specs.Certificate.{unbounded, bound, IsLowerBound, TableHolds}
+use Rattle.tail_cert.specs.Certificate.{IsLowerBound, StartHolds, StepsHold, bound, from_state, unbounded}
 use Rattle.tail_cert.specs.Forward.{HasLeastRows, IsStartRow}
 
-pub accepted : (values : List (List ℤ)) (cost s : ℕ) (start : List ℕ) (table : List (List ℕ)) → s < 64 → length values ≡ 40 → IsStartRow s start →
-    IsLowerBound values cost → cost ≤ 2 ^ 30 → HasLeastRows values start table 40 → TableHolds values cost s table
-accepted values cost s start table below places is_start lower small rows = record {
-  steps = steps;
-  ends = ends;
-}
-  where
-    starts : ℕ → ℕ
-    starts = λ y. get_or start y 0
+-- where each bound of no step bounds nothing, or is the start's cost
+pub steps_hold : (values : List (List ℤ)) (first : ℕ → ℕ) (start : List ℕ) (table : List (List ℕ)) →
+    ((x : ℕ) → x < 64 → first x ≢ unbounded → get_or start x 0 ≡ first x) → HasLeastRows values start table 40 → StepsHold values first table
+steps_hold values first start table same rows zero x b inside below some =
+    let h = least_to-le shift (step_cost values) (λ y. get_or start y 0) 64 0 x b _ _ (least_to_none shift (step_cost values) (λ y. get_or start y 0) 64 x below)
+    ((rows.row 0 inside).least.least (shift x b) (shift_below x b below)) in
+    let e = same x below some in
+    omega (arith, h, e)
+steps_hold values first start table same rows (suc i) x b inside below some =
+    least_to-le shift (step_cost values) (λ y. get_or start y 0) 64 (suc i) x b _ _ ((rows.row i (omega arith)).least.least x below)
+    ((rows.row (suc i) inside).least.least (shift x b) (shift_below x b below))
 
-    steps : (i x : ℕ) (b : Bool) → i < 40 → x < 64 → bound table s i x ≢ unbounded →
-        bound table s (suc i) (shift x b) ≤ bound table s i x + step_cost values i x b
-    steps zero x b inside here some = elim (eqb_tells x s) [
-      | inl (t, same) ↦
-          let zero_is : get_or start x 0 ≡ 0 = is_start.row x here ∙ ends_in_same (2 ^ 30) s x same in
-          let h = least_to-le shift (step_cost values) starts 64 0 x b _ _ (least_to_none shift (step_cost values) starts 64 x here) ((rows.row 0 inside).least.least (shift x b) (shift_below x b here)) in
-          let from : bound table s 0 x ≡ 0 = rw t refl in
-          rw from (omega (arith, h, zero_is))
+-- the least costs from a state bound each word that starts and ends there
+pub accepted : (values : List (List ℤ)) (cost s : ℕ) (general : List (List ℕ)) (start : List ℕ) (table : List (List ℕ)) → s < 64 → length values ≡ 40 → IsStartRow s start →
+    IsLowerBound values cost → cost ≤ 2 ^ 30 → HasLeastRows values start table 40 → StartHolds values cost general s (Some table)
+accepted values cost s general start table below places is_start lower small rows = (steps_hold values (from_state s) start table first rows, ends)
+  where
+    first : (x : ℕ) → x < 64 → from_state s x ≢ unbounded → get_or start x 0 ≡ from_state s x
+    first x here some = elim (eqb_tells x s) [
+      | inl (t, same) ↦ let is_zero = is_start.row x here ∙ ends_in_same (2 ^ 30) s x same in rw t is_zero
       | inr (f, other) ↦ absurd (some (rw f refl))
     ]
-    steps (suc i) x b inside here some =
-        least_to-le shift (step_cost values) starts 64 (suc i) x b _ _ ((rows.row i (omega arith)).least.least x here)
-        ((rows.row (suc i) inside).least.least (shift x b) (shift_below x b here))
 
-    ends : cost ≤ bound table s 40 s
+    ends : cost ≤ bound (from_state s) table 40 s
     ends =
         let (y, bs, below_y, size, there, total) = ((rows.row 39 (omega arith)).least.least s below).reached in
         elim (eqb_tells y s) [

@@ -1,58 +1,127 @@
 -- Places where the form of a certificate is broken.
-use Rattle.std.proofs.Common.{◌≡◌, ℕ, ◌+◌, ◌*◌, ◌<◌, ◌≤◌, ◌++◌, inl, inr, List, length, take, drop, get_or, refl, arith}
+use Rattle.std.proofs.Common.{◌≡◌, ℕ, ◌+◌, ◌*◌, ◌<◌, ◌≤◌, ◌++◌, ◌⊎◌, min, inl, inr, Bool, cond, List, length, take, drop, get_or, refl, ap, arith}
 use Rattle.std.specs.Prelude.{nat_abs}
 use Rattle.std.proofs.Math.Seq.{take-add}
 use Rattle.std.proofs.lemmas.Bool.{cases_lt}
 use Rattle.std.proofs.lemmas.Bool.Decides.{eqb_tells}
-use Rattle.std.proofs.lemmas.List.{ext_get_or, length-take-le, get_or-take, take_all}
-use Rattle.tail_cert.specs.Form.{Breaks, IsFirstBreak, mark, value_at}
+use Rattle.std.proofs.lemmas.List.{ext_get_or, length-take-le, get_or-take, take-append-drop}
+use Rattle.finite.specs.Sums.{total_below}
+use Rattle.finite.proofs.Sums.{total_below_same}
+use Rattle.tail_cert.specs.Form.{BreaksUpTo, IsFirstBreakUpTo, IsLargeValue, IsOffMark, IsUnbrokenUpTo, count_of, head_count, mark, table_count, tells_table, value_at}
+use Rattle.tail_cert.specs.Stored.{is_in}
+
+-- behind the mark and the values, and at the end of bytes, only the end breaks the form
+pub only_end : (count : ℕ) (bytes : List ℕ) (p : ℕ) → min (length bytes) 244 ≤ p → BreaksUpTo count bytes p → (p ≡ length bytes) × (p < count)
+only_end count bytes p past (inl (four, there, off)) = absurd (omega (arith, past, four, there))
+only_end count bytes p past (inr (inl (low, high, even, room, large))) = absurd (omega (arith, past, high, room))
+only_end count bytes p past (inr (inr end)) = end
+
+-- before the end of bytes it does not
+pub before_end : (count : ℕ) (bytes : List ℕ) (p : ℕ) → p < length bytes → BreaksUpTo count bytes p → IsOffMark bytes p ⊎ IsLargeValue bytes p
+before_end count bytes p inside (inl off) = inl off
+before_end count bytes p inside (inr (inl large)) = inr large
+before_end count bytes p inside (inr (inr (end, early))) = absurd (omega (arith, inside, end))
+
+pub of_spoiled : (count : ℕ) (bytes : List ℕ) (p : ℕ) → IsOffMark bytes p ⊎ IsLargeValue bytes p → BreaksUpTo count bytes p
+of_spoiled count bytes p (inl off) = inl off
+of_spoiled count bytes p (inr large) = inr (inl large)
 
 -- none lies behind the end
-pub no_break_past : (bytes : List ℕ) (p : ℕ) → length bytes < p → Breaks bytes p → ⊥
-no_break_past bytes p h (inl (a, b, c)) = absurd (omega arith)
-no_break_past bytes p h (inr (inl (a, b, c, d, e))) = absurd (omega arith)
-no_break_past bytes p h (inr (inr (a, b))) = absurd (omega arith)
+pub none_past : (count : ℕ) (bytes : List ℕ) (p : ℕ) → BreaksUpTo count bytes p → p ≤ length bytes
+none_past count bytes p (inl (four, there, off)) = omega (arith, there)
+none_past count bytes p (inr (inl (low, high, even, room, large))) = omega (arith, room)
+none_past count bytes p (inr (inr (end, early))) = omega (arith, end)
 
 -- there is one first break
-pub one_first : (bytes : List ℕ) (p q : ℕ) → IsFirstBreak bytes p → IsFirstBreak bytes q → p ≡ q
-one_first bytes p q first other = elim (cases_lt p q) [
+pub one_first : (count : ℕ) (bytes : List ℕ) (p q : ℕ) → IsFirstBreakUpTo count bytes p → IsFirstBreakUpTo count bytes q → p ≡ q
+one_first count bytes p q first other = elim (cases_lt p q) [
   | inl a ↦ absurd (other.before p a first.here)
   | inr b ↦ elim (cases_lt q p) [
     | inl c ↦ absurd (first.before q c other.here)
-    | inr d ↦ omega arith
+    | inr d ↦ omega (arith, b, d)
   ]
 ]
 
--- ---- what holds where the form is not broken
+-- the end of bytes that are too few is the first break where no byte is
+pub end_first : (count : ℕ) (bytes : List ℕ) → ((q : ℕ) → q < min (length bytes) 244 → BreaksUpTo count bytes q → ⊥) → length bytes < count →
+    IsFirstBreakUpTo count bytes (length bytes)
+end_first count bytes none early = record {
+  here = inr (inr (refl, early));
+  before = λ q l b. elim (cases_lt q (min (length bytes) 244)) [
+    | inl front ↦ none q front b
+    | inr past ↦ let e = (only_end count bytes q past b).0 in omega (arith, e, l)
+  ];
+}
 
--- nowhere is the form broken
-abbrev pub IsUnbroken : List ℕ → Type 0
-IsUnbroken bytes = (p : ℕ) → Breaks bytes p → ⊥
-
-pub whole_length : (bytes : List ℕ) → IsUnbroken bytes → length bytes ≤ 655613 → length bytes ≡ 655613
-whole_length bytes h most = elim (cases_lt (length bytes) 655613) [
-  | inl early ↦ absurd (h (length bytes) (inr (inr (refl, early))))
-  | inr all ↦ omega (arith, all, most)
+-- and where there are as many, nothing is
+pub unbroken : (count : ℕ) (bytes : List ℕ) → ((q : ℕ) → q < min (length bytes) 244 → BreaksUpTo count bytes q → ⊥) → count ≤ length bytes → IsUnbrokenUpTo count bytes
+unbroken count bytes none long p b = elim (cases_lt p (min (length bytes) 244)) [
+  | inl front ↦ none p front b
+  | inr past ↦ let e = only_end count bytes p past b in omega (arith, e.0, e.1, long)
 ]
 
-pub small_values : (bytes : List ℕ) → IsUnbroken bytes → length bytes ≡ 655613 → (j : ℕ) → j < 120 → nat_abs (value_at bytes (4 + 2 * j)) ≤ 2032
-small_values bytes h size j below = elim (cases_lt 2032 (nat_abs (value_at bytes (4 + 2 * j)))) [
+-- ---- of more bytes
+
+longer : (n m : ℕ) (bytes : List ℕ) (p : ℕ) → n ≤ m → BreaksUpTo n bytes p → BreaksUpTo m bytes p
+longer n m bytes p few (inl off) = inl off
+longer n m bytes p few (inr (inl large)) = inr (inl large)
+longer n m bytes p few (inr (inr (end, early))) = inr (inr (end, omega (arith, early, few)))
+
+-- the first break of so many bytes is that of more
+pub first_more : (n m : ℕ) (bytes : List ℕ) (p : ℕ) → n ≤ m → IsFirstBreakUpTo n bytes p → IsFirstBreakUpTo m bytes p
+first_more n m bytes p few first = record {
+  here = longer n m bytes p few first.here;
+  before = λ q l b.
+      let inside = none_past n bytes p first.here in
+      first.before q l (of_spoiled n bytes q (before_end m bytes q (omega (arith, l, inside)) b));
+}
+
+-- where so many bytes are unbroken, there are as many, and more are broken at their end alone
+pub long_enough : (count : ℕ) (bytes : List ℕ) → IsUnbrokenUpTo count bytes → count ≤ length bytes
+long_enough count bytes h = elim (cases_lt (length bytes) count) [
+  | inl early ↦ absurd (h (length bytes) (inr (inr (refl, early))))
+  | inr all ↦ all
+]
+
+pub none_in_front : (n m : ℕ) (bytes : List ℕ) → IsUnbrokenUpTo n bytes → (q : ℕ) → q < min (length bytes) 244 → BreaksUpTo m bytes q → ⊥
+none_in_front n m bytes h q front b = h q (of_spoiled n bytes q (before_end m bytes q (omega (arith, front)) b))
+
+pub count_least : (bytes : List ℕ) → head_count ≤ count_of bytes
+unfolding count_of
+count_least bytes = omega arith
+
+-- ---- what holds where the form is not broken
+
+pub small_values : (count : ℕ) (bytes : List ℕ) → IsUnbrokenUpTo count bytes → 244 ≤ length bytes → (j : ℕ) → j < 120 → nat_abs (value_at bytes (4 + 2 * j)) ≤ 2032
+small_values count bytes h size j below = elim (cases_lt 2032 (nat_abs (value_at bytes (4 + 2 * j)))) [
   | inl large ↦ absurd (h (4 + 2 * j) (inr (inl (omega arith, omega arith, omega arith, omega (arith, size), large))))
   | inr small ↦ small
 ]
 
-pub mark_there : (bytes : List ℕ) → IsUnbroken bytes → length bytes ≡ 655613 → take 4 bytes ≡ mark
-mark_there bytes h size = ext_get_or 0 (take 4 bytes) mark (length-take-le 4 bytes (omega (arith, size))) (λ i inside.
-    let four : length (take 4 bytes) ≡ 4 = length-take-le 4 bytes (omega (arith, size)) in
+pub mark_there : (count : ℕ) (bytes : List ℕ) → IsUnbrokenUpTo count bytes → 4 ≤ length bytes → take 4 bytes ≡ mark
+mark_there count bytes h size = ext_get_or 0 (take 4 bytes) mark (length-take-le 4 bytes size) (λ i inside.
+    let four : length (take 4 bytes) ≡ 4 = length-take-le 4 bytes size in
     rw (get_or-take 4 bytes i 0 (omega (arith, inside, four)))
     (elim (eqb_tells (get_or bytes i 0) (get_or mark i 0)) [
       | inl (t, same) ↦ same
       | inr (f, other) ↦ absurd (h i (inl (omega (arith, inside, four), omega (arith, inside, four, size), other)))
     ]))
 
--- the bytes, in five parts
-pub five_parts : (bytes : List ℕ) (a b c d e : ℕ) → length bytes ≡ a + b + c + d + e →
-    take a bytes ++ take b (drop a bytes) ++ take c (drop (a + b) bytes) ++ take d (drop (a + b + c) bytes) ++ take e (drop (a + b + c + d) bytes) ≡ bytes
-five_parts bytes a b c d e size =
-    rw (← take-add a b bytes, ← take-add (a + b) c bytes, ← take-add (a + b + c) d bytes, ← take-add (a + b + c + d) e bytes)
-    (take_all (a + b + c + d + e) bytes (omega (arith, size)))
+-- the bytes, in seven parts
+pub seven_parts : (bytes : List ℕ) (a b c d e f : ℕ) →
+    take a bytes ++ take b (drop a bytes) ++ take c (drop (a + b) bytes) ++ take d (drop (a + b + c) bytes) ++ take e (drop (a + b + c + d) bytes)
+    ++ take f (drop (a + b + c + d + e) bytes) ++ drop (a + b + c + d + e + f) bytes ≡ bytes
+seven_parts bytes a b c d e f =
+    rw (← take-add a b bytes, ← take-add (a + b) c bytes, ← take-add (a + b + c) d bytes, ← take-add (a + b + c + d) e bytes, ← take-add (a + b + c + d + e) f bytes)
+    (take-append-drop (a + b + c + d + e + f) bytes)
+
+-- a set that was read tells how many bytes there are
+pub count_by_set : (bytes : List ℕ) (set : List Bool) → ((s : ℕ) → s < 64 → is_in set s ≡ tells_table bytes s) →
+    head_count + table_count * total_below 64 (λ s. cond (is_in set s) 1 0) ≡ count_of bytes
+unfolding count_of
+count_by_set bytes set states =
+    ap (λ n. head_count + table_count * n) (total_below_same 64 (λ s. cond (is_in set s) 1 0) (λ s. cond (tells_table bytes s) 1 0) (λ s below. ap {B = ℕ} (λ b. cond b 1 0) (states s below)))
+
+-- where a whole certificate is not broken, its first bytes are not
+pub head_unbroken : (bytes : List ℕ) → IsUnbrokenUpTo (count_of bytes) bytes → IsUnbrokenUpTo head_count bytes
+head_unbroken bytes h p b = h p (longer head_count (count_of bytes) bytes p (count_least bytes) b)

@@ -1,7 +1,8 @@
 -- Values of a small size have an accepted certificate with their least word.
-use Rattle.std.proofs.Common.{◌≡◌, ℕ, zero, suc, ◌*◌, ◌^◌, ◌<◌, ◌≤◌, Bool, List, [], length, get_or, ℤ, map, refl, sym, subst, ◌∙◌, inl, inr, arith}
-use Rattle.std.specs.Prelude.{All}
+use Rattle.std.proofs.Common.{◌≡◌, ℕ, zero, suc, ◌-◌, ◌*◌, ◌^◌, ◌<◌, ◌≤◌, Bool, false, List, [], Some, length, get_or, ℤ, map, refl, sym, subst, ap, ◌∙◌, inl, inr, arith}
+use Rattle.std.specs.Prelude.{All, nat_lt, replicate}
 use Rattle.std.proofs.lemmas.Bool.Decides.{eqb_tells}
+use Rattle.std.proofs.lemmas.List.{get_or-replicate, length-replicate}
 use Rattle.finite.specs.Sizes.{RowsWithin}
 use Rattle.finite.specs.Lists.{values_below}
 use Rattle.finite.proofs.Lists.{values_below-length, values_below_at}
@@ -13,10 +14,13 @@ use Rattle.tailbite.specs.LeastWord.{IsLeastWord}
 use Rattle.tailbite.specs.Machine.{branch_cost, window_bit, forward_least, first_from, bit_to}
 use Rattle.conv_code.proofs.Costs.{triple_cost-le, word_cost-le}
 use Rattle.finite.proofs.Items.{row-within}
-use Rattle.tail_cert.specs.Certificate.{Held, IsWhole, IsAccepted, IsTriple, IsTable, Counted, TableHolds}
-use Rattle.tail_cert.specs.Forward.{IsStepRow, HasLeastRows, IsStartRow}
+use Rattle.tail_cert.specs.Certificate.{Held, IsWhole, IsAccepted, IsTriple, IsTable, Counted, StartHolds, bound, from_any}
+use Rattle.tail_cert.specs.Forward.{IsFilled, IsStepRow, HasLeastRows, IsStartRow}
+use Rattle.tail_cert.specs.Stored.{IsStored, is_in, shown}
 use Rattle.tail_cert.proofs.Accept.{accepted}
+use Rattle.tail_cert.proofs.Filled.{filled}
 use Rattle.tail_cert.proofs.Rows.{start_row, later_row, rows_fit}
+use Rattle.tail_cert.proofs.Shown.{stored_whole}
 
 abbrev AreSmall : List (List ℤ) → Type 0
 AreSmall values = RowsWithin 2032 values
@@ -77,30 +81,68 @@ table_size : (values : List (List ℤ)) (s : ℕ) → length (table_of values s)
 unfolding table_of
 table_size values s = values_below-length 40 (λ i. row_after values (start_of s) (suc i))
 
--- the certificate of values and a word
-pub certificate_of : List (List ℤ) → List Bool → Held
-certificate_of values word = record { values = values; word = word; cost = word_cost values word; tables = values_below 64 (table_of values) }
+-- ---- the certificate of values and a word
 
--- of a least word it is whole and accepted
+start_of_any : List ℕ
+start_of_any = replicate 64 0
+
+general_of : List (List ℤ) → List (List ℕ)
+general_of values = values_below 40 (λ i. row_after values start_of_any (suc i))
+
+any_room : (y : ℕ) → y < 64 → get_or start_of_any y 0 ≤ 2 ^ 30
+unfolding start_of_any
+any_room y below = let z = get_or-replicate {A = ℕ} 64 y 0 0 below in omega (arith, z)
+
+general_rows : (values : List (List ℤ)) → AreSmall values → HasLeastRows values start_of_any (general_of values) 40
+unfolding general_of start_of_any
+general_rows values small = record {
+  row = λ i inside. subst (λ row. IsStepRow values start_of_any (suc i) row) (sym (values_below_at (λ i. row_after values start_of_any (suc i)) 40 i [] inside))
+      (row_is_least values start_of_any small any_size any_room (suc i));
+}
+  where
+    any_size : length start_of_any ≡ 64
+    any_size = length-replicate {A = ℕ} 64 0
+
+general_size : (values : List (List ℤ)) → length (general_of values) ≡ 40
+unfolding general_of
+general_size values = values_below-length 40 (λ i. row_after values start_of_any (suc i))
+
+-- the states whose bound in the general table is below the cost, from 63 down to 0
+needs : List (List ℤ) → List Bool → ℕ → Bool
+needs values word s = nat_lt (bound from_any (general_of values) 40 s) (word_cost values word)
+
+states_of : List (List ℤ) → List Bool → List Bool
+states_of values word = values_below 64 (λ i. needs values word (63 - i))
+
+needed_states : (values : List (List ℤ)) (word : List Bool) (s : ℕ) → s < 64 → is_in (states_of values word) s ≡ needs values word s
+unfolding states_of
+needed_states values word s below =
+    let back : 63 - (63 - s) ≡ s = omega (arith, below) in
+    values_below_at (λ i. needs values word (63 - i)) 64 (63 - s) false (omega arith) ∙ ap (needs values word) back
+
+pub certificate_of : List (List ℤ) → List Bool → Held
+certificate_of values word = record {
+  values = values;
+  word = word;
+  cost = word_cost values word;
+  general = general_of values;
+  tables = shown (states_of values word) (values_below 64 (table_of values));
+}
+
+-- of a least word it is whole, accepted, and as one that is filled
 pub record IsCertificate (values : List (List ℤ)) (word : List Bool) (c : Held) : Type 0 where
-  pub whole : IsWhole c.values c.word c.cost c.tables
+  pub whole : IsWhole c
   pub accepted : IsAccepted c
+  pub filled : IsFilled c
   pub values_are : c.values ≡ values
   pub word_is : c.word ≡ word
 
 pub least_has_certificate : (values : List (List ℤ)) (word : List Bool) → Counted 40 IsTriple values → IsLeastWord values word → IsCertificate values word (certificate_of values word)
-unfolding certificate_of
+unfolding certificate_of needs start_of_any states_of
 least_has_certificate values word places least = record {
-  whole = record {
-    places = places;
-    bits = least.size ∙ places.count;
-    fits = omega (arith, within, places.count);
-    starts = record { count = values_below-length 64 (table_of values); all = tables };
-  };
-  accepted = record {
-    stated = refl;
-    holds = λ s below. subst (λ table. TableHolds values (word_cost values word) s table) (sym (values_below_at (table_of values) 64 s [] below)) (holds s below);
-  };
+  whole = stored_whole (certificate_of values word) (states_of values word) (values_below 64 (table_of values)) stored refl;
+  accepted = both.0;
+  filled = both.1;
   values_are = refl;
   word_is = refl;
 }
@@ -111,11 +153,26 @@ least_has_certificate values word places least = record {
     within : word_cost values word ≤ length values * (3 * 2032)
     within = word_cost-le 2032 values word small
 
-    holds : (s : ℕ) → s < 64 → TableHolds values (word_cost values word) s (table_of values s)
-    holds s below = accepted values (word_cost values word) s (start_of s) (table_of values s) below places.count (is_start s)
-        (λ other size. least.least other (size ∙ sym places.count)) (omega (arith, within, places.count)) (table_rows values s small)
-
     tables : All IsTable (values_below 64 (table_of values))
     tables s d inside =
         let below : s < 64 = omega (arith, inside, values_below-length 64 (table_of values)) in
         subst IsTable (sym (values_below_at (table_of values) 64 s d below)) (rows_fit values (start_of s) (table_of values s) (table_size values s) (table_rows values s small))
+
+    stored : IsStored values word (word_cost values word) (general_of values) (states_of values word) (values_below 64 (table_of values))
+    stored = record {
+      places = places;
+      bits = least.size ∙ places.count;
+      fits = omega (arith, within, places.count);
+      general_is = rows_fit values start_of_any (general_of values) (general_size values) (general_rows values small);
+      states = values_below-length 64 (λ i. needs values word (63 - i));
+      room = record { count = values_below-length 64 (table_of values); all = tables };
+    }
+
+    holds : (s : ℕ) → s < 64 → StartHolds values (word_cost values word) [] s (Some (table_of values s))
+    holds s below = accepted values (word_cost values word) s [] (start_of s) (table_of values s) below places.count (is_start s)
+        (λ other size. least.least other (size ∙ sym places.count)) (omega (arith, within, places.count)) (table_rows values s small)
+
+    both : IsAccepted (certificate_of values word) × IsFilled (certificate_of values word)
+    both = filled values values word (word_cost values word) (general_of values) (states_of values word) (values_below 64 (table_of values)) (values_below 64 (table_of values))
+        refl refl small places.count least refl (general_rows values small) (λ s below. needed_states values word s below)
+        (λ size lower fits s below low. subst (λ table. StartHolds values (word_cost values word) [] s (Some table)) (sym (values_below_at (table_of values) 64 s [] below)) (holds s below))

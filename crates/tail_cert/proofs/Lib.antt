@@ -1,7 +1,9 @@
 pub mod Sound
 pub mod Tables
 pub mod Accept
+pub mod Shown
 pub mod Rows
+pub mod Filled
 pub mod Places
 pub mod Zeros
 pub mod Pieces

@@ -61,6 +61,35 @@ entries_read bytes (x ∷ xs) size fits h =
     rest_bytes_of : (bytes : List ℕ) → ((i : ℕ) → get_or bytes i 0 < 256) → (i : ℕ) → get_or (drop 4 bytes) i 0 < 256
     rest_bytes_of bytes fits i = rw (get_or-drop 4 bytes i 0) (fits (4 + i))
 
+pub eight_bytes : (xs : List ℕ) → 8 ≤ length xs → ((i : ℕ) → get_or xs i 0 < 256) → (little_bytes 8 (little_number 8 xs) ≡ take 8 xs) × (little_number 8 xs < 2 ^ 64)
+eight_bytes [] l h = absurd (omega arith)
+eight_bytes (a ∷ []) l h = absurd (omega arith)
+eight_bytes (a ∷ b ∷ []) l h = absurd (omega arith)
+eight_bytes (a ∷ b ∷ c ∷ []) l h = absurd (omega arith)
+eight_bytes (a ∷ b ∷ c ∷ d ∷ []) l h = absurd (omega arith)
+eight_bytes (a ∷ b ∷ c ∷ d ∷ e ∷ []) l h = absurd (omega arith)
+eight_bytes (a ∷ b ∷ c ∷ d ∷ e ∷ f ∷ []) l h = absurd (omega arith)
+eight_bytes (a ∷ b ∷ c ∷ d ∷ e ∷ f ∷ g ∷ []) l h = absurd (omega arith)
+eight_bytes (a ∷ b ∷ c ∷ d ∷ e ∷ f ∷ g ∷ k ∷ xs) l h =
+    let ha : a < 256 = h 0 in
+    let hb : b < 256 = h 1 in
+    let hc : c < 256 = h 2 in
+    let hd : d < 256 = h 3 in
+    let he : e < 256 = h 4 in
+    let hf : f < 256 = h 5 in
+    let hg : g < 256 = h 6 in
+    let hk : k < 256 = h 7 in
+    let n : ℕ = a + 256 * (b + 256 * (c + 256 * (d + 256 * (e + 256 * (f + 256 * (g + 256 * (k + 256 * 0))))))) in
+    let e0 : n % 256 ≡ a = omega arith in
+    let e1 : n / 256 % 256 ≡ b = omega arith in
+    let e2 : n / 65536 % 256 ≡ c = omega arith in
+    let e3 : n / 16777216 % 256 ≡ d = omega arith in
+    let e4 : n / 4294967296 % 256 ≡ e = omega arith in
+    let e5 : n / 1099511627776 % 256 ≡ f = omega arith in
+    let e6 : n / 281474976710656 % 256 ≡ g = omega arith in
+    let e7 : n / 72057594037927936 % 256 ≡ k = omega arith in
+    (rw (e0, e1, e2, e3, e4, e5, e6, e7) refl, omega arith)
+
 pub five_bytes : (xs : List ℕ) → 5 ≤ length xs → ((i : ℕ) → get_or xs i 0 < 256) → (big_bytes 5 (big_number 5 xs) ≡ take 5 xs) × (big_number 5 xs < 2 ^ 40)
 five_bytes [] l h = absurd (omega arith)
 five_bytes (a ∷ []) l h = absurd (omega arith)

@@ -1,9 +1,19 @@
 -- Pieces of bytes that are replaced one after the other.
-use Rattle.std.proofs.Common.{◌≡◌, ℕ, ◌+◌, ◌*◌, ◌-◌, ◌<◌, ◌≤◌, List, [], ◌∷◌, ◌++◌, length, take, drop, get_or, refl, sym, ap, ◌∙◌, arith}
+use Rattle.std.proofs.Common.{◌≡◌, ℕ, ◌+◌, ◌*◌, ◌-◌, ◌<◌, ◌≤◌, cond, List, [], ◌∷◌, ◌++◌, Option, Some, None, length, take, drop, get_or, refl, sym, ap, ◌∙◌, arith}
+use Rattle.std.specs.Prelude.{is_some}
 use Rattle.std.specs.List.{flat_map}
 use Rattle.std.proofs.lemmas.List.{append_assoc, append-nil, length-append, length-take-le, take_at, drop_at, take_more, take_all, drop_all, drop-drop, length-drop, take-append-drop, take_rest}
 use Rattle.std.proofs.lemmas.List.Concat.{flat_map-append, flat_map-cons}
-use Rattle.tail_cert.specs.Form.{with_piece}
+use Rattle.finite.specs.Lists.{values_below}
+use Rattle.finite.specs.Sums.{total_below}
+use Rattle.finite.proofs.Lists.{values_below_more}
+use Rattle.finite.proofs.Sums.{total_below_more}
+use Rattle.tail_cert.specs.Form.{maybe_bytes, table_bytes, table_count, with_piece}
+
+-- the bytes of the tables that may be there, with one more
+pub one_more : (n : ℕ) (f : ℕ → Option (List (List ℕ))) → flat_map maybe_bytes (values_below (n + 1) f) ≡ flat_map maybe_bytes (values_below n f) ++ maybe_bytes (f n)
+one_more n f = ap (flat_map maybe_bytes) (values_below_more n f) ∙ flat_map-append maybe_bytes (values_below n f) (f n ∷ [])
+    ∙ ap (λ l. flat_map maybe_bytes (values_below n f) ++ l) (append-nil (maybe_bytes (f n)))
 
 -- a write to the rest of the bytes from a place on
 pub put_piece : (at : ℕ) (piece bytes mid : List ℕ) → mid ≡ piece ++ drop (length piece) (take (length bytes - at) (drop at bytes)) → at ≤ length bytes →
@@ -98,20 +108,81 @@ written_all f w n xs at old new i known size done most =
     let e : i ≡ n = omega (arith, done, most) in
     (rw all at known.bytes, rw (all, e) at known.size)
 
--- five pieces, from the first place to the end
-pub five_pieces : (a b c d e bytes : List ℕ) (i j k l : ℕ) → length a ≡ i → i + length b ≡ j → j + length c ≡ k → k + length d ≡ l → l + length e ≡ length bytes →
-    with_piece l e (with_piece k d (with_piece j c (with_piece i b (with_piece 0 a bytes)))) ≡ a ++ b ++ c ++ d ++ e
-five_pieces a b c d e bytes i j k l hi hj hk hl size =
-    let ab : length (a ++ b) ≡ length a + length b = length-append a b in
-    let abc : length (a ++ b ++ c) ≡ length (a ++ b) + length c = length-append (a ++ b) c in
-    let abcd : length (a ++ b ++ c ++ d) ≡ length (a ++ b ++ c) + length d = length-append (a ++ b ++ c) d in
-    let abcde : length (a ++ b ++ c ++ d ++ e) ≡ length (a ++ b ++ c ++ d) + length e = length-append (a ++ b ++ c ++ d) e in
-    let i0 : i ≡ 0 + length a = omega (arith, hi) in
-    let j0 : j ≡ 0 + length (a ++ b) = omega (arith, hi, hj, ab) in
-    let k0 : k ≡ 0 + length (a ++ b ++ c) = omega (arith, hi, hj, hk, ab, abc) in
-    let l0 : l ≡ 0 + length (a ++ b ++ c ++ d) = omega (arith, hi, hj, hk, hl, ab, abc, abcd) in
-    let one : with_piece i b (with_piece 0 a bytes) ≡ with_piece 0 (a ++ b) bytes = rw i0 (with_pieces 0 a b bytes (omega arith)) in
-    let two : with_piece j c (with_piece 0 (a ++ b) bytes) ≡ with_piece 0 (a ++ b ++ c) bytes = rw j0 (with_pieces 0 (a ++ b) c bytes (omega arith)) in
-    let three : with_piece k d (with_piece 0 (a ++ b ++ c) bytes) ≡ with_piece 0 (a ++ b ++ c ++ d) bytes = rw k0 (with_pieces 0 (a ++ b ++ c) d bytes (omega arith)) in
-    let four : with_piece l e (with_piece 0 (a ++ b ++ c ++ d) bytes) ≡ with_piece 0 (a ++ b ++ c ++ d ++ e) bytes = rw l0 (with_pieces 0 (a ++ b ++ c ++ d) e bytes (omega arith)) in
-    rw (one, two, three, four) (with_piece_all (a ++ b ++ c ++ d ++ e) bytes (omega arith))
+-- seven pieces, from the first place to the end
+pub seven_pieces : (a b c d e f g bytes : List ℕ) (i j k l m n : ℕ) → length a ≡ i → i + length b ≡ j → j + length c ≡ k → k + length d ≡ l → l + length e ≡ m → m + length f ≡ n →
+    n + length g ≡ length bytes →
+    with_piece n g (with_piece m f (with_piece l e (with_piece k d (with_piece j c (with_piece i b (with_piece 0 a bytes)))))) ≡ a ++ b ++ c ++ d ++ e ++ f ++ g
+seven_pieces a b c d e f g bytes i j k l m n hi hj hk hl hm hn size =
+    let one = next_piece a b bytes i hi (omega (arith, hj, hk, hl, hm, hn, size)) in
+    let two = next_piece (a ++ b) c bytes j (length-append a b ∙ omega (arith, hi, hj)) (omega (arith, hk, hl, hm, hn, size)) in
+    let three = next_piece (a ++ b ++ c) d bytes k (omega (arith, length-append a b, length-append (a ++ b) c, hi, hj, hk)) (omega (arith, hl, hm, hn, size)) in
+    let four = next_piece (a ++ b ++ c ++ d) e bytes l (omega (arith, length-append a b, length-append (a ++ b) c, length-append (a ++ b ++ c) d, hi, hj, hk, hl)) (omega (arith, hm, hn, size)) in
+    let to_e : length (a ++ b ++ c ++ d ++ e) ≡ m =
+    omega (arith, length-append a b, length-append (a ++ b) c, length-append (a ++ b ++ c) d, length-append (a ++ b ++ c ++ d) e, hi, hj, hk, hl, hm) in
+    let five = next_piece (a ++ b ++ c ++ d ++ e) f bytes m to_e (omega (arith, hn, size)) in
+    let to_f : length (a ++ b ++ c ++ d ++ e ++ f) ≡ n = omega (arith, to_e, length-append (a ++ b ++ c ++ d ++ e) f, hn) in
+    let six = next_piece (a ++ b ++ c ++ d ++ e ++ f) g bytes n to_f (omega (arith, size)) in
+    rw (one, two, three, four, five, six) (with_piece_all (a ++ b ++ c ++ d ++ e ++ f ++ g) bytes (omega (arith, to_f, length-append (a ++ b ++ c ++ d ++ e ++ f) g, size)))
+  where
+    next_piece : (front piece bytes : List ℕ) (at : ℕ) → length front ≡ at → at ≤ length bytes → with_piece at piece (with_piece 0 front bytes) ≡ with_piece 0 (front ++ piece) bytes
+    next_piece front piece bytes at size inside =
+        let e : at ≡ 0 + length front = omega (arith, size) in
+        rw e (with_pieces 0 front piece bytes (omega (arith, size, inside)))
+
+-- ---- tables that may be there, one start state after the other
+
+-- the tables of the states below n are written from a place on, and the next comes at another place
+pub record AreWrittenTo (f : ℕ → Option (List (List ℕ))) (from place : ℕ) (old new : List ℕ) (n : ℕ) : Type 0 where
+  pub bytes : new ≡ with_piece from (flat_map maybe_bytes (values_below n f)) old
+  pub size : length (flat_map maybe_bytes (values_below n f)) ≡ table_count * total_below n (λ s. cond (is_some (f s)) 1 0)
+  pub at : place ≡ from + table_count * total_below n (λ s. cond (is_some (f s)) 1 0)
+  pub same : length new ≡ length old
+
+pub maybes_none : (f : ℕ → Option (List (List ℕ))) (from : ℕ) (old : List ℕ) → AreWrittenTo f from from old old 0
+unfolding with_piece total_below
+maybes_none f from old = record {
+  bytes =
+      let e : from + 0 ≡ from = omega arith in
+      rw e (sym (ap (λ l. l ++ drop from old) (append-nil (take from old)) ∙ take-append-drop from old));
+  size = refl;
+  at = omega arith;
+  same = refl;
+}
+
+-- one that is not there
+pub maybe_none : (f : ℕ → Option (List (List ℕ))) (from place : ℕ) (old new : List ℕ) (n : ℕ) → AreWrittenTo f from place old new n → f n ≡ None →
+    AreWrittenTo f from place old new (n + 1)
+unfolding maybe_bytes
+maybe_none f from place old new n known none =
+    let bytes : flat_map maybe_bytes (values_below (n + 1) f) ≡ flat_map maybe_bytes (values_below n f) =
+    one_more n f ∙ ap (λ m. flat_map maybe_bytes (values_below n f) ++ maybe_bytes m) none ∙ append-nil (flat_map maybe_bytes (values_below n f)) in
+    let count = total_below_more n (λ s. cond (is_some (f s)) 1 0) in
+    let zero : cond {A = ℕ} (is_some (f n)) 1 0 ≡ 0 = ap {B = ℕ} (λ m. cond (is_some m) 1 0) none in
+    record {
+      bytes = rw bytes known.bytes;
+      size = omega (arith, ap length bytes, known.size, count, zero);
+      at = omega (arith, known.at, count, zero);
+      same = known.same;
+    }
+
+-- one that is there
+pub maybe_some : (f : ℕ → Option (List (List ℕ))) (from place : ℕ) (old new next : List ℕ) (n : ℕ) (table : List (List ℕ)) → AreWrittenTo f from place old new n →
+    f n ≡ Some table → length (table_bytes table) ≡ table_count → place + table_count ≤ length old → next ≡ with_piece place (table_bytes table) new →
+    AreWrittenTo f from (place + table_count) old next (n + 1)
+unfolding maybe_bytes
+maybe_some f from place old new next n table known some wide room e =
+    let front : List ℕ = flat_map maybe_bytes (values_below n f) in
+    let bytes : flat_map maybe_bytes (values_below (n + 1) f) ≡ front ++ table_bytes table = one_more n f ∙ ap (λ m. front ++ maybe_bytes m) some in
+    let count = total_below_more n (λ s. cond (is_some (f s)) 1 0) in
+    let one : cond {A = ℕ} (is_some (f n)) 1 0 ≡ 1 = ap {B = ℕ} (λ m. cond (is_some m) 1 0) some in
+    let long = length-append front (table_bytes table) in
+    let place_is : place ≡ from + length front = omega (arith, known.at, known.size) in
+    let whole : next ≡ with_piece from (front ++ table_bytes table) old =
+    e ∙ ap (λ l. with_piece place (table_bytes table) l) known.bytes ∙ ap (λ p. with_piece p (table_bytes table) (with_piece from front old)) place_is
+    ∙ with_pieces from front (table_bytes table) old (omega (arith, place_is, room)) in
+    record {
+      bytes = rw bytes whole;
+      size = omega (arith, ap length bytes, long, wide, known.size, count, one);
+      at = omega (arith, known.at, count, one);
+      same = ap length whole ∙ length-with_piece from (front ++ table_bytes table) old (omega (arith, long, wide, place_is, room));
+    }

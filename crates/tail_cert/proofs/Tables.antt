@@ -1,50 +1,61 @@
 -- A table that holds up to a step.
-use Rattle.std.proofs.Common.{◌≡◌, ◌≢◌, ℕ, suc, ◌+◌, ◌<◌, ◌≤◌, Bool, true, false, List, [], length, get_or, ℤ, refl, ◌∙◌, inl, inr, arith}
-use Rattle.std.proofs.lemmas.Bool.{cases_lt}
-use Rattle.std.proofs.lemmas.List.{get_or_default}
-use Rattle.tailbite.specs.Machine.{shift, step_cost}
-use Rattle.tail_cert.specs.Certificate.{unbounded, bound, TableHolds}
-use Rattle.tail_cert.specs.Steps.{BothHold, BothRise, RowHolds, RowRises, StepHolds, StepRises}
+use Rattle.std.proofs.Common.{◌≡◌, ℕ, zero, suc, ◌+◌, ◌<◌, ◌↔◌, Bool, true, false, List, [], get_or, ℤ, refl, add-one, below_more}
+use Rattle.tail_cert.specs.Costs.{HaveCosts, cost_in}
+use Rattle.tailbite.specs.Machine.{shift}
+use Rattle.tail_cert.specs.Certificate.{StepsHold, bound}
+use Rattle.tail_cert.specs.Steps.{BothHold, RowHolds, StepHolds}
 
-pub record HoldsTo (values : List (List ℤ)) (s : ℕ) (table : List (List ℕ)) (from : List ℕ) (n : ℕ) : Type 0 where
-  pub row : (x : ℕ) → x < 64 → get_or from x 0 ≡ bound table s n x
-  pub steps : (i x : ℕ) (b : Bool) → i < n → x < 64 →
-      bound table s i x ≢ unbounded → bound table s (suc i) (shift x b) ≤ bound table s i x + step_cost values i x b
-  pub rises : (i x : ℕ) (b : Bool) → i < n → x < 64 →
-      bound table s (suc i) (shift x b) ≤ bound table s i x + step_cost values i x b
+-- the row that the step n goes from
+pub from_row : List ℕ → List (List ℕ) → ℕ → List ℕ
+from_row first table zero = first
+from_row first table (suc n) = get_or table n []
 
-of_both : (v : List ℤ) (m : ℕ) (to : List ℕ) (x : ℕ) (b : Bool) → BothHold v m to x → StepHolds v m to x b
-of_both v m to x true h = h.1
-of_both v m to x false h = h.0
+-- all steps before n hold, by the tables of costs
+abbrev pub HoldsTo : List (List ℕ) → List ℕ → List (List ℕ) → ℕ → Type 0
+HoldsTo costs first table n = (i : ℕ) → i < n → RowHolds (get_or costs i []) (from_row first table i) (get_or table i [])
 
-of_both_rises : (v : List ℤ) (m : ℕ) (to : List ℕ) (x : ℕ) (b : Bool) → BothRise v m to x → StepRises v m to x b
-of_both_rises v m to x true h = h.1
-of_both_rises v m to x false h = h.0
+of_both : (costs : List ℕ) (m : ℕ) (to : List ℕ) (x : ℕ) (b : Bool) → BothHold costs m to x → StepHolds (cost_in costs x b) m (get_or to (shift x b) 0)
+of_both costs m to x true h = h.1
+of_both costs m to x false h = h.0
 
-pub holds_more : (values : List (List ℤ)) (s : ℕ) (table : List (List ℕ)) (from : List ℕ) (n : ℕ) → HoldsTo values s table from n →
-    RowHolds (get_or values n []) from (get_or table n []) → RowRises (get_or values n []) from (get_or table n []) →
-    HoldsTo values s table (get_or table n []) (suc n)
-holds_more values s table from n known row row' = record {
-  row = λ x below. refl;
-  steps = λ i x b inside below. elim (cases_lt i n) [
-    | inl h ↦ known.steps i x b h below
-    | inr h ↦
-        let e : i ≡ n = omega arith in
-        rw e (rw (← known.row x below) (of_both (get_or values n []) (get_or from x 0) (get_or table n []) x b (row x below)))
-  ];
-  rises = λ i x b inside below. elim (cases_lt i n) [
-    | inl h ↦ known.rises i x b h below
-    | inr h ↦
-        let e : i ≡ n = omega arith in
-        rw e (rw (← known.row x below) (of_both_rises (get_or values n []) (get_or from x 0) (get_or table n []) x b (row' x below)))
-  ];
-}
+-- the bounds in that row
+bound_is : (first : List ℕ) (start : ℕ → ℕ) (table : List (List ℕ)) → ((x : ℕ) → x < 64 → get_or first x 0 ≡ start x) →
+    (i x : ℕ) → x < 64 → get_or (from_row first table i) x 0 ≡ bound start table i x
+unfolding from_row
+bound_is first start table same zero x below = same x below
+bound_is first start table same (suc i) x below = refl
 
-pub row_from_table : (values : List (List ℤ)) (cost s : ℕ) (table : List (List ℕ)) (from : List ℕ) (n : ℕ) → HoldsTo values s table from n →
-    n < 40 → TableHolds values cost s table → RowHolds (get_or values n []) from (get_or table n [])
-row_from_table values cost s table from n known inside holds x below =
-    rw (known.row x below) (holds.steps n x false inside below, holds.steps n x true inside below)
+-- so all steps hold by the values
+pub steps_by_table : (values : List (List ℤ)) (costs : List (List ℕ)) (first : List ℕ) (start : ℕ → ℕ) (table : List (List ℕ)) → HaveCosts values costs 40 →
+    ((x : ℕ) → x < 64 → get_or first x 0 ≡ start x) → HoldsTo costs first table 40 ↔ StepsHold values start table
+steps_by_table values costs first start table have same = (to, back)
+  where
+    to : HoldsTo costs first table 40 → StepsHold values start table
+    to h i x b inside below some =
+        let cost = (have.place i inside).cost x b below in
+        let from = bound_is first start table same i x below in
+        let step = of_both (get_or costs i []) (get_or (from_row first table i) x 0) (get_or table i []) x b (h i inside x below) in
+        rw (← cost, ← from) (step (rw from some))
 
--- an element that was read, with the default that clauses write
-pub read_at : {X : Type 0} (xs : List (List X)) (i : ℕ) (x : List X) → x ≡ get_or xs i x → i < length xs → x ≡ get_or xs i []
-read_at xs i x e inside = e ∙ get_or_default xs i x [] inside
+    one : StepsHold values start table → (i x : ℕ) (b : Bool) → i < 40 → x < 64 →
+        StepHolds (cost_in (get_or costs i []) x b) (get_or (from_row first table i) x 0) (get_or (get_or table i []) (shift x b) 0)
+    one h i x b inside below some =
+        let cost = (have.place i inside).cost x b below in
+        let from = bound_is first start table same i x below in
+        rw (cost, from) (h i x b inside below (rw (← from) some))
+
+    back : StepsHold values start table → HoldsTo costs first table 40
+    back h i inside x below = (one h i x false inside below, one h i x true inside below)
+
+-- one step more
+pub holds_more : (costs : List (List ℕ)) (first : List ℕ) (table : List (List ℕ)) (from : List ℕ) (n : ℕ) → from ≡ from_row first table n →
+    RowHolds (get_or costs n []) from (get_or table n []) → HoldsTo costs first table n → HoldsTo costs first table (n + 1)
+holds_more costs first table from n same row known = below_more _ _ known (rw (← same) row)
+
+pub row_first : (first : List ℕ) (table : List (List ℕ)) → first ≡ from_row first table 0
+unfolding from_row
+row_first first table = refl
+
+pub row_next : (first : List ℕ) (table : List (List ℕ)) (n : ℕ) → get_or table n [] ≡ from_row first table (n + 1)
+unfolding from_row
+row_next first table n = rw (add-one n) refl

@@ -1,14 +1,17 @@
 -- Certificates of least cost (own). A state holds the last six bits, the newest with weight 32.
-use Rattle.std.specs.Prelude.{◌≡◌, ◌≢◌, ℕ, zero, suc, ◌+◌, ◌-◌, ◌^◌, ◌<◌, ◌≤◌, All, Bool, false, cond, List, [], length, nat_abs, nat_eq, replicate, slice_index, slice_index_or, ℤ, pos}
+use Rattle.std.specs.Prelude.{◌≡◌, ◌≢◌, ℕ, zero, suc, ◌+◌, ◌-◌, ◌^◌, ◌<◌, ◌≤◌, All, Bool, false, cond, List, [], Option, Some, None, IfSome, is_some, length, nat_abs, nat_eq, replicate, slice_index, slice_index_or, ℤ, pos}
+use Rattle.finite.specs.Sums.{total_below}
 use Rattle.conv_code.specs.Cost.{word_cost}
 use Rattle.tailbite.specs.Machine.{shift, step_cost}
 
--- what a certificate holds: three values for each place, a word, its cost, and a table for each start state
+-- what a certificate holds: three values for each place, a word, its cost, a table of bounds for all start states, and for
+-- each start state a table of its own, or none
 pub record Held : Type 0 where
   pub values : List (List ℤ)
   pub word : List Bool
   pub cost : ℕ
-  pub tables : List (List (List ℕ))
+  pub general : List (List ℕ)
+  pub tables : List (Option (List (List ℕ)))
 
 -- ---- what is accepted
 
@@ -16,22 +19,34 @@ pub record Held : Type 0 where
 abbrev pub unbounded : ℕ
 unbounded = 2 ^ 32 - 1
 
--- the lower bound of the cost of i steps from the start state s to x; the table holds the rows from step 1 on
-abbrev pub bound : List (List ℕ) → ℕ → ℕ → ℕ → ℕ
-bound table s zero x = cond (nat_eq x s) 0 unbounded
-bound table s (suc i) x = slice_index (slice_index_or table i []) x
+-- the bounds of no step: a path may start in any state, or only in the state s
+abbrev pub from_any : ℕ → ℕ
+from_any x = 0
 
--- in the table of a start state, each branch from an entry that bounds something leads to one that is greater by
--- no more than the branch costs, and the end in the start state is bounded by the cost
-pub record TableHolds (values : List (List ℤ)) (cost s : ℕ) (table : List (List ℕ)) : Type 0 where
-  pub steps : (i x : ℕ) (b : Bool) → i < 40 → x < 64 →
-      bound table s i x ≢ unbounded → bound table s (suc i) (shift x b) ≤ bound table s i x + step_cost values i x b
-  pub ends : cost ≤ bound table s 40 s
+abbrev pub from_state : ℕ → ℕ → ℕ
+from_state s x = cond (nat_eq x s) 0 unbounded
 
--- the certificate is accepted: the stated cost is the word's, and the tables of all start states hold
+-- the lower bound of the cost of i steps to x, by the bounds of no step and a table of the rows from step 1 on
+abbrev pub bound : (ℕ → ℕ) → List (List ℕ) → ℕ → ℕ → ℕ
+bound first table zero x = first x
+bound first table (suc i) x = slice_index (slice_index_or table i []) x
+
+-- each branch from a bound that bounds something leads to one that is greater by no more than the branch costs
+abbrev pub StepsHold : List (List ℤ) → (ℕ → ℕ) → List (List ℕ) → Type 0
+StepsHold values first table = (i x : ℕ) (b : Bool) → i < 40 → x < 64 →
+    bound first table i x ≢ unbounded → bound first table (suc i) (shift x b) ≤ bound first table i x + step_cost values i x b
+
+-- the cost bounds every path of 40 steps from the state s back to it: by the table of that state, where there is one, and
+-- else by the general table
+abbrev pub StartHolds : List (List ℤ) → ℕ → List (List ℕ) → ℕ → Option (List (List ℕ)) → Type 0
+StartHolds values cost general s None = cost ≤ bound from_any general 40 s
+StartHolds values cost general s (Some table) = StepsHold values (from_state s) table × (cost ≤ bound (from_state s) table 40 s)
+
+-- the certificate is accepted: the stated cost is the word's, the general table holds, and so does each start state
 pub record IsAccepted (c : Held) : Type 0 where
   pub stated : c.cost ≡ word_cost c.values c.word
-  pub holds : (s : ℕ) → s < 64 → TableHolds c.values c.cost s (slice_index_or c.tables s [])
+  pub general : StepsHold c.values from_any c.general
+  pub starts : (s : ℕ) → s < 64 → StartHolds c.values c.cost c.general s (slice_index_or c.tables s None)
 
 -- no word of 40 bits costs less
 abbrev pub IsLowerBound : List (List ℤ) → ℕ → Type 0
@@ -56,22 +71,28 @@ IsRow row = Counted 64 (λ n. n < 2 ^ 32) row
 abbrev pub IsTable : List (List ℕ) → Type 0
 IsTable table = Counted 40 IsRow table
 
+-- a table, or none
+abbrev pub IsMaybeTable : Option (List (List ℕ)) → Type 0
+IsMaybeTable maybe = IfSome maybe IsTable
+
 -- what every certificate has: so many values, bits and bounds, each in its range
-pub record IsWhole (values : List (List ℤ)) (word : List Bool) (cost : ℕ) (tables : List (List (List ℕ))) : Type 0 where
-  pub places : Counted 40 IsTriple values
-  pub bits : length word ≡ 40
-  pub fits : cost < 2 ^ 32
-  pub starts : Counted 64 IsTable tables
+pub record IsWhole (c : Held) : Type 0 where
+  pub places : Counted 40 IsTriple c.values
+  pub bits : length c.word ≡ 40
+  pub fits : c.cost < 2 ^ 32
+  pub general : IsTable c.general
+  pub starts : Counted 64 IsMaybeTable c.tables
 
--- a certificate has all that
-abbrev pub IsWholeHeld : Held → Type 0
-IsWholeHeld c = IsWhole c.values c.word c.cost c.tables
+-- how many start states have a table of their own
+abbrev pub tables_there : List (Option (List (List ℕ))) → ℕ
+tables_there tables = total_below 64 (λ s. cond (is_some (slice_index_or tables s None)) 1 0)
 
--- the certificate with zeros everywhere
+-- the certificate with zeros everywhere, and no table of a start state
 abbrev pub of_zeros : Held
 of_zeros = record {
   values = replicate 40 (replicate 3 (pos 0));
   word = replicate 40 false;
   cost = 0;
-  tables = replicate 64 (replicate 40 (replicate 64 0));
+  general = replicate 40 (replicate 64 0);
+  tables = replicate 64 None;
 }

@@ -1,14 +1,17 @@
 -- The bytes of a certificate (own).
-use Rattle.std.specs.Prelude.{◌≡◌, ◌≢◌, ℕ, ◌+◌, ◌%◌, ◌<◌, ◌≤◌, ◌++◌, ◌⊎◌, Bool, List, [], ◌∷◌, length, nat_abs, slice_index, take, drop, ℤ}
+use Rattle.std.specs.Prelude.{◌≡◌, ◌≢◌, ℕ, ◌+◌, ◌-◌, ◌*◌, ◌/◌, ◌%◌, ◌^◌, ◌<◌, ◌≤◌, ◌++◌, ◌⊎◌, Bool, cond, List, [], ◌∷◌, Option, Some, None, is_some, length, nat_abs, slice_index, slice_index_or, take, drop, ℤ}
 use Rattle.std.specs.List.{flat_map}
 use Rattle.std.specs.Int.{w16, cast_signed, cast_unsigned}
 use Rattle.byteorder.specs.Endian.{little_bytes, big_bytes, little_number}
+use Rattle.finite.specs.Bits.{odd}
+use Rattle.finite.specs.Lists.{values_below}
+use Rattle.finite.specs.Sums.{total_below}
 use Rattle.cs_bits.specs.Numbers.{number}
 use Rattle.tail_cert.specs.Certificate.{Held}
 
 -- the first four bytes
 abbrev pub mark : List ℕ
-mark = 0x4c ∷ 0x54 ∷ 0x43 ∷ 0x31 ∷ []
+mark = 0x4c ∷ 0x54 ∷ 0x43 ∷ 0x32 ∷ []
 
 -- a value, in 16 bits with its low byte first, as two's complement
 unfoldable pub value_bytes : ℤ → List ℕ
@@ -22,7 +25,7 @@ entry_bytes n = little_bytes 4 n
 unfoldable pub word_bytes : List Bool → List ℕ
 word_bytes word = big_bytes 5 (number word)
 
--- the values of a place, the bounds of a step, and those of a start state
+-- the values of a place, the bounds of a step, and those of a table
 unfoldable pub place_bytes : List ℤ → List ℕ
 place_bytes values = flat_map value_bytes values
 
@@ -32,19 +35,53 @@ row_bytes row = flat_map entry_bytes row
 unfoldable pub table_bytes : List (List ℕ) → List ℕ
 table_bytes table = flat_map row_bytes table
 
--- the mark, the values by place and stream, the word, the cost, and the bounds by start state, step and state
+-- the set of the start states that have a table: 64 bits, from the state 63 down to 0, so that the bit of s has weight 2 ^ s,
+-- as a number with its low byte first
+unfoldable pub set_of : List (Option (List (List ℕ))) → List Bool
+set_of tables = values_below 64 (λ i. is_some (slice_index_or tables (63 - i) None))
+
+unfoldable pub set_bytes : List (Option (List (List ℕ))) → List ℕ
+set_bytes tables = little_bytes 8 (number (set_of tables))
+
+-- the table of a start state, where there is one
+unfoldable pub maybe_bytes : Option (List (List ℕ)) → List ℕ
+maybe_bytes None = []
+maybe_bytes (Some table) = table_bytes table
+
+-- the mark, the values by place and stream, the word, the cost, the general table, the set of start states, and their tables,
+-- the bounds of each table by step and state
 unfoldable pub bytes_of : Held → List ℕ
-bytes_of c = mark ++ flat_map place_bytes c.values ++ word_bytes c.word ++ entry_bytes c.cost ++ flat_map table_bytes c.tables
+bytes_of c =
+    mark ++ flat_map place_bytes c.values ++ word_bytes c.word ++ entry_bytes c.cost ++ table_bytes c.general ++ set_bytes c.tables
+    ++ flat_map maybe_bytes c.tables
 
 -- the bytes with a piece of them replaced, from a place on
 unfoldable pub with_piece : ℕ → List ℕ → List ℕ → List ℕ
 with_piece at piece bytes = take at bytes ++ piece ++ drop (at + length piece) bytes
 
--- ---- where the form is broken
+-- ---- how many bytes there are
 
--- how many bytes a certificate has
-abbrev pub count : ℕ
-count = 655613
+-- up to the set, with it
+abbrev pub head_count : ℕ
+head_count = 10501
+
+-- of a table
+abbrev pub table_count : ℕ
+table_count = 10240
+
+-- of the longest certificate
+abbrev pub most_count : ℕ
+most_count = 665861
+
+-- whether the set in the eight bytes from 10,493 on has the state s
+abbrev pub tells_table : List ℕ → ℕ → Bool
+tells_table bytes s = odd (little_number 8 (drop 10493 bytes) / 2 ^ s)
+
+-- of the certificate that these bytes begin, or are: its set tells it, where it is there
+unfoldable pub count_of : List ℕ → ℕ
+count_of bytes = head_count + table_count * total_below 64 (λ s. cond (tells_table bytes s) 1 0)
+
+-- ---- where the form is broken
 
 -- the value in the two bytes from a place on
 unfoldable pub value_at : List ℕ → ℕ → ℤ
@@ -58,14 +95,29 @@ IsOffMark bytes p = (p < 4) × (p < length bytes) × (slice_index bytes p ≢ sl
 abbrev pub IsLargeValue : List ℕ → ℕ → Type 0
 IsLargeValue bytes p = (4 ≤ p) × (p < 244) × (p % 2 ≡ 0) × (p + 2 ≤ length bytes) × (2032 < nat_abs (value_at bytes p))
 
--- the bytes end before the certificate does
-abbrev pub IsEarlyEnd : List ℕ → ℕ → Type 0
-IsEarlyEnd bytes p = (p ≡ length bytes) × (p < count)
+-- the bytes end before there are so many
+abbrev pub IsEarlyEnd : ℕ → List ℕ → ℕ → Type 0
+IsEarlyEnd count bytes p = (p ≡ length bytes) × (p < count)
 
+-- the form of so many bytes is broken here
+abbrev pub BreaksUpTo : ℕ → List ℕ → ℕ → Type 0
+BreaksUpTo count bytes p = IsOffMark bytes p ⊎ IsLargeValue bytes p ⊎ IsEarlyEnd count bytes p
+
+-- that of a whole certificate, and that of the bytes up to its set
 abbrev pub Breaks : List ℕ → ℕ → Type 0
-Breaks bytes p = IsOffMark bytes p ⊎ IsLargeValue bytes p ⊎ IsEarlyEnd bytes p
+Breaks bytes p = BreaksUpTo (count_of bytes) bytes p
 
--- the first place where the form is broken
-pub record IsFirstBreak (bytes : List ℕ) (p : ℕ) : Type 0 where
-  pub here : Breaks bytes p
-  pub before : (q : ℕ) → q < p → Breaks bytes q → ⊥
+abbrev pub BreaksHead : List ℕ → ℕ → Type 0
+BreaksHead bytes p = BreaksUpTo head_count bytes p
+
+-- nowhere is the form of so many bytes broken
+abbrev pub IsUnbrokenUpTo : ℕ → List ℕ → Type 0
+IsUnbrokenUpTo count bytes = (p : ℕ) → BreaksUpTo count bytes p → ⊥
+
+-- the first place where it is
+pub record IsFirstBreakUpTo (count : ℕ) (bytes : List ℕ) (p : ℕ) : Type 0 where
+  pub here : BreaksUpTo count bytes p
+  pub before : (q : ℕ) → q < p → BreaksUpTo count bytes q → ⊥
+
+abbrev pub IsFirstBreak : List ℕ → ℕ → Type 0
+IsFirstBreak bytes p = IsFirstBreakUpTo (count_of bytes) bytes p

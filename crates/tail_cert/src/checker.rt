@@ -1,15 +1,19 @@
 //! The check of a certificate.
 
-ghost use Rattle.std.specs.Prelude.{◌≡◌, ◌^◌, ◌<◌, ◌≤◌, ◌↔◌, ℕ, IsTrue, [], length, slice_index, slice_index_or};
-ghost use Rattle.finite.specs.Sizes.{AllWithin, RowsWithin};
+ghost use Rattle.std.specs.Prelude.{◌≡◌, ◌^◌, ◌<◌, ◌≤◌, ◌↔◌, ℕ, IsTrue, List, ℤ, length, slice_index};
+ghost use Rattle.finite.specs.Sizes.{RowsWithin};
 ghost use Rattle.conv_code.specs.Cost.{word_cost};
-ghost use Rattle.tail_cert.specs.Certificate.{bound, IsAccepted, IsLowerBound, TableHolds};
-ghost use Rattle.tail_cert.specs.Steps.{BothHold, BothRise, RowHolds, RowRises, StepHolds, StepRises, TableRises};
+ghost use Rattle.tail_cert.specs.Costs.{HaveCosts};
+ghost use Rattle.tail_cert.specs.Certificate.{from_any, from_state, IsAccepted, IsLowerBound, StartHolds, StepsHold};
+ghost use Rattle.tail_cert.specs.Steps.{BothHold, RowHolds, StepHolds};
+ghost use Rattle.tail_cert.specs.Stored.{shown_at};
 
 use crate::Certificate;
+use crate::certificate::{Table, has};
+use crate::costs::{StepCosts, step_costs};
 use conv_code::{against, encode};
 use cs_bits::Bits;
-use tailbite::{branch, next};
+use tailbite::next;
 
 const STATES: usize = 64;
 
@@ -19,81 +23,115 @@ const STEPS: usize = 40;
 const UNBOUNDED: u32 = 0xffff_ffff;
 
 /// Whether the inequality of a branch holds.
-fn step_holds(values: &[i32; 3], from: u32, to: &[u32; 64], x: usize, b: bool) -> bool
-    requires state { x < 64 }
-    requires sizes { AllWithin (2 ^ 20) values.now }
-    ensures holds { IsTrue result ↔ StepHolds values.now from to.now x b }
-    ensures rises { IsTrue result → StepRises values.now from to.now x b }
+fn step_holds(cost: u32, from: u32, to: u32) -> bool
+    ensures { IsTrue result ↔ StepHolds cost from to }
 {
-    from == UNBOUNDED || to[next(x, b)] as u64 <= from as u64 + branch(values, x, b) as u64
+    from == UNBOUNDED || to as u64 <= from as u64 + cost as u64
 }
 
 /// Whether the inequalities of both branches from a state hold.
-fn both_hold(values: &[i32; 3], from: u32, to: &[u32; 64], x: usize) -> bool
-    requires state { x < 64 }
-    requires sizes { AllWithin (2 ^ 20) values.now }
-    ensures holds { IsTrue result ↔ BothHold values.now from to.now x }
-    ensures rises { IsTrue result → BothRise values.now from to.now x }
+fn both_hold(costs: &StepCosts, from: u32, to: &[u32; 64], x: usize) -> bool
+    requires { x < 64 }
+    ensures { IsTrue result ↔ BothHold costs.now from to.now x }
 {
-    step_holds(values, from, to, x, false) && step_holds(values, from, to, x, true)
+    step_holds(costs[x], from, to[next(x, false)])
+        && step_holds(costs[STATES + x], from, to[next(x, true)])
 }
 
 /// Whether the inequalities of all branches of a step hold.
-fn row_holds(values: &[i32; 3], from: &[u32; 64], to: &[u32; 64]) -> bool
-    requires { AllWithin (2 ^ 20) values.now }
-    ensures holds { IsTrue result ↔ RowHolds values.now from.now to.now }
-    ensures rises { IsTrue result → RowRises values.now from.now to.now }
+fn row_holds(costs: &StepCosts, from: &[u32; 64], to: &[u32; 64]) -> bool
+    ensures { IsTrue result ↔ RowHolds costs.now from.now to.now }
 {
     for x in 0..STATES {
-        if !both_hold(values, from[x], to, x) {
+        if !both_hold(costs, from[x], to, x) {
             return false;
         }
     }
     true
 }
 
-/// The bounds before the first step: only the start state is reached.
-fn first_row(start: usize) -> [u32; 64]
-    requires { start < 64 }
-    ensures { (x : ℕ) → x < 64 → slice_index result x ≡ bound [] start 0 x }
+/// Whether the inequalities of all steps of a table hold, from the bounds of no step on.
+fn steps_hold(costs: &[StepCosts; 40], first: &[u32; 64], table: &Table) -> bool
+    ensures { (values : List (List ℤ)) (start : ℕ → ℕ) → HaveCosts values costs.now 40 →
+        ((x : ℕ) → x < 64 → slice_index first.now x ≡ start x) →
+        (IsTrue result ↔ StepsHold values start table.now) }
 {
-    let mut row = [UNBOUNDED; 64];
-    row[start] = 0;
-    row
-}
-
-/// Whether the table of a start state holds, and bounds its end by the cost.
-fn table_holds(values: &[[i32; 3]; 40], cost: u32, start: usize, table: &[[u32; 64]; 40]) -> bool
-    requires start { start < 64 }
-    requires sizes { RowsWithin (2 ^ 20) values.now }
-    ensures holds { IsTrue result ↔ TableHolds values.now cost start table.now }
-    ensures rises { IsTrue result → TableRises values.now cost start table.now }
-{
-    let mut from = first_row(start);
+    let mut from = *first;
     for i in 0..STEPS {
-        if !row_holds(&values[i], &from, &table[i]) {
+        if !row_holds(&costs[i], &from, &table[i]) {
             return false;
         }
         from = table[i];
     }
-    cost <= from[start]
+    true
 }
 
-/// Whether the tables of all start states do.
-fn tables_hold(values: &[[i32; 3]; 40], cost: u32, tables: &[[[u32; 64]; 40]]) -> bool
-    requires sizes { RowsWithin (2 ^ 20) values.now }
-    requires starts { length tables.now ≡ 64 }
-    ensures holds { IsTrue result ↔ ((s : ℕ) → s < 64 →
-        TableHolds values.now cost s (slice_index_or tables.now s [])) }
-    ensures rises { IsTrue result → ((s : ℕ) → s < 64 →
-        TableRises values.now cost s (slice_index_or tables.now s [])) }
+/// The bounds of no step from the state s.
+fn row_from(s: usize) -> [u32; 64]
+    requires { s < 64 }
+    ensures { (x : ℕ) → x < 64 → slice_index result x ≡ from_state s x }
+{
+    let mut row = [UNBOUNDED; 64];
+    row[s] = 0;
+    row
+}
+
+/// Whether the cost bounds every path from a state back to it.
+fn start_holds(
+    costs: &[StepCosts; 40],
+    cost: u32,
+    general: &Table,
+    set: &Bits<64>,
+    tables: &[Table],
+    s: usize,
+) -> bool
+    requires state { s < 64 }
+    requires room { length tables.now ≡ 64 }
+    ensures { (values : List (List ℤ)) → HaveCosts values costs.now 40 →
+        (IsTrue result ↔ StartHolds values cost general.now s (shown_at set.now tables.now s)) }
+{
+    if has(set, s) {
+        steps_hold(costs, &row_from(s), &tables[s]) && cost <= tables[s][STEPS - 1][s]
+    } else {
+        cost <= general[STEPS - 1][s]
+    }
+}
+
+/// Whether it does so for all states.
+fn starts_hold(
+    costs: &[StepCosts; 40],
+    cost: u32,
+    general: &Table,
+    set: &Bits<64>,
+    tables: &[Table],
+) -> bool
+    requires { length tables.now ≡ 64 }
+    ensures { (values : List (List ℤ)) → HaveCosts values costs.now 40 → (IsTrue result ↔
+        ((s : ℕ) → s < 64 → StartHolds values cost general.now s (shown_at set.now tables.now s))) }
 {
     for s in 0..STATES {
-        if !table_holds(values, cost, s, &tables[s]) {
+        if !start_holds(costs, cost, general, set, tables, s) {
             return false;
         }
     }
     true
+}
+
+/// Whether the general table and all start states hold.
+fn tables_hold(
+    values: &[[i32; 3]; 40],
+    cost: u32,
+    general: &Table,
+    set: &Bits<64>,
+    tables: &[Table],
+) -> bool
+    requires sizes { RowsWithin (2 ^ 20) values.now }
+    requires room { length tables.now ≡ 64 }
+    ensures { IsTrue result ↔ (StepsHold values.now from_any general.now × ((s : ℕ) → s < 64 →
+        StartHolds values.now cost general.now s (shown_at set.now tables.now s))) }
+{
+    let costs = step_costs(values);
+    steps_hold(&costs, &[0; STATES], general) && starts_hold(&costs, cost, general, set, tables)
 }
 
 /// The cost of a word.
@@ -110,13 +148,20 @@ fn cost_of(values: &[[i32; 3]; 40], word: &Bits<40>) -> u32
     cost
 }
 
-/// Whether a certificate is accepted: the stated cost is the word's, each entry of a table that bounds
-/// something is exceeded in the next step by no more than the branch costs, and each table bounds the end
-/// in its start state by the cost. If so, no word of 40 bits costs less than the stated cost.
+/// Whether a certificate is accepted: the stated cost is the word's, each bound of a table that bounds
+/// something is exceeded in the next step by no more than the branch costs, and for each start state the
+/// cost is at most the bound of 40 steps back to it, by the table of that state, where there is one, and
+/// else by the general one. If so, no word of 40 bits costs less than the stated cost.
 pub fn check(certificate: &Certificate) -> bool
     ensures accepted { IsTrue result ↔ IsAccepted certificate.now }
     ensures least { IsTrue result → IsLowerBound certificate.now.values certificate.now.cost }
 {
     cost_of(&certificate.values, &certificate.word) == certificate.cost
-        && tables_hold(&certificate.values, certificate.cost, &certificate.tables)
+        && tables_hold(
+            &certificate.values,
+            certificate.cost,
+            &certificate.general,
+            &certificate.set,
+            &certificate.tables,
+        )
 }

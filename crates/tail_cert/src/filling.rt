@@ -1,14 +1,19 @@
 //! How a certificate is filled.
 
-ghost use Rattle.std.specs.Prelude.{◌≡◌, ◌+◌, ◌*◌, ◌^◌, ◌<◌, ◌≤◌, ℕ, [], length, slice_index, slice_index_or};
+ghost use Rattle.std.specs.Prelude.{◌≡◌, ◌*◌, ◌^◌, ◌<◌, ◌≤◌, ℕ, [], List, Some, ℤ, length, nat_lt, slice_index, slice_index_or};
 ghost use Rattle.finite.specs.Sizes.{RowsWithin};
-ghost use Rattle.conv_code.specs.Cost.{word_cost};
+ghost use Rattle.tail_cert.specs.Costs.{HaveCosts};
 ghost use Rattle.tailbite.specs.LeastWord.{IsLeastWord};
-ghost use Rattle.tail_cert.specs.Certificate.{Counted, IsAccepted, IsLowerBound, IsRow, IsTable, TableHolds};
-ghost use Rattle.tail_cert.specs.Forward.{HasLeastRows, IsStartRow};
+ghost use Rattle.tail_cert.specs.Certificate.{Counted, IsAccepted, IsLowerBound, IsTable, StartHolds, bound, from_any};
+ghost use Rattle.tail_cert.specs.Forward.{HasLeastRows, IsFilled, IsStartRow};
+ghost use Rattle.tail_cert.specs.Steps.{AreSomeCosts};
+ghost use Rattle.tail_cert.specs.Stored.{is_in};
 
 use crate::Certificate;
-use tailbite::{Trellis, forward_row, least};
+use crate::certificate::Table;
+use crate::costs::{StepCosts, later_row, step_costs};
+use cs_bits::Bits;
+use tailbite::{Trellis, least};
 
 const STATES: usize = 64;
 
@@ -17,16 +22,17 @@ const STEPS: usize = 40;
 /// More than the cost of every word.
 const FAR: u32 = 0x4000_0000;
 
-/// Fills the rows of least costs after each step.
-fn fill_table(values: &[[i32; 3]; 40], start: &[u32; 64], table: &mut [[u32; 64]; 40])
-    requires sizes { RowsWithin (2 ^ 20) values.now }
+/// Fills a table with the least costs after each step, from starts that cost what the row says.
+fn fill_table(costs: &[StepCosts; 40], start: &[u32; 64], table: &mut Table)
+    requires costs { AreSomeCosts costs.now }
     requires room { (y : ℕ) → y < 64 → slice_index start.now y ≤ 2 ^ 30 }
-    ensures rows { HasLeastRows values.now start.now table.new 40 }
+    ensures rows { (values : List (List ℤ)) → HaveCosts values costs.now 40 →
+        HasLeastRows values start.now table.new 40 }
     ensures size { length table.new ≡ 40 }
 {
     let mut row = *start;
     for k in 0..STEPS {
-        row = forward_row(&values[k], &row);
+        row = later_row(&costs[k], &row);
         table[k] = row;
     }
 }
@@ -43,29 +49,41 @@ fn start_at(s: usize) -> [u32; 64]
 }
 
 /// Fills the table of the start state s.
-fn fill_start(values: &[[i32; 3]; 40], cost: u32, s: usize, table: &mut [[u32; 64]; 40])
+fn fill_start(costs: &[StepCosts; 40], s: usize, table: &mut Table)
     requires state { s < 64 }
-    requires sizes { RowsWithin (2 ^ 20) values.now }
-    requires cost { cost ≤ 2 ^ 30 }
-    requires least { IsLowerBound values.now cost }
-    ensures holds { TableHolds values.now cost s table.new }
+    requires costs { AreSomeCosts costs.now }
+    ensures bounds { (values : List (List ℤ)) (cost : ℕ) → HaveCosts values costs.now 40 → length values ≡ 40 →
+        IsLowerBound values cost → cost ≤ 2 ^ 30 → StartHolds values cost [] s (Some table.new) }
     ensures whole { IsTable table.new }
 {
-    fill_table(values, &start_at(s), table);
+    fill_table(costs, &start_at(s), table);
 }
 
-/// Fills the tables of all start states.
-fn fill_tables(values: &[[i32; 3]; 40], cost: u32, tables: &mut [[[u32; 64]; 40]])
-    requires sizes { RowsWithin (2 ^ 20) values.now }
-    requires cost { cost ≤ 2 ^ 30 }
-    requires least { IsLowerBound values.now cost }
-    requires starts { length tables.old ≡ 64 }
-    ensures holds { (s : ℕ) → s < 64 → TableHolds values.now cost s (slice_index_or tables.new s []) }
+/// Fills the tables of the start states whose bound in the general table, of all steps back to them, is below
+/// the cost, and gives the set of these.
+fn fill_tables(
+    costs: &[StepCosts; 40],
+    cost: u32,
+    general: &Table,
+    tables: &mut [Table],
+) -> Bits<64>
+    requires costs { AreSomeCosts costs.now }
+    requires room { Counted 64 IsTable tables.old }
+    ensures needed { (s : ℕ) → s < 64 → is_in result s ≡ nat_lt (bound from_any general.now 40 s) cost }
+    ensures bounds { (values : List (List ℤ)) → HaveCosts values costs.now 40 → length values ≡ 40 →
+        IsLowerBound values cost → cost ≤ 2 ^ 30 → (s : ℕ) → s < 64 → bound from_any general.now 40 s < cost →
+        StartHolds values cost [] s (Some (slice_index_or tables.new s [])) }
+    ensures states { length result ≡ 64 }
     ensures whole { Counted 64 IsTable tables.new }
 {
+    let mut set = [false; 64];
     for s in 0..STATES {
-        fill_start(values, cost, s, &mut tables[s]);
+        if general[STEPS - 1][s] < cost {
+            fill_start(costs, s, &mut tables[s]);
+            set[63 - s] = true;
+        }
     }
+    Bits::new(set)
 }
 
 /// The three values of a place.
@@ -88,17 +106,21 @@ fn copy_of(values: &[[i32; 3]; 40]) -> [[i32; 3]; 40]
     copy
 }
 
-/// Fills a certificate with values of size at most 2,032, three for each place, their least word and its
-/// cost, and tables that show that no word costs less. The certificate is then accepted.
+/// Fills a certificate with values of size at most 2,032, three for each place, their least word, its cost,
+/// the general table of least costs of so many steps from any state, and a table of each start state whose
+/// bound there, of 40 steps back to it, is below the cost. The certificate is then accepted.
 pub fn fill(certificate: &mut Certificate, values: &[[i32; 3]; 40], work: &mut Trellis)
     requires { RowsWithin 2032 values.now }
     ensures accepted { IsAccepted certificate.new }
     ensures values { certificate.new.values ≡ values.now }
     ensures word { IsLeastWord values.now certificate.new.word }
+    ensures filled { IsFilled certificate.new }
 {
     let (word, cost) = least(values, work);
     let copied = copy_of(values);
-    fill_tables(values, cost, &mut certificate.tables);
+    let costs = step_costs(values);
+    fill_table(&costs, &[0; STATES], &mut certificate.general);
+    certificate.set = fill_tables(&costs, cost, &certificate.general, &mut certificate.tables);
     certificate.values = copied;
     certificate.word = word;
     certificate.cost = cost;

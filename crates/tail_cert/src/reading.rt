@@ -1,11 +1,14 @@
 //! The bytes of a certificate, read.
 
-ghost use Rattle.std.specs.Prelude.{◌≡◌, ◌+◌, ◌*◌, ◌%◌, ◌^◌, ◌<◌, ◌≤◌, ◌↔◌, ℕ, All, IfSome, IfOk, IsErr, IsErrOf, IsNone, IsOk, IsTrue, List, drop, length, nat_abs, take};
+ghost use Rattle.std.specs.Prelude.{◌≡◌, ◌+◌, ◌*◌, ◌%◌, ◌^◌, ◌<◌, ◌≤◌, ◌↔◌, ◌⊎◌, ℕ, IfSome, IfOk, IsErr, IsErrOf, IsNone, IsOk, IsTrue, List, cond, drop, length, nat_abs, take};
 ghost use Rattle.std.specs.List.{flat_map};
+ghost use Rattle.finite.specs.Sums.{total_below};
 ghost use Rattle.tail_cert.specs.Certificate.{Counted, Held, IsRow, IsTable, IsTriple, IsWhole};
-ghost use Rattle.tail_cert.specs.Form.{count, Breaks, IsEarlyEnd, IsFirstBreak, IsLargeValue, IsOffMark, bytes_of, entry_bytes, place_bytes, row_bytes, table_bytes, value_at, value_bytes, word_bytes};
+ghost use Rattle.tail_cert.specs.Form.{Breaks, IsFirstBreak, IsFirstBreakUpTo, IsLargeValue, IsOffMark, IsUnbrokenUpTo, bytes_of, count_of, entry_bytes, head_count, maybe_bytes, most_count, place_bytes, row_bytes, set_bytes, table_bytes, table_count, tells_table, value_at, value_bytes, word_bytes};
+ghost use Rattle.tail_cert.specs.Stored.{is_in, shown};
 
-use crate::{CERTIFICATE_BYTES, Certificate};
+use crate::certificate::{Table, has, length_with};
+use crate::{Certificate, FRONT_BYTES, HEAD_BYTES, SET_PLACE, TABLE_BYTES};
 use byteorder::{BigEndian, ByteOrder, LittleEndian};
 use cs_bits::Bits;
 use thiserror::Error;
@@ -19,7 +22,7 @@ pub struct BadCertificate {
     pub place: u64,
 }
 
-const MARK: [u8; 4] = [0x4c, 0x54, 0x43, 0x31];
+const MARK: [u8; 4] = [0x4c, 0x54, 0x43, 0x32];
 
 /// Whether the byte at a place is another than the mark's.
 fn is_off_mark(bytes: &[u8], p: usize) -> bool
@@ -39,36 +42,38 @@ fn get_value(bytes: &[u8], at: usize) -> i32
 
 /// Whether a value of size above 2,032 begins at a place.
 fn is_large_value(bytes: &[u8], p: usize) -> bool
-    requires { length bytes.now ≤ count }
     ensures { IsTrue result ↔ IsLargeValue bytes.now p }
 {
     4 <= p
-        && p < 244
+        && p < FRONT_BYTES
         && p % 2 == 0
-        && p + 2 <= bytes.len()
+        && p + 1 < bytes.len()
         && get_value(bytes, p).unsigned_abs() > 2032
 }
 
-/// Whether the form is broken at a place.
-fn breaks(bytes: &[u8], p: usize) -> bool
-    requires { length bytes.now ≤ count }
-    ensures { IsTrue result ↔ Breaks bytes.now p }
+/// Whether the mark or a value breaks the form at a place.
+fn spoils(bytes: &[u8], p: usize) -> bool
+    ensures { IsTrue result ↔ (IsOffMark bytes.now p ⊎ IsLargeValue bytes.now p) }
 {
-    is_off_mark(bytes, p) || is_large_value(bytes, p) || (p == bytes.len() && p < CERTIFICATE_BYTES)
+    is_off_mark(bytes, p) || is_large_value(bytes, p)
 }
 
-/// The first place where the form is broken.
-fn first_break(bytes: &[u8]) -> Option<usize>
-    requires { length bytes.now ≤ count }
-    ensures some { IfSome result (λ p. IsFirstBreak bytes.now p) }
-    ensures none { IsNone result → ((p : ℕ) → Breaks bytes.now p → ⊥) }
+/// The first place where the form of so many bytes is broken: only the mark and the values can break it, and
+/// an early end.
+fn first_break(bytes: &[u8], count: usize) -> Option<usize>
+    ensures some { IfSome result (λ p. IsFirstBreakUpTo count bytes.now p) }
+    ensures none { IsNone result → IsUnbrokenUpTo count bytes.now }
 {
-    for p in 0..bytes.len() + 1 {
-        if breaks(bytes, p) {
+    for p in 0..bytes.len().min(FRONT_BYTES) {
+        if spoils(bytes, p) {
             return Some(p);
         }
     }
-    None
+    if bytes.len() < count {
+        Some(bytes.len())
+    } else {
+        None
+    }
 }
 
 /// Reads the values of a place.
@@ -112,8 +117,8 @@ fn get_row(bytes: &[u8], at: usize, row: &mut [u32; 64])
     LittleEndian::read_u32_into(&bytes[at..at + 256], row);
 }
 
-/// Reads the entries of a start state.
-fn get_table(bytes: &[u8], at: usize, table: &mut [[u32; 64]; 40])
+/// Reads the entries of a table.
+fn get_table(bytes: &[u8], at: usize, table: &mut Table)
     requires { at + 10240 ≤ length bytes.now }
     ensures bytes { table_bytes table.new ≡ take 10240 (drop at bytes.now) }
     ensures table { IsTable table.new }
@@ -123,15 +128,39 @@ fn get_table(bytes: &[u8], at: usize, table: &mut [[u32; 64]; 40])
     }
 }
 
-/// Reads the entries of all start states.
-fn get_tables(bytes: &[u8], at: usize, tables: &mut [[[u32; 64]; 40]])
-    requires starts { length tables.old ≡ 64 }
-    requires room { at + 655360 ≤ length bytes.now }
-    ensures bytes { flat_map table_bytes tables.new ≡ take 655360 (drop at bytes.now) }
+/// Reads the set of the start states that have a table.
+fn get_set(bytes: &[u8]) -> Bits<64>
+    requires { head_count ≤ length bytes.now }
+    ensures states { (s : ℕ) → s < 64 → is_in result s ≡ tells_table bytes.now s }
+    ensures bytes { (tables : List (List (List ℕ))) →
+        set_bytes (shown result tables) ≡ take 8 (drop 10493 bytes.now) }
+    ensures size { length result ≡ 64 }
+{
+    Bits::of_number(LittleEndian::read_u64(&bytes[SET_PLACE..]))
+}
+
+/// How many bytes the certificate has that these bytes begin.
+fn whole_length(bytes: &[u8]) -> usize
+    requires { head_count ≤ length bytes.now }
+    ensures count { result ≡ count_of bytes.now }
+    ensures least { head_count ≤ result }
+{
+    length_with(&get_set(bytes))
+}
+
+/// Reads the tables of the start states of a set.
+fn get_tables(bytes: &[u8], at: usize, set: &Bits<64>, tables: &mut [Table])
+    requires room { Counted 64 IsTable tables.old }
+    requires size { at + table_count * total_below 64 (λ s. cond (is_in set.now s) 1 0) ≡ length bytes.now }
+    ensures bytes { flat_map maybe_bytes (shown set.now tables.new) ≡ drop at bytes.now }
     ensures tables { Counted 64 IsTable tables.new }
 {
+    let mut place = at;
     for s in 0..64 {
-        get_table(bytes, at + 10240 * s, &mut tables[s]);
+        if has(set, s) {
+            get_table(bytes, place, &mut tables[s]);
+            place += TABLE_BYTES;
+        }
     }
 }
 
@@ -147,29 +176,62 @@ fn get_word(bytes: &[u8], at: usize) -> Bits<40>
 /// Reads a whole certificate whose form is not broken.
 fn get_all(bytes: &[u8], into: &mut Certificate)
     requires unbroken { (p : ℕ) → Breaks bytes.now p → ⊥ }
-    requires size { length bytes.now ≤ count }
+    requires size { length bytes.now ≤ count_of bytes.now }
     ensures bytes { bytes.now ≡ bytes_of into.new }
-    ensures whole { IsWhole into.new.values into.new.word into.new.cost into.new.tables }
+    ensures whole { IsWhole into.new }
 {
     get_values(bytes, &mut into.values);
     into.word = get_word(bytes, 244);
     into.cost = get_entry(bytes, 249);
-    get_tables(bytes, 253, &mut into.tables);
+    get_table(bytes, 253, &mut into.general);
+    into.set = get_set(bytes);
+    get_tables(bytes, HEAD_BYTES, &into.set, &mut into.tables);
 }
 
-/// Reads a certificate from its 655,613 bytes. A wrong one of the first four bytes, a value of size above
-/// 2,032 and an early end break the form; then the answer is the first place, and `into` is unchanged.
+/// How many bytes the certificate has whose first 10,501 bytes these are. A wrong one of the first four
+/// bytes, a value of size above 2,032 and an early end break their form; then the answer is the first place.
+pub fn head(bytes: &[u8]) -> Result<usize, BadCertificate>
+    requires { length bytes.now ≤ head_count }
+    ensures ok { IfOk result (λ count. count ≡ count_of bytes.now) }
+    ensures unbroken { IsOk result ↔ IsUnbrokenUpTo head_count bytes.now }
+    ensures refused { (place : ℕ) →
+        IsErrOf result (record { place = place }) ↔ IsFirstBreakUpTo head_count bytes.now place }
+{
+    match first_break(bytes, HEAD_BYTES) {
+        Some(place) => Err(BadCertificate {
+            place: place as u64,
+        }),
+        None => Ok(whole_length(bytes)),
+    }
+}
+
+/// The first place where the form of a whole certificate is broken.
+fn first_break_of_whole(bytes: &[u8]) -> Option<usize>
+    ensures some { IfSome result (λ p. IsFirstBreak bytes.now p) }
+    ensures none { IsNone result → ((p : ℕ) → Breaks bytes.now p → ⊥) }
+{
+    match first_break(bytes, HEAD_BYTES) {
+        Some(place) => Some(place),
+        None if bytes.len() < whole_length(bytes) => Some(bytes.len()),
+        None => None,
+    }
+}
+
+/// Reads a certificate from its bytes, which are at most 665,861, and no more than the certificate has by its
+/// first 10,501 where these are there and do not break the form. A wrong one of the first four bytes, a value
+/// of size above 2,032 and an early end break the form; then the answer is the first place, and `into` is
+/// unchanged.
 pub fn parse(bytes: &[u8], into: &mut Certificate) -> Result<(), BadCertificate>
-    requires { length bytes.now ≤ count }
+    requires most { length bytes.now ≤ most_count }
+    requires fits { IsUnbrokenUpTo head_count bytes.now → length bytes.now ≤ count_of bytes.now }
     ensures ok { IfOk result (λ _. bytes.now ≡ bytes_of into.new) }
-    ensures whole { IfOk result (λ _. IsWhole into.new.values into.new.word into.new.cost into.new.tables) }
+    ensures whole { IfOk result (λ _. IsWhole into.new) }
     ensures refused { (place : ℕ) →
         IsErrOf result (record { place = place }) ↔ IsFirstBreak bytes.now place }
     ensures unchanged { IsErr result → into.new ≡ into.old }
-    ensures same { (c : Held) → IsWhole c.values c.word c.cost c.tables → bytes.now ≡ bytes_of c →
-        IsOk result × (into.new ≡ c) }
+    ensures same { (c : Held) → IsWhole c → bytes.now ≡ bytes_of c → IsOk result × (into.new ≡ c) }
 {
-    match first_break(bytes) {
+    match first_break_of_whole(bytes) {
         Some(place) => Err(BadCertificate {
             place: place as u64,
         }),

@@ -1,12 +1,15 @@
 //! The bytes of a certificate, written.
 
-ghost use Rattle.std.specs.Prelude.{◌≡◌, ◌+◌, ◌*◌, ◌^◌, ◌<◌, ◌≤◌, Bool, cond, length, pos, slice_index_or};
+ghost use Rattle.std.specs.Prelude.{◌≡◌, ℕ, ◌+◌, ◌*◌, ◌^◌, ◌<◌, ◌≤◌, Bool, List, cond, length, pos, slice_index_or};
 ghost use Rattle.std.specs.List.{flat_map};
 ghost use Rattle.finite.specs.Sizes.{AllWithin, RowsWithin};
-ghost use Rattle.tail_cert.specs.Certificate.{IsWhole};
-ghost use Rattle.tail_cert.specs.Form.{count, bytes_of, entry_bytes, mark, place_bytes, row_bytes, table_bytes, value_bytes, with_piece, word_bytes};
+ghost use Rattle.finite.specs.Sums.{total_below};
+ghost use Rattle.tail_cert.specs.Certificate.{IsWhole, tables_there};
+ghost use Rattle.tail_cert.specs.Form.{bytes_of, entry_bytes, head_count, mark, maybe_bytes, place_bytes, row_bytes, set_bytes, table_bytes, table_count, value_bytes, with_piece, word_bytes};
+ghost use Rattle.tail_cert.specs.Stored.{is_in, shown};
 
-use crate::Certificate;
+use crate::certificate::{Table, has};
+use crate::{Certificate, HEAD_BYTES, SET_PLACE, TABLE_BYTES};
 use byteorder::{BigEndian, ByteOrder, LittleEndian};
 use cs_bits::{Bits, number_of};
 
@@ -15,7 +18,7 @@ fn put_mark(out: &mut [u8])
     requires { 4 ≤ length out.old }
     ensures { out.new ≡ with_piece 0 mark out.old }
 {
-    out[..4].copy_from_slice(b"LTC1");
+    out[..4].copy_from_slice(b"LTC2");
 }
 
 /// Writes value t of a place.
@@ -72,7 +75,7 @@ fn put_row(row: &[u32; 64], at: usize, out: &mut [u8])
 }
 
 /// Writes the entries of a start state.
-fn put_table(table: &[[u32; 64]; 40], at: usize, out: &mut [u8])
+fn put_table(table: &Table, at: usize, out: &mut [u8])
     requires { at + 10240 ≤ length out.old }
     ensures bytes { out.new ≡ with_piece at (table_bytes table.now) out.old }
     ensures count { length (table_bytes table.now) ≡ 10240 }
@@ -82,15 +85,31 @@ fn put_table(table: &[[u32; 64]; 40], at: usize, out: &mut [u8])
     }
 }
 
-/// Writes the entries of all start states.
-fn put_tables(tables: &[[[u32; 64]; 40]], at: usize, out: &mut [u8])
-    requires starts { length tables.now ≡ 64 }
-    requires room { at + 655360 ≤ length out.old }
-    ensures bytes { out.new ≡ with_piece at (flat_map table_bytes tables.now) out.old }
-    ensures count { length (flat_map table_bytes tables.now) ≡ 655360 }
+/// Writes the set of the start states that have a table.
+fn put_set(set: &Bits<64>, at: usize, out: &mut [u8])
+    requires states { length set.now ≡ 64 }
+    requires room { at + 8 ≤ length out.old }
+    ensures bytes { (tables : List (List (List ℕ))) →
+        out.new ≡ with_piece at (set_bytes (shown set.now tables)) out.old }
+    ensures count { (tables : List (List (List ℕ))) → length (set_bytes (shown set.now tables)) ≡ 8 }
 {
+    LittleEndian::write_u64(&mut out[at..], number_of(set.slice()));
+}
+
+/// Writes the tables of the start states of a set.
+fn put_tables(set: &Bits<64>, tables: &[Table], at: usize, out: &mut [u8])
+    requires starts { length tables.now ≡ 64 }
+    requires room { at + table_count * total_below 64 (λ s. cond (is_in set.now s) 1 0) ≤ length out.old }
+    ensures bytes { out.new ≡ with_piece at (flat_map maybe_bytes (shown set.now tables.now)) out.old }
+    ensures count { length (flat_map maybe_bytes (shown set.now tables.now)) ≡
+        table_count * total_below 64 (λ s. cond (is_in set.now s) 1 0) }
+{
+    let mut place = at;
     for s in 0..64 {
-        put_table(&tables[s], at + 10240 * s, out);
+        if has(set, s) {
+            put_table(&tables[s], place, out);
+            place += TABLE_BYTES;
+        }
     }
 }
 
@@ -103,15 +122,17 @@ fn put_word(word: &Bits<40>, at: usize, out: &mut [u8])
     BigEndian::write_uint(&mut out[at..], number_of(word.slice()), 5);
 }
 
-/// Writes the 655,613 bytes of a certificate.
+/// Writes the bytes of a certificate, for which `out` has as many places as `length` says.
 pub fn to_bytes(certificate: &Certificate, out: &mut [u8])
-    requires { length out.old ≡ count }
+    requires { length out.old ≡ head_count + table_count * tables_there certificate.now.tables }
     ensures bytes { out.new ≡ bytes_of certificate.now }
-    ensures whole { IsWhole certificate.now.values certificate.now.word certificate.now.cost certificate.now.tables }
+    ensures whole { IsWhole certificate.now }
 {
     put_mark(out);
     put_values(&certificate.values, 4, out);
     put_word(&certificate.word, 244, out);
     put_entry(certificate.cost, 249, out);
-    put_tables(&certificate.tables, 253, out);
+    put_table(&certificate.general, 253, out);
+    put_set(&certificate.set, SET_PLACE, out);
+    put_tables(&certificate.set, &certificate.tables, HEAD_BYTES, out);
 }

@@ -1,16 +1,15 @@
-use Rattle.std.proofs.Common.{◌∙◌, ap, length, arith}
-use Rattle.cert_stream.proofs.Buffer.{written_back}
-use Rattle.cert_stream.proofs.Certified.{certifies_filled}
+use Rattle.std.proofs.Common.{◌≡◌, ◌∙◌, ap, take, arith, length}
+use Rattle.cert_stream.proofs.Certified.{certifies_filled, written_back}
 use Rattle.cert_stream.proofs.certifying.make.Goals as goal
 
-pub returns : goal.returns
-returns c =
-    let same = c.to_bytes.auto.out in
+pub returns-clause-bytes : goal.returns-clause-bytes
+returns-clause-bytes c =
     let size = ap length c.deref_mut.ensures.value in
     let all = c.deref_mut.ensures.len in
     record {
       certificate = c.fill.new.certificate;
-      certifies = certifies_filled _ _ c.fill.new.certificate _ c.to_bytes.ensures.whole c.fill.ensures.accepted c.fill.ensures.values
+      certifies = certifies_filled _ _ c.fill.new.certificate _ c.put.ensures.whole c.fill.ensures.accepted c.fill.ensures.filled c.fill.ensures.values
           c.values_of-values.ensures.values c.values_of-values.ensures.master c.fill.ensures.word;
-      bytes_are = written_back c.to_bytes.new.out c.args.work.now.buffer.items c.args.work.now.buffer.len (omega (arith, same, size, all)) (omega (arith, size, all)) ∙ c.to_bytes.ensures.bytes;
+      bytes_are = ap (take c.put.result) (written_back c.put.new.buffer c.args.work.now.buffer.items c.args.work.now.buffer.len
+          (omega (arith, c.put.ensures.size, size, all)) (omega (arith, size, all))) ∙ c.put.ensures.bytes;
     }

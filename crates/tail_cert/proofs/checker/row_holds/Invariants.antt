@@ -1,7 +1,6 @@
 use Rattle.std.proofs.Common.{ℕ, ◌<◌, get_or}
-use Rattle.tail_cert.specs.Steps.{BothHold, BothRise}
+use Rattle.tail_cert.specs.Steps.{BothHold}
 use Rattle.tail_cert.proofs.checker.row_holds.Given as goal
 
 abbrev pub invariant-loop-x : goal.invariant-loop-x
-invariant-loop-x l = ((k : ℕ) → k < l.x → BothHold l.values (get_or l.from k 0) l.to k) ×
-    ((k : ℕ) → k < l.x → BothRise l.values (get_or l.from k 0) l.to k)
+invariant-loop-x l = (k : ℕ) → k < l.x → BothHold l.costs (get_or l.from k 0) l.to k

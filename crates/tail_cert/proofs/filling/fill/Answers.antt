@@ -1,20 +1,20 @@
-use Rattle.std.proofs.Common.{◌≡◌, length, [], ◌∙◌, arith, take, drop, ◌++◌}
-use Rattle.std.proofs.lemmas.List.{get_or_default, take_at}
+use Rattle.std.proofs.Common.{ℕ, ◌≡◌, length, [], ◌∙◌, arith, take, drop, ◌++◌}
+use Rattle.std.proofs.lemmas.List.{get_or_default, get_or-replicate, take_at}
 use Rattle.conv_code.proofs.Costs.{word_cost-le}
+use Rattle.tail_cert.proofs.Filled.{filled}
+use Rattle.tail_cert.proofs.Rows.{rows_fit}
 use Rattle.tail_cert.proofs.filling.fill.Goals as goal
 
-pub fill_tables-requires-clause-cost : goal.fill_tables-requires-clause-cost
-fill_tables-requires-clause-cost c =
-    let h = word_cost-le 2032 c.args.values.now c.least-word.result.0 c.requires in
-    omega (arith, h, c.least-word.ensures.cost, c.told-values)
+pub fill_table-requires-clause-room : goal.fill_table-requires-clause-room
+fill_table-requires-clause-room c = λ y below. let z = get_or-replicate {A = ℕ} 64 y 0 0 below in omega (arith, z)
 
 pub invariant_of-certificate : goal.invariant_of-certificate
 invariant_of-certificate c =
     let h = word_cost-le 2032 c.args.values.now c.least-word.result.0 c.requires in
     let e : c.copy_of-copied.result ≡ c.args.values.now = c.copy_of-copied.ensures.same in
     let size : length c.copy_of-copied.result ≡ 40 = rw e c.told-values in
-    let kept : take c.certificate.inside.tables.len (c.fill_tables.new.tables ++ drop (length c.fill_tables.new.tables) c.certificate.inside.tables.items) ≡ c.fill_tables.new.tables =
-    take_at _ _ _ (c.fill_tables.ensures.whole.count ∙ (omega (arith, c.certificate.invariant.starts.count, c.certificate.inside.tables.ok))) in
+    let kept : take c.certificate.inside.tables.len (c.fill_tables-certificate-inside.new.tables ++ drop (length c.fill_tables-certificate-inside.new.tables) c.certificate.inside.tables.items) ≡ c.fill_tables-certificate-inside.new.tables =
+    take_at _ _ _ (c.fill_tables-certificate-inside.ensures.whole.count ∙ (omega (arith, c.certificate.invariant.room.count, c.certificate.inside.tables.ok))) in
     record {
       places = record {
         count = size;
@@ -25,5 +25,21 @@ invariant_of-certificate c =
       };
       bits = c.least-word.ensures.word.size ∙ c.told-values;
       fits = omega (arith, h, c.least-word.ensures.cost, c.told-values);
-      starts = rw kept c.fill_tables.ensures.whole;
+      general_is = rows_fit c.args.values.now _ _ c.fill_table.ensures.size (c.fill_table.ensures.rows c.args.values.now c.step_costs-costs.ensures);
+      states = c.fill_tables-certificate-inside.ensures.states;
+      room = rw kept c.fill_tables-certificate-inside.ensures.whole;
     }
+
+pub returns-clause-accepted : goal.returns-clause-accepted
+returns-clause-accepted c =
+    let size = c.fill_tables-certificate-inside.ensures.whole.count ∙ (omega (arith, c.certificate.invariant.room.count, c.certificate.inside.tables.ok)) in
+    (filled c.args.values.now _ _ _ _ _ _ _ c.copy_of-copied.ensures.same (take_at c.fill_tables-certificate-inside.new.tables _ _ size) c.requires c.told-values c.least-word.ensures.word c.least-word.ensures.cost
+    (c.fill_table.ensures.rows c.args.values.now c.step_costs-costs.ensures) c.fill_tables-certificate-inside.ensures.needed
+    (c.fill_tables-certificate-inside.ensures.bounds c.args.values.now c.step_costs-costs.ensures)).0
+
+pub returns-clause-filled : goal.returns-clause-filled
+returns-clause-filled c =
+    let size = c.fill_tables-certificate-inside.ensures.whole.count ∙ (omega (arith, c.certificate.invariant.room.count, c.certificate.inside.tables.ok)) in
+    (filled c.args.values.now _ _ _ _ _ _ _ c.copy_of-copied.ensures.same (take_at c.fill_tables-certificate-inside.new.tables _ _ size) c.requires c.told-values c.least-word.ensures.word c.least-word.ensures.cost
+    (c.fill_table.ensures.rows c.args.values.now c.step_costs-costs.ensures) c.fill_tables-certificate-inside.ensures.needed
+    (c.fill_tables-certificate-inside.ensures.bounds c.args.values.now c.step_costs-costs.ensures)).1

@@ -1,9 +1,11 @@
+use Rattle.std.proofs.Common.{[]}
 use Rattle.tail_cert.proofs.Accept.{accepted}
 use Rattle.tail_cert.proofs.Rows.{rows_fit}
 use Rattle.tail_cert.proofs.filling.fill_start.Goals as goal
 
-pub returns-clause-holds : goal.returns-clause-holds
-returns-clause-holds c = accepted _ _ _ _ _ c.requires.state c.told-values c.start_at.ensures.start c.requires.least c.requires.cost c.fill_table.ensures.rows
+pub returns-clause-bounds : goal.returns-clause-bounds
+returns-clause-bounds c = λ values cost have places lower small.
+    accepted values cost c.args.s [] _ _ c.requires.state places c.start_at.ensures.start lower small (c.fill_table.ensures.rows values have)
 
 pub returns-clause-whole : goal.returns-clause-whole
-returns-clause-whole c = rows_fit _ _ _ c.fill_table.ensures.size c.fill_table.ensures.rows
+returns-clause-whole c = rows_fit c.requires.costs.0 _ _ c.fill_table.ensures.size (c.fill_table.ensures.rows c.requires.costs.0 c.requires.costs.1)

@@ -1,7 +1,6 @@
-use Rattle.std.proofs.Common.{ℕ, ◌<◌, get_or, []}
-use Rattle.tail_cert.specs.Certificate.{IsTable, TableHolds}
+use Rattle.std.proofs.Common.{[], get_or}
+use Rattle.tail_cert.proofs.Filled.{IsFilledTo}
 use Rattle.tail_cert.proofs.filling.fill_tables.Given as goal
 
 abbrev pub invariant-loop-s : goal.invariant-loop-s
-invariant-loop-s l = ((k : ℕ) → k < l.s → TableHolds l.values l.cost k (get_or l.tables k [])) ×
-    ((k : ℕ) → k < l.s → IsTable (get_or l.tables k []))
+invariant-loop-s l = IsFilledTo l.costs l.cost (get_or l.general 39 []) l.tables l.set l.s

@@ -1,8 +1,8 @@
-use Rattle.tail_cert.proofs.Zeros.{zeros_whole}
+use Rattle.tail_cert.proofs.Zeros.{zeros_are, zeros_stored}
 use Rattle.tail_cert.proofs.certificate.Certificate.new.Goals as goal
 
 pub invariant_of-result : goal.invariant_of-result
-invariant_of-result c = rw (c.zero_values.ensures, c.zero_word.ensures, c.in_ok-tables.ensures) zeros_whole
+invariant_of-result c = rw (c.zero_values.ensures, c.zero_word.ensures, c.zero_table.ensures, c.no_states.ensures, c.in_ok-tables.ensures) zeros_stored
 
 pub returns : goal.returns
-returns c = rw (c.zero_values.ensures, c.zero_word.ensures, c.in_ok-tables.ensures)
+returns c = rw (c.zero_values.ensures, c.zero_word.ensures, c.zero_table.ensures, c.no_states.ensures) (zeros_are c.in_ok-tables.tables.items)

@@ -1,0 +1,170 @@
+-- The tables that are filled, one start state after the other.
+use Rattle.std.proofs.Common.{◌≡◌, ◌≢◌, ℕ, suc, ◌+◌, ◌-◌, ◌^◌, ◌<◌, ◌≤◌, ◌↔◌, Bool, true, false, cond, List, [], Some, None, length, get_or, set, ℤ, sym, subst, ◌∙◌, inl, inr, arith, length-set, get_or-set_other, get_or-set_same, ap, refl}
+use Rattle.std.specs.Prelude.{IsSome, is_some, nat_lt, replicate}
+use Rattle.std.proofs.lemmas.Bool.{cases_eq, cases_lt, le-ltb, lt-ltb, ltb-true, ltb-false}
+use Rattle.std.proofs.lemmas.List.{get_or-replicate, get_or_past, length-replicate}
+use Rattle.std.proofs.Math.Path.{fun_ext}
+use Rattle.paths.specs.Least.{IsLeastTo}
+use Rattle.finite.specs.Sizes.{RowsWithin}
+use Rattle.finite.proofs.Sums.{total_below_same}
+use Rattle.conv_code.specs.Cost.{word_cost}
+use Rattle.conv_code.proofs.Costs.{word_cost-le}
+use Rattle.tail_cert.specs.Costs.{HaveCosts}
+use Rattle.tailbite.specs.LeastWord.{IsLeastWord}
+use Rattle.tailbite.specs.Machine.{shift, step_cost}
+use Rattle.tail_cert.specs.Certificate.{Counted, Held, IsAccepted, IsLowerBound, IsTable, StartHolds, bound, from_any, tables_there}
+use Rattle.tail_cert.specs.Forward.{HasLeastRows, IsFilled}
+use Rattle.tail_cert.specs.Stored.{is_in, shown}
+use Rattle.tail_cert.proofs.Accept.{steps_hold}
+use Rattle.tail_cert.proofs.Shown.{some_shown, starts_shown}
+
+-- of the states below n those with a bound below the cost are in the set, and their tables bound it
+pub record IsFilledTo (costs : List (List ℕ)) (cost : ℕ) (ends : List ℕ) (tables : List (List (List ℕ))) (states : List Bool) (n : ℕ) : Type 0 where
+  pub size : length states ≡ 64
+  pub room : Counted 64 IsTable tables
+  pub needed : (s : ℕ) → s < n → is_in states s ≡ nat_lt (get_or ends s 0) cost
+  pub later : (s : ℕ) → n ≤ s → s < 64 → is_in states s ≡ false
+  pub bounds : (values : List (List ℤ)) → HaveCosts values costs 40 → length values ≡ 40 → IsLowerBound values cost → cost ≤ 2 ^ 30 →
+      (s : ℕ) → s < n → get_or ends s 0 < cost → StartHolds values cost [] s (Some (get_or tables s []))
+
+-- a state that needs no table
+pub without : (costs : List (List ℕ)) (cost : ℕ) (ends : List ℕ) (tables : List (List (List ℕ))) (states : List Bool) (n : ℕ) →
+    IsFilledTo costs cost ends tables states n → n < 64 → cost ≤ get_or ends n 0 → IsFilledTo costs cost ends tables states (n + 1)
+without costs cost ends tables states n known below none = record {
+  size = known.size;
+  room = known.room;
+  needed = λ s h. elim (cases_lt s n) [
+    | inl l ↦ known.needed s l
+    | inr m ↦ let e : s ≡ n = omega (arith, h, m) in rw e (known.later n (omega arith) below ∙ sym (le-ltb (get_or ends n 0) cost none))
+  ];
+  later = λ s h inside. known.later s (omega (arith, h)) inside;
+  bounds = λ values have places lower small s h low. elim (cases_lt s n) [
+    | inl l ↦ known.bounds values have places lower small s l low
+    | inr m ↦ let e : s ≡ n = omega (arith, h, m) in let low' = rw e at low in absurd (omega (arith, none, low'))
+  ];
+}
+
+-- one that needs a table
+pub with_table : (costs : List (List ℕ)) (cost : ℕ) (ends : List ℕ) (tables : List (List (List ℕ))) (states : List Bool) (n : ℕ) (table : List (List ℕ)) →
+    IsFilledTo costs cost ends tables states n → n < 64 → get_or ends n 0 < cost → IsTable table →
+    ((values : List (List ℤ)) (bound : ℕ) → HaveCosts values costs 40 → length values ≡ 40 → IsLowerBound values bound → bound ≤ 2 ^ 30 → StartHolds values bound [] n (Some table)) →
+    IsFilledTo costs cost ends (set tables n table) (set states (63 - n) true) (n + 1)
+with_table costs cost ends tables states n table known below needs whole holds = record {
+  size = length-set states (63 - n) true ∙ known.size;
+  room = record {
+    count = length-set tables n table ∙ room;
+    all = λ s d inside. elim (cases_eq s n) [
+      | inl e ↦ rw (e, get_or-set_same tables n table d (omega (arith, room, below))) whole
+      | inr ne ↦ rw (get_or-set_other tables n s table d ne) (known.room.all s d (omega (arith, inside, length-set tables n table)))
+    ];
+  };
+  needed = λ s h. elim (cases_lt s n) [
+    | inl l ↦ let ne : 63 - s ≢ 63 - n = omega (arith, l, below) in rw (get_or-set_other states (63 - n) (63 - s) true false ne) (known.needed s l)
+    | inr m ↦
+        let e : s ≡ n = omega (arith, h, m) in
+        rw (e, get_or-set_same states (63 - n) true false (omega (arith, size))) (sym (lt-ltb (get_or ends n 0) cost needs))
+  ];
+  later = λ s h inside.
+      let ne : 63 - s ≢ 63 - n = omega (arith, h, below, inside) in
+      rw (get_or-set_other states (63 - n) (63 - s) true false ne) (known.later s (omega (arith, h)) inside);
+  bounds = λ values have places lower small s h low. elim (cases_lt s n) [
+    | inl l ↦ let ne : s ≢ n = omega (arith, l) in rw (get_or-set_other tables n s table [] ne) (known.bounds values have places lower small s l low)
+    | inr m ↦
+        let e : s ≡ n = omega (arith, h, m) in
+        rw (e, get_or-set_same tables n table [] (omega (arith, room, below))) (holds values cost have places lower small)
+  ];
+}
+  where
+    size : length states ≡ 64
+    size = known.size
+
+    room : length tables ≡ 64
+    room = known.room.count
+
+-- at first
+pub filled_none : (costs : List (List ℕ)) (cost : ℕ) (ends : List ℕ) (tables : List (List (List ℕ))) → Counted 64 IsTable tables →
+    IsFilledTo costs cost ends tables (replicate 64 false) 0
+filled_none costs cost ends tables room = record {
+  size = length-replicate 64 false;
+  room = room;
+  needed = λ s below. absurd (omega (arith, below));
+  later = λ s h inside. get_or-replicate 64 (63 - s) false false (omega arith);
+  bounds = λ values have places lower small s below low. absurd (omega (arith, below));
+}
+
+-- ---- the certificate that is filled
+
+-- what is asked of a start state, by whether its bound in the general table is below the cost
+start_filled : (values : List (List ℤ)) (cost : ℕ) (general : List (List ℕ)) (s : ℕ) (table : List (List ℕ)) (b : Bool) →
+    b ≡ nat_lt (bound from_any general 40 s) cost → (bound from_any general 40 s < cost → StartHolds values cost [] s (Some table)) →
+    StartHolds values cost general s (cond b (Some table) None)
+start_filled values cost general s table true e own = own (ltb-true (bound from_any general 40 s) cost (sym e))
+start_filled values cost general s table false e own = ltb-false (bound from_any general 40 s) cost (sym e)
+
+-- a table is there exactly where it is needed
+there_where_needed : (set : List Bool) (tables : List (List (List ℕ))) (s m cost : ℕ) → s < 64 → is_in set s ≡ nat_lt m cost →
+    IsSome (get_or (shown set tables) s None) ↔ (m < cost)
+there_where_needed set tables s m cost below e = (
+  (λ some. ltb-true m cost (sym e ∙ sym (some_shown set tables s below) ∙ some)),
+  λ low. some_shown set tables s below ∙ e ∙ lt-ltb m cost low,
+)
+
+zero_start : (λ y. get_or (replicate 64 0) y 0) ≡ from_any
+zero_start = fun_ext (λ y. elim (cases_lt y 64) [
+  | inl below ↦ get_or-replicate 64 y 0 0 below
+  | inr past ↦ get_or_past (replicate 64 0) y 0 (omega (arith, past, length-replicate {A = ℕ} 64 0))
+])
+
+-- values of a small size with their least word and such tables: accepted, and filled
+pub filled : (values copied : List (List ℤ)) (word : List Bool) (cost : ℕ) (general : List (List ℕ)) (set : List Bool) (tables kept : List (List (List ℕ))) →
+    copied ≡ values → kept ≡ tables → RowsWithin 2032 values → length values ≡ 40 → IsLeastWord values word → cost ≡ word_cost values word →
+    HasLeastRows values (replicate 64 0) general 40 →
+    ((s : ℕ) → s < 64 → is_in set s ≡ nat_lt (bound from_any general 40 s) cost) →
+    (length values ≡ 40 → IsLowerBound values cost → cost ≤ 2 ^ 30 → (s : ℕ) → s < 64 → bound from_any general 40 s < cost → StartHolds values cost [] s (Some (get_or tables s []))) →
+    IsAccepted (record { values = copied; word = word; cost = cost; general = general; tables = shown set kept }) ×
+    IsFilled (record { values = copied; word = word; cost = cost; general = general; tables = shown set kept })
+filled values copied word cost general set tables kept copy same sizes places least stated rows needed bounds = rw (copy, same) (
+  record {
+    stated = stated;
+    general = steps_hold values from_any (replicate 64 0) general (λ x below some. get_or-replicate 64 x 0 0 below) rows;
+    starts = (starts_shown values cost general set tables).1 (λ s below.
+        start_filled values cost general s (get_or tables s []) (is_in set s) (needed s below) (bounds places lower small s below));
+  },
+  record {
+    least = λ i x inside below. subst (λ starts. IsLeastTo shift (step_cost values) starts 64 (suc i) x (get_or (get_or general i []) x 0)) zero_start
+        ((rows.row i inside).least.least x below);
+    needed = λ s below. there_where_needed set tables s (bound from_any general 40 s) cost below (needed s below);
+  },
+)
+  where
+    lower : IsLowerBound values cost
+    lower other size = rw stated (least.least other (size ∙ sym places))
+
+    small : cost ≤ 2 ^ 30
+    small = let h = word_cost-le 2032 values word sizes in omega (arith, h, stated, places)
+
+-- ---- certificates of the same values and cost have the same tables
+
+-- there is one least cost to a state
+one_least : (next : ℕ → Bool → ℕ) (c : ℕ → ℕ → Bool → ℕ) (starts : ℕ → ℕ) (limit k x m n : ℕ) → IsLeastTo next c starts limit k x m → IsLeastTo next c starts limit k x n → m ≡ n
+one_least next c starts limit k x m n p q =
+    let (y, bs, below, size, there, cost) = p.reached in
+    let (z, ds, below', size', there', cost') = q.reached in
+    let a = p.least z ds below' size' there' in
+    let b = q.least y bs below size there in
+    omega (arith, a, b, cost, cost')
+
+pub same_count : (c d : Held) → IsFilled c → IsFilled d → c.values ≡ d.values → c.cost ≡ d.cost → tables_there c.tables ≡ tables_there d.tables
+same_count c d p q values cost = total_below_same 64 (λ s. cond (is_some (get_or c.tables s None)) 1 0) (λ s. cond (is_some (get_or d.tables s None)) 1 0)
+    (λ s below. ap {B = ℕ} (λ b. cond b 1 0) (same_test (is_some (get_or c.tables s None)) (is_some (get_or d.tables s None))
+    (λ t. (q.needed s below).1 (rw (same_bound s below, cost) at ((p.needed s below).0 t)))
+    (λ t. (p.needed s below).1 (rw (← same_bound s below, ← cost) at ((q.needed s below).0 t)))))
+  where
+    same_test : (a b : Bool) → (a ≡ true → b ≡ true) → (b ≡ true → a ≡ true) → a ≡ b
+    same_test true b to back = sym (to refl)
+    same_test false true to back = back refl
+    same_test false false to back = refl
+
+    same_bound : (s : ℕ) → s < 64 → bound from_any c.general 40 s ≡ bound from_any d.general 40 s
+    same_bound s below = one_least shift (step_cost d.values) from_any 64 40 s (bound from_any c.general 40 s) (bound from_any d.general 40 s)
+        (subst (λ v. IsLeastTo shift (step_cost v) from_any 64 40 s (bound from_any c.general 40 s)) values (p.least 39 s (omega arith) below)) (q.least 39 s (omega arith) below)
