@@ -11,7 +11,7 @@ const ROOM: usize = 16_777_216;
 
 const FIRST: &[u8] = b"made 0 at 0 sfn 0 held 1
 cells 1
-cell 0 at 0 sfn 0 ports 1 n6 phich normal oneSixth spare 0
+cell 0 at 0 sfn 0 ports 1 n6 phich normal oneSixth br 0 spare 0
 sib1 tac 0 cell 0 open allowed csg 0 - rx -70 offset - pmax - band 1 window ms1 tag 0 tdd - extension 0
 plmn 001 01 free
 si rf8 -

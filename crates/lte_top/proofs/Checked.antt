@@ -1,9 +1,10 @@
 -- Certificates that are checked, and those that are written.
 use Rattle.std.proofs.Common.{◌≡◌, ℕ, ◌+◌, ◌*◌, ◌≤◌, inl, inr, Bool, List, ◌++◌, length, ap, sym, subst, ◌∙◌, arith, length-append}
+use Rattle.std.specs.List.{AllZip}
 use Rattle.cs_num.specs.declared.Sample.{Sample}
 use Rattle.cs_outside.specs.Outside.{SourceTold}
-use Rattle.tail_cert.specs.Form.{count}
 use Rattle.cert_stream.specs.Stream.{most_bytes, IsFirstBroken}
+use Rattle.cert_stream.specs.Certifying.{Certifies}
 use Rattle.cert_stream.specs.Reading.{HasReadAnswers, IsCause}
 use Rattle.cert_stream.specs.declared.error.StreamError.{StreamError}
 use Rattle.cert_stream.specs.declared.error.StreamError.TheVariants.{Broken, TooLong as PastBytes, ReadFault as Stopped, OutOfMemory as Refused}
@@ -24,13 +25,11 @@ use Rattle.lte_top.specs.Run.{Cause, HasOutput}
 pub one_check : (input first second : List ℕ) → IsChecked input first → IsChecked input second → first ≡ second
 one_check input first second a b = a.text ∙ ap check_text (one_answers input a.answers b.answers a.are_answers b.are_answers) ∙ sym b.text
 
--- all certificates of a recording's list have one length
+-- all certificates of a recording's list have one length in all
 pub one_certified_length : (samples : List Sample) (first second : List ℕ) → IsCertified samples first → IsCertified samples second → length first ≡ length second
 one_certified_length samples first second a b =
     let same = is_one_list samples a.entries b.entries a.is_list.explained b.is_list.explained in
-    let p = certified_length samples a.entries a.certificates a.each in
-    let q = certified_length samples b.entries b.certificates b.each in
-    ap length a.bytes ∙ p ∙ ap (λ l. count * length l) same ∙ sym q ∙ sym (ap length b.bytes)
+    ap length a.bytes ∙ certified_length samples b.entries a.certificates b.certificates (subst (λ l. AllZip (Certifies samples) l a.certificates) same a.each) b.each ∙ sym (ap length b.bytes)
 
 -- nothing refuses certificates that were answered
 answered_unrefused : (answers : List Bool) (before now : SourceTold) (h : HasReadAnswers answers before now) (status : Status) → RefusesCertificates h.bytes status → ⊥
@@ -57,13 +56,13 @@ output_of_answers answers output before now h e = record {
 
 -- ---- why certificates were not answered
 
--- where no byte up to one past the limit breaks the form, nothing is refused
-past_unrefused : (front rest : List ℕ) → length front ≡ most_bytes + 1 → ((place : ℕ) → IsFirstBroken (front ++ rest) place → length front ≤ place) → (status : Status) →
+-- where no byte within the limit breaks the form, and there is one past it, nothing is refused
+past_unrefused : (front rest : List ℕ) → length front ≡ most_bytes + 1 → ((place : ℕ) → IsFirstBroken (front ++ rest) place → most_bytes ≤ place) → (status : Status) →
     RefusesCertificates (front ++ rest) status → ⊥
 past_unrefused front rest past unbroken (BadCertificate place) r =
     let least = unbroken place r.first in
     elim r.within [
-      | inl below ↦ omega (arith, least, past, below)
+      | inl below ↦ omega (arith, least, below)
       | inr short ↦ omega (arith, past, short, length-append front rest)
     ]
 past_unrefused front rest past unbroken Done r = r

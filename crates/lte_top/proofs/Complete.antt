@@ -5,17 +5,17 @@ use Rattle.cs_num.specs.declared.Sample.{Sample}
 use Rattle.cs_outside.specs.Counts.{Rose}
 use Rattle.cs_outside.specs.Outside.{SourceTold, Outside}
 use Rattle.cs_outside.proofs.Reading.{read_whole, read_front}
-use Rattle.sample_file.specs.Recording.{samples_of}
+use Rattle.sample_file.specs.Recording.{samples_in}
 use Rattle.lte_types.specs.declared.entry.Entry.{Entry}
 use Rattle.lte_top.specs.declared.form.Form.{Form}
 use Rattle.lte_top.specs.declared.form.Form.TheVariants.{Report as Reports, Certify, Check, Transmit, Make}
-use Rattle.lte_top.specs.declared.form.Report.TheVariants.{Hits, Ids, Search}
+use Rattle.lte_top.specs.declared.form.Report.TheVariants.{Hits, Ids, Search, Json}
 use Rattle.lte_top.specs.declared.status.Status.{Status}
 use Rattle.lte_top.specs.declared.status.Status.TheVariants.{Done, Usage, Ragged, TooShort, TooLong, ReadFault, WriteFault, OutOfMemory, BadCell, BadCertificate}
 use Rattle.cert_stream.specs.Stream.{IsBrokenAt}
 use Rattle.lte_top.specs.Certificates.{IsListOfCells}
 use Rattle.lte_top.specs.Forms.{IsWordsOf, Input, nothing, recording, certificates, description, input_of, limit_of, Refuses, RefusesCertificates, RefusesDescription, IsTooLong, IsValid, IsOutput}
-use Rattle.lte_top.specs.Reports.{IsTextOfList}
+use Rattle.lte_top.specs.Reports.{json_line, IsTextOfList}
 use Rattle.lte_top.specs.Run.{IsRead, HasReadInput, HasOutput, HasRefusal, IsReadTooLong, IsWriteFault, Ends, RunsForm, Outcome, IsAnswerTo, HasOneAnswer, MayAnswer, IsTold, IsAnswered, IsComplete, HasRoom}
 use Rattle.cell_tx.specs.declared.error.CellError.{CellError}
 use Rattle.cell_json.specs.Reading.{refusal}
@@ -40,10 +40,11 @@ one_list samples first second a b = is_one_list samples first second a.explained
 
 -- all outputs of an input have one length
 one_length : (form : Form) (bytes first second : List ℕ) → IsOutput form bytes first → IsOutput form bytes second → length first ≡ length second
-one_length (Reports Hits) bytes first second a b = ap length (a ∙ sym b)
-one_length (Reports Ids) bytes first second a b = ap length (a ∙ sym b)
-one_length (Reports Search) bytes first second a b = ap length (one_text IsListOfCells report_text one_list (samples_of bytes) first second a b)
-one_length Certify bytes first second a b = one_certified_length _ first second a b
+one_length (Reports Hits form) bytes first second a b = ap length (a ∙ sym b)
+one_length (Reports Ids form) bytes first second a b = ap length (a ∙ sym b)
+one_length (Reports Search form) bytes first second a b = ap length (one_text IsListOfCells report_text one_list (samples_in form bytes) first second a b)
+one_length (Reports Json form) bytes first second a b = ap length (one_text IsListOfCells json_line one_list (samples_in form bytes) first second a b)
+one_length (Certify form) bytes first second a b = one_certified_length _ first second a b
 one_length Check bytes first second a b = ap length (one_check bytes first second a b)
 one_length Transmit bytes first second a b = one_transmitted_length bytes first second a b
 one_length (Make n) bytes first second a b = ap length (one_made n first second a b)

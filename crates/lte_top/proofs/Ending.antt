@@ -4,7 +4,8 @@ use Rattle.std.proofs.lemmas.Bool.{ltb-true, eq-eqb}
 use Rattle.cs_num.specs.declared.Sample.{Sample}
 use Rattle.cs_outside.specs.Counts.{Rose}
 use Rattle.cs_outside.specs.Outside.{SourceTold, Outside}
-use Rattle.sample_file.specs.Recording.{SampleForm, form_16}
+use Rattle.sample_file.specs.declared.form.SampleForm.{SampleForm}
+use Rattle.sample_file.specs.Recording.{width}
 use Rattle.sample_file.specs.Reading.{HasReadRecording, least_bytes}
 use Rattle.lte_types.specs.declared.entry.Entry.{Entry}
 use Rattle.lte_top.specs.declared.form.Form.TheVariants.{Certify}
@@ -19,7 +20,7 @@ use Rattle.lte_top.specs.Run.{HasOutput, IsDone, IsWriteFault}
 pub recording_unrefused : (form : SampleForm) (samples : List Sample) (before now : SourceTold) (h : HasReadRecording form samples before now) (status : Status) →
     RefusesRecording form h.input status → ⊥
 recording_unrefused form samples before now h status (within, refused) =
-    let same : nat_eq (length h.input % form.width) 0 ≡ true = eq-eqb (length h.input % form.width) 0 h.whole_samples in
+    let same : nat_eq (length h.input % width form) 0 ≡ true = eq-eqb (length h.input % width form) 0 h.whole_samples in
     let long : nat_lt (length h.input) (least_bytes form) ≡ false = settle (nat_lt (length h.input) (least_bytes form)) refl in
     let none : recording_refusal form h.input ≡ None = rw (same, long) refl in
     cc (sym none ∙ refused)
@@ -29,29 +30,29 @@ recording_unrefused form samples before now h status (within, refused) =
     settle false e = e
 
 -- certificates of all entries are the output
-pub certified_output : (samples : List Sample) (before now : SourceTold) (output : List ℕ) → HasReadRecording form_16 samples before now →
-    IsCertified samples output → HasOutput Certify output before now
-certified_output samples before now output h certified = record {
+pub certified_output : (form : SampleForm) (samples : List Sample) (before now : SourceTold) (output : List ℕ) → HasReadRecording form samples before now →
+    IsCertified samples output → HasOutput (Certify form) output before now
+certified_output form samples before now output h certified = record {
   bytes = h.input;
   whole = h.read;
-  unrefused = recording_unrefused form_16 samples before now h;
+  unrefused = recording_unrefused form samples before now h;
   is_output = subst (λ s. IsCertified s output) h.samples certified;
 }
 
-pub certified_done : (samples : List Sample) (entries : List Entry) (before now : Outside) → HasReadRecording form_16 samples before.0 now.0 → IsListOfCells samples entries →
-    HasCertifiedAll samples entries before.1 now.1 → IsDone Certify before now
-certified_done samples entries before now h is_list all = record {
+pub certified_done : (form : SampleForm) (samples : List Sample) (entries : List Entry) (before now : Outside) → HasReadRecording form samples before.0 now.0 → IsListOfCells samples entries →
+    HasCertifiedAll samples entries before.1 now.1 → IsDone (Certify form) before now
+certified_done form samples entries before now h is_list all = record {
   output = all_bytes all.certificates;
-  has_output = certified_output samples before.0 now.0 (all_bytes all.certificates) h
+  has_output = certified_output form samples before.0 now.0 (all_bytes all.certificates) h
       (record { entries = entries; is_list = is_list; certificates = all.certificates; each = all.each; bytes = refl });
   written = all.written;
 }
 
-pub certified_fault : (samples : List Sample) (entries : List Entry) (before now : Outside) → HasReadRecording form_16 samples before.0 now.0 → IsListOfCells samples entries →
-    HasCertifiedSome samples entries before.1 now.1 → Rose before.1.faults now.1.faults → IsWriteFault Certify before now
-certified_fault samples entries before now h is_list some rose = record {
+pub certified_fault : (form : SampleForm) (samples : List Sample) (entries : List Entry) (before now : Outside) → HasReadRecording form samples before.0 now.0 → IsListOfCells samples entries →
+    HasCertifiedSome samples entries before.1 now.1 → Rose before.1.faults now.1.faults → IsWriteFault (Certify form) before now
+certified_fault form samples entries before now h is_list some rose = record {
   output = all_bytes some.certificates;
-  has_output = certified_output samples before.0 now.0 (all_bytes some.certificates) h
+  has_output = certified_output form samples before.0 now.0 (all_bytes some.certificates) h
       (record { entries = entries; is_list = is_list; certificates = some.certificates; each = some.each; bytes = refl });
   front_written = some.front;
   counted = rose;

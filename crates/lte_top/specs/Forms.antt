@@ -1,11 +1,13 @@
 -- The forms of words that are run: what each reads, which inputs it refuses, and what it writes. (own)
 use Rattle.std.specs.Prelude.{◌≡◌, ℕ, ◌%◌, ◌^◌, ◌<◌, ◌≤◌, Option, Some, None, List, [], ◌∷◌, length, codes, nat_lt, not, ◌==◌, if◌then◌else◌}
 use Rattle.std.specs.Fmt.{decimal}
-use Rattle.sample_file.specs.Recording.{SampleForm, form_16, samples_of}
+use Rattle.sample_file.specs.declared.form.SampleForm.{SampleForm}
+use Rattle.sample_file.specs.declared.form.SampleForm.TheVariants.{Ci16, Cu8}
+use Rattle.sample_file.specs.Recording.{width, samples_in}
 use Rattle.sample_file.specs.Reading.{least_bytes, most_bytes}
 use Rattle.lte_top.specs.declared.form.Form.{Form}
 use Rattle.lte_top.specs.declared.form.Form.TheVariants.{Report as Reports, Certify, Check, Transmit, Make}
-use Rattle.lte_top.specs.declared.form.Report.TheVariants.{Hits, Ids, Search}
+use Rattle.lte_top.specs.declared.form.Report.TheVariants.{Hits, Ids, Search, Json}
 use Rattle.lte_top.specs.declared.status.Status.{Status}
 use Rattle.lte_top.specs.declared.status.Status.TheVariants.{Done, Usage, Ragged, TooShort, TooLong, ReadFault, WriteFault, OutOfMemory, BadCell, BadCertificate}
 use Rattle.cell_json.specs.Reading.{refusal}
@@ -15,20 +17,26 @@ use Rattle.cert_stream.specs.Stream.{most_bytes as most_certificate_bytes, IsBro
 use Rattle.lte_top.specs.Reports.{IsReport}
 use Rattle.lte_top.specs.Making.{IsMadeText}
 
--- the words of a form, each as its bytes
+-- the words that name a form of samples, each as its bytes: that of 16 bits has none
+abbrev pub samples_words : SampleForm → List (List ℕ)
+samples_words Ci16 = []
+samples_words Cu8 = codes "--format" ∷ codes "cu8" ∷ []
+
+-- the words of a form
 abbrev pub words_of : Form → List (List ℕ)
-words_of (Reports Hits) = codes "hits" ∷ []
-words_of (Reports Ids) = codes "ids" ∷ []
-words_of (Reports Search) = codes "search" ∷ []
-words_of Certify = codes "certify" ∷ []
+words_of (Reports Hits form) = codes "hits" ∷ samples_words form
+words_of (Reports Ids form) = codes "ids" ∷ samples_words form
+words_of (Reports Search form) = codes "search" ∷ samples_words form
+words_of (Reports Json form) = codes "search" ∷ codes "--json" ∷ samples_words form
+words_of (Certify form) = codes "certify" ∷ samples_words form
 words_of Check = codes "check" ∷ []
 words_of Transmit = codes "transmit" ∷ []
 words_of (Make n) = codes "make" ∷ decimal n ∷ []
 
 -- the number of a form is one of 32 bits
 abbrev pub IsInRange : Form → Type 0
-IsInRange (Reports report) = Unit {0}
-IsInRange Certify = Unit {0}
+IsInRange (Reports report form) = Unit {0}
+IsInRange (Certify form) = Unit {0}
 IsInRange Check = Unit {0}
 IsInRange Transmit = Unit {0}
 IsInRange (Make n) = n < 2 ^ 32
@@ -52,8 +60,8 @@ pub data Input : Type 0 where
   description : Input
 
 abbrev pub input_of : Form → Input
-input_of (Reports report) = recording form_16
-input_of Certify = recording form_16
+input_of (Reports report form) = recording form
+input_of (Certify form) = recording form
 input_of Check = certificates
 input_of Transmit = description
 input_of (Make n) = nothing
@@ -68,7 +76,7 @@ limit_of description = most_description_bytes
 -- the refusal of a recording's bytes, where there is one: they must be of whole samples, and of enough of them
 abbrev pub recording_refusal : SampleForm → List ℕ → Option Status
 recording_refusal form bytes =
-    if not (length bytes % form.width == 0) then Some Ragged
+    if not (length bytes % width form == 0) then Some Ragged
     else if nat_lt (length bytes) (least_bytes form) then Some TooShort
     else None
 
@@ -108,8 +116,8 @@ pub record IsValid (input : Input) (bytes : List ℕ) : Type 0 where
 
 -- what a form writes for valid bytes
 abbrev pub IsOutput : Form → List ℕ → List ℕ → Type 0
-IsOutput (Reports report) bytes output = IsReport report (samples_of bytes) output
-IsOutput Certify bytes output = IsCertified (samples_of bytes) output
+IsOutput (Reports report form) bytes output = IsReport report (samples_in form bytes) output
+IsOutput (Certify form) bytes output = IsCertified (samples_in form bytes) output
 IsOutput Check bytes output = IsChecked bytes output
 IsOutput Transmit bytes output = IsTransmitted bytes output
 IsOutput (Make n) bytes output = IsMadeText n output

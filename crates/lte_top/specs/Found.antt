@@ -1,6 +1,7 @@
 -- What `transmit` writes is found by `search`. (own)
-use Rattle.std.specs.Prelude.{ℕ, List, ◌++◌, codes}
+use Rattle.std.specs.Prelude.{ℕ, ◌/◌, ◌%◌, List, ◌++◌, codes}
 use Rattle.cs_num.specs.declared.Sample.{Sample}
+use Rattle.sample_file.specs.declared.form.SampleForm.TheVariants.{Ci16}
 use Rattle.sample_file.specs.Recording.{samples_of}
 use Rattle.cell_tx.specs.declared.cell.CellPlan.{CellPlan}
 use Rattle.cell_tx.specs.declared.transmission.Transmission.{Transmission}
@@ -17,7 +18,8 @@ use Rattle.lte_top.specs.Forms.{IsOutput}
 -- the line of a sent cell: its identity, where its first frame begins, that frame's number, one antenna port, and its block
 abbrev pub sent_line : CellPlan → ℕ → ℕ → List ℕ
 sent_line plan first number =
-    place_part plan.identity first number 1 ++ block_part (codes "n6") (duration_word plan.duration) (resource_word plan.resource) plan.spare
+    place_part plan.identity first number 1 ++ block_part (codes "n6") (duration_word plan.duration) (resource_word plan.resource)
+    (plan.spare / 32) (plan.spare % 32)
 
 -- this line, and those of its system information
 abbrev pub sent_lines : CellPlan → ℕ → ℕ → List ℕ
@@ -33,5 +35,5 @@ pub record IsFoundIn (description : List ℕ) (samples : List Sample) (text : Li
 -- a law: what `transmit` writes for a description, read as a recording, is clean, and what `search` writes
 -- for it has the cell's lines
 abbrev pub WhatIsSentIsFound : Type 0
-WhatIsSentIsFound = (description sent text : List ℕ) → IsOutput Transmit description sent → IsOutput (Reports Search) sent text →
+WhatIsSentIsFound = (description sent text : List ℕ) → IsOutput Transmit description sent → IsOutput (Reports Search Ci16) sent text →
     IsFoundIn description (samples_of sent) text

@@ -1,5 +1,5 @@
 -- The reports about a recording. (own)
-use Rattle.std.specs.Prelude.{◌≡◌, ℕ, List, map}
+use Rattle.std.specs.Prelude.{◌≡◌, ℕ, List, ◌++◌, map, codes}
 use Rattle.cs_num.specs.declared.Sample.{Sample}
 use Rattle.lte_types.specs.declared.entry.Entry.{Entry}
 use Rattle.lte_types.specs.declared.hit.Hit.{Hit}
@@ -9,9 +9,10 @@ use Rattle.sss_detect.specs.Identity.{identity_of}
 use Rattle.sss_detect.specs.Place.{start_of}
 use Rattle.report.specs.declared.hits.IdentifiedHit.{IdentifiedHit}
 use Rattle.report.specs.Hits.{hits_text, ids_text}
+use Rattle.report.specs.Json.{json_text}
 use Rattle.report.specs.Lines.{report_text}
 use Rattle.lte_top.specs.declared.form.Report.{Report}
-use Rattle.lte_top.specs.declared.form.Report.TheVariants.{Hits, Ids, Search}
+use Rattle.lte_top.specs.declared.form.Report.TheVariants.{Hits, Ids, Search, Json}
 use Rattle.lte_top.specs.Certificates.{IsListOfCells}
 
 -- a hit of a recording with the identity of its cell, the half that it stands in, and where a frame begins
@@ -29,8 +30,13 @@ pub record IsTextOfList (IsListOf : List Sample → List Entry → Type 0) (text
   pub is_list : IsListOf samples entries
   pub text : output ≡ text_of entries
 
+-- the line of a list as JSON
+abbrev pub json_line : List Entry → List ℕ
+json_line entries = json_text entries ++ codes "\n"
+
 -- the text of a report
 abbrev pub IsReport : Report → List Sample → List ℕ → Type 0
 IsReport Hits samples output = output ≡ hits_text (hits_of samples)
 IsReport Ids samples output = output ≡ ids_text (map (identified samples) (hits_of samples))
 IsReport Search samples output = IsTextOfList IsListOfCells report_text samples output
+IsReport Json samples output = IsTextOfList IsListOfCells json_line samples output

@@ -12,23 +12,25 @@ use cert_stream::{CertificateWork, certify, read_answers};
 use clean_air::explain_clean;
 use cs_outside::{Failed, Sink, Source};
 use report::text_of_answers;
+use sample_file::SampleForm;
 use std::alloc::Global;
 
 // Writes the certificates of a source's recording: one for each entry of the list, in order. All
 // memory is taken before the first is written.
 pub(crate) fn certify_recording<S: Source, K: Sink>(
     alloc: Global,
+    form: SampleForm,
     source: &mut S,
     sink: &mut K,
 ) -> Result<(), Status>
-    ensures done { OnOk result (IsDone Certify
+    ensures done { OnOk result (IsDone (Certify form)
         (S.told source.old, K.told sink.old) (S.told source.new, K.told sink.new)) }
-    ensures ended { IfErr result (Ends Certify
+    ensures ended { IfErr result (Ends (Certify form)
         (S.told source.old, K.told sink.old) (S.told source.new, K.told sink.new)) }
     ensures reads { (S.told source.old).faults ≤ (S.told source.new).faults }
     ensures writes { (K.told sink.old).faults ≤ (K.told sink.new).faults }
 {
-    let recording = recording_of(alloc, source)?;
+    let recording = recording_of(alloc, form, source)?;
     let (mut search, mut list) = room_for_list(alloc)?;
     let mut work = CertificateWork::new(alloc)?;
     explain_clean(&recording, &mut search, &mut list);

@@ -4,14 +4,16 @@ ghost use Rattle.std.specs.Prelude.{IfSome, IsNone};
 ghost use Rattle.lte_top.specs.Forms.{IsWordsOf, IsNoForm};
 
 use crate::words::Words;
+use sample_file::SampleForm;
 
-/// A form of words.
+/// A form of words. What is said of a recording may be said of one in either form of samples: the words
+/// `--format cu8` after the others name 8-bit numbers, and without them they are of 16 bits.
 #[derive(Clone, Copy, Debug, PartialEq, Eq)]
 pub enum Form {
-    /// A report about a recording.
-    Report(Report),
+    /// A report about a recording of samples in a form.
+    Report(Report, SampleForm),
     /// `certify`: a certificate for each master block of the list of a recording.
-    Certify,
+    Certify(SampleForm),
     /// `check`: an answer to each of the certificates that are read.
     Check,
     /// `transmit`: the samples of a described cell.
@@ -29,6 +31,8 @@ pub enum Report {
     Ids,
     /// `search`: the list of cells.
     Search,
+    /// `search --json`: the same as JSON.
+    Json,
 }
 
 impl Form {
@@ -37,14 +41,16 @@ impl Form {
         ensures some { IfSome result (IsWordsOf words.now) }
         ensures none { IsNone result → IsNoForm words.now }
     {
-        if words.is_one("hits") {
-            Some(Form::Report(Report::Hits))
-        } else if words.is_one("ids") {
-            Some(Form::Report(Report::Ids))
-        } else if words.is_one("search") {
-            Some(Form::Report(Report::Search))
-        } else if words.is_one("certify") {
-            Some(Form::Certify)
+        if let Some(samples) = words.samples_after("hits") {
+            Some(Form::Report(Report::Hits, samples))
+        } else if let Some(samples) = words.samples_after("ids") {
+            Some(Form::Report(Report::Ids, samples))
+        } else if let Some(samples) = words.samples_after("search") {
+            Some(Form::Report(Report::Search, samples))
+        } else if let Some(samples) = words.samples_after_both("search", "--json") {
+            Some(Form::Report(Report::Json, samples))
+        } else if let Some(samples) = words.samples_after("certify") {
+            Some(Form::Certify(samples))
         } else if words.is_one("check") {
             Some(Form::Check)
         } else if words.is_one("transmit") {

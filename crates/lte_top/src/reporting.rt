@@ -3,13 +3,13 @@
 ghost use Rattle.std.specs.Prelude.{◌≡◌, ◌≤◌, All, IfOk, IfErr, map, string_bytes};
 ghost use Rattle.cs_outside.specs.Outside.{SourceTold};
 ghost use Rattle.sample_file.specs.Reading.{HasReadRecording};
-ghost use Rattle.sample_file.specs.Recording.{IsRecording, form_16};
+ghost use Rattle.sample_file.specs.Recording.{IsRecording};
 ghost use Rattle.pss_search.specs.Hits.{IsInSpan, hits_of as all_hits};
 ghost use Rattle.report.specs.Hits.{ids_text};
-ghost use Rattle.report.specs.Lines.{report_text as list_text};
+ghost use Rattle.report.specs.Lines.{report_text as list_text, IsValidEntry};
 ghost use Rattle.lte_top.specs.Certificates.{IsListOfCells};
 ghost use Rattle.lte_top.specs.Forms.{recording};
-ghost use Rattle.lte_top.specs.Reports.{identified, IsReport, IsTextOfList};
+ghost use Rattle.lte_top.specs.Reports.{identified, json_line, IsReport, IsTextOfList};
 ghost use Rattle.lte_top.specs.Run.{Cause, HasOutput};
 ghost use Rattle.lte_top.specs.declared.form.Form.TheVariants.{Report as Reports};
 
@@ -20,8 +20,8 @@ use cs_outside::Source;
 use explain::{EntryList, Workspace};
 use lte_types::Hit;
 use pss_search::{HitList, hits};
-use report::{IdentifiedHit, text, text_of_hits, text_of_ids};
-use sample_file::{Recording, read_recording};
+use report::{IdentifiedHit, json, text, text_of_hits, text_of_ids};
+use sample_file::{Recording, SampleForm, read_as};
 use sss_detect::{cell_id, frame_start, identity};
 use std::alloc::{AllocError, Global};
 
@@ -29,26 +29,31 @@ use std::alloc::{AllocError, Global};
 pub(crate) fn report_text<S: Source>(
     alloc: Global,
     report: Report,
+    form: SampleForm,
     source: &mut S,
 ) -> Result<String, Status>
     ensures ok { IfOk result (λ text.
-        HasOutput (Reports report) (string_bytes text) (S.told source.old) (S.told source.new)) }
-    ensures err { IfErr result (Cause (recording form_16) (S.told source.old) (S.told source.new)) }
+        HasOutput (Reports report form) (string_bytes text) (S.told source.old) (S.told source.new)) }
+    ensures err { IfErr result (Cause (recording form) (S.told source.old) (S.told source.new)) }
     ensures never_falls { (S.told source.old).faults ≤ (S.told source.new).faults }
 {
-    let recording = recording_of(alloc, source)?;
+    let recording = recording_of(alloc, form, source)?;
     let text = text_of_report(alloc, report, &recording)?;
     Ok(text)
 }
 
 // The recording of a source, which is read to its end.
-pub(crate) fn recording_of<S: Source>(alloc: Global, source: &mut S) -> Result<Recording, Status>
-    ensures ok { IfOk result (λ samples. HasReadRecording form_16 samples (S.told source.old) (S.told source.new)) }
+pub(crate) fn recording_of<S: Source>(
+    alloc: Global,
+    form: SampleForm,
+    source: &mut S,
+) -> Result<Recording, Status>
+    ensures ok { IfOk result (λ samples. HasReadRecording form samples (S.told source.old) (S.told source.new)) }
     ensures valid { IfOk result IsRecording }
-    ensures err { IfErr result (Cause (recording form_16) (S.told source.old) (S.told source.new)) }
+    ensures err { IfErr result (Cause (recording form) (S.told source.old) (S.told source.new)) }
     ensures never_falls { (S.told source.old).faults ≤ (S.told source.new).faults }
 {
-    let recording = read_recording(alloc, source)?;
+    let recording = read_as(alloc, source, form)?;
     Ok(recording)
 }
 
@@ -65,6 +70,7 @@ fn text_of_report(
         Report::Hits => text_of_hits(alloc, hits_of(alloc, recording)?.slice()),
         Report::Ids => ids_of(alloc, recording, hits_of(alloc, recording)?.slice()),
         Report::Search => text_of_list(alloc, recording),
+        Report::Json => json_of_list(alloc, recording),
     }
 }
 
@@ -112,9 +118,29 @@ fn text_of_list(alloc: Global, recording: &Recording) -> Result<String, AllocErr
     ensures { IfOk result (λ text.
         IsTextOfList IsListOfCells list_text recording.now (string_bytes text)) }
 {
+    let list = list_of(alloc, recording)?;
+    text(alloc, list.slice())
+}
+
+// The same as a line of JSON.
+fn json_of_list(alloc: Global, recording: &Recording) -> Result<String, AllocError>
+    ensures { IfOk result (λ line.
+        IsTextOfList IsListOfCells json_line recording.now (string_bytes line)) }
+{
+    let list = list_of(alloc, recording)?;
+    let mut line = json(alloc, list.slice())?;
+    line.push_str("\n")?;
+    Ok(line)
+}
+
+// The list of a recording.
+fn list_of(alloc: Global, recording: &Recording) -> Result<EntryList, AllocError>
+    ensures list { IfOk result (IsListOfCells recording.now) }
+    ensures valid { IfOk result (All IsValidEntry) }
+{
     let (mut work, mut list) = room_for_list(alloc)?;
     explain_clean(recording, &mut work, &mut list);
-    text(alloc, list.slice())
+    Ok(list)
 }
 
 // The memory of a list and of the search for it.

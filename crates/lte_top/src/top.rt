@@ -87,11 +87,11 @@ fn run_form<S: Source, K: Sink>(
     ensures writes { (K.told sink.old).faults ≤ (K.told sink.new).faults }
 {
     match form {
-        Form::Report(report) => {
-            let text = report_text(alloc, report, source)?;
+        Form::Report(report, samples) => {
+            let text = report_text(alloc, report, samples, source)?;
             write_output(sink, text.as_bytes())
         }
-        Form::Certify => certify_recording(alloc, source, sink),
+        Form::Certify(samples) => certify_recording(alloc, samples, source, sink),
         Form::Check => {
             let text = answers_text(alloc, source)?;
             write_output(sink, text.as_bytes())

@@ -2,8 +2,11 @@
 
 ghost use Rattle.std.specs.Prelude.{◌≡◌, ◌≢◌, ◌↔◌, ◌<◌, ◌^◌, ℕ, List, [], ◌∷◌, ◌++◌, map, OnOk, OnErr, IfSome, IsNone, IsTrue, string_bytes};
 ghost use Rattle.std.specs.Fmt.{decimal};
+ghost use Rattle.sample_file.specs.declared.form.SampleForm.{SampleForm as SampleFormValue};
+ghost use Rattle.lte_top.specs.Forms.{samples_words};
 
 use itoa::Buffer;
+use sample_file::SampleForm;
 use std::alloc::{AllocError, Global};
 use std::marker::Model;
 
@@ -49,6 +52,35 @@ impl Words {
         self.words.len() == 1 && self.words[0].as_str() == word
     }
 
+    // The form of samples that the words after this one name; `None` where the first word is another, or those
+    // after it name none.
+    pub(crate) fn samples_after(&self, word: &str) -> Option<SampleForm>
+        ensures some { IfSome result (λ form. self.now ≡ word.now ∷ samples_words form) }
+        ensures none { IsNone result → (form : SampleFormValue) → self.now ≡ word.now ∷ samples_words form → ⊥ }
+    {
+        if self.words.len() >= 1 && self.words[0].as_str() == word {
+            samples_of(&self.words[1..])
+        } else {
+            None
+        }
+    }
+
+    // The same after two words.
+    pub(crate) fn samples_after_both(&self, first: &str, second: &str) -> Option<SampleForm>
+        ensures some { IfSome result (λ form. self.now ≡ first.now ∷ second.now ∷ samples_words form) }
+        ensures none { IsNone result → (form : SampleFormValue) →
+            self.now ≡ first.now ∷ second.now ∷ samples_words form → ⊥ }
+    {
+        if self.words.len() >= 2
+            && self.words[0].as_str() == first
+            && self.words[1].as_str() == second
+        {
+            samples_of(&self.words[2..])
+        } else {
+            None
+        }
+    }
+
     // The number that follows this word, where there are two words, the first is this one and the second is a
     // number of 32 bits without leading zero.
     pub(crate) fn number_after(&self, word: &str) -> Option<u32>
@@ -60,6 +92,20 @@ impl Words {
         } else {
             None
         }
+    }
+}
+
+// The form of samples that these words name.
+fn samples_of(words: &[String]) -> Option<SampleForm>
+    ensures some { IfSome result (λ form. map string_bytes words.now ≡ samples_words form) }
+    ensures none { IsNone result → (form : SampleFormValue) → map string_bytes words.now ≡ samples_words form → ⊥ }
+{
+    if words.is_empty() {
+        Some(SampleForm::Ci16)
+    } else if words.len() == 2 && words[0].as_str() == "--format" && words[1].as_str() == "cu8" {
+        Some(SampleForm::Cu8)
+    } else {
+        None
     }
 }
 

@@ -8,8 +8,8 @@ use std::alloc::{AllocError, Global};
 use std::test::Fail;
 use test_signals::silence;
 
-// The bytes of a certificate.
-const BYTES: usize = 655_613;
+// The bytes of a certificate without a table of a start state.
+const BYTES: usize = 10_501;
 
 // How `check` ends over these bytes, which come in pieces of at most `most`, and what it wrote.
 fn check_of(alloc: Global, bytes: Vec<u8>, most: usize) -> Result<(Status, Vec<u8>), AllocError>
@@ -25,10 +25,10 @@ fn check_of(alloc: Global, bytes: Vec<u8>, most: usize) -> Result<(Status, Vec<u
 
 // The certificate of zeros: the mark, and zeros.
 fn certificate_of_zeros(alloc: Global) -> Result<Vec<u8>, AllocError>
-    ensures { IfOk result (λ bytes. length bytes.items ≡ 655613) }
+    ensures { IfOk result (λ bytes. length bytes.items ≡ 10501) }
 {
     let mut bytes = silence(alloc, BYTES)?;
-    put(&mut bytes, 0, &[0x4c, 0x54, 0x43, 0x31]);
+    put(&mut bytes, 0, &[0x4c, 0x54, 0x43, 0x32]);
     Ok(bytes)
 }
 
@@ -41,7 +41,7 @@ fn put(bytes: &mut [u8], at: usize, piece: &[u8])
 
 // The certificate of zeros with some bytes changed.
 fn changed(alloc: Global, at: usize, piece: &[u8]) -> Result<Vec<u8>, AllocError>
-    requires { at + length piece.now ≤ 655613 }
+    requires { at + length piece.now ≤ 10501 }
 {
     let mut bytes = certificate_of_zeros(alloc)?;
     put(&mut bytes, at, piece);
@@ -60,7 +60,7 @@ fn certificates_of_zeros_are_accepted(rt: HostRuntime) -> Result<(), Fail> {
     let (status, taken) = check_of(rt.alloc(), certificate_of_zeros(rt.alloc())?, BYTES)?;
     assert_eq!(rt; status, Status::Done);
     assert_eq!(rt; taken.as_slice(), b"certificates 1\n0 yes\n".as_slice());
-    let (status, taken) = check_of(rt.alloc(), certificate_of_zeros(rt.alloc())?, 100_000)?;
+    let (status, taken) = check_of(rt.alloc(), certificate_of_zeros(rt.alloc())?, 1_000)?;
     assert_eq!(rt; status, Status::Done);
     assert_eq!(rt; taken.as_slice(), b"certificates 1\n0 yes\n".as_slice());
     Ok(())
@@ -70,7 +70,7 @@ fn certificates_of_zeros_are_accepted(rt: HostRuntime) -> Result<(), Fail> {
 fn another_cost_and_a_bound_that_no_branch_allows_are_not_accepted(
     rt: HostRuntime,
 ) -> Result<(), Fail> {
-    // The cost stands at byte 249, and the bound of start state 0, step 40, state 0 at 253 + 4 * 64 * 39.
+    // The cost stands at byte 249, and the general bound of step 40, state 0 at 253 + 4 * 64 * 39.
     for (at, byte) in [(249, [1, 0, 0, 0]), (10_237, [255, 255, 255, 255])] {
         let (status, taken) = check_of(rt.alloc(), changed(rt.alloc(), at, &byte)?, BYTES)?;
         assert_eq!(rt; status, Status::Done, "byte {at}");
@@ -129,16 +129,39 @@ fn the_first_byte_that_breaks_the_form_is_told(rt: HostRuntime) -> Result<(), Fa
 
 #[test]
 fn an_early_end_is_told_as_the_length(rt: HostRuntime) -> Result<(), Fail> {
-    for len in [3, 4, 100, 243, 252, 655_612] {
-        let refused = refusal_of(rt.alloc(), cut(rt.alloc(), len)?, 100_000)?;
+    for len in [3, 4, 100, 243, 252, 10_500] {
+        let refused = refusal_of(rt.alloc(), cut(rt.alloc(), len)?, 1_000)?;
         assert_eq!(rt; refused, (Status::BadCertificate(len as u64), 0));
     }
     Ok(())
 }
 
 #[test]
+fn the_table_of_a_start_state_is_read_where_the_set_tells_it(rt: HostRuntime) -> Result<(), Fail> {
+    let mut bytes = changed(rt.alloc(), 10_493, &[1])?;
+    let refused = refusal_of(rt.alloc(), bytes.clone()?, BYTES)?;
+    assert_eq!(rt; refused, (Status::BadCertificate(10_501), 0));
+    bytes.extend_from_slice(&[0; 10_240])?;
+    bytes.extend_from_slice(&certificate_of_zeros(rt.alloc())?)?;
+    let (status, taken) = check_of(rt.alloc(), bytes, 7_001)?;
+    assert_eq!(rt; status, Status::Done);
+    assert_eq!(rt;
+        taken.as_slice(),
+        b"certificates 2\n0 yes\n1 yes\n".as_slice()
+    );
+    Ok(())
+}
+
+#[test]
+fn the_former_mark_is_refused_at_its_last_byte(rt: HostRuntime) -> Result<(), Fail> {
+    let refused = refusal_of(rt.alloc(), changed(rt.alloc(), 3, &[0x31])?, BYTES)?;
+    assert_eq!(rt; refused, (Status::BadCertificate(3), 0));
+    Ok(())
+}
+
+#[test]
 fn a_byte_after_a_certificate_begins_another(rt: HostRuntime) -> Result<(), Fail> {
-    for (byte, place) in [(0, 655_613), (0x4c, 655_614)] {
+    for (byte, place) in [(0, 10_501), (0x4c, 10_502)] {
         let mut bytes = certificate_of_zeros(rt.alloc())?;
         bytes.push(byte)?;
         let refused = refusal_of(rt.alloc(), bytes, BYTES)?;

@@ -21,13 +21,22 @@ pub fn command_of_two(alloc: Global, first: &str, second: &str) -> Result<Words,
     Ok(words)
 }
 
-/// How a command of one word ends over these bytes, and what it wrote.
+/// The words of a command line, with one space between them.
+pub fn command_line(alloc: Global, line: &str) -> Result<Words, AllocError> {
+    let mut words = Words::new(alloc);
+    for word in line.split(' ') {
+        words.push(word)?;
+    }
+    Ok(words)
+}
+
+/// How a command line ends over these bytes, and what it wrote.
 pub fn output_of(
     alloc: Global,
-    word: &str,
+    line: &str,
     bytes: Vec<u8>,
 ) -> Result<(Status, Vec<u8>), AllocError> {
-    let words = command(alloc, word)?;
+    let words = command_line(alloc, line)?;
     let mut source = MemSource::new(bytes);
     let mut sink = MemSink::new(alloc, ROOM)?;
     let status = run_in_memory(alloc, &words, &mut source, &mut sink);

@@ -3,10 +3,12 @@
 
 mod commands;
 
-pub use commands::{command, command_of_two, output_of};
+pub use commands::{command, command_line, command_of_two, output_of};
 
 #[cfg(test)]
 mod certificates;
+#[cfg(test)]
+mod forms;
 #[cfg(test)]
 mod recordings;
 #[cfg(test)]

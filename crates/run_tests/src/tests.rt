@@ -1,5 +1,5 @@
 use crate::recordings::{put_secondary, put_signal, put_turned_signal};
-use crate::{command, command_of_two, output_of};
+use crate::{command, command_line, command_of_two, output_of};
 use cell_tx::CellError;
 use cs_outside::{FailSink, FailSource, MemSink, MemSource, Source, StdSink, StdSource};
 use lte_top::{Status, Words, run};
@@ -186,6 +186,15 @@ fn words_of_no_form_read_nothing(rt: HostRuntime) -> Result<(), Fail> {
         command_of_two(alloc, "make", "4294967296")?,
         command_of_two(alloc, "make", "18446744073709551616")?,
         command_of_two(alloc, "search", "7")?,
+        command_of_two(alloc, "hits", "--json")?,
+        command_of_two(alloc, "--json", "search")?,
+        command_of_two(alloc, "search", "--format")?,
+        command_line(alloc, "search --format ci16")?,
+        command_line(alloc, "search --format cu8 --json")?,
+        command_line(alloc, "search --json --json")?,
+        command_line(alloc, "check --format cu8")?,
+        command_line(alloc, "transmit --format cu8")?,
+        command_line(alloc, "make 7 --format cu8")?,
     ] {
         let mut source = FailSource::new(silence(alloc, 16)?, vec![in alloc; 0u64; 1]?, 16);
         let mut sink = MemSink::new(alloc, ROOM)?;
@@ -301,9 +310,9 @@ fn texts_of_answers(rt: HostRuntime) -> Result<(), Fail> {
             "bad cell: sib1long",
         ),
         (
-            Status::BadCertificate(655_613),
+            Status::BadCertificate(10_501),
             10,
-            "bad certificate at byte 655613",
+            "bad certificate at byte 10501",
         ),
     ] {
         assert_eq!(rt; status.code(), code);

@@ -1,5 +1,6 @@
 use cell_json::JsonError;
 use cell_tx::CellError;
+use cert_stream::StreamError;
 use cs_outside::{Failed, ReadError};
 use sample_file::FileError;
 use std::test::Fail;
@@ -67,5 +68,19 @@ fn texts_of_the_errors_of_sources_descriptions_and_certificates(
         format!(in alloc; "{broken}")?.as_str(),
         "bad certificate at byte 244"
     );
+    Ok(())
+}
+
+#[test]
+fn texts_of_the_errors_of_streams_of_certificates(rt: HostRuntime) -> Result<(), Fail> {
+    let alloc = rt.alloc();
+    for (error, text) in [
+        (StreamError::Broken(10_501), "bad certificate at byte 10501"),
+        (StreamError::TooLong, "too long"),
+        (StreamError::ReadFault, "read fault"),
+        (StreamError::OutOfMemory, "out of memory"),
+    ] {
+        assert_eq!(rt; format!(in alloc; "{error}")?.as_str(), text);
+    }
     Ok(())
 }

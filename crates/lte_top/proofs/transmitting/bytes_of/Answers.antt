@@ -1,6 +1,6 @@
 use Rattle.std.proofs.Common.{◌≡◌, ◌∙◌, arith}
 use Rattle.lte_top.specs.Transmitting.{sent_samples}
-use Rattle.cert_stream.proofs.Buffer.{written_back}
+use Rattle.cert_stream.proofs.Certified.{written_back}
 use Rattle.lte_top.proofs.transmitting.bytes_of.Goals as goal
 
 pub returns : goal.returns
