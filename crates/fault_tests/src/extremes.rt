@@ -1,0 +1,75 @@
+//! Recordings whose samples are as large as they can be.
+
+ghost use Rattle.std.specs.Prelude.{◌≡◌, All, length};
+ghost use Rattle.cs_num.specs.Complex.{IsWithin};
+
+use cs_num::{Cpx, Sample};
+use lte_top::Status;
+use run_tests::output_of;
+use sample_file::bytes_of;
+use std::alloc::{AllocError, Global};
+use std::test::Fail;
+use test_signals::{primary_grid, put_sample, put_symbol, silence, silent};
+
+// 57,600 times this sample.
+fn constant(alloc: Global, re: i16, im: i16) -> Result<Vec<u8>, AllocError> {
+    let mut bytes = silence(alloc, 230_400)?;
+    for at in 0..57_600 {
+        put_sample(&mut bytes, at, re, im);
+    }
+    Ok(bytes)
+}
+
+#[test]
+fn a_constant_of_the_least_number_holds_no_hit_and_no_cell(rt: HostRuntime) -> Result<(), Fail> {
+    for (word, text) in [("hits", "hits 0\n"), ("search", "cells 0\n")] {
+        let bytes = constant(rt.alloc(), -32_768, -32_768)?;
+        let (status, taken) = output_of(rt.alloc(), word, bytes)?;
+        assert_eq!(rt; status, Status::Done, "{word}");
+        assert_eq!(rt; taken.as_slice(), text.as_bytes());
+    }
+    Ok(())
+}
+
+#[test]
+fn a_constant_of_the_greatest_and_the_least_number_holds_no_cell(
+    rt: HostRuntime,
+) -> Result<(), Fail> {
+    let bytes = constant(rt.alloc(), 32_767, -32_768)?;
+    let (status, taken) = output_of(rt.alloc(), "search", bytes)?;
+    assert_eq!(rt; status, Status::Done);
+    assert_eq!(rt; taken.as_slice(), b"cells 0\n".as_slice());
+    Ok(())
+}
+
+// The primary signal of root 25 every 400 samples from sample 1,000 on, each component times 28.
+fn many_loud_signals(alloc: Global) -> Result<Vec<u8>, AllocError> {
+    let mut samples = silent(alloc, 57_600)?;
+    send_often(&mut samples[..], &primary_grid(0));
+    for sample in &mut samples {
+        sample.re = sample.re.saturating_mul(28);
+        sample.im = sample.im.saturating_mul(28);
+    }
+    bytes_of(alloc, &samples)
+}
+
+// Writes a symbol at 1000 + 400 q, for q = 0 to 140.
+fn send_often(samples: &mut [Sample], grid: &[Cpx; 72])
+    requires room { length samples.old ≡ 57600 }
+    requires small { All (IsWithin 127) grid.now }
+{
+    for q in 0..141 {
+        put_symbol(samples, 1000 + 400 * q, grid);
+    }
+}
+
+#[test]
+fn many_loud_signals_are_hits_and_no_cell(rt: HostRuntime) -> Result<(), Fail> {
+    let (status, taken) = output_of(rt.alloc(), "hits", many_loud_signals(rt.alloc())?)?;
+    assert_eq!(rt; status, Status::Done);
+    assert!(rt; taken.starts_with(b"hits 46\n"));
+    let (status, taken) = output_of(rt.alloc(), "search", many_loud_signals(rt.alloc())?)?;
+    assert_eq!(rt; status, Status::Done);
+    assert_eq!(rt; taken.as_slice(), b"cells 0\n".as_slice());
+    Ok(())
+}

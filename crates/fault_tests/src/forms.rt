@@ -1,0 +1,43 @@
+//! The forms of words, each with a valid input.
+
+use crate::inputs::Input;
+use lte_top::Words;
+use std::alloc::{AllocError, Global};
+
+/// The words of a form, and what it is run over.
+pub type Form = (&'static [&'static str], Input);
+
+/// The reports, one a line.
+pub const REPORTS: [Form; 4] = [
+    (&["hits"], Input::Cell16),
+    (&["ids"], Input::Cell16),
+    (&["search"], Input::Cell16),
+    (&["search", "--json"], Input::Cell16),
+];
+
+/// The forms that read samples of 8 bits.
+pub const OF_8_BITS: [Form; 5] = [
+    (&["hits", "--format", "cu8"], Input::Cell8),
+    (&["ids", "--format", "cu8"], Input::Cell8),
+    (&["search", "--format", "cu8"], Input::Cell8),
+    (&["search", "--json", "--format", "cu8"], Input::Cell8),
+    (&["certify", "--format", "cu8"], Input::Cell8),
+];
+
+/// The other forms.
+pub const OTHERS: [Form; 5] = [
+    (&["certify"], Input::Cell16),
+    (&["check"], Input::ZeroCertificate),
+    (&["check"], Input::Certificates),
+    (&["transmit"], Input::Description),
+    (&["make", "0"], Input::Nothing),
+];
+
+/// Words one after the other.
+pub fn words_of(alloc: Global, list: &[&'static str]) -> Result<Words, AllocError> {
+    let mut words = Words::new(alloc);
+    for word in list {
+        words.push(word)?;
+    }
+    Ok(words)
+}

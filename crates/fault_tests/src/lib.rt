@@ -1,0 +1,14 @@
+//! Tests of the top call in hostile use: each call of a source or of a sink fails once, pieces are of one byte, a
+//! writer takes nothing, inputs are cut, and recordings are as large as they can be.
+#![tactic(auto)]
+
+#[cfg(test)]
+mod cuts;
+#[cfg(test)]
+mod extremes;
+#[cfg(test)]
+mod faults;
+#[cfg(test)]
+mod forms;
+#[cfg(test)]
+mod inputs;
