@@ -165,6 +165,16 @@ fn faults_of_identities(rt: HostRuntime) -> Result<(), Fail> {
     Ok(())
 }
 
+// How words are answered where the first call of the source would fail, whether that call is still to come, and what
+// was written.
+fn answer_to(alloc: Global, words: &Words) -> Result<(Status, bool, Vec<u8>), AllocError> {
+    let mut source = FailSource::new(silence(alloc, 16)?, vec![in alloc; 0u64; 1]?, 16);
+    let mut sink = MemSink::new(alloc, ROOM)?;
+    let status = run(alloc, words, &mut source, &mut sink);
+    let unread = source.read(&mut [0; 1]).is_err();
+    Ok((status, unread, sink.taken().to_vec(alloc)?))
+}
+
 #[test]
 fn words_of_no_form_read_nothing(rt: HostRuntime) -> Result<(), Fail> {
     let alloc = rt.alloc();
@@ -186,26 +196,31 @@ fn words_of_no_form_read_nothing(rt: HostRuntime) -> Result<(), Fail> {
         command_of_two(alloc, "make", "4294967296")?,
         command_of_two(alloc, "make", "18446744073709551616")?,
         command_of_two(alloc, "search", "7")?,
-        command_of_two(alloc, "hits", "--json")?,
-        command_of_two(alloc, "--json", "search")?,
-        command_of_two(alloc, "search", "--format")?,
-        command_line(alloc, "search --format ci16")?,
-        command_line(alloc, "search --format cu8 --json")?,
-        command_line(alloc, "search --json --json")?,
-        command_line(alloc, "check --format cu8")?,
-        command_line(alloc, "transmit --format cu8")?,
-        command_line(alloc, "make 7 --format cu8")?,
     ] {
-        let mut source = FailSource::new(silence(alloc, 16)?, vec![in alloc; 0u64; 1]?, 16);
-        let mut sink = MemSink::new(alloc, ROOM)?;
-        let status = run(alloc, &words, &mut source, &mut sink);
+        let (status, unread, taken) = answer_to(alloc, &words)?;
         assert_eq!(rt; status, Status::Usage);
         assert_eq!(rt; status.code(), 2);
-        assert!(rt;
-            source.read(&mut [0; 1]).is_err(),
-            "the first call is still to come"
-        );
-        assert!(rt; sink.taken().is_empty());
+        assert!(rt; unread && taken.is_empty());
+    }
+    Ok(())
+}
+
+#[test]
+fn forms_of_samples_and_json_stand_in_one_order(rt: HostRuntime) -> Result<(), Fail> {
+    for line in [
+        "hits --json",
+        "--json search",
+        "search --format",
+        "search --format ci16",
+        "search --format cu8 --json",
+        "search --json --json",
+        "check --format cu8",
+        "transmit --format cu8",
+        "make 7 --format cu8",
+    ] {
+        let (status, unread, taken) = answer_to(rt.alloc(), &command_line(rt.alloc(), line)?)?;
+        assert_eq!(rt; status, Status::Usage, "{line}");
+        assert!(rt; unread && taken.is_empty(), "{line}");
     }
     Ok(())
 }
