@@ -127,4 +127,5 @@ def main():
         print(size, kind, sent, all(resolves(block(size, kind), ROWS[size], rv, sent) for rv in range(4)), flush=True)
 
 
-main()
+if __name__ == '__main__':
+    main()

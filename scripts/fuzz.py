@@ -19,7 +19,7 @@ TEXTS = {2: 'usage', 3: 'ragged', 4: 'too short', 5: 'too long', 6: 'read fault'
          9: r'bad cell: \w+', 10: r'bad certificate at byte \d+'}
 CODES = {'check': {0, 5, 10}, 'transmit': {0, 5, 9}, 'make': {0}}
 NONSENSE = 'no command'
-SHARES = {'hits': 14, 'ids': 12, 'search': 22, 'certify': 12, 'check': 12, 'transmit': 20, 'make': 0.2, NONSENSE: 8}
+SHARES = {'hits': 14, 'ids': 12, 'search': 22, 'evidence': 8, 'certify': 12, 'check': 12, 'transmit': 20, 'make': 0.2, NONSENSE: 8}
 Input = collections.namedtuple('Input', 'label words data way')
 Ending = collections.namedtuple('Ending', 'code output text seconds')
 

@@ -42,7 +42,7 @@ def words(random, command):
     """The words of a command in one of its forms, some of them of no command."""
     if command == 'make':
         return ['make', str(random.choice([0, 90, 2**32 - 46, 90 * random.randrange(10**6)]))]
-    if command not in ('hits', 'ids', 'search', 'certify'):
+    if command not in ('hits', 'ids', 'search', 'evidence', 'certify'):
         return [command]
     json_words = ['--json'] if random.random() < (0.3 if command == 'search' else 0.03) else []
     form = random.choices([[], ['--format', 'cu8'], ['--format', 'ci8'], ['--format']], [80, 15, 2, 1])[0]
@@ -63,7 +63,7 @@ def nonsense(random):
     if kind == 2:
         first = random.choice(bad + ['', 'Hits', 'search ', ' ids', 'transmit\n'])
         return [first] + random.sample(bad, random.randrange(3))
-    command = random.choice(['hits', 'ids', 'search', 'certify', 'check', 'transmit', 'make'])
+    command = random.choice(['hits', 'ids', 'search', 'evidence', 'certify', 'check', 'transmit', 'make'])
     more = [] if command == 'make' else [random.choice(bad)]
     return [command] + more + random.sample(further, random.randrange(3)) + [random.choice(['x', 'hits'])]
 

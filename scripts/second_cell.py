@@ -142,6 +142,8 @@ def points(bits, c_init):
 
 
 class Frame:
+    MASK = 0  # of the master block's check, with one antenna port (TS 36.212 section 5.3.1.1)
+
     def __init__(self, cell, sfn):
         self.cell, self.sfn, self.identity = cell, sfn, cell['identity']
         self.grid = np.zeros((140, 72, 2), np.int64)
@@ -156,6 +158,10 @@ class Frame:
         for (l, k), value in zip(places, values):
             self.grid[l, k], self.taken[l, k] = value, True
 
+    def send(self, places, values):
+        """The points of a channel: with one antenna port they are sent as they are."""
+        self.put(places, values)
+
     def synchronisation(self):
         n1, n2 = divmod(self.identity, 3)
         for half, slot in ((0, 0), (5, 10)):
@@ -167,9 +173,9 @@ class Frame:
         cell = self.cell
         bits = [0, 0, 0, DURATIONS.index(cell['duration'])] + bits_of(RESOURCES.index(cell['resource']), 2)
         bits += bits_of(self.sfn // 4, 8) + bits_of(cell['spare'], 10)
-        sent = points(convolutional(with_check(bits, 16, 0x11021), 1920), self.identity)
+        sent = points(convolutional(with_check(bits, 16, 0x11021, self.MASK), 1920), self.identity)
         places = [(7 + l, k) for l in range(4) for k in range(72) if l > 1 or (k - self.identity) % 3]
-        self.put(places, sent[240 * (self.sfn % 4):][:240])
+        self.send(places, sent[240 * (self.sfn % 4):][:240])
 
     def groups(self, l):
         """The places of each group of a symbol of a subframe's control region (TS 36.211 section 6.2.4)."""
@@ -182,7 +188,7 @@ class Frame:
         bits = [int((i - self.cell['cfi'] + 1) % 3 != 0) for i in range(32)]
         sent = points(bits, (subframe + 1) * (2 * self.identity + 1) * 2 ** 9 + self.identity)
         mine = [(self.identity % 12 + 3 * i) % 12 for i in range(4)]
-        self.put([(14 * subframe, k) for n in mine for k in self.groups(0)[n]], sent)
+        self.send([(14 * subframe, k) for n in mine for k in self.groups(0)[n]], sent)
         return mine
 
     def control(self, indicator_groups, bits):
@@ -200,7 +206,7 @@ class Frame:
         sent = points(bits, 5 * 2 ** 9 + self.identity)
         for i, (l, subcarriers) in enumerate(groups):
             quadruplet = order[(i + self.identity) % len(groups)]
-            self.put([(70 + l, k) for k in subcarriers], sent[4 * quadruplet:4 * quadruplet + 4])
+            self.send([(70 + l, k) for k in subcarriers], sent[4 * quadruplet:4 * quadruplet + 4])
 
     def system_information(self, indicator_groups):
         cell, rv = self.cell, (0, 2, 3, 1)[self.sfn // 2 % 4]
@@ -213,7 +219,7 @@ class Frame:
         block = with_check((block + [0] * size)[:size], 24, 0x1864cfb)
         places = [(70 + l, k) for l in range(cell['cfi'] + 1, 14) if l not in (5, 6)
                   for k in range(12 * start, 12 * (start + blocks)) if not self.taken[70 + l, k]]
-        self.put(places, points(turbo(block, rv, 2 * len(places)), 65535 * 2 ** 14 + 5 * 2 ** 9 + self.identity))
+        self.send(places, points(turbo(block, rv, 2 * len(places)), 65535 * 2 ** 14 + 5 * 2 ** 9 + self.identity))
 
     def samples(self):
         self.synchronisation()

@@ -3,8 +3,8 @@
 
 A second program for the list, written from docs/DEFINITION.md and the standard (rule 11 also with definitions that it names
 in view), which shares nothing with the repository's code. It prints what `lte_cli search` prints. With `why` it says on
-standard error what it finds on the way: each hit, the identity that it tells, and of each frame and phase the cost, the
-total and the antenna ports whose check passes (0: none); then, of each cell and each frame of even number that is tried, how
+standard error what it finds on the way: each hit, the identity that it tells, and of the frames that are read together at
+each phase the cost, the total and the antenna ports whose check passes (0: none); then, of each cell and each frame of even number that is tried, how
 far rule 11 comes in it, and why it stops. Slow: seconds for each hit. Debian: python3-numpy. Recordings: second_cell.py.
 """
 import sys
@@ -187,7 +187,8 @@ def values_at(symbols, places, scrambling):
 
 # ---- the least word
 
-CODED = [[[sum(b if t == 0 else x >> 6 - t & 1 for t in taps) % 2 for taps in TAPS] for b in (0, 1)] for x in range(64)]
+CODED = np.array([[[sum(b if t == 0 else x >> 6 - t & 1 for t in taps) % 2 for taps in TAPS] for b in (0, 1)]
+                  for x in range(64)])
 
 
 def block_order(count):
@@ -212,21 +213,14 @@ def added(values, reading):
 
 
 def least(sums):
-    """The least cost, and the first word of it as a number."""
-    costs = [[[sum(abs(v) for v, c in zip(row, CODED[x][b]) if v and (v > 0) == c) for b in (0, 1)] for x in range(64)]
-             for row in sums]
-    best = None
-    for start in range(64):
-        now = {start: (0, 0)}
-        for step in costs:
-            after = {}
-            for x, (cost, word) in now.items():
-                for b in (0, 1):
-                    y, key = x // 2 + 32 * b, (cost + step[x][b], 2 * word + b)
-                    after[y] = min(after.get(y, key), key)
-            now = after
-        best = now[start] if best is None else min(best, now[start])
-    return best
+    """The least cost, and the first word of it as a number: by start and state, keys of a cost and of a word's front."""
+    count = len(sums)
+    keys = np.where(np.eye(64, dtype=bool), 0, 1 << 62)
+    for i, row in enumerate(np.array(sums)):
+        step = (abs(row) * ((row > 0) == CODED)).sum(2) << count
+        ways = [keys + step[:, b] + (b << count - 1 - i) for b in (0, 1)]
+        keys = np.hstack([np.minimum(way[:, 0::2], way[:, 1::2]) for way in ways])
+    return divmod(int(keys.diagonal().min()), 1 << count)
 
 
 def crc(number, count, polynomial=0x11021):
@@ -440,16 +434,22 @@ def system_lines(r, entry, say):
 
 # ---- the list
 
-def masters(r, cell, start, j, say):
-    """What frame j of a start tells: phase, ports and the 24 bits of each master block."""
-    symbols, sequence = slot_values(r, start + FRAME * j, cell, 1), pseudo_random(cell, 1920)
-    places = [(l, k) for l in range(4) for k in range(72) if l >= 2 or k % 3 != cell % 3]
-    for phase in range(4):
-        sums = added(values_at(symbols, places, sequence[480 * phase:480 * phase + 480]), coded_reading(40))
+def broadcast_values(r, cell, start, j):
+    """The 480 values of frame j of a start, before descrambling."""
+    symbols = slot_values(r, start + FRAME * j, cell, 1)
+    return [value for l in range(4) for k in range(72) if l >= 2 or k % 3 != cell % 3 for value in symbols[l][k]]
+
+
+def masters(frames, sequence, phases, say):
+    """What frames of one period tell together: phase of the first, ports and the 24 bits of each master block."""
+    values = [value for frame in frames for value in frame]
+    for phase in phases:
+        scrambling = sequence[480 * phase:]
+        sums = added([-value if bit else value for value, bit in zip(values, scrambling)], coded_reading(40))
         total = sum(abs(v) for row in sums for v in row)
         cost, word = least(sums)
         ports = PORTS.get(crc(word >> 16, 24) ^ word & 0xffff, 0)
-        say(f'  frame {j} phase {phase} cost {cost} of {total} ports {ports}')
+        say(f'    phase {phase} cost {cost} of {total} ports {ports}')
         if total > 0 and 4 * cost <= total and ports and word >> 37 <= 5:
             yield phase, ports, word >> 16
 
@@ -458,12 +458,16 @@ def entries(r, t, n2, say):
     """Start, identity, frame number, ports and block of each entry of a hit."""
     cell, start = identity(r, t, n2)
     say(f'hit {t} {n2}: identity {cell} at {start}')
-    for j in range(min(8, (len(r) - start) // FRAME)):
-        found = list(masters(r, cell, start, j, say))
-        for phase, ports, block in found:
-            yield start, cell, (4 * (block >> 10 & 255) + phase - j) % 1024, ports, block
-        if found:
-            return
+    sequence = pseudo_random(cell, 1920)
+    frames = [broadcast_values(r, cell, start, j) for j in range(min(8, (len(r) - start) // FRAME))]
+    for count in range(1, 5):
+        for j in range(len(frames) - count + 1):
+            say(f'  frames {j} to {j + count - 1}')
+            found = list(masters(frames[j:j + count], sequence, range(5 - count), say))
+            for phase, ports, block in found:
+                yield start, cell, (4 * (block >> 10 & 255) + phase - j) % 1024, ports, block
+            if found:
+                return
 
 
 def is_same_cell(a, b):

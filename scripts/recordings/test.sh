@@ -96,6 +96,11 @@ fi
 "$here/../check_certificate.py" < certificate | says 'check_certificate.py answers as check does' "$(cat answers)"
 head -c 384000 sent.ci16 > five
 "$here/../second_search.py" < five | says 'second_search.py lists what search lists' "$("$program" search < five)"
+"$program" transmit < "$here/../descriptions/chance_line.json" > two_lines
+for file in five two_lines "$here/../../crates/capture_example/stdin"; do
+    "$here/../second_evidence.py" < "$file" |
+        says "second_evidence.py writes what evidence writes of ${file##*/}" "$("$program" evidence < "$file")"
+done
 printf '\377' | dd of=certificate bs=1 seek=244 conv=notrunc status=none
 "$program" check < certificate | says 'another word is refused' 'certificates 1
 0 no'

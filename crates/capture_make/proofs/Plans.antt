@@ -8,10 +8,11 @@ use Rattle.sib1.proofs.Texts.{text_of_is}
 use Rattle.sib1.proofs.Valid.{sib1_holds}
 use Rattle.cell_tx.specs.Plan.{IsSendable, plan_refusal}
 use Rattle.cell_tx.proofs.Sendable.{accepted_is_sendable}
+use Rattle.cell_tx.proofs.WholeBlocks.{whole_is_resolvable}
 use Rattle.capture_make.specs.Recipe.{plan, information}
 use Rattle.capture_make.proofs.Information.{has_text}
 
--- 152 times three coded bits in 1,224 or 1,080
+-- 172 times three coded bits in 1,224 or 1,080
 whole : (parity : ℕ) → parity < 2 → 3 * (144 + 24 + 4) ≤ 2 * (block_places (2 + parity) * 6)
 whole zero l = omega arith
 whole (suc zero) l = omega arith
@@ -35,7 +36,7 @@ is_sendable n =
       assignment = record { some = omega arith; inside = omega arith };
       column = inl refl;
       mcs = refl;
-      whole = whole (n % 2) (omega arith);
+      enough = whole_is_resolvable (plan n) refl (whole (n % 2) (omega arith));
       duplex = refl;
       extension = refl;
       text = fits n;

@@ -5,7 +5,8 @@ mod errors;
 mod made;
 mod recipe;
 
-pub use made::{Made, made_is_clean, make};
+pub use made::{Made, made_is_clean, make, with_errors};
+pub use recipe::{number, offset, plan, sample_count};
 
 #[cfg(test)]
 mod tests;

@@ -40,8 +40,9 @@ fn sent_samples(alloc: Global, t: &Transmission) -> Result<Vec<Sample>, AllocErr
     Ok(samples)
 }
 
-// Samples with the errors of number n.
-fn with_errors(n: u32, bound: u16, mut samples: Vec<Sample>) -> Vec<Sample>
+/// Samples, whose components have size at most 32,284, with the errors of number `n`; no component of an error has a
+/// greater size than `bound`, which is at most 56.
+pub fn with_errors(n: u32, bound: u16, mut samples: Vec<Sample>) -> Vec<Sample>
     requires bound { bound ≤ 56 }
     requires room { All (λ s. IsWithin 32284 (value_of s)) samples.items }
     ensures { result.items ≡ values_below (length samples.items)

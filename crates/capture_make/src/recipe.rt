@@ -3,7 +3,7 @@
 ghost use Rattle.std.specs.Prelude.{◌≡◌, ◌≤◌, ◌%◌, [], ◌∷◌, pos, length, None};
 ghost use Rattle.lte_types.specs.Codes.{duration as duration_with, resource as resource_with};
 ghost use Rattle.lte_types.specs.Ranges.{IsValid};
-ghost use Rattle.cell_tx.specs.Plan.{IsSendable};
+ghost use Rattle.cell_tx.specs.Clean.{IsOffset, IsCount};
 ghost use Rattle.cell_tx.specs.Sent.{gain_of};
 ghost use Rattle.capture_make.specs.Recipe.{network, message as message_of, information as information_of, plan as plan_of, number, offset, sample_count, gain as gain_with, IsBound};
 
@@ -92,8 +92,8 @@ fn resource(n: u32) -> Resource
     }
 }
 
-// The plan of the cell.
-fn plan(n: u32) -> CellPlan
+/// The plan of the cell of recording number `n`.
+pub fn plan(n: u32) -> CellPlan
     ensures { result ≡ plan_of n }
 {
     CellPlan {
@@ -127,6 +127,29 @@ fn gain(n: u32) -> (i16, i16)
     ((1 + n % 19) as i16, (n % 20) as i16)
 }
 
+/// The number of the first frame of recording number `n`.
+pub fn number(n: u32) -> Sfn
+    ensures { result ≡ number n }
+{
+    Sfn::modulo(n as u64)
+}
+
+/// The first sample of that frame which is sent, 0 to 19,199.
+pub fn offset(n: u32) -> u32
+    ensures value { result ≡ offset n }
+    ensures bound { IsOffset result }
+{
+    n % FRAME
+}
+
+/// How many samples recording number `n` has: those of 10 to 99 frames.
+pub fn sample_count(n: u32) -> u32
+    ensures value { result ≡ sample_count n }
+    ensures bound { IsCount result }
+{
+    FRAME * (10 + n % 90)
+}
+
 /// What is sent for number `n`.
 pub(crate) fn transmission(n: u32) -> Transmission
     ensures cell { result.cell ≡ plan_of n }
@@ -137,9 +160,9 @@ pub(crate) fn transmission(n: u32) -> Transmission
 {
     Transmission {
         cell: cell(n),
-        sfn: Sfn::modulo(n as u64),
-        offset: n % FRAME,
-        samples: FRAME * (10 + n % 90),
+        sfn: number(n),
+        offset: offset(n),
+        samples: sample_count(n),
         gain: gain(n),
     }
 }

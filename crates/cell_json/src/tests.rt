@@ -232,7 +232,10 @@ fn the_plan_is_one_of_a_cell(rt: HostRuntime) -> Result<(), Fail> {
     refused(
         &rt,
         alloc,
-        &[", \"mcs\": 8, \"column\": 3"],
+        &[
+            ", \"mcs\": 21, \"blocks\": 1",
+            ", \"mcs\": 9, \"cfi\": 3, \"blocks\": 3",
+        ],
         CellError::Punctured,
     )?;
     refused(&rt, alloc, &[", \"mcs\": 2"], CellError::Sib1Long)?;

@@ -15,8 +15,8 @@ use test_signals::{add_errors, oppose, put_rows, put_signals, silence, silent};
 // The room of a sink where none is named.
 const ROOM: usize = 16_777_216;
 
-// A plain cell: identity 0, all from the first sample on, and the gain 1.
-const PLAIN: &str = r#"{"identity": 0, "sfn": 0, "offset": 0, "samples": 57600, "gain": [1, 0],
+/// A plain cell: identity 0, all from the first sample on, and the gain 1.
+pub const PLAIN: &str = r#"{"identity": 0, "sfn": 0, "offset": 0, "samples": 57600, "gain": [1, 0],
  "duration": "normal", "resource": "one", "spare": 0"#;
 
 // The rest of a description: what grants system information, and the information itself.
@@ -35,10 +35,19 @@ fn sent_by_text(alloc: Global, text: &str) -> Result<(Status, Vec<u8>), AllocErr
     output_of(alloc, "transmit", text.as_bytes().to_vec(alloc)?)
 }
 
-// The same over the front of a description and its rest.
-fn sent_by(alloc: Global, front: &str) -> Result<(Status, Vec<u8>), AllocError> {
+/// The same over the front of a description and its rest.
+pub fn sent_by(alloc: Global, front: &str) -> Result<(Status, Vec<u8>), AllocError> {
     let mut text = front.as_bytes().to_vec(alloc)?;
     text.extend_from_slice(REST.as_bytes())?;
+    output_of(alloc, "transmit", text)
+}
+
+// The same over the plain cell's description with further keys, of which the last value stands.
+fn sent_with(alloc: Global, keys: &str) -> Result<(Status, Vec<u8>), AllocError> {
+    let mut text = PLAIN.as_bytes().to_vec(alloc)?;
+    text.extend_from_slice(REST.as_bytes())?;
+    text.pop();
+    text.extend_from_slice(keys.as_bytes())?;
     output_of(alloc, "transmit", text)
 }
 
@@ -188,6 +197,41 @@ fn a_usual_cell_is_found_with_its_schedule(rt: HostRuntime) -> Result<(), Fail> 
 sib1 tac 77 cell 258 open allowed csg 0 - rx -64 offset - pmax 23 band 3 window ms20 tag 9 tdd - extension 0\n\
 plmn 262 042 free\nsi rf8 -\nsi rf16 0\nsi rf32 1\nsi rf64 2,3\n";
     assert!(rt; contains(&taken, lines.as_bytes()));
+    Ok(())
+}
+
+#[test]
+fn cells_with_punctured_blocks_are_found(rt: HostRuntime) -> Result<(), Fail> {
+    // Of 1,260 coded bits 1,224 are sent, and of 2,412, by which the bits are told in the fourth iteration alone:
+    // redundancy version 2 is the first that is sent.
+    for keys in [
+        ", \"sfn\": 2, \"mcs\": 8, \"column\": 3}",
+        ", \"sfn\": 2, \"mcs\": 18}",
+    ] {
+        let (status, bytes) = sent_with(rt.alloc(), keys)?;
+        assert_eq!(rt; status, Status::Done, "{keys}");
+        let (status, taken) = output_of(rt.alloc(), "search", bytes)?;
+        assert_eq!(rt; status, Status::Done);
+        let lines = "cell 0 at 0 sfn 2 ports 1 n6 phich normal one br 0 spare 0\n\
+sib1 tac 1 cell 1 open allowed csg 0 - rx -70 offset - pmax - band 1 window ms1 tag 0 tdd - extension 0\n\
+plmn 001 01 free\nsi rf8 -\n";
+        assert!(rt; contains(&taken, lines.as_bytes()), "{keys}");
+    }
+    Ok(())
+}
+
+#[test]
+fn cells_whose_punctured_block_cannot_be_resolved_are_refused(rt: HostRuntime) -> Result<(), Fail> {
+    for keys in [
+        ", \"mcs\": 21, \"blocks\": 1}",
+        ", \"mcs\": 9, \"cfi\": 3, \"blocks\": 3}",
+        // After one iteration the word with zeros in place of what is not told yet passes its check.
+        ", \"mcs\": 17}",
+    ] {
+        let (status, taken) = sent_with(rt.alloc(), keys)?;
+        assert_eq!(rt; status, Status::BadCell(CellError::Punctured), "{keys}");
+        assert!(rt; taken.is_empty());
+    }
     Ok(())
 }
 

@@ -1,4 +1,4 @@
-//! Tests of the list, and of `search`, `certify`, `transmit` and `make` over sources and sinks in memory.
+//! Tests of the list, and of `search`, `evidence`, `certify`, `transmit` and `make` over sources and sinks in memory.
 #![tactic(auto)]
 
 #[cfg(test)]
@@ -9,3 +9,5 @@ mod lists;
 mod made;
 #[cfg(test)]
 mod rows;
+#[cfg(test)]
+mod supports;

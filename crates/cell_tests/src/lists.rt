@@ -3,9 +3,11 @@
 ghost use Rattle.std.specs.Prelude.{◌≡◌, All, length};
 ghost use Rattle.cs_num.specs.Complex.{IsWithin};
 
-use crate::rows::WIDE;
+use crate::rows::{SPARSE, WIDE};
 use cs_num::{Cpx, Sample};
-use explain::{EntryList, Workspace, explain, the_list_in_plain_words, values_of};
+use explain::{
+    EntryList, Workspace, explain, one_frame_is_enough, the_list_in_plain_words, values_of,
+};
 use lte_types::{Bandwidth, Duration, Mib, Resource, Sib1Reason};
 use sample_file::Recording;
 use std::test::Fail;
@@ -28,6 +30,15 @@ fn send_often(samples: &mut [Sample], grid: &[Cpx; 72])
 {
     for q in 0..141 {
         put_symbol(samples, 1000 + 400 * q, grid);
+    }
+}
+
+// Sends slot 1 of four frames that follow one another.
+fn send_frames(samples: &mut [Sample], frames: &[Rows; 4])
+    requires { length samples.old ≡ 96000 }
+{
+    for m in 0..4 {
+        put_rows(samples, 19_200 * m, &frames[m]);
     }
 }
 
@@ -78,7 +89,10 @@ fn a_master_block_of_the_first_frame_is_an_entry(rt: HostRuntime) -> Result<(), 
         ),
         (0, 0, 0, 1)
     );
-    assert_eq!(rt; (entry.frame, entry.phase, entry.cost), (0, 0, 0));
+    assert_eq!(rt;
+        (entry.frames, entry.frame, entry.phase, entry.cost),
+        (1, 0, 0, 0)
+    );
     assert!(rt; has_fields(&entry.mib, Bandwidth::N50, Duration::Normal, Resource::One));
     assert_eq!(rt; (entry.mib.upper, entry.mib.spare), (0, 0));
     assert_eq!(rt;
@@ -113,8 +127,42 @@ fn a_later_frame_tells_the_number_of_the_first(rt: HostRuntime) -> Result<(), Fa
         ),
         (0, 18_000, 22, 4)
     );
-    assert_eq!(rt; (entry.frame, entry.phase, entry.cost), (1, 3, 0));
+    assert_eq!(rt;
+        (entry.frames, entry.frame, entry.phase, entry.cost),
+        (1, 1, 3, 0)
+    );
     assert!(rt; has_fields(&entry.mib, Bandwidth::N6, Duration::Extended, Resource::Two));
     assert_eq!(rt; (entry.mib.upper, entry.mib.spare), (5, 1023));
+    Ok(())
+}
+
+#[test]
+fn four_frames_tell_together_what_fewer_do_not(rt: HostRuntime) -> Result<(), Fail> {
+    let mut work = Workspace::new(rt.alloc())?;
+    let mut list = EntryList::new(rt.alloc())?;
+    let mut samples = silent(rt.alloc(), 96_000)?;
+    put_signals(&mut samples[..], 0);
+    send_frames(&mut samples[..], &SPARSE);
+    let recording = Recording::new(samples).expect(&rt, "50 ms");
+    explain(&recording, &mut work, &mut list);
+    assert_eq!(rt; list.slice().len(), 1);
+    let entry = &list.slice()[0];
+    assert_eq!(rt;
+        (
+            entry.id.value(),
+            entry.start,
+            entry.sfn.value(),
+            entry.ports
+        ),
+        (0, 0, 724, 2)
+    );
+    assert_eq!(rt;
+        (entry.frames, entry.frame, entry.phase, entry.cost),
+        (4, 0, 0, 0)
+    );
+    assert!(rt; has_fields(&entry.mib, Bandwidth::N6, Duration::Extended, Resource::Two));
+    assert_eq!(rt; (entry.mib.upper, entry.mib.spare), (181, 1000));
+    let _values = values_of(&recording, entry);
+    one_frame_is_enough();
     Ok(())
 }

@@ -1,6 +1,6 @@
 -- Each size of the tables of transport blocks has its row of the turbo code's table.
-use Rattle.std.proofs.Common.{◌≡◌, ℕ, zero, suc, ◌+◌, ◌<◌, ◌≤◌, Bool, true, false, List, [], ◌∷◌, length, get_or, Some, refl, subst, arith}
-use Rattle.std.specs.Prelude.{if◌then◌else◌, ◌&&◌, nat_eq, nat_lt, slice_get}
+use Rattle.std.proofs.Common.{◌≡◌, ℕ, zero, suc, ◌+◌, ◌<◌, ◌≤◌, Bool, true, false, List, [], ◌∷◌, length, get_or, Option, Some, None, refl, ap, sym, subst, ◌∙◌, arith}
+use Rattle.std.specs.Prelude.{if◌then◌else◌, ◌&&◌, nat_eq, nat_lt, slice_get, IfSome}
 use Rattle.std.specs.List.{list_all, position_or_len}
 use Rattle.std.proofs.lemmas.Bool.{eqb-true, ltb-true, and_parts}
 use Rattle.std.proofs.lemmas.List.Sums.{passes_at_first}
@@ -8,8 +8,8 @@ use Rattle.std.proofs.lemmas.Option.{slice_get_within, get_or_from_slice_get}
 use Rattle.dci.specs.Sizes.{column_2, column_3, size_of}
 use Rattle.turbo_code.specs.declared.rows.Row.{Row}
 use Rattle.turbo_code.specs.Table.{rows, row, IsRow, IsSize}
-use Rattle.turbo_code.proofs.TableFacts.{row_passes, row_at}
-use Rattle.cell_tx.specs.Shared.{row_with}
+use Rattle.turbo_code.proofs.TableFacts.{row_passes, row_at, is_small_size}
+use Rattle.cell_tx.specs.Transport.{row_with}
 
 -- ---- each size has a row
 
@@ -54,6 +54,15 @@ size_fits mcs column size is = settle (nat_eq column 2) is
     settle true e = is_sized size (of_column column_2 mcs size all_sized.0 e)
     settle false e = is_sized size (of_column column_3 mcs size all_sized.1 e)
 
+-- in a table's entry, where there is one
+pub entries_fit : (mcs column : ℕ) (entry : Option ℕ) → entry ≡ size_of mcs column → IfSome entry (λ size. IsSize (size + 24))
+entries_fit mcs column None is = cc
+entries_fit mcs column (Some size) is = size_fits mcs column size (sym is)
+
+pub entries_small : (entry : Option ℕ) → IfSome entry (λ size. IsSize (size + 24)) → IfSome entry (λ size. size ≤ 1000)
+entries_small None fits = cc
+entries_small (Some size) fits = omega (arith, (is_small_size (size + 24) fits).high)
+
 -- ---- a row is that of its K
 
 is_itself : Row → Bool
@@ -73,6 +82,16 @@ row_with_is r h =
     let parts = and_parts (nat_eq s.k r.k && nat_eq s.f1 r.f1) (nat_eq s.f2 r.f2) (row_passes is_itself all_themselves r h) in
     let fronts = and_parts (nat_eq s.k r.k) (nat_eq s.f1 r.f1) parts.0 in
     same_row s.k r.k s.f1 r.f1 s.f2 r.f2 (eqb-true s.k r.k fronts.0) (eqb-true s.f1 r.f1 fronts.1) (eqb-true s.f2 r.f2 parts.1)
+
+-- the row of its K is one of the table
+pub record IsRowOf (k : ℕ) (row : Row) : Type 0 where
+  pub is : IsRow row
+  pub size : row.k ≡ k
+
+pub row_of_size : (k : ℕ) → IsSize k → IsRowOf k (row_with k)
+row_of_size k (r, is, size) =
+    let same : r ≡ row_with k = sym (row_with_is r is) ∙ ap row_with size in
+    subst (IsRowOf k) same (record { is = is; size = size })
 
 -- ---- schemes with a size
 

@@ -1,5 +1,5 @@
 -- Sizes of elements and of samples.
-use Rattle.std.proofs.Common.{◌≡◌, ℕ, ◌+◌, ◌-◌, ◌*◌, ◌/◌, ◌%◌, ◌<◌, ◌≤◌, ◌^◌, inl, inr, Bool, true, false, nat_lt, arith, refl, sym, subst, ap, ◌∙◌, ℤ, pos, ◌+ℤ◌, ◌*ℤ◌}
+use Rattle.std.proofs.Common.{◌≡◌, ℕ, ◌+◌, ◌-◌, ◌*◌, ◌/◌, ◌%◌, ◌<◌, ◌≤◌, ◌^◌, inl, inr, Bool, true, false, nat_eq, nat_lt, arith, refl, sym, subst, ap, ◌∙◌, ℤ, pos, neg_ℤ, ◌+ℤ◌, ◌*ℤ◌}
 use Rattle.std.specs.Prelude.{if◌then◌else◌, nat_abs}
 use Rattle.std.proofs.lemmas.Bool.{cases_lt}
 use Rattle.std.proofs.lemmas.Int.{ints, unsigned_abs-mul}
@@ -19,15 +19,17 @@ use Rattle.fold128.specs.Symbol.{frequency, useful_term, useful_at}
 use Rattle.fold128.proofs.EntrySizes.{w-square, z-square}
 use Rattle.lte_types.specs.declared.frame.Half.{Half}
 use Rattle.crs.specs.Qpsk.{IsFull, IsPoint}
-use Rattle.crs.specs.Reference.{is_reference}
 use Rattle.crs.proofs.Values.{reference-IsPoint, component-IsFull}
 use Rattle.sync_seq.specs.Primary.{root_of, turns, pss_at}
 use Rattle.sync_seq.specs.Secondary.{sss_at}
 use Rattle.sync_seq.proofs.PrimaryValues.{pss_is, pss-within}
 use Rattle.sync_seq.proofs.SecondaryValues.{sss-size}
+use Rattle.cell_tx.specs.declared.antenna.Port.{Port}
+use Rattle.cell_tx.specs.declared.antenna.Port.TheVariants.{Only, First, Second}
 use Rattle.cell_tx.specs.declared.cell.CellPlan.{CellPlan}
-use Rattle.cell_tx.specs.Block.{broadcast_bit, broadcast_point, scrambled_bit}
-use Rattle.cell_tx.specs.Grid.{is_primary, is_secondary, is_broadcast, is_indicator, is_control, is_shared, channel_value, element}
+use Rattle.cell_tx.specs.Ports.{sent_point, sent_signal, is_own_reference, is_other_reference}
+use Rattle.cell_tx.specs.Block.{port_bit, port_point, scrambled_bit}
+use Rattle.cell_tx.specs.Grid.{is_primary, is_secondary, is_broadcast, is_indicator, is_control, is_shared, port_channel_value, port_element, element}
 use Rattle.cell_tx.specs.Points.{scrambled, point_of}
 use Rattle.cell_tx.specs.Control.{indicator_point, control_word, control_point}
 use Rattle.cell_tx.specs.Shared.{shared_bit, shared_point}
@@ -44,45 +46,66 @@ pick : (P : Cpx → Type 0) (c : Bool) (a b : Cpx) → P a → P b → P (if c t
 pick P true a b p q = p
 pick P false a b p q = q
 
-point_full : (plan : CellPlan) (sfn i : ℕ) → IsPoint (broadcast_point plan sfn i)
-unfolding broadcast_point
-point_full plan sfn i = record { re = component-IsFull (broadcast_bit plan sfn (2 * i)); im = component-IsFull (broadcast_bit plan sfn (2 * i + 1)) }
+pub broadcast_full : (port : Port) (plan : CellPlan) (sfn i : ℕ) → IsPoint (port_point port plan sfn i)
+unfolding port_point
+broadcast_full port plan sfn i = record { re = component-IsFull (port_bit port plan sfn (2 * i)); im = component-IsFull (port_bit port plan sfn (2 * i + 1)) }
 
 bits_full : (bits : ℕ → Bool) (i : ℕ) → IsPoint (point_of bits i)
 bits_full bits i = record { re = component-IsFull (bits (2 * i)); im = component-IsFull (bits (2 * i + 1)) }
 
-indicator_full : (plan : CellPlan) (subframe i : ℕ) → IsPoint (indicator_point plan subframe i)
+pub indicator_full : (plan : CellPlan) (subframe i : ℕ) → IsPoint (indicator_point plan subframe i)
 unfolding indicator_point
 indicator_full plan subframe i = bits_full (scrambled (pcfich_c_init plan.identity (2 * subframe)) (indicator_bit plan.cfi)) i
 
-control_full : (plan : CellPlan) (sfn i : ℕ) → IsPoint (control_point plan sfn i)
+pub control_full : (plan : CellPlan) (sfn i : ℕ) → IsPoint (control_point plan sfn i)
 unfolding control_point
 control_full plan sfn i = bits_full (scrambled_bit (pdcch_c_init plan.identity 10) (control_word plan sfn)) i
 
-shared_full : (plan : CellPlan) (sfn i : ℕ) → IsPoint (shared_point plan sfn i)
+pub shared_full : (plan : CellPlan) (sfn i : ℕ) → IsPoint (shared_point plan sfn i)
 unfolding shared_point
 shared_full plan sfn i = bits_full (scrambled (pdsch_c_init plan.identity 10 system_information_rnti) (shared_bit plan sfn)) i
 
-channel_all : (P : Cpx → Type 0) → ((z : Cpx) → IsPoint z → P z) → P nothing → (plan : CellPlan) (sfn subframe symbol k : ℕ) → P (channel_value plan sfn subframe symbol k)
-unfolding channel_value
-channel_all P full none plan sfn subframe symbol k =
-    pick P (is_broadcast plan.identity subframe symbol k) _ _ (full _ (point_full plan sfn _))
-    (pick P (is_indicator plan symbol k) _ _ (full _ (indicator_full plan subframe _))
-    (pick P (is_control plan sfn subframe symbol k) _ _ (full _ (control_full plan sfn _))
-    (pick P (is_shared plan sfn subframe symbol k) _ _ (full _ (shared_full plan sfn _)) none)))
+-- so have those that a port sends
+negative_full : (z : ℤ) → IsFull z → IsFull (neg_ℤ z)
+negative_full z (inl e) = inr (ap neg_ℤ e)
+negative_full z (inr e) = inl (ap neg_ℤ e)
+
+sent_full : (port : Port) (f : ℕ → Cpx) → ((i : ℕ) → IsPoint (f i)) → (i : ℕ) → IsPoint (sent_point port f i)
+sent_full Only f full i = full i
+sent_full First f full i = full i
+sent_full Second f full i =
+    let next = full (i + 1) in
+    let before = full (i - 1) in
+    pick IsPoint (nat_eq (i % 2) 0) _ _
+    (record { re = negative_full (f (i + 1)).re next.re; im = negative_full _ (negative_full (f (i + 1)).im next.im) })
+    (record { re = before.re; im = negative_full (f (i - 1)).im before.im })
+
+channel_all : (P : Cpx → Type 0) → ((z : Cpx) → IsPoint z → P z) → P nothing → (port : Port) (plan : CellPlan) (sfn subframe symbol k : ℕ) → P (port_channel_value port plan sfn subframe symbol k)
+unfolding port_channel_value
+channel_all P full none port plan sfn subframe symbol k =
+    pick P (is_broadcast plan.identity subframe symbol k) _ _ (full _ (sent_full port (port_point port plan sfn) (broadcast_full port plan sfn) _))
+    (pick P (is_indicator plan symbol k) _ _ (full _ (sent_full port (indicator_point plan subframe) (indicator_full plan subframe) _))
+    (pick P (is_control plan sfn subframe symbol k) _ _ (full _ (sent_full port (control_point plan sfn) (control_full plan sfn) _))
+    (pick P (is_shared port plan sfn subframe symbol k) _ _ (full _ (sent_full port (shared_point plan sfn) (shared_full plan sfn) _)) none)))
+
+signal_all : (P : Cpx → Type 0) (port : Port) (z : Cpx) → P z → P nothing → P (sent_signal port z)
+signal_all P Only z here none = here
+signal_all P First z here none = here
+signal_all P Second z here none = none
 
 -- what holds of each kind of value holds of every element
 element_all : (P : Cpx → Type 0) → ((z : Cpx) → IsPoint z → P z) → ((n2 n : ℕ) → P (pss_at n2 n))
     → ((n1 n2 : ℕ) (half : Half) (n : ℕ) → P (record { re = pos 127 *ℤ sss_at n1 n2 half n; im = pos 0 })) → P nothing
-    → (plan : CellPlan) (sfn subframe symbol k : ℕ) → P (element plan sfn subframe symbol k)
-unfolding element
-element_all P full primary secondary none plan sfn subframe symbol k =
-    pick P (is_reference plan.identity (symbol % 7) k) _ _
+    → (port : Port) (plan : CellPlan) (sfn subframe symbol k : ℕ) → P (port_element port plan sfn subframe symbol k)
+unfolding port_element
+element_all P full primary secondary none port plan sfn subframe symbol k =
+    pick P (is_own_reference port plan.identity (symbol % 7) k) _ _
     (subst P (sym (reference_at_is plan.identity (2 * subframe + symbol / 7) (symbol % 7) k))
     (full _ (reference-IsPoint plan.identity (2 * subframe + symbol / 7) (symbol % 7) (k / 6))))
-    (pick P (is_primary subframe symbol k) _ _ (primary (plan.identity % 3) (k - 5))
-    (pick P (is_secondary subframe symbol k) _ _ (secondary (plan.identity / 3) (plan.identity % 3) (half_of subframe) (k - 5))
-    (channel_all P full none plan sfn subframe symbol k)))
+    (pick P (is_other_reference port plan.identity (symbol % 7) k) _ _ none
+    (pick P (is_primary subframe symbol k) _ _ (signal_all P port _ (primary (plan.identity % 3) (k - 5)) none)
+    (pick P (is_secondary subframe symbol k) _ _ (signal_all P port _ (secondary (plan.identity / 3) (plan.identity % 3) (half_of subframe) (k - 5)) none)
+    (channel_all P full none port plan sfn subframe symbol k))))
 
 pub full_size : (z : ℤ) → IsFull z → nat_abs z ≡ 90
 full_size z (inl e) = rw e refl
@@ -91,7 +114,7 @@ full_size z (inr e) = rw e refl
 secondary_size : (n1 n2 : ℕ) (half : Half) (n : ℕ) → nat_abs (pos 127 *ℤ sss_at n1 n2 half n) ≡ 127
 secondary_size n1 n2 half n = unsigned_abs-mul (pos 127) (sss_at n1 n2 half n) ∙ rw (sss-size n1 n2 half n) refl
 
-pub element-within : (plan : CellPlan) (sfn subframe symbol k : ℕ) → IsWithin 127 (element plan sfn subframe symbol k)
+pub element-within : (port : Port) (plan : CellPlan) (sfn subframe symbol k : ℕ) → IsWithin 127 (port_element port plan sfn subframe symbol k)
 element-within =
     element_all (IsWithin 127)
     (λ z full. record { re = omega (arith, full_size z.re full.re); im = omega (arith, full_size z.im full.im) })
@@ -102,7 +125,7 @@ element-within =
 primary-square : (n2 n : ℕ) → square (pss_at n2 n) ≤ 128 * 128
 primary-square n2 n = rw (pss_is n2 n) (z-square ((63 - root_of n2) * turns n))
 
-pub element-square : (plan : CellPlan) (sfn subframe symbol k : ℕ) → square (element plan sfn subframe symbol k) ≤ 128 * 128
+pub element-square : (port : Port) (plan : CellPlan) (sfn subframe symbol k : ℕ) → square (port_element port plan sfn subframe symbol k) ≤ 128 * 128
 element-square =
     element_all (λ z. square z ≤ 128 * 128)
     (λ z full. rw (full_size z.re full.re, full_size z.im full.im) (omega arith))
@@ -150,8 +173,8 @@ module _ (grid : Elements) (small : (sfn subframe symbol k : ℕ) → square (gr
   unfolding sent
   small-sent-square sfn i = frame-square (number_of sfn i) (i % 19200)
 
-pub sent-square : (plan : CellPlan) (sfn i : ℕ) → square (sent (element plan) sfn i) ≤ 1153 * 1153
-sent-square plan = small-sent-square (element plan) (element-square plan)
+pub sent-square : (port : Port) (plan : CellPlan) (sfn i : ℕ) → square (sent (port_element port plan) sfn i) ≤ 1153 * 1153
+sent-square port plan = small-sent-square (port_element port plan) (element-square port plan)
 
 -- a number of that size fits 16 bits
 pub small-within : (z : Cpx) → square z ≤ 1153 * 1153 → IsWithin 32767 z
@@ -177,7 +200,7 @@ amplified gain clean g c =
 
 -- what is received of a cell
 pub received-within : (plan : CellPlan) (sfn offset : ℕ) (gain : Cpx) (i : ℕ) → IsGain gain → IsWithin 32284 (received plan sfn offset gain i)
-received-within plan sfn offset gain i g = (amplified gain (sent (element plan) sfn (i + offset)) g (sent-square plan sfn (i + offset))).small
+received-within plan sfn offset gain i g = (amplified gain (sent (element plan) sfn (i + offset)) g (sent-square Only plan sfn (i + offset))).small
 
 -- ---- errors
 

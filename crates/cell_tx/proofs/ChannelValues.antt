@@ -1,7 +1,11 @@
 -- What the code finds of each channel at a place is its value there.
-use Rattle.std.proofs.Common.{◌≡◌, ℕ, ◌<◌, ◌≤◌, Bool, true, false, ◌&&◌, nat_eq, List, length, get_or, Some, None, if◌then◌else◌, refl, ap, sym, ◌∙◌, arith}
+use Rattle.std.proofs.Common.{◌≡◌, ℕ, ◌%◌, subst, ◌≤◌, Bool, true, false, ◌&&◌, nat_eq, List, length, Some, None, if◌then◌else◌, refl, ap, sym, ◌∙◌, arith}
 use Rattle.std.proofs.lemmas.Bool.{lt-ltb, ltb-true}
+use Rattle.std.specs.Prelude.{All}
 use Rattle.finite.specs.Lists.{values_below}
+use Rattle.finite.proofs.Lists.{values_below-All, values_below-length}
+use Rattle.cs_num.specs.Complex.{IsWithin, nothing}
+use Rattle.crs.specs.Qpsk.{IsPoint}
 use Rattle.cs_num.specs.declared.Cpx.{Cpx}
 use Rattle.grid_map.specs.declared.Place.{Place}
 use Rattle.grid_map.specs.Place.{place, index_in}
@@ -9,13 +13,16 @@ use Rattle.grid_map.specs.Broadcast.{pbch_places, pbch_index, is_pbch}
 use Rattle.grid_map.specs.Control.{pcfich_places}
 use Rattle.grid_map.proofs.Points.{length-pbch_places, index_fits, carries_at_index}
 use Rattle.grid_map.proofs.Pieces.{length-pcfich_places}
+use Rattle.cell_tx.specs.declared.antenna.Port.{Port}
 use Rattle.cell_tx.specs.declared.cell.CellPlan.{CellPlan}
-use Rattle.cell_tx.specs.Block.{broadcast_point}
+use Rattle.cell_tx.specs.Ports.{is_two, sent_point}
+use Rattle.cell_tx.specs.Block.{port_point}
 use Rattle.cell_tx.specs.Control.{indicator_point, control_places, control_point}
-use Rattle.cell_tx.specs.Shared.{shared_places, shared_point}
+use Rattle.cell_tx.specs.Shared.{assigned_places, shared_point}
 use Rattle.cell_tx.specs.Grid.{is_one_of, has_system_information, broadcast_value, control_value, shared_value}
 use Rattle.cell_tx.specs.Rows.{value_in, broadcast_if, indicator_if, control_if, shared_if}
 use Rattle.cell_tx.proofs.PlaceValues.{values_are}
+use Rattle.cell_tx.proofs.Bounds.{full_size}
 
 -- the list of the broadcast channel's places has those that carry it
 pub is_pbch_place : (identity : ℕ) (p : Place) → is_one_of (pbch_places identity) p ≡ is_pbch identity p
@@ -35,32 +42,41 @@ both_true true b c e f = f
 both_true false b c e f = absurd cc
 
 -- a channel that the code looks up
-looked_up : (places : List Place) (points : List Cpx) (n : ℕ) (f : ℕ → Cpx) (p : Place) → points ≡ values_below n f → length places ≤ n
-    → value_in places points p ≡ (if is_one_of places p then Some (f (index_in places p)) else None)
-looked_up places points n f p e room = ap (λ (zs : List Cpx). value_in places zs p) e ∙ values_are places p n f room
+looked_up : (port : Port) (places : List Place) (points : List Cpx) (n : ℕ) (f : ℕ → Cpx) (p : Place) → points ≡ values_below n f → n % 2 ≡ 0 → length places ≤ n
+    → value_in port places points p ≡ (if is_one_of places p then Some (sent_point port f (index_in places p)) else None)
+looked_up port places points n f p e even room = ap (λ (zs : List Cpx). value_in port places zs p) e ∙ values_are places p port n f even room
 
-module _ (plan : CellPlan) (sfn subframe symbol k : ℕ) where
+-- points of a channel have components of size 90, and are so many
+pub all_small : (points : List Cpx) (n : ℕ) (f : ℕ → Cpx) → points ≡ values_below n f → ((i : ℕ) → IsPoint (f i)) → All (IsWithin 90) points
+all_small points n f e full =
+    subst (λ (zs : List Cpx). All (IsWithin 90) zs) (sym e)
+    (values_below-All (IsWithin 90) n f nothing (λ k below. let z = f k in let p = full k in record { re = omega (arith, full_size z.re p.re); im = omega (arith, full_size z.im p.im) }))
+
+pub so_many : (points : List Cpx) (n : ℕ) (f : ℕ → Cpx) → points ≡ values_below n f → length points ≡ n
+so_many points n f e = ap length e ∙ values_below-length n f
+
+module _ (port : Port) (plan : CellPlan) (sfn subframe symbol k : ℕ) where
   abbrev here : Place
   here = place symbol k
 
-  pub broadcast_is : (points : List Cpx) → points ≡ values_below 240 (broadcast_point plan sfn) → subframe ≡ 0 → value_in (pbch_places plan.identity) points here ≡ broadcast_if plan sfn subframe symbol k
+  pub broadcast_is : (points : List Cpx) → points ≡ values_below 240 (port_point port plan sfn) → subframe ≡ 0 → value_in port (pbch_places plan.identity) points here ≡ broadcast_if port plan sfn subframe symbol k
   unfolding pbch_index
   broadcast_is points is first =
-      looked_up (pbch_places plan.identity) points 240 (broadcast_point plan sfn) here is (let n = length-pbch_places plan.identity in omega (arith, n))
-      ∙ ap (λ (b : Bool). if b then Some (broadcast_value plan sfn symbol k) else None)
+      looked_up port (pbch_places plan.identity) points 240 (port_point port plan sfn) here is refl (let n = length-pbch_places plan.identity in omega (arith, n))
+      ∙ ap (λ (b : Bool). if b then Some (broadcast_value port plan sfn symbol k) else None)
       (both_true (nat_eq subframe 0) _ (is_pbch plan.identity here) (ap (λ s. nat_eq s 0) first) (is_pbch_place plan.identity here))
 
-  pub indicator_is : (points : List Cpx) → points ≡ values_below 16 (indicator_point plan subframe) → value_in (pcfich_places plan.identity) points here ≡ indicator_if plan subframe symbol k
-  indicator_is points is = looked_up (pcfich_places plan.identity) points 16 (indicator_point plan subframe) here is (let n = length-pcfich_places plan.identity in omega (arith, n))
+  pub indicator_is : (points : List Cpx) → points ≡ values_below 16 (indicator_point plan subframe) → value_in port (pcfich_places plan.identity) points here ≡ indicator_if port plan subframe symbol k
+  indicator_is points is = looked_up port (pcfich_places plan.identity) points 16 (indicator_point plan subframe) here is refl (let n = length-pcfich_places plan.identity in omega (arith, n))
 
   pub control_is : (points : List Cpx) → points ≡ values_below 144 (control_point plan sfn) → length (control_places plan) ≡ 144 → has_system_information sfn subframe ≡ true
-      → value_in (control_places plan) points here ≡ control_if plan sfn subframe symbol k
+      → value_in port (control_places plan) points here ≡ control_if port plan sfn subframe symbol k
   control_is points is whole e =
-      looked_up (control_places plan) points 144 (control_point plan sfn) here is (omega (arith, whole))
-      ∙ ap (λ (b : Bool). if b then Some (control_value plan sfn symbol k) else None) (both_true (has_system_information sfn subframe) _ _ e refl)
+      looked_up port (control_places plan) points 144 (control_point plan sfn) here is refl (omega (arith, whole))
+      ∙ ap (λ (b : Bool). if b then Some (control_value port plan sfn symbol k) else None) (both_true (has_system_information sfn subframe) _ _ e refl)
 
-  pub shared_is : (points : List Cpx) → points ≡ values_below 612 (shared_point plan sfn) → length (shared_places plan) ≤ 612 → has_system_information sfn subframe ≡ true
-      → value_in (shared_places plan) points here ≡ shared_if plan sfn subframe symbol k
+  pub shared_is : (points : List Cpx) → points ≡ values_below 612 (shared_point plan sfn) → length (assigned_places (is_two port) plan) ≤ 612 → has_system_information sfn subframe ≡ true
+      → value_in port (assigned_places (is_two port) plan) points here ≡ shared_if port plan sfn subframe symbol k
   shared_is points is few e =
-      looked_up (shared_places plan) points 612 (shared_point plan sfn) here is few
-      ∙ ap (λ (b : Bool). if b then Some (shared_value plan sfn symbol k) else None) (both_true (has_system_information sfn subframe) _ _ e refl)
+      looked_up port (assigned_places (is_two port) plan) points 612 (shared_point plan sfn) here is refl few
+      ∙ ap (λ (b : Bool). if b then Some (shared_value port plan sfn symbol k) else None) (both_true (has_system_information sfn subframe) _ _ e refl)

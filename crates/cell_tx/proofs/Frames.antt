@@ -6,15 +6,15 @@ use Rattle.std.proofs.lemmas.Bool.Decides.{nat_tests}
 use Rattle.finite.proofs.Lists.{values_below_at, values_below_same}
 use Rattle.cs_num.specs.declared.Sample.{Sample}
 use Rattle.cs_num.specs.Complex.{silence}
-use Rattle.fold128.specs.Symbol.{useful_at}
 use Rattle.fold128.proofs.Samples.{useful_same}
 use Rattle.lte_types.specs.Numerology.{normal, symbol_of}
 use Rattle.grid_map.specs.Place.{place}
 use Rattle.grid_map.specs.Broadcast.{is_pbch}
+use Rattle.cell_tx.specs.declared.antenna.Port.{Port}
 use Rattle.cell_tx.specs.declared.cell.CellPlan.{CellPlan}
 use Rattle.cell_tx.specs.declared.layout.Carried.{Carried}
-use Rattle.cell_tx.specs.Grid.{is_broadcast, channel_value, element}
-use Rattle.cell_tx.specs.Control.{version_of, control_word, control_point}
+use Rattle.cell_tx.specs.Grid.{is_broadcast, port_channel_value, port_element}
+use Rattle.cell_tx.specs.Control.{control_word, control_point}
 use Rattle.cell_tx.specs.Shared.{shared_point}
 use Rattle.cell_tx.specs.Sent.{frame_sample, sample_of}
 use Rattle.cell_tx.specs.Rows.{useful_place, first_sample, frame_samples, HasSamples, AreSameOutside, IsCarried}
@@ -54,31 +54,31 @@ not_broadcast identity subframe symbol k outside = settle (nat_eq subframe 0) re
     settle true e = apart _ _ (outside (eqb-true subframe 0 e))
     settle false e = refl
 
-element_same : (plan : CellPlan) (a b subframe symbol k : ℕ) → (subframe ≡ 0 → (symbol < 7) ⊎ (11 ≤ symbol)) → (subframe ≡ 5 → ⊥) → element plan a subframe symbol k ≡ element plan b subframe symbol k
-unfolding element channel_value
-element_same plan a b subframe symbol k outside other =
+element_same : (port : Port) (plan : CellPlan) (a b subframe symbol k : ℕ) → (subframe ≡ 0 → (symbol < 7) ⊎ (11 ≤ symbol)) → (subframe ≡ 5 → ⊥) → port_element port plan a subframe symbol k ≡ port_element port plan b subframe symbol k
+unfolding port_element port_channel_value
+element_same port plan a b subframe symbol k outside other =
     let none = not_broadcast plan.identity subframe symbol k outside in
     let e : nat_eq subframe 5 ≡ false = grind (arith, nat_tests) in
     rw (none, e) refl
 
 -- ---- samples that do not
 
-read_first : (plan : CellPlan) (a i : ℕ) (list : List Sample) → i < 19200 → list ≡ frame_samples (element plan) a → slice_index_or list i silence ≡ sample_of (frame_sample (element plan) a i)
+read_first : (port : Port) (plan : CellPlan) (a i : ℕ) (list : List Sample) → i < 19200 → list ≡ frame_samples (port_element port plan) a → slice_index_or list i silence ≡ sample_of (frame_sample (port_element port plan) a i)
 unfolding frame_samples
-read_first plan a i list inside is =
-    ap (λ samples. slice_index_or samples i silence) is ∙ values_below_at (λ (n : ℕ). sample_of (frame_sample (element plan) a n)) 19200 i silence inside
+read_first port plan a i list inside is =
+    ap (λ samples. slice_index_or samples i silence) is ∙ values_below_at (λ (n : ℕ). sample_of (frame_sample (port_element port plan) a n)) 19200 i silence inside
 
-module _ (plan : CellPlan) (a b i : ℕ) (inside : i < 19200) where
-  unchanged : (i < 960) ⊎ (1509 ≤ i) → (i < 9600) ⊎ (11520 ≤ i) → frame_sample (element plan) a i ≡ frame_sample (element plan) b i
+module _ (port : Port) (plan : CellPlan) (a b i : ℕ) (inside : i < 19200) where
+  unchanged : (i < 960) ⊎ (1509 ≤ i) → (i < 9600) ⊎ (11520 ≤ i) → frame_sample (port_element port plan) a i ≡ frame_sample (port_element port plan) b i
   unchanged first second =
       let slot : ℕ = i / 960 in
       let symbol : ℕ = 7 * (slot % 2) + symbol_of normal (i % 960) in
-      frame_sample_is (element plan) a i
-      ∙ slot_sample_is (element plan) a slot (i % 960) (omega arith)
-      ∙ useful_same (element plan a (slot / 2) symbol) (element plan b (slot / 2) symbol) (useful_place (i % 960))
-      (λ k l. element_same plan a b (slot / 2) symbol k (no_broadcast first) (no_system second))
-      ∙ sym (slot_sample_is (element plan) b slot (i % 960) (omega arith))
-      ∙ sym (frame_sample_is (element plan) b i)
+      frame_sample_is (port_element port plan) a i
+      ∙ slot_sample_is (port_element port plan) a slot (i % 960) (omega arith)
+      ∙ useful_same (port_element port plan a (slot / 2) symbol) (port_element port plan b (slot / 2) symbol) (useful_place (i % 960))
+      (λ k l. element_same port plan a b (slot / 2) symbol k (no_broadcast first) (no_system second))
+      ∙ sym (slot_sample_is (port_element port plan) b slot (i % 960) (omega arith))
+      ∙ sym (frame_sample_is (port_element port plan) b i)
     where
       no_broadcast : (i < 960) ⊎ (1509 ≤ i) → i / 960 / 2 ≡ 0 → (7 * (i / 960 % 2) + symbol_of normal (i % 960) < 7) ⊎ (11 ≤ 7 * (i / 960 % 2) + symbol_of normal (i % 960))
       no_broadcast (inl early) zero = inl (omega (arith, early))
@@ -89,21 +89,21 @@ module _ (plan : CellPlan) (a b i : ℕ) (inside : i < 19200) where
       no_system (inr late) five = absurd (omega (arith, late, five))
 
   -- a sample of a frame that was written over another one
-  pub renewed : (first second third : List Sample) → first ≡ frame_samples (element plan) a
-      → HasSamples second (frame_sample (element plan) b) 960 1509 → AreSameOutside 960 1509 first second
-      → HasSamples third (frame_sample (element plan) b) 9600 11520 → AreSameOutside 9600 11520 second third
-      → slice_index_or third i silence ≡ sample_of (frame_sample (element plan) b i)
+  pub renewed : (first second third : List Sample) → first ≡ frame_samples (port_element port plan) a
+      → HasSamples second (frame_sample (port_element port plan) b) 960 1509 → AreSameOutside 960 1509 first second
+      → HasSamples third (frame_sample (port_element port plan) b) 9600 11520 → AreSameOutside 9600 11520 second third
+      → slice_index_or third i silence ≡ sample_of (frame_sample (port_element port plan) b i)
   renewed first second third whole broadcast early system late = place (cases_lt i 9600) (cases_lt i 11520)
     where
-      from_first : (i < 960) ⊎ (1509 ≤ i) → (i < 9600) ⊎ (11520 ≤ i) → slice_index_or second i silence ≡ slice_index_or first i silence → slice_index_or second i silence ≡ sample_of (frame_sample (element plan) b i)
-      from_first p q same = same ∙ read_first plan a i first inside whole ∙ ap sample_of (unchanged p q)
+      from_first : (i < 960) ⊎ (1509 ≤ i) → (i < 9600) ⊎ (11520 ≤ i) → slice_index_or second i silence ≡ slice_index_or first i silence → slice_index_or second i silence ≡ sample_of (frame_sample (port_element port plan) b i)
+      from_first p q same = same ∙ read_first port plan a i first inside whole ∙ ap sample_of (unchanged p q)
 
-      from_second : (i < 9600) ⊎ (11520 ≤ i) → (i < 960) ⊎ (960 ≤ i) → (i < 1509) ⊎ (1509 ≤ i) → slice_index_or second i silence ≡ sample_of (frame_sample (element plan) b i)
+      from_second : (i < 9600) ⊎ (11520 ≤ i) → (i < 960) ⊎ (960 ≤ i) → (i < 1509) ⊎ (1509 ≤ i) → slice_index_or second i silence ≡ sample_of (frame_sample (port_element port plan) b i)
       from_second q (inl p) r = from_first (inl p) q (early.earlier i p)
       from_second q (inr p) (inr r) = from_first (inr r) q (early.later i r)
       from_second q (inr p) (inl r) = broadcast i p r
 
-      place : (i < 9600) ⊎ (9600 ≤ i) → (i < 11520) ⊎ (11520 ≤ i) → slice_index_or third i silence ≡ sample_of (frame_sample (element plan) b i)
+      place : (i < 9600) ⊎ (9600 ≤ i) → (i < 11520) ⊎ (11520 ≤ i) → slice_index_or third i silence ≡ sample_of (frame_sample (port_element port plan) b i)
       place (inl p) q = late.earlier i p ∙ from_second (inl p) (cases_lt i 960) (cases_lt i 1509)
       place (inr p) (inr q) = late.later i q ∙ from_second (inr q) (cases_lt i 960) (cases_lt i 1509)
       place (inr p) (inl q) = system i p q

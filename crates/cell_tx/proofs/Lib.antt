@@ -5,6 +5,7 @@ pub mod Symbols
 pub mod Frames
 pub mod Sendable
 pub mod BlockRows
+pub mod WholeBlocks
 pub mod PlaceValues
 pub mod BitPoints
 pub mod NewCells

@@ -1,5 +1,5 @@
 -- What the steps of a plan's acceptance say together.
-use Rattle.std.proofs.Common.{◌≡◌, ◌⊎◌, ℕ, ◌+◌, ◌*◌, ◌≤◌, Bool, true, false, ◌&&◌, ◌||◌, nat_eq, nat_le, List, [], length, Option, Some, None, if◌then◌else◌, refl, ap, sym, subst, ◌∙◌, arith}
+use Rattle.std.proofs.Common.{◌≡◌, ◌⊎◌, ℕ, ◌+◌, ◌≤◌, Bool, true, false, ◌&&◌, ◌||◌, nat_eq, nat_le, List, [], length, Option, Some, None, if◌then◌else◌, refl, ap, sym, subst, ◌∙◌, arith}
 use Rattle.std.specs.Prelude.{is_some, IsSome, IsSomeAnd}
 use Rattle.std.specs.Option.{unwrap_or}
 use Rattle.std.specs.Cmp.{unsigned_Decides}
@@ -9,13 +9,14 @@ use Rattle.turbo_code.specs.Table.{IsSize}
 use Rattle.turbo_code.specs.Encoder.{coded}
 use Rattle.turbo_code.specs.declared.encoder.Coded.{Coded}
 use Rattle.cs_bits.specs.Checks.{with_check_24}
-use Rattle.grid_map.specs.Shared.{block_places}
 use Rattle.dci.specs.Sizes.{size_of}
 use Rattle.sib1.specs.Text.{text_of}
 use Rattle.cell_tx.specs.declared.cell.CellPlan.{CellPlan}
-use Rattle.cell_tx.specs.Plan.{IsSendable, block_size}
-use Rattle.cell_tx.specs.Shared.{filled, row_with, shared_word, shared_coded, IsCoded}
+use Rattle.cell_tx.specs.Transport.{block_size, filled, row_with, shared_word, has_block, is_whole, is_resolvable}
+use Rattle.cell_tx.specs.Plan.{IsSendable}
+use Rattle.cell_tx.specs.Shared.{shared_coded, IsCoded}
 use Rattle.cell_tx.proofs.Sendable.{assigned}
+use Rattle.cell_tx.proofs.WholeBlocks.{enough_is_resolvable}
 
 -- ---- a size of the table
 
@@ -50,7 +51,7 @@ pub record IsAccepted (plan : CellPlan) (size : ℕ) (text : List Bool) : Type 0
   pub high : plan.cfi ≤ 3
   pub blocks : (nat_le 1 plan.blocks && nat_le (plan.start + plan.blocks) 6) ≡ true
   pub sized : HasSize plan size
-  pub whole : 3 * (size + 24 + 4) ≤ 2 * (block_places plan.cfi * plan.blocks)
+  pub enough : (is_whole plan || (has_block plan && is_resolvable plan)) ≡ true
   pub duplex : is_some plan.sib1.tdd ≡ false
   pub extension : plan.sib1.extended ≡ false
   pub text_is : text_of plan.sib1 ≡ Some text
@@ -70,8 +71,8 @@ pub accepted_can_be_sent : (plan : CellPlan) (size : ℕ) (text : List Bool) →
 accepted_can_be_sent plan size text a =
     let blocks = (assigned plan).0 a.blocks in
     let is : block_size plan ≡ size = a.sized.is in
-    let whole = a.whole in
     let fits = a.fits in
+    let sized = there (size_of plan.mcs plan.column) size a.sized.entry in
     record {
       valid = a.valid;
       identity = a.identity;
@@ -79,8 +80,8 @@ accepted_can_be_sent plan size text a =
       cfi = (a.low, a.high);
       assignment = record { some = blocks.0; inside = blocks.1 };
       column = a.sized.column;
-      mcs = there (size_of plan.mcs plan.column) size a.sized.entry;
-      whole = omega (arith, is, whole);
+      mcs = sized;
+      enough = enough_is_resolvable plan sized a.enough;
       duplex = no_value plan.sib1.tdd a.duplex;
       extension = a.extension;
       text = there_and (λ text. length text ≤ block_size plan) (text_of plan.sib1) text a.text_is (omega (arith, is, fits));

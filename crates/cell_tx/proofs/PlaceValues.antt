@@ -1,17 +1,31 @@
 -- The point that a place carries, by the places of a channel.
-use Rattle.std.proofs.Common.{◌≡◌, ℕ, ◌+◌, ◌<◌, ◌≤◌, ◌⊎◌, inl, inr, Bool, true, false, nat_lt, List, length, get_or, Some, None, if◌then◌else◌, refl, ap, sym, subst, ◌∙◌, arith}
-use Rattle.std.proofs.lemmas.Bool.{lt-ltb, le-ltb, ltb-true, cases_lt}
+use Rattle.std.proofs.Common.{◌≡◌, ℕ, ◌+◌, ◌-◌, ◌%◌, ◌<◌, nat_eq, ◌≤◌, ◌⊎◌, inl, inr, Bool, true, false, nat_lt, List, length, get_or, Some, None, if◌then◌else◌, refl, ap, sym, subst, ◌∙◌, arith}
+use Rattle.std.proofs.lemmas.Bool.{lt-ltb, le-ltb, ltb-true, eqb-true, cases_lt}
 use Rattle.std.proofs.Math.Bool.{true≢false}
 use Rattle.std.proofs.lemmas.List.Sums.{position_or_len_is}
 use Rattle.finite.specs.Lists.{values_below}
 use Rattle.finite.proofs.Lists.{values_below_at}
 use Rattle.cs_num.specs.declared.Cpx.{Cpx}
-use Rattle.cs_num.specs.Complex.{nothing, value_at}
+use Rattle.cs_num.specs.Complex.{nothing, negated, conjugate, value_at}
 use Rattle.grid_map.specs.declared.Place.{Place}
 use Rattle.grid_map.specs.Place.{place, same_place, index_in}
 use Rattle.grid_map.proofs.Order.{same_place-refl, same_place-true}
+use Rattle.cell_tx.specs.declared.antenna.Port.{Port}
+use Rattle.cell_tx.specs.declared.antenna.Port.TheVariants.{Only, First, Second}
+use Rattle.cell_tx.specs.Ports.{sent_point}
 use Rattle.cell_tx.specs.Grid.{is_one_of}
 use Rattle.cell_tx.specs.Rows.{value_in}
+
+-- what a port sends of a list of points depends on nothing after them, where they are whole pairs
+pub sent_points : (port : Port) (n : ℕ) (f : ℕ → Cpx) (i : ℕ) → n % 2 ≡ 0 → i < n → sent_point port (value_at (values_below n f)) i ≡ sent_point port f i
+sent_points Only n f i even inside = values_below_at f n i nothing inside
+sent_points First n f i even inside = values_below_at f n i nothing inside
+sent_points Second n f i even inside = by (nat_eq (i % 2) 0) refl
+  where
+    by : (b : Bool) → nat_eq (i % 2) 0 ≡ b
+        → (if b then negated (conjugate (value_at (values_below n f) (i + 1))) else conjugate (value_at (values_below n f) (i - 1))) ≡ (if b then negated (conjugate (f (i + 1))) else conjugate (f (i - 1)))
+    by true e = ap (λ (z : Cpx). negated (conjugate z)) (values_below_at f n (i + 1) nothing (let first = eqb-true (i % 2) 0 e in omega (arith, first, even, inside)))
+    by false e = ap conjugate (values_below_at f n (i - 1) nothing (omega (arith, inside)))
 
 module _ (places : List Place) (p : Place) where
   fails : (q : Place) → (q ≡ p → ⊥) → (b : Bool) → same_place p q ≡ b → b ≡ false
@@ -34,11 +48,11 @@ module _ (places : List Place) (p : Place) where
       let e : index_in places p ≡ length places = index_is (length places) (omega arith) none (λ l. absurd (omega (arith, l))) in
       rw e (le-ltb (length places) (length places) (omega arith))
 
-  pub values_are : (n : ℕ) (f : ℕ → Cpx) → length places ≤ n → value_in places (values_below n f) p ≡ (if is_one_of places p then Some (f (index_in places p)) else None)
-  values_are n f room = by (is_one_of places p) refl
+  pub values_are : (port : Port) (n : ℕ) (f : ℕ → Cpx) → n % 2 ≡ 0 → length places ≤ n → value_in port places (values_below n f) p ≡ (if is_one_of places p then Some (sent_point port f (index_in places p)) else None)
+  values_are port n f even room = by (is_one_of places p) refl
     where
-      by : (b : Bool) → is_one_of places p ≡ b → (if b then Some (value_at (values_below n f) (index_in places p)) else None) ≡ (if b then Some (f (index_in places p)) else None)
-      by true e = let inside = ltb-true (index_in places p) (length places) e in ap (λ (z : Cpx). Some z) (values_below_at f n (index_in places p) nothing (omega (arith, inside, room)))
+      by : (b : Bool) → is_one_of places p ≡ b → (if b then Some (sent_point port (value_at (values_below n f)) (index_in places p)) else None) ≡ (if b then Some (sent_point port f (index_in places p)) else None)
+      by true e = let inside = ltb-true (index_in places p) (length places) e in ap (λ (z : Cpx). Some z) (sent_points port n f (index_in places p) even (omega (arith, inside, room)))
       by false e = refl
 
 -- ---- tables of places
@@ -86,12 +100,12 @@ first_of_all places p n (inl (all, none)) = all ∙ sym (index_is places p (leng
 first_of_all places p n (inr (few, at, none)) = sym (index_is places p n (omega (arith, few)) none (λ l. at))
 
 -- what is read from a table
-pub read_there : (places : List Place) (points : List Cpx) (p : Place) (n count : ℕ) → count ≡ length places → n ≡ index_in places p → n < count → Some (value_at points n) ≡ value_in places points p
-read_there places points p n count all is inside =
+pub read_there : (port : Port) (places : List Place) (points : List Cpx) (p : Place) (n count : ℕ) → count ≡ length places → n ≡ index_in places p → n < count → Some (sent_point port (value_at points) n) ≡ value_in port places points p
+read_there port places points p n count all is inside =
     let t : nat_lt (index_in places p) (length places) ≡ true = lt-ltb _ _ (omega (arith, all, is, inside)) in
     rw (t, is) refl
 
-pub read_elsewhere : (places : List Place) (points : List Cpx) (p : Place) (n count : ℕ) → count ≡ length places → n ≡ index_in places p → count ≤ n → None ≡ value_in places points p
-read_elsewhere places points p n count all is past =
+pub read_elsewhere : (port : Port) (places : List Place) (points : List Cpx) (p : Place) (n count : ℕ) → count ≡ length places → n ≡ index_in places p → count ≤ n → None ≡ value_in port places points p
+read_elsewhere port places points p n count all is past =
     let t : nat_lt (index_in places p) (length places) ≡ false = le-ltb _ _ (omega (arith, all, is, past)) in
     rw t refl

@@ -1,17 +1,20 @@
 -- The plans in which no condition fails are those that can be sent.
-use Rattle.std.proofs.Common.{◌≡◌, ◌⊎◌, ℕ, ◌+◌, ◌*◌, ◌≤◌, Bool, true, false, not, ◌&&◌, ◌||◌, nat_eq, nat_le, List, length, Option, Some, None, if◌then◌else◌, refl}
+use Rattle.std.proofs.Common.{◌≡◌, ◌⊎◌, ℕ, ◌+◌, ◌≤◌, Bool, true, false, not, ◌&&◌, ◌||◌, nat_eq, nat_le, List, length, Option, Some, None, if◌then◌else◌, refl}
 use Rattle.std.specs.Prelude.{is_some, is_none, IsSome, IsSomeAnd, ◌↔◌}
 use Rattle.std.specs.Bool.{Decides}
 use Rattle.std.specs.Option.{option_map_or}
 use Rattle.std.specs.Cmp.{unsigned_Decides}
-use Rattle.std.proofs.lemmas.Bool.{le-leb, leb-true as leb-le}
+use Rattle.std.proofs.lemmas.Bool.{le-leb, leb-true as leb-le, and_from, or_right}
 use Rattle.std.proofs.lemmas.Bool.Decides.{Decides-and, Decides-or}
 use Rattle.lte_types.specs.Ranges.{IsValid}
 use Rattle.dci.specs.Sizes.{size_of}
 use Rattle.sib1.specs.Text.{text_of}
 use Rattle.cell_tx.specs.declared.error.CellError.{CellError}
 use Rattle.cell_tx.specs.declared.cell.CellPlan.{CellPlan}
-use Rattle.cell_tx.specs.Plan.{IsSendable, block_size, checked_size, assigned_bits, plan_refusal}
+use Rattle.cell_tx.specs.Conditions.{first_failed}
+use Rattle.cell_tx.specs.Transport.{block_size, text_fits, has_block, is_whole, is_resolvable}
+use Rattle.cell_tx.specs.Plan.{IsSendableWith, IsSendable, conditions_with, plan_refusal}
+use Rattle.cell_tx.proofs.WholeBlocks.{enough_is_resolvable}
 
 -- ---- the first condition and the others
 
@@ -48,28 +51,37 @@ fits : (o : Option (List Bool)) (size : ℕ) → Decides (option_map_or (λ text
 fits None size = (λ e. absurd cc, λ s. absurd s)
 fits (Some text) size = le_decides (length text) size
 
-module _ (plan : CellPlan) where
+pub assigned : (plan : CellPlan) → Decides (nat_le 1 plan.blocks && nat_le (plan.start + plan.blocks) 6) ((1 ≤ plan.blocks) × (plan.start + plan.blocks ≤ 6))
+assigned plan = Decides-and _ _ (le_decides 1 plan.blocks) (le_decides (plan.start + plan.blocks) 6)
+
+-- a plan has a block
+has_its_block : (plan : CellPlan) → plan.sib1.tdd ≡ None → plan.sib1.extended ≡ false → IsSomeAnd (text_of plan.sib1) (λ text. length text ≤ block_size plan) → has_block plan ≡ true
+has_its_block plan duplex extension text =
+    and_from (is_none plan.sib1.tdd && not plan.sib1.extended) (text_fits plan)
+    (and_from (is_none plan.sib1.tdd) (not plan.sib1.extended) ((is_absent plan.sib1.tdd).1 duplex) ((is_not plan.sib1.extended).1 extension))
+    ((fits (text_of plan.sib1) (block_size plan)).1 text)
+
+-- a test that says what is enough of each plan that has a size, and is passed by each that has a block
+module _ (enough : Bool) (Enough : Type 0) (plan : CellPlan) (is_enough : IsSome (size_of plan.mcs plan.column) → enough ≡ true → Enough)
+    (is_passed : has_block plan ≡ true → Enough → enough ≡ true) where
   in_range : Decides (nat_le 2 plan.cfi && nat_le plan.cfi 3) ((2 ≤ plan.cfi) × (plan.cfi ≤ 3))
   in_range = Decides-and _ _ (le_decides 2 plan.cfi) (le_decides plan.cfi 3)
-
-  pub assigned : Decides (nat_le 1 plan.blocks && nat_le (plan.start + plan.blocks) 6) ((1 ≤ plan.blocks) × (plan.start + plan.blocks ≤ 6))
-  assigned = Decides-and _ _ (le_decides 1 plan.blocks) (le_decides (plan.start + plan.blocks) 6)
 
   sized : Decides ((nat_eq plan.column 2 || nat_eq plan.column 3) && is_some (size_of plan.mcs plan.column)) (((plan.column ≡ 2) ⊎ (plan.column ≡ 3)) × IsSome (size_of plan.mcs plan.column))
   sized = Decides-and _ _ (Decides-or _ _ (unsigned_Decides plan.column 2) (unsigned_Decides plan.column 3)) (is_there (size_of plan.mcs plan.column))
 
-  sendable : IsValid plan.sib1 × (plan_refusal plan ≡ None) → IsSendable plan
+  sendable : IsValid plan.sib1 × (first_failed (conditions_with enough plan) ≡ None) → IsSendableWith Enough plan
   sendable h =
       let a = passed (nat_le plan.identity 503) _ _ h.1 in
       let b = passed (nat_le plan.spare 1023) _ _ a.others in
       let c = passed (nat_le 2 plan.cfi && nat_le plan.cfi 3) _ _ b.others in
       let d = passed (nat_le 1 plan.blocks && nat_le (plan.start + plan.blocks) 6) _ _ c.others in
       let e = passed ((nat_eq plan.column 2 || nat_eq plan.column 3) && is_some (size_of plan.mcs plan.column)) _ _ d.others in
-      let f = passed (nat_le (3 * (checked_size plan + 4)) (assigned_bits plan)) _ _ e.others in
+      let f = passed enough _ _ e.others in
       let g = passed (is_none plan.sib1.tdd) _ _ f.others in
       let i = passed (not plan.sib1.extended) _ _ g.others in
-      let j = passed (option_map_or (λ text. nat_le (length text) (block_size plan)) (text_of plan.sib1) false) _ _ i.others in
-      let blocks = assigned.0 d.first in
+      let j = passed (text_fits plan) _ _ i.others in
+      let blocks = (assigned plan).0 d.first in
       let size = sized.0 e.first in
       record {
         valid = h.0;
@@ -79,25 +91,41 @@ module _ (plan : CellPlan) where
         assignment = record { some = blocks.0; inside = blocks.1 };
         column = size.0;
         mcs = size.1;
-        whole = leb-le (3 * (checked_size plan + 4)) (assigned_bits plan) f.first;
+        enough = is_enough size.1 f.first;
         duplex = (is_absent plan.sib1.tdd).0 g.first;
         extension = (is_not plan.sib1.extended).0 i.first;
         text = (fits (text_of plan.sib1) (block_size plan)).0 j.first;
       }
 
-  accepted : IsSendable plan → IsValid plan.sib1 × (plan_refusal plan ≡ None)
+  accepted : IsSendableWith Enough plan → IsValid plan.sib1 × (first_failed (conditions_with enough plan) ≡ None)
   accepted s = (
     s.valid,
     pass (nat_le plan.identity 503) _ _ (le-leb plan.identity 503 s.identity)
         (pass (nat_le plan.spare 1023) _ _ (le-leb plan.spare 1023 s.spare)
         (pass (nat_le 2 plan.cfi && nat_le plan.cfi 3) _ _ (in_range.1 s.cfi)
-        (pass (nat_le 1 plan.blocks && nat_le (plan.start + plan.blocks) 6) _ _ (assigned.1 (s.assignment.some, s.assignment.inside))
+        (pass (nat_le 1 plan.blocks && nat_le (plan.start + plan.blocks) 6) _ _ ((assigned plan).1 (s.assignment.some, s.assignment.inside))
         (pass ((nat_eq plan.column 2 || nat_eq plan.column 3) && is_some (size_of plan.mcs plan.column)) _ _ (sized.1 (s.column, s.mcs))
-        (pass (nat_le (3 * (checked_size plan + 4)) (assigned_bits plan)) _ _ (le-leb _ _ s.whole)
+        (pass enough _ _ (is_passed (has_its_block plan s.duplex s.extension s.text) s.enough)
         (pass (is_none plan.sib1.tdd) _ _ ((is_absent plan.sib1.tdd).1 s.duplex)
         (pass (not plan.sib1.extended) _ _ ((is_not plan.sib1.extended).1 s.extension)
-        (pass (option_map_or (λ text. nat_le (length text) (block_size plan)) (text_of plan.sib1) false) _ _ ((fits (text_of plan.sib1) (block_size plan)).1 s.text) refl)))))))),
+        (pass (text_fits plan) _ _ ((fits (text_of plan.sib1) (block_size plan)).1 s.text) refl)))))))),
   )
 
-  pub accepted_is_sendable : (IsValid plan.sib1 × (plan_refusal plan ≡ None)) ↔ IsSendable plan
-  accepted_is_sendable = (sendable, accepted)
+-- where the test decides it by itself
+pub accepted_is_sendable_with : (whole : Bool) (Whole : Type 0) (whole_is : Decides whole Whole) (plan : CellPlan) → (IsValid plan.sib1 × (first_failed (conditions_with whole plan) ≡ None)) ↔ IsSendableWith Whole plan
+accepted_is_sendable_with whole Whole whole_is plan = (
+  sendable whole Whole plan (λ sized e. whole_is.0 e) (λ block w. whole_is.1 w),
+  accepted whole Whole plan (λ sized e. whole_is.0 e) (λ block w. whole_is.1 w),
+)
+
+-- ---- with one antenna port
+
+passes : (plan : CellPlan) → has_block plan ≡ true → is_resolvable plan ≡ true → (is_whole plan || (has_block plan && is_resolvable plan)) ≡ true
+passes plan block resolvable = or_right (is_whole plan) _ (and_from (has_block plan) (is_resolvable plan) block resolvable)
+
+pub accepted_is_sendable : (plan : CellPlan) → (IsValid plan.sib1 × (plan_refusal plan ≡ None)) ↔ IsSendable plan
+accepted_is_sendable plan =
+    let test = is_whole plan || (has_block plan && is_resolvable plan) in (
+      sendable test (is_resolvable plan ≡ true) plan (enough_is_resolvable plan) (passes plan),
+      accepted test (is_resolvable plan ≡ true) plan (enough_is_resolvable plan) (passes plan),
+    )

@@ -15,14 +15,15 @@ use Rattle.grid_map.specs.Group.{group, is_group, spanned, span, is_kept, group_
 use Rattle.grid_map.specs.Broadcast.{is_pbch}
 use Rattle.grid_map.specs.Control.{pcfich_places, pcfich_groups, pdcch_groups, is_in_region}
 use Rattle.grid_map.specs.Candidate.{candidate_places, candidate_groups, quadruplet_group, group_of_quadruplet}
-use Rattle.grid_map.specs.Shared.{is_pdsch, pdsch_places, is_synchronisation}
+use Rattle.grid_map.specs.Shared.{is_pdsch, shared_places_of, is_synchronisation}
 use Rattle.grid_map.proofs.Order.{same_place-refl, same_place-true}
 use Rattle.grid_map.proofs.Kept.{any-filter}
 use Rattle.grid_map.proofs.Regions.{pcfich_inside, pdcch_inside}
+use Rattle.cell_tx.specs.declared.antenna.Port.TheVariants.{Only}
 use Rattle.cell_tx.specs.declared.cell.CellPlan.{CellPlan}
 use Rattle.cell_tx.specs.Control.{control_places}
 use Rattle.cell_tx.specs.Shared.{shared_places}
-use Rattle.cell_tx.specs.Grid.{is_one_of, is_indicator, has_system_information, broadcast_value, indicator_value, control_value, shared_value, channel_value}
+use Rattle.cell_tx.specs.Grid.{is_one_of, is_indicator, has_system_information, broadcast_value, indicator_value, control_value, shared_value, port_channel_value, channel_value}
 use Rattle.cell_tx.proofs.PlaceValues.{absent_is}
 
 -- ---- lists without a place
@@ -125,7 +126,7 @@ module _ (plan : CellPlan) (symbol k : ℕ) where
       by false b c = refl
 
   no_shared : is_synchronisation symbol ≡ true → is_one_of (shared_places plan) (place symbol k) ≡ false
-  unfolding pdsch_places
+  unfolding shared_places_of
   no_shared e =
       let test : Place → Bool = is_pdsch plan.identity plan.cfi plan.start plan.blocks in
       absent (shared_places plan) (place symbol k)
@@ -138,7 +139,7 @@ no_broadcast identity symbol k early = let e : nat_le 7 symbol ≡ false = grind
 
 -- no channel is in symbols 5 and 6 of a subframe
 pub no_channel : (plan : CellPlan) (sfn subframe symbol k : ℕ) → (symbol ≡ 5) ⊎ (symbol ≡ 6) → channel_value plan sfn subframe symbol k ≡ nothing
-unfolding channel_value
+unfolding port_channel_value
 no_channel plan sfn subframe symbol k row =
     let late : 4 ≤ symbol = elim row [ inl e ↦ omega (arith, e) | inr e ↦ omega (arith, e) ] in
     let middle : is_synchronisation symbol ≡ true = elim row [ inl e ↦ rw e refl | inr e ↦ rw e refl ] in
@@ -149,6 +150,6 @@ no_channel plan sfn subframe symbol k row =
     pick true x z = refl
     pick false x z = refl
 
-    by : (s : Bool) → (if nat_eq subframe 0 && false then broadcast_value plan sfn symbol k else (if false then indicator_value plan subframe symbol k
-        else (if s && false then control_value plan sfn symbol k else (if s && false then shared_value plan sfn symbol k else nothing)))) ≡ nothing
+    by : (s : Bool) → (if nat_eq subframe 0 && false then broadcast_value Only plan sfn symbol k else (if false then indicator_value Only plan subframe symbol k
+        else (if s && false then control_value Only plan sfn symbol k else (if s && false then shared_value Only plan sfn symbol k else nothing)))) ≡ nothing
     by s = pick (nat_eq subframe 0) _ _ ∙ pick s _ _ ∙ pick s _ _

@@ -11,11 +11,13 @@ use Rattle.grid_map.specs.Laws.{IsIndexed}
 use Rattle.grid_map.proofs.Symbols.{pdsch_count}
 use Rattle.grid_map.proofs.Indexed.{pcfich_indexed, candidate_indexed, pdcch_carry, pdsch_indexed}
 use Rattle.grid_map.proofs.Apart.{IsInRegion, IsAfterRegion, indicator_place, control_place, control_not_indicator, shared_place}
+use Rattle.cell_tx.specs.declared.antenna.Port.TheVariants.{Only}
 use Rattle.cell_tx.specs.declared.cell.CellPlan.{CellPlan}
-use Rattle.cell_tx.specs.Plan.{IsSendable, assigned_bits}
+use Rattle.cell_tx.specs.Transport.{assigned_bits}
+use Rattle.cell_tx.specs.Plan.{IsSendable}
 use Rattle.cell_tx.specs.Control.{control_places, indicator_point, control_point}
 use Rattle.cell_tx.specs.Shared.{shared_places, shared_point}
-use Rattle.cell_tx.specs.Grid.{is_one_of, is_indicator, is_control, is_shared, has_system_information, channel_value, element}
+use Rattle.cell_tx.specs.Grid.{is_one_of, is_indicator, is_control, is_shared, has_system_information, port_channel_value, channel_value, element}
 use Rattle.cell_tx.specs.Rows.{reference_if}
 use Rattle.cell_tx.proofs.PlaceValues.{absent_is}
 use Rattle.cell_tx.proofs.Elements.{element_of_channel}
@@ -50,19 +52,19 @@ no_signal symbol signal middle e which = let other : nat_eq symbol signal ≡ fa
 element_is : (plan : CellPlan) (number : ℕ) (p : Place) → IsChannelPlace plan.identity p → element plan number 5 p.symbol p.k ≡ channel_value plan number 5 p.symbol p.k
 element_is plan number p at =
     let none : reference_if plan.identity (2 * 5 + p.symbol / 7) (p.symbol % 7) p.k ≡ None = rw at.free refl in
-    element_of_channel plan number 5 p.symbol p.k none (no_signal p.symbol 6 _ at.beside (inr refl)) (no_signal p.symbol 5 _ at.beside (inl refl))
+    element_of_channel Only plan number 5 p.symbol p.k none (no_signal p.symbol 6 _ at.beside (inr refl)) (no_signal p.symbol 5 _ at.beside (inl refl))
 
 module _ (plan : CellPlan) (number symbol k : ℕ) where
   of_indicator : is_indicator plan symbol k ≡ true → channel_value plan number 5 symbol k ≡ indicator_point plan 5 (index_in (pcfich_places plan.identity) (place symbol k))
-  unfolding channel_value
+  unfolding port_channel_value
   of_indicator e = rw e refl
 
   of_control : is_indicator plan symbol k ≡ false → is_control plan number 5 symbol k ≡ true → channel_value plan number 5 symbol k ≡ control_point plan number (index_in (control_places plan) (place symbol k))
-  unfolding channel_value
+  unfolding port_channel_value
   of_control e f = rw (e, f) refl
 
-  of_shared_channel : is_indicator plan symbol k ≡ false → is_control plan number 5 symbol k ≡ false → is_shared plan number 5 symbol k ≡ true → channel_value plan number 5 symbol k ≡ shared_point plan number (index_in (shared_places plan) (place symbol k))
-  unfolding channel_value
+  of_shared_channel : is_indicator plan symbol k ≡ false → is_control plan number 5 symbol k ≡ false → is_shared Only plan number 5 symbol k ≡ true → channel_value plan number 5 symbol k ≡ shared_point plan number (index_in (shared_places plan) (place symbol k))
+  unfolding port_channel_value
   of_shared_channel e f g = rw (e, f, g) refl
 
 -- ---- the three channels
@@ -86,7 +88,7 @@ module _ (plan : CellPlan) (sendable : IsSendable plan) where
 
   -- the shared channel has a place for each two bits
   pub shared_size : length (shared_places plan) ≡ block_places plan.cfi * plan.blocks
-  shared_size = pdsch_count plan.identity plan.cfi plan.start plan.blocks low high sendable.assignment.inside
+  shared_size = pdsch_count false plan.identity plan.cfi plan.start plan.blocks low high sendable.assignment.inside
 
   pub shared_bits : 2 * length (shared_places plan) ≡ assigned_bits plan
   shared_bits = ap (λ (n : ℕ). 2 * n) shared_size

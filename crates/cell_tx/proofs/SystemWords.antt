@@ -1,9 +1,9 @@
 -- The system information of a plan that can be sent: what grants it, its block, and the text in it.
 use Rattle.std.proofs.Common.{◌≡◌, ℕ, zero, suc, ◌-◌, ◌/◌, ◌%◌, ◌<◌, ◌≤◌, Bool, true, false, List, [], ◌∷◌, length, replicate, Option, Some, None, Ok, refl, ap, sym, subst, ◌∙◌, arith}
-use Rattle.std.specs.Prelude.{IsSome, IsSomeAnd, slice_index_or}
+use Rattle.std.specs.Prelude.{IsSomeAnd, slice_index_or}
 use Rattle.std.specs.Option.{unwrap_or}
+use Rattle.cell_tx.proofs.WholeBlocks.{some_is}
 use Rattle.std.proofs.lemmas.List.{length-append, length-replicate}
-use Rattle.std.proofs.lemmas.Bool.{false≢true}
 use Rattle.cs_bits.specs.Numbers.{bits_of}
 use Rattle.cs_bits.specs.Checks.{crc24a_of, message_of, has_check_24}
 use Rattle.cs_bits.proofs.Numbers.{length-bits_of}
@@ -12,17 +12,15 @@ use Rattle.grid_map.specs.Control.{element_count}
 use Rattle.grid_map.proofs.Indexed.{elements_fit}
 use Rattle.dci.specs.Sizes.{size_of}
 use Rattle.dci.specs.Format1A.{IsGrant}
-use Rattle.turbo_code.specs.declared.rows.Row.{Row}
-use Rattle.turbo_code.specs.Table.{IsRow}
 use Rattle.sib1.specs.Text.{text_of}
 use Rattle.sib1.specs.Message.{Says}
 use Rattle.sib1.proofs.Texts.{is_text_of}
 use Rattle.sib1.proofs.Messages.{whatever_follows}
 use Rattle.cell_tx.specs.declared.cell.CellPlan.{CellPlan}
-use Rattle.cell_tx.specs.Plan.{IsSendable, block_size, checked_size}
+use Rattle.cell_tx.specs.Transport.{block_size, checked_size, system_text, filled, row_with, shared_word}
+use Rattle.cell_tx.specs.Plan.{IsSendable}
 use Rattle.cell_tx.specs.Control.{version_of, grant_of}
-use Rattle.cell_tx.specs.Shared.{system_text, filled, row_with, shared_word}
-use Rattle.cell_tx.proofs.BlockRows.{size_fits, row_with_is, mcs_small}
+use Rattle.cell_tx.proofs.BlockRows.{IsRowOf, size_fits, row_of_size, mcs_small}
 
 -- ---- the grant
 
@@ -36,15 +34,6 @@ turn (suc (suc (suc (suc n)))) l = absurd (omega (arith, l))
 -- there are four redundancy versions
 pub version-fits : (number : ℕ) → version_of number < 4
 version-fits number = turn (number % 8 / 2) (omega arith)
-
-some_is : (o : Option ℕ) → IsSome o → o ≡ Some (unwrap_or o 0)
-some_is (Some n) there = refl
-some_is None there = absurd (false≢true there)
-
--- the row of its K is one of the table
-pub record IsRowOf (k : ℕ) (row : Row) : Type 0 where
-  pub is : IsRow row
-  pub size : row.k ≡ k
 
 module _ (plan : CellPlan) (sendable : IsSendable plan) where
   -- the table has a size
@@ -69,10 +58,7 @@ module _ (plan : CellPlan) (sendable : IsSendable plan) where
 
   -- its size has a row
   pub row_is : IsRowOf (checked_size plan) (row_with (checked_size plan))
-  row_is =
-      let (r, is, size) = size_fits plan.mcs plan.column (block_size plan) sized in
-      let same : r ≡ row_with (checked_size plan) = sym (row_with_is r is) ∙ ap row_with size in
-      subst (IsRowOf (checked_size plan)) same (record { is = is; size = size })
+  row_is = row_of_size (checked_size plan) (size_fits plan.mcs plan.column (block_size plan) sized)
 
   -- its check passes
   pub word_checked : has_check_24 (shared_word plan) ≡ true

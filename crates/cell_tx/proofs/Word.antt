@@ -3,19 +3,21 @@ use Rattle.std.proofs.Common.{◌≡◌, ℕ, ◌/◌, Bool, true, false, nat_eq
 use Rattle.lte_types.specs.Codes.{duration_code, resource_code}
 use Rattle.cs_bits.specs.Numbers.{bits_of}
 use Rattle.cs_bits.specs.Checks.{crc16_of}
+use Rattle.cell_tx.specs.declared.antenna.Port.{Port}
 use Rattle.cell_tx.specs.declared.cell.CellPlan.{CellPlan}
+use Rattle.cell_tx.specs.Ports.{port_mask}
 use Rattle.dci.specs.Assignment.{riv_of}
 use Rattle.dci.specs.Fields.{system_information_rnti}
 use Rattle.dci.specs.Format1A.{sent_word}
-use Rattle.cell_tx.specs.Block.{block_bits, broadcast_word}
+use Rattle.cell_tx.specs.Block.{block_bits, port_word}
 use Rattle.cell_tx.specs.Control.{version_of, grant_of, control_word}
 
 parts-length : (a b c d e f : ℕ) → length ((bits_of 3 a ++ bits_of 1 b ++ bits_of 2 c ++ bits_of 8 d ++ bits_of 10 e) ++ bits_of 16 f) ≡ 40
 parts-length a b c d e f = refl
 
-pub broadcast_word-length : (plan : CellPlan) (sfn : ℕ) → length (broadcast_word plan sfn) ≡ 40
-unfolding broadcast_word block_bits
-broadcast_word-length plan sfn = parts-length 0 (duration_code plan.duration) (resource_code plan.resource) (sfn / 4) plan.spare (bit_xor (crc16_of (block_bits plan sfn)) 0)
+pub broadcast_word-length : (port : Port) (plan : CellPlan) (sfn : ℕ) → length (port_word port plan sfn) ≡ 40
+unfolding port_word block_bits
+broadcast_word-length port plan sfn = parts-length 0 (duration_code plan.duration) (resource_code plan.resource) (sfn / 4) plan.spare (bit_xor (crc16_of (block_bits plan sfn)) (port_mask port))
 
 granted-length : (a b c d : ℕ) (column : Bool) (check : ℕ) →
     length (((true ∷ false ∷ []) ++ bits_of 5 a ++ bits_of 5 b ++ bits_of 3 c ++ (false ∷ []) ++ bits_of 2 d ++ (false ∷ column ∷ false ∷ [])) ++ bits_of 16 check) ≡ 37

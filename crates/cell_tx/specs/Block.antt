@@ -8,7 +8,10 @@ use Rattle.cs_bits.specs.Checks.{with_check_16}
 use Rattle.conv_code.specs.Code.{coded_word}
 use Rattle.conv_code.specs.Reading.{bit_at_place, place_of}
 use Rattle.grid_map.specs.Scrambling.{pbch_c_init}
+use Rattle.cell_tx.specs.declared.antenna.Port.{Port}
+use Rattle.cell_tx.specs.declared.antenna.Port.TheVariants.{Only}
 use Rattle.cell_tx.specs.declared.cell.CellPlan.{CellPlan}
+use Rattle.cell_tx.specs.Ports.{port_mask}
 use Rattle.cell_tx.specs.Points.{scrambled, point_of}
 
 -- the 24 bits of the master block in the frame with this number: dl-Bandwidth n6, phich-Config, the upper 8 bits of the frame
@@ -18,9 +21,9 @@ block_bits plan sfn =
     bits_of 3 (bandwidth_code N6) ++ bits_of 1 (duration_code plan.duration) ++ bits_of 2 (resource_code plan.resource) ++ bits_of 8 (sfn / 4)
     ++ bits_of 10 plan.spare
 
--- the block and its check, which has the mask 0000 of one antenna port (TS 36.212 section 5.3.1.1)
-unfoldable pub broadcast_word : CellPlan → ℕ → List Bool
-broadcast_word plan sfn = with_check_16 0 (block_bits plan sfn)
+-- the block and its check, which is masked by the count of antenna ports (TS 36.212 section 5.3.1.1)
+unfoldable pub port_word : Port → CellPlan → ℕ → List Bool
+port_word port plan sfn = with_check_16 (port_mask port) (block_bits plan sfn)
 
 -- bit n of the coded and matched bits of a word, which are repeated without end (TS 36.212 sections 5.1.3.1 and 5.1.4.2)
 abbrev pub coded_bit : List Bool → ℕ → Bool
@@ -32,9 +35,20 @@ scrambled_bit c_init word n = scrambled c_init (coded_bit word) n
 
 -- bit i of the 480 that a frame carries: the frames whose numbers are 0, 1, 2 and 3 modulo 4 carry the 1,920 scrambled bits in
 -- this order (TS 36.212 sections 5.3.1.2 and 5.3.1.3, TS 36.211 sections 6.6.1 and 6.6.4)
-unfoldable pub broadcast_bit : CellPlan → ℕ → ℕ → Bool
-broadcast_bit plan sfn i = scrambled_bit (pbch_c_init plan.identity) (broadcast_word plan sfn) (480 * (sfn % 4) + i)
+unfoldable pub port_bit : Port → CellPlan → ℕ → ℕ → Bool
+port_bit port plan sfn i = scrambled_bit (pbch_c_init plan.identity) (port_word port plan sfn) (480 * (sfn % 4) + i)
 
 -- point i of the 240 that a frame carries (QPSK, TS 36.211 section 7.1.2; the amplitude is own)
-unfoldable pub broadcast_point : CellPlan → ℕ → ℕ → Cpx
-broadcast_point plan sfn i = point_of (broadcast_bit plan sfn) i
+unfoldable pub port_point : Port → CellPlan → ℕ → ℕ → Cpx
+port_point port plan sfn i = point_of (port_bit port plan sfn) i
+
+-- ---- with one antenna port
+
+abbrev pub broadcast_word : CellPlan → ℕ → List Bool
+broadcast_word plan sfn = port_word Only plan sfn
+
+abbrev pub broadcast_bit : CellPlan → ℕ → ℕ → Bool
+broadcast_bit plan sfn i = port_bit Only plan sfn i
+
+abbrev pub broadcast_point : CellPlan → ℕ → ℕ → Cpx
+broadcast_point plan sfn i = port_point Only plan sfn i

@@ -11,7 +11,7 @@ use Rattle.dci.specs.declared.grant.Grant.{Grant}
 use Rattle.dci.specs.Fields.{system_information_rnti}
 use Rattle.dci.specs.Format1A.{sent_word}
 use Rattle.cell_tx.specs.declared.cell.CellPlan.{CellPlan}
-use Rattle.cell_tx.specs.Plan.{block_size}
+use Rattle.cell_tx.specs.Transport.{block_size}
 use Rattle.cell_tx.specs.Points.{scrambled, point_of}
 use Rattle.cell_tx.specs.Block.{scrambled_bit}
 

@@ -3,7 +3,7 @@ use Rattle.std.specs.Prelude.{ℕ, ◌+◌, ◌-◌, ◌*◌, ◌/◌, ◌%◌, 
 use Rattle.cs_num.specs.declared.Cpx.{Cpx}
 use Rattle.cs_num.specs.Complex.{nothing}
 use Rattle.lte_types.specs.Numerology.{half_of}
-use Rattle.crs.specs.Reference.{is_reference, reference_at}
+use Rattle.crs.specs.Reference.{reference_at}
 use Rattle.sync_seq.specs.Primary.{pss_at}
 use Rattle.sync_seq.specs.Middle.{is_middle}
 use Rattle.sync_seq.specs.Secondary.{sss_amplitude}
@@ -11,10 +11,13 @@ use Rattle.grid_map.specs.declared.Place.{Place}
 use Rattle.grid_map.specs.Place.{place, index_in}
 use Rattle.grid_map.specs.Broadcast.{is_pbch, pbch_index}
 use Rattle.grid_map.specs.Control.{pcfich_places}
+use Rattle.cell_tx.specs.declared.antenna.Port.{Port}
+use Rattle.cell_tx.specs.declared.antenna.Port.TheVariants.{Only}
 use Rattle.cell_tx.specs.declared.cell.CellPlan.{CellPlan}
-use Rattle.cell_tx.specs.Block.{broadcast_point}
+use Rattle.cell_tx.specs.Ports.{is_two, sent_point, sent_signal, is_own_reference, is_other_reference}
+use Rattle.cell_tx.specs.Block.{port_point}
 use Rattle.cell_tx.specs.Control.{control_places, indicator_point, control_point}
-use Rattle.cell_tx.specs.Shared.{shared_places, shared_point}
+use Rattle.cell_tx.specs.Shared.{assigned_places, shared_point}
 
 -- the middle 62 subcarriers of this symbol of subframes 0 and 5 hold a synchronisation signal (TS 36.211 sections 6.11.1.2 and 6.11.2.2)
 abbrev pub is_synchronised : ℕ → ℕ → ℕ → ℕ → Bool
@@ -50,13 +53,13 @@ is_control plan sfn subframe symbol k =
     has_system_information sfn subframe && is_one_of (control_places plan) (place symbol k)
 
 -- and the shared channel that carries it (TS 36.211 section 6.4)
-abbrev pub is_shared : CellPlan → ℕ → ℕ → ℕ → ℕ → Bool
-is_shared plan sfn subframe symbol k =
-    has_system_information sfn subframe && is_one_of (shared_places plan) (place symbol k)
+abbrev pub is_shared : Port → CellPlan → ℕ → ℕ → ℕ → ℕ → Bool
+is_shared port plan sfn subframe symbol k =
+    has_system_information sfn subframe && is_one_of (assigned_places (is_two port) plan) (place symbol k)
 
--- ---- the values
+-- ---- the values of an antenna port
 
--- the cell-specific reference signal of antenna port 0 (TS 36.211 section 6.10.1)
+-- the cell-specific reference signal (TS 36.211 section 6.10.1); both ports take it from one sequence
 abbrev pub reference_value : CellPlan → ℕ → ℕ → ℕ → Cpx
 reference_value plan subframe symbol k = reference_at plan.identity (2 * subframe + symbol / 7) (symbol % 7) k
 
@@ -70,37 +73,50 @@ secondary_value plan subframe k =
     sss_amplitude (plan.identity / 3) (plan.identity % 3) (half_of subframe) (k - 5)
 
 -- the physical broadcast channel (TS 36.211 section 6.6)
-abbrev pub broadcast_value : CellPlan → ℕ → ℕ → ℕ → Cpx
-broadcast_value plan sfn symbol k = broadcast_point plan sfn (pbch_index plan.identity (place symbol k))
+abbrev pub broadcast_value : Port → CellPlan → ℕ → ℕ → ℕ → Cpx
+broadcast_value port plan sfn symbol k =
+    sent_point port (port_point port plan sfn) (pbch_index plan.identity (place symbol k))
 
 -- the physical control format indicator channel (TS 36.211 section 6.7)
-abbrev pub indicator_value : CellPlan → ℕ → ℕ → ℕ → Cpx
-indicator_value plan subframe symbol k =
-    indicator_point plan subframe (index_in (pcfich_places plan.identity) (place symbol k))
+abbrev pub indicator_value : Port → CellPlan → ℕ → ℕ → ℕ → Cpx
+indicator_value port plan subframe symbol k =
+    sent_point port (indicator_point plan subframe) (index_in (pcfich_places plan.identity) (place symbol k))
 
 -- the physical downlink control channel (TS 36.211 section 6.8)
-abbrev pub control_value : CellPlan → ℕ → ℕ → ℕ → Cpx
-control_value plan sfn symbol k = control_point plan sfn (index_in (control_places plan) (place symbol k))
+abbrev pub control_value : Port → CellPlan → ℕ → ℕ → ℕ → Cpx
+control_value port plan sfn symbol k =
+    sent_point port (control_point plan sfn) (index_in (control_places plan) (place symbol k))
 
 -- the physical downlink shared channel (TS 36.211 section 6.4)
-abbrev pub shared_value : CellPlan → ℕ → ℕ → ℕ → Cpx
-shared_value plan sfn symbol k = shared_point plan sfn (index_in (shared_places plan) (place symbol k))
+abbrev pub shared_value : Port → CellPlan → ℕ → ℕ → ℕ → Cpx
+shared_value port plan sfn symbol k =
+    sent_point port (shared_point plan sfn) (index_in (assigned_places (is_two port) plan) (place symbol k))
 
 -- ---- the element
 
 -- what the channels have at a place: the value of the first that is there
-unfoldable pub channel_value : CellPlan → ℕ → ℕ → ℕ → ℕ → Cpx
-channel_value plan sfn subframe symbol k =
-    if is_broadcast plan.identity subframe symbol k then broadcast_value plan sfn symbol k
-    else (if is_indicator plan symbol k then indicator_value plan subframe symbol k
-    else (if is_control plan sfn subframe symbol k then control_value plan sfn symbol k
-    else (if is_shared plan sfn subframe symbol k then shared_value plan sfn symbol k
+unfoldable pub port_channel_value : Port → CellPlan → ℕ → ℕ → ℕ → ℕ → Cpx
+port_channel_value port plan sfn subframe symbol k =
+    if is_broadcast plan.identity subframe symbol k then broadcast_value port plan sfn symbol k
+    else (if is_indicator plan symbol k then indicator_value port plan subframe symbol k
+    else (if is_control plan sfn subframe symbol k then control_value port plan sfn symbol k
+    else (if is_shared port plan sfn subframe symbol k then shared_value port plan sfn symbol k
     else nothing)))
 
--- the value at a place of the frame with this number: that of the first case that applies, the signals before the channels
-unfoldable pub element : CellPlan → ℕ → ℕ → ℕ → ℕ → Cpx
-element plan sfn subframe symbol k =
-    if is_reference plan.identity (symbol % 7) k then reference_value plan subframe symbol k
-    else (if is_primary subframe symbol k then primary_value plan k
-    else (if is_secondary subframe symbol k then secondary_value plan subframe k
-    else channel_value plan sfn subframe symbol k))
+-- what a port sends at a place of the frame with this number: the value of the first case that applies, the signals
+-- before the channels, and nothing at a reference place of the other port
+unfoldable pub port_element : Port → CellPlan → ℕ → ℕ → ℕ → ℕ → Cpx
+port_element port plan sfn subframe symbol k =
+    if is_own_reference port plan.identity (symbol % 7) k then reference_value plan subframe symbol k
+    else (if is_other_reference port plan.identity (symbol % 7) k then nothing
+    else (if is_primary subframe symbol k then sent_signal port (primary_value plan k)
+    else (if is_secondary subframe symbol k then sent_signal port (secondary_value plan subframe k)
+    else port_channel_value port plan sfn subframe symbol k)))
+
+-- ---- with one antenna port
+
+abbrev pub channel_value : CellPlan → ℕ → ℕ → ℕ → ℕ → Cpx
+channel_value plan sfn subframe symbol k = port_channel_value Only plan sfn subframe symbol k
+
+abbrev pub element : CellPlan → ℕ → ℕ → ℕ → ℕ → Cpx
+element plan sfn subframe symbol k = port_element Only plan sfn subframe symbol k

@@ -1,13 +1,16 @@
 -- Laws of what a cell sends.
-use Rattle.std.specs.Prelude.{◌≡◌, ◌↔◌, ℕ, ◌+◌, ◌-◌, ◌*◌, ◌/◌, ◌%◌, ◌<◌, ◌≤◌, None, List}
+use Rattle.std.specs.Prelude.{◌≡◌, ◌↔◌, ℕ, ◌+◌, ◌-◌, ◌*◌, ◌/◌, ◌%◌, ◌<◌, ◌≤◌, true, None, IsSome, List}
 use Rattle.cs_num.specs.declared.Sample.{Sample}
 use Rattle.cs_num.specs.Complex.{IsWithin, square, plus, times}
 use Rattle.fold128.specs.Symbol.{useful_at}
 use Rattle.lte_types.specs.Ranges.{IsValid}
 use Rattle.lte_types.specs.Numerology.{frame_length, normal, prefix_length, useful_start}
+use Rattle.dci.specs.Sizes.{size_of}
 use Rattle.cell_tx.specs.declared.cell.CellPlan.{CellPlan}
+use Rattle.cell_tx.specs.Transport.{is_whole, is_resolvable}
 use Rattle.cell_tx.specs.Plan.{IsSendable, plan_refusal}
-use Rattle.cell_tx.specs.Grid.{element}
+use Rattle.cell_tx.specs.declared.antenna.Port.{Port}
+use Rattle.cell_tx.specs.Grid.{port_element}
 use Rattle.cell_tx.specs.Sent.{Elements, frame_sample, sent, sample_of, received}
 use Rattle.finite.specs.Lists.{values_below}
 use Rattle.cs_num.specs.declared.Cpx.{Cpx}
@@ -16,6 +19,10 @@ use Rattle.cell_tx.specs.Clean.{IsGain, IsCleanOf, IsClean, IsOffset, start_of, 
 -- the plans that can be sent are those with a block of system information in its ranges in which no condition fails
 abbrev pub AcceptedAreSendable : Type 0
 AcceptedAreSendable = (plan : CellPlan) → (IsValid plan.sib1 × (plan_refusal plan ≡ None)) ↔ IsSendable plan
+
+-- where each coded bit is sent the block can be resolved, whatever its text is
+abbrev pub WholeBlocksAreResolvable : Type 0
+WholeBlocksAreResolvable = (plan : CellPlan) → IsSome (size_of plan.mcs plan.column) → is_whole plan ≡ true → is_resolvable plan ≡ true
 
 -- the useful part of symbol l of a slot stands from its first sample on
 abbrev pub UsefulPartsStand : Type 0
@@ -38,10 +45,10 @@ FramesBeginAtStart = (grid : Elements) (sfn offset j i : ℕ) → sfn ≤ 1023 �
 
 -- an element has components of size at most 127, and size at most 128
 abbrev pub ElementsAreWithin : Type 0
-ElementsAreWithin = (plan : CellPlan) (sfn subframe symbol k : ℕ) → IsWithin 127 (element plan sfn subframe symbol k)
+ElementsAreWithin = (port : Port) (plan : CellPlan) (sfn subframe symbol k : ℕ) → IsWithin 127 (port_element port plan sfn subframe symbol k)
 
 abbrev pub ElementsAreSmall : Type 0
-ElementsAreSmall = (plan : CellPlan) (sfn subframe symbol k : ℕ) → square (element plan sfn subframe symbol k) ≤ 128 * 128
+ElementsAreSmall = (port : Port) (plan : CellPlan) (sfn subframe symbol k : ℕ) → square (port_element port plan sfn subframe symbol k) ≤ 128 * 128
 
 -- where no element has more, no sample has a size above 1,153
 abbrev pub SmallElementsMakeSmallSamples : Type 0
@@ -50,7 +57,7 @@ SmallElementsMakeSmallSamples =
 
 -- so has no sample of a cell
 abbrev pub SamplesAreSmall : Type 0
-SamplesAreSmall = (plan : CellPlan) (sfn i : ℕ) → square (sent (element plan) sfn i) ≤ 1153 * 1153
+SamplesAreSmall = (port : Port) (plan : CellPlan) (sfn i : ℕ) → square (sent (port_element port plan) sfn i) ≤ 1153 * 1153
 
 -- samples that are received of a sequence, each with an error
 abbrev pub received_with : (ℕ → Cpx) → ℕ → ℕ → Cpx → (ℕ → Cpx) → List Sample

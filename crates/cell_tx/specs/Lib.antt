@@ -1,5 +1,7 @@
 pub mod Conditions
+pub mod Transport
 pub mod Plan
+pub mod Ports
 pub mod Points
 pub mod Block
 pub mod Control

@@ -1,9 +1,7 @@
 -- Which plans of a cell can be sent. (own, with the ranges of TS 36.211 sections 6.11 and 6.7, TS 36.213 section 7.1 and
 -- TS 36.331 section 6.2.2)
-use Rattle.std.specs.Prelude.{◌≡◌, ◌⊎◌, ℕ, ◌+◌, ◌*◌, ◌≤◌, false, not, ◌&&◌, ◌||◌, nat_eq, nat_le, List, [], ◌∷◌, length, Option, None, is_some, is_none, IsSome, IsSomeAnd}
-use Rattle.std.specs.Option.{unwrap_or, option_map_or}
+use Rattle.std.specs.Prelude.{◌≡◌, ◌⊎◌, ◌+◌, ◌≤◌, Bool, true, false, not, ◌&&◌, ◌||◌, nat_eq, nat_le, List, [], ◌∷◌, length, Option, None, is_some, is_none, IsSome, IsSomeAnd}
 use Rattle.lte_types.specs.Ranges.{IsValid}
-use Rattle.grid_map.specs.Shared.{block_places}
 use Rattle.dci.specs.Assignment.{AreBlocks}
 use Rattle.dci.specs.Sizes.{size_of}
 use Rattle.sib1.specs.Text.{text_of}
@@ -11,21 +9,11 @@ use Rattle.cell_tx.specs.declared.error.CellError.{CellError}
 use Rattle.cell_tx.specs.declared.error.CellError.TheVariants.{Identity, Spare, Cfi, Assignment, Mcs, Punctured, Duplex, Extension, Sib1Long}
 use Rattle.cell_tx.specs.declared.cell.CellPlan.{CellPlan}
 use Rattle.cell_tx.specs.Conditions.{Condition, condition, first_failed}
+use Rattle.cell_tx.specs.Transport.{block_size, text_fits, has_block, is_whole, is_resolvable}
 
--- the size of the transport block, without its check; 0 where the table has none
-abbrev pub block_size : CellPlan → ℕ
-block_size plan = unwrap_or (size_of plan.mcs plan.column) 0
-
--- the block and its check of 24 bits
-abbrev pub checked_size : CellPlan → ℕ
-checked_size plan = block_size plan + 24
-
--- the bits that the assigned resource blocks carry: two in each place
-abbrev pub assigned_bits : CellPlan → ℕ
-assigned_bits plan = 2 * (block_places plan.cfi * plan.blocks)
-
--- a plan can be sent. Its master block has bandwidth n6 and one antenna port
-pub record IsSendable (plan : CellPlan) : Type 0 where
+-- a plan can be sent, where this says that what is sent of its block is enough: the conditions that do not depend on the
+-- antenna ports, and that one. Its master block has bandwidth n6
+pub record IsSendableWith (Enough : Type 0) (plan : CellPlan) : Type 0 where
   pub valid : IsValid plan.sib1
   pub identity : plan.identity ≤ 503
   pub spare : plan.spare ≤ 1023
@@ -33,25 +21,33 @@ pub record IsSendable (plan : CellPlan) : Type 0 where
   pub assignment : AreBlocks plan.start plan.blocks
   pub column : (plan.column ≡ 2) ⊎ (plan.column ≡ 3)
   pub mcs : IsSome (size_of plan.mcs plan.column)
-  -- each coded bit is sent: three streams, each with four bits of its tails
-  pub whole : 3 * (checked_size plan + 4) ≤ assigned_bits plan
+  pub enough : Enough
   pub duplex : plan.sib1.tdd ≡ None
   pub extension : plan.sib1.extended ≡ false
   pub text : IsSomeAnd (text_of plan.sib1) (λ text. length text ≤ block_size plan)
 
--- the same as conditions, in their order
-abbrev pub plan_conditions : CellPlan → List Condition
-plan_conditions plan =
+-- a plan can be sent with one antenna port: the bits that are sent of its block are enough to resolve it, as they are wherever
+-- each coded bit is sent
+abbrev pub IsSendable : CellPlan → Type 0
+IsSendable plan = IsSendableWith (is_resolvable plan ≡ true) plan
+
+-- the same as conditions, in their order, where it is known whether enough is sent
+abbrev pub conditions_with : Bool → CellPlan → List Condition
+conditions_with enough plan =
     condition (nat_le plan.identity 503) Identity
     ∷ condition (nat_le plan.spare 1023) Spare
     ∷ condition (nat_le 2 plan.cfi && nat_le plan.cfi 3) Cfi
     ∷ condition (nat_le 1 plan.blocks && nat_le (plan.start + plan.blocks) 6) Assignment
     ∷ condition ((nat_eq plan.column 2 || nat_eq plan.column 3) && is_some (size_of plan.mcs plan.column)) Mcs
-    ∷ condition (nat_le (3 * (checked_size plan + 4)) (assigned_bits plan)) Punctured
+    ∷ condition enough Punctured
     ∷ condition (is_none plan.sib1.tdd) Duplex
     ∷ condition (not plan.sib1.extended) Extension
-    ∷ condition (option_map_or (λ text. nat_le (length text) (block_size plan)) (text_of plan.sib1) false) Sib1Long
+    ∷ condition (text_fits plan) Sib1Long
     ∷ []
+
+-- with one antenna port. Where not every coded bit is sent, Punctured asks for a block; a plan that has none fails it
+abbrev pub plan_conditions : CellPlan → List Condition
+plan_conditions plan = conditions_with (is_whole plan || (has_block plan && is_resolvable plan)) plan
 
 -- the first of them that fails
 abbrev pub plan_refusal : CellPlan → Option CellError

@@ -1,43 +1,22 @@
 -- The shared channel of a plan, which carries SystemInformationBlockType1 (PDSCH, TS 36.211 section 6.4, TS 36.212 section 5.3.2).
-use Rattle.std.specs.Prelude.{◌≡◌, ℕ, ◌-◌, Bool, false, nat_eq, List, [], ◌++◌, length, replicate, slice_index_or}
-use Rattle.std.specs.List.{position_or_len}
-use Rattle.std.specs.Option.{unwrap_or}
+use Rattle.std.specs.Prelude.{◌≡◌, ℕ, Bool, false, List}
 use Rattle.cs_num.specs.declared.Cpx.{Cpx}
-use Rattle.cs_bits.specs.Checks.{with_check_24}
-use Rattle.turbo_code.specs.declared.rows.Row.{Row}
 use Rattle.turbo_code.specs.declared.encoder.Coded.{Coded}
-use Rattle.turbo_code.specs.Table.{row, rows, IsSize}
+use Rattle.turbo_code.specs.Table.{IsSize}
 use Rattle.turbo_code.specs.Encoder.{coded}
 use Rattle.turbo_code.specs.Reading.{place_of, bit_of}
 use Rattle.grid_map.specs.declared.Place.{Place}
 use Rattle.grid_map.specs.Scrambling.{pdsch_c_init}
-use Rattle.grid_map.specs.Shared.{pdsch_places}
+use Rattle.grid_map.specs.Shared.{shared_places_of}
 use Rattle.dci.specs.Fields.{system_information_rnti}
-use Rattle.sib1.specs.Text.{text_of}
 use Rattle.cell_tx.specs.declared.cell.CellPlan.{CellPlan}
-use Rattle.cell_tx.specs.Plan.{block_size, checked_size}
+use Rattle.cell_tx.specs.Transport.{checked_size, shared_word, row_with}
 use Rattle.cell_tx.specs.Points.{scrambled, point_of}
 use Rattle.cell_tx.specs.Control.{version_of}
 
--- ---- the block
+-- ---- the coded block
 
--- the text of SystemInformationBlockType1
-abbrev pub system_text : CellPlan → List Bool
-system_text plan = unwrap_or (text_of plan.sib1) []
-
--- bits and then zeros, so many in all
-abbrev pub filled : ℕ → List Bool → List Bool
-filled size bits = bits ++ replicate (size - length bits) false
-
--- the transport block and its check: the text, followed by zeros
-unfoldable pub shared_word : CellPlan → List Bool
-shared_word plan = with_check_24 (filled (block_size plan) (system_text plan))
-
--- the row of the turbo code's table for a block of K bits
-unfoldable pub row_with : ℕ → Row
-row_with k = slice_index_or rows (position_or_len (λ r. nat_eq r.k k) rows) (row k 0 0)
-
--- its coded word
+-- the coded word of the transport block and its check
 unfoldable pub shared_coded : CellPlan → List (List Bool)
 shared_coded plan = coded (row_with (checked_size plan)) (shared_word plan)
 
@@ -49,9 +28,13 @@ pub record IsCoded (plan : CellPlan) (word : Coded) : Type 0 where
 
 -- ---- as it is sent
 
--- the places of the assigned resource blocks
+-- the places of the assigned resource blocks, with two antenna ports or one
+abbrev pub assigned_places : Bool → CellPlan → List Place
+assigned_places two plan = shared_places_of two plan.identity plan.cfi plan.start plan.blocks
+
+-- with one
 abbrev pub shared_places : CellPlan → List Place
-shared_places plan = pdsch_places plan.identity plan.cfi plan.start plan.blocks
+shared_places plan = assigned_places false plan
 
 -- bit i in the frame with this number: those of the coded word, as they are matched from the frame's redundancy version on
 abbrev pub shared_bit : CellPlan → ℕ → ℕ → Bool

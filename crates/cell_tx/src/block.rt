@@ -4,10 +4,10 @@ ghost use Rattle.std.specs.Prelude.{◌≡◌, ◌<◌, ◌≤◌, false, length
 ghost use Rattle.finite.specs.Lists.{values_below};
 ghost use Rattle.finite.specs.Bits.{xor};
 ghost use Rattle.conv_code.specs.Reading.{bit_at_place, place_of};
-ghost use Rattle.cell_tx.specs.Block.{broadcast_word, broadcast_point};
+ghost use Rattle.cell_tx.specs.Block.{port_word, port_point};
 
-use crate::Cell;
 use crate::bits::put_bits;
+use crate::{Cell, Port};
 use conv_code::{encode, match_out};
 use crs::point;
 use cs_bits::{Bits, crc16};
@@ -16,8 +16,8 @@ use grid_map::pbch_c_init;
 use lte_types::{Bandwidth, Sfn};
 
 // The master block with its check.
-fn word_of(cell: &Cell, sfn: Sfn) -> Bits<40>
-    ensures { result ≡ broadcast_word cell.now sfn }
+fn word_of(cell: &Cell, port: Port, sfn: Sfn) -> Bits<40>
+    ensures { result ≡ port_word port cell.now sfn }
 {
     let plan = cell.plan();
     let mut bits = [false; 40];
@@ -26,7 +26,7 @@ fn word_of(cell: &Cell, sfn: Sfn) -> Bits<40>
     put_bits(&mut bits, 4, 2, plan.resource.code() as u64);
     put_bits(&mut bits, 6, 8, sfn.value() as u64 / 4);
     put_bits(&mut bits, 14, 10, plan.spare as u64);
-    let check = crc16(&bits[..24]);
+    let check = crc16(&bits[..24]) ^ port.mask();
     put_bits(&mut bits, 24, 16, check as u64);
     Bits::new(bits)
 }
@@ -41,11 +41,11 @@ fn scrambled<const N: usize>(coded: &[[bool; 3]; N], scrambling: &[bool], n: usi
     match_out(coded, n) != scrambling[n]
 }
 
-/// The 240 points of the broadcast channel in a frame.
-pub(crate) fn broadcast_points(cell: &Cell, sfn: Sfn) -> [Cpx; 240]
-    ensures { result ≡ values_below 240 (broadcast_point cell.now sfn) }
+/// The 240 points of the broadcast channel in a frame of a cell with this port.
+pub(crate) fn broadcast_points(cell: &Cell, port: Port, sfn: Sfn) -> [Cpx; 240]
+    ensures { result ≡ values_below 240 (port_point port cell.now sfn) }
 {
-    let coded = encode(&word_of(cell, sfn));
+    let coded = encode(&word_of(cell, port, sfn));
     let mut scrambling = [false; 1920];
     gold::fill(pbch_c_init(cell.id()), &mut scrambling);
     let first = 480 * (sfn.value() % 4) as usize;

@@ -1,13 +1,15 @@
 //! Plans of cells, and the cells that can be sent.
 
-ghost use Rattle.std.specs.Prelude.{◌≡◌, ◌+◌, ◌*◌, ◌≤◌, ◌&&◌, ◌||◌, nat_eq, nat_le, false, if◌then◌else◌, length, Some, None, MatchOption, MatchResult, IfOk};
+ghost use Rattle.std.specs.Prelude.{◌≡◌, ◌+◌, ◌≤◌, ◌&&◌, ◌||◌, nat_eq, nat_le, false, if◌then◌else◌, length, Some, None, MatchOption, MatchResult, IfSome, IfOk};
 ghost use Rattle.std.specs.Option.{option_map_or};
 ghost use Rattle.lte_types.specs.Ranges.{IsValid};
 ghost use Rattle.dci.specs.Sizes.{size_of};
 ghost use Rattle.sib1.specs.Text.{text_of};
+ghost use Rattle.turbo_code.specs.Table.{IsSize};
+ghost use Rattle.cell_tx.specs.Transport.{block_size, has_block, is_whole, is_resolvable};
 
 use crate::CellError;
-use crate::shared::coded_block;
+use crate::shared::{block_fills, coded_block};
 use lte_types::{CellId, Cfi, Duration, Resource, Sib1};
 use std::fmt::{self, Debug, Formatter, Write};
 use std::marker::Model;
@@ -50,13 +52,21 @@ pub struct Cell {
 
 impl CellPlan {
     ghost use Rattle.std.specs.Prelude.{◌*◌};
-    ghost use Rattle.grid_map.specs.Shared.{block_places};
+    ghost use Rattle.grid_map.specs.Shared.{block_places_of};
 
-    // The places of the assigned resource blocks.
-    pub(crate) fn assigned_places(&self) -> usize
-        ensures { result ≡ block_places self.now.cfi * self.now.blocks }
+    /// The places that the assigned resource blocks have for the shared channel with two antenna ports or
+    /// one: with one port 102 each with `cfi` 2 and 90 with 3, and with two ports 96 and 84. Six blocks have at
+    /// most 612.
+    pub fn assigned_places(&self, two: bool) -> usize
+        ensures value { result ≡ block_places_of two self.now.cfi * self.now.blocks }
+        ensures bound { self.now.blocks ≤ 6 → result ≤ 612 }
     {
-        let places = if self.cfi == 2 { 102 } else { 90 };
+        let places = match (two, self.cfi == 2) {
+            (false, true) => 102,
+            (false, false) => 90,
+            (true, true) => 96,
+            (true, false) => 84,
+        };
         places * self.blocks as usize
     }
 }
@@ -70,21 +80,16 @@ fn has_blocks(plan: &CellPlan) -> bool
 
 // The size of the transport block, where the plan's column is one of the table and has one.
 fn size_of(plan: &CellPlan) -> Option<u16>
-    ensures { result ≡ (if nat_eq plan.now.column 2 || nat_eq plan.now.column 3
+    ensures value { result ≡ (if nat_eq plan.now.column 2 || nat_eq plan.now.column 3
         then size_of plan.now.mcs plan.now.column else None) }
+    ensures row { IfSome result (λ size. IsSize (size + 24)) }
+    ensures room { IfSome result (λ size. size ≤ 1000) }
 {
     if plan.column == 2 || plan.column == 3 {
         dci::size(plan.mcs, plan.column)
     } else {
         None
     }
-}
-
-// The coded bits of a transport block and its check: three streams, each with four bits of its tails.
-fn coded_bits(size: u16) -> usize
-    ensures { result ≡ 3 * (size + 24 + 4) }
-{
-    3 * (size as usize + 24 + 4)
 }
 
 // The text of a block without an extension, which has at most so many bits; `None` exactly where it has more.
@@ -102,6 +107,46 @@ fn text_of(fields: &Sib1, size: u16) -> Option<Writer>
     } else {
         None
     }
+}
+
+// Whether the assigned resource blocks carry each coded bit of the transport block and its check: three
+// streams, each with four bits of its tails.
+fn is_sent_whole(plan: &CellPlan, size: u16) -> bool
+    requires blocks { plan.now.blocks ≤ 6 }
+    requires size { block_size plan.now ≡ size }
+    ensures { result ≡ is_whole plan.now }
+{
+    3 * (size as usize + 24 + 4) <= 2 * plan.assigned_places(false)
+}
+
+// Whether the plan has a transport block that can be resolved by the bits which these blocks carry.
+fn has_resolvable_block(plan: &CellPlan, size: u16) -> bool
+    requires valid { IsValid plan.now.sib1 }
+    requires blocks { plan.now.blocks ≤ 6 }
+    requires size { block_size plan.now ≡ size }
+    requires row { IsSize (size + 24) }
+    requires room { size ≤ 1000 }
+    ensures { result ≡ (has_block plan.now && is_resolvable plan.now) }
+{
+    if plan.sib1.tdd.is_some() || plan.sib1.extended {
+        return false;
+    }
+    match text_of(&plan.sib1, size) {
+        Some(text) => block_fills(text.bits(), size, 2 * plan.assigned_places(false) as u16),
+        None => false,
+    }
+}
+
+// Whether the bits that are sent of the transport block are enough.
+fn is_sent_enough(plan: &CellPlan, size: u16) -> bool
+    requires valid { IsValid plan.now.sib1 }
+    requires blocks { plan.now.blocks ≤ 6 }
+    requires size { block_size plan.now ≡ size }
+    requires row { IsSize (size + 24) }
+    requires room { size ≤ 1000 }
+    ensures { result ≡ (is_whole plan.now || (has_block plan.now && is_resolvable plan.now)) }
+{
+    is_sent_whole(plan, size) || has_resolvable_block(plan, size)
 }
 
 impl Model for Cell {
@@ -124,8 +169,9 @@ impl Debug for Cell {
 
 impl Cell {
     ghost use Rattle.dci.specs.Sizes.{size_of};
-    ghost use Rattle.grid_map.specs.Shared.{block_places};
-    ghost use Rattle.cell_tx.specs.Plan.{IsSendable, plan_refusal, block_size};
+    ghost use Rattle.grid_map.specs.Shared.{block_places_of};
+    ghost use Rattle.std.specs.Prelude.{◌*◌};
+    ghost use Rattle.cell_tx.specs.Plan.{IsSendable, plan_refusal};
     ghost use Rattle.cell_tx.specs.Shared.{IsCoded};
 
     /// The cell of a plan whose SystemInformationBlockType1 is in its ranges, or the first failed condition:
@@ -135,9 +181,10 @@ impl Cell {
     /// - `Cfi`: 2 or 3.
     /// - `Assignment`: `blocks` is at least 1, and `start` + `blocks` at most 6.
     /// - `Mcs`: `column` is 2 or 3, and its table has a size for `mcs`.
-    /// - `Punctured`: the assigned blocks carry each coded bit at least once. They carry 204 bits each with
-    ///   `cfi` 2 and 180 with 3, and a block of so many bits and its check has three bits for each of them
-    ///   and twelve more.
+    /// - `Punctured`: the assigned blocks carry each coded bit at least once, or a transport block that can be
+    ///   resolved by the bits which they carry, from each redundancy version on (`erasure::fills`). They carry
+    ///   204 bits each with `cfi` 2 and 180 with 3, and a block of so many bits and its check has three bits for
+    ///   each of them and twelve more. There is a block to be resolved where the last three conditions hold.
     /// - `Duplex`: there is no TDD-Config.
     /// - `Extension`: there is no extension.
     /// - `Sib1Long`: the text of SystemInformationBlockType1 fits the size.
@@ -162,7 +209,7 @@ impl Cell {
         let Some(size) = size_of(&plan) else {
             return Err(CellError::Mcs);
         };
-        if coded_bits(size) > 2 * plan.assigned_places() {
+        if !is_sent_enough(&plan, size) {
             return Err(CellError::Punctured);
         }
         if plan.sib1.tdd.is_some() {
@@ -208,11 +255,11 @@ impl Cell {
     }
 
     // The places of the assigned resource blocks.
-    pub(crate) fn assigned_places(&self) -> usize
-        ensures value { result ≡ block_places self.now.cfi * self.now.blocks }
+    pub(crate) fn assigned_places(&self, two: bool) -> usize
+        ensures value { result ≡ block_places_of two self.now.cfi * self.now.blocks }
         ensures bound { result ≤ 612 }
     {
-        self.plan().assigned_places()
+        self.plan().assigned_places(two)
     }
 
     // The size of the transport block.

@@ -1,7 +1,7 @@
 //! What the channels of a frame carry at each place.
 
 ghost use Rattle.std.specs.Prelude.{◌≡◌, ◌<◌};
-ghost use Rattle.cell_tx.specs.Grid.{has_system_information, channel_value};
+ghost use Rattle.cell_tx.specs.Grid.{has_system_information, port_channel_value};
 ghost use Rattle.cell_tx.specs.Rows.{broadcast_if, indicator_if, control_if, shared_if};
 
 use crate::grid::Signals;
@@ -21,12 +21,17 @@ fn has_system_information(sfn: Sfn, subframe: u8) -> bool
 fn broadcast_at(signals: &Signals, subframe: u8, here: Place) -> Option<Cpx>
     requires symbol { here.symbol < 14 }
     requires k { here.k < 72 }
-    ensures { result ≡ broadcast_if signals.now.cell.now signals.now.sfn subframe here.symbol here.k }
+    ensures { result ≡ broadcast_if signals.now.port signals.now.cell.now signals.now.sfn subframe here.symbol here.k }
 {
     if subframe > 0 {
         return None;
     }
-    value_at(&signals.layout.broadcast, &signals.broadcast, here)
+    value_at(
+        signals.port,
+        &signals.layout.broadcast,
+        &signals.broadcast,
+        here,
+    )
 }
 
 // That of the control format indicator.
@@ -34,34 +39,36 @@ fn indicator_at(signals: &Signals, subframe: u8, here: Place) -> Option<Cpx>
     requires subframe { subframe < 10 }
     requires symbol { here.symbol < 14 }
     requires k { here.k < 72 }
-    ensures { result ≡ indicator_if signals.now.cell.now subframe here.symbol here.k }
+    ensures { result ≡ indicator_if signals.now.port signals.now.cell.now subframe here.symbol here.k }
 {
     let points = signals.layout.indicator_of(subframe);
-    value_at(&signals.layout.indicator, points, here)
+    value_at(signals.port, &signals.layout.indicator, points, here)
 }
 
 // That of what grants system information.
 fn control_at(signals: &Signals, subframe: u8, here: Place) -> Option<Cpx>
     requires symbol { here.symbol < 14 }
     requires k { here.k < 72 }
-    ensures { result ≡ control_if signals.now.cell.now signals.now.sfn subframe here.symbol here.k }
+    ensures { result ≡ control_if signals.now.port signals.now.cell.now signals.now.sfn subframe here.symbol here.k }
 {
     if !has_system_information(signals.sfn, subframe) {
         return None;
     }
-    value_at(&signals.layout.control, &signals.carried.control, here)
+    let points = &signals.carried.control;
+    value_at(signals.port, &signals.layout.control, points, here)
 }
 
 // That of the shared channel, which carries it.
 fn shared_at(signals: &Signals, subframe: u8, here: Place) -> Option<Cpx>
     requires symbol { here.symbol < 14 }
     requires k { here.k < 72 }
-    ensures { result ≡ shared_if signals.now.cell.now signals.now.sfn subframe here.symbol here.k }
+    ensures { result ≡ shared_if signals.now.port signals.now.cell.now signals.now.sfn subframe here.symbol here.k }
 {
     if !has_system_information(signals.sfn, subframe) {
         return None;
     }
-    value_at(&signals.layout.shared, &signals.carried.shared, here)
+    let points = &signals.carried.shared;
+    value_at(signals.port, &signals.layout.shared, points, here)
 }
 
 /// What the channels have at a place of a subframe: the value of the first that is there, and 0 where none is.
@@ -69,7 +76,8 @@ pub(crate) fn channel_value(signals: &Signals, subframe: u8, here: Place) -> Cpx
     requires subframe { subframe < 10 }
     requires symbol { here.symbol < 14 }
     requires k { here.k < 72 }
-    ensures { result ≡ channel_value signals.now.cell.now signals.now.sfn subframe here.symbol here.k }
+    ensures { result ≡ port_channel_value signals.now.port signals.now.cell.now signals.now.sfn
+        subframe here.symbol here.k }
 {
     if let Some(value) = broadcast_at(signals, subframe, here) {
         return value;

@@ -1,10 +1,12 @@
 //! Laws of what a cell sends.
 
-ghost use Rattle.cell_tx.specs.Laws.{AcceptedAreSendable, UsefulPartsStand, PrefixesRepeat, FramesFollow, FramesBeginAtStart, ElementsAreWithin, ElementsAreSmall, SmallElementsMakeSmallSamples, SamplesAreSmall, ReceivedWithErrorsIsClean, ReceivedWithErrorsFits, ReceivedIsClean};
+ghost use Rattle.cell_tx.specs.Laws.{AcceptedAreSendable, WholeBlocksAreResolvable, UsefulPartsStand, PrefixesRepeat, FramesFollow, FramesBeginAtStart, ElementsAreWithin, ElementsAreSmall, SmallElementsMakeSmallSamples, SamplesAreSmall, ReceivedWithErrorsIsClean, ReceivedWithErrorsFits, ReceivedIsClean};
 
-/// The plans that `Cell::new` accepts are those that can be sent.
+/// The plans that `Cell::new` accepts are those that can be sent. The block of one whose resource blocks
+/// carry each coded bit can always be resolved, so that the first part of `Punctured` is a case of the second.
 pub fn accepted_are_sendable()
-    ensures { AcceptedAreSendable }
+    ensures accepted { AcceptedAreSendable }
+    ensures whole { WholeBlocksAreResolvable }
 {}
 
 /// Where the useful parts of the symbols of a frame stand, and the prefixes before them, whatever its

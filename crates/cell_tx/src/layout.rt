@@ -3,10 +3,10 @@
 ghost use Rattle.std.specs.Prelude.{◌≡◌};
 ghost use Rattle.cell_tx.specs.Rows.{IsLayout, IsCarried, AreVersions};
 
-use crate::Cell;
 use crate::control::{Indicator, control_places, control_points, indicators};
 use crate::points::{PlaceTable, table_of};
 use crate::shared::{shared_places, shared_points};
+use crate::{Cell, Port};
 use cs_num::Cpx;
 use grid_map::{pbch_places, pcfich_places};
 use lte_types::{Half, Sfn};
@@ -46,13 +46,14 @@ impl Layout {
     ghost use Rattle.std.specs.Prelude.{ℕ, ◌<◌, length};
     ghost use Rattle.finite.specs.Lists.{values_below};
     ghost use Rattle.cell_tx.specs.declared.cell.CellPlan.{CellPlan as Plan};
+    ghost use Rattle.cell_tx.specs.declared.antenna.Port.{Port as Antenna};
     ghost use Rattle.cell_tx.specs.Control.{indicator_point};
     ghost use Rattle.cell_tx.specs.Rows.{IsLayout};
 
     /// The points of the control format indicator in a subframe.
     pub(crate) fn indicator_of(&self, subframe: u8) -> &[Cpx]
         requires { subframe < 10 }
-        ensures points { (plan : Plan) → IsLayout plan self.now →
+        ensures points { (port : Antenna) (plan : Plan) → IsLayout port plan self.now →
             result.now ≡ values_below 16 (indicator_point plan subframe) }
         ensures count { length result.now ≡ 16 }
     {
@@ -60,9 +61,9 @@ impl Layout {
     }
 }
 
-/// The layout of a cell.
-pub(crate) fn layout_of(cell: &Cell) -> Layout
-    ensures { IsLayout cell.now result }
+/// The layout of a cell at a port.
+pub(crate) fn layout_of(cell: &Cell, port: Port) -> Layout
+    ensures { IsLayout port cell.now result }
 {
     let id = cell.id();
     let n2 = id.n2() as u8;
@@ -73,7 +74,7 @@ pub(crate) fn layout_of(cell: &Cell) -> Layout
     let indicator = table_of(&pcfich_places(id));
     let indicators = indicators(cell);
     let control = table_of(&control_places(cell));
-    let (count, places) = shared_places(cell);
+    let (count, places) = shared_places(cell, port.is_two());
     let shared = table_of(&places[..count]);
     Layout {
         primary,

@@ -2,6 +2,7 @@
 //! and the control region and the shared channel with SystemInformationBlockType1 (TS 36.211 section 6).
 #![tactic(auto)]
 
+mod antenna;
 mod bits;
 mod block;
 mod cell;
@@ -16,10 +17,11 @@ mod sending;
 mod shared;
 mod transmission;
 
+pub use antenna::Port;
 pub use cell::{Cell, CellPlan};
 pub use error::CellError;
 pub use laws::{accepted_are_sendable, frames_stand, sent_is_clean, sizes, symbols_stand};
-pub use sending::{frame, sample, send, send_all};
+pub use sending::{frame, port_sample, port_sequence, sample, send, send_all};
 pub use transmission::Transmission;
 
 #[cfg(test)]

@@ -1,14 +1,18 @@
 //! Points of scrambled bits, and the places that they take.
 
-ghost use Rattle.std.specs.Prelude.{◌≡◌, ℕ, ◌*◌, ◌/◌, ◌%◌, ◌^◌, ◌<◌, ◌≤◌, false, List, length, slice_index_or};
+ghost use Rattle.std.specs.Prelude.{◌≡◌, ℕ, ◌*◌, ◌/◌, ◌%◌, ◌^◌, ◌<◌, ◌≤◌, false, List, All, length, slice_index_or};
 ghost use Rattle.finite.specs.Lists.{values_below};
 ghost use Rattle.finite.specs.Bits.{xor};
 ghost use Rattle.gold.specs.Gold.{gold_bits};
 ghost use Rattle.cell_tx.specs.Points.{scrambled, point_of};
+ghost use Rattle.cs_num.specs.Complex.{IsWithin, value_at};
+ghost use Rattle.cell_tx.specs.declared.antenna.Port.TheVariants.{Second};
+ghost use Rattle.cell_tx.specs.Ports.{sent_point};
 ghost use Rattle.cell_tx.specs.Rows.{value_in, IsTableOf};
 ghost use Rattle.grid_map.specs.declared.Place.{Place};
 ghost use Rattle.grid_map.specs.Place.{place};
 
+use crate::Port;
 use crs::point;
 use cs_num::Cpx;
 use grid_map::Place;
@@ -93,17 +97,48 @@ pub(crate) fn table_of(places: &[Place]) -> PlaceTable
     PlaceTable { count, numbers }
 }
 
-/// The point that a place of the grid carries, by the table of a channel's places and its points in the
-/// same order; `None` at every other place.
-pub(crate) fn value_at(table: &PlaceTable, points: &[Cpx], here: Place) -> Option<Cpx>
+// What a port sends at place i of a channel with these points.
+fn sent_point(port: Port, points: &[Cpx], i: usize) -> Cpx
+    requires i { i < length points.now }
+    requires pairs { length points.now % 2 ≡ 0 }
+    requires small { All (IsWithin 90) points.now }
+    ensures { result ≡ sent_point port (value_at points.now) i }
+{
+    match port {
+        Port::Only => points[i],
+        Port::First => points[i],
+        Port::Second => second_of(points, i),
+    }
+}
+
+// The same of the second port: of a pair the negative conjugate of the other at the first place, and the conjugate
+// of the other at the second.
+fn second_of(points: &[Cpx], i: usize) -> Cpx
+    requires i { i < length points.now }
+    requires pairs { length points.now % 2 ≡ 0 }
+    requires small { All (IsWithin 90) points.now }
+    ensures { result ≡ sent_point Second (value_at points.now) i }
+{
+    if i % 2 == 0 {
+        -points[i + 1].conj()
+    } else {
+        points[i - 1].conj()
+    }
+}
+
+/// What a port sends at a place of the grid, by the table of a channel's places and its points in the same
+/// order, of which there is an even number; `None` at every other place.
+pub(crate) fn value_at(port: Port, table: &PlaceTable, points: &[Cpx], here: Place) -> Option<Cpx>
     requires symbol { here.symbol < 14 }
     requires k { here.k < 72 }
     requires room { table.now.count ≤ length points.now }
-    ensures { (places : List Place) → IsTableOf places table.now → result ≡ value_in places points.now here }
+    requires pairs { length points.now % 2 ≡ 0 }
+    requires small { All (IsWithin 90) points.now }
+    ensures { (places : List Place) → IsTableOf places table.now → result ≡ value_in port places points.now here }
 {
     let number = table.numbers[72 * here.symbol as usize + here.k as usize];
     if number < table.count {
-        Some(points[number as usize])
+        Some(sent_point(port, points, number as usize))
     } else {
         None
     }

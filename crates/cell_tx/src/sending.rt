@@ -5,14 +5,14 @@ ghost use Rattle.finite.specs.Lists.{values_below};
 ghost use Rattle.cs_num.specs.Complex.{IsWithin, silence, square, times, value_of, value_at};
 ghost use Rattle.fold128.specs.Symbol.{useful_part};
 ghost use Rattle.lte_types.specs.Numerology.{frame_length, slot_length, useful_length, normal, symbol_of};
-ghost use Rattle.cell_tx.specs.Clean.{IsGain};
-ghost use Rattle.cell_tx.specs.Grid.{element};
+ghost use Rattle.cell_tx.specs.Clean.{IsGain, most_count};
+ghost use Rattle.cell_tx.specs.Grid.{port_element, element};
 ghost use Rattle.cell_tx.specs.Rows.{useful_place, first_sample, frame_samples, HasSamples, AreSameOutside, IsLayout, AreVersions};
 ghost use Rattle.cell_tx.specs.Sent.{slot_sample, frame_sample, number_of, sent, received, sample_of, gain_of};
 
 use crate::grid::{Signals, useful_of};
 use crate::layout::{Layout, Versions, carried_of, layout_of, versions_of};
-use crate::{Cell, Transmission};
+use crate::{Cell, Port, Transmission};
 use cs_num::{Cpx, Sample};
 use lte_types::{FRAME_LENGTH, Prefix, SLOT_LENGTH, Sfn, USEFUL_LENGTH};
 
@@ -60,9 +60,10 @@ fn place_at(i: usize) -> usize
 // Sample i of a slot, from the useful part of its symbol.
 fn sample_of_slot(signals: &Signals, useful: &[Cpx; 128], slot: usize, i: usize) -> Sample
     requires i { i < slot_length }
-    requires useful { useful.now ≡ useful_part (element signals.now.cell.now signals.now.sfn
+    requires useful { useful.now ≡ useful_part (port_element signals.now.port signals.now.cell.now signals.now.sfn
         (slot / 2) (7 * (slot % 2) + symbol_of normal i)) }
-    ensures { result ≡ sample_of (slot_sample (element signals.now.cell.now) signals.now.sfn slot i) }
+    ensures { result ≡ sample_of
+        (slot_sample (port_element signals.now.port signals.now.cell.now) signals.now.sfn slot i) }
 {
     to_sample(useful[place_at(i)])
 }
@@ -70,7 +71,7 @@ fn sample_of_slot(signals: &Signals, useful: &[Cpx; 128], slot: usize, i: usize)
 // Sample i of a frame.
 fn sample_of_frame(signals: &Signals, i: usize) -> Sample
     requires { i < frame_length }
-    ensures { result ≡ sample_of (frame_sample (element signals.now.cell.now) signals.now.sfn i) }
+    ensures { result ≡ sample_of (frame_sample (port_element signals.now.port signals.now.cell.now) signals.now.sfn i) }
 {
     let slot = i / SLOT_LENGTH;
     let useful = useful_of(signals, slot as u8, symbol_at(i % SLOT_LENGTH) as u8);
@@ -97,7 +98,8 @@ fn first_of(symbol: usize) -> usize
 fn put_symbol(signals: &Signals, symbol: usize, out: &mut [Sample])
     requires symbol { symbol < 140 }
     requires room { length out.old ≡ frame_length }
-    ensures samples { HasSamples out.new (frame_sample (element signals.now.cell.now) signals.now.sfn)
+    ensures samples { HasSamples out.new
+        (frame_sample (port_element signals.now.port signals.now.cell.now) signals.now.sfn)
         (first_sample symbol) (first_sample (symbol + 1)) }
     ensures rest { AreSameOutside (first_sample symbol) (first_sample (symbol + 1)) out.old out.new }
 {
@@ -113,7 +115,8 @@ fn put_symbols(signals: &Signals, first: usize, last: usize, out: &mut [Sample])
     requires order { first ≤ last }
     requires last { last ≤ 140 }
     requires room { length out.old ≡ frame_length }
-    ensures samples { HasSamples out.new (frame_sample (element signals.now.cell.now) signals.now.sfn)
+    ensures samples { HasSamples out.new
+        (frame_sample (port_element signals.now.port signals.now.cell.now) signals.now.sfn)
         (first_sample first) (first_sample last) }
     ensures rest { AreSameOutside (first_sample first) (first_sample last) out.old out.new }
 {
@@ -125,7 +128,7 @@ fn put_symbols(signals: &Signals, first: usize, last: usize, out: &mut [Sample])
 // Writes all samples of a frame.
 fn put_frame(signals: &Signals, out: &mut [Sample])
     requires { length out.old ≡ frame_length }
-    ensures { out.new ≡ frame_samples (element signals.now.cell.now) signals.now.sfn }
+    ensures { out.new ≡ frame_samples (port_element signals.now.port signals.now.cell.now) signals.now.sfn }
 {
     put_symbols(signals, 0, 140, out);
 }
@@ -134,24 +137,32 @@ fn put_frame(signals: &Signals, out: &mut [Sample])
 // symbols of slot 1, which carry the broadcast channel, and in subframe 5, which carries system information.
 fn renew_frame(signals: &Signals, out: &mut [Sample])
     requires { length out.old ≡ frame_length }
-    ensures { (other : ℕ) → out.old ≡ frame_samples (element signals.now.cell.now) other →
-        out.new ≡ frame_samples (element signals.now.cell.now) signals.now.sfn }
+    ensures { (other : ℕ) → out.old ≡ frame_samples (port_element signals.now.port signals.now.cell.now) other →
+        out.new ≡ frame_samples (port_element signals.now.port signals.now.cell.now) signals.now.sfn }
 {
     put_symbols(signals, 7, 11, out);
     put_symbols(signals, 70, 84, out);
 }
 
-/// Sample `i` of the cell's endless sequence of frames, which begins with the frame numbered `sfn`
-/// (TS 36.211 section 6.12, in whole numbers). The size of a sample is at most 1,153.
+/// Sample `i` of the endless sequence of frames that a cell sends at a port, which begins with the frame
+/// numbered `sfn` (TS 36.211 section 6.12, in whole numbers). The size of a sample is at most 1,153.
+pub fn port_sample(cell: &Cell, port: Port, sfn: Sfn, i: u64) -> Sample
+    ensures value { result ≡ sample_of (sent (port_element port cell.now) sfn i) }
+    ensures size { square (sent (port_element port cell.now) sfn i) ≤ 1153 * 1153 }
+{
+    let sfn = number(sfn, i);
+    let layout = layout_of(cell, port);
+    let carried = carried_of(cell, sfn);
+    let signals = Signals::new(cell, port, &layout, &carried, sfn);
+    sample_of_frame(&signals, (i % FRAME) as usize)
+}
+
+/// The same of a cell with one port.
 pub fn sample(cell: &Cell, sfn: Sfn, i: u64) -> Sample
     ensures value { result ≡ sample_of (sent (element cell.now) sfn i) }
     ensures size { square (sent (element cell.now) sfn i) ≤ 1153 * 1153 }
 {
-    let sfn = number(sfn, i);
-    let layout = layout_of(cell);
-    let carried = carried_of(cell, sfn);
-    let signals = Signals::new(cell, &layout, &carried, sfn);
-    sample_of_frame(&signals, (i % FRAME) as usize)
+    port_sample(cell, Port::Only, sfn, i)
 }
 
 /// The whole frame numbered `sfn`, over 19,200 samples: those of `sample` from 0 on. Sample `i` is
@@ -160,9 +171,9 @@ pub fn frame(cell: &Cell, sfn: Sfn, out: &mut [Sample])
     requires { length out.old ≡ frame_length }
     ensures { out.new ≡ frame_samples (element cell.now) sfn }
 {
-    let layout = layout_of(cell);
+    let layout = layout_of(cell, Port::Only);
     let carried = carried_of(cell, sfn);
-    let signals = Signals::new(cell, &layout, &carried, sfn);
+    let signals = Signals::new(cell, Port::Only, &layout, &carried, sfn);
     put_frame(&signals, out);
 }
 
@@ -196,23 +207,34 @@ pub fn send(t: &Transmission, i: u32) -> Sample
     amplified(t.gain, sample(&t.cell, t.sfn, i as u64 + t.offset as u64))
 }
 
-// Makes the frame of sample i of a transmission, over the frame before where there is one.
+// What is sent at a port from a frame's sample on.
+#[derive(Drop)]
+struct Sequence<'a> {
+    cell: &'a Cell,
+    port: Port,
+    sfn: Sfn,
+    offset: u32,
+}
+
+// Makes the frame of sample i of a sequence, over the frame before where there is one.
 fn make_frame(
-    t: &Transmission,
+    sequence: &Sequence,
     layout: &Layout,
     versions: &Versions,
     i: usize,
     clean: &mut [Sample; FRAME_LENGTH],
 )
-    requires layout { IsLayout t.now.cell layout.now }
-    requires versions { AreVersions t.now.cell versions.now }
-    requires i { i < t.now.samples }
-    requires before { 0 < i → clean.old
-        ≡ frame_samples (element t.now.cell) (number_of t.now.sfn (i - 1 + t.now.offset)) }
-    ensures { clean.new ≡ frame_samples (element t.now.cell) (number_of t.now.sfn (i + t.now.offset)) }
+    requires layout { IsLayout sequence.now.port sequence.now.cell.now layout.now }
+    requires versions { AreVersions sequence.now.cell.now versions.now }
+    requires i { i < most_count }
+    requires before { 0 < i → clean.old ≡ frame_samples (port_element sequence.now.port sequence.now.cell.now)
+        (number_of sequence.now.sfn (i - 1 + sequence.now.offset)) }
+    ensures { clean.new ≡ frame_samples (port_element sequence.now.port sequence.now.cell.now)
+        (number_of sequence.now.sfn (i + sequence.now.offset)) }
 {
-    let sfn = number(t.sfn, i as u64 + t.offset as u64);
-    let signals = Signals::new(&t.cell, layout, versions.of_frame(sfn), sfn);
+    let sfn = number(sequence.sfn, i as u64 + sequence.offset as u64);
+    let carried = versions.of_frame(sfn);
+    let signals = Signals::new(sequence.cell, sequence.port, layout, carried, sfn);
     if i == 0 {
         put_frame(&signals, clean);
     } else {
@@ -220,33 +242,58 @@ fn make_frame(
     }
 }
 
-// Makes the frame of sample i of a transmission, where that of the sample before is another one.
+// Makes the frame of sample i of a sequence, where that of the sample before is another one.
 fn enter_frame(
-    t: &Transmission,
+    sequence: &Sequence,
     layout: &Layout,
     versions: &Versions,
     i: usize,
     clean: &mut [Sample; FRAME_LENGTH],
 )
-    requires layout { IsLayout t.now.cell layout.now }
-    requires versions { AreVersions t.now.cell versions.now }
-    requires i { i < t.now.samples }
-    requires before { 0 < i → clean.old
-        ≡ frame_samples (element t.now.cell) (number_of t.now.sfn (i - 1 + t.now.offset)) }
-    ensures { clean.new ≡ frame_samples (element t.now.cell) (number_of t.now.sfn (i + t.now.offset)) }
+    requires layout { IsLayout sequence.now.port sequence.now.cell.now layout.now }
+    requires versions { AreVersions sequence.now.cell.now versions.now }
+    requires i { i < most_count }
+    requires before { 0 < i → clean.old ≡ frame_samples (port_element sequence.now.port sequence.now.cell.now)
+        (number_of sequence.now.sfn (i - 1 + sequence.now.offset)) }
+    ensures { clean.new ≡ frame_samples (port_element sequence.now.port sequence.now.cell.now)
+        (number_of sequence.now.sfn (i + sequence.now.offset)) }
 {
-    if i == 0 || (i as u64 + t.offset as u64) % FRAME == 0 {
-        make_frame(t, layout, versions, i, clean);
+    if i == 0 || (i as u64 + sequence.offset as u64) % FRAME == 0 {
+        make_frame(sequence, layout, versions, i, clean);
     }
 }
 
-// Sample i of a transmission, from the samples of its frame.
-fn sent_from(t: &Transmission, i: usize, clean: &[Sample; FRAME_LENGTH]) -> Sample
-    requires i { i < t.now.samples }
-    requires clean { clean.now ≡ frame_samples (element t.now.cell) (number_of t.now.sfn (i + t.now.offset)) }
-    ensures { result ≡ sample_of (received t.now.cell t.now.sfn t.now.offset (gain_of t.now.gain) i) }
+// Sample i of a sequence, from the samples of its frame.
+fn sequence_from(sequence: &Sequence, i: usize, clean: &[Sample; FRAME_LENGTH]) -> Sample
+    requires i { i < most_count }
+    requires clean { clean.now ≡ frame_samples (port_element sequence.now.port sequence.now.cell.now)
+        (number_of sequence.now.sfn (i + sequence.now.offset)) }
+    ensures { result ≡ sample_of (sent (port_element sequence.now.port sequence.now.cell.now)
+        sequence.now.sfn (i + sequence.now.offset)) }
 {
-    amplified(t.gain, clean[(i + t.offset as usize) % FRAME_LENGTH])
+    clean[(i + sequence.offset as usize) % FRAME_LENGTH]
+}
+
+/// What a cell sends at a port from sample `offset` of the frame numbered `sfn` on, over at most 1,920,000
+/// samples: sample `i` is that of `port_sample` at `i + offset`.
+pub fn port_sequence(cell: &Cell, port: Port, sfn: Sfn, offset: u32, out: &mut [Sample])
+    requires { length out.old ≤ most_count }
+    ensures { out.new ≡ values_below (length out.old)
+        (λ i. sample_of (sent (port_element port cell.now) sfn (i + offset))) }
+{
+    let layout = layout_of(cell, port);
+    let versions = versions_of(cell);
+    let sequence = Sequence {
+        cell,
+        port,
+        sfn,
+        offset,
+    };
+    let mut clean = [Sample { re: 0, im: 0 }; FRAME_LENGTH];
+    for i in 0..out.len() {
+        enter_frame(&sequence, &layout, &versions, i, &mut clean);
+        out[i] = sequence_from(&sequence, i, &clean);
+    }
 }
 
 /// All samples of a transmission, over as many: sample `i` is that of `send`.
@@ -255,11 +302,8 @@ pub fn send_all(t: &Transmission, out: &mut [Sample])
     ensures { out.new ≡ values_below t.now.samples
         (λ i. sample_of (received t.now.cell t.now.sfn t.now.offset (gain_of t.now.gain) i)) }
 {
-    let layout = layout_of(&t.cell);
-    let versions = versions_of(&t.cell);
-    let mut clean = [Sample { re: 0, im: 0 }; FRAME_LENGTH];
+    port_sequence(&t.cell, Port::Only, t.sfn, t.offset, out);
     for i in 0..out.len() {
-        enter_frame(t, &layout, &versions, i, &mut clean);
-        out[i] = sent_from(t, i, &clean);
+        out[i] = amplified(t.gain, out[i]);
     }
 }

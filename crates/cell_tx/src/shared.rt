@@ -5,7 +5,8 @@ ghost use Rattle.finite.specs.Lists.{values_below};
 ghost use Rattle.cs_bits.specs.Checks.{with_check_24};
 ghost use Rattle.turbo_code.specs.Table.{IsSize};
 ghost use Rattle.turbo_code.specs.Encoder.{coded};
-ghost use Rattle.cell_tx.specs.Shared.{filled, row_with, shared_places, shared_bit, shared_point};
+ghost use Rattle.cell_tx.specs.Transport.{filled, row_with, is_resolvable_by};
+ghost use Rattle.cell_tx.specs.Shared.{assigned_places, shared_bit, shared_point};
 
 use crate::Cell;
 use crate::bits::put_bits;
@@ -14,7 +15,8 @@ use crate::points::fill_points;
 use cs_bits::crc24a;
 use cs_num::Cpx;
 use dci::SI_RNTI;
-use grid_map::{Place, pdsch, pdsch_c_init};
+use erasure::fills;
+use grid_map::{Place, pdsch_c_init, shared_place};
 use lte_types::Sfn;
 use turbo_code::{Coded, encode, match_out, row_of};
 
@@ -45,6 +47,17 @@ fn put_check(word: &mut [bool; 1024], size: usize)
     put_bits(word, size, 24, check as u64);
 }
 
+// A transport block of this size and its check: a text, followed by zeros.
+fn checked_block(text: &[bool], size: u16) -> [bool; 1024]
+    requires room { size ≤ 1000 }
+    requires fits { length text.now ≤ size }
+    ensures { take (size + 24) result ≡ with_check_24 (filled size text.now) }
+{
+    let mut word = filled(text);
+    put_check(&mut word, size as usize);
+    word
+}
+
 /// The coded word of a transport block of this size (TS 36.212 section 5.3.2): a text, followed by zeros.
 /// The size and 24 bits are a K of the table.
 pub(crate) fn coded_block(text: &[bool], size: u16) -> Coded
@@ -57,9 +70,22 @@ pub(crate) fn coded_block(text: &[bool], size: u16) -> Coded
     let Some(row) = row_of(size) else {
         unreachable!()
     };
-    let mut word = filled(text);
-    put_check(&mut word, size as usize);
-    encode(&word[..size as usize + 24], row)
+    encode(&checked_block(text, size)[..size as usize + 24], row)
+}
+
+/// Whether a transport block of this size and its check can be resolved by so many bits, from each redundancy
+/// version on: a text, followed by zeros. The size and 24 bits are a K of the table.
+pub(crate) fn block_fills(text: &[bool], size: u16, count: u16) -> bool
+    requires size { IsSize (size + 24) }
+    requires room { size ≤ 1000 }
+    requires fits { length text.now ≤ size }
+    requires count { count ≤ 1224 }
+    ensures { result ≡ is_resolvable_by (size + 24) count (with_check_24 (filled size text.now)) }
+{
+    let Some(row) = row_of(size) else {
+        unreachable!()
+    };
+    fills(&checked_block(text, size)[..size as usize + 24], row, count)
 }
 
 // The bits of the coded word in a frame, as they are matched.
@@ -84,17 +110,17 @@ pub(crate) fn shared_points(cell: &Cell, sfn: Sfn) -> [Cpx; 612]
     points
 }
 
-/// The places of the assigned resource blocks, and how many there are.
-pub(crate) fn shared_places(cell: &Cell) -> (usize, [Place; 612])
-    ensures places { take result.0 result.1 ≡ shared_places cell.now }
+/// The places of the assigned resource blocks with two antenna ports or one, and how many there are.
+pub(crate) fn shared_places(cell: &Cell, two: bool) -> (usize, [Place; 612])
+    ensures places { take result.0 result.1 ≡ assigned_places two cell.now }
     ensures count { result.0 ≤ 612 }
     ensures whole { length result.1 ≡ 612 }
 {
     let plan = cell.plan();
-    let count = cell.assigned_places();
+    let count = cell.assigned_places(two);
     let mut places = [Place { symbol: 0, k: 0 }; 612];
     for i in 0..count {
-        places[i] = pdsch(cell.id(), cell.cfi(), plan.start, plan.blocks, i);
+        places[i] = shared_place(two, cell.id(), cell.cfi(), plan.start, plan.blocks, i);
     }
     (count, places)
 }

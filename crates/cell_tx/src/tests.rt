@@ -1,6 +1,6 @@
 // The samples are those of a second program, `scripts/second_cell.py`.
 
-ghost use Rattle.std.specs.Prelude.{◌≡◌, IfOk, length};
+ghost use Rattle.std.specs.Prelude.{◌≡◌, ◌≤◌, IfOk, length};
 
 use super::*;
 use cs_num::Sample;
@@ -311,30 +311,155 @@ fn refusals_by_numbers(rt: HostRuntime) {
     accepted_are_sendable();
 }
 
+// The plain cell's plan with K = 416, of whose 1,260 coded bits 1,224 are sent.
+fn punctured_plan(sib1: Sib1) -> CellPlan {
+    CellPlan {
+        mcs: 8,
+        column: 3,
+        sib1,
+        ..plain_plan()
+    }
+}
+
 #[test]
-fn each_coded_bit_has_to_be_sent(rt: HostRuntime) {
-    // K = 400 needs 1,212 of 1,224 bits, and K = 416 needs 1,260.
-    let fits = CellPlan {
+fn punctured_blocks_have_to_be_resolvable(rt: HostRuntime) {
+    // K = 400 needs 1,212 of 1,224 bits, so that each is sent; K = 416 is resolved without 36 of its bits, and K = 400
+    // in 1,080.
+    let whole = CellPlan {
         mcs: 11,
         ..plain_plan()
     };
-    assert_eq!(rt; refusal(fits), None);
-    let punctured = CellPlan {
-        mcs: 8,
-        column: 3,
-        sib1: Sib1 {
-            tdd: Some((1, 2)),
-            ..plain_block()
-        },
-        ..plain_plan()
-    };
-    assert_eq!(rt; refusal(punctured), Some(CellError::Punctured));
+    assert_eq!(rt; refusal(whole), None);
+    assert_eq!(rt; refusal(punctured_plan(plain_block())), None);
     let control = CellPlan {
         mcs: 11,
         cfi: 3,
         ..plain_plan()
     };
-    assert_eq!(rt; refusal(control), Some(CellError::Punctured));
+    assert_eq!(rt; refusal(control), None);
+    // 204 bits do not settle 1,024. Of K = 320 in 540, from version 2 on, the first iteration leaves 38 bits, which are
+    // all 0 here, so that its word passes the check before every bit is settled.
+    let long = CellPlan {
+        mcs: 21,
+        blocks: 1,
+        ..plain_plan()
+    };
+    assert_eq!(rt; refusal(long), Some(CellError::Punctured));
+    let three = CellPlan {
+        mcs: 9,
+        cfi: 3,
+        blocks: 3,
+        ..plain_plan()
+    };
+    assert_eq!(rt; refusal(three), Some(CellError::Punctured));
+}
+
+#[test]
+fn punctured_plans_without_a_block_are_punctured(rt: HostRuntime) {
+    let duplex = punctured_plan(Sib1 {
+        tdd: Some((1, 2)),
+        ..plain_block()
+    });
+    assert_eq!(rt; refusal(duplex), Some(CellError::Punctured));
+    let extension = punctured_plan(Sib1 {
+        extended: true,
+        ..plain_block()
+    });
+    assert_eq!(rt; refusal(extension), Some(CellError::Punctured));
+    // A text of 113 bits in 104, of whose 396 coded bits 360 are sent.
+    let long = CellPlan {
+        mcs: 3,
+        cfi: 3,
+        blocks: 2,
+        ..plain_plan()
+    };
+    assert_eq!(rt; refusal(long), Some(CellError::Punctured));
+}
+
+// Whether a plan with so many resource blocks is answered as a letter of the table says: `w` or `r` where it is
+// accepted, `p` punctured, `l` too long a text.
+fn is_answer(cfi: u8, blocks: u8, column: u8, mcs: u8, letter: u8) -> bool {
+    let plan = CellPlan {
+        cfi,
+        blocks,
+        column,
+        mcs,
+        ..plain_plan()
+    };
+    match refusal(plan) {
+        None => letter == b'w' || letter == b'r',
+        Some(CellError::Punctured) => letter == b'p',
+        Some(CellError::Sib1Long) => letter == b'l',
+        _ => false,
+    }
+}
+
+// Whether they are for each modulation and coding scheme, from 0 on. The letters are those of
+// `scripts/punctured_table.py`.
+fn are_answers(cfi: u8, blocks: u8, column: u8, letters: &[u8]) -> bool
+    requires { length letters.now ≤ 22 }
+{
+    let mut all = true;
+    for mcs in 0..letters.len() {
+        all &= is_answer(cfi, blocks, column, mcs as u8, letters[mcs]);
+    }
+    all
+}
+
+#[test]
+fn answers_with_indicator_2_and_one_or_two_blocks(rt: HostRuntime) {
+    assert!(rt; are_answers(2, 1, 2, b"lppppppppppppppppppppp"));
+    assert!(rt; are_answers(2, 2, 2, b"llllrrrrpppppppppppppp"));
+    assert!(rt; are_answers(2, 1, 3, b"ppppppppppppppppp"));
+    assert!(rt; are_answers(2, 2, 3, b"llrrprppppppppppp"));
+}
+
+#[test]
+fn answers_with_indicator_2_and_three_or_four_blocks(rt: HostRuntime) {
+    assert!(rt; are_answers(2, 3, 2, b"llllwwwrrrrrpppppppppp"));
+    assert!(rt; are_answers(2, 4, 2, b"llllwwwwrrrrrrpppppppp"));
+    assert!(rt; are_answers(2, 3, 3, b"llwwrrrrppppppppp"));
+    assert!(rt; are_answers(2, 4, 3, b"llwwwwrrrprpppppp"));
+}
+
+#[test]
+fn answers_with_indicator_2_and_five_blocks(rt: HostRuntime) {
+    assert!(rt; are_answers(2, 5, 2, b"llllwwwwwwrrrrrrpppppp"));
+    assert!(rt; are_answers(2, 5, 3, b"llwwwwwrrrrrppppp"));
+}
+
+#[test]
+fn answers_with_indicator_2_and_six_blocks(rt: HostRuntime) {
+    assert!(rt; are_answers(2, 6, 2, b"llllwwwwwwwwrrrrrprppp"));
+    assert!(rt; are_answers(2, 6, 3, b"llwwwwwwrrrrrrppp"));
+}
+
+#[test]
+fn answers_with_indicator_3_and_one_or_two_blocks(rt: HostRuntime) {
+    assert!(rt; are_answers(3, 1, 2, b"lppppppppppppppppppppp"));
+    assert!(rt; are_answers(3, 2, 2, b"lllprrrppppppppppppppp"));
+    assert!(rt; are_answers(3, 1, 3, b"ppppppppppppppppp"));
+    assert!(rt; are_answers(3, 2, 3, b"llrrrpppppppppppp"));
+}
+
+#[test]
+fn answers_with_indicator_3_and_three_or_four_blocks(rt: HostRuntime) {
+    assert!(rt; are_answers(3, 3, 2, b"llllwwrrrppppppppppppp"));
+    assert!(rt; are_answers(3, 4, 2, b"llllwwwrrrrrrppppppppp"));
+    assert!(rt; are_answers(3, 3, 3, b"llwrrrrpppppppppp"));
+    assert!(rt; are_answers(3, 4, 3, b"llwwwrrrrpppppppp"));
+}
+
+#[test]
+fn answers_with_indicator_3_and_five_blocks(rt: HostRuntime) {
+    assert!(rt; are_answers(3, 5, 2, b"llllwwwwwrrrrrpppppppp"));
+    assert!(rt; are_answers(3, 5, 3, b"llwwwwwrrrrpppppp"));
+}
+
+#[test]
+fn answers_with_indicator_3_and_six_blocks(rt: HostRuntime) {
+    assert!(rt; are_answers(3, 6, 2, b"llllwwwwwwwrrrrrrppppp"));
+    assert!(rt; are_answers(3, 6, 3, b"llwwwwwwrrrrrpppp"));
 }
 
 #[test]

@@ -14,22 +14,22 @@ use Rattle.cs_outside.specs.Streams.{HasWritten, HasWrittenFront, IsShortOf}
 use Rattle.cs_outside.proofs.Writing.{write_nothing, write_then, front_after, front_of_longer, short_after}
 use Rattle.lte_types.specs.declared.entry.Entry.{Entry}
 use Rattle.soft_bits.specs.Soft.{SeenSlot}
-use Rattle.conv_code.proofs.Sums.{length-summed, length-summed_row}
 use Rattle.conv_code.specs.Cost.{word_cost}
 use Rattle.tailbite.specs.LeastWord.{IsLeastWord}
-use Rattle.pbch.specs.Values.{frame_values, coded_values}
+use Rattle.pbch.specs.Values.{coded_values}
 use Rattle.pbch.specs.Master.{Tells, TellsMaster, Carries}
 use Rattle.tailbite.proofs.Only.{one_word}
-use Rattle.pbch.proofs.Sums.{coded_values-small}
+use Rattle.pbch.proofs.Sums.{length-coded_values, length-coded_row, coded_values-small}
 use Rattle.tail_cert.specs.Certificate.{Held, IsWhole, IsAccepted, IsTriple, Counted, tables_there}
 use Rattle.tail_cert.specs.Form.{bytes_of, head_count, most_count, table_count}
 use Rattle.tail_cert.specs.Forward.{IsFilled}
 use Rattle.tail_cert.proofs.Codes.{length-bytes_of}
 use Rattle.tail_cert.proofs.Filled.{same_count}
 use Rattle.tail_cert.proofs.Exists.{certificate_of, least_has_certificate}
-use Rattle.explain.specs.Frame.{broadcast_slot}
+use Rattle.explain.specs.Frame.{broadcast_slots}
 use Rattle.explain.specs.Entries.{IsExplained, master_of, values_of_entry}
 use Rattle.explain.proofs.Sorted.{Contains-here, Contains-later}
+use Rattle.explain.proofs.FirstFrame.{length-broadcast_slots}
 use Rattle.explain.proofs.Listed.{is_sound}
 use Rattle.cs_outside.specs.declared.Failed.{Failed}
 use Rattle.cert_stream.specs.Stream.{all_bytes}
@@ -63,7 +63,7 @@ tables_most tables =
 
 -- ---- an entry's certificate
 
--- what makes a certificate of an entry: it is accepted, with the values of the entry's frame and a least word of them
+-- what makes a certificate of an entry: it is accepted, with the values of the entry's frames and a least word of them
 pub certifies : (samples : List Sample) (entry : Entry) (c : Held) → IsWhole c → IsAccepted c → IsFilled c →
     c.values ≡ values_of_entry samples entry →
     TellsMaster (values_of_entry samples entry) (master_of entry) → IsLeastWord c.values c.word → Certifies samples entry c
@@ -86,20 +86,17 @@ pub certifies_filled : (samples : List Sample) (entry : Entry) (c : Held) (v : L
 certifies_filled samples entry c v whole accepted filled same values tells least =
     certifies samples entry c whole accepted filled (same ∙ values) (subst (λ v. TellsMaster v (master_of entry)) values tells) (subst (λ v. IsLeastWord v c.word) (sym same) least)
 
--- the values of a slot have the shape and the sizes of a certificate
-values_fit : (slot : SeenSlot) (phase : ℕ) → Counted 40 IsTriple (coded_values slot phase)
-unfolding coded_values
-values_fit slot phase =
-    let bits = frame_values slot phase in
-    let sizes = coded_values-small slot phase in
+-- the values of slots have the shape and the sizes of a certificate
+values_fit : (slots : List SeenSlot) (phase : ℕ) → length slots ≤ 4 → Counted 40 IsTriple (coded_values slots phase)
+values_fit slots phase few =
+    let count = length-coded_values slots phase in
+    let sizes = coded_values-small slots phase few in
     record {
-      count = length-summed 40 bits;
-      all = λ k d inside.
-          let below : k < 40 = omega (arith, inside, length-summed 40 bits) in
-          record {
-            count = length-summed_row 40 bits k d below;
-            all = λ t e there. let s = sizes k d inside t e there in omega (arith, s);
-          };
+      count = count;
+      all = λ k d inside. record {
+        count = length-coded_row slots phase k d (omega (arith, inside, count));
+        all = λ t e there. let s = sizes k d inside t e there in omega (arith, s);
+      };
     }
 
 -- each entry of the list has a certificate
@@ -109,7 +106,10 @@ entry_has_certificate samples entries entry explained inside =
     let known = is_sound samples entries entry explained inside in
     let values = values_of_entry samples entry in
     let tells : TellsMaster values (master_of entry) = known.is_of.master in
-    let made = least_has_certificate values tells.word (values_fit (broadcast_slot samples entry.id entry.start entry.frame) entry.phase) tells.tells.least in (
+    let few = known.is_of.frames.inside.few in
+    let count = length-broadcast_slots samples entry.id entry.start entry.frames entry.frame in
+    let fit = values_fit (broadcast_slots samples entry.id entry.start entry.frames entry.frame) entry.phase (omega (arith, count, few)) in
+    let made = least_has_certificate values tells.word fit tells.tells.least in (
       certificate_of values tells.word,
       certifies samples entry (certificate_of values tells.word) made.whole made.accepted made.filled made.values_are tells
           (subst (λ w. IsLeastWord (certificate_of values tells.word).values w) (sym made.word_is) (subst (λ v. IsLeastWord v tells.word) (sym made.values_are) tells.tells.least)),

@@ -6,7 +6,7 @@ use Rattle.cs_outside.specs.Outside.{SourceTold}
 use Rattle.cs_outside.specs.Streams.{HasReadOn}
 use Rattle.tail_cert.specs.Certificate.{Held, IsWhole}
 use Rattle.tail_cert.specs.Form.{bytes_of, value_at, BreaksUpTo, Breaks, IsFirstBreak, IsFirstBreakUpTo, IsUnbrokenUpTo, count_of, head_count}
-use Rattle.tail_cert.proofs.Breaks.{before_end, count_least, long_enough, none_past, of_spoiled}
+use Rattle.tail_cert.proofs.Breaks.{before_end, count_least, long_enough, of_spoiled}
 use Rattle.tail_cert.proofs.Codes.{length-bytes_of}
 use Rattle.tail_cert.proofs.Whole.{count_longer, count_of_front, count_whole, whole_unbroken}
 use Rattle.cert_stream.specs.Reading.{IsAim, IsSound}

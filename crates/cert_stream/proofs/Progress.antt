@@ -1,5 +1,5 @@
 -- Certificates that are read one after the other: what is known after each read.
-use Rattle.std.proofs.Common.{◌≡◌, ℕ, ◌+◌, ◌*◌, ◌<◌, ◌≤◌, inl, inr, Bool, List, [], ◌∷◌, ◌++◌, length, take, refl, ap, sym, subst, ◌∙◌, arith, append_assoc, append-nil, length-append}
+use Rattle.std.proofs.Common.{◌≡◌, ℕ, ◌+◌, ◌<◌, ◌≤◌, inl, inr, Bool, List, [], ◌∷◌, ◌++◌, length, take, refl, ap, sym, subst, ◌∙◌, arith, append_assoc, append-nil, length-append}
 use Rattle.std.specs.List.{AllZip}
 use Rattle.std.proofs.lemmas.Grind.{flat_map-append}
 use Rattle.std.specs.Option.{option_map}
@@ -196,7 +196,7 @@ fault_on answers done part before between now s same rose few within =
     record {
       front = front;
       failed = record {
-        read = record { in_order = s.read.in_order ∙ ap (option_map (λ rest. front ++ rest)) (sym same) };
+        in_order = s.read.in_order ∙ ap (option_map (λ rest. front ++ rest)) (sym same);
         within = omega (arith, size, within, all);
         failed = rose;
       };

@@ -13,7 +13,7 @@ use Rattle.tail_cert.specs.Forward.{IsFilled}
 use Rattle.cert_stream.specs.Stream.{all_bytes}
 
 -- the certificate shows an entry's master block: it is whole and accepted, has the tables that are needed, and holds the values
--- of the entry's frame, a word of least cost that tells the entry's ports and block, and that cost
+-- of the entry's frames, a word of least cost that tells the entry's ports and block, and that cost
 pub record Certifies (samples : List Sample) (entry : Entry) (c : Held) : Type 0 where
   pub whole : IsWhole c
   pub accepted : IsAccepted c

@@ -40,7 +40,7 @@ impl CertificateWork {
 }
 
 /// Writes a certificate for each entry of a recording's list, in order: the values of the entry's
-/// frame, their least word, which tells the entry's master block, and its cost. The certificates are
+/// frames, their least word, which tells the entry's master block, and its cost. The certificates are
 /// accepted. `Failed` means that the sink counted a fault, after a front of them was written; where
 /// the sink tells its room, that was too little for all. It takes no memory. (own)
 pub fn certify<K: Sink>(

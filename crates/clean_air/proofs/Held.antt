@@ -21,6 +21,7 @@ use Rattle.sss_detect.specs.Identity.{identity_of}
 use Rattle.pbch.specs.declared.master.Master.{Master}
 use Rattle.cell_tx.specs.Clean.{start_of as start_after}
 use Rattle.explain.specs.Entries.{identity_at, start_at, master_of, epoch, distance, is_same_cell, IsEntryBy, AreEntries, IsListOfHits}
+use Rattle.explain.specs.Window.{IsInWindow, ComeBefore}
 use Rattle.explain.specs.Masters.{entry_of}
 use Rattle.explain.specs.Laws.{IsEntryOfSome}
 use Rattle.explain.proofs.Entries.{same_entry}
@@ -35,13 +36,13 @@ use Rattle.clean_air.proofs.TruePlaces.{AreNear, true_hit, true_start, near_true
 
 -- what is used of a cell that begins at this offset: its synchronisation signals stand at its places, and its first
 -- whole frame, of this number, tells this master block
-pub record IsHeard (Tells : ℕ → ℕ → ℕ → ℕ → Master → Type 0) (recording : List Sample) (identity offset number : ℕ) (master : Master) : Type 0 where
+pub record IsHeard (Tells : ℕ → ℕ → ℕ → ℕ → ℕ → Master → Type 0) (recording : List Sample) (identity offset number : ℕ) (master : Master) : Type 0 where
   pub long : 57600 ≤ length recording
   pub within : offset < 19200
   pub known : number ≤ 1023
   pub primary : (t : ℕ) (half : Half) → IsTruePlace offset t half → t + 128 ≤ length recording → IsPrimaryAt recording t (identity % 3)
   pub secondary : (t : ℕ) (half : Half) → IsTruePlace offset t half → 137 ≤ t → t + 128 ≤ length recording → AreSynchronisation recording t (identity / 3) (identity % 3) half
-  pub tells : Tells identity (start_after offset) 0 (number % 4) master
+  pub tells : Tells identity (start_after offset) 1 0 (number % 4) master
   pub upper : master.mib.upper ≡ number / 4
 
 -- what it says of two entries that they are of one cell
@@ -56,9 +57,9 @@ start_small : (t : ℕ) (half : Half) → start_of t half < 19200
 start_small t Zero = omega arith
 start_small t Five = omega arith
 
--- where a frame tells at most one master block at a phase, and there is at most one answer on system information
-module _ (Tells : ℕ → ℕ → ℕ → ℕ → Master → Type 0) (IsSystem : ℕ → ℕ → ℕ → ℕ → Mib → Result Sib1 Sib1Reason → Type 0)
-    (one : (identity start j phase : ℕ) (a b : Master) → Tells identity start j phase a → Tells identity start j phase b → a ≡ b)
+-- where frames tell at most one master block at a phase, and there is at most one answer on system information
+module _ (Tells : ℕ → ℕ → ℕ → ℕ → ℕ → Master → Type 0) (IsSystem : ℕ → ℕ → ℕ → ℕ → Mib → Result Sib1 Sib1Reason → Type 0)
+    (one : (identity start count j phase : ℕ) (a b : Master) → Tells identity start count j phase a → Tells identity start count j phase b → a ≡ b)
     (one_answer : (identity start sfn ports : ℕ) (mib : Mib) (a b : Result Sib1 Sib1Reason) → IsSystem identity start sfn ports mib a → IsSystem identity start sfn ports mib b → a ≡ b)
     (recording : List Sample) where
   -- the entries of a hit
@@ -72,10 +73,15 @@ module _ (Tells : ℕ → ℕ → ℕ → ℕ → Master → Type 0) (IsSystem :
       (system : IsSystem identity (start_after offset) number master.ports master.mib sib1) where
     -- the cell's entry
     abbrev sent_entry : Entry
-    sent_entry = entry_of identity (start_after offset) 0 (number % 4) master sib1
+    sent_entry = entry_of identity (start_after offset) 1 0 (number % 4) master sib1
 
     sent_number : sent_entry.sfn ≡ number
     sent_number = let e = heard.upper in let fits = heard.known in omega (arith, e, fits)
+
+    -- no frames are looked at before the first alone
+    none_first : (few i : ℕ) → IsInWindow recording (start_after offset) few i → ComeBefore few i 1 0 → ⊥
+    none_first few i window (inl fewer) = let some = window.some in omega (arith, some, fewer)
+    none_first few i window (inr (same, below)) = omega (arith, below)
 
     -- it is one of a listed hit
     is_entry : IsOfSome sent_entry
@@ -93,8 +99,11 @@ module _ (Tells : ℕ → ℕ → ℕ → ℕ → Master → Type 0) (IsSystem :
           is_of = record {
             id = sym (ap (λ (p : ℕ × Half). cell_of p.0 (identity % 3)) pair ∙ cell);
             start = sym (ap (λ (p : ℕ × Half). start_of h.t p.1) pair ∙ true_start offset h.t h.half heard.within h.is_hit.is);
-            phase = omega arith;
-            frame = record { inside = record { known = omega arith; whole = omega (arith, long) }; first = λ i phase other before known. absurd (omega (arith, before)) };
+            period = omega arith;
+            frames = record {
+              inside = record { some = omega arith; few = omega arith; known = omega arith; whole = λ m below. omega (arith, long, below) };
+              first = λ few i window before. absurd (none_first few i window before);
+            };
             master = heard.tells;
             sfn = refl;
             sib1 = subst (λ n. IsSystem identity (start_after offset) n master.ports master.mib sib1) (sym sent_number) system;
@@ -116,28 +125,42 @@ module _ (Tells : ℕ → ℕ → ℕ → ℕ → Master → Type 0) (IsSystem :
         is.is_of.start ∙ true_start offset hit.t half heard.within (subst (λ t. IsTruePlace offset t half) (sym same) place.is)
 
     -- what an entry with the cell's identity and start tells, by these
-    there : (other : Entry) → IsOfSome other → other.id ≡ identity → other.start ≡ start_after offset → Tells identity (start_after offset) other.frame other.phase (master_of other)
+    there : (other : Entry) → IsOfSome other → other.id ≡ identity → other.start ≡ start_after offset → Tells identity (start_after offset) other.frames other.frame other.phase (master_of other)
     there other is id start =
-        subst (λ n. Tells identity n other.frame other.phase (master_of other)) start (subst (λ n. Tells n other.start other.frame other.phase (master_of other)) id is.is_of.master)
+        subst (λ n. Tells identity n other.frames other.frame other.phase (master_of other)) start
+        (subst (λ n. Tells n other.start other.frames other.frame other.phase (master_of other)) id is.is_of.master)
+
+    -- it does not come before them, since the first frame alone tells a master block
+    not_after : (other : Entry) → IsOfSome other → other.id ≡ identity → other.start ≡ start_after offset → ComeBefore 1 0 other.frames other.frame → ⊥
+    not_after other is id start before =
+        let long = heard.long in
+        let first : start_after offset < 19200 = omega arith in
+        is.is_of.frames.first 1 0 (record { some = omega arith; few = omega arith; known = omega arith; whole = λ m below. omega (arith, long, first, start, below) }) before
+        (number % 4) master (omega arith)
+        (subst (λ f. Tells other.id f 1 0 (number % 4) master) (sym start) (subst (λ n. Tells n (start_after offset) 1 0 (number % 4) master) (sym id) heard.tells))
 
     -- an entry of a hit with the cell's identity, start and number is the cell's entry: it tells the same master block
     -- of the same frame
     entry_is : (other : Entry) → IsOfSome other → other.id ≡ identity → other.start ≡ start_after offset → other.sfn ≡ number → other ≡ sent_entry
     entry_is other is id start sfn_is =
+        let frames : other.frames ≡ 1 = elim (cases_lt 1 other.frames) [
+          | inl more ↦ absurd (not_after other is id start (inl more))
+          | inr few ↦ let some = is.is_of.frames.inside.some in omega (arith, few, some)
+        ] in
         let frame : other.frame ≡ 0 = elim (cases_lt 0 other.frame) [
-          | inl later ↦ absurd (is.is_of.frame.first 0 (number % 4) master later (omega arith)
-              (subst (λ f. Tells other.id f 0 (number % 4) master) (sym start) (subst (λ n. Tells n (start_after offset) 0 (number % 4) master) (sym id) heard.tells)))
+          | inl later ↦ absurd (not_after other is id start (inr (sym frames, later)))
           | inr none ↦ omega (arith, none)
         ] in
-        let phase : other.phase ≡ number % 4 = omega (arith, is.is_of.sfn, is.is_of.phase, frame, sfn_is) in
-        let same : master_of other ≡ master = one identity (start_after offset) 0 (number % 4) (master_of other) master
-        (subst (λ p. Tells identity (start_after offset) 0 p (master_of other)) phase
-        (subst (λ j. Tells identity (start_after offset) j other.phase (master_of other)) frame (there other is id start))) heard.tells in
+        let phase : other.phase ≡ number % 4 = omega (arith, is.is_of.sfn, is.is_of.period, frames, frame, sfn_is) in
+        let same : master_of other ≡ master = one identity (start_after offset) 1 0 (number % 4) (master_of other) master
+        (subst (λ p. Tells identity (start_after offset) 1 0 p (master_of other)) phase
+        (subst (λ j. Tells identity (start_after offset) 1 j other.phase (master_of other)) frame
+        (subst (λ c. Tells identity (start_after offset) c other.frame other.phase (master_of other)) frames (there other is id start)))) heard.tells in
         let own : IsSystem identity (start_after offset) number master.ports master.mib other.sib1 =
         subst (λ (m : Master). IsSystem identity (start_after offset) number m.ports m.mib other.sib1) same
         (subst (λ n. IsSystem identity (start_after offset) n other.ports other.mib other.sib1) sfn_is
         (subst (λ n. IsSystem identity n other.sfn other.ports other.mib other.sib1) start (subst (λ n. IsSystem n other.start other.sfn other.ports other.mib other.sib1) id is.is_of.sib1))) in
-        same_entry other sent_entry id start (sfn_is ∙ sym sent_number) frame phase same
+        same_entry other sent_entry id start (sfn_is ∙ sym sent_number) frames frame phase same
         (one_answer identity (start_after offset) number master.ports master.mib other.sib1 sib1 own system)
 
     -- an entry of the same cell is the same

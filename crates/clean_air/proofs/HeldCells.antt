@@ -1,5 +1,5 @@
 -- The list of a clean recording holds its cell.
-use Rattle.std.proofs.Common.{ℕ, ◌/◌, ◌%◌, ◌<◌, ◌≤◌, arith, refl, ap, sym, List, length, Ok}
+use Rattle.std.proofs.Common.{ℕ, ◌/◌, ◌%◌, ◌<◌, ◌≤◌, arith, refl, ap, sym, List, [], ◌∷◌, length, Ok}
 use Rattle.cs_num.specs.declared.Cpx.{Cpx}
 use Rattle.cs_num.specs.declared.Sample.{Sample}
 use Rattle.lte_types.specs.declared.bandwidth.Bandwidth.TheVariants.{N6}
@@ -44,7 +44,7 @@ abbrev sent_master : List Sample → (plan : CellPlan) → plan.spare ≤ 1023 �
 sent_master recording plan spare offset number = record {
   ports = 1;
   mib = sent_mib plan spare number;
-  cost = word_cost (coded_values (sent_slot recording plan offset) (number % 4)) (broadcast_word plan number);
+  cost = word_cost (coded_values (sent_slot recording plan offset ∷ []) (number % 4)) (broadcast_word plan number);
 }
 
 number_fits : (sfn offset : ℕ) → sfn ≤ 1023 → offset < 19200 → number_at_start sfn offset ≤ 1023
@@ -53,7 +53,7 @@ number_fits sfn offset known within = let e = (first_frame sfn offset known with
 module _ (recording : List Sample) (plan : CellPlan) (sfn offset : ℕ) (gain : Cpx) (eps : ℕ) (sendable : IsSendable plan) (clean : IsClean recording plan sfn offset gain eps)
     (long : 57600 ≤ length recording) where
   -- the values of the first frame tell the word of its number
-  word_told : Tells (coded_values (sent_slot recording plan offset) (number_at_start sfn offset % 4)) (broadcast_word plan (number_at_start sfn offset)) 1
+  word_told : Tells (coded_values (sent_slot recording plan offset ∷ []) (number_at_start sfn offset % 4)) (broadcast_word plan (number_at_start sfn offset)) 1
   unfolding seen_slot
   word_told =
       let number : ℕ = number_at_start sfn offset in
@@ -62,7 +62,7 @@ module _ (recording : List Sample) (plan : CellPlan) (sfn offset : ℕ) (gain : 
       (slot_received recording plan sfn offset gain eps clean long) block.size (carries_word plan number) block.check (omega (arith, block.width))
 
   -- so they tell its master block
-  master_told : TellsMaster (coded_values (sent_slot recording plan offset) (number_at_start sfn offset % 4)) (sent_master recording plan sendable.spare offset (number_at_start sfn offset))
+  master_told : TellsMaster (coded_values (sent_slot recording plan offset ∷ []) (number_at_start sfn offset % 4)) (sent_master recording plan sendable.spare offset (number_at_start sfn offset))
   master_told =
       let number : ℕ = number_at_start sfn offset in
       let block = is_block plan number sendable.spare (number_fits sfn offset clean.number clean.samples.within) in

@@ -1,5 +1,5 @@
 -- A slot that carries the word of a master block tells it.
-use Rattle.std.proofs.Common.{◌≡◌, ℕ, ◌+◌, ◌*◌, ◌%◌, ◌<◌, ◌≤◌, arith, sym, subst, Bool, not, List, length, ℤ, nat_abs, nat_le, nat_lt, nat_eq, true}
+use Rattle.std.proofs.Common.{◌≡◌, ℕ, ◌+◌, ◌*◌, ◌%◌, ◌<◌, ◌≤◌, arith, sym, subst, Bool, not, List, length, append-nil, ℤ, nat_abs, nat_le, nat_lt, nat_eq, true}
 use Rattle.std.specs.Prelude.{◌&&◌, All}
 use Rattle.std.proofs.lemmas.Bool.Decides.{nat_tests}
 use Rattle.std.proofs.lemmas.List.Elements.{All-from_get_or}
@@ -17,8 +17,8 @@ use Rattle.grid_map.specs.Broadcast.{pbch_places, pbch_place, is_pbch}
 use Rattle.grid_map.specs.Scrambling.{pbch_c_init}
 use Rattle.grid_map.proofs.Points.{length-pbch_places, places_inside}
 use Rattle.soft_bits.specs.Places.{soft_values_of, descrambled}
-use Rattle.pbch.specs.Values.{received_values, frame_values, coded_values}
-use Rattle.pbch.specs.Master.{total}
+use Rattle.pbch.specs.Values.{received_values, summed_values, coded_values}
+use Rattle.pbch.specs.Master.{total, Tells}
 use Rattle.pbch.proofs.Sums.{length-received_values}
 use Rattle.clean_air.specs.Words.{IsOnlyWord}
 use Rattle.cell_tx.specs.Block.{scrambled_bit}
@@ -72,9 +72,10 @@ unfolding pbch_place
 all_below_72 identity = All-from_get_or (λ (p : Place). p.k < 72) (pbch_places identity) (place 0 0) (λ i l. below_72 identity i (omega (arith, l, length-pbch_places identity)))
 
 pub received_slot_tells : ReceivedSlotTells
-unfolding coded_values frame_values
+unfolding coded_values summed_values
 received_slot_tells recording starts grids slot phase ports word received size carry passes width =
-    sent_word_is_told (pbch_c_init slot.identity) (480 * phase) ports word (received_values slot) size speaks passes width
+    subst (λ values. Tells (sums_of (pbch_c_init slot.identity) (480 * phase) 40 values) word ports) (sym (append-nil (received_values slot)))
+    (sent_word_is_told (pbch_c_init slot.identity) (480 * phase) ports word (received_values slot) size speaks passes width)
   where
     many : length (received_values slot) ≡ 480
     many = length-received_values slot

@@ -8,7 +8,7 @@ use Rattle.lte_types.specs.Codes.{duration, duration_code, resource, resource_co
 use Rattle.lte_types.proofs.RoundTrips.{duration-code, duration_code_fits, resource-code, resource_code_fits}
 use Rattle.pbch.specs.Master.{PassesWith}
 use Rattle.cell_tx.specs.declared.cell.CellPlan.{CellPlan}
-use Rattle.cell_tx.specs.Block.{block_bits, broadcast_word}
+use Rattle.cell_tx.specs.Block.{block_bits, port_word, broadcast_word}
 
 -- ---- the parts of a word
 
@@ -38,7 +38,7 @@ pub record IsBlockOf (plan : CellPlan) (sfn : ℕ) (word : List Bool) : Type 0 w
   pub check : PassesWith 1 word
 
 pub is_block : (plan : CellPlan) (sfn : ℕ) → plan.spare ≤ 1023 → sfn ≤ 1023 → IsBlockOf plan sfn (broadcast_word plan sfn)
-unfolding broadcast_word block_bits word_with
+unfolding port_word block_bits word_with
 is_block plan sfn spare known =
     let check : ℕ = bit_xor (crc16_of (block_bits plan sfn)) 0 in
     let parts = has_parts 0 (duration_code plan.duration) (resource_code plan.resource) (sfn / 4) plan.spare check in

@@ -15,8 +15,9 @@ use Rattle.grid_map.specs.Broadcast.{pbch_places, pbch_place, is_pbch, pbch_inde
 use Rattle.grid_map.specs.Scrambling.{pbch_c_init}
 use Rattle.grid_map.proofs.Points.{length-pbch_places, places_inside, index_of_place}
 use Rattle.cell_tx.specs.declared.cell.CellPlan.{CellPlan}
-use Rattle.cell_tx.specs.Block.{broadcast_word, broadcast_bit, broadcast_point}
-use Rattle.cell_tx.specs.Grid.{is_broadcast, element}
+use Rattle.cell_tx.specs.declared.antenna.Port.TheVariants.{Only}
+use Rattle.cell_tx.specs.Block.{port_point, port_bit, broadcast_word, broadcast_bit, broadcast_point}
+use Rattle.cell_tx.specs.Grid.{is_broadcast, port_element, element}
 use Rattle.cell_tx.specs.Clean.{IsClean, start_of, number_at_start}
 use Rattle.cell_tx.specs.Rows.{reference_if}
 use Rattle.cell_tx.proofs.Bounds.{element-square}
@@ -53,7 +54,7 @@ pilot_place identity i = settle (is_reference identity 0 (pilot_subcarrier ident
     settle false e = record { is = other_symbol identity i (pilot_subcarrier identity i) refl e; inside = omega arith }
 
 reference_here : (plan : CellPlan) (number slot l k : ℕ) → l < 7 → is_reference plan.identity l k ≡ true → slot_grid plan number slot l k ≡ reference_at plan.identity slot l k
-unfolding element
+unfolding port_element
 reference_here plan number slot l k inside is =
     let symbol : (7 * (slot % 2) + l) % 7 ≡ l = omega (arith, inside) in
     let place : 2 * (slot / 2) + (7 * (slot % 2) + l) / 7 ≡ slot = omega (arith, inside) in
@@ -84,8 +85,8 @@ point_here : (plan : CellPlan) (number symbol k i : ℕ) → IsBroadcastPlace pl
     element plan number 0 symbol k ≡ broadcast_point plan number i
 point_here plan number symbol k i at e =
     let free : reference_if plan.identity (2 * 0 + symbol / 7) (symbol % 7) k ≡ None = rw at.free refl in
-    element_of_channel plan number 0 symbol k free (not_there symbol 6 (is_middle k) at.low (omega arith)) (not_there symbol 5 (is_middle k) at.low (omega arith))
-    ∙ channel_of_broadcast plan number 0 symbol k at.here ∙ ap (broadcast_point plan number) (sym e)
+    element_of_channel Only plan number 0 symbol k free (not_there symbol 6 (is_middle k) at.low (omega arith)) (not_there symbol 5 (is_middle k) at.low (omega arith))
+    ∙ channel_of_broadcast Only plan number 0 symbol k at.here ∙ ap (broadcast_point plan number) (sym e)
 
 pub points_stand : (plan : CellPlan) (number i : ℕ) → i < 240 →
     slot_grid plan number 1 ((pbch_place plan.identity i).symbol % 7) (pbch_place plan.identity i).k ≡ broadcast_point plan number i
@@ -98,7 +99,7 @@ points_stand plan number i inside =
 
 pub carries_word : (plan : CellPlan) (number : ℕ) →
     CarryWord (slot_grid plan number 1) (pbch_places plan.identity) (pbch_c_init plan.identity) (480 * (number % 4)) (broadcast_word plan number)
-unfolding pbch_place broadcast_point broadcast_bit
+unfolding pbch_place port_point port_bit
 carries_word plan number i inside = points_stand plan number i (omega (arith, inside, length-pbch_places plan.identity))
 
 -- ---- the slots
@@ -128,7 +129,7 @@ each_slot_received recording plan sfn offset gain eps clean j slot whole few =
       eps = eps;
       gain = gain;
       seen = λ l inside. values_below_at (λ symbol. seen_symbol recording (start symbol)) 7 l [] inside;
-      amplitudes = λ l inside k within. element-square plan number (slot / 2) (7 * (slot % 2) + l) k;
+      amplitudes = λ l inside k within. element-square Only plan number (slot / 2) (7 * (slot % 2) + l) k;
       received = λ l inside. subst (λ m. IsReceived eps gain (slot_grid plan m slot l) (samples_from recording (start l))) frame.number
           (received_at recording (element plan) sfn offset gain eps (start l) n slot l clean.samples few inside (omega (arith, whole, inside, few)) (omega (arith, frame.place)));
       references = λ i inside. references_stand plan number slot i;

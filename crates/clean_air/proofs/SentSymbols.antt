@@ -10,7 +10,7 @@ use Rattle.lte_types.specs.declared.frame.Half.{Half}
 use Rattle.lte_types.specs.declared.frame.Half.TheVariants.{Zero, Five}
 use Rattle.pss_search.specs.Correlation.{pss_grid}
 use Rattle.cell_tx.specs.declared.cell.CellPlan.{CellPlan}
-use Rattle.cell_tx.specs.Grid.{element}
+use Rattle.cell_tx.specs.Grid.{port_element, element}
 use Rattle.lte_types.specs.Numerology.{normal, useful_start, subframe_of, primary_start}
 use Rattle.cell_tx.specs.Sent.{Elements, sent}
 use Rattle.cell_tx.specs.Clean.{IsCleanOf, IsClean, start_of, number_at_start}
@@ -50,13 +50,13 @@ middle k a b = grind (arith, nat_tests)
 
 -- symbol 6 of the subframe holds the primary signal alone
 pub primary_symbol : (plan : CellPlan) (sfn k : ℕ) (half : Half) → element plan sfn (subframe_of half) 6 k ≡ pss_grid (plan.identity % 3) k
-unfolding element
+unfolding port_element
 primary_symbol plan sfn k Zero = rw (no_reference plan.identity 6 k refl refl, no_channel plan sfn 0 6 k (inr refl)) (middle k _ nothing)
 primary_symbol plan sfn k Five = rw (no_reference plan.identity 6 k refl refl, no_channel plan sfn 5 6 k (inr refl)) (middle k _ nothing)
 
 -- symbol 5 holds the secondary signal alone
 pub secondary_symbol : (plan : CellPlan) (sfn k : ℕ) (half : Half) → element plan sfn (subframe_of half) 5 k ≡ sss_grid (plan.identity / 3) (plan.identity % 3) half k
-unfolding element
+unfolding port_element
 secondary_symbol plan sfn k Zero = rw (no_reference plan.identity 5 k refl refl, no_channel plan sfn 0 5 k (inl refl)) (middle k _ nothing)
 secondary_symbol plan sfn k Five = rw (no_reference plan.identity 5 k refl refl, no_channel plan sfn 5 5 k (inl refl)) (middle k _ nothing)
 

@@ -18,14 +18,17 @@ use Rattle.system_block.specs.Block.{BlockSays}
 use Rattle.system_block.specs.Attempt.{Reads}
 use Rattle.pdsch.specs.Values.{shared_values}
 use Rattle.cell_tx.specs.declared.cell.CellPlan.{CellPlan}
-use Rattle.cell_tx.specs.Plan.{IsSendable, checked_size}
+use Rattle.cell_tx.specs.Transport.{checked_size, assigned_bits, row_with, shared_word}
+use Rattle.cell_tx.specs.Plan.{IsSendable}
 use Rattle.cell_tx.specs.Points.{point_of}
 use Rattle.cell_tx.specs.Control.{version_of, grant_of, control_word, indicator_point, control_point}
-use Rattle.cell_tx.specs.Shared.{shared_places, row_with, shared_word, shared_coded, shared_bit, shared_point}
+use Rattle.cell_tx.specs.Shared.{shared_places, shared_coded, shared_bit, shared_point}
 use Rattle.cell_tx.specs.Grid.{element}
 use Rattle.cell_tx.specs.Clean.{IsClean, start_of, number_at_start}
 use Rattle.cell_tx.proofs.SystemPlaces.{indicator_indexed, control_indexed, shared_bits, indicator_sent, control_sent, shared_sent}
-use Rattle.cell_tx.proofs.SystemWords.{IsRowOf, version-fits, grant_is, row_is, word_checked, word_size, word_says}
+use Rattle.cell_tx.proofs.BlockRows.{IsRowOf}
+use Rattle.cell_tx.proofs.WholeBlocks.{resolvable_at}
+use Rattle.cell_tx.proofs.SystemWords.{version-fits, grant_is, row_is, word_checked, word_size, word_says}
 use Rattle.budget.specs.Received.{IsReceived, samples_from}
 use Rattle.explain.specs.Frame.{IsWhole, frame_at, seen_slot}
 use Rattle.clean_air.specs.Values.{IsSlotReceived}
@@ -110,17 +113,16 @@ module _ (recording : List Sample) (plan : CellPlan) (sfn offset : ℕ) (gain : 
     carries_block i inside = shared_sent plan sendable number even i inside
 
     -- the values of its resource blocks tell the block
-    sent_block : (row : Row) → IsRowOf (checked_size plan) row → IsSentBlock row (version_of number) (2 * length (shared_places plan)) (shared_word plan)
-    sent_block row of =
-        let bits = shared_bits plan sendable in
-        let enough = sendable.whole in
+    sent_block : (row : Row) → row ≡ row_with (checked_size plan) → IsRowOf (checked_size plan) row → IsSentBlock row (version_of number) (2 * length (shared_places plan)) (shared_word plan)
+    sent_block row same of =
+        let bits : assigned_bits plan ≡ 2 * length (shared_places plan) = sym (shared_bits plan sendable) in
         let k = of.size in
         record {
           is_row = of.is;
           version = version-fits number;
           size = word_size plan sendable ∙ sym k;
           passes = word_checked plan sendable;
-          whole = omega (arith, bits, enough, k);
+          resolvable = resolvable_at plan (version_of number) (2 * length (shared_places plan)) row sendable.enough (version-fits number) same k bits;
         }
 
     carries_matched : (row : Row) → row ≡ row_with (checked_size plan) → row.k ≡ checked_size plan →
@@ -139,7 +141,7 @@ module _ (recording : List Sample) (plan : CellPlan) (sfn offset : ℕ) (gain : 
     unfolding seen_slot
     block_told row same of =
         received_block_is_told recording (both (starts 10) (starts 11)) (element plan number 5) (slot 10) (slot 11) plan.cfi plan.start plan.blocks row (version_of number) (shared_word plan)
-        (sent_block row of) both_received (carries_matched row same of.size)
+        (sent_block row same of) both_received (carries_matched row same of.size)
 
     says_fields : BlockSays values (grant_of plan number) (Ok plan.sib1)
     says_fields =

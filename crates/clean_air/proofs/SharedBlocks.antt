@@ -1,8 +1,10 @@
 -- A transport block that was sent is told by the values of its resource blocks.
-use Rattle.std.proofs.Common.{ℕ, ◌+◌, ◌*◌, ◌≤◌, Bool, List, ℤ, length, arith}
+use Rattle.std.proofs.Common.{◌≡◌, ℕ, ◌*◌, Bool, true, List, ℤ, length, sym, subst, arith}
 use Rattle.grid_map.specs.Shared.{pdsch_places}
 use Rattle.cs_bits.proofs.Signs.{supports-less}
-use Rattle.clean_turbo.proofs.ReceivedSums.{whole_sums_speak, sent_block_is_told}
+use Rattle.erasure.specs.Known.{resolvable, sent_of}
+use Rattle.clean_turbo.specs.Tells.{ValuesSupport}
+use Rattle.clean_turbo.proofs.ReceivedSums.{received_sums_tell, whole_sums_speak, punctured_block_is_told}
 use Rattle.clean_air.specs.Carried.{AreHeard}
 use Rattle.clean_air.specs.Block.{matched_bit, HeardBlockIsTold, SeenBlockIsTold, ReceivedBlockIsTold}
 use Rattle.clean_air.proofs.Subframes.{seen_blocks_are_heard, received_blocks_are_heard}
@@ -17,11 +19,12 @@ heard-less {bits} {values} count heard = record {
 pub heard_block_is_told : HeardBlockIsTold
 heard_block_is_told row rv count word values sent heard =
     let size = heard.size in
-    let whole = sent.whole in
-    let enough : 3 * (row.k + 4) ≤ length values = omega (arith, size, whole) in
+    let each : ValuesSupport 1 row word rv values = λ i inside. heard.value i (omega (arith, size, inside)) in
     record {
-      sums = whole_sums_speak row word rv values sent.is_row sent.version (λ i inside. heard.value i (omega (arith, size, inside))) enough;
-      told = sent_block_is_told row word rv values sent.is_row sent.version sent.size sent.passes (λ i inside. heard.value i (omega (arith, size, inside))) enough;
+      sums = received_sums_tell row word rv values sent.is_row each;
+      whole = whole_sums_speak row word rv values sent.is_row sent.version each;
+      told = punctured_block_is_told row word rv values sent.is_row sent.size sent.passes each
+          (subst (λ n. resolvable row (sent_of row.k rv n) word ≡ true) (sym size) sent.resolvable);
     }
 
 pub seen_block_is_told : SeenBlockIsTold

@@ -12,7 +12,8 @@ use Rattle.turbo_dec.specs.Block.{block}
 use Rattle.grid_map.specs.Shared.{pdsch_places}
 use Rattle.soft_bits.specs.Soft.{SeenSlot}
 use Rattle.pdsch.specs.Values.{shared_values}
-use Rattle.clean_turbo.specs.Tells.{SumsSupport}
+use Rattle.erasure.specs.Known.{resolvable, sent_of}
+use Rattle.clean_turbo.specs.Tells.{SumsSupport, SumsTell}
 use Rattle.clean_air.specs.Carried.{AreHeard}
 use Rattle.clean_air.specs.Subframe.{IsSubframeSeen, shared_scrambled, IsSubframeReceived, CarryInSubframe}
 
@@ -20,18 +21,20 @@ use Rattle.clean_air.specs.Subframe.{IsSubframeSeen, shared_scrambled, IsSubfram
 abbrev pub matched_bit : Row → ℕ → List Bool → ℕ → Bool
 matched_bit row rv word i = bit_of (coded row word) (place_of row.k rv i)
 
--- a word of the size of a row, whose check passes, and of whose coded bits so many are sent: each of them at least once
+-- a word of the size of a row, whose check passes, and which can be resolved by so many bits of the reading: always where
+-- each coded bit is among them
 pub record IsSentBlock (row : Row) (rv count : ℕ) (word : List Bool) : Type 0 where
   pub is_row : IsRow row
   pub version : rv < 4
   pub size : length word ≡ row.k
   pub passes : has_check_24 word ≡ true
-  pub whole : 3 * (row.k + 4) ≤ count
+  pub resolvable : resolvable row (sent_of row.k rv count) word ≡ true
 
--- values tell a word: the sum of each coded bit's values speaks for it, and the block that is decoded is the word before
--- its check
+-- values tell a word: the sums of the coded bits that were sent speak for them, and those of all others are 0, of which
+-- there are none where the values are as many as the coded bits; and the block that is decoded is the word before its check
 pub record TellsBlock (row : Row) (rv : ℕ) (word : List Bool) (values : List ℤ) : Type 0 where
-  pub sums : SumsSupport 1 row word (summed row.k rv values)
+  pub sums : SumsTell row word (sent_of row.k rv (length values)) (summed row.k rv values)
+  pub whole : 3 * (row.k + 4) ≤ length values → SumsSupport 1 row word (summed row.k rv values)
   pub told : block row (summed row.k rv values) ≡ Some (message_of 24 word)
 
 -- values that each speak for the coded bit that was sent there do

@@ -1,5 +1,5 @@
 -- A master block that was sent is told by its slot. (own; the channel is that of TS 36.211 section 6.6 and TS 36.212 section 5.3.1)
-use Rattle.std.specs.Prelude.{◌≡◌, ℕ, ◌*◌, ◌≤◌, Bool, List, length, ℤ}
+use Rattle.std.specs.Prelude.{◌≡◌, ℕ, ◌*◌, ◌≤◌, Bool, List, [], ◌∷◌, length, ℤ}
 use Rattle.cs_num.specs.declared.Cpx.{Cpx}
 use Rattle.cs_num.specs.declared.Sample.{Sample}
 use Rattle.cs_bits.specs.Numbers.{field}
@@ -19,9 +19,9 @@ SentWordIsTold =
     Tells (sums_of c_init first 40 values) word ports
 
 -- in a recording: a slot that is received, and whose broadcast channel carries such a word in a frame of this phase,
--- tells it
+-- tells it alone
 abbrev pub ReceivedSlotTells : Type 0
 ReceivedSlotTells =
     (recording : List Sample) (starts : ℕ → ℕ) (grids : ℕ → ℕ → Cpx) (slot : SeenSlot) (phase ports : ℕ) (word : List Bool) → IsSlotReceived recording starts grids slot →
     length word ≡ 40 → CarryWord grids (pbch_places slot.identity) (pbch_c_init slot.identity) (480 * phase) word → PassesWith ports word → field word 0 3 ≤ 5 →
-    Tells (coded_values slot phase) word ports
+    Tells (coded_values (slot ∷ []) phase) word ports

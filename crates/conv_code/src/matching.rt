@@ -77,9 +77,38 @@ pub fn combine<const N: usize>(values: &[i16]) -> [[i32; 3]; N]
         length values.now ≤ rounds * (3 * N) →
         RowsWithin (rounds * bound) result }
 {
+    let order: [usize; N] = stream_places();
     let mut sums = [[0; 3]; N];
     for (i, value) in values.iter().enumerate() {
-        add_at(&mut sums, &place_in(N, i), value);
+        add_at(&mut sums, &place_by(&order, i), value);
     }
     sums
+}
+
+// The places of a stream of N bits, in the order of the reading.
+fn stream_places<const N: usize>() -> [usize; N]
+    requires high { N ≤ 64 }
+    ensures { result ≡ stream_order N }
+{
+    let mut order = [0; N];
+    for p in 0..N {
+        order[p] = stream_place(N, p);
+    }
+    order
+}
+
+// The place of bit i of the endless reading, by the order of a stream.
+fn place_by<const N: usize>(order: &[usize; N], i: usize) -> Place
+    requires low { 6 ≤ N }
+    requires high { N ≤ 64 }
+    requires order { order.now ≡ stream_order N }
+    ensures place { result ≡ place_of N i }
+    ensures inside { result.place < N }
+    ensures below_three { result.stream < 3 }
+{
+    let i = i % (3 * N);
+    Place {
+        stream: i / N,
+        place: order[i % N],
+    }
 }

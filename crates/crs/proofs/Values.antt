@@ -1,10 +1,11 @@
 -- The reference values, by the bits of the sequence.
-use Rattle.std.proofs.Common.{ℕ, ◌+◌, ◌*◌, ◌<◌, ◌≡◌, Bool, false, get_or, length, arith, refl, inl, inr, true, All}
+use Rattle.std.proofs.Common.{ℕ, ◌+◌, ◌*◌, ◌<◌, ◌≡◌, Bool, false, ◌&&◌, ◌||◌, ◌%◌, nat_eq, get_or, length, arith, refl, inl, inr, true, All}
+use Rattle.std.proofs.lemmas.Bool.Decides.{nat_tests}
 use Rattle.cs_num.specs.declared.Cpx.{Cpx}
 use Rattle.gold.specs.Gold.{gold_bit, gold_bits}
 use Rattle.gold.proofs.Bits.{get_or-gold_bits}
 use Rattle.crs.specs.Qpsk.{component, IsFull, IsPoint}
-use Rattle.crs.specs.Reference.{value_by, reference_c_init, reference, reference_list, reference_pair}
+use Rattle.crs.specs.Reference.{port_0, has_pilots, value_by, reference_c_init, reference, reference_list, reference_pair, first_subcarrier, is_reference, is_second_reference}
 use Rattle.cs_num.specs.Complex.{nothing}
 use Rattle.std.specs.List.{range_with_len}
 use Rattle.std.proofs.lemmas.List.FromFn.{length-map-range_with_len, get_or-map-range_with_len}
@@ -46,3 +47,29 @@ length-reference_list identity slot symbol = length-map-range_with_len (referenc
 pub get_or-reference_list : (identity slot symbol m : ℕ) (d : ℕ × Cpx) → m < 12 → get_or (reference_list identity slot symbol) m d ≡ reference_pair identity slot symbol m
 unfolding reference_list
 get_or-reference_list identity slot symbol m d few = get_or-map-range_with_len (reference_pair identity slot symbol) 0 12 m m d few (omega arith)
+
+-- ---- the places of two ports
+
+-- together they are every third subcarrier of both symbols
+pub both_ports : (identity symbol k : ℕ) → (is_reference identity symbol k || is_second_reference identity symbol k) ≡ (has_pilots port_0 symbol && nat_eq (k % 3) (identity % 3))
+unfolding first_subcarrier is_reference is_second_reference
+both_ports identity symbol k = cases (nat_eq symbol 0) (nat_eq symbol 4) refl refl
+  where
+    even_odd : (a b : ℕ) → (nat_eq (k % 6) ((0 + identity) % 6) || nat_eq (k % 6) ((3 + identity) % 6)) ≡ nat_eq (k % 3) (identity % 3)
+    even_odd a b = by (nat_eq (k % 3) (identity % 3)) refl
+      where
+        by : (t : Bool) → nat_eq (k % 3) (identity % 3) ≡ t → (nat_eq (k % 6) ((0 + identity) % 6) || nat_eq (k % 6) ((3 + identity) % 6)) ≡ t
+        by true e = grind (arith, nat_tests)
+        by false e = grind (arith, nat_tests)
+
+    odd_even : (nat_eq (k % 6) ((3 + identity) % 6) || nat_eq (k % 6) ((0 + identity) % 6)) ≡ nat_eq (k % 3) (identity % 3)
+    odd_even = by (nat_eq (k % 3) (identity % 3)) refl
+      where
+        by : (t : Bool) → nat_eq (k % 3) (identity % 3) ≡ t → (nat_eq (k % 6) ((3 + identity) % 6) || nat_eq (k % 6) ((0 + identity) % 6)) ≡ t
+        by true e = grind (arith, nat_tests)
+        by false e = grind (arith, nat_tests)
+
+    cases : (a b : Bool) → nat_eq symbol 0 ≡ a → nat_eq symbol 4 ≡ b → (is_reference identity symbol k || is_second_reference identity symbol k) ≡ (has_pilots port_0 symbol && nat_eq (k % 3) (identity % 3))
+    cases true b e f = rw (e) (even_odd 0 0)
+    cases false true e f = rw (e, f) odd_even
+    cases false false e f = rw (e, f) refl

@@ -1,5 +1,5 @@
 -- The cell-specific reference signals of an antenna port (TS 36.211 section 6.10.1).
-use Rattle.std.specs.Prelude.{ℕ, ◌≡◌, ◌+◌, ◌-◌, ◌*◌, ◌/◌, ◌%◌, ◌^◌, Bool, ◌&&◌, ◌||◌, nat_eq, if◌then◌else◌, List, map}
+use Rattle.std.specs.Prelude.{ℕ, ◌+◌, ◌-◌, ◌*◌, ◌/◌, ◌%◌, ◌^◌, Bool, ◌&&◌, ◌||◌, nat_eq, if◌then◌else◌, List, map}
 use Rattle.std.specs.List.{range_with_len}
 use Rattle.cs_num.specs.declared.Cpx.{Cpx}
 use Rattle.gold.specs.Gold.{gold_bit}
@@ -17,6 +17,10 @@ pub record Pattern : Type 0 where
 -- port 0 with the normal prefix: the one that is meant where no pattern is named
 abbrev pub port_0 : Pattern
 port_0 = record { later = 4; shift = 0; prefix = 1 }
+
+-- port 1 with the normal prefix, the second of two
+abbrev pub port_1 : Pattern
+port_1 = record { later = 4; shift = 3; prefix = 1 }
 
 -- ---- for any pattern
 
@@ -78,3 +82,9 @@ is_reference identity symbol k =
 -- the value at a reference place
 unfoldable pub reference_at : ℕ → ℕ → ℕ → ℕ → Cpx
 reference_at identity slot symbol k = reference identity slot symbol (k / 6)
+
+-- ---- for port 1 with the normal prefix
+
+-- v is 3 in symbol 0 and 0 in symbol 4; the sequence, and so the value by the sixth of a subcarrier, is that of port 0
+unfoldable pub is_second_reference : ℕ → ℕ → ℕ → Bool
+is_second_reference identity symbol k = is_pattern_place port_1 identity symbol k

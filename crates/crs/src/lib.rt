@@ -2,10 +2,10 @@
 //! subcarriers of a symbol carry them, and their values; and points of two bits by QPSK.
 #![tactic(auto)]
 
-ghost use Rattle.std.specs.Prelude.{◌≡◌, ◌⊎◌, ◌%◌, ◌^◌, ◌<◌, ◌↔◌, ◌/◌, ◌||◌, ℕ, length, false, get_or, All, IsTrue};
+ghost use Rattle.std.specs.Prelude.{◌≡◌, ◌⊎◌, ◌%◌, ◌^◌, ◌<◌, ◌↔◌, ◌/◌, ◌&&◌, ◌||◌, nat_eq, ℕ, length, false, get_or, All, IsTrue};
 ghost use Rattle.crs.specs.Qpsk.{IsPoint};
 ghost use Rattle.crs.specs.Reference.{reference_c_init, value_by, reference, reference_list};
-ghost use Rattle.crs.specs.Reference.{first_subcarrier, subcarrier, is_reference, reference_at};
+ghost use Rattle.crs.specs.Reference.{port_0, has_pilots, first_subcarrier, subcarrier, is_reference, is_second_reference, reference_at};
 
 mod qpsk;
 
@@ -85,6 +85,16 @@ pub fn reference_places()
         IsTrue (is_reference identity 0 k || is_reference identity 4 k) ↔ (k % 3 ≡ identity % 3) }
     ensures never_both { (identity k : ℕ) →
         IsTrue (is_reference identity 0 k) → ¬ IsTrue (is_reference identity 4 k) }
+{}
+
+/// With two antenna ports the reference places of both are every third subcarrier of symbols 0 and 4 of a
+/// slot, from the identity modulo 3 on, and no place is one of both.
+pub fn reference_places_of_two()
+    ensures both { (identity symbol k : ℕ) →
+        (is_reference identity symbol k || is_second_reference identity symbol k)
+        ≡ (has_pilots port_0 symbol && nat_eq (k % 3) (identity % 3)) }
+    ensures apart { (identity symbol k : ℕ) →
+        IsTrue (is_reference identity symbol k) → ¬ IsTrue (is_second_reference identity symbol k) }
 {}
 
 #[cfg(test)]

@@ -6,7 +6,7 @@ use Rattle.cs_outside.specs.Streams.{HasRead, IsAtEnd}
 
 -- at first nothing is read
 pub read_nothing : (before : SourceTold) → HasRead [] before before
-read_nothing before = record { in_order = same before.left }
+read_nothing before = record { in_order = same before.left; unfailed = refl }
   where
     same : (left : Option (List ℕ)) → left ≡ option_map (λ rest. [] ++ rest) left
     same None = refl
@@ -17,6 +17,7 @@ pub read_then : (first second : List ℕ) (before between now : SourceTold) →
     HasRead first before between → HasRead second between now → HasRead (first ++ second) before now
 read_then first second before between now a b = record {
   in_order = a.in_order ∙ ap (option_map (λ rest. first ++ rest)) b.in_order ∙ joined now.left;
+  unfailed = b.unfailed ∙ a.unfailed;
 }
   where
     joined : (left : Option (List ℕ)) →

@@ -4,11 +4,11 @@ use Rattle.std.specs.Prelude.{IfSome}
 use Rattle.std.specs.Option.{option_map}
 use Rattle.std.proofs.lemmas.List.{take-append-drop}
 use Rattle.cs_outside.specs.Outside.{SinkTold}
-use Rattle.cs_outside.specs.Streams.{HasWritten, HasWrittenFront, IsShortOf}
+use Rattle.cs_outside.specs.Streams.{AreTaken, HasWritten, HasWrittenFront, IsShortOf}
 
 -- at first nothing is written
 pub write_nothing : (before : SinkTold) → HasWritten [] before before
-write_nothing before = record { appended = same before.taken; filled = full before.room }
+write_nothing before = record { taken = record { appended = same before.taken; filled = full before.room }; unfailed = refl }
   where
     same : (taken : Option (List ℕ)) → taken ≡ option_map (λ l. l ++ []) taken
     same None = refl
@@ -18,10 +18,10 @@ write_nothing before = record { appended = same before.taken; filled = full befo
     full None = refl
     full (Some room) = ap Some (omega arith)
 
--- two writes in turn
-pub write_then : (first second : List ℕ) (before between now : SinkTold) →
-    HasWritten first before between → HasWritten second between now → HasWritten (first ++ second) before now
-write_then first second before between now a b = record {
+-- what was taken in turn
+pub taken_then : (first second : List ℕ) (before between now : SinkTold) →
+    AreTaken first before between → AreTaken second between now → AreTaken (first ++ second) before now
+taken_then first second before between now a b = record {
   appended = b.appended ∙ ap (option_map (λ taken. taken ++ second)) a.appended ∙ joined before.taken;
   filled = a.filled ∙ ap (option_map (λ room. room + length first)) b.filled ∙ both now.room;
 }
@@ -35,6 +35,14 @@ write_then first second before between now a b = record {
         option_map (λ n. n + length first) (option_map (λ n. n + length second) room) ≡ option_map (λ n. n + length (first ++ second)) room
     both None = refl
     both (Some room) = ap Some (omega (arith, length-append first second))
+
+-- two writes in turn
+pub write_then : (first second : List ℕ) (before between now : SinkTold) →
+    HasWritten first before between → HasWritten second between now → HasWritten (first ++ second) before now
+write_then first second before between now a b = record {
+  taken = taken_then first second before between now a.taken b.taken;
+  unfailed = b.unfailed ∙ a.unfailed;
+}
 
 -- of a piece all but the rest is written
 pub record WrittenSoFar (piece rest : List ℕ) (before now : SinkTold) : Type 0 where
@@ -63,11 +71,11 @@ written_whole piece before now s = subst (λ l. HasWritten l before now) (sym (s
 
 -- a front of the piece is written
 pub written_front : (piece rest : List ℕ) (before now : SinkTold) → WrittenSoFar piece rest before now → HasWrittenFront piece before now
-written_front piece rest before now s = record { front = s.done; rest = rest; split = s.split; written = s.written }
+written_front piece rest before now s = record { front = s.done; rest = rest; split = s.split; taken = s.written.taken }
 
 -- where room was filled and what is left is too little for m more bytes, it was too little for all of them
 pub short_after : (bytes : List ℕ) (m : ℕ) (before now : SinkTold) → HasWritten bytes before now → IsShortOf m now → IsShortOf (length bytes + m) before
-short_after bytes m before now a short = by_rooms before.room now.room a.filled short
+short_after bytes m before now a short = by_rooms before.room now.room a.taken.filled short
   where
     by_rooms : (room left : Option ℕ) → room ≡ option_map (λ n. n + length bytes) left → IfSome left (λ n. n < m) → IfSome room (λ n. n < length bytes + m)
     by_rooms None left e few = tt
@@ -91,7 +99,7 @@ front_after first piece before between now a b = record {
   front = first ++ b.front;
   rest = b.rest;
   split = ap (λ l. first ++ l) b.split ∙ sym (append_assoc first b.front b.rest);
-  written = write_then first b.front before between now a b.written;
+  taken = taken_then first b.front before between now a.taken b.taken;
 }
 
 -- a front of a piece is a front of any longer one
@@ -101,5 +109,5 @@ front_of_longer piece more before now a = record {
   front = a.front;
   rest = a.rest ++ more;
   split = ap (λ l. l ++ more) a.split ∙ append_assoc a.front a.rest more;
-  written = a.written;
+  taken = a.taken;
 }

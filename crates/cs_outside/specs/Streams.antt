@@ -7,8 +7,13 @@ use Rattle.cs_outside.specs.Outside.{SourceTold, SinkTold}
 -- ---- reading
 
 -- these bytes and then those that are left now are what was left before, where that is told
+abbrev pub AreNext : List ℕ → SourceTold → SourceTold → Type 0
+AreNext bytes before now = before.left ≡ option_map (λ rest. bytes ++ rest) now.left
+
+-- these bytes were read, and no call failed
 pub record HasRead (bytes : List ℕ) (before now : SourceTold) : Type 0 where
-  pub in_order : before.left ≡ option_map (λ rest. bytes ++ rest) now.left
+  pub in_order : AreNext bytes before now
+  pub unfailed : now.faults ≡ before.faults
 
 -- no byte is left, where that is told
 abbrev pub IsAtEnd : SourceTold → Type 0
@@ -36,7 +41,7 @@ pub record HasReadPast (limit : ℕ) (before now : SourceTold) : Type 0 where
 
 -- these bytes were read, no more than the limit, and then a call failed
 pub record HasFailedAfter (limit : ℕ) (bytes : List ℕ) (before now : SourceTold) : Type 0 where
-  pub read : HasRead bytes before now
+  pub in_order : AreNext bytes before now
   pub within : length bytes ≤ limit
   pub failed : Rose before.faults now.faults
 
@@ -48,16 +53,21 @@ pub record HasReadFault (limit : ℕ) (before now : SourceTold) : Type 0 where
 -- ---- writing
 
 -- these bytes were appended to those that were taken before, and filled room for as many, where it is told
-pub record HasWritten (bytes : List ℕ) (before now : SinkTold) : Type 0 where
+pub record AreTaken (bytes : List ℕ) (before now : SinkTold) : Type 0 where
   pub appended : now.taken ≡ option_map (λ taken. taken ++ bytes) before.taken
   pub filled : before.room ≡ option_map (λ room. room + length bytes) now.room
 
--- a front of the piece was written, and no more
+-- these bytes were written, and no call failed
+pub record HasWritten (bytes : List ℕ) (before now : SinkTold) : Type 0 where
+  pub taken : AreTaken bytes before now
+  pub unfailed : now.faults ≡ before.faults
+
+-- a front of the piece was taken, and no more
 pub record HasWrittenFront (piece : List ℕ) (before now : SinkTold) : Type 0 where
   pub front : List ℕ
   pub rest : List ℕ
   pub split : piece ≡ front ++ rest
-  pub written : HasWritten front before now
+  pub taken : AreTaken front before now
 
 -- the room is too little for so many bytes, where it is told
 abbrev pub IsShortOf : ℕ → SinkTold → Type 0

@@ -59,8 +59,8 @@ pub fn read_to_end<S: Source>(
     }
 }
 
-/// Reads the next bytes of a source to the places `at` to `end - 1` of a buffer, of which the first `at` bytes stay,
-/// and gives their number: 0 at the end of the input.
+/// Reads the next bytes of a source to the places `at` to `end - 1` of a buffer, and gives their number: 0 at the end
+/// of the input. The first `at` bytes of the buffer stay; after a failed call nothing is said of the others.
 pub fn read_at<S: Source>(
     source: &mut S,
     buffer: &mut [u8],
@@ -72,6 +72,7 @@ pub fn read_at<S: Source>(
     ensures fits { IfOk result (λ n. at + n ≤ end) }
     ensures read { IfOk result (λ n.
         HasReadOn n (take at buffer.old) (take (at + n) buffer.new) (S.told source.old) (S.told source.new)) }
+    ensures front { take at buffer.new ≡ take at buffer.old }
     ensures same_length { length buffer.new ≡ length buffer.old }
     ensures unchanged { OnErr result ((S.told source.new).left ≡ (S.told source.old).left) }
     ensures cause { OnErr result (Rose (S.told source.old).faults (S.told source.new).faults) }

@@ -24,7 +24,7 @@ use Rattle.sss_detect.specs.Identity.{identity_of}
 use Rattle.sss_detect.specs.Place.{start_of}
 use Rattle.sss_detect.proofs.Agree.{identity_agrees}
 use Rattle.pbch.specs.Master.{IsMaster}
-use Rattle.explain.specs.Frame.{frame_at, seen_slot, broadcast_slot}
+use Rattle.explain.specs.Frame.{frame_at, seen_slot, broadcast_slot, broadcast_slots}
 use Rattle.explain.specs.Entries.{IsEntryOf, AreEntriesOf, start_at, master_of}
 use Rattle.explain.specs.System.{even_frame, IsTried, IsReadFrom, FrameAnswers, IsSystemOf}
 use Rattle.explain.specs.Deciding.{deciding_length, FirstFramesDecide}
@@ -93,18 +93,22 @@ entry_agrees : (a b : List Sample) (hit : Hit) (entry : Entry) → AgreeBefore d
 entry_agrees a b hit entry agree long_a long_b span is = record {
   id = is.id ∙ ap (λ i. 3 * i.0 + hit.n2) same_identity;
   start = is.start ∙ ap (λ i. start_of hit.t i.1) same_identity;
-  phase = is.phase;
-  frame = record {
-    inside = record { known = few; whole = omega (arith, long_b, early, few) };
-    first = λ i phase master before known told. is.frame.first i phase master before known (subst (λ s. IsMaster s phase master) (sym (slot i (omega (arith, before, few)))) told);
+  period = is.period;
+  frames = record {
+    inside = record { some = is.frames.inside.some; few = is.frames.inside.few; known = known; whole = λ m below. omega (arith, long_b, early, known, below) };
+    first = λ few i window before phase master period told.
+        is.frames.first few i
+        (record { some = window.some; few = window.few; known = window.known; whole = λ m below. let last = window.known in omega (arith, long_a, early, last, below) })
+        before phase master period
+        (subst (λ s. IsMaster s phase master) (sym (slots few i window.known)) told);
   };
-  master = subst (λ s. IsMaster s entry.phase (master_of entry)) (slot entry.frame few) is.master;
+  master = subst (λ s. IsMaster s entry.phase (master_of entry)) (slots entry.frames entry.frame known) is.master;
   sfn = is.sfn;
   sib1 = system_agrees a b entry.id entry.start entry.sfn entry.ports entry.mib entry.sib1 agree long_a long_b early is.sib1;
 }
   where
-    few : entry.frame ≤ 7
-    few = is.frame.inside.known
+    known : entry.frame + entry.frames ≤ 8
+    known = is.frames.inside.known
 
     same_identity : identity_of a hit ≡ identity_of b hit
     same_identity = identity_agrees deciding_length a b hit agree (let last = span.to_last in omega (arith, last))
@@ -112,8 +116,9 @@ entry_agrees a b hit entry agree long_a long_b span is = record {
     early : entry.start < frame_length
     early = subst (λ s. s < frame_length) (sym is.start) (start_early a hit)
 
-    slot : (j : ℕ) → j ≤ 7 → broadcast_slot a entry.id entry.start j ≡ broadcast_slot b entry.id entry.start j
-    slot j low = deciding_slot entry.start j 1 entry.id a b agree early (omega (arith, low)) (omega arith)
+    slots : (count j : ℕ) → j + count ≤ 8 → broadcast_slots a entry.id entry.start count j ≡ broadcast_slots b entry.id entry.start count j
+    slots count j low = values_below_same count (λ m. broadcast_slot a entry.id entry.start (j + m)) (λ m. broadcast_slot b entry.id entry.start (j + m))
+        (λ m below. deciding_slot entry.start (j + m) 1 entry.id a b agree early (omega (arith, low, below)) (omega arith))
 
 -- the entries of a hit are the same
 entries_agree : (a b : List Sample) (hit : Hit) (entries : List Entry) → AgreeBefore deciding_length a b → deciding_length ≤ length a → deciding_length ≤ length b →

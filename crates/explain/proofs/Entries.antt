@@ -27,12 +27,13 @@ same_master a b s =
     ∙ ap (λ x. record a { ports = b.ports; cost = b.cost; mib = x }) (same_mib a.mib b.mib s.bandwidth s.duration s.resource s.upper s.spare)
 
 -- two entries with the same place, master block and system information are the same
-pub same_entry : (a b : Entry) → a.id ≡ b.id → a.start ≡ b.start → a.sfn ≡ b.sfn → a.frame ≡ b.frame → a.phase ≡ b.phase → master_of a ≡ master_of b → a.sib1 ≡ b.sib1 → a ≡ b
-same_entry a b id start sfn frame phase master sib1 =
+pub same_entry : (a b : Entry) → a.id ≡ b.id → a.start ≡ b.start → a.sfn ≡ b.sfn → a.frames ≡ b.frames → a.frame ≡ b.frame → a.phase ≡ b.phase → master_of a ≡ master_of b → a.sib1 ≡ b.sib1 → a ≡ b
+same_entry a b id start sfn frames frame phase master sib1 =
     ap (λ x. record a { id = x }) id
     ∙ ap (λ x. record a { id = b.id; start = x }) start
     ∙ ap (λ x. record a { id = b.id; start = b.start; sfn = x }) sfn
-    ∙ ap (λ x. record a { id = b.id; start = b.start; sfn = b.sfn; frame = x }) frame
-    ∙ ap (λ x. record a { id = b.id; start = b.start; sfn = b.sfn; frame = b.frame; phase = x }) phase
-    ∙ ap (λ (x : Master). record a { id = b.id; start = b.start; sfn = b.sfn; frame = b.frame; phase = b.phase; ports = x.ports; mib = x.mib; cost = x.cost }) master
+    ∙ ap (λ x. record a { id = b.id; start = b.start; sfn = b.sfn; frames = x }) frames
+    ∙ ap (λ x. record a { id = b.id; start = b.start; sfn = b.sfn; frames = b.frames; frame = x }) frame
+    ∙ ap (λ x. record a { id = b.id; start = b.start; sfn = b.sfn; frames = b.frames; frame = b.frame; phase = x }) phase
+    ∙ ap (λ (x : Master). record a { id = b.id; start = b.start; sfn = b.sfn; frames = b.frames; frame = b.frame; phase = b.phase; ports = x.ports; mib = x.mib; cost = x.cost }) master
     ∙ ap (λ x. record b { sib1 = x }) sib1

@@ -1,11 +1,12 @@
--- The first frame that has a master block, and the entries that are made of its blocks.
-use Rattle.std.proofs.Common.{◌≡◌, ◌⊎◌, inl, inr, ℕ, zero, suc, ◌<◌, ◌≤◌, Bool, true, false, ◌||◌, List, [], ◌∷◌, Option, None, Some, arith, refl, ap, sym, subst, ◌∙◌}
+-- The first frames that have a master block, and the entries that are made of their blocks.
+use Rattle.std.proofs.Common.{◌≡◌, ◌⊎◌, inl, inr, ℕ, zero, suc, ◌+◌, ◌-◌, ◌<◌, ◌≤◌, Bool, true, false, ◌||◌, List, [], ◌∷◌, ℤ, Option, None, Some, arith, refl, ap, ap₂, sym, subst, ◌∙◌, length, get_or, take, drop}
 use Rattle.std.specs.Prelude.{is_some, MatchOption, IsTrue, Result}
-use Rattle.std.specs.List.{AllPairs, Contains}
+use Rattle.std.specs.List.{flat_map, AllPairs, Contains}
 use Rattle.std.proofs.lemmas.Bool.{cases_lt}
+use Rattle.std.proofs.lemmas.List.{get_or-drop, length-drop, length-take-le}
 use Rattle.finite.specs.Tests.{any_below}
 use Rattle.finite.proofs.Tests.{any_below_none}
-use Rattle.finite.proofs.Lists.{Contains-in_joined, Contains-joined, joined_below-pairs}
+use Rattle.finite.proofs.Lists.{Contains-in_joined, Contains-joined, joined_below-pairs, values_below-length, values_below_at}
 use Rattle.cs_num.specs.declared.Sample.{Sample}
 use Rattle.lte_types.specs.declared.hit.Hit.{Hit}
 use Rattle.lte_types.specs.declared.entry.Entry.{Entry}
@@ -14,14 +15,16 @@ use Rattle.lte_types.specs.declared.sib1.Sib1.{Sib1}
 use Rattle.lte_types.specs.declared.sib1_reason.Sib1Reason.{Sib1Reason}
 use Rattle.soft_bits.specs.Soft.{SeenSlot}
 use Rattle.pbch.specs.declared.master.Master.{Master}
-use Rattle.pbch.specs.Values.{coded_values}
-use Rattle.pbch.specs.Master.{IsMaster, HasNoMaster, master_at, IsTold, AreMasters}
+use Rattle.pbch.specs.Values.{received_values, summed_values, identity_of, coded_values}
+use Rattle.pbch.specs.Master.{TellsMaster, TellsNothing, master_at, IsTold, AreMasters}
+use Rattle.pbch.proofs.Sums.{no_slot, first_identity, rows_of_slots}
 use Rattle.pbch.proofs.Words.{one_master}
-use Rattle.explain.specs.Frame.{IsWhole, frame_at, seen_slot, broadcast_slot}
+use Rattle.explain.specs.Frame.{IsWhole, frame_at, seen_slot, broadcast_slot, broadcast_slots}
 use Rattle.explain.specs.System.{IsSystemOf}
-use Rattle.explain.specs.Window.{IsInWindow, HasNoMasterBefore, HasNoMasters, IsMasterAt}
+use Rattle.explain.specs.Window.{IsInWindow, ComeBefore, TellNone, HasNoMasterBefore, HasNoMasters, IsMasterAt}
 use Rattle.explain.specs.Entries.{identity_at, start_at, master_of, IsEntryBy, AreEntries, AreEntriesOf, first_number, Adds, AddsHit}
-use Rattle.explain.specs.Masters.{HasMaster, IsToldAt, IsFirstWith, entry_of, entry_at, entries_of, IsSystemAt, AddsPhases}
+use Rattle.explain.specs.Masters.{HasMaster, IsToldAt, AreTold, AreFirstWith, entry_of, entry_at, entries_of, IsSystemAt, AddsPhases}
+use Rattle.explain.specs.Received.{AreReceived}
 use Rattle.explain.proofs.Sorted.{in_none, in_one, Contains-here}
 use Rattle.explain.proofs.Entries.{same_master, same_entry}
 use Rattle.explain.proofs.Information.{one_system}
@@ -34,9 +37,6 @@ pub slot_identity : (recording : List Sample) (f number identity : ℕ) → (see
 unfolding seen_slot
 slot_identity recording f number identity = refl
 
-pub broadcast_number : (recording : List Sample) (identity start j : ℕ) → (broadcast_slot recording identity start j).number ≡ 1
-broadcast_number recording identity start j = slot_number recording (frame_at start j) 1 identity
-
 -- a whole frame comes before one that is not
 pub whole_before : (recording : List Sample) (start j k : ℕ) → (IsWhole recording start k → IsTrue false) → IsWhole recording start j → j < k
 whole_before recording start j k not_whole whole = elim (cases_lt j k) [
@@ -44,26 +44,66 @@ whole_before recording start j k not_whole whole = elim (cases_lt j k) [
   | inr above ↦ let e : IsTrue false = not_whole (omega (arith, above, whole)) in absurd (cc e)
 ]
 
+-- ---- the slots of frames
+
+pub length-broadcast_slots : (recording : List Sample) (identity start count j : ℕ) → length (broadcast_slots recording identity start count j) ≡ count
+length-broadcast_slots recording identity start count j = values_below-length count (λ m. broadcast_slot recording identity start (j + m))
+
+pub broadcast_slots-at : (recording : List Sample) (identity start count j m : ℕ) → m < count →
+    get_or (broadcast_slots recording identity start count j) m no_slot ≡ broadcast_slot recording identity start (j + m)
+broadcast_slots-at recording identity start count j m below = values_below_at (λ m. broadcast_slot recording identity start (j + m)) count m no_slot below
+
+pub identity_of_frames : (recording : List Sample) (identity start count j : ℕ) → 1 ≤ count → identity_of (broadcast_slots recording identity start count j) ≡ identity
+identity_of_frames recording identity start count j some =
+    first_identity (broadcast_slots recording identity start count j)
+    ∙ ap (λ (slot : SeenSlot). slot.identity) (broadcast_slots-at recording identity start count j 0 (omega (arith, some)))
+    ∙ slot_identity recording (frame_at start (j + 0)) 1 identity
+
+-- rows that hold what was received are that of frames
+pub rows_of_frames : (recording : List Sample) (identity start count j : ℕ) (rows : List (List ℤ)) → count ≤ length rows →
+    ((m : ℕ) → m < count → get_or rows m [] ≡ received_values (broadcast_slot recording identity start (j + m))) →
+    flat_map (λ row. row) (take count rows) ≡ flat_map received_values (broadcast_slots recording identity start count j)
+rows_of_frames recording identity start count j rows long each =
+    subst (λ n. flat_map (λ row. row) (take n rows) ≡ flat_map received_values slots) size
+    (rows_of_slots slots rows (omega (arith, size, long))
+    (λ m below. let inside : m < count = omega (arith, size, below) in
+    each m inside ∙ sym (ap received_values (broadcast_slots-at recording identity start count j m inside))))
+  where
+    slots : List SeenSlot
+    slots = broadcast_slots recording identity start count j
+
+    size : length slots ≡ count
+    size = length-broadcast_slots recording identity start count j
+
+-- among what was received of the first frames, that of some that follow one another
+pub received_of_frames : (recording : List Sample) (identity start count j : ℕ) (rows : List (List ℤ)) → j + count ≤ length rows →
+    AreReceived recording identity start (j + count) rows →
+    flat_map (λ row. row) (take count (drop j rows)) ≡ flat_map received_values (broadcast_slots recording identity start count j)
+received_of_frames recording identity start count j rows long each =
+    rows_of_frames recording identity start count j (drop j rows) (let size = length-drop j rows in omega (arith, size, long))
+    (λ m below. get_or-drop j rows m [] ∙ each (j + m) (omega (arith, below)))
+
 -- ---- master blocks by phase
 
-pub told_at : (slot : SeenSlot) (masters : List (Option Master)) (phase : ℕ) → AreMasters slot masters → phase < 4 → IsTold slot masters phase
-told_at slot masters zero m l = m.first
-told_at slot masters (suc zero) m l = m.second
-told_at slot masters (suc (suc zero)) m l = m.third
-told_at slot masters (suc (suc (suc zero))) m l = m.fourth
-told_at slot masters (suc (suc (suc (suc n)))) m l = absurd (omega (arith, l))
+told_at : (identity count : ℕ) (received : List ℤ) (masters : List (Option Master)) (phase : ℕ) → AreMasters identity count received masters → phase < 4 →
+    IsTold identity count received masters phase
+told_at identity count received masters zero m l = m.first
+told_at identity count received masters (suc zero) m l = m.second
+told_at identity count received masters (suc (suc zero)) m l = m.third
+told_at identity count received masters (suc (suc (suc zero))) m l = m.fourth
+told_at identity count received masters (suc (suc (suc (suc n)))) m l = absurd (omega (arith, l))
 
-none_of : (Tells : ℕ → ℕ → ℕ → ℕ → Master → Type 0) (identity start frame phase : ℕ) (o : Option Master) → IsToldAt Tells identity start frame phase o → is_some o ≡ false →
-    (master : Master) → Tells identity start frame phase master → ⊥
-none_of Tells identity start frame phase None h e = h
-none_of Tells identity start frame phase (Some master) h e = absurd (cc e)
+none_of : (Tells : ℕ → ℕ → ℕ → ℕ → ℕ → Master → Type 0) (identity start count frame phase : ℕ) (o : Option Master) → IsToldAt Tells identity start count frame phase o →
+    is_some o ≡ false → (master : Master) → Tells identity start count frame phase master → ⊥
+none_of Tells identity start count frame phase None h e = h
+none_of Tells identity start count frame phase (Some master) h e = absurd (cc e)
 
--- where no phase has one, the frame has none
-pub no_master : (Tells : ℕ → ℕ → ℕ → ℕ → Master → Type 0) (identity start frame : ℕ) (masters : List (Option Master)) →
-    ((phase : ℕ) → phase < 4 → IsToldAt Tells identity start frame phase (master_at masters phase)) → any_below 4 (λ phase. is_some (master_at masters phase)) ≡ false →
-    (phase : ℕ) → phase < 4 → (master : Master) → Tells identity start frame phase master → ⊥
-no_master Tells identity start frame masters told e phase l =
-    none_of Tells identity start frame phase (master_at masters phase) (told phase l) (any_below_none 4 phase (λ p. is_some (master_at masters p)) e l)
+-- where no phase has one, the frames have none
+pub no_master : (Tells : ℕ → ℕ → ℕ → ℕ → ℕ → Master → Type 0) (identity start count frame : ℕ) (masters : List (Option Master)) → 1 ≤ count →
+    AreTold Tells identity start count frame masters → any_below 4 (λ phase. is_some (master_at masters phase)) ≡ false → TellNone Tells identity start count frame
+no_master Tells identity start count frame masters some told e phase master period =
+    none_of Tells identity start count frame phase (master_at masters phase) (told phase period)
+    (any_below_none 4 phase (λ p. is_some (master_at masters p)) e (omega (arith, some, period))) master
 
 some_below : (n : ℕ) (p : ℕ → Bool) → any_below n p ≡ true → (k : ℕ) × (k < n) × (p k ≡ true)
 unfolding any_below
@@ -79,139 +119,222 @@ is_some_of : (o : Option Master) → is_some o ≡ true → (master : Master) ×
 is_some_of None e = absurd (cc e)
 is_some_of (Some master) e = (master, refl)
 
-pub has_one : (masters : List (Option Master)) → any_below 4 (λ phase. is_some (master_at masters phase)) ≡ true → HasMaster masters
-has_one masters e =
-    let (phase, known, some) = some_below 4 (λ p. is_some (master_at masters p)) e in
+pub has_one : (identity count : ℕ) (received : List ℤ) (masters : List (Option Master)) → AreMasters identity count received masters →
+    any_below 4 (λ phase. is_some (master_at masters phase)) ≡ true → HasMaster count masters
+has_one identity count received masters m e =
+    let (phase, below, some) = some_below 4 (λ p. is_some (master_at masters p)) e in
     let (master, is) = is_some_of (master_at masters phase) some in
-    record { phase = phase; known = known; master = master; is = is }
-
--- one antenna port tells at most one master block of a frame at a phase
-pub one_master_at : (recording : List Sample) (identity start j phase : ℕ) (a b : Master) →
-    IsMasterAt recording identity start j phase a → IsMasterAt recording identity start j phase b → a ≡ b
-one_master_at recording identity start j phase a b p q = same_master a b (one_master (coded_values (broadcast_slot recording identity start j) phase) a b p q)
-
--- what a slot tells, a frame does
-pub told_in_frame : (recording : List Sample) (identity start j : ℕ) (masters : List (Option Master)) → AreMasters (broadcast_slot recording identity start j) masters →
-    (phase : ℕ) → phase < 4 → IsToldAt (IsMasterAt recording) identity start j phase (master_at masters phase)
-told_in_frame recording identity start j masters m phase l = by_option (master_at masters phase) (told_at slot masters phase m l)
+    record { phase = phase; known = within phase master below is; master = master; is = is }
   where
-    slot : SeenSlot
-    slot = broadcast_slot recording identity start j
+    -- beyond a period there is none
+    within : (phase : ℕ) (master : Master) → phase < 4 → master_at masters phase ≡ Some master → phase + count ≤ 4
+    within phase master below is = elim (cases_lt 4 (phase + count)) [
+      | inl beyond ↦ absurd (let none = (told_at identity count received masters phase m below).beyond beyond in cc (none, is))
+      | inr fits ↦ fits
+    ]
 
-    by_option : (o : Option Master) → MatchOption o (HasNoMaster slot phase) (IsMaster slot phase) → IsToldAt (IsMasterAt recording) identity start j phase o
-    by_option None none = λ master is. none is.word master.ports is.tells
-    by_option (Some master) is = is
+-- one antenna port tells at most one master block of frames at a phase
+pub one_master_at : (recording : List Sample) (identity start count j phase : ℕ) (a b : Master) →
+    IsMasterAt recording identity start count j phase a → IsMasterAt recording identity start count j phase b → a ≡ b
+one_master_at recording identity start count j phase a b p q =
+    same_master a b (one_master (coded_values (broadcast_slots recording identity start count j) phase) a b p q)
 
--- ---- the entries of the first frame that has one
+-- the values of frames, by what was received
+pub values_of_frames : (recording : List Sample) (identity start count j phase : ℕ) (received : List ℤ) → 1 ≤ count →
+    received ≡ flat_map received_values (broadcast_slots recording identity start count j) →
+    summed_values identity phase received ≡ coded_values (broadcast_slots recording identity start count j) phase
+unfolding coded_values
+values_of_frames recording identity start count j phase received some is =
+    ap₂ (λ i r. summed_values i phase r) (sym (identity_of_frames recording identity start count j some)) is
+
+-- what was received of frames tells what they do
+pub told_in_frames : (recording : List Sample) (identity start count j : ℕ) (received : List ℤ) (masters : List (Option Master)) → 1 ≤ count →
+    received ≡ flat_map received_values (broadcast_slots recording identity start count j) → AreMasters identity count received masters →
+    AreTold (IsMasterAt recording) identity start count j masters
+told_in_frames recording identity start count j received masters some is m phase period =
+    by_option (master_at masters phase) ((told_at identity count received masters phase m (omega (arith, some, period))).told period)
+  where
+    same : summed_values identity phase received ≡ coded_values (broadcast_slots recording identity start count j) phase
+    same = values_of_frames recording identity start count j phase received some is
+
+    by_option : (o : Option Master) → MatchOption o (TellsNothing (summed_values identity phase received)) (TellsMaster (summed_values identity phase received)) →
+        IsToldAt (IsMasterAt recording) identity start count j phase o
+    by_option None none = λ master told. let here = subst (λ values. TellsMaster values master) (sym same) told in none here.word master.ports here.tells
+    by_option (Some master) told = subst (λ values. TellsMaster values master) same told
+
+-- the master blocks of some of the first frames, by what was received of these
+pub masters_of_frames : (recording : List Sample) (identity start count j : ℕ) (rows : List (List ℤ)) (masters : List (Option Master)) → j + count ≤ length rows →
+    AreReceived recording identity start (j + count) rows →
+    AreMasters identity (length (take (j + count - j) (drop j rows))) (flat_map (λ row. row) (take (j + count - j) (drop j rows))) masters →
+    AreMasters identity count (flat_map received_values (broadcast_slots recording identity start count j)) masters
+masters_of_frames recording identity start count j rows masters long each m =
+    subst (λ received. AreMasters identity count received masters) (received_of_frames recording identity start count j rows long each)
+    (subst (λ n. AreMasters identity n (flat_map (λ row. row) (take count (drop j rows))) masters) size
+    (subst (λ n. AreMasters identity (length (take n (drop j rows))) (flat_map (λ row. row) (take n (drop j rows))) masters) same m))
+  where
+    same : j + count - j ≡ count
+    same = omega arith
+
+    size : length (take count (drop j rows)) ≡ count
+    size = length-take-le count (drop j rows) (let rest = length-drop j rows in omega (arith, rest, long))
+
+-- ---- the entries of the first frames that have one
 
 -- what stands for one phase
-record Stands (identity start frame phase : ℕ) (o : Option Master) (sib1 : Result Sib1 Sib1Reason) (entry : Entry) : Type 0 where
+record Stands (identity start count frame phase : ℕ) (o : Option Master) (sib1 : Result Sib1 Sib1Reason) (entry : Entry) : Type 0 where
   master : Master
   is : o ≡ Some master
-  found : entry_of identity start frame phase master sib1 ≡ entry
+  found : entry_of identity start count frame phase master sib1 ≡ entry
 
-stands : (identity start frame phase : ℕ) (o : Option Master) (sib1 : Result Sib1 Sib1Reason) (entry : Entry) → Contains (entry_at identity start frame phase o sib1) entry →
-    Stands identity start frame phase o sib1 entry
-stands identity start frame phase None sib1 entry h = absurd (in_none entry h)
-stands identity start frame phase (Some master) sib1 entry h = record { master = master; is = refl; found = in_one _ entry h }
+stands : (identity start count frame phase : ℕ) (o : Option Master) (sib1 : Result Sib1 Sib1Reason) (entry : Entry) → Contains (entry_at identity start count frame phase o sib1) entry →
+    Stands identity start count frame phase o sib1 entry
+stands identity start count frame phase None sib1 entry h = absurd (in_none entry h)
+stands identity start count frame phase (Some master) sib1 entry h = record { master = master; is = refl; found = in_one _ entry h }
 
-one_by_phase : (identity start frame phase : ℕ) (o : Option Master) (sib1 : Result Sib1 Sib1Reason) → AllPairs (λ (a b : Entry). a.phase < b.phase) (entry_at identity start frame phase o sib1)
-one_by_phase identity start frame phase None sib1 i j d below inside = absurd (omega (arith, below, inside))
-one_by_phase identity start frame phase (Some master) sib1 i j d below inside = absurd (omega (arith, below, inside))
+one_by_phase : (identity start count frame phase : ℕ) (o : Option Master) (sib1 : Result Sib1 Sib1Reason) → AllPairs (λ (a b : Entry). a.phase < b.phase) (entry_at identity start count frame phase o sib1)
+one_by_phase identity start count frame phase None sib1 i j d below inside = absurd (omega (arith, below, inside))
+one_by_phase identity start count frame phase (Some master) sib1 i j d below inside = absurd (omega (arith, below, inside))
 
--- where a frame tells at most one master block at a phase, and there is at most one answer on system information
-module _ (Tells : ℕ → ℕ → ℕ → ℕ → Master → Type 0) (IsSystem : ℕ → ℕ → ℕ → ℕ → Mib → Result Sib1 Sib1Reason → Type 0)
-    (one : (identity start j phase : ℕ) (a b : Master) → Tells identity start j phase a → Tells identity start j phase b → a ≡ b)
+-- where frames tell at most one master block at a phase, and there is at most one answer on system information
+module _ (Tells : ℕ → ℕ → ℕ → ℕ → ℕ → Master → Type 0) (IsSystem : ℕ → ℕ → ℕ → ℕ → Mib → Result Sib1 Sib1Reason → Type 0)
+    (one : (identity start count j phase : ℕ) (a b : Master) → Tells identity start count j phase a → Tells identity start count j phase b → a ≡ b)
     (one_answer : (identity start sfn ports : ℕ) (mib : Mib) (a b : Result Sib1 Sib1Reason) → IsSystem identity start sfn ports mib a → IsSystem identity start sfn ports mib b → a ≡ b)
     (recording : List Sample) (identity start : ℕ) where
   -- of an entry by its cell's identity and start
-  of_entry : (entry : Entry) → IsEntryBy Tells IsSystem recording identity start entry → Tells identity start entry.frame entry.phase (master_of entry)
-  of_entry entry h = subst (λ s. Tells identity s entry.frame entry.phase (master_of entry)) h.start (subst (λ i. Tells i entry.start entry.frame entry.phase (master_of entry)) h.id h.master)
+  of_entry : (entry : Entry) → IsEntryBy Tells IsSystem recording identity start entry → Tells identity start entry.frames entry.frame entry.phase (master_of entry)
+  of_entry entry h = subst (λ s. Tells identity s entry.frames entry.frame entry.phase (master_of entry)) h.start (subst (λ i. Tells i entry.start entry.frames entry.frame entry.phase (master_of entry)) h.id h.master)
 
-  none_before : (entry : Entry) → IsEntryBy Tells IsSystem recording identity start entry → HasNoMasterBefore Tells identity start entry.frame
-  none_before entry h = subst (λ s. HasNoMasterBefore Tells identity s entry.frame) h.start (subst (λ i. HasNoMasterBefore Tells i entry.start entry.frame) h.id h.frame.first)
+  none_before : (entry : Entry) → IsEntryBy Tells IsSystem recording identity start entry → HasNoMasterBefore Tells recording identity start entry.frames entry.frame
+  none_before entry h =
+      subst (λ s. HasNoMasterBefore Tells recording identity s entry.frames entry.frame) h.start
+      (subst (λ i. HasNoMasterBefore Tells recording i entry.start entry.frames entry.frame) h.id h.frames.first)
+
+  window_of : (entry : Entry) → IsEntryBy Tells IsSystem recording identity start entry → IsInWindow recording start entry.frames entry.frame
+  window_of entry h = subst (λ s. IsInWindow recording s entry.frames entry.frame) h.start h.frames.inside
 
   answer_of_entry : (entry : Entry) → IsEntryBy Tells IsSystem recording identity start entry → IsSystem identity start entry.sfn entry.ports entry.mib entry.sib1
   answer_of_entry entry h = subst (λ s. IsSystem identity s entry.sfn entry.ports entry.mib entry.sib1) h.start (subst (λ i. IsSystem i entry.start entry.sfn entry.ports entry.mib entry.sib1) h.id h.sib1)
 
-  told_master : (frame phase : ℕ) (o : Option Master) (master : Master) → IsToldAt Tells identity start frame phase o → o ≡ Some master → Tells identity start frame phase master
-  told_master frame phase o master told e = subst (IsToldAt Tells identity start frame phase) e told
+  told_master : (count frame phase : ℕ) (o : Option Master) (master : Master) → IsToldAt Tells identity start count frame phase o → o ≡ Some master →
+      Tells identity start count frame phase master
+  told_master count frame phase o master told e = subst (IsToldAt Tells identity start count frame phase) e told
 
   told_system : (frame phase : ℕ) (o : Option Master) (master : Master) (sib1 : Result Sib1 Sib1Reason) → IsSystemAt IsSystem identity start frame phase o sib1 → o ≡ Some master →
       IsSystemAt IsSystem identity start frame phase (Some master) sib1
   told_system frame phase o master sib1 told e = subst (λ x. IsSystemAt IsSystem identity start frame phase x sib1) e told
 
-  module _ (frame : ℕ) (masters : List (Option Master)) (f : IsFirstWith Tells recording identity start frame masters) (systems : ℕ → Result Sib1 Sib1Reason)
-      (told : (phase : ℕ) → phase < 4 → IsSystemAt IsSystem identity start frame phase (master_at masters phase) (systems phase)) where
-    made_is_entry : (phase : ℕ) (master : Master) → phase < 4 → master_at masters phase ≡ Some master →
-        IsEntryBy Tells IsSystem recording identity start (entry_of identity start frame phase master (systems phase))
+  module _ (count frame : ℕ) (masters : List (Option Master)) (f : AreFirstWith Tells recording identity start count frame masters) (systems : ℕ → Result Sib1 Sib1Reason)
+      (told : (phase : ℕ) → phase < 5 - count → IsSystemAt IsSystem identity start frame phase (master_at masters phase) (systems phase)) where
+    -- the phases at which the frames are in one period
+    some_frames : 1 ≤ count
+    some_frames = f.frames.inside.some
+
+    few_frames : count ≤ 4
+    few_frames = f.frames.inside.few
+
+    in_period : (phase : ℕ) → phase < 5 - count → phase + count ≤ 4
+    in_period phase l = let few = few_frames in omega (arith, l, few)
+
+    phase_of : (phase : ℕ) → phase + count ≤ 4 → phase < 5 - count
+    phase_of phase l = omega (arith, l)
+
+    made_is_entry : (phase : ℕ) (master : Master) → phase < 5 - count → master_at masters phase ≡ Some master →
+        IsEntryBy Tells IsSystem recording identity start (entry_of identity start count frame phase master (systems phase))
     made_is_entry phase master l e = record {
       id = refl;
       start = refl;
-      phase = l;
-      frame = f.frame;
-      master = told_master frame phase (master_at masters phase) master (f.are phase l) e;
+      period = in_period phase l;
+      frames = f.frames;
+      master = told_master count frame phase (master_at masters phase) master (f.have.are phase (in_period phase l)) e;
       sfn = refl;
       sib1 = told_system frame phase (master_at masters phase) master (systems phase) (told phase l) e;
     }
 
-    is_entry : (entry : Entry) → Contains (entries_of identity start frame masters systems 4) entry → IsEntryBy Tells IsSystem recording identity start entry
+    is_entry : (entry : Entry) → Contains (entries_of identity start count frame masters systems (5 - count)) entry → IsEntryBy Tells IsSystem recording identity start entry
     is_entry entry h =
-        let (phase, known, here) = Contains-in_joined 4 (λ p. entry_at identity start frame p (master_at masters p) (systems p)) entry h in
-        let s = stands identity start frame phase (master_at masters phase) (systems phase) entry here in
+        let (phase, known, here) = Contains-in_joined (5 - count) (λ p. entry_at identity start count frame p (master_at masters p) (systems p)) entry h in
+        let s = stands identity start count frame phase (master_at masters phase) (systems phase) entry here in
         subst (IsEntryBy Tells IsSystem recording identity start) s.found (made_is_entry phase s.master known s.is)
 
-    -- an entry is of the frame that has the first master blocks
+    -- what the first frames tell at some phase
+    of_frames : Tells identity start count frame f.have.some.phase f.have.some.master
+    of_frames = told_master count frame f.have.some.phase (master_at masters f.have.some.phase) f.have.some.master
+        (f.have.are f.have.some.phase f.have.some.known) f.have.some.is
+
+    -- an entry is of the frames that have the first master blocks
+    not_before : (entry : Entry) → IsEntryBy Tells IsSystem recording identity start entry → ComeBefore entry.frames entry.frame count frame → ⊥
+    not_before entry h before =
+        f.frames.first entry.frames entry.frame (window_of entry h) before entry.phase (master_of entry) h.period (of_entry entry h)
+
+    not_after : (entry : Entry) → IsEntryBy Tells IsSystem recording identity start entry → ComeBefore count frame entry.frames entry.frame → ⊥
+    not_after entry h before =
+        none_before entry h count frame f.frames.inside before f.have.some.phase f.have.some.master f.have.some.known of_frames
+
+    same_count : (entry : Entry) → IsEntryBy Tells IsSystem recording identity start entry → entry.frames ≡ count
+    same_count entry h = by_order (cases_lt entry.frames count) (cases_lt count entry.frames)
+      where
+        by_order : (entry.frames < count) ⊎ (count ≤ entry.frames) → (count < entry.frames) ⊎ (entry.frames ≤ count) → entry.frames ≡ count
+        by_order (inl fewer) other = absurd (not_before entry h (inl fewer))
+        by_order (inr low) (inl more) = absurd (not_after entry h (inl more))
+        by_order (inr low) (inr high) = omega (arith, low, high)
+
     same_frame : (entry : Entry) → IsEntryBy Tells IsSystem recording identity start entry → entry.frame ≡ frame
     same_frame entry h = by_order (cases_lt entry.frame frame) (cases_lt frame entry.frame)
       where
-        of_frame : Tells identity start frame f.some.phase f.some.master
-        of_frame = told_master frame f.some.phase (master_at masters f.some.phase) f.some.master (f.are f.some.phase f.some.known) f.some.is
-
         by_order : (entry.frame < frame) ⊎ (frame ≤ entry.frame) → (frame < entry.frame) ⊎ (entry.frame ≤ frame) → entry.frame ≡ frame
-        by_order (inl below) other = absurd (f.frame.first entry.frame entry.phase (master_of entry) below h.phase (of_entry entry h))
-        by_order (inr low) (inl above) = absurd (none_before entry h frame f.some.phase f.some.master above f.some.known of_frame)
+        by_order (inl below) other = absurd (not_before entry h (inr (same_count entry h, below)))
+        by_order (inr low) (inl above) = absurd (not_after entry h (inr (sym (same_count entry h), above)))
         by_order (inr low) (inr high) = omega (arith, low, high)
 
-    entry_is_made : (entry : Entry) → IsEntryBy Tells IsSystem recording identity start entry → Contains (entries_of identity start frame masters systems 4) entry
+    entry_is_made : (entry : Entry) → IsEntryBy Tells IsSystem recording identity start entry → Contains (entries_of identity start count frame masters systems (5 - count)) entry
     entry_is_made entry h =
-        Contains-joined 4 entry.phase (λ p. entry_at identity start frame p (master_at masters p) (systems p)) entry h.phase
-        (by_told (master_at masters entry.phase) (f.are entry.phase h.phase) (told entry.phase h.phase))
+        Contains-joined (5 - count) entry.phase (λ p. entry_at identity start count frame p (master_at masters p) (systems p)) entry known
+        (by_told (master_at masters entry.phase) (f.have.are entry.phase period) (told entry.phase known))
       where
+        counts : entry.frames ≡ count
+        counts = same_count entry h
+
         frames : entry.frame ≡ frame
         frames = same_frame entry h
 
-        of_this : Tells identity start frame entry.phase (master_of entry)
-        of_this = subst (λ j. Tells identity start j entry.phase (master_of entry)) frames (of_entry entry h)
+        period : entry.phase + count ≤ 4
+        period = subst (λ c. entry.phase + c ≤ 4) counts h.period
 
-        by_told : (o : Option Master) → IsToldAt Tells identity start frame entry.phase o → IsSystemAt IsSystem identity start frame entry.phase o (systems entry.phase) →
-            Contains (entry_at identity start frame entry.phase o (systems entry.phase)) entry
+        known : entry.phase < 5 - count
+        known = phase_of entry.phase period
+
+        of_this : Tells identity start count frame entry.phase (master_of entry)
+        of_this = subst (λ c. Tells identity start c frame entry.phase (master_of entry)) counts
+            (subst (λ j. Tells identity start entry.frames j entry.phase (master_of entry)) frames (of_entry entry h))
+
+        by_told : (o : Option Master) → IsToldAt Tells identity start count frame entry.phase o → IsSystemAt IsSystem identity start frame entry.phase o (systems entry.phase) →
+            Contains (entry_at identity start count frame entry.phase o (systems entry.phase)) entry
         by_told None none answer = absurd (none (master_of entry) of_this)
         by_told (Some master) is answer =
-            let same : master_of entry ≡ master = one identity start frame entry.phase (master_of entry) master of_this is in
+            let same : master_of entry ≡ master = one identity start count frame entry.phase (master_of entry) master of_this is in
             let sfn : entry.sfn ≡ first_number master.mib.upper entry.phase frame =
             h.sfn ∙ ap (λ (m : Master). first_number m.mib.upper entry.phase entry.frame) same ∙ ap (first_number master.mib.upper entry.phase) frames in
             let own : IsSystem identity start (first_number master.mib.upper entry.phase frame) master.ports master.mib entry.sib1 =
             subst (λ (m : Master). IsSystem identity start (first_number master.mib.upper entry.phase frame) m.ports m.mib entry.sib1) same
             (subst (λ n. IsSystem identity start n entry.ports entry.mib entry.sib1) sfn (answer_of_entry entry h)) in
             let sib1 = one_answer identity start (first_number master.mib.upper entry.phase frame) master.ports master.mib entry.sib1 (systems entry.phase) own answer in
-            let made : Entry = entry_of identity start frame entry.phase master (systems entry.phase) in
-            let whole : entry ≡ made = same_entry entry made h.id h.start sfn frames refl same sib1 in
+            let made : Entry = entry_of identity start count frame entry.phase master (systems entry.phase) in
+            let whole : entry ≡ made = same_entry entry made h.id h.start sfn counts frames refl same sib1 in
             subst (λ e. Contains (made ∷ []) e) (sym whole) (Contains-here made [])
 
     -- the entries that are made are those of the cell
-    pub entries_are : AreEntries (IsEntryBy Tells IsSystem recording identity start) (entries_of identity start frame masters systems 4)
+    pub entries_are : AreEntries (IsEntryBy Tells IsSystem recording identity start) (entries_of identity start count frame masters systems (5 - count))
     entries_are = record {
       given = λ entry. (is_entry entry, entry_is_made entry);
-      by_phase = joined_below-pairs (λ (a b : Entry). a.phase < b.phase) 4 (λ p. entry_at identity start frame p (master_at masters p) (systems p))
-          (λ p l. one_by_phase identity start frame p (master_at masters p) (systems p)) (λ i j x y below last a b. across i j x y below a b);
+      by_phase = joined_below-pairs (λ (a b : Entry). a.phase < b.phase) (5 - count) (λ p. entry_at identity start count frame p (master_at masters p) (systems p))
+          (λ p l. one_by_phase identity start count frame p (master_at masters p) (systems p)) (λ i j x y below last a b. across i j x y below a b);
     }
       where
-        across : (i j : ℕ) (x y : Entry) → i < j → Contains (entry_at identity start frame i (master_at masters i) (systems i)) x →
-            Contains (entry_at identity start frame j (master_at masters j) (systems j)) y → x.phase < y.phase
+        across : (i j : ℕ) (x y : Entry) → i < j → Contains (entry_at identity start count frame i (master_at masters i) (systems i)) x →
+            Contains (entry_at identity start count frame j (master_at masters j) (systems j)) y → x.phase < y.phase
         across i j x y below a b =
-            let p = stands identity start frame i (master_at masters i) (systems i) x a in
-            let q = stands identity start frame j (master_at masters j) (systems j) y b in
+            let p = stands identity start count frame i (master_at masters i) (systems i) x a in
+            let q = stands identity start count frame j (master_at masters j) (systems j) y b in
             omega (arith, below, ap (λ (e : Entry). e.phase) p.found, ap (λ (e : Entry). e.phase) q.found)
 
   -- a cell with no master block has no entries
@@ -222,25 +345,23 @@ module _ (Tells : ℕ → ℕ → ℕ → ℕ → Master → Type 0) (IsSystem :
   }
     where
       contradicts : (entry : Entry) → IsEntryBy Tells IsSystem recording identity start entry → ⊥
-      contradicts entry h =
-          let inside = subst (λ s. IsInWindow recording s entry.frame) h.start h.frame.inside in
-          none entry.frame entry.phase (master_of entry) inside h.phase (of_entry entry h)
+      contradicts entry h = none entry.frames entry.frame (window_of entry h) entry.phase (master_of entry) h.period (of_entry entry h)
 
 -- ---- a list with the entries of a hit besides
 
-pub adds_entries : (recording : List Sample) (hit : Hit) (identity start frame : ℕ) (masters : List (Option Master)) (old new : List Entry) →
-    identity ≡ identity_at recording hit → start ≡ start_at recording hit → IsFirstWith (IsMasterAt recording) recording identity start frame masters →
-    AddsPhases (IsSystemOf recording) identity start frame masters 4 old new → AddsHit (AreEntriesOf recording) hit old new
-adds_entries recording hit identity start frame masters old new id at first adds = record {
-  entries = entries_of identity start frame masters adds.systems 4;
+pub adds_entries : (recording : List Sample) (hit : Hit) (identity start count frame : ℕ) (masters : List (Option Master)) (old new : List Entry) →
+    identity ≡ identity_at recording hit → start ≡ start_at recording hit → AreFirstWith (IsMasterAt recording) recording identity start count frame masters →
+    AddsPhases (IsSystemOf recording) identity start count frame masters (5 - count) old new → AddsHit (AreEntriesOf recording) hit old new
+adds_entries recording hit identity start count frame masters old new id at first adds = record {
+  entries = entries_of identity start count frame masters adds.systems (5 - count);
   are = subst (λ s. AreEntries (IsEntryBy (IsMasterAt recording) (IsSystemOf recording) recording (identity_at recording hit) s) entries) at
       (subst (λ i. AreEntries (IsEntryBy (IsMasterAt recording) (IsSystemOf recording) recording i start) entries) id
-      (entries_are (IsMasterAt recording) (IsSystemOf recording) (one_master_at recording) (one_system recording) recording identity start frame masters first adds.systems adds.told));
+      (entries_are (IsMasterAt recording) (IsSystemOf recording) (one_master_at recording) (one_system recording) recording identity start count frame masters first adds.systems adds.told));
   adds = adds.adds;
 }
   where
     entries : List Entry
-    entries = entries_of identity start frame masters adds.systems 4
+    entries = entries_of identity start count frame masters adds.systems (5 - count)
 
 pub adds_nothing : (recording : List Sample) (hit : Hit) (identity start : ℕ) (list : List Entry) →
     identity ≡ identity_at recording hit → start ≡ start_at recording hit → HasNoMasters (IsMasterAt recording) recording identity start → Adds [] list list →

@@ -2,8 +2,10 @@ pub mod Sorted
 pub mod Entries
 pub mod Information
 pub mod FirstFrame
+pub mod Received
 pub mod Made
 pub mod Kept
 pub mod Listed
 pub mod Again
 pub mod Deciding
+pub mod OneFrame

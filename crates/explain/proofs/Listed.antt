@@ -151,7 +151,7 @@ of_no_hits AreOf = record {
   listed = record { same = IsPermutation-refl []; in_order = λ i j d below inside. absurd (omega (arith, inside)) };
 }
 
-AllZip-more : {A B : Type 0} (R : A → B → Type 0) (xs : List A) (ys : List B) (x : A) (y : B) → AllZip R xs ys → R x y → AllZip R (xs ++ x ∷ []) (ys ++ y ∷ [])
+pub AllZip-more : {A B : Type 0} (R : A → B → Type 0) (xs : List A) (ys : List B) (x : A) (y : B) → AllZip R xs ys → R x y → AllZip R (xs ++ x ∷ []) (ys ++ y ∷ [])
 AllZip-more R [] [] x y h r = (r, tt)
 AllZip-more R [] (b ∷ ys) x y h r = absurd h
 AllZip-more R (a ∷ xs) [] x y h r = absurd h

@@ -1,5 +1,5 @@
 -- The list of the cells that a recording explains. (own)
-use Rattle.std.specs.Prelude.{◌≡◌, ◌⊎◌, ◌↔◌, ℕ, ◌+◌, ◌-◌, ◌*◌, ◌%◌, ◌<◌, min, Bool, ◌&&◌, nat_eq, nat_le, if◌then◌else◌, List, [], ◌∷◌, ◌++◌, ℤ, Result}
+use Rattle.std.specs.Prelude.{◌≡◌, ◌⊎◌, ◌↔◌, ℕ, ◌+◌, ◌-◌, ◌*◌, ◌%◌, ◌<◌, ◌≤◌, min, Bool, ◌&&◌, nat_eq, nat_le, if◌then◌else◌, List, [], ◌∷◌, ◌++◌, ℤ, Result}
 use Rattle.std.specs.List.{fold, list_any, flat_map, AllZip, AllPairs, Contains}
 use Rattle.std.specs.List.Sorted.{IsPermutation}
 use Rattle.cs_num.specs.declared.Sample.{Sample}
@@ -15,9 +15,9 @@ use Rattle.lte_types.specs.Numerology.{cycle_length, frame_length}
 use Rattle.sss_detect.specs.Place.{start_of}
 use Rattle.pbch.specs.declared.master.Master.{Master}
 use Rattle.pbch.specs.Values.{coded_values}
-use Rattle.explain.specs.Frame.{broadcast_slot}
+use Rattle.explain.specs.Frame.{broadcast_slots}
 use Rattle.explain.specs.System.{IsSystemOf}
-use Rattle.explain.specs.Window.{IsFirstFrame, IsMasterAt}
+use Rattle.explain.specs.Window.{AreFirstFrames, IsMasterAt}
 
 -- ---- the entries of a hit
 
@@ -33,10 +33,10 @@ start_at recording hit = start_of hit.t (identity_of recording hit).1
 abbrev pub master_of : Entry → Master
 master_of entry = record { ports = entry.ports; mib = entry.mib; cost = entry.cost }
 
--- the values that tell it: those of the entry's frame at its phase
+-- the values that tell it: those of the entry's frames, the first of them at its phase
 abbrev pub values_of_entry : List Sample → Entry → List (List ℤ)
 values_of_entry recording entry =
-    coded_values (broadcast_slot recording entry.id entry.start entry.frame) entry.phase
+    coded_values (broadcast_slots recording entry.id entry.start entry.frames entry.frame) entry.phase
 
 -- the number of the first frame, by that of frame j: four times the upper bits of its block and its phase, and as much less as there
 -- are frames before
@@ -44,16 +44,16 @@ abbrev pub first_number : ℕ → ℕ → ℕ → ℕ
 first_number upper phase j = (4 * upper + phase + (1024 - j)) % 1024
 
 -- the entry tells a master block of a cell with this identity, whose first frame begins at this sample: one of the
--- first of its frames that has any. `Tells` says which master block a frame tells, by identity, start, frame and
--- phase, and `IsSystem` what is told of the system information, by identity, start, frame number, antenna ports and
--- master block
-pub record IsEntryBy (Tells : ℕ → ℕ → ℕ → ℕ → Master → Type 0)
+-- first of its frames that have any. `Tells` says which master block frames tell, by identity, start, count of frames,
+-- first frame and its phase, and `IsSystem` what is told of the system information, by identity, start, frame number,
+-- antenna ports and master block
+pub record IsEntryBy (Tells : ℕ → ℕ → ℕ → ℕ → ℕ → Master → Type 0)
     (IsSystem : ℕ → ℕ → ℕ → ℕ → Mib → Result Sib1 Sib1Reason → Type 0) (recording : List Sample) (identity sample : ℕ) (entry : Entry) : Type 0 where
   pub id : entry.id ≡ identity
   pub start : entry.start ≡ sample
-  pub phase : entry.phase < 4
-  pub frame : IsFirstFrame Tells recording entry.id entry.start entry.frame
-  pub master : Tells entry.id entry.start entry.frame entry.phase (master_of entry)
+  pub period : entry.phase + entry.frames ≤ 4
+  pub frames : AreFirstFrames Tells recording entry.id entry.start entry.frames entry.frame
+  pub master : Tells entry.id entry.start entry.frames entry.frame entry.phase (master_of entry)
   pub sfn : entry.sfn ≡ first_number entry.mib.upper entry.phase entry.frame
   pub sib1 : IsSystem entry.id entry.start entry.sfn entry.ports entry.mib entry.sib1
 

@@ -22,3 +22,7 @@ seen_slot recording f number identity =
 -- the slot of frame j of a cell's start that carries the broadcast channel (TS 36.211 section 6.6.4)
 abbrev pub broadcast_slot : List Sample → ℕ → ℕ → ℕ → SeenSlot
 broadcast_slot recording identity start j = seen_slot recording (frame_at start j) 1 identity
+
+-- those of so many frames from frame j on
+abbrev pub broadcast_slots : List Sample → ℕ → ℕ → ℕ → ℕ → List SeenSlot
+broadcast_slots recording identity start count j = values_below count (λ m. broadcast_slot recording identity start (j + m))

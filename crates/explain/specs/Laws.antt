@@ -1,12 +1,16 @@
 -- What the list of a recording is, in plain words; and the same of any list of hits, where `IsOf` says which entries a
 -- hit has. (own)
-use Rattle.std.specs.Prelude.{◌≡◌, ◌≢◌, ◌⊎◌, true, List}
+use Rattle.std.specs.Prelude.{◌≡◌, ◌≢◌, ◌⊎◌, ℕ, ◌<◌, ◌≤◌, true, List}
 use Rattle.std.specs.List.{AllPairs, Contains}
 use Rattle.cs_num.specs.declared.Sample.{Sample}
 use Rattle.lte_types.specs.declared.hit.Hit.{Hit}
 use Rattle.lte_types.specs.declared.entry.Entry.{Entry}
 use Rattle.pss_search.specs.Hits.{hits_of}
-use Rattle.explain.specs.Entries.{IsEntryOf, AreEntries, IsListOfHits, is_same_cell}
+use Rattle.pbch.specs.declared.master.Master.{Master}
+use Rattle.explain.specs.Frame.{IsWhole}
+use Rattle.explain.specs.System.{IsSystemOf}
+use Rattle.explain.specs.Window.{IsMasterAt}
+use Rattle.explain.specs.Entries.{identity_at, start_at, master_of, first_number, IsEntryOf, AreEntries, IsListOfHits, IsExplained, is_same_cell}
 
 -- hits have one list
 abbrev pub HaveOneList : (Hit → Entry → Type 0) → List Hit → Type 0
@@ -62,3 +66,29 @@ IsApartOf IsOf hits = (list : List Entry) → IsListOfHits (λ hit. AreEntries (
 
 abbrev pub IsApart : Type 0
 IsApart = (recording : List Sample) → IsApartOf (IsEntryOf recording) (hits_of recording)
+
+-- ---- single frames
+
+-- the entry tells a master block that one frame of a hit tells: the first of frames 0 to 7 that tells any, by its values
+-- alone
+pub record IsEntryOfOneFrame (recording : List Sample) (hit : Hit) (entry : Entry) : Type 0 where
+  pub id : entry.id ≡ identity_at recording hit
+  pub start : entry.start ≡ start_at recording hit
+  pub one : entry.frames ≡ 1
+  pub phase : entry.phase < 4
+  pub known : entry.frame ≤ 7
+  pub whole : IsWhole recording entry.start entry.frame
+  pub first : (j phase : ℕ) (master : Master) → j < entry.frame → phase < 4 → IsMasterAt recording entry.id entry.start 1 j phase master → ⊥
+  pub master : IsMasterAt recording entry.id entry.start 1 entry.frame entry.phase (master_of entry)
+  pub sfn : entry.sfn ≡ first_number entry.mib.upper entry.phase entry.frame
+  pub sib1 : IsSystemOf recording entry.id entry.start entry.sfn entry.ports entry.mib entry.sib1
+
+-- it is one of the hit's
+abbrev pub OneFrameTells : Type 0
+OneFrameTells = (recording : List Sample) (hit : Hit) (entry : Entry) → IsEntryOfOneFrame recording hit entry → IsEntryOf recording hit entry
+
+-- so it stands in the list, itself or one of its cell
+abbrev pub OneFrameIsListed : Type 0
+OneFrameIsListed =
+    (recording : List Sample) (list : List Entry) (hit : Hit) (entry : Entry) → IsExplained recording list → Contains (hits_of recording) hit →
+    IsEntryOfOneFrame recording hit entry → (other : Entry) × StandsFor list entry other

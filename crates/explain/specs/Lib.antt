@@ -4,5 +4,7 @@ pub mod Window
 pub mod Entries
 pub mod Places
 pub mod Masters
+pub mod Received
 pub mod Laws
 pub mod Deciding
+pub mod EntrySlot

@@ -1,30 +1,42 @@
--- The frames of a cell in which its master blocks are looked for: frames 0 to 7 of its start, as far as they lie
--- within the recording. `Tells` says which master block a frame tells, by identity, start, frame and phase. (own)
-use Rattle.std.specs.Prelude.{ℕ, ◌<◌, ◌≤◌, List}
+-- The frames of a cell in which its master blocks are looked for: frames 0 to 7 of its start, as far as they lie within
+-- the recording, one alone, or two to four that follow one another in one period of four. `Tells` says which master block
+-- frames tell, by identity, start, count of frames, first of them and the first one's phase. (own)
+use Rattle.std.specs.Prelude.{◌≡◌, ◌⊎◌, ℕ, ◌+◌, ◌<◌, ◌≤◌, List}
 use Rattle.cs_num.specs.declared.Sample.{Sample}
 use Rattle.pbch.specs.declared.master.Master.{Master}
 use Rattle.pbch.specs.Master.{IsMaster}
-use Rattle.explain.specs.Frame.{IsWhole, broadcast_slot}
+use Rattle.explain.specs.Frame.{IsWhole, broadcast_slots}
 
--- frame j of a start is one of them
-pub record IsInWindow (recording : List Sample) (start j : ℕ) : Type 0 where
-  pub known : j ≤ 7
-  pub whole : IsWhole recording start j
+-- so many frames from frame j of a start on are looked at together
+pub record IsInWindow (recording : List Sample) (start count j : ℕ) : Type 0 where
+  pub some : 1 ≤ count
+  pub few : count ≤ 4
+  pub known : j + count ≤ 8
+  pub whole : (m : ℕ) → m < count → IsWhole recording start (j + m)
 
--- no frame before frame j has a master block, at any phase
-abbrev pub HasNoMasterBefore : (ℕ → ℕ → ℕ → ℕ → Master → Type 0) → ℕ → ℕ → ℕ → Type 0
-HasNoMasterBefore Tells identity start j = (i phase : ℕ) (master : Master) → i < j → phase < 4 → Tells identity start i phase master → ⊥
+-- so many frames from frame i on are looked at before others: they are fewer, or as many and begin earlier
+abbrev pub ComeBefore : ℕ → ℕ → ℕ → ℕ → Type 0
+ComeBefore few i count j = (few < count) ⊎ ((few ≡ count) × (i < j))
 
--- none of them has a master block
-abbrev pub HasNoMasters : (ℕ → ℕ → ℕ → ℕ → Master → Type 0) → List Sample → ℕ → ℕ → Type 0
-HasNoMasters Tells recording identity start =
-    (j phase : ℕ) (master : Master) → IsInWindow recording start j → phase < 4 → Tells identity start j phase master → ⊥
+-- so many frames from frame j on tell no master block, at any phase
+abbrev pub TellNone : (ℕ → ℕ → ℕ → ℕ → ℕ → Master → Type 0) → ℕ → ℕ → ℕ → ℕ → Type 0
+TellNone Tells identity start count j = (phase : ℕ) (master : Master) → phase + count ≤ 4 → Tells identity start count j phase master → ⊥
 
--- frame j is one of them, and none before it has a master block
-pub record IsFirstFrame (Tells : ℕ → ℕ → ℕ → ℕ → Master → Type 0) (recording : List Sample) (identity start j : ℕ) : Type 0 where
-  pub inside : IsInWindow recording start j
-  pub first : HasNoMasterBefore Tells identity start j
+-- no frames that are looked at before these tell any
+abbrev pub HasNoMasterBefore : (ℕ → ℕ → ℕ → ℕ → ℕ → Master → Type 0) → List Sample → ℕ → ℕ → ℕ → ℕ → Type 0
+HasNoMasterBefore Tells recording identity start count j =
+    (few i : ℕ) → IsInWindow recording start few i → ComeBefore few i count j → TellNone Tells identity start few i
 
--- frame j tells this master block at this phase, by one antenna port: its slot that carries the broadcast channel does
-abbrev pub IsMasterAt : List Sample → ℕ → ℕ → ℕ → ℕ → Master → Type 0
-IsMasterAt recording identity start j phase master = IsMaster (broadcast_slot recording identity start j) phase master
+-- none that are looked at do
+abbrev pub HasNoMasters : (ℕ → ℕ → ℕ → ℕ → ℕ → Master → Type 0) → List Sample → ℕ → ℕ → Type 0
+HasNoMasters Tells recording identity start = (count j : ℕ) → IsInWindow recording start count j → TellNone Tells identity start count j
+
+-- so many frames from frame j on are looked at, and none before them tell a master block
+pub record AreFirstFrames (Tells : ℕ → ℕ → ℕ → ℕ → ℕ → Master → Type 0) (recording : List Sample) (identity start count j : ℕ) : Type 0 where
+  pub inside : IsInWindow recording start count j
+  pub first : HasNoMasterBefore Tells recording identity start count j
+
+-- so many frames from frame j on tell this master block, the first of them at this phase, by one antenna port: their
+-- slots that carry the broadcast channel do
+abbrev pub IsMasterAt : List Sample → ℕ → ℕ → ℕ → ℕ → ℕ → Master → Type 0
+IsMasterAt recording identity start count j phase master = IsMaster (broadcast_slots recording identity start count j) phase master

@@ -1,9 +1,9 @@
 //! The list of the cells of a recording.
 
-ghost use Rattle.std.specs.Prelude.{◌≡◌, ◌+◌, ◌<◌, ◌≤◌, true, false, [], ◌∷◌, ◌++◌, All, length};
+ghost use Rattle.std.specs.Prelude.{◌≡◌, ◌+◌, ◌-◌, ◌<◌, ◌≤◌, true, false, [], ◌∷◌, ◌++◌, All, length};
 ghost use Rattle.finite.specs.Sizes.{RowsWithin};
 ghost use Rattle.pss_search.specs.Hits.{IsInSpan};
-ghost use Rattle.pbch.specs.Master.{TellsMaster};
+ghost use Rattle.pbch.specs.Master.{TellsMaster, master_at};
 ghost use Rattle.explain.specs.Entries.{IsExplained, IsInList, AreEntriesOf, IsListOfHits, AddsHit, master_of, values_of_entry};
 ghost use Rattle.explain.specs.Places.{place_at, is_met};
 ghost use Rattle.explain.specs.Masters.{entry_of as entry_of_master, AddsPhase, AddsPhases};
@@ -16,19 +16,20 @@ use crate::places::{Place, Places};
 use crate::system::system_of;
 use crate::{EntryList, Workspace};
 use lte_types::{CellId, Entry, Hit, Sfn};
-use pbch::{Master, values};
+use pbch::{Master, received, sums_of};
 use pss_search::hits;
 use sample_file::Recording;
 use sss_detect::{cell_id, frame_start, identity};
 use system_block::Decoders;
 
 /// Afterwards the list is that of the recording, whatever it held before. Each hit, by place, tells
-/// an identity and a start of frames, and the first of its whole frames 0 to 7 that has a master
-/// block at any phase gives an entry for each of its master blocks, by phase. An entry has the first fields
-/// of SystemInformationBlockType1 that one of its first eight whole frames of even number tells, or a
-/// `Sib1Reason` where none does. An entry is dropped where a kept one before it has the same identity and
-/// an epoch at most 9 samples away, modulo 1,024 frames. The list is in order of start, identity and frame
-/// number. It takes no memory. (own)
+/// an identity and a start of frames. The first of its whole frames 0 to 7 that has a master block at any
+/// phase gives an entry for each of its master blocks, by phase; where none has, the first two, three or
+/// four frames that follow one another in one period and have one by the sums of their values. An entry
+/// has the first fields of SystemInformationBlockType1 that one of its first eight whole frames of even
+/// number tells, or a `Sib1Reason` where none does. An entry is dropped where a kept one before it has the
+/// same identity and an epoch at most 9 samples away, modulo 1,024 frames. The list is in order of start,
+/// identity and frame number. It takes no memory. (own)
 pub fn explain(recording: &Recording, work: &mut Workspace, list: &mut EntryList)
     ensures { IsExplained recording.now list.new }
 {
@@ -45,17 +46,21 @@ pub fn explain(recording: &Recording, work: &mut Workspace, list: &mut EntryList
 }
 
 /// The values of an entry's master block: for each place and stream of its coded word the sum of the
-/// soft values of the frame that tells it. The entry is in the recording's list. Each has size at
-/// most 508. The entry's ports and master block are those that the least word of these values tells,
+/// soft values of the frames that tell it. The entry is in the recording's list. Each has size at
+/// most 2,032. The entry's ports and master block are those that the least word of these values tells,
 /// and its cost is that word's.
 pub fn values_of(recording: &Recording, entry: &Entry) -> [[i32; 3]; 40]
     requires { IsInList recording.now entry.now }
     ensures values { result ≡ values_of_entry recording.now entry.now }
     ensures master { TellsMaster result (master_of entry.now) }
-    ensures sizes { RowsWithin 508 result }
+    ensures sizes { RowsWithin 2032 result }
 {
-    let slot = broadcast_slot(recording, entry.id, entry.start, entry.frame);
-    values(&slot, entry.phase)
+    let mut frames = [[0; 480]; 4];
+    for m in 0..entry.frames {
+        let slot = broadcast_slot(recording, entry.id, entry.start, entry.frame + m);
+        frames[m as usize] = received(&slot);
+    }
+    sums_of(entry.id, entry.phase, &frames[..entry.frames as usize])
 }
 
 // Adds the entries of hits to the empty list.
@@ -77,8 +82,8 @@ fn add_hits(
     }
 }
 
-// The place that a hit tells.
-fn place_of(recording: &Recording, hit: &Hit) -> Place
+/// The place that a hit tells: the identity of its cell, and the sample at which its first frame starts.
+pub fn place_of(recording: &Recording, hit: &Hit) -> Place
     requires span { IsInSpan hit.now }
     ensures place { result ≡ place_at recording.now hit.now }
     ensures early { result.start < frame_length }
@@ -124,7 +129,7 @@ fn add_hit(
     }
 }
 
-// Adds the entries of a frame's master blocks.
+// Adds the entries of the master blocks of frames.
 fn add_masters(
     recording: &Recording,
     id: CellId,
@@ -134,46 +139,42 @@ fn add_masters(
     list: &mut EntryList,
 )
     requires early { start < frame_length }
+    requires some { 1 ≤ masters.now.frames }
+    requires few { masters.now.frames ≤ 4 }
     requires frame { masters.now.frame ≤ 7 }
     requires count { length masters.now.at ≡ 4 }
     requires room { length list.old + 4 ≤ 23040 }
-    ensures adds { AddsPhases (IsSystemOf recording.now) id start masters.now.frame masters.now.at 4 list.old list.new }
+    ensures adds { AddsPhases (IsSystemOf recording.now) id start masters.now.frames masters.now.frame masters.now.at
+        (5 - masters.now.frames) list.old list.new }
     ensures few { length list.new ≤ length list.old + 4 }
 {
-    for phase in 0..4 {
-        add_phase(
-            recording,
-            id,
-            start,
-            masters.frame,
-            phase,
-            masters.at[phase as usize],
-            work,
-            list,
-        );
+    for phase in 0..5 - masters.frames {
+        add_phase(recording, id, start, masters, phase, work, list);
     }
 }
 
-// Adds the entry of a master block, where there is one.
+// Adds the entry of the master block of a phase, where there is one.
 fn add_phase(
     recording: &Recording,
     id: CellId,
     start: u32,
-    frame: u8,
+    masters: &Masters,
     phase: u8,
-    master: Option<Master>,
     work: &mut Decoders,
     list: &mut EntryList,
 )
     requires early { start < frame_length }
-    requires frame { frame ≤ 7 }
+    requires frame { masters.now.frame ≤ 7 }
+    requires count { length masters.now.at ≡ 4 }
     requires phase { phase < 4 }
     requires room { length list.old < 23040 }
-    ensures adds { AddsPhase (IsSystemOf recording.now) id start frame phase master list.old list.new }
+    ensures adds { AddsPhase (IsSystemOf recording.now) id start masters.now.frames masters.now.frame phase
+        (master_at masters.now.at phase) list.old list.new }
     ensures one { length list.new ≤ length list.old + 1 }
 {
+    let master = masters.at[phase as usize];
     match master {
-        Some(master) => list.add(entry_of(recording, id, start, frame, phase, master, work)),
+        Some(master) => list.add(entry_of(recording, id, start, masters, phase, master, work)),
         None => {}
     }
 }
@@ -183,18 +184,19 @@ fn entry_of(
     recording: &Recording,
     id: CellId,
     start: u32,
-    frame: u8,
+    masters: &Masters,
     phase: u8,
     master: Master,
     work: &mut Decoders,
 ) -> Entry
     requires early { start < frame_length }
-    requires frame { frame ≤ 7 }
+    requires frame { masters.now.frame ≤ 7 }
     requires phase { phase < 4 }
-    ensures entry { result ≡ entry_of_master id start frame phase master result.sib1 }
+    ensures entry { result
+        ≡ entry_of_master id start masters.now.frames masters.now.frame phase master result.sib1 }
     ensures system { IsSystemOf recording.now id start result.sfn master.ports master.mib result.sib1 }
 {
-    let number = 4 * master.mib.upper as u64 + phase as u64 + (1024 - frame as u64);
+    let number = 4 * master.mib.upper as u64 + phase as u64 + (1024 - masters.frame as u64);
     let sfn = Sfn::modulo(number);
     Entry {
         id,
@@ -202,7 +204,8 @@ fn entry_of(
         sfn,
         ports: master.ports,
         mib: master.mib,
-        frame,
+        frames: masters.frames,
+        frame: masters.frame,
         phase,
         cost: master.cost,
         sib1: system_of(recording, id, start, sfn, master, work),

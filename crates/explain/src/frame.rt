@@ -1,6 +1,6 @@
 //! The frames of a recording.
 
-ghost use Rattle.std.specs.Prelude.{◌≡◌, ◌+◌, ◌^◌, ◌<◌, ◌≤◌, ◌↔◌, IsTrue, All, length};
+ghost use Rattle.std.specs.Prelude.{◌≡◌, ℕ, ◌+◌, ◌^◌, ◌<◌, ◌≤◌, ◌↔◌, IsTrue, All, length};
 ghost use Rattle.cs_num.specs.Complex.{IsWithin};
 ghost use Rattle.lte_types.specs.Numerology.{frame_length, normal, useful_start};
 ghost use Rattle.observe.specs.Seen.{seen_symbol};
@@ -17,6 +17,16 @@ pub(crate) fn is_whole(recording: &Recording, start: u32, j: u8) -> bool
     ensures { IsTrue result ↔ IsWhole recording.now start j }
 {
     start as usize + FRAME_LENGTH * (j as usize + 1) <= recording.len()
+}
+
+/// How many of frames 0 to 7 of a start lie within the recording: the first ones.
+pub(crate) fn whole_frames(recording: &Recording, start: u32) -> u8
+    ensures few { result ≤ 8 }
+    ensures whole { (j : ℕ) → j < result → IsWhole recording.now start j }
+    ensures all { (j : ℕ) → j < 8 → IsWhole recording.now start j → j < result }
+{
+    let length = recording.len().saturating_sub(start as usize);
+    (length / FRAME_LENGTH).min(8) as u8
 }
 
 // Symbol l of a slot, in a frame that begins at the given sample.

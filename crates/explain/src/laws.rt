@@ -1,6 +1,6 @@
 //! Laws of the list.
 
-ghost use Rattle.explain.specs.Laws.{IsOneList, IsSound, IsComplete, IsApart};
+ghost use Rattle.explain.specs.Laws.{IsOneList, IsSound, IsComplete, IsApart, OneFrameTells, OneFrameIsListed};
 ghost use Rattle.explain.specs.Deciding.{FirstFramesDecide};
 
 /// The list of a recording in plain words: there is only one; each of its entries is one of some
@@ -17,4 +17,11 @@ pub fn the_list_in_plain_words()
 /// recording may be cut there, and nothing of its list is lost. (own)
 pub fn the_first_frames_decide()
     ensures { FirstFramesDecide }
+{}
+
+/// What one frame of a hit tells alone, by its own values, is still an entry of the hit, though frames are
+/// summed where none does. So it is in the list, or an entry of its cell is. (own)
+pub fn one_frame_is_enough()
+    ensures tells { OneFrameTells }
+    ensures listed { OneFrameIsListed }
 {}

@@ -4,6 +4,7 @@
 
 mod cells;
 mod entry_list;
+mod entry_slot;
 mod frame;
 mod laws;
 mod listing;
@@ -12,7 +13,9 @@ mod places;
 mod system;
 mod workspace;
 
-pub use cells::{explain, values_of};
+pub use cells::{explain, place_of, values_of};
 pub use entry_list::EntryList;
-pub use laws::{the_first_frames_decide, the_list_in_plain_words};
+pub use entry_slot::slot_of_entry;
+pub use laws::{one_frame_is_enough, the_first_frames_decide, the_list_in_plain_words};
+pub use places::Place;
 pub use workspace::Workspace;

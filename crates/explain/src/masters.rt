@@ -1,26 +1,36 @@
 //! The master blocks of a hit.
 
-ghost use Rattle.std.specs.Prelude.{◌≡◌, MatchOption, is_some};
+ghost use Rattle.std.specs.Prelude.{◌≡◌, ℕ, ◌+◌, ◌<◌, ◌≤◌, List, MatchOption, is_some};
 ghost use Rattle.finite.specs.Tests.{any_below};
-ghost use Rattle.pbch.specs.Master.{AreMasters, master_at};
-ghost use Rattle.explain.specs.Masters.{IsFirstWith};
-ghost use Rattle.explain.specs.Window.{HasNoMasters, IsMasterAt};
+ghost use Rattle.finite.specs.Sizes.{RowsWithin};
+ghost use Rattle.cs_num.specs.declared.Sample.{Sample};
+ghost use Rattle.pbch.specs.Master.{master_at};
+ghost use Rattle.explain.specs.Frame.{IsWhole};
+ghost use Rattle.explain.specs.Masters.{HaveMasters, AreFirstWith};
+ghost use Rattle.explain.specs.Received.{AreReceived, NoneTell, AreFirstOf};
+ghost use Rattle.explain.specs.Window.{TellNone, HasNoMasters, IsMasterAt};
 
-use crate::frame::{broadcast_slot, is_whole};
+use crate::frame::{broadcast_slot, whole_frames};
 use lte_types::CellId;
-use pbch::Master;
+use pbch::{Master, received};
 use sample_file::Recording;
 use tailbite::Trellis;
 
-/// A frame of a cell, from the first on, with the master block that it tells at each phase.
+/// Frames of a cell that follow one another, by their count and the first of them, with the master block
+/// that they tell at each phase of the first.
 #[derive(Clone, Copy)]
 pub(crate) struct Masters {
+    pub frames: u8,
     pub frame: u8,
     pub at: [Option<Master>; 4],
 }
 
-/// The first of the whole frames 0 to 7 of a start that has a master block at any phase, with all
-/// its master blocks; `None` exactly where there is no such frame.
+// What was received in frames 0 to 7 of a start, as far as they were read.
+type Received = [[i16; 480]; 8];
+
+/// The first of the whole frames 0 to 7 of a start that have a master block at any phase, with all their
+/// master blocks: a single frame, or else two, three or four that follow one another in one period.
+/// `None` exactly where no frames have any. Each frame is received once.
 pub(crate) fn first_masters(
     recording: &Recording,
     id: CellId,
@@ -28,18 +38,102 @@ pub(crate) fn first_masters(
     work: &mut Trellis,
 ) -> Option<Masters>
     ensures { MatchOption result (HasNoMasters (IsMasterAt recording.now) recording.now id start)
-        (λ found. IsFirstWith (IsMasterAt recording.now) recording.now id start found.frame found.at) }
+        (λ found. AreFirstWith (IsMasterAt recording.now) recording.now id start found.frames found.frame found.at) }
 {
-    for frame in 0..8 {
-        if !is_whole(recording, start, frame) {
-            return None;
-        }
-        let at = pbch::masters(&broadcast_slot(recording, id, start, frame), work);
-        if has_master(&at) {
-            return Some(Masters { frame, at });
+    let whole = whole_frames(recording, start);
+    let mut received = [[0; 480]; 8];
+    match first_alone(recording, id, start, whole, &mut received, work) {
+        Some(found) => return Some(found),
+        None => {}
+    }
+    for frames in 2..5 {
+        match first_of(id, frames, whole, &received, work) {
+            Some(found) => return Some(found),
+            None => {}
         }
     }
     None
+}
+
+// The first of the first `whole` frames that has a master block alone. Where none has, all were received.
+fn first_alone(
+    recording: &Recording,
+    id: CellId,
+    start: u32,
+    whole: u8,
+    frames: &mut Received,
+    work: &mut Trellis,
+) -> Option<Masters>
+    requires few { whole ≤ 8 }
+    requires whole { (j : ℕ) → j < whole → IsWhole recording.now start j }
+    requires sizes { RowsWithin 127 frames.old }
+    ensures found { MatchOption result (NoneTell recording.now id start whole 1)
+        (λ found. (found.frames ≡ 1) × AreFirstOf recording.now id start whole 1 found.frame found.at) }
+    ensures received { MatchOption result (AreReceived recording.now id start whole frames.new) (λ found. Unit) }
+    ensures sizes { RowsWithin 127 frames.new }
+{
+    for frame in 0..whole {
+        frames[frame as usize] = received(&broadcast_slot(recording, id, start, frame));
+        match masters_of(id, 1, frame, frames, work) {
+            Some(found) => return Some(found),
+            None => {}
+        }
+    }
+    None
+}
+
+// The first `count` of the first `whole` frames that have a master block together.
+fn first_of(
+    id: CellId,
+    count: u8,
+    whole: u8,
+    frames: &Received,
+    work: &mut Trellis,
+) -> Option<Masters>
+    requires some { 1 ≤ count }
+    requires few { count ≤ 4 }
+    requires whole { whole ≤ 8 }
+    requires sizes { RowsWithin 127 frames.now }
+    ensures { (recording : List Sample) (start : ℕ) → AreReceived recording id start whole frames.now →
+        MatchOption result (NoneTell recording id start whole count)
+        (λ found. (found.frames ≡ count) × AreFirstOf recording id start whole count found.frame found.at) }
+{
+    for frame in 0..(whole + 1).saturating_sub(count) {
+        match masters_of(id, count, frame, frames, work) {
+            Some(found) => return Some(found),
+            None => {}
+        }
+    }
+    None
+}
+
+// The master blocks of `count` frames from a first one on, where they have any.
+fn masters_of(
+    id: CellId,
+    count: u8,
+    frame: u8,
+    frames: &Received,
+    work: &mut Trellis,
+) -> Option<Masters>
+    requires some { 1 ≤ count }
+    requires few { count ≤ 4 }
+    requires known { frame + count ≤ 8 }
+    requires sizes { RowsWithin 127 frames.now }
+    ensures { (recording : List Sample) (start : ℕ) → AreReceived recording id start (frame + count) frames.now →
+        MatchOption result (TellNone (IsMasterAt recording) id start count frame)
+        (λ found. (found.frames ≡ count) × (found.frame ≡ frame)
+        × HaveMasters (IsMasterAt recording) id start count frame found.at) }
+{
+    let first = frame as usize;
+    let at = pbch::masters(id, &frames[first..first + count as usize], work);
+    if !has_master(&at) {
+        return None;
+    }
+    Some(Masters {
+        frames: count,
+        frame,
+        at,
+    })
 }
 
 // Whether any phase has a master block.

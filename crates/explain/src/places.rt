@@ -11,7 +11,7 @@ use std::marker::Model;
 
 /// Where a cell was met: its identity, and the sample at which its first frame starts.
 #[derive(Clone, Copy, PartialEq, Eq)]
-pub(crate) struct Place {
+pub struct Place {
     pub id: CellId,
     pub start: u32,
 }

@@ -8,19 +8,21 @@ use std::alloc::{AllocError, Global};
 pub type Form = (&'static [&'static str], Input);
 
 /// The reports, one a line.
-pub const REPORTS: [Form; 4] = [
+pub const REPORTS: [Form; 5] = [
     (&["hits"], Input::Cell16),
     (&["ids"], Input::Cell16),
     (&["search"], Input::Cell16),
     (&["search", "--json"], Input::Cell16),
+    (&["evidence"], Input::Cell16),
 ];
 
 /// The forms that read samples of 8 bits.
-pub const OF_8_BITS: [Form; 5] = [
+pub const OF_8_BITS: [Form; 6] = [
     (&["hits", "--format", "cu8"], Input::Cell8),
     (&["ids", "--format", "cu8"], Input::Cell8),
     (&["search", "--format", "cu8"], Input::Cell8),
     (&["search", "--json", "--format", "cu8"], Input::Cell8),
+    (&["evidence", "--format", "cu8"], Input::Cell8),
     (&["certify", "--format", "cu8"], Input::Cell8),
 ];
 

@@ -16,7 +16,7 @@ use Rattle.grid_map.specs.Place.{place, places_of}
 use Rattle.grid_map.specs.Group.{group, is_group, same_group, is_kept, group_places}
 use Rattle.grid_map.specs.Control.{is_in, pcfich_groups, pcfich_places, phich_groups, is_in_region, pdcch_groups}
 use Rattle.grid_map.specs.Candidate.{group_of_quadruplet, quadruplet_group, candidate_places}
-use Rattle.grid_map.specs.Shared.{is_synchronisation, is_in_blocks, is_pdsch, pdsch_places, pdsch_place}
+use Rattle.grid_map.specs.Shared.{is_synchronisation, is_in_blocks, is_pdsch, shared_places_of, shared_place_of, pdsch_places}
 use Rattle.grid_map.proofs.Spans.{four_places, places_inside, places_apart}
 use Rattle.grid_map.proofs.Regions.{same_group-refl, pcfich_inside, pdcch_inside, pdcch_members}
 use Rattle.grid_map.proofs.Carried.{group_inside}
@@ -160,7 +160,7 @@ pub record IsAfterRegion (identity last : ℕ) (p : Place) : Type 0 where
   pub free : is_reference identity (p.symbol % 7) p.k ≡ false
 
 pdsch_symbols : (identity cfi start blocks : ℕ) → All (λ (p : Place). (p.symbol < 14) × (p.k < 72)) (pdsch_places identity cfi start blocks)
-unfolding pdsch_places
+unfolding shared_places_of
 pdsch_symbols identity cfi start blocks =
     All-filter (is_pdsch identity cfi start blocks) (λ (p : Place). (p.symbol < 14) × (p.k < 72)) (places_of 0 14)
     (λ i d l. rw places_are (let l' : i < 1008 = (let size = values_below-length 1008 (λ n. place (n / 72) (n % 72)) in let m = rw places_are at l in omega (arith, m, size)) in
@@ -173,11 +173,11 @@ not_true true e = absurd (false≢true e)
 -- the places of the PDSCH are such places
 pub shared_place : (identity cfi start blocks i : ℕ) → i < length (pdsch_places identity cfi start blocks) →
     IsAfterRegion identity cfi (get_or (pdsch_places identity cfi start blocks) i (place 0 0))
-unfolding pdsch_place
+unfolding shared_place_of
 shared_place identity cfi start blocks i l =
     let p : Place = get_or (pdsch_places identity cfi start blocks) i (place 0 0) in
     let inside = pdsch_symbols identity cfi start blocks i (place 0 0) l in
-    let all = and_parts _ (is_in_blocks start blocks p.k) (pdsch_carries identity cfi start blocks i l) in
+    let all = and_parts _ (is_in_blocks start blocks p.k) (pdsch_carries false identity cfi start blocks i l) in
     let most = and_parts _ (not (is_reference identity (p.symbol % 7) p.k)) all.0 in
     let some = and_parts _ (not (is_synchronisation p.symbol)) most.0 in
     record {

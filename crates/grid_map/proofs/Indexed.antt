@@ -17,7 +17,7 @@ use Rattle.grid_map.specs.Place.{place, same_place}
 use Rattle.grid_map.specs.Group.{group, is_group, group_places}
 use Rattle.grid_map.specs.Control.{pcfich_group, pcfich_groups, pcfich_places, pdcch_groups, number_of, quadruplet_at, is_in_region, group_count, element_count}
 use Rattle.grid_map.specs.Candidate.{group_of_quadruplet, quadruplet_group, candidate_places}
-use Rattle.grid_map.specs.Shared.{pdsch_places, pdsch_place}
+use Rattle.grid_map.specs.Shared.{shared_places_of, shared_place_of, pdsch_places}
 use Rattle.grid_map.specs.Laws.{IsIndexed, CarryCandidate}
 use Rattle.grid_map.proofs.Order.{same_place-refl, same_place-true}
 use Rattle.grid_map.proofs.Spans.{four_places, places_rise, places_apart}
@@ -179,6 +179,11 @@ pdcch_carry identity cfi duration resource low high = record {
 
 -- ---- the PDSCH
 
+pub shared_indexed : (two : Bool) (identity cfi start blocks : ℕ) →
+    IsIndexed (length (shared_places_of two identity cfi start blocks)) (shared_places_of two identity cfi start blocks)
+unfolding shared_place_of
+shared_indexed two identity cfi start blocks =
+    indexed (length (shared_places_of two identity cfi start blocks)) (shared_places_of two identity cfi start blocks) refl (pdsch_once two identity cfi start blocks)
+
 pub pdsch_indexed : (identity cfi start blocks : ℕ) → IsIndexed (length (pdsch_places identity cfi start blocks)) (pdsch_places identity cfi start blocks)
-unfolding pdsch_place
-pdsch_indexed identity cfi start blocks = indexed (length (pdsch_places identity cfi start blocks)) (pdsch_places identity cfi start blocks) refl (pdsch_once identity cfi start blocks)
+pdsch_indexed = shared_indexed false

@@ -1,6 +1,6 @@
 -- The places of the physical downlink shared channel in subframe 5 (TS 36.211 section 6.4).
-use Rattle.std.specs.Prelude.{ℕ, ◌+◌, ◌*◌, ◌%◌, Bool, not, ◌&&◌, ◌||◌, nat_eq, nat_lt, nat_le, if◌then◌else◌, List, filter, slice_index_or}
-use Rattle.crs.specs.Reference.{is_reference}
+use Rattle.std.specs.Prelude.{ℕ, ◌+◌, ◌*◌, ◌%◌, Bool, true, false, not, ◌&&◌, ◌||◌, nat_eq, nat_lt, nat_le, if◌then◌else◌, List, filter, slice_index_or}
+use Rattle.crs.specs.Reference.{is_reference, is_second_reference}
 use Rattle.grid_map.specs.declared.Place.{Place}
 use Rattle.grid_map.specs.Place.{place, places_of}
 
@@ -12,22 +12,42 @@ is_synchronisation symbol = nat_eq symbol 5 || nat_eq symbol 6
 abbrev pub is_in_blocks : ℕ → ℕ → ℕ → Bool
 is_in_blocks start blocks k = nat_le (12 * start) k && nat_lt k (12 * (start + blocks))
 
--- a place carries the channel: after the control region, not in a symbol of the synchronisation
--- signals, not a reference place of its slot, and in one of the blocks
-abbrev pub is_pdsch : ℕ → ℕ → ℕ → ℕ → Place → Bool
-is_pdsch identity cfi start blocks p =
-    nat_lt cfi p.symbol && not (is_synchronisation p.symbol) && not (is_reference identity (p.symbol % 7) p.k)
+-- a place of a slot has a reference signal of one of the cell's antenna ports, which are two or one
+abbrev pub is_pilot_of : Bool → ℕ → ℕ → ℕ → Bool
+is_pilot_of false identity symbol k = is_reference identity symbol k
+is_pilot_of true identity symbol k = is_reference identity symbol k || is_second_reference identity symbol k
+
+-- a place carries the channel, with two ports or one: after the control region, not in a symbol of the
+-- synchronisation signals, not a reference place of its slot, and in one of the blocks
+abbrev pub is_shared_of : Bool → ℕ → ℕ → ℕ → ℕ → Place → Bool
+is_shared_of two identity cfi start blocks p =
+    nat_lt cfi p.symbol && not (is_synchronisation p.symbol) && not (is_pilot_of two identity (p.symbol % 7) p.k)
     && is_in_blocks start blocks p.k
 
 -- these places of the subframe, in the order in which the points take them: subcarriers first, then
 -- symbols
-unfoldable pub pdsch_places : ℕ → ℕ → ℕ → ℕ → List Place
-pdsch_places identity cfi start blocks = filter (is_pdsch identity cfi start blocks) (places_of 0 14)
+unfoldable pub shared_places_of : Bool → ℕ → ℕ → ℕ → ℕ → List Place
+shared_places_of two identity cfi start blocks = filter (is_shared_of two identity cfi start blocks) (places_of 0 14)
 
 -- the place that point i takes
-unfoldable pub pdsch_place : ℕ → ℕ → ℕ → ℕ → ℕ → Place
-pdsch_place identity cfi start blocks i = slice_index_or (pdsch_places identity cfi start blocks) i (place 0 0)
+unfoldable pub shared_place_of : Bool → ℕ → ℕ → ℕ → ℕ → ℕ → Place
+shared_place_of two identity cfi start blocks i = slice_index_or (shared_places_of two identity cfi start blocks) i (place 0 0)
 
 -- how many places a block has, with indicator 2 or 3
+abbrev pub block_places_of : Bool → ℕ → ℕ
+block_places_of false cfi = if nat_eq cfi 2 then 102 else 90
+block_places_of true cfi = if nat_eq cfi 2 then 96 else 84
+
+-- ---- with one antenna port
+
+abbrev pub is_pdsch : ℕ → ℕ → ℕ → ℕ → Place → Bool
+is_pdsch identity cfi start blocks p = is_shared_of false identity cfi start blocks p
+
+abbrev pub pdsch_places : ℕ → ℕ → ℕ → ℕ → List Place
+pdsch_places identity cfi start blocks = shared_places_of false identity cfi start blocks
+
+abbrev pub pdsch_place : ℕ → ℕ → ℕ → ℕ → ℕ → Place
+pdsch_place identity cfi start blocks i = shared_place_of false identity cfi start blocks i
+
 abbrev pub block_places : ℕ → ℕ
-block_places cfi = if nat_eq cfi 2 then 102 else 90
+block_places cfi = block_places_of false cfi

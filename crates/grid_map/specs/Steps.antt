@@ -8,13 +8,17 @@ use Rattle.grid_map.specs.Shared.{is_synchronisation}
 abbrev pub has_references : ℕ → Bool
 has_references symbol = nat_eq symbol 0 || nat_eq symbol 4 || nat_eq symbol 7 || nat_eq symbol 11
 
--- how many places of so many blocks a symbol after the control region has for the channel
-abbrev pub room : ℕ → ℕ → ℕ
-room symbol blocks =
-    if is_synchronisation symbol then 0 else (if has_references symbol then 10 * blocks else 12 * blocks)
+-- how many places of so many blocks a symbol after the control region has for the channel, with two antenna
+-- ports or one
+abbrev pub room : Bool → ℕ → ℕ → ℕ
+room two symbol blocks =
+    if is_synchronisation symbol then 0
+    else (if has_references symbol then (if two then 8 * blocks else 10 * blocks) else 12 * blocks)
 
--- how many subcarriers after the first one of the blocks place n of a symbol stands: of each six
--- subcarriers a symbol with reference places has five
-abbrev pub offset : ℕ → ℕ → ℕ → ℕ
-offset identity symbol n =
-    if has_references symbol then 6 * (n / 5) + skipping (first_subcarrier identity (symbol % 7)) (n % 5) else n
+-- how many subcarriers after the first one of the blocks place n of a symbol stands: a symbol with reference
+-- places has five of each six subcarriers with one port, and two of each three with two
+abbrev pub offset : Bool → ℕ → ℕ → ℕ → ℕ
+offset two identity symbol n =
+    if has_references symbol then
+    (if two then 3 * (n / 2) + skipping (identity % 3) (n % 2)
+    else 6 * (n / 5) + skipping (first_subcarrier identity (symbol % 7)) (n % 5)) else n

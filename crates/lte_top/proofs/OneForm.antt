@@ -7,7 +7,7 @@ use Rattle.std.proofs.lemmas.Fmt.{decimal_is_IsNumeral}
 use Rattle.sample_file.specs.declared.form.SampleForm.TheVariants.{Ci16, Cu8}
 use Rattle.lte_top.specs.declared.form.Form.{Form}
 use Rattle.lte_top.specs.declared.form.Form.TheVariants.{Report as Reports, Certify, Check, Transmit, Make}
-use Rattle.lte_top.specs.declared.form.Report.TheVariants.{Hits, Ids, Search, Json}
+use Rattle.lte_top.specs.declared.form.Report.TheVariants.{Hits, Ids, Search, Json, Evidence}
 use Rattle.lte_top.specs.Forms.{words_of, IsInRange, IsWordsOf}
 
 -- these words are those of the form
@@ -30,6 +30,8 @@ form_of words =
     else if are_of words (Reports Search Cu8) then Some (Reports Search Cu8)
     else if are_of words (Reports Json Ci16) then Some (Reports Json Ci16)
     else if are_of words (Reports Json Cu8) then Some (Reports Json Cu8)
+    else if are_of words (Reports Evidence Ci16) then Some (Reports Evidence Ci16)
+    else if are_of words (Reports Evidence Cu8) then Some (Reports Evidence Cu8)
     else if are_of words (Certify Ci16) then Some (Certify Ci16)
     else if are_of words (Certify Cu8) then Some (Certify Cu8)
     else if are_of words Check then Some Check
@@ -46,6 +48,8 @@ form_of_words (Reports Search Ci16) within = refl
 form_of_words (Reports Search Cu8) within = refl
 form_of_words (Reports Json Ci16) within = refl
 form_of_words (Reports Json Cu8) within = refl
+form_of_words (Reports Evidence Ci16) within = refl
+form_of_words (Reports Evidence Cu8) within = refl
 form_of_words (Certify Ci16) within = refl
 form_of_words (Certify Cu8) within = refl
 form_of_words Check within = refl

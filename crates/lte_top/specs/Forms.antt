@@ -7,7 +7,7 @@ use Rattle.sample_file.specs.Recording.{width, samples_in}
 use Rattle.sample_file.specs.Reading.{least_bytes, most_bytes}
 use Rattle.lte_top.specs.declared.form.Form.{Form}
 use Rattle.lte_top.specs.declared.form.Form.TheVariants.{Report as Reports, Certify, Check, Transmit, Make}
-use Rattle.lte_top.specs.declared.form.Report.TheVariants.{Hits, Ids, Search, Json}
+use Rattle.lte_top.specs.declared.form.Report.TheVariants.{Hits, Ids, Search, Json, Evidence}
 use Rattle.lte_top.specs.declared.status.Status.{Status}
 use Rattle.lte_top.specs.declared.status.Status.TheVariants.{Done, Usage, Ragged, TooShort, TooLong, ReadFault, WriteFault, OutOfMemory, BadCell, BadCertificate}
 use Rattle.cell_json.specs.Reading.{refusal}
@@ -28,6 +28,7 @@ words_of (Reports Hits form) = codes "hits" ∷ samples_words form
 words_of (Reports Ids form) = codes "ids" ∷ samples_words form
 words_of (Reports Search form) = codes "search" ∷ samples_words form
 words_of (Reports Json form) = codes "search" ∷ codes "--json" ∷ samples_words form
+words_of (Reports Evidence form) = codes "evidence" ∷ samples_words form
 words_of (Certify form) = codes "certify" ∷ samples_words form
 words_of Check = codes "check" ∷ []
 words_of Transmit = codes "transmit" ∷ []

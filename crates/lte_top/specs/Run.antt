@@ -82,7 +82,7 @@ Cause input before now refusal = HasRefusal input refusal before now
 
 -- ---- how each answer comes
 
--- Done: a valid input was read to its end, and the sink took its whole output
+-- Done: a valid input was read to its end, the sink took its whole output, and no call failed
 pub record IsDone (form : Form) (before now : Outside) : Type 0 where
   pub output : List ℕ
   pub has_output : HasOutput form output before.0 now.0

@@ -33,6 +33,8 @@ pub enum Report {
     Search,
     /// `search --json`: the same as JSON.
     Json,
+    /// `evidence`: what supports each cell of the list.
+    Evidence,
 }
 
 impl Form {
@@ -49,6 +51,8 @@ impl Form {
             Some(Form::Report(Report::Search, samples))
         } else if let Some(samples) = words.samples_after_both("search", "--json") {
             Some(Form::Report(Report::Json, samples))
+        } else if let Some(samples) = words.samples_after("evidence") {
+            Some(Form::Report(Report::Evidence, samples))
         } else if let Some(samples) = words.samples_after("certify") {
             Some(Form::Certify(samples))
         } else if words.is_one("check") {

@@ -9,7 +9,7 @@ ghost use Rattle.report.specs.Hits.{ids_text};
 ghost use Rattle.report.specs.Lines.{report_text as list_text, IsValidEntry};
 ghost use Rattle.lte_top.specs.Certificates.{IsListOfCells};
 ghost use Rattle.lte_top.specs.Forms.{recording};
-ghost use Rattle.lte_top.specs.Reports.{identified, json_line, IsReport, IsTextOfList};
+ghost use Rattle.lte_top.specs.Reports.{identified, json_line, IsReport, IsTextOfList, IsTextOfEvidence};
 ghost use Rattle.lte_top.specs.Run.{Cause, HasOutput};
 ghost use Rattle.lte_top.specs.declared.form.Form.TheVariants.{Report as Reports};
 
@@ -17,10 +17,11 @@ use crate::form::Report;
 use crate::status::Status;
 use clean_air::explain_clean;
 use cs_outside::Source;
+use evidence::evidence_of_list;
 use explain::{EntryList, Workspace};
 use lte_types::Hit;
 use pss_search::{HitList, hits};
-use report::{IdentifiedHit, json, text, text_of_hits, text_of_ids};
+use report::{IdentifiedHit, json, text, text_of_evidence, text_of_hits, text_of_ids};
 use sample_file::{Recording, SampleForm, read_as};
 use sss_detect::{cell_id, frame_start, identity};
 use std::alloc::{AllocError, Global};
@@ -71,6 +72,7 @@ fn text_of_report(
         Report::Ids => ids_of(alloc, recording, hits_of(alloc, recording)?.slice()),
         Report::Search => text_of_list(alloc, recording),
         Report::Json => json_of_list(alloc, recording),
+        Report::Evidence => evidence_text(alloc, recording),
     }
 }
 
@@ -131,6 +133,15 @@ fn json_of_list(alloc: Global, recording: &Recording) -> Result<String, AllocErr
     let mut line = json(alloc, list.slice())?;
     line.push_str("\n")?;
     Ok(line)
+}
+
+// The text of what supports each entry of the list of a recording.
+fn evidence_text(alloc: Global, recording: &Recording) -> Result<String, AllocError>
+    ensures { IfOk result (λ text. IsTextOfEvidence recording.now (string_bytes text)) }
+{
+    let list = list_of(alloc, recording)?;
+    let told = evidence_of_list(alloc, recording, list.slice())?;
+    text_of_evidence(alloc, &told)
 }
 
 // The list of a recording.

@@ -15,7 +15,9 @@ pub struct Entry {
     pub ports: u8,
     /// The master block.
     pub mib: Mib,
-    /// The number of the frame whose master block was read, from the first frame on.
+    /// The count of frames, 1 to 4, whose values were summed for the master block.
+    pub frames: u8,
+    /// The number of the first of them, from the first frame on.
     pub frame: u8,
     /// That frame's number modulo 4.
     pub phase: u8,

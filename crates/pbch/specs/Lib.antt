@@ -1,4 +1,3 @@
 pub mod Values
-pub mod Frames
 pub mod Master
 pub mod Laws

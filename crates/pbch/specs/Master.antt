@@ -1,5 +1,5 @@
--- The master block that a slot tells (TS 36.212 section 5.3.1, TS 36.331 section 6.2.2).
-use Rattle.std.specs.Prelude.{ℕ, ◌*◌, ◌<◌, ◌≤◌, ◌≡◌, ◌⊎◌, nat_eq, if◌then◌else◌, Bool, List, [], ◌∷◌, slice_range, slice_index_or, ℤ, nat_abs, bit_xor, Option, None, MatchOption, length}
+-- The master block that frames tell (TS 36.212 section 5.3.1, TS 36.331 section 6.2.2).
+use Rattle.std.specs.Prelude.{ℕ, ◌+◌, ◌*◌, ◌<◌, ◌≤◌, ◌≡◌, ◌⊎◌, nat_eq, if◌then◌else◌, Bool, List, slice_index_or, ℤ, nat_abs, Option, None, MatchOption, length}
 use Rattle.finite.specs.Sums.{total_below}
 use Rattle.finite.specs.Tables.{sum_at}
 use Rattle.cs_bits.specs.Numbers.{field}
@@ -11,7 +11,7 @@ use Rattle.lte_types.specs.declared.mib.Mib.{Mib}
 use Rattle.lte_types.specs.Block.{HasFields}
 use Rattle.lte_types.specs.Codes.{bandwidth, duration, resource}
 use Rattle.pbch.specs.declared.master.Master.{Master}
-use Rattle.pbch.specs.Values.{coded_values}
+use Rattle.pbch.specs.Values.{summed_values, coded_values}
 
 -- the sum of the sizes of all values
 unfoldable pub total : List (List ℤ) → ℕ
@@ -50,28 +50,31 @@ pub record TellsMaster (values : List (List ℤ)) (master : Master) : Type 0 whe
 abbrev pub TellsNothing : List (List ℤ) → Type 0
 TellsNothing values = (word : List Bool) (ports : ℕ) → Tells values word ports → ⊥
 
--- the slot has this master at the phase
-abbrev pub IsMaster : SeenSlot → ℕ → Master → Type 0
-IsMaster slot phase master = TellsMaster (coded_values slot phase) master
+-- the slots tell this master at the phase of the first
+abbrev pub IsMaster : List SeenSlot → ℕ → Master → Type 0
+IsMaster slots phase master = TellsMaster (coded_values slots phase) master
 
--- the slot has no master at the phase
-abbrev pub HasNoMaster : SeenSlot → ℕ → Type 0
-HasNoMaster slot phase = TellsNothing (coded_values slot phase)
+-- they tell no master at it
+abbrev pub HasNoMaster : List SeenSlot → ℕ → Type 0
+HasNoMaster slots phase = TellsNothing (coded_values slots phase)
 
--- ---- at all four phases
+-- ---- at all phases
 
 -- what a list of master blocks has for a phase
 abbrev pub master_at : List (Option Master) → ℕ → Option Master
 master_at masters phase = slice_index_or masters phase None
 
--- it is what the slot tells at that phase
-abbrev pub IsTold : SeenSlot → List (Option Master) → ℕ → Type 0
-IsTold slot masters phase = MatchOption (master_at masters phase) (HasNoMaster slot phase) (IsMaster slot phase)
+-- it is what so many frames of a cell tell by what was received, where the first has that phase; none where not all of
+-- them are in one period of four
+pub record IsTold (identity count : ℕ) (received : List ℤ) (masters : List (Option Master)) (phase : ℕ) : Type 0 where
+  pub told : phase + count ≤ 4 →
+      let values = summed_values identity phase received in MatchOption (master_at masters phase) (TellsNothing values) (TellsMaster values)
+  pub beyond : 4 < phase + count → master_at masters phase ≡ None
 
--- these are the master blocks of a slot, by phase
-pub record AreMasters (slot : SeenSlot) (masters : List (Option Master)) : Type 0 where
-  pub count : length masters ≡ 4
-  pub first : IsTold slot masters 0
-  pub second : IsTold slot masters 1
-  pub third : IsTold slot masters 2
-  pub fourth : IsTold slot masters 3
+-- these are the master blocks that so many frames of a cell tell, by phase
+pub record AreMasters (identity count : ℕ) (received : List ℤ) (masters : List (Option Master)) : Type 0 where
+  pub phases : length masters ≡ 4
+  pub first : IsTold identity count received masters 0
+  pub second : IsTold identity count received masters 1
+  pub third : IsTold identity count received masters 2
+  pub fourth : IsTold identity count received masters 3

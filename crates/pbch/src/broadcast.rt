@@ -1,44 +1,36 @@
 //! The soft values of the broadcast channel.
 
-ghost use Rattle.std.specs.Prelude.{◌≡◌, ℕ, ◌+◌, ◌*◌, ◌<◌, ◌≤◌};
+ghost use Rattle.std.specs.Prelude.{◌≡◌, ℕ, ◌+◌, ◌*◌, ◌<◌, ◌≤◌, All, length, take};
+ghost use Rattle.std.specs.List.{flat_map};
 ghost use Rattle.finite.specs.Sizes.{AllWithin, RowsWithin};
-ghost use Rattle.soft_bits.specs.Soft.{SeenSlot};
-ghost use Rattle.pbch.specs.Values.{received_values, coded_values};
-ghost use Rattle.pbch.specs.Frames.{AreFrames};
+ghost use Rattle.pbch.specs.Values.{received_values, summed_values, identity_of, coded_values};
 
 use conv_code::combine;
 use grid_map::{pbch_c_init, pbch_places};
+use lte_types::CellId;
 use soft_bits::{Slot, descramble, fill_soft};
 
-/// The values of the coded word of 40 bits: at each place and in each stream the sum of the four
-/// soft values of a frame that were sent for it. `slot` is slot 1 of its frame, and `phase`, 0 to 3,
-/// the frame's number modulo 4 (TS 36.211 section 6.6, TS 36.212 section 5.3.1).
-pub fn values(slot: &Slot, phase: u8) -> [[i32; 3]; 40]
-    requires number { slot.now.number ≡ 1 }
-    requires phase { phase < 4 }
-    ensures values { result ≡ coded_values slot.now phase }
-    ensures sizes { RowsWithin 508 result }
+/// The values of the coded word of 40 bits: at each place and in each stream the sum of the soft values
+/// of all the frames that were sent for it, four of each frame. `slots` are slots 1 of 1 to 4 frames of
+/// one cell that follow one another, and `phase` is the first frame's number modulo 4; all are in one
+/// period of four frames (TS 36.211 section 6.6, TS 36.212 section 5.3.1).
+pub fn values(slots: &[Slot], phase: u8) -> [[i32; 3]; 40]
+    requires some { 0 < length slots.now }
+    requires period { phase + length slots.now ≤ 4 }
+    requires number { All (λ slot. slot.number ≡ 1) slots.now }
+    requires cell { All (λ slot. slot.identity ≡ identity_of slots.now) slots.now }
+    ensures values { result ≡ coded_values slots.now phase }
+    ensures sizes { RowsWithin 2032 result }
 {
-    sums_at(&frames(slot), phase)
-}
-
-/// The 480 soft values of a slot by the bits before scrambling, for each of the four phases of its
-/// frame: those of phase 0, then of phase 1, and so on.
-pub fn frames(slot: &Slot) -> [i16; 1920]
-    ensures values { AreFrames slot.now result }
-    ensures sizes { AllWithin 127 result }
-{
-    let received = received(slot);
-    let mut frames = [0; 1920];
-    for i in 0..1920 {
-        frames[i] = received[i % 480];
+    let mut frames = [[0; 480]; 4];
+    for i in 0..slots.len() {
+        frames[i] = received(&slots[i]);
     }
-    descramble(pbch_c_init(slot.id()), 0, &mut frames);
-    frames
+    sums_of(slots[0].id(), phase, &frames[..slots.len()])
 }
 
-// The 480 soft values of a slot.
-fn received(slot: &Slot) -> [i16; 480]
+/// The 480 soft values of the broadcast channel in slot 1 of a frame, as they were received.
+pub fn received(slot: &Slot) -> [i16; 480]
     ensures values { result ≡ received_values slot.now }
     ensures sizes { AllWithin 127 result }
 {
@@ -48,13 +40,30 @@ fn received(slot: &Slot) -> [i16; 480]
     values
 }
 
-// The sums of the frame of a phase.
-pub(crate) fn sums_at(frames: &[i16; 1920], phase: u8) -> [[i32; 3]; 40]
-    requires sizes { AllWithin 127 frames.now }
-    requires phase { phase < 4 }
-    ensures values { (slot : SeenSlot) → AreFrames slot frames.now → result ≡ coded_values slot phase }
-    ensures sizes { RowsWithin 508 result }
+/// The values of the coded word of 40 bits, as `values` gives them, from what was received in each of
+/// the frames of the cell.
+pub fn sums_of(id: CellId, phase: u8, frames: &[[i16; 480]]) -> [[i32; 3]; 40]
+    requires period { phase + length frames.now ≤ 4 }
+    requires sizes { RowsWithin 127 frames.now }
+    ensures values { result ≡ summed_values id phase (flat_map (λ frame. frame) frames.now) }
+    ensures sizes { RowsWithin 2032 result }
 {
-    let first = 480 * phase as usize;
-    combine(&frames[first..first + 480])
+    let count = 480 * frames.len();
+    let mut values = joined(frames);
+    descramble(pbch_c_init(id), 480 * phase as usize, &mut values[..count]);
+    combine(&values[..count])
+}
+
+// The values of frames, one frame after the other.
+fn joined(frames: &[[i16; 480]]) -> [i16; 1920]
+    requires few { length frames.now ≤ 4 }
+    requires sizes { RowsWithin 127 frames.now }
+    ensures values { take (480 * length frames.now) result ≡ flat_map (λ frame. frame) frames.now }
+    ensures sizes { AllWithin 127 result }
+{
+    let mut values = [0; 1920];
+    for i in 0..480 * frames.len() {
+        values[i] = frames[i / 480][i % 480];
+    }
+    values
 }

@@ -1,58 +1,64 @@
-//! The master block of a slot.
+//! The master block of frames.
 
-ghost use Rattle.std.specs.Prelude.{◌≡◌, ℕ, ◌*◌, ◌^◌, ◌<◌, ◌≤◌, nat_abs, length, slice_index_or, pos, MatchOption};
+ghost use Rattle.std.specs.Prelude.{◌≡◌, ℕ, ◌+◌, ◌*◌, ◌^◌, ◌<◌, ◌≤◌, All, nat_abs, length, slice_index_or, pos, None, MatchOption};
+ghost use Rattle.std.specs.List.{flat_map};
 ghost use Rattle.finite.specs.Sizes.{AllWithin, RowsWithin};
 ghost use Rattle.finite.specs.Sums.{total_below};
-ghost use Rattle.soft_bits.specs.Soft.{SeenSlot};
-ghost use Rattle.pbch.specs.Frames.{AreFrames};
+ghost use Rattle.pbch.specs.Values.{summed_values, identity_of};
 ghost use Rattle.pbch.specs.Master.{total, TellsMaster, TellsNothing, IsMaster, HasNoMaster, AreMasters};
 
 use crate::Master;
 use crate::block::{mib_of, ports_of};
-use crate::broadcast::{frames, sums_at, values};
+use crate::broadcast::{sums_of, values};
+use lte_types::CellId;
 use soft_bits::Slot;
 use tailbite::{Trellis, least};
 
-/// The master block that a slot tells at a phase (TS 36.212 section 5.3.1, TS 36.331 section 6.2.2);
-/// `None` exactly where it tells none: its values are all 0, or more than a quarter of them by size
-/// speaks against the least word, or that word's check passes with no mask, or the code of its
-/// bandwidth is above 5. `slot` is slot 1 of its frame, and `phase`, 0 to 3, the frame's number
-/// modulo 4.
-pub fn explain_slot(slot: &Slot, phase: u8, work: &mut Trellis) -> Option<Master>
-    requires number { slot.now.number ≡ 1 }
-    requires phase { phase < 4 }
-    ensures { MatchOption result (HasNoMaster slot.now phase) (IsMaster slot.now phase) }
+/// The master block that frames tell at a phase (TS 36.212 section 5.3.1, TS 36.331 section 6.2.2);
+/// `None` exactly where they tell none: the sums of their values are all 0, or more than a quarter of
+/// them by size speaks against the least word, or that word's check passes with no mask, or the code of
+/// its bandwidth is above 5. `slots` and `phase` are those of `values`.
+pub fn explain_slots(slots: &[Slot], phase: u8, work: &mut Trellis) -> Option<Master>
+    requires some { 0 < length slots.now }
+    requires period { phase + length slots.now ≤ 4 }
+    requires number { All (λ slot. slot.number ≡ 1) slots.now }
+    requires cell { All (λ slot. slot.identity ≡ identity_of slots.now) slots.now }
+    ensures { MatchOption result (HasNoMaster slots.now phase) (IsMaster slots.now phase) }
 {
-    master_of(&values(slot, phase), work)
+    master_of(&values(slots, phase), work)
 }
 
-/// The master blocks that a slot tells at phases 0 to 3, each as `explain_slot` gives it; the slot's
-/// soft values are made once for all four. `slot` is slot 1 of its frame.
-pub fn masters(slot: &Slot, work: &mut Trellis) -> [Option<Master>; 4]
-    requires { slot.now.number ≡ 1 }
-    ensures { AreMasters slot.now result }
+/// The master blocks that frames of a cell tell at phases 0 to 3, each as `explain_slots` gives it, from
+/// what was received in each of the frames; `None` where they would not be in one period.
+pub fn masters(id: CellId, frames: &[[i16; 480]], work: &mut Trellis) -> [Option<Master>; 4]
+    requires { RowsWithin 127 frames.now }
+    ensures { AreMasters id (length frames.now) (flat_map (λ frame. frame) frames.now) result }
 {
-    let frames = frames(slot);
     [
-        master_at(&frames, 0, work),
-        master_at(&frames, 1, work),
-        master_at(&frames, 2, work),
-        master_at(&frames, 3, work),
+        master_at(id, 0, frames, work),
+        master_at(id, 1, frames, work),
+        master_at(id, 2, frames, work),
+        master_at(id, 3, frames, work),
     ]
 }
 
-// The master block of the frame of a phase.
-fn master_at(frames: &[i16; 1920], phase: u8, work: &mut Trellis) -> Option<Master>
-    requires sizes { AllWithin 127 frames.now }
+// The master block of frames of which the first has this phase.
+fn master_at(id: CellId, phase: u8, frames: &[[i16; 480]], work: &mut Trellis) -> Option<Master>
     requires phase { phase < 4 }
-    ensures { (slot : SeenSlot) → AreFrames slot frames.now →
-        MatchOption result (HasNoMaster slot phase) (IsMaster slot phase) }
+    requires sizes { RowsWithin 127 frames.now }
+    ensures told { phase + length frames.now ≤ 4 →
+        let values = summed_values id phase (flat_map (λ frame. frame) frames.now) in
+        MatchOption result (TellsNothing values) (TellsMaster values) }
+    ensures beyond { 4 < phase + length frames.now → result ≡ None }
 {
-    master_of(&sums_at(frames, phase), work)
+    if frames.len() > 4 - phase as usize {
+        return None;
+    }
+    master_of(&sums_of(id, phase, frames), work)
 }
 
 /// The master block that the values of a coded word of 40 bits tell, at each place and in each stream
-/// one of size at most 2^20; `None` exactly where they tell none, as `explain_slot` says.
+/// one of size at most 2^20; `None` exactly where they tell none, as `explain_slots` says.
 pub fn master_of(values: &[[i32; 3]; 40], work: &mut Trellis) -> Option<Master>
     requires { RowsWithin (2 ^ 20) values.now }
     ensures { MatchOption result (TellsNothing values.now) (TellsMaster values.now) }
@@ -79,8 +85,8 @@ fn size_of(place: &[i32; 3]) -> u32
     place[0].unsigned_abs() + place[1].unsigned_abs() + place[2].unsigned_abs()
 }
 
-// The sum of the sizes of all values.
-fn total_of(values: &[[i32; 3]; 40]) -> u32
+/// The sum of the sizes of the values of a coded word of 40 bits, each of size at most 2^20.
+pub fn total_of(values: &[[i32; 3]; 40]) -> u32
     requires { RowsWithin (2 ^ 20) values.now }
     ensures { result ≡ total values.now }
 {

@@ -1,5 +1,5 @@
-//! The master block of a slot: the soft values of the broadcast channel, summed by the places of its
-//! coded word, and the block that they tell.
+//! The master block of frames: the soft values of the broadcast channel in one to four frames, summed by
+//! the places of its coded word, and the block that they tell.
 #![tactic(auto)]
 
 mod block;
@@ -8,7 +8,7 @@ mod explain;
 mod laws;
 mod master;
 
-pub use broadcast::{frames, values};
-pub use explain::{explain_slot, master_of, masters};
+pub use broadcast::{received, sums_of, values};
+pub use explain::{explain_slots, master_of, masters, total_of};
 pub use laws::at_most_one_master;
 pub use master::Master;

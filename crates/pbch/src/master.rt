@@ -1,8 +1,8 @@
-//! What a slot tells.
+//! What frames tell.
 
 use lte_types::Mib;
 
-/// The master block that a slot tells.
+/// The master block that frames tell.
 #[derive(Clone, Copy, Debug, PartialEq, Eq)]
 pub struct Master {
     /// The count of antenna ports: 1, 2 or 4.

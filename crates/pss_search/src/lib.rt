@@ -14,6 +14,7 @@ ghost use Rattle.pss_search.specs.Laws.{TestIsRight, ListIsRight, ListIsInOrder,
 
 pub use list::{HitList, hits};
 pub use measure::{Metric, Sweep};
+pub use signals::signal_power;
 
 /// The list of hits in plain words: the test of a place is the definition of a hit, each listed
 /// place is a hit and each hit is listed, the list is in order, so that none stands twice, and it has

@@ -1,6 +1,6 @@
 //! The samples of the three primary signals, and the sums of their squares.
 
-ghost use Rattle.std.specs.Prelude.{◌≡◌, ◌^◌, ◌≤◌};
+ghost use Rattle.std.specs.Prelude.{◌≡◌, ◌^◌, ◌<◌, ◌≤◌};
 ghost use Rattle.pss_search.specs.Correlation.{wave_power};
 ghost use Rattle.pss_search.specs.Folding.{half_re, half_im};
 
@@ -92,15 +92,18 @@ impl Root {
         requires { n2 ≤ 2 }
         ensures { result.n2 ≡ n2 }
     {
-        let power = power_of(n2);
+        let power = signal_power(n2);
         Root { n2, power }
     }
 }
 
-// The sum of its squares.
-fn power_of(n2: u8) -> u64
+/// The sum of the squares of the sizes of the 128 samples of a signal, by its identity within the group, 0 to 2. It
+/// is not 0, and at most 2,001,665. (own)
+pub fn signal_power(n2: u8) -> u64
     requires { n2 ≤ 2 }
-    ensures { result ≡ wave_power n2 }
+    ensures value { result ≡ wave_power n2 }
+    ensures some { 0 < result }
+    ensures few { result ≤ 2001665 }
 {
     POWERS[n2 as usize]
 }

@@ -4,3 +4,4 @@ pub mod Json
 pub mod Pieces
 pub mod Hits
 pub mod Answers
+pub mod Evidence

@@ -9,6 +9,7 @@ mod lines;
 mod listing;
 mod made;
 mod parts;
+mod supports;
 mod words;
 
 pub use answers::text_of_answers;
@@ -17,6 +18,7 @@ pub use hits::{IdentifiedHit, text_of_hits, text_of_ids};
 pub use laws::listed_lines_stand;
 pub use listing::text;
 pub use made::line_of_made;
+pub use supports::text_of_evidence;
 
 #[cfg(test)]
 mod tests;

@@ -23,6 +23,7 @@ fn entry_of(
         sfn: Sfn::new(sfn)?,
         ports: 1,
         mib,
+        frames: 1,
         frame: 0,
         phase: 0,
         cost: 0,

@@ -18,6 +18,7 @@ fn each_report_reads_8_bit_numbers(rt: HostRuntime) -> Result<(), Fail> {
         ("ids --format cu8", "ids 0\n"),
         ("search --format cu8", "cells 0\n"),
         ("search --json --format cu8", "[]\n"),
+        ("evidence --format cu8", "evidence 0\n"),
         ("certify --format cu8", ""),
     ] {
         let (status, taken) = output_of(rt.alloc(), line, quiet(rt.alloc(), 115_200)?)?;
@@ -48,5 +49,21 @@ fn no_cells_are_an_empty_array(rt: HostRuntime) -> Result<(), Fail> {
     let (status, taken) = output_of(rt.alloc(), "search --json", silence(rt.alloc(), 230_400)?)?;
     assert_eq!(rt; status, Status::Done);
     assert_eq!(rt; taken.as_slice(), b"[]\n".as_slice());
+    Ok(())
+}
+
+#[test]
+fn evidence_of_zeros_and_of_refused_lengths(rt: HostRuntime) -> Result<(), Fail> {
+    for (len, answer, output) in [
+        (0, Status::TooShort, ""),
+        (230_396, Status::TooShort, ""),
+        (230_399, Status::Ragged, ""),
+        (230_400, Status::Done, "evidence 0\n"),
+        (7_680_001, Status::TooLong, ""),
+    ] {
+        let (status, taken) = output_of(rt.alloc(), "evidence", silence(rt.alloc(), len)?)?;
+        assert_eq!(rt; status, answer, "{len} bytes");
+        assert_eq!(rt; taken.as_slice(), output.as_bytes(), "{len} bytes");
+    }
     Ok(())
 }

@@ -209,6 +209,8 @@ fn words_of_no_form_read_nothing(rt: HostRuntime) -> Result<(), Fail> {
 fn forms_of_samples_and_json_stand_in_one_order(rt: HostRuntime) -> Result<(), Fail> {
     for line in [
         "hits --json",
+        "evidence --json",
+        "search evidence",
         "--json search",
         "search --format",
         "search --format ci16",

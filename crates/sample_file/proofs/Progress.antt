@@ -191,7 +191,7 @@ pub fault_on : (form : SampleForm) (samples : List Sample) (begun : List ℕ) (b
 fault_on form samples begun before between now s same rose within = record {
   front = s.whole ++ begun;
   failed = record {
-    read = record { in_order = rw same s.read.in_order };
+    in_order = rw same s.read.in_order;
     within = within_limit form (length (s.whole ++ begun)) (rw (length-append s.whole begun, bytes_count form samples begun before between s) within);
     failed = rose;
   };

@@ -1,6 +1,6 @@
 use crate::seen::slot_of;
 use lte_types::{Bandwidth, Duration, Resource};
-use pbch::{Master, at_most_one_master, explain_slot, values};
+use pbch::{Master, at_most_one_master, explain_slots, values};
 use std::test::Fail;
 use tailbite::Trellis;
 use test_signals::{EMPTY, Rows};
@@ -52,6 +52,39 @@ const DAMAGED: Rows = [
     b"..1.....3.....1.....1.....2.....0.....3.....0.....0.....1.....0.....3...",
 ];
 
+// One port, of identity 0 in frames of phases 0 to 3, made by `scripts/frames_reference.py`: the frame of
+// phase m keeps only every fourth place of the broadcast channel, from place m on.
+const QUARTERS: [Rows; 4] = [
+    [
+        b"32....23....32....21....01....33....10....21....02....10....21....12....",
+        b".2.....1.....1.....3.....3.....1.....0.....1.....0.....0.....0.....2....",
+        b"1...0...1...0...1...0...0...2...2...2...0...0...2...1...3...2...0...0...",
+        b"0...1...1...0...2...2...2...1...1...1...0...3...1...3...1...2...0...0...",
+        b"...0.....3.....3.....3.....2.....2.....0.....1.....3.....3.....0.....0..",
+    ],
+    [
+        b"3.1...2.1...3.2...2.0...0.0...3.1...1.1...2.2...0.0...1.0...2.1...1.2...",
+        b"..1.....3.....2.....3.....1.....2.....1.....0.....0.....1.....1.....0...",
+        b".0...3...0...0...2...2...0...1...2...0...1...0...0...2...1...3...1...0..",
+        b".2...0...3...1...2...2...1...0...3...1...2...0...1...0...3...0...2...2..",
+        b"...0.....3.....3.....3.....2.....2.....0.....1.....3.....3.....0.....0..",
+    ],
+    [
+        b"3...0.2...1.3...0.2...2.0...0.3...3.1...2.2...1.0...2.1...3.2...0.1...1.",
+        b"....1.....1.....3.....1.....1.....3.....1.....3.....3.....1.....0.....0.",
+        b"..1...0...2...1...2...3...2...2...0...2...0...0...2...0...3...1...1...2.",
+        b"..2...1...0...3...0...3...1...0...2...0...1...2...0...3...1...1...2...0.",
+        b"...0.....3.....3.....3.....2.....2.....0.....1.....3.....3.....0.....0..",
+    ],
+    [
+        b"3....02....33....02....00....33....21....02....00....31....32....01....0",
+        b".....2.....2.....2.....1.....3.....3.....0.....1.....1.....0.....3.....2",
+        b"...1...2...3...1...3...1...2...0...0...1...1...0...3...0...0...2...0...2",
+        b"...0...1...3...2...1...2...1...1...1...1...2...1...0...1...1...0...1...1",
+        b"...0.....3.....3.....3.....2.....2.....0.....1.....3.....3.....0.....0..",
+    ],
+];
+
 // Nothing at all.
 const SILENCE: Rows = [EMPTY; 5];
 
@@ -71,12 +104,19 @@ fn ports_and_cost(master: Option<Master>) -> Option<(u8, u32)> {
 }
 
 #[test]
-fn a_silent_slot_has_no_master(rt: HostRuntime) -> Result<(), Fail> {
+fn silent_slots_have_no_master(rt: HostRuntime) -> Result<(), Fail> {
     let mut work = Trellis::new(rt.alloc())?;
-    let slot = slot_of(&rt, 0, 1, SILENCE);
+    let one = [slot_of(&rt, 0, 1, SILENCE)];
     for phase in 0..4_u8 {
-        assert!(rt; explain_slot(&slot, phase, &mut work).is_none());
+        assert!(rt; explain_slots(&one, phase, &mut work).is_none());
     }
+    let four = [
+        slot_of(&rt, 0, 1, SILENCE),
+        slot_of(&rt, 0, 1, SILENCE),
+        slot_of(&rt, 0, 1, SILENCE),
+        slot_of(&rt, 0, 1, SILENCE),
+    ];
+    assert!(rt; explain_slots(&four, 0, &mut work).is_none());
     at_most_one_master();
     Ok(())
 }
@@ -84,10 +124,10 @@ fn a_silent_slot_has_no_master(rt: HostRuntime) -> Result<(), Fail> {
 #[test]
 fn bandwidth_code_6_is_no_master(rt: HostRuntime) -> Result<(), Fail> {
     let mut work = Trellis::new(rt.alloc())?;
-    let slot = slot_of(&rt, 0, 1, CODE_6);
-    assert_eq!(rt; values(&slot, 1)[0], [268, -268, 268]);
+    let slots = [slot_of(&rt, 0, 1, CODE_6)];
+    assert_eq!(rt; values(&slots, 1)[0], [268, -268, 268]);
     for phase in 0..4_u8 {
-        assert!(rt; explain_slot(&slot, phase, &mut work).is_none());
+        assert!(rt; explain_slots(&slots, phase, &mut work).is_none());
     }
     Ok(())
 }
@@ -95,32 +135,32 @@ fn bandwidth_code_6_is_no_master(rt: HostRuntime) -> Result<(), Fail> {
 #[test]
 fn the_mask_tells_the_ports(rt: HostRuntime) -> Result<(), Fail> {
     let mut work = Trellis::new(rt.alloc())?;
-    let one = slot_of(&rt, 0, 1, ONE_PORT);
-    let two = slot_of(&rt, 301, 1, TWO_PORTS);
-    let four = slot_of(&rt, 503, 1, FOUR_PORTS);
+    let one = [slot_of(&rt, 0, 1, ONE_PORT)];
+    let two = [slot_of(&rt, 301, 1, TWO_PORTS)];
+    let four = [slot_of(&rt, 503, 1, FOUR_PORTS)];
     assert_eq!(rt;
-        ports_and_cost(explain_slot(&one, 0, &mut work)),
+        ports_and_cost(explain_slots(&one, 0, &mut work)),
         Some((1, 0))
     );
     assert_eq!(rt;
-        ports_and_cost(explain_slot(&two, 2, &mut work)),
+        ports_and_cost(explain_slots(&two, 2, &mut work)),
         Some((2, 0))
     );
     assert_eq!(rt;
-        ports_and_cost(explain_slot(&four, 3, &mut work)),
+        ports_and_cost(explain_slots(&four, 3, &mut work)),
         Some((4, 0))
     );
-    assert!(rt; explain_slot(&one, 1, &mut work).is_none());
-    assert!(rt; explain_slot(&two, 1, &mut work).is_none());
-    assert!(rt; explain_slot(&four, 0, &mut work).is_none());
+    assert!(rt; explain_slots(&one, 1, &mut work).is_none());
+    assert!(rt; explain_slots(&two, 1, &mut work).is_none());
+    assert!(rt; explain_slots(&four, 0, &mut work).is_none());
     Ok(())
 }
 
 #[test]
 fn a_damaged_block_is_read_at_its_cost(rt: HostRuntime) -> Result<(), Fail> {
     let mut work = Trellis::new(rt.alloc())?;
-    let slot = slot_of(&rt, 77, 1, DAMAGED);
-    let master = explain_slot(&slot, 1, &mut work).ok_or("no master")?;
+    let slots = [slot_of(&rt, 77, 1, DAMAGED)];
+    let master = explain_slots(&slots, 1, &mut work).ok_or("no master")?;
     let mib = master.mib;
     assert_eq!(rt;
         (mib.bandwidth, mib.duration),
@@ -131,5 +171,21 @@ fn a_damaged_block_is_read_at_its_cost(rt: HostRuntime) -> Result<(), Fail> {
         (Resource::Two, 165, 753)
     );
     assert_eq!(rt; (master.ports, master.cost), (4, 268));
+    Ok(())
+}
+
+#[test]
+fn four_quarters_tell_a_block_together(rt: HostRuntime) -> Result<(), Fail> {
+    let mut work = Trellis::new(rt.alloc())?;
+    let slots = [
+        slot_of(&rt, 0, 1, QUARTERS[0]),
+        slot_of(&rt, 0, 1, QUARTERS[1]),
+        slot_of(&rt, 0, 1, QUARTERS[2]),
+        slot_of(&rt, 0, 1, QUARTERS[3]),
+    ];
+    assert_eq!(rt;
+        ports_and_cost(explain_slots(&slots, 0, &mut work)),
+        Some((1, 0))
+    );
     Ok(())
 }

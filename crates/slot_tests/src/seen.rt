@@ -44,7 +44,8 @@ fn symbol_of(row: &[u8; 72]) -> [Cpx; 72]
 /// A slot with these symbols and two empty ones.
 pub(crate) fn slot_of(rt: &impl Abort, identity: u16, number: u8, rows: Rows) -> Slot
     requires { number < 20 }
-    ensures { result.number ≡ number }
+    ensures number { result.number ≡ number }
+    ensures cell { result.identity ≡ identity }
 {
     let id = CellId::new(identity).expect(rt, "in range");
     let nothing = empty_symbol();

@@ -1,9 +1,10 @@
 //! A slot as it was seen.
 
-ghost use Rattle.std.specs.Prelude.{◌≡◌, ℕ, ◌*◌, ◌^◌, ◌<◌, ◌≤◌, List};
+ghost use Rattle.std.specs.Prelude.{◌≡◌, ℕ, ◌*◌, ◌^◌, ◌<◌, ◌≤◌, List, All};
+ghost use Rattle.finite.specs.Lists.{values_below};
 ghost use Rattle.cs_num.specs.declared.Cpx.{Cpx};
 ghost use Rattle.cs_num.specs.Complex.{IsWithin, value_at};
-ghost use Rattle.soft_bits.specs.Soft.{SeenSlot, AreSmall, seen_at, channel, pilot_energy};
+ghost use Rattle.soft_bits.specs.Soft.{SeenSlot, AreSmall, seen_at, channel, pilot, pilot_energy};
 ghost use Rattle.soft_bits.specs.Kept.{IsKept};
 
 use crate::line::estimate;
@@ -132,8 +133,18 @@ impl Slot {
         estimate(&self.pilots, self.id.n2() as u8, k)
     }
 
-    // The energy of the pilots.
-    pub(crate) fn energy(&self) -> u64
+    /// The pilots: at each of the 24 reference places of symbols 0 and 4, by subcarrier, what was seen there times
+    /// the conjugate of what was sent. Components have size at most 180 * 2^25.
+    pub fn pilots(&self) -> &[Cpx; 24]
+        ensures value { result.now ≡ values_below 24 (pilot self.now) }
+        ensures small { All (IsWithin (180 * 2 ^ 25)) result.now }
+    {
+        &self.pilots
+    }
+
+    /// The energy of the pilots: the sum of the squares of the sizes of what was seen at the 24 reference places. It is
+    /// at most 24 * 2^51.
+    pub fn energy(&self) -> u64
         ensures value { result ≡ pilot_energy self.now }
         ensures small { result ≤ 24 * 2 ^ 51 }
     {

@@ -18,7 +18,7 @@ pub use reading::{BadCertificate, head, parse};
 pub use writing::to_bytes;
 
 /// The bytes of a certificate's mark and its values, which alone can break the form.
-pub const FRONT_BYTES: usize = 244;
+pub(crate) const FRONT_BYTES: usize = 244;
 
 /// The bytes of a certificate up to the set of the start states that have a table, which tells the rest.
 pub const HEAD_BYTES: usize = 10_501;

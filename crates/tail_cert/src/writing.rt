@@ -74,7 +74,7 @@ fn put_row(row: &[u32; 64], at: usize, out: &mut [u8])
     LittleEndian::write_u32_into(row, &mut out[at..at + 256]);
 }
 
-/// Writes the entries of a start state.
+/// Writes the entries of a table.
 fn put_table(table: &Table, at: usize, out: &mut [u8])
     requires { at + 10240 ≤ length out.old }
     ensures bytes { out.new ≡ with_piece at (table_bytes table.now) out.old }

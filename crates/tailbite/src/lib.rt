@@ -14,7 +14,7 @@ mod trellis;
 
 pub use laws::{one_least_word, values_tell_the_word};
 pub use search::least;
-pub use steps::{before, branch, forward_row, next};
+pub use steps::{before, branch, next};
 pub use trellis::Trellis;
 
 #[cfg(test)]

@@ -7,8 +7,6 @@ ghost use Rattle.tailbite.specs.Machine.{bit_to, branch_cost, first_from, forwar
 
 use conv_code::against;
 
-const STATES: usize = 64;
-
 /// The three coded bits of a step from state x by the bit b.
 fn coded_bits(x: usize, b: bool) -> [bool; 3]
     requires { x < 64 }
@@ -59,37 +57,4 @@ pub fn before(x: usize) -> (usize, usize, bool)
 {
     let first = 2 * (x % 32);
     (first, first + 1, x / 32 == 1)
-}
-
-/// The least cost to the state x, where the row has that to each state one step before.
-fn forward_at(values: &[i32; 3], row: &[u32; 64], x: usize) -> u32
-    requires state { x < 64 }
-    requires sizes { AllWithin (2 ^ 20) values.now }
-    requires room { (y : ℕ) → y < 64 → slice_index row.now y ≤ 2 ^ 31 }
-    ensures least { result ≡ forward_least values.now row.now x }
-    ensures growth { (n : ℕ) → AllWithin n values.now →
-        result ≤ slice_index row.now (first_from x) + 3 * n }
-{
-    let (first, second, newest) = before(x);
-    let by_first = row[first] + branch(values, first, newest);
-    let by_second = row[second] + branch(values, second, newest);
-    by_first.min(by_second)
-}
-
-/// The row of least costs to each of the 64 states, one step on: for each state the lesser of the two costs
-/// by which a step leads there, from a row of costs one step before. These are at most 2^31, and the three
-/// values of the step's place at most 2^20 in size.
-pub fn forward_row(values: &[i32; 3], row: &[u32; 64]) -> [u32; 64]
-    requires sizes { AllWithin (2 ^ 20) values.now }
-    requires room { (y : ℕ) → y < 64 → slice_index row.now y ≤ 2 ^ 31 }
-    ensures least { (x : ℕ) → x < 64 → slice_index result x ≡ forward_least values.now row.now x }
-    ensures growth { (n : ℕ) → AllWithin n values.now →
-        (x : ℕ) → x < 64 → slice_index result x ≤ slice_index row.now (first_from x) + 3 * n }
-    ensures size { length result ≡ 64 }
-{
-    let mut later = [0; STATES];
-    for x in 0..STATES {
-        later[x] = forward_at(values, row, x);
-    }
-    later
 }

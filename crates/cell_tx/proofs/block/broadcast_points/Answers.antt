@@ -7,8 +7,9 @@ use Rattle.gold.specs.Gold.{gold_bits}
 use Rattle.gold.proofs.Bits.{get_or-gold_bits}
 use Rattle.conv_code.specs.Code.{coded_word}
 use Rattle.conv_code.specs.Reading.{bit_at_place, place_of}
+use Rattle.cell_tx.specs.declared.antenna.Port.{Port}
 use Rattle.cell_tx.specs.declared.cell.CellPlan.{CellPlan}
-use Rattle.cell_tx.specs.Block.{scrambled_bit, broadcast_word, broadcast_bit, broadcast_point}
+use Rattle.cell_tx.specs.Block.{scrambled_bit, port_word, port_bit, port_point}
 use Rattle.cell_tx.proofs.Word.{broadcast_word-length}
 use Rattle.cell_tx.proofs.block.broadcast_points.Goals as goal
 
@@ -18,30 +19,31 @@ bit_is : (c_init size count n : ℕ) (word : List Bool) (coded : List (List Bool
 bit_is c_init size count n word coded scrambling e f g inside = rw (sym e, f, g, get_or-gold_bits c_init count n false inside) refl
 
 -- bit i of a frame
-frame_bit : (plan : CellPlan) (sfn i n : ℕ) → n ≡ 480 * (sfn % 4) + i → scrambled_bit plan.identity (broadcast_word plan sfn) n ≡ broadcast_bit plan sfn i
-unfolding broadcast_bit
-frame_bit plan sfn i n e = rw e refl
+frame_bit : (port : Port) (plan : CellPlan) (sfn i n : ℕ) → n ≡ 480 * (sfn % 4) + i → scrambled_bit plan.identity (port_word port plan sfn) n ≡ port_bit port plan sfn i
+unfolding port_bit
+frame_bit port plan sfn i n e = rw e refl
 
 pub loop-i-preserved : goal.loop-i-preserved
-unfolding broadcast_point
+unfolding port_point
 loop-i-preserved c =
+    let port = c.args.port in
     let plan = c.args.cell.now in
     let i : ℕ = c.loop-i.i in
     let n : ℕ = 480 * (c.value.result % 4) + 2 * i in
     let coded = c.encode-coded.ensures ∙ ap coded_word c.word_of.ensures in
     let scrambling = c.fill.ensures ∙ ap (λ (c_init : ℕ). gold_bits c_init 1920) (c.pbch_c_init.ensures.value ∙ c.id.ensures.value) in
-    let word : List Bool = broadcast_word plan c.args.sfn in
-    let size = broadcast_word-length plan c.args.sfn in
+    let word : List Bool = port_word port plan c.args.sfn in
+    let size = broadcast_word-length port plan c.args.sfn in
     let number : c.value.result ≡ c.args.sfn = c.value.ensures.value in
-    let first = c.scrambled.ensures ∙ bit_is plan.identity 40 1920 n word _ _ size coded scrambling (omega arith) ∙ frame_bit plan c.args.sfn (2 * i) n (omega (arith, number)) in
-    let second = c.scrambled-in-loop-i.ensures ∙ bit_is plan.identity 40 1920 (n + 1) word _ _ size coded scrambling (omega arith) ∙ frame_bit plan c.args.sfn (2 * i + 1) (n + 1) (omega (arith, number)) in
-    let here : c.point.result ≡ broadcast_point plan c.args.sfn i = c.point.ensures.point ∙ rw (first, second) refl in
+    let first = c.scrambled.ensures ∙ bit_is plan.identity 40 1920 n word _ _ size coded scrambling (omega arith) ∙ frame_bit port plan c.args.sfn (2 * i) n (omega (arith, number)) in
+    let second = c.scrambled-in-loop-i.ensures ∙ bit_is plan.identity 40 1920 (n + 1) word _ _ size coded scrambling (omega arith) ∙ frame_bit port plan c.args.sfn (2 * i + 1) (n + 1) (omega (arith, number)) in
+    let here : c.point.result ≡ port_point port plan c.args.sfn i = c.point.ensures.point ∙ rw (first, second) refl in
     record {
       whole = length-set c.loop-i.points i _ ∙ c.loop-i.invariant.whole;
-      each = rw here (fill_by_more (broadcast_point plan c.args.sfn) c.loop-i.points i nothing (omega (arith, c.loop-i.invariant.whole)) c.loop-i.invariant.each);
+      each = rw here (fill_by_more (port_point port plan c.args.sfn) c.loop-i.points i nothing (omega (arith, c.loop-i.invariant.whole)) c.loop-i.invariant.each);
     }
 
 pub returns : goal.returns
 returns c =
-    fill_by_all (broadcast_point c.args.cell.now c.args.sfn) c.loop-i.points 240 nothing c.loop-i.invariant.whole
+    fill_by_all (port_point c.args.port c.args.cell.now c.args.sfn) c.loop-i.points 240 nothing c.loop-i.invariant.whole
     (λ k inside. c.loop-i.invariant.each k (omega (arith, inside, c.loop-i-test.false)))

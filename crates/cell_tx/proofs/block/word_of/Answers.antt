@@ -1,11 +1,11 @@
-use Rattle.std.proofs.Common.{◌≡◌, ℕ, ◌/◌, ◌++◌, List, Bool, take, arith, refl, ap, ◌∙◌, sym, bit_xor}
-use Rattle.std.specs.Int.Bits.{xor_zero_r}
+use Rattle.std.proofs.Common.{◌≡◌, ℕ, ◌/◌, ◌++◌, List, Bool, take, arith, refl, ap, ap₂, ◌∙◌, sym, bit_xor}
 use Rattle.std.proofs.lemmas.List.{take_all}
 use Rattle.lte_types.specs.Codes.{duration_code, resource_code}
 use Rattle.cs_bits.specs.Numbers.{bits_of}
 use Rattle.cs_bits.specs.Checks.{crc16_of}
 use Rattle.cell_tx.specs.declared.cell.CellPlan.{CellPlan}
-use Rattle.cell_tx.specs.Block.{block_bits, broadcast_word}
+use Rattle.cell_tx.specs.Ports.{port_mask}
+use Rattle.cell_tx.specs.Block.{block_bits, port_word}
 use Rattle.cell_tx.proofs.block.word_of.Goals as goal
 
 -- bits after other bits
@@ -13,7 +13,7 @@ next : (width number value : ℕ) (front more whole : List Bool) → whole ≡ f
 next width number value front more whole e f g = rw (e, f, g) refl
 
 pub returns : goal.returns
-unfolding broadcast_word block_bits
+unfolding port_word block_bits
 returns c =
     let plan = c.args.cell.now in
     let first : take 3 c.put_bits.new.bits ≡ bits_of 3 0 = c.put_bits.ensures.bits ∙ ap (bits_of 3) c.code.ensures.value in
@@ -21,6 +21,7 @@ returns c =
     let third = next 2 _ (resource_code plan.resource) _ _ _ c.put_bits-3.ensures.bits (c.code-3.ensures.value ∙ ap (λ (p : CellPlan). resource_code p.resource) c.plan-plan.ensures.plan) second in
     let fourth = next 8 _ (c.args.sfn / 4) _ _ _ c.put_bits-4.ensures.bits (ap (λ (n : ℕ). n / 4) c.value.ensures.value) third in
     let fifth = next 10 _ plan.spare _ _ _ c.put_bits-5.ensures.bits (ap (λ (p : CellPlan). p.spare) c.plan-plan.ensures.plan) fourth in
-    let sixth = next 16 _ (bit_xor (crc16_of (block_bits plan c.args.sfn)) 0) _ _ _ c.put_bits-6.ensures.bits (c.crc16-check.ensures ∙ ap crc16_of fifth ∙ sym (xor_zero_r _)) fifth in
+    let sixth = next 16 _ (bit_xor (crc16_of (block_bits plan c.args.sfn)) (port_mask c.args.port)) _ _ _ c.put_bits-6.ensures.bits
+    (ap₂ bit_xor (c.crc16.ensures ∙ ap crc16_of fifth) c.mask.ensures) fifth in
     c.new.ensures ∙ sym (take_all 40 c.put_bits-6.new.bits (let a = c.put_bits.ensures.count in let b = c.put_bits-2.ensures.count in let d = c.put_bits-3.ensures.count in
     let e = c.put_bits-4.ensures.count in let f = c.put_bits-5.ensures.count in let g = c.put_bits-6.ensures.count in omega (arith, a, b, d, e, f, g))) ∙ sixth

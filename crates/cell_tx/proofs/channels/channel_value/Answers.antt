@@ -15,20 +15,20 @@ is_later value z result option e f g = g ∙ ap (λ o. unwrap_or o z) (sym e ∙
 pub returns-in-Some : goal.returns-in-Some
 returns-in-Some c =
     is_first c.in-Some.value _ c.broadcast_at.result _ c.in-Some.is c.broadcast_at.ensures
-    ∙ sym (channel_is c.args.signals.now.cell.now c.args.signals.now.sfn c.args.subframe c.args.here.symbol c.args.here.k)
+    ∙ sym (channel_is c.args.signals.now.port c.args.signals.now.cell.now c.args.signals.now.sfn c.args.subframe c.args.here.symbol c.args.here.k)
 
 pub returns-in-Some-indicator_at : goal.returns-in-Some-indicator_at
 returns-in-Some-indicator_at c =
     is_later c.in-Some-indicator_at.value _ c.broadcast_at.result _ c.in_default.is c.broadcast_at.ensures
     (is_first c.in-Some-indicator_at.value _ c.indicator_at.result _ c.in-Some-indicator_at.is c.indicator_at.ensures)
-    ∙ sym (channel_is c.args.signals.now.cell.now c.args.signals.now.sfn c.args.subframe c.args.here.symbol c.args.here.k)
+    ∙ sym (channel_is c.args.signals.now.port c.args.signals.now.cell.now c.args.signals.now.sfn c.args.subframe c.args.here.symbol c.args.here.k)
 
 pub returns-in-Some-control_at : goal.returns-in-Some-control_at
 returns-in-Some-control_at c =
     is_later c.in-Some-control_at.value _ c.broadcast_at.result _ c.in_default.is c.broadcast_at.ensures
     (is_later c.in-Some-control_at.value _ c.indicator_at.result _ c.in_default-indicator_at.is c.indicator_at.ensures
     (is_first c.in-Some-control_at.value _ c.control_at.result _ c.in-Some-control_at.is c.control_at.ensures))
-    ∙ sym (channel_is c.args.signals.now.cell.now c.args.signals.now.sfn c.args.subframe c.args.here.symbol c.args.here.k)
+    ∙ sym (channel_is c.args.signals.now.port c.args.signals.now.cell.now c.args.signals.now.sfn c.args.subframe c.args.here.symbol c.args.here.k)
 
 pub returns : goal.returns
 returns c =
@@ -36,4 +36,4 @@ returns c =
     (is_later c.unwrap_or.result _ c.indicator_at.result _ c.in_default-indicator_at.is c.indicator_at.ensures
     (is_later c.unwrap_or.result _ c.control_at.result _ c.in_default-control_at.is c.control_at.ensures
     (c.unwrap_or.ensures ∙ ap (λ o. unwrap_or o nothing) c.shared_at.ensures)))
-    ∙ sym (channel_is c.args.signals.now.cell.now c.args.signals.now.sfn c.args.subframe c.args.here.symbol c.args.here.k)
+    ∙ sym (channel_is c.args.signals.now.port c.args.signals.now.cell.now c.args.signals.now.sfn c.args.subframe c.args.here.symbol c.args.here.k)

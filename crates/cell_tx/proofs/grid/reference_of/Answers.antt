@@ -1,8 +1,13 @@
-use Rattle.cell_tx.proofs.Elements.{pilot_found, pilot_not_found}
+use Rattle.std.proofs.Common.{◌∙◌}
+use Rattle.cell_tx.specs.declared.antenna.Port.TheVariants.{Only, First, Second}
+use Rattle.cell_tx.proofs.Elements.{pilot_is}
 use Rattle.cell_tx.proofs.grid.reference_of.Goals as goal
 
-pub returns-then-k-pilots : goal.returns-then-k-pilots
-returns-then-k-pilots c identity slot symbol row is = pilot_found c.args.pilots.now identity slot symbol c.args.k row is c.requires c.if-k-pilots.true
+pub returns-in-Only : goal.returns-in-Only
+returns-in-Only c identity slot symbol row is = rw c.in-Only.is (c.value_or.ensures ∙ pilot_is c.args.pilots.now identity slot symbol c.args.k row is Only c.requires)
 
-pub returns-else-k-pilots : goal.returns-else-k-pilots
-returns-else-k-pilots c identity slot symbol row is = pilot_not_found c.args.pilots.now identity slot symbol c.args.k row is c.if-k-pilots.false
+pub returns-in-First : goal.returns-in-First
+returns-in-First c identity slot symbol row is = rw c.in-First.is (c.value_or-in-First.ensures ∙ pilot_is c.args.pilots.now identity slot symbol c.args.k row is First c.requires)
+
+pub returns-in-Second : goal.returns-in-Second
+returns-in-Second c identity slot symbol row is = rw c.in-Second.is (c.value_or-in-Second.ensures ∙ pilot_is c.args.pilots.now identity slot symbol c.args.k row is Second c.requires)

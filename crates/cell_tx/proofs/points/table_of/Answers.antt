@@ -1,4 +1,4 @@
-use Rattle.std.proofs.Common.{arith, refl, inl, ℕ, ◌≡◌, ◌+◌, ◌*◌, ◌/◌, ◌%◌, ◌<◌, ◌∙◌, List, length, get_or, subst, ap₂}
+use Rattle.std.proofs.Common.{arith, refl, inl, ℕ, ◌≡◌, ◌+◌, ◌*◌, ◌/◌, ◌%◌, ◌<◌, List, length, get_or, subst, ap₂}
 use Rattle.std.proofs.lemmas.List.{get_or-replicate}
 use Rattle.grid_map.specs.declared.Place.{Place}
 use Rattle.grid_map.specs.Place.{place, index_in}

@@ -1,7 +1,7 @@
 use Rattle.std.proofs.Common.{◌≡◌, ℕ, ◌+◌, ◌/◌, ◌%◌, ◌<◌, ◌≤◌, List, arith, ap, sym, ◌∙◌, length-set, get_or-set_other}
 use Rattle.cs_num.specs.declared.Sample.{Sample}
 use Rattle.cs_num.specs.Complex.{silence}
-use Rattle.cell_tx.specs.Grid.{element}
+use Rattle.cell_tx.specs.Grid.{port_element}
 use Rattle.cell_tx.specs.Sent.{slot_sample, frame_sample, sample_of}
 use Rattle.cell_tx.specs.Rows.{first_sample}
 use Rattle.cell_tx.proofs.Symbols.{frame_sample_is, slot_of_symbol}
@@ -10,7 +10,7 @@ use Rattle.cell_tx.proofs.sending.put_symbol.Goals as goal
 
 pub loop-i-preserved : goal.loop-i-preserved
 loop-i-preserved c =
-    let grid = element c.args.signals.now.cell.now in
+    let grid = port_element c.args.signals.now.port c.args.signals.now.cell.now in
     let sfn : ℕ = c.args.signals.now.sfn in
     let i : ℕ = c.loop-i.i in
     let out : List Sample = c.loop-i.out in

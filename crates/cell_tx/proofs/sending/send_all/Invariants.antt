@@ -1,11 +1,12 @@
-use Rattle.std.proofs.Common.{◌≡◌, ◌+◌, ◌-◌, ◌<◌}
+use Rattle.std.proofs.Common.{◌≡◌, ◌+◌, length}
 use Rattle.cell_tx.specs.Grid.{element}
-use Rattle.cell_tx.specs.Sent.{number_of, received, gain_of}
-use Rattle.cell_tx.specs.Rows.{frame_samples, HasSamples}
+use Rattle.cell_tx.specs.Sent.{sent, received, gain_of}
+use Rattle.cell_tx.specs.Rows.{HasSamples}
 use Rattle.cell_tx.proofs.sending.send_all.Given as goal
 
 abbrev pub invariant-loop-i : goal.invariant-loop-i
 invariant-loop-i l = record {
+  whole : length l.out ≡ l.t.samples;
   done : HasSamples l.out (received l.t.cell l.t.sfn l.t.offset (gain_of l.t.gain)) 0 l.i;
-  frame : 0 < l.i → l.clean ≡ frame_samples (element l.t.cell) (number_of l.t.sfn (l.i - 1 + l.t.offset));
+  left : HasSamples l.out (λ n. sent (element l.t.cell) l.t.sfn (n + l.t.offset)) l.i l.t.samples;
 }

@@ -1,8 +1,7 @@
-use Rattle.std.proofs.Common.{◌≡◌, ◌+◌, List, Bool, ap, ap₂, sym, ◌∙◌, arith}
-use Rattle.cs_bits.specs.Checks.{with_check_24}
+use Rattle.std.proofs.Common.{◌≡◌, ◌+◌, List, Bool, ap, ap₂, sym, ◌∙◌}
 use Rattle.turbo_code.specs.declared.rows.Row.{Row}
 use Rattle.turbo_code.specs.Encoder.{coded}
-use Rattle.cell_tx.specs.Shared.{row_with}
+use Rattle.cell_tx.specs.Transport.{row_with}
 use Rattle.cell_tx.proofs.BlockRows.{row_with_is}
 use Rattle.cell_tx.proofs.shared.coded_block.Goals as goal
 
@@ -10,5 +9,4 @@ pub returns-clause-d : goal.returns-clause-d
 returns-clause-d c =
     let found = c.in-Some.ensures in
     let row : c.in-Some.row ≡ row_with (c.args.size + 24) = sym (ap row_with (sym found.1) ∙ row_with_is c.in-Some.row found.0) in
-    let word = c.put_check.ensures ∙ ap with_check_24 (c.filled-word.ensures c.args.size c.requires.fits (let r = c.requires.room in omega (arith, r))) in
-    c.encode.ensures.d ∙ ap₂ (λ (r : Row) (bits : List Bool). coded r bits) row word
+    c.encode.ensures.d ∙ ap₂ (λ (r : Row) (bits : List Bool). coded r bits) row c.checked_block.ensures

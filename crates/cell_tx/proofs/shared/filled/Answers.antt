@@ -1,6 +1,6 @@
 use Rattle.std.proofs.Common.{◌≡◌, ℕ, ◌+◌, ◌-◌, ◌≤◌, Bool, false, List, ◌++◌, length, take, drop, replicate, ap, sym, ◌∙◌, append_assoc, arith}
 use Rattle.std.proofs.lemmas.List.{take_at, drop-replicate, replicate-append-replicate, length-append, length-replicate}
-use Rattle.cell_tx.specs.Shared.{filled}
+use Rattle.cell_tx.specs.Transport.{filled}
 use Rattle.cell_tx.proofs.shared.filled.Goals as goal
 
 zeros_behind : (text : List Bool) (size : ℕ) → length text ≤ size → size ≤ 1024 → take size (text ++ drop (length text) (replicate 1024 false)) ≡ filled size text

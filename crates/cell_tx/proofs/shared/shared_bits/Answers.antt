@@ -3,7 +3,7 @@ use Rattle.std.proofs.lemmas.List.FromFn.{fill_by_all}
 use Rattle.std.proofs.lemmas.List.Edits.{fill_by_more}
 use Rattle.turbo_code.specs.Reading.{bit_of, place_of}
 use Rattle.cell_tx.specs.declared.cell.CellPlan.{CellPlan}
-use Rattle.cell_tx.specs.Plan.{checked_size}
+use Rattle.cell_tx.specs.Transport.{checked_size}
 use Rattle.cell_tx.specs.Control.{version_of}
 use Rattle.cell_tx.specs.Shared.{shared_coded, shared_bit}
 use Rattle.cell_tx.proofs.shared.shared_bits.Goals as goal

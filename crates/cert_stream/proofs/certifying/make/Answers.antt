@@ -1,4 +1,4 @@
-use Rattle.std.proofs.Common.{◌≡◌, ◌∙◌, ap, take, arith, length}
+use Rattle.std.proofs.Common.{◌∙◌, ap, take, arith, length}
 use Rattle.cert_stream.proofs.Certified.{certifies_filled, written_back}
 use Rattle.cert_stream.proofs.certifying.make.Goals as goal
 

@@ -1,4 +1,4 @@
-use Rattle.std.proofs.Common.{◌≡◌, ◌≤◌, ◌∙◌, sym, arith, length, length-take-le}
+use Rattle.std.proofs.Common.{◌∙◌, sym, arith, length-take-le}
 use Rattle.cert_stream.proofs.Certified.{tables_most}
 use Rattle.cert_stream.proofs.certifying.put.Goals as goal
 

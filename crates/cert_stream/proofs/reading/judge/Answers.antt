@@ -1,4 +1,4 @@
-use Rattle.std.proofs.Common.{◌≡◌, ◌∙◌, refl, arith, inl, inr}
+use Rattle.std.proofs.Common.{◌∙◌, refl, arith, inl, inr}
 use Rattle.cert_stream.proofs.Fronts.{first_of_front, sound_by_end, sound_by_head}
 use Rattle.cert_stream.proofs.reading.judge.Goals as goal
 

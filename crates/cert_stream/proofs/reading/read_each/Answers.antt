@@ -1,9 +1,8 @@
-use Rattle.std.proofs.Common.{◌≡◌, ◌<◌, ◌≤◌, ◌+◌, [], ◌∷◌, ◌++◌, arith, refl, ap, sym, subst, length, take, length-take, inl}
-use Rattle.tail_cert.specs.Form.{count_of}
+use Rattle.std.proofs.Common.{◌≡◌, ◌+◌, arith, refl, length, take, length-take, inl}
 use Rattle.tail_cert.proofs.Whole.{count_most}
 use Rattle.cs_outside.proofs.Faults.{rose_later}
 use Rattle.cert_stream.proofs.Fronts.{aim_least, read_fits}
-use Rattle.cert_stream.proofs.Progress.{fault_on, whole_on, early_on, broken_or_past, past_on, part_on, judged_to, sound_but_last, whole_but_last}
+use Rattle.cert_stream.proofs.Progress.{fault_on, early_on, broken_or_past, past_on, judged_to, sound_but_last, whole_but_last}
 use Rattle.cert_stream.proofs.reading.read_each.Goals as goal
 
 pub read_at-requires-clause-room : goal.read_at-requires-clause-room

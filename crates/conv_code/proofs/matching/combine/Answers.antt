@@ -12,7 +12,7 @@ loop-i-init g c = sums_none g.row.N 3 (2 ^ 15) _ _ c.args.values.now
 
 pub loop-i-preserved : goal.loop-i-preserved
 loop-i-preserved g c =
-    let at = c.place_in.ensures in
+    let at = c.place_by.ensures in
     rw c.add_at.ensures.sum
     (sums_more g.row.N 3 (2 ^ 15) (λ i. (place_of g.row.N i).place) (λ i. (place_of g.row.N i).stream) c.args.values.now c.loop-i.i c.loop-i.sums _ _ _
     (ap (λ (p : Place). p.place) at.place) (ap (λ (p : Place). p.stream) at.place) at.inside at.below_three refl c.add_at.ensures.size c.loop-i.invariant)

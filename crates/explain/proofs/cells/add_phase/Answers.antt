@@ -1,5 +1,6 @@
-use Rattle.std.proofs.Common.{◌∷◌, [], ap, sym, subst}
+use Rattle.std.proofs.Common.{◌∙◌, ◌∷◌, [], None, ap, arith, sym, subst}
 use Rattle.std.specs.Prelude.{Err}
+use Rattle.std.proofs.lemmas.List.{get_or_default}
 use Rattle.lte_types.specs.declared.sib1_reason.Sib1Reason.TheVariants.{NotDecoded}
 use Rattle.lte_types.specs.declared.entry.Entry.{Entry}
 use Rattle.explain.specs.Entries.{Adds}
@@ -10,8 +11,10 @@ use Rattle.explain.proofs.cells.add_phase.Goals as goal
 
 pub returns-in-Some-clause-adds : goal.returns-in-Some-clause-adds
 returns-in-Some-clause-adds c =
+    let m = c.args.masters.now in
     let entry = c.entry_of.result in
-    subst (λ m. AddsPhase (IsSystemOf c.args.recording.now) c.args.id c.args.start c.args.frame c.args.phase m c.args.list.now c.add.new.self) (sym c.in-Some.is)
+    let here = sym c.in-Some.is ∙ get_or_default m.at c.args.phase c.index-masters-phase.result None (let count = c.requires.count in let known = c.requires.phase in omega (arith, count, known)) in
+    subst (λ o. AddsPhase (IsSystemOf c.args.recording.now) c.args.id c.args.start m.frames m.frame c.args.phase o c.args.list.now c.add.new.self) here
     (record {
       sib1 = entry.sib1;
       told = subst (λ n. IsSystemOf c.args.recording.now c.args.id c.args.start n c.in-Some.master.ports c.in-Some.master.mib entry.sib1) (ap (λ (e : Entry). e.sfn) c.entry_of.ensures.entry) c.entry_of.ensures.system;
@@ -20,5 +23,7 @@ returns-in-Some-clause-adds c =
 
 pub returns-in-None-clause-adds : goal.returns-in-None-clause-adds
 returns-in-None-clause-adds c =
-    subst (λ m. AddsPhase (IsSystemOf c.args.recording.now) c.args.id c.args.start c.args.frame c.args.phase m c.args.list.now c.args.list.now) (sym c.in-None.is)
+    let m = c.args.masters.now in
+    let here = sym c.in-None.is ∙ get_or_default m.at c.args.phase c.index-masters-phase.result None (let count = c.requires.count in let known = c.requires.phase in omega (arith, count, known)) in
+    subst (λ o. AddsPhase (IsSystemOf c.args.recording.now) c.args.id c.args.start m.frames m.frame c.args.phase o c.args.list.now c.args.list.now) here
     (record { sib1 = Err NotDecoded; told = tt; adds = adds_none c.args.list.now })

@@ -1,30 +1,51 @@
-use Rattle.std.proofs.Common.{arith, refl, sym, subst, below_more}
-use Rattle.pbch.specs.Master.{AreMasters}
+use Rattle.std.proofs.Common.{◌≡◌, ◌≤◌, pos, nat_abs, arith, sym, subst, below_more}
+use Rattle.std.proofs.lemmas.List.Elements.{All-replicate}
+use Rattle.finite.specs.Sizes.{AllWithin}
 use Rattle.explain.specs.Window.{IsMasterAt}
-use Rattle.explain.proofs.FirstFrame.{broadcast_number, whole_before, no_master, has_one, told_in_frame}
+use Rattle.explain.specs.Masters.{AreFirstWith}
+use Rattle.explain.specs.Received.{NoneTell}
+use Rattle.explain.proofs.Received.{first_with, no_masters}
 use Rattle.explain.proofs.masters.first_masters.Goals as goal
 
-pub returns-then-not-is_whole : goal.returns-then-not-is_whole
-returns-then-not-is_whole c j phase master inside known =
-    c.loop-frame.invariant j phase master (whole_before c.args.recording.now c.args.start j c.loop-frame.frame c.if-not-is_whole.ensures.1 inside.whole) known
+pub first_alone-requires-clause-sizes : goal.first_alone-requires-clause-sizes
+first_alone-requires-clause-sizes c = All-replicate (AllWithin 127) 8 _ (All-replicate (λ value. nat_abs value ≤ 127) 480 (pos 0) (omega arith))
 
-pub masters-at-requires : goal.masters-at-requires
-masters-at-requires c =
-    rw c.broadcast_slot.ensures (broadcast_number c.args.recording.now c.args.id c.args.start c.loop-frame.frame)
+pub returns-in-Some : goal.returns-in-Some
+returns-in-Some c =
+    let recording = c.args.recording.now in
+    let whole = c.whole_frames-whole in
+    let found = c.in-Some.found in
+    let (counts, first) = c.in-Some.ensures.found in
+    subst (λ n. AreFirstWith (IsMasterAt recording) recording c.args.id c.args.start n found.frame found.at) (sym counts)
+    (first_with recording c.args.id c.args.start whole.result whole.ensures.few whole.ensures.whole whole.ensures.all 1 found.frame found.at (omega arith) (omega arith)
+    (λ fewer some less. absurd (omega (arith, some, less))) first)
 
-pub returns-then-has_master : goal.returns-then-has_master
-returns-then-has_master c = record {
-  frame = record { inside = record { known = omega arith; whole = c.if-not-is_whole.ensures.0 refl }; first = c.loop-frame.invariant };
-  are = told_in_frame c.args.recording.now c.args.id c.args.start c.loop-frame.frame c.masters-at.result (subst (λ s. AreMasters s c.masters-at.result) c.broadcast_slot.ensures c.masters-at.ensures);
-  some = has_one c.masters-at.result (sym c.if-has_master.ensures);
-}
+pub loop-frames-init : goal.loop-frames-init
+loop-frames-init c count some below =
+    let one : 1 ≡ count = omega (arith, some, below) in
+    subst (NoneTell c.args.recording.now c.args.id c.args.start c.whole_frames-whole.result) one c.in-None.ensures.found
 
-pub loop-frame-preserved : goal.loop-frame-preserved
-loop-frame-preserved c i phase master below known =
-    let told = told_in_frame c.args.recording.now c.args.id c.args.start c.loop-frame.frame c.masters-at.result (subst (λ s. AreMasters s c.masters-at.result) c.broadcast_slot.ensures c.masters-at.ensures) in
-    below_more (λ j. IsMasterAt c.args.recording.now c.args.id c.args.start j phase master → ⊥) c.loop-frame.frame
-    (λ j l. c.loop-frame.invariant j phase master l known)
-    (no_master (IsMasterAt c.args.recording.now) c.args.id c.args.start c.loop-frame.frame c.masters-at.result told (sym c.if-has_master.ensures) phase known master) i below
+pub returns-in-Some-first_of : goal.returns-in-Some-first_of
+returns-in-Some-first_of c =
+    let recording = c.args.recording.now in
+    let whole = c.whole_frames-whole in
+    let found = c.in-Some-first_of.found in
+    let test = c.loop-frames-test.true in
+    let from = c.loop-frames.auto in
+    let (counts, first) = c.in-Some-first_of.ensures recording c.args.start c.in-None.ensures.received in
+    subst (λ n. AreFirstWith (IsMasterAt recording) recording c.args.id c.args.start n found.frame found.at) (sym counts)
+    (first_with recording c.args.id c.args.start whole.result whole.ensures.few whole.ensures.whole whole.ensures.all c.loop-frames.frames found.frame found.at (omega arith) (omega (arith, test))
+    c.loop-frames.invariant first)
+
+pub loop-frames-preserved : goal.loop-frames-preserved
+loop-frames-preserved c count some below =
+    let recording = c.args.recording.now in
+    below_more (λ n. 1 ≤ n → NoneTell recording c.args.id c.args.start c.whole_frames-whole.result n) c.loop-frames.frames (λ n less one. c.loop-frames.invariant n one less)
+    (λ one. c.in-None-first_of.ensures recording c.args.start c.in-None.ensures.received) count below some
 
 pub returns : goal.returns
-returns c j phase master inside known = c.loop-frame.invariant j phase master (omega (arith, inside.known, c.loop-frame-test.false)) known
+returns c =
+    let whole = c.whole_frames-whole in
+    let test = c.loop-frames-test.false in
+    no_masters c.args.recording.now c.args.id c.args.start whole.result whole.ensures.few whole.ensures.whole whole.ensures.all
+    (λ count some small. c.loop-frames.invariant count some (omega (arith, small, test)))

@@ -1,5 +1,7 @@
-use Rattle.explain.specs.Window.{HasNoMasterBefore, IsMasterAt}
+use Rattle.std.proofs.Common.{ℕ, ◌<◌, ◌≤◌}
+use Rattle.explain.specs.Received.{NoneTell}
 use Rattle.explain.proofs.masters.first_masters.Given as goal
 
-abbrev pub invariant-loop-frame : goal.invariant-loop-frame
-invariant-loop-frame l = HasNoMasterBefore (IsMasterAt l.recording) l.id l.start l.frame
+-- no fewer frames have a master block
+abbrev pub invariant-loop-frames : goal.invariant-loop-frames
+invariant-loop-frames l = (count : ℕ) → 1 ≤ count → count < l.frames → NoneTell l.recording l.id l.start l.whole count

@@ -1,4 +1,4 @@
-use Rattle.std.proofs.Common.{◌≡◌, ◌/◌, ◌%◌, ◌∙◌, get_or, ap, sym}
+use Rattle.std.proofs.Common.{◌/◌, ◌%◌, ◌∙◌, get_or, ap, sym}
 use Rattle.grid_map.specs.Place.{place}
 use Rattle.grid_map.specs.Group.{group, group_places}
 use Rattle.grid_map.proofs.Pieces.{pcfich_place_at}

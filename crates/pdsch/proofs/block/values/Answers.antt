@@ -1,7 +1,7 @@
-use Rattle.std.proofs.Common.{◌≡◌, ℕ, ◌*◌, ◌≤◌, nat_abs, take, length, sym, ap, ap₂, subst, ◌∙◌, arith, List, ℤ}
+use Rattle.std.proofs.Common.{◌≡◌, ℕ, ◌*◌, ◌≤◌, false, nat_abs, take, length, sym, ap, ap₂, subst, ◌∙◌, arith, List, ℤ}
 use Rattle.std.specs.Prelude.{All}
 use Rattle.std.proofs.lemmas.List.{take_at, length-take-le}
-use Rattle.grid_map.specs.Shared.{pdsch_places, pdsch_place}
+use Rattle.grid_map.specs.Shared.{shared_place_of, pdsch_places, pdsch_place}
 use Rattle.grid_map.specs.Scrambling.{pdsch_c_init}
 use Rattle.grid_map.proofs.Symbols.{pdsch_count}
 use Rattle.soft_bits.specs.Places.{descrambled}
@@ -15,7 +15,7 @@ pub loop-i-init : goal.loop-i-init
 loop-i-init c = filled_none c.args.first.now c.args.second.now _ c.args.out.now
 
 pub loop-i-preserved : goal.loop-i-preserved
-unfolding pdsch_place
+unfolding shared_place_of
 loop-i-preserved c =
     let identity = c.args.first.now.identity in
     let grant = c.args.grant.now in
@@ -23,7 +23,7 @@ loop-i-preserved c =
     let bound = c.places_of-places.ensures.bound in
     let is = c.places_of-places.ensures.value in
     let whole = c.told-out in
-    let count = pdsch_count identity c.args.cfi grant.start grant.blocks c.requires.cfi c.places_of-places.ensures.known c.requires.grant.blocks.inside in
+    let count = pdsch_count false identity c.args.cfi grant.start grant.blocks c.requires.cfi c.places_of-places.ensures.known c.requires.grant.blocks.inside in
     let here = rw c.id.ensures at c.pdsch-place.ensures.place in
     filled_more c.args.first.now c.args.second.now places c.args.out.now c.loop-i.out c.fill_place.new.pair c.loop-i.i c.pdsch-place.result
     c.loop-i.invariant (omega (arith, count, is)) (omega (arith, whole, bound)) (sym here) c.fill_place.ensures
@@ -46,7 +46,7 @@ returns-clause-values c =
     let size = c.loop-i.invariant.size in
     let told = c.told-out in
     let last : c.places_of-places.result ≡ c.loop-i.i = omega arith in
-    let count = pdsch_count first.identity c.args.cfi grant.start grant.blocks c.requires.cfi c.places_of-places.ensures.known c.requires.grant.blocks.inside in
+    let count = pdsch_count false first.identity c.args.cfi grant.start grant.blocks c.requires.cfi c.places_of-places.ensures.known c.requires.grant.blocks.inside in
     let seed = c.pdsch_c_init-c_init.ensures.value ∙ ap₂ (λ (identity slot : ℕ). pdsch_c_init identity slot system_information_rnti) c.id-2.ensures c.number.ensures.value in
     let front : take n c.loop-i.out ≡ subframe_values first c.args.second.now places =
     ap (λ m. take (2 * m) c.loop-i.out) last ∙ filled_all first c.args.second.now places c.args.out.now c.loop-i.out c.loop-i.i c.loop-i.invariant (omega (arith, count, is, last)) in

@@ -1,4 +1,4 @@
-use Rattle.std.proofs.Common.{◌^◌, ◌≤◌}
+use Rattle.std.proofs.Common.{◌^◌}
 use Rattle.finite.specs.Sizes.{RowsWithin}
 use Rattle.tailbite.proofs.tests.values_of.Given as goal
 

@@ -12,4 +12,4 @@ row_of plan rows subframe points other are inside is =
     is ∙ ap (λ list. get_or list subframe other) are ∙ values_below_at (λ s. values_below 16 (indicator_point plan s)) 10 subframe other inside
 
 pub returns-clause-points : goal.returns-clause-points
-returns-clause-points c plan layout = row_of plan c.args.self.now.indicators c.args.subframe c.slice.result.now _ layout.indicators c.requires c.slice.ensures.points
+returns-clause-points c port plan layout = row_of plan c.args.self.now.indicators c.args.subframe c.slice.result.now _ layout.indicators c.requires c.slice.ensures.points

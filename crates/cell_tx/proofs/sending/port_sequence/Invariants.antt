@@ -1,0 +1,11 @@
+use Rattle.std.proofs.Common.{◌≡◌, ◌+◌, ◌-◌, ◌<◌}
+use Rattle.cell_tx.specs.Grid.{port_element}
+use Rattle.cell_tx.specs.Sent.{number_of, sent}
+use Rattle.cell_tx.specs.Rows.{frame_samples, HasSamples}
+use Rattle.cell_tx.proofs.sending.port_sequence.Given as goal
+
+abbrev pub invariant-loop-i : goal.invariant-loop-i
+invariant-loop-i l = record {
+  done : HasSamples l.out (λ n. sent (port_element l.fn.port l.cell) l.fn.sfn (n + l.offset)) 0 l.i;
+  frame : 0 < l.i → l.clean ≡ frame_samples (port_element l.fn.port l.cell) (number_of l.fn.sfn (l.i - 1 + l.offset));
+}

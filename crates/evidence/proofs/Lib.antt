@@ -1,0 +1,5 @@
+pub mod Fractions
+pub mod Steps
+pub mod Least
+pub mod Only
+pub mod Each

@@ -1,0 +1,47 @@
+use Rattle.std.proofs.Common.{refl, ap, sym, subst, ◌∙◌, ◌≤◌, arith}
+use Rattle.soft_bits.specs.Soft.{pilot, pilot_energy}
+use Rattle.pbch.specs.Master.{total}
+use Rattle.evidence.specs.Evidence.{mean_steps}
+use Rattle.evidence.proofs.Fractions.{hit_sounds, hit_within, hit_is_clear, hit_fraction}
+use Rattle.evidence.proofs.Steps.{steps_of_list}
+use Rattle.evidence.proofs.listing.evidence_of.Goals as goal
+
+pub thousandths-requires-clause-sounds : goal.thousandths-requires-clause-sounds
+thousandths-requires-clause-sounds c = hit_sounds _ _ _ c.first_hit-first.ensures
+
+pub thousandths-requires-clause-within : goal.thousandths-requires-clause-within
+thousandths-requires-clause-within c = hit_within _ _ _ c.first_hit-first.ensures
+
+pub returns-clause-evidence : goal.returns-clause-evidence
+returns-clause-evidence c =
+    let first = c.first_hit-first.ensures in
+    let slot = c.slot_of_entry-slot.ensures in
+    record {
+      id = refl;
+      start = refl;
+      sfn = refl;
+      t = first.first;
+      peak = c.thousandths.ensures.value ∙ hit_fraction _ _ _ first;
+      cost = refl;
+      total = c.total_of.ensures ∙ ap total c.values_of.ensures.values;
+      frames = refl;
+      frame = refl;
+      phase = refl;
+      power = c.energy.ensures.value ∙ ap pilot_energy slot;
+      noise = c.noise_of.ensures ∙ steps_of_list _ (pilot c.slot_of_entry-slot.result) c.pilots.ensures.value ∙ ap (λ s. mean_steps (pilot s)) slot;
+    }
+
+pub returns-clause-range : goal.returns-clause-range
+returns-clause-range c =
+    let first = c.first_hit-first.ensures in
+    let master = c.values_of.ensures.master in
+    let heard = master.tells.heard in
+    let clear = master.tells.clear in
+    record {
+      from_first = first.is_hit.is_hit.from_first;
+      to_last = first.is_hit.is_hit.to_last;
+      quarter = subst (λ p. 250 ≤ p) (sym c.thousandths.ensures.value) (hit_is_clear _ _ _ first);
+      whole = c.thousandths.ensures.whole;
+      heard = omega (arith, heard, c.total_of.ensures);
+      clear = omega (arith, clear, c.total_of.ensures, master.cost);
+    }

@@ -1,0 +1,12 @@
+//! What supports an entry of the list: the hit that tells it, the values that its master block was read from, and how
+//! the reference signals of its slot were received.
+#![tactic(auto)]
+
+mod listing;
+mod noise;
+mod numbers;
+mod told;
+
+pub use listing::{evidence_of, evidence_of_list};
+pub use numbers::Evidence;
+pub use told::{ToldHit, ToldHits};

@@ -1,0 +1,34 @@
+//! The numbers that support an entry.
+
+use lte_types::{CellId, Sfn};
+
+/// What supports an entry of a list: which entry it is, and the numbers. (own)
+#[derive(Clone, Copy, Debug, PartialEq, Eq)]
+pub struct Evidence {
+    /// The identity of the entry's cell.
+    pub id: CellId,
+    /// The sample at which its first frame starts.
+    pub start: u32,
+    /// The frame number of that frame.
+    pub sfn: Sfn,
+    /// The least place of a hit that tells this identity and start: 137 to 19,336.
+    pub t: u32,
+    /// How much of the energy there the primary signal explains, in thousandths: 250 to 1,000.
+    pub peak: u16,
+    /// The cost of the master block's word.
+    pub cost: u32,
+    /// The sum of the sizes of the values that the word was read from: not 0, and at least four times the cost.
+    pub total: u32,
+    /// The count of frames whose values were summed.
+    pub frames: u8,
+    /// The number of the first of them, from the first frame on.
+    pub frame: u8,
+    /// That frame's number modulo 4.
+    pub phase: u8,
+    /// The sum of the squares of the sizes of what was seen at the 24 reference places of that frame's slot with the
+    /// broadcast channel.
+    pub power: u64,
+    /// How much the 24 pilots of that slot differ from one to the next: the sum of the squares of the sizes of the 23
+    /// differences, divided by twice the square of a reference value's size, 16,200, and rounded down.
+    pub noise: u64,
+}

@@ -1,0 +1,10 @@
+use Rattle.std.proofs.Common.{arith}
+use Rattle.explain.proofs.Listed.{is_sound}
+use Rattle.explain.proofs.entry_slot.slot_of_entry.Goals as goal
+
+pub broadcast_slot-requires : goal.broadcast_slot-requires
+broadcast_slot-requires c =
+    let s = is_sound c.args.recording.now c.requires.list c.args.entry.now c.requires.explained c.requires.inside in
+    let some = s.is_of.frames.inside.some in
+    let first = s.is_of.frames.inside.whole 0 (omega (arith, some)) in
+    omega (arith, first)

@@ -1,0 +1,42 @@
+use Rattle.std.proofs.Common.{◌+◌, ◌≤◌, arith, sym, subst, below_more}
+use Rattle.explain.specs.Window.{TellNone, IsMasterAt}
+use Rattle.explain.specs.Masters.{HaveMasters}
+use Rattle.explain.proofs.masters.first_of.Goals as goal
+
+pub loop-frame-init : goal.loop-frame-init
+loop-frame-init c recording start are i below = absurd (omega (arith, below))
+
+pub returns-in-Some : goal.returns-in-Some
+returns-in-Some c recording start are =
+    let id = c.args.id in
+    let count = c.args.count in
+    let some = c.requires.some in
+    let end = c.saturating_sub-frame-end.ensures in
+    let test = c.loop-frame-test.true in
+    let inside : c.loop-frame.frame + count ≤ c.args.whole = omega (arith, some, end, test) in
+    let (counts, at, have) = c.in-Some.ensures recording start (λ j below. are j (omega (arith, below, inside))) in (
+      counts,
+      record {
+        within = omega (arith, at, inside);
+        first = λ i below. c.loop-frame.invariant recording start are i (omega (arith, below, at));
+        have = subst (λ j. HaveMasters (IsMasterAt recording) id start count j c.in-Some.found.at) (sym at) have;
+      },
+    )
+
+pub loop-frame-preserved : goal.loop-frame-preserved
+loop-frame-preserved c recording start are =
+    let id = c.args.id in
+    let count = c.args.count in
+    let some = c.requires.some in
+    let end = c.saturating_sub-frame-end.ensures in
+    let test = c.loop-frame-test.true in
+    let inside : c.loop-frame.frame + count ≤ c.args.whole = omega (arith, some, end, test) in
+    below_more (λ i. TellNone (IsMasterAt recording) id start count i) c.loop-frame.frame (c.loop-frame.invariant recording start are)
+    (c.in-None.ensures recording start (λ j below. are j (omega (arith, below, inside))))
+
+pub returns : goal.returns
+returns c recording start are j within =
+    let some = c.requires.some in
+    let end = c.saturating_sub-frame-end.ensures in
+    let test = c.loop-frame-test.false in
+    c.loop-frame.invariant recording start are j (omega (arith, some, end, test, within))

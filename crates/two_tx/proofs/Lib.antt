@@ -1,0 +1,4 @@
+mod Refusals
+mod Plans
+mod Received
+mod Samples

@@ -1,0 +1,75 @@
+#!/usr/bin/env python3
+"""refused_memory.py [PROGRAM]
+
+Refuses each growth of memory of PROGRAM in turn (crates/lte_cli/out/lte_cli where it is left out), for every form of words
+on a valid input: the first allocation, then the second, until a run ends as without a refusal. Each run before has to end
+with code 8, its text and nothing written. Prints how many growths each form has, and what it found; the status is 0 where
+nothing was found. It takes a C compiler (CC or cc), and a program that takes its memory from the C library.
+"""
+import os
+import pathlib
+import subprocess
+import sys
+import tempfile
+
+HERE = pathlib.Path(__file__).parent
+CELL = HERE.parent / 'crates/capture_example/stdin'
+MOST = 1000                         # growths of one run
+
+
+def run(program, words, data, shim=None, refuse=0):
+    environment = {'LD_PRELOAD': str(shim), 'REFUSE': str(refuse)} if shim else {}
+    done = subprocess.run([program, *words], input=data, capture_output=True, env=environment, check=False)
+    return done.returncode, done.stdout, done.stderr
+
+
+def as_bytes(data):
+    """A recording of 8-bit numbers from one of 16 bits."""
+    numbers = [int.from_bytes(data[i:i + 2], 'little', signed=True) for i in range(0, len(data), 2)]
+    greatest = max(map(abs, numbers))
+    return bytes(round(127.5 + 127 * number / greatest) for number in numbers)
+
+
+def forms(program):
+    """Words and a valid input of each form."""
+    recording, description = CELL.read_bytes(), (HERE / 'plain_cell.json').read_bytes()
+    certificates = run(program, ['certify'], recording)[1]
+    for words in ('hits', 'ids', 'search', 'search --json', 'certify', 'evidence'):
+        yield words.split(), recording
+        yield words.split() + ['--format', 'cu8'], as_bytes(recording)
+    yield ['check'], 3 * certificates
+    yield ['transmit'], description
+    yield ['make', '7'], b''
+
+
+def refusals(program, shim, words, data):
+    """How many growths the form has, and what was found."""
+    whole, found = run(program, words, data), []
+    if whole[0] != 0:
+        return 0, [f'code {whole[0]} without a refusal']
+    for number in range(1, MOST):
+        ending = run(program, words, data, shim, number)
+        if ending == whole:
+            return number - 1, found
+        if ending != (8, b'', b'lte_cli: out of memory\n'):
+            found.append(f'growth {number}: code {ending[0]}, {len(ending[1])} bytes, {ending[2][:60]!r}')
+    return MOST, found + ['no end']
+
+
+def main():
+    program = os.path.abspath(sys.argv[1] if len(sys.argv) > 1 else HERE.parent / 'crates/lte_cli/out/lte_cli')
+    count = 0
+    with tempfile.TemporaryDirectory() as room:
+        shim = pathlib.Path(room) / 'refuse.so'
+        source = HERE / 'refused_memory' / 'refuse.c'
+        subprocess.run([os.environ.get('CC', 'cc'), '-O1', '-fno-builtin', '-shared', '-fPIC', '-o', shim, source], check=True)
+        print('| Words | growths refused | found |')
+        print('| --- | --- | --- |')
+        for words, data in forms(program):
+            growths, found = refusals(program, shim, words, data)
+            count += len(found) + (growths == 0)
+            print(f"| `{' '.join(words)}` | {growths} | {'; '.join(found[:3]) or '-'} |", flush=True)
+    sys.exit(count > 0)
+
+
+main()
