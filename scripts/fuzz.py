@@ -17,10 +17,12 @@ LIMIT = 20                          # seconds of processor time
 HANG = 300                          # seconds after which a run is ended
 TEXTS = {2: 'usage', 3: 'ragged', 4: 'too short', 5: 'too long', 6: 'read fault', 7: 'write fault', 8: 'out of memory',
          9: r'bad cell: \w+', 10: r'bad certificate at byte \d+'}
-CODES = {'check': {0, 5, 10}, 'transmit': {0, 5, 9}, 'make': {0}}
+CODES = {'check': {0, 5, 10}, 'transmit': {0, 5, 9}}
 NONSENSE = 'no command'
+# how often a command of lte_cli and of lte_tune is given
+SHARES_OF_TUNE = {'tell': 40, 'apply': 50, NONSENSE: 10}
 SHARES = {'hits': 14, 'ids': 12, 'search': 22, 'evidence': 8, 'certify': 12, 'check': 12, 'transmit': 20, 'make': 0.2, NONSENSE: 8}
-Input = collections.namedtuple('Input', 'label words data way')
+Input = collections.namedtuple('Input', 'label words data way program')
 Ending = collections.namedtuple('Ending', 'code output text seconds')
 
 
@@ -70,12 +72,19 @@ class Runner:
         return Ending(os.waitstatus_to_exitcode(status), output, text, usage.ru_utime + usage.ru_stime)
 
 
+def is_turn(word):
+    """Whether the word is a turn, in digits without leading zero."""
+    return re.fullmatch(r'0|-?[1-9][0-9]*', word) is not None and -2048 <= int(word) <= 2047
+
+
 def codes_of_recording(words, length):
     """The codes that a command on a recording may end with."""
     form = words[-2:] == ['--format', 'cu8']
     size = 2 if form else 4
     rest = words[:-2] if form else words
-    if len(rest) != 1 and rest != ['search', '--json']:
+    by_rule = not form and rest[0] == 'search' and rest[1:] in fuzz_inputs.RULES
+    by_turn = not form and rest[0] == 'apply' and len(rest) == 2 and is_turn(rest[1])
+    if form and rest[0] in ('tell', 'apply') or len(rest) != 1 and rest != ['search', '--json'] and not by_rule and not by_turn:
         return {2}
     long, short = length > size * fuzz_inputs.MOST // 4, length < size * fuzz_inputs.LEAST // 4
     code = 5 if long else 3 if length % size else 4 if short else 0
@@ -89,6 +98,8 @@ def wanted_codes(given):
     command = given.words[0]
     if command in CODES:
         codes = CODES[command]
+    elif command == 'make':
+        codes = {0} if given.words[2:] in ([], *fuzz_inputs.RULES[:2]) else {2}
     else:
         codes = codes_of_recording(given.words, len(given.data))
     if given.way == 'folder' and command != 'make':
@@ -105,7 +116,7 @@ def faults(given, ending):
         yield f'signal {-code}'
     elif code != 0 and code not in TEXTS:
         yield f'code {code}'
-    elif not re.fullmatch(b'lte_cli: ' + TEXTS[code].encode() + b'\n' if code else b'', ending.text):
+    elif not re.fullmatch(given.program.encode() + b': ' + TEXTS[code].encode() + b'\n' if code else b'', ending.text):
         yield f'text {ending.text[:80]!r} with code {code}'
     if code not in (0, 7) and ending.output:
         yield f'output with code {code}'
@@ -151,8 +162,13 @@ class Inputs:
 
     def __init__(self, seed, runner):
         self.random = randomness.Random(seed)
+        self.program = os.path.basename(runner.program)
+        self.shares = SHARES_OF_TUNE if self.program == 'lte_tune' else SHARES
         self.shown = fuzz_inputs.shown_descriptions()
-        self.sent = [(fuzz_inputs.HERE.parent / 'crates/capture_example/stdin').read_bytes()]
+        crates = fuzz_inputs.HERE.parent / 'crates'
+        self.sent = [(crates / crate / 'stdin').read_bytes() for crate in ('capture_example', 'lte_tune')]
+        if self.program == 'lte_tune':
+            return
         for _ in range(5):
             value = {**fuzz_inputs.short_plain_cell(), 'gain': [20, 9],
                      'identity': self.random.randrange(504), 'offset': self.random.randrange(19200)}
@@ -172,12 +188,12 @@ class Inputs:
 
     def next(self):
         random = self.random
-        command = random.choices(list(SHARES), list(SHARES.values()))[0]
+        command = random.choices(list(self.shares), list(self.shares.values()))[0]
         way = random.choices(['file', 'pipe', 'folder', 'full'], [93, 5, 1, 1])[0]
         if command == NONSENSE:
-            return Input(command, fuzz_inputs.nonsense(random), random.randbytes(random.randrange(50)), way)
+            return Input(command, fuzz_inputs.nonsense(random), random.randbytes(random.randrange(50)), way, self.program)
         words = fuzz_inputs.words(random, command)
-        label = 'make N' if command == 'make' else ' '.join(words)
+        label = ' '.join(['make N', *words[2:]]) if command == 'make' else 'apply M' if words[1:] and command == 'apply' else ' '.join(words)
         kind = {'transmit': 'description', 'check': 'certificates'}.get(command, 'recording')
         if random.random() < 0.02:
             kind = random.choice(['recording', 'description', 'certificates'])
@@ -189,7 +205,7 @@ class Inputs:
             data = fuzz_inputs.recording(random, self.sent)
             if words[-1] == 'cu8' and random.random() < 0.7:
                 data = fuzz_inputs.as_bytes(data)
-        return Input(label, words, data, way)
+        return Input(label, words, data, way, self.program)
 
 
 def print_counts(counts):

@@ -2,7 +2,7 @@
 # fuzz.sh SECONDS [PROGRAM [OTHER]]
 #
 # Gives random and spoiled recordings, descriptions, certificates and words to every command of PROGRAM for so long
-# (crates/lte_cli/out/lte_cli where it is left out), and reports what docs/FORMATS.md does not allow: an end by a
+# (crates/lte_cli/out/lte_cli where it is left out; the commands are those of lte_tune where it has that name), and reports what docs/FORMATS.md does not allow: an end by a
 # signal, an exit code beside 0 and 2 to 10, output after a code other than 0 and 7, another text on standard error
 # than that code's, and a code that the length of a recording does not have; and each run of more than 20 seconds of
 # processor time. With OTHER, the same program by another compiler, each difference of code, output or text too. The

@@ -1,4 +1,4 @@
-"""Random and spoiled inputs of lte_cli, for fuzz.py: recordings, descriptions, certificates and words."""
+"""Random and spoiled inputs of lte_cli and lte_tune, for fuzz.py: recordings, descriptions, certificates and words."""
 import array
 import json
 import pathlib
@@ -38,10 +38,21 @@ def spoiled(random, data):
 
 # ---- words
 
+RULES = (['--ports', '2'], ['--prefix', 'long'], ['--cancel'])
+
+
 def words(random, command):
     """The words of a command in one of its forms, some of them of no command."""
     if command == 'make':
-        return ['make', str(random.choice([0, 90, 2**32 - 46, 90 * random.randrange(10**6)]))]
+        number = str(random.choice([0, 90, 2**32 - 46, 90 * random.randrange(10**6)]))
+        return ['make', number] + random.choices([[], *RULES], [70, 14, 14, 2])[0]
+    if command == 'search' and random.random() < 0.25:
+        return ['search'] + random.choice(RULES) + random.choices([[], ['--format', 'cu8'], ['--json']], [94, 3, 3])[0]
+    if command == 'tell':
+        return random.choices([['tell'], ['tell', '1']], [97, 3])[0]
+    if command == 'apply':
+        turn = random.choice(['', str(random.randrange(-2100, 2100)), '-2048', '2047', '-0', '05', '+5', '2048'])
+        return ['apply'] + [turn] * (turn != '')
     if command not in ('hits', 'ids', 'search', 'evidence', 'certify'):
         return [command]
     json_words = ['--json'] if random.random() < (0.3 if command == 'search' else 0.03) else []

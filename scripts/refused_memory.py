@@ -1,8 +1,8 @@
 #!/usr/bin/env python3
-"""refused_memory.py [PROGRAM]
+"""refused_memory.py [PROGRAM [TUNER]]
 
-Refuses each growth of memory of PROGRAM in turn (crates/lte_cli/out/lte_cli where it is left out), for every form of words
-on a valid input: the first allocation, then the second, until a run ends as without a refusal. Each run before has to end
+Refuses each growth of memory of PROGRAM and TUNER in turn (crates/lte_cli/out/lte_cli and crates/lte_tune/out/lte_tune where
+they are left out), for every form of words on a valid input: the first allocation, then the second, until a run ends as without a refusal. Each run before has to end
 with code 8, its text and nothing written. Prints how many growths each form has, and what it found; the status is 0 where
 nothing was found. It takes a C compiler (CC or cc), and a program that takes its memory from the C library.
 """
@@ -13,7 +13,8 @@ import sys
 import tempfile
 
 HERE = pathlib.Path(__file__).parent
-CELL = HERE.parent / 'crates/capture_example/stdin'
+CRATES = HERE.parent / 'crates'
+CELL, TURNED = CRATES / 'capture_example/stdin', CRATES / 'lte_tune/stdin'
 MOST = 1000                         # growths of one run
 
 
@@ -31,7 +32,7 @@ def as_bytes(data):
 
 
 def forms(program):
-    """Words and a valid input of each form."""
+    """Words and a valid input of each form of lte_cli."""
     recording, description = CELL.read_bytes(), (HERE / 'plain_cell.json').read_bytes()
     certificates = run(program, ['certify'], recording)[1]
     for words in ('hits', 'ids', 'search', 'search --json', 'certify', 'evidence'):
@@ -40,6 +41,16 @@ def forms(program):
     yield ['check'], 3 * certificates
     yield ['transmit'], description
     yield ['make', '7'], b''
+    for words in ('--ports 2', '--prefix long'):
+        yield ['search', *words.split()], recording
+        yield ['make', '7', *words.split()], b''
+    yield ['search', '--cancel'], recording
+
+
+def forms_of_tuner():
+    """The same of lte_tune."""
+    for words in ('tell', 'apply', 'apply 222'):
+        yield words.split(), TURNED.read_bytes()
 
 
 def refusals(program, shim, words, data):
@@ -51,13 +62,15 @@ def refusals(program, shim, words, data):
         ending = run(program, words, data, shim, number)
         if ending == whole:
             return number - 1, found
-        if ending != (8, b'', b'lte_cli: out of memory\n'):
+        if ending != (8, b'', os.path.basename(program).encode() + b': out of memory\n'):
             found.append(f'growth {number}: code {ending[0]}, {len(ending[1])} bytes, {ending[2][:60]!r}')
     return MOST, found + ['no end']
 
 
 def main():
-    program = os.path.abspath(sys.argv[1] if len(sys.argv) > 1 else HERE.parent / 'crates/lte_cli/out/lte_cli')
+    given = sys.argv[1:]
+    program = os.path.abspath(given[0] if given else CRATES / 'lte_cli/out/lte_cli')
+    tuner = os.path.abspath(given[1] if len(given) > 1 else CRATES / 'lte_tune/out/lte_tune')
     count = 0
     with tempfile.TemporaryDirectory() as room:
         shim = pathlib.Path(room) / 'refuse.so'
@@ -65,8 +78,9 @@ def main():
         subprocess.run([os.environ.get('CC', 'cc'), '-O1', '-fno-builtin', '-shared', '-fPIC', '-o', shim, source], check=True)
         print('| Words | growths refused | found |')
         print('| --- | --- | --- |')
-        for words, data in forms(program):
-            growths, found = refusals(program, shim, words, data)
+        runs = [(program, *form) for form in forms(program)] + [(tuner, *form) for form in forms_of_tuner()]
+        for run_program, words, data in runs:
+            growths, found = refusals(run_program, shim, words, data)
             count += len(found) + (growths == 0)
             print(f"| `{' '.join(words)}` | {growths} | {'; '.join(found[:3]) or '-'} |", flush=True)
     sys.exit(count > 0)

@@ -6,6 +6,8 @@ how many the list holds the cell, how many have a hit at its place, and how many
 sent. PATTERN is a regular expression that the conditions have to match. Each number is an observation: nothing here is
 proved. The numbers are drawn with fixed seeds, so a second run prints the same table.
 
+PROGRAM is lte_cli, and lte_tune stands where its path has that name in place of lte_cli.
+
 A cell is five frames that `transmit` sends, with nothing but signals, the broadcast channel, the control format indicator
 and system information; in a full carrier every other resource element has a random QPSK point. Es/N0 is the energy of an
 element by that of the noise in one. Debian: python3-numpy, python3-scipy.
@@ -19,7 +21,6 @@ import sys
 import numpy as np
 from scipy import signal
 
-import offset
 import radio
 
 GAIN = 20                           # what is sent is multiplied by it
@@ -143,9 +144,9 @@ def eight_bits(top):
 
 def corrected(program):
     def apply(x, _):
-        x = radio.from_bytes(radio.to_bytes(x))
-        x = x - x.mean()
-        return radio.shifted(x, -(offset.offset(program, x) or 0))
+        tuner = program.replace('lte_cli', 'lte_tune')
+        done = subprocess.run([tuner, 'apply'], input=radio.to_bytes(x), stdout=subprocess.PIPE, check=True)
+        return radio.from_bytes(done.stdout)
     return apply
 
 
@@ -155,7 +156,7 @@ def conditions(program):
     both = [('as it is', [])]
     both += [(f'offset {h} Hz', [turned(h)]) for h in (300, 500, 700, 1000, 1250, 1500, 2000, 5000)]
     both += [(f'offset {h} Hz, 10 dB', [turned(h), noise(10)]) for h in (500, 1000, 1500)]
-    both += [(f'offset {h} Hz, 10 dB, then offset.py', [turned(h), noise(10), tuned])
+    both += [(f'offset {h} Hz, 10 dB, then lte_tune', [turned(h), noise(10), tuned])
              for h in (1000, 5000, 15000, -30000, 45000)]
     both += [(f'clock {p} ppm', [clock(p)]) for p in (2, 10, 50)]
     both += [(f'Es/N0 {d} dB', [noise(d)]) for d in (20, 10, 5, 3, 2, 1, 0, -1, -2, -3, -5)]

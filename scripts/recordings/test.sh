@@ -74,8 +74,13 @@ fi
 
 "$here/as_radio.py" s16 1920000 21500 < sent.ci16 > turned
 "$program" search < turned | says 'an offset of 21.5 kHz hides the cell' 'cells 0'
-"$here/offset.py" "$program" < turned 2> told | "$program" search | finds 'offset.py takes it off'
-awk '$2 > 21400 && $2 < 21600 { print "near" }' told | says 'offset.py tells it' near
+tuner=${program//lte_cli/lte_tune}
+if [ -x "$tuner" ]; then
+    "$tuner" apply < turned | "$program" search | finds 'lte_tune takes it off'
+    "$tuner" tell < turned | awk '$1 == "turn" && $2 > 182 && $2 < 185 { print "near" }' | says 'lte_tune tells it' near
+else
+    echo "left out lte_tune: no program at $tuner"
+fi
 
 head -c 400000 /dev/zero | cat - sent.ci16 > long
 "$here/windows.sh" "$program" long 96000 50000 | says 'windows.sh finds it in a longer file' \

@@ -14,6 +14,7 @@ use Rattle.cs_num.specs.declared.Cpx.{Cpx}
 use Rattle.cs_num.specs.Complex.{IsWithin, nothing, times, conjugate, square, minus, multiple}
 use Rattle.lte_types.specs.declared.frame.Half.{Half}
 use Rattle.lte_types.specs.declared.frame.Half.TheVariants.{Zero, Five}
+use Rattle.lte_types.specs.Numerology.{symbol_step}
 use Rattle.sizes.specs.Sizes.{IsSized}
 use Rattle.sizes.proofs.Squares.{square-multiple, square-conjugate}
 use Rattle.sizes.proofs.Sized.{sized_plain, sized-times}
@@ -26,7 +27,7 @@ use Rattle.sync_seq.specs.Secondary.{sss_at, sss_list}
 use Rattle.sync_seq.proofs.SecondaryValues.{sss-size}
 use Rattle.sync_seq.proofs.Distinct.{secondary_tells}
 use Rattle.sss_detect.specs.Scores.{agreement, score}
-use Rattle.sss_detect.specs.Identity.{IsBefore, IsBest, identity_of}
+use Rattle.sss_detect.specs.Identity.{IsBefore, IsBest, prefix_identity}
 use Rattle.sss_detect.proofs.Choices.{less, not_less, only_one_is_best}
 use Rattle.observe.specs.Seen.{seen}
 use Rattle.pss_search.specs.Correlation.{pss_grid}
@@ -247,16 +248,17 @@ pub sss_amplitudes : (n1 n2 : ℕ) (half : Half) → AreAmplitudes (sss_grid n1 
 sss_amplitudes n1 n2 half k l = in_middle (sss_amplitude n1 n2 half) k (amplitude_small n1 n2 half)
 
 pub sent_pair_is_identified : SentPairIsIdentified
-unfolding identity_of
-sent_pair_is_identified recording hit n1 half both =
+unfolding prefix_identity
+sent_pair_is_identified prefix recording hit n1 half both =
     let t : ℕ = hit.t in
     let n2 : ℕ = hit.n2 in
-    sent_pair_is_best both.gain n1 n2 half (seen recording t) (seen recording (t - 137)) (record {
+    let before : ℕ = t - symbol_step prefix in
+    sent_pair_is_best both.gain n1 n2 half (seen recording t) (seen recording before) (record {
       group = both.group;
       root = both.root;
       sounds = both.primary.sounds;
       primary = λ n l. subst (λ (z : Cpx). IsSeenAs both.gain z (seen recording t (n + 5))) (pss_in_grid n2 n l)
           (amplitude_is_seen_in_recording both.eps both.gain (pss_grid n2) recording t (n + 5) (pss_amplitudes n2) both.primary (omega arith));
-      secondary = λ n l. subst (λ (z : Cpx). IsSeenAs both.gain z (seen recording (t - 137) (n + 5))) (sss_in_grid n1 n2 half n l)
-          (amplitude_is_seen_in_recording both.eps both.gain (sss_grid n1 n2 half) recording (t - 137) (n + 5) (sss_amplitudes n1 n2 half) both.secondary (omega arith));
+      secondary = λ n l. subst (λ (z : Cpx). IsSeenAs both.gain z (seen recording before (n + 5))) (sss_in_grid n1 n2 half n l)
+          (amplitude_is_seen_in_recording both.eps both.gain (sss_grid n1 n2 half) recording before (n + 5) (sss_amplitudes n1 n2 half) both.secondary (omega arith));
     })

@@ -5,6 +5,7 @@ use Rattle.cs_num.specs.declared.Cpx.{Cpx}
 use Rattle.cs_num.specs.declared.Sample.{Sample}
 use Rattle.cs_num.specs.Complex.{square}
 use Rattle.lte_types.specs.declared.frame.Half.{Half}
+use Rattle.lte_types.specs.declared.numerology.Prefix.{Prefix}
 use Rattle.lte_types.specs.Numerology.{normal, symbol_step}
 use Rattle.sync_seq.specs.Primary.{pss_at}
 use Rattle.sync_seq.specs.Middle.{in_middle, middle}
@@ -12,7 +13,7 @@ use Rattle.sync_seq.specs.Secondary.{sss_amplitude, sss_at}
 use Rattle.pss_search.specs.Correlation.{pss_grid}
 use Rattle.sss_detect.specs.Scores.{agreement, score}
 use Rattle.lte_types.specs.declared.hit.Hit.{Hit}
-use Rattle.sss_detect.specs.Identity.{best_pair, identity_of}
+use Rattle.sss_detect.specs.Identity.{best_pair, prefix_identity}
 use Rattle.budget.specs.Received.{IsReceived, IsSeenAs, samples_from}
 
 -- the grid of a symbol that holds the secondary sequence alone
@@ -44,16 +45,21 @@ abbrev pub SentPairIsBest : Type 0
 SentPairIsBest =
     (gain : Cpx) (n1 n2 : ℕ) (half : Half) (pss_seen sss_seen : ℕ → Cpx) → AreSeen gain n1 n2 half pss_seen sss_seen → best_pair (score pss_seen sss_seen n2) ≡ (n1, half)
 
--- in a recording: the primary signal is received from t on, and the secondary one from one symbol before it
-pub record AreSynchronisation (recording : List Sample) (t n1 n2 : ℕ) (half : Half) : Type 0 where
+-- in a recording: the primary signal is received from t on, and the secondary one from one symbol of this prefix before it
+pub record AreSignals (prefix : Prefix) (recording : List Sample) (t n1 n2 : ℕ) (half : Half) : Type 0 where
   pub group : n1 ≤ 167
   pub root : n2 ≤ 2
   pub eps : ℕ
   pub gain : Cpx
   pub primary : IsReceived eps gain (pss_grid n2) (samples_from recording t)
-  pub secondary : IsReceived eps gain (sss_grid n1 n2 half) (samples_from recording (t - symbol_step normal))
+  pub secondary : IsReceived eps gain (sss_grid n1 n2 half) (samples_from recording (t - symbol_step prefix))
+
+-- the same with the normal cyclic prefix
+abbrev pub AreSynchronisation : List Sample → ℕ → ℕ → ℕ → Half → Type 0
+AreSynchronisation recording t n1 n2 half = AreSignals normal recording t n1 n2 half
 
 -- the sent pair is what is identified by a hit there
 abbrev pub SentPairIsIdentified : Type 0
 SentPairIsIdentified =
-    (recording : List Sample) (hit : Hit) (n1 : ℕ) (half : Half) → AreSynchronisation recording hit.t n1 hit.n2 half → identity_of recording hit ≡ (n1, half)
+    (prefix : Prefix) (recording : List Sample) (hit : Hit) (n1 : ℕ) (half : Half) → AreSignals prefix recording hit.t n1 hit.n2 half →
+    prefix_identity prefix recording hit ≡ (n1, half)

@@ -2,8 +2,9 @@
 #![tactic(auto)]
 
 use lte_shell::run_process;
+use lte_top::Program;
 use std::process::ExitCode;
 
 fn main(rt: HostRuntime) -> ExitCode {
-    ExitCode::from(run_process(&rt, rt.stdin(), rt.stdout()).code())
+    ExitCode::from(run_process(&rt, Program::Receiver, rt.stdin(), rt.stdout()).code())
 }

@@ -6,15 +6,15 @@ use Rattle.finite.specs.Lists.{values_below}
 use Rattle.finite.proofs.Lists.{values_below-length, values_below_at, values_below_same, values_below-All}
 use Rattle.cs_num.specs.declared.Cpx.{Cpx}
 use Rattle.cs_num.specs.declared.Sample.{Sample}
-use Rattle.cs_num.specs.Complex.{IsWithin, plus, times, silence, sample_at, value_of}
+use Rattle.cs_num.specs.Complex.{IsWithin, plus, times, square, silence, sample_at, value_of}
 use Rattle.sample_file.specs.Recording.{IsRecording}
 use Rattle.cell_tx.specs.declared.cell.CellPlan.{CellPlan}
 use Rattle.cell_tx.specs.declared.transmission.Transmission.{Transmission}
-use Rattle.cell_tx.specs.Clean.{IsGain, IsClean}
+use Rattle.cell_tx.specs.Clean.{IsGain, IsCleanOf, IsClean}
 use Rattle.cell_tx.specs.Grid.{element}
 use Rattle.cell_tx.specs.Laws.{received_with, ReceivedWithErrorsIsClean}
-use Rattle.cell_tx.specs.Sent.{sent, received, sample_of, gain_of}
-use Rattle.cell_tx.proofs.Bounds.{received-within}
+use Rattle.cell_tx.specs.Sent.{sent, sample_of, gain_of}
+use Rattle.cell_tx.proofs.Bounds.{amplified}
 use Rattle.capture_make.specs.declared.made.Made.{Made}
 use Rattle.capture_make.specs.Recipe.{plan, number, offset, sample_count, gain, IsBound}
 use Rattle.capture_make.specs.Errors.{drawn, error, word}
@@ -22,25 +22,30 @@ use Rattle.capture_make.specs.Made.{samples, IsMade, IsCleanlyMade}
 
 -- ---- what is sent, with errors
 
--- what a transmission sends
-abbrev sent_of : Transmission → List Sample
-sent_of t = values_below t.samples (λ i. sample_of (received t.cell t.sfn t.offset (gain_of t.gain) i))
+-- the samples of a sequence from an offset on, times a gain
+abbrev pub amplified_samples : (ℕ → Cpx) → ℕ → ℕ → Cpx → List Sample
+amplified_samples sequence offset count gain = values_below count (λ i. sample_of (times gain (sequence (i + offset))))
 
--- fits the errors
-pub room_is : (t : Transmission) (clean : List Sample) → IsGain (gain_of t.gain) → clean ≡ sent_of t → All (λ s. IsWithin 32284 (value_of s)) clean
-room_is t clean size e =
+-- where the sequence is small they leave room for the errors
+pub room_is : (sequence : ℕ → Cpx) (offset count : ℕ) (gain : Cpx) (clean : List Sample) → IsGain gain → ((i : ℕ) → square (sequence i) ≤ 1153 * 1153)
+    → clean ≡ amplified_samples sequence offset count gain → All (λ s. IsWithin 32284 (value_of s)) clean
+room_is sequence offset count gain clean size small e =
     subst (λ l. All (λ s. IsWithin 32284 (value_of s)) l) (sym e)
-    (values_below-All (λ s. IsWithin 32284 (value_of s)) t.samples (λ i. sample_of (received t.cell t.sfn t.offset (gain_of t.gain) i)) silence
-    (λ k below. received-within t.cell t.sfn t.offset (gain_of t.gain) k size))
+    (values_below-All (λ s. IsWithin 32284 (value_of s)) count (λ i. sample_of (times gain (sequence (i + offset)))) silence
+    (λ k below. (amplified gain (sequence (k + offset)) size (small (k + offset))).small))
 
-pub with_errors_is : (errors : ℕ → Cpx) (plan : CellPlan) (sfn offset count : ℕ) (gain : Cpx) (clean : List Sample) → clean ≡ values_below count (λ i. sample_of (received plan sfn offset gain i))
-    → values_below (length clean) (λ i. sample_of (plus (sample_at clean i) (errors i))) ≡ received_with (sent (element plan) sfn) offset count gain errors
-with_errors_is errors plan sfn offset count gain clean e =
-    let f : ℕ → Sample = λ i. sample_of (received plan sfn offset gain i) in
+pub with_errors_is : (errors sequence : ℕ → Cpx) (offset count : ℕ) (gain : Cpx) (clean : List Sample) → clean ≡ amplified_samples sequence offset count gain
+    → values_below (length clean) (λ i. sample_of (plus (sample_at clean i) (errors i))) ≡ received_with sequence offset count gain errors
+with_errors_is errors sequence offset count gain clean e =
+    let f : ℕ → Sample = λ i. sample_of (times gain (sequence (i + offset))) in
     let long : length clean ≡ count = ap length e ∙ values_below-length count f in
     ap (λ n. values_below n (λ i. sample_of (plus (sample_at clean i) (errors i)))) long
-    ∙ values_below_same count (λ i. sample_of (plus (sample_at clean i) (errors i))) (λ i. sample_of (plus (times gain (sent (element plan) sfn (i + offset))) (errors i)))
+    ∙ values_below_same count (λ i. sample_of (plus (sample_at clean i) (errors i))) (λ i. sample_of (plus (times gain (sequence (i + offset))) (errors i)))
     (λ k below. ap (λ (s : Sample). sample_of (plus (value_of s) (errors k))) (ap (λ l. get_or l k silence) e ∙ values_below_at f count k silence below))
+
+-- what a transmission sends
+abbrev sent_of : Transmission → List Sample
+sent_of t = amplified_samples (sent (element t.cell) t.sfn) t.offset t.samples (gain_of t.gain)
 
 -- where a transmission is that of a number, the samples are those of its recording
 pub samples_are : (n bound : ℕ) (t : Transmission) (clean : List Sample) → t.cell ≡ plan n → t.sfn ≡ number n → t.offset ≡ offset n → t.samples ≡ sample_count n → gain_of t.gain ≡ gain n
@@ -48,7 +53,7 @@ pub samples_are : (n bound : ℕ) (t : Transmission) (clean : List Sample) → t
 unfolding samples
 samples_are n bound t clean a b c d e h =
     let g : CellPlan → ℕ → ℕ → ℕ → Cpx → List Sample = λ p s o m z. received_with (sent (element p) s) o m z (error n bound) in
-    with_errors_is (error n bound) t.cell t.sfn t.offset t.samples (gain_of t.gain) clean h
+    with_errors_is (error n bound) (sent (element t.cell) t.sfn) t.offset t.samples (gain_of t.gain) clean h
     ∙ ap (λ p. g p t.sfn t.offset t.samples (gain_of t.gain)) a
     ∙ ap (λ s. g (plan n) s t.offset t.samples (gain_of t.gain)) b
     ∙ ap (λ o. g (plan n) (number n) o t.samples (gain_of t.gain)) c
@@ -69,16 +74,26 @@ is_made n bound t clean made a b c d e greatest h s f r = record {
 }
 
 -- as many as a recording has
+pub is_recording_of : (sequence errors : ℕ → Cpx) (n offset : ℕ) (gain : Cpx) (list : List Sample) → list ≡ received_with sequence offset (sample_count n) gain errors → IsRecording list
+is_recording_of sequence errors n offset gain list e =
+    let long : length list ≡ sample_count n = ap length e ∙ values_below-length (sample_count n) (λ i. sample_of (plus (times gain (sequence (i + offset))) (errors i))) in
+    record { least = omega (arith, long); most = omega (arith, long) }
+
 pub is_recording : (n bound : ℕ) (list : List Sample) → list ≡ samples n bound → IsRecording list
 unfolding samples
-is_recording n bound list e =
-    let long : length list ≡ sample_count n = ap length e ∙ values_below-length (sample_count n) (λ i. sample_of (plus (times (gain n) (sent (element (plan n)) (number n) (i + offset n))) (error n bound i))) in
-    record { least = omega (arith, long); most = omega (arith, long) }
+is_recording n bound list e = is_recording_of (sent (element (plan n)) (number n)) (error n bound) n (offset n) (gain n) list e
 
 -- ---- and cleanly
 
 drawn-within : (bound w : ℕ) → nat_abs (drawn bound w) ≤ bound
 drawn-within bound w = let below : w % (2 * bound + 1) < 2 * bound + 1 = mod-lt w (omega arith) in omega (arith, ints, below)
+
+-- with the errors of the number it is a clean recording of the sequence
+pub is_clean_of : ReceivedWithErrorsIsClean → (sequence : ℕ → Cpx) (n eps : ℕ) → IsGain (gain n) → eps * eps ≤ 4 * square (gain n) →
+    IsCleanOf sequence (received_with sequence (offset n) (sample_count n) (gain n) (error n eps)) (offset n) (gain n) eps
+is_clean_of law sequence n eps size bound =
+    law sequence (offset n) (sample_count n) (gain n) eps (error n eps) (omega arith) size bound
+    (λ i below. record { re = drawn-within eps (word n (2 * i)); im = drawn-within eps (word n (2 * i + 1)) })
 
 pub is_clean : ReceivedWithErrorsIsClean → (n : ℕ) (made : Made) → IsMade n made → IsCleanlyMade made
 unfolding samples
@@ -88,8 +103,7 @@ is_clean law n made m =
     let size : IsGain (gain n) = subst IsGain m.gain_is t.gain_range in
     let whole : IsClean (samples n eps) (plan n) (number n) (offset n) (gain n) eps = record {
       number = omega arith;
-      samples = law (sent (element (plan n)) (number n)) (offset n) (sample_count n) (gain n) eps (error n eps) (omega arith) size m.bound.within
-          (λ i below. record { re = drawn-within eps (word n (2 * i)); im = drawn-within eps (word n (2 * i + 1)) });
+      samples = is_clean_of law (sent (element (plan n)) (number n)) n eps size m.bound.within;
     } in
     subst (λ l. IsClean l t.cell t.sfn t.offset (gain_of t.gain) eps) (sym m.samples_are)
     (subst (λ p. IsClean (samples n eps) p t.sfn t.offset (gain_of t.gain) eps) (sym m.plan_is)
@@ -99,7 +113,7 @@ is_clean law n made m =
 
 -- ---- a number has one recording
 
-one_bound : (g : Cpx) (x y : ℤ) → IsBound g x → IsBound g y → nat_abs x ≡ nat_abs y
+pub one_bound : (g : Cpx) (x y : ℤ) → IsBound g x → IsBound g y → nat_abs x ≡ nat_abs y
 one_bound g x y a b =
     let p = a.greatest (nat_abs y) b.within in
     let q = b.greatest (nat_abs x) a.within in

@@ -6,7 +6,7 @@ mod made;
 mod recipe;
 
 pub use made::{Made, made_is_clean, make, with_errors};
-pub use recipe::{number, offset, plan, sample_count};
+pub use recipe::{bound, gain, number, offset, plan, sample_count};
 
 #[cfg(test)]
 mod tests;

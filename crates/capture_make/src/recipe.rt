@@ -3,7 +3,7 @@
 ghost use Rattle.std.specs.Prelude.{◌≡◌, ◌≤◌, ◌%◌, [], ◌∷◌, pos, length, None};
 ghost use Rattle.lte_types.specs.Codes.{duration as duration_with, resource as resource_with};
 ghost use Rattle.lte_types.specs.Ranges.{IsValid};
-ghost use Rattle.cell_tx.specs.Clean.{IsOffset, IsCount};
+ghost use Rattle.cell_tx.specs.Clean.{IsOffset, IsCount, IsGain};
 ghost use Rattle.cell_tx.specs.Sent.{gain_of};
 ghost use Rattle.capture_make.specs.Recipe.{network, message as message_of, information as information_of, plan as plan_of, number, offset, sample_count, gain as gain_with, IsBound};
 
@@ -120,9 +120,10 @@ fn cell(n: u32) -> Cell
     }
 }
 
-// The gain.
-fn gain(n: u32) -> (i16, i16)
-    ensures { gain_of result ≡ gain_with n }
+/// The gain of recording number `n`, real before imaginary.
+pub fn gain(n: u32) -> (i16, i16)
+    ensures value { gain_of result ≡ gain_with n }
+    ensures range { IsGain (gain_of result) }
 {
     ((1 + n % 19) as i16, (n % 20) as i16)
 }
@@ -168,7 +169,7 @@ pub(crate) fn transmission(n: u32) -> Transmission
 }
 
 /// The bound of the errors: the greatest whole number whose square is at most four times that of the gain's size.
-pub(crate) fn bound(n: u32) -> u16
+pub fn bound(n: u32) -> u16
     ensures bound { IsBound (gain_with n) (pos result) }
     ensures small { result ≤ 56 }
 {

@@ -36,13 +36,14 @@ use Rattle.cell_tx.specs.Shared.{shared_bit, shared_point}
 use Rattle.grid_map.specs.Scrambling.{pcfich_c_init, pdcch_c_init, pdsch_c_init, indicator_bit}
 use Rattle.dci.specs.Fields.{system_information_rnti}
 use Rattle.cell_tx.specs.Clean.{IsGain}
-use Rattle.lte_types.specs.Numerology.{normal, half_of, useful_start, symbol_of}
-use Rattle.cell_tx.specs.Sent.{Elements, slot_sample, frame_sample, number_of, sent, received}
+use Rattle.lte_types.specs.declared.numerology.Prefix.{Prefix}
+use Rattle.lte_types.specs.Numerology.{normal, half_of, symbols_of_slot, useful_start, symbol_of}
+use Rattle.cell_tx.specs.Sent.{Elements, prefix_slot_sample, prefix_frame_sample, number_of, prefix_sent, sent, received}
 use Rattle.cell_tx.proofs.Elements.{reference_at_is}
 
 -- ---- elements
 
-pick : (P : Cpx → Type 0) (c : Bool) (a b : Cpx) → P a → P b → P (if c then a else b)
+pub pick : (P : Cpx → Type 0) (c : Bool) (a b : Cpx) → P a → P b → P (if c then a else b)
 pick P true a b p q = p
 pick P false a b p q = q
 
@@ -50,7 +51,7 @@ pub broadcast_full : (port : Port) (plan : CellPlan) (sfn i : ℕ) → IsPoint (
 unfolding port_point
 broadcast_full port plan sfn i = record { re = component-IsFull (port_bit port plan sfn (2 * i)); im = component-IsFull (port_bit port plan sfn (2 * i + 1)) }
 
-bits_full : (bits : ℕ → Bool) (i : ℕ) → IsPoint (point_of bits i)
+pub bits_full : (bits : ℕ → Bool) (i : ℕ) → IsPoint (point_of bits i)
 bits_full bits i = record { re = component-IsFull (bits (2 * i)); im = component-IsFull (bits (2 * i + 1)) }
 
 pub indicator_full : (plan : CellPlan) (subframe i : ℕ) → IsPoint (indicator_point plan subframe i)
@@ -111,7 +112,7 @@ pub full_size : (z : ℤ) → IsFull z → nat_abs z ≡ 90
 full_size z (inl e) = rw e refl
 full_size z (inr e) = rw e refl
 
-secondary_size : (n1 n2 : ℕ) (half : Half) (n : ℕ) → nat_abs (pos 127 *ℤ sss_at n1 n2 half n) ≡ 127
+pub secondary_size : (n1 n2 : ℕ) (half : Half) (n : ℕ) → nat_abs (pos 127 *ℤ sss_at n1 n2 half n) ≡ 127
 secondary_size n1 n2 half n = unsigned_abs-mul (pos 127) (sss_at n1 n2 half n) ∙ rw (sss-size n1 n2 half n) refl
 
 pub element-within : (port : Port) (plan : CellPlan) (sfn subframe symbol k : ℕ) → IsWithin 127 (port_element port plan sfn subframe symbol k)
@@ -122,7 +123,7 @@ element-within =
     (λ n1 n2 half n. record { re = omega (arith, secondary_size n1 n2 half n); im = omega arith })
     (record { re = omega arith; im = omega arith })
 
-primary-square : (n2 n : ℕ) → square (pss_at n2 n) ≤ 128 * 128
+pub primary-square : (n2 n : ℕ) → square (pss_at n2 n) ≤ 128 * 128
 primary-square n2 n = rw (pss_is n2 n) (z-square ((63 - root_of n2) * turns n))
 
 pub element-square : (port : Port) (plan : CellPlan) (sfn subframe symbol k : ℕ) → square (port_element port plan sfn subframe symbol k) ≤ 128 * 128
@@ -157,24 +158,24 @@ useful-square grid n small =
     (λ k inside. sized-times (grid k) (w_at (frequency k * n)) 128 16385 1 1 (sized_plain (grid k) 128 (small k inside)) (sized_plain (w_at (frequency k * n)) 16385 (w-square (frequency k * n)))))
 
 -- and of a whole sequence, where no element has more
-module _ (grid : Elements) (small : (sfn subframe symbol k : ℕ) → square (grid sfn subframe symbol k) ≤ 128 * 128) where
-  pub slot-square : (sfn slot i : ℕ) → square (slot_sample grid sfn slot i) ≤ 1153 * 1153
+module _ (prefix : Prefix) (grid : Elements) (small : (sfn subframe symbol k : ℕ) → square (grid sfn subframe symbol k) ≤ 128 * 128) where
+  pub slot-square : (sfn slot i : ℕ) → square (prefix_slot_sample prefix grid sfn slot i) ≤ 1153 * 1153
   slot-square sfn slot i =
-      let l : ℕ = symbol_of normal i in
-      let row : ℕ → Cpx = grid sfn (slot / 2) (7 * (slot % 2) + l) in
-      let each = λ (n : ℕ). useful-square row n (λ k inside. small sfn (slot / 2) (7 * (slot % 2) + l) k) in
-      pick (λ z. square z ≤ 1153 * 1153) (nat_lt i (useful_start normal 0 0 l)) _ _ (each _) (each _)
+      let l : ℕ = symbol_of prefix i in
+      let row : ℕ → Cpx = grid sfn (slot / 2) (symbols_of_slot prefix * (slot % 2) + l) in
+      let each = λ (n : ℕ). useful-square row n (λ k inside. small sfn (slot / 2) (symbols_of_slot prefix * (slot % 2) + l) k) in
+      pick (λ z. square z ≤ 1153 * 1153) (nat_lt i (useful_start prefix 0 0 l)) _ _ (each _) (each _)
 
-  pub frame-square : (sfn i : ℕ) → square (frame_sample grid sfn i) ≤ 1153 * 1153
-  unfolding frame_sample
+  pub frame-square : (sfn i : ℕ) → square (prefix_frame_sample prefix grid sfn i) ≤ 1153 * 1153
+  unfolding prefix_frame_sample
   frame-square sfn i = slot-square sfn (i / 960) (i % 960)
 
-  pub small-sent-square : (sfn i : ℕ) → square (sent grid sfn i) ≤ 1153 * 1153
-  unfolding sent
+  pub small-sent-square : (sfn i : ℕ) → square (prefix_sent prefix grid sfn i) ≤ 1153 * 1153
+  unfolding prefix_sent
   small-sent-square sfn i = frame-square (number_of sfn i) (i % 19200)
 
 pub sent-square : (port : Port) (plan : CellPlan) (sfn i : ℕ) → square (sent (port_element port plan) sfn i) ≤ 1153 * 1153
-sent-square port plan = small-sent-square (port_element port plan) (element-square port plan)
+sent-square port plan = small-sent-square normal (port_element port plan) (element-square port plan)
 
 -- a number of that size fits 16 bits
 pub small-within : (z : Cpx) → square z ≤ 1153 * 1153 → IsWithin 32767 z

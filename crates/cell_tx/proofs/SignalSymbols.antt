@@ -15,15 +15,16 @@ use Rattle.grid_map.specs.Group.{group, is_group, spanned, span, is_kept, group_
 use Rattle.grid_map.specs.Broadcast.{is_pbch}
 use Rattle.grid_map.specs.Control.{pcfich_places, pcfich_groups, pdcch_groups, is_in_region}
 use Rattle.grid_map.specs.Candidate.{candidate_places, candidate_groups, quadruplet_group, group_of_quadruplet}
-use Rattle.grid_map.specs.Shared.{is_pdsch, shared_places_of, is_synchronisation}
+use Rattle.grid_map.specs.Shared.{is_shared_of, shared_places_of, is_synchronisation}
 use Rattle.grid_map.proofs.Order.{same_place-refl, same_place-true}
 use Rattle.grid_map.proofs.Kept.{any-filter}
 use Rattle.grid_map.proofs.Regions.{pcfich_inside, pdcch_inside}
-use Rattle.cell_tx.specs.declared.antenna.Port.TheVariants.{Only}
+use Rattle.cell_tx.specs.declared.antenna.Port.{Port}
 use Rattle.cell_tx.specs.declared.cell.CellPlan.{CellPlan}
 use Rattle.cell_tx.specs.Control.{control_places}
-use Rattle.cell_tx.specs.Shared.{shared_places}
-use Rattle.cell_tx.specs.Grid.{is_one_of, is_indicator, has_system_information, broadcast_value, indicator_value, control_value, shared_value, port_channel_value, channel_value}
+use Rattle.cell_tx.specs.Ports.{is_two}
+use Rattle.cell_tx.specs.Shared.{assigned_places}
+use Rattle.cell_tx.specs.Grid.{is_one_of, is_indicator, has_system_information, broadcast_value, indicator_value, control_value, shared_value, port_channel_value}
 use Rattle.cell_tx.proofs.PlaceValues.{absent_is}
 
 -- ---- lists without a place
@@ -118,38 +119,38 @@ module _ (plan : CellPlan) (symbol k : ℕ) where
       (any_pieces (same_place (place symbol k)) IsLow (group_places plan.identity) (candidate_groups plan.identity groups) (low_group plan.identity (place symbol k) late)
       (carriers_low plan.identity groups (λ j d inside. region_low plan.cfi (get_or groups j d) (pdcch_inside plan.identity plan.cfi plan.duration plan.resource j d inside))))
 
-  not_pdsch : is_synchronisation symbol ≡ true → is_pdsch plan.identity plan.cfi plan.start plan.blocks (place symbol k) ≡ false
-  not_pdsch e = by (nat_lt plan.cfi symbol) _ _
+  not_pdsch : (two : Bool) → is_synchronisation symbol ≡ true → is_shared_of two plan.identity plan.cfi plan.start plan.blocks (place symbol k) ≡ false
+  not_pdsch two e = by (nat_lt plan.cfi symbol) _ _
     where
       by : (a b c : Bool) → (((a && not (is_synchronisation symbol)) && b) && c) ≡ false
       by true b c = rw e refl
       by false b c = refl
 
-  no_shared : is_synchronisation symbol ≡ true → is_one_of (shared_places plan) (place symbol k) ≡ false
+  no_shared : (two : Bool) → is_synchronisation symbol ≡ true → is_one_of (assigned_places two plan) (place symbol k) ≡ false
   unfolding shared_places_of
-  no_shared e =
-      let test : Place → Bool = is_pdsch plan.identity plan.cfi plan.start plan.blocks in
-      absent (shared_places plan) (place symbol k)
+  no_shared two e =
+      let test : Place → Bool = is_shared_of two plan.identity plan.cfi plan.start plan.blocks in
+      absent (assigned_places two plan) (place symbol k)
       (any-filter same_place (λ x y h. same_place-true x y h) test (place symbol k) (places_of 0 14)
-      ∙ ap (λ b. list_any (same_place (place symbol k)) (places_of 0 14) && b) (not_pdsch e) ∙ and-false _)
+      ∙ ap (λ b. list_any (same_place (place symbol k)) (places_of 0 14) && b) (not_pdsch two e) ∙ and-false _)
 
 no_broadcast : (identity symbol k : ℕ) → symbol < 7 → is_pbch identity (place symbol k) ≡ false
 unfolding is_pbch
 no_broadcast identity symbol k early = let e : nat_le 7 symbol ≡ false = grind (arith, nat_tests) in rw e refl
 
 -- no channel is in symbols 5 and 6 of a subframe
-pub no_channel : (plan : CellPlan) (sfn subframe symbol k : ℕ) → (symbol ≡ 5) ⊎ (symbol ≡ 6) → channel_value plan sfn subframe symbol k ≡ nothing
+pub no_channel : (port : Port) (plan : CellPlan) (sfn subframe symbol k : ℕ) → (symbol ≡ 5) ⊎ (symbol ≡ 6) → port_channel_value port plan sfn subframe symbol k ≡ nothing
 unfolding port_channel_value
-no_channel plan sfn subframe symbol k row =
+no_channel port plan sfn subframe symbol k row =
     let late : 4 ≤ symbol = elim row [ inl e ↦ omega (arith, e) | inr e ↦ omega (arith, e) ] in
     let middle : is_synchronisation symbol ≡ true = elim row [ inl e ↦ rw e refl | inr e ↦ rw e refl ] in
     let early : symbol < 7 = elim row [ inl e ↦ omega (arith, e) | inr e ↦ omega (arith, e) ] in
-    rw (no_broadcast plan.identity symbol k early, no_indicator plan symbol k late, no_control plan symbol k late, no_shared plan symbol k middle) (by (has_system_information sfn subframe))
+    rw (no_broadcast plan.identity symbol k early, no_indicator plan symbol k late, no_control plan symbol k late, no_shared plan symbol k (is_two port) middle) (by (has_system_information sfn subframe))
   where
     pick : (a : Bool) (x z : Cpx) → (if a && false then x else z) ≡ z
     pick true x z = refl
     pick false x z = refl
 
-    by : (s : Bool) → (if nat_eq subframe 0 && false then broadcast_value Only plan sfn symbol k else (if false then indicator_value Only plan subframe symbol k
-        else (if s && false then control_value Only plan sfn symbol k else (if s && false then shared_value Only plan sfn symbol k else nothing)))) ≡ nothing
+    by : (s : Bool) → (if nat_eq subframe 0 && false then broadcast_value port plan sfn symbol k else (if false then indicator_value port plan subframe symbol k
+        else (if s && false then control_value port plan sfn symbol k else (if s && false then shared_value port plan sfn symbol k else nothing)))) ≡ nothing
     by s = pick (nat_eq subframe 0) _ _ ∙ pick s _ _ ∙ pick s _ _

@@ -1,5 +1,5 @@
 -- Where the samples of a frame's symbols stand.
-use Rattle.std.proofs.Common.{◌≡◌, ℕ, ◌+◌, ◌-◌, ◌*◌, ◌/◌, ◌%◌, ◌<◌, ◌≤◌, Bool, true, false, nat_eq, nat_lt, List, arith, refl, sym, subst, ap, ◌∙◌, ltb-true, ltb-false}
+use Rattle.std.proofs.Common.{◌≡◌, ℕ, ◌+◌, ◌-◌, ◌*◌, ◌/◌, ◌%◌, ◌<◌, ◌≤◌, ◌⊎◌, inl, inr, Bool, true, false, nat_eq, nat_lt, List, arith, refl, sym, subst, ap, ◌∙◌, ltb-true, ltb-false}
 use Rattle.std.specs.Prelude.{if◌then◌else◌}
 use Rattle.std.proofs.lemmas.Bool.Decides.{nat_tests}
 use Rattle.finite.specs.Lists.{values_below}
@@ -8,8 +8,9 @@ use Rattle.cs_num.specs.declared.Cpx.{Cpx}
 use Rattle.cs_num.specs.Complex.{nothing, value_at}
 use Rattle.fold128.specs.Symbol.{useful_at, useful_part}
 use Rattle.fold128.proofs.Samples.{useful_same}
-use Rattle.lte_types.specs.Numerology.{normal, prefix_length, useful_start, symbol_of}
-use Rattle.cell_tx.specs.Sent.{Elements, symbol_sample, slot_sample, frame_sample, number_of, sent}
+use Rattle.lte_types.specs.declared.numerology.Prefix.{Prefix}
+use Rattle.lte_types.specs.Numerology.{normal, extended, IsPrefix, prefix_length, symbols_of_slot, useful_start, symbol_of}
+use Rattle.cell_tx.specs.Sent.{Elements, symbol_sample, slot_sample, prefix_frame_sample, frame_sample, number_of, prefix_sent, sent}
 use Rattle.cell_tx.specs.Clean.{start_of, number_at_start}
 use Rattle.cell_tx.specs.Rows.{useful_place, first_sample}
 
@@ -44,7 +45,7 @@ slot_value grid sfn slot i n useful inside is place =
     rw place (ap (λ list. value_at list (useful_place i)) is ∙ useful_part_at row (useful_place i) (omega arith) ∙ sym (slot_sample_is grid sfn slot i inside))
 
 pub frame_sample_is : (grid : Elements) (sfn i : ℕ) → frame_sample grid sfn i ≡ slot_sample grid sfn (i / 960) (i % 960)
-unfolding frame_sample
+unfolding prefix_frame_sample
 frame_sample_is grid sfn i = refl
 
 -- ---- the symbols of a frame, by their number from 0 to 139
@@ -87,17 +88,21 @@ first_last = refl
 
 -- ---- the frames of a sequence
 
+module _ (prefix : Prefix) (grid : Elements) where
+  pub prefix_sent_is : (sfn i : ℕ) → prefix_sent prefix grid sfn i ≡ prefix_frame_sample prefix grid (number_of sfn i) (i % 19200)
+  unfolding prefix_sent
+  prefix_sent_is sfn i = refl
+
+  in_frame : (sfn i n m : ℕ) → number_of sfn i ≡ n → i % 19200 ≡ m → prefix_sent prefix grid sfn i ≡ prefix_frame_sample prefix grid n m
+  in_frame sfn i n m e f = prefix_sent_is sfn i ∙ rw (e, f) refl
+
+  pub frames_follow : (sfn j i : ℕ) → i < 19200 → prefix_sent prefix grid sfn (19200 * j + i) ≡ prefix_frame_sample prefix grid ((sfn + j) % 1024) i
+  frames_follow sfn j i inside =
+      let whole : (19200 * j + i) / 19200 ≡ j = omega (arith, inside) in
+      in_frame sfn (19200 * j + i) ((sfn + j) % 1024) i (ap (λ (n : ℕ). (sfn + n) % 1024) whole) (omega (arith, inside))
+
 pub sent_is : (grid : Elements) (sfn i : ℕ) → sent grid sfn i ≡ frame_sample grid (number_of sfn i) (i % 19200)
-unfolding sent
-sent_is grid sfn i = refl
-
-pub sent_in_frame : (grid : Elements) (sfn i n m : ℕ) → number_of sfn i ≡ n → i % 19200 ≡ m → sent grid sfn i ≡ frame_sample grid n m
-sent_in_frame grid sfn i n m e f = sent_is grid sfn i ∙ rw (e, f) refl
-
-pub frames_follow : (grid : Elements) (sfn j i : ℕ) → i < 19200 → sent grid sfn (19200 * j + i) ≡ frame_sample grid ((sfn + j) % 1024) i
-frames_follow grid sfn j i inside =
-    let whole : (19200 * j + i) / 19200 ≡ j = omega (arith, inside) in
-    sent_in_frame grid sfn (19200 * j + i) ((sfn + j) % 1024) i (ap (λ (n : ℕ). (sfn + n) % 1024) whole) (omega (arith, inside))
+sent_is grid sfn i = prefix_sent_is normal grid sfn i
 
 -- the number of a frame from the start on
 number_from_start : (sfn offset j : ℕ) (none : Bool) → nat_eq offset 0 ≡ none → sfn ≤ 1023 → offset < 19200 →
@@ -110,48 +115,99 @@ start_in_frames : (offset j i : ℕ) (none : Bool) → nat_eq offset 0 ≡ none 
 start_in_frames offset j i true e inside few = let z : offset ≡ 0 = grind (arith, nat_tests) in rw z (omega arith)
 start_in_frames offset j i false e inside few = let z : 0 < offset = grind (arith, nat_tests) in omega (arith, z, inside)
 
-pub frames_begin : (grid : Elements) (sfn offset j i : ℕ) → sfn ≤ 1023 → offset < 19200 → i < 19200 →
-    sent grid sfn (start_of offset + 19200 * j + i + offset) ≡ frame_sample grid ((number_at_start sfn offset + j) % 1024) i
-frames_begin grid sfn offset j i small inside few =
+pub frames_begin : (prefix : Prefix) (grid : Elements) (sfn offset j i : ℕ) → sfn ≤ 1023 → offset < 19200 → i < 19200 →
+    prefix_sent prefix grid sfn (start_of offset + 19200 * j + i + offset) ≡ prefix_frame_sample prefix grid ((number_at_start sfn offset + j) % 1024) i
+frames_begin prefix grid sfn offset j i small inside few =
     let frames : ℕ = if nat_eq offset 0 then j else j + 1 in
     let place = start_in_frames offset j i (nat_eq offset 0) refl inside few in
     let number = number_from_start sfn offset j (nat_eq offset 0) refl small inside in
-    ap (sent grid sfn) place ∙ frames_follow grid sfn frames i few ∙ ap (λ (n : ℕ). frame_sample grid n i) number
+    ap (prefix_sent prefix grid sfn) place ∙ frames_follow prefix grid sfn frames i few ∙ ap (λ (n : ℕ). prefix_frame_sample prefix grid n i) number
 
 -- ---- useful parts and prefixes
 
-in_slot : (grid : Elements) (sfn slot l i : ℕ) → i < 960 → symbol_of normal i ≡ l →
-    frame_sample grid sfn (960 * slot + i) ≡ useful_at (grid sfn (slot / 2) (7 * (slot % 2) + l)) (useful_place i)
-in_slot grid sfn slot l i inside is =
-    let first : (960 * slot + i) / 960 ≡ slot = omega (arith, inside) in
-    let rest : (960 * slot + i) % 960 ≡ i = omega (arith, inside) in
-    frame_sample_is grid sfn (960 * slot + i) ∙ rw (first, rest) (subst (λ (s : ℕ). slot_sample grid sfn slot i ≡ useful_at (grid sfn (slot / 2) (7 * (slot % 2) + s)) (useful_place i)) is (slot_sample_is grid sfn slot i inside))
+-- where a sample of a symbol stands in its slot
+pub record IsInSymbol (prefix : Prefix) (l i : ℕ) : Type 0 where
+  pub inside : i < 960
+  pub symbol : symbol_of prefix i ≡ l
 
-pub useful_parts_stand : (grid : Elements) (sfn slot l n : ℕ) → l < 7 → n < 128 →
-    frame_sample grid sfn (useful_start normal 0 slot l + n) ≡ useful_at (grid sfn (slot / 2) (7 * (slot % 2) + l)) n
-useful_parts_stand grid sfn slot l n few inside =
-    let i : ℕ = 10 + 137 * l + n in
-    let e : useful_start normal 0 slot l + n ≡ 960 * slot + i = omega arith in
-    let is : symbol_of normal i ≡ l = omega (arith, few, inside) in
-    let place : useful_place i ≡ n = rw is (omega (arith, inside)) in
-    ap (frame_sample grid sfn) e ∙ in_slot grid sfn slot l i (omega (arith, few, inside)) is ∙ ap (useful_at (grid sfn (slot / 2) (7 * (slot % 2) + l))) place
+module _ (prefix : Prefix) (grid : Elements) (sfn slot l : ℕ) where
+  in_slot : (i : ℕ) → IsInSymbol prefix l i → prefix_frame_sample prefix grid sfn (960 * slot + i)
+      ≡ symbol_sample (useful_at (grid sfn (slot / 2) (symbols_of_slot prefix * (slot % 2) + l))) (useful_start prefix 0 0 l) i
+  unfolding prefix_frame_sample
+  in_slot i at =
+      let inside = at.inside in
+      let first : (960 * slot + i) / 960 ≡ slot = omega (arith, inside) in
+      let rest : (960 * slot + i) % 960 ≡ i = omega (arith, inside) in
+      rw (first, rest, at.symbol) refl
+
+later_sample : (useful : ℕ → Cpx) (start n : ℕ) → symbol_sample useful start (start + n) ≡ useful n
+later_sample useful start n =
+    let test : nat_lt (start + n) start ≡ false = grind (arith, nat_tests) in
+    let place : start + n - start ≡ n = omega arith in
+    rw (test, place) refl
+
+earlier_sample : (useful : ℕ → Cpx) (start d : ℕ) → 1 ≤ d → d ≤ start → d ≤ 128 → symbol_sample useful start (start - d) ≡ useful (128 - d)
+earlier_sample useful start d some fits few =
+    let test : nat_lt (start - d) start ≡ true = grind (arith, nat_tests) in
+    let place : start - d + 128 - start ≡ 128 - d = omega (arith, some, fits, few) in
+    rw (test, place) refl
+
+pub in_useful : (prefix : Prefix) (l n : ℕ) → IsPrefix prefix → l < symbols_of_slot prefix → n < 128 → IsInSymbol prefix l (useful_start prefix 0 0 l + n)
+in_useful prefix l n (inl e) few inside = subst (λ p. l < symbols_of_slot p → IsInSymbol p l (useful_start p 0 0 l + n)) (sym e) (λ fits. record { inside = omega (arith, fits, inside); symbol = omega (arith, fits, inside) }) few
+in_useful prefix l n (inr e) few inside = subst (λ p. l < symbols_of_slot p → IsInSymbol p l (useful_start p 0 0 l + n)) (sym e) (λ fits. record { inside = omega (arith, fits, inside); symbol = omega (arith, fits, inside) }) few
+
+pub useful_parts_stand : (prefix : Prefix) (grid : Elements) (sfn slot l n : ℕ) → IsPrefix prefix → l < symbols_of_slot prefix → n < 128 →
+    prefix_frame_sample prefix grid sfn (useful_start prefix 0 slot l + n) ≡ useful_at (grid sfn (slot / 2) (symbols_of_slot prefix * (slot % 2) + l)) n
+useful_parts_stand prefix grid sfn slot l n known few inside =
+    let e : useful_start prefix 0 slot l + n ≡ 960 * slot + (useful_start prefix 0 0 l + n) = omega arith in
+    ap (prefix_frame_sample prefix grid sfn) e ∙ in_slot prefix grid sfn slot l (useful_start prefix 0 0 l + n) (in_useful prefix l n known few inside)
+    ∙ later_sample (useful_at (grid sfn (slot / 2) (symbols_of_slot prefix * (slot % 2) + l))) (useful_start prefix 0 0 l) n
+
+-- the samples of a prefix
+record IsInPrefix (prefix : Prefix) (l d : ℕ) : Type 0 where
+  fits : d ≤ useful_start prefix 0 0 l
+  few : d ≤ 128
+  place : IsInSymbol prefix l (useful_start prefix 0 0 l - d)
 
 prefix_fits : (l d : ℕ) → d ≤ prefix_length normal l → (d ≤ 10) × (0 < l → d ≤ 9)
 prefix_fits l d h = grind (arith, nat_tests)
 
-pub prefixes_repeat : (grid : Elements) (sfn slot l d : ℕ) → l < 7 → 1 ≤ d → d ≤ prefix_length normal l →
-    frame_sample grid sfn (useful_start normal 0 slot l - d) ≡ useful_at (grid sfn (slot / 2) (7 * (slot % 2) + l)) (128 - d)
-prefixes_repeat grid sfn slot l d few some fits =
-    let both = prefix_fits l d fits in
-    let i : ℕ = 10 + 137 * l - d in
-    let e : useful_start normal 0 slot l - d ≡ 960 * slot + i = omega (arith, both.0) in
-    let is : symbol_of normal i ≡ l = first_symbol l d some both.0 both.1 in
-    let place : useful_place i ≡ 128 - d = rw is (omega (arith, some, both.0)) in
-    ap (frame_sample grid sfn) e ∙ in_slot grid sfn slot l i (omega (arith, few)) is ∙ ap (useful_at (grid sfn (slot / 2) (7 * (slot % 2) + l))) place
+normal_symbol : (l d : ℕ) → 1 ≤ d → d ≤ 10 → (0 < l → d ≤ 9) → symbol_of normal (10 + 137 * l - d) ≡ l
+normal_symbol l d some ten nine = settle (nat_lt 0 l) refl
   where
-    first_symbol : (l d : ℕ) → 1 ≤ d → d ≤ 10 → (0 < l → d ≤ 9) → symbol_of normal (10 + 137 * l - d) ≡ l
-    first_symbol l d some ten nine = settle (nat_lt 0 l) refl
-      where
-        settle : (b : Bool) → nat_lt 0 l ≡ b → symbol_of normal (10 + 137 * l - d) ≡ l
-        settle true e = omega (arith, some, nine (ltb-true _ _ e))
-        settle false e = omega (arith, some, ten, ltb-false _ _ e)
+    settle : (b : Bool) → nat_lt 0 l ≡ b → symbol_of normal (10 + 137 * l - d) ≡ l
+    settle true e = omega (arith, some, nine (ltb-true _ _ e))
+    settle false e = omega (arith, some, ten, ltb-false _ _ e)
+
+normal_prefix : (l d : ℕ) → l < 7 → 1 ≤ d → d ≤ prefix_length normal l → IsInPrefix normal l d
+normal_prefix l d few some h =
+    let both = prefix_fits l d h in
+    let start : useful_start normal 0 0 l ≡ 10 + 137 * l = omega arith in
+    record {
+      fits = omega (arith, both.0);
+      few = omega (arith, both.0);
+      place = record { inside = omega (arith, few, start); symbol = rw start (normal_symbol l d some both.0 both.1) };
+    }
+
+extended_fits : (l d : ℕ) → d ≤ prefix_length extended l → d ≤ 32
+extended_fits l d h = grind (arith, nat_tests)
+
+extended_prefix : (l d : ℕ) → l < 6 → 1 ≤ d → d ≤ prefix_length extended l → IsInPrefix extended l d
+extended_prefix l d few some h =
+    let most = extended_fits l d h in
+    record { fits = omega (arith, most); few = omega (arith, most); place = record { inside = omega (arith, few); symbol = omega (arith, some, most) } }
+
+in_prefix : (prefix : Prefix) (l d : ℕ) → IsPrefix prefix → l < symbols_of_slot prefix → 1 ≤ d → d ≤ prefix_length prefix l → IsInPrefix prefix l d
+in_prefix prefix l d (inl e) few some h =
+    subst (λ p. l < symbols_of_slot p → d ≤ prefix_length p l → IsInPrefix p l d) (sym e) (λ inside fits. normal_prefix l d inside some fits) few h
+in_prefix prefix l d (inr e) few some h =
+    subst (λ p. l < symbols_of_slot p → d ≤ prefix_length p l → IsInPrefix p l d) (sym e) (λ inside fits. extended_prefix l d inside some fits) few h
+
+pub prefixes_repeat : (prefix : Prefix) (grid : Elements) (sfn slot l d : ℕ) → IsPrefix prefix → l < symbols_of_slot prefix → 1 ≤ d → d ≤ prefix_length prefix l →
+    prefix_frame_sample prefix grid sfn (useful_start prefix 0 slot l - d) ≡ useful_at (grid sfn (slot / 2) (symbols_of_slot prefix * (slot % 2) + l)) (128 - d)
+prefixes_repeat prefix grid sfn slot l d known few some fits =
+    let at = in_prefix prefix l d known few some fits in
+    let inside = at.fits in
+    let e : useful_start prefix 0 slot l - d ≡ 960 * slot + (useful_start prefix 0 0 l - d) = omega (arith, inside) in
+    ap (prefix_frame_sample prefix grid sfn) e ∙ in_slot prefix grid sfn slot l (useful_start prefix 0 0 l - d) at.place
+    ∙ earlier_sample (useful_at (grid sfn (slot / 2) (symbols_of_slot prefix * (slot % 2) + l))) (useful_start prefix 0 0 l) d some inside at.few

@@ -18,7 +18,7 @@ use Rattle.sib1.proofs.Texts.{is_text_of}
 use Rattle.sib1.proofs.Messages.{whatever_follows}
 use Rattle.cell_tx.specs.declared.cell.CellPlan.{CellPlan}
 use Rattle.cell_tx.specs.Transport.{block_size, checked_size, system_text, filled, row_with, shared_word}
-use Rattle.cell_tx.specs.Plan.{IsSendable}
+use Rattle.cell_tx.specs.Plan.{IsSendableWith}
 use Rattle.cell_tx.specs.Control.{version_of, grant_of}
 use Rattle.cell_tx.proofs.BlockRows.{IsRowOf, size_fits, row_of_size, mcs_small}
 
@@ -35,7 +35,8 @@ turn (suc (suc (suc (suc n)))) l = absurd (omega (arith, l))
 pub version-fits : (number : ℕ) → version_of number < 4
 version-fits number = turn (number % 8 / 2) (omega arith)
 
-module _ (plan : CellPlan) (sendable : IsSendable plan) where
+-- a plan can be sent, whatever says that what is sent of its block is enough
+module _ {Enough : Type 0} (plan : CellPlan) (sendable : IsSendableWith Enough plan) where
   -- the table has a size
   sized : size_of plan.mcs plan.column ≡ Some (block_size plan)
   sized = some_is (size_of plan.mcs plan.column) sendable.mcs

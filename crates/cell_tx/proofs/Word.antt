@@ -9,14 +9,14 @@ use Rattle.cell_tx.specs.Ports.{port_mask}
 use Rattle.dci.specs.Assignment.{riv_of}
 use Rattle.dci.specs.Fields.{system_information_rnti}
 use Rattle.dci.specs.Format1A.{sent_word}
-use Rattle.cell_tx.specs.Block.{block_bits, port_word}
+use Rattle.cell_tx.specs.Block.{master_bits, master_word, block_bits, port_word}
 use Rattle.cell_tx.specs.Control.{version_of, grant_of, control_word}
 
 parts-length : (a b c d e f : ℕ) → length ((bits_of 3 a ++ bits_of 1 b ++ bits_of 2 c ++ bits_of 8 d ++ bits_of 10 e) ++ bits_of 16 f) ≡ 40
 parts-length a b c d e f = refl
 
 pub broadcast_word-length : (port : Port) (plan : CellPlan) (sfn : ℕ) → length (port_word port plan sfn) ≡ 40
-unfolding port_word block_bits
+unfolding master_word master_bits
 broadcast_word-length port plan sfn = parts-length 0 (duration_code plan.duration) (resource_code plan.resource) (sfn / 4) plan.spare (bit_xor (crc16_of (block_bits plan sfn)) (port_mask port))
 
 granted-length : (a b c d : ℕ) (column : Bool) (check : ℕ) →

@@ -1,7 +1,9 @@
--- The broadcast channel of a plan: its master block, coded, matched and scrambled (TS 36.212 section 5.3.1, TS 36.211 section 6.6).
+-- The broadcast channel: its master block, coded, matched and scrambled (TS 36.212 section 5.3.1, TS 36.211 section 6.6).
 use Rattle.std.specs.Prelude.{ℕ, ◌+◌, ◌*◌, ◌/◌, ◌%◌, Bool, List, ◌++◌, length}
 use Rattle.cs_num.specs.declared.Cpx.{Cpx}
 use Rattle.lte_types.specs.declared.bandwidth.Bandwidth.TheVariants.{N6}
+use Rattle.lte_types.specs.declared.duration.Duration.{Duration}
+use Rattle.lte_types.specs.declared.resource.Resource.{Resource}
 use Rattle.lte_types.specs.Codes.{bandwidth_code, duration_code, resource_code}
 use Rattle.cs_bits.specs.Numbers.{bits_of}
 use Rattle.cs_bits.specs.Checks.{with_check_16}
@@ -14,16 +16,23 @@ use Rattle.cell_tx.specs.declared.cell.CellPlan.{CellPlan}
 use Rattle.cell_tx.specs.Ports.{port_mask}
 use Rattle.cell_tx.specs.Points.{scrambled, point_of}
 
--- the 24 bits of the master block in the frame with this number: dl-Bandwidth n6, phich-Config, the upper 8 bits of the frame
+-- the 24 bits of a master block in the frame with this number: dl-Bandwidth n6, phich-Config, the upper 8 bits of the frame
 -- number, and the spare bits (TS 36.331 section 6.2.2)
-unfoldable pub block_bits : CellPlan → ℕ → List Bool
-block_bits plan sfn =
-    bits_of 3 (bandwidth_code N6) ++ bits_of 1 (duration_code plan.duration) ++ bits_of 2 (resource_code plan.resource) ++ bits_of 8 (sfn / 4)
-    ++ bits_of 10 plan.spare
+unfoldable pub master_bits : Duration → Resource → ℕ → ℕ → List Bool
+master_bits duration resource sfn spare =
+    bits_of 3 (bandwidth_code N6) ++ bits_of 1 (duration_code duration) ++ bits_of 2 (resource_code resource) ++ bits_of 8 (sfn / 4)
+    ++ bits_of 10 spare
 
 -- the block and its check, which is masked by the count of antenna ports (TS 36.212 section 5.3.1.1)
-unfoldable pub port_word : Port → CellPlan → ℕ → List Bool
-port_word port plan sfn = with_check_16 (port_mask port) (block_bits plan sfn)
+unfoldable pub master_word : ℕ → Duration → Resource → ℕ → ℕ → List Bool
+master_word mask duration resource sfn spare = with_check_16 mask (master_bits duration resource sfn spare)
+
+-- those of a plan
+abbrev pub block_bits : CellPlan → ℕ → List Bool
+block_bits plan sfn = master_bits plan.duration plan.resource sfn plan.spare
+
+abbrev pub port_word : Port → CellPlan → ℕ → List Bool
+port_word port plan sfn = master_word (port_mask port) plan.duration plan.resource sfn plan.spare
 
 -- bit n of the coded and matched bits of a word, which are repeated without end (TS 36.212 sections 5.1.3.1 and 5.1.4.2)
 abbrev pub coded_bit : List Bool → ℕ → Bool

@@ -4,14 +4,15 @@ use Rattle.cs_num.specs.declared.Sample.{Sample}
 use Rattle.cs_num.specs.Complex.{IsWithin, square, plus, times}
 use Rattle.fold128.specs.Symbol.{useful_at}
 use Rattle.lte_types.specs.Ranges.{IsValid}
-use Rattle.lte_types.specs.Numerology.{frame_length, normal, prefix_length, useful_start}
+use Rattle.lte_types.specs.declared.numerology.Prefix.{Prefix}
+use Rattle.lte_types.specs.Numerology.{frame_length, IsPrefix, prefix_length, symbols_of_slot, useful_start}
 use Rattle.dci.specs.Sizes.{size_of}
 use Rattle.cell_tx.specs.declared.cell.CellPlan.{CellPlan}
 use Rattle.cell_tx.specs.Transport.{is_whole, is_resolvable}
 use Rattle.cell_tx.specs.Plan.{IsSendable, plan_refusal}
 use Rattle.cell_tx.specs.declared.antenna.Port.{Port}
 use Rattle.cell_tx.specs.Grid.{port_element}
-use Rattle.cell_tx.specs.Sent.{Elements, frame_sample, sent, sample_of, received}
+use Rattle.cell_tx.specs.Sent.{Elements, prefix_frame_sample, prefix_sent, sent, sample_of, received}
 use Rattle.finite.specs.Lists.{values_below}
 use Rattle.cs_num.specs.declared.Cpx.{Cpx}
 use Rattle.cell_tx.specs.Clean.{IsGain, IsCleanOf, IsClean, IsOffset, start_of, number_at_start}
@@ -24,24 +25,25 @@ AcceptedAreSendable = (plan : CellPlan) → (IsValid plan.sib1 × (plan_refusal 
 abbrev pub WholeBlocksAreResolvable : Type 0
 WholeBlocksAreResolvable = (plan : CellPlan) → IsSome (size_of plan.mcs plan.column) → is_whole plan ≡ true → is_resolvable plan ≡ true
 
--- the useful part of symbol l of a slot stands from its first sample on
+-- with either cyclic prefix the useful part of symbol l of a slot stands from its first sample on
 abbrev pub UsefulPartsStand : Type 0
-UsefulPartsStand = (grid : Elements) (sfn slot l n : ℕ) → l < 7 → n < 128 →
-    frame_sample grid sfn (useful_start normal 0 slot l + n) ≡ useful_at (grid sfn (slot / 2) (7 * (slot % 2) + l)) n
+UsefulPartsStand = (prefix : Prefix) (grid : Elements) (sfn slot l n : ℕ) → IsPrefix prefix → l < symbols_of_slot prefix → n < 128 →
+    prefix_frame_sample prefix grid sfn (useful_start prefix 0 slot l + n) ≡ useful_at (grid sfn (slot / 2) (symbols_of_slot prefix * (slot % 2) + l)) n
 
 -- before it stand its last samples, as many as its prefix has
 abbrev pub PrefixesRepeat : Type 0
-PrefixesRepeat = (grid : Elements) (sfn slot l d : ℕ) → l < 7 → 1 ≤ d → d ≤ prefix_length normal l →
-    frame_sample grid sfn (useful_start normal 0 slot l - d) ≡ useful_at (grid sfn (slot / 2) (7 * (slot % 2) + l)) (128 - d)
+PrefixesRepeat = (prefix : Prefix) (grid : Elements) (sfn slot l d : ℕ) → IsPrefix prefix → l < symbols_of_slot prefix → 1 ≤ d → d ≤ prefix_length prefix l →
+    prefix_frame_sample prefix grid sfn (useful_start prefix 0 slot l - d) ≡ useful_at (grid sfn (slot / 2) (symbols_of_slot prefix * (slot % 2) + l)) (128 - d)
 
 -- frame j of a sequence has the number of its first frame and j more
 abbrev pub FramesFollow : Type 0
-FramesFollow = (grid : Elements) (sfn j i : ℕ) → i < frame_length → sent grid sfn (frame_length * j + i) ≡ frame_sample grid ((sfn + j) % 1024) i
+FramesFollow = (prefix : Prefix) (grid : Elements) (sfn j i : ℕ) → i < frame_length →
+    prefix_sent prefix grid sfn (frame_length * j + i) ≡ prefix_frame_sample prefix grid ((sfn + j) % 1024) i
 
 -- what is sent from an offset on has a frame at its start and then one after the other, with the number at the start and on
 abbrev pub FramesBeginAtStart : Type 0
-FramesBeginAtStart = (grid : Elements) (sfn offset j i : ℕ) → sfn ≤ 1023 → IsOffset offset → i < frame_length →
-    sent grid sfn (start_of offset + frame_length * j + i + offset) ≡ frame_sample grid ((number_at_start sfn offset + j) % 1024) i
+FramesBeginAtStart = (prefix : Prefix) (grid : Elements) (sfn offset j i : ℕ) → sfn ≤ 1023 → IsOffset offset → i < frame_length →
+    prefix_sent prefix grid sfn (start_of offset + frame_length * j + i + offset) ≡ prefix_frame_sample prefix grid ((number_at_start sfn offset + j) % 1024) i
 
 -- an element has components of size at most 127, and size at most 128
 abbrev pub ElementsAreWithin : Type 0
@@ -53,7 +55,7 @@ ElementsAreSmall = (port : Port) (plan : CellPlan) (sfn subframe symbol k : ℕ)
 -- where no element has more, no sample has a size above 1,153
 abbrev pub SmallElementsMakeSmallSamples : Type 0
 SmallElementsMakeSmallSamples =
-    (grid : Elements) → ((sfn subframe symbol k : ℕ) → square (grid sfn subframe symbol k) ≤ 128 * 128) → (sfn i : ℕ) → square (sent grid sfn i) ≤ 1153 * 1153
+    (prefix : Prefix) (grid : Elements) → ((sfn subframe symbol k : ℕ) → square (grid sfn subframe symbol k) ≤ 128 * 128) → (sfn i : ℕ) → square (prefix_sent prefix grid sfn i) ≤ 1153 * 1153
 
 -- so has no sample of a cell
 abbrev pub SamplesAreSmall : Type 0

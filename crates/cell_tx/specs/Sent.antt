@@ -5,11 +5,12 @@ use Rattle.cs_num.specs.declared.Cpx.{Cpx}
 use Rattle.cs_num.specs.declared.Sample.{Sample}
 use Rattle.cs_num.specs.Complex.{times}
 use Rattle.fold128.specs.Symbol.{useful_at}
-use Rattle.lte_types.specs.Numerology.{frame_length, slot_length, useful_length, normal, useful_start, symbol_of}
+use Rattle.lte_types.specs.declared.numerology.Prefix.{Prefix}
+use Rattle.lte_types.specs.Numerology.{frame_length, slot_length, useful_length, normal, symbols_of_slot, useful_start, symbol_of}
 use Rattle.cell_tx.specs.declared.cell.CellPlan.{CellPlan}
 use Rattle.cell_tx.specs.Grid.{element}
 
--- the elements of frames: by the number of the frame, the subframe, its symbol 0 to 13 and the subcarrier
+-- the elements of frames: by the number of the frame, the subframe, its symbol and the subcarrier
 abbrev pub Elements : Type 0
 Elements = ℕ → ℕ → ℕ → ℕ → Cpx
 
@@ -18,23 +19,36 @@ Elements = ℕ → ℕ → ℕ → ℕ → Cpx
 abbrev pub symbol_sample : (ℕ → Cpx) → ℕ → ℕ → Cpx
 symbol_sample useful start i = if nat_lt i start then useful (i + useful_length - start) else useful (i - start)
 
--- sample i of slot 0 to 19 of the frame with this number
-abbrev pub slot_sample : Elements → ℕ → ℕ → ℕ → Cpx
-slot_sample grid sfn slot i =
-    symbol_sample (useful_at (grid sfn (slot / 2) (7 * (slot % 2) + symbol_of normal i)))
-    (useful_start normal 0 0 (symbol_of normal i)) i
-
--- sample i of the frame with this number
-unfoldable pub frame_sample : Elements → ℕ → ℕ → Cpx
-frame_sample grid sfn i = slot_sample grid sfn (i / slot_length) (i % slot_length)
-
 -- the number of the frame that sample i is in, where sample 0 is the first of the frame numbered sfn
 abbrev pub number_of : ℕ → ℕ → ℕ
 number_of sfn i = (sfn + i / frame_length) % 1024
 
+-- ---- with a cyclic prefix
+
+-- sample i of slot 0 to 19 of the frame with this number
+abbrev pub prefix_slot_sample : Prefix → Elements → ℕ → ℕ → ℕ → Cpx
+prefix_slot_sample prefix grid sfn slot i =
+    symbol_sample (useful_at (grid sfn (slot / 2) (symbols_of_slot prefix * (slot % 2) + symbol_of prefix i)))
+    (useful_start prefix 0 0 (symbol_of prefix i)) i
+
+-- sample i of the frame with this number
+unfoldable pub prefix_frame_sample : Prefix → Elements → ℕ → ℕ → Cpx
+prefix_frame_sample prefix grid sfn i = prefix_slot_sample prefix grid sfn (i / slot_length) (i % slot_length)
+
 -- sample i of the endless sequence of frames that begins with the frame numbered sfn
-unfoldable pub sent : Elements → ℕ → ℕ → Cpx
-sent grid sfn i = frame_sample grid (number_of sfn i) (i % frame_length)
+unfoldable pub prefix_sent : Prefix → Elements → ℕ → ℕ → Cpx
+prefix_sent prefix grid sfn i = prefix_frame_sample prefix grid (number_of sfn i) (i % frame_length)
+
+-- ---- with the normal cyclic prefix
+
+abbrev pub slot_sample : Elements → ℕ → ℕ → ℕ → Cpx
+slot_sample grid sfn slot i = prefix_slot_sample normal grid sfn slot i
+
+abbrev pub frame_sample : Elements → ℕ → ℕ → Cpx
+frame_sample grid sfn i = prefix_frame_sample normal grid sfn i
+
+abbrev pub sent : Elements → ℕ → ℕ → Cpx
+sent grid sfn i = prefix_sent normal grid sfn i
 
 -- what is received of a cell's sequence, from the sample at offset on, by a channel that is one number
 abbrev pub received : CellPlan → ℕ → ℕ → Cpx → ℕ → Cpx

@@ -62,7 +62,7 @@ const PLACES: usize = 14 * 72;
 
 /// For each place of a subframe its number in a list of places, and their count where it is not in it.
 #[derive(Drop)]
-pub(crate) struct PlaceTable {
+pub struct PlaceTable {
     pub count: u16,
     pub numbers: [u16; PLACES],
 }
@@ -85,7 +85,7 @@ fn put_number(numbers: &mut [u16; PLACES], none: u16, here: Place, number: u16)
 }
 
 /// The table of at most 612 places.
-pub(crate) fn table_of(places: &[Place]) -> PlaceTable
+pub fn table_of(places: &[Place]) -> PlaceTable
     requires { length places.now ≤ 612 }
     ensures { IsTableOf places.now result }
 {
@@ -128,7 +128,7 @@ fn second_of(points: &[Cpx], i: usize) -> Cpx
 
 /// What a port sends at a place of the grid, by the table of a channel's places and its points in the same
 /// order, of which there is an even number; `None` at every other place.
-pub(crate) fn value_at(port: Port, table: &PlaceTable, points: &[Cpx], here: Place) -> Option<Cpx>
+pub fn value_at(port: Port, table: &PlaceTable, points: &[Cpx], here: Place) -> Option<Cpx>
     requires symbol { here.symbol < 14 }
     requires k { here.k < 72 }
     requires room { table.now.count ≤ length points.now }

@@ -19,8 +19,8 @@ use lte_types::{FRAME_LENGTH, Prefix, SLOT_LENGTH, Sfn, USEFUL_LENGTH};
 // The samples of a frame.
 const FRAME: u64 = FRAME_LENGTH as u64;
 
-// The sample that a small number is.
-fn to_sample(z: Cpx) -> Sample
+/// The sample that a number is. Its components have size at most 32,767.
+pub fn to_sample(z: Cpx) -> Sample
     requires { IsWithin 32767 z }
     ensures { result ≡ sample_of z }
 {
@@ -187,8 +187,8 @@ fn value_of_gain(gain: (i16, i16)) -> Cpx
     }
 }
 
-// A clean sample times a gain.
-fn amplified(gain: (i16, i16), clean: Sample) -> Sample
+/// A clean sample times a gain of size 1 to 28. The size of the sample is at most 1,153.
+pub fn amplified(gain: (i16, i16), clean: Sample) -> Sample
     requires gain { IsGain (gain_of gain) }
     requires clean { square (value_of clean) ≤ 1153 * 1153 }
     ensures value { result ≡ sample_of (times (gain_of gain) (value_of clean)) }

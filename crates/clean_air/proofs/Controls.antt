@@ -80,15 +80,15 @@ received_indicator_is_told recording starts grids slot indicator low high receiv
 
 -- ---- the grant
 
-record HasParts (word bits : List Bool) : Type 0 where
-  size : length word ≡ 37
-  message : message_of 16 word ≡ bits
+pub record HasParts (word bits : List Bool) : Type 0 where
+  pub size : length word ≡ 37
+  pub message : message_of 16 word ≡ bits
 
 has_parts : (grant : Grant) (check : ℕ) → HasParts (sent_word grant ++ bits_of 16 check) (sent_word grant)
 unfolding sent_word
 has_parts grant check = record { size = refl; message = refl }
 
-grant_parts : (grant : Grant) → HasParts (grant_word grant) (sent_word grant)
+pub grant_parts : (grant : Grant) → HasParts (grant_word grant) (sent_word grant)
 grant_parts grant = has_parts grant _
 
 pub sent_grant_is_told : SentGrantIsTold
@@ -120,7 +120,7 @@ sent_grant_is_told count candidate grant is enough speak = record {
     }
 
 -- with indicator 2 or 3 there are four elements at least
-four_elements : (identity indicator : ℕ) (duration : Duration) (resource : Resource) → 2 ≤ indicator → indicator ≤ 3 → 4 ≤ element_count indicator duration resource
+pub four_elements : (identity indicator : ℕ) (duration : Duration) (resource : Resource) → 2 ≤ indicator → indicator ≤ 3 → 4 ≤ element_count indicator duration resource
 four_elements identity indicator duration resource low high =
     enough (group_count indicator duration resource) (subst (λ n. 36 ≤ n) (pdcch_count identity indicator duration resource (omega (arith, low)) high) (pdcch_carry identity indicator duration resource low high).enough)
   where

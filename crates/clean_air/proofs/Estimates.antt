@@ -6,11 +6,11 @@ use Rattle.sizes.specs.Sizes.{IsSized}
 use Rattle.sizes.proofs.Squares.{square-conjugate}
 use Rattle.sizes.proofs.Sized.{sized_plain, sized-times}
 use Rattle.crs.specs.Qpsk.{IsPoint}
-use Rattle.crs.specs.Reference.{reference_at}
-use Rattle.crs.proofs.Values.{reference-IsPoint}
-use Rattle.soft_bits.specs.Soft.{SeenSlot, pilot_symbol, pilot_subcarrier, pilot_seen, pilot_sent, pilot, channel}
+use Rattle.crs.specs.declared.pattern.Pattern.{Pattern}
+use Rattle.crs.proofs.Values.{pattern_reference-IsPoint}
+use Rattle.soft_bits.specs.Soft.{SeenSlot, pilot_subcarrier, pattern_symbol, pattern_seen, pattern_sent, pattern_pilot, pattern_channel}
 use Rattle.cell_tx.proofs.Bounds.{full_size}
-use Rattle.clean_air.specs.Values.{ArePilotsSeen}
+use Rattle.clean_air.specs.Values.{ArePatternSeen}
 use Rattle.budget.proofs.Near.{IsNear, estimate-near}
 use Rattle.budget.proofs.Deviations.{deviation, deviation-sized, channel_is}
 
@@ -22,13 +22,13 @@ full_square z e = rw e refl
 pub full-size : (a : Cpx) → IsPoint a → square a ≡ 16200
 full-size a full = ap₂ (λ m n. m + n) (full_square _ (full_size _ full.re)) (full_square _ (full_size _ full.im))
 
-pub sent-size : (identity number i : ℕ) → square (pilot_sent identity number i) ≡ 16200
-unfolding pilot_sent reference_at
-sent-size identity number i = full-size _ (reference-IsPoint identity number (pilot_symbol identity i) (pilot_subcarrier identity i / 6))
+pub sent-size : (pattern : Pattern) (identity number i : ℕ) → square (pattern_sent pattern identity number i) ≡ 16200
+unfolding pattern_sent
+sent-size pattern identity number i = full-size _ (pattern_reference-IsPoint pattern identity number (pattern_symbol pattern identity i) (pilot_subcarrier identity i / 6))
 
-pilot-near : (gain : Cpx) (slot : SeenSlot) (i : ℕ) → i < 24 → ArePilotsSeen gain slot → IsNear (square gain) gain 1036800 245760 (pilot slot i)
-unfolding pilot
-pilot-near gain slot i l seen = record {
+pilot-near : (pattern : Pattern) (gain : Cpx) (slot : SeenSlot) (i : ℕ) → i < 24 → ArePatternSeen pattern gain slot → IsNear (square gain) gain 1036800 245760 (pattern_pilot pattern slot i)
+unfolding pattern_pilot
+pilot-near pattern gain slot i l seen = record {
   off = times (deviation gain d p) (conjugate d);
   is = channel_is gain d p ∙ ap (λ (n : ℕ). plus (multiple (64 * n) gain) (times (deviation gain d p) (conjugate d))) size;
   small = subst (λ (n : ℕ). IsSized 245760 n (times (deviation gain d p) (conjugate d))) (once (square gain))
@@ -36,13 +36,13 @@ pilot-near gain slot i l seen = record {
 }
   where
     d : Cpx
-    d = pilot_sent slot.identity slot.number i
+    d = pattern_sent pattern slot.identity slot.number i
 
     p : Cpx
-    p = pilot_seen slot i
+    p = pattern_seen pattern slot i
 
     size : square d ≡ 16200
-    size = sent-size slot.identity slot.number i
+    size = sent-size pattern slot.identity slot.number i
 
     small_value : square (conjugate d) ≤ 128 * 128
     small_value = below (square (conjugate d)) (square-conjugate d ∙ size)
@@ -54,6 +54,8 @@ pilot-near gain slot i l seen = record {
     once n = omega arith
 
 -- at every subcarrier the estimate is near 3 * 64 * 16200 times the gain
-pub channel-near : (gain : Cpx) (slot : SeenSlot) (k : ℕ) → ArePilotsSeen gain slot → IsNear (square gain) gain 3110400 737280 (channel slot k)
-unfolding channel
-channel-near gain slot k seen = estimate-near (square gain) gain 1036800 245760 (pilot slot) (λ i l. pilot-near gain slot i l seen) (slot.identity % 3) k
+pub channel-near : (pattern : Pattern) (gain : Cpx) (slot : SeenSlot) (k : ℕ) → ArePatternSeen pattern gain slot →
+    IsNear (square gain) gain 3110400 737280 (pattern_channel pattern slot k)
+unfolding pattern_channel
+channel-near pattern gain slot k seen =
+    estimate-near (square gain) gain 1036800 245760 (pattern_pilot pattern slot) (λ i l. pilot-near pattern gain slot i l seen) (slot.identity % 3) k

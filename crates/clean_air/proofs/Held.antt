@@ -1,7 +1,7 @@
 -- A list holds each cell that is heard: whose signals stand at its places, and whose first frame tells a master block
 -- of its number.
 use Rattle.std.proofs.Common.{◌≡◌, ℕ, ◌+◌, ◌/◌, ◌%◌, ◌<◌, ◌≤◌, inl, inr, arith, refl, ap, sym, subst, ◌∙◌, List, length, nat_eq, nat_le, true}
-use Rattle.std.specs.Prelude.{◌&&◌, Result}
+use Rattle.std.specs.Prelude.{◌&&◌, ◌↔◌, Result}
 use Rattle.std.specs.List.{Contains}
 use Rattle.std.proofs.lemmas.Bool.{cases_lt}
 use Rattle.std.proofs.lemmas.Bool.Decides.{nat_tests}
@@ -11,39 +11,54 @@ use Rattle.lte_types.specs.declared.sib1.Sib1.{Sib1}
 use Rattle.lte_types.specs.declared.sib1_reason.Sib1Reason.{Sib1Reason}
 use Rattle.lte_types.specs.declared.frame.Half.{Half}
 use Rattle.lte_types.specs.declared.frame.Half.TheVariants.{Zero, Five}
+use Rattle.lte_types.specs.declared.numerology.Prefix.{Prefix}
+use Rattle.lte_types.specs.Numerology.{normal, IsPrefix, symbol_step}
 use Rattle.lte_types.specs.declared.hit.Hit.{Hit}
 use Rattle.lte_types.specs.declared.entry.Entry.{Entry}
 use Rattle.pss_search.specs.Hits.{found, hits_of}
 use Rattle.pss_search.proofs.Listed.{list_is_right}
 use Rattle.lte_types.specs.Identity.{cell_of}
 use Rattle.sss_detect.specs.Place.{start_of}
-use Rattle.sss_detect.specs.Identity.{identity_of}
+use Rattle.sss_detect.specs.Identity.{prefix_identity}
 use Rattle.pbch.specs.declared.master.Master.{Master}
 use Rattle.cell_tx.specs.Clean.{start_of as start_after}
 use Rattle.explain.specs.Entries.{identity_at, start_at, master_of, epoch, distance, is_same_cell, IsEntryBy, AreEntries, IsListOfHits}
+use Rattle.explain.specs.declared.places.Place.{Place}
 use Rattle.explain.specs.Window.{IsInWindow, ComeBefore}
 use Rattle.explain.specs.Masters.{entry_of}
 use Rattle.explain.specs.Laws.{IsEntryOfSome}
 use Rattle.explain.proofs.Entries.{same_entry}
 use Rattle.explain.proofs.Listed.{sound_of, complete_of}
 use Rattle.budget.specs.Peak.{IsPrimaryAt}
-use Rattle.budget.specs.Score.{AreSynchronisation}
+use Rattle.budget.specs.Score.{AreSignals}
 use Rattle.budget.proofs.Peaks.{primary_is_listed, only_hit_near}
 use Rattle.budget.proofs.Scores.{sent_pair_is_identified}
 use Rattle.clean_air.specs.Clean.{HoldsOne}
 use Rattle.clean_air.proofs.SentSymbols.{IsTruePlace}
 use Rattle.clean_air.proofs.TruePlaces.{AreNear, true_hit, true_start, near_true, near_starts, same_numbers}
 
--- what is used of a cell that begins at this offset: its synchronisation signals stand at its places, and its first
--- whole frame, of this number, tells this master block
-pub record IsHeard (Tells : ℕ → ℕ → ℕ → ℕ → ℕ → Master → Type 0) (recording : List Sample) (identity offset number : ℕ) (master : Master) : Type 0 where
+-- what is used of a cell that begins at this offset: its synchronisation signals stand at its places, with this prefix, and
+-- its first whole frame, of this number, tells this master block
+pub record IsHeardBy (prefix : Prefix) (Tells : ℕ → ℕ → ℕ → ℕ → ℕ → Master → Type 0) (recording : List Sample) (identity offset number : ℕ) (master : Master) : Type 0 where
   pub long : 57600 ≤ length recording
   pub within : offset < 19200
   pub known : number ≤ 1023
   pub primary : (t : ℕ) (half : Half) → IsTruePlace offset t half → t + 128 ≤ length recording → IsPrimaryAt recording t (identity % 3)
-  pub secondary : (t : ℕ) (half : Half) → IsTruePlace offset t half → 137 ≤ t → t + 128 ≤ length recording → AreSynchronisation recording t (identity / 3) (identity % 3) half
+  pub secondary : (t : ℕ) (half : Half) → IsTruePlace offset t half → symbol_step prefix ≤ t → t + 128 ≤ length recording → AreSignals prefix recording t (identity / 3) (identity % 3) half
   pub tells : Tells identity (start_after offset) 1 0 (number % 4) master
   pub upper : master.mib.upper ≡ number / 4
+
+-- the same with the normal prefix
+abbrev pub IsHeard : (ℕ → ℕ → ℕ → ℕ → ℕ → Master → Type 0) → List Sample → ℕ → ℕ → ℕ → Master → Type 0
+IsHeard Tells recording identity offset number master = IsHeardBy normal Tells recording identity offset number master
+
+-- the place that a hit tells by a prefix
+abbrev pub place_by : Prefix → List Sample → Hit → Place
+place_by prefix recording hit = record { id = cell_of (prefix_identity prefix recording hit).0 hit.n2; start = start_of hit.t (prefix_identity prefix recording hit).1 }
+
+-- the hits of a recording before which there is room for a symbol of the prefix
+abbrev pub AreHitsBy : Prefix → List Sample → List Hit → Type 0
+AreHitsBy prefix recording hits = (hit : Hit) → Contains hits hit ↔ (Contains (hits_of recording) hit × (symbol_step prefix ≤ hit.t))
 
 -- what it says of two entries that they are of one cell
 record IsOneCell (m n gap : ℕ) : Type 0 where
@@ -57,19 +72,23 @@ start_small : (t : ℕ) (half : Half) → start_of t half < 19200
 start_small t Zero = omega arith
 start_small t Five = omega arith
 
+step_fits : (prefix : Prefix) → IsPrefix prefix → symbol_step prefix ≤ 832
+step_fits prefix (inl e) = rw e (omega arith)
+step_fits prefix (inr e) = rw e (omega arith)
+
 -- where frames tell at most one master block at a phase, and there is at most one answer on system information
-module _ (Tells : ℕ → ℕ → ℕ → ℕ → ℕ → Master → Type 0) (IsSystem : ℕ → ℕ → ℕ → ℕ → Mib → Result Sib1 Sib1Reason → Type 0)
+module _ (prefix : Prefix) (is_prefix : IsPrefix prefix) (Tells : ℕ → ℕ → ℕ → ℕ → ℕ → Master → Type 0) (IsSystem : ℕ → ℕ → ℕ → ℕ → Mib → Result Sib1 Sib1Reason → Type 0)
     (one : (identity start count j phase : ℕ) (a b : Master) → Tells identity start count j phase a → Tells identity start count j phase b → a ≡ b)
     (one_answer : (identity start sfn ports : ℕ) (mib : Mib) (a b : Result Sib1 Sib1Reason) → IsSystem identity start sfn ports mib a → IsSystem identity start sfn ports mib b → a ≡ b)
-    (recording : List Sample) where
+    (recording : List Sample) (hits : List Hit) (are : AreHitsBy prefix recording hits) where
   -- the entries of a hit
   abbrev pub IsOf : Hit → Entry → Type 0
-  IsOf hit entry = IsEntryBy Tells IsSystem recording (identity_at recording hit) (start_at recording hit) entry
+  IsOf hit entry = IsEntryBy Tells IsSystem recording (place_by prefix recording hit).id (place_by prefix recording hit).start entry
 
   abbrev pub IsOfSome : Entry → Type 0
-  IsOfSome entry = IsEntryOfSome IsOf (hits_of recording) entry
+  IsOfSome entry = IsEntryOfSome IsOf hits entry
 
-  module _ (identity offset number : ℕ) (master : Master) (sib1 : Result Sib1 Sib1Reason) (heard : IsHeard Tells recording identity offset number master)
+  module _ (identity offset number : ℕ) (master : Master) (sib1 : Result Sib1 Sib1Reason) (heard : IsHeardBy prefix Tells recording identity offset number master)
       (system : IsSystem identity (start_after offset) number master.ports master.mib sib1) where
     -- the cell's entry
     abbrev sent_entry : Entry
@@ -90,12 +109,14 @@ module _ (Tells : ℕ → ℕ → ℕ → ℕ → ℕ → Master → Type 0) (Is
         let long = heard.long in
         let inside : h.t + 128 ≤ length recording = omega (arith, long, h.is_hit.high) in
         let hit : Hit = found recording h.t (identity % 3) in
-        let pair : identity_of recording hit ≡ (identity / 3, h.half) = sent_pair_is_identified recording hit (identity / 3) h.half
-        (heard.secondary h.t h.half h.is_hit.is h.is_hit.low inside) in
+        let low = h.is_hit.low in
+        let room : symbol_step prefix ≤ h.t = (let fits = step_fits prefix is_prefix in omega (arith, fits, low)) in
+        let pair : prefix_identity prefix recording hit ≡ (identity / 3, h.half) = sent_pair_is_identified prefix recording hit (identity / 3) h.half
+        (heard.secondary h.t h.half h.is_hit.is room inside) in
         let cell : cell_of (identity / 3) (identity % 3) ≡ identity = omega arith in
         record {
           hit = hit;
-          listed = primary_is_listed recording h.t (identity % 3) (heard.primary h.t h.half h.is_hit.is inside) h.is_hit.low h.is_hit.high;
+          listed = (are hit).1 (primary_is_listed recording h.t (identity % 3) (heard.primary h.t h.half h.is_hit.is inside) (omega (arith, low)) h.is_hit.high, room);
           is_of = record {
             id = sym (ap (λ (p : ℕ × Half). cell_of p.0 (identity % 3)) pair ∙ cell);
             start = sym (ap (λ (p : ℕ × Half). start_of h.t p.1) pair ∙ true_start offset h.t h.half heard.within h.is_hit.is);
@@ -115,8 +136,8 @@ module _ (Tells : ℕ → ℕ → ℕ → ℕ → ℕ → Master → Type 0) (Is
     start_is : (other : Entry) (is : IsOfSome other) → other.id ≡ identity → AreNear other.start (start_after offset) → other.start ≡ start_after offset
     start_is other is id near =
         let hit = is.hit in
-        let half = (identity_of recording hit).1 in
-        let right = (list_is_right recording hit).0 is.listed in
+        let half = (prefix_identity prefix recording hit).1 in
+        let right = (list_is_right recording hit).0 ((are hit).0 is.listed).0 in
         let place = near_true offset hit.t half heard.within right.is_hit.from_first (subst (λ a. AreNear a (start_after offset)) is.is_of.start near) in
         let long = heard.long in
         let inside : place.u + 128 ≤ length recording = omega (arith, long, place.above, right.is_hit.to_last) in
@@ -167,7 +188,7 @@ module _ (Tells : ℕ → ℕ → ℕ → ℕ → ℕ → Master → Type 0) (Is
     same_if_near : (other : Entry) → IsOfSome other → is_same_cell other sent_entry ≡ true → other ≡ sent_entry
     same_if_near other is same =
         let cell = cell_tells other.id identity (distance (epoch other) (epoch sent_entry)) same in
-        let small = start_small is.hit.t (identity_of recording is.hit).1 in
+        let small = start_small is.hit.t (prefix_identity prefix recording is.hit).1 in
         let low : other.start < 19200 = omega (arith, small, is.is_of.start) in
         let first : start_after offset < 19200 = omega arith in
         let fits : other.sfn < 1024 = omega (arith, is.is_of.sfn) in
@@ -175,24 +196,38 @@ module _ (Tells : ℕ → ℕ → ℕ → ℕ → ℕ → Master → Type 0) (Is
         let start = start_is other is cell.id (near_starts other.start (start_after offset) other.sfn sent_entry.sfn low first fits sent cell.near) in
         entry_is other is cell.id start (same_numbers other.start (start_after offset) other.sfn sent_entry.sfn low first fits sent cell.near start ∙ sent_number)
 
-    module _ (list : List Entry) (listed : IsListOfHits (λ hit. AreEntries (IsOf hit)) (hits_of recording) list) where
+    module _ (list : List Entry) (listed : IsListOfHits (λ hit. AreEntries (IsOf hit)) hits list) where
       -- so the list has it
       in_list : Contains list sent_entry
       in_list =
-          let (other, stands) = complete_of IsOf (hits_of recording) list sent_entry listed is_entry in
+          let (other, stands) = complete_of IsOf hits list sent_entry listed is_entry in
           let same : other ≡ sent_entry = elim stands.same [
             | inl here ↦ here
-            | inr near ↦ same_if_near other (sound_of IsOf (hits_of recording) list other listed stands.inside) near
+            | inr near ↦ same_if_near other (sound_of IsOf hits list other listed stands.inside) near
           ] in
           subst (Contains list) same stands.inside
 
-      pub heard_is_held : (is_sent : Entry → Type 0) → is_sent sent_entry → HoldsOne list identity (start_after offset) number is_sent
-      heard_is_held is_sent sent = record {
+      pub heard_is_held_by : (is_sent : Entry → Type 0) → is_sent sent_entry → HoldsOne list identity (start_after offset) number is_sent
+      heard_is_held_by is_sent sent = record {
         entry = sent_entry;
         inside = in_list;
         id = refl;
         start = refl;
         sfn = sent_number;
         sent = sent;
-        only = λ other there id start number. entry_is other (sound_of IsOf (hits_of recording) list other listed there) id start number;
+        only = λ other there id start number. entry_is other (sound_of IsOf hits list other listed there) id start number;
       }
+
+-- with the normal prefix: each hit has room for a symbol before it
+normal_hits : (recording : List Sample) → AreHitsBy normal recording (hits_of recording)
+normal_hits recording hit = (λ listed. (listed, ((list_is_right recording hit).0 listed).is_hit.from_first), λ both. both.0)
+
+pub heard_is_held : (Tells : ℕ → ℕ → ℕ → ℕ → ℕ → Master → Type 0) (IsSystem : ℕ → ℕ → ℕ → ℕ → Mib → Result Sib1 Sib1Reason → Type 0)
+    (one : (identity start count j phase : ℕ) (a b : Master) → Tells identity start count j phase a → Tells identity start count j phase b → a ≡ b)
+    (one_answer : (identity start sfn ports : ℕ) (mib : Mib) (a b : Result Sib1 Sib1Reason) → IsSystem identity start sfn ports mib a → IsSystem identity start sfn ports mib b → a ≡ b)
+    (recording : List Sample) (identity offset number : ℕ) (master : Master) (sib1 : Result Sib1 Sib1Reason) (heard : IsHeard Tells recording identity offset number master)
+    (system : IsSystem identity (start_after offset) number master.ports master.mib sib1) (list : List Entry)
+    (listed : IsListOfHits (λ hit. AreEntries (λ entry. IsEntryBy Tells IsSystem recording (identity_at recording hit) (start_at recording hit) entry)) (hits_of recording) list)
+    (is_sent : Entry → Type 0) → is_sent (entry_of identity (start_after offset) 1 0 (number % 4) master sib1) → HoldsOne list identity (start_after offset) number is_sent
+heard_is_held Tells IsSystem one one_answer recording identity offset number master sib1 heard system list listed is_sent sent =
+    heard_is_held_by normal (inl refl) Tells IsSystem one one_answer recording (hits_of recording) (normal_hits recording) identity offset number master sib1 heard system list listed is_sent sent

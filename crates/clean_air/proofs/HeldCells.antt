@@ -12,6 +12,7 @@ use Rattle.pbch.specs.declared.master.Master.{Master}
 use Rattle.pbch.specs.Values.{coded_values}
 use Rattle.lte_types.specs.Codes.{bandwidth}
 use Rattle.pbch.specs.Master.{Tells, TellsMaster}
+use Rattle.cell_tx.specs.declared.antenna.Port.TheVariants.{Only}
 use Rattle.cell_tx.specs.declared.cell.CellPlan.{CellPlan}
 use Rattle.cell_tx.specs.Plan.{IsSendable}
 use Rattle.cell_tx.specs.Block.{broadcast_word}
@@ -37,7 +38,7 @@ abbrev sent_slot : List Sample → CellPlan → ℕ → SeenSlot
 sent_slot recording plan offset = broadcast_slot recording plan.identity (start_after offset) 0
 
 -- the master block of the frame with this number, and what is told of it
-abbrev sent_mib : (plan : CellPlan) → plan.spare ≤ 1023 → ℕ → Mib
+abbrev pub sent_mib : (plan : CellPlan) → plan.spare ≤ 1023 → ℕ → Mib
 sent_mib plan spare number = record { bandwidth = N6; duration = plan.duration; resource = plan.resource; upper = number / 4; spare = plan.spare; spare_range = spare }
 
 abbrev sent_master : List Sample → (plan : CellPlan) → plan.spare ≤ 1023 → ℕ → ℕ → Master
@@ -47,7 +48,7 @@ sent_master recording plan spare offset number = record {
   cost = word_cost (coded_values (sent_slot recording plan offset ∷ []) (number % 4)) (broadcast_word plan number);
 }
 
-number_fits : (sfn offset : ℕ) → sfn ≤ 1023 → offset < 19200 → number_at_start sfn offset ≤ 1023
+pub number_fits : (sfn offset : ℕ) → sfn ≤ 1023 → offset < 19200 → number_at_start sfn offset ≤ 1023
 number_fits sfn offset known within = let e = (first_frame sfn offset known within).number in omega (arith, e)
 
 module _ (recording : List Sample) (plan : CellPlan) (sfn offset : ℕ) (gain : Cpx) (eps : ℕ) (sendable : IsSendable plan) (clean : IsClean recording plan sfn offset gain eps)
@@ -57,7 +58,7 @@ module _ (recording : List Sample) (plan : CellPlan) (sfn offset : ℕ) (gain : 
   unfolding seen_slot
   word_told =
       let number : ℕ = number_at_start sfn offset in
-      let block = is_block plan number sendable.spare (number_fits sfn offset clean.number clean.samples.within) in
+      let block = is_block Only plan number sendable.spare (number_fits sfn offset clean.number clean.samples.within) in
       received_slot_tells recording (useful_start normal (frame_at (start_after offset) 0) 1) (slot_grid plan number 1) (sent_slot recording plan offset) (number % 4) 1 (broadcast_word plan number)
       (slot_received recording plan sfn offset gain eps clean long) block.size (carries_word plan number) block.check (omega (arith, block.width))
 
@@ -65,7 +66,7 @@ module _ (recording : List Sample) (plan : CellPlan) (sfn offset : ℕ) (gain : 
   master_told : TellsMaster (coded_values (sent_slot recording plan offset ∷ []) (number_at_start sfn offset % 4)) (sent_master recording plan sendable.spare offset (number_at_start sfn offset))
   master_told =
       let number : ℕ = number_at_start sfn offset in
-      let block = is_block plan number sendable.spare (number_fits sfn offset clean.number clean.samples.within) in
+      let block = is_block Only plan number sendable.spare (number_fits sfn offset clean.number clean.samples.within) in
       record {
         word = broadcast_word plan number;
         tells = word_told;

@@ -32,3 +32,5 @@ pub mod SentSystem
 pub mod Held
 -- All together: the list of a clean recording holds its cell.
 pub mod HeldCells
+-- The plan of an entry is that of the sent cell.
+pub mod Plans

@@ -1,5 +1,5 @@
 -- A slot that carries the word of a master block tells it.
-use Rattle.std.proofs.Common.{◌≡◌, ℕ, ◌+◌, ◌*◌, ◌%◌, ◌<◌, ◌≤◌, arith, sym, subst, Bool, not, List, length, append-nil, ℤ, nat_abs, nat_le, nat_lt, nat_eq, true}
+use Rattle.std.proofs.Common.{◌≡◌, ℕ, ◌+◌, ◌*◌, ◌%◌, ◌<◌, ◌≤◌, arith, sym, subst, ◌∙◌, Bool, not, List, length, append-nil, ℤ, nat_abs, nat_le, nat_lt, nat_eq, true}
 use Rattle.std.specs.Prelude.{◌&&◌, All}
 use Rattle.std.proofs.lemmas.Bool.Decides.{nat_tests}
 use Rattle.std.proofs.lemmas.List.Elements.{All-from_get_or}
@@ -20,11 +20,11 @@ use Rattle.soft_bits.specs.Places.{soft_values_of, descrambled}
 use Rattle.pbch.specs.Values.{received_values, summed_values, coded_values}
 use Rattle.pbch.specs.Master.{total, Tells}
 use Rattle.pbch.proofs.Sums.{length-received_values}
-use Rattle.clean_air.specs.Words.{IsOnlyWord}
 use Rattle.cell_tx.specs.Block.{scrambled_bit}
 use Rattle.clean_air.specs.Carried.{SpeakOfWord, sums_of, AreHeard}
-use Rattle.clean_air.specs.Broadcast.{SentWordIsTold, ReceivedSlotTells}
-use Rattle.clean_air.proofs.Speaking.{sums_speak_all, sent_word_is_only, carried_bits_are_heard}
+use Rattle.clean_air.specs.Broadcast.{SpokenWordIsTold, SentWordIsTold, ReceivedSlotTells}
+use Rattle.clean_air.proofs.Speaking.{sums_speak_all, carried_bits_are_heard}
+use Rattle.clean_air.proofs.SpokenWords.{spoken_word_is_only}
 
 -- ---- the word
 
@@ -34,29 +34,25 @@ heard values word size speaks =
     total_some 40 0 (λ k. total_below 3 (λ t. nat_abs (sum_at values k t))) (omega arith)
     (total_some 3 0 (λ t. nat_abs (sum_at values 0 t)) (omega arith) (speaks_with_size (sum_at values 0 0) (coded taps_0 word 0) (speaks.place 0 (omega (arith, size))).first))
 
-pub sent_word_is_told : SentWordIsTold
-sent_word_is_told c_init first ports word values size speaks passes width = record {
-  least = only.least;
-  heard = heard sums word (length-summed 40 (descrambled c_init first values)) (subst (λ n. Speaks (sums_of c_init first n values) word) size (sums_speak_all c_init first word values low high speaks));
-  clear = nothing (word_cost sums word) (total sums) only.free;
-  check = passes;
-  width = width;
-}
+-- values that all speak for a word of 40 bits tell it
+pub spoken_word_is_told : SpokenWordIsTold
+spoken_word_is_told ports word sums size many speaks passes width =
+    let only = spoken_word_is_only sums word (omega (arith, many)) (size ∙ sym many) speaks in
+    record {
+      least = only.least;
+      heard = heard sums word many speaks;
+      clear = nothing (word_cost sums word) (total sums) only.free;
+      check = passes;
+      width = width;
+    }
   where
-    low : 6 ≤ length word
-    low = omega (arith, size)
-
-    high : length word ≤ 64
-    high = omega (arith, size)
-
-    sums : List (List ℤ)
-    sums = sums_of c_init first 40 values
-
-    only : IsOnlyWord (sums_of c_init first 40 values) word
-    only = subst (λ n. IsOnlyWord (sums_of c_init first n values) word) size (sent_word_is_only c_init first word values low high speaks)
-
     nothing : (a b : ℕ) → a ≡ 0 → 4 * a ≤ b
     nothing a b e = omega (arith, e)
+
+pub sent_word_is_told : SentWordIsTold
+sent_word_is_told c_init first ports word values size speaks passes width =
+    spoken_word_is_told ports word (sums_of c_init first 40 values) size (length-summed 40 (descrambled c_init first values))
+    (subst (λ n. Speaks (sums_of c_init first n values) word) size (sums_speak_all c_init first word values (omega (arith, size)) (omega (arith, size)) speaks)) passes width
 
 -- ---- in a recording
 

@@ -1,14 +1,19 @@
 -- The word that a cell broadcasts: its fields, and its check.
-use Rattle.std.proofs.Common.{◌≡◌, ℕ, ◌/◌, ◌≤◌, inl, arith, refl, ap, ◌∙◌, List, ◌++◌, length, Bool, bit_xor}
+use Rattle.std.proofs.Common.{◌≡◌, ℕ, ◌/◌, ◌≤◌, inl, inr, arith, refl, ap, ◌∙◌, List, ◌++◌, length, Bool, bit_xor}
 use Rattle.cs_bits.specs.Numbers.{number, bits_of, part, field}
-use Rattle.cs_bits.specs.Checks.{crc16_of}
+use Rattle.cs_bits.specs.Checks.{crc16_of, with_check_16}
 use Rattle.cs_bits.proofs.Numbers.{number_of_bits}
 use Rattle.cs_bits.proofs.Checks.{checked_16}
+use Rattle.lte_types.specs.declared.duration.Duration.{Duration}
+use Rattle.lte_types.specs.declared.resource.Resource.{Resource}
 use Rattle.lte_types.specs.Codes.{duration, duration_code, resource, resource_code}
 use Rattle.lte_types.proofs.RoundTrips.{duration-code, duration_code_fits, resource-code, resource_code_fits}
 use Rattle.pbch.specs.Master.{PassesWith}
+use Rattle.cell_tx.specs.declared.antenna.Port.{Port}
+use Rattle.cell_tx.specs.declared.antenna.Port.TheVariants.{Only, First, Second}
 use Rattle.cell_tx.specs.declared.cell.CellPlan.{CellPlan}
-use Rattle.cell_tx.specs.Block.{block_bits, port_word, broadcast_word}
+use Rattle.cell_tx.specs.Block.{master_bits, master_word, port_word}
+use Rattle.cell_tx.specs.Ports.{port_mask}
 
 -- ---- the parts of a word
 
@@ -27,27 +32,46 @@ has_parts : (a b c d e f : ℕ) → HasParts (word_with a b c d e f) a b c d e f
 unfolding word_with
 has_parts a b c d e f = record { size = refl; first = refl; second = refl; third = refl; fourth = refl; fifth = refl }
 
--- the word of a plan in a frame: its size, its check, and its fields
-pub record IsBlockOf (plan : CellPlan) (sfn : ℕ) (word : List Bool) : Type 0 where
+-- the word of a master block in a frame, for so many antenna ports: its size, its check, and its fields
+pub record IsMasterWord (ports : ℕ) (lasting : Duration) (share : Resource) (sfn spare_bits : ℕ) (word : List Bool) : Type 0 where
   pub size : length word ≡ 40
   pub width : field word 0 3 ≡ 0
-  pub duration : duration (field word 3 1) ≡ plan.duration
-  pub resource : resource (field word 4 2) ≡ plan.resource
+  pub duration : duration (field word 3 1) ≡ lasting
+  pub resource : resource (field word 4 2) ≡ share
   pub upper : field word 6 8 ≡ sfn / 4
-  pub spare : field word 14 10 ≡ plan.spare
-  pub check : PassesWith 1 word
+  pub spare : field word 14 10 ≡ spare_bits
+  pub check : PassesWith ports word
 
-pub is_block : (plan : CellPlan) (sfn : ℕ) → plan.spare ≤ 1023 → sfn ≤ 1023 → IsBlockOf plan sfn (broadcast_word plan sfn)
-unfolding port_word block_bits word_with
-is_block plan sfn spare known =
-    let check : ℕ = bit_xor (crc16_of (block_bits plan sfn)) 0 in
-    let parts = has_parts 0 (duration_code plan.duration) (resource_code plan.resource) (sfn / 4) plan.spare check in
+-- the count of antenna ports of which a port is one
+abbrev pub ports_of : Port → ℕ
+ports_of Only = 1
+ports_of First = 2
+ports_of Second = 2
+
+passes : (port : Port) (bits : List Bool) → PassesWith (ports_of port) (with_check_16 (port_mask port) bits)
+passes Only bits = record { count = inl refl; check = checked_16 0 bits (omega arith) }
+passes First bits = record { count = inr (inl refl); check = checked_16 65535 bits (omega arith) }
+passes Second bits = record { count = inr (inl refl); check = checked_16 65535 bits (omega arith) }
+
+pub is_master_word : (port : Port) (lasting : Duration) (share : Resource) (sfn spare : ℕ) → spare ≤ 1023 → sfn ≤ 1023 →
+    IsMasterWord (ports_of port) lasting share sfn spare (master_word (port_mask port) lasting share sfn spare)
+unfolding master_word master_bits word_with
+is_master_word port lasting share sfn spare small known =
+    let check : ℕ = bit_xor (crc16_of (master_bits lasting share sfn spare)) (port_mask port) in
+    let parts = has_parts 0 (duration_code lasting) (resource_code share) (sfn / 4) spare check in
     record {
       size = parts.size;
       width = ap number parts.first ∙ number_of_bits 3 0 (omega arith);
-      duration = ap duration (ap number parts.second ∙ number_of_bits 1 (duration_code plan.duration) (let fits = duration_code_fits plan.duration in omega (arith, fits))) ∙ duration-code plan.duration;
-      resource = ap resource (ap number parts.third ∙ number_of_bits 2 (resource_code plan.resource) (let fits = resource_code_fits plan.resource in omega (arith, fits))) ∙ resource-code plan.resource;
-      upper = ap number parts.fourth ∙ number_of_bits 8 (sfn / 4) (omega arith);
-      spare = ap number parts.fifth ∙ number_of_bits 10 plan.spare (omega arith);
-      check = record { count = inl refl; check = checked_16 0 (block_bits plan sfn) (omega arith) };
+      duration = ap duration (ap number parts.second ∙ number_of_bits 1 (duration_code lasting) (let fits = duration_code_fits lasting in omega (arith, fits))) ∙ duration-code lasting;
+      resource = ap resource (ap number parts.third ∙ number_of_bits 2 (resource_code share) (let fits = resource_code_fits share in omega (arith, fits))) ∙ resource-code share;
+      upper = ap number parts.fourth ∙ number_of_bits 8 (sfn / 4) (omega (arith, known));
+      spare = ap number parts.fifth ∙ number_of_bits 10 spare (omega (arith, small));
+      check = passes port (master_bits lasting share sfn spare);
     }
+
+-- that of a plan
+abbrev pub IsBlockOf : ℕ → CellPlan → ℕ → List Bool → Type 0
+IsBlockOf ports plan sfn word = IsMasterWord ports plan.duration plan.resource sfn plan.spare word
+
+pub is_block : (port : Port) (plan : CellPlan) (sfn : ℕ) → plan.spare ≤ 1023 → sfn ≤ 1023 → IsBlockOf (ports_of port) plan sfn (port_word port plan sfn)
+is_block port plan sfn spare known = is_master_word port plan.duration plan.resource sfn plan.spare spare known

@@ -5,10 +5,10 @@ use Rattle.std.proofs.lemmas.Bool.Decides.{nat_tests}
 use Rattle.cs_num.specs.declared.Cpx.{Cpx}
 use Rattle.cs_num.specs.declared.Sample.{Sample}
 use Rattle.finite.proofs.Lists.{values_below_at}
-use Rattle.crs.specs.Reference.{is_reference, first_subcarrier, reference_at}
+use Rattle.crs.specs.Reference.{is_reference, first_subcarrier, pattern_reference, reference, reference_c_init, reference_at}
 use Rattle.observe.specs.Seen.{seen_symbol}
 use Rattle.sync_seq.specs.Middle.{is_middle}
-use Rattle.soft_bits.specs.Soft.{pilot_symbol, pilot_subcarrier, pilot_sent}
+use Rattle.soft_bits.specs.Soft.{pattern_symbol, pattern_sent, pilot_symbol, pilot_subcarrier, pilot_sent}
 use Rattle.grid_map.specs.declared.Place.{Place}
 use Rattle.grid_map.specs.Place.{place}
 use Rattle.grid_map.specs.Broadcast.{pbch_places, pbch_place, is_pbch, pbch_index}
@@ -45,7 +45,7 @@ unfolding is_reference first_subcarrier
 other_symbol identity i k e none = grind (arith, nat_tests)
 
 pilot_place : (identity i : ℕ) → IsPilotPlace identity (pilot_symbol identity i) (pilot_subcarrier identity i)
-unfolding pilot_symbol
+unfolding pattern_symbol is_reference first_subcarrier
 pilot_place identity i = settle (is_reference identity 0 (pilot_subcarrier identity i)) refl
   where
     settle : (b : Bool) → is_reference identity 0 (pilot_subcarrier identity i) ≡ b →
@@ -61,7 +61,7 @@ reference_here plan number slot l k inside is =
     rw (symbol, place, is) refl
 
 pub references_stand : (plan : CellPlan) (number slot i : ℕ) → slot_grid plan number slot (pilot_symbol plan.identity i) (pilot_subcarrier plan.identity i) ≡ pilot_sent plan.identity slot i
-unfolding pilot_sent
+unfolding pattern_sent pattern_reference reference_at reference reference_c_init
 references_stand plan number slot i =
     let p = pilot_place plan.identity i in
     reference_here plan number slot (pilot_symbol plan.identity i) (pilot_subcarrier plan.identity i) p.inside p.is
@@ -105,11 +105,11 @@ carries_word plan number i inside = points_stand plan number i (omega (arith, in
 -- ---- the slots
 
 -- the number of frame j of the recording, and where it begins in what is sent
-record IsFrameOf (sfn offset j : ℕ) (n : ℕ) : Type 0 where
-  place : frame_at (start_of offset) j + offset ≡ 19200 * n
-  number : (sfn + n) % 1024 ≡ (number_at_start sfn offset + j) % 1024
+pub record IsFrameOf (sfn offset j : ℕ) (n : ℕ) : Type 0 where
+  pub place : frame_at (start_of offset) j + offset ≡ 19200 * n
+  pub number : (sfn + n) % 1024 ≡ (number_at_start sfn offset + j) % 1024
 
-frame_is : (sfn offset j : ℕ) → sfn ≤ 1023 → offset < 19200 → IsFrameOf sfn offset j ((if nat_eq offset 0 then 0 else 1) + j)
+pub frame_is : (sfn offset j : ℕ) → sfn ≤ 1023 → offset < 19200 → IsFrameOf sfn offset j ((if nat_eq offset 0 then 0 else 1) + j)
 frame_is sfn offset j known within =
     let first = first_frame sfn offset known within in
     record { place = omega (arith, first.place); number = omega (arith, first.number) }

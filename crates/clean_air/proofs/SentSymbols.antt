@@ -9,12 +9,14 @@ use Rattle.fold128.specs.Symbol.{useful_at}
 use Rattle.lte_types.specs.declared.frame.Half.{Half}
 use Rattle.lte_types.specs.declared.frame.Half.TheVariants.{Zero, Five}
 use Rattle.pss_search.specs.Correlation.{pss_grid}
+use Rattle.cell_tx.specs.declared.antenna.Port.TheVariants.{Only}
 use Rattle.cell_tx.specs.declared.cell.CellPlan.{CellPlan}
 use Rattle.cell_tx.specs.Grid.{port_element, element}
-use Rattle.lte_types.specs.Numerology.{normal, useful_start, subframe_of, primary_start}
-use Rattle.cell_tx.specs.Sent.{Elements, sent}
+use Rattle.lte_types.specs.declared.numerology.Prefix.{Prefix}
+use Rattle.lte_types.specs.Numerology.{normal, IsPrefix, symbols_of_slot, useful_start, subframe_of, primary_start}
+use Rattle.cell_tx.specs.Sent.{Elements, prefix_sent, sent}
 use Rattle.cell_tx.specs.Clean.{IsCleanOf, IsClean, start_of, number_at_start}
-use Rattle.cell_tx.proofs.Symbols.{frames_follow, useful_parts_stand}
+use Rattle.cell_tx.proofs.Symbols.{frames_follow, useful_parts_stand, in_useful}
 use Rattle.cell_tx.proofs.Elements.{no_reference}
 use Rattle.cell_tx.proofs.SignalSymbols.{no_channel}
 use Rattle.budget.specs.Received.{IsReceived, samples_from}
@@ -25,23 +27,36 @@ use Rattle.clean_air.proofs.Grids.{received_same}
 
 -- ---- a symbol
 
--- what is sent of a symbol of a frame
-sent_symbol : (grid : Elements) (sfn j slot l n : ℕ) → slot < 20 → l < 7 → n < 128 →
-    sent grid sfn (19200 * j + (useful_start normal 0 slot l + n)) ≡ useful_at (grid ((sfn + j) % 1024) (slot / 2) (7 * (slot % 2) + l)) n
-sent_symbol grid sfn j slot l n a b c =
-    frames_follow grid sfn j (useful_start normal 0 slot l + n) (omega arith) ∙ useful_parts_stand grid ((sfn + j) % 1024) slot l n b c
+-- what is sent of a symbol of a frame, with either prefix
+pub prefix_sent_symbol : (prefix : Prefix) (grid : Elements) (sfn j slot l n : ℕ) → IsPrefix prefix → slot < 20 → l < symbols_of_slot prefix → n < 128 →
+    prefix_sent prefix grid sfn (19200 * j + (useful_start prefix 0 slot l + n)) ≡ useful_at (grid ((sfn + j) % 1024) (slot / 2) (symbols_of_slot prefix * (slot % 2) + l)) n
+prefix_sent_symbol prefix grid sfn j slot l n known a b c =
+    let inside = (in_useful prefix l n known b c).inside in
+    frames_follow prefix grid sfn j (useful_start prefix 0 slot l + n) (omega (arith, a, inside)) ∙ useful_parts_stand prefix grid ((sfn + j) % 1024) slot l n known b c
 
 -- where a whole useful part stands in the recording, it is received
+pub prefix_received_at : (prefix : Prefix) (recording : List Sample) (grid : Elements) (sfn offset : ℕ) (gain : Cpx) (eps : ℕ) (t j slot l : ℕ) → IsPrefix prefix →
+    IsCleanOf (prefix_sent prefix grid sfn) recording offset gain eps → slot < 20 → l < symbols_of_slot prefix → t + 128 ≤ length recording →
+    t + offset ≡ 19200 * j + useful_start prefix 0 slot l →
+    IsReceived eps gain (grid ((sfn + j) % 1024) (slot / 2) (symbols_of_slot prefix * (slot % 2) + l)) (samples_from recording t)
+prefix_received_at prefix recording grid sfn offset gain eps t j slot l known clean a b inside place = record {
+  sounds = clean.size.least;
+  quiet = clean.bound;
+  near = λ n c. let there : t + n + offset ≡ 19200 * j + (useful_start prefix 0 slot l + n) = omega (arith, place) in
+      subst (λ z. IsWithin eps (minus (sample_at recording (t + n)) (times gain z))) (ap (prefix_sent prefix grid sfn) there ∙ prefix_sent_symbol prefix grid sfn j slot l n known a b c)
+      (clean.near (t + n) (omega (arith, inside, c)));
+}
+
+-- with the normal prefix
+pub sent_symbol : (grid : Elements) (sfn j slot l n : ℕ) → slot < 20 → l < 7 → n < 128 →
+    sent grid sfn (19200 * j + (useful_start normal 0 slot l + n)) ≡ useful_at (grid ((sfn + j) % 1024) (slot / 2) (7 * (slot % 2) + l)) n
+sent_symbol grid sfn j slot l n a b c = prefix_sent_symbol normal grid sfn j slot l n (inl refl) a b c
+
 pub received_at : (recording : List Sample) (grid : Elements) (sfn offset : ℕ) (gain : Cpx) (eps : ℕ) (t j slot l : ℕ) → IsCleanOf (sent grid sfn) recording offset gain eps →
     slot < 20 → l < 7 → t + 128 ≤ length recording → t + offset ≡ 19200 * j + useful_start normal 0 slot l →
     IsReceived eps gain (grid ((sfn + j) % 1024) (slot / 2) (7 * (slot % 2) + l)) (samples_from recording t)
-received_at recording grid sfn offset gain eps t j slot l clean a b inside place = record {
-  sounds = clean.size.least;
-  quiet = clean.bound;
-  near = λ n c. let there : t + n + offset ≡ 19200 * j + (useful_start normal 0 slot l + n) = omega (arith, place) in
-      subst (λ z. IsWithin eps (minus (sample_at recording (t + n)) (times gain z))) (ap (sent grid sfn) there ∙ sent_symbol grid sfn j slot l n a b c)
-      (clean.near (t + n) (omega (arith, inside, c)));
-}
+received_at recording grid sfn offset gain eps t j slot l clean a b inside place =
+    prefix_received_at normal recording grid sfn offset gain eps t j slot l (inl refl) clean a b inside place
 
 -- ---- the synchronisation signals
 
@@ -51,14 +66,14 @@ middle k a b = grind (arith, nat_tests)
 -- symbol 6 of the subframe holds the primary signal alone
 pub primary_symbol : (plan : CellPlan) (sfn k : ℕ) (half : Half) → element plan sfn (subframe_of half) 6 k ≡ pss_grid (plan.identity % 3) k
 unfolding port_element
-primary_symbol plan sfn k Zero = rw (no_reference plan.identity 6 k refl refl, no_channel plan sfn 0 6 k (inr refl)) (middle k _ nothing)
-primary_symbol plan sfn k Five = rw (no_reference plan.identity 6 k refl refl, no_channel plan sfn 5 6 k (inr refl)) (middle k _ nothing)
+primary_symbol plan sfn k Zero = rw (no_reference plan.identity 6 k refl refl, no_channel Only plan sfn 0 6 k (inr refl)) (middle k _ nothing)
+primary_symbol plan sfn k Five = rw (no_reference plan.identity 6 k refl refl, no_channel Only plan sfn 5 6 k (inr refl)) (middle k _ nothing)
 
 -- symbol 5 holds the secondary signal alone
 pub secondary_symbol : (plan : CellPlan) (sfn k : ℕ) (half : Half) → element plan sfn (subframe_of half) 5 k ≡ sss_grid (plan.identity / 3) (plan.identity % 3) half k
 unfolding port_element
-secondary_symbol plan sfn k Zero = rw (no_reference plan.identity 5 k refl refl, no_channel plan sfn 0 5 k (inl refl)) (middle k _ nothing)
-secondary_symbol plan sfn k Five = rw (no_reference plan.identity 5 k refl refl, no_channel plan sfn 5 5 k (inl refl)) (middle k _ nothing)
+secondary_symbol plan sfn k Zero = rw (no_reference plan.identity 5 k refl refl, no_channel Only plan sfn 0 5 k (inl refl)) (middle k _ nothing)
+secondary_symbol plan sfn k Five = rw (no_reference plan.identity 5 k refl refl, no_channel Only plan sfn 5 5 k (inl refl)) (middle k _ nothing)
 
 -- a place of the recording is one at which a primary signal of the cell begins
 pub record IsTruePlace (offset t : ℕ) (half : Half) : Type 0 where

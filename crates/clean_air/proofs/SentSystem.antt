@@ -17,6 +17,7 @@ use Rattle.system_block.specs.Subframe.{one_port}
 use Rattle.system_block.specs.Block.{BlockSays}
 use Rattle.system_block.specs.Attempt.{Reads}
 use Rattle.pdsch.specs.Values.{shared_values}
+use Rattle.cell_tx.specs.declared.antenna.Port.TheVariants.{Only}
 use Rattle.cell_tx.specs.declared.cell.CellPlan.{CellPlan}
 use Rattle.cell_tx.specs.Transport.{checked_size, assigned_bits, row_with, shared_word}
 use Rattle.cell_tx.specs.Plan.{IsSendable}
@@ -25,7 +26,7 @@ use Rattle.cell_tx.specs.Control.{version_of, grant_of, control_word, indicator_
 use Rattle.cell_tx.specs.Shared.{shared_places, shared_coded, shared_bit, shared_point}
 use Rattle.cell_tx.specs.Grid.{element}
 use Rattle.cell_tx.specs.Clean.{IsClean, start_of, number_at_start}
-use Rattle.cell_tx.proofs.SystemPlaces.{indicator_indexed, control_indexed, shared_bits, indicator_sent, control_sent, shared_sent}
+use Rattle.cell_tx.proofs.SystemPlaces.{indicator_indexed, control_indexed, assigned_bits_are, indicator_sent, control_sent, shared_sent}
 use Rattle.cell_tx.proofs.BlockRows.{IsRowOf}
 use Rattle.cell_tx.proofs.WholeBlocks.{resolvable_at}
 use Rattle.cell_tx.proofs.SystemWords.{version-fits, grant_is, row_is, word_checked, word_size, word_says}
@@ -36,6 +37,7 @@ use Rattle.clean_air.specs.Subframe.{IsSubframeReceived, CarryInSubframe, shared
 use Rattle.clean_air.specs.Block.{matched_bit, IsSentBlock, TellsBlock}
 use Rattle.clean_air.specs.Indicator.{indicator_scrambled}
 use Rattle.clean_air.specs.Grant.{grant_places, grant_scrambled}
+use Rattle.clean_air.specs.Attempt.{IsReadWith}
 use Rattle.clean_air.proofs.Controls.{received_grant_is_read}
 use Rattle.clean_air.proofs.SharedBlocks.{received_block_is_told}
 use Rattle.clean_air.proofs.SentSlots.{slot_grid, each_slot_received}
@@ -101,21 +103,21 @@ module _ (recording : List Sample) (plan : CellPlan) (sfn offset : ℕ) (gain : 
     -- they carry the indicator and the grant
     carries_indicator : CarryInSubframe (element plan number 5) (pcfich_places (slot 10).identity) (indicator_scrambled (slot 10) plan.cfi)
     unfolding seen_slot indicator_point
-    carries_indicator i inside = indicator_sent plan sendable number i (let size = (indicator_indexed plan sendable).size in omega (arith, size, inside))
+    carries_indicator i inside = indicator_sent Only plan sendable number i (let size = (indicator_indexed Only plan sendable).size in omega (arith, size, inside))
 
     carries_grant : CarryInSubframe (element plan number 5) (grant_places (slot 10) plan.cfi plan.duration plan.resource) (grant_scrambled (slot 10) (grant_of plan number))
     unfolding seen_slot control_point control_word
-    carries_grant i inside = control_sent plan sendable number even i (let size = (control_indexed plan sendable).size in omega (arith, size, inside))
+    carries_grant i inside = control_sent Only plan sendable number even i (let size = (control_indexed Only plan sendable).size in omega (arith, size, inside))
 
     -- and the block
     carries_block : CarryInSubframe (element plan number 5) (shared_places plan) (shared_scrambled (slot 10) (shared_bit plan number))
     unfolding seen_slot shared_point
-    carries_block i inside = shared_sent plan sendable number even i inside
+    carries_block i inside = shared_sent Only plan sendable number even i inside
 
     -- the values of its resource blocks tell the block
     sent_block : (row : Row) → row ≡ row_with (checked_size plan) → IsRowOf (checked_size plan) row → IsSentBlock row (version_of number) (2 * length (shared_places plan)) (shared_word plan)
     sent_block row same of =
-        let bits : assigned_bits plan ≡ 2 * length (shared_places plan) = sym (shared_bits plan sendable) in
+        let bits : assigned_bits plan ≡ 2 * length (shared_places plan) = sym (assigned_bits_are Only plan sendable) in
         let k = of.size in
         record {
           is_row = of.is;
@@ -152,9 +154,12 @@ module _ (recording : List Sample) (plan : CellPlan) (sfn offset : ℕ) (gain : 
           says = word_says plan sendable;
         }
 
-    -- so the frame answers with the plan's fields
+    -- so the frame is read with the plan's indicator and grant
+    pub grant_read : IsReadWith (one_port (slot 10) (slot 11) plan.duration plan.resource) plan.cfi (grant_of plan number)
+    grant_read =
+        received_grant_is_read recording (starts 10) (element plan number 5) (slot 10) (slot 11) plan.cfi plan.duration plan.resource (grant_of plan number)
+        sendable.cfi.0 sendable.cfi.1 (grant_is plan sendable number) first_received carries_indicator carries_grant
+
+    -- and answers with its fields
     pub fields_read : Reads (one_port (slot 10) (slot 11) plan.duration plan.resource) (Ok plan.sib1)
-    fields_read =
-        let read = received_grant_is_read recording (starts 10) (element plan number 5) (slot 10) (slot 11) plan.cfi plan.duration plan.resource (grant_of plan number)
-        sendable.cfi.0 sendable.cfi.1 (grant_is plan sendable number) first_received carries_indicator carries_grant in
-        read.reads (Ok plan.sib1) says_fields
+    fields_read = grant_read.reads (Ok plan.sib1) says_fields

@@ -13,12 +13,13 @@ use Rattle.sizes.proofs.Squares.{square-times, square-multiple}
 use Rattle.sizes.proofs.TwoTerms.{weighted, weighted_term}
 use Rattle.sizes.proofs.Products.{product_near}
 use Rattle.crs.specs.Qpsk.{component, point}
-use Rattle.crs.specs.Reference.{is_reference}
+use Rattle.crs.specs.declared.pattern.Pattern.{Pattern}
+use Rattle.crs.specs.Reference.{port_0, is_pattern_place}
 use Rattle.observe.specs.Seen.{seen, seen_symbol}
-use Rattle.soft_bits.specs.Soft.{SeenSlot, seen_at, pilot_symbol, pilot_subcarrier, pilot_seen, pilot_sent, pilot_energy, channel, equalised, soft_value, soft_values}
+use Rattle.soft_bits.specs.Soft.{SeenSlot, seen_at, pilot_subcarrier, pattern_symbol, pattern_seen, pattern_sent, pattern_channel, pattern_energy, soft_value, soft_values}
 use Rattle.budget.specs.Received.{IsSeenAs}
 use Rattle.cs_bits.specs.Signs.{Supports}
-use Rattle.clean_air.specs.Values.{ArePilotsSeen, IsSlotReceived, ValuesSupportBits, ReceivedValuesSupportBits}
+use Rattle.clean_air.specs.Values.{ArePatternSeen, ArePilotsSeen, SeenPairSupportsBits, IsPatternReceived, IsSlotReceived, ValuesSupportBits, ReceivedValuesSupportBits}
 use Rattle.budget.proofs.Deviations.{deviation, seen_is, deviation-sized}
 use Rattle.budget.proofs.Near.{IsNear}
 use Rattle.budget.proofs.Signs.{near_component_speaks}
@@ -51,15 +52,16 @@ one_pilot g d p some size seen =
         let e : x ≡ n * 66355200 = c ∙ ap (λ k. n * k) (omega (arith, a, b)) in
         record { least = omega (arith, e, h, low, some); most = omega (arith, e, h, up) }
 
-energy-near : (gain : Cpx) (slot : SeenSlot) → ArePilotsSeen gain slot → IsPilotEnergy (24 * square gain) (pilot_energy slot)
-unfolding pilot_energy
-energy-near gain slot seen = record {
-  least = total_some 24 0 (λ i. square (pilot_seen slot i)) (omega arith) (each 0 (omega arith)).least;
-  most = sums (total_below 24 (λ i. square (pilot_seen slot i))) (square gain) (total_below-within 24 (101376000 * square gain) (λ i. square (pilot_seen slot i)) (λ i l. (each i l).most));
+energy-near : (pattern : Pattern) (gain : Cpx) (slot : SeenSlot) → ArePatternSeen pattern gain slot → IsPilotEnergy (24 * square gain) (pattern_energy pattern slot)
+unfolding pattern_energy
+energy-near pattern gain slot seen = record {
+  least = total_some 24 0 (λ i. square (pattern_seen pattern slot i)) (omega arith) (each 0 (omega arith)).least;
+  most = sums (total_below 24 (λ i. square (pattern_seen pattern slot i))) (square gain)
+      (total_below-within 24 (101376000 * square gain) (λ i. square (pattern_seen pattern slot i)) (λ i l. (each i l).most));
 }
   where
-    each : (i : ℕ) → i < 24 → IsPilotEnergy (square gain) (square (pilot_seen slot i))
-    each i l = one_pilot gain (pilot_sent slot.identity slot.number i) (pilot_seen slot i) seen.sounds (sent-size slot.identity slot.number i) (seen.pilot i l)
+    each : (i : ℕ) → i < 24 → IsPilotEnergy (square gain) (square (pattern_seen pattern slot i))
+    each i l = one_pilot gain (pattern_sent pattern slot.identity slot.number i) (pattern_seen pattern slot i) seen.sounds (sent-size pattern slot.identity slot.number i) (seen.pilot i l)
 
     sums : (e n : ℕ) → e ≤ 24 * (101376000 * n) → e ≤ 101376000 * (24 * n)
     sums e n h = omega (arith, h)
@@ -72,34 +74,33 @@ point-small true true = omega arith
 
 -- ---- a place
 
-pub values_support_bits : ValuesSupportBits
-unfolding soft_values
-values_support_bits gain slot symbol k first second seen here =
+pub seen_pair_supports_bits : SeenPairSupportsBits
+seen_pair_supports_bits pattern gain slot z k first second seen here =
     record { re = each first t.re near.re; im = each second t.im near.im }
   where
     t : Cpx
-    t = equalised slot symbol k
+    t = times z (conjugate (pattern_channel pattern slot k))
 
     q : ℕ
-    q = pilot_energy slot
+    q = pattern_energy pattern slot
 
     a : Cpx
     a = point first second
 
-    energy : IsPilotEnergy (24 * square gain) (pilot_energy slot)
-    energy = energy-near gain slot seen
+    energy : IsPilotEnergy (24 * square gain) (pattern_energy pattern slot)
+    energy = energy-near pattern gain slot seen
 
-    estimate : IsNear (square gain) gain 3110400 737280 (channel slot k)
-    estimate = channel-near gain slot k seen
+    estimate : IsNear (square gain) gain 3110400 737280 (pattern_channel pattern slot k)
+    estimate = channel-near pattern gain slot k seen
 
-    product : IsWithin (13427343360 * square gain) (minus (equalised slot symbol k) (multiple (3110400 * square gain) (multiple 64 (point first second))))
-    product = subst (λ (z : Cpx). IsWithin (13427343360 * square gain) (minus z (multiple (3110400 * square gain) (multiple 64 a))))
-        (ap₂ (λ (x y : Cpx). times x (conjugate y)) (sym (seen_is gain a (seen_at slot symbol k))) (sym estimate.is))
-        (product_near gain (multiple 64 a) (deviation gain a (seen_at slot symbol k)) estimate.off 3110400 8192 1920 737280 (point-small first second)
-        (deviation-sized gain a (seen_at slot symbol k) here) estimate.small)
+    product : IsWithin (13427343360 * square gain) (minus (times z (conjugate (pattern_channel pattern slot k))) (multiple (3110400 * square gain) (multiple 64 (point first second))))
+    product = subst (λ (y : Cpx). IsWithin (13427343360 * square gain) (minus y (multiple (3110400 * square gain) (multiple 64 a))))
+        (ap₂ (λ (x y : Cpx). times x (conjugate y)) (sym (seen_is gain a z)) (sym estimate.is))
+        (product_near gain (multiple 64 a) (deviation gain a z) estimate.off 3110400 8192 1920 737280 (point-small first second)
+        (deviation-sized gain a z here) estimate.small)
 
     near : IsWithin (13427343360 * square gain) (minus t (multiple (199065600 * square gain) a))
-    near = subst (λ (z : Cpx). IsWithin (13427343360 * square gain) (minus t z))
+    near = subst (λ (y : Cpx). IsWithin (13427343360 * square gain) (minus t y))
         (multiple_twice (3110400 * square gain) 64 a ∙ ap (λ n. multiple n a) (unit (square gain))) product
       where
         unit : (n : ℕ) → 3110400 * n * 64 ≡ 199065600 * n
@@ -112,34 +113,47 @@ values_support_bits gain slot symbol k first second seen here =
     each : (bit : Bool) (c : ℤ) → nat_abs (c -ℤ pos (199065600 * square gain) *ℤ component bit) ≤ 13427343360 * square gain → Supports 8 bit (soft_value c q)
     each bit c h = near_component_speaks 8 199065600 13427343360 2433024000 (omega arith) (omega arith) (omega arith) (square gain) q bit c energy.least few h
 
+-- of port 0 with the normal prefix
+pub values_support_bits : ValuesSupportBits
+unfolding soft_values
+values_support_bits gain slot symbol k first second seen here = seen_pair_supports_bits port_0 gain slot (seen_at slot symbol k) k first second seen here
+
 -- ---- in a recording
 
-read_symbol : (recording : List Sample) (start k : ℕ) → k < 72 → value_at (seen_symbol recording start) k ≡ seen recording start k
+pub read_symbol : (recording : List Sample) (start k : ℕ) → k < 72 → value_at (seen_symbol recording start) k ≡ seen recording start k
 unfolding seen_symbol
 read_symbol recording start k l = values_below_at (seen recording start) 72 k nothing l
 
--- each place of a received slot is seen with its gain
+module _ (pattern : Pattern) (count : ℕ) (recording : List Sample) (starts : ℕ → ℕ) (grids : ℕ → ℕ → Cpx) (slot : SeenSlot) (is : IsPatternReceived pattern count recording starts grids slot) where
+  -- each place of a received slot is seen with its gain
+  pub pattern_place_seen : (symbol k : ℕ) → symbol < count → k < 72 → IsSeenAs is.gain (grids symbol k) (seen_at slot symbol k)
+  pattern_place_seen symbol k few inside =
+      subst (λ (z : Cpx). IsSeenAs is.gain (grids symbol k) z) (sym (ap (λ (xs : List Cpx). value_at xs k) (is.seen symbol few) ∙ read_symbol recording (starts symbol) k inside))
+      (amplitude_is_seen_in_recording is.eps is.gain (grids symbol) recording (starts symbol) k (is.amplitudes symbol few) (is.received symbol few) inside)
+
+  symbol-few : (i : ℕ) → pattern.later < count → pattern_symbol pattern slot.identity i < count
+  unfolding pattern_symbol
+  symbol-few i later = few (is_pattern_place pattern slot.identity 0 (pilot_subcarrier slot.identity i))
+    where
+      few : (b : Bool) → (if b then 0 else pattern.later) < count
+      few true = omega (arith, later)
+      few false = later
+
+  -- so are the pilots, where both of their symbols are there
+  pub pattern_pilots_seen : pattern.later < count → ArePatternSeen pattern is.gain slot
+  unfolding pattern_seen
+  pattern_pilots_seen later = record {
+    sounds = (is.received 0 (omega (arith, later))).sounds;
+    pilot = λ i l. subst (λ (z : Cpx). IsSeenAs is.gain z (seen_at slot (pattern_symbol pattern slot.identity i) (pilot_subcarrier slot.identity i))) (is.references i l)
+        (pattern_place_seen (pattern_symbol pattern slot.identity i) (pilot_subcarrier slot.identity i) (symbol-few i later) (omega (arith, l)));
+  }
+
 pub place_seen : (recording : List Sample) (starts : ℕ → ℕ) (grids : ℕ → ℕ → Cpx) (slot : SeenSlot) (slot_is : IsSlotReceived recording starts grids slot) (symbol k : ℕ) → symbol < 7 → k < 72 →
     IsSeenAs slot_is.gain (grids symbol k) (seen_at slot symbol k)
-place_seen recording starts grids slot is symbol k few inside =
-    subst (λ (z : Cpx). IsSeenAs is.gain (grids symbol k) z) (sym (ap (λ (xs : List Cpx). value_at xs k) (is.seen symbol few) ∙ read_symbol recording (starts symbol) k inside))
-    (amplitude_is_seen_in_recording is.eps is.gain (grids symbol) recording (starts symbol) k (is.amplitudes symbol few) (is.received symbol few) inside)
-
-pilot_symbol-few : (identity i : ℕ) → pilot_symbol identity i < 7
-unfolding pilot_symbol
-pilot_symbol-few identity i = few (is_reference identity 0 (pilot_subcarrier identity i))
-  where
-    few : (b : Bool) → (if b then 0 else 4) < 7
-    few true = omega arith
-    few false = omega arith
+place_seen recording starts grids slot is symbol k few inside = pattern_place_seen port_0 7 recording starts grids slot is symbol k few inside
 
 pub pilots_seen : (recording : List Sample) (starts : ℕ → ℕ) (grids : ℕ → ℕ → Cpx) (slot : SeenSlot) (slot_is : IsSlotReceived recording starts grids slot) → ArePilotsSeen slot_is.gain slot
-unfolding pilot_seen
-pilots_seen recording starts grids slot is = record {
-  sounds = (is.received 0 (omega arith)).sounds;
-  pilot = λ i l. subst (λ (z : Cpx). IsSeenAs is.gain z (seen_at slot (pilot_symbol slot.identity i) (pilot_subcarrier slot.identity i))) (is.references i l)
-      (place_seen recording starts grids slot is (pilot_symbol slot.identity i) (pilot_subcarrier slot.identity i) (pilot_symbol-few slot.identity i) (omega arith));
-}
+pilots_seen recording starts grids slot is = pattern_pilots_seen port_0 7 recording starts grids slot is (omega arith)
 
 pub received_values_support_bits : ReceivedValuesSupportBits
 received_values_support_bits recording starts grids slot symbol k first second is few inside same =

@@ -13,13 +13,14 @@ use Rattle.finite.proofs.Sums.{total_zero, terms_zero}
 use Rattle.paths.specs.Words.{IsBefore}
 use Rattle.paths.proofs.Words.{number-before}
 use Rattle.conv_code.specs.Code.{coded_bits, coded_word}
+use Rattle.sub_block.specs.declared.Place.{Place}
 use Rattle.sub_block.specs.Places.{spot, is_at, summed_at}
 use Rattle.sub_block.proofs.Sums.{at_itself}
-use Rattle.conv_code.specs.Reading.{bit_at_place, place_of, summed}
+use Rattle.conv_code.specs.Reading.{bit_at_place, place_of, summed_by}
 use Rattle.conv_code.specs.Cost.{place_cost, word_cost}
 use Rattle.conv_code.proofs.OneToOne.{one_to_one}
 use Rattle.conv_code.proofs.Places.{permuting}
-use Rattle.conv_code.proofs.Sums.{length-summed, summed-at}
+use Rattle.conv_code.proofs.Sums.{length-summed_by, summed_by-at}
 use Rattle.cs_bits.specs.Signs.{SpeaksFor}
 use Rattle.cs_bits.proofs.Signs.{supports-speaks}
 use Rattle.tailbite.specs.Clean.{Speaks}
@@ -27,7 +28,7 @@ use Rattle.tailbite.proofs.Only.{free_place, same_place}
 use Rattle.cs_bits.specs.Signs.{Supports}
 use Rattle.clean_turbo.specs.Tells.{Tells}
 use Rattle.clean_turbo.proofs.ReceivedSums.{place_tells}
-use Rattle.clean_air.specs.Words.{FourSpeakTogether, DescramblingKeeps, SpeakInOrder, SumsSpeak, SpokenWordIsOnly}
+use Rattle.clean_air.specs.Words.{FourSpeakTogether, DescramblingKeeps, SpeakByReading, SumsSpeak, SpokenWordIsOnly}
 
 -- ---- single values
 
@@ -47,28 +48,36 @@ at_place : (word : List Bool) (k t : ℕ) → k < length word → bit_at_place (
 unfolding coded_word
 at_place word k t l = ap (λ xs. get_or xs t false) (values_below_at (coded_bits word) (length word) k [] l)
 
--- one of the values comes from each place, and all from there speak for its bit
-sum_at_supports : (word : List Bool) (values : List ℤ) (k t : ℕ) → 6 ≤ length word → length word ≤ 64 → SpeakInOrder word values → k < length word → t < 3 →
-    Supports 1 (bit_at_place (coded_word word) (spot t k)) (summed_at (place_of (length word)) values (length values) t k)
-sum_at_supports word values k t long short speak inside stream =
-    let (i, below, is) = (permuting (length word) long short).reads.each t k stream inside in
-    let enough = speak.enough in
-    let there : any_below (length values) (λ m. is_at t k (place_of (length word) m) && true) ≡ true =
-    any_below_at (length values) i (λ m. is_at t k (place_of (length word) m) && true) (omega (arith, below, enough)) (and-true (is_at t k (place_of (length word) i)) ∙ ap (is_at t k) is ∙ at_itself (spot t k)) in
-    subst (λ some. Tells some (bit_at_place (coded_word word) (spot t k)) (summed_at (place_of (length word)) values (length values) t k)) there
-    (place_tells (place_of (length word)) values (bit_at_place (coded_word word)) (λ _. true) t k (length values) speak.value)
+module _ (reading : ℕ → Place) (word : List Bool) (values : List ℤ) (speak : SpeakByReading reading word values) where
+  -- one of the values comes from each place, and all from there speak for its bit
+  sum_at_supports : (k t : ℕ) → k < length word → t < 3 → Supports 1 (bit_at_place (coded_word word) (spot t k)) (summed_at reading values (length values) t k)
+  sum_at_supports k t inside stream =
+      let (i, below, is) = speak.enough k t inside stream in
+      let there : any_below (length values) (λ m. is_at t k (reading m) && true) ≡ true =
+      any_below_at (length values) i (λ m. is_at t k (reading m) && true) below (and-true (is_at t k (reading i)) ∙ ap (is_at t k) is ∙ at_itself (spot t k)) in
+      subst (λ some. Tells some (bit_at_place (coded_word word) (spot t k)) (summed_at reading values (length values) t k)) there
+      (place_tells reading values (bit_at_place (coded_word word)) (λ _. true) t k (length values) speak.value)
+
+  pub sums_speak_by_reading : Speaks (summed_by reading (length word) values) word
+  sums_speak_by_reading = record {
+    place = λ k below. let inside : k < length word = omega (arith, below, length-summed_by reading (length word) values) in
+        record { first = one k 0 inside (omega arith); second = one k 1 inside (omega arith); third = one k 2 inside (omega arith) };
+  }
+    where
+      one : (k t : ℕ) → k < length word → t < 3 → SpeaksFor (get_or (get_or (summed_by reading (length word) values) k []) t (pos 0)) (get_or (coded_bits word k) t false)
+      one k t inside stream =
+          subst (λ z. SpeaksFor z (get_or (coded_bits word k) t false)) (sym (summed_by-at reading (length word) values k t inside stream))
+          (supports-speaks (get_or (coded_bits word k) t false) (summed_at reading values (length values) t k)
+          (subst (λ b. Supports 1 b (summed_at reading values (length values) t k)) (at_place word k t inside) (sum_at_supports k t inside stream)))
 
 pub sums_speak : SumsSpeak
-sums_speak word values long short speak = record {
-  place = λ k below. let inside : k < length word = omega (arith, below, length-summed (length word) values) in
-      record { first = one k 0 inside (omega arith); second = one k 1 inside (omega arith); third = one k 2 inside (omega arith) };
-}
-  where
-    one : (k t : ℕ) → k < length word → t < 3 → SpeaksFor (get_or (get_or (summed (length word) values) k []) t (pos 0)) (get_or (coded_bits word k) t false)
-    one k t inside stream =
-        subst (λ z. SpeaksFor z (get_or (coded_bits word k) t false)) (sym (summed-at (length word) values k t inside stream))
-        (supports-speaks (get_or (coded_bits word k) t false) (summed_at (place_of (length word)) values (length values) t k)
-        (subst (λ b. Supports 1 b (summed_at (place_of (length word)) values (length values) t k)) (at_place word k t inside) (sum_at_supports word values k t long short speak inside stream)))
+sums_speak word values long short speak = sums_speak_by_reading (place_of (length word)) word values (record {
+  enough = λ k t inside stream.
+      let (i, below, is) = (permuting (length word) long short).reads.each t k stream inside in
+      let enough = speak.enough in
+      (i, omega (arith, below, enough), is);
+  value = speak.value;
+})
 
 -- ---- the word
 

@@ -12,7 +12,7 @@ use Rattle.clean_air.proofs.SentSymbols.{IsTruePlace}
 
 -- a place in the span of one frame at which a primary signal of the cell begins, and the start that it tells
 pub record IsTrueHit (offset t : ℕ) (half : Half) : Type 0 where
-  pub low : 137 ≤ t
+  pub low : 832 ≤ t
   pub high : t ≤ 19336
   pub is : IsTruePlace offset t half
 

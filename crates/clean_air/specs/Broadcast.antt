@@ -6,13 +6,20 @@ use Rattle.cs_bits.specs.Numbers.{field}
 use Rattle.grid_map.specs.Broadcast.{pbch_places}
 use Rattle.grid_map.specs.Scrambling.{pbch_c_init}
 use Rattle.soft_bits.specs.Soft.{SeenSlot}
+use Rattle.tailbite.specs.Clean.{Speaks}
 use Rattle.pbch.specs.Values.{coded_values}
 use Rattle.pbch.specs.Master.{PassesWith, Tells}
 use Rattle.clean_air.specs.Values.{IsSlotReceived}
 use Rattle.clean_air.specs.Carried.{SpeakOfWord, sums_of, CarryWord}
 
--- where values speak of a word of 40 bits whose check passes with the mask of so many ports, and whose code of the
--- bandwidth is one, it is what they tell
+-- sums that all speak for the coded bits of a word of 40 bits, whose check passes with the mask of so many ports, and whose
+-- code of the bandwidth is one, tell it
+abbrev pub SpokenWordIsTold : Type 0
+SpokenWordIsTold =
+    (ports : ℕ) (word : List Bool) (sums : List (List ℤ)) → length word ≡ 40 → length sums ≡ 40 → Speaks sums word → PassesWith ports word → field word 0 3 ≤ 5 →
+    Tells sums word ports
+
+-- so do the sums of values that speak of it
 abbrev pub SentWordIsTold : Type 0
 SentWordIsTold =
     (c_init first ports : ℕ) (word : List Bool) (values : List ℤ) → length word ≡ 40 → SpeakOfWord c_init first word values → PassesWith ports word → field word 0 3 ≤ 5 →

@@ -6,6 +6,7 @@ use Rattle.cs_num.specs.declared.Sample.{Sample}
 use Rattle.lte_types.specs.declared.bandwidth.Bandwidth.TheVariants.{N6}
 use Rattle.lte_types.specs.declared.entry.Entry.{Entry}
 use Rattle.lte_types.specs.Block.{HasFields}
+use Rattle.explain.specs.Entries.{IsExplained}
 use Rattle.cell_tx.specs.declared.cell.CellPlan.{CellPlan}
 use Rattle.cell_tx.specs.Plan.{IsSendable}
 use Rattle.cell_tx.specs.Clean.{IsClean, start_of, number_at_start}
@@ -38,3 +39,8 @@ abbrev pub HoldsCleanCells : List Sample → List Entry → Type 0
 HoldsCleanCells recording list =
     (plan : CellPlan) (sfn offset : ℕ) (gain : Cpx) (eps : ℕ) → IsSendable plan → IsClean recording plan sfn offset gain eps →
     HoldsCell list plan (start_of offset) (number_at_start sfn offset)
+
+-- the list of a recording, which holds each cell of which the recording is clean
+pub record IsListOfCells (recording : List Sample) (list : List Entry) : Type 0 where
+  pub explained : IsExplained recording list
+  pub holds : HoldsCleanCells recording list

@@ -1,6 +1,6 @@
 //! The word that clean values tell.
 
-ghost use Rattle.clean_air.specs.Words.{FourSpeakTogether, DescramblingKeeps, SumsSpeak, SpokenWordIsOnly};
+ghost use Rattle.clean_air.specs.Words.{FourSpeakTogether, DescramblingKeeps, SumsSpeakByReading, SumsSpeak, SpokenWordIsOnly};
 
 /// Where the values of a coded word, in the order in which it is sent, each speak for the bit that
 /// stands there, with at least one value for each bit, so do their sums by place. The word then
@@ -8,6 +8,7 @@ ghost use Rattle.clean_air.specs.Words.{FourSpeakTogether, DescramblingKeeps, Su
 pub fn spoken_word_is_the_least()
     ensures together { FourSpeakTogether }
     ensures descrambled { DescramblingKeeps }
+    ensures reading { SumsSpeakByReading }
     ensures sums { SumsSpeak }
     ensures only { SpokenWordIsOnly }
 {}

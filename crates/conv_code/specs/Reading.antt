@@ -1,5 +1,5 @@
 -- The order in which a coded word is sent, and the sums of what was received (TS 36.212 section 5.1.4.2).
-use Rattle.std.specs.Prelude.{ℕ, ◌*◌, ◌%◌, Bool, false, List, [], ◌++◌, length, map, slice_index_or, ℤ}
+use Rattle.std.specs.Prelude.{ℕ, ◌+◌, ◌*◌, ◌%◌, Bool, false, List, [], ◌++◌, length, map, slice_index_or, ℤ}
 use Rattle.finite.specs.Lists.{values_below}
 use Rattle.sub_block.specs.declared.Code.TheVariants.{Convolutional}
 use Rattle.sub_block.specs.declared.Place.{Place}
@@ -26,6 +26,14 @@ place_of n i = slice_index_or (reading n) (i % (3 * n)) (spot 0 0)
 abbrev pub bit_at_place : List (List Bool) → Place → Bool
 bit_at_place coded p = slice_index_or (slice_index_or coded p.place []) p.stream false
 
--- for each of n places and three streams, the sum of the values that the reading maps to it
-unfoldable pub summed : ℕ → List ℤ → List (List ℤ)
-summed n values = values_below n (λ p. values_below 3 (λ t. summed_at (place_of n) values (length values) t p))
+-- for each of n places and three streams, the sum of the values that a reading maps to it
+unfoldable pub summed_by : (ℕ → Place) → ℕ → List ℤ → List (List ℤ)
+summed_by reading n values = values_below n (λ p. values_below 3 (λ t. summed_at reading values (length values) t p))
+
+-- the same of values that begin with bit 0 of the endless reading
+abbrev pub summed : ℕ → List ℤ → List (List ℤ)
+summed n values = summed_by (place_of n) n values
+
+-- and of values that begin with bit `first` of it
+abbrev pub summed_from : ℕ → ℕ → List ℤ → List (List ℤ)
+summed_from first n values = summed_by (λ i. place_of n (first + i)) n values

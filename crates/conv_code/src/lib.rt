@@ -10,7 +10,7 @@ mod place;
 
 pub use encoder::encode;
 pub use laws::{coded_words_tell_words, reading_permutes};
-pub use matching::{combine, match_out, stream_place};
+pub use matching::{combine, combine_from, match_out, stream_place};
 pub use place::against;
 
 #[cfg(test)]

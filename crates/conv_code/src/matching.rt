@@ -3,7 +3,7 @@
 ghost use Rattle.std.specs.Prelude.{◌≡◌, ℕ, ◌+◌, ◌*◌, ◌^◌, ◌<◌, ◌≤◌, length, nat_abs, slice_index_or};
 ghost use Rattle.finite.specs.Sizes.{AllWithin, RowsWithin};
 ghost use Rattle.finite.specs.Tables.{sum_at, sums_with};
-ghost use Rattle.conv_code.specs.Reading.{bit_at_place, place_of, stream_order, summed};
+ghost use Rattle.conv_code.specs.Reading.{bit_at_place, place_of, stream_order, summed, summed_from};
 
 use sub_block::{Code, Place, cell_at};
 
@@ -66,8 +66,25 @@ fn add_at(sums: &mut [[i32; 3]], at: &Place, value: &i16)
     sums[at.place][at.stream] += *value as i32;
 }
 
-/// At each place of a coded word the sum of the values that the endless reading maps to it.
-/// At most 1,920 values.
+/// At each place of a coded word the sum of the values that the endless reading maps to it, from its bit
+/// `first` on. At most 1,920 values; `first` is below 2^32.
+pub fn combine_from<const N: usize>(first: usize, values: &[i16]) -> [[i32; 3]; N]
+    requires low { 6 ≤ N }
+    requires high { N ≤ 64 }
+    requires first { first < 2 ^ 32 }
+    requires count { length values.now ≤ 1920 }
+    ensures sums { result ≡ summed_from first N values.now }
+    ensures sizes { (bound : ℕ) → AllWithin bound values.now → RowsWithin (length values.now * bound) result }
+{
+    let order: [usize; N] = stream_places();
+    let mut sums = [[0; 3]; N];
+    for (i, value) in values.iter().enumerate() {
+        add_at(&mut sums, &place_by(&order, first + i), value);
+    }
+    sums
+}
+
+/// The same of values that begin with bit 0 of the reading: in each round of it one value for a place.
 pub fn combine<const N: usize>(values: &[i16]) -> [[i32; 3]; N]
     requires low { 6 ≤ N }
     requires high { N ≤ 64 }
@@ -77,12 +94,7 @@ pub fn combine<const N: usize>(values: &[i16]) -> [[i32; 3]; N]
         length values.now ≤ rounds * (3 * N) →
         RowsWithin (rounds * bound) result }
 {
-    let order: [usize; N] = stream_places();
-    let mut sums = [[0; 3]; N];
-    for (i, value) in values.iter().enumerate() {
-        add_at(&mut sums, &place_by(&order, i), value);
-    }
-    sums
+    combine_from(0, values)
 }
 
 // The places of a stream of N bits, in the order of the reading.

@@ -1,11 +1,12 @@
 -- The reference values, by the bits of the sequence.
-use Rattle.std.proofs.Common.{ℕ, ◌+◌, ◌*◌, ◌<◌, ◌≡◌, Bool, false, ◌&&◌, ◌||◌, ◌%◌, nat_eq, get_or, length, arith, refl, inl, inr, true, All}
+use Rattle.std.proofs.Common.{subst, ℕ, ◌+◌, ◌*◌, ◌<◌, ◌≡◌, Bool, false, ◌&&◌, ◌||◌, ◌%◌, nat_eq, get_or, length, arith, refl, inl, inr, true, All}
 use Rattle.std.proofs.lemmas.Bool.Decides.{nat_tests}
 use Rattle.cs_num.specs.declared.Cpx.{Cpx}
 use Rattle.gold.specs.Gold.{gold_bit, gold_bits}
 use Rattle.gold.proofs.Bits.{get_or-gold_bits}
 use Rattle.crs.specs.Qpsk.{component, IsFull, IsPoint}
-use Rattle.crs.specs.Reference.{port_0, has_pilots, value_by, reference_c_init, reference, reference_list, reference_pair, first_subcarrier, is_reference, is_second_reference}
+use Rattle.crs.specs.declared.pattern.Pattern.{Pattern}
+use Rattle.crs.specs.Reference.{port_0, has_pilots, value_by, pattern_c_init, pattern_reference, pattern_pair, pattern_list, reference_c_init, reference, reference_list, reference_pair, first_subcarrier, is_reference, is_second_reference}
 use Rattle.cs_num.specs.Complex.{nothing}
 use Rattle.std.specs.List.{range_with_len}
 use Rattle.std.proofs.lemmas.List.FromFn.{length-map-range_with_len, get_or-map-range_with_len}
@@ -16,11 +17,11 @@ abbrev pub no_pair : ℕ × Cpx
 no_pair = (0, nothing)
 
 -- the values take bits below 232
-pub value_by-gold_bits : (identity slot symbol m : ℕ) → m < 12 →
-    value_by (λ n. get_or (gold_bits (reference_c_init identity slot symbol) 232) n false) m ≡ reference identity slot symbol m
-unfolding reference
-value_by-gold_bits identity slot symbol m few =
-    let c : ℕ = reference_c_init identity slot symbol in
+pub value_by-gold_bits : (pattern : Pattern) (identity slot symbol m : ℕ) → m < 12 →
+    value_by (λ n. get_or (gold_bits (pattern_c_init pattern identity slot symbol) 232) n false) m ≡ pattern_reference pattern identity slot symbol m
+unfolding pattern_reference
+value_by-gold_bits pattern identity slot symbol m few =
+    let c : ℕ = pattern_c_init pattern identity slot symbol in
     let re : get_or (gold_bits c 232) (2 * (m + 104)) false ≡ gold_bit c (2 * (m + 104)) = get_or-gold_bits c 232 (2 * (m + 104)) false (omega arith) in
     let im : get_or (gold_bits c 232) (2 * (m + 104) + 1) false ≡ gold_bit c (2 * (m + 104) + 1) = get_or-gold_bits c 232 (2 * (m + 104) + 1) false (omega arith) in
     rw (re, im)
@@ -30,15 +31,33 @@ component-IsFull false = inl refl
 component-IsFull true = inr refl
 
 -- both components have the full amplitude
-pub reference-IsPoint : (identity slot symbol m : ℕ) → IsPoint (reference identity slot symbol m)
-unfolding reference
-reference-IsPoint identity slot symbol m = record { re = component-IsFull _; im = component-IsFull _ }
+pub pattern_reference-IsPoint : (pattern : Pattern) (identity slot symbol m : ℕ) → IsPoint (pattern_reference pattern identity slot symbol m)
+unfolding pattern_reference
+pattern_reference-IsPoint pattern identity slot symbol m = record { re = component-IsFull _; im = component-IsFull _ }
 
-pub reference_list-full : (identity slot symbol : ℕ) → All (λ pilot. IsPoint pilot.1) (reference_list identity slot symbol)
-unfolding reference_list
-reference_list-full identity slot symbol =
-    All-map (λ (pilot : ℕ × Cpx). IsPoint pilot.1) (reference_pair identity slot symbol) (range_with_len 0 12)
-    (λ k d inside. reference-IsPoint identity slot symbol _)
+pub pattern_list-full : (pattern : Pattern) (identity slot symbol : ℕ) → All (λ pilot. IsPoint pilot.1) (pattern_list pattern identity slot symbol)
+unfolding pattern_list
+pattern_list-full pattern identity slot symbol =
+    All-map (λ (pilot : ℕ × Cpx). IsPoint pilot.1) (pattern_pair pattern identity slot symbol) (range_with_len 0 12)
+    (λ k d inside. pattern_reference-IsPoint pattern identity slot symbol _)
+
+pub get_or-pattern_list : (pattern : Pattern) (identity slot symbol m : ℕ) (d : ℕ × Cpx) → m < 12 →
+    get_or (pattern_list pattern identity slot symbol) m d ≡ pattern_pair pattern identity slot symbol m
+unfolding pattern_list
+get_or-pattern_list pattern identity slot symbol m d few = get_or-map-range_with_len (pattern_pair pattern identity slot symbol) 0 12 m m d few (omega arith)
+
+-- ---- port 0 with the normal prefix
+
+pub reference-of_port_0 : (identity slot symbol m : ℕ) → pattern_reference port_0 identity slot symbol m ≡ reference identity slot symbol m
+unfolding pattern_reference reference reference_c_init
+reference-of_port_0 identity slot symbol m = refl
+
+pub reference_list-of_port_0 : (identity slot symbol : ℕ) → pattern_list port_0 identity slot symbol ≡ reference_list identity slot symbol
+unfolding pattern_list reference_list pattern_reference reference reference_c_init first_subcarrier
+reference_list-of_port_0 identity slot symbol = refl
+
+pub reference-IsPoint : (identity slot symbol m : ℕ) → IsPoint (reference identity slot symbol m)
+reference-IsPoint identity slot symbol m = subst IsPoint (reference-of_port_0 identity slot symbol m) (pattern_reference-IsPoint port_0 identity slot symbol m)
 
 pub length-reference_list : (identity slot symbol : ℕ) → length (reference_list identity slot symbol) ≡ 12
 unfolding reference_list

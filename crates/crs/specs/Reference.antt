@@ -1,18 +1,10 @@
 -- The cell-specific reference signals of an antenna port (TS 36.211 section 6.10.1).
-use Rattle.std.specs.Prelude.{ℕ, ◌+◌, ◌-◌, ◌*◌, ◌/◌, ◌%◌, ◌^◌, Bool, ◌&&◌, ◌||◌, nat_eq, if◌then◌else◌, List, map}
+use Rattle.std.specs.Prelude.{ℕ, ◌+◌, ◌-◌, ◌*◌, ◌/◌, ◌%◌, ◌^◌, ◌<◌, ◌≤◌, Bool, ◌&&◌, ◌||◌, nat_eq, if◌then◌else◌, List, map}
 use Rattle.std.specs.List.{range_with_len}
 use Rattle.cs_num.specs.declared.Cpx.{Cpx}
 use Rattle.gold.specs.Gold.{gold_bit}
 use Rattle.crs.specs.Qpsk.{point}
-
--- what the reference signals of a port and a prefix differ in
-pub record Pattern : Type 0 where
-  -- the second symbol of a slot that has them: 4, and 3 with the extended prefix
-  pub later : ℕ
-  -- v in symbol 0: 0 for port 0 and 3 for port 1; in the later symbol v is 3 less it
-  pub shift : ℕ
-  -- N_CP: 1 with the normal prefix and 0 with the extended one
-  pub prefix : ℕ
+use Rattle.crs.specs.declared.pattern.Pattern.{Pattern}
 
 -- port 0 with the normal prefix: the one that is meant where no pattern is named
 abbrev pub port_0 : Pattern
@@ -22,7 +14,17 @@ port_0 = record { later = 4; shift = 0; prefix = 1 }
 abbrev pub port_1 : Pattern
 port_1 = record { later = 4; shift = 3; prefix = 1 }
 
+-- port 0 with the extended prefix
+abbrev pub long_prefix : Pattern
+long_prefix = record { later = 3; shift = 0; prefix = 0 }
+
 -- ---- for any pattern
+
+-- its later symbol is one of a slot, v is 0 to 3, and N_CP is 0 or 1
+pub record IsPattern (pattern : Pattern) : Type 0 where
+  pub later : (0 < pattern.later) × (pattern.later < 7)
+  pub shift : pattern.shift ≤ 3
+  pub prefix : pattern.prefix ≤ 1
 
 -- c_init of the sequence for a slot and a symbol of it (section 6.10.1.1)
 abbrev pub pattern_c_init : Pattern → ℕ → ℕ → ℕ → ℕ
@@ -47,6 +49,23 @@ has_pilots pattern symbol = nat_eq symbol 0 || nat_eq symbol pattern.later
 abbrev pub is_pattern_place : Pattern → ℕ → ℕ → ℕ → Bool
 is_pattern_place pattern identity symbol k =
     has_pilots pattern symbol && nat_eq (k % 6) (pattern_first pattern identity symbol)
+
+-- the subcarrier of value m
+abbrev pub pattern_subcarrier : Pattern → ℕ → ℕ → ℕ → ℕ
+pattern_subcarrier pattern identity symbol m = 6 * m + pattern_first pattern identity symbol
+
+-- value m of a symbol of a slot
+unfoldable pub pattern_reference : Pattern → ℕ → ℕ → ℕ → ℕ → Cpx
+pattern_reference pattern identity slot symbol m = value_by (gold_bit (pattern_c_init pattern identity slot symbol)) m
+
+-- subcarrier and value number m
+abbrev pub pattern_pair : Pattern → ℕ → ℕ → ℕ → ℕ → ℕ × Cpx
+pattern_pair pattern identity slot symbol m =
+    (pattern_subcarrier pattern identity symbol m, pattern_reference pattern identity slot symbol m)
+
+-- all twelve
+unfoldable pub pattern_list : Pattern → ℕ → ℕ → ℕ → List (ℕ × Cpx)
+pattern_list pattern identity slot symbol = map (pattern_pair pattern identity slot symbol) (range_with_len 0 12)
 
 -- ---- for port 0 with the normal prefix
 

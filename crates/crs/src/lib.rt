@@ -1,28 +1,34 @@
-//! The cell-specific reference signals of antenna port 0 (TS 36.211 section 6.10.1): which
-//! subcarriers of a symbol carry them, and their values; and points of two bits by QPSK.
+//! The cell-specific reference signals of an antenna port (TS 36.211 section 6.10.1): which subcarriers of a
+//! symbol carry them, and their values, by antenna port and cyclic prefix; and points of two bits by QPSK.
+//! Where no pattern is named, port 0 with the normal prefix is meant.
 #![tactic(auto)]
 
 ghost use Rattle.std.specs.Prelude.{◌≡◌, ◌⊎◌, ◌%◌, ◌^◌, ◌<◌, ◌↔◌, ◌/◌, ◌&&◌, ◌||◌, nat_eq, ℕ, length, false, get_or, All, IsTrue};
 ghost use Rattle.crs.specs.Qpsk.{IsPoint};
-ghost use Rattle.crs.specs.Reference.{reference_c_init, value_by, reference, reference_list};
+ghost use Rattle.crs.specs.Reference.{IsPattern, pattern_c_init, pattern_first, pattern_list};
+ghost use Rattle.crs.specs.Reference.{value_by, reference, reference_list};
 ghost use Rattle.crs.specs.Reference.{port_0, has_pilots, first_subcarrier, subcarrier, is_reference, is_second_reference, reference_at};
 
+mod pattern;
 mod qpsk;
 
 use cs_num::Cpx;
 use lte_types::CellId;
+pub use pattern::Pattern;
 pub use qpsk::point;
 
 // c_init of the sequence for a slot and a symbol of it.
-#[tactic(auto, unfolding(crate::specs::Reference::reference_c_init))]
-fn c_init(id: CellId, slot: u8, symbol: u8) -> u32
+fn c_init(pattern: Pattern, id: CellId, slot: u8, symbol: u8) -> u32
+    requires pattern { IsPattern pattern }
     requires slot { slot < 20 }
     requires symbol { symbol < 7 }
     ensures fits { result < 2 ^ 31 }
-    ensures value { result ≡ reference_c_init id slot symbol }
+    ensures value { result ≡ pattern_c_init pattern id slot symbol }
 {
-    let twice = 2 * u32::from(id.value()) + 1;
-    (7 * (u32::from(slot) + 1) + u32::from(symbol) + 1) * twice * 1024 + twice
+    let twice = 2 * u32::from(id.value());
+    (7 * (u32::from(slot) + 1) + u32::from(symbol) + 1) * (twice + 1) * 1024
+        + twice
+        + u32::from(pattern.prefix)
 }
 
 // The value of subcarrier number m, by the bits of the symbol's sequence.
@@ -35,15 +41,49 @@ fn value_of(bits: &[bool], m: u8) -> Cpx
     point(bits[first], bits[first + 1])
 }
 
+/// The first of the subcarriers of a symbol that have reference places by a pattern: each sixth from it on has
+/// one (TS 36.211 section 6.10.1.2). `symbol` is 0 or the pattern's later symbol.
+#[tactic(auto, using(std::proofs::lemmas::Bool::Decides::nat_tests))]
+pub fn first_of_pattern(pattern: Pattern, id: CellId, symbol: u8) -> u8
+    requires { IsPattern pattern }
+    ensures value { result ≡ pattern_first pattern id symbol }
+    ensures bound { result < 6 }
+{
+    let shift = if symbol == 0 {
+        pattern.shift
+    } else {
+        3 - pattern.shift
+    };
+    ((shift as u16 + id.value()) % 6) as u8
+}
+
+/// Subcarriers and values of the reference signals of a symbol by a pattern, in the order of subcarriers.
+/// `slot` is 0 to 19, and `symbol` 0 or the pattern's later symbol. Each component of a value is 90 or -90.
+pub fn pattern_pilots(pattern: Pattern, id: CellId, slot: u8, symbol: u8) -> [(u8, Cpx); 12]
+    requires pattern { IsPattern pattern }
+    requires slot { slot < 20 }
+    requires symbol { symbol < 7 }
+    ensures pilots { result ≡ pattern_list pattern id slot symbol }
+    ensures full { All (λ pilot. IsPoint pilot.1) result }
+{
+    let mut bits = [false; 232];
+    gold::fill(c_init(pattern, id, slot, symbol), &mut bits);
+    let first = first_of_pattern(pattern, id, symbol);
+    let mut pilots = [(0, Cpx::ZERO); 12];
+    for m in 0..12_u8 {
+        pilots[m as usize] = (6 * m + first, value_of(&bits, m));
+    }
+    pilots
+}
+
 /// The first of the subcarriers of a symbol that have reference places: each sixth from it on has one
 /// (TS 36.211 section 6.10.1.2). `symbol` is 0 or 4.
-#[tactic(auto, using(std::proofs::lemmas::Bool::Decides::nat_tests), unfolding(crate::specs::Reference::first_subcarrier))]
+#[tactic(auto, unfolding(crate::specs::Reference::first_subcarrier))]
 pub fn first_subcarrier(id: CellId, symbol: u8) -> u8
     ensures value { result ≡ first_subcarrier id symbol }
     ensures bound { result < 6 }
 {
-    let shift = if symbol == 0 { 0 } else { 3 };
-    ((shift + id.value()) % 6) as u8
+    first_of_pattern(Pattern::FIRST_PORT, id, symbol)
 }
 
 /// Subcarriers and values of the reference signals of a symbol, in the order of subcarriers.
@@ -54,14 +94,7 @@ pub fn pilots(id: CellId, slot: u8, symbol: u8) -> [(u8, Cpx); 12]
     ensures pilots { result ≡ reference_list id slot symbol }
     ensures full { All (λ pilot. IsPoint pilot.1) result }
 {
-    let mut bits = [false; 232];
-    gold::fill(c_init(id, slot, symbol), &mut bits);
-    let first = first_subcarrier(id, symbol);
-    let mut pilots = [(0, Cpx::ZERO); 12];
-    for m in 0..12_u8 {
-        pilots[m as usize] = (6 * m + first, value_of(&bits, m));
-    }
-    pilots
+    pattern_pilots(Pattern::FIRST_PORT, id, slot, symbol)
 }
 
 /// The twelve subcarriers of a symbol are its reference places, each with its value. Symbols 0 and

@@ -1,5 +1,6 @@
 -- Hits whose place was met before.
 use Rattle.std.proofs.Common.{◌≡◌, inl, inr, ℕ, Bool, true, false, ◌&&◌, nat_eq, List, [], ◌∷◌, ◌++◌, arith, refl, ap, sym, subst, ◌∙◌}
+use Rattle.std.specs.Prelude.{Result}
 use Rattle.std.specs.List.{Contains}
 use Rattle.std.proofs.lemmas.Bool.Decides.{nat_tests}
 use Rattle.std.proofs.lemmas.List.Elements.{Contains-append_left, Contains-push, Contains-push_cases}
@@ -7,11 +8,14 @@ use Rattle.std.proofs.lemmas.List.Folds.{Any-from_list_any}
 use Rattle.cs_num.specs.declared.Sample.{Sample}
 use Rattle.lte_types.specs.declared.hit.Hit.{Hit}
 use Rattle.lte_types.specs.declared.entry.Entry.{Entry}
+use Rattle.lte_types.specs.declared.mib.Mib.{Mib}
+use Rattle.lte_types.specs.declared.sib1.Sib1.{Sib1}
+use Rattle.lte_types.specs.declared.sib1_reason.Sib1Reason.{Sib1Reason}
+use Rattle.pbch.specs.declared.master.Master.{Master}
 use Rattle.explain.specs.declared.places.Place.{Place}
-use Rattle.explain.specs.System.{IsSystemOf}
-use Rattle.explain.specs.Window.{IsMasterAt}
-use Rattle.explain.specs.Entries.{IsEntryBy, AreEntries, AreEntriesOf, IsListOfHits, AddsHit}
-use Rattle.explain.specs.Places.{place_at, is_same_place, is_met}
+use Rattle.explain.specs.Entries.{AreEntries, IsListOfHits, AddsHit}
+use Rattle.explain.specs.Reader.{IsEntryAt, AreEntriesBy}
+use Rattle.explain.specs.Places.{is_same_place, is_met}
 use Rattle.explain.proofs.Listed.{of_one_more, adds_again_of}
 
 -- ---- places
@@ -30,47 +34,52 @@ met_inside places place e =
     subst (Contains places) (same_place met place same) (k, l, is)
 
 -- each of the places is that of one of the hits
-abbrev pub AreMet : List Sample → List Hit → List Place → Type 0
-AreMet recording hits places = (place : Place) → Contains places place → (hit : Hit) × Contains hits hit × (place_at recording hit ≡ place)
+abbrev pub AreMet : (Hit → Place) → List Hit → List Place → Type 0
+AreMet place_of hits places = (place : Place) → Contains places place → (hit : Hit) × Contains hits hit × (place_of hit ≡ place)
 
 -- ---- hit after hit
 
--- a hit with the place of one of them adds nothing to their list
-adds_met : (recording : List Sample) (hits : List Hit) (list : List Entry) (met hit : Hit) → IsListOfHits (AreEntriesOf recording) hits list →
-    Contains hits met → place_at recording met ≡ place_at recording hit → AddsHit (AreEntriesOf recording) hit list list
-adds_met recording hits list met hit listed inside same =
-    let again = adds_again_of (AreEntriesOf recording) hits list met listed inside in
-    record {
-      entries = again.entries;
-      are = subst (λ (p : Place). AreEntries (IsEntryBy (IsMasterAt recording) (IsSystemOf recording) recording p.id p.start) again.entries) same again.are;
-      adds = again.adds;
-    }
+-- by a way to read cells
+module _ (Tells : ℕ → ℕ → ℕ → ℕ → ℕ → Master → Type 0) (IsSystem : ℕ → ℕ → ℕ → ℕ → Mib → Result Sib1 Sib1Reason → Type 0) (recording : List Sample) (place_of : Hit → Place) where
+  abbrev pub AreOf : Hit → List Entry → Type 0
+  AreOf = AreEntriesBy Tells IsSystem recording place_of
 
-module _ (recording : List Sample) (hits : List Hit) (hit : Hit) (places : List Place) (met : AreMet recording hits places) where
-  pub listed_more : (old new : List Entry) → IsListOfHits (AreEntriesOf recording) hits old →
-      (is_met places (place_at recording hit) ≡ true → new ≡ old) → (is_met places (place_at recording hit) ≡ false → AddsHit (AreEntriesOf recording) hit old new) →
-      IsListOfHits (AreEntriesOf recording) (hits ++ hit ∷ []) new
-  listed_more old new listed again adds = of_one_more (AreEntriesOf recording) hits hit old new listed (settle (is_met places (place_at recording hit)) refl)
-    where
-      settle : (b : Bool) → is_met places (place_at recording hit) ≡ b → AddsHit (AreEntriesOf recording) hit old new
-      settle true e =
-          let (before, inside, same) = met (place_at recording hit) (met_inside places (place_at recording hit) e) in
-          subst (AddsHit (AreEntriesOf recording) hit old) (sym (again e)) (adds_met recording hits old before hit listed inside same)
-      settle false e = adds e
+  -- a hit with the place of one of them adds nothing to their list
+  adds_met : (hits : List Hit) (list : List Entry) (met hit : Hit) → IsListOfHits AreOf hits list →
+      Contains hits met → place_of met ≡ place_of hit → AddsHit AreOf hit list list
+  adds_met hits list met hit listed inside same =
+      let again = adds_again_of AreOf hits list met listed inside in
+      record {
+        entries = again.entries;
+        are = subst (λ (p : Place). AreEntries (IsEntryAt Tells IsSystem recording p) again.entries) same again.are;
+        adds = again.adds;
+      }
 
-  met_before : AreMet recording (hits ++ hit ∷ []) places
-  met_before place h = let (before, inside, same) = met place h in (before, Contains-append_left hits (hit ∷ []) before inside, same)
+  module _ (hits : List Hit) (hit : Hit) (places : List Place) (met : AreMet place_of hits places) where
+    pub listed_more : (old new : List Entry) → IsListOfHits AreOf hits old →
+        (is_met places (place_of hit) ≡ true → new ≡ old) → (is_met places (place_of hit) ≡ false → AddsHit AreOf hit old new) →
+        IsListOfHits AreOf (hits ++ hit ∷ []) new
+    listed_more old new listed again adds = of_one_more AreOf hits hit old new listed (settle (is_met places (place_of hit)) refl)
+      where
+        settle : (b : Bool) → is_met places (place_of hit) ≡ b → AddsHit AreOf hit old new
+        settle true e =
+            let (before, inside, same) = met (place_of hit) (met_inside places (place_of hit) e) in
+            subst (AddsHit AreOf hit old) (sym (again e)) (adds_met hits old before hit listed inside same)
+        settle false e = adds e
 
-  pub met_more : (new : List Place) → (is_met places (place_at recording hit) ≡ true → new ≡ places) →
-      (is_met places (place_at recording hit) ≡ false → new ≡ places ++ place_at recording hit ∷ []) → AreMet recording (hits ++ hit ∷ []) new
-  met_more new same adds = settle (is_met places (place_at recording hit)) refl
-    where
-      pushed : AreMet recording (hits ++ hit ∷ []) (places ++ place_at recording hit ∷ [])
-      pushed place h = elim (Contains-push_cases places (place_at recording hit) place h) [
-        | inl before ↦ met_before place before
-        | inr is ↦ (hit, Contains-push hits hit, is)
-      ]
+    met_before : AreMet place_of (hits ++ hit ∷ []) places
+    met_before place h = let (before, inside, same) = met place h in (before, Contains-append_left hits (hit ∷ []) before inside, same)
 
-      settle : (b : Bool) → is_met places (place_at recording hit) ≡ b → AreMet recording (hits ++ hit ∷ []) new
-      settle true e = subst (AreMet recording (hits ++ hit ∷ [])) (sym (same e)) met_before
-      settle false e = subst (AreMet recording (hits ++ hit ∷ [])) (sym (adds e)) pushed
+    pub met_more : (new : List Place) → (is_met places (place_of hit) ≡ true → new ≡ places) →
+        (is_met places (place_of hit) ≡ false → new ≡ places ++ place_of hit ∷ []) → AreMet place_of (hits ++ hit ∷ []) new
+    met_more new same adds = settle (is_met places (place_of hit)) refl
+      where
+        pushed : AreMet place_of (hits ++ hit ∷ []) (places ++ place_of hit ∷ [])
+        pushed place h = elim (Contains-push_cases places (place_of hit) place h) [
+          | inl before ↦ met_before place before
+          | inr is ↦ (hit, Contains-push hits hit, is)
+        ]
+
+        settle : (b : Bool) → is_met places (place_of hit) ≡ b → AreMet place_of (hits ++ hit ∷ []) new
+        settle true e = subst (AreMet place_of (hits ++ hit ∷ [])) (sym (same e)) met_before
+        settle false e = subst (AreMet place_of (hits ++ hit ∷ [])) (sym (adds e)) pushed

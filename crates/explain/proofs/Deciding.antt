@@ -80,7 +80,7 @@ system_agrees : (a b : List Sample) (id start sfn ports : ℕ) (mib : Mib) (sib1
 system_agrees a b id start sfn ports mib (Err (NotOnePort told)) agree long_a long_b early s = s
 system_agrees a b id start sfn ports mib (Err (OtherWidth told)) agree long_a long_b early s = s
 system_agrees a b id start sfn ports mib sib1 agree long_a long_b early s =
-    record { one_port = s.one_port; six_blocks = s.six_blocks; read = read_agrees a b id start sfn mib sib1 agree long_a long_b early s.read }
+    record { as_wanted = s.as_wanted; six_blocks = s.six_blocks; read = read_agrees a b id start sfn mib sib1 agree long_a long_b early s.read }
 
 -- ---- the entries of a hit
 

@@ -11,7 +11,7 @@ same_spare : (mib : Mib) (spare : ℕ) → mib.spare ≡ spare → (within : spa
 same_spare mib spare e = subst (λ s. (within : s ≤ 1023) → mib ≡ record mib { spare = s; spare_range = within }) e
     (λ within. ap (λ w. record mib { spare_range = w }) (le_prop mib.spare_range within))
 
-same_mib : (a b : Mib) → a.bandwidth ≡ b.bandwidth → a.duration ≡ b.duration → a.resource ≡ b.resource → a.upper ≡ b.upper → a.spare ≡ b.spare → a ≡ b
+pub same_mib : (a b : Mib) → a.bandwidth ≡ b.bandwidth → a.duration ≡ b.duration → a.resource ≡ b.resource → a.upper ≡ b.upper → a.spare ≡ b.spare → a ≡ b
 same_mib a b width length share frame bits =
     ap (λ x. record a { bandwidth = x }) width
     ∙ ap (λ x. record a { bandwidth = b.bandwidth; duration = x }) length

@@ -1,12 +1,13 @@
 -- The first frames that have a master block, and the entries that are made of their blocks.
 use Rattle.std.proofs.Common.{◌≡◌, ◌⊎◌, inl, inr, ℕ, zero, suc, ◌+◌, ◌-◌, ◌<◌, ◌≤◌, Bool, true, false, ◌||◌, List, [], ◌∷◌, ℤ, Option, None, Some, arith, refl, ap, ap₂, sym, subst, ◌∙◌, length, get_or, take, drop}
-use Rattle.std.specs.Prelude.{is_some, MatchOption, IsTrue, Result}
+use Rattle.std.specs.Prelude.{is_some, map, MatchOption, IsTrue, Result, if◌then◌else◌}
 use Rattle.std.specs.List.{flat_map, AllPairs, Contains}
 use Rattle.std.proofs.lemmas.Bool.{cases_lt}
-use Rattle.std.proofs.lemmas.List.{get_or-drop, length-drop, length-take-le}
+use Rattle.std.proofs.lemmas.List.{get_or-drop, get_or-map, length-drop, length-map, length-take-le}
+use Rattle.std.proofs.lemmas.List.Folds.{flat_map-map}
 use Rattle.finite.specs.Tests.{any_below}
 use Rattle.finite.proofs.Tests.{any_below_none}
-use Rattle.finite.proofs.Lists.{Contains-in_joined, Contains-joined, joined_below-pairs, values_below-length, values_below_at}
+use Rattle.finite.proofs.Lists.{Contains-in_joined, Contains-joined, front_is, joined_below-pairs, values_below-length, values_below_at, values_below_is}
 use Rattle.cs_num.specs.declared.Sample.{Sample}
 use Rattle.lte_types.specs.declared.hit.Hit.{Hit}
 use Rattle.lte_types.specs.declared.entry.Entry.{Entry}
@@ -24,7 +25,9 @@ use Rattle.explain.specs.System.{IsSystemOf}
 use Rattle.explain.specs.Window.{IsInWindow, ComeBefore, TellNone, HasNoMasterBefore, HasNoMasters, IsMasterAt}
 use Rattle.explain.specs.Entries.{identity_at, start_at, master_of, IsEntryBy, AreEntries, AreEntriesOf, first_number, Adds, AddsHit}
 use Rattle.explain.specs.Masters.{HasMaster, IsToldAt, AreTold, AreFirstWith, entry_of, entry_at, entries_of, IsSystemAt, AddsPhases}
-use Rattle.explain.specs.Received.{AreReceived}
+use Rattle.explain.specs.Received.{AreReceived, IsToldBy, taken_of, values_in}
+use Rattle.explain.specs.declared.places.Place.{Place}
+use Rattle.explain.specs.Reader.{IsEntryAt, AreEntriesBy, TellsOne, HasOneSystem}
 use Rattle.explain.proofs.Sorted.{in_none, in_one, Contains-here}
 use Rattle.explain.proofs.Entries.{same_master, same_entry}
 use Rattle.explain.proofs.Information.{one_system}
@@ -75,13 +78,27 @@ rows_of_frames recording identity start count j rows long each =
     size : length slots ≡ count
     size = length-broadcast_slots recording identity start count j
 
+-- their values, one frame after the other
+pub values_in_frames : (recording : List Sample) (identity start count j : ℕ) →
+    values_in (λ j. received_values (broadcast_slot recording identity start j)) count j ≡ flat_map received_values (broadcast_slots recording identity start count j)
+values_in_frames recording identity start count j =
+    ap (flat_map (λ row. row)) (sym (values_below_is [] count (λ m. received_values (broadcast_slot recording identity start (j + m))) (map received_values slots)
+    (length-map slots received_values ∙ size)
+    (λ m below. get_or-map received_values slots m no_slot [] (omega (arith, below, size)) ∙ ap received_values (broadcast_slots-at recording identity start count j m below))))
+    ∙ flat_map-map (λ row. row) received_values slots
+  where
+    slots : List SeenSlot
+    slots = broadcast_slots recording identity start count j
+
+    size : length slots ≡ count
+    size = length-broadcast_slots recording identity start count j
+
 -- among what was received of the first frames, that of some that follow one another
-pub received_of_frames : (recording : List Sample) (identity start count j : ℕ) (rows : List (List ℤ)) → j + count ≤ length rows →
-    AreReceived recording identity start (j + count) rows →
-    flat_map (λ row. row) (take count (drop j rows)) ≡ flat_map received_values (broadcast_slots recording identity start count j)
-received_of_frames recording identity start count j rows long each =
-    rows_of_frames recording identity start count j (drop j rows) (let size = length-drop j rows in omega (arith, size, long))
-    (λ m below. get_or-drop j rows m [] ∙ each (j + m) (omega (arith, below)))
+pub received_in : (values : ℕ → List ℤ) (count j : ℕ) (rows : List (List ℤ)) → j + count ≤ length rows → AreReceived values (j + count) rows →
+    flat_map (λ row. row) (take count (drop j rows)) ≡ values_in values count j
+received_in values count j rows long each =
+    ap (flat_map (λ row. row)) (front_is [] count (λ m. values (j + m)) (drop j rows) (let size = length-drop j rows in omega (arith, size, long))
+    (λ m below. get_or-drop j rows m [] ∙ each (j + m) (omega (arith, below))))
 
 -- ---- master blocks by phase
 
@@ -119,9 +136,9 @@ is_some_of : (o : Option Master) → is_some o ≡ true → (master : Master) ×
 is_some_of None e = absurd (cc e)
 is_some_of (Some master) e = (master, refl)
 
-pub has_one : (identity count : ℕ) (received : List ℤ) (masters : List (Option Master)) → AreMasters identity count received masters →
+pub has_one : (count : ℕ) (masters : List (Option Master)) → ((phase : ℕ) → phase < 4 → 4 < phase + count → master_at masters phase ≡ None) →
     any_below 4 (λ phase. is_some (master_at masters phase)) ≡ true → HasMaster count masters
-has_one identity count received masters m e =
+has_one count masters beyond e =
     let (phase, below, some) = some_below 4 (λ p. is_some (master_at masters p)) e in
     let (master, is) = is_some_of (master_at masters phase) some in
     record { phase = phase; known = within phase master below is; master = master; is = is }
@@ -129,7 +146,7 @@ has_one identity count received masters m e =
     -- beyond a period there is none
     within : (phase : ℕ) (master : Master) → phase < 4 → master_at masters phase ≡ Some master → phase + count ≤ 4
     within phase master below is = elim (cases_lt 4 (phase + count)) [
-      | inl beyond ↦ absurd (let none = (told_at identity count received masters phase m below).beyond beyond in cc (none, is))
+      | inl more ↦ absurd (let none = beyond phase below more in cc (none, is))
       | inr fits ↦ fits
     ]
 
@@ -147,28 +164,47 @@ unfolding coded_values
 values_of_frames recording identity start count j phase received some is =
     ap₂ (λ i r. summed_values i phase r) (sym (identity_of_frames recording identity start count j some)) is
 
--- what was received of frames tells what they do
-pub told_in_frames : (recording : List Sample) (identity start count j : ℕ) (received : List ℤ) (masters : List (Option Master)) → 1 ≤ count →
-    received ≡ flat_map received_values (broadcast_slots recording identity start count j) → AreMasters identity count received masters →
-    AreTold (IsMasterAt recording) identity start count j masters
-told_in_frames recording identity start count j received masters some is m phase period =
-    by_option (master_at masters phase) ((told_at identity count received masters phase m (omega (arith, some, period))).told period)
-  where
-    same : summed_values identity phase received ≡ coded_values (broadcast_slots recording identity start count j) phase
-    same = values_of_frames recording identity start count j phase received some is
+-- ---- the master blocks that are taken, of those of some of the first frames
 
-    by_option : (o : Option Master) → MatchOption o (TellsNothing (summed_values identity phase received)) (TellsMaster (summed_values identity phase received)) →
-        IsToldAt (IsMasterAt recording) identity start count j phase o
-    by_option None none = λ master told. let here = subst (λ values. TellsMaster values master) (sym same) told in none here.word master.ports here.tells
-    by_option (Some master) told = subst (λ values. TellsMaster values master) same told
+module _ (values : ℕ → ℕ → ℕ → List ℤ) (takes : ℕ → Bool) (identity start count j : ℕ) (all masters : List (Option Master))
+    (each : (phase : ℕ) → phase < 4 → master_at masters phase ≡ taken_of takes (master_at all phase)) where
+  -- so many frames from frame j on tell those
+  pub told_in_frames : 1 ≤ count → AreMasters identity count (values_in (values identity start) count j) all → AreTold (IsToldBy values takes) identity start count j masters
+  told_in_frames some m phase period =
+      subst (IsToldAt (IsToldBy values takes) identity start count j phase) (sym (each phase (omega (arith, some, period))))
+      (by_option (master_at all phase) ((told_at identity count _ all phase m (omega (arith, some, period))).told period))
+    where
+      sums : List (List ℤ)
+      sums = summed_values identity phase (values_in (values identity start) count j)
+
+      by_option : (o : Option Master) → MatchOption o (TellsNothing sums) (TellsMaster sums) → IsToldAt (IsToldBy values takes) identity start count j phase (taken_of takes o)
+      by_option None none = λ master told. none told.told.word master.ports told.told.tells
+      by_option (Some master) told = settle (takes master.ports) refl
+        where
+          settle : (b : Bool) → takes master.ports ≡ b → IsToldAt (IsToldBy values takes) identity start count j phase (if b then Some master else None)
+          settle true e = record { taken = e; told = told }
+          settle false e = λ other t.
+              let same : other ≡ master = same_master other master (one_master sums other master t.told told) in
+              let taken : takes master.ports ≡ true = subst (λ (m : Master). takes m.ports ≡ true) same t.taken in
+              cc (e, taken)
+
+  -- and none beyond a period
+  pub none_beyond : AreMasters identity count (values_in (values identity start) count j) all → (phase : ℕ) → phase < 4 → 4 < phase + count → master_at masters phase ≡ None
+  none_beyond m phase below beyond =
+      each phase below ∙ ap (taken_of takes) ((told_at identity count _ all phase m below).beyond beyond)
+
+-- there is at most one of frames at a phase
+pub one_told_by : (values : ℕ → ℕ → ℕ → List ℤ) (takes : ℕ → Bool) → TellsOne (IsToldBy values takes)
+one_told_by values takes identity start count j phase a b p q =
+    same_master a b (one_master (summed_values identity phase (values_in (values identity start) count j)) a b p.told q.told)
 
 -- the master blocks of some of the first frames, by what was received of these
-pub masters_of_frames : (recording : List Sample) (identity start count j : ℕ) (rows : List (List ℤ)) (masters : List (Option Master)) → j + count ≤ length rows →
-    AreReceived recording identity start (j + count) rows →
+pub masters_of_frames : (values : ℕ → List ℤ) (identity count j : ℕ) (rows : List (List ℤ)) (masters : List (Option Master)) → j + count ≤ length rows →
+    AreReceived values (j + count) rows →
     AreMasters identity (length (take (j + count - j) (drop j rows))) (flat_map (λ row. row) (take (j + count - j) (drop j rows))) masters →
-    AreMasters identity count (flat_map received_values (broadcast_slots recording identity start count j)) masters
-masters_of_frames recording identity start count j rows masters long each m =
-    subst (λ received. AreMasters identity count received masters) (received_of_frames recording identity start count j rows long each)
+    AreMasters identity count (values_in values count j) masters
+masters_of_frames values identity count j rows masters long each m =
+    subst (λ received. AreMasters identity count received masters) (received_in values count j rows long each)
     (subst (λ n. AreMasters identity n (flat_map (λ row. row) (take count (drop j rows))) masters) size
     (subst (λ n. AreMasters identity (length (take n (drop j rows))) (flat_map (λ row. row) (take n (drop j rows))) masters) same m))
   where
@@ -177,6 +213,45 @@ masters_of_frames recording identity start count j rows masters long each m =
 
     size : length (take count (drop j rows)) ≡ count
     size = length-take-le count (drop j rows) (let rest = length-drop j rows in omega (arith, rest, long))
+
+-- ---- two ways to say which master blocks frames tell, one from the other
+
+module _ (Tells Other : ℕ → ℕ → ℕ → ℕ → ℕ → Master → Type 0)
+    (to : (identity start count j phase : ℕ) (master : Master) → 1 ≤ count → Tells identity start count j phase master → Other identity start count j phase master)
+    (from : (identity start count j phase : ℕ) (master : Master) → 1 ≤ count → Other identity start count j phase master → Tells identity start count j phase master)
+    (recording : List Sample) (identity start : ℕ) where
+  none_turned : (count j : ℕ) → 1 ≤ count → TellNone Tells identity start count j → TellNone Other identity start count j
+  none_turned count j some none phase master period t = none phase master period (from identity start count j phase master some t)
+
+  pub no_masters_turned : HasNoMasters Tells recording identity start → HasNoMasters Other recording identity start
+  no_masters_turned none count j window = none_turned count j window.some (none count j window)
+
+  told_turned : (count frame phase : ℕ) (o : Option Master) → 1 ≤ count → IsToldAt Tells identity start count frame phase o → IsToldAt Other identity start count frame phase o
+  told_turned count frame phase None some h = λ master t. h master (from identity start count frame phase master some t)
+  told_turned count frame phase (Some master) some h = to identity start count frame phase master some h
+
+  pub first_turned : (count frame : ℕ) (masters : List (Option Master)) → AreFirstWith Tells recording identity start count frame masters → AreFirstWith Other recording identity start count frame masters
+  first_turned count frame masters f = record {
+    frames = record {
+      inside = f.frames.inside;
+      first = λ few i window before. none_turned few i window.some (f.frames.first few i window before);
+    };
+    have = record {
+      are = λ phase period. told_turned count frame phase (master_at masters phase) f.frames.inside.some (f.have.are phase period);
+      some = f.have.some;
+    };
+  }
+
+-- those of one antenna port
+module _ (recording : List Sample) (identity start count j phase : ℕ) (master : Master) (some : 1 ≤ count) where
+  same_sums : summed_values identity phase (values_in (λ j. received_values (broadcast_slot recording identity start j)) count j) ≡ coded_values (broadcast_slots recording identity start count j) phase
+  same_sums = values_of_frames recording identity start count j phase _ some (values_in_frames recording identity start count j)
+
+  pub to_one_port : IsToldBy (λ identity start j. received_values (broadcast_slot recording identity start j)) (λ ports. true) identity start count j phase master → IsMasterAt recording identity start count j phase master
+  to_one_port t = subst (λ sums. TellsMaster sums master) same_sums t.told
+
+  pub from_one_port : IsMasterAt recording identity start count j phase master → IsToldBy (λ identity start j. received_values (broadcast_slot recording identity start j)) (λ ports. true) identity start count j phase master
+  from_one_port t = record { taken = refl; told = subst (λ sums. TellsMaster sums master) (sym same_sums) t }
 
 -- ---- the entries of the first frames that have one
 
@@ -349,27 +424,21 @@ module _ (Tells : ℕ → ℕ → ℕ → ℕ → ℕ → Master → Type 0) (Is
 
 -- ---- a list with the entries of a hit besides
 
-pub adds_entries : (recording : List Sample) (hit : Hit) (identity start count frame : ℕ) (masters : List (Option Master)) (old new : List Entry) →
-    identity ≡ identity_at recording hit → start ≡ start_at recording hit → AreFirstWith (IsMasterAt recording) recording identity start count frame masters →
-    AddsPhases (IsSystemOf recording) identity start count frame masters (5 - count) old new → AddsHit (AreEntriesOf recording) hit old new
-adds_entries recording hit identity start count frame masters old new id at first adds = record {
-  entries = entries_of identity start count frame masters adds.systems (5 - count);
-  are = subst (λ s. AreEntries (IsEntryBy (IsMasterAt recording) (IsSystemOf recording) recording (identity_at recording hit) s) entries) at
-      (subst (λ i. AreEntries (IsEntryBy (IsMasterAt recording) (IsSystemOf recording) recording i start) entries) id
-      (entries_are (IsMasterAt recording) (IsSystemOf recording) (one_master_at recording) (one_system recording) recording identity start count frame masters first adds.systems adds.told));
-  adds = adds.adds;
-}
-  where
-    entries : List Entry
-    entries = entries_of identity start count frame masters adds.systems (5 - count)
+-- by a way to read cells that tells one master block at a phase, and one answer on the system information
+module _ (Tells : ℕ → ℕ → ℕ → ℕ → ℕ → Master → Type 0) (IsSystem : ℕ → ℕ → ℕ → ℕ → Mib → Result Sib1 Sib1Reason → Type 0) (one : TellsOne Tells) (one_answer : HasOneSystem IsSystem)
+    (recording : List Sample) (place_of : Hit → Place) (hit : Hit) (place : Place) (at : place ≡ place_of hit) where
+  pub adds_entries : (count frame : ℕ) (masters : List (Option Master)) (old new : List Entry) → AreFirstWith Tells recording place.id place.start count frame masters →
+      AddsPhases IsSystem place.id place.start count frame masters (5 - count) old new → AddsHit (AreEntriesBy Tells IsSystem recording place_of) hit old new
+  adds_entries count frame masters old new first adds = record {
+    entries = entries_of place.id place.start count frame masters adds.systems (5 - count);
+    are = subst (λ (p : Place). AreEntries (IsEntryAt Tells IsSystem recording p) (entries_of place.id place.start count frame masters adds.systems (5 - count))) at
+        (entries_are Tells IsSystem one one_answer recording place.id place.start count frame masters first adds.systems adds.told);
+    adds = adds.adds;
+  }
 
-pub adds_nothing : (recording : List Sample) (hit : Hit) (identity start : ℕ) (list : List Entry) →
-    identity ≡ identity_at recording hit → start ≡ start_at recording hit → HasNoMasters (IsMasterAt recording) recording identity start → Adds [] list list →
-    AddsHit (AreEntriesOf recording) hit list list
-adds_nothing recording hit identity start list id at none adds = record {
-  entries = [];
-  are = subst (λ s. AreEntries (IsEntryBy (IsMasterAt recording) (IsSystemOf recording) recording (identity_at recording hit) s) []) at
-      (subst (λ i. AreEntries (IsEntryBy (IsMasterAt recording) (IsSystemOf recording) recording i start) []) id
-      (no_entries (IsMasterAt recording) (IsSystemOf recording) (one_master_at recording) (one_system recording) recording identity start none));
-  adds = adds;
-}
+  pub adds_nothing : (list : List Entry) → HasNoMasters Tells recording place.id place.start → Adds [] list list → AddsHit (AreEntriesBy Tells IsSystem recording place_of) hit list list
+  adds_nothing list none adds = record {
+    entries = [];
+    are = subst (λ (p : Place). AreEntries (IsEntryAt Tells IsSystem recording p) []) at (no_entries Tells IsSystem one one_answer recording place.id place.start none);
+    adds = adds;
+  }

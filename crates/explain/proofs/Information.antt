@@ -9,10 +9,10 @@ use Rattle.lte_types.specs.declared.bandwidth.Bandwidth.TheVariants.{N6, N15, N2
 use Rattle.lte_types.specs.declared.mib.Mib.{Mib}
 use Rattle.lte_types.specs.declared.sib1.Sib1.{Sib1}
 use Rattle.lte_types.specs.declared.sib1_reason.Sib1Reason.{Sib1Reason}
-use Rattle.lte_types.specs.declared.sib1_reason.Sib1Reason.TheVariants.{NotOnePort, Bandwidth as OtherWidth}
+use Rattle.lte_types.specs.declared.sib1_reason.Sib1Reason.TheVariants.{NotOnePort, Bandwidth as OtherWidth, LongPrefix}
 use Rattle.lte_types.specs.Ranges.{IsValid}
 use Rattle.system_block.proofs.Once.{one_reading}
-use Rattle.system_block.proofs.Exists.{some_reading, read_is_valid, never_ports, never_width}
+use Rattle.system_block.proofs.Exists.{some_reading, read_is_valid, never_ports, never_width, never_long}
 use Rattle.explain.specs.System.{even_frame, IsTried, IsFirstRead, IsReadFrom, HasOtherPorts, HasOtherWidth, IsSearched, IsSystemBy, FrameAnswers, IsSystemOf}
 
 abbrev answer_with : Sib1 → Result Sib1 Sib1Reason
@@ -28,7 +28,7 @@ even_number sfn i = omega arith
 
 -- where a frame answers in one way
 module _ (Answers : ℕ → Result Sib1 Sib1Reason → Type 0) (one : (j : ℕ) (a b : Result Sib1 Sib1Reason) → Answers j a → Answers j b → a ≡ b)
-    (recording : List Sample) (start sfn : ℕ) where
+    (recording : List Sample) (start sfn wanted : ℕ) where
   -- a frame that has a reason has no fields
   not_both : (j : ℕ) (fields : Sib1) (reason : Sib1Reason) → Answers j (Ok fields) → Answers j (Err reason) → ⊥
   not_both j fields reason a b = let e = one j (Ok fields) (Err reason) a b in absurd cc
@@ -51,34 +51,72 @@ module _ (Answers : ℕ → Result Sib1 Sib1Reason → Type 0) (one : (j : ℕ) 
   one_read (Err q) (Err r) a b = one (even_frame sfn 0) (Err q) (Err r) a.refused b.refused
 
   -- which rule told an answer
-  rule : (ports : ℕ) (mib : Mib) (sib1 : Result Sib1 Sib1Reason) → IsSystemBy Answers recording start sfn ports mib sib1 →
-      ((told : ℕ) × (sib1 ≡ Err (NotOnePort told)) × HasOtherPorts ports told)
-      ⊎ (((told : Bandwidth) × (sib1 ≡ Err (OtherWidth told)) × HasOtherWidth ports mib.bandwidth told)
-      ⊎ IsSearched Answers recording start sfn ports mib.bandwidth sib1)
+  rule : (ports : ℕ) (mib : Mib) (sib1 : Result Sib1 Sib1Reason) → IsSystemBy wanted Answers recording start sfn ports mib sib1 →
+      ((told : ℕ) × (sib1 ≡ Err (NotOnePort told)) × HasOtherPorts wanted ports told)
+      ⊎ (((told : Bandwidth) × (sib1 ≡ Err (OtherWidth told)) × HasOtherWidth wanted ports mib.bandwidth told)
+      ⊎ IsSearched Answers recording start sfn wanted ports mib.bandwidth sib1)
   rule ports mib (Err (NotOnePort told)) s = inl (told, refl, s)
   rule ports mib (Err (OtherWidth told)) s = inr (inl (told, refl, s))
   rule ports mib sib1 s = inr (inr s)
 
-  one_by : (ports : ℕ) (mib : Mib) (a b : Result Sib1 Sib1Reason) → IsSystemBy Answers recording start sfn ports mib a → IsSystemBy Answers recording start sfn ports mib b → a ≡ b
+  pub one_by : (ports : ℕ) (mib : Mib) (a b : Result Sib1 Sib1Reason) → IsSystemBy wanted Answers recording start sfn ports mib a → IsSystemBy wanted Answers recording start sfn ports mib b → a ≡ b
   one_by ports mib a b s t = cases (rule ports mib a s) (rule ports mib b t)
     where
-      cases : ((told : ℕ) × (a ≡ Err (NotOnePort told)) × HasOtherPorts ports told)
-          ⊎ (((told : Bandwidth) × (a ≡ Err (OtherWidth told)) × HasOtherWidth ports mib.bandwidth told) ⊎ IsSearched Answers recording start sfn ports mib.bandwidth a) →
-          ((told : ℕ) × (b ≡ Err (NotOnePort told)) × HasOtherPorts ports told)
-          ⊎ (((told : Bandwidth) × (b ≡ Err (OtherWidth told)) × HasOtherWidth ports mib.bandwidth told) ⊎ IsSearched Answers recording start sfn ports mib.bandwidth b) → a ≡ b
+      cases : ((told : ℕ) × (a ≡ Err (NotOnePort told)) × HasOtherPorts wanted ports told)
+          ⊎ (((told : Bandwidth) × (a ≡ Err (OtherWidth told)) × HasOtherWidth wanted ports mib.bandwidth told) ⊎ IsSearched Answers recording start sfn wanted ports mib.bandwidth a) →
+          ((told : ℕ) × (b ≡ Err (NotOnePort told)) × HasOtherPorts wanted ports told)
+          ⊎ (((told : Bandwidth) × (b ≡ Err (OtherWidth told)) × HasOtherWidth wanted ports mib.bandwidth told) ⊎ IsSearched Answers recording start sfn wanted ports mib.bandwidth b) → a ≡ b
       cases (inl n) (inl m) = n.1 ∙ ap (λ told. Err (NotOnePort told)) (n.2.told_is ∙ sym m.2.told_is) ∙ sym m.1
-      cases (inl n) (inr (inl m)) = absurd (n.2.other m.2.one_port)
-      cases (inl n) (inr (inr m)) = absurd (n.2.other m.one_port)
-      cases (inr (inl n)) (inl m) = absurd (m.2.other n.2.one_port)
+      cases (inl n) (inr (inl m)) = absurd (n.2.other m.2.as_wanted)
+      cases (inl n) (inr (inr m)) = absurd (n.2.other m.as_wanted)
+      cases (inr (inl n)) (inl m) = absurd (m.2.other n.2.as_wanted)
       cases (inr (inl n)) (inr (inl m)) = n.1 ∙ ap (λ (told : Bandwidth). Err (OtherWidth told)) (n.2.told_is ∙ sym m.2.told_is) ∙ sym m.1
       cases (inr (inl n)) (inr (inr m)) = absurd (n.2.other m.six_blocks)
-      cases (inr (inr n)) (inl m) = absurd (m.2.other n.one_port)
+      cases (inr (inr n)) (inl m) = absurd (m.2.other n.as_wanted)
       cases (inr (inr n)) (inr (inl m)) = absurd (m.2.other n.six_blocks)
       cases (inr (inr n)) (inr (inr m)) = one_read a b n.read m.read
 
   -- a frame before a tried one is tried
   tried_before : (h i : ℕ) → h ≤ i → IsTried recording start sfn i → IsTried recording start sfn h
   tried_before h i before t = let a = t.among in let w = t.whole in record { among = omega (arith, before, a); whole = omega (arith, before, w) }
+
+  -- no frame of even number before number i has fields
+  abbrev pub HasNoFields : ℕ → Type 0
+  HasNoFields i = (h : ℕ) (fields : Sib1) → h < i → Answers (even_frame sfn h) (Ok fields) → ⊥
+
+  -- where the next one has a reason, it has none either
+  pub no_more_fields : (i : ℕ) (reason : Sib1Reason) → HasNoFields i → Answers (even_frame sfn i) (Err reason) → HasNoFields (i + 1)
+  no_more_fields i reason none refused h fields before a = elim (cases_lt h i) [
+    | inl below ↦ none h fields below a
+    | inr above ↦ let same : h ≡ i = omega (arith, before, above) in not_both (even_frame sfn i) fields reason (subst (λ k. Answers (even_frame sfn k) (Ok fields)) same a) refused
+  ]
+
+  -- where the first frame of even number has fields, they are what is told
+  pub told_first : (mib : Mib) (fields : Sib1) → 57600 ≤ length recording → start < 19200 → mib.bandwidth ≡ N6 → Answers (even_frame sfn 0) (Ok fields) →
+      IsSystemBy wanted Answers recording start sfn wanted mib (Ok fields)
+  told_first mib fields long early six answers = record {
+    as_wanted = refl;
+    six_blocks = six;
+    read = record { i = 0; tried = first_tried recording start sfn long early; answers = answers; first = λ h other before a. absurd (omega (arith, before)) };
+  }
+
+  -- where frames tell valid fields alone, so does what is told
+  pub valid_by : ((j : ℕ) (fields : Sib1) → Answers j (Ok fields) → IsValid fields) → (ports : ℕ) (mib : Mib) (sib1 : Result Sib1 Sib1Reason) →
+      IsSystemBy wanted Answers recording start sfn ports mib sib1 → IfOk sib1 IsValid
+  valid_by valid ports mib (Err reason) s = tt
+  valid_by valid ports mib (Ok fields) s = valid (even_frame sfn s.read.i) fields s.read.answers
+
+  -- where no frame has the reason that the prefix is long, nor has what is told
+  pub never_long_by : ((j : ℕ) → Answers j (Err LongPrefix) → ⊥) → (ports : ℕ) (mib : Mib) → IsSystemBy wanted Answers recording start sfn ports mib (Err LongPrefix) → ⊥
+  never_long_by never ports mib s = never (even_frame sfn 0) s.read.refused
+
+  -- what frames answer is told where the ports and the bandwidth are as wanted, since they never answer for the sake of these
+  pub searched : ((j told : ℕ) → Answers j (Err (NotOnePort told)) → ⊥) → ((j : ℕ) (told : Bandwidth) → Answers j (Err (OtherWidth told)) → ⊥) →
+      (ports : ℕ) (mib : Mib) → ports ≡ wanted → mib.bandwidth ≡ N6 → (sib1 : Result Sib1 Sib1Reason) → IsReadFrom Answers recording start sfn sib1 →
+      IsSystemBy wanted Answers recording start sfn ports mib sib1
+  searched never_ports never_width ports mib as_wanted six (Err (NotOnePort told)) read = absurd (never_ports (even_frame sfn 0) told read.refused)
+  searched never_ports never_width ports mib as_wanted six (Err (OtherWidth told)) read = absurd (never_width (even_frame sfn 0) told read.refused)
+  searched never_ports never_width ports mib as_wanted six sib1 read = record { as_wanted = as_wanted; six_blocks = six; read = read }
 
   -- where each frame answers, and never for the sake of antenna ports or bandwidth
   module _ (some : (j : ℕ) → (answer : Result Sib1 Sib1Reason) × Answers j answer)
@@ -113,34 +151,28 @@ module _ (Answers : ℕ → Result Sib1 Sib1Reason → Type 0) (one : (j : ℕ) 
           by_answer n i (omega (arith, sum)) (record { among = omega (arith, sum); whole = whole }) none (λ more. search n (suc i) (omega (arith, sum)) more) answer is
     ]
 
-    searched : (ports : ℕ) (mib : Mib) → ports ≡ 1 → mib.bandwidth ≡ N6 → (sib1 : Result Sib1 Sib1Reason) → IsReadFrom Answers recording start sfn sib1 →
-        IsSystemBy Answers recording start sfn ports mib sib1
-    searched ports mib one_port six (Err (NotOnePort told)) read = absurd (never_ports (even_frame sfn 0) told read.refused)
-    searched ports mib one_port six (Err (OtherWidth told)) read = absurd (never_width (even_frame sfn 0) told read.refused)
-    searched ports mib one_port six sib1 read = record { one_port = one_port; six_blocks = six; read = read }
+    other_width : (ports : ℕ) (mib : Mib) → ports ≡ wanted → mib.bandwidth ≢ N6 → (sib1 : Result Sib1 Sib1Reason) × IsSystemBy wanted Answers recording start sfn ports mib sib1
+    other_width ports mib as_wanted other = (Err (OtherWidth mib.bandwidth), record { as_wanted = as_wanted; told_is = refl; other = other })
 
-    other_width : (ports : ℕ) (mib : Mib) → ports ≡ 1 → mib.bandwidth ≢ N6 → (sib1 : Result Sib1 Sib1Reason) × IsSystemBy Answers recording start sfn ports mib sib1
-    other_width ports mib one_port other = (Err (OtherWidth mib.bandwidth), record { one_port = one_port; told_is = refl; other = other })
-
-    by_width : (ports : ℕ) (mib : Mib) → ports ≡ 1 → (width : Bandwidth) → mib.bandwidth ≡ width → (sib1 : Result Sib1 Sib1Reason) × IsSystemBy Answers recording start sfn ports mib sib1
-    by_width ports mib one_port N6 e =
+    by_width : (ports : ℕ) (mib : Mib) → ports ≡ wanted → (width : Bandwidth) → mib.bandwidth ≡ width → (sib1 : Result Sib1 Sib1Reason) × IsSystemBy wanted Answers recording start sfn ports mib sib1
+    by_width ports mib as_wanted N6 e =
         let (sib1, read) = search 8 0 refl (λ h fields below a. absurd (omega (arith, below))) in
-        (sib1, searched ports mib one_port e sib1 read)
-    by_width ports mib one_port N15 e = other_width ports mib one_port (λ six. let same : N15 ≡ N6 = sym e ∙ six in absurd cc)
-    by_width ports mib one_port N25 e = other_width ports mib one_port (λ six. let same : N25 ≡ N6 = sym e ∙ six in absurd cc)
-    by_width ports mib one_port N50 e = other_width ports mib one_port (λ six. let same : N50 ≡ N6 = sym e ∙ six in absurd cc)
-    by_width ports mib one_port N75 e = other_width ports mib one_port (λ six. let same : N75 ≡ N6 = sym e ∙ six in absurd cc)
-    by_width ports mib one_port N100 e = other_width ports mib one_port (λ six. let same : N100 ≡ N6 = sym e ∙ six in absurd cc)
+        (sib1, searched never_ports never_width ports mib as_wanted e sib1 read)
+    by_width ports mib as_wanted N15 e = other_width ports mib as_wanted (λ six. let same : N15 ≡ N6 = sym e ∙ six in absurd cc)
+    by_width ports mib as_wanted N25 e = other_width ports mib as_wanted (λ six. let same : N25 ≡ N6 = sym e ∙ six in absurd cc)
+    by_width ports mib as_wanted N50 e = other_width ports mib as_wanted (λ six. let same : N50 ≡ N6 = sym e ∙ six in absurd cc)
+    by_width ports mib as_wanted N75 e = other_width ports mib as_wanted (λ six. let same : N75 ≡ N6 = sym e ∙ six in absurd cc)
+    by_width ports mib as_wanted N100 e = other_width ports mib as_wanted (λ six. let same : N100 ≡ N6 = sym e ∙ six in absurd cc)
 
-    some_by : (ports : ℕ) (mib : Mib) → (sib1 : Result Sib1 Sib1Reason) × IsSystemBy Answers recording start sfn ports mib sib1
-    some_by ports mib = elim (eqb_tells ports 1) [
+    pub some_by : (ports : ℕ) (mib : Mib) → (sib1 : Result Sib1 Sib1Reason) × IsSystemBy wanted Answers recording start sfn ports mib sib1
+    some_by ports mib = elim (eqb_tells ports wanted) [
       | inl same ↦ by_width ports mib same.1 mib.bandwidth refl
       | inr other ↦ (Err (NotOnePort ports), record { told_is = refl; other = other.1 })
     ]
 
 -- ---- by one antenna port
 
-one_of_frame : (recording : List Sample) (id start : ℕ) (mib : Mib) (j : ℕ) (a b : Result Sib1 Sib1Reason) →
+pub one_of_frame : (recording : List Sample) (id start : ℕ) (mib : Mib) (j : ℕ) (a b : Result Sib1 Sib1Reason) →
     FrameAnswers recording id start mib j a → FrameAnswers recording id start mib j b → a ≡ b
 one_of_frame recording id start mib j a b p q = one_reading _ a b p q
 
@@ -148,46 +180,27 @@ one_of_frame recording id start mib j a b p q = one_reading _ a b p q
 pub one_system : (recording : List Sample) (id start sfn ports : ℕ) (mib : Mib) (a b : Result Sib1 Sib1Reason) →
     IsSystemOf recording id start sfn ports mib a → IsSystemOf recording id start sfn ports mib b → a ≡ b
 one_system recording id start sfn ports mib a b p q =
-    one_by (FrameAnswers recording id start mib) (one_of_frame recording id start mib) recording start sfn ports mib a b p q
+    one_by (FrameAnswers recording id start mib) (one_of_frame recording id start mib) recording start sfn 1 ports mib a b p q
 
 -- and there is one
 pub some_system : (recording : List Sample) (id start sfn ports : ℕ) (mib : Mib) → 57600 ≤ length recording → start < 19200 →
     (sib1 : Result Sib1 Sib1Reason) × IsSystemOf recording id start sfn ports mib sib1
 some_system recording id start sfn ports mib long early =
-    some_by (FrameAnswers recording id start mib) (one_of_frame recording id start mib) recording start sfn
+    some_by (FrameAnswers recording id start mib) (one_of_frame recording id start mib) recording start sfn 1
     (λ j. some_reading _) (λ j told reads. never_ports _ told reads) (λ j told reads. never_width _ told reads) long early ports mib
 
 -- what is read is in its ranges
-valid_read : (recording : List Sample) (id start sfn : ℕ) (mib : Mib) (sib1 : Result Sib1 Sib1Reason) → IsReadFrom (FrameAnswers recording id start mib) recording start sfn sib1 → IfOk sib1 IsValid
-valid_read recording id start sfn mib (Ok fields) read = read_is_valid _ fields read.answers
-valid_read recording id start sfn mib (Err reason) read = tt
-
 pub system_is_valid : (recording : List Sample) (id start sfn ports : ℕ) (mib : Mib) (sib1 : Result Sib1 Sib1Reason) → IsSystemOf recording id start sfn ports mib sib1 → IfOk sib1 IsValid
-system_is_valid recording id start sfn ports mib (Err reason) s = tt
-system_is_valid recording id start sfn ports mib (Ok fields) s = valid_read recording id start sfn mib (Ok fields) s.read
+system_is_valid recording id start sfn ports mib sib1 s =
+    valid_by (FrameAnswers recording id start mib) (one_of_frame recording id start mib) recording start sfn 1 (λ j fields reads. read_is_valid _ fields reads) ports mib sib1 s
 
--- ---- frame by frame
-
--- no frame of even number before number i has fields
-abbrev pub HasNoFields : List Sample → ℕ → ℕ → ℕ → Mib → ℕ → Type 0
-HasNoFields recording id start sfn mib i = (h : ℕ) (fields : Sib1) → h < i → FrameAnswers recording id start mib (even_frame sfn h) (Ok fields) → ⊥
-
--- where the next one has a reason, it has none either
-pub no_more_fields : (recording : List Sample) (id start sfn : ℕ) (mib : Mib) (i : ℕ) (reason : Sib1Reason) → HasNoFields recording id start sfn mib i →
-    FrameAnswers recording id start mib (even_frame sfn i) (Err reason) → HasNoFields recording id start sfn mib (i + 1)
-no_more_fields recording id start sfn mib i reason none refused h fields before a = elim (cases_lt h i) [
-  | inl below ↦ none h fields below a
-  | inr above ↦
-      let same : h ≡ i = omega (arith, before, above) in
-      let both = one_of_frame recording id start mib (even_frame sfn i) (Ok fields) (Err reason) (subst (λ k. FrameAnswers recording id start mib (even_frame sfn k) (Ok fields)) same a) refused in
-      absurd cc
-]
+-- and its reason is not that the prefix is long
+pub system_never_long : (recording : List Sample) (id start sfn ports : ℕ) (mib : Mib) → IsSystemOf recording id start sfn ports mib (Err LongPrefix) → ⊥
+system_never_long recording id start sfn ports mib s =
+    never_long_by (FrameAnswers recording id start mib) (one_of_frame recording id start mib) recording start sfn 1 (λ j reads. never_long _ reads) ports mib s
 
 -- where the first frame of even number has fields, they are what is told
 pub told_at_first : (recording : List Sample) (id start sfn : ℕ) (mib : Mib) (fields : Sib1) → 57600 ≤ length recording → start < 19200 → mib.bandwidth ≡ N6 →
     FrameAnswers recording id start mib (even_frame sfn 0) (Ok fields) → IsSystemOf recording id start sfn 1 mib (Ok fields)
-told_at_first recording id start sfn mib fields long early six answers = record {
-  one_port = refl;
-  six_blocks = six;
-  read = record { i = 0; tried = first_tried recording start sfn long early; answers = answers; first = λ h other before a. absurd (omega (arith, before)) };
-}
+told_at_first recording id start sfn mib fields long early six answers =
+    told_first (FrameAnswers recording id start mib) (one_of_frame recording id start mib) recording start sfn 1 mib fields long early six answers

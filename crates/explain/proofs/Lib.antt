@@ -9,3 +9,5 @@ pub mod Listed
 pub mod Again
 pub mod Deciding
 pub mod OneFrame
+pub mod Granted
+pub mod Valid

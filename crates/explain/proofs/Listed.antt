@@ -10,7 +10,9 @@ use Rattle.lte_types.specs.declared.hit.Hit.{Hit}
 use Rattle.lte_types.specs.declared.entry.Entry.{Entry}
 use Rattle.pss_search.specs.Hits.{hits_of}
 use Rattle.explain.specs.Entries.{is_same_cell, kept, IsBefore, IsEntryOf, AreEntries, IsListOf, IsListOfHits, AddsHit}
-use Rattle.explain.specs.Laws.{HaveOneList, IsOneList, IsEntryOfSome, IsSoundOf, IsSound, IsCompleteOf, IsComplete, AreApart, IsApartOf, IsApart}
+use Rattle.explain.specs.Laws.{HaveOneList, IsOneList, IsEntryOfSome, IsSoundOf, IsSound, IsCompleteOf, IsComplete, AreApart, IsApartOf, IsApart, IsNeverLong}
+use Rattle.explain.specs.System.{IsSystemOf}
+use Rattle.explain.proofs.Information.{system_never_long}
 use Rattle.explain.proofs.Sorted.{in_none, in_cons, Contains-here, Contains-later, one_in_order}
 use Rattle.explain.proofs.Kept.{same_cell_turned, same_place_same_cell, kept_only, kept_stands, kept_apart, before_after, adds_again, stands_in}
 
@@ -48,6 +50,12 @@ sound_of IsOf hits list entry explained h =
 
 pub is_sound : IsSound
 is_sound recording = sound_of (IsEntryOf recording) (hits_of recording)
+
+-- no entry of the list of a recording has the reason that the prefix is long
+pub is_never_long : IsNeverLong
+is_never_long recording list entry explained inside long =
+    let is = is_sound recording list entry explained inside in
+    system_never_long recording entry.id entry.start entry.sfn entry.ports entry.mib (subst (IsSystemOf recording entry.id entry.start entry.sfn entry.ports entry.mib) long is.is_of.sib1)
 
 pub complete_of : (IsOf : Hit → Entry → Type 0) (hits : List Hit) → IsCompleteOf IsOf hits
 complete_of IsOf hits list entry explained is =

@@ -1,10 +1,11 @@
 -- What the list of a recording is, in plain words; and the same of any list of hits, where `IsOf` says which entries a
 -- hit has. (own)
-use Rattle.std.specs.Prelude.{◌≡◌, ◌≢◌, ◌⊎◌, ℕ, ◌<◌, ◌≤◌, true, List}
+use Rattle.std.specs.Prelude.{◌≡◌, ◌≢◌, ◌⊎◌, ℕ, ◌<◌, ◌≤◌, true, List, Err}
 use Rattle.std.specs.List.{AllPairs, Contains}
 use Rattle.cs_num.specs.declared.Sample.{Sample}
 use Rattle.lte_types.specs.declared.hit.Hit.{Hit}
 use Rattle.lte_types.specs.declared.entry.Entry.{Entry}
+use Rattle.lte_types.specs.declared.sib1_reason.Sib1Reason.TheVariants.{LongPrefix}
 use Rattle.pss_search.specs.Hits.{hits_of}
 use Rattle.pbch.specs.declared.master.Master.{Master}
 use Rattle.explain.specs.Frame.{IsWhole}
@@ -66,6 +67,11 @@ IsApartOf IsOf hits = (list : List Entry) → IsListOfHits (λ hit. AreEntries (
 
 abbrev pub IsApart : Type 0
 IsApart = (recording : List Sample) → IsApartOf (IsEntryOf recording) (hits_of recording)
+
+-- no entry of it has the reason that the cyclic prefix is the extended one
+abbrev pub IsNeverLong : Type 0
+IsNeverLong = (recording : List Sample) (list : List Entry) (entry : Entry) → IsExplained recording list → Contains list entry →
+    entry.sib1 ≢ Err LongPrefix
 
 -- ---- single frames
 

@@ -8,3 +8,5 @@ pub mod Received
 pub mod Laws
 pub mod Deciding
 pub mod EntrySlot
+pub mod Reader
+pub mod Grant

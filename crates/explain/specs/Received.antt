@@ -1,23 +1,38 @@
--- What was received in the first frames of a cell, as the code keeps it. (own)
-use Rattle.std.specs.Prelude.{◌≡◌, ℕ, ◌+◌, ◌<◌, ◌≤◌, List, [], ℤ, Option, slice_index_or}
-use Rattle.cs_num.specs.declared.Sample.{Sample}
+-- What was received in the first frames of a cell, as the code keeps it, and the master blocks that it tells. `values` are what
+-- is received in a frame, by identity, start and frame. (own)
+use Rattle.std.specs.Prelude.{◌≡◌, ℕ, ◌+◌, ◌<◌, ◌≤◌, Bool, true, false, if◌then◌else◌, List, [], ℤ, Option, None, Some, slice_index_or}
+use Rattle.std.specs.List.{flat_map}
+use Rattle.finite.specs.Lists.{values_below}
 use Rattle.pbch.specs.declared.master.Master.{Master}
-use Rattle.pbch.specs.Values.{received_values}
-use Rattle.explain.specs.Frame.{broadcast_slot}
-use Rattle.explain.specs.Window.{TellNone, IsMasterAt}
+use Rattle.pbch.specs.Values.{summed_values}
+use Rattle.pbch.specs.Master.{TellsMaster}
+use Rattle.explain.specs.Window.{TellNone}
 use Rattle.explain.specs.Masters.{HaveMasters}
 
--- the first rows are the soft values of the broadcast channel in as many frames of a start, from frame 0 on
-abbrev pub AreReceived : List Sample → ℕ → ℕ → ℕ → List (List ℤ) → Type 0
-AreReceived recording identity start count rows =
-    (j : ℕ) → j < count → slice_index_or rows j [] ≡ received_values (broadcast_slot recording identity start j)
+-- the values of so many frames from frame j on, one frame after the other
+abbrev pub values_in : (ℕ → List ℤ) → ℕ → ℕ → List ℤ
+values_in values count j = flat_map (λ frame. frame) (values_below count (λ m. values (j + m)))
+
+-- they tell this master block, with a count of antenna ports that is taken
+pub record IsToldBy (values : ℕ → ℕ → ℕ → List ℤ) (takes : ℕ → Bool) (identity start count j phase : ℕ) (master : Master) : Type 0 where
+  pub taken : takes master.ports ≡ true
+  pub told : TellsMaster (summed_values identity phase (values_in (values identity start) count j)) master
+
+-- of a master block that may be there, what is taken
+abbrev pub taken_of : (ℕ → Bool) → Option Master → Option Master
+taken_of takes None = None
+taken_of takes (Some master) = if takes master.ports then Some master else None
+
+-- the first rows are what was received in as many frames, from frame 0 on
+abbrev pub AreReceived : (ℕ → List ℤ) → ℕ → List (List ℤ) → Type 0
+AreReceived values count rows = (j : ℕ) → j < count → slice_index_or rows j [] ≡ values j
 
 -- of the first `whole` frames, no `count` that follow one another tell a master block
-abbrev pub NoneTell : List Sample → ℕ → ℕ → ℕ → ℕ → Type 0
-NoneTell recording identity start whole count = (j : ℕ) → j + count ≤ whole → TellNone (IsMasterAt recording) identity start count j
+abbrev pub NoneTell : (ℕ → ℕ → ℕ → ℕ → ℕ → Master → Type 0) → ℕ → ℕ → ℕ → ℕ → Type 0
+NoneTell Tells identity start whole count = (j : ℕ) → j + count ≤ whole → TellNone Tells identity start count j
 
 -- of these, those from frame j on are the first that do, and these are their master blocks
-pub record AreFirstOf (recording : List Sample) (identity start whole count j : ℕ) (masters : List (Option Master)) : Type 0 where
+pub record AreFirstOf (Tells : ℕ → ℕ → ℕ → ℕ → ℕ → Master → Type 0) (identity start whole count j : ℕ) (masters : List (Option Master)) : Type 0 where
   pub within : j + count ≤ whole
-  pub first : (i : ℕ) → i < j → TellNone (IsMasterAt recording) identity start count i
-  pub have : HaveMasters (IsMasterAt recording) identity start count j masters
+  pub first : (i : ℕ) → i < j → TellNone Tells identity start count i
+  pub have : HaveMasters Tells identity start count j masters

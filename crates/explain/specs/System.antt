@@ -42,27 +42,28 @@ IsReadFrom Answers recording start sfn (Err reason) = IsNoneRead Answers recordi
 
 -- ---- the first rule that applies
 
--- there are other antenna ports than one
-pub record HasOtherPorts (ports told : ℕ) : Type 0 where
+-- there are other antenna ports than are wanted
+pub record HasOtherPorts (wanted ports told : ℕ) : Type 0 where
   pub told_is : told ≡ ports
-  pub other : ports ≢ 1
+  pub other : ports ≢ wanted
 
--- there is one, and another bandwidth than 6 resource blocks
-pub record HasOtherWidth (ports : ℕ) (width told : Bandwidth) : Type 0 where
-  pub one_port : ports ≡ 1
+-- there are as many, and another bandwidth than 6 resource blocks
+pub record HasOtherWidth (wanted ports : ℕ) (width told : Bandwidth) : Type 0 where
+  pub as_wanted : ports ≡ wanted
   pub told_is : told ≡ width
   pub other : width ≢ N6
 
--- there are one antenna port and 6 resource blocks, and the frames answer so
-pub record IsSearched (Answers : ℕ → Result Sib1 Sib1Reason → Type 0) (recording : List Sample) (start sfn ports : ℕ) (width : Bandwidth) (sib1 : Result Sib1 Sib1Reason) : Type 0 where
-  pub one_port : ports ≡ 1
+-- there are as many antenna ports as are wanted, and 6 resource blocks, and the frames answer so
+pub record IsSearched (Answers : ℕ → Result Sib1 Sib1Reason → Type 0) (recording : List Sample) (start sfn wanted ports : ℕ) (width : Bandwidth) (sib1 : Result Sib1 Sib1Reason) : Type 0 where
+  pub as_wanted : ports ≡ wanted
   pub six_blocks : width ≡ N6
   pub read : IsReadFrom Answers recording start sfn sib1
 
-abbrev pub IsSystemBy : (ℕ → Result Sib1 Sib1Reason → Type 0) → List Sample → ℕ → ℕ → ℕ → Mib → Result Sib1 Sib1Reason → Type 0
-IsSystemBy Answers recording start sfn ports mib (Err (NotOnePort told)) = HasOtherPorts ports told
-IsSystemBy Answers recording start sfn ports mib (Err (OtherWidth told)) = HasOtherWidth ports mib.bandwidth told
-IsSystemBy Answers recording start sfn ports mib sib1 = IsSearched Answers recording start sfn ports mib.bandwidth sib1
+-- what is told by so many antenna ports
+abbrev pub IsSystemBy : ℕ → (ℕ → Result Sib1 Sib1Reason → Type 0) → List Sample → ℕ → ℕ → ℕ → Mib → Result Sib1 Sib1Reason → Type 0
+IsSystemBy wanted Answers recording start sfn ports mib (Err (NotOnePort told)) = HasOtherPorts wanted ports told
+IsSystemBy wanted Answers recording start sfn ports mib (Err (OtherWidth told)) = HasOtherWidth wanted ports mib.bandwidth told
+IsSystemBy wanted Answers recording start sfn ports mib sib1 = IsSearched Answers recording start sfn wanted ports mib.bandwidth sib1
 
 -- ---- by one antenna port
 
@@ -74,4 +75,4 @@ FrameAnswers recording identity start mib j answer =
 -- what is told of the system information of a cell with this identity, whose first frame begins at this sample and has this number,
 -- with so many antenna ports and this master block
 abbrev pub IsSystemOf : List Sample → ℕ → ℕ → ℕ → ℕ → Mib → Result Sib1 Sib1Reason → Type 0
-IsSystemOf recording identity start sfn ports mib sib1 = IsSystemBy (FrameAnswers recording identity start mib) recording start sfn ports mib sib1
+IsSystemOf recording identity start sfn ports mib sib1 = IsSystemBy 1 (FrameAnswers recording identity start mib) recording start sfn ports mib sib1

@@ -1,26 +1,20 @@
 //! The list of the cells of a recording.
 
-ghost use Rattle.std.specs.Prelude.{◌≡◌, ◌+◌, ◌-◌, ◌<◌, ◌≤◌, true, false, [], ◌∷◌, ◌++◌, All, length};
+ghost use Rattle.std.specs.Prelude.{◌≡◌, ◌<◌};
 ghost use Rattle.finite.specs.Sizes.{RowsWithin};
 ghost use Rattle.pss_search.specs.Hits.{IsInSpan};
-ghost use Rattle.pbch.specs.Master.{TellsMaster, master_at};
-ghost use Rattle.explain.specs.Entries.{IsExplained, IsInList, AreEntriesOf, IsListOfHits, AddsHit, master_of, values_of_entry};
-ghost use Rattle.explain.specs.Places.{place_at, is_met};
-ghost use Rattle.explain.specs.Masters.{entry_of as entry_of_master, AddsPhase, AddsPhases};
-ghost use Rattle.explain.specs.System.{IsSystemOf};
+ghost use Rattle.pbch.specs.Master.{TellsMaster};
+ghost use Rattle.explain.specs.Entries.{IsExplained, IsInList, master_of, values_of_entry};
+ghost use Rattle.explain.specs.Places.{place_at};
 ghost use Rattle.lte_types.specs.Numerology.{frame_length};
 
 use crate::frame::broadcast_slot;
-use crate::masters::{Masters, first_masters};
-use crate::places::{Place, Places};
-use crate::system::system_of;
-use crate::{EntryList, Workspace};
-use lte_types::{CellId, Entry, Hit, Sfn};
-use pbch::{Master, received, sums_of};
+use crate::{EntryList, Place, Workspace, explain_by};
+use lte_types::{Entry, Hit};
+use pbch::{received, sums_of};
 use pss_search::hits;
 use sample_file::Recording;
 use sss_detect::{cell_id, frame_start, identity};
-use system_block::Decoders;
 
 /// Afterwards the list is that of the recording, whatever it held before. Each hit, by place, tells
 /// an identity and a start of frames. The first of its whole frames 0 to 7 that has a master block at any
@@ -34,12 +28,10 @@ pub fn explain(recording: &Recording, work: &mut Workspace, list: &mut EntryList
     ensures { IsExplained recording.now list.new }
 {
     hits(recording, &mut work.hits);
-    list.clear();
-    work.places.clear();
-    add_hits(
+    explain_by(
+        &mut work.decoders,
         recording,
         work.hits.slice(),
-        &mut work.decoders,
         &mut work.places,
         list,
     );
@@ -63,25 +55,6 @@ pub fn values_of(recording: &Recording, entry: &Entry) -> [[i32; 3]; 40]
     sums_of(entry.id, entry.phase, &frames[..entry.frames as usize])
 }
 
-// Adds the entries of hits to the empty list.
-fn add_hits(
-    recording: &Recording,
-    hits: &[Hit],
-    work: &mut Decoders,
-    places: &mut Places,
-    list: &mut EntryList,
-)
-    requires span { All IsInSpan hits.now }
-    requires few { length hits.now ≤ 5760 }
-    requires none_met { places.old ≡ [] }
-    requires empty { list.old ≡ [] }
-    ensures { IsListOfHits (AreEntriesOf recording.now) hits.now list.new }
-{
-    for hit in hits {
-        add_hit(recording, hit, work, places, list);
-    }
-}
-
 /// The place that a hit tells: the identity of its cell, and the sample at which its first frame starts.
 pub fn place_of(recording: &Recording, hit: &Hit) -> Place
     requires span { IsInSpan hit.now }
@@ -94,120 +67,5 @@ pub fn place_of(recording: &Recording, hit: &Hit) -> Place
     Place {
         id: cell_id(n1, hit.n2),
         start: frame_start(hit, half),
-    }
-}
-
-// Adds the entries of a hit, unless its place was met before: each of them is then of the cell of one that
-// stands in the list already.
-fn add_hit(
-    recording: &Recording,
-    hit: &Hit,
-    work: &mut Decoders,
-    places: &mut Places,
-    list: &mut EntryList,
-)
-    requires span { IsInSpan hit.now }
-    requires few_met { length places.old < 5760 }
-    requires room { length list.old + 4 ≤ 23040 }
-    ensures again { is_met places.old (place_at recording.now hit.now) ≡ true → list.new ≡ list.old }
-    ensures same { is_met places.old (place_at recording.now hit.now) ≡ true → places.new ≡ places.old }
-    ensures adds { is_met places.old (place_at recording.now hit.now) ≡ false →
-        AddsHit (AreEntriesOf recording.now) hit.now list.old list.new }
-    ensures met { is_met places.old (place_at recording.now hit.now) ≡ false →
-        places.new ≡ places.old ++ place_at recording.now hit.now ∷ [] }
-    ensures one_met { length places.new ≤ length places.old + 1 }
-    ensures few { length list.new ≤ length list.old + 4 }
-{
-    let place = place_of(recording, hit);
-    if places.has(&place) {
-        return;
-    }
-    places.add(&place);
-    match first_masters(recording, place.id, place.start, &mut work.trellis) {
-        Some(masters) => add_masters(recording, place.id, place.start, &masters, work, list),
-        None => {}
-    }
-}
-
-// Adds the entries of the master blocks of frames.
-fn add_masters(
-    recording: &Recording,
-    id: CellId,
-    start: u32,
-    masters: &Masters,
-    work: &mut Decoders,
-    list: &mut EntryList,
-)
-    requires early { start < frame_length }
-    requires some { 1 ≤ masters.now.frames }
-    requires few { masters.now.frames ≤ 4 }
-    requires frame { masters.now.frame ≤ 7 }
-    requires count { length masters.now.at ≡ 4 }
-    requires room { length list.old + 4 ≤ 23040 }
-    ensures adds { AddsPhases (IsSystemOf recording.now) id start masters.now.frames masters.now.frame masters.now.at
-        (5 - masters.now.frames) list.old list.new }
-    ensures few { length list.new ≤ length list.old + 4 }
-{
-    for phase in 0..5 - masters.frames {
-        add_phase(recording, id, start, masters, phase, work, list);
-    }
-}
-
-// Adds the entry of the master block of a phase, where there is one.
-fn add_phase(
-    recording: &Recording,
-    id: CellId,
-    start: u32,
-    masters: &Masters,
-    phase: u8,
-    work: &mut Decoders,
-    list: &mut EntryList,
-)
-    requires early { start < frame_length }
-    requires frame { masters.now.frame ≤ 7 }
-    requires count { length masters.now.at ≡ 4 }
-    requires phase { phase < 4 }
-    requires room { length list.old < 23040 }
-    ensures adds { AddsPhase (IsSystemOf recording.now) id start masters.now.frames masters.now.frame phase
-        (master_at masters.now.at phase) list.old list.new }
-    ensures one { length list.new ≤ length list.old + 1 }
-{
-    let master = masters.at[phase as usize];
-    match master {
-        Some(master) => list.add(entry_of(recording, id, start, masters, phase, master, work)),
-        None => {}
-    }
-}
-
-// The entry of a master block.
-fn entry_of(
-    recording: &Recording,
-    id: CellId,
-    start: u32,
-    masters: &Masters,
-    phase: u8,
-    master: Master,
-    work: &mut Decoders,
-) -> Entry
-    requires early { start < frame_length }
-    requires frame { masters.now.frame ≤ 7 }
-    requires phase { phase < 4 }
-    ensures entry { result
-        ≡ entry_of_master id start masters.now.frames masters.now.frame phase master result.sib1 }
-    ensures system { IsSystemOf recording.now id start result.sfn master.ports master.mib result.sib1 }
-{
-    let number = 4 * master.mib.upper as u64 + phase as u64 + (1024 - masters.frame as u64);
-    let sfn = Sfn::modulo(number);
-    Entry {
-        id,
-        start,
-        sfn,
-        ports: master.ports,
-        mib: master.mib,
-        frames: masters.frames,
-        frame: masters.frame,
-        phase,
-        cost: master.cost,
-        sib1: system_of(recording, id, start, sfn, master, work),
     }
 }

@@ -4,6 +4,7 @@ ghost use Rattle.std.specs.Prelude.{◌≡◌, ℕ, ◌+◌, ◌^◌, ◌<◌, �
 ghost use Rattle.cs_num.specs.Complex.{IsWithin};
 ghost use Rattle.lte_types.specs.Numerology.{frame_length, normal, useful_start};
 ghost use Rattle.observe.specs.Seen.{seen_symbol};
+ghost use Rattle.soft_bits.specs.Soft.{AreSmall};
 ghost use Rattle.explain.specs.Frame.{IsWhole, frame_at, seen_slot, broadcast_slot as broadcast_slot_of};
 
 use cs_num::Cpx;
@@ -20,7 +21,7 @@ pub(crate) fn is_whole(recording: &Recording, start: u32, j: u8) -> bool
 }
 
 /// How many of frames 0 to 7 of a start lie within the recording: the first ones.
-pub(crate) fn whole_frames(recording: &Recording, start: u32) -> u8
+pub fn whole_frames(recording: &Recording, start: u32) -> u8
     ensures few { result ≤ 8 }
     ensures whole { (j : ℕ) → j < result → IsWhole recording.now start j }
     ensures all { (j : ℕ) → j < 8 → IsWhole recording.now start j → j < result }
@@ -44,14 +45,16 @@ fn symbol_of(recording: &Recording, frame: usize, number: u8, l: usize) -> [Cpx;
     )
 }
 
-/// A slot of frame `j` of a start by its number, 0 to 19, as it is seen. The frame lies within the recording.
-pub(crate) fn slot_of(recording: &Recording, id: CellId, start: u32, j: u8, number: u8) -> Slot
+/// The seven symbols of a slot of frame `j` of a start by its number, 0 to 19, as they are seen, each by 72 subcarriers.
+/// The frame lies within the recording. Components have size at most 2^25.
+pub fn symbols_of(recording: &Recording, start: u32, j: u8, number: u8) -> [[Cpx; 72]; 7]
     requires whole { IsWhole recording.now start j }
     requires number { number < 20 }
-    ensures { result ≡ seen_slot recording.now (frame_at start j) number id }
+    ensures symbols { (identity : ℕ) → result ≡ (seen_slot recording.now (frame_at start j) number identity).symbols }
+    ensures small { AreSmall result }
 {
     let frame = start as usize + FRAME_LENGTH * j as usize;
-    let seen = [
+    [
         symbol_of(recording, frame, number, 0),
         symbol_of(recording, frame, number, 1),
         symbol_of(recording, frame, number, 2),
@@ -59,13 +62,21 @@ pub(crate) fn slot_of(recording: &Recording, id: CellId, start: u32, j: u8, numb
         symbol_of(recording, frame, number, 4),
         symbol_of(recording, frame, number, 5),
         symbol_of(recording, frame, number, 6),
-    ];
-    Slot::new(seen, number, id)
+    ]
+}
+
+/// A slot of frame `j` of a start by its number, 0 to 19, as it is seen. The frame lies within the recording.
+pub fn slot_of(recording: &Recording, id: CellId, start: u32, j: u8, number: u8) -> Slot
+    requires whole { IsWhole recording.now start j }
+    requires number { number < 20 }
+    ensures { result ≡ seen_slot recording.now (frame_at start j) number id }
+{
+    Slot::new(symbols_of(recording, start, j, number), number, id)
 }
 
 /// The slot of frame `j` of a start that carries the broadcast channel, as it is seen. The frame
 /// lies within the recording.
-pub(crate) fn broadcast_slot(recording: &Recording, id: CellId, start: u32, j: u8) -> Slot
+pub fn broadcast_slot(recording: &Recording, id: CellId, start: u32, j: u8) -> Slot
     requires { IsWhole recording.now start j }
     ensures { result ≡ broadcast_slot_of recording.now id start j }
 {

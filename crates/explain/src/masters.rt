@@ -1,25 +1,26 @@
-//! The master blocks of a hit.
+//! The master blocks of a cell by a way to read its frames.
 
-ghost use Rattle.std.specs.Prelude.{◌≡◌, ℕ, ◌+◌, ◌<◌, ◌≤◌, List, MatchOption, is_some};
+ghost use Rattle.std.specs.Prelude.{◌≡◌, ℕ, ◌+◌, ◌<◌, ◌≤◌, List, MatchOption, is_some, length};
 ghost use Rattle.finite.specs.Tests.{any_below};
 ghost use Rattle.finite.specs.Sizes.{RowsWithin};
 ghost use Rattle.cs_num.specs.declared.Sample.{Sample};
 ghost use Rattle.pbch.specs.Master.{master_at};
 ghost use Rattle.explain.specs.Frame.{IsWhole};
 ghost use Rattle.explain.specs.Masters.{HaveMasters, AreFirstWith};
-ghost use Rattle.explain.specs.Received.{AreReceived, NoneTell, AreFirstOf};
-ghost use Rattle.explain.specs.Window.{TellNone, HasNoMasters, IsMasterAt};
+ghost use Rattle.explain.specs.Received.{IsToldBy, AreReceived, NoneTell, AreFirstOf, taken_of};
+ghost use Rattle.explain.specs.Window.{TellNone, HasNoMasters};
 
-use crate::frame::{broadcast_slot, whole_frames};
+use crate::FrameReader;
+use crate::frame::whole_frames;
 use lte_types::CellId;
-use pbch::{Master, received};
+use pbch::Master;
 use sample_file::Recording;
 use tailbite::Trellis;
 
 /// Frames of a cell that follow one another, by their count and the first of them, with the master block
 /// that they tell at each phase of the first.
 #[derive(Clone, Copy)]
-pub(crate) struct Masters {
+pub struct Masters {
     pub frames: u8,
     pub frame: u8,
     pub at: [Option<Master>; 4],
@@ -31,23 +32,25 @@ type Received = [[i16; 480]; 8];
 /// The first of the whole frames 0 to 7 of a start that have a master block at any phase, with all their
 /// master blocks: a single frame, or else two, three or four that follow one another in one period.
 /// `None` exactly where no frames have any. Each frame is received once.
-pub(crate) fn first_masters(
+pub fn first_masters<F: FrameReader>(
+    reader: &F,
     recording: &Recording,
     id: CellId,
     start: u32,
     work: &mut Trellis,
 ) -> Option<Masters>
-    ensures { MatchOption result (HasNoMasters (IsMasterAt recording.now) recording.now id start)
-        (λ found. AreFirstWith (IsMasterAt recording.now) recording.now id start found.frames found.frame found.at) }
+    ensures { let Tells = IsToldBy (F.frame_values recording.now) F.takes in
+        MatchOption result (HasNoMasters Tells recording.now id start)
+        (λ found. AreFirstWith Tells recording.now id start found.frames found.frame found.at) }
 {
     let whole = whole_frames(recording, start);
     let mut received = [[0; 480]; 8];
-    match first_alone(recording, id, start, whole, &mut received, work) {
+    match first_alone(reader, recording, id, start, whole, &mut received, work) {
         Some(found) => return Some(found),
         None => {}
     }
     for frames in 2..5 {
-        match first_of(id, frames, whole, &received, work) {
+        match first_of(reader, id, frames, whole, &received, work) {
             Some(found) => return Some(found),
             None => {}
         }
@@ -56,7 +59,8 @@ pub(crate) fn first_masters(
 }
 
 // The first of the first `whole` frames that has a master block alone. Where none has, all were received.
-fn first_alone(
+fn first_alone<F: FrameReader>(
+    reader: &F,
     recording: &Recording,
     id: CellId,
     start: u32,
@@ -67,14 +71,16 @@ fn first_alone(
     requires few { whole ≤ 8 }
     requires whole { (j : ℕ) → j < whole → IsWhole recording.now start j }
     requires sizes { RowsWithin 127 frames.old }
-    ensures found { MatchOption result (NoneTell recording.now id start whole 1)
-        (λ found. (found.frames ≡ 1) × AreFirstOf recording.now id start whole 1 found.frame found.at) }
-    ensures received { MatchOption result (AreReceived recording.now id start whole frames.new) (λ found. Unit) }
+    ensures found { let Tells = IsToldBy (F.frame_values recording.now) F.takes in
+        MatchOption result (NoneTell Tells id start whole 1)
+        (λ found. (found.frames ≡ 1) × AreFirstOf Tells id start whole 1 found.frame found.at) }
+    ensures received { MatchOption result (AreReceived (F.frame_values recording.now id start) whole frames.new)
+        (λ found. Unit) }
     ensures sizes { RowsWithin 127 frames.new }
 {
     for frame in 0..whole {
-        frames[frame as usize] = received(&broadcast_slot(recording, id, start, frame));
-        match masters_of(id, 1, frame, frames, work) {
+        frames[frame as usize] = reader.received(recording, id, start, frame);
+        match masters_of(reader, id, 1, frame, frames, work) {
             Some(found) => return Some(found),
             None => {}
         }
@@ -83,7 +89,8 @@ fn first_alone(
 }
 
 // The first `count` of the first `whole` frames that have a master block together.
-fn first_of(
+fn first_of<F: FrameReader>(
+    reader: &F,
     id: CellId,
     count: u8,
     whole: u8,
@@ -94,12 +101,14 @@ fn first_of(
     requires few { count ≤ 4 }
     requires whole { whole ≤ 8 }
     requires sizes { RowsWithin 127 frames.now }
-    ensures { (recording : List Sample) (start : ℕ) → AreReceived recording id start whole frames.now →
-        MatchOption result (NoneTell recording id start whole count)
-        (λ found. (found.frames ≡ count) × AreFirstOf recording id start whole count found.frame found.at) }
+    ensures { (recording : List Sample) (start : ℕ) →
+        AreReceived (F.frame_values recording id start) whole frames.now →
+        let Tells = IsToldBy (F.frame_values recording) F.takes in
+        MatchOption result (NoneTell Tells id start whole count)
+        (λ found. (found.frames ≡ count) × AreFirstOf Tells id start whole count found.frame found.at) }
 {
     for frame in 0..(whole + 1).saturating_sub(count) {
-        match masters_of(id, count, frame, frames, work) {
+        match masters_of(reader, id, count, frame, frames, work) {
             Some(found) => return Some(found),
             None => {}
         }
@@ -108,7 +117,8 @@ fn first_of(
 }
 
 // The master blocks of `count` frames from a first one on, where they have any.
-fn masters_of(
+fn masters_of<F: FrameReader>(
+    reader: &F,
     id: CellId,
     count: u8,
     frame: u8,
@@ -119,13 +129,18 @@ fn masters_of(
     requires few { count ≤ 4 }
     requires known { frame + count ≤ 8 }
     requires sizes { RowsWithin 127 frames.now }
-    ensures { (recording : List Sample) (start : ℕ) → AreReceived recording id start (frame + count) frames.now →
-        MatchOption result (TellNone (IsMasterAt recording) id start count frame)
+    ensures { (recording : List Sample) (start : ℕ) →
+        AreReceived (F.frame_values recording id start) (frame + count) frames.now →
+        let Tells = IsToldBy (F.frame_values recording) F.takes in
+        MatchOption result (TellNone Tells id start count frame)
         (λ found. (found.frames ≡ count) × (found.frame ≡ frame)
-        × HaveMasters (IsMasterAt recording) id start count frame found.at) }
+        × HaveMasters Tells id start count frame found.at) }
 {
     let first = frame as usize;
-    let at = pbch::masters(id, &frames[first..first + count as usize], work);
+    let at = taken(
+        reader,
+        &pbch::masters(id, &frames[first..first + count as usize], work),
+    );
     if !has_master(&at) {
         return None;
     }
@@ -136,9 +151,39 @@ fn masters_of(
     })
 }
 
-// Whether any phase has a master block.
+// The master blocks that are taken.
+fn taken<F: FrameReader>(reader: &F, all: &[Option<Master>; 4]) -> [Option<Master>; 4]
+    ensures length { length result ≡ 4 }
+    ensures each { (phase : ℕ) → phase < 4 →
+        master_at result phase ≡ taken_of F.takes (master_at all.now phase) }
+{
+    [
+        taken_one(reader, all[0]),
+        taken_one(reader, all[1]),
+        taken_one(reader, all[2]),
+        taken_one(reader, all[3]),
+    ]
+}
+
+// A master block, where it is taken.
+fn taken_one<F: FrameReader>(reader: &F, found: Option<Master>) -> Option<Master>
+    ensures { result ≡ taken_of F.takes found }
+{
+    match found {
+        Some(master) => {
+            if reader.takes_ports(master.ports) {
+                Some(master)
+            } else {
+                None
+            }
+        }
+        None => None,
+    }
+}
+
+/// Whether any phase of the first of some frames has a master block.
 #[tactic(auto, unfolding(finite::specs::Tests::any_below))]
-fn has_master(at: &[Option<Master>; 4]) -> bool
+pub fn has_master(at: &[Option<Master>; 4]) -> bool
     ensures { result ≡ any_below 4 (λ phase. is_some (master_at at.now phase)) }
 {
     at[0].is_some() || at[1].is_some() || at[2].is_some() || at[3].is_some()

@@ -19,7 +19,7 @@ pub struct Place {
 /// The places of hits with room for 5,760, which no recording passes. Contracts see them as the list of
 /// its items.
 #[derive(Drop)]
-pub(crate) struct Places {
+pub struct Places {
     met: Vec<Place>,
 }
 
@@ -33,7 +33,7 @@ impl Model for Places {
 
 impl Places {
     /// No places, with the memory taken. Only memory can be wanting.
-    pub(crate) fn new(alloc: Global) -> Result<Self, AllocError>
+    pub fn new(alloc: Global) -> Result<Self, AllocError>
         ensures { IfOk result (λ p. p ≡ []) }
     {
         Ok(Places {
@@ -42,21 +42,21 @@ impl Places {
     }
 
     /// Leaves no places.
-    pub(crate) fn clear(&mut self)
+    pub fn clear(&mut self)
         ensures { self.new ≡ [] }
     {
         self.met.clear();
     }
 
     /// Whether the place is one of them.
-    pub(crate) fn has(&self, place: &Place) -> bool
+    pub fn has(&self, place: &Place) -> bool
         ensures { result ≡ is_met self.now place.now }
     {
         self.met.iter().any(|met| met == place)
     }
 
     /// Puts the place at the end. It takes no memory.
-    pub(crate) fn add(&mut self, place: &Place)
+    pub fn add(&mut self, place: &Place)
         requires { length self.old < 5760 }
         ensures { self.new ≡ self.old ++ place.now ∷ [] }
     {

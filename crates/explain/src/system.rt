@@ -1,21 +1,22 @@
-//! The system information of a cell.
+//! The system information of a cell by a way to read its frames.
 
 ghost use Rattle.std.specs.Prelude.{◌≡◌, ◌<◌, ◌+◌, ◌*◌, ◌%◌};
 ghost use Rattle.lte_types.specs.Numerology.{frame_length};
-ghost use Rattle.explain.specs.Frame.{IsWhole};
-ghost use Rattle.explain.specs.System.{even_frame as even_frame_of, FrameAnswers, IsReadFrom, IsSystemOf};
+ghost use Rattle.explain.specs.System.{even_frame as even_frame_of, IsReadFrom, IsSystemBy};
 
-use crate::frame::{is_whole, slot_of};
+use crate::FrameReader;
+use crate::frame::is_whole;
 use lte_types::{Bandwidth, CellId, Mib, Sfn, Sib1, Sib1Reason};
 use pbch::Master;
 use sample_file::Recording;
-use system_block::{Decoders, read};
+use system_block::Decoders;
 
 /// SystemInformationBlockType1 of a cell whose first frame begins at `start`, below 19,200, and has the number
-/// `sfn`: `NotOnePort` where the master block tells other antenna ports than one, `Bandwidth` where it tells
+/// `sfn`: `NotOnePort` where the master block tells other antenna ports than are wanted, `Bandwidth` where it tells
 /// another bandwidth than 6 resource blocks; otherwise the first fields that one of the first eight whole
 /// frames of even number tells, or the reason of the first of these frames.
-pub(crate) fn system_of(
+pub fn system_of<F: FrameReader>(
+    reader: &F,
     recording: &Recording,
     id: CellId,
     start: u32,
@@ -24,19 +25,22 @@ pub(crate) fn system_of(
     work: &mut Decoders,
 ) -> Result<Sib1, Sib1Reason>
     requires early { start < frame_length }
-    ensures { IsSystemOf recording.now id start sfn master.ports master.mib result }
+    ensures { IsSystemBy F.wanted (F.answers recording.now id start master.mib) recording.now start sfn master.ports
+        master.mib result }
 {
-    if master.ports != 1 {
+    if master.ports != reader.wanted_ports() {
         return Err(Sib1Reason::NotOnePort(master.ports));
     }
     if master.mib.bandwidth != Bandwidth::N6 {
         return Err(Sib1Reason::Bandwidth(master.mib.bandwidth));
     }
-    read_frames(recording, id, start, sfn, master.mib, work)
+    reader.answers_once();
+    read_frames(reader, recording, id, start, sfn, master.mib, work)
 }
 
 // The first fields that a tried frame tells, or else the reason of the first.
-fn read_frames(
+fn read_frames<F: FrameReader>(
+    reader: &F,
     recording: &Recording,
     id: CellId,
     start: u32,
@@ -45,13 +49,14 @@ fn read_frames(
     work: &mut Decoders,
 ) -> Result<Sib1, Sib1Reason>
     requires early { start < frame_length }
-    ensures { IsReadFrom (FrameAnswers recording.now id start mib) recording.now start sfn result }
+    ensures { IsReadFrom (F.answers recording.now id start mib) recording.now start sfn result }
 {
     let first = even_frame(sfn, 0);
     // A recording has at least three frames, so that the first of even number lies within it.
     let count = recording.len();
     prove!(57_600 <= count);
-    let reason = match answer_of(recording, id, start, first, mib, work) {
+    reader.answers_once();
+    let reason = match reader.answer(recording, id, start, first, mib, work) {
         Ok(fields) => return Ok(fields),
         Err(reason) => reason,
     };
@@ -60,7 +65,7 @@ fn read_frames(
         if !is_whole(recording, start, j) {
             return Err(reason);
         }
-        match answer_of(recording, id, start, j, mib, work) {
+        match reader.answer(recording, id, start, j, mib, work) {
             Ok(fields) => return Ok(fields),
             Err(_) => {}
         }
@@ -69,27 +74,10 @@ fn read_frames(
 }
 
 // Number i of the frames of even number, by its place after the first frame.
-fn even_frame(sfn: Sfn, i: u8) -> u8
+pub(crate) fn even_frame(sfn: Sfn, i: u8) -> u8
     requires { i < 8 }
     ensures value { result ≡ even_frame_of sfn i }
     ensures few { result < 16 }
 {
     (sfn.value() % 2) as u8 + 2 * i
-}
-
-// What subframe 5 of a frame answers.
-fn answer_of(
-    recording: &Recording,
-    id: CellId,
-    start: u32,
-    j: u8,
-    mib: Mib,
-    work: &mut Decoders,
-) -> Result<Sib1, Sib1Reason>
-    requires { IsWhole recording.now start j }
-    ensures { FrameAnswers recording.now id start mib j result }
-{
-    let first = slot_of(recording, id, start, j, 10);
-    let second = slot_of(recording, id, start, j, 11);
-    read(&first, &second, mib, work)
 }

@@ -1,9 +1,9 @@
 //! Each call of a source and of a sink fails once, and pieces of one byte.
 
-use crate::forms::{Form, OF_8_BITS, OTHERS, REPORTS, words_of};
+use crate::forms::{BY_OTHER_RULES, Form, OF_8_BITS, OF_THE_TUNER, OTHERS, REPORTS, words_of};
 use crate::inputs::{Input, bytes_of, recording};
 use cs_outside::{FailSink, FailSource, MemSink, MemSource, StdSink, StdSource};
-use lte_top::{Status, Words, run, run_in_memory};
+use lte_top::{Program, Status, Words, run, run_program};
 use run_tests::output_of;
 use std::alloc::{AllocError, Global};
 use std::io;
@@ -24,31 +24,34 @@ const CALLS: u64 = 1_000;
 // How words end over these bytes where no call fails, and what was written.
 fn whole_run(
     alloc: Global,
+    program: Program,
     words: &Words,
     bytes: Vec<u8>,
 ) -> Result<(Status, Vec<u8>), AllocError> {
     let mut source = MemSource::new(bytes);
     let mut sink = MemSink::new(alloc, ROOM)?;
-    let status = run_in_memory(alloc, words, &mut source, &mut sink);
+    let status = run_program(alloc, program, words, &mut source, &mut sink);
     Ok((status, sink.taken().to_vec(alloc)?))
 }
 
 // The same where one call of the source fails.
 fn run_with_read_fault(
     alloc: Global,
+    program: Program,
     words: &Words,
     bytes: Vec<u8>,
     call: u64,
 ) -> Result<(Status, Vec<u8>), AllocError> {
     let mut source = FailSource::new(bytes, vec![in alloc; call; 1]?, MOST);
     let mut sink = MemSink::new(alloc, ROOM)?;
-    let status = run(alloc, words, &mut source, &mut sink);
+    let status = run_program(alloc, program, words, &mut source, &mut sink);
     Ok((status, sink.taken().to_vec(alloc)?))
 }
 
 // The same where one call of the sink fails, which has room for this many bytes.
 fn run_with_write_fault(
     alloc: Global,
+    program: Program,
     words: &Words,
     bytes: Vec<u8>,
     call: u64,
@@ -56,7 +59,7 @@ fn run_with_write_fault(
 ) -> Result<(Status, Vec<u8>), AllocError> {
     let mut source = MemSource::new(bytes);
     let mut sink = FailSink::new(alloc, vec![in alloc; call; 1]?, MOST, room)?;
-    let status = run(alloc, words, &mut source, &mut sink);
+    let status = run_program(alloc, program, words, &mut source, &mut sink);
     Ok((status, sink.taken().to_vec(alloc)?))
 }
 
@@ -69,15 +72,26 @@ fn least_reads(input: Input, len: usize) -> u64 {
 }
 
 // Each run of these forms of which a call of the source fails is a read fault, and nothing is written.
-fn fail_each_read(rt: &impl Abort, alloc: Global, forms: &[Form]) -> Result<(), Fail> {
+fn fail_each_read(
+    rt: &impl Abort,
+    alloc: Global,
+    program: Program,
+    forms: &[Form],
+) -> Result<(), Fail> {
     for &(list, input) in forms {
         let words = words_of(alloc, list)?;
         let bytes = bytes_of(alloc, input)?;
-        let (status, whole) = whole_run(alloc, &words, bytes.clone()?)?;
+        let (status, whole) = whole_run(alloc, program, &words, bytes.clone()?)?;
         assert_eq!(rt; status, Status::Done, "{list:?} {input:?}");
         let mut faults = 0;
         for call in 0..CALLS {
-            let (status, taken) = run_with_read_fault(alloc, &words, bytes.clone()?, call)?;
+            let (status, taken) = run_with_read_fault(
+                alloc,
+                program,
+                &words,
+                bytes.clone()?,
+                call,
+            )?;
             if status == Status::Done {
                 assert_eq!(rt; taken.as_slice(), whole.as_slice(), "{list:?} {input:?}");
                 break;
@@ -97,17 +111,23 @@ fn fail_each_read(rt: &impl Abort, alloc: Global, forms: &[Form]) -> Result<(), 
 }
 
 // Each run of these forms of which a call of the sink fails is a write fault, and a front of the output is written.
-fn fail_each_write(rt: &impl Abort, alloc: Global, forms: &[Form]) -> Result<(), Fail> {
+fn fail_each_write(
+    rt: &impl Abort,
+    alloc: Global,
+    program: Program,
+    forms: &[Form],
+) -> Result<(), Fail> {
     for &(list, input) in forms {
         let words = words_of(alloc, list)?;
         let bytes = bytes_of(alloc, input)?;
-        let (status, whole) = whole_run(alloc, &words, bytes.clone()?)?;
+        let (status, whole) = whole_run(alloc, program, &words, bytes.clone()?)?;
         assert_eq!(rt; status, Status::Done, "{list:?} {input:?}");
         assert!(rt; !whole.is_empty(), "{list:?} {input:?}");
         let mut faults = 0;
         for call in 0..CALLS {
             let (status, taken) = run_with_write_fault(
                 alloc,
+                program,
                 &words,
                 bytes.clone()?,
                 call,
@@ -137,38 +157,62 @@ fn fail_each_write(rt: &impl Abort, alloc: Global, forms: &[Form]) -> Result<(),
 
 #[test]
 fn each_read_of_reports_that_fails_is_a_read_fault(rt: HostRuntime) -> Result<(), Fail> {
-    fail_each_read(&rt, rt.alloc(), &REPORTS)
+    fail_each_read(&rt, rt.alloc(), Program::Receiver, &REPORTS)
 }
 
 #[test]
 fn each_read_of_forms_of_8_bits_that_fails_is_a_read_fault(rt: HostRuntime) -> Result<(), Fail> {
-    fail_each_read(&rt, rt.alloc(), &OF_8_BITS)
+    fail_each_read(&rt, rt.alloc(), Program::Receiver, &OF_8_BITS)
 }
 
 #[test]
 fn each_read_of_other_forms_that_fails_is_a_read_fault(rt: HostRuntime) -> Result<(), Fail> {
-    fail_each_read(&rt, rt.alloc(), &OTHERS)
+    fail_each_read(&rt, rt.alloc(), Program::Receiver, &OTHERS)
+}
+
+#[test]
+fn each_read_by_other_rules_that_fails_is_a_read_fault(rt: HostRuntime) -> Result<(), Fail> {
+    fail_each_read(&rt, rt.alloc(), Program::Receiver, &BY_OTHER_RULES)
+}
+
+#[test]
+fn each_read_of_the_tuner_that_fails_is_a_read_fault(rt: HostRuntime) -> Result<(), Fail> {
+    fail_each_read(&rt, rt.alloc(), Program::Tuner, &OF_THE_TUNER)
 }
 
 #[test]
 fn each_write_of_reports_that_fails_is_a_write_fault_and_leaves_a_front(
     rt: HostRuntime,
 ) -> Result<(), Fail> {
-    fail_each_write(&rt, rt.alloc(), &REPORTS)
+    fail_each_write(&rt, rt.alloc(), Program::Receiver, &REPORTS)
 }
 
 #[test]
 fn each_write_of_forms_of_8_bits_that_fails_is_a_write_fault_and_leaves_a_front(
     rt: HostRuntime,
 ) -> Result<(), Fail> {
-    fail_each_write(&rt, rt.alloc(), &OF_8_BITS)
+    fail_each_write(&rt, rt.alloc(), Program::Receiver, &OF_8_BITS)
 }
 
 #[test]
 fn each_write_of_other_forms_that_fails_is_a_write_fault_and_leaves_a_front(
     rt: HostRuntime,
 ) -> Result<(), Fail> {
-    fail_each_write(&rt, rt.alloc(), &OTHERS)
+    fail_each_write(&rt, rt.alloc(), Program::Receiver, &OTHERS)
+}
+
+#[test]
+fn each_write_by_other_rules_that_fails_is_a_write_fault_and_leaves_a_front(
+    rt: HostRuntime,
+) -> Result<(), Fail> {
+    fail_each_write(&rt, rt.alloc(), Program::Receiver, &BY_OTHER_RULES)
+}
+
+#[test]
+fn each_write_of_the_tuner_that_fails_is_a_write_fault_and_leaves_a_front(
+    rt: HostRuntime,
+) -> Result<(), Fail> {
+    fail_each_write(&rt, rt.alloc(), Program::Tuner, &OF_THE_TUNER)
 }
 
 #[test]

@@ -26,6 +26,22 @@ pub const OF_8_BITS: [Form; 6] = [
     (&["certify", "--format", "cu8"], Input::Cell8),
 ];
 
+/// The forms that read recordings by other rules, or make them.
+pub const BY_OTHER_RULES: [Form; 5] = [
+    (&["search", "--ports", "2"], Input::Cell16),
+    (&["search", "--prefix", "long"], Input::Cell16),
+    (&["search", "--cancel"], Input::Cell16),
+    (&["make", "0", "--ports", "2"], Input::Nothing),
+    (&["make", "0", "--prefix", "long"], Input::Nothing),
+];
+
+/// The forms of the second program.
+pub const OF_THE_TUNER: [Form; 3] = [
+    (&["tell"], Input::Cell16),
+    (&["apply"], Input::Cell16),
+    (&["apply", "-5"], Input::Cell16),
+];
+
 /// The other forms.
 pub const OTHERS: [Form; 5] = [
     (&["certify"], Input::Cell16),

@@ -9,14 +9,14 @@ use Rattle.std.proofs.lemmas.List.Folds.{list_any_at}
 use Rattle.finite.proofs.Lists.{values_below_at, values_below-length}
 use Rattle.lte_types.specs.declared.duration.Duration.{Duration}
 use Rattle.lte_types.specs.declared.resource.Resource.{Resource}
-use Rattle.crs.specs.Reference.{is_reference, first_subcarrier}
+use Rattle.crs.specs.Reference.{is_reference, is_second_reference, first_subcarrier}
 use Rattle.grid_map.specs.declared.Place.{Place}
 use Rattle.grid_map.specs.declared.Reg.{Reg}
 use Rattle.grid_map.specs.Place.{place, places_of}
 use Rattle.grid_map.specs.Group.{group, is_group, same_group, is_kept, group_places}
 use Rattle.grid_map.specs.Control.{is_in, pcfich_groups, pcfich_places, phich_groups, is_in_region, pdcch_groups}
 use Rattle.grid_map.specs.Candidate.{group_of_quadruplet, quadruplet_group, candidate_places}
-use Rattle.grid_map.specs.Shared.{is_synchronisation, is_in_blocks, is_pdsch, shared_places_of, shared_place_of, pdsch_places}
+use Rattle.grid_map.specs.Shared.{is_synchronisation, is_in_blocks, is_pilot_of, is_shared_of, shared_places_of, shared_place_of}
 use Rattle.grid_map.proofs.Spans.{four_places, places_inside, places_apart}
 use Rattle.grid_map.proofs.Regions.{same_group-refl, pcfich_inside, pdcch_inside, pdcch_members}
 use Rattle.grid_map.proofs.Carried.{group_inside}
@@ -26,16 +26,28 @@ use Rattle.grid_map.proofs.Symbols.{places_are, pdsch_carries}
 
 -- ---- places of the control region
 
--- a place in a symbol up to this one, and no reference place
+-- a place in a symbol up to this one, and no reference place of two antenna ports
 pub record IsInRegion (identity last : ℕ) (p : Place) : Type 0 where
   pub symbol : p.symbol ≤ last
   pub k : p.k < 72
   pub free : is_reference identity (p.symbol % 7) p.k ≡ false
+  pub second_free : is_second_reference identity (p.symbol % 7) p.k ≡ false
 
 -- the first symbols of a slot have reference places in symbol 0 alone, and those are kept
 reference_is_kept : (identity symbol k : ℕ) → symbol < 4 → is_reference identity (symbol % 7) k ≡ true → is_kept identity (place symbol k) ≡ true
 unfolding is_reference first_subcarrier
 reference_is_kept identity symbol k low e = grind (arith, nat_tests)
+
+second_is_kept : (identity symbol k : ℕ) → symbol < 4 → is_second_reference identity (symbol % 7) k ≡ true → is_kept identity (place symbol k) ≡ true
+unfolding is_second_reference
+second_is_kept identity symbol k low e = grind (arith, nat_tests)
+
+second_where_not_kept : (identity symbol k : ℕ) → symbol < 4 → (is_kept identity (place symbol k) ≡ true → ⊥) → is_second_reference identity (symbol % 7) k ≡ false
+second_where_not_kept identity symbol k low none = cases (is_second_reference identity (symbol % 7) k) refl
+  where
+    cases : (b : Bool) → is_second_reference identity (symbol % 7) k ≡ b → b ≡ false
+    cases false e = refl
+    cases true e = absurd (none (second_is_kept identity symbol k low e))
 
 free_where_not_kept : (identity symbol k : ℕ) → symbol < 4 → (is_kept identity (place symbol k) ≡ true → ⊥) → is_reference identity (symbol % 7) k ≡ false
 free_where_not_kept identity symbol k low none = cases (is_reference identity (symbol % 7) k) refl
@@ -52,6 +64,7 @@ of_group identity last g p few is below has =
       symbol = omega (arith, inside.0, below);
       k = inside.1;
       free = free_where_not_kept identity p.symbol p.k (omega (arith, inside.0, below, few)) inside.2;
+      second_free = second_where_not_kept identity p.symbol p.k (omega (arith, inside.0, below, few)) inside.2;
     }
 
 has_four : (identity : ℕ) (g : Reg) (n : ℕ) → is_group g ≡ true → n < 4 → Contains (group_places identity g) (get_or (group_places identity g) n (place 0 0))
@@ -151,18 +164,18 @@ module _ (identity cfi : ℕ) (duration : Duration) (resource : Resource) (low :
 
 -- ---- the PDSCH
 
--- a place after the control region, in no symbol of the synchronisation signals, and no reference place
-pub record IsAfterRegion (identity last : ℕ) (p : Place) : Type 0 where
+-- a place after the control region, in no symbol of the synchronisation signals, and no reference place, with two antenna ports or one
+pub record IsAfterRegion (two : Bool) (identity last : ℕ) (p : Place) : Type 0 where
   pub after : last < p.symbol
   pub symbol : p.symbol < 14
   pub k : p.k < 72
   pub beside : is_synchronisation p.symbol ≡ false
-  pub free : is_reference identity (p.symbol % 7) p.k ≡ false
+  pub free : is_pilot_of two identity (p.symbol % 7) p.k ≡ false
 
-pdsch_symbols : (identity cfi start blocks : ℕ) → All (λ (p : Place). (p.symbol < 14) × (p.k < 72)) (pdsch_places identity cfi start blocks)
+shared_symbols : (two : Bool) (identity cfi start blocks : ℕ) → All (λ (p : Place). (p.symbol < 14) × (p.k < 72)) (shared_places_of two identity cfi start blocks)
 unfolding shared_places_of
-pdsch_symbols identity cfi start blocks =
-    All-filter (is_pdsch identity cfi start blocks) (λ (p : Place). (p.symbol < 14) × (p.k < 72)) (places_of 0 14)
+shared_symbols two identity cfi start blocks =
+    All-filter (is_shared_of two identity cfi start blocks) (λ (p : Place). (p.symbol < 14) × (p.k < 72)) (places_of 0 14)
     (λ i d l. rw places_are (let l' : i < 1008 = (let size = values_below-length 1008 (λ n. place (n / 72) (n % 72)) in let m = rw places_are at l in omega (arith, m, size)) in
     rw (values_below_at (λ n. place (n / 72) (n % 72)) 1008 i d l') (omega (arith, l'), omega arith)))
 
@@ -171,14 +184,14 @@ not_true false e = refl
 not_true true e = absurd (false≢true e)
 
 -- the places of the PDSCH are such places
-pub shared_place : (identity cfi start blocks i : ℕ) → i < length (pdsch_places identity cfi start blocks) →
-    IsAfterRegion identity cfi (get_or (pdsch_places identity cfi start blocks) i (place 0 0))
+pub shared_place : (two : Bool) (identity cfi start blocks i : ℕ) → i < length (shared_places_of two identity cfi start blocks) →
+    IsAfterRegion two identity cfi (get_or (shared_places_of two identity cfi start blocks) i (place 0 0))
 unfolding shared_place_of
-shared_place identity cfi start blocks i l =
-    let p : Place = get_or (pdsch_places identity cfi start blocks) i (place 0 0) in
-    let inside = pdsch_symbols identity cfi start blocks i (place 0 0) l in
-    let all = and_parts _ (is_in_blocks start blocks p.k) (pdsch_carries false identity cfi start blocks i l) in
-    let most = and_parts _ (not (is_reference identity (p.symbol % 7) p.k)) all.0 in
+shared_place two identity cfi start blocks i l =
+    let p : Place = get_or (shared_places_of two identity cfi start blocks) i (place 0 0) in
+    let inside = shared_symbols two identity cfi start blocks i (place 0 0) l in
+    let all = and_parts _ (is_in_blocks start blocks p.k) (pdsch_carries two identity cfi start blocks i l) in
+    let most = and_parts _ (not (is_pilot_of two identity (p.symbol % 7) p.k)) all.0 in
     let some = and_parts _ (not (is_synchronisation p.symbol)) most.0 in
     record {
       after = ltb-true cfi p.symbol some.0;

@@ -9,3 +9,4 @@ pub mod Carried
 pub mod Pieces
 pub mod Indexed
 pub mod Apart
+pub mod Together

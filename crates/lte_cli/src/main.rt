@@ -2,11 +2,11 @@
 #![tactic(auto)]
 
 use lte_shell::run_process;
-use lte_top::Status;
+use lte_top::{Program, Status};
 use std::process::ExitCode;
 
 fn main(rt: HostRuntime) -> ExitCode {
-    let status = run_process(&rt, rt.stdin(), rt.stdout());
+    let status = run_process(&rt, Program::Receiver, rt.stdin(), rt.stdout());
     if status != Status::Done {
         let _ = eprintln!(rt; "lte_cli: {status}");
     }

@@ -3,25 +3,26 @@
 #![tactic(auto)]
 
 use cs_outside::{StdSink, StdSource};
-use lte_top::{Status, Words, run};
+use lte_top::{Program, Status, Words, run_program};
 use std::alloc::{Alloc, Global};
 use std::env::{self, Env};
 use std::io::{self, Read, Write};
 
-/// Runs the process's arguments after the program's name over the input and the output.
+/// Runs the process's arguments after the program's name, as words of the program, over the input and the output.
 ///
 /// An argument that is not UTF-8 text is a word of no form, so the answer is then `Usage`; where
 /// memory for the arguments is refused it is `OutOfMemory`. In both cases nothing is read or
 /// written.
-pub fn run_process<R, I, O>(rt: &R, input: I, output: O) -> Status
+pub fn run_process<R, I, O>(rt: &R, program: Program, input: I, output: O) -> Status
 where
     R: Env + Alloc<A = Global>,
     I: Read + Drop,
     O: Write + Drop,
 {
     match words_of(rt) {
-        Ok(words) => run(
+        Ok(words) => run_program(
             rt.alloc(),
+            program,
             &words,
             &mut StdSource::new(input),
             &mut StdSink::new(output),

@@ -6,17 +6,19 @@ use Rattle.cs_num.specs.declared.Sample.{Sample}
 use Rattle.cs_outside.specs.Counts.{Rose}
 use Rattle.cs_outside.specs.Outside.{SourceTold, Outside}
 use Rattle.cs_outside.proofs.Reading.{read_whole, read_front}
+use Rattle.sample_file.specs.declared.form.SampleForm.TheVariants.{Ci16}
 use Rattle.sample_file.specs.Recording.{samples_in}
 use Rattle.lte_types.specs.declared.entry.Entry.{Entry}
+use Rattle.lte_top.specs.declared.form.Program.{Program}
 use Rattle.lte_top.specs.declared.form.Form.{Form}
-use Rattle.lte_top.specs.declared.form.Form.TheVariants.{Report as Reports, Certify, Check, Transmit, Make}
+use Rattle.lte_top.specs.declared.form.Form.TheVariants.{Report as Reports, Search as Searches, Certify, Check, Transmit, Make, Tune as Tunes}
 use Rattle.lte_top.specs.declared.form.Report.TheVariants.{Hits, Ids, Search, Json, Evidence}
 use Rattle.lte_top.specs.declared.status.Status.{Status}
 use Rattle.lte_top.specs.declared.status.Status.TheVariants.{Done, Usage, Ragged, TooShort, TooLong, ReadFault, WriteFault, OutOfMemory, BadCell, BadCertificate}
 use Rattle.cert_stream.specs.Stream.{IsBrokenAt}
-use Rattle.lte_top.specs.Certificates.{IsListOfCells}
+use Rattle.clean_air.specs.Clean.{IsListOfCells}
 use Rattle.lte_top.specs.Forms.{IsWordsOf, Input, nothing, recording, certificates, description, input_of, limit_of, Refuses, RefusesCertificates, RefusesDescription, IsTooLong, IsValid, IsOutput}
-use Rattle.lte_top.specs.Reports.{json_line, IsTextOfList, IsTextOfEvidence}
+use Rattle.lte_top.specs.Reports.{json_line, IsTextOfEvidence}
 use Rattle.lte_top.specs.Run.{IsRead, HasReadInput, HasOutput, HasRefusal, IsReadTooLong, IsWriteFault, Ends, RunsForm, Outcome, IsAnswerTo, HasOneAnswer, MayAnswer, IsTold, IsAnswered, IsComplete, HasRoom}
 use Rattle.cell_tx.specs.declared.error.CellError.{CellError}
 use Rattle.cell_json.specs.Reading.{refusal}
@@ -25,22 +27,13 @@ use Rattle.report.specs.Lines.{report_text}
 use Rattle.report.specs.Evidence.{evidence_text}
 use Rattle.evidence.specs.Evidence.{IsEvidence}
 use Rattle.evidence.proofs.Only.{one_for_each}
-use Rattle.explain.proofs.Listed.{is_one_list}
 use Rattle.cert_stream.proofs.Rest.{one_first_broken}
 use Rattle.lte_top.proofs.Checked.{one_check, one_certified_length}
+use Rattle.lte_top.proofs.Lists.{one_text, one_list, one_search, one_tuned}
 use Rattle.lte_top.proofs.Made.{one_made}
 use Rattle.lte_top.proofs.OneForm.{one_form}
 
 -- ---- outputs: a new form adds a line
-
--- where a recording has one list by a rule, it has one text of it
-one_text : (IsListOf : List Sample → List Entry → Type 0) (text_of : List Entry → List ℕ) →
-    ((samples : List Sample) (first second : List Entry) → IsListOf samples first → IsListOf samples second → first ≡ second) →
-    (samples : List Sample) (first second : List ℕ) → IsTextOfList IsListOf text_of samples first → IsTextOfList IsListOf text_of samples second → first ≡ second
-one_text IsListOf text_of one samples first second a b = a.text ∙ ap text_of (one samples a.entries b.entries a.is_list b.is_list) ∙ sym b.text
-
-one_list : (samples : List Sample) (first second : List Entry) → IsListOfCells samples first → IsListOfCells samples second → first ≡ second
-one_list samples first second a b = is_one_list samples first second a.explained b.explained
 
 -- and one text of what supports its entries
 one_evidence_text : (samples : List Sample) (first second : List ℕ) → IsTextOfEvidence samples first → IsTextOfEvidence samples second → first ≡ second
@@ -59,7 +52,9 @@ one_length (Reports Evidence form) bytes first second a b = ap length (one_evide
 one_length (Certify form) bytes first second a b = one_certified_length _ first second a b
 one_length Check bytes first second a b = ap length (one_check bytes first second a b)
 one_length Transmit bytes first second a b = one_transmitted_length bytes first second a b
-one_length (Make n) bytes first second a b = ap length (one_made n first second a b)
+one_length (Make sender n) bytes first second a b = ap length (one_made sender n first second a b)
+one_length (Searches search) bytes first second a b = ap length (one_search search (samples_in Ci16 bytes) first second a b)
+one_length (Tunes tune) bytes first second a b = ap length (one_tuned tune (samples_in Ci16 bytes) first second a b)
 
 -- ---- inputs: a new one adds a line
 
@@ -207,13 +202,13 @@ form_answers form told before now e (BadCell cause) o = refusal_is_answer (input
 form_answers form told before now e (BadCertificate place) o = refusal_is_answer (input_of form) told (BadCertificate place) before.0 now.0 e o.cause
 
 -- the run of these words is that of their form
-ends_of : (form : Form) (words : List (List ℕ)) (before now : Outside) → IsWordsOf words form → (status : Status) → Outcome words before now status → Ends form before now status
-ends_of form words before now is_of status o = by_status status o
+ends_of : (program : Program) (form : Form) (words : List (List ℕ)) (before now : Outside) → IsWordsOf program words form → (status : Status) → Outcome program words before now status → Ends form before now status
+ends_of program form words before now is_of status o = by_status status o
   where
-    same : (status : Status) (r : RunsForm words before now status) → Ends form before now status
-    same status r = subst (λ f. Ends f before now status) (one_form words r.form form r.is_of is_of) r.ends
+    same : (status : Status) (r : RunsForm program words before now status) → Ends form before now status
+    same status r = subst (λ f. Ends f before now status) (one_form program words r.form form r.is_of is_of) r.ends
 
-    by_status : (status : Status) → Outcome words before now status → Ends form before now status
+    by_status : (status : Status) → Outcome program words before now status → Ends form before now status
     by_status Usage o = absurd (o.no_form form is_of)
     by_status Done o = same Done o
     by_status Ragged o = same Ragged o
@@ -225,8 +220,8 @@ ends_of form words before now is_of status o = by_status status o
     by_status (BadCell e) o = same (BadCell e) o
     by_status (BadCertificate place) o = same (BadCertificate place) o
 
-pub answered : (words : List (List ℕ)) (before now : Outside) (status : Status) → Outcome words before now status → IsAnswered words before now status
-answered words before now status o form bytes asked = form_answers form bytes before now asked.told status (ends_of form words before now asked.is_of status o)
+pub answered : (program : Program) (words : List (List ℕ)) (before now : Outside) (status : Status) → Outcome program words before now status → IsAnswered program words before now status
+answered program words before now status o form bytes asked = form_answers form bytes before now asked.told status (ends_of program form words before now asked.is_of status o)
 
 -- ---- completeness
 
@@ -243,9 +238,9 @@ done_or_no_memory input told before now TooLong m valid r w = absurd (omega (ari
 done_or_no_memory input told before now (BadCell e) m valid r w = absurd (valid.unrefused (BadCell e) m)
 done_or_no_memory input told before now (BadCertificate place) m valid r w = absurd (valid.unrefused (BadCertificate place) m)
 
-pub complete : (words : List (List ℕ)) (before now : Outside) (status : Status) → Outcome words before now status → IsComplete words before now status
-complete words before now status o form bytes asked =
-    done_or_no_memory (input_of form) bytes before now status (answered words before now status o form bytes asked)
+pub complete : (program : Program) (words : List (List ℕ)) (before now : Outside) (status : Status) → Outcome program words before now status → IsComplete program words before now status
+complete program words before now status o form bytes asked =
+    done_or_no_memory (input_of form) bytes before now status (answered program words before now status o form bytes asked)
 
 -- ---- room
 
@@ -258,7 +253,7 @@ no_room form told output room before now e has_room is_output fits o =
     let full : room < length o.output = subst (λ r. IfSome r (λ n. n < length o.output)) has_room o.full in
     omega (arith, long, full, fits)
 
-pub has_room : (words : List (List ℕ)) (before now : Outside) (status : Status) → Outcome words before now status → HasRoom words before status
-has_room words before now status o form bytes output room asked told is_output fits fault =
+pub has_room : (program : Program) (words : List (List ℕ)) (before now : Outside) (status : Status) → Outcome program words before now status → HasRoom program words before status
+has_room program words before now status o form bytes output room asked told is_output fits fault =
     no_room form bytes output room before now asked.told told is_output fits
-    (ends_of form words before now asked.is_of WriteFault (subst (Outcome words before now) fault o))
+    (ends_of program form words before now asked.is_of WriteFault (subst (Outcome program words before now) fault o))

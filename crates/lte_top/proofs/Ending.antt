@@ -10,7 +10,8 @@ use Rattle.sample_file.specs.Reading.{HasReadRecording, least_bytes}
 use Rattle.lte_types.specs.declared.entry.Entry.{Entry}
 use Rattle.lte_top.specs.declared.form.Form.TheVariants.{Certify}
 use Rattle.lte_top.specs.declared.status.Status.{Status}
-use Rattle.lte_top.specs.Certificates.{IsListOfCells, IsCertified}
+use Rattle.clean_air.specs.Clean.{IsListOfCells}
+use Rattle.lte_top.specs.Certificates.{IsCertified}
 use Rattle.cert_stream.specs.Certifying.{HasCertifiedAll, HasCertifiedSome}
 use Rattle.cert_stream.specs.Stream.{all_bytes}
 use Rattle.lte_top.specs.Forms.{recording_refusal, RefusesRecording}

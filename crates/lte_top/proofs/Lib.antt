@@ -1,11 +1,12 @@
 pub mod WordLists
-pub mod Entries
 pub mod Checked
 pub mod Transmitted
 pub mod Ending
 pub mod OneForm
 pub mod Held
+pub mod Lists
 pub mod Made
 pub mod MadeEnds
 pub mod Complete
 pub mod Found
+pub mod Applied

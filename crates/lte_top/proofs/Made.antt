@@ -1,36 +1,73 @@
 -- What is made is held once.
-use Rattle.std.proofs.Common.{◌≡◌, ℕ, List, ◌++◌, ap, sym, subst, ◌∙◌}
-use Rattle.std.specs.Prelude.{nat_abs}
+use Rattle.std.proofs.Common.{◌≡◌, ℕ, List, ◌++◌, Result, Ok, Err, refl, ap, sym, subst, ◌∙◌}
+use Rattle.std.specs.Prelude.{nat_abs, IfOk}
+use Rattle.std.specs.List.{AllPairs, Contains}
+use Rattle.cs_num.specs.declared.Sample.{Sample}
 use Rattle.lte_types.specs.declared.entry.Entry.{Entry}
 use Rattle.cell_tx.specs.Clean.{IsClean, start_of, number_at_start}
 use Rattle.cell_tx.specs.Sent.{gain_of}
-use Rattle.explain.specs.Entries.{IsExplained, IsBefore}
+use Rattle.explain.specs.Entries.{IsBefore}
 use Rattle.explain.proofs.Kept.{before_after}
-use Rattle.explain.proofs.Listed.{is_one_list}
 use Rattle.capture_make.specs.declared.made.Made.{Made}
 use Rattle.capture_make.specs.Recipe.{plan, number, offset, gain}
 use Rattle.capture_make.specs.Made.{IsMade, IsCleanlyMade}
 use Rattle.capture_make.proofs.Plans.{is_sendable}
 use Rattle.capture_make.proofs.Samples.{one_recording}
+use Rattle.two_tx.specs.declared.made.TwoMade.{TwoMade}
+use Rattle.two_tx.specs.Clean.{IsCleanOfPorts}
+use Rattle.two_tx.specs.Made.{IsMade as IsMadeOfTwo, IsCleanlyMade as IsCleanlyMadeOfTwo, gain_at}
+use Rattle.two_tx.proofs.Plans.{sendable_of_two}
+use Rattle.two_tx.proofs.Samples.{one_recording as one_recording_of_two}
+use Rattle.long_prefix.specs.declared.made.LongMade.{LongMade}
+use Rattle.long_prefix.specs.Sent.{IsCleanOfLong}
+use Rattle.long_prefix.specs.Made.{IsMadeLong, IsCleanlyMade as IsCleanlyMadeOfLong}
+use Rattle.long_prefix.proofs.Numbered.{is_identity, one_recording as one_recording_of_long}
 use Rattle.report.specs.Lines.{made_line, report_text}
-use Rattle.lte_top.specs.Certificates.{IsListOfCells}
-use Rattle.lte_top.specs.Making.{Counts, IsSentCell, TellsHeld, first_of, number_of, IsMadeText, WhatIsMadeIsHeld}
+use Rattle.lte_top.specs.declared.making.SentCell.{SentCell}
+use Rattle.lte_top.specs.declared.form.Sender.{Sender}
+use Rattle.lte_top.specs.declared.form.Sender.TheVariants.{OnePort, TwoPorts, LongPrefix}
+use Rattle.lte_top.specs.Making.{Counts, IsSentCell, TellsHeld, first_of, number_of, cell_of, AreSamplesOf, IsListOf, IsMadeList, IsMadeText, IsHeldOnce, WhatIsMadeIsHeld}
+use Rattle.clean_air.specs.Clean.{IsListOfCells}
+use Rattle.lte_top.specs.Searching.{IsListOfTwo, IsListOfLong}
 use Rattle.lte_top.proofs.Held.{one_count, one_counted}
+use Rattle.lte_top.proofs.Lists.{one_list, one_list_of_two, one_list_of_long}
+
+-- ---- a number has one text
+
+same_samples : (sender : Sender) (n : ℕ) (a b : List Sample) → AreSamplesOf sender n a → AreSamplesOf sender n b → a ≡ b
+same_samples OnePort n a b p q = p.are ∙ one_recording n p.made q.made p.is q.is ∙ sym q.are
+same_samples TwoPorts n a b p q = p.are ∙ one_recording_of_two n p.made q.made p.is q.is ∙ sym q.are
+same_samples LongPrefix n a b p q = p.are ∙ one_recording_of_long n p.made q.made p.is q.is ∙ sym q.are
+
+same_list : (sender : Sender) (samples : List Sample) (first second : List Entry) → IsListOf sender samples first → IsListOf sender samples second → first ≡ second
+same_list OnePort = one_list
+same_list TwoPorts = one_list_of_two
+same_list LongPrefix = one_list_of_long
 
 -- the text with a count
-abbrev text_with : ℕ → List Entry → ℕ → List ℕ
-text_with n entries held = made_line (plan n).identity (first_of n) (number_of n) held ++ report_text entries
+abbrev text_with : SentCell → List Entry → ℕ → List ℕ
+text_with cell entries held = made_line cell.identity cell.first cell.number held ++ report_text entries
 
--- a number has one text
-pub one_made : (n : ℕ) (first second : List ℕ) → IsMadeText n first → IsMadeText n second → first ≡ second
-one_made n first second a b =
-    let P : Entry → Type 0 = IsSentCell (plan n) (first_of n) (number_of n) in
-    let recording : a.made.recording ≡ b.made.recording = one_recording n a.made b.made a.is_made b.is_made in
-    let same : a.entries ≡ b.entries = is_one_list b.made.recording a.entries b.entries (subst (λ l. IsExplained l a.entries) recording a.is_list.explained) b.is_list.explained in
+pub one_made : (sender : Sender) (n : ℕ) (first second : List ℕ) → IsMadeText sender n first → IsMadeText sender n second → first ≡ second
+one_made sender n first second a b =
+    let P : Entry → Type 0 = IsSentCell (cell_of sender n) in
+    let x = a.listed in
+    let y = b.listed in
+    let samples : x.samples ≡ y.samples = same_samples sender n x.samples y.samples x.made y.made in
+    let same : a.entries ≡ b.entries = same_list sender y.samples a.entries b.entries (subst (λ s. IsListOf sender s a.entries) samples x.is_list) y.is_list in
     let held : a.tells.held ≡ b.tells.held = one_count P b.entries a.tells.held b.tells.held (subst (λ (l : List Entry). Counts P l a.tells.held) same a.tells.counts) b.tells.counts in
-    a.tells.text ∙ ap (λ l. text_with n l a.tells.held) same ∙ ap (text_with n b.entries) held ∙ sym b.tells.text
+    a.tells.text ∙ ap (λ l. text_with (cell_of sender n) l a.tells.held) same ∙ ap (text_with (cell_of sender n) b.entries) held ∙ sym b.tells.text
 
--- the recording is a clean one of the cell of that number
+-- ---- the sent cell is held
+
+-- the list has it, and of it one entry alone
+record Holds (cell : SentCell) (entries : List Entry) : Type 0 where
+  entry : Entry
+  inside : Contains entries entry
+  is : IsSentCell cell entry
+  only : (other : Entry) → Contains entries other → IsSentCell cell other → other ≡ entry
+
+-- with one antenna port
 clean_of : (n : ℕ) (made : Made) → IsMade n made → IsCleanlyMade made → IsClean made.recording (plan n) (number n) (offset n) (gain n) (nat_abs made.bound)
 clean_of n made m clean =
     let t = made.sent in
@@ -40,27 +77,105 @@ clean_of n made m clean =
     (subst (λ s. IsClean made.recording (plan n) s t.offset (gain_of t.gain) eps) m.number_is
     (subst (λ p. IsClean made.recording p t.sfn t.offset (gain_of t.gain) eps) m.plan_is clean)))
 
-pub made_is_held : ((n : ℕ) (made : Made) → IsMade n made → IsCleanlyMade made) → WhatIsMadeIsHeld
-made_is_held law n output small m =
-    let held = m.is_list.holds (plan n) (number n) (offset n) (gain n) (nat_abs m.made.bound) (is_sendable n) (clean_of n m.made m.is_made (law n m.made m.is_made)) in
-    let is : IsSentCell (plan n) (first_of n) (number_of n) held.entry = record { id = held.id; start = held.start; sfn = held.sfn; sent = held.sent } in
-    let one : m.tells.held ≡ 1 =
-    one_counted IsBefore (IsSentCell (plan n) (first_of n) (number_of n)) (λ x before. before_after x x before before) m.entries held.entry m.tells.held m.is_list.explained.listed.in_order held.inside is
-    (λ x inside p. held.only x inside p.id p.start p.sfn) m.tells.counts in
-    record { entries = m.entries; once = m.tells.text ∙ ap (text_with n m.entries) one }
-
--- what tells of the sent cell and the list of a made recording is its text
-pub made_text_is : (n : ℕ) (made : Made) (entries : List Entry) (output : List ℕ) → IsMade n made → IsListOfCells made.recording entries
-    → TellsHeld made.sent.cell (start_of made.sent.offset) (number_at_start made.sent.sfn made.sent.offset) entries output → IsMadeText n output
-made_text_is n made entries output m is_list h =
-    let t = made.sent in
+holds_one : (n : ℕ) (made : Made) (entries : List Entry) → IsMade n made → IsCleanlyMade made → IsListOfCells made.recording entries → Holds (cell_of OnePort n) entries
+holds_one n made entries m clean l =
+    let held = l.holds (plan n) (number n) (offset n) (gain n) (nat_abs made.bound) (is_sendable n) (clean_of n made m clean) in
     record {
-      made = made;
-      is_made = m;
-      entries = entries;
-      is_list = is_list;
-      tells =
-          subst (λ o. TellsHeld (plan n) (start_of o) (number_at_start (number n) o) entries output) m.offset_is
-          (subst (λ s. TellsHeld (plan n) (start_of t.offset) (number_at_start s t.offset) entries output) m.number_is
-          (subst (λ p. TellsHeld p (start_of t.offset) (number_at_start t.sfn t.offset) entries output) m.plan_is h));
+      entry = held.entry;
+      inside = held.inside;
+      is = record { id = held.id; start = held.start; sfn = held.sfn; ports = held.sent.ports; block = held.sent.block; sib1 = held.sent.sib1 };
+      only = λ other inside p. held.only other inside p.id p.start p.sfn;
     }
+
+-- with two
+clean_of_two : (n : ℕ) (made : TwoMade) → IsMadeOfTwo n made → IsCleanlyMadeOfTwo made →
+    IsCleanOfPorts made.recording (plan n) (number n) (offset n) (gain_at made 0) (gain_at made 1) (nat_abs made.bound)
+clean_of_two n made m clean =
+    let first = gain_at made 0 in
+    let second = gain_at made 1 in
+    let eps = nat_abs made.bound in
+    subst (λ o. IsCleanOfPorts made.recording (plan n) (number n) o first second eps) m.offset_is
+    (subst (λ s. IsCleanOfPorts made.recording (plan n) s made.offset first second eps) m.number_is
+    (subst (λ p. IsCleanOfPorts made.recording p made.sfn made.offset first second eps) m.plan_is clean))
+
+holds_two : (n : ℕ) (made : TwoMade) (entries : List Entry) → IsMadeOfTwo n made → IsCleanlyMadeOfTwo made → IsListOfTwo made.recording entries → Holds (cell_of TwoPorts n) entries
+holds_two n made entries m clean l =
+    let held = l.holds (plan n) (number n) (offset n) (gain_at made 0) (gain_at made 1) (nat_abs made.bound) (sendable_of_two n) (clean_of_two n made m clean) in
+    record {
+      entry = held.entry;
+      inside = held.inside;
+      is = record { id = held.id; start = held.start; sfn = held.sfn; ports = held.sent.ports; block = held.sent.block; sib1 = held.sent.sib1 };
+      only = λ other inside p. held.only other inside p.id p.start p.sfn;
+    }
+
+-- with the extended prefix
+clean_of_long : (n : ℕ) (made : LongMade) → IsMadeLong n made → IsCleanlyMadeOfLong made →
+    IsCleanOfLong made.recording made.plan (number n) (offset n) (gain_of made.gain) (nat_abs made.bound)
+clean_of_long n made m clean =
+    let gain = gain_of made.gain in
+    let eps = nat_abs made.bound in
+    subst (λ o. IsCleanOfLong made.recording made.plan (number n) o gain eps) m.offset_is
+    (subst (λ s. IsCleanOfLong made.recording made.plan s made.offset gain eps) m.number_is clean)
+
+holds_long : (n : ℕ) (made : LongMade) (entries : List Entry) → IsMadeLong n made → IsCleanlyMadeOfLong made → IsListOfLong made.recording entries → Holds (cell_of LongPrefix n) entries
+holds_long n made entries m clean l =
+    let p = m.plan_is in
+    let held = l.holds made.plan (number n) (offset n) (gain_of made.gain) (nat_abs made.bound) (is_identity n made.plan p) (clean_of_long n made m clean) in
+    let sent = held.sent.block in
+    record {
+      entry = held.entry;
+      inside = held.inside;
+      is = record {
+        id = held.id ∙ p.id;
+        start = held.start;
+        sfn = held.sfn;
+        ports = held.sent.ports;
+        block = record {
+          bandwidth = sent.bandwidth;
+          duration = sent.duration ∙ p.block.duration;
+          resource = sent.resource ∙ p.block.resource;
+          upper = sent.upper;
+          spare = sent.spare ∙ p.block.spare;
+        };
+        sib1 = held.sent.sib1;
+      };
+      only = λ other inside q. held.only other inside (q.id ∙ sym p.id) q.start q.sfn;
+    }
+
+-- the list is in order
+in_order : (sender : Sender) (samples : List Sample) (entries : List Entry) → IsListOf sender samples entries → AllPairs IsBefore entries
+in_order OnePort samples entries l = l.explained.listed.in_order
+in_order TwoPorts samples entries l = l.explained.listed.in_order
+in_order LongPrefix samples entries l = l.explained.listed.in_order
+
+-- so it is counted once
+held_once : (sender : Sender) (n : ℕ) (output : List ℕ) (m : IsMadeText sender n output) → Holds (cell_of sender n) m.entries → IsHeldOnce n output
+held_once sender n output m h =
+    let one : m.tells.held ≡ 1 =
+    one_counted IsBefore (IsSentCell (cell_of sender n)) (λ x before. before_after x x before before) m.entries h.entry m.tells.held (in_order sender m.listed.samples m.entries m.listed.is_list) h.inside h.is
+    h.only m.tells.counts in
+    record { entries = m.entries; once = m.tells.text ∙ ap (text_with (cell_of sender n) m.entries) one ∙ ap (λ line. line ++ report_text m.entries) (same_line sender n) }
+  where
+    same_line : (sender : Sender) (n : ℕ) →
+        made_line (cell_of sender n).identity (cell_of sender n).first (cell_of sender n).number 1 ≡ made_line (plan n).identity (first_of n) (number_of n) 1
+    same_line OnePort n = refl
+    same_line TwoPorts n = refl
+    same_line LongPrefix n = refl
+
+pub made_is_held : ((n : ℕ) (made : Made) → IsMade n made → IsCleanlyMade made) →
+    ((n : ℕ) (made : TwoMade) → IsMadeOfTwo n made → IsCleanlyMadeOfTwo made) →
+    ((n : ℕ) (made : LongMade) → IsMadeLong n made → IsCleanlyMadeOfLong made) → WhatIsMadeIsHeld
+made_is_held one two long OnePort n output small m =
+    held_once OnePort n output m (holds_one n m.listed.made.made m.entries m.listed.made.is (one n m.listed.made.made m.listed.made.is) (subst (λ s. IsListOfCells s m.entries) m.listed.made.are m.listed.is_list))
+made_is_held one two long TwoPorts n output small m =
+    held_once TwoPorts n output m (holds_two n m.listed.made.made m.entries m.listed.made.is (two n m.listed.made.made m.listed.made.is) (subst (λ s. IsListOfTwo s m.entries) m.listed.made.are m.listed.is_list))
+made_is_held one two long LongPrefix n output small m =
+    held_once LongPrefix n output m (holds_long n m.listed.made.made m.entries m.listed.made.is (long n m.listed.made.made m.listed.made.is) (subst (λ s. IsListOfLong s m.entries) m.listed.made.are m.listed.is_list))
+
+-- ---- the list of what is made
+
+-- a list of made samples is one
+pub made_list_is : {E : Type 0} (sender : Sender) (n : ℕ) (samples : List Sample) (r : Result (List Entry) E) → AreSamplesOf sender n samples →
+    IfOk r (IsListOf sender samples) → IfOk r (IsMadeList sender n)
+made_list_is sender n samples (Ok entries) made is_list = record { samples = samples; made = made; is_list = is_list }
+made_list_is sender n samples (Err e) made is_list = tt

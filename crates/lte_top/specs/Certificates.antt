@@ -3,17 +3,11 @@ use Rattle.std.specs.Prelude.{◌≡◌, ℕ, Bool, List}
 use Rattle.std.specs.List.{AllZip}
 use Rattle.cs_num.specs.declared.Sample.{Sample}
 use Rattle.lte_types.specs.declared.entry.Entry.{Entry}
-use Rattle.explain.specs.Entries.{IsExplained}
-use Rattle.clean_air.specs.Clean.{HoldsCleanCells}
+use Rattle.clean_air.specs.Clean.{IsListOfCells}
 use Rattle.tail_cert.specs.Certificate.{Held}
 use Rattle.cert_stream.specs.Stream.{all_bytes, AreAnswers}
 use Rattle.cert_stream.specs.Certifying.{Certifies}
 use Rattle.report.specs.Answers.{check_text}
-
--- the list of a recording, which holds each cell of which the recording is clean
-pub record IsListOfCells (samples : List Sample) (entries : List Entry) : Type 0 where
-  pub explained : IsExplained samples entries
-  pub holds : HoldsCleanCells samples entries
 
 -- the output is the bytes of certificates, one for each entry of the list, in order
 pub record IsCertified (samples : List Sample) (output : List ℕ) : Type 0 where

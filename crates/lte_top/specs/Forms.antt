@@ -1,13 +1,21 @@
 -- The forms of words that are run: what each reads, which inputs it refuses, and what it writes. (own)
-use Rattle.std.specs.Prelude.{◌≡◌, ℕ, ◌%◌, ◌^◌, ◌<◌, ◌≤◌, Option, Some, None, List, [], ◌∷◌, length, codes, nat_lt, not, ◌==◌, if◌then◌else◌}
-use Rattle.std.specs.Fmt.{decimal}
+use Rattle.std.specs.Prelude.{◌≡◌, ℕ, ◌%◌, ◌^◌, ◌<◌, ◌≤◌, ℤ, pos, negsuc, ◌≤ℤ◌, Option, Some, None, List, [], ◌∷◌, length, codes, nat_lt, not, ◌==◌, if◌then◌else◌}
+use Rattle.std.specs.Fmt.{decimal, signed_decimal}
 use Rattle.sample_file.specs.declared.form.SampleForm.{SampleForm}
 use Rattle.sample_file.specs.declared.form.SampleForm.TheVariants.{Ci16, Cu8}
 use Rattle.sample_file.specs.Recording.{width, samples_in}
 use Rattle.sample_file.specs.Reading.{least_bytes, most_bytes}
+use Rattle.lte_top.specs.declared.form.Program.{Program}
+use Rattle.lte_top.specs.declared.form.Program.TheVariants.{Receiver, Tuner}
 use Rattle.lte_top.specs.declared.form.Form.{Form}
-use Rattle.lte_top.specs.declared.form.Form.TheVariants.{Report as Reports, Certify, Check, Transmit, Make}
+use Rattle.lte_top.specs.declared.form.Form.TheVariants.{Report as Reports, Search as Searches, Certify, Check, Transmit, Make, Tune as Tunes}
 use Rattle.lte_top.specs.declared.form.Report.TheVariants.{Hits, Ids, Search, Json, Evidence}
+use Rattle.lte_top.specs.declared.form.Search.{Search as OtherSearch}
+use Rattle.lte_top.specs.declared.form.Search.TheVariants.{TwoPorts, LongPrefix, Cancel}
+use Rattle.lte_top.specs.declared.form.Sender.{Sender}
+use Rattle.lte_top.specs.declared.form.Sender.TheVariants.{OnePort, TwoPorts as SendsTwo, LongPrefix as SendsLong}
+use Rattle.lte_top.specs.declared.form.Tune.{Tune}
+use Rattle.lte_top.specs.declared.form.Tune.TheVariants.{Tell, Apply, ApplyTurn}
 use Rattle.lte_top.specs.declared.status.Status.{Status}
 use Rattle.lte_top.specs.declared.status.Status.TheVariants.{Done, Usage, Ragged, TooShort, TooLong, ReadFault, WriteFault, OutOfMemory, BadCell, BadCertificate}
 use Rattle.cell_json.specs.Reading.{refusal}
@@ -16,11 +24,36 @@ use Rattle.lte_top.specs.Certificates.{IsChecked, IsCertified}
 use Rattle.cert_stream.specs.Stream.{most_bytes as most_certificate_bytes, IsBrokenAt}
 use Rattle.lte_top.specs.Reports.{IsReport}
 use Rattle.lte_top.specs.Making.{IsMadeText}
+use Rattle.lte_top.specs.Searching.{IsSearch}
+use Rattle.lte_top.specs.Tuning.{IsTuned}
 
 -- the words that name a form of samples, each as its bytes: that of 16 bits has none
 abbrev pub samples_words : SampleForm → List (List ℕ)
 samples_words Ci16 = []
 samples_words Cu8 = codes "--format" ∷ codes "cu8" ∷ []
+
+-- those that name two antenna ports, and the extended prefix
+abbrev pub two_ports_words : List (List ℕ)
+two_ports_words = codes "--ports" ∷ codes "2" ∷ []
+
+abbrev pub long_prefix_words : List (List ℕ)
+long_prefix_words = codes "--prefix" ∷ codes "long" ∷ []
+
+-- those that name the rule of a list, and the sender of a made recording
+abbrev pub search_words : OtherSearch → List (List ℕ)
+search_words TwoPorts = two_ports_words
+search_words LongPrefix = long_prefix_words
+search_words Cancel = codes "--cancel" ∷ []
+
+abbrev pub sender_words : Sender → List (List ℕ)
+sender_words OnePort = []
+sender_words SendsTwo = two_ports_words
+sender_words SendsLong = long_prefix_words
+
+abbrev pub tune_words : Tune → List (List ℕ)
+tune_words Tell = codes "tell" ∷ []
+tune_words Apply = codes "apply" ∷ []
+tune_words (ApplyTurn m) = codes "apply" ∷ signed_decimal m ∷ []
 
 -- the words of a form
 abbrev pub words_of : Form → List (List ℕ)
@@ -29,27 +62,39 @@ words_of (Reports Ids form) = codes "ids" ∷ samples_words form
 words_of (Reports Search form) = codes "search" ∷ samples_words form
 words_of (Reports Json form) = codes "search" ∷ codes "--json" ∷ samples_words form
 words_of (Reports Evidence form) = codes "evidence" ∷ samples_words form
+words_of (Searches search) = codes "search" ∷ search_words search
 words_of (Certify form) = codes "certify" ∷ samples_words form
 words_of Check = codes "check" ∷ []
 words_of Transmit = codes "transmit" ∷ []
-words_of (Make n) = codes "make" ∷ decimal n ∷ []
+words_of (Make sender n) = codes "make" ∷ decimal n ∷ sender_words sender
+words_of (Tunes tune) = tune_words tune
 
--- the number of a form is one of 32 bits
+-- a turn that can be asked for
+abbrev pub IsTurn : ℤ → Type 0
+IsTurn m = (negsuc 2047 ≤ℤ m) × (m ≤ℤ pos 2047)
+
+-- the number of a form is one of 32 bits, or a turn
 abbrev pub IsInRange : Form → Type 0
-IsInRange (Reports report form) = Unit {0}
-IsInRange (Certify form) = Unit {0}
-IsInRange Check = Unit {0}
-IsInRange Transmit = Unit {0}
-IsInRange (Make n) = n < 2 ^ 32
+IsInRange (Make sender n) = n < 2 ^ 32
+IsInRange (Tunes (ApplyTurn m)) = IsTurn m
+IsInRange form = Unit {0}
 
--- the words are those of this form
-pub record IsWordsOf (words : List (List ℕ)) (form : Form) : Type 0 where
+-- the form is one of the program
+abbrev pub IsFormOf : Program → Form → Type 0
+IsFormOf Receiver (Tunes tune) = ⊥
+IsFormOf Receiver form = Unit {0}
+IsFormOf Tuner (Tunes tune) = Unit {0}
+IsFormOf Tuner form = ⊥
+
+-- the words are those of this form of the program
+pub record IsWordsOf (program : Program) (words : List (List ℕ)) (form : Form) : Type 0 where
+  pub known : IsFormOf program form
   pub words_are : words ≡ words_of form
   pub in_range : IsInRange form
 
--- the words are those of no form
-abbrev pub IsNoForm : List (List ℕ) → Type 0
-IsNoForm words = (form : Form) → IsWordsOf words form → ⊥
+-- the words are those of no form of the program
+abbrev pub IsNoForm : Program → List (List ℕ) → Type 0
+IsNoForm program words = (form : Form) → IsWordsOf program words form → ⊥
 
 -- ---- what is read
 
@@ -65,7 +110,9 @@ input_of (Reports report form) = recording form
 input_of (Certify form) = recording form
 input_of Check = certificates
 input_of Transmit = description
-input_of (Make n) = nothing
+input_of (Make sender n) = nothing
+input_of (Searches search) = recording Ci16
+input_of (Tunes tune) = recording Ci16
 
 -- the most bytes that are read
 abbrev pub limit_of : Input → ℕ
@@ -121,7 +168,9 @@ IsOutput (Reports report form) bytes output = IsReport report (samples_in form b
 IsOutput (Certify form) bytes output = IsCertified (samples_in form bytes) output
 IsOutput Check bytes output = IsChecked bytes output
 IsOutput Transmit bytes output = IsTransmitted bytes output
-IsOutput (Make n) bytes output = IsMadeText n output
+IsOutput (Make sender n) bytes output = IsMadeText sender n output
+IsOutput (Searches search) bytes output = IsSearch search (samples_in Ci16 bytes) output
+IsOutput (Tunes tune) bytes output = IsTuned tune (samples_in Ci16 bytes) output
 
 -- ---- exit codes
 

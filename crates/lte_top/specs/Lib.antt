@@ -1,8 +1,11 @@
 pub mod Certificates
 pub mod Transmitting
 pub mod Reports
+pub mod Searching
+pub mod Tuning
 pub mod Making
 pub mod Forms
 pub mod Errors
 pub mod Run
 pub mod Found
+pub mod Applied

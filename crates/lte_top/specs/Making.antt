@@ -1,53 +1,112 @@
 -- What `make N` writes: a line on recording number N and its cell, and the text of its list. (own)
-use Rattle.std.specs.Prelude.{◌≡◌, ◌⊎◌, ℕ, ◌+◌, ◌<◌, ◌^◌, List, [], ◌∷◌, ◌++◌}
+use Rattle.std.specs.Prelude.{◌≡◌, ◌⊎◌, ℕ, ◌+◌, ◌/◌, ◌<◌, ◌^◌, List, [], ◌∷◌, ◌++◌, Result, Ok, Err}
+use Rattle.cs_num.specs.declared.Sample.{Sample}
+use Rattle.lte_types.specs.declared.bandwidth.Bandwidth.TheVariants.{N6}
 use Rattle.lte_types.specs.declared.entry.Entry.{Entry}
-use Rattle.cell_tx.specs.declared.cell.CellPlan.{CellPlan}
+use Rattle.lte_types.specs.declared.sib1.Sib1.{Sib1}
+use Rattle.lte_types.specs.declared.sib1_reason.Sib1Reason.{Sib1Reason}
+use Rattle.lte_types.specs.declared.sib1_reason.Sib1Reason.TheVariants.{LongPrefix}
+use Rattle.lte_types.specs.Block.{HasFields}
 use Rattle.cell_tx.specs.Clean.{start_of, number_at_start}
-use Rattle.clean_air.specs.Clean.{IsSentEntry}
 use Rattle.capture_make.specs.declared.made.Made.{Made}
 use Rattle.capture_make.specs.Made.{IsMade}
 use Rattle.capture_make.specs.Recipe.{plan, number, offset}
+use Rattle.two_tx.specs.declared.made.TwoMade.{TwoMade}
+use Rattle.two_tx.specs.Made.{IsMade as IsMadeOfTwo}
+use Rattle.long_prefix.specs.declared.made.LongMade.{LongMade}
+use Rattle.long_prefix.specs.Made.{IsMadeLong}
 use Rattle.report.specs.Lines.{made_line, report_text}
-use Rattle.lte_top.specs.Certificates.{IsListOfCells}
+use Rattle.lte_top.specs.declared.making.SentCell.{SentCell}
+use Rattle.lte_top.specs.declared.form.Sender.{Sender}
+use Rattle.lte_top.specs.declared.form.Sender.TheVariants.{OnePort, TwoPorts, LongPrefix as Long}
+use Rattle.clean_air.specs.Clean.{IsListOfCells}
+use Rattle.lte_top.specs.Searching.{IsListOfTwo, IsListOfLong}
 
 -- so many members of a list have a property
 unfoldable pub Counts : {A : Type 0} → (A → Type 0) → List A → ℕ → Type 0
 Counts P [] n = n ≡ 0
 Counts P (x ∷ xs) n = (P x × ((m : ℕ) × (n ≡ m + 1) × Counts P xs m)) ⊎ ((P x → ⊥) × Counts P xs n)
 
--- the entry is a sent cell: its identity, start and frame number, and all that it sends
-pub record IsSentCell (plan : CellPlan) (first number : ℕ) (entry : Entry) : Type 0 where
-  pub id : entry.id ≡ plan.identity
-  pub start : entry.start ≡ first
-  pub sfn : entry.sfn ≡ number
-  pub sent : IsSentEntry plan number entry
+-- ---- the cell that is sent
+
+-- the entry is this cell
+pub record IsSentCell (cell : SentCell) (entry : Entry) : Type 0 where
+  pub id : entry.id ≡ cell.identity
+  pub start : entry.start ≡ cell.first
+  pub sfn : entry.sfn ≡ cell.number
+  pub ports : entry.ports ≡ cell.ports
+  pub block : HasFields entry.mib N6 cell.duration cell.resource (cell.number / 4) cell.spare
+  pub sib1 : entry.sib1 ≡ cell.sib1
 
 -- the output is the line of a sent cell, with the count of entries that are this cell, and then the text of the list
-pub record TellsHeld (plan : CellPlan) (first number : ℕ) (entries : List Entry) (output : List ℕ) : Type 0 where
+pub record TellsHeld (cell : SentCell) (entries : List Entry) (output : List ℕ) : Type 0 where
   pub held : ℕ
-  pub counts : Counts (IsSentCell plan first number) entries held
-  pub text : output ≡ made_line plan.identity first number held ++ report_text entries
+  pub counts : Counts (IsSentCell cell) entries held
+  pub text : output ≡ made_line cell.identity cell.first cell.number held ++ report_text entries
 
--- where the first frame of the cell of recording number n begins, and that frame's number
+-- ---- recording number n of a sender
+
+-- where the first frame of its cell begins, and that frame's number
 abbrev pub first_of : ℕ → ℕ
 first_of n = start_of (offset n)
 
 abbrev pub number_of : ℕ → ℕ
 number_of n = number_at_start (number n) (offset n)
 
+-- the cell, with so many antenna ports and this told of its system information
+abbrev pub cell_with : ℕ → ℕ → Result Sib1 Sib1Reason → SentCell
+cell_with n ports sib1 = record {
+  identity = (plan n).identity;
+  first = first_of n;
+  number = number_of n;
+  ports = ports;
+  duration = (plan n).duration;
+  resource = (plan n).resource;
+  spare = (plan n).spare;
+  sib1 = sib1;
+}
+
+abbrev pub cell_of : Sender → ℕ → SentCell
+cell_of OnePort n = cell_with n 1 (Ok (plan n).sib1)
+cell_of TwoPorts n = cell_with n 2 (Ok (plan n).sib1)
+cell_of Long n = cell_with n 1 (Err LongPrefix)
+
+-- the samples are those that were made
+pub record AreMade {M : Type 0} (Is : M → Type 0) (recording_of : M → List Sample) (samples : List Sample) : Type 0 where
+  pub made : M
+  pub is : Is made
+  pub are : samples ≡ recording_of made
+
+abbrev pub AreSamplesOf : Sender → ℕ → List Sample → Type 0
+AreSamplesOf OnePort n = AreMade (IsMade n) (λ (made : Made). made.recording)
+AreSamplesOf TwoPorts n = AreMade (IsMadeOfTwo n) (λ (made : TwoMade). made.recording)
+AreSamplesOf Long n = AreMade (IsMadeLong n) (λ (made : LongMade). made.recording)
+
+-- the list that tells such a cell
+abbrev pub IsListOf : Sender → List Sample → List Entry → Type 0
+IsListOf OnePort = IsListOfCells
+IsListOf TwoPorts = IsListOfTwo
+IsListOf Long = IsListOfLong
+
+-- the list of recording number n
+pub record IsMadeList (sender : Sender) (n : ℕ) (entries : List Entry) : Type 0 where
+  pub samples : List Sample
+  pub made : AreSamplesOf sender n samples
+  pub is_list : IsListOf sender samples entries
+
 -- the output is the line of recording number n, and then the text of its list
-pub record IsMadeText (n : ℕ) (output : List ℕ) : Type 0 where
-  pub made : Made
-  pub is_made : IsMade n made
+pub record IsMadeText (sender : Sender) (n : ℕ) (output : List ℕ) : Type 0 where
   pub entries : List Entry
-  pub is_list : IsListOfCells made.recording entries
-  pub tells : TellsHeld (plan n) (first_of n) (number_of n) entries output
+  pub listed : IsMadeList sender n entries
+  pub tells : TellsHeld (cell_of sender n) entries output
+
+-- ---- its cell is held
 
 -- the line of recording number n ends in `held 1`, and the text of a list follows
 pub record IsHeldOnce (n : ℕ) (output : List ℕ) : Type 0 where
   pub entries : List Entry
   pub once : output ≡ made_line (plan n).identity (first_of n) (number_of n) 1 ++ report_text entries
 
--- a law: so is what `make N` writes, for every number of 32 bits
+-- a law: so is what `make N` writes, for each sender and every number of 32 bits
 abbrev pub WhatIsMadeIsHeld : Type 0
-WhatIsMadeIsHeld = (n : ℕ) (output : List ℕ) → n < 2 ^ 32 → IsMadeText n output → IsHeldOnce n output
+WhatIsMadeIsHeld = (sender : Sender) (n : ℕ) (output : List ℕ) → n < 2 ^ 32 → IsMadeText sender n output → IsHeldOnce n output

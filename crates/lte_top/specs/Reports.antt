@@ -17,7 +17,7 @@ use Rattle.report.specs.Json.{json_text}
 use Rattle.report.specs.Lines.{report_text}
 use Rattle.lte_top.specs.declared.form.Report.{Report}
 use Rattle.lte_top.specs.declared.form.Report.TheVariants.{Hits, Ids, Search, Json, Evidence}
-use Rattle.lte_top.specs.Certificates.{IsListOfCells}
+use Rattle.clean_air.specs.Clean.{IsListOfCells}
 
 -- a hit of a recording with the identity of its cell, the half that it stands in, and where a frame begins
 abbrev pub identified : List Sample → Hit → IdentifiedHit

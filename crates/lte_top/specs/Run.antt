@@ -4,6 +4,7 @@ use Rattle.std.specs.Prelude.{◌≡◌, ◌≢◌, ◌⊎◌, ℕ, ◌+◌, ◌
 use Rattle.cs_outside.specs.Counts.{Rose}
 use Rattle.cs_outside.specs.Outside.{SourceTold, Outside, NothingRead, NothingWritten}
 use Rattle.cs_outside.specs.Streams.{HasRead, HasReadAll, HasFailedAfter, IsAtEnd, HasWritten, HasWrittenFront, IsShortOf}
+use Rattle.lte_top.specs.declared.form.Program.{Program}
 use Rattle.lte_top.specs.declared.form.Form.{Form}
 use Rattle.lte_top.specs.declared.status.Status.{Status}
 use Rattle.lte_top.specs.declared.status.Status.TheVariants.{Done, Usage, TooLong, ReadFault, WriteFault, OutOfMemory}
@@ -108,21 +109,21 @@ Ends form before now Done = IsDone form before now
 Ends form before now WriteFault = IsWriteFault form before now
 Ends form before now status = IsRefused form status before now
 
--- the words are of a form, whose run ended so
-pub record RunsForm (words : List (List ℕ)) (before now : Outside) (status : Status) : Type 0 where
+-- the words are of a form of the program, whose run ended so
+pub record RunsForm (program : Program) (words : List (List ℕ)) (before now : Outside) (status : Status) : Type 0 where
   pub form : Form
-  pub is_of : IsWordsOf words form
+  pub is_of : IsWordsOf program words form
   pub ends : Ends form before now status
 
--- Usage: the words are those of no form, and nothing was read or written
-pub record IsUsage (words : List (List ℕ)) (before now : Outside) : Type 0 where
-  pub no_form : IsNoForm words
+-- Usage: the words are those of no form of the program, and nothing was read or written
+pub record IsUsage (program : Program) (words : List (List ℕ)) (before now : Outside) : Type 0 where
+  pub no_form : IsNoForm program words
   pub unread : NothingRead before.0 now.0
   pub unwritten : NothingWritten before.1 now.1
 
-abbrev pub Outcome : List (List ℕ) → Outside → Outside → Status → Type 0
-Outcome words before now Usage = IsUsage words before now
-Outcome words before now status = RunsForm words before now status
+abbrev pub Outcome : Program → List (List ℕ) → Outside → Outside → Status → Type 0
+Outcome program words before now Usage = IsUsage program words before now
+Outcome program words before now status = RunsForm program words before now status
 
 -- ---- the answer that an input has
 
@@ -152,29 +153,31 @@ IsTold certificates bytes before = before.left ≡ Some bytes
 IsTold description bytes before = before.left ≡ Some bytes
 
 -- words of a form, and the bytes of its input, where the source tells them
-pub record IsAsked (words : List (List ℕ)) (before : Outside) (form : Form) (bytes : List ℕ) : Type 0 where
-  pub is_of : IsWordsOf words form
+pub record IsAsked (program : Program) (words : List (List ℕ)) (before : Outside) (form : Form) (bytes : List ℕ) : Type 0 where
+  pub is_of : IsWordsOf program words form
   pub told : IsTold (input_of form) bytes before.0
 
 -- the answer is one that the input may have
-abbrev pub IsAnswered : List (List ℕ) → Outside → Outside → Status → Type 0
-IsAnswered words before now status = (form : Form) (bytes : List ℕ) → IsAsked words before form bytes → MayAnswer (input_of form) bytes before now status
+abbrev pub IsAnswered : Program → List (List ℕ) → Outside → Outside → Status → Type 0
+IsAnswered program words before now status = (form : Form) (bytes : List ℕ) → IsAsked program words before form bytes → MayAnswer (input_of form) bytes before now status
 
 -- valid bytes are done where no fault was counted, but for want of memory
-abbrev pub IsComplete : List (List ℕ) → Outside → Outside → Status → Type 0
-IsComplete words before now status = (form : Form) (bytes : List ℕ) → IsAsked words before form bytes → IsValid (input_of form) bytes →
+abbrev pub IsComplete : Program → List (List ℕ) → Outside → Outside → Status → Type 0
+IsComplete program words before now status =
+    (form : Form) (bytes : List ℕ) → IsAsked program words before form bytes → IsValid (input_of form) bytes →
     ¬ Rose before.0.faults now.0.faults → ¬ Rose before.1.faults now.1.faults → (status ≡ Done) ⊎ (status ≡ OutOfMemory)
 
 -- a sink that tells room for the whole output has no fault
-abbrev pub HasRoom : List (List ℕ) → Outside → Status → Type 0
-HasRoom words before status = (form : Form) (bytes output : List ℕ) (room : ℕ) → IsAsked words before form bytes → before.1.room ≡ Some room →
+abbrev pub HasRoom : Program → List (List ℕ) → Outside → Status → Type 0
+HasRoom program words before status =
+    (form : Form) (bytes output : List ℕ) (room : ℕ) → IsAsked program words before form bytes → before.1.room ≡ Some room →
     IsOutput form bytes output → length output ≤ room → status ≢ WriteFault
 
--- what a run of these words does between two moments
-pub record Runs (words : List (List ℕ)) (before now : Outside) (status : Status) : Type 0 where
-  pub outcome : Outcome words before now status
-  pub answered : IsAnswered words before now status
-  pub complete : IsComplete words before now status
-  pub has_room : HasRoom words before status
+-- what a run of these words by a program does between two moments
+pub record Runs (program : Program) (words : List (List ℕ)) (before now : Outside) (status : Status) : Type 0 where
+  pub outcome : Outcome program words before now status
+  pub answered : IsAnswered program words before now status
+  pub complete : IsComplete program words before now status
+  pub has_room : HasRoom program words before status
   pub read_faults_stay : before.0.faults ≤ now.0.faults
   pub write_faults_stay : before.1.faults ≤ now.1.faults

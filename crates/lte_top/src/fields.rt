@@ -5,13 +5,14 @@ ghost use Rattle.std.specs.Bool.{Decides};
 
 use lte_types::{Plmn, SiMessage, Sib1, Sib1Reason};
 
-// Whether an answer on system information is these fields.
-pub(crate) fn tells_fields(told: &Result<Sib1, Sib1Reason>, fields: &Sib1) -> bool
-    ensures { IsTrue result ↔ (told.now ≡ Ok fields.now) }
+// Whether two answers on system information are the same.
+pub(crate) fn same_answer(a: &Result<Sib1, Sib1Reason>, b: &Result<Sib1, Sib1Reason>) -> bool
+    ensures { IsTrue result ↔ (a.now ≡ b.now) }
 {
-    match told {
-        Ok(own) => same_fields(own, fields),
-        Err(_) => false,
+    match (a, b) {
+        (Ok(own), Ok(other)) => same_fields(own, other),
+        (Err(own), Err(other)) => own == other,
+        _ => false,
     }
 }
 

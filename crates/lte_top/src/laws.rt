@@ -1,10 +1,10 @@
 //! Laws of what is answered and written.
 
+ghost use Rattle.lte_top.specs.Applied.{WhatIsAppliedIsTold};
 ghost use Rattle.lte_top.specs.Found.{WhatIsSentIsFound};
 ghost use Rattle.lte_top.specs.Making.{WhatIsMadeIsHeld};
 ghost use Rattle.lte_top.specs.Run.{HasOneAnswer};
 
-use capture_make::made_is_clean;
 use cell_tx::sent_is_clean;
 
 /// A law of the answers: the bytes of an input have one answer, so that each is given exactly where
@@ -21,9 +21,20 @@ pub fn what_is_sent_is_found()
     sent_is_clean();
 }
 
-/// The line of `make N` ends in `held 1`, for every N: the list of the recording holds the cell that was sent once.
+/// The line of `make N` ends in `held 1`, for each sender and every N: the list of the recording holds the cell that was
+/// sent once.
 pub fn what_is_made_is_held()
     ensures { WhatIsMadeIsHeld }
 {
-    made_is_clean();
+    capture_make::made_is_clean();
+    two_tx::made_is_clean();
+    long_prefix::made_is_clean();
+}
+
+/// What `apply` writes for a recording is, read as one, a recording, and has as many cells as `tell` writes.
+pub fn what_is_applied_is_told()
+    ensures { WhatIsAppliedIsTold }
+{
+    turning::turned_recordings();
+    turning::the_turn_told();
 }

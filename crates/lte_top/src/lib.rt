@@ -7,13 +7,17 @@ mod form;
 mod laws;
 mod making;
 mod reporting;
+mod searching;
 mod status;
 mod top;
 mod transmitting;
+mod tuning;
 mod words;
 
-pub use form::{Form, Report};
-pub use laws::{an_input_has_one_answer, what_is_made_is_held, what_is_sent_is_found};
+pub use form::{Form, Program, Report, Search, Sender, Tune};
+pub use laws::{
+    an_input_has_one_answer, what_is_applied_is_told, what_is_made_is_held, what_is_sent_is_found,
+};
 pub use status::Status;
-pub use top::{run, run_in_memory};
+pub use top::{run, run_in_memory, run_program};
 pub use words::Words;

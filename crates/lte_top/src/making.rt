@@ -1,22 +1,136 @@
-//! The list of a recording by number.
+//! The lists of recordings by number.
 
-ghost use Rattle.std.specs.Prelude.{◌≡◌, ◌↔◌, ◌≤◌, All, IfOk, IsTrue, length, string_bytes};
+ghost use Rattle.std.specs.Prelude.{◌≡◌, ◌↔◌, ◌≤◌, ℕ, All, IfOk, IsTrue, length, string_bytes};
 ghost use Rattle.cell_tx.specs.Clean.{IsOffset, start_of, number_at_start};
-ghost use Rattle.clean_air.specs.Clean.{IsSentEntry};
+ghost use Rattle.capture_make.specs.Recipe.{plan as plan_of};
 ghost use Rattle.report.specs.Lines.{IsValidEntry};
-ghost use Rattle.lte_top.specs.Making.{Counts, IsSentCell, TellsHeld, IsMadeText};
+ghost use Rattle.lte_top.specs.Making.{Counts, IsSentCell, TellsHeld, cell_of, IsMadeList, IsMadeText};
 
-use crate::fields::tells_fields;
-use crate::reporting::room_for_list;
-use capture_make::make;
-use cell_tx::{CellPlan, Transmission};
-use clean_air::explain_clean;
-use lte_types::{Bandwidth, Entry, FRAME_LENGTH, Sfn};
+use crate::fields::same_answer;
+use crate::form::Sender;
+use crate::reporting::list_of;
+use crate::searching::{list_of_long, list_of_two};
+use capture_make::{number, offset, plan};
+use explain::EntryList;
+use lte_types::{Bandwidth, Duration, Entry, FRAME_LENGTH, Resource, Sfn, Sib1, Sib1Reason};
 use report::{line_of_made, text};
 use std::alloc::{AllocError, Global};
 
 // The samples of a frame.
 const FRAME: u32 = FRAME_LENGTH as u32;
+
+// What is sent of a cell: where its first frame begins, that frame's number, and what its entry tells.
+#[derive(Drop)]
+pub(crate) struct SentCell {
+    pub identity: u16,
+    pub first: u32,
+    pub number: Sfn,
+    pub ports: u8,
+    pub duration: Duration,
+    pub resource: Resource,
+    pub spare: u16,
+    pub sib1: Result<Sib1, Sib1Reason>,
+}
+
+// The line of recording number n of a sender, and the text of its list. Nothing is read.
+pub(crate) fn made_text(alloc: Global, sender: Sender, n: u32) -> Result<String, AllocError>
+    ensures { IfOk result (λ text. IsMadeText sender n (string_bytes text)) }
+{
+    let list = made_list(alloc, sender, n)?;
+    text_of_sent(alloc, &sent_cell(sender, n), list.slice())
+}
+
+// The list of recording number n of a sender.
+fn made_list(alloc: Global, sender: Sender, n: u32) -> Result<EntryList, AllocError>
+    ensures list { IfOk result (IsMadeList sender n) }
+    ensures valid { IfOk result (All IsValidEntry) }
+{
+    match sender {
+        Sender::OnePort => list_of(alloc, &capture_make::make(alloc, n)?.recording),
+        Sender::TwoPorts => list_of_two(alloc, &two_tx::make(alloc, n)?.recording),
+        Sender::LongPrefix => list_of_long(alloc, &long_prefix::make(alloc, n)?.recording),
+    }
+}
+
+// The cell of recording number n of a sender.
+fn sent_cell(sender: Sender, n: u32) -> SentCell
+    ensures { result ≡ cell_of sender n }
+{
+    let plan = plan(n);
+    SentCell {
+        identity: plan.identity,
+        first: first_start(offset(n)),
+        number: first_number(number(n), offset(n)),
+        ports: ports_of(sender),
+        duration: plan.duration,
+        resource: plan.resource,
+        spare: plan.spare,
+        sib1: told_by(sender, plan.sib1),
+    }
+}
+
+// How many antenna ports a sender has.
+fn ports_of(sender: Sender) -> u8
+    ensures { (n : ℕ) → result ≡ (cell_of sender n).ports }
+{
+    match sender {
+        Sender::OnePort | Sender::LongPrefix => 1,
+        Sender::TwoPorts => 2,
+    }
+}
+
+// What is told of the system information that a sender has.
+fn told_by(sender: Sender, sib1: Sib1) -> Result<Sib1, Sib1Reason>
+    ensures { (n : ℕ) → sib1 ≡ (plan_of n).sib1 → result ≡ (cell_of sender n).sib1 }
+{
+    match sender {
+        Sender::OnePort | Sender::TwoPorts => Ok(sib1),
+        Sender::LongPrefix => Err(Sib1Reason::LongPrefix),
+    }
+}
+
+// The line of a sent cell, and the text of a list.
+fn text_of_sent(alloc: Global, cell: &SentCell, list: &[Entry]) -> Result<String, AllocError>
+    requires { All IsValidEntry list.now }
+    ensures { IfOk result (λ text. TellsHeld cell.now list.now (string_bytes text)) }
+{
+    let held = count_held(list, cell);
+    let mut output = line_of_made(alloc, cell.identity, cell.first, cell.number.value(), held)?;
+    let lines = text(alloc, list)?;
+    output.push_str(&lines)?;
+    Ok(output)
+}
+
+// How many entries of a list are this sent cell.
+fn count_held(list: &[Entry], cell: &SentCell) -> usize
+    ensures counts { Counts (IsSentCell cell.now) list.now result }
+    ensures bound { result ≤ length list.now }
+{
+    let mut held = 0;
+    for entry in list {
+        if is_sent_cell(entry, cell) {
+            held += 1;
+        }
+    }
+    held
+}
+
+// Whether an entry is this sent cell.
+fn is_sent_cell(entry: &Entry, cell: &SentCell) -> bool
+    ensures { IsTrue result ↔ IsSentCell cell.now entry.now }
+{
+    let mib = &entry.mib;
+    entry.id.value() == cell.identity
+        && entry.start == cell.first
+        && entry.sfn == cell.number
+        && entry.ports == cell.ports
+        && mib.bandwidth == Bandwidth::N6
+        && mib.duration == cell.duration
+        && mib.resource == cell.resource
+        && mib.upper as u16 == cell.number.value() / 4
+        && mib.spare == cell.spare
+        && same_answer(&entry.sib1, &cell.sib1)
+}
 
 // The first sample at which a frame begins, where what is sent begins at an offset into one.
 fn first_start(offset: u32) -> u32
@@ -35,68 +149,4 @@ fn first_number(sfn: Sfn, offset: u32) -> Sfn
     } else {
         Sfn::modulo(sfn.value() as u64 + 1)
     }
-}
-
-// Whether an entry is as a cell sends it in the frame with this number.
-fn is_as_sent(entry: &Entry, plan: &CellPlan, number: Sfn) -> bool
-    ensures { IsTrue result ↔ IsSentEntry plan.now number entry.now }
-{
-    let mib = &entry.mib;
-    entry.ports == 1
-        && mib.bandwidth == Bandwidth::N6
-        && mib.duration == plan.duration
-        && mib.resource == plan.resource
-        && mib.upper as u16 == number.value() / 4
-        && mib.spare == plan.spare
-        && tells_fields(&entry.sib1, &plan.sib1)
-}
-
-// Whether an entry is this sent cell.
-fn is_sent_cell(entry: &Entry, plan: &CellPlan, first: u32, number: Sfn) -> bool
-    ensures { IsTrue result ↔ IsSentCell plan.now first number entry.now }
-{
-    entry.id.value() == plan.identity
-        && entry.start == first
-        && entry.sfn == number
-        && is_as_sent(entry, plan, number)
-}
-
-// How many entries of a list are this sent cell.
-fn count_held(list: &[Entry], plan: &CellPlan, first: u32, number: Sfn) -> usize
-    ensures counts { Counts (IsSentCell plan.now first number) list.now result }
-    ensures bound { result ≤ length list.now }
-{
-    let mut held = 0;
-    for entry in list {
-        if is_sent_cell(entry, plan, first, number) {
-            held += 1;
-        }
-    }
-    held
-}
-
-// The line of a sent cell, and the text of a list.
-fn text_of_sent(alloc: Global, sent: &Transmission, list: &[Entry]) -> Result<String, AllocError>
-    requires { All IsValidEntry list.now }
-    ensures { IfOk result (λ text. TellsHeld sent.now.cell (start_of sent.now.offset)
-        (number_at_start sent.now.sfn sent.now.offset) list.now (string_bytes text)) }
-{
-    let plan = sent.cell.plan();
-    let first = first_start(sent.offset);
-    let number = first_number(sent.sfn, sent.offset);
-    let held = count_held(list, plan, first, number);
-    let mut output = line_of_made(alloc, plan.identity, first, number.value(), held)?;
-    let lines = text(alloc, list)?;
-    output.push_str(&lines)?;
-    Ok(output)
-}
-
-// The line of recording number n, and the text of its list. Nothing is read.
-pub(crate) fn made_text(alloc: Global, n: u32) -> Result<String, AllocError>
-    ensures { IfOk result (λ text. IsMadeText n (string_bytes text)) }
-{
-    let made = make(alloc, n)?;
-    let (mut work, mut list) = room_for_list(alloc)?;
-    explain_clean(&made.recording, &mut work, &mut list);
-    text_of_sent(alloc, &made.sent, list.slice())
 }

@@ -7,7 +7,7 @@ ghost use Rattle.sample_file.specs.Recording.{IsRecording};
 ghost use Rattle.pss_search.specs.Hits.{IsInSpan, hits_of as all_hits};
 ghost use Rattle.report.specs.Hits.{ids_text};
 ghost use Rattle.report.specs.Lines.{report_text as list_text, IsValidEntry};
-ghost use Rattle.lte_top.specs.Certificates.{IsListOfCells};
+ghost use Rattle.clean_air.specs.Clean.{IsListOfCells};
 ghost use Rattle.lte_top.specs.Forms.{recording};
 ghost use Rattle.lte_top.specs.Reports.{identified, json_line, IsReport, IsTextOfList, IsTextOfEvidence};
 ghost use Rattle.lte_top.specs.Run.{Cause, HasOutput};
@@ -145,7 +145,7 @@ fn evidence_text(alloc: Global, recording: &Recording) -> Result<String, AllocEr
 }
 
 // The list of a recording.
-fn list_of(alloc: Global, recording: &Recording) -> Result<EntryList, AllocError>
+pub(crate) fn list_of(alloc: Global, recording: &Recording) -> Result<EntryList, AllocError>
     ensures list { IfOk result (IsListOfCells recording.now) }
     ensures valid { IfOk result (All IsValidEntry) }
 {

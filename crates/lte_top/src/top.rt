@@ -5,19 +5,23 @@ ghost use Rattle.cs_outside.specs.Counts.{Rose};
 ghost use Rattle.cs_outside.specs.Outside.{SourceTold, SinkTold};
 ghost use Rattle.cs_outside.specs.Streams.{HasWritten, HasWrittenFront, IsShortOf};
 ghost use Rattle.lte_top.specs.Run.{IsDone, Ends, Outcome, Runs};
+ghost use Rattle.lte_top.specs.declared.form.Program.TheVariants.{Receiver};
 ghost use Rattle.lte_top.specs.declared.status.Status.TheVariants.{WriteFault};
 
 use crate::certificates::{answers_text, certify_recording};
-use crate::form::Form;
+use crate::form::{Form, Program};
 use crate::making::made_text;
 use crate::reporting::report_text;
+use crate::searching::search_text;
 use crate::status::Status;
 use crate::transmitting::transmitted_bytes;
+use crate::tuning::tuned_bytes;
 use crate::words::Words;
 use cs_outside::{Failed, MemSink, MemSource, Sink, Source, write_whole};
 use std::alloc::Global;
 
-/// Runs the words' form: reads its input from the source, makes its output and writes it to the sink.
+/// Runs the words' form of a program: reads its input from the source, makes its output and writes it to the
+/// sink.
 ///
 /// `Done` means that the input was read to its end and the whole output was taken. Every other answer
 /// but `OutOfMemory` has its cause, and after each but `WriteFault` nothing was written; after
@@ -25,10 +29,25 @@ use std::alloc::Global;
 /// Each other answer comes after no more than one byte past the form's limit was read.
 /// Where the source tells its bytes, the answer is the one that they have, but for want of memory and
 /// counted faults.
-pub fn run<S: Source, K: Sink>(alloc: Global, words: &Words, source: &mut S, sink: &mut K) -> Status
-    ensures { Runs words.now (S.told source.old, K.told sink.old) (S.told source.new, K.told sink.new) result }
+pub fn run_program<S: Source, K: Sink>(
+    alloc: Global,
+    program: Program,
+    words: &Words,
+    source: &mut S,
+    sink: &mut K,
+) -> Status
+    ensures { Runs program words.now
+        (S.told source.old, K.told sink.old) (S.told source.new, K.told sink.new) result }
 {
-    run_words(alloc, words, source, sink)
+    run_words(alloc, program, words, source, sink)
+}
+
+/// Runs the words' form of the receiver, `lte_cli`, as `run_program` does.
+pub fn run<S: Source, K: Sink>(alloc: Global, words: &Words, source: &mut S, sink: &mut K) -> Status
+    ensures { Runs Receiver words.now
+        (S.told source.old, K.told sink.old) (S.told source.new, K.told sink.new) result }
+{
+    run_program(alloc, Program::Receiver, words, source, sink)
 }
 
 /// `run` over a source and a sink in memory, which tell all: the bytes that are left, those that
@@ -39,7 +58,7 @@ pub fn run_in_memory(
     source: &mut MemSource,
     sink: &mut MemSink,
 ) -> Status
-    ensures { Runs words.now (
+    ensures { Runs Receiver words.now (
       record { left = Some source.old; faults = 0 },
       record { taken = Some sink.old.taken; room = Some sink.old.room; faults = sink.old.faults },
     ) (
@@ -54,16 +73,17 @@ pub fn run_in_memory(
 // The same, by the way each answer comes.
 fn run_words<S: Source, K: Sink>(
     alloc: Global,
+    program: Program,
     words: &Words,
     source: &mut S,
     sink: &mut K,
 ) -> Status
-    ensures outcome { Outcome words.now
+    ensures outcome { Outcome program words.now
         (S.told source.old, K.told sink.old) (S.told source.new, K.told sink.new) result }
     ensures reads { (S.told source.old).faults ≤ (S.told source.new).faults }
     ensures writes { (K.told sink.old).faults ≤ (K.told sink.new).faults }
 {
-    let Some(form) = Form::of(words) else {
+    let Some(form) = Form::of(program, words) else {
         return Status::Usage;
     };
     match run_form(alloc, form, source, sink) {
@@ -100,9 +120,17 @@ fn run_form<S: Source, K: Sink>(
             let bytes = transmitted_bytes(alloc, source)?;
             write_output(sink, &bytes)
         }
-        Form::Make(n) => {
-            let text = made_text(alloc, n)?;
+        Form::Make(sender, n) => {
+            let text = made_text(alloc, sender, n)?;
             write_output(sink, text.as_bytes())
+        }
+        Form::Search(search) => {
+            let text = search_text(alloc, search, source)?;
+            write_output(sink, text.as_bytes())
+        }
+        Form::Tune(tune) => {
+            let bytes = tuned_bytes(alloc, tune, source)?;
+            write_output(sink, &bytes)
         }
     }
 }

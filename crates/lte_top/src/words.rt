@@ -1,10 +1,13 @@
 //! The words of a command line.
 
-ghost use Rattle.std.specs.Prelude.{◌≡◌, ◌≢◌, ◌↔◌, ◌<◌, ◌^◌, ℕ, List, [], ◌∷◌, ◌++◌, map, OnOk, OnErr, IfSome, IsNone, IsTrue, string_bytes};
-ghost use Rattle.std.specs.Fmt.{decimal};
+ghost use Rattle.std.specs.Prelude.{◌≡◌, ◌≢◌, ◌↔◌, ◌<◌, ◌^◌, ℕ, ℤ, List, [], ◌∷◌, ◌++◌, map, OnOk, OnErr, IfSome, IsNone, IsTrue, string_bytes};
+ghost use Rattle.std.specs.Fmt.{decimal, signed_decimal};
 ghost use Rattle.sample_file.specs.declared.form.SampleForm.{SampleForm as SampleFormValue};
-ghost use Rattle.lte_top.specs.Forms.{samples_words};
+ghost use Rattle.lte_top.specs.declared.form.Search.{Search as SearchValue};
+ghost use Rattle.lte_top.specs.declared.form.Sender.{Sender as SenderValue};
+ghost use Rattle.lte_top.specs.Forms.{samples_words, search_words, sender_words, IsTurn};
 
+use crate::form::{Search, Sender};
 use itoa::Buffer;
 use sample_file::SampleForm;
 use std::alloc::{AllocError, Global};
@@ -49,7 +52,7 @@ impl Words {
     pub(crate) fn is_one(&self, word: &str) -> bool
         ensures { IsTrue result ↔ (self.now ≡ word.now ∷ []) }
     {
-        self.words.len() == 1 && self.words[0].as_str() == word
+        is_only(&self.words, word)
     }
 
     // The form of samples that the words after this one name; `None` where the first word is another, or those
@@ -58,11 +61,8 @@ impl Words {
         ensures some { IfSome result (λ form. self.now ≡ word.now ∷ samples_words form) }
         ensures none { IsNone result → (form : SampleFormValue) → self.now ≡ word.now ∷ samples_words form → ⊥ }
     {
-        if self.words.len() >= 1 && self.words[0].as_str() == word {
-            samples_of(&self.words[1..])
-        } else {
-            None
-        }
+        let words = after(&self.words, word)?;
+        samples_of(words)
     }
 
     // The same after two words.
@@ -71,27 +71,78 @@ impl Words {
         ensures none { IsNone result → (form : SampleFormValue) →
             self.now ≡ first.now ∷ second.now ∷ samples_words form → ⊥ }
     {
-        if self.words.len() >= 2
-            && self.words[0].as_str() == first
-            && self.words[1].as_str() == second
-        {
-            samples_of(&self.words[2..])
+        let words = after(&self.words, first)?;
+        let words = after(words, second)?;
+        samples_of(words)
+    }
+
+    // The rule that the words after this one name.
+    pub(crate) fn search_after(&self, word: &str) -> Option<Search>
+        ensures some { IfSome result (λ search. self.now ≡ word.now ∷ search_words search) }
+        ensures none { IsNone result → (search : SearchValue) → self.now ≡ word.now ∷ search_words search → ⊥ }
+    {
+        let words = after(&self.words, word)?;
+        search_of(words)
+    }
+
+    // The number after this word, one of 32 bits without leading zero, and the sender that the words after it name.
+    pub(crate) fn made_after(&self, word: &str) -> Option<(Sender, u32)>
+        ensures some { IfSome result (λ made. self.now ≡ word.now ∷ decimal made.1 ∷ sender_words made.0) }
+        ensures none { IsNone result → (sender : SenderValue) (n : ℕ) → n < 2 ^ 32 →
+            self.now ≡ word.now ∷ decimal n ∷ sender_words sender → ⊥ }
+    {
+        let words = after(&self.words, word)?;
+        let (text, words) = words.split_first()?;
+        let n = number_of(text.as_str())?;
+        let sender = sender_of(words)?;
+        Some((sender, n))
+    }
+
+    // The turn after this word, where there are two words: a number from -2,048 to 2,047 without leading zero.
+    pub(crate) fn turn_after(&self, word: &str) -> Option<i16>
+        ensures some { IfSome result (λ turn. IsTurn turn × (self.now ≡ word.now ∷ signed_decimal turn ∷ [])) }
+        ensures none { IsNone result → (turn : ℤ) → IsTurn turn → self.now ≡ word.now ∷ signed_decimal turn ∷ [] → ⊥ }
+    {
+        let words = after(&self.words, word)?;
+        let (text, words) = words.split_first()?;
+        if words.is_empty() {
+            turn_of(text.as_str())
         } else {
             None
         }
     }
+}
 
-    // The number that follows this word, where there are two words, the first is this one and the second is a
-    // number of 32 bits without leading zero.
-    pub(crate) fn number_after(&self, word: &str) -> Option<u32>
-        ensures some { IfSome result (λ n. self.now ≡ word.now ∷ decimal n ∷ []) }
-        ensures none { IsNone result → (n : ℕ) → n < 2 ^ 32 → self.now ≡ word.now ∷ decimal n ∷ [] → ⊥ }
-    {
-        if self.words.len() == 2 && self.words[0].as_str() == word {
-            number_of(self.words[1].as_str())
-        } else {
-            None
-        }
+// The words after this one, where it is the first.
+fn after<'a>(words: &'a [String], word: &str) -> Option<&'a [String]>
+    ensures some { IfSome result (λ rest. map string_bytes words.now ≡ word.now ∷ map string_bytes rest.now) }
+    ensures none { IsNone result → (rest : List (List ℕ)) → map string_bytes words.now ≡ word.now ∷ rest → ⊥ }
+{
+    let (first, rest) = words.split_first()?;
+    if first.as_str() == word {
+        Some(rest)
+    } else {
+        None
+    }
+}
+
+// Whether the words are these two.
+fn are_two(words: &[String], first: &str, second: &str) -> bool
+    ensures { IsTrue result ↔ (map string_bytes words.now ≡ first.now ∷ second.now ∷ []) }
+{
+    match after(words, first) {
+        Some(rest) => is_only(rest, second),
+        None => false,
+    }
+}
+
+// Whether there is one word, and it is this one.
+fn is_only(words: &[String], word: &str) -> bool
+    ensures { IsTrue result ↔ (map string_bytes words.now ≡ word.now ∷ []) }
+{
+    match after(words, word) {
+        Some(rest) => rest.is_empty(),
+        None => false,
     }
 }
 
@@ -102,8 +153,40 @@ fn samples_of(words: &[String]) -> Option<SampleForm>
 {
     if words.is_empty() {
         Some(SampleForm::Ci16)
-    } else if words.len() == 2 && words[0].as_str() == "--format" && words[1].as_str() == "cu8" {
+    } else if are_two(words, "--format", "cu8") {
         Some(SampleForm::Cu8)
+    } else {
+        None
+    }
+}
+
+// The rule that these words name.
+fn search_of(words: &[String]) -> Option<Search>
+    ensures some { IfSome result (λ search. map string_bytes words.now ≡ search_words search) }
+    ensures none { IsNone result → (search : SearchValue) → map string_bytes words.now ≡ search_words search → ⊥ }
+{
+    if are_two(words, "--ports", "2") {
+        Some(Search::TwoPorts)
+    } else if are_two(words, "--prefix", "long") {
+        Some(Search::LongPrefix)
+    } else if is_only(words, "--cancel") {
+        Some(Search::Cancel)
+    } else {
+        None
+    }
+}
+
+// The sender that these words name.
+fn sender_of(words: &[String]) -> Option<Sender>
+    ensures some { IfSome result (λ sender. map string_bytes words.now ≡ sender_words sender) }
+    ensures none { IsNone result → (sender : SenderValue) → map string_bytes words.now ≡ sender_words sender → ⊥ }
+{
+    if words.is_empty() {
+        Some(Sender::OnePort)
+    } else if are_two(words, "--ports", "2") {
+        Some(Sender::TwoPorts)
+    } else if are_two(words, "--prefix", "long") {
+        Some(Sender::LongPrefix)
     } else {
         None
     }
@@ -128,6 +211,30 @@ fn exactly(n: u32, text: &str) -> Option<u32>
     let mut digits = Buffer::new();
     if digits.format(n) == text {
         Some(n)
+    } else {
+        None
+    }
+}
+
+// The turn that is written so, without leading zero.
+fn turn_of(text: &str) -> Option<i16>
+    ensures some { IfSome result (λ turn. IsTurn turn × (text.now ≡ signed_decimal turn)) }
+    ensures none { IsNone result → (turn : ℤ) → IsTurn turn → text.now ≡ signed_decimal turn → ⊥ }
+{
+    match text.parse::<i16>() {
+        Ok(turn) => exact_turn(turn, text),
+        Err(_) => None,
+    }
+}
+
+// The turn, where it is written so and in its range.
+fn exact_turn(turn: i16, text: &str) -> Option<i16>
+    ensures some { IfSome result (λ same. (same ≡ turn) × IsTurn turn × (text.now ≡ signed_decimal turn)) }
+    ensures none { IsNone result → IsTurn turn → text.now ≢ signed_decimal turn }
+{
+    let mut digits = Buffer::new();
+    if -2048 <= turn && turn <= 2047 && digits.format(turn) == text {
+        Some(turn)
     } else {
         None
     }

@@ -1,5 +1,5 @@
 -- Frames, slots and symbols, in samples: 128 to the useful part of a symbol (TS 36.211 sections 4.1 and 6.12).
-use Rattle.std.specs.Prelude.{ℕ, ◌+◌, ◌-◌, ◌*◌, ◌/◌, nat_eq, if◌then◌else◌}
+use Rattle.std.specs.Prelude.{◌≡◌, ◌⊎◌, ℕ, ◌+◌, ◌-◌, ◌*◌, ◌/◌, nat_eq, if◌then◌else◌}
 use Rattle.lte_types.specs.declared.frame.Half.{Half}
 use Rattle.lte_types.specs.declared.frame.Half.TheVariants.{Zero, Five}
 use Rattle.lte_types.specs.declared.numerology.Prefix.{Prefix}
@@ -28,6 +28,14 @@ cycle_length = 19660800
 abbrev pub normal : Prefix
 normal = record { first = 10; other = 9 }
 
+-- the extended cyclic prefix: 32 samples before each symbol
+abbrev pub extended : Prefix
+extended = record { first = 32; other = 32 }
+
+-- it is one of the two
+abbrev pub IsPrefix : Prefix → Type 0
+IsPrefix prefix = (prefix ≡ normal) ⊎ (prefix ≡ extended)
+
 -- the samples of the prefix of a symbol of a slot
 abbrev pub prefix_length : Prefix → ℕ → ℕ
 prefix_length prefix symbol = if nat_eq symbol 0 then prefix.first else prefix.other
@@ -35,6 +43,10 @@ prefix_length prefix symbol = if nat_eq symbol 0 then prefix.first else prefix.o
 -- from the useful part of a symbol to that of the next one in its slot
 abbrev pub symbol_step : Prefix → ℕ
 symbol_step prefix = useful_length + prefix.other
+
+-- the symbols of a slot: 7 with the normal prefix, and 6 with the extended one
+abbrev pub symbols_of_slot : Prefix → ℕ
+symbols_of_slot prefix = slot_length / symbol_step prefix
 
 -- where the useful part of a symbol of a slot begins, in a frame that begins at the given sample
 abbrev pub useful_start : Prefix → ℕ → ℕ → ℕ → ℕ

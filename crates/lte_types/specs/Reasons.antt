@@ -2,7 +2,7 @@
 use Rattle.std.specs.Prelude.{ℕ, List, ◌++◌, codes}
 use Rattle.std.specs.Fmt.{decimal}
 use Rattle.lte_types.specs.declared.sib1_reason.Sib1Reason.{Sib1Reason}
-use Rattle.lte_types.specs.declared.sib1_reason.Sib1Reason.TheVariants.{NotOnePort, Bandwidth as OtherWidth, NoSearchSpace, NoControl, NotFormat1A, Distributed, BadRiv, ReservedMcs, BlockTooLarge, NotDecoded, NotSib1, BadFields}
+use Rattle.lte_types.specs.declared.sib1_reason.Sib1Reason.TheVariants.{NotOnePort, Bandwidth as OtherWidth, NoSearchSpace, NoControl, NotFormat1A, Distributed, BadRiv, ReservedMcs, BlockTooLarge, NotDecoded, NotSib1, BadFields, LongPrefix}
 use Rattle.lte_types.specs.Codes.{bandwidth_word}
 
 abbrev pub reason_words : Sib1Reason → List ℕ
@@ -18,3 +18,4 @@ reason_words BlockTooLarge = codes "block-too-large"
 reason_words NotDecoded = codes "not-decoded"
 reason_words NotSib1 = codes "not-sib1"
 reason_words (BadFields bit) = codes "bad-fields " ++ decimal bit
+reason_words LongPrefix = codes "long-prefix"

@@ -2,7 +2,7 @@
 //! 4.1 and 6.12).
 
 ghost use Rattle.std.specs.Prelude.{◌≡◌, ◌^◌, ◌<◌};
-ghost use Rattle.lte_types.specs.Numerology.{symbol_step, symbol_of as symbol_in, useful_start as useful_start_of};
+ghost use Rattle.lte_types.specs.Numerology.{symbol_step, symbols_of_slot, symbol_of as symbol_in, useful_start as useful_start_of};
 
 /// The samples of a frame.
 pub const FRAME_LENGTH: usize = 19_200;
@@ -33,11 +33,24 @@ impl Prefix {
         other: 9,
     };
 
+    /// The extended cyclic prefix.
+    pub const EXTENDED: Prefix = Prefix {
+        first: 32,
+        other: 32,
+    };
+
     /// From the useful part of a symbol to that of the next one in its slot.
     pub fn step(self) -> usize
         ensures { result ≡ symbol_step self }
     {
         USEFUL_LENGTH + self.other as usize
+    }
+
+    /// The symbols of a slot: 7 with the normal prefix, and 6 with the extended one.
+    pub fn symbols(self) -> usize
+        ensures { result ≡ symbols_of_slot self }
+    {
+        SLOT_LENGTH / self.step()
     }
 
     /// Where the useful part of a symbol of a slot begins, in a frame that begins at the given

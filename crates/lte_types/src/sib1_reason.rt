@@ -32,6 +32,8 @@ pub enum Sib1Reason {
     NotSib1,
     /// The field that begins at this bit is cut off or out of its range.
     BadFields(u16),
+    /// The cell was found by the extended cyclic prefix, with which it is read to the master block.
+    LongPrefix,
 }
 
 impl fmt::Display for Sib1Reason {
@@ -53,6 +55,7 @@ impl fmt::Display for Sib1Reason {
             Sib1Reason::NotDecoded => f.write_str("not-decoded"),
             Sib1Reason::NotSib1 => f.write_str("not-sib1"),
             Sib1Reason::BadFields(bit) => write!(f, "bad-fields {bit}"),
+            Sib1Reason::LongPrefix => f.write_str("long-prefix"),
         }
     }
 }

@@ -5,3 +5,4 @@ pub mod Pieces
 pub mod Hits
 pub mod Answers
 pub mod Evidence
+pub mod Cancelled

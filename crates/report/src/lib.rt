@@ -1,8 +1,9 @@
-//! The texts of a list of cells, of hits, and of the answers to certificates.
+//! The texts of a list of cells, of hits, of the answers to certificates, and of cells that were taken off.
 #![tactic(auto)]
 
 mod answers;
 mod as_json;
+mod cancelled;
 mod hits;
 mod laws;
 mod lines;
@@ -14,6 +15,7 @@ mod words;
 
 pub use answers::text_of_answers;
 pub use as_json::json;
+pub use cancelled::{text_of_cancelled, text_of_cancelled_none};
 pub use hits::{IdentifiedHit, text_of_hits, text_of_ids};
 pub use laws::listed_lines_stand;
 pub use listing::text;

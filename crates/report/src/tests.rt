@@ -178,6 +178,7 @@ fn each_reason_has_its_words(rt: HostRuntime) -> Result<(), Fail> {
         (Sib1Reason::NotDecoded, "not-decoded\n"),
         (Sib1Reason::NotSib1, "not-sib1\n"),
         (Sib1Reason::BadFields(32), "bad-fields 32\n"),
+        (Sib1Reason::LongPrefix, "long-prefix\n"),
     ];
     for (reason, words) in reasons {
         let report = reason_of(rt.alloc(), reason)?;

@@ -1,7 +1,7 @@
 //! Commands over bytes in memory.
 
 use cs_outside::{MemSink, MemSource};
-use lte_top::{Status, Words, run_in_memory};
+use lte_top::{Program, Status, Words, run_in_memory, run_program};
 use std::alloc::{AllocError, Global};
 
 // The room of a sink.
@@ -40,5 +40,19 @@ pub fn output_of(
     let mut source = MemSource::new(bytes);
     let mut sink = MemSink::new(alloc, ROOM)?;
     let status = run_in_memory(alloc, &words, &mut source, &mut sink);
+    Ok((status, sink.taken().to_vec(alloc)?))
+}
+
+/// The same of a command line of a program.
+pub fn output_by(
+    alloc: Global,
+    program: Program,
+    line: &str,
+    bytes: Vec<u8>,
+) -> Result<(Status, Vec<u8>), AllocError> {
+    let words = command_line(alloc, line)?;
+    let mut source = MemSource::new(bytes);
+    let mut sink = MemSink::new(alloc, ROOM)?;
+    let status = run_program(alloc, program, &words, &mut source, &mut sink);
     Ok((status, sink.taken().to_vec(alloc)?))
 }

@@ -3,12 +3,14 @@
 
 mod commands;
 
-pub use commands::{command, command_line, command_of_two, output_of};
+pub use commands::{command, command_line, command_of_two, output_by, output_of};
 
 #[cfg(test)]
 mod certificates;
 #[cfg(test)]
 mod forms;
+#[cfg(test)]
+mod further;
 #[cfg(test)]
 mod recordings;
 #[cfg(test)]

@@ -1,10 +1,11 @@
 -- The channel estimate of a slot, and the soft values of its places. (own)
-use Rattle.std.specs.Prelude.{ℕ, ◌%◌, ◌^◌, nat_eq, if◌then◌else◌, List, [], ◌∷◌, All, slice_index_or, ℤ, pos, ◌*ℤ◌, int_div}
+use Rattle.std.specs.Prelude.{ℕ, ◌/◌, ◌%◌, ◌^◌, nat_eq, if◌then◌else◌, List, [], ◌∷◌, All, slice_index_or, ℤ, pos, ◌*ℤ◌, int_div}
 use Rattle.finite.specs.Sums.{total_below}
 use Rattle.cs_num.specs.declared.Cpx.{Cpx}
 use Rattle.cs_num.specs.Complex.{times, conjugate, square, value_at, IsWithin}
 use Rattle.cs_num.specs.Rounding.{clamped}
-use Rattle.crs.specs.Reference.{is_reference, reference_at}
+use Rattle.crs.specs.declared.pattern.Pattern.{Pattern}
+use Rattle.crs.specs.Reference.{port_0, is_pattern_place, pattern_reference}
 use Rattle.soft_bits.specs.Estimate.{pilot_place, estimate}
 
 -- a slot as it was seen: its symbols, its number and the identity of its cell
@@ -21,35 +22,60 @@ seen_at slot symbol k = value_at (slice_index_or slot.symbols symbol []) k
 abbrev pub AreSmall : List (List Cpx) → Type 0
 AreSmall symbols = All (All (IsWithin (2 ^ 25))) symbols
 
--- the subcarrier of pilot i of 24, the reference places of symbols 0 and 4
+-- the subcarrier of pilot i of 24, the reference places of two symbols of a slot
 -- (TS 36.211 section 6.10.1.2)
 abbrev pub pilot_subcarrier : ℕ → ℕ → ℕ
 pilot_subcarrier identity i = pilot_place (identity % 3) i
 
+-- ---- for any pattern of reference signals
+
 -- the symbol that holds it
-unfoldable pub pilot_symbol : ℕ → ℕ → ℕ
-pilot_symbol identity i = if is_reference identity 0 (pilot_subcarrier identity i) then 0 else 4
+unfoldable pub pattern_symbol : Pattern → ℕ → ℕ → ℕ
+pattern_symbol pattern identity i =
+    if is_pattern_place pattern identity 0 (pilot_subcarrier identity i) then 0 else pattern.later
 
 -- what was seen there
-unfoldable pub pilot_seen : SeenSlot → ℕ → Cpx
-pilot_seen slot i = seen_at slot (pilot_symbol slot.identity i) (pilot_subcarrier slot.identity i)
+unfoldable pub pattern_seen : Pattern → SeenSlot → ℕ → Cpx
+pattern_seen pattern slot i = seen_at slot (pattern_symbol pattern slot.identity i) (pilot_subcarrier slot.identity i)
 
 -- what was sent there
-unfoldable pub pilot_sent : ℕ → ℕ → ℕ → Cpx
-pilot_sent identity number i =
-    reference_at identity number (pilot_symbol identity i) (pilot_subcarrier identity i)
+unfoldable pub pattern_sent : Pattern → ℕ → ℕ → ℕ → Cpx
+pattern_sent pattern identity number i =
+    pattern_reference pattern identity number (pattern_symbol pattern identity i) (pilot_subcarrier identity i / 6)
 
 -- the channel at a pilot, times the square of the reference's size
-unfoldable pub pilot : SeenSlot → ℕ → Cpx
-pilot slot i = times (pilot_seen slot i) (conjugate (pilot_sent slot.identity slot.number i))
+unfoldable pub pattern_pilot : Pattern → SeenSlot → ℕ → Cpx
+pattern_pilot pattern slot i = times (pattern_seen pattern slot i) (conjugate (pattern_sent pattern slot.identity slot.number i))
 
 -- the energy of the pilots
-unfoldable pub pilot_energy : SeenSlot → ℕ
-pilot_energy slot = total_below 24 (λ i. square (pilot_seen slot i))
+unfoldable pub pattern_energy : Pattern → SeenSlot → ℕ
+pattern_energy pattern slot = total_below 24 (λ i. square (pattern_seen pattern slot i))
 
 -- three times the channel at a subcarrier
-unfoldable pub channel : SeenSlot → ℕ → Cpx
-channel slot k = estimate (pilot slot) (slot.identity % 3) k
+unfoldable pub pattern_channel : Pattern → SeenSlot → ℕ → Cpx
+pattern_channel pattern slot k = estimate (pattern_pilot pattern slot) (slot.identity % 3) k
+
+-- ---- for port 0 with the normal prefix
+
+abbrev pub pilot_symbol : ℕ → ℕ → ℕ
+pilot_symbol = pattern_symbol port_0
+
+abbrev pub pilot_seen : SeenSlot → ℕ → Cpx
+pilot_seen = pattern_seen port_0
+
+abbrev pub pilot_sent : ℕ → ℕ → ℕ → Cpx
+pilot_sent = pattern_sent port_0
+
+abbrev pub pilot : SeenSlot → ℕ → Cpx
+pilot = pattern_pilot port_0
+
+abbrev pub pilot_energy : SeenSlot → ℕ
+pilot_energy = pattern_energy port_0
+
+abbrev pub channel : SeenSlot → ℕ → Cpx
+channel = pattern_channel port_0
+
+-- ---- soft values
 
 -- six times a component by the energy of the pilots, rounded toward zero and clamped to -127 to 127;
 -- 0 where no pilot was seen
@@ -57,12 +83,14 @@ abbrev pub soft_value : ℤ → ℕ → ℤ
 soft_value component energy =
     if nat_eq energy 0 then pos 0 else clamped (int_div (pos 6 *ℤ component) (pos energy)) 127
 
+-- those of what stands for an amplitude: of the bit in the real part, then of that in the imaginary part
+abbrev pub soft_pair : Cpx → ℕ → List ℤ
+soft_pair amplitude energy = soft_value amplitude.re energy ∷ soft_value amplitude.im energy ∷ []
+
 -- a place equalised: times the conjugate of the channel there
 abbrev pub equalised : SeenSlot → ℕ → ℕ → Cpx
 equalised slot symbol k = times (seen_at slot symbol k) (conjugate (channel slot k))
 
--- the soft values of a place: of the bit in the real part, then of that in the imaginary part
+-- the soft values of a place
 unfoldable pub soft_values : SeenSlot → ℕ → ℕ → List ℤ
-soft_values slot symbol k =
-    soft_value (equalised slot symbol k).re (pilot_energy slot)
-    ∷ soft_value (equalised slot symbol k).im (pilot_energy slot) ∷ []
+soft_values slot symbol k = soft_pair (equalised slot symbol k) (pilot_energy slot)

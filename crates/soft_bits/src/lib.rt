@@ -11,7 +11,8 @@ mod tests;
 mod value;
 
 pub use line::estimate;
-pub use pilots::pilots_are_the_reference_places;
+pub use pilots::{energy_of, pilots_are_the_reference_places, pilots_of};
 pub use places::{descramble, fill_soft};
+pub use seen::Seen;
 pub use slot::Slot;
-pub use value::soft;
+pub use value::{soft, soft_pair};

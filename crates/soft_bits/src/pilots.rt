@@ -1,14 +1,15 @@
 //! The pilots of a slot: what was seen at its reference places, against what was sent.
 
-ghost use Rattle.std.specs.Prelude.{◌≡◌, ◌⊎◌, ℕ, ◌%◌, ◌/◌, ◌^◌, ◌<◌, ◌≤◌, IsTrue};
+ghost use Rattle.std.specs.Prelude.{◌≡◌, ◌⊎◌, ℕ, ◌%◌, ◌/◌, ◌*◌, ◌^◌, ◌<◌, ◌≤◌, All, IsTrue};
 ghost use Rattle.finite.specs.Lists.{values_below};
 ghost use Rattle.cs_num.specs.Complex.{IsWithin, square};
-ghost use Rattle.crs.specs.Reference.{is_reference, reference_list};
+ghost use Rattle.crs.specs.Reference.{IsPattern, is_reference, pattern_list};
 ghost use Rattle.soft_bits.specs.Soft.{pilot_subcarrier, pilot_symbol};
-ghost use Rattle.soft_bits.specs.Soft.{pilot_seen, pilot_sent, pilot, pilot_energy};
+ghost use Rattle.soft_bits.specs.Soft.{pattern_symbol, pattern_seen, pattern_sent, pattern_pilot, pattern_energy};
 ghost use Rattle.soft_bits.specs.Kept.{slot_of};
 
-use crate::seen::Seen;
+use crate::Seen;
+use crs::{Pattern, first_of_pattern};
 use cs_num::Cpx;
 use lte_types::CellId;
 
@@ -32,38 +33,41 @@ fn subcarrier_of(id: CellId, i: u8) -> u8
 }
 
 // The symbol that holds pilot i.
-#[tactic(auto, using(std::proofs::lemmas::Bool::Decides::nat_tests), unfolding(crate::specs::Soft::pilot_symbol, crs::specs::Reference::is_reference, crs::specs::Reference::first_subcarrier))]
-fn symbol_of(id: CellId, i: u8) -> u8
-    requires { i < 24 }
-    ensures value { result ≡ pilot_symbol id i }
-    ensures one { (result ≡ 0) ⊎ (result ≡ 4) }
+#[tactic(auto, using(std::proofs::lemmas::Bool::Decides::nat_tests), unfolding(crate::specs::Soft::pattern_symbol))]
+fn symbol_of(pattern: Pattern, id: CellId, i: u8) -> u8
+    requires pattern { IsPattern pattern }
+    requires i { i < 24 }
+    ensures value { result ≡ pattern_symbol pattern id i }
+    ensures one { (result ≡ 0) ⊎ (result ≡ pattern.later) }
 {
-    if subcarrier_of(id, i) as u16 % 6 == id.value() % 6 {
+    if subcarrier_of(id, i) % 6 == first_of_pattern(pattern, id, 0) {
         0
     } else {
-        4
+        pattern.later
     }
 }
 
 // What was seen at pilot i.
 fn seen_of(seen: &Seen, i: u8) -> Cpx
     requires { i < 24 }
-    ensures value { result ≡ pilot_seen (slot_of seen.now) i }
+    ensures value { result ≡ pattern_seen seen.now.pattern (slot_of seen.now) i }
     ensures small { IsWithin (2 ^ 25) result }
 {
-    seen.symbols[symbol_of(seen.id, i) as usize][subcarrier_of(seen.id, i) as usize]
+    let symbol = symbol_of(seen.pattern, seen.id, i);
+    seen.symbols[symbol as usize][subcarrier_of(seen.id, i) as usize]
 }
 
-// What was sent there, by the values of symbols 0 and 4.
+// What was sent there, by the values of both symbols.
 fn sent_of(seen: &Seen, first: &[(u8, Cpx); 12], second: &[(u8, Cpx); 12], i: u8) -> Cpx
-    requires first { first.now ≡ reference_list seen.now.id seen.now.number 0 }
-    requires second { second.now ≡ reference_list seen.now.id seen.now.number 4 }
+    requires first { first.now ≡ pattern_list seen.now.pattern seen.now.id seen.now.number 0 }
+    requires second { second.now
+        ≡ pattern_list seen.now.pattern seen.now.id seen.now.number seen.now.pattern.later }
     requires i { i < 24 }
-    ensures value { result ≡ pilot_sent seen.now.id seen.now.number i }
+    ensures value { result ≡ pattern_sent seen.now.pattern seen.now.id seen.now.number i }
     ensures small { IsWithin 90 result }
 {
     let m = subcarrier_of(seen.id, i) as usize / 6;
-    if symbol_of(seen.id, i) == 0 {
+    if symbol_of(seen.pattern, seen.id, i) == 0 {
         first[m].1
     } else {
         second[m].1
@@ -72,21 +76,25 @@ fn sent_of(seen: &Seen, first: &[(u8, Cpx); 12], second: &[(u8, Cpx); 12], i: u8
 
 // Pilot i.
 fn pilot_of(seen: &Seen, first: &[(u8, Cpx); 12], second: &[(u8, Cpx); 12], i: u8) -> Cpx
-    requires first { first.now ≡ reference_list seen.now.id seen.now.number 0 }
-    requires second { second.now ≡ reference_list seen.now.id seen.now.number 4 }
+    requires first { first.now ≡ pattern_list seen.now.pattern seen.now.id seen.now.number 0 }
+    requires second { second.now
+        ≡ pattern_list seen.now.pattern seen.now.id seen.now.number seen.now.pattern.later }
     requires i { i < 24 }
-    ensures { result ≡ pilot (slot_of seen.now) i }
+    ensures value { result ≡ pattern_pilot seen.now.pattern (slot_of seen.now) i }
+    ensures small { IsWithin (180 * 2 ^ 25) result }
 {
     let sent = sent_of(seen, first, second, i);
     seen_of(seen, i).mul(sent.conj())
 }
 
-// All of them.
-pub(crate) fn pilots_of(seen: &Seen) -> [Cpx; 24]
-    ensures { result ≡ values_below 24 (pilot (slot_of seen.now)) }
+/// The 24 pilots of a slot by its pattern, in the order of subcarriers: what was seen at each reference place times
+/// the conjugate of what was sent. Components have size at most 180 * 2^25.
+pub fn pilots_of(seen: &Seen) -> [Cpx; 24]
+    ensures value { result ≡ values_below 24 (pattern_pilot seen.now.pattern (slot_of seen.now)) }
+    ensures small { All (IsWithin (180 * 2 ^ 25)) result }
 {
-    let first = crs::pilots(seen.id, seen.number, 0);
-    let second = crs::pilots(seen.id, seen.number, 4);
+    let first = crs::pattern_pilots(seen.pattern, seen.id, seen.number, 0);
+    let second = crs::pattern_pilots(seen.pattern, seen.id, seen.number, seen.pattern.later);
     let mut pilots = [Cpx::ZERO; 24];
     for i in 0..24_u8 {
         pilots[i as usize] = pilot_of(seen, &first, &second, i);
@@ -94,9 +102,11 @@ pub(crate) fn pilots_of(seen: &Seen) -> [Cpx; 24]
     pilots
 }
 
-// Their energy.
-pub(crate) fn energy_of(seen: &Seen) -> u64
-    ensures { result ≡ pilot_energy (slot_of seen.now) }
+/// The energy of the pilots of a slot by its pattern: the sum of the squares of the sizes of what was seen at the 24
+/// reference places. It is at most 24 * 2^51.
+pub fn energy_of(seen: &Seen) -> u64
+    ensures value { result ≡ pattern_energy seen.now.pattern (slot_of seen.now) }
+    ensures small { result ≤ 24 * 2 ^ 51 }
 {
     let mut sum: u64 = 0;
     for i in 0..24_u8 {
@@ -108,7 +118,7 @@ pub(crate) fn energy_of(seen: &Seen) -> u64
 // What pilot i gives to it.
 fn energy_part(seen: &Seen, i: u8) -> u64
     requires { i < 24 }
-    ensures value { result ≡ square (pilot_seen (slot_of seen.now) i) }
+    ensures value { result ≡ square (pattern_seen seen.now.pattern (slot_of seen.now) i) }
     ensures small { result ≤ 2 ^ 51 }
 {
     seen_of(seen, i).norm() as u64

@@ -1,17 +1,24 @@
 //! A slot as it was seen, before its pilots are made.
 
-ghost use Rattle.std.specs.Prelude.{◌<◌};
+ghost use Rattle.std.specs.Prelude.{◌<◌, length};
+ghost use Rattle.crs.specs.Reference.{IsPattern};
 ghost use Rattle.soft_bits.specs.Soft.{AreSmall};
 
+use crs::Pattern;
 use cs_num::Cpx;
 use lte_types::CellId;
 
-// The symbols that were seen of a slot, its number and the identity of its cell.
+/// The symbols that were seen of a slot, from its first one on, its number, 0 to 19, the identity of its cell, and
+/// the pattern of the reference signals that are looked at. Both symbols with reference signals are among them, and
+/// components have size at most 2^25.
 #[derive(Clone, Copy)]
-pub(crate) struct Seen<'a> {
-    pub(crate) symbols: &'a [[Cpx; 72]; 7],
-    pub(crate) number: u8,
-    pub(crate) id: CellId,
-    ghost known: { number < 20 },
-    ghost small: { AreSmall symbols.now },
+pub struct Seen<'a> {
+    pub symbols: &'a [[Cpx; 72]],
+    pub number: u8,
+    pub id: CellId,
+    pub pattern: Pattern,
+    pub ghost known: { number < 20 },
+    pub ghost small: { AreSmall symbols.now },
+    pub ghost is_pattern: { IsPattern pattern },
+    pub ghost enough: { pattern.later < length symbols.now },
 }

@@ -7,9 +7,10 @@ ghost use Rattle.cs_num.specs.Complex.{IsWithin, value_at};
 ghost use Rattle.soft_bits.specs.Soft.{SeenSlot, AreSmall, seen_at, channel, pilot, pilot_energy};
 ghost use Rattle.soft_bits.specs.Kept.{IsKept};
 
+use crate::Seen;
 use crate::line::estimate;
 use crate::pilots::{energy_of, pilots_of};
-use crate::seen::Seen;
+use crs::Pattern;
 use cs_num::Cpx;
 use lte_types::CellId;
 use std::marker::Model;
@@ -87,6 +88,7 @@ impl Slot {
             symbols: &seen,
             number,
             id,
+            pattern: Pattern::FIRST_PORT,
         };
         let pilots = pilots_of(&slot);
         let energy = energy_of(&slot);
@@ -114,8 +116,8 @@ impl Slot {
         self.number
     }
 
-    // The seen value at a place.
-    pub(crate) fn seen(&self, symbol: u8, k: u8) -> Cpx
+    /// The seen value at a place. `symbol` is 0 to 6 and `k` 0 to 71; components have size at most 2^25.
+    pub fn seen(&self, symbol: u8, k: u8) -> Cpx
         requires symbol { symbol < 7 }
         requires k { k < 72 }
         ensures value { result ≡ seen_at self.now symbol k }
@@ -124,8 +126,8 @@ impl Slot {
         self.symbols[symbol as usize].at(k)
     }
 
-    // Three times the channel at a subcarrier.
-    pub(crate) fn channel(&self, k: u8) -> Cpx
+    /// Three times the channel of antenna port 0 at a subcarrier, 0 to 71, times the square of a reference's size.
+    pub fn channel(&self, k: u8) -> Cpx
         requires { k < 72 }
         ensures value { result ≡ channel self.now k }
         ensures small { IsWithin (540 * 2 ^ 25) result }

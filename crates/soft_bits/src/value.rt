@@ -2,10 +2,11 @@
 
 ghost use Rattle.std.specs.Prelude.{◌≡◌, ℕ, ◌*◌, ◌^◌, ◌<◌, ◌≤◌, nat_abs};
 ghost use Rattle.finite.specs.Sizes.{AllWithin};
-ghost use Rattle.soft_bits.specs.Soft.{soft_value, soft_values};
+ghost use Rattle.cs_num.specs.Complex.{IsWithin, conjugate, times};
+ghost use Rattle.soft_bits.specs.Soft.{soft_pair, soft_value, soft_values};
 
 use crate::Slot;
-use cs_num::clamp_div;
+use cs_num::{Cpx, clamp_div};
 
 /// The soft values of a place: of the bit in the real part, then of that in the imaginary part. A
 /// value is from -127 to 127; above 0 it speaks for the bit 0, below 0 for the bit 1, and 0 for
@@ -17,8 +18,20 @@ pub fn soft(slot: &Slot, symbol: u8, k: u8) -> [i16; 2]
     ensures values { result ≡ soft_values slot.now symbol k }
     ensures range { AllWithin 127 result }
 {
-    let value = slot.seen(symbol, k).mul(slot.channel(k).conj());
-    let energy = slot.energy();
+    soft_pair(slot.seen(symbol, k), slot.channel(k), slot.energy())
+}
+
+/// The soft values of a place at which this was seen, by three times the channel there and the energy of the pilots.
+/// Components of what was seen have size at most 2^25, those of the channel at most 540 * 2^25, and the energy is at
+/// most 24 * 2^51.
+pub fn soft_pair(seen: Cpx, channel: Cpx, energy: u64) -> [i16; 2]
+    requires seen { IsWithin (2 ^ 25) seen }
+    requires channel { IsWithin (540 * 2 ^ 25) channel }
+    requires energy { energy ≤ 24 * 2 ^ 51 }
+    ensures values { result ≡ soft_pair (times seen (conjugate channel)) energy }
+    ensures range { AllWithin 127 result }
+{
+    let value = seen.mul(channel.conj());
     [value_of(value.re, energy), value_of(value.im, energy)]
 }
 

@@ -20,7 +20,9 @@ use Rattle.sync_seq.proofs.SecondaryValues.{shifted_even, shifted_odd, shifted_v
 use Rattle.observe.specs.Seen.{seen, seen_symbol}
 use Rattle.sss_detect.specs.Scores.{agreement, score}
 use Rattle.sss_detect.specs.Steps.{agreements_of, places_sum, score_by}
-use Rattle.sss_detect.specs.Identity.{scores_of}
+use Rattle.lte_types.specs.declared.numerology.Prefix.{Prefix}
+use Rattle.lte_types.specs.Numerology.{symbol_step}
+use Rattle.sss_detect.specs.Identity.{prefix_scores}
 
 -- a sum over the even and the odd places
 by_twos : (n : ℕ) (f : ℕ → ℤ) → sum_below (2 * n) f ≡ sum_below n (λ i. f (2 * i + 0)) +ℤ sum_below n (λ i. f (2 * i + 1))
@@ -90,14 +92,14 @@ score_same p q r s n2 h g = fun_ext (λ n1. fun_ext (λ half. at n1 half))
         (λ n l. ap (λ x. sss_at n1 n2 half n *ℤ x) (agree n l))
 
 -- the symbols that are seen as lists give the scores of a hit
-pub scores_of_hit : (recording : List Sample) (hit : Hit) →
-    score (value_at (seen_symbol recording hit.t)) (value_at (seen_symbol recording (hit.t - 137))) hit.n2 ≡ scores_of recording hit
+pub scores_of_hit : (prefix : Prefix) (recording : List Sample) (hit : Hit) →
+    score (value_at (seen_symbol recording hit.t)) (value_at (seen_symbol recording (hit.t - symbol_step prefix))) hit.n2 ≡ prefix_scores prefix recording hit
 unfolding seen_symbol
-scores_of_hit recording hit = score_same
+scores_of_hit prefix recording hit = score_same
     (value_at (values_below 72 (seen recording hit.t))) (seen recording hit.t)
-    (value_at (values_below 72 (seen recording (hit.t - 137)))) (seen recording (hit.t - 137)) hit.n2
+    (value_at (values_below 72 (seen recording (hit.t - symbol_step prefix)))) (seen recording (hit.t - symbol_step prefix)) hit.n2
     (λ k l. values_below_at (seen recording hit.t) 72 k nothing l)
-    (λ k l. values_below_at (seen recording (hit.t - 137)) 72 k nothing l)
+    (λ k l. values_below_at (seen recording (hit.t - symbol_step prefix)) 72 k nothing l)
 
 -- ---- sizes
 

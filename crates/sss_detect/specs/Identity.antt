@@ -4,6 +4,7 @@ use Rattle.cs_num.specs.declared.Sample.{Sample}
 use Rattle.lte_types.specs.declared.frame.Half.{Half}
 use Rattle.lte_types.specs.declared.frame.Half.TheVariants.{Zero, Five}
 use Rattle.lte_types.specs.declared.hit.Hit.{Hit}
+use Rattle.lte_types.specs.declared.numerology.Prefix.{Prefix}
 use Rattle.lte_types.specs.Numerology.{normal, symbol_step}
 use Rattle.observe.specs.Seen.{seen}
 use Rattle.sss_detect.specs.Scores.{score}
@@ -36,10 +37,19 @@ best_pair scores =
     if int_lt (scores (best_group scores Zero) Zero) (scores (best_group scores Five) Five) then (best_group scores Five, Five)
     else (best_group scores Zero, Zero)
 
--- the scores of a hit: those of what is seen of the primary symbol at the hit and of the secondary one before it
-abbrev pub scores_of : List Sample → Hit → ℕ → Half → ℤ
-scores_of recording hit = score (seen recording hit.t) (seen recording (hit.t - symbol_step normal)) hit.n2
+-- the scores of a hit by a cyclic prefix: those of what is seen of the primary symbol at the hit and of the secondary one, which is one
+-- symbol before it
+abbrev pub prefix_scores : Prefix → List Sample → Hit → ℕ → Half → ℤ
+prefix_scores prefix recording hit = score (seen recording hit.t) (seen recording (hit.t - symbol_step prefix)) hit.n2
 
--- the identity group and the half of a hit
-unfoldable pub identity_of : List Sample → Hit → ℕ × Half
-identity_of recording hit = best_pair (scores_of recording hit)
+-- the identity group and the half of a hit by it
+unfoldable pub prefix_identity : Prefix → List Sample → Hit → ℕ × Half
+prefix_identity prefix recording hit = best_pair (prefix_scores prefix recording hit)
+
+-- ---- by the normal cyclic prefix
+
+abbrev pub scores_of : List Sample → Hit → ℕ → Half → ℤ
+scores_of recording hit = prefix_scores normal recording hit
+
+abbrev pub identity_of : List Sample → Hit → ℕ × Half
+identity_of recording hit = prefix_identity normal recording hit

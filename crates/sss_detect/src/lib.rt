@@ -8,7 +8,7 @@ mod score;
 
 ghost use Rattle.std.specs.Prelude.{◌≡◌, ◌+◌, ◌≤◌, length};
 ghost use Rattle.lte_types.specs.Numerology.{normal, symbol_step};
-ghost use Rattle.sss_detect.specs.Identity.{IsBest, scores_of, identity_of};
+ghost use Rattle.sss_detect.specs.Identity.{IsBest, prefix_scores, prefix_identity, scores_of, identity_of};
 ghost use Rattle.sss_detect.specs.Laws.{BestPairIsBest, OnlyOneIsBest};
 
 pub use choose::best;
@@ -17,9 +17,25 @@ use observe::symbol;
 pub use place::{cell_id, frame_start};
 use sample_file::Recording;
 
-/// The identity group and the half of a frame of a hit: `best` of the primary symbol that is seen
-/// at the hit and of the secondary symbol one symbol before it (TS 36.211 section 6.11). `t` is at
-/// least 137, the primary symbol ends within the recording, and `n2` is 0 to 2.
+/// The identity group and the half of a frame of a hit, by a cyclic prefix: `best` of the primary symbol that is
+/// seen at the hit and of the secondary symbol one symbol before it (TS 36.211 section 6.11). `t` is at least the
+/// samples of a symbol with its prefix, the primary symbol ends within the recording, and `n2` is 0 to 2.
+pub fn identity_with(recording: &Recording, hit: &Hit, prefix: Prefix) -> (u16, Half)
+    requires after { symbol_step prefix ≤ hit.now.t }
+    requires within { hit.now.t + 128 ≤ length recording.now }
+    requires member { hit.now.n2 ≤ 2 }
+    ensures value { result ≡ prefix_identity prefix recording.now hit.now }
+    ensures best { IsBest (prefix_scores prefix recording.now hit.now) result.0 result.1 }
+{
+    let t = hit.t as usize;
+    best(
+        &symbol(recording, t),
+        &symbol(recording, t - prefix.step()),
+        hit.n2,
+    )
+}
+
+/// The same by the normal cyclic prefix: the secondary symbol is 137 samples before the primary one.
 pub fn identity(recording: &Recording, hit: &Hit) -> (u16, Half)
     requires after { symbol_step normal ≤ hit.now.t }
     requires within { hit.now.t + 128 ≤ length recording.now }
@@ -27,12 +43,7 @@ pub fn identity(recording: &Recording, hit: &Hit) -> (u16, Half)
     ensures value { result ≡ identity_of recording.now hit.now }
     ensures best { IsBest (scores_of recording.now hit.now) result.0 result.1 }
 {
-    let t = hit.t as usize;
-    best(
-        &symbol(recording, t),
-        &symbol(recording, t - Prefix::NORMAL.step()),
-        hit.n2,
-    )
+    identity_with(recording, hit, Prefix::NORMAL)
 }
 
 /// The best pair in plain words: it is the first of the pairs of greatest score, and no other is.

@@ -5,7 +5,7 @@ use Rattle.std.proofs.lemmas.Bool.{cases_lt, eqb-true, eq-eqb, false≢true}
 use Rattle.lte_types.specs.declared.bandwidth.Bandwidth.{Bandwidth}
 use Rattle.lte_types.specs.declared.sib1.Sib1.{Sib1}
 use Rattle.lte_types.specs.declared.sib1_reason.Sib1Reason.{Sib1Reason}
-use Rattle.lte_types.specs.declared.sib1_reason.Sib1Reason.TheVariants.{NotOnePort, Bandwidth as OtherWidth, NoSearchSpace, NoControl, NotDecoded}
+use Rattle.lte_types.specs.declared.sib1_reason.Sib1Reason.TheVariants.{NotOnePort, Bandwidth as OtherWidth, NoSearchSpace, NoControl, NotDecoded, LongPrefix}
 use Rattle.lte_types.specs.Ranges.{IsValid}
 use Rattle.cs_bits.specs.Checks.{crc16_of, message_of, check_of}
 use Rattle.conv_code.specs.Reading.{summed as summed_by_place}
@@ -124,3 +124,11 @@ never_width_by_grant values indicator told (Some grant) f = f.tells.says
 pub never_width : (values : Subframe) (told : Bandwidth) → Reads values (Err (OtherWidth told)) → ⊥
 never_width values told reads =
     never_width_by_grant values reads.attempt.cfi told reads.attempt.grant (subst (λ a. Follows values reads.attempt.cfi reads.attempt.grant a) reads.answers reads.is.follows)
+
+never_long_by_grant : (values : Subframe) (indicator : ℕ) (grant : Option Grant) → Follows values indicator grant (Err LongPrefix) → ⊥
+never_long_by_grant values indicator None f = f.says
+never_long_by_grant values indicator (Some grant) f = f.tells.says
+
+pub never_long : (values : Subframe) → Reads values (Err LongPrefix) → ⊥
+never_long values reads =
+    never_long_by_grant values reads.attempt.cfi reads.attempt.grant (subst (λ a. Follows values reads.attempt.cfi reads.attempt.grant a) reads.answers reads.is.follows)

@@ -1,4 +1,4 @@
 mod Refusals
-mod Plans
+pub mod Plans
 mod Received
-mod Samples
+pub mod Samples

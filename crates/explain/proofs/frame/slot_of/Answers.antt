@@ -1,10 +1,11 @@
-use Rattle.std.proofs.Common.{◌∙◌, refl}
+use Rattle.std.proofs.Common.{◌∙◌, ap, List}
+use Rattle.cs_num.specs.declared.Cpx.{Cpx}
+use Rattle.soft_bits.specs.Soft.{SeenSlot}
 use Rattle.explain.specs.Frame.{seen_slot}
 use Rattle.explain.proofs.frame.slot_of.Goals as goal
 
 pub returns : goal.returns
 unfolding seen_slot
 returns c =
-    c.new.ensures
-    ∙ rw (c.symbol_of.ensures.value, c.symbol_of-2.ensures.value, c.symbol_of-3.ensures.value, c.symbol_of-4.ensures.value, c.symbol_of-5.ensures.value, c.symbol_of-6.ensures.value, c.symbol_of-7.ensures.value)
-    refl
+    let made : List (List Cpx) → SeenSlot = λ symbols. record { symbols = symbols; number = c.args.number; identity = c.args.id } in
+    c.new.ensures ∙ ap made (c.symbols_of.ensures.symbols c.args.id)

@@ -1,4 +1,4 @@
-use Rattle.explain.proofs.Listed.{is_one_list, is_sound, is_complete, is_apart}
+use Rattle.explain.proofs.Listed.{is_one_list, is_sound, is_complete, is_apart, is_never_long}
 use Rattle.explain.proofs.laws.the_list_in_plain_words.Goals as goal
 
 pub returns-clause-one : goal.returns-clause-one
@@ -12,3 +12,6 @@ returns-clause-complete c = is_complete
 
 pub returns-clause-apart : goal.returns-clause-apart
 returns-clause-apart c = is_apart
+
+pub returns-clause-never_long : goal.returns-clause-never_long
+returns-clause-never_long c = is_never_long

@@ -1,13 +1,14 @@
 use Rattle.std.proofs.Common.{◌+◌, ◌≤◌, arith, sym, subst, below_more}
-use Rattle.explain.specs.Window.{TellNone, IsMasterAt}
+use Rattle.explain.specs.Window.{TellNone}
+use Rattle.explain.specs.Received.{IsToldBy}
 use Rattle.explain.specs.Masters.{HaveMasters}
 use Rattle.explain.proofs.masters.first_of.Goals as goal
 
 pub loop-frame-init : goal.loop-frame-init
-loop-frame-init c recording start are i below = absurd (omega (arith, below))
+loop-frame-init g c recording start are i below = absurd (omega (arith, below))
 
 pub returns-in-Some : goal.returns-in-Some
-returns-in-Some c recording start are =
+returns-in-Some g c recording start are =
     let id = c.args.id in
     let count = c.args.count in
     let some = c.requires.some in
@@ -19,23 +20,23 @@ returns-in-Some c recording start are =
       record {
         within = omega (arith, at, inside);
         first = λ i below. c.loop-frame.invariant recording start are i (omega (arith, below, at));
-        have = subst (λ j. HaveMasters (IsMasterAt recording) id start count j c.in-Some.found.at) (sym at) have;
+        have = subst (λ j. HaveMasters (IsToldBy (g.F.FrameReader.frame_values recording) g.F.FrameReader.takes) id start count j c.in-Some.found.at) (sym at) have;
       },
     )
 
 pub loop-frame-preserved : goal.loop-frame-preserved
-loop-frame-preserved c recording start are =
+loop-frame-preserved g c recording start are =
     let id = c.args.id in
     let count = c.args.count in
     let some = c.requires.some in
     let end = c.saturating_sub-frame-end.ensures in
     let test = c.loop-frame-test.true in
     let inside : c.loop-frame.frame + count ≤ c.args.whole = omega (arith, some, end, test) in
-    below_more (λ i. TellNone (IsMasterAt recording) id start count i) c.loop-frame.frame (c.loop-frame.invariant recording start are)
+    below_more (λ i. TellNone (IsToldBy (g.F.FrameReader.frame_values recording) g.F.FrameReader.takes) id start count i) c.loop-frame.frame (c.loop-frame.invariant recording start are)
     (c.in-None.ensures recording start (λ j below. are j (omega (arith, below, inside))))
 
 pub returns : goal.returns
-returns c recording start are j within =
+returns g c recording start are j within =
     let some = c.requires.some in
     let end = c.saturating_sub-frame-end.ensures in
     let test = c.loop-frame-test.false in

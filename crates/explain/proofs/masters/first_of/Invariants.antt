@@ -1,10 +1,10 @@
 use Rattle.std.proofs.Common.{ℕ, ◌<◌, List}
 use Rattle.cs_num.specs.declared.Sample.{Sample}
-use Rattle.explain.specs.Received.{AreReceived}
-use Rattle.explain.specs.Window.{TellNone, IsMasterAt}
+use Rattle.explain.specs.Received.{AreReceived, IsToldBy}
+use Rattle.explain.specs.Window.{TellNone}
 use Rattle.explain.proofs.masters.first_of.Given as goal
 
 -- none from a frame so far on have a master block
 abbrev pub invariant-loop-frame : goal.invariant-loop-frame
-invariant-loop-frame l =
-    (recording : List Sample) (start : ℕ) → AreReceived recording l.id start l.whole l.frames → (i : ℕ) → i < l.frame → TellNone (IsMasterAt recording) l.id start l.count i
+invariant-loop-frame g l =
+    (recording : List Sample) (start : ℕ) → AreReceived (g.F.FrameReader.frame_values recording l.id start) l.whole l.frames → (i : ℕ) → i < l.frame → TellNone (IsToldBy (g.F.FrameReader.frame_values recording) g.F.FrameReader.takes) l.id start l.count i

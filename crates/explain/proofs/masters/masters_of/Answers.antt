@@ -1,30 +1,37 @@
 use Rattle.std.proofs.Common.{◌∙◌, arith, refl, sym}
-use Rattle.explain.specs.Window.{IsMasterAt}
-use Rattle.explain.proofs.FirstFrame.{masters_of_frames, told_in_frames, no_master, has_one}
+use Rattle.explain.specs.Received.{IsToldBy}
+use Rattle.explain.proofs.FirstFrame.{masters_of_frames, told_in_frames, none_beyond, no_master, has_one}
 use Rattle.explain.proofs.masters.masters_of.Goals as goal
 
 pub returns-then-not-has_master : goal.returns-then-not-has_master
-returns-then-not-has_master c recording start are =
+returns-then-not-has_master g c recording start are =
     let id = c.args.id in
     let count = c.args.count in
     let frame = c.args.frame in
-    let masters = c.masters-at.result in
+    let values = g.F.FrameReader.frame_values recording in
+    let takes = g.F.FrameReader.takes in
+    let all = c.masters.result in
+    let masters = c.taken-at.result in
     let known = c.requires.known in
-    let m = masters_of_frames recording id start count frame c.args.frames.now masters (omega (arith, known)) are c.masters-at.ensures in
-    no_master (IsMasterAt recording) id start count frame masters c.requires.some (told_in_frames recording id start count frame _ masters c.requires.some refl m) (sym c.has_master.ensures ∙ c.if-not-has_master.true)
+    let m = masters_of_frames (values id start) id count frame c.args.frames.now all (omega (arith, known)) are c.masters.ensures in
+    no_master (IsToldBy values takes) id start count frame masters c.requires.some (told_in_frames values takes id start count frame all masters c.taken-at.ensures.each c.requires.some m)
+    (sym c.has_master.ensures ∙ c.if-not-has_master.true)
 
 pub returns : goal.returns
-returns c recording start are =
+returns g c recording start are =
     let id = c.args.id in
     let count = c.args.count in
     let frame = c.args.frame in
-    let masters = c.masters-at.result in
+    let values = g.F.FrameReader.frame_values recording in
+    let takes = g.F.FrameReader.takes in
+    let all = c.masters.result in
+    let masters = c.taken-at.result in
     let known = c.requires.known in
-    let m = masters_of_frames recording id start count frame c.args.frames.now masters (omega (arith, known)) are c.masters-at.ensures in (
+    let m = masters_of_frames (values id start) id count frame c.args.frames.now all (omega (arith, known)) are c.masters.ensures in (
       refl,
       refl,
       record {
-        are = told_in_frames recording id start count frame _ masters c.requires.some refl m;
-        some = has_one id count _ masters m (sym c.has_master.ensures ∙ c.if-not-has_master.false);
+        are = told_in_frames values takes id start count frame all masters c.taken-at.ensures.each c.requires.some m;
+        some = has_one count masters (none_beyond values takes id start count frame all masters c.taken-at.ensures.each m) (sym c.has_master.ensures ∙ c.if-not-has_master.false);
       },
     )

@@ -6,14 +6,14 @@ use Rattle.lte_top.proofs.making.count_held.Goals.{then-is_sent_cell, else-is_se
 use Rattle.lte_top.proofs.making.count_held.Goals as goal
 
 pub loop-entry-init : goal.loop-entry-init
-loop-entry-init c = record { counts = counts_nothing (IsSentCell c.args.plan.now c.args.first c.args.number); bound = omega arith }
+loop-entry-init c = record { counts = counts_nothing (IsSentCell c.args.cell.now); bound = omega arith }
 
 not_both : false ≡ true → ⊥
 not_both e = absurd cc
 
 pub loop-entry-preserved : goal.loop-entry-preserved
 loop-entry-preserved c =
-    let P : Entry → Type 0 = IsSentCell c.args.plan.now c.args.first c.args.number in
+    let P : Entry → Type 0 = IsSentCell c.args.cell.now in
     let list = c.args.list.now in
     let i = c.loop-entry.entry-index in
     let n = c.loop-entry.held in

@@ -1,4 +1,4 @@
-use Rattle.lte_top.proofs.Entries.{all_valid}
+use Rattle.explain.proofs.Valid.{all_valid}
 use Rattle.lte_top.proofs.reporting.list_of.Goals as goal
 
 pub returns-clause-valid : goal.returns-clause-valid

@@ -1,0 +1,13 @@
+-- Sizes of samples.
+pub mod WaveSizes
+-- The estimate of a gain.
+pub mod Estimates
+-- The best candidate, and what it leaves.
+pub mod Best
+pub mod Found
+-- A recording that is clean of a cell.
+pub mod InRecording
+-- There is one answer.
+pub mod Once
+-- What the code chooses.
+pub mod Chosen

@@ -1,0 +1,9 @@
+use Rattle.std.proofs.Common.{arith}
+use Rattle.cancel.proofs.InRecording.{answer_is_clean}
+use Rattle.cancel.proofs.taking.subtract.Goals as goal
+
+pub returns-clause-clean : goal.returns-clause-clean
+returns-clause-clean c =
+    let long = c.if-prove.false in
+    let count = c.len-count.ensures.value in
+    answer_is_clean c.args.recording.now c.args.cell.now c.args.start c.args.sfn c.answer_of.result (omega (arith, long, count)) c.answer_of.ensures

@@ -1,0 +1,46 @@
+-- Laws of taking a cell off. (own)
+use Rattle.std.specs.Prelude.{◌≡◌, ℕ, ◌*◌, ◌<◌, ◌≤◌, List, Option}
+use Rattle.cs_num.specs.declared.Cpx.{Cpx}
+use Rattle.cs_num.specs.declared.Sample.{Sample}
+use Rattle.cs_num.specs.Complex.{IsWithin, times, minus, square}
+use Rattle.sizes.specs.Sizes.{energy_below}
+use Rattle.cell_tx.specs.declared.cell.CellPlan.{CellPlan}
+use Rattle.cell_tx.specs.Clean.{IsGain}
+use Rattle.cancel.specs.declared.subtracted.Subtracted.{Subtracted}
+use Rattle.cancel.specs.Gain.{estimate, IsCandidate, IsBest, greatest_below}
+use Rattle.cancel.specs.Residue.{IsSubtraction}
+
+-- 128 samples are a signal times a gain, with errors of at most twice the gain's size in each component
+pub record IsGainSeen (eps : ℕ) (gain : Cpx) (samples signal : ℕ → Cpx) : Type 0 where
+  pub size : IsGain gain
+  pub quiet : eps * eps ≤ 4 * square gain
+  pub power : 1990000 ≤ energy_below 128 signal
+  pub near : (n : ℕ) → n < 128 → IsWithin eps (minus (samples n) (times gain (signal n)))
+
+-- then the gain is the estimate, or stands beside it
+abbrev pub EstimateIsNear : Type 0
+EstimateIsNear = (eps : ℕ) (gain : Cpx) (samples signal : ℕ → Cpx) → IsGainSeen eps gain samples signal →
+    square (minus gain (estimate samples signal)) ≤ 1
+
+-- and so it is a candidate
+abbrev pub GainIsCandidate : Type 0
+GainIsCandidate = (eps : ℕ) (gain : Cpx) (samples signal : ℕ → Cpx) → IsGainSeen eps gain samples signal →
+    IsCandidate (estimate samples signal) gain
+
+-- what the best candidate leaves has components no greater than what any candidate leaves
+abbrev pub BestLeavesLeast : Type 0
+BestLeavesLeast =
+    (count : ℕ) (left : Cpx → ℕ → Cpx) (middle best gain : Cpx) (bound : ℕ) →
+    IsBest (λ g. greatest_below count (left g)) middle best → IsCandidate middle gain →
+    ((i : ℕ) → i < count → IsWithin bound (left gain i)) →
+    (greatest_below count (left best) ≤ bound) × ((i : ℕ) → i < count → IsWithin bound (left best i))
+
+-- there is only one best candidate
+abbrev pub IsOneBest : Type 0
+IsOneBest = (greatest : Cpx → ℕ) (middle gain other : Cpx) → IsBest greatest middle gain →
+    IsBest greatest middle other → gain ≡ other
+
+-- and so one answer
+abbrev pub IsOneSubtraction : Type 0
+IsOneSubtraction = (recording : List Sample) (plan : CellPlan) (start number : ℕ) (a b : Option Subtracted) →
+    IsSubtraction recording plan start number a → IsSubtraction recording plan start number b → a ≡ b

@@ -1,0 +1,4 @@
+pub mod Gain
+pub mod Residue
+pub mod Steps
+pub mod Laws

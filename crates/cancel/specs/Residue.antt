@@ -1,0 +1,96 @@
+-- What is left of a recording when a cell is taken off. (own)
+use Rattle.std.specs.Prelude.{◌≡◌, ℕ, ◌+◌, ◌-◌, ◌%◌, ◌<◌, ◌≤◌, nat_eq, if◌then◌else◌, ℤ, List, length, Option, Some, None, IsSomeAnd}
+use Rattle.std.specs.Int.{w16, saturate_signed}
+use Rattle.finite.specs.Lists.{values_below}
+use Rattle.cs_num.specs.declared.Cpx.{Cpx}
+use Rattle.cs_num.specs.declared.Sample.{Sample}
+use Rattle.cs_num.specs.Complex.{IsWithin, sample_at, minus, times}
+use Rattle.sizes.specs.Sizes.{energy_below}
+use Rattle.lte_types.specs.Numerology.{frame_length, primary_start}
+use Rattle.lte_types.specs.declared.frame.Half.TheVariants.{Zero}
+use Rattle.pss_search.specs.Correlation.{wave}
+use Rattle.cell_tx.specs.declared.cell.CellPlan.{CellPlan}
+use Rattle.cell_tx.specs.Grid.{element}
+use Rattle.cell_tx.specs.Sent.{sent, gain_of}
+use Rattle.cell_tx.specs.Clean.{IsClean, start_of, number_at_start}
+use Rattle.cancel.specs.declared.subtracted.Subtracted.{Subtracted}
+use Rattle.cancel.specs.Gain.{estimate, IsCandidate, greatest_below, IsBest}
+
+-- ---- the cell, of which a frame begins at a sample, its start, and has a number there
+
+-- the gain that the primary signal of that frame tells
+abbrev pub estimate_at : List Sample → CellPlan → ℕ → Cpx
+estimate_at recording plan start =
+    estimate (λ n. sample_at recording (start + primary_start Zero + n)) (wave (plan.identity % 3))
+
+-- the sample of the cell's frames at which the recording begins
+abbrev pub offset_of : ℕ → ℕ
+offset_of start = (frame_length - start) % frame_length
+
+-- the number of the frame that it begins in: where the start is not its first sample one less than at the start, modulo
+-- 1,024
+abbrev pub number_before : ℕ → ℕ → ℕ
+number_before start number = if nat_eq start 0 then number else (number + 1023) % 1024
+
+-- what the cell sends at sample i of the recording
+abbrev pub sent_at : CellPlan → ℕ → ℕ → ℕ → Cpx
+sent_at plan start number i = sent (element plan) (number_before start number) (i + offset_of start)
+
+-- ---- what a gain leaves
+
+-- of sample i
+abbrev pub left_at : List Sample → CellPlan → ℕ → ℕ → Cpx → ℕ → Cpx
+left_at recording plan start number gain i = minus (sample_at recording i) (times gain (sent_at plan start number i))
+
+-- its greatest size of a component, over all samples
+abbrev pub greatest_left : List Sample → CellPlan → ℕ → ℕ → Cpx → ℕ
+greatest_left recording plan start number gain =
+    greatest_below (length recording) (left_at recording plan start number gain)
+
+-- the gain with which the cell is taken off: the candidate that leaves least
+abbrev pub IsTaken : List Sample → CellPlan → ℕ → ℕ → Cpx → Type 0
+IsTaken recording plan start number gain =
+    IsBest (greatest_left recording plan start number) (estimate_at recording plan start) gain
+
+-- the nearest number of 16 bits
+abbrev pub in_16_bits : ℤ → ℤ
+in_16_bits x = saturate_signed w16 x
+
+abbrev pub sample_in_16_bits : Cpx → Sample
+sample_in_16_bits z = record { re = in_16_bits z.re; im = in_16_bits z.im }
+
+-- the residue: what the gain leaves, each component in 16 bits
+abbrev pub residue_of : List Sample → CellPlan → ℕ → ℕ → Cpx → List Sample
+residue_of recording plan start number gain =
+    values_below (length recording) (λ i. sample_in_16_bits (left_at recording plan start number gain i))
+
+-- the power of samples: the sum of |r(i)|^2
+abbrev pub power_of : List Sample → ℕ
+power_of samples = energy_below (length samples) (sample_at samples)
+
+-- the cell is taken off with its gain, and this is left
+pub record IsSubtracted (recording : List Sample) (plan : CellPlan) (start number : ℕ) (taken : Subtracted) : Type 0 where
+  pub gain : IsTaken recording plan start number (gain_of taken.gain)
+  pub greatest : taken.greatest ≡ greatest_left recording plan start number (gain_of taken.gain)
+  pub residue : taken.residue ≡ residue_of recording plan start number (gain_of taken.gain)
+  pub before : taken.before ≡ power_of recording
+  pub after : taken.after ≡ power_of taken.residue
+
+-- so it is, or there is no candidate
+abbrev pub IsSubtraction : List Sample → CellPlan → ℕ → ℕ → Option Subtracted → Type 0
+IsSubtraction recording plan start number (Some taken) = IsSubtracted recording plan start number taken
+IsSubtraction recording plan start number None = (gain : Cpx) → IsCandidate (estimate_at recording plan start) gain → ⊥
+
+-- ---- clean recordings
+
+-- no component that is left has a size above eps, before and after it is taken to 16 bits
+pub record IsLeftWithin (eps : ℕ) (taken : Subtracted) : Type 0 where
+  pub greatest : taken.greatest ≤ eps
+  pub each : (i : ℕ) → i < length taken.residue → IsWithin eps (sample_at taken.residue i)
+
+-- where the recording is clean of the cell, with its first frame and that frame's number, it is taken off, and no more
+-- is left than the errors, whatever its first sample, gain and errors are
+abbrev pub TakesCleanOff : List Sample → CellPlan → ℕ → ℕ → Option Subtracted → Type 0
+TakesCleanOff recording plan start number answer =
+    (sfn offset : ℕ) (gain : Cpx) (eps : ℕ) → IsClean recording plan sfn offset gain eps → start ≡ start_of offset →
+    number ≡ number_at_start sfn offset → IsSomeAnd answer (IsLeftWithin eps)

@@ -1,0 +1,110 @@
+//! The gain that a primary synchronisation signal tells.
+
+ghost use Rattle.std.specs.Prelude.{◌≡◌, ℕ, ◌+◌, ◌*◌, ◌%◌, ◌^◌, ◌<◌, ◌≤◌, All, length, nat_abs};
+ghost use Rattle.finite.specs.Lists.{values_below};
+ghost use Rattle.cs_num.specs.Complex.{IsWithin, value_of, value_at, sample_at, times, conjugate};
+ghost use Rattle.sizes.specs.Sizes.{correlation_below};
+ghost use Rattle.lte_types.specs.Numerology.{frame_length};
+ghost use Rattle.pss_search.specs.Correlation.{pss_grid, wave, wave_list, wave_power};
+ghost use Rattle.cancel.specs.Gain.{quotient_part, quotient as quotient_of};
+ghost use Rattle.cancel.specs.Residue.{estimate_at};
+
+use cell_tx::Cell;
+use cs_num::{Cpx, Sample};
+use fold128::synth;
+use lte_types::{CellId, Prefix};
+use pss_search::signal_power;
+use sample_file::Recording;
+use sync_seq::{in_middle, pss};
+
+/// The gain that the first primary signal of a cell tells, a frame of which begins at `start`, below 19,200.
+pub(crate) fn estimate(recording: &Recording, cell: &Cell, start: u32) -> Cpx
+    requires { start < frame_length }
+    ensures value { result ≡ estimate_at recording.now cell.now start }
+    ensures small { IsWithin (2 ^ 40) result }
+{
+    let n2 = root_of(cell);
+    let count = recording.len();
+    prove!(57_600 <= count);
+    let wave = wave_of(n2);
+    let first = Prefix::NORMAL.useful_start(start as usize, 0, 6);
+    let sum = correlation(recording, first, n2, &wave);
+    quotient(sum, signal_power(n2))
+}
+
+// The identity of a cell within its group.
+fn root_of(cell: &Cell) -> u8
+    ensures value { result ≡ cell.now.identity % 3 }
+    ensures small { result ≤ 2 }
+{
+    (cell.plan().identity % 3) as u8
+}
+
+// The grid of a symbol that holds the primary sequence of an identity within its group alone.
+fn grid_of(n2: u8) -> [Cpx; 72]
+    requires { n2 ≤ 2 }
+    ensures { result ≡ values_below 72 (pss_grid n2) }
+{
+    in_middle(&pss(n2))
+}
+
+// The useful part of that symbol.
+fn wave_of(n2: u8) -> [Cpx; 128]
+    requires { n2 ≤ 2 }
+    ensures value { result ≡ wave_list n2 }
+    ensures small { All (IsWithin 1415) result }
+{
+    let grid = grid_of(n2);
+    synth(&grid)
+}
+
+// A sample times the conjugate of a signal's.
+fn term(sample: Sample, signal: Cpx) -> Cpx
+    requires { IsWithin 1415 signal }
+    ensures value { result ≡ times (value_of sample) (conjugate signal) }
+    ensures small { IsWithin (2 ^ 27) result }
+{
+    Cpx::from(sample).mul(signal.conj())
+}
+
+// The sum of the samples from a place on times the conjugate of a signal's.
+fn correlation(recording: &Recording, first: usize, n2: u8, signal: &[Cpx; 128]) -> Cpx
+    requires inside { first + 128 ≤ length recording.now }
+    requires signal { signal.now ≡ wave_list n2 }
+    requires small { All (IsWithin 1415) signal.now }
+    ensures value { result ≡ correlation_below 128 (λ n. sample_at recording.now (first + n)) (wave n2) }
+    ensures small { IsWithin (2 ^ 34) result }
+{
+    let count = recording.len();
+    prove!(count <= 1_920_000);
+    let mut sum = Cpx::ZERO;
+    for n in 0..128 {
+        sum = sum + term(recording.get(first + n), signal[n]);
+    }
+    sum
+}
+
+// One component of the quotient.
+fn part(z: i64, power: u64) -> i64
+    requires small { nat_abs z ≤ 2 ^ 34 }
+    requires some { 0 < power }
+    requires few { power ≤ 2001665 }
+    ensures value { result ≡ quotient_part z power }
+    ensures small { nat_abs result ≤ 2 ^ 40 }
+{
+    (2 * z + power as i64).div_euclid(2 * power as i64)
+}
+
+// The sum divided by the signal's power, rounded to the nearest.
+fn quotient(z: Cpx, power: u64) -> Cpx
+    requires small { IsWithin (2 ^ 34) z }
+    requires some { 0 < power }
+    requires few { power ≤ 2001665 }
+    ensures value { result ≡ quotient_of z power }
+    ensures small { IsWithin (2 ^ 40) result }
+{
+    Cpx {
+        re: part(z.re, power),
+        im: part(z.im, power),
+    }
+}

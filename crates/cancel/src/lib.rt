@@ -1,0 +1,16 @@
+//! A found cell is taken off a recording: the gain with which it stands there, what is left without it, and that
+//! no more than the errors are left of a clean recording of the cell.
+#![tactic(auto)]
+
+mod choosing;
+mod estimating;
+mod laws;
+mod subtracted;
+mod taking;
+
+pub use laws::{best_candidate_is_one, clean_gain_is_candidate};
+pub use subtracted::Subtracted;
+pub use taking::subtract;
+
+#[cfg(test)]
+mod tests;

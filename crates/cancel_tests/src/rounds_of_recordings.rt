@@ -1,0 +1,146 @@
+ghost use Rattle.std.specs.Prelude.{◌≡◌, ◌≤◌, IfOk, length};
+
+use cell_json::read;
+use cell_tx::send_all;
+use cs_num::{Sample, clamp_div};
+use explain::Workspace;
+use rounds::{cancel_rounds, cancel_text, one_text, rounds_in_plain_words};
+use sample_file::Recording;
+use std::alloc::Global;
+use std::test::Fail;
+use test_signals::{Rows, put_rows, put_signals, silent};
+
+// Expected texts are those of `scripts/second_cancel.py`.
+
+// The plain cell.
+const PLAIN: &str = r#"{"identity": 0, "sfn": 0, "offset": 0, "samples": 57600, "gain": [20, 9],
+ "duration": "normal", "resource": "one", "spare": 0, "cfi": 2, "start": 0, "blocks": 6, "mcs": 4, "column": 2,
+ "sib1": {"plmns": [{"mcc": "001", "mnc": "01", "reserved": false}], "tac": 1, "cell": 1, "barred": false,
+ "intra": true, "csg": false, "csg_identity": null, "q_rx": -70, "q_offset": null, "p_max": null, "band": 1,
+ "scheduling": [{"period": 8, "sibs": []}], "window": 1, "tag": 0}}"#;
+
+// Another cell, 20 dB below it.
+const OTHER: &str =
+    r#"{"identity": 150, "sfn": 514, "offset": 5000, "samples": 57600, "gain": [2, -1],
+ "duration": "extended", "resource": "two", "spare": 5, "cfi": 3, "start": 0, "blocks": 6, "mcs": 5, "column": 3,
+ "sib1": {"plmns": [{"mcc": "001", "mnc": "01", "reserved": false}], "tac": 1, "cell": 1, "barred": false,
+ "intra": true, "csg": false, "csg_identity": null, "q_rx": -70, "q_offset": null, "p_max": null, "band": 1,
+ "scheduling": [{"period": 8, "sibs": []}], "window": 1, "tag": 0}}"#;
+
+// Symbols 0 to 4 of slot 1 of identity 0: width n50, made by a second program.
+const WIDE: Rows = [
+    b"321.22230.20323.23211.31000.11321.11110.03230.33021.11103.21202.21130.33",
+    b".02.03.31.20.13.22.31.02.32.01.13.02.02.11.01.13.11.22.10.12.23.32.21.30",
+    b"111313100331221332010132013322213222112220011211303301332003202213012031",
+    b"231230121011012021222231221202100100000120233032121320210002020020330313",
+    b"...0.....3.....3.....3.....2.....2.....0.....1.....3.....3.....0.....0..",
+];
+
+// The samples that a description sends.
+fn sent(alloc: Global, description: &str) -> Result<Vec<Sample>, Fail>
+    ensures { IfOk result (λ samples. length samples.items ≡ 57600) }
+{
+    let transmission = read(alloc, description.as_bytes())?;
+    if transmission.samples != 57_600 {
+        return Err("30 ms".into());
+    }
+    let mut samples = silent(alloc, 57_600)?;
+    send_all(&transmission, &mut samples);
+    Ok(samples)
+}
+
+// Adds samples to samples.
+fn add(samples: &mut [Sample], others: &[Sample])
+    requires { length others.now ≡ length samples.old }
+    ensures { length samples.new ≡ length samples.old }
+{
+    for i in 0..samples.len() {
+        samples[i] = Sample {
+            re: clamp_div(samples[i].re as i64 + others[i].re as i64, 1, 32_767),
+            im: clamp_div(samples[i].im as i64 + others[i].im as i64, 1, 32_767),
+        };
+    }
+}
+
+// The text of samples.
+fn text_of(alloc: Global, samples: Vec<Sample>) -> Result<String, Fail> {
+    let recording = Recording::new(samples).ok_or("30 ms")?;
+    Ok(cancel_text(alloc, &recording)?)
+}
+
+#[test]
+fn silence_has_no_cell_to_take_off(rt: HostRuntime) -> Result<(), Fail> {
+    let text = text_of(rt.alloc(), silent(rt.alloc(), 57_600)?)?;
+    assert_eq!(rt; text.as_str(), "cells 0\ncancelled none\n");
+    rounds_in_plain_words();
+    one_text();
+    Ok(())
+}
+
+#[test]
+fn a_lone_cell_leaves_silence(rt: HostRuntime) -> Result<(), Fail> {
+    let text = text_of(rt.alloc(), sent(rt.alloc(), PLAIN)?)?;
+    assert_eq!(rt; text.as_str(), LONE);
+    Ok(())
+}
+
+const LONE: &str = "cells 1
+cell 0 at 0 sfn 0 ports 1 n6 phich normal one br 0 spare 0
+sib1 tac 1 cell 1 open allowed csg 0 - rx -70 offset - pmax - band 1 window ms1 tag 0 tdd - extension 0
+plmn 001 01 free
+si rf8 -
+cancelled 0 gain 20 9 residue 0
+power 81662490728 0
+cells 0
+cancelled none
+";
+
+#[test]
+fn a_wider_cell_has_no_plan(rt: HostRuntime) -> Result<(), Fail> {
+    let mut samples = silent(rt.alloc(), 57_600)?;
+    put_signals(&mut samples[..], 0);
+    put_rows(&mut samples[..], 0, &WIDE);
+    let text = text_of(rt.alloc(), samples)?;
+    assert_eq!(rt;
+        text.as_str(),
+        "cells 1\ncell 0 at 0 sfn 0 ports 1 n50 phich normal one br 0 spare 0\nsib1 none bandwidth n50\ncancelled none\n"
+    );
+    Ok(())
+}
+
+#[test]
+fn a_weaker_cell_is_found_and_four_rounds_are_made(rt: HostRuntime) -> Result<(), Fail> {
+    let mut samples = sent(rt.alloc(), PLAIN)?;
+    let others = sent(rt.alloc(), OTHER)?;
+    add(&mut samples[..], &others);
+    let recording = Recording::new(samples).ok_or("30 ms")?;
+    let mut work = Workspace::new(rt.alloc())?;
+    let rounds = cancel_rounds(rt.alloc(), &recording, &mut work)?;
+    assert_eq!(rt; rounds.first.slice().len(), 1);
+    assert!(rt; !rounds.ended);
+    let mut told = Vec::new(rt.alloc());
+    for round in &rounds.taken {
+        let taken = &round.taken;
+        told.push((
+            round.id.value(),
+            taken.gain,
+            taken.greatest,
+            taken.before,
+            taken.after,
+        ))?;
+        assert_eq!(rt; round.list.slice().len(), 2);
+        assert_eq!(rt; round.list.slice()[1].id.value(), 150);
+    }
+    let (first, less, more) = (82_530_174_415, 1_168_250_863, 1_515_079_615);
+    assert_eq!(rt;
+        told.as_slice(),
+        [
+            (0, (18, 9), 999, first, more),
+            (0, (1, -1), 999, more, less),
+            (0, (-1, 1), 999, less, more),
+            (0, (1, -1), 999, more, less),
+        ]
+        .as_slice()
+    );
+    Ok(())
+}

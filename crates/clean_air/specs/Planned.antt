@@ -1,0 +1,55 @@
+-- The plan by which a listed cell was sent. (own)
+use Rattle.std.specs.Prelude.{◌≡◌, ℕ, List, Option, Some, None, Ok}
+use Rattle.cs_num.specs.declared.Cpx.{Cpx}
+use Rattle.cs_num.specs.declared.Sample.{Sample}
+use Rattle.lte_types.specs.declared.bandwidth.Bandwidth.TheVariants.{N6}
+use Rattle.lte_types.specs.declared.sib1.Sib1.{Sib1}
+use Rattle.lte_types.specs.declared.entry.Entry.{Entry}
+use Rattle.dci.specs.declared.grant.Grant.{Grant}
+use Rattle.explain.specs.Entries.{IsInList}
+use Rattle.explain.specs.Grant.{IsGrantOf}
+use Rattle.cell_tx.specs.declared.cell.CellPlan.{CellPlan}
+use Rattle.cell_tx.specs.Plan.{IsSendable, plan_refusal}
+use Rattle.cell_tx.specs.Clean.{IsClean, start_of, number_at_start}
+
+-- the plan of an entry's cell, which sends this block with this indicator and as this grant says
+abbrev pub plan_by : Entry → ℕ → Grant → Sib1 → CellPlan
+plan_by entry indicator grant block = record {
+  identity = entry.id;
+  duration = entry.mib.duration;
+  resource = entry.mib.resource;
+  spare = entry.mib.spare;
+  cfi = indicator;
+  start = grant.start;
+  blocks = grant.blocks;
+  mcs = grant.mcs;
+  column = grant.column;
+  sib1 = block;
+}
+
+-- the entry's cell has this plan: that of the entry's fields and of the indicator and the grant by which they were read, with
+-- one antenna port and bandwidth n6, and none of the conditions of a plan fails
+pub record IsPlanned (recording : List Sample) (entry : Entry) (plan : CellPlan) : Type 0 where
+  pub grant : Grant
+  pub granted : IsGrantOf recording entry (Some (plan.cfi, grant))
+  pub listed : entry.sib1 ≡ Ok plan.sib1
+  pub ports : entry.ports ≡ 1
+  pub bandwidth : entry.mib.bandwidth ≡ N6
+  pub told : plan ≡ plan_by entry plan.cfi grant plan.sib1
+  pub accepted : plan_refusal plan ≡ None
+
+-- the plan, or none where there is none such
+abbrev pub IsPlanOf : List Sample → Entry → Option CellPlan → Type 0
+IsPlanOf recording entry (Some plan) = IsPlanned recording entry plan
+IsPlanOf recording entry None = (plan : CellPlan) → IsPlanned recording entry plan → ⊥
+
+-- where the recording is clean of a cell that can be sent, and the entry is of its identity, of the sample at which its first
+-- frame begins and of that frame's number, the plan is the one by which it was sent
+abbrev pub IsSentPlan : List Sample → Entry → Option CellPlan → Type 0
+IsSentPlan recording entry answer =
+    (plan : CellPlan) (sfn offset : ℕ) (gain : Cpx) (eps : ℕ) → IsSendable plan → IsClean recording plan sfn offset gain eps →
+    entry.id ≡ plan.identity → entry.start ≡ start_of offset → entry.sfn ≡ number_at_start sfn offset → answer ≡ Some plan
+
+-- a law: an entry has one plan, or none
+abbrev pub IsOnePlan : Type 0
+IsOnePlan = (recording : List Sample) (entry : Entry) (a b : Option CellPlan) → IsPlanOf recording entry a → IsPlanOf recording entry b → a ≡ b

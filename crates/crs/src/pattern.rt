@@ -1,0 +1,35 @@
+//! What reference signals differ in, by antenna port and cyclic prefix.
+
+/// What the reference signals of an antenna port with a cyclic prefix differ in (TS 36.211 section 6.10.1).
+#[derive(Clone, Copy, Debug, PartialEq, Eq)]
+pub struct Pattern {
+    /// The second symbol of a slot that has them: 4, and 3 with the extended prefix.
+    pub later: u8,
+    /// v in symbol 0: 0 for port 0 and 3 for port 1; in the later symbol v is 3 less it.
+    pub shift: u8,
+    /// N_CP: 1 with the normal prefix and 0 with the extended one.
+    pub prefix: u8,
+}
+
+impl Pattern {
+    /// Port 0 with the normal prefix.
+    pub const FIRST_PORT: Pattern = Pattern {
+        later: 4,
+        shift: 0,
+        prefix: 1,
+    };
+
+    /// Port 1 with the normal prefix, the second of two.
+    pub const SECOND_PORT: Pattern = Pattern {
+        later: 4,
+        shift: 3,
+        prefix: 1,
+    };
+
+    /// Port 0 with the extended prefix.
+    pub const LONG_PREFIX: Pattern = Pattern {
+        later: 3,
+        shift: 0,
+        prefix: 0,
+    };
+}

@@ -1,0 +1,24 @@
+-- The places of the broadcast channel by their number, and back.
+pub mod Order
+-- The elements of a grid, case by case.
+pub mod Elements
+-- Sizes of the elements.
+pub mod Amounts
+-- Where the samples of a frame's symbols stand.
+pub mod Frames
+-- The samples of a recording by number.
+pub mod Samples
+-- Each symbol of a clean recording is received as it was sent.
+pub mod SentSignals
+-- A slot that carries the word of a master block tells it.
+pub mod Told
+-- The soft values of a slot are small.
+pub mod Pairs
+-- The master blocks of a frame.
+pub mod Frame
+-- The hits that are taken.
+pub mod Late
+-- All together: the list of a clean recording holds its cell.
+pub mod HeldLong
+-- A number has one recording.
+pub mod Numbered

@@ -1,0 +1,20 @@
+use Rattle.std.proofs.Common.{◌≡◌, ℕ, ◌<◌, ◌≤◌, length, get_or, arith, subst}
+use Rattle.std.proofs.lemmas.List.{get_or_default}
+use Rattle.lte_types.specs.declared.hit.Hit.{Hit}
+use Rattle.lte_types.specs.Numerology.{extended, symbol_step}
+use Rattle.long_prefix.proofs.Late.{is_late, kept_from, later_pass}
+use Rattle.long_prefix.proofs.listing.early_hits.Goals as goal
+
+pub returns-then-step-hit-clause-later : goal.returns-then-step-hit-clause-later
+returns-then-step-hit-clause-later c =
+    let hits = c.args.hits.now in
+    let none : Hit = record { t = 0; n2 = 0; peak = 0; energy = 0 } in
+    let here : symbol_step extended ≤ (get_or hits c.loop-at.at none).t = omega (arith, c.step.ensures, c.if-step-hit.true) in
+    kept_from is_late hits c.loop-at.at (omega (arith, c.loop-at-test.true)) c.loop-at.invariant.early
+    (λ k d above inside. later_pass hits c.loop-at.at k d c.requires.span c.requires.order (subst (λ (h : Hit). symbol_step extended ≤ h.t) (get_or_default hits c.loop-at.at none d c.loop-at-test.true) here) above inside)
+
+pub returns-clause-later : goal.returns-clause-later
+returns-clause-later c =
+    let hits = c.args.hits.now in
+    kept_from is_late hits (length hits) (omega arith) (λ k d below. c.loop-at.invariant.early k d (omega (arith, below, c.loop-at-test.false, c.loop-at.auto.at-end)))
+    (λ k d above inside. absurd (omega (arith, above, inside)))

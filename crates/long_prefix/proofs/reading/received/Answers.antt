@@ -1,0 +1,11 @@
+use Rattle.std.proofs.Common.{◌≡◌, ℕ, List, ap, ◌∙◌}
+use Rattle.cs_num.specs.declared.Cpx.{Cpx}
+use Rattle.soft_bits.specs.Soft.{SeenSlot}
+use Rattle.long_prefix.specs.Entries.{long_slot, long_values}
+use Rattle.long_prefix.proofs.reading.received.Goals as goal
+
+pub returns-clause-values : goal.returns-clause-values
+unfolding long_slot
+returns-clause-values c =
+    c.values_of.ensures.values
+    ∙ ap (λ (symbols : List (List Cpx)). let slot : SeenSlot = record { symbols = symbols; number = 1; identity = c.args.id } in long_values slot) c.symbols_of-symbols.ensures.values

@@ -1,0 +1,13 @@
+use Rattle.std.proofs.Common.{◌≡◌, ◌*◌, length}
+use Rattle.lte_types.specs.Numerology.{extended}
+use Rattle.cell_tx.specs.Sent.{prefix_frame_sample}
+use Rattle.cell_tx.specs.Rows.{HasSamples, AreSameOutside}
+use Rattle.long_prefix.specs.Grid.{long_element}
+use Rattle.long_prefix.proofs.sending.put_symbol.Given as goal
+
+abbrev pub invariant-loop-i : goal.invariant-loop-i
+invariant-loop-i l = record {
+  whole : length l.out ≡ 19200;
+  samples : HasSamples l.out (prefix_frame_sample extended (long_element l.frame.plan.now) l.frame.sfn) (160 * l.symbol) l.i;
+  rest : AreSameOutside (160 * l.symbol) l.i l.fn.out l.out;
+}

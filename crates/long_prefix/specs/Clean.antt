@@ -1,0 +1,26 @@
+-- The list of a recording that is clean of a cell with the extended cyclic prefix: it holds this cell. (own)
+use Rattle.std.specs.Prelude.{◌≡◌, ℕ, ◌/◌, ◌≤◌, List, Err}
+use Rattle.cs_num.specs.declared.Cpx.{Cpx}
+use Rattle.cs_num.specs.declared.Sample.{Sample}
+use Rattle.lte_types.specs.declared.bandwidth.Bandwidth.TheVariants.{N6}
+use Rattle.lte_types.specs.declared.entry.Entry.{Entry}
+use Rattle.lte_types.specs.declared.sib1_reason.Sib1Reason.TheVariants.{LongPrefix}
+use Rattle.lte_types.specs.Block.{HasFields}
+use Rattle.cell_tx.specs.Clean.{start_of, number_at_start}
+use Rattle.clean_air.specs.Clean.{HoldsOne}
+use Rattle.long_prefix.specs.declared.plan.LongPlan.{LongPlan}
+use Rattle.long_prefix.specs.Sent.{IsCleanOfLong}
+
+-- the entry has one antenna port and the fields of the master block of a plan in the frame with this number (TS 36.331 section
+-- 6.2.2); its system information is not read
+pub record IsSentEntryOfLong (plan : LongPlan) (number : ℕ) (entry : Entry) : Type 0 where
+  pub ports : entry.ports ≡ 1
+  pub block : HasFields entry.mib N6 plan.mib.duration plan.mib.resource (number / 4) plan.mib.spare
+  pub sib1 : entry.sib1 ≡ Err LongPrefix
+
+-- the list holds each cell of which the recording is clean, whatever its plan, its first frame's number, the offset, the gain and
+-- the errors are
+abbrev pub HoldsCleanCellsOfLong : List Sample → List Entry → Type 0
+HoldsCleanCellsOfLong recording list =
+    (plan : LongPlan) (sfn offset : ℕ) (gain : Cpx) (eps : ℕ) → plan.id ≤ 503 → IsCleanOfLong recording plan sfn offset gain eps →
+    HoldsOne list plan.id (start_of offset) (number_at_start sfn offset) (IsSentEntryOfLong plan (number_at_start sfn offset))

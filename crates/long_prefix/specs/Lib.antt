@@ -1,0 +1,8 @@
+pub mod Places
+pub mod Grid
+pub mod Sent
+pub mod Rows
+pub mod Made
+pub mod Entries
+pub mod Reading
+pub mod Clean

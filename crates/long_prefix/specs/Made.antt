@@ -1,0 +1,36 @@
+-- Recording number n with the extended cyclic prefix: the recipe is that of one port, without the control region and system
+-- information. (own)
+use Rattle.std.specs.Prelude.{◌≡◌, ℕ, ◌/◌, nat_abs, List}
+use Rattle.cs_num.specs.declared.Cpx.{Cpx}
+use Rattle.cs_num.specs.declared.Sample.{Sample}
+use Rattle.lte_types.specs.declared.bandwidth.Bandwidth.TheVariants.{N6}
+use Rattle.lte_types.specs.Block.{HasFields}
+use Rattle.cell_tx.specs.Laws.{received_with}
+use Rattle.cell_tx.specs.Sent.{gain_of}
+use Rattle.capture_make.specs.Recipe.{plan, number, offset, sample_count, gain, IsBound}
+use Rattle.capture_make.specs.Errors.{error}
+use Rattle.long_prefix.specs.declared.plan.LongPlan.{LongPlan}
+use Rattle.long_prefix.specs.declared.made.LongMade.{LongMade}
+use Rattle.long_prefix.specs.Sent.{long_sent, IsCleanOfLong}
+
+-- what is sent: the identity and the master block of the cell of number n
+pub record IsPlanOf (n : ℕ) (sent : LongPlan) : Type 0 where
+  pub id : sent.id ≡ (plan n).identity
+  pub block : HasFields sent.mib N6 (plan n).duration (plan n).resource (number n / 4) (plan n).spare
+
+-- its samples, where the errors have this bound: what is sent of a plan, times the gain, and each sample's error
+unfoldable pub samples : LongPlan → ℕ → ℕ → List Sample
+samples sent n bound = received_with (long_sent sent (number n)) (offset n) (sample_count n) (gain n) (error n bound)
+
+-- what was sent, the bound of the errors, and the samples are those of recording number n
+pub record IsMadeLong (n : ℕ) (made : LongMade) : Type 0 where
+  pub plan_is : IsPlanOf n made.plan
+  pub number_is : made.sfn ≡ number n
+  pub offset_is : made.offset ≡ offset n
+  pub gain_is : gain_of made.gain ≡ gain n
+  pub bound : IsBound (gain n) made.bound
+  pub samples_are : made.recording ≡ samples made.plan n (nat_abs made.bound)
+
+-- the recording is a clean one of what was sent, with errors within the bound
+abbrev pub IsCleanlyMade : LongMade → Type 0
+IsCleanlyMade made = IsCleanOfLong made.recording made.plan made.sfn made.offset (gain_of made.gain) (nat_abs made.bound)

@@ -1,0 +1,20 @@
+//! The extended cyclic prefix, to the master block: what a cell sends with it, recordings by number, the list of the
+//! cells that a recording explains by it, and that it holds each clean cell (TS 36.211 sections 6.6, 6.10.1, 6.11 and
+//! 6.12).
+#![tactic(auto)]
+
+mod grid;
+mod listing;
+mod made;
+mod places;
+mod plan;
+mod reading;
+mod sending;
+
+pub use listing::{Workspace3, explain_clean};
+pub use made::{LongMade, made_is_clean, make};
+pub use plan::LongPlan;
+pub use sending::sample;
+
+#[cfg(test)]
+mod tests;

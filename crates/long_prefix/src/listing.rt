@@ -1,0 +1,132 @@
+//! The list of the cells of a recording.
+
+ghost use Rattle.std.specs.Prelude.{◌≡◌, ◌≤◌, All, drop, filter, length, nat_le, IfOk, Err};
+ghost use Rattle.std.specs.List.{AllPairs};
+ghost use Rattle.lte_types.specs.declared.sib1_reason.Sib1Reason.TheVariants.{LongPrefix as IsLong};
+ghost use Rattle.lte_types.specs.Numerology.{extended, symbol_step};
+ghost use Rattle.lte_types.specs.Ranges.{IsValid};
+ghost use Rattle.pss_search.specs.Hits.{IsInSpan};
+ghost use Rattle.pss_search.specs.Laws.{IsEarlier};
+ghost use Rattle.long_prefix.specs.Clean.{HoldsCleanCellsOfLong};
+ghost use Rattle.long_prefix.specs.Entries.{long_place, IsLongMaster, IsLongSystem, IsExplainedOfLong};
+
+use crate::reading::first_masters;
+use explain::{CellReader, EntryList, Masters, Place, Places, explain_by};
+use lte_types::{CellId, Hit, Prefix, Sfn, Sib1, Sib1Reason};
+use pbch::Master;
+use pss_search::{HitList, hits, hits_are_right};
+use sample_file::Recording;
+use sss_detect::{cell_id, frame_start, identity_with};
+use std::alloc::{AllocError, Global};
+use tailbite::Trellis;
+
+// The way to read the cells of a recording by the extended cyclic prefix.
+#[derive(Drop)]
+struct LongReader {
+    trellis: Trellis,
+}
+
+/// The working memory of a search for cells with the extended cyclic prefix. What it holds between two searches means
+/// nothing.
+#[derive(Drop)]
+pub struct Workspace3 {
+    hits: HitList,
+    places: Places,
+    reader: LongReader,
+}
+
+impl Workspace3 {
+    /// Takes all the memory. Only memory can be wanting.
+    pub fn new(alloc: Global) -> Result<Workspace3, AllocError> {
+        let hits = HitList::new(alloc)?;
+        let places = Places::new(alloc)?;
+        let trellis = Trellis::new(alloc)?;
+        Ok(Workspace3 {
+            hits,
+            places,
+            reader: LongReader { trellis },
+        })
+    }
+}
+
+impl CellReader for LongReader {
+    ghost can_place = { λ recording hit. IsInSpan hit × (symbol_step extended ≤ hit.t) };
+
+    ghost place_by = { long_place };
+
+    ghost tells = { IsLongMaster };
+
+    ghost told = { λ recording. IsLongSystem };
+
+    fn place_of(&self, recording: &Recording, hit: &Hit) -> Place {
+        let end = recording.len();
+        prove!(hit.t as usize + 128 <= end);
+        let (n1, half) = identity_with(recording, hit, Prefix::EXTENDED);
+        Place {
+            id: cell_id(n1, hit.n2),
+            start: frame_start(hit, half),
+        }
+    }
+
+    fn first_masters(&mut self, recording: &Recording, id: CellId, start: u32) -> Option<Masters> {
+        first_masters(recording, id, start, &mut self.trellis)
+    }
+
+    fn system_of(
+        &mut self,
+        recording: &Recording,
+        id: CellId,
+        start: u32,
+        sfn: Sfn,
+        master: Master,
+    ) -> Result<Sib1, Sib1Reason> {
+        Err(Sib1Reason::LongPrefix)
+    }
+
+    fn tells_one_answer(&self) {}
+}
+
+// The number of hits, from the first on, before which there is no room for the secondary signal.
+fn early_hits(hits: &[Hit]) -> usize
+    requires span { All IsInSpan hits.now }
+    requires order { AllPairs IsEarlier hits.now }
+    ensures within { result ≤ length hits.now }
+    ensures later { filter (λ hit. nat_le (symbol_step extended) hit.t) hits.now ≡ drop result hits.now }
+{
+    for (at, hit) in hits.iter().enumerate() {
+        if Prefix::EXTENDED.step() <= hit.t as usize {
+            return at;
+        }
+    }
+    hits.len()
+}
+
+/// Afterwards the list is that of the recording by the extended cyclic prefix, whatever it held before. Each hit with 160
+/// samples before it tells an identity and a start of frames, by the secondary signal 160 samples earlier. The first of
+/// its whole frames 0 to 7 that has a master block at any phase gives an entry for each of its master blocks, by phase;
+/// the reason of an entry is `LongPrefix`. An entry is dropped where a kept one before it has the same identity and an
+/// epoch at most 9 samples away, modulo 1,024 frames; the list is in order of start, identity and frame number. Wherever
+/// the recording is what a cell sends with this prefix, times a whole-number gain of size 1 to 28, each component off by
+/// at most twice the gain's size, the list has an entry with this cell's identity, the sample at which its first frame
+/// begins, that frame's number, one antenna port and its master block, and no other with this identity, sample and
+/// number. It takes no memory. (own)
+pub fn explain_clean(recording: &Recording, work: &mut Workspace3, list: &mut EntryList)
+    ensures list { IsExplainedOfLong recording.now list.new }
+    ensures holds { HoldsCleanCellsOfLong recording.now list.new }
+    ensures reason { All (λ entry. entry.sib1 ≡ Err IsLong) list.new }
+    ensures valid { All (λ entry. IfOk entry.sib1 IsValid) list.new }
+{
+    let count = recording.len();
+    prove!(57_600 <= count);
+    hits(recording, &mut work.hits);
+    hits_are_right();
+    let hits = work.hits.slice();
+    let first = early_hits(hits);
+    explain_by(
+        &mut work.reader,
+        recording,
+        &hits[first..],
+        &mut work.places,
+        list,
+    );
+}

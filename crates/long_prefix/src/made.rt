@@ -1,0 +1,112 @@
+//! Recordings by number.
+
+ghost use Rattle.std.specs.Prelude.{◌≡◌, ◌+◌, ◌≤◌, ℕ, IfOk, pos};
+ghost use Rattle.finite.specs.Lists.{values_below};
+ghost use Rattle.cs_num.specs.Complex.{times};
+ghost use Rattle.sample_file.specs.Recording.{IsRecording};
+ghost use Rattle.cell_tx.specs.Sent.{gain_of, sample_of};
+ghost use Rattle.capture_make.specs.Recipe.{number as number_of, offset as offset_of, sample_count as count_of, gain as gain_with};
+ghost use Rattle.long_prefix.specs.Sent.{long_sent};
+ghost use Rattle.long_prefix.specs.Made.{IsPlanOf, IsMadeLong, IsCleanlyMade};
+ghost use Rattle.long_prefix.specs.declared.made.LongMade.{LongMade as MadeValue};
+
+use crate::LongPlan;
+use crate::sending::fill_received;
+use capture_make::{bound, gain, number, offset, plan, sample_count, with_errors};
+use cell_tx::sent_is_clean;
+use cs_num::Sample;
+use lte_types::{Bandwidth, CellId, Mib, Sfn};
+use sample_file::Recording;
+use std::alloc::{AllocError, Global};
+
+/// A recording by number, and what was sent.
+#[derive(Drop)]
+pub struct LongMade {
+    /// What the cell was to send.
+    pub plan: LongPlan,
+    /// The number of its first frame.
+    pub sfn: Sfn,
+    /// The first sample of that frame which is sent, 0 to 19,199.
+    pub offset: u32,
+    /// The gain, real before imaginary.
+    pub gain: (i16, i16),
+    /// The bound of the errors: the greatest whole number whose square is at most four times that of the gain's size.
+    pub bound: i16,
+    /// What was sent, with the errors.
+    pub recording: Recording,
+}
+
+// The plan of the cell of number n.
+fn plan_of(n: u32) -> LongPlan
+    ensures { IsPlanOf n result }
+{
+    let cell = plan(n);
+    let upper = (number(n).value() / 4) as u8;
+    let mib = Mib::new(
+        Bandwidth::N6,
+        cell.duration,
+        cell.resource,
+        upper,
+        cell.spare,
+    );
+    match (CellId::new(cell.identity), mib) {
+        (Some(id), Some(mib)) => LongPlan { id, mib },
+        _ => unreachable!(),
+    }
+}
+
+// What is received without errors, in memory of its own.
+fn received_samples(alloc: Global, plan: &LongPlan, n: u32) -> Result<Vec<Sample>, AllocError>
+    ensures { IfOk result (λ samples. samples.items ≡ values_below (count_of n)
+        (λ i. sample_of (times (gain_with n) (long_sent plan.now (number_of n) (i + offset_of n))))) }
+{
+    let mut samples = vec![in alloc; Sample { re: 0, im: 0 }; sample_count(n) as usize]?;
+    fill_received(plan, number(n), offset(n), gain(n), &mut samples);
+    Ok(samples)
+}
+
+// The recording of number n with what was sent and the bound of its errors.
+fn made_of(n: u32, plan: LongPlan, bound: u16, recording: Recording) -> LongMade
+    requires { bound ≤ 56 }
+    ensures plan { result.plan ≡ plan }
+    ensures number { result.sfn ≡ number_of n }
+    ensures offset { result.offset ≡ offset_of n }
+    ensures gain { gain_of result.gain ≡ gain_with n }
+    ensures bound { result.bound ≡ pos bound }
+    ensures recording { result.recording ≡ recording }
+{
+    LongMade {
+        plan,
+        sfn: number(n),
+        offset: offset(n),
+        gain: gain(n),
+        bound: bound as i16,
+        recording,
+    }
+}
+
+/// Recording number `n` with the extended cyclic prefix, of 10 to 99 frames: what a cell sends, times a gain, and errors
+/// of at most twice the gain's size, all by the recipe of one antenna port with the normal prefix, without the control
+/// region and system information (`docs/FORMATS.md`). Only memory can be wanting. (own)
+pub fn make(alloc: Global, n: u32) -> Result<LongMade, AllocError>
+    ensures made { IfOk result (IsMadeLong n) }
+    ensures clean { IfOk result IsCleanlyMade }
+    ensures valid { IfOk result (λ made. IsRecording made.recording) }
+{
+    let plan = plan_of(n);
+    let bound = bound(n);
+    let samples = received_samples(alloc, &plan, n)?;
+    let samples = with_errors(n, bound, samples);
+    made_is_clean();
+    match Recording::new(samples) {
+        Some(recording) => Ok(made_of(n, plan, bound, recording)),
+        None => unreachable!(),
+    }
+}
+
+/// A law: each recording by number is a clean one of what was sent, with errors within its bound.
+pub fn made_is_clean()
+    ensures { (n : ℕ) (made : MadeValue) → IsMadeLong n made → IsCleanlyMade made }
+{
+    sent_is_clean();
+}

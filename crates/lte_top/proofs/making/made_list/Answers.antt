@@ -1,0 +1,24 @@
+use Rattle.std.proofs.Common.{refl, sym, subst}
+use Rattle.std.specs.Prelude.{IfOk}
+use Rattle.lte_top.specs.declared.form.Sender.TheVariants.{OnePort, TwoPorts, LongPrefix}
+use Rattle.lte_top.specs.Making.{IsMadeList}
+use Rattle.lte_top.proofs.Made.{made_list_is}
+use Rattle.lte_top.proofs.making.made_list.Goals as goal
+
+pub returns-in_ok-make-in-OnePort-clause-list : goal.returns-in_ok-make-in-OnePort-clause-list
+returns-in_ok-make-in-OnePort-clause-list c =
+    let m = c.in_ok-make-in-OnePort in
+    subst (λ sender. IfOk c.list_of.result (IsMadeList sender c.args.n)) (sym c.in-OnePort.is)
+    (made_list_is OnePort c.args.n _ c.list_of.result (record { made = m.field-0; is = m.ensures.made; are = refl }) c.list_of.ensures.list)
+
+pub returns-in_ok-make-in-TwoPorts-clause-list : goal.returns-in_ok-make-in-TwoPorts-clause-list
+returns-in_ok-make-in-TwoPorts-clause-list c =
+    let m = c.in_ok-make-in-TwoPorts in
+    subst (λ sender. IfOk c.list_of_two.result (IsMadeList sender c.args.n)) (sym c.in-TwoPorts.is)
+    (made_list_is TwoPorts c.args.n _ c.list_of_two.result (record { made = m.field-0; is = m.ensures.made; are = refl }) c.list_of_two.ensures.list)
+
+pub returns-in_ok-make-in-LongPrefix-clause-list : goal.returns-in_ok-make-in-LongPrefix-clause-list
+returns-in_ok-make-in-LongPrefix-clause-list c =
+    let m = c.in_ok-make-in-LongPrefix in
+    subst (λ sender. IfOk c.list_of_long.result (IsMadeList sender c.args.n)) (sym c.in-LongPrefix.is)
+    (made_list_is LongPrefix c.args.n _ c.list_of_long.result (record { made = m.field-0; is = m.ensures.made; are = refl }) c.list_of_long.ensures.list)

@@ -1,0 +1,8 @@
+-- One cell taken off.
+pub mod Taking
+-- Rounds one after the other.
+pub mod Following
+-- There is one text.
+pub mod Once
+-- Rounds in plain words.
+pub mod Plain

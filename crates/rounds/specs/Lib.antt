@@ -1,0 +1,4 @@
+pub mod Rounds
+pub mod Steps
+pub mod Text
+pub mod Laws

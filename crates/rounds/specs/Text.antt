@@ -1,0 +1,34 @@
+-- The text of a search that takes found cells off. (own)
+use Rattle.std.specs.Prelude.{◌≡◌, ℕ, if◌then◌else◌, List, [], ◌++◌, All}
+use Rattle.std.specs.List.{flat_map}
+use Rattle.cs_num.specs.declared.Sample.{Sample}
+use Rattle.report.specs.Lines.{report_text, IsValidEntry}
+use Rattle.report.specs.Cancelled.{cancelled_lines, cancelled_none}
+use Rattle.rounds.specs.declared.round.Round.{Round}
+use Rattle.rounds.specs.declared.round.Rounds.{Rounds}
+use Rattle.rounds.specs.Rounds.{IsCancelled}
+
+-- the lines of the cell that a round took off, and the list of what is left
+abbrev pub round_text : Round → List ℕ
+round_text round =
+    cancelled_lines round.id round.taken.gain round.taken.greatest round.taken.before round.taken.after
+    ++ report_text round.list
+
+-- the list of the recording, its rounds, and a line where a round took off none
+abbrev pub rounds_text : Rounds → List ℕ
+rounds_text rounds =
+    report_text rounds.first ++ flat_map round_text rounds.taken.items ++ (if rounds.ended then cancelled_none else [])
+
+-- the text of a recording
+pub record IsCancelText (recording : List Sample) (text : List ℕ) : Type 0 where
+  pub rounds : Rounds
+  pub are : IsCancelled recording rounds
+  pub text_is : text ≡ rounds_text rounds
+
+-- each system information that is listed is in its ranges
+abbrev pub IsValidRound : Round → Type 0
+IsValidRound round = All IsValidEntry round.list
+
+pub record AreValidRounds (rounds : Rounds) : Type 0 where
+  pub first : All IsValidEntry rounds.first
+  pub each : All IsValidRound rounds.taken.items

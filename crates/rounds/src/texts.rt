@@ -1,0 +1,58 @@
+//! The text of a search that takes found cells off.
+
+ghost use Rattle.std.specs.Prelude.{◌≡◌, All, IfOk, string_bytes};
+ghost use Rattle.report.specs.Lines.{IsValidEntry};
+ghost use Rattle.rounds.specs.Text.{round_text, rounds_text, IsCancelText, AreValidRounds, IsValidRound};
+
+use crate::{Round, Rounds, cancel_rounds};
+use explain::Workspace;
+use report::{text, text_of_cancelled, text_of_cancelled_none};
+use sample_file::Recording;
+use std::alloc::{AllocError, Global};
+
+/// The text of a recording: that of its list as `report::text` gives it, then for each round that takes a cell off its
+/// two lines and the text of the list of what is left, and the line `cancelled none` where a round follows that takes off
+/// none. Only memory can be wanting. (own)
+pub fn cancel_text(alloc: Global, recording: &Recording) -> Result<String, AllocError>
+    ensures { IfOk result (λ text. IsCancelText recording.now (string_bytes text)) }
+{
+    let mut work = Workspace::new(alloc)?;
+    let rounds = cancel_rounds(alloc, recording, &mut work)?;
+    text_of_rounds(alloc, &rounds)
+}
+
+/// The text of rounds. Each system information that is listed is valid. Only memory can be wanting. (own)
+pub fn text_of_rounds(alloc: Global, rounds: &Rounds) -> Result<String, AllocError>
+    requires { AreValidRounds rounds.now }
+    ensures { IfOk result (λ text. string_bytes text ≡ rounds_text rounds.now) }
+{
+    let mut all = text(alloc, rounds.first.slice())?;
+    for round in &rounds.taken {
+        let lines = text_of_round(alloc, round)?;
+        all.push_str(&lines)?;
+    }
+    if rounds.ended {
+        let line = text_of_cancelled_none(alloc)?;
+        all.push_str(&line)?;
+    }
+    Ok(all)
+}
+
+// The lines of the cell that was taken off, and the list of what is left.
+fn text_of_round(alloc: Global, round: &Round) -> Result<String, AllocError>
+    requires { IsValidRound round.now }
+    ensures { IfOk result (λ text. string_bytes text ≡ round_text round.now) }
+{
+    let taken = &round.taken;
+    let powers = (taken.before, taken.after);
+    let mut lines = text_of_cancelled(
+        alloc,
+        round.id.value(),
+        &taken.gain,
+        taken.greatest,
+        powers,
+    )?;
+    let list = text(alloc, round.list.slice())?;
+    lines.push_str(&list)?;
+    Ok(lines)
+}

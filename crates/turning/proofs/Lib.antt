@@ -1,0 +1,12 @@
+pub mod BySize
+pub mod SoFar
+pub mod TurnedSamples
+pub mod HitSizes
+pub mod OneCandidate
+pub mod Greatest
+pub mod Takes
+pub mod BestFit
+pub mod ToldSoFar
+pub mod OneTold
+pub mod Ranges
+pub mod AtZero

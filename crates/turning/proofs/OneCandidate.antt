@@ -1,0 +1,41 @@
+-- The candidate of one coarse turn, and the list of them while it grows.
+use Rattle.std.proofs.Common.{◌≡◌, ℕ, ◌+◌, ◌<◌, ◌≤◌, List, [], ◌∷◌, ◌++◌, length, take, Option, Some, None, arith, refl, ap, sym, subst, ◌∙◌, ℤ}
+use Rattle.std.specs.Prelude.{All, option_map, option_to_list}
+use Rattle.finite.specs.Lists.{joined_below}
+use Rattle.finite.proofs.Lists.{joined_below_none, joined_below_more}
+use Rattle.cs_num.specs.declared.Sample.{Sample}
+use Rattle.lte_types.specs.declared.hit.Hit.{Hit}
+use Rattle.pss_search.specs.Hits.{hits_of}
+use Rattle.turning.specs.declared.candidate.Candidate.{Candidate}
+use Rattle.turning.specs.Turned.{turned}
+use Rattle.turning.specs.Fractions.{fraction_of, greatest}
+use Rattle.turning.specs.Candidates.{candidate_by, candidate_at, coarse_turn, candidates_below}
+use Rattle.turning.specs.Steps.{IsSmallHit}
+use Rattle.turning.proofs.TurnedSamples.{front_hits}
+use Rattle.turning.proofs.HitSizes.{hits_are_small}
+
+-- what a best hit gives, or none
+pub candidate_is : (recording x : List Sample) (m : ℤ) (hits : List Hit) (o : Option Hit) → x ≡ turned recording m → hits ≡ hits_of x → o ≡ greatest fraction_of hits →
+    option_map (candidate_by x m) o ≡ candidate_at recording m
+unfolding candidate_at
+candidate_is recording x m hits o e h g =
+    ap (option_map (candidate_by x m)) (g ∙ ap (greatest fraction_of) h) ∙ ap (λ y. option_map (candidate_by y m) (greatest fraction_of (hits_of y))) e
+
+pub no_candidates : (recording : List Sample) → candidates_below recording 0 ≡ []
+unfolding candidates_below
+no_candidates recording = joined_below_none _
+
+pub one_candidate : (recording : List Sample) (k : ℕ) (old new : List Candidate) (o : Option Candidate) → old ≡ candidates_below recording k →
+    o ≡ candidate_at recording (coarse_turn k) → new ≡ old ++ option_to_list o → new ≡ candidates_below recording (k + 1)
+unfolding candidates_below
+one_candidate recording k old new o before e now =
+    now ∙ ap (λ xs. xs ++ option_to_list o) before ∙ ap (λ c. candidates_below recording k ++ option_to_list c) e
+    ∙ sym (joined_below_more k (λ i. option_to_list (candidate_at recording (coarse_turn i))))
+
+-- the hits of a front of the recording that is turned are those of all of it
+pub hits_told : (x front : List Sample) (list slice : List Hit) → front ≡ take 57600 x → list ≡ hits_of front → slice ≡ list → slice ≡ hits_of x
+hits_told x front list slice f l s = s ∙ l ∙ ap hits_of f ∙ front_hits x 57600 (omega arith)
+
+-- and so their fractions are small
+pub small_told : (recording x : List Sample) (m : ℤ) (hits : List Hit) → x ≡ turned recording m → hits ≡ hits_of x → All IsSmallHit hits
+small_told recording x m hits e h = subst (λ (xs : List Hit). All IsSmallHit xs) (sym (h ∙ ap hits_of e)) (hits_are_small recording m)

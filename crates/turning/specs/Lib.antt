@@ -1,0 +1,9 @@
+pub mod Turned
+pub mod Order
+pub mod Fine
+pub mod Fractions
+pub mod Candidates
+pub mod Telling
+pub mod Texts
+pub mod Laws
+pub mod Steps

@@ -1,0 +1,136 @@
+//! A recording turned, sample by sample.
+
+ghost use Rattle.std.specs.Prelude.{◌≡◌, ◌+◌, ◌*◌, ◌<◌, ◌≤◌, IfOk, length, take, slice_index_or};
+ghost use Rattle.std.specs.Int.{w16, saturate_signed};
+ghost use Rattle.cs_num.specs.Complex.{IsWithin, value_of, silence};
+ghost use Rattle.sample_file.specs.Recording.{IsRecording};
+ghost use Rattle.turning.specs.Turned.{angle as angle_of, nearest as nearest_to, turned_back as turned_back_by, turned as turned_by};
+ghost use Rattle.turning.specs.Steps.{IsCentred};
+
+use crate::table::w_at;
+use cs_num::{Cpx, Sample};
+use sample_file::Recording;
+use std::alloc::{AllocError, Global};
+use std::marker::Model;
+
+// A recording turned, whose samples are made where they are asked for. Contracts see it as their list.
+#[derive(Drop)]
+pub(crate) struct Turned<'a> {
+    samples: &'a [Sample],
+    mean: Cpx,
+    turn: i16,
+}
+
+impl<'a> Model for Turned<'a> {
+    ghost use Rattle.std.specs.Prelude.{List};
+    ghost use Rattle.cs_num.specs.declared.Sample.{Sample as SampleValue};
+    ghost use Rattle.turning.specs.Turned.{turned};
+    ghost use Rattle.turning.specs.Steps.{IsCentred};
+
+    ghost Value = { List SampleValue };
+
+    ghost view = { λ t. turned t.samples.now t.turn };
+
+    ghost invariant = { λ t. IsCentred t.samples.now t.mean };
+}
+
+impl<'a> Turned<'a> {
+    // Samples with this mean, turned by m.
+    pub(crate) fn new(samples: &'a [Sample], mean: Cpx, m: i16) -> Turned<'a>
+        requires { IsCentred samples.now mean }
+        ensures { result ≡ turned_by samples.now m }
+    {
+        Turned {
+            samples,
+            mean,
+            turn: m,
+        }
+    }
+
+    // The number of samples.
+    pub(crate) fn len(&self) -> usize
+        ensures value { result ≡ length self.now }
+        ensures valid { IsRecording self.now }
+    {
+        self.samples.len()
+    }
+
+    // Sample i.
+    pub(crate) fn at(&self, i: usize) -> Sample
+        requires { i < length self.now }
+        ensures { result ≡ slice_index_or self.now i silence }
+    {
+        let samples = self.samples;
+        turned_back(samples[i], self.mean, angle(&self.turn, i))
+    }
+
+    // The first samples.
+    pub(crate) fn front(&self, alloc: Global, count: usize) -> Result<Recording, AllocError>
+        requires least { 57600 ≤ count }
+        requires most { count ≤ length self.now }
+        ensures { IfOk result (λ front. front ≡ take count self.now) }
+    {
+        let end = self.len();
+        prove!(count <= end);
+        let samples = self.first_samples(alloc, count)?;
+        match Recording::new(samples) {
+            Some(front) => Ok(front),
+            None => unreachable!(),
+        }
+    }
+
+    // All samples.
+    pub(crate) fn whole(&self, alloc: Global) -> Result<Recording, AllocError>
+        ensures value { IfOk result (λ whole. whole ≡ self.now) }
+        ensures valid { IfOk result IsRecording }
+    {
+        let end = self.len();
+        self.front(alloc, end)
+    }
+
+    // The first samples in memory.
+    fn first_samples(&self, alloc: Global, count: usize) -> Result<Vec<Sample>, AllocError>
+        requires { count ≤ length self.now }
+        ensures { IfOk result (λ samples. samples.items ≡ take count self.now) }
+    {
+        let mut samples = Vec::with_capacity(alloc, count)?;
+        for i in 0..count {
+            samples.push(self.at(i))?;
+        }
+        Ok(samples)
+    }
+}
+
+// How far a turn of m has come at sample i, in parts of which 128 are a whole turn.
+fn angle(m: &i16, i: usize) -> i64
+    requires { i < 1920000 }
+    ensures { result ≡ angle_of m.now i }
+{
+    (*m as i64 * i as i64) >> 7
+}
+
+// A sample without the mean, turned back.
+fn turned_back(sample: Sample, mean: Cpx, angle: i64) -> Sample
+    requires { IsWithin 32768 mean }
+    ensures { result ≡ turned_back_by (value_of sample) mean angle }
+{
+    let centred = Cpx::from(sample) - mean;
+    nearest(centred.mul(w_at(angle).conj()).round_shift(14))
+}
+
+// The sample that is nearest to a number.
+fn nearest(z: Cpx) -> Sample
+    ensures { result ≡ nearest_to z }
+{
+    Sample {
+        re: nearest_part(z.re),
+        im: nearest_part(z.im),
+    }
+}
+
+// One component of it.
+fn nearest_part(x: i64) -> i16
+    ensures { result ≡ saturate_signed w16 x }
+{
+    x.clamp(-32_768, 32_767) as i16
+}

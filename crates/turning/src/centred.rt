@@ -1,0 +1,86 @@
+//! A recording with its mean.
+
+ghost use Rattle.std.specs.Prelude.{◌≡◌, ◌*◌, ◌<◌, ◌≤◌, length, nat_abs};
+ghost use Rattle.cs_num.specs.Complex.{IsWithin};
+ghost use Rattle.turning.specs.Turned.{mean as mean_of_all, mean_of, sum_of as sum_of_all, turned as turned_by};
+
+use crate::at_turn::Turned;
+use cs_num::{Cpx, Sample};
+use sample_file::Recording;
+use std::marker::Model;
+
+// A recording with its mean. Contracts see it as its samples.
+#[derive(Drop)]
+pub(crate) struct Centred<'a> {
+    samples: &'a [Sample],
+    mean: Cpx,
+}
+
+impl<'a> Model for Centred<'a> {
+    ghost use Rattle.std.specs.Prelude.{List};
+    ghost use Rattle.cs_num.specs.declared.Sample.{Sample as SampleValue};
+    ghost use Rattle.turning.specs.Steps.{IsCentred};
+
+    ghost Value = { List SampleValue };
+
+    ghost view = { λ c. c.samples.now };
+
+    ghost invariant = { λ c. IsCentred c.samples.now c.mean };
+}
+
+impl<'a> Centred<'a> {
+    // That of a recording.
+    pub(crate) fn new(recording: &'a Recording) -> Centred<'a>
+        ensures { result ≡ recording.now }
+    {
+        let samples = recording.as_slice();
+        let mean = mean(samples);
+        Centred { samples, mean }
+    }
+
+    // The recording turned by m.
+    pub(crate) fn turned(&self, m: i16) -> Turned<'a>
+        ensures { result ≡ turned_by self.now m }
+    {
+        Turned::new(self.samples, self.mean, m)
+    }
+}
+
+// The mean of samples, by components.
+fn mean(samples: &[Sample]) -> Cpx
+    requires some { 0 < length samples.now }
+    requires few { length samples.now ≤ 1920000 }
+    ensures value { result ≡ mean_of_all samples.now }
+    ensures small { IsWithin 32768 result }
+{
+    let sum = sum_of(samples);
+    Cpx {
+        re: mean_part(sum.re, samples.len()),
+        im: mean_part(sum.im, samples.len()),
+    }
+}
+
+// Their sum.
+fn sum_of(samples: &[Sample]) -> Cpx
+    requires { length samples.now ≤ 1920000 }
+    ensures value { result ≡ sum_of_all samples.now }
+    ensures small { IsWithin (length samples.now * 32768) result }
+{
+    let mut sum = Cpx::ZERO;
+    for i in 0..samples.len() {
+        sum = sum + Cpx::from(samples[i]);
+    }
+    sum
+}
+
+// The mean of n numbers with a sum, rounded to the nearest, halves up.
+fn mean_part(sum: i64, n: usize) -> i64
+    requires some { 0 < n }
+    requires few { n ≤ 1920000 }
+    requires small { nat_abs sum ≤ n * 32768 }
+    ensures value { result ≡ mean_of sum n }
+    ensures within { nat_abs result ≤ 32768 }
+{
+    let count = n as i64;
+    (2 * sum + count).div_euclid(2 * count)
+}

@@ -1,0 +1,74 @@
+//! Fractions of hits.
+
+ghost use Rattle.std.specs.Prelude.{◌≡◌, All, fold};
+ghost use Rattle.turning.specs.Fractions.{fraction_of as fraction_of_hit, is_less as is_less_than, greater, greatest, IsSmall};
+ghost use Rattle.turning.specs.Steps.{IsSmallHit};
+
+use lte_types::Hit;
+use pss_search::signal_power;
+
+/// A fraction of two whole numbers. (own)
+#[derive(Clone, Copy, Debug, PartialEq, Eq)]
+pub struct Fraction {
+    pub top: u128,
+    pub bottom: u64,
+}
+
+// Whether the first fraction is less than the second.
+pub(crate) fn is_less(a: &Fraction, b: &Fraction) -> bool
+    requires first { IsSmall a.now }
+    requires second { IsSmall b.now }
+    ensures { result ≡ is_less_than a.now b.now }
+{
+    a.top * (b.bottom as u128) < b.top * (a.bottom as u128)
+}
+
+// How much of the energy at a hit the primary signal is.
+pub(crate) fn fraction_of(hit: &Hit) -> Fraction
+    requires { IsSmallHit hit.now }
+    ensures value { result ≡ fraction_of_hit hit.now }
+    ensures small { IsSmall result }
+{
+    Fraction {
+        top: hit.peak,
+        bottom: hit.energy * signal_power(hit.n2),
+    }
+}
+
+// The hit of greatest fraction, and of equals the first.
+pub(crate) fn best_hit(hits: &[Hit]) -> Option<Hit>
+    requires { All IsSmallHit hits.now }
+    ensures { result ≡ greatest fraction_of_hit hits.now }
+{
+    match hits.split_first() {
+        Some((first, rest)) => Some(best_of(first, rest)),
+        None => None,
+    }
+}
+
+// That of a first hit and others.
+fn best_of(first: &Hit, rest: &[Hit]) -> Hit
+    requires first { IsSmallHit first.now }
+    requires rest { All IsSmallHit rest.now }
+    ensures { result ≡ fold (greater fraction_of_hit) first.now rest.now }
+{
+    let mut best = *first;
+    for hit in rest {
+        best = better(&best, hit);
+    }
+    best
+}
+
+// The one of greater fraction, and of equals the first.
+fn better(first: &Hit, second: &Hit) -> Hit
+    requires first { IsSmallHit first.now }
+    requires second { IsSmallHit second.now }
+    ensures value { result ≡ greater fraction_of_hit first.now second.now }
+    ensures small { IsSmallHit result }
+{
+    if is_less(&fraction_of(first), &fraction_of(second)) {
+        *second
+    } else {
+        *first
+    }
+}

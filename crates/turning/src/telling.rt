@@ -1,0 +1,107 @@
+//! The turn that is told, and recordings turned.
+
+ghost use Rattle.std.specs.Prelude.{◌≡◌, ◌≤◌, IfOk, IfSome};
+ghost use Rattle.sample_file.specs.Recording.{IsRecording};
+ghost use Rattle.turning.specs.Turned.{turned as turned_by};
+ghost use Rattle.turning.specs.Telling.{HasCells, Tells, IsToldBy, IsTold, IsApplied, turn_of as turn_of_told};
+ghost use Rattle.turning.specs.Laws.{IsTurnInRange};
+
+use crate::candidate::{Candidate, candidates_of};
+use crate::centred::Centred;
+use crate::taking::taken;
+use explain::{EntryList, Workspace, explain};
+use sample_file::Recording;
+use std::alloc::{AllocError, Global};
+
+/// What is told of a recording's offset. (own)
+#[derive(Clone, Copy, Debug, PartialEq, Eq)]
+pub struct Told {
+    /// The turn that takes the offset off, in steps of 117.1875 Hz: -576 to 575.
+    pub turn: i16,
+    /// The count of hits at the coarse turn.
+    pub hits: usize,
+    /// The count of entries in the list of the recording turned by `turn`.
+    pub cells: usize,
+}
+
+/// The recording turned by `m`: its samples without their mean, each turned back by `m` times 117.1875 Hz, rounded
+/// and clamped to 16 bits. Only memory can be wanting. (own)
+pub fn turned(alloc: Global, recording: &Recording, m: i16) -> Result<Recording, AllocError>
+    ensures value { IfOk result (λ samples. samples ≡ turned_by recording.now m) }
+    ensures valid { IfOk result IsRecording }
+{
+    Centred::new(recording).turned(m).whole(alloc)
+}
+
+/// What is told of a recording's offset; nothing where none of the 33 coarse turns, up to 60 kHz, gives a hit. Of the
+/// candidates, one for each of these turns that give hits, the one of greatest fraction of energy is taken, then that of those whose turn
+/// is more than 64 from its, and so on, at most four; the first of them whose turn gives cells is told, and where none
+/// does the first. Only memory can be wanting. (own)
+pub fn tell(alloc: Global, recording: &Recording) -> Result<Option<Told>, AllocError>
+    ensures told { IfOk result (IsTold recording.now) }
+    ensures range { IfOk result (λ told. IfSome told IsTurnInRange) }
+{
+    let centred = Centred::new(recording);
+    let candidates = candidates_of(alloc, &centred)?;
+    let taken = taken(alloc, candidates)?;
+    told_by(alloc, &centred, &taken)
+}
+
+// What candidates tell.
+fn told_by(
+    alloc: Global,
+    centred: &Centred,
+    taken: &[Candidate],
+) -> Result<Option<Told>, AllocError>
+    ensures { IfOk result (IsToldBy centred.now taken.now) }
+{
+    let mut work = Workspace::new(alloc)?;
+    let mut list = EntryList::new(alloc)?;
+    let mut first = None;
+    for candidate in taken {
+        let told = told_of(alloc, centred, candidate, &mut work, &mut list)?;
+        if told.cells > 0 {
+            return Ok(Some(told));
+        }
+        first = first.or(Some(told));
+    }
+    Ok(first)
+}
+
+// What a candidate tells.
+fn told_of(
+    alloc: Global,
+    centred: &Centred,
+    candidate: &Candidate,
+    work: &mut Workspace,
+    list: &mut EntryList,
+) -> Result<Told, AllocError>
+    ensures { IfOk result (Tells centred.now candidate.now) }
+{
+    let samples = centred.turned(candidate.turn).whole(alloc)?;
+    explain(&samples, work, list);
+    Ok(Told {
+        turn: candidate.turn,
+        hits: candidate.hits,
+        cells: list.slice().len(),
+    })
+}
+
+/// The recording turned by the turn that is told of it, and by 0 where none is. Only memory can be wanting. (own)
+pub fn applied(alloc: Global, recording: &Recording) -> Result<Recording, AllocError>
+    ensures value { IfOk result (IsApplied recording.now) }
+    ensures valid { IfOk result IsRecording }
+{
+    let told = tell(alloc, recording)?;
+    turned(alloc, recording, turn_of(&told))
+}
+
+// The turn that is told, and 0 where none is.
+fn turn_of(told: &Option<Told>) -> i16
+    ensures { result ≡ turn_of_told told.now }
+{
+    match told {
+        Some(told) => told.turn,
+        None => 0,
+    }
+}

@@ -1,0 +1,208 @@
+-- Combinations of two received numbers by two channels: they add up, Cauchy's inequality holds of them, and with the gains
+-- themselves they separate the two amplitudes of a pair.
+use Rattle.std.proofs.Common.{◌≡◌, ℕ, ◌+◌, ◌*◌, ◌≤◌, ℤ, pos, ◌+ℤ◌, ◌-ℤ◌, ◌*ℤ◌, neg_ℤ, nat_abs, refl, ap, ap₂, sym, ◌∙◌, arith}
+use Rattle.std.proofs.lemmas.Int.{ints}
+use Rattle.finite.proofs.Ring.{Is, var, lit, same}
+use Rattle.finite.proofs.Ring as ring
+use Rattle.cs_num.specs.declared.Cpx.{Cpx}
+use Rattle.cs_num.specs.Complex.{nothing, plus, times, conjugate, negated, minus, multiple, square}
+use Rattle.cs_num.proofs.Complex.{pair, plus-commutes, times-plus, times-commutes, times-plus_left}
+use Rattle.sizes.specs.Sizes.{inner, real}
+use Rattle.sizes.proofs.Algebra.{plus-nothing_right, plus-exchanges, times-associates, conjugate-times, conjugate-plus, conjugate_twice, conjugate-multiple, multiple-plus, times-multiple, multiple-times, multiple_sum, times_real}
+use Rattle.sizes.proofs.Squares.{times_conjugate, square-times, square-conjugate, square-plus}
+use Rattle.sizes.proofs.TwoTerms.{two_term_cauchy}
+use Rattle.sizes.proofs.Products.{turned_back}
+use Rattle.two_ports.specs.Pairs.{first_of}
+
+-- of two received numbers, by the channels of two ports
+abbrev pub combined : Cpx → Cpx → Cpx → Cpx → Cpx
+combined h k a b = first_of h k a b
+
+-- ---- sums and multiples
+
+pub combined-plus_right : (h k a b e f : Cpx) → combined h k (plus a e) (plus b f) ≡ plus (combined h k a b) (combined h k e f)
+combined-plus_right h k a b e f =
+    ap₂ plus (times-plus (conjugate h) a e) (ap (times k) (conjugate-plus b f) ∙ times-plus k (conjugate b) (conjugate f))
+    ∙ plus-exchanges (times (conjugate h) a) (times (conjugate h) e) (times k (conjugate b)) (times k (conjugate f))
+
+pub combined-plus_left : (h k d e a b : Cpx) → combined (plus h d) (plus k e) a b ≡ plus (combined h k a b) (combined d e a b)
+combined-plus_left h k d e a b =
+    ap₂ plus (ap (λ (z : Cpx). times z a) (conjugate-plus h d) ∙ times-plus_left (conjugate h) (conjugate d) a) (times-plus_left k e (conjugate b))
+    ∙ plus-exchanges (times (conjugate h) a) (times (conjugate d) a) (times k (conjugate b)) (times e (conjugate b))
+
+pub combined-multiple_left : (m : ℕ) (h k a b : Cpx) → combined (multiple m h) (multiple m k) a b ≡ multiple m (combined h k a b)
+combined-multiple_left m h k a b =
+    ap₂ plus (ap (λ (z : Cpx). times z a) (conjugate-multiple m h) ∙ multiple-times m (conjugate h) a) (multiple-times m k (conjugate b))
+    ∙ sym (multiple-plus m (times (conjugate h) a) (times k (conjugate b)))
+
+pub combined-multiple_right : (m : ℕ) (h k a b : Cpx) → combined h k (multiple m a) (multiple m b) ≡ multiple m (combined h k a b)
+combined-multiple_right m h k a b =
+    ap₂ plus (times-multiple m (conjugate h) a) (ap (times k) (conjugate-multiple m b) ∙ times-multiple m k (conjugate b))
+    ∙ sym (multiple-plus m (times (conjugate h) a) (times k (conjugate b)))
+
+-- ---- Cauchy's inequality
+
+same_le : (a b : ℕ) → a ≡ b → a ≤ b
+same_le a b e = omega (arith, e)
+
+pub combined_cauchy : (h k a b : Cpx) → square (combined h k a b) ≤ (square h + square k) * (square a + square b)
+combined_cauchy h k a b =
+    two_term_cauchy (times (conjugate h) a) (times k (conjugate b)) (square h) (square a) (square k) (square b)
+    (same_le _ _ (square-times (conjugate h) a ∙ ap (λ s. s * square a) (square-conjugate h)))
+    (same_le _ _ (square-times k (conjugate b) ∙ ap (λ s. square k * s) (square-conjugate b)))
+
+-- ---- negatives
+
+times-negated_re : (a b c d : ℤ) → a *ℤ neg_ℤ c -ℤ b *ℤ neg_ℤ d ≡ neg_ℤ (a *ℤ c -ℤ b *ℤ d)
+times-negated_re a b c d =
+    let p = var a in
+    let q = var b in
+    let r = var c in
+    let s = var d in
+    same (ring.minus (ring.times p (ring.minus_one r)) (ring.times q (ring.minus_one s))) (ring.minus_one (ring.minus (ring.times p r) (ring.times q s))) (omega arith)
+
+times-negated_im : (a b c d : ℤ) → a *ℤ neg_ℤ d +ℤ b *ℤ neg_ℤ c ≡ neg_ℤ (a *ℤ d +ℤ b *ℤ c)
+times-negated_im a b c d =
+    let p = var a in
+    let q = var b in
+    let r = var c in
+    let s = var d in
+    same (ring.plus (ring.times p (ring.minus_one s)) (ring.times q (ring.minus_one r))) (ring.minus_one (ring.plus (ring.times p s) (ring.times q r))) (omega arith)
+
+pub times-negated : (a b : Cpx) → times a (negated b) ≡ negated (times a b)
+times-negated a b = pair (times-negated_re a.re a.im b.re b.im) (times-negated_im a.re a.im b.re b.im)
+
+none_left : (a : ℤ) → neg_ℤ a +ℤ a ≡ pos 0
+none_left a = omega (arith, ints)
+
+pub negated-plus : (a : Cpx) → plus (negated a) a ≡ nothing
+negated-plus a = pair (none_left a.re) (none_left a.im)
+
+abs-negative : (a : ℤ) → nat_abs (neg_ℤ a) ≡ nat_abs a
+abs-negative a = omega (arith, ints)
+
+pub square-negated : (a : Cpx) → square (negated a) ≡ square a
+square-negated a = rw (abs-negative a.re, abs-negative a.im) refl
+
+minus_part : (a b : ℤ) → a +ℤ neg_ℤ b ≡ a -ℤ b
+minus_part a b = omega (arith, ints)
+
+pub plus-negated : (a b : Cpx) → plus a (negated b) ≡ minus a b
+plus-negated a b = pair (minus_part a.re b.re) (minus_part a.im b.im)
+
+twice_part : (a : ℤ) → neg_ℤ (neg_ℤ a) ≡ a
+twice_part a = omega (arith, ints)
+
+-- the negative of the conjugate of the negative
+pub turned_twice : (a : Cpx) → negated (conjugate (negated a)) ≡ conjugate a
+turned_twice a = pair (twice_part a.re) (ap neg_ℤ (twice_part a.im))
+
+pub conjugate-negated : (a : Cpx) → conjugate (negated a) ≡ negated (conjugate a)
+conjugate-negated a = pair refl refl
+
+-- ---- the two amplitudes of a pair
+
+-- what is received of a pair at its two places
+abbrev pub at_first : Cpx → Cpx → Cpx → Cpx → Cpx
+at_first g k x y = plus (times g x) (times k (negated (conjugate y)))
+
+abbrev pub at_second : Cpx → Cpx → Cpx → Cpx → Cpx
+at_second g k x y = plus (times g y) (times k (conjugate x))
+
+turned_to : (k x : Cpx) → times k (conjugate (times k (conjugate x))) ≡ multiple (square k) x
+turned_to k x =
+    ap (times k) (conjugate-times k (conjugate x) ∙ ap (times (conjugate k)) (conjugate_twice x))
+    ∙ sym (times-associates k (conjugate k) x) ∙ ap (λ (z : Cpx). times z x) (times_conjugate k) ∙ times-commutes (real (square k)) x ∙ times_real (square k) x
+
+-- what one port's signal leaves of the other's
+crossed : (g k y : Cpx) → plus (times (conjugate g) (times k (negated (conjugate y)))) (times k (conjugate (times g y))) ≡ nothing
+crossed g k y = ap₂ plus left right ∙ negated-plus (times (conjugate g) (times k (conjugate y)))
+  where
+    left : times (conjugate g) (times k (negated (conjugate y))) ≡ negated (times (conjugate g) (times k (conjugate y)))
+    left = ap (times (conjugate g)) (times-negated k (conjugate y)) ∙ times-negated (conjugate g) (times k (conjugate y))
+
+    right : times k (conjugate (times g y)) ≡ times (conjugate g) (times k (conjugate y))
+    right =
+        ap (times k) (conjugate-times g y) ∙ sym (times-associates k (conjugate g) (conjugate y))
+        ∙ ap (λ (z : Cpx). times z (conjugate y)) (times-commutes k (conjugate g)) ∙ times-associates (conjugate g) k (conjugate y)
+
+-- the gains themselves give the first amplitude of the pair, times the sum of their squares
+pub combined_gains : (g k x y : Cpx) → combined g k (at_first g k x y) (at_second g k x y) ≡ multiple (square g + square k) x
+combined_gains g k x y =
+    ap₂ plus
+    (times-plus (conjugate g) (times g x) (times k (negated (conjugate y))) ∙ ap (λ (z : Cpx). plus z b) (times-commutes (conjugate g) (times g x) ∙ turned_back g x))
+    (ap (times k) (conjugate-plus (times g y) (times k (conjugate x))) ∙ times-plus k (conjugate (times g y)) (conjugate (times k (conjugate x))) ∙ ap (plus c) (turned_to k x) ∙ plus-commutes c (multiple (square k) x))
+    ∙ plus-exchanges (multiple (square g) x) b (multiple (square k) x) c
+    ∙ ap₂ plus (sym (multiple_sum (square g) (square k) x)) (crossed g k y) ∙ plus-nothing_right (multiple (square g + square k) x)
+  where
+    b : Cpx
+    b = times (conjugate g) (times k (negated (conjugate y)))
+
+    c : Cpx
+    c = times k (conjugate (times g y))
+
+inner_moves : (g p e : Cpx) → inner (times g p) e ≡ inner g (times e (conjugate p))
+inner_moves g p e =
+    let a = var g.re in
+    let b = var g.im in
+    let c = var p.re in
+    let d = var p.im in
+    let x = var e.re in
+    let y = var e.im in
+    same (ring.plus (ring.times (ring.minus (ring.times a c) (ring.times b d)) x) (ring.times (ring.plus (ring.times a d) (ring.times b c)) y))
+    (ring.plus (ring.times a (ring.minus (ring.times x c) (ring.times y (ring.minus_one d)))) (ring.times b (ring.plus (ring.times x (ring.minus_one d)) (ring.times y c)))) (omega arith)
+
+inner-negated : (g z : Cpx) → inner g (negated z) ≡ neg_ℤ (inner g z)
+inner-negated g z =
+    let a = var g.re in
+    let b = var g.im in
+    let c = var z.re in
+    let d = var z.im in
+    same (ring.plus (ring.times a (ring.minus_one c)) (ring.times b (ring.minus_one d))) (ring.minus_one (ring.plus (ring.times a c) (ring.times b d))) (omega arith)
+
+inners : (g k x y : Cpx) → inner (times g x) (times k (negated (conjugate y))) ≡ neg_ℤ (inner (times g y) (times k (conjugate x)))
+inners g k x y =
+    inner_moves g x (times k (negated (conjugate y))) ∙ ap (inner g) turned ∙ inner-negated g (times (times k (conjugate x)) (conjugate y))
+    ∙ ap neg_ℤ (sym (inner_moves g y (times k (conjugate x))))
+  where
+    turned : times (times k (negated (conjugate y))) (conjugate x) ≡ negated (times (times k (conjugate x)) (conjugate y))
+    turned =
+        times-associates k (negated (conjugate y)) (conjugate x)
+        ∙ ap (times k) (times-commutes (negated (conjugate y)) (conjugate x) ∙ times-negated (conjugate x) (conjugate y))
+        ∙ times-negated k (times (conjugate x) (conjugate y)) ∙ ap negated (sym (times-associates k (conjugate x) (conjugate y)))
+
+-- what is received of a pair has the energy of the pair times the sum of the gains' squares
+pub pair_energy : (g k x y : Cpx) → square (at_first g k x y) + square (at_second g k x y) ≡ (square g + square k) * (square x + square y)
+pair_energy g k x y =
+    sums (square (at_first g k x y)) (square (at_second g k x y)) (square (times g x)) (square (times k (negated (conjugate y)))) (square (times g y)) (square (times k (conjugate x)))
+    (inner (times g x) (times k (negated (conjugate y)))) (inner (times g y) (times k (conjugate x)))
+    (square-plus (times g x) (times k (negated (conjugate y)))) (square-plus (times g y) (times k (conjugate x))) (inners g k x y)
+    ∙ products (square g) (square k) (square x) (square y) _ _ _ _ (square-times g x)
+    (square-times k (negated (conjugate y)) ∙ ap (λ s. square k * s) (square-negated (conjugate y) ∙ square-conjugate y)) (square-times g y)
+    (square-times k (conjugate x) ∙ ap (λ s. square k * s) (square-conjugate x))
+  where
+    sums : (s t a b c d : ℕ) (i j : ℤ) → pos s ≡ pos a +ℤ pos b +ℤ pos 2 *ℤ i → pos t ≡ pos c +ℤ pos d +ℤ pos 2 *ℤ j → i ≡ neg_ℤ j → s + t ≡ a + b + (c + d)
+    sums s t a b c d i j p q e = omega (arith, ints)
+
+    products : (g k x y a b c d : ℕ) → a ≡ g * x → b ≡ k * y → c ≡ g * y → d ≡ k * x → a + b + (c + d) ≡ (g + k) * (x + y)
+    products g k x y a b c d p q r s = omega (arith, p, q, r, s)
+
+-- what is off of the negatives is the negative
+minus-negated_re : (g h k l x y c d a : ℤ) → neg_ℤ a -ℤ pos 64 *ℤ ((g *ℤ neg_ℤ x -ℤ h *ℤ neg_ℤ y) +ℤ (k *ℤ c -ℤ l *ℤ d))
+    ≡ neg_ℤ (a -ℤ pos 64 *ℤ ((g *ℤ x -ℤ h *ℤ y) +ℤ (k *ℤ neg_ℤ c -ℤ l *ℤ neg_ℤ d)))
+minus-negated_re g h k l x y c d a =
+    same
+    (ring.minus (ring.minus_one (var a)) (ring.times (lit 64) (ring.plus (ring.minus (ring.times (var g) (ring.minus_one (var x))) (ring.times (var h) (ring.minus_one (var y)))) (ring.minus (ring.times (var k) (var c)) (ring.times (var l) (var d))))))
+    (ring.minus_one (ring.minus (var a) (ring.times (lit 64) (ring.plus (ring.minus (ring.times (var g) (var x)) (ring.times (var h) (var y)))
+    (ring.minus (ring.times (var k) (ring.minus_one (var c))) (ring.times (var l) (ring.minus_one (var d)))))))) (omega arith)
+
+minus-negated_im : (g h k l x y c d a : ℤ) → neg_ℤ a -ℤ pos 64 *ℤ ((g *ℤ neg_ℤ y +ℤ h *ℤ neg_ℤ x) +ℤ (k *ℤ d +ℤ l *ℤ c))
+    ≡ neg_ℤ (a -ℤ pos 64 *ℤ ((g *ℤ y +ℤ h *ℤ x) +ℤ (k *ℤ neg_ℤ d +ℤ l *ℤ neg_ℤ c)))
+minus-negated_im g h k l x y c d a =
+    same
+    (ring.minus (ring.minus_one (var a)) (ring.times (lit 64) (ring.plus (ring.plus (ring.times (var g) (ring.minus_one (var y))) (ring.times (var h) (ring.minus_one (var x)))) (ring.plus (ring.times (var k) (var d)) (ring.times (var l) (var c))))))
+    (ring.minus_one (ring.minus (var a) (ring.times (lit 64) (ring.plus (ring.plus (ring.times (var g) (var y)) (ring.times (var h) (var x)))
+    (ring.plus (ring.times (var k) (ring.minus_one (var d))) (ring.times (var l) (ring.minus_one (var c)))))))) (omega arith)
+
+pub minus-negated : (g k x c a : Cpx) → minus (negated a) (multiple 64 (plus (times g (negated x)) (times k c))) ≡ negated (minus a (multiple 64 (plus (times g x) (times k (negated c)))))
+minus-negated g k x c a = pair (minus-negated_re g.re g.im k.re k.im x.re x.im c.re c.im a.re) (minus-negated_im g.re g.im k.re k.im x.re x.im c.re c.im a.im)

@@ -1,0 +1,86 @@
+-- Places that carry bits in pairs: the values of these places speak for the bits.
+use Rattle.std.proofs.Common.{◌≡◌, ℕ, zero, suc, ◌+◌, ◌-◌, ◌*◌, ◌/◌, ◌%◌, ◌<◌, ◌≤◌, Bool, List, length, get_or, ℤ, pos, arith, refl, ap, sym, subst}
+use Rattle.finite.proofs.Lists.{joined_below_same}
+use Rattle.cs_num.specs.declared.Cpx.{Cpx}
+use Rattle.cs_num.specs.declared.Sample.{Sample}
+use Rattle.cs_num.specs.Complex.{conjugate, negated}
+use Rattle.cs_bits.specs.Signs.{Supports}
+use Rattle.cs_bits.proofs.Signs.{supports-less}
+use Rattle.grid_map.specs.declared.Place.{Place}
+use Rattle.grid_map.specs.Place.{place}
+use Rattle.soft_bits.specs.Soft.{SeenSlot}
+use Rattle.cell_tx.specs.declared.antenna.Port.TheVariants.{Second}
+use Rattle.cell_tx.specs.Points.{point_of}
+use Rattle.cell_tx.specs.Ports.{sent_point}
+use Rattle.clean_air.specs.Carried.{AreHeard}
+use Rattle.two_ports.specs.Pairs.{pair_values, pair_at, paired_values}
+use Rattle.two_ports.specs.Received.{SupportFour, IsSlotReceivedOfTwo, CarryPair}
+use Rattle.two_ports.proofs.Paired.{length-paired, paired-at}
+use Rattle.two_ports.proofs.ReceivedPairs.{received_pair_speaks}
+
+-- ---- one pair
+
+-- four values speak for the bits from 4i on
+abbrev pub SpeakFrom : (ℕ → Bool) → ℕ → List ℤ → Type 0
+SpeakFrom bits i values = SupportFour 16 (bits (4 * i)) (bits (4 * i + 1)) (bits (4 * i + 2)) (bits (4 * i + 3)) values
+
+pub pair_speaks : (recording : List Sample) (starts : ℕ → ℕ) (grids others : ℕ → ℕ → Cpx) (slot : SeenSlot) (p q : Place) (bits : ℕ → Bool) (i : ℕ) →
+    IsSlotReceivedOfTwo recording starts grids others slot → p.k < 72 → q.k < 72 → CarryPair grids others p q (point_of bits (2 * i)) (point_of bits (2 * i + 1)) →
+    SpeakFrom bits i (pair_values slot p q)
+pair_speaks recording starts grids others slot p q bits i is l m carry =
+    let a : 2 * (2 * i) ≡ 4 * i = omega arith in
+    let b : 2 * (2 * i) + 1 ≡ 4 * i + 1 = omega arith in
+    let c : 2 * (2 * i + 1) ≡ 4 * i + 2 = omega arith in
+    let d : 2 * (2 * i + 1) + 1 ≡ 4 * i + 3 = omega arith in
+    let Holds : ℕ → ℕ → ℕ → ℕ → Type 0 = λ w x y z. SupportFour 16 (bits w) (bits x) (bits y) (bits z) (pair_values slot p q) in
+    let all : Holds (2 * (2 * i)) (2 * (2 * i) + 1) (2 * (2 * i + 1)) (2 * (2 * i + 1) + 1) =
+    received_pair_speaks recording starts grids others slot p q (bits (2 * (2 * i))) (bits (2 * (2 * i) + 1)) (bits (2 * (2 * i + 1))) (bits (2 * (2 * i + 1) + 1)) is l m carry in
+    subst (λ w. Holds w (4 * i + 1) (4 * i + 2) (4 * i + 3)) a
+    (subst (λ x. Holds (2 * (2 * i)) x (4 * i + 2) (4 * i + 3)) b
+    (subst (λ y. Holds (2 * (2 * i)) (2 * (2 * i) + 1) y (4 * i + 3)) c
+    (subst (λ z. Holds (2 * (2 * i)) (2 * (2 * i) + 1) (2 * (2 * i + 1)) z) d all)))
+
+-- ---- what the second port sends of a pair
+
+pub second_even : (points : ℕ → Cpx) (i : ℕ) → sent_point Second points (2 * i) ≡ negated (conjugate (points (2 * i + 1)))
+second_even points i = let e : 2 * i % 2 ≡ 0 = omega arith in rw e refl
+
+pub second_odd : (points : ℕ → Cpx) (i : ℕ) → sent_point Second points (2 * i + 1) ≡ conjugate (points (2 * i))
+second_odd points i =
+    let e : (2 * i + 1) % 2 ≡ 1 = omega arith in
+    let f : 2 * i + 1 - 1 ≡ 2 * i = omega arith in
+    rw (e, f) refl
+
+-- ---- all pairs
+
+one_of_four : (bits : ℕ → Bool) (i q r : ℕ) (values : List ℤ) → i ≡ 4 * q + r → r < 4 → SpeakFrom bits q values → Supports 16 (bits i) (get_or values r (pos 0))
+one_of_four bits i q zero values e l four = subst (λ n. Supports 16 (bits n) (get_or values 0 (pos 0))) (let f : 4 * q ≡ i = omega (arith, e) in f) four.first
+one_of_four bits i q (suc zero) values e l four = subst (λ n. Supports 16 (bits n) (get_or values 1 (pos 0))) (sym e) four.second
+one_of_four bits i q (suc (suc zero)) values e l four = subst (λ n. Supports 16 (bits n) (get_or values 2 (pos 0))) (sym e) four.third
+one_of_four bits i q (suc (suc (suc zero))) values e l four = subst (λ n. Supports 16 (bits n) (get_or values 3 (pos 0))) (sym e) four.fourth
+one_of_four bits i q (suc (suc (suc (suc n)))) values e l four = absurd (omega (arith, l))
+
+pub paired_heard : (slot : Place → SeenSlot) (places : List Place) (bits : ℕ → Bool) → length places % 2 ≡ 0 →
+    ((i : ℕ) → i < length places / 2 → SpeakFrom bits i (pair_at slot places i)) → AreHeard 16 (2 * length places) bits (paired_values slot places)
+paired_heard slot places bits even each = record {
+  size = let size = length-paired slot places in omega (arith, size, even);
+  value = λ i inside.
+      let few : i < 4 * (length places / 2) = omega (arith, inside, even) in
+      subst (λ z. Supports 16 (bits i) z) (sym (paired-at slot places i few))
+      (one_of_four bits i (i / 4) (i % 4) (pair_at slot places (i / 4)) (omega arith) (omega arith) (each (i / 4) (omega (arith, few))));
+}
+
+-- they are those of the slots of the first places of pairs
+pub paired_same : (slot other : Place → SeenSlot) (places : List Place) → ((i : ℕ) → i < length places / 2 → slot (get_or places (2 * i) (place 0 0)) ≡ other (get_or places (2 * i) (place 0 0))) →
+    paired_values slot places ≡ paired_values other places
+unfolding paired_values
+paired_same slot other places same =
+    joined_below_same (length places / 2) (pair_at slot places) (pair_at other places)
+    (λ i l. ap (λ (s : SeenSlot). pair_values s (get_or places (2 * i) (place 0 0)) (get_or places (2 * i + 1) (place 0 0))) (same i l))
+
+-- what speaks with size 16 speaks with less
+pub heard-less : {bits : ℕ → Bool} {values : List ℤ} (least count : ℕ) → least ≤ 16 → AreHeard 16 count bits values → AreHeard least count bits values
+heard-less {bits} {values} least count few heard = record {
+  size = heard.size;
+  value = λ i inside. supports-less least 16 (bits i) _ few (heard.value i inside);
+}

@@ -1,0 +1,14 @@
+pub mod Combined
+pub mod Points
+pub mod Estimates
+pub mod Values
+pub mod Paired
+pub mod ReceivedPairs
+pub mod SentSymbols
+pub mod SentSlots
+pub mod Heard
+pub mod Systems
+pub mod SentMaster
+pub mod SentSystem
+pub mod HeldCells
+pub mod Valid

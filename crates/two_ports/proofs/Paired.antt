@@ -1,0 +1,93 @@
+-- The values of pairs of places: how many they are, each of them, and their sizes.
+use Rattle.std.proofs.Common.{◌≡◌, ℕ, zero, suc, ◌-◌, ◌*◌, ◌/◌, ◌%◌, ◌<◌, ◌≤◌, inl, inr, Bool, true, false, nat_lt, List, [], ◌∷◌, length, get_or, ℤ, pos, arith, refl, ap, ap₂, sym, ◌∙◌, length-append}
+use Rattle.std.specs.Prelude.{nat_abs, if◌then◌else◌}
+use Rattle.std.proofs.Math.Path.{fun_ext}
+use Rattle.std.proofs.Math.ListN.{get_or-append}
+use Rattle.std.proofs.lemmas.Bool.{cases_lt}
+use Rattle.std.proofs.lemmas.List.{get_or-append_right}
+use Rattle.std.proofs.lemmas.List.Elements.{All-append, All-cons, All-nil}
+use Rattle.finite.specs.Lists.{joined_below}
+use Rattle.finite.specs.Sizes.{AllWithin}
+use Rattle.cs_num.specs.declared.Cpx.{Cpx}
+use Rattle.grid_map.specs.declared.Place.{Place}
+use Rattle.crs.specs.Reference.{port_0, port_1}
+use Rattle.soft_bits.specs.Soft.{SeenSlot, seen_at, pattern_channel, soft_pair, soft_value}
+use Rattle.soft_bits.proofs.Channel.{soft_value-small}
+use Rattle.pdsch.specs.Values.{slot_with}
+use Rattle.two_ports.specs.Pairs.{first_of, second_of, pilots_energy, values_seen, pair_values, pair_at, paired_values, slot_values}
+
+-- ---- lists of four after four
+
+pub length-fours : (n : ℕ) (f : ℕ → List ℤ) → ((k : ℕ) → length (f k) ≡ 4) → length (joined_below n f) ≡ 4 * n
+unfolding joined_below
+length-fours zero f each = refl
+length-fours (suc n) f each =
+    let before = length-fours n f each in
+    let here = each n in
+    let both = length-append (joined_below n f) (f n) in
+    omega (arith, before, here, both)
+
+pub get_or-fours : (n i : ℕ) (f : ℕ → List ℤ) → ((k : ℕ) → length (f k) ≡ 4) → i < 4 * n → get_or (joined_below n f) i (pos 0) ≡ get_or (f (i / 4)) (i % 4) (pos 0)
+unfolding joined_below
+get_or-fours zero i f each inside = absurd (omega (arith, inside))
+get_or-fours (suc n) i f each inside =
+    let size = length-fours n f each in
+    elim (cases_lt i (4 * n)) [
+      | inl below ↦ get_or-append (joined_below n f) (f n) (pos 0) i (omega (arith, size, below)) ∙ get_or-fours n i f each below
+      | inr above ↦
+          let row : i / 4 ≡ n = omega (arith, inside, above) in
+          let column : i - 4 * n ≡ i % 4 = omega (arith, inside, above) in
+          get_or-append_right (joined_below n f) (f n) (4 * n) i (pos 0) size above ∙ ap₂ (λ (j k : ℕ). get_or (f j) k (pos 0)) (sym row) column
+    ]
+
+pub all-fours : (n : ℕ) (f : ℕ → List ℤ) → ((k : ℕ) → AllWithin 127 (f k)) → AllWithin 127 (joined_below n f)
+unfolding joined_below
+all-fours zero f each = All-nil (λ z. nat_abs z ≤ 127)
+all-fours (suc n) f each = All-append (λ z. nat_abs z ≤ 127) (joined_below n f) (f n) (all-fours n f each) (each n)
+
+-- ---- pairs
+
+pub pair-small : (a : Cpx) (energy : ℕ) → AllWithin 127 (soft_pair a energy)
+pair-small a energy =
+    All-cons (λ z. nat_abs z ≤ 127) (soft_value a.re energy) (soft_value a.im energy ∷ []) (soft_value-small a.re energy)
+    (All-cons (λ z. nat_abs z ≤ 127) (soft_value a.im energy) [] (soft_value-small a.im energy) (All-nil (λ z. nat_abs z ≤ 127)))
+
+pub seen-small : (slot : SeenSlot) (k : ℕ) (a b : Cpx) → AllWithin 127 (values_seen slot k a b)
+seen-small slot k a b =
+    let h : Cpx = pattern_channel port_0 slot k in
+    let g : Cpx = pattern_channel port_1 slot k in
+    let energy : ℕ = pilots_energy slot in
+    All-append (λ z. nat_abs z ≤ 127) (soft_pair (first_of h g a b) energy) (soft_pair (second_of h g a b) energy)
+    (pair-small (first_of h g a b) energy) (pair-small (second_of h g a b) energy)
+
+length-pair : (slot : SeenSlot) (p q : Place) → length (pair_values slot p q) ≡ 4
+unfolding pair_values
+length-pair slot p q = refl
+
+pub values-small : (slot : SeenSlot) (p q : Place) → AllWithin 127 (pair_values slot p q)
+unfolding pair_values
+values-small slot p q = seen-small slot p.k (seen_at slot (p.symbol % 7) p.k) (seen_at slot (q.symbol % 7) q.k)
+
+module _ (slot : Place → SeenSlot) (places : List Place) where
+  pub length-pair_at : (i : ℕ) → length (pair_at slot places i) ≡ 4
+  length-pair_at i = length-pair _ _ _
+
+  pub paired-small : AllWithin 127 (paired_values slot places)
+  unfolding paired_values
+  paired-small = all-fours (length places / 2) (pair_at slot places) (λ k. values-small _ _ _)
+
+  pub length-paired : length (paired_values slot places) ≡ 4 * (length places / 2)
+  unfolding paired_values
+  length-paired = length-fours (length places / 2) (pair_at slot places) length-pair_at
+
+  pub paired-at : (i : ℕ) → i < 4 * (length places / 2) → get_or (paired_values slot places) i (pos 0) ≡ get_or (pair_at slot places (i / 4)) (i % 4) (pos 0)
+  unfolding paired_values
+  paired-at i inside = get_or-fours (length places / 2) i (pair_at slot places) length-pair_at inside
+
+-- where both slots are one
+pub one_slot : (slot : SeenSlot) (places : List Place) → paired_values (λ p. slot_with slot slot p.symbol) places ≡ slot_values slot places
+one_slot slot places = ap (λ (f : Place → SeenSlot). paired_values f places) (fun_ext (λ (p : Place). same (nat_lt p.symbol 7)))
+  where
+    same : (b : Bool) → (if b then slot else slot) ≡ slot
+    same true = refl
+    same false = refl

@@ -1,0 +1,260 @@
+-- The system information of a recording that is clean of both ports: each whole frame of even number answers with the plan's.
+use Rattle.std.proofs.Common.{◌≡◌, ℕ, ◌+◌, ◌*◌, ◌/◌, ◌%◌, ◌<◌, ◌≤◌, inl, inr, Bool, true, false, List, length, get_or, pos, Ok, nat_eq, nat_lt, ℤ, refl, ap, ap₂, sym, subst, ◌∙◌, arith}
+use Rattle.std.specs.Prelude.{if◌then◌else◌}
+use Rattle.std.proofs.lemmas.Bool.{cases_lt, lt-ltb, le-ltb}
+use Rattle.cs_num.specs.declared.Cpx.{Cpx}
+use Rattle.cs_num.specs.declared.Sample.{Sample}
+use Rattle.cs_bits.specs.Checks.{message_of}
+use Rattle.cs_bits.proofs.Signs.{supports-speaks, supports-less}
+use Rattle.turbo_code.specs.declared.rows.Row.{Row}
+use Rattle.turbo_code.specs.Encoder.{coded}
+use Rattle.turbo_code.specs.Reading.{place_of, bit_of}
+use Rattle.grid_map.specs.declared.Place.{Place}
+use Rattle.grid_map.specs.Place.{place}
+use Rattle.grid_map.specs.Control.{pcfich_places}
+use Rattle.grid_map.specs.Scrambling.{pcfich_c_init, pdcch_c_init, pdsch_c_init, indicator_bit}
+use Rattle.grid_map.specs.Shared.{shared_place_of}
+use Rattle.grid_map.proofs.Pieces.{length-pcfich_places}
+use Rattle.grid_map.proofs.Together.{pair_in_one_symbol}
+use Rattle.lte_types.specs.Numerology.{normal, useful_start}
+use Rattle.dci.specs.Fields.{system_information_rnti}
+use Rattle.soft_bits.specs.Soft.{SeenSlot}
+use Rattle.pcfich.specs.Indicator.{Speak}
+use Rattle.pdsch.specs.Values.{slot_with}
+use Rattle.system_block.specs.Block.{BlockSays}
+use Rattle.system_block.specs.Attempt.{Reads}
+use Rattle.cell_tx.specs.declared.antenna.Port.TheVariants.{First, Second}
+use Rattle.cell_tx.specs.declared.cell.CellPlan.{CellPlan}
+use Rattle.cell_tx.specs.Ports.{sent_point}
+use Rattle.cell_tx.specs.Transport.{checked_size, row_with, shared_word}
+use Rattle.cell_tx.specs.Block.{coded_bit}
+use Rattle.cell_tx.specs.Points.{point_of, scrambled}
+use Rattle.cell_tx.specs.Control.{version_of, grant_of, control_places, control_word, indicator_point, control_point}
+use Rattle.cell_tx.specs.Shared.{assigned_places, shared_coded, shared_bit, shared_point}
+use Rattle.cell_tx.specs.Grid.{port_element}
+use Rattle.cell_tx.specs.Clean.{start_of, number_at_start}
+use Rattle.cell_tx.proofs.SystemPlaces.{control_indexed, assigned_bits_are, assigned_size, indicator_stands, control_stands, assigned_stands, indicator_sent, control_sent, shared_sent}
+use Rattle.cell_tx.proofs.BlockRows.{IsRowOf}
+use Rattle.erasure.proofs.Whole.{whole_block_is_resolvable}
+use Rattle.cell_tx.proofs.SystemWords.{version-fits, grant_is, row_is, word_checked, word_size, word_says}
+use Rattle.explain.specs.Frame.{IsWhole, frame_at, seen_slot}
+use Rattle.clean_air.specs.Block.{matched_bit, IsSentBlock}
+use Rattle.clean_air.specs.Carried.{AreHeard}
+use Rattle.clean_air.specs.Grant.{grant_word}
+use Rattle.clean_air.specs.Words.{SpeakInOrder}
+use Rattle.clean_air.proofs.Controls.{grant_parts, four_elements, spoken_grant_is_read}
+use Rattle.clean_air.proofs.SharedBlocks.{heard_block_is_told}
+use Rattle.clean_air.proofs.Speaking.{descrambled_bits_are_heard}
+use Rattle.two_tx.specs.Plan.{IsSendableOfTwo}
+use Rattle.two_tx.specs.Clean.{IsCleanOfPorts}
+use Rattle.two_ports.specs.Pairs.{pair_at, paired_values, slot_values}
+use Rattle.two_ports.specs.Values.{indicator_values, stream_values, candidate_values, shared_values, two_ports}
+use Rattle.two_ports.specs.Received.{CarryPair}
+use Rattle.two_ports.proofs.Heard.{SpeakFrom, pair_speaks, second_even, second_odd, paired_heard, paired_same, heard-less}
+use Rattle.two_ports.proofs.SentSlots.{slot_grid, each_slot_received}
+
+-- ---- a frame
+
+module _ (recording : List Sample) (plan : CellPlan) (sfn offset : ℕ) (gain other : Cpx) (eps : ℕ) (sendable : IsSendableOfTwo plan)
+    (clean : IsCleanOfPorts recording plan sfn offset gain other eps) (j : ℕ) (whole : IsWhole recording (start_of offset) j) where
+  abbrev number : ℕ
+  number = (number_at_start sfn offset + j) % 1024
+
+  -- the slot of subframe 5 with this number, 10 or 11
+  abbrev slot : ℕ → SeenSlot
+  slot s = seen_slot recording (frame_at (start_of offset) j) s plan.identity
+
+  abbrev starts : ℕ → ℕ → ℕ
+  starts s = useful_start normal (frame_at (start_of offset) j) s
+
+  -- the slot that has a place
+  abbrev slot_at : Place → SeenSlot
+  slot_at p = slot_with (slot 10) (slot 11) p.symbol
+
+  slot_is : (p : Place) → p.symbol < 14 → slot_at p ≡ slot (10 + p.symbol / 7)
+  slot_is p few = elim (cases_lt p.symbol 7) [
+    | inl low ↦
+        let e : nat_lt p.symbol 7 ≡ true = lt-ltb p.symbol 7 low in
+        let n : 10 + p.symbol / 7 ≡ 10 = omega (arith, low) in
+        rw (e, n) refl
+    | inr high ↦
+        let e : nat_lt p.symbol 7 ≡ false = le-ltb p.symbol 7 high in
+        let n : 10 + p.symbol / 7 ≡ 11 = omega (arith, high, few) in
+        rw (e, n) refl
+  ]
+
+  -- what a port sends at a place, by the symbols of its slot
+  in_slot : (symbol : ℕ) → symbol < 14 → ((10 + symbol / 7) / 2 ≡ 5) × (7 * ((10 + symbol / 7) % 2) + symbol % 7 ≡ symbol)
+  in_slot symbol few = (omega (arith, few), omega (arith, few))
+
+  -- ---- places that carry bits in pairs
+
+  module _ (places : List Place) (bits : ℕ → Bool) (even : length places % 2 ≡ 0)
+      (placed : (i : ℕ) → i < length places → let p = get_or places i (place 0 0) in (p.symbol < 14) × (p.k < 72))
+      (together : (i : ℕ) → i < length places / 2 → (get_or places (2 * i) (place 0 0)).symbol / 7 ≡ (get_or places (2 * i + 1) (place 0 0)).symbol / 7)
+      (first : (i : ℕ) → i < length places → let p = get_or places i (place 0 0) in port_element First plan number 5 p.symbol p.k ≡ point_of bits i)
+      (second : (i : ℕ) → i < length places → let p = get_or places i (place 0 0) in port_element Second plan number 5 p.symbol p.k ≡ sent_point Second (point_of bits) i) where
+    abbrev item : ℕ → Place
+    item i = get_or places i (place 0 0)
+
+    first_in : (s i : ℕ) → i < length places → s ≡ 10 + (item i).symbol / 7 → slot_grid First plan number s ((item i).symbol % 7) (item i).k ≡ point_of bits i
+    first_in s i l e =
+        let (half, row) = in_slot (item i).symbol (placed i l).0 in
+        ap (λ n. slot_grid First plan number n ((item i).symbol % 7) (item i).k) e
+        ∙ ap₂ (λ (subframe symbol : ℕ). port_element First plan number subframe symbol (item i).k) half row ∙ first i l
+
+    second_in : (s i : ℕ) → i < length places → s ≡ 10 + (item i).symbol / 7 → slot_grid Second plan number s ((item i).symbol % 7) (item i).k ≡ sent_point Second (point_of bits) i
+    second_in s i l e =
+        let (half, row) = in_slot (item i).symbol (placed i l).0 in
+        ap (λ n. slot_grid Second plan number n ((item i).symbol % 7) (item i).k) e
+        ∙ ap₂ (λ (subframe symbol : ℕ). port_element Second plan number subframe symbol (item i).k) half row ∙ second i l
+
+    pair_is_heard : (i : ℕ) → i < length places / 2 → SpeakFrom bits i (pair_at slot_at places i)
+    pair_is_heard i l =
+        let a : 2 * i < length places = omega (arith, l) in
+        let b : 2 * i + 1 < length places = omega (arith, l) in
+        let s : ℕ = 10 + (item (2 * i)).symbol / 7 in
+        let both : s ≡ 10 + (item (2 * i + 1)).symbol / 7 = ap (λ n. 10 + n) (together i l) in
+        let few : s < 20 = let low = (placed (2 * i) a).0 in omega (arith, low) in
+        let received = each_slot_received recording plan sfn offset gain other eps clean j s whole few in
+        let carry : CarryPair (slot_grid First plan number s) (slot_grid Second plan number s) (item (2 * i)) (item (2 * i + 1)) (point_of bits (2 * i)) (point_of bits (2 * i + 1)) =
+        record {
+          first = first_in s (2 * i) a refl;
+          second = first_in s (2 * i + 1) b both;
+          other_first = second_in s (2 * i) a refl ∙ second_even (point_of bits) i;
+          other_second = second_in s (2 * i + 1) b both ∙ second_odd (point_of bits) i;
+        } in
+        subst (λ (z : SeenSlot). SpeakFrom bits i (pair_at (λ p. z) places i)) (sym (slot_is (item (2 * i)) (placed (2 * i) a).0))
+        (pair_speaks recording (starts s) (slot_grid First plan number s) (slot_grid Second plan number s) (slot s) (item (2 * i)) (item (2 * i + 1)) bits i received
+        (placed (2 * i) a).1 (placed (2 * i + 1) b).1 carry)
+
+    -- the values of these places speak for the bits
+    places_heard : AreHeard 16 (2 * length places) bits (paired_values slot_at places)
+    places_heard = paired_heard slot_at places bits even pair_is_heard
+
+    -- in the first slot alone
+    first_heard : ((i : ℕ) → i < length places → (item i).symbol < 7) → AreHeard 16 (2 * length places) bits (slot_values (slot 10) places)
+    first_heard low =
+        subst (AreHeard 16 (2 * length places) bits)
+        (paired_same slot_at (λ p. slot 10) places (λ i l. rw (lt-ltb (item (2 * i)).symbol 7 (low (2 * i) (omega (arith, l)))) refl)) places_heard
+
+  -- ---- the control region
+
+  indicator_heard : Speak (indicator_values (slot 10)) plan.cfi
+  unfolding seen_slot indicator_values indicator_point
+  indicator_heard i l =
+      supports-speaks (indicator_bit plan.cfi i) (get_or (indicator_values (slot 10)) i (pos 0)) (supports-less 1 16 (indicator_bit plan.cfi i) _ (omega arith) (all.value i l))
+    where
+      size : length (pcfich_places plan.identity) ≡ 16
+      size = length-pcfich_places plan.identity
+
+      low : (i : ℕ) → i < length (pcfich_places plan.identity) → (get_or (pcfich_places plan.identity) i (place 0 0)).symbol ≤ 0
+      low i l = (indicator_stands First plan sendable i (omega (arith, l, size))).symbol
+
+      heard : AreHeard 16 (2 * length (pcfich_places plan.identity)) (scrambled (pcfich_c_init plan.identity 10) (indicator_bit plan.cfi)) (slot_values (slot 10) (pcfich_places plan.identity))
+      heard =
+          first_heard (pcfich_places plan.identity) (scrambled (pcfich_c_init plan.identity 10) (indicator_bit plan.cfi)) (omega (arith, size))
+          (λ i l. let at = low i l in (omega (arith, at), (indicator_stands First plan sendable i (omega (arith, l, size))).k))
+          (λ i l. let at = low (2 * i) (omega (arith, l)) in let next = low (2 * i + 1) (omega (arith, l)) in omega (arith, at, next))
+          (λ i l. indicator_sent First plan sendable number i (omega (arith, l, size)))
+          (λ i l. indicator_sent Second plan sendable number i (omega (arith, l, size)))
+          (λ i l. let at = low i l in omega (arith, at))
+
+      all : AreHeard 16 (2 * 16) (indicator_bit plan.cfi) (indicator_values (slot 10))
+      all = subst (λ n. AreHeard 16 (2 * n) (indicator_bit plan.cfi) (indicator_values (slot 10))) size
+          (descrambled_bits_are_heard 16 (2 * length (pcfich_places plan.identity)) (pcfich_c_init plan.identity 10) (indicator_bit plan.cfi) (slot_values (slot 10) (pcfich_places plan.identity)) heard)
+
+  module _ (is_even : number % 2 ≡ 0) where
+    control_heard : SpeakInOrder (grant_word (grant_of plan number)) (candidate_values (slot 10) plan.cfi plan.duration plan.resource)
+    unfolding seen_slot stream_values control_point control_word
+    control_heard = record {
+      enough = let size = (grant_parts (grant_of plan number)).size in let count = all.size in omega (arith, size, count);
+      value = λ i l. supports-less 1 16 (coded_bit (grant_word (grant_of plan number)) i) (get_or (candidate_values (slot 10) plan.cfi plan.duration plan.resource) i (pos 0)) (omega arith)
+          (all.value i (let count = all.size in omega (arith, l, count)));
+    }
+      where
+        size : length (control_places plan) ≡ 144
+        size = (control_indexed First plan sendable).size
+
+        low : (i : ℕ) → i < length (control_places plan) → (get_or (control_places plan) i (place 0 0)).symbol ≤ 3
+        low i l = (control_stands First plan sendable i (omega (arith, l, size))).symbol
+
+        heard : AreHeard 16 (2 * length (control_places plan)) (scrambled (pdcch_c_init plan.identity 10) (coded_bit (grant_word (grant_of plan number)))) (slot_values (slot 10) (control_places plan))
+        heard =
+            first_heard (control_places plan) (scrambled (pdcch_c_init plan.identity 10) (coded_bit (grant_word (grant_of plan number)))) (omega (arith, size))
+            (λ i l. let at = low i l in (omega (arith, at), (control_stands First plan sendable i (omega (arith, l, size))).k))
+            (λ i l. let at = low (2 * i) (omega (arith, l)) in let next = low (2 * i + 1) (omega (arith, l)) in omega (arith, at, next))
+            (λ i l. control_sent First plan sendable number is_even i (omega (arith, l, size)))
+            (λ i l. control_sent Second plan sendable number is_even i (omega (arith, l, size)))
+            (λ i l. let at = low i l in omega (arith, at))
+
+        all : AreHeard 16 (2 * 144) (coded_bit (grant_word (grant_of plan number))) (candidate_values (slot 10) plan.cfi plan.duration plan.resource)
+        all = subst (λ n. AreHeard 16 (2 * n) (coded_bit (grant_word (grant_of plan number))) (candidate_values (slot 10) plan.cfi plan.duration plan.resource)) size
+            (descrambled_bits_are_heard 16 (2 * length (control_places plan)) (pdcch_c_init plan.identity 10) (coded_bit (grant_word (grant_of plan number))) (slot_values (slot 10) (control_places plan)) heard)
+
+    -- ---- the shared channel
+
+    abbrev values : List ℤ
+    values = shared_values (slot 10) (slot 11) plan.cfi plan.start plan.blocks
+
+    abbrev places : List Place
+    places = assigned_places true plan
+
+    paired : length places % 2 ≡ 0
+    paired = by (nat_eq plan.cfi 2) (assigned_size First plan sendable)
+      where
+        by : (b : Bool) → length places ≡ (if b then 96 else 84) * plan.blocks → length places % 2 ≡ 0
+        by true e = omega (arith, e)
+        by false e = omega (arith, e)
+
+    shared_heard : AreHeard 16 (2 * length places) (shared_bit plan number) values
+    unfolding seen_slot shared_values shared_point shared_place_of
+    shared_heard =
+        descrambled_bits_are_heard 16 (2 * length places) (pdsch_c_init plan.identity 10 system_information_rnti) (shared_bit plan number) (paired_values slot_at places)
+        (places_heard places (scrambled (pdsch_c_init plan.identity 10 system_information_rnti) (shared_bit plan number)) paired
+        (λ i l. let at = assigned_stands First plan sendable i l in (at.symbol, at.k))
+        (λ i l. ap (λ (n : ℕ). n / 7) (pair_in_one_symbol plan.identity plan.cfi plan.start plan.blocks (2 * i) sendable.cfi.0 sendable.cfi.1 sendable.assignment.inside (omega arith) (omega (arith, l, paired))))
+        (λ i l. shared_sent First plan sendable number is_even i l)
+        (λ i l. shared_sent Second plan sendable number is_even i l))
+
+    matched_heard : (row : Row) → row ≡ row_with (checked_size plan) → row.k ≡ checked_size plan → AreHeard 16 (2 * length places) (matched_bit row (version_of number) (shared_word plan)) values
+    unfolding shared_coded
+    matched_heard row same k =
+        subst (λ (r : Row). AreHeard 16 (2 * length places) (λ i. bit_of (coded r (shared_word plan)) (place_of row.k (version_of number) i)) values) (sym same)
+        (subst (λ (n : ℕ). AreHeard 16 (2 * length places) (λ i. bit_of (coded (row_with (checked_size plan)) (shared_word plan)) (place_of n (version_of number) i)) values) (sym k) shared_heard)
+
+    -- its values tell the block
+    sent_block : (row : Row) → row ≡ row_with (checked_size plan) → IsRowOf (checked_size plan) row → IsSentBlock row (version_of number) (2 * length places) (shared_word plan)
+    sent_block row same of = record {
+      is_row = of.is;
+      version = version-fits number;
+      size = word_size plan sendable ∙ sym of.size;
+      passes = word_checked plan sendable;
+      resolvable = whole_block_is_resolvable row (version_of number) (2 * length places) (shared_word plan) of.is (version-fits number)
+          (let count = assigned_bits_are First plan sendable in let enough = sendable.enough in let size = of.size in omega (arith, count, enough, size));
+    }
+
+    says_fields : BlockSays values (grant_of plan number) (Ok plan.sib1)
+    says_fields =
+        let of = row_is plan sendable in
+        let row : Row = row_with (checked_size plan) in
+        let told = heard_block_is_told row (version_of number) (2 * length places) (shared_word plan) values (sent_block row refl of)
+        (heard-less 1 (2 * length places) (omega arith) (matched_heard row refl of.size)) in
+        record {
+          bits = message_of 24 (shared_word plan);
+          is = record { row = row; is_row = of.is; size = of.size; tells = told.told };
+          says = word_says plan sendable;
+        }
+
+    -- so the frame answers with the plan's fields
+    pub fields_read : Reads (two_ports (slot 10) (slot 11) plan.duration plan.resource) (Ok plan.sib1)
+    fields_read =
+        let read = spoken_grant_is_read (two_ports (slot 10) (slot 11) plan.duration plan.resource) plan.cfi (grant_of plan number)
+        (record {
+          range = (let low = sendable.cfi.0 in omega (arith, low), sendable.cfi.1);
+          is_grant = grant_is plan sendable number;
+          enough = four_elements plan.identity plan.cfi plan.duration plan.resource sendable.cfi.0 sendable.cfi.1;
+          of_indicator = indicator_heard;
+          of_control = control_heard;
+        }) in
+        read.reads (Ok plan.sib1) says_fields

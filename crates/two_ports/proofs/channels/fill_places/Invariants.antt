@@ -1,0 +1,10 @@
+use Rattle.std.proofs.Common.{◌≡◌, ℕ, ◌<◌, true, length, slice_index_or}
+use Rattle.grid_map.specs.Place.{place}
+use Rattle.grid_map.specs.Shared.{shared_place_of}
+use Rattle.two_ports.proofs.channels.fill_places.Given as goal
+
+abbrev pub invariant-loop-i : goal.invariant-loop-i
+invariant-loop-i l = record {
+  size : length l.places ≡ 576;
+  each : (k : ℕ) → k < l.i → slice_index_or l.places k (place 0 0) ≡ shared_place_of true l.fn.id l.cfi l.grant.start l.grant.blocks k;
+}

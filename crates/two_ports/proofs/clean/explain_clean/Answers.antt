@@ -1,0 +1,6 @@
+use Rattle.std.proofs.Common.{arith}
+use Rattle.two_ports.proofs.HeldCells.{holds_clean_cells_of_two}
+use Rattle.two_ports.proofs.clean.explain_clean.Goals as goal
+
+pub returns-clause-holds : goal.returns-clause-holds
+returns-clause-holds c = holds_clean_cells_of_two c.args.recording.now c.explain.new.list (omega (arith, c.if-prove.false, c.len-count.ensures.value)) c.explain.ensures.list

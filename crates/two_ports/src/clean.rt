@@ -1,0 +1,26 @@
+//! The list of cells with two antenna ports of a clean recording.
+
+ghost use Rattle.std.specs.Prelude.{All, IfOk};
+ghost use Rattle.lte_types.specs.Ranges.{IsValid};
+ghost use Rattle.two_ports.specs.Entries.{IsExplainedOfTwo};
+ghost use Rattle.two_ports.specs.Clean.{HoldsCleanCellsOfTwo};
+
+use crate::{Workspace2, explain};
+use explain::EntryList;
+use sample_file::Recording;
+
+/// Afterwards the list is that of the recording, as `explain` makes it. Wherever the recording is what both antenna
+/// ports of a cell send, by a plan that can be sent, each times a whole-number gain, with the squares of the gains' sizes
+/// together at most 392 and that of the first at least 1, each component off by at most as much as its square is a
+/// quarter of that sum and four times that of the first, the list has an entry with this cell's identity, the sample at
+/// which its first frame begins, that frame's number, two antenna ports, its master block, and the fields of its
+/// SystemInformationBlockType1, and no other with this identity, sample and number. It takes no memory. (own)
+pub fn explain_clean(recording: &Recording, work: &mut Workspace2, list: &mut EntryList)
+    ensures list { IsExplainedOfTwo recording.now list.new }
+    ensures holds { HoldsCleanCellsOfTwo recording.now list.new }
+    ensures valid { All (λ entry. IfOk entry.sib1 IsValid) list.new }
+{
+    let count = recording.len();
+    explain(recording, work, list);
+    prove!(57_600 <= count);
+}

@@ -1,0 +1,26 @@
+//! Cells with two antenna ports, which send by transmit diversity (TS 36.211 section 6.3.4.3): the soft values of
+//! pairs of places, the list of the cells of a recording, and that a clean recording's list holds its cell.
+#![tactic(auto)]
+
+mod attempt;
+mod channels;
+mod clean;
+mod frames;
+mod laws;
+mod list;
+mod pairs;
+mod reader;
+mod slot;
+mod value;
+
+pub use attempt::read;
+pub use channels::{candidate, indicator, received, shared};
+pub use clean::explain_clean;
+pub use laws::{no_entry_is_of_the_extended_prefix, pair_values_speak_for_the_sent_bits};
+pub use list::{Workspace2, explain};
+pub use pairs::fill_pairs;
+pub use slot::PairSlot;
+pub use value::pair;
+
+#[cfg(test)]
+mod tests;

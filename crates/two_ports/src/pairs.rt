@@ -1,0 +1,59 @@
+//! The soft values of lists of places.
+
+ghost use Rattle.std.specs.Prelude.{◌≡◌, ◌*◌, ◌%◌, ◌<◌, ◌≤◌, All, length};
+ghost use Rattle.finite.specs.Sizes.{AllWithin};
+ghost use Rattle.pdsch.specs.Values.{slot_with};
+ghost use Rattle.two_ports.specs.Pairs.{pair_values, paired_values, slot_values};
+
+use crate::{PairSlot, pair};
+use grid_map::Place;
+
+/// Writes the soft values of places of a subframe over the whole of `values`, two a place, in the order of the places,
+/// which are taken two by two. A place in symbols 0 to 6 is one of the subframe's first slot, and one in symbols 7 to 13
+/// one of its second; both places of a pair are in one slot, that of the first of them. There is an even count of places.
+pub fn fill_pairs(first: &PairSlot, second: &PairSlot, places: &[Place], values: &mut [i16])
+    requires inside { All (λ p. (p.symbol < 14) × (p.k < 72)) places.now }
+    requires even { length places.now % 2 ≡ 0 }
+    requires room { length values.old ≡ 2 * length places.now }
+    ensures values { values.new ≡ paired_values (λ p. slot_with first.now second.now p.symbol) places.now }
+    ensures sizes { AllWithin 127 values.new }
+{
+    for i in 0..places.len() / 2 {
+        let four = pair_at(first, second, &places[2 * i], &places[2 * i + 1]);
+        values[4 * i..4 * i + 4].copy_from_slice(&four);
+    }
+}
+
+/// The same of places of one slot, whose subframe is meant.
+pub(crate) fn fill_slot(slot: &PairSlot, places: &[Place], values: &mut [i16])
+    requires inside { All (λ p. (p.symbol < 14) × (p.k < 72)) places.now }
+    requires even { length places.now % 2 ≡ 0 }
+    requires room { length values.old ≡ 2 * length places.now }
+    ensures values { values.new ≡ slot_values slot.now places.now }
+    ensures sizes { AllWithin 127 values.new }
+{
+    fill_pairs(slot, slot, places, values);
+}
+
+// The four values of two places.
+fn pair_at(first: &PairSlot, second: &PairSlot, p: &Place, q: &Place) -> [i16; 4]
+    requires p { p.now.k < 72 }
+    requires q { q.now.k < 72 }
+    ensures values { result ≡ pair_values (slot_with first.now second.now p.now.symbol) p.now q.now }
+    ensures sizes { AllWithin 127 result }
+{
+    let slot = slot_of(first, second, p.symbol);
+    pair(
+        slot,
+        p.k,
+        slot.seen(p.symbol % 7, p.k),
+        slot.seen(q.symbol % 7, q.k),
+    )
+}
+
+// The slot that has a symbol of the subframe.
+fn slot_of<'a>(first: &'a PairSlot, second: &'a PairSlot, symbol: u8) -> &'a PairSlot
+    ensures { result.now ≡ slot_with first.now second.now symbol }
+{
+    if symbol < 7 { first } else { second }
+}

@@ -1,0 +1,106 @@
+//! A slot of a cell with two antenna ports, as it was seen.
+
+ghost use Rattle.std.specs.Prelude.{◌≡◌, ◌*◌, ◌^◌, ◌<◌, ◌≤◌};
+ghost use Rattle.cs_num.specs.Complex.{IsWithin};
+ghost use Rattle.crs.specs.Reference.{port_0, port_1};
+ghost use Rattle.soft_bits.specs.Soft.{SeenSlot, AreSmall, seen_at, pattern_channel};
+ghost use Rattle.two_ports.specs.Kept.{IsPairKept};
+ghost use Rattle.two_ports.specs.Pairs.{pilots_energy};
+
+use crs::Pattern;
+use cs_num::Cpx;
+use lte_types::CellId;
+use soft_bits::{Seen, Slot, energy_of, estimate, pilots_of};
+use std::marker::Model;
+
+/// A slot with the pilots of both antenna ports. Contracts see it as the record of the slot.
+#[derive(Drop)]
+pub struct PairSlot {
+    slot: Slot,
+    second: [Cpx; 24],
+    energy: u64,
+}
+
+impl Model for PairSlot {
+    ghost Value = { SeenSlot };
+
+    ghost view = { λ s. s.slot };
+
+    ghost invariant = { λ s. IsPairKept s.slot s.second s.energy };
+}
+
+impl PairSlot {
+    /// The slot with these symbols. `number` is 0 to 19, and components have size at most 2^25.
+    pub fn new(seen: [[Cpx; 72]; 7], number: u8, id: CellId) -> PairSlot
+        requires number { number < 20 }
+        requires small { AreSmall seen }
+        ensures { result ≡ record { symbols = seen; number = number; identity = id } }
+    {
+        let of_second = Seen {
+            symbols: &seen,
+            number,
+            id,
+            pattern: Pattern::SECOND_PORT,
+        };
+        let second = pilots_of(&of_second);
+        let second_energy = energy_of(&of_second);
+        let slot = Slot::new(seen, number, id);
+        let energy = slot.energy() + second_energy;
+        PairSlot {
+            slot,
+            second,
+            energy,
+        }
+    }
+
+    /// The identity of the cell.
+    pub fn id(&self) -> CellId
+        ensures { result ≡ self.now.identity }
+    {
+        self.slot.id()
+    }
+
+    /// The slot's number in its frame, 0 to 19.
+    pub fn number(&self) -> u8
+        ensures value { result ≡ self.now.number }
+        ensures valid { result < 20 }
+    {
+        self.slot.number()
+    }
+
+    // The seen value at a place.
+    pub(crate) fn seen(&self, symbol: u8, k: u8) -> Cpx
+        requires symbol { symbol < 7 }
+        requires k { k < 72 }
+        ensures value { result ≡ seen_at self.now symbol k }
+        ensures small { IsWithin (2 ^ 25) result }
+    {
+        self.slot.seen(symbol, k)
+    }
+
+    // Three times the channel of the first port at a subcarrier.
+    pub(crate) fn first_channel(&self, k: u8) -> Cpx
+        requires { k < 72 }
+        ensures value { result ≡ pattern_channel port_0 self.now k }
+        ensures small { IsWithin (540 * 2 ^ 25) result }
+    {
+        self.slot.channel(k)
+    }
+
+    // Three times the channel of the second port at a subcarrier.
+    pub(crate) fn second_channel(&self, k: u8) -> Cpx
+        requires { k < 72 }
+        ensures value { result ≡ pattern_channel port_1 self.now k }
+        ensures small { IsWithin (540 * 2 ^ 25) result }
+    {
+        estimate(&self.second, self.slot.id().n2() as u8, k)
+    }
+
+    // The energy of the pilots of both ports.
+    pub(crate) fn energy(&self) -> u64
+        ensures value { result ≡ pilots_energy self.now }
+        ensures few { result ≤ 48 * 2 ^ 51 }
+    {
+        self.energy
+    }
+}
