@@ -1,6 +1,7 @@
 //! The list of a recording, by the calls that make it.
 
-ghost use Rattle.std.specs.Prelude.{◌≡◌, All, length};
+ghost use Rattle.std.specs.Prelude.{◌≡◌, All, IfOk, length};
+ghost use Rattle.explain.specs.Entries.{IsExplained};
 ghost use Rattle.cs_num.specs.Complex.{IsWithin};
 
 use crate::rows::{SPARSE, WIDE};
@@ -8,8 +9,9 @@ use cs_num::{Cpx, Sample};
 use explain::{
     EntryList, Workspace, explain, one_frame_is_enough, the_list_in_plain_words, values_of,
 };
-use lte_types::{Bandwidth, Duration, Mib, Resource, Sib1Reason};
+use lte_types::{Bandwidth, Duration, Entry, Mib, Resource, Sib1Reason};
 use sample_file::Recording;
+use std::alloc::{AllocError, Global};
 use std::test::Fail;
 use test_signals::{Rows, primary_grid, put_rows, put_signals, put_symbol, silent};
 
@@ -42,66 +44,95 @@ fn send_frames(samples: &mut [Sample], frames: &[Rows; 4])
     }
 }
 
-fn has_fields(mib: &Mib, bandwidth: Bandwidth, duration: Duration, resource: Resource) -> bool {
-    mib.bandwidth == bandwidth && mib.duration == duration && mib.resource == resource
+// The list of a recording.
+fn list_of(alloc: Global, recording: &Recording) -> Result<EntryList, AllocError>
+    ensures { IfOk result (λ list. IsExplained recording.now list) }
+{
+    let mut work = Workspace::new(alloc)?;
+    let mut list = EntryList::new(alloc)?;
+    explain(recording, &mut work, &mut list);
+    Ok(list)
+}
+
+// Whether an entry is of identity 0, and has this place, frame number and count of ports.
+fn is_cell_at(entry: &Entry, start: u32, sfn: u16, ports: u8) -> bool {
+    entry.id.value() == 0
+        && entry.start == start
+        && entry.sfn.value() == sfn
+        && entry.ports == ports
+}
+
+// Whether these frames tell an entry's master block, at no cost.
+fn is_told_by(entry: &Entry, frames: u8, frame: u8, phase: u8) -> bool {
+    entry.frames == frames && entry.frame == frame && entry.phase == phase && entry.cost == 0
+}
+
+// Whether a master block is of the width n6, with PHICH extended and two, and has these bits.
+fn is_narrow(mib: &Mib, upper: u8, spare: u16) -> bool {
+    mib.bandwidth == Bandwidth::N6
+        && mib.duration == Duration::Extended
+        && mib.resource == Resource::Two
+        && mib.upper == upper
+        && mib.spare == spare
+}
+
+// Whether a master block is that of the rows of width n50.
+fn is_wide(mib: &Mib) -> bool {
+    mib.bandwidth == Bandwidth::N50
+        && mib.duration == Duration::Normal
+        && mib.resource == Resource::One
+        && mib.upper == 0
+        && mib.spare == 0
+}
+
+// Whether an entry has no system information, since its width is n50.
+fn is_too_wide(entry: &Entry) -> bool {
+    match &entry.sib1 {
+        Ok(_) => false,
+        Err(reason) => *reason == Sib1Reason::Bandwidth(Bandwidth::N50),
+    }
+}
+
+// Whether values have the signs of the coded bits at places 0 and 39.
+fn has_signs(values: &[[i32; 3]; 40]) -> bool {
+    values[0][0] < 0
+        && values[0][1] < 0
+        && values[0][2] > 0
+        && values[39][0] > 0
+        && values[39][1] < 0
+        && values[39][2] > 0
 }
 
 #[test]
 fn silence_explains_no_cell(rt: HostRuntime) -> Result<(), Fail> {
-    let mut work = Workspace::new(rt.alloc())?;
-    let mut list = EntryList::new(rt.alloc())?;
     let recording = Recording::new(silent(rt.alloc(), 57_600)?).expect(&rt, "30 ms");
-    explain(&recording, &mut work, &mut list);
-    assert!(rt; list.slice().is_empty());
+    assert!(rt; list_of(rt.alloc(), &recording)?.slice().is_empty());
     the_list_in_plain_words();
     Ok(())
 }
 
 #[test]
 fn primary_signals_alone_explain_no_cell(rt: HostRuntime) -> Result<(), Fail> {
-    let mut work = Workspace::new(rt.alloc())?;
-    let mut list = EntryList::new(rt.alloc())?;
     let mut samples = silent(rt.alloc(), 57_600)?;
     send_often(&mut samples[..], &primary_grid(0));
     let recording = Recording::new(samples).expect(&rt, "30 ms");
-    explain(&recording, &mut work, &mut list);
-    assert!(rt; list.slice().is_empty());
+    assert!(rt; list_of(rt.alloc(), &recording)?.slice().is_empty());
     Ok(())
 }
 
 #[test]
 fn a_master_block_of_the_first_frame_is_an_entry(rt: HostRuntime) -> Result<(), Fail> {
-    let mut work = Workspace::new(rt.alloc())?;
-    let mut list = EntryList::new(rt.alloc())?;
     let mut samples = silent(rt.alloc(), 57_600)?;
     put_signals(&mut samples[..], 0);
     put_rows(&mut samples[..], 0, &WIDE);
     let recording = Recording::new(samples).expect(&rt, "30 ms");
-    explain(&recording, &mut work, &mut list);
-    assert_eq!(rt; list.slice().len(), 1);
-    let entry = &list.slice()[0];
-    assert_eq!(rt;
-        (
-            entry.id.value(),
-            entry.start,
-            entry.sfn.value(),
-            entry.ports
-        ),
-        (0, 0, 0, 1)
-    );
-    assert_eq!(rt;
-        (entry.frames, entry.frame, entry.phase, entry.cost),
-        (1, 0, 0, 0)
-    );
-    assert!(rt; has_fields(&entry.mib, Bandwidth::N50, Duration::Normal, Resource::One));
-    assert_eq!(rt; (entry.mib.upper, entry.mib.spare), (0, 0));
-    assert_eq!(rt;
-        entry.sib1.as_ref().err().copied(),
-        Some(Sib1Reason::Bandwidth(Bandwidth::N50))
-    );
-    let values = values_of(&recording, entry);
-    assert!(rt; values[0][0] < 0 && values[0][1] < 0 && values[0][2] > 0);
-    assert!(rt; values[39][0] > 0 && values[39][1] < 0 && values[39][2] > 0);
+    let mut list = list_of(rt.alloc(), &recording)?;
+    let [entry] = list.slice() else {
+        return Err(Fail::from("one entry"));
+    };
+    assert!(rt; is_cell_at(entry, 0, 0, 1) && is_told_by(entry, 1, 0, 0));
+    assert!(rt; is_wide(&entry.mib) && is_too_wide(entry));
+    assert!(rt; has_signs(&values_of(&recording, entry)));
     list.clear();
     assert!(rt; list.slice().is_empty());
     Ok(())
@@ -109,59 +140,31 @@ fn a_master_block_of_the_first_frame_is_an_entry(rt: HostRuntime) -> Result<(), 
 
 #[test]
 fn a_later_frame_tells_the_number_of_the_first(rt: HostRuntime) -> Result<(), Fail> {
-    let mut work = Workspace::new(rt.alloc())?;
-    let mut list = EntryList::new(rt.alloc())?;
     let mut samples = silent(rt.alloc(), 57_600)?;
     put_signals(&mut samples[18_000..], 0);
     put_rows(&mut samples[37_200..], 0, &OTHER);
     let recording = Recording::new(samples).expect(&rt, "30 ms");
-    explain(&recording, &mut work, &mut list);
-    assert_eq!(rt; list.slice().len(), 1);
-    let entry = &list.slice()[0];
-    assert_eq!(rt;
-        (
-            entry.id.value(),
-            entry.start,
-            entry.sfn.value(),
-            entry.ports
-        ),
-        (0, 18_000, 22, 4)
-    );
-    assert_eq!(rt;
-        (entry.frames, entry.frame, entry.phase, entry.cost),
-        (1, 1, 3, 0)
-    );
-    assert!(rt; has_fields(&entry.mib, Bandwidth::N6, Duration::Extended, Resource::Two));
-    assert_eq!(rt; (entry.mib.upper, entry.mib.spare), (5, 1023));
+    let list = list_of(rt.alloc(), &recording)?;
+    let [entry] = list.slice() else {
+        return Err(Fail::from("one entry"));
+    };
+    assert!(rt; is_cell_at(entry, 18_000, 22, 4) && is_told_by(entry, 1, 1, 3));
+    assert!(rt; is_narrow(&entry.mib, 5, 1023));
     Ok(())
 }
 
 #[test]
 fn four_frames_tell_together_what_fewer_do_not(rt: HostRuntime) -> Result<(), Fail> {
-    let mut work = Workspace::new(rt.alloc())?;
-    let mut list = EntryList::new(rt.alloc())?;
     let mut samples = silent(rt.alloc(), 96_000)?;
     put_signals(&mut samples[..], 0);
     send_frames(&mut samples[..], &SPARSE);
     let recording = Recording::new(samples).expect(&rt, "50 ms");
-    explain(&recording, &mut work, &mut list);
-    assert_eq!(rt; list.slice().len(), 1);
-    let entry = &list.slice()[0];
-    assert_eq!(rt;
-        (
-            entry.id.value(),
-            entry.start,
-            entry.sfn.value(),
-            entry.ports
-        ),
-        (0, 0, 724, 2)
-    );
-    assert_eq!(rt;
-        (entry.frames, entry.frame, entry.phase, entry.cost),
-        (4, 0, 0, 0)
-    );
-    assert!(rt; has_fields(&entry.mib, Bandwidth::N6, Duration::Extended, Resource::Two));
-    assert_eq!(rt; (entry.mib.upper, entry.mib.spare), (181, 1000));
+    let list = list_of(rt.alloc(), &recording)?;
+    let [entry] = list.slice() else {
+        return Err(Fail::from("one entry"));
+    };
+    assert!(rt; is_cell_at(entry, 0, 724, 2) && is_told_by(entry, 4, 0, 0));
+    assert!(rt; is_narrow(&entry.mib, 181, 1000));
     let _values = values_of(&recording, entry);
     one_frame_is_enough();
     Ok(())

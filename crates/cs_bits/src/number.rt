@@ -27,24 +27,3 @@ pub fn put_number(number: u64, out: &mut [bool])
         out[i] = (number >> (width - 1 - i)) % 2 == 1;
     }
 }
-
-#[cfg(test)]
-mod tests {
-    use super::*;
-
-    #[test]
-    fn the_first_bit_is_the_highest(rt: HostRuntime) {
-        assert_eq!(rt; number_of(&[]), 0);
-        assert_eq!(rt; number_of(&[true, false, false, true, false]), 18);
-        assert_eq!(rt; number_of(&[true; 64]), u64::MAX);
-    }
-
-    #[test]
-    fn a_number_is_written_from_its_highest_bit(rt: HostRuntime) {
-        let mut bits = [true; 5];
-        put_number(18, &mut bits);
-        assert_eq!(rt; bits, [true, false, false, true, false]);
-        put_number(33, &mut bits[1..3]);
-        assert_eq!(rt; bits, [true, false, true, true, false]);
-    }
-}

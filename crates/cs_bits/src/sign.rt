@@ -14,19 +14,3 @@ pub fn disagreement_of(value: i32, bit: bool) -> u32
         0
     }
 }
-
-#[cfg(test)]
-mod tests {
-    use super::*;
-
-    #[test]
-    fn a_value_speaks_against_one_bit(rt: HostRuntime) {
-        assert_eq!(rt; disagreement_of(5, true), 5);
-        assert_eq!(rt; disagreement_of(5, false), 0);
-        assert_eq!(rt; disagreement_of(-3, true), 0);
-        assert_eq!(rt; disagreement_of(-3, false), 3);
-        assert_eq!(rt; disagreement_of(0, true), 0);
-        assert_eq!(rt; disagreement_of(0, false), 0);
-        assert_eq!(rt; disagreement_of(i32::MIN, false), 2_147_483_648);
-    }
-}

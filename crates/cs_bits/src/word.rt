@@ -7,7 +7,7 @@ use crate::{number_of, put_number};
 use std::marker::Model;
 
 /// A word of N bits, N at most 64. Contracts see it as the list of its bits.
-#[derive(Clone, Copy, Debug, Drop, PartialEq, Eq)]
+#[derive(Clone, Copy, Drop, PartialEq, Eq)]
 pub struct Bits<const N: usize> {
     bits: [bool; N],
 }
@@ -68,38 +68,5 @@ impl<const N: usize> Bits<N> {
         ensures bound { result < 2 ^ width }
     {
         number_of(&self.slice()[first..first + width])
-    }
-}
-
-#[cfg(test)]
-mod tests {
-    use super::*;
-
-    #[test]
-    fn a_word_keeps_its_bits(rt: HostRuntime) {
-        let word = Bits::new([true, false, false]);
-        assert!(rt; word.get(0));
-        assert!(rt; !word.get(2));
-        assert_eq!(rt; word.slice().len(), 3);
-        assert!(rt; word == Bits::new([true, false, false]));
-        assert!(rt; word != Bits::new([true, false, true]));
-    }
-
-    #[test]
-    fn a_word_and_its_number(rt: HostRuntime) {
-        let word = Bits::<6>::of_number(38);
-        assert!(rt; word == Bits::new([true, false, false, true, true, false]));
-        assert_eq!(rt; word.field(0, 6), 38);
-        assert_eq!(rt; word.field(3, 2), 3);
-    }
-
-    #[test]
-    fn a_word_of_37_bits(rt: HostRuntime) {
-        let mut bits = [false; 37];
-        bits[36] = true;
-        let word = Bits::new(bits);
-        assert!(rt; word.get(36));
-        assert!(rt; !word.get(35));
-        assert_eq!(rt; word.slice().len(), 37);
     }
 }

@@ -5,7 +5,7 @@ ghost use Rattle.cs_num.specs.Complex.{IsWithin};
 
 use cs_num::{Cpx, Sample};
 use lte_top::Status;
-use run_tests::output_of;
+use run_tests::{gives, output_of};
 use sample_file::bytes_of;
 use std::alloc::{AllocError, Global};
 use std::test::Fail;
@@ -24,9 +24,11 @@ fn constant(alloc: Global, re: i16, im: i16) -> Result<Vec<u8>, AllocError> {
 fn a_constant_of_the_least_number_holds_no_hit_and_no_cell(rt: HostRuntime) -> Result<(), Fail> {
     for (word, text) in [("hits", "hits 0\n"), ("search", "cells 0\n")] {
         let bytes = constant(rt.alloc(), -32_768, -32_768)?;
-        let (status, taken) = output_of(rt.alloc(), word, bytes)?;
-        assert_eq!(rt; status, Status::Done, "{word}");
-        assert_eq!(rt; taken.as_slice(), text.as_bytes());
+        let text = text.as_bytes();
+        assert!(rt;
+            gives(rt.alloc(), word, bytes, Status::Done, text)?,
+            "{word}"
+        );
     }
     Ok(())
 }
@@ -36,9 +38,7 @@ fn a_constant_of_the_greatest_and_the_least_number_holds_no_cell(
     rt: HostRuntime,
 ) -> Result<(), Fail> {
     let bytes = constant(rt.alloc(), 32_767, -32_768)?;
-    let (status, taken) = output_of(rt.alloc(), "search", bytes)?;
-    assert_eq!(rt; status, Status::Done);
-    assert_eq!(rt; taken.as_slice(), b"cells 0\n".as_slice());
+    assert!(rt; gives(rt.alloc(), "search", bytes, Status::Done, b"cells 0\n")?);
     Ok(())
 }
 
@@ -65,11 +65,9 @@ fn send_often(samples: &mut [Sample], grid: &[Cpx; 72])
 
 #[test]
 fn many_loud_signals_are_hits_and_no_cell(rt: HostRuntime) -> Result<(), Fail> {
-    let (status, taken) = output_of(rt.alloc(), "hits", many_loud_signals(rt.alloc())?)?;
-    assert_eq!(rt; status, Status::Done);
-    assert!(rt; taken.starts_with(b"hits 46\n"));
-    let (status, taken) = output_of(rt.alloc(), "search", many_loud_signals(rt.alloc())?)?;
-    assert_eq!(rt; status, Status::Done);
-    assert_eq!(rt; taken.as_slice(), b"cells 0\n".as_slice());
+    let bytes = many_loud_signals(rt.alloc())?;
+    let hits = output_of(rt.alloc(), "hits", bytes.clone()?)?;
+    assert!(rt; hits.status == Status::Done && hits.written.starts_with(b"hits 46\n"));
+    assert!(rt; gives(rt.alloc(), "search", bytes, Status::Done, b"cells 0\n")?);
     Ok(())
 }

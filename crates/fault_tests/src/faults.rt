@@ -1,10 +1,10 @@
 //! Each call of a source and of a sink fails once, and pieces of one byte.
 
-use crate::forms::{BY_OTHER_RULES, Form, OF_8_BITS, OF_THE_TUNER, OTHERS, REPORTS, words_of};
+use crate::forms::{BY_OTHER_RULES, Form, OF_8_BITS, OF_THE_TUNER, OTHERS, REPORTS};
 use crate::inputs::{Input, bytes_of, recording};
-use cs_outside::{FailSink, FailSource, MemSink, MemSource, StdSink, StdSource};
-use lte_top::{Program, Status, Words, run, run_program};
-use run_tests::output_of;
+use cs_outside::{FailSink, FailSource, MemSource, StdSink, StdSource};
+use lte_top::{Program, Status, Words, run};
+use run_tests::{Output, ROOM, command_line, output_by, output_from, output_into, output_of};
 use std::alloc::{AllocError, Global};
 use std::io;
 use std::io::Write;
@@ -12,144 +12,137 @@ use std::process::Abort;
 use std::test::Fail;
 use test_signals::silence;
 
-// The room of a sink where none is named.
-const ROOM: usize = 16_777_216;
-
 // The most bytes of a call.
 const MOST: usize = 65_536;
 
 // More calls than a run makes.
 const CALLS: u64 = 1_000;
 
-// How words end over these bytes where no call fails, and what was written.
-fn whole_run(
-    alloc: Global,
-    program: Program,
-    words: &Words,
-    bytes: Vec<u8>,
-) -> Result<(Status, Vec<u8>), AllocError> {
-    let mut source = MemSource::new(bytes);
-    let mut sink = MemSink::new(alloc, ROOM)?;
-    let status = run_program(alloc, program, words, &mut source, &mut sink);
-    Ok((status, sink.taken().to_vec(alloc)?))
+// Where a call fails.
+#[derive(Clone, Copy)]
+enum Fault {
+    Read,
+    Write,
 }
 
-// The same where one call of the source fails.
-fn run_with_read_fault(
-    alloc: Global,
+// Words of a program, what they read, and what they come to where no call fails.
+#[derive(Drop)]
+struct Case {
     program: Program,
-    words: &Words,
+    words: Words,
     bytes: Vec<u8>,
-    call: u64,
-) -> Result<(Status, Vec<u8>), AllocError> {
-    let mut source = FailSource::new(bytes, vec![in alloc; call; 1]?, MOST);
-    let mut sink = MemSink::new(alloc, ROOM)?;
-    let status = run_program(alloc, program, words, &mut source, &mut sink);
-    Ok((status, sink.taken().to_vec(alloc)?))
+    whole: Output,
 }
 
-// The same where one call of the sink fails, which has room for this many bytes.
-fn run_with_write_fault(
-    alloc: Global,
-    program: Program,
-    words: &Words,
-    bytes: Vec<u8>,
-    call: u64,
-    room: usize,
-) -> Result<(Status, Vec<u8>), AllocError> {
-    let mut source = MemSource::new(bytes);
-    let mut sink = FailSink::new(alloc, vec![in alloc; call; 1]?, MOST, room)?;
-    let status = run_program(alloc, program, words, &mut source, &mut sink);
-    Ok((status, sink.taken().to_vec(alloc)?))
+impl Case {
+    // The case of a form.
+    fn new(alloc: Global, program: Program, form: Form) -> Result<Case, AllocError> {
+        let (line, input) = form;
+        let words = command_line(alloc, line)?;
+        let bytes = bytes_of(alloc, input)?;
+        let whole = output_by(alloc, program, line, bytes.clone()?)?;
+        Ok(Case {
+            program,
+            words,
+            bytes,
+            whole,
+        })
+    }
+
+    // What it comes to where this call fails. The sink has room for the whole output and no more.
+    fn output_at(&self, alloc: Global, fault: Fault, call: u64) -> Result<Output, AllocError> {
+        let (program, words) = (self.program, &self.words);
+        let fails = vec![in alloc; call; 1]?;
+        match fault {
+            Fault::Read => {
+                let mut source = FailSource::new(self.bytes.clone()?, fails, MOST);
+                output_from(alloc, program, words, &mut source)
+            }
+            Fault::Write => {
+                let mut source = MemSource::new(self.bytes.clone()?);
+                let mut sink = FailSink::new(alloc, fails, MOST, self.whole.written.len())?;
+                output_into(alloc, program, words, &mut source, &mut sink)
+            }
+        }
+    }
+
+    // Whether the answer to a fault is right: nothing is written where a read fails, and a front where a write fails.
+    fn is_answered(&self, fault: Fault, output: &Output) -> bool {
+        match fault {
+            Fault::Read => output.is(Status::ReadFault, b""),
+            Fault::Write => {
+                output.status == Status::WriteFault
+                    && output.written.len() < self.whole.written.len()
+                    && self.whole.written.starts_with(&output.written)
+            }
+        }
+    }
+
+    // Whether so many calls can fail, where this is read.
+    fn has_faults(&self, fault: Fault, input: Input, faults: u64) -> bool {
+        match fault {
+            Fault::Read => {
+                faults >= least_reads(input, self.bytes.len())
+                    && (faults == 0) == (input == Input::Nothing)
+            }
+            Fault::Write => {
+                let len = self.whole.written.len();
+                len > 0 && faults >= least_writes(len)
+            }
+        }
+    }
 }
 
 // An input of so many bytes is read by this many calls at least, of which the last tells the end.
 fn least_reads(input: Input, len: usize) -> u64 {
     match input {
         Input::Nothing => 0,
-        _ => (len.div_ceil(MOST) as u64).saturating_add(1),
+        _ => least_writes(len).saturating_add(1),
     }
 }
 
-// Each run of these forms of which a call of the source fails is a read fault, and nothing is written.
-fn fail_each_read(
+// So many bytes are written by this many calls at least.
+fn least_writes(len: usize) -> u64 {
+    len.div_ceil(MOST) as u64
+}
+
+// How many calls of a form's case can fail: each in turn does, and the run after the last is whole.
+fn faults_of(
     rt: &impl Abort,
     alloc: Global,
-    program: Program,
-    forms: &[Form],
-) -> Result<(), Fail> {
-    for &(list, input) in forms {
-        let words = words_of(alloc, list)?;
-        let bytes = bytes_of(alloc, input)?;
-        let (status, whole) = whole_run(alloc, program, &words, bytes.clone()?)?;
-        assert_eq!(rt; status, Status::Done, "{list:?} {input:?}");
-        let mut faults = 0;
-        for call in 0..CALLS {
-            let (status, taken) = run_with_read_fault(
-                alloc,
-                program,
-                &words,
-                bytes.clone()?,
-                call,
-            )?;
-            if status == Status::Done {
-                assert_eq!(rt; taken.as_slice(), whole.as_slice(), "{list:?} {input:?}");
-                break;
-            }
-            assert_eq!(rt; status, Status::ReadFault, "{list:?} {input:?} call {call}");
-            assert!(rt; taken.is_empty(), "{list:?} {input:?} call {call}");
-            faults = call + 1;
+    form: Form,
+    case: &Case,
+    fault: Fault,
+) -> Result<u64, Fail> {
+    let (line, input) = form;
+    for call in 0..CALLS {
+        let output = case.output_at(alloc, fault, call)?;
+        if output.is(Status::Done, &case.whole.written) {
+            return Ok(call);
         }
-        assert!(rt; faults < CALLS, "{list:?} {input:?}");
         assert!(rt;
-            faults >= least_reads(input, bytes.len()),
-            "{list:?} {input:?}"
+            case.is_answered(fault, &output),
+            "{line} {input:?} call {call}"
         );
-        assert_eq!(rt; faults == 0, input == Input::Nothing, "{list:?} {input:?}");
     }
-    Ok(())
+    Ok(CALLS)
 }
 
-// Each run of these forms of which a call of the sink fails is a write fault, and a front of the output is written.
-fn fail_each_write(
+// Each run of these forms of which a call fails is answered as a fault of that call.
+fn fail_each(
     rt: &impl Abort,
     alloc: Global,
     program: Program,
     forms: &[Form],
+    fault: Fault,
 ) -> Result<(), Fail> {
-    for &(list, input) in forms {
-        let words = words_of(alloc, list)?;
-        let bytes = bytes_of(alloc, input)?;
-        let (status, whole) = whole_run(alloc, program, &words, bytes.clone()?)?;
-        assert_eq!(rt; status, Status::Done, "{list:?} {input:?}");
-        assert!(rt; !whole.is_empty(), "{list:?} {input:?}");
-        let mut faults = 0;
-        for call in 0..CALLS {
-            let (status, taken) = run_with_write_fault(
-                alloc,
-                program,
-                &words,
-                bytes.clone()?,
-                call,
-                whole.len(),
-            )?;
-            if status == Status::Done {
-                assert_eq!(rt; taken.as_slice(), whole.as_slice(), "{list:?} {input:?}");
-                break;
-            }
-            assert_eq!(rt;
-                status,
-                Status::WriteFault,
-                "{list:?} {input:?} call {call}"
-            );
-            assert!(rt; whole.starts_with(&taken), "{list:?} {input:?} call {call}");
-            assert!(rt; taken.len() < whole.len(), "{list:?} {input:?} call {call}");
-            faults = call + 1;
-        }
-        assert!(rt; faults < CALLS, "{list:?} {input:?}");
+    for &(line, input) in forms {
+        let case = Case::new(alloc, program, (line, input))?;
+        assert!(rt; case.whole.status == Status::Done, "{line} {input:?}");
+        let faults = faults_of(rt, alloc, (line, input), &case, fault)?;
         assert!(rt;
-            faults >= whole.len().div_ceil(MOST) as u64,
-            "{list:?} {input:?}"
+            faults < CALLS && case.has_faults(fault, input, faults),
+            "{line} {input:?}"
         );
     }
     Ok(())
@@ -157,85 +150,102 @@ fn fail_each_write(
 
 #[test]
 fn each_read_of_reports_that_fails_is_a_read_fault(rt: HostRuntime) -> Result<(), Fail> {
-    fail_each_read(&rt, rt.alloc(), Program::Receiver, &REPORTS)
+    fail_each(&rt, rt.alloc(), Program::Receiver, &REPORTS, Fault::Read)
 }
 
 #[test]
 fn each_read_of_forms_of_8_bits_that_fails_is_a_read_fault(rt: HostRuntime) -> Result<(), Fail> {
-    fail_each_read(&rt, rt.alloc(), Program::Receiver, &OF_8_BITS)
+    fail_each(&rt, rt.alloc(), Program::Receiver, &OF_8_BITS, Fault::Read)
 }
 
 #[test]
 fn each_read_of_other_forms_that_fails_is_a_read_fault(rt: HostRuntime) -> Result<(), Fail> {
-    fail_each_read(&rt, rt.alloc(), Program::Receiver, &OTHERS)
+    fail_each(&rt, rt.alloc(), Program::Receiver, &OTHERS, Fault::Read)
 }
 
 #[test]
 fn each_read_by_other_rules_that_fails_is_a_read_fault(rt: HostRuntime) -> Result<(), Fail> {
-    fail_each_read(&rt, rt.alloc(), Program::Receiver, &BY_OTHER_RULES)
+    fail_each(
+        &rt,
+        rt.alloc(),
+        Program::Receiver,
+        &BY_OTHER_RULES,
+        Fault::Read,
+    )
 }
 
 #[test]
 fn each_read_of_the_tuner_that_fails_is_a_read_fault(rt: HostRuntime) -> Result<(), Fail> {
-    fail_each_read(&rt, rt.alloc(), Program::Tuner, &OF_THE_TUNER)
+    fail_each(&rt, rt.alloc(), Program::Tuner, &OF_THE_TUNER, Fault::Read)
 }
 
 #[test]
 fn each_write_of_reports_that_fails_is_a_write_fault_and_leaves_a_front(
     rt: HostRuntime,
 ) -> Result<(), Fail> {
-    fail_each_write(&rt, rt.alloc(), Program::Receiver, &REPORTS)
+    fail_each(&rt, rt.alloc(), Program::Receiver, &REPORTS, Fault::Write)
 }
 
 #[test]
 fn each_write_of_forms_of_8_bits_that_fails_is_a_write_fault_and_leaves_a_front(
     rt: HostRuntime,
 ) -> Result<(), Fail> {
-    fail_each_write(&rt, rt.alloc(), Program::Receiver, &OF_8_BITS)
+    fail_each(&rt, rt.alloc(), Program::Receiver, &OF_8_BITS, Fault::Write)
 }
 
 #[test]
 fn each_write_of_other_forms_that_fails_is_a_write_fault_and_leaves_a_front(
     rt: HostRuntime,
 ) -> Result<(), Fail> {
-    fail_each_write(&rt, rt.alloc(), Program::Receiver, &OTHERS)
+    fail_each(&rt, rt.alloc(), Program::Receiver, &OTHERS, Fault::Write)
 }
 
 #[test]
 fn each_write_by_other_rules_that_fails_is_a_write_fault_and_leaves_a_front(
     rt: HostRuntime,
 ) -> Result<(), Fail> {
-    fail_each_write(&rt, rt.alloc(), Program::Receiver, &BY_OTHER_RULES)
+    fail_each(
+        &rt,
+        rt.alloc(),
+        Program::Receiver,
+        &BY_OTHER_RULES,
+        Fault::Write,
+    )
 }
 
 #[test]
 fn each_write_of_the_tuner_that_fails_is_a_write_fault_and_leaves_a_front(
     rt: HostRuntime,
 ) -> Result<(), Fail> {
-    fail_each_write(&rt, rt.alloc(), Program::Tuner, &OF_THE_TUNER)
+    fail_each(&rt, rt.alloc(), Program::Tuner, &OF_THE_TUNER, Fault::Write)
+}
+
+// Whether `search` tells the cell of the recording, and nothing else.
+fn tells_the_cell(output: &Output, whole: &Output) -> bool {
+    output.written.starts_with(b"cells 1\ncell 0 at 0 sfn 0 ")
+        && output.is(Status::Done, &whole.written)
 }
 
 #[test]
 fn reads_of_one_byte_change_nothing(rt: HostRuntime) -> Result<(), Fail> {
     let alloc = rt.alloc();
-    let words = words_of(alloc, &["search"])?;
-    let (_, whole) = output_of(alloc, "search", recording(alloc)?)?;
-    let mut source = FailSource::new(recording(alloc)?, Vec::new(alloc), 1);
-    let mut sink = MemSink::new(alloc, ROOM)?;
-    assert_eq!(rt; run(alloc, &words, &mut source, &mut sink), Status::Done);
-    assert!(rt; sink.taken().starts_with(b"cells 1\ncell 0 at 0 sfn 0 "));
-    assert_eq!(rt; sink.taken(), whole.as_slice());
+    let words = command_line(alloc, "search")?;
+    let bytes = recording(alloc)?;
+    let whole = output_of(alloc, "search", bytes.clone()?)?;
+    let mut source = FailSource::new(bytes, Vec::new(alloc), 1);
+    let output = output_from(alloc, Program::Receiver, &words, &mut source)?;
+    assert!(rt; tells_the_cell(&output, &whole));
     Ok(())
 }
 
 #[test]
 fn writes_of_one_byte_change_nothing(rt: HostRuntime) -> Result<(), Fail> {
     let alloc = rt.alloc();
-    let words = words_of(alloc, &["ids"])?;
-    let mut source = MemSource::new(recording(alloc)?);
+    let words = command_line(alloc, "ids")?;
     let mut sink = FailSink::new(alloc, Vec::new(alloc), 1, ROOM)?;
-    assert_eq!(rt; run(alloc, &words, &mut source, &mut sink), Status::Done);
-    assert_eq!(rt; sink.taken(), b"ids 2\n832 0 0 0\n10432 0 5 0\n".as_slice());
+    let mut source = MemSource::new(recording(alloc)?);
+    let output = output_into(alloc, Program::Receiver, &words, &mut source, &mut sink)?;
+    assert!(rt; output.is(Status::Done, b"ids 2\n832 0 0 0\n10432 0 5 0\n"));
     Ok(())
 }
 
@@ -259,7 +269,7 @@ impl Write for Stuck {
 #[test]
 fn a_writer_that_takes_nothing_is_a_write_fault(rt: HostRuntime) -> Result<(), Fail> {
     let alloc = rt.alloc();
-    let words = words_of(alloc, &["search"])?;
+    let words = command_line(alloc, "search")?;
     let bytes = silence(alloc, 230_400)?;
     let mut writer = Stuck { pieces: 0 };
     let status = run(
@@ -268,7 +278,6 @@ fn a_writer_that_takes_nothing_is_a_write_fault(rt: HostRuntime) -> Result<(), F
         &mut StdSource::new(bytes.as_slice()),
         &mut StdSink::new(&mut writer),
     );
-    assert_eq!(rt; status, Status::WriteFault);
-    assert_eq!(rt; writer.pieces, 1);
+    assert!(rt; status == Status::WriteFault && writer.pieces == 1);
     Ok(())
 }

@@ -38,18 +38,15 @@ pub fn bytes_of(alloc: Global, input: Input) -> Result<Vec<u8>, AllocError> {
         Input::Cell8 => recording_of_8_bits(alloc),
         Input::Description => CELL.as_bytes().to_vec(alloc),
         Input::ZeroCertificate => zero_certificate(alloc),
-        Input::Certificates => {
-            let (_, certificates) = output_of(alloc, "certify", recording(alloc)?)?;
-            Ok(certificates)
-        }
+        Input::Certificates => Ok(output_of(alloc, "certify", recording(alloc)?)?.written),
     }
 }
 
 /// The recording of the cell.
 pub fn recording(alloc: Global) -> Result<Vec<u8>, AllocError> {
-    let (status, bytes) = output_of(alloc, "transmit", CELL.as_bytes().to_vec(alloc)?)?;
-    match status {
-        Status::Done => Ok(bytes),
+    let sent = output_of(alloc, "transmit", CELL.as_bytes().to_vec(alloc)?)?;
+    match sent.status {
+        Status::Done => Ok(sent.written),
         _ => Ok(Vec::new(alloc)),
     }
 }

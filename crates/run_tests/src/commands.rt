@@ -1,24 +1,31 @@
 //! Commands over bytes in memory.
 
-use cs_outside::{MemSink, MemSource};
+use cs_outside::{FailSink, FailSource, MemSink, MemSource, Source};
 use lte_top::{Program, Status, Words, run_in_memory, run_program};
 use std::alloc::{AllocError, Global};
 
-// The room of a sink.
-const ROOM: usize = 16_777_216;
+/// The room of a sink where none is named.
+pub const ROOM: usize = 16_777_216;
 
-/// The words of a command of one word.
-pub fn command(alloc: Global, word: &str) -> Result<Words, AllocError> {
-    let mut words = Words::new(alloc);
-    words.push(word)?;
-    Ok(words)
+/// How a run ends, and what it writes.
+#[derive(Drop)]
+pub struct Output {
+    /// How it ends.
+    pub status: Status,
+    /// What it writes.
+    pub written: Vec<u8>,
 }
 
-/// The words of a command of two words.
-pub fn command_of_two(alloc: Global, first: &str, second: &str) -> Result<Words, AllocError> {
-    let mut words = command(alloc, first)?;
-    words.push(second)?;
-    Ok(words)
+impl Output {
+    /// Whether the run ends so, and writes these bytes and no others.
+    pub fn is(&self, status: Status, bytes: &[u8]) -> bool {
+        self.status == status && self.written.as_slice() == bytes
+    }
+
+    /// Whether the run is refused so, with this exit code, and writes nothing.
+    pub fn is_refused(&self, refusal: Status, code: u8) -> bool {
+        self.is(refusal, b"") && self.status.code() == code
+    }
 }
 
 /// The words of a command line, with one space between them.
@@ -30,29 +37,96 @@ pub fn command_line(alloc: Global, line: &str) -> Result<Words, AllocError> {
     Ok(words)
 }
 
-/// How a command line ends over these bytes, and what it wrote.
-pub fn output_of(
+/// What words of a program come to over a source.
+pub fn output_from<S: Source>(
     alloc: Global,
-    line: &str,
-    bytes: Vec<u8>,
-) -> Result<(Status, Vec<u8>), AllocError> {
+    program: Program,
+    words: &Words,
+    source: &mut S,
+) -> Result<Output, AllocError> {
+    let mut sink = MemSink::new(alloc, ROOM)?;
+    let status = run_program(alloc, program, words, source, &mut sink);
+    Ok(Output {
+        status,
+        written: sink.taken().to_vec(alloc)?,
+    })
+}
+
+/// What words of a program come to over a source and into a sink of which calls fail.
+pub fn output_into<S: Source>(
+    alloc: Global,
+    program: Program,
+    words: &Words,
+    source: &mut S,
+    sink: &mut FailSink,
+) -> Result<Output, AllocError> {
+    let status = run_program(alloc, program, words, source, sink);
+    Ok(Output {
+        status,
+        written: sink.taken().to_vec(alloc)?,
+    })
+}
+
+/// What words of a program come to where the first call of the source would fail, and whether that call is still to
+/// come.
+pub fn output_unread(
+    alloc: Global,
+    program: Program,
+    words: &Words,
+) -> Result<(Output, bool), AllocError> {
+    let mut source = FailSource::new(vec![in alloc; 0; 16]?, vec![in alloc; 0; 1]?, 16);
+    let output = output_from(alloc, program, words, &mut source)?;
+    Ok((output, source.read(&mut [0; 1]).is_err()))
+}
+
+/// Whether words are of no form of a program: the answer is so, and nothing is read or written.
+pub fn is_no_form(alloc: Global, program: Program, words: &Words) -> Result<bool, AllocError> {
+    let (output, unread) = output_unread(alloc, program, words)?;
+    Ok(unread && output.is_refused(Status::Usage, 2))
+}
+
+/// What a command line of the receiver comes to over these bytes.
+pub fn output_of(alloc: Global, line: &str, bytes: Vec<u8>) -> Result<Output, AllocError> {
     let words = command_line(alloc, line)?;
     let mut source = MemSource::new(bytes);
     let mut sink = MemSink::new(alloc, ROOM)?;
     let status = run_in_memory(alloc, &words, &mut source, &mut sink);
-    Ok((status, sink.taken().to_vec(alloc)?))
+    Ok(Output {
+        status,
+        written: sink.taken().to_vec(alloc)?,
+    })
 }
 
-/// The same of a command line of a program.
+/// What a command line of a program comes to over these bytes.
 pub fn output_by(
     alloc: Global,
     program: Program,
     line: &str,
     bytes: Vec<u8>,
-) -> Result<(Status, Vec<u8>), AllocError> {
+) -> Result<Output, AllocError> {
     let words = command_line(alloc, line)?;
-    let mut source = MemSource::new(bytes);
-    let mut sink = MemSink::new(alloc, ROOM)?;
-    let status = run_program(alloc, program, &words, &mut source, &mut sink);
-    Ok((status, sink.taken().to_vec(alloc)?))
+    output_from(alloc, program, &words, &mut MemSource::new(bytes))
+}
+
+/// Whether a command line of the receiver ends so over these bytes, and writes this text and no other.
+pub fn gives(
+    alloc: Global,
+    line: &str,
+    bytes: Vec<u8>,
+    status: Status,
+    text: &[u8],
+) -> Result<bool, AllocError> {
+    Ok(output_of(alloc, line, bytes)?.is(status, text))
+}
+
+/// Whether a command line of a program ends so over these bytes, and writes this text and no other.
+pub fn gives_by(
+    alloc: Global,
+    program: Program,
+    line: &str,
+    bytes: Vec<u8>,
+    status: Status,
+    text: &[u8],
+) -> Result<bool, AllocError> {
+    Ok(output_by(alloc, program, line, bytes)?.is(status, text))
 }

@@ -1,6 +1,6 @@
 // Recordings of 8-bit numbers, and the list as JSON.
 
-use crate::output_of;
+use crate::{gives, output_of};
 use lte_top::Status;
 use std::alloc::{AllocError, Global};
 use std::test::Fail;
@@ -21,9 +21,11 @@ fn each_report_reads_8_bit_numbers(rt: HostRuntime) -> Result<(), Fail> {
         ("evidence --format cu8", "evidence 0\n"),
         ("certify --format cu8", ""),
     ] {
-        let (status, taken) = output_of(rt.alloc(), line, quiet(rt.alloc(), 115_200)?)?;
-        assert_eq!(rt; status, Status::Done, "{line}");
-        assert_eq!(rt; taken.as_slice(), output.as_bytes(), "{line}");
+        let bytes = quiet(rt.alloc(), 115_200)?;
+        assert!(rt;
+            gives(rt.alloc(), line, bytes, Status::Done, output.as_bytes())?,
+            "{line}"
+        );
     }
     Ok(())
 }
@@ -38,17 +40,16 @@ fn lengths_of_8_bit_recordings(rt: HostRuntime) -> Result<(), Fail> {
         (3_840_000, Status::Done),
         (3_840_001, Status::TooLong),
     ] {
-        let (status, _) = output_of(rt.alloc(), "search --format cu8", quiet(rt.alloc(), count)?)?;
-        assert_eq!(rt; status, refusal, "{count} bytes");
+        let output = output_of(rt.alloc(), "search --format cu8", quiet(rt.alloc(), count)?)?;
+        assert!(rt; output.status == refusal, "{count} bytes");
     }
     Ok(())
 }
 
 #[test]
 fn no_cells_are_an_empty_array(rt: HostRuntime) -> Result<(), Fail> {
-    let (status, taken) = output_of(rt.alloc(), "search --json", silence(rt.alloc(), 230_400)?)?;
-    assert_eq!(rt; status, Status::Done);
-    assert_eq!(rt; taken.as_slice(), b"[]\n".as_slice());
+    let bytes = silence(rt.alloc(), 230_400)?;
+    assert!(rt; gives(rt.alloc(), "search --json", bytes, Status::Done, b"[]\n")?);
     Ok(())
 }
 
@@ -61,9 +62,11 @@ fn evidence_of_zeros_and_of_refused_lengths(rt: HostRuntime) -> Result<(), Fail>
         (230_400, Status::Done, "evidence 0\n"),
         (7_680_001, Status::TooLong, ""),
     ] {
-        let (status, taken) = output_of(rt.alloc(), "evidence", silence(rt.alloc(), len)?)?;
-        assert_eq!(rt; status, answer, "{len} bytes");
-        assert_eq!(rt; taken.as_slice(), output.as_bytes(), "{len} bytes");
+        let bytes = silence(rt.alloc(), len)?;
+        assert!(rt;
+            gives(rt.alloc(), "evidence", bytes, answer, output.as_bytes())?,
+            "{len} bytes"
+        );
     }
     Ok(())
 }

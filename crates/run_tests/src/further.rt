@@ -1,24 +1,14 @@
 // The forms by other rules, and those of the second program: their words, and what they write for zeros.
 
-use crate::commands::{command_line, output_by};
-use cs_outside::{FailSource, MemSink, Source};
-use lte_top::{Program, Status, run_program};
+use crate::{command_line, gives_by, is_no_form, output_unread};
+use lte_top::{Program, Status};
 use std::alloc::{AllocError, Global};
 use std::test::Fail;
 use test_signals::silence;
 
-// The room of a sink.
-const ROOM: usize = 16_777_216;
-
-// How the words of a program are answered where the first call of the source would fail, and whether that call is
-// still to come and nothing was written.
-fn answer_to(alloc: Global, program: Program, line: &str) -> Result<(Status, bool), AllocError> {
-    let words = command_line(alloc, line)?;
-    let mut source = FailSource::new(silence(alloc, 16)?, vec![in alloc; 0u64; 1]?, 16);
-    let mut sink = MemSink::new(alloc, ROOM)?;
-    let status = run_program(alloc, program, &words, &mut source, &mut sink);
-    let unread = source.read(&mut [0; 1]).is_err();
-    Ok((status, unread && sink.taken().is_empty()))
+// Whether a command line is of no form of a program.
+fn is_of_no_form(alloc: Global, program: Program, line: &str) -> Result<bool, AllocError> {
+    is_no_form(alloc, program, &command_line(alloc, line)?)
 }
 
 #[test]
@@ -49,9 +39,10 @@ fn words_of_no_form_of_the_receiver(rt: HostRuntime) -> Result<(), Fail> {
         "apply",
         "apply 5",
     ] {
-        let (status, nothing) = answer_to(rt.alloc(), Program::Receiver, line)?;
-        assert_eq!(rt; status, Status::Usage, "{line}");
-        assert!(rt; nothing, "{line}");
+        assert!(rt;
+            is_of_no_form(rt.alloc(), Program::Receiver, line)?,
+            "{line}"
+        );
     }
     Ok(())
 }
@@ -76,9 +67,7 @@ fn words_of_no_form_of_the_tuner(rt: HostRuntime) -> Result<(), Fail> {
         "apply 5 5",
         "apply -",
     ] {
-        let (status, nothing) = answer_to(rt.alloc(), Program::Tuner, line)?;
-        assert_eq!(rt; status, Status::Usage, "{line}");
-        assert!(rt; nothing, "{line}");
+        assert!(rt; is_of_no_form(rt.alloc(), Program::Tuner, line)?, "{line}");
     }
     Ok(())
 }
@@ -93,8 +82,9 @@ fn words_of_forms_of_the_tuner_read(rt: HostRuntime) -> Result<(), Fail> {
         "apply -2048",
         "apply -1",
     ] {
-        let (status, _) = answer_to(rt.alloc(), Program::Tuner, line)?;
-        assert_eq!(rt; status, Status::ReadFault, "{line}");
+        let words = command_line(rt.alloc(), line)?;
+        let (output, _) = output_unread(rt.alloc(), Program::Tuner, &words)?;
+        assert!(rt; output.status == Status::ReadFault, "{line}");
     }
     Ok(())
 }
@@ -107,22 +97,37 @@ fn zeros_hold_no_cell_by_any_rule(rt: HostRuntime) -> Result<(), Fail> {
         ("search --cancel", "cells 0\ncancelled none\n"),
     ] {
         let zeros = silence(rt.alloc(), 230_400)?;
-        let (status, taken) = output_by(rt.alloc(), Program::Receiver, line, zeros)?;
-        assert_eq!(rt; status, Status::Done, "{line}");
-        assert_eq!(rt; taken.as_slice(), output.as_bytes(), "{line}");
+        let text = output.as_bytes();
+        assert!(rt;
+            gives_by(
+                rt.alloc(),
+                Program::Receiver,
+                line,
+                zeros,
+                Status::Done,
+                text
+            )?,
+            "{line}"
+        );
     }
     Ok(())
 }
 
 #[test]
 fn zeros_have_no_offset(rt: HostRuntime) -> Result<(), Fail> {
-    let alloc = rt.alloc();
-    let (status, taken) = output_by(alloc, Program::Tuner, "tell", silence(alloc, 230_400)?)?;
-    assert_eq!(rt; status, Status::Done);
-    assert_eq!(rt; taken.as_slice(), b"hits 0\n".as_slice());
-    let (status, taken) = output_by(alloc, Program::Tuner, "apply", silence(alloc, 230_400)?)?;
-    assert_eq!(rt; status, Status::Done);
-    assert_eq!(rt; taken.as_slice(), silence(alloc, 230_400)?.as_slice());
+    let (alloc, tuner) = (rt.alloc(), Program::Tuner);
+    let zeros = silence(alloc, 230_400)?;
+    assert!(rt;
+        gives_by(
+            alloc,
+            tuner,
+            "tell",
+            zeros.clone()?,
+            Status::Done,
+            b"hits 0\n"
+        )?
+    );
+    assert!(rt; gives_by(alloc, tuner, "apply", zeros.clone()?, Status::Done, &zeros)?);
     Ok(())
 }
 
@@ -142,9 +147,11 @@ fn lengths_that_are_refused_by_any_rule(rt: HostRuntime) -> Result<(), Fail> {
             (230_399, Status::Ragged),
             (7_680_001, Status::TooLong),
         ] {
-            let (status, taken) = output_by(rt.alloc(), program, line, silence(rt.alloc(), len)?)?;
-            assert_eq!(rt; status, refusal, "{line}: {len} bytes");
-            assert!(rt; taken.is_empty(), "{line}: {len} bytes");
+            let bytes = silence(rt.alloc(), len)?;
+            assert!(rt;
+                gives_by(rt.alloc(), program, line, bytes, refusal, b"")?,
+                "{line}: {len} bytes"
+            );
         }
     }
     Ok(())

@@ -3,7 +3,10 @@
 
 mod commands;
 
-pub use commands::{command, command_line, command_of_two, output_by, output_of};
+pub use commands::{
+    Output, ROOM, command_line, gives, gives_by, is_no_form, output_by, output_from, output_into,
+    output_of, output_unread,
+};
 
 #[cfg(test)]
 mod certificates;

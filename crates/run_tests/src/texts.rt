@@ -3,8 +3,15 @@ use cell_tx::CellError;
 use cert_stream::StreamError;
 use cs_outside::{Failed, ReadError};
 use sample_file::FileError;
+use std::alloc::{AllocError, Global};
+use std::fmt::Display;
 use std::test::Fail;
 use tail_cert::BadCertificate;
+
+// Whether a value is printed so.
+pub(crate) fn prints<T: Display>(alloc: Global, value: &T, text: &str) -> Result<bool, AllocError> {
+    Ok(format!(in alloc; "{value}")?.as_str() == text)
+}
 
 #[test]
 fn texts_of_the_conditions_of_a_description(rt: HostRuntime) -> Result<(), Fail> {
@@ -26,7 +33,7 @@ fn texts_of_the_conditions_of_a_description(rt: HostRuntime) -> Result<(), Fail>
         (CellError::Extension, "extension"),
         (CellError::Sib1Long, "sib1long"),
     ] {
-        assert_eq!(rt; format!(in alloc; "{error}")?.as_str(), text);
+        assert!(rt; prints(alloc, &error, text)?, "{text}");
     }
     Ok(())
 }
@@ -41,7 +48,7 @@ fn texts_of_the_errors_of_recordings(rt: HostRuntime) -> Result<(), Fail> {
         (FileError::ReadFault, "read fault"),
         (FileError::OutOfMemory, "out of memory"),
     ] {
-        assert_eq!(rt; format!(in alloc; "{error}")?.as_str(), text);
+        assert!(rt; prints(alloc, &error, text)?, "{text}");
     }
     Ok(())
 }
@@ -51,23 +58,22 @@ fn texts_of_the_errors_of_sources_descriptions_and_certificates(
     rt: HostRuntime,
 ) -> Result<(), Fail> {
     let alloc = rt.alloc();
-    let (long, fault, memory) = (
-        ReadError::TooLong,
-        ReadError::ReadFault,
-        ReadError::OutOfMemory,
-    );
-    assert_eq!(rt; format!(in alloc; "{long}")?.as_str(), "too long");
-    assert_eq!(rt; format!(in alloc; "{fault}")?.as_str(), "read fault");
-    assert_eq!(rt; format!(in alloc; "{memory}")?.as_str(), "out of memory");
-    assert_eq!(rt; format!(in alloc; "{Failed}")?.as_str(), "the call failed");
-    let (cell, none) = (JsonError::Cell(CellError::Gain), JsonError::OutOfMemory);
-    assert_eq!(rt; format!(in alloc; "{cell}")?.as_str(), "bad cell: gain");
-    assert_eq!(rt; format!(in alloc; "{none}")?.as_str(), "out of memory");
+    for (error, text) in [
+        (ReadError::TooLong, "too long"),
+        (ReadError::ReadFault, "read fault"),
+        (ReadError::OutOfMemory, "out of memory"),
+    ] {
+        assert!(rt; prints(alloc, &error, text)?, "{text}");
+    }
+    for (error, text) in [
+        (JsonError::Cell(CellError::Gain), "bad cell: gain"),
+        (JsonError::OutOfMemory, "out of memory"),
+    ] {
+        assert!(rt; prints(alloc, &error, text)?, "{text}");
+    }
+    assert!(rt; prints(alloc, &Failed, "the call failed")?);
     let broken = BadCertificate { place: 244 };
-    assert_eq!(rt;
-        format!(in alloc; "{broken}")?.as_str(),
-        "bad certificate at byte 244"
-    );
+    assert!(rt; prints(alloc, &broken, "bad certificate at byte 244")?);
     Ok(())
 }
 
@@ -80,7 +86,7 @@ fn texts_of_the_errors_of_streams_of_certificates(rt: HostRuntime) -> Result<(),
         (StreamError::ReadFault, "read fault"),
         (StreamError::OutOfMemory, "out of memory"),
     ] {
-        assert_eq!(rt; format!(in alloc; "{error}")?.as_str(), text);
+        assert!(rt; prints(alloc, &error, text)?, "{text}");
     }
     Ok(())
 }

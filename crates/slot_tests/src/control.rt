@@ -4,8 +4,8 @@ use crate::seen::slot_of;
 use grid_map::quadruplets_carried;
 use lte_types::{Bandwidth, CellId, Cfi, Duration, Mib, Resource};
 use pdcch::{candidate, elements};
+use soft_bits::Slot;
 use std::process::Abort;
-use std::test::Fail;
 use test_signals::Rows;
 
 // Slots 10, whose first symbols carry the control channel. The control information is the same in both.
@@ -55,8 +55,8 @@ fn counts_of(rt: &impl Abort, identity: u16, mib: Mib) -> [u8; 3] {
 fn counts_of_control_elements(rt: HostRuntime) {
     let plain = mib_of(&rt, Duration::Normal, Resource::OneSixth);
     let wide = mib_of(&rt, Duration::Extended, Resource::Two);
-    assert_eq!(rt; counts_of(&rt, 0, plain), [2, 4, 6]);
-    assert_eq!(rt; counts_of(&rt, 503, wide), [2, 4, 6]);
+    assert!(rt; counts_of(&rt, 0, plain) == [2, 4, 6]);
+    assert!(rt; counts_of(&rt, 503, wide) == [2, 4, 6]);
     quadruplets_carried();
 }
 
@@ -65,17 +65,22 @@ fn speaks_for(values: &[i16; 288], coded: &[u8; 288]) -> bool {
     values.iter().zip(coded).all(|(value, digit)| *value == if *digit == b'1' { -67 } else { 67 })
 }
 
+// Whether the candidate in a slot speaks for the coded bits, where there is one.
+fn is_coded(slot: &Slot, cfi: Cfi, mib: Mib) -> Option<bool>
+    requires { slot.now.number ≡ 10 }
+{
+    candidate(slot, cfi, mib).map(|values| speaks_for(&values, CODED))
+}
+
 #[test]
-fn the_candidate_has_the_coded_bits(rt: HostRuntime) -> Result<(), Fail> {
+fn the_candidate_has_the_coded_bits(rt: HostRuntime) {
     let plain = mib_of(&rt, Duration::Normal, Resource::One);
-    let values = candidate(&slot_of(&rt, 0, 10, PLAIN), cfi_of(&rt, 2), plain).ok_or("none")?;
-    assert!(rt; speaks_for(&values, CODED));
+    let slot = slot_of(&rt, 0, 10, PLAIN);
+    assert!(rt; is_coded(&slot, cfi_of(&rt, 2), plain) == Some(true));
     let wide = mib_of(&rt, Duration::Extended, Resource::Two);
-    let values = candidate(&slot_of(&rt, 503, 10, WIDE), cfi_of(&rt, 3), wide).ok_or("none")?;
-    assert!(rt; speaks_for(&values, CODED));
-    let other = candidate(&slot_of(&rt, 503, 10, WIDE), cfi_of(&rt, 3), plain).ok_or("none")?;
-    assert!(rt; !speaks_for(&other, CODED));
-    Ok(())
+    let slot = slot_of(&rt, 503, 10, WIDE);
+    assert!(rt; is_coded(&slot, cfi_of(&rt, 3), wide) == Some(true));
+    assert!(rt; is_coded(&slot, cfi_of(&rt, 3), plain) == Some(false));
 }
 
 #[test]

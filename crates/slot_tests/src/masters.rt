@@ -1,6 +1,9 @@
+ghost use Rattle.std.specs.Prelude.{◌≡◌, ◌<◌};
+
 use crate::seen::slot_of;
 use lte_types::{Bandwidth, Duration, Resource};
 use pbch::{Master, at_most_one_master, explain_slots, values};
+use soft_bits::Slot;
 use std::test::Fail;
 use tailbite::Trellis;
 use test_signals::{EMPTY, Rows};
@@ -88,19 +91,20 @@ const QUARTERS: [Rows; 4] = [
 // Nothing at all.
 const SILENCE: Rows = [EMPTY; 5];
 
-// The ports and the cost of a master block with bandwidth n6, duration normal, resource one and no
-// other bit.
-fn ports_and_cost(master: Option<Master>) -> Option<(u8, u32)> {
-    let master = master?;
+// Whether this is a master block with bandwidth n6, duration normal, resource one and no other bit,
+// with so many ports and at no cost.
+fn is_plain(found: Option<Master>, ports: u8) -> bool {
+    let Some(master) = found else {
+        return false;
+    };
     let mib = master.mib;
-    let plain = mib.bandwidth == Bandwidth::N6
+    mib.bandwidth == Bandwidth::N6
         && mib.duration == Duration::Normal
-        && mib.resource == Resource::One;
-    if plain && mib.upper == 0 && mib.spare == 0 {
-        Some((master.ports, master.cost))
-    } else {
-        None
-    }
+        && mib.resource == Resource::One
+        && mib.upper == 0
+        && mib.spare == 0
+        && master.ports == ports
+        && master.cost == 0
 }
 
 #[test]
@@ -125,35 +129,43 @@ fn silent_slots_have_no_master(rt: HostRuntime) -> Result<(), Fail> {
 fn bandwidth_code_6_is_no_master(rt: HostRuntime) -> Result<(), Fail> {
     let mut work = Trellis::new(rt.alloc())?;
     let slots = [slot_of(&rt, 0, 1, CODE_6)];
-    assert_eq!(rt; values(&slots, 1)[0], [268, -268, 268]);
+    assert!(rt; values(&slots, 1)[0] == [268, -268, 268]);
     for phase in 0..4_u8 {
         assert!(rt; explain_slots(&slots, phase, &mut work).is_none());
     }
     Ok(())
 }
 
+// Whether a slot tells so many ports at one phase, and nothing at another.
+fn tells_ports(slot: Slot, phase: u8, ports: u8, other: u8, work: &mut Trellis) -> bool
+    requires number { slot.number ≡ 1 }
+    requires phase { phase < 4 }
+    requires other { other < 4 }
+{
+    let slots = [slot];
+    is_plain(explain_slots(&slots, phase, work), ports)
+        && explain_slots(&slots, other, work).is_none()
+}
+
 #[test]
 fn the_mask_tells_the_ports(rt: HostRuntime) -> Result<(), Fail> {
     let mut work = Trellis::new(rt.alloc())?;
-    let one = [slot_of(&rt, 0, 1, ONE_PORT)];
-    let two = [slot_of(&rt, 301, 1, TWO_PORTS)];
-    let four = [slot_of(&rt, 503, 1, FOUR_PORTS)];
-    assert_eq!(rt;
-        ports_and_cost(explain_slots(&one, 0, &mut work)),
-        Some((1, 0))
-    );
-    assert_eq!(rt;
-        ports_and_cost(explain_slots(&two, 2, &mut work)),
-        Some((2, 0))
-    );
-    assert_eq!(rt;
-        ports_and_cost(explain_slots(&four, 3, &mut work)),
-        Some((4, 0))
-    );
-    assert!(rt; explain_slots(&one, 1, &mut work).is_none());
-    assert!(rt; explain_slots(&two, 1, &mut work).is_none());
-    assert!(rt; explain_slots(&four, 0, &mut work).is_none());
+    assert!(rt; tells_ports(slot_of(&rt, 0, 1, ONE_PORT), 0, 1, 1, &mut work));
+    assert!(rt; tells_ports(slot_of(&rt, 301, 1, TWO_PORTS), 2, 2, 1, &mut work));
+    assert!(rt; tells_ports(slot_of(&rt, 503, 1, FOUR_PORTS), 3, 4, 0, &mut work));
     Ok(())
+}
+
+// The block of the damaged slot, at the cost of the eight parts that were turned.
+fn is_damaged(master: &Master) -> bool {
+    let mib = master.mib;
+    mib.bandwidth == Bandwidth::N100
+        && mib.duration == Duration::Extended
+        && mib.resource == Resource::Two
+        && mib.upper == 165
+        && mib.spare == 753
+        && master.ports == 4
+        && master.cost == 268
 }
 
 #[test]
@@ -161,16 +173,7 @@ fn a_damaged_block_is_read_at_its_cost(rt: HostRuntime) -> Result<(), Fail> {
     let mut work = Trellis::new(rt.alloc())?;
     let slots = [slot_of(&rt, 77, 1, DAMAGED)];
     let master = explain_slots(&slots, 1, &mut work).ok_or("no master")?;
-    let mib = master.mib;
-    assert_eq!(rt;
-        (mib.bandwidth, mib.duration),
-        (Bandwidth::N100, Duration::Extended)
-    );
-    assert_eq!(rt;
-        (mib.resource, mib.upper, mib.spare),
-        (Resource::Two, 165, 753)
-    );
-    assert_eq!(rt; (master.ports, master.cost), (4, 268));
+    assert!(rt; is_damaged(&master));
     Ok(())
 }
 
@@ -183,9 +186,6 @@ fn four_quarters_tell_a_block_together(rt: HostRuntime) -> Result<(), Fail> {
         slot_of(&rt, 0, 1, QUARTERS[2]),
         slot_of(&rt, 0, 1, QUARTERS[3]),
     ];
-    assert_eq!(rt;
-        ports_and_cost(explain_slots(&slots, 0, &mut work)),
-        Some((1, 0))
-    );
+    assert!(rt; is_plain(explain_slots(&slots, 0, &mut work), 1));
     Ok(())
 }

@@ -41,26 +41,6 @@ fn symbol_of(row: &[u8; 72]) -> [Cpx; 72]
     seen
 }
 
-/// A slot with these symbols and two empty ones.
-pub(crate) fn slot_of(rt: &impl Abort, identity: u16, number: u8, rows: Rows) -> Slot
-    requires { number < 20 }
-    ensures number { result.number ≡ number }
-    ensures cell { result.identity ≡ identity }
-{
-    let id = CellId::new(identity).expect(rt, "in range");
-    let nothing = empty_symbol();
-    let seen = [
-        symbol_of(rows[0]),
-        symbol_of(rows[1]),
-        symbol_of(rows[2]),
-        symbol_of(rows[3]),
-        symbol_of(rows[4]),
-        nothing,
-        nothing,
-    ];
-    Slot::new(seen, number, id)
-}
-
 // The slot with these symbols.
 fn whole_slot_of(id: CellId, number: u8, rows: SlotRows) -> Slot
     requires { number < 20 }
@@ -79,6 +59,21 @@ fn whole_slot_of(id: CellId, number: u8, rows: SlotRows) -> Slot
     Slot::new(seen, number, id)
 }
 
+// These symbols and two empty ones.
+fn with_two_empty(rows: Rows) -> SlotRows {
+    [rows[0], rows[1], rows[2], rows[3], rows[4], EMPTY, EMPTY]
+}
+
+/// A slot with these symbols and two empty ones.
+pub(crate) fn slot_of(rt: &impl Abort, identity: u16, number: u8, rows: Rows) -> Slot
+    requires { number < 20 }
+    ensures number { result.number ≡ number }
+    ensures cell { result.identity ≡ identity }
+{
+    let id = CellId::new(identity).expect(rt, "in range");
+    whole_slot_of(id, number, with_two_empty(rows))
+}
+
 /// Slots 10 and 11 of a cell, of which the first has these symbols and two empty ones.
 pub(crate) fn subframe_of(
     rt: &impl Abort,
@@ -91,8 +86,6 @@ pub(crate) fn subframe_of(
     ensures cell { result.1.identity ≡ result.0.identity }
 {
     let id = CellId::new(identity).expect(rt, "in range");
-    let rows = [
-        first[0], first[1], first[2], first[3], first[4], EMPTY, EMPTY,
-    ];
-    (whole_slot_of(id, 10, rows), whole_slot_of(id, 11, second))
+    let first = whole_slot_of(id, 10, with_two_empty(first));
+    (first, whole_slot_of(id, 11, second))
 }

@@ -7,7 +7,7 @@ use lte_types::{Duration, Resource, Sib1Reason};
 use soft_bits::Slot;
 use std::process::Abort;
 use std::test::Fail;
-use system_block::{Decoders, attempt_in, one_answer, read};
+use system_block::{Attempt, Decoders, attempt_in, one_answer, read};
 use test_signals::{EMPTY, Rows};
 
 // Slots 10 and 11 with system information, by `scripts/subframe_reference.py`.
@@ -169,12 +169,25 @@ fn reason_of(
     read(&first, &second, mib, work).err()
 }
 
-/// Compares the reason with the one that is expected.
-macro_rules! assert_reason {
-    ($rt:ident, $work:ident, $control:expr, $block:expr, $expected:expr) => {
-        let reason = reason_of(&$rt, &mut $work, $control, $block);
-        assert_eq!($rt; reason, $expected);
-    };
+// Whether an attempt comes to this indicator and this grant.
+fn has_grant(attempt: &Attempt, cfi: u8, granted: Grant) -> bool {
+    attempt.cfi.value() == cfi && attempt.grant == Some(granted)
+}
+
+// Whether an attempt reads the fields of the plain block.
+fn reads_plain_block(attempt: &Attempt) -> bool {
+    match &attempt.answer {
+        Ok(fields) => {
+            fields.tac == 1
+                && fields.cell == 1
+                && fields.q_rx == -70
+                && fields.band == 1
+                && fields.window == 0
+                && fields.tag == 0
+                && fields.tdd == None
+        }
+        Err(_) => false,
+    }
 }
 
 #[test]
@@ -183,7 +196,6 @@ fn the_fields_are_read(rt: HostRuntime) -> Result<(), Fail> {
     let (first, second) = slots_of(&rt, PLAIN_CONTROL, PLAIN_BLOCK);
     let mib = mib_of(&rt, Duration::Normal, Resource::One);
     let attempt = attempt_in(&first, &second, mib, &mut work);
-    assert_eq!(rt; attempt.cfi.value(), 2);
     let granted = Grant {
         start: 0,
         blocks: 6,
@@ -192,13 +204,26 @@ fn the_fields_are_read(rt: HostRuntime) -> Result<(), Fail> {
         rv: 0,
         size: 120,
     };
-    assert_eq!(rt; attempt.grant, Some(granted));
-    let fields = attempt.answer.ok().ok_or("the block is read")?;
-    assert_eq!(rt; (fields.tac, fields.cell, fields.q_rx), (1, 1, -70));
-    assert_eq!(rt; (fields.band, fields.window, fields.tag), (1, 0, 0));
-    assert_eq!(rt; fields.tdd, None);
+    assert!(rt; has_grant(&attempt, 2, granted));
+    assert!(rt; reads_plain_block(&attempt));
     one_answer();
     Ok(())
+}
+
+// Whether an attempt reads the fields of the full block.
+fn reads_full_block(attempt: &Attempt) -> bool {
+    match &attempt.answer {
+        Ok(fields) => {
+            fields.tac == 0x1a2b
+                && fields.cell == 0x0abcdef
+                && fields.q_rx == -61
+                && fields.p_max == Some(-30)
+                && fields.tdd == Some((6, 8))
+                && fields.plmns.slice().len() == 2
+                && fields.scheduling.slice().len() == 2
+        }
+        Err(_) => false,
+    }
 }
 
 #[test]
@@ -207,7 +232,6 @@ fn a_later_version_of_some_blocks_is_read(rt: HostRuntime) -> Result<(), Fail> {
     let (first, second) = subframe_of(&rt, 503, FULL_10, FULL_11);
     let mib = mib_of(&rt, Duration::Extended, Resource::Two);
     let attempt = attempt_in(&first, &second, mib, &mut work);
-    assert_eq!(rt; attempt.cfi.value(), 3);
     let granted = Grant {
         start: 1,
         blocks: 5,
@@ -216,59 +240,38 @@ fn a_later_version_of_some_blocks_is_read(rt: HostRuntime) -> Result<(), Fail> {
         rv: 2,
         size: 224,
     };
-    assert_eq!(rt; attempt.grant, Some(granted));
-    let fields = attempt.answer.ok().ok_or("the block is read")?;
-    assert_eq!(rt;
-        (fields.tac, fields.cell, fields.q_rx),
-        (0x1a2b, 0x0abcdef, -61)
-    );
-    assert_eq!(rt; (fields.p_max, fields.tdd), (Some(-30), Some((6, 8))));
-    assert_eq!(rt;
-        (fields.plmns.slice().len(), fields.scheduling.slice().len()),
-        (2, 2)
-    );
+    assert!(rt; has_grant(&attempt, 3, granted));
+    assert!(rt; reads_full_block(&attempt));
     Ok(())
 }
 
 #[test]
 fn refusals_of_the_control_information(rt: HostRuntime) -> Result<(), Fail> {
     let mut work = Decoders::new(rt.alloc())?;
-    let block = PLAIN_BLOCK;
-    assert_reason!(
-        rt,
-        work,
-        ONE_SYMBOL,
-        block,
-        Some(Sib1Reason::NoSearchSpace(2))
-    );
-    assert_reason!(rt, work, NO_CHECK, block, Some(Sib1Reason::NoControl));
-    assert_reason!(
-        rt,
-        work,
-        ANOTHER_FORMAT,
-        block,
-        Some(Sib1Reason::NotFormat1A)
-    );
-    assert_reason!(rt, work, DISTRIBUTED, block, Some(Sib1Reason::Distributed));
-    assert_reason!(rt, work, VALUE_21, block, Some(Sib1Reason::BadRiv(21)));
-    assert_reason!(
-        rt,
-        work,
-        SCHEME_27,
-        block,
-        Some(Sib1Reason::ReservedMcs(27))
-    );
-    assert_reason!(rt, work, SCHEME_22, block, Some(Sib1Reason::BlockTooLarge));
+    for (control, reason) in [
+        (ONE_SYMBOL, Sib1Reason::NoSearchSpace(2)),
+        (NO_CHECK, Sib1Reason::NoControl),
+        (ANOTHER_FORMAT, Sib1Reason::NotFormat1A),
+        (DISTRIBUTED, Sib1Reason::Distributed),
+        (VALUE_21, Sib1Reason::BadRiv(21)),
+        (SCHEME_27, Sib1Reason::ReservedMcs(27)),
+        (SCHEME_22, Sib1Reason::BlockTooLarge),
+    ] {
+        assert!(rt; reason_of(&rt, &mut work, control, PLAIN_BLOCK) == Some(reason));
+    }
     Ok(())
 }
 
 #[test]
 fn refusals_of_the_block(rt: HostRuntime) -> Result<(), Fail> {
     let mut work = Decoders::new(rt.alloc())?;
-    let control = PLAIN_CONTROL;
-    assert_reason!(rt, work, control, PLAIN_BLOCK, None);
-    assert_reason!(rt, work, control, BAD_CHECK, Some(Sib1Reason::NotDecoded));
-    assert_reason!(rt, work, control, OTHER_MESSAGE, Some(Sib1Reason::NotSib1));
-    assert_reason!(rt, work, control, DIGIT_11, Some(Sib1Reason::BadFields(10)));
+    for (block, reason) in [
+        (PLAIN_BLOCK, None),
+        (BAD_CHECK, Some(Sib1Reason::NotDecoded)),
+        (OTHER_MESSAGE, Some(Sib1Reason::NotSib1)),
+        (DIGIT_11, Some(Sib1Reason::BadFields(10))),
+    ] {
+        assert!(rt; reason_of(&rt, &mut work, PLAIN_CONTROL, block) == reason);
+    }
     Ok(())
 }

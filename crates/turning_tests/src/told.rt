@@ -1,7 +1,7 @@
 //! What is told of recordings by number that were turned. The texts are those of two other programs,
 //! `scripts/second_make.py` and `scripts/tune_reference.py`.
 
-use crate::sums::sums;
+use crate::sums::has_sums;
 use capture_make::make;
 use cs_num::Sample;
 use sample_file::Recording;
@@ -29,23 +29,26 @@ fn front_and_silence(alloc: Global, recording: &Recording) -> Result<Vec<Sample>
     Ok(samples)
 }
 
+// Whether this text is told of a recording.
+fn is_told(alloc: Global, recording: &Recording, text: &str) -> Result<bool, AllocError> {
+    Ok(tell_text(alloc, recording)?.as_str() == text)
+}
+
 #[test]
 fn the_first_recording_is_told_and_turned_back(rt: HostRuntime) -> Result<(), Fail> {
     let recording = made_and_turned(rt.alloc(), 0, -213)?;
-    assert_eq!(rt; sums(recording.as_slice()), (3_883_257, 10_827_710));
-    let text = tell_text(rt.alloc(), &recording)?;
-    assert_eq!(rt; text.as_str(), "hits 2\nturn 213\ncells 1\n");
+    assert!(rt; has_sums(&recording, (3_883_257, 10_827_710)));
+    assert!(rt; is_told(rt.alloc(), &recording, "hits 2\nturn 213\ncells 1\n")?);
     let back = applied(rt.alloc(), &recording)?;
-    assert_eq!(rt; back.get(1), Sample { re: 5, im: 50 });
-    assert_eq!(rt; sums(back.as_slice()), (-5_195_754, 4_935_601));
+    assert!(rt; back.get(1) == Sample { re: 5, im: 50 });
+    assert!(rt; has_sums(&back, (-5_195_754, 4_935_601)));
     Ok(())
 }
 
 #[test]
 fn a_turn_the_other_way_is_told(rt: HostRuntime) -> Result<(), Fail> {
     let recording = made_and_turned(rt.alloc(), 1, 400)?;
-    let text = tell_text(rt.alloc(), &recording)?;
-    assert_eq!(rt; text.as_str(), "hits 2\nturn -400\ncells 1\n");
+    assert!(rt; is_told(rt.alloc(), &recording, "hits 2\nturn -400\ncells 1\n")?);
     Ok(())
 }
 
@@ -54,15 +57,12 @@ fn without_a_cell_the_first_candidate_is_told(rt: HostRuntime) -> Result<(), Fai
     let recording = made_and_turned(rt.alloc(), 0, -213)?;
     let samples = front_and_silence(rt.alloc(), &recording)?;
     let short = Recording::new(samples).expect(&rt, "30 ms");
-    let told = tell(rt.alloc(), &short)?;
-    assert_eq!(rt;
-        told,
-        Some(Told {
-            turn: 213,
-            hits: 1,
-            cells: 0
-        })
-    );
+    let first = Told {
+        turn: 213,
+        hits: 1,
+        cells: 0,
+    };
+    assert!(rt; tell(rt.alloc(), &short)? == Some(first));
     Ok(())
 }
 
@@ -70,9 +70,8 @@ fn without_a_cell_the_first_candidate_is_told(rt: HostRuntime) -> Result<(), Fai
 fn nothing_is_told_of_silence(rt: HostRuntime) -> Result<(), Fail> {
     let silence = vec![in rt.alloc(); Sample { re: 0, im: 0 }; 57_600]?;
     let recording = Recording::new(silence).expect(&rt, "30 ms");
-    assert_eq!(rt; tell(rt.alloc(), &recording)?, None);
-    assert_eq!(rt; tell_text(rt.alloc(), &recording)?.as_str(), "hits 0\n");
-    let back = applied(rt.alloc(), &recording)?;
-    assert_eq!(rt; sums(back.as_slice()), (0, 0));
+    assert!(rt; tell(rt.alloc(), &recording)? == None);
+    assert!(rt; is_told(rt.alloc(), &recording, "hits 0\n")?);
+    assert!(rt; has_sums(&applied(rt.alloc(), &recording)?, (0, 0)));
     Ok(())
 }

@@ -1,6 +1,6 @@
 //! Recordings turned. The sums are those of another program, `scripts/tune_reference.py`.
 
-use crate::sums::sums;
+use crate::sums::has_sums;
 use cs_num::Sample;
 use sample_file::Recording;
 use std::alloc::{AllocError, Global};
@@ -22,24 +22,24 @@ fn samples(alloc: Global) -> Result<Vec<Sample>, AllocError> {
 #[test]
 fn samples_of_all_sizes_are_turned(rt: HostRuntime) -> Result<(), Fail> {
     let recording = Recording::new(samples(rt.alloc())?).expect(&rt, "30 ms");
-    assert_eq!(rt; sums(recording.as_slice()), (65_981_934, 139_623_939));
+    assert!(rt; has_sums(&recording, (65_981_934, 139_623_939)));
     let back = turned(rt.alloc(), &recording, -2_048)?;
-    assert_eq!(rt;
-        back.get(2),
-        Sample {
-            re: 19_919,
-            im: -16_929
-        }
+    assert!(rt;
+        back.get(2)
+            == Sample {
+                re: 19_919,
+                im: -16_929
+            }
     );
-    assert_eq!(rt; sums(back.as_slice()), (127_847_600, 82_754_481));
+    assert!(rt; has_sums(&back, (127_847_600, 82_754_481)));
     let forth = turned(rt.alloc(), &recording, 77)?;
-    assert_eq!(rt;
-        forth.get(57_599),
-        Sample {
-            re: -1_929,
-            im: 29_781
-        }
+    assert!(rt;
+        forth.get(57_599)
+            == Sample {
+                re: -1_929,
+                im: 29_781
+            }
     );
-    assert_eq!(rt; sums(forth.as_slice()), (339_779_699, 206_157_122));
+    assert!(rt; has_sums(&forth, (339_779_699, 206_157_122)));
     Ok(())
 }

@@ -1,0 +1,131 @@
+ghost use Rattle.std.specs.Prelude.{◌≤◌, length};
+
+use crate::shared::{bits_of, digest, squares};
+use conv_code::{combine, encode, match_out, stream_place};
+use cs_bits::Bits;
+use std::test::Fail;
+
+// One stream of a coded word as a number, bit 0 the highest.
+fn stream_of<const N: usize>(coded: &[[bool; 3]; N], stream: usize) -> u64 {
+    let mut number = 0;
+    for bits in coded {
+        number = number << 1 | (bits.get(stream) == Some(&true)) as u64;
+    }
+    number
+}
+
+// The 64 bits of the endless reading from `from` on as a number.
+fn sent_from<const N: usize>(coded: &[[bool; 3]; N], from: u32) -> u64
+    requires low { 6 ≤ N }
+    requires high { N ≤ 64 }
+{
+    let mut number = 0;
+    for i in 0..64_usize {
+        number = number << 1 | match_out(coded, from as usize + i) as u64;
+    }
+    number
+}
+
+// The coded word with the bit at place k of stream 0 alone.
+fn alone<const N: usize>(k: usize) -> [[bool; 3]; N] {
+    let mut coded = [[false; 3]; N];
+    for j in 0..N {
+        coded[j] = [j == k, false, false];
+    }
+    coded
+}
+
+// Whether the streams are these numbers.
+fn has_streams<const N: usize>(coded: &[[bool; 3]; N], numbers: [u64; 3]) -> bool {
+    stream_of(coded, 0) == numbers[0]
+        && stream_of(coded, 1) == numbers[1]
+        && stream_of(coded, 2) == numbers[2]
+}
+
+#[test]
+fn the_last_bit_alone_has_the_taps_of_stream_0(rt: HostRuntime) {
+    let coded = encode::<40>(&Bits::new(bits_of(1)));
+    assert!(rt; stream_of(&coded, 0) == 0x6c_0000_0001);
+}
+
+#[test]
+fn coded_words_of_37_bits(rt: HostRuntime) {
+    let coded = encode::<37>(&Bits::new(bits_of(0x1a_1a1a_2018)));
+    let streams = [0x0b_6767_559d, 0x1e_baba_9491, 0x0c_5858_7293];
+    assert!(rt; has_streams(&coded, streams));
+    for (from, number) in [
+        (0, 0xeea7_e23a_b02b_e1fb),
+        (64, 0x55b8_5d08_d913_dd4f),
+        (300, 0x1742_3644_f753_f11d),
+    ] {
+        assert!(rt; sent_from(&coded, from) == number, "from {from}");
+    }
+}
+
+#[test]
+fn coded_words_of_40_bits(rt: HostRuntime) {
+    let coded = encode::<40>(&Bits::new(bits_of(0x6c_b5f6_5ba0)));
+    let streams = [0xf8_d94d_6d8f, 0xcd_e619_f282, 0xc6_bbf8_5c4c];
+    assert!(rt; has_streams(&coded, streams));
+    for (from, number) in [
+        (0, 0xf365_d9fd_41d4_986d),
+        (100, 0xb769_2f36_5d9f_d41d),
+        (300, 0xd9b1_97af_90b7_692f),
+    ] {
+        assert!(rt; sent_from(&coded, from) == number, "from {from}");
+    }
+}
+
+// Whether bit i of the reading, and once more after all 120, is that of place k of stream 0, and the next is not.
+fn is_read_at(i: usize, k: usize) -> bool
+    requires { i ≤ 100 }
+{
+    let coded = alone::<40>(k);
+    match_out(&coded, i) && match_out(&coded, i + 120) && !match_out(&coded, i + 1)
+}
+
+#[test]
+fn the_first_bits_that_are_read_of_40(rt: HostRuntime) {
+    for (i, k) in [9, 25, 17, 1, 33, 13, 29, 21, 5, 37].iter().enumerate() {
+        assert!(rt; is_read_at(i, *k), "bit {i}");
+    }
+}
+
+// Whether the values give these sums at places 0 and 17, and sums of this digest.
+fn has_sums<const N: usize>(values: &[i16], first: [i32; 3], later: [i32; 3], number: i64) -> bool
+    requires low { 18 ≤ N }
+    requires high { N ≤ 64 }
+    requires count { length values.now ≤ 1920 }
+{
+    let sums = combine::<N>(values);
+    sums[0] == first && sums[17] == later && digest(&sums) == number
+}
+
+#[test]
+fn sums_by_place_of_37_bits(rt: HostRuntime) -> Result<(), Fail> {
+    let values = squares(rt.alloc(), 288)?;
+    assert!(rt; values.len() == 288);
+    assert!(rt; has_sums::<37>(&values, [33, -174, -204], [-66, -192, 97], 360_275));
+    Ok(())
+}
+
+#[test]
+fn sums_by_place_of_40_bits(rt: HostRuntime) -> Result<(), Fail> {
+    let values = squares(rt.alloc(), 480)?;
+    assert!(rt; values.len() == 480);
+    assert!(rt; has_sums::<40>(&values, [-312, -97, -87], [-12, 368, -222], 946_771));
+    Ok(())
+}
+
+#[test]
+fn no_values_give_sums_of_0(rt: HostRuntime) {
+    assert!(rt; combine::<6>(&[]) == [[0; 3]; 6]);
+}
+
+#[test]
+fn the_first_places_of_a_stream_of_40(rt: HostRuntime) {
+    let places = [9, 25, 17, 1, 33, 13, 29, 21, 5, 37];
+    for p in 0..10_usize {
+        assert!(rt; stream_place(40, p) == places[p], "place {p}");
+    }
+}

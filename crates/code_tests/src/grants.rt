@@ -1,0 +1,96 @@
+use cs_bits::Bits;
+use dci::{Grant, assignments_used_once, grants_and_bits, read, riv, size, write};
+use lte_types::Sib1Reason;
+
+// The word that these digits show.
+fn word_of(digits: &[u8; 21]) -> Bits<21> {
+    let mut bits = [false; 21];
+    for i in 0..21 {
+        bits[i] = digits[i] == b'1';
+    }
+    Bits::new(bits)
+}
+
+// Whether these bits carry no grant, for this reason.
+fn is_refused(digits: &[u8; 21], reason: Sib1Reason) -> bool {
+    match read(&word_of(digits)) {
+        Ok(_) => false,
+        Err(found) => found == reason,
+    }
+}
+
+// Whether the word is read as this grant, which is written as the other one.
+fn is_read_as(digits: &[u8; 21], grant: Grant, written: &[u8; 21]) -> bool {
+    match read(&word_of(digits)) {
+        Ok(read) => read == grant && write(&read) == word_of(written),
+        Err(_) => false,
+    }
+}
+
+// Whether these blocks have these values.
+fn are_values() -> bool {
+    riv(0, 4) == 18 && riv(0, 6) == 11 && riv(1, 5) == 16 && riv(5, 1) == 5
+}
+
+#[test]
+fn values_of_blocks(rt: HostRuntime) {
+    assert!(rt; are_values());
+    assignments_used_once();
+}
+
+// Whether the columns have their first and last sizes, and none after the last.
+fn are_ends_of_columns() -> bool {
+    size(0, 2) == Some(32)
+        && size(21, 2) == Some(1000)
+        && size(22, 2) == None
+        && size(0, 3) == Some(56)
+        && size(16, 3) == Some(968)
+        && size(17, 3) == None
+}
+
+#[test]
+fn sizes_at_the_ends_of_the_columns(rt: HostRuntime) {
+    assert!(rt; are_ends_of_columns());
+}
+
+#[test]
+fn refusals_in_their_order(rt: HostRuntime) {
+    for (digits, reason) in [
+        (b"000000000000000000000", Sib1Reason::NotFormat1A),
+        (b"110000000000000000000", Sib1Reason::Distributed),
+        (b"101010111011000000000", Sib1Reason::BadRiv(21)),
+        (b"100101111011000000000", Sib1Reason::ReservedMcs(27)),
+        (b"100101110110000000000", Sib1Reason::BlockTooLarge),
+        (b"011111111111111111111", Sib1Reason::NotFormat1A),
+    ] {
+        assert!(rt; is_refused(digits, reason));
+    }
+    grants_and_bits();
+}
+
+#[test]
+fn the_word_of_a_grant(rt: HostRuntime) {
+    let grant = Grant {
+        start: 0,
+        blocks: 6,
+        mcs: 4,
+        column: 2,
+        rv: 0,
+        size: 120,
+    };
+    assert!(rt; size(4, 2) == Some(120));
+    assert!(rt; is_read_as(b"100101100100000000000", grant, b"100101100100000000000"));
+}
+
+#[test]
+fn what_is_not_looked_at(rt: HostRuntime) {
+    let grant = Grant {
+        start: 2,
+        blocks: 3,
+        mcs: 9,
+        column: 3,
+        rv: 2,
+        size: 456,
+    };
+    assert!(rt; is_read_as(b"100111001001101110111", grant, b"100111001001000010010"));
+}

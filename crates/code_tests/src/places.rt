@@ -1,0 +1,254 @@
+ghost use Rattle.std.specs.Prelude.{IsTrue};
+ghost use Rattle.grid_map.specs.Group.{is_group};
+
+use arrayvec::ArrayVec;
+use grid_map::{
+    Place, Reg, control_groups, pbch, pcfich, pdcch, pdsch, pdsch_order, places_of_groups,
+    quadruplet, quadruplets_permute, reg_places,
+};
+use lte_types::{Bandwidth, CellId, Cfi, Duration, Mib, Resource};
+
+// Whether this is point i of the broadcast channel of a cell.
+fn is_point_of_broadcast(identity: u16, i: usize, symbol: u8, k: u8) -> bool {
+    match CellId::new(identity) {
+        Some(id) => i < 240 && pbch(id, i) == Place { symbol, k },
+        None => false,
+    }
+}
+
+#[test]
+fn first_and_last_points_of_each_symbol(rt: HostRuntime) {
+    for (i, symbol, k) in [
+        (0, 7, 1),
+        (47, 7, 71),
+        (48, 8, 1),
+        (95, 8, 71),
+        (96, 9, 0),
+        (167, 9, 71),
+        (168, 10, 0),
+        (239, 10, 71),
+    ] {
+        assert!(rt; is_point_of_broadcast(0, i, symbol, k), "point {i}");
+    }
+}
+
+#[test]
+fn places_beside_the_reserved_ones_of_identities_1_and_503(rt: HostRuntime) {
+    for (identity, i, symbol, k) in [
+        (1, 0, 7, 0),
+        (1, 1, 7, 2),
+        (1, 48, 8, 0),
+        (503, 1, 7, 1),
+        (503, 2, 7, 3),
+        (503, 95, 8, 70),
+        (503, 239, 10, 71),
+    ] {
+        assert!(rt; is_point_of_broadcast(identity, i, symbol, k), "point {i}");
+    }
+}
+
+// Whether the four groups of the PCFICH have these first subcarriers.
+fn has_pcfich(identity: u16, firsts: [u8; 4]) -> bool {
+    match CellId::new(identity) {
+        Some(id) => pcfich(id).map(|group| group.first) == firsts,
+        None => false,
+    }
+}
+
+#[test]
+fn groups_of_the_pcfich(rt: HostRuntime) {
+    assert!(rt; has_pcfich(0, [0, 18, 36, 54]));
+    assert!(rt; has_pcfich(503, [66, 12, 30, 48]));
+    assert!(rt; has_pcfich(77, [30, 48, 66, 12]));
+}
+
+// The groups of the PDCCH.
+fn pdcch_of(
+    identity: u16,
+    cfi: u8,
+    duration: Duration,
+    resource: Resource,
+) -> Option<ArrayVec<Reg, 66>> {
+    let id = CellId::new(identity)?;
+    let cfi = Cfi::new(cfi)?;
+    let mib = Mib::new(Bandwidth::N6, duration, resource, 0, 0)?;
+    Some(pdcch(id, cfi, mib))
+}
+
+// Whether the groups are these, each as four times its first subcarrier and its symbol.
+fn are_groups(groups: &[Reg], numbers: &[u16]) -> bool {
+    let mut same = groups.len() == numbers.len();
+    for (i, group) in groups.iter().enumerate() {
+        let number = 4 * group.first as u16 + group.symbol as u16;
+        same = same && numbers.get(i) == Some(&number);
+    }
+    same
+}
+
+// Whether the PDCCH has these groups.
+fn has_pdcch(
+    identity: u16,
+    cfi: u8,
+    duration: Duration,
+    resource: Resource,
+    numbers: &[u16],
+) -> bool {
+    match pdcch_of(identity, cfi, duration, resource) {
+        Some(groups) => are_groups(groups.as_slice(), numbers),
+        None => false,
+    }
+}
+
+#[test]
+fn groups_of_the_pdcch_of_identity_0(rt: HostRuntime) {
+    let expected = [
+        1, 2, 17, 18, 33, 34, 48, 49, 50, 65, 66, 81, 82, 97, 98, 113, 114, 120, 129, 130, 145,
+        146, 161, 162, 168, 177, 178, 193, 194, 209, 210, 225, 226, 240, 241, 242, 257, 258, 264,
+        273, 274,
+    ];
+    assert!(rt; has_pdcch(0, 2, Duration::Normal, Resource::One, &expected));
+}
+
+#[test]
+fn groups_of_the_pdcch_of_identity_503(rt: HostRuntime) {
+    let expected = [
+        1, 2, 3, 17, 18, 19, 24, 33, 34, 35, 50, 51, 66, 67, 72, 81, 82, 83, 96, 97, 98, 99, 113,
+        114, 115, 129, 130, 131, 144, 145, 147, 161, 163, 168, 177, 178, 179, 193, 194, 195, 209,
+        210, 211, 216, 225, 226, 227, 241, 242, 243, 257, 258, 259, 273, 274, 275,
+    ];
+    assert!(rt; has_pdcch(503, 3, Duration::Extended, Resource::Two, &expected));
+}
+
+// How many groups of the PDCCH there are; none of a cell that there cannot be.
+fn count_of(identity: u16, cfi: u8, duration: Duration, resource: Resource) -> usize {
+    match pdcch_of(identity, cfi, duration, resource) {
+        Some(groups) => groups.len(),
+        None => 0,
+    }
+}
+
+// Whether the PDCCH has so many groups with indicators 1, 2 and 3.
+fn has_counts(identity: u16, duration: Duration, resource: Resource, counts: [usize; 3]) -> bool {
+    count_of(identity, 1, duration, resource) == counts[0]
+        && count_of(identity, 2, duration, resource) == counts[1]
+        && count_of(identity, 3, duration, resource) == counts[2]
+}
+
+#[test]
+fn counts_of_groups(rt: HostRuntime) {
+    for (identity, duration, resource, counts) in [
+        (0, Duration::Normal, Resource::OneSixth, [23, 41, 59]),
+        (250, Duration::Normal, Resource::Two, [20, 38, 56]),
+        (77, Duration::Extended, Resource::Half, [24, 41, 59]),
+        (502, Duration::Extended, Resource::Two, [22, 38, 56]),
+    ] {
+        assert!(rt;
+            has_counts(identity, duration, resource, counts),
+            "identity {identity}"
+        );
+    }
+    control_groups();
+}
+
+// Whether the places of a group have these subcarriers.
+fn has_subcarriers(identity: u16, group: Reg, subcarriers: [u8; 4]) -> bool
+    requires { IsTrue (is_group group) }
+{
+    match CellId::new(identity) {
+        Some(id) => reg_places(id, group).map(|place| place.k) == subcarriers,
+        None => false,
+    }
+}
+
+#[test]
+fn places_of_a_group(rt: HostRuntime) {
+    let first = Reg {
+        symbol: 0,
+        first: 66,
+    };
+    for (identity, subcarriers) in [
+        (0, [67, 68, 70, 71]),
+        (1, [66, 68, 69, 71]),
+        (503, [66, 67, 69, 70]),
+    ] {
+        assert!(rt;
+            has_subcarriers(identity, first, subcarriers),
+            "identity {identity}"
+        );
+    }
+    let last = Reg {
+        symbol: 3,
+        first: 68,
+    };
+    assert!(rt; has_subcarriers(5, last, [68, 69, 70, 71]));
+    places_of_groups();
+}
+
+// Whether the first eight of so many groups carry these quadruplets.
+fn has_quadruplets(identity: u16, count: u8, quadruplets: [u8; 8]) -> bool {
+    let Some(id) = CellId::new(identity) else {
+        return false;
+    };
+    if count < 8 || count > 66 {
+        return false;
+    }
+    for r in 0..8_u8 {
+        if quadruplet(id, count, r) != quadruplets[r as usize] {
+            return false;
+        }
+    }
+    true
+}
+
+#[test]
+fn quadruplets_of_the_first_groups(rt: HostRuntime) {
+    for (identity, count, quadruplets) in [
+        (0, 41, [10, 26, 18, 2, 34, 14, 30, 22]),
+        (503, 59, [11, 43, 3, 35, 19, 51, 31, 15]),
+        (250, 20, [4, 12, 8, 0, 16, 6, 14, 10]),
+        (5, 66, [43, 27, 59, 7, 39, 23, 55, 15]),
+    ] {
+        assert!(rt;
+            has_quadruplets(identity, count, quadruplets),
+            "identity {identity}"
+        );
+    }
+    quadruplets_permute();
+}
+
+// Point i of the shared channel; none for one that it does not have.
+fn point_of(identity: u16, cfi: u8, start: u8, blocks: u8, i: usize) -> Option<Place> {
+    let id = CellId::new(identity)?;
+    let cfi = Cfi::new(cfi)?;
+    let limit = if cfi.value() == 2 { 102 } else { 90 };
+    if cfi.value() == 1 || blocks < 1 || blocks > 6 || start > 6 - blocks {
+        return None;
+    }
+    if i >= limit * blocks as usize {
+        return None;
+    }
+    Some(pdsch(id, cfi, start, blocks, i))
+}
+
+#[test]
+fn points_of_the_shared_channel(rt: HostRuntime) {
+    for (identity, cfi, start, blocks, i, symbol, k) in [
+        (0, 2, 0, 6, 0, 3, 0),
+        (0, 2, 0, 6, 101, 4, 35),
+        (0, 2, 0, 6, 611, 13, 71),
+        (503, 3, 2, 3, 4, 4, 29),
+        (503, 3, 2, 3, 59, 7, 58),
+        (503, 3, 2, 3, 135, 10, 27),
+        (503, 3, 2, 3, 269, 13, 59),
+        (77, 2, 5, 1, 12, 4, 60),
+        (77, 2, 5, 1, 22, 7, 60),
+        (77, 3, 5, 1, 60, 11, 65),
+    ] {
+        let point = point_of(identity, cfi, start, blocks, i);
+        assert!(rt;
+            point == Some(Place { symbol, k }),
+            "point {i} of {identity}"
+        );
+    }
+    pdsch_order();
+}

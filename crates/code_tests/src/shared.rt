@@ -1,0 +1,68 @@
+//! What several of these tests are made with.
+
+ghost use Rattle.std.specs.Prelude.{◌≡◌, ◌^◌, ◌≤◌, IfOk, length, nat_abs};
+ghost use Rattle.finite.specs.Sizes.{AllWithin};
+
+use cs_num::Sample;
+use std::alloc::{AllocError, Global};
+
+// The samples of 30 ms of silence.
+pub(crate) fn silent_samples(alloc: Global) -> Result<Vec<Sample>, AllocError>
+    ensures { IfOk result (λ samples. length samples.items ≡ 57600) }
+{
+    vec![in alloc; Sample { re: 0, im: 0 }; 57_600]
+}
+
+// Three values.
+pub(crate) fn triple(first: i32, second: i32, third: i32) -> [i32; 3]
+    requires first { nat_abs first ≤ 2032 }
+    requires second { nat_abs second ≤ 2032 }
+    requires third { nat_abs third ≤ 2032 }
+    ensures soft { AllWithin 2032 result }
+    ensures small { AllWithin (2 ^ 20) result }
+{
+    [first, second, third]
+}
+
+// The bits of the number, the highest first.
+pub(crate) fn bits_of<const N: usize>(number: u64) -> [bool; N]
+    requires { N ≤ 64 }
+{
+    let mut bits = [false; N];
+    for k in 0..N {
+        bits[k] = number >> (N - 1 - k) & 1 == 1;
+    }
+    bits
+}
+
+// The bits as a number, bit 0 the highest.
+pub(crate) fn number_of(bits: &[bool]) -> u64 {
+    let mut number = 0;
+    for bit in bits {
+        number = number << 1 | *bit as u64;
+    }
+    number
+}
+
+// The values i^2 mod 255 - 127 of the i below the count.
+pub(crate) fn squares(alloc: Global, count: u16) -> Result<Vec<i16>, AllocError> {
+    let mut values = Vec::new(alloc);
+    for i in 0..count as u32 {
+        values.push((i * i % 255) as i16 - 127)?;
+    }
+    Ok(values)
+}
+
+// The sums, row after row, as a number below 1,000,003 in base 31.
+pub(crate) fn digest<const N: usize, const M: usize>(rows: &[[i32; N]; M]) -> i64 {
+    let mut number: i64 = 0;
+    for row in rows {
+        for sum in row {
+            number = number
+                .wrapping_mul(31)
+                .wrapping_add(*sum as i64)
+                .rem_euclid(1_000_003);
+        }
+    }
+    number
+}

@@ -1,0 +1,210 @@
+ghost use Rattle.std.specs.Prelude.{◌≡◌, ◌+◌, ◌<◌, ◌≤◌};
+ghost use Rattle.turbo_code.specs.Table.{IsRow, IsSize};
+
+use crate::shared::{bits_of, digest, number_of, squares};
+use std::alloc::{AllocError, Global};
+use std::test::Fail;
+use turbo_code::{Coded, Row, combine, encode, interleaver, match_out, row_of};
+
+// Whether the row of the size is this one.
+fn has_row(size: u16, k: u16, f1: u16, f2: u16) -> bool {
+    row_of(size) == Some(Row { k, f1, f2 })
+}
+
+#[test]
+fn rows_of_sizes(rt: HostRuntime) {
+    assert!(rt; has_row(32, 56, 19, 42));
+    assert!(rt; has_row(1000, 1024, 31, 64));
+    for size in [40, 0, 65_535] {
+        assert!(rt; row_of(size) == None, "size {size}");
+    }
+}
+
+// Whether the interleaver reads each bit once.
+fn permutes(row: &Row) -> bool
+    requires { IsRow row.now }
+{
+    let mut seen = [false; 1024];
+    for i in 0..row.k {
+        match seen.get_mut(interleaver(row, i as usize)) {
+            Some(place) if !*place => *place = true,
+            _ => return false,
+        }
+    }
+    true
+}
+
+// Whether the row of K is this one, and permutes.
+fn is_sound(k: u16, f1: u16, f2: u16) -> bool {
+    match row_of(k.saturating_sub(24)) {
+        Some(row) => row == Row { k, f1, f2 } && permutes(&row),
+        None => false,
+    }
+}
+
+// K, f1 and f2 of the sizes in use (TS 36.212 table 5.1.3-3).
+const ROWS: [(u16, u16, u16); 31] = [
+    (56, 19, 42),
+    (80, 11, 20),
+    (96, 11, 24),
+    (112, 41, 84),
+    (128, 15, 32),
+    (144, 17, 108),
+    (168, 101, 84),
+    (200, 13, 50),
+    (232, 85, 58),
+    (248, 33, 62),
+    (280, 103, 210),
+    (320, 21, 120),
+    (352, 21, 44),
+    (400, 151, 40),
+    (416, 25, 52),
+    (464, 247, 58),
+    (480, 89, 180),
+    (512, 31, 64),
+    (528, 17, 66),
+    (576, 65, 96),
+    (608, 37, 76),
+    (624, 41, 234),
+    (656, 185, 82),
+    (704, 155, 44),
+    (720, 79, 120),
+    (768, 217, 48),
+    (800, 17, 80),
+    (864, 17, 48),
+    (928, 15, 58),
+    (992, 65, 124),
+    (1024, 31, 64),
+];
+
+#[test]
+fn each_row_permutes(rt: HostRuntime) {
+    for (k, f1, f2) in ROWS {
+        assert!(rt; is_sound(k, f1, f2));
+    }
+}
+
+// The 64 bits of the reading from `from` on as a number.
+fn sent_from(coded: &Coded, rv: u8, from: u16) -> u64
+    requires size { IsSize coded.now.k }
+    requires version { rv < 4 }
+    requires from { from ≤ 4000 }
+{
+    let mut number = 0;
+    for i in 0..64_usize {
+        number = number << 1 | match_out(coded, rv, from as usize + i) as u64;
+    }
+    number
+}
+
+// The first 60 bits of a stream as a number.
+fn front_of(stream: &[bool; 1028]) -> u64 {
+    number_of(&stream[..60])
+}
+
+// Whether K is 56 and the first 60 bits of the streams are these.
+fn has_streams(coded: &Coded, numbers: [u64; 3]) -> bool {
+    coded.k == 56
+        && front_of(&coded.d[0]) == numbers[0]
+        && front_of(&coded.d[1]) == numbers[1]
+        && front_of(&coded.d[2]) == numbers[2]
+}
+
+#[test]
+fn coded_word_of_56_bits(rt: HostRuntime) {
+    let Some(row) = row_of(32) else {
+        return assert!(rt; false);
+    };
+    let word: [bool; 56] = bits_of(0x12_3456_789a_bcde);
+    let coded = encode(&word, row);
+    let streams = [
+        0x123_4567_89ab_cded,
+        0x1db_23f9_fced_8271,
+        0x25d_8754_5059_1269,
+    ];
+    assert!(rt; has_streams(&coded, streams));
+    for (rv, from, number) in [
+        (0, 0, 0x5551_e1cc_ccc0_7fe5),
+        (1, 0, 0x0ffc_bf49_3b39_7e0e),
+        (2, 180, 0x97e0_ed18_2ad9_4810),
+        (3, 180, 0x5204_1b71_1d6a_aa8f),
+        (2, 1160, 0x75aa_aa3c_3999_980f),
+    ] {
+        assert!(rt;
+            sent_from(&coded, rv, from) == number,
+            "version {rv} from {from}"
+        );
+    }
+}
+
+// The coded word of a row's K with one bit.
+fn alone(row: Row, stream: usize, place: usize) -> Coded
+    requires { IsRow row }
+    ensures k { result.k ≡ row.k }
+    ensures size { IsSize result.k }
+{
+    let mut d = [[false; 1028]; 3];
+    for t in 0..3 {
+        for k in 0..1028 {
+            d[t][k] = t == stream && k == place;
+        }
+    }
+    Coded { k: row.k, d }
+}
+
+// Whether bit i of the reading, and once more after all 444, is the one at this place, and bit i + 1 is not. Bits
+// from the 101st on are not looked at.
+fn is_sent(row: Row, rv: u8, i: usize, stream: usize, place: usize) -> bool
+    requires { IsRow row }
+{
+    if rv > 3 || i > 100 {
+        return false;
+    }
+    let coded = alone(row, stream, place);
+    match_out(&coded, rv, i) && match_out(&coded, rv, i + 444) && !match_out(&coded, rv, i + 1)
+}
+
+#[test]
+fn first_bits_that_are_sent_of_144(rt: HostRuntime) {
+    let Some(row) = row_of(120) else {
+        return assert!(rt; false);
+    };
+    for (rv, i, stream, place) in [
+        (0, 0, 0, 28),
+        (0, 1, 0, 60),
+        (0, 2, 0, 92),
+        (0, 3, 0, 124),
+        (0, 4, 0, 12),
+        (1, 0, 0, 31),
+        (2, 0, 1, 6),
+        (2, 1, 2, 7),
+        (3, 0, 1, 9),
+        (3, 1, 2, 10),
+    ] {
+        assert!(rt;
+            is_sent(row, rv, i, stream, place),
+            "bit {i} of version {rv}"
+        );
+    }
+}
+
+// The digest of the sums of 1,224 values at K = 56.
+fn digest_of(alloc: Global, rv: u8) -> Result<i64, AllocError>
+    requires { rv < 4 }
+{
+    let values = squares(alloc, 1224)?;
+    let Some(row) = row_of(32) else {
+        return Ok(0);
+    };
+    if values.len() > 1224 {
+        return Ok(0);
+    }
+    Ok(digest(&combine(&values, row, rv).d))
+}
+
+#[test]
+fn sums_by_coded_bit(rt: HostRuntime) -> Result<(), Fail> {
+    assert!(rt; digest_of(rt.alloc(), 0)? == 48_559);
+    assert!(rt; digest_of(rt.alloc(), 3)? == 674_432);
+    Ok(())
+}

@@ -1,0 +1,260 @@
+// Expected values are those of `scripts/second_cancel.py`.
+ghost use Rattle.std.specs.Prelude.{◌≡◌, length};
+
+use crate::examples::{cell_of, information, silence};
+use cancel::{Subtracted, best_candidate_is_one, clean_gain_is_candidate, subtract};
+use cell_tx::{CellPlan, Port, port_sequence};
+use cs_num::{Cpx, Sample, clamp_div};
+use lte_types::{Duration, Resource, Sfn};
+use sample_file::Recording;
+use std::alloc::Global;
+use std::test::Fail;
+
+// The plan of `scripts/plain_cell.json`, with an identity.
+fn plain_plan(identity: u16) -> CellPlan {
+    CellPlan {
+        identity,
+        duration: Duration::Normal,
+        resource: Resource::One,
+        spare: 0,
+        cfi: 2,
+        start: 0,
+        blocks: 6,
+        mcs: 4,
+        column: 2,
+        sib1: information(0),
+    }
+}
+
+// The plan of another cell.
+fn other_plan() -> CellPlan {
+    CellPlan {
+        duration: Duration::Extended,
+        resource: Resource::Two,
+        spare: 5,
+        cfi: 3,
+        mcs: 5,
+        column: 3,
+        ..plain_plan(150)
+    }
+}
+
+// A component of 16 bits.
+fn part(z: i64) -> i16 {
+    clamp_div(z, 1, 32_767)
+}
+
+// A sample times a gain, and another one.
+fn added(sample: Sample, sent: Sample, gain: Sample) -> Sample {
+    let product = Cpx::from(gain).mul(Cpx::from(sent));
+    Sample {
+        re: part(sample.re as i64 + part(product.re) as i64),
+        im: part(sample.im as i64 + part(product.im) as i64),
+    }
+}
+
+// Adds what a cell sends from a sample of a frame on, with a gain.
+fn add(
+    alloc: Global,
+    samples: &mut [Sample],
+    plan: CellPlan,
+    place: (u16, u32),
+    gain: (i16, i16),
+) -> Result<(), Fail>
+    requires { length samples.old ≡ 57600 }
+    ensures { length samples.new ≡ length samples.old }
+{
+    let cell = cell_of(plan).ok_or("a plan that is sent")?;
+    let sfn = Sfn::new(place.0).ok_or("in range")?;
+    let gain = Sample {
+        re: gain.0,
+        im: gain.1,
+    };
+    let mut sent = silence(alloc)?;
+    port_sequence(&cell, Port::Only, sfn, place.1, &mut sent);
+    for i in 0..57_600 {
+        samples[i] = added(samples[i], sent[i], gain);
+    }
+    Ok(())
+}
+
+// The cell of a plan, from a sample of a frame on, taken off samples.
+fn taken(
+    alloc: Global,
+    samples: Vec<Sample>,
+    plan: CellPlan,
+    place: (u16, u32),
+) -> Result<Option<Subtracted>, Fail> {
+    let cell = cell_of(plan).ok_or("a plan that is sent")?;
+    let (number, start) = place;
+    let sfn = Sfn::new(number).ok_or("in range")?;
+    let recording = Recording::new(samples).ok_or("30 ms")?;
+    if start >= 19_200 {
+        return Ok(None);
+    }
+    Ok(subtract(alloc, &recording, &cell, start, sfn)?)
+}
+
+// What is told of a subtraction, and samples 0, 1000 and 57,599 of its residue.
+#[derive(Clone, Copy)]
+struct Told {
+    gain: (i16, i16),
+    greatest: u32,
+    before: u128,
+    after: u128,
+    samples: [(i16, i16); 3],
+}
+
+// Some samples of a residue.
+fn samples_of(taken: &Subtracted) -> [(i16, i16); 3] {
+    let residue = &taken.residue;
+    let count = residue.len();
+    prove!(57_600 <= count);
+    let pair = |s: Sample| (s.re, s.im);
+    [
+        pair(residue.get(0)),
+        pair(residue.get(1000)),
+        pair(residue.get(57_599)),
+    ]
+}
+
+fn is_told(taken: &Subtracted, told: &Told) -> bool {
+    taken.gain == told.gain
+        && taken.greatest == told.greatest
+        && taken.before == told.before
+        && taken.after == told.after
+        && samples_of(taken) == told.samples
+}
+
+// Whether the cell of a plan is taken off as told.
+fn is_taken_off(
+    alloc: Global,
+    samples: Vec<Sample>,
+    plan: CellPlan,
+    place: (u16, u32),
+    told: &Told,
+) -> Result<bool, Fail> {
+    Ok(match taken(alloc, samples, plan, place)? {
+        Some(taken) => is_told(&taken, told),
+        None => false,
+    })
+}
+
+#[test]
+fn a_lone_cell_leaves_nothing(rt: HostRuntime) -> Result<(), Fail> {
+    let mut samples = silence(rt.alloc())?;
+    add(rt.alloc(), &mut samples, plain_plan(0), (0, 0), (1, 0))?;
+    let told = Told {
+        gain: (1, 0),
+        greatest: 0,
+        before: 169_776_488,
+        after: 0,
+        samples: [(0, 0); 3],
+    };
+    assert!(rt; is_taken_off(rt.alloc(), samples, plain_plan(0), (0, 0), &told)?);
+    clean_gain_is_candidate();
+    Ok(())
+}
+
+#[test]
+fn the_frame_before_has_the_number_before(rt: HostRuntime) -> Result<(), Fail> {
+    let mut samples = silence(rt.alloc())?;
+    add(rt.alloc(), &mut samples, plain_plan(0), (1023, 1), (3, -4))?;
+    let told = Told {
+        gain: (3, -4),
+        greatest: 0,
+        before: 3_594_134_850,
+        after: 0,
+        samples: [(0, 0); 3],
+    };
+    assert!(rt; is_taken_off(rt.alloc(), samples, plain_plan(0), (0, 19_199), &told)?);
+    Ok(())
+}
+
+// Adds 56 and -56 in turn to the components of samples.
+fn disturb(samples: &mut [Sample]) {
+    for i in 0..samples.len() {
+        let error = if i % 2 == 0 { 56 } else { -56 };
+        let error = Sample {
+            re: error,
+            im: error,
+        };
+        samples[i] = added(samples[i], error, Sample { re: 1, im: 0 });
+    }
+}
+
+#[test]
+fn errors_at_the_bound_are_left(rt: HostRuntime) -> Result<(), Fail> {
+    let mut samples = silence(rt.alloc())?;
+    let place = (5, 19_199);
+    add(rt.alloc(), &mut samples, plain_plan(503), place, (0, 28))?;
+    disturb(&mut samples);
+    let told = Told {
+        gain: (0, 28),
+        greatest: 56,
+        before: 133_806_036_560,
+        after: 361_267_200,
+        samples: [(56, 56), (56, 56), (-56, -56)],
+    };
+    assert!(rt; is_taken_off(rt.alloc(), samples, plain_plan(503), (6, 1), &told)?);
+    Ok(())
+}
+
+// In silence 1, j, -1 and -j leave the same.
+#[test]
+fn of_equal_gains_the_lowest_is_taken(rt: HostRuntime) -> Result<(), Fail> {
+    let samples = silence(rt.alloc())?;
+    let told = Told {
+        gain: (-1, 0),
+        greatest: 370,
+        before: 0,
+        after: 169_776_488,
+        samples: [(-99, 131), (68, 95), (0, 0)],
+    };
+    assert!(rt; is_taken_off(rt.alloc(), samples, plain_plan(0), (0, 0), &told)?);
+    best_candidate_is_one();
+    Ok(())
+}
+
+// The estimate is 20 + 9j.
+#[test]
+fn another_gain_than_the_estimate_is_taken(rt: HostRuntime) -> Result<(), Fail> {
+    let mut samples = silence(rt.alloc())?;
+    add(rt.alloc(), &mut samples, plain_plan(0), (0, 0), (20, 9))?;
+    add(rt.alloc(), &mut samples, other_plan(), (514, 5000), (2, -1))?;
+    let told = Told {
+        gain: (18, 9),
+        greatest: 999,
+        before: 82_530_174_415,
+        after: 1_515_079_615,
+        samples: [(-198, 262), (136, 190), (0, 0)],
+    };
+    assert!(rt; is_taken_off(rt.alloc(), samples, plain_plan(0), (0, 0), &told)?);
+    Ok(())
+}
+
+#[test]
+fn the_greatest_is_told_before_16_bits(rt: HostRuntime) -> Result<(), Fail> {
+    let loudest = Sample {
+        re: 32_767,
+        im: -32_768,
+    };
+    let samples = vec![in rt.alloc(); loudest; 57_600]?;
+    let told = Told {
+        gain: (0, 1),
+        greatest: 33_122,
+        before: 123_691_283_308_800,
+        after: 123_625_232_291_812,
+        samples: [(32_767, -32_669), (32_767, -32_768), (32_767, -32_768)],
+    };
+    assert!(rt; is_taken_off(rt.alloc(), samples, plain_plan(0), (0, 0), &told)?);
+    Ok(())
+}
+
+#[test]
+fn a_greater_gain_is_none(rt: HostRuntime) -> Result<(), Fail> {
+    let mut samples = silence(rt.alloc())?;
+    add(rt.alloc(), &mut samples, plain_plan(0), (0, 0), (40, 0))?;
+    assert!(rt; taken(rt.alloc(), samples, plain_plan(0), (0, 0))?.is_none());
+    Ok(())
+}

@@ -1,0 +1,27 @@
+//! Tests of the crates of numbers, bits, the outside, plain values and what is sent first.
+#![tactic(auto)]
+
+#[cfg(test)]
+mod bits;
+#[cfg(test)]
+mod complex_numbers;
+#[cfg(test)]
+mod fields;
+#[cfg(test)]
+mod interleaving;
+#[cfg(test)]
+mod plain_values;
+#[cfg(test)]
+mod recordings;
+#[cfg(test)]
+mod reference_signals;
+#[cfg(test)]
+mod scrambling;
+#[cfg(test)]
+mod seen;
+#[cfg(test)]
+mod sources_and_sinks;
+#[cfg(test)]
+mod synchronisation;
+#[cfg(test)]
+mod transforms;

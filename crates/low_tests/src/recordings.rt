@@ -1,0 +1,122 @@
+// Recordings at the bounds of their length, samples by their bytes, and sources that end or fail.
+use cs_num::Sample;
+use cs_outside::{FailSource, MemSource};
+use sample_file::{FileError, Recording, SampleForm, read_as, read_cu8, read_recording};
+use std::alloc::{AllocError, Global};
+use std::test::Fail;
+use test_signals::silent;
+
+// What reading so many bytes in a form is refused by.
+fn refusal(alloc: Global, form: SampleForm, count: usize) -> Result<Option<FileError>, AllocError> {
+    let mut source = MemSource::new(vec![in alloc; 127u8; count]?);
+    Ok(read_as(alloc, &mut source, form).err())
+}
+
+// The same where the bytes come a thousand at a time and the listed calls fail.
+fn refusal_with_faults(
+    alloc: Global,
+    count: usize,
+    fails: Vec<u64>,
+) -> Result<Option<FileError>, AllocError> {
+    let mut source = FailSource::new(vec![in alloc; 0u8; count]?, fails, 1_000);
+    Ok(read_recording(alloc, &mut source).err())
+}
+
+// Whether a recording of which these are the first bytes, and zeros the others, has this sample first.
+fn begins_with(
+    alloc: Global,
+    form: SampleForm,
+    bytes: &[u8],
+    sample: Sample,
+) -> Result<bool, AllocError> {
+    let mut input = bytes.to_vec(alloc)?;
+    input.resize(230_400, 0)?;
+    let mut source = MemSource::new(input);
+    Ok(match read_as(alloc, &mut source, form) {
+        Ok(recording) => recording.get(0) == sample,
+        Err(_) => false,
+    })
+}
+
+#[test]
+fn a_sample_has_its_low_bytes_first_and_its_real_component_first(
+    rt: HostRuntime,
+) -> Result<(), Fail> {
+    let sample = Sample { re: 258, im: -1 };
+    assert!(rt;
+        begins_with(
+            rt.alloc(),
+            SampleForm::Ci16,
+            &[0x02, 0x01, 0xff, 0xff],
+            sample
+        )?
+    );
+    Ok(())
+}
+
+#[test]
+fn bytes_stand_for_odd_numbers_from_minus_255_to_255(rt: HostRuntime) -> Result<(), Fail> {
+    for (bytes, sample) in [
+        ([0x00, 0xff], Sample { re: -255, im: 255 }),
+        ([0x80, 0x7f], Sample { re: 1, im: -1 }),
+    ] {
+        assert!(rt; begins_with(rt.alloc(), SampleForm::Cu8, &bytes, sample)?);
+    }
+    Ok(())
+}
+
+// Samples of 1 + 1j, of which one has a greater imaginary component.
+fn has_a_greater_sample_at_1000(recording: &Recording) -> bool {
+    recording.len() == 57_600
+        && recording.get(999) == Sample { re: 1, im: 1 }
+        && recording.get(1_000) == Sample { re: 1, im: 255 }
+        && recording.get(1_001) == Sample { re: 1, im: 1 }
+}
+
+#[test]
+fn samples_are_read_across_the_ends_of_pieces(rt: HostRuntime) -> Result<(), Fail> {
+    let alloc = rt.alloc();
+    let mut bytes = vec![in alloc; 0x80u8; 115_200]?;
+    bytes[2_001] = 0xff;
+    let mut source = FailSource::new(bytes, Vec::new(alloc), 1_001);
+    let recording = read_cu8(alloc, &mut source).ok().ok_or("refused")?;
+    assert!(rt; has_a_greater_sample_at_1000(&recording));
+    Ok(())
+}
+
+#[test]
+fn a_recording_has_57600_samples_or_more(rt: HostRuntime) -> Result<(), Fail> {
+    let alloc = rt.alloc();
+    assert!(rt; Recording::new(silent(alloc, 57_599)?).is_none());
+    assert!(rt; Recording::new(silent(alloc, 57_600)?).is_some());
+    Ok(())
+}
+
+#[test]
+fn a_read_that_fails_is_told(rt: HostRuntime) -> Result<(), Fail> {
+    let alloc = rt.alloc();
+    let fails = [2u64].to_vec(alloc)?;
+    assert!(rt; refusal_with_faults(alloc, 230_400, fails)? == Some(FileError::ReadFault));
+    assert!(rt; refusal_with_faults(alloc, 230_400, Vec::new(alloc))? == None);
+    Ok(())
+}
+
+#[test]
+fn an_input_of_another_length_is_refused(rt: HostRuntime) -> Result<(), Fail> {
+    let alloc = rt.alloc();
+    for (form, count, refused) in [
+        (SampleForm::Ci16, 0, Some(FileError::TooShort)),
+        (SampleForm::Ci16, 230_396, Some(FileError::TooShort)),
+        (SampleForm::Ci16, 230_399, Some(FileError::Ragged)),
+        (SampleForm::Ci16, 7_680_000, None),
+        (SampleForm::Ci16, 7_680_001, Some(FileError::TooLong)),
+        (SampleForm::Cu8, 115_198, Some(FileError::TooShort)),
+        (SampleForm::Cu8, 115_201, Some(FileError::Ragged)),
+        (SampleForm::Cu8, 115_200, None),
+        (SampleForm::Cu8, 3_840_000, None),
+        (SampleForm::Cu8, 3_840_001, Some(FileError::TooLong)),
+    ] {
+        assert!(rt; refusal(alloc, form, count)? == refused);
+    }
+    Ok(())
+}

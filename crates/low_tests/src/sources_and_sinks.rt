@@ -1,0 +1,215 @@
+// What the sources and sinks do in a few calls, and a source read and a piece written to the end.
+ghost use Rattle.std.specs.Prelude.{◌<◌};
+
+use cs_outside::{
+    FailSink, FailSource, Failed, MemSink, MemSource, ReadError, Sink, Source, StdSink, StdSource,
+    read_to_end, write_whole,
+};
+use std::alloc::{AllocError, Global};
+use std::io;
+use std::io::{ErrorKind, Read, Write};
+use std::test::Fail;
+
+// The bytes of "hello" come two a call, but for the second call, which fails.
+fn gives_hello_but_at_the_second_call(source: &mut FailSource) -> bool {
+    let mut into = [0u8; 4];
+    source.read(&mut into) == Ok(2)
+        && into == *b"he\0\0"
+        && source.read(&mut into) == Err(Failed)
+        && source.read(&mut into) == Ok(2)
+        && into == *b"ll\0\0"
+        && source.read(&mut into) == Ok(1)
+        && source.read(&mut into) == Ok(0)
+}
+
+#[test]
+fn listed_calls_of_a_source_fail(rt: HostRuntime) -> Result<(), Fail> {
+    let alloc = rt.alloc();
+    let bytes = b"hello".to_vec(alloc)?;
+    let mut source = FailSource::new(bytes, [1u64].to_vec(alloc)?, 2);
+    assert!(rt; gives_hello_but_at_the_second_call(&mut source));
+    Ok(())
+}
+
+// Three bytes are taken, none at the second call, two, and no more.
+fn takes_hello_but_at_the_second_call(sink: &mut FailSink) -> bool {
+    sink.write(b"hello") == Ok(3)
+        && sink.write(b"lo") == Err(Failed)
+        && sink.write(b"lo!") == Ok(2)
+        && sink.write(b"!") == Err(Failed)
+        && sink.taken() == b"hello".as_slice()
+}
+
+#[test]
+fn listed_calls_of_a_sink_fail_and_so_does_a_full_one(rt: HostRuntime) -> Result<(), Fail> {
+    let alloc = rt.alloc();
+    let mut sink = FailSink::new(alloc, [1u64].to_vec(alloc)?, 3, 5)?;
+    assert!(rt; takes_hello_but_at_the_second_call(&mut sink));
+    Ok(())
+}
+
+#[test]
+fn a_source_is_read_to_its_end(rt: HostRuntime) -> Result<(), Fail> {
+    let alloc = rt.alloc();
+    let mut source = MemSource::new(b"twelve bytes".to_vec(alloc)?);
+    let read = read_to_end(alloc, &mut source, 12).ok().ok_or("refused")?;
+    assert!(rt; read.as_slice() == b"twelve bytes".as_slice());
+    Ok(())
+}
+
+#[test]
+fn a_source_is_read_no_further_than_one_byte_past_the_limit(rt: HostRuntime) -> Result<(), Fail> {
+    let alloc = rt.alloc();
+    let mut source = MemSource::new(b"thirteen byte".to_vec(alloc)?);
+    assert!(rt; read_to_end(alloc, &mut source, 11).err() == Some(ReadError::TooLong));
+    let mut into = [0u8; 4];
+    assert!(rt; source.read(&mut into) == Ok(1));
+    Ok(())
+}
+
+#[test]
+fn a_fault_ends_the_reading(rt: HostRuntime) -> Result<(), Fail> {
+    let alloc = rt.alloc();
+    let bytes = b"twelve bytes".to_vec(alloc)?;
+    let mut source = FailSource::new(bytes, [2u64].to_vec(alloc)?, 3);
+    assert!(rt; read_to_end(alloc, &mut source, 12).err() == Some(ReadError::ReadFault));
+    Ok(())
+}
+
+// Eight bytes are taken of eleven.
+fn takes_eight_bytes(sink: &mut MemSink) -> bool {
+    write_whole(sink, b"hello") == Ok(())
+        && write_whole(sink, b" world") == Err(Failed)
+        && sink.taken() == b"hello wo".as_slice()
+}
+
+#[test]
+fn a_piece_is_written_as_far_as_there_is_room(rt: HostRuntime) -> Result<(), Fail> {
+    let mut sink = MemSink::new(rt.alloc(), 8)?;
+    assert!(rt; takes_eight_bytes(&mut sink));
+    Ok(())
+}
+
+// Whether eleven bytes are written where one call fails, and each takes at most so many.
+fn are_written(alloc: Global, fails: u64, most: usize) -> Result<bool, AllocError>
+    requires { 0 < most }
+{
+    let mut sink = FailSink::new(alloc, [fails].to_vec(alloc)?, most, 16)?;
+    let written = write_whole(&mut sink, b"hello world");
+    Ok(written == Ok(()) && sink.taken() == b"hello world".as_slice())
+}
+
+#[test]
+fn each_write_is_given_all_that_is_left_of_its_piece(rt: HostRuntime) -> Result<(), Fail> {
+    let alloc = rt.alloc();
+    // The second call fails, so the first has to be given the whole piece.
+    assert!(rt; are_written(alloc, 1, 16)?);
+    // Of eleven bytes each call takes five at most, so the fourth is not made.
+    assert!(rt; are_written(alloc, 3, 5)?);
+    Ok(())
+}
+
+// A reader and a writer of which each call fails, and a writer that takes nothing.
+#[derive(Drop)]
+struct Broken;
+
+impl Read for Broken {
+    fn read(&mut self, _into: &mut [u8]) -> io::Result<usize> {
+        Err(io::Error::from(ErrorKind::BrokenPipe))
+    }
+}
+
+impl Write for Broken {
+    fn write(&mut self, _piece: &[u8]) -> io::Result<usize> {
+        Err(io::Error::from(ErrorKind::BrokenPipe))
+    }
+
+    fn flush(&mut self) -> io::Result<()> {
+        Ok(())
+    }
+}
+
+#[derive(Drop)]
+struct Stuck;
+
+impl Write for Stuck {
+    fn write(&mut self, _piece: &[u8]) -> io::Result<usize> {
+        Ok(0)
+    }
+
+    fn flush(&mut self) -> io::Result<()> {
+        Ok(())
+    }
+}
+
+// A reader and a writer whose first call fails, and the later ones do not.
+#[derive(Drop)]
+struct FailsOnce {
+    failed: bool,
+}
+
+impl Read for FailsOnce {
+    fn read(&mut self, _into: &mut [u8]) -> io::Result<usize> {
+        if self.failed {
+            return Ok(0);
+        }
+        self.failed = true;
+        Err(io::Error::from(ErrorKind::BrokenPipe))
+    }
+}
+
+impl Write for FailsOnce {
+    fn write(&mut self, piece: &[u8]) -> io::Result<usize> {
+        if self.failed {
+            return Ok(piece.len());
+        }
+        self.failed = true;
+        Err(io::Error::from(ErrorKind::BrokenPipe))
+    }
+
+    fn flush(&mut self) -> io::Result<()> {
+        Ok(())
+    }
+}
+
+// The first read fails, and the next one tells the end.
+fn fails_at_the_first_read(source: &mut StdSource<FailsOnce>) -> bool {
+    let mut into = [0u8; 4];
+    source.read(&mut into) == Err(Failed) && source.read(&mut into) == Ok(0)
+}
+
+// The first write fails, and the next one takes all.
+fn fails_at_the_first_write(sink: &mut StdSink<FailsOnce>) -> bool {
+    sink.write(b"hello") == Err(Failed) && sink.write(b"hello") == Ok(5)
+}
+
+#[test]
+fn a_call_of_std_that_fails_is_not_made_again(rt: HostRuntime) {
+    assert!(rt; fails_at_the_first_read(&mut StdSource::new(FailsOnce { failed: false })));
+    assert!(rt; fails_at_the_first_write(&mut StdSink::new(FailsOnce { failed: false })));
+}
+
+// The bytes of "hello" come, four at the first call.
+fn gives_hello(source: &mut StdSource<&[u8]>) -> bool {
+    let mut into = [0u8; 4];
+    source.read(&mut into) == Ok(4)
+        && into == *b"hell"
+        && source.read(&mut into) == Ok(1)
+        && source.read(&mut into) == Ok(0)
+}
+
+#[test]
+fn a_reader_of_std_is_a_source(rt: HostRuntime) {
+    let mut into = [0u8; 4];
+    assert!(rt; gives_hello(&mut StdSource::new(b"hello".as_slice())));
+    assert!(rt; StdSource::new(Broken).read(&mut into) == Err(Failed));
+}
+
+#[test]
+fn a_writer_of_std_is_a_sink(rt: HostRuntime) {
+    let mut written = Vec::new(rt.alloc());
+    assert!(rt; StdSink::new(&mut written).write(b"hello") == Ok(5));
+    assert!(rt; written.as_slice() == b"hello".as_slice());
+    assert!(rt; StdSink::new(Broken).write(b"hello") == Err(Failed));
+    assert!(rt; StdSink::new(Stuck).write(b"hello") == Err(Failed));
+}

@@ -1,0 +1,15 @@
+//! Tests of what is sent, of its descriptions, and of the texts of a list.
+#![tactic(auto)]
+
+#[cfg(test)]
+mod descriptions;
+#[cfg(test)]
+mod examples;
+#[cfg(test)]
+mod made_recordings;
+#[cfg(test)]
+mod texts;
+#[cfg(test)]
+mod transmissions;
+#[cfg(test)]
+mod two_antenna_ports;

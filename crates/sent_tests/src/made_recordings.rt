@@ -1,0 +1,63 @@
+// The numbers are those of a second program, `scripts/second_make.py`; the first words of the generator those of PCG's
+// reference code.
+use crate::examples::{Summary, is_summed_up};
+use capture_make::{made_is_clean, make};
+use rand_core::utils::NextWord;
+use rand_pcg::Lcg64Xsh32;
+use std::alloc::{AllocError, Global};
+use std::test::Fail;
+
+#[test]
+fn the_generator_gives_the_reference_words(rt: HostRuntime) {
+    let mut words = Lcg64Xsh32::new(42, 54);
+    for word in [
+        0xa15c_02b7,
+        0x7b47_f409,
+        0xba1d_3330,
+        0x83d2_f293,
+        0xbfa4_784b,
+        0xcbed_606e,
+    ] {
+        assert!(rt; words.next_word() == word);
+    }
+}
+
+// Whether the recording of a number has this bound of its errors and this summary.
+fn is_made(alloc: Global, n: u32, bound: i16, summary: &Summary) -> Result<bool, AllocError> {
+    let made = make(alloc, n)?;
+    Ok(made.bound == bound && is_summed_up(&made.recording, summary))
+}
+
+#[test]
+fn the_first_recording(rt: HostRuntime) -> Result<(), Fail> {
+    made_is_clean();
+    let summary = Summary {
+        count: 192_000,
+        front: [(-99, 130), (8, 49), (-8, -20), (-79, 6)],
+        sums: [-18_788, 17_625, -9_972_807, 11_997_076],
+    };
+    assert!(rt; is_made(rt.alloc(), 0, 2, &summary)?);
+    Ok(())
+}
+
+#[test]
+fn a_recording_of_17_frames(rt: HostRuntime) -> Result<(), Fail> {
+    let summary = Summary {
+        count: 326_400,
+        front: [(253, -569), (1269, -23), (812, 476), (-181, 203)],
+        sums: [192_959, -37_286, 50_607_859, 12_638_627],
+    };
+    assert!(rt; is_made(rt.alloc(), 7, 21, &summary)?);
+    Ok(())
+}
+
+#[test]
+fn a_recording_of_a_large_number(rt: HostRuntime) -> Result<(), Fail> {
+    let summary = Summary {
+        count: 211_200,
+        front: [(9, -15), (9, -13), (-5, -5), (-7, 3)],
+        sums: [76_653, -104_939, 63_929_638, -82_101_710],
+    };
+    assert!(rt; is_made(rt.alloc(), 4_294_967_221, 16, &summary)?);
+    Ok(())
+}

@@ -1,7 +1,0 @@
-use Rattle.std.proofs.Common.{◌^◌}
-use Rattle.std.proofs.lemmas.List.Elements.{All-replicate}
-use Rattle.cs_num.specs.Complex.{IsWithin}
-use Rattle.soft_bits.proofs.tests.level.Goals as goal
-
-pub returns : goal.returns
-returns c = All-replicate (IsWithin (2 ^ 25)) 72 c.args.value c.requires

@@ -1,6 +1,0 @@
-use Rattle.std.proofs.Common.{[], arith}
-use Rattle.std.proofs.lemmas.List.{get_or_default}
-use Rattle.tail_cert.proofs.tests.values_from.Goals as goal
-
-pub returns : goal.returns
-returns c = λ k d inside. rw (get_or_default _ k d [] inside) (c.loop-k.invariant.1 k (omega (arith, c.loop-k.invariant.0, inside)))

@@ -1,6 +1,0 @@
-use Rattle.std.proofs.Common.{◌^◌}
-use Rattle.finite.specs.Sizes.{RowsWithin}
-use Rattle.tailbite.proofs.tests.values_of.Given as goal
-
-abbrev pub invariant-loop-k : goal.invariant-loop-k
-invariant-loop-k g l = RowsWithin (2 ^ 20) l.values
