@@ -11,6 +11,7 @@ use Rattle.sizes.proofs.Cauchy.{energy_same, energy_split, correlation_same, cor
 use Rattle.fold128.specs.Symbol.{useful_at}
 use Rattle.pss_search.specs.Correlation.{pss_grid, wave, wave_power, peak, energy}
 use Rattle.pss_search.specs.Hits.{IsAbove, IsLevel, IsHit, found}
+use Rattle.pss_search.proofs.Symmetry.{power_high}
 use Rattle.pss_search.proofs.Listed.{list_is_right}
 use Rattle.budget.specs.Received.{IsReceived, samples_from}
 use Rattle.budget.specs.Peak.{PrimaryStandsOut, PrimaryIsHit, PrimaryIsListed, OnlyHitNear, IsPrimaryAt}
@@ -231,10 +232,6 @@ faint_is_no_hit c e w power some low clear =
   where
     step : (e v w : ℕ) → v + 1 ≡ w → v * e + e ≡ w * e
     step e v w h = let same : (v + 1) * e ≡ w * e = ap (λ (n : ℕ). n * e) h in omega (arith, same)
-
-power_high : (n2 : ℕ) → n2 ≤ 2 → 1990000 ≤ wave_power n2
-unfolding wave_power
-power_high n2 root = (wave_is_sharp n2 root).power
 
 same_place : (recording : List Sample) (t u n2 : ℕ) → IsPrimaryAt recording t n2 → u ≤ t + 9 → t ≤ u + 9 → IsHit recording u n2 → u ≡ t
 same_place recording t u n2 primary a b hit = elim (same_or_not u t) [

@@ -14,7 +14,7 @@ mod qpsk;
 
 use cs_num::Cpx;
 use lte_types::CellId;
-pub use pattern::Pattern;
+pub use pattern::{Pattern, patterns};
 pub use qpsk::point;
 
 // c_init of the sequence for a slot and a symbol of it.
@@ -129,6 +129,3 @@ pub fn reference_places_of_two()
     ensures apart { (identity symbol k : ℕ) →
         IsTrue (is_reference identity symbol k) → ¬ IsTrue (is_second_reference identity symbol k) }
 {}
-
-#[cfg(test)]
-mod tests;

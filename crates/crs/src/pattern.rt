@@ -1,7 +1,10 @@
 //! What reference signals differ in, by antenna port and cyclic prefix.
 
+ghost use Rattle.std.specs.Prelude.{◌≡◌, [], ◌∷◌};
+ghost use Rattle.crs.specs.Reference.{port_0, port_1, long_prefix};
+
 /// What the reference signals of an antenna port with a cyclic prefix differ in (TS 36.211 section 6.10.1).
-#[derive(Clone, Copy, Debug, PartialEq, Eq)]
+#[derive(Clone, Copy, PartialEq, Eq)]
 pub struct Pattern {
     /// The second symbol of a slot that has them: 4, and 3 with the extended prefix.
     pub later: u8,
@@ -32,4 +35,16 @@ impl Pattern {
         shift: 0,
         prefix: 0,
     };
+}
+
+/// The patterns in use: those of port 0 and of port 1 with the normal prefix, and that of port 0 with the extended
+/// one.
+pub fn patterns() -> [Pattern; 3]
+    ensures { result ≡ port_0 ∷ port_1 ∷ long_prefix ∷ [] }
+{
+    [
+        Pattern::FIRST_PORT,
+        Pattern::SECOND_PORT,
+        Pattern::LONG_PREFIX,
+    ]
 }

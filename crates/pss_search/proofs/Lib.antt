@@ -4,6 +4,7 @@ pub mod Folding
 pub mod Dots
 pub mod Filling
 pub mod Waves
+pub mod Peaks
 pub mod Window
 pub mod Sparse
 pub mod Room

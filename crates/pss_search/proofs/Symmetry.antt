@@ -121,6 +121,13 @@ power_is (suc zero) known = second_power ∙ power_tabled 1 known
 power_is (suc (suc zero)) known = third_power ∙ power_tabled 2 known
 power_is (suc (suc (suc n2))) known = absurd (omega (arith, known))
 
+-- none is much below the first
+pub power_high : (n2 : ℕ) → n2 ≤ 2 → 1990000 ≤ wave_power n2
+power_high zero known = let e : 1996394 ≡ wave_power 0 = power_is 0 (omega arith) in omega (arith, e)
+power_high (suc zero) known = let e : 2001625 ≡ wave_power 1 = power_is 1 (omega arith) in omega (arith, e)
+power_high (suc (suc zero)) known = let e : 2001665 ≡ wave_power 2 = power_is 2 (omega arith) in omega (arith, e)
+power_high (suc (suc (suc n2))) known = absurd (omega (arith, known))
+
 -- none is silent, and none is above the third
 pub power_range : (n2 : ℕ) → n2 < 3 → (0 < wave_power n2) × (wave_power n2 ≤ 2001665)
 power_range zero known = let e : 1996394 ≡ wave_power 0 = power_is 0 known in (omega (arith, e), omega (arith, e))

@@ -7,8 +7,6 @@ mod list;
 mod measure;
 mod recent;
 mod signals;
-#[cfg(test)]
-mod tests;
 
 ghost use Rattle.pss_search.specs.Laws.{TestIsRight, ListIsRight, ListIsInOrder, ListIsShort};
 

@@ -97,12 +97,12 @@ impl Root {
     }
 }
 
-/// The sum of the squares of the sizes of the 128 samples of a signal, by its identity within the group, 0 to 2. It
-/// is not 0, and at most 2,001,665. (own)
+/// The sum of the squares of the sizes of the 128 samples of a signal, by its identity within the group, 0 to 2: at
+/// least 1,990,000, and at most 2,001,665. (own)
 pub fn signal_power(n2: u8) -> u64
     requires { n2 ≤ 2 }
     ensures value { result ≡ wave_power n2 }
-    ensures some { 0 < result }
+    ensures least { 1990000 ≤ result }
     ensures few { result ≤ 2001665 }
 {
     POWERS[n2 as usize]
