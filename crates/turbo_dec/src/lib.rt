@@ -13,6 +13,3 @@ pub use constituent::half;
 pub use iterations::{Block, decode};
 pub use laws::{greatest_scores, orders_undo_each_other};
 pub use work::Work;
-
-#[cfg(test)]
-mod tests;

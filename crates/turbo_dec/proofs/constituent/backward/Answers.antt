@@ -6,6 +6,33 @@ use Rattle.turbo_dec.proofs.Small.{all_small}
 use Rattle.turbo_dec.proofs.Back.{back_all, back_step, forward_row_of}
 use Rattle.turbo_dec.proofs.constituent.backward.Goals as goal
 
+pub least_through-zeros-requires-clause-before : goal.least_through-zeros-requires-clause-before
+least_through-zeros-requires-clause-before c = λ y below.
+    let h = (c.requires.rows.row (c.loop-k.k - 1) (omega (arith, c.loop-k.invariant.place))).room y below in
+    omega (arith, h, c.loop-k.invariant.place, c.args.received.now.places)
+
+pub least_through-zeros-requires-clause-after : goal.least_through-zeros-requires-clause-after
+least_through-zeros-requires-clause-after c = λ y below.
+    let h = c.loop-k.invariant.room y below in
+    omega (arith, h, c.loop-k.invariant.place, c.args.received.now.places)
+
+pub least_through-ones-requires-clause-before : goal.least_through-ones-requires-clause-before
+least_through-ones-requires-clause-before c = λ y below.
+    let h = (c.requires.rows.row (c.loop-k.k - 1) (omega (arith, c.loop-k.invariant.place))).room y below in
+    omega (arith, h, c.loop-k.invariant.place, c.args.received.now.places)
+
+pub least_through-ones-requires-clause-after : goal.least_through-ones-requires-clause-after
+least_through-ones-requires-clause-after c = λ y below.
+    let h = c.loop-k.invariant.room y below in
+    omega (arith, h, c.loop-k.invariant.place, c.args.received.now.places)
+
+pub backward_row-row-requires : goal.backward_row-row-requires
+backward_row-row-requires c = record {
+  room = λ y below.
+      let h = c.loop-k.invariant.room y below in
+      omega (arith, h, c.loop-k.invariant.place, c.args.received.now.places);
+}
+
 pub extrinsic_of-requires-clause-zeros : goal.extrinsic_of-requires-clause-zeros
 extrinsic_of-requires-clause-zeros c =
     let h = c.least_through-zeros.ensures.bound in
