@@ -17,8 +17,11 @@ use Rattle.lte_types.specs.declared.plmn.Plmn.{Plmn}
 use Rattle.lte_types.specs.declared.si_message.SiMessage.{SiMessage}
 use Rattle.lte_types.specs.declared.sib1.Sib1.{Sib1}
 use Rattle.lte_types.specs.Ranges.{AreDigits, HasDigits, IsValidPlmn, IsValidMessage, FirstHasMcc, IsValid}
+use Rattle.cell_json.specs.declared.information.Access.{Access}
+use Rattle.cell_json.specs.declared.information.Selection.{Selection}
+use Rattle.cell_json.specs.declared.information.Timetable.{Timetable}
 use Rattle.cell_json.specs.Kinds.{given, whole_of, is_between, whole_within, natural_within, null_or, each, items_within, list_within, at_key}
-use Rattle.cell_json.specs.Information.{digit_of, two_digits, three_digits, mcc_of, mnc_in, mnc_of, network_of, first_has_mcc, networks_of, code_in, periods, windows, message_of, sib1_of}
+use Rattle.cell_json.specs.Information.{digit_of, two_digits, three_digits, mcc_of, mnc_in, mnc_of, network_of, first_has_mcc, networks_of, code_in, periods, windows, message_of, access_of, selection_of, timetable_of, sib1_of}
 
 -- ---- kinds
 
@@ -175,43 +178,82 @@ below_power : (o : Option ℕ) → IfSome o (λ n. (0 ≤ n) × (n ≤ 134217727
 below_power None h = tt
 below_power (Some n) h = omega (arith, h.1)
 
-pub read_is_valid : (json : Data) (s : Sib1) → sib1_of json ≡ Some s → IsValid s
-unfolding sib1_of
-read_is_valid json s r = option_and_then_some _ (at_key networks_of (codes "plmns") json) s r (λ plmns e1 r1.
-    option_and_then_some _ (at_key (natural_within 0 65535) (codes "tac") json) s r1 (λ tac e2 r2.
-    option_and_then_some _ (at_key (natural_within 0 268435455) (codes "cell") json) s r2 (λ cell e3 r3.
-    option_and_then_some _ (at_key as_bool (codes "barred") json) s r3 (λ barred e4 r4.
-    option_and_then_some _ (at_key as_bool (codes "intra") json) s r4 (λ intra e5 r5.
-    option_and_then_some _ (at_key as_bool (codes "csg") json) s r5 (λ csg e6 r6.
-    option_and_then_some _ (at_key (null_or (natural_within 0 134217727)) (codes "csg_identity") json) s r6 (λ csg_identity e7 r7.
-    option_and_then_some _ (at_key (whole_within (negsuc 69) (negsuc 21)) (codes "q_rx") json) s r7 (λ q_rx e8 r8.
-    option_and_then_some _ (at_key (null_or (natural_within 1 8)) (codes "q_offset") json) s r8 (λ q_offset e9 r9.
-    option_and_then_some _ (at_key (null_or (whole_within (negsuc 29) (pos 33))) (codes "p_max") json) s r9 (λ p_max e10 r10.
-    option_and_then_some _ (at_key (natural_within 1 64) (codes "band") json) s r10 (λ band e11 r11.
-    option_and_then_some _ (at_key (list_within 1 32 message_of) (codes "scheduling") json) s r11 (λ scheduling e12 r12.
-    option_and_then_some _ (at_key (code_in windows) (codes "window") json) s r12 (λ window e13 r13.
-    option_and_then_some _ (at_key (natural_within 0 31) (codes "tag") json) s r13 (λ tag e14 r14.
-    let nets = at AreNetworks networks_of networks (codes "plmns") json plmns e1 in
-    let entries = at (IsListOf IsValidMessage 1 32) (list_within 1 32 message_of) (lists IsValidMessage message_of messages 1 32) (codes "scheduling") json scheduling e12 in
-    let cells = some_within 0 268435455 (codes "cell") json cell e3 in
+record IsAccess (access : Access) : Type 0 where
+  pub networks : AreNetworks access.plmns
+  pub cell : access.cell ≤ 268435455
+  pub group : IfSome access.csg_identity (λ n. n < 2 ^ 27)
+
+accesses : (json : Data) (access : Access) → access_of json ≡ Some access → IsAccess access
+accesses json access r = option_and_then_some _ (at_key networks_of (codes "plmns") json) access r (λ plmns e1 r1.
+    option_and_then_some _ (at_key (natural_within 0 65535) (codes "tac") json) access r1 (λ tac e2 r2.
+    option_and_then_some _ (at_key (natural_within 0 268435455) (codes "cell") json) access r2 (λ cell e3 r3.
+    option_and_then_some _ (at_key as_bool (codes "barred") json) access r3 (λ barred e4 r4.
+    option_and_then_some _ (at_key as_bool (codes "intra") json) access r4 (λ intra e5 r5.
+    option_and_then_some _ (at_key as_bool (codes "csg") json) access r5 (λ csg e6 r6.
+    option_and_then_some _ (at_key (null_or (natural_within 0 134217727)) (codes "csg_identity") json) access r6 (λ csg_identity e7 r7.
     let groups = at (λ o. IfSome o (λ n. (0 ≤ n) × (n ≤ 134217727))) (null_or (natural_within 0 134217727))
     (or_null (λ n. (0 ≤ n) × (n ≤ 134217727)) (natural_within 0 134217727) (naturals 0 134217727)) (codes "csg_identity") json csg_identity e7 in
-    let window_below : window < 7 = at (λ n. n < 7) (code_in windows) (coded windows) (codes "window") json window e13 in
-    let tags = some_within 0 31 (codes "tag") json tag e14 in
-    subst IsValid (same_Some _ s r14) (record {
-      plmn_count = nets.list.count;
-      plmns = nets.list.all;
-      first_mcc = nets.first;
-      cell = omega (arith, cells.1);
-      csg_identity = below_power csg_identity groups;
-      q_rx = at (λ z. (negsuc 69 ≤ℤ z) × (z ≤ℤ negsuc 21)) (whole_within (negsuc 69) (negsuc 21)) (wholes (negsuc 69) (negsuc 21)) (codes "q_rx") json q_rx e8;
-      q_offset = at (λ o. IfSome o (λ n. (1 ≤ n) × (n ≤ 8))) (null_or (natural_within 1 8)) (or_null (λ n. (1 ≤ n) × (n ≤ 8)) (natural_within 1 8) (naturals 1 8)) (codes "q_offset") json q_offset e9;
+    subst IsAccess (same_Some _ access r7) (record {
+      networks = at AreNetworks networks_of networks (codes "plmns") json plmns e1;
+      cell = (some_within 0 268435455 (codes "cell") json cell e3).1;
+      group = below_power csg_identity groups;
+    }))))))))
+
+record IsSelection (selection : Selection) : Type 0 where
+  pub q_rx : (negsuc 69 ≤ℤ selection.q_rx) × (selection.q_rx ≤ℤ negsuc 21)
+  pub q_offset : IfSome selection.q_offset (λ n. (1 ≤ n) × (n ≤ 8))
+  pub p_max : IfSome selection.p_max (λ z. (negsuc 29 ≤ℤ z) × (z ≤ℤ pos 33))
+  pub band : (1 ≤ selection.band) × (selection.band ≤ 64)
+
+selections : (json : Data) (selection : Selection) → selection_of json ≡ Some selection → IsSelection selection
+selections json selection r = option_and_then_some _ (at_key (whole_within (negsuc 69) (negsuc 21)) (codes "q_rx") json) selection r (λ q_rx e1 r1.
+    option_and_then_some _ (at_key (null_or (natural_within 1 8)) (codes "q_offset") json) selection r1 (λ q_offset e2 r2.
+    option_and_then_some _ (at_key (null_or (whole_within (negsuc 29) (pos 33))) (codes "p_max") json) selection r2 (λ p_max e3 r3.
+    option_and_then_some _ (at_key (natural_within 1 64) (codes "band") json) selection r3 (λ band e4 r4.
+    subst IsSelection (same_Some _ selection r4) (record {
+      q_rx = at (λ z. (negsuc 69 ≤ℤ z) × (z ≤ℤ negsuc 21)) (whole_within (negsuc 69) (negsuc 21)) (wholes (negsuc 69) (negsuc 21)) (codes "q_rx") json q_rx e1;
+      q_offset = at (λ o. IfSome o (λ n. (1 ≤ n) × (n ≤ 8))) (null_or (natural_within 1 8)) (or_null (λ n. (1 ≤ n) × (n ≤ 8)) (natural_within 1 8) (naturals 1 8)) (codes "q_offset") json q_offset e2;
       p_max = at (λ o. IfSome o (λ z. (negsuc 29 ≤ℤ z) × (z ≤ℤ pos 33))) (null_or (whole_within (negsuc 29) (pos 33)))
-          (or_null (λ z. (negsuc 29 ≤ℤ z) × (z ≤ℤ pos 33)) (whole_within (negsuc 29) (pos 33)) (wholes (negsuc 29) (pos 33))) (codes "p_max") json p_max e10;
-      band = some_within 1 64 (codes "band") json band e11;
-      entry_count = entries.count;
-      entries = entries.all;
+          (or_null (λ z. (negsuc 29 ≤ℤ z) × (z ≤ℤ pos 33)) (whole_within (negsuc 29) (pos 33)) (wholes (negsuc 29) (pos 33))) (codes "p_max") json p_max e3;
+      band = some_within 1 64 (codes "band") json band e4;
+    })))))
+
+record IsTimetable (timetable : Timetable) : Type 0 where
+  pub entries : IsListOf IsValidMessage 1 32 timetable.scheduling
+  pub window : timetable.window < 7
+  pub tag : timetable.tag ≤ 31
+
+timetables : (json : Data) (timetable : Timetable) → timetable_of json ≡ Some timetable → IsTimetable timetable
+timetables json timetable r = option_and_then_some _ (at_key (list_within 1 32 message_of) (codes "scheduling") json) timetable r (λ scheduling e1 r1.
+    option_and_then_some _ (at_key (code_in windows) (codes "window") json) timetable r1 (λ window e2 r2.
+    option_and_then_some _ (at_key (natural_within 0 31) (codes "tag") json) timetable r2 (λ tag e3 r3.
+    subst IsTimetable (same_Some _ timetable r3) (record {
+      entries = at (IsListOf IsValidMessage 1 32) (list_within 1 32 message_of) (lists IsValidMessage message_of messages 1 32) (codes "scheduling") json scheduling e1;
+      window = at (λ n. n < 7) (code_in windows) (coded windows) (codes "window") json window e2;
+      tag = (some_within 0 31 (codes "tag") json tag e3).1;
+    }))))
+
+pub read_is_valid : (json : Data) (s : Sib1) → sib1_of json ≡ Some s → IsValid s
+unfolding sib1_of
+read_is_valid json s r = option_and_then_some _ (access_of json) s r (λ access e1 r1.
+    option_and_then_some _ (selection_of json) s r1 (λ selection e2 r2.
+    option_and_then_some _ (timetable_of json) s r2 (λ timetable e3 r3.
+    let who = accesses json access e1 in
+    let levels = selections json selection e2 in
+    let times = timetables json timetable e3 in
+    subst IsValid (same_Some _ s r3) (record {
+      plmn_count = who.networks.list.count;
+      plmns = who.networks.list.all;
+      first_mcc = who.networks.first;
+      cell = omega (arith, who.cell);
+      csg_identity = who.group;
+      q_rx = levels.q_rx;
+      q_offset = levels.q_offset;
+      p_max = levels.p_max;
+      band = levels.band;
+      entry_count = times.entries.count;
+      entries = times.entries.all;
       tdd = tt;
-      window = omega (arith, window_below);
-      tag = tags.1;
-    })))))))))))))))
+      window = omega (arith, times.window);
+      tag = times.tag;
+    }))))

@@ -9,6 +9,9 @@ use Rattle.lte_types.specs.declared.mnc.Mnc.TheVariants.{Two, Three}
 use Rattle.lte_types.specs.declared.plmn.Plmn.{Plmn}
 use Rattle.lte_types.specs.declared.si_message.SiMessage.{SiMessage}
 use Rattle.lte_types.specs.declared.sib1.Sib1.{Sib1}
+use Rattle.cell_json.specs.declared.information.Access.{Access}
+use Rattle.cell_json.specs.declared.information.Selection.{Selection}
+use Rattle.cell_json.specs.declared.information.Timetable.{Timetable}
 use Rattle.cell_json.specs.Kinds.{◌>>=◌, given, whole_of, whole_within, natural_within, null_or, list_within, at_key}
 
 -- ---- identities of networks
@@ -85,8 +88,9 @@ message_of json = do
 
 -- ---- the block; a description has no TDD-Config and no extension
 
-unfoldable pub sib1_of : Data → Option Sib1
-sib1_of json = do
+-- who may use the cell
+abbrev pub access_of : Data → Option Access
+access_of json = do
   plmns ← at_key networks_of (codes "plmns") json
   tac ← at_key (natural_within 0 65535) (codes "tac") json
   cell ← at_key (natural_within 0 268435455) (codes "cell") json
@@ -94,28 +98,48 @@ sib1_of json = do
   intra ← at_key as_bool (codes "intra") json
   csg ← at_key as_bool (codes "csg") json
   csg_identity ← at_key (null_or (natural_within 0 134217727)) (codes "csg_identity") json
+  Some (record { plmns = plmns; tac = tac; cell = cell; barred = barred; intra = intra; csg = csg; csg_identity = csg_identity })
+
+-- its levels and its band
+abbrev pub selection_of : Data → Option Selection
+selection_of json = do
   q_rx ← at_key (whole_within (negsuc 69) (negsuc 21)) (codes "q_rx") json
   q_offset ← at_key (null_or (natural_within 1 8)) (codes "q_offset") json
   p_max ← at_key (null_or (whole_within (negsuc 29) (pos 33))) (codes "p_max") json
   band ← at_key (natural_within 1 64) (codes "band") json
+  Some (record { q_rx = q_rx; q_offset = q_offset; p_max = p_max; band = band })
+
+-- its schedule
+abbrev pub timetable_of : Data → Option Timetable
+timetable_of json = do
   scheduling ← at_key (list_within 1 32 message_of) (codes "scheduling") json
   window ← at_key (code_in windows) (codes "window") json
   tag ← at_key (natural_within 0 31) (codes "tag") json
-  Some (record {
-    plmns = plmns;
-    tac = tac;
-    cell = cell;
-    barred = barred;
-    intra = intra;
-    csg = csg;
-    csg_identity = csg_identity;
-    q_rx = q_rx;
-    q_offset = q_offset;
-    p_max = p_max;
-    band = band;
-    scheduling = scheduling;
-    tdd = None;
-    window = window;
-    tag = tag;
-    extended = false;
-  })
+  Some (record { scheduling = scheduling; window = window; tag = tag })
+
+abbrev pub block_of : Access → Selection → Timetable → Sib1
+block_of access selection timetable = record {
+  plmns = access.plmns;
+  tac = access.tac;
+  cell = access.cell;
+  barred = access.barred;
+  intra = access.intra;
+  csg = access.csg;
+  csg_identity = access.csg_identity;
+  q_rx = selection.q_rx;
+  q_offset = selection.q_offset;
+  p_max = selection.p_max;
+  band = selection.band;
+  scheduling = timetable.scheduling;
+  tdd = None;
+  window = timetable.window;
+  tag = timetable.tag;
+  extended = false;
+}
+
+unfoldable pub sib1_of : Data → Option Sib1
+sib1_of json = do
+  access ← access_of json
+  selection ← selection_of json
+  timetable ← timetable_of json
+  Some (block_of access selection timetable)

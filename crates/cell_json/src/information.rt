@@ -5,7 +5,7 @@ ghost use Rattle.serde_json.specs.View.{view, items_view};
 ghost use Rattle.lte_types.specs.Ranges.{AreDigits, HasDigits, IsValidPlmn, IsValidMessage, FirstHasMcc, IsValid};
 ghost use Rattle.cell_json.specs.Kinds.{natural_within as natural_of, whole_within as whole_of, null_or, each, list_within, at_key};
 ghost use Rattle.cell_json.specs.Information.{mcc_of, mnc_in, mnc_of as network_code_of, network_of, networks_of, code_in, periods, windows};
-ghost use Rattle.cell_json.specs.Information.{digit_of as digit_in, two_digits as two_in, three_digits as three_in, message_of as entry_of, first_has_mcc as first_of, sib1_of as block_of};
+ghost use Rattle.cell_json.specs.Information.{digit_of as digit_in, two_digits as two_in, three_digits as three_in, message_of as entry_of, first_has_mcc as first_of, access_of as access_in, selection_of as selection_in, timetable_of as timetable_in, sib1_of as block_of};
 
 use crate::kinds::{
     items_within, natural_at, natural_or_null_at, natural_within, small_within, truth,
@@ -214,12 +214,22 @@ fn q_offset_at(value: &Value, key: &str) -> Option<Option<u8>>
     Some(Some(natural_within(inner, 1, 8)? as u8))
 }
 
-/// SystemInformationBlockType1 with each value in its range.
-#[tactic(auto, unfolding(crate::specs::Information::sib1_of))]
-pub(crate) fn sib1_of(value: &Value) -> Option<Sib1>
-    ensures { result ≡ block_of (view value.now) }
+// Who may use the cell.
+#[derive(Drop)]
+struct Access {
+    plmns: Plmns,
+    tac: u16,
+    cell: u32,
+    barred: bool,
+    intra: bool,
+    csg: bool,
+    csg_identity: Option<u32>,
+}
+
+fn access_of(value: &Value) -> Option<Access>
+    ensures { result ≡ access_in (view value.now) }
 {
-    Some(Sib1 {
+    Some(Access {
         plmns: plmns_of(value.get("plmns")?)?,
         tac: natural_at(value, "tac", 0, 65_535)? as u16,
         cell: natural_at(value, "cell", 0, 268_435_455)?,
@@ -227,14 +237,71 @@ pub(crate) fn sib1_of(value: &Value) -> Option<Sib1>
         intra: truth(value, "intra")?,
         csg: truth(value, "csg")?,
         csg_identity: natural_or_null_at(value, "csg_identity", 0, 134_217_727)?,
+    })
+}
+
+// Its levels and its band.
+#[derive(Drop)]
+struct Selection {
+    q_rx: i8,
+    q_offset: Option<u8>,
+    p_max: Option<i8>,
+    band: u8,
+}
+
+fn selection_of(value: &Value) -> Option<Selection>
+    ensures { result ≡ selection_in (view value.now) }
+{
+    Some(Selection {
         q_rx: small_within(value.get("q_rx")?, -70, -22)?,
         q_offset: q_offset_at(value, "q_offset")?,
         p_max: p_max_at(value, "p_max")?,
         band: natural_at(value, "band", 1, 64)? as u8,
+    })
+}
+
+// Its schedule.
+#[derive(Drop)]
+struct Timetable {
+    scheduling: Schedule,
+    window: u8,
+    tag: u8,
+}
+
+fn timetable_of(value: &Value) -> Option<Timetable>
+    ensures { result ≡ timetable_in (view value.now) }
+{
+    Some(Timetable {
         scheduling: schedule_of(value.get("scheduling")?)?,
-        tdd: None,
         window: window_of(value.get("window")?)?,
         tag: natural_at(value, "tag", 0, 31)? as u8,
+    })
+}
+
+/// SystemInformationBlockType1 with each value in its range.
+#[tactic(auto, unfolding(crate::specs::Information::sib1_of))]
+pub(crate) fn sib1_of(value: &Value) -> Option<Sib1>
+    ensures { result ≡ block_of (view value.now) }
+{
+    let access = access_of(value)?;
+    let selection = selection_of(value)?;
+    let timetable = timetable_of(value)?;
+    Some(Sib1 {
+        plmns: access.plmns,
+        tac: access.tac,
+        cell: access.cell,
+        barred: access.barred,
+        intra: access.intra,
+        csg: access.csg,
+        csg_identity: access.csg_identity,
+        q_rx: selection.q_rx,
+        q_offset: selection.q_offset,
+        p_max: selection.p_max,
+        band: selection.band,
+        scheduling: timetable.scheduling,
+        tdd: None,
+        window: timetable.window,
+        tag: timetable.tag,
         extended: false,
     })
 }

@@ -10,6 +10,3 @@ mod reading;
 
 pub use error::JsonError;
 pub use reading::read;
-
-#[cfg(test)]
-mod tests;

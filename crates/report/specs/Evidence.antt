@@ -2,7 +2,7 @@
 use Rattle.std.specs.Prelude.{ℕ, List, ◌++◌, length, codes}
 use Rattle.std.specs.List.{flat_map}
 use Rattle.std.specs.Fmt.{decimal}
-use Rattle.evidence.specs.declared.numbers.Evidence.{Evidence}
+use Rattle.lte_types.specs.declared.evidence.Evidence.{Evidence}
 
 -- which entry it is, and the place of the hit that tells it
 abbrev pub entry_part : ℕ → ℕ → ℕ → ℕ → List ℕ

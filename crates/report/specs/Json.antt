@@ -9,6 +9,7 @@ use Rattle.lte_types.specs.declared.plmn.Plmn.{Plmn}
 use Rattle.lte_types.specs.declared.si_message.SiMessage.{SiMessage}
 use Rattle.lte_types.specs.declared.sib1.Sib1.{Sib1}
 use Rattle.lte_types.specs.declared.sib1_reason.Sib1Reason.{Sib1Reason}
+use Rattle.lte_types.specs.declared.mib.Mib.{Mib}
 use Rattle.lte_types.specs.declared.entry.Entry.{Entry}
 use Rattle.lte_types.specs.Block.{br, rest}
 use Rattle.lte_types.specs.Codes.{bandwidth_word, duration_word, resource_word}
@@ -84,19 +85,27 @@ abbrev pub system_value : Result Sib1 Sib1Reason → Data
 system_value (Ok sib1) = sib1_value sib1
 system_value (Err reason) = object (member (codes "none") (string (reason_words reason)) no_members)
 
+-- what tells a cell from others: its identity and place, and its antenna ports, added to other members
+abbrev pub cell_members : Entry → Members → Members
+cell_members entry members =
+    put (codes "ports") (natural entry.ports) (
+    put (codes "sfn") (natural entry.sfn) (
+    put (codes "at") (natural entry.start) (
+    put (codes "identity") (natural entry.id) members)))
+
+-- its master information block
+abbrev pub block_members : Mib → Members → Members
+block_members mib members =
+    put (codes "spare") (natural (rest mib)) (
+    put (codes "br") (natural (br mib)) (
+    put (codes "resource") (string (resource_word mib.resource)) (
+    put (codes "duration") (string (duration_word mib.duration)) (
+    put (codes "bandwidth") (string (bandwidth_word mib.bandwidth)) members))))
+
 -- a cell: what its line in the report tells, and its system information
 abbrev pub entry_value : Entry → Data
 entry_value entry = object (
-    member (codes "at") (natural entry.start) (
-    member (codes "bandwidth") (string (bandwidth_word entry.mib.bandwidth)) (
-    member (codes "br") (natural (br entry.mib)) (
-    member (codes "duration") (string (duration_word entry.mib.duration)) (
-    member (codes "identity") (natural entry.id) (
-    member (codes "ports") (natural entry.ports) (
-    member (codes "resource") (string (resource_word entry.mib.resource)) (
-    member (codes "sfn") (natural entry.sfn) (
-    member (codes "sib1") (system_value entry.sib1) (
-    member (codes "spare") (natural (rest entry.mib)) no_members))))))))))
+    put (codes "sib1") (system_value entry.sib1) (block_members entry.mib (cell_members entry no_members)))
 
 abbrev pub report_value : List Entry → Data
 report_value entries = list_of entry_value entries

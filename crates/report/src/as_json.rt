@@ -1,17 +1,17 @@
 //! The report as JSON.
 
-ghost use Rattle.std.specs.Prelude.{◌≡◌, All, IfOk, OnOk, string_bytes};
-ghost use Rattle.serde_json.specs.Data.{string};
+ghost use Rattle.std.specs.Prelude.{◌≡◌, ⊤, All, IfOk, OnOk, string_bytes};
+ghost use Rattle.serde_json.specs.Data.{Data, string};
 ghost use Rattle.serde_json.specs.View.{view, members_view};
 ghost use Rattle.lte_types.specs.Ranges.{IsValid, IsValidMessage};
 ghost use Rattle.report.specs.Lines.{IsValidEntry};
 ghost use Rattle.report.specs.Words.{digits_word as digits_of};
-ghost use Rattle.report.specs.Json.{natural, or_null, list_of, plmn_value as plmn_of, message_value as message_of, tdd_value as tdd_of, identity_members, access_members, schedule_members, sib1_value as sib1_of, system_value as system_of, entry_value as entry_of, report_value as report_of, json_text};
+ghost use Rattle.report.specs.Json.{natural, or_null, list_of, plmn_value as plmn_of, message_value as message_of, tdd_value as tdd_of, cell_members, block_members, identity_members, access_members, schedule_members, sib1_value as sib1_of, system_value as system_of, entry_value as entry_of, json_text};
 
 use crate::lines::mnc_word;
 use crate::words::{digits_word, period_frames, window_length};
-use lte_types::{Entry, Plmn, SiMessage, Sib1, Sib1Reason};
-use serde_json::{Map, Value, json, put};
+use lte_types::{Entry, Mib, Plmn, SiMessage, Sib1, Sib1Reason};
+use serde_json::{Map, ToValue, Value, json, put};
 use std::alloc::{AllocError, Global};
 use std::fmt::Write;
 
@@ -22,43 +22,93 @@ pub fn json(alloc: Global, entries: &[Entry]) -> Result<String, AllocError>
     requires { All IsValidEntry entries.now }
     ensures { IfOk result (λ text. string_bytes text ≡ json_text entries.now) }
 {
-    let report = report_value(alloc, entries)?;
+    let report = list_value(alloc, entries)?;
     report.to_string(alloc)
 }
 
-// The value of a list of cells.
-fn report_value(alloc: Global, entries: &[Entry]) -> Result<Value, AllocError>
-    requires { All IsValidEntry entries.now }
-    ensures { IfOk result (λ value. view value ≡ report_of entries.now) }
+// What has a value in JSON.
+trait ToJson {
+    // What is asked of it.
+    ghost is_valid: { Self → Type 0 };
+
+    ghost json_of: { Self → Data };
+
+    fn to_json(&self, alloc: Global) -> Result<Value, AllocError>
+        requires { is_valid self.now }
+        ensures { IfOk result (λ value. view value ≡ json_of self.now) };
+}
+
+// The values of a list.
+fn list_value<T: ToJson>(alloc: Global, items: &[T]) -> Result<Value, AllocError>
+    requires { All T.is_valid items.now }
+    ensures { IfOk result (λ value. view value ≡ list_of T.json_of items.now) }
 {
     let mut list = Vec::new(alloc);
-    for entry in entries {
-        list.push(entry_value(alloc, entry)?)?;
+    for item in items {
+        list.push(item.to_json(alloc)?)?;
     }
     Ok(Value::from(list))
 }
 
-// That of a cell.
-fn entry_value(alloc: Global, entry: &Entry) -> Result<Value, AllocError>
-    requires { IsValidEntry entry.now }
-    ensures { IfOk result (λ value. view value ≡ entry_of entry.now) }
-{
-    let system = system_value(alloc, &entry.sib1)?;
-    json!(in alloc; {
-        "identity": entry.id.value(),
-        "at": entry.start,
-        "sfn": entry.sfn.value(),
-        "ports": entry.ports,
-        "bandwidth": entry.mib.bandwidth.name(),
-        "duration": entry.mib.duration.name(),
-        "resource": entry.mib.resource.name(),
-        "br": entry.mib.br(),
-        "spare": entry.mib.rest(),
-        "sib1": system,
-    })
+// A cell.
+impl ToJson for Entry {
+    ghost is_valid = { IsValidEntry };
+
+    ghost json_of = { entry_of };
+
+    fn to_json(&self, alloc: Global) -> Result<Value, AllocError> {
+        let mut members = Map::new(alloc);
+        put_cell(alloc, self, &mut members)?;
+        put_block(alloc, &self.mib, &mut members)?;
+        let system = system_value(alloc, &self.sib1)?;
+        put(&mut members, alloc, "sib1", system)?;
+        Ok(Value::from(members))
+    }
 }
 
-// That of its system information, or of the reason why there is none.
+// Adds what tells a cell from others.
+fn put_cell(
+    alloc: Global,
+    entry: &Entry,
+    members: &mut Map<String, Value>,
+) -> Result<(), AllocError>
+    ensures { OnOk result (members_view members.new.entries
+        ≡ cell_members entry.now (members_view members.old.entries)) }
+{
+    put(members, alloc, "identity", Value::from(entry.id.value()))?;
+    put(members, alloc, "at", Value::from(entry.start))?;
+    put(members, alloc, "sfn", Value::from(entry.sfn.value()))?;
+    put(members, alloc, "ports", Value::from(entry.ports))
+}
+
+// Adds its master information block.
+fn put_block(alloc: Global, mib: &Mib, members: &mut Map<String, Value>) -> Result<(), AllocError>
+    ensures { OnOk result (members_view members.new.entries
+        ≡ block_members mib.now (members_view members.old.entries)) }
+{
+    put(
+        members,
+        alloc,
+        "bandwidth",
+        mib.bandwidth.name().to_value(alloc)?,
+    )?;
+    put(
+        members,
+        alloc,
+        "duration",
+        mib.duration.name().to_value(alloc)?,
+    )?;
+    put(
+        members,
+        alloc,
+        "resource",
+        mib.resource.name().to_value(alloc)?,
+    )?;
+    put(members, alloc, "br", Value::from(mib.br()))?;
+    put(members, alloc, "spare", Value::from(mib.rest()))
+}
+
+// The value of its system information, or of the reason why there is none.
 fn system_value(alloc: Global, sib1: &Result<Sib1, Sib1Reason>) -> Result<Value, AllocError>
     requires { IfOk sib1.now IsValid }
     ensures { IfOk result (λ value. view value ≡ system_of sib1.now) }
@@ -93,7 +143,7 @@ fn put_identities(
     ensures { OnOk result (members_view members.new.entries
         ≡ identity_members sib1.now (members_view members.old.entries)) }
 {
-    let plmns = plmns_value(alloc, sib1.plmns.slice())?;
+    let plmns = list_value(alloc, sib1.plmns.slice())?;
     put(members, alloc, "plmns", plmns)?;
     put(members, alloc, "tac", Value::from(sib1.tac))?;
     put(members, alloc, "cell", Value::from(sib1.cell))?;
@@ -133,7 +183,7 @@ fn put_schedule(
     ensures { OnOk result (members_view members.new.entries
         ≡ schedule_members sib1.now (members_view members.old.entries)) }
 {
-    let scheduling = messages_value(alloc, sib1.scheduling.slice())?;
+    let scheduling = list_value(alloc, sib1.scheduling.slice())?;
     put(members, alloc, "scheduling", scheduling)?;
     put(
         members,
@@ -147,23 +197,17 @@ fn put_schedule(
     put(members, alloc, "extension", Value::from(sib1.extended))
 }
 
-// The values of networks.
-fn plmns_value(alloc: Global, plmns: &[Plmn]) -> Result<Value, AllocError>
-    ensures { IfOk result (λ value. view value ≡ list_of plmn_of plmns.now) }
-{
-    let mut list = Vec::new(alloc);
-    for plmn in plmns {
-        list.push(plmn_value(alloc, plmn)?)?;
-    }
-    Ok(Value::from(list))
-}
+// A network.
+impl ToJson for Plmn {
+    ghost is_valid = { λ plmn. ⊤ };
 
-fn plmn_value(alloc: Global, plmn: &Plmn) -> Result<Value, AllocError>
-    ensures { IfOk result (λ value. view value ≡ plmn_of plmn.now) }
-{
-    let mcc = mcc_value(alloc, &plmn.mcc)?;
-    let mnc = mnc_word(alloc, &plmn.mnc)?;
-    json!(in alloc; {"mcc": mcc, "mnc": mnc, "reserved": plmn.reserved})
+    ghost json_of = { plmn_of };
+
+    fn to_json(&self, alloc: Global) -> Result<Value, AllocError> {
+        let mcc = mcc_value(alloc, &self.mcc)?;
+        let mnc = mnc_word(alloc, &self.mnc)?;
+        json!(in alloc; {"mcc": mcc, "mnc": mnc, "reserved": self.reserved})
+    }
 }
 
 // Three digits as a text, or null.
@@ -176,35 +220,27 @@ fn mcc_value(alloc: Global, mcc: &Option<[u8; 3]>) -> Result<Value, AllocError>
     }
 }
 
-// The values of the entries of a schedule.
-fn messages_value(alloc: Global, messages: &[SiMessage]) -> Result<Value, AllocError>
-    requires { All IsValidMessage messages.now }
-    ensures { IfOk result (λ value. view value ≡ list_of message_of messages.now) }
-{
-    let mut list = Vec::new(alloc);
-    for message in messages {
-        list.push(message_value(alloc, message)?)?;
+// An entry of the schedule.
+impl ToJson for SiMessage {
+    ghost is_valid = { IsValidMessage };
+
+    ghost json_of = { message_of };
+
+    fn to_json(&self, alloc: Global) -> Result<Value, AllocError> {
+        let sibs = list_value(alloc, self.sibs.slice())?;
+        json!(in alloc; {"period": period_frames(self.period), "sibs": sibs})
     }
-    Ok(Value::from(list))
 }
 
-fn message_value(alloc: Global, message: &SiMessage) -> Result<Value, AllocError>
-    requires { IsValidMessage message.now }
-    ensures { IfOk result (λ value. view value ≡ message_of message.now) }
-{
-    let sibs = codes_value(alloc, message.sibs.slice())?;
-    json!(in alloc; {"period": period_frames(message.period), "sibs": sibs})
-}
+// The code of a block.
+impl ToJson for u8 {
+    ghost is_valid = { λ code. ⊤ };
 
-// The codes of blocks.
-fn codes_value(alloc: Global, sibs: &[u8]) -> Result<Value, AllocError>
-    ensures { IfOk result (λ value. view value ≡ list_of natural sibs.now) }
-{
-    let mut list = Vec::new(alloc);
-    for code in sibs {
-        list.push(Value::from(*code))?;
+    ghost json_of = { natural };
+
+    fn to_json(&self, alloc: Global) -> Result<Value, AllocError> {
+        Ok(Value::from(*self))
     }
-    Ok(Value::from(list))
 }
 
 // Both numbers of a TDD configuration, or null.

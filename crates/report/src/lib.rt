@@ -21,6 +21,3 @@ pub use laws::listed_lines_stand;
 pub use listing::text;
 pub use made::line_of_made;
 pub use supports::text_of_evidence;
-
-#[cfg(test)]
-mod tests;

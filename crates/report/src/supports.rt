@@ -3,7 +3,7 @@
 ghost use Rattle.std.specs.Prelude.{◌≡◌, IfOk, string_bytes};
 ghost use Rattle.report.specs.Evidence.{evidence_text, evidence_line, entry_part as entry_of, word_part as word_of, frame_part as frame_of, pilots_part as pilots_of};
 
-use evidence::Evidence;
+use lte_types::Evidence;
 use std::alloc::{AllocError, Global};
 use std::fmt::Write;
 
