@@ -8,7 +8,7 @@ ghost use Rattle.cancel.specs.Steps.{around as around_of, is_candidate as is_can
 use cs_num::{Cpx, Sample};
 
 // A gain and the greatest size of a component that it leaves.
-#[derive(Clone, Copy, Debug, PartialEq, Eq)]
+#[derive(Clone, Copy, PartialEq, Eq)]
 pub(crate) struct Choice {
     pub gain: Cpx,
     pub greatest: u32,

@@ -11,6 +11,3 @@ mod taking;
 pub use laws::{best_candidate_is_one, clean_gain_is_candidate};
 pub use subtracted::Subtracted;
 pub use taking::subtract;
-
-#[cfg(test)]
-mod tests;

@@ -7,6 +7,3 @@ mod recipe;
 
 pub use made::{Made, made_is_clean, make, with_errors};
 pub use recipe::{bound, gain, number, offset, plan, sample_count};
-
-#[cfg(test)]
-mod tests;

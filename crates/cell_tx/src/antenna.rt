@@ -1,7 +1,7 @@
 //! Antenna ports.
 
 /// An antenna port of a cell: its only one, or one of two with transmit diversity (TS 36.211 section 6.3.4.3).
-#[derive(Clone, Copy, Debug, PartialEq, Eq)]
+#[derive(Clone, Copy, PartialEq, Eq)]
 pub enum Port {
     /// Port 0 of a cell with one port.
     Only,

@@ -11,14 +11,13 @@ ghost use Rattle.cell_tx.specs.Transport.{block_size, has_block, is_whole, is_re
 use crate::CellError;
 use crate::shared::{block_fills, coded_block};
 use lte_types::{CellId, Cfi, Duration, Resource, Sib1};
-use std::fmt::{self, Debug, Formatter, Write};
 use std::marker::Model;
 use turbo_code::Coded;
 use uper::Writer;
 
 /// What a cell is to send. Its master block has bandwidth n6, one antenna port, and the upper bits
 /// of the frame's number.
-#[derive(Debug, Drop)]
+#[derive(Drop)]
 pub struct CellPlan {
     /// The physical-layer cell identity, 0 to 503 (TS 36.211 section 6.11).
     pub identity: u16,
@@ -159,12 +158,6 @@ impl Model for Cell {
     ghost view = { λ c. c.plan };
 
     ghost invariant = { λ c. IsSendable c.plan × IsCoded c.plan c.coded };
-}
-
-impl Debug for Cell {
-    fn fmt<W: Write>(&self, f: &mut Formatter<W>) -> fmt::Result {
-        self.plan.fmt(f)
-    }
 }
 
 impl Cell {

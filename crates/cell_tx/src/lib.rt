@@ -27,6 +27,3 @@ pub use sending::{
     amplified, frame, port_sample, port_sequence, sample, send, send_all, to_sample,
 };
 pub use transmission::Transmission;
-
-#[cfg(test)]
-mod tests;

@@ -8,7 +8,7 @@ use lte_types::Sfn;
 
 /// What is sent of a cell: `samples` samples from sample `offset` of the frame numbered `sfn` on,
 /// each times the gain. (own)
-#[derive(Debug, Drop)]
+#[derive(Drop)]
 pub struct Transmission {
     /// The cell.
     pub cell: Cell,

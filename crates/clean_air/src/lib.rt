@@ -24,6 +24,3 @@ pub use planning::{one_plan, plan_of};
 pub use subframe::carried_blocks_are_heard;
 pub use values::values_support_the_sent_bits;
 pub use words::spoken_word_is_the_least;
-
-#[cfg(test)]
-mod tests;

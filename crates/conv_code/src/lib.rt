@@ -12,6 +12,3 @@ pub use encoder::encode;
 pub use laws::{coded_words_tell_words, reading_permutes};
 pub use matching::{combine, combine_from, match_out, stream_place};
 pub use place::against;
-
-#[cfg(test)]
-mod tests;

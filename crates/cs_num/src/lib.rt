@@ -9,14 +9,14 @@ ghost use Rattle.cs_num.specs.Rounding.{clamped, round_shifted, rounded};
 use std::ops::{Add, Neg, Sub};
 
 /// A sample of a recording: a pair of 16-bit numbers.
-#[derive(Clone, Copy, Debug, PartialEq, Eq)]
+#[derive(Clone, Copy, PartialEq, Eq)]
 pub struct Sample {
     pub re: i16,
     pub im: i16,
 }
 
 /// A whole complex number.
-#[derive(Clone, Copy, Debug, PartialEq, Eq)]
+#[derive(Clone, Copy, PartialEq, Eq)]
 pub struct Cpx {
     pub re: i64,
     pub im: i64,
@@ -181,6 +181,3 @@ pub fn clamp_div(top: i64, bottom: i64, limit: i16) -> i16
 {
     (top / bottom).clamp(-(limit as i64), limit as i64) as i16
 }
-
-#[cfg(test)]
-mod tests;

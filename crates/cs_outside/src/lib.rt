@@ -12,8 +12,6 @@ mod counts;
 mod failing;
 mod memory;
 mod streams;
-#[cfg(test)]
-mod tests;
 
 pub use adapters::{StdSink, StdSource};
 pub use failing::{FailSink, FailSource};

@@ -17,6 +17,3 @@ pub use writing::write;
 /// The identifier that masks the check of the bits that grant system information and scrambles what they
 /// grant: SI-RNTI (TS 36.321 section 7.1).
 pub const SI_RNTI: u16 = 0xffff;
-
-#[cfg(test)]
-mod tests;

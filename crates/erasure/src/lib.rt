@@ -10,6 +10,3 @@ mod states;
 
 pub use laws::{unsent_block_is_not_resolvable, whole_block_is_resolvable};
 pub use resolving::fills;
-
-#[cfg(test)]
-mod tests;

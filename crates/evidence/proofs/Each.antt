@@ -5,7 +5,7 @@ use Rattle.std.proofs.lemmas.List.{take_more}
 use Rattle.cs_num.specs.declared.Sample.{Sample}
 use Rattle.lte_types.specs.declared.entry.Entry.{Entry}
 use Rattle.explain.proofs.Listed.{AllZip-more}
-use Rattle.evidence.specs.declared.numbers.Evidence.{Evidence}
+use Rattle.lte_types.specs.declared.evidence.Evidence.{Evidence}
 use Rattle.evidence.specs.Evidence.{IsEvidence}
 
 pub each_more : (recording : List Sample) (list : List Entry) (i : ℕ) (entry : Entry) (told : List Evidence) (one : Evidence) → i < length list → entry ≡ get_or list i entry →

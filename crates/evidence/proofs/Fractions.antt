@@ -3,18 +3,12 @@ use Rattle.std.proofs.Common.{◌≡◌, ℕ, ◌+◌, ◌*◌, ◌/◌, ◌%◌
 use Rattle.std.proofs.Math.Nat.{div-le_of_le-mul}
 use Rattle.std.proofs.lemmas.Nat.{le-div, mul-le}
 use Rattle.cs_num.specs.declared.Sample.{Sample}
-use Rattle.cs_num.specs.Complex.{sample_at}
-use Rattle.sizes.proofs.Cauchy.{cauchy}
 use Rattle.lte_types.specs.declared.hit.Hit.{Hit}
 use Rattle.lte_types.specs.declared.entry.Entry.{Entry}
-use Rattle.pss_search.specs.Correlation.{wave, peak, energy, wave_power}
+use Rattle.pss_search.specs.Correlation.{peak, energy, wave_power}
+use Rattle.pss_search.proofs.Peaks.{peak_within}
 use Rattle.pss_search.proofs.Symmetry.{power_range}
 use Rattle.evidence.specs.Evidence.{IsHitOfEntry, thousandths}
-
--- by Cauchy the peak is at most the energy times the signal's power
-pub peak_within : (recording : List Sample) (n2 t : ℕ) → peak recording n2 t ≤ energy recording t * wave_power n2
-unfolding peak energy wave_power
-peak_within recording n2 t = cauchy 128 (λ n. sample_at recording (t + n)) (wave n2)
 
 -- so the fraction is at most the whole
 pub at_most_whole : (peak whole : ℕ) → peak ≤ whole → 1000 * peak / whole ≤ 1000

@@ -15,7 +15,7 @@ use Rattle.pbch.specs.Master.{total}
 use Rattle.explain.specs.Entries.{identity_at, start_at, values_of_entry}
 use Rattle.explain.specs.EntrySlot.{slot_of_entry}
 use Rattle.explain.specs.Places.{place_at}
-use Rattle.evidence.specs.declared.numbers.Evidence.{Evidence}
+use Rattle.lte_types.specs.declared.evidence.Evidence.{Evidence}
 use Rattle.evidence.specs.declared.told.ToldHit.{ToldHit}
 
 -- ---- the hit

@@ -4,9 +4,7 @@
 
 mod listing;
 mod noise;
-mod numbers;
 mod told;
 
 pub use listing::{evidence_of, evidence_of_list};
-pub use numbers::Evidence;
 pub use told::{ToldHit, ToldHits};

@@ -7,10 +7,9 @@ ghost use Rattle.explain.specs.Entries.{IsExplained, IsInList};
 ghost use Rattle.evidence.specs.Evidence.{IsEvidence, IsInRange, IsHitOfEntry, told_hits};
 
 use crate::noise::noise_of;
-use crate::numbers::Evidence;
 use crate::told::{ToldHits, first_at};
 use explain::{Place, slot_of_entry, values_of};
-use lte_types::{Entry, Hit};
+use lte_types::{Entry, Evidence, Hit};
 use pbch::total_of;
 use pss_search::signal_power;
 use sample_file::Recording;

@@ -32,6 +32,3 @@ pub fn short_table_is_symmetric()
     ensures period { ZHasPeriod }
     ensures backward { ZBackwardIsConjugate }
 {}
-
-#[cfg(test)]
-mod tests;

@@ -13,8 +13,6 @@ mod interleaver;
 mod laws;
 mod scrambling;
 mod shared;
-#[cfg(test)]
-mod tests;
 
 pub use broadcast::{pbch, pbch_order, pbch_places};
 pub use candidate::{candidate_places, quadruplets_carried};
@@ -26,7 +24,7 @@ pub use scrambling::{indicator_bit, pbch_c_init, pcfich_c_init, pdcch_c_init, pd
 pub use shared::{pdsch, pdsch_order, shared_order, shared_place};
 
 /// A place of a subframe's grid: a resource element (TS 36.211 section 6.2.2).
-#[derive(Clone, Copy, Debug, PartialEq, Eq)]
+#[derive(Clone, Copy, PartialEq, Eq)]
 pub struct Place {
     /// 0 to 13.
     pub symbol: u8,
@@ -35,7 +33,7 @@ pub struct Place {
 }
 
 /// A resource-element group: four places of a symbol of the control region (TS 36.211 section 6.2.4).
-#[derive(Clone, Copy, Debug, Default, PartialEq, Eq)]
+#[derive(Clone, Copy, Default, PartialEq, Eq)]
 pub struct Reg {
     /// 0 to 3.
     pub symbol: u8,

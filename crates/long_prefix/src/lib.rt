@@ -15,6 +15,3 @@ pub use listing::{Workspace3, explain_clean};
 pub use made::{LongMade, made_is_clean, make};
 pub use plan::LongPlan;
 pub use sending::sample;
-
-#[cfg(test)]
-mod tests;

@@ -8,7 +8,7 @@ use Rattle.lte_types.specs.Identity.{cell_of}
 use Rattle.pss_search.specs.Hits.{hits_of}
 use Rattle.sss_detect.specs.Identity.{identity_of}
 use Rattle.sss_detect.specs.Place.{start_of}
-use Rattle.evidence.specs.declared.numbers.Evidence.{Evidence as Numbers}
+use Rattle.lte_types.specs.declared.evidence.Evidence.{Evidence as Numbers}
 use Rattle.evidence.specs.Evidence.{IsEvidence}
 use Rattle.report.specs.declared.hits.IdentifiedHit.{IdentifiedHit}
 use Rattle.report.specs.Evidence.{evidence_text}

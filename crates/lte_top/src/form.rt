@@ -8,7 +8,7 @@ use crate::words::Words;
 use sample_file::SampleForm;
 
 /// A program: each has words of its own.
-#[derive(Clone, Copy, Debug, PartialEq, Eq)]
+#[derive(Clone, Copy, PartialEq, Eq)]
 pub enum Program {
     /// `lte_cli`: what a recording holds, and recordings of cells.
     Receiver,
@@ -19,7 +19,7 @@ pub enum Program {
 /// A form of words. What is said of a recording may be said of one in either form of samples: the words
 /// `--format cu8` after the others name 8-bit numbers, and without them they are of 16 bits. Where no form of
 /// samples is named below, they are of 16 bits.
-#[derive(Clone, Copy, Debug, PartialEq, Eq)]
+#[derive(Clone, Copy, PartialEq, Eq)]
 pub enum Form {
     /// A report about a recording of samples in a form.
     Report(Report, SampleForm),
@@ -38,7 +38,7 @@ pub enum Form {
 }
 
 /// A report about a recording.
-#[derive(Clone, Copy, Debug, PartialEq, Eq)]
+#[derive(Clone, Copy, PartialEq, Eq)]
 pub enum Report {
     /// `hits`: the places of primary synchronisation signals.
     Hits,
@@ -53,7 +53,7 @@ pub enum Report {
 }
 
 /// A list of cells by another rule than that of `search`.
-#[derive(Clone, Copy, Debug, PartialEq, Eq)]
+#[derive(Clone, Copy, PartialEq, Eq)]
 pub enum Search {
     /// `search --ports 2`: cells with two antenna ports.
     TwoPorts,
@@ -64,7 +64,7 @@ pub enum Search {
 }
 
 /// What a made recording is of.
-#[derive(Clone, Copy, Debug, PartialEq, Eq)]
+#[derive(Clone, Copy, PartialEq, Eq)]
 pub enum Sender {
     /// A cell with one antenna port and the normal cyclic prefix.
     OnePort,
@@ -75,7 +75,7 @@ pub enum Sender {
 }
 
 /// What is done with the frequency offset of a recording.
-#[derive(Clone, Copy, Debug, PartialEq, Eq)]
+#[derive(Clone, Copy, PartialEq, Eq)]
 pub enum Tune {
     /// `tell`: it is told.
     Tell,

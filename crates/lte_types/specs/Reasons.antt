@@ -3,6 +3,8 @@ use Rattle.std.specs.Prelude.{ℕ, List, ◌++◌, codes}
 use Rattle.std.specs.Fmt.{decimal}
 use Rattle.lte_types.specs.declared.sib1_reason.Sib1Reason.{Sib1Reason}
 use Rattle.lte_types.specs.declared.sib1_reason.Sib1Reason.TheVariants.{NotOnePort, Bandwidth as OtherWidth, NoSearchSpace, NoControl, NotFormat1A, Distributed, BadRiv, ReservedMcs, BlockTooLarge, NotDecoded, NotSib1, BadFields, LongPrefix}
+use Rattle.lte_types.specs.declared.sib1_reason.Words.{Words}
+use Rattle.lte_types.specs.declared.sib1_reason.Words.TheVariants.{Plain, WithNumber, WithWidth}
 use Rattle.lte_types.specs.Codes.{bandwidth_word}
 
 abbrev pub reason_words : Sib1Reason → List ℕ
@@ -19,3 +21,9 @@ reason_words NotDecoded = codes "not-decoded"
 reason_words NotSib1 = codes "not-sib1"
 reason_words (BadFields bit) = codes "bad-fields " ++ decimal bit
 reason_words LongPrefix = codes "long-prefix"
+
+-- The text of a reason's words, which the code chooses first.
+abbrev pub words_text : Words → List ℕ
+words_text (Plain word) = word.now
+words_text (WithNumber word number) = word.now ++ decimal number
+words_text (WithWidth word width) = word.now ++ bandwidth_word width

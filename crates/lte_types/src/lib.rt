@@ -7,6 +7,7 @@ mod cell_id;
 mod cfi;
 mod duration;
 mod entry;
+mod evidence;
 mod frame;
 mod hit;
 mod mib;
@@ -26,6 +27,7 @@ pub use cell_id::CellId;
 pub use cfi::Cfi;
 pub use duration::Duration;
 pub use entry::Entry;
+pub use evidence::Evidence;
 pub use frame::{Half, Sfn};
 pub use hit::Hit;
 pub use mib::Mib;
@@ -41,6 +43,3 @@ pub use si_message::SiMessage;
 pub use sib1::Sib1;
 pub use sib1_reason::Sib1Reason;
 pub use sibs::Sibs;
-
-#[cfg(test)]
-mod tests;

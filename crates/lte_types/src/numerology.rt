@@ -20,7 +20,7 @@ pub const USEFUL_LENGTH: usize = 128;
 pub const CYCLE_LENGTH: usize = 19_660_800;
 
 /// A cyclic prefix, in samples: before the first symbol of a slot, and before each later one.
-#[derive(Clone, Copy, Debug, PartialEq, Eq)]
+#[derive(Clone, Copy, PartialEq, Eq)]
 pub struct Prefix {
     pub first: u16,
     pub other: u16,

@@ -3,7 +3,7 @@
 use crate::Sibs;
 
 /// An entry of schedulingInfoList (TS 36.331 section 6.2.2).
-#[derive(Debug, Drop)]
+#[derive(Drop)]
 pub struct SiMessage {
     /// The code of the periodicity: 0 to 6 for 8 to 512 frames.
     pub period: u8,

@@ -6,7 +6,7 @@ ghost use Rattle.lte_types.specs.Ranges.{AreDigits, HasDigits, IsValidPlmn, Firs
 use crate::{Mnc, Plmn, Plmns, Schedule, SiMessage};
 
 /// SystemInformationBlockType1 (TS 36.331 section 6.2.2). Periods and windows are codes.
-#[derive(Debug, Drop)]
+#[derive(Drop)]
 pub struct Sib1 {
     /// 1 to 6 networks, the first with a country code.
     pub plmns: Plmns,

@@ -1,12 +1,13 @@
 //! Why a cell has no system information.
 
-ghost use Rattle.std.specs.Prelude.{Some};
+ghost use Rattle.std.specs.Prelude.{◌≡◌, Some};
+ghost use Rattle.lte_types.specs.Reasons.{reason_words, words_text};
 
 use crate::Bandwidth;
 use std::fmt;
 
 /// Why SystemInformationBlockType1 of a cell was not read. (own)
-#[derive(Clone, Copy, Debug, PartialEq, Eq)]
+#[derive(Clone, Copy, PartialEq, Eq)]
 pub enum Sib1Reason {
     /// The cell has so many antenna ports: 2 or 4.
     NotOnePort(u8),
@@ -37,25 +38,45 @@ pub enum Sib1Reason {
 }
 
 impl fmt::Display for Sib1Reason {
-    ghost use Rattle.lte_types.specs.Reasons.{reason_words};
-
     ghost output = { λ reason. Some (reason_words reason) };
 
     fn fmt<W: fmt::Write>(&self, f: &mut fmt::Formatter<W>) -> fmt::Result {
-        match self {
-            Sib1Reason::NotOnePort(ports) => write!(f, "ports {ports}"),
-            Sib1Reason::Bandwidth(width) => write!(f, "bandwidth {width}"),
-            Sib1Reason::NoSearchSpace(count) => write!(f, "no-search-space {count}"),
-            Sib1Reason::NoControl => f.write_str("no-control"),
-            Sib1Reason::NotFormat1A => f.write_str("not-1a"),
-            Sib1Reason::Distributed => f.write_str("distributed"),
-            Sib1Reason::BadRiv(riv) => write!(f, "bad-riv {riv}"),
-            Sib1Reason::ReservedMcs(mcs) => write!(f, "reserved-mcs {mcs}"),
-            Sib1Reason::BlockTooLarge => f.write_str("block-too-large"),
-            Sib1Reason::NotDecoded => f.write_str("not-decoded"),
-            Sib1Reason::NotSib1 => f.write_str("not-sib1"),
-            Sib1Reason::BadFields(bit) => write!(f, "bad-fields {bit}"),
-            Sib1Reason::LongPrefix => f.write_str("long-prefix"),
+        match self.words() {
+            Words::Plain(word) => f.write_str(word),
+            Words::WithNumber(word, number) => write!(f, "{word}{number}"),
+            Words::WithWidth(word, width) => write!(f, "{word}{width}"),
         }
     }
+}
+
+impl Sib1Reason {
+    fn words(&self) -> Words
+        ensures { words_text result ≡ reason_words self.now }
+    {
+        match self {
+            Sib1Reason::NotOnePort(ports) => Words::WithNumber("ports ", *ports as u16),
+            Sib1Reason::Bandwidth(width) => Words::WithWidth("bandwidth ", *width),
+            Sib1Reason::NoSearchSpace(count) => Words::WithNumber(
+                "no-search-space ",
+                *count as u16,
+            ),
+            Sib1Reason::NoControl => Words::Plain("no-control"),
+            Sib1Reason::NotFormat1A => Words::Plain("not-1a"),
+            Sib1Reason::Distributed => Words::Plain("distributed"),
+            Sib1Reason::BadRiv(riv) => Words::WithNumber("bad-riv ", *riv as u16),
+            Sib1Reason::ReservedMcs(mcs) => Words::WithNumber("reserved-mcs ", *mcs as u16),
+            Sib1Reason::BlockTooLarge => Words::Plain("block-too-large"),
+            Sib1Reason::NotDecoded => Words::Plain("not-decoded"),
+            Sib1Reason::NotSib1 => Words::Plain("not-sib1"),
+            Sib1Reason::BadFields(bit) => Words::WithNumber("bad-fields ", *bit),
+            Sib1Reason::LongPrefix => Words::Plain("long-prefix"),
+        }
+    }
+}
+
+// The words of a reason: what it is called, and the number or the width behind it.
+enum Words {
+    Plain(&'static str),
+    WithNumber(&'static str, u16),
+    WithWidth(&'static str, Bandwidth),
 }

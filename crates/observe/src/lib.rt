@@ -53,6 +53,3 @@ fn round_all(sums: &[Cpx; 72]) -> [Cpx; 72]
     }
     out
 }
-
-#[cfg(test)]
-mod tests;

@@ -7,7 +7,7 @@ use byteorder::{ByteOrder, LittleEndian};
 use cs_num::Sample;
 
 /// How the bytes of a recording stand for its samples, as SigMF names it. (own)
-#[derive(Clone, Copy, Debug, PartialEq, Eq)]
+#[derive(Clone, Copy, PartialEq, Eq)]
 pub enum SampleForm {
     /// Four bytes a sample: the real, then the imaginary component, each a signed 16-bit number with
     /// its low byte first (`ci16_le`).

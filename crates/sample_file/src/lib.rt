@@ -4,8 +4,6 @@
 mod form;
 mod reading;
 mod recording;
-#[cfg(test)]
-mod tests;
 mod writing;
 
 pub use form::SampleForm;

@@ -3,7 +3,7 @@
 use lte_types::Plmns;
 
 /// cellAccessRelatedInfo.
-#[derive(Debug, Drop)]
+#[derive(Drop)]
 pub struct CellAccessRelatedInfo {
     pub plmns: Plmns,
     pub tac: u16,
@@ -15,7 +15,7 @@ pub struct CellAccessRelatedInfo {
 }
 
 /// cellSelectionInfo.
-#[derive(Clone, Copy, Debug)]
+#[derive(Clone, Copy)]
 pub struct CellSelectionInfo {
     pub q_rx: i8,
     pub q_offset: Option<u8>,

@@ -6,8 +6,6 @@ mod pilots;
 mod places;
 mod seen;
 mod slot;
-#[cfg(test)]
-mod tests;
 mod value;
 
 pub use line::estimate;

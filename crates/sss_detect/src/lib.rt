@@ -51,6 +51,3 @@ pub fn best_pair_is_first_of_greatest()
     ensures best { BestPairIsBest }
     ensures only { OnlyOneIsBest }
 {}
-
-#[cfg(test)]
-mod tests;

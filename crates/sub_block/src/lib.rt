@@ -4,8 +4,6 @@
 #![tactic(auto)]
 
 mod matrix;
-#[cfg(test)]
-mod tests;
 
 pub use matrix::cell_at;
 

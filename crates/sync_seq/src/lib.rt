@@ -16,6 +16,3 @@ pub use secondary::{amplitude, sss, sss_shifts, sss_sign};
 pub fn secondary_tells_group_and_half()
     ensures { SecondaryTells }
 {}
-
-#[cfg(test)]
-mod tests;

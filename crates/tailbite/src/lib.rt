@@ -16,6 +16,3 @@ pub use laws::{one_least_word, values_tell_the_word};
 pub use search::least;
 pub use steps::{before, branch, next};
 pub use trellis::Trellis;
-
-#[cfg(test)]
-mod tests;

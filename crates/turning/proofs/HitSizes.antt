@@ -13,7 +13,7 @@ use Rattle.pss_search.specs.Correlation.{peak, energy, energy_term, wave_power}
 use Rattle.pss_search.specs.Hits.{hits_of}
 use Rattle.pss_search.proofs.Listed.{list_is_right}
 use Rattle.pss_search.proofs.Symmetry.{power_range}
-use Rattle.evidence.proofs.Fractions.{peak_within}
+use Rattle.pss_search.proofs.Peaks.{peak_within}
 use Rattle.turning.specs.Turned.{turned}
 use Rattle.turning.specs.Fractions.{fraction_of, IsSmall}
 use Rattle.turning.specs.Steps.{IsSmallHit}

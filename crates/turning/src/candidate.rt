@@ -18,7 +18,7 @@ use std::alloc::{AllocError, Global};
 const FRONT: usize = 57_600;
 
 /// A turn that may be the one, in steps of 117.1875 Hz. (own)
-#[derive(Clone, Copy, Debug, PartialEq, Eq)]
+#[derive(Clone, Copy, PartialEq, Eq)]
 pub struct Candidate {
     /// The turn.
     pub turn: i16,

@@ -8,7 +8,7 @@ use lte_types::Hit;
 use pss_search::signal_power;
 
 /// A fraction of two whole numbers. (own)
-#[derive(Clone, Copy, Debug, PartialEq, Eq)]
+#[derive(Clone, Copy, PartialEq, Eq)]
 pub struct Fraction {
     pub top: u128,
     pub bottom: u64,

@@ -12,8 +12,6 @@ mod order;
 mod table;
 mod taking;
 mod telling;
-#[cfg(test)]
-mod tests;
 mod text;
 
 pub use laws::{the_turn_told, turned_recordings};

@@ -21,6 +21,3 @@ pub use list::{Workspace2, explain};
 pub use pairs::fill_pairs;
 pub use slot::PairSlot;
 pub use value::pair;
-
-#[cfg(test)]
-mod tests;

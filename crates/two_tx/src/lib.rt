@@ -11,6 +11,3 @@ mod recipe;
 pub use cell::{Cell2, sample};
 pub use laws::received_is_clean;
 pub use made::{TwoMade, made_is_clean, make};
-
-#[cfg(test)]
-mod tests;

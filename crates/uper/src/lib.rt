@@ -9,6 +9,3 @@ mod writer;
 pub use reader::Reader;
 pub use sheet::Sheet;
 pub use writer::Writer;
-
-#[cfg(test)]
-mod tests;

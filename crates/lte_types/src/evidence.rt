@@ -1,9 +1,9 @@
 //! The numbers that support an entry.
 
-use lte_types::{CellId, Sfn};
+use crate::{CellId, Sfn};
 
 /// What supports an entry of a list: which entry it is, and the numbers. (own)
-#[derive(Clone, Copy, Debug, PartialEq, Eq)]
+#[derive(Clone, Copy, PartialEq, Eq)]
 pub struct Evidence {
     /// The identity of the entry's cell.
     pub id: CellId,
