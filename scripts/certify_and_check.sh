@@ -7,5 +7,5 @@ set -eu
 cd "$(dirname "$0")/.."
 recording=${1:-crates/capture_example/stdin}
 program=crates/lte_cli/out/lte_cli
-[ -x "$program" ] || (cd crates/lte_cli && rt run -- hits < stdin > /dev/null)
+[ -x "$program" ] || (cd crates/lte_cli && rt run -- hits < ../capture_example/stdin > /dev/null)
 "$program" certify < "$recording" | "$program" check

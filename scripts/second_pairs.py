@@ -4,7 +4,7 @@
 The values of pairs of places with two antenna ports (TS 36.211 section 6.3.4.3, the receiver of docs/DEFINITION.md), of a slot whose
 seen values are made by a rule: at symbol l and subcarrier k of slot 10 of identity 271, 64 * ((7l + 3k) mod 41 - 20) and
 64 * ((5l + 11k) mod 37 - 18). It shares the sequences with second_search.py and no code with the program. The numbers stand in
-crates/two_ports/src/tests.rt.
+crates/list_tests/src/two_antenna_ports.rt.
 
     scripts/second_pairs.py
 """

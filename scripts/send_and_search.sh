@@ -6,5 +6,5 @@ set -eu
 cd "$(dirname "$0")/.."
 description=${1:-scripts/plain_cell.json}
 program=crates/lte_cli/out/lte_cli
-[ -x "$program" ] || (cd crates/lte_cli && rt run -- hits < stdin > /dev/null)
+[ -x "$program" ] || (cd crates/lte_cli && rt run -- hits < ../capture_example/stdin > /dev/null)
 "$program" transmit < "$description" | "$program" search
