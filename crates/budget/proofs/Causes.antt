@@ -11,7 +11,7 @@ use Rattle.cs_num.proofs.Complex.{square-within, pair, plus-associates}
 use Rattle.sizes.specs.Sizes.{IsSized, energy_below, correlation_below}
 use Rattle.sizes.proofs.Algebra.{plus-minus, minus-plus, times-minus, times-multiple}
 use Rattle.sizes.proofs.Squares.{square-multiple}
-use Rattle.sizes.proofs.Sized.{sized_plain, sized-plus, sized_more}
+use Rattle.sizes.proofs.Sized.{sized_plain, sized-plus}
 use Rattle.sizes.proofs.Cauchy.{cauchy, correlation_same, correlation_plus, correlation_times, correlation_multiple}
 use Rattle.sizes.proofs.Rounding.{rounded_near}
 use Rattle.fold128.specs.Symbol.{frequency, useful_term, useful_at}
@@ -66,18 +66,18 @@ sending_is grid k l =
     ∙ plus-associates (multiple 34359738368 (grid k)) (leak grid k) r in
     ap (λ (z : Cpx). minus z (multiple 34359738368 (grid k))) parts ∙ minus-plus (multiple 34359738368 (grid k)) (plus (leak grid k) r)
 
--- 20 and 91 in units of 2^31
-sending-small : (grid : ℕ → Cpx) (k : ℕ) → AreAmplitudes grid → k < 72 → square (sending grid k) ≤ (111 * 2 ^ 31) * (111 * 2 ^ 31)
+-- together 115 units of 2^31
+sending-small : (grid : ℕ → Cpx) (k : ℕ) → AreAmplitudes grid → k < 72 → square (sending grid k) ≤ (115 * 2 ^ 31) * (115 * 2 ^ 31)
 sending-small grid k small l =
     let r : Cpx = correlation_below 128 (rounding_off grid) (tone_at k) in
-    let a : IsSized 42949672960 1 (leak grid k) = sized_more (leak grid k) 41051750400 42949672960 1 (omega arith) (leak-small grid k small) in
-    let b : IsSized 195421011968 1 r = sized_plain r 195421011968 (fits (square r) (seen-small (rounding_off grid) k 65536 (λ n p. rounding-off_small grid n))) in
-    rw (sending_is grid k l) (plain (square (plus (leak grid k) r)) (sized-plus (leak grid k) r 42949672960 195421011968 1 a b).sized)
+    let a : IsSized 52376371200 1 (leak grid k) = leak-small grid k small in
+    let b : IsSized 194584248320 1 r = sized_plain r 194584248320 (fits (square r) (seen-small (rounding_off grid) k 65536 (λ n p. rounding-off_small grid n))) in
+    rw (sending_is grid k l) (plain (square (plus (leak grid k) r)) (sized-plus (leak grid k) r 52376371200 194584248320 1 a b).sized)
   where
-    fits : (s : ℕ) → s ≤ (256 * (65536 * 65536)) * (128 * 268468225) → s ≤ 195421011968 * 195421011968
+    fits : (s : ℕ) → s ≤ (256 * (65536 * 65536)) * (128 * 268468225) → s ≤ 194584248320 * 194584248320
     fits s h = omega (arith, h)
 
-    plain : (s : ℕ) → s ≤ (42949672960 + 195421011968) * (42949672960 + 195421011968) * 1 → s ≤ (111 * 2 ^ 31) * (111 * 2 ^ 31)
+    plain : (s : ℕ) → s ≤ (52376371200 + 194584248320) * (52376371200 + 194584248320) * 1 → s ≤ (115 * 2 ^ 31) * (115 * 2 ^ 31)
     plain s h = omega (arith, h)
 
 -- ---- the whole

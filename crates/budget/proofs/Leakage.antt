@@ -76,9 +76,9 @@ tone_other k l p q ne = sum-multiple 128 16384 (λ n. w_at (apart l k * n)) ∙ 
 product_off : ℕ → ℕ → Cpx
 product_off a b = minus (times (w_at a) (w_at b)) (multiple 16384 (w_at (a + b)))
 
-product-off_small : (a b : ℕ) → IsSized 34800 1 (product_off a b)
+product-off_small : (a b : ℕ) → IsSized 22200 1 (product_off a b)
 unfolding product_off
-product-off_small a b = sized_plain (minus (times (w_at a) (w_at b)) (multiple 16384 (w_at (a + b)))) 34800 (nearly_multiplicative a b)
+product-off_small a b = sized_plain (minus (times (w_at a) (w_at b)) (multiple 16384 (w_at (a + b)))) 22200 (nearly_multiplicative a b)
 
 off : ℕ → ℕ → ℕ → Cpx
 off k l n = product_off (frequency l * n) (127 * (frequency k * n))
@@ -144,10 +144,10 @@ seen_sent grid k q =
     ∙ complex_sum_below_plus 72 (λ l. times (grid l) (complex_sum_below 128 (tone k l))) (λ l. times (grid l) (complex_sum_below 128 (off k l)))
     ∙ ap (λ (z : Cpx). plus z (complex_sum_below 72 (λ l. times (grid l) (complex_sum_below 128 (off k l))))) (only_own grid k q)
 
--- at most 72 * 128 * 128 * 34800
-pub leak-small : (grid : ℕ → Cpx) (k : ℕ) → AreAmplitudes grid → IsSized 41051750400 1 (leak grid k)
+-- at most 72 * 256 * 128 * 22200
+pub leak-small : (grid : ℕ → Cpx) (k : ℕ) → AreAmplitudes grid → IsSized 52376371200 1 (leak grid k)
 unfolding leak off
 leak-small grid k small =
-    sized-sum 72 (λ l. times (grid l) (complex_sum_below 128 (λ n. product_off (frequency l * n) (127 * (frequency k * n))))) 570163200 1 (λ l p.
-    sized-times (grid l) (complex_sum_below 128 (λ n. product_off (frequency l * n) (127 * (frequency k * n)))) 128 4454400 1 1 (sized_plain (grid l) 128 (small l p))
-    (sized-sum 128 (λ n. product_off (frequency l * n) (127 * (frequency k * n))) 34800 1 (λ n r. product-off_small (frequency l * n) (127 * (frequency k * n)))))
+    sized-sum 72 (λ l. times (grid l) (complex_sum_below 128 (λ n. product_off (frequency l * n) (127 * (frequency k * n))))) 727449600 1 (λ l p.
+    sized-times (grid l) (complex_sum_below 128 (λ n. product_off (frequency l * n) (127 * (frequency k * n)))) 256 2841600 1 1 (sized_plain (grid l) 256 (small l p))
+    (sized-sum 128 (λ n. product_off (frequency l * n) (127 * (frequency k * n))) 22200 1 (λ n r. product-off_small (frequency l * n) (127 * (frequency k * n)))))

@@ -160,7 +160,7 @@ power_some n2 sharp = some (energy_below 128 (wave n2)) sharp.power
     some : (w : ℕ) → 1990000 ≤ w → 0 < w
     some w h = omega (arith, h)
 
-clear_enough : (c e w : ℕ) → 99 * (e * w) ≤ 100 * c → e * w ≤ 4 * c
+clear_enough : (c e w : ℕ) → 999 * (e * w) ≤ 1000 * c → e * w ≤ 4 * c
 clear_enough c e w h = omega (arith, h)
 
 pub primary_stands_out : PrimaryStandsOut
@@ -170,7 +170,7 @@ primary_stands_out recording t n2 primary =
     let here = peaks_at recording t n2 primary.gain sharp clean in
     record {
       sounds = here.some;
-      clear = clear_enough (peak recording n2 t) (energy recording t) (wave_power n2) here.high;
+      clear = here.high;
       above = λ u ne a b sounds. record {
         first_sounds = here.some;
         second_sounds = sounds;
@@ -208,7 +208,7 @@ primary_is_hit recording t n2 primary low high =
       from_first = low;
       to_last = high;
       sounds = stands.sounds;
-      clear = stands.clear;
+      clear = clear_enough (peak recording n2 t) (energy recording t) (wave_power n2) stands.clear;
       none_above = λ u a b over. elim (same_or_not u t) [
         | inl same ↦ not_above_itself recording n2 t (subst (λ n. IsAbove recording n2 n t) same over)
         | inr ne ↦ not_above recording n2 t u (stands.above u ne a b over.first_sounds) over

@@ -241,11 +241,14 @@ in_middle f k small = first (nat_lt k 5)
     first true = omega arith
     first false = second (nat_lt k 67)
 
+pub amplitude : (s : ℕ) → s ≤ 128 * 128 → s ≤ 256 * 256
+amplitude s h = omega (arith, h)
+
 pub pss_amplitudes : (n2 : ℕ) → AreAmplitudes (pss_grid n2)
-pss_amplitudes n2 k l = in_middle (pss_at n2) k (λ n. (pss-size n2 n).most)
+pss_amplitudes n2 k l = amplitude _ (in_middle (pss_at n2) k (λ n. (pss-size n2 n).most))
 
 pub sss_amplitudes : (n1 n2 : ℕ) (half : Half) → AreAmplitudes (sss_grid n1 n2 half)
-sss_amplitudes n1 n2 half k l = in_middle (sss_amplitude n1 n2 half) k (amplitude_small n1 n2 half)
+sss_amplitudes n1 n2 half k l = amplitude _ (in_middle (sss_amplitude n1 n2 half) k (amplitude_small n1 n2 half))
 
 pub sent_pair_is_identified : SentPairIsIdentified
 unfolding prefix_identity

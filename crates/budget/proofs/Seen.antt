@@ -51,15 +51,15 @@ alone g a b = ap (plus (times g a)) (times-nothing_left b) ∙ plus-nothing_righ
 no_amplitudes : AreAmplitudes (λ _. nothing)
 no_amplitudes k l = omega arith
 
-gain_size : (g a : Cpx) → square a ≤ (111 * 2 ^ 31) * (111 * 2 ^ 31) → square (times g a) ≤ (111 * 2 ^ 31) * (111 * 2 ^ 31) * square g
-gain_size g a h = rw (square-times g a) (swap (square g) (square a) ((111 * 2 ^ 31) * (111 * 2 ^ 31)) h)
+gain_size : (g a : Cpx) → square a ≤ (115 * 2 ^ 31) * (115 * 2 ^ 31) → square (times g a) ≤ (115 * 2 ^ 31) * (115 * 2 ^ 31) * square g
+gain_size g a h = rw (square-times g a) (swap (square g) (square a) ((115 * 2 ^ 31) * (115 * 2 ^ 31)) h)
   where
     swap : (n s b : ℕ) → s ≤ b → n * s ≤ b * n
     swap n s b h =
         let k : n * s ≤ n * b = mul-le-mul_left n h in
         omega (arith, k)
 
-within_budget : (s n : ℕ) → s ≤ 16 * ((111 + (363 + 1)) * (111 + (363 + 1))) * n → s ≤ 1920 * 1920 * n
+within_budget : (s n : ℕ) → s ≤ 16 * ((115 + (363 + 1)) * (115 + (363 + 1))) * n → s ≤ 1920 * 1920 * n
 within_budget s n h = omega (arith, h)
 
 pub amplitude_is_seen : AmplitudeIsSeen
@@ -72,7 +72,7 @@ amplitude_is_seen eps gain grid samples k small received l =
     sym (ap (λ (z : Cpx). multiple (2 ^ 29) (minus (seen_in samples k) (multiple 64 z))) (alone gain (grid k) nothing))
     ∙ causes.whole ∙ ap (λ (z : Cpx). plus z (plus causes.errors causes.rounding)) (alone gain causes.sending causes.second_sending) in
     record {
-      off = within_budget (square d) (square gain) (join 111 363 1 (square gain) d (times gain causes.sending) causes.errors causes.rounding whole
+      off = within_budget (square d) (square gain) (join 115 363 1 (square gain) d (times gain causes.sending) causes.errors causes.rounding whole
           (record { sized = gain_size gain causes.sending causes.sending_small })
           (record { sized = errors_of_one eps (square gain) (square causes.errors) received.quiet causes.errors_small })
           (record { sized = rounding_in (square gain) (square causes.rounding) received.sounds causes.rounding_small }));
@@ -84,14 +84,14 @@ amplitude_is_seen_in_recording eps gain grid recording start k small received l 
 
 -- ---- two gains
 
--- 2 * 111^2 is below 157^2
-both_sizes : (m n s : ℕ) → s ≤ (m + n) * ((111 * 2 ^ 31) * (111 * 2 ^ 31) + (111 * 2 ^ 31) * (111 * 2 ^ 31)) → s ≤ (157 * 2 ^ 31) * (157 * 2 ^ 31) * (m + n)
+-- 2 * 115^2 is below 163^2
+both_sizes : (m n s : ℕ) → s ≤ (m + n) * ((115 * 2 ^ 31) * (115 * 2 ^ 31) + (115 * 2 ^ 31) * (115 * 2 ^ 31)) → s ≤ (163 * 2 ^ 31) * (163 * 2 ^ 31) * (m + n)
 both_sizes m n s h = omega (arith, h)
 
 commuted : (b n s : ℕ) → s ≤ b * n → s ≤ n * b
 commuted b n s h = omega (arith, h)
 
-within_budget_of_two : (s n : ℕ) → s ≤ 16 * ((157 + (91 + 1)) * (157 + (91 + 1))) * n → s ≤ 1024 * 1024 * n
+within_budget_of_two : (s n : ℕ) → s ≤ 16 * ((163 + (91 + 1)) * (163 + (91 + 1))) * n → s ≤ 1024 * 1024 * n
 within_budget_of_two s n h = omega (arith, h)
 
 pub two_amplitudes_are_seen : TwoAmplitudesAreSeen
@@ -101,9 +101,9 @@ two_amplitudes_are_seen eps gain other grid second_grid samples k small second_s
     let d : Cpx = minus (seen_in samples k) (multiple 64 (plus (times gain (grid k)) (times other (second_grid k)))) in
     let x : Cpx = times gain causes.sending in
     let y : Cpx = times other causes.second_sending in
-    let u : ℕ = (111 * 2 ^ 31) * (111 * 2 ^ 31) in
+    let u : ℕ = (115 * 2 ^ 31) * (115 * 2 ^ 31) in
     record {
-      off = within_budget_of_two (square d) n (join 157 91 1 n d (plus x y) causes.errors causes.rounding causes.whole
+      off = within_budget_of_two (square d) n (join 163 91 1 n d (plus x y) causes.errors causes.rounding causes.whole
           (record {
             sized = both_sizes (square gain) (square other) (square (plus x y)) (two_term_cauchy x y (square gain) u (square other) u
                 (commuted u (square gain) (square x) (gain_size gain causes.sending causes.sending_small))

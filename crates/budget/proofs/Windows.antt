@@ -18,13 +18,13 @@ with_errors gain p e n = plus (times gain (p n)) (e n)
 
 pub record Peaks (c e w : ℕ) : Type 0 where
   pub some : 0 < e
-  pub high : 99 * (e * w) ≤ 100 * c
+  pub high : 999 * (e * w) ≤ 1000 * c
 
-peaks : (n w q e c : ℕ) → 1 ≤ n → 1990000 ≤ w → q ≤ 1024 * n → n * w ≤ 2 * e + 2 * q → e * w ≤ c + w * q → Peaks c e w
+peaks : (n w q e c : ℕ) → 1 ≤ n → 1990000 ≤ w → q ≤ 1024 * n → 2 * (n * w) ≤ 3 * e + 6 * q → e * w ≤ c + w * q → Peaks c e w
 peaks n w q e c some power small low lacks =
     let nw : n * 1990000 ≤ n * w = mul-le-mul_left n power in
-    let room : 100 * q ≤ e = omega (arith, nw, low, small) in
-    let all : w * (100 * q) ≤ w * e = mul-le-mul_left w room in
+    let room : 1000 * q ≤ e = omega (arith, nw, low, small) in
+    let all : w * (1000 * q) ≤ w * e = mul-le-mul_left w room in
     record { some = omega (arith, nw, low, small, some); high = omega (arith, all, lacks) }
 
 -- its correlation is nearly the product of the energies
@@ -32,10 +32,10 @@ pub true_place : (g : Cpx) (p e : ℕ → Cpx) → 1 ≤ square g → 1990000 �
     Peaks (square (correlation_below 128 (with_errors g p e) p)) (energy_below 128 (with_errors g p e)) (energy_below 128 p)
 true_place g p e some power small =
     peaks (square g) (energy_below 128 p) (energy_below 128 e) (energy_below 128 (with_errors g p e)) (square (correlation_below 128 (with_errors g p e) p)) some power small
-    (low (energy_below 128 (λ k. times g (p k))) (square g * energy_below 128 p) (energy_below 128 (with_errors g p e)) (energy_below 128 e) (energy_gain 128 g p) (energy_weighted_term 1 128 (λ k. times g (p k)) e))
+    (low (energy_below 128 (λ k. times g (p k))) (square g * energy_below 128 p) (energy_below 128 (with_errors g p e)) (energy_below 128 e) (energy_gain 128 g p) (energy_weighted_term 2 128 (λ k. times g (p k)) e))
     (gram_le 128 g p e)
   where
-    low : (t nw e q : ℕ) → t ≡ nw → 1 * t ≤ (1 + 1) * e + 1 * (1 + 1) * q → nw ≤ 2 * e + 2 * q
+    low : (t nw e q : ℕ) → t ≡ nw → 2 * t ≤ (2 + 1) * e + 2 * (2 + 1) * q → 2 * nw ≤ 3 * e + 6 * q
     low t nw e q same h = omega (arith, same, h)
 
 -- ---- a window beside it
@@ -114,10 +114,10 @@ beside a m s gain x p e z f g h w share part small faint =
 
 -- ---- the two compared
 
--- at least 99/100 is above at most 3/4
-pub above : (c e w c' e' : ℕ) → 99 * (e * w) ≤ 100 * c → 4 * c' ≤ 3 * w * e' → 0 < e → 0 < e' → 0 < w → c' * e < c * e'
+-- at least 999/1000 is above at most 3/4
+pub above : (c e w c' e' : ℕ) → 999 * (e * w) ≤ 1000 * c → 4 * c' ≤ 3 * w * e' → 0 < e → 0 < e' → 0 < w → c' * e < c * e'
 above c e w c' e' high low some some' power =
-    let a : 99 * (e * w) * e' ≤ 100 * c * e' = mul-le-mul_right e' high in
+    let a : 999 * (e * w) * e' ≤ 1000 * c * e' = mul-le-mul_right e' high in
     let b : 4 * c' * e ≤ 3 * w * e' * e = mul-le-mul_right e low in
     let p : 0 < e * w * e' = mul-pos (mul-pos some power) some' in
     omega (arith, a, b, p)

@@ -26,8 +26,8 @@ pub record HasFourCauses (eps : ℕ) (gain other : Cpx) (grid second_grid sample
   pub second_sending_is : second_sending ≡ minus (multiple (2 ^ 17) (spectrum_at (useful_at second_grid) k)) (multiple (2 ^ 35) (second_grid k))
   pub errors_is : errors ≡ multiple (2 ^ 17) (spectrum_at (λ n. minus (samples n) (plus (times gain (useful_at grid n)) (times other (useful_at second_grid n)))) k)
   pub rounding_is : rounding ≡ multiple (2 ^ 17) (minus (multiple (2 ^ 12) (seen_in samples k)) (spectrum_at samples k))
-  pub sending_small : square sending ≤ (111 * 2 ^ 31) * (111 * 2 ^ 31)
-  pub second_sending_small : square second_sending ≤ (111 * 2 ^ 31) * (111 * 2 ^ 31)
+  pub sending_small : square sending ≤ (115 * 2 ^ 31) * (115 * 2 ^ 31)
+  pub second_sending_small : square second_sending ≤ (115 * 2 ^ 31) * (115 * 2 ^ 31)
   pub errors_small : square errors ≤ 2 ^ 49 * (eps * eps) * (16385 * 16385)
   pub rounding_small : square rounding ≤ 2 ^ 57
 

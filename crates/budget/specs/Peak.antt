@@ -14,11 +14,11 @@ pub record IsPrimaryAt (recording : List Sample) (t n2 : ℕ) : Type 0 where
   pub root : n2 ≤ 2
   pub received : IsReceived eps gain (pss_grid n2) (samples_from recording t)
 
--- the place t has energy and four times its peak is at least its energy times the signal's power; its metric is greater than that
--- of each place with energy at distance 1 to 9
+-- the place t has energy, and its peak is at least 999 thousandths of its energy times the signal's power; its metric is greater than
+-- that of each place with energy at distance 1 to 9
 pub record StandsOut (recording : List Sample) (t n2 : ℕ) : Type 0 where
   pub sounds : 0 < energy recording t
-  pub clear : energy recording t * wave_power n2 ≤ 4 * peak recording n2 t
+  pub clear : 999 * (energy recording t * wave_power n2) ≤ 1000 * peak recording n2 t
   pub above : (u : ℕ) → u ≢ t → u ≤ t + 9 → t ≤ u + 9 → 0 < energy recording u → IsAbove recording n2 t u
 
 abbrev pub PrimaryStandsOut : Type 0

@@ -6,9 +6,9 @@ use Rattle.cs_num.specs.declared.Sample.{Sample}
 use Rattle.cs_num.specs.Complex.{IsWithin, plus, times, square, sample_at, minus, multiple}
 use Rattle.fold128.specs.Symbol.{useful_at}
 
--- the amplitudes of a grid have size at most 128
+-- the amplitudes of a grid have size at most 256
 abbrev pub AreAmplitudes : (ℕ → Cpx) → Type 0
-AreAmplitudes grid = (k : ℕ) → k < 72 → square (grid k) ≤ 128 * 128
+AreAmplitudes grid = (k : ℕ) → k < 72 → square (grid k) ≤ 256 * 256
 
 -- 128 samples are the useful part of a symbol with this grid times a gain that is not 0, each component off by at most eps,
 -- where eps is at most twice the gain's size
