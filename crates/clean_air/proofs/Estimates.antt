@@ -26,7 +26,7 @@ pub sent-size : (pattern : Pattern) (identity number i : ℕ) → square (patter
 unfolding pattern_sent
 sent-size pattern identity number i = full-size _ (pattern_reference-IsPoint pattern identity number (pattern_symbol pattern identity i) (pilot_subcarrier identity i / 6))
 
-pilot-near : (pattern : Pattern) (gain : Cpx) (slot : SeenSlot) (i : ℕ) → i < 24 → ArePatternSeen pattern gain slot → IsNear (square gain) gain 1036800 245760 (pattern_pilot pattern slot i)
+pub pilot-near : (pattern : Pattern) (gain : Cpx) (slot : SeenSlot) (i : ℕ) → i < 24 → ArePatternSeen pattern gain slot → IsNear (square gain) gain 1036800 245760 (pattern_pilot pattern slot i)
 unfolding pattern_pilot
 pilot-near pattern gain slot i l seen = record {
   off = times (deviation gain d p) (conjugate d);

@@ -13,4 +13,4 @@ received_same eps gain grid other samples same received = record {
 }
 
 pub amplitudes_same : (grid other : ℕ → Cpx) → ((k : ℕ) → k < 72 → grid k ≡ other k) → AreAmplitudes grid → AreAmplitudes other
-amplitudes_same grid other same small k l = subst (λ (z : Cpx). square z ≤ 128 * 128) (same k l) (small k l)
+amplitudes_same grid other same small k l = subst (λ (z : Cpx). square z ≤ 256 * 256) (same k l) (small k l)

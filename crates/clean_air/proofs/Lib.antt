@@ -18,6 +18,10 @@ pub mod SharedBlocks
 pub mod Masters
 -- The described cell. Equal amplitudes are received equally.
 pub mod Grids
+-- What elements are at the places that a plan takes, which carry it.
+pub mod Carrying
+-- At each place that it takes a plan sends a point.
+pub mod Taken
 -- Each symbol of a clean recording is received as it was sent.
 pub mod SentSymbols
 -- The word that a cell broadcasts has its fields, and its check passes.

@@ -18,11 +18,11 @@ use Rattle.grid_map.specs.Scrambling.{pbch_c_init}
 use Rattle.grid_map.proofs.Points.{length-pbch_places, places_inside}
 use Rattle.soft_bits.specs.Places.{soft_values_of, descrambled}
 use Rattle.pbch.specs.Values.{received_values, summed_values, coded_values}
-use Rattle.pbch.specs.Master.{total, Tells}
+use Rattle.pbch.specs.Master.{total}
 use Rattle.pbch.proofs.Sums.{length-received_values}
 use Rattle.cell_tx.specs.Block.{scrambled_bit}
 use Rattle.clean_air.specs.Carried.{SpeakOfWord, sums_of, AreHeard}
-use Rattle.clean_air.specs.Broadcast.{SpokenWordIsTold, SentWordIsTold, ReceivedSlotTells}
+use Rattle.clean_air.specs.Broadcast.{TellsFreely, SpokenWordIsTold, SentWordIsTold, ReceivedSlotTells}
 use Rattle.clean_air.proofs.Speaking.{sums_speak_all, carried_bits_are_heard}
 use Rattle.clean_air.proofs.SpokenWords.{spoken_word_is_only}
 
@@ -39,11 +39,14 @@ pub spoken_word_is_told : SpokenWordIsTold
 spoken_word_is_told ports word sums size many speaks passes width =
     let only = spoken_word_is_only sums word (omega (arith, many)) (size ∙ sym many) speaks in
     record {
-      least = only.least;
-      heard = heard sums word many speaks;
-      clear = nothing (word_cost sums word) (total sums) only.free;
-      check = passes;
-      width = width;
+      tells = record {
+        least = only.least;
+        heard = heard sums word many speaks;
+        clear = nothing (word_cost sums word) (total sums) only.free;
+        check = passes;
+        width = width;
+      };
+      free = only.free;
     }
   where
     nothing : (a b : ℕ) → a ≡ 0 → 4 * a ≤ b
@@ -70,7 +73,7 @@ all_below_72 identity = All-from_get_or (λ (p : Place). p.k < 72) (pbch_places 
 pub received_slot_tells : ReceivedSlotTells
 unfolding coded_values summed_values
 received_slot_tells recording starts grids slot phase ports word received size carry passes width =
-    subst (λ values. Tells (sums_of (pbch_c_init slot.identity) (480 * phase) 40 values) word ports) (sym (append-nil (received_values slot)))
+    subst (λ values. TellsFreely (sums_of (pbch_c_init slot.identity) (480 * phase) 40 values) word ports) (sym (append-nil (received_values slot)))
     (sent_word_is_told (pbch_c_init slot.identity) (480 * phase) ports word (received_values slot) size speaks passes width)
   where
     many : length (received_values slot) ≡ 480

@@ -1,6 +1,6 @@
 -- The plan of an entry: there is only one, and in a clean recording that of the sent cell.
 use Rattle.std.specs.Prelude.{IfOk}
-use Rattle.std.proofs.Common.{◌≡◌, ℕ, ◌+◌, ◌%◌, ◌<◌, ◌≤◌, arith, refl, ap, ap₂, sym, subst, ◌∙◌, List, length, Option, Some, None, Result, Ok, Err}
+use Rattle.std.proofs.Common.{◌≡◌, ℕ, ◌+◌, ◌%◌, ◌<◌, ◌≤◌, arith, refl, ap, sym, subst, ◌∙◌, List, length, Option, Some, None, Result, Ok}
 use Rattle.cs_num.specs.declared.Cpx.{Cpx}
 use Rattle.cs_num.specs.declared.Sample.{Sample}
 use Rattle.lte_types.specs.declared.bandwidth.Bandwidth.TheVariants.{N6}
@@ -25,12 +25,14 @@ use Rattle.cell_tx.specs.declared.error.CellError.{CellError}
 use Rattle.cell_tx.specs.declared.cell.CellPlan.{CellPlan}
 use Rattle.cell_tx.specs.Control.{grant_of as sent_grant}
 use Rattle.cell_tx.specs.Plan.{IsSendable, plan_refusal}
-use Rattle.cell_tx.specs.Clean.{IsClean, start_of, number_at_start}
+use Rattle.cell_tx.specs.Sent.{Elements}
+use Rattle.cell_tx.specs.Clean.{start_of, number_at_start}
+use Rattle.clean_air.specs.Load.{IsLoaded}
 use Rattle.cell_tx.proofs.Sendable.{accepted_is_sendable}
-use Rattle.clean_air.specs.Clean.{IsSentEntry, HoldsOne}
+use Rattle.clean_air.specs.Clean.{IsSentEntry}
 use Rattle.clean_air.specs.Planned.{plan_by, IsPlanned, IsPlanOf, IsSentPlan, IsOnePlan}
 use Rattle.clean_air.proofs.SentSystem.{grant_read, fields_read}
-use Rattle.clean_air.proofs.HeldCells.{holds_clean_cells}
+use Rattle.clean_air.proofs.HeldCells.{holds_loaded_cells}
 
 -- ---- one plan
 
@@ -93,8 +95,8 @@ same_attempt attempt i g f x y z = built attempt.cfi attempt.grant attempt.answe
         ◌≡◌ {A = Attempt} (record { cfi = j; grant = h; answer = a }) (record { cfi = i; grant = Some g; answer = Ok f })
     built j h a x y z = rw (x, y, z) refl
 
-module _ (recording : List Sample) (entry : Entry) (plan : CellPlan) (sfn offset : ℕ) (gain : Cpx) (eps : ℕ) (long : 57600 ≤ length recording) (listed : IsInList recording entry)
-    (sendable : IsSendable plan) (clean : IsClean recording plan sfn offset gain eps) (id : entry.id ≡ plan.identity) (start : entry.start ≡ start_of offset)
+module _ (recording : List Sample) (entry : Entry) (plan : CellPlan) (grid : Elements) (sfn offset : ℕ) (gain : Cpx) (eps : ℕ) (long : 57600 ≤ length recording) (listed : IsInList recording entry)
+    (sendable : IsSendable plan) (clean : IsLoaded recording plan grid sfn offset gain eps) (id : entry.id ≡ plan.identity) (start : entry.start ≡ start_of offset)
     (number : entry.sfn ≡ number_at_start sfn offset) where
   abbrev sent_sfn : ℕ
   sent_sfn = number_at_start sfn offset
@@ -105,7 +107,7 @@ module _ (recording : List Sample) (entry : Entry) (plan : CellPlan) (sfn offset
   -- the entry is the cell's
   is_sent : IsSentEntry plan sent_sfn entry
   is_sent =
-      let held = holds_clean_cells recording listed.list long listed.explained plan sfn offset gain eps sendable clean in
+      let held = holds_loaded_cells recording listed.list long listed.explained plan grid sfn offset gain eps sendable clean in
       subst (λ (e : Entry). IsSentEntry plan (number_at_start sfn offset) e) (sym (held.only entry listed.inside id start number)) held.sent
 
   -- the values of subframe 5 of a frame
@@ -125,8 +127,8 @@ module _ (recording : List Sample) (entry : Entry) (plan : CellPlan) (sfn offset
   attempt_read =
       let whole = (first_tried recording (start_of offset) sent_sfn long early).whole in
       let even = even_number sent_sfn 0 in
-      let reads = fields_read recording plan sfn offset gain eps sendable clean j whole even in
-      let has = (grant_read recording plan sfn offset gain eps sendable clean j whole even).attempt reads.attempt reads.is in
+      let reads = fields_read recording plan grid sfn offset gain eps sendable clean j whole even in
+      let has = (grant_read recording plan grid sfn offset gain eps sendable clean j whole even).attempt reads.attempt reads.is in
       let is = subst (λ (a : Attempt). IsAttempt (values_at plan.identity (start_of offset) j plan.duration plan.resource) a) (same_attempt reads.attempt plan.cfi granted plan.sib1 has.cfi has.granted reads.answers) reads.is in
       rw (id, start, number, is_sent.block.duration, is_sent.block.resource) is
 
@@ -156,5 +158,5 @@ module _ (recording : List Sample) (entry : Entry) (plan : CellPlan) (sfn offset
 
 pub sent_plan : (recording : List Sample) (entry : Entry) (answer : Option CellPlan) → 57600 ≤ length recording → IsInList recording entry →
     IsPlanOf recording entry answer → IsSentPlan recording entry answer
-sent_plan recording entry answer long listed is plan sfn offset gain eps sendable clean id start number =
-    one_plan_of recording entry answer (Some plan) is (planned recording entry plan sfn offset gain eps long listed sendable clean id start number)
+sent_plan recording entry answer long listed is plan grid sfn offset gain eps sendable clean id start number =
+    one_plan_of recording entry answer (Some plan) is (planned recording entry plan grid sfn offset gain eps long listed sendable clean id start number)

@@ -1,11 +1,11 @@
--- The slots of a clean recording: each of a whole frame is received as it was sent, and the broadcast channel carries the cell's word.
+-- The slots of a clean recording, whatever else its cell sends: each of a whole frame is received as it was sent, and the broadcast channel carries the cell's word.
 use Rattle.std.proofs.Common.{◌≡◌, ℕ, ◌+◌, ◌*◌, ◌/◌, ◌%◌, ◌<◌, ◌≤◌, arith, refl, ap, sym, subst, ◌∙◌, List, [], length, nat_eq, Bool, true, false, None}
 use Rattle.std.specs.Prelude.{if◌then◌else◌, ◌&&◌}
 use Rattle.std.proofs.lemmas.Bool.Decides.{nat_tests}
 use Rattle.cs_num.specs.declared.Cpx.{Cpx}
 use Rattle.cs_num.specs.declared.Sample.{Sample}
 use Rattle.finite.proofs.Lists.{values_below_at}
-use Rattle.crs.specs.Reference.{is_reference, first_subcarrier, pattern_reference, reference, reference_c_init, reference_at}
+use Rattle.crs.specs.Reference.{port_0, is_reference, first_subcarrier, pattern_reference, reference, reference_c_init, reference_at}
 use Rattle.observe.specs.Seen.{seen_symbol}
 use Rattle.sync_seq.specs.Middle.{is_middle}
 use Rattle.soft_bits.specs.Soft.{pattern_symbol, pattern_sent, pilot_symbol, pilot_subcarrier, pilot_sent}
@@ -16,22 +16,25 @@ use Rattle.grid_map.specs.Scrambling.{pbch_c_init}
 use Rattle.grid_map.proofs.Points.{length-pbch_places, places_inside, index_of_place}
 use Rattle.cell_tx.specs.declared.cell.CellPlan.{CellPlan}
 use Rattle.cell_tx.specs.declared.antenna.Port.TheVariants.{Only}
-use Rattle.cell_tx.specs.Block.{port_point, port_bit, broadcast_word, broadcast_bit, broadcast_point}
+use Rattle.cell_tx.specs.Block.{port_point, port_bit, broadcast_word, broadcast_point}
 use Rattle.cell_tx.specs.Grid.{is_broadcast, port_element, element}
-use Rattle.cell_tx.specs.Clean.{IsClean, start_of, number_at_start}
+use Rattle.cell_tx.specs.Sent.{Elements}
+use Rattle.cell_tx.specs.Clean.{start_of, number_at_start}
+use Rattle.clean_air.specs.Load.{CarriesPlan, IsLoaded}
 use Rattle.cell_tx.specs.Rows.{reference_if}
-use Rattle.cell_tx.proofs.Bounds.{element-square}
 use Rattle.cell_tx.proofs.Elements.{element_of_channel, channel_of_broadcast}
+use Rattle.clean_air.proofs.Carrying.{of_own_reference, of_broadcast}
 use Rattle.lte_types.specs.Numerology.{normal, useful_start}
 use Rattle.explain.specs.Frame.{IsWhole, frame_at, seen_slot, broadcast_slot}
 use Rattle.budget.specs.Received.{IsReceived, samples_from}
-use Rattle.clean_air.specs.Values.{IsSlotReceived}
+use Rattle.clean_air.specs.Values.{ArePilotsSeen, IsSlotReceived}
+use Rattle.clean_air.proofs.SoftValues.{pattern_pilots_seen}
 use Rattle.clean_air.specs.Carried.{CarryWord}
 use Rattle.clean_air.proofs.SentSymbols.{received_at, first_frame}
 
--- the grid of the symbols of slot 0 to 19 of the frame with this number
-abbrev pub slot_grid : CellPlan → ℕ → ℕ → ℕ → ℕ → Cpx
-slot_grid plan number slot l = element plan number (slot / 2) (7 * (slot % 2) + l)
+-- the symbols of slot 0 to 19 of the frame with this number
+abbrev pub slot_grid : Elements → ℕ → ℕ → ℕ → ℕ → Cpx
+slot_grid grid number slot l = grid number (slot / 2) (7 * (slot % 2) + l)
 
 -- ---- the reference signals
 
@@ -53,18 +56,26 @@ pilot_place identity i = settle (is_reference identity 0 (pilot_subcarrier ident
     settle true e = record { is = e; inside = omega arith }
     settle false e = record { is = other_symbol identity i (pilot_subcarrier identity i) refl e; inside = omega arith }
 
-reference_here : (plan : CellPlan) (number slot l k : ℕ) → l < 7 → is_reference plan.identity l k ≡ true → slot_grid plan number slot l k ≡ reference_at plan.identity slot l k
+reference_here : (plan : CellPlan) (number slot l k : ℕ) → l < 7 → is_reference plan.identity l k ≡ true → slot_grid (element plan) number slot l k ≡ reference_at plan.identity slot l k
 unfolding port_element
 reference_here plan number slot l k inside is =
     let symbol : (7 * (slot % 2) + l) % 7 ≡ l = omega (arith, inside) in
     let place : 2 * (slot / 2) + (7 * (slot % 2) + l) / 7 ≡ slot = omega (arith, inside) in
     rw (symbol, place, is) refl
 
-pub references_stand : (plan : CellPlan) (number slot i : ℕ) → slot_grid plan number slot (pilot_symbol plan.identity i) (pilot_subcarrier plan.identity i) ≡ pilot_sent plan.identity slot i
+reference_carried : (plan : CellPlan) (grid : Elements) → CarriesPlan Only plan grid → (number slot l k : ℕ) → l < 7 → is_reference plan.identity l k ≡ true →
+    slot_grid grid number slot l k ≡ slot_grid (element plan) number slot l k
+reference_carried plan grid carries number slot l k inside is =
+    let symbol : (7 * (slot % 2) + l) % 7 ≡ l = omega (arith, inside) in
+    of_own_reference Only plan grid carries number (slot / 2) (7 * (slot % 2) + l) k (rw symbol is)
+
+pub references_stand : (plan : CellPlan) (grid : Elements) → CarriesPlan Only plan grid → (number slot i : ℕ) →
+    slot_grid grid number slot (pilot_symbol plan.identity i) (pilot_subcarrier plan.identity i) ≡ pilot_sent plan.identity slot i
 unfolding pattern_sent pattern_reference reference_at reference reference_c_init
-references_stand plan number slot i =
+references_stand plan grid carries number slot i =
     let p = pilot_place plan.identity i in
-    reference_here plan number slot (pilot_symbol plan.identity i) (pilot_subcarrier plan.identity i) p.inside p.is
+    reference_carried plan grid carries number slot (pilot_symbol plan.identity i) (pilot_subcarrier plan.identity i) p.inside p.is
+    ∙ reference_here plan number slot (pilot_symbol plan.identity i) (pilot_subcarrier plan.identity i) p.inside p.is
 
 -- ---- the places of the broadcast channel
 
@@ -88,19 +99,19 @@ point_here plan number symbol k i at e =
     element_of_channel Only plan number 0 symbol k free (not_there symbol 6 (is_middle k) at.low (omega arith)) (not_there symbol 5 (is_middle k) at.low (omega arith))
     ∙ channel_of_broadcast Only plan number 0 symbol k at.here ∙ ap (broadcast_point plan number) (sym e)
 
-pub points_stand : (plan : CellPlan) (number i : ℕ) → i < 240 →
-    slot_grid plan number 1 ((pbch_place plan.identity i).symbol % 7) (pbch_place plan.identity i).k ≡ broadcast_point plan number i
-points_stand plan number i inside =
+pub points_stand : (plan : CellPlan) (grid : Elements) → CarriesPlan Only plan grid → (number i : ℕ) → i < 240 →
+    slot_grid grid number 1 ((pbch_place plan.identity i).symbol % 7) (pbch_place plan.identity i).k ≡ broadcast_point plan number i
+points_stand plan grid carries number i inside =
     let p = pbch_place plan.identity i in
     let is = places_inside plan.identity i inside in
     let at = broadcast_place plan.identity p is in
     let symbol : 7 + p.symbol % 7 ≡ p.symbol = omega (arith, at.low, at.high) in
-    ap (λ n. element plan number 0 n p.k) symbol ∙ point_here plan number p.symbol p.k i at (sym (index_of_place plan.identity i inside))
+    ap (λ n. grid number 0 n p.k) symbol ∙ of_broadcast Only plan grid carries number 0 p.symbol p.k at.here ∙ point_here plan number p.symbol p.k i at (sym (index_of_place plan.identity i inside))
 
-pub carries_word : (plan : CellPlan) (number : ℕ) →
-    CarryWord (slot_grid plan number 1) (pbch_places plan.identity) (pbch_c_init plan.identity) (480 * (number % 4)) (broadcast_word plan number)
+pub carries_word : (plan : CellPlan) (grid : Elements) → CarriesPlan Only plan grid → (number : ℕ) →
+    CarryWord (slot_grid grid number 1) (pbch_places plan.identity) (pbch_c_init plan.identity) (480 * (number % 4)) (broadcast_word plan number)
 unfolding pbch_place port_point port_bit
-carries_word plan number i inside = points_stand plan number i (omega (arith, inside, length-pbch_places plan.identity))
+carries_word plan grid carries number i inside = points_stand plan grid carries number i (omega (arith, inside, length-pbch_places plan.identity))
 
 -- ---- the slots
 
@@ -115,12 +126,12 @@ frame_is sfn offset j known within =
     record { place = omega (arith, first.place); number = omega (arith, first.number) }
 
 -- each slot of a whole frame is received
-pub each_slot_received : (recording : List Sample) (plan : CellPlan) (sfn offset : ℕ) (gain : Cpx) (eps : ℕ) → IsClean recording plan sfn offset gain eps →
+pub each_slot_received : (recording : List Sample) (plan : CellPlan) (grid : Elements) (sfn offset : ℕ) (gain : Cpx) (eps : ℕ) → IsLoaded recording plan grid sfn offset gain eps →
     (j slot : ℕ) → IsWhole recording (start_of offset) j → slot < 20 →
-    IsSlotReceived recording (useful_start normal (frame_at (start_of offset) j) slot) (slot_grid plan ((number_at_start sfn offset + j) % 1024) slot)
+    IsSlotReceived recording (useful_start normal (frame_at (start_of offset) j) slot) (slot_grid grid ((number_at_start sfn offset + j) % 1024) slot)
     (seen_slot recording (frame_at (start_of offset) j) slot plan.identity)
 unfolding seen_slot
-each_slot_received recording plan sfn offset gain eps clean j slot whole few =
+each_slot_received recording plan grid sfn offset gain eps clean j slot whole few =
     let number : ℕ = (number_at_start sfn offset + j) % 1024 in
     let start : ℕ → ℕ = useful_start normal (frame_at (start_of offset) j) slot in
     let n : ℕ = (if nat_eq offset 0 then 0 else 1) + j in
@@ -129,19 +140,27 @@ each_slot_received recording plan sfn offset gain eps clean j slot whole few =
       eps = eps;
       gain = gain;
       seen = λ l inside. values_below_at (λ symbol. seen_symbol recording (start symbol)) 7 l [] inside;
-      amplitudes = λ l inside k within. element-square Only plan number (slot / 2) (7 * (slot % 2) + l) k;
-      received = λ l inside. subst (λ m. IsReceived eps gain (slot_grid plan m slot l) (samples_from recording (start l))) frame.number
-          (received_at recording (element plan) sfn offset gain eps (start l) n slot l clean.samples few inside (omega (arith, whole, inside, few)) (omega (arith, frame.place)));
-      references = λ i inside. references_stand plan number slot i;
+      amplitudes = λ l inside. clean.carries.small number (slot / 2) (7 * (slot % 2) + l);
+      received = λ l inside. subst (λ m. IsReceived eps gain (slot_grid grid m slot l) (samples_from recording (start l))) frame.number
+          (received_at recording grid sfn offset gain eps (start l) n slot l clean.samples few inside (omega (arith, whole, inside, few)) (omega (arith, frame.place)));
+      references = λ i inside. references_stand plan grid clean.carries number slot i;
     }
 
+-- its pilots are seen with the gain
+pub pilots_received : (recording : List Sample) (plan : CellPlan) (grid : Elements) (sfn offset : ℕ) (gain : Cpx) (eps : ℕ) → IsLoaded recording plan grid sfn offset gain eps →
+    (j slot : ℕ) → IsWhole recording (start_of offset) j → slot < 20 → ArePilotsSeen gain (seen_slot recording (frame_at (start_of offset) j) slot plan.identity)
+unfolding each_slot_received
+pilots_received recording plan grid sfn offset gain eps clean j slot whole few =
+    pattern_pilots_seen port_0 7 recording (useful_start normal (frame_at (start_of offset) j) slot) (slot_grid grid ((number_at_start sfn offset + j) % 1024) slot)
+    (seen_slot recording (frame_at (start_of offset) j) slot plan.identity) (each_slot_received recording plan grid sfn offset gain eps clean j slot whole few) (omega arith)
+
 -- so that which carries the broadcast channel in the first frame is
-pub slot_received : (recording : List Sample) (plan : CellPlan) (sfn offset : ℕ) (gain : Cpx) (eps : ℕ) → IsClean recording plan sfn offset gain eps → 57600 ≤ length recording →
-    IsSlotReceived recording (useful_start normal (frame_at (start_of offset) 0) 1) (slot_grid plan (number_at_start sfn offset) 1) (broadcast_slot recording plan.identity (start_of offset) 0)
-slot_received recording plan sfn offset gain eps clean long =
+pub slot_received : (recording : List Sample) (plan : CellPlan) (grid : Elements) (sfn offset : ℕ) (gain : Cpx) (eps : ℕ) → IsLoaded recording plan grid sfn offset gain eps → 57600 ≤ length recording →
+    IsSlotReceived recording (useful_start normal (frame_at (start_of offset) 0) 1) (slot_grid grid (number_at_start sfn offset) 1) (broadcast_slot recording plan.identity (start_of offset) 0)
+slot_received recording plan grid sfn offset gain eps clean long =
     let number : (number_at_start sfn offset + 0) % 1024 ≡ number_at_start sfn offset = first_number sfn offset clean.number in
-    subst (λ m. IsSlotReceived recording (useful_start normal (frame_at (start_of offset) 0) 1) (slot_grid plan m 1) (broadcast_slot recording plan.identity (start_of offset) 0)) number
-    (each_slot_received recording plan sfn offset gain eps clean 0 1 (omega (arith, long)) (omega arith))
+    subst (λ m. IsSlotReceived recording (useful_start normal (frame_at (start_of offset) 0) 1) (slot_grid grid m 1) (broadcast_slot recording plan.identity (start_of offset) 0)) number
+    (each_slot_received recording plan grid sfn offset gain eps clean 0 1 (omega (arith, long)) (omega arith))
   where
     first_number : (sfn offset : ℕ) → sfn ≤ 1023 → (number_at_start sfn offset + 0) % 1024 ≡ number_at_start sfn offset
     first_number sfn offset known = grind (arith, nat_tests)

@@ -1,4 +1,4 @@
--- The symbols of a clean recording: each is received as it was sent.
+-- The symbols of a clean recording, whatever else its cell sends: each is received as it was sent.
 use Rattle.std.proofs.Common.{◌≡◌, ℕ, ◌+◌, ◌-◌, ◌*◌, ◌/◌, ◌%◌, ◌<◌, ◌≤◌, arith, inl, inr, refl, ap, subst, ◌∙◌, List, length, nat_eq, nat_le, nat_lt}
 use Rattle.std.specs.Prelude.{if◌then◌else◌, ◌&&◌}
 use Rattle.std.proofs.lemmas.Bool.Decides.{nat_tests}
@@ -15,10 +15,12 @@ use Rattle.cell_tx.specs.Grid.{port_element, element}
 use Rattle.lte_types.specs.declared.numerology.Prefix.{Prefix}
 use Rattle.lte_types.specs.Numerology.{normal, IsPrefix, symbols_of_slot, useful_start, subframe_of, primary_start}
 use Rattle.cell_tx.specs.Sent.{Elements, prefix_sent, sent}
-use Rattle.cell_tx.specs.Clean.{IsCleanOf, IsClean, start_of, number_at_start}
+use Rattle.cell_tx.specs.Clean.{IsCleanOf, start_of, number_at_start}
+use Rattle.clean_air.specs.Load.{CarriesPlan, IsLoaded}
 use Rattle.cell_tx.proofs.Symbols.{frames_follow, useful_parts_stand, in_useful}
 use Rattle.cell_tx.proofs.Elements.{no_reference}
 use Rattle.cell_tx.proofs.SignalSymbols.{no_channel}
+use Rattle.clean_air.proofs.Carrying.{of_primary_symbol, of_secondary_symbol}
 use Rattle.budget.specs.Received.{IsReceived, samples_from}
 use Rattle.budget.specs.Score.{sss_grid}
 use Rattle.budget.specs.Peak.{IsPrimaryAt}
@@ -75,27 +77,35 @@ unfolding port_element
 secondary_symbol plan sfn k Zero = rw (no_reference plan.identity 5 k refl refl, no_channel Only plan sfn 0 5 k (inl refl)) (middle k _ nothing)
 secondary_symbol plan sfn k Five = rw (no_reference plan.identity 5 k refl refl, no_channel Only plan sfn 5 5 k (inl refl)) (middle k _ nothing)
 
+-- so do elements that carry the plan
+module _ (plan : CellPlan) (grid : Elements) (carries : CarriesPlan Only plan grid) where
+  primary_carried : (sfn k : ℕ) (half : Half) → grid sfn (subframe_of half) 6 k ≡ pss_grid (plan.identity % 3) k
+  primary_carried sfn k half = of_primary_symbol Only plan grid carries half sfn k ∙ primary_symbol plan sfn k half
+
+  secondary_carried : (sfn k : ℕ) (half : Half) → grid sfn (subframe_of half) 5 k ≡ sss_grid (plan.identity / 3) (plan.identity % 3) half k
+  secondary_carried sfn k half = of_secondary_symbol Only plan grid carries half sfn k ∙ secondary_symbol plan sfn k half
+
 -- a place of the recording is one at which a primary signal of the cell begins
 pub record IsTruePlace (offset t : ℕ) (half : Half) : Type 0 where
   pub frame : ℕ
   pub place : t + offset ≡ 19200 * frame + primary_start half
 
-module _ (recording : List Sample) (plan : CellPlan) (sfn offset : ℕ) (gain : Cpx) (eps : ℕ) (t : ℕ) (clean : IsClean recording plan sfn offset gain eps) (inside : t + 128 ≤ length recording) where
+module _ (recording : List Sample) (plan : CellPlan) (grid : Elements) (sfn offset : ℕ) (gain : Cpx) (eps : ℕ) (t : ℕ) (clean : IsLoaded recording plan grid sfn offset gain eps) (inside : t + 128 ≤ length recording) where
   pub primary_received : (half : Half) → IsTruePlace offset t half → IsReceived eps gain (pss_grid (plan.identity % 3)) (samples_from recording t)
   primary_received Zero at =
-      received_same eps gain (element plan ((sfn + at.frame) % 1024) 0 6) (pss_grid (plan.identity % 3)) (samples_from recording t) (λ k l. primary_symbol plan ((sfn + at.frame) % 1024) k Zero)
-      (received_at recording (element plan) sfn offset gain eps t at.frame 0 6 clean.samples (omega arith) (omega arith) inside (omega (arith, at.place)))
+      received_same eps gain (grid ((sfn + at.frame) % 1024) 0 6) (pss_grid (plan.identity % 3)) (samples_from recording t) (λ k l. primary_carried plan grid clean.carries ((sfn + at.frame) % 1024) k Zero)
+      (received_at recording grid sfn offset gain eps t at.frame 0 6 clean.samples (omega arith) (omega arith) inside (omega (arith, at.place)))
   primary_received Five at =
-      received_same eps gain (element plan ((sfn + at.frame) % 1024) 5 6) (pss_grid (plan.identity % 3)) (samples_from recording t) (λ k l. primary_symbol plan ((sfn + at.frame) % 1024) k Five)
-      (received_at recording (element plan) sfn offset gain eps t at.frame 10 6 clean.samples (omega arith) (omega arith) inside (omega (arith, at.place)))
+      received_same eps gain (grid ((sfn + at.frame) % 1024) 5 6) (pss_grid (plan.identity % 3)) (samples_from recording t) (λ k l. primary_carried plan grid clean.carries ((sfn + at.frame) % 1024) k Five)
+      (received_at recording grid sfn offset gain eps t at.frame 10 6 clean.samples (omega arith) (omega arith) inside (omega (arith, at.place)))
 
   pub secondary_received : (half : Half) → IsTruePlace offset t half → 137 ≤ t → IsReceived eps gain (sss_grid (plan.identity / 3) (plan.identity % 3) half) (samples_from recording (t - 137))
   secondary_received Zero at first =
-      received_same eps gain (element plan ((sfn + at.frame) % 1024) 0 5) (sss_grid (plan.identity / 3) (plan.identity % 3) Zero) (samples_from recording (t - 137)) (λ k l. secondary_symbol plan ((sfn + at.frame) % 1024) k Zero)
-      (received_at recording (element plan) sfn offset gain eps (t - 137) at.frame 0 5 clean.samples (omega arith) (omega arith) (omega (arith, inside)) (omega (arith, at.place, first)))
+      received_same eps gain (grid ((sfn + at.frame) % 1024) 0 5) (sss_grid (plan.identity / 3) (plan.identity % 3) Zero) (samples_from recording (t - 137)) (λ k l. secondary_carried plan grid clean.carries ((sfn + at.frame) % 1024) k Zero)
+      (received_at recording grid sfn offset gain eps (t - 137) at.frame 0 5 clean.samples (omega arith) (omega arith) (omega (arith, inside)) (omega (arith, at.place, first)))
   secondary_received Five at first =
-      received_same eps gain (element plan ((sfn + at.frame) % 1024) 5 5) (sss_grid (plan.identity / 3) (plan.identity % 3) Five) (samples_from recording (t - 137)) (λ k l. secondary_symbol plan ((sfn + at.frame) % 1024) k Five)
-      (received_at recording (element plan) sfn offset gain eps (t - 137) at.frame 10 5 clean.samples (omega arith) (omega arith) (omega (arith, inside)) (omega (arith, at.place, first)))
+      received_same eps gain (grid ((sfn + at.frame) % 1024) 5 5) (sss_grid (plan.identity / 3) (plan.identity % 3) Five) (samples_from recording (t - 137)) (λ k l. secondary_carried plan grid clean.carries ((sfn + at.frame) % 1024) k Five)
+      (received_at recording grid sfn offset gain eps (t - 137) at.frame 10 5 clean.samples (omega arith) (omega arith) (omega (arith, inside)) (omega (arith, at.place, first)))
 
   -- a primary signal stands there
   pub primary_at : (half : Half) → IsTruePlace offset t half → IsPrimaryAt recording t (plan.identity % 3)

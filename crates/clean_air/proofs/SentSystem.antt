@@ -1,4 +1,4 @@
--- The system information of a clean recording: each whole frame of even number answers with the plan's.
+-- The system information of a clean recording, whatever else its cell sends: each whole frame of even number answers with the plan's.
 use Rattle.std.proofs.Common.{◌≡◌, ℕ, ◌+◌, ◌-◌, ◌*◌, ◌%◌, ◌<◌, List, [], length, Ok, nat_lt, ℤ, refl, ap, sym, subst, ◌∙◌, arith}
 use Rattle.std.specs.Prelude.{if◌then◌else◌, slice_index_or}
 use Rattle.std.proofs.Math.Path.{fun_ext}
@@ -24,9 +24,11 @@ use Rattle.cell_tx.specs.Plan.{IsSendable}
 use Rattle.cell_tx.specs.Points.{point_of}
 use Rattle.cell_tx.specs.Control.{version_of, grant_of, control_word, indicator_point, control_point}
 use Rattle.cell_tx.specs.Shared.{shared_places, shared_coded, shared_bit, shared_point}
-use Rattle.cell_tx.specs.Grid.{element}
-use Rattle.cell_tx.specs.Clean.{IsClean, start_of, number_at_start}
-use Rattle.cell_tx.proofs.SystemPlaces.{indicator_indexed, control_indexed, assigned_bits_are, indicator_sent, control_sent, shared_sent}
+use Rattle.cell_tx.specs.Sent.{Elements}
+use Rattle.cell_tx.specs.Clean.{start_of, number_at_start}
+use Rattle.clean_air.specs.Load.{IsLoaded}
+use Rattle.cell_tx.proofs.SystemPlaces.{indicator_indexed, control_indexed, assigned_bits_are}
+use Rattle.clean_air.proofs.Carrying.{indicator_carried, control_carried, shared_carried}
 use Rattle.cell_tx.proofs.BlockRows.{IsRowOf}
 use Rattle.cell_tx.proofs.WholeBlocks.{resolvable_at}
 use Rattle.cell_tx.proofs.SystemWords.{version-fits, grant_is, row_is, word_checked, word_size, word_says}
@@ -70,8 +72,8 @@ same_slot recording starts others grids slot same is = record {
 
 -- ---- a frame of even number
 
-module _ (recording : List Sample) (plan : CellPlan) (sfn offset : ℕ) (gain : Cpx) (eps : ℕ) (sendable : IsSendable plan)
-    (clean : IsClean recording plan sfn offset gain eps) (j : ℕ) (whole : IsWhole recording (start_of offset) j) where
+module _ (recording : List Sample) (plan : CellPlan) (grid : Elements) (sfn offset : ℕ) (gain : Cpx) (eps : ℕ) (sendable : IsSendable plan)
+    (clean : IsLoaded recording plan grid sfn offset gain eps) (j : ℕ) (whole : IsWhole recording (start_of offset) j) where
   abbrev number : ℕ
   number = (number_at_start sfn offset + j) % 1024
 
@@ -83,36 +85,36 @@ module _ (recording : List Sample) (plan : CellPlan) (sfn offset : ℕ) (gain : 
   starts s = useful_start normal (frame_at (start_of offset) j) s
 
   -- they are received
-  first_received : IsSlotReceived recording (starts 10) (element plan number 5) (slot 10)
+  first_received : IsSlotReceived recording (starts 10) (grid number 5) (slot 10)
   first_received =
-      let grid : slot_grid plan number 10 ≡ element plan number 5 = fun_ext (λ l. ap (element plan number 5) (omega arith)) in
-      subst (λ g. IsSlotReceived recording (starts 10) g (slot 10)) grid (each_slot_received recording plan sfn offset gain eps clean j 10 whole (omega arith))
+      let same : slot_grid grid number 10 ≡ grid number 5 = fun_ext (λ l. ap (grid number 5) (omega arith)) in
+      subst (λ g. IsSlotReceived recording (starts 10) g (slot 10)) same (each_slot_received recording plan grid sfn offset gain eps clean j 10 whole (omega arith))
 
-  second_received : IsSlotReceived recording (starts 11) (λ l. element plan number 5 (7 + l)) (slot 11)
-  second_received = each_slot_received recording plan sfn offset gain eps clean j 11 whole (omega arith)
+  second_received : IsSlotReceived recording (starts 11) (λ l. grid number 5 (7 + l)) (slot 11)
+  second_received = each_slot_received recording plan grid sfn offset gain eps clean j 11 whole (omega arith)
 
-  both_received : IsSubframeReceived recording (both (starts 10) (starts 11)) (element plan number 5) (slot 10) (slot 11)
+  both_received : IsSubframeReceived recording (both (starts 10) (starts 11)) (grid number 5) (slot 10) (slot 11)
   both_received = record {
-    first_slot = same_slot recording (starts 10) (both (starts 10) (starts 11)) (element plan number 5) (slot 10)
+    first_slot = same_slot recording (starts 10) (both (starts 10) (starts 11)) (grid number 5) (slot 10)
         (λ l low. both_first (starts 10) (starts 11) l low) first_received;
-    second_slot = same_slot recording (starts 11) (λ l. both (starts 10) (starts 11) (7 + l)) (λ l. element plan number 5 (7 + l)) (slot 11)
+    second_slot = same_slot recording (starts 11) (λ l. both (starts 10) (starts 11) (7 + l)) (λ l. grid number 5 (7 + l)) (slot 11)
         (λ l low. both_second (starts 10) (starts 11) l) second_received;
   }
 
   module _ (even : number % 2 ≡ 0) where
     -- they carry the indicator and the grant
-    carries_indicator : CarryInSubframe (element plan number 5) (pcfich_places (slot 10).identity) (indicator_scrambled (slot 10) plan.cfi)
+    carries_indicator : CarryInSubframe (grid number 5) (pcfich_places (slot 10).identity) (indicator_scrambled (slot 10) plan.cfi)
     unfolding seen_slot indicator_point
-    carries_indicator i inside = indicator_sent Only plan sendable number i (let size = (indicator_indexed Only plan sendable).size in omega (arith, size, inside))
+    carries_indicator i inside = indicator_carried Only plan grid clean.carries sendable number even i (let size = (indicator_indexed Only plan sendable).size in omega (arith, size, inside))
 
-    carries_grant : CarryInSubframe (element plan number 5) (grant_places (slot 10) plan.cfi plan.duration plan.resource) (grant_scrambled (slot 10) (grant_of plan number))
+    carries_grant : CarryInSubframe (grid number 5) (grant_places (slot 10) plan.cfi plan.duration plan.resource) (grant_scrambled (slot 10) (grant_of plan number))
     unfolding seen_slot control_point control_word
-    carries_grant i inside = control_sent Only plan sendable number even i (let size = (control_indexed Only plan sendable).size in omega (arith, size, inside))
+    carries_grant i inside = control_carried Only plan grid clean.carries sendable number even i (let size = (control_indexed Only plan sendable).size in omega (arith, size, inside))
 
     -- and the block
-    carries_block : CarryInSubframe (element plan number 5) (shared_places plan) (shared_scrambled (slot 10) (shared_bit plan number))
+    carries_block : CarryInSubframe (grid number 5) (shared_places plan) (shared_scrambled (slot 10) (shared_bit plan number))
     unfolding seen_slot shared_point
-    carries_block i inside = shared_sent Only plan sendable number even i inside
+    carries_block i inside = shared_carried Only plan grid clean.carries sendable number even i inside
 
     -- the values of its resource blocks tell the block
     sent_block : (row : Row) → row ≡ row_with (checked_size plan) → IsRowOf (checked_size plan) row → IsSentBlock row (version_of number) (2 * length (shared_places plan)) (shared_word plan)
@@ -128,7 +130,7 @@ module _ (recording : List Sample) (plan : CellPlan) (sfn offset : ℕ) (gain : 
         }
 
     carries_matched : (row : Row) → row ≡ row_with (checked_size plan) → row.k ≡ checked_size plan →
-        CarryInSubframe (element plan number 5) (shared_places plan) (shared_scrambled (slot 10) (matched_bit row (version_of number) (shared_word plan)))
+        CarryInSubframe (grid number 5) (shared_places plan) (shared_scrambled (slot 10) (matched_bit row (version_of number) (shared_word plan)))
     unfolding shared_coded
     carries_matched row same k i inside =
         carries_block i inside
@@ -142,7 +144,7 @@ module _ (recording : List Sample) (plan : CellPlan) (sfn offset : ℕ) (gain : 
         TellsBlock row (version_of number) (shared_word plan) values
     unfolding seen_slot
     block_told row same of =
-        received_block_is_told recording (both (starts 10) (starts 11)) (element plan number 5) (slot 10) (slot 11) plan.cfi plan.start plan.blocks row (version_of number) (shared_word plan)
+        received_block_is_told recording (both (starts 10) (starts 11)) (grid number 5) (slot 10) (slot 11) plan.cfi plan.start plan.blocks row (version_of number) (shared_word plan)
         (sent_block row same of) both_received (carries_matched row same of.size)
 
     says_fields : BlockSays values (grant_of plan number) (Ok plan.sib1)
@@ -157,7 +159,7 @@ module _ (recording : List Sample) (plan : CellPlan) (sfn offset : ℕ) (gain : 
     -- so the frame is read with the plan's indicator and grant
     pub grant_read : IsReadWith (one_port (slot 10) (slot 11) plan.duration plan.resource) plan.cfi (grant_of plan number)
     grant_read =
-        received_grant_is_read recording (starts 10) (element plan number 5) (slot 10) (slot 11) plan.cfi plan.duration plan.resource (grant_of plan number)
+        received_grant_is_read recording (starts 10) (grid number 5) (slot 10) (slot 11) plan.cfi plan.duration plan.resource (grant_of plan number)
         sendable.cfi.0 sendable.cfi.1 (grant_is plan sendable number) first_received carries_indicator carries_grant
 
     -- and answers with its fields

@@ -1,5 +1,5 @@
 -- The soft values of a clean slot: a component of an equalised place outweighs the energy of the pilots.
-use Rattle.std.proofs.Common.{◌≡◌, ℕ, ◌+◌, ◌*◌, ◌<◌, ◌≤◌, arith, ap, ap₂, sym, ◌∙◌, subst, Bool, true, false, List, ℤ, pos, ◌-ℤ◌, ◌*ℤ◌}
+use Rattle.std.proofs.Common.{◌≡◌, ℕ, zero, suc, ◌+◌, ◌*◌, ◌<◌, ◌≤◌, arith, ap, ap₂, sym, ◌∙◌, subst, Bool, true, false, List, ℤ, pos, ◌-ℤ◌, ◌*ℤ◌}
 use Rattle.std.specs.Prelude.{if◌then◌else◌, nat_abs}
 use Rattle.finite.specs.Sums.{total_below}
 use Rattle.finite.proofs.Sums.{total_below-within, total_some}
@@ -28,15 +28,24 @@ use Rattle.budget.proofs.Seen.{amplitude_is_seen_in_recording}
 
 -- ---- the energy of the pilots
 
+-- terms that are at least so great
+total_below-least : (n bound : ℕ) (f : ℕ → ℕ) → ((k : ℕ) → k < n → bound ≤ f k) → n * bound ≤ total_below n f
+unfolding total_below
+total_below-least zero bound f h = omega arith
+total_below-least (suc n) bound f h =
+    let before = total_below-least n bound f (λ k l. h k (omega arith)) in
+    omega (arith, before, h n (omega arith))
+
 -- the square of a pilot is near 4096 * 16200 times the gain's
-record IsPilotEnergy (n e : ℕ) : Type 0 where
+pub record IsPilotEnergy (n e : ℕ) : Type 0 where
   pub least : 1 ≤ e
+  pub near : 38707200 * n ≤ e
   pub most : e ≤ 101376000 * n
 
-one_pilot : (g d p : Cpx) → 1 ≤ square g → square d ≡ 16200 → IsSeenAs g d p → IsPilotEnergy (square g) (square p)
+pub one_pilot : (g d p : Cpx) → 1 ≤ square g → square d ≡ 16200 → IsSeenAs g d p → IsPilotEnergy (square g) (square p)
 one_pilot g d p some size seen =
     subst (λ (z : Cpx). IsPilotEnergy (square g) (square z)) (sym (seen_is g d p))
-    (numbers (square g) (square d) (square m) (square x) (square v) (square (plus x v)) some size (square-multiple 64 d) (square-times g m) (deviation-sized g d p seen).sized (weighted 4 x v) (weighted_term 1 x v))
+    (numbers (square g) (square d) (square m) (square x) (square v) (square (plus x v)) some size (square-multiple 64 d) (square-times g m) (deviation-sized g d p seen).sized (weighted 4 x v) (weighted_term 3 x v))
   where
     m : Cpx
     m = multiple 64 d
@@ -47,21 +56,26 @@ one_pilot g d p some size seen =
     v : Cpx
     v = deviation g d p
 
-    numbers : (n w m x v s : ℕ) → 1 ≤ n → w ≡ 16200 → m ≡ 64 * 64 * w → x ≡ n * m → v ≤ 1920 * 1920 * n → 4 * s ≤ (4 + 1) * x + 4 * (4 + 1) * v → 1 * x ≤ (1 + 1) * s + 1 * (1 + 1) * v → IsPilotEnergy n s
+    numbers : (n w m x v s : ℕ) → 1 ≤ n → w ≡ 16200 → m ≡ 64 * 64 * w → x ≡ n * m → v ≤ 1920 * 1920 * n → 4 * s ≤ (4 + 1) * x + 4 * (4 + 1) * v → 3 * x ≤ (3 + 1) * s + 3 * (3 + 1) * v → IsPilotEnergy n s
     numbers n w m x v s some a b c h up low =
         let e : x ≡ n * 66355200 = c ∙ ap (λ k. n * k) (omega (arith, a, b)) in
-        record { least = omega (arith, e, h, low, some); most = omega (arith, e, h, up) }
+        record { least = omega (arith, e, h, low, some); near = omega (arith, e, h, low); most = omega (arith, e, h, up) }
 
-energy-near : (pattern : Pattern) (gain : Cpx) (slot : SeenSlot) → ArePatternSeen pattern gain slot → IsPilotEnergy (24 * square gain) (pattern_energy pattern slot)
+pub energy-near : (pattern : Pattern) (gain : Cpx) (slot : SeenSlot) → ArePatternSeen pattern gain slot → IsPilotEnergy (24 * square gain) (pattern_energy pattern slot)
 unfolding pattern_energy
 energy-near pattern gain slot seen = record {
   least = total_some 24 0 (λ i. square (pattern_seen pattern slot i)) (omega arith) (each 0 (omega arith)).least;
+  near = parts (total_below 24 (λ i. square (pattern_seen pattern slot i))) (square gain)
+      (total_below-least 24 (38707200 * square gain) (λ i. square (pattern_seen pattern slot i)) (λ i l. (each i l).near));
   most = sums (total_below 24 (λ i. square (pattern_seen pattern slot i))) (square gain)
       (total_below-within 24 (101376000 * square gain) (λ i. square (pattern_seen pattern slot i)) (λ i l. (each i l).most));
 }
   where
     each : (i : ℕ) → i < 24 → IsPilotEnergy (square gain) (square (pattern_seen pattern slot i))
     each i l = one_pilot gain (pattern_sent pattern slot.identity slot.number i) (pattern_seen pattern slot i) seen.sounds (sent-size pattern slot.identity slot.number i) (seen.pilot i l)
+
+    parts : (e n : ℕ) → 24 * (38707200 * n) ≤ e → 38707200 * (24 * n) ≤ e
+    parts e n h = omega (arith, h)
 
     sums : (e n : ℕ) → e ≤ 24 * (101376000 * n) → e ≤ 101376000 * (24 * n)
     sums e n h = omega (arith, h)

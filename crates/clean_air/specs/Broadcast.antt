@@ -6,24 +6,30 @@ use Rattle.cs_bits.specs.Numbers.{field}
 use Rattle.grid_map.specs.Broadcast.{pbch_places}
 use Rattle.grid_map.specs.Scrambling.{pbch_c_init}
 use Rattle.soft_bits.specs.Soft.{SeenSlot}
+use Rattle.conv_code.specs.Cost.{word_cost}
 use Rattle.tailbite.specs.Clean.{Speaks}
 use Rattle.pbch.specs.Values.{coded_values}
 use Rattle.pbch.specs.Master.{PassesWith, Tells}
 use Rattle.clean_air.specs.Values.{IsSlotReceived}
 use Rattle.clean_air.specs.Carried.{SpeakOfWord, sums_of, CarryWord}
 
+-- sums tell a word with so many ports, and it costs nothing
+pub record TellsFreely (sums : List (List ℤ)) (word : List Bool) (ports : ℕ) : Type 0 where
+  pub tells : Tells sums word ports
+  pub free : word_cost sums word ≡ 0
+
 -- sums that all speak for the coded bits of a word of 40 bits, whose check passes with the mask of so many ports, and whose
--- code of the bandwidth is one, tell it
+-- code of the bandwidth is one, tell it, and it costs nothing
 abbrev pub SpokenWordIsTold : Type 0
 SpokenWordIsTold =
     (ports : ℕ) (word : List Bool) (sums : List (List ℤ)) → length word ≡ 40 → length sums ≡ 40 → Speaks sums word → PassesWith ports word → field word 0 3 ≤ 5 →
-    Tells sums word ports
+    TellsFreely sums word ports
 
 -- so do the sums of values that speak of it
 abbrev pub SentWordIsTold : Type 0
 SentWordIsTold =
     (c_init first ports : ℕ) (word : List Bool) (values : List ℤ) → length word ≡ 40 → SpeakOfWord c_init first word values → PassesWith ports word → field word 0 3 ≤ 5 →
-    Tells (sums_of c_init first 40 values) word ports
+    TellsFreely (sums_of c_init first 40 values) word ports
 
 -- in a recording: a slot that is received, and whose broadcast channel carries such a word in a frame of this phase,
 -- tells it alone
@@ -31,4 +37,4 @@ abbrev pub ReceivedSlotTells : Type 0
 ReceivedSlotTells =
     (recording : List Sample) (starts : ℕ → ℕ) (grids : ℕ → ℕ → Cpx) (slot : SeenSlot) (phase ports : ℕ) (word : List Bool) → IsSlotReceived recording starts grids slot →
     length word ≡ 40 → CarryWord grids (pbch_places slot.identity) (pbch_c_init slot.identity) (480 * phase) word → PassesWith ports word → field word 0 3 ≤ 5 →
-    Tells (coded_values (slot ∷ []) phase) word ports
+    TellsFreely (coded_values (slot ∷ []) phase) word ports

@@ -9,7 +9,9 @@ use Rattle.lte_types.specs.Block.{HasFields}
 use Rattle.explain.specs.Entries.{IsExplained}
 use Rattle.cell_tx.specs.declared.cell.CellPlan.{CellPlan}
 use Rattle.cell_tx.specs.Plan.{IsSendable}
+use Rattle.cell_tx.specs.Sent.{Elements}
 use Rattle.cell_tx.specs.Clean.{IsClean, start_of, number_at_start}
+use Rattle.clean_air.specs.Load.{IsLoaded}
 
 -- the list has an entry with this identity, start and frame number, which is as it was sent; every entry with these
 -- three is that one
@@ -24,23 +26,35 @@ pub record HoldsOne (list : List Entry) (identity first number : ℕ) (is_sent :
 
 -- the entry has one antenna port (TS 36.212 section 5.3.1.1), the fields of the master block of a cell in the frame with
 -- this number, which holds the upper 8 bits of it, and the fields of its SystemInformationBlockType1 (TS 36.331 section
--- 6.2.2)
+-- 6.2.2); it was read from the
+-- cell's first whole frame alone, and each value speaks for its word, so that this costs nothing
 pub record IsSentEntry (plan : CellPlan) (number : ℕ) (entry : Entry) : Type 0 where
   pub ports : entry.ports ≡ 1
   pub block : HasFields entry.mib N6 plan.duration plan.resource (number / 4) plan.spare
   pub sib1 : entry.sib1 ≡ Ok plan.sib1
+  pub cost : entry.cost ≡ 0
+  pub frames : entry.frames ≡ 1
+  pub frame : entry.frame ≡ 0
 
 -- the list holds the cell of which a frame begins at this sample with this number
 abbrev pub HoldsCell : List Entry → CellPlan → ℕ → ℕ → Type 0
 HoldsCell list plan first number = HoldsOne list plan.identity first number (IsSentEntry plan number)
 
--- of each cell of which the recording is clean, whatever its plan, its first frame's number, the offset, the gain and the errors are
+-- of each cell of which the recording is clean, whatever its plan is, what it sends elsewhere, its first frame's number, the
+-- offset, the gain and the errors
+abbrev pub HoldsLoadedCells : List Sample → List Entry → Type 0
+HoldsLoadedCells recording list =
+    (plan : CellPlan) (grid : Elements) (sfn offset : ℕ) (gain : Cpx) (eps : ℕ) → IsSendable plan → IsLoaded recording plan grid sfn offset gain eps →
+    HoldsCell list plan (start_of offset) (number_at_start sfn offset)
+
+-- so of each that sends nothing elsewhere
 abbrev pub HoldsCleanCells : List Sample → List Entry → Type 0
 HoldsCleanCells recording list =
     (plan : CellPlan) (sfn offset : ℕ) (gain : Cpx) (eps : ℕ) → IsSendable plan → IsClean recording plan sfn offset gain eps →
     HoldsCell list plan (start_of offset) (number_at_start sfn offset)
 
--- the list of a recording, which holds each cell of which the recording is clean
+-- the list of a recording, which holds each cell of which the recording is clean, whatever else that cell sends
 pub record IsListOfCells (recording : List Sample) (list : List Entry) : Type 0 where
   pub explained : IsExplained recording list
+  pub loaded : HoldsLoadedCells recording list
   pub holds : HoldsCleanCells recording list

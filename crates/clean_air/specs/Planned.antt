@@ -6,11 +6,12 @@ use Rattle.lte_types.specs.declared.bandwidth.Bandwidth.TheVariants.{N6}
 use Rattle.lte_types.specs.declared.sib1.Sib1.{Sib1}
 use Rattle.lte_types.specs.declared.entry.Entry.{Entry}
 use Rattle.dci.specs.declared.grant.Grant.{Grant}
-use Rattle.explain.specs.Entries.{IsInList}
 use Rattle.explain.specs.Grant.{IsGrantOf}
 use Rattle.cell_tx.specs.declared.cell.CellPlan.{CellPlan}
 use Rattle.cell_tx.specs.Plan.{IsSendable, plan_refusal}
-use Rattle.cell_tx.specs.Clean.{IsClean, start_of, number_at_start}
+use Rattle.cell_tx.specs.Sent.{Elements}
+use Rattle.cell_tx.specs.Clean.{start_of, number_at_start}
+use Rattle.clean_air.specs.Load.{IsLoaded}
 
 -- the plan of an entry's cell, which sends this block with this indicator and as this grant says
 abbrev pub plan_by : Entry → ℕ → Grant → Sib1 → CellPlan
@@ -43,11 +44,11 @@ abbrev pub IsPlanOf : List Sample → Entry → Option CellPlan → Type 0
 IsPlanOf recording entry (Some plan) = IsPlanned recording entry plan
 IsPlanOf recording entry None = (plan : CellPlan) → IsPlanned recording entry plan → ⊥
 
--- where the recording is clean of a cell that can be sent, and the entry is of its identity, of the sample at which its first
+-- where the recording is clean of a cell that can be sent, whatever else that cell sends, and the entry is of its identity, of the sample at which its first
 -- frame begins and of that frame's number, the plan is the one by which it was sent
 abbrev pub IsSentPlan : List Sample → Entry → Option CellPlan → Type 0
 IsSentPlan recording entry answer =
-    (plan : CellPlan) (sfn offset : ℕ) (gain : Cpx) (eps : ℕ) → IsSendable plan → IsClean recording plan sfn offset gain eps →
+    (plan : CellPlan) (grid : Elements) (sfn offset : ℕ) (gain : Cpx) (eps : ℕ) → IsSendable plan → IsLoaded recording plan grid sfn offset gain eps →
     entry.id ≡ plan.identity → entry.start ≡ start_of offset → entry.sfn ≡ number_at_start sfn offset → answer ≡ Some plan
 
 -- a law: an entry has one plan, or none
