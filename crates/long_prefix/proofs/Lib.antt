@@ -4,6 +4,8 @@ pub mod Order
 pub mod Elements
 -- Sizes of the elements.
 pub mod Amounts
+-- What a plan sends by itself, at the places that it takes and elsewhere.
+pub mod Carrying
 -- Where the samples of a frame's symbols stand.
 pub mod Frames
 -- The samples of a recording by number.

@@ -1,7 +1,7 @@
--- A recording that is clean of a cell: its symbols are received as they were sent.
-use Rattle.std.proofs.Common.{◌≡◌, ℕ, ◌+◌, ◌-◌, ◌*◌, ◌/◌, ◌%◌, ◌<◌, ◌≤◌, inl, inr, Bool, true, false, not, ◌&&◌, nat_eq, nat_lt, arith, refl, ap, sym, subst, ◌∙◌, List, [], length, slice_index_or}
+-- A recording that is clean of a cell, whatever else the cell sends: its symbols are received as they were sent.
+use Rattle.std.proofs.Common.{◌≡◌, ℕ, ◌+◌, ◌-◌, ◌*◌, ◌/◌, ◌%◌, ◌<◌, ◌≤◌, inr, Bool, true, false, not, ◌&&◌, nat_eq, nat_lt, arith, refl, subst, ◌∙◌, List, [], length, slice_index_or}
 use Rattle.std.specs.Prelude.{if◌then◌else◌}
-use Rattle.std.proofs.lemmas.Bool.{lt-ltb}
+use Rattle.std.proofs.lemmas.Bool.{lt-ltb, or_left, or_right}
 use Rattle.std.proofs.lemmas.Bool.Decides.{nat_tests}
 use Rattle.finite.proofs.Lists.{values_below_at}
 use Rattle.cs_num.specs.declared.Cpx.{Cpx}
@@ -15,6 +15,7 @@ use Rattle.pss_search.specs.Correlation.{pss_grid}
 use Rattle.grid_map.specs.declared.Place.{Place}
 use Rattle.grid_map.specs.Place.{place}
 use Rattle.soft_bits.specs.Soft.{pilot_subcarrier, pattern_symbol, pattern_sent}
+use Rattle.cell_tx.specs.Sent.{Elements}
 use Rattle.cell_tx.specs.Clean.{start_of, number_at_start}
 use Rattle.explain.specs.Frame.{frame_at}
 use Rattle.budget.specs.Received.{IsReceived, samples_from}
@@ -25,11 +26,44 @@ use Rattle.clean_air.proofs.Grids.{received_same}
 use Rattle.clean_air.proofs.SentSymbols.{prefix_received_at, IsTruePlace, first_frame}
 use Rattle.long_prefix.specs.declared.plan.LongPlan.{LongPlan}
 use Rattle.long_prefix.specs.Places.{is_kept, long_places}
-use Rattle.long_prefix.specs.Grid.{slot_of, long_point, long_element}
-use Rattle.long_prefix.specs.Sent.{IsCleanOfLong}
+use Rattle.long_prefix.specs.Grid.{is_signal_symbol, is_broadcast, long_point, long_element}
+use Rattle.long_prefix.specs.Load.{is_taken, CarriesLongPlan, IsLoadedLong}
 use Rattle.long_prefix.specs.Entries.{long_slot}
-use Rattle.long_prefix.proofs.Order.{length-long_places, IsLongPlace, long_place_is}
-use Rattle.long_prefix.proofs.Amounts.{element-square}
+use Rattle.long_prefix.proofs.Order.{length-long_places, long_place_is}
+
+-- ---- taken places
+
+-- what elements are there that carry the plan
+module _ (plan : LongPlan) (grid : Elements) (carries : CarriesLongPlan plan grid) where
+  of_reference : (sfn subframe symbol k : ℕ) → is_pattern_place long_prefix plan.id (symbol % 6) k ≡ true → grid sfn subframe symbol k ≡ long_element plan sfn subframe symbol k
+  unfolding is_taken
+  of_reference sfn subframe symbol k e = carries.taken sfn subframe symbol k here
+    where
+      here : is_taken plan subframe symbol k ≡ true
+      here = or_right (is_signal_symbol 5 subframe symbol) _ (or_right (is_signal_symbol 4 subframe symbol) _ (or_left (is_pattern_place long_prefix plan.id (symbol % 6) k) _ e))
+
+  of_broadcast : (sfn subframe symbol k : ℕ) → is_broadcast plan.id subframe symbol k ≡ true → grid sfn subframe symbol k ≡ long_element plan sfn subframe symbol k
+  unfolding is_taken
+  of_broadcast sfn subframe symbol k e = carries.taken sfn subframe symbol k here
+    where
+      here : is_taken plan subframe symbol k ≡ true
+      here = or_right (is_signal_symbol 5 subframe symbol) _ (or_right (is_signal_symbol 4 subframe symbol) _ (or_right (is_pattern_place long_prefix plan.id (symbol % 6) k) _ e))
+
+  of_primary_symbol : (half : Half) (sfn k : ℕ) → grid sfn (subframe_of half) 5 k ≡ long_element plan sfn (subframe_of half) 5 k
+  unfolding is_taken
+  of_primary_symbol half sfn k = carries.taken sfn (subframe_of half) 5 k (here half)
+    where
+      here : (half : Half) → is_taken plan (subframe_of half) 5 k ≡ true
+      here Zero = refl
+      here Five = refl
+
+  of_secondary_symbol : (half : Half) (sfn k : ℕ) → grid sfn (subframe_of half) 4 k ≡ long_element plan sfn (subframe_of half) 4 k
+  unfolding is_taken
+  of_secondary_symbol half sfn k = carries.taken sfn (subframe_of half) 4 k (here half)
+    where
+      here : (half : Half) → is_taken plan (subframe_of half) 4 k ≡ true
+      here Zero = refl
+      here Five = refl
 
 -- ---- the synchronisation signals
 
@@ -44,27 +78,35 @@ unfolding long_element
 secondary_symbol plan sfn k Zero = refl
 secondary_symbol plan sfn k Five = refl
 
-module _ (recording : List Sample) (plan : LongPlan) (sfn offset : ℕ) (gain : Cpx) (eps : ℕ) (clean : IsCleanOfLong recording plan sfn offset gain eps) where
+-- so do elements that carry the plan
+module _ (plan : LongPlan) (grid : Elements) (carries : CarriesLongPlan plan grid) where
+  primary_carried : (sfn k : ℕ) (half : Half) → grid sfn (subframe_of half) 5 k ≡ pss_grid (plan.id % 3) k
+  primary_carried sfn k half = of_primary_symbol plan grid carries half sfn k ∙ primary_symbol plan sfn k half
+
+  secondary_carried : (sfn k : ℕ) (half : Half) → grid sfn (subframe_of half) 4 k ≡ sss_grid (plan.id / 3) (plan.id % 3) half k
+  secondary_carried sfn k half = of_secondary_symbol plan grid carries half sfn k ∙ secondary_symbol plan sfn k half
+
+module _ (recording : List Sample) (plan : LongPlan) (grid : Elements) (sfn offset : ℕ) (gain : Cpx) (eps : ℕ) (clean : IsLoadedLong recording plan grid sfn offset gain eps) where
   module _ (t : ℕ) (inside : t + 128 ≤ length recording) where
     primary_received : (half : Half) → IsTruePlace offset t half → IsReceived eps gain (pss_grid (plan.id % 3)) (samples_from recording t)
     primary_received Zero at =
-        received_same eps gain (long_element plan ((sfn + at.frame) % 1024) 0 5) (pss_grid (plan.id % 3)) (samples_from recording t) (λ k l. primary_symbol plan ((sfn + at.frame) % 1024) k Zero)
-        (prefix_received_at extended recording (long_element plan) sfn offset gain eps t at.frame 0 5 (inr refl) clean.samples (omega arith) (omega arith) inside (omega (arith, at.place)))
+        received_same eps gain (grid ((sfn + at.frame) % 1024) 0 5) (pss_grid (plan.id % 3)) (samples_from recording t) (λ k l. primary_carried plan grid clean.carries ((sfn + at.frame) % 1024) k Zero)
+        (prefix_received_at extended recording grid sfn offset gain eps t at.frame 0 5 (inr refl) clean.samples (omega arith) (omega arith) inside (omega (arith, at.place)))
     primary_received Five at =
-        received_same eps gain (long_element plan ((sfn + at.frame) % 1024) 5 5) (pss_grid (plan.id % 3)) (samples_from recording t) (λ k l. primary_symbol plan ((sfn + at.frame) % 1024) k Five)
-        (prefix_received_at extended recording (long_element plan) sfn offset gain eps t at.frame 10 5 (inr refl) clean.samples (omega arith) (omega arith) inside (omega (arith, at.place)))
+        received_same eps gain (grid ((sfn + at.frame) % 1024) 5 5) (pss_grid (plan.id % 3)) (samples_from recording t) (λ k l. primary_carried plan grid clean.carries ((sfn + at.frame) % 1024) k Five)
+        (prefix_received_at extended recording grid sfn offset gain eps t at.frame 10 5 (inr refl) clean.samples (omega arith) (omega arith) inside (omega (arith, at.place)))
 
     secondary_received : (half : Half) → IsTruePlace offset t half → symbol_step extended ≤ t →
         IsReceived eps gain (sss_grid (plan.id / 3) (plan.id % 3) half) (samples_from recording (t - symbol_step extended))
     secondary_received Zero at first =
-        received_same eps gain (long_element plan ((sfn + at.frame) % 1024) 0 4) (sss_grid (plan.id / 3) (plan.id % 3) Zero) (samples_from recording (t - symbol_step extended))
-        (λ k l. secondary_symbol plan ((sfn + at.frame) % 1024) k Zero)
-        (prefix_received_at extended recording (long_element plan) sfn offset gain eps (t - symbol_step extended) at.frame 0 4 (inr refl) clean.samples (omega arith) (omega arith)
+        received_same eps gain (grid ((sfn + at.frame) % 1024) 0 4) (sss_grid (plan.id / 3) (plan.id % 3) Zero) (samples_from recording (t - symbol_step extended))
+        (λ k l. secondary_carried plan grid clean.carries ((sfn + at.frame) % 1024) k Zero)
+        (prefix_received_at extended recording grid sfn offset gain eps (t - symbol_step extended) at.frame 0 4 (inr refl) clean.samples (omega arith) (omega arith)
         (omega (arith, inside)) (omega (arith, at.place, first)))
     secondary_received Five at first =
-        received_same eps gain (long_element plan ((sfn + at.frame) % 1024) 5 4) (sss_grid (plan.id / 3) (plan.id % 3) Five) (samples_from recording (t - symbol_step extended))
-        (λ k l. secondary_symbol plan ((sfn + at.frame) % 1024) k Five)
-        (prefix_received_at extended recording (long_element plan) sfn offset gain eps (t - symbol_step extended) at.frame 10 4 (inr refl) clean.samples (omega arith) (omega arith)
+        received_same eps gain (grid ((sfn + at.frame) % 1024) 5 4) (sss_grid (plan.id / 3) (plan.id % 3) Five) (samples_from recording (t - symbol_step extended))
+        (λ k l. secondary_carried plan grid clean.carries ((sfn + at.frame) % 1024) k Five)
+        (prefix_received_at extended recording grid sfn offset gain eps (t - symbol_step extended) at.frame 10 4 (inr refl) clean.samples (omega arith) (omega arith)
         (omega (arith, inside)) (omega (arith, at.place, first)))
 
     -- a primary signal stands there, and with it the secondary one
@@ -84,8 +126,8 @@ module _ (recording : List Sample) (plan : LongPlan) (sfn offset : ℕ) (gain : 
 -- ---- slot 1
 
 -- the rows of slot 1 of the frame with this number
-abbrev pub slot_row : LongPlan → ℕ → ℕ → ℕ → Cpx
-slot_row plan number l = long_element plan number 0 (6 + l)
+abbrev pub slot_row : Elements → ℕ → ℕ → ℕ → Cpx
+slot_row grid number l = grid number 0 (6 + l)
 
 -- each pilot stands at a reference place of symbol 0 or 3
 record IsPilotPlace (identity symbol k : ℕ) : Type 0 where
@@ -104,17 +146,24 @@ pilot_place identity i = settle (is_pattern_place long_prefix identity 0 (pilot_
     settle true e = record { is = e; inside = omega arith }
     settle false e = record { is = other_symbol identity i (pilot_subcarrier identity i) refl e; inside = omega arith }
 
-reference_here : (plan : LongPlan) (number l k : ℕ) → l < 6 → is_pattern_place long_prefix plan.id l k ≡ true → slot_row plan number l k ≡ pattern_reference long_prefix plan.id 1 l (k / 6)
+reference_here : (plan : LongPlan) (number l k : ℕ) → l < 6 → is_pattern_place long_prefix plan.id l k ≡ true → slot_row (long_element plan) number l k ≡ pattern_reference long_prefix plan.id 1 l (k / 6)
 unfolding long_element
 reference_here plan number l k inside is =
     let symbol : (6 + l) % 6 ≡ l = omega (arith, inside) in
     let slot : 2 * 0 + (6 + l) / 6 ≡ 1 = omega (arith, inside) in
     rw (symbol, slot, is) refl
 
-references_stand : (plan : LongPlan) (number i : ℕ) → slot_row plan number (pattern_symbol long_prefix plan.id i) (pilot_subcarrier plan.id i) ≡ pattern_sent long_prefix plan.id 1 i
+reference_carried : (plan : LongPlan) (grid : Elements) → CarriesLongPlan plan grid → (number l k : ℕ) → l < 6 → is_pattern_place long_prefix plan.id l k ≡ true →
+    slot_row grid number l k ≡ slot_row (long_element plan) number l k
+reference_carried plan grid carries number l k inside is =
+    let symbol : (6 + l) % 6 ≡ l = omega (arith, inside) in
+    of_reference plan grid carries number 0 (6 + l) k (rw symbol is)
+
+references_stand : (plan : LongPlan) (grid : Elements) → CarriesLongPlan plan grid → (number i : ℕ) → slot_row grid number (pattern_symbol long_prefix plan.id i) (pilot_subcarrier plan.id i) ≡ pattern_sent long_prefix plan.id 1 i
 unfolding pattern_sent
-references_stand plan number i =
+references_stand plan grid carries number i =
     let p = pilot_place plan.id i in
+    reference_carried plan grid carries number (pattern_symbol long_prefix plan.id i) (pilot_subcarrier plan.id i) p.inside p.is ∙
     reference_here plan number (pattern_symbol long_prefix plan.id i) (pilot_subcarrier plan.id i) p.inside p.is
 
 -- a place that is not kept is no reference place
@@ -129,9 +178,9 @@ not_there signal l a few = let e : nat_eq (6 + l) signal ≡ false = grind (arit
     by false = refl
 
 -- each place of the broadcast channel has its point
-pub points_stand : (plan : LongPlan) (number i : ℕ) → i < 216 → let p = slice_index_or (long_places plan.id) i (place 0 0) in slot_row plan number p.symbol p.k ≡ long_point plan number i
+plan_points_stand : (plan : LongPlan) (number i : ℕ) → i < 216 → let p = slice_index_or (long_places plan.id) i (place 0 0) in slot_row (long_element plan) number p.symbol p.k ≡ long_point plan number i
 unfolding long_element
-points_stand plan number i inside =
+plan_points_stand plan number i inside =
     let p : Place = slice_index_or (long_places plan.id) i (place 0 0) in
     let at = long_place_is plan.id i inside in
     let few = at.symbol in
@@ -141,11 +190,22 @@ points_stand plan number i inside =
     let here : nat_lt i (length (long_places plan.id)) ≡ true = lt-ltb i (length (long_places plan.id)) (let n = length-long_places plan.id in omega (arith, inside, n)) in
     rw (symbol, slot, free, not_there 5 p.symbol _ (omega arith), not_there 4 p.symbol _ (omega arith), at.index, here) refl
 
+pub points_stand : (plan : LongPlan) (grid : Elements) → CarriesLongPlan plan grid → (number i : ℕ) → i < 216 →
+    let p = slice_index_or (long_places plan.id) i (place 0 0) in slot_row grid number p.symbol p.k ≡ long_point plan number i
+points_stand plan grid carries number i inside =
+    let p : Place = slice_index_or (long_places plan.id) i (place 0 0) in
+    let at = long_place_is plan.id i inside in
+    let few = at.symbol in
+    let symbol : (6 + p.symbol) % 6 ≡ p.symbol = omega (arith, few) in
+    let slot : 2 * 0 + (6 + p.symbol) / 6 ≡ 1 = omega (arith, few) in
+    let here : nat_lt i (length (long_places plan.id)) ≡ true = lt-ltb i (length (long_places plan.id)) (let n = length-long_places plan.id in omega (arith, inside, n)) in
+    of_broadcast plan grid carries number 0 (6 + p.symbol) p.k (rw (symbol, slot, at.index, here) refl) ∙ plan_points_stand plan number i inside
+
 -- the slot of the first frame is received
-pub slot_received : (recording : List Sample) (plan : LongPlan) (sfn offset : ℕ) (gain : Cpx) (eps : ℕ) → IsCleanOfLong recording plan sfn offset gain eps → 57600 ≤ length recording →
-    IsPatternReceived long_prefix 6 recording (useful_start extended (frame_at (start_of offset) 0) 1) (slot_row plan (number_at_start sfn offset)) (long_slot recording plan.id (start_of offset) 0)
+pub slot_received : (recording : List Sample) (plan : LongPlan) (grid : Elements) (sfn offset : ℕ) (gain : Cpx) (eps : ℕ) → IsLoadedLong recording plan grid sfn offset gain eps → 57600 ≤ length recording →
+    IsPatternReceived long_prefix 6 recording (useful_start extended (frame_at (start_of offset) 0) 1) (slot_row grid (number_at_start sfn offset)) (long_slot recording plan.id (start_of offset) 0)
 unfolding long_slot
-slot_received recording plan sfn offset gain eps clean long =
+slot_received recording plan grid sfn offset gain eps clean long =
     let number : ℕ = number_at_start sfn offset in
     let start : ℕ → ℕ = useful_start extended (frame_at (start_of offset) 0) 1 in
     let n : ℕ = if nat_eq offset 0 then 0 else 1 in
@@ -155,8 +215,8 @@ slot_received recording plan sfn offset gain eps clean long =
       eps = eps;
       gain = gain;
       seen = λ l inside. values_below_at (λ symbol. seen_symbol recording (start symbol)) 6 l [] inside;
-      amplitudes = λ l inside k below. element-square plan number 0 (6 + l) k;
-      received = λ l inside. subst (λ m. IsReceived eps gain (slot_row plan m l) (samples_from recording (start l))) first.number
-          (prefix_received_at extended recording (long_element plan) sfn offset gain eps (start l) n 1 l (inr refl) clean.samples (omega arith) inside (omega (arith, long, inside)) (omega (arith, first.place)));
-      references = λ i inside. references_stand plan number i;
+      amplitudes = λ l inside. clean.carries.small number 0 (6 + l);
+      received = λ l inside. subst (λ m. IsReceived eps gain (slot_row grid m l) (samples_from recording (start l))) first.number
+          (prefix_received_at extended recording grid sfn offset gain eps (start l) n 1 l (inr refl) clean.samples (omega arith) inside (omega (arith, long, inside)) (omega (arith, first.place)));
+      references = λ i inside. references_stand plan grid clean.carries number i;
     }

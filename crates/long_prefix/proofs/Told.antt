@@ -1,6 +1,6 @@
 -- The slot of a frame that carries the word of a master block tells it.
-use Rattle.std.proofs.Common.{◌≡◌, ℕ, ◌+◌, ◌-◌, ◌*◌, ◌/◌, ◌%◌, ◌<◌, ◌≤◌, arith, ap, sym, subst, ◌∙◌, Bool, List, [], length, get_or, slice_index_or, ℤ, pos}
-use Rattle.finite.proofs.Lists.{values_below-length, values_below_at}
+use Rattle.std.proofs.Common.{◌≡◌, ℕ, ◌+◌, ◌-◌, ◌*◌, ◌/◌, ◌%◌, ◌<◌, ◌≤◌, arith, sym, subst, ◌∙◌, Bool, List, length, get_or, slice_index_or, ℤ, pos}
+use Rattle.finite.proofs.Lists.{values_below_at}
 use Rattle.cs_num.specs.declared.Cpx.{Cpx}
 use Rattle.cs_num.specs.declared.Sample.{Sample}
 use Rattle.finite.specs.Bits.{xor}
@@ -9,7 +9,6 @@ use Rattle.cs_bits.specs.Numbers.{field}
 use Rattle.cs_bits.specs.Signs.{Supports}
 use Rattle.cs_bits.proofs.Signs.{supports-less}
 use Rattle.crs.specs.Reference.{long_prefix}
-use Rattle.crs.specs.Qpsk.{point}
 use Rattle.sub_block.specs.declared.Place.{Place as CodedPlace}
 use Rattle.sub_block.specs.Places.{spot}
 use Rattle.conv_code.specs.Code.{coded_word}
@@ -24,13 +23,14 @@ use Rattle.soft_bits.specs.Soft.{SeenSlot, seen_at}
 use Rattle.soft_bits.specs.Places.{descrambled, descrambled_value}
 use Rattle.soft_bits.proofs.Channel.{length-descrambled, descrambled-at}
 use Rattle.budget.specs.Received.{IsSeenAs}
-use Rattle.pbch.specs.Master.{PassesWith, Tells}
+use Rattle.pbch.specs.Master.{PassesWith}
 use Rattle.cell_tx.specs.Points.{point_of}
 use Rattle.cell_tx.specs.Block.{scrambled_bit}
 use Rattle.clean_air.specs.Values.{SupportBoth, IsPatternReceived}
 use Rattle.clean_air.proofs.SoftValues.{seen_pair_supports_bits, pattern_place_seen, pattern_pilots_seen}
 use Rattle.clean_air.proofs.SpokenWords.{descrambling_keeps, sums_speak_by_reading}
 use Rattle.clean_air.proofs.Speaking.{one_value}
+use Rattle.clean_air.specs.Broadcast.{TellsFreely}
 use Rattle.clean_air.proofs.Masters.{spoken_word_is_told}
 use Rattle.long_prefix.specs.Places.{long_places}
 use Rattle.long_prefix.specs.Entries.{long_pair, long_value, long_values, long_sums}
@@ -96,7 +96,7 @@ module _ (identity phase ports : ℕ) (word : List Bool) (values : List ℤ) (si
       here i inside = subst (λ n. Supports 1 (xor (bit_at_place (coded_word word) (place_of n (first + i))) (gold_bit c_init (first + i))) (get_or values i (pos 0))) size (speak i inside)
 
   -- such values tell the word
-  pub word_is_told : PassesWith ports word → field word 0 3 ≤ 5 → Tells (long_sums identity phase values) word ports
+  pub word_is_told : PassesWith ports word → field word 0 3 ≤ 5 → TellsFreely (long_sums identity phase values) word ports
   unfolding long_sums
   word_is_told passes width =
       spoken_word_is_told ports word (summed_by reading 40 (descrambled c_init first values)) size (length-summed_by reading 40 (descrambled c_init first values))

@@ -5,6 +5,7 @@
 
 mod grid;
 mod listing;
+mod load;
 mod made;
 mod places;
 mod plan;
@@ -12,6 +13,7 @@ mod reading;
 mod sending;
 
 pub use listing::{Workspace3, explain_clean};
+pub use load::open_long_places_are_silent;
 pub use made::{LongMade, made_is_clean, make};
 pub use plan::LongPlan;
 pub use sending::sample;

@@ -7,7 +7,7 @@ ghost use Rattle.lte_types.specs.Numerology.{extended, symbol_step};
 ghost use Rattle.lte_types.specs.Ranges.{IsValid};
 ghost use Rattle.pss_search.specs.Hits.{IsInSpan};
 ghost use Rattle.pss_search.specs.Laws.{IsEarlier};
-ghost use Rattle.long_prefix.specs.Clean.{HoldsCleanCellsOfLong};
+ghost use Rattle.long_prefix.specs.Clean.{HoldsLoadedCellsOfLong, HoldsCleanCellsOfLong};
 ghost use Rattle.long_prefix.specs.Entries.{long_place, IsLongMaster, IsLongSystem, IsExplainedOfLong};
 
 use crate::reading::first_masters;
@@ -109,9 +109,12 @@ fn early_hits(hits: &[Hit]) -> usize
 /// the recording is what a cell sends with this prefix, times a whole-number gain of size 1 to 28, each component off by
 /// at most twice the gain's size, the list has an entry with this cell's identity, the sample at which its first frame
 /// begins, that frame's number, one antenna port and its master block, and no other with this identity, sample and
-/// number. It takes no memory. (own)
+/// number. It does so whatever else the cell sends where its plan sends nothing, beside the synchronisation signals
+/// nothing, in elements of size at most 256 (`loaded`), and so where it sends nothing else (`holds`). It takes no
+/// memory. (own)
 pub fn explain_clean(recording: &Recording, work: &mut Workspace3, list: &mut EntryList)
     ensures list { IsExplainedOfLong recording.now list.new }
+    ensures loaded { HoldsLoadedCellsOfLong recording.now list.new }
     ensures holds { HoldsCleanCellsOfLong recording.now list.new }
     ensures reason { All (λ entry. entry.sib1 ≡ Err IsLong) list.new }
     ensures valid { All (λ entry. IfOk entry.sib1 IsValid) list.new }

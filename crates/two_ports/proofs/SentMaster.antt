@@ -14,7 +14,7 @@ use Rattle.grid_map.proofs.Points.{length-pbch_places, places_inside, index_of_p
 use Rattle.lte_types.specs.Numerology.{normal, useful_start}
 use Rattle.soft_bits.specs.Soft.{SeenSlot}
 use Rattle.pbch.specs.Values.{summed_values}
-use Rattle.pbch.specs.Master.{Tells}
+use Rattle.clean_air.specs.Broadcast.{TellsFreely}
 use Rattle.cell_tx.specs.declared.antenna.Port.{Port}
 use Rattle.cell_tx.specs.declared.antenna.Port.TheVariants.{Only, First, Second}
 use Rattle.cell_tx.specs.declared.cell.CellPlan.{CellPlan}
@@ -22,19 +22,23 @@ use Rattle.cell_tx.specs.Ports.{sent_point}
 use Rattle.cell_tx.specs.Points.{point_of}
 use Rattle.cell_tx.specs.Block.{port_word, port_bit, port_point, scrambled_bit}
 use Rattle.cell_tx.specs.Grid.{is_broadcast, port_element}
+use Rattle.cell_tx.specs.Sent.{Elements}
 use Rattle.cell_tx.specs.Clean.{start_of, number_at_start}
+use Rattle.clean_air.specs.Load.{CarriesPlan}
 use Rattle.cell_tx.specs.Rows.{port_reference_if}
 use Rattle.cell_tx.proofs.Elements.{element_of_channel, channel_of_broadcast}
+use Rattle.clean_air.proofs.Carrying.{of_broadcast}
 use Rattle.explain.specs.Frame.{IsWhole, frame_at, seen_slot, broadcast_slot}
 use Rattle.clean_air.specs.Carried.{AreHeard}
 use Rattle.clean_air.proofs.Masters.{sent_word_is_told}
 use Rattle.clean_air.proofs.SentBlock.{is_block}
-use Rattle.two_tx.specs.Clean.{IsCleanOfPorts}
+use Rattle.two_ports.specs.Clean.{IsLoadedOfPorts}
 use Rattle.two_ports.specs.Pairs.{pair_at}
 use Rattle.two_ports.specs.Values.{received_values}
 use Rattle.two_ports.specs.Received.{CarryPair}
 use Rattle.two_ports.proofs.Heard.{SpeakFrom, pair_speaks, second_even, second_odd, paired_heard}
-use Rattle.two_ports.proofs.SentSlots.{slot_grid, each_slot_received}
+use Rattle.clean_air.proofs.SentSlots.{slot_grid}
+use Rattle.two_ports.proofs.SentSlots.{each_slot_received}
 
 -- ---- the places of the broadcast channel
 
@@ -72,32 +76,32 @@ point_here port plan number symbol k i at e =
     element_of_channel port plan number 0 symbol k free (not_there symbol 6 (is_middle k) at.low (omega arith)) (not_there symbol 5 (is_middle k) at.low (omega arith))
     ∙ channel_of_broadcast port plan number 0 symbol k at.here ∙ ap (sent_point port (port_point port plan number)) (sym e)
 
-points_stand : (port : Port) (plan : CellPlan) (number i : ℕ) → i < 240 →
-    slot_grid port plan number 1 ((pbch_place plan.identity i).symbol % 7) (pbch_place plan.identity i).k ≡ sent_point port (port_point port plan number) i
-points_stand port plan number i inside =
+points_stand : (port : Port) (plan : CellPlan) (grid : Elements) → CarriesPlan port plan grid → (number i : ℕ) → i < 240 →
+    slot_grid grid number 1 ((pbch_place plan.identity i).symbol % 7) (pbch_place plan.identity i).k ≡ sent_point port (port_point port plan number) i
+points_stand port plan grid carries number i inside =
     let p = pbch_place plan.identity i in
     let is = places_inside plan.identity i inside in
     let at = broadcast_place plan.identity p is in
     let symbol : 7 + p.symbol % 7 ≡ p.symbol = omega (arith, at.low, at.high) in
-    ap (λ n. port_element port plan number 0 n p.k) symbol ∙ point_here port plan number p.symbol p.k i at (sym (index_of_place plan.identity i inside))
+    ap (λ n. grid number 0 n p.k) symbol ∙ of_broadcast port plan grid carries number 0 p.symbol p.k at.here ∙ point_here port plan number p.symbol p.k i at (sym (index_of_place plan.identity i inside))
 
 -- the bits that a frame carries
 abbrev pub sent_bits : CellPlan → ℕ → ℕ → Bool
 sent_bits plan number i = scrambled_bit (pbch_c_init plan.identity) (port_word First plan number) (480 * (number % 4) + i)
 
-first_points : (plan : CellPlan) (number i : ℕ) → i < 240 →
-    slot_grid First plan number 1 ((pbch_place plan.identity i).symbol % 7) (pbch_place plan.identity i).k ≡ point_of (sent_bits plan number) i
+first_points : (plan : CellPlan) (grid : Elements) → CarriesPlan First plan grid → (number i : ℕ) → i < 240 →
+    slot_grid grid number 1 ((pbch_place plan.identity i).symbol % 7) (pbch_place plan.identity i).k ≡ point_of (sent_bits plan number) i
 unfolding port_point port_bit
-first_points plan number i inside = points_stand First plan number i inside
+first_points plan grid carries number i inside = points_stand First plan grid carries number i inside
 
-second_points : (plan : CellPlan) (number i : ℕ) → i < 240 →
-    slot_grid Second plan number 1 ((pbch_place plan.identity i).symbol % 7) (pbch_place plan.identity i).k ≡ sent_point Second (point_of (sent_bits plan number)) i
+second_points : (plan : CellPlan) (grid : Elements) → CarriesPlan Second plan grid → (number i : ℕ) → i < 240 →
+    slot_grid grid number 1 ((pbch_place plan.identity i).symbol % 7) (pbch_place plan.identity i).k ≡ sent_point Second (point_of (sent_bits plan number)) i
 unfolding port_point port_bit
-second_points plan number i inside = points_stand Second plan number i inside
+second_points plan grid carries number i inside = points_stand Second plan grid carries number i inside
 
 -- ---- the slot
 
-module _ (recording : List Sample) (plan : CellPlan) (sfn offset : ℕ) (gain other : Cpx) (eps : ℕ) (clean : IsCleanOfPorts recording plan sfn offset gain other eps)
+module _ (recording : List Sample) (plan : CellPlan) (grid others : Elements) (sfn offset : ℕ) (gain other : Cpx) (eps : ℕ) (clean : IsLoadedOfPorts recording plan grid others sfn offset gain other eps)
     (j : ℕ) (whole : IsWhole recording (start_of offset) j) where
   abbrev number : ℕ
   number = (number_at_start sfn offset + j) % 1024
@@ -118,19 +122,19 @@ module _ (recording : List Sample) (plan : CellPlan) (sfn offset : ℕ) (gain ot
           let b : 2 * i + 1 < 240 = omega (arith, l, size) in
           let p = pbch_place plan.identity (2 * i) in
           let q = pbch_place plan.identity (2 * i + 1) in
-          let received = each_slot_received recording plan sfn offset gain other eps clean j 1 whole (omega arith) in
-          let carry : CarryPair (slot_grid First plan number 1) (slot_grid Second plan number 1) p q (point_of (sent_bits plan number) (2 * i)) (point_of (sent_bits plan number) (2 * i + 1)) =
+          let received = each_slot_received recording plan grid others sfn offset gain other eps clean j 1 whole (omega arith) in
+          let carry : CarryPair (slot_grid grid number 1) (slot_grid others number 1) p q (point_of (sent_bits plan number) (2 * i)) (point_of (sent_bits plan number) (2 * i + 1)) =
           record {
-            first = first_points plan number (2 * i) a;
-            second = first_points plan number (2 * i + 1) b;
-            other_first = second_points plan number (2 * i) a ∙ second_even (point_of (sent_bits plan number)) i;
-            other_second = second_points plan number (2 * i + 1) b ∙ second_odd (point_of (sent_bits plan number)) i;
+            first = first_points plan grid clean.carries number (2 * i) a;
+            second = first_points plan grid clean.carries number (2 * i + 1) b;
+            other_first = second_points plan others clean.other_carries number (2 * i) a ∙ second_even (point_of (sent_bits plan number)) i;
+            other_second = second_points plan others clean.other_carries number (2 * i + 1) b ∙ second_odd (point_of (sent_bits plan number)) i;
           } in
-          pair_speaks recording (useful_start normal (frame_at (start_of offset) j) 1) (slot_grid First plan number 1) (slot_grid Second plan number 1) slot p q (sent_bits plan number) i received
+          pair_speaks recording (useful_start normal (frame_at (start_of offset) j) 1) (slot_grid grid number 1) (slot_grid others number 1) slot p q (sent_bits plan number) i received
           (broadcast_place plan.identity p (places_inside plan.identity (2 * i) a)).inside (broadcast_place plan.identity q (places_inside plan.identity (2 * i + 1) b)).inside carry
 
   -- it tells the word of the frame's number, with two antenna ports
-  pub word_told : plan.spare ≤ 1023 → Tells (summed_values plan.identity (number % 4) (received_values slot)) (port_word First plan number) 2
+  pub word_told : plan.spare ≤ 1023 → TellsFreely (summed_values plan.identity (number % 4) (received_values slot)) (port_word First plan number) 2
   unfolding summed_values
   word_told spare =
       let block = is_block First plan number spare (omega arith) in

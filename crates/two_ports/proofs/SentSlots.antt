@@ -1,5 +1,5 @@
--- The slots of a recording that is clean of both ports of a cell: each of a whole frame is received as it was sent.
-use Rattle.std.proofs.Common.{◌≡◌, ℕ, ◌+◌, ◌*◌, ◌/◌, ◌%◌, ◌<◌, arith, refl, subst, List, [], nat_eq, Bool, true, false}
+-- The slots of a recording that is clean of both ports of a cell, whatever else they send: each of a whole frame is received as it was sent.
+use Rattle.std.proofs.Common.{◌≡◌, ℕ, ◌+◌, ◌*◌, ◌/◌, ◌%◌, ◌<◌, arith, refl, subst, ◌∙◌, List, [], nat_eq, Bool, true, false}
 use Rattle.std.specs.Prelude.{if◌then◌else◌}
 use Rattle.std.proofs.lemmas.Bool.Decides.{nat_tests}
 use Rattle.finite.proofs.Lists.{values_below_at}
@@ -9,23 +9,20 @@ use Rattle.cs_num.specs.Complex.{nothing}
 use Rattle.crs.specs.Reference.{port_0, port_1, is_reference, is_second_reference, is_pattern_place, first_subcarrier, pattern_reference, reference, reference_c_init, reference_at}
 use Rattle.observe.specs.Seen.{seen_symbol}
 use Rattle.soft_bits.specs.Soft.{pattern_symbol, pattern_sent, pilot_subcarrier}
-use Rattle.cell_tx.specs.declared.antenna.Port.{Port}
 use Rattle.cell_tx.specs.declared.antenna.Port.TheVariants.{First, Second}
 use Rattle.cell_tx.specs.declared.cell.CellPlan.{CellPlan}
 use Rattle.cell_tx.specs.Grid.{port_element}
+use Rattle.cell_tx.specs.Sent.{Elements}
 use Rattle.cell_tx.specs.Clean.{start_of, number_at_start}
-use Rattle.cell_tx.proofs.Bounds.{element-square}
+use Rattle.clean_air.specs.Load.{CarriesPlan}
+use Rattle.clean_air.proofs.Carrying.{of_own_reference, of_other_reference}
 use Rattle.lte_types.specs.Numerology.{normal, useful_start}
 use Rattle.explain.specs.Frame.{IsWhole, frame_at, seen_slot}
 use Rattle.budget.specs.Received.{IsReceivedFromTwo, samples_from}
-use Rattle.clean_air.proofs.SentSlots.{frame_is}
-use Rattle.two_tx.specs.Clean.{IsCleanOfPorts}
+use Rattle.clean_air.proofs.SentSlots.{slot_grid, frame_is}
+use Rattle.two_ports.specs.Clean.{IsLoadedOfPorts}
 use Rattle.two_ports.specs.Received.{IsSlotReceivedOfTwo}
 use Rattle.two_ports.proofs.SentSymbols.{received_at}
-
--- the grid of a port in the symbols of slot 0 to 19 of the frame with this number
-abbrev pub slot_grid : Port → CellPlan → ℕ → ℕ → ℕ → ℕ → Cpx
-slot_grid port plan number slot l = port_element port plan number (slot / 2) (7 * (slot % 2) + l)
 
 -- ---- the reference signals
 
@@ -65,46 +62,61 @@ module _ (plan : CellPlan) (number slot l k : ℕ) (inside : l < 7) where
   slot_back : 2 * (slot / 2) + (7 * (slot % 2) + l) / 7 ≡ slot
   slot_back = omega (arith, inside)
 
-  first_here : is_reference plan.identity l k ≡ true → slot_grid First plan number slot l k ≡ reference_at plan.identity slot l k
+  first_here : is_reference plan.identity l k ≡ true → slot_grid (port_element First plan) number slot l k ≡ reference_at plan.identity slot l k
   unfolding port_element
   first_here is = rw (row, slot_back, is) refl
 
-  second_here : is_second_reference plan.identity l k ≡ true → slot_grid Second plan number slot l k ≡ reference_at plan.identity slot l k
+  second_here : is_second_reference plan.identity l k ≡ true → slot_grid (port_element Second plan) number slot l k ≡ reference_at plan.identity slot l k
   unfolding port_element
   second_here is = rw (row, slot_back, is) refl
 
-  first_silent : is_reference plan.identity l k ≡ false → is_second_reference plan.identity l k ≡ true → slot_grid First plan number slot l k ≡ nothing
+  first_silent : is_reference plan.identity l k ≡ false → is_second_reference plan.identity l k ≡ true → slot_grid (port_element First plan) number slot l k ≡ nothing
   unfolding port_element
   first_silent none is = rw (row, none, is) refl
 
-  second_silent : is_second_reference plan.identity l k ≡ false → is_reference plan.identity l k ≡ true → slot_grid Second plan number slot l k ≡ nothing
+  second_silent : is_second_reference plan.identity l k ≡ false → is_reference plan.identity l k ≡ true → slot_grid (port_element Second plan) number slot l k ≡ nothing
   unfolding port_element
   second_silent none is = rw (row, none, is) refl
 
-module _ (plan : CellPlan) (number slot i : ℕ) where
-  references : slot_grid First plan number slot (pattern_symbol port_0 plan.identity i) (pilot_subcarrier plan.identity i) ≡ pattern_sent port_0 plan.identity slot i
-  unfolding pattern_sent pattern_reference reference_at reference reference_c_init
-  references = let p = first_pilot plan.identity i in first_here plan number slot _ _ p.inside p.own
+module _ (plan : CellPlan) (grid others : Elements) (carries : CarriesPlan First plan grid) (other_carries : CarriesPlan Second plan others) (number slot : ℕ) where
+  -- at a pilot of either port both are the plan's
+  module _ (l k : ℕ) (inside : l < 7) where
+    at_first : is_reference plan.identity l k ≡ true → (slot_grid grid number slot l k ≡ slot_grid (port_element First plan) number slot l k) × (slot_grid others number slot l k ≡ slot_grid (port_element Second plan) number slot l k)
+    at_first is = (
+      of_own_reference First plan grid carries number (slot / 2) (7 * (slot % 2) + l) k (rw (row plan number slot l k inside) is),
+      of_other_reference Second plan others other_carries number (slot / 2) (7 * (slot % 2) + l) k (rw (row plan number slot l k inside) is),
+    )
 
-  other_silent : slot_grid Second plan number slot (pattern_symbol port_0 plan.identity i) (pilot_subcarrier plan.identity i) ≡ nothing
-  other_silent = let p = first_pilot plan.identity i in second_silent plan number slot _ _ p.inside p.no_second p.own
+    at_second : is_second_reference plan.identity l k ≡ true → (slot_grid grid number slot l k ≡ slot_grid (port_element First plan) number slot l k) × (slot_grid others number slot l k ≡ slot_grid (port_element Second plan) number slot l k)
+    at_second is = (
+      of_other_reference First plan grid carries number (slot / 2) (7 * (slot % 2) + l) k (rw (row plan number slot l k inside) is),
+      of_own_reference Second plan others other_carries number (slot / 2) (7 * (slot % 2) + l) k (rw (row plan number slot l k inside) is),
+    )
 
-  other_references : slot_grid Second plan number slot (pattern_symbol port_1 plan.identity i) (pilot_subcarrier plan.identity i) ≡ pattern_sent port_1 plan.identity slot i
-  unfolding pattern_sent pattern_reference reference_at reference reference_c_init
-  other_references = let p = second_pilot plan.identity i in second_here plan number slot _ _ p.inside p.own
+  module _ (i : ℕ) where
+    references : slot_grid grid number slot (pattern_symbol port_0 plan.identity i) (pilot_subcarrier plan.identity i) ≡ pattern_sent port_0 plan.identity slot i
+    unfolding pattern_sent pattern_reference reference_at reference reference_c_init
+    references = let p = first_pilot plan.identity i in (at_first _ _ p.inside p.own).0 ∙ first_here plan number slot _ _ p.inside p.own
 
-  silent : slot_grid First plan number slot (pattern_symbol port_1 plan.identity i) (pilot_subcarrier plan.identity i) ≡ nothing
-  silent = let p = second_pilot plan.identity i in first_silent plan number slot _ _ p.inside p.no_first p.own
+    other_silent : slot_grid others number slot (pattern_symbol port_0 plan.identity i) (pilot_subcarrier plan.identity i) ≡ nothing
+    other_silent = let p = first_pilot plan.identity i in (at_first _ _ p.inside p.own).1 ∙ second_silent plan number slot _ _ p.inside p.no_second p.own
+
+    other_references : slot_grid others number slot (pattern_symbol port_1 plan.identity i) (pilot_subcarrier plan.identity i) ≡ pattern_sent port_1 plan.identity slot i
+    unfolding pattern_sent pattern_reference reference_at reference reference_c_init
+    other_references = let p = second_pilot plan.identity i in (at_second _ _ p.inside p.own).1 ∙ second_here plan number slot _ _ p.inside p.own
+
+    silent : slot_grid grid number slot (pattern_symbol port_1 plan.identity i) (pilot_subcarrier plan.identity i) ≡ nothing
+    silent = let p = second_pilot plan.identity i in (at_second _ _ p.inside p.own).0 ∙ first_silent plan number slot _ _ p.inside p.no_first p.own
 
 -- ---- the slots
 
 -- each slot of a whole frame is received
-pub each_slot_received : (recording : List Sample) (plan : CellPlan) (sfn offset : ℕ) (gain other : Cpx) (eps : ℕ) → IsCleanOfPorts recording plan sfn offset gain other eps →
+pub each_slot_received : (recording : List Sample) (plan : CellPlan) (grid others : Elements) (sfn offset : ℕ) (gain other : Cpx) (eps : ℕ) → IsLoadedOfPorts recording plan grid others sfn offset gain other eps →
     (j slot : ℕ) → IsWhole recording (start_of offset) j → slot < 20 →
-    IsSlotReceivedOfTwo recording (useful_start normal (frame_at (start_of offset) j) slot) (slot_grid First plan ((number_at_start sfn offset + j) % 1024) slot)
-    (slot_grid Second plan ((number_at_start sfn offset + j) % 1024) slot) (seen_slot recording (frame_at (start_of offset) j) slot plan.identity)
+    IsSlotReceivedOfTwo recording (useful_start normal (frame_at (start_of offset) j) slot) (slot_grid grid ((number_at_start sfn offset + j) % 1024) slot)
+    (slot_grid others ((number_at_start sfn offset + j) % 1024) slot) (seen_slot recording (frame_at (start_of offset) j) slot plan.identity)
 unfolding seen_slot
-each_slot_received recording plan sfn offset gain other eps clean j slot whole few =
+each_slot_received recording plan grid others sfn offset gain other eps clean j slot whole few =
     let number : ℕ = (number_at_start sfn offset + j) % 1024 in
     let start : ℕ → ℕ = useful_start normal (frame_at (start_of offset) j) slot in
     let n : ℕ = (if nat_eq offset 0 then 0 else 1) + j in
@@ -114,12 +126,12 @@ each_slot_received recording plan sfn offset gain other eps clean j slot whole f
       gain = gain;
       other = other;
       seen = λ l inside. values_below_at (λ symbol. seen_symbol recording (start symbol)) 7 l [] inside;
-      amplitudes = λ l inside k within. element-square First plan number (slot / 2) (7 * (slot % 2) + l) k;
-      other_amplitudes = λ l inside k within. element-square Second plan number (slot / 2) (7 * (slot % 2) + l) k;
-      received = λ l inside. subst (λ m. IsReceivedFromTwo eps gain other (slot_grid First plan m slot l) (slot_grid Second plan m slot l) (samples_from recording (start l))) frame.number
-          (received_at recording (port_element First plan) (port_element Second plan) sfn offset gain other eps (start l) n slot l clean.samples few inside (omega (arith, whole, inside, few)) (omega (arith, frame.place)));
-      references = λ i inside. references plan number slot i;
-      other_silent = λ i inside. other_silent plan number slot i;
-      other_references = λ i inside. other_references plan number slot i;
-      silent = λ i inside. silent plan number slot i;
+      amplitudes = λ l inside. clean.carries.small number (slot / 2) (7 * (slot % 2) + l);
+      other_amplitudes = λ l inside. clean.other_carries.small number (slot / 2) (7 * (slot % 2) + l);
+      received = λ l inside. subst (λ m. IsReceivedFromTwo eps gain other (slot_grid grid m slot l) (slot_grid others m slot l) (samples_from recording (start l))) frame.number
+          (received_at recording grid others sfn offset gain other eps (start l) n slot l clean.samples few inside (omega (arith, whole, inside, few)) (omega (arith, frame.place)));
+      references = λ i inside. references plan grid others clean.carries clean.other_carries number slot i;
+      other_silent = λ i inside. other_silent plan grid others clean.carries clean.other_carries number slot i;
+      other_references = λ i inside. other_references plan grid others clean.carries clean.other_carries number slot i;
+      silent = λ i inside. silent plan grid others clean.carries clean.other_carries number slot i;
     }

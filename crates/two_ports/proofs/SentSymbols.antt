@@ -1,4 +1,4 @@
--- The symbols of a recording that is clean of both ports of a cell: each is received as it was sent, and those of the synchronisation
+-- The symbols of a recording that is clean of both ports of a cell, whatever else they send: each is received as it was sent, and those of the synchronisation
 -- signals as from the first port alone.
 use Rattle.std.proofs.Common.{◌≡◌, ℕ, ◌+◌, ◌-◌, ◌*◌, ◌/◌, ◌%◌, ◌<◌, ◌≤◌, Bool, true, false, inl, inr, arith, refl, ap, ap₂, subst, ◌∙◌, List, length, nat_le, nat_lt}
 use Rattle.std.specs.Prelude.{if◌then◌else◌, ◌&&◌}
@@ -20,13 +20,16 @@ use Rattle.cell_tx.specs.declared.antenna.Port.TheVariants.{First, Second}
 use Rattle.cell_tx.specs.declared.cell.CellPlan.{CellPlan}
 use Rattle.cell_tx.specs.Grid.{port_element}
 use Rattle.cell_tx.specs.Sent.{Elements, sent}
+use Rattle.clean_air.specs.Load.{CarriesPlan}
 use Rattle.cell_tx.proofs.Elements.{no_reference, no_second_reference}
 use Rattle.cell_tx.proofs.SignalSymbols.{no_channel}
+use Rattle.clean_air.proofs.Carrying.{of_primary_symbol, of_secondary_symbol}
 use Rattle.budget.specs.Received.{IsReceived, IsReceivedFromTwo, samples_from}
 use Rattle.budget.specs.Score.{sss_grid, AreSynchronisation}
 use Rattle.budget.specs.Peak.{IsPrimaryAt}
 use Rattle.clean_air.proofs.SentSymbols.{sent_symbol, IsTruePlace}
-use Rattle.two_tx.specs.Clean.{IsCleanOfTwo, IsCleanOfPorts}
+use Rattle.two_tx.specs.Clean.{IsCleanOfTwo}
+use Rattle.two_ports.specs.Clean.{IsLoadedOfPorts}
 
 -- ---- a symbol
 
@@ -95,32 +98,46 @@ unfolding port_element
 secondary_silent plan sfn k Zero = rw (no_reference plan.identity 5 k refl refl, no_second_reference plan.identity 5 k refl refl, no_channel Second plan sfn 0 5 k (inl refl)) (either _)
 secondary_silent plan sfn k Five = rw (no_reference plan.identity 5 k refl refl, no_second_reference plan.identity 5 k refl refl, no_channel Second plan sfn 5 5 k (inl refl)) (either _)
 
-module _ (recording : List Sample) (plan : CellPlan) (sfn offset : ℕ) (gain other : Cpx) (eps t : ℕ) (clean : IsCleanOfPorts recording plan sfn offset gain other eps) (inside : t + 128 ≤ length recording) where
+-- so do elements that carry the plan
+module _ (plan : CellPlan) (grid others : Elements) (carries : CarriesPlan First plan grid) (other_carries : CarriesPlan Second plan others) where
+  primary_carried : (sfn k : ℕ) (half : Half) → grid sfn (subframe_of half) 6 k ≡ pss_grid (plan.identity % 3) k
+  primary_carried sfn k half = of_primary_symbol First plan grid carries half sfn k ∙ primary_symbol plan sfn k half
+
+  secondary_carried : (sfn k : ℕ) (half : Half) → grid sfn (subframe_of half) 5 k ≡ sss_grid (plan.identity / 3) (plan.identity % 3) half k
+  secondary_carried sfn k half = of_secondary_symbol First plan grid carries half sfn k ∙ secondary_symbol plan sfn k half
+
+  primary_none : (sfn k : ℕ) (half : Half) → others sfn (subframe_of half) 6 k ≡ nothing
+  primary_none sfn k half = of_primary_symbol Second plan others other_carries half sfn k ∙ primary_silent plan sfn k half
+
+  secondary_none : (sfn k : ℕ) (half : Half) → others sfn (subframe_of half) 5 k ≡ nothing
+  secondary_none sfn k half = of_secondary_symbol Second plan others other_carries half sfn k ∙ secondary_silent plan sfn k half
+
+module _ (recording : List Sample) (plan : CellPlan) (grid others : Elements) (sfn offset : ℕ) (gain other : Cpx) (eps t : ℕ) (clean : IsLoadedOfPorts recording plan grid others sfn offset gain other eps) (inside : t + 128 ≤ length recording) where
   alone_at : (j slot l u : ℕ) (alone : ℕ → Cpx) → slot < 20 → l < 7 → u + 128 ≤ length recording → u + offset ≡ 19200 * j + useful_start normal 0 slot l →
-      ((k : ℕ) → port_element First plan ((sfn + j) % 1024) (slot / 2) (7 * (slot % 2) + l) k ≡ alone k) →
-      ((k : ℕ) → port_element Second plan ((sfn + j) % 1024) (slot / 2) (7 * (slot % 2) + l) k ≡ nothing) → IsReceived eps gain alone (samples_from recording u)
+      ((k : ℕ) → grid ((sfn + j) % 1024) (slot / 2) (7 * (slot % 2) + l) k ≡ alone k) →
+      ((k : ℕ) → others ((sfn + j) % 1024) (slot / 2) (7 * (slot % 2) + l) k ≡ nothing) → IsReceived eps gain alone (samples_from recording u)
   alone_at j slot l u alone few row within place same none = record {
     sounds = clean.samples.gains.least;
     quiet = clean.samples.bound.one;
-    near = as_one_port eps gain other _ _ alone (samples_from recording u) (received_at recording (port_element First plan) (port_element Second plan) sfn offset gain other eps u j slot l clean.samples few row within place)
+    near = as_one_port eps gain other _ _ alone (samples_from recording u) (received_at recording grid others sfn offset gain other eps u j slot l clean.samples few row within place)
         (λ k l. same k) (λ k l. none k);
   }
 
   primary_received : (half : Half) → IsTruePlace offset t half → IsReceived eps gain (pss_grid (plan.identity % 3)) (samples_from recording t)
   primary_received Zero at =
       alone_at at.frame 0 6 t (pss_grid (plan.identity % 3)) (omega arith) (omega arith) inside (omega (arith, at.place))
-      (λ k. primary_symbol plan ((sfn + at.frame) % 1024) k Zero) (λ k. primary_silent plan ((sfn + at.frame) % 1024) k Zero)
+      (λ k. primary_carried plan grid others clean.carries clean.other_carries ((sfn + at.frame) % 1024) k Zero) (λ k. primary_none plan grid others clean.carries clean.other_carries ((sfn + at.frame) % 1024) k Zero)
   primary_received Five at =
       alone_at at.frame 10 6 t (pss_grid (plan.identity % 3)) (omega arith) (omega arith) inside (omega (arith, at.place))
-      (λ k. primary_symbol plan ((sfn + at.frame) % 1024) k Five) (λ k. primary_silent plan ((sfn + at.frame) % 1024) k Five)
+      (λ k. primary_carried plan grid others clean.carries clean.other_carries ((sfn + at.frame) % 1024) k Five) (λ k. primary_none plan grid others clean.carries clean.other_carries ((sfn + at.frame) % 1024) k Five)
 
   secondary_received : (half : Half) → IsTruePlace offset t half → 137 ≤ t → IsReceived eps gain (sss_grid (plan.identity / 3) (plan.identity % 3) half) (samples_from recording (t - 137))
   secondary_received Zero at first =
       alone_at at.frame 0 5 (t - 137) (sss_grid (plan.identity / 3) (plan.identity % 3) Zero) (omega arith) (omega arith) (omega (arith, inside)) (omega (arith, at.place, first))
-      (λ k. secondary_symbol plan ((sfn + at.frame) % 1024) k Zero) (λ k. secondary_silent plan ((sfn + at.frame) % 1024) k Zero)
+      (λ k. secondary_carried plan grid others clean.carries clean.other_carries ((sfn + at.frame) % 1024) k Zero) (λ k. secondary_none plan grid others clean.carries clean.other_carries ((sfn + at.frame) % 1024) k Zero)
   secondary_received Five at first =
       alone_at at.frame 10 5 (t - 137) (sss_grid (plan.identity / 3) (plan.identity % 3) Five) (omega arith) (omega arith) (omega (arith, inside)) (omega (arith, at.place, first))
-      (λ k. secondary_symbol plan ((sfn + at.frame) % 1024) k Five) (λ k. secondary_silent plan ((sfn + at.frame) % 1024) k Five)
+      (λ k. secondary_carried plan grid others clean.carries clean.other_carries ((sfn + at.frame) % 1024) k Five) (λ k. secondary_none plan grid others clean.carries clean.other_carries ((sfn + at.frame) % 1024) k Five)
 
   -- a primary signal stands there
   pub primary_at : (half : Half) → IsTruePlace offset t half → IsPrimaryAt recording t (plan.identity % 3)

@@ -31,9 +31,10 @@ use Rattle.cell_tx.specs.Block.{coded_bit}
 use Rattle.cell_tx.specs.Points.{point_of, scrambled}
 use Rattle.cell_tx.specs.Control.{version_of, grant_of, control_places, control_word, indicator_point, control_point}
 use Rattle.cell_tx.specs.Shared.{assigned_places, shared_coded, shared_bit, shared_point}
-use Rattle.cell_tx.specs.Grid.{port_element}
+use Rattle.cell_tx.specs.Sent.{Elements}
 use Rattle.cell_tx.specs.Clean.{start_of, number_at_start}
-use Rattle.cell_tx.proofs.SystemPlaces.{control_indexed, assigned_bits_are, assigned_size, indicator_stands, control_stands, assigned_stands, indicator_sent, control_sent, shared_sent}
+use Rattle.cell_tx.proofs.SystemPlaces.{control_indexed, assigned_bits_are, assigned_size, indicator_stands, control_stands, assigned_stands}
+use Rattle.clean_air.proofs.Carrying.{indicator_carried, control_carried, shared_carried}
 use Rattle.cell_tx.proofs.BlockRows.{IsRowOf}
 use Rattle.erasure.proofs.Whole.{whole_block_is_resolvable}
 use Rattle.cell_tx.proofs.SystemWords.{version-fits, grant_is, row_is, word_checked, word_size, word_says}
@@ -46,17 +47,18 @@ use Rattle.clean_air.proofs.Controls.{grant_parts, four_elements, spoken_grant_i
 use Rattle.clean_air.proofs.SharedBlocks.{heard_block_is_told}
 use Rattle.clean_air.proofs.Speaking.{descrambled_bits_are_heard}
 use Rattle.two_tx.specs.Plan.{IsSendableOfTwo}
-use Rattle.two_tx.specs.Clean.{IsCleanOfPorts}
+use Rattle.two_ports.specs.Clean.{IsLoadedOfPorts}
 use Rattle.two_ports.specs.Pairs.{pair_at, paired_values, slot_values}
 use Rattle.two_ports.specs.Values.{indicator_values, stream_values, candidate_values, shared_values, two_ports}
 use Rattle.two_ports.specs.Received.{CarryPair}
 use Rattle.two_ports.proofs.Heard.{SpeakFrom, pair_speaks, second_even, second_odd, paired_heard, paired_same, heard-less}
-use Rattle.two_ports.proofs.SentSlots.{slot_grid, each_slot_received}
+use Rattle.clean_air.proofs.SentSlots.{slot_grid}
+use Rattle.two_ports.proofs.SentSlots.{each_slot_received}
 
 -- ---- a frame
 
-module _ (recording : List Sample) (plan : CellPlan) (sfn offset : ℕ) (gain other : Cpx) (eps : ℕ) (sendable : IsSendableOfTwo plan)
-    (clean : IsCleanOfPorts recording plan sfn offset gain other eps) (j : ℕ) (whole : IsWhole recording (start_of offset) j) where
+module _ (recording : List Sample) (plan : CellPlan) (grid others : Elements) (sfn offset : ℕ) (gain other : Cpx) (eps : ℕ) (sendable : IsSendableOfTwo plan)
+    (clean : IsLoadedOfPorts recording plan grid others sfn offset gain other eps) (j : ℕ) (whole : IsWhole recording (start_of offset) j) where
   abbrev number : ℕ
   number = (number_at_start sfn offset + j) % 1024
 
@@ -92,22 +94,22 @@ module _ (recording : List Sample) (plan : CellPlan) (sfn offset : ℕ) (gain ot
   module _ (places : List Place) (bits : ℕ → Bool) (even : length places % 2 ≡ 0)
       (placed : (i : ℕ) → i < length places → let p = get_or places i (place 0 0) in (p.symbol < 14) × (p.k < 72))
       (together : (i : ℕ) → i < length places / 2 → (get_or places (2 * i) (place 0 0)).symbol / 7 ≡ (get_or places (2 * i + 1) (place 0 0)).symbol / 7)
-      (first : (i : ℕ) → i < length places → let p = get_or places i (place 0 0) in port_element First plan number 5 p.symbol p.k ≡ point_of bits i)
-      (second : (i : ℕ) → i < length places → let p = get_or places i (place 0 0) in port_element Second plan number 5 p.symbol p.k ≡ sent_point Second (point_of bits) i) where
+      (first : (i : ℕ) → i < length places → let p = get_or places i (place 0 0) in grid number 5 p.symbol p.k ≡ point_of bits i)
+      (second : (i : ℕ) → i < length places → let p = get_or places i (place 0 0) in others number 5 p.symbol p.k ≡ sent_point Second (point_of bits) i) where
     abbrev item : ℕ → Place
     item i = get_or places i (place 0 0)
 
-    first_in : (s i : ℕ) → i < length places → s ≡ 10 + (item i).symbol / 7 → slot_grid First plan number s ((item i).symbol % 7) (item i).k ≡ point_of bits i
+    first_in : (s i : ℕ) → i < length places → s ≡ 10 + (item i).symbol / 7 → slot_grid grid number s ((item i).symbol % 7) (item i).k ≡ point_of bits i
     first_in s i l e =
         let (half, row) = in_slot (item i).symbol (placed i l).0 in
-        ap (λ n. slot_grid First plan number n ((item i).symbol % 7) (item i).k) e
-        ∙ ap₂ (λ (subframe symbol : ℕ). port_element First plan number subframe symbol (item i).k) half row ∙ first i l
+        ap (λ n. slot_grid grid number n ((item i).symbol % 7) (item i).k) e
+        ∙ ap₂ (λ (subframe symbol : ℕ). grid number subframe symbol (item i).k) half row ∙ first i l
 
-    second_in : (s i : ℕ) → i < length places → s ≡ 10 + (item i).symbol / 7 → slot_grid Second plan number s ((item i).symbol % 7) (item i).k ≡ sent_point Second (point_of bits) i
+    second_in : (s i : ℕ) → i < length places → s ≡ 10 + (item i).symbol / 7 → slot_grid others number s ((item i).symbol % 7) (item i).k ≡ sent_point Second (point_of bits) i
     second_in s i l e =
         let (half, row) = in_slot (item i).symbol (placed i l).0 in
-        ap (λ n. slot_grid Second plan number n ((item i).symbol % 7) (item i).k) e
-        ∙ ap₂ (λ (subframe symbol : ℕ). port_element Second plan number subframe symbol (item i).k) half row ∙ second i l
+        ap (λ n. slot_grid others number n ((item i).symbol % 7) (item i).k) e
+        ∙ ap₂ (λ (subframe symbol : ℕ). others number subframe symbol (item i).k) half row ∙ second i l
 
     pair_is_heard : (i : ℕ) → i < length places / 2 → SpeakFrom bits i (pair_at slot_at places i)
     pair_is_heard i l =
@@ -116,8 +118,8 @@ module _ (recording : List Sample) (plan : CellPlan) (sfn offset : ℕ) (gain ot
         let s : ℕ = 10 + (item (2 * i)).symbol / 7 in
         let both : s ≡ 10 + (item (2 * i + 1)).symbol / 7 = ap (λ n. 10 + n) (together i l) in
         let few : s < 20 = let low = (placed (2 * i) a).0 in omega (arith, low) in
-        let received = each_slot_received recording plan sfn offset gain other eps clean j s whole few in
-        let carry : CarryPair (slot_grid First plan number s) (slot_grid Second plan number s) (item (2 * i)) (item (2 * i + 1)) (point_of bits (2 * i)) (point_of bits (2 * i + 1)) =
+        let received = each_slot_received recording plan grid others sfn offset gain other eps clean j s whole few in
+        let carry : CarryPair (slot_grid grid number s) (slot_grid others number s) (item (2 * i)) (item (2 * i + 1)) (point_of bits (2 * i)) (point_of bits (2 * i + 1)) =
         record {
           first = first_in s (2 * i) a refl;
           second = first_in s (2 * i + 1) b both;
@@ -125,7 +127,7 @@ module _ (recording : List Sample) (plan : CellPlan) (sfn offset : ℕ) (gain ot
           other_second = second_in s (2 * i + 1) b both ∙ second_odd (point_of bits) i;
         } in
         subst (λ (z : SeenSlot). SpeakFrom bits i (pair_at (λ p. z) places i)) (sym (slot_is (item (2 * i)) (placed (2 * i) a).0))
-        (pair_speaks recording (starts s) (slot_grid First plan number s) (slot_grid Second plan number s) (slot s) (item (2 * i)) (item (2 * i + 1)) bits i received
+        (pair_speaks recording (starts s) (slot_grid grid number s) (slot_grid others number s) (slot s) (item (2 * i)) (item (2 * i + 1)) bits i received
         (placed (2 * i) a).1 (placed (2 * i + 1) b).1 carry)
 
     -- the values of these places speak for the bits
@@ -140,9 +142,9 @@ module _ (recording : List Sample) (plan : CellPlan) (sfn offset : ℕ) (gain ot
 
   -- ---- the control region
 
-  indicator_heard : Speak (indicator_values (slot 10)) plan.cfi
+  indicator_heard : number % 2 ≡ 0 → Speak (indicator_values (slot 10)) plan.cfi
   unfolding seen_slot indicator_values indicator_point
-  indicator_heard i l =
+  indicator_heard is_even i l =
       supports-speaks (indicator_bit plan.cfi i) (get_or (indicator_values (slot 10)) i (pos 0)) (supports-less 1 16 (indicator_bit plan.cfi i) _ (omega arith) (all.value i l))
     where
       size : length (pcfich_places plan.identity) ≡ 16
@@ -156,8 +158,8 @@ module _ (recording : List Sample) (plan : CellPlan) (sfn offset : ℕ) (gain ot
           first_heard (pcfich_places plan.identity) (scrambled (pcfich_c_init plan.identity 10) (indicator_bit plan.cfi)) (omega (arith, size))
           (λ i l. let at = low i l in (omega (arith, at), (indicator_stands First plan sendable i (omega (arith, l, size))).k))
           (λ i l. let at = low (2 * i) (omega (arith, l)) in let next = low (2 * i + 1) (omega (arith, l)) in omega (arith, at, next))
-          (λ i l. indicator_sent First plan sendable number i (omega (arith, l, size)))
-          (λ i l. indicator_sent Second plan sendable number i (omega (arith, l, size)))
+          (λ i l. indicator_carried First plan grid clean.carries sendable number is_even i (omega (arith, l, size)))
+          (λ i l. indicator_carried Second plan others clean.other_carries sendable number is_even i (omega (arith, l, size)))
           (λ i l. let at = low i l in omega (arith, at))
 
       all : AreHeard 16 (2 * 16) (indicator_bit plan.cfi) (indicator_values (slot 10))
@@ -184,8 +186,8 @@ module _ (recording : List Sample) (plan : CellPlan) (sfn offset : ℕ) (gain ot
             first_heard (control_places plan) (scrambled (pdcch_c_init plan.identity 10) (coded_bit (grant_word (grant_of plan number)))) (omega (arith, size))
             (λ i l. let at = low i l in (omega (arith, at), (control_stands First plan sendable i (omega (arith, l, size))).k))
             (λ i l. let at = low (2 * i) (omega (arith, l)) in let next = low (2 * i + 1) (omega (arith, l)) in omega (arith, at, next))
-            (λ i l. control_sent First plan sendable number is_even i (omega (arith, l, size)))
-            (λ i l. control_sent Second plan sendable number is_even i (omega (arith, l, size)))
+            (λ i l. control_carried First plan grid clean.carries sendable number is_even i (omega (arith, l, size)))
+            (λ i l. control_carried Second plan others clean.other_carries sendable number is_even i (omega (arith, l, size)))
             (λ i l. let at = low i l in omega (arith, at))
 
         all : AreHeard 16 (2 * 144) (coded_bit (grant_word (grant_of plan number))) (candidate_values (slot 10) plan.cfi plan.duration plan.resource)
@@ -214,8 +216,8 @@ module _ (recording : List Sample) (plan : CellPlan) (sfn offset : ℕ) (gain ot
         (places_heard places (scrambled (pdsch_c_init plan.identity 10 system_information_rnti) (shared_bit plan number)) paired
         (λ i l. let at = assigned_stands First plan sendable i l in (at.symbol, at.k))
         (λ i l. ap (λ (n : ℕ). n / 7) (pair_in_one_symbol plan.identity plan.cfi plan.start plan.blocks (2 * i) sendable.cfi.0 sendable.cfi.1 sendable.assignment.inside (omega arith) (omega (arith, l, paired))))
-        (λ i l. shared_sent First plan sendable number is_even i l)
-        (λ i l. shared_sent Second plan sendable number is_even i l))
+        (λ i l. shared_carried First plan grid clean.carries sendable number is_even i l)
+        (λ i l. shared_carried Second plan others clean.other_carries sendable number is_even i l))
 
     matched_heard : (row : Row) → row ≡ row_with (checked_size plan) → row.k ≡ checked_size plan → AreHeard 16 (2 * length places) (matched_bit row (version_of number) (shared_word plan)) values
     unfolding shared_coded
@@ -254,7 +256,7 @@ module _ (recording : List Sample) (plan : CellPlan) (sfn offset : ℕ) (gain ot
           range = (let low = sendable.cfi.0 in omega (arith, low), sendable.cfi.1);
           is_grant = grant_is plan sendable number;
           enough = four_elements plan.identity plan.cfi plan.duration plan.resource sendable.cfi.0 sendable.cfi.1;
-          of_indicator = indicator_heard;
+          of_indicator = indicator_heard is_even;
           of_control = control_heard;
         }) in
         read.reads (Ok plan.sib1) says_fields

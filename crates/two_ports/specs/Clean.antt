@@ -1,28 +1,49 @@
 -- The list of cells with two antenna ports of a clean recording: it holds the cell that was sent. (own)
-use Rattle.std.specs.Prelude.{◌≡◌, ℕ, ◌/◌, List, Ok}
+use Rattle.std.specs.Prelude.{◌≡◌, ℕ, ◌/◌, ◌≤◌, List, Ok}
 use Rattle.cs_num.specs.declared.Cpx.{Cpx}
 use Rattle.cs_num.specs.declared.Sample.{Sample}
 use Rattle.lte_types.specs.declared.bandwidth.Bandwidth.TheVariants.{N6}
 use Rattle.lte_types.specs.declared.entry.Entry.{Entry}
 use Rattle.lte_types.specs.Block.{HasFields}
 use Rattle.cell_tx.specs.declared.cell.CellPlan.{CellPlan}
+use Rattle.cell_tx.specs.declared.antenna.Port.TheVariants.{First, Second}
+use Rattle.cell_tx.specs.Sent.{Elements, sent}
 use Rattle.cell_tx.specs.Clean.{start_of, number_at_start}
 use Rattle.two_tx.specs.Plan.{IsSendableOfTwo}
-use Rattle.two_tx.specs.Clean.{IsCleanOfPorts}
+use Rattle.two_tx.specs.Clean.{IsCleanOfTwo, IsCleanOfPorts}
+use Rattle.clean_air.specs.Load.{CarriesPlan}
 use Rattle.clean_air.specs.Clean.{HoldsOne}
 
+-- a recording is clean of elements of both ports that carry the plan, from the frame numbered sfn on, whatever else they are
+pub record IsLoadedOfPorts (recording : List Sample) (plan : CellPlan) (grid others : Elements) (sfn offset : ℕ) (gain other : Cpx) (eps : ℕ) : Type 0 where
+  pub number : sfn ≤ 1023
+  pub carries : CarriesPlan First plan grid
+  pub other_carries : CarriesPlan Second plan others
+  pub samples : IsCleanOfTwo (sent grid sfn) (sent others sfn) recording offset gain other eps
+
 -- the entry has two antenna ports (TS 36.212 section 5.3.1.1), the fields of the master block of a cell in the frame with this
--- number, which holds the upper 8 bits of it, and the fields of its SystemInformationBlockType1 (TS 36.331 section 6.2.2)
+-- number, which holds the upper 8 bits of it, and the fields of its SystemInformationBlockType1 (TS 36.331 section 6.2.2); it was read from the
+-- cell's first whole frame alone, and each value speaks for its word, so that this costs nothing
 pub record IsSentEntryOfTwo (plan : CellPlan) (number : ℕ) (entry : Entry) : Type 0 where
   pub ports : entry.ports ≡ 2
   pub block : HasFields entry.mib N6 plan.duration plan.resource (number / 4) plan.spare
   pub sib1 : entry.sib1 ≡ Ok plan.sib1
+  pub cost : entry.cost ≡ 0
+  pub frames : entry.frames ≡ 1
+  pub frame : entry.frame ≡ 0
 
 -- the list holds the cell of which a frame begins at this sample with this number
 abbrev pub HoldsCellOfTwo : List Entry → CellPlan → ℕ → ℕ → Type 0
 HoldsCellOfTwo list plan first number = HoldsOne list plan.identity first number (IsSentEntryOfTwo plan number)
 
--- of each cell of which the recording is clean, whatever its plan, its first frame's number, the offset, the gains and the errors are
+-- of each cell of which the recording is clean, whatever its plan is, what its ports send elsewhere, its first frame's number, the
+-- offset, the gains and the errors
+abbrev pub HoldsLoadedCellsOfTwo : List Sample → List Entry → Type 0
+HoldsLoadedCellsOfTwo recording list =
+    (plan : CellPlan) (grid others : Elements) (sfn offset : ℕ) (gain other : Cpx) (eps : ℕ) → IsSendableOfTwo plan →
+    IsLoadedOfPorts recording plan grid others sfn offset gain other eps → HoldsCellOfTwo list plan (start_of offset) (number_at_start sfn offset)
+
+-- so of each whose ports send nothing elsewhere
 abbrev pub HoldsCleanCellsOfTwo : List Sample → List Entry → Type 0
 HoldsCleanCellsOfTwo recording list =
     (plan : CellPlan) (sfn offset : ℕ) (gain other : Cpx) (eps : ℕ) → IsSendableOfTwo plan →

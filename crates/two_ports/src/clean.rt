@@ -3,7 +3,7 @@
 ghost use Rattle.std.specs.Prelude.{All, IfOk};
 ghost use Rattle.lte_types.specs.Ranges.{IsValid};
 ghost use Rattle.two_ports.specs.Entries.{IsExplainedOfTwo};
-ghost use Rattle.two_ports.specs.Clean.{HoldsCleanCellsOfTwo};
+ghost use Rattle.two_ports.specs.Clean.{HoldsLoadedCellsOfTwo, HoldsCleanCellsOfTwo};
 
 use crate::{Workspace2, explain};
 use explain::EntryList;
@@ -14,9 +14,12 @@ use sample_file::Recording;
 /// together at most 392 and that of the first at least 1, each component off by at most as much as its square is a
 /// quarter of that sum and four times that of the first, the list has an entry with this cell's identity, the sample at
 /// which its first frame begins, that frame's number, two antenna ports, its master block, and the fields of its
-/// SystemInformationBlockType1, and no other with this identity, sample and number. It takes no memory. (own)
+/// SystemInformationBlockType1, and no other with this identity, sample and number. It does so whatever else the ports
+/// send where the plan sends nothing, beside the synchronisation signals nothing, in elements of size at most 256
+/// (`loaded`), and so where they send nothing else (`holds`). It takes no memory. (own)
 pub fn explain_clean(recording: &Recording, work: &mut Workspace2, list: &mut EntryList)
     ensures list { IsExplainedOfTwo recording.now list.new }
+    ensures loaded { HoldsLoadedCellsOfTwo recording.now list.new }
     ensures holds { HoldsCleanCellsOfTwo recording.now list.new }
     ensures valid { All (λ entry. IfOk entry.sib1 IsValid) list.new }
 {
