@@ -1,4 +1,4 @@
--- A cell taken off a recording that is clean of it.
+-- A cell taken off a recording that is clean of it, whatever else the cell sends.
 use Rattle.std.proofs.Common.{Result, Ok, Err, Option, Some, None, ◌≡◌, ℕ, ◌+◌, ◌*◌, ◌/◌, ◌%◌, ◌<◌, ◌≤◌, arith, ap, ap₂, sym, subst, ◌∙◌, min, List, length, ℤ, pos, negsuc, nat_abs}
 use Rattle.std.specs.Prelude.{IsSomeAnd, IfOk}
 use Rattle.std.specs.declared.alloc.AllocError.{AllocError}
@@ -14,15 +14,17 @@ use Rattle.lte_types.specs.declared.frame.Half.TheVariants.{Zero}
 use Rattle.pss_search.specs.Correlation.{pss_grid, wave}
 use Rattle.cell_tx.specs.declared.cell.CellPlan.{CellPlan}
 use Rattle.cell_tx.specs.Grid.{element}
-use Rattle.cell_tx.specs.Sent.{sent, gain_of}
+use Rattle.cell_tx.specs.Sent.{Elements, sent, gain_of}
 use Rattle.cell_tx.specs.Clean.{IsClean, start_of, number_at_start}
 use Rattle.budget.specs.Received.{IsReceived, samples_from}
 use Rattle.budget.proofs.PeakSums.{wave_is_sharp}
+use Rattle.clean_air.specs.Load.{IsLoaded}
+use Rattle.clean_air.proofs.Carrying.{clean_is_loaded}
 use Rattle.clean_air.proofs.SentSymbols.{IsTruePlace, primary_received}
 use Rattle.cancel.specs.declared.subtracted.Subtracted.{Subtracted}
 use Rattle.cancel.specs.Gain.{IsCandidate, IsBest}
 use Rattle.cancel.specs.Laws.{IsGainSeen}
-use Rattle.cancel.specs.Residue.{estimate_at, offset_of, number_before, left_at, greatest_left, in_16_bits, sample_in_16_bits, residue_of, IsSubtracted, IsSubtraction, IsLeftWithin, TakesCleanOff}
+use Rattle.cancel.specs.Residue.{estimate_at, offset_of, number_before, left_at, greatest_left, in_16_bits, sample_in_16_bits, residue_of, IsSubtracted, IsSubtraction, IsLeftWithin, TakesLoadedOff, TakesCleanOff}
 use Rattle.cancel.proofs.Estimates.{gain_is_candidate}
 use Rattle.cancel.proofs.Best.{best_leaves_least}
 
@@ -31,9 +33,9 @@ use Rattle.cancel.proofs.Best.{best_leaves_least}
 true_place : (offset : ℕ) → offset < 19200 → IsTruePlace offset (start_of offset + primary_start Zero) Zero
 true_place offset within = record { frame = (start_of offset + offset) / 19200; place = omega (arith, within) }
 
-module _ (recording : List Sample) (plan : CellPlan) (sfn offset : ℕ) (gain : Cpx) (eps : ℕ) (clean : IsClean recording plan sfn offset gain eps) (long : 57600 ≤ length recording) where
+module _ (recording : List Sample) (plan : CellPlan) (grid : Elements) (sfn offset : ℕ) (gain : Cpx) (eps : ℕ) (clean : IsLoaded recording plan grid sfn offset gain eps) (long : 57600 ≤ length recording) where
   primary : IsReceived eps gain (pss_grid (plan.identity % 3)) (samples_from recording (start_of offset + primary_start Zero))
-  primary = primary_received recording plan sfn offset gain eps (start_of offset + primary_start Zero) clean (omega (arith, long)) Zero (true_place offset clean.samples.within)
+  primary = primary_received recording plan grid sfn offset gain eps (start_of offset + primary_start Zero) clean (omega (arith, long)) Zero (true_place offset clean.samples.within)
 
   seen : IsGainSeen eps gain (samples_from recording (start_of offset + primary_start Zero)) (wave (plan.identity % 3))
   unfolding wave
@@ -68,30 +70,27 @@ kept_part (negsuc n) h = let e : min n 32767 ≡ n = omega (arith, h) in ap (λ 
 kept : (z : Cpx) → IsWithin 32767 z → value_of (sample_in_16_bits z) ≡ z
 kept z h = pair (kept_part z.re h.re) (kept_part z.im h.im)
 
-module _ (recording : List Sample) (plan : CellPlan) (sfn offset : ℕ) (gain : Cpx) (eps : ℕ) (clean : IsClean recording plan sfn offset gain eps) (long : 57600 ≤ length recording) where
+-- what a gain that is a candidate leaves is no greater with the best one
+module _ (recording : List Sample) (plan : CellPlan) (grid : Elements) (sfn offset : ℕ) (gain : Cpx) (eps most : ℕ) (clean : IsLoaded recording plan grid sfn offset gain eps) (long : 57600 ≤ length recording)
+    (few : most ≤ 32767) (near : (i : ℕ) → i < length recording → IsWithin most (left_at recording plan (start_of offset) (number_at_start sfn offset) gain i)) where
   abbrev start : ℕ
   start = start_of offset
 
   abbrev number : ℕ
   number = number_at_start sfn offset
 
-  near : (i : ℕ) → i < length recording → IsWithin eps (left_at recording plan start number gain i)
-  near i l =
-      subst (λ (z : Cpx). IsWithin eps z)
-      (sym (ap₂ (λ s o. minus (sample_at recording i) (times gain (sent (element plan) s (i + o)))) (same_number sfn offset clean.number clean.samples.within) (same_offset offset clean.samples.within))) (clean.samples.near i l)
-
   record IsQuiet (best : Cpx) : Type 0 where
-    greatest : greatest_left recording plan start number best ≤ eps
-    each : (i : ℕ) → i < length recording → IsWithin eps (left_at recording plan start number best i)
+    greatest : greatest_left recording plan start number best ≤ most
+    each : (i : ℕ) → i < length recording → IsWithin most (left_at recording plan start number best i)
 
   quiet : (best : Cpx) → IsBest (greatest_left recording plan start number) (estimate_at recording plan start) best → IsQuiet best
   quiet best is =
-      let all = best_leaves_least (length recording) (left_at recording plan start number) (estimate_at recording plan start) best gain eps is
-      (candidate recording plan sfn offset gain eps clean long) near in
+      let all = best_leaves_least (length recording) (left_at recording plan start number) (estimate_at recording plan start) best gain most is
+      (candidate recording plan grid sfn offset gain eps clean long) near in
       record { greatest = all.0; each = all.1 }
 
-  taken_is_left : (taken : Subtracted) → IsSubtracted recording plan start number taken → IsLeftWithin eps taken
-  taken_is_left taken is = record { greatest = subst (λ n. n ≤ eps) (sym is.greatest) all.greatest; each = each }
+  taken_is_left : (taken : Subtracted) → IsSubtracted recording plan start number taken → IsLeftWithin most taken
+  taken_is_left taken is = record { greatest = subst (λ n. n ≤ most) (sym is.greatest) all.greatest; each = each }
     where
       best : Cpx
       best = gain_of taken.gain
@@ -103,30 +102,50 @@ module _ (recording : List Sample) (plan : CellPlan) (sfn offset : ℕ) (gain : 
       left_kept i l =
           ap value_of (values_below_at (λ j. sample_in_16_bits (left_at recording plan start number (gain_of taken.gain) j)) (length recording) i silence l)
           ∙ kept (left_at recording plan start number (gain_of taken.gain) i)
-          (within_more (left_at recording plan start number (gain_of taken.gain) i) eps 32767 (all.each i l) (small_eps eps (square gain) clean.samples.size.most clean.samples.bound))
+          (within_more (left_at recording plan start number (gain_of taken.gain) i) most 32767 (all.each i l) few)
 
       inside : (i : ℕ) → i < length taken.residue → i < length recording
       inside i l =
           let e = ap (λ (r : List Sample). length r) is.residue ∙ values_below-length (length recording) (λ j. sample_in_16_bits (left_at recording plan start number (gain_of taken.gain) j)) in
           omega (arith, e, l)
 
-      each : (i : ℕ) → i < length taken.residue → IsWithin eps (sample_at taken.residue i)
+      each : (i : ℕ) → i < length taken.residue → IsWithin most (sample_at taken.residue i)
       each i l =
-          subst (λ (r : List Sample). IsWithin eps (sample_at r i)) (sym is.residue)
-          (subst (λ (z : Cpx). IsWithin eps z) (sym (left_kept i (inside i l))) (all.each i (inside i l)))
+          subst (λ (r : List Sample). IsWithin most (sample_at r i)) (sym is.residue)
+          (subst (λ (z : Cpx). IsWithin most z) (sym (left_kept i (inside i l))) (all.each i (inside i l)))
 
   -- so a cell is taken off
-  taken_off : (answer : Option Subtracted) → IsSubtraction recording plan start number answer → IsSomeAnd answer (IsLeftWithin eps)
-  taken_off None is = absurd (is gain (candidate recording plan sfn offset gain eps clean long))
+  taken_off : (answer : Option Subtracted) → IsSubtraction recording plan start number answer → IsSomeAnd answer (IsLeftWithin most)
+  taken_off None is = absurd (is gain (candidate recording plan grid sfn offset gain eps clean long))
   taken_off (Some taken) is = taken_is_left taken is
 
-pub takes_clean_off : (recording : List Sample) (plan : CellPlan) (start number : ℕ) (answer : Option Subtracted) → 57600 ≤ length recording →
-    IsSubtraction recording plan start number answer → TakesCleanOff recording plan start number answer
-takes_clean_off recording plan first frame answer long is sfn offset gain eps clean same_start same_sfn =
-    taken_off recording plan sfn offset gain eps clean long answer
+pub takes_loaded_off : (recording : List Sample) (plan : CellPlan) (start number : ℕ) (answer : Option Subtracted) → 57600 ≤ length recording →
+    IsSubtraction recording plan start number answer → TakesLoadedOff recording plan start number answer
+takes_loaded_off recording plan first frame answer long is grid sfn offset gain eps most clean same_start same_sfn few near =
+    taken_off recording plan grid sfn offset gain eps most clean long few
+    (subst (λ s. (i : ℕ) → i < length recording → IsWithin most (left_at recording plan s (number_at_start sfn offset) gain i)) same_start
+    (subst (λ n. (i : ℕ) → i < length recording → IsWithin most (left_at recording plan first n gain i)) same_sfn near)) answer
     (subst (λ s. IsSubtraction recording plan s (number_at_start sfn offset) answer) same_start (subst (λ n. IsSubtraction recording plan first n answer) same_sfn is))
 
-pub answer_is_clean : (recording : List Sample) (plan : CellPlan) (start number : ℕ) (answer : Result (Option Subtracted) AllocError) → 57600 ≤ length recording →
-    IfOk answer (IsSubtraction recording plan start number) → IfOk answer (TakesCleanOff recording plan start number)
-answer_is_clean recording plan first frame (Ok found) long is = takes_clean_off recording plan first frame found long is
-answer_is_clean recording plan first frame (Err wanting) long is = tt
+-- where it sends nothing else the true gain leaves the errors
+left_by_gain : (recording : List Sample) (plan : CellPlan) (sfn offset : ℕ) (gain : Cpx) (eps : ℕ) → IsClean recording plan sfn offset gain eps → (i : ℕ) → i < length recording →
+    IsWithin eps (left_at recording plan (start_of offset) (number_at_start sfn offset) gain i)
+left_by_gain recording plan sfn offset gain eps clean i l =
+    subst (λ (z : Cpx). IsWithin eps z)
+    (sym (ap₂ (λ s o. minus (sample_at recording i) (times gain (sent (element plan) s (i + o)))) (same_number sfn offset clean.number clean.samples.within) (same_offset offset clean.samples.within))) (clean.samples.near i l)
+
+pub takes_clean_off : (recording : List Sample) (plan : CellPlan) (start number : ℕ) (answer : Option Subtracted) → TakesLoadedOff recording plan start number answer → TakesCleanOff recording plan start number answer
+takes_clean_off recording plan first frame answer loaded sfn offset gain eps clean same_start same_sfn =
+    loaded (element plan) sfn offset gain eps eps (clean_is_loaded recording plan sfn offset gain eps clean) same_start same_sfn (small_eps eps (square gain) clean.samples.size.most clean.samples.bound)
+    (subst (λ s. (i : ℕ) → i < length recording → IsWithin eps (left_at recording plan s frame gain i)) (sym same_start)
+    (subst (λ n. (i : ℕ) → i < length recording → IsWithin eps (left_at recording plan (start_of offset) n gain i)) (sym same_sfn) (left_by_gain recording plan sfn offset gain eps clean)))
+
+pub answer_is_loaded : (recording : List Sample) (plan : CellPlan) (start number : ℕ) (answer : Result (Option Subtracted) AllocError) → 57600 ≤ length recording →
+    IfOk answer (IsSubtraction recording plan start number) → IfOk answer (TakesLoadedOff recording plan start number)
+answer_is_loaded recording plan first frame (Ok found) long is = takes_loaded_off recording plan first frame found long is
+answer_is_loaded recording plan first frame (Err wanting) long is = tt
+
+pub answer_is_clean : (recording : List Sample) (plan : CellPlan) (start number : ℕ) (answer : Result (Option Subtracted) AllocError) →
+    IfOk answer (TakesLoadedOff recording plan start number) → IfOk answer (TakesCleanOff recording plan start number)
+answer_is_clean recording plan first frame (Ok found) loaded = takes_clean_off recording plan first frame found loaded
+answer_is_clean recording plan first frame (Err wanting) loaded = tt

@@ -11,8 +11,9 @@ use Rattle.lte_types.specs.declared.frame.Half.TheVariants.{Zero}
 use Rattle.pss_search.specs.Correlation.{wave}
 use Rattle.cell_tx.specs.declared.cell.CellPlan.{CellPlan}
 use Rattle.cell_tx.specs.Grid.{element}
-use Rattle.cell_tx.specs.Sent.{sent, gain_of}
+use Rattle.cell_tx.specs.Sent.{Elements, sent, gain_of}
 use Rattle.cell_tx.specs.Clean.{IsClean, start_of, number_at_start}
+use Rattle.clean_air.specs.Load.{IsLoaded}
 use Rattle.cancel.specs.declared.subtracted.Subtracted.{Subtracted}
 use Rattle.cancel.specs.Gain.{estimate, IsCandidate, greatest_below, IsBest}
 
@@ -87,6 +88,14 @@ IsSubtraction recording plan start number None = (gain : Cpx) → IsCandidate (e
 pub record IsLeftWithin (eps : ℕ) (taken : Subtracted) : Type 0 where
   pub greatest : taken.greatest ≤ eps
   pub each : (i : ℕ) → i < length taken.residue → IsWithin eps (sample_at taken.residue i)
+
+-- where the recording is clean of the cell, whatever else that sends, with its first frame and that frame's number, it is taken off,
+-- and no greater component is left than the true gain leaves, where that is at most 32767
+abbrev pub TakesLoadedOff : List Sample → CellPlan → ℕ → ℕ → Option Subtracted → Type 0
+TakesLoadedOff recording plan start number answer =
+    (grid : Elements) (sfn offset : ℕ) (gain : Cpx) (eps most : ℕ) → IsLoaded recording plan grid sfn offset gain eps → start ≡ start_of offset →
+    number ≡ number_at_start sfn offset → most ≤ 32767 →
+    ((i : ℕ) → i < length recording → IsWithin most (left_at recording plan start number gain i)) → IsSomeAnd answer (IsLeftWithin most)
 
 -- where the recording is clean of the cell, with its first frame and that frame's number, it is taken off, and no more
 -- is left than the errors, whatever its first sample, gain and errors are

@@ -5,7 +5,8 @@ ghost use Rattle.finite.specs.Lists.{values_below};
 ghost use Rattle.cs_num.specs.Complex.{IsWithin, minus, times, square, value_of};
 ghost use Rattle.lte_types.specs.Numerology.{frame_length};
 ghost use Rattle.cell_tx.specs.Sent.{sample_of, gain_of};
-ghost use Rattle.cancel.specs.Residue.{offset_of, number_before as number_of, sent_at, in_16_bits as nearest, sample_in_16_bits as nearest_sample, power_of as sum_of, IsSubtraction, TakesCleanOff};
+ghost use Rattle.cancel.specs.Residue.{offset_of, number_before as number_of, sent_at, in_16_bits as nearest, sample_in_16_bits as nearest_sample, power_of as sum_of};
+ghost use Rattle.cancel.specs.Residue.{IsSubtraction, TakesLoadedOff, TakesCleanOff};
 ghost use Rattle.cancel.specs.Steps.{left_of, IsTakenOff};
 
 use crate::Subtracted;
@@ -22,8 +23,9 @@ use std::alloc::{AllocError, Global};
 /// that frame; of the gains of size 1 to 28 whose distance from the estimate is at most 2, the one is taken that leaves
 /// the least greatest component, and of such the one with the lowest real part, and then with the lowest imaginary
 /// part. `None` exactly where there is no such gain. Wherever the recording is what the cell sends times a gain of size
-/// 1 to 28, each component off by at most twice the gain's size, no greater component is left than the errors.
-/// Only memory can be wanting. (own)
+/// 1 to 28, each component off by at most twice the gain's size, no greater component is left than the errors
+/// (`clean`); whatever else the cell sends, none greater than the true gain leaves, where that is at most 32,767
+/// (`loaded`). Only memory can be wanting. (own)
 pub fn subtract(
     alloc: Global,
     recording: &Recording,
@@ -33,6 +35,7 @@ pub fn subtract(
 ) -> Result<Option<Subtracted>, AllocError>
     requires { start < frame_length }
     ensures answer { IfOk result (IsSubtraction recording.now cell.now start sfn) }
+    ensures loaded { IfOk result (TakesLoadedOff recording.now cell.now start sfn) }
     ensures clean { IfOk result (TakesCleanOff recording.now cell.now start sfn) }
 {
     let count = recording.len();
