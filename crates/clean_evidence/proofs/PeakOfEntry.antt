@@ -1,0 +1,45 @@
+-- The hit that tells the entry of a clean cell: at least 999 thousandths of its energy are the primary signal's.
+use Rattle.std.proofs.Common.{◌≡◌, ℕ, ◌+◌, ◌*◌, ◌/◌, ◌%◌, ◌<◌, ◌≤◌, arith, sym, subst, ◌∙◌, List, length}
+use Rattle.std.proofs.lemmas.Nat.{le-div}
+use Rattle.cs_num.specs.declared.Cpx.{Cpx}
+use Rattle.cs_num.specs.declared.Sample.{Sample}
+use Rattle.lte_types.specs.declared.frame.Half.{Half}
+use Rattle.lte_types.specs.declared.frame.Half.TheVariants.{Zero, Five}
+use Rattle.lte_types.specs.declared.entry.Entry.{Entry}
+use Rattle.sss_detect.specs.Place.{start_of}
+use Rattle.sss_detect.specs.Identity.{identity_of}
+use Rattle.pss_search.specs.Correlation.{peak, energy, wave_power}
+use Rattle.pss_search.proofs.Listed.{list_is_right}
+use Rattle.pss_search.proofs.Symmetry.{power_range}
+use Rattle.cell_tx.specs.declared.cell.CellPlan.{CellPlan}
+use Rattle.cell_tx.specs.Sent.{Elements}
+use Rattle.cell_tx.specs.Clean.{start_of as start_after}
+use Rattle.budget.specs.Peak.{StandsOut}
+use Rattle.budget.proofs.Peaks.{primary_stands_out}
+use Rattle.evidence.specs.Evidence.{IsToldAt, thousandths}
+use Rattle.evidence.proofs.Fractions.{some_product}
+use Rattle.clean_air.specs.Load.{IsLoaded}
+use Rattle.clean_air.proofs.SentSymbols.{IsTruePlace, primary_at}
+
+-- a place that tells the start of a cell's frames is one of its true places
+told_place : (offset t : ℕ) (half : Half) → offset < 19200 → start_of t half ≡ start_after offset → IsTruePlace offset t half
+told_place offset t Zero within told = record { frame = (t + offset) / 19200; place = omega (arith, within, told) }
+told_place offset t Five within told = record { frame = (t + offset) / 19200; place = omega (arith, within, told) }
+
+fraction : (c e w : ℕ) → 0 < e → 0 < w → 999 * (e * w) ≤ 1000 * c → 999 ≤ 1000 * c / (e * w)
+fraction c e w some power h = le-div 999 (1000 * c) (e * w) (some_product e w some power) h
+
+-- at such a place the fraction is high
+pub peak_is_high : (recording : List Sample) (plan : CellPlan) (grid : Elements) (sfn offset : ℕ) (gain : Cpx) (eps : ℕ) (entry : Entry) (t : ℕ) → 57600 ≤ length recording →
+    IsLoaded recording plan grid sfn offset gain eps → entry.id ≡ plan.identity → entry.start ≡ start_after offset → IsToldAt recording entry t → 999 ≤ thousandths recording (entry.id % 3) t
+peak_is_high recording plan grid sfn offset gain eps entry t long clean id start told =
+    let is = (list_is_right recording told.hit).0 told.listed in
+    let last : told.hit.t ≤ 19336 = is.is_hit.to_last in
+    let place : t ≤ 19336 = subst (λ n. n ≤ 19336) told.place last in
+    let half = (identity_of recording told.hit).1 in
+    let at = told_place offset told.hit.t half clean.samples.within (told.start ∙ start) in
+    let primary = primary_at recording plan grid sfn offset gain eps told.hit.t clean (omega (arith, long, last)) half at in
+    let stands : StandsOut recording told.hit.t (plan.identity % 3) = primary_stands_out recording told.hit.t (plan.identity % 3) primary in
+    subst (λ n. 999 ≤ thousandths recording (n % 3) t) (sym id)
+    (subst (λ n. 999 ≤ thousandths recording (plan.identity % 3) n) told.place
+    (fraction (peak recording (plan.identity % 3) told.hit.t) (energy recording told.hit.t) (wave_power (plan.identity % 3)) stands.sounds (power_range (plan.identity % 3) (omega arith)).0 stands.clear))
