@@ -8,8 +8,9 @@ second_search.py; what codes, maps and sends stands here, from TS 36.211, 36.212
 
 The description is JSON: the keys of `transmit`, then, all or none, `cfi`, `start`, `blocks`, `mcs`, `column` and `sib1`. Of
 a key that is written twice the last value stands. For trials there are `control` (21 bits, sent in place of the grant),
-`block` (a transport block in hexadecimal, in place of the text) and `noise` (the greatest error of a component, drawn by
-the identity). In Bash:
+`block` (a transport block in hexadecimal, in place of the text), `noise` (the greatest error of a component, drawn by
+the identity) and `load` (the greatest size of the elements, 1 to 256, that are sent where the cell sends nothing that is
+read, but not beside the synchronisation signals, as the traffic of a live cell; drawn by the identity and the frame's number). In Bash:
 
     D='"identity": 0, "sfn": 0, "offset": 0, "samples": 57600, "gain": [20, 9],
        "duration": "normal", "resource": "one", "spare": 0, "cfi": 2, "start": 0, "blocks": 6, "mcs": 4, "column": 2,
@@ -141,8 +142,17 @@ def points(bits, c_init):
     return list(zip(sent[0::2], sent[1::2]))
 
 
+def drawn(size, count, *seed):
+    """So many whole elements of at most this size, half of them of nearly this size."""
+    draw = np.random.default_rng(seed)
+    sizes = size * np.where(draw.random(count) < 0.5, 1, draw.random(count))
+    angles = 2 * np.pi * draw.random(count)
+    return np.trunc(np.stack([sizes * np.cos(angles), sizes * np.sin(angles)], 1)).astype(np.int64)
+
+
 class Frame:
     MASK = 0  # of the master block's check, with one antenna port (TS 36.212 section 5.3.1.1)
+    port = 0
 
     def __init__(self, cell, sfn):
         self.cell, self.sfn, self.identity = cell, sfn, cell['identity']
@@ -221,13 +231,26 @@ class Frame:
                   for k in range(12 * start, 12 * (start + blocks)) if not self.taken[70 + l, k]]
         self.send(places, points(turbo(block, rv, 2 * len(places)), 65535 * 2 ** 14 + 5 * 2 ** 9 + self.identity))
 
+    def load(self, indicator_groups):
+        """Any elements where nothing is sent that is read; beside the synchronisation signals there are none."""
+        is_open = ~self.taken
+        for slot in (0, 10):
+            is_open[7 * slot + 5:7 * slot + 7] = False
+        for subframe, mine in enumerate(indicator_groups):
+            if (subframe, self.sfn % 2) != (5, 0):
+                is_open[14 * subframe, [k for n in mine for k in self.groups(0)[n]]] = True
+        self.grid[is_open] = drawn(self.cell['load'], is_open.sum(), self.identity, self.sfn, self.port)
+
     def samples(self):
         self.synchronisation()
         self.broadcast()
+        taken = []
         if 'sib1' in self.cell:
             taken = [self.indicator(subframe) for subframe in range(10)]
             if self.sfn % 2 == 0:
                 self.system_information(taken[5])
+        if 'load' in self.cell:
+            self.load(taken)
         (re, im), (a, b) = np.moveaxis(self.grid, 2, 0), self.cell['gain']
         wave = np.stack([rounded(re @ W_REAL - im @ W_IMAG, 17), rounded(re @ W_IMAG + im @ W_REAL, 17)], 2)
         parts = [part for i, symbol in enumerate(wave) for part in (symbol[-9 if i % 7 else -10:], symbol)]

@@ -15,7 +15,7 @@ import sys
 
 import numpy as np
 
-from second_cell import DURATIONS, RESOURCES, bits_of, convolutional, points, with_check
+from second_cell import DURATIONS, RESOURCES, bits_of, convolutional, drawn, points, with_check
 from second_make import Pcg32, bound, recipe
 from second_search import W_IMAG, W_REAL, primary, pseudo_random, rounded, secondary
 
@@ -29,20 +29,25 @@ def reference(identity, slot, l):
 def grid(cell, sfn):
     """The 120 symbols of a frame, six a slot, of 72 elements."""
     identity, elements = cell['identity'], np.zeros((120, 72, 2), np.int64)
+    is_open = np.ones((120, 72), bool)
     n1, n2 = divmod(identity, 3)
     for half, slot in ((0, 0), (5, 10)):
         elements[6 * slot + 5, 5:67] = primary(n2)
         elements[6 * slot + 4, 5:67] = [(127 * s, 0) for s in secondary(n1, n2, half)]
+        is_open[6 * slot + 4:6 * slot + 6] = False
     bits = [0, 0, 0, DURATIONS.index(cell['duration'])] + bits_of(RESOURCES.index(cell['resource']), 2)
     bits += bits_of(sfn // 4, 8) + bits_of(cell['spare'], 10)
     sent = points(convolutional(with_check(bits, 16, 0x11021), 1728), identity)
     places = [(6 + l, k) for l in range(4) for k in range(72) if l == 2 or (k - identity) % 3]
     for (l, k), value in zip(places, sent[216 * (sfn % 4):][:216]):
-        elements[l, k] = value
+        elements[l, k], is_open[l, k] = value, False
     for slot in range(20):
         for l, v in ((0, 0), (3, 3)):
             for m, value in enumerate(reference(identity, slot, l)):
-                elements[6 * slot + l, 6 * m + (v + identity) % 6] = value
+                place = 6 * slot + l, 6 * m + (v + identity) % 6
+                elements[place], is_open[place] = value, False
+    if 'load' in cell:
+        elements[is_open] = drawn(cell['load'], is_open.sum(), identity, sfn)
     return elements
 
 
