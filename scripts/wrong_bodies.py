@@ -2,9 +2,9 @@
 """wrong_bodies.py [--lanes N] [--wrong] [CRATE ..]
 
 Tries every wrong body of the crates (all where none is named): those of `must-fail/`, which the gate tries too, and those
-of `wrong/`, which are tried here alone (with --wrong these and no others). Each has to be refused at the function that it changes. Functions are checked
-each by itself, against the contracts of those that they call; so one check takes one wrong body of each function, and a
-crate needs as many checks as the function with the most of them. What counts is the line that `rt check` has for a
+of `wrong/`, which are tried here alone (with --wrong these and no others). Each has to be refused at the function that it
+changes. Functions are checked each by itself, against the contracts of those that they call; so one check takes one wrong
+body of each function, and a crate needs as many checks as the function with the most of them. What counts is the line that `rt check` has for a
 function: that it is not proved, and not for a function that it calls. A wrong body that changes no function (a table,
 say) has a check of its own, and so has each that a shared check did not refuse. One that is refused only since a proof
 file names what it took away is told as weak: that says little of the contract.
@@ -44,9 +44,10 @@ def functions_of(path, text):
         elif head and head[2]:
             indent = head[1]
             ends = (f'{indent}}}', f'{indent}{{}}')
-            last = next((at for at in range(first, len(lines) + 1) if lines[at - 1] in ends or at > first and
-                         lines[at - 1].endswith(';') and len(lines[at - 1]) - len(lines[at - 1].lstrip()) <= len(indent)),
-                        len(lines))
+            last = first if line.endswith('{}') else next(
+                (at for at in range(first, len(lines) + 1) if lines[at - 1] in ends or at > first and
+                 lines[at - 1].endswith(';') and len(lines[at - 1]) - len(lines[at - 1].lstrip()) <= len(indent)),
+                len(lines))
             found.append(Function(path, owner if indent else '', head[2], first, last))
     return found
 
