@@ -1,1 +1,3 @@
 pub mod RoundTrips
+pub mod Timings
+pub mod Same

@@ -1,6 +1,12 @@
+pub mod Assignment
 pub mod Block
+pub mod CellPlace
 pub mod Codes
+pub mod Frames
 pub mod Identity
 pub mod Numerology
+pub mod Parts
 pub mod Ranges
 pub mod Reasons
+pub mod Timing
+pub mod Same

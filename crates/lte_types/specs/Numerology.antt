@@ -22,6 +22,13 @@ useful_length = 128
 abbrev pub cycle_length : ℕ
 cycle_length = 19660800
 
+-- a recording has at least these samples, 30 ms, and at most those, one second (own)
+abbrev pub least_samples : ℕ
+least_samples = 57600
+
+abbrev pub most_samples : ℕ
+most_samples = 1920000
+
 -- ---- symbols
 
 -- the normal cyclic prefix: 10 samples before the first symbol of a slot, and 9 before each later one

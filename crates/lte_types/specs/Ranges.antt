@@ -1,10 +1,13 @@
 -- The ranges of the fields of SystemInformationBlockType1 (TS 36.331 section 6.2.2).
-use Rattle.std.specs.Prelude.{ℕ, ◌^◌, ◌<◌, ◌≤◌, List, [], ◌∷◌, All, length, negsuc, pos, ◌≤ℤ◌, IsSome, IfSome}
+use Rattle.std.specs.Prelude.{ℕ, ℤ, ◌^◌, ◌<◌, ◌≤◌, List, [], ◌∷◌, All, length, negsuc, pos, ◌≤ℤ◌, IsSome, IfSome}
+use Rattle.lte_types.specs.declared.cell_access_related_info.CellAccessRelatedInfo.{CellAccessRelatedInfo}
+use Rattle.lte_types.specs.declared.cell_selection_info.CellSelectionInfo.{CellSelectionInfo}
 use Rattle.lte_types.specs.declared.mnc.Mnc.{Mnc}
 use Rattle.lte_types.specs.declared.mnc.Mnc.TheVariants.{Two, Three}
 use Rattle.lte_types.specs.declared.plmn.Plmn.{Plmn}
 use Rattle.lte_types.specs.declared.si_message.SiMessage.{SiMessage}
 use Rattle.lte_types.specs.declared.sib1.Sib1.{Sib1}
+use Rattle.lte_types.specs.Parts.{access_of, selection_of}
 
 -- each is a decimal digit
 abbrev pub AreDigits : List ℕ → Type 0
@@ -25,24 +28,62 @@ abbrev pub FirstHasMcc : List Plmn → Type 0
 FirstHasMcc [] = ⊥
 FirstHasMcc (plmn ∷ rest) = IsSome plmn.mcc
 
--- an entry of the schedule: the code of its period, and the codes of its blocks
-pub record IsValidMessage (message : SiMessage) : Type 0 where
-  pub period : message.period ≤ 6
-  pub sibs : All (λ code. code ≤ 79) message.sibs
+-- 1 to 6 identities, the first with a country code
+pub record ArePlmns (plmns : List Plmn) : Type 0 where
+  pub count : (1 ≤ length plmns) × (length plmns ≤ 6)
+  pub valid : All IsValidPlmn plmns
+  pub first_mcc : FirstHasMcc plmns
+
+-- an entry of the schedule: the codes of its blocks
+abbrev pub IsValidMessage : SiMessage → Type 0
+IsValidMessage message = All (λ code. code ≤ 79) message.sibs
+
+-- 1 to 32 entries
+pub record AreMessages (messages : List SiMessage) : Type 0 where
+  pub count : (1 ≤ length messages) × (length messages ≤ 32)
+  pub valid : All IsValidMessage messages
+
+-- csg-Identity
+abbrev pub IsGroup : ℕ → Type 0
+IsGroup identity = identity < 2 ^ 27
+
+-- q-RxLevMin
+abbrev pub IsLevel : ℤ → Type 0
+IsLevel level = (negsuc 69 ≤ℤ level) × (level ≤ℤ negsuc 21)
+
+-- q-RxLevMinOffset
+abbrev pub IsLevelOffset : ℕ → Type 0
+IsLevelOffset offset = (1 ≤ offset) × (offset ≤ 8)
+
+-- p-Max
+abbrev pub IsPower : ℤ → Type 0
+IsPower power = (negsuc 29 ≤ℤ power) × (power ≤ℤ pos 33)
+
+-- freqBandIndicator
+abbrev pub IsBand : ℕ → Type 0
+IsBand band = (1 ≤ band) × (band ≤ 64)
+
+-- subframeAssignment and specialSubframePatterns
+abbrev pub IsTddConfig : ℕ × ℕ → Type 0
+IsTddConfig config = (config.0 ≤ 6) × (config.1 ≤ 8)
+
+-- who may use the cell
+pub record IsAccess (access : CellAccessRelatedInfo) : Type 0 where
+  pub plmns : ArePlmns access.plmns
+  pub cell : access.cell < 2 ^ 28
+  pub csg_identity : IfSome access.csg_identity IsGroup
+
+-- its levels
+pub record IsSelection (selection : CellSelectionInfo) : Type 0 where
+  pub q_rx : IsLevel selection.q_rx
+  pub q_offset : IfSome selection.q_offset IsLevelOffset
 
 -- every field is in its range
 pub record IsValid (sib1 : Sib1) : Type 0 where
-  pub plmn_count : (1 ≤ length sib1.plmns) × (length sib1.plmns ≤ 6)
-  pub plmns : All IsValidPlmn sib1.plmns
-  pub first_mcc : FirstHasMcc sib1.plmns
-  pub cell : sib1.cell < 2 ^ 28
-  pub csg_identity : IfSome sib1.csg_identity (λ identity. identity < 2 ^ 27)
-  pub q_rx : (negsuc 69 ≤ℤ sib1.q_rx) × (sib1.q_rx ≤ℤ negsuc 21)
-  pub q_offset : IfSome sib1.q_offset (λ offset. (1 ≤ offset) × (offset ≤ 8))
-  pub p_max : IfSome sib1.p_max (λ power. (negsuc 29 ≤ℤ power) × (power ≤ℤ pos 33))
-  pub band : (1 ≤ sib1.band) × (sib1.band ≤ 64)
-  pub entry_count : (1 ≤ length sib1.scheduling) × (length sib1.scheduling ≤ 32)
-  pub entries : All IsValidMessage sib1.scheduling
-  pub tdd : IfSome sib1.tdd (λ config. (config.0 ≤ 6) × (config.1 ≤ 8))
-  pub window : sib1.window ≤ 6
+  pub access : IsAccess (access_of sib1)
+  pub selection : IsSelection (selection_of sib1)
+  pub p_max : IfSome sib1.p_max IsPower
+  pub band : IsBand sib1.band
+  pub messages : AreMessages sib1.scheduling
+  pub tdd : IfSome sib1.tdd IsTddConfig
   pub tag : sib1.tag ≤ 31

@@ -1,7 +1,7 @@
 //! Frame numbers and half frames.
 
 ghost use Rattle.std.specs.Prelude.{◌≡◌, ℕ, ◌%◌, ◌<◌, ◌≤◌, IsSome, IfSome, ◌↔◌};
-ghost use Rattle.lte_types.specs.Numerology.{frame_length, subframe_of, half_of, primary_start as primary_start_of};
+ghost use Rattle.lte_types.specs.Numerology.{frame_length, subframe_of, primary_start as primary_start_of};
 
 use crate::Prefix;
 use std::marker::Model;
@@ -62,17 +62,6 @@ pub enum Half {
 }
 
 impl Half {
-    /// The half that begins with a subframe, 0 or 5.
-    pub fn of_subframe(subframe: u8) -> Half
-        ensures { result ≡ half_of subframe }
-    {
-        if subframe == 0 {
-            Half::Zero
-        } else {
-            Half::Five
-        }
-    }
-
     /// The subframe that the half begins with, 0 or 5.
     pub fn subframe(self) -> u8
         ensures { result ≡ subframe_of self }

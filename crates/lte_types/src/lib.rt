@@ -2,17 +2,23 @@
 //! its range.
 #![tactic(auto)]
 
+mod assignment;
 mod bandwidth;
+mod cell_access_related_info;
 mod cell_id;
+mod cell_place;
+mod cell_selection_info;
 mod cfi;
 mod duration;
 mod entry;
 mod evidence;
 mod frame;
+mod frames;
 mod hit;
 mod mib;
 mod mnc;
 mod numerology;
+mod period;
 mod plmn;
 mod plmns;
 mod resource;
@@ -21,25 +27,36 @@ mod si_message;
 mod sib1;
 mod sib1_reason;
 mod sibs;
+mod timing;
+mod window;
 
+pub use assignment::Assignment;
 pub use bandwidth::Bandwidth;
+pub use cell_access_related_info::CellAccessRelatedInfo;
 pub use cell_id::CellId;
+pub use cell_place::CellPlace;
+pub use cell_selection_info::CellSelectionInfo;
 pub use cfi::Cfi;
 pub use duration::Duration;
 pub use entry::Entry;
 pub use evidence::Evidence;
 pub use frame::{Half, Sfn};
+pub use frames::Frames;
 pub use hit::Hit;
 pub use mib::Mib;
 pub use mnc::Mnc;
 pub use numerology::{
-    CYCLE_LENGTH, FRAME_LENGTH, HALF_FRAME_LENGTH, Prefix, SLOT_LENGTH, USEFUL_LENGTH,
+    CYCLE_LENGTH, FRAME_LENGTH, HALF_FRAME_LENGTH, LEAST_SAMPLES, MOST_SAMPLES, Prefix,
+    SLOT_LENGTH, USEFUL_LENGTH,
 };
+pub use period::Period;
 pub use plmn::Plmn;
 pub use plmns::Plmns;
 pub use resource::Resource;
 pub use schedule::Schedule;
 pub use si_message::SiMessage;
-pub use sib1::Sib1;
+pub use sib1::{Sib1, same_answers};
 pub use sib1_reason::Sib1Reason;
 pub use sibs::Sibs;
+pub use timing::{Timing, timings_come_back};
+pub use window::Window;

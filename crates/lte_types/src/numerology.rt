@@ -2,7 +2,7 @@
 //! 4.1 and 6.12).
 
 ghost use Rattle.std.specs.Prelude.{◌≡◌, ◌^◌, ◌<◌};
-ghost use Rattle.lte_types.specs.Numerology.{symbol_step, symbols_of_slot, symbol_of as symbol_in, useful_start as useful_start_of};
+ghost use Rattle.lte_types.specs.Numerology.{symbol_step, symbol_of as symbol_in, useful_start as useful_start_of};
 
 /// The samples of a frame.
 pub const FRAME_LENGTH: usize = 19_200;
@@ -18,6 +18,12 @@ pub const USEFUL_LENGTH: usize = 128;
 
 /// The samples of 1,024 frames, after which the frame numbers begin again.
 pub const CYCLE_LENGTH: usize = 19_660_800;
+
+/// The least samples of a recording: 30 ms. (own)
+pub const LEAST_SAMPLES: usize = 57_600;
+
+/// The most samples of a recording: one second. (own)
+pub const MOST_SAMPLES: usize = 1_920_000;
 
 /// A cyclic prefix, in samples: before the first symbol of a slot, and before each later one.
 #[derive(Clone, Copy, PartialEq, Eq)]
@@ -44,13 +50,6 @@ impl Prefix {
         ensures { result ≡ symbol_step self }
     {
         USEFUL_LENGTH + self.other as usize
-    }
-
-    /// The symbols of a slot: 7 with the normal prefix, and 6 with the extended one.
-    pub fn symbols(self) -> usize
-        ensures { result ≡ symbols_of_slot self }
-    {
-        SLOT_LENGTH / self.step()
     }
 
     /// Where the useful part of a symbol of a slot begins, in a frame that begins at the given

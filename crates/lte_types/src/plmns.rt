@@ -2,6 +2,9 @@
 
 ghost use Rattle.std.specs.Prelude.{◌≡◌, List, [], ◌∷◌, ◌++◌, ◌<◌, ◌≤◌, ◌↔◌, IsTrue, length, if◌then◌else◌};
 ghost use Rattle.lte_types.specs.declared.plmn.Plmn.{Plmn as PlmnValue};
+ghost use Rattle.std.specs.Cmp.Lexicographic.{pointwise, lists_per};
+ghost use Rattle.lte_types.specs.contracts.plmn.PlmnPartialEq.TheImpl as item_eq;
+ghost use Rattle.lte_types.specs.contracts.plmn.PlmnPartialEq.TheImpl.Laws.{laws-law};
 
 use crate::Plmn;
 use arrayvec::ArrayVec;
@@ -17,6 +20,16 @@ impl Model for Plmns {
     ghost Value = { List PlmnValue };
 
     ghost view = { λ list. list.items.items };
+}
+
+impl PartialEq for Plmns {
+    ghost eq = { pointwise item_eq.ghosts.eq };
+
+    ghost laws = { lists_per laws-law };
+
+    fn eq(&self, other: &Plmns) -> bool {
+        self.items == other.items
+    }
 }
 
 impl Plmns {
@@ -43,5 +56,16 @@ impl Plmns {
         ensures count { length self.now ≤ 6 }
     {
         self.items.as_slice()
+    }
+
+    /// The same list.
+    pub fn copy(&self) -> Plmns
+        ensures { result ≡ self.now }
+    {
+        let mut copy = Plmns::new();
+        for item in self.slice() {
+            copy.push(*item);
+        }
+        copy
     }
 }

@@ -2,6 +2,9 @@
 
 ghost use Rattle.std.specs.Prelude.{◌≡◌, List, [], ◌∷◌, ◌++◌, ◌<◌, ◌≤◌, ◌↔◌, IsTrue, length, if◌then◌else◌};
 ghost use Rattle.lte_types.specs.declared.si_message.SiMessage.{SiMessage as Message};
+ghost use Rattle.std.specs.Cmp.Lexicographic.{pointwise, lists_per};
+ghost use Rattle.lte_types.specs.contracts.si_message.SiMessagePartialEq.TheImpl as item_eq;
+ghost use Rattle.lte_types.specs.contracts.si_message.SiMessagePartialEq.TheImpl.Laws.{laws-law};
 
 use crate::SiMessage;
 use arrayvec::ArrayVec;
@@ -17,6 +20,16 @@ impl Model for Schedule {
     ghost Value = { List Message };
 
     ghost view = { λ list. list.items.items };
+}
+
+impl PartialEq for Schedule {
+    ghost eq = { pointwise item_eq.ghosts.eq };
+
+    ghost laws = { lists_per laws-law };
+
+    fn eq(&self, other: &Schedule) -> bool {
+        self.items == other.items
+    }
 }
 
 impl Schedule {
@@ -43,5 +56,16 @@ impl Schedule {
         ensures count { length self.now ≤ 32 }
     {
         self.items.as_slice()
+    }
+
+    /// The same list.
+    pub fn copy(&self) -> Schedule
+        ensures { result ≡ self.now }
+    {
+        let mut copy = Schedule::new();
+        for item in self.slice() {
+            copy.push(item.copy());
+        }
+        copy
     }
 }

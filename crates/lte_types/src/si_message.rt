@@ -1,21 +1,35 @@
 //! Entries of the schedule of system information.
 
-use crate::Sibs;
+ghost use Rattle.std.specs.Prelude.{◌≡◌};
+
+use crate::{Period, Sibs};
 
 /// An entry of schedulingInfoList (TS 36.331 section 6.2.2).
-#[derive(Drop)]
+#[derive(PartialEq, Drop)]
 pub struct SiMessage {
-    /// The code of the periodicity: 0 to 6 for 8 to 512 frames.
-    pub period: u8,
+    /// si-Periodicity.
+    pub period: Period,
     /// The codes of its blocks: 0 to 15 within the first enumeration, 16 and more for an extension.
     pub sibs: Sibs,
+}
+
+impl SiMessage {
+    /// The same entry.
+    pub fn copy(&self) -> SiMessage
+        ensures { result ≡ self.now }
+    {
+        SiMessage {
+            period: self.period,
+            sibs: self.sibs.copy(),
+        }
+    }
 }
 
 // What fills the unused places of a list.
 impl Default for SiMessage {
     fn default() -> SiMessage {
         SiMessage {
-            period: 0,
+            period: Period::Rf8,
             sibs: Sibs::new(),
         }
     }

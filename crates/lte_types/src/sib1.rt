@@ -1,12 +1,13 @@
 //! The first block of system information.
 
-ghost use Rattle.std.specs.Prelude.{◌≡◌, ℕ, ◌^◌, ◌<◌, ◌≤◌, ◌≤ℤ◌, ◌↔◌, pos, negsuc, All, IsTrue, IfSome, length};
-ghost use Rattle.lte_types.specs.Ranges.{AreDigits, HasDigits, IsValidPlmn, FirstHasMcc, IsValidMessage, IsValid};
+ghost use Rattle.std.specs.Prelude.{◌≡◌, ◌↔◌, All, IsTrue, IfSome};
+ghost use Rattle.lte_types.specs.Ranges.{AreDigits, IsValidPlmn, ArePlmns, IsValidMessage, AreMessages, IsGroup, IsLevel, IsLevelOffset, IsPower, IsBand, IsTddConfig, IsAccess, IsSelection, IsValid};
+ghost use Rattle.lte_types.specs.Parts.{access_of, selection_of};
 
-use crate::{Mnc, Plmn, Plmns, Schedule, SiMessage};
+use crate::{Mnc, Plmn, Plmns, Schedule, SiMessage, Sib1Reason, Window};
 
-/// SystemInformationBlockType1 (TS 36.331 section 6.2.2). Periods and windows are codes.
-#[derive(Drop)]
+/// SystemInformationBlockType1 (TS 36.331 section 6.2.2).
+#[derive(PartialEq, Drop)]
 pub struct Sib1 {
     /// 1 to 6 networks, the first with a country code.
     pub plmns: Plmns,
@@ -34,8 +35,8 @@ pub struct Sib1 {
     pub scheduling: Schedule,
     /// subframeAssignment, 0 to 6, and specialSubframePatterns, 0 to 8.
     pub tdd: Option<(u8, u8)>,
-    /// The code of si-WindowLength: 0 to 6 for 1 to 40 ms.
-    pub window: u8,
+    /// si-WindowLength.
+    pub window: Window,
     /// systemInfoValueTag, 0 to 31.
     pub tag: u8,
     /// nonCriticalExtension is present.
@@ -47,47 +48,60 @@ impl Sib1 {
     pub fn valid(&self) -> bool
         ensures { IsTrue result ↔ IsValid self.now }
     {
-        plmns_fit(&self.plmns) && self.identities_fit() && self.levels_fit() && self.schedule_fits()
-    }
-
-    fn identities_fit(&self) -> bool
-        ensures { IsTrue result ↔ ((self.now.cell < 2 ^ 28)
-            × IfSome self.now.csg_identity (λ identity. identity < 2 ^ 27)) }
-    {
-        self.cell < 1 << 28 && identity_fits(self.csg_identity)
-    }
-
-    fn levels_fit(&self) -> bool
-        ensures { IsTrue result ↔ (((negsuc 69 ≤ℤ self.now.q_rx) × (self.now.q_rx ≤ℤ negsuc 21))
-            × IfSome self.now.q_offset (λ offset. (1 ≤ offset) × (offset ≤ 8))
-            × IfSome self.now.p_max (λ power. (negsuc 29 ≤ℤ power) × (power ≤ℤ pos 33))
-            × ((1 ≤ self.now.band) × (self.now.band ≤ 64))) }
-    {
-        level_fits(self.q_rx)
-            && offset_fits(self.q_offset)
+        self.access_fits()
+            && self.selection_fits()
             && power_fits(self.p_max)
             && band_fits(self.band)
+            && messages_fit(&self.scheduling)
+            && tdd_fits(self.tdd)
+            && self.tag <= 31
     }
 
-    fn schedule_fits(&self) -> bool
-        ensures { IsTrue result ↔ (((1 ≤ length self.now.scheduling) × (length self.now.scheduling ≤ 32))
-            × All IsValidMessage self.now.scheduling
-            × IfSome self.now.tdd (λ config. (config.0 ≤ 6) × (config.1 ≤ 8))
-            × (self.now.window ≤ 6)
-            × (self.now.tag ≤ 31)) }
+    /// The same fields.
+    pub fn copy(&self) -> Sib1
+        ensures { result ≡ self.now }
     {
-        entries_fit(&self.scheduling) && tdd_fits(self.tdd) && self.window <= 6 && self.tag <= 31
+        Sib1 {
+            plmns: self.plmns.copy(),
+            tac: self.tac,
+            cell: self.cell,
+            barred: self.barred,
+            intra: self.intra,
+            csg: self.csg,
+            csg_identity: self.csg_identity,
+            q_rx: self.q_rx,
+            q_offset: self.q_offset,
+            p_max: self.p_max,
+            band: self.band,
+            scheduling: self.scheduling.copy(),
+            tdd: self.tdd,
+            window: self.window,
+            tag: self.tag,
+            extended: self.extended,
+        }
+    }
+
+    fn access_fits(&self) -> bool
+        ensures { IsTrue result ↔ IsAccess (access_of self.now) }
+    {
+        plmns_fit(&self.plmns) && self.cell < 1 << 28 && identity_fits(self.csg_identity)
+    }
+
+    fn selection_fits(&self) -> bool
+        ensures { IsTrue result ↔ IsSelection (selection_of self.now) }
+    {
+        level_fits(self.q_rx) && offset_fits(self.q_offset)
     }
 }
 
 fn level_fits(level: i8) -> bool
-    ensures { IsTrue result ↔ ((negsuc 69 ≤ℤ level) × (level ≤ℤ negsuc 21)) }
+    ensures { IsTrue result ↔ IsLevel level }
 {
     -70 <= level && level <= -22
 }
 
 fn band_fits(band: u8) -> bool
-    ensures { IsTrue result ↔ ((1 ≤ band) × (band ≤ 64)) }
+    ensures { IsTrue result ↔ IsBand band }
 {
     1 <= band && band <= 64
 }
@@ -113,8 +127,7 @@ fn plmn_fits(plmn: &Plmn) -> bool
 }
 
 fn plmns_fit(plmns: &Plmns) -> bool
-    ensures { IsTrue result ↔ (((1 ≤ length plmns.now) × (length plmns.now ≤ 6))
-        × All IsValidPlmn plmns.now × FirstHasMcc plmns.now) }
+    ensures { IsTrue result ↔ ArePlmns plmns.now }
 {
     match plmns.slice() {
         [] => false,
@@ -125,19 +138,24 @@ fn plmns_fit(plmns: &Plmns) -> bool
 fn message_fits(message: &SiMessage) -> bool
     ensures { IsTrue result ↔ IsValidMessage message.now }
 {
-    message.period <= 6 && message.sibs.slice().iter().all(|code| *code <= 79)
+    message.sibs.slice().iter().all(|code| *code <= 79)
 }
 
-fn entries_fit(schedule: &Schedule) -> bool
-    ensures { IsTrue result ↔ (((1 ≤ length schedule.now) × (length schedule.now ≤ 32))
-        × All IsValidMessage schedule.now) }
+fn are_messages(messages: &[SiMessage]) -> bool
+    ensures { IsTrue result ↔ All IsValidMessage messages.now }
+{
+    messages.iter().all(message_fits)
+}
+
+fn messages_fit(schedule: &Schedule) -> bool
+    ensures { IsTrue result ↔ AreMessages schedule.now }
 {
     let entries = schedule.slice();
-    !entries.is_empty() && entries.iter().all(message_fits)
+    !entries.is_empty() && are_messages(entries)
 }
 
 fn identity_fits(identity: Option<u32>) -> bool
-    ensures { IsTrue result ↔ IfSome identity (λ identity. identity < 2 ^ 27) }
+    ensures { IsTrue result ↔ IfSome identity IsGroup }
 {
     match identity {
         Some(identity) => identity < 1 << 27,
@@ -146,7 +164,7 @@ fn identity_fits(identity: Option<u32>) -> bool
 }
 
 fn offset_fits(offset: Option<u8>) -> bool
-    ensures { IsTrue result ↔ IfSome offset (λ offset. (1 ≤ offset) × (offset ≤ 8)) }
+    ensures { IsTrue result ↔ IfSome offset IsLevelOffset }
 {
     match offset {
         Some(offset) => 1 <= offset && offset <= 8,
@@ -155,7 +173,7 @@ fn offset_fits(offset: Option<u8>) -> bool
 }
 
 fn power_fits(power: Option<i8>) -> bool
-    ensures { IsTrue result ↔ IfSome power (λ power. (negsuc 29 ≤ℤ power) × (power ≤ℤ pos 33)) }
+    ensures { IsTrue result ↔ IfSome power IsPower }
 {
     match power {
         Some(power) => -30 <= power && power <= 33,
@@ -164,10 +182,17 @@ fn power_fits(power: Option<i8>) -> bool
 }
 
 fn tdd_fits(config: Option<(u8, u8)>) -> bool
-    ensures { IsTrue result ↔ IfSome config (λ config. (config.0 ≤ 6) × (config.1 ≤ 8)) }
+    ensures { IsTrue result ↔ IfSome config IsTddConfig }
 {
     match config {
         Some((assignment, patterns)) => assignment <= 6 && patterns <= 8,
         None => true,
     }
+}
+
+/// Whether two answers on system information are the same.
+pub fn same_answers(answer: &Result<Sib1, Sib1Reason>, other: &Result<Sib1, Sib1Reason>) -> bool
+    ensures { IsTrue result ↔ (answer.now ≡ other.now) }
+{
+    answer == other
 }

@@ -1,6 +1,10 @@
 //! Lists of system information blocks.
 
 ghost use Rattle.std.specs.Prelude.{◌≡◌, ℕ, List, [], ◌∷◌, ◌++◌, ◌<◌, ◌≤◌, ◌↔◌, IsTrue, length, if◌then◌else◌};
+ghost use Rattle.std.specs.Prelude.{nat_eq};
+ghost use Rattle.std.proofs.Common.{rules};
+ghost use Rattle.std.specs.Cmp.Rules.{comparing};
+ghost use Rattle.std.specs.Cmp.Lexicographic.{pointwise};
 
 use arrayvec::ArrayVec;
 use std::marker::Model;
@@ -15,6 +19,16 @@ impl Model for Sibs {
     ghost Value = { List ℕ };
 
     ghost view = { λ list. list.items.items };
+}
+
+impl PartialEq for Sibs {
+    ghost eq = { pointwise nat_eq };
+
+    ghost laws = { Prim.search (comparing, rules) };
+
+    fn eq(&self, other: &Sibs) -> bool {
+        self.items == other.items
+    }
 }
 
 impl Sibs {
@@ -41,5 +55,16 @@ impl Sibs {
         ensures count { length self.now ≤ 31 }
     {
         self.items.as_slice()
+    }
+
+    /// The same list.
+    pub fn copy(&self) -> Sibs
+        ensures { result ≡ self.now }
+    {
+        let mut copy = Sibs::new();
+        for item in self.slice() {
+            copy.push(*item);
+        }
+        copy
     }
 }

@@ -1,0 +1,66 @@
+//! The resource blocks of SystemInformationBlockType1.
+
+ghost use Rattle.std.specs.Prelude.{◌≡◌, IsSome, IfSome, ◌↔◌};
+ghost use Rattle.lte_types.specs.Assignment.{IsAssignment};
+
+use crate::Cfi;
+use std::marker::Model;
+
+/// Where the shared channel stands that carries SystemInformationBlockType1: after a control region with an
+/// indicator of 2 or 3 (TS 36.212 section 5.3.4), on some of the six resource blocks, one after the other
+/// (TS 36.213 section 7.1.6.3). Contracts see it as the three numbers.
+#[derive(Drop)]
+pub struct Assignment {
+    cfi: Cfi,
+    start: u8,
+    blocks: u8,
+}
+
+impl Model for Assignment {
+    ghost use Rattle.lte_types.specs.Assignment.{Assigned, IsAssignment};
+
+    ghost Value = { Assigned };
+
+    ghost view = { λ a. record { cfi = a.cfi; start = a.start; blocks = a.blocks } };
+
+    ghost invariant = { λ a. IsAssignment a.cfi a.start a.blocks };
+}
+
+impl Assignment {
+    /// `blocks` resource blocks from `start` on; `None` exactly where the indicator is 1, `blocks` is 0 or
+    /// `start` + `blocks` is above 6.
+    pub fn new(cfi: Cfi, start: u8, blocks: u8) -> Option<Self>
+        ensures valid { IsSome result ↔ IsAssignment cfi start blocks }
+        ensures value { IfSome result (λ a. a ≡ record { cfi = cfi; start = start; blocks = blocks }) }
+    {
+        if cfi.value() >= 2 && blocks >= 1 && start <= 6 && blocks <= 6 - start {
+            Some(Assignment { cfi, start, blocks })
+        } else {
+            None
+        }
+    }
+
+    /// The control format indicator, 2 or 3.
+    pub fn cfi(&self) -> Cfi
+        ensures value { result ≡ self.now.cfi }
+        ensures valid { IsAssignment self.now.cfi self.now.start self.now.blocks }
+    {
+        self.cfi
+    }
+
+    /// The first resource block, 0 to 5.
+    pub fn start(&self) -> u8
+        ensures value { result ≡ self.now.start }
+        ensures valid { IsAssignment self.now.cfi self.now.start self.now.blocks }
+    {
+        self.start
+    }
+
+    /// How many resource blocks there are, 1 to 6.
+    pub fn blocks(&self) -> u8
+        ensures value { result ≡ self.now.blocks }
+        ensures valid { IsAssignment self.now.cfi self.now.start self.now.blocks }
+    {
+        self.blocks
+    }
+}

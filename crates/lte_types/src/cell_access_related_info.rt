@@ -1,0 +1,15 @@
+//! Who may use a cell.
+
+use crate::Plmns;
+
+/// cellAccessRelatedInfo of SystemInformationBlockType1 (TS 36.331 section 6.2.2); its fields are those of `Sib1`.
+#[derive(Drop)]
+pub struct CellAccessRelatedInfo {
+    pub plmns: Plmns,
+    pub tac: u16,
+    pub cell: u32,
+    pub barred: bool,
+    pub intra: bool,
+    pub csg: bool,
+    pub csg_identity: Option<u32>,
+}

@@ -1,0 +1,55 @@
+//! Where a cell stands in a recording.
+
+ghost use Rattle.std.specs.Prelude.{◌≡◌, ◌<◌, IsSome, IfSome, ◌↔◌};
+ghost use Rattle.lte_types.specs.CellPlace.{Place};
+ghost use Rattle.lte_types.specs.Numerology.{frame_length};
+
+use crate::{CellId, FRAME_LENGTH};
+use std::marker::Model;
+
+/// The place of a cell in a recording: its identity, and the sample at which its first frame starts, 0 to 19,199.
+/// Contracts see it as these two. (own)
+#[derive(Clone, Copy, PartialEq, Eq)]
+pub struct CellPlace {
+    id: CellId,
+    start: u32,
+}
+
+impl Model for CellPlace {
+    ghost Value = { Place };
+
+    ghost view = { λ p. record { id = p.id; start = p.start } };
+
+    ghost invariant = { λ p. p.start < frame_length };
+
+    ghost inverse = { λ p. record { id = p.id; start = p.start } };
+}
+
+impl CellPlace {
+    /// The place of these two; `None` exactly where the start is above 19,199.
+    pub fn new(id: CellId, start: u32) -> Option<Self>
+        ensures valid { IsSome result ↔ (start < frame_length) }
+        ensures value { IfSome result (λ place. place ≡ record { id = id; start = start }) }
+    {
+        if (start as usize) < FRAME_LENGTH {
+            Some(CellPlace { id, start })
+        } else {
+            None
+        }
+    }
+
+    /// The identity of the cell.
+    pub fn id(self) -> CellId
+        ensures { result ≡ self.id }
+    {
+        self.id
+    }
+
+    /// The sample at which its first frame starts, 0 to 19,199.
+    pub fn start(self) -> u32
+        ensures value { result ≡ self.start }
+        ensures early { self.start < frame_length }
+    {
+        self.start
+    }
+}
