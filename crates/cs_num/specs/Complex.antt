@@ -55,6 +55,10 @@ pub record IsWithin (bound : ℕ) (a : Cpx) : Type 0 where
 abbrev pub value_of : Sample → Cpx
 value_of s = record { re = s.re; im = s.im }
 
+-- the sample that is a number
+abbrev pub sample_of : Cpx → Sample
+sample_of z = record { re = z.re; im = z.im }
+
 abbrev pub silence : Sample
 silence = record { re = pos 0; im = pos 0 }
 

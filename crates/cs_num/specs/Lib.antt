@@ -1,3 +1,4 @@
 pub mod Complex
+pub mod Gain
 pub mod Rounding
 pub mod Sums

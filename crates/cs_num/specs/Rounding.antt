@@ -1,6 +1,8 @@
 -- Rounding and clamping of whole numbers. (own)
-use Rattle.std.specs.Prelude.{ℕ, ◌+◌, ◌-◌, ◌/◌, ◌^◌, ℤ, pos, negsuc, ◌+ℤ◌, neg_ℤ, min}
+use Rattle.std.specs.Prelude.{ℕ, ◌+◌, ◌-◌, ◌*◌, ◌/◌, ◌^◌, ℤ, pos, negsuc, ◌+ℤ◌, ◌*ℤ◌, neg_ℤ, min}
+use Rattle.std.specs.Int.{w16, saturate_signed}
 use Rattle.cs_num.specs.declared.Cpx.{Cpx}
+use Rattle.cs_num.specs.declared.Sample.{Sample}
 
 -- x / d, rounded down
 abbrev pub floor_div : ℤ → ℕ → ℤ
@@ -14,6 +16,22 @@ round_shifted x bits = floor_div (x +ℤ pos (2 ^ (bits - 1))) (2 ^ bits)
 -- the same of both components
 abbrev pub rounded : Cpx → ℕ → Cpx
 rounded a bits = record { re = round_shifted a.re bits; im = round_shifted a.im bits }
+
+-- x / d, rounded to the nearest, halves up
+abbrev pub rounded_quotient : ℤ → ℕ → ℤ
+rounded_quotient x d = floor_div (pos 2 *ℤ x +ℤ pos d) (2 * d)
+
+-- the same of both components
+abbrev pub quotient : Cpx → ℕ → Cpx
+quotient a d = record { re = rounded_quotient a.re d; im = rounded_quotient a.im d }
+
+-- the nearest number of 16 bits
+abbrev pub in_16_bits : ℤ → ℤ
+in_16_bits x = saturate_signed w16 x
+
+-- the sample that is nearest to a number
+abbrev pub nearest_sample : Cpx → Sample
+nearest_sample a = record { re = in_16_bits a.re; im = in_16_bits a.im }
 
 -- the nearest number from -limit to limit
 abbrev pub clamped : ℤ → ℕ → ℤ

@@ -2,10 +2,13 @@
 //! rounding that the receiver rests on. Each call gives its exact value under its condition.
 #![tactic(auto)]
 
-ghost use Rattle.std.specs.Prelude.{◌≡◌, ℕ, ◌+◌, ◌*◌, ◌^◌, ◌<◌, ◌≤◌, pos, negsuc, ◌≤ℤ◌, ◌<ℤ◌, nat_abs, int_div};
-ghost use Rattle.cs_num.specs.Complex.{IsWithin, value_of, plus, minus, negated, multiple, times, times_j as times_j_of, times_minus_j as times_minus_j_of, conjugate, square, size};
-ghost use Rattle.cs_num.specs.Rounding.{clamped, round_shifted, rounded};
+ghost use Rattle.std.specs.Prelude.{◌≡◌, ◌+◌, ◌*◌, ◌^◌, ◌<◌, ◌≤◌, pos, ◌≤ℤ◌, ◌<ℤ◌, nat_abs, int_div};
+ghost use Rattle.cs_num.specs.Complex.{IsWithin, value_of, sample_of, plus, minus, negated, multiple, times, times_j as times_j_of, times_minus_j as times_minus_j_of, conjugate, square, size};
+ghost use Rattle.cs_num.specs.Rounding.{clamped, round_shifted, rounded, rounded_quotient as rounded_quotient_of, quotient as quotient_of, in_16_bits as in_16_bits_of, nearest_sample as nearest_sample_of};
 
+mod gain;
+
+pub use gain::Gain;
 use std::ops::{Add, Neg, Sub};
 
 /// A sample of a recording: a pair of 16-bit numbers.
@@ -161,6 +164,41 @@ impl Cpx {
             im: round_part(self.im, bits),
         }
     }
+
+    /// Both components divided by `divisor` and rounded to the nearest whole number, halves up.
+    /// `divisor` is 1 to 2^61, and components have size at most 2^61.
+    pub fn quotient(self, divisor: u64) -> Cpx
+        requires some { 0 < divisor }
+        requires few { divisor ≤ 2 ^ 61 }
+        requires size { IsWithin (2 ^ 61) self }
+        ensures { result ≡ quotient_of self divisor }
+    {
+        Cpx {
+            re: rounded_quotient(self.re, divisor),
+            im: rounded_quotient(self.im, divisor),
+        }
+    }
+
+    /// The sample that the number is. Components have size at most 32,767.
+    pub fn exact_sample(self) -> Sample
+        requires { IsWithin 32767 self }
+        ensures { result ≡ sample_of self }
+    {
+        Sample {
+            re: self.re as i16,
+            im: self.im as i16,
+        }
+    }
+
+    /// The sample that is nearest to the number: each component is clamped to 16 bits, -32,768 to 32,767.
+    pub fn nearest_sample(self) -> Sample
+        ensures { result ≡ nearest_sample_of self }
+    {
+        Sample {
+            re: in_16_bits(self.re),
+            im: in_16_bits(self.im),
+        }
+    }
 }
 
 // One component of `round_shift`.
@@ -170,6 +208,23 @@ fn round_part(x: i64, bits: u32) -> i64
     ensures { result ≡ round_shifted x bits }
 {
     (x + (1i64 << (bits - 1))) >> bits
+}
+
+// One component of `quotient`.
+fn rounded_quotient(x: i64, divisor: u64) -> i64
+    requires some { 0 < divisor }
+    requires few { divisor ≤ 2 ^ 61 }
+    requires size { nat_abs x ≤ 2 ^ 61 }
+    ensures { result ≡ rounded_quotient_of x divisor }
+{
+    (2 * x + divisor as i64).div_euclid(2 * divisor as i64)
+}
+
+// One component of `nearest_sample`.
+fn in_16_bits(x: i64) -> i16
+    ensures { result ≡ in_16_bits_of x }
+{
+    x.clamp(-32_768, 32_767) as i16
 }
 
 /// The quotient rounded toward zero, then clamped to `-limit` to `limit`. `bottom` is above 0

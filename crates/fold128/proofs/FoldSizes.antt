@@ -17,8 +17,8 @@ use Rattle.cs_num.proofs.Sums.{complex_sum_below-within}
 use Rattle.fold128.specs.declared.quartet.Quartet.{Quartet}
 use Rattle.fold128.specs.declared.spectrum.Mirror.{Mirror}
 use Rattle.fold128.specs.Tables.{quarter, cosine, w_at}
-use Rattle.fold128.specs.Folding.{back_by, seen_of_four, quartet_of, taken, empty_quartet, folded_term, AreWithin, opposite, empty_mirror, mirrored, mirrored_term, IsSmallMirror, forward_by, given_at, unfolded, added}
-use Rattle.fold128.proofs.Entries.{w_period, w_small}
+use Rattle.fold128.specs.Folding.{back_by, seen_of_four, quartet_of, taken, empty_quartet, folded_term, AreWithin, opposite, mirrored, IsSmallMirror, forward_by, given_at, unfolded, added}
+use Rattle.fold128.proofs.Entries.{w_period}
 
 -- ---- the two components of an entry together
 
@@ -196,11 +196,6 @@ mirrored-within p w small h = record {
   re = component-small p.real.re w.re p.imaginary.re w.im small.real.re h.re small.imaginary.re h.im;
   im = component-small p.real.im w.re p.imaginary.im w.im small.real.im h.re small.imaginary.im h.im;
 }
-
-pub mirrored_sum-within : (row : List Mirror) (f m : ℕ) → All IsSmallMirror row → m ≤ length row → IsWithin (m * 8589934592) (complex_sum_below m (mirrored_term row f))
-mirrored_sum-within row f m small l =
-    complex_sum_below-within m 8589934592 (mirrored_term row f)
-    (λ k below. mirrored-within _ _ (All-get_or IsSmallMirror row k empty_mirror (omega arith) small) (w_small (f * k)))
 
 -- ---- the way back
 

@@ -1,0 +1,84 @@
+//! Gains.
+
+ghost use Rattle.std.specs.Prelude.{◌≡◌, IsSome, IfSome, ◌↔◌};
+ghost use Rattle.cs_num.specs.Complex.{IsWithin};
+ghost use Rattle.cs_num.specs.Gain.{IsGain, with_parts};
+
+use crate::Cpx;
+use std::marker::Model;
+
+/// A whole complex number of size 1 to 28: the square of its size is 1 to 784. Contracts see it as
+/// that number.
+#[derive(Clone, Copy, PartialEq, Eq)]
+pub struct Gain {
+    re: i16,
+    im: i16,
+}
+
+impl Model for Gain {
+    ghost use Rattle.cs_num.specs.declared.Cpx.{Cpx as Number};
+    ghost use Rattle.cs_num.specs.Gain.{IsGain, with_parts};
+
+    ghost Value = { Number };
+
+    ghost view = { λ gain. with_parts gain.re gain.im };
+
+    ghost invariant = { λ gain. IsGain (with_parts gain.re gain.im) };
+
+    ghost inverse = { λ z. record { re = z.re; im = z.im } };
+}
+
+impl Gain {
+    /// The gain that a number is; `None` exactly where the square of its size is not 1 to 784.
+    pub fn of(number: Cpx) -> Option<Gain>
+        ensures valid { IsSome result ↔ IsGain number }
+        ensures value { IfSome result (λ gain. gain ≡ number) }
+    {
+        let square = number.norm();
+        if 1 <= square && square <= 784 {
+            Some(Gain {
+                re: number.re as i16,
+                im: number.im as i16,
+            })
+        } else {
+            None
+        }
+    }
+
+    /// The gain with these parts; `None` exactly where the square of its size is not 1 to 784.
+    pub fn new(re: i16, im: i16) -> Option<Gain>
+        ensures valid { IsSome result ↔ IsGain (with_parts re im) }
+        ensures value { IfSome result (λ gain. gain ≡ with_parts re im) }
+    {
+        Gain::of(Cpx {
+            re: re as i64,
+            im: im as i64,
+        })
+    }
+
+    /// The number. Its components have size at most 28.
+    pub fn value(self) -> Cpx
+        ensures value { result ≡ self }
+        ensures valid { IsGain self }
+        ensures within { IsWithin 28 self }
+    {
+        Cpx {
+            re: self.re as i64,
+            im: self.im as i64,
+        }
+    }
+
+    /// The real part.
+    pub fn re(self) -> i16
+        ensures { result ≡ self.re }
+    {
+        self.re
+    }
+
+    /// The imaginary part.
+    pub fn im(self) -> i16
+        ensures { result ≡ self.im }
+    {
+        self.im
+    }
+}
