@@ -6,16 +6,17 @@ use Rattle.serde_json.specs.Find.{get}
 use Rattle.std.proofs.lemmas.Int.{ints}
 use Rattle.std.proofs.lemmas.Bool.Decides.{nat_tests}
 use Rattle.std.proofs.lemmas.Option.{option_and_then_some}
+use Rattle.cs_num.specs.declared.Cpx.{Cpx}
+use Rattle.cs_num.specs.Gain.{IsGain}
 use Rattle.lte_types.specs.declared.sib1.Sib1.{Sib1}
 use Rattle.lte_types.specs.Ranges.{IsValid}
+use Rattle.lte_types.specs.Timing.{IsOffset}
 use Rattle.cell_tx.specs.declared.cell.CellPlan.{CellPlan}
 use Rattle.cell_tx.specs.declared.error.CellError.{CellError}
 use Rattle.cell_tx.specs.declared.error.CellError.TheVariants.{Form, Sfn, Offset, Samples, Gain, Sib1Range}
 use Rattle.cell_tx.specs.declared.transmission.Transmission.{Transmission}
 use Rattle.cell_tx.specs.Conditions.{Condition, condition, first_failed}
 use Rattle.cell_tx.specs.Plan.{IsSendable, plan_refusal}
-use Rattle.cell_tx.specs.Clean.{IsGain, IsOffset}
-use Rattle.cell_tx.specs.Sent.{gain_of}
 use Rattle.cell_tx.proofs.Sendable.{accepted_is_sendable}
 use Rattle.cell_json.specs.Kinds.{is_between}
 use Rattle.cell_json.specs.Information.{sib1_of}
@@ -36,7 +37,7 @@ between least most n e = grind (arith, ints, nat_tests)
 within : (least most n : ℕ) (z : ℤ) → pos n ≡ z → is_between (pos least) (pos most) z ≡ true → n ≤ most
 within least most n z e b = between least most n (subst (λ y. is_between (pos least) (pos most) y ≡ true) (sym e) b)
 
-gain_holds : (g : ℤ × ℤ) → is_gain g ≡ true → IsGain (gain_of g)
+gain_holds : (g : Cpx) → is_gain g ≡ true → IsGain g
 gain_holds g e = record { least = grind (arith, nat_tests); most = grind (arith, nat_tests) }
 
 -- all conditions after the form hold
@@ -105,20 +106,20 @@ same_plan t json values s =
 -- a described transmission is in the ranges of its parts
 pub record IsInRanges (t : Transmission) : Type 0 where
   pub sendable : IsSendable t.cell
-  pub number : t.sfn ≤ 1023
-  pub offset : IsOffset t.offset
-  pub gain : IsGain (gain_of t.gain)
+  pub number : t.timing.sfn ≤ 1023
+  pub offset : IsOffset t.timing.offset
+  pub gain : IsGain t.gain
 
 pub described_ranges : (bytes : List ℕ) (t : Transmission) → Describes bytes t → IsInRanges t
 described_ranges bytes t d =
     let none : first_failed (conditions d.value) ≡ None = ap refusal_of (sym d.json) ∙ d.valid in
     let all = all_hold d.value none in
-    let below = within 0 19199 t.offset (number_at (codes "offset") d.value) d.values.offset all.offset in
+    let below = within 0 19199 t.timing.offset (number_at (codes "offset") d.value) d.values.offset all.offset in
     let accepted : plan_refusal (plan_of d.value t.cell.sib1) ≡ None = ap first_failed (sym (cell_conditions_are d.value t.cell.sib1 d.values.sib1)) ∙ all.cell in
     let sendable = (accepted_is_sendable (plan_of d.value t.cell.sib1)).0 (block_is_valid d.value t.cell.sib1 d.values.sib1, accepted) in
     record {
       sendable = subst IsSendable (same_plan t d.value d.values sendable) sendable;
-      number = within 0 1023 t.sfn (number_at (codes "sfn") d.value) d.values.sfn all.sfn;
+      number = within 0 1023 t.timing.sfn (number_at (codes "sfn") d.value) d.values.sfn all.sfn;
       offset = omega (arith, below);
       gain = gain_holds t.gain (subst (λ g. is_gain g ≡ true) (sym d.values.gain) all.gain);
     }

@@ -22,7 +22,7 @@ cell_conditions_are json sib1 e = ap (λ (found : Option Sib1). option_map_or (�
 module _ (json : Data) (d : Description) (sib1 : Sib1) (form : has_form json ≡ true) (parts : HasParts d json) (there : Some sib1 ≡ sib1_at json) where
   -- where what is sent and the block are in their ranges, the cell decides
   pub cell_decides : is_between (pos 0) (pos 1023) d.sending.sfn ≡ true → is_between (pos 0) (pos 19199) d.sending.offset ≡ true
-      → is_between (pos 57600) (pos 1920000) d.sending.samples ≡ true → is_gain (d.sending.gain.re, d.sending.gain.im) ≡ true
+      → is_between (pos 57600) (pos 1920000) d.sending.samples ≡ true → is_gain d.sending.gain ≡ true
       → first_failed (conditions json) ≡ plan_refusal (plan_of json sib1)
   cell_decides e f g h =
       let s = ap (is_between (pos 0) (pos 1023)) (sym parts.sending.sfn) ∙ e in

@@ -1,9 +1,6 @@
 -- What is read of SystemInformationBlockType1 is in its ranges.
 use Rattle.std.proofs.Common.{◌≡◌, if◌then◌else◌, ℕ, ◌≤◌, ◌<◌, ◌^◌, ℤ, pos, negsuc, ◌≤ℤ◌, List, [], ◌∷◌, length, Bool, true, false, nat_le, nat_eq, ◌&&◌, suc, ◌-◌, Option, Some, None, option_map, is_some, nat_abs, arith, refl, sym, ap, subst, ◌∙◌}
 use Rattle.std.specs.Prelude.{codes, All, IfSome}
-use Rattle.std.specs.List.{position}
-use Rattle.std.specs.Ordering.{int_eq}
-use Rattle.std.proofs.lemmas.List.Quantifiers.{position-Some}
 use Rattle.std.proofs.lemmas.Int.{ints}
 use Rattle.std.proofs.lemmas.Bool.Decides.{nat_tests}
 use Rattle.std.proofs.lemmas.Option.{option_and_then_some, same_Some}
@@ -11,17 +8,16 @@ use Rattle.std.proofs.lemmas.List.Elements.{All-nil, All-cons}
 use Rattle.serde_json.specs.Data.{Data, Items, no_items, item}
 use Rattle.serde_json.specs.Events.{items_len}
 use Rattle.serde_json.specs.Find.{get, as_null, as_str, as_bool, as_array}
+use Rattle.lte_types.specs.declared.cell_access_related_info.CellAccessRelatedInfo.{CellAccessRelatedInfo}
+use Rattle.lte_types.specs.declared.cell_selection_info.CellSelectionInfo.{CellSelectionInfo}
 use Rattle.lte_types.specs.declared.mnc.Mnc.{Mnc}
 use Rattle.lte_types.specs.declared.mnc.Mnc.TheVariants.{Two, Three}
 use Rattle.lte_types.specs.declared.plmn.Plmn.{Plmn}
 use Rattle.lte_types.specs.declared.si_message.SiMessage.{SiMessage}
 use Rattle.lte_types.specs.declared.sib1.Sib1.{Sib1}
-use Rattle.lte_types.specs.Ranges.{AreDigits, HasDigits, IsValidPlmn, IsValidMessage, FirstHasMcc, IsValid}
-use Rattle.cell_json.specs.declared.information.Access.{Access}
-use Rattle.cell_json.specs.declared.information.Selection.{Selection}
-use Rattle.cell_json.specs.declared.information.Timetable.{Timetable}
+use Rattle.lte_types.specs.Ranges.{AreDigits, HasDigits, IsValidPlmn, FirstHasMcc, ArePlmns, IsValidMessage, AreMessages, IsGroup, IsLevel, IsLevelOffset, IsPower, IsAccess, IsSelection, IsValid}
 use Rattle.cell_json.specs.Kinds.{given, whole_of, is_between, whole_within, natural_within, null_or, each, items_within, list_within, at_key}
-use Rattle.cell_json.specs.Information.{digit_of, two_digits, three_digits, mcc_of, mnc_in, mnc_of, network_of, first_has_mcc, networks_of, code_in, periods, windows, message_of, access_of, selection_of, timetable_of, sib1_of}
+use Rattle.cell_json.specs.Information.{digit_of, two_digits, three_digits, mcc_of, mnc_in, mnc_of, network_of, first_has_mcc, networks_of, period_in, window_in, message_of, access_of, selection_of, sib1_of}
 
 -- ---- kinds
 
@@ -137,53 +133,38 @@ identities json plmn e = option_and_then_some _ (at_key (null_or mcc_of) (codes 
       mnc = at HasDigits mnc_of network_codes (codes "mnc") json mnc are;
     }))))
 
-record AreNetworks (plmns : List Plmn) : Type 0 where
-  pub list : IsListOf IsValidPlmn 1 6 plmns
-  pub first : FirstHasMcc plmns
-
 first_has : (plmns : List Plmn) → first_has_mcc plmns ≡ true → FirstHasMcc plmns
 first_has [] e = absurd (cc e)
 first_has (plmn ∷ rest) e = e
 
-networks : (json : Data) (plmns : List Plmn) → networks_of json ≡ Some plmns → AreNetworks plmns
+networks : (json : Data) (plmns : List Plmn) → networks_of json ≡ Some plmns → ArePlmns plmns
 networks json plmns e = option_and_then_some _ (list_within 1 6 network_of json) plmns e (λ all is h.
     let both = given_some (first_has_mcc all) all plmns h in
-    subst AreNetworks both.1 (record { list = lists IsValidPlmn network_of identities 1 6 json all is; first = first_has all both.0 }))
+    let list = lists IsValidPlmn network_of identities 1 6 json all is in
+    subst ArePlmns both.1 (record { count = list.count; valid = list.all; first_mcc = first_has all both.0 }))
 
 -- ---- the schedule
 
-places : (test : ℕ → Bool) (table : List ℕ) (n : ℕ) → position test table ≡ Some n → n < length table
-places test table n e = (position-Some test table n 0 e).0
-
-coded : (table : List ℕ) (json : Data) (n : ℕ) → code_in table json ≡ Some n → n < length table
-coded table json n e = option_and_then_some _ (whole_of json) n e (λ z is h. places (λ m. int_eq (pos m) z) table n h)
-
 messages : (json : Data) (message : SiMessage) → message_of json ≡ Some message → IsValidMessage message
-messages json message e = option_and_then_some _ (at_key (code_in periods) (codes "period") json) message e (λ period is e2.
+messages json message e = option_and_then_some _ (at_key period_in (codes "period") json) message e (λ period is e2.
     option_and_then_some _ (at_key (list_within 0 31 (natural_within 0 79)) (codes "sibs") json) message e2 (λ sibs are e3.
-    let below : period < 7 = at (λ n. n < 7) (code_in periods) (coded periods) (codes "period") json period is in
     let all = at (IsListOf (λ n. (0 ≤ n) × (n ≤ 79)) 0 31) (list_within 0 31 (natural_within 0 79))
     (lists (λ n. (0 ≤ n) × (n ≤ 79)) (natural_within 0 79) (naturals 0 79) 0 31) (codes "sibs") json sibs are in
-    subst IsValidMessage (same_Some _ message e3) (record {
-      period = omega (arith, below);
-      sibs = λ k d h. (all.all k d h).1;
-    })))
+    subst IsValidMessage (same_Some _ message e3) (λ k d h. (all.all k d h).1)))
+
+entries : (json : Data) (list : List SiMessage) → list_within 1 32 message_of json ≡ Some list → AreMessages list
+entries json list e = let is = lists IsValidMessage message_of messages 1 32 json list e in record { count = is.count; valid = is.all }
 
 -- ---- the block
 
 some_within : (least most : ℕ) (key : List ℕ) (json : Data) (n : ℕ) → at_key (natural_within least most) key json ≡ Some n → (least ≤ n) × (n ≤ most)
 some_within least most key json n e = at (λ m. (least ≤ m) × (m ≤ most)) (natural_within least most) (naturals least most) key json n e
 
-below_power : (o : Option ℕ) → IfSome o (λ n. (0 ≤ n) × (n ≤ 134217727)) → IfSome o (λ n. n < 2 ^ 27)
+below_power : (o : Option ℕ) → IfSome o (λ n. (0 ≤ n) × (n ≤ 134217727)) → IfSome o IsGroup
 below_power None h = tt
 below_power (Some n) h = omega (arith, h.1)
 
-record IsAccess (access : Access) : Type 0 where
-  pub networks : AreNetworks access.plmns
-  pub cell : access.cell ≤ 268435455
-  pub group : IfSome access.csg_identity (λ n. n < 2 ^ 27)
-
-accesses : (json : Data) (access : Access) → access_of json ≡ Some access → IsAccess access
+accesses : (json : Data) (access : CellAccessRelatedInfo) → access_of json ≡ Some access → IsAccess access
 accesses json access r = option_and_then_some _ (at_key networks_of (codes "plmns") json) access r (λ plmns e1 r1.
     option_and_then_some _ (at_key (natural_within 0 65535) (codes "tac") json) access r1 (λ tac e2 r2.
     option_and_then_some _ (at_key (natural_within 0 268435455) (codes "cell") json) access r2 (λ cell e3 r3.
@@ -194,66 +175,34 @@ accesses json access r = option_and_then_some _ (at_key networks_of (codes "plmn
     let groups = at (λ o. IfSome o (λ n. (0 ≤ n) × (n ≤ 134217727))) (null_or (natural_within 0 134217727))
     (or_null (λ n. (0 ≤ n) × (n ≤ 134217727)) (natural_within 0 134217727) (naturals 0 134217727)) (codes "csg_identity") json csg_identity e7 in
     subst IsAccess (same_Some _ access r7) (record {
-      networks = at AreNetworks networks_of networks (codes "plmns") json plmns e1;
-      cell = (some_within 0 268435455 (codes "cell") json cell e3).1;
-      group = below_power csg_identity groups;
+      plmns = at ArePlmns networks_of networks (codes "plmns") json plmns e1;
+      cell = let most = (some_within 0 268435455 (codes "cell") json cell e3).1 in omega (arith, most);
+      csg_identity = below_power csg_identity groups;
     }))))))))
 
-record IsSelection (selection : Selection) : Type 0 where
-  pub q_rx : (negsuc 69 ≤ℤ selection.q_rx) × (selection.q_rx ≤ℤ negsuc 21)
-  pub q_offset : IfSome selection.q_offset (λ n. (1 ≤ n) × (n ≤ 8))
-  pub p_max : IfSome selection.p_max (λ z. (negsuc 29 ≤ℤ z) × (z ≤ℤ pos 33))
-  pub band : (1 ≤ selection.band) × (selection.band ≤ 64)
-
-selections : (json : Data) (selection : Selection) → selection_of json ≡ Some selection → IsSelection selection
+selections : (json : Data) (selection : CellSelectionInfo) → selection_of json ≡ Some selection → IsSelection selection
 selections json selection r = option_and_then_some _ (at_key (whole_within (negsuc 69) (negsuc 21)) (codes "q_rx") json) selection r (λ q_rx e1 r1.
     option_and_then_some _ (at_key (null_or (natural_within 1 8)) (codes "q_offset") json) selection r1 (λ q_offset e2 r2.
-    option_and_then_some _ (at_key (null_or (whole_within (negsuc 29) (pos 33))) (codes "p_max") json) selection r2 (λ p_max e3 r3.
-    option_and_then_some _ (at_key (natural_within 1 64) (codes "band") json) selection r3 (λ band e4 r4.
-    subst IsSelection (same_Some _ selection r4) (record {
-      q_rx = at (λ z. (negsuc 69 ≤ℤ z) × (z ≤ℤ negsuc 21)) (whole_within (negsuc 69) (negsuc 21)) (wholes (negsuc 69) (negsuc 21)) (codes "q_rx") json q_rx e1;
-      q_offset = at (λ o. IfSome o (λ n. (1 ≤ n) × (n ≤ 8))) (null_or (natural_within 1 8)) (or_null (λ n. (1 ≤ n) × (n ≤ 8)) (natural_within 1 8) (naturals 1 8)) (codes "q_offset") json q_offset e2;
-      p_max = at (λ o. IfSome o (λ z. (negsuc 29 ≤ℤ z) × (z ≤ℤ pos 33))) (null_or (whole_within (negsuc 29) (pos 33)))
-          (or_null (λ z. (negsuc 29 ≤ℤ z) × (z ≤ℤ pos 33)) (whole_within (negsuc 29) (pos 33)) (wholes (negsuc 29) (pos 33))) (codes "p_max") json p_max e3;
-      band = some_within 1 64 (codes "band") json band e4;
-    })))))
-
-record IsTimetable (timetable : Timetable) : Type 0 where
-  pub entries : IsListOf IsValidMessage 1 32 timetable.scheduling
-  pub window : timetable.window < 7
-  pub tag : timetable.tag ≤ 31
-
-timetables : (json : Data) (timetable : Timetable) → timetable_of json ≡ Some timetable → IsTimetable timetable
-timetables json timetable r = option_and_then_some _ (at_key (list_within 1 32 message_of) (codes "scheduling") json) timetable r (λ scheduling e1 r1.
-    option_and_then_some _ (at_key (code_in windows) (codes "window") json) timetable r1 (λ window e2 r2.
-    option_and_then_some _ (at_key (natural_within 0 31) (codes "tag") json) timetable r2 (λ tag e3 r3.
-    subst IsTimetable (same_Some _ timetable r3) (record {
-      entries = at (IsListOf IsValidMessage 1 32) (list_within 1 32 message_of) (lists IsValidMessage message_of messages 1 32) (codes "scheduling") json scheduling e1;
-      window = at (λ n. n < 7) (code_in windows) (coded windows) (codes "window") json window e2;
-      tag = (some_within 0 31 (codes "tag") json tag e3).1;
-    }))))
+    subst IsSelection (same_Some _ selection r2) (record {
+      q_rx = at IsLevel (whole_within (negsuc 69) (negsuc 21)) (wholes (negsuc 69) (negsuc 21)) (codes "q_rx") json q_rx e1;
+      q_offset = at (λ o. IfSome o IsLevelOffset) (null_or (natural_within 1 8)) (or_null IsLevelOffset (natural_within 1 8) (naturals 1 8)) (codes "q_offset") json q_offset e2;
+    })))
 
 pub read_is_valid : (json : Data) (s : Sib1) → sib1_of json ≡ Some s → IsValid s
 unfolding sib1_of
 read_is_valid json s r = option_and_then_some _ (access_of json) s r (λ access e1 r1.
     option_and_then_some _ (selection_of json) s r1 (λ selection e2 r2.
-    option_and_then_some _ (timetable_of json) s r2 (λ timetable e3 r3.
-    let who = accesses json access e1 in
-    let levels = selections json selection e2 in
-    let times = timetables json timetable e3 in
-    subst IsValid (same_Some _ s r3) (record {
-      plmn_count = who.networks.list.count;
-      plmns = who.networks.list.all;
-      first_mcc = who.networks.first;
-      cell = omega (arith, who.cell);
-      csg_identity = who.group;
-      q_rx = levels.q_rx;
-      q_offset = levels.q_offset;
-      p_max = levels.p_max;
-      band = levels.band;
-      entry_count = times.entries.count;
-      entries = times.entries.all;
+    option_and_then_some _ (at_key (null_or (whole_within (negsuc 29) (pos 33))) (codes "p_max") json) s r2 (λ p_max e3 r3.
+    option_and_then_some _ (at_key (natural_within 1 64) (codes "band") json) s r3 (λ band e4 r4.
+    option_and_then_some _ (at_key (list_within 1 32 message_of) (codes "scheduling") json) s r4 (λ scheduling e5 r5.
+    option_and_then_some _ (at_key window_in (codes "window") json) s r5 (λ window e6 r6.
+    option_and_then_some _ (at_key (natural_within 0 31) (codes "tag") json) s r6 (λ tag e7 r7.
+    subst IsValid (same_Some _ s r7) (record {
+      access = accesses json access e1;
+      selection = selections json selection e2;
+      p_max = at (λ o. IfSome o IsPower) (null_or (whole_within (negsuc 29) (pos 33))) (or_null IsPower (whole_within (negsuc 29) (pos 33)) (wholes (negsuc 29) (pos 33))) (codes "p_max") json p_max e3;
+      band = some_within 1 64 (codes "band") json band e4;
+      messages = at AreMessages (list_within 1 32 message_of) entries (codes "scheduling") json scheduling e5;
       tdd = tt;
-      window = omega (arith, times.window);
-      tag = times.tag;
-    }))))
+      tag = (some_within 0 31 (codes "tag") json tag e7).1;
+    }))))))))

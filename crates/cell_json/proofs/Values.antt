@@ -48,7 +48,7 @@ small_column column (inr e) = omega (arith, e)
 
 -- a cell with the plan of a description has its values
 pub has_values : (t : Transmission) (json : Data) (sib1 : Sib1) → IsSendable t.cell → t.cell ≡ plan_of json sib1 → Some sib1 ≡ sib1_at json
-    → pos t.sfn ≡ number_at (codes "sfn") json → pos t.offset ≡ number_at (codes "offset") json → pos t.samples ≡ number_at (codes "samples") json
+    → pos t.timing.sfn ≡ number_at (codes "sfn") json → pos t.timing.offset ≡ number_at (codes "offset") json → pos t.samples ≡ number_at (codes "samples") json
     → t.gain ≡ gain_at json → HasValues t json
 has_values t json sib1 sendable is there sfn offset samples gain = record {
   identity = kept 65535 t.cell.identity (number_at (codes "identity") json) (ap (λ plan. plan.identity) is) (omega (arith, sendable.identity));

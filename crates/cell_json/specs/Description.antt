@@ -3,30 +3,31 @@ use Rattle.std.specs.Prelude.{ℕ, Bool, ◌&&◌, nat_le, if◌then◌else◌, 
 use Rattle.std.specs.Option.{unwrap_or, option_map_or}
 use Rattle.serde_json.specs.Data.{Data, Items, no_items, item}
 use Rattle.serde_json.specs.Find.{as_bool, as_str, as_array}
-use Rattle.cs_num.specs.Complex.{square}
+use Rattle.cs_num.specs.declared.Cpx.{Cpx}
+use Rattle.cs_num.specs.Complex.{nothing, square}
+use Rattle.cs_num.specs.Gain.{with_parts}
 use Rattle.lte_types.specs.declared.duration.Duration.{Duration}
 use Rattle.lte_types.specs.declared.duration.Duration.TheVariants.{Normal}
 use Rattle.lte_types.specs.declared.resource.Resource.{Resource}
 use Rattle.lte_types.specs.declared.resource.Resource.TheVariants.{OneSixth}
 use Rattle.lte_types.specs.declared.sib1.Sib1.{Sib1}
 use Rattle.lte_types.specs.Codes.{duration_named, resource_named}
+use Rattle.lte_types.specs.Numerology.{least_samples, most_samples}
 use Rattle.cell_tx.specs.declared.cell.CellPlan.{CellPlan}
 use Rattle.cell_tx.specs.declared.error.CellError.TheVariants.{Form, Sfn, Offset, Samples, Gain, Sib1Range}
-use Rattle.cell_tx.specs.Clean.{least_count, most_count}
 use Rattle.cell_tx.specs.Conditions.{Condition, condition}
 use Rattle.cell_tx.specs.Plan.{plan_conditions}
-use Rattle.cell_tx.specs.Sent.{gain_of}
 use Rattle.cell_json.specs.Kinds.{whole_of, is_between, null_or, list_of, at_key, has, has_exactly, object_of}
 use Rattle.cell_json.specs.Information.{sib1_of}
 
 -- ---- kinds of its own
 
--- a list of exactly two whole numbers
-abbrev pub pair_in : Items → Option (ℤ × ℤ)
-pair_in (item a (item b no_items)) = option_and_then (λ x. option_map (λ y. (x, y)) (whole_of b)) (whole_of a)
+-- a list of exactly two whole numbers, as the parts of a complex one
+abbrev pub pair_in : Items → Option Cpx
+pair_in (item a (item b no_items)) = option_and_then (λ x. option_map (λ y. with_parts x y) (whole_of b)) (whole_of a)
 pair_in _ = None
 
-abbrev pub pair_of : Data → Option (ℤ × ℤ)
+abbrev pub pair_of : Data → Option Cpx
 pair_of json = option_and_then pair_in (as_array json)
 
 -- phich-Duration by its name
@@ -127,8 +128,8 @@ has_form json = has_exactly keys json
 abbrev pub number_at : List ℕ → Data → ℤ
 number_at key json = unwrap_or (at_key whole_of key json) (pos 0)
 
-abbrev pub gain_at : Data → ℤ × ℤ
-gain_at json = unwrap_or (at_key pair_of (codes "gain") json) (pos 0, pos 0)
+abbrev pub gain_at : Data → Cpx
+gain_at json = unwrap_or (at_key pair_of (codes "gain") json) nothing
 
 abbrev pub duration_at : Data → Duration
 duration_at json = unwrap_or (at_key duration_of (codes "duration") json) Normal
@@ -162,8 +163,8 @@ plan_of json sib1 = record {
 -- ---- the conditions
 
 -- the square of the gain's size is 1 to 784
-abbrev pub is_gain : ℤ × ℤ → Bool
-is_gain gain = nat_le 1 (square (gain_of gain)) && nat_le (square (gain_of gain)) 784
+abbrev pub is_gain : Cpx → Bool
+is_gain gain = nat_le 1 (square gain) && nat_le (square gain) 784
 
 -- those of the plan, which there is where the block's values are in their ranges
 unfoldable pub cell_conditions : Data → List Condition
@@ -175,7 +176,7 @@ conditions json =
     condition (has_form json) Form
     ∷ condition (is_between (pos 0) (pos 1023) (number_at (codes "sfn") json)) Sfn
     ∷ condition (is_between (pos 0) (pos 19199) (number_at (codes "offset") json)) Offset
-    ∷ condition (is_between (pos least_count) (pos most_count) (number_at (codes "samples") json)) Samples
+    ∷ condition (is_between (pos least_samples) (pos most_samples) (number_at (codes "samples") json)) Samples
     ∷ condition (is_gain (gain_at json)) Gain
     ∷ condition (is_some (sib1_at json)) Sib1Range
     ∷ cell_conditions json

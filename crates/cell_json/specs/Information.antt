@@ -1,18 +1,18 @@
 -- SystemInformationBlockType1 of a description, each value in its range. (own; ranges of TS 36.331 section 6.2.2)
 use Rattle.std.specs.Prelude.{ℕ, ◌-◌, Bool, false, ◌&&◌, nat_eq, nat_le, if◌then◌else◌, List, [], ◌∷◌, length, codes, Option, Some, None, is_some, option_map, option_and_then, pos, negsuc}
-use Rattle.std.specs.List.{position}
-use Rattle.std.specs.Ordering.{int_eq}
 use Rattle.serde_json.specs.Data.{Data}
 use Rattle.serde_json.specs.Find.{as_bool, as_str}
+use Rattle.lte_types.specs.declared.cell_access_related_info.CellAccessRelatedInfo.{CellAccessRelatedInfo}
+use Rattle.lte_types.specs.declared.cell_selection_info.CellSelectionInfo.{CellSelectionInfo}
 use Rattle.lte_types.specs.declared.mnc.Mnc.{Mnc}
 use Rattle.lte_types.specs.declared.mnc.Mnc.TheVariants.{Two, Three}
+use Rattle.lte_types.specs.declared.period.Period.{Period}
 use Rattle.lte_types.specs.declared.plmn.Plmn.{Plmn}
 use Rattle.lte_types.specs.declared.si_message.SiMessage.{SiMessage}
 use Rattle.lte_types.specs.declared.sib1.Sib1.{Sib1}
-use Rattle.cell_json.specs.declared.information.Access.{Access}
-use Rattle.cell_json.specs.declared.information.Selection.{Selection}
-use Rattle.cell_json.specs.declared.information.Timetable.{Timetable}
-use Rattle.cell_json.specs.Kinds.{◌>>=◌, given, whole_of, whole_within, natural_within, null_or, list_within, at_key}
+use Rattle.lte_types.specs.declared.window.Window.{Window}
+use Rattle.lte_types.specs.Codes.{period_of, window_of}
+use Rattle.cell_json.specs.Kinds.{◌>>=◌, given, whole_within, natural_within, null_or, list_within, at_key}
 
 -- ---- identities of networks
 
@@ -65,31 +65,29 @@ networks_of json = do
 
 -- ---- the schedule
 
--- the code of a number: its place in a table
-abbrev pub code_in : List ℕ → Data → Option ℕ
-code_in table json = do
-  z ← whole_of json
-  position (λ n. int_eq (pos n) z) table
+-- a period by its frames
+abbrev pub period_in : Data → Option Period
+period_in json = do
+  frames ← natural_within 8 512 json
+  period_of frames
 
--- the periods, in frames
-abbrev pub periods : List ℕ
-periods = 8 ∷ 16 ∷ 32 ∷ 64 ∷ 128 ∷ 256 ∷ 512 ∷ []
+-- a window by its milliseconds
+abbrev pub window_in : Data → Option Window
+window_in json = do
+  milliseconds ← natural_within 1 40 json
+  window_of milliseconds
 
--- the lengths of the window, in milliseconds
-abbrev pub windows : List ℕ
-windows = 1 ∷ 2 ∷ 5 ∷ 10 ∷ 15 ∷ 20 ∷ 40 ∷ []
-
--- an entry: the code of its period, and the codes of at most 31 blocks
+-- an entry: its period, and the codes of at most 31 blocks
 abbrev pub message_of : Data → Option SiMessage
 message_of json = do
-  period ← at_key (code_in periods) (codes "period") json
+  period ← at_key period_in (codes "period") json
   sibs ← at_key (list_within 0 31 (natural_within 0 79)) (codes "sibs") json
   Some (record { period = period; sibs = sibs })
 
 -- ---- the block; a description has no TDD-Config and no extension
 
 -- who may use the cell
-abbrev pub access_of : Data → Option Access
+abbrev pub access_of : Data → Option CellAccessRelatedInfo
 access_of json = do
   plmns ← at_key networks_of (codes "plmns") json
   tac ← at_key (natural_within 0 65535) (codes "tac") json
@@ -100,46 +98,37 @@ access_of json = do
   csg_identity ← at_key (null_or (natural_within 0 134217727)) (codes "csg_identity") json
   Some (record { plmns = plmns; tac = tac; cell = cell; barred = barred; intra = intra; csg = csg; csg_identity = csg_identity })
 
--- its levels and its band
-abbrev pub selection_of : Data → Option Selection
+-- its levels
+abbrev pub selection_of : Data → Option CellSelectionInfo
 selection_of json = do
   q_rx ← at_key (whole_within (negsuc 69) (negsuc 21)) (codes "q_rx") json
   q_offset ← at_key (null_or (natural_within 1 8)) (codes "q_offset") json
-  p_max ← at_key (null_or (whole_within (negsuc 29) (pos 33))) (codes "p_max") json
-  band ← at_key (natural_within 1 64) (codes "band") json
-  Some (record { q_rx = q_rx; q_offset = q_offset; p_max = p_max; band = band })
-
--- its schedule
-abbrev pub timetable_of : Data → Option Timetable
-timetable_of json = do
-  scheduling ← at_key (list_within 1 32 message_of) (codes "scheduling") json
-  window ← at_key (code_in windows) (codes "window") json
-  tag ← at_key (natural_within 0 31) (codes "tag") json
-  Some (record { scheduling = scheduling; window = window; tag = tag })
-
-abbrev pub block_of : Access → Selection → Timetable → Sib1
-block_of access selection timetable = record {
-  plmns = access.plmns;
-  tac = access.tac;
-  cell = access.cell;
-  barred = access.barred;
-  intra = access.intra;
-  csg = access.csg;
-  csg_identity = access.csg_identity;
-  q_rx = selection.q_rx;
-  q_offset = selection.q_offset;
-  p_max = selection.p_max;
-  band = selection.band;
-  scheduling = timetable.scheduling;
-  tdd = None;
-  window = timetable.window;
-  tag = timetable.tag;
-  extended = false;
-}
+  Some (record { q_rx = q_rx; q_offset = q_offset })
 
 unfoldable pub sib1_of : Data → Option Sib1
 sib1_of json = do
   access ← access_of json
   selection ← selection_of json
-  timetable ← timetable_of json
-  Some (block_of access selection timetable)
+  p_max ← at_key (null_or (whole_within (negsuc 29) (pos 33))) (codes "p_max") json
+  band ← at_key (natural_within 1 64) (codes "band") json
+  scheduling ← at_key (list_within 1 32 message_of) (codes "scheduling") json
+  window ← at_key window_in (codes "window") json
+  tag ← at_key (natural_within 0 31) (codes "tag") json
+  Some (record {
+    plmns = access.plmns;
+    tac = access.tac;
+    cell = access.cell;
+    barred = access.barred;
+    intra = access.intra;
+    csg = access.csg;
+    csg_identity = access.csg_identity;
+    q_rx = selection.q_rx;
+    q_offset = selection.q_offset;
+    p_max = p_max;
+    band = band;
+    scheduling = scheduling;
+    tdd = None;
+    window = window;
+    tag = tag;
+    extended = false;
+  })

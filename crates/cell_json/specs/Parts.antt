@@ -11,7 +11,7 @@ pub record HasSending (d : Sending) (json : Data) : Type 0 where
   pub sfn : d.sfn ≡ number_at (codes "sfn") json
   pub offset : d.offset ≡ number_at (codes "offset") json
   pub samples : d.samples ≡ number_at (codes "samples") json
-  pub gain : (d.gain.re, d.gain.im) ≡ gain_at json
+  pub gain : d.gain ≡ gain_at json
 
 -- the numbers of its plan,
 pub record HasNumbers (d : Numbers) (json : Data) : Type 0 where

@@ -36,8 +36,8 @@ pub record HasValues (t : Transmission) (json : Data) : Type 0 where
   pub mcs : pos t.cell.mcs ≡ number_at (codes "mcs") json
   pub column : pos t.cell.column ≡ number_at (codes "column") json
   pub sib1 : Some t.cell.sib1 ≡ sib1_at json
-  pub sfn : pos t.sfn ≡ number_at (codes "sfn") json
-  pub offset : pos t.offset ≡ number_at (codes "offset") json
+  pub sfn : pos t.timing.sfn ≡ number_at (codes "sfn") json
+  pub offset : pos t.timing.offset ≡ number_at (codes "offset") json
   pub samples : pos t.samples ≡ number_at (codes "samples") json
   pub gain : t.gain ≡ gain_at json
 

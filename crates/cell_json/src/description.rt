@@ -1,6 +1,6 @@
 //! What a JSON value describes.
 
-ghost use Rattle.std.specs.Prelude.{◌≡◌, IsTrue, IsFalse, MatchOption, option_map, codes};
+ghost use Rattle.std.specs.Prelude.{◌≡◌, IsTrue, IsFalse, MatchOption, codes};
 ghost use Rattle.serde_json.specs.View.{view};
 ghost use Rattle.cell_json.specs.Kinds.{at_key, has, has_all, object_of};
 ghost use Rattle.cell_json.specs.Description.{pair_of, duration_of, resource_of, sib1_keys, sending_keys, number_keys, has_form};
@@ -42,9 +42,9 @@ pub(crate) struct Description {
     pub resource: Resource,
 }
 
-// The value, as a list of exactly two whole numbers.
+// The value, as a list of exactly two whole numbers, the real part first.
 fn pair_in(value: &Value) -> Option<Cpx>
-    ensures { option_map (λ z. (z.re, z.im)) result ≡ pair_of (view value.now) }
+    ensures { result ≡ pair_of (view value.now) }
 {
     let items = value.as_array()?;
     if items.len() != 2 {
@@ -58,7 +58,7 @@ fn pair_in(value: &Value) -> Option<Cpx>
 
 // The two whole numbers at a key.
 fn pair(value: &Value, key: &str) -> Option<Cpx>
-    ensures { option_map (λ z. (z.re, z.im)) result ≡ at_key pair_of key.now (view value.now) }
+    ensures { result ≡ at_key pair_of key.now (view value.now) }
 {
     pair_in(value.get(key)?)
 }

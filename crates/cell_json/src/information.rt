@@ -1,16 +1,18 @@
 //! SystemInformationBlockType1 of a description.
 
-ghost use Rattle.std.specs.Prelude.{◌≡◌, ◌≤◌, ◌<◌, ◌^◌, ◌≤ℤ◌, pos, negsuc, All, IfSome, length};
+ghost use Rattle.std.specs.Prelude.{◌≡◌, ◌≤◌, ◌<◌, pos, negsuc, length};
 ghost use Rattle.serde_json.specs.View.{view, items_view};
-ghost use Rattle.lte_types.specs.Ranges.{AreDigits, HasDigits, IsValidPlmn, IsValidMessage, FirstHasMcc, IsValid};
 ghost use Rattle.cell_json.specs.Kinds.{natural_within as natural_of, whole_within as whole_of, null_or, each, list_within, at_key};
-ghost use Rattle.cell_json.specs.Information.{mcc_of, mnc_in, mnc_of as network_code_of, network_of, networks_of, code_in, periods, windows};
-ghost use Rattle.cell_json.specs.Information.{digit_of as digit_in, two_digits as two_in, three_digits as three_in, message_of as entry_of, first_has_mcc as first_of, access_of as access_in, selection_of as selection_in, timetable_of as timetable_in, sib1_of as block_of};
+ghost use Rattle.cell_json.specs.Information.{mcc_of, mnc_in, mnc_of as network_code_of, network_of, networks_of, period_in, window_in};
+ghost use Rattle.cell_json.specs.Information.{digit_of as digit_in, two_digits as two_in, three_digits as three_in, message_of as entry_of, first_has_mcc as first_of, access_of as access_in, selection_of as selection_in, sib1_of as block_of};
 
 use crate::kinds::{
     items_within, natural_at, natural_or_null_at, natural_within, small_within, truth,
 };
-use lte_types::{Mnc, Plmn, Plmns, Schedule, SiMessage, Sib1, Sibs};
+use lte_types::{
+    CellAccessRelatedInfo, CellSelectionInfo, Mnc, Period, Plmn, Plmns, Schedule, SiMessage, Sib1,
+    Sibs, Window,
+};
 use serde_json::Value;
 
 // A digit by its code.
@@ -80,36 +82,18 @@ fn plmn_of(value: &Value) -> Option<Plmn>
     })
 }
 
-// The code of a period by its frames.
-fn period_of(value: &Value) -> Option<u8>
-    ensures { result ≡ code_in periods (view value.now) }
+// A period by its frames.
+fn period_of(value: &Value) -> Option<Period>
+    ensures { result ≡ period_in (view value.now) }
 {
-    match value.as_i64()? {
-        8 => Some(0),
-        16 => Some(1),
-        32 => Some(2),
-        64 => Some(3),
-        128 => Some(4),
-        256 => Some(5),
-        512 => Some(6),
-        _ => None,
-    }
+    Period::of_frames(natural_within(value, 8, 512)? as u16)
 }
 
-// The code of a window by its milliseconds.
-fn window_of(value: &Value) -> Option<u8>
-    ensures { result ≡ code_in windows (view value.now) }
+// A window by its milliseconds.
+fn window_of(value: &Value) -> Option<Window>
+    ensures { result ≡ window_in (view value.now) }
 {
-    match value.as_i64()? {
-        1 => Some(0),
-        2 => Some(1),
-        5 => Some(2),
-        10 => Some(3),
-        15 => Some(4),
-        20 => Some(5),
-        40 => Some(6),
-        _ => None,
-    }
+    Window::of_milliseconds(natural_within(value, 1, 40)? as u8)
 }
 
 // 1 to 6 identities of networks, of which the first has a country code.
@@ -215,21 +199,10 @@ fn q_offset_at(value: &Value, key: &str) -> Option<Option<u8>>
 }
 
 // Who may use the cell.
-#[derive(Drop)]
-struct Access {
-    plmns: Plmns,
-    tac: u16,
-    cell: u32,
-    barred: bool,
-    intra: bool,
-    csg: bool,
-    csg_identity: Option<u32>,
-}
-
-fn access_of(value: &Value) -> Option<Access>
+fn access_of(value: &Value) -> Option<CellAccessRelatedInfo>
     ensures { result ≡ access_in (view value.now) }
 {
-    Some(Access {
+    Some(CellAccessRelatedInfo {
         plmns: plmns_of(value.get("plmns")?)?,
         tac: natural_at(value, "tac", 0, 65_535)? as u16,
         cell: natural_at(value, "cell", 0, 268_435_455)?,
@@ -240,41 +213,13 @@ fn access_of(value: &Value) -> Option<Access>
     })
 }
 
-// Its levels and its band.
-#[derive(Drop)]
-struct Selection {
-    q_rx: i8,
-    q_offset: Option<u8>,
-    p_max: Option<i8>,
-    band: u8,
-}
-
-fn selection_of(value: &Value) -> Option<Selection>
+// Its levels.
+fn selection_of(value: &Value) -> Option<CellSelectionInfo>
     ensures { result ≡ selection_in (view value.now) }
 {
-    Some(Selection {
+    Some(CellSelectionInfo {
         q_rx: small_within(value.get("q_rx")?, -70, -22)?,
         q_offset: q_offset_at(value, "q_offset")?,
-        p_max: p_max_at(value, "p_max")?,
-        band: natural_at(value, "band", 1, 64)? as u8,
-    })
-}
-
-// Its schedule.
-#[derive(Drop)]
-struct Timetable {
-    scheduling: Schedule,
-    window: u8,
-    tag: u8,
-}
-
-fn timetable_of(value: &Value) -> Option<Timetable>
-    ensures { result ≡ timetable_in (view value.now) }
-{
-    Some(Timetable {
-        scheduling: schedule_of(value.get("scheduling")?)?,
-        window: window_of(value.get("window")?)?,
-        tag: natural_at(value, "tag", 0, 31)? as u8,
     })
 }
 
@@ -285,7 +230,6 @@ pub(crate) fn sib1_of(value: &Value) -> Option<Sib1>
 {
     let access = access_of(value)?;
     let selection = selection_of(value)?;
-    let timetable = timetable_of(value)?;
     Some(Sib1 {
         plmns: access.plmns,
         tac: access.tac,
@@ -296,12 +240,12 @@ pub(crate) fn sib1_of(value: &Value) -> Option<Sib1>
         csg_identity: access.csg_identity,
         q_rx: selection.q_rx,
         q_offset: selection.q_offset,
-        p_max: selection.p_max,
-        band: selection.band,
-        scheduling: timetable.scheduling,
+        p_max: p_max_at(value, "p_max")?,
+        band: natural_at(value, "band", 1, 64)? as u8,
+        scheduling: schedule_of(value.get("scheduling")?)?,
         tdd: None,
-        window: timetable.window,
-        tag: timetable.tag,
+        window: window_of(value.get("window")?)?,
+        tag: natural_at(value, "tag", 0, 31)? as u8,
         extended: false,
     })
 }

@@ -4,12 +4,10 @@ ghost use Rattle.std.specs.Prelude.{◌≡◌, pos, Some, None, IsTrue, IsFalse,
 ghost use Rattle.serde_json.specs.Data.{Data};
 ghost use Rattle.serde_json.specs.View.{view};
 ghost use Rattle.lte_types.specs.Ranges.{IsValid};
-ghost use Rattle.cell_tx.specs.Clean.{IsGain};
-ghost use Rattle.cell_tx.specs.Sent.{gain_of};
 ghost use Rattle.cell_tx.specs.Conditions.{first_failed};
 ghost use Rattle.cell_tx.specs.Plan.{IsSendable, plan_refusal};
 ghost use Rattle.cell_json.specs.Kinds.{is_between};
-ghost use Rattle.cell_json.specs.Description.{is_gain, in_field, sib1_at, plan_of as described_plan, has_form, conditions};
+ghost use Rattle.cell_json.specs.Description.{in_field, sib1_at, plan_of as described_plan, has_form, conditions};
 ghost use Rattle.cell_json.specs.Parts.{HasParts};
 ghost use Rattle.cell_json.specs.Reading.{HasValues, Describes, IsRefused};
 
@@ -18,10 +16,15 @@ use crate::description::{Description, description_of};
 use crate::information::sib1_of;
 use crate::kinds::within;
 use cell_tx::{Cell, CellError, CellPlan, Transmission};
-use cs_num::Cpx;
-use lte_types::{Sfn, Sib1};
+use cs_num::Gain;
+use lte_types::{LEAST_SAMPLES, MOST_SAMPLES, Sfn, Sib1, Timing};
 use serde_json::Value;
 use std::alloc::Global;
+
+// The least and the most samples of a transmission.
+const LEAST: u32 = LEAST_SAMPLES as u32;
+
+const MOST: u32 = MOST_SAMPLES as u32;
 
 /// The transmission that a description in JSON has the values of, or the first failed condition in
 /// this order: `Form`, `Sfn`, `Offset`, `Samples`, `Gain`, `Sib1Range`, and those of `Cell::new`. JSON
@@ -41,20 +44,6 @@ pub fn read(alloc: Global, bytes: &[u8]) -> Result<Transmission, JsonError>
     match transmission_of(&description, &value) {
         Ok(transmission) => Ok(transmission),
         Err(cause) => Err(JsonError::Cell(cause)),
-    }
-}
-
-// A gain, where the square of its size is 1 to 784.
-fn gain_within(gain: &Cpx) -> Option<(i16, i16)>
-    ensures { MatchOption result (IsFalse (is_gain (gain.now.re, gain.now.im)))
-        (λ pair. IsTrue (is_gain (gain.now.re, gain.now.im)) ×
-        (pair ≡ (gain.now.re, gain.now.im)) × IsGain (gain_of pair)) }
-{
-    let square = gain.norm();
-    if 1 <= square && square <= 784 {
-        Some((gain.re as i16, gain.im as i16))
-    } else {
-        None
     }
 }
 
@@ -118,7 +107,6 @@ fn cell_of(description: &Description, sib1: Sib1) -> Result<Cell, CellError>
 }
 
 // SystemInformationBlockType1 of a description, where each value is in its range.
-#[tactic(auto, using(crate::proofs::Valid::read_is_valid))]
 fn information_of(value: &Value) -> Option<Sib1>
     ensures value { result ≡ sib1_at (view value.now) }
     ensures valid { IfSome result IsValid }
@@ -135,14 +123,13 @@ fn transmission_of(description: &Description, value: &Value) -> Result<Transmiss
     let sending = &description.sending;
     let sfn = sfn_of(&sending.sfn).ok_or(CellError::Sfn)?;
     let offset = within(&sending.offset, 0, 19_199).ok_or(CellError::Offset)?;
-    let samples = within(&sending.samples, 57_600, 1_920_000).ok_or(CellError::Samples)?;
-    let gain = gain_within(&sending.gain).ok_or(CellError::Gain)?;
+    let samples = within(&sending.samples, LEAST, MOST).ok_or(CellError::Samples)?;
+    let gain = Gain::of(sending.gain).ok_or(CellError::Gain)?;
     let sib1 = information_of(value).ok_or(CellError::Sib1Range)?;
     let cell = cell_of(description, sib1)?;
     Ok(Transmission {
         cell,
-        sfn,
-        offset,
+        timing: Timing { sfn, offset },
         samples,
         gain,
     })

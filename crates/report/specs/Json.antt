@@ -12,10 +12,10 @@ use Rattle.lte_types.specs.declared.sib1_reason.Sib1Reason.{Sib1Reason}
 use Rattle.lte_types.specs.declared.mib.Mib.{Mib}
 use Rattle.lte_types.specs.declared.entry.Entry.{Entry}
 use Rattle.lte_types.specs.Block.{br, rest}
-use Rattle.lte_types.specs.Codes.{bandwidth_word, duration_word, resource_word}
+use Rattle.lte_types.specs.Codes.{bandwidth_word, duration_word, period_frames, resource_word, window_length}
 use Rattle.lte_types.specs.Reasons.{reason_words}
 use Rattle.report.specs.Lines.{mnc_word}
-use Rattle.report.specs.Words.{digits_word, period_frames, window_length}
+use Rattle.report.specs.Words.{digits_word}
 
 -- a whole number from 0 on, and any whole number
 abbrev pub natural : ℕ → Data

@@ -1,5 +1,5 @@
 -- The lines of a report. Numbers are decimal, and every line ends with a line feed. (own)
-use Rattle.std.specs.Prelude.{ℕ, ℤ, List, ◌++◌, length, codes, Result, Ok, Err, IfOk}
+use Rattle.std.specs.Prelude.{ℕ, ℤ, List, ◌++◌, length, codes, Result, Ok, Err}
 use Rattle.std.specs.List.{flat_map}
 use Rattle.std.specs.Fmt.{decimal, signed_decimal}
 use Rattle.lte_types.specs.declared.mnc.Mnc.{Mnc}
@@ -10,10 +10,9 @@ use Rattle.lte_types.specs.declared.sib1.Sib1.{Sib1}
 use Rattle.lte_types.specs.declared.sib1_reason.Sib1Reason.{Sib1Reason}
 use Rattle.lte_types.specs.declared.entry.Entry.{Entry}
 use Rattle.lte_types.specs.Block.{br, rest}
-use Rattle.lte_types.specs.Ranges.{IsValid}
-use Rattle.lte_types.specs.Codes.{bandwidth_word, duration_word, resource_word}
+use Rattle.lte_types.specs.Codes.{bandwidth_word, duration_word, period_word, resource_word, window_word}
 use Rattle.lte_types.specs.Reasons.{reason_words}
-use Rattle.report.specs.Words.{or_dash, either, bit_word, digits_word, tdd_word, period_frames, window_length, sibs_word}
+use Rattle.report.specs.Words.{or_dash, either, bit_word, digits_word, tdd_word, sibs_word}
 
 -- the place of a cell: its identity, start and frame number, and how many antenna ports it has
 abbrev pub place_part : ℕ → ℕ → ℕ → ℕ → List ℕ
@@ -52,16 +51,16 @@ level_part level offset power band =
     codes " rx " ++ signed_decimal level ++ codes " offset " ++ offset ++ codes " pmax " ++ power ++ codes " band " ++ decimal band
 
 -- when it is sent, and whether it changed
-abbrev pub window_part : ℕ → ℕ → List ℕ → List ℕ → List ℕ
+abbrev pub window_part : List ℕ → ℕ → List ℕ → List ℕ → List ℕ
 window_part window tag tdd extension =
-    codes " window ms" ++ decimal window ++ codes " tag " ++ decimal tag ++ codes " tdd " ++ tdd ++ codes " extension " ++ extension ++ codes "\n"
+    codes " window " ++ window ++ codes " tag " ++ decimal tag ++ codes " tdd " ++ tdd ++ codes " extension " ++ extension ++ codes "\n"
 
 abbrev pub sib1_line : Sib1 → List ℕ
 sib1_line sib1 =
     access_part sib1.tac sib1.cell (either sib1.barred (codes "barred") (codes "open")) (either sib1.intra (codes "allowed") (codes "forbidden"))
     ++ group_part (bit_word sib1.csg) (or_dash decimal sib1.csg_identity)
     ++ level_part sib1.q_rx (or_dash decimal sib1.q_offset) (or_dash signed_decimal sib1.p_max) sib1.band
-    ++ window_part (window_length sib1.window) sib1.tag (or_dash tdd_word sib1.tdd) (bit_word sib1.extended)
+    ++ window_part (window_word sib1.window) sib1.tag (or_dash tdd_word sib1.tdd) (bit_word sib1.extended)
 
 abbrev pub mnc_word : Mnc → List ℕ
 mnc_word (Two digits) = digits_word digits
@@ -75,11 +74,11 @@ abbrev pub plmn_line : Plmn → List ℕ
 plmn_line plmn = network_line (or_dash digits_word plmn.mcc) (mnc_word plmn.mnc) (either plmn.reserved (codes "reserved") (codes "free"))
 
 -- an entry of the schedule
-abbrev pub schedule_line : ℕ → List ℕ → List ℕ
-schedule_line frames sibs = codes "si rf" ++ decimal frames ++ codes " " ++ sibs ++ codes "\n"
+abbrev pub schedule_line : List ℕ → List ℕ → List ℕ
+schedule_line period sibs = codes "si " ++ period ++ codes " " ++ sibs ++ codes "\n"
 
 abbrev pub message_line : SiMessage → List ℕ
-message_line message = schedule_line (period_frames message.period) (sibs_word message.sibs)
+message_line message = schedule_line (period_word message.period) (sibs_word message.sibs)
 
 abbrev pub sib1_lines : Sib1 → List ℕ
 sib1_lines sib1 = sib1_line sib1 ++ flat_map plmn_line sib1.plmns ++ flat_map message_line sib1.scheduling
@@ -108,7 +107,3 @@ report_text entries = head_line (length entries) ++ flat_map entry_lines entries
 abbrev pub made_line : ℕ → ℕ → ℕ → ℕ → List ℕ
 made_line id start sfn held =
     codes "made " ++ decimal id ++ codes " at " ++ decimal start ++ codes " sfn " ++ decimal sfn ++ codes " held " ++ decimal held ++ codes "\n"
-
--- where an entry has system information, its fields are in their ranges
-abbrev pub IsValidEntry : Entry → Type 0
-IsValidEntry entry = IfOk entry.sib1 IsValid

@@ -1,5 +1,5 @@
 -- The words of a report. (own; the names are those of TS 36.331 sections 6.2.2 and 6.3)
-use Rattle.std.specs.Prelude.{ℕ, ◌*◌, ◌^◌, if◌then◌else◌, Bool, Option, Some, None, List, [], ◌∷◌, ◌++◌, codes, slice_index}
+use Rattle.std.specs.Prelude.{ℕ, if◌then◌else◌, Bool, Option, Some, None, List, [], ◌∷◌, ◌++◌, codes}
 use Rattle.std.specs.List.{flat_map}
 use Rattle.std.specs.Fmt.{decimal}
 
@@ -22,14 +22,6 @@ digits_word digits = flat_map decimal digits
 -- subframeAssignment and specialSubframePatterns
 abbrev pub tdd_word : ℕ × ℕ → List ℕ
 tdd_word config = decimal config.0 ++ codes "/" ++ decimal config.1
-
--- the frames of a period, by its code
-abbrev pub period_frames : ℕ → ℕ
-period_frames code = 8 * 2 ^ code
-
--- the milliseconds of a window, by its code
-abbrev pub window_length : ℕ → ℕ
-window_length code = slice_index (1 ∷ 2 ∷ 5 ∷ 10 ∷ 15 ∷ 20 ∷ 40 ∷ []) code
 
 -- the codes of blocks with commas between them, and a dash where there are none
 abbrev pub sibs_word : List ℕ → List ℕ

@@ -1,25 +1,21 @@
 //! The report as JSON.
 
-ghost use Rattle.std.specs.Prelude.{◌≡◌, ⊤, All, IfOk, OnOk, string_bytes};
+ghost use Rattle.std.specs.Prelude.{◌≡◌, IfOk, OnOk, string_bytes};
 ghost use Rattle.serde_json.specs.Data.{Data, string};
 ghost use Rattle.serde_json.specs.View.{view, members_view};
-ghost use Rattle.lte_types.specs.Ranges.{IsValid, IsValidMessage};
-ghost use Rattle.report.specs.Lines.{IsValidEntry};
 ghost use Rattle.report.specs.Words.{digits_word as digits_of};
 ghost use Rattle.report.specs.Json.{natural, or_null, list_of, plmn_value as plmn_of, message_value as message_of, tdd_value as tdd_of, cell_members, block_members, identity_members, access_members, schedule_members, sib1_value as sib1_of, system_value as system_of, entry_value as entry_of, json_text};
 
 use crate::lines::mnc_word;
-use crate::words::{digits_word, period_frames, window_length};
+use crate::words::digits_word;
 use lte_types::{Entry, Mib, Plmn, SiMessage, Sib1, Sib1Reason};
 use serde_json::{Map, ToValue, Value, json, put};
 use std::alloc::{AllocError, Global};
 use std::fmt::Write;
 
 /// The list of cells as JSON in one line, without a line feed: an array with an object for each cell, whose keys
-/// stand in the order of their bytes. Each system information that is there is valid. Only memory can be
-/// wanting. (own)
+/// stand in the order of their bytes. Only memory can be wanting. (own)
 pub fn json(alloc: Global, entries: &[Entry]) -> Result<String, AllocError>
-    requires { All IsValidEntry entries.now }
     ensures { IfOk result (λ text. string_bytes text ≡ json_text entries.now) }
 {
     let report = list_value(alloc, entries)?;
@@ -28,19 +24,14 @@ pub fn json(alloc: Global, entries: &[Entry]) -> Result<String, AllocError>
 
 // What has a value in JSON.
 trait ToJson {
-    // What is asked of it.
-    ghost is_valid: { Self → Type 0 };
-
     ghost json_of: { Self → Data };
 
     fn to_json(&self, alloc: Global) -> Result<Value, AllocError>
-        requires { is_valid self.now }
         ensures { IfOk result (λ value. view value ≡ json_of self.now) };
 }
 
 // The values of a list.
 fn list_value<T: ToJson>(alloc: Global, items: &[T]) -> Result<Value, AllocError>
-    requires { All T.is_valid items.now }
     ensures { IfOk result (λ value. view value ≡ list_of T.json_of items.now) }
 {
     let mut list = Vec::new(alloc);
@@ -52,8 +43,6 @@ fn list_value<T: ToJson>(alloc: Global, items: &[T]) -> Result<Value, AllocError
 
 // A cell.
 impl ToJson for Entry {
-    ghost is_valid = { IsValidEntry };
-
     ghost json_of = { entry_of };
 
     fn to_json(&self, alloc: Global) -> Result<Value, AllocError> {
@@ -110,7 +99,6 @@ fn put_block(alloc: Global, mib: &Mib, members: &mut Map<String, Value>) -> Resu
 
 // The value of its system information, or of the reason why there is none.
 fn system_value(alloc: Global, sib1: &Result<Sib1, Sib1Reason>) -> Result<Value, AllocError>
-    requires { IfOk sib1.now IsValid }
     ensures { IfOk result (λ value. view value ≡ system_of sib1.now) }
 {
     match sib1 {
@@ -124,7 +112,6 @@ fn system_value(alloc: Global, sib1: &Result<Sib1, Sib1Reason>) -> Result<Value,
 
 // That of system information.
 fn sib1_value(alloc: Global, sib1: &Sib1) -> Result<Value, AllocError>
-    requires { IsValid sib1.now }
     ensures { IfOk result (λ value. view value ≡ sib1_of sib1.now) }
 {
     let mut members = Map::new(alloc);
@@ -179,7 +166,6 @@ fn put_schedule(
     sib1: &Sib1,
     members: &mut Map<String, Value>,
 ) -> Result<(), AllocError>
-    requires { IsValid sib1.now }
     ensures { OnOk result (members_view members.new.entries
         ≡ schedule_members sib1.now (members_view members.old.entries)) }
 {
@@ -189,7 +175,7 @@ fn put_schedule(
         members,
         alloc,
         "window",
-        Value::from(window_length(sib1.window)),
+        Value::from(sib1.window.milliseconds()),
     )?;
     put(members, alloc, "tag", Value::from(sib1.tag))?;
     let tdd = tdd_value(alloc, sib1.tdd)?;
@@ -199,8 +185,6 @@ fn put_schedule(
 
 // A network.
 impl ToJson for Plmn {
-    ghost is_valid = { λ plmn. ⊤ };
-
     ghost json_of = { plmn_of };
 
     fn to_json(&self, alloc: Global) -> Result<Value, AllocError> {
@@ -222,20 +206,16 @@ fn mcc_value(alloc: Global, mcc: &Option<[u8; 3]>) -> Result<Value, AllocError>
 
 // An entry of the schedule.
 impl ToJson for SiMessage {
-    ghost is_valid = { IsValidMessage };
-
     ghost json_of = { message_of };
 
     fn to_json(&self, alloc: Global) -> Result<Value, AllocError> {
         let sibs = list_value(alloc, self.sibs.slice())?;
-        json!(in alloc; {"period": period_frames(self.period), "sibs": sibs})
+        json!(in alloc; {"period": self.period.frames(), "sibs": sibs})
     }
 }
 
 // The code of a block.
 impl ToJson for u8 {
-    ghost is_valid = { λ code. ⊤ };
-
     ghost json_of = { natural };
 
     fn to_json(&self, alloc: Global) -> Result<Value, AllocError> {

@@ -3,6 +3,7 @@
 ghost use Rattle.std.specs.Prelude.{◌≡◌, IfOk, string_bytes};
 ghost use Rattle.report.specs.Cancelled.{cancelled_line as cancelled_of, gain_part as gain_of, power_line as power_of, cancelled_lines, cancelled_none};
 
+use cs_num::Gain;
 use std::alloc::{AllocError, Global};
 use std::fmt::Write;
 
@@ -11,11 +12,11 @@ use std::fmt::Write;
 pub fn text_of_cancelled(
     alloc: Global,
     id: u16,
-    gain: &(i16, i16),
+    gain: Gain,
     greatest: u32,
     powers: (u128, u128),
 ) -> Result<String, AllocError>
-    ensures { IfOk result (λ text. string_bytes text ≡ cancelled_lines id gain.now greatest powers.0 powers.1) }
+    ensures { IfOk result (λ text. string_bytes text ≡ cancelled_lines id gain greatest powers.0 powers.1) }
 {
     let mut text = cancelled_line(alloc, id, gain, greatest)?;
     let line = power_line(alloc, powers.0, powers.1)?;
@@ -24,13 +25,8 @@ pub fn text_of_cancelled(
 }
 
 // Which cell was taken off, with which gain, and the greatest size of a component that was left.
-fn cancelled_line(
-    alloc: Global,
-    id: u16,
-    gain: &(i16, i16),
-    greatest: u32,
-) -> Result<String, AllocError>
-    ensures { IfOk result (λ line. string_bytes line ≡ cancelled_of id gain.now greatest) }
+fn cancelled_line(alloc: Global, id: u16, gain: Gain, greatest: u32) -> Result<String, AllocError>
+    ensures { IfOk result (λ line. string_bytes line ≡ cancelled_of id gain greatest) }
 {
     let mut line = format!(in alloc; "cancelled {id}")?;
     let gain = gain_part(alloc, gain)?;
@@ -40,11 +36,10 @@ fn cancelled_line(
     Ok(line)
 }
 
-// The gain.
-fn gain_part(alloc: Global, gain: &(i16, i16)) -> Result<String, AllocError>
-    ensures { IfOk result (λ part. string_bytes part ≡ gain_of gain.now) }
+fn gain_part(alloc: Global, gain: Gain) -> Result<String, AllocError>
+    ensures { IfOk result (λ part. string_bytes part ≡ gain_of gain) }
 {
-    let (re, im) = *gain;
+    let (re, im) = (gain.re(), gain.im());
     format!(in alloc; " gain {re} {im}")
 }
 

@@ -1,21 +1,18 @@
 //! The lines of a report.
 
-ghost use Rattle.std.specs.Prelude.{◌≡◌, ◌≤◌, All, IfOk, string_bytes, codes};
+ghost use Rattle.std.specs.Prelude.{◌≡◌, IfOk, string_bytes, codes};
 ghost use Rattle.std.specs.List.{flat_map};
 ghost use Rattle.std.specs.Fmt.{decimal, signed_decimal};
 ghost use Rattle.lte_types.specs.Block.{br as br_of, rest as rest_of};
-ghost use Rattle.lte_types.specs.Ranges.{IsValid, IsValidMessage};
-ghost use Rattle.lte_types.specs.Codes.{bandwidth_word, duration_word, resource_word};
-ghost use Rattle.report.specs.Words.{or_dash as word_or_dash, either as either_of, bit_word as bit_of, tdd_word as config_of, window_length as length_of};
+ghost use Rattle.lte_types.specs.Codes.{bandwidth_word, duration_word, resource_word, window_word};
+ghost use Rattle.report.specs.Words.{or_dash as word_or_dash, either as either_of, bit_word as bit_of, tdd_word as config_of};
 ghost use Rattle.report.specs.Lines.{cell_line as cell_line_of, block_part as block_of, none_line as none_line_of, access_part as access_of, group_part as group_of, level_part as level_of, window_part as window_of, sib1_line as sib1_line_of, mnc_word as mnc_of, plmn_line as plmn_line_of, message_line as message_line_of, sib1_lines as sib1_lines_of};
 
 use crate::parts::{
     access_part, block_part, group_part, level_part, network_line, place_part, schedule_line,
     window_part,
 };
-use crate::words::{
-    digits_word, either, mcc_or_dash, or_dash, period_frames, sibs_word, tdd_or_dash, window_length,
-};
+use crate::words::{digits_word, either, mcc_or_dash, or_dash, sibs_word, tdd_or_dash};
 use lte_types::{Entry, Mib, Mnc, Plmn, SiMessage, Sib1, Sib1Reason};
 use std::alloc::{AllocError, Global};
 use std::fmt::Write;
@@ -52,7 +49,6 @@ pub(crate) fn none_line(alloc: Global, reason: Sib1Reason) -> Result<String, All
 
 /// The lines of a cell's system information.
 pub(crate) fn sib1_lines(alloc: Global, sib1: &Sib1) -> Result<String, AllocError>
-    requires { IsValid sib1.now }
     ensures { IfOk result (λ text. string_bytes text ≡ sib1_lines_of sib1.now) }
 {
     let mut text = sib1_line(alloc, sib1)?;
@@ -64,7 +60,6 @@ pub(crate) fn sib1_lines(alloc: Global, sib1: &Sib1) -> Result<String, AllocErro
 }
 
 fn sib1_line(alloc: Global, sib1: &Sib1) -> Result<String, AllocError>
-    requires { IsValid sib1.now }
     ensures { IfOk result (λ line. string_bytes line ≡ sib1_line_of sib1.now) }
 {
     let mut line = access_of_cell(alloc, sib1)?;
@@ -106,12 +101,11 @@ fn levels_of_cell(alloc: Global, sib1: &Sib1) -> Result<String, AllocError>
 }
 
 fn timing_of_cell(alloc: Global, sib1: &Sib1) -> Result<String, AllocError>
-    requires { sib1.now.window ≤ 6 }
     ensures { IfOk result (λ part. string_bytes part ≡
-        window_of (length_of sib1.now.window) sib1.now.tag (word_or_dash config_of sib1.now.tdd)
+        window_of (window_word sib1.now.window) sib1.now.tag (word_or_dash config_of sib1.now.tdd)
         (bit_of sib1.now.extended)) }
 {
-    let window = window_length(sib1.window);
+    let window = sib1.window.name();
     let tdd = tdd_or_dash(alloc, sib1.tdd)?;
     let extension = either(sib1.extended, "1", "0");
     window_part(alloc, window, sib1.tag, tdd.as_str(), extension)
@@ -147,16 +141,13 @@ fn plmn_lines(alloc: Global, plmns: &[Plmn]) -> Result<String, AllocError>
 }
 
 fn message_line(alloc: Global, message: &SiMessage) -> Result<String, AllocError>
-    requires { IsValidMessage message.now }
     ensures { IfOk result (λ line. string_bytes line ≡ message_line_of message.now) }
 {
-    let frames = period_frames(message.period);
     let sibs = sibs_word(alloc, message.sibs.slice())?;
-    schedule_line(alloc, frames, sibs.as_str())
+    schedule_line(alloc, message.period.name(), sibs.as_str())
 }
 
 fn message_lines(alloc: Global, messages: &[SiMessage]) -> Result<String, AllocError>
-    requires { All IsValidMessage messages.now }
     ensures { IfOk result (λ text. string_bytes text ≡ flat_map message_line_of messages.now) }
 {
     let mut text = String::new(alloc);

@@ -1,7 +1,7 @@
 //! The report.
 
-ghost use Rattle.std.specs.Prelude.{◌≡◌, All, IfOk, string_bytes};
-ghost use Rattle.report.specs.Lines.{report_text, entry_lines as entry_lines_of, system_lines as system_lines_of, IsValidEntry};
+ghost use Rattle.std.specs.Prelude.{◌≡◌, IfOk, string_bytes};
+ghost use Rattle.report.specs.Lines.{report_text, entry_lines as entry_lines_of, system_lines as system_lines_of};
 
 use crate::lines::{cell_line, none_line, sib1_lines};
 use lte_types::Entry;
@@ -10,10 +10,8 @@ use std::fmt::Write;
 
 /// The text of a list of cells: a line with their number, and for each a line with its place and its
 /// master block, and then either a line that says why there is no system information, or the lines
-/// of its system information, its networks and its schedule. Each system information that is there
-/// is valid. Only memory can be wanting. (own)
+/// of its system information, its networks and its schedule. Only memory can be wanting. (own)
 pub fn text(alloc: Global, entries: &[Entry]) -> Result<String, AllocError>
-    requires { All IsValidEntry entries.now }
     ensures { IfOk result (λ text. string_bytes text ≡ report_text entries.now) }
 {
     let mut text = format!(in alloc; "cells {}\n", entries.len())?;
@@ -26,7 +24,6 @@ pub fn text(alloc: Global, entries: &[Entry]) -> Result<String, AllocError>
 
 // The lines of a cell.
 fn entry_lines(alloc: Global, entry: &Entry) -> Result<String, AllocError>
-    requires { IsValidEntry entry.now }
     ensures { IfOk result (λ text. string_bytes text ≡ entry_lines_of entry.now) }
 {
     let mut text = cell_line(alloc, entry)?;
@@ -37,7 +34,6 @@ fn entry_lines(alloc: Global, entry: &Entry) -> Result<String, AllocError>
 
 // The lines on its system information.
 fn system_lines(alloc: Global, entry: &Entry) -> Result<String, AllocError>
-    requires { IsValidEntry entry.now }
     ensures { IfOk result (λ text. string_bytes text ≡ system_lines_of entry.now.sib1) }
 {
     match &entry.sib1 {

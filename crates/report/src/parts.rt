@@ -71,14 +71,14 @@ pub(crate) fn level_part(
 /// When system information is sent, and whether it changed.
 pub(crate) fn window_part(
     alloc: Global,
-    window: u8,
+    window: &str,
     tag: u8,
     tdd: &str,
     extension: &str,
 ) -> Result<String, AllocError>
-    ensures { IfOk result (λ part. string_bytes part ≡ window_of window tag tdd.now extension.now) }
+    ensures { IfOk result (λ part. string_bytes part ≡ window_of window.now tag tdd.now extension.now) }
 {
-    format!(in alloc; " window ms{window} tag {tag} tdd {tdd} extension {extension}\n")
+    format!(in alloc; " window {window} tag {tag} tdd {tdd} extension {extension}\n")
 }
 
 /// The line of a network.
@@ -94,8 +94,8 @@ pub(crate) fn network_line(
 }
 
 /// The line of an entry of the schedule.
-pub(crate) fn schedule_line(alloc: Global, frames: u16, sibs: &str) -> Result<String, AllocError>
-    ensures { IfOk result (λ line. string_bytes line ≡ schedule_of frames sibs.now) }
+pub(crate) fn schedule_line(alloc: Global, period: &str, sibs: &str) -> Result<String, AllocError>
+    ensures { IfOk result (λ line. string_bytes line ≡ schedule_of period.now sibs.now) }
 {
-    format!(in alloc; "si rf{frames} {sibs}\n")
+    format!(in alloc; "si {period} {sibs}\n")
 }

@@ -1,7 +1,7 @@
 //! The words of a report.
 
-ghost use Rattle.std.specs.Prelude.{◌≡◌, ◌≤◌, ◌∷◌, ℕ, List, Some, IfOk, string_bytes};
-ghost use Rattle.report.specs.Words.{or_dash as word_or_dash, either as either_of, digits_word as digits_of, tdd_word as config_of, period_frames as frames_of, window_length as length_of, sibs_word as sibs_of};
+ghost use Rattle.std.specs.Prelude.{◌≡◌, ◌∷◌, ℕ, List, Some, IfOk, string_bytes};
+ghost use Rattle.report.specs.Words.{or_dash as word_or_dash, either as either_of, digits_word as digits_of, tdd_word as config_of, sibs_word as sibs_of};
 
 use std::alloc::{AllocError, Global};
 use std::fmt::{Display, Write};
@@ -57,30 +57,6 @@ pub(crate) fn digits_word(alloc: Global, digits: &[u8]) -> Result<String, AllocE
         text.push_str(&word)?;
     }
     Ok(text)
-}
-
-/// The frames of a period, by its code, 0 to 6.
-pub(crate) fn period_frames(code: u8) -> u16
-    requires { code ≤ 6 }
-    ensures { result ≡ frames_of code }
-{
-    8 << code
-}
-
-/// The milliseconds of a window, by its code, 0 to 6.
-pub(crate) fn window_length(code: u8) -> u8
-    requires { code ≤ 6 }
-    ensures { result ≡ length_of code }
-{
-    match code {
-        0 => 1,
-        1 => 2,
-        2 => 5,
-        3 => 10,
-        4 => 15,
-        5 => 20,
-        _ => 40,
-    }
 }
 
 /// The codes of blocks with commas between them, and a dash where there are none.

@@ -1,15 +1,19 @@
 -- What the larger parts that were put make up.
-use Rattle.std.proofs.Common.{◌≡◌, ℕ, ◌+◌, ◌-◌, ◌^◌, ◌<◌, ◌≤◌, ℤ, pos, ◌-ℤ◌, Bool, true, false, not, List, length, Option, Some, None, refl, ap, ap₂, sym, subst, ◌∙◌, arith}
+use Rattle.std.proofs.Common.{◌≡◌, ℕ, ◌+◌, ◌-◌, ◌≤◌, ℤ, pos, ◌-ℤ◌, Bool, true, false, not, List, length, Option, Some, None, refl, ap, ap₂, sym, subst, ◌∙◌, arith}
 use Rattle.std.specs.Prelude.{is_some, IfSome}
 use Rattle.lte_types.specs.declared.si_message.SiMessage.{SiMessage}
+use Rattle.lte_types.specs.declared.period.Period.{Period}
 use Rattle.lte_types.specs.declared.plmn.Plmn.{Plmn}
 use Rattle.lte_types.specs.declared.sib1.Sib1.{Sib1}
+use Rattle.lte_types.specs.declared.window.Window.{Window}
+use Rattle.lte_types.specs.Codes.{period, window}
+use Rattle.lte_types.specs.Ranges.{IsGroup, IsLevelOffset, IsTddConfig}
 use Rattle.uper.specs.Grammar.{done, from_to}
-use Rattle.sib1.specs.declared.parts.CellAccessRelatedInfo.{CellAccessRelatedInfo}
-use Rattle.sib1.specs.declared.parts.CellSelectionInfo.{CellSelectionInfo}
+use Rattle.lte_types.specs.declared.cell_access_related_info.CellAccessRelatedInfo.{CellAccessRelatedInfo}
+use Rattle.lte_types.specs.declared.cell_selection_info.CellSelectionInfo.{CellSelectionInfo}
 use Rattle.uper.specs.Grammar.{flag, if_present, times}
-use Rattle.sib1.specs.Layout.{plmn_identity_list, cell_access_related_info, q_rx_lev_min_offset, cell_selection_info, p_max, sib_type, scheduling_info, scheduling_info_list, tdd_config, sib1}
-use Rattle.sib1.specs.Parts.{access_of, selection_of}
+use Rattle.sib1.specs.Layout.{plmn_identity_list, cell_access_related_info, q_rx_lev_min_offset, cell_selection_info, p_max, sib_type, si_periodicity, scheduling_info, scheduling_info_list, tdd_config, si_window_length, sib1}
+use Rattle.lte_types.specs.Parts.{access_of, selection_of}
 use Rattle.uper.specs.Sheet.{Puts}
 use Rattle.uper.proofs.Putting.{puts_bind, puts_done, puts_same}
 use Rattle.uper.proofs.Putting.{some_puts}
@@ -32,11 +36,19 @@ pub sib_short : (code : ℕ) (old a new : State) → Puts flag false old a → P
 unfolding sib_type
 sib_short code old a new p q = puts_bind flag _ false code old a new p q
 
-pub message_puts : (m : SiMessage) (codes : List ℕ) (old a b new : State) → codes ≡ m.sibs → Puts (from_to 3 0 6) m.period old a → Puts (from_to 5 0 31) (length codes) a b → Puts (times (length codes) sib_type) codes b new → Puts scheduling_info m old new
+pub period_puts : (code : ℕ) (p : Period) (old new : State) → period code ≡ p → Puts (from_to 3 0 6) code old new → Puts si_periodicity p old new
+unfolding si_periodicity
+period_puts code p old new is put = puts_bind (from_to 3 0 6) _ code p old new new put (puts_same _ (period code) p new new is (puts_done (period code) new))
+
+pub window_puts : (code : ℕ) (w : Window) (old new : State) → window code ≡ w → Puts (from_to 3 0 6) code old new → Puts si_window_length w old new
+unfolding si_window_length
+window_puts code w old new is put = puts_bind (from_to 3 0 6) _ code w old new new put (puts_same _ (window code) w new new is (puts_done (window code) new))
+
+pub message_puts : (m : SiMessage) (codes : List ℕ) (old a b new : State) → codes ≡ m.sibs → Puts si_periodicity m.period old a → Puts (from_to 5 0 31) (length codes) a b → Puts (times (length codes) sib_type) codes b new → Puts scheduling_info m old new
 unfolding scheduling_info
 message_puts m codes old a b new e p q r =
     subst (λ sibs. Puts scheduling_info (let n : SiMessage = record { period = m.period; sibs = sibs } in n) old new) e
-    (puts_bind (from_to 3 0 6) _ m.period _ old a new p
+    (puts_bind si_periodicity _ m.period _ old a new p
     (puts_bind (from_to 5 0 31) _ (length codes) _ a b new q
     (puts_bind (times (length codes) sib_type) (λ sibs. done (let n : SiMessage = record { period = m.period; sibs = sibs } in n)) codes _ b new new r
     (puts_done (let n : SiMessage = record { period = m.period; sibs = codes } in n) new))))
@@ -49,13 +61,13 @@ schedule_puts list old a new some p q =
 
 -- ---- what may be there
 
-pub csg_puts : (o : Option ℕ) (n : ℕ) (old new : State) → o ≡ Some n → IfSome o (λ i. i < 2 ^ 27) → PutsWithin 27 n old new → Puts (if_present (is_some o) (from_to 27 0 134217727)) o old new
+pub csg_puts : (o : Option ℕ) (n : ℕ) (old new : State) → o ≡ Some n → IfSome o IsGroup → PutsWithin 27 n old new → Puts (if_present (is_some o) (from_to 27 0 134217727)) o old new
 csg_puts (Some m) n old new e small p =
     let same : m ≡ n = cc in
     some_puts (from_to 27 0 134217727) (Some m) n old new e (p 0 134217727 (omega arith) (omega (arith, small, same)))
 csg_puts None n old new e small p = absurd cc
 
-pub offset_puts : (o : Option ℕ) (n : ℕ) (old new : State) → o ≡ Some n → IfSome o (λ offset. (1 ≤ offset) × (offset ≤ 8)) → PutsWithin 3 (n - 1) old new → Puts (if_present (is_some o) q_rx_lev_min_offset) o old new
+pub offset_puts : (o : Option ℕ) (n : ℕ) (old new : State) → o ≡ Some n → IfSome o IsLevelOffset → PutsWithin 3 (n - 1) old new → Puts (if_present (is_some o) q_rx_lev_min_offset) o old new
 unfolding q_rx_lev_min_offset
 offset_puts (Some m) n old new e small p =
     let same : m ≡ n = cc in
@@ -73,10 +85,10 @@ power_puts o z n old new e is small p =
     (puts_bind (from_to 6 0 63) (λ k. done (pos k -ℤ pos 30)) n z old new new (p 0 63 (omega arith) small)
     (puts_same (done (pos n -ℤ pos 30)) (pos n -ℤ pos 30) z new new is (puts_done (pos n -ℤ pos 30) new)))
 
-pub tdd_puts : (o : Option (ℕ × ℕ)) (m n : ℕ) (old mid new : State) → o ≡ Some (m, n) → IfSome o (λ config. (config.0 ≤ 6) × (config.1 ≤ 8)) → PutsWithin 3 m old mid → PutsWithin 4 n mid new → Puts (if_present (is_some o) tdd_config) o old new
+pub tdd_puts : (o : Option (ℕ × ℕ)) (m n : ℕ) (old mid new : State) → o ≡ Some (m, n) → IfSome o IsTddConfig → PutsWithin 3 m old mid → PutsWithin 4 n mid new → Puts (if_present (is_some o) tdd_config) o old new
 unfolding tdd_config
 tdd_puts o m n old mid new e small p q =
-    let both : (m ≤ 6) × (n ≤ 8) = subst (λ v. IfSome v (λ config. (config.0 ≤ 6) × (config.1 ≤ 8))) e small in
+    let both : (m ≤ 6) × (n ≤ 8) = subst (λ v. IfSome v IsTddConfig) e small in
     some_puts tdd_config o (m, n) old new e
     (puts_bind (from_to 3 0 6) _ m (m, n) old mid new (p 0 6 (omega arith) both.0)
     (puts_bind (from_to 4 0 8) (λ k. done (m, k)) n (m, n) mid new new (q 0 8 (omega arith) both.1) (puts_done (m, n) new)))
@@ -148,7 +160,7 @@ pub sib1_puts : (s : Sib1) (list : List SiMessage) (has_p_max has_tdd : Bool) (s
     → list ≡ s.scheduling → has_p_max ≡ is_some s.p_max → has_tdd ≡ is_some s.tdd → 1 ≤ s.band
     → Puts (from_to 1 0 0) 0 s0 s1 → Puts (from_to 1 1 1) 1 s1 s2 → Puts flag has_p_max s2 s3 → Puts flag has_tdd s3 s4 → Puts flag s.extended s4 s5
     → Puts cell_access_related_info (access_of s) s5 s6 → Puts cell_selection_info (selection_of s) s6 s7 → Puts (if_present (is_some s.p_max) p_max) s.p_max s7 s8 → Puts (from_to 6 0 63) (s.band - 1) s8 s9
-    → Puts scheduling_info_list list s9 s10 → Puts (if_present (is_some s.tdd) tdd_config) s.tdd s10 s11 → Puts (from_to 3 0 6) s.window s11 s12 → Puts (from_to 5 0 31) s.tag s12 s13 → Puts sib1 s s0 s13
+    → Puts scheduling_info_list list s9 s10 → Puts (if_present (is_some s.tdd) tdd_config) s.tdd s10 s11 → Puts si_window_length s.window s11 s12 → Puts (from_to 5 0 31) s.tag s12 s13 → Puts sib1 s s0 s13
 unfolding sib1
 sib1_puts s list has_p_max has_tdd s0 s1 s2 s3 s4 s5 s6 s7 s8 s9 s10 s11 s12 s13 e f g low p0 p1 p2 p3 p4 p5 p6 p7 p8 p9 p10 p11 p12 =
     let made = whole s list (s.band - 1 + 1) in
@@ -167,5 +179,5 @@ sib1_puts s list has_p_max has_tdd s0 s1 s2 s3 s4 s5 s6 s7 s8 s9 s10 s11 s12 s13
     (puts_bind (from_to 6 0 63) _ (s.band - 1) made s8 s9 s13 p8
     (puts_bind scheduling_info_list _ list made s9 s10 s13 p9
     (puts_bind (if_present has_tdd tdd_config) _ s.tdd made s10 s11 s13 tdd_put
-    (puts_bind (from_to 3 0 6) _ s.window made s11 s12 s13 p11
+    (puts_bind si_window_length _ s.window made s11 s12 s13 p11
     (puts_bind (from_to 5 0 31) _ s.tag made s12 s13 s13 p12 (puts_done made s13))))))))))))))

@@ -4,11 +4,14 @@ use Rattle.std.specs.Prelude.{ℕ, ◌+◌, pos, ℤ, ◌-ℤ◌, not, nat_eq, i
 use Rattle.lte_types.specs.declared.mnc.Mnc.{Mnc}
 use Rattle.lte_types.specs.declared.mnc.Mnc.TheVariants.{Two, Three}
 use Rattle.lte_types.specs.declared.plmn.Plmn.{Plmn}
+use Rattle.lte_types.specs.declared.period.Period.{Period}
 use Rattle.lte_types.specs.declared.si_message.SiMessage.{SiMessage}
 use Rattle.lte_types.specs.declared.sib1.Sib1.{Sib1}
+use Rattle.lte_types.specs.declared.window.Window.{Window}
+use Rattle.lte_types.specs.Codes.{period, window}
 use Rattle.uper.specs.Grammar.{Grammar, done, ◌>>=◌, from_to, flag, if_present, times}
-use Rattle.sib1.specs.declared.parts.CellAccessRelatedInfo.{CellAccessRelatedInfo}
-use Rattle.sib1.specs.declared.parts.CellSelectionInfo.{CellSelectionInfo}
+use Rattle.lte_types.specs.declared.cell_access_related_info.CellAccessRelatedInfo.{CellAccessRelatedInfo}
+use Rattle.lte_types.specs.declared.cell_selection_info.CellSelectionInfo.{CellSelectionInfo}
 
 -- ---- plmn-IdentityList
 
@@ -103,10 +106,15 @@ sib_type = do
     n ← from_to 6 0 63
     done (n + 16)) else from_to 4 0 15
 
+unfoldable pub si_periodicity : Grammar Period
+si_periodicity = do
+  code ← from_to 3 0 6
+  done (period code)
+
 -- si-Periodicity and sib-MappingInfo
 unfoldable pub scheduling_info : Grammar SiMessage
 scheduling_info = do
-  period ← from_to 3 0 6
+  period ← si_periodicity
   count ← from_to 5 0 31
   sibs ← times count sib_type
   done (record { period = period; sibs = sibs })
@@ -125,6 +133,13 @@ tdd_config = do
   special_subframe_patterns ← from_to 4 0 8
   done (subframe_assignment, special_subframe_patterns)
 
+-- ---- si-WindowLength
+
+unfoldable pub si_window_length : Grammar Window
+si_window_length = do
+  code ← from_to 3 0 6
+  done (window code)
+
 -- ---- BCCH-DL-SCH-Message with SystemInformationBlockType1; nonCriticalExtension, where present, follows
 
 unfoldable pub sib1 : Grammar Sib1
@@ -140,7 +155,7 @@ sib1 = do
   freq_band_indicator ← from_to 6 0 63
   scheduling ← scheduling_info_list
   tdd ← if_present has_tdd_config tdd_config
-  si_window_length ← from_to 3 0 6
+  window ← si_window_length
   system_info_value_tag ← from_to 5 0 31
   done (record {
     plmns = access.plmns;
@@ -156,7 +171,7 @@ sib1 = do
     band = freq_band_indicator + 1;
     scheduling = scheduling;
     tdd = tdd;
-    window = si_window_length;
+    window = window;
     tag = system_info_value_tag;
     extended = has_extension;
   })

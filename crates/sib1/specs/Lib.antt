@@ -1,4 +1,3 @@
 pub mod Layout
 pub mod Message
-pub mod Parts
 pub mod Text

@@ -3,7 +3,6 @@
 #![tactic(auto)]
 
 mod laws;
-mod parts;
 mod read_plmns;
 mod read_schedule;
 mod reading;

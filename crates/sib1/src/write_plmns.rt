@@ -1,12 +1,12 @@
 //! plmn-IdentityList, written.
 
-ghost use Rattle.std.specs.Prelude.{◌≡◌, ◌≤◌, ℕ, [], ◌∷◌, List, All, length, IfSome, is_some, true, if◌then◌else◌};
-ghost use Rattle.lte_types.specs.Ranges.{AreDigits, HasDigits, IsValidPlmn, FirstHasMcc};
+ghost use Rattle.std.specs.Prelude.{◌≤◌, ℕ, All, length, IfSome, is_some, true, if◌then◌else◌};
+ghost use Rattle.lte_types.specs.Ranges.{AreDigits, HasDigits, IsValidPlmn, ArePlmns};
 ghost use Rattle.uper.specs.Grammar.{times, if_present};
 ghost use Rattle.uper.specs.Sheet.{Puts};
 ghost use Rattle.sib1.specs.Layout.{digit, mnc, plmn_identity_info, plmn_identity_list};
 
-use lte_types::{Mnc, Plmn, Plmns};
+use lte_types::{Mnc, Plmn};
 use uper::Sheet;
 
 fn put_digits(sheet: &mut Sheet, digits: &[u8])
@@ -65,10 +65,7 @@ fn put_other_plmns(sheet: &mut Sheet, others: &[Plmn])
 }
 
 pub(crate) fn put_plmn_identity_list(sheet: &mut Sheet, list: &[Plmn])
-    requires some { 1 ≤ length list.now }
-    requires few { length list.now ≤ 6 }
-    requires valid { All IsValidPlmn list.now }
-    requires first { FirstHasMcc list.now }
+    requires { ArePlmns list.now }
     ensures { Puts plmn_identity_list list.now sheet.old sheet.new }
 {
     if let [first, others @ ..] = list {

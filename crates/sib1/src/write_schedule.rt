@@ -1,12 +1,12 @@
 //! schedulingInfoList, written.
 
-ghost use Rattle.std.specs.Prelude.{◌≡◌, ◌≤◌, ℕ, List, All, length};
-ghost use Rattle.lte_types.specs.Ranges.{IsValidMessage};
+ghost use Rattle.std.specs.Prelude.{◌≤◌, All, length};
+ghost use Rattle.lte_types.specs.Ranges.{IsValidMessage, AreMessages};
 ghost use Rattle.uper.specs.Grammar.{times};
 ghost use Rattle.uper.specs.Sheet.{Puts};
-ghost use Rattle.sib1.specs.Layout.{sib_type, scheduling_info, scheduling_info_list};
+ghost use Rattle.sib1.specs.Layout.{sib_type, si_periodicity, scheduling_info, scheduling_info_list};
 
-use lte_types::SiMessage;
+use lte_types::{Period, SiMessage};
 use uper::Sheet;
 
 fn put_sib_type(sheet: &mut Sheet, code: u8)
@@ -32,11 +32,17 @@ fn put_sib_types(sheet: &mut Sheet, codes: &[u8])
     }
 }
 
+fn put_si_periodicity(sheet: &mut Sheet, period: Period)
+    ensures { Puts si_periodicity period sheet.old sheet.new }
+{
+    sheet.put(period.code() as u32, 3);
+}
+
 fn put_scheduling_info(sheet: &mut Sheet, item: &SiMessage)
     requires { IsValidMessage item.now }
     ensures { Puts scheduling_info item.now sheet.old sheet.new }
 {
-    sheet.put(item.period as u32, 3);
+    put_si_periodicity(sheet, item.period);
     let codes = item.sibs.slice();
     sheet.put(codes.len() as u32, 5);
     put_sib_types(sheet, codes);
@@ -52,9 +58,7 @@ fn put_scheduling_infos(sheet: &mut Sheet, list: &[SiMessage])
 }
 
 pub(crate) fn put_scheduling_info_list(sheet: &mut Sheet, list: &[SiMessage])
-    requires some { 1 ≤ length list.now }
-    requires few { length list.now ≤ 32 }
-    requires valid { All IsValidMessage list.now }
+    requires { AreMessages list.now }
     ensures { Puts scheduling_info_list list.now sheet.old sheet.new }
 {
     sheet.put(list.len() as u32 - 1, 5);

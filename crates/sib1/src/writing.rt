@@ -1,20 +1,20 @@
 //! SystemInformationBlockType1, written.
 
-ghost use Rattle.std.specs.Prelude.{◌≡◌, ◌≤◌, ◌<◌, ◌≤ℤ◌, ◌-ℤ◌, ◌^◌, ◌↔◌, [], pos, negsuc, false, List, Bool, IsTrue, IfSome, is_some, length, if◌then◌else◌};
-ghost use Rattle.lte_types.specs.Ranges.{IsValid};
+ghost use Rattle.std.specs.Prelude.{◌≡◌, ◌≤◌, ◌<◌, ◌≤ℤ◌, ◌-ℤ◌, [], pos, negsuc, false, IfSome, is_some, if◌then◌else◌};
+ghost use Rattle.lte_types.specs.Ranges.{IsGroup, IsLevelOffset, IsPower, IsTddConfig, IsAccess, IsSelection, IsValid};
 ghost use Rattle.uper.specs.Grammar.{if_present};
 ghost use Rattle.uper.specs.Sheet.{Puts};
-ghost use Rattle.sib1.specs.Layout.{cell_access_related_info, csg_identity, q_rx_lev_min_offset, cell_selection_info, p_max, tdd_config, sib1};
+ghost use Rattle.sib1.specs.Layout.{cell_access_related_info, csg_identity, q_rx_lev_min_offset, cell_selection_info, p_max, tdd_config, si_window_length, sib1};
 ghost use Rattle.sib1.specs.Message.{Writes};
-ghost use Rattle.sib1.specs.Parts.{access_of, selection_of};
+ghost use Rattle.lte_types.specs.Parts.{access_of, selection_of};
 
 use crate::write_plmns::put_plmn_identity_list;
 use crate::write_schedule::put_scheduling_info_list;
-use lte_types::Sib1;
+use lte_types::{Sib1, Window};
 use uper::{Sheet, Writer};
 
 fn put_csg_identity(sheet: &mut Sheet, identity: Option<u32>)
-    requires { IfSome identity (λ identity. identity < 2 ^ 27) }
+    requires { IfSome identity IsGroup }
     ensures { Puts (if_present (is_some identity) csg_identity) identity sheet.old sheet.new }
 {
     if let Some(number) = identity {
@@ -23,7 +23,7 @@ fn put_csg_identity(sheet: &mut Sheet, identity: Option<u32>)
 }
 
 fn put_cell_access_related_info(sheet: &mut Sheet, fields: &Sib1)
-    requires { IsValid fields.now }
+    requires { IsAccess (access_of fields.now) }
     ensures { Puts cell_access_related_info (access_of fields.now) sheet.old sheet.new }
 {
     sheet.flag(fields.csg_identity.is_some());
@@ -37,7 +37,7 @@ fn put_cell_access_related_info(sheet: &mut Sheet, fields: &Sib1)
 }
 
 fn put_q_rx_lev_min_offset(sheet: &mut Sheet, value: Option<u8>)
-    requires { IfSome value (λ offset. (1 ≤ offset) × (offset ≤ 8)) }
+    requires { IfSome value IsLevelOffset }
     ensures { Puts (if_present (is_some value) q_rx_lev_min_offset) value sheet.old sheet.new }
 {
     if let Some(number) = value {
@@ -66,7 +66,7 @@ fn number_of_p_max(power: i8) -> u32
 }
 
 fn put_cell_selection_info(sheet: &mut Sheet, fields: &Sib1)
-    requires { IsValid fields.now }
+    requires { IsSelection (selection_of fields.now) }
     ensures { Puts cell_selection_info (selection_of fields.now) sheet.old sheet.new }
 {
     sheet.flag(fields.q_offset.is_some());
@@ -75,7 +75,7 @@ fn put_cell_selection_info(sheet: &mut Sheet, fields: &Sib1)
 }
 
 fn put_p_max(sheet: &mut Sheet, value: Option<i8>)
-    requires { IfSome value (λ power. (negsuc 29 ≤ℤ power) × (power ≤ℤ pos 33)) }
+    requires { IfSome value IsPower }
     ensures { Puts (if_present (is_some value) p_max) value sheet.old sheet.new }
 {
     if let Some(level) = value {
@@ -84,13 +84,19 @@ fn put_p_max(sheet: &mut Sheet, value: Option<i8>)
 }
 
 fn put_tdd_config(sheet: &mut Sheet, value: Option<(u8, u8)>)
-    requires { IfSome value (λ config. (config.0 ≤ 6) × (config.1 ≤ 8)) }
+    requires { IfSome value IsTddConfig }
     ensures { Puts (if_present (is_some value) tdd_config) value sheet.old sheet.new }
 {
     if let Some((assignment, patterns)) = value {
         sheet.put(assignment as u32, 3);
         sheet.put(patterns as u32, 4);
     }
+}
+
+fn put_si_window_length(sheet: &mut Sheet, window: Window)
+    ensures { Puts si_window_length window sheet.old sheet.new }
+{
+    sheet.put(window.code() as u32, 3);
 }
 
 fn put_fields(sheet: &mut Sheet, fields: &Sib1)
@@ -108,7 +114,7 @@ fn put_fields(sheet: &mut Sheet, fields: &Sib1)
     sheet.put(fields.band as u32 - 1, 6);
     put_scheduling_info_list(sheet, fields.scheduling.slice());
     put_tdd_config(sheet, fields.tdd);
-    sheet.put(fields.window as u32, 3);
+    put_si_window_length(sheet, fields.window);
     sheet.put(fields.tag as u32, 5);
 }
 
