@@ -1,2 +1,3 @@
+pub mod Power
 pub mod Qpsk
 pub mod Reference

@@ -15,7 +15,7 @@ mod qpsk;
 use cs_num::Cpx;
 use lte_types::CellId;
 pub use pattern::{Pattern, patterns};
-pub use qpsk::point;
+pub use qpsk::{POINT_POWER, point};
 
 // c_init of the sequence for a slot and a symbol of it.
 fn c_init(pattern: Pattern, id: CellId, slot: u8, symbol: u8) -> u32

@@ -5,6 +5,9 @@ ghost use Rattle.crs.specs.Qpsk.{component, point, IsPoint};
 
 use cs_num::Cpx;
 
+/// The square of the size of each point: 90^2 + 90^2.
+pub const POINT_POWER: u32 = 16_200;
+
 // The component that a bit gives.
 fn component_of(bit: bool) -> i64
     ensures { result ≡ component bit }

@@ -2,7 +2,8 @@
 use Rattle.std.proofs.Common.{◌≡◌, ℕ, ◌+◌, ◌-◌, ◌/◌, ◌%◌, ◌≤◌, ◌<◌, ◌⊎◌, inl, inr, arith}
 use Rattle.std.proofs.lemmas.Bool.{cases_lt}
 use Rattle.std.proofs.lemmas.Bool.Decides.{nat_tests}
-use Rattle.dci.specs.Assignment.{riv_of, AreBlocks}
+use Rattle.lte_types.specs.Assignment.{AreBlocks}
+use Rattle.dci.specs.Assignment.{riv_of}
 
 pub blocks_with : (riv : ℕ) → riv ≤ 20 → (start : ℕ) × ((blocks : ℕ) × AreBlocks start blocks × (riv_of start blocks ≡ riv))
 blocks_with riv l = cases (cases_lt 6 (riv % 6 + (riv / 6 + 1)))

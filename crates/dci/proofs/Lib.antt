@@ -2,3 +2,4 @@ pub mod Words
 pub mod Blocks
 pub mod Exists
 pub mod Once
+pub mod SizeRows

@@ -7,7 +7,8 @@ use Rattle.lte_types.specs.declared.sib1_reason.Sib1Reason.{Sib1Reason}
 use Rattle.lte_types.specs.declared.sib1_reason.Sib1Reason.TheVariants.{NotFormat1A, Distributed, BadRiv, ReservedMcs, BlockTooLarge}
 use Rattle.dci.specs.declared.grant.Grant.{Grant}
 use Rattle.dci.specs.Fields.{is_1a, is_distributed, assignment, mcs, rv, tpc_low}
-use Rattle.dci.specs.Assignment.{riv_of, AreBlocks}
+use Rattle.lte_types.specs.Assignment.{AreBlocks}
+use Rattle.dci.specs.Assignment.{riv_of}
 use Rattle.dci.specs.Sizes.{size_of}
 use Rattle.dci.specs.Format1A.{Says, Carries, column_of}
 

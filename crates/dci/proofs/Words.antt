@@ -5,7 +5,8 @@ use Rattle.cs_bits.specs.Numbers.{number, bits_of, part}
 use Rattle.cs_bits.proofs.Numbers.{number_below, number_of_bits, bits_of_is, whole_part}
 use Rattle.dci.specs.declared.grant.Grant.{Grant}
 use Rattle.dci.specs.Fields.{bit, tpc_low}
-use Rattle.dci.specs.Assignment.{riv_of, AreBlocks}
+use Rattle.lte_types.specs.Assignment.{AreBlocks}
+use Rattle.dci.specs.Assignment.{riv_of}
 use Rattle.dci.specs.Format1A.{Carries, IsSentFor, IsGrant, column_of, sent_word}
 
 riv_small : (start blocks : ℕ) → AreBlocks start blocks → riv_of start blocks < 32

@@ -5,7 +5,8 @@ use Rattle.lte_types.specs.declared.sib1_reason.Sib1Reason.TheVariants.{NotForma
 use Rattle.cs_bits.specs.Numbers.{bits_of}
 use Rattle.dci.specs.declared.grant.Grant.{Grant}
 use Rattle.dci.specs.Fields.{is_1a, is_distributed, assignment, mcs, harq, new_data, rv, tpc_high, tpc_low, padding}
-use Rattle.dci.specs.Assignment.{riv_of, AreBlocks}
+use Rattle.lte_types.specs.Assignment.{AreBlocks}
+use Rattle.dci.specs.Assignment.{riv_of}
 use Rattle.dci.specs.Sizes.{size_of}
 
 -- the column of sizes that the low bit of the power control command tells

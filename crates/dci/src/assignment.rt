@@ -1,7 +1,8 @@
 //! The resource indication value.
 
 ghost use Rattle.std.specs.Prelude.{◌≡◌, ℕ, ◌≤◌};
-ghost use Rattle.dci.specs.Assignment.{riv_of, AreBlocks};
+ghost use Rattle.lte_types.specs.Assignment.{AreBlocks};
+ghost use Rattle.dci.specs.Assignment.{riv_of};
 
 /// The resource indication value of `blocks` resource blocks from `start` on
 /// (TS 36.213 section 7.1.6.3). `blocks` is at least 1 and `start` + `blocks` at most 6.

@@ -18,7 +18,7 @@ use Rattle.grid_map.specs.Control.{is_in, pcfich_groups, pcfich_places, phich_gr
 use Rattle.grid_map.specs.Candidate.{group_of_quadruplet, quadruplet_group, candidate_places}
 use Rattle.grid_map.specs.Shared.{is_synchronisation, is_in_blocks, is_pilot_of, is_shared_of, shared_places_of, shared_place_of}
 use Rattle.grid_map.proofs.Spans.{four_places, places_inside, places_apart}
-use Rattle.grid_map.proofs.Regions.{same_group-refl, pcfich_inside, pdcch_inside, pdcch_members}
+use Rattle.grid_map.proofs.Regions.{same_group-refl, pcfich_inside, pdcch_inside, pdcch_found}
 use Rattle.grid_map.proofs.Carried.{group_inside}
 use Rattle.grid_map.proofs.Pieces.{pcfich_place_at, candidate_place_at}
 use Rattle.grid_map.proofs.Indexed.{pdcch_carry}
@@ -149,7 +149,7 @@ module _ (identity cfi : ℕ) (duration : Duration) (resource : Resource) (low :
   -- the groups of the PDCCH are none of the PCFICH
   not_of_indicator : (g : Reg) → is_in groups g ≡ true → is_in (pcfich_groups identity) g ≡ true → ⊥
   not_of_indicator g of taken =
-      let parts = and_parts _ (not (is_in (phich_groups identity duration resource) g)) (sym (pdcch_members identity cfi duration resource g) ∙ of) in
+      let parts = and_parts _ (not (is_in (phich_groups identity duration resource) g)) (sym (pdcch_found identity cfi duration resource g) ∙ of) in
       let free = and_parts (is_in_region cfi g) (not (is_in (pcfich_groups identity) g)) parts.0 in
       false≢true (ap not (sym taken) ∙ free.1)
 

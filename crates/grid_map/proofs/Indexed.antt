@@ -14,12 +14,14 @@ use Rattle.lte_types.specs.declared.resource.Resource.TheVariants.{OneSixth, Hal
 use Rattle.grid_map.specs.declared.Place.{Place}
 use Rattle.grid_map.specs.declared.Reg.{Reg}
 use Rattle.grid_map.specs.Place.{place, same_place}
+use Rattle.grid_map.specs.Broadcast.{pbch_places, pbch_place}
 use Rattle.grid_map.specs.Group.{group, is_group, group_places}
 use Rattle.grid_map.specs.Control.{pcfich_group, pcfich_groups, pcfich_places, pdcch_groups, number_of, quadruplet_at, is_in_region, group_count, element_count}
 use Rattle.grid_map.specs.Candidate.{group_of_quadruplet, quadruplet_group, candidate_places}
-use Rattle.grid_map.specs.Shared.{shared_places_of, shared_place_of, pdsch_places}
+use Rattle.grid_map.specs.Shared.{shared_places_of, shared_place_of}
 use Rattle.grid_map.specs.Laws.{IsIndexed, CarryCandidate}
 use Rattle.grid_map.proofs.Order.{same_place-refl, same_place-true}
+use Rattle.grid_map.proofs.Points.{length-pbch_places, places_apart as points_apart}
 use Rattle.grid_map.proofs.Spans.{four_places, places_rise, places_apart}
 use Rattle.grid_map.proofs.Regions.{pdcch_in_order, pdcch_count, pdcch_inside, pcfich_inside}
 use Rattle.grid_map.proofs.Carried.{group_inside, group_carries}
@@ -45,6 +47,10 @@ indexed count places size once = record {
         cases : (b : Bool) → same_place (get_or places i (place 0 0)) (get_or places k (place 0 0)) ≡ b → b ≡ false
         cases false e = refl
         cases true e = absurd (let same = once i k inside (omega (arith, inside, before)) (same_place-true _ _ e) in omega (arith, same, before))
+
+pub pbch_indexed : (identity : ℕ) → IsIndexed 240 (pbch_places identity)
+unfolding pbch_place
+pbch_indexed identity = indexed 240 (pbch_places identity) (length-pbch_places identity) (points_apart identity)
 
 -- ---- the places of groups
 
@@ -184,6 +190,3 @@ pub shared_indexed : (two : Bool) (identity cfi start blocks : ℕ) →
 unfolding shared_place_of
 shared_indexed two identity cfi start blocks =
     indexed (length (shared_places_of two identity cfi start blocks)) (shared_places_of two identity cfi start blocks) refl (pdsch_once two identity cfi start blocks)
-
-pub pdsch_indexed : (identity cfi start blocks : ℕ) → IsIndexed (length (pdsch_places identity cfi start blocks)) (pdsch_places identity cfi start blocks)
-pdsch_indexed = shared_indexed false

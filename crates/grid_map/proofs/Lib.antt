@@ -1,3 +1,4 @@
+pub mod InOrder
 pub mod Order
 pub mod Points
 pub mod Spans

@@ -1,12 +1,15 @@
 -- The points of the broadcast channel and their places, for every identity.
-use Rattle.std.proofs.Common.{ℕ, ◌+◌, ◌*◌, ◌/◌, ◌%◌, ◌-◌, ◌<◌, ◌≤◌, ◌≡◌, Bool, true, false, nat_lt, if◌then◌else◌, length, slice_get, Some, refl, ap, sym, ◌∙◌, arith}
+use Rattle.std.proofs.Common.{ℕ, ◌+◌, ◌*◌, ◌/◌, ◌%◌, ◌-◌, ◌<◌, ◌≤◌, ◌≡◌, ◌↔◌, Bool, true, false, nat_lt, if◌then◌else◌, List, length, get_or, slice_get, Some, refl, ap, sym, ◌∙◌, arith}
+use Rattle.std.specs.List.{Contains}
 use Rattle.std.proofs.lemmas.Bool.{lt-ltb, le-ltb}
 use Rattle.std.proofs.lemmas.List.Sums.{position_or_len_is, passes_at_first}
 use Rattle.std.proofs.lemmas.Option.{slice_get-get_or}
 use Rattle.grid_map.specs.declared.Place.{Place}
 use Rattle.grid_map.specs.Place.{place, place_number, same_place}
 use Rattle.grid_map.specs.Broadcast.{pbch_places, pbch_place, is_pbch, pbch_index}
-use Rattle.grid_map.proofs.Order.{skip, nth_place, length-free_places, get_or-free_places, in_order, one_to_one, same_place-refl, same_place-true, nth_place-is_free, number_of, number_of-is}
+use Rattle.grid_map.specs.Order.{AreInOrder}
+use Rattle.grid_map.proofs.InOrder.{in_order}
+use Rattle.grid_map.proofs.Order.{skip, nth_place, length-free_places, get_or-free_places, in_order as nth_in_order, one_to_one, same_place-refl, same_place-true, nth_place-is_free, number_of, number_of-is}
 
 shift_fits : (identity : ℕ) → identity % 3 < 3
 shift_fits identity = omega arith
@@ -27,7 +30,7 @@ pub places_rise : (identity i j : ℕ) → i < j → j < 240 → place_number (p
 places_rise identity i j before inside =
     let first = pbch_place-nth identity i (omega arith) in
     let second = pbch_place-nth identity j inside in
-    rw (first, second) (in_order (identity % 3) i j (shift_fits identity) before inside)
+    rw (first, second) (nth_in_order (identity % 3) i j (shift_fits identity) before inside)
 
 pub places_apart : (identity i j : ℕ) → i < 240 → j < 240 → pbch_place identity i ≡ pbch_place identity j → i ≡ j
 places_apart identity i j inside inside' same =
@@ -73,6 +76,29 @@ index_fits identity p carries =
 pub carries_at_index : (identity : ℕ) (p : Place) → pbch_index identity p < 240 → is_pbch identity p ≡ true
 carries_at_index identity p few =
     ap (is_pbch identity) (place_of_index identity p few) ∙ places_inside identity (pbch_index identity p) few
+
+get_or-pbch_places : (identity i : ℕ) (d : Place) → i < 240 → get_or (pbch_places identity) i d ≡ pbch_place identity i
+unfolding pbch_places
+get_or-pbch_places identity i d inside = get_or-free_places (identity % 3) i d (shift_fits identity) inside ∙ sym (pbch_place-nth identity i inside)
+
+pbch_members : (identity : ℕ) (p : Place) → Contains (pbch_places identity) p ↔ (is_pbch identity p ≡ true)
+pbch_members identity p = (there, back)
+  where
+    there : Contains (pbch_places identity) p → is_pbch identity p ≡ true
+    there (i, inside, here) =
+        let few : i < 240 = omega (arith, inside, length-pbch_places identity) in
+        ap (is_pbch identity) (sym here ∙ get_or-pbch_places identity i p few) ∙ places_inside identity i few
+
+    back : is_pbch identity p ≡ true → Contains (pbch_places identity) p
+    back carries =
+        let few = index_fits identity p carries in
+        let size = length-pbch_places identity in
+        (pbch_index identity p, omega (arith, few, size), get_or-pbch_places identity (pbch_index identity p) p few ∙ sym (place_of_index identity p few))
+
+pub pbch_in_order : (identity : ℕ) → AreInOrder place_number (pbch_places identity) 240 (pbch_place identity) (is_pbch identity)
+pbch_in_order identity =
+    in_order place_number (pbch_places identity) 240 (pbch_place identity) (is_pbch identity) (length-pbch_places identity)
+    (slice_get-pbch_places identity) (places_rise identity) (pbch_members identity)
 
 -- ---- the place of a point, as it is computed
 

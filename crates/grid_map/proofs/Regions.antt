@@ -17,11 +17,14 @@ use Rattle.lte_types.specs.declared.duration.Duration.{Duration}
 use Rattle.lte_types.specs.declared.duration.Duration.TheVariants.{Normal, Extended}
 use Rattle.lte_types.specs.declared.resource.Resource.{Resource}
 use Rattle.lte_types.specs.declared.resource.Resource.TheVariants.{OneSixth, Half, One, Two}
+use Rattle.std.proofs.lemmas.Option.{slice_get-get_or}
 use Rattle.grid_map.specs.declared.Reg.{Reg}
 use Rattle.grid_map.specs.Place.{skipping}
 use Rattle.grid_map.specs.Group.{is_group, group, same_group, symbol_groups}
 use Rattle.grid_map.specs.Control.{pcfich_group, is_in, without, pcfich_groups, left_groups, left_count, phich_count, phich_symbol, phich_number, phich_group_in, phich_group, phich_groups}
 use Rattle.grid_map.specs.Control.{numbered, number_of, is_in_region, region_groups, pdcch_groups, phich_inside, group_count}
+use Rattle.grid_map.specs.Order.{AreInOrder}
+use Rattle.grid_map.proofs.InOrder.{members_by, in_order}
 use Rattle.grid_map.proofs.Kept.{any-filter, length-filter_within}
 
 -- ---- what repeats
@@ -229,16 +232,29 @@ numbers_found cfi g = cases (is_in_region cfi g) refl
     cases true e = rw (e, there e) refl
     cases false e = rw e (and-false _)
 
-pub pdcch_members : (identity cfi : ℕ) (duration : Duration) (resource : Resource) (g : Reg) →
+pub pdcch_found : (identity cfi : ℕ) (duration : Duration) (resource : Resource) (g : Reg) →
     is_in (pdcch_groups identity cfi duration resource) g
     ≡ (is_in_region cfi g && not (is_in (pcfich_groups identity) g) && not (is_in (phich_groups identity duration resource) g))
 unfolding pdcch_groups region_groups
-pdcch_members identity cfi duration resource g =
+pdcch_found identity cfi duration resource g =
     any-filter same_group same_group-true (λ h. not (is_in (phich_groups identity duration resource) h)) g _
     ∙ ap (λ (b : Bool). b && not (is_in (phich_groups identity duration resource) g))
     (any-filter same_group same_group-true (λ h. not (is_in (pcfich_groups identity) h)) g _
     ∙ ap (λ (b : Bool). b && not (is_in (pcfich_groups identity) g))
     (any-filter same_group same_group-true (is_in_region cfi) g (values_below 288 numbered) ∙ numbers_found cfi g))
+
+pub groups_in_order : (identity cfi : ℕ) (duration : Duration) (resource : Resource) → 1 ≤ cfi → cfi ≤ 3 →
+    AreInOrder number_of (pdcch_groups identity cfi duration resource) (group_count cfi duration resource)
+    (λ i. get_or (pdcch_groups identity cfi duration resource) i (group 0 0))
+    (λ g. is_in_region cfi g && not (is_in (pcfich_groups identity) g) && not (is_in (phich_groups identity duration resource) g))
+groups_in_order identity cfi duration resource low high =
+    let count = pdcch_count identity cfi duration resource low high in
+    in_order number_of (pdcch_groups identity cfi duration resource) (group_count cfi duration resource)
+    (λ i. get_or (pdcch_groups identity cfi duration resource) i (group 0 0))
+    (λ g. is_in_region cfi g && not (is_in (pcfich_groups identity) g) && not (is_in (phich_groups identity duration resource) g)) count
+    (λ i l. slice_get-get_or (pdcch_groups identity cfi duration resource) i (group 0 0) (omega (arith, l, count)))
+    (λ i j l m. pdcch_in_order identity cfi duration resource i j l (omega (arith, m, count)))
+    (members_by same_group same_group-true same_group-refl _ _ (pdcch_found identity cfi duration resource))
 
 -- ---- the groups are collected one after the other
 

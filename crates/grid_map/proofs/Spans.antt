@@ -1,13 +1,18 @@
 -- The places of a resource-element group.
-use Rattle.std.proofs.Common.{ℕ, zero, suc, ◌+◌, ◌*◌, ◌/◌, ◌%◌, ◌<◌, ◌≤◌, ◌≡◌, ◌∷◌, [], Bool, true, false, not, ◌&&◌, cond, nat_eq, List, filter, length, get_or, refl, ap, ap₂, sym, ◌∙◌, subst, arith}
-use Rattle.std.specs.List.{All, Contains}
+use Rattle.std.proofs.Common.{ℕ, zero, suc, ◌+◌, ◌*◌, ◌/◌, ◌%◌, ◌<◌, ◌≤◌, ◌≡◌, ◌↔◌, ◌∷◌, [], Bool, true, false, not, ◌&&◌, ◌||◌, cond, nat_eq, nat_le, nat_lt, List, filter, map, length, get_or, refl, ap, ap₂, sym, ◌∙◌, subst, arith}
+use Rattle.std.specs.List.{All, Contains, list_any, range_with_len}
 use Rattle.std.proofs.lemmas.Bool.{false≢true}
 use Rattle.std.proofs.lemmas.Bool.Decides.{nat_tests}
 use Rattle.std.proofs.lemmas.List.Elements.{All-contains, All-contains_itself, All-weaker, filter_passes}
+use Rattle.std.proofs.lemmas.Option.{slice_get-get_or}
 use Rattle.grid_map.specs.declared.Place.{Place}
 use Rattle.grid_map.specs.declared.Reg.{Reg}
-use Rattle.grid_map.specs.Place.{place, skipping}
-use Rattle.grid_map.specs.Group.{group, span, spanned, is_group, is_kept, group_places}
+use Rattle.grid_map.specs.Place.{place, same_place, skipping}
+use Rattle.grid_map.specs.Group.{group, span, spanned, is_group, is_kept, is_of_group, group_places}
+use Rattle.grid_map.specs.Order.{AreInOrder}
+use Rattle.grid_map.proofs.InOrder.{members_by, in_order}
+use Rattle.grid_map.proofs.Kept.{any-filter}
+use Rattle.grid_map.proofs.Order.{same_place-refl, same_place-true}
 
 abbrev pub four : {A : Type 0} → (ℕ → A) → List A
 four f = f 0 ∷ f 1 ∷ f 2 ∷ f 3 ∷ []
@@ -183,3 +188,40 @@ pub all_inside : (identity : ℕ) (g : Reg) → is_group g ≡ true → All (λ 
 all_inside identity g is =
     All-weaker (Contains (group_places identity g)) (λ (p : Place). (p.symbol ≡ g.symbol) × (p.k < 72))
     (λ p has. let inside = places_inside identity g p is has in (inside.0, inside.1)) (group_places identity g) (All-contains_itself (group_places identity g))
+
+-- ---- the places of a group are those that it spans and that are not kept
+
+any_in_range : (symbol first n : ℕ) (p : Place) → list_any (same_place p) (map (place symbol) (range_with_len first n))
+    ≡ (nat_eq p.symbol symbol && nat_le first p.k && nat_lt p.k (first + n))
+any_in_range symbol first zero p = none (nat_eq p.symbol symbol)
+  where
+    none : (e : Bool) → false ≡ (e && nat_le first p.k && nat_lt p.k (first + 0))
+    none false = refl
+    none true = grind (arith, nat_tests)
+any_in_range symbol first (suc n) p =
+    ap (λ (b : Bool). same_place p (place symbol first) || b) (any_in_range symbol (first + 1) n p) ∙ more (nat_eq p.symbol symbol)
+  where
+    more : (e : Bool) → (e && nat_eq p.k first || (e && nat_le (first + 1) p.k && nat_lt p.k (first + 1 + n)))
+        ≡ (e && nat_le first p.k && nat_lt p.k (first + suc n))
+    more false = refl
+    more true = grind (arith, nat_tests)
+
+group_found : (identity : ℕ) (g : Reg) (p : Place) → list_any (same_place p) (group_places identity g) ≡ is_of_group identity g p
+unfolding group_places
+group_found identity g p =
+    any-filter same_place same_place-true (λ q. not (is_kept identity q)) p (spanned g)
+    ∙ ap (λ (b : Bool). b && not (is_kept identity p)) (any_in_range g.symbol g.first (span g.symbol) p)
+
+group_members : (identity : ℕ) (g : Reg) (p : Place) → Contains (group_places identity g) p ↔ (is_of_group identity g p ≡ true)
+group_members identity g = members_by same_place same_place-true same_place-refl (group_places identity g) (is_of_group identity g) (group_found identity g)
+
+pub group_in_order : (identity : ℕ) (g : Reg) → is_group g ≡ true →
+    AreInOrder (λ p. p.k) (group_places identity g) 4 (λ i. get_or (group_places identity g) i (place 0 0)) (is_of_group identity g)
+group_in_order identity g is =
+    let four = four_places identity g is in
+    in_order (λ p. p.k) (group_places identity g) 4 (λ i. get_or (group_places identity g) i (place 0 0)) (is_of_group identity g) four
+    (λ i l. slice_get-get_or (group_places identity g) i (place 0 0) (omega (arith, l, four)))
+    (λ i j l m. places_rise identity g i j is l m) (group_members identity g)
+
+pub group_ends : (identity : ℕ) (g : Reg) (p : Place) → is_group g ≡ true → is_of_group identity g p ≡ true → p.k < 72
+group_ends identity g p is of = (places_inside identity g p is ((group_members identity g p).1 of)).1

@@ -1,6 +1,6 @@
 -- The places of the shared channel, symbol by symbol.
 use Rattle.std.proofs.Common.{ℕ, zero, suc, ◌+◌, ◌-◌, ◌*◌, ◌/◌, ◌%◌, ◌<◌, ◌≤◌, ◌≡◌, Bool, true, false, not, ◌&&◌, ◌||◌, cond, nat_eq, nat_lt, List, [], ◌++◌, filter, map, length, get_or, slice_get, Some, refl, ap, ap₂, sym, ◌∙◌, subst, ◌⊎◌, inl, inr, arith, length-append}
-use Rattle.std.specs.List.{AllPairs, list_any, range_with_len, flat_map}
+use Rattle.std.specs.List.{AllPairs, Contains, list_any, range_with_len, flat_map}
 use Rattle.std.proofs.Math.ListN.{get_or-append}
 use Rattle.std.proofs.lemmas.List.{get_or-append_right, length-map, get_or-map}
 use Rattle.std.proofs.lemmas.Bool.{eqb-true, lt-ltb, and_parts, false≢true, cases_lt}
@@ -8,6 +8,7 @@ use Rattle.std.proofs.lemmas.Bool.Decides.{nat_tests}
 use Rattle.std.proofs.lemmas.List.Elements.{All-contains, Contains-get_or, filter_passes}
 use Rattle.std.proofs.lemmas.Option.{slice_get-get_or}
 use Rattle.std.proofs.lemmas.List.Folds.{list_any_at}
+use Rattle.std.proofs.lemmas.Map.Views.{Contains-from_any}
 use Rattle.std.proofs.lemmas.List.Kept.{AllPairs-filter}
 use Rattle.finite.specs.Lists.{values_below}
 use Rattle.finite.proofs.Lists.{values_below_at, values_below-length}
@@ -16,9 +17,11 @@ use Rattle.finite.proofs.Tests.{every_below_at}
 use Rattle.crs.specs.Reference.{port_0, has_pilots, is_reference, first_subcarrier}
 use Rattle.crs.proofs.Values.{both_ports}
 use Rattle.grid_map.specs.declared.Place.{Place}
-use Rattle.grid_map.specs.Place.{place, symbol_places, places_of, place_number, same_place, skipping}
+use Rattle.grid_map.specs.Place.{place, symbol_places, places_of, is_in_grid, place_number, same_place, skipping}
 use Rattle.grid_map.specs.Shared.{is_synchronisation, is_in_blocks, is_pilot_of, is_shared_of, shared_places_of, shared_place_of, block_places_of}
 use Rattle.grid_map.specs.Steps.{has_references, room, offset}
+use Rattle.grid_map.specs.Order.{AreInOrder}
+use Rattle.grid_map.proofs.InOrder.{members_by, in_order}
 use Rattle.grid_map.proofs.Kept.{filter-flat_map, filter-map, filter-same, filter-none, any-filter}
 use Rattle.grid_map.proofs.Order.{same_place-refl, same_place-true}
 
@@ -298,6 +301,26 @@ pdsch_count two identity zero start blocks low high few = absurd (omega arith)
 pdsch_count two identity (suc zero) start blocks low high few = absurd (omega arith)
 pdsch_count two identity (suc (suc (suc (suc cfi)))) start blocks low high few = absurd (omega arith)
 
+-- their number is even, and with two ports at most 576
+pub even_places : (two : Bool) (cfi blocks : ℕ) → (block_places_of two cfi * blocks) % 2 ≡ 0
+even_places true cfi blocks = cases (nat_eq cfi 2)
+  where
+    cases : (first : Bool) → (cond first 96 84 * blocks) % 2 ≡ 0
+    cases true = omega arith
+    cases false = omega arith
+even_places false cfi blocks = cases (nat_eq cfi 2)
+  where
+    cases : (first : Bool) → (cond first 102 90 * blocks) % 2 ≡ 0
+    cases true = omega arith
+    cases false = omega arith
+
+pub few_of_two : (cfi blocks : ℕ) → blocks ≤ 6 → block_places_of true cfi * blocks ≤ 576
+few_of_two cfi blocks few = cases (nat_eq cfi 2)
+  where
+    cases : (first : Bool) → cond first 96 84 * blocks ≤ 576
+    cases true = omega arith
+    cases false = omega arith
+
 -- ---- the search for a point: point i is number `left` of those from a symbol on
 
 pub record IsAhead (two : Bool) (identity cfi start blocks i symbol left : ℕ) : Type 0 where
@@ -384,12 +407,33 @@ places_found symbol k l m =
     rw places_are (list_any_at (same_place (place symbol k)) (values_below 1008 (λ n. place (n / 72) (n % 72))) n (place 0 0)
     (omega (arith, values_below-length 1008 (λ n. place (n / 72) (n % 72)), small)) (ap (same_place (place symbol k)) (here ∙ back) ∙ same_place-refl (place symbol k)))
 
-pub pdsch_members : (two : Bool) (identity cfi start blocks symbol k : ℕ) → symbol < 14 → k < 72 →
-    list_any (same_place (place symbol k)) (shared_places_of two identity cfi start blocks) ≡ is_shared_of two identity cfi start blocks (place symbol k)
+-- a place is in the grid
+placed : (p : Place) (n : ℕ) → n < 1008 → place (n / 72) (n % 72) ≡ p → is_in_grid p ≡ true
+placed p n l here = subst (λ (q : Place). is_in_grid q ≡ true) here (grind (arith, nat_tests))
+
+grid_found : (p : Place) → list_any (same_place p) (places_of 0 14) ≡ is_in_grid p
+grid_found p = cases (is_in_grid p) refl
+  where
+    inside : Contains (places_of 0 14) p → is_in_grid p ≡ true
+    inside has =
+        let (n, l, here) = subst (λ (ps : List Place). Contains ps p) places_are has in
+        let small : n < 1008 = omega (arith, l, values_below-length 1008 (λ n. place (n / 72) (n % 72))) in
+        placed p n small (sym (values_below_at (λ n. place (n / 72) (n % 72)) 1008 n p small) ∙ here)
+
+    none : is_in_grid p ≡ false → (b : Bool) → list_any (same_place p) (places_of 0 14) ≡ b → b ≡ false
+    none out false e = refl
+    none out true e = absurd (false≢true (sym out ∙ inside (Contains-from_any same_place-true p (places_of 0 14) e)))
+
+    cases : (b : Bool) → is_in_grid p ≡ b → list_any (same_place p) (places_of 0 14) ≡ b
+    cases true e = places_found p.symbol p.k (grind (arith, nat_tests)) (grind (arith, nat_tests))
+    cases false e = none e (list_any (same_place p) (places_of 0 14)) refl
+
+shared_found : (two : Bool) (identity cfi start blocks : ℕ) (p : Place) →
+    list_any (same_place p) (shared_places_of two identity cfi start blocks) ≡ (is_in_grid p && is_shared_of two identity cfi start blocks p)
 unfolding shared_places_of
-pdsch_members two identity cfi start blocks symbol k l m =
-    any-filter same_place same_place-true (is_shared_of two identity cfi start blocks) (place symbol k) (places_of 0 14)
-    ∙ ap (λ (b : Bool). b && is_shared_of two identity cfi start blocks (place symbol k)) (places_found symbol k l m)
+shared_found two identity cfi start blocks p =
+    any-filter same_place same_place-true (is_shared_of two identity cfi start blocks) p (places_of 0 14)
+    ∙ ap (λ (b : Bool). b && is_shared_of two identity cfi start blocks p) (grid_found p)
 
 pub pdsch_item : (two : Bool) (identity cfi start blocks i : ℕ) → i < length (shared_places_of two identity cfi start blocks) →
     slice_get (shared_places_of two identity cfi start blocks) i ≡ Some (shared_place_of two identity cfi start blocks i)
@@ -402,3 +446,14 @@ unfolding shared_place_of shared_places_of
 pdsch_carries two identity cfi start blocks i l =
     All-contains (λ (p : Place). is_shared_of two identity cfi start blocks p ≡ true) (filter (is_shared_of two identity cfi start blocks) (places_of 0 14)) _
     (filter_passes (is_shared_of two identity cfi start blocks) (places_of 0 14)) (Contains-get_or _ i (place 0 0) l)
+
+pub shared_in_order : (two : Bool) (identity cfi start blocks : ℕ) → 2 ≤ cfi → cfi ≤ 3 → start + blocks ≤ 6 →
+    AreInOrder place_number (shared_places_of two identity cfi start blocks) (block_places_of two cfi * blocks)
+    (shared_place_of two identity cfi start blocks) (λ p. is_in_grid p && is_shared_of two identity cfi start blocks p)
+shared_in_order two identity cfi start blocks low high few =
+    let count = pdsch_count two identity cfi start blocks low high few in
+    in_order place_number (shared_places_of two identity cfi start blocks) (block_places_of two cfi * blocks)
+    (shared_place_of two identity cfi start blocks) (λ p. is_in_grid p && is_shared_of two identity cfi start blocks p) count
+    (λ i l. pdsch_item two identity cfi start blocks i (omega (arith, l, count)))
+    (λ i j l m. pdsch_in_order two identity cfi start blocks i j l (omega (arith, m, count)))
+    (members_by same_place same_place-true same_place-refl _ _ (shared_found two identity cfi start blocks))

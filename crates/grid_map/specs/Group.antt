@@ -1,6 +1,6 @@
 -- The resource-element groups of the control region (TS 36.211 section 6.2.4), which has the first
 -- symbols of a subframe.
-use Rattle.std.specs.Prelude.{ℕ, ◌*◌, ◌/◌, ◌%◌, Bool, not, ◌&&◌, nat_eq, nat_lt, if◌then◌else◌, List, map, filter}
+use Rattle.std.specs.Prelude.{ℕ, ◌+◌, ◌*◌, ◌/◌, ◌%◌, Bool, not, ◌&&◌, nat_eq, nat_lt, nat_le, if◌then◌else◌, List, map, filter}
 use Rattle.std.specs.List.{range_with_len}
 use Rattle.finite.specs.Lists.{values_below}
 use Rattle.grid_map.specs.declared.Place.{Place}
@@ -38,3 +38,8 @@ spanned g = map (place g.symbol) (range_with_len g.first (span g.symbol))
 -- the places of a group, in the order of subcarriers
 unfoldable pub group_places : ℕ → Reg → List Place
 group_places identity g = filter (λ p. not (is_kept identity p)) (spanned g)
+
+-- a place is one of those that a group spans and not kept
+abbrev pub is_of_group : ℕ → Reg → Place → Bool
+is_of_group identity g p =
+    nat_eq p.symbol g.symbol && nat_le g.first p.k && nat_lt p.k (g.first + span g.symbol) && not (is_kept identity p)

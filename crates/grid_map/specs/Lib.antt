@@ -7,3 +7,4 @@ pub mod Shared
 pub mod Steps
 pub mod Scrambling
 pub mod Laws
+pub mod Order

@@ -15,6 +15,10 @@ symbol_places symbol = map (place symbol) (range_with_len 0 72)
 unfoldable pub places_of : ℕ → ℕ → List Place
 places_of first count = flat_map symbol_places (range_with_len first count)
 
+-- a place of the grid
+abbrev pub is_in_grid : Place → Bool
+is_in_grid p = nat_lt p.symbol 14 && nat_lt p.k 72
+
 -- the number of a place in that order
 abbrev pub place_number : Place → ℕ
 place_number p = 72 * p.symbol + p.k

@@ -37,17 +37,3 @@ shared_place_of two identity cfi start blocks i = slice_index_or (shared_places_
 abbrev pub block_places_of : Bool → ℕ → ℕ
 block_places_of false cfi = if nat_eq cfi 2 then 102 else 90
 block_places_of true cfi = if nat_eq cfi 2 then 96 else 84
-
--- ---- with one antenna port
-
-abbrev pub is_pdsch : ℕ → ℕ → ℕ → ℕ → Place → Bool
-is_pdsch identity cfi start blocks p = is_shared_of false identity cfi start blocks p
-
-abbrev pub pdsch_places : ℕ → ℕ → ℕ → ℕ → List Place
-pdsch_places identity cfi start blocks = shared_places_of false identity cfi start blocks
-
-abbrev pub pdsch_place : ℕ → ℕ → ℕ → ℕ → ℕ → Place
-pdsch_place identity cfi start blocks i = shared_place_of false identity cfi start blocks i
-
-abbrev pub block_places : ℕ → ℕ
-block_places cfi = block_places_of false cfi

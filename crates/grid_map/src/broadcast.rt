@@ -1,9 +1,11 @@
 //! The places of the physical broadcast channel.
 
-ghost use Rattle.std.specs.Prelude.{◌≡◌, ◌+◌, ◌<◌, ◌≤◌, ◌↔◌, ℕ, All, length, slice_get, IsTrue};
+ghost use Rattle.std.specs.Prelude.{◌≡◌, ◌<◌, ◌≤◌, ◌↔◌, ℕ, All, slice_get, IsTrue};
 ghost use Rattle.grid_map.specs.declared.Place.{Place};
 ghost use Rattle.grid_map.specs.Place.{place_number};
 ghost use Rattle.grid_map.specs.Broadcast.{pbch_places, pbch_place, is_pbch, pbch_index};
+ghost use Rattle.grid_map.specs.Order.{AreInOrder};
+ghost use Rattle.grid_map.specs.Laws.{IsIndexed};
 
 use crate::{Place, skipping};
 use lte_types::CellId;
@@ -50,18 +52,9 @@ pub fn pbch_places(id: CellId) -> [Place; 240]
 /// The broadcast channel has 240 places, subcarriers first and then symbols, each once. Its places
 /// and their numbers determine each other.
 pub fn pbch_order()
-    ensures count { (identity : ℕ) → length (pbch_places identity) ≡ 240 }
-    ensures in_order { (identity i j : ℕ) → i < j → j < 240 →
-        place_number (pbch_place identity i) < place_number (pbch_place identity j) }
-    ensures one_to_one { (identity i j : ℕ) → i < 240 → j < 240 →
-        pbch_place identity i ≡ pbch_place identity j → i ≡ j }
-
-    ensures inside { (identity i : ℕ) → i < 240 →
-        IsTrue (is_pbch identity (pbch_place identity i)) }
-    ensures index { (identity i : ℕ) → i < 240 →
-        pbch_index identity (pbch_place identity i) ≡ i }
-    ensures found { (identity : ℕ) (p : Place) → IsTrue (is_pbch identity p) →
-        pbch_place identity (pbch_index identity p) ≡ p }
+    ensures order { (identity : ℕ) →
+        AreInOrder place_number (pbch_places identity) 240 (pbch_place identity) (is_pbch identity) }
+    ensures indexed { (identity : ℕ) → IsIndexed 240 (pbch_places identity) }
     ensures carries { (identity : ℕ) (p : Place) →
         IsTrue (is_pbch identity p) ↔ (pbch_index identity p < 240) }
 {}

@@ -1,6 +1,6 @@
 //! The groups of the control region that carry the PCFICH, the PHICH and the PDCCH.
 
-ghost use Rattle.std.specs.Prelude.{◌≡◌, ◌+◌, ◌*◌, ◌/◌, ◌%◌, ◌<◌, ◌≤◌, ◌&&◌, ℕ, All, IsTrue, not, length, slice_index_or, nat_eq, if◌then◌else◌};
+ghost use Rattle.std.specs.Prelude.{◌≡◌, ◌+◌, ◌*◌, ◌/◌, ◌%◌, ◌<◌, ◌≤◌, ◌&&◌, ℕ, All, IsTrue, not, slice_index_or, nat_eq, if◌then◌else◌};
 ghost use Rattle.arrayvec.specs.ArrayVec.{array_vec_len};
 ghost use Rattle.lte_types.specs.declared.duration.Duration.{Duration};
 ghost use Rattle.lte_types.specs.declared.resource.Resource.{Resource};
@@ -9,7 +9,8 @@ ghost use Rattle.grid_map.specs.declared.Place.{Place};
 ghost use Rattle.grid_map.specs.Place.{place, skipping};
 ghost use Rattle.grid_map.specs.Group.{group, is_group};
 ghost use Rattle.grid_map.specs.Control.{is_in, pcfich_group, pcfich_groups, pcfich_places, left_groups, phich_count, phich_symbol, phich_group, phich_group_in, phich_groups};
-ghost use Rattle.grid_map.specs.Control.{is_in_region, region_groups, number_of, numbered, pdcch_groups, group_count, element_count};
+ghost use Rattle.grid_map.specs.Control.{is_in_region, number_of, numbered, pdcch_groups, group_count, element_count};
+ghost use Rattle.grid_map.specs.Order.{AreInOrder};
 
 use crate::{Place, Reg, reg_places, skipping};
 use arrayvec::ArrayVec;
@@ -212,17 +213,12 @@ pub fn control_groups()
     ensures pcfich_apart { (identity i j : ℕ) → i < 4 → j < 4 →
         pcfich_group identity i ≡ pcfich_group identity j → i ≡ j }
 
-    ensures in_order { (identity cfi : ℕ) (duration : Duration) (resource : Resource) (i j : ℕ) →
-        i < j → j < length (pdcch_groups identity cfi duration resource) →
-        number_of (slice_index_or (pdcch_groups identity cfi duration resource) i (group 0 0))
-        < number_of (slice_index_or (pdcch_groups identity cfi duration resource) j (group 0 0)) }
-    ensures members { (identity cfi : ℕ) (duration : Duration) (resource : Resource) (g : Reg) →
-        is_in (pdcch_groups identity cfi duration resource) g
-        ≡ (is_in_region cfi g && not (is_in (pcfich_groups identity) g)
+    ensures order { (identity cfi : ℕ) (duration : Duration) (resource : Resource) → 1 ≤ cfi → cfi ≤ 3 →
+        AreInOrder number_of (pdcch_groups identity cfi duration resource) (group_count cfi duration resource)
+        (λ i. slice_index_or (pdcch_groups identity cfi duration resource) i (group 0 0))
+        (λ g. is_in_region cfi g && not (is_in (pcfich_groups identity) g)
         && not (is_in (phich_groups identity duration resource) g)) }
 
-    ensures count { (identity cfi : ℕ) (duration : Duration) (resource : Resource) → 1 ≤ cfi → cfi ≤ 3 →
-        length (pdcch_groups identity cfi duration resource) ≡ group_count cfi duration resource }
     ensures two_elements { (duration : Duration) (resource : Resource) → element_count 1 duration resource ≡ 2 }
     ensures four_elements { (cfi : ℕ) (duration : Duration) (resource : Resource) → 2 ≤ cfi → cfi ≤ 3 →
         4 ≤ element_count cfi duration resource }

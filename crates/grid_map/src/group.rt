@@ -1,11 +1,12 @@
 //! The places of a resource-element group.
 
-ghost use Rattle.std.specs.Prelude.{◌≡◌, ◌+◌, ◌*◌, ◌/◌, ◌%◌, ◌<◌, ℕ, All, IsTrue, length, slice_index_or, nat_eq, if◌then◌else◌};
+ghost use Rattle.std.specs.Prelude.{◌≡◌, ◌+◌, ◌*◌, ◌/◌, ◌%◌, ◌<◌, ℕ, All, IsTrue, slice_index_or, nat_eq, if◌then◌else◌};
 ghost use Rattle.std.specs.List.{Contains};
 ghost use Rattle.grid_map.specs.declared.Place.{Place};
 ghost use Rattle.grid_map.specs.declared.Reg.{Reg};
 ghost use Rattle.grid_map.specs.Place.{place, skipping};
-ghost use Rattle.grid_map.specs.Group.{is_group, is_kept, group_places};
+ghost use Rattle.grid_map.specs.Group.{is_group, is_of_group, group_places};
+ghost use Rattle.grid_map.specs.Order.{AreInOrder};
 
 use crate::{Place, Reg, skipping};
 use lte_types::CellId;
@@ -44,15 +45,14 @@ fn place_in(id: CellId, reg: Reg, i: usize) -> Place
     }
 }
 
-/// A group has four places in the order of subcarriers, all in its symbol and none kept for reference
+/// A group has four places in the order of subcarriers, those that it spans and that are not kept for reference
 /// signals, and no place is in two groups.
 pub fn places_of_groups()
-    ensures count { (identity : ℕ) (g : Reg) → IsTrue (is_group g) → length (group_places identity g) ≡ 4 }
-    ensures in_order { (identity : ℕ) (g : Reg) (i j : ℕ) → IsTrue (is_group g) → i < j → j < 4 →
-        (slice_index_or (group_places identity g) i (place 0 0)).k <
-        (slice_index_or (group_places identity g) j (place 0 0)).k }
-    ensures inside { (identity : ℕ) (g : Reg) (p : Place) → IsTrue (is_group g) → Contains (group_places identity g) p →
-        (p.symbol ≡ g.symbol) × (p.k < 72) × ¬ IsTrue (is_kept identity p) }
+    ensures order { (identity : ℕ) (g : Reg) → IsTrue (is_group g) →
+        AreInOrder (λ p. p.k) (group_places identity g) 4
+        (λ i. slice_index_or (group_places identity g) i (place 0 0)) (is_of_group identity g) }
+    ensures inside { (identity : ℕ) (g : Reg) (p : Place) → IsTrue (is_group g) →
+        IsTrue (is_of_group identity g p) → p.k < 72 }
     ensures apart { (identity : ℕ) (g h : Reg) (p : Place) → IsTrue (is_group g) → IsTrue (is_group h) →
         Contains (group_places identity g) p → Contains (group_places identity h) p → g ≡ h }
 {}

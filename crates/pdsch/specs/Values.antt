@@ -1,9 +1,9 @@
 -- The soft values of the physical downlink shared channel that carries SystemInformationBlockType1, in
 -- subframe 5, of which both slots were seen (TS 36.211 sections 6.3.1 and 6.4).
-use Rattle.std.specs.Prelude.{ℕ, nat_lt, if◌then◌else◌, List, ℤ}
+use Rattle.std.specs.Prelude.{ℕ, false, nat_lt, if◌then◌else◌, List, ℤ}
 use Rattle.std.specs.List.{flat_map}
 use Rattle.grid_map.specs.declared.Place.{Place}
-use Rattle.grid_map.specs.Shared.{pdsch_places}
+use Rattle.grid_map.specs.Shared.{shared_places_of}
 use Rattle.grid_map.specs.Scrambling.{pdsch_c_init}
 use Rattle.dci.specs.Fields.{system_information_rnti}
 use Rattle.soft_bits.specs.Soft.{SeenSlot}
@@ -22,4 +22,4 @@ subframe_values first second places = flat_map (λ p. values_at (slot_with first
 unfoldable pub shared_values : SeenSlot → SeenSlot → ℕ → ℕ → ℕ → List ℤ
 shared_values first second cfi start blocks =
     descrambled (pdsch_c_init first.identity first.number system_information_rnti) 0
-    (subframe_values first second (pdsch_places first.identity cfi start blocks))
+    (subframe_values first second (shared_places_of false first.identity cfi start blocks))

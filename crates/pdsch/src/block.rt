@@ -1,15 +1,15 @@
 //! The values of a block.
 
-ghost use Rattle.std.specs.Prelude.{◌≡◌, ◌*◌, ◌<◌, ◌≤◌, length, take, drop};
+ghost use Rattle.std.specs.Prelude.{◌≡◌, ◌*◌, ◌<◌, ◌≤◌, false, length, take, drop};
 ghost use Rattle.finite.specs.Sizes.{AllWithin};
-ghost use Rattle.grid_map.specs.Shared.{block_places};
+ghost use Rattle.grid_map.specs.Shared.{block_places_of};
 ghost use Rattle.soft_bits.specs.Places.{values_at};
 ghost use Rattle.dci.specs.Format1A.{IsGrant};
 ghost use Rattle.pdsch.specs.Values.{slot_with, shared_values};
 
 use dci::{Grant, SI_RNTI};
-use grid_map::{Place, pdsch, pdsch_c_init};
-use lte_types::Cfi;
+use grid_map::{Place, pdsch_c_init, shared_count, shared_place};
+use lte_types::{Assignment, Cfi};
 use soft_bits::{Slot, descramble, fill_soft};
 
 /// The most values that a grant has: those of six blocks with indicator 2.
@@ -34,32 +34,42 @@ pub fn values(
     requires cell { second.now.identity ≡ first.now.identity }
     requires cfi { 2 ≤ cfi }
     requires grant { IsGrant grant.now }
-    ensures count { result ≡ 2 * (block_places cfi * grant.now.blocks) }
+    ensures count { result ≡ 2 * (block_places_of false cfi * grant.now.blocks) }
     ensures values { take result out.new ≡ shared_values first.now second.now cfi grant.now.start grant.now.blocks }
     ensures sizes { AllWithin 127 (take result out.new) }
     ensures rest { drop result out.new ≡ drop result out.old }
 {
-    let places = places_of(cfi, grant.blocks);
+    match Assignment::new(cfi, grant.start, grant.blocks) {
+        Some(assignment) => fill_values(first, second, &assignment, out),
+        None => unreachable!(),
+    }
+}
+
+// The same, of the assigned blocks.
+fn fill_values(
+    first: &Slot,
+    second: &Slot,
+    assignment: &Assignment,
+    out: &mut [i16; MOST_VALUES],
+) -> usize
+    requires first { first.now.number ≡ 10 }
+    requires second { second.now.number ≡ 11 }
+    requires cell { second.now.identity ≡ first.now.identity }
+    ensures count { result ≡ 2 * (block_places_of false assignment.now.cfi * assignment.now.blocks) }
+    ensures values { take result out.new
+        ≡ shared_values first.now second.now assignment.now.cfi assignment.now.start assignment.now.blocks }
+    ensures sizes { AllWithin 127 (take result out.new) }
+    ensures rest { drop result out.new ≡ drop result out.old }
+{
+    let places = shared_count(false, assignment);
     let count = 2 * places;
     for i in 0..places {
-        let place = pdsch(first.id(), cfi, grant.start, grant.blocks, i);
+        let place = shared_place(false, first.id(), assignment, i);
         fill_place(first, second, place, &mut out[2 * i..2 * i + 2]);
     }
     let c_init = pdsch_c_init(first.id(), first.number(), SI_RNTI);
     descramble(c_init, 0, &mut out[..count]);
     count
-}
-
-// How many places so many blocks have.
-fn places_of(cfi: Cfi, blocks: u8) -> usize
-    requires cfi { 2 ≤ cfi }
-    requires few { blocks ≤ 6 }
-    ensures value { result ≡ block_places cfi * blocks }
-    ensures bound { 2 * result ≤ 1224 }
-    ensures known { cfi ≤ 3 }
-{
-    let places = if cfi.value() == 2 { 102 } else { 90 };
-    places * blocks as usize
 }
 
 // Writes both values of a place.

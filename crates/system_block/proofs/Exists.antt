@@ -27,7 +27,7 @@ use Rattle.system_block.specs.Block.{IsBlock, BlockSays, Tells}
 use Rattle.system_block.specs.declared.reading.Attempt.{Attempt}
 use Rattle.system_block.specs.Attempt.{Follows, IsAttempt, Reads}
 use Rattle.system_block.specs.Laws.{IsSomeAttempt, IsSomeAnswer, IsReadValid}
-use Rattle.system_block.proofs.Rows.{sized}
+use Rattle.dci.proofs.SizeRows.{size_fits}
 
 -- ---- the control information
 
@@ -76,7 +76,7 @@ by_block values grant (Some bits) is =
 
 some_text : (values : List ℤ) (grant : Grant) → IsGrant grant → (answer : Result Sib1 Sib1Reason) × Tells values grant answer
 some_text values grant is =
-    let (row, is_row, size) = sized grant is in
+    let (row, is_row, size) = size_fits grant.mcs grant.column grant.size is.size_is in
     by_block values grant (block row (summed row.k grant.rv values)) (record { row = row; is_row = is_row; size = size; tells = refl })
 
 -- ---- the attempt

@@ -7,9 +7,9 @@ use turbo_dec::Work;
 /// The working memory of both decoders. What it holds between two calls means nothing.
 #[derive(Drop)]
 pub struct Decoders {
-    /// That of the tail-biting code.
+    /// The trellis of the tail-biting code.
     pub trellis: Trellis,
-    /// That of the turbo code.
+    /// The working memory of the turbo code.
     pub turbo: Work,
 }
 
