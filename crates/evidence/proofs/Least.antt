@@ -10,31 +10,26 @@ use Rattle.lte_types.specs.declared.entry.Entry.{Entry}
 use Rattle.pss_search.specs.Hits.{hits_of}
 use Rattle.pss_search.specs.Laws.{IsHitOf, IsEarlier}
 use Rattle.pss_search.proofs.Listed.{list_is_right, list_is_in_order}
-use Rattle.explain.specs.Entries.{identity_at, start_at, IsInList}
-use Rattle.explain.specs.declared.places.Place.{Place}
-use Rattle.explain.specs.Places.{place_at}
+use Rattle.lte_types.specs.CellPlace.{Place}
+use Rattle.explain.specs.Entries.{identity_at, start_at, place_at, place_of, IsInList}
 use Rattle.explain.proofs.Listed.{is_sound}
 use Rattle.evidence.specs.declared.told.ToldHit.{ToldHit}
 use Rattle.evidence.specs.Evidence.{IsToldAt, IsHitOfEntry, told_hit, told_hits}
 
--- the place of an entry
-abbrev pub place_of_entry : Entry → Place
-place_of_entry entry = record { id = entry.id; start = entry.start }
-
 same_place : (recording : List Sample) (entry : Entry) (hit : Hit) → identity_at recording hit ≡ entry.id → start_at recording hit ≡ entry.start →
-    place_at recording hit ≡ place_of_entry entry
+    place_at recording hit ≡ place_of entry
 same_place recording entry hit id start = cc
 
 -- where a hit of the recording that tells the entry stands in the list with what they tell
 told_there : (recording : List Sample) (entry : Entry) (hit : Hit) (k : ℕ) → k < length (hits_of recording) → get_or (hits_of recording) k hit ≡ hit →
     identity_at recording hit ≡ entry.id → start_at recording hit ≡ entry.start →
-    (get_or (told_hits recording) k (told_hit recording hit)).place ≡ place_of_entry entry
+    (get_or (told_hits recording) k (told_hit recording hit)).place ≡ place_of entry
 told_there recording entry hit k inside here id start =
     ap (λ (t : ToldHit). t.place) (get_or-map (told_hit recording) (hits_of recording) k hit (told_hit recording hit) inside ∙ ap (told_hit recording) here)
     ∙ same_place recording entry hit id start
 
 module _ (recording : List Sample) (entry : Entry) (at : ℕ)
-    (before : AllWithin (λ (other : ToldHit). other.place ≢ place_of_entry entry) (told_hits recording) 0 at) where
+    (before : AllWithin (λ (other : ToldHit). other.place ≢ place_of entry) (told_hits recording) 0 at) where
   -- no hit before tells the entry
   not_before : (u : ℕ) (told : IsToldAt recording entry u) (k : ℕ) → k < length (hits_of recording) → get_or (hits_of recording) k told.hit ≡ told.hit → at ≤ k
   not_before u told k inside here = elim (cases_lt k at) [
@@ -53,7 +48,7 @@ module _ (recording : List Sample) (entry : Entry) (at : ℕ)
       omega (arith, low, inside, length-map (hits_of recording) (told_hit recording))
 
   -- and the one there is the first
-  pub first_tells : (d : ToldHit) → at < length (told_hits recording) → (get_or (told_hits recording) at d).place ≡ place_of_entry entry →
+  pub first_tells : (d : ToldHit) → at < length (told_hits recording) → (get_or (told_hits recording) at d).place ≡ place_of entry →
       IsHitOfEntry recording entry (get_or (told_hits recording) at d).hit
   first_tells d inside place = record { is_hit = hit_is; first = record { told = told; least = least }; root = root }
     where
@@ -72,7 +67,7 @@ module _ (recording : List Sample) (entry : Entry) (at : ℕ)
       same_hit : item.hit ≡ hit
       same_hit = ap (λ (t : ToldHit). t.hit) same
 
-      there : place_at recording item.hit ≡ place_of_entry entry
+      there : place_at recording item.hit ≡ place_of entry
       there = ap (place_at recording) same_hit ∙ sym (ap (λ (t : ToldHit). t.place) same) ∙ place
 
       listed : Contains (hits_of recording) item.hit

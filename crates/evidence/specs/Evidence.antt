@@ -5,6 +5,7 @@ use Rattle.finite.specs.Sums.{total_below}
 use Rattle.cs_num.specs.declared.Cpx.{Cpx}
 use Rattle.cs_num.specs.declared.Sample.{Sample}
 use Rattle.cs_num.specs.Complex.{minus, square}
+use Rattle.crs.specs.Power.{point_power}
 use Rattle.lte_types.specs.declared.hit.Hit.{Hit}
 use Rattle.lte_types.specs.declared.entry.Entry.{Entry}
 use Rattle.pss_search.specs.Correlation.{peak, energy, wave_power}
@@ -12,9 +13,8 @@ use Rattle.pss_search.specs.Hits.{first_place, last_place, hits_of}
 use Rattle.pss_search.specs.Laws.{IsHitOf}
 use Rattle.soft_bits.specs.Soft.{pilot, pilot_energy}
 use Rattle.pbch.specs.Master.{total}
-use Rattle.explain.specs.Entries.{identity_at, start_at, values_of_entry}
+use Rattle.explain.specs.Entries.{identity_at, start_at, place_at, values_of_entry}
 use Rattle.explain.specs.EntrySlot.{slot_of_entry}
-use Rattle.explain.specs.Places.{place_at}
 use Rattle.lte_types.specs.declared.evidence.Evidence.{Evidence}
 use Rattle.evidence.specs.declared.told.ToldHit.{ToldHit}
 
@@ -45,7 +45,7 @@ step_power pilots i = square (minus (pilots (i + 1)) (pilots i))
 
 -- those of 24 pilots together, divided by twice the square of a reference value's size, and rounded down
 unfoldable pub mean_steps : (ℕ → Cpx) → ℕ
-mean_steps pilots = total_below 23 (step_power pilots) / (2 * 16200)
+mean_steps pilots = total_below 23 (step_power pilots) / (2 * point_power)
 
 -- ---- the numbers of an entry
 

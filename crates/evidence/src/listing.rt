@@ -8,7 +8,7 @@ ghost use Rattle.evidence.specs.Evidence.{IsEvidence, IsInRange, IsHitOfEntry, t
 
 use crate::noise::noise_of;
 use crate::told::{ToldHits, first_at};
-use explain::{Place, slot_of_entry, values_of};
+use explain::{place_in, slot_of_entry, values_of};
 use lte_types::{Entry, Evidence, Hit};
 use pbch::total_of;
 use pss_search::signal_power;
@@ -67,10 +67,7 @@ fn first_hit(recording: &Recording, entry: &Entry, told: &ToldHits) -> Hit
     requires told { told.now ≡ told_hits recording.now }
     ensures { IsHitOfEntry recording.now entry.now result }
 {
-    let place = Place {
-        id: entry.id,
-        start: entry.start,
-    };
+    let place = place_in(recording, entry);
     let told = told.slice();
     told[first_at(told, &place)].hit
 }

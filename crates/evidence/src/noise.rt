@@ -4,10 +4,8 @@ ghost use Rattle.std.specs.Prelude.{◌≡◌, ◌+◌, ◌*◌, ◌^◌, ◌<�
 ghost use Rattle.cs_num.specs.Complex.{IsWithin, value_at};
 ghost use Rattle.evidence.specs.Evidence.{step_power as step_power_of, mean_steps};
 
+use crs::POINT_POWER;
 use cs_num::Cpx;
-
-// The square of a reference value's size: 90^2 + 90^2.
-const REFERENCE_POWER: u128 = 16_200;
 
 // The squares of the steps from pilot to pilot, together, by twice the square of a reference value's size, rounded down.
 pub(crate) fn noise_of(pilots: &[Cpx; 24]) -> u64
@@ -18,7 +16,7 @@ pub(crate) fn noise_of(pilots: &[Cpx; 24]) -> u64
     for i in 0..23_usize {
         sum += step_power(pilots, i);
     }
-    (sum / (2 * REFERENCE_POWER)) as u64
+    (sum / (2 * POINT_POWER as u128)) as u64
 }
 
 // The square of the size of the step from pilot i to the next.

@@ -1,13 +1,13 @@
 //! The hits of a recording with what they tell.
 
-ghost use Rattle.std.specs.Prelude.{◌≡◌, ◌≢◌, ◌≤◌, ◌<◌, List, All, IfOk, length, map, vec_len};
+ghost use Rattle.std.specs.Prelude.{◌≡◌, ◌≢◌, ◌≤◌, ◌<◌, List, All, IfOk, length, map};
 ghost use Rattle.std.specs.List.{AllWithin, HoldsAt};
 ghost use Rattle.pss_search.specs.Hits.{IsInSpan};
 ghost use Rattle.evidence.specs.declared.told.ToldHit.{ToldHit as ToldHitValue};
 ghost use Rattle.evidence.specs.Evidence.{told_hit, told_hits};
 
-use explain::{Place, place_of};
-use lte_types::Hit;
+use explain::place_of;
+use lte_types::{CellPlace, Hit};
 use pss_search::{HitList, hits};
 use sample_file::Recording;
 use std::alloc::{AllocError, Global};
@@ -17,8 +17,8 @@ use std::marker::Model;
 #[derive(Clone, Copy)]
 pub struct ToldHit {
     pub hit: Hit,
-    /// The identity of its cell, and the sample at which its first frame starts.
-    pub place: Place,
+    /// The place of its cell.
+    pub place: CellPlace,
 }
 
 /// The hits of a recording, in order, each with the place that it tells. Contracts see it as their list.
@@ -76,7 +76,7 @@ fn with_place(recording: &Recording, hit: &Hit) -> ToldHit
 }
 
 // The number of hits, from the first on, that do not tell this place.
-pub(crate) fn first_at(told: &[ToldHit], place: &Place) -> usize
+pub(crate) fn first_at(told: &[ToldHit], place: &CellPlace) -> usize
     ensures within { result ≤ length told.now }
     ensures before { AllWithin (λ (other : ToldHitValue). other.place ≢ place.now) told.now 0 result }
     ensures there { result < length told.now → HoldsAt (λ (other : ToldHitValue). other.place ≡ place.now) told.now result }

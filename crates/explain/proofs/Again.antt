@@ -1,6 +1,5 @@
 -- Hits whose place was met before.
 use Rattle.std.proofs.Common.{◌≡◌, inl, inr, ℕ, Bool, true, false, ◌&&◌, nat_eq, List, [], ◌∷◌, ◌++◌, arith, refl, ap, sym, subst, ◌∙◌}
-use Rattle.std.specs.Prelude.{Result}
 use Rattle.std.specs.List.{Contains}
 use Rattle.std.proofs.lemmas.Bool.Decides.{nat_tests}
 use Rattle.std.proofs.lemmas.List.Elements.{Contains-append_left, Contains-push, Contains-push_cases}
@@ -8,13 +7,10 @@ use Rattle.std.proofs.lemmas.List.Folds.{Any-from_list_any}
 use Rattle.cs_num.specs.declared.Sample.{Sample}
 use Rattle.lte_types.specs.declared.hit.Hit.{Hit}
 use Rattle.lte_types.specs.declared.entry.Entry.{Entry}
-use Rattle.lte_types.specs.declared.mib.Mib.{Mib}
-use Rattle.lte_types.specs.declared.sib1.Sib1.{Sib1}
-use Rattle.lte_types.specs.declared.sib1_reason.Sib1Reason.{Sib1Reason}
-use Rattle.pbch.specs.declared.master.Master.{Master}
-use Rattle.explain.specs.declared.places.Place.{Place}
-use Rattle.explain.specs.Entries.{AreEntries, IsListOfHits, AddsHit}
-use Rattle.explain.specs.Reader.{IsEntryAt, AreEntriesBy}
+use Rattle.lte_types.specs.CellPlace.{Place}
+use Rattle.explain.specs.Told.{Telling, Informing}
+use Rattle.explain.specs.Entries.{IsEntryAt, AreEntries, IsListOfHits, AddsHit}
+use Rattle.explain.specs.Reader.{AreEntriesBy}
 use Rattle.explain.specs.Places.{is_same_place, is_met}
 use Rattle.explain.proofs.Listed.{of_one_more, adds_again_of}
 
@@ -40,7 +36,7 @@ AreMet place_of hits places = (place : Place) → Contains places place → (hit
 -- ---- hit after hit
 
 -- by a way to read cells
-module _ (Tells : ℕ → ℕ → ℕ → ℕ → ℕ → Master → Type 0) (IsSystem : ℕ → ℕ → ℕ → ℕ → Mib → Result Sib1 Sib1Reason → Type 0) (recording : List Sample) (place_of : Hit → Place) where
+module _ (Tells : Telling) (IsSystem : Informing) (recording : List Sample) (place_of : Hit → Place) where
   abbrev pub AreOf : Hit → List Entry → Type 0
   AreOf = AreEntriesBy Tells IsSystem recording place_of
 

@@ -5,6 +5,7 @@ use Rattle.std.specs.List.{AllZip}
 use Rattle.finite.proofs.Lists.{values_below_same}
 use Rattle.cs_num.specs.declared.Cpx.{Cpx}
 use Rattle.cs_num.specs.declared.Sample.{Sample}
+use Rattle.lte_types.specs.CellPlace.{Place}
 use Rattle.lte_types.specs.declared.hit.Hit.{Hit}
 use Rattle.lte_types.specs.declared.entry.Entry.{Entry}
 use Rattle.lte_types.specs.Numerology.{normal, useful_start, frame_length}
@@ -25,7 +26,7 @@ use Rattle.sss_detect.specs.Place.{start_of}
 use Rattle.sss_detect.proofs.Agree.{identity_agrees}
 use Rattle.pbch.specs.Master.{IsMaster}
 use Rattle.explain.specs.Frame.{frame_at, seen_slot, broadcast_slot, broadcast_slots}
-use Rattle.explain.specs.Entries.{IsEntryOf, AreEntriesOf, start_at, master_of}
+use Rattle.explain.specs.Entries.{IsEntryOf, AreEntriesOf, start_at, place_of, master_of}
 use Rattle.explain.specs.System.{even_frame, IsTried, IsReadFrom, FrameAnswers, IsSystemOf}
 use Rattle.explain.specs.Deciding.{deciding_length, FirstFramesDecide}
 
@@ -47,40 +48,40 @@ deciding_slot start j number identity a b agree early few known =
 
 -- ---- system information
 
-frame_agrees : (a b : List Sample) (id start : ℕ) (mib : Mib) (j : ℕ) (answer : Result Sib1 Sib1Reason) → AgreeBefore deciding_length a b → start < frame_length → j ≤ 15 →
-    FrameAnswers a id start mib j answer → FrameAnswers b id start mib j answer
-frame_agrees a b id start mib j answer agree early few reads =
-    subst (λ s. Reads (one_port s (seen_slot b (frame_at start j) 11 id) mib.duration mib.resource) answer) (deciding_slot start j 10 id a b agree early few (omega arith))
-    (subst (λ s. Reads (one_port (seen_slot a (frame_at start j) 10 id) s mib.duration mib.resource) answer) (deciding_slot start j 11 id a b agree early few (omega arith)) reads)
+frame_agrees : (a b : List Sample) (place : Place) (mib : Mib) (j : ℕ) (answer : Result Sib1 Sib1Reason) → AgreeBefore deciding_length a b → place.start < frame_length → j ≤ 15 →
+    FrameAnswers a place mib j answer → FrameAnswers b place mib j answer
+frame_agrees a b place mib j answer agree early few reads =
+    subst (λ s. Reads (one_port s (seen_slot b (frame_at place.start j) 11 place.id) mib.duration mib.resource) answer) (deciding_slot place.start j 10 place.id a b agree early few (omega arith))
+    (subst (λ s. Reads (one_port (seen_slot a (frame_at place.start j) 10 place.id) s mib.duration mib.resource) answer) (deciding_slot place.start j 11 place.id a b agree early few (omega arith)) reads)
 
 -- the first eight frames of even number are all tried
 tried_frame : (recording : List Sample) (start sfn i : ℕ) → deciding_length ≤ length recording → start < frame_length → i < 8 → IsTried recording start sfn i
 tried_frame recording start sfn i long early among = record { among = among; whole = omega (arith, long, early, among) }
 
-read_agrees : (a b : List Sample) (id start sfn : ℕ) (mib : Mib) (sib1 : Result Sib1 Sib1Reason) → AgreeBefore deciding_length a b → deciding_length ≤ length a → deciding_length ≤ length b →
-    start < frame_length → IsReadFrom (FrameAnswers a id start mib) a start sfn sib1 → IsReadFrom (FrameAnswers b id start mib) b start sfn sib1
-read_agrees a b id start sfn mib (Ok fields) agree long_a long_b early read =
+read_agrees : (a b : List Sample) (place : Place) (sfn : ℕ) (mib : Mib) (sib1 : Result Sib1 Sib1Reason) → AgreeBefore deciding_length a b → deciding_length ≤ length a → deciding_length ≤ length b →
+    place.start < frame_length → IsReadFrom (FrameAnswers a place mib) a place.start sfn sib1 → IsReadFrom (FrameAnswers b place mib) b place.start sfn sib1
+read_agrees a b place sfn mib (Ok fields) agree long_a long_b early read =
     let few = read.tried.among in
     record {
       i = read.i;
-      tried = tried_frame b start sfn read.i long_b early few;
-      answers = frame_agrees a b id start mib (even_frame sfn read.i) (Ok fields) agree early (omega (arith, few)) read.answers;
+      tried = tried_frame b place.start sfn read.i long_b early few;
+      answers = frame_agrees a b place mib (even_frame sfn read.i) (Ok fields) agree early (omega (arith, few)) read.answers;
       first = λ h other before answers.
-          read.first h other before (frame_agrees b a id start mib (even_frame sfn h) (Ok other) (sym agree) early (omega (arith, few, before)) answers);
+          read.first h other before (frame_agrees b a place mib (even_frame sfn h) (Ok other) (sym agree) early (omega (arith, few, before)) answers);
     }
-read_agrees a b id start sfn mib (Err reason) agree long_a long_b early read = record {
+read_agrees a b place sfn mib (Err reason) agree long_a long_b early read = record {
   none = λ i fields tried answers.
       let few = tried.among in
-      read.none i fields (tried_frame a start sfn i long_a early few) (frame_agrees b a id start mib (even_frame sfn i) (Ok fields) (sym agree) early (omega (arith, few)) answers);
-  refused = frame_agrees a b id start mib (even_frame sfn 0) (Err reason) agree early (omega arith) read.refused;
+      read.none i fields (tried_frame a place.start sfn i long_a early few) (frame_agrees b a place mib (even_frame sfn i) (Ok fields) (sym agree) early (omega (arith, few)) answers);
+  refused = frame_agrees a b place mib (even_frame sfn 0) (Err reason) agree early (omega arith) read.refused;
 }
 
-system_agrees : (a b : List Sample) (id start sfn ports : ℕ) (mib : Mib) (sib1 : Result Sib1 Sib1Reason) → AgreeBefore deciding_length a b → deciding_length ≤ length a → deciding_length ≤ length b →
-    start < frame_length → IsSystemOf a id start sfn ports mib sib1 → IsSystemOf b id start sfn ports mib sib1
-system_agrees a b id start sfn ports mib (Err (NotOnePort told)) agree long_a long_b early s = s
-system_agrees a b id start sfn ports mib (Err (OtherWidth told)) agree long_a long_b early s = s
-system_agrees a b id start sfn ports mib sib1 agree long_a long_b early s =
-    record { as_wanted = s.as_wanted; six_blocks = s.six_blocks; read = read_agrees a b id start sfn mib sib1 agree long_a long_b early s.read }
+system_agrees : (a b : List Sample) (place : Place) (sfn ports : ℕ) (mib : Mib) (sib1 : Result Sib1 Sib1Reason) → AgreeBefore deciding_length a b → deciding_length ≤ length a → deciding_length ≤ length b →
+    place.start < frame_length → IsSystemOf a place sfn ports mib sib1 → IsSystemOf b place sfn ports mib sib1
+system_agrees a b place sfn ports mib (Err (NotOnePort told)) agree long_a long_b early s = s
+system_agrees a b place sfn ports mib (Err (OtherWidth told)) agree long_a long_b early s = s
+system_agrees a b place sfn ports mib sib1 agree long_a long_b early s =
+    record { as_wanted = s.as_wanted; six_blocks = s.six_blocks; read = read_agrees a b place sfn mib sib1 agree long_a long_b early s.read }
 
 -- ---- the entries of a hit
 
@@ -104,7 +105,7 @@ entry_agrees a b hit entry agree long_a long_b span is = record {
   };
   master = subst (λ s. IsMaster s entry.phase (master_of entry)) (slots entry.frames entry.frame known) is.master;
   sfn = is.sfn;
-  sib1 = system_agrees a b entry.id entry.start entry.sfn entry.ports entry.mib entry.sib1 agree long_a long_b early is.sib1;
+  sib1 = system_agrees a b (place_of entry) entry.sfn entry.ports entry.mib entry.sib1 agree long_a long_b early is.sib1;
 }
   where
     known : entry.frame + entry.frames ≤ 8

@@ -13,7 +13,7 @@ use Rattle.system_block.specs.Attempt.{Follows}
 use Rattle.system_block.proofs.Once.{one_attempt}
 use Rattle.explain.specs.Frame.{frame_at, seen_slot}
 use Rattle.explain.specs.System.{even_frame, IsTried, IsFirstRead, FrameAnswers, IsSystemOf}
-use Rattle.explain.specs.Entries.{IsInList}
+use Rattle.explain.specs.Entries.{place_of, IsInList}
 use Rattle.explain.specs.Grant.{IsAttemptAt, told_with, told_by, IsReadBy, IsOneGrant}
 use Rattle.explain.proofs.Information.{one_system}
 use Rattle.explain.proofs.Listed.{is_sound}
@@ -70,10 +70,10 @@ none_more recording entry i attempt none is untells h other fields before at sam
 
 -- the frames tell the fields of an entry of the list
 pub read_of : (recording : List Sample) (entry : Entry) (fields : Sib1) → IsInList recording entry → entry.sib1 ≡ Ok fields →
-    IsFirstRead (FrameAnswers recording entry.id entry.start entry.mib) recording entry.start entry.sfn fields
+    IsFirstRead (FrameAnswers recording (place_of entry) entry.mib) recording entry.start entry.sfn fields
 read_of recording entry fields listed same =
     let is = (is_sound recording listed.list entry listed.explained listed.inside).is_of.sib1 in
-    (subst (λ (sib1 : Result Sib1 Sib1Reason). IsSystemOf recording entry.id entry.start entry.sfn entry.ports entry.mib sib1) same is).read
+    (subst (λ (sib1 : Result Sib1 Sib1Reason). IsSystemOf recording (place_of entry) entry.sfn entry.ports entry.mib sib1) same is).read
 
 -- where no tried frame before number i tells fields, and frame i is not tried, the entry has none
 pub no_more : (recording : List Sample) (entry : Entry) (i : ℕ) → IsInList recording entry → HasNoneBefore recording entry i →
@@ -108,8 +108,8 @@ read_by recording entry i attempt t fields listed same none tried at tells =
     same_fields : (other : Sib1) → attempt.answer ≡ Ok other → ◌≡◌ {A = Result Sib1 Sib1Reason} (Ok fields) (Ok other)
     same_fields other answers =
         let is = (is_sound recording listed.list entry listed.explained listed.inside).is_of.sib1 in
-        let searched = subst (λ (sib1 : Result Sib1 Sib1Reason). IsSystemOf recording entry.id entry.start entry.sfn entry.ports entry.mib sib1) same is in
-        one_system recording entry.id entry.start entry.sfn entry.ports entry.mib (Ok fields) (Ok other) searched (record {
+        let searched = subst (λ (sib1 : Result Sib1 Sib1Reason). IsSystemOf recording (place_of entry) entry.sfn entry.ports entry.mib sib1) same is in
+        one_system recording (place_of entry) entry.sfn entry.ports entry.mib (Ok fields) (Ok other) searched (record {
           as_wanted = searched.as_wanted;
           six_blocks = searched.six_blocks;
           read = record {

@@ -13,6 +13,8 @@ use Rattle.lte_types.specs.declared.sib1_reason.Sib1Reason.TheVariants.{NotOnePo
 use Rattle.lte_types.specs.Ranges.{IsValid}
 use Rattle.system_block.proofs.Once.{one_reading}
 use Rattle.system_block.proofs.Exists.{some_reading, read_is_valid, never_ports, never_width, never_long}
+use Rattle.lte_types.specs.CellPlace.{Place}
+use Rattle.explain.specs.Told.{Answering}
 use Rattle.explain.specs.System.{even_frame, IsTried, IsFirstRead, IsReadFrom, HasOtherPorts, HasOtherWidth, IsSearched, IsSystemBy, FrameAnswers, IsSystemOf}
 
 abbrev answer_with : Sib1 → Result Sib1 Sib1Reason
@@ -27,7 +29,7 @@ pub even_number : (sfn i : ℕ) → (sfn + even_frame sfn i) % 1024 % 2 ≡ 0
 even_number sfn i = omega arith
 
 -- where a frame answers in one way
-module _ (Answers : ℕ → Result Sib1 Sib1Reason → Type 0) (one : (j : ℕ) (a b : Result Sib1 Sib1Reason) → Answers j a → Answers j b → a ≡ b)
+module _ (Answers : Answering) (one : (j : ℕ) (a b : Result Sib1 Sib1Reason) → Answers j a → Answers j b → a ≡ b)
     (recording : List Sample) (start sfn wanted : ℕ) where
   -- a frame that has a reason has no fields
   not_both : (j : ℕ) (fields : Sib1) (reason : Sib1Reason) → Answers j (Ok fields) → Answers j (Err reason) → ⊥
@@ -172,35 +174,35 @@ module _ (Answers : ℕ → Result Sib1 Sib1Reason → Type 0) (one : (j : ℕ) 
 
 -- ---- by one antenna port
 
-pub one_of_frame : (recording : List Sample) (id start : ℕ) (mib : Mib) (j : ℕ) (a b : Result Sib1 Sib1Reason) →
-    FrameAnswers recording id start mib j a → FrameAnswers recording id start mib j b → a ≡ b
-one_of_frame recording id start mib j a b p q = one_reading _ a b p q
+pub one_of_frame : (recording : List Sample) (place : Place) (mib : Mib) (j : ℕ) (a b : Result Sib1 Sib1Reason) →
+    FrameAnswers recording place mib j a → FrameAnswers recording place mib j b → a ≡ b
+one_of_frame recording place mib j a b p q = one_reading _ a b p q
 
 -- there is at most one answer
-pub one_system : (recording : List Sample) (id start sfn ports : ℕ) (mib : Mib) (a b : Result Sib1 Sib1Reason) →
-    IsSystemOf recording id start sfn ports mib a → IsSystemOf recording id start sfn ports mib b → a ≡ b
-one_system recording id start sfn ports mib a b p q =
-    one_by (FrameAnswers recording id start mib) (one_of_frame recording id start mib) recording start sfn 1 ports mib a b p q
+pub one_system : (recording : List Sample) (place : Place) (sfn ports : ℕ) (mib : Mib) (a b : Result Sib1 Sib1Reason) →
+    IsSystemOf recording place sfn ports mib a → IsSystemOf recording place sfn ports mib b → a ≡ b
+one_system recording place sfn ports mib a b p q =
+    one_by (FrameAnswers recording place mib) (one_of_frame recording place mib) recording place.start sfn 1 ports mib a b p q
 
 -- and there is one
-pub some_system : (recording : List Sample) (id start sfn ports : ℕ) (mib : Mib) → 57600 ≤ length recording → start < 19200 →
-    (sib1 : Result Sib1 Sib1Reason) × IsSystemOf recording id start sfn ports mib sib1
-some_system recording id start sfn ports mib long early =
-    some_by (FrameAnswers recording id start mib) (one_of_frame recording id start mib) recording start sfn 1
+pub some_system : (recording : List Sample) (place : Place) (sfn ports : ℕ) (mib : Mib) → 57600 ≤ length recording → place.start < 19200 →
+    (sib1 : Result Sib1 Sib1Reason) × IsSystemOf recording place sfn ports mib sib1
+some_system recording place sfn ports mib long early =
+    some_by (FrameAnswers recording place mib) (one_of_frame recording place mib) recording place.start sfn 1
     (λ j. some_reading _) (λ j told reads. never_ports _ told reads) (λ j told reads. never_width _ told reads) long early ports mib
 
 -- what is read is in its ranges
-pub system_is_valid : (recording : List Sample) (id start sfn ports : ℕ) (mib : Mib) (sib1 : Result Sib1 Sib1Reason) → IsSystemOf recording id start sfn ports mib sib1 → IfOk sib1 IsValid
-system_is_valid recording id start sfn ports mib sib1 s =
-    valid_by (FrameAnswers recording id start mib) (one_of_frame recording id start mib) recording start sfn 1 (λ j fields reads. read_is_valid _ fields reads) ports mib sib1 s
+pub system_is_valid : (recording : List Sample) (place : Place) (sfn ports : ℕ) (mib : Mib) (sib1 : Result Sib1 Sib1Reason) → IsSystemOf recording place sfn ports mib sib1 → IfOk sib1 IsValid
+system_is_valid recording place sfn ports mib sib1 s =
+    valid_by (FrameAnswers recording place mib) (one_of_frame recording place mib) recording place.start sfn 1 (λ j fields reads. read_is_valid _ fields reads) ports mib sib1 s
 
 -- and its reason is not that the prefix is long
-pub system_never_long : (recording : List Sample) (id start sfn ports : ℕ) (mib : Mib) → IsSystemOf recording id start sfn ports mib (Err LongPrefix) → ⊥
-system_never_long recording id start sfn ports mib s =
-    never_long_by (FrameAnswers recording id start mib) (one_of_frame recording id start mib) recording start sfn 1 (λ j reads. never_long _ reads) ports mib s
+pub system_never_long : (recording : List Sample) (place : Place) (sfn ports : ℕ) (mib : Mib) → IsSystemOf recording place sfn ports mib (Err LongPrefix) → ⊥
+system_never_long recording place sfn ports mib s =
+    never_long_by (FrameAnswers recording place mib) (one_of_frame recording place mib) recording place.start sfn 1 (λ j reads. never_long _ reads) ports mib s
 
 -- where the first frame of even number has fields, they are what is told
-pub told_at_first : (recording : List Sample) (id start sfn : ℕ) (mib : Mib) (fields : Sib1) → 57600 ≤ length recording → start < 19200 → mib.bandwidth ≡ N6 →
-    FrameAnswers recording id start mib (even_frame sfn 0) (Ok fields) → IsSystemOf recording id start sfn 1 mib (Ok fields)
-told_at_first recording id start sfn mib fields long early six answers =
-    told_first (FrameAnswers recording id start mib) (one_of_frame recording id start mib) recording start sfn 1 mib fields long early six answers
+pub told_at_first : (recording : List Sample) (place : Place) (sfn : ℕ) (mib : Mib) (fields : Sib1) → 57600 ≤ length recording → place.start < 19200 → mib.bandwidth ≡ N6 →
+    FrameAnswers recording place mib (even_frame sfn 0) (Ok fields) → IsSystemOf recording place sfn 1 mib (Ok fields)
+told_at_first recording place sfn mib fields long early six answers =
+    told_first (FrameAnswers recording place mib) (one_of_frame recording place mib) recording place.start sfn 1 mib fields long early six answers

@@ -9,7 +9,7 @@ use Rattle.std.proofs.lemmas.Grind.{flat_map-append}
 use Rattle.lte_types.specs.declared.hit.Hit.{Hit}
 use Rattle.lte_types.specs.declared.entry.Entry.{Entry}
 use Rattle.pss_search.specs.Hits.{hits_of}
-use Rattle.explain.specs.Entries.{is_same_cell, kept, IsBefore, IsEntryOf, AreEntries, IsListOf, IsListOfHits, AddsHit}
+use Rattle.explain.specs.Entries.{place_of, is_same_cell, kept, IsBefore, IsEntryOf, AreEntries, IsListOf, IsListOfHits, AddsHit}
 use Rattle.explain.specs.Laws.{HaveOneList, IsOneList, IsEntryOfSome, IsSoundOf, IsSound, IsCompleteOf, IsComplete, AreApart, IsApartOf, IsApart, IsNeverLong}
 use Rattle.explain.specs.System.{IsSystemOf}
 use Rattle.explain.proofs.Information.{system_never_long}
@@ -55,7 +55,7 @@ is_sound recording = sound_of (IsEntryOf recording) (hits_of recording)
 pub is_never_long : IsNeverLong
 is_never_long recording list entry explained inside long =
     let is = is_sound recording list entry explained inside in
-    system_never_long recording entry.id entry.start entry.sfn entry.ports entry.mib (subst (IsSystemOf recording entry.id entry.start entry.sfn entry.ports entry.mib) long is.is_of.sib1)
+    system_never_long recording (place_of entry) entry.sfn entry.ports entry.mib (subst (IsSystemOf recording (place_of entry) entry.sfn entry.ports entry.mib) long is.is_of.sib1)
 
 pub complete_of : (IsOf : Hit → Entry → Type 0) (hits : List Hit) → IsCompleteOf IsOf hits
 complete_of IsOf hits list entry explained is =

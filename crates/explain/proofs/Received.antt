@@ -2,16 +2,18 @@
 use Rattle.std.proofs.Common.{inl, inr, ℕ, ◌+◌, ◌-◌, ◌<◌, ◌≤◌, List, Option, arith, subst, sym}
 use Rattle.cs_num.specs.declared.Sample.{Sample}
 use Rattle.pbch.specs.declared.master.Master.{Master}
+use Rattle.lte_types.specs.CellPlace.{Place}
 use Rattle.explain.specs.Frame.{IsWhole}
+use Rattle.explain.specs.Told.{Telling}
 use Rattle.explain.specs.Window.{IsInWindow, ComeBefore, TellNone, HasNoMasters}
 use Rattle.explain.specs.Masters.{AreFirstWith}
 use Rattle.explain.specs.Received.{NoneTell, AreFirstOf}
 
 -- where the first `whole` of frames 0 to 7 lie within the recording, and no others
-module _ (Tells : ℕ → ℕ → ℕ → ℕ → ℕ → Master → Type 0) (recording : List Sample) (identity start whole : ℕ) (few : whole ≤ 8) (inside : (j : ℕ) → j < whole → IsWhole recording start j)
-    (all : (j : ℕ) → j < 8 → IsWhole recording start j → j < whole) where
+module _ (Tells : Telling) (recording : List Sample) (place : Place) (whole : ℕ) (few : whole ≤ 8) (inside : (j : ℕ) → j < whole → IsWhole recording place.start j)
+    (all : (j : ℕ) → j < 8 → IsWhole recording place.start j → j < whole) where
   -- frames that are looked at are among them
-  among : (count j : ℕ) → IsInWindow recording start count j → j + count ≤ whole
+  among : (count j : ℕ) → IsInWindow recording place.start count j → j + count ≤ whole
   among count j window =
       let some = window.some in
       let known = window.known in
@@ -20,8 +22,8 @@ module _ (Tells : ℕ → ℕ → ℕ → ℕ → ℕ → Master → Type 0) (re
 
   -- the first so many that have a master block are the first of all, where no fewer have any
   pub first_with : (count j : ℕ) (masters : List (Option Master)) → 1 ≤ count → count ≤ 4 →
-      ((fewer : ℕ) → 1 ≤ fewer → fewer < count → NoneTell Tells identity start whole fewer) →
-      AreFirstOf Tells identity start whole count j masters → AreFirstWith Tells recording identity start count j masters
+      ((fewer : ℕ) → 1 ≤ fewer → fewer < count → NoneTell Tells place whole fewer) →
+      AreFirstOf Tells place whole count j masters → AreFirstWith Tells recording place count j masters
   first_with count j masters some small none f = record {
     frames = record {
       inside = record {
@@ -35,10 +37,10 @@ module _ (Tells : ℕ → ℕ → ℕ → ℕ → ℕ → Master → Type 0) (re
     have = f.have;
   }
     where
-      by_order : (fewer i : ℕ) → IsInWindow recording start fewer i → ComeBefore fewer i count j → TellNone Tells identity start fewer i
+      by_order : (fewer i : ℕ) → IsInWindow recording place.start fewer i → ComeBefore fewer i count j → TellNone Tells place fewer i
       by_order fewer i window (inl less) = none fewer window.some less i (among fewer i window)
-      by_order fewer i window (inr (same, below)) = subst (λ n. TellNone Tells identity start n i) (sym same) (f.first i below)
+      by_order fewer i window (inr (same, below)) = subst (λ n. TellNone Tells place n i) (sym same) (f.first i below)
 
   -- where no frames have one, the hit has none
-  pub no_masters : ((count : ℕ) → 1 ≤ count → count ≤ 4 → NoneTell Tells identity start whole count) → HasNoMasters Tells recording identity start
+  pub no_masters : ((count : ℕ) → 1 ≤ count → count ≤ 4 → NoneTell Tells place whole count) → HasNoMasters Tells recording place
   no_masters none count j window = none count window.some window.few j (among count j window)

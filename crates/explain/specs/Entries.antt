@@ -5,9 +5,8 @@ use Rattle.std.specs.List.Sorted.{IsPermutation}
 use Rattle.cs_num.specs.declared.Sample.{Sample}
 use Rattle.lte_types.specs.declared.hit.Hit.{Hit}
 use Rattle.lte_types.specs.declared.entry.Entry.{Entry}
-use Rattle.lte_types.specs.declared.mib.Mib.{Mib}
-use Rattle.lte_types.specs.declared.sib1.Sib1.{Sib1}
-use Rattle.lte_types.specs.declared.sib1_reason.Sib1Reason.{Sib1Reason}
+use Rattle.lte_types.specs.CellPlace.{Place}
+use Rattle.lte_types.specs.Frames.{Frames, first_number}
 use Rattle.pss_search.specs.Hits.{hits_of}
 use Rattle.sss_detect.specs.Identity.{identity_of}
 use Rattle.lte_types.specs.Identity.{cell_of}
@@ -17,6 +16,7 @@ use Rattle.pbch.specs.declared.master.Master.{Master}
 use Rattle.pbch.specs.Values.{coded_values}
 use Rattle.explain.specs.Frame.{broadcast_slots}
 use Rattle.explain.specs.System.{IsSystemOf}
+use Rattle.explain.specs.Told.{Telling, Informing}
 use Rattle.explain.specs.Window.{AreFirstFrames, IsMasterAt}
 
 -- ---- the entries of a hit
@@ -29,6 +29,17 @@ identity_at recording hit = cell_of (identity_of recording hit).0 hit.n2
 abbrev pub start_at : List Sample → Hit → ℕ
 start_at recording hit = start_of hit.t (identity_of recording hit).1
 
+-- the place of that cell
+abbrev pub place_at : List Sample → Hit → Place
+place_at recording hit = record { id = identity_at recording hit; start = start_at recording hit }
+
+-- the place of an entry's cell, and the frames that tell its master block
+abbrev pub place_of : Entry → Place
+place_of entry = record { id = entry.id; start = entry.start }
+
+abbrev pub frames_of : Entry → Frames
+frames_of entry = record { count = entry.frames; first = entry.frame; phase = entry.phase }
+
 -- the master block of an entry
 abbrev pub master_of : Entry → Master
 master_of entry = record { ports = entry.ports; mib = entry.mib; cost = entry.cost }
@@ -38,29 +49,20 @@ abbrev pub values_of_entry : List Sample → Entry → List (List ℤ)
 values_of_entry recording entry =
     coded_values (broadcast_slots recording entry.id entry.start entry.frames entry.frame) entry.phase
 
--- the number of the first frame, by that of frame j: four times the upper bits of its block and its phase, and as much less as there
--- are frames before
-abbrev pub first_number : ℕ → ℕ → ℕ → ℕ
-first_number upper phase j = (4 * upper + phase + (1024 - j)) % 1024
-
--- the entry tells a master block of a cell with this identity, whose first frame begins at this sample: one of the
--- first of its frames that have any. `Tells` says which master block frames tell, by identity, start, count of frames,
--- first frame and its phase, and `IsSystem` what is told of the system information, by identity, start, frame number,
--- antenna ports and master block
-pub record IsEntryBy (Tells : ℕ → ℕ → ℕ → ℕ → ℕ → Master → Type 0)
-    (IsSystem : ℕ → ℕ → ℕ → ℕ → Mib → Result Sib1 Sib1Reason → Type 0) (recording : List Sample) (identity sample : ℕ) (entry : Entry) : Type 0 where
-  pub id : entry.id ≡ identity
-  pub start : entry.start ≡ sample
+-- the entry tells a master block of the cell at this place: one of the first of its frames that have any. `Tells` says
+-- which master block frames tell, and `IsSystem` what is told of the system information
+pub record IsEntryAt (Tells : Telling) (IsSystem : Informing) (recording : List Sample) (place : Place) (entry : Entry) : Type 0 where
+  pub id : entry.id ≡ place.id
+  pub start : entry.start ≡ place.start
   pub period : entry.phase + entry.frames ≤ 4
-  pub frames : AreFirstFrames Tells recording entry.id entry.start entry.frames entry.frame
-  pub master : Tells entry.id entry.start entry.frames entry.frame entry.phase (master_of entry)
-  pub sfn : entry.sfn ≡ first_number entry.mib.upper entry.phase entry.frame
-  pub sib1 : IsSystem entry.id entry.start entry.sfn entry.ports entry.mib entry.sib1
+  pub frames : AreFirstFrames Tells recording (place_of entry) entry.frames entry.frame
+  pub master : Tells (place_of entry) (frames_of entry) (master_of entry)
+  pub sfn : entry.sfn ≡ first_number entry.mib.upper (frames_of entry)
+  pub sib1 : IsSystem (place_of entry) entry.sfn entry.ports entry.mib entry.sib1
 
 -- the entry tells a master block of the hit, by one antenna port
 abbrev pub IsEntryOf : List Sample → Hit → Entry → Type 0
-IsEntryOf recording hit entry =
-    IsEntryBy (IsMasterAt recording) (IsSystemOf recording) recording (identity_at recording hit) (start_at recording hit) entry
+IsEntryOf recording hit entry = IsEntryAt (IsMasterAt recording) (IsSystemOf recording) recording (place_at recording hit) entry
 
 -- entries by phase, where `Is` says which there are
 pub record AreEntries (Is : Entry → Type 0) (entries : List Entry) : Type 0 where

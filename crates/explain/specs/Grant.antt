@@ -3,6 +3,8 @@ use Rattle.std.specs.Prelude.{◌≡◌, ℕ, ◌<◌, List, Option, Some, None,
 use Rattle.cs_num.specs.declared.Sample.{Sample}
 use Rattle.lte_types.specs.declared.sib1.Sib1.{Sib1}
 use Rattle.lte_types.specs.declared.sib1_reason.Sib1Reason.{Sib1Reason}
+use Rattle.lte_types.specs.CellPlace.{Place}
+use Rattle.lte_types.specs.declared.mib.Mib.{Mib}
 use Rattle.lte_types.specs.declared.entry.Entry.{Entry}
 use Rattle.dci.specs.declared.grant.Grant.{Grant}
 use Rattle.system_block.specs.declared.reading.Attempt.{Attempt}
@@ -10,12 +12,17 @@ use Rattle.system_block.specs.Subframe.{one_port}
 use Rattle.system_block.specs.Attempt.{IsAttempt}
 use Rattle.explain.specs.Frame.{frame_at, seen_slot}
 use Rattle.explain.specs.System.{even_frame, IsTried}
+use Rattle.explain.specs.Entries.{place_of}
 
--- the attempt on frame j of an entry's cell: on its subframe 5, slots 10 and 11
+-- the attempt on frame j of a cell: on its subframe 5, slots 10 and 11
+abbrev pub IsFrameAttempt : List Sample → Place → Mib → ℕ → Attempt → Type 0
+IsFrameAttempt recording place mib j attempt =
+    IsAttempt (one_port (seen_slot recording (frame_at place.start j) 10 place.id) (seen_slot recording (frame_at place.start j) 11 place.id)
+    mib.duration mib.resource) attempt
+
+-- that of an entry's cell
 abbrev pub IsAttemptAt : List Sample → Entry → ℕ → Attempt → Type 0
-IsAttemptAt recording entry j attempt =
-    IsAttempt (one_port (seen_slot recording (frame_at entry.start j) 10 entry.id) (seen_slot recording (frame_at entry.start j) 11 entry.id)
-    entry.mib.duration entry.mib.resource) attempt
+IsAttemptAt recording entry = IsFrameAttempt recording (place_of entry) entry.mib
 
 -- what an attempt tells: its indicator and its grant, where it has read fields
 abbrev pub told_with : ℕ → Option Grant → Result Sib1 Sib1Reason → Option (ℕ × Grant)

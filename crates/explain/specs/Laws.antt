@@ -5,13 +5,14 @@ use Rattle.std.specs.List.{AllPairs, Contains}
 use Rattle.cs_num.specs.declared.Sample.{Sample}
 use Rattle.lte_types.specs.declared.hit.Hit.{Hit}
 use Rattle.lte_types.specs.declared.entry.Entry.{Entry}
+use Rattle.lte_types.specs.Frames.{frames_from, first_number}
 use Rattle.lte_types.specs.declared.sib1_reason.Sib1Reason.TheVariants.{LongPrefix}
 use Rattle.pss_search.specs.Hits.{hits_of}
 use Rattle.pbch.specs.declared.master.Master.{Master}
 use Rattle.explain.specs.Frame.{IsWhole}
 use Rattle.explain.specs.System.{IsSystemOf}
 use Rattle.explain.specs.Window.{IsMasterAt}
-use Rattle.explain.specs.Entries.{identity_at, start_at, master_of, first_number, IsEntryOf, AreEntries, IsListOfHits, IsExplained, is_same_cell}
+use Rattle.explain.specs.Entries.{identity_at, start_at, master_of, place_of, frames_of, IsEntryOf, AreEntries, IsListOfHits, IsExplained, is_same_cell}
 
 -- hits have one list
 abbrev pub HaveOneList : (Hit → Entry → Type 0) → List Hit → Type 0
@@ -84,10 +85,11 @@ pub record IsEntryOfOneFrame (recording : List Sample) (hit : Hit) (entry : Entr
   pub phase : entry.phase < 4
   pub known : entry.frame ≤ 7
   pub whole : IsWhole recording entry.start entry.frame
-  pub first : (j phase : ℕ) (master : Master) → j < entry.frame → phase < 4 → IsMasterAt recording entry.id entry.start 1 j phase master → ⊥
-  pub master : IsMasterAt recording entry.id entry.start 1 entry.frame entry.phase (master_of entry)
-  pub sfn : entry.sfn ≡ first_number entry.mib.upper entry.phase entry.frame
-  pub sib1 : IsSystemOf recording entry.id entry.start entry.sfn entry.ports entry.mib entry.sib1
+  pub first : (j phase : ℕ) (master : Master) → j < entry.frame → phase < 4 →
+      IsMasterAt recording (place_of entry) (frames_from 1 j phase) master → ⊥
+  pub master : IsMasterAt recording (place_of entry) (frames_from 1 entry.frame entry.phase) (master_of entry)
+  pub sfn : entry.sfn ≡ first_number entry.mib.upper (frames_of entry)
+  pub sib1 : IsSystemOf recording (place_of entry) entry.sfn entry.ports entry.mib entry.sib1
 
 -- it is one of the hit's
 abbrev pub OneFrameTells : Type 0

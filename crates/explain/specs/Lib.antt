@@ -1,4 +1,5 @@
 pub mod Frame
+pub mod Told
 pub mod System
 pub mod Window
 pub mod Entries

@@ -2,6 +2,7 @@
 -- section 5.2.1.2). Which frames are tried is own.
 use Rattle.std.specs.Prelude.{◌≡◌, ◌≢◌, ℕ, ◌+◌, ◌*◌, ◌%◌, ◌<◌, List, Result, Ok, Err}
 use Rattle.cs_num.specs.declared.Sample.{Sample}
+use Rattle.lte_types.specs.CellPlace.{Place}
 use Rattle.lte_types.specs.declared.bandwidth.Bandwidth.{Bandwidth}
 use Rattle.lte_types.specs.declared.bandwidth.Bandwidth.TheVariants.{N6}
 use Rattle.lte_types.specs.declared.mib.Mib.{Mib}
@@ -11,6 +12,7 @@ use Rattle.lte_types.specs.declared.sib1_reason.Sib1Reason.TheVariants.{NotOnePo
 use Rattle.system_block.specs.Subframe.{one_port}
 use Rattle.system_block.specs.Attempt.{Reads}
 use Rattle.explain.specs.Frame.{IsWhole, frame_at, seen_slot}
+use Rattle.explain.specs.Told.{Answering, Informing}
 
 -- ---- the frames that are tried. `Answers` says what a frame answers, by its place after the first
 
@@ -24,19 +26,19 @@ pub record IsTried (recording : List Sample) (start sfn i : ℕ) : Type 0 where
   pub whole : IsWhole recording start (even_frame sfn i)
 
 -- a tried frame answers with these fields, and none before it with any
-pub record IsFirstRead (Answers : ℕ → Result Sib1 Sib1Reason → Type 0) (recording : List Sample) (start sfn : ℕ) (fields : Sib1) : Type 0 where
+pub record IsFirstRead (Answers : Answering) (recording : List Sample) (start sfn : ℕ) (fields : Sib1) : Type 0 where
   pub i : ℕ
   pub tried : IsTried recording start sfn i
   pub answers : Answers (even_frame sfn i) (Ok fields)
   pub first : (h : ℕ) (other : Sib1) → h < i → Answers (even_frame sfn h) (Ok other) → ⊥
 
 -- no tried frame answers with fields, and the first of them has this reason
-pub record IsNoneRead (Answers : ℕ → Result Sib1 Sib1Reason → Type 0) (recording : List Sample) (start sfn : ℕ) (reason : Sib1Reason) : Type 0 where
+pub record IsNoneRead (Answers : Answering) (recording : List Sample) (start sfn : ℕ) (reason : Sib1Reason) : Type 0 where
   pub none : (i : ℕ) (fields : Sib1) → IsTried recording start sfn i → Answers (even_frame sfn i) (Ok fields) → ⊥
   pub refused : Answers (even_frame sfn 0) (Err reason)
 
 -- the first fields that are read, or else the reason of the first frame
-abbrev pub IsReadFrom : (ℕ → Result Sib1 Sib1Reason → Type 0) → List Sample → ℕ → ℕ → Result Sib1 Sib1Reason → Type 0
+abbrev pub IsReadFrom : Answering → List Sample → ℕ → ℕ → Result Sib1 Sib1Reason → Type 0
 IsReadFrom Answers recording start sfn (Ok fields) = IsFirstRead Answers recording start sfn fields
 IsReadFrom Answers recording start sfn (Err reason) = IsNoneRead Answers recording start sfn reason
 
@@ -54,13 +56,14 @@ pub record HasOtherWidth (wanted ports : ℕ) (width told : Bandwidth) : Type 0 
   pub other : width ≢ N6
 
 -- there are as many antenna ports as are wanted, and 6 resource blocks, and the frames answer so
-pub record IsSearched (Answers : ℕ → Result Sib1 Sib1Reason → Type 0) (recording : List Sample) (start sfn wanted ports : ℕ) (width : Bandwidth) (sib1 : Result Sib1 Sib1Reason) : Type 0 where
+pub record IsSearched (Answers : Answering) (recording : List Sample) (start sfn wanted ports : ℕ) (width : Bandwidth)
+    (sib1 : Result Sib1 Sib1Reason) : Type 0 where
   pub as_wanted : ports ≡ wanted
   pub six_blocks : width ≡ N6
   pub read : IsReadFrom Answers recording start sfn sib1
 
 -- what is told by so many antenna ports
-abbrev pub IsSystemBy : ℕ → (ℕ → Result Sib1 Sib1Reason → Type 0) → List Sample → ℕ → ℕ → ℕ → Mib → Result Sib1 Sib1Reason → Type 0
+abbrev pub IsSystemBy : ℕ → Answering → List Sample → ℕ → ℕ → ℕ → Mib → Result Sib1 Sib1Reason → Type 0
 IsSystemBy wanted Answers recording start sfn ports mib (Err (NotOnePort told)) = HasOtherPorts wanted ports told
 IsSystemBy wanted Answers recording start sfn ports mib (Err (OtherWidth told)) = HasOtherWidth wanted ports mib.bandwidth told
 IsSystemBy wanted Answers recording start sfn ports mib sib1 = IsSearched Answers recording start sfn wanted ports mib.bandwidth sib1
@@ -68,11 +71,13 @@ IsSystemBy wanted Answers recording start sfn ports mib sib1 = IsSearched Answer
 -- ---- by one antenna port
 
 -- frame j of a cell answers so: its subframe 5, slots 10 and 11, does
-abbrev pub FrameAnswers : List Sample → ℕ → ℕ → Mib → ℕ → Result Sib1 Sib1Reason → Type 0
-FrameAnswers recording identity start mib j answer =
-    Reads (one_port (seen_slot recording (frame_at start j) 10 identity) (seen_slot recording (frame_at start j) 11 identity) mib.duration mib.resource) answer
+abbrev pub FrameAnswers : List Sample → Place → Mib → Answering
+FrameAnswers recording place mib j answer =
+    Reads (one_port (seen_slot recording (frame_at place.start j) 10 place.id) (seen_slot recording (frame_at place.start j) 11 place.id)
+    mib.duration mib.resource) answer
 
--- what is told of the system information of a cell with this identity, whose first frame begins at this sample and has this number,
--- with so many antenna ports and this master block
-abbrev pub IsSystemOf : List Sample → ℕ → ℕ → ℕ → ℕ → Mib → Result Sib1 Sib1Reason → Type 0
-IsSystemOf recording identity start sfn ports mib sib1 = IsSystemBy 1 (FrameAnswers recording identity start mib) recording start sfn ports mib sib1
+-- what is told of the system information of the cell at a place, whose first frame has this number, with so many antenna ports and
+-- this master block
+abbrev pub IsSystemOf : List Sample → Informing
+IsSystemOf recording place sfn ports mib sib1 =
+    IsSystemBy 1 (FrameAnswers recording place mib) recording place.start sfn ports mib sib1

@@ -1,20 +1,18 @@
 //! The list of the cells of a recording.
 
-ghost use Rattle.std.specs.Prelude.{◌≡◌, ◌<◌};
+ghost use Rattle.std.specs.Prelude.{◌≡◌};
 ghost use Rattle.finite.specs.Sizes.{RowsWithin};
 ghost use Rattle.pss_search.specs.Hits.{IsInSpan};
 ghost use Rattle.pbch.specs.Master.{TellsMaster};
-ghost use Rattle.explain.specs.Entries.{IsExplained, IsInList, master_of, values_of_entry};
-ghost use Rattle.explain.specs.Places.{place_at};
-ghost use Rattle.lte_types.specs.Numerology.{frame_length};
+ghost use Rattle.explain.specs.Entries.{IsExplained, IsInList, master_of, place_at, place_of as place_of_entry, values_of_entry};
 
 use crate::frame::broadcast_slot;
-use crate::{EntryList, Place, Workspace, explain_by};
-use lte_types::{Entry, Hit};
+use crate::{EntryList, Workspace, explain_by};
+use lte_types::{CellPlace, Entry, Hit, Prefix};
 use pbch::{received, sums_of};
 use pss_search::hits;
 use sample_file::Recording;
-use sss_detect::{cell_id, frame_start, identity};
+use sss_detect::place_with;
 
 /// Afterwards the list is that of the recording, whatever it held before. Each hit, by place, tells
 /// an identity and a start of frames. The first of its whole frames 0 to 7 that has a master block at any
@@ -47,25 +45,32 @@ pub fn values_of(recording: &Recording, entry: &Entry) -> [[i32; 3]; 40]
     ensures master { TellsMaster result (master_of entry.now) }
     ensures sizes { RowsWithin 2032 result }
 {
+    let place = place_in(recording, entry);
     let mut frames = [[0; 480]; 4];
     for m in 0..entry.frames {
-        let slot = broadcast_slot(recording, entry.id, entry.start, entry.frame + m);
+        let slot = broadcast_slot(recording, place, entry.frame + m);
         frames[m as usize] = received(&slot);
     }
     sums_of(entry.id, entry.phase, &frames[..entry.frames as usize])
 }
 
+/// The place of the cell of an entry, which is in the recording's list.
+pub fn place_in(recording: &Recording, entry: &Entry) -> CellPlace
+    requires { IsInList recording.now entry.now }
+    ensures { result ≡ place_of_entry entry.now }
+{
+    match CellPlace::new(entry.id, entry.start) {
+        Some(place) => place,
+        None => unreachable!(),
+    }
+}
+
 /// The place that a hit tells: the identity of its cell, and the sample at which its first frame starts.
-pub fn place_of(recording: &Recording, hit: &Hit) -> Place
-    requires span { IsInSpan hit.now }
-    ensures place { result ≡ place_at recording.now hit.now }
-    ensures early { result.start < frame_length }
+pub fn place_of(recording: &Recording, hit: &Hit) -> CellPlace
+    requires { IsInSpan hit.now }
+    ensures { result ≡ place_at recording.now hit.now }
 {
     let end = recording.len();
     prove!(hit.t as usize + 128 <= end);
-    let (n1, half) = identity(recording, hit);
-    Place {
-        id: cell_id(n1, hit.n2),
-        start: frame_start(hit, half),
-    }
+    place_with(recording, hit, Prefix::NORMAL)
 }

@@ -8,25 +8,25 @@ ghost use Rattle.soft_bits.specs.Soft.{AreSmall};
 ghost use Rattle.explain.specs.Frame.{IsWhole, frame_at, seen_slot, broadcast_slot as broadcast_slot_of};
 
 use cs_num::Cpx;
-use lte_types::{CellId, FRAME_LENGTH, Prefix};
+use lte_types::{CellPlace, FRAME_LENGTH, Prefix};
 use observe::symbol;
 use sample_file::Recording;
 use soft_bits::Slot;
 
-/// Whether frame `j` of a start lies within the recording.
-pub(crate) fn is_whole(recording: &Recording, start: u32, j: u8) -> bool
-    ensures { IsTrue result ↔ IsWhole recording.now start j }
+/// Whether frame `j` of a cell lies within the recording.
+pub(crate) fn is_whole(recording: &Recording, place: CellPlace, j: u8) -> bool
+    ensures { IsTrue result ↔ IsWhole recording.now place.start j }
 {
-    start as usize + FRAME_LENGTH * (j as usize + 1) <= recording.len()
+    place.start() as usize + FRAME_LENGTH * (j as usize + 1) <= recording.len()
 }
 
-/// How many of frames 0 to 7 of a start lie within the recording: the first ones.
-pub fn whole_frames(recording: &Recording, start: u32) -> u8
+/// How many of frames 0 to 7 of a cell lie within the recording: the first ones.
+pub fn whole_frames(recording: &Recording, place: CellPlace) -> u8
     ensures few { result ≤ 8 }
-    ensures whole { (j : ℕ) → j < result → IsWhole recording.now start j }
-    ensures all { (j : ℕ) → j < 8 → IsWhole recording.now start j → j < result }
+    ensures whole { (j : ℕ) → j < result → IsWhole recording.now place.start j }
+    ensures all { (j : ℕ) → j < 8 → IsWhole recording.now place.start j → j < result }
 {
-    let length = recording.len().saturating_sub(start as usize);
+    let length = recording.len().saturating_sub(place.start() as usize);
     (length / FRAME_LENGTH).min(8) as u8
 }
 
@@ -45,15 +45,14 @@ fn symbol_of(recording: &Recording, frame: usize, number: u8, l: usize) -> [Cpx;
     )
 }
 
-/// The seven symbols of a slot of frame `j` of a start by its number, 0 to 19, as they are seen, each by 72 subcarriers.
-/// The frame lies within the recording. Components have size at most 2^25.
-pub fn symbols_of(recording: &Recording, start: u32, j: u8, number: u8) -> [[Cpx; 72]; 7]
-    requires whole { IsWhole recording.now start j }
+// The seven symbols of a slot, in a frame that begins at the given sample.
+fn symbols_in(recording: &Recording, frame: usize, number: u8) -> [[Cpx; 72]; 7]
+    requires within { frame + frame_length ≤ length recording.now }
+    requires small { frame < 2 ^ 40 }
     requires number { number < 20 }
-    ensures symbols { (identity : ℕ) → result ≡ (seen_slot recording.now (frame_at start j) number identity).symbols }
+    ensures symbols { (identity : ℕ) → result ≡ (seen_slot recording.now frame number identity).symbols }
     ensures small { AreSmall result }
 {
-    let frame = start as usize + FRAME_LENGTH * j as usize;
     [
         symbol_of(recording, frame, number, 0),
         symbol_of(recording, frame, number, 1),
@@ -65,20 +64,32 @@ pub fn symbols_of(recording: &Recording, start: u32, j: u8, number: u8) -> [[Cpx
     ]
 }
 
-/// A slot of frame `j` of a start by its number, 0 to 19, as it is seen. The frame lies within the recording.
-pub fn slot_of(recording: &Recording, id: CellId, start: u32, j: u8, number: u8) -> Slot
-    requires whole { IsWhole recording.now start j }
+/// The seven symbols of a slot of frame `j` of a cell by its number, 0 to 19, as they are seen, each by 72 subcarriers.
+/// The frame lies within the recording. Components have size at most 2^25.
+pub fn symbols_of(recording: &Recording, place: CellPlace, j: u8, number: u8) -> [[Cpx; 72]; 7]
+    requires whole { IsWhole recording.now place.start j }
     requires number { number < 20 }
-    ensures { result ≡ seen_slot recording.now (frame_at start j) number id }
+    ensures symbols { result ≡ (seen_slot recording.now (frame_at place.start j) number place.id).symbols }
+    ensures small { AreSmall result }
 {
-    Slot::new(symbols_of(recording, start, j, number), number, id)
+    let frame = place.start() as usize + FRAME_LENGTH * j as usize;
+    symbols_in(recording, frame, number)
 }
 
-/// The slot of frame `j` of a start that carries the broadcast channel, as it is seen. The frame
-/// lies within the recording.
-pub fn broadcast_slot(recording: &Recording, id: CellId, start: u32, j: u8) -> Slot
-    requires { IsWhole recording.now start j }
-    ensures { result ≡ broadcast_slot_of recording.now id start j }
+/// A slot of frame `j` of a cell by its number, 0 to 19, as it is seen. The frame lies within the recording.
+pub fn slot_of(recording: &Recording, place: CellPlace, j: u8, number: u8) -> Slot
+    requires whole { IsWhole recording.now place.start j }
+    requires number { number < 20 }
+    ensures { result ≡ seen_slot recording.now (frame_at place.start j) number place.id }
 {
-    slot_of(recording, id, start, j, 1)
+    Slot::new(symbols_of(recording, place, j, number), number, place.id())
+}
+
+/// The slot of frame `j` of a cell that carries the broadcast channel, as it is seen. The frame
+/// lies within the recording.
+pub fn broadcast_slot(recording: &Recording, place: CellPlace, j: u8) -> Slot
+    requires { IsWhole recording.now place.start j }
+    ensures { result ≡ broadcast_slot_of recording.now place.id place.start j }
+{
+    slot_of(recording, place, j, 1)
 }

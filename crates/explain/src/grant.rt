@@ -3,13 +3,14 @@
 ghost use Rattle.std.specs.Prelude.{◌≡◌, IsNone, IsErr, IsOk, ◌↔◌};
 ghost use Rattle.explain.specs.Frame.{IsWhole};
 ghost use Rattle.explain.specs.Entries.{IsInList};
-ghost use Rattle.explain.specs.Grant.{IsAttemptAt, IsGrantOf, told_by as told_of, IsOneGrant};
+ghost use Rattle.explain.specs.Grant.{IsFrameAttempt, IsGrantOf, told_by as told_of, IsOneGrant};
 
 use crate::Workspace;
+use crate::cells::place_in;
 use crate::frame::{is_whole, slot_of};
 use crate::system::even_frame;
 use dci::Grant;
-use lte_types::{Cfi, Entry};
+use lte_types::{CellPlace, Cfi, Entry, Mib};
 use sample_file::Recording;
 use system_block::{Attempt, Decoders, attempt_in};
 
@@ -33,12 +34,13 @@ fn first_grant(recording: &Recording, entry: &Entry, work: &mut Decoders) -> Opt
     requires read { IsOk entry.now.sib1 }
     ensures { IsGrantOf recording.now entry.now result }
 {
+    let place = place_in(recording, entry);
     for i in 0..8 {
         let j = even_frame(entry.sfn, i);
-        if !is_whole(recording, entry.start, j) {
+        if !is_whole(recording, place, j) {
             return None;
         }
-        let attempt = attempt_at(recording, entry, j, work);
+        let attempt = attempt_at(recording, place, entry.mib, j, work);
         match told_by(&attempt) {
             Some(told) => return Some(told),
             None => {}
@@ -58,14 +60,20 @@ fn told_by(attempt: &Attempt) -> Option<(Cfi, Grant)>
     }
 }
 
-// The attempt on a frame of the entry's cell.
-fn attempt_at(recording: &Recording, entry: &Entry, j: u8, work: &mut Decoders) -> Attempt
-    requires { IsWhole recording.now entry.now.start j }
-    ensures { IsAttemptAt recording.now entry.now j result }
+// The attempt on a frame of a cell.
+fn attempt_at(
+    recording: &Recording,
+    place: CellPlace,
+    mib: Mib,
+    j: u8,
+    work: &mut Decoders,
+) -> Attempt
+    requires { IsWhole recording.now place.start j }
+    ensures { IsFrameAttempt recording.now place mib j result }
 {
-    let first = slot_of(recording, entry.id, entry.start, j, 10);
-    let second = slot_of(recording, entry.id, entry.start, j, 11);
-    attempt_in(&first, &second, entry.mib, work)
+    let first = slot_of(recording, place, j, 10);
+    let second = slot_of(recording, place, j, 11);
+    attempt_in(&first, &second, mib, work)
 }
 
 /// The indicator and the grant of an entry are certain ones.

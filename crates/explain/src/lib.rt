@@ -18,7 +18,7 @@ mod reading;
 mod system;
 mod workspace;
 
-pub use cells::{explain, place_of, values_of};
+pub use cells::{explain, place_in, place_of, values_of};
 pub use entry_list::EntryList;
 pub use entry_slot::slot_of_entry;
 pub use frame::{broadcast_slot, slot_of, symbols_of, whole_frames};
@@ -26,7 +26,7 @@ pub use frame_reader::FrameReader;
 pub use grant::{grant_of, one_grant};
 pub use laws::{one_frame_is_enough, the_first_frames_decide, the_list_in_plain_words};
 pub use masters::{Masters, first_masters, has_master};
-pub use places::{Place, Places};
+pub use places::Places;
 pub use reader::CellReader;
 pub use reading::explain_by;
 pub use system::system_of;

@@ -12,7 +12,7 @@ ghost use Rattle.explain.specs.Window.{TellNone, HasNoMasters};
 
 use crate::FrameReader;
 use crate::frame::whole_frames;
-use lte_types::CellId;
+use lte_types::CellPlace;
 use pbch::Master;
 use sample_file::Recording;
 use tailbite::Trellis;
@@ -26,31 +26,30 @@ pub struct Masters {
     pub at: [Option<Master>; 4],
 }
 
-// What was received in frames 0 to 7 of a start, as far as they were read.
+// What was received in frames 0 to 7 of a cell, as far as they were read.
 type Received = [[i16; 480]; 8];
 
-/// The first of the whole frames 0 to 7 of a start that have a master block at any phase, with all their
+/// The first of the whole frames 0 to 7 of a cell that have a master block at any phase, with all their
 /// master blocks: a single frame, or else two, three or four that follow one another in one period.
 /// `None` exactly where no frames have any. Each frame is received once.
 pub fn first_masters<F: FrameReader>(
     reader: &F,
     recording: &Recording,
-    id: CellId,
-    start: u32,
+    place: CellPlace,
     work: &mut Trellis,
 ) -> Option<Masters>
     ensures { let Tells = IsToldBy (F.frame_values recording.now) F.takes in
-        MatchOption result (HasNoMasters Tells recording.now id start)
-        (λ found. AreFirstWith Tells recording.now id start found.frames found.frame found.at) }
+        MatchOption result (HasNoMasters Tells recording.now place)
+        (λ found. AreFirstWith Tells recording.now place found.frames found.frame found.at) }
 {
-    let whole = whole_frames(recording, start);
+    let whole = whole_frames(recording, place);
     let mut received = [[0; 480]; 8];
-    match first_alone(reader, recording, id, start, whole, &mut received, work) {
+    match first_alone(reader, recording, place, whole, &mut received, work) {
         Some(found) => return Some(found),
         None => {}
     }
     for frames in 2..5 {
-        match first_of(reader, id, frames, whole, &received, work) {
+        match first_of(reader, place, frames, whole, &received, work) {
             Some(found) => return Some(found),
             None => {}
         }
@@ -62,25 +61,24 @@ pub fn first_masters<F: FrameReader>(
 fn first_alone<F: FrameReader>(
     reader: &F,
     recording: &Recording,
-    id: CellId,
-    start: u32,
+    place: CellPlace,
     whole: u8,
     frames: &mut Received,
     work: &mut Trellis,
 ) -> Option<Masters>
     requires few { whole ≤ 8 }
-    requires whole { (j : ℕ) → j < whole → IsWhole recording.now start j }
+    requires whole { (j : ℕ) → j < whole → IsWhole recording.now place.start j }
     requires sizes { RowsWithin 127 frames.old }
     ensures found { let Tells = IsToldBy (F.frame_values recording.now) F.takes in
-        MatchOption result (NoneTell Tells id start whole 1)
-        (λ found. (found.frames ≡ 1) × AreFirstOf Tells id start whole 1 found.frame found.at) }
-    ensures received { MatchOption result (AreReceived (F.frame_values recording.now id start) whole frames.new)
+        MatchOption result (NoneTell Tells place whole 1)
+        (λ found. (found.frames ≡ 1) × AreFirstOf Tells place whole 1 found.frame found.at) }
+    ensures received { MatchOption result (AreReceived (F.frame_values recording.now place) whole frames.new)
         (λ found. Unit) }
     ensures sizes { RowsWithin 127 frames.new }
 {
     for frame in 0..whole {
-        frames[frame as usize] = reader.received(recording, id, start, frame);
-        match masters_of(reader, id, 1, frame, frames, work) {
+        frames[frame as usize] = reader.received(recording, place, frame);
+        match masters_of(reader, place, 1, frame, frames, work) {
             Some(found) => return Some(found),
             None => {}
         }
@@ -91,7 +89,7 @@ fn first_alone<F: FrameReader>(
 // The first `count` of the first `whole` frames that have a master block together.
 fn first_of<F: FrameReader>(
     reader: &F,
-    id: CellId,
+    place: CellPlace,
     count: u8,
     whole: u8,
     frames: &Received,
@@ -101,14 +99,14 @@ fn first_of<F: FrameReader>(
     requires few { count ≤ 4 }
     requires whole { whole ≤ 8 }
     requires sizes { RowsWithin 127 frames.now }
-    ensures { (recording : List Sample) (start : ℕ) →
-        AreReceived (F.frame_values recording id start) whole frames.now →
+    ensures { (recording : List Sample) →
+        AreReceived (F.frame_values recording place) whole frames.now →
         let Tells = IsToldBy (F.frame_values recording) F.takes in
-        MatchOption result (NoneTell Tells id start whole count)
-        (λ found. (found.frames ≡ count) × AreFirstOf Tells id start whole count found.frame found.at) }
+        MatchOption result (NoneTell Tells place whole count)
+        (λ found. (found.frames ≡ count) × AreFirstOf Tells place whole count found.frame found.at) }
 {
     for frame in 0..(whole + 1).saturating_sub(count) {
-        match masters_of(reader, id, count, frame, frames, work) {
+        match masters_of(reader, place, count, frame, frames, work) {
             Some(found) => return Some(found),
             None => {}
         }
@@ -119,7 +117,7 @@ fn first_of<F: FrameReader>(
 // The master blocks of `count` frames from a first one on, where they have any.
 fn masters_of<F: FrameReader>(
     reader: &F,
-    id: CellId,
+    place: CellPlace,
     count: u8,
     frame: u8,
     frames: &Received,
@@ -129,17 +127,17 @@ fn masters_of<F: FrameReader>(
     requires few { count ≤ 4 }
     requires known { frame + count ≤ 8 }
     requires sizes { RowsWithin 127 frames.now }
-    ensures { (recording : List Sample) (start : ℕ) →
-        AreReceived (F.frame_values recording id start) (frame + count) frames.now →
+    ensures { (recording : List Sample) →
+        AreReceived (F.frame_values recording place) (frame + count) frames.now →
         let Tells = IsToldBy (F.frame_values recording) F.takes in
-        MatchOption result (TellNone Tells id start count frame)
+        MatchOption result (TellNone Tells place count frame)
         (λ found. (found.frames ≡ count) × (found.frame ≡ frame)
-        × HaveMasters Tells id start count frame found.at) }
+        × HaveMasters Tells place count frame found.at) }
 {
     let first = frame as usize;
     let at = taken(
         reader,
-        &pbch::masters(id, &frames[first..first + count as usize], work),
+        &pbch::masters(place.id(), &frames[first..first + count as usize], work),
     );
     if !has_master(&at) {
         return None;

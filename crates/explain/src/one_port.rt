@@ -1,18 +1,18 @@
 //! The way to read the cells of a recording by one antenna port.
 
-ghost use Rattle.std.specs.Prelude.{◌≡◌, true};
+ghost use Rattle.std.specs.Prelude.{true};
 ghost use Rattle.pss_search.specs.Hits.{IsInSpan};
 ghost use Rattle.pbch.specs.Values.{received_values};
 ghost use Rattle.explain.specs.Frame.{broadcast_slot as broadcast_slot_of};
-ghost use Rattle.explain.specs.Places.{place_at};
+ghost use Rattle.explain.specs.Entries.{place_at};
 ghost use Rattle.explain.specs.Window.{IsMasterAt};
 ghost use Rattle.explain.specs.System.{FrameAnswers, IsSystemOf};
 
 use crate::frame::{broadcast_slot, slot_of};
 use crate::masters::first_masters;
 use crate::system::system_of;
-use crate::{CellReader, FrameReader, Masters, Place};
-use lte_types::{CellId, Hit, Mib, Sfn, Sib1, Sib1Reason};
+use crate::{CellReader, FrameReader, Masters};
+use lte_types::{CellPlace, Hit, Mib, Sfn, Sib1, Sib1Reason};
 use pbch::{Master, received};
 use sample_file::Recording;
 use system_block::{Decoders, read};
@@ -21,8 +21,7 @@ use system_block::{Decoders, read};
 pub(crate) struct OnePort;
 
 impl FrameReader for OnePort {
-    ghost frame_values = { λ recording identity start j.
-        received_values (broadcast_slot_of recording identity start j) };
+    ghost frame_values = { λ recording place j. received_values (broadcast_slot_of recording place.id place.start j) };
 
     ghost takes = { λ ports. true };
 
@@ -30,8 +29,8 @@ impl FrameReader for OnePort {
 
     ghost answers = { FrameAnswers };
 
-    fn received(&self, recording: &Recording, id: CellId, start: u32, j: u8) -> [i16; 480] {
-        received(&broadcast_slot(recording, id, start, j))
+    fn received(&self, recording: &Recording, place: CellPlace, j: u8) -> [i16; 480] {
+        received(&broadcast_slot(recording, place, j))
     }
 
     fn takes_ports(&self, ports: u8) -> bool {
@@ -45,14 +44,13 @@ impl FrameReader for OnePort {
     fn answer(
         &self,
         recording: &Recording,
-        id: CellId,
-        start: u32,
+        place: CellPlace,
         j: u8,
         mib: Mib,
         work: &mut Decoders,
     ) -> Result<Sib1, Sib1Reason> {
-        let first = slot_of(recording, id, start, j, 10);
-        let second = slot_of(recording, id, start, j, 11);
+        let first = slot_of(recording, place, j, 10);
+        let second = slot_of(recording, place, j, 11);
         read(&first, &second, mib, work)
     }
 
@@ -68,23 +66,22 @@ impl CellReader for Decoders {
 
     ghost told = { IsSystemOf };
 
-    fn place_of(&self, recording: &Recording, hit: &Hit) -> Place {
+    fn place_of(&self, recording: &Recording, hit: &Hit) -> CellPlace {
         crate::place_of(recording, hit)
     }
 
-    fn first_masters(&mut self, recording: &Recording, id: CellId, start: u32) -> Option<Masters> {
-        first_masters(&OnePort, recording, id, start, &mut self.trellis)
+    fn first_masters(&mut self, recording: &Recording, place: CellPlace) -> Option<Masters> {
+        first_masters(&OnePort, recording, place, &mut self.trellis)
     }
 
     fn system_of(
         &mut self,
         recording: &Recording,
-        id: CellId,
-        start: u32,
+        place: CellPlace,
         sfn: Sfn,
         master: Master,
     ) -> Result<Sib1, Sib1Reason> {
-        system_of(&OnePort, recording, id, start, sfn, master, self)
+        system_of(&OnePort, recording, place, sfn, master, self)
     }
 
     fn tells_one_answer(&self) {}

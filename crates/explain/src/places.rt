@@ -2,29 +2,22 @@
 
 ghost use Rattle.std.specs.Prelude.{◌≡◌, ◌≤◌, ◌<◌, List, [], ◌∷◌, ◌++◌, length, IfOk};
 ghost use Rattle.std.specs.Vec.{vec_capacity};
-ghost use Rattle.explain.specs.declared.places.Place.{Place as PlaceValue};
+ghost use Rattle.lte_types.specs.CellPlace.{Place};
 ghost use Rattle.explain.specs.Places.{is_met};
 
-use lte_types::CellId;
+use lte_types::CellPlace;
 use std::alloc::{AllocError, Global};
 use std::marker::Model;
-
-/// Where a cell was met: its identity, and the sample at which its first frame starts.
-#[derive(Clone, Copy, PartialEq, Eq)]
-pub struct Place {
-    pub id: CellId,
-    pub start: u32,
-}
 
 /// The places of hits with room for 5,760, which no recording passes. Contracts see them as the list of
 /// its items.
 #[derive(Drop)]
 pub struct Places {
-    met: Vec<Place>,
+    met: Vec<CellPlace>,
 }
 
 impl Model for Places {
-    ghost Value = { List PlaceValue };
+    ghost Value = { List Place };
 
     ghost view = { λ p. p.met.items };
 
@@ -49,14 +42,14 @@ impl Places {
     }
 
     /// Whether the place is one of them.
-    pub fn has(&self, place: &Place) -> bool
+    pub fn has(&self, place: &CellPlace) -> bool
         ensures { result ≡ is_met self.now place.now }
     {
         self.met.iter().any(|met| met == place)
     }
 
     /// Puts the place at the end. It takes no memory.
-    pub fn add(&mut self, place: &Place)
+    pub fn add(&mut self, place: &CellPlace)
         requires { length self.old < 5760 }
         ensures { self.new ≡ self.old ++ place.now ∷ [] }
     {

@@ -6,10 +6,10 @@ ghost use Rattle.explain.specs.Entries.{AddsHit};
 ghost use Rattle.explain.specs.Places.{is_met};
 ghost use Rattle.explain.specs.Masters.{entry_of as entry_of_master, AddsPhase, AddsPhases};
 ghost use Rattle.explain.specs.Reader.{AreEntriesBy, IsListBy};
-ghost use Rattle.lte_types.specs.Numerology.{frame_length};
+ghost use Rattle.lte_types.specs.Frames.{AreFrames, frames_from};
 
 use crate::{CellReader, EntryList, Masters, Places};
-use lte_types::{CellId, Entry, Hit, Sfn};
+use lte_types::{CellPlace, Entry, Frames, Hit};
 use pbch::Master;
 use sample_file::Recording;
 
@@ -84,8 +84,8 @@ fn add_hit<R: CellReader>(
     }
     places.add(&place);
     reader.tells_one_answer();
-    match reader.first_masters(recording, place.id, place.start) {
-        Some(masters) => add_masters(reader, recording, place.id, place.start, &masters, list),
+    match reader.first_masters(recording, place) {
+        Some(masters) => add_masters(reader, recording, place, &masters, list),
         None => {}
     }
 }
@@ -94,23 +94,21 @@ fn add_hit<R: CellReader>(
 fn add_masters<R: CellReader>(
     reader: &mut R,
     recording: &Recording,
-    id: CellId,
-    start: u32,
+    place: CellPlace,
     masters: &Masters,
     list: &mut EntryList,
 )
-    requires early { start < frame_length }
     requires some { 1 ≤ masters.now.frames }
     requires few { masters.now.frames ≤ 4 }
-    requires frame { masters.now.frame ≤ 7 }
+    requires known { masters.now.frame + masters.now.frames ≤ 8 }
     requires count { length masters.now.at ≡ 4 }
     requires room { length list.old + 4 ≤ 23040 }
-    ensures adds { AddsPhases (R.told recording.now) id start masters.now.frames masters.now.frame masters.now.at
+    ensures adds { AddsPhases (R.told recording.now) place masters.now.frames masters.now.frame masters.now.at
         (5 - masters.now.frames) list.old list.new }
     ensures few { length list.new ≤ length list.old + 4 }
 {
     for phase in 0..5 - masters.frames {
-        add_phase(reader, recording, id, start, masters, phase, list);
+        add_phase(reader, recording, place, masters, phase, list);
     }
 }
 
@@ -118,57 +116,59 @@ fn add_masters<R: CellReader>(
 fn add_phase<R: CellReader>(
     reader: &mut R,
     recording: &Recording,
-    id: CellId,
-    start: u32,
+    place: CellPlace,
     masters: &Masters,
     phase: u8,
     list: &mut EntryList,
 )
-    requires early { start < frame_length }
-    requires frame { masters.now.frame ≤ 7 }
+    requires frames { AreFrames (frames_from masters.now.frames masters.now.frame phase) }
     requires count { length masters.now.at ≡ 4 }
-    requires phase { phase < 4 }
     requires room { length list.old < 23040 }
-    ensures adds { AddsPhase (R.told recording.now) id start masters.now.frames masters.now.frame phase
+    ensures adds { AddsPhase (R.told recording.now) place (frames_from masters.now.frames masters.now.frame phase)
         (master_at masters.now.at phase) list.old list.new }
     ensures one { length list.new ≤ length list.old + 1 }
 {
+    let frames = frames_at(masters, phase);
     let master = masters.at[phase as usize];
     match master {
-        Some(master) => list.add(entry_of(reader, recording, id, start, masters, phase, master)),
+        Some(master) => list.add(entry_of(reader, recording, place, frames, master)),
         None => {}
     }
 }
 
-// The entry of a master block.
+// The frames of these master blocks, where the first of them has this phase.
+fn frames_at(masters: &Masters, phase: u8) -> Frames
+    requires { AreFrames (frames_from masters.now.frames masters.now.frame phase) }
+    ensures { result ≡ frames_from masters.now.frames masters.now.frame phase }
+{
+    match Frames::new(masters.frames, masters.frame, phase) {
+        Some(frames) => frames,
+        None => unreachable!(),
+    }
+}
+
+// The entry of a master block that frames tell.
 fn entry_of<R: CellReader>(
     reader: &mut R,
     recording: &Recording,
-    id: CellId,
-    start: u32,
-    masters: &Masters,
-    phase: u8,
+    place: CellPlace,
+    frames: Frames,
     master: Master,
 ) -> Entry
-    requires early { start < frame_length }
-    requires frame { masters.now.frame ≤ 7 }
-    requires phase { phase < 4 }
-    ensures entry { result
-        ≡ entry_of_master id start masters.now.frames masters.now.frame phase master result.sib1 }
-    ensures system { R.told recording.now id start result.sfn master.ports master.mib result.sib1 }
+    ensures entry { result ≡ entry_of_master place frames master result.sib1 }
+    ensures system { R.told recording.now place result.sfn master.ports master.mib result.sib1 }
 {
-    let number = 4 * master.mib.upper as u64 + phase as u64 + (1024 - masters.frame as u64);
-    let sfn = Sfn::modulo(number);
+    let sfn = frames.first_number(master.mib.upper);
     Entry {
-        id,
-        start,
+        id: place.id(),
+        start: place.start(),
         sfn,
         ports: master.ports,
         mib: master.mib,
-        frames: masters.frames,
-        frame: masters.frame,
-        phase,
+        frames: frames.count(),
+        frame: frames.first(),
+        phase: frames.phase(),
         cost: master.cost,
-        sib1: reader.system_of(recording, id, start, sfn, master),
+        sib1: reader.system_of(recording, place, sfn, master),
     }
 }

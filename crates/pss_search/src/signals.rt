@@ -1,6 +1,6 @@
 //! The samples of the three primary signals, and the sums of their squares.
 
-ghost use Rattle.std.specs.Prelude.{◌≡◌, ◌^◌, ◌<◌, ◌≤◌};
+ghost use Rattle.std.specs.Prelude.{◌≡◌, ◌≤◌};
 ghost use Rattle.pss_search.specs.Correlation.{wave_power};
 ghost use Rattle.pss_search.specs.Folding.{half_re, half_im};
 
@@ -12,7 +12,7 @@ const RE_25: [i32; 65] = [
     66, 185, 102, 3, 26, 47, -40, -107,
 ];
 
-// Their imaginary parts.
+// Root 25, imaginary parts.
 const IM_25: [i32; 65] = [
     -72, -7, 69, 1, -134, -132, 21, 140, 117, 48, 35, 41, 0, -41, -12, 49, 70, 70, 100, 104, 1,
     -141, -145, 8, 117, 37, -111, -116, 26, 122, 56, -81, -145, -119, -70, -31, 13, 54, 67, 52, 36,
@@ -20,7 +20,7 @@ const IM_25: [i32; 65] = [
     109, 112, 108, 105,
 ];
 
-// The same of root 29.
+// Root 29, real parts.
 const RE_29: [i32; 65] = [
     -109, -51, 63, 133, 133, 120, 131, 120, 44, -47, -73, -43, -21, 1, 75, 149, 101, -50, -119,
     -19, 95, 55, -79, -138, -113, -110, -128, -80, 15, 38, -10, 0, 92, 147, 118, 101, 132, 110, 5,
@@ -28,7 +28,7 @@ const RE_29: [i32; 65] = [
     48, 67, -39, -106, -57, 32, 73,
 ];
 
-// Their imaginary parts.
+// Root 29, imaginary parts.
 const IM_29: [i32; 65] = [
     68, 6, -94, -91, 22, 100, 30, -102, -119, 7, 112, 57, -87, -147, -90, -42, -81, -124, -73, 35,
     96, 86, 62, 36, -19, -69, -29, 93, 158, 72, -71, -112, -26, 73, 104, 88, 52, -16, -91, -84, 37,
@@ -48,7 +48,7 @@ pub(crate) struct Signal {
 }
 
 impl Signal {
-    // That of root 25 or of root 29.
+    // The signal of root 25 or of root 29.
     pub(crate) fn new(n2: u8) -> Self
         requires { n2 ≤ 1 }
         ensures { result.n2 ≡ n2 }

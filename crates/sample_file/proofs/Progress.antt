@@ -4,13 +4,14 @@ use Rattle.std.specs.List.{copy_within}
 use Rattle.std.proofs.Math.Seq.{paste, take-add}
 use Rattle.std.proofs.lemmas.List.Edits.{take-paste}
 use Rattle.cs_num.specs.declared.Sample.{Sample}
+use Rattle.lte_types.specs.Numerology.{least_samples, most_samples}
 use Rattle.cs_outside.specs.Counts.{Rose}
 use Rattle.cs_outside.specs.Outside.{SourceTold}
 use Rattle.cs_outside.specs.Streams.{HasRead, HasReadAll, HasReadOn, HasReadPast, HasReadFault}
 use Rattle.cs_outside.proofs.Reading.{read_then}
 use Rattle.sample_file.specs.declared.form.SampleForm.{SampleForm}
 use Rattle.sample_file.specs.declared.form.SampleForm.TheVariants.{Ci16, Cu8}
-use Rattle.sample_file.specs.Recording.{width, samples_in, least_samples, most_samples}
+use Rattle.sample_file.specs.Recording.{width, samples_in}
 use Rattle.sample_file.specs.Reading.{least_bytes, most_bytes, HasReadRecording, HasReadRagged, HasReadTooShort}
 use Rattle.sample_file.specs.Steps.{TakesSamples, HasReadSamples}
 use Rattle.sample_file.proofs.Samples.{samples_joined, length-of_whole}

@@ -1,10 +1,11 @@
 -- What a source gave when a recording was read from it (own): what it told before, and what it tells now.
 use Rattle.std.specs.Prelude.{◌≡◌, ◌≢◌, ℕ, ◌*◌, ◌%◌, ◌<◌, ◌≤◌, List, length}
 use Rattle.cs_num.specs.declared.Sample.{Sample}
+use Rattle.lte_types.specs.Numerology.{least_samples, most_samples}
 use Rattle.cs_outside.specs.Outside.{SourceTold}
 use Rattle.cs_outside.specs.Streams.{HasReadAll}
 use Rattle.sample_file.specs.declared.form.SampleForm.{SampleForm}
-use Rattle.sample_file.specs.Recording.{width, samples_in, least_samples, most_samples}
+use Rattle.sample_file.specs.Recording.{width, samples_in}
 
 -- the fewest bytes that a recording has
 abbrev pub least_bytes : SampleForm → ℕ

@@ -5,6 +5,7 @@ use Rattle.std.specs.Int.{w16, cast_unsigned}
 use Rattle.byteorder.specs.Endian.{twos_complement, little_bytes}
 use Rattle.cs_num.specs.declared.Sample.{Sample}
 use Rattle.cs_num.specs.Complex.{IsWithin, value_of}
+use Rattle.lte_types.specs.Numerology.{least_samples, most_samples}
 use Rattle.sample_file.specs.declared.form.SampleForm.{SampleForm}
 use Rattle.sample_file.specs.declared.form.SampleForm.TheVariants.{Ci16, Cu8}
 
@@ -65,14 +66,6 @@ sample_in Ci16 bytes = record {
 sample_in Cu8 bytes = record { re = centred (slice_index bytes 0); im = centred (slice_index bytes 1) }
 
 -- ---- how many samples a recording has
-
--- at least these: 30 ms
-abbrev pub least_samples : ℕ
-least_samples = 57600
-
--- at most these: one second
-abbrev pub most_samples : ℕ
-most_samples = 1920000
 
 -- a recording has 57,600 to 1,920,000 samples
 pub record IsRecording (samples : List Sample) : Type 0 where

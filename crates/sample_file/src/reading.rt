@@ -1,18 +1,20 @@
 //! A recording read from a source of bytes.
 
 ghost use Rattle.std.specs.Prelude.{◌≡◌, ◌+◌, ◌*◌, ◌^◌, ◌<◌, ◌≤◌, ◌++◌, length, take, IfOk, IsErr, IsErrOf};
+ghost use Rattle.lte_types.specs.Numerology.{least_samples, most_samples};
 ghost use Rattle.cs_outside.specs.Outside.{SourceTold};
 ghost use Rattle.cs_outside.specs.Streams.{HasReadPast, HasReadFault};
 ghost use Rattle.sample_file.specs.Reading.{HasReadRecording, HasReadRagged, HasReadTooShort, most_bytes};
-ghost use Rattle.sample_file.specs.Recording.{IsRecording, samples_in, width as width_of, least_samples, most_samples};
+ghost use Rattle.sample_file.specs.Recording.{IsRecording, samples_in, width as width_of};
 ghost use Rattle.sample_file.specs.Steps.{TakesSamples};
 ghost use Rattle.sample_file.specs.declared.form.SampleForm.TheVariants.{Ci16, Cu8};
 ghost use Rattle.sample_file.specs.declared.reading.FileError.TheVariants.{OutOfMemory};
 
 use crate::SampleForm;
-use crate::recording::{MOST, Recording};
+use crate::recording::Recording;
 use cs_num::Sample;
 use cs_outside::{Failed, Source, read_at};
+use lte_types::MOST_SAMPLES;
 use std::alloc::{AllocError, Global};
 use thiserror::Error;
 
@@ -69,7 +71,7 @@ pub fn read_as<S: Source>(
         HasReadFault (most_bytes form) (S.told source.old) (S.told source.new) }
     ensures never_falls { (S.told source.old).faults ≤ (S.told source.new).faults }
 {
-    let limit = bytes_read(form, MOST, 0);
+    let limit = bytes_read(form, MOST_SAMPLES, 0);
     let mut samples = Vec::new(alloc);
     let mut buffer = [0u8; PIECE];
     let mut begun = 0;

@@ -6,13 +6,8 @@ ghost use Rattle.sample_file.specs.Recording.{IsRecording};
 ghost use Rattle.cs_num.specs.Complex.{silence};
 
 use cs_num::Sample;
+use lte_types::{LEAST_SAMPLES, MOST_SAMPLES};
 use std::marker::Model;
-
-/// The fewest samples of a recording: 30 ms.
-pub(crate) const LEAST: usize = 57_600;
-
-/// The most samples of a recording: one second.
-pub(crate) const MOST: usize = 1_920_000;
 
 /// A list of 57,600 to 1,920,000 samples at 1.92 million samples per second: 30 ms to one second.
 /// Contracts see it as the list of its samples. (own)
@@ -36,7 +31,7 @@ impl Recording {
         ensures valid { IsSome result ↔ IsRecording samples.items }
         ensures value { IfSome result (λ recording. recording ≡ samples.items) }
     {
-        if (LEAST..=MOST).contains(&samples.len()) {
+        if (LEAST_SAMPLES..=MOST_SAMPLES).contains(&samples.len()) {
             Some(Recording { samples })
         } else {
             None

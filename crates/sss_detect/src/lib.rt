@@ -9,10 +9,11 @@ mod score;
 ghost use Rattle.std.specs.Prelude.{◌≡◌, ◌+◌, ◌≤◌, length};
 ghost use Rattle.lte_types.specs.Numerology.{normal, symbol_step};
 ghost use Rattle.sss_detect.specs.Identity.{IsBest, prefix_scores, prefix_identity, scores_of, identity_of};
+ghost use Rattle.sss_detect.specs.Place.{prefix_place};
 ghost use Rattle.sss_detect.specs.Laws.{BestPairIsBest, OnlyOneIsBest};
 
 pub use choose::best;
-use lte_types::{Half, Hit, Prefix};
+use lte_types::{CellPlace, Half, Hit, Prefix};
 use observe::symbol;
 pub use place::{cell_id, frame_start};
 use sample_file::Recording;
@@ -44,6 +45,21 @@ pub fn identity(recording: &Recording, hit: &Hit) -> (u16, Half)
     ensures best { IsBest (scores_of recording.now hit.now) result.0 result.1 }
 {
     identity_with(recording, hit, Prefix::NORMAL)
+}
+
+/// The place of the cell that a hit tells by a cyclic prefix: its identity, and the sample at which its first frame
+/// starts. `t`, the primary symbol and `n2` are as for `identity_with`.
+pub fn place_with(recording: &Recording, hit: &Hit, prefix: Prefix) -> CellPlace
+    requires after { symbol_step prefix ≤ hit.now.t }
+    requires within { hit.now.t + 128 ≤ length recording.now }
+    requires member { hit.now.n2 ≤ 2 }
+    ensures { result ≡ prefix_place prefix recording.now hit.now }
+{
+    let (n1, half) = identity_with(recording, hit, prefix);
+    match CellPlace::new(cell_id(n1, hit.n2), frame_start(hit, half)) {
+        Some(place) => place,
+        None => unreachable!(),
+    }
 }
 
 /// The best pair in plain words: it is the first of the pairs of greatest score, and no other is.

@@ -5,7 +5,8 @@ use Rattle.finite.specs.Sizes.{AllWithin}
 use Rattle.finite.proofs.Lists.{set_more}
 use Rattle.pbch.specs.Values.{received_values}
 use Rattle.pbch.specs.Master.{TellsMaster}
-use Rattle.explain.specs.Frame.{broadcast_slot}
+use Rattle.lte_types.specs.CellPlace.{Place}
+use Rattle.explain.specs.Frame.{IsWhole, broadcast_slot}
 use Rattle.explain.specs.Entries.{master_of}
 use Rattle.explain.proofs.FirstFrame.{rows_of_frames, values_of_frames}
 use Rattle.explain.proofs.Listed.{is_sound}
@@ -28,7 +29,7 @@ overflow_add-entry c =
 pub broadcast_slot-slot-requires : goal.broadcast_slot-slot-requires
 broadcast_slot-slot-requires c =
     let s = is_sound c.args.recording.now c.requires.list c.args.entry.now c.requires.explained c.requires.inside in
-    s.is_of.frames.inside.whole c.loop-m.m c.loop-m-test.true
+    subst (λ p. IsWhole c.args.recording.now p.start (c.args.entry.now.frame + c.loop-m.m)) (sym c.place_in-place.ensures) (s.is_of.frames.inside.whole c.loop-m.m c.loop-m-test.true)
 
 pub bounds-frames-m : goal.bounds-frames-m
 bounds-frames-m c =
@@ -47,7 +48,7 @@ loop-m-preserved c =
     record {
       whole = length-set c.loop-m.frames c.loop-m.m _ ∙ whole;
       each = set_more [] c.loop-m.m (λ m. received_values (broadcast_slot c.args.recording.now entry.id entry.start (entry.frame + m))) c.loop-m.frames c.received.result
-          (omega (arith, whole, few, test)) (c.received.ensures.values ∙ ap received_values c.broadcast_slot-slot.ensures) c.loop-m.invariant.each;
+          (omega (arith, whole, few, test)) (c.received.ensures.values ∙ ap received_values (c.broadcast_slot-slot.ensures ∙ ap (λ (p : Place). broadcast_slot c.args.recording.now p.id p.start (entry.frame + c.loop-m.m)) c.place_in-place.ensures)) c.loop-m.invariant.each;
       sizes = All-set (AllWithin 127) c.loop-m.frames c.loop-m.m c.received.result c.received.ensures.sizes c.loop-m.invariant.sizes;
     }
 

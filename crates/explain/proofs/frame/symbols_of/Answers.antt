@@ -1,9 +1,8 @@
-use Rattle.std.proofs.Common.{◌∙◌, refl}
-use Rattle.explain.specs.Frame.{seen_slot}
+use Rattle.std.proofs.Common.{◌∙◌, ℕ, ap}
+use Rattle.explain.specs.Frame.{frame_at, seen_slot}
 use Rattle.explain.proofs.frame.symbols_of.Goals as goal
 
 pub returns-clause-symbols : goal.returns-clause-symbols
-unfolding seen_slot
-returns-clause-symbols c identity =
-    rw (c.symbol_of.ensures.value, c.symbol_of-2.ensures.value, c.symbol_of-3.ensures.value, c.symbol_of-4.ensures.value, c.symbol_of-5.ensures.value, c.symbol_of-6.ensures.value, c.symbol_of-7.ensures.value)
-    refl
+returns-clause-symbols c =
+    c.symbols_in.ensures.symbols c.args.place.id
+    ∙ ap (λ (start : ℕ). (seen_slot c.args.recording.now (frame_at start c.args.j) c.args.number c.args.place.id).symbols) c.start.ensures.value

@@ -10,34 +10,32 @@ use Rattle.explain.proofs.masters.first_alone.Goals as goal
 pub returns-in-Some-clause-found : goal.returns-in-Some-clause-found
 returns-in-Some-clause-found g c =
     let recording = c.args.recording.now in
-    let id = c.args.id in
-    let start = c.args.start in
+    let place = c.args.place in
     let frame = c.loop-frame.frame in
     let few = c.requires.few in
     let test = c.loop-frame-test.true in
-    let (counts, at, have) = c.in-Some.ensures recording start
-    (λ j below. set_more [] frame (g.F.FrameReader.frame_values recording id start) c.loop-frame.frames c.received.result (let long = c.loop-frame.invariant.whole in omega (arith, long, few, test))
+    let (counts, at, have) = c.in-Some.ensures recording
+    (λ j below. set_more [] frame (g.F.FrameReader.frame_values recording place) c.loop-frame.frames c.received.result (let long = c.loop-frame.invariant.whole in omega (arith, long, few, test))
     c.received.ensures.values c.loop-frame.invariant.received j (omega (arith, below))) in (
       counts,
       record {
         within = omega (arith, at, test);
         first = λ i below. c.loop-frame.invariant.none i (omega (arith, below, at));
-        have = subst (λ j. HaveMasters (IsToldBy (g.F.FrameReader.frame_values recording) g.F.FrameReader.takes) id start 1 j c.in-Some.found.at) (sym at) have;
+        have = subst (λ j. HaveMasters (IsToldBy (g.F.FrameReader.frame_values recording) g.F.FrameReader.takes) place 1 j c.in-Some.found.at) (sym at) have;
       },
     )
 
 pub loop-frame-preserved : goal.loop-frame-preserved
 loop-frame-preserved g c =
     let recording = c.args.recording.now in
-    let id = c.args.id in
-    let start = c.args.start in
+    let place = c.args.place in
     let frame = c.loop-frame.frame in
     let few = c.requires.few in
     let test = c.loop-frame-test.true in
-    let received = set_more [] frame (g.F.FrameReader.frame_values recording id start) c.loop-frame.frames c.received.result (let long = c.loop-frame.invariant.whole in omega (arith, long, few, test))
+    let received = set_more [] frame (g.F.FrameReader.frame_values recording place) c.loop-frame.frames c.received.result (let long = c.loop-frame.invariant.whole in omega (arith, long, few, test))
     c.received.ensures.values c.loop-frame.invariant.received in
     record {
-      none = below_more (λ i. TellNone (IsToldBy (g.F.FrameReader.frame_values recording) g.F.FrameReader.takes) id start 1 i) frame c.loop-frame.invariant.none (c.in-None.ensures recording start received);
+      none = below_more (λ i. TellNone (IsToldBy (g.F.FrameReader.frame_values recording) g.F.FrameReader.takes) place 1 i) frame c.loop-frame.invariant.none (c.in-None.ensures recording received);
       received = received;
       sizes = All-set (AllWithin 127) c.loop-frame.frames frame c.received.result c.received.ensures.sizes c.loop-frame.invariant.sizes;
       whole = length-set c.loop-frame.frames frame c.received.result ∙ c.loop-frame.invariant.whole;

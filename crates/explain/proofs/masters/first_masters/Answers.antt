@@ -15,14 +15,14 @@ returns-in-Some g c =
     let whole = c.whole_frames-whole in
     let found = c.in-Some.found in
     let (counts, first) = c.in-Some.ensures.found in
-    subst (λ n. AreFirstWith (IsToldBy (g.F.FrameReader.frame_values recording) g.F.FrameReader.takes) recording c.args.id c.args.start n found.frame found.at) (sym counts)
-    (first_with (IsToldBy (g.F.FrameReader.frame_values recording) g.F.FrameReader.takes) recording c.args.id c.args.start whole.result whole.ensures.few whole.ensures.whole whole.ensures.all 1 found.frame found.at (omega arith) (omega arith)
+    subst (λ n. AreFirstWith (IsToldBy (g.F.FrameReader.frame_values recording) g.F.FrameReader.takes) recording c.args.place n found.frame found.at) (sym counts)
+    (first_with (IsToldBy (g.F.FrameReader.frame_values recording) g.F.FrameReader.takes) recording c.args.place whole.result whole.ensures.few whole.ensures.whole whole.ensures.all 1 found.frame found.at (omega arith) (omega arith)
     (λ fewer some less. absurd (omega (arith, some, less))) first)
 
 pub loop-frames-init : goal.loop-frames-init
 loop-frames-init g c count some below =
     let one : 1 ≡ count = omega (arith, some, below) in
-    subst (NoneTell (IsToldBy (g.F.FrameReader.frame_values c.args.recording.now) g.F.FrameReader.takes) c.args.id c.args.start c.whole_frames-whole.result) one c.in-None.ensures.found
+    subst (NoneTell (IsToldBy (g.F.FrameReader.frame_values c.args.recording.now) g.F.FrameReader.takes) c.args.place c.whole_frames-whole.result) one c.in-None.ensures.found
 
 pub returns-in-Some-first_of : goal.returns-in-Some-first_of
 returns-in-Some-first_of g c =
@@ -31,20 +31,20 @@ returns-in-Some-first_of g c =
     let found = c.in-Some-first_of.found in
     let test = c.loop-frames-test.true in
     let from = c.loop-frames.auto in
-    let (counts, first) = c.in-Some-first_of.ensures recording c.args.start c.in-None.ensures.received in
-    subst (λ n. AreFirstWith (IsToldBy (g.F.FrameReader.frame_values recording) g.F.FrameReader.takes) recording c.args.id c.args.start n found.frame found.at) (sym counts)
-    (first_with (IsToldBy (g.F.FrameReader.frame_values recording) g.F.FrameReader.takes) recording c.args.id c.args.start whole.result whole.ensures.few whole.ensures.whole whole.ensures.all c.loop-frames.frames found.frame found.at (omega arith) (omega (arith, test))
+    let (counts, first) = c.in-Some-first_of.ensures recording c.in-None.ensures.received in
+    subst (λ n. AreFirstWith (IsToldBy (g.F.FrameReader.frame_values recording) g.F.FrameReader.takes) recording c.args.place n found.frame found.at) (sym counts)
+    (first_with (IsToldBy (g.F.FrameReader.frame_values recording) g.F.FrameReader.takes) recording c.args.place whole.result whole.ensures.few whole.ensures.whole whole.ensures.all c.loop-frames.frames found.frame found.at (omega arith) (omega (arith, test))
     c.loop-frames.invariant first)
 
 pub loop-frames-preserved : goal.loop-frames-preserved
 loop-frames-preserved g c count some below =
     let recording = c.args.recording.now in
-    below_more (λ n. 1 ≤ n → NoneTell (IsToldBy (g.F.FrameReader.frame_values recording) g.F.FrameReader.takes) c.args.id c.args.start c.whole_frames-whole.result n) c.loop-frames.frames (λ n less one. c.loop-frames.invariant n one less)
-    (λ one. c.in-None-first_of.ensures recording c.args.start c.in-None.ensures.received) count below some
+    below_more (λ n. 1 ≤ n → NoneTell (IsToldBy (g.F.FrameReader.frame_values recording) g.F.FrameReader.takes) c.args.place c.whole_frames-whole.result n) c.loop-frames.frames (λ n less one. c.loop-frames.invariant n one less)
+    (λ one. c.in-None-first_of.ensures recording c.in-None.ensures.received) count below some
 
 pub returns : goal.returns
 returns g c =
     let whole = c.whole_frames-whole in
     let test = c.loop-frames-test.false in
-    no_masters (IsToldBy (g.F.FrameReader.frame_values c.args.recording.now) g.F.FrameReader.takes) c.args.recording.now c.args.id c.args.start whole.result whole.ensures.few whole.ensures.whole whole.ensures.all
+    no_masters (IsToldBy (g.F.FrameReader.frame_values c.args.recording.now) g.F.FrameReader.takes) c.args.recording.now c.args.place whole.result whole.ensures.few whole.ensures.whole whole.ensures.all
     (λ count some small. c.loop-frames.invariant count some (omega (arith, small, test)))

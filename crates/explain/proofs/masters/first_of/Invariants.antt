@@ -7,4 +7,4 @@ use Rattle.explain.proofs.masters.first_of.Given as goal
 -- none from a frame so far on have a master block
 abbrev pub invariant-loop-frame : goal.invariant-loop-frame
 invariant-loop-frame g l =
-    (recording : List Sample) (start : ℕ) → AreReceived (g.F.FrameReader.frame_values recording l.id start) l.whole l.frames → (i : ℕ) → i < l.frame → TellNone (IsToldBy (g.F.FrameReader.frame_values recording) g.F.FrameReader.takes) l.id start l.count i
+    (recording : List Sample) → AreReceived (g.F.FrameReader.frame_values recording l.place) l.whole l.frames → (i : ℕ) → i < l.frame → TellNone (IsToldBy (g.F.FrameReader.frame_values recording) g.F.FrameReader.takes) l.place l.count i

@@ -1,11 +1,13 @@
-use Rattle.std.proofs.Common.{◌∙◌, arith, refl, sym}
+use Rattle.std.proofs.Common.{◌∙◌, ℕ, ◌+◌, ◌-◌, length, take, drop, arith, refl, sym, subst}
+use Rattle.std.specs.List.{flat_map}
+use Rattle.pbch.specs.Master.{AreMasters}
 use Rattle.explain.specs.Received.{IsToldBy}
 use Rattle.explain.proofs.FirstFrame.{masters_of_frames, told_in_frames, none_beyond, no_master, has_one}
 use Rattle.explain.proofs.masters.masters_of.Goals as goal
 
 pub returns-then-not-has_master : goal.returns-then-not-has_master
-returns-then-not-has_master g c recording start are =
-    let id = c.args.id in
+returns-then-not-has_master g c recording are =
+    let place = c.args.place in
     let count = c.args.count in
     let frame = c.args.frame in
     let values = g.F.FrameReader.frame_values recording in
@@ -13,13 +15,14 @@ returns-then-not-has_master g c recording start are =
     let all = c.masters.result in
     let masters = c.taken-at.result in
     let known = c.requires.known in
-    let m = masters_of_frames (values id start) id count frame c.args.frames.now all (omega (arith, known)) are c.masters.ensures in
-    no_master (IsToldBy values takes) id start count frame masters c.requires.some (told_in_frames values takes id start count frame all masters c.taken-at.ensures.each c.requires.some m)
+    let m = masters_of_frames (values place) place.id count frame c.args.frames.now all (omega (arith, known)) are
+    (subst (λ (id : ℕ). AreMasters id (length (take (frame + count - frame) (drop frame c.args.frames.now))) (flat_map (λ row. row) (take (frame + count - frame) (drop frame c.args.frames.now))) all) c.id.ensures c.masters.ensures) in
+    no_master (IsToldBy values takes) place count frame masters c.requires.some (told_in_frames values takes place count frame all masters c.taken-at.ensures.each c.requires.some m)
     (sym c.has_master.ensures ∙ c.if-not-has_master.true)
 
 pub returns : goal.returns
-returns g c recording start are =
-    let id = c.args.id in
+returns g c recording are =
+    let place = c.args.place in
     let count = c.args.count in
     let frame = c.args.frame in
     let values = g.F.FrameReader.frame_values recording in
@@ -27,11 +30,12 @@ returns g c recording start are =
     let all = c.masters.result in
     let masters = c.taken-at.result in
     let known = c.requires.known in
-    let m = masters_of_frames (values id start) id count frame c.args.frames.now all (omega (arith, known)) are c.masters.ensures in (
+    let m = masters_of_frames (values place) place.id count frame c.args.frames.now all (omega (arith, known)) are
+    (subst (λ (id : ℕ). AreMasters id (length (take (frame + count - frame) (drop frame c.args.frames.now))) (flat_map (λ row. row) (take (frame + count - frame) (drop frame c.args.frames.now))) all) c.id.ensures c.masters.ensures) in (
       refl,
       refl,
       record {
-        are = told_in_frames values takes id start count frame all masters c.taken-at.ensures.each c.requires.some m;
-        some = has_one count masters (none_beyond values takes id start count frame all masters c.taken-at.ensures.each m) (sym c.has_master.ensures ∙ c.if-not-has_master.false);
+        are = told_in_frames values takes place count frame all masters c.taken-at.ensures.each c.requires.some m;
+        some = has_one count masters (none_beyond values takes place count frame all masters c.taken-at.ensures.each m) (sym c.has_master.ensures ∙ c.if-not-has_master.false);
       },
     )

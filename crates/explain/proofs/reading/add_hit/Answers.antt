@@ -6,11 +6,11 @@ pub returns-in-Some-clause-adds : goal.returns-in-Some-clause-adds
 returns-in-Some-clause-adds g c new =
     let r = c.args.recording.now in
     adds_entries (g.R.CellReader.tells r) (g.R.CellReader.told r) (c.tells_one_answer.ensures.master r) (c.tells_one_answer.ensures.system r) r (g.R.CellReader.place_by r) c.args.hit.now
-    c.place_of-place.result c.place_of-place.ensures.place c.in-Some.masters.frames c.in-Some.masters.frame c.in-Some.masters.at c.args.list.now c.add_masters.new.list
+    c.place_of-place.result c.place_of-place.ensures c.in-Some.masters.frames c.in-Some.masters.frame c.in-Some.masters.at c.args.list.now c.add_masters.new.list
     c.in-Some.ensures c.add_masters.ensures.adds
 
 pub returns-in-None-clause-adds : goal.returns-in-None-clause-adds
 returns-in-None-clause-adds g c new =
     let r = c.args.recording.now in
     adds_nothing (g.R.CellReader.tells r) (g.R.CellReader.told r) (c.tells_one_answer.ensures.master r) (c.tells_one_answer.ensures.system r) r (g.R.CellReader.place_by r) c.args.hit.now
-    c.place_of-place.result c.place_of-place.ensures.place c.args.list.now c.in-None.ensures (adds_none c.args.list.now)
+    c.place_of-place.result c.place_of-place.ensures c.args.list.now c.in-None.ensures (adds_none c.args.list.now)

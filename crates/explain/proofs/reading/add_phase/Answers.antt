@@ -2,9 +2,10 @@ use Rattle.std.proofs.Common.{◌∙◌, ◌∷◌, [], None, ap, arith, sym, su
 use Rattle.std.specs.Prelude.{Err}
 use Rattle.std.proofs.lemmas.List.{get_or_default}
 use Rattle.lte_types.specs.declared.sib1_reason.Sib1Reason.TheVariants.{NotDecoded}
+use Rattle.lte_types.specs.Frames.{Frames, frames_from}
 use Rattle.lte_types.specs.declared.entry.Entry.{Entry}
 use Rattle.explain.specs.Entries.{Adds}
-use Rattle.explain.specs.Masters.{AddsPhase}
+use Rattle.explain.specs.Masters.{entry_of, AddsPhase}
 use Rattle.explain.proofs.Kept.{adds_none}
 use Rattle.explain.proofs.reading.add_phase.Goals as goal
 
@@ -12,17 +13,18 @@ pub returns-in-Some-clause-adds : goal.returns-in-Some-clause-adds
 returns-in-Some-clause-adds g c =
     let m = c.args.masters.now in
     let entry = c.entry_of.result in
-    let here = sym c.in-Some.is ∙ get_or_default m.at c.args.phase c.index-masters-phase.result None (let count = c.requires.count in let known = c.requires.phase in omega (arith, count, known)) in
-    subst (λ o. AddsPhase (g.R.CellReader.told c.args.recording.now) c.args.id c.args.start m.frames m.frame c.args.phase o c.args.list.now c.add.new.self) here
+    let whole = c.entry_of.ensures.entry ∙ ap (λ (f : Frames). entry_of c.args.place f c.in-Some.master entry.sib1) c.frames_at-frames.ensures in
+    let here = sym c.in-Some.is ∙ get_or_default m.at c.args.phase c.index-masters-phase.result None (let count = c.requires.count in let frames = c.requires.frames in omega (arith, count, frames.period, frames.some)) in
+    subst (λ o. AddsPhase (g.R.CellReader.told c.args.recording.now) c.args.place (frames_from m.frames m.frame c.args.phase) o c.args.list.now c.add.new.self) here
     (record {
       sib1 = entry.sib1;
-      told = subst (λ n. g.R.CellReader.told c.args.recording.now c.args.id c.args.start n c.in-Some.master.ports c.in-Some.master.mib entry.sib1) (ap (λ (e : Entry). e.sfn) c.entry_of.ensures.entry) c.entry_of.ensures.system;
-      adds = subst (λ e. Adds (e ∷ []) c.args.list.now c.add.new.self) c.entry_of.ensures.entry c.add.ensures.adds;
+      told = subst (λ n. g.R.CellReader.told c.args.recording.now c.args.place n c.in-Some.master.ports c.in-Some.master.mib entry.sib1) (ap (λ (e : Entry). e.sfn) whole) c.entry_of.ensures.system;
+      adds = subst (λ e. Adds (e ∷ []) c.args.list.now c.add.new.self) whole c.add.ensures.adds;
     })
 
 pub returns-in-None-clause-adds : goal.returns-in-None-clause-adds
 returns-in-None-clause-adds g c =
     let m = c.args.masters.now in
-    let here = sym c.in-None.is ∙ get_or_default m.at c.args.phase c.index-masters-phase.result None (let count = c.requires.count in let known = c.requires.phase in omega (arith, count, known)) in
-    subst (λ o. AddsPhase (g.R.CellReader.told c.args.recording.now) c.args.id c.args.start m.frames m.frame c.args.phase o c.args.list.now c.args.list.now) here
+    let here = sym c.in-None.is ∙ get_or_default m.at c.args.phase c.index-masters-phase.result None (let count = c.requires.count in let frames = c.requires.frames in omega (arith, count, frames.period, frames.some)) in
+    subst (λ o. AddsPhase (g.R.CellReader.told c.args.recording.now) c.args.place (frames_from m.frames m.frame c.args.phase) o c.args.list.now c.args.list.now) here
     (record { sib1 = Err NotDecoded; told = tt; adds = adds_none c.args.list.now })

@@ -7,6 +7,6 @@ use Rattle.explain.proofs.system.read_frames.Given as goal
 -- none of the frames so far has fields, and the first has the reason
 abbrev pub invariant-loop-i : goal.invariant-loop-i
 invariant-loop-i g l = record {
-  none : (h : ℕ) (fields : Sib1) → h < l.i → g.F.FrameReader.answers l.recording l.id l.start l.mib (even_frame l.sfn h) (Ok fields) → ⊥;
-  refused : g.F.FrameReader.answers l.recording l.id l.start l.mib (even_frame l.sfn 0) (Err l.reason);
+  none : (h : ℕ) (fields : Sib1) → h < l.i → g.F.FrameReader.answers l.recording l.place l.mib (even_frame l.sfn h) (Ok fields) → ⊥;
+  refused : g.F.FrameReader.answers l.recording l.place l.mib (even_frame l.sfn 0) (Err l.reason);
 }

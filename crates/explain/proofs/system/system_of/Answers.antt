@@ -8,8 +8,8 @@ pub returns : goal.returns
 returns g c =
     let mib = c.args.master.mib in
     let r = c.args.recording.now in
-    let never : NeverRefuses (g.F.FrameReader.answers r c.args.id c.args.start mib) = c.answers_once.ensures.never r c.args.id c.args.start mib in
+    let never : NeverRefuses (g.F.FrameReader.answers r c.args.place mib) = c.answers_once.ensures.never r c.args.place mib in
     let as_wanted : c.args.master.ports ≡ c.wanted_ports.result = search rules in
     let six : mib.bandwidth ≡ N6 = search rules in
-    searched (g.F.FrameReader.answers r c.args.id c.args.start mib) (c.answers_once.ensures.once r c.args.id c.args.start mib) r c.args.start c.args.sfn g.F.FrameReader.wanted
+    searched (g.F.FrameReader.answers r c.args.place mib) (c.answers_once.ensures.once r c.args.place mib) r c.args.place.start c.args.sfn g.F.FrameReader.wanted
     never.ports never.width c.args.master.ports mib (as_wanted ∙ c.wanted_ports.ensures) six c.read_frames.result c.read_frames.ensures

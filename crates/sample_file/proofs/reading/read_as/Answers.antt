@@ -1,11 +1,12 @@
 use Rattle.std.proofs.Common.{◌≡◌, ℕ, ◌+◌, ◌*◌, ◌<◌, ◌≤◌, List, [], arith, length, take, ap, sym, ◌∙◌, length-take-le, Ok, Err}
 use Rattle.std.specs.Prelude.{IfOk, Result}
 use Rattle.cs_num.specs.declared.Sample.{Sample}
+use Rattle.lte_types.specs.Numerology.{least_samples, most_samples}
 use Rattle.cs_outside.proofs.Faults.{rose_later}
 use Rattle.sample_file.specs.declared.form.SampleForm.{SampleForm}
 use Rattle.sample_file.specs.declared.form.SampleForm.TheVariants.{Ci16, Cu8}
 use Rattle.sample_file.specs.declared.reading.FileError.{FileError}
-use Rattle.sample_file.specs.Recording.{width, least_samples, most_samples, IsRecording}
+use Rattle.sample_file.specs.Recording.{width, IsRecording}
 use Rattle.sample_file.specs.Reading.{HasReadRecording}
 use Rattle.sample_file.proofs.Progress.{taken_on, recorded_on, short_on, ragged_on, fault_on, past_on, not_many}
 use Rattle.sample_file.proofs.reading.read_as.Goals as goal
