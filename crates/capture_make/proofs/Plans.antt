@@ -1,7 +1,7 @@
 -- The plan of each number can be sent.
-use Rattle.std.proofs.Common.{◌≡◌, inl, ℕ, zero, suc, ◌+◌, ◌*◌, ◌%◌, ◌≤◌, ◌<◌, List, length, None, refl, sym, subst, arith}
+use Rattle.std.proofs.Common.{◌≡◌, inl, ℕ, zero, suc, ◌+◌, ◌*◌, ◌%◌, ◌≤◌, ◌<◌, false, List, length, None, refl, sym, subst, arith}
 use Rattle.std.specs.Prelude.{Bool, IsSomeAnd}
-use Rattle.grid_map.specs.Shared.{block_places}
+use Rattle.grid_map.specs.Shared.{block_places_of}
 use Rattle.dci.specs.Sizes.{column_2}
 use Rattle.sib1.specs.Text.{text_of}
 use Rattle.sib1.proofs.Texts.{text_of_is}
@@ -13,7 +13,7 @@ use Rattle.capture_make.specs.Recipe.{plan, information}
 use Rattle.capture_make.proofs.Information.{has_text}
 
 -- 172 times three coded bits in 1,224 or 1,080
-whole : (parity : ℕ) → parity < 2 → 3 * (144 + 24 + 4) ≤ 2 * (block_places (2 + parity) * 6)
+whole : (parity : ℕ) → parity < 2 → 3 * (144 + 24 + 4) ≤ 2 * (block_places_of false (2 + parity) * 6)
 whole zero l = omega arith
 whole (suc zero) l = omega arith
 whole (suc (suc k)) l = absurd (omega (arith, l))

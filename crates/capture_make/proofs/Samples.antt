@@ -2,23 +2,33 @@
 use Rattle.std.proofs.Common.{◌≡◌, ℕ, ◌+◌, ◌*◌, ◌%◌, ◌<◌, ◌≤◌, List, length, ap, sym, subst, ◌∙◌, arith, ℤ, pos, get_or, mod-lt}
 use Rattle.std.specs.Prelude.{nat_abs, All}
 use Rattle.std.proofs.lemmas.Int.{ints}
+use Rattle.std.proofs.lemmas.Nat.{mul-le}
 use Rattle.finite.specs.Lists.{values_below}
 use Rattle.finite.proofs.Lists.{values_below-length, values_below_at, values_below_same, values_below-All}
 use Rattle.cs_num.specs.declared.Cpx.{Cpx}
 use Rattle.cs_num.specs.declared.Sample.{Sample}
-use Rattle.cs_num.specs.Complex.{IsWithin, plus, times, square, silence, sample_at, value_of}
+use Rattle.cs_num.specs.Complex.{IsWithin, plus, times, square, silence, sample_at, value_of, sample_of}
+use Rattle.cs_num.specs.Gain.{IsGain}
 use Rattle.sample_file.specs.Recording.{IsRecording}
 use Rattle.cell_tx.specs.declared.cell.CellPlan.{CellPlan}
 use Rattle.cell_tx.specs.declared.transmission.Transmission.{Transmission}
-use Rattle.cell_tx.specs.Clean.{IsGain, IsCleanOf, IsClean}
+use Rattle.cell_tx.specs.Clean.{IsCleanOf, IsClean}
 use Rattle.cell_tx.specs.Grid.{element}
 use Rattle.cell_tx.specs.Laws.{received_with, ReceivedWithErrorsIsClean}
-use Rattle.cell_tx.specs.Sent.{sent, sample_of, gain_of}
+use Rattle.cell_tx.specs.Sent.{sent}
 use Rattle.cell_tx.proofs.Bounds.{amplified}
 use Rattle.capture_make.specs.declared.made.Made.{Made}
 use Rattle.capture_make.specs.Recipe.{plan, number, offset, sample_count, gain, IsBound}
 use Rattle.capture_make.specs.Errors.{drawn, error, word}
 use Rattle.capture_make.specs.Made.{samples, IsMade, IsCleanlyMade}
+
+-- the gain of a number is one
+pub gain_fits : (n : ℕ) → IsGain (gain n)
+gain_fits n =
+    let some : 1 * 1 ≤ (1 + n % 19) * (1 + n % 19) = mul-le 1 1 (1 + n % 19) (1 + n % 19) (omega arith) (omega arith) in
+    let re : (1 + n % 19) * (1 + n % 19) ≤ 19 * 19 = mul-le (1 + n % 19) (1 + n % 19) 19 19 (omega arith) (omega arith) in
+    let im : (n % 20) * (n % 20) ≤ 19 * 19 = mul-le (n % 20) (n % 20) 19 19 (omega arith) (omega arith) in
+    record { least = omega (arith, some); most = omega (arith, re, im) }
 
 -- ---- what is sent, with errors
 
@@ -45,30 +55,30 @@ with_errors_is errors sequence offset count gain clean e =
 
 -- what a transmission sends
 abbrev sent_of : Transmission → List Sample
-sent_of t = amplified_samples (sent (element t.cell) t.sfn) t.offset t.samples (gain_of t.gain)
+sent_of t = amplified_samples (sent (element t.cell) t.timing.sfn) t.timing.offset t.samples t.gain
 
 -- where a transmission is that of a number, the samples are those of its recording
-pub samples_are : (n bound : ℕ) (t : Transmission) (clean : List Sample) → t.cell ≡ plan n → t.sfn ≡ number n → t.offset ≡ offset n → t.samples ≡ sample_count n → gain_of t.gain ≡ gain n
+pub samples_are : (n bound : ℕ) (t : Transmission) (clean : List Sample) → t.cell ≡ plan n → t.timing.sfn ≡ number n → t.timing.offset ≡ offset n → t.samples ≡ sample_count n → t.gain ≡ gain n
     → clean ≡ sent_of t → values_below (length clean) (λ i. sample_of (plus (sample_at clean i) (error n bound i))) ≡ samples n bound
 unfolding samples
 samples_are n bound t clean a b c d e h =
     let g : CellPlan → ℕ → ℕ → ℕ → Cpx → List Sample = λ p s o m z. received_with (sent (element p) s) o m z (error n bound) in
-    with_errors_is (error n bound) (sent (element t.cell) t.sfn) t.offset t.samples (gain_of t.gain) clean h
-    ∙ ap (λ p. g p t.sfn t.offset t.samples (gain_of t.gain)) a
-    ∙ ap (λ s. g (plan n) s t.offset t.samples (gain_of t.gain)) b
-    ∙ ap (λ o. g (plan n) (number n) o t.samples (gain_of t.gain)) c
-    ∙ ap (λ m. g (plan n) (number n) (offset n) m (gain_of t.gain)) d
+    with_errors_is (error n bound) (sent (element t.cell) t.timing.sfn) t.timing.offset t.samples t.gain clean h
+    ∙ ap (λ p. g p t.timing.sfn t.timing.offset t.samples t.gain) a
+    ∙ ap (λ s. g (plan n) s t.timing.offset t.samples t.gain) b
+    ∙ ap (λ o. g (plan n) (number n) o t.samples t.gain) c
+    ∙ ap (λ m. g (plan n) (number n) (offset n) m t.gain) d
     ∙ ap (λ z. g (plan n) (number n) (offset n) (sample_count n) z) e
 
 -- then these, with the errors, are the recording of that number
-pub is_made : (n bound : ℕ) (t : Transmission) (clean : List Sample) (made : Made) → t.cell ≡ plan n → t.sfn ≡ number n → t.offset ≡ offset n → t.samples ≡ sample_count n → gain_of t.gain ≡ gain n
+pub is_made : (n bound : ℕ) (t : Transmission) (clean : List Sample) (made : Made) → t.cell ≡ plan n → t.timing.sfn ≡ number n → t.timing.offset ≡ offset n → t.samples ≡ sample_count n → t.gain ≡ gain n
     → IsBound (gain n) (pos bound) → clean ≡ sent_of t → made.sent ≡ t → made.bound ≡ pos bound → made.recording ≡ values_below (length clean) (λ i. sample_of (plus (sample_at clean i) (error n bound i))) → IsMade n made
 is_made n bound t clean made a b c d e greatest h s f r = record {
   plan_is = ap (λ (u : Transmission). u.cell) s ∙ a;
-  number_is = ap (λ (u : Transmission). u.sfn) s ∙ b;
-  offset_is = ap (λ (u : Transmission). u.offset) s ∙ c;
+  number_is = ap (λ (u : Transmission). u.timing.sfn) s ∙ b;
+  offset_is = ap (λ (u : Transmission). u.timing.offset) s ∙ c;
   count_is = ap (λ (u : Transmission). u.samples) s ∙ d;
-  gain_is = ap (λ (u : Transmission). gain_of u.gain) s ∙ e;
+  gain_is = ap (λ (u : Transmission). u.gain) s ∙ e;
   bound = subst (IsBound (gain n)) (sym f) greatest;
   samples_are = r ∙ samples_are n bound t clean a b c d e h ∙ ap (λ z. samples n (nat_abs z)) (sym f);
 }
@@ -100,15 +110,14 @@ unfolding samples
 is_clean law n made m =
     let eps = nat_abs made.bound in
     let t = made.sent in
-    let size : IsGain (gain n) = subst IsGain m.gain_is t.gain_range in
     let whole : IsClean (samples n eps) (plan n) (number n) (offset n) (gain n) eps = record {
       number = omega arith;
-      samples = is_clean_of law (sent (element (plan n)) (number n)) n eps size m.bound.within;
+      samples = is_clean_of law (sent (element (plan n)) (number n)) n eps (gain_fits n) m.bound.within;
     } in
-    subst (λ l. IsClean l t.cell t.sfn t.offset (gain_of t.gain) eps) (sym m.samples_are)
-    (subst (λ p. IsClean (samples n eps) p t.sfn t.offset (gain_of t.gain) eps) (sym m.plan_is)
-    (subst (λ s. IsClean (samples n eps) (plan n) s t.offset (gain_of t.gain) eps) (sym m.number_is)
-    (subst (λ o. IsClean (samples n eps) (plan n) (number n) o (gain_of t.gain) eps) (sym m.offset_is)
+    subst (λ l. IsClean l t.cell t.timing.sfn t.timing.offset t.gain eps) (sym m.samples_are)
+    (subst (λ p. IsClean (samples n eps) p t.timing.sfn t.timing.offset t.gain eps) (sym m.plan_is)
+    (subst (λ s. IsClean (samples n eps) (plan n) s t.timing.offset t.gain eps) (sym m.number_is)
+    (subst (λ o. IsClean (samples n eps) (plan n) (number n) o t.gain eps) (sym m.offset_is)
     (subst (λ z. IsClean (samples n eps) (plan n) (number n) (offset n) z eps) (sym m.gain_is) whole))))
 
 -- ---- a number has one recording

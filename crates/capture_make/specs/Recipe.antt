@@ -2,9 +2,10 @@
 use Rattle.std.specs.Prelude.{ℕ, ◌+◌, ◌*◌, ◌%◌, ◌^◌, ◌≤◌, pos, ℤ, ◌-ℤ◌, ◌≤ℤ◌, nat_abs, true, false, List, [], ◌∷◌, Some, None}
 use Rattle.cs_num.specs.declared.Cpx.{Cpx}
 use Rattle.cs_num.specs.Complex.{square}
-use Rattle.lte_types.specs.Codes.{duration, resource}
+use Rattle.lte_types.specs.Codes.{duration, period, resource, window}
 use Rattle.lte_types.specs.Numerology.{frame_length}
 use Rattle.lte_types.specs.declared.mnc.Mnc.TheVariants.{Two}
+use Rattle.lte_types.specs.declared.period.Period.{Period}
 use Rattle.lte_types.specs.declared.plmn.Plmn.{Plmn}
 use Rattle.lte_types.specs.declared.si_message.SiMessage.{SiMessage}
 use Rattle.lte_types.specs.declared.sib1.Sib1.{Sib1}
@@ -16,8 +17,8 @@ use Rattle.cell_tx.specs.declared.cell.CellPlan.{CellPlan}
 abbrev pub network : Plmn
 network = record { mcc = Some (0 ∷ 0 ∷ 1 ∷ []); mnc = Two (0 ∷ 1 ∷ []); reserved = false }
 
--- an entry of the schedule, with the code of its period and those of its blocks
-abbrev pub message : ℕ → List ℕ → SiMessage
+-- an entry of the schedule, with its period and the codes of its blocks
+abbrev pub message : Period → List ℕ → SiMessage
 message period sibs = record { period = period; sibs = sibs }
 
 -- its SystemInformationBlockType1, of 131 bits
@@ -34,9 +35,9 @@ information n = record {
   q_offset = None;
   p_max = None;
   band = 1 + n % 64;
-  scheduling = message (n % 7) [] ∷ message (n % 7) (0 ∷ 2 ∷ []) ∷ [];
+  scheduling = message (period (n % 7)) [] ∷ message (period (n % 7)) (0 ∷ 2 ∷ []) ∷ [];
   tdd = None;
-  window = n % 7;
+  window = window (n % 7);
   tag = n % 32;
   extended = false;
 }

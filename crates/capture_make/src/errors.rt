@@ -2,10 +2,9 @@
 
 ghost use Rattle.std.specs.Prelude.{◌≡◌, ◌≤◌, ◌+◌, ◌*◌, All, length, nat_abs};
 ghost use Rattle.finite.specs.Lists.{values_below};
-ghost use Rattle.cs_num.specs.Complex.{IsWithin, plus, sample_at, value_of};
-ghost use Rattle.cell_tx.specs.Sent.{sample_of};
+ghost use Rattle.cs_num.specs.Complex.{IsWithin, plus, sample_at, value_of, sample_of};
 ghost use Rattle.rand_pcg.specs.Pcg.{pcg32};
-ghost use Rattle.capture_make.specs.Errors.{drawn, error, generator};
+ghost use Rattle.capture_make.specs.Errors.{drawn, error};
 
 use cs_num::Sample;
 use rand_core::utils::NextWord;

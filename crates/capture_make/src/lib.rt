@@ -6,4 +6,4 @@ mod made;
 mod recipe;
 
 pub use made::{Made, made_is_clean, make, with_errors};
-pub use recipe::{bound, gain, number, offset, plan, sample_count};
+pub use recipe::{bound, gain, plan, sample_count, timing};

@@ -2,10 +2,10 @@
 
 ghost use Rattle.std.specs.Prelude.{◌≡◌, ◌≤◌, ℕ, All, IfOk, length, pos};
 ghost use Rattle.finite.specs.Lists.{values_below};
-ghost use Rattle.cs_num.specs.Complex.{IsWithin, plus, sample_at, value_of};
+ghost use Rattle.cs_num.specs.Complex.{IsWithin, plus, sample_at, value_of, sample_of};
 ghost use Rattle.sample_file.specs.Recording.{IsRecording};
 ghost use Rattle.cell_tx.specs.Plan.{IsSendable};
-ghost use Rattle.cell_tx.specs.Sent.{received, gain_of, sample_of};
+ghost use Rattle.cell_tx.specs.Sent.{received};
 ghost use Rattle.capture_make.specs.Recipe.{plan};
 ghost use Rattle.capture_make.specs.Errors.{error};
 ghost use Rattle.capture_make.specs.Made.{IsMade, IsCleanlyMade};
@@ -33,7 +33,7 @@ pub struct Made {
 // What a transmission sends, in memory of its own.
 fn sent_samples(alloc: Global, t: &Transmission) -> Result<Vec<Sample>, AllocError>
     ensures { IfOk result (λ samples. samples.items ≡ values_below t.now.samples
-        (λ i. sample_of (received t.now.cell t.now.sfn t.now.offset (gain_of t.now.gain) i))) }
+        (λ i. sample_of (received t.now.cell t.now.timing.sfn t.now.timing.offset t.now.gain i))) }
 {
     let mut samples = vec![in alloc; Sample { re: 0, im: 0 }; t.samples as usize]?;
     send_all(t, &mut samples);

@@ -1,14 +1,16 @@
 //! What is sent for a number.
 
 ghost use Rattle.std.specs.Prelude.{◌≡◌, ◌≤◌, ◌%◌, [], ◌∷◌, pos, length, None};
-ghost use Rattle.lte_types.specs.Codes.{duration as duration_with, resource as resource_with};
-ghost use Rattle.lte_types.specs.Ranges.{IsValid};
-ghost use Rattle.cell_tx.specs.Clean.{IsOffset, IsCount, IsGain};
-ghost use Rattle.cell_tx.specs.Sent.{gain_of};
+ghost use Rattle.lte_types.specs.Codes.{duration as duration_with, period as period_with, resource as resource_with, window as window_with};
+ghost use Rattle.cell_tx.specs.Clean.{IsCount};
 ghost use Rattle.capture_make.specs.Recipe.{network, message as message_of, information as information_of, plan as plan_of, number, offset, sample_count, gain as gain_with, IsBound};
 
 use cell_tx::{Cell, CellPlan, Transmission};
-use lte_types::{Duration, Mnc, Plmn, Plmns, Resource, Schedule, Sfn, SiMessage, Sib1, Sibs};
+use cs_num::Gain;
+use lte_types::{
+    Duration, Mnc, Period, Plmn, Plmns, Resource, Schedule, Sfn, SiMessage, Sib1, Sibs, Timing,
+    Window,
+};
 
 // The samples of a frame.
 const FRAME: u32 = lte_types::FRAME_LENGTH as u32;
@@ -27,7 +29,7 @@ fn networks() -> Plmns
 }
 
 // An entry of the schedule.
-fn message(period: u8, codes: &[u8]) -> SiMessage
+fn message(period: Period, codes: &[u8]) -> SiMessage
     requires { length codes.now ≤ 31 }
     ensures { result ≡ message_of period codes.now }
 {
@@ -39,13 +41,33 @@ fn message(period: u8, codes: &[u8]) -> SiMessage
 }
 
 // Two entries of the schedule: one without blocks, and one with types 3 and 5.
-fn schedule(period: u8) -> Schedule
+fn schedule(period: Period) -> Schedule
     ensures { result ≡ message_of period [] ∷ message_of period (0 ∷ 2 ∷ []) ∷ [] }
 {
     let mut schedule = Schedule::new();
     schedule.push(message(period, &[]));
     schedule.push(message(period, &[0, 2]));
     schedule
+}
+
+// The period of both.
+fn period(n: u32) -> Period
+    ensures { result ≡ period_with (n % 7) }
+{
+    match Period::from_code((n % 7) as u8) {
+        Some(period) => period,
+        None => unreachable!(),
+    }
+}
+
+// The window of system information.
+fn window(n: u32) -> Window
+    ensures { result ≡ window_with (n % 7) }
+{
+    match Window::from_code((n % 7) as u8) {
+        Some(window) => window,
+        None => unreachable!(),
+    }
 }
 
 // The block of system information.
@@ -64,9 +86,9 @@ fn information(n: u32) -> Sib1
         q_offset: None,
         p_max: None,
         band: 1 + (n % 64) as u8,
-        scheduling: schedule((n % 7) as u8),
+        scheduling: schedule(period(n)),
         tdd: None,
-        window: (n % 7) as u8,
+        window: window(n),
         tag: (n % 32) as u8,
         extended: false,
     }
@@ -110,7 +132,7 @@ pub fn plan(n: u32) -> CellPlan
     }
 }
 
-// The cell.
+// The plan of each number can be sent (`Plans`), so that it is never refused.
 fn cell(n: u32) -> Cell
     ensures { result ≡ plan_of n }
 {
@@ -120,27 +142,25 @@ fn cell(n: u32) -> Cell
     }
 }
 
-/// The gain of recording number `n`, real before imaginary.
-pub fn gain(n: u32) -> (i16, i16)
-    ensures value { gain_of result ≡ gain_with n }
-    ensures range { IsGain (gain_of result) }
+/// The gain of recording number `n`.
+pub fn gain(n: u32) -> Gain
+    ensures { result ≡ gain_with n }
 {
-    ((1 + n % 19) as i16, (n % 20) as i16)
+    match Gain::new((1 + n % 19) as i16, (n % 20) as i16) {
+        Some(gain) => gain,
+        None => unreachable!(),
+    }
 }
 
-/// The number of the first frame of recording number `n`.
-pub fn number(n: u32) -> Sfn
-    ensures { result ≡ number n }
+/// Where in the sequence of its cell recording number `n` begins.
+pub fn timing(n: u32) -> Timing
+    ensures number { result.sfn ≡ number n }
+    ensures offset { result.offset ≡ offset n }
 {
-    Sfn::modulo(n as u64)
-}
-
-/// The first sample of that frame which is sent, 0 to 19,199.
-pub fn offset(n: u32) -> u32
-    ensures value { result ≡ offset n }
-    ensures bound { IsOffset result }
-{
-    n % FRAME
+    Timing {
+        sfn: Sfn::modulo(n as u64),
+        offset: n % FRAME,
+    }
 }
 
 /// How many samples recording number `n` has: those of 10 to 99 frames.
@@ -154,15 +174,14 @@ pub fn sample_count(n: u32) -> u32
 /// What is sent for number `n`.
 pub(crate) fn transmission(n: u32) -> Transmission
     ensures cell { result.cell ≡ plan_of n }
-    ensures number { result.sfn ≡ number n }
-    ensures offset { result.offset ≡ offset n }
+    ensures number { result.timing.sfn ≡ number n }
+    ensures offset { result.timing.offset ≡ offset n }
     ensures count { result.samples ≡ sample_count n }
-    ensures gain { gain_of result.gain ≡ gain_with n }
+    ensures gain { result.gain ≡ gain_with n }
 {
     Transmission {
         cell: cell(n),
-        sfn: number(n),
-        offset: offset(n),
+        timing: timing(n),
         samples: sample_count(n),
         gain: gain(n),
     }

@@ -11,6 +11,7 @@ use Rattle.cs_num.specs.Sums.{complex_sum_below}
 use Rattle.sizes.specs.Sizes.{IsSized}
 use Rattle.sizes.proofs.Algebra.{plus-minus}
 use Rattle.cs_num.proofs.Complex.{square-within}
+use Rattle.cs_num.specs.Gain.{IsGain}
 use Rattle.sizes.proofs.Squares.{re-le, im-le, square-multiple, square-times}
 use Rattle.sizes.proofs.Rounding.{rounded_near}
 use Rattle.sizes.proofs.Sized.{sized-plus, sized-times, sized-sum, sized_plain}
@@ -35,10 +36,10 @@ use Rattle.cell_tx.specs.Control.{indicator_point, control_word, control_point}
 use Rattle.cell_tx.specs.Shared.{shared_bit, shared_point}
 use Rattle.grid_map.specs.Scrambling.{pcfich_c_init, pdcch_c_init, pdsch_c_init, indicator_bit}
 use Rattle.dci.specs.Fields.{system_information_rnti}
-use Rattle.cell_tx.specs.Clean.{IsGain}
 use Rattle.lte_types.specs.declared.numerology.Prefix.{Prefix}
 use Rattle.lte_types.specs.Numerology.{normal, half_of, symbols_of_slot, useful_start, symbol_of}
-use Rattle.cell_tx.specs.Sent.{Elements, prefix_slot_sample, prefix_frame_sample, number_of, prefix_sent, sent, received}
+use Rattle.lte_types.specs.Timing.{number_of}
+use Rattle.cell_tx.specs.Sent.{Elements, prefix_slot_sample, prefix_frame_sample, prefix_sent, sent, received}
 use Rattle.cell_tx.proofs.Elements.{reference_at_is}
 
 -- ---- elements

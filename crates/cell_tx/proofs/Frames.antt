@@ -5,7 +5,7 @@ use Rattle.std.proofs.lemmas.Bool.{cases_lt}
 use Rattle.std.proofs.lemmas.Bool.Decides.{nat_tests}
 use Rattle.finite.proofs.Lists.{values_below_at, values_below_same}
 use Rattle.cs_num.specs.declared.Sample.{Sample}
-use Rattle.cs_num.specs.Complex.{silence}
+use Rattle.cs_num.specs.Complex.{silence, sample_of}
 use Rattle.fold128.proofs.Samples.{useful_same}
 use Rattle.lte_types.specs.Numerology.{normal, symbol_of}
 use Rattle.grid_map.specs.Place.{place}
@@ -16,7 +16,7 @@ use Rattle.cell_tx.specs.declared.layout.Carried.{Carried}
 use Rattle.cell_tx.specs.Grid.{is_broadcast, port_channel_value, port_element}
 use Rattle.cell_tx.specs.Control.{control_word, control_point}
 use Rattle.cell_tx.specs.Shared.{shared_point}
-use Rattle.cell_tx.specs.Sent.{frame_sample, sample_of}
+use Rattle.cell_tx.specs.Sent.{frame_sample}
 use Rattle.cell_tx.specs.Rows.{useful_place, first_sample, frame_samples, HasSamples, AreSameOutside, IsCarried}
 use Rattle.cell_tx.proofs.Symbols.{frame_sample_is, slot_sample_is}
 

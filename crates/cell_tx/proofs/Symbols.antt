@@ -1,5 +1,5 @@
 -- Where the samples of a frame's symbols stand.
-use Rattle.std.proofs.Common.{◌≡◌, ℕ, ◌+◌, ◌-◌, ◌*◌, ◌/◌, ◌%◌, ◌<◌, ◌≤◌, ◌⊎◌, inl, inr, Bool, true, false, nat_eq, nat_lt, List, arith, refl, sym, subst, ap, ◌∙◌, ltb-true, ltb-false}
+use Rattle.std.proofs.Common.{◌≡◌, ℕ, ◌+◌, ◌-◌, ◌*◌, ◌/◌, ◌%◌, ◌<◌, ◌≤◌, inl, inr, Bool, true, false, nat_eq, nat_lt, List, arith, refl, sym, subst, ap, ◌∙◌, ltb-true, ltb-false}
 use Rattle.std.specs.Prelude.{if◌then◌else◌}
 use Rattle.std.proofs.lemmas.Bool.Decides.{nat_tests}
 use Rattle.finite.specs.Lists.{values_below}
@@ -10,8 +10,8 @@ use Rattle.fold128.specs.Symbol.{useful_at, useful_part}
 use Rattle.fold128.proofs.Samples.{useful_same}
 use Rattle.lte_types.specs.declared.numerology.Prefix.{Prefix}
 use Rattle.lte_types.specs.Numerology.{normal, extended, IsPrefix, prefix_length, symbols_of_slot, useful_start, symbol_of}
-use Rattle.cell_tx.specs.Sent.{Elements, symbol_sample, slot_sample, prefix_frame_sample, frame_sample, number_of, prefix_sent, sent}
-use Rattle.cell_tx.specs.Clean.{start_of, number_at_start}
+use Rattle.lte_types.specs.Timing.{number_of, start_of, number_at_start}
+use Rattle.cell_tx.specs.Sent.{Elements, symbol_sample, slot_sample, prefix_frame_sample, frame_sample, prefix_sent, sent}
 use Rattle.cell_tx.specs.Rows.{useful_place, first_sample}
 
 -- a list that holds a grid makes its useful part

@@ -20,7 +20,8 @@ use Rattle.cell_tx.specs.declared.cell.CellPlan.{CellPlan}
 use Rattle.cell_tx.specs.Transport.{block_size, checked_size, system_text, filled, row_with, shared_word}
 use Rattle.cell_tx.specs.Plan.{IsSendableWith}
 use Rattle.cell_tx.specs.Control.{version_of, grant_of}
-use Rattle.cell_tx.proofs.BlockRows.{IsRowOf, size_fits, row_of_size, mcs_small}
+use Rattle.dci.proofs.SizeRows.{size_fits}
+use Rattle.cell_tx.proofs.BlockRows.{IsRowOf, row_of_size, mcs_small}
 
 -- ---- the grant
 

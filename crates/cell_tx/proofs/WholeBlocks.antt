@@ -12,7 +12,8 @@ use Rattle.dci.specs.Sizes.{size_of}
 use Rattle.cell_tx.specs.declared.cell.CellPlan.{CellPlan}
 use Rattle.cell_tx.specs.Transport.{block_size, checked_size, shared_word, row_with, assigned_bits, has_block, is_whole, is_resolvable_by, is_resolvable}
 use Rattle.cell_tx.specs.Laws.{WholeBlocksAreResolvable}
-use Rattle.cell_tx.proofs.BlockRows.{size_fits, row_of_size}
+use Rattle.dci.proofs.SizeRows.{size_fits}
+use Rattle.cell_tx.proofs.BlockRows.{row_of_size}
 
 pub some_is : (o : Option ℕ) → IsSome o → o ≡ Some (unwrap_or o 0)
 some_is (Some n) there = refl

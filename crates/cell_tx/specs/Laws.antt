@@ -1,7 +1,7 @@
 -- Laws of what a cell sends.
 use Rattle.std.specs.Prelude.{◌≡◌, ◌↔◌, ℕ, ◌+◌, ◌-◌, ◌*◌, ◌/◌, ◌%◌, ◌<◌, ◌≤◌, true, None, IsSome, List}
 use Rattle.cs_num.specs.declared.Sample.{Sample}
-use Rattle.cs_num.specs.Complex.{IsWithin, square, plus, times}
+use Rattle.cs_num.specs.Complex.{IsWithin, square, plus, times, sample_of}
 use Rattle.fold128.specs.Symbol.{useful_at}
 use Rattle.lte_types.specs.Ranges.{IsValid}
 use Rattle.lte_types.specs.declared.numerology.Prefix.{Prefix}
@@ -12,10 +12,12 @@ use Rattle.cell_tx.specs.Transport.{is_whole, is_resolvable}
 use Rattle.cell_tx.specs.Plan.{IsSendable, plan_refusal}
 use Rattle.cell_tx.specs.declared.antenna.Port.{Port}
 use Rattle.cell_tx.specs.Grid.{port_element}
-use Rattle.cell_tx.specs.Sent.{Elements, prefix_frame_sample, prefix_sent, sent, sample_of, received}
+use Rattle.cell_tx.specs.Sent.{Elements, prefix_frame_sample, prefix_sent, sent, received}
 use Rattle.finite.specs.Lists.{values_below}
 use Rattle.cs_num.specs.declared.Cpx.{Cpx}
-use Rattle.cell_tx.specs.Clean.{IsGain, IsCleanOf, IsClean, IsOffset, start_of, number_at_start}
+use Rattle.cs_num.specs.Gain.{IsGain}
+use Rattle.lte_types.specs.Timing.{IsOffset, start_of, number_at_start}
+use Rattle.cell_tx.specs.Clean.{IsCleanOf, IsClean}
 
 -- the plans that can be sent are those with a block of system information in its ranges in which no condition fails
 abbrev pub AcceptedAreSendable : Type 0

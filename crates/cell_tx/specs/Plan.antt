@@ -2,7 +2,7 @@
 -- TS 36.331 section 6.2.2)
 use Rattle.std.specs.Prelude.{◌≡◌, ◌⊎◌, ◌+◌, ◌≤◌, Bool, true, false, not, ◌&&◌, ◌||◌, nat_eq, nat_le, List, [], ◌∷◌, length, Option, None, is_some, is_none, IsSome, IsSomeAnd}
 use Rattle.lte_types.specs.Ranges.{IsValid}
-use Rattle.dci.specs.Assignment.{AreBlocks}
+use Rattle.lte_types.specs.Assignment.{AreBlocks}
 use Rattle.dci.specs.Sizes.{size_of}
 use Rattle.sib1.specs.Text.{text_of}
 use Rattle.cell_tx.specs.declared.error.CellError.{CellError}

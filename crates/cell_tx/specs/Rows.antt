@@ -3,7 +3,7 @@ use Rattle.std.specs.Prelude.{ℕ, ◌+◌, ◌-◌, ◌*◌, ◌/◌, ◌%◌, 
 use Rattle.finite.specs.Lists.{values_below}
 use Rattle.cs_num.specs.declared.Cpx.{Cpx}
 use Rattle.cs_num.specs.declared.Sample.{Sample}
-use Rattle.cs_num.specs.Complex.{nothing, silence, value_at}
+use Rattle.cs_num.specs.Complex.{nothing, silence, value_at, sample_of}
 use Rattle.lte_types.specs.Numerology.{frame_length, slot_length, useful_length, normal, symbol_step, symbol_of}
 use Rattle.lte_types.specs.declared.frame.Half.TheVariants.{Zero, Five}
 use Rattle.sync_seq.specs.Primary.{pss_list}
@@ -24,7 +24,7 @@ use Rattle.cell_tx.specs.Ports.{is_two, sent_point, is_own_reference, is_other_r
 use Rattle.cell_tx.specs.Control.{indicator_point, control_places, control_point}
 use Rattle.cell_tx.specs.Shared.{assigned_places, shared_point}
 use Rattle.cell_tx.specs.Grid.{is_broadcast, broadcast_value, is_one_of, is_indicator, indicator_value, is_control, control_value, is_shared, shared_value}
-use Rattle.cell_tx.specs.Sent.{Elements, frame_sample, sample_of}
+use Rattle.cell_tx.specs.Sent.{Elements, frame_sample}
 
 -- what a port sends at a reference place of a slot, its own or the other port's; none at every other place
 abbrev pub port_reference_if : Port → ℕ → ℕ → ℕ → ℕ → Option Cpx

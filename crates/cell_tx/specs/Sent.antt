@@ -1,12 +1,12 @@
 -- The samples that elements make, frame after frame without end (TS 36.211 section 6.12, in whole numbers); a cell
 -- sends those of its own.
-use Rattle.std.specs.Prelude.{ℕ, ◌+◌, ◌-◌, ◌*◌, ◌/◌, ◌%◌, nat_lt, if◌then◌else◌, ℤ}
+use Rattle.std.specs.Prelude.{ℕ, ◌+◌, ◌-◌, ◌*◌, ◌/◌, ◌%◌, nat_lt, if◌then◌else◌}
 use Rattle.cs_num.specs.declared.Cpx.{Cpx}
-use Rattle.cs_num.specs.declared.Sample.{Sample}
 use Rattle.cs_num.specs.Complex.{times}
 use Rattle.fold128.specs.Symbol.{useful_at}
 use Rattle.lte_types.specs.declared.numerology.Prefix.{Prefix}
 use Rattle.lte_types.specs.Numerology.{frame_length, slot_length, useful_length, normal, symbols_of_slot, useful_start, symbol_of}
+use Rattle.lte_types.specs.Timing.{number_of}
 use Rattle.cell_tx.specs.declared.cell.CellPlan.{CellPlan}
 use Rattle.cell_tx.specs.Grid.{element}
 
@@ -18,10 +18,6 @@ Elements = ℕ → ℕ → ℕ → ℕ → Cpx
 -- which makes the cyclic prefix
 abbrev pub symbol_sample : (ℕ → Cpx) → ℕ → ℕ → Cpx
 symbol_sample useful start i = if nat_lt i start then useful (i + useful_length - start) else useful (i - start)
-
--- the number of the frame that sample i is in, where sample 0 is the first of the frame numbered sfn
-abbrev pub number_of : ℕ → ℕ → ℕ
-number_of sfn i = (sfn + i / frame_length) % 1024
 
 -- ---- with a cyclic prefix
 
@@ -53,11 +49,3 @@ sent grid sfn i = prefix_sent normal grid sfn i
 -- what is received of a cell's sequence, from the sample at offset on, by a channel that is one number
 abbrev pub received : CellPlan → ℕ → ℕ → Cpx → ℕ → Cpx
 received plan sfn offset gain i = times gain (sent (element plan) sfn (i + offset))
-
--- the sample that is a number
-abbrev pub sample_of : Cpx → Sample
-sample_of z = record { re = z.re; im = z.im }
-
--- the number that a pair is
-abbrev pub gain_of : ℤ × ℤ → Cpx
-gain_of pair = record { re = pair.0; im = pair.1 }

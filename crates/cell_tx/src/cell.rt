@@ -10,7 +10,8 @@ ghost use Rattle.cell_tx.specs.Transport.{block_size, has_block, is_whole, is_re
 
 use crate::CellError;
 use crate::shared::{block_fills, coded_block};
-use lte_types::{CellId, Cfi, Duration, Resource, Sib1};
+use grid_map::block_places;
+use lte_types::{Assignment, CellId, Cfi, Duration, Resource, Sib1};
 use std::marker::Model;
 use turbo_code::Coded;
 use uper::Writer;
@@ -60,13 +61,7 @@ impl CellPlan {
         ensures value { result ≡ block_places_of two self.now.cfi * self.now.blocks }
         ensures bound { self.now.blocks ≤ 6 → result ≤ 612 }
     {
-        let places = match (two, self.cfi == 2) {
-            (false, true) => 102,
-            (false, false) => 90,
-            (true, true) => 96,
-            (true, false) => 84,
-        };
-        places * self.blocks as usize
+        block_places(two, self.cfi) * self.blocks as usize
     }
 }
 
@@ -162,8 +157,6 @@ impl Model for Cell {
 
 impl Cell {
     ghost use Rattle.dci.specs.Sizes.{size_of};
-    ghost use Rattle.grid_map.specs.Shared.{block_places_of};
-    ghost use Rattle.std.specs.Prelude.{◌*◌};
     ghost use Rattle.cell_tx.specs.Plan.{IsSendable, plan_refusal};
     ghost use Rattle.cell_tx.specs.Shared.{IsCoded};
 
@@ -247,12 +240,14 @@ impl Cell {
         }
     }
 
-    // The places of the assigned resource blocks.
-    pub(crate) fn assigned_places(&self, two: bool) -> usize
-        ensures value { result ≡ block_places_of two self.now.cfi * self.now.blocks }
-        ensures bound { result ≤ 612 }
+    // The assigned resource blocks.
+    pub(crate) fn assignment(&self) -> Assignment
+        ensures { result ≡ record { cfi = self.now.cfi; start = self.now.start; blocks = self.now.blocks } }
     {
-        self.plan().assigned_places(two)
+        match Assignment::new(self.cfi(), self.plan.start, self.plan.blocks) {
+            Some(assignment) => assignment,
+            None => unreachable!(),
+        }
     }
 
     // The size of the transport block.

@@ -34,7 +34,7 @@ fn broadcast_at(signals: &Signals, subframe: u8, here: Place) -> Option<Cpx>
     )
 }
 
-// That of the control format indicator.
+// What PCFICH carries there, which it does in every subframe.
 fn indicator_at(signals: &Signals, subframe: u8, here: Place) -> Option<Cpx>
     requires subframe { subframe < 10 }
     requires symbol { here.symbol < 14 }
@@ -45,7 +45,7 @@ fn indicator_at(signals: &Signals, subframe: u8, here: Place) -> Option<Cpx>
     value_at(signals.port, &signals.layout.indicator, points, here)
 }
 
-// That of what grants system information.
+// What PDCCH carries there; none outside subframe 5 of even frames.
 fn control_at(signals: &Signals, subframe: u8, here: Place) -> Option<Cpx>
     requires symbol { here.symbol < 14 }
     requires k { here.k < 72 }
@@ -58,7 +58,7 @@ fn control_at(signals: &Signals, subframe: u8, here: Place) -> Option<Cpx>
     value_at(signals.port, &signals.layout.control, points, here)
 }
 
-// That of the shared channel, which carries it.
+// What PDSCH carries there; none outside subframe 5 of even frames.
 fn shared_at(signals: &Signals, subframe: u8, here: Place) -> Option<Cpx>
     requires symbol { here.symbol < 14 }
     requires k { here.k < 72 }

@@ -17,7 +17,7 @@ use cs_bits::{Bits, crc16};
 use cs_num::Cpx;
 use dci::{Grant, SI_RNTI};
 use grid_map::{Place, candidate_places, indicator_bit, pcfich_c_init, pdcch, pdcch_c_init};
-use lte_types::{Bandwidth, Cfi, Mib, Sfn};
+use lte_types::{Bandwidth, Mib, Sfn};
 use std::marker::Model;
 
 /// The points of the control format indicator in a subframe. Contracts see them as the list of them.
@@ -160,7 +160,8 @@ pub(crate) fn control_points(cell: &Cell, sfn: Sfn) -> [Cpx; 144]
     points
 }
 
-/// Their places.
+/// The places of control channel elements 0 to 3, which carry the candidate at aggregation level 4 (TS 36.213
+/// section 9.1.1).
 pub(crate) fn control_places(cell: &Cell) -> [Place; 144]
     ensures { result ≡ control_places cell.now }
 {

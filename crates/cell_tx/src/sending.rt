@@ -1,41 +1,23 @@
 //! The samples of a cell.
 
-ghost use Rattle.std.specs.Prelude.{◌≡◌, ℕ, ◌+◌, ◌-◌, ◌*◌, ◌/◌, ◌%◌, ◌<◌, ◌≤◌, length, slice_index_or};
+ghost use Rattle.std.specs.Prelude.{◌≡◌, ℕ, ◌+◌, ◌-◌, ◌*◌, ◌/◌, ◌%◌, ◌<◌, ◌≤◌, length};
 ghost use Rattle.finite.specs.Lists.{values_below};
-ghost use Rattle.cs_num.specs.Complex.{IsWithin, silence, square, times, value_of, value_at};
+ghost use Rattle.cs_num.specs.Complex.{IsWithin, square, times, value_of, sample_of};
 ghost use Rattle.fold128.specs.Symbol.{useful_part};
-ghost use Rattle.lte_types.specs.Numerology.{frame_length, slot_length, useful_length, normal, symbol_of};
-ghost use Rattle.cell_tx.specs.Clean.{IsGain, most_count};
+ghost use Rattle.lte_types.specs.Numerology.{frame_length, slot_length, useful_length, normal, symbol_of, most_samples};
+ghost use Rattle.lte_types.specs.Timing.{number_of};
 ghost use Rattle.cell_tx.specs.Grid.{port_element, element};
 ghost use Rattle.cell_tx.specs.Rows.{useful_place, first_sample, frame_samples, HasSamples, AreSameOutside, IsLayout, AreVersions};
-ghost use Rattle.cell_tx.specs.Sent.{slot_sample, frame_sample, number_of, sent, received, sample_of, gain_of};
+ghost use Rattle.cell_tx.specs.Sent.{slot_sample, frame_sample, sent, received};
 
 use crate::grid::{Signals, useful_of};
 use crate::layout::{Layout, Versions, carried_of, layout_of, versions_of};
 use crate::{Cell, Port, Transmission};
-use cs_num::{Cpx, Sample};
-use lte_types::{FRAME_LENGTH, Prefix, SLOT_LENGTH, Sfn, USEFUL_LENGTH};
+use cs_num::{Cpx, Gain, Sample};
+use lte_types::{FRAME_LENGTH, Prefix, SLOT_LENGTH, Sfn, Timing, USEFUL_LENGTH};
 
 // The samples of a frame.
 const FRAME: u64 = FRAME_LENGTH as u64;
-
-/// The sample that a number is. Its components have size at most 32,767.
-pub fn to_sample(z: Cpx) -> Sample
-    requires { IsWithin 32767 z }
-    ensures { result ≡ sample_of z }
-{
-    Sample {
-        re: z.re as i16,
-        im: z.im as i16,
-    }
-}
-
-// The number of the frame that sample i is in.
-fn number(sfn: Sfn, i: u64) -> Sfn
-    ensures { result ≡ number_of sfn i }
-{
-    Sfn::modulo(sfn.value() as u64 + i / FRAME)
-}
 
 // The symbol of a slot that sample i of it is in.
 fn symbol_at(i: usize) -> usize
@@ -65,7 +47,7 @@ fn sample_of_slot(signals: &Signals, useful: &[Cpx; 128], slot: usize, i: usize)
     ensures { result ≡ sample_of
         (slot_sample (port_element signals.now.port signals.now.cell.now) signals.now.sfn slot i) }
 {
-    to_sample(useful[place_at(i)])
+    useful[place_at(i)].exact_sample()
 }
 
 // Sample i of a frame.
@@ -150,7 +132,7 @@ pub fn port_sample(cell: &Cell, port: Port, sfn: Sfn, i: u64) -> Sample
     ensures value { result ≡ sample_of (sent (port_element port cell.now) sfn i) }
     ensures size { square (sent (port_element port cell.now) sfn i) ≤ 1153 * 1153 }
 {
-    let sfn = number(sfn, i);
+    let sfn = Timing { sfn, offset: 0 }.number_at(i);
     let layout = layout_of(cell, port);
     let carried = carried_of(cell, sfn);
     let signals = Signals::new(cell, port, &layout, &carried, sfn);
@@ -177,34 +159,26 @@ pub fn frame(cell: &Cell, sfn: Sfn, out: &mut [Sample])
     put_frame(&signals, out);
 }
 
-// The number that a gain is.
-fn value_of_gain(gain: (i16, i16)) -> Cpx
-    ensures { result ≡ gain_of gain }
+/// A clean sample times a gain. The size of the sample is at most 1,153.
+pub fn amplified(gain: Gain, clean: Sample) -> Sample
+    requires { square (value_of clean) ≤ 1153 * 1153 }
+    ensures value { result ≡ sample_of (times gain (value_of clean)) }
+    ensures size { IsWithin 32284 (times gain (value_of clean)) }
 {
-    Cpx {
-        re: gain.0 as i64,
-        im: gain.1 as i64,
-    }
-}
-
-/// A clean sample times a gain of size 1 to 28. The size of the sample is at most 1,153.
-pub fn amplified(gain: (i16, i16), clean: Sample) -> Sample
-    requires gain { IsGain (gain_of gain) }
-    requires clean { square (value_of clean) ≤ 1153 * 1153 }
-    ensures value { result ≡ sample_of (times (gain_of gain) (value_of clean)) }
-    ensures size { IsWithin 32284 (times (gain_of gain) (value_of clean)) }
-{
-    to_sample(value_of_gain(gain).mul(Cpx::from(clean)))
+    gain.value().mul(Cpx::from(clean)).exact_sample()
 }
 
 /// Sample `i` of a transmission: sample `i + offset` of the cell's sequence, times the gain. `i` is
 /// below the number of samples. Components have size at most 32,284.
 pub fn send(t: &Transmission, i: u32) -> Sample
     requires { i < t.now.samples }
-    ensures value { result ≡ sample_of (received t.now.cell t.now.sfn t.now.offset (gain_of t.now.gain) i) }
-    ensures size { IsWithin 32284 (received t.now.cell t.now.sfn t.now.offset (gain_of t.now.gain) i) }
+    ensures value { result ≡ sample_of (received t.now.cell t.now.timing.sfn t.now.timing.offset t.now.gain i) }
+    ensures size { IsWithin 32284 (received t.now.cell t.now.timing.sfn t.now.timing.offset t.now.gain i) }
 {
-    amplified(t.gain, sample(&t.cell, t.sfn, i as u64 + t.offset as u64))
+    amplified(
+        t.gain,
+        sample(&t.cell, t.timing.sfn, i as u64 + t.timing.offset as u64),
+    )
 }
 
 // What is sent at a port from a frame's sample on.
@@ -212,8 +186,7 @@ pub fn send(t: &Transmission, i: u32) -> Sample
 struct Sequence<'a> {
     cell: &'a Cell,
     port: Port,
-    sfn: Sfn,
-    offset: u32,
+    timing: Timing,
 }
 
 // Makes the frame of sample i of a sequence, over the frame before where there is one.
@@ -226,13 +199,13 @@ fn make_frame(
 )
     requires layout { IsLayout sequence.now.port sequence.now.cell.now layout.now }
     requires versions { AreVersions sequence.now.cell.now versions.now }
-    requires i { i < most_count }
+    requires i { i < most_samples }
     requires before { 0 < i → clean.old ≡ frame_samples (port_element sequence.now.port sequence.now.cell.now)
-        (number_of sequence.now.sfn (i - 1 + sequence.now.offset)) }
+        (number_of sequence.now.timing.sfn (i - 1 + sequence.now.timing.offset)) }
     ensures { clean.new ≡ frame_samples (port_element sequence.now.port sequence.now.cell.now)
-        (number_of sequence.now.sfn (i + sequence.now.offset)) }
+        (number_of sequence.now.timing.sfn (i + sequence.now.timing.offset)) }
 {
-    let sfn = number(sequence.sfn, i as u64 + sequence.offset as u64);
+    let sfn = sequence.timing.number_at(i as u64);
     let carried = versions.of_frame(sfn);
     let signals = Signals::new(sequence.cell, sequence.port, layout, carried, sfn);
     if i == 0 {
@@ -252,43 +225,38 @@ fn enter_frame(
 )
     requires layout { IsLayout sequence.now.port sequence.now.cell.now layout.now }
     requires versions { AreVersions sequence.now.cell.now versions.now }
-    requires i { i < most_count }
+    requires i { i < most_samples }
     requires before { 0 < i → clean.old ≡ frame_samples (port_element sequence.now.port sequence.now.cell.now)
-        (number_of sequence.now.sfn (i - 1 + sequence.now.offset)) }
+        (number_of sequence.now.timing.sfn (i - 1 + sequence.now.timing.offset)) }
     ensures { clean.new ≡ frame_samples (port_element sequence.now.port sequence.now.cell.now)
-        (number_of sequence.now.sfn (i + sequence.now.offset)) }
+        (number_of sequence.now.timing.sfn (i + sequence.now.timing.offset)) }
 {
-    if i == 0 || (i as u64 + sequence.offset as u64) % FRAME == 0 {
+    if i == 0 || (i as u64 + sequence.timing.offset as u64) % FRAME == 0 {
         make_frame(sequence, layout, versions, i, clean);
     }
 }
 
 // Sample i of a sequence, from the samples of its frame.
 fn sequence_from(sequence: &Sequence, i: usize, clean: &[Sample; FRAME_LENGTH]) -> Sample
-    requires i { i < most_count }
+    requires i { i < most_samples }
     requires clean { clean.now ≡ frame_samples (port_element sequence.now.port sequence.now.cell.now)
-        (number_of sequence.now.sfn (i + sequence.now.offset)) }
+        (number_of sequence.now.timing.sfn (i + sequence.now.timing.offset)) }
     ensures { result ≡ sample_of (sent (port_element sequence.now.port sequence.now.cell.now)
-        sequence.now.sfn (i + sequence.now.offset)) }
+        sequence.now.timing.sfn (i + sequence.now.timing.offset)) }
 {
-    clean[(i + sequence.offset as usize) % FRAME_LENGTH]
+    clean[(i + sequence.timing.offset as usize) % FRAME_LENGTH]
 }
 
-/// What a cell sends at a port from sample `offset` of the frame numbered `sfn` on, over at most 1,920,000
-/// samples: sample `i` is that of `port_sample` at `i + offset`.
-pub fn port_sequence(cell: &Cell, port: Port, sfn: Sfn, offset: u32, out: &mut [Sample])
-    requires { length out.old ≤ most_count }
+/// What a cell sends at a port from where `timing` says on, over at most 1,920,000 samples: sample `i` is that of
+/// `port_sample` at `i + offset`.
+pub fn port_sequence(cell: &Cell, port: Port, timing: Timing, out: &mut [Sample])
+    requires { length out.old ≤ most_samples }
     ensures { out.new ≡ values_below (length out.old)
-        (λ i. sample_of (sent (port_element port cell.now) sfn (i + offset))) }
+        (λ i. sample_of (sent (port_element port cell.now) timing.sfn (i + timing.offset))) }
 {
     let layout = layout_of(cell, port);
     let versions = versions_of(cell);
-    let sequence = Sequence {
-        cell,
-        port,
-        sfn,
-        offset,
-    };
+    let sequence = Sequence { cell, port, timing };
     let mut clean = [Sample { re: 0, im: 0 }; FRAME_LENGTH];
     for i in 0..out.len() {
         enter_frame(&sequence, &layout, &versions, i, &mut clean);
@@ -300,9 +268,9 @@ pub fn port_sequence(cell: &Cell, port: Port, sfn: Sfn, offset: u32, out: &mut [
 pub fn send_all(t: &Transmission, out: &mut [Sample])
     requires { length out.old ≡ t.now.samples }
     ensures { out.new ≡ values_below t.now.samples
-        (λ i. sample_of (received t.now.cell t.now.sfn t.now.offset (gain_of t.now.gain) i)) }
+        (λ i. sample_of (received t.now.cell t.now.timing.sfn t.now.timing.offset t.now.gain i)) }
 {
-    port_sequence(&t.cell, Port::Only, t.sfn, t.offset, out);
+    port_sequence(&t.cell, Port::Only, t.timing, out);
     for i in 0..out.len() {
         out[i] = amplified(t.gain, out[i]);
     }

@@ -1,6 +1,6 @@
 //! The shared channel of a frame, which carries system information.
 
-ghost use Rattle.std.specs.Prelude.{◌≡◌, ℕ, ◌+◌, ◌*◌, ◌<◌, ◌≤◌, ◌++◌, length, take, drop, unwrap_or, MatchOption};
+ghost use Rattle.std.specs.Prelude.{◌≡◌, ℕ, ◌+◌, ◌≤◌, ◌++◌, length, take, drop};
 ghost use Rattle.finite.specs.Lists.{values_below};
 ghost use Rattle.cs_bits.specs.Checks.{with_check_24};
 ghost use Rattle.turbo_code.specs.Table.{IsSize};
@@ -16,7 +16,7 @@ use cs_bits::crc24a;
 use cs_num::Cpx;
 use dci::SI_RNTI;
 use erasure::fills;
-use grid_map::{Place, pdsch_c_init, shared_place};
+use grid_map::{Place, pdsch_c_init, shared_count, shared_place};
 use lte_types::Sfn;
 use turbo_code::{Coded, encode, match_out, row_of};
 
@@ -116,11 +116,11 @@ pub(crate) fn shared_places(cell: &Cell, two: bool) -> (usize, [Place; 612])
     ensures count { result.0 ≤ 612 }
     ensures whole { length result.1 ≡ 612 }
 {
-    let plan = cell.plan();
-    let count = cell.assigned_places(two);
+    let assignment = cell.assignment();
+    let count = shared_count(two, &assignment);
     let mut places = [Place { symbol: 0, k: 0 }; 612];
     for i in 0..count {
-        places[i] = shared_place(two, cell.id(), cell.cfi(), plan.start, plan.blocks, i);
+        places[i] = shared_place(two, cell.id(), &assignment, i);
     }
     (count, places)
 }

@@ -1,26 +1,21 @@
-//! A cell with the frame, the offset, the count of samples and the gain that are sent.
+//! A cell with the timing, the count of samples and the gain that are sent.
 
-ghost use Rattle.cell_tx.specs.Clean.{IsOffset, IsCount, IsGain};
-ghost use Rattle.cell_tx.specs.Sent.{gain_of};
+ghost use Rattle.cell_tx.specs.Clean.{IsCount};
 
 use crate::Cell;
-use lte_types::Sfn;
+use cs_num::Gain;
+use lte_types::Timing;
 
-/// What is sent of a cell: `samples` samples from sample `offset` of the frame numbered `sfn` on,
-/// each times the gain. (own)
+/// What is sent of a cell: `samples` samples from where `timing` says on, each times the gain. (own)
 #[derive(Drop)]
 pub struct Transmission {
     /// The cell.
     pub cell: Cell,
-    /// The number of its first frame.
-    pub sfn: Sfn,
-    /// The first sample of that frame which is sent, 0 to 19,199.
-    pub offset: u32,
+    /// The first frame and the first sample of it which is sent.
+    pub timing: Timing,
     /// The number of samples, 57,600 to 1,920,000.
     pub samples: u32,
-    /// The gain, real before imaginary; the square of its size is 1 to 784.
-    pub gain: (i16, i16),
-    pub ghost offset_range: { IsOffset offset },
+    /// The gain.
+    pub gain: Gain,
     pub ghost samples_range: { IsCount samples },
-    pub ghost gain_range: { IsGain (gain_of gain) },
 }

@@ -8,10 +8,9 @@ use Rattle.std.proofs.lemmas.Nat.{mul-le}
 use Rattle.finite.proofs.Lists.{values_below_at, values_below-length}
 use Rattle.cs_num.specs.declared.Cpx.{Cpx}
 use Rattle.cs_num.specs.declared.Sample.{Sample}
-use Rattle.cs_num.specs.Complex.{IsWithin, plus, minus, times, square, size, silence, value_of}
+use Rattle.cs_num.specs.Complex.{IsWithin, plus, minus, times, square, size, silence, value_of, sample_of}
 use Rattle.sizes.proofs.Squares.{re-le, im-le, square-times}
 use Rattle.sizes.proofs.TwoTerms.{two_term_cauchy}
-use Rattle.cell_tx.specs.Sent.{sample_of}
 use Rattle.two_tx.specs.Clean.{AreGains, received_of_two}
 use Rattle.two_tx.specs.Laws.{ReceivedOfTwoIsClean, ReceivedOfTwoIsSmall, ReceivedOfTwoFits}
 

@@ -7,12 +7,12 @@ use Rattle.finite.specs.Lists.{values_below}
 use Rattle.finite.proofs.Lists.{values_below-length, values_below_at, values_below_same, values_below-All}
 use Rattle.cs_num.specs.declared.Cpx.{Cpx}
 use Rattle.cs_num.specs.declared.Sample.{Sample}
-use Rattle.cs_num.specs.Complex.{IsWithin, plus, times, square, silence, sample_at, value_of}
+use Rattle.cs_num.specs.Complex.{IsWithin, plus, times, square, silence, sample_at, value_of, sample_of, value_at}
 use Rattle.sample_file.specs.Recording.{IsRecording}
 use Rattle.cell_tx.specs.declared.antenna.Port.{Port}
 use Rattle.cell_tx.specs.declared.antenna.Port.TheVariants.{First, Second}
 use Rattle.cell_tx.specs.Grid.{port_element}
-use Rattle.cell_tx.specs.Sent.{sent, sample_of, gain_of}
+use Rattle.cell_tx.specs.Sent.{sent}
 use Rattle.cell_tx.proofs.Bounds.{sent-square}
 use Rattle.capture_make.specs.Recipe.{plan, number, offset, sample_count}
 use Rattle.capture_make.specs.Errors.{drawn, error, word}
@@ -121,10 +121,10 @@ is_clean law n made m =
       samples = law (first_port (plan n) (number n)) (second_port (plan n) (number n)) (offset n) (sample_count n) (first_gain n) (second_gain n) eps (error n eps) (omega arith) (are_gains n) m.bound.within
           (λ i below. record { re = drawn-within eps (word n (2 * i)); im = drawn-within eps (word n (2 * i + 1)) });
     } in
-    subst (λ (l : List (ℤ × ℤ)). IsCleanOfPorts made.recording made.plan made.sfn made.offset (gain_of (get_or l 0 (pos 0, pos 0))) (gain_of (get_or l 1 (pos 0, pos 0))) eps) (sym m.gains_are)
-    (subst (λ l. IsCleanOfPorts l made.plan made.sfn made.offset (first_gain n) (second_gain n) eps) (sym m.samples_are)
-    (subst (λ p. IsCleanOfPorts (samples n eps) p made.sfn made.offset (first_gain n) (second_gain n) eps) (sym m.plan_is)
-    (subst (λ s. IsCleanOfPorts (samples n eps) (plan n) s made.offset (first_gain n) (second_gain n) eps) (sym m.number_is)
+    subst (λ (l : List Cpx). IsCleanOfPorts made.recording made.plan made.timing.sfn made.timing.offset (value_at l 0) (value_at l 1) eps) (sym m.gains_are)
+    (subst (λ l. IsCleanOfPorts l made.plan made.timing.sfn made.timing.offset (first_gain n) (second_gain n) eps) (sym m.samples_are)
+    (subst (λ p. IsCleanOfPorts (samples n eps) p made.timing.sfn made.timing.offset (first_gain n) (second_gain n) eps) (sym m.plan_is)
+    (subst (λ s. IsCleanOfPorts (samples n eps) (plan n) s made.timing.offset (first_gain n) (second_gain n) eps) (sym m.number_is)
     (subst (λ o. IsCleanOfPorts (samples n eps) (plan n) (number n) o (first_gain n) (second_gain n) eps) (sym m.offset_is) whole))))
 
 -- ---- a number has one recording

@@ -3,9 +3,8 @@ use Rattle.std.specs.Prelude.{ℕ, ◌*◌, ◌<◌, ◌≤◌, List}
 use Rattle.finite.specs.Lists.{values_below}
 use Rattle.cs_num.specs.declared.Cpx.{Cpx}
 use Rattle.cs_num.specs.declared.Sample.{Sample}
-use Rattle.cs_num.specs.Complex.{IsWithin, square, plus, times}
-use Rattle.cell_tx.specs.Clean.{IsOffset}
-use Rattle.cell_tx.specs.Sent.{sample_of}
+use Rattle.cs_num.specs.Complex.{IsWithin, square, plus, times, sample_of}
+use Rattle.lte_types.specs.Timing.{IsOffset}
 use Rattle.two_tx.specs.Clean.{AreGains, IsAllowed, received_of_two, IsCleanOfTwo}
 
 -- samples that are received of two sequences, each with an error

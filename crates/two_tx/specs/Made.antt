@@ -1,8 +1,8 @@
 -- Recording number n with two antenna ports. (own)
-use Rattle.std.specs.Prelude.{◌≡◌, ℕ, pos, nat_abs, List, slice_index_or}
+use Rattle.std.specs.Prelude.{◌≡◌, ℕ, nat_abs, List}
 use Rattle.cs_num.specs.declared.Cpx.{Cpx}
 use Rattle.cs_num.specs.declared.Sample.{Sample}
-use Rattle.cell_tx.specs.Sent.{gain_of}
+use Rattle.cs_num.specs.Complex.{value_at}
 use Rattle.capture_make.specs.Recipe.{plan, number, offset, sample_count}
 use Rattle.capture_make.specs.Errors.{error}
 use Rattle.two_tx.specs.declared.made.TwoMade.{TwoMade}
@@ -19,17 +19,17 @@ samples n bound =
 -- what was sent, the gains, the bound of the errors, and the samples are those of recording number n
 pub record IsMade (n : ℕ) (made : TwoMade) : Type 0 where
   pub plan_is : made.plan ≡ plan n
-  pub number_is : made.sfn ≡ number n
-  pub offset_is : made.offset ≡ offset n
+  pub number_is : made.timing.sfn ≡ number n
+  pub offset_is : made.timing.offset ≡ offset n
   pub gains_are : made.gains ≡ gains n
   pub bound : IsBound (first_gain n) (second_gain n) made.bound
   pub samples_are : made.recording ≡ samples n (nat_abs made.bound)
 
 -- the gain of a port
 abbrev pub gain_at : TwoMade → ℕ → Cpx
-gain_at made port = gain_of (slice_index_or made.gains port (pos 0, pos 0))
+gain_at made port = value_at made.gains port
 
 -- the recording is a clean one of what was sent, with these gains and with errors within the bound
 abbrev pub IsCleanlyMade : TwoMade → Type 0
 IsCleanlyMade made =
-    IsCleanOfPorts made.recording made.plan made.sfn made.offset (gain_at made 0) (gain_at made 1) (nat_abs made.bound)
+    IsCleanOfPorts made.recording made.plan made.timing.sfn made.timing.offset (gain_at made 0) (gain_at made 1) (nat_abs made.bound)

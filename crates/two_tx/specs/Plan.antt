@@ -1,7 +1,5 @@
 -- Which plans a cell with two antenna ports can send. (own)
-use Rattle.std.specs.Prelude.{ℕ, ◌≤◌, Bool, true, nat_eq, nat_le, if◌then◌else◌, Option}
-use Rattle.cell_tx.specs.declared.antenna.Port.{Port}
-use Rattle.cell_tx.specs.declared.antenna.Port.TheVariants.{First, Second}
+use Rattle.std.specs.Prelude.{◌≤◌, Bool, true, nat_le, Option}
 use Rattle.cell_tx.specs.declared.cell.CellPlan.{CellPlan}
 use Rattle.cell_tx.specs.declared.error.CellError.{CellError}
 use Rattle.cell_tx.specs.Conditions.{first_failed}
@@ -19,7 +17,3 @@ is_whole plan = nat_le (coded_count plan) (assigned_bits_of true plan)
 -- the cause of the first condition that fails
 abbrev pub refusal_of_two : CellPlan → Option CellError
 refusal_of_two plan = first_failed (conditions_with (is_whole plan) plan)
-
--- the port with this number
-abbrev pub port_of : ℕ → Port
-port_of number = if nat_eq number 0 then First else Second

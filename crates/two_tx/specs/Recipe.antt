@@ -1,24 +1,17 @@
 -- What the recipe of recording number n with two antenna ports has of its own; all else is that of one port. (own)
 use Rattle.std.specs.Prelude.{ℕ, ◌+◌, ◌%◌, pos, ℤ, neg_ℤ, ◌≤ℤ◌, nat_abs, List, [], ◌∷◌}
 use Rattle.cs_num.specs.declared.Cpx.{Cpx}
-use Rattle.cell_tx.specs.Sent.{gain_of}
 use Rattle.two_tx.specs.Clean.{IsAllowed}
 
 -- the gains of the first and of the second port
-abbrev pub first_pair : ℕ → ℤ × ℤ
-first_pair n = (pos (1 + n % 9), pos (n % 10))
-
-abbrev pub second_pair : ℕ → ℤ × ℤ
-second_pair n = (pos (n % 11), neg_ℤ (pos (n % 8)))
-
-abbrev pub gains : ℕ → List (ℤ × ℤ)
-gains n = first_pair n ∷ second_pair n ∷ []
-
 abbrev pub first_gain : ℕ → Cpx
-first_gain n = gain_of (first_pair n)
+first_gain n = record { re = pos (1 + n % 9); im = pos (n % 10) }
 
 abbrev pub second_gain : ℕ → Cpx
-second_gain n = gain_of (second_pair n)
+second_gain n = record { re = pos (n % 11); im = neg_ℤ (pos (n % 8)) }
+
+abbrev pub gains : ℕ → List Cpx
+gains n = first_gain n ∷ second_gain n ∷ []
 
 -- the bound of the errors: the greatest that a clean recording allows
 pub record IsBound (first second : Cpx) (bound : ℤ) : Type 0 where

@@ -1,17 +1,12 @@
 //! Cells with two antenna ports.
 
-ghost use Rattle.std.specs.Prelude.{◌≡◌, ◌*◌, ◌<◌, ◌≤◌, Some, None, MatchResult, IfOk};
+ghost use Rattle.std.specs.Prelude.{◌≡◌, Some, None, MatchResult, IfOk};
 ghost use Rattle.lte_types.specs.Ranges.{IsValid};
-ghost use Rattle.cs_num.specs.Complex.{square};
-ghost use Rattle.cell_tx.specs.Grid.{port_element};
 ghost use Rattle.cell_tx.specs.Transport.{block_size};
-ghost use Rattle.cell_tx.specs.Sent.{sent, sample_of};
-ghost use Rattle.two_tx.specs.Plan.{IsSendableOfTwo, is_whole, refusal_of_two, port_of};
+ghost use Rattle.two_tx.specs.Plan.{IsSendableOfTwo, is_whole, refusal_of_two};
 ghost use Rattle.two_tx.specs.Steps.{cause_with};
 
-use cell_tx::{Cell, CellError, CellPlan, Port, port_sample};
-use cs_num::Sample;
-use lte_types::Sfn;
+use cell_tx::{Cell, CellError, CellPlan};
 use std::marker::Model;
 
 /// A plan that was accepted for two antenna ports. Contracts see it as the plan.
@@ -98,25 +93,4 @@ impl Cell2 {
     {
         &self.cell
     }
-}
-
-// The port with this number.
-fn port_of(number: u8) -> Port
-    ensures { result ≡ port_of number }
-{
-    if number == 0 {
-        Port::First
-    } else {
-        Port::Second
-    }
-}
-
-/// Sample `i` of the endless sequence of frames that antenna port `port` of the cell sends, 0 or 1, which begins
-/// with the frame numbered `sfn`. The size of a sample is at most 1,153.
-pub fn sample(cell: &Cell2, port: u8, sfn: Sfn, i: u64) -> Sample
-    requires { port < 2 }
-    ensures value { result ≡ sample_of (sent (port_element (port_of port) cell.now) sfn i) }
-    ensures size { square (sent (port_element (port_of port) cell.now) sfn i) ≤ 1153 * 1153 }
-{
-    port_sample(cell.cell(), port_of(port), sfn, i)
 }

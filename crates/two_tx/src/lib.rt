@@ -8,6 +8,6 @@ mod laws;
 mod made;
 mod recipe;
 
-pub use cell::{Cell2, sample};
+pub use cell::Cell2;
 pub use laws::received_is_clean;
 pub use made::{TwoMade, made_is_clean, make};

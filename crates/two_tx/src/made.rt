@@ -2,25 +2,25 @@
 
 ghost use Rattle.std.specs.Prelude.{◌≡◌, ◌+◌, ◌*◌, ◌≤◌, ℕ, All, IfOk, length, pos};
 ghost use Rattle.finite.specs.Lists.{values_below};
-ghost use Rattle.cs_num.specs.Complex.{plus, times, sample_at, square, value_of};
+ghost use Rattle.cs_num.specs.Complex.{plus, times, sample_at, square, value_of, sample_of};
 ghost use Rattle.sample_file.specs.Recording.{IsRecording};
 ghost use Rattle.cell_tx.specs.Grid.{port_element};
-ghost use Rattle.cell_tx.specs.Sent.{sent, gain_of, sample_of};
+ghost use Rattle.cell_tx.specs.Sent.{sent};
 ghost use Rattle.capture_make.specs.Recipe.{plan as plan_of, number as number_of, offset as offset_of, sample_count as count_of};
 ghost use Rattle.two_tx.specs.Clean.{received_of_two, first_port, second_port};
 ghost use Rattle.two_tx.specs.Made.{IsMade, IsCleanlyMade};
 ghost use Rattle.two_tx.specs.Plan.{IsSendableOfTwo};
-ghost use Rattle.two_tx.specs.Recipe.{first_pair, second_pair, gains, first_gain as first_of, second_gain as second_of};
+ghost use Rattle.two_tx.specs.Recipe.{gains, first_gain as first_of, second_gain as second_of};
 ghost use Rattle.two_tx.specs.declared.made.TwoMade.{TwoMade as MadeValue};
 
 use crate::Cell2;
 use crate::gains::add_ports;
 use crate::laws::received_is_clean;
 use crate::recipe::{bound, cell, first_gain, second_gain};
-use capture_make::{number, offset, plan, sample_count, with_errors};
+use capture_make::{plan, sample_count, timing, with_errors};
 use cell_tx::{CellPlan, Port, port_sequence};
-use cs_num::Sample;
-use lte_types::Sfn;
+use cs_num::{Cpx, Sample};
+use lte_types::Timing;
 use sample_file::Recording;
 use std::alloc::{AllocError, Global};
 
@@ -29,12 +29,10 @@ use std::alloc::{AllocError, Global};
 pub struct TwoMade {
     /// What the cell was to send.
     pub plan: CellPlan,
-    /// The number of its first frame.
-    pub sfn: Sfn,
-    /// The first sample of that frame which is sent, 0 to 19,199.
-    pub offset: u32,
-    /// The gains of the first and of the second antenna port, real before imaginary.
-    pub gains: [(i16, i16); 2],
+    /// The first frame and the first sample of it which is sent.
+    pub timing: Timing,
+    /// The gains of the first and of the second antenna port; the second may be 0.
+    pub gains: [Cpx; 2],
     /// The bound of the errors: the greatest that a clean recording with these gains allows for a component.
     pub bound: i16,
     /// What both ports sent, with the errors.
@@ -47,7 +45,7 @@ fn port_samples(alloc: Global, cell: &Cell2, port: Port, n: u32) -> Result<Vec<S
         (λ i. sample_of (sent (port_element port cell.now) (number_of n) (i + offset_of n)))) }
 {
     let mut samples = vec![in alloc; Sample { re: 0, im: 0 }; sample_count(n) as usize]?;
-    port_sequence(cell.cell(), port, number(n), offset(n), &mut samples);
+    port_sequence(cell.cell(), port, timing(n), &mut samples);
     Ok(samples)
 }
 
@@ -80,16 +78,15 @@ fn received_samples(alloc: Global, cell: &Cell2, n: u32) -> Result<Vec<Sample>, 
 fn made_of(n: u32, bound: u16, recording: Recording) -> TwoMade
     requires { bound ≤ 56 }
     ensures plan { result.plan ≡ plan_of n }
-    ensures number { result.sfn ≡ number_of n }
-    ensures offset { result.offset ≡ offset_of n }
+    ensures number { result.timing.sfn ≡ number_of n }
+    ensures offset { result.timing.offset ≡ offset_of n }
     ensures gains { result.gains ≡ gains n }
     ensures bound { result.bound ≡ pos bound }
     ensures recording { result.recording ≡ recording }
 {
     TwoMade {
         plan: plan(n),
-        sfn: number(n),
-        offset: offset(n),
+        timing: timing(n),
         gains: [first_gain(n), second_gain(n)],
         bound: bound as i16,
         recording,

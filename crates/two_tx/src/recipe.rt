@@ -2,12 +2,13 @@
 
 ghost use Rattle.std.specs.Prelude.{◌≡◌, ◌⊎◌, ◌≤◌, pos};
 ghost use Rattle.capture_make.specs.Recipe.{plan as plan_of};
-ghost use Rattle.two_tx.specs.Recipe.{first_pair, second_pair, first_gain, second_gain, IsBound};
+ghost use Rattle.two_tx.specs.Recipe.{first_gain, second_gain, IsBound};
 
 use crate::Cell2;
 use capture_make::plan;
+use cs_num::Cpx;
 
-/// The cell.
+/// The cell: the plan of each number can be sent by two antenna ports too, so that it is never refused.
 pub(crate) fn cell(n: u32) -> Cell2
     ensures { result ≡ plan_of n }
 {
@@ -18,17 +19,23 @@ pub(crate) fn cell(n: u32) -> Cell2
 }
 
 /// The gain of the first port.
-pub(crate) fn first_gain(n: u32) -> (i16, i16)
-    ensures { result ≡ first_pair n }
+pub(crate) fn first_gain(n: u32) -> Cpx
+    ensures { result ≡ first_gain n }
 {
-    ((1 + n % 9) as i16, (n % 10) as i16)
+    Cpx {
+        re: (1 + n % 9) as i64,
+        im: (n % 10) as i64,
+    }
 }
 
-/// The gain of the second port.
-pub(crate) fn second_gain(n: u32) -> (i16, i16)
-    ensures { result ≡ second_pair n }
+/// The gain of the second port, which may be 0.
+pub(crate) fn second_gain(n: u32) -> Cpx
+    ensures { result ≡ second_gain n }
 {
-    ((n % 11) as i16, -((n % 8) as i16))
+    Cpx {
+        re: (n % 11) as i64,
+        im: -((n % 8) as i64),
+    }
 }
 
 // The lesser of two numbers.

@@ -8,8 +8,7 @@ use Rattle.rand_pcg.proofs.LcgLemmas.{advance_zero}
 use Rattle.finite.proofs.Lists.{values_below_is}
 use Rattle.cs_num.specs.declared.Cpx.{Cpx}
 use Rattle.cs_num.specs.declared.Sample.{Sample}
-use Rattle.cs_num.specs.Complex.{plus, sample_at, silence, value_of}
-use Rattle.cell_tx.specs.Sent.{sample_of}
+use Rattle.cs_num.specs.Complex.{plus, sample_at, silence, value_of, sample_of}
 use Rattle.capture_make.specs.Errors.{error}
 use Rattle.capture_make.proofs.Adding.{after_two, error_is}
 use Rattle.capture_make.proofs.errors.add_errors.Goals as goal

@@ -1,6 +1,5 @@
 use Rattle.std.proofs.Common.{◌≡◌, ℕ, ◌*◌, ◌<◌, ◌≤◌, length, get_or}
-use Rattle.cs_num.specs.Complex.{plus, sample_at, silence}
-use Rattle.cell_tx.specs.Sent.{sample_of}
+use Rattle.cs_num.specs.Complex.{plus, sample_at, silence, sample_of}
 use Rattle.capture_make.specs.Errors.{error, generator}
 use Rattle.capture_make.proofs.errors.add_errors.Given as goal
 

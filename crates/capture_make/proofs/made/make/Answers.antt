@@ -1,16 +1,17 @@
-use Rattle.std.proofs.Common.{◌≡◌, false, true, ◌∙◌}
+use Rattle.std.proofs.Common.{◌≡◌, false, true, ◌∙◌, sym, subst}
+use Rattle.cs_num.specs.Gain.{IsGain}
 use Rattle.cell_tx.specs.declared.antenna.Port.TheVariants.{Only}
 use Rattle.cell_tx.specs.Grid.{element}
-use Rattle.cell_tx.specs.Sent.{sent, gain_of}
+use Rattle.cell_tx.specs.Sent.{sent}
 use Rattle.cell_tx.proofs.Bounds.{sent-square}
 use Rattle.capture_make.specs.Made.{IsMade}
-use Rattle.capture_make.proofs.Samples.{room_is, samples_are, is_recording, is_made}
+use Rattle.capture_make.proofs.Samples.{gain_fits, room_is, samples_are, is_recording, is_made}
 use Rattle.capture_make.proofs.made.make.Goals as goal
 
 pub with_errors-samples-requires-clause-room : goal.with_errors-samples-requires-clause-room
 with_errors-samples-requires-clause-room c =
     let t = c.transmission-sent.result in
-    room_is (sent (element t.cell) t.sfn) t.offset t.samples (gain_of t.gain) c.in_ok-samples.samples.items t.gain_range (sent-square Only t.cell t.sfn) c.in_ok-samples.ensures
+    room_is (sent (element t.cell) t.timing.sfn) t.timing.offset t.samples t.gain c.in_ok-samples.samples.items (subst IsGain (sym c.transmission-sent.ensures.gain) (gain_fits c.args.n)) (sent-square Only t.cell t.timing.sfn) c.in_ok-samples.ensures
 
 pub unreachable-requires : goal.unreachable-requires
 unreachable-requires c =

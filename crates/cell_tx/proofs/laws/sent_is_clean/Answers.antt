@@ -4,8 +4,8 @@ use Rattle.std.specs.Prelude.{nat_abs}
 use Rattle.finite.proofs.Lists.{values_below_at, values_below-length}
 use Rattle.cs_num.specs.declared.Cpx.{Cpx}
 use Rattle.cs_num.specs.declared.Sample.{Sample}
-use Rattle.cs_num.specs.Complex.{IsWithin, silence, value_of, plus, times, minus}
-use Rattle.cell_tx.specs.Sent.{sample_of, received}
+use Rattle.cs_num.specs.Complex.{IsWithin, silence, value_of, plus, times, minus, sample_of}
+use Rattle.cell_tx.specs.Sent.{received}
 use Rattle.cell_tx.proofs.Bounds.{with-error-fits}
 use Rattle.cell_tx.proofs.laws.sent_is_clean.Goals as goal
 

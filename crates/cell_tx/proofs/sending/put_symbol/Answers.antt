@@ -1,8 +1,8 @@
 use Rattle.std.proofs.Common.{◌≡◌, ℕ, ◌+◌, ◌/◌, ◌%◌, ◌<◌, ◌≤◌, List, arith, ap, sym, ◌∙◌, length-set, get_or-set_other}
 use Rattle.cs_num.specs.declared.Sample.{Sample}
-use Rattle.cs_num.specs.Complex.{silence}
+use Rattle.cs_num.specs.Complex.{silence, sample_of}
 use Rattle.cell_tx.specs.Grid.{port_element}
-use Rattle.cell_tx.specs.Sent.{slot_sample, frame_sample, sample_of}
+use Rattle.cell_tx.specs.Sent.{slot_sample, frame_sample}
 use Rattle.cell_tx.specs.Rows.{first_sample}
 use Rattle.cell_tx.proofs.Symbols.{frame_sample_is, slot_of_symbol}
 use Rattle.cell_tx.proofs.Frames.{set_between}

@@ -1,8 +1,8 @@
 use Rattle.std.proofs.Common.{◌≡◌, ℕ, length, arith}
 use Rattle.std.proofs.lemmas.List.FromFn.{fill_by_all}
-use Rattle.cs_num.specs.Complex.{silence}
+use Rattle.cs_num.specs.Complex.{silence, sample_of}
 use Rattle.cell_tx.specs.Grid.{port_element}
-use Rattle.cell_tx.specs.Sent.{frame_sample, sample_of}
+use Rattle.cell_tx.specs.Sent.{frame_sample}
 use Rattle.cell_tx.specs.Rows.{frame_samples}
 use Rattle.cell_tx.proofs.Frames.{renewed}
 use Rattle.cell_tx.proofs.sending.renew_frame.Goals as goal

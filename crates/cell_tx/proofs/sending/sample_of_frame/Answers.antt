@@ -1,6 +1,6 @@
 use Rattle.std.proofs.Common.{ap, sym, ◌∙◌}
+use Rattle.cs_num.specs.Complex.{sample_of}
 use Rattle.cell_tx.specs.Grid.{port_element}
-use Rattle.cell_tx.specs.Sent.{sample_of}
 use Rattle.cell_tx.proofs.Symbols.{frame_sample_is}
 use Rattle.cell_tx.proofs.sending.sample_of_frame.Goals as goal
 

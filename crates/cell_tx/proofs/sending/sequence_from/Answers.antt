@@ -1,9 +1,10 @@
 use Rattle.std.proofs.Common.{◌≡◌, ℕ, ◌+◌, ◌%◌, List, slice_index_or, arith, refl, ap, sym, ◌∙◌}
 use Rattle.finite.proofs.Lists.{values_below_at}
 use Rattle.cs_num.specs.declared.Sample.{Sample}
-use Rattle.cs_num.specs.Complex.{silence, sample_at}
+use Rattle.cs_num.specs.Complex.{silence, sample_at, sample_of}
 use Rattle.cell_tx.specs.Grid.{port_element}
-use Rattle.cell_tx.specs.Sent.{Elements, frame_sample, number_of, sent, sample_of}
+use Rattle.cell_tx.specs.Sent.{Elements, frame_sample, sent}
+use Rattle.lte_types.specs.Timing.{number_of}
 use Rattle.cell_tx.specs.Rows.{frame_samples}
 use Rattle.cell_tx.proofs.Symbols.{sent_is}
 use Rattle.cell_tx.proofs.sending.sequence_from.Goals as goal
@@ -19,7 +20,7 @@ read_frame grid sfn n frame is =
 pub returns : goal.returns
 returns c =
     let q = c.args.sequence.now in
-    let n : ℕ = c.args.i + q.offset in
+    let n : ℕ = c.args.i + q.timing.offset in
     let frame = c.args.clean.now in
     let there : slice_index_or frame (n % 19200) silence ≡ sample_of (sample_at frame (n % 19200)) = refl in
-    there ∙ ap sample_of (read_frame (port_element q.port q.cell.now) q.sfn n frame c.requires.clean)
+    there ∙ ap sample_of (read_frame (port_element q.port q.cell.now) q.timing.sfn n frame c.requires.clean)

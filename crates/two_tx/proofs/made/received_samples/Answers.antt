@@ -1,11 +1,12 @@
 use Rattle.std.proofs.Common.{◌≡◌, ℕ, ◌+◌, List, ap, sym, ◌∙◌}
 use Rattle.finite.specs.Lists.{values_below}
 use Rattle.cs_num.specs.declared.Sample.{Sample}
+use Rattle.cs_num.specs.Complex.{sample_of}
 use Rattle.cell_tx.specs.declared.cell.CellPlan.{CellPlan}
 use Rattle.cell_tx.specs.declared.antenna.Port.{Port}
 use Rattle.cell_tx.specs.declared.antenna.Port.TheVariants.{First, Second}
 use Rattle.cell_tx.specs.Grid.{port_element}
-use Rattle.cell_tx.specs.Sent.{sent, sample_of}
+use Rattle.cell_tx.specs.Sent.{sent}
 use Rattle.capture_make.specs.Recipe.{plan, number, offset, sample_count}
 use Rattle.two_tx.proofs.Samples.{port_list, port_small, port_long, both_are}
 use Rattle.two_tx.proofs.made.received_samples.Goals as goal

@@ -5,7 +5,7 @@ use Rattle.turbo_code.specs.Encoder.{coded}
 use Rattle.cell_tx.specs.Transport.{filled, row_with}
 use Rattle.cell_tx.specs.Plan.{IsSendable}
 use Rattle.cell_tx.proofs.Sendable.{accepted_is_sendable}
-use Rattle.cell_tx.proofs.BlockRows.{size_fits}
+use Rattle.dci.proofs.SizeRows.{size_fits}
 use Rattle.cell_tx.proofs.NewCells.{has_size, IsAccepted, accepted_can_be_sent, accepted_is_coded}
 use Rattle.cell_tx.proofs.cell.Cell.new.Goals as goal
 
