@@ -13,17 +13,20 @@ use Rattle.lte_types.specs.declared.frame.Half.{Half}
 use Rattle.lte_types.specs.declared.frame.Half.TheVariants.{Zero, Five}
 use Rattle.lte_types.specs.declared.numerology.Prefix.{Prefix}
 use Rattle.lte_types.specs.Numerology.{normal, IsPrefix, symbol_step}
+use Rattle.lte_types.specs.CellPlace.{Place}
+use Rattle.lte_types.specs.Frames.{frames_from}
 use Rattle.lte_types.specs.declared.hit.Hit.{Hit}
 use Rattle.lte_types.specs.declared.entry.Entry.{Entry}
 use Rattle.pss_search.specs.Hits.{found, hits_of}
 use Rattle.pss_search.proofs.Listed.{list_is_right}
 use Rattle.lte_types.specs.Identity.{cell_of}
-use Rattle.sss_detect.specs.Place.{start_of}
+use Rattle.lte_types.specs.Timing.{start_of as start_after}
+use Rattle.sss_detect.specs.Place.{start_of, prefix_place}
 use Rattle.sss_detect.specs.Identity.{prefix_identity}
 use Rattle.pbch.specs.declared.master.Master.{Master}
-use Rattle.cell_tx.specs.Clean.{start_of as start_after}
-use Rattle.explain.specs.Entries.{identity_at, start_at, master_of, epoch, distance, is_same_cell, IsEntryBy, AreEntries, IsListOfHits}
-use Rattle.explain.specs.declared.places.Place.{Place}
+use Rattle.explain.specs.Entries.{place_at, place_of, frames_of, master_of, epoch, distance, is_same_cell, IsEntryAt, AreEntries, IsListOfHits}
+use Rattle.explain.specs.Told.{Telling, Informing}
+use Rattle.explain.specs.Reader.{TellsOne, HasOneSystem}
 use Rattle.explain.specs.Window.{IsInWindow, ComeBefore}
 use Rattle.explain.specs.Masters.{entry_of}
 use Rattle.explain.specs.Laws.{IsEntryOfSome}
@@ -37,24 +40,24 @@ use Rattle.clean_air.specs.Clean.{HoldsOne}
 use Rattle.clean_air.proofs.SentSymbols.{IsTruePlace}
 use Rattle.clean_air.proofs.TruePlaces.{AreNear, true_hit, true_start, near_true, near_starts, same_numbers}
 
+-- the place of a cell that begins at this offset
+abbrev pub sent_place : ℕ → ℕ → Place
+sent_place identity offset = record { id = identity; start = start_after offset }
+
 -- what is used of a cell that begins at this offset: its synchronisation signals stand at its places, with this prefix, and
 -- its first whole frame, of this number, tells this master block
-pub record IsHeardBy (prefix : Prefix) (Tells : ℕ → ℕ → ℕ → ℕ → ℕ → Master → Type 0) (recording : List Sample) (identity offset number : ℕ) (master : Master) : Type 0 where
+pub record IsHeardBy (prefix : Prefix) (Tells : Telling) (recording : List Sample) (identity offset number : ℕ) (master : Master) : Type 0 where
   pub long : 57600 ≤ length recording
   pub within : offset < 19200
   pub known : number ≤ 1023
   pub primary : (t : ℕ) (half : Half) → IsTruePlace offset t half → t + 128 ≤ length recording → IsPrimaryAt recording t (identity % 3)
   pub secondary : (t : ℕ) (half : Half) → IsTruePlace offset t half → symbol_step prefix ≤ t → t + 128 ≤ length recording → AreSignals prefix recording t (identity / 3) (identity % 3) half
-  pub tells : Tells identity (start_after offset) 1 0 (number % 4) master
+  pub tells : Tells (sent_place identity offset) (frames_from 1 0 (number % 4)) master
   pub upper : master.mib.upper ≡ number / 4
 
 -- the same with the normal prefix
-abbrev pub IsHeard : (ℕ → ℕ → ℕ → ℕ → ℕ → Master → Type 0) → List Sample → ℕ → ℕ → ℕ → Master → Type 0
+abbrev pub IsHeard : Telling → List Sample → ℕ → ℕ → ℕ → Master → Type 0
 IsHeard Tells recording identity offset number master = IsHeardBy normal Tells recording identity offset number master
-
--- the place that a hit tells by a prefix
-abbrev pub place_by : Prefix → List Sample → Hit → Place
-place_by prefix recording hit = record { id = cell_of (prefix_identity prefix recording hit).0 hit.n2; start = start_of hit.t (prefix_identity prefix recording hit).1 }
 
 -- the hits of a recording before which there is room for a symbol of the prefix
 abbrev pub AreHitsBy : Prefix → List Sample → List Hit → Type 0
@@ -77,22 +80,21 @@ step_fits prefix (inl e) = rw e (omega arith)
 step_fits prefix (inr e) = rw e (omega arith)
 
 -- where frames tell at most one master block at a phase, and there is at most one answer on system information
-module _ (prefix : Prefix) (is_prefix : IsPrefix prefix) (Tells : ℕ → ℕ → ℕ → ℕ → ℕ → Master → Type 0) (IsSystem : ℕ → ℕ → ℕ → ℕ → Mib → Result Sib1 Sib1Reason → Type 0)
-    (one : (identity start count j phase : ℕ) (a b : Master) → Tells identity start count j phase a → Tells identity start count j phase b → a ≡ b)
-    (one_answer : (identity start sfn ports : ℕ) (mib : Mib) (a b : Result Sib1 Sib1Reason) → IsSystem identity start sfn ports mib a → IsSystem identity start sfn ports mib b → a ≡ b)
+module _ (prefix : Prefix) (is_prefix : IsPrefix prefix) (Tells : Telling) (IsSystem : Informing)
+    (one : TellsOne Tells) (one_answer : HasOneSystem IsSystem)
     (recording : List Sample) (hits : List Hit) (are : AreHitsBy prefix recording hits) where
   -- the entries of a hit
   abbrev pub IsOf : Hit → Entry → Type 0
-  IsOf hit entry = IsEntryBy Tells IsSystem recording (place_by prefix recording hit).id (place_by prefix recording hit).start entry
+  IsOf hit entry = IsEntryAt Tells IsSystem recording (prefix_place prefix recording hit) entry
 
   abbrev pub IsOfSome : Entry → Type 0
   IsOfSome entry = IsEntryOfSome IsOf hits entry
 
   module _ (identity offset number : ℕ) (master : Master) (sib1 : Result Sib1 Sib1Reason) (heard : IsHeardBy prefix Tells recording identity offset number master)
-      (system : IsSystem identity (start_after offset) number master.ports master.mib sib1) where
+      (system : IsSystem (sent_place identity offset) number master.ports master.mib sib1) where
     -- the cell's entry
     abbrev sent_entry : Entry
-    sent_entry = entry_of identity (start_after offset) 1 0 (number % 4) master sib1
+    sent_entry = entry_of (sent_place identity offset) (frames_from 1 0 (number % 4)) master sib1
 
     sent_number : sent_entry.sfn ≡ number
     sent_number = let e = heard.upper in let fits = heard.known in omega (arith, e, fits)
@@ -127,7 +129,7 @@ module _ (prefix : Prefix) (is_prefix : IsPrefix prefix) (Tells : ℕ → ℕ �
             };
             master = heard.tells;
             sfn = refl;
-            sib1 = subst (λ n. IsSystem identity (start_after offset) n master.ports master.mib sib1) (sym sent_number) system;
+            sib1 = subst (λ n. IsSystem (sent_place identity offset) n master.ports master.mib sib1) (sym sent_number) system;
           };
         }
 
@@ -145,11 +147,12 @@ module _ (prefix : Prefix) (is_prefix : IsPrefix prefix) (Tells : ℕ → ℕ �
         let same = (only_hit_near recording place.u hit.t (identity % 3) hit.n2 primary (omega (arith, right.root)) place.below place.above right.is_hit).0 in
         is.is_of.start ∙ true_start offset hit.t half heard.within (subst (λ t. IsTruePlace offset t half) (sym same) place.is)
 
+    at_place : (other : Entry) → other.id ≡ identity → other.start ≡ start_after offset → place_of other ≡ sent_place identity offset
+    at_place other id start = ap (λ i. record (place_of other) { id = i }) id ∙ ap (λ s. record (sent_place identity offset) { start = s }) start
+
     -- what an entry with the cell's identity and start tells, by these
-    there : (other : Entry) → IsOfSome other → other.id ≡ identity → other.start ≡ start_after offset → Tells identity (start_after offset) other.frames other.frame other.phase (master_of other)
-    there other is id start =
-        subst (λ n. Tells identity n other.frames other.frame other.phase (master_of other)) start
-        (subst (λ n. Tells n other.start other.frames other.frame other.phase (master_of other)) id is.is_of.master)
+    there : (other : Entry) → IsOfSome other → other.id ≡ identity → other.start ≡ start_after offset → Tells (sent_place identity offset) (frames_of other) (master_of other)
+    there other is id start = subst (λ p. Tells p (frames_of other) (master_of other)) (at_place other id start) is.is_of.master
 
     -- it does not come before them, since the first frame alone tells a master block
     not_after : (other : Entry) → IsOfSome other → other.id ≡ identity → other.start ≡ start_after offset → ComeBefore 1 0 other.frames other.frame → ⊥
@@ -158,7 +161,7 @@ module _ (prefix : Prefix) (is_prefix : IsPrefix prefix) (Tells : ℕ → ℕ �
         let first : start_after offset < 19200 = omega arith in
         is.is_of.frames.first 1 0 (record { some = omega arith; few = omega arith; known = omega arith; whole = λ m below. omega (arith, long, first, start, below) }) before
         (number % 4) master (omega arith)
-        (subst (λ f. Tells other.id f 1 0 (number % 4) master) (sym start) (subst (λ n. Tells n (start_after offset) 1 0 (number % 4) master) (sym id) heard.tells))
+        (subst (λ p. Tells p (frames_from 1 0 (number % 4)) master) (sym (at_place other id start)) heard.tells)
 
     -- an entry of a hit with the cell's identity, start and number is the cell's entry: it tells the same master block
     -- of the same frame
@@ -173,16 +176,16 @@ module _ (prefix : Prefix) (is_prefix : IsPrefix prefix) (Tells : ℕ → ℕ �
           | inr none ↦ omega (arith, none)
         ] in
         let phase : other.phase ≡ number % 4 = omega (arith, is.is_of.sfn, is.is_of.period, frames, frame, sfn_is) in
-        let same : master_of other ≡ master = one identity (start_after offset) 1 0 (number % 4) (master_of other) master
-        (subst (λ p. Tells identity (start_after offset) 1 0 p (master_of other)) phase
-        (subst (λ j. Tells identity (start_after offset) 1 j other.phase (master_of other)) frame
-        (subst (λ c. Tells identity (start_after offset) c other.frame other.phase (master_of other)) frames (there other is id start)))) heard.tells in
-        let own : IsSystem identity (start_after offset) number master.ports master.mib other.sib1 =
-        subst (λ (m : Master). IsSystem identity (start_after offset) number m.ports m.mib other.sib1) same
-        (subst (λ n. IsSystem identity (start_after offset) n other.ports other.mib other.sib1) sfn_is
-        (subst (λ n. IsSystem identity n other.sfn other.ports other.mib other.sib1) start (subst (λ n. IsSystem n other.start other.sfn other.ports other.mib other.sib1) id is.is_of.sib1))) in
+        let same : master_of other ≡ master = one (sent_place identity offset) (frames_from 1 0 (number % 4)) (master_of other) master
+        (subst (λ p. Tells (sent_place identity offset) (frames_from 1 0 p) (master_of other)) phase
+        (subst (λ j. Tells (sent_place identity offset) (frames_from 1 j other.phase) (master_of other)) frame
+        (subst (λ c. Tells (sent_place identity offset) (frames_from c other.frame other.phase) (master_of other)) frames (there other is id start)))) heard.tells in
+        let own : IsSystem (sent_place identity offset) number master.ports master.mib other.sib1 =
+        subst (λ (m : Master). IsSystem (sent_place identity offset) number m.ports m.mib other.sib1) same
+        (subst (λ n. IsSystem (sent_place identity offset) n other.ports other.mib other.sib1) sfn_is
+        (subst (λ p. IsSystem p other.sfn other.ports other.mib other.sib1) (at_place other id start) is.is_of.sib1)) in
         same_entry other sent_entry id start (sfn_is ∙ sym sent_number) frames frame phase same
-        (one_answer identity (start_after offset) number master.ports master.mib other.sib1 sib1 own system)
+        (one_answer (sent_place identity offset) number master.ports master.mib other.sib1 sib1 own system)
 
     -- an entry of the same cell is the same
     same_if_near : (other : Entry) → IsOfSome other → is_same_cell other sent_entry ≡ true → other ≡ sent_entry
@@ -222,12 +225,11 @@ module _ (prefix : Prefix) (is_prefix : IsPrefix prefix) (Tells : ℕ → ℕ �
 normal_hits : (recording : List Sample) → AreHitsBy normal recording (hits_of recording)
 normal_hits recording hit = (λ listed. (listed, ((list_is_right recording hit).0 listed).is_hit.from_first), λ both. both.0)
 
-pub heard_is_held : (Tells : ℕ → ℕ → ℕ → ℕ → ℕ → Master → Type 0) (IsSystem : ℕ → ℕ → ℕ → ℕ → Mib → Result Sib1 Sib1Reason → Type 0)
-    (one : (identity start count j phase : ℕ) (a b : Master) → Tells identity start count j phase a → Tells identity start count j phase b → a ≡ b)
-    (one_answer : (identity start sfn ports : ℕ) (mib : Mib) (a b : Result Sib1 Sib1Reason) → IsSystem identity start sfn ports mib a → IsSystem identity start sfn ports mib b → a ≡ b)
+pub heard_is_held : (Tells : Telling) (IsSystem : Informing)
+    (one : TellsOne Tells) (one_answer : HasOneSystem IsSystem)
     (recording : List Sample) (identity offset number : ℕ) (master : Master) (sib1 : Result Sib1 Sib1Reason) (heard : IsHeard Tells recording identity offset number master)
-    (system : IsSystem identity (start_after offset) number master.ports master.mib sib1) (list : List Entry)
-    (listed : IsListOfHits (λ hit. AreEntries (λ entry. IsEntryBy Tells IsSystem recording (identity_at recording hit) (start_at recording hit) entry)) (hits_of recording) list)
-    (is_sent : Entry → Type 0) → is_sent (entry_of identity (start_after offset) 1 0 (number % 4) master sib1) → HoldsOne list identity (start_after offset) number is_sent
+    (system : IsSystem (sent_place identity offset) number master.ports master.mib sib1) (list : List Entry)
+    (listed : IsListOfHits (λ hit. AreEntries (λ entry. IsEntryAt Tells IsSystem recording (place_at recording hit) entry)) (hits_of recording) list)
+    (is_sent : Entry → Type 0) → is_sent (entry_of (sent_place identity offset) (frames_from 1 0 (number % 4)) master sib1) → HoldsOne list identity (start_after offset) number is_sent
 heard_is_held Tells IsSystem one one_answer recording identity offset number master sib1 heard system list listed is_sent sent =
     heard_is_held_by normal (inl refl) Tells IsSystem one one_answer recording (hits_of recording) (normal_hits recording) identity offset number master sib1 heard system list listed is_sent sent

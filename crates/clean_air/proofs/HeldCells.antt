@@ -10,6 +10,7 @@ use Rattle.soft_bits.specs.Soft.{SeenSlot}
 use Rattle.pbch.specs.declared.master.Master.{Master}
 use Rattle.pbch.specs.Values.{coded_values}
 use Rattle.lte_types.specs.Codes.{bandwidth}
+use Rattle.lte_types.specs.Timing.{start_of as start_after, number_at_start}
 use Rattle.pbch.specs.Master.{TellsMaster}
 use Rattle.cell_tx.specs.declared.antenna.Port.TheVariants.{Only}
 use Rattle.cell_tx.specs.declared.cell.CellPlan.{CellPlan}
@@ -17,7 +18,6 @@ use Rattle.cell_tx.specs.Plan.{IsSendable}
 use Rattle.cell_tx.specs.Block.{broadcast_word}
 use Rattle.cell_tx.specs.Grid.{element}
 use Rattle.cell_tx.specs.Sent.{Elements}
-use Rattle.cell_tx.specs.Clean.{start_of as start_after, number_at_start}
 use Rattle.clean_air.specs.Load.{IsLoaded}
 use Rattle.clean_air.proofs.Carrying.{clean_is_loaded}
 use Rattle.explain.specs.Frame.{frame_at, seen_slot, broadcast_slot}
@@ -28,7 +28,7 @@ use Rattle.explain.proofs.FirstFrame.{one_master_at}
 use Rattle.explain.proofs.Information.{one_system, first_tried, even_number, told_at_first}
 use Rattle.clean_air.specs.Broadcast.{TellsFreely}
 use Rattle.clean_air.specs.Clean.{IsSentEntry, HoldsLoadedCells, HoldsCleanCells}
-use Rattle.clean_air.proofs.Held.{IsHeard, heard_is_held}
+use Rattle.clean_air.proofs.Held.{sent_place, IsHeard, heard_is_held}
 use Rattle.clean_air.proofs.Masters.{received_slot_tells}
 use Rattle.clean_air.proofs.SentSymbols.{first_frame, primary_at, synchronisation_at}
 use Rattle.clean_air.proofs.SentBlock.{is_block}
@@ -100,7 +100,7 @@ holds_loaded_cells recording list long explained plan grid sfn offset gain eps s
     let early : start_after offset < 19200 = omega arith in
     let whole = (first_tried recording (start_after offset) number long early).whole in
     let read = fields_read recording plan grid sfn offset gain eps sendable clean (even_frame number 0) whole (even_number number 0) in
-    let system = told_at_first recording plan.identity (start_after offset) number master.mib plan.sib1 long early refl read in
+    let system = told_at_first recording (sent_place plan.identity offset) number master.mib plan.sib1 long early refl read in
     heard_is_held (IsMasterAt recording) (IsSystemOf recording) (one_master_at recording) (one_system recording) recording plan.identity offset number master (Ok plan.sib1)
     (is_heard recording plan grid sfn offset gain eps sendable clean long) system list explained (IsSentEntry plan number)
     (record { ports = refl; block = record { bandwidth = refl; duration = refl; resource = refl; upper = refl; spare = refl }; sib1 = refl; cost = refl; frames = refl; frame = refl })

@@ -1,5 +1,5 @@
 -- Where the places of the channels stand: those of the control region in the first slot, all in the grid.
-use Rattle.std.proofs.Common.{ℕ, ◌<◌, ◌≤◌, Bool, false, get_or, arith}
+use Rattle.std.proofs.Common.{ℕ, ◌<◌, ◌≤◌, Bool, get_or, arith}
 use Rattle.std.specs.Prelude.{All}
 use Rattle.std.proofs.lemmas.List.Elements.{All-from_get_or}
 use Rattle.lte_types.specs.declared.duration.Duration.{Duration}
@@ -8,7 +8,7 @@ use Rattle.grid_map.specs.declared.Place.{Place}
 use Rattle.grid_map.specs.Place.{place}
 use Rattle.grid_map.specs.Control.{pcfich_places, pdcch_groups}
 use Rattle.grid_map.specs.Candidate.{candidate_places}
-use Rattle.grid_map.specs.Shared.{shared_places_of, pdsch_places}
+use Rattle.grid_map.specs.Shared.{shared_places_of}
 use Rattle.grid_map.proofs.Pieces.{length-pcfich_places}
 use Rattle.grid_map.proofs.Indexed.{candidate_indexed, pdcch_carry}
 use Rattle.grid_map.proofs.Apart.{IsInRegion, indicator_place, control_place, shared_place}
@@ -40,6 +40,3 @@ pub shared_placed : (two : Bool) (identity cfi start blocks : ℕ) → All IsInS
 shared_placed two identity cfi start blocks =
     All-from_get_or IsInSubframe (shared_places_of two identity cfi start blocks) (place 0 0)
     (λ i l. let at = shared_place two identity cfi start blocks i l in (at.symbol, at.k))
-
-pub pdsch_placed : (identity cfi start blocks : ℕ) → All IsInSubframe (pdsch_places identity cfi start blocks)
-pdsch_placed = shared_placed false

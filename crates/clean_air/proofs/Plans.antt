@@ -14,19 +14,19 @@ use Rattle.system_block.specs.declared.reading.Attempt.{Attempt}
 use Rattle.system_block.specs.Subframe.{Subframe, one_port}
 use Rattle.system_block.specs.Attempt.{IsAttempt}
 use Rattle.explain.specs.Frame.{frame_at, seen_slot}
-use Rattle.explain.specs.Entries.{IsInList}
+use Rattle.explain.specs.Entries.{place_of, IsInList}
 use Rattle.explain.specs.Grant.{IsAttemptAt, IsReadBy, IsGrantOf}
 use Rattle.explain.specs.System.{even_frame}
 use Rattle.explain.proofs.Granted.{one_grant_of}
 use Rattle.explain.proofs.Information.{first_tried, even_number, system_is_valid}
 use Rattle.explain.proofs.Listed.{is_sound}
 use Rattle.lte_types.specs.Ranges.{IsValid}
+use Rattle.lte_types.specs.Timing.{start_of, number_at_start}
 use Rattle.cell_tx.specs.declared.error.CellError.{CellError}
 use Rattle.cell_tx.specs.declared.cell.CellPlan.{CellPlan}
 use Rattle.cell_tx.specs.Control.{grant_of as sent_grant}
 use Rattle.cell_tx.specs.Plan.{IsSendable, plan_refusal}
 use Rattle.cell_tx.specs.Sent.{Elements}
-use Rattle.cell_tx.specs.Clean.{start_of, number_at_start}
 use Rattle.clean_air.specs.Load.{IsLoaded}
 use Rattle.cell_tx.proofs.Sendable.{accepted_is_sendable}
 use Rattle.clean_air.specs.Clean.{IsSentEntry}
@@ -64,7 +64,7 @@ pub valid_fields : (recording : List Sample) (entry : Entry) (fields : Sib1) →
 valid_fields recording entry fields listed same =
     let known = is_sound recording listed.list entry listed.explained listed.inside in
     subst (λ (answer : Result Sib1 Sib1Reason). IfOk answer IsValid) same
-    (system_is_valid recording entry.id entry.start entry.sfn entry.ports entry.mib entry.sib1 known.is_of.sib1)
+    (system_is_valid recording (place_of entry) entry.sfn entry.ports entry.mib entry.sib1 known.is_of.sib1)
 
 -- the plan that is made is the entry's, where it is accepted
 module _ (recording : List Sample) (entry : Entry) (indicator : ℕ) (grant : Grant) (fields : Sib1) (granted : IsGrantOf recording entry (Some (indicator, grant)))

@@ -19,12 +19,12 @@ use Rattle.cell_tx.specs.declared.antenna.Port.TheVariants.{Only}
 use Rattle.cell_tx.specs.Block.{port_point, port_bit, broadcast_word, broadcast_point}
 use Rattle.cell_tx.specs.Grid.{is_broadcast, port_element, element}
 use Rattle.cell_tx.specs.Sent.{Elements}
-use Rattle.cell_tx.specs.Clean.{start_of, number_at_start}
 use Rattle.clean_air.specs.Load.{CarriesPlan, IsLoaded}
 use Rattle.cell_tx.specs.Rows.{reference_if}
 use Rattle.cell_tx.proofs.Elements.{element_of_channel, channel_of_broadcast}
 use Rattle.clean_air.proofs.Carrying.{of_own_reference, of_broadcast}
 use Rattle.lte_types.specs.Numerology.{normal, useful_start}
+use Rattle.lte_types.specs.Timing.{start_of, number_at_start}
 use Rattle.explain.specs.Frame.{IsWhole, frame_at, seen_slot, broadcast_slot}
 use Rattle.budget.specs.Received.{IsReceived, samples_from}
 use Rattle.clean_air.specs.Values.{ArePilotsSeen, IsSlotReceived}

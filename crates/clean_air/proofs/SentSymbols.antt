@@ -14,8 +14,9 @@ use Rattle.cell_tx.specs.declared.cell.CellPlan.{CellPlan}
 use Rattle.cell_tx.specs.Grid.{port_element, element}
 use Rattle.lte_types.specs.declared.numerology.Prefix.{Prefix}
 use Rattle.lte_types.specs.Numerology.{normal, IsPrefix, symbols_of_slot, useful_start, subframe_of, primary_start}
+use Rattle.lte_types.specs.Timing.{start_of, number_at_start}
 use Rattle.cell_tx.specs.Sent.{Elements, prefix_sent, sent}
-use Rattle.cell_tx.specs.Clean.{IsCleanOf, start_of, number_at_start}
+use Rattle.cell_tx.specs.Clean.{IsCleanOf}
 use Rattle.clean_air.specs.Load.{CarriesPlan, IsLoaded}
 use Rattle.cell_tx.proofs.Symbols.{frames_follow, useful_parts_stand, in_useful}
 use Rattle.cell_tx.proofs.Elements.{no_reference}

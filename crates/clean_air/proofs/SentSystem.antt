@@ -6,6 +6,7 @@ use Rattle.std.proofs.lemmas.Bool.{lt-ltb, le-ltb}
 use Rattle.cs_num.specs.declared.Cpx.{Cpx}
 use Rattle.cs_num.specs.declared.Sample.{Sample}
 use Rattle.lte_types.specs.Numerology.{normal, useful_start}
+use Rattle.lte_types.specs.Timing.{start_of, number_at_start}
 use Rattle.observe.specs.Seen.{seen_symbol}
 use Rattle.soft_bits.specs.Soft.{SeenSlot}
 use Rattle.cs_bits.specs.Checks.{message_of}
@@ -25,7 +26,6 @@ use Rattle.cell_tx.specs.Points.{point_of}
 use Rattle.cell_tx.specs.Control.{version_of, grant_of, control_word, indicator_point, control_point}
 use Rattle.cell_tx.specs.Shared.{shared_places, shared_coded, shared_bit, shared_point}
 use Rattle.cell_tx.specs.Sent.{Elements}
-use Rattle.cell_tx.specs.Clean.{start_of, number_at_start}
 use Rattle.clean_air.specs.Load.{IsLoaded}
 use Rattle.cell_tx.proofs.SystemPlaces.{indicator_indexed, control_indexed, assigned_bits_are}
 use Rattle.clean_air.proofs.Carrying.{indicator_carried, control_carried, shared_carried}

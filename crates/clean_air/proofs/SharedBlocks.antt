@@ -1,6 +1,6 @@
 -- A transport block that was sent is told by the values of its resource blocks.
-use Rattle.std.proofs.Common.{◌≡◌, ℕ, ◌*◌, Bool, true, List, ℤ, length, sym, subst, arith}
-use Rattle.grid_map.specs.Shared.{pdsch_places}
+use Rattle.std.proofs.Common.{◌≡◌, ℕ, ◌*◌, Bool, true, false, List, ℤ, length, sym, subst, arith}
+use Rattle.grid_map.specs.Shared.{shared_places_of}
 use Rattle.cs_bits.proofs.Signs.{supports-less}
 use Rattle.erasure.specs.Known.{resolvable, sent_of}
 use Rattle.clean_turbo.specs.Tells.{ValuesSupport}
@@ -29,11 +29,11 @@ heard_block_is_told row rv count word values sent heard =
 
 pub seen_block_is_told : SeenBlockIsTold
 seen_block_is_told gain later first second cfi start blocks row rv word sent seen =
-    let count : ℕ = 2 * length (pdsch_places first.identity cfi start blocks) in
+    let count : ℕ = 2 * length (shared_places_of false first.identity cfi start blocks) in
     heard_block_is_told row rv count word _ sent (heard-less count (seen_blocks_are_heard gain later first second cfi start blocks (matched_bit row rv word) seen))
 
 pub received_block_is_told : ReceivedBlockIsTold
 received_block_is_told recording starts grids first second cfi start blocks row rv word sent received carried =
-    let count : ℕ = 2 * length (pdsch_places first.identity cfi start blocks) in
+    let count : ℕ = 2 * length (shared_places_of false first.identity cfi start blocks) in
     heard_block_is_told row rv count word _ sent
     (heard-less count (received_blocks_are_heard recording starts grids first second cfi start blocks (matched_bit row rv word) received carried))

@@ -8,7 +8,7 @@ use Rattle.cs_bits.specs.Signs.{Supports}
 use Rattle.crs.specs.Qpsk.{point}
 use Rattle.grid_map.specs.declared.Place.{Place}
 use Rattle.grid_map.specs.Place.{place}
-use Rattle.grid_map.specs.Shared.{pdsch_places}
+use Rattle.grid_map.specs.Shared.{shared_places_of}
 use Rattle.grid_map.specs.Scrambling.{pdsch_c_init}
 use Rattle.dci.specs.Fields.{system_information_rnti}
 use Rattle.soft_bits.specs.Soft.{SeenSlot, seen_at, soft_values}
@@ -21,7 +21,7 @@ use Rattle.clean_air.specs.Carried.{CarryBits}
 use Rattle.clean_air.specs.Subframe.{gain_with, IsSubframeSeen, shared_scrambled, SeenSubframeIsHeard, SeenBlocksAreHeard, IsSubframeReceived, CarryInSubframe, ReceivedSubframeIsHeard, ReceivedBlocksAreHeard}
 use Rattle.clean_air.proofs.SoftValues.{values_support_bits, place_seen, pilots_seen}
 use Rattle.clean_air.proofs.Speaking.{one_value, descrambled_bits_are_heard}
-use Rattle.clean_air.proofs.Placed.{IsInSubframe, pdsch_placed}
+use Rattle.clean_air.proofs.Placed.{IsInSubframe, shared_placed}
 
 -- ---- seen
 
@@ -47,7 +47,7 @@ seen_subframe_is_heard gain later first second places bits seen = record {
 pub seen_blocks_are_heard : SeenBlocksAreHeard
 unfolding shared_values
 seen_blocks_are_heard gain later first second cfi start blocks bits seen =
-    let places = pdsch_places first.identity cfi start blocks in
+    let places = shared_places_of false first.identity cfi start blocks in
     descrambled_bits_are_heard 8 (2 * length places) (pdsch_c_init first.identity first.number system_information_rnti) bits (subframe_values first second places)
     (seen_subframe_is_heard gain later first second places (shared_scrambled first bits) seen)
 
@@ -88,9 +88,9 @@ received_subframe_is_heard recording starts grids first second places bits recei
 
 pub received_blocks_are_heard : ReceivedBlocksAreHeard
 received_blocks_are_heard recording starts grids first second cfi start blocks bits received carry =
-    let places = pdsch_places first.identity cfi start blocks in
+    let places = shared_places_of false first.identity cfi start blocks in
     seen_blocks_are_heard received.first_slot.gain received.second_slot.gain first second cfi start blocks bits
-    (received_is_seen recording starts grids first second received places (shared_scrambled first bits) (pdsch_placed first.identity cfi start blocks) carry)
+    (received_is_seen recording starts grids first second received places (shared_scrambled first bits) (shared_placed false first.identity cfi start blocks) carry)
 
 -- ---- places of the first slot
 

@@ -3,9 +3,9 @@ use Rattle.std.proofs.Common.{◌≡◌, ℕ, ◌+◌, ◌-◌, ◌*◌, ◌/◌
 use Rattle.std.proofs.lemmas.Bool.{cases_lt}
 use Rattle.lte_types.specs.declared.frame.Half.{Half}
 use Rattle.lte_types.specs.declared.frame.Half.TheVariants.{Zero, Five}
+use Rattle.lte_types.specs.Timing.{start_of as start_after}
 use Rattle.sss_detect.specs.Place.{start_of}
 use Rattle.explain.specs.Entries.{distance}
-use Rattle.cell_tx.specs.Clean.{start_of as start_after}
 use Rattle.clean_air.proofs.SentSymbols.{IsTruePlace}
 
 -- ---- the true place of the span

@@ -6,11 +6,12 @@ use Rattle.cs_num.specs.declared.Sample.{Sample}
 use Rattle.lte_types.specs.declared.bandwidth.Bandwidth.TheVariants.{N6}
 use Rattle.lte_types.specs.declared.entry.Entry.{Entry}
 use Rattle.lte_types.specs.Block.{HasFields}
+use Rattle.lte_types.specs.Timing.{start_of, number_at_start}
 use Rattle.explain.specs.Entries.{IsExplained}
 use Rattle.cell_tx.specs.declared.cell.CellPlan.{CellPlan}
 use Rattle.cell_tx.specs.Plan.{IsSendable}
 use Rattle.cell_tx.specs.Sent.{Elements}
-use Rattle.cell_tx.specs.Clean.{IsClean, start_of, number_at_start}
+use Rattle.cell_tx.specs.Clean.{IsClean}
 use Rattle.clean_air.specs.Load.{IsLoaded}
 
 -- the list has an entry with this identity, start and frame number, which is as it was sent; every entry with these

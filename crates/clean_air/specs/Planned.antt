@@ -5,12 +5,12 @@ use Rattle.cs_num.specs.declared.Sample.{Sample}
 use Rattle.lte_types.specs.declared.bandwidth.Bandwidth.TheVariants.{N6}
 use Rattle.lte_types.specs.declared.sib1.Sib1.{Sib1}
 use Rattle.lte_types.specs.declared.entry.Entry.{Entry}
+use Rattle.lte_types.specs.Timing.{start_of, number_at_start}
 use Rattle.dci.specs.declared.grant.Grant.{Grant}
 use Rattle.explain.specs.Grant.{IsGrantOf}
 use Rattle.cell_tx.specs.declared.cell.CellPlan.{CellPlan}
 use Rattle.cell_tx.specs.Plan.{IsSendable, plan_refusal}
 use Rattle.cell_tx.specs.Sent.{Elements}
-use Rattle.cell_tx.specs.Clean.{start_of, number_at_start}
 use Rattle.clean_air.specs.Load.{IsLoaded}
 
 -- the plan of an entry's cell, which sends this block with this indicator and as this grant says

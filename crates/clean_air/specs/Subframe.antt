@@ -1,10 +1,10 @@
 -- The soft values of a subframe of which both slots are seen, each with a gain of its own. (own)
-use Rattle.std.specs.Prelude.{◌≡◌, ℕ, ◌+◌, ◌*◌, ◌%◌, ◌<◌, nat_lt, if◌then◌else◌, Bool, All, List, length, slice_index_or}
+use Rattle.std.specs.Prelude.{◌≡◌, ℕ, ◌+◌, ◌*◌, ◌%◌, ◌<◌, nat_lt, if◌then◌else◌, Bool, false, All, List, length, slice_index_or}
 use Rattle.cs_num.specs.declared.Cpx.{Cpx}
 use Rattle.cs_num.specs.declared.Sample.{Sample}
 use Rattle.grid_map.specs.declared.Place.{Place}
 use Rattle.grid_map.specs.Place.{place}
-use Rattle.grid_map.specs.Shared.{pdsch_places}
+use Rattle.grid_map.specs.Shared.{shared_places_of}
 use Rattle.grid_map.specs.Scrambling.{pdsch_c_init}
 use Rattle.dci.specs.Fields.{system_information_rnti}
 use Rattle.soft_bits.specs.Soft.{SeenSlot, seen_at}
@@ -43,7 +43,7 @@ shared_scrambled first bits = scrambled (pdsch_c_init first.identity first.numbe
 -- the values of the shared channel speak for the bits before scrambling, where its places carry them
 abbrev pub SeenBlocksAreHeard : Type 0
 SeenBlocksAreHeard = (gain later : Cpx) (first second : SeenSlot) (cfi start blocks : ℕ) (bits : ℕ → Bool) →
-    let places = pdsch_places first.identity cfi start blocks in
+    let places = shared_places_of false first.identity cfi start blocks in
     IsSubframeSeen gain later first second places (shared_scrambled first bits) →
     AreHeard 8 (2 * length places) bits (shared_values first second cfi start blocks)
 
@@ -73,7 +73,7 @@ abbrev pub ReceivedBlocksAreHeard : Type 0
 ReceivedBlocksAreHeard =
     (recording : List Sample) (starts : ℕ → ℕ) (grids : ℕ → ℕ → Cpx) (first second : SeenSlot)
     (cfi start blocks : ℕ) (bits : ℕ → Bool) →
-    let places = pdsch_places first.identity cfi start blocks in
+    let places = shared_places_of false first.identity cfi start blocks in
     IsSubframeReceived recording starts grids first second →
     CarryInSubframe grids places (shared_scrambled first bits) →
     AreHeard 8 (2 * length places) bits (shared_values first second cfi start blocks)

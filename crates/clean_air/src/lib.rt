@@ -9,7 +9,6 @@ mod broadcast;
 mod carried;
 mod clean;
 mod control;
-mod copying;
 mod load;
 mod planning;
 mod subframe;

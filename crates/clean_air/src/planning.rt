@@ -5,7 +5,6 @@ ghost use Rattle.lte_types.specs.declared.bandwidth.Bandwidth.TheVariants.{N6};
 ghost use Rattle.explain.specs.Entries.{IsInList};
 ghost use Rattle.clean_air.specs.Planned.{plan_by as plan_made_by, IsPlanOf, IsSentPlan, IsOnePlan};
 
-use crate::copying::copy_of;
 use cell_tx::{Cell, CellPlan};
 use dci::Grant;
 use explain::{Workspace, grant_of};
@@ -28,7 +27,7 @@ pub fn plan_of(recording: &Recording, entry: &Entry, work: &mut Workspace) -> Op
     told_plan(recording, entry, work)
 }
 
-// The same, whatever the recording is.
+// `plan_of` without its promise on clean recordings, which follows from this clause there.
 fn told_plan(recording: &Recording, entry: &Entry, work: &mut Workspace) -> Option<Cell>
     requires { IsInList recording.now entry.now }
     ensures { IsPlanOf recording.now entry.now result }
@@ -69,7 +68,7 @@ fn plan_by(entry: &Entry, cfi: Cfi, grant: &Grant, sib1: &Sib1) -> CellPlan
         blocks: grant.blocks,
         mcs: grant.mcs,
         column: grant.column,
-        sib1: copy_of(sib1),
+        sib1: sib1.copy(),
     }
 }
 

@@ -6,6 +6,7 @@ use Rattle.cs_num.specs.declared.Sample.{Sample}
 use Rattle.lte_types.specs.declared.frame.Half.{Half}
 use Rattle.lte_types.specs.declared.frame.Half.TheVariants.{Zero, Five}
 use Rattle.lte_types.specs.declared.entry.Entry.{Entry}
+use Rattle.lte_types.specs.Timing.{start_of as start_after}
 use Rattle.sss_detect.specs.Place.{start_of}
 use Rattle.sss_detect.specs.Identity.{identity_of}
 use Rattle.pss_search.specs.Correlation.{peak, energy, wave_power}
@@ -13,7 +14,6 @@ use Rattle.pss_search.proofs.Listed.{list_is_right}
 use Rattle.pss_search.proofs.Symmetry.{power_range}
 use Rattle.cell_tx.specs.declared.cell.CellPlan.{CellPlan}
 use Rattle.cell_tx.specs.Sent.{Elements}
-use Rattle.cell_tx.specs.Clean.{start_of as start_after}
 use Rattle.budget.specs.Peak.{StandsOut}
 use Rattle.budget.proofs.Peaks.{primary_stands_out}
 use Rattle.evidence.specs.Evidence.{IsToldAt, thousandths}

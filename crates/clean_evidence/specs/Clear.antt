@@ -5,11 +5,12 @@ use Rattle.cs_num.specs.declared.Sample.{Sample}
 use Rattle.cs_num.specs.Complex.{square}
 use Rattle.lte_types.specs.declared.entry.Entry.{Entry}
 use Rattle.lte_types.specs.declared.evidence.Evidence.{Evidence}
+use Rattle.lte_types.specs.Numerology.{least_samples}
+use Rattle.lte_types.specs.Timing.{start_of, number_at_start}
 use Rattle.explain.specs.Entries.{IsInList}
 use Rattle.cell_tx.specs.declared.cell.CellPlan.{CellPlan}
 use Rattle.cell_tx.specs.Plan.{IsSendable}
 use Rattle.cell_tx.specs.Sent.{Elements}
-use Rattle.cell_tx.specs.Clean.{least_count, start_of, number_at_start}
 use Rattle.evidence.specs.Evidence.{IsEvidence}
 use Rattle.clean_air.specs.Load.{IsLoaded}
 
@@ -29,6 +30,6 @@ pub record IsClear (gain : Cpx) (told : Evidence) : Type 0 where
 abbrev pub CleanEntriesAreClear : Type 0
 CleanEntriesAreClear =
     (recording : List Sample) (entry : Entry) (told : Evidence) (plan : CellPlan) (grid : Elements) (sfn offset : ℕ)
-    (gain : Cpx) (eps : ℕ) → least_count ≤ length recording → IsInList recording entry → IsEvidence recording entry told →
+    (gain : Cpx) (eps : ℕ) → least_samples ≤ length recording → IsInList recording entry → IsEvidence recording entry told →
     IsSendable plan → IsLoaded recording plan grid sfn offset gain eps →
     entry.id ≡ plan.identity → entry.start ≡ start_of offset → entry.sfn ≡ number_at_start sfn offset → IsClear gain told

@@ -4,6 +4,8 @@ use Rattle.std.specs.Prelude.{MatchOption, is_some}
 use Rattle.finite.specs.Tests.{any_below}
 use Rattle.finite.proofs.Tests.{any_below_some}
 use Rattle.cs_num.specs.declared.Sample.{Sample}
+use Rattle.lte_types.specs.CellPlace.{Place}
+use Rattle.lte_types.specs.Frames.{frames_from}
 use Rattle.pbch.specs.declared.master.Master.{Master}
 use Rattle.pbch.specs.Master.{Tells, TellsMaster, TellsNothing, master_at}
 use Rattle.std.proofs.lemmas.Bool.{cases_lt}
@@ -22,16 +24,16 @@ four_hold P a b c d p q r s (suc (suc (suc zero))) below = s
 four_hold P a b c d p q r s (suc (suc (suc (suc n)))) below = absurd (omega (arith, below))
 
 -- what is told by the values of a frame is told by the frame alone
-told_by : (recording : List Sample) (identity start j phase : ℕ) (o : Option Master) → IsLongMasterOf identity (long_values (long_slot recording identity start j)) phase o →
-    IsToldAt (IsLongMaster recording) identity start 1 j phase o
-told_by recording identity start j phase None nothing = λ master is. (let t = is.tells in nothing t.word master.ports t.tells)
-told_by recording identity start j phase (Some master) told = record { alone = refl; tells = told }
+told_by : (recording : List Sample) (place : Place) (j phase : ℕ) (o : Option Master) → IsLongMasterOf place.id (long_values (long_slot recording place.id place.start j)) phase o →
+    IsToldAt (IsLongMaster recording) place (frames_from 1 j phase) o
+told_by recording place j phase None nothing = λ master is. (let t = is.tells in nothing t.word master.ports t.tells)
+told_by recording place j phase (Some master) told = record { alone = refl; tells = told }
 
-pub told_alone : (recording : List Sample) (identity start j : ℕ) (received : List ℤ) (masters : List (Option Master)) → received ≡ long_values (long_slot recording identity start j) →
-    AreLongMasters identity received masters → AreTold (IsLongMaster recording) identity start 1 j masters
-told_alone recording identity start j received masters is are phase period =
-    told_by recording identity start j phase (master_at masters phase)
-    (subst (λ values. IsLongMasterOf identity values phase (master_at masters phase)) is (are phase (omega (arith, period))))
+pub told_alone : (recording : List Sample) (place : Place) (j : ℕ) (received : List ℤ) (masters : List (Option Master)) → received ≡ long_values (long_slot recording place.id place.start j) →
+    AreLongMasters place.id received masters → AreTold (IsLongMaster recording) place 1 j masters
+told_alone recording place j received masters is are phase period =
+    told_by recording place j phase (master_at masters phase)
+    (subst (λ values. IsLongMasterOf place.id values phase (master_at masters phase)) is (are phase (omega (arith, period))))
 
 is_some_of : (o : Option Master) → is_some o ≡ true → (master : Master) × (o ≡ Some master)
 is_some_of None e = absurd (cc e)
@@ -45,34 +47,34 @@ has_one_alone masters e =
 
 -- ---- the first frame that has a master block
 
-module _ (recording : List Sample) (identity start : ℕ) where
+module _ (recording : List Sample) (place : Place) where
   -- more frames than one tell none
-  not_together : (count j : ℕ) → (count ≡ 1 → ⊥) → TellNone (IsLongMaster recording) identity start count j
+  not_together : (count j : ℕ) → (count ≡ 1 → ⊥) → TellNone (IsLongMaster recording) place count j
   not_together count j more phase master period is = more is.alone
 
-  pub first_alone : (j frames frame : ℕ) (masters : List (Option Master)) → frames ≡ 1 → frame ≡ j → HaveMasters (IsLongMaster recording) identity start 1 j masters → j < 8 →
-      IsWhole recording start j → ((i : ℕ) → i < j → TellNone (IsLongMaster recording) identity start 1 i) → AreFirstWith (IsLongMaster recording) recording identity start frames frame masters
+  pub first_alone : (j frames frame : ℕ) (masters : List (Option Master)) → frames ≡ 1 → frame ≡ j → HaveMasters (IsLongMaster recording) place 1 j masters → j < 8 →
+      IsWhole recording place.start j → ((i : ℕ) → i < j → TellNone (IsLongMaster recording) place 1 i) → AreFirstWith (IsLongMaster recording) recording place frames frame masters
   first_alone j frames frame masters one here have few whole none =
-      subst (λ n. AreFirstWith (IsLongMaster recording) recording identity start n frame masters) (sym one)
-      (subst (λ n. AreFirstWith (IsLongMaster recording) recording identity start 1 n masters) (sym here) (record {
+      subst (λ n. AreFirstWith (IsLongMaster recording) recording place n frame masters) (sym one)
+      (subst (λ n. AreFirstWith (IsLongMaster recording) recording place 1 n masters) (sym here) (record {
         frames = record {
           inside = record {
             some = omega arith;
             few = omega arith;
             known = omega (arith, few);
-            whole = λ m below. (let same : j ≡ j + m = omega (arith, below) in subst (λ n. IsWhole recording start n) same whole);
+            whole = λ m below. (let same : j ≡ j + m = omega (arith, below) in subst (λ n. IsWhole recording place.start n) same whole);
           };
           first = before;
         };
         have = have;
       }))
     where
-      before : (few i : ℕ) → IsInWindow recording start few i → ComeBefore few i 1 j → TellNone (IsLongMaster recording) identity start few i
+      before : (few i : ℕ) → IsInWindow recording place.start few i → ComeBefore few i 1 j → TellNone (IsLongMaster recording) place few i
       before few i window (inl fewer) = let some = window.some in absurd (omega (arith, some, fewer))
-      before few i window (inr (same, below)) = subst (λ n. TellNone (IsLongMaster recording) identity start n i) (sym same) (none i below)
+      before few i window (inr (same, below)) = subst (λ n. TellNone (IsLongMaster recording) place n i) (sym same) (none i below)
 
-  pub none_alone : (whole : ℕ) → ((j : ℕ) → j < 8 → IsWhole recording start j → j < whole) → ((i : ℕ) → i < whole → TellNone (IsLongMaster recording) identity start 1 i) →
-      HasNoMasters (IsLongMaster recording) recording identity start
+  pub none_alone : (whole : ℕ) → ((j : ℕ) → j < 8 → IsWhole recording place.start j → j < whole) → ((i : ℕ) → i < whole → TellNone (IsLongMaster recording) place 1 i) →
+      HasNoMasters (IsLongMaster recording) recording place
   none_alone whole all none count j window = elim (cases_lt 1 count) [
     | inl more ↦ not_together count j (λ e. omega (arith, e, more))
     | inr few ↦
@@ -80,6 +82,6 @@ module _ (recording : List Sample) (identity start : ℕ) where
         let one : count ≡ 1 = omega (arith, few, some) in
         let known = window.known in
         let first : j + 0 ≡ j = omega arith in
-        let here : IsWhole recording start j = subst (λ n. IsWhole recording start n) first (window.whole 0 (omega (arith, some))) in
-        subst (λ n. TellNone (IsLongMaster recording) identity start n j) (sym one) (none j (all j (omega (arith, known, one)) here))
+        let here : IsWhole recording place.start j = subst (λ n. IsWhole recording place.start n) first (window.whole 0 (omega (arith, some))) in
+        subst (λ n. TellNone (IsLongMaster recording) place n j) (sym one) (none j (all j (omega (arith, known, one)) here))
   ]

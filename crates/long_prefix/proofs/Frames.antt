@@ -3,10 +3,11 @@ use Rattle.std.proofs.Common.{◌≡◌, ℕ, ◌+◌, ◌-◌, ◌*◌, ◌/◌
 use Rattle.finite.proofs.Lists.{values_below_at}
 use Rattle.cs_num.specs.declared.Cpx.{Cpx}
 use Rattle.cs_num.specs.declared.Sample.{Sample}
-use Rattle.cs_num.specs.Complex.{silence, value_at, sample_at, square, IsWithin}
+use Rattle.cs_num.specs.Complex.{silence, value_at, sample_at, square, IsWithin, sample_of}
 use Rattle.fold128.specs.Symbol.{useful_at, useful_part}
 use Rattle.lte_types.specs.Numerology.{extended, useful_start, symbol_of}
-use Rattle.cell_tx.specs.Sent.{Elements, symbol_sample, prefix_frame_sample, number_of, sample_of}
+use Rattle.cell_tx.specs.Sent.{Elements, symbol_sample, prefix_frame_sample}
+use Rattle.lte_types.specs.Timing.{number_of}
 use Rattle.cell_tx.proofs.Symbols.{useful_part_at, prefix_sent_is}
 use Rattle.cell_tx.proofs.Bounds.{frame-square, small-sent-square, small-within}
 use Rattle.long_prefix.specs.declared.plan.LongPlan.{LongPlan}

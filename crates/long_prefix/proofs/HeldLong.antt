@@ -14,15 +14,16 @@ use Rattle.lte_types.specs.declared.sib1_reason.Sib1Reason.TheVariants.{LongPref
 use Rattle.lte_types.specs.Codes.{bandwidth}
 use Rattle.lte_types.specs.Ranges.{IsValid}
 use Rattle.lte_types.specs.Numerology.{extended, useful_start}
+use Rattle.lte_types.specs.Timing.{start_of, number_at_start}
 use Rattle.soft_bits.specs.Soft.{SeenSlot}
 use Rattle.pbch.specs.declared.master.Master.{Master}
 use Rattle.pbch.specs.Master.{TellsMaster}
 use Rattle.pbch.proofs.Words.{one_master}
 use Rattle.cell_tx.specs.declared.antenna.Port.TheVariants.{Only}
 use Rattle.cell_tx.specs.Sent.{Elements}
-use Rattle.cell_tx.specs.Clean.{start_of, number_at_start}
 use Rattle.explain.specs.Frame.{frame_at}
-use Rattle.explain.specs.Reader.{IsEntryAt, TellsOne, HasOneSystem}
+use Rattle.explain.specs.Entries.{IsEntryAt}
+use Rattle.explain.specs.Reader.{TellsOne, HasOneSystem}
 use Rattle.explain.proofs.Listed.{sound_of}
 use Rattle.explain.proofs.Entries.{same_master}
 use Rattle.clean_air.proofs.Held.{IsHeardBy, heard_is_held_by}
@@ -41,11 +42,11 @@ use Rattle.long_prefix.proofs.Told.{values_speak, word_is_told}
 -- ---- one answer
 
 pub one_long_master : (recording : List Sample) → TellsOne (IsLongMaster recording)
-one_long_master recording identity start count j phase a b p q =
-    same_master a b (one_master (long_sums identity phase (long_values (long_slot recording identity start j))) a b p.tells q.tells)
+one_long_master recording place frames a b p q =
+    same_master a b (one_master (long_sums place.id frames.phase (long_values (long_slot recording place.id place.start frames.first))) a b p.tells q.tells)
 
 pub one_long_system : HasOneSystem IsLongSystem
-one_long_system identity start sfn ports mib a b p q = p ∙ sym q
+one_long_system place sfn ports mib a b p q = p ∙ sym q
 
 -- ---- what a clean recording tells
 

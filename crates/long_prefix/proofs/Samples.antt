@@ -1,18 +1,17 @@
 -- The samples of a recording by number.
 use Rattle.std.proofs.Common.{◌≡◌, ℕ, ◌+◌, ◌*◌, ◌/◌, ◌%◌, ◌≤◌, List, length, ap, sym, subst, ◌∙◌, arith, ℤ, pos}
 use Rattle.std.specs.Prelude.{nat_abs, All}
-use Rattle.std.proofs.lemmas.Nat.{mul-le}
 use Rattle.finite.specs.Lists.{values_below}
 use Rattle.cs_num.specs.declared.Cpx.{Cpx}
 use Rattle.cs_num.specs.declared.Sample.{Sample}
-use Rattle.cs_num.specs.Complex.{IsWithin, plus, sample_at, square, value_of}
+use Rattle.cs_num.specs.Complex.{IsWithin, plus, sample_at, square, value_of, sample_of}
+use Rattle.cs_num.specs.Gain.{IsGain}
 use Rattle.sample_file.specs.Recording.{IsRecording}
-use Rattle.cell_tx.specs.Clean.{IsGain, IsCleanOf}
+use Rattle.cell_tx.specs.Clean.{IsCleanOf}
 use Rattle.cell_tx.specs.Laws.{ReceivedWithErrorsIsClean}
-use Rattle.cell_tx.specs.Sent.{sample_of, gain_of}
 use Rattle.capture_make.specs.Recipe.{number, offset, sample_count, gain, IsBound}
 use Rattle.capture_make.specs.Errors.{error}
-use Rattle.capture_make.proofs.Samples.{amplified_samples, room_is, with_errors_is, is_recording_of, is_clean_of}
+use Rattle.capture_make.proofs.Samples.{gain_fits, amplified_samples, room_is, with_errors_is, is_recording_of, is_clean_of}
 use Rattle.long_prefix.specs.declared.plan.LongPlan.{LongPlan}
 use Rattle.long_prefix.specs.declared.made.LongMade.{LongMade}
 use Rattle.long_prefix.specs.Sent.{long_sent, IsCleanOfLong}
@@ -22,14 +21,6 @@ use Rattle.long_prefix.proofs.Frames.{sent-square}
 -- what is received without errors
 abbrev pub clean_samples : LongPlan → ℕ → List Sample
 clean_samples plan n = amplified_samples (long_sent plan (number n)) (offset n) (sample_count n) (gain n)
-
--- the gain of a number is one
-pub gain_fits : (n : ℕ) → IsGain (gain n)
-gain_fits n =
-    let some : 1 * 1 ≤ (1 + n % 19) * (1 + n % 19) = mul-le 1 1 (1 + n % 19) (1 + n % 19) (omega arith) (omega arith) in
-    let re : (1 + n % 19) * (1 + n % 19) ≤ 19 * 19 = mul-le (1 + n % 19) (1 + n % 19) 19 19 (omega arith) (omega arith) in
-    let im : (n % 20) * (n % 20) ≤ 19 * 19 = mul-le (n % 20) (n % 20) 19 19 (omega arith) (omega arith) in
-    record { least = omega (arith, some); most = omega (arith, re, im) }
 
 -- it leaves room for the errors
 pub has_room : (plan : LongPlan) (n : ℕ) (clean : List Sample) → IsGain (gain n) → clean ≡ clean_samples plan n → All (λ s. IsWithin 32284 (value_of s)) clean
@@ -54,7 +45,7 @@ is_clean law n made m =
       number = omega arith;
       samples = is_clean_of law (long_sent made.plan (number n)) n eps (gain_fits n) m.bound.within;
     } in
-    subst (λ l. IsCleanOfLong l made.plan made.sfn made.offset (gain_of made.gain) eps) (sym m.samples_are)
-    (subst (λ s. IsCleanOfLong (samples made.plan n eps) made.plan s made.offset (gain_of made.gain) eps) (sym m.number_is)
-    (subst (λ o. IsCleanOfLong (samples made.plan n eps) made.plan (number n) o (gain_of made.gain) eps) (sym m.offset_is)
+    subst (λ l. IsCleanOfLong l made.plan made.timing.sfn made.timing.offset made.gain eps) (sym m.samples_are)
+    (subst (λ s. IsCleanOfLong (samples made.plan n eps) made.plan s made.timing.offset made.gain eps) (sym m.number_is)
+    (subst (λ o. IsCleanOfLong (samples made.plan n eps) made.plan (number n) o made.gain eps) (sym m.offset_is)
     (subst (λ z. IsCleanOfLong (samples made.plan n eps) made.plan (number n) (offset n) z eps) (sym m.gain_is) whole)))

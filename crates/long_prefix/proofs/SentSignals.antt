@@ -9,6 +9,7 @@ use Rattle.cs_num.specs.declared.Sample.{Sample}
 use Rattle.lte_types.specs.declared.frame.Half.{Half}
 use Rattle.lte_types.specs.declared.frame.Half.TheVariants.{Zero, Five}
 use Rattle.lte_types.specs.Numerology.{extended, symbol_step, useful_start, subframe_of}
+use Rattle.lte_types.specs.Timing.{start_of, number_at_start}
 use Rattle.crs.specs.Reference.{long_prefix, is_pattern_place, pattern_reference}
 use Rattle.observe.specs.Seen.{seen_symbol}
 use Rattle.pss_search.specs.Correlation.{pss_grid}
@@ -16,7 +17,6 @@ use Rattle.grid_map.specs.declared.Place.{Place}
 use Rattle.grid_map.specs.Place.{place}
 use Rattle.soft_bits.specs.Soft.{pilot_subcarrier, pattern_symbol, pattern_sent}
 use Rattle.cell_tx.specs.Sent.{Elements}
-use Rattle.cell_tx.specs.Clean.{start_of, number_at_start}
 use Rattle.explain.specs.Frame.{frame_at}
 use Rattle.budget.specs.Received.{IsReceived, samples_from}
 use Rattle.budget.specs.Peak.{IsPrimaryAt}

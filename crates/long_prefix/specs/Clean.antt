@@ -6,8 +6,8 @@ use Rattle.lte_types.specs.declared.bandwidth.Bandwidth.TheVariants.{N6}
 use Rattle.lte_types.specs.declared.entry.Entry.{Entry}
 use Rattle.lte_types.specs.declared.sib1_reason.Sib1Reason.TheVariants.{LongPrefix}
 use Rattle.lte_types.specs.Block.{HasFields}
+use Rattle.lte_types.specs.Timing.{start_of, number_at_start}
 use Rattle.cell_tx.specs.Sent.{Elements}
-use Rattle.cell_tx.specs.Clean.{start_of, number_at_start}
 use Rattle.clean_air.specs.Clean.{HoldsOne}
 use Rattle.long_prefix.specs.declared.plan.LongPlan.{LongPlan}
 use Rattle.long_prefix.specs.Sent.{IsCleanOfLong}

@@ -3,18 +3,15 @@ use Rattle.std.specs.Prelude.{◌≡◌, ℕ, ◌*◌, ◌/◌, ◌%◌, nat_le,
 use Rattle.cs_num.specs.declared.Sample.{Sample}
 use Rattle.cs_num.specs.Complex.{times, conjugate}
 use Rattle.finite.specs.Lists.{values_below}
+use Rattle.lte_types.specs.CellPlace.{Place}
+use Rattle.lte_types.specs.Frames.{Frames}
 use Rattle.lte_types.specs.declared.hit.Hit.{Hit}
 use Rattle.lte_types.specs.declared.entry.Entry.{Entry}
-use Rattle.lte_types.specs.declared.mib.Mib.{Mib}
-use Rattle.lte_types.specs.declared.sib1.Sib1.{Sib1}
-use Rattle.lte_types.specs.declared.sib1_reason.Sib1Reason.{Sib1Reason}
 use Rattle.lte_types.specs.declared.sib1_reason.Sib1Reason.TheVariants.{LongPrefix}
-use Rattle.lte_types.specs.Identity.{cell_of}
 use Rattle.lte_types.specs.Numerology.{extended, symbol_step, useful_start}
 use Rattle.pss_search.specs.Hits.{hits_of}
 use Rattle.observe.specs.Seen.{seen_symbol}
-use Rattle.sss_detect.specs.Identity.{prefix_identity}
-use Rattle.sss_detect.specs.Place.{start_of}
+use Rattle.sss_detect.specs.Place.{prefix_place}
 use Rattle.crs.specs.Reference.{long_prefix}
 use Rattle.grid_map.specs.declared.Place.{Place as GridPlace}
 use Rattle.grid_map.specs.Place.{place}
@@ -25,7 +22,7 @@ use Rattle.conv_code.specs.Reading.{summed_from}
 use Rattle.pbch.specs.declared.master.Master.{Master}
 use Rattle.pbch.specs.Master.{TellsMaster}
 use Rattle.explain.specs.Frame.{frame_at}
-use Rattle.explain.specs.declared.places.Place.{Place}
+use Rattle.explain.specs.Told.{Informing}
 use Rattle.explain.specs.Reader.{IsListBy}
 use Rattle.long_prefix.specs.Places.{long_places}
 
@@ -35,17 +32,9 @@ use Rattle.long_prefix.specs.Places.{long_places}
 abbrev pub long_hits : List Sample → List Hit
 long_hits recording = filter (λ hit. nat_le (symbol_step extended) hit.t) (hits_of recording)
 
--- the identity of the cell that a hit tells, and the start of the frames: a primary signal stands at the same samples of a frame
--- as with the normal prefix
-abbrev pub identity_at : List Sample → Hit → ℕ
-identity_at recording hit = cell_of (prefix_identity extended recording hit).0 hit.n2
-
-abbrev pub start_at : List Sample → Hit → ℕ
-start_at recording hit = start_of hit.t (prefix_identity extended recording hit).1
-
--- the place of its cell
+-- the place of the cell that a hit tells: a primary signal stands at the same samples of a frame as with the normal prefix
 abbrev pub long_place : List Sample → Hit → Place
-long_place recording hit = record { id = identity_at recording hit; start = start_at recording hit }
+long_place = prefix_place extended
 
 -- ---- frames
 
@@ -73,14 +62,14 @@ unfoldable pub long_sums : ℕ → ℕ → List ℤ → List (List ℤ)
 long_sums identity phase received =
     summed_from (432 * phase) 40 (descrambled (pbch_c_init identity) (432 * phase) received)
 
--- frame j tells this master block at a phase; frames are looked at alone
-pub record IsLongMaster (recording : List Sample) (identity start count j phase : ℕ) (master : Master) : Type 0 where
-  pub alone : count ≡ 1
-  pub tells : TellsMaster (long_sums identity phase (long_values (long_slot recording identity start j))) master
+-- a frame tells this master block; frames are looked at alone
+pub record IsLongMaster (recording : List Sample) (place : Place) (frames : Frames) (master : Master) : Type 0 where
+  pub alone : frames.count ≡ 1
+  pub tells : TellsMaster (long_sums place.id frames.phase (long_values (long_slot recording place.id place.start frames.first))) master
 
 -- what is told of the system information
-abbrev pub IsLongSystem : ℕ → ℕ → ℕ → ℕ → Mib → Result Sib1 Sib1Reason → Type 0
-IsLongSystem identity start sfn ports mib sib1 = sib1 ≡ Err LongPrefix
+abbrev pub IsLongSystem : Informing
+IsLongSystem place sfn ports mib sib1 = sib1 ≡ Err LongPrefix
 
 -- ---- the list
 

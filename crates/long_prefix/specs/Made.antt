@@ -6,7 +6,6 @@ use Rattle.cs_num.specs.declared.Sample.{Sample}
 use Rattle.lte_types.specs.declared.bandwidth.Bandwidth.TheVariants.{N6}
 use Rattle.lte_types.specs.Block.{HasFields}
 use Rattle.cell_tx.specs.Laws.{received_with}
-use Rattle.cell_tx.specs.Sent.{gain_of}
 use Rattle.capture_make.specs.Recipe.{plan, number, offset, sample_count, gain, IsBound}
 use Rattle.capture_make.specs.Errors.{error}
 use Rattle.long_prefix.specs.declared.plan.LongPlan.{LongPlan}
@@ -25,12 +24,12 @@ samples sent n bound = received_with (long_sent sent (number n)) (offset n) (sam
 -- what was sent, the bound of the errors, and the samples are those of recording number n
 pub record IsMadeLong (n : ℕ) (made : LongMade) : Type 0 where
   pub plan_is : IsPlanOf n made.plan
-  pub number_is : made.sfn ≡ number n
-  pub offset_is : made.offset ≡ offset n
-  pub gain_is : gain_of made.gain ≡ gain n
+  pub number_is : made.timing.sfn ≡ number n
+  pub offset_is : made.timing.offset ≡ offset n
+  pub gain_is : made.gain ≡ gain n
   pub bound : IsBound (gain n) made.bound
   pub samples_are : made.recording ≡ samples made.plan n (nat_abs made.bound)
 
 -- the recording is a clean one of what was sent, with errors within the bound
 abbrev pub IsCleanlyMade : LongMade → Type 0
-IsCleanlyMade made = IsCleanOfLong made.recording made.plan made.sfn made.offset (gain_of made.gain) (nat_abs made.bound)
+IsCleanlyMade made = IsCleanOfLong made.recording made.plan made.timing.sfn made.timing.offset made.gain (nat_abs made.bound)

@@ -3,6 +3,7 @@ use Rattle.std.specs.Prelude.{◌≡◌, ℕ, ◌/◌, ◌%◌, if◌then◌else
 use Rattle.finite.specs.Lists.{values_below}
 use Rattle.cs_num.specs.declared.Cpx.{Cpx}
 use Rattle.cs_num.specs.declared.Sample.{Sample}
+use Rattle.cs_num.specs.Complex.{sample_of}
 use Rattle.lte_types.specs.Numerology.{frame_length, extended}
 use Rattle.lte_types.specs.declared.frame.Half.TheVariants.{Zero, Five}
 use Rattle.crs.specs.Reference.{long_prefix, is_pattern_place, pattern_reference}
@@ -10,7 +11,7 @@ use Rattle.pss_search.specs.Correlation.{pss_grid}
 use Rattle.sync_seq.specs.Middle.{in_middle}
 use Rattle.sync_seq.specs.Secondary.{sss_amplitude}
 use Rattle.cell_tx.specs.Rows.{IsTableOf}
-use Rattle.cell_tx.specs.Sent.{prefix_frame_sample, sample_of}
+use Rattle.cell_tx.specs.Sent.{prefix_frame_sample}
 use Rattle.long_prefix.specs.declared.plan.LongPlan.{LongPlan}
 use Rattle.long_prefix.specs.declared.grid.Layout.{Layout}
 use Rattle.long_prefix.specs.Places.{long_places}

@@ -16,4 +16,3 @@ pub use listing::{Workspace3, explain_clean};
 pub use load::open_long_places_are_silent;
 pub use made::{LongMade, made_is_clean, make};
 pub use plan::LongPlan;
-pub use sending::sample;

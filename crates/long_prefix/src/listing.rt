@@ -11,12 +11,12 @@ ghost use Rattle.long_prefix.specs.Clean.{HoldsLoadedCellsOfLong, HoldsCleanCell
 ghost use Rattle.long_prefix.specs.Entries.{long_place, IsLongMaster, IsLongSystem, IsExplainedOfLong};
 
 use crate::reading::first_masters;
-use explain::{CellReader, EntryList, Masters, Place, Places, explain_by};
-use lte_types::{CellId, Hit, Prefix, Sfn, Sib1, Sib1Reason};
+use explain::{CellReader, EntryList, Masters, Places, explain_by};
+use lte_types::{CellPlace, Hit, Prefix, Sfn, Sib1, Sib1Reason};
 use pbch::Master;
 use pss_search::{HitList, hits, hits_are_right};
 use sample_file::Recording;
-use sss_detect::{cell_id, frame_start, identity_with};
+use sss_detect::place_with;
 use std::alloc::{AllocError, Global};
 use tailbite::Trellis;
 
@@ -58,25 +58,20 @@ impl CellReader for LongReader {
 
     ghost told = { λ recording. IsLongSystem };
 
-    fn place_of(&self, recording: &Recording, hit: &Hit) -> Place {
+    fn place_of(&self, recording: &Recording, hit: &Hit) -> CellPlace {
         let end = recording.len();
         prove!(hit.t as usize + 128 <= end);
-        let (n1, half) = identity_with(recording, hit, Prefix::EXTENDED);
-        Place {
-            id: cell_id(n1, hit.n2),
-            start: frame_start(hit, half),
-        }
+        place_with(recording, hit, Prefix::EXTENDED)
     }
 
-    fn first_masters(&mut self, recording: &Recording, id: CellId, start: u32) -> Option<Masters> {
-        first_masters(recording, id, start, &mut self.trellis)
+    fn first_masters(&mut self, recording: &Recording, place: CellPlace) -> Option<Masters> {
+        first_masters(recording, place, &mut self.trellis)
     }
 
     fn system_of(
         &mut self,
         recording: &Recording,
-        id: CellId,
-        start: u32,
+        place: CellPlace,
         sfn: Sfn,
         master: Master,
     ) -> Result<Sib1, Sib1Reason> {

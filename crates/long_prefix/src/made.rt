@@ -2,9 +2,8 @@
 
 ghost use Rattle.std.specs.Prelude.{◌≡◌, ◌+◌, ◌≤◌, ℕ, IfOk, pos};
 ghost use Rattle.finite.specs.Lists.{values_below};
-ghost use Rattle.cs_num.specs.Complex.{times};
+ghost use Rattle.cs_num.specs.Complex.{times, sample_of};
 ghost use Rattle.sample_file.specs.Recording.{IsRecording};
-ghost use Rattle.cell_tx.specs.Sent.{gain_of, sample_of};
 ghost use Rattle.capture_make.specs.Recipe.{number as number_of, offset as offset_of, sample_count as count_of, gain as gain_with};
 ghost use Rattle.long_prefix.specs.Sent.{long_sent};
 ghost use Rattle.long_prefix.specs.Made.{IsPlanOf, IsMadeLong, IsCleanlyMade};
@@ -12,10 +11,10 @@ ghost use Rattle.long_prefix.specs.declared.made.LongMade.{LongMade as MadeValue
 
 use crate::LongPlan;
 use crate::sending::fill_received;
-use capture_make::{bound, gain, number, offset, plan, sample_count, with_errors};
+use capture_make::{bound, gain, plan, sample_count, timing, with_errors};
 use cell_tx::sent_is_clean;
-use cs_num::Sample;
-use lte_types::{Bandwidth, CellId, Mib, Sfn};
+use cs_num::{Gain, Sample};
+use lte_types::{Bandwidth, CellId, Mib, Timing};
 use sample_file::Recording;
 use std::alloc::{AllocError, Global};
 
@@ -24,12 +23,10 @@ use std::alloc::{AllocError, Global};
 pub struct LongMade {
     /// What the cell was to send.
     pub plan: LongPlan,
-    /// The number of its first frame.
-    pub sfn: Sfn,
-    /// The first sample of that frame which is sent, 0 to 19,199.
-    pub offset: u32,
-    /// The gain, real before imaginary.
-    pub gain: (i16, i16),
+    /// The first frame and the first sample of it which is sent.
+    pub timing: Timing,
+    /// The gain.
+    pub gain: Gain,
     /// The bound of the errors: the greatest whole number whose square is at most four times that of the gain's size.
     pub bound: i16,
     /// What was sent, with the errors.
@@ -41,7 +38,7 @@ fn plan_of(n: u32) -> LongPlan
     ensures { IsPlanOf n result }
 {
     let cell = plan(n);
-    let upper = (number(n).value() / 4) as u8;
+    let upper = (timing(n).sfn.value() / 4) as u8;
     let mib = Mib::new(
         Bandwidth::N6,
         cell.duration,
@@ -61,7 +58,7 @@ fn received_samples(alloc: Global, plan: &LongPlan, n: u32) -> Result<Vec<Sample
         (λ i. sample_of (times (gain_with n) (long_sent plan.now (number_of n) (i + offset_of n))))) }
 {
     let mut samples = vec![in alloc; Sample { re: 0, im: 0 }; sample_count(n) as usize]?;
-    fill_received(plan, number(n), offset(n), gain(n), &mut samples);
+    fill_received(plan, timing(n), gain(n), &mut samples);
     Ok(samples)
 }
 
@@ -69,16 +66,15 @@ fn received_samples(alloc: Global, plan: &LongPlan, n: u32) -> Result<Vec<Sample
 fn made_of(n: u32, plan: LongPlan, bound: u16, recording: Recording) -> LongMade
     requires { bound ≤ 56 }
     ensures plan { result.plan ≡ plan }
-    ensures number { result.sfn ≡ number_of n }
-    ensures offset { result.offset ≡ offset_of n }
-    ensures gain { gain_of result.gain ≡ gain_with n }
+    ensures number { result.timing.sfn ≡ number_of n }
+    ensures offset { result.timing.offset ≡ offset_of n }
+    ensures gain { result.gain ≡ gain_with n }
     ensures bound { result.bound ≡ pos bound }
     ensures recording { result.recording ≡ recording }
 {
     LongMade {
         plan,
-        sfn: number(n),
-        offset: offset(n),
+        timing: timing(n),
         gain: gain(n),
         bound: bound as i16,
         recording,

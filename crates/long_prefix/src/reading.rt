@@ -1,6 +1,6 @@
 //! What frames tell.
 
-ghost use Rattle.std.specs.Prelude.{◌≡◌, ℕ, ◌+◌, ◌*◌, ◌^◌, ◌<◌, ◌≤◌, All, length, MatchOption};
+ghost use Rattle.std.specs.Prelude.{◌≡◌, ◌+◌, ◌*◌, ◌^◌, ◌<◌, ◌≤◌, All, length, MatchOption};
 ghost use Rattle.finite.specs.Lists.{values_below};
 ghost use Rattle.finite.specs.Sizes.{AllWithin};
 ghost use Rattle.cs_num.specs.Complex.{IsWithin};
@@ -21,7 +21,7 @@ use crs::Pattern;
 use cs_num::Cpx;
 use explain::{Masters, has_master, whole_frames};
 use grid_map::{Place, pbch_c_init};
-use lte_types::{CellId, FRAME_LENGTH, Prefix};
+use lte_types::{CellId, CellPlace, FRAME_LENGTH, Prefix};
 use observe::symbol;
 use pbch::{Master, master_of};
 use sample_file::Recording;
@@ -57,19 +57,19 @@ fn symbols_of(recording: &Recording, frame: usize) -> [[Cpx; 72]; 6]
     ]
 }
 
-// The 432 soft values of the broadcast channel in frame `j` of a start, as they were received: two of each place, in the
+// The 432 soft values of the broadcast channel in frame `j` of a cell, as they were received: two of each place, in the
 // order of the places. The frame lies within the recording.
-fn received(recording: &Recording, id: CellId, start: u32, j: u8) -> [i16; 432]
-    requires { IsWhole recording.now start j }
-    ensures values { result ≡ long_values (long_slot recording.now id start j) }
+fn received(recording: &Recording, place: CellPlace, j: u8) -> [i16; 432]
+    requires { IsWhole recording.now place.start j }
+    ensures values { result ≡ long_values (long_slot recording.now place.id place.start j) }
     ensures sizes { AllWithin 127 result }
 {
-    let frame = start as usize + FRAME_LENGTH * j as usize;
+    let frame = place.start() as usize + FRAME_LENGTH * j as usize;
     let symbols = symbols_of(recording, frame);
     let seen = Seen {
         symbols: &symbols,
         number: 1,
-        id,
+        id: place.id(),
         pattern: Pattern::LONG_PREFIX,
     };
     values_of(&seen)
@@ -137,21 +137,15 @@ fn master_at(id: CellId, phase: u8, values: &[i16; 432], work: &mut Trellis) -> 
     master_of(&combine_from(first, &values), work)
 }
 
-// The master blocks of frame `j` of a start, which lies within the recording, where it has any.
-fn masters_of(
-    recording: &Recording,
-    id: CellId,
-    start: u32,
-    j: u8,
-    work: &mut Trellis,
-) -> Option<Masters>
-    requires { IsWhole recording.now start j }
-    ensures { MatchOption result (TellNone (IsLongMaster recording.now) id start 1 j)
+// The master blocks of frame `j` of a cell, which lies within the recording, where it has any.
+fn masters_of(recording: &Recording, place: CellPlace, j: u8, work: &mut Trellis) -> Option<Masters>
+    requires { IsWhole recording.now place.start j }
+    ensures { MatchOption result (TellNone (IsLongMaster recording.now) place 1 j)
         (λ found. (found.frames ≡ 1) × (found.frame ≡ j)
-        × HaveMasters (IsLongMaster recording.now) id start 1 j found.at) }
+        × HaveMasters (IsLongMaster recording.now) place 1 j found.at) }
 {
-    let values = received(recording, id, start, j);
-    let at = masters(id, &values, work);
+    let values = received(recording, place, j);
+    let at = masters(place.id(), &values, work);
     if !has_master(&at) {
         return None;
     }
@@ -162,19 +156,18 @@ fn masters_of(
     })
 }
 
-/// The first of the whole frames 0 to 7 of a start that has a master block at any phase, with all its master blocks;
+/// The first of the whole frames 0 to 7 of a cell that has a master block at any phase, with all its master blocks;
 /// `None` exactly where none has.
 pub(crate) fn first_masters(
     recording: &Recording,
-    id: CellId,
-    start: u32,
+    place: CellPlace,
     work: &mut Trellis,
 ) -> Option<Masters>
-    ensures { MatchOption result (HasNoMasters (IsLongMaster recording.now) recording.now id start)
-        (λ found. AreFirstWith (IsLongMaster recording.now) recording.now id start found.frames found.frame found.at) }
+    ensures { MatchOption result (HasNoMasters (IsLongMaster recording.now) recording.now place)
+        (λ found. AreFirstWith (IsLongMaster recording.now) recording.now place found.frames found.frame found.at) }
 {
-    for j in 0..whole_frames(recording, start) {
-        match masters_of(recording, id, start, j, work) {
+    for j in 0..whole_frames(recording, place) {
+        match masters_of(recording, place, j, work) {
             Some(found) => return Some(found),
             None => {}
         }

@@ -2,8 +2,10 @@
 use Rattle.std.proofs.Common.{◌≡◌, ℕ, ◌+◌, ◌%◌, ◌<◌, ◌≤◌, arith, refl, ap, sym, subst, List, length, Ok, append-nil}
 use Rattle.cs_num.specs.declared.Cpx.{Cpx}
 use Rattle.cs_num.specs.declared.Sample.{Sample}
+use Rattle.lte_types.specs.Frames.{frames_from}
 use Rattle.lte_types.specs.declared.entry.Entry.{Entry}
 use Rattle.lte_types.specs.Codes.{bandwidth}
+use Rattle.lte_types.specs.Timing.{start_of as start_after, number_at_start}
 use Rattle.pbch.specs.declared.master.Master.{Master}
 use Rattle.pbch.specs.Values.{summed_values}
 use Rattle.pbch.specs.Master.{TellsMaster}
@@ -12,14 +14,13 @@ use Rattle.cell_tx.specs.declared.cell.CellPlan.{CellPlan}
 use Rattle.cell_tx.specs.Block.{port_word}
 use Rattle.cell_tx.specs.Grid.{port_element}
 use Rattle.cell_tx.specs.Sent.{Elements}
-use Rattle.cell_tx.specs.Clean.{start_of as start_after, number_at_start}
 use Rattle.clean_air.specs.Broadcast.{TellsFreely}
 use Rattle.clean_air.proofs.Carrying.{own_elements_carry}
 use Rattle.explain.specs.Frame.{broadcast_slot}
 use Rattle.explain.specs.System.{even_frame}
 use Rattle.explain.proofs.FirstFrame.{one_told_by}
 use Rattle.explain.proofs.Information.{first_tried, even_number}
-use Rattle.clean_air.proofs.Held.{IsHeard, heard_is_held}
+use Rattle.clean_air.proofs.Held.{sent_place, IsHeard, heard_is_held}
 use Rattle.clean_air.proofs.HeldCells.{number_fits, sent_mib}
 use Rattle.clean_air.proofs.SentBlock.{is_block}
 use Rattle.two_tx.specs.Plan.{IsSendableOfTwo}
@@ -63,7 +64,7 @@ module _ (recording : List Sample) (plan : CellPlan) (grid others : Elements) (s
         cost = sym told.free;
       }
 
-  told_here : IsMasterOfTwo recording plan.identity (start_after offset) 1 0 (number % 4) (sent_master plan sendable.spare number)
+  told_here : IsMasterOfTwo recording (sent_place plan.identity offset) (frames_from 1 0 (number % 4)) (sent_master plan sendable.spare number)
   told_here = record {
     taken = refl;
     told = subst (λ values. TellsMaster (summed_values plan.identity (number % 4) values) (sent_master plan sendable.spare number))
@@ -89,7 +90,7 @@ holds_loaded_cells_of_two recording list long explained plan grid others sfn off
     let early : start_after offset < 19200 = omega arith in
     let whole = (first_tried recording (start_after offset) number long early).whole in
     let read = fields_read recording plan grid others sfn offset gain other eps sendable clean (even_frame number 0) whole (even_number number 0) in
-    let system = told_at_first_of_two recording plan.identity (start_after offset) number master.mib plan.sib1 long early refl read in
+    let system = told_at_first_of_two recording (sent_place plan.identity offset) number master.mib plan.sib1 long early refl read in
     heard_is_held (IsMasterOfTwo recording) (IsSystemOfTwo recording) (one_told_by (frame_values recording) are_two) (one_system_of_two recording) recording plan.identity offset number master (Ok plan.sib1)
     (is_heard recording plan grid others sfn offset gain other eps sendable clean long) system list explained (IsSentEntryOfTwo plan number)
     (record { ports = refl; block = record { bandwidth = refl; duration = refl; resource = refl; upper = refl; spare = refl }; sib1 = refl; cost = refl; frames = refl; frame = refl })

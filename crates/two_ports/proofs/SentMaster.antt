@@ -12,6 +12,7 @@ use Rattle.grid_map.specs.Broadcast.{pbch_places, pbch_place, is_pbch, pbch_inde
 use Rattle.grid_map.specs.Scrambling.{pbch_c_init}
 use Rattle.grid_map.proofs.Points.{length-pbch_places, places_inside, index_of_place}
 use Rattle.lte_types.specs.Numerology.{normal, useful_start}
+use Rattle.lte_types.specs.Timing.{start_of, number_at_start}
 use Rattle.soft_bits.specs.Soft.{SeenSlot}
 use Rattle.pbch.specs.Values.{summed_values}
 use Rattle.clean_air.specs.Broadcast.{TellsFreely}
@@ -23,7 +24,6 @@ use Rattle.cell_tx.specs.Points.{point_of}
 use Rattle.cell_tx.specs.Block.{port_word, port_bit, port_point, scrambled_bit}
 use Rattle.cell_tx.specs.Grid.{is_broadcast, port_element}
 use Rattle.cell_tx.specs.Sent.{Elements}
-use Rattle.cell_tx.specs.Clean.{start_of, number_at_start}
 use Rattle.clean_air.specs.Load.{CarriesPlan}
 use Rattle.cell_tx.specs.Rows.{port_reference_if}
 use Rattle.cell_tx.proofs.Elements.{element_of_channel, channel_of_broadcast}

@@ -13,10 +13,10 @@ use Rattle.cell_tx.specs.declared.antenna.Port.TheVariants.{First, Second}
 use Rattle.cell_tx.specs.declared.cell.CellPlan.{CellPlan}
 use Rattle.cell_tx.specs.Grid.{port_element}
 use Rattle.cell_tx.specs.Sent.{Elements}
-use Rattle.cell_tx.specs.Clean.{start_of, number_at_start}
 use Rattle.clean_air.specs.Load.{CarriesPlan}
 use Rattle.clean_air.proofs.Carrying.{of_own_reference, of_other_reference}
 use Rattle.lte_types.specs.Numerology.{normal, useful_start}
+use Rattle.lte_types.specs.Timing.{start_of, number_at_start}
 use Rattle.explain.specs.Frame.{IsWhole, frame_at, seen_slot}
 use Rattle.budget.specs.Received.{IsReceivedFromTwo, samples_from}
 use Rattle.clean_air.proofs.SentSlots.{slot_grid, frame_is}

@@ -17,6 +17,7 @@ use Rattle.grid_map.specs.Shared.{shared_place_of}
 use Rattle.grid_map.proofs.Pieces.{length-pcfich_places}
 use Rattle.grid_map.proofs.Together.{pair_in_one_symbol}
 use Rattle.lte_types.specs.Numerology.{normal, useful_start}
+use Rattle.lte_types.specs.Timing.{start_of, number_at_start}
 use Rattle.dci.specs.Fields.{system_information_rnti}
 use Rattle.soft_bits.specs.Soft.{SeenSlot}
 use Rattle.pcfich.specs.Indicator.{Speak}
@@ -32,7 +33,6 @@ use Rattle.cell_tx.specs.Points.{point_of, scrambled}
 use Rattle.cell_tx.specs.Control.{version_of, grant_of, control_places, control_word, indicator_point, control_point}
 use Rattle.cell_tx.specs.Shared.{assigned_places, shared_coded, shared_bit, shared_point}
 use Rattle.cell_tx.specs.Sent.{Elements}
-use Rattle.cell_tx.specs.Clean.{start_of, number_at_start}
 use Rattle.cell_tx.proofs.SystemPlaces.{control_indexed, assigned_bits_are, assigned_size, indicator_stands, control_stands, assigned_stands}
 use Rattle.clean_air.proofs.Carrying.{indicator_carried, control_carried, shared_carried}
 use Rattle.cell_tx.proofs.BlockRows.{IsRowOf}

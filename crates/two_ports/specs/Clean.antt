@@ -5,10 +5,10 @@ use Rattle.cs_num.specs.declared.Sample.{Sample}
 use Rattle.lte_types.specs.declared.bandwidth.Bandwidth.TheVariants.{N6}
 use Rattle.lte_types.specs.declared.entry.Entry.{Entry}
 use Rattle.lte_types.specs.Block.{HasFields}
+use Rattle.lte_types.specs.Timing.{start_of, number_at_start}
 use Rattle.cell_tx.specs.declared.cell.CellPlan.{CellPlan}
 use Rattle.cell_tx.specs.declared.antenna.Port.TheVariants.{First, Second}
 use Rattle.cell_tx.specs.Sent.{Elements, sent}
-use Rattle.cell_tx.specs.Clean.{start_of, number_at_start}
 use Rattle.two_tx.specs.Plan.{IsSendableOfTwo}
 use Rattle.two_tx.specs.Clean.{IsCleanOfTwo, IsCleanOfPorts}
 use Rattle.clean_air.specs.Load.{CarriesPlan}

@@ -7,8 +7,8 @@ use Rattle.lte_types.specs.declared.hit.Hit.{Hit}
 use Rattle.lte_types.specs.declared.entry.Entry.{Entry}
 use Rattle.lte_types.specs.declared.sib1_reason.Sib1Reason.TheVariants.{LongPrefix}
 use Rattle.pss_search.specs.Hits.{hits_of}
-use Rattle.explain.specs.Places.{place_at}
-use Rattle.explain.specs.Reader.{IsEntryAt, IsListBy}
+use Rattle.explain.specs.Entries.{place_at, IsEntryAt}
+use Rattle.explain.specs.Reader.{IsListBy}
 use Rattle.two_ports.specs.Frames.{IsMasterOfTwo, IsSystemOfTwo}
 
 -- the entry tells a master block of the hit

@@ -12,7 +12,7 @@ ghost use Rattle.two_ports.specs.Values.{candidate_values, shared_values, two_po
 use crate::PairSlot;
 use crate::channels::{MOST_VALUES, candidate, indicator, shared};
 use dci::Grant;
-use lte_types::{Cfi, Mib, Sib1, Sib1Reason};
+use lte_types::{Assignment, Cfi, Mib, Sib1, Sib1Reason};
 use pdcch::elements;
 use system_block::{Attempt, Decoders, fields_of, grant_of};
 use tailbite::Trellis;
@@ -22,7 +22,7 @@ use turbo_dec::Work;
 /// that applies why there are none, as `system_block::attempt_in` gives them for one antenna port. `first` and `second`
 /// are slots 10 and 11 of one cell, and `mib` is its master block, of which only the duration and the resource of the
 /// PHICH are looked at.
-pub fn read(
+pub(crate) fn read(
     first: &PairSlot,
     second: &PairSlot,
     mib: Mib,
@@ -90,7 +90,10 @@ fn fields_in(
     ensures answer { Tells (shared_values first.now second.now cfi grant.now.start grant.now.blocks) grant.now result }
     ensures valid { IfOk result IsValid }
 {
+    let Some(assignment) = Assignment::new(cfi, grant.start, grant.blocks) else {
+        unreachable!()
+    };
     let mut values = [0; MOST_VALUES];
-    let count = shared(first, second, cfi, grant, &mut values);
+    let count = shared(first, second, &assignment, &mut values);
     fields_of(&values[..count], grant, turbo)
 }

@@ -1,8 +1,7 @@
 //! The values of the channels.
 
-ghost use Rattle.std.specs.Prelude.{◌≡◌, ◌*◌, ◌/◌, ◌%◌, ◌+◌, ◌<◌, ◌≤◌, true, All, IfSome, IsTrue, MatchOption, length, take};
+ghost use Rattle.std.specs.Prelude.{◌≡◌, ◌*◌, ◌/◌, ◌%◌, ◌<◌, ◌≤◌, true, All, IfSome, IsTrue, MatchOption, length, take};
 ghost use Rattle.finite.specs.Sizes.{AllWithin};
-ghost use Rattle.dci.specs.Format1A.{IsGrant};
 ghost use Rattle.grid_map.specs.Group.{is_group};
 ghost use Rattle.grid_map.specs.Control.{element_count};
 ghost use Rattle.grid_map.specs.Shared.{block_places_of, shared_places_of};
@@ -13,21 +12,21 @@ ghost use Rattle.pdsch.specs.Values.{slot_with};
 ghost use Rattle.two_ports.specs.Pairs.{paired_values};
 ghost use Rattle.two_ports.specs.Values.{received_values, indicator_values, stream_values, candidate_values, shared_values};
 
-use crate::pairs::fill_slot;
-use crate::{PairSlot, fill_pairs};
-use dci::{Grant, SI_RNTI};
+use crate::PairSlot;
+use crate::pairs::{fill_pairs, fill_slot};
+use dci::SI_RNTI;
 use grid_map::{
     Place, Reg, candidate_places, pbch_places, pcfich_c_init, pcfich_places, pdcch, pdcch_c_init,
-    pdsch_c_init, shared_place,
+    pdsch_c_init, shared_count, shared_place,
 };
-use lte_types::{CellId, Cfi, Mib};
+use lte_types::{Assignment, CellId, Cfi, Mib};
 use soft_bits::descramble;
 
 /// The most values that a grant has with two antenna ports: those of six blocks with indicator 2.
 pub(crate) const MOST_VALUES: usize = 1152;
 
 /// The 480 soft values of the broadcast channel in slot 1 of a frame, as they were received (TS 36.211 section 6.6).
-pub fn received(slot: &PairSlot) -> [i16; 480]
+pub(crate) fn received(slot: &PairSlot) -> [i16; 480]
     ensures values { result ≡ received_values slot.now }
     ensures sizes { AllWithin 127 result }
 {
@@ -38,7 +37,7 @@ pub fn received(slot: &PairSlot) -> [i16; 480]
 }
 
 /// The 32 values of the control format indicator in slot 10, by the bits before scrambling (TS 36.211 section 6.7).
-pub fn indicator(slot: &PairSlot) -> [i16; 32]
+pub(crate) fn indicator(slot: &PairSlot) -> [i16; 32]
     ensures values { result ≡ indicator_values slot.now }
     ensures sizes { AllWithin 127 result }
 {
@@ -51,7 +50,7 @@ pub fn indicator(slot: &PairSlot) -> [i16; 32]
 
 /// The 288 values of control channel elements 0 to 3 of slot 10, by the bits before scrambling; `None` exactly where
 /// there are fewer than four elements (TS 36.211 section 6.8).
-pub fn candidate(slot: &PairSlot, cfi: Cfi, mib: Mib) -> Option<[i16; 288]>
+pub(crate) fn candidate(slot: &PairSlot, cfi: Cfi, mib: Mib) -> Option<[i16; 288]>
     requires { slot.now.number ≡ 10 }
     ensures values { MatchOption result
         (element_count cfi mib.duration mib.resource < 4)
@@ -81,27 +80,26 @@ fn stream(slot: &PairSlot, groups: &[Reg]) -> [i16; 288]
     values
 }
 
-/// Writes the values of a grant's blocks, by the bits before scrambling, to the front of `out`, and gives their count,
-/// 192 a block with `cfi` 2 and 168 with 3 (TS 36.211 sections 6.3.1 and 6.4). `first` and `second` are slots 10 and 11
-/// of one cell, `cfi` is 2 or 3, and the grant is one that `dci::read` can answer.
-pub fn shared(
+/// Writes the values of the assigned blocks, by the bits before scrambling, to the front of `out`, and gives their count,
+/// 192 a block with indicator 2 and 168 with 3 (TS 36.211 sections 6.3.1 and 6.4). `first` and `second` are slots 10 and
+/// 11 of one cell.
+pub(crate) fn shared(
     first: &PairSlot,
     second: &PairSlot,
-    cfi: Cfi,
-    grant: &Grant,
+    assignment: &Assignment,
     out: &mut [i16; MOST_VALUES],
 ) -> usize
     requires first { first.now.number ≡ 10 }
     requires second { second.now.number ≡ 11 }
     requires cell { second.now.identity ≡ first.now.identity }
-    requires cfi { 2 ≤ cfi }
-    requires grant { IsGrant grant.now }
-    ensures count { result ≡ 2 * (block_places_of true cfi * grant.now.blocks) }
-    ensures values { take result out.new ≡ shared_values first.now second.now cfi grant.now.start grant.now.blocks }
+    ensures count { result ≡ 2 * (block_places_of true assignment.now.cfi * assignment.now.blocks) }
+    ensures values { take result out.new
+        ≡ shared_values first.now second.now assignment.now.cfi assignment.now.start assignment.now.blocks }
     ensures sizes { AllWithin 127 (take result out.new) }
+    ensures few { result ≤ 1152 }
 {
     let mut places = [Place { symbol: 0, k: 0 }; MOST_VALUES / 2];
-    let count = fill_places(first.id(), cfi, grant, &mut places);
+    let count = fill_places(first.id(), assignment, &mut places);
     fill_shared(first, second, &places[..count], &mut out[..2 * count]);
     2 * count
 }
@@ -122,31 +120,17 @@ fn fill_shared(first: &PairSlot, second: &PairSlot, places: &[Place], values: &m
     descramble(c_init, 0, values);
 }
 
-// Writes the places of a grant's blocks to the front of `places`, and gives their count.
-fn fill_places(id: CellId, cfi: Cfi, grant: &Grant, places: &mut [Place; MOST_VALUES / 2]) -> usize
-    requires cfi { 2 ≤ cfi }
-    requires grant { IsGrant grant.now }
-    ensures count { result ≡ block_places_of true cfi * grant.now.blocks }
+// Writes the places of the assigned blocks to the front of `places`, and gives their count.
+fn fill_places(id: CellId, assignment: &Assignment, places: &mut [Place; MOST_VALUES / 2]) -> usize
+    ensures count { result ≡ block_places_of true assignment.now.cfi * assignment.now.blocks }
     ensures few { result ≤ 576 }
     ensures even { result % 2 ≡ 0 }
-    ensures places { take result places.new ≡ shared_places_of true id cfi grant.now.start grant.now.blocks }
+    ensures places { take result places.new
+        ≡ shared_places_of true id assignment.now.cfi assignment.now.start assignment.now.blocks }
 {
-    let count = places_of(cfi, grant.blocks);
+    let count = shared_count(true, assignment);
     for i in 0..count {
-        places[i] = shared_place(true, id, cfi, grant.start, grant.blocks, i);
+        places[i] = shared_place(true, id, assignment, i);
     }
     count
-}
-
-// How many places so many blocks have.
-fn places_of(cfi: Cfi, blocks: u8) -> usize
-    requires cfi { 2 ≤ cfi }
-    requires few { blocks ≤ 6 }
-    ensures value { result ≡ block_places_of true cfi * blocks }
-    ensures bound { result ≤ 576 }
-    ensures even { result % 2 ≡ 0 }
-    ensures known { cfi ≤ 3 }
-{
-    let places = if cfi.value() == 2 { 96 } else { 84 };
-    places * blocks as usize
 }

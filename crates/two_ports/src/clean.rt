@@ -5,7 +5,8 @@ ghost use Rattle.lte_types.specs.Ranges.{IsValid};
 ghost use Rattle.two_ports.specs.Entries.{IsExplainedOfTwo};
 ghost use Rattle.two_ports.specs.Clean.{HoldsLoadedCellsOfTwo, HoldsCleanCellsOfTwo};
 
-use crate::{Workspace2, explain};
+use crate::Workspace2;
+use crate::list::explain;
 use explain::EntryList;
 use sample_file::Recording;
 

@@ -4,23 +4,24 @@ ghost use Rattle.std.specs.Prelude.{◌≡◌, ◌<◌};
 ghost use Rattle.explain.specs.Frame.{IsWhole, frame_at, seen_slot};
 ghost use Rattle.two_ports.specs.Frames.{frame_values as values_of, are_two, FrameAnswersOfTwo};
 
+use crate::PairSlot;
 use crate::attempt::read;
-use crate::{PairSlot, received};
+use crate::channels::received;
 use explain::{FrameReader, symbols_of};
-use lte_types::{CellId, Mib, Sib1, Sib1Reason};
+use lte_types::{CellPlace, Mib, Sib1, Sib1Reason};
 use sample_file::Recording;
 use system_block::Decoders;
 
 // The way to read frames with two antenna ports: master blocks that tell two are taken, and no others.
 pub(crate) struct TwoPorts;
 
-// A slot of frame j of a start by its number, 0 to 19, as it is seen.
-fn slot_of(recording: &Recording, id: CellId, start: u32, j: u8, number: u8) -> PairSlot
-    requires whole { IsWhole recording.now start j }
+// A slot of frame j of a cell by its number, 0 to 19, as it is seen.
+fn slot_of(recording: &Recording, place: CellPlace, j: u8, number: u8) -> PairSlot
+    requires whole { IsWhole recording.now place.start j }
     requires number { number < 20 }
-    ensures { result ≡ seen_slot recording.now (frame_at start j) number id }
+    ensures { result ≡ seen_slot recording.now (frame_at place.start j) number place.id }
 {
-    PairSlot::new(symbols_of(recording, start, j, number), number, id)
+    PairSlot::new(symbols_of(recording, place, j, number), number, place.id())
 }
 
 impl FrameReader for TwoPorts {
@@ -32,8 +33,8 @@ impl FrameReader for TwoPorts {
 
     ghost answers = { FrameAnswersOfTwo };
 
-    fn received(&self, recording: &Recording, id: CellId, start: u32, j: u8) -> [i16; 480] {
-        received(&slot_of(recording, id, start, j, 1))
+    fn received(&self, recording: &Recording, place: CellPlace, j: u8) -> [i16; 480] {
+        received(&slot_of(recording, place, j, 1))
     }
 
     fn takes_ports(&self, ports: u8) -> bool {
@@ -47,14 +48,13 @@ impl FrameReader for TwoPorts {
     fn answer(
         &self,
         recording: &Recording,
-        id: CellId,
-        start: u32,
+        place: CellPlace,
         j: u8,
         mib: Mib,
         work: &mut Decoders,
     ) -> Result<Sib1, Sib1Reason> {
-        let first = slot_of(recording, id, start, j, 10);
-        let second = slot_of(recording, id, start, j, 11);
+        let first = slot_of(recording, place, j, 10);
+        let second = slot_of(recording, place, j, 11);
         read(&first, &second, mib, work)
     }
 

@@ -13,11 +13,8 @@ mod reader;
 mod slot;
 mod value;
 
-pub use attempt::read;
-pub use channels::{candidate, indicator, received, shared};
 pub use clean::explain_clean;
 pub use laws::{no_entry_is_of_the_extended_prefix, pair_values_speak_for_the_sent_bits};
-pub use list::{Workspace2, explain};
-pub use pairs::fill_pairs;
+pub use list::Workspace2;
 pub use slot::PairSlot;
 pub use value::pair;

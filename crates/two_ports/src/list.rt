@@ -38,7 +38,7 @@ impl Workspace2 {
 /// by the values of pairs, and only master blocks that tell two antenna ports are taken. An entry has the first fields
 /// of SystemInformationBlockType1 that one of its first eight whole frames of even number tells, or a `Sib1Reason` where
 /// none does, and its numbers are in their ranges. It takes no memory. (own)
-pub fn explain(recording: &Recording, work: &mut Workspace2, list: &mut EntryList)
+pub(crate) fn explain(recording: &Recording, work: &mut Workspace2, list: &mut EntryList)
     ensures list { IsExplainedOfTwo recording.now list.new }
     ensures valid { All (λ entry. IfOk entry.sib1 IsValid) list.new }
 {

@@ -1,6 +1,6 @@
 //! The soft values of lists of places.
 
-ghost use Rattle.std.specs.Prelude.{◌≡◌, ◌*◌, ◌%◌, ◌<◌, ◌≤◌, All, length};
+ghost use Rattle.std.specs.Prelude.{◌≡◌, ◌*◌, ◌%◌, ◌<◌, All, length};
 ghost use Rattle.finite.specs.Sizes.{AllWithin};
 ghost use Rattle.pdsch.specs.Values.{slot_with};
 ghost use Rattle.two_ports.specs.Pairs.{pair_values, paired_values, slot_values};
@@ -11,7 +11,7 @@ use grid_map::Place;
 /// Writes the soft values of places of a subframe over the whole of `values`, two a place, in the order of the places,
 /// which are taken two by two. A place in symbols 0 to 6 is one of the subframe's first slot, and one in symbols 7 to 13
 /// one of its second; both places of a pair are in one slot, that of the first of them. There is an even count of places.
-pub fn fill_pairs(first: &PairSlot, second: &PairSlot, places: &[Place], values: &mut [i16])
+pub(crate) fn fill_pairs(first: &PairSlot, second: &PairSlot, places: &[Place], values: &mut [i16])
     requires inside { All (λ p. (p.symbol < 14) × (p.k < 72)) places.now }
     requires even { length places.now % 2 ≡ 0 }
     requires room { length values.old ≡ 2 * length places.now }
@@ -24,7 +24,7 @@ pub fn fill_pairs(first: &PairSlot, second: &PairSlot, places: &[Place], values:
     }
 }
 
-/// The same of places of one slot, whose subframe is meant.
+/// Writes the values of pairs of places that all stand in one slot, as those of PBCH, PCFICH and PDCCH do.
 pub(crate) fn fill_slot(slot: &PairSlot, places: &[Place], values: &mut [i16])
     requires inside { All (λ p. (p.symbol < 14) × (p.k < 72)) places.now }
     requires even { length places.now % 2 ≡ 0 }

@@ -1,12 +1,12 @@
 //! The way to read the cells of a recording with two antenna ports.
 
 ghost use Rattle.pss_search.specs.Hits.{IsInSpan};
-ghost use Rattle.explain.specs.Places.{place_at};
+ghost use Rattle.explain.specs.Entries.{place_at};
 ghost use Rattle.two_ports.specs.Frames.{IsMasterOfTwo, IsSystemOfTwo};
 
 use crate::frames::TwoPorts;
-use explain::{CellReader, Masters, Place, first_masters, place_of, system_of};
-use lte_types::{CellId, Hit, Sfn, Sib1, Sib1Reason};
+use explain::{CellReader, Masters, first_masters, place_of, system_of};
+use lte_types::{CellPlace, Hit, Sfn, Sib1, Sib1Reason};
 use pbch::Master;
 use sample_file::Recording;
 use system_block::Decoders;
@@ -26,31 +26,22 @@ impl CellReader for PairReader {
 
     ghost told = { IsSystemOfTwo };
 
-    fn place_of(&self, recording: &Recording, hit: &Hit) -> Place {
+    fn place_of(&self, recording: &Recording, hit: &Hit) -> CellPlace {
         place_of(recording, hit)
     }
 
-    fn first_masters(&mut self, recording: &Recording, id: CellId, start: u32) -> Option<Masters> {
-        first_masters(&TwoPorts, recording, id, start, &mut self.decoders.trellis)
+    fn first_masters(&mut self, recording: &Recording, place: CellPlace) -> Option<Masters> {
+        first_masters(&TwoPorts, recording, place, &mut self.decoders.trellis)
     }
 
     fn system_of(
         &mut self,
         recording: &Recording,
-        id: CellId,
-        start: u32,
+        place: CellPlace,
         sfn: Sfn,
         master: Master,
     ) -> Result<Sib1, Sib1Reason> {
-        system_of(
-            &TwoPorts,
-            recording,
-            id,
-            start,
-            sfn,
-            master,
-            &mut self.decoders,
-        )
+        system_of(&TwoPorts, recording, place, sfn, master, &mut self.decoders)
     }
 
     fn tells_one_answer(&self) {}

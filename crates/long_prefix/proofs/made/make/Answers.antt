@@ -1,9 +1,10 @@
 use Rattle.std.proofs.Common.{◌≡◌, false, true, ◌∙◌, ap, sym, subst, ℤ}
 use Rattle.std.specs.Prelude.{nat_abs}
 use Rattle.capture_make.specs.Recipe.{gain, IsBound}
+use Rattle.capture_make.proofs.Samples.{gain_fits}
 use Rattle.long_prefix.specs.declared.plan.LongPlan.{LongPlan}
 use Rattle.long_prefix.specs.Made.{samples, IsPlanOf, IsMadeLong}
-use Rattle.long_prefix.proofs.Samples.{gain_fits, has_room, samples_are, is_recording}
+use Rattle.long_prefix.proofs.Samples.{has_room, samples_are, is_recording}
 use Rattle.long_prefix.proofs.made.make.Goals as goal
 
 pub with_errors-samples-requires-clause-room : goal.with_errors-samples-requires-clause-room

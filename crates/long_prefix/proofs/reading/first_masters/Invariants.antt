@@ -6,5 +6,5 @@ use Rattle.long_prefix.proofs.reading.first_masters.Given as goal
 -- no frame so far has a master block
 abbrev pub invariant-loop-j : goal.invariant-loop-j
 invariant-loop-j l = record {
-  none : (i : ℕ) → i < l.j → TellNone (IsLongMaster l.recording) l.id l.start 1 i;
+  none : (i : ℕ) → i < l.j → TellNone (IsLongMaster l.recording) l.place 1 i;
 }

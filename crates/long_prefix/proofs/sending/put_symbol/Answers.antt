@@ -1,8 +1,8 @@
 use Rattle.std.proofs.Common.{◌≡◌, ℕ, ◌+◌, ◌*◌, ◌/◌, ◌<◌, ◌≤◌, List, arith, ap, sym, ◌∙◌, length-set, get_or-set_other}
 use Rattle.cs_num.specs.declared.Sample.{Sample}
-use Rattle.cs_num.specs.Complex.{silence}
+use Rattle.cs_num.specs.Complex.{silence, sample_of}
 use Rattle.lte_types.specs.Numerology.{extended}
-use Rattle.cell_tx.specs.Sent.{prefix_frame_sample, sample_of}
+use Rattle.cell_tx.specs.Sent.{prefix_frame_sample}
 use Rattle.cell_tx.proofs.Frames.{set_between}
 use Rattle.long_prefix.specs.Grid.{long_element}
 use Rattle.long_prefix.proofs.sending.put_symbol.Goals as goal

@@ -6,5 +6,5 @@ use Rattle.two_ports.proofs.channels.fill_places.Given as goal
 abbrev pub invariant-loop-i : goal.invariant-loop-i
 invariant-loop-i l = record {
   size : length l.places ≡ 576;
-  each : (k : ℕ) → k < l.i → slice_index_or l.places k (place 0 0) ≡ shared_place_of true l.fn.id l.cfi l.grant.start l.grant.blocks k;
+  each : (k : ℕ) → k < l.i → slice_index_or l.places k (place 0 0) ≡ shared_place_of true l.fn.id l.assignment.cfi l.assignment.start l.assignment.blocks k;
 }

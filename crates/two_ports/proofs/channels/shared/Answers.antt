@@ -17,14 +17,14 @@ use Rattle.two_ports.proofs.channels.shared.Goals as goal
 
 pub fill_shared-requires-clause-inside : goal.fill_shared-requires-clause-inside
 fill_shared-requires-clause-inside c =
-    let grant = c.args.grant.now in
-    subst (All (λ (p : Place). (p.symbol < 14) × (p.k < 72))) (sym c.fill_places-count.ensures.places) (shared_placed true c.id.result c.args.cfi grant.start grant.blocks)
+    let a = c.args.assignment.now in
+    subst (All (λ (p : Place). (p.symbol < 14) × (p.k < 72))) (sym c.fill_places-count.ensures.places) (shared_placed true c.id.result a.cfi a.start a.blocks)
 
 pub returns-clause-values : goal.returns-clause-values
 unfolding shared_values
 returns-clause-values c =
     let first = c.args.first.now in
-    let grant = c.args.grant.now in
+    let a = c.args.assignment.now in
     let slot : Place → SeenSlot = λ p. slot_with first c.args.second.now p.symbol in
     let seed : ℕ = pdsch_c_init first.identity first.number system_information_rnti in
     let count : ℕ = c.fill_places-count.result in
@@ -36,5 +36,5 @@ returns-clause-values c =
     let told : c.fill_shared.new.values ≡ descrambled seed 0 (paired_values slot taken) = c.fill_shared.ensures.values in
     let many : length c.fill_shared.new.values ≡ 4 * (length taken / 2) = ap (λ (xs : List ℤ). length xs) told ∙ length-descrambled seed 0 (paired_values slot taken) ∙ length-paired slot taken in
     let long : length c.fill_shared.new.values ≡ 2 * count = omega (arith, many, size, even) in
-    let places = c.fill_places-count.ensures.places ∙ ap (λ (identity : ℕ). shared_places_of true identity c.args.cfi grant.start grant.blocks) c.id.ensures in
+    let places = c.fill_places-count.ensures.places ∙ ap (λ (identity : ℕ). shared_places_of true identity a.cfi a.start a.blocks) c.id.ensures in
     take_at c.fill_shared.new.values _ (2 * count) long ∙ told ∙ ap (λ (ps : List Place). descrambled seed 0 (paired_values slot ps)) places

@@ -1,7 +1,7 @@
 use Rattle.std.proofs.Common.{◌∙◌, List, subst}
 use Rattle.lte_types.specs.declared.hit.Hit.{Hit}
 use Rattle.pss_search.proofs.Room.{list_is_short}
-use Rattle.explain.specs.Places.{place_at}
+use Rattle.explain.specs.Entries.{place_at}
 use Rattle.explain.specs.Reader.{IsListBy}
 use Rattle.two_ports.specs.Frames.{IsMasterOfTwo, IsSystemOfTwo}
 use Rattle.two_ports.proofs.Valid.{all_valid_of_two}

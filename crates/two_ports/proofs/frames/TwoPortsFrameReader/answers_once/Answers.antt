@@ -6,7 +6,7 @@ pub returns-clause-once : goal.returns-clause-once
 returns-clause-once c = one_answer_of_two
 
 pub returns-clause-never : goal.returns-clause-never
-returns-clause-never c recording identity start mib = record {
+returns-clause-never c recording place mib = record {
   ports = λ j told reads. never_ports _ told reads;
   width = λ j told reads. never_width _ told reads;
 }
