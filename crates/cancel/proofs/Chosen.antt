@@ -5,15 +5,15 @@ use Rattle.finite.specs.Lists.{values_below}
 use Rattle.finite.proofs.Lists.{values_below_at, values_below_same}
 use Rattle.cs_num.specs.declared.Cpx.{Cpx}
 use Rattle.cs_num.specs.declared.Sample.{Sample}
-use Rattle.cs_num.specs.Complex.{IsWithin, minus, times, silence, sample_at, value_of}
+use Rattle.cs_num.specs.Complex.{IsWithin, minus, times, silence, sample_at, value_of, sample_of}
+use Rattle.cs_num.specs.Rounding.{nearest_sample}
 use Rattle.sizes.proofs.Squares.{re-le, im-le}
 use Rattle.cell_tx.specs.declared.cell.CellPlan.{CellPlan}
-use Rattle.cell_tx.specs.Sent.{sample_of}
-use Rattle.cell_tx.specs.Clean.{IsGain}
+use Rattle.cs_num.specs.Gain.{IsGain}
 use Rattle.cancel.specs.declared.choosing.Choice.{Choice}
 use Rattle.cancel.specs.declared.subtracted.Subtracted.{Subtracted}
 use Rattle.cancel.specs.Gain.{IsCandidate, IsBest}
-use Rattle.cancel.specs.Residue.{estimate_at, sent_at, left_at, greatest_left, sample_in_16_bits, residue_of, IsSubtracted}
+use Rattle.cancel.specs.Residue.{estimate_at, sent_at, left_at, greatest_left, residue_of, IsSubtracted}
 use Rattle.cancel.specs.Steps.{found_before, left_of, greatest_of, choice_of, choices_of, IsTakenOff}
 use Rattle.cancel.proofs.Best.{greatest_same}
 use Rattle.cancel.proofs.Found.{best_is_found}
@@ -37,11 +37,6 @@ none_is : (greatest : Cpx → ℕ) (found : Option Cpx) → choices_of greatest 
 none_is greatest None e = refl
 none_is greatest (Some gain) e = absurd cc
 
-gain-within : (gain : Cpx) → IsGain gain → IsWithin 28 gain
-gain-within gain is =
-    let most = is.most in
-    record { re = re-le gain 28 (omega (arith, most)); im = im-le gain 28 (omega (arith, most)) }
-
 -- ---- a recording, and what was sent
 
 module _ (recording : List Sample) (plan : CellPlan) (start number : ℕ) (sent : List Sample)
@@ -57,10 +52,10 @@ module _ (recording : List Sample) (plan : CellPlan) (start number : ℕ) (sent 
   same_greatest : greatest_of recording sent ≡ greatest_left recording plan start number
   same_greatest = fun_ext (λ gain. greatest_same (length recording) (left_of recording sent gain) (left_at recording plan start number gain) (same_left gain))
 
-  same_residue : (gain : Cpx) → values_below (length recording) (λ i. sample_in_16_bits (left_of recording sent gain i)) ≡ residue_of recording plan start number gain
+  same_residue : (gain : Cpx) → values_below (length recording) (λ i. nearest_sample (left_of recording sent gain i)) ≡ residue_of recording plan start number gain
   same_residue gain =
-      values_below_same (length recording) (λ i. sample_in_16_bits (left_of recording sent gain i)) (λ i. sample_in_16_bits (left_at recording plan start number gain i))
-      (λ i l. ap sample_in_16_bits (same_left gain i l))
+      values_below_same (length recording) (λ i. nearest_sample (left_of recording sent gain i)) (λ i. nearest_sample (left_at recording plan start number gain i))
+      (λ i l. ap nearest_sample (same_left gain i l))
 
   -- what the code finds
   abbrev pub chosen : Option Choice
@@ -71,8 +66,8 @@ module _ (recording : List Sample) (plan : CellPlan) (start number : ℕ) (sent 
       (best_is_found (greatest_of recording sent) (estimate_at recording plan start)).best choice.gain
       (chosen_is (greatest_of recording sent) (found_before (greatest_of recording sent) (estimate_at recording plan start) 25) choice e).found_is
 
-  pub chosen-within : (choice : Choice) → chosen ≡ Some choice → IsWithin 28 choice.gain
-  chosen-within choice e = gain-within choice.gain (best_of choice e).candidate.size
+  pub chosen-gain : (choice : Choice) → chosen ≡ Some choice → IsGain choice.gain
+  chosen-gain choice e = (best_of choice e).candidate.size
 
   pub subtracted : (choice : Choice) (taken : Subtracted) → chosen ≡ Some choice → IsTakenOff recording sent choice taken → IsSubtracted recording plan start number taken
   subtracted choice taken e is = record {

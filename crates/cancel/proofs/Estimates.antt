@@ -1,13 +1,14 @@
 -- The estimate of a gain by a correlation with a known signal.
-use Rattle.std.proofs.Common.{◌≡◌, ℕ, ◌+◌, ◌*◌, ◌<◌, ◌≤◌, inl, inr, arith, refl, ap, sym, ◌∙◌, ℤ, pos, negsuc, ◌+ℤ◌, ◌-ℤ◌, ◌*ℤ◌, ◌≤ℤ◌, ◌<ℤ◌, nat_abs, mul-le-mul_left, mul-le-mul_right}
+use Rattle.std.proofs.Common.{◌≡◌, ℕ, ◌+◌, ◌*◌, ◌≤◌, inl, inr, arith, refl, ap, sym, ◌∙◌, ℤ, pos, ◌+ℤ◌, ◌-ℤ◌, ◌*ℤ◌, nat_abs, mul-le-mul_left, mul-le-mul_right}
 use Rattle.std.proofs.lemmas.Int.{ints}
 use Rattle.std.proofs.lemmas.Bool.{cases_lt}
 use Rattle.finite.proofs.Sums.{total_below-within}
 use Rattle.finite.proofs.Ring.{Is, var, lit, same}
 use Rattle.finite.proofs.Ring as ring
 use Rattle.cs_num.specs.declared.Cpx.{Cpx}
-use Rattle.cs_num.specs.Complex.{IsWithin, plus, times, minus, multiple, square}
-use Rattle.cs_num.specs.Rounding.{floor_div}
+use Rattle.cs_num.specs.Complex.{plus, times, minus, multiple, square}
+use Rattle.cs_num.specs.Rounding.{rounded_quotient, quotient}
+use Rattle.cs_num.proofs.Rounding.{quotient-near}
 use Rattle.cs_num.proofs.Complex.{pair, square-within}
 use Rattle.sizes.specs.Sizes.{energy_below, correlation_below}
 use Rattle.sizes.proofs.Algebra.{plus-minus, times_real}
@@ -15,28 +16,8 @@ use Rattle.sizes.proofs.Squares.{square-multiple}
 use Rattle.sizes.proofs.TwoTerms.{weighted}
 use Rattle.sizes.proofs.Cauchy.{cauchy, correlation_same, correlation_gain}
 use Rattle.sizes.proofs.Gram.{correlation_self}
-use Rattle.cancel.specs.Gain.{quotient_part, quotient, estimate}
+use Rattle.cancel.specs.Gain.{estimate}
 use Rattle.cancel.specs.Laws.{IsGainSeen, EstimateIsNear, GainIsCandidate}
-
--- ---- rounding
-
-floor_low : (z : ℤ) (m : ℕ) → 0 < m → (floor_div z m *ℤ pos m) ≤ℤ z
-floor_low (pos a) m h = omega (arith, ints)
-floor_low (negsuc a) m h = omega (arith, ints)
-
-floor_high : (z : ℤ) (m : ℕ) → 0 < m → z <ℤ (floor_div z m *ℤ pos m +ℤ pos m)
-floor_high (pos a) m h = omega (arith, ints)
-floor_high (negsuc a) m h = omega (arith, ints)
-
--- 2z less 2h times the quotient is at most h
-part_near : (z : ℤ) (h : ℕ) → 0 < h → nat_abs (pos 2 *ℤ z -ℤ pos (2 * h) *ℤ quotient_part z h) ≤ h
-part_near z h p =
-    let low = floor_low (pos 2 *ℤ z +ℤ pos h) (2 * h) (omega arith) in
-    let high = floor_high (pos 2 *ℤ z +ℤ pos h) (2 * h) (omega arith) in
-    omega (arith, ints)
-
-quotient_near : (z : Cpx) (h : ℕ) → 0 < h → IsWithin h (minus (multiple 2 z) (multiple (2 * h) (quotient z h)))
-quotient_near z h p = record { re = part_near z.re h p; im = part_near z.im h p }
 
 -- ---- the distance
 
@@ -49,7 +30,7 @@ distance_part h g c q z e =
 
 distance_is : (h : ℕ) (g c z : Cpx) → z ≡ plus (multiple h g) c →
     multiple (2 * h) (minus g (quotient z h)) ≡ minus (minus (multiple 2 z) (multiple (2 * h) (quotient z h))) (multiple 2 c)
-distance_is h g c z e = pair (distance_part h g.re c.re (quotient_part z.re h) z.re (ap (λ (x : Cpx). x.re) e)) (distance_part h g.im c.im (quotient_part z.im h) z.im (ap (λ (x : Cpx). x.im) e))
+distance_is h g c z e = pair (distance_part h g.re c.re (rounded_quotient z.re h) z.re (ap (λ (x : Cpx). x.re) e)) (distance_part h g.im c.im (rounded_quotient z.im h) z.im (ap (λ (x : Cpx). x.im) e))
 
 -- |x - y|^2 is at most 2 |x|^2 and 2 |y|^2
 less_or_more : (a : ℤ) → nat_abs (pos 0 -ℤ a) ≡ nat_abs a
@@ -91,7 +72,7 @@ near_quotient : (h n : ℕ) (g c z : Cpx) → 1990000 ≤ h → n ≤ 784 → sq
 near_quotient h n g c z power small off whole =
     one_beside h n (square c) (square d) power small off
     (sums (square (multiple (2 * h) d)) (square (minus w (multiple 2 c))) (square w) (square (multiple 2 c)) (square-multiple (2 * h) d) (ap (λ (x : Cpx). square x) (distance_is h g c z whole))
-    (square-minus w (multiple 2 c)) (square-within w h (quotient_near z h (omega (arith, power)))) (square-multiple 2 c))
+    (square-minus w (multiple 2 c)) (square-within w h (quotient-near z h (omega (arith, power)))) (square-multiple 2 c))
   where
     d : Cpx
     d = minus g (quotient z h)

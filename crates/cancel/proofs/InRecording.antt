@@ -1,5 +1,5 @@
 -- A cell taken off a recording that is clean of it, whatever else the cell sends.
-use Rattle.std.proofs.Common.{Result, Ok, Err, Option, Some, None, ◌≡◌, ℕ, ◌+◌, ◌*◌, ◌/◌, ◌%◌, ◌<◌, ◌≤◌, arith, ap, ap₂, sym, subst, ◌∙◌, min, List, length, ℤ, pos, negsuc, nat_abs}
+use Rattle.std.proofs.Common.{Result, Ok, Err, Option, Some, None, ◌≡◌, ℕ, ◌+◌, ◌*◌, ◌/◌, ◌%◌, ◌<◌, ◌≤◌, arith, ap, ap₂, sym, subst, ◌∙◌, List, length}
 use Rattle.std.specs.Prelude.{IsSomeAnd, IfOk}
 use Rattle.std.specs.declared.alloc.AllocError.{AllocError}
 use Rattle.std.proofs.lemmas.Bool.Decides.{nat_tests}
@@ -7,15 +7,19 @@ use Rattle.finite.proofs.Lists.{values_below_at, values_below-length}
 use Rattle.cs_num.specs.declared.Cpx.{Cpx}
 use Rattle.cs_num.specs.declared.Sample.{Sample}
 use Rattle.cs_num.specs.Complex.{IsWithin, square, minus, times, sample_at, silence, value_of}
-use Rattle.cs_num.proofs.Complex.{pair, within_more}
+use Rattle.cs_num.proofs.Complex.{within_more}
+use Rattle.cs_num.specs.Rounding.{nearest_sample}
+use Rattle.cs_num.proofs.Samples.{nearest_sample-kept}
 use Rattle.sizes.proofs.Naturals.{root-le}
 use Rattle.lte_types.specs.Numerology.{primary_start}
 use Rattle.lte_types.specs.declared.frame.Half.TheVariants.{Zero}
+use Rattle.lte_types.specs.Timing.{start_of, number_at_start}
+use Rattle.lte_types.proofs.Timings.{same_offset, same_number}
 use Rattle.pss_search.specs.Correlation.{pss_grid, wave}
 use Rattle.cell_tx.specs.declared.cell.CellPlan.{CellPlan}
 use Rattle.cell_tx.specs.Grid.{element}
-use Rattle.cell_tx.specs.Sent.{Elements, sent, gain_of}
-use Rattle.cell_tx.specs.Clean.{IsClean, start_of, number_at_start}
+use Rattle.cell_tx.specs.Sent.{Elements, sent}
+use Rattle.cell_tx.specs.Clean.{IsClean}
 use Rattle.budget.specs.Received.{IsReceived, samples_from}
 use Rattle.budget.proofs.PeakSums.{wave_is_sharp}
 use Rattle.clean_air.specs.Load.{IsLoaded}
@@ -24,7 +28,7 @@ use Rattle.clean_air.proofs.SentSymbols.{IsTruePlace, primary_received}
 use Rattle.cancel.specs.declared.subtracted.Subtracted.{Subtracted}
 use Rattle.cancel.specs.Gain.{IsCandidate, IsBest}
 use Rattle.cancel.specs.Laws.{IsGainSeen}
-use Rattle.cancel.specs.Residue.{estimate_at, offset_of, number_before, left_at, greatest_left, in_16_bits, sample_in_16_bits, residue_of, IsSubtracted, IsSubtraction, IsLeftWithin, TakesLoadedOff, TakesCleanOff}
+use Rattle.cancel.specs.Residue.{estimate_at, left_at, greatest_left, residue_of, IsSubtracted, IsSubtraction, IsLeftWithin, TakesLoadedOff, TakesCleanOff}
 use Rattle.cancel.proofs.Estimates.{gain_is_candidate}
 use Rattle.cancel.proofs.Best.{best_leaves_least}
 
@@ -51,24 +55,9 @@ module _ (recording : List Sample) (plan : CellPlan) (grid : Elements) (sfn offs
 
 -- ---- what is left
 
--- the start and the number there tell the offset and the number of the frame in which the recording begins
-same_offset : (offset : ℕ) → offset < 19200 → offset_of (start_of offset) ≡ offset
-same_offset offset within = omega (arith, within)
-
-same_number : (sfn offset : ℕ) → sfn ≤ 1023 → offset < 19200 → number_before (start_of offset) (number_at_start sfn offset) ≡ sfn
-same_number sfn offset known within = grind (arith, nat_tests)
-
 -- eps is at most 56
 small_eps : (eps n : ℕ) → n ≤ 784 → eps * eps ≤ 4 * n → eps ≤ 32767
 small_eps eps n most h = root-le eps 32767 (omega (arith, most, h))
-
--- numbers of 16 bits are the nearest ones to themselves
-kept_part : (z : ℤ) → nat_abs z ≤ 32767 → in_16_bits z ≡ z
-kept_part (pos n) h = let e : min n 32767 ≡ n = omega (arith, h) in ap (λ (m : ℕ). pos m) e
-kept_part (negsuc n) h = let e : min n 32767 ≡ n = omega (arith, h) in ap (λ (m : ℕ). negsuc m) e
-
-kept : (z : Cpx) → IsWithin 32767 z → value_of (sample_in_16_bits z) ≡ z
-kept z h = pair (kept_part z.re h.re) (kept_part z.im h.im)
 
 -- what a gain that is a candidate leaves is no greater with the best one
 module _ (recording : List Sample) (plan : CellPlan) (grid : Elements) (sfn offset : ℕ) (gain : Cpx) (eps most : ℕ) (clean : IsLoaded recording plan grid sfn offset gain eps) (long : 57600 ≤ length recording)
@@ -93,20 +82,20 @@ module _ (recording : List Sample) (plan : CellPlan) (grid : Elements) (sfn offs
   taken_is_left taken is = record { greatest = subst (λ n. n ≤ most) (sym is.greatest) all.greatest; each = each }
     where
       best : Cpx
-      best = gain_of taken.gain
+      best = taken.gain
 
-      all : IsQuiet (gain_of taken.gain)
-      all = quiet (gain_of taken.gain) is.gain
+      all : IsQuiet taken.gain
+      all = quiet taken.gain is.gain
 
-      left_kept : (i : ℕ) → i < length recording → sample_at (residue_of recording plan start number (gain_of taken.gain)) i ≡ left_at recording plan start number (gain_of taken.gain) i
+      left_kept : (i : ℕ) → i < length recording → sample_at (residue_of recording plan start number taken.gain) i ≡ left_at recording plan start number taken.gain i
       left_kept i l =
-          ap value_of (values_below_at (λ j. sample_in_16_bits (left_at recording plan start number (gain_of taken.gain) j)) (length recording) i silence l)
-          ∙ kept (left_at recording plan start number (gain_of taken.gain) i)
-          (within_more (left_at recording plan start number (gain_of taken.gain) i) most 32767 (all.each i l) few)
+          ap value_of (values_below_at (λ j. nearest_sample (left_at recording plan start number taken.gain j)) (length recording) i silence l)
+          ∙ nearest_sample-kept (left_at recording plan start number taken.gain i)
+          (within_more (left_at recording plan start number taken.gain i) most 32767 (all.each i l) few)
 
       inside : (i : ℕ) → i < length taken.residue → i < length recording
       inside i l =
-          let e = ap (λ (r : List Sample). length r) is.residue ∙ values_below-length (length recording) (λ j. sample_in_16_bits (left_at recording plan start number (gain_of taken.gain) j)) in
+          let e = ap (λ (r : List Sample). length r) is.residue ∙ values_below-length (length recording) (λ j. nearest_sample (left_at recording plan start number taken.gain j)) in
           omega (arith, e, l)
 
       each : (i : ℕ) → i < length taken.residue → IsWithin most (sample_at taken.residue i)

@@ -1,12 +1,10 @@
 -- Sizes of the samples of primary signals.
-use Rattle.std.proofs.Common.{◌≡◌, ◌∙◌, ℕ, ◌+◌, ◌*◌, ◌<◌, ◌≤◌, arith, sym, ap, subst, List, get_or}
+use Rattle.std.proofs.Common.{◌≡◌, ◌∙◌, ℕ, ◌*◌, ◌<◌, ◌≤◌, arith, sym, ap, subst, List, get_or}
 use Rattle.std.specs.Prelude.{All}
 use Rattle.finite.proofs.Sums.{total_below-term}
 use Rattle.finite.proofs.Lists.{values_below_at}
 use Rattle.cs_num.specs.declared.Cpx.{Cpx}
-use Rattle.cs_num.specs.Complex.{IsWithin, square, plus, times, conjugate}
-use Rattle.cs_num.proofs.Sums.{complex_sum_below_more}
-use Rattle.sizes.specs.Sizes.{correlation_below}
+use Rattle.cs_num.specs.Complex.{IsWithin, square}
 use Rattle.sizes.proofs.Squares.{re-le, im-le}
 use Rattle.fold128.specs.Symbol.{useful_part}
 use Rattle.pss_search.specs.Correlation.{wave, wave_list, wave_power}
@@ -31,6 +29,3 @@ wave-all_within n2 known k d l = subst (IsWithin 1415) (sym (values_below_at (wa
 pub wave_at : (n2 : ℕ) (signal : List Cpx) (n : ℕ) (d : Cpx) → signal ≡ wave_list n2 → n < 128 → get_or signal n d ≡ wave n2 n
 unfolding useful_part wave
 wave_at n2 signal n d e inside = ap (λ (s : List Cpx). get_or s n d) e ∙ values_below_at (wave n2) 128 n d inside
-
-pub correlation_more : (n : ℕ) (f g : ℕ → Cpx) → correlation_below (n + 1) f g ≡ plus (correlation_below n f g) (times (f n) (conjugate (g n)))
-correlation_more n f g = complex_sum_below_more n (λ k. times (f k) (conjugate (g k)))

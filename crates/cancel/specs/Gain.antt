@@ -1,18 +1,11 @@
 -- The gain with which a known signal stands in samples: it is estimated by a correlation, and the best of the gains near
 -- the estimate is taken. (own)
-use Rattle.std.specs.Prelude.{◌≡◌, ℕ, zero, suc, ◌*◌, ◌<◌, ◌≤◌, ◌⊎◌, max, ℤ, pos, ◌+ℤ◌, ◌*ℤ◌, ◌<ℤ◌, ◌≤ℤ◌}
+use Rattle.std.specs.Prelude.{◌≡◌, ℕ, zero, suc, ◌<◌, ◌≤◌, ◌⊎◌, max, ◌<ℤ◌, ◌≤ℤ◌}
 use Rattle.cs_num.specs.declared.Cpx.{Cpx}
 use Rattle.cs_num.specs.Complex.{minus, square, size}
-use Rattle.cs_num.specs.Rounding.{floor_div}
+use Rattle.cs_num.specs.Rounding.{quotient, floor_div}
+use Rattle.cs_num.specs.Gain.{IsGain}
 use Rattle.sizes.specs.Sizes.{energy_below, correlation_below}
-use Rattle.cell_tx.specs.Clean.{IsGain}
-
--- z / power, rounded to the nearest, halves up
-abbrev pub quotient_part : ℤ → ℕ → ℤ
-quotient_part z power = floor_div (pos 2 *ℤ z +ℤ pos power) (2 * power)
-
-abbrev pub quotient : Cpx → ℕ → Cpx
-quotient z power = record { re = quotient_part z.re power; im = quotient_part z.im power }
 
 -- the gain that 128 samples tell by a known signal
 abbrev pub estimate : (ℕ → Cpx) → (ℕ → Cpx) → Cpx

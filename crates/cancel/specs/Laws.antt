@@ -3,9 +3,9 @@ use Rattle.std.specs.Prelude.{◌≡◌, ℕ, ◌*◌, ◌<◌, ◌≤◌, List,
 use Rattle.cs_num.specs.declared.Cpx.{Cpx}
 use Rattle.cs_num.specs.declared.Sample.{Sample}
 use Rattle.cs_num.specs.Complex.{IsWithin, times, minus, square}
+use Rattle.cs_num.specs.Gain.{IsGain}
 use Rattle.sizes.specs.Sizes.{energy_below}
 use Rattle.cell_tx.specs.declared.cell.CellPlan.{CellPlan}
-use Rattle.cell_tx.specs.Clean.{IsGain}
 use Rattle.cancel.specs.declared.subtracted.Subtracted.{Subtracted}
 use Rattle.cancel.specs.Gain.{estimate, IsCandidate, IsBest, greatest_below}
 use Rattle.cancel.specs.Residue.{IsSubtraction}

@@ -1,18 +1,19 @@
 -- What is left of a recording when a cell is taken off. (own)
-use Rattle.std.specs.Prelude.{◌≡◌, ℕ, ◌+◌, ◌-◌, ◌%◌, ◌<◌, ◌≤◌, nat_eq, if◌then◌else◌, ℤ, List, length, Option, Some, None, IsSomeAnd}
-use Rattle.std.specs.Int.{w16, saturate_signed}
+use Rattle.std.specs.Prelude.{◌≡◌, ℕ, ◌+◌, ◌-◌, ◌%◌, ◌<◌, ◌≤◌, nat_eq, if◌then◌else◌, List, length, Option, Some, None, IsSomeAnd}
 use Rattle.finite.specs.Lists.{values_below}
 use Rattle.cs_num.specs.declared.Cpx.{Cpx}
 use Rattle.cs_num.specs.declared.Sample.{Sample}
 use Rattle.cs_num.specs.Complex.{IsWithin, sample_at, minus, times}
+use Rattle.cs_num.specs.Rounding.{nearest_sample}
 use Rattle.sizes.specs.Sizes.{energy_below}
 use Rattle.lte_types.specs.Numerology.{frame_length, primary_start}
 use Rattle.lte_types.specs.declared.frame.Half.TheVariants.{Zero}
+use Rattle.lte_types.specs.Timing.{start_of, number_at_start, offset_of, number_before}
 use Rattle.pss_search.specs.Correlation.{wave}
 use Rattle.cell_tx.specs.declared.cell.CellPlan.{CellPlan}
 use Rattle.cell_tx.specs.Grid.{element}
-use Rattle.cell_tx.specs.Sent.{Elements, sent, gain_of}
-use Rattle.cell_tx.specs.Clean.{IsClean, start_of, number_at_start}
+use Rattle.cell_tx.specs.Sent.{Elements, sent}
+use Rattle.cell_tx.specs.Clean.{IsClean}
 use Rattle.clean_air.specs.Load.{IsLoaded}
 use Rattle.cancel.specs.declared.subtracted.Subtracted.{Subtracted}
 use Rattle.cancel.specs.Gain.{estimate, IsCandidate, greatest_below, IsBest}
@@ -23,15 +24,6 @@ use Rattle.cancel.specs.Gain.{estimate, IsCandidate, greatest_below, IsBest}
 abbrev pub estimate_at : List Sample → CellPlan → ℕ → Cpx
 estimate_at recording plan start =
     estimate (λ n. sample_at recording (start + primary_start Zero + n)) (wave (plan.identity % 3))
-
--- the sample of the cell's frames at which the recording begins
-abbrev pub offset_of : ℕ → ℕ
-offset_of start = (frame_length - start) % frame_length
-
--- the number of the frame that it begins in: where the start is not its first sample one less than at the start, modulo
--- 1,024
-abbrev pub number_before : ℕ → ℕ → ℕ
-number_before start number = if nat_eq start 0 then number else (number + 1023) % 1024
 
 -- what the cell sends at sample i of the recording
 abbrev pub sent_at : CellPlan → ℕ → ℕ → ℕ → Cpx
@@ -53,17 +45,10 @@ abbrev pub IsTaken : List Sample → CellPlan → ℕ → ℕ → Cpx → Type 0
 IsTaken recording plan start number gain =
     IsBest (greatest_left recording plan start number) (estimate_at recording plan start) gain
 
--- the nearest number of 16 bits
-abbrev pub in_16_bits : ℤ → ℤ
-in_16_bits x = saturate_signed w16 x
-
-abbrev pub sample_in_16_bits : Cpx → Sample
-sample_in_16_bits z = record { re = in_16_bits z.re; im = in_16_bits z.im }
-
 -- the residue: what the gain leaves, each component in 16 bits
 abbrev pub residue_of : List Sample → CellPlan → ℕ → ℕ → Cpx → List Sample
 residue_of recording plan start number gain =
-    values_below (length recording) (λ i. sample_in_16_bits (left_at recording plan start number gain i))
+    values_below (length recording) (λ i. nearest_sample (left_at recording plan start number gain i))
 
 -- the power of samples: the sum of |r(i)|^2
 abbrev pub power_of : List Sample → ℕ
@@ -71,9 +56,9 @@ power_of samples = energy_below (length samples) (sample_at samples)
 
 -- the cell is taken off with its gain, and this is left
 pub record IsSubtracted (recording : List Sample) (plan : CellPlan) (start number : ℕ) (taken : Subtracted) : Type 0 where
-  pub gain : IsTaken recording plan start number (gain_of taken.gain)
-  pub greatest : taken.greatest ≡ greatest_left recording plan start number (gain_of taken.gain)
-  pub residue : taken.residue ≡ residue_of recording plan start number (gain_of taken.gain)
+  pub gain : IsTaken recording plan start number taken.gain
+  pub greatest : taken.greatest ≡ greatest_left recording plan start number taken.gain
+  pub residue : taken.residue ≡ residue_of recording plan start number taken.gain
   pub before : taken.before ≡ power_of recording
   pub after : taken.after ≡ power_of taken.residue
 

@@ -5,9 +5,9 @@ use Rattle.finite.specs.Lists.{values_below}
 use Rattle.cs_num.specs.declared.Cpx.{Cpx}
 use Rattle.cs_num.specs.declared.Sample.{Sample}
 use Rattle.cs_num.specs.Complex.{minus, times, square, sample_at}
-use Rattle.cell_tx.specs.Sent.{gain_of}
+use Rattle.cs_num.specs.Rounding.{nearest_sample}
 use Rattle.cancel.specs.declared.subtracted.Subtracted.{Subtracted}
-use Rattle.cancel.specs.Residue.{sample_in_16_bits, power_of}
+use Rattle.cancel.specs.Residue.{power_of}
 use Rattle.cancel.specs.declared.choosing.Choice.{Choice}
 use Rattle.cancel.specs.Gain.{greatest_below}
 
@@ -47,8 +47,8 @@ choices_of greatest found = option_map (choice_of greatest) found
 
 -- a gain was taken off samples, of which these were sent
 pub record IsTakenOff (samples sent : List Sample) (choice : Choice) (taken : Subtracted) : Type 0 where
-  pub gain : gain_of taken.gain ≡ choice.gain
+  pub gain : taken.gain ≡ choice.gain
   pub greatest : taken.greatest ≡ choice.greatest
-  pub residue : taken.residue ≡ values_below (length samples) (λ i. sample_in_16_bits (left_of samples sent choice.gain i))
+  pub residue : taken.residue ≡ values_below (length samples) (λ i. nearest_sample (left_of samples sent choice.gain i))
   pub before : taken.before ≡ power_of samples
   pub after : taken.after ≡ power_of taken.residue

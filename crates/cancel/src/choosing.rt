@@ -1,7 +1,7 @@
 //! The best of the gains near an estimate.
 
 ghost use Rattle.std.specs.Prelude.{◌≡◌, ℕ, ◌+◌, ◌*◌, ◌^◌, ◌<◌, ◌≤◌, length, max, nat_abs, nat_lt, pos, ◌+ℤ◌, ◌-ℤ◌, if◌then◌else◌, Option};
-ghost use Rattle.cs_num.specs.declared.Cpx.{Cpx as Gain};
+ghost use Rattle.cs_num.specs.declared.Cpx.{Cpx as Number};
 ghost use Rattle.cs_num.specs.Complex.{IsWithin, value_of, minus, times, square, size};
 ghost use Rattle.cancel.specs.Steps.{around as around_of, is_candidate as is_candidate_of, better as better_of, found_before, choices_of, greatest_of as greatest_left};
 
@@ -106,7 +106,7 @@ fn lesser(first: Choice, second: Choice) -> Choice
 fn better(samples: &[Sample], sent: &[Sample], found: Option<Choice>, gain: Cpx) -> Option<Choice>
     requires gain { IsWithin 28 gain }
     requires count { length sent.now ≡ length samples.now }
-    ensures { (old : Option Gain) → found ≡ choices_of (greatest_left samples.now sent.now) old →
+    ensures { (old : Option Number) → found ≡ choices_of (greatest_left samples.now sent.now) old →
         result ≡ choices_of (greatest_left samples.now sent.now) (better_of (greatest_left samples.now sent.now) old gain) }
 {
     let greatest = greatest_of(samples, sent, gain);
@@ -128,7 +128,7 @@ fn with_gain(
     requires middle { IsWithin (2 ^ 40) middle }
     requires gain { IsWithin (2 ^ 41) gain }
     requires count { length sent.now ≡ length samples.now }
-    ensures { (old : Option Gain) → found ≡ choices_of (greatest_left samples.now sent.now) old →
+    ensures { (old : Option Number) → found ≡ choices_of (greatest_left samples.now sent.now) old →
         result ≡ choices_of (greatest_left samples.now sent.now) (if is_candidate_of middle gain
         then better_of (greatest_left samples.now sent.now) old gain else old) }
 {

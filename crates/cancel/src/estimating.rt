@@ -1,18 +1,17 @@
 //! The gain that a primary synchronisation signal tells.
 
-ghost use Rattle.std.specs.Prelude.{◌≡◌, ℕ, ◌+◌, ◌*◌, ◌%◌, ◌^◌, ◌<◌, ◌≤◌, All, length, nat_abs};
+ghost use Rattle.std.specs.Prelude.{◌≡◌, ◌+◌, ◌%◌, ◌^◌, ◌<◌, ◌≤◌, All, length};
 ghost use Rattle.finite.specs.Lists.{values_below};
-ghost use Rattle.cs_num.specs.Complex.{IsWithin, value_of, value_at, sample_at, times, conjugate};
+ghost use Rattle.cs_num.specs.Complex.{IsWithin, value_of, sample_at, times, conjugate};
 ghost use Rattle.sizes.specs.Sizes.{correlation_below};
 ghost use Rattle.lte_types.specs.Numerology.{frame_length};
-ghost use Rattle.pss_search.specs.Correlation.{pss_grid, wave, wave_list, wave_power};
-ghost use Rattle.cancel.specs.Gain.{quotient_part, quotient as quotient_of};
+ghost use Rattle.pss_search.specs.Correlation.{pss_grid, wave, wave_list};
 ghost use Rattle.cancel.specs.Residue.{estimate_at};
 
 use cell_tx::Cell;
 use cs_num::{Cpx, Sample};
 use fold128::synth;
-use lte_types::{CellId, Prefix};
+use lte_types::Prefix;
 use pss_search::signal_power;
 use sample_file::Recording;
 use sync_seq::{in_middle, pss};
@@ -28,8 +27,7 @@ pub(crate) fn estimate(recording: &Recording, cell: &Cell, start: u32) -> Cpx
     prove!(57_600 <= count);
     let wave = wave_of(n2);
     let first = Prefix::NORMAL.useful_start(start as usize, 0, 6);
-    let sum = correlation(recording, first, n2, &wave);
-    quotient(sum, signal_power(n2))
+    correlation(recording, first, n2, &wave).quotient(signal_power(n2))
 }
 
 // The identity of a cell within its group.
@@ -82,29 +80,4 @@ fn correlation(recording: &Recording, first: usize, n2: u8, signal: &[Cpx; 128])
         sum = sum + term(recording.get(first + n), signal[n]);
     }
     sum
-}
-
-// One component of the quotient.
-fn part(z: i64, power: u64) -> i64
-    requires small { nat_abs z ≤ 2 ^ 34 }
-    requires some { 0 < power }
-    requires few { power ≤ 2001665 }
-    ensures value { result ≡ quotient_part z power }
-    ensures small { nat_abs result ≤ 2 ^ 40 }
-{
-    (2 * z + power as i64).div_euclid(2 * power as i64)
-}
-
-// The sum divided by the signal's power, rounded to the nearest.
-fn quotient(z: Cpx, power: u64) -> Cpx
-    requires small { IsWithin (2 ^ 34) z }
-    requires some { 0 < power }
-    requires few { power ≤ 2001665 }
-    ensures value { result ≡ quotient_of z power }
-    ensures small { IsWithin (2 ^ 40) result }
-{
-    Cpx {
-        re: part(z.re, power),
-        im: part(z.im, power),
-    }
 }

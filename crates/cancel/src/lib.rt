@@ -10,4 +10,4 @@ mod taking;
 
 pub use laws::{best_candidate_is_one, clean_gain_is_candidate};
 pub use subtracted::Subtracted;
-pub use taking::subtract;
+pub use taking::{power_of, subtract, subtract_from};

@@ -2,10 +2,11 @@
 
 ghost use Rattle.std.specs.Prelude.{◌≡◌, ◌+◌, ◌^◌, ◌≤◌, ◌<◌, IfOk, length};
 ghost use Rattle.finite.specs.Lists.{values_below};
-ghost use Rattle.cs_num.specs.Complex.{IsWithin, minus, times, square, value_of};
-ghost use Rattle.lte_types.specs.Numerology.{frame_length};
-ghost use Rattle.cell_tx.specs.Sent.{sample_of, gain_of};
-ghost use Rattle.cancel.specs.Residue.{offset_of, number_before as number_of, sent_at, in_16_bits as nearest, sample_in_16_bits as nearest_sample, power_of as sum_of};
+ghost use Rattle.cs_num.specs.Complex.{IsWithin, minus, times, square, value_of, sample_of};
+ghost use Rattle.cs_num.specs.Rounding.{nearest_sample};
+ghost use Rattle.lte_types.specs.Numerology.{frame_length, most_samples};
+ghost use Rattle.cancel.specs.Residue.{sent_at, power_of as sum_of};
+ghost use Rattle.cs_num.specs.Gain.{IsGain};
 ghost use Rattle.cancel.specs.Residue.{IsSubtraction, TakesLoadedOff, TakesCleanOff};
 ghost use Rattle.cancel.specs.Steps.{left_of, IsTakenOff};
 
@@ -13,8 +14,8 @@ use crate::Subtracted;
 use crate::choosing::{Choice, best, left};
 use crate::estimating::estimate;
 use cell_tx::{Cell, Port, port_sequence};
-use cs_num::{Cpx, Sample};
-use lte_types::{FRAME_LENGTH, Sfn};
+use cs_num::{Cpx, Gain, Sample};
+use lte_types::{Sfn, Timing};
 use sample_file::Recording;
 use std::alloc::{AllocError, Global};
 
@@ -40,39 +41,32 @@ pub fn subtract(
 {
     let count = recording.len();
     prove!(57_600 <= count);
-    answer_of(alloc, recording, cell, start, sfn)
+    subtract_from(alloc, recording, power_of(recording), cell, start, sfn)
 }
 
-// The same, whatever the recording is.
-fn answer_of(
+/// `subtract` from a recording whose power is known. Its promises on clean recordings are those of `subtract`, since
+/// they follow from this clause there. It has a parameter more, so that a round need not sum what the round before it
+/// has summed. (own)
+pub fn subtract_from(
     alloc: Global,
     recording: &Recording,
+    power: u128,
     cell: &Cell,
     start: u32,
     sfn: Sfn,
 ) -> Result<Option<Subtracted>, AllocError>
-    requires { start < frame_length }
+    requires start { start < frame_length }
+    requires power { power ≡ sum_of recording.now }
     ensures { IfOk result (IsSubtraction recording.now cell.now start sfn) }
 {
     let sent = sent_samples(alloc, recording.len(), cell, start, sfn)?;
     let middle = estimate(recording, cell, start);
     match best(recording.as_slice(), &sent, middle) {
         Some(choice) => {
-            let taken = taken_off(alloc, recording, &sent, choice)?;
+            let taken = taken_off(alloc, recording, power, &sent, choice)?;
             Ok(Some(taken))
         }
         None => Ok(None),
-    }
-}
-
-// The number of the frame in which the recording begins.
-fn number_before(start: u32, sfn: Sfn) -> Sfn
-    ensures { result ≡ number_of start sfn }
-{
-    if start == 0 {
-        sfn
-    } else {
-        Sfn::modulo(sfn.value() as u64 + 1023)
     }
 }
 
@@ -85,36 +79,12 @@ fn sent_samples(
     sfn: Sfn,
 ) -> Result<Vec<Sample>, AllocError>
     requires start { start < frame_length }
-    requires count { count ≤ 1920000 }
+    requires count { count ≤ most_samples }
     ensures { IfOk result (λ sent. sent.items ≡ values_below count (λ i. sample_of (sent_at cell.now start sfn i))) }
 {
     let mut sent = vec![in alloc; Sample { re: 0, im: 0 }; count]?;
-    let offset = (FRAME_LENGTH as u32 - start) % FRAME_LENGTH as u32;
-    port_sequence(
-        cell,
-        Port::Only,
-        number_before(start, sfn),
-        offset,
-        &mut sent,
-    );
+    port_sequence(cell, Port::Only, Timing::before(start, sfn), &mut sent);
     Ok(sent)
-}
-
-// The nearest number of 16 bits.
-fn in_16_bits(x: i64) -> i16
-    ensures { result ≡ nearest x }
-{
-    x.clamp(-32_768, 32_767) as i16
-}
-
-// The nearest sample.
-fn sample_in_16_bits(z: Cpx) -> Sample
-    ensures { result ≡ nearest_sample z }
-{
-    Sample {
-        re: in_16_bits(z.re),
-        im: in_16_bits(z.im),
-    }
 }
 
 // What a gain leaves of a sample, of which the other was sent, as a sample.
@@ -122,7 +92,7 @@ fn sample_left(sample: Sample, sent: Sample, gain: Cpx) -> Sample
     requires { IsWithin 28 gain }
     ensures { result ≡ nearest_sample (minus (value_of sample) (times gain (value_of sent))) }
 {
-    sample_in_16_bits(left(sample, sent, gain))
+    left(sample, sent, gain).nearest_sample()
 }
 
 // What a gain leaves of samples, of which these were sent.
@@ -152,11 +122,11 @@ fn square_of(sample: Sample) -> u128
     Cpx::from(sample).norm()
 }
 
-// The sum of the squares of the sizes of samples.
-fn power_of(samples: &[Sample]) -> u128
-    requires { length samples.now ≤ 1920000 }
-    ensures { result ≡ sum_of samples.now }
+/// The power of a recording: the sum of the squares of the sizes of its samples. (own)
+pub fn power_of(recording: &Recording) -> u128
+    ensures { result ≡ sum_of recording.now }
 {
+    let samples = recording.as_slice();
     let mut sum = 0;
     for i in 0..samples.len() {
         sum = sum + square_of(samples[i]);
@@ -164,12 +134,15 @@ fn power_of(samples: &[Sample]) -> u128
     sum
 }
 
-// A gain of size at most 28 as a pair.
-fn pair_of(gain: Cpx) -> (i16, i16)
-    requires { IsWithin 28 gain }
-    ensures { gain_of result ≡ gain }
+// The gain that a number is.
+fn gain_of(number: Cpx) -> Gain
+    requires { IsGain number }
+    ensures { result ≡ number }
 {
-    (gain.re as i16, gain.im as i16)
+    match Gain::of(number) {
+        Some(gain) => gain,
+        None => unreachable!(),
+    }
 }
 
 // The recording of these samples, of which there are as many as in another.
@@ -185,25 +158,26 @@ fn recording_of(recording: &Recording, samples: Vec<Sample>) -> Recording
     }
 }
 
-// Takes a gain off the recording.
+// Takes a gain off the recording, whose power this is.
 fn taken_off(
     alloc: Global,
     recording: &Recording,
+    before: u128,
     sent: &[Sample],
     choice: Choice,
 ) -> Result<Subtracted, AllocError>
-    requires gain { IsWithin 28 choice.gain }
+    requires before { before ≡ sum_of recording.now }
+    requires gain { IsGain choice.gain }
     requires count { length sent.now ≡ length recording.now }
     ensures { IfOk result (IsTakenOff recording.now sent.now choice) }
 {
-    let samples = recording.as_slice();
-    let residue = residue_samples(alloc, samples, sent, choice.gain)?;
-    let after = power_of(&residue);
+    let samples = residue_samples(alloc, recording.as_slice(), sent, choice.gain)?;
+    let residue = recording_of(recording, samples);
     Ok(Subtracted {
-        gain: pair_of(choice.gain),
+        gain: gain_of(choice.gain),
         greatest: choice.greatest,
-        before: power_of(samples),
-        after,
-        residue: recording_of(recording, residue),
+        before,
+        after: power_of(&residue),
+        residue,
     })
 }

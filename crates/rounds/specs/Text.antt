@@ -1,8 +1,8 @@
 -- The text of a search that takes found cells off. (own)
-use Rattle.std.specs.Prelude.{◌≡◌, ℕ, if◌then◌else◌, List, [], ◌++◌, All}
+use Rattle.std.specs.Prelude.{◌≡◌, ℕ, if◌then◌else◌, List, [], ◌++◌}
 use Rattle.std.specs.List.{flat_map}
 use Rattle.cs_num.specs.declared.Sample.{Sample}
-use Rattle.report.specs.Lines.{report_text, IsValidEntry}
+use Rattle.report.specs.Lines.{report_text}
 use Rattle.report.specs.Cancelled.{cancelled_lines, cancelled_none}
 use Rattle.rounds.specs.declared.round.Round.{Round}
 use Rattle.rounds.specs.declared.round.Rounds.{Rounds}
@@ -24,11 +24,3 @@ pub record IsCancelText (recording : List Sample) (text : List ℕ) : Type 0 whe
   pub rounds : Rounds
   pub are : IsCancelled recording rounds
   pub text_is : text ≡ rounds_text rounds
-
--- each system information that is listed is in its ranges
-abbrev pub IsValidRound : Round → Type 0
-IsValidRound round = All IsValidEntry round.list
-
-pub record AreValidRounds (rounds : Rounds) : Type 0 where
-  pub first : All IsValidEntry rounds.first
-  pub each : All IsValidRound rounds.taken.items

@@ -1,8 +1,7 @@
 //! The text of a search that takes found cells off.
 
-ghost use Rattle.std.specs.Prelude.{◌≡◌, All, IfOk, string_bytes};
-ghost use Rattle.report.specs.Lines.{IsValidEntry};
-ghost use Rattle.rounds.specs.Text.{round_text, rounds_text, IsCancelText, AreValidRounds, IsValidRound};
+ghost use Rattle.std.specs.Prelude.{◌≡◌, IfOk, string_bytes};
+ghost use Rattle.rounds.specs.Text.{round_text, rounds_text, IsCancelText};
 
 use crate::{Round, Rounds, cancel_rounds};
 use explain::Workspace;
@@ -21,9 +20,8 @@ pub fn cancel_text(alloc: Global, recording: &Recording) -> Result<String, Alloc
     text_of_rounds(alloc, &rounds)
 }
 
-/// The text of rounds. Each system information that is listed is valid. Only memory can be wanting. (own)
+/// The text of rounds. Only memory can be wanting. (own)
 pub fn text_of_rounds(alloc: Global, rounds: &Rounds) -> Result<String, AllocError>
-    requires { AreValidRounds rounds.now }
     ensures { IfOk result (λ text. string_bytes text ≡ rounds_text rounds.now) }
 {
     let mut all = text(alloc, rounds.first.slice())?;
@@ -40,18 +38,11 @@ pub fn text_of_rounds(alloc: Global, rounds: &Rounds) -> Result<String, AllocErr
 
 // The lines of the cell that was taken off, and the list of what is left.
 fn text_of_round(alloc: Global, round: &Round) -> Result<String, AllocError>
-    requires { IsValidRound round.now }
     ensures { IfOk result (λ text. string_bytes text ≡ round_text round.now) }
 {
     let taken = &round.taken;
     let powers = (taken.before, taken.after);
-    let mut lines = text_of_cancelled(
-        alloc,
-        round.id.value(),
-        &taken.gain,
-        taken.greatest,
-        powers,
-    )?;
+    let mut lines = text_of_cancelled(alloc, round.id.value(), taken.gain, taken.greatest, powers)?;
     let list = text(alloc, round.list.slice())?;
     lines.push_str(&list)?;
     Ok(lines)

@@ -1,15 +1,16 @@
 -- A recording turned by 0.
-use Rattle.std.proofs.Common.{◌≡◌, ℕ, ◌+◌, ◌-◌, ◌*◌, ◌/◌, ◌%◌, ◌^◌, ◌<◌, ◌≤◌, min, List, length, get_or, arith, refl, ap, ap₂, sym, subst, ◌∙◌, ℤ, pos, negsuc, ◌+ℤ◌, ◌-ℤ◌, ◌*ℤ◌, neg_ℤ, FitsSigned}
-use Rattle.std.specs.Prelude.{All, nat_abs, slice_index_or}
-use Rattle.std.specs.Int.{w16, saturate_signed, int_rem_euclid}
+use Rattle.std.proofs.Common.{◌≡◌, ℕ, ◌+◌, ◌*◌, ◌/◌, length, arith, refl, ap, ap₂, sym, ◌∙◌, ℤ, pos, negsuc, ◌+ℤ◌, ◌-ℤ◌, ◌*ℤ◌, neg_ℤ, FitsSigned}
+use Rattle.std.specs.Prelude.{slice_index_or}
+use Rattle.std.specs.Int.{w16}
 use Rattle.std.proofs.lemmas.Int.{ints}
 use Rattle.finite.proofs.Lists.{values_below_is}
 use Rattle.cs_num.specs.declared.Cpx.{Cpx}
 use Rattle.cs_num.specs.declared.Sample.{Sample}
-use Rattle.cs_num.specs.Complex.{nothing, minus, times, conjugate, sample_at, value_of, silence}
-use Rattle.cs_num.specs.Rounding.{floor_div, round_shifted, rounded}
+use Rattle.cs_num.specs.Complex.{nothing, sample_at, value_of, silence}
+use Rattle.cs_num.specs.Rounding.{floor_div, round_shifted, in_16_bits}
+use Rattle.cs_num.proofs.Samples.{in_16_bits-kept}
 use Rattle.fold128.specs.Tables.{quarter, cosine, w_at}
-use Rattle.turning.specs.Turned.{mean, w_of, angle, nearest, turned_back, turned_at, turned}
+use Rattle.turning.specs.Turned.{w_of, angle, turned_back, turned_at}
 use Rattle.turning.specs.Laws.{Has16Bits, StaysAtZero}
 
 one : Cpx
@@ -30,18 +31,14 @@ floor_back (negsuc n) =
     let d : (n * 16384 + 8191) / 16384 ≡ n = omega arith in
     ap (λ z. floor_div z 16384) e ∙ ap negsuc d
 
-saturated_back : (x : ℤ) → FitsSigned w16 x → saturate_signed w16 x ≡ x
-saturated_back (pos n) f = let h = f.sfits in ap pos (omega (arith, h))
-saturated_back (negsuc n) f = let h = f.sfits in ap negsuc (omega (arith, h))
-
 real : (x y : ℤ) → (x -ℤ pos 0) *ℤ pos 16384 -ℤ (y -ℤ pos 0) *ℤ neg_ℤ (pos 0) ≡ x *ℤ pos 16384
 real x y = omega (arith, ints)
 
 imaginary : (x y : ℤ) → (x -ℤ pos 0) *ℤ neg_ℤ (pos 0) +ℤ (y -ℤ pos 0) *ℤ pos 16384 ≡ y *ℤ pos 16384
 imaginary x y = omega (arith, ints)
 
-component : (x t : ℤ) → FitsSigned w16 x → t ≡ x *ℤ pos 16384 → saturate_signed w16 (round_shifted t 14) ≡ x
-component x t f e = ap (λ z. saturate_signed w16 (floor_div (z +ℤ pos 8192) 16384)) e ∙ ap (saturate_signed w16) (floor_back x) ∙ saturated_back x f
+component : (x t : ℤ) → FitsSigned w16 x → t ≡ x *ℤ pos 16384 → in_16_bits (round_shifted t 14) ≡ x
+component x t f e = ap (λ z. in_16_bits (floor_div (z +ℤ pos 8192) 16384)) e ∙ ap in_16_bits (floor_back x) ∙ in_16_bits-kept x f
 
 sample_pair : {x y u v : ℤ} → x ≡ y → u ≡ v → ◌≡◌ {A = Sample} (record { re = x; im = u }) (record { re = y; im = v })
 sample_pair e f = cc

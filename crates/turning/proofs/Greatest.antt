@@ -1,5 +1,5 @@
 -- What holds of values holds of the greatest.
-use Rattle.std.proofs.Common.{◌≡◌, ℕ, suc, ◌<◌, ◌≤◌, Bool, true, false, List, [], ◌∷◌, length, get_or, fold, Option, Some, None, arith, refl, sym, subst}
+use Rattle.std.proofs.Common.{◌≡◌, suc, Bool, true, false, List, [], ◌∷◌, fold, Some, arith, subst}
 use Rattle.std.specs.Prelude.{All, if◌then◌else◌}
 use Rattle.turning.specs.declared.fraction.Fraction.{Fraction}
 use Rattle.turning.specs.Fractions.{is_less, greater, greatest}

@@ -1,5 +1,5 @@
 -- How great the fractions of a turned recording's hits are.
-use Rattle.std.proofs.Common.{◌≡◌, ℕ, ◌+◌, ◌*◌, ◌^◌, ◌<◌, ◌≤◌, List, length, arith, ap, sym, subst, ◌∙◌, ℤ}
+use Rattle.std.proofs.Common.{ℕ, ◌+◌, ◌*◌, ◌^◌, ◌<◌, ◌≤◌, List, arith, sym, subst, ℤ}
 use Rattle.std.specs.Prelude.{All}
 use Rattle.std.specs.List.{Contains}
 use Rattle.std.proofs.lemmas.List.Elements.{Contains-get_or}
@@ -15,7 +15,6 @@ use Rattle.pss_search.proofs.Listed.{list_is_right}
 use Rattle.pss_search.proofs.Symmetry.{power_range}
 use Rattle.pss_search.proofs.Peaks.{peak_within}
 use Rattle.turning.specs.Turned.{turned}
-use Rattle.turning.specs.Fractions.{fraction_of, IsSmall}
 use Rattle.turning.specs.Steps.{IsSmallHit}
 use Rattle.turning.proofs.TurnedSamples.{turned-within}
 

@@ -1,5 +1,4 @@
 pub mod BySize
-pub mod SoFar
 pub mod TurnedSamples
 pub mod HitSizes
 pub mod OneCandidate

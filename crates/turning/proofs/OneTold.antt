@@ -1,15 +1,13 @@
 -- One thing is told of a recording.
-use Rattle.std.proofs.Common.{◌≡◌, ℕ, ◌+◌, ◌<◌, ◌≤◌, ◌⊎◌, inl, inr, List, [], ◌∷◌, length, get_or, Option, Some, None, arith, refl, ap, sym, subst, ◌∙◌, ℤ, pos}
-use Rattle.std.specs.Prelude.{All, HoldsAt}
+use Rattle.std.proofs.Common.{◌≡◌, ℕ, ◌<◌, ◌≤◌, ◌⊎◌, inl, inr, List, [], length, get_or, Option, Some, None, arith, refl, ap, sym, subst, ◌∙◌, ℤ, pos}
 use Rattle.std.proofs.lemmas.Bool.{cases_lt}
 use Rattle.cs_num.specs.declared.Sample.{Sample}
-use Rattle.lte_types.specs.declared.entry.Entry.{Entry}
 use Rattle.explain.proofs.Listed.{is_one_list}
 use Rattle.turning.specs.declared.candidate.Candidate.{Candidate}
 use Rattle.turning.specs.declared.telling.Told.{Told}
 use Rattle.turning.specs.Turned.{turned}
 use Rattle.turning.specs.Candidates.{taken_of}
-use Rattle.turning.specs.Telling.{HasCells, Tells, IsSilent, IsFirstHeard, IsFirstSilent, IsToldBy, IsTold, IsApplied, turn_of}
+use Rattle.turning.specs.Telling.{HasCells, Tells, IsSilent, IsFirstHeard, IsFirstSilent, IsToldBy, turn_of}
 use Rattle.turning.specs.Laws.{IsOneTold, IsOneApplied, ToldCellsAreThere}
 
 one_count : (recording : List Sample) (a b : ℕ) → HasCells recording a → HasCells recording b → a ≡ b

@@ -1,7 +1,6 @@
 -- What is known of each candidate: the range of its turn, and the size of its fraction.
-use Rattle.std.proofs.Common.{◌≡◌, ℕ, zero, suc, ◌+◌, ◌*◌, ◌^◌, ◌<◌, ◌≤◌, ◌⊎◌, inl, inr, List, [], ◌∷◌, ◌++◌, length, get_or, Option, Some, None, arith, refl, ap, sym, subst, ◌∙◌, ℤ, pos, negsuc, ◌+ℤ◌, ◌*ℤ◌, ◌≤ℤ◌}
-use Rattle.std.specs.Prelude.{All, option_map, option_to_list, nat_abs, IfOk, IfSome, Result, Ok, Err}
-use Rattle.std.specs.declared.alloc.AllocError.{AllocError}
+use Rattle.std.proofs.Common.{◌≡◌, ℕ, zero, suc, ◌<◌, ◌≤◌, ◌⊎◌, inl, inr, List, [], ◌∷◌, Option, Some, None, arith, refl, sym, subst, ℤ, pos, negsuc, ◌+ℤ◌, ◌*ℤ◌, ◌≤ℤ◌}
+use Rattle.std.specs.Prelude.{All, option_map, option_to_list, nat_abs}
 use Rattle.std.proofs.lemmas.Int.{ints}
 use Rattle.std.proofs.lemmas.List.Elements.{All-append}
 use borrow.Author.Differences.{up, down}
@@ -20,8 +19,8 @@ use Rattle.turning.specs.Order.{by_size}
 use Rattle.turning.specs.Fine.{fit, best_fit, prefix_sum, fine_turn}
 use Rattle.turning.specs.Fractions.{fraction_of, greatest, IsSmall}
 use Rattle.turning.specs.Candidates.{candidate_by, candidate_at, coarse_turn, candidates_below, candidates_of, taken_of}
-use Rattle.turning.specs.Telling.{IsFirstHeard, IsFirstSilent, IsTold}
-use Rattle.turning.specs.Laws.{IsTurnInRange, TurnIsInRange}
+use Rattle.turning.specs.Telling.{IsFirstHeard, IsFirstSilent}
+use Rattle.turning.specs.Laws.{TurnIsInRange}
 use Rattle.turning.specs.Steps.{IsSmallHit, IsSmallCandidate}
 use Rattle.turning.proofs.BySize.{by_size_between}
 use Rattle.turning.proofs.HitSizes.{hits_are_small}
@@ -95,8 +94,3 @@ range_of recording told (inr p) = subst IsInTurns (sym (p.tells nothing_told).tu
 
 pub turn_is_in_range : TurnIsInRange
 turn_is_in_range recording told is = let r = range_of recording told is in record { least = r.least; most = r.most }
-
-pub told_in_range : (recording : List Sample) (result : Result (Option Told) AllocError) → IfOk result (IsTold recording) → IfOk result (λ told. IfSome told IsTurnInRange)
-told_in_range recording (Ok None) is = tt
-told_in_range recording (Ok (Some told)) is = turn_is_in_range recording told is
-told_in_range recording (Err e) is = tt

@@ -1,18 +1,15 @@
 -- The samples of a turned recording.
-use Rattle.std.proofs.Common.{◌≡◌, ℕ, ◌+◌, ◌*◌, ◌^◌, ◌-◌, ◌<◌, ◌≤◌, min, List, length, get_or, take, ◌⊎◌, inl, inr, arith, refl, ap, sym, subst, ◌∙◌, ℤ, pos, negsuc}
-use Rattle.std.specs.Prelude.{nat_abs}
-use Rattle.std.specs.Int.{w16, saturate_signed}
+use Rattle.std.proofs.Common.{◌≡◌, ℕ, ◌<◌, ◌≤◌, List, length, get_or, take, ◌⊎◌, inl, inr, arith, ap, sym, subst, ℤ}
 use Rattle.std.proofs.lemmas.Bool.{cases_lt}
 use Rattle.std.proofs.lemmas.List.{take-take}
 use Rattle.std.proofs.Math.ListN.{get_or-eq_default}
 use Rattle.finite.proofs.Lists.{values_below-length, values_below_at}
-use Rattle.cs_num.specs.declared.Cpx.{Cpx}
 use Rattle.cs_num.specs.declared.Sample.{Sample}
 use Rattle.cs_num.specs.Complex.{IsWithin, sample_at, value_of, silence}
-use Rattle.lte_types.specs.declared.hit.Hit.{Hit}
+use Rattle.cs_num.proofs.Samples.{nearest_sample-within}
 use Rattle.pss_search.specs.Hits.{hits_of}
 use Rattle.pss_search.proofs.Agree.{hits_agree}
-use Rattle.turning.specs.Turned.{nearest, turned_back, turned_at, turned}
+use Rattle.turning.specs.Turned.{turned_back, turned_at, turned}
 
 pub turned-length : (recording : List Sample) (m : ℤ) → length (turned recording m) ≡ length recording
 turned-length recording m = values_below-length (length recording) (turned_at recording m)
@@ -26,16 +23,9 @@ front_hits samples count enough = hits_agree count (take count samples) samples 
 
 -- ---- sizes
 
-saturated_small : (z : ℤ) → nat_abs (saturate_signed w16 z) ≤ 32768
-saturated_small (pos n) = omega arith
-saturated_small (negsuc n) = omega arith
-
-nearest_small : (z : Cpx) → IsWithin 32768 (value_of (nearest z))
-nearest_small z = record { re = saturated_small z.re; im = saturated_small z.im }
-
 turned_at_small : (recording : List Sample) (m : ℤ) (i : ℕ) → IsWithin 32768 (value_of (turned_at recording m i))
 unfolding turned_at turned_back
-turned_at_small recording m i = nearest_small _
+turned_at_small recording m i = nearest_sample-within _
 
 pub turned-within : (recording : List Sample) (m : ℤ) (i : ℕ) → IsWithin 32768 (sample_at (turned recording m) i)
 turned-within recording m i = settle (cases_lt i (length recording))

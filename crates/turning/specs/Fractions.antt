@@ -1,5 +1,5 @@
 -- Fractions, and the greatest of several. (own)
-use Rattle.std.specs.Prelude.{ℕ, ◌*◌, ◌^◌, ◌≤◌, Bool, nat_lt, if◌then◌else◌, List, [], ◌∷◌, Option, Some, None, fold}
+use Rattle.std.specs.Prelude.{◌*◌, ◌^◌, ◌≤◌, Bool, nat_lt, if◌then◌else◌, List, [], ◌∷◌, Option, Some, None, fold}
 use Rattle.lte_types.specs.declared.hit.Hit.{Hit}
 use Rattle.pss_search.specs.Correlation.{wave_power}
 use Rattle.turning.specs.declared.fraction.Fraction.{Fraction}

@@ -1,5 +1,5 @@
 -- Laws of turned recordings and of what is told of them. (own)
-use Rattle.std.specs.Prelude.{◌≡◌, ℕ, ◌<◌, ◌≤ℤ◌, List, All, IfSome, ℤ, pos, negsuc, Option, Some, FitsSigned}
+use Rattle.std.specs.Prelude.{◌≡◌, ◌≤ℤ◌, List, All, ℤ, pos, negsuc, Option, Some, FitsSigned}
 use Rattle.std.specs.Int.{w16}
 use Rattle.cs_num.specs.declared.Sample.{Sample}
 use Rattle.cs_num.specs.Complex.{nothing}

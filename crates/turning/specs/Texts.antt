@@ -1,6 +1,6 @@
 -- The text of what is told. Numbers are decimal, and every line ends with a line feed. (own)
 use Rattle.std.specs.Prelude.{◌≡◌, ℕ, List, ◌++◌, codes, ℤ, Option, Some, None}
-use Rattle.std.specs.Fmt.{decimal, signed_decimal}
+use Rattle.std.specs.Fmt.{signed_decimal}
 use Rattle.cs_num.specs.declared.Sample.{Sample}
 use Rattle.report.specs.Hits.{hits_head}
 use Rattle.report.specs.Lines.{head_line}

@@ -1,28 +1,21 @@
 -- A recording with its mean taken off and turned back, against an offset of its frequency. (own)
-use Rattle.std.specs.Prelude.{ℕ, ◌*◌, List, length, nat_abs, ℤ, pos, ◌+ℤ◌, ◌*ℤ◌}
-use Rattle.std.specs.Int.{w16, saturate_signed, int_rem_euclid}
+use Rattle.std.specs.Prelude.{ℕ, List, length, nat_abs, ℤ, pos, ◌*ℤ◌}
+use Rattle.std.specs.Int.{int_rem_euclid}
 use Rattle.finite.specs.Lists.{values_below}
 use Rattle.cs_num.specs.declared.Cpx.{Cpx}
 use Rattle.cs_num.specs.declared.Sample.{Sample}
 use Rattle.cs_num.specs.Complex.{minus, times, conjugate, sample_at}
-use Rattle.cs_num.specs.Rounding.{floor_div, rounded}
+use Rattle.cs_num.specs.Rounding.{floor_div, rounded, quotient, nearest_sample}
 use Rattle.cs_num.specs.Sums.{complex_sum_below}
 use Rattle.fold128.specs.Tables.{w_at}
-
--- the mean of n whole numbers with this sum, rounded to the nearest, halves up
-abbrev pub mean_of : ℤ → ℕ → ℤ
-mean_of sum n = floor_div (pos 2 *ℤ sum +ℤ pos n) (2 * n)
 
 -- the sum of all samples
 abbrev pub sum_of : List Sample → Cpx
 sum_of recording = complex_sum_below (length recording) (sample_at recording)
 
--- the mean of all samples, by components
+-- the mean of all samples, rounded to the nearest, halves up, by components
 unfoldable pub mean : List Sample → Cpx
-mean recording = record {
-  re = mean_of (sum_of recording).re (length recording);
-  im = mean_of (sum_of recording).im (length recording);
-}
+mean recording = quotient (sum_of recording) (length recording)
 
 -- W at any whole number, by its period
 abbrev pub w_of : ℤ → Cpx
@@ -33,13 +26,9 @@ w_of z = w_at (nat_abs (int_rem_euclid z (pos 128)))
 abbrev pub angle : ℤ → ℕ → ℤ
 angle m i = floor_div (m *ℤ pos i) 128
 
--- the sample that is nearest to a number
-abbrev pub nearest : Cpx → Sample
-nearest z = record { re = saturate_signed w16 z.re; im = saturate_signed w16 z.im }
-
 -- a number without the mean, turned back
 unfoldable pub turned_back : Cpx → Cpx → ℤ → Sample
-turned_back value mean angle = nearest (rounded (times (minus value mean) (conjugate (w_of angle))) 14)
+turned_back value mean angle = nearest_sample (rounded (times (minus value mean) (conjugate (w_of angle))) 14)
 
 -- sample i of a recording turned by m
 unfoldable pub turned_at : List Sample → ℤ → ℕ → Sample

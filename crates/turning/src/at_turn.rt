@@ -1,10 +1,10 @@
 //! A recording turned, sample by sample.
 
-ghost use Rattle.std.specs.Prelude.{◌≡◌, ◌+◌, ◌*◌, ◌<◌, ◌≤◌, IfOk, length, take, slice_index_or};
-ghost use Rattle.std.specs.Int.{w16, saturate_signed};
+ghost use Rattle.std.specs.Prelude.{◌≡◌, ◌*◌, ◌<◌, ◌≤◌, IfOk, length, take, slice_index_or};
 ghost use Rattle.cs_num.specs.Complex.{IsWithin, value_of, silence};
+ghost use Rattle.lte_types.specs.Numerology.{least_samples, most_samples};
 ghost use Rattle.sample_file.specs.Recording.{IsRecording};
-ghost use Rattle.turning.specs.Turned.{angle as angle_of, nearest as nearest_to, turned_back as turned_back_by, turned as turned_by};
+ghost use Rattle.turning.specs.Turned.{angle as angle_of, turned_back as turned_back_by, turned as turned_by};
 ghost use Rattle.turning.specs.Steps.{IsCentred};
 
 use crate::table::w_at;
@@ -66,7 +66,7 @@ impl<'a> Turned<'a> {
 
     // The first samples.
     pub(crate) fn front(&self, alloc: Global, count: usize) -> Result<Recording, AllocError>
-        requires least { 57600 ≤ count }
+        requires least { least_samples ≤ count }
         requires most { count ≤ length self.now }
         ensures { IfOk result (λ front. front ≡ take count self.now) }
     {
@@ -103,7 +103,7 @@ impl<'a> Turned<'a> {
 
 // How far a turn of m has come at sample i, in parts of which 128 are a whole turn.
 fn angle(m: &i16, i: usize) -> i64
-    requires { i < 1920000 }
+    requires { i < most_samples }
     ensures { result ≡ angle_of m.now i }
 {
     (*m as i64 * i as i64) >> 7
@@ -115,22 +115,8 @@ fn turned_back(sample: Sample, mean: Cpx, angle: i64) -> Sample
     ensures { result ≡ turned_back_by (value_of sample) mean angle }
 {
     let centred = Cpx::from(sample) - mean;
-    nearest(centred.mul(w_at(angle).conj()).round_shift(14))
-}
-
-// The sample that is nearest to a number.
-fn nearest(z: Cpx) -> Sample
-    ensures { result ≡ nearest_to z }
-{
-    Sample {
-        re: nearest_part(z.re),
-        im: nearest_part(z.im),
-    }
-}
-
-// One component of it.
-fn nearest_part(x: i64) -> i16
-    ensures { result ≡ saturate_signed w16 x }
-{
-    x.clamp(-32_768, 32_767) as i16
+    centred
+        .mul(w_at(angle).conj())
+        .round_shift(14)
+        .nearest_sample()
 }

@@ -10,12 +10,9 @@ use crate::centred::Centred;
 use crate::fine::fine_turn;
 use crate::fraction::{Fraction, best_hit, fraction_of};
 use crate::order::by_size;
-use lte_types::Hit;
+use lte_types::{Hit, LEAST_SAMPLES};
 use pss_search::{HitList, hits};
 use std::alloc::{AllocError, Global};
-
-// The fewest samples of a recording, which are more than hits are looked for in.
-const FRONT: usize = 57_600;
 
 /// A turn that may be the one, in steps of 117.1875 Hz. (own)
 #[derive(Clone, Copy, PartialEq, Eq)]
@@ -84,8 +81,8 @@ fn candidate_at(
 {
     let turned = centred.turned(m);
     let end = turned.len();
-    prove!(FRONT <= end);
-    let front = turned.front(alloc, FRONT)?;
+    prove!(LEAST_SAMPLES <= end);
+    let front = turned.front(alloc, LEAST_SAMPLES)?;
     hits(&front, list);
     let hits = list.slice();
     match best_hit(hits) {

@@ -1,8 +1,9 @@
 //! A recording with its mean.
 
-ghost use Rattle.std.specs.Prelude.{◌≡◌, ◌*◌, ◌<◌, ◌≤◌, length, nat_abs};
+ghost use Rattle.std.specs.Prelude.{◌≡◌, ◌*◌, ◌<◌, ◌≤◌, length};
 ghost use Rattle.cs_num.specs.Complex.{IsWithin};
-ghost use Rattle.turning.specs.Turned.{mean as mean_of_all, mean_of, sum_of as sum_of_all, turned as turned_by};
+ghost use Rattle.turning.specs.Turned.{mean as mean_of_all, sum_of as sum_of_all, turned as turned_by};
+ghost use Rattle.lte_types.specs.Numerology.{most_samples};
 
 use crate::at_turn::Turned;
 use cs_num::{Cpx, Sample};
@@ -29,7 +30,7 @@ impl<'a> Model for Centred<'a> {
 }
 
 impl<'a> Centred<'a> {
-    // That of a recording.
+    // With the recording's mean, made once for all turns.
     pub(crate) fn new(recording: &'a Recording) -> Centred<'a>
         ensures { result ≡ recording.now }
     {
@@ -46,23 +47,18 @@ impl<'a> Centred<'a> {
     }
 }
 
-// The mean of samples, by components.
+// The mean of samples.
 fn mean(samples: &[Sample]) -> Cpx
     requires some { 0 < length samples.now }
-    requires few { length samples.now ≤ 1920000 }
+    requires few { length samples.now ≤ most_samples }
     ensures value { result ≡ mean_of_all samples.now }
     ensures small { IsWithin 32768 result }
 {
-    let sum = sum_of(samples);
-    Cpx {
-        re: mean_part(sum.re, samples.len()),
-        im: mean_part(sum.im, samples.len()),
-    }
+    sum_of(samples).quotient(samples.len() as u64)
 }
 
-// Their sum.
 fn sum_of(samples: &[Sample]) -> Cpx
-    requires { length samples.now ≤ 1920000 }
+    requires { length samples.now ≤ most_samples }
     ensures value { result ≡ sum_of_all samples.now }
     ensures small { IsWithin (length samples.now * 32768) result }
 {
@@ -71,16 +67,4 @@ fn sum_of(samples: &[Sample]) -> Cpx
         sum = sum + Cpx::from(samples[i]);
     }
     sum
-}
-
-// The mean of n numbers with a sum, rounded to the nearest, halves up.
-fn mean_part(sum: i64, n: usize) -> i64
-    requires some { 0 < n }
-    requires few { n ≤ 1920000 }
-    requires small { nat_abs sum ≤ n * 32768 }
-    ensures value { result ≡ mean_of sum n }
-    ensures within { nat_abs result ≤ 32768 }
-{
-    let count = n as i64;
-    (2 * sum + count).div_euclid(2 * count)
 }

@@ -2,6 +2,7 @@
 
 ghost use Rattle.std.specs.Prelude.{◌≡◌, ◌+◌, ◌-◌, ◌*◌, ◌^◌, ◌<◌, ◌≤◌, length, nat_abs, int_lt, nat_le, ◌&&◌, if◌then◌else◌};
 ghost use Rattle.cs_num.specs.Complex.{IsWithin};
+ghost use Rattle.lte_types.specs.Numerology.{half_frame_length};
 ghost use Rattle.turning.specs.Order.{by_size as by_size_of};
 ghost use Rattle.turning.specs.Fine.{half_start as half_start_of, is_carried as is_carried_at, repeat_term as repeat_term_at, repeat_sum as repeat_sum_at, symbol_sum as symbol_sum_at, slot_sum as slot_sum_at, prefix_sum as prefix_sum_of, fit as fit_of, best_fit as best_fit_of, fine_turn as fine_turn_of};
 
@@ -9,6 +10,7 @@ use crate::at_turn::Turned;
 use crate::order::by_size;
 use crate::table::w_at;
 use cs_num::Cpx;
+use lte_types::{HALF_FRAME_LENGTH, Half, Prefix};
 
 // The rest of a turn by m, by the primary signal at place t: -64 to 63.
 pub(crate) fn fine_turn(turned: &Turned, t: usize) -> i16
@@ -72,14 +74,15 @@ fn prefix_sum(turned: &Turned, t: usize) -> Cpx
 fn half_start(t: usize) -> usize
     requires { t < 19600 }
     ensures value { result ≡ half_start_of t }
-    ensures early { result < 9600 }
+    ensures early { result < half_frame_length }
 {
-    (t + 8768) % 9600
+    let primary = Half::Zero.primary_start() as usize;
+    (t + (HALF_FRAME_LENGTH - primary)) % HALF_FRAME_LENGTH
 }
 
 // The sum of a slot.
 fn slot_sum(turned: &Turned, start: usize, slot: usize) -> Cpx
-    requires start { start < 9600 }
+    requires start { start < half_frame_length }
     requires slot { slot < 160 }
     ensures value { result ≡ slot_sum_at turned.now start slot }
     ensures small { IsWithin (63 * 2 ^ 31) result }
@@ -100,13 +103,13 @@ fn is_carried(slot: usize, symbol: usize) -> bool
 
 // The sum of a symbol, where it carries something and lies in the recording.
 fn symbol_sum(turned: &Turned, start: usize, slot: usize, symbol: usize) -> Cpx
-    requires start { start < 9600 }
+    requires start { start < half_frame_length }
     requires slot { slot < 160 }
     requires symbol { symbol < 7 }
     ensures value { result ≡ symbol_sum_at turned.now start slot symbol }
     ensures small { IsWithin (9 * 2 ^ 31) result }
 {
-    let u = start + 960 * slot + 10 + 137 * symbol;
+    let u = Prefix::NORMAL.useful_start(start, slot, symbol);
     if counts(turned, u, slot, symbol) {
         repeat_sum(turned, u)
     } else {

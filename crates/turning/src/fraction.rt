@@ -46,7 +46,7 @@ pub(crate) fn best_hit(hits: &[Hit]) -> Option<Hit>
     }
 }
 
-// That of a first hit and others.
+// By a fold, so that of equals the first stays.
 fn best_of(first: &Hit, rest: &[Hit]) -> Hit
     requires first { IsSmallHit first.now }
     requires rest { All IsSmallHit rest.now }

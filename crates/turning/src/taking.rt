@@ -1,6 +1,6 @@
 //! Which candidates are taken.
 
-ghost use Rattle.std.specs.Prelude.{◌≡◌, ◌≤◌, All, IfOk, fold, filter};
+ghost use Rattle.std.specs.Prelude.{◌≡◌, All, IfOk, fold, filter};
 ghost use Rattle.turning.specs.Fractions.{greater, greatest as greatest_of};
 ghost use Rattle.turning.specs.Candidates.{is_far as is_far_from, first_taken};
 ghost use Rattle.turning.specs.Steps.{IsSmallCandidate};
@@ -68,7 +68,7 @@ fn greatest(candidates: &[Candidate]) -> Option<Candidate>
     }
 }
 
-// That of a first candidate and others.
+// By a fold, so that of equals the first stays.
 fn greatest_by(first: &Candidate, rest: &[Candidate]) -> Candidate
     requires first { IsSmallCandidate first.now }
     requires rest { All IsSmallCandidate rest.now }

@@ -30,7 +30,7 @@ fn text_of(alloc: Global, told: &Option<Told>) -> Result<String, AllocError>
     }
 }
 
-// That of a turn.
+// The lines of what is told: hits, turn, cells.
 fn text_of_turn(alloc: Global, told: &Told) -> Result<String, AllocError>
     ensures { IfOk result (λ text. string_bytes text ≡ told_text (Some told.now)) }
 {
@@ -42,21 +42,18 @@ fn text_of_turn(alloc: Global, told: &Told) -> Result<String, AllocError>
     Ok(text)
 }
 
-// The line of a count of hits.
 fn line_of_hits(alloc: Global, hits: usize) -> Result<String, AllocError>
     ensures { IfOk result (λ line. string_bytes line ≡ hits_head hits) }
 {
     format!(in alloc; "hits {hits}\n")
 }
 
-// The line of a turn.
 fn line_of_turn(alloc: Global, told: &Told) -> Result<String, AllocError>
     ensures { IfOk result (λ line. string_bytes line ≡ turn_line told.now.turn) }
 {
     format!(in alloc; "turn {}\n", told.turn)
 }
 
-// The line of a count of cells.
 fn line_of_cells(alloc: Global, cells: usize) -> Result<String, AllocError>
     ensures { IfOk result (λ line. string_bytes line ≡ head_line cells) }
 {

@@ -1,31 +1,33 @@
-use Rattle.std.proofs.Common.{◌≡◌, ◌∙◌, ◌+◌, ◌*◌, arith, sym, ap, ap₂}
+use Rattle.std.proofs.Common.{◌∙◌, ◌+◌, ℕ, arith, ap, ap₂, List}
 use Rattle.cs_num.specs.declared.Cpx.{Cpx}
-use Rattle.cs_num.specs.Complex.{sample_at, value_of, times, conjugate, plus}
-use Rattle.cs_num.proofs.Complex.{plus-within}
-use Rattle.cs_num.proofs.Sums.{complex_sum_below_none}
-use Rattle.sizes.specs.Sizes.{correlation_below}
+use Rattle.cs_num.specs.declared.Sample.{Sample}
+use Rattle.cs_num.specs.Complex.{sample_at, value_of, times, conjugate}
+use Rattle.cs_num.proofs.SoFar.{none_so_far, one_more, has_room, all_so_far}
 use Rattle.pss_search.specs.Correlation.{wave}
-use Rattle.cancel.proofs.WaveSizes.{wave_at, correlation_more}
+use Rattle.cancel.proofs.WaveSizes.{wave_at}
 use Rattle.cancel.proofs.estimating.correlation.Goals as goal
 
+summand : List Sample → ℕ → ℕ → ℕ → Cpx
+summand recording first n2 k = times (sample_at recording (first + k)) (conjugate (wave n2 k))
+
 pub loop-n-init : goal.loop-n-init
-loop-n-init c = record {
-  value = sym (complex_sum_below_none (λ k. times (sample_at c.args.recording.now (c.args.first + k)) (conjugate (wave c.args.n2 k))));
-  small = record { re = omega arith; im = omega arith };
-}
+unfolding summand
+loop-n-init c = none_so_far 134217728 (summand c.args.recording.now c.args.first c.args.n2)
+
+pub add-sum-requires : goal.add-sum-requires
+unfolding summand
+add-sum-requires c = has_room 134217728 c.loop-n.n (summand c.args.recording.now c.args.first c.args.n2) c.loop-n.sum c.term.result c.loop-n.invariant c.term.ensures.small (omega arith)
 
 pub loop-n-preserved : goal.loop-n-preserved
-loop-n-preserved c = record {
-  value =
-      c.add-sum.ensures
-      ∙ ap₂ plus c.loop-n.invariant.value
-      (c.term.ensures.value
-      ∙ ap₂ (λ (a b : Cpx). times a (conjugate b)) (ap value_of c.get.ensures) (wave_at c.args.n2 c.args.signal.now c.loop-n.n _ c.requires.signal (let l = c.loop-n-test.true in omega (arith, l))))
-      ∙ sym (correlation_more c.loop-n.n (λ k. sample_at c.args.recording.now (c.args.first + k)) (wave c.args.n2));
-  small = rw c.add-sum.ensures (plus-within c.loop-n.sum c.term.result (c.loop-n.n * 134217728) 134217728 ((c.loop-n.n + 1) * 134217728) c.loop-n.invariant.small c.term.ensures.small (omega arith));
-}
+unfolding summand
+loop-n-preserved c =
+    one_more 134217728 c.loop-n.n (summand c.args.recording.now c.args.first c.args.n2) c.loop-n.sum c.term.result c.add-sum.result c.loop-n.invariant
+    (c.term.ensures.value
+    ∙ ap₂ (λ (a b : Cpx). times a (conjugate b)) (ap value_of c.get.ensures) (wave_at c.args.n2 c.args.signal.now c.loop-n.n _ c.requires.signal (let l = c.loop-n-test.true in omega (arith, l))))
+    c.term.ensures.small c.add-sum.ensures
 
-pub returns-clause-value : goal.returns-clause-value
-returns-clause-value c =
-    let last : c.loop-n.n ≡ 128 = omega arith in
-    c.loop-n.invariant.value ∙ ap (λ n. correlation_below n (λ k. sample_at c.args.recording.now (c.args.first + k)) (wave c.args.n2)) last
+pub returns : goal.returns
+unfolding summand
+returns c =
+    let all = all_so_far 134217728 c.loop-n.n 128 (summand c.args.recording.now c.args.first c.args.n2) c.loop-n.sum c.loop-n.invariant (omega arith) in
+    record { value = all.0; small = all.1 }

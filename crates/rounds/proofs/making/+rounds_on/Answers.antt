@@ -1,6 +1,17 @@
-use Rattle.std.proofs.Common.{arith}
-use Rattle.rounds.proofs.Following.{next_round}
+use Rattle.std.proofs.Common.{◌-◌, ◌<◌, arith, sym, subst, List}
+use Rattle.lte_types.specs.declared.entry.Entry.{Entry}
+use Rattle.explain.specs.Entries.{IsExplained}
+use Rattle.rounds.proofs.Following.{round_found, next_round}
 use Rattle.rounds.proofs.making.+rounds_on.Goals as goal
+
+pub rounds_on-requires : goal.rounds_on-requires
+rounds_on-requires t c =
+    let round = round_found c.args.recording.now c.args.list.now c.in-Some.round c.in_ok-round.field-0 c.in_ok-round.ensures c.in-Some.is in
+    let some = c.if-most-eq0.false in
+    let less = c.decreases in (
+      omega (arith, some, less),
+      (round.taken.subtracted.after, subst (λ (l : List Entry). IsExplained c.in-Some.round.taken.residue l) (sym c.slice.ensures) round.listed.explained),
+    )
 
 pub returns-in_ok-insert-in-Some : goal.returns-in_ok-insert-in-Some
 returns-in_ok-insert-in-Some t c =

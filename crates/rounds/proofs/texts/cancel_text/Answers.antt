@@ -1,11 +1,8 @@
 use Rattle.std.proofs.Common.{◌≡◌}
 use Rattle.std.specs.Prelude.{string_bytes}
 use Rattle.rounds.specs.Text.{rounds_text, IsCancelText}
-use Rattle.rounds.proofs.Following.{cancelled_valid, if_ok}
+use Rattle.rounds.proofs.Following.{if_ok}
 use Rattle.rounds.proofs.texts.cancel_text.Goals as goal
-
-pub text_of_rounds-requires : goal.text_of_rounds-requires
-text_of_rounds-requires c = cancelled_valid c.args.recording.now c.in_ok-rounds.rounds c.in_ok-rounds.ensures
 
 pub returns : goal.returns
 returns c =

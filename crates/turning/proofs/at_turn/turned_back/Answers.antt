@@ -1,11 +1,11 @@
-use Rattle.std.proofs.Common.{rules, ◌≡◌, ◌*◌, ◌≤◌, ◌∙◌, arith, ap, ap₂, sym, subst, w64, FitsSigned}
+use Rattle.std.proofs.Common.{rules, ◌∙◌, arith, ap, ap₂, sym, subst, w64, FitsSigned}
 use Rattle.std.proofs.lemmas.Int.{to_z-of_z}
-use Rattle.cs_num.specs.Rounding.{rounded}
+use Rattle.cs_num.specs.Rounding.{rounded, nearest_sample}
 use Rattle.std.proofs.lemmas.Nat.{mul-le}
 use Rattle.cs_num.specs.declared.Cpx.{Cpx}
 use Rattle.cs_num.specs.Complex.{IsWithin, size, minus, times, conjugate}
 use Rattle.cs_num.proofs.Complex.{size-le, minus-within, conjugate-within, times-within}
-use Rattle.turning.specs.Turned.{w_of, nearest, turned_back}
+use Rattle.turning.specs.Turned.{w_of, turned_back}
 use Rattle.turning.proofs.at_turn.turned_back.Goals as goal
 
 module _ (c : goal.After-conj) where
@@ -33,4 +33,4 @@ returns c =
     let f : FitsSigned w64 c.args.angle = search rules in
     let value = c.sub-centred.ensures ∙ ap (λ (v : Cpx). minus v c.args.mean) c.from.ensures.0 in
     let turn = c.conj.ensures ∙ ap conjugate (c.w_at.ensures.value ∙ ap w_of (to_z-of_z w64 c.args.angle f)) in
-    c.nearest.ensures ∙ ap nearest (c.round_shift.ensures ∙ ap (λ (z : Cpx). rounded z 14) (c.mul.ensures ∙ ap₂ times value turn))
+    c.nearest_sample.ensures ∙ ap nearest_sample (c.round_shift.ensures ∙ ap (λ (z : Cpx). rounded z 14) (c.mul.ensures ∙ ap₂ times value turn))

@@ -1,4 +1,4 @@
-use Rattle.std.proofs.Common.{rules, ◌≡◌, ◌++◌, ◌∙◌, ap, sym, List, [], Option, Some, None, w16, FitsSigned, append-nil}
+use Rattle.std.proofs.Common.{rules, ◌∙◌, ap, sym, Some, None, w16, FitsSigned, append-nil}
 use Rattle.std.proofs.lemmas.Int.{to_z-of_z}
 use Rattle.turning.specs.Candidates.{candidate_at}
 use Rattle.turning.proofs.OneCandidate.{one_candidate}

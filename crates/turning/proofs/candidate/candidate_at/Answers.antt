@@ -1,10 +1,7 @@
-use Rattle.std.proofs.Common.{◌≡◌, ◌∙◌, ap, sym, subst, List, Option, Some, None, length, ℤ, w16}
-use Rattle.std.specs.Prelude.{All}
+use Rattle.std.proofs.Common.{◌∙◌, ap, sym, Some, None, length, ℤ, w16}
 use Rattle.std.proofs.lemmas.Int.{to_z-of_z}
-use Rattle.lte_types.specs.declared.hit.Hit.{Hit}
-use Rattle.pss_search.specs.Hits.{hits_of}
 use Rattle.turning.specs.Turned.{turned}
-use Rattle.turning.specs.Fractions.{fraction_of, greatest}
+use Rattle.turning.specs.Fractions.{fraction_of}
 use Rattle.turning.specs.Candidates.{candidate_by}
 use Rattle.turning.specs.Steps.{IsSmallHit}
 use Rattle.turning.proofs.Greatest.{greatest_has}

@@ -1,6 +1,6 @@
-use Rattle.std.proofs.Common.{◌≡◌, arith, length}
+use Rattle.std.proofs.Common.{arith, length}
 use Rattle.cs_num.specs.Complex.{sample_at}
-use Rattle.turning.proofs.SoFar.{none_so_far, one_more, has_room, all_so_far}
+use Rattle.cs_num.proofs.SoFar.{none_so_far, one_more, has_room, all_so_far}
 use Rattle.turning.proofs.centred.sum_of.Goals as goal
 
 pub loop-i-init : goal.loop-i-init

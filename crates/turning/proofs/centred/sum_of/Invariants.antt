@@ -1,5 +1,5 @@
 use Rattle.cs_num.specs.Complex.{sample_at}
-use Rattle.turning.proofs.SoFar.{SoFar}
+use Rattle.cs_num.proofs.SoFar.{SoFar}
 use Rattle.turning.proofs.centred.sum_of.Given as goal
 
 abbrev pub invariant-loop-i : goal.invariant-loop-i

@@ -1,4 +1,4 @@
-use Rattle.std.proofs.Common.{rules, ◌≡◌, ◌*◌, ◌≤◌, ◌∙◌, arith, ap, sym, subst, ℤ, to_z, of_z, w16, w64, FitsSigned}
+use Rattle.std.proofs.Common.{rules, ◌≡◌, ◌∙◌, arith, ap, sym, subst, ℤ, to_z, of_z, w16, w64, FitsSigned}
 use Rattle.std.proofs.lemmas.Nat.{mul-le}
 use Rattle.std.proofs.lemmas.Int.{ints, to_z-of_z}
 use Rattle.cs_num.specs.declared.Cpx.{Cpx}

@@ -1,7 +1,7 @@
-use Rattle.std.proofs.Common.{◌≡◌, ◌+◌, ◌*◌, ◌^◌, ◌<◌, ◌≤◌, ◌∙◌, arith, ap}
+use Rattle.std.proofs.Common.{◌*◌, ◌∙◌, arith, ap}
 use Rattle.cs_num.proofs.Complex.{within_more}
 use Rattle.turning.specs.Fine.{half_start, slot_sum, prefix_sum}
-use Rattle.turning.proofs.SoFar.{none_so_far, one_more, has_room, all_so_far}
+use Rattle.cs_num.proofs.SoFar.{none_so_far, one_more, has_room, all_so_far}
 use Rattle.turning.proofs.fine.prefix_sum.Goals as goal
 
 pub loop-slot-init : goal.loop-slot-init

@@ -1,5 +1,5 @@
 use Rattle.turning.specs.Fine.{half_start, slot_sum}
-use Rattle.turning.proofs.SoFar.{SoFar}
+use Rattle.cs_num.proofs.SoFar.{SoFar}
 use Rattle.turning.proofs.fine.prefix_sum.Given as goal
 
 abbrev pub invariant-loop-slot : goal.invariant-loop-slot

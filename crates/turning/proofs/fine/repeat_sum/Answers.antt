@@ -1,6 +1,6 @@
-use Rattle.std.proofs.Common.{◌≡◌, ◌+◌, ◌*◌, ◌^◌, ◌<◌, ◌≤◌, ◌∙◌, arith, ap}
+use Rattle.std.proofs.Common.{arith}
 use Rattle.turning.specs.Fine.{repeat_term, repeat_sum}
-use Rattle.turning.proofs.SoFar.{none_so_far, one_more, has_room, all_so_far}
+use Rattle.cs_num.proofs.SoFar.{none_so_far, one_more, has_room, all_so_far}
 use Rattle.turning.proofs.fine.repeat_sum.Goals as goal
 
 pub loop-i-init : goal.loop-i-init

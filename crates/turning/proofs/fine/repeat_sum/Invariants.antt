@@ -1,5 +1,5 @@
 use Rattle.turning.specs.Fine.{repeat_term}
-use Rattle.turning.proofs.SoFar.{SoFar}
+use Rattle.cs_num.proofs.SoFar.{SoFar}
 use Rattle.turning.proofs.fine.repeat_sum.Given as goal
 
 abbrev pub invariant-loop-i : goal.invariant-loop-i

@@ -1,5 +1,4 @@
-use Rattle.std.proofs.Common.{◌≡◌, ◌+◌, ◌-◌, ◌*◌, ◌<◌, ◌≤◌, ◌∙◌, arith, ap, ap₂, sym, subst, length}
-use Rattle.cs_num.specs.declared.Cpx.{Cpx}
+use Rattle.std.proofs.Common.{◌≡◌, ◌+◌, ◌-◌, ◌∙◌, arith, ap, ap₂, sym, subst}
 use Rattle.cs_num.specs.Complex.{IsWithin, value_of, sample_at, times, conjugate}
 use Rattle.cs_num.proofs.Complex.{conjugate-within, times-within}
 use Rattle.turning.proofs.fine.repeat_term.Goals as goal

@@ -1,6 +1,6 @@
-use Rattle.std.proofs.Common.{◌≡◌, ◌+◌, ◌*◌, ◌^◌, ◌<◌, ◌≤◌, ◌∙◌, arith, ap}
+use Rattle.std.proofs.Common.{arith}
 use Rattle.turning.specs.Fine.{symbol_sum, slot_sum}
-use Rattle.turning.proofs.SoFar.{none_so_far, one_more, has_room, all_so_far}
+use Rattle.cs_num.proofs.SoFar.{none_so_far, one_more, has_room, all_so_far}
 use Rattle.turning.proofs.fine.slot_sum.Goals as goal
 
 pub loop-symbol-init : goal.loop-symbol-init

@@ -1,5 +1,5 @@
 use Rattle.turning.specs.Fine.{symbol_sum}
-use Rattle.turning.proofs.SoFar.{SoFar}
+use Rattle.cs_num.proofs.SoFar.{SoFar}
 use Rattle.turning.proofs.fine.slot_sum.Given as goal
 
 abbrev pub invariant-loop-symbol : goal.invariant-loop-symbol

@@ -1,4 +1,4 @@
-use Rattle.std.proofs.Common.{◌≤◌, arith}
+use Rattle.std.proofs.Common.{arith}
 use Rattle.turning.proofs.AtZero.{stays_at_zero}
 use Rattle.turning.proofs.TurnedSamples.{turned-length}
 use Rattle.turning.proofs.laws.turned_recordings.Goals as goal

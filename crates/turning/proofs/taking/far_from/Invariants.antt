@@ -1,6 +1,5 @@
-use Rattle.std.proofs.Common.{◌≡◌, All, filter, take}
+use Rattle.std.proofs.Common.{◌≡◌, filter, take}
 use Rattle.turning.specs.Candidates.{is_far}
-use Rattle.turning.specs.Steps.{IsSmallCandidate}
 use Rattle.turning.proofs.taking.far_from.Given as goal
 
 abbrev pub invariant-loop-candidate : goal.invariant-loop-candidate

@@ -1,5 +1,4 @@
-use Rattle.std.proofs.Common.{◌≡◌, ◌+◌, ◌-◌, ◌<◌, ◌≤◌, ◌∙◌, arith, ap, sym, subst, List, [], Option, Some, None, vec_len, filter}
-use Rattle.std.specs.Prelude.{All}
+use Rattle.std.proofs.Common.{◌≡◌, ◌-◌, ◌<◌, ◌∙◌, arith, ap, sym, vec_len, filter}
 use Rattle.turning.specs.declared.candidate.Candidate.{Candidate}
 use Rattle.turning.specs.Candidates.{is_far, first_taken}
 use Rattle.turning.specs.Steps.{IsSmallCandidate}

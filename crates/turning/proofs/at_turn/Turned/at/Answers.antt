@@ -1,4 +1,4 @@
-use Rattle.std.proofs.Common.{rules, ◌≡◌, ◌<◌, ◌≤◌, ◌∙◌, arith, ap, ap₂, sym, length, get_or, w64, FitsSigned}
+use Rattle.std.proofs.Common.{rules, ◌∙◌, arith, ap, ap₂, sym, length, get_or, w64, FitsSigned}
 use Rattle.std.proofs.lemmas.Int.{to_z-of_z}
 use Rattle.cs_num.specs.Complex.{sample_at, silence}
 use Rattle.finite.proofs.Lists.{values_below_at}

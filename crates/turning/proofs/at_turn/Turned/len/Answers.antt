@@ -1,4 +1,4 @@
-use Rattle.std.proofs.Common.{◌≡◌, ◌≤◌, ◌∙◌, arith, ap, sym, length}
+use Rattle.std.proofs.Common.{◌≡◌, ◌∙◌, arith, ap, sym, length}
 use Rattle.turning.proofs.TurnedSamples.{turned-length}
 use Rattle.turning.proofs.at_turn.Turned.len.Goals as goal
 

@@ -1,11 +1,11 @@
 use Rattle.std.proofs.Common.{◌∙◌, sym, ap, subst, length, List}
 use Rattle.finite.proofs.Lists.{values_below-length}
 use Rattle.cs_num.specs.declared.Sample.{Sample}
-use Rattle.cell_tx.specs.Sent.{sample_of}
+use Rattle.cs_num.specs.Complex.{sample_of}
 use Rattle.cancel.specs.Residue.{sent_at}
 use Rattle.cancel.specs.Steps.{IsTakenOff}
-use Rattle.cancel.proofs.Chosen.{sent_by, chosen_by, chosen-within, subtracted, not_subtracted}
-use Rattle.cancel.proofs.taking.answer_of.Goals as goal
+use Rattle.cancel.proofs.Chosen.{sent_by, chosen_by, chosen-gain, subtracted, not_subtracted}
+use Rattle.cancel.proofs.taking.subtract_from.Goals as goal
 
 pub best-requires-clause-count : goal.best-requires-clause-count
 best-requires-clause-count c =
@@ -18,7 +18,7 @@ best-requires-clause-count c =
 pub taken_off-requires-clause-gain : goal.taken_off-requires-clause-gain
 taken_off-requires-clause-gain c =
     let is = sent_by c.args.recording.now c.len.result c.args.cell.now c.args.start c.args.sfn c.in_ok-sent.sent.items c.in_ok-sent.ensures c.len.ensures.value in
-    chosen-within c.args.recording.now c.args.cell.now c.args.start c.args.sfn c.in_ok-sent.sent.items is c.in-Some.choice
+    chosen-gain c.args.recording.now c.args.cell.now c.args.start c.args.sfn c.in_ok-sent.sent.items is c.in-Some.choice
     (sym (chosen_by c.args.recording.now c.args.cell.now c.args.start c.as_slice.result.now c.in_ok-sent.sent.items c.deref.result.now c.estimate-middle.result c.as_slice.ensures.value c.deref.ensures.value c.estimate-middle.ensures.value)
     ∙ sym c.best.ensures ∙ c.in-Some.is)
 
