@@ -1,7 +1,7 @@
 -- What `apply` writes has the cells that `tell` tells.
 use Rattle.std.proofs.Common.{◌≡◌, ℕ, ◌<◌, ◌≤◌, suc, ◌+◌, ◌-◌, ◌*◌, ◌/◌, ◌%◌, ◌^◌, ◌++◌, [], ◌∷◌, min, arith, refl, ap, sym, subst, ◌∙◌, List, length, Option, Some, None, ℤ, pos, negsuc, FitsSigned}
 use Rattle.std.specs.Prelude.{All, IfSome}
-use Rattle.std.specs.Int.{w16, saturate_signed, cast_unsigned}
+use Rattle.std.specs.Int.{w16, cast_unsigned}
 use Rattle.std.proofs.lemmas.Int.{ints}
 use Rattle.std.proofs.lemmas.Bool.Decides.{nat_tests}
 use Rattle.std.proofs.lemmas.List.Elements.{All-head, All-tail}
@@ -9,19 +9,17 @@ use Rattle.finite.proofs.Lists.{values_below-All}
 use Rattle.cs_num.specs.declared.Cpx.{Cpx}
 use Rattle.cs_num.specs.declared.Sample.{Sample}
 use Rattle.cs_num.specs.Complex.{silence}
+use Rattle.cs_num.specs.Rounding.{nearest_sample}
+use Rattle.cs_num.proofs.Samples.{in_16_bits-fits}
 use Rattle.sample_file.specs.Recording.{component_of, samples_of, sample_bytes, bytes_of, IsRecording}
 use Rattle.turning.specs.declared.telling.Told.{Told}
-use Rattle.turning.specs.Turned.{nearest, turned_back, turned_at, turned}
+use Rattle.turning.specs.Turned.{turned_back, turned_at, turned}
 use Rattle.turning.specs.Telling.{HasCells, IsTold, IsApplied, turn_of}
 use Rattle.turning.specs.Laws.{Has16Bits, ToldCellsAreThere, TurnedIsRecording}
 use Rattle.lte_top.specs.Applied.{HasCellsTold, WhatIsAppliedIsTold}
 
-saturated : (z : ℤ) → FitsSigned w16 (saturate_signed w16 z)
-saturated (pos n) = record { sfits = omega arith }
-saturated (negsuc n) = record { sfits = omega arith }
-
-nearest_fits : (z : Cpx) → Has16Bits (nearest z)
-nearest_fits z = record { re = saturated z.re; im = saturated z.im }
+nearest_fits : (z : Cpx) → Has16Bits (nearest_sample z)
+nearest_fits z = record { re = in_16_bits-fits z.re; im = in_16_bits-fits z.im }
 
 turned_at_fits : (recording : List Sample) (m : ℤ) (i : ℕ) → Has16Bits (turned_at recording m i)
 unfolding turned_at turned_back

@@ -3,7 +3,7 @@ use Rattle.std.proofs.Common.{◌≡◌, ℕ, List, ap, sym, ◌∙◌, refl}
 use Rattle.cs_num.specs.declared.Sample.{Sample}
 use Rattle.lte_types.specs.declared.entry.Entry.{Entry}
 use Rattle.sample_file.specs.Recording.{bytes_of}
-use Rattle.explain.specs.Reader.{IsEntryAt}
+use Rattle.explain.specs.Entries.{IsEntryAt}
 use Rattle.explain.proofs.Listed.{one_list_of, is_one_list}
 use Rattle.pss_search.specs.Hits.{hits_of}
 use Rattle.two_ports.specs.Entries.{IsEntryOfTwo}

@@ -4,8 +4,8 @@ use Rattle.std.specs.Prelude.{nat_abs, IfOk}
 use Rattle.std.specs.List.{AllPairs, Contains}
 use Rattle.cs_num.specs.declared.Sample.{Sample}
 use Rattle.lte_types.specs.declared.entry.Entry.{Entry}
-use Rattle.cell_tx.specs.Clean.{IsClean, start_of, number_at_start}
-use Rattle.cell_tx.specs.Sent.{gain_of}
+use Rattle.lte_types.specs.Timing.{start_of, number_at_start}
+use Rattle.cell_tx.specs.Clean.{IsClean}
 use Rattle.explain.specs.Entries.{IsBefore}
 use Rattle.explain.proofs.Kept.{before_after}
 use Rattle.capture_make.specs.declared.made.Made.{Made}
@@ -73,9 +73,9 @@ clean_of n made m clean =
     let t = made.sent in
     let eps = nat_abs made.bound in
     subst (λ z. IsClean made.recording (plan n) (number n) (offset n) z eps) m.gain_is
-    (subst (λ o. IsClean made.recording (plan n) (number n) o (gain_of t.gain) eps) m.offset_is
-    (subst (λ s. IsClean made.recording (plan n) s t.offset (gain_of t.gain) eps) m.number_is
-    (subst (λ p. IsClean made.recording p t.sfn t.offset (gain_of t.gain) eps) m.plan_is clean)))
+    (subst (λ o. IsClean made.recording (plan n) (number n) o t.gain eps) m.offset_is
+    (subst (λ s. IsClean made.recording (plan n) s t.timing.offset t.gain eps) m.number_is
+    (subst (λ p. IsClean made.recording p t.timing.sfn t.timing.offset t.gain eps) m.plan_is clean)))
 
 holds_one : (n : ℕ) (made : Made) (entries : List Entry) → IsMade n made → IsCleanlyMade made → IsListOfCells made.recording entries → Holds (cell_of OnePort n) entries
 holds_one n made entries m clean l =
@@ -95,8 +95,8 @@ clean_of_two n made m clean =
     let second = gain_at made 1 in
     let eps = nat_abs made.bound in
     subst (λ o. IsCleanOfPorts made.recording (plan n) (number n) o first second eps) m.offset_is
-    (subst (λ s. IsCleanOfPorts made.recording (plan n) s made.offset first second eps) m.number_is
-    (subst (λ p. IsCleanOfPorts made.recording p made.sfn made.offset first second eps) m.plan_is clean))
+    (subst (λ s. IsCleanOfPorts made.recording (plan n) s made.timing.offset first second eps) m.number_is
+    (subst (λ p. IsCleanOfPorts made.recording p made.timing.sfn made.timing.offset first second eps) m.plan_is clean))
 
 holds_two : (n : ℕ) (made : TwoMade) (entries : List Entry) → IsMadeOfTwo n made → IsCleanlyMadeOfTwo made → IsListOfTwo made.recording entries → Holds (cell_of TwoPorts n) entries
 holds_two n made entries m clean l =
@@ -110,17 +110,17 @@ holds_two n made entries m clean l =
 
 -- with the extended prefix
 clean_of_long : (n : ℕ) (made : LongMade) → IsMadeLong n made → IsCleanlyMadeOfLong made →
-    IsCleanOfLong made.recording made.plan (number n) (offset n) (gain_of made.gain) (nat_abs made.bound)
+    IsCleanOfLong made.recording made.plan (number n) (offset n) made.gain (nat_abs made.bound)
 clean_of_long n made m clean =
-    let gain = gain_of made.gain in
+    let gain = made.gain in
     let eps = nat_abs made.bound in
     subst (λ o. IsCleanOfLong made.recording made.plan (number n) o gain eps) m.offset_is
-    (subst (λ s. IsCleanOfLong made.recording made.plan s made.offset gain eps) m.number_is clean)
+    (subst (λ s. IsCleanOfLong made.recording made.plan s made.timing.offset gain eps) m.number_is clean)
 
 holds_long : (n : ℕ) (made : LongMade) (entries : List Entry) → IsMadeLong n made → IsCleanlyMadeOfLong made → IsListOfLong made.recording entries → Holds (cell_of LongPrefix n) entries
 holds_long n made entries m clean l =
     let p = m.plan_is in
-    let held = l.holds made.plan (number n) (offset n) (gain_of made.gain) (nat_abs made.bound) (is_identity n made.plan p) (clean_of_long n made m clean) in
+    let held = l.holds made.plan (number n) (offset n) made.gain (nat_abs made.bound) (is_identity n made.plan p) (clean_of_long n made m clean) in
     let sent = held.sent.block in
     record {
       entry = held.entry;

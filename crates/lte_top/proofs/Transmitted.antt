@@ -2,10 +2,11 @@
 use Rattle.std.proofs.Common.{◌≡◌, ℕ, ◌*◌, List, [], ◌∷◌, length, pos, refl, ap, sym, subst, ◌∙◌, arith, length-append}
 use Rattle.finite.proofs.Lists.{values_below-length}
 use Rattle.cs_num.specs.declared.Sample.{Sample}
+use Rattle.cs_num.specs.Complex.{sample_of}
 use Rattle.cs_outside.specs.Outside.{SourceTold}
 use Rattle.sample_file.specs.Recording.{sample_bytes, bytes_of}
 use Rattle.cell_tx.specs.declared.transmission.Transmission.{Transmission}
-use Rattle.cell_tx.specs.Sent.{received, gain_of, sample_of}
+use Rattle.cell_tx.specs.Sent.{received}
 use Rattle.std.specs.Prelude.{codes}
 use Rattle.cell_json.specs.Description.{number_at}
 use Rattle.cell_json.specs.Reading.{Describes}
@@ -27,7 +28,7 @@ bytes_length (s ∷ samples) =
 
 sent_length : (t : Transmission) → length (sent_samples t) ≡ t.samples
 unfolding sent_samples
-sent_length t = values_below-length t.samples (λ i. sample_of (received t.cell t.sfn t.offset (gain_of t.gain) i))
+sent_length t = values_below-length t.samples (λ i. sample_of (received t.cell t.timing.sfn t.timing.offset t.gain i))
 
 -- the transmissions that the same bytes describe have as many samples
 same_count : (bytes : List ℕ) (s t : Transmission) → Describes bytes s → Describes bytes t → s.samples ≡ t.samples

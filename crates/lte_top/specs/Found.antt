@@ -5,10 +5,10 @@ use Rattle.sample_file.specs.declared.form.SampleForm.TheVariants.{Ci16}
 use Rattle.sample_file.specs.Recording.{samples_of}
 use Rattle.cell_tx.specs.declared.cell.CellPlan.{CellPlan}
 use Rattle.cell_tx.specs.declared.transmission.Transmission.{Transmission}
-use Rattle.cell_tx.specs.Sent.{gain_of}
-use Rattle.cell_tx.specs.Clean.{IsClean, start_of, number_at_start}
+use Rattle.cell_tx.specs.Clean.{IsClean}
 use Rattle.cell_json.specs.Reading.{Describes}
 use Rattle.lte_types.specs.Codes.{duration_word, resource_word}
+use Rattle.lte_types.specs.Timing.{start_of, number_at_start}
 use Rattle.report.specs.Lines.{place_part, block_part, sib1_lines}
 use Rattle.report.specs.Pieces.{IsPiece}
 use Rattle.lte_top.specs.declared.form.Form.TheVariants.{Report as Reports, Transmit}
@@ -29,8 +29,8 @@ sent_lines plan first number = sent_line plan first number ++ sib1_lines plan.si
 pub record IsFoundIn (description : List ℕ) (samples : List Sample) (text : List ℕ) : Type 0 where
   pub t : Transmission
   pub describes : Describes description t
-  pub clean : IsClean samples t.cell t.sfn t.offset (gain_of t.gain) 0
-  pub lines : IsPiece (sent_lines t.cell (start_of t.offset) (number_at_start t.sfn t.offset)) text
+  pub clean : IsClean samples t.cell t.timing.sfn t.timing.offset t.gain 0
+  pub lines : IsPiece (sent_lines t.cell (start_of t.timing.offset) (number_at_start t.timing.sfn t.timing.offset)) text
 
 -- a law: what `transmit` writes for a description, read as a recording, is clean, and what `search` writes
 -- for it has the cell's lines

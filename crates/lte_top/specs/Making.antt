@@ -7,7 +7,7 @@ use Rattle.lte_types.specs.declared.sib1.Sib1.{Sib1}
 use Rattle.lte_types.specs.declared.sib1_reason.Sib1Reason.{Sib1Reason}
 use Rattle.lte_types.specs.declared.sib1_reason.Sib1Reason.TheVariants.{LongPrefix}
 use Rattle.lte_types.specs.Block.{HasFields}
-use Rattle.cell_tx.specs.Clean.{start_of, number_at_start}
+use Rattle.lte_types.specs.Timing.{start_of, number_at_start}
 use Rattle.capture_make.specs.declared.made.Made.{Made}
 use Rattle.capture_make.specs.Made.{IsMade}
 use Rattle.capture_make.specs.Recipe.{plan, number, offset}

@@ -2,7 +2,6 @@
 #![tactic(auto)]
 
 mod certificates;
-mod fields;
 mod form;
 mod laws;
 mod making;

@@ -1,23 +1,17 @@
 //! The lists of recordings by number.
 
-ghost use Rattle.std.specs.Prelude.{◌≡◌, ◌↔◌, ◌≤◌, ℕ, All, IfOk, IsTrue, length, string_bytes};
-ghost use Rattle.cell_tx.specs.Clean.{IsOffset, start_of, number_at_start};
+ghost use Rattle.std.specs.Prelude.{◌≡◌, ◌↔◌, ◌≤◌, ℕ, IfOk, IsTrue, length, string_bytes};
 ghost use Rattle.capture_make.specs.Recipe.{plan as plan_of};
-ghost use Rattle.report.specs.Lines.{IsValidEntry};
 ghost use Rattle.lte_top.specs.Making.{Counts, IsSentCell, TellsHeld, cell_of, IsMadeList, IsMadeText};
 
-use crate::fields::same_answer;
 use crate::form::Sender;
 use crate::reporting::list_of;
 use crate::searching::{list_of_long, list_of_two};
-use capture_make::{number, offset, plan};
+use capture_make::{plan, timing};
 use explain::EntryList;
-use lte_types::{Bandwidth, Duration, Entry, FRAME_LENGTH, Resource, Sfn, Sib1, Sib1Reason};
+use lte_types::{Bandwidth, Duration, Entry, Resource, Sfn, Sib1, Sib1Reason, same_answers};
 use report::{line_of_made, text};
 use std::alloc::{AllocError, Global};
-
-// The samples of a frame.
-const FRAME: u32 = FRAME_LENGTH as u32;
 
 // What is sent of a cell: where its first frame begins, that frame's number, and what its entry tells.
 #[derive(Drop)]
@@ -42,8 +36,7 @@ pub(crate) fn made_text(alloc: Global, sender: Sender, n: u32) -> Result<String,
 
 // The list of recording number n of a sender.
 fn made_list(alloc: Global, sender: Sender, n: u32) -> Result<EntryList, AllocError>
-    ensures list { IfOk result (IsMadeList sender n) }
-    ensures valid { IfOk result (All IsValidEntry) }
+    ensures { IfOk result (IsMadeList sender n) }
 {
     match sender {
         Sender::OnePort => list_of(alloc, &capture_make::make(alloc, n)?.recording),
@@ -59,8 +52,8 @@ fn sent_cell(sender: Sender, n: u32) -> SentCell
     let plan = plan(n);
     SentCell {
         identity: plan.identity,
-        first: first_start(offset(n)),
-        number: first_number(number(n), offset(n)),
+        first: timing(n).start(),
+        number: timing(n).number_at_start(),
         ports: ports_of(sender),
         duration: plan.duration,
         resource: plan.resource,
@@ -91,7 +84,6 @@ fn told_by(sender: Sender, sib1: Sib1) -> Result<Sib1, Sib1Reason>
 
 // The line of a sent cell, and the text of a list.
 fn text_of_sent(alloc: Global, cell: &SentCell, list: &[Entry]) -> Result<String, AllocError>
-    requires { All IsValidEntry list.now }
     ensures { IfOk result (λ text. TellsHeld cell.now list.now (string_bytes text)) }
 {
     let held = count_held(list, cell);
@@ -129,24 +121,5 @@ fn is_sent_cell(entry: &Entry, cell: &SentCell) -> bool
         && mib.resource == cell.resource
         && mib.upper as u16 == cell.number.value() / 4
         && mib.spare == cell.spare
-        && same_answer(&entry.sib1, &cell.sib1)
-}
-
-// The first sample at which a frame begins, where what is sent begins at an offset into one.
-fn first_start(offset: u32) -> u32
-    requires { IsOffset offset }
-    ensures { result ≡ start_of offset }
-{
-    (FRAME - offset) % FRAME
-}
-
-// The number of that frame.
-fn first_number(sfn: Sfn, offset: u32) -> Sfn
-    ensures { result ≡ number_at_start sfn offset }
-{
-    if offset == 0 {
-        sfn
-    } else {
-        Sfn::modulo(sfn.value() as u64 + 1)
-    }
+        && same_answers(&entry.sib1, &cell.sib1)
 }

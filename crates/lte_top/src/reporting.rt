@@ -6,7 +6,7 @@ ghost use Rattle.sample_file.specs.Reading.{HasReadRecording};
 ghost use Rattle.sample_file.specs.Recording.{IsRecording};
 ghost use Rattle.pss_search.specs.Hits.{IsInSpan, hits_of as all_hits};
 ghost use Rattle.report.specs.Hits.{ids_text};
-ghost use Rattle.report.specs.Lines.{report_text as list_text, IsValidEntry};
+ghost use Rattle.report.specs.Lines.{report_text as list_text};
 ghost use Rattle.clean_air.specs.Clean.{IsListOfCells};
 ghost use Rattle.lte_top.specs.Forms.{recording};
 ghost use Rattle.lte_top.specs.Reports.{identified, json_line, IsReport, IsTextOfList, IsTextOfEvidence};
@@ -124,7 +124,6 @@ fn text_of_list(alloc: Global, recording: &Recording) -> Result<String, AllocErr
     text(alloc, list.slice())
 }
 
-// The same as a line of JSON.
 fn json_of_list(alloc: Global, recording: &Recording) -> Result<String, AllocError>
     ensures { IfOk result (λ line.
         IsTextOfList IsListOfCells json_line recording.now (string_bytes line)) }
@@ -146,8 +145,7 @@ fn evidence_text(alloc: Global, recording: &Recording) -> Result<String, AllocEr
 
 // The list of a recording.
 pub(crate) fn list_of(alloc: Global, recording: &Recording) -> Result<EntryList, AllocError>
-    ensures list { IfOk result (IsListOfCells recording.now) }
-    ensures valid { IfOk result (All IsValidEntry) }
+    ensures { IfOk result (IsListOfCells recording.now) }
 {
     let (mut work, mut list) = room_for_list(alloc)?;
     explain_clean(recording, &mut work, &mut list);

@@ -1,10 +1,10 @@
 //! The lists of a recording by other rules.
 
-ghost use Rattle.std.specs.Prelude.{◌≤◌, All, IfOk, IfErr, string_bytes};
+ghost use Rattle.std.specs.Prelude.{◌≤◌, IfOk, IfErr, string_bytes};
 ghost use Rattle.cs_outside.specs.Outside.{SourceTold};
 ghost use Rattle.sample_file.specs.Recording.{IsRecording};
 ghost use Rattle.sample_file.specs.declared.form.SampleForm.TheVariants.{Ci16};
-ghost use Rattle.report.specs.Lines.{report_text as list_text, IsValidEntry};
+ghost use Rattle.report.specs.Lines.{report_text as list_text};
 ghost use Rattle.lte_top.specs.declared.form.Form.TheVariants.{Search as Searches};
 ghost use Rattle.lte_top.specs.Forms.{recording};
 ghost use Rattle.lte_top.specs.Reports.{IsTextOfList};
@@ -55,7 +55,6 @@ fn text_of_search(
     }
 }
 
-// That of the cells with two antenna ports.
 fn text_of_two(alloc: Global, recording: &Recording) -> Result<String, AllocError>
     ensures { IfOk result (λ text.
         IsTextOfList IsListOfTwo list_text recording.now (string_bytes text)) }
@@ -64,7 +63,6 @@ fn text_of_two(alloc: Global, recording: &Recording) -> Result<String, AllocErro
     text(alloc, list.slice())
 }
 
-// That of the cells with the extended prefix.
 fn text_of_long(alloc: Global, recording: &Recording) -> Result<String, AllocError>
     ensures { IfOk result (λ text.
         IsTextOfList IsListOfLong list_text recording.now (string_bytes text)) }
@@ -75,8 +73,7 @@ fn text_of_long(alloc: Global, recording: &Recording) -> Result<String, AllocErr
 
 // The list of the cells of a recording with two antenna ports.
 pub(crate) fn list_of_two(alloc: Global, recording: &Recording) -> Result<EntryList, AllocError>
-    ensures list { IfOk result (IsListOfTwo recording.now) }
-    ensures valid { IfOk result (All IsValidEntry) }
+    ensures { IfOk result (IsListOfTwo recording.now) }
 {
     let mut work = Workspace2::new(alloc)?;
     let mut list = EntryList::new(alloc)?;
@@ -86,8 +83,7 @@ pub(crate) fn list_of_two(alloc: Global, recording: &Recording) -> Result<EntryL
 
 // The list of its cells with the extended prefix.
 pub(crate) fn list_of_long(alloc: Global, recording: &Recording) -> Result<EntryList, AllocError>
-    ensures list { IfOk result (IsListOfLong recording.now) }
-    ensures valid { IfOk result (All IsValidEntry) }
+    ensures { IfOk result (IsListOfLong recording.now) }
 {
     let mut work = Workspace3::new(alloc)?;
     let mut list = EntryList::new(alloc)?;

@@ -70,7 +70,7 @@ pub fn run_in_memory(
     run(alloc, words, source, sink)
 }
 
-// The same, by the way each answer comes.
+// The one body of all forms of words, for either program; that it runs the program follows from these clauses.
 fn run_words<S: Source, K: Sink>(
     alloc: Global,
     program: Program,

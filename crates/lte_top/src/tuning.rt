@@ -1,6 +1,6 @@
 //! The frequency offset of a recording.
 
-ghost use Rattle.std.specs.Prelude.{◌≡◌, ◌≤◌, IfOk, IfErr, string_bytes};
+ghost use Rattle.std.specs.Prelude.{◌≤◌, IfOk, IfErr};
 ghost use Rattle.cs_outside.specs.Outside.{SourceTold};
 ghost use Rattle.sample_file.specs.Recording.{IsRecording};
 ghost use Rattle.sample_file.specs.declared.form.SampleForm.TheVariants.{Ci16};
@@ -33,7 +33,6 @@ pub(crate) fn tuned_bytes<S: Source>(
     Ok(bytes)
 }
 
-// The same of a recording.
 fn bytes_of_tune(alloc: Global, tune: Tune, recording: &Recording) -> Result<Vec<u8>, AllocError>
     requires { IsRecording recording.now }
     ensures { IfOk result (λ bytes. IsTuned tune recording.now bytes.items) }
