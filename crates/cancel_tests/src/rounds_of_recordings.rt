@@ -1,4 +1,4 @@
-ghost use Rattle.std.specs.Prelude.{◌≡◌, ◌≤◌, IfOk, length};
+ghost use Rattle.std.specs.Prelude.{◌≡◌, IfOk, length};
 
 use cell_json::read;
 use cell_tx::send_all;
@@ -114,7 +114,7 @@ fn a_wider_cell_has_no_plan(rt: HostRuntime) -> Result<(), Fail> {
 // Whether a round took off the plain cell with this gain, with these powers before and after.
 fn is_round(round: &Round, gain: (i16, i16), before: u128, after: u128) -> bool {
     round.id.value() == 0
-        && round.taken.gain == gain
+        && (round.taken.gain.re(), round.taken.gain.im()) == gain
         && round.taken.greatest == 999
         && round.taken.before == before
         && round.taken.after == after

@@ -1,6 +1,6 @@
-ghost use Rattle.std.specs.Prelude.{◌≤◌, length};
+ghost use Rattle.std.specs.Prelude.{◌≤◌};
 
-use lte_types::{Mnc, Plmn, Plmns, Schedule, SiMessage, Sib1, Sib1Reason, Sibs};
+use lte_types::{Mnc, Period, Plmn, Plmns, Schedule, SiMessage, Sib1, Sib1Reason, Sibs, Window};
 use sib1::{read, write};
 use std::test::Fail;
 use uper::Writer;
@@ -15,7 +15,7 @@ fn example() -> Sib1 {
     });
     let mut scheduling = Schedule::new();
     scheduling.push(SiMessage {
-        period: 0,
+        period: Period::Rf8,
         sibs: Sibs::new(),
     });
     Sib1 {
@@ -32,7 +32,7 @@ fn example() -> Sib1 {
         band: 1,
         scheduling,
         tdd: None,
-        window: 0,
+        window: Window::Ms1,
         tag: 0,
         extended: false,
     }
@@ -149,7 +149,7 @@ fn five_further_networks_take_11_bits_each(rt: HostRuntime) {
 }
 
 // An entry with so many blocks of a code.
-fn message(period: u8, code: u8, count: u32) -> SiMessage {
+fn message(period: Period, code: u8, count: u32) -> SiMessage {
     let mut sibs = Sibs::new();
     for _ in 0..count {
         sibs.push(code);
@@ -162,7 +162,9 @@ fn a_usual_block_has_163_bits(rt: HostRuntime) {
     let mut fields = example();
     fields.p_max = Some(23);
     for count in 1..4_u32 {
-        fields.scheduling.push(message(0, 0, (count + 1) / 2));
+        fields
+            .scheduling
+            .push(message(Period::Rf8, 0, (count + 1) / 2));
     }
     assert!(rt; size_of(&fields) == Some(163));
 }
@@ -171,10 +173,10 @@ fn a_usual_block_has_163_bits(rt: HostRuntime) {
 fn a_text_of_more_than_1000_bits_is_not_written(rt: HostRuntime) {
     let mut fields = example();
     for _ in 0..3_u32 {
-        fields.scheduling.push(message(6, 79, 31));
+        fields.scheduling.push(message(Period::Rf512, 79, 31));
     }
     assert!(rt; size_of(&fields) == Some(881));
-    fields.scheduling.push(message(6, 79, 14));
+    fields.scheduling.push(message(Period::Rf512, 79, 14));
     assert!(rt; size_of(&fields) == None);
 }
 
@@ -207,7 +209,7 @@ fn has_levels_of_full(fields: &Sib1) -> bool {
         && fields.p_max == Some(-30)
         && fields.band == 64
         && fields.tdd == Some((6, 8))
-        && fields.window == 6
+        && fields.window == Window::Ms40
         && fields.tag == 31
         && !fields.extended
 }
@@ -239,9 +241,9 @@ fn has_networks_of_full(fields: &Sib1) -> bool {
 fn has_entries_of_full(fields: &Sib1) -> bool {
     match fields.scheduling.slice() {
         [early, late] => {
-            early.period == 1
+            early.period == Period::Rf16
                 && early.sibs.slice() == [0_u8, 79].as_slice()
-                && late.period == 6
+                && late.period == Period::Rf512
                 && late.sibs.slice() == [15_u8, 16].as_slice()
         }
         _ => false,

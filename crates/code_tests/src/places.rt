@@ -3,10 +3,10 @@ ghost use Rattle.grid_map.specs.Group.{is_group};
 
 use arrayvec::ArrayVec;
 use grid_map::{
-    Place, Reg, control_groups, pbch, pcfich, pdcch, pdsch, pdsch_order, places_of_groups,
-    quadruplet, quadruplets_permute, reg_places,
+    Place, Reg, block_places, control_groups, pbch, pcfich, pdcch, pdsch, places_of_groups,
+    quadruplet, quadruplets_permute, reg_places, shared_count, shared_order, shared_place,
 };
-use lte_types::{Bandwidth, CellId, Cfi, Duration, Mib, Resource};
+use lte_types::{Assignment, Bandwidth, CellId, Cfi, Duration, Mib, Resource};
 
 // Whether this is point i of the broadcast channel of a cell.
 fn is_point_of_broadcast(identity: u16, i: usize, symbol: u8, k: u8) -> bool {
@@ -250,5 +250,49 @@ fn points_of_the_shared_channel(rt: HostRuntime) {
             "point {i} of {identity}"
         );
     }
-    pdsch_order();
+    shared_order();
+}
+
+// Point i of the shared channel of a cell with two antenna ports; none for one that it does not have.
+fn point_of_two(identity: u16, cfi: u8, start: u8, blocks: u8, i: usize) -> Option<Place> {
+    let id = CellId::new(identity)?;
+    let assignment = Assignment::new(Cfi::new(cfi)?, start, blocks)?;
+    if i >= shared_count(true, &assignment) {
+        return None;
+    }
+    Some(shared_place(true, id, &assignment, i))
+}
+
+#[test]
+fn points_of_the_shared_channel_with_two_ports(rt: HostRuntime) {
+    for (identity, cfi, start, blocks, i, symbol, k) in [
+        (0, 2, 0, 6, 71, 3, 71),
+        (0, 2, 0, 6, 72, 4, 1),
+        (0, 2, 0, 6, 167, 7, 71),
+        (0, 2, 0, 6, 168, 8, 0),
+        (0, 2, 0, 6, 575, 13, 71),
+        (503, 3, 2, 1, 2, 4, 27),
+        (503, 3, 2, 1, 8, 7, 24),
+        (503, 3, 2, 1, 52, 11, 24),
+        (503, 3, 2, 1, 83, 13, 35),
+    ] {
+        let point = point_of_two(identity, cfi, start, blocks, i);
+        assert!(rt;
+            point == Some(Place { symbol, k }),
+            "point {i} of {identity}"
+        );
+    }
+    assert!(rt; point_of_two(503, 3, 2, 1, 84).is_none());
+}
+
+#[test]
+fn places_of_a_block(rt: HostRuntime) {
+    for (two, cfi, count) in [
+        (false, 2, 102),
+        (false, 3, 90),
+        (true, 2, 96),
+        (true, 3, 84),
+    ] {
+        assert!(rt; block_places(two, cfi) == count, "indicator {cfi}");
+    }
 }

@@ -1,4 +1,4 @@
-ghost use Rattle.std.specs.Prelude.{◌≡◌, ◌+◌, ◌*◌, ◌^◌, ◌<◌, ◌≤◌, All, IfSome, length};
+ghost use Rattle.std.specs.Prelude.{◌≡◌, ◌+◌, ◌*◌, ◌^◌, ◌<◌, All, IfSome, length};
 ghost use Rattle.cs_num.specs.Complex.{IsWithin};
 ghost use Rattle.dci.specs.Format1A.{IsGrant};
 
@@ -11,7 +11,7 @@ use clean_air::{
 use cs_num::{Cpx, Sample, clamp_div};
 use dci::Grant;
 use explain::{EntryList, Workspace};
-use lte_types::{Bandwidth, CellId, Cfi, Duration, Mib, Resource, Sfn, Sib1};
+use lte_types::{Bandwidth, CellId, Cfi, Duration, Mib, Period, Resource, Sfn, Sib1, Window};
 use observe::symbol;
 use pdcch::candidate;
 use pdsch::{MOST_VALUES, values};
@@ -47,9 +47,9 @@ fn plan() -> CellPlan {
             cell: 0x0abcdef,
             q_rx: -61,
             band: 20,
-            window: 5,
+            window: Window::Ms20,
             tag: 9,
-            ..information(3)
+            ..information(Period::Rf64)
         },
     }
 }

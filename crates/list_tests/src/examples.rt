@@ -2,7 +2,7 @@ ghost use Rattle.std.specs.Prelude.{◌≡◌, IfOk, length};
 
 use cell_tx::{Cell, CellPlan};
 use cs_num::Sample;
-use lte_types::{Mnc, Plmn, Plmns, Schedule, SiMessage, Sib1, Sibs};
+use lte_types::{Mnc, Period, Plmn, Plmns, Schedule, SiMessage, Sib1, Sibs, Window};
 use sample_file::Recording;
 use std::alloc::{AllocError, Global};
 use std::test::Fail;
@@ -20,8 +20,8 @@ pub fn silent_recording(alloc: Global) -> Result<Recording, Fail> {
     Ok(recording)
 }
 
-// A network with one message of system information, of this code of its period.
-pub fn information(period: u8) -> Sib1 {
+// A network with one message of system information, of this period.
+pub fn information(period: Period) -> Sib1 {
     let mut plmns = Plmns::new();
     plmns.push(Plmn {
         mcc: Some([0, 0, 1]),
@@ -47,7 +47,7 @@ pub fn information(period: u8) -> Sib1 {
         band: 1,
         scheduling,
         tdd: None,
-        window: 0,
+        window: Window::Ms1,
         tag: 0,
         extended: false,
     }

@@ -5,7 +5,7 @@ use crate::examples::{cell_of, information, silence};
 use cancel::{Subtracted, best_candidate_is_one, clean_gain_is_candidate, subtract};
 use cell_tx::{CellPlan, Port, port_sequence};
 use cs_num::{Cpx, Sample, clamp_div};
-use lte_types::{Duration, Resource, Sfn};
+use lte_types::{Duration, Period, Resource, Sfn, Timing};
 use sample_file::Recording;
 use std::alloc::Global;
 use std::test::Fail;
@@ -22,7 +22,7 @@ fn plain_plan(identity: u16) -> CellPlan {
         blocks: 6,
         mcs: 4,
         column: 2,
-        sib1: information(0),
+        sib1: information(Period::Rf8),
     }
 }
 
@@ -66,12 +66,13 @@ fn add(
 {
     let cell = cell_of(plan).ok_or("a plan that is sent")?;
     let sfn = Sfn::new(place.0).ok_or("in range")?;
+    let timing = Timing::new(sfn, place.1).ok_or("in range")?;
     let gain = Sample {
         re: gain.0,
         im: gain.1,
     };
     let mut sent = silence(alloc)?;
-    port_sequence(&cell, Port::Only, sfn, place.1, &mut sent);
+    port_sequence(&cell, Port::Only, timing, &mut sent);
     for i in 0..57_600 {
         samples[i] = added(samples[i], sent[i], gain);
     }
@@ -119,7 +120,7 @@ fn samples_of(taken: &Subtracted) -> [(i16, i16); 3] {
 }
 
 fn is_told(taken: &Subtracted, told: &Told) -> bool {
-    taken.gain == told.gain
+    (taken.gain.re(), taken.gain.im()) == told.gain
         && taken.greatest == told.greatest
         && taken.before == told.before
         && taken.after == told.after

@@ -1,6 +1,6 @@
 // The values of pairs are those of a second program, `scripts/second_pairs.py`, and the recordings by number those of
 // `two_tx`, whose samples `scripts/second_two_ports.py` gives too.
-ghost use Rattle.std.specs.Prelude.{◌≡◌, ◌*◌, ◌^◌, ◌<◌, ◌≤◌, All, IfOk, length};
+ghost use Rattle.std.specs.Prelude.{◌≡◌, ◌*◌, ◌^◌, ◌<◌, All, IfOk, length};
 ghost use Rattle.cs_num.specs.Complex.{IsWithin};
 
 use crate::examples::{silence, silent_recording};
@@ -8,7 +8,7 @@ use capture_make::plan;
 use cell_tx::{Cell, CellPlan, Port, port_sequence};
 use cs_num::{Cpx, Sample};
 use explain::EntryList;
-use lte_types::{CellId, Entry, Sfn, Sib1};
+use lte_types::{CellId, Entry, Sfn, Sib1, Timing};
 use sample_file::Recording;
 use std::alloc::{AllocError, Global};
 use std::test::Fail;
@@ -137,7 +137,7 @@ fn is_list_of(list: &EntryList, n: u32, start: u32, sfn: u16) -> bool {
 #[test]
 fn recording_7_has_its_cell(rt: HostRuntime) -> Result<(), Fail> {
     let made = make(rt.alloc(), 7)?;
-    assert!(rt; made.gains == [(8, 7), (7, -7)]);
+    assert!(rt; made.gains == [Cpx { re: 8, im: 7 }, Cpx { re: 7, im: -7 }]);
     let list = list_of(rt.alloc(), &made.recording)?;
     assert!(rt; is_list_of(&list, 7, 19_193, 8));
     Ok(())
@@ -181,15 +181,22 @@ fn receive(samples: &mut [Sample], second: &[Sample])
     }
 }
 
+// A recording that begins with frame 512.
+fn from_512() -> Timing {
+    Timing {
+        sfn: Sfn::modulo(512),
+        offset: 0,
+    }
+}
+
 // 30 ms of both ports of the cell of number 7, from frame 512 on.
 fn both_ports(alloc: Global, cell: &Cell) -> Result<Vec<Sample>, AllocError>
     ensures { IfOk result (λ samples. length samples.items ≡ 57600) }
 {
     let mut samples = silence(alloc)?;
     let mut second = silence(alloc)?;
-    let sfn = Sfn::modulo(512);
-    port_sequence(cell, Port::First, sfn, 0, &mut samples);
-    port_sequence(cell, Port::Second, sfn, 0, &mut second);
+    port_sequence(cell, Port::First, from_512(), &mut samples);
+    port_sequence(cell, Port::Second, from_512(), &mut second);
     receive(&mut samples, &second);
     Ok(samples)
 }

@@ -4,6 +4,8 @@
 #[cfg(test)]
 mod bits;
 #[cfg(test)]
+mod cells_and_frames;
+#[cfg(test)]
 mod complex_numbers;
 #[cfg(test)]
 mod fields;
@@ -23,5 +25,7 @@ mod seen;
 mod sources_and_sinks;
 #[cfg(test)]
 mod synchronisation;
+#[cfg(test)]
+mod timings;
 #[cfg(test)]
 mod transforms;

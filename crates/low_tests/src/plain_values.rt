@@ -1,6 +1,6 @@
 use lte_types::{
-    Bandwidth, CellId, Cfi, Duration, Mib, Mnc, Plmn, Plmns, Resource, Schedule, Sfn, SiMessage,
-    Sib1, Sibs,
+    Assignment, Bandwidth, CellId, Cfi, Duration, Mib, Mnc, Period, Plmn, Plmns, Resource,
+    Schedule, Sfn, SiMessage, Sib1, Sib1Reason, Sibs, Window, same_answers,
 };
 use std::process::Abort;
 
@@ -25,6 +25,31 @@ fn control_formats_are_1_to_3(rt: HostRuntime) {
     assert!(rt; Cfi::new(0).is_none());
     assert!(rt; Cfi::new(4).is_none());
     assert!(rt; Cfi::new(3).expect(&rt, "in range").value() == 3);
+}
+
+// Whether these resource blocks can be assigned; their parts are then what they were made of.
+fn can_be_assigned(cfi: u8, start: u8, blocks: u8) -> bool {
+    let Some(indicator) = Cfi::new(cfi) else {
+        return false;
+    };
+    match Assignment::new(indicator, start, blocks) {
+        Some(assignment) => {
+            assignment.cfi().value() == cfi
+                && assignment.start() == start
+                && assignment.blocks() == blocks
+        }
+        None => false,
+    }
+}
+
+#[test]
+fn assignments_are_of_some_of_six_blocks(rt: HostRuntime) {
+    for (cfi, start, blocks) in [(2, 0, 6), (3, 5, 1), (2, 2, 3)] {
+        assert!(rt; can_be_assigned(cfi, start, blocks));
+    }
+    for (cfi, start, blocks) in [(1, 0, 6), (2, 1, 6), (3, 6, 0), (3, 0, 0), (2, 250, 10)] {
+        assert!(rt; !can_be_assigned(cfi, start, blocks));
+    }
 }
 
 fn has_greatest_fields(mib: &Mib) -> bool {
@@ -66,10 +91,10 @@ fn lists_take_so_many_items(rt: HostRuntime) {
     }
     assert!(rt; !plmns.push(network(None, 6)));
     let mut schedule = Schedule::new();
-    for period in 0..32_u8 {
-        assert!(rt; schedule.push(message(period)));
+    for _ in 0..32_u8 {
+        assert!(rt; schedule.push(message(Period::Rf8)));
     }
-    assert!(rt; !schedule.push(message(32)) && schedule.slice().len() == 32);
+    assert!(rt; !schedule.push(message(Period::Rf8)) && schedule.slice().len() == 32);
 }
 
 fn network(mcc: Option<[u8; 3]>, digit: u8) -> Plmn {
@@ -80,18 +105,20 @@ fn network(mcc: Option<[u8; 3]>, digit: u8) -> Plmn {
     }
 }
 
-fn message(period: u8) -> SiMessage {
+fn message(period: Period) -> SiMessage {
     SiMessage {
         period,
         sibs: Sibs::new(),
     }
 }
 
-fn information(rt: &impl Abort, mcc: Option<[u8; 3]>, digit: u8, period: u8) -> Sib1 {
+fn information(rt: &impl Abort, mcc: Option<[u8; 3]>, digit: u8, code: u8) -> Sib1 {
     let mut plmns = Plmns::new();
     assert!(rt; plmns.push(network(mcc, digit)));
     let mut scheduling = Schedule::new();
-    assert!(rt; scheduling.push(message(period)));
+    let mut message = message(Period::Rf512);
+    assert!(rt; message.sibs.push(code));
+    assert!(rt; scheduling.push(message));
     Sib1 {
         plmns,
         tac: 65535,
@@ -106,7 +133,7 @@ fn information(rt: &impl Abort, mcc: Option<[u8; 3]>, digit: u8, period: u8) -> 
         band: 64,
         scheduling,
         tdd: Some((6, 8)),
-        window: 6,
+        window: Window::Ms40,
         tag: 31,
         extended: false,
     }
@@ -115,19 +142,103 @@ fn information(rt: &impl Abort, mcc: Option<[u8; 3]>, digit: u8, period: u8) -> 
 #[test]
 fn fields_reach_to_the_ends_of_their_ranges(rt: HostRuntime) {
     let mcc = Some([2, 6, 2]);
-    // At last no country code, no digit and no period.
-    for (mcc, digit, period, valid) in [
-        (mcc, 9, 6, true),
-        (None, 9, 6, false),
-        (mcc, 10, 6, false),
-        (mcc, 9, 7, false),
+    // At last no country code, no digit and no code of a block.
+    for (mcc, digit, code, valid) in [
+        (mcc, 9, 79, true),
+        (None, 9, 79, false),
+        (mcc, 10, 79, false),
+        (mcc, 9, 80, false),
     ] {
-        assert!(rt; information(&rt, mcc, digit, period).valid() == valid);
+        assert!(rt; information(&rt, mcc, digit, code).valid() == valid);
     }
-    let mut far = information(&rt, mcc, 9, 6);
+    let mut far = information(&rt, mcc, 9, 79);
     far.q_rx = -71;
     assert!(rt; !far.valid());
-    let mut wide = information(&rt, mcc, 9, 6);
+    let mut wide = information(&rt, mcc, 9, 79);
     wide.cell = 268_435_456;
     assert!(rt; !wide.valid());
+}
+
+// Whether a window has this code, these milliseconds and this name, and each tells it.
+fn is_window(code: u8, milliseconds: u8, name: &str) -> bool {
+    match (
+        Window::from_code(code),
+        Window::of_milliseconds(milliseconds),
+    ) {
+        (Some(window), Some(other)) => {
+            window == other
+                && window.code() == code
+                && window.milliseconds() == milliseconds
+                && window.name() == name
+        }
+        _ => false,
+    }
+}
+
+// Whether a period has this code, these frames and this name, and each tells it.
+fn is_period(code: u8, frames: u16, name: &str) -> bool {
+    match (Period::from_code(code), Period::of_frames(frames)) {
+        (Some(period), Some(other)) => {
+            period == other
+                && period.code() == code
+                && period.frames() == frames
+                && period.name() == name
+        }
+        _ => false,
+    }
+}
+
+#[test]
+fn windows_are_those_of_the_standard(rt: HostRuntime) {
+    for (code, milliseconds, name) in [
+        (0, 1, "ms1"),
+        (1, 2, "ms2"),
+        (2, 5, "ms5"),
+        (3, 10, "ms10"),
+        (4, 15, "ms15"),
+        (5, 20, "ms20"),
+        (6, 40, "ms40"),
+    ] {
+        assert!(rt; is_window(code, milliseconds, name));
+    }
+    assert!(rt; Window::from_code(7).is_none());
+    assert!(rt; Window::of_milliseconds(30).is_none());
+}
+
+#[test]
+fn periods_are_those_of_the_standard(rt: HostRuntime) {
+    for (code, frames, name) in [
+        (0, 8, "rf8"),
+        (1, 16, "rf16"),
+        (2, 32, "rf32"),
+        (3, 64, "rf64"),
+        (4, 128, "rf128"),
+        (5, 256, "rf256"),
+        (6, 512, "rf512"),
+    ] {
+        assert!(rt; is_period(code, frames, name));
+    }
+    assert!(rt; Period::from_code(7).is_none());
+    assert!(rt; Period::of_frames(6).is_none());
+}
+
+#[test]
+fn a_copy_is_the_same(rt: HostRuntime) {
+    let fields = information(&rt, Some([2, 6, 2]), 1, 0);
+    let copy = fields.copy();
+    assert!(rt; copy == fields);
+    assert!(rt; copy.plmns.slice().len() == 1 && copy.scheduling.slice().len() == 1);
+    assert!(rt; copy != information(&rt, Some([2, 6, 2]), 2, 0));
+    assert!(rt; copy != information(&rt, Some([2, 6, 2]), 1, 1));
+}
+
+#[test]
+fn answers_are_compared(rt: HostRuntime) {
+    let fields = Ok(information(&rt, None, 1, 0));
+    let none = Err(Sib1Reason::NotSib1);
+    assert!(rt; same_answers(&fields, &Ok(information(&rt, None, 1, 0))));
+    assert!(rt; !same_answers(&fields, &Ok(information(&rt, None, 1, 1))));
+    assert!(rt; !same_answers(&fields, &none));
+    assert!(rt; same_answers(&none, &Err(Sib1Reason::NotSib1)));
+    assert!(rt; !same_answers(&none, &Err(Sib1Reason::NotDecoded)));
 }

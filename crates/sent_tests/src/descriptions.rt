@@ -1,6 +1,6 @@
 use cell_json::{JsonError, read};
 use cell_tx::{CellError, CellPlan, Transmission};
-use lte_types::{Duration, Mnc, Plmn, Resource, SiMessage, Sib1};
+use lte_types::{Duration, Mnc, Period, Plmn, Resource, SiMessage, Sib1, Window};
 use std::alloc::{AllocError, Global};
 use std::test::Fail;
 
@@ -274,26 +274,26 @@ fn has_plain_levels(sib1: &Sib1) -> bool {
         && sib1.q_offset == None
         && sib1.p_max == None
         && sib1.band == 1
-        && sib1.window == 0
+        && sib1.window == Window::Ms1
         && sib1.tag == 0
 }
 
-// Whether an entry of the schedule has this code of its period, and so many blocks.
-fn is_message(entry: &SiMessage, period: u8, count: usize) -> bool {
+// Whether an entry of the schedule has this period, and so many blocks.
+fn is_message(entry: &SiMessage, period: Period, count: usize) -> bool {
     entry.period == period && entry.sibs.slice().len() == count
 }
 
 fn has_plain_schedule(sib1: &Sib1) -> bool {
     match sib1.scheduling.slice() {
-        [entry] => is_message(entry, 0, 0),
+        [entry] => is_message(entry, Period::Rf8, 0),
         _ => false,
     }
 }
 
 fn is_plain(transmission: &Transmission) -> bool {
     let plan = transmission.cell.plan();
-    transmission.sfn.value() == 0
-        && transmission.offset == 0
+    transmission.timing.sfn.value() == 0
+        && transmission.timing.offset == 0
         && has_plain_assignment(plan)
         && has_plain_network(&plan.sib1)
         && has_plain_identities(&plan.sib1)
@@ -325,10 +325,10 @@ fn has_other_assignment(plan: &CellPlan) -> bool {
 }
 
 fn is_other(transmission: &Transmission) -> bool {
-    transmission.sfn.value() == 1023
-        && transmission.offset == 19_199
+    transmission.timing.sfn.value() == 1023
+        && transmission.timing.offset == 19_199
         && transmission.samples == 1_920_000
-        && transmission.gain == (-27, 7)
+        && (transmission.gain.re(), transmission.gain.im()) == (-27, 7)
         && has_other_plan(transmission.cell.plan())
         && has_other_assignment(transmission.cell.plan())
 }
@@ -361,13 +361,14 @@ fn has_ends_of_levels(sib1: &Sib1) -> bool {
         && sib1.q_offset == Some(8)
         && sib1.p_max == Some(33)
         && sib1.band == 64
-        && sib1.window == 6
+        && sib1.window == Window::Ms40
         && sib1.tag == 31
 }
 
 fn has_ends_of_the_schedule(sib1: &Sib1) -> bool {
     match sib1.scheduling.slice() {
-        [first, second] => is_message(first, 6, 2) && is_message(second, 1, 0),
+        [first, second] => is_message(first, Period::Rf512, 2)
+            && is_message(second, Period::Rf16, 0),
         _ => false,
     }
 }

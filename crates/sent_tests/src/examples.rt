@@ -1,9 +1,9 @@
 use cs_num::Sample;
-use lte_types::{Mnc, Plmn, Plmns, Schedule, SiMessage, Sib1, Sibs};
+use lte_types::{Mnc, Period, Plmn, Plmns, Schedule, SiMessage, Sib1, Sibs, Window};
 use sample_file::Recording;
 
 // An entry of the schedule.
-pub fn message(period: u8, codes: &[u8]) -> SiMessage {
+pub fn message(period: Period, codes: &[u8]) -> SiMessage {
     let mut sibs = Sibs::new();
     for code in codes {
         sibs.push(*code);
@@ -20,7 +20,7 @@ pub fn plain_block() -> Sib1 {
         reserved: false,
     });
     let mut scheduling = Schedule::new();
-    scheduling.push(message(0, &[]));
+    scheduling.push(message(Period::Rf8, &[]));
     Sib1 {
         plmns,
         tac: 1,
@@ -35,7 +35,7 @@ pub fn plain_block() -> Sib1 {
         band: 1,
         scheduling,
         tdd: None,
-        window: 0,
+        window: Window::Ms1,
         tag: 0,
         extended: false,
     }

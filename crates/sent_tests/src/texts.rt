@@ -1,9 +1,7 @@
-ghost use Rattle.std.specs.Prelude.{◌↔◌, All, IfOk, IsTrue};
-ghost use Rattle.report.specs.Lines.{IsValidEntry};
-
 use crate::examples::{message, plain_block};
 use lte_types::{
-    Bandwidth, CellId, Duration, Entry, Half, Hit, Mib, Mnc, Plmn, Resource, Sfn, Sib1, Sib1Reason,
+    Bandwidth, CellId, Duration, Entry, Half, Hit, Mib, Mnc, Period, Plmn, Resource, Sfn, Sib1,
+    Sib1Reason, Window,
 };
 use report::{IdentifiedHit, json, text, text_of_answers, text_of_hits, text_of_ids};
 use std::alloc::{AllocError, Global};
@@ -31,25 +29,10 @@ fn entry_of(
     })
 }
 
-fn is_valid(entry: &Entry) -> bool
-    ensures { IsTrue result ↔ IsValidEntry entry.now }
-{
-    match &entry.sib1 {
-        Ok(sib1) => sib1.valid(),
-        Err(_) => true,
-    }
-}
-
 // The list of one cell.
-fn list_of(entry: Option<Entry>) -> Result<[Entry; 1], Fail>
-    ensures { IfOk result (λ list. All IsValidEntry list) }
-{
+fn list_of(entry: Option<Entry>) -> Result<[Entry; 1], Fail> {
     let entry = entry.ok_or("out of range")?;
-    if is_valid(&entry) {
-        Ok([entry])
-    } else {
-        Err("not valid".into())
-    }
+    Ok([entry])
 }
 
 // The report of one cell.
@@ -92,7 +75,7 @@ fn scheduled_entry() -> Option<Entry> {
         tag: 7,
         ..plain_block()
     };
-    sib1.scheduling.push(message(0, &[0, 2]));
+    sib1.scheduling.push(message(Period::Rf8, &[0, 2]));
     entry_of(7, 19_193, 8, mib, Ok(sib1))
 }
 
@@ -119,7 +102,7 @@ fn full_entry() -> Option<Entry> {
         p_max: Some(-30),
         band: 64,
         tdd: Some((6, 8)),
-        window: 6,
+        window: Window::Ms40,
         tag: 31,
         extended: true,
         ..plain_block()
@@ -129,7 +112,7 @@ fn full_entry() -> Option<Entry> {
         mnc: Mnc::Three([2, 0, 9]),
         reserved: true,
     });
-    sib1.scheduling.push(message(6, &[79]));
+    sib1.scheduling.push(message(Period::Rf512, &[79]));
     entry_of(503, 19_199, 1023, mib, Ok(sib1))
 }
 
@@ -316,7 +299,7 @@ fn crowded_entry() -> Option<Entry> {
     let mib = Mib::new(Bandwidth::N6, Duration::Normal, Resource::One, 0, 0)?;
     let mut sib1 = plain_block();
     for _ in 0..31_u32 {
-        sib1.scheduling.push(message(3, &CODES));
+        sib1.scheduling.push(message(Period::Rf64, &CODES));
     }
     entry_of(0, 0, 0, mib, Ok(sib1))
 }

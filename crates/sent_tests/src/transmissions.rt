@@ -6,8 +6,10 @@ use cell_tx::{
     Cell, CellError, CellPlan, Transmission, accepted_are_sendable, frame, frames_stand, sample,
     send, send_all, sent_is_clean, sizes, symbols_stand,
 };
-use cs_num::Sample;
-use lte_types::{Duration, Mnc, Plmn, Plmns, Resource, Schedule, Sfn, Sib1};
+use cs_num::{Gain, Sample};
+use lte_types::{
+    Duration, Mnc, Period, Plmn, Plmns, Resource, Schedule, Sfn, Sib1, Timing, Window,
+};
 use std::alloc::{AllocError, Global};
 use std::test::Fail;
 
@@ -162,10 +164,10 @@ fn usual_block() -> Sib1 {
         reserved: false,
     });
     let mut scheduling = Schedule::new();
-    scheduling.push(message(0, &[]));
-    scheduling.push(message(1, &[0]));
-    scheduling.push(message(2, &[1]));
-    scheduling.push(message(3, &[2, 3]));
+    scheduling.push(message(Period::Rf8, &[]));
+    scheduling.push(message(Period::Rf16, &[0]));
+    scheduling.push(message(Period::Rf32, &[1]));
+    scheduling.push(message(Period::Rf64, &[2, 3]));
     Sib1 {
         plmns,
         tac: 0x1234,
@@ -174,7 +176,7 @@ fn usual_block() -> Sib1 {
         p_max: Some(23),
         band: 20,
         scheduling,
-        window: 5,
+        window: Window::Ms20,
         tag: 9,
         ..plain_block()
     }
@@ -236,10 +238,12 @@ fn turned() -> Result<Transmission, CellError>
     })?;
     Ok(Transmission {
         cell,
-        sfn: Sfn::modulo(1023),
-        offset: 19_199,
+        timing: Timing {
+            sfn: Sfn::modulo(1023),
+            offset: 19_199,
+        },
         samples: 57_600,
-        gain: (-11, 23),
+        gain: Gain::new(-11, 23).ok_or(CellError::Gain)?,
     })
 }
 

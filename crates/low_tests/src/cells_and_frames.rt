@@ -1,0 +1,61 @@
+use lte_types::{CellId, CellPlace, Frames};
+
+// Whether a cell can stand at this sample; its place is then what it was made of.
+fn can_stand_at(start: u32) -> bool {
+    let id = CellId::of(2, 1);
+    match CellPlace::new(id, start) {
+        Some(place) => place.id() == id && place.start() == start,
+        None => false,
+    }
+}
+
+#[test]
+fn first_frames_start_within_one_frame(rt: HostRuntime) {
+    assert!(rt; can_stand_at(0));
+    assert!(rt; can_stand_at(19_199));
+    assert!(rt; !can_stand_at(19_200));
+}
+
+// Whether frames can be looked at together; their parts are then what they were made of.
+fn can_be_looked_at(count: u8, first: u8, phase: u8) -> bool {
+    match Frames::new(count, first, phase) {
+        Some(frames) => {
+            frames.count() == count && frames.first() == first && frames.phase() == phase
+        }
+        None => false,
+    }
+}
+
+#[test]
+fn frames_are_of_one_period_and_of_the_first_eight(rt: HostRuntime) {
+    for (count, first, phase) in [(1, 0, 3), (4, 4, 0), (2, 6, 2), (1, 7, 0)] {
+        assert!(rt; can_be_looked_at(count, first, phase));
+    }
+    for (count, first, phase) in [
+        (0, 0, 0),
+        (2, 0, 3),
+        (1, 0, 4),
+        (4, 5, 0),
+        (1, 8, 0),
+        (255, 255, 255),
+    ] {
+        assert!(rt; !can_be_looked_at(count, first, phase));
+    }
+}
+
+// Whether a block with these upper bits, told by one frame, gives the first frame this number.
+fn is_numbered(first: u8, phase: u8, upper: u8, number: u16) -> bool {
+    match Frames::new(1, first, phase) {
+        Some(frames) => frames.first_number(upper).value() == number,
+        None => false,
+    }
+}
+
+// 4 * 2 + 1 = 9, three frames before it 6; 4 * 255 + 3 = 1,023; and before frame 0 comes frame 1,023.
+#[test]
+fn the_first_frame_is_numbered_by_the_block(rt: HostRuntime) {
+    assert!(rt; is_numbered(0, 1, 2, 9));
+    assert!(rt; is_numbered(3, 1, 2, 6));
+    assert!(rt; is_numbered(0, 3, 255, 1_023));
+    assert!(rt; is_numbered(1, 0, 0, 1_023));
+}
