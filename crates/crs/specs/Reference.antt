@@ -2,6 +2,8 @@
 use Rattle.std.specs.Prelude.{ℕ, ◌+◌, ◌-◌, ◌*◌, ◌/◌, ◌%◌, ◌^◌, ◌<◌, ◌≤◌, Bool, ◌&&◌, ◌||◌, nat_eq, if◌then◌else◌, List, map}
 use Rattle.std.specs.List.{range_with_len}
 use Rattle.cs_num.specs.declared.Cpx.{Cpx}
+use Rattle.lte_types.specs.declared.carrier.Carrier.{Carrier}
+use Rattle.lte_types.specs.declared.carrier.Carrier.TheVariants.{OnePort, TwoPorts, LongPrefix}
 use Rattle.gold.specs.Gold.{gold_bit}
 use Rattle.crs.specs.Qpsk.{point}
 use Rattle.crs.specs.declared.pattern.Pattern.{Pattern}
@@ -17,6 +19,12 @@ port_1 = record { later = 4; shift = 3; prefix = 1 }
 -- port 0 with the extended prefix
 abbrev pub long_prefix : Pattern
 long_prefix = record { later = 3; shift = 0; prefix = 0 }
+
+-- the pattern of a port of a carrier
+abbrev pub pattern_of : Carrier → ℕ → Pattern
+pattern_of OnePort port = port_0
+pattern_of TwoPorts port = if nat_eq port 0 then port_0 else port_1
+pattern_of LongPrefix port = long_prefix
 
 -- ---- for any pattern
 

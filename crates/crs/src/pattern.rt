@@ -1,7 +1,10 @@
 //! What reference signals differ in, by antenna port and cyclic prefix.
 
-ghost use Rattle.std.specs.Prelude.{◌≡◌, [], ◌∷◌};
-ghost use Rattle.crs.specs.Reference.{port_0, port_1, long_prefix};
+ghost use Rattle.std.specs.Prelude.{◌≡◌, ◌<◌, [], ◌∷◌};
+ghost use Rattle.lte_types.specs.Carrier.{ports_of};
+ghost use Rattle.crs.specs.Reference.{port_0, port_1, long_prefix, pattern_of};
+
+use lte_types::Carrier;
 
 /// What the reference signals of an antenna port with a cyclic prefix differ in (TS 36.211 section 6.10.1).
 #[derive(Clone, Copy, PartialEq, Eq)]
@@ -35,6 +38,24 @@ impl Pattern {
         shift: 0,
         prefix: 0,
     };
+
+    /// The pattern of a port of a carrier: port 0, or port 0 or 1 of two.
+    pub fn of(carrier: Carrier, port: u8) -> Pattern
+        requires { port < ports_of carrier }
+        ensures { result ≡ pattern_of carrier port }
+    {
+        match carrier {
+            Carrier::OnePort => Pattern::FIRST_PORT,
+            Carrier::TwoPorts => {
+                if port == 0 {
+                    Pattern::FIRST_PORT
+                } else {
+                    Pattern::SECOND_PORT
+                }
+            }
+            Carrier::LongPrefix => Pattern::LONG_PREFIX,
+        }
+    }
 }
 
 /// The patterns in use: those of port 0 and of port 1 with the normal prefix, and that of port 0 with the extended

@@ -1,6 +1,8 @@
 //! Points of two bits (TS 36.211 section 7.1.2).
 
 ghost use Rattle.std.specs.Prelude.{◌≡◌};
+ghost use Rattle.cs_num.specs.Complex.{square};
+ghost use Rattle.crs.specs.Power.{point_power};
 ghost use Rattle.crs.specs.Qpsk.{component, point, IsPoint};
 
 use cs_num::Cpx;
@@ -16,10 +18,11 @@ fn component_of(bit: bool) -> i64
 }
 
 /// The point of two bits by QPSK: the first in the real part, the second in the imaginary part.
-/// Each component is 90 for the bit 0 and -90 for the bit 1.
+/// Each component is 90 for the bit 0 and -90 for the bit 1, and the square of the point's size is `POINT_POWER`.
 pub fn point(first: bool, second: bool) -> Cpx
     ensures point { result ≡ point first second }
     ensures full { IsPoint result }
+    ensures power { square result ≡ point_power }
 {
     Cpx {
         re: component_of(first),

@@ -13,6 +13,6 @@ pub record AreBlocks (start blocks : ℕ) : Type 0 where
   pub inside : start + blocks ≤ 6
 
 -- these, with an indicator that leaves room for the candidate of the common search space
-pub record IsAssignment (cfi start blocks : ℕ) : Type 0 where
-  pub wide : 2 ≤ cfi
-  pub are : AreBlocks start blocks
+pub record IsAssignment (assigned : Assigned) : Type 0 where
+  pub wide : 2 ≤ assigned.cfi
+  pub are : AreBlocks assigned.start assigned.blocks

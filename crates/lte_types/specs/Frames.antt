@@ -1,8 +1,9 @@
--- Frames of a cell that follow one another in one period of four, in which its master block stays the same (TS 36.331 section
--- 5.2.1.2). (own)
+-- Frames of a cell that follow one another in one period of four, in which its master block stays the same (TS 36.331
+-- section 5.2.1.2). (own)
 use Rattle.std.specs.Prelude.{ℕ, ◌+◌, ◌-◌, ◌*◌, ◌%◌, ◌≤◌}
 
--- how many there are, the number of the first of them from the cell's first frame on, and the place of the first in its period
+-- how many there are, the number of the first of them from the cell's first frame on, and the place of the first in its
+-- period
 pub record Frames : Type 0 where
   pub count : ℕ
   pub first : ℕ
@@ -18,7 +19,7 @@ pub record AreFrames (frames : Frames) : Type 0 where
   pub period : frames.phase + frames.count ≤ 4
   pub known : frames.first + frames.count ≤ 8
 
--- the number of the cell's first frame, by the upper bits of the frame number in the block: four times these and the phase, and as
--- much less as there are frames before
+-- the number of the cell's first frame, by the upper bits of the frame number in the block: four times these and the
+-- phase, and as much less as there are frames before
 abbrev pub first_number : ℕ → Frames → ℕ
 first_number upper frames = (4 * upper + frames.phase + (1024 - frames.first)) % 1024

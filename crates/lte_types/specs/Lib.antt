@@ -1,5 +1,6 @@
 pub mod Assignment
 pub mod Block
+pub mod Carrier
 pub mod CellPlace
 pub mod Codes
 pub mod Frames

@@ -1,7 +1,10 @@
 -- The parts of SystemInformationBlockType1 (TS 36.331 section 6.2.2).
+use Rattle.std.specs.Prelude.{ℕ, ℤ, Bool, List, Option}
 use Rattle.lte_types.specs.declared.cell_access_related_info.CellAccessRelatedInfo.{CellAccessRelatedInfo}
 use Rattle.lte_types.specs.declared.cell_selection_info.CellSelectionInfo.{CellSelectionInfo}
+use Rattle.lte_types.specs.declared.si_message.SiMessage.{SiMessage}
 use Rattle.lte_types.specs.declared.sib1.Sib1.{Sib1}
+use Rattle.lte_types.specs.declared.window.Window.{Window}
 
 -- who may use the cell
 abbrev pub access_of : Sib1 → CellAccessRelatedInfo
@@ -18,3 +21,27 @@ access_of sib1 = record {
 -- its levels
 abbrev pub selection_of : Sib1 → CellSelectionInfo
 selection_of sib1 = record { q_rx = sib1.q_rx; q_offset = sib1.q_offset }
+
+-- the block of its parts in their order: who may use the cell, its levels, p-Max, freqBandIndicator, the schedule,
+-- TDD-Config, the window, systemInfoValueTag, and whether there is an extension
+abbrev pub sib1_of :
+    CellAccessRelatedInfo → CellSelectionInfo → Option ℤ → ℕ → List SiMessage → Option (ℕ × ℕ) → Window → ℕ → Bool →
+    Sib1
+sib1_of access selection p_max band scheduling tdd window tag extended = record {
+  plmns = access.plmns;
+  tac = access.tac;
+  cell = access.cell;
+  barred = access.barred;
+  intra = access.intra;
+  csg = access.csg;
+  csg_identity = access.csg_identity;
+  q_rx = selection.q_rx;
+  q_offset = selection.q_offset;
+  p_max = p_max;
+  band = band;
+  scheduling = scheduling;
+  tdd = tdd;
+  window = window;
+  tag = tag;
+  extended = extended;
+}

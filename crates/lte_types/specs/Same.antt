@@ -1,4 +1,4 @@
--- The same fields: what `==` computes of them.
+-- What `==` computes: true exactly where all fields are the same.
 use Rattle.std.specs.Prelude.{Bool}
 use Rattle.lte_types.specs.declared.plmn.Plmn.{Plmn}
 use Rattle.lte_types.specs.declared.si_message.SiMessage.{SiMessage}

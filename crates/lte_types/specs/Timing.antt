@@ -1,5 +1,5 @@
--- Where in the endless sequence of a cell's frames a recording begins: in the frame with a number, at a sample of it, its
--- offset. (own)
+-- Where in the endless sequence of a cell's frames a recording begins: in the frame with a number, at a sample of it,
+-- its offset. (own)
 use Rattle.std.specs.Prelude.{◌≡◌, ℕ, ◌+◌, ◌-◌, ◌/◌, ◌%◌, ◌<◌, ◌≤◌, nat_eq, if◌then◌else◌}
 use Rattle.lte_types.specs.Numerology.{frame_length}
 

@@ -23,14 +23,14 @@ impl Model for Assignment {
 
     ghost view = { λ a. record { cfi = a.cfi; start = a.start; blocks = a.blocks } };
 
-    ghost invariant = { λ a. IsAssignment a.cfi a.start a.blocks };
+    ghost invariant = { λ a. IsAssignment (record { cfi = a.cfi; start = a.start; blocks = a.blocks }) };
 }
 
 impl Assignment {
     /// `blocks` resource blocks from `start` on; `None` exactly where the indicator is 1, `blocks` is 0 or
     /// `start` + `blocks` is above 6.
     pub fn new(cfi: Cfi, start: u8, blocks: u8) -> Option<Self>
-        ensures valid { IsSome result ↔ IsAssignment cfi start blocks }
+        ensures valid { IsSome result ↔ IsAssignment (record { cfi = cfi; start = start; blocks = blocks }) }
         ensures value { IfSome result (λ a. a ≡ record { cfi = cfi; start = start; blocks = blocks }) }
     {
         if cfi.value() >= 2 && blocks >= 1 && start <= 6 && blocks <= 6 - start {
@@ -43,7 +43,7 @@ impl Assignment {
     /// The control format indicator, 2 or 3.
     pub fn cfi(&self) -> Cfi
         ensures value { result ≡ self.now.cfi }
-        ensures valid { IsAssignment self.now.cfi self.now.start self.now.blocks }
+        ensures valid { IsAssignment self.now }
     {
         self.cfi
     }
@@ -51,7 +51,7 @@ impl Assignment {
     /// The first resource block, 0 to 5.
     pub fn start(&self) -> u8
         ensures value { result ≡ self.now.start }
-        ensures valid { IsAssignment self.now.cfi self.now.start self.now.blocks }
+        ensures valid { IsAssignment self.now }
     {
         self.start
     }
@@ -59,7 +59,7 @@ impl Assignment {
     /// How many resource blocks there are, 1 to 6.
     pub fn blocks(&self) -> u8
         ensures value { result ≡ self.now.blocks }
-        ensures valid { IsAssignment self.now.cfi self.now.start self.now.blocks }
+        ensures valid { IsAssignment self.now }
     {
         self.blocks
     }

@@ -4,6 +4,7 @@
 
 mod assignment;
 mod bandwidth;
+mod carrier;
 mod cell_access_related_info;
 mod cell_id;
 mod cell_place;
@@ -32,6 +33,7 @@ mod window;
 
 pub use assignment::Assignment;
 pub use bandwidth::Bandwidth;
+pub use carrier::Carrier;
 pub use cell_access_related_info::CellAccessRelatedInfo;
 pub use cell_id::CellId;
 pub use cell_place::CellPlace;

@@ -1,0 +1,39 @@
+//! How a cell sends its broadcast channel.
+
+ghost use Rattle.std.specs.Prelude.{◌≡◌};
+ghost use Rattle.lte_types.specs.Carrier.{prefix_of, ports_of};
+
+use crate::Prefix;
+
+/// How a cell sends its broadcast channel: by how many antenna ports, and with which cyclic prefix.
+#[derive(Clone, Copy, PartialEq, Eq)]
+pub enum Carrier {
+    /// One antenna port, and the normal cyclic prefix.
+    OnePort,
+    /// Two antenna ports with transmit diversity (TS 36.211 section 6.3.4.3), and the normal cyclic prefix.
+    TwoPorts,
+    /// One antenna port, and the extended cyclic prefix (TS 36.211 section 6.12).
+    LongPrefix,
+}
+
+impl Carrier {
+    /// The cyclic prefix.
+    pub fn prefix(self) -> Prefix
+        ensures { result ≡ prefix_of self }
+    {
+        match self {
+            Carrier::OnePort | Carrier::TwoPorts => Prefix::NORMAL,
+            Carrier::LongPrefix => Prefix::EXTENDED,
+        }
+    }
+
+    /// The count of antenna ports, 1 or 2.
+    pub fn ports(self) -> u8
+        ensures { result ≡ ports_of self }
+    {
+        match self {
+            Carrier::OnePort | Carrier::LongPrefix => 1,
+            Carrier::TwoPorts => 2,
+        }
+    }
+}
