@@ -1,6 +1,6 @@
 -- The finite sums by which the primary signals stand out: their powers, and of each signal against itself or another one, up to 9
 -- samples apart, the correlation of what overlaps, its energy, and the energy of what does not.
-use Rattle.std.proofs.Common.{◌≡◌, ◌≢◌, ℕ, ◌+◌, ◌-◌, ◌*◌, ◌<◌, ◌≤◌, Bool, true, false, arith, refl, ap, ap₂, ◌∙◌, nat_le, nat_eq}
+use Rattle.std.proofs.Common.{◌≡◌, ◌≢◌, ℕ, ◌+◌, ◌-◌, ◌*◌, ◌<◌, ◌≤◌, Bool, true, false, arith, refl, ap, ap₂, subst, ◌∙◌, nat_le, nat_eq}
 use Rattle.std.specs.Prelude.{◌&&◌, ◌||◌}
 use Rattle.std.proofs.lemmas.Bool.{leb-true, and_parts}
 use Rattle.std.proofs.lemmas.Bool.Decides.{nat_tests}
@@ -93,10 +93,6 @@ all_sharp : every_below 3 (λ n2. is_sharp (samples n2)) ≡ true
 unfolding is_sharp sharp_at is_faint re_25 im_25 re_29 im_29 re_34 im_34 re_of im_of samples sum_below total_below every_below
 all_sharp = refl
 
-or_second : (a b : Bool) → a ≡ false → (a || b) ≡ true → b ≡ true
-or_second true b e h = absurd cc
-or_second false b e h = h
-
 apart : (d : ℕ) → d ≢ 9 → nat_eq d 9 ≡ false
 apart d ne = grind (arith, nat_tests)
 
@@ -107,7 +103,7 @@ sharp_tells p q same test = record {
   power = rw (energy_same 128 p q same) (leb-true _ _ parts.0);
   beside = λ d l ne. faint_tells _ _ _ _ _
       (ap (λ (share : ℕ). faint_at share p p d) (ap (λ (n : ℕ). 3 * n) (energy_same 128 p q same)) ∙ faint_same (3 * energy_below 128 q) p p q q d l same same
-      ∙ or_second _ _ (apart d ne) (every_below_at 19 (sharp_at q) parts.1 d l));
+      ∙ subst (λ b. (b || faint_at (3 * energy_below 128 q) q q d) ≡ true) (apart d ne) (every_below_at 19 (sharp_at q) parts.1 d l));
 }
   where
     parts : (nat_le 1990000 (energy_below 128 q) ≡ true) × (every_below 19 (sharp_at q) ≡ true)
@@ -148,4 +144,5 @@ waves_are_apart n2 m2 h k ne =
     let second : m2 < 3 = omega (arith, k) in
     let test = every_below_at 3 (are_apart n2) (every_below_at 3 (λ n2. every_below 3 (are_apart n2)) all_apart n2 first) m2 second in
     let differ : nat_eq n2 m2 ≡ false = grind (arith, nat_tests) in
-    one_way (wave n2) (wave m2) (samples n2) (samples m2) (λ n l. wave_is n2 n first l) (λ n l. wave_is m2 n second l) (or_second _ _ differ test)
+    one_way (wave n2) (wave m2) (samples n2) (samples m2) (λ n l. wave_is n2 n first l) (λ n l. wave_is m2 n second l)
+    (subst (λ b. (b || every_below 19 (apart_at (samples n2) (samples m2))) ≡ true) differ test)

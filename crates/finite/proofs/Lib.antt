@@ -8,3 +8,4 @@ pub mod Tables
 pub mod Counts
 pub mod Items
 pub mod Pieces
+pub mod Zips

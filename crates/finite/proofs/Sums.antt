@@ -114,6 +114,14 @@ total_below-within (suc n) bound f h =
     let before = total_below-within n bound f (λ k l. h k (omega arith)) in
     omega (arith, before, h n (omega arith))
 
+-- terms that are at least so great
+pub total_below-least : (n bound : ℕ) (f : ℕ → ℕ) → ((k : ℕ) → k < n → bound ≤ f k) → n * bound ≤ total_below n f
+unfolding total_below
+total_below-least zero bound f h = omega arith
+total_below-least (suc n) bound f h =
+    let before = total_below-least n bound f (λ k l. h k (omega arith)) in
+    omega (arith, before, h n (omega arith))
+
 pub total_below_split : (n m : ℕ) (f : ℕ → ℕ) → total_below (n + m) f ≡ total_below n f + total_below m (λ k. f (n + k))
 unfolding total_below
 total_below_split n zero f = let e : n + 0 ≡ n = omega arith in rw e (omega arith)
