@@ -2,7 +2,7 @@
 use Rattle.std.proofs.Common.{◌≡◌, ℕ, zero, suc, ◌+◌, ◌*◌, ◌<◌, Bool, List, length, ℤ, pos, ap, sym, subst, ◌∙◌, arith}
 use Rattle.finite.specs.Tables.{sum_at}
 use Rattle.finite.proofs.Lists.{values_below-length, values_below_at}
-use Rattle.sub_block.specs.Places.{spot}
+use Rattle.sub_block.specs.Items.{item}
 use Rattle.turbo_code.specs.declared.rows.Row.{Row}
 use Rattle.turbo_code.specs.Table.{IsRow, interleaver}
 use Rattle.turbo_code.specs.Encoder.{bit_at, parity, tail_x, tail_z, interleaved, coded}
@@ -23,19 +23,19 @@ in_order_at row values i inside = values_below_at (λ i. at values (interleaver 
 
 -- ---- the tails
 
--- the six tail bits of a word stand at place p and the next
+-- the six tail bits of a word stand at index p and the next
 record IsTail (row : Row) (word u : List Bool) (p : ℕ) : Type 0 where
   inside : p + 1 < row.k + 4
-  x0 : bit_of (coded row word) (spot 0 p) ≡ tail_x u 0
-  z0 : bit_of (coded row word) (spot 1 p) ≡ tail_z u 0
-  x1 : bit_of (coded row word) (spot 2 p) ≡ tail_x u 1
-  z1 : bit_of (coded row word) (spot 0 (p + 1)) ≡ tail_z u 1
-  x2 : bit_of (coded row word) (spot 1 (p + 1)) ≡ tail_x u 2
-  z2 : bit_of (coded row word) (spot 2 (p + 1)) ≡ tail_z u 2
+  x0 : bit_of (coded row word) (item 0 p) ≡ tail_x u 0
+  z0 : bit_of (coded row word) (item 1 p) ≡ tail_z u 0
+  x1 : bit_of (coded row word) (item 2 p) ≡ tail_x u 1
+  z1 : bit_of (coded row word) (item 0 (p + 1)) ≡ tail_z u 1
+  x2 : bit_of (coded row word) (item 1 (p + 1)) ≡ tail_x u 2
+  z2 : bit_of (coded row word) (item 2 (p + 1)) ≡ tail_z u 2
 
 module _ (row : Row) (word : List Bool) (size : length word ≡ row.k) where
-  stands : (t p j : ℕ) (bit : Bool) → p ≡ row.k + j → bit_of (coded row word) (spot t (row.k + j)) ≡ bit → bit_of (coded row word) (spot t p) ≡ bit
-  stands t p j bit e is = ap (λ q. bit_of (coded row word) (spot t q)) e ∙ is
+  stands : (t p j : ℕ) (bit : Bool) → p ≡ row.k + j → bit_of (coded row word) (item t (row.k + j)) ≡ bit → bit_of (coded row word) (item t p) ≡ bit
+  stands t p j bit e is = ap (λ q. bit_of (coded row word) (item t q)) e ∙ is
 
   first_tail : IsTail row word word row.k
   first_tail = record {
@@ -60,10 +60,10 @@ module _ (row : Row) (word : List Bool) (size : length word ≡ row.k) where
   }
 
 module _ (row : Row) (word : List Bool) (sent : ℕ → ℕ → Bool) (sums : List (List ℤ)) (told : SumsTell row word sent sums) where
-  told_at : (t p : ℕ) (bit : Bool) → t < 3 → p < row.k + 4 → bit_of (coded row word) (spot t p) ≡ bit → Tells (sent t p) bit (sum_at sums t p)
+  told_at : (t p : ℕ) (bit : Bool) → t < 3 → p < row.k + 4 → bit_of (coded row word) (item t p) ≡ bit → Tells (sent t p) bit (sum_at sums t p)
   told_at t p bit stream inside is = subst (λ b. Tells (sent t p) b (sum_at sums t p)) is (told t p stream inside)
 
-  pub in_stream : (t k : ℕ) (bit : Bool) → t < 3 → k < row.k → bit_of (coded row word) (spot t k) ≡ bit → Tells (sent t k) bit (at (bits_of_stream (pos 0) row sums t) k)
+  pub in_stream : (t k : ℕ) (bit : Bool) → t < 3 → k < row.k → bit_of (coded row word) (item t k) ≡ bit → Tells (sent t k) bit (at (bits_of_stream (pos 0) row sums t) k)
   in_stream t k bit stream inside is =
       subst (Tells (sent t k) bit) (sym (values_below_at (sum_at sums t) row.k k (pos 0) inside)) (told_at t k bit stream (omega (arith, inside)) is)
 

@@ -14,7 +14,7 @@ use Rattle.turbo_code.proofs.Linear.{word_sum, word_sum_at, word_sum_again, leng
 use Rattle.finite.proofs.Sums.{positive, positive_at, positive_from}
 use Rattle.paths.specs.AllWords.{every_word}
 use Rattle.paths.proofs.AllWords.{every_word_all, every_word_at}
-use Rattle.clean_turbo.proofs.Telling.{tells_allows, tells-clamped}
+use Rattle.clean_turbo.proofs.Telling.{tells_allows, tells-within_2047}
 use Rattle.clean_turbo.proofs.Losses.{own, own_tells, loss, others, score_loses, others_show, loss_is}
 
 -- ---- the least loss
@@ -130,5 +130,5 @@ module _ (word : List Bool) (sent : Sent) (known : ℕ → Bool) (v : Values) (t
       let speaks = tells_allows (sent.information k || known k) (bit_at word k) (own v k) (own_tells word sent known v told k inside) in
       let is = raw_is (bit_at word k) refl m other sent_is_greatest speaks in
       let tells = signed_tells (bit_at word k) m (raw v k) is in
-      tells-clamped (found (length word) sent known k) (bit_at word k) (raw v k)
+      tells-within_2047 (found (length word) sent known k) (bit_at word k) (raw v k)
       (subst (λ there. Tells there (bit_at word k) (raw v k)) (margin_found m is_margin) tells)

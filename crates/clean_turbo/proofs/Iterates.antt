@@ -18,7 +18,7 @@ use Rattle.turbo_code.specs.Streams.{bits_of_stream, tail_items, in_order, in_wo
 use Rattle.turbo_code.proofs.CodedBits.{length-interleaved, interleaved_at, information_at}
 use Rattle.turbo_code.proofs.Orders.{read_at_step}
 use Rattle.turbo_dec.specs.Decoder.{Values, at, values_of, extrinsic, extrinsics}
-use Rattle.turbo_dec.specs.Block.{handed_on, prior_after, word_by, block, first_extrinsics, second_extrinsics}
+use Rattle.turbo_dec.specs.Block.{handed_on, prior_after, word_by, block, first_extrinsics, second_extrinsics, second_after}
 use Rattle.erasure.specs.Known.{Sent, found, first_sent, second_sent, first_found, second_found, known_after, settled, settles_all, word_after, resolves, resolvable}
 use Rattle.erasure.proofs.Whole.{resolved_at_once}
 use Rattle.clean_turbo.specs.Tells.{Tells, AllTell, SumsTell}
@@ -81,12 +81,12 @@ module _ (row : Row) (word : List Bool) (sent : ℕ → ℕ → Bool) (sums : Li
       (subst (λ n. Tells (found n (first_sent row sent) known k) (bit_at word k) (extrinsic v k)) size tells)
 
   -- the second
-  length-second : (prior : List ℤ) → length (second_extrinsics row sums prior) ≡ row.k
+  length-second : (prior : List ℤ) → length (second_after row sums prior) ≡ row.k
   unfolding second_extrinsics in_word_order
   length-second prior = values_below-length row.k _
 
   second_is : (known : ℕ → Bool) (prior : List ℤ) → ((k : ℕ) → k < row.k → Tells (known k) (bit_at word k) (at (first_extrinsics row sums prior) k)) →
-      (k : ℕ) → k < row.k → Tells (second_found row sent known k) (bit_at word k) (at (second_extrinsics row sums prior) k)
+      (k : ℕ) → k < row.k → Tells (second_found row sent known k) (bit_at word k) (at (second_after row sums prior) k)
   unfolding second_extrinsics in_word_order extrinsics in_order
   second_is known prior firsts k inside =
       let q : List ℤ = map handed_on (first_extrinsics row sums prior) in
@@ -100,7 +100,7 @@ module _ (row : Row) (word : List Bool) (sent : ℕ → ℕ → Bool) (sums : Li
       let tells = extrinsic_tells (interleaved row word) (second_sent row sent) (λ i. known (interleaver row i)) v
       (second_tells row word sent sums size told known q is_row priors) i (omega (arith, long, below)) in
       let bit : bit_at (interleaved row word) i ≡ bit_at word k = interleaved_at row word i below ∙ ap (bit_at word) read.there in
-      let there : at (second_extrinsics row sums prior) k ≡ extrinsic v i =
+      let there : at (second_after row sums prior) k ≡ extrinsic v i =
       values_below_at (λ k. at (extrinsics v) (step_of row k)) row.k k (pos 0) inside
       ∙ values_below_at (extrinsic v) (length v.systematic) i (pos 0) (omega (arith, count, below)) in
       subst (Tells (second_found row sent known k) (bit_at word k)) (sym there)
@@ -112,7 +112,7 @@ module _ (row : Row) (word : List Bool) (sent : ℕ → ℕ → Bool) (sums : Li
   unfolding prior_after known_after
   prior_is zero k inside = get_or-replicate row.k k (pos 0) (pos 0) inside
   prior_is (suc n) k inside =
-      handed (known_after row sent (suc n)) (second_extrinsics row sums (prior_after row sums n)) (length-second (prior_after row sums n))
+      handed (known_after row sent (suc n)) (second_after row sums (prior_after row sums n)) (length-second (prior_after row sums n))
       (second_is (first_found row sent (known_after row sent n)) (prior_after row sums n)
       (first_is (known_after row sent n) (prior_after row sums n) (prior_is n))) k inside
 
@@ -132,7 +132,7 @@ module _ (row : Row) (word : List Bool) (sent : ℕ → ℕ → Bool) (sums : Li
       firsts : (k : ℕ) → k < row.k → Tells (first_found row sent (known_after row sent n) k) (bit_at word k) (at (first_extrinsics row sums (prior_after row sums n)) k)
       firsts = first_is (known_after row sent n) (prior_after row sums n) (prior_is n)
 
-      seconds : (k : ℕ) → k < row.k → Tells (known_after row sent (suc n) k) (bit_at word k) (at (second_extrinsics row sums (prior_after row sums n)) k)
+      seconds : (k : ℕ) → k < row.k → Tells (known_after row sent (suc n) k) (bit_at word k) (at (second_after row sums (prior_after row sums n)) k)
       seconds = second_is (first_found row sent (known_after row sent n)) (prior_after row sums n) firsts
 
   -- ---- the block

@@ -8,7 +8,7 @@ use Rattle.finite.specs.Tests.{any_below}
 use Rattle.finite.proofs.Sums.{sum_below_same, sum_below_plus, sum_below_pos, total_below_changed, total_below-positive, positive, positive-sum}
 use Rattle.turbo_code.specs.Encoder.{bit_at, parity, tail_x, tail_z}
 use Rattle.turbo_code.proofs.Linear.{word_sum, word_sum_at, parity-word_sum, tail_x-word_sum, tail_z-word_sum}
-use Rattle.turbo_dec.specs.Decoder.{Values, at, taken, place_score, tail_score, score}
+use Rattle.turbo_dec.specs.Decoder.{Values, at, taken, score_at, tail_score, score}
 use Rattle.erasure.specs.Known.{Sent, step_shows, tail_shows, shows}
 use Rattle.clean_turbo.specs.Tells.{Tells, AllTell}
 use Rattle.clean_turbo.proofs.Telling.{tells_size, tells-sum, taken_loses}
@@ -24,16 +24,16 @@ sum_exceeds n f g h each =
 abbrev pub own : Values → ℕ → ℤ
 own v k = at v.systematic k +ℤ at v.prior k
 
--- by a difference of words, at a place and in a tail step
-place_loss : Values → List Bool → ℕ → ℕ
-place_loss v d j = cond (bit_at d j) (nat_abs (own v j)) 0 + cond (parity d j) (nat_abs (at v.parity j)) 0
+-- by a difference of words, at an index and in a tail step
+loss_at : Values → List Bool → ℕ → ℕ
+loss_at v d j = cond (bit_at d j) (nat_abs (own v j)) 0 + cond (parity d j) (nat_abs (at v.parity j)) 0
 
 tail_loss : Values → List Bool → ℕ → ℕ
 tail_loss v d j = cond (tail_x d j) (nat_abs (at v.tail (2 * j))) 0 + cond (tail_z d j) (nat_abs (at v.tail (2 * j + 1))) 0
 
 -- in all
 pub loss : Values → List Bool → ℕ
-loss v d = total_below (length v.systematic) (place_loss v d) + total_below 3 (tail_loss v d)
+loss v d = total_below (length v.systematic) (loss_at v d) + total_below 3 (tail_loss v d)
 
 -- without the loss at the information bit k
 other_loss : Values → ℕ → List Bool → ℕ → ℕ
@@ -46,13 +46,13 @@ module _ (word : List Bool) (sent : Sent) (known : ℕ → Bool) (v : Values) (t
   pub own_tells : (k : ℕ) → k < length word → Tells (sent.information k || known k) (bit_at word k) (own v k)
   own_tells k inside = tells-sum (sent.information k) (known k) (bit_at word k) (at v.systematic k) (at v.prior k) (told.systematic k inside) (told.prior k inside)
 
-  place_loses : (d : List Bool) (k : ℕ) → k < length word → place_score v word k ≡ place_score v (word_sum word d) k +ℤ pos (place_loss v d k)
-  unfolding place_loss
-  place_loses d k inside =
+  loses_at : (d : List Bool) (k : ℕ) → k < length word → score_at v word k ≡ score_at v (word_sum word d) k +ℤ pos (loss_at v d k)
+  unfolding loss_at
+  loses_at d k inside =
       let s = taken_loses (sent.information k || known k) (bit_at word k) (bit_at d k) (own v k) (own_tells k inside) in
       let p = taken_loses (sent.parity k) (parity word k) (parity d k) (at v.parity k) (told.parity k inside) in
       let e = ap₂ (λ b z. taken (own v k) b +ℤ taken (at v.parity k) z) (word_sum_at word d k inside) (parity-word_sum word d k inside) in
-      subst (λ z. place_score v word k ≡ z +ℤ pos (place_loss v d k)) (sym e) (omega (arith, ints, s, p))
+      subst (λ z. score_at v word k ≡ z +ℤ pos (loss_at v d k)) (sym e) (omega (arith, ints, s, p))
 
   tail_loses : (d : List Bool) (j : ℕ) → length d ≡ length word → j < 3 → tail_score v word j ≡ tail_score v (word_sum word d) j +ℤ pos (tail_loss v d j)
   unfolding tail_loss
@@ -67,9 +67,9 @@ module _ (word : List Bool) (sent : Sent) (known : ℕ → Bool) (v : Values) (t
   score_loses d size =
       let n : ℕ = length v.systematic in
       let same = told.size in
-      let places = sum_exceeds n (place_score v word) (place_score v (word_sum word d)) (place_loss v d) (λ k l. place_loses d k (omega (arith, l, same))) in
+      let indices = sum_exceeds n (score_at v word) (score_at v (word_sum word d)) (loss_at v d) (λ k l. loses_at d k (omega (arith, l, same))) in
       let tails = sum_exceeds 3 (tail_score v word) (tail_score v (word_sum word d)) (tail_loss v d) (λ j l. tail_loses d j size l) in
-      omega (arith, ints, places, tails)
+      omega (arith, ints, indices, tails)
 
   -- the loss at the others is not 0 exactly where the difference shows
   pub others_show : (k : ℕ) (d : List Bool) → positive (others v k d) ≡ shows (length word) sent known k d
@@ -99,10 +99,10 @@ module _ (word : List Bool) (sent : Sent) (known : ℕ → Bool) (v : Values) (t
 
 -- what is lost in all is what is lost at bit k and at the others
 pub loss_is : (v : Values) (k : ℕ) (d : List Bool) → k < length v.systematic → bit_at d k ≡ true → loss v d ≡ others v k d + nat_abs (own v k)
-unfolding loss others place_loss other_loss
+unfolding loss others loss_at other_loss
 loss_is v k d inside bit =
     let same : nat_eq k k ≡ true = eq-eqb k k refl in
-    let places = total_below_changed (length v.systematic) k (nat_abs (own v k)) (place_loss v d) (other_loss v k d) inside
+    let indices = total_below_changed (length v.systematic) k (nat_abs (own v k)) (loss_at v d) (other_loss v k d) inside
     (rw (bit, same) (omega arith))
     (λ j other. let differs : nat_eq j k ≡ false = ne_eqb j k other in rw differs refl) in
-    omega (arith, places)
+    omega (arith, indices)

@@ -7,13 +7,13 @@ use Rattle.finite.specs.Tables.{sum_at}
 use Rattle.finite.specs.Tests.{any_below}
 use Rattle.finite.proofs.Sums.{positive}
 use Rattle.finite.proofs.Tests.{any_below_same}
-use Rattle.sub_block.specs.declared.Place.{Place}
-use Rattle.sub_block.specs.Places.{spot, is_at, summed_at}
-use Rattle.sub_block.proofs.Sums.{same_spot}
+use Rattle.sub_block.specs.declared.Item.{Item}
+use Rattle.sub_block.specs.Items.{item, is_at, summed_at}
+use Rattle.sub_block.proofs.Sums.{same_item}
 use Rattle.turbo_code.specs.declared.rows.Row.{Row}
 use Rattle.turbo_code.specs.Table.{IsRow}
 use Rattle.turbo_code.specs.Encoder.{coded}
-use Rattle.turbo_code.specs.Reading.{bit_of, place_of, summed}
+use Rattle.turbo_code.specs.Reading.{bit_of, item_of, summed}
 use Rattle.turbo_code.proofs.Sums.{summed-at}
 use Rattle.turbo_code.proofs.TableFacts.{is_small, row_size}
 use Rattle.turbo_dec.specs.Decoder.{at}
@@ -24,57 +24,57 @@ use Rattle.clean_turbo.specs.Laws.{ReceivedSumsAllow, ReceivedSumsTell, WholeSum
 use Rattle.clean_turbo.proofs.Telling.{tells-sum, tells_allows, allows_tells}
 use Rattle.clean_turbo.proofs.Iterates.{resolvable_is_told}
 
--- ---- sums by place, over any reading of any bits
+-- ---- sums by item, over any reading of any bits
 
--- a value that counts where it comes from a place
+-- a value that counts where it comes from an item
 counted : (c there bit : Bool) (z : ℤ) → (c ≡ true → Tells there bit z) → Tells (c && there) bit (cond c z (pos 0))
 counted true there bit z h = h refl
 counted false there bit z h = refl
 
--- the sum at a place tells its bit where one of the values from there is not 0
-pub place_tells : (reading : ℕ → Place) (values : List ℤ) (bit : Place → Bool) (given : ℕ → Bool) (t p m : ℕ) →
+-- the sum of an item tells its bit where one of the values from there is not 0
+pub item_tells : (reading : ℕ → Item) (values : List ℤ) (bit : Item → Bool) (given : ℕ → Bool) (t p m : ℕ) →
     ((i : ℕ) → i < m → Tells (given i) (bit (reading i)) (at values i)) →
-    Tells (any_below m (λ i. is_at t p (reading i) && given i)) (bit (spot t p)) (summed_at reading values m t p)
+    Tells (any_below m (λ i. is_at t p (reading i) && given i)) (bit (item t p)) (summed_at reading values m t p)
 unfolding summed_at any_below sum_below
-place_tells reading values bit given t p zero each = refl
-place_tells reading values bit given t p (suc m) each =
-    tells-sum (any_below m (λ i. is_at t p (reading i) && given i)) (is_at t p (reading m) && given m) (bit (spot t p))
+item_tells reading values bit given t p zero each = refl
+item_tells reading values bit given t p (suc m) each =
+    tells-sum (any_below m (λ i. is_at t p (reading i) && given i)) (is_at t p (reading m) && given m) (bit (item t p))
     (summed_at reading values m t p) (cond (is_at t p (reading m)) (at values m) (pos 0))
-    (place_tells reading values bit given t p m (λ i l. each i (omega (arith, l))))
-    (counted (is_at t p (reading m)) (given m) (bit (spot t p)) (at values m)
-    (λ e. subst (λ q. Tells (given m) (bit q) (at values m)) (same_spot (reading m) t p e) (each m (omega arith))))
+    (item_tells reading values bit given t p m (λ i l. each i (omega (arith, l))))
+    (counted (is_at t p (reading m)) (given m) (bit (item t p)) (at values m)
+    (λ e. subst (λ q. Tells (given m) (bit q) (at values m)) (same_item (reading m) t p e) (each m (omega arith))))
 
 -- ---- the sums of a block
 
 module _ (row : Row) (word : List Bool) (rv : ℕ) (values : List ℤ) (is_row : IsRow row) where
   -- by which values are not 0
-  sums_tell : (given : ℕ → Bool) → ((i : ℕ) → i < length values → Tells (given i) (bit_of (coded row word) (place_of row.k rv i)) (at values i)) →
-      SumsTell row word (λ t p. any_below (length values) (λ i. is_at t p (place_of row.k rv i) && given i)) (summed row.k rv values)
+  sums_tell : (given : ℕ → Bool) → ((i : ℕ) → i < length values → Tells (given i) (bit_of (coded row word) (item_of row.k rv i)) (at values i)) →
+      SumsTell row word (λ t p. any_below (length values) (λ i. is_at t p (item_of row.k rv i) && given i)) (summed row.k rv values)
   sums_tell given each t p stream inside =
       let high = (is_small row is_row).high in
-      subst (Tells (any_below (length values) (λ i. is_at t p (place_of row.k rv i) && given i)) (bit_of (coded row word) (spot t p)))
+      subst (Tells (any_below (length values) (λ i. is_at t p (item_of row.k rv i) && given i)) (bit_of (coded row word) (item t p)))
       (sym (summed-at row.k rv values t p stream (omega (arith, inside, high))))
-      (place_tells (place_of row.k rv) values (bit_of (coded row word)) given t p (length values) each)
+      (item_tells (item_of row.k rv) values (bit_of (coded row word)) given t p (length values) each)
 
 -- values that do not speak against the bits
 pub received_sums_allow : ReceivedSumsAllow
 received_sums_allow row word rv values is_row allow t p stream inside =
-    tells_allows _ (bit_of (coded row word) (spot t p)) _
+    tells_allows _ (bit_of (coded row word) (item t p)) _
     (sums_tell row word rv values is_row (λ i. positive (nat_abs (at values i)))
-    (λ i l. allows_tells (bit_of (coded row word) (place_of row.k rv i)) (at values i) (allow i l)) t p stream inside)
+    (λ i l. allows_tells (bit_of (coded row word) (item_of row.k rv i)) (at values i) (allow i l)) t p stream inside)
 
 -- values that speak for them
 pub received_sums_tell : ReceivedSumsTell
 unfolding sent_of
 received_sums_tell row word rv values is_row speak t p stream inside =
-    subst (λ there. Tells there (bit_of (coded row word) (spot t p)) (sum_at (summed row.k rv values) t p))
-    (any_below_same (length values) (λ i. is_at t p (place_of row.k rv i) && true) (λ i. is_at t p (place_of row.k rv i)) (λ i l. and-true (is_at t p (place_of row.k rv i))))
+    subst (λ there. Tells there (bit_of (coded row word) (item t p)) (sum_at (summed row.k rv values) t p))
+    (any_below_same (length values) (λ i. is_at t p (item_of row.k rv i) && true) (λ i. is_at t p (item_of row.k rv i)) (λ i l. and-true (is_at t p (item_of row.k rv i))))
     (sums_tell row word rv values is_row (λ _. true) speak t p stream inside)
 
 -- and are as many as the coded bits
 pub whole_sums_speak : WholeSumsSpeak
 whole_sums_speak row word rv values is_row version speak many t p stream inside =
-    subst (λ there. Tells there (bit_of (coded row word) (spot t p)) (sum_at (summed row.k rv values) t p))
+    subst (λ there. Tells there (bit_of (coded row word) (item t p)) (sum_at (summed row.k rv values) t p))
     (all_sent row.k rv (length values) (row_size row is_row) version many t p stream inside)
     (received_sums_tell row word rv values is_row speak t p stream inside)
 

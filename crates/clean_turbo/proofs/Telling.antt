@@ -6,7 +6,7 @@ use Rattle.std.proofs.lemmas.Bool.{le-ltb}
 use Rattle.finite.specs.Bits.{xor}
 use Rattle.finite.proofs.Sums.{positive, positive_from}
 use Rattle.cs_bits.specs.Signs.{Supports}
-use Rattle.turbo_dec.specs.Decoder.{taken, clamped}
+use Rattle.turbo_dec.specs.Decoder.{taken, within_2047}
 use Rattle.turbo_dec.specs.Block.{handed_on}
 use Rattle.clean_turbo.specs.Tells.{Tells}
 
@@ -43,10 +43,10 @@ tells-sum true false true y z h k = omega (arith, ints, h, k)
 tells-sum true true false y z h k = omega (arith, ints, h, k)
 tells-sum true true true y z h k = omega (arith, ints, h, k)
 
-pub tells-clamped : (there bit : Bool) (z : ℤ) → Tells there bit z → Tells there bit (clamped z)
-tells-clamped false bit z h = omega (arith, ints, clamps, h)
-tells-clamped true false z h = omega (arith, ints, clamps, h)
-tells-clamped true true z h = omega (arith, ints, clamps, h)
+pub tells-within_2047 : (there bit : Bool) (z : ℤ) → Tells there bit z → Tells there bit (within_2047 z)
+tells-within_2047 false bit z h = omega (arith, ints, clamps, h)
+tells-within_2047 true false z h = omega (arith, ints, clamps, h)
+tells-within_2047 true true z h = omega (arith, ints, clamps, h)
 
 -- 1, 2 and 3 are handed on as they are
 pub tells-handed_on : (there bit : Bool) (z : ℤ) → Tells there bit z → Tells there bit (handed_on z)

@@ -8,7 +8,7 @@ use Rattle.turbo_code.specs.Table.{IsRow}
 use Rattle.turbo_code.specs.Encoder.{bit_at}
 use Rattle.turbo_code.specs.Reading.{summed}
 use Rattle.turbo_dec.specs.Decoder.{Values, at, extrinsic}
-use Rattle.turbo_dec.specs.Block.{prior_after, first_extrinsics, second_extrinsics, word_by, block}
+use Rattle.turbo_dec.specs.Block.{prior_after, first_extrinsics, second_after, word_by, block}
 use Rattle.erasure.specs.Known.{Sent, found, first_found, known_after, word_after, resolvable, sent_of}
 use Rattle.clean_turbo.specs.Tells.{Tells, AllAllow, AllTell, SumsSupport, SumsTell, ValuesSupport}
 
@@ -37,7 +37,7 @@ pub record IterationTells (row : Row) (word : List Bool) (sent : ℕ → ℕ →
       (at (first_extrinsics row sums (prior_after row sums n)) k)
   pub second : (k : ℕ) → k < row.k →
       Tells (known_after row sent (suc n) k) (bit_at word k)
-      (at (second_extrinsics row sums (prior_after row sums n)) k)
+      (at (second_after row sums (prior_after row sums n)) k)
   pub told : word_by row sums (prior_after row sums n) ≡ word_after row sent word n
 
 abbrev pub IterationsTell : Type 0

@@ -3,10 +3,10 @@
 use Rattle.std.specs.Prelude.{◌≡◌, ℕ, ◌+◌, ◌*◌, ◌<◌, Bool, true, false, List, length, ℤ, pos}
 use Rattle.finite.specs.Tables.{sum_at}
 use Rattle.cs_bits.specs.Signs.{Supports}
-use Rattle.sub_block.specs.Places.{spot}
+use Rattle.sub_block.specs.Items.{item}
 use Rattle.turbo_code.specs.declared.rows.Row.{Row}
 use Rattle.turbo_code.specs.Encoder.{bit_at, parity, tail_x, tail_z, coded}
-use Rattle.turbo_code.specs.Reading.{bit_of, place_of}
+use Rattle.turbo_code.specs.Reading.{bit_of, item_of}
 use Rattle.turbo_dec.specs.Decoder.{Values, at}
 use Rattle.erasure.specs.Known.{Sent}
 
@@ -40,16 +40,16 @@ pub record AllTell (word : List Bool) (sent : Sent) (known : ℕ → Bool) (v : 
 -- each supports its coded bit of a word with this size: with 0 none speaks against it, with 1 each speaks for it
 abbrev pub SumsSupport : ℕ → Row → List Bool → List (List ℤ) → Type 0
 SumsSupport least row word sums =
-    (t p : ℕ) → t < 3 → p < row.k + 4 → Supports least (bit_of (coded row word) (spot t p)) (sum_at sums t p)
+    (t p : ℕ) → t < 3 → p < row.k + 4 → Supports least (bit_of (coded row word) (item t p)) (sum_at sums t p)
 
 -- they tell the coded bits that are sent
 abbrev pub SumsTell : Row → List Bool → (ℕ → ℕ → Bool) → List (List ℤ) → Type 0
 SumsTell row word sent sums =
-    (t p : ℕ) → t < 3 → p < row.k + 4 → Tells (sent t p) (bit_of (coded row word) (spot t p)) (sum_at sums t p)
+    (t p : ℕ) → t < 3 → p < row.k + 4 → Tells (sent t p) (bit_of (coded row word) (item t p)) (sum_at sums t p)
 
 -- ---- the values received
 
 -- each supports the coded bit of a word that the reading sends there, from a redundancy version on
 abbrev pub ValuesSupport : ℕ → Row → List Bool → ℕ → List ℤ → Type 0
 ValuesSupport least row word rv values =
-    (i : ℕ) → i < length values → Supports least (bit_of (coded row word) (place_of row.k rv i)) (at values i)
+    (i : ℕ) → i < length values → Supports least (bit_of (coded row word) (item_of row.k rv i)) (at values i)

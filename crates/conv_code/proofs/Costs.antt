@@ -1,11 +1,11 @@
--- What a value, a place and a word cost at most.
+-- What the values at an index and a word cost at most.
 use Rattle.std.proofs.Common.{ℕ, ◌*◌, ◌≤◌, Bool, List, [], length, get_or, ℤ, pos, arith}
 use Rattle.finite.specs.Sizes.{AllWithin, RowsWithin}
 use Rattle.finite.proofs.Items.{item-within}
 use Rattle.finite.proofs.Sums.{total_below-within}
-use Rattle.conv_code.specs.Code.{coded, taps_0, taps_1, taps_2}
+use Rattle.conv_code.specs.Code.{tapped_bit, taps_0, taps_1, taps_2}
 use Rattle.cs_bits.proofs.Signs.{disagreement-le}
-use Rattle.conv_code.specs.Cost.{triple_cost, place_cost, word_cost}
+use Rattle.conv_code.specs.Cost.{triple_cost, cost_at, word_cost}
 
 -- three values speak against three bits with three times the greatest size at most
 pub triple_cost-le : (n : ℕ) (v : List ℤ) (a b c : Bool) → AllWithin n v → triple_cost v a b c ≤ 3 * n
@@ -18,10 +18,10 @@ triple_cost-le n v a b c small =
     let d2 = disagreement-le (get_or v 2 (pos 0)) c in
     omega (arith, s0, s1, s2, d0, d1, d2)
 
--- and a word costs no more than that times its places
+-- and a word costs no more than that times its length
 pub word_cost-le : (n : ℕ) (values : List (List ℤ)) (word : List Bool) → RowsWithin n values →
     word_cost values word ≤ length values * (3 * n)
 unfolding word_cost
 word_cost-le n values word small =
-    total_below-within (length values) (3 * n) (place_cost values word) (λ k below.
-    triple_cost-le n (get_or values k []) (coded taps_0 word k) (coded taps_1 word k) (coded taps_2 word k) (small k [] below))
+    total_below-within (length values) (3 * n) (cost_at values word) (λ k below.
+    triple_cost-le n (get_or values k []) (tapped_bit taps_0 word k) (tapped_bit taps_1 word k) (tapped_bit taps_2 word k) (small k [] below))

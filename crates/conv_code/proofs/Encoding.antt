@@ -29,7 +29,7 @@ pub part_all : (f : ℕ → Bool) (taps : List ℕ) (i : ℕ) (sum : Bool) → l
 part_all f taps i sum past known =
     sym (xor-false sum) ∙ ap (λ ts. xor sum (parity (map f ts))) (sym (drop_of_length-le taps past)) ∙ known.whole
 
--- what the loop over the places ends with
+-- what the loop over the indices ends with
 pub coded_word_is : (n : ℕ) (word bits : List Bool) (found : List (List Bool)) (k : ℕ) → bits ≡ word → length word ≡ n → n ≤ k →
     length found ≡ n → ((j : ℕ) → j < k → get_or found j [] ≡ coded_bits bits j) → found ≡ coded_word word
 unfolding coded_word

@@ -1,7 +1,7 @@
 pub mod Encoding
 pub mod Orders
 pub mod Streams
-pub mod Places
+pub mod Items
 pub mod Sums
 pub mod Costs
 pub mod OneToOne

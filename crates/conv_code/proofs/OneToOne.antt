@@ -5,7 +5,7 @@ use Rattle.std.proofs.Math.Nat.{mod-eq_of_lt, add-mod_right, mod-lt}
 use Rattle.finite.proofs.Lists.{values_below_at}
 use Rattle.finite.specs.Bits.{xor}
 use Rattle.finite.proofs.Bits.{xor-false, xor_assoc, xor_comm, xor_left, xor_self, xor_again}
-use Rattle.conv_code.specs.Code.{parity, bit_back, taps_0, taps_1, taps_2, coded, coded_bits, coded_word}
+use Rattle.conv_code.specs.Code.{parity, bit_back, taps_0, taps_1, taps_2, tapped_bit, coded_bits, coded_word}
 use Rattle.conv_code.specs.Laws.{IsOneToOne}
 
 -- with D one step back, (1 + D) times the first taps and the second taps and (1 + D) times the third taps add up to 1
@@ -17,13 +17,13 @@ five f = eight (f 0) (f 1) (f 2) (f 3) (f 4) (f 5) (f 6) (f 7)
         xor (parity (a ∷ c ∷ d ∷ g ∷ h ∷ [])) (xor (parity (b ∷ d ∷ e ∷ h ∷ i ∷ [])) (xor (parity (a ∷ b ∷ c ∷ d ∷ h ∷ [])) (xor (parity (a ∷ b ∷ c ∷ e ∷ h ∷ [])) (parity (b ∷ c ∷ d ∷ g ∷ i ∷ []))))) ≡ a
     eight a b c d e g h i = simp (xor_assoc, xor-false, xor_comm, xor_left, xor_self, xor_again)
 
--- ---- places, cyclically
+-- ---- indices, cyclically
 
--- the place before
+-- the index before
 abbrev before : ℕ → ℕ → ℕ
 before n k = (k + n - 1) % n
 
--- the bit t places back, where t is at most twice the length
+-- the bit t back, where t is at most twice the length
 abbrev far_back : List Bool → ℕ → ℕ → Bool
 far_back word k t = get_or word ((k + length word + length word - t) % length word) false
 
@@ -49,7 +49,7 @@ from_before word (suc k) t inside near =
 
 -- a bit of the word, by its coded bits
 word_bit : (word : List Bool) (k : ℕ) → k < length word → 6 ≤ length word →
-    xor (coded taps_0 word k) (xor (coded taps_0 word (before (length word) k)) (xor (coded taps_1 word k) (xor (coded taps_2 word k) (coded taps_2 word (before (length word) k)))))
+    xor (tapped_bit taps_0 word k) (xor (tapped_bit taps_0 word (before (length word) k)) (xor (tapped_bit taps_1 word k) (xor (tapped_bit taps_2 word k) (tapped_bit taps_2 word (before (length word) k)))))
     ≡ get_or word k false
 word_bit word k inside long =
     let f : ℕ → Bool = far_back word k in
@@ -74,12 +74,12 @@ word_bit word k inside long =
 
 -- ---- words
 
-at_place : (word : List Bool) (k : ℕ) → k < length word → get_or (coded_word word) k [] ≡ coded_bits word k
+at_index : (word : List Bool) (k : ℕ) → k < length word → get_or (coded_word word) k [] ≡ coded_bits word k
 unfolding coded_word
-at_place word k inside = values_below_at (coded_bits word) (length word) k [] inside
+at_index word k inside = values_below_at (coded_bits word) (length word) k [] inside
 
 same_bits : (u w : List Bool) → length u ≡ length w → coded_word u ≡ coded_word w → (k : ℕ) → k < length u → coded_bits u k ≡ coded_bits w k
-same_bits u w size same k inside = sym (at_place u k inside) ∙ ap (λ c. get_or c k []) same ∙ at_place w k (omega arith)
+same_bits u w size same k inside = sym (at_index u k inside) ∙ ap (λ c. get_or c k []) same ∙ at_index w k (omega arith)
 
 -- the bits of one stream
 stream_bit : (u w : List Bool) (k t : ℕ) → coded_bits u k ≡ coded_bits w k → get_or (coded_bits u k) t false ≡ get_or (coded_bits w k) t false
@@ -89,9 +89,9 @@ pub one_to_one : IsOneToOne
 one_to_one u w long size same = ext_get_or false u w size (λ k inside.
     let here = same_bits u w size same k inside in
     let there = same_bits u w size same (before (length u) k) (mod-lt (k + length u - 1) (omega arith)) in
-    let h0 : coded taps_0 u k ≡ coded taps_0 w k = stream_bit u w k 0 here in
-    let h1 : coded taps_1 u k ≡ coded taps_1 w k = stream_bit u w k 1 here in
-    let h2 : coded taps_2 u k ≡ coded taps_2 w k = stream_bit u w k 2 here in
-    let b0 : coded taps_0 u (before (length u) k) ≡ coded taps_0 w (before (length u) k) = stream_bit u w (before (length u) k) 0 there in
-    let b2 : coded taps_2 u (before (length u) k) ≡ coded taps_2 w (before (length u) k) = stream_bit u w (before (length u) k) 2 there in
+    let h0 : tapped_bit taps_0 u k ≡ tapped_bit taps_0 w k = stream_bit u w k 0 here in
+    let h1 : tapped_bit taps_1 u k ≡ tapped_bit taps_1 w k = stream_bit u w k 1 here in
+    let h2 : tapped_bit taps_2 u k ≡ tapped_bit taps_2 w k = stream_bit u w k 2 here in
+    let b0 : tapped_bit taps_0 u (before (length u) k) ≡ tapped_bit taps_0 w (before (length u) k) = stream_bit u w (before (length u) k) 0 there in
+    let b2 : tapped_bit taps_2 u (before (length u) k) ≡ tapped_bit taps_2 w (before (length u) k) = stream_bit u w (before (length u) k) 2 there in
     sym (word_bit u k inside long) ∙ rw (h0, h1, h2, b0, b2) (rw size (word_bit w k (omega arith) (omega arith))))

@@ -6,10 +6,10 @@ use Rattle.std.proofs.lemmas.Bool.{eqb-true, ltb-true, and_parts}
 use Rattle.finite.specs.Tests.{every_below}
 use Rattle.finite.proofs.Tests.{every_below_at}
 use Rattle.sub_block.specs.Matrix.{turbo_columns, columns}
-use Rattle.sub_block.specs.Places.{bits_in}
+use Rattle.sub_block.specs.Items.{bits_in}
 use Rattle.conv_code.specs.Reading.{stream_order}
 
--- at which place of the list k stands first
+-- at which index of the list k stands first
 abbrev pub index_of : ℕ → List ℕ → ℕ
 index_of k xs = position_or_len (λ x. nat_eq x k) xs
 
@@ -22,7 +22,7 @@ all_orders : every_below 67 (λ n. order_test n (stream_order n)) ≡ true
 unfolding every_below order_test stream_order bits_in columns turbo_columns
 all_orders = refl
 
--- each place below n stands in the order once
+-- each index below n stands in the order once
 pub record IsOrder (n : ℕ) : Type 0 where
   pub count : length (stream_order n) ≡ n
   pub inside : (p : ℕ) → p < n → get_or (stream_order n) p 0 < n

@@ -1,36 +1,36 @@
--- The sums of values by place.
+-- The sums of values by index.
 use Rattle.std.proofs.Common.{◌≡◌, ℕ, ◌+◌, ◌^◌, ◌<◌, List, [], length, get_or, ℤ, pos, ap, ◌∙◌, arith}
 use Rattle.std.proofs.Math.Path.{fun_ext}
 use Rattle.finite.specs.Lists.{values_below}
 use Rattle.finite.proofs.Lists.{values_below-length, values_below_at}
 use Rattle.finite.proofs.Tables as tables
-use Rattle.sub_block.specs.declared.Place.{Place}
-use Rattle.sub_block.specs.Places.{summed_at}
-use Rattle.sub_block.proofs.Sums.{table_by_place}
-use Rattle.conv_code.specs.Reading.{place_of, summed_by, summed, summed_from}
+use Rattle.sub_block.specs.declared.Item.{Item}
+use Rattle.sub_block.specs.Items.{summed_at}
+use Rattle.sub_block.proofs.Sums.{table_by_index}
+use Rattle.conv_code.specs.Reading.{item_of, summed_by, summed, summed_from}
 
 -- after the first m values, the sums are those of the definition, and not large
-abbrev pub AreSums : (ℕ → Place) → ℕ → List ℤ → ℕ → List (List ℤ) → Type 0
-AreSums reading n values m sums = tables.AreSums n 3 (2 ^ 15) (λ i. (reading i).place) (λ i. (reading i).stream) values m sums
+abbrev pub AreSums : (ℕ → Item) → ℕ → List ℤ → ℕ → List (List ℤ) → Type 0
+AreSums reading n values m sums = tables.AreSums n 3 (2 ^ 15) (λ i. (reading i).index) (λ i. (reading i).stream) values m sums
 
 -- all values
-pub sums_all : (reading : ℕ → Place) (n : ℕ) (values : List ℤ) (m : ℕ) (sums : List (List ℤ)) → m ≡ length values → AreSums reading n values m sums →
+pub sums_all : (reading : ℕ → Item) (n : ℕ) (values : List ℤ) (m : ℕ) (sums : List (List ℤ)) → m ≡ length values → AreSums reading n values m sums →
     sums ≡ summed_by reading n values
 unfolding summed_by
 sums_all reading n values m sums e known =
-    tables.sums_all n 3 (2 ^ 15) (λ i. (reading i).place) (λ i. (reading i).stream) values m sums known
-    ∙ table_by_place reading values m n 3
+    tables.sums_all n 3 (2 ^ 15) (λ i. (reading i).index) (λ i. (reading i).stream) values m sums known
+    ∙ table_by_index reading values m n 3
     ∙ ap (λ i. values_below n (λ p. values_below 3 (λ t. summed_at reading values i t p))) e
 
 -- values that begin with the first bit of the reading
 pub from_first : (n : ℕ) (values : List ℤ) → summed_from 0 n values ≡ summed n values
 from_first n values =
-    let same : (i : ℕ) → place_of n (0 + i) ≡ place_of n i = λ i. let e : 0 + i ≡ i = omega arith in ap (place_of n) e in
-    ap (λ (reading : ℕ → Place). summed_by reading n values) (fun_ext same)
+    let same : (i : ℕ) → item_of n (0 + i) ≡ item_of n i = λ i. let e : 0 + i ≡ i = omega arith in ap (item_of n) e in
+    ap (λ (reading : ℕ → Item). summed_by reading n values) (fun_ext same)
 
 -- ---- what the sums have
 
-module _ (reading : ℕ → Place) (n : ℕ) (values : List ℤ) where
+module _ (reading : ℕ → Item) (n : ℕ) (values : List ℤ) where
   pub length-summed_by : length (summed_by reading n values) ≡ n
   unfolding summed_by
   length-summed_by = values_below-length n (λ p. values_below 3 (λ t. summed_at reading values (length values) t p))
@@ -53,11 +53,11 @@ module _ (reading : ℕ → Place) (n : ℕ) (values : List ℤ) where
 -- of the endless reading
 
 pub length-summed : (n : ℕ) (values : List ℤ) → length (summed n values) ≡ n
-length-summed n values = length-summed_by (place_of n) n values
+length-summed n values = length-summed_by (item_of n) n values
 
 pub length-summed_row : (n : ℕ) (values : List ℤ) (p : ℕ) (d : List ℤ) → p < n → length (get_or (summed n values) p d) ≡ 3
-length-summed_row n values p d below = length-summed_by_row (place_of n) n values p d below
+length-summed_row n values p d below = length-summed_by_row (item_of n) n values p d below
 
 pub summed-at : (n : ℕ) (values : List ℤ) (p t : ℕ) → p < n → t < 3 →
-    get_or (get_or (summed n values) p []) t (pos 0) ≡ summed_at (place_of n) values (length values) t p
-summed-at n values p t below stream = summed_by-at (place_of n) n values p t below stream
+    get_or (get_or (summed n values) p []) t (pos 0) ≡ summed_at (item_of n) values (length values) t p
+summed-at n values p t below stream = summed_by-at (item_of n) n values p t below stream

@@ -8,7 +8,7 @@ abbrev pub parity : List Bool → Bool
 parity [] = false
 parity (b ∷ bs) = xor b (parity bs)
 
--- the bit of the word t places before place k, cyclically
+-- bit k - t of the word, cyclically
 abbrev pub bit_back : List Bool → ℕ → ℕ → Bool
 bit_back word k t = slice_index_or word ((k + length word - t) % length word) false
 
@@ -23,13 +23,13 @@ abbrev pub taps_2 : List ℕ
 taps_2 = 0 ∷ 1 ∷ 2 ∷ 4 ∷ 6 ∷ []
 
 -- bit k of the stream with these taps
-abbrev pub coded : List ℕ → List Bool → ℕ → Bool
-coded taps word k = parity (map (bit_back word k) taps)
+abbrev pub tapped_bit : List ℕ → List Bool → ℕ → Bool
+tapped_bit taps word k = parity (map (bit_back word k) taps)
 
--- the bits of the three streams at place k
+-- the bits of the three streams at index k
 abbrev pub coded_bits : List Bool → ℕ → List Bool
-coded_bits word k = coded taps_0 word k ∷ coded taps_1 word k ∷ coded taps_2 word k ∷ []
+coded_bits word k = tapped_bit taps_0 word k ∷ tapped_bit taps_1 word k ∷ tapped_bit taps_2 word k ∷ []
 
--- the coded word: the bits of the three streams at each place
+-- the coded word: the bits of the three streams at each index
 unfoldable pub coded_word : List Bool → List (List Bool)
 coded_word word = values_below (length word) (coded_bits word)

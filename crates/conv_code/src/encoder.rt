@@ -1,7 +1,7 @@
 //! The coded word.
 
 ghost use Rattle.std.specs.Prelude.{◌≡◌, ◌<◌, ◌≤◌, length, All};
-ghost use Rattle.conv_code.specs.Code.{bit_back, coded, coded_bits, coded_word};
+ghost use Rattle.conv_code.specs.Code.{bit_back, tapped_bit, coded_bits, coded_word};
 
 use cs_bits::Bits;
 
@@ -11,7 +11,7 @@ const TAPS_1: [usize; 5] = [0, 1, 2, 3, 6];
 
 const TAPS_2: [usize; 5] = [0, 1, 2, 4, 6];
 
-/// The bit t places before place k, cyclically.
+/// Bit k - t, cyclically.
 fn bit_before(word: &[bool], k: usize, t: usize) -> bool
     requires inside { k < length word.now }
     requires near { t ≤ length word.now }
@@ -26,7 +26,7 @@ fn coded_bit(word: &[bool], k: usize, taps: &[usize; 5]) -> bool
     requires inside { k < length word.now }
     requires short { length word.now ≤ 64 }
     requires near { All (λ t. t ≤ length word.now) taps.now }
-    ensures { result ≡ coded taps.now word.now k }
+    ensures { result ≡ tapped_bit taps.now word.now k }
 {
     let mut sum = false;
     for t in taps {
@@ -35,7 +35,7 @@ fn coded_bit(word: &[bool], k: usize, taps: &[usize; 5]) -> bool
     sum
 }
 
-/// The bits of the three streams at place k.
+/// The bits of the three streams at index k.
 fn coded_at(word: &[bool], k: usize) -> [bool; 3]
     requires inside { k < length word.now }
     requires low { 6 ≤ length word.now }
@@ -49,7 +49,7 @@ fn coded_at(word: &[bool], k: usize) -> [bool; 3]
     ]
 }
 
-/// The coded word: at each place the bits of the three streams (TS 36.212 section 5.1.3.1).
+/// The coded word: at each index the bits of the three streams (TS 36.212 section 5.1.3.1).
 pub fn encode<const N: usize>(word: &Bits<N>) -> [[bool; 3]; N]
     requires low { 6 ≤ N }
     requires high { N ≤ 64 }

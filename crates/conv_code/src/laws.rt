@@ -7,7 +7,7 @@ pub fn coded_words_tell_words()
     ensures { IsOneToOne }
 {}
 
-/// A law of the reading: its first 3N bits are those of all 3N places, each once, for 6 to 64 bits.
+/// A law of the reading: its first 3N bits are all 3N items, each once, for 6 to 64 bits.
 pub fn reading_permutes()
     ensures { IsPermuting }
 {}

@@ -3,16 +3,16 @@
 ghost use Rattle.std.specs.Prelude.{◌≡◌, ℕ, ◌+◌, ◌*◌, ◌^◌, ◌<◌, ◌≤◌, length, nat_abs, slice_index_or};
 ghost use Rattle.finite.specs.Sizes.{AllWithin, RowsWithin};
 ghost use Rattle.finite.specs.Tables.{sum_at, sums_with};
-ghost use Rattle.conv_code.specs.Reading.{bit_at_place, place_of, stream_order, summed, summed_from};
+ghost use Rattle.conv_code.specs.Reading.{bit_of_item, item_of, stream_order, summed, summed_from};
 
-use sub_block::{Code, Place, cell_at};
+use sub_block::{Code, Item, cell_at};
 
-/// The place of the bit that is read after p others of a stream of n bits, n at most 66 (TS 36.212 section
+/// The index of the bit that is read after p others of a stream of n bits, n at most 66 (TS 36.212 section
 /// 5.1.4.2.1). `p` is below n, and so is the answer.
-pub fn stream_place(n: usize, p: usize) -> usize
+pub fn stream_index(n: usize, p: usize) -> usize
     requires high { n ≤ 66 }
     requires bits { p < n }
-    ensures place { result ≡ slice_index_or (stream_order n) p 0 }
+    ensures index { result ≡ slice_index_or (stream_order n) p 0 }
     ensures inside { result < n }
 {
     let rows = n.div_ceil(32);
@@ -30,18 +30,18 @@ pub fn stream_place(n: usize, p: usize) -> usize
     unreachable!()
 }
 
-/// The place of bit i of the endless reading of three streams of n bits.
-fn place_in(n: usize, i: usize) -> Place
+/// The item of bit i of the endless reading of three streams of n bits.
+fn item_in(n: usize, i: usize) -> Item
     requires low { 6 ≤ n }
     requires high { n ≤ 64 }
-    ensures place { result ≡ place_of n i }
-    ensures inside { result.place < n }
+    ensures item { result ≡ item_of n i }
+    ensures inside { result.index < n }
     ensures below_three { result.stream < 3 }
 {
     let i = i % (3 * n);
-    Place {
+    Item {
         stream: i / n,
-        place: stream_place(n, i % n),
+        index: stream_index(n, i % n),
     }
 }
 
@@ -49,24 +49,24 @@ fn place_in(n: usize, i: usize) -> Place
 pub fn match_out<const N: usize>(coded: &[[bool; 3]; N], i: usize) -> bool
     requires low { 6 ≤ N }
     requires high { N ≤ 64 }
-    ensures { result ≡ bit_at_place coded.now (place_of N i) }
+    ensures { result ≡ bit_of_item coded.now (item_of N i) }
 {
-    let at = place_in(N, i);
-    coded[at.place][at.stream]
+    let at = item_in(N, i);
+    coded[at.index][at.stream]
 }
 
-/// Adds the value to the sum at a place.
-fn add_at(sums: &mut [[i32; 3]], at: &Place, value: &i16)
-    requires place { at.now.place < length sums.old }
+/// Adds the value to the sum of an item.
+fn add_at(sums: &mut [[i32; 3]], at: &Item, value: &i16)
+    requires index { at.now.index < length sums.old }
     requires stream { at.now.stream < 3 }
-    requires room { nat_abs (sum_at sums.old at.now.place at.now.stream) ≤ 2 ^ 30 }
-    ensures sum { sums.new ≡ sums_with sums.old at.now.place at.now.stream value.now }
+    requires room { nat_abs (sum_at sums.old at.now.index at.now.stream) ≤ 2 ^ 30 }
+    ensures sum { sums.new ≡ sums_with sums.old at.now.index at.now.stream value.now }
     ensures size { nat_abs value.now ≤ 2 ^ 15 }
 {
-    sums[at.place][at.stream] += *value as i32;
+    sums[at.index][at.stream] += *value as i32;
 }
 
-/// At each place of a coded word the sum of the values that the endless reading maps to it, from its bit
+/// At each index of a coded word the sum of the values that the endless reading maps to it, from its bit
 /// `first` on. At most 1,920 values; `first` is below 2^32.
 pub fn combine_from<const N: usize>(first: usize, values: &[i16]) -> [[i32; 3]; N]
     requires low { 6 ≤ N }
@@ -76,15 +76,15 @@ pub fn combine_from<const N: usize>(first: usize, values: &[i16]) -> [[i32; 3]; 
     ensures sums { result ≡ summed_from first N values.now }
     ensures sizes { (bound : ℕ) → AllWithin bound values.now → RowsWithin (length values.now * bound) result }
 {
-    let order: [usize; N] = stream_places();
+    let order: [usize; N] = stream_indices();
     let mut sums = [[0; 3]; N];
     for (i, value) in values.iter().enumerate() {
-        add_at(&mut sums, &place_by(&order, first + i), value);
+        add_at(&mut sums, &item_by(&order, first + i), value);
     }
     sums
 }
 
-/// The same of values that begin with bit 0 of the reading: in each round of it one value for a place.
+/// The same of values that begin with bit 0 of the reading: in each round of it one value for an item.
 pub fn combine<const N: usize>(values: &[i16]) -> [[i32; 3]; N]
     requires low { 6 ≤ N }
     requires high { N ≤ 64 }
@@ -97,30 +97,30 @@ pub fn combine<const N: usize>(values: &[i16]) -> [[i32; 3]; N]
     combine_from(0, values)
 }
 
-// The places of a stream of N bits, in the order of the reading.
-fn stream_places<const N: usize>() -> [usize; N]
+// The indices of a stream of N bits, in the order of the reading.
+fn stream_indices<const N: usize>() -> [usize; N]
     requires high { N ≤ 64 }
     ensures { result ≡ stream_order N }
 {
     let mut order = [0; N];
     for p in 0..N {
-        order[p] = stream_place(N, p);
+        order[p] = stream_index(N, p);
     }
     order
 }
 
-// The place of bit i of the endless reading, by the order of a stream.
-fn place_by<const N: usize>(order: &[usize; N], i: usize) -> Place
+// The item of bit i of the endless reading, by the order of a stream.
+fn item_by<const N: usize>(order: &[usize; N], i: usize) -> Item
     requires low { 6 ≤ N }
     requires high { N ≤ 64 }
     requires order { order.now ≡ stream_order N }
-    ensures place { result ≡ place_of N i }
-    ensures inside { result.place < N }
+    ensures item { result ≡ item_of N i }
+    ensures inside { result.index < N }
     ensures below_three { result.stream < 3 }
 {
     let i = i % (3 * N);
-    Place {
+    Item {
         stream: i / N,
-        place: order[i % N],
+        index: order[i % N],
     }
 }

@@ -99,7 +99,7 @@ set_later own parity set later k known h = record {
     by : (p : ℕ) (u : Bool) → p < 8 → none (known.ones p + step_ones own parity k p u) ≡ (bit_at set p && hides (bit_at own k) (bit_at parity k) p u)
     by p u below = none_sum (known.ones p) (step_ones own parity k p u) ∙ ap₂ ◌&&◌ (sym (known.member p below)) (step_none own parity k p u)
 
--- the set has the states from which n steps and the tail lead on, from place k, with no known bit 1
+-- the set has the states from which n steps and the tail lead on, from index k, with no known bit 1
 pub record IsBack (own parity tail : List Bool) (k n : ℕ) (set : List Bool) : Type 0 where
   pub member : (x : ℕ) → x < 8 → bit_at set x ≡ none (best next (step_ones own parity) (tail_ones tail) k n x)
 
@@ -190,12 +190,12 @@ module _ (own parity tail : List Bool) where
   all_is k d inside bit =
       let path = path_is (step_ones own parity) d in
       let same : nat_eq k k ≡ true = eq-eqb k k refl in
-      let places = total_below_changed (length d) k (cond (bit_at own k) 1 0) (λ j. step_ones own parity j (state_at d j) (bit_at d j)) (λ j. other_step own parity k j (state_at d j) (bit_at d j)) inside
+      let indices = total_below_changed (length d) k (cond (bit_at own k) 1 0) (λ j. step_ones own parity j (state_at d j) (bit_at d j)) (λ j. other_step own parity k j (state_at d j) (bit_at d j)) inside
       (rw (bit, same) (omega arith))
       (λ j other. let differs : nat_eq j k ≡ false = ne_eqb j k other in rw differs refl) in
-      rw (path.cost, path.there) (omega (arith, places))
+      rw (path.cost, path.there) (omega (arith, indices))
 
-  -- what a word costs by way of a state at place k, and whether the sets lead through there
+  -- what a word costs by way of a state at index k, and whether the sets lead through there
   by_way : (before after : List Bool) (k n x : ℕ) → IsSet own parity k before → IsBack own parity tail (suc k) n after → x < 8 → ℕ
   by_way before after k n x set back below =
       set.ones x + (cond (parity_bit x true && bit_at parity k) 1 0 + best next (step_ones own parity) (tail_ones tail) (suc k) n (next x true))
@@ -214,7 +214,7 @@ module _ (own parity tail : List Bool) where
       and_assoc true b c = refl
       and_assoc false b c = refl
 
-  -- a word by way of its state at place k
+  -- a word by way of its state at index k
   all_split : (us ws : List Bool) (k : ℕ) → length us ≡ k →
       all_ones own parity tail (us ++ true ∷ ws) ≡ path_cost next (step_ones own parity) 0 0 us
       + (cond (bit_at own k) 1 0 + cond (parity_bit (end_of next 0 us) true && bit_at parity k) 1 0)

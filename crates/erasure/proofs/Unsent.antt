@@ -19,7 +19,7 @@ use Rattle.turbo_code.proofs.Orders.{read_at_step}
 use Rattle.erasure.specs.Known.{Sent, step_shows, tail_shows, shows, found, tail_sent, first_sent, second_sent, first_found, second_found, known_after, settled, settles_all, word_after, resolves, resolvable, sent_of}
 use Rattle.erasure.specs.Laws.{UnsentBlockIsNotResolvable}
 
--- a word with a 1 at place k
+-- a word with a 1 at index k
 one_at : (n k : ℕ) → k < n → (word : List Bool) × (length word ≡ n) × (bit_at word k ≡ true)
 one_at n k inside =
     let us : List Bool = replicate k false in

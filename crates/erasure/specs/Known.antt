@@ -5,11 +5,11 @@ use Rattle.finite.specs.Lists.{values_below}
 use Rattle.finite.specs.Tests.{any_below, every_below}
 use Rattle.cs_bits.specs.Checks.{has_check_24}
 use Rattle.paths.specs.AllWords.{every_word}
-use Rattle.sub_block.specs.Places.{is_at}
+use Rattle.sub_block.specs.Items.{is_at}
 use Rattle.turbo_code.specs.declared.rows.Row.{Row}
 use Rattle.turbo_code.specs.Table.{interleaver, step_of}
 use Rattle.turbo_code.specs.Encoder.{bit_at, parity, tail_x, tail_z}
-use Rattle.turbo_code.specs.Reading.{place_of}
+use Rattle.turbo_code.specs.Reading.{item_of}
 
 -- ---- one decoder
 
@@ -37,9 +37,9 @@ shows n sent known k word = any_below n (step_shows sent known k word) || any_be
 unfoldable pub found : ℕ → Sent → (ℕ → Bool) → ℕ → Bool
 found n sent known k = every_word n (λ word. not (bit_at word k) || shows n sent known k word)
 
--- ---- the iterations; `sent t p` says whether place p of stream t is sent
+-- ---- the iterations; `sent t p` says whether item p of stream t is sent
 
--- the six tail bits of an encoder stand at place p and the next, stream after stream
+-- the six tail bits of an encoder stand at index p and the next, stream after stream
 abbrev pub tail_sent : (ℕ → ℕ → Bool) → ℕ → List Bool
 tail_sent sent p = sent 0 p ∷ sent 1 p ∷ sent 2 p ∷ sent 0 (p + 1) ∷ sent 1 (p + 1) ∷ sent 2 (p + 1) ∷ []
 
@@ -89,6 +89,6 @@ resolves row sent word n =
 unfoldable pub resolvable : Row → (ℕ → ℕ → Bool) → List Bool → Bool
 resolvable row sent word = any_below 8 (resolves row sent word)
 
--- place p of stream t is sent, by the first m bits of the reading of K bits from a redundancy version on
+-- item p of stream t is sent, by the first m bits of the reading of K bits from a redundancy version on
 unfoldable pub sent_of : ℕ → ℕ → ℕ → ℕ → ℕ → Bool
-sent_of k rv m t p = any_below m (λ i. is_at t p (place_of k rv i))
+sent_of k rv m t p = any_below m (λ i. is_at t p (item_of k rv i))

@@ -66,6 +66,6 @@ sent_by own parity tail = record { information = bit_at own; parity = bit_at par
 abbrev pub found_by : List Bool → List Bool → List Bool → ℕ → Bool
 found_by own parity tail k = found (length own) (sent_by own parity tail) (λ _. false) k
 
--- the places of a table whose number is above 0
+-- the indices of a table whose number is above 0
 abbrev pub above_zero : List (List ℤ) → ℕ → ℕ → Bool
 above_zero sums t p = int_lt (pos 0) (sum_at sums t p)

@@ -11,7 +11,7 @@ pub(crate) type Marks = [bool; 1024];
 /// Writes the sets of states to which steps without a known bit 1 lead, before the first step and after
 /// each.
 fn forward(own: &[bool], parity: &[bool], sets: &mut [States])
-    requires places { length own.now ≤ 1024 }
+    requires short { length own.now ≤ 1024 }
     requires parities { length parity.now ≡ length own.now }
     requires room { length own.now < length sets.old }
     ensures { HasSets own.now parity.now sets.new (length own.now) }
@@ -26,7 +26,7 @@ fn forward(own: &[bool], parity: &[bool], sets: &mut [States])
 
 /// Which bits are found, from the sets of the forward pass.
 fn backward(own: &[bool], parity: &[bool], tail: &[bool; 6], sets: &[States]) -> Marks
-    requires places { length own.now ≤ 1024 }
+    requires short { length own.now ≤ 1024 }
     requires parities { length parity.now ≡ length own.now }
     requires room { length own.now < length sets.now }
     requires sets { HasSets own.now parity.now sets.now (length own.now) }
@@ -43,10 +43,10 @@ fn backward(own: &[bool], parity: &[bool], tail: &[bool; 6], sets: &[States]) ->
     found
 }
 
-/// Which bits of a word a decoder finds: those where each word with a 1 there has a 1 at a known place too,
+/// Which bits of a word a decoder finds: those where each word with a 1 there has a 1 at a known index too,
 /// among its other bits, its parity bits and its tail.
 pub(crate) fn find(own: &[bool], parity: &[bool], tail: &[bool; 6]) -> Marks
-    requires places { length own.now ≤ 1024 }
+    requires short { length own.now ≤ 1024 }
     requires parities { length parity.now ≡ length own.now }
     ensures found { (k : ℕ) → k < length own.now →
         slice_index_or result k false ≡ found_by own.now parity.now tail.now k }

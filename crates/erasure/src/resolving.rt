@@ -14,19 +14,19 @@ use turbo_code::{Row, combine, interleaver};
 /// How many iterations are tried.
 const ITERATIONS: usize = 8;
 
-/// For each place of the three streams, how many of the sent bits come from it.
+/// For each index of the three streams, how many of the sent bits come from it.
 type Counts = [[i32; 1028]; 3];
 
 /// Whether the coded bit is sent.
 fn is_sent(counts: &Counts, t: usize, p: usize) -> bool
     requires stream { t < 3 }
-    requires place { p < 1028 }
+    requires index { p < 1028 }
     ensures { result ≡ above_zero counts.now t p }
 {
     counts[t][p] > 0
 }
 
-/// Which tail bits of a decoder are sent, whose tail begins at a place.
+/// Which tail bits of a decoder are sent, whose tail begins at an index.
 fn tail_of(counts: &Counts, p: usize) -> [bool; 6]
     requires { p ≤ 1026 }
     ensures { result ≡ tail_sent (above_zero counts.now) p }
@@ -177,7 +177,7 @@ fn word_of(bits: &[bool], settled: &Marks) -> Marks
     word
 }
 
-/// Whether the block can be resolved, by the places that are sent.
+/// Whether the block can be resolved, by the items that are sent.
 fn resolves(bits: &[bool], row: &Row, counts: &Counts) -> bool
     requires row { IsRow row.now }
     requires count { length bits.now ≡ row.now.k }
@@ -200,7 +200,7 @@ fn resolves(bits: &[bool], row: &Row, counts: &Counts) -> bool
     false
 }
 
-/// For each place how many of the first bits of the reading come from it.
+/// For each index how many of the first bits of the reading come from it.
 fn counts_of(row: Row, rv: u8, sent: u16) -> Counts
     requires row { IsRow row }
     requires version { rv < 4 }

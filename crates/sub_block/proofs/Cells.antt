@@ -9,7 +9,7 @@ use Rattle.finite.proofs.Lists.{values_below-length, values_below_at}
 use Rattle.sub_block.specs.declared.Code.{Code}
 use Rattle.sub_block.specs.declared.Code.TheVariants.{Convolutional, Turbo}
 use Rattle.sub_block.specs.Matrix.{turbo_columns, columns, cell}
-use Rattle.sub_block.specs.Places.{spot, cells_read}
+use Rattle.sub_block.specs.Items.{item, cells_read}
 
 -- the columns of the convolutional code, written out
 convolutional_columns : columns Convolutional ≡
@@ -45,7 +45,7 @@ cell_below code r m h =
 -- ---- what is read of one stream
 
 pub length-cells_read : (code : Code) (r t : ℕ) → length (cells_read code r t) ≡ 32 * r
-length-cells_read code r t = values_below-length (32 * r) (λ m. spot t (cell code r m))
+length-cells_read code r t = values_below-length (32 * r) (λ m. item t (cell code r m))
 
-pub cells_read-at : (code : Code) (r t m : ℕ) → m < 32 * r → get_or (cells_read code r t) m (spot 0 0) ≡ spot t (cell code r m)
-cells_read-at code r t m h = values_below_at (λ m. spot t (cell code r m)) (32 * r) m (spot 0 0) h
+pub cells_read-at : (code : Code) (r t m : ℕ) → m < 32 * r → get_or (cells_read code r t) m (item 0 0) ≡ item t (cell code r m)
+cells_read-at code r t m h = values_below_at (λ m. item t (cell code r m)) (32 * r) m (item 0 0) h

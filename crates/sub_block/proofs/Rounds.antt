@@ -1,28 +1,28 @@
--- How great the sums can be: in so many rounds of a reading each place is read as often.
+-- How great the sums can be: in so many rounds of a reading each item is read as often.
 use Rattle.std.proofs.Common.{◌≡◌, ℕ, zero, suc, ◌+◌, ◌-◌, ◌*◌, ◌<◌, ◌≤◌, List, length, get_or, ℤ, pos, nat_abs, arith, sym, subst, ◌∙◌}
 use Rattle.std.proofs.lemmas.List.Elements.{All-get_or}
 use Rattle.std.proofs.Math.Nat.{mul-le-mul_right}
 use Rattle.finite.specs.Sizes.{AllWithin}
 use Rattle.finite.proofs.Counts.{count_below, count_once, count_split, sum_of_passing-within}
-use Rattle.sub_block.specs.declared.Place.{Place}
-use Rattle.sub_block.specs.Places.{is_at, summed_at}
-use Rattle.sub_block.proofs.Sums.{same_spot}
+use Rattle.sub_block.specs.declared.Item.{Item}
+use Rattle.sub_block.specs.Items.{is_at, summed_at}
+use Rattle.sub_block.proofs.Sums.{same_item}
 
--- after so many bits a reading begins anew, and until then each is at another place
-pub record GoesRound (whole : ℕ) (reading : ℕ → Place) : Type 0 where
+-- after so many bits a reading begins anew, and until then each is another item
+pub record GoesRound (whole : ℕ) (reading : ℕ → Item) : Type 0 where
   pub again : (q i : ℕ) → i < whole → reading (q * whole + i) ≡ reading i
   pub once : (i j : ℕ) → i < whole → j < whole → reading i ≡ reading j → i ≡ j
 
 -- at most one of a round
-once_a_round : (whole : ℕ) (reading : ℕ → Place) (q t p : ℕ) → GoesRound whole reading →
+once_a_round : (whole : ℕ) (reading : ℕ → Item) (q t p : ℕ) → GoesRound whole reading →
     count_below whole (λ i. is_at t p (reading (q * whole + i))) ≤ 1
 once_a_round whole reading q t p round =
     count_once whole (λ i. is_at t p (reading (q * whole + i)))
     (λ i j hi hj pi pj. round.once i j hi hj
-    (sym (round.again q i hi) ∙ same_spot (reading (q * whole + i)) t p pi ∙ sym (same_spot (reading (q * whole + j)) t p pj) ∙ round.again q j hj))
+    (sym (round.again q i hi) ∙ same_item (reading (q * whole + i)) t p pi ∙ sym (same_item (reading (q * whole + j)) t p pj) ∙ round.again q j hj))
 
 -- as many as rounds
-in_whole_rounds : (whole : ℕ) (reading : ℕ → Place) (q t p : ℕ) → GoesRound whole reading →
+in_whole_rounds : (whole : ℕ) (reading : ℕ → Item) (q t p : ℕ) → GoesRound whole reading →
     count_below (q * whole) (λ i. is_at t p (reading i)) ≤ q
 unfolding count_below
 in_whole_rounds whole reading zero t p round =
@@ -36,7 +36,7 @@ in_whole_rounds whole reading (suc q) t p round =
     subst (λ m. count_below m (λ i. is_at t p (reading i)) ≤ suc q) (sym more) (omega (arith, before, here, split))
 
 -- of fewer values no more
-in_rounds : (whole : ℕ) (reading : ℕ → Place) (m q t p : ℕ) → GoesRound whole reading → m ≤ q * whole →
+in_rounds : (whole : ℕ) (reading : ℕ → Item) (m q t p : ℕ) → GoesRound whole reading → m ≤ q * whole →
     count_below m (λ i. is_at t p (reading i)) ≤ q
 in_rounds whole reading m q t p round few =
     let e : m + (q * whole - m) ≡ q * whole = omega (arith, few) in
@@ -45,7 +45,7 @@ in_rounds whole reading m q t p round few =
     omega (arith, all, split)
 
 -- in so many rounds each sum is at most as many times the greatest value
-pub summed_at-small : (whole : ℕ) (reading : ℕ → Place) (values : List ℤ) (bound q : ℕ) → GoesRound whole reading →
+pub summed_at-small : (whole : ℕ) (reading : ℕ → Item) (values : List ℤ) (bound q : ℕ) → GoesRound whole reading →
     AllWithin bound values → length values ≤ q * whole → (t p : ℕ) → nat_abs (summed_at reading values (length values) t p) ≤ q * bound
 unfolding summed_at
 summed_at-small whole reading values bound q round small few t p =

@@ -1,4 +1,4 @@
--- Places that are the same, and the sums of values by stream and place, or by place and stream.
+-- Items that are the same, and the sums of values by stream and index, or by index and stream.
 use Rattle.std.proofs.Common.{◌≡◌, ℕ, Bool, true, List, get_or, ℤ, pos, refl, ap, ap₂, ◌∙◌, arith}
 use Rattle.std.specs.Prelude.{◌&&◌, cond, nat_eq}
 use Rattle.std.proofs.Math.Bool.{and_comm}
@@ -9,31 +9,31 @@ use Rattle.finite.specs.Sums.{sum_below}
 use Rattle.finite.proofs.Lists.{values_below_same}
 use Rattle.finite.proofs.Sums.{sum_below_same}
 use Rattle.finite.proofs.Tables.{share}
-use Rattle.sub_block.specs.declared.Place.{Place}
-use Rattle.sub_block.specs.Places.{spot, is_at, summed_at}
+use Rattle.sub_block.specs.declared.Item.{Item}
+use Rattle.sub_block.specs.Items.{item, is_at, summed_at}
 
-pub at_itself : (here : Place) → is_at here.stream here.place here ≡ true
-at_itself here = ap₂ (λ (a b : Bool). a && b) (eq-eqb here.stream here.stream refl) (eq-eqb here.place here.place refl)
+pub at_itself : (here : Item) → is_at here.stream here.index here ≡ true
+at_itself here = ap₂ (λ (a b : Bool). a && b) (eq-eqb here.stream here.stream refl) (eq-eqb here.index here.index refl)
 
-pub same_spot : (here : Place) (t p : ℕ) → is_at t p here ≡ true → here ≡ spot t p
-same_spot here t p h =
+pub same_item : (here : Item) (t p : ℕ) → is_at t p here ≡ true → here ≡ item t p
+same_item here t p h =
     let stream : here.stream ≡ t = grind (arith, nat_tests, h) in
-    let place : here.place ≡ p = grind (arith, nat_tests, h) in
-    ap (λ (n : ℕ). spot n here.place) stream ∙ ap (λ (n : ℕ). spot t n) place
+    let index : here.index ≡ p = grind (arith, nat_tests, h) in
+    ap (λ (n : ℕ). item n here.index) stream ∙ ap (λ (n : ℕ). item t n) index
 
 -- a table with a row for each stream
-pub table_by_stream : (reading : ℕ → Place) (values : List ℤ) (m rows columns : ℕ) →
-    values_below rows (λ t. values_below columns (λ p. sum_below m (share (λ i. (reading i).stream) (λ i. (reading i).place) values t p)))
+pub table_by_stream : (reading : ℕ → Item) (values : List ℤ) (m rows columns : ℕ) →
+    values_below rows (λ t. values_below columns (λ p. sum_below m (share (λ i. (reading i).stream) (λ i. (reading i).index) values t p)))
     ≡ values_below rows (λ t. values_below columns (summed_at reading values m t))
 unfolding summed_at
 table_by_stream reading values m rows columns = refl
 
--- a table with a row for each place
-pub table_by_place : (reading : ℕ → Place) (values : List ℤ) (m rows columns : ℕ) →
-    values_below rows (λ p. values_below columns (λ t. sum_below m (share (λ i. (reading i).place) (λ i. (reading i).stream) values p t)))
+-- a table with a row for each index
+pub table_by_index : (reading : ℕ → Item) (values : List ℤ) (m rows columns : ℕ) →
+    values_below rows (λ p. values_below columns (λ t. sum_below m (share (λ i. (reading i).index) (λ i. (reading i).stream) values p t)))
     ≡ values_below rows (λ p. values_below columns (λ t. summed_at reading values m t p))
 unfolding summed_at
-table_by_place reading values m rows columns =
+table_by_index reading values m rows columns =
     values_below_same rows _ _ (λ p _. values_below_same columns _ _ (λ t _.
-    sum_below_same m (share (λ i. (reading i).place) (λ i. (reading i).stream) values p t) (λ i. cond (is_at t p (reading i)) (get_or values i (pos 0)) (pos 0))
-    (λ i _. ap (λ b. cond b (get_or values i (pos 0)) (pos 0)) (and_comm (nat_eq (reading i).place p) (nat_eq (reading i).stream t)))))
+    sum_below_same m (share (λ i. (reading i).index) (λ i. (reading i).stream) values p t) (λ i. cond (is_at t p (reading i)) (get_or values i (pos 0)) (pos 0))
+    (λ i _. ap (λ b. cond b (get_or values i (pos 0)) (pos 0)) (and_comm (nat_eq (reading i).index p) (nat_eq (reading i).stream t)))))

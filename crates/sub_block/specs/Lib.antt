@@ -1,2 +1,2 @@
 pub mod Matrix
-pub mod Places
+pub mod Items

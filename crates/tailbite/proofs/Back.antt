@@ -5,7 +5,7 @@ use Rattle.std.proofs.lemmas.Bool.{cases_lt}
 use Rattle.paths.specs.Paths.{best, best_bit}
 use Rattle.paths.specs.Rows.{least_out, bit_out}
 use Rattle.tailbite.specs.Machine.{shift, step_cost}
-use Rattle.tailbite.specs.Costs.{AreCosts, cost_in}
+use Rattle.tailbite.specs.Costs.{AreCosts, shared_cost}
 use Rattle.tailbite.specs.Passes.{bit_in, IsPass}
 use Rattle.tailbite.proofs.Windows.{shift_below}
 
@@ -31,14 +31,14 @@ pass_end values ends bits small =
 -- the sums that a row is compared by
 same_sums : (costs row : List ℕ) (values : List (List ℤ)) (ends : ℕ → ℕ) (i m x : ℕ) (b : Bool) → AreCosts (get_or values i []) costs →
     ((x : ℕ) → x < 64 → get_or row x 0 ≡ best shift (step_cost values) ends (suc i) m x) → x < 64 →
-    cost_in costs x b + get_or row (shift x b) 0 ≡ step_cost values i x b + best shift (step_cost values) ends (suc i) m (shift x b)
+    shared_cost costs x b + get_or row (shift x b) 0 ≡ step_cost values i x b + best shift (step_cost values) ends (suc i) m (shift x b)
 same_sums costs row values ends i m x b are known below = ap₂ ◌+◌ (are.cost x b below) (known (shift x b) (shift_below x b below))
 
 -- one place back
 pub pass_step : (values : List (List ℤ)) (ends : ℕ → ℕ) (costs row earlier : List ℕ) (bits : List (List Bool)) (step : List Bool) (j i : ℕ) →
     IsPassAt values ends row bits j → j ≡ suc i → AreCosts (get_or values i []) costs → i < length bits →
-    ((x : ℕ) → x < 64 → get_or earlier x 0 ≡ least_out shift (cost_in costs) row x) →
-    ((x : ℕ) → x < 64 → get_or step x false ≡ bit_out shift (cost_in costs) row x) →
+    ((x : ℕ) → x < 64 → get_or earlier x 0 ≡ least_out shift (shared_cost costs) row x) →
+    ((x : ℕ) → x < 64 → get_or step x false ≡ bit_out shift (shared_cost costs) row x) →
     ((x : ℕ) → x < 64 → get_or earlier x 0 ≤ get_or row (shift x false) 0 + 3 * 2 ^ 20) →
     IsPassAt values ends earlier (set bits i step) i
 pass_step values ends costs row earlier bits step j i known next are inside least chosen growth = back (rw next at known)

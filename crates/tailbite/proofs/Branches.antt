@@ -4,7 +4,7 @@ use Rattle.finite.specs.Sums.{total_below}
 use Rattle.paths.specs.Paths.{end_of, path_cost}
 use Rattle.paths.proofs.Paths.{end_of-append}
 use Rattle.conv_code.specs.Code.{parity, bit_back, taps_0, taps_1, taps_2}
-use Rattle.conv_code.specs.Cost.{triple_cost, place_cost, word_cost}
+use Rattle.conv_code.specs.Cost.{triple_cost, cost_at, word_cost}
 use Rattle.tailbite.specs.Machine.{shift, window_bit, step_cost}
 use Rattle.tailbite.proofs.Windows.{window-cyclic}
 
@@ -36,7 +36,7 @@ same_triple v f g h =
 
 -- the cost of a word, from a place on, is that of its path
 cost-path : (values : List (List ℤ)) (word before after : List Bool) → word ≡ before ++ after → 6 ≤ length word →
-    total_from (place_cost values word) (length before) (length after)
+    total_from (cost_at values word) (length before) (length after)
     ≡ path_cost shift (step_cost values) (length before) (end_of shift (end_of shift 0 word) before) after
 unfolding total_from
 cost-path values word before [] e h = refl
@@ -55,8 +55,8 @@ pub word_cost-path : (values : List (List ℤ)) (word : List Bool) → length wo
     word_cost values word ≡ path_cost shift (step_cost values) 0 (end_of shift 0 word) word
 unfolding word_cost total_below
 word_cost-path values word size h =
-    let all = total_below-from (place_cost values word) 0 (length word) in
+    let all = total_below-from (cost_at values word) 0 (length word) in
     let e : 0 + length word ≡ length values = omega (arith, size) in
     let all' = rw e at all in
-    sym all' ∙ (let z : 0 + total_from (place_cost values word) 0 (length word) ≡ total_from (place_cost values word) 0 (length word) = omega arith in z)
+    sym all' ∙ (let z : 0 + total_from (cost_at values word) 0 (length word) ≡ total_from (cost_at values word) 0 (length word) = omega arith in z)
     ∙ cost-path values word [] word refl h

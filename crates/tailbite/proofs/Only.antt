@@ -4,10 +4,10 @@ use Rattle.finite.specs.Sums.{total_below}
 use Rattle.finite.specs.Lists.{values_below}
 use Rattle.finite.proofs.Lists.{values_below_same}
 use Rattle.finite.proofs.Sums.{total_zero, terms_zero}
-use Rattle.conv_code.specs.Code.{coded, coded_bits, coded_word, taps_0, taps_1, taps_2}
+use Rattle.conv_code.specs.Code.{tapped_bit, coded_bits, coded_word, taps_0, taps_1, taps_2}
 use Rattle.cs_bits.specs.Signs.{disagreement}
 use Rattle.cs_bits.proofs.Signs.{speaks_for_one}
-use Rattle.conv_code.specs.Cost.{place_cost, word_cost}
+use Rattle.conv_code.specs.Cost.{cost_at, word_cost}
 use Rattle.conv_code.proofs.OneToOne.{one_to_one}
 use Rattle.paths.proofs.Words.{either_before}
 use Rattle.paths.proofs.Exists.{some_first_least}
@@ -15,7 +15,7 @@ use Rattle.tailbite.specs.Laws.{IsOneWord, IsSomeWord}
 use Rattle.tailbite.specs.Clean.{Speaks, IsOnlyLeast}
 
 -- a word's coded bits cost nothing where the values speak for them
-pub free_place : (values : List (List ℤ)) (word : List Bool) → Speaks values word → (k : ℕ) → k < length values → place_cost values word k ≡ 0
+pub free_place : (values : List (List ℤ)) (word : List Bool) → Speaks values word → (k : ℕ) → k < length values → cost_at values word k ≡ 0
 free_place values word speaks k below =
     let here = speaks.place k below in
     let a = here.first.free in
@@ -24,14 +24,14 @@ free_place values word speaks k below =
     omega (arith, a, b, c)
 
 -- a word that costs nothing at a place has the coded bits there
-pub same_place : (values : List (List ℤ)) (u word : List Bool) → Speaks values word → (k : ℕ) → k < length values → place_cost values u k ≡ 0 →
+pub same_place : (values : List (List ℤ)) (u word : List Bool) → Speaks values word → (k : ℕ) → k < length values → cost_at values u k ≡ 0 →
     coded_bits u k ≡ coded_bits word k
 same_place values u word speaks k below h =
     let here = speaks.place k below in
     let v = get_or values k [] in
-    let first : disagreement (get_or v 0 (pos 0)) (coded taps_0 u k) ≡ 0 = omega (arith, h) in
-    let second : disagreement (get_or v 1 (pos 0)) (coded taps_1 u k) ≡ 0 = omega (arith, h) in
-    let third : disagreement (get_or v 2 (pos 0)) (coded taps_2 u k) ≡ 0 = omega (arith, h) in
+    let first : disagreement (get_or v 0 (pos 0)) (tapped_bit taps_0 u k) ≡ 0 = omega (arith, h) in
+    let second : disagreement (get_or v 1 (pos 0)) (tapped_bit taps_1 u k) ≡ 0 = omega (arith, h) in
+    let third : disagreement (get_or v 2 (pos 0)) (tapped_bit taps_2 u k) ≡ 0 = omega (arith, h) in
     let a = speaks_for_one _ _ _ here.first first in
     let b = speaks_for_one _ _ _ here.second second in
     let c = speaks_for_one _ _ _ here.third third in
@@ -40,14 +40,14 @@ same_place values u word speaks k below h =
 pub only_least : IsOnlyLeast
 unfolding word_cost coded_word
 only_least values word least long size speaks is =
-    let zero_cost = total_zero (length values) (place_cost values word) (free_place values word speaks) in
+    let zero_cost = total_zero (length values) (cost_at values word) (free_place values word speaks) in
     let no_more = is.least word size in
-    let zero_least : total_below (length values) (place_cost values least) ≡ 0 = omega (arith, zero_cost, no_more) in
+    let zero_least : total_below (length values) (cost_at values least) ≡ 0 = omega (arith, zero_cost, no_more) in
     let same_size : length least ≡ length word = is.size ∙ sym size in
     one_to_one least word (omega (arith, is.size)) same_size
     (values_below_same (length least) (coded_bits least) (coded_bits word) (λ k inside.
     let below : k < length values = omega (arith, is.size) in
-    same_place values least word speaks k below (terms_zero (length values) (place_cost values least) zero_least k below))
+    same_place values least word speaks k below (terms_zero (length values) (cost_at values least) zero_least k below))
     ∙ ap (λ n. values_below n (coded_bits word)) same_size)
 
 -- there is only one least word

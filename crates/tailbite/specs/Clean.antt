@@ -1,14 +1,14 @@
 -- Values that all speak for the coded bits of one word (own).
 use Rattle.std.specs.Prelude.{◌≡◌, ℕ, ◌<◌, ◌≤◌, Bool, List, [], length, slice_index_or, ℤ, pos}
-use Rattle.conv_code.specs.Code.{coded, taps_0, taps_1, taps_2}
+use Rattle.conv_code.specs.Code.{tapped_bit, taps_0, taps_1, taps_2}
 use Rattle.cs_bits.specs.Signs.{SpeaksFor}
 use Rattle.tailbite.specs.LeastWord.{IsLeastWord}
 
 -- the three values of a place speak for the coded bits of a word at place k
 pub record PlaceSpeaks (v : List ℤ) (word : List Bool) (k : ℕ) : Type 0 where
-  pub first : SpeaksFor (slice_index_or v 0 (pos 0)) (coded taps_0 word k)
-  pub second : SpeaksFor (slice_index_or v 1 (pos 0)) (coded taps_1 word k)
-  pub third : SpeaksFor (slice_index_or v 2 (pos 0)) (coded taps_2 word k)
+  pub first : SpeaksFor (slice_index_or v 0 (pos 0)) (tapped_bit taps_0 word k)
+  pub second : SpeaksFor (slice_index_or v 1 (pos 0)) (tapped_bit taps_1 word k)
+  pub third : SpeaksFor (slice_index_or v 2 (pos 0)) (tapped_bit taps_2 word k)
 
 -- the values of all places do
 pub record Speaks (values : List (List ℤ)) (word : List Bool) : Type 0 where

@@ -17,12 +17,12 @@ code_cost v p = triple_cost v (odd (p / 4)) (odd (p / 2)) (odd p)
 
 -- what the table says of the step from state x by the bit b: it has the cost of those from 2h by 0 and from 2h + 1
 -- by 1, which have the same coded bits, at h, and of those from 2h by 1 and from 2h + 1 by 0 at h + 32
-abbrev pub cost_in : List ℕ → ℕ → Bool → ℕ
-cost_in costs x b = slice_index costs (shift x (xor b (odd x)))
+abbrev pub shared_cost : List ℕ → ℕ → Bool → ℕ
+shared_cost costs x b = slice_index costs (shift x (xor b (odd x)))
 
 -- it says what the steps cost by the values of a place
 pub record AreCosts (values : List ℤ) (costs : List ℕ) : Type 0 where
-  pub cost : (x : ℕ) (b : Bool) → x < 64 → cost_in costs x b ≡ branch_cost values x b
+  pub cost : (x : ℕ) (b : Bool) → x < 64 → shared_cost costs x b ≡ branch_cost values x b
   pub small : (y : ℕ) → y < 64 → slice_index costs y ≤ 3 * 2 ^ 20
 
 -- the tables of the first n places do

@@ -30,9 +30,9 @@ first_from x = 2 * (x % 32)
 abbrev pub second_from : ℕ → ℕ
 second_from x = 2 * (x % 32) + 1
 
-abbrev pub bit_to : ℕ → Bool
-bit_to x = odd (x / 32)
+abbrev pub newest_bit : ℕ → Bool
+newest_bit x = odd (x / 32)
 
 -- the least cost to x, where the row has the least cost to each state one step before
 abbrev pub forward_least : List ℤ → List ℕ → ℕ → ℕ
-forward_least v row x = least_in (branch_cost v) row (first_from x) (bit_to x) (second_from x) (bit_to x)
+forward_least v row x = least_in (branch_cost v) row (first_from x) (newest_bit x) (second_from x) (newest_bit x)

@@ -5,7 +5,7 @@ ghost use Rattle.paths.specs.Paths.{end_of, walked};
 ghost use Rattle.paths.specs.Rows.{bit_out, least_out};
 ghost use Rattle.cs_bits.specs.Numbers.{number};
 ghost use Rattle.tailbite.specs.Machine.{shift};
-ghost use Rattle.tailbite.specs.Costs.{HaveCosts, cost_in};
+ghost use Rattle.tailbite.specs.Costs.{HaveCosts, shared_cost};
 ghost use Rattle.tailbite.specs.Passes.{IsPass, bit_in};
 
 use crate::costs::StepCosts;
@@ -21,8 +21,9 @@ pub(crate) type StepBits = [bool; 64];
 fn step_back(costs: &StepCosts, row: &[u32; 64], earlier: &mut [u32; 64], bits: &mut StepBits)
     requires small { (y : ℕ) → y < 64 → slice_index costs.now y ≤ 3 * 2 ^ 20 }
     requires room { (x : ℕ) → x < 64 → slice_index row.now x ≤ 2 ^ 31 }
-    ensures least { (x : ℕ) → x < 64 → slice_index earlier.new x ≡ least_out shift (cost_in costs.now) row.now x }
-    ensures bits { (x : ℕ) → x < 64 → slice_index_or bits.new x false ≡ bit_out shift (cost_in costs.now) row.now x }
+    ensures least { (x : ℕ) → x < 64 → slice_index earlier.new x ≡ least_out shift (shared_cost costs.now) row.now x }
+    ensures bits { (x : ℕ) → x < 64 →
+        slice_index_or bits.new x false ≡ bit_out shift (shared_cost costs.now) row.now x }
     ensures growth { (x : ℕ) → x < 64 → slice_index earlier.new x ≤ slice_index row.now (shift x false) + 3 * 2 ^ 20 }
 {
     for h in 0..32 {

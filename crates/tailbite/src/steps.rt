@@ -3,7 +3,7 @@
 ghost use Rattle.std.specs.Prelude.{◌≡◌, ℕ, ◌+◌, ◌*◌, ◌^◌, ◌<◌, ◌≤◌, ◌∷◌, [], length, map, slice_index};
 ghost use Rattle.finite.specs.Sizes.{AllWithin};
 ghost use Rattle.conv_code.specs.Code.{parity, taps_0, taps_1, taps_2};
-ghost use Rattle.tailbite.specs.Machine.{bit_to, branch_cost, first_from, forward_least, second_from, shift, window_bit};
+ghost use Rattle.tailbite.specs.Machine.{newest_bit, branch_cost, first_from, forward_least, second_from, shift, window_bit};
 
 use conv_code::against;
 
@@ -52,7 +52,7 @@ pub fn before(x: usize) -> (usize, usize, bool)
     requires { x < 64 }
     ensures first { result.0 ≡ first_from x }
     ensures second { result.1 ≡ second_from x }
-    ensures bit { result.2 ≡ bit_to x }
+    ensures bit { result.2 ≡ newest_bit x }
     ensures bound { result.1 < 64 }
 {
     let first = 2 * (x % 32);

@@ -3,7 +3,7 @@ use Rattle.std.proofs.Common.{◌≡◌, ℕ, ◌+◌, ◌-◌, ◌<◌, Bool, f
 use Rattle.std.proofs.lemmas.List.{get_or-append-add}
 use Rattle.std.proofs.Math.ListN.{get_or-append}
 use Rattle.finite.proofs.Lists.{values_below-length, values_below_at}
-use Rattle.sub_block.specs.Places.{spot}
+use Rattle.sub_block.specs.Items.{item}
 use Rattle.turbo_code.specs.declared.rows.Row.{Row}
 use Rattle.turbo_code.specs.Table.{interleaver}
 use Rattle.turbo_code.specs.Encoder.{bit_at, parity, parities, tail_x, tail_z, interleaved, stream, coded}
@@ -44,17 +44,17 @@ stream_tail bits a b c d n j size inside =
 -- ---- the coded word of a word of K bits
 
 module _ (row : Row) (word : List Bool) (size : length word ≡ row.k) where
-  pub information_at : (k : ℕ) → k < row.k → bit_of (coded row word) (spot 0 k) ≡ bit_at word k
+  pub information_at : (k : ℕ) → k < row.k → bit_of (coded row word) (item 0 k) ≡ bit_at word k
   unfolding coded
   information_at k inside = stream_bit word _ k (omega (arith, size, inside))
 
-  pub first_parity_at : (k : ℕ) → k < row.k → bit_of (coded row word) (spot 1 k) ≡ parity word k
+  pub first_parity_at : (k : ℕ) → k < row.k → bit_of (coded row word) (item 1 k) ≡ parity word k
   unfolding coded
   first_parity_at k inside =
       let same = length-parities word in
       stream_bit (parities word) _ k (omega (arith, size, same, inside)) ∙ parities_at word k (omega (arith, size, inside))
 
-  pub second_parity_at : (k : ℕ) → k < row.k → bit_of (coded row word) (spot 2 k) ≡ parity (interleaved row word) k
+  pub second_parity_at : (k : ℕ) → k < row.k → bit_of (coded row word) (item 2 k) ≡ parity (interleaved row word) k
   unfolding coded
   second_parity_at k inside =
       let long = length-interleaved row word in
@@ -62,17 +62,17 @@ module _ (row : Row) (word : List Bool) (size : length word ≡ row.k) where
       stream_bit (parities (interleaved row word)) _ k (omega (arith, long, same, inside))
       ∙ parities_at (interleaved row word) k (omega (arith, long, inside))
 
-  pub first_tail_at : (j : ℕ) → j < 4 → bit_of (coded row word) (spot 0 (row.k + j)) ≡
+  pub first_tail_at : (j : ℕ) → j < 4 → bit_of (coded row word) (item 0 (row.k + j)) ≡
       get_or (tail_x word 0 ∷ tail_z word 1 ∷ tail_x (interleaved row word) 0 ∷ tail_z (interleaved row word) 1 ∷ []) j false
   unfolding coded
   first_tail_at j inside = stream_tail word _ _ _ _ row.k j size inside
 
-  pub second_tail_at : (j : ℕ) → j < 4 → bit_of (coded row word) (spot 1 (row.k + j)) ≡
+  pub second_tail_at : (j : ℕ) → j < 4 → bit_of (coded row word) (item 1 (row.k + j)) ≡
       get_or (tail_z word 0 ∷ tail_x word 2 ∷ tail_z (interleaved row word) 0 ∷ tail_x (interleaved row word) 2 ∷ []) j false
   unfolding coded
   second_tail_at j inside = stream_tail (parities word) _ _ _ _ row.k j (length-parities word ∙ size) inside
 
-  pub third_tail_at : (j : ℕ) → j < 4 → bit_of (coded row word) (spot 2 (row.k + j)) ≡
+  pub third_tail_at : (j : ℕ) → j < 4 → bit_of (coded row word) (item 2 (row.k + j)) ≡
       get_or (tail_x word 1 ∷ tail_z word 2 ∷ tail_x (interleaved row word) 1 ∷ tail_z (interleaved row word) 2 ∷ []) j false
   unfolding coded
   third_tail_at j inside =

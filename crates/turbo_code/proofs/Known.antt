@@ -1,27 +1,27 @@
 -- The definitions at words and sizes whose code and reading are known.
 use Rattle.std.proofs.Common.{◌≡◌, true, false, [], ◌∷◌, map, refl}
 use Rattle.sub_block.specs.Matrix.{columns, turbo_columns}
-use Rattle.sub_block.specs.Places.{spot, bits_in}
+use Rattle.sub_block.specs.Items.{item, bits_in}
 use Rattle.turbo_code.specs.Table.{row, interleaver}
 use Rattle.turbo_code.specs.Encoder.{before, parities, tail_x, tail_z}
-use Rattle.turbo_code.specs.Reading.{start, buffer, reading, place_of}
+use Rattle.turbo_code.specs.Reading.{start, buffer, reading, item_of}
 
 -- the interleaver of K = 144
-places_of_144 : map (interleaver (row 144 17 108)) (0 ∷ 1 ∷ 2 ∷ 3 ∷ []) ≡ 0 ∷ 125 ∷ 34 ∷ 15 ∷ []
+indices_of_144 : map (interleaver (row 144 17 108)) (0 ∷ 1 ∷ 2 ∷ 3 ∷ []) ≡ 0 ∷ 125 ∷ 34 ∷ 15 ∷ []
 unfolding interleaver
-places_of_144 = refl
+indices_of_144 = refl
 
 -- where its reading starts
 starts_of_144 : map (start 144) (0 ∷ 1 ∷ 2 ∷ 3 ∷ []) ≡ 10 ∷ 130 ∷ 250 ∷ 370 ∷ []
 starts_of_144 = refl
 
 -- the first bits that are sent
-sent_of_144 : map (place_of 144 0) (0 ∷ 1 ∷ 2 ∷ 3 ∷ 4 ∷ []) ≡ spot 0 28 ∷ spot 0 60 ∷ spot 0 92 ∷ spot 0 124 ∷ spot 0 12 ∷ []
-unfolding place_of reading buffer bits_in columns turbo_columns
+sent_of_144 : map (item_of 144 0) (0 ∷ 1 ∷ 2 ∷ 3 ∷ 4 ∷ []) ≡ item 0 28 ∷ item 0 60 ∷ item 0 92 ∷ item 0 124 ∷ item 0 12 ∷ []
+unfolding item_of reading buffer bits_in columns turbo_columns
 sent_of_144 = refl
 
-sent_in_turn : map (place_of 144 2) (0 ∷ 1 ∷ 2 ∷ 444 ∷ []) ≡ spot 1 6 ∷ spot 2 7 ∷ spot 1 38 ∷ spot 1 6 ∷ []
-unfolding place_of reading buffer bits_in columns turbo_columns
+sent_in_turn : map (item_of 144 2) (0 ∷ 1 ∷ 2 ∷ 444 ∷ []) ≡ item 1 6 ∷ item 2 7 ∷ item 1 38 ∷ item 1 6 ∷ []
+unfolding item_of reading buffer bits_in columns turbo_columns
 sent_in_turn = refl
 
 -- one encoder's parity bits and tail for a word of seven bits

@@ -1,4 +1,5 @@
 pub mod TableFacts
+pub mod OneRow
 pub mod Permutes
 pub mod Cells
 pub mod Turned

@@ -20,7 +20,7 @@ in_order_is d row values found i is_row past size each =
     let high = (is_small row is_row).high in
     front_is d row.k (λ j. get_or values (interleaver row j) d) found (omega (arith, high, size)) (λ j below. each j (omega (arith, past, below)))
 
--- one more value, at its place in the word
+-- one more value, at its index in the word
 pub placed_more : {A : Type 0} (d : A) (row : Row) (values found : List A) (i : ℕ) (v : A) → IsRow row → i < row.k → length found ≡ 1024 →
     v ≡ get_or values i d → ((j : ℕ) → j < i → get_or found (interleaver row j) d ≡ get_or values j d) →
     (j : ℕ) → j < i + 1 → get_or (set found (interleaver row i) v) (interleaver row j) d ≡ get_or values j d

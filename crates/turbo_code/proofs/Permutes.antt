@@ -1,4 +1,4 @@
--- The interleaver of each row, by computation: three rounds of i := back (y - f2 i^2) lead from a place back.
+-- The interleaver of each row, by computation: three rounds of i := back (y - f2 i^2) lead from an index back.
 use Rattle.std.proofs.Common.{◌≡◌, ℕ, ◌+◌, ◌-◌, ◌*◌, ◌%◌, ◌<◌, Bool, true, List, [], ◌∷◌, length, get_or, refl, ap, subst, sym, ◌∙◌, arith, suc, zero, mod-lt}
 use Rattle.std.specs.Prelude.{◌&&◌, nat_eq, nat_lt}
 use Rattle.std.proofs.lemmas.Bool.{eqb-true, ltb-true, and_parts}
@@ -14,15 +14,15 @@ backs =
     3 ∷ 51 ∷ 35 ∷ 41 ∷ 111 ∷ 17 ∷ 5 ∷ 77 ∷ 101 ∷ 233 ∷ 87 ∷ 61 ∷ 285 ∷ 151 ∷ 233 ∷ 263 ∷
     329 ∷ 479 ∷ 497 ∷ 257 ∷ 493 ∷ 137 ∷ 617 ∷ 595 ∷ 319 ∷ 361 ∷ 753 ∷ 305 ∷ 495 ∷ 641 ∷ 991 ∷ []
 
--- the place that the interleaver leads to y
-place_back : Row → ℕ → ℕ → ℕ
-place_back r back y =
+-- the index that the interleaver leads to y
+index_back : Row → ℕ → ℕ → ℕ
+index_back r back y =
     let a = (back * y) % r.k in
     let b = (back * (y + (r.k - r.f2) * (a * a))) % r.k in
     (back * (y + (r.k - r.f2) * (b * b))) % r.k
 
 both_ways : Row → ℕ → ℕ → Bool
-both_ways r back i = nat_eq (place_back r back (interleaver r i)) i && nat_eq (interleaver r (place_back r back i)) i
+both_ways r back i = nat_eq (index_back r back (interleaver r i)) i && nat_eq (interleaver r (index_back r back i)) i
 
 row_test : Row → ℕ → Bool
 row_test r back = nat_lt 0 r.k && every_below r.k (both_ways r back)
@@ -33,7 +33,7 @@ rows_test [] k = true
 rows_test (r ∷ rs) k = row_test r (get_or backs k 0) && rows_test rs (suc k)
 
 tested : rows_test rows 0 ≡ true
-unfolding rows_test row_test both_ways interleaver place_back rows backs every_below
+unfolding rows_test row_test both_ways interleaver index_back rows backs every_below
 tested = refl
 
 row_passes : (rs : List Row) (first : ℕ) → rows_test rs first ≡ true → (k : ℕ) (r : Row) → k < length rs → get_or rs k r ≡ r →
@@ -50,12 +50,12 @@ unfolding row_test both_ways
 permutes_by r b h =
     let parts = and_parts (nat_lt 0 r.k) (every_below r.k (both_ways r b)) h in
     let some : 0 < r.k = ltb-true 0 r.k parts.0 in
-    let at : (i : ℕ) → i < r.k → (nat_eq (place_back r b (interleaver r i)) i ≡ true) × (nat_eq (interleaver r (place_back r b i)) i ≡ true)
-    = λ i l. and_parts (nat_eq (place_back r b (interleaver r i)) i) (nat_eq (interleaver r (place_back r b i)) i) (every_below_at r.k (both_ways r b) parts.1 i l) in
+    let at : (i : ℕ) → i < r.k → (nat_eq (index_back r b (interleaver r i)) i ≡ true) × (nat_eq (interleaver r (index_back r b i)) i ≡ true)
+    = λ i l. and_parts (nat_eq (index_back r b (interleaver r i)) i) (nat_eq (interleaver r (index_back r b i)) i) (every_below_at r.k (both_ways r b) parts.1 i l) in
     record {
       below = λ i l. unfold interleaver in mod-lt (r.f1 * i + r.f2 * i * i) some;
-      one_to_one = λ i j l m e. sym (eqb-true _ i (at i l).0) ∙ ap (place_back r b) e ∙ eqb-true _ j (at j m).0;
-      onto = λ y l. (place_back r b y, (unfold place_back in mod-lt _ some), eqb-true _ y (at y l).1);
+      one_to_one = λ i j l m e. sym (eqb-true _ i (at i l).0) ∙ ap (index_back r b) e ∙ eqb-true _ j (at j m).0;
+      onto = λ y l. (index_back r b y, (unfold index_back in mod-lt _ some), eqb-true _ y (at y l).1);
     }
 
 pub all_permute : RowsPermute

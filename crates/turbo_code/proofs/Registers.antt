@@ -75,7 +75,7 @@ half_is true false true = refl
 half_is true true false = refl
 half_is true true true = refl
 
--- the state before place k of a word
+-- the state before index k of a word
 abbrev pub state_at : List Bool → ℕ → ℕ
 state_at word k = state_of (before word k)
 

@@ -6,20 +6,20 @@ use Rattle.std.proofs.Math.Nat.{mod-eq_of_lt}
 use Rattle.finite.specs.Sizes.{AllWithin, RowsWithin}
 use Rattle.finite.specs.Lists.{values_below}
 use Rattle.finite.proofs.Lists.{values_below-All}
-use Rattle.sub_block.specs.Places.{summed_at}
+use Rattle.sub_block.specs.Items.{summed_at}
 use Rattle.sub_block.proofs.Rounds.{GoesRound, summed_at-small}
 use Rattle.turbo_code.specs.Table.{IsSize}
-use Rattle.turbo_code.specs.Reading.{place_of, summed}
+use Rattle.turbo_code.specs.Reading.{item_of, summed}
 use Rattle.turbo_code.proofs.TableFacts.{is_small_size}
 use Rattle.turbo_code.proofs.Round.{reading_count}
 use Rattle.turbo_code.proofs.Whole.{whole}
 
--- a place is the same one in each round of the reading
-in_round : (k rv q i : ℕ) → IsSize k → i < 3 * (k + 4) → place_of k rv (q * (3 * (k + 4)) + i) ≡ place_of k rv i
-unfolding place_of
+-- an item is the same one in each round of the reading
+in_round : (k rv q i : ℕ) → IsSize k → i < 3 * (k + 4) → item_of k rv (q * (3 * (k + 4)) + i) ≡ item_of k rv i
+unfolding item_of
 in_round k rv q i size below = rw (reading_count k rv size, mod-mul-add q (3 * (k + 4)) i below, mod-eq_of_lt below) refl
 
-goes_round : (k rv : ℕ) → IsSize k → rv < 4 → GoesRound (3 * (k + 4)) (place_of k rv)
+goes_round : (k rv : ℕ) → IsSize k → rv < 4 → GoesRound (3 * (k + 4)) (item_of k rv)
 goes_round k rv size version = record {
   again = λ q i below. in_round k rv q i size below;
   once = (whole k rv size version).reads.once;
@@ -31,7 +31,7 @@ unfolding summed
 sizes k rv size version values few bound small =
     let low = (is_small_size k size).low in
     let in_seven : length values ≤ 7 * (3 * (k + 4)) = omega (arith, low, few) in
-    let sum : ℕ → ℕ → ℤ = summed_at (place_of k rv) values (length values) in
+    let sum : ℕ → ℕ → ℤ = summed_at (item_of k rv) values (length values) in
     values_below-All (AllWithin (7 * bound)) 3 (λ t. values_below 1028 (sum t)) []
     (λ t _. values_below-All (λ sum. nat_abs sum ≤ 7 * bound) 1028 (sum t) (pos 0)
-    (λ p _. summed_at-small (3 * (k + 4)) (place_of k rv) values bound 7 (goes_round k rv size version) small in_seven t p))
+    (λ p _. summed_at-small (3 * (k + 4)) (item_of k rv) values bound 7 (goes_round k rv size version) small in_seven t p))

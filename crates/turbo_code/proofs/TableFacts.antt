@@ -6,7 +6,7 @@ use Rattle.std.proofs.lemmas.Bool.{eqb-true, leb-true, ltb-true, and_parts}
 use Rattle.std.proofs.lemmas.List.{get_or_default}
 use Rattle.std.proofs.lemmas.List.Elements.{Contains-get_or}
 use Rattle.sub_block.specs.Matrix.{columns, matrix_rows, nulls, turbo_columns}
-use Rattle.sub_block.specs.Places.{bits_in}
+use Rattle.sub_block.specs.Items.{bits_in}
 use Rattle.turbo_code.specs.declared.rows.Row.{Row}
 use Rattle.turbo_code.specs.Table.{rows, row, IsRow, IsSize}
 use Rattle.turbo_code.specs.Reading.{buffer}

@@ -4,10 +4,10 @@ use Rattle.std.specs.Prelude.{◌&&◌, nat_eq, nat_lt, nat_le, cond, filter, ma
 use Rattle.std.specs.List.{count_by}
 use Rattle.std.proofs.Math.Nat.{mod-eq_of_lt}
 use Rattle.sub_block.specs.declared.Code.TheVariants.{Turbo}
-use Rattle.sub_block.specs.declared.Place.{Place}
+use Rattle.sub_block.specs.declared.Item.{Item}
 use Rattle.sub_block.specs.Matrix.{columns, cell, nulls, matrix_rows, turbo_columns}
-use Rattle.sub_block.specs.Places.{spot, bits_in, is_at}
-use Rattle.sub_block.proofs.Sums.{same_spot}
+use Rattle.sub_block.specs.Items.{item, bits_in, is_at}
+use Rattle.sub_block.proofs.Sums.{same_item}
 use Rattle.turbo_code.specs.Table.{IsSize}
 use Rattle.std.proofs.lemmas.Bool.{cases_Bool, eqb-true, ltb-true, leb-true, leb-false, and_parts}
 use Rattle.std.proofs.lemmas.Bool.Decides.{eqb_tells, nat_tests}
@@ -17,12 +17,12 @@ use Rattle.finite.specs.Tests.{every_below}
 use Rattle.finite.specs.Lists.{values_below}
 use Rattle.finite.proofs.Tests.{every_below_at}
 use Rattle.finite.proofs.Lists.{values_below_more}
-use Rattle.turbo_code.specs.Reading.{v0, v1, v2, in_turn, buffer, turned, start, reading, place_of}
+use Rattle.turbo_code.specs.Reading.{v0, v1, v2, in_turn, buffer, turned, start, reading, item_of}
 use Rattle.turbo_code.specs.Laws.{ReadingIsWhole}
 use Rattle.turbo_code.proofs.TableFacts.{is_small_size}
 use Rattle.turbo_code.proofs.Turned.{count-turned}
 use Rattle.turbo_code.proofs.Round.{reading_count}
-use Rattle.turbo_code.proofs.Inside.{place_inside, one_place}
+use Rattle.turbo_code.proofs.Inside.{item_inside, one_index}
 
 -- ---- tests of numbers
 
@@ -52,34 +52,34 @@ same_number a = elim (eqb_tells a a) [
 
 -- ---- nulls are skipped
 
-count-bits_in : (n t p : ℕ) (cells : List Place) → count_by (is_at t p) (bits_in n cells) ≡ count_by (is_at t (p + n)) cells
+count-bits_in : (n t p : ℕ) (cells : List Item) → count_by (is_at t p) (bits_in n cells) ≡ count_by (is_at t (p + n)) cells
 unfolding bits_in
 count-bits_in n t p [] = refl
-count-bits_in n t p (c ∷ cs) = settle (count-bits_in n t p cs) (nat_le n c.place) refl
+count-bits_in n t p (c ∷ cs) = settle (count-bits_in n t p cs) (nat_le n c.index) refl
   where
-    settle : count_by (is_at t p) (map (λ c. spot c.stream (c.place - n)) (filter (λ c. nat_le n c.place) cs)) ≡ count_by (is_at t (p + n)) cs →
-        (b : Bool) → nat_le n c.place ≡ b →
-        count_by (is_at t p) (map (λ c. spot c.stream (c.place - n)) (cond b (c ∷ filter (λ c. nat_le n c.place) cs) (filter (λ c. nat_le n c.place) cs)))
+    settle : count_by (is_at t p) (map (λ c. item c.stream (c.index - n)) (filter (λ c. nat_le n c.index) cs)) ≡ count_by (is_at t (p + n)) cs →
+        (b : Bool) → nat_le n c.index ≡ b →
+        count_by (is_at t p) (map (λ c. item c.stream (c.index - n)) (cond b (c ∷ filter (λ c. nat_le n c.index) cs) (filter (λ c. nat_le n c.index) cs)))
         ≡ count_by (is_at t (p + n)) (c ∷ cs)
     settle known true e =
-        let inside = leb-true n c.place e in
-        let same = same_test (c.place - n) p c.place (p + n) (λ h. omega (arith, h, inside)) (λ h. omega (arith, h, inside)) in
-        let one = sum_by-cons (λ x. cond (is_at t p x) 1 0) (spot c.stream (c.place - n)) (map (λ c. spot c.stream (c.place - n)) (filter (λ c. nat_le n c.place) cs)) in
+        let inside = leb-true n c.index e in
+        let same = same_test (c.index - n) p c.index (p + n) (λ h. omega (arith, h, inside)) (λ h. omega (arith, h, inside)) in
+        let one = sum_by-cons (λ x. cond (is_at t p x) 1 0) (item c.stream (c.index - n)) (map (λ c. item c.stream (c.index - n)) (filter (λ c. nat_le n c.index) cs)) in
         let all = sum_by-cons (λ x. cond (is_at t (p + n) x) 1 0) c cs in
-        let here : cond {A = ℕ} (nat_eq c.stream t && nat_eq (c.place - n) p) 1 0 ≡ cond {A = ℕ} (is_at t (p + n) c) 1 0
+        let here : cond {A = ℕ} (nat_eq c.stream t && nat_eq (c.index - n) p) 1 0 ≡ cond {A = ℕ} (is_at t (p + n) c) 1 0
         = ap (λ b. cond {A = ℕ} (nat_eq c.stream t && b) 1 0) same in
-        one ∙ ap (λ x. x + count_by (is_at t p) (map (λ c. spot c.stream (c.place - n)) (filter (λ c. nat_le n c.place) cs))) here
+        one ∙ ap (λ x. x + count_by (is_at t p) (map (λ c. item c.stream (c.index - n)) (filter (λ c. nat_le n c.index) cs))) here
         ∙ ap (λ y. cond {A = ℕ} (is_at t (p + n) c) 1 0 + y) known ∙ sym all
     settle known false e =
-        let outside = leb-false n c.place e in
-        let other = different c.place (p + n) (λ h. omega (arith, h, outside)) in
+        let outside = leb-false n c.index e in
+        let other = different c.index (p + n) (λ h. omega (arith, h, outside)) in
         let none : cond {A = ℕ} (is_at t (p + n) c) 1 0 ≡ 0 = ap (λ b. cond (nat_eq c.stream t && b) 1 0) other ∙ ap (λ b. cond b 1 0) (and-false (nat_eq c.stream t)) in
         let all = sum_by-cons (λ x. cond (is_at t (p + n) x) 1 0) c cs in
         known ∙ omega (arith, all, none)
 
 -- ---- a cell in what is read of one stream
 
-count_more : (test : Place → Bool) (n : ℕ) (f : ℕ → Place) → count_by test (values_below (suc n) f) ≡ count_by test (values_below n f) + cond (test (f n)) 1 0
+count_more : (test : Item → Bool) (n : ℕ) (f : ℕ → Item) → count_by test (values_below (suc n) f) ≡ count_by test (values_below n f) + cond (test (f n)) 1 0
 count_more test n f =
     let e : suc n ≡ n + 1 = omega arith in
     let one : cond {A = ℕ} (test (f n)) 1 0 + 0 ≡ cond (test (f n)) 1 0 = omega arith in
@@ -87,22 +87,22 @@ count_more test n f =
     ∙ sum_by-append (λ x. cond (test x) 1 0) (values_below n f) (f n ∷ [])
     ∙ ap (λ z. count_by test (values_below n f) + z) (sum_by-cons (λ x. cond (test x) 1 0) (f n) [] ∙ one)
 
-count_other : (n s t c : ℕ) (f : ℕ → ℕ) → nat_eq s t ≡ false → count_by (is_at t c) (values_below n (λ m. spot s (f m))) ≡ 0
+count_other : (n s t c : ℕ) (f : ℕ → ℕ) → nat_eq s t ≡ false → count_by (is_at t c) (values_below n (λ m. item s (f m))) ≡ 0
 count_other zero s t c f e = refl
 count_other (suc n) s t c f e =
     let before = count_other n s t c f e in
-    let none : cond {A = ℕ} (is_at t c (spot s (f n))) 1 0 ≡ 0 = ap (λ b. cond (b && nat_eq (f n) c) 1 0) e in
-    count_more (is_at t c) n (λ m. spot s (f m)) ∙ ap₂ (λ (x y : ℕ). x + y) before none
+    let none : cond {A = ℕ} (is_at t c (item s (f n))) 1 0 ≡ 0 = ap (λ b. cond (b && nat_eq (f n) c) 1 0) e in
+    count_more (is_at t c) n (λ m. item s (f m)) ∙ ap₂ (λ (x y : ℕ). x + y) before none
 
 -- one of the numbers below n leads to c, and it is m0
 count_first : (n t c m0 : ℕ) (f : ℕ → ℕ) → ((m : ℕ) → m < n → nat_eq (f m) c ≡ nat_eq m m0) → (k : ℕ) → k ≤ n →
-    count_by (is_at t c) (values_below k (λ m. spot t (f m))) ≡ cond (nat_lt m0 k) 1 0
+    count_by (is_at t c) (values_below k (λ m. item t (f m))) ≡ cond (nat_lt m0 k) 1 0
 count_first n t c m0 f same zero h = let e : nat_lt m0 0 ≡ false = grind arith in rw e refl
 count_first n t c m0 f same (suc k) h =
     let before = count_first n t c m0 f same k (omega (arith, h)) in
-    let here : cond {A = ℕ} (is_at t c (spot t (f k))) 1 0 ≡ cond (nat_eq k m0) 1 0
+    let here : cond {A = ℕ} (is_at t c (item t (f k))) 1 0 ≡ cond (nat_eq k m0) 1 0
     = ap₂ (λ a b. cond (a && b) 1 0) (same_number t) (same k (omega (arith, h))) in
-    count_more (is_at t c) k (λ m. spot t (f m)) ∙ ap₂ (λ (x y : ℕ). x + y) before here ∙ next m0 k
+    count_more (is_at t c) k (λ m. item t (f m)) ∙ ap₂ (λ (x y : ℕ). x + y) before here ∙ next m0 k
   where
     next : (m0 k : ℕ) → cond (nat_lt m0 k) 1 0 + cond (nat_eq k m0) 1 0 ≡ cond (nat_lt m0 (suc k)) 1 0
     next m0 k = grind (arith, nat_tests)
@@ -113,7 +113,7 @@ record IsInverse (n : ℕ) (f g : ℕ → ℕ) : Type 0 where
   pub forth : (c : ℕ) → c < n → f (g c) ≡ c
   pub inside : (c : ℕ) → c < n → g c < n
 
-count_this : (n t c : ℕ) (f g : ℕ → ℕ) → IsInverse n f g → c < n → count_by (is_at t c) (values_below n (λ m. spot t (f m))) ≡ 1
+count_this : (n t c : ℕ) (f g : ℕ → ℕ) → IsInverse n f g → c < n → count_by (is_at t c) (values_below n (λ m. item t (f m))) ≡ 1
 count_this n t c f g inverse h =
     let same : (m : ℕ) → m < n → nat_eq (f m) c ≡ nat_eq m (g c)
     = λ m l. same_test (f m) c m (g c) (λ e. sym (inverse.back m l) ∙ ap g e) (λ e. ap f e ∙ inverse.forth c h) in
@@ -162,11 +162,11 @@ thirds_inverse r h = inverse_by (32 * r) (third r) (third_back r) (every_below_a
 
 -- ---- the buffer
 
-count-in_turn : (test : Place → Bool) (xs ys : List Place) → count_by test (in_turn xs ys) ≡ count_by test xs + count_by test ys
+count-in_turn : (test : Item → Bool) (xs ys : List Item) → count_by test (in_turn xs ys) ≡ count_by test xs + count_by test ys
 count-in_turn test [] ys = omega arith
 count-in_turn test (x ∷ xs) [] = omega arith
 count-in_turn test (x ∷ xs) (y ∷ ys) =
-    let f : Place → ℕ = λ p. cond (test p) 1 0 in
+    let f : Item → ℕ = λ p. cond (test p) 1 0 in
     let a = sum_by-cons f x (y ∷ in_turn xs ys) in
     let b = sum_by-cons f y (in_turn xs ys) in
     let c = sum_by-cons f x xs in
@@ -207,7 +207,7 @@ count-buffer r t c few below h =
 -- ---- by index
 
 -- an item that passes, where some do
-counted_some : (test : Place → Bool) (xs : List Place) (d : Place) → 1 ≤ count_by test xs → (i : ℕ) × (i < length xs) × (test (get_or xs i d) ≡ true)
+counted_some : (test : Item → Bool) (xs : List Item) (d : Item) → 1 ≤ count_by test xs → (i : ℕ) × (i < length xs) × (test (get_or xs i d) ≡ true)
 counted_some test [] d h = absurd (omega (arith, h))
 counted_some test (x ∷ xs) d h = elim (cases_Bool (test x)) [
   | inl e ↦ (0, omega arith, e)
@@ -217,14 +217,14 @@ counted_some test (x ∷ xs) d h = elim (cases_Bool (test x)) [
       let (i, below, is) = counted_some test xs d rest in (suc i, omega (arith, below), is)
 ]
 
-read_there : (k rv t p n : ℕ) → length (reading k rv) ≡ n → count_by (is_at t p) (reading k rv) ≡ 1 → (i : ℕ) × (i < n) × (place_of k rv i ≡ spot t p)
-unfolding place_of
+read_there : (k rv t p n : ℕ) → length (reading k rv) ≡ n → count_by (is_at t p) (reading k rv) ≡ 1 → (i : ℕ) × (i < n) × (item_of k rv i ≡ item t p)
+unfolding item_of
 read_there k rv t p n count once =
-    let (i, below, is) = counted_some (is_at t p) (reading k rv) (spot 0 0) (omega (arith, once)) in
+    let (i, below, is) = counted_some (is_at t p) (reading k rv) (item 0 0) (omega (arith, once)) in
     let same : i % length (reading k rv) ≡ i = mod-eq_of_lt below in (
       i,
       omega (arith, below, count),
-      ap (λ j. get_or (reading k rv) j (spot 0 0)) same ∙ same_spot (get_or (reading k rv) i (spot 0 0)) t p is,
+      ap (λ j. get_or (reading k rv) j (item 0 0)) same ∙ same_item (get_or (reading k rv) i (item 0 0)) t p is,
     )
 
 counted_once : (k rv : ℕ) → IsSize k → rv < 4 → (t p : ℕ) → t < 3 → p < k + 4 → count_by (is_at t p) (reading k rv) ≡ 1
@@ -238,17 +238,17 @@ counted_once k rv size version t p below inside =
     ∙ count-turned (is_at t (p + nulls (k + 4))) (start k rv) (buffer (matrix_rows (k + 4)))
     ∙ count-buffer (matrix_rows (k + 4)) t (p + nulls (k + 4)) few below cell_inside
 
-read_once : (k rv i j : ℕ) → IsSize k → rv < 4 → i < 3 * (k + 4) → j < 3 * (k + 4) → place_of k rv i ≡ place_of k rv j → i ≡ j
-unfolding place_of
+read_once : (k rv i j : ℕ) → IsSize k → rv < 4 → i < 3 * (k + 4) → j < 3 * (k + 4) → item_of k rv i ≡ item_of k rv j → i ≡ j
+unfolding item_of
 read_once k rv i j size version hi hj same =
     let count = reading_count k rv size in
     let below_i : i < length (reading k rv) = omega (arith, count, hi) in
     let below_j : j < length (reading k rv) = omega (arith, count, hj) in
-    let at : (m : ℕ) → m < length (reading k rv) → get_or (reading k rv) (m % length (reading k rv)) (spot 0 0) ≡ get_or (reading k rv) m (spot 0 0)
-    = λ m inside. ap (λ n. get_or (reading k rv) n (spot 0 0)) (mod-eq_of_lt inside) in
-    one_place (reading k rv) (spot 0 0) i j below_i below_j
+    let at : (m : ℕ) → m < length (reading k rv) → get_or (reading k rv) (m % length (reading k rv)) (item 0 0) ≡ get_or (reading k rv) m (item 0 0)
+    = λ m inside. ap (λ n. get_or (reading k rv) n (item 0 0)) (mod-eq_of_lt inside) in
+    one_index (reading k rv) (item 0 0) i j below_i below_j
     (λ m inside.
-    let here = subst (λ p. (p.stream < 3) × (p.place < k + 4)) (at m inside) (place_inside k rv m size) in
+    let here = subst (λ p. (p.stream < 3) × (p.index < k + 4)) (at m inside) (item_inside k rv m size) in
     counted_once k rv size version _ _ here.0 here.1)
     (sym (at i below_i) ∙ same ∙ at j below_j)
 
@@ -256,7 +256,7 @@ pub whole : ReadingIsWhole
 whole k rv size version = record {
   count = reading_count k rv size;
   reads = record {
-    inside = λ i. place_inside k rv i size;
+    inside = λ i. item_inside k rv i size;
     once = λ i j hi hj same. read_once k rv i j size version hi hj same;
     each = λ t p below inside. read_there k rv t p (3 * (k + 4)) (reading_count k rv size) (counted_once k rv size version t p below inside);
   };

@@ -1,9 +1,9 @@
 -- Laws of the interleaver and of the reading (TS 36.212 sections 5.1.3.2.3 and 5.1.4.1).
 use Rattle.std.specs.Prelude.{◌≡◌, ℕ, ◌+◌, ◌*◌, ◌<◌, length}
-use Rattle.sub_block.specs.Places.{ReadsEachOnce}
+use Rattle.sub_block.specs.Items.{ReadsEachOnce}
 use Rattle.turbo_code.specs.declared.rows.Row.{Row}
 use Rattle.turbo_code.specs.Table.{IsRow, IsSize, interleaver}
-use Rattle.turbo_code.specs.Reading.{place_of, reading}
+use Rattle.turbo_code.specs.Reading.{item_of, reading}
 
 -- f is one to one, from the numbers below n onto them
 pub record Permutes (n : ℕ) (f : ℕ → ℕ) : Type 0 where
@@ -18,7 +18,7 @@ RowsPermute = (row : Row) → IsRow row → Permutes row.k (interleaver row)
 -- once round the buffer are 3(K + 4) bits, which are each bit of three streams of K + 4 once
 pub record ReadsEachBitOnce (k rv : ℕ) : Type 0 where
   pub count : length (reading k rv) ≡ 3 * (k + 4)
-  pub reads : ReadsEachOnce (k + 4) (place_of k rv)
+  pub reads : ReadsEachOnce (k + 4) (item_of k rv)
 
 -- for each K of the table and each redundancy version
 abbrev pub ReadingIsWhole : Type 0

@@ -2,50 +2,50 @@
 use Rattle.std.specs.Prelude.{ℕ, ◌+◌, ◌*◌, ◌%◌, Bool, false, List, [], ◌∷◌, ◌++◌, length, take, drop, slice_index_or, ℤ}
 use Rattle.finite.specs.Lists.{values_below}
 use Rattle.sub_block.specs.declared.Code.TheVariants.{Turbo}
-use Rattle.sub_block.specs.declared.Place.{Place}
+use Rattle.sub_block.specs.declared.Item.{Item}
 use Rattle.sub_block.specs.Matrix.{matrix_rows, nulls, cell}
-use Rattle.sub_block.specs.Places.{spot, cells_read, bits_in, summed_at}
+use Rattle.sub_block.specs.Items.{item, cells_read, bits_in, summed_at}
 
 -- the streams in a matrix of r rows, read; the third from one cell further on
-abbrev pub v0 : ℕ → List Place
+abbrev pub v0 : ℕ → List Item
 v0 r = cells_read Turbo r 0
 
-abbrev pub v1 : ℕ → List Place
+abbrev pub v1 : ℕ → List Item
 v1 r = cells_read Turbo r 1
 
-abbrev pub v2 : ℕ → List Place
-v2 r = values_below (32 * r) (λ m. spot 2 ((cell Turbo r m + 1) % (32 * r)))
+abbrev pub v2 : ℕ → List Item
+v2 r = values_below (32 * r) (λ m. item 2 ((cell Turbo r m + 1) % (32 * r)))
 
 -- two lists of one length in turn, item by item
-abbrev pub in_turn : List Place → List Place → List Place
+abbrev pub in_turn : List Item → List Item → List Item
 in_turn [] ys = ys
 in_turn (x ∷ xs) [] = x ∷ xs
 in_turn (x ∷ xs) (y ∷ ys) = x ∷ y ∷ in_turn xs ys
 
 -- the circular buffer, with its nulls
-unfoldable pub buffer : ℕ → List Place
+unfoldable pub buffer : ℕ → List Item
 buffer r = v0 r ++ in_turn (v1 r) (v2 r)
 
 -- where the reading starts in the rows of K + 4 bits, for a redundancy version
 abbrev pub start : ℕ → ℕ → ℕ
 start k rv = matrix_rows (k + 4) * (24 * rv + 2)
 
--- a list from place s on, and then from its beginning
-abbrev pub turned : ℕ → List Place → List Place
+-- a list from index s on, and then from its beginning
+abbrev pub turned : ℕ → List Item → List Item
 turned s cells = drop s cells ++ take s cells
 
 -- the coded bits of three streams of K + 4 bits, once round the buffer
-unfoldable pub reading : ℕ → ℕ → List Place
+unfoldable pub reading : ℕ → ℕ → List Item
 reading k rv = bits_in (nulls (k + 4)) (turned (start k rv) (buffer (matrix_rows (k + 4))))
 
--- the place of bit i of the reading, which goes round without end
-unfoldable pub place_of : ℕ → ℕ → ℕ → Place
-place_of k rv i = slice_index_or (reading k rv) (i % length (reading k rv)) (spot 0 0)
+-- the item of bit i of the reading, which goes round without end
+unfoldable pub item_of : ℕ → ℕ → ℕ → Item
+item_of k rv i = slice_index_or (reading k rv) (i % length (reading k rv)) (item 0 0)
 
--- the bit of a coded word at a place
-abbrev pub bit_of : List (List Bool) → Place → Bool
-bit_of d p = slice_index_or (slice_index_or d p.stream []) p.place false
+-- the bit of a coded word that is an item
+abbrev pub bit_of : List (List Bool) → Item → Bool
+bit_of d p = slice_index_or (slice_index_or d p.stream []) p.index false
 
--- for each of three streams and 1,028 places, the sum of the values that the reading maps to it
+-- for each of three streams and 1,028 indices, the sum of the values that the reading maps to it
 unfoldable pub summed : ℕ → ℕ → List ℤ → List (List ℤ)
-summed k rv values = values_below 3 (λ t. values_below 1028 (summed_at (place_of k rv) values (length values) t))
+summed k rv values = values_below 3 (λ t. values_below 1028 (summed_at (item_of k rv) values (length values) t))

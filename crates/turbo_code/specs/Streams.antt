@@ -12,7 +12,8 @@ item_at d streams t p = slice_index_or (slice_index_or streams t []) p d
 abbrev pub bits_of_stream : {A : Type 0} → A → Row → List (List A) → ℕ → List A
 bits_of_stream d row streams t = values_below row.k (λ k. item_at d streams t k)
 
--- the six items of an encoder's tail, which stand at place p and the next, stream after stream (TS 36.212 section 5.1.3.2.2)
+-- the six items of an encoder's tail, which stand at index p and the next, stream after stream (TS 36.212 section
+-- 5.1.3.2.2)
 abbrev pub tail_items : {A : Type 0} → A → List (List A) → ℕ → List A
 tail_items d streams p =
     item_at d streams 0 p ∷ item_at d streams 1 p ∷ item_at d streams 2 p

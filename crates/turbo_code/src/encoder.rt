@@ -118,12 +118,12 @@ fn in_order(word: &[bool], row: &Row) -> [bool; 1024]
     bits
 }
 
-/// Writes the bits into a stream, from a place on.
-fn write_at(stream: &mut [bool], place: usize, bits: &[bool])
-    requires { place + length bits.now ≤ length stream.old }
-    ensures { stream.new ≡ take place stream.old ++ bits.now ++ drop (place + length bits.now) stream.old }
+/// Writes the bits into a stream, from an index on.
+fn write_at(stream: &mut [bool], index: usize, bits: &[bool])
+    requires { index + length bits.now ≤ length stream.old }
+    ensures { stream.new ≡ take index stream.old ++ bits.now ++ drop (index + length bits.now) stream.old }
 {
-    stream[place..place + bits.len()].copy_from_slice(bits);
+    stream[index..index + bits.len()].copy_from_slice(bits);
 }
 
 /// A stream: its bits, its four tail bits, and zeros.

@@ -2,7 +2,7 @@
 
 ghost use Rattle.turbo_code.specs.Laws.{ReadingIsWhole, RowsPermute};
 
-/// A law of the table: the interleaver of each row is a permutation of the places 0 to K - 1.
+/// A law of the table: the interleaver of each row is a permutation of the indices 0 to K - 1.
 pub fn rows_permute()
     ensures { RowsPermute }
 {}

@@ -3,14 +3,14 @@
 ghost use Rattle.std.specs.Prelude.{◌≡◌, ℕ, ◌+◌, ◌*◌, ◌^◌, ◌<◌, ◌≤◌, length, nat_abs, slice_index_or};
 ghost use Rattle.finite.specs.Sizes.{AllWithin, RowsWithin};
 ghost use Rattle.finite.specs.Tables.{sum_at, sums_with};
-ghost use Rattle.sub_block.specs.Places.{spot};
+ghost use Rattle.sub_block.specs.Items.{item};
 ghost use Rattle.turbo_code.specs.Table.{IsRow, IsSize};
-ghost use Rattle.turbo_code.specs.Reading.{bit_of, buffer, place_of, summed};
+ghost use Rattle.turbo_code.specs.Reading.{bit_of, buffer, item_of, summed};
 
 use crate::{Coded, Row};
-use sub_block::{Code, Place, cell_at};
+use sub_block::{Code, Item, cell_at};
 
-/// For each of the three streams and each place the sum of the values that were received for it.
+/// For each of the three streams and each index the sum of the values that were received for it.
 #[derive(Clone, Copy, Drop)]
 pub struct Combined {
     pub k: u16,
@@ -18,41 +18,41 @@ pub struct Combined {
 }
 
 /// Cell j of the circular buffer.
-fn buffer_at(rows: usize, j: usize) -> Place
+fn buffer_at(rows: usize, j: usize) -> Item
     requires rows { rows ≤ 33 }
     requires inside { j < 96 * rows }
-    ensures cell { result ≡ slice_index_or (buffer rows) j (spot 0 0) }
+    ensures cell { result ≡ slice_index_or (buffer rows) j (item 0 0) }
     ensures below_three { result.stream < 3 }
-    ensures inside { result.place < 32 * rows }
+    ensures inside { result.index < 32 * rows }
 {
     let size = 32 * rows;
     if j < size {
-        return Place {
+        return Item {
             stream: 0,
-            place: cell_at(Code::Turbo, rows, j),
+            index: cell_at(Code::Turbo, rows, j),
         };
     }
     let cell = cell_at(Code::Turbo, rows, (j - size) / 2);
     if (j - size) % 2 == 0 {
-        Place {
+        Item {
             stream: 1,
-            place: cell,
+            index: cell,
         }
     } else {
-        Place {
+        Item {
             stream: 2,
-            place: (cell + 1) % size,
+            index: (cell + 1) % size,
         }
     }
 }
 
-/// The place of bit i of the cyclic reading of three streams of k bits with their tails.
-fn place_in(k: u16, rv: u8, i: usize) -> Place
+/// The item of bit i of the cyclic reading of three streams of k bits with their tails.
+fn item_in(k: u16, rv: u8, i: usize) -> Item
     requires size { IsSize k }
     requires version { rv < 4 }
-    ensures place { result ≡ place_of k rv i }
+    ensures item { result ≡ item_of k rv i }
     ensures below_three { result.stream < 3 }
-    ensures inside { result.place < k + 4 }
+    ensures inside { result.index < k + 4 }
 {
     let count = k as usize + 4;
     let rows = count.div_ceil(32);
@@ -61,11 +61,11 @@ fn place_in(k: u16, rv: u8, i: usize) -> Place
     let mut left = i % (3 * count);
     for m in 0..96 * rows {
         let cell = buffer_at(rows, (start + m) % (96 * rows));
-        if cell.place >= nulls {
+        if cell.index >= nulls {
             if left == 0 {
-                return Place {
+                return Item {
                     stream: cell.stream,
-                    place: cell.place - nulls,
+                    index: cell.index - nulls,
                 };
             }
             left -= 1;
@@ -80,21 +80,21 @@ pub fn match_out(coded: &Coded, rv: u8, i: usize) -> bool
     requires size { IsSize coded.now.k }
     requires version { rv < 4 }
     requires count { i ≤ 4096 }
-    ensures { result ≡ bit_of coded.now.d (place_of coded.now.k rv i) }
+    ensures { result ≡ bit_of coded.now.d (item_of coded.now.k rv i) }
 {
-    let at = place_in(coded.k, rv, i);
-    coded.d[at.stream][at.place]
+    let at = item_in(coded.k, rv, i);
+    coded.d[at.stream][at.index]
 }
 
-/// Adds the value to the sum at a place.
-fn add_at(sums: &mut [[i32; 1028]; 3], at: &Place, value: &i16)
+/// Adds the value to the sum of an item.
+fn add_at(sums: &mut [[i32; 1028]; 3], at: &Item, value: &i16)
     requires stream { at.now.stream < 3 }
-    requires place { at.now.place < 1028 }
-    requires room { nat_abs (sum_at sums.old at.now.stream at.now.place) ≤ 2 ^ 30 }
-    ensures sum { sums.new ≡ sums_with sums.old at.now.stream at.now.place value.now }
+    requires index { at.now.index < 1028 }
+    requires room { nat_abs (sum_at sums.old at.now.stream at.now.index) ≤ 2 ^ 30 }
+    ensures sum { sums.new ≡ sums_with sums.old at.now.stream at.now.index value.now }
     ensures size { nat_abs value.now ≤ 2 ^ 15 }
 {
-    sums[at.stream][at.place] += *value as i32;
+    sums[at.stream][at.index] += *value as i32;
 }
 
 /// For each coded bit the sum of the values that the reading from a redundancy version maps to it,
@@ -110,7 +110,7 @@ pub fn combine(values: &[i16], row: Row, rv: u8) -> Combined
 {
     let mut d = [[0; 1028]; 3];
     for (i, value) in values.iter().enumerate() {
-        add_at(&mut d, &place_in(row.k, rv, i), value);
+        add_at(&mut d, &item_in(row.k, rv, i), value);
     }
     Combined { k: row.k, d }
 }

@@ -6,7 +6,7 @@ use Rattle.finite.proofs.Lists.{values_below_is}
 use Rattle.paths.specs.Paths.{best}
 use Rattle.paths.specs.Least.{IsLeastVia}
 use Rattle.paths.proofs.Through.{least_split}
-use Rattle.turbo_dec.specs.Decoder.{Values, values_of, at, clamped, extrinsic, extrinsics}
+use Rattle.turbo_dec.specs.Decoder.{Values, values_of, at, within_2047, extrinsic, extrinsics}
 use Rattle.turbo_dec.specs.Laws.{IsGreatest}
 use Rattle.turbo_code.specs.Machine.{next}
 use Rattle.turbo_dec.specs.Costs.{edge_cost, step_cost, tail_cost, starts, backward_least, IsForwardRow, HasRows}
@@ -15,10 +15,10 @@ use Rattle.turbo_dec.proofs.Small.{AreSmall}
 use Rattle.turbo_dec.proofs.Greatest.{least_gives_greatest, extrinsic_is}
 use Rattle.turbo_code.proofs.Edges.{next_below}
 
--- the row has the least costs from each state at place k on, and the extrinsic values from there on are found
+-- the row has the least costs from each state at index k on, and the extrinsic values from there on are found
 pub record IsBackTo (v : Values) (row : List ℕ) (out : List ℤ) (k : ℕ) : Type 0 where
   pub size : length out ≡ length v.systematic
-  pub place : k ≤ length v.systematic
+  pub index : k ≤ length v.systematic
   pub least : (x : ℕ) → x < 8 → get_or row x 0 ≡ best next (step_cost v) (tail_cost v.tail) k (length v.systematic - k) x
   pub room : (x : ℕ) → x < 8 → get_or row x 0 ≤ 24576 + (length v.systematic - k) * 12288
   pub done : (j : ℕ) → k ≤ j → j < length v.systematic → get_or out j (pos 0) ≡ extrinsic v j
@@ -41,7 +41,7 @@ pub back_start : (v : Values) (row : List ℕ) (out : List ℤ) → length out �
     ((x : ℕ) → x < 8 → get_or row x 0 ≡ tail_cost v.tail x) → ((x : ℕ) → x < 8 → get_or row x 0 ≤ 24576) → IsBackTo v row out (length v.systematic)
 back_start v row out size h room = record {
   size = size;
-  place = omega arith;
+  index = omega arith;
   least = λ x below. let z : length v.systematic - length v.systematic ≡ 0 = omega arith in rw z (h x below);
   room = λ x below. let r = room x below in omega (arith, r);
   done = λ j from to. absurd (omega arith);
@@ -52,31 +52,31 @@ pub back_step : (v : Values) (row earlier forward : List ℕ) (out : List ℤ) (
     sum ≡ at v.systematic k +ℤ at v.prior k → parity ≡ at v.parity k →
     IsLeastVia next (edge_cost sum parity) (λ x. get_or forward x 0) (λ x. get_or row x 0) false 8 zeros →
     IsLeastVia next (edge_cost sum parity) (λ x. get_or forward x 0) (λ x. get_or row x 0) true 8 ones →
-    e ≡ clamped ((pos ones -ℤ pos zeros) -ℤ sum) →
+    e ≡ within_2047 ((pos ones -ℤ pos zeros) -ℤ sum) →
     ((x : ℕ) → x < 8 → get_or earlier x 0 ≡ backward_least sum parity row x) →
     ((x : ℕ) → x < 8 → get_or earlier x 0 ≤ get_or row (next x false) 0 + 12288) →
     IsBackTo v earlier (set out k e) k
 back_step v row earlier forward out k sum parity e zeros ones small short known is_forward s p by_zero by_one e_is step growth =
     let n : ℕ = length v.systematic - suc k in
-    let size : k + suc n ≡ length v.systematic = omega (arith, known.place) in
-    let n_is : length v.systematic - k ≡ suc n = omega (arith, known.place) in
+    let size : k + suc n ≡ length v.systematic = omega (arith, known.index) in
+    let n_is : length v.systematic - k ≡ suc n = omega (arith, known.index) in
     let inner : (pos ones -ℤ pos zeros) -ℤ sum ≡ (((pos (worth v) -ℤ pos zeros) -ℤ (pos (worth v) -ℤ pos ones)) -ℤ at v.systematic k) -ℤ at v.prior k
     = omega (arith, ints, s) in
     let greatest_zero = through_greatest v k n forward row sum parity false zeros small size short is_forward known.least s p by_zero in
     let greatest_one = through_greatest v k n forward row sum parity true ones small size short is_forward known.least s p by_one in
     record {
       size = length-set out k e ∙ known.size;
-      place = omega (arith, known.place);
+      index = omega (arith, known.index);
       least = λ x below. rw n_is (step x below ∙
           rw (← known.least (next x false) (next_below x false below), ← known.least (next x true) (next_below x true below), ← s, ← p) refl);
-      room = λ x below. let g = growth x below in let r = known.room (next x false) (next_below x false below) in omega (arith, g, r, known.place);
+      room = λ x below. let g = growth x below in let r = known.room (next x false) (next_below x false below) in omega (arith, g, r, known.index);
       done = λ j from to. elim (cases_lt k j) [
         | inl later ↦ let ne : j ≢ k = omega arith in rw (get_or-set_other out k j e (pos 0) ne) (known.done j later to)
         | inr here ↦
             let j_is : j ≡ k = omega arith in
-            let inside : k < length out = omega (arith, known.size, known.place) in
+            let inside : k < length out = omega (arith, known.size, known.index) in
             rw (j_is, get_or-set_same out k e (pos 0) inside)
-            (extrinsic_is v k (pos (worth v) -ℤ pos zeros) (pos (worth v) -ℤ pos ones) e (omega (arith, size)) greatest_zero greatest_one (e_is ∙ ap clamped inner))
+            (extrinsic_is v k (pos (worth v) -ℤ pos zeros) (pos (worth v) -ℤ pos ones) e (omega (arith, size)) greatest_zero greatest_one (e_is ∙ ap within_2047 inner))
       ];
     }
 

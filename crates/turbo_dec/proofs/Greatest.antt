@@ -10,7 +10,7 @@ use Rattle.paths.specs.AllWords.{greatest}
 use Rattle.paths.proofs.AllWords.{greatest-le, greatest_reached}
 use Rattle.paths.proofs.Paths.{path_cost-le}
 use Rattle.paths.proofs.Words.{bit_between, with_bit}
-use Rattle.turbo_dec.specs.Decoder.{Values, at, score, greatest_score, extrinsic, clamped}
+use Rattle.turbo_dec.specs.Decoder.{Values, at, score, greatest_score, extrinsic, within_2047}
 use Rattle.turbo_dec.specs.Laws.{IsGreatest}
 use Rattle.turbo_code.specs.Machine.{next, tail_bit, tail_parity, parity_bit}
 use Rattle.turbo_dec.specs.Costs.{step_cost, tail_cost, far, starts}
@@ -50,13 +50,13 @@ greatest_is_one v k b m m' one other =
 
 -- the extrinsic value, by any two numbers that are the greatest scores
 pub extrinsic_is : (v : Values) (k : ℕ) (zeros ones e : ℤ) → k < length v.systematic → IsGreatest v k false zeros → IsGreatest v k true ones →
-    e ≡ clamped (((zeros -ℤ ones) -ℤ at v.systematic k) -ℤ at v.prior k) → e ≡ extrinsic v k
+    e ≡ within_2047 (((zeros -ℤ ones) -ℤ at v.systematic k) -ℤ at v.prior k) → e ≡ extrinsic v k
 unfolding extrinsic
 extrinsic_is v k zeros ones e inside by_zeros by_ones is =
     let z = greatest_is_one v k false zeros (greatest_score v k false) by_zeros (greatest_score_is_greatest v k false inside) in
     let o = greatest_is_one v k true ones (greatest_score v k true) by_ones (greatest_score_is_greatest v k true inside) in
-    is ∙ ap (λ m. clamped (((m -ℤ ones) -ℤ at v.systematic k) -ℤ at v.prior k)) z
-    ∙ ap (λ m. clamped (((greatest_score v k false -ℤ m) -ℤ at v.systematic k) -ℤ at v.prior k)) o
+    is ∙ ap (λ m. within_2047 (((m -ℤ ones) -ℤ at v.systematic k) -ℤ at v.prior k)) z
+    ∙ ap (λ m. within_2047 (((greatest_score v k false -ℤ m) -ℤ at v.systematic k) -ℤ at v.prior k)) o
 
 -- ---- from the least cost
 

@@ -13,7 +13,7 @@ use Rattle.turbo_code.proofs.TableFacts.{is_small}
 use Rattle.turbo_dec.specs.Decoder.{IsSmall, values_of, at, extrinsics}
 use Rattle.cs_bits.specs.Checks.{message_of, has_check_24}
 use Rattle.turbo_code.specs.Streams.{tail_items, bits_of_stream, in_order, in_word_order}
-use Rattle.turbo_dec.specs.Block.{handed_on, prior_after, told_by, word_by, block, first_extrinsics, second_extrinsics}
+use Rattle.turbo_dec.specs.Block.{handed_on, prior_after, told_by, word_by, block, first_extrinsics, second_extrinsics, second_after}
 
 -- what is handed on of each
 pub handed_is : (found handed : List ℤ) (k : ℕ) → length found ≡ 1024 → length handed ≡ 1024 → 1024 ≤ k →
@@ -31,19 +31,21 @@ pub first_is : (row : Row) (sums : List (List ℤ)) (prior s p t q found : List 
 unfolding first_extrinsics
 first_is row sums prior s p t q found es ep et eq size h = sym (ap (λ n. take n found) size) ∙ h ∙ rw (es, ep, et, eq) refl
 
-pub second_is : (row : Row) (sums : List (List ℤ)) (prior first handed second : List ℤ) → handed ≡ map handed_on first →
-    take row.k first ≡ first_extrinsics row sums prior →
-    take row.k second ≡ in_word_order (pos 0) row (extrinsics (values_of (in_order (pos 0) row (bits_of_stream (pos 0) row sums 0)) (bits_of_stream (pos 0) row sums 2) (tail_items (pos 0) sums (row.k + 2))
-    (in_order (pos 0) row (take row.k handed)))) →
-    take row.k second ≡ second_extrinsics row sums prior
+pub second_found : (row : Row) (sums : List (List ℤ)) (handed s p t q found second : List ℤ) → s ≡ in_order (pos 0) row (bits_of_stream (pos 0) row sums 0) →
+    p ≡ bits_of_stream (pos 0) row sums 2 → t ≡ tail_items (pos 0) sums (row.k + 2) → q ≡ in_order (pos 0) row handed → length s ≡ row.k →
+    take (length s) found ≡ extrinsics (values_of s p t q) → second ≡ in_word_order (pos 0) row (take row.k found) → second ≡ second_extrinsics row sums handed
 unfolding second_extrinsics
+second_found row sums handed s p t q found second es ep et eq size h is =
+    is ∙ ap (in_word_order (pos 0) row) (sym (ap (λ n. take n found) size) ∙ h ∙ rw (es, ep, et, eq) refl)
+
+pub second_is : (row : Row) (sums : List (List ℤ)) (prior first handed second : List ℤ) → handed ≡ map handed_on first →
+    take row.k first ≡ first_extrinsics row sums prior → take row.k second ≡ second_extrinsics row sums (take row.k handed) →
+    take row.k second ≡ second_after row sums prior
 second_is row sums prior first handed second is known h =
-    let front : take row.k handed ≡ map handed_on (first_extrinsics row sums prior) =
-    ap (take row.k) is ∙ take-map handed_on row.k first ∙ ap (map handed_on) known in
-    h ∙ ap (λ q. in_word_order (pos 0) row (extrinsics (values_of (in_order (pos 0) row (bits_of_stream (pos 0) row sums 0)) (bits_of_stream (pos 0) row sums 2) (tail_items (pos 0) sums (row.k + 2)) (in_order (pos 0) row q)))) front
+    h ∙ ap (second_extrinsics row sums) (ap (take row.k) is ∙ take-map handed_on row.k first ∙ ap (map handed_on) known)
 
 pub told_is : (row : Row) (sums : List (List ℤ)) (prior s first second : List ℤ) (word : List Bool) → s ≡ bits_of_stream (pos 0) row sums 0 → length s ≡ row.k →
-    first ≡ first_extrinsics row sums prior → second ≡ second_extrinsics row sums prior →
+    first ≡ first_extrinsics row sums prior → second ≡ second_after row sums prior →
     take (length s) word ≡ values_below (length s) (told_by s first second) → take row.k word ≡ word_by row sums prior
 unfolding word_by
 told_is row sums prior s first second word es size ef ese h =
@@ -68,14 +70,14 @@ after_none row sums is_row =
     }
 
 pub after_more : (row : Row) (sums : List (List ℤ)) (prior later : List ℤ) (word : List Bool) (n : ℕ) → IsAfter row sums prior n → All IsSmall later →
-    take row.k later ≡ map handed_on (second_extrinsics row sums (take row.k prior)) → word ≡ word_by row sums (take row.k prior) → has_check_24 word ≡ false →
+    take row.k later ≡ map handed_on (second_after row sums (take row.k prior)) → word ≡ word_by row sums (take row.k prior) → has_check_24 word ≡ false →
     IsAfter row sums later (n + 1)
 unfolding prior_after
 after_more row sums prior later word n known small is told fails =
     let e : n + 1 ≡ suc n = omega arith in
     record {
       small = small;
-      prior_is = subst (λ m. take row.k later ≡ prior_after row sums m) (sym e) (is ∙ ap (λ q. map handed_on (second_extrinsics row sums q)) known.prior_is);
+      prior_is = subst (λ m. take row.k later ≡ prior_after row sums m) (sym e) (is ∙ ap (λ q. map handed_on (second_after row sums q)) known.prior_is);
       none = λ j below. elim (cases_lt j n) [
         | inl before ↦ known.none j before
         | inr after ↦

@@ -6,7 +6,7 @@ use Rattle.finite.proofs.Sums.{sum_below_plus, sum_below_pos, sum_below_same}
 use Rattle.cs_bits.specs.Signs.{disagreement}
 use Rattle.paths.specs.Paths.{end_of, path_cost}
 use Rattle.turbo_code.specs.Encoder.{bit_at, back, before, parity, tail_x, tail_z}
-use Rattle.turbo_dec.specs.Decoder.{Values, at, taken, place_score, tail_score, score}
+use Rattle.turbo_dec.specs.Decoder.{Values, at, taken, score_at, tail_score, score}
 use Rattle.turbo_code.specs.Machine.{next, tail_bit, tail_parity}
 use Rattle.turbo_dec.specs.Costs.{step_cost, tail_step_cost, tail_cost}
 use Rattle.turbo_code.proofs.Registers.{state, state_at, parity_at, tail_bit_is, tail_parity_is, half_is, path_is}
@@ -24,7 +24,7 @@ sums_make n f g h each =
     ap (λ s. sum_below n f +ℤ s) (sym (sum_below_pos n g)) ∙ sym (sum_below_plus n f (λ k. pos (g k)))
     ∙ sum_below_same n (λ k. f k +ℤ pos (g k)) (λ k. pos (h k)) (λ k _. each k) ∙ sum_below_pos n h
 
--- what the two values of a place are worth at most, and those of a tail step
+-- what the two values at an index are worth at most, and those of a tail step
 worth_at : Values → ℕ → ℕ
 worth_at v k = disagreement (at v.systematic k +ℤ at v.prior k) true + disagreement (at v.parity k) true
 
@@ -35,9 +35,9 @@ tail_worth tail j = disagreement (at tail (2 * j)) true + disagreement (at tail 
 pub worth : Values → ℕ
 worth v = total_below (length v.systematic) (worth_at v) + total_below 3 (tail_worth v.tail)
 
-place_makes : (v : Values) (word : List Bool) (k : ℕ) → place_score v word k +ℤ pos (step_cost v k (state_at word k) (bit_at word k)) ≡ pos (worth_at v k)
+makes_at : (v : Values) (word : List Bool) (k : ℕ) → score_at v word k +ℤ pos (step_cost v k (state_at word k) (bit_at word k)) ≡ pos (worth_at v k)
 unfolding worth_at
-place_makes v word k =
+makes_at v word k =
     let s = taken_cost (at v.systematic k +ℤ at v.prior k) (bit_at word k) in
     let p = taken_cost (at v.parity k) (parity word k) in
     rw (parity_at word k) (omega (arith, ints, s, p))
@@ -85,6 +85,6 @@ pub score_cost : (v : Values) (word : List Bool) → length word ≡ length v.sy
 unfolding score worth
 score_cost v word size =
     let path = path_is (step_cost v) word in
-    let places = sums_make (length word) (place_score v word) (λ k. step_cost v k (state_at word k) (bit_at word k)) (worth_at v) (place_makes v word) in
+    let indices = sums_make (length word) (score_at v word) (λ k. step_cost v k (state_at word k) (bit_at word k)) (worth_at v) (makes_at v word) in
     let tail = tail_makes v word in
-    rw (path.cost, path.there, ← size) (omega (arith, ints, places, tail))
+    rw (path.cost, path.there, ← size) (omega (arith, ints, indices, tail))

@@ -18,17 +18,21 @@ unfoldable pub first_extrinsics : Row → List (List ℤ) → List ℤ → List 
 first_extrinsics row sums prior =
     extrinsics (values_of (bits_of_stream (pos 0) row sums 0) (bits_of_stream (pos 0) row sums 1) (tail_items (pos 0) sums row.k) prior)
 
--- those of the second, in the order of the word: its prior is what the first hands on
+-- those of the second, in the order of the word, by what the first hands on
 unfoldable pub second_extrinsics : Row → List (List ℤ) → List ℤ → List ℤ
-second_extrinsics row sums prior =
+second_extrinsics row sums handed =
     in_word_order (pos 0) row (extrinsics (values_of
     (in_order (pos 0) row (bits_of_stream (pos 0) row sums 0)) (bits_of_stream (pos 0) row sums 2) (tail_items (pos 0) sums (row.k + 2))
-    (in_order (pos 0) row (map handed_on (first_extrinsics row sums prior)))))
+    (in_order (pos 0) row handed)))
+
+-- and in an iteration, by the prior of the first
+abbrev pub second_after : Row → List (List ℤ) → List ℤ → List ℤ
+second_after row sums prior = second_extrinsics row sums (map handed_on (first_extrinsics row sums prior))
 
 -- the prior of the first decoder after n iterations: what the second handed on in the last of them
 unfoldable pub prior_after : Row → List (List ℤ) → ℕ → List ℤ
 prior_after row sums zero = replicate row.k (pos 0)
-prior_after row sums (suc n) = map handed_on (second_extrinsics row sums (prior_after row sums n))
+prior_after row sums (suc n) = map handed_on (second_after row sums (prior_after row sums n))
 
 -- bit k of a word: it is 1 where the bit's value and both extrinsic values sum to less than 0
 abbrev pub told_by : List ℤ → List ℤ → List ℤ → ℕ → Bool
@@ -37,7 +41,8 @@ told_by systematic first second k = int_lt (at systematic k +ℤ at first k +ℤ
 -- the word that an iteration tells, by its prior
 unfoldable pub word_by : Row → List (List ℤ) → List ℤ → List Bool
 word_by row sums prior =
-    values_below row.k (told_by (bits_of_stream (pos 0) row sums 0) (first_extrinsics row sums prior) (second_extrinsics row sums prior))
+    values_below row.k
+    (told_by (bits_of_stream (pos 0) row sums 0) (first_extrinsics row sums prior) (second_after row sums prior))
 
 -- the first eight iterates
 abbrev pub iterates : Row → List (List ℤ) → List (List Bool)

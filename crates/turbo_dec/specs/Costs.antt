@@ -9,7 +9,7 @@ use Rattle.turbo_dec.specs.Decoder.{Values, at}
 abbrev pub edge_cost : ℤ → ℤ → ℕ → Bool → ℕ
 edge_cost sum parity x u = disagreement sum u + disagreement parity (parity_bit x u)
 
--- the cost of the step at place k
+-- the cost of the step at index k
 abbrev pub step_cost : Values → ℕ → ℕ → Bool → ℕ
 step_cost v k x u = edge_cost (at v.systematic k +ℤ at v.prior k) (at v.parity k) x u
 

@@ -31,9 +31,9 @@ abbrev pub taken : ℤ → Bool → ℤ
 taken value false = value
 taken value true = pos 0
 
--- what the values of place k give to a word: that of the bit with its prior, and that of the parity bit
-abbrev pub place_score : Values → List Bool → ℕ → ℤ
-place_score v word k = taken (at v.systematic k +ℤ at v.prior k) (bit_at word k) +ℤ taken (at v.parity k) (parity word k)
+-- what the values at index k give to a word: that of the bit with its prior, and that of the parity bit
+abbrev pub score_at : Values → List Bool → ℕ → ℤ
+score_at v word k = taken (at v.systematic k +ℤ at v.prior k) (bit_at word k) +ℤ taken (at v.parity k) (parity word k)
 
 -- what those of tail step j give
 abbrev pub tail_score : Values → List Bool → ℕ → ℤ
@@ -41,19 +41,20 @@ tail_score v word j = taken (at v.tail (2 * j)) (tail_x word j) +ℤ taken (at v
 
 -- the score of a word with its tail: the sum of the values whose bits are 0
 unfoldable pub score : Values → List Bool → ℤ
-score v word = sum_below (length v.systematic) (place_score v word) +ℤ sum_below 3 (tail_score v word)
+score v word = sum_below (length v.systematic) (score_at v word) +ℤ sum_below 3 (tail_score v word)
 
 -- the greatest score of a word whose bit k is b, over all bits before it and all after it
 unfoldable pub greatest_score : Values → ℕ → Bool → ℤ
 greatest_score v k b = greatest k (λ before. greatest (length v.systematic - k - 1) (λ after. score v (before ++ b ∷ after)))
 
 -- the nearest number from -2047 to 2047
-abbrev pub clamped : ℤ → ℤ
-clamped z = int_max (negsuc 2046) (int_min z (pos 2047))
+abbrev pub within_2047 : ℤ → ℤ
+within_2047 z = int_max (negsuc 2046) (int_min z (pos 2047))
 
 -- the extrinsic value of bit k: how much greater the greatest score with 0 is than that with 1, beyond the bit's own value and its prior
 unfoldable pub extrinsic : Values → ℕ → ℤ
-extrinsic v k = clamped (((greatest_score v k false -ℤ greatest_score v k true) -ℤ at v.systematic k) -ℤ at v.prior k)
+extrinsic v k =
+    within_2047 (((greatest_score v k false -ℤ greatest_score v k true) -ℤ at v.systematic k) -ℤ at v.prior k)
 
 -- those of all bits
 unfoldable pub extrinsics : Values → List ℤ

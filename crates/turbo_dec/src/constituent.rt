@@ -1,7 +1,7 @@
 //! The extrinsic values of one decoder.
 
 ghost use Rattle.std.specs.Prelude.{◌≡◌, ℕ, ◌+◌, ◌*◌, ◌^◌, ◌<◌, ◌≤◌, ◌+ℤ◌, ◌-ℤ◌, All, pos, nat_abs, length, slice_index, []};
-ghost use Rattle.turbo_dec.specs.Decoder.{IsSmall, at, values_of, clamped, extrinsics, extrinsic};
+ghost use Rattle.turbo_dec.specs.Decoder.{IsSmall, at, values_of, within_2047, extrinsics, extrinsic};
 ghost use Rattle.turbo_dec.specs.Costs.{starts, HasRows};
 
 use crate::costs::{Soft, backward_row, forward_row, least_through, tail_row};
@@ -16,7 +16,7 @@ struct Received<'a> {
     systematic: &'a [i32],
     parity: &'a [i32],
     prior: &'a [i32],
-    ghost places: { length systematic.now ≤ 1024 },
+    ghost short: { length systematic.now ≤ 1024 },
     ghost parities: { length parity.now ≡ length systematic.now },
     ghost priors: { length prior.now ≡ length systematic.now },
     ghost small_systematic: { All IsSmall systematic.now },
@@ -24,9 +24,9 @@ struct Received<'a> {
     ghost small_prior: { All IsSmall prior.now },
 }
 
-/// What the step at place k reads.
+/// What the step at index k reads.
 fn soft_at(received: &Received, k: usize) -> Soft
-    requires place { k < length received.now.systematic.now }
+    requires index { k < length received.now.systematic.now }
     ensures sum { result.sum ≡ at received.now.systematic.now k +ℤ at received.now.prior.now k }
     ensures parity { result.parity ≡ at received.now.parity.now k }
 {
@@ -63,7 +63,7 @@ fn forward(received: &Received, rows: &mut [[u32; 8]])
 fn extrinsic_of(zeros: u32, ones: u32, soft: &Soft) -> i32
     requires zeros { zeros ≤ 2 ^ 30 }
     requires ones { ones ≤ 2 ^ 30 }
-    ensures { result ≡ clamped ((pos ones -ℤ pos zeros) -ℤ soft.now.sum) }
+    ensures { result ≡ within_2047 ((pos ones -ℤ pos zeros) -ℤ soft.now.sum) }
 {
     let difference = ones as i32 - zeros as i32 - soft.sum;
     difference.clamp(-2047, 2047)
@@ -94,7 +94,8 @@ fn backward(received: &Received, tail: &[i32; 6], rows: &[[u32; 8]], out: &mut [
 /// word scores the sum of the values whose bits are 0 in it, its parity bits and its tail (TS 36.212 sections
 /// 5.1.3.2.1 and 5.1.3.2.2), where a bit of the word counts its value and its prior. `tail` has the values of
 /// x(K), z(K), x(K + 1), z(K + 1), x(K + 2) and z(K + 2). The four slices have one length, and each value that
-/// is read is at most 4,096 in size.
+/// is read is at most 4,096 in size. They are slices of their own, since what the second decoder reads of the
+/// word stands in another order than its parity values.
 pub fn half(
     systematic: &[i32],
     parity: &[i32],
@@ -103,7 +104,7 @@ pub fn half(
     out: &mut [i32],
     work: &mut Work,
 )
-    requires places { length systematic.now ≤ 1024 }
+    requires short { length systematic.now ≤ 1024 }
     requires parities { length parity.now ≡ length systematic.now }
     requires priors { length prior.now ≡ length systematic.now }
     requires outs { length out.old ≡ length systematic.now }

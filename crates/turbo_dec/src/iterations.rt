@@ -7,8 +7,8 @@ ghost use Rattle.finite.specs.Lists.{values_below};
 ghost use Rattle.turbo_code.specs.Table.{IsRow};
 ghost use Rattle.turbo_dec.specs.Decoder.{IsSmall, at, values_of, extrinsics};
 ghost use Rattle.cs_bits.specs.Checks.{message_of, has_check_24};
-ghost use Rattle.turbo_code.specs.Streams.{tail_items, bits_of_stream, in_order, in_word_order};
-ghost use Rattle.turbo_dec.specs.Block.{handed_on, first_extrinsics, second_extrinsics, told_by, word_by, block};
+ghost use Rattle.turbo_code.specs.Streams.{tail_items, in_order, in_word_order};
+ghost use Rattle.turbo_dec.specs.Block.{handed_on, first_extrinsics, second_extrinsics, second_after, told_by, word_by, block};
 
 use crate::constituent::half;
 use crate::work::Work;
@@ -28,18 +28,18 @@ const CHECK: usize = 24;
 /// A value for each bit of a word, and others after them.
 type BitValues = [i32; 1024];
 
-/// The six values of a decoder's tail, which begins at a place.
-fn tail_of(sums: &[[i32; 1028]; 3], place: usize) -> [i32; 6]
-    requires { place ≤ 1026 }
-    ensures { result ≡ tail_items (pos 0) sums.now place }
+/// The six values of a decoder's tail, which begins at an index.
+fn tail_of(sums: &[[i32; 1028]; 3], index: usize) -> [i32; 6]
+    requires { index ≤ 1026 }
+    ensures { result ≡ tail_items (pos 0) sums.now index }
 {
     [
-        sums[0][place],
-        sums[1][place],
-        sums[2][place],
-        sums[0][place + 1],
-        sums[1][place + 1],
-        sums[2][place + 1],
+        sums[0][index],
+        sums[1][index],
+        sums[2][index],
+        sums[0][index + 1],
+        sums[1][index + 1],
+        sums[2][index + 1],
     ]
 }
 
@@ -114,7 +114,7 @@ fn extrinsics_of(
     prior: &[i32],
     work: &mut Work,
 ) -> BitValues
-    requires places { length systematic.now ≤ 1024 }
+    requires short { length systematic.now ≤ 1024 }
     requires parities { length parity.now ≡ length systematic.now }
     requires priors { length prior.now ≡ length systematic.now }
     requires small_systematic { All IsSmall systematic.now }
@@ -161,10 +161,7 @@ fn second_of(sums: &[[i32; 1028]; 3], row: &Row, handed: &BitValues, work: &mut 
     requires row { IsRow row.now }
     requires small { All (All IsSmall) sums.now }
     requires small_handed { All IsSmall handed.now }
-    ensures values { take row.now.k result ≡ in_word_order (pos 0) row.now (extrinsics (values_of
-        (in_order (pos 0) row.now (bits_of_stream (pos 0) row.now sums.now 0))
-        (bits_of_stream (pos 0) row.now sums.now 2) (tail_items (pos 0) sums.now (row.now.k + 2))
-        (in_order (pos 0) row.now (take row.now.k handed.now)))) }
+    ensures values { take row.now.k result ≡ second_extrinsics row.now sums.now (take row.now.k handed.now) }
     ensures size { length result ≡ 1024 }
     ensures small { All IsSmall result }
 {
@@ -244,7 +241,7 @@ fn iterate(
     ensures word { take row.now.k result ≡ word_by row.now sums.now (take row.now.k prior.old) }
     ensures size { length result ≡ 1024 }
     ensures prior { take row.now.k prior.new
-        ≡ map handed_on (second_extrinsics row.now sums.now (take row.now.k prior.old)) }
+        ≡ map handed_on (second_after row.now sums.now (take row.now.k prior.old)) }
     ensures small { All IsSmall prior.new }
 {
     let first = first_of(sums, row, prior, work);

@@ -4,7 +4,7 @@ ghost use Rattle.std.specs.Prelude.{◌≡◌, vec_len};
 
 use std::alloc::{AllocError, Global};
 
-/// The working memory of a decoder: for each place of a word of up to 1,024 bits, and for its end, the
+/// The working memory of a decoder: for each index of a word of up to 1,024 bits, and for its end, the
 /// least costs to the 8 states. What it holds between two calls means nothing.
 #[derive(Drop)]
 pub struct Work {

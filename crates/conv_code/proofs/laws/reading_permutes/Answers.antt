@@ -1,4 +1,4 @@
-use Rattle.conv_code.proofs.Places.{permuting}
+use Rattle.conv_code.proofs.Items.{permuting}
 use Rattle.conv_code.proofs.laws.reading_permutes.Goals as goal
 
 pub returns : goal.returns

@@ -7,8 +7,8 @@ use Rattle.turbo_code.proofs.TableFacts.{is_small}
 use Rattle.erasure.specs.Sets.{above_zero}
 use Rattle.erasure.proofs.resolving.own_in_order_of.Goals as goal
 
-pub is_sent-requires-clause-place : goal.is_sent-requires-clause-place
-is_sent-requires-clause-place c = let high = (is_small c.args.row.now c.requires.row).high in omega (arith, high, c.interleaver-k.ensures.inside)
+pub is_sent-requires-clause-index : goal.is_sent-requires-clause-index
+is_sent-requires-clause-index c = let high = (is_small c.args.row.now c.requires.row).high in omega (arith, high, c.interleaver-k.ensures.inside)
 
 pub loop-i-preserved : goal.loop-i-preserved
 loop-i-preserved c =

@@ -2,8 +2,8 @@ use Rattle.std.specs.Prelude.{◌*◌, ◌^◌}
 use Rattle.std.proofs.Common.{subst, sym, ◌<◌, arith, refl, ap}
 use Rattle.finite.specs.Sizes.{RowsWithin}
 use Rattle.finite.proofs.Tables.{sums_none, sums_more}
-use Rattle.sub_block.specs.declared.Place.{Place}
-use Rattle.turbo_code.specs.Reading.{place_of}
+use Rattle.sub_block.specs.declared.Item.{Item}
+use Rattle.turbo_code.specs.Reading.{item_of}
 use Rattle.turbo_code.proofs.TableFacts.{is_small, row_size}
 use Rattle.turbo_code.proofs.Sizes.{sizes}
 use Rattle.turbo_code.proofs.Sums.{sums_all}
@@ -12,32 +12,32 @@ use Rattle.turbo_code.proofs.matching.combine.Goals as goal
 pub loop-i-init : goal.loop-i-init
 loop-i-init c = sums_none 3 1028 (2 ^ 15) _ _ c.args.values.now
 
-pub place_in-requires-clause-size : goal.place_in-requires-clause-size
-place_in-requires-clause-size c = row_size c.args.row c.requires.row
+pub item_in-requires-clause-size : goal.item_in-requires-clause-size
+item_in-requires-clause-size c = row_size c.args.row c.requires.row
 
-pub add_at-requires-clause-place : goal.add_at-requires-clause-place
-add_at-requires-clause-place c =
+pub add_at-requires-clause-index : goal.add_at-requires-clause-index
+add_at-requires-clause-index c =
     let high = (is_small c.args.row c.requires.row).high in
-    let inside = c.place_in.ensures.inside in
+    let inside = c.item_in.ensures.inside in
     omega (arith, high, inside)
 
 pub add_at-requires-clause-room : goal.add_at-requires-clause-room
 add_at-requires-clause-room c =
     let high = (is_small c.args.row c.requires.row).high in
-    let inside = c.place_in.ensures.inside in
-    let below : c.place_in.result.place < 1028 = omega (arith, high, inside) in
-    let small = c.loop-i.invariant.small c.place_in.result.stream c.place_in.result.place c.place_in.ensures.below_three below in
+    let inside = c.item_in.ensures.inside in
+    let below : c.item_in.result.index < 1028 = omega (arith, high, inside) in
+    let small = c.loop-i.invariant.small c.item_in.result.stream c.item_in.result.index c.item_in.ensures.below_three below in
     let count = c.requires.count in
     omega (arith, small, count, c.loop-i-test.true)
 
 pub loop-i-preserved : goal.loop-i-preserved
 loop-i-preserved c =
-    let at = c.place_in.ensures in
+    let at = c.item_in.ensures in
     let high = (is_small c.args.row c.requires.row).high in
     let inside = at.inside in
     rw c.add_at.ensures.sum
-    (sums_more 3 1028 (2 ^ 15) (λ i. (place_of c.args.row.k c.args.rv i).stream) (λ i. (place_of c.args.row.k c.args.rv i).place) c.args.values.now c.loop-i.i c.loop-i.d _ _ _
-    (ap (λ (p : Place). p.stream) at.place) (ap (λ (p : Place). p.place) at.place) at.below_three (omega (arith, high, inside)) refl c.add_at.ensures.size c.loop-i.invariant)
+    (sums_more 3 1028 (2 ^ 15) (λ i. (item_of c.args.row.k c.args.rv i).stream) (λ i. (item_of c.args.row.k c.args.rv i).index) c.args.values.now c.loop-i.i c.loop-i.d _ _ _
+    (ap (λ (p : Item). p.stream) at.item) (ap (λ (p : Item). p.index) at.item) at.below_three (omega (arith, high, inside)) refl c.add_at.ensures.size c.loop-i.invariant)
 
 pub returns-clause-d : goal.returns-clause-d
 returns-clause-d c = sums_all c.args.row.k c.args.rv c.args.values.now c.loop-i.i c.loop-i.d (omega arith) c.loop-i.invariant

@@ -5,5 +5,5 @@ use Rattle.turbo_code.proofs.matching.match_out.Goals as goal
 pub bounds-coded-at-2 : goal.bounds-coded-at-2
 bounds-coded-at-2 c =
     let high = (is_small_size _ c.requires.size).high in
-    let inside = c.place_in-at.ensures.inside in
+    let inside = c.item_in-at.ensures.inside in
     omega (arith, high, inside)

@@ -1,6 +1,6 @@
 use Rattle.std.proofs.Common.{◌≡◌, ℕ, ◌<◌, length, slice_index_or}
 use Rattle.conv_code.specs.Reading.{stream_order}
-use Rattle.conv_code.proofs.matching.stream_places.Given as goal
+use Rattle.conv_code.proofs.matching.stream_indices.Given as goal
 
 abbrev pub invariant-loop-p : goal.invariant-loop-p
 invariant-loop-p g l = record {

@@ -1,4 +1,4 @@
-//! What the values of a place cost.
+//! What the values at an index cost.
 
 ghost use Rattle.std.specs.Prelude.{◌≡◌, ℕ, ◌*◌, ◌^◌, ◌≤◌, false, slice_index_or};
 ghost use Rattle.finite.specs.Sizes.{AllWithin};
@@ -6,7 +6,7 @@ ghost use Rattle.conv_code.specs.Cost.{triple_cost};
 
 use cs_bits::disagreement_of;
 
-/// The sum of the sizes of those of the three values of a place that speak against their coded bits (own).
+/// The sum of the sizes of those of the three values at an index that speak against their coded bits (own).
 /// The values are at most 2^20 in size.
 pub fn against(values: &[i32; 3], bits: &[bool; 3]) -> u32
     requires { AllWithin (2 ^ 20) values.now }

@@ -1,13 +1,13 @@
 use Rattle.std.proofs.Common.{◌*◌, ◌/◌, ◌%◌, ◌<◌, get_or, ap, sym, subst, ◌∙◌, arith}
-use Rattle.sub_block.specs.Places.{spot}
+use Rattle.sub_block.specs.Items.{item}
 use Rattle.conv_code.proofs.Orders.{is_order}
-use Rattle.conv_code.proofs.Places.{place_is}
-use Rattle.conv_code.proofs.matching.place_by.Goals as goal
+use Rattle.conv_code.proofs.Items.{item_is}
+use Rattle.conv_code.proofs.matching.item_by.Goals as goal
 
-pub returns-clause-place : goal.returns-clause-place
-returns-clause-place g c =
-    ap (λ order. spot (c.args.i % (3 * g.row.N) / g.row.N) (get_or order (c.args.i % (3 * g.row.N) % g.row.N) 0)) c.requires.order
-    ∙ sym (place_is g.row.N c.args.i c.requires.low c.requires.high)
+pub returns-clause-item : goal.returns-clause-item
+returns-clause-item g c =
+    ap (λ order. item (c.args.i % (3 * g.row.N) / g.row.N) (get_or order (c.args.i % (3 * g.row.N) % g.row.N) 0)) c.requires.order
+    ∙ sym (item_is g.row.N c.args.i c.requires.low c.requires.high)
 
 pub returns-clause-inside : goal.returns-clause-inside
 returns-clause-inside g c =

@@ -5,7 +5,7 @@ use Rattle.std.proofs.lemmas.Int.{to_z-of_z, fits_signed_from_abs}
 use Rattle.finite.proofs.Items.{item-within}
 use Rattle.cs_bits.specs.Signs.{disagreement}
 use Rattle.conv_code.proofs.Costs.{triple_cost-le}
-use Rattle.conv_code.proofs.place.against.Goals as goal
+use Rattle.conv_code.proofs.cost.against.Goals as goal
 
 pub returns-clause-bound : goal.returns-clause-bound
 returns-clause-bound c n small =

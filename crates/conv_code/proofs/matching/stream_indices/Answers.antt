@@ -3,7 +3,7 @@ use Rattle.std.proofs.lemmas.List.{ext_get_or, length-replicate}
 use Rattle.std.proofs.lemmas.List.Edits.{fill_by_more}
 use Rattle.conv_code.specs.Reading.{stream_order}
 use Rattle.conv_code.proofs.Orders.{is_order}
-use Rattle.conv_code.proofs.matching.stream_places.Goals as goal
+use Rattle.conv_code.proofs.matching.stream_indices.Goals as goal
 
 pub loop-p-init : goal.loop-p-init
 loop-p-init g c = record {
@@ -15,7 +15,7 @@ pub loop-p-preserved : goal.loop-p-preserved
 loop-p-preserved g c =
     let n : ℕ = g.row.N in
     let before = c.loop-p.invariant in
-    rw c.stream_place.ensures.place (record {
+    rw c.stream_index.ensures.index (record {
       whole = length-set c.loop-p.order c.loop-p.p _ ∙ before.whole;
       each = fill_by_more (λ k. get_or (stream_order n) k 0) c.loop-p.order c.loop-p.p 0 (omega (arith, before.whole, c.loop-p-test.true)) before.each;
     })
