@@ -11,11 +11,11 @@ use Rattle.paths.proofs.Rounds.{ends_in_same, ends_in_other}
 use Rattle.conv_code.specs.Code.{parity, taps_0, taps_1, taps_2}
 use Rattle.conv_code.specs.Cost.{word_cost}
 use Rattle.tailbite.specs.LeastWord.{IsLeastWord}
-use Rattle.tailbite.specs.Machine.{branch_cost, window_bit, forward_least, first_from, bit_to}
+use Rattle.tailbite.specs.Machine.{branch_cost, window_bit, forward_least, first_from, newest_bit}
 use Rattle.conv_code.proofs.Costs.{triple_cost-le, word_cost-le}
 use Rattle.finite.proofs.Items.{row-within}
-use Rattle.tail_cert.specs.Certificate.{Held, IsWhole, IsAccepted, IsTriple, IsTable, Counted, StartHolds, bound, from_any}
-use Rattle.tail_cert.specs.Forward.{IsFilled, IsStepRow, HasLeastRows, IsStartRow}
+use Rattle.tail_cert.specs.Certificate.{Held, IsWhole, IsAccepted, IsTriple, IsTable, Counted, bound, from_any}
+use Rattle.tail_cert.specs.Forward.{IsFilled, IsStepRow, HasLeastRows, IsStartRow, ShowsBounds}
 use Rattle.tail_cert.specs.Stored.{IsStored, is_in, shown}
 use Rattle.tail_cert.proofs.Accept.{accepted}
 use Rattle.tail_cert.proofs.Filled.{filled}
@@ -46,7 +46,7 @@ row_is_least values start small size room (suc k) =
     later_row values start k row (values_below 64 step) (row_is_least values start small size room k) (values_below-length 64 step)
     (λ x below. values_below_at step 64 x 0 below)
     (λ x below.
-    let branch = branch_within values small k (first_from x) (bit_to x) in
+    let branch = branch_within values small k (first_from x) (newest_bit x) in
     rw (values_below_at step 64 x 0 below) (omega (arith, branch)))
 
 -- the table of a start state
@@ -168,11 +168,10 @@ least_has_certificate values word places least = record {
       room = record { count = values_below-length 64 (table_of values); all = tables };
     }
 
-    holds : (s : ℕ) → s < 64 → StartHolds values (word_cost values word) [] s (Some (table_of values s))
-    holds s below = accepted values (word_cost values word) s [] (start_of s) (table_of values s) below places.count (is_start s)
-        (λ other size. least.least other (size ∙ sym places.count)) (omega (arith, within, places.count)) (table_rows values s small)
+    holds : (s : ℕ) → s < 64 → ShowsBounds values s (table_of values s)
+    holds s below cost lower fits = accepted values cost s [] (start_of s) (table_of values s) below places.count (is_start s) lower fits (table_rows values s small)
 
     both : IsAccepted (certificate_of values word) × IsFilled (certificate_of values word)
     both = filled values values word (word_cost values word) (general_of values) (states_of values word) (values_below 64 (table_of values)) (values_below 64 (table_of values))
         refl refl small places.count least refl (general_rows values small) (λ s below. needed_states values word s below)
-        (λ size lower fits s below low. subst (λ table. StartHolds values (word_cost values word) [] s (Some table)) (sym (values_below_at (table_of values) 64 s [] below)) (holds s below))
+        (λ s below low. subst (ShowsBounds values s) (sym (values_below_at (table_of values) 64 s [] below)) (holds s below))

@@ -9,28 +9,26 @@ use Rattle.finite.specs.Sizes.{RowsWithin}
 use Rattle.finite.proofs.Sums.{total_below_same}
 use Rattle.conv_code.specs.Cost.{word_cost}
 use Rattle.conv_code.proofs.Costs.{word_cost-le}
-use Rattle.tail_cert.specs.Costs.{HaveCosts}
 use Rattle.tailbite.specs.LeastWord.{IsLeastWord}
 use Rattle.tailbite.specs.Machine.{shift, step_cost}
 use Rattle.tail_cert.specs.Certificate.{Counted, Held, IsAccepted, IsLowerBound, IsTable, StartHolds, bound, from_any, tables_there}
-use Rattle.tail_cert.specs.Forward.{HasLeastRows, IsFilled}
+use Rattle.tail_cert.specs.Forward.{HasLeastRows, IsFilled, ShowsBounds}
 use Rattle.tail_cert.specs.Stored.{is_in, shown}
 use Rattle.tail_cert.proofs.Accept.{steps_hold}
 use Rattle.tail_cert.proofs.Shown.{some_shown, starts_shown}
 
 -- of the states below n those with a bound below the cost are in the set, and their tables bound it
-pub record IsFilledTo (costs : List (List ℕ)) (cost : ℕ) (ends : List ℕ) (tables : List (List (List ℕ))) (states : List Bool) (n : ℕ) : Type 0 where
+pub record IsFilledTo (values : List (List ℤ)) (cost : ℕ) (ends : List ℕ) (tables : List (List (List ℕ))) (states : List Bool) (n : ℕ) : Type 0 where
   pub size : length states ≡ 64
   pub room : Counted 64 IsTable tables
   pub needed : (s : ℕ) → s < n → is_in states s ≡ nat_lt (get_or ends s 0) cost
   pub later : (s : ℕ) → n ≤ s → s < 64 → is_in states s ≡ false
-  pub bounds : (values : List (List ℤ)) → HaveCosts values costs 40 → length values ≡ 40 → IsLowerBound values cost → cost ≤ 2 ^ 30 →
-      (s : ℕ) → s < n → get_or ends s 0 < cost → StartHolds values cost [] s (Some (get_or tables s []))
+  pub bounds : (s : ℕ) → s < n → get_or ends s 0 < cost → ShowsBounds values s (get_or tables s [])
 
 -- a state that needs no table
-pub without : (costs : List (List ℕ)) (cost : ℕ) (ends : List ℕ) (tables : List (List (List ℕ))) (states : List Bool) (n : ℕ) →
-    IsFilledTo costs cost ends tables states n → n < 64 → cost ≤ get_or ends n 0 → IsFilledTo costs cost ends tables states (n + 1)
-without costs cost ends tables states n known below none = record {
+pub without : (values : List (List ℤ)) (cost : ℕ) (ends : List ℕ) (tables : List (List (List ℕ))) (states : List Bool) (n : ℕ) →
+    IsFilledTo values cost ends tables states n → n < 64 → cost ≤ get_or ends n 0 → IsFilledTo values cost ends tables states (n + 1)
+without values cost ends tables states n known below none = record {
   size = known.size;
   room = known.room;
   needed = λ s h. elim (cases_lt s n) [
@@ -38,18 +36,17 @@ without costs cost ends tables states n known below none = record {
     | inr m ↦ let e : s ≡ n = omega (arith, h, m) in rw e (known.later n (omega arith) below ∙ sym (le-ltb (get_or ends n 0) cost none))
   ];
   later = λ s h inside. known.later s (omega (arith, h)) inside;
-  bounds = λ values have places lower small s h low. elim (cases_lt s n) [
-    | inl l ↦ known.bounds values have places lower small s l low
+  bounds = λ s h low. elim (cases_lt s n) [
+    | inl l ↦ known.bounds s l low
     | inr m ↦ let e : s ≡ n = omega (arith, h, m) in let low' = rw e at low in absurd (omega (arith, none, low'))
   ];
 }
 
 -- one that needs a table
-pub with_table : (costs : List (List ℕ)) (cost : ℕ) (ends : List ℕ) (tables : List (List (List ℕ))) (states : List Bool) (n : ℕ) (table : List (List ℕ)) →
-    IsFilledTo costs cost ends tables states n → n < 64 → get_or ends n 0 < cost → IsTable table →
-    ((values : List (List ℤ)) (bound : ℕ) → HaveCosts values costs 40 → length values ≡ 40 → IsLowerBound values bound → bound ≤ 2 ^ 30 → StartHolds values bound [] n (Some table)) →
-    IsFilledTo costs cost ends (set tables n table) (set states (63 - n) true) (n + 1)
-with_table costs cost ends tables states n table known below needs whole holds = record {
+pub with_table : (values : List (List ℤ)) (cost : ℕ) (ends : List ℕ) (tables : List (List (List ℕ))) (states : List Bool) (n : ℕ) (table : List (List ℕ)) →
+    IsFilledTo values cost ends tables states n → n < 64 → get_or ends n 0 < cost → IsTable table → ShowsBounds values n table →
+    IsFilledTo values cost ends (set tables n table) (set states (63 - n) true) (n + 1)
+with_table values cost ends tables states n table known below needs whole holds = record {
   size = length-set states (63 - n) true ∙ known.size;
   room = record {
     count = length-set tables n table ∙ room;
@@ -67,11 +64,11 @@ with_table costs cost ends tables states n table known below needs whole holds =
   later = λ s h inside.
       let ne : 63 - s ≢ 63 - n = omega (arith, h, below, inside) in
       rw (get_or-set_other states (63 - n) (63 - s) true false ne) (known.later s (omega (arith, h)) inside);
-  bounds = λ values have places lower small s h low. elim (cases_lt s n) [
-    | inl l ↦ let ne : s ≢ n = omega (arith, l) in rw (get_or-set_other tables n s table [] ne) (known.bounds values have places lower small s l low)
+  bounds = λ s h low. elim (cases_lt s n) [
+    | inl l ↦ let ne : s ≢ n = omega (arith, l) in rw (get_or-set_other tables n s table [] ne) (known.bounds s l low)
     | inr m ↦
         let e : s ≡ n = omega (arith, h, m) in
-        rw (e, get_or-set_same tables n table [] (omega (arith, room, below))) (holds values cost have places lower small)
+        rw (e, get_or-set_same tables n table [] (omega (arith, room, below))) holds
   ];
 }
   where
@@ -82,14 +79,14 @@ with_table costs cost ends tables states n table known below needs whole holds =
     room = known.room.count
 
 -- at first
-pub filled_none : (costs : List (List ℕ)) (cost : ℕ) (ends : List ℕ) (tables : List (List (List ℕ))) → Counted 64 IsTable tables →
-    IsFilledTo costs cost ends tables (replicate 64 false) 0
-filled_none costs cost ends tables room = record {
+pub filled_none : (values : List (List ℤ)) (cost : ℕ) (ends : List ℕ) (tables : List (List (List ℕ))) → Counted 64 IsTable tables →
+    IsFilledTo values cost ends tables (replicate 64 false) 0
+filled_none values cost ends tables room = record {
   size = length-replicate 64 false;
   room = room;
   needed = λ s below. absurd (omega (arith, below));
   later = λ s h inside. get_or-replicate 64 (63 - s) false false (omega arith);
-  bounds = λ values have places lower small s below low. absurd (omega (arith, below));
+  bounds = λ s below low. absurd (omega (arith, below));
 }
 
 -- ---- the certificate that is filled
@@ -120,7 +117,7 @@ pub filled : (values copied : List (List ℤ)) (word : List Bool) (cost : ℕ) (
     copied ≡ values → kept ≡ tables → RowsWithin 2032 values → length values ≡ 40 → IsLeastWord values word → cost ≡ word_cost values word →
     HasLeastRows values (replicate 64 0) general 40 →
     ((s : ℕ) → s < 64 → is_in set s ≡ nat_lt (bound from_any general 40 s) cost) →
-    (length values ≡ 40 → IsLowerBound values cost → cost ≤ 2 ^ 30 → (s : ℕ) → s < 64 → bound from_any general 40 s < cost → StartHolds values cost [] s (Some (get_or tables s []))) →
+    ((s : ℕ) → s < 64 → bound from_any general 40 s < cost → ShowsBounds values s (get_or tables s [])) →
     IsAccepted (record { values = copied; word = word; cost = cost; general = general; tables = shown set kept }) ×
     IsFilled (record { values = copied; word = word; cost = cost; general = general; tables = shown set kept })
 filled values copied word cost general set tables kept copy same sizes places least stated rows needed bounds = rw (copy, same) (
@@ -128,7 +125,7 @@ filled values copied word cost general set tables kept copy same sizes places le
     stated = stated;
     general = steps_hold values from_any (replicate 64 0) general (λ x below some. get_or-replicate 64 x 0 0 below) rows;
     starts = (starts_shown values cost general set tables).1 (λ s below.
-        start_filled values cost general s (get_or tables s []) (is_in set s) (needed s below) (bounds places lower small s below));
+        start_filled values cost general s (get_or tables s []) (is_in set s) (needed s below) (λ low. bounds s below low cost lower small));
   },
   record {
     least = λ i x inside below. subst (λ starts. IsLeastTo shift (step_cost values) starts 64 (suc i) x (get_or (get_or general i []) x 0)) zero_start

@@ -1,7 +1,7 @@
 -- A table that holds up to a step.
-use Rattle.std.proofs.Common.{◌≡◌, ℕ, zero, suc, ◌+◌, ◌<◌, ◌↔◌, Bool, true, false, List, [], get_or, ℤ, refl, add-one, below_more}
+use Rattle.std.proofs.Common.{◌≡◌, ℕ, zero, suc, ◌+◌, ◌<◌, ◌≤◌, ◌↔◌, Bool, true, false, List, [], get_or, ℤ, refl, sym, subst, ◌∙◌, add-one, below_more}
 use Rattle.tail_cert.specs.Costs.{HaveCosts, cost_in}
-use Rattle.tailbite.specs.Machine.{shift}
+use Rattle.tailbite.specs.Machine.{shift, step_cost}
 use Rattle.tail_cert.specs.Certificate.{StepsHold, bound}
 use Rattle.tail_cert.specs.Steps.{BothHold, RowHolds, StepHolds}
 
@@ -19,21 +19,23 @@ of_both costs m to x true h = h.1
 of_both costs m to x false h = h.0
 
 -- the bounds in that row
-bound_is : (first : List ℕ) (start : ℕ → ℕ) (table : List (List ℕ)) → ((x : ℕ) → x < 64 → get_or first x 0 ≡ start x) →
-    (i x : ℕ) → x < 64 → get_or (from_row first table i) x 0 ≡ bound start table i x
+bound_is : (first : List ℕ) (table : List (List ℕ)) (i x : ℕ) → x < 64 → get_or (from_row first table i) x 0 ≡ bound (λ x. get_or first x 0) table i x
 unfolding from_row
-bound_is first start table same zero x below = same x below
-bound_is first start table same (suc i) x below = refl
+bound_is first table zero x below = refl
+bound_is first table (suc i) x below = refl
 
 -- so all steps hold by the values
-pub steps_by_table : (values : List (List ℤ)) (costs : List (List ℕ)) (first : List ℕ) (start : ℕ → ℕ) (table : List (List ℕ)) → HaveCosts values costs 40 →
-    ((x : ℕ) → x < 64 → get_or first x 0 ≡ start x) → HoldsTo costs first table 40 ↔ StepsHold values start table
-steps_by_table values costs first start table have same = (to, back)
+pub steps_by_table : (values : List (List ℤ)) (costs : List (List ℕ)) (first : List ℕ) (table : List (List ℕ)) → HaveCosts values costs 40 →
+    HoldsTo costs first table 40 ↔ StepsHold values (λ x. get_or first x 0) table
+steps_by_table values costs first table have = (to, back)
   where
+    start : ℕ → ℕ
+    start x = get_or first x 0
+
     to : HoldsTo costs first table 40 → StepsHold values start table
     to h i x b inside below some =
         let cost = (have.place i inside).cost x b below in
-        let from = bound_is first start table same i x below in
+        let from = bound_is first table i x below in
         let step = of_both (get_or costs i []) (get_or (from_row first table i) x 0) (get_or table i []) x b (h i inside x below) in
         rw (← cost, ← from) (step (rw from some))
 
@@ -41,11 +43,18 @@ steps_by_table values costs first start table have same = (to, back)
         StepHolds (cost_in (get_or costs i []) x b) (get_or (from_row first table i) x 0) (get_or (get_or table i []) (shift x b) 0)
     one h i x b inside below some =
         let cost = (have.place i inside).cost x b below in
-        let from = bound_is first start table same i x below in
+        let from = bound_is first table i x below in
         rw (cost, from) (h i x b inside below (rw (← from) some))
 
     back : StepsHold values start table → HoldsTo costs first table 40
     back h i inside x below = (one h i x false inside below, one h i x true inside below)
+
+-- of the bounds of no step only those of the 64 states are read
+pub steps_from : (values : List (List ℤ)) (f g : ℕ → ℕ) (table : List (List ℕ)) → ((x : ℕ) → x < 64 → f x ≡ g x) →
+    StepsHold values f table → StepsHold values g table
+steps_from values f g table same h zero x b inside below some =
+    subst (λ m. bound g table 1 (shift x b) ≤ m + step_cost values 0 x b) (same x below) (h zero x b inside below (λ e. some (sym (same x below) ∙ e)))
+steps_from values f g table same h (suc i) x b inside below some = h (suc i) x b inside below some
 
 -- one step more
 pub holds_more : (costs : List (List ℕ)) (first : List ℕ) (table : List (List ℕ)) (from : List ℕ) (n : ℕ) → from ≡ from_row first table n →

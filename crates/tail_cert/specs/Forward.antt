@@ -1,9 +1,9 @@
 -- The least costs up to each state, step by step, and the tables that are needed (own).
-use Rattle.std.specs.Prelude.{◌≡◌, ◌↔◌, ℕ, suc, ◌*◌, ◌^◌, ◌<◌, List, [], None, IsSome, length, slice_index, slice_index_or, ℤ}
+use Rattle.std.specs.Prelude.{◌≡◌, ◌↔◌, ℕ, suc, ◌*◌, ◌^◌, ◌<◌, ◌≤◌, List, [], Some, None, IsSome, length, slice_index, slice_index_or, ℤ}
 use Rattle.paths.specs.Least.{IsLeastTo, ends_in}
 use Rattle.paths.specs.Rows.{IsLeastRow}
 use Rattle.tailbite.specs.Machine.{shift, step_cost}
-use Rattle.tail_cert.specs.Certificate.{Held, bound, from_any}
+use Rattle.tail_cert.specs.Certificate.{Held, IsLowerBound, StartHolds, bound, from_any}
 
 -- the row has the least costs of k steps, from starts that cost what the start row says; no value is larger than 2 ^ 20
 pub record IsStepRow (values : List (List ℤ)) (start : List ℕ) (k : ℕ) (row : List ℕ) : Type 0 where
@@ -17,6 +17,11 @@ pub record HasLeastRows (values : List (List ℤ)) (start : List ℕ) (table : L
 -- the start row of the state s: 0 there, and elsewhere more than the cost of every word
 pub record IsStartRow (s : ℕ) (start : List ℕ) : Type 0 where
   pub row : (x : ℕ) → x < 64 → slice_index start x ≡ ends_in (2 ^ 30) s x
+
+-- the table of the state s shows each lower bound of what words cost, up to 2 ^ 30, for the paths from s back to it
+abbrev pub ShowsBounds : List (List ℤ) → ℕ → List (List ℕ) → Type 0
+ShowsBounds values s table =
+    (cost : ℕ) → IsLowerBound values cost → cost ≤ 2 ^ 30 → StartHolds values cost [] s (Some table)
 
 -- each bound of the general table is the least cost of so many steps from any state, and a start state has a table exactly
 -- where its bound in the general table is below the cost

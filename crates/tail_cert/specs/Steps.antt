@@ -1,7 +1,7 @@
 -- The inequalities of one branch and of one step (own).
-use Rattle.std.specs.Prelude.{◌≢◌, ℕ, ◌+◌, ◌<◌, ◌≤◌, true, false, List, slice_index, ℤ}
+use Rattle.std.specs.Prelude.{◌≢◌, ℕ, ◌+◌, ◌<◌, ◌≤◌, true, false, List, slice_index}
 use Rattle.tailbite.specs.Machine.{shift}
-use Rattle.tail_cert.specs.Costs.{HaveCosts, cost_in}
+use Rattle.tail_cert.specs.Costs.{cost_in}
 use Rattle.tail_cert.specs.Certificate.{unbounded}
 
 -- the inequality of a branch of some cost
@@ -16,7 +16,3 @@ BothHold costs from to x =
 -- the inequalities of all branches from one step to the next
 abbrev pub RowHolds : List ℕ → List ℕ → List ℕ → Type 0
 RowHolds costs from to = (x : ℕ) → x < 64 → BothHold costs (slice_index from x) to x
-
--- the tables are those of the costs of 40 places, by some values
-abbrev pub AreSomeCosts : List (List ℕ) → Type 0
-AreSomeCosts costs = (values : List (List ℤ)) × HaveCosts values costs 40

@@ -1,16 +1,15 @@
 //! The check of a certificate.
 
-ghost use Rattle.std.specs.Prelude.{◌≡◌, ◌^◌, ◌<◌, ◌≤◌, ◌↔◌, ℕ, IsTrue, List, ℤ, length, slice_index};
+ghost use Rattle.std.specs.Prelude.{◌≡◌, ◌^◌, ◌<◌, ◌≤◌, ◌↔◌, ℕ, IsTrue, length, slice_index};
 ghost use Rattle.finite.specs.Sizes.{RowsWithin};
 ghost use Rattle.conv_code.specs.Cost.{word_cost};
-ghost use Rattle.tail_cert.specs.Costs.{HaveCosts};
 ghost use Rattle.tail_cert.specs.Certificate.{from_any, from_state, IsAccepted, IsLowerBound, StartHolds, StepsHold};
 ghost use Rattle.tail_cert.specs.Steps.{BothHold, RowHolds, StepHolds};
 ghost use Rattle.tail_cert.specs.Stored.{shown_at};
 
 use crate::Certificate;
 use crate::certificate::{Table, has};
-use crate::costs::{StepCosts, step_costs};
+use crate::costs::{PathCosts, StepCosts, step_costs};
 use conv_code::{against, encode};
 use cs_bits::Bits;
 use tailbite::next;
@@ -51,14 +50,12 @@ fn row_holds(costs: &StepCosts, from: &[u32; 64], to: &[u32; 64]) -> bool
 }
 
 /// Whether the inequalities of all steps of a table hold, from the bounds of no step on.
-fn steps_hold(costs: &[StepCosts; 40], first: &[u32; 64], table: &Table) -> bool
-    ensures { (values : List (List ℤ)) (start : ℕ → ℕ) → HaveCosts values costs.now 40 →
-        ((x : ℕ) → x < 64 → slice_index first.now x ≡ start x) →
-        (IsTrue result ↔ StepsHold values start table.now) }
+fn steps_hold(costs: &PathCosts, first: &[u32; 64], table: &Table) -> bool
+    ensures { IsTrue result ↔ StepsHold costs.now.values.now (λ x. slice_index first.now x) table.now }
 {
     let mut from = *first;
     for i in 0..STEPS {
-        if !row_holds(&costs[i], &from, &table[i]) {
+        if !row_holds(&costs.steps[i], &from, &table[i]) {
             return false;
         }
         from = table[i];
@@ -78,7 +75,7 @@ fn row_from(s: usize) -> [u32; 64]
 
 /// Whether the cost bounds every path from a state back to it.
 fn start_holds(
-    costs: &[StepCosts; 40],
+    costs: &PathCosts,
     cost: u32,
     general: &Table,
     set: &Bits<64>,
@@ -87,8 +84,8 @@ fn start_holds(
 ) -> bool
     requires state { s < 64 }
     requires room { length tables.now ≡ 64 }
-    ensures { (values : List (List ℤ)) → HaveCosts values costs.now 40 →
-        (IsTrue result ↔ StartHolds values cost general.now s (shown_at set.now tables.now s)) }
+    ensures { IsTrue result
+        ↔ StartHolds costs.now.values.now cost general.now s (shown_at set.now tables.now s) }
 {
     if has(set, s) {
         steps_hold(costs, &row_from(s), &tables[s]) && cost <= tables[s][STEPS - 1][s]
@@ -99,15 +96,15 @@ fn start_holds(
 
 /// Whether it does so for all states.
 fn starts_hold(
-    costs: &[StepCosts; 40],
+    costs: &PathCosts,
     cost: u32,
     general: &Table,
     set: &Bits<64>,
     tables: &[Table],
 ) -> bool
     requires { length tables.now ≡ 64 }
-    ensures { (values : List (List ℤ)) → HaveCosts values costs.now 40 → (IsTrue result ↔
-        ((s : ℕ) → s < 64 → StartHolds values cost general.now s (shown_at set.now tables.now s))) }
+    ensures { IsTrue result ↔ ((s : ℕ) → s < 64 →
+        StartHolds costs.now.values.now cost general.now s (shown_at set.now tables.now s)) }
 {
     for s in 0..STATES {
         if !start_holds(costs, cost, general, set, tables, s) {
@@ -130,7 +127,11 @@ fn tables_hold(
     ensures { IsTrue result ↔ (StepsHold values.now from_any general.now × ((s : ℕ) → s < 64 →
         StartHolds values.now cost general.now s (shown_at set.now tables.now s))) }
 {
-    let costs = step_costs(values);
+    let steps = step_costs(values);
+    let costs = PathCosts {
+        values,
+        steps: &steps,
+    };
     steps_hold(&costs, &[0; STATES], general) && starts_hold(&costs, cost, general, set, tables)
 }
 

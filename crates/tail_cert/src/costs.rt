@@ -4,12 +4,21 @@ ghost use Rattle.std.specs.Prelude.{◌≡◌, ℕ, ◌+◌, ◌*◌, ◌^◌, �
 ghost use Rattle.finite.specs.Sizes.{AllWithin, RowsWithin};
 ghost use Rattle.paths.specs.Rows.{least_in};
 ghost use Rattle.tail_cert.specs.Costs.{AreCosts, HaveCosts, cost_in};
-ghost use Rattle.tailbite.specs.Machine.{bit_to, first_from, second_from};
+ghost use Rattle.tailbite.specs.Machine.{newest_bit, first_from, second_from};
 
 use tailbite::{before, branch};
 
 /// The costs of a place's steps from each of the 64 states: by the bit 0, and then by the bit 1.
 pub(crate) type StepCosts = [u32; 128];
+
+/// The values of 40 places, and what the steps cost by them.
+#[derive(Clone, Copy)]
+pub(crate) struct PathCosts<'a> {
+    pub(crate) values: &'a [[i32; 3]; 40],
+    pub(crate) steps: &'a [StepCosts; 40],
+    pub(crate) ghost places: { length values.now ≡ 40 },
+    pub(crate) ghost costs: { HaveCosts values.now steps.now 40 },
+}
 
 /// What the steps of a place cost.
 fn costs_of(values: &[i32; 3]) -> StepCosts
@@ -42,7 +51,7 @@ fn later_at(costs: &StepCosts, row: &[u32; 64], x: usize) -> u32
     requires small { (y : ℕ) → y < 128 → slice_index costs.now y ≤ 3 * 2 ^ 20 }
     requires room { (y : ℕ) → y < 64 → slice_index row.now y ≤ 2 ^ 31 }
     ensures least { result ≡
-        least_in (cost_in costs.now) row.now (first_from x) (bit_to x) (second_from x) (bit_to x) }
+        least_in (cost_in costs.now) row.now (first_from x) (newest_bit x) (second_from x) (newest_bit x) }
     ensures growth { result ≤ slice_index row.now (first_from x) + 3 * 2 ^ 20 }
 {
     let (first, second, newest) = before(x);
@@ -57,7 +66,7 @@ pub(crate) fn later_row(costs: &StepCosts, row: &[u32; 64]) -> [u32; 64]
     requires small { (y : ℕ) → y < 128 → slice_index costs.now y ≤ 3 * 2 ^ 20 }
     requires room { (y : ℕ) → y < 64 → slice_index row.now y ≤ 2 ^ 31 }
     ensures least { (x : ℕ) → x < 64 → slice_index result x ≡
-        least_in (cost_in costs.now) row.now (first_from x) (bit_to x) (second_from x) (bit_to x) }
+        least_in (cost_in costs.now) row.now (first_from x) (newest_bit x) (second_from x) (newest_bit x) }
     ensures growth { (x : ℕ) → x < 64 →
         slice_index result x ≤ slice_index row.now (first_from x) + 3 * 2 ^ 20 }
     ensures size { length result ≡ 64 }

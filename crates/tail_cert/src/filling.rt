@@ -1,17 +1,15 @@
 //! How a certificate is filled.
 
-ghost use Rattle.std.specs.Prelude.{◌≡◌, ◌*◌, ◌^◌, ◌<◌, ◌≤◌, ℕ, [], List, Some, ℤ, length, nat_lt, slice_index, slice_index_or};
+ghost use Rattle.std.specs.Prelude.{◌≡◌, ◌*◌, ◌^◌, ◌<◌, ◌≤◌, ℕ, [], length, nat_lt, slice_index, slice_index_or};
 ghost use Rattle.finite.specs.Sizes.{RowsWithin};
-ghost use Rattle.tail_cert.specs.Costs.{HaveCosts};
 ghost use Rattle.tailbite.specs.LeastWord.{IsLeastWord};
-ghost use Rattle.tail_cert.specs.Certificate.{Counted, IsAccepted, IsLowerBound, IsTable, StartHolds, bound, from_any};
-ghost use Rattle.tail_cert.specs.Forward.{HasLeastRows, IsFilled, IsStartRow};
-ghost use Rattle.tail_cert.specs.Steps.{AreSomeCosts};
+ghost use Rattle.tail_cert.specs.Certificate.{Counted, IsAccepted, IsTable, bound, from_any};
+ghost use Rattle.tail_cert.specs.Forward.{HasLeastRows, IsFilled, IsStartRow, ShowsBounds};
 ghost use Rattle.tail_cert.specs.Stored.{is_in};
 
 use crate::Certificate;
 use crate::certificate::Table;
-use crate::costs::{StepCosts, later_row, step_costs};
+use crate::costs::{PathCosts, later_row, step_costs};
 use cs_bits::Bits;
 use tailbite::{Trellis, least};
 
@@ -23,16 +21,14 @@ const STEPS: usize = 40;
 const FAR: u32 = 0x4000_0000;
 
 /// Fills a table with the least costs after each step, from starts that cost what the row says.
-fn fill_table(costs: &[StepCosts; 40], start: &[u32; 64], table: &mut Table)
-    requires costs { AreSomeCosts costs.now }
+fn fill_table(costs: &PathCosts, start: &[u32; 64], table: &mut Table)
     requires room { (y : ℕ) → y < 64 → slice_index start.now y ≤ 2 ^ 30 }
-    ensures rows { (values : List (List ℤ)) → HaveCosts values costs.now 40 →
-        HasLeastRows values start.now table.new 40 }
+    ensures rows { HasLeastRows costs.now.values.now start.now table.new 40 }
     ensures size { length table.new ≡ 40 }
 {
     let mut row = *start;
     for k in 0..STEPS {
-        row = later_row(&costs[k], &row);
+        row = later_row(&costs.steps[k], &row);
         table[k] = row;
     }
 }
@@ -49,11 +45,9 @@ fn start_at(s: usize) -> [u32; 64]
 }
 
 /// Fills the table of the start state s.
-fn fill_start(costs: &[StepCosts; 40], s: usize, table: &mut Table)
+fn fill_start(costs: &PathCosts, s: usize, table: &mut Table)
     requires state { s < 64 }
-    requires costs { AreSomeCosts costs.now }
-    ensures bounds { (values : List (List ℤ)) (cost : ℕ) → HaveCosts values costs.now 40 → length values ≡ 40 →
-        IsLowerBound values cost → cost ≤ 2 ^ 30 → StartHolds values cost [] s (Some table.new) }
+    ensures bounds { ShowsBounds costs.now.values.now s table.new }
     ensures whole { IsTable table.new }
 {
     fill_table(costs, &start_at(s), table);
@@ -61,18 +55,11 @@ fn fill_start(costs: &[StepCosts; 40], s: usize, table: &mut Table)
 
 /// Fills the tables of the start states whose bound in the general table, of all steps back to them, is below
 /// the cost, and gives the set of these.
-fn fill_tables(
-    costs: &[StepCosts; 40],
-    cost: u32,
-    general: &Table,
-    tables: &mut [Table],
-) -> Bits<64>
-    requires costs { AreSomeCosts costs.now }
+fn fill_tables(costs: &PathCosts, cost: u32, general: &Table, tables: &mut [Table]) -> Bits<64>
     requires room { Counted 64 IsTable tables.old }
     ensures needed { (s : ℕ) → s < 64 → is_in result s ≡ nat_lt (bound from_any general.now 40 s) cost }
-    ensures bounds { (values : List (List ℤ)) → HaveCosts values costs.now 40 → length values ≡ 40 →
-        IsLowerBound values cost → cost ≤ 2 ^ 30 → (s : ℕ) → s < 64 → bound from_any general.now 40 s < cost →
-        StartHolds values cost [] s (Some (slice_index_or tables.new s [])) }
+    ensures bounds { (s : ℕ) → s < 64 → bound from_any general.now 40 s < cost →
+        ShowsBounds costs.now.values.now s (slice_index_or tables.new s []) }
     ensures states { length result ≡ 64 }
     ensures whole { Counted 64 IsTable tables.new }
 {
@@ -117,8 +104,12 @@ pub fn fill(certificate: &mut Certificate, values: &[[i32; 3]; 40], work: &mut T
     ensures filled { IsFilled certificate.new }
 {
     let (word, cost) = least(values, work);
-    let copied = copy_of(values);
-    let costs = step_costs(values);
+    let steps = step_costs(values);
+    let costs = PathCosts {
+        values,
+        steps: &steps,
+    };
+    let copied = copy_of(costs.values);
     fill_table(&costs, &[0; STATES], &mut certificate.general);
     certificate.set = fill_tables(&costs, cost, &certificate.general, &mut certificate.tables);
     certificate.values = copied;

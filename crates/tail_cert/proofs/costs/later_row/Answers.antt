@@ -2,12 +2,12 @@ use Rattle.std.proofs.Common.{◌≡◌, ◌+◌, ◌*◌, ◌^◌, ◌≤◌, g
 use Rattle.paths.specs.Rows.{least_in}
 use Rattle.paths.proofs.Rows.{row_more}
 use Rattle.tail_cert.specs.Costs.{cost_in}
-use Rattle.tailbite.specs.Machine.{bit_to, first_from, second_from}
+use Rattle.tailbite.specs.Machine.{newest_bit, first_from, second_from}
 use Rattle.tail_cert.proofs.costs.later_row.Goals as goal
 
 pub loop-x-preserved : goal.loop-x-preserved
 loop-x-preserved c = (
   simp length-set c.loop-x.invariant.0,
-  row_more (λ k v. v ≡ least_in (cost_in c.args.costs.now) c.args.row.now (first_from k) (bit_to k) (second_from k) (bit_to k)) _ _ _ (omega arith) c.loop-x.invariant.1 c.later_at.ensures.least,
+  row_more (λ k v. v ≡ least_in (cost_in c.args.costs.now) c.args.row.now (first_from k) (newest_bit k) (second_from k) (newest_bit k)) _ _ _ (omega arith) c.loop-x.invariant.1 c.later_at.ensures.least,
   row_more (λ k v. v ≤ get_or c.args.row.now (first_from k) 0 + 3 * 2 ^ 20) _ _ _ (omega arith) c.loop-x.invariant.2 c.later_at.ensures.growth,
 )

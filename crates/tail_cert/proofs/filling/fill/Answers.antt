@@ -5,8 +5,8 @@ use Rattle.tail_cert.proofs.Filled.{filled}
 use Rattle.tail_cert.proofs.Rows.{rows_fit}
 use Rattle.tail_cert.proofs.filling.fill.Goals as goal
 
-pub fill_table-requires-clause-room : goal.fill_table-requires-clause-room
-fill_table-requires-clause-room c = λ y below. let z = get_or-replicate {A = ℕ} 64 y 0 0 below in omega (arith, z)
+pub fill_table-requires : goal.fill_table-requires
+fill_table-requires c = record { room = λ y below. let z = get_or-replicate {A = ℕ} 64 y 0 0 below in omega (arith, z) }
 
 pub invariant_of-certificate : goal.invariant_of-certificate
 invariant_of-certificate c =
@@ -25,7 +25,7 @@ invariant_of-certificate c =
       };
       bits = c.least-word.ensures.word.size ∙ c.told-values;
       fits = omega (arith, h, c.least-word.ensures.cost, c.told-values);
-      general_is = rows_fit c.args.values.now _ _ c.fill_table.ensures.size (c.fill_table.ensures.rows c.args.values.now c.step_costs-costs.ensures);
+      general_is = rows_fit c.args.values.now _ _ c.fill_table.ensures.size c.fill_table.ensures.rows;
       states = c.fill_tables-certificate-inside.ensures.states;
       room = rw kept c.fill_tables-certificate-inside.ensures.whole;
     }
@@ -34,12 +34,12 @@ pub returns-clause-accepted : goal.returns-clause-accepted
 returns-clause-accepted c =
     let size = c.fill_tables-certificate-inside.ensures.whole.count ∙ (omega (arith, c.certificate.invariant.room.count, c.certificate.inside.tables.ok)) in
     (filled c.args.values.now _ _ _ _ _ _ _ c.copy_of-copied.ensures.same (take_at c.fill_tables-certificate-inside.new.tables _ _ size) c.requires c.told-values c.least-word.ensures.word c.least-word.ensures.cost
-    (c.fill_table.ensures.rows c.args.values.now c.step_costs-costs.ensures) c.fill_tables-certificate-inside.ensures.needed
-    (c.fill_tables-certificate-inside.ensures.bounds c.args.values.now c.step_costs-costs.ensures)).0
+    c.fill_table.ensures.rows c.fill_tables-certificate-inside.ensures.needed
+    c.fill_tables-certificate-inside.ensures.bounds).0
 
 pub returns-clause-filled : goal.returns-clause-filled
 returns-clause-filled c =
     let size = c.fill_tables-certificate-inside.ensures.whole.count ∙ (omega (arith, c.certificate.invariant.room.count, c.certificate.inside.tables.ok)) in
     (filled c.args.values.now _ _ _ _ _ _ _ c.copy_of-copied.ensures.same (take_at c.fill_tables-certificate-inside.new.tables _ _ size) c.requires c.told-values c.least-word.ensures.word c.least-word.ensures.cost
-    (c.fill_table.ensures.rows c.args.values.now c.step_costs-costs.ensures) c.fill_tables-certificate-inside.ensures.needed
-    (c.fill_tables-certificate-inside.ensures.bounds c.args.values.now c.step_costs-costs.ensures)).1
+    c.fill_table.ensures.rows c.fill_tables-certificate-inside.ensures.needed
+    c.fill_tables-certificate-inside.ensures.bounds).1

@@ -4,8 +4,8 @@ use Rattle.tail_cert.proofs.Rows.{rows_fit}
 use Rattle.tail_cert.proofs.filling.fill_start.Goals as goal
 
 pub returns-clause-bounds : goal.returns-clause-bounds
-returns-clause-bounds c = λ values cost have places lower small.
-    accepted values cost c.args.s [] _ _ c.requires.state places c.start_at.ensures.start lower small (c.fill_table.ensures.rows values have)
+returns-clause-bounds c = λ cost lower small.
+    accepted c.args.costs.now.values.now cost c.args.s [] _ _ c.requires.state c.args.costs.now.places c.start_at.ensures.start lower small c.fill_table.ensures.rows
 
 pub returns-clause-whole : goal.returns-clause-whole
-returns-clause-whole c = rows_fit c.requires.costs.0 _ _ c.fill_table.ensures.size (c.fill_table.ensures.rows c.requires.costs.0 c.requires.costs.1)
+returns-clause-whole c = rows_fit c.args.costs.now.values.now _ _ c.fill_table.ensures.size c.fill_table.ensures.rows

@@ -13,4 +13,4 @@ loop-s-preserved c = elim c.if-general-s.branch [
 ]
 
 pub returns-clause-bounds : goal.returns-clause-bounds
-returns-clause-bounds c = λ values have places lower small s below. c.loop-s.invariant.bounds values have places lower small s (omega (arith, below, c.loop-s-test.false))
+returns-clause-bounds c = λ s below. c.loop-s.invariant.bounds s (omega (arith, below, c.loop-s-test.false))
