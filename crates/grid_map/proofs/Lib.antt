@@ -1,4 +1,4 @@
-pub mod InOrder
+pub mod Members
 pub mod Order
 pub mod Points
 pub mod Spans

@@ -8,7 +8,6 @@ use Rattle.grid_map.specs.declared.Place.{Place}
 use Rattle.grid_map.specs.Place.{place, place_number, same_place}
 use Rattle.grid_map.specs.Broadcast.{pbch_places, pbch_place, is_pbch, pbch_index}
 use Rattle.grid_map.specs.Order.{AreInOrder}
-use Rattle.grid_map.proofs.InOrder.{in_order}
 use Rattle.grid_map.proofs.Order.{skip, nth_place, length-free_places, get_or-free_places, in_order as nth_in_order, one_to_one, same_place-refl, same_place-true, nth_place-is_free, number_of, number_of-is}
 
 shift_fits : (identity : ℕ) → identity % 3 < 3
@@ -96,9 +95,12 @@ pbch_members identity p = (there, back)
         (pbch_index identity p, omega (arith, few, size), get_or-pbch_places identity (pbch_index identity p) p few ∙ sym (place_of_index identity p few))
 
 pub pbch_in_order : (identity : ℕ) → AreInOrder place_number (pbch_places identity) 240 (pbch_place identity) (is_pbch identity)
-pbch_in_order identity =
-    in_order place_number (pbch_places identity) 240 (pbch_place identity) (is_pbch identity) (length-pbch_places identity)
-    (slice_get-pbch_places identity) (places_rise identity) (pbch_members identity)
+pbch_in_order identity = record {
+  size = length-pbch_places identity;
+  item = slice_get-pbch_places identity;
+  rise = places_rise identity;
+  members = pbch_members identity;
+}
 
 -- ---- the place of a point, as it is computed
 

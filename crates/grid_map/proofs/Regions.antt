@@ -24,7 +24,7 @@ use Rattle.grid_map.specs.Group.{is_group, group, same_group, symbol_groups}
 use Rattle.grid_map.specs.Control.{pcfich_group, is_in, without, pcfich_groups, left_groups, left_count, phich_count, phich_symbol, phich_number, phich_group_in, phich_group, phich_groups}
 use Rattle.grid_map.specs.Control.{numbered, number_of, is_in_region, region_groups, pdcch_groups, phich_inside, group_count}
 use Rattle.grid_map.specs.Order.{AreInOrder}
-use Rattle.grid_map.proofs.InOrder.{members_by, in_order}
+use Rattle.grid_map.proofs.Members.{members_by}
 use Rattle.grid_map.proofs.Kept.{any-filter, length-filter_within}
 
 -- ---- what repeats
@@ -249,12 +249,12 @@ pub groups_in_order : (identity cfi : ℕ) (duration : Duration) (resource : Res
     (λ g. is_in_region cfi g && not (is_in (pcfich_groups identity) g) && not (is_in (phich_groups identity duration resource) g))
 groups_in_order identity cfi duration resource low high =
     let count = pdcch_count identity cfi duration resource low high in
-    in_order number_of (pdcch_groups identity cfi duration resource) (group_count cfi duration resource)
-    (λ i. get_or (pdcch_groups identity cfi duration resource) i (group 0 0))
-    (λ g. is_in_region cfi g && not (is_in (pcfich_groups identity) g) && not (is_in (phich_groups identity duration resource) g)) count
-    (λ i l. slice_get-get_or (pdcch_groups identity cfi duration resource) i (group 0 0) (omega (arith, l, count)))
-    (λ i j l m. pdcch_in_order identity cfi duration resource i j l (omega (arith, m, count)))
-    (members_by same_group same_group-true same_group-refl _ _ (pdcch_found identity cfi duration resource))
+    record {
+      size = count;
+      item = λ i l. slice_get-get_or (pdcch_groups identity cfi duration resource) i (group 0 0) (omega (arith, l, count));
+      rise = λ i j l m. pdcch_in_order identity cfi duration resource i j l (omega (arith, m, count));
+      members = members_by same_group same_group-true same_group-refl _ _ (pdcch_found identity cfi duration resource);
+    }
 
 -- ---- the groups are collected one after the other
 

@@ -10,7 +10,7 @@ use Rattle.grid_map.specs.declared.Reg.{Reg}
 use Rattle.grid_map.specs.Place.{place, same_place, skipping}
 use Rattle.grid_map.specs.Group.{group, span, spanned, is_group, is_kept, is_of_group, group_places}
 use Rattle.grid_map.specs.Order.{AreInOrder}
-use Rattle.grid_map.proofs.InOrder.{members_by, in_order}
+use Rattle.grid_map.proofs.Members.{members_by}
 use Rattle.grid_map.proofs.Kept.{any-filter}
 use Rattle.grid_map.proofs.Order.{same_place-refl, same_place-true}
 
@@ -219,9 +219,12 @@ pub group_in_order : (identity : ℕ) (g : Reg) → is_group g ≡ true →
     AreInOrder (λ p. p.k) (group_places identity g) 4 (λ i. get_or (group_places identity g) i (place 0 0)) (is_of_group identity g)
 group_in_order identity g is =
     let four = four_places identity g is in
-    in_order (λ p. p.k) (group_places identity g) 4 (λ i. get_or (group_places identity g) i (place 0 0)) (is_of_group identity g) four
-    (λ i l. slice_get-get_or (group_places identity g) i (place 0 0) (omega (arith, l, four)))
-    (λ i j l m. places_rise identity g i j is l m) (group_members identity g)
+    record {
+      size = four;
+      item = λ i l. slice_get-get_or (group_places identity g) i (place 0 0) (omega (arith, l, four));
+      rise = λ i j l m. places_rise identity g i j is l m;
+      members = group_members identity g;
+    }
 
 pub group_ends : (identity : ℕ) (g : Reg) (p : Place) → is_group g ≡ true → is_of_group identity g p ≡ true → p.k < 72
 group_ends identity g p is of = (places_inside identity g p is ((group_members identity g p).1 of)).1

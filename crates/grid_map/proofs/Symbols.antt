@@ -21,7 +21,7 @@ use Rattle.grid_map.specs.Place.{place, symbol_places, places_of, is_in_grid, pl
 use Rattle.grid_map.specs.Shared.{is_synchronisation, is_in_blocks, is_pilot_of, is_shared_of, shared_places_of, shared_place_of, block_places_of}
 use Rattle.grid_map.specs.Steps.{has_references, room, offset}
 use Rattle.grid_map.specs.Order.{AreInOrder}
-use Rattle.grid_map.proofs.InOrder.{members_by, in_order}
+use Rattle.grid_map.proofs.Members.{members_by}
 use Rattle.grid_map.proofs.Kept.{filter-flat_map, filter-map, filter-same, filter-none, any-filter}
 use Rattle.grid_map.proofs.Order.{same_place-refl, same_place-true}
 
@@ -452,8 +452,9 @@ pub shared_in_order : (two : Bool) (identity cfi start blocks : ℕ) → 2 ≤ c
     (shared_place_of two identity cfi start blocks) (λ p. is_in_grid p && is_shared_of two identity cfi start blocks p)
 shared_in_order two identity cfi start blocks low high few =
     let count = pdsch_count two identity cfi start blocks low high few in
-    in_order place_number (shared_places_of two identity cfi start blocks) (block_places_of two cfi * blocks)
-    (shared_place_of two identity cfi start blocks) (λ p. is_in_grid p && is_shared_of two identity cfi start blocks p) count
-    (λ i l. pdsch_item two identity cfi start blocks i (omega (arith, l, count)))
-    (λ i j l m. pdsch_in_order two identity cfi start blocks i j l (omega (arith, m, count)))
-    (members_by same_place same_place-true same_place-refl _ _ (shared_found two identity cfi start blocks))
+    record {
+      size = count;
+      item = λ i l. pdsch_item two identity cfi start blocks i (omega (arith, l, count));
+      rise = λ i j l m. pdsch_in_order two identity cfi start blocks i j l (omega (arith, m, count));
+      members = members_by same_place same_place-true same_place-refl _ _ (shared_found two identity cfi start blocks);
+    }

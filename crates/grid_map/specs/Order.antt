@@ -1,11 +1,11 @@
--- Lists in the order of numbers.
+-- Lists of places or of groups, in the order of their numbers.
 use Rattle.std.specs.Prelude.{◌≡◌, ◌↔◌, ℕ, ◌<◌, Bool, IsTrue, Some, List, length, slice_get}
 use Rattle.std.specs.List.{Contains}
 
--- these are so many, each once and in the order of their numbers; item i is as told, and these are the members
-pub record AreInOrder {A : Type 0} (number : A → ℕ) (items : List A) (count : ℕ) (at : ℕ → A) (is : A → Bool) : Type 0 where
+-- these are so many; item i is as told; their numbers rise, so that each stands once; and these are the members
+pub record AreInOrder {A : Type 0} (number : A → ℕ) (items : List A) (count : ℕ) (at : ℕ → A) (is : A → Bool) :
+    Type 0 where
   pub size : length items ≡ count
   pub item : (i : ℕ) → i < count → slice_get items i ≡ Some (at i)
   pub rise : (i j : ℕ) → i < j → j < count → number (at i) < number (at j)
-  pub once : (i j : ℕ) → i < count → j < count → at i ≡ at j → i ≡ j
   pub members : (x : A) → Contains items x ↔ IsTrue (is x)

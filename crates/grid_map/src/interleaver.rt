@@ -3,7 +3,7 @@
 ghost use Rattle.std.specs.Prelude.{◌≡◌, ◌+◌, ◌*◌, ◌<◌, ◌≤◌, ℕ, slice_index_or};
 ghost use Rattle.grid_map.specs.Control.{quadruplet_at};
 
-use conv_code::stream_place;
+use conv_code::stream_index;
 use lte_types::CellId;
 
 /// The number of the quadruplet that group `r` of the PDCCH's `count` groups carries: the numbers are
@@ -16,7 +16,7 @@ pub fn quadruplet(id: CellId, count: u8, r: u8) -> u8
     ensures bound { result < count }
 {
     let p = (r as usize + id.value() as usize) % count as usize;
-    stream_place(count as usize, p) as u8
+    stream_index(count as usize, p) as u8
 }
 
 /// Each of the numbers below the count of groups is the quadruplet of one group, and of no other.

@@ -1,10 +1,10 @@
 -- The soft values of control channel elements 0 to 3 of a slot, which is the first of its subframe
 -- (TS 36.211 section 6.8).
-use Rattle.std.specs.Prelude.{ℕ, List, ℤ}
+use Rattle.std.specs.Prelude.{ℕ, List, ℤ, Option, Some, None, nat_lt, if◌then◌else◌}
 use Rattle.lte_types.specs.declared.duration.Duration.{Duration}
 use Rattle.lte_types.specs.declared.resource.Resource.{Resource}
 use Rattle.grid_map.specs.declared.Reg.{Reg}
-use Rattle.grid_map.specs.Control.{pdcch_groups}
+use Rattle.grid_map.specs.Control.{pdcch_groups, element_count}
 use Rattle.grid_map.specs.Candidate.{candidate_places}
 use Rattle.grid_map.specs.Scrambling.{pdcch_c_init}
 use Rattle.soft_bits.specs.Soft.{SeenSlot}
@@ -19,3 +19,9 @@ stream_values slot groups =
 abbrev pub candidate_values : SeenSlot → ℕ → Duration → Resource → List ℤ
 candidate_values slot indicator duration resource =
     stream_values slot (pdcch_groups slot.identity indicator duration resource)
+
+-- and `None` where there are fewer than four elements
+unfoldable pub candidate_if : SeenSlot → ℕ → Duration → Resource → Option (List ℤ)
+candidate_if slot indicator duration resource =
+    if nat_lt (element_count indicator duration resource) 4 then None
+    else Some (candidate_values slot indicator duration resource)

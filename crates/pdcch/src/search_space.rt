@@ -1,10 +1,10 @@
 //! The values of the candidate.
 
-ghost use Rattle.std.specs.Prelude.{◌≡◌, ◌/◌, ◌<◌, ◌≤◌, All, IfSome, IsTrue, MatchOption, length};
+ghost use Rattle.std.specs.Prelude.{◌≡◌, ◌/◌, ◌<◌, ◌≤◌, All, IfSome, IsTrue, length};
 ghost use Rattle.finite.specs.Sizes.{AllWithin};
 ghost use Rattle.grid_map.specs.Group.{is_group};
 ghost use Rattle.grid_map.specs.Control.{is_in_region, pdcch_groups, element_count};
-ghost use Rattle.pdcch.specs.Candidate.{stream_values, candidate_values};
+ghost use Rattle.pdcch.specs.Candidate.{stream_values, candidate_if};
 
 use grid_map::{Reg, candidate_places, pdcch, pdcch_c_init};
 use lte_types::{CellId, Cfi, Mib};
@@ -21,12 +21,10 @@ pub fn elements(id: CellId, cfi: Cfi, mib: Mib) -> u8
 
 /// The values of control channel elements 0 to 3 of slot 10, the first of subframe 5, by the bits before
 /// scrambling, in the order of the stream; `None` exactly where there are fewer than four elements.
+#[tactic(auto, using(crate::proofs::Told::too_few, crate::proofs::Told::enough))]
 pub fn candidate(slot: &Slot, cfi: Cfi, mib: Mib) -> Option<[i16; 288]>
     requires { slot.now.number ≡ 10 }
-    ensures values { MatchOption result
-        (element_count cfi mib.duration mib.resource < 4)
-        (λ values. (4 ≤ element_count cfi mib.duration mib.resource)
-        × (values ≡ candidate_values slot.now cfi mib.duration mib.resource)) }
+    ensures values { result ≡ candidate_if slot.now cfi mib.duration mib.resource }
     ensures sizes { IfSome result (λ values. AllWithin 127 values) }
 {
     let groups = pdcch(slot.id(), cfi, mib);

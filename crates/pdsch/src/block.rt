@@ -45,7 +45,7 @@ pub fn values(
     }
 }
 
-// The same, of the assigned blocks.
+// Writes the values of the assigned blocks to the front of `out`, and gives their count.
 fn fill_values(
     first: &Slot,
     second: &Slot,

@@ -10,8 +10,8 @@ use Rattle.pss_search.specs.declared.fold.Folded.{Folded}
 use Rattle.pss_search.specs.declared.fold.ProductSums.{ProductSums}
 use Rattle.pss_search.specs.declared.recent.Row.{Row}
 use Rattle.pss_search.specs.Correlation.{peak, energy}
-use Rattle.pss_search.specs.Metrics.{metrics_at, end_place}
-use Rattle.pss_search.specs.Hits.{first_place, hit_at, hits_before}
+use Rattle.pss_search.specs.Metrics.{Standing, metrics_at, end_place}
+use Rattle.pss_search.specs.Hits.{first_place, last_place, hit_at, hits_before}
 
 -- ---- sizes
 
@@ -65,6 +65,12 @@ pub record HoldsLast (recording : List Sample) (place : ℕ) (rows : List Row) :
   pub whole : length rows ≡ 19
   pub each : (u : ℕ) → 128 ≤ u → u < place → place ≤ u + 19 →
       IsRowOf recording u (slice_index_or rows (u % 19) empty_row)
+
+-- the window stands ten places past place t of the span, so that it has all metrics that decide whether t is a hit
+pub record DecidesOn (window : Standing) (t : ℕ) : Type 0 where
+  pub first : first_place ≤ t
+  pub last : t ≤ last_place
+  pub past : window.place ≡ t + 10
 
 -- ---- the list
 

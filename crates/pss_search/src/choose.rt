@@ -3,8 +3,8 @@
 ghost use Rattle.std.specs.Prelude.{◌≡◌, ◌+◌, ◌≤◌, ◌<◌};
 ghost use Rattle.std.specs.Option.{option_to_list};
 ghost use Rattle.pss_search.specs.Tests.{rules_out, is_ruled_out, is_hit};
-ghost use Rattle.pss_search.specs.Hits.{first_place, last_place, hit_at};
-ghost use Rattle.pss_search.specs.Steps.{IsMetricOf};
+ghost use Rattle.pss_search.specs.Hits.{hit_at};
+ghost use Rattle.pss_search.specs.Steps.{DecidesOn, IsMetricOf};
 
 use crate::measure::Metric;
 use crate::recent::Window;
@@ -14,12 +14,10 @@ use lte_types::Hit;
 // The first place of the span: the useful part of the symbol before it is in the recording.
 pub(crate) const FIRST_PLACE: usize = 137;
 
-// The hit of a root at the middle place of a window, where there is one.
+// The hit of a root at place t, where there is one.
 #[tactic(auto, unfolding(crate::specs::Hits::hit_at))]
 pub(crate) fn hit_of(window: &Window, root: &Root, t: usize) -> Option<Hit>
-    requires first { first_place ≤ t }
-    requires last { t ≤ last_place }
-    requires middle { window.now.place ≡ t + 10 }
+    requires decides { DecidesOn window.now t }
     ensures { option_to_list result ≡ hit_at window.now.recording t root.now.n2 }
 {
     let own = window.metric(root.n2, t);
@@ -38,9 +36,7 @@ pub(crate) fn hit_of(window: &Window, root: &Root, t: usize) -> Option<Hit>
 // Whether the place is a hit, its own metric being known.
 #[tactic(auto, using(std::proofs::lemmas::Bool::Decides::nat_tests), unfolding(crate::specs::Tests::is_hit))]
 fn stands_out(window: &Window, root: &Root, t: usize, own: Metric) -> bool
-    requires first { first_place ≤ t }
-    requires last { t ≤ last_place }
-    requires middle { window.now.place ≡ t + 10 }
+    requires decides { DecidesOn window.now t }
     requires metric { IsMetricOf window.now.recording root.now.n2 t own }
     ensures { result ≡ is_hit window.now.recording t root.now.n2 }
 {
@@ -51,9 +47,7 @@ fn stands_out(window: &Window, root: &Root, t: usize, own: Metric) -> bool
 
 // Whether some place within 9 rules it out.
 fn is_ruled_out_at(window: &Window, root: &Root, t: usize, own: Metric) -> bool
-    requires first { first_place ≤ t }
-    requires last { t ≤ last_place }
-    requires middle { window.now.place ≡ t + 10 }
+    requires decides { DecidesOn window.now t }
     requires metric { IsMetricOf window.now.recording root.now.n2 t own }
     ensures { result ≡ is_ruled_out window.now.recording root.now.n2 t }
 {

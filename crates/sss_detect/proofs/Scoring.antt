@@ -15,7 +15,7 @@ use Rattle.cs_num.specs.Complex.{IsWithin, nothing, times, conjugate, value_at}
 use Rattle.cs_num.proofs.Complex.{times-within, conjugate-within}
 use Rattle.lte_types.specs.declared.frame.Half.{Half}
 use Rattle.lte_types.specs.declared.hit.Hit.{Hit}
-use Rattle.sync_seq.specs.Secondary.{S, C, Z, bits_of, sign_at, even_shift, odd_shift, shifted_value, sss_at}
+use Rattle.sync_seq.specs.Secondary.{S, C, Z, period_bits, sign_at, even_shift, odd_shift, shifted_value, sss_at}
 use Rattle.sync_seq.proofs.SecondaryValues.{shifted_even, shifted_odd, shifted_value-size}
 use Rattle.observe.specs.Seen.{seen, seen_symbol}
 use Rattle.sss_detect.specs.Scores.{agreement, score}
@@ -58,11 +58,11 @@ sums_score agreements n2 n1 half =
     let even : ℕ = even_shift half n1 in
     let odd : ℕ = odd_shift half n1 in
     let a : ℕ → ℤ = λ k. slice_index_or agreements k (pos 0) in
-    let value : ℕ → ℕ → ℕ → ℤ = λ e o k. shifted_value (bits_of S) (bits_of C) (bits_of Z) n2 e o k in
+    let value : ℕ → ℕ → ℕ → ℤ = λ e o k. shifted_value (period_bits S) (period_bits C) (period_bits Z) n2 e o k in
     let evens = sum_below_same 31 (λ i. value even 0 (2 * i + 0) *ℤ a (2 * i + 0)) (λ i. value even odd (2 * i + 0) *ℤ a (2 * i + 0))
-    (λ i l. ap (λ x. x *ℤ a (2 * i + 0)) (even_alone (bits_of S) (bits_of C) (bits_of Z) n2 even 0 odd i)) in
+    (λ i l. ap (λ x. x *ℤ a (2 * i + 0)) (even_alone (period_bits S) (period_bits C) (period_bits Z) n2 even 0 odd i)) in
     let odds = sum_below_same 31 (λ i. value (even % 8) odd (2 * i + 1) *ℤ a (2 * i + 1)) (λ i. value even odd (2 * i + 1) *ℤ a (2 * i + 1))
-    (λ i l. ap (λ x. x *ℤ a (2 * i + 1)) (sym (odd_alone (bits_of S) (bits_of C) (bits_of Z) n2 even odd i))) in
+    (λ i l. ap (λ x. x *ℤ a (2 * i + 1)) (sym (odd_alone (period_bits S) (period_bits C) (period_bits Z) n2 even odd i))) in
     ap₂ ◌+ℤ◌ evens odds ∙ sym (by_twos 31 (λ k. value even odd k *ℤ a k))
 
 -- the list of agreements gives the scores
@@ -106,19 +106,19 @@ scores_of_hit prefix recording hit = score_same
 pub places_sum_more : (agreements : List ℤ) (n2 even odd first n : ℕ) →
     places_sum agreements n2 even odd first (n + 1)
     ≡ places_sum agreements n2 even odd first n
-    +ℤ shifted_value (bits_of S) (bits_of C) (bits_of Z) n2 even odd (2 * n + first) *ℤ slice_index_or agreements (2 * n + first) (pos 0)
+    +ℤ shifted_value (period_bits S) (period_bits C) (period_bits Z) n2 even odd (2 * n + first) *ℤ slice_index_or agreements (2 * n + first) (pos 0)
 unfolding places_sum
 places_sum_more agreements n2 even odd first n =
-    sum_below_more n (λ i. shifted_value (bits_of S) (bits_of C) (bits_of Z) n2 even odd (2 * i + first) *ℤ slice_index_or agreements (2 * i + first) (pos 0))
+    sum_below_more n (λ i. shifted_value (period_bits S) (period_bits C) (period_bits Z) n2 even odd (2 * i + first) *ℤ slice_index_or agreements (2 * i + first) (pos 0))
 
 pub places_sum-size : (agreements : List ℤ) (n2 even odd first n : ℕ) → AllWithin (2 ^ 59) agreements → length agreements ≡ 62 → first < 2 → n ≤ 31 →
     nat_abs (places_sum agreements n2 even odd first n) ≤ n * 2 ^ 59
 unfolding places_sum
 places_sum-size agreements n2 even odd first n small long one few =
-    sum_below-within n (2 ^ 59) (λ i. shifted_value (bits_of S) (bits_of C) (bits_of Z) n2 even odd (2 * i + first) *ℤ slice_index_or agreements (2 * i + first) (pos 0)) (λ i below.
-    let sign = shifted_value-size (bits_of S) (bits_of C) (bits_of Z) n2 even odd (2 * i + first) in
+    sum_below-within n (2 ^ 59) (λ i. shifted_value (period_bits S) (period_bits C) (period_bits Z) n2 even odd (2 * i + first) *ℤ slice_index_or agreements (2 * i + first) (pos 0)) (λ i below.
+    let sign = shifted_value-size (period_bits S) (period_bits C) (period_bits Z) n2 even odd (2 * i + first) in
     let less = All-get_or (λ x. nat_abs x ≤ 2 ^ 59) agreements (2 * i + first) (pos 0) (omega (arith, below, few, one, long)) small in
-    rw (unsigned_abs-mul (shifted_value (bits_of S) (bits_of C) (bits_of Z) n2 even odd (2 * i + first)) (slice_index_or agreements (2 * i + first) (pos 0)), sign) (omega (arith, less)))
+    rw (unsigned_abs-mul (shifted_value (period_bits S) (period_bits C) (period_bits Z) n2 even odd (2 * i + first)) (slice_index_or agreements (2 * i + first) (pos 0)), sign) (omega (arith, less)))
 
 pub agreement-size : (primary secondary value : Cpx) → IsWithin 33554432 primary → IsWithin 33554432 secondary → IsWithin 127 value →
     IsWithin (2 ^ 59) (times secondary (conjugate (times primary (conjugate value))))

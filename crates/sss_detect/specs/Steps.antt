@@ -4,7 +4,7 @@ use Rattle.finite.specs.Sums.{sum_below}
 use Rattle.finite.specs.Lists.{values_below}
 use Rattle.cs_num.specs.declared.Cpx.{Cpx}
 use Rattle.lte_types.specs.declared.frame.Half.{Half}
-use Rattle.sync_seq.specs.Secondary.{S, C, Z, bits_of, shifted_value, sss_at}
+use Rattle.sync_seq.specs.Secondary.{S, C, Z, period_bits, shifted_value, sss_at}
 use Rattle.sss_detect.specs.Scores.{agreement}
 
 -- all agreements
@@ -14,7 +14,8 @@ agreements_of primary secondary n2 = values_below 62 (agreement primary secondar
 -- the sum of the agreements at the first n of every other place from first on, with the signs of the sequence of these shifts
 unfoldable pub places_sum : List ℤ → ℕ → ℕ → ℕ → ℕ → ℕ → ℤ
 places_sum agreements n2 even odd first n =
-    sum_below n (λ i. shifted_value (bits_of S) (bits_of C) (bits_of Z) n2 even odd (2 * i + first) *ℤ slice_index_or agreements (2 * i + first) (pos 0))
+    sum_below n (λ i. shifted_value (period_bits S) (period_bits C) (period_bits Z) n2 even odd (2 * i + first)
+    *ℤ slice_index_or agreements (2 * i + first) (pos 0))
 
 -- that of the even places for a shift of these; the shift of the odd ones does not matter
 abbrev pub even_sum : List ℤ → ℕ → ℕ → ℤ

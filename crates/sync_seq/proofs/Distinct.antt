@@ -7,7 +7,7 @@ use Rattle.finite.specs.Lists.{values_below}
 use Rattle.finite.proofs.Lists.{values_below_at, values_below-length}
 use Rattle.lte_types.specs.declared.frame.Half.{Half}
 use Rattle.lte_types.specs.declared.frame.Half.TheVariants.{Zero, Five}
-use Rattle.sync_seq.specs.Secondary.{S, C, Z, extended, bits_of, shift_sum, even_shift, odd_shift, shifted_value, sss_at, sss_list}
+use Rattle.sync_seq.specs.Secondary.{S, C, Z, extended, period_bits, shift_sum, even_shift, odd_shift, shifted_value, sss_at, sss_list}
 use Rattle.sync_seq.specs.Laws.{SecondaryTells}
 
 -- ---- lists of distinct numbers
@@ -68,31 +68,31 @@ code s c z n2 i = packed 62 (shifted_value s c z n2 (even_shift (half_by (i % 2)
 unfoldable codes : List Bool → List Bool → List Bool → ℕ → List ℕ
 codes s c z n2 = values_below 336 (code s c z n2)
 
-tell0 : distinct (codes (bits_of S) (bits_of C) (bits_of Z) 0) ≡ true
-unfolding extended bits_of shift_sum shifted_value apart distinct minus_bit packed code codes
+tell0 : distinct (codes (period_bits S) (period_bits C) (period_bits Z) 0) ≡ true
+unfolding extended period_bits shift_sum shifted_value apart distinct minus_bit packed code codes
 tell0 = refl
 
-tell1 : distinct (codes (bits_of S) (bits_of C) (bits_of Z) 1) ≡ true
-unfolding extended bits_of shift_sum shifted_value apart distinct minus_bit packed code codes
+tell1 : distinct (codes (period_bits S) (period_bits C) (period_bits Z) 1) ≡ true
+unfolding extended period_bits shift_sum shifted_value apart distinct minus_bit packed code codes
 tell1 = refl
 
-tell2 : distinct (codes (bits_of S) (bits_of C) (bits_of Z) 2) ≡ true
-unfolding extended bits_of shift_sum shifted_value apart distinct minus_bit packed code codes
+tell2 : distinct (codes (period_bits S) (period_bits C) (period_bits Z) 2) ≡ true
+unfolding extended period_bits shift_sum shifted_value apart distinct minus_bit packed code codes
 tell2 = refl
 
-tell : (n2 : ℕ) → n2 ≤ 2 → distinct (codes (bits_of S) (bits_of C) (bits_of Z) n2) ≡ true
+tell : (n2 : ℕ) → n2 ≤ 2 → distinct (codes (period_bits S) (period_bits C) (period_bits Z) n2) ≡ true
 tell zero l = tell0
 tell (suc zero) l = tell1
 tell (suc (suc zero)) l = tell2
 tell (suc (suc (suc n))) l = absurd (omega arith)
 
 -- two numbers of pairs with the same code are the same
-codes_tell : (n2 i j : ℕ) → n2 ≤ 2 → i < 336 → j < 336 → code (bits_of S) (bits_of C) (bits_of Z) n2 i ≡ code (bits_of S) (bits_of C) (bits_of Z) n2 j → i ≡ j
+codes_tell : (n2 i j : ℕ) → n2 ≤ 2 → i < 336 → j < 336 → code (period_bits S) (period_bits C) (period_bits Z) n2 i ≡ code (period_bits S) (period_bits C) (period_bits Z) n2 j → i ≡ j
 unfolding codes
 codes_tell n2 i j l p q e = settle (nat_lt i j) (nat_lt j i) refl refl
   where
     f : ℕ → ℕ
-    f = code (bits_of S) (bits_of C) (bits_of Z) n2
+    f = code (period_bits S) (period_bits C) (period_bits Z) n2
 
     apart_in : (a b : ℕ) → a < b → b < 336 → f a ≢ f b
     apart_in a b below most same =
@@ -119,7 +119,7 @@ half-le Zero = omega arith
 half-le Five = omega arith
 
 -- the code of a pair is that of its values
-code_is : (n2 n1 : ℕ) (half : Half) → code (bits_of S) (bits_of C) (bits_of Z) n2 (2 * n1 + half_number half) ≡ packed 62 (sss_at n1 n2 half)
+code_is : (n2 n1 : ℕ) (half : Half) → code (period_bits S) (period_bits C) (period_bits Z) n2 (2 * n1 + half_number half) ≡ packed 62 (sss_at n1 n2 half)
 unfolding code sss_at
 code_is n2 n1 half =
     let small = half-le half in

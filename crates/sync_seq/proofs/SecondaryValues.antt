@@ -5,12 +5,12 @@ use Rattle.std.specs.Int.{w8}
 use Rattle.std.proofs.lemmas.Bool.Decides.{nat_tests}
 use Rattle.std.proofs.lemmas.Int.{to_z-of_z, fits_signed_from_abs, unsigned_abs-mul}
 use Rattle.lte_types.specs.declared.frame.Half.{Half}
-use Rattle.sync_seq.specs.Secondary.{S, C, Z, bit_at, even_value, odd_value, sign_at, bits_of, even_shift, odd_shift, shifted_value, sss_at}
+use Rattle.sync_seq.specs.Secondary.{S, C, Z, bit_or_zero, even_value, odd_value, sign_at, period_bits, even_shift, odd_shift, shifted_value, sss_at}
 
 -- ---- signs
 
 pub sign-size : (x : List Bool) (n : ℕ) → nat_abs (sign_at x n) ≡ 1
-sign-size x n = elim (bit_at x (n % 31)) as (λ b. nat_abs (if b then negsuc 0 else pos 1) ≡ 1) [ true ↦ refl | false ↦ refl ]
+sign-size x n = elim (bit_or_zero x (n % 31)) as (λ b. nat_abs (if b then negsuc 0 else pos 1) ≡ 1) [ true ↦ refl | false ↦ refl ]
 
 pub product-size : (a b : ℤ) → nat_abs a ≡ 1 → nat_abs b ≡ 1 → nat_abs (a *ℤ b) ≡ 1
 product-size a b p q = rw (unsigned_abs-mul a b, p, q) refl
@@ -68,4 +68,4 @@ shifted_value-size s c z n2 even odd k = settle (nat_eq (k % 2) 0) refl
 
 pub sss-size : (n1 n2 : ℕ) (half : Half) (k : ℕ) → nat_abs (sss_at n1 n2 half k) ≡ 1
 unfolding sss_at
-sss-size n1 n2 half k = shifted_value-size (bits_of S) (bits_of C) (bits_of Z) n2 (even_shift half n1) (odd_shift half n1) k
+sss-size n1 n2 half k = shifted_value-size (period_bits S) (period_bits C) (period_bits Z) n2 (even_shift half n1) (odd_shift half n1) k

@@ -13,27 +13,28 @@ pub data Recurrence : Type 0 where
   Z : Recurrence
 
 -- bit i of a list, and 0 past its end
-abbrev pub bit_at : List Bool → ℕ → Bool
-bit_at bits i = slice_index_or bits i false
+abbrev pub bit_or_zero : List Bool → ℕ → Bool
+bit_or_zero bits i = slice_index_or bits i false
 
 -- x(i + 5) from the bits before it: x(i + 2) + x(i) for s, x(i + 3) + x(i) for c, x(i + 4) + x(i + 2) + x(i + 1) + x(i) for z
 abbrev pub next_bit : Recurrence → List Bool → ℕ → Bool
-next_bit S x i = xor (bit_at x (i + 2)) (bit_at x i)
-next_bit C x i = xor (bit_at x (i + 3)) (bit_at x i)
-next_bit Z x i = xor (xor (xor (bit_at x (i + 4)) (bit_at x (i + 2))) (bit_at x (i + 1))) (bit_at x i)
+next_bit S x i = xor (bit_or_zero x (i + 2)) (bit_or_zero x i)
+next_bit C x i = xor (bit_or_zero x (i + 3)) (bit_or_zero x i)
+next_bit Z x i =
+    xor (xor (xor (bit_or_zero x (i + 4)) (bit_or_zero x (i + 2))) (bit_or_zero x (i + 1))) (bit_or_zero x i)
 
 -- the first five bits, 0, 0, 0, 0, 1, and n more
 unfoldable pub extended : Recurrence → ℕ → List Bool
 extended r zero = false ∷ false ∷ false ∷ false ∷ true ∷ []
 extended r (suc n) = extended r n ++ next_bit r (extended r n) n ∷ []
 
--- the 31 bits x(0) to x(30)
-unfoldable pub bits_of : Recurrence → List Bool
-bits_of r = extended r 26
+-- a period: the 31 bits x(0) to x(30)
+unfoldable pub period_bits : Recurrence → List Bool
+period_bits r = extended r 26
 
 -- 1 - 2 x(n), all places modulo 31
 abbrev pub sign_at : List Bool → ℕ → ℤ
-sign_at x n = if bit_at x (n % 31) then negsuc 0 else pos 1
+sign_at x n = if bit_or_zero x (n % 31) then negsuc 0 else pos 1
 
 -- m': N1 + q (q + 1) / 2
 unfoldable pub shift_sum : ℕ → ℕ
@@ -71,7 +72,8 @@ shifted_value s c z n2 even odd k = if k % 2 == 0 then even_value s c n2 even (k
 
 -- value k of the sequence of an identity and a half
 unfoldable pub sss_at : ℕ → ℕ → Half → ℕ → ℤ
-sss_at n1 n2 half k = shifted_value (bits_of S) (bits_of C) (bits_of Z) n2 (even_shift half n1) (odd_shift half n1) k
+sss_at n1 n2 half k =
+    shifted_value (period_bits S) (period_bits C) (period_bits Z) n2 (even_shift half n1) (odd_shift half n1) k
 
 -- what is sent for a sign (the amplitude is own)
 abbrev pub amplitude : ℤ → Cpx

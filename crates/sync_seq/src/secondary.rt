@@ -1,7 +1,7 @@
 //! The secondary sequence.
 
 ghost use Rattle.std.specs.Prelude.{◌≡◌, ◌<◌, ◌≤◌, nat_abs};
-ghost use Rattle.sync_seq.specs.Secondary.{S, C, Z, bits_of, sign_at, shift_sum, even_shift, odd_shift, shifted_value, sss_list, amplitude as amplitude_of};
+ghost use Rattle.sync_seq.specs.Secondary.{S, C, Z, period_bits, sign_at, shift_sum, even_shift, odd_shift, shifted_value, sss_list, amplitude as amplitude_of};
 
 use cs_num::Cpx;
 use lte_types::Half;
@@ -89,7 +89,7 @@ pub fn sss_sign(n2: u8, even: usize, odd: usize, k: usize) -> i8
     requires even { even < 31 }
     requires odd { odd < 31 }
     requires k { k < 62 }
-    ensures value { result ≡ shifted_value (bits_of S) (bits_of C) (bits_of Z) n2 even odd k }
+    ensures value { result ≡ shifted_value (period_bits S) (period_bits C) (period_bits Z) n2 even odd k }
     ensures small { nat_abs result ≡ 1 }
 {
     let n = k / 2;
@@ -104,7 +104,7 @@ pub fn sss_sign(n2: u8, even: usize, odd: usize, k: usize) -> i8
 // Sign n of s.
 fn s_sign(n: usize) -> i8
     requires { n < 62 }
-    ensures value { result ≡ sign_at (bits_of S) n }
+    ensures value { result ≡ sign_at (period_bits S) n }
     ensures small { nat_abs result ≡ 1 }
 {
     S_SIGNS[n]
@@ -113,7 +113,7 @@ fn s_sign(n: usize) -> i8
 // Sign n of c.
 fn c_sign(n: usize) -> i8
     requires { n < 62 }
-    ensures value { result ≡ sign_at (bits_of C) n }
+    ensures value { result ≡ sign_at (period_bits C) n }
     ensures small { nat_abs result ≡ 1 }
 {
     C_SIGNS[n]
@@ -122,7 +122,7 @@ fn c_sign(n: usize) -> i8
 // Sign n of z.
 fn z_sign(n: usize) -> i8
     requires { n < 62 }
-    ensures value { result ≡ sign_at (bits_of Z) n }
+    ensures value { result ≡ sign_at (period_bits Z) n }
     ensures small { nat_abs result ≡ 1 }
 {
     Z_SIGNS[n]

@@ -5,7 +5,7 @@ use Rattle.std.proofs.lemmas.List.Elements.{All-get_or}
 use Rattle.std.specs.Prelude.{nat_abs}
 use Rattle.finite.specs.Sums.{sum_below}
 use Rattle.finite.proofs.Integers.{abs-sum}
-use Rattle.sync_seq.specs.Secondary.{S, C, Z, bits_of, shifted_value}
+use Rattle.sync_seq.specs.Secondary.{S, C, Z, period_bits, shifted_value}
 use Rattle.sss_detect.specs.Steps.{places_sum}
 use Rattle.sss_detect.proofs.Scoring.{places_sum_more, places_sum-size}
 use Rattle.sss_detect.proofs.score.places_sum.Goals as goal

@@ -1,5 +1,5 @@
 use Rattle.std.proofs.Common.{◌≡◌, ◌∙◌, ◌*ℤ◌, ◌/◌, ◌+◌, ◌%◌, ap, sym}
-use Rattle.sync_seq.specs.Secondary.{S, C, Z, bits_of, even_value, odd_value, sign_at}
+use Rattle.sync_seq.specs.Secondary.{S, C, Z, period_bits, even_value, odd_value, sign_at}
 use Rattle.sync_seq.proofs.SecondaryValues.{kept_product, kept_products, product-size, product_same, shifted_even, shifted_odd}
 use Rattle.sync_seq.proofs.secondary.sss_sign.Goals as goal
 
@@ -9,11 +9,11 @@ returns-then-k-eq0 c =
     let n = p.k / 2 in
     let a = c.s_sign in
     let b = c.c_sign in
-    let here : a.result *ℤ b.result ≡ even_value (bits_of S) (bits_of C) p.n2 p.even n =
-    product_same a.result b.result (sign_at (bits_of S) (n + p.even)) (sign_at (bits_of C) (n + p.n2))
+    let here : a.result *ℤ b.result ≡ even_value (period_bits S) (period_bits C) p.n2 p.even n =
+    product_same a.result b.result (sign_at (period_bits S) (n + p.even)) (sign_at (period_bits C) (n + p.n2))
     a.ensures.value b.ensures.value in
     rw (kept_product a.result b.result a.ensures.small b.ensures.small) (record {
-      value = here ∙ sym (shifted_even (bits_of S) (bits_of C) (bits_of Z) p.n2 p.even p.odd p.k c.if-k-eq0.true);
+      value = here ∙ sym (shifted_even (period_bits S) (period_bits C) (period_bits Z) p.n2 p.even p.odd p.k c.if-k-eq0.true);
       small = product-size a.result b.result a.ensures.small b.ensures.small;
     })
 
@@ -24,15 +24,15 @@ returns-else-k-eq0 c =
     let a = c.s_sign-else-k-eq0 in
     let b = c.c_sign-else-k-eq0 in
     let d = c.z_sign in
-    let s = sign_at (bits_of S) (n + p.odd) in
-    let t = sign_at (bits_of C) (n + p.n2 + 3) in
+    let s = sign_at (period_bits S) (n + p.odd) in
+    let t = sign_at (period_bits C) (n + p.n2 + 3) in
     let both : a.result *ℤ b.result ≡ s *ℤ t =
     product_same a.result b.result s t a.ensures.value b.ensures.value in
-    let here : a.result *ℤ b.result *ℤ d.result ≡ odd_value (bits_of S) (bits_of C) (bits_of Z) p.n2 p.even p.odd n =
-    product_same (a.result *ℤ b.result) d.result (s *ℤ t) (sign_at (bits_of Z) (n + p.even % 8))
+    let here : a.result *ℤ b.result *ℤ d.result ≡ odd_value (period_bits S) (period_bits C) (period_bits Z) p.n2 p.even p.odd n =
+    product_same (a.result *ℤ b.result) d.result (s *ℤ t) (sign_at (period_bits Z) (n + p.even % 8))
     both d.ensures.value in
     let size = product-size a.result b.result a.ensures.small b.ensures.small in
     rw (kept_products a.result b.result d.result a.ensures.small b.ensures.small d.ensures.small) (record {
-      value = here ∙ sym (shifted_odd (bits_of S) (bits_of C) (bits_of Z) p.n2 p.even p.odd p.k c.if-k-eq0.false);
+      value = here ∙ sym (shifted_odd (period_bits S) (period_bits C) (period_bits Z) p.n2 p.even p.odd p.k c.if-k-eq0.false);
       small = product-size (a.result *ℤ b.result) d.result size d.ensures.small;
     })

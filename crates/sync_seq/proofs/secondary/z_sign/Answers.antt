@@ -2,16 +2,16 @@ use Rattle.std.proofs.Common.{◌≡◌, ℤ, pos, to_z, of_z, ◌∙◌, ap, sy
 use Rattle.std.specs.Prelude.{nat_abs}
 use Rattle.std.specs.Int.{w8}
 use Rattle.finite.proofs.Lists.{values_below_at}
-use Rattle.sync_seq.specs.Secondary.{Z, extended, bits_of, sign_at}
+use Rattle.sync_seq.specs.Secondary.{Z, extended, period_bits, sign_at}
 use Rattle.sync_seq.proofs.SecondaryValues.{kept_sign, sign-size}
 use Rattle.sync_seq.proofs.secondary.z_sign.Goals as goal
 
 -- the table is the list of the signs below 62, by computation
 pub returns-clause-value : goal.returns-clause-value
-unfolding bits_of extended
+unfolding period_bits extended
 returns-clause-value c =
-    ap (λ (x : ℤ). to_z w8 (of_z w8 x)) (values_below_at (sign_at (bits_of Z)) 62 c.args.n (pos 0) c.requires)
-    ∙ kept_sign (sign_at (bits_of Z) c.args.n) (sign-size (bits_of Z) c.args.n)
+    ap (λ (x : ℤ). to_z w8 (of_z w8 x)) (values_below_at (sign_at (period_bits Z)) 62 c.args.n (pos 0) c.requires)
+    ∙ kept_sign (sign_at (period_bits Z) c.args.n) (sign-size (period_bits Z) c.args.n)
 
 pub returns-clause-small : goal.returns-clause-small
-returns-clause-small c = subst (λ x. nat_abs x ≡ 1) (sym (returns-clause-value c)) (sign-size (bits_of Z) c.args.n)
+returns-clause-small c = subst (λ x. nat_abs x ≡ 1) (sym (returns-clause-value c)) (sign-size (period_bits Z) c.args.n)
