@@ -1,2 +1,3 @@
 pub mod Words
-pub mod Sums
+pub mod FrameSums
+mod Rows

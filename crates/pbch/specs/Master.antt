@@ -1,5 +1,5 @@
 -- The master block that frames tell (TS 36.212 section 5.3.1, TS 36.331 section 6.2.2).
-use Rattle.std.specs.Prelude.{ℕ, ◌+◌, ◌*◌, ◌<◌, ◌≤◌, ◌≡◌, ◌⊎◌, nat_eq, if◌then◌else◌, Bool, List, slice_index_or, ℤ, nat_abs, Option, None, MatchOption, length}
+use Rattle.std.specs.Prelude.{ℕ, ◌+◌, ◌*◌, ◌<◌, ◌≤◌, ◌≡◌, ◌⊎◌, nat_eq, if◌then◌else◌, Bool, List, [], slice_index_or, ℤ, nat_abs, Option, None, MatchOption, length}
 use Rattle.finite.specs.Sums.{total_below}
 use Rattle.finite.specs.Tables.{sum_at}
 use Rattle.cs_bits.specs.Numbers.{field}
@@ -63,6 +63,10 @@ HasNoMaster slots phase = TellsNothing (coded_values slots phase)
 -- what a list of master blocks has for a phase
 abbrev pub master_at : List (Option Master) → ℕ → Option Master
 master_at masters phase = slice_index_or masters phase None
+
+-- what a list of sums has for a phase
+abbrev pub sums_at : List (List (List ℤ)) → ℕ → List (List ℤ)
+sums_at sums phase = slice_index_or sums phase []
 
 -- it is what so many frames of a cell tell by what was received, where the first has that phase; none where not all of
 -- them are in one period of four

@@ -5,11 +5,11 @@ ghost use Rattle.std.specs.List.{flat_map};
 ghost use Rattle.finite.specs.Sizes.{AllWithin, RowsWithin};
 ghost use Rattle.finite.specs.Sums.{total_below};
 ghost use Rattle.pbch.specs.Values.{summed_values, identity_of};
-ghost use Rattle.pbch.specs.Master.{total, TellsMaster, TellsNothing, IsMaster, HasNoMaster, AreMasters};
+ghost use Rattle.pbch.specs.Master.{total, TellsMaster, TellsNothing, IsMaster, HasNoMaster, AreMasters, sums_at};
 
-use crate::Master;
 use crate::block::{mib_of, ports_of};
 use crate::broadcast::{sums_of, values};
+use crate::{Master, Sums};
 use lte_types::CellId;
 use soft_bits::Slot;
 use tailbite::{Trellis, least};
@@ -28,33 +28,63 @@ pub fn explain_slots(slots: &[Slot], phase: u8, work: &mut Trellis) -> Option<Ma
     master_of(&values(slots, phase), work)
 }
 
-/// The master blocks that frames of a cell tell at phases 0 to 3, each as `explain_slots` gives it, from
-/// what was received in each of the frames; `None` where they would not be in one period.
-pub fn masters(id: CellId, frames: &[[i16; 480]], work: &mut Trellis) -> [Option<Master>; 4]
-    requires { RowsWithin 127 frames.now }
-    ensures { AreMasters id (length frames.now) (flat_map (λ frame. frame) frames.now) result }
-{
-    [
-        master_at(id, 0, frames, work),
-        master_at(id, 1, frames, work),
-        master_at(id, 2, frames, work),
-        master_at(id, 3, frames, work),
-    ]
+/// What frames of a cell tell, by the phase of the first. (own)
+#[derive(Clone, Copy)]
+pub struct ByPhase {
+    /// The master block at each phase.
+    pub at: [Option<Master>; 4],
+    /// The sums of the values at each phase.
+    pub sums: [Sums; 4],
 }
 
-// The master block of frames of which the first has this phase.
-fn master_at(id: CellId, phase: u8, frames: &[[i16; 480]], work: &mut Trellis) -> Option<Master>
+// What frames tell at a phase, and the sums that tell it.
+#[derive(Clone, Copy)]
+struct Told {
+    master: Option<Master>,
+    sums: Sums,
+}
+
+/// What frames of a cell tell at phases 0 to 3, from what was received in each of the frames: each master
+/// block as `explain_slots` gives it, and the sums that tell it, as `values` gives them. Where the frames
+/// would not be in one period, there is no master block, and the sums say nothing.
+pub fn masters(id: CellId, frames: &[[i16; 480]], work: &mut Trellis) -> ByPhase
+    requires { RowsWithin 127 frames.now }
+    ensures masters { AreMasters id (length frames.now) (flat_map (λ frame. frame) frames.now) result.at }
+    ensures sums { (phase : ℕ) → phase < 4 → phase + length frames.now ≤ 4 →
+        sums_at result.sums phase ≡ summed_values id phase (flat_map (λ frame. frame) frames.now) }
+{
+    let first = told_at(id, 0, frames, work);
+    let second = told_at(id, 1, frames, work);
+    let third = told_at(id, 2, frames, work);
+    let fourth = told_at(id, 3, frames, work);
+    ByPhase {
+        at: [first.master, second.master, third.master, fourth.master],
+        sums: [first.sums, second.sums, third.sums, fourth.sums],
+    }
+}
+
+// What frames tell of which the first has this phase.
+fn told_at(id: CellId, phase: u8, frames: &[[i16; 480]], work: &mut Trellis) -> Told
     requires phase { phase < 4 }
     requires sizes { RowsWithin 127 frames.now }
     ensures told { phase + length frames.now ≤ 4 →
         let values = summed_values id phase (flat_map (λ frame. frame) frames.now) in
-        MatchOption result (TellsNothing values) (TellsMaster values) }
-    ensures beyond { 4 < phase + length frames.now → result ≡ None }
+        MatchOption result.master (TellsNothing values) (TellsMaster values) }
+    ensures sums { phase + length frames.now ≤ 4 →
+        result.sums ≡ summed_values id phase (flat_map (λ frame. frame) frames.now) }
+    ensures beyond { 4 < phase + length frames.now → result.master ≡ None }
 {
     if frames.len() > 4 - phase as usize {
-        return None;
+        return Told {
+            master: None,
+            sums: Sums::new(&[[0; 3]; 40]),
+        };
     }
-    master_of(&sums_of(id, phase, frames), work)
+    let sums = sums_of(id, phase, frames);
+    Told {
+        master: master_of(&sums, work),
+        sums: Sums::new(&sums),
+    }
 }
 
 /// The master block that the values of a coded word of 40 bits tell, at each place and in each stream

@@ -1,3 +1,3 @@
-pub mod Rows
 pub mod Once
 pub mod Exists
+pub mod GrantRead

@@ -25,7 +25,7 @@ use Rattle.system_block.specs.Block.{IsBlock, BlockSays, Tells}
 use Rattle.system_block.specs.declared.reading.Attempt.{Attempt}
 use Rattle.system_block.specs.Attempt.{Follows}
 use Rattle.system_block.specs.Laws.{IsOneAttempt, IsOneAnswer}
-use Rattle.system_block.proofs.Rows.{one_row}
+use Rattle.turbo_code.proofs.OneRow.{one_row}
 
 -- ---- variants differ
 

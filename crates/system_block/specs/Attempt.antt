@@ -25,6 +25,15 @@ pub record IsAttempt (values : Subframe) (attempt : Attempt) : Type 0 where
   pub told : IsIndicator values.indicator attempt.cfi
   pub follows : Follows values attempt.cfi attempt.grant attempt.answer
 
+-- the indicator and the grant by which an attempt has read its fields, or none where it has none
+abbrev pub granted_with : ℕ → Option Grant → Result Sib1 Sib1Reason → Option (ℕ × Grant)
+granted_with indicator (Some grant) (Ok fields) = Some (indicator, grant)
+granted_with indicator (Some grant) (Err reason) = None
+granted_with indicator None answer = None
+
+abbrev pub granted_by : Attempt → Option (ℕ × Grant)
+granted_by attempt = granted_with attempt.cfi attempt.grant attempt.answer
+
 -- the answer of a subframe with these values
 pub record Reads (values : Subframe) (answer : Result Sib1 Sib1Reason) : Type 0 where
   pub attempt : Attempt

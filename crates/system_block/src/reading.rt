@@ -4,7 +4,7 @@ ghost use Rattle.std.specs.Prelude.{◌≡◌, IfOk, IfSome};
 ghost use Rattle.lte_types.specs.Ranges.{IsValid};
 ghost use Rattle.dci.specs.Format1A.{IsGrant};
 ghost use Rattle.system_block.specs.Subframe.{one_port};
-ghost use Rattle.system_block.specs.Attempt.{IsAttempt, Reads};
+ghost use Rattle.system_block.specs.Attempt.{IsAttempt, Reads, granted_by};
 
 use crate::Decoders;
 use crate::block::fields_in;
@@ -23,6 +23,19 @@ pub struct Attempt {
     pub grant: Option<Grant>,
     /// The fields, or the first reason that applies why there are none.
     pub answer: Result<Sib1, Sib1Reason>,
+}
+
+impl Attempt {
+    /// The indicator and the grant by which the fields were read; `None` where there are no fields, or no grant.
+    pub fn granted(&self) -> Option<(Cfi, Grant)>
+        ensures { result ≡ granted_by self.now }
+    {
+        match (&self.grant, &self.answer) {
+            (Some(grant), Ok(_)) => Some((self.cfi, *grant)),
+            (Some(_), Err(_)) => None,
+            (None, _) => None,
+        }
+    }
 }
 
 /// The attempt on subframe 5 of a frame. Its answer is the fields, each in its range, or the first reason

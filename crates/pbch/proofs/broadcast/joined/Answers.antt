@@ -1,6 +1,6 @@
 use Rattle.std.proofs.Common.{◌≡◌, ◌≤◌, List, [], length, ℤ, pos, nat_abs, refl, arith}
 use Rattle.std.proofs.lemmas.List.Elements.{All-replicate, All-from_get_or}
-use Rattle.pbch.proofs.Sums.{rows_joined}
+use Rattle.pbch.proofs.FrameSums.{rows_joined}
 use Rattle.pbch.proofs.broadcast.joined.Goals as goal
 
 pub loop-i-init : goal.loop-i-init

@@ -8,7 +8,7 @@ use Rattle.conv_code.specs.Reading.{summed}
 use Rattle.soft_bits.specs.Places.{descrambled}
 use Rattle.soft_bits.proofs.Channel.{length-descrambled}
 use Rattle.pbch.specs.Values.{summed_values}
-use Rattle.pbch.proofs.Sums.{summed_values-small}
+use Rattle.pbch.proofs.FrameSums.{summed_values-small}
 use Rattle.pbch.proofs.broadcast.sums_of.Goals as goal
 
 -- what is summed is the front, which is descrambled

@@ -4,7 +4,7 @@ use Rattle.std.proofs.lemmas.List.{get_or_default}
 use Rattle.soft_bits.specs.Soft.{SeenSlot}
 use Rattle.finite.specs.Sizes.{AllWithin}
 use Rattle.pbch.specs.Values.{identity_of, summed_values, coded_values}
-use Rattle.pbch.proofs.Sums.{no_slot, first_identity, rows_of_slots}
+use Rattle.pbch.proofs.FrameSums.{no_slot, first_identity, rows_of_slots}
 use Rattle.pbch.proofs.broadcast.values.Goals as goal
 
 pub loop-i-init : goal.loop-i-init

@@ -1,7 +1,7 @@
 use Rattle.std.proofs.Common.{◌≡◌, ℕ, ◌<◌, [], length, slice_index_or}
 use Rattle.finite.specs.Sizes.{RowsWithin}
 use Rattle.pbch.specs.Values.{received_values}
-use Rattle.pbch.proofs.Sums.{no_slot}
+use Rattle.pbch.proofs.FrameSums.{no_slot}
 use Rattle.pbch.proofs.broadcast.values.Given as goal
 
 abbrev pub invariant-loop-i : goal.invariant-loop-i

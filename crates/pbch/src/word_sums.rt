@@ -1,0 +1,87 @@
+//! The sums that tell a coded word.
+
+ghost use Rattle.std.specs.Prelude.{◌≡◌, List, ℤ, length};
+ghost use Rattle.finite.specs.Sizes.{AllWithin, RowsWithin};
+
+use std::marker::Model;
+
+// The sums at an index of the word, one of each stream, of size at most 2,032. Contracts see it as their list.
+#[derive(Clone, Copy)]
+struct Row {
+    sums: [i16; 3],
+}
+
+impl Model for Row {
+    ghost Value = { List ℤ };
+
+    ghost view = { λ r. r.sums };
+
+    ghost invariant = { λ r. AllWithin 2032 r.sums };
+
+    ghost inverse = { λ sums. record { sums = sums } };
+}
+
+impl Row {
+    fn new(place: &[i32; 3]) -> Row
+        requires { AllWithin 2032 place.now }
+        ensures { result ≡ place.now }
+    {
+        Row {
+            sums: [place[0] as i16, place[1] as i16, place[2] as i16],
+        }
+    }
+
+    fn values(&self) -> [i32; 3]
+        ensures values { result ≡ self.now }
+        ensures sizes { AllWithin 2032 result }
+    {
+        [
+            self.sums[0] as i32,
+            self.sums[1] as i32,
+            self.sums[2] as i32,
+        ]
+    }
+}
+
+/// The sums that tell a coded word of 40 bits: at each index one of each of the three streams, of size
+/// at most 2,032. Contracts see it as the list of the lists of each index. (own)
+#[derive(Clone, Copy)]
+pub struct Sums {
+    rows: [Row; 40],
+}
+
+impl Model for Sums {
+    ghost Value = { List (List ℤ) };
+
+    ghost view = { λ s. s.rows };
+
+    ghost invariant = { λ s. length s.rows ≡ 40 };
+
+    ghost inverse = { λ rows. record { rows = rows } };
+}
+
+impl Sums {
+    /// These sums, by index and stream, each of size at most 2,032.
+    pub fn new(rows: &[[i32; 3]; 40]) -> Sums
+        requires { RowsWithin 2032 rows.now }
+        ensures { result ≡ rows.now }
+    {
+        let mut kept = [Row { sums: [0; 3] }; 40];
+        for k in 0..40 {
+            kept[k] = Row::new(&rows[k]);
+        }
+        Sums { rows: kept }
+    }
+
+    /// The sums by index and stream, each of size at most 2,032.
+    pub fn rows(&self) -> [[i32; 3]; 40]
+        ensures rows { result ≡ self.now }
+        ensures sizes { RowsWithin 2032 result }
+    {
+        let mut rows = [[0; 3]; 40];
+        for k in 0..40 {
+            rows[k] = self.rows[k].values();
+        }
+        rows
+    }
+}
