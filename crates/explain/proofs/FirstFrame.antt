@@ -17,15 +17,16 @@ use Rattle.lte_types.specs.declared.sib1_reason.Sib1Reason.{Sib1Reason}
 use Rattle.soft_bits.specs.Soft.{SeenSlot}
 use Rattle.pbch.specs.declared.master.Master.{Master}
 use Rattle.pbch.specs.Values.{received_values, summed_values, identity_of, coded_values}
-use Rattle.pbch.specs.Master.{TellsMaster, TellsNothing, master_at, IsTold, AreMasters}
-use Rattle.pbch.proofs.Sums.{no_slot, first_identity, rows_of_slots}
+use Rattle.pbch.specs.Master.{TellsMaster, TellsNothing, master_at, sums_at, IsTold, AreMasters}
+use Rattle.pbch.proofs.FrameSums.{no_slot, first_identity, rows_of_slots}
 use Rattle.pbch.proofs.Words.{one_master}
 use Rattle.explain.specs.Frame.{IsWhole, frame_at, seen_slot, broadcast_slot, broadcast_slots}
 use Rattle.explain.specs.Told.{Telling, Informing}
 use Rattle.explain.specs.Window.{IsInWindow, ComeBefore, TellNone, HasNoMasterBefore, HasNoMasters, IsMasterAt}
 use Rattle.explain.specs.Entries.{master_of, place_of, frames_of, IsEntryAt, AreEntries, Adds, AddsHit}
 use Rattle.explain.specs.Masters.{HasMaster, IsToldAt, AreTold, AreFirstWith, entry_of, entry_at, entries_of, IsSystemAt, AddsPhases}
-use Rattle.explain.specs.Received.{AreReceived, IsToldBy, taken_of, values_in}
+use Rattle.explain.specs.Entries.{sums_of}
+use Rattle.explain.specs.Received.{AreReceived, IsToldBy, taken_of, values_in, sums_by}
 use Rattle.lte_types.specs.CellPlace.{Place}
 use Rattle.lte_types.specs.Frames.{Frames, frames_from, first_number}
 use Rattle.explain.specs.Reader.{AreEntriesBy, TellsOne, HasOneSystem}
@@ -214,6 +215,20 @@ masters_of_frames values identity count j rows masters long each m =
     size : length (take count (drop j rows)) ≡ count
     size = length-take-le count (drop j rows) (let rest = length-drop j rows in omega (arith, rest, long))
 
+-- their sums, where those of the rows are told by phase
+pub sums_of_frames : (values : ℕ → List ℤ) (identity count j phase : ℕ) (rows : List (List ℤ)) (sums : List (List (List ℤ))) → j + count ≤ length rows →
+    AreReceived values (j + count) rows →
+    ((phase : ℕ) → phase < 4 → phase + length (take (j + count - j) (drop j rows)) ≤ 4 →
+    sums_at sums phase ≡ summed_values identity phase (flat_map (λ row. row) (take (j + count - j) (drop j rows)))) →
+    1 ≤ count → phase + count ≤ 4 → sums_at sums phase ≡ summed_values identity phase (values_in values count j)
+sums_of_frames values identity count j phase rows sums long each told some within =
+    told phase (omega (arith, some, within)) (let rest = length-drop j rows in let size = length-take-le (j + count - j) (drop j rows) (omega (arith, rest, long)) in omega (arith, size, within))
+    ∙ ap (λ n. summed_values identity phase (flat_map (λ row. row) (take n (drop j rows)))) same
+    ∙ ap (summed_values identity phase) (received_in values count j rows long each)
+  where
+    same : j + count - j ≡ count
+    same = omega arith
+
 -- ---- two ways to say which master blocks frames tell, one from the other
 
 module _ (Tells Other : Telling)
@@ -243,17 +258,17 @@ module _ (Tells Other : Telling)
   }
 
 -- those of one antenna port
-module _ (recording : List Sample) (place : Place) (frames : Frames) (master : Master) (some : 1 ≤ frames.count) where
-  same_sums : summed_values place.id frames.phase (values_in (λ j. received_values (broadcast_slot recording place.id place.start j)) frames.count frames.first)
-      ≡ coded_values (broadcast_slots recording place.id place.start frames.count frames.first) frames.phase
-  same_sums = values_of_frames recording place.id place.start frames.count frames.first frames.phase _ some
-      (values_in_frames recording place.id place.start frames.count frames.first)
+pub same_sums : (recording : List Sample) (place : Place) (frames : Frames) → 1 ≤ frames.count →
+    sums_by (λ place j. received_values (broadcast_slot recording place.id place.start j)) place frames ≡ sums_of recording place frames
+same_sums recording place frames some = values_of_frames recording place.id place.start frames.count frames.first frames.phase _ some
+    (values_in_frames recording place.id place.start frames.count frames.first)
 
+module _ (recording : List Sample) (place : Place) (frames : Frames) (master : Master) (some : 1 ≤ frames.count) where
   pub to_one_port : IsToldBy (λ place j. received_values (broadcast_slot recording place.id place.start j)) (λ ports. true) place frames master → IsMasterAt recording place frames master
-  to_one_port t = subst (λ sums. TellsMaster sums master) same_sums t.told
+  to_one_port t = subst (λ sums. TellsMaster sums master) (same_sums recording place frames some) t.told
 
   pub from_one_port : IsMasterAt recording place frames master → IsToldBy (λ place j. received_values (broadcast_slot recording place.id place.start j)) (λ ports. true) place frames master
-  from_one_port t = record { taken = refl; told = subst (λ sums. TellsMaster sums master) (sym same_sums) t }
+  from_one_port t = record { taken = refl; told = subst (λ sums. TellsMaster sums master) (sym (same_sums recording place frames some)) t }
 
 -- ---- the entries of the first frames that have one
 
@@ -342,11 +357,11 @@ module _ (Tells : Telling) (IsSystem : Informing)
         (f.have.are f.have.some.phase f.have.some.known) f.have.some.is
 
     -- an entry is of the frames that have the first master blocks
-    not_before : (entry : Entry) → IsEntryAt Tells IsSystem recording place entry → ComeBefore entry.frames entry.frame count frame → ⊥
+    not_before : (entry : Entry) → IsEntryAt Tells IsSystem recording place entry → ComeBefore (entry.frames, entry.frame) (count, frame) → ⊥
     not_before entry h before =
         f.frames.first entry.frames entry.frame (window_of entry h) before entry.phase (master_of entry) h.period (of_entry entry h)
 
-    not_after : (entry : Entry) → IsEntryAt Tells IsSystem recording place entry → ComeBefore count frame entry.frames entry.frame → ⊥
+    not_after : (entry : Entry) → IsEntryAt Tells IsSystem recording place entry → ComeBefore (count, frame) (entry.frames, entry.frame) → ⊥
     not_after entry h before =
         none_before entry h count frame f.frames.inside before f.have.some.phase f.have.some.master f.have.some.known of_frames
 

@@ -1,146 +1,177 @@
--- The attempt by which the system information of an entry was read.
-use Rattle.std.proofs.Common.{◌≡◌, ℕ, ◌+◌, ◌<◌, ◌≤◌, ◌⊎◌, inl, inr, List, Option, Some, None, Result, Ok, Err, refl, ap, sym, subst, ◌∙◌, arith}
-use Rattle.std.specs.Prelude.{IsOk}
+-- The indicator and the grant by which system information was read.
+use Rattle.std.proofs.Common.{◌≡◌, true, false, ℕ, ◌<◌, ◌+◌, ◌≤◌, ◌⊎◌, inl, inr, List, Option, Some, None, Result, Ok, Err, refl, ap, sym, subst, ◌∙◌, arith}
+use Rattle.std.specs.Prelude.{IsNone, IsErr, ◌↔◌}
+use Rattle.std.specs.Result.{is_ok}
 use Rattle.std.proofs.lemmas.Bool.{cases_lt}
 use Rattle.cs_num.specs.declared.Sample.{Sample}
 use Rattle.lte_types.specs.declared.sib1.Sib1.{Sib1}
 use Rattle.lte_types.specs.declared.sib1_reason.Sib1Reason.{Sib1Reason}
 use Rattle.lte_types.specs.declared.entry.Entry.{Entry}
+use Rattle.lte_types.specs.declared.mib.Mib.{Mib}
+use Rattle.lte_types.specs.CellPlace.{Place}
+use Rattle.lte_types.specs.declared.carrier.Carrier.TheVariants.{OnePort}
 use Rattle.dci.specs.declared.grant.Grant.{Grant}
 use Rattle.system_block.specs.declared.reading.Attempt.{Attempt}
 use Rattle.system_block.specs.Subframe.{Subframe, one_port}
-use Rattle.system_block.specs.Attempt.{Follows}
+use Rattle.system_block.specs.Attempt.{IsAttempt, Reads, granted_with, granted_by}
 use Rattle.system_block.proofs.Once.{one_attempt}
+use Rattle.system_block.proofs.GrantRead.{has_read, none_read}
+use Rattle.explain.specs.Told.{Attempting, Answering}
+use Rattle.explain.specs.Reader.{AnswersOnce}
 use Rattle.explain.specs.Frame.{frame_at, seen_slot}
-use Rattle.explain.specs.System.{even_frame, IsTried, IsFirstRead, FrameAnswers, IsSystemOf}
-use Rattle.explain.specs.Entries.{place_of, IsInList}
-use Rattle.explain.specs.Grant.{IsAttemptAt, told_with, told_by, IsReadBy, IsOneGrant}
-use Rattle.explain.proofs.Information.{one_system}
+use Rattle.explain.specs.System.{even_frame, IsTried, IsReadFrom, IsSystemOf}
+use Rattle.pbch.specs.declared.master.Master.{Master}
+use Rattle.explain.specs.Entries.{place_of, master_of, IsInList}
+use Rattle.explain.specs.Grant.{AreAttempts, IsFrameAttempt, IsReadBy, IsGrantBy, IsGrantAt, IsGrantOf, IsOneGrant}
+use Rattle.explain.proofs.Information.{no_more_fields, one_system}
 use Rattle.explain.proofs.Listed.{is_sound}
-
--- ---- what an attempt tells
-
--- it has read fields, with this indicator and this grant
-pub record IsTold (attempt : Attempt) (indicator : ℕ) (grant : Grant) : Type 0 where
-  pub fields : Sib1
-  pub is : attempt ≡ record { cfi = indicator; grant = Some grant; answer = Ok fields }
-
-pub told_is : (i : ℕ) (g : Option Grant) (a : Result Sib1 Sib1Reason) (t : ℕ × Grant) → told_with i g a ≡ Some t → IsTold (record { cfi = i; grant = g; answer = a }) t.0 t.1
-told_is i (Some g) (Ok fields) t e = let same : (i, g) ≡ t = cc in record { fields = fields; is = rw (sym same) refl }
-told_is i (Some g) (Err reason) t e = absurd cc
-told_is i None (Ok fields) t e = absurd cc
-told_is i None (Err reason) t e = absurd cc
-
--- one that tells nothing has read none
-pub untold : (values : Subframe) (i : ℕ) (g : Option Grant) (a : Result Sib1 Sib1Reason) (fields : Sib1) → Follows values i g a → told_with i g a ≡ None → a ≡ Ok fields → ⊥
-untold values i (Some g) (Ok told) fields follows e same = absurd cc
-untold values i (Some g) (Err reason) fields follows e same = absurd cc
-untold values i None (Ok told) fields follows e same = follows
-untold values i None (Err reason) fields follows e same = absurd cc
-
--- the values of the subframe of an attempt
-abbrev values_at : List Sample → Entry → ℕ → Subframe
-values_at recording entry j =
-    one_port (seen_slot recording (frame_at entry.start j) 10 entry.id) (seen_slot recording (frame_at entry.start j) 11 entry.id) entry.mib.duration entry.mib.resource
-
--- a read answer has fields
-pub fields_of : (answer : Result Sib1 Sib1Reason) → IsOk answer → (fields : Sib1) × (answer ≡ Ok fields)
-fields_of (Ok fields) is = (fields, refl)
-fields_of (Err reason) is = absurd cc
 
 -- ---- frame by frame
 
--- no attempt on a frame of even number before number i has read fields
-abbrev pub HasNoneBefore : List Sample → Entry → ℕ → Type 0
-HasNoneBefore recording entry i =
-    (h : ℕ) (attempt : Attempt) (other : Sib1) → h < i → IsAttemptAt recording entry (even_frame entry.sfn h) attempt → attempt.answer ≡ Ok other → ⊥
+ok_fields : (answer : Result Sib1 Sib1Reason) → is_ok answer ≡ true → (fields : Sib1) × (answer ≡ Ok fields)
+ok_fields (Ok fields) is = (fields, refl)
+ok_fields (Err reason) is = absurd (cc is)
 
--- where the next one tells nothing, it has not either
-pub none_more : (recording : List Sample) (entry : Entry) (i : ℕ) (attempt : Attempt) → HasNoneBefore recording entry i →
-    IsAttemptAt recording entry (even_frame entry.sfn i) attempt → told_by attempt ≡ None → HasNoneBefore recording entry (i + 1)
-none_more recording entry i attempt none is untells h other fields before at same = elim (cases_lt h i) [
-  | inl below ↦ none h other fields below at same
-  | inr above ↦
-      let here : h ≡ i = omega (arith, before, above) in
-      let one = one_attempt (values_at recording entry (even_frame entry.sfn i)) attempt other is (subst (λ k. IsAttemptAt recording entry (even_frame entry.sfn k) other) here at) in
-      untold (values_at recording entry (even_frame entry.sfn i)) attempt.cfi attempt.grant attempt.answer fields is.follows untells (ap (λ (a : Attempt). a.answer) one ∙ same)
-]
+ungranted : (i : ℕ) (g : Option Grant) (a : Result Sib1 Sib1Reason) (reason : Sib1Reason) → a ≡ Err reason → granted_with i g a ≡ None
+ungranted i None a reason same = refl
+ungranted i (Some g) (Ok fields) reason same = absurd cc
+ungranted i (Some g) (Err other) reason same = refl
 
--- ---- the entry
+err_reason : (answer : Result Sib1 Sib1Reason) → is_ok answer ≡ false → (reason : Sib1Reason) × (answer ≡ Err reason)
+err_reason (Ok fields) is = absurd (cc is)
+err_reason (Err reason) is = (reason, refl)
 
--- the frames tell the fields of an entry of the list
-pub read_of : (recording : List Sample) (entry : Entry) (fields : Sib1) → IsInList recording entry → entry.sib1 ≡ Ok fields →
-    IsFirstRead (FrameAnswers recording (place_of entry) entry.mib) recording entry.start entry.sfn fields
-read_of recording entry fields listed same =
-    let is = (is_sound recording listed.list entry listed.explained listed.inside).is_of.sib1 in
-    (subst (λ (sib1 : Result Sib1 Sib1Reason). IsSystemOf recording (place_of entry) entry.sfn entry.ports entry.mib sib1) same is).read
-
--- where no tried frame before number i tells fields, and frame i is not tried, the entry has none
-pub no_more : (recording : List Sample) (entry : Entry) (i : ℕ) → IsInList recording entry → HasNoneBefore recording entry i →
-    (IsTried recording entry.start entry.sfn i → ⊥) → (fields : Sib1) → entry.sib1 ≡ Ok fields → ⊥
-no_more recording entry i listed none untried fields same =
-    let read = read_of recording entry fields listed same in
-    let answers = read.answers in
-    elim (cases_lt read.i i) [
-      | inl below ↦ none read.i answers.attempt fields below answers.is answers.answers
-      | inr above ↦
-          let t = read.tried in
-          let few = t.among in
-          let whole = t.whole in
-          untried (record { among = omega (arith, few, above); whole = omega (arith, whole, above) })
-    ]
-
--- the first that tells fields tells those of the entry
-pub read_by : (recording : List Sample) (entry : Entry) (i : ℕ) (attempt : Attempt) (t : ℕ × Grant) (fields : Sib1) → IsInList recording entry → entry.sib1 ≡ Ok fields →
-    HasNoneBefore recording entry i → IsTried recording entry.start entry.sfn i → IsAttemptAt recording entry (even_frame entry.sfn i) attempt →
-    told_by attempt ≡ Some t → IsReadBy recording entry t.0 t.1
-read_by recording entry i attempt t fields listed same none tried at tells =
-    let told = told_is attempt.cfi attempt.grant attempt.answer t tells in
-    record {
-      i = i;
-      tried = tried;
-      fields = told.fields;
-      attempt = subst (λ (a : Attempt). IsAttemptAt recording entry (even_frame entry.sfn i) a) told.is at;
-      first = none;
-      listed = same ∙ same_fields told.fields (ap (λ (a : Attempt). a.answer) told.is);
-    }
-  where
-    same_fields : (other : Sib1) → attempt.answer ≡ Ok other → ◌≡◌ {A = Result Sib1 Sib1Reason} (Ok fields) (Ok other)
-    same_fields other answers =
-        let is = (is_sound recording listed.list entry listed.explained listed.inside).is_of.sib1 in
-        let searched = subst (λ (sib1 : Result Sib1 Sib1Reason). IsSystemOf recording (place_of entry) entry.sfn entry.ports entry.mib sib1) same is in
-        one_system recording (place_of entry) entry.sfn entry.ports entry.mib (Ok fields) (Ok other) searched (record {
-          as_wanted = searched.as_wanted;
-          six_blocks = searched.six_blocks;
-          read = record {
+module _ (Attempts : Attempting) (Answers : Answering) (are : AreAttempts Attempts Answers) (recording : List Sample) (start sfn : ℕ) where
+  -- where no tried frame before number i has fields, and the attempt there has, they were read by what it was granted
+  pub read_by : (i : ℕ) (attempt : Attempt) (fields : Sib1) → IsTried recording start sfn i → Attempts (even_frame sfn i) attempt →
+      attempt.answer ≡ Ok fields → ((h : ℕ) (other : Sib1) → h < i → Answers (even_frame sfn h) (Ok other) → ⊥) →
+      IsGrantBy Attempts recording start sfn (Ok fields) (granted_by attempt)
+  read_by i attempt fields tried at reads none = settle (granted_by attempt) refl
+    where
+      settle : (o : Option (ℕ × Grant)) → granted_by attempt ≡ o → IsGrantBy Attempts recording start sfn (Ok fields) o
+      settle None e = absurd (are.granted (even_frame sfn i) attempt fields at reads e)
+      settle (Some told) e =
+          let read = has_read attempt.cfi attempt.grant attempt.answer told e in
+          record {
             i = i;
             tried = tried;
-            answers = record { attempt = attempt; is = at; answers = answers };
-            first = λ h third before reads. none h reads.attempt third before reads.is reads.answers;
-          };
-        })
+            fields = read.fields;
+            attempt = subst (λ (a : Attempt). Attempts (even_frame sfn i) a) read.is at;
+            first = λ h before other less is same. none h other less
+                (subst (λ (answer : Result Sib1 Sib1Reason). Answers (even_frame sfn h) answer) same (are.answers (even_frame sfn h) before is));
+            answers = sym reads ∙ ap (λ (a : Attempt). a.answer) read.is;
+          }
+
+  -- where an attempt has fields, and no tried frame before it has any, they are told, by what it was granted
+  pub told_fields : (i : ℕ) (attempt : Attempt) (sib1 : Result Sib1 Sib1Reason) (granted : Option (ℕ × Grant)) → IsTried recording start sfn i →
+      Attempts (even_frame sfn i) attempt → sib1 ≡ attempt.answer → granted ≡ granted_by attempt → is_ok sib1 ≡ true →
+      ((h : ℕ) (other : Sib1) → h < i → Answers (even_frame sfn h) (Ok other) → ⊥) →
+      IsReadFrom Answers recording start sfn sib1 × IsGrantBy Attempts recording start sfn sib1 granted
+  told_fields i attempt sib1 granted tried at is by ok none =
+      let (fields, same) = ok_fields sib1 ok in
+      let reads : attempt.answer ≡ Ok fields = sym is ∙ same in
+      subst (λ (answer : Result Sib1 Sib1Reason). IsReadFrom Answers recording start sfn answer × IsGrantBy Attempts recording start sfn answer granted) (sym same) (
+        record {
+          i = i;
+          tried = tried;
+          answers = subst (λ (answer : Result Sib1 Sib1Reason). Answers (even_frame sfn i) answer) reads (are.answers (even_frame sfn i) attempt at);
+          first = λ h other less answers. none h other less answers;
+        },
+        subst (λ (o : Option (ℕ × Grant)). IsGrantBy Attempts recording start sfn (Ok fields) o) (sym by) (read_by i attempt fields tried at reads none),
+      )
+
+  -- where the attempt on the next frame has none, no frame up to it has
+  pub none_more : (one : AnswersOnce Answers) (i : ℕ) (attempt : Attempt) (sib1 : Result Sib1 Sib1Reason) →
+      ((h : ℕ) (other : Sib1) → h < i → Answers (even_frame sfn h) (Ok other) → ⊥) → Attempts (even_frame sfn i) attempt →
+      sib1 ≡ attempt.answer → is_ok sib1 ≡ false → (h : ℕ) (other : Sib1) → h < i + 1 → Answers (even_frame sfn h) (Ok other) → ⊥
+  none_more one i attempt sib1 none at is not =
+      let (reason, same) = err_reason sib1 not in
+      no_more_fields Answers one recording start sfn OnePort i reason none
+      (subst (λ (answer : Result Sib1 Sib1Reason). Answers (even_frame sfn i) answer) (sym is ∙ same) (are.answers (even_frame sfn i) attempt at))
+
+  -- where none of the tried frames has any, the first one's reason is told
+  pub told_reason : (sib1 : Result Sib1 Sib1Reason) → is_ok sib1 ≡ false → Answers (even_frame sfn 0) sib1 →
+      ((i : ℕ) (fields : Sib1) → IsTried recording start sfn i → Answers (even_frame sfn i) (Ok fields) → ⊥) → IsReadFrom Answers recording start sfn sib1
+  told_reason sib1 not refused none =
+      let (reason, same) = err_reason sib1 not in
+      subst (λ (answer : Result Sib1 Sib1Reason). IsReadFrom Answers recording start sfn answer) (sym same)
+      (record { none = none; refused = subst (λ (answer : Result Sib1 Sib1Reason). Answers (even_frame sfn 0) answer) same refused })
+
+  -- and it was granted by none
+  pub none_granted_by : (attempt : Attempt) (sib1 : Result Sib1 Sib1Reason) (granted : Option (ℕ × Grant)) → is_ok sib1 ≡ false → sib1 ≡ attempt.answer →
+      granted ≡ granted_by attempt → IsGrantBy Attempts recording start sfn sib1 granted
+  none_granted_by attempt sib1 granted not is by =
+      let (reason, same) = err_reason sib1 not in
+      subst (λ (o : Option (ℕ × Grant)). IsGrantBy Attempts recording start sfn sib1 o) (sym (by ∙ ungranted attempt.cfi attempt.grant attempt.answer reason (sym is ∙ same)))
+      (λ fields other. absurd (let e : ◌≡◌ {A = Result Sib1 Sib1Reason} (Err reason) (Ok fields) = sym same ∙ other in cc))
+
+-- attempts on subframes with these values are such
+pub are_attempts : (values : ℕ → Subframe) → AreAttempts (λ j attempt. IsAttempt (values j) attempt) (λ j answer. Reads (values j) answer)
+are_attempts values = record {
+  answers = λ j attempt is. record { attempt = attempt; is = is; answers = refl };
+  granted = λ j attempt fields is reads none. none_read (values j) attempt.cfi attempt.grant attempt.answer fields is.follows none reads;
+}
+
+-- an answer without fields has none
+pub none_granted : (Attempts : Attempting) (recording : List Sample) (start sfn : ℕ) (reason : Sib1Reason) →
+    IsGrantBy Attempts recording start sfn (Err reason) None
+none_granted Attempts recording start sfn reason fields same = absurd cc
 
 -- ---- one grant
 
-abbrev attempt_with : ℕ → Grant → Sib1 → Attempt
-attempt_with i g f = record { cfi = i; grant = Some g; answer = Ok f }
+-- the values of the subframe of an attempt
+abbrev pub values_at : List Sample → Place → Mib → ℕ → Subframe
+values_at recording place mib j =
+    one_port (seen_slot recording (frame_at place.start j) 10 place.id) (seen_slot recording (frame_at place.start j) 11 place.id) mib.duration mib.resource
 
-pub one_read_by : (recording : List Sample) (entry : Entry) (i j : ℕ) (g h : Grant) → IsReadBy recording entry i g → IsReadBy recording entry j h → (i ≡ j) × (g ≡ h)
-one_read_by recording entry i j g h a b = by_order (cases_lt a.i b.i) (cases_lt b.i a.i)
-  where
-    parts : (x y : Sib1) → attempt_with i g x ≡ attempt_with j h y → (i ≡ j) × (g ≡ h)
-    parts x y e = (ap (λ (t : Attempt). t.cfi) e, let same : Some g ≡ Some h = ap (λ (t : Attempt). t.grant) e in cc)
+abbrev attempt_with : ℕ × Grant → Sib1 → Attempt
+attempt_with told f = record { cfi = told.0; grant = Some told.1; answer = Ok f }
 
-    by_order : (a.i < b.i) ⊎ (b.i ≤ a.i) → (b.i < a.i) ⊎ (a.i ≤ b.i) → (i ≡ j) × (g ≡ h)
-    by_order (inl before) other = absurd (b.first a.i (attempt_with i g a.fields) a.fields before a.attempt refl)
-    by_order (inr low) (inl before) = absurd (a.first b.i (attempt_with j h b.fields) b.fields before b.attempt refl)
-    by_order (inr low) (inr high) =
-        let same : a.i ≡ b.i = omega (arith, low, high) in
-        parts a.fields b.fields (one_attempt (values_at recording entry (even_frame entry.sfn b.i)) (attempt_with i g a.fields) (attempt_with j h b.fields)
-        (subst (λ k. IsAttemptAt recording entry (even_frame entry.sfn k) (attempt_with i g a.fields)) same a.attempt) b.attempt)
+module _ (recording : List Sample) (entry : Entry) where
+  abbrev IsRead : ℕ × Grant → Type 0
+  IsRead told = IsReadBy (IsFrameAttempt recording (place_of entry) entry.mib) recording entry.start entry.sfn entry.sib1 told
+
+  one_read_by : (s t : ℕ × Grant) → IsRead s → IsRead t → (s.0 ≡ t.0) × (s.1 ≡ t.1)
+  one_read_by s t a b = by_order (cases_lt a.i b.i) (cases_lt b.i a.i)
+    where
+      parts : (x y : Sib1) → attempt_with s x ≡ attempt_with t y → (s.0 ≡ t.0) × (s.1 ≡ t.1)
+      parts x y e = (ap (λ (t : Attempt). t.cfi) e, let same : Some s.1 ≡ Some t.1 = ap (λ (t : Attempt). t.grant) e in cc)
+
+      by_order : (a.i < b.i) ⊎ (b.i ≤ a.i) → (b.i < a.i) ⊎ (a.i ≤ b.i) → (s.0 ≡ t.0) × (s.1 ≡ t.1)
+      by_order (inl before) other = absurd (b.first a.i (attempt_with s a.fields) a.fields before a.attempt refl)
+      by_order (inr low) (inl before) = absurd (a.first b.i (attempt_with t b.fields) b.fields before b.attempt refl)
+      by_order (inr low) (inr high) =
+          let same : a.i ≡ b.i = omega (arith, low, high) in
+          parts a.fields b.fields (one_attempt (values_at recording (place_of entry) entry.mib (even_frame entry.sfn b.i)) (attempt_with s a.fields) (attempt_with t b.fields)
+          (subst (λ k. IsFrameAttempt recording (place_of entry) entry.mib (even_frame entry.sfn k) (attempt_with s a.fields)) same a.attempt) b.attempt)
 
 pub one_grant_of : IsOneGrant
 one_grant_of recording entry None None a b = refl
-one_grant_of recording entry None (Some t) a b = absurd (a b.fields b.listed)
-one_grant_of recording entry (Some s) None a b = absurd (b a.fields a.listed)
-one_grant_of recording entry (Some s) (Some t) a b = let e = one_read_by recording entry s.0 t.0 s.1 t.1 a b in rw (e.0, e.1) refl
+one_grant_of recording entry None (Some t) a b = absurd (a b.fields b.answers)
+one_grant_of recording entry (Some s) None a b = absurd (b a.fields a.answers)
+one_grant_of recording entry (Some s) (Some t) a b = let e = one_read_by recording entry s t a b in rw (e.0, e.1) refl
+
+-- ---- the grant of an entry
+
+-- what is told again of an entry of the list is what was told of it
+pub grant_told : (recording : List Sample) (entry : Entry) (place : Place) (master : Master) (sib1 : Result Sib1 Sib1Reason) (granted : Option (ℕ × Grant)) →
+    IsInList recording entry → place ≡ place_of entry → master ≡ master_of entry → IsSystemOf recording place entry.sfn master.ports master.mib sib1 →
+    IsGrantAt recording place entry.sfn master.mib sib1 granted → IsGrantOf recording entry granted
+grant_told recording entry place master sib1 granted listed p m system grant =
+    subst (λ (answer : Result Sib1 Sib1Reason). IsGrantAt recording (place_of entry) entry.sfn entry.mib answer granted)
+    (one_system recording (place_of entry) entry.sfn entry.ports entry.mib sib1 entry.sib1
+    (subst (λ (master : Master). IsSystemOf recording (place_of entry) entry.sfn master.ports master.mib sib1) m (subst (λ (place : Place). IsSystemOf recording place entry.sfn master.ports master.mib sib1) p system))
+    (is_sound recording listed.list entry listed.explained listed.inside).is_of.sib1)
+    (subst (λ (master : Master). IsGrantAt recording (place_of entry) entry.sfn master.mib sib1 granted) m (subst (λ (place : Place). IsGrantAt recording place entry.sfn master.mib sib1 granted) p grant))
+
+no_error : (sib1 : Result Sib1 Sib1Reason) (fields : Sib1) → sib1 ≡ Ok fields → IsErr sib1 → ⊥
+no_error (Ok other) fields same is = absurd cc
+no_error (Err reason) fields same is = absurd cc
+
+error_without : (sib1 : Result Sib1 Sib1Reason) → ((fields : Sib1) → sib1 ≡ Ok fields → ⊥) → IsErr sib1
+error_without (Ok fields) none = absurd (none fields refl)
+error_without (Err reason) none = cc
+
+pub none_told : (recording : List Sample) (entry : Entry) (granted : Option (ℕ × Grant)) → IsGrantOf recording entry granted → IsNone granted ↔ IsErr entry.sib1
+none_told recording entry None grant = (λ none. error_without entry.sib1 grant, λ err. cc)
+none_told recording entry (Some told) grant = (λ none. absurd cc, λ err. absurd (no_error entry.sib1 grant.fields grant.answers err))

@@ -12,8 +12,11 @@ use Rattle.lte_types.specs.declared.sib1_reason.Sib1Reason.{Sib1Reason}
 use Rattle.lte_types.specs.declared.sib1_reason.Sib1Reason.TheVariants.{NotOnePort, Bandwidth as OtherWidth, LongPrefix}
 use Rattle.lte_types.specs.Ranges.{IsValid}
 use Rattle.system_block.proofs.Once.{one_reading}
-use Rattle.system_block.proofs.Exists.{some_reading, read_is_valid, never_ports, never_width, never_long}
+use Rattle.system_block.proofs.Exists.{read_is_valid, never_long}
 use Rattle.lte_types.specs.CellPlace.{Place}
+use Rattle.lte_types.specs.declared.carrier.Carrier.{Carrier}
+use Rattle.lte_types.specs.declared.carrier.Carrier.TheVariants.{OnePort}
+use Rattle.lte_types.specs.Carrier.{ports_of}
 use Rattle.explain.specs.Told.{Answering}
 use Rattle.explain.specs.System.{even_frame, IsTried, IsFirstRead, IsReadFrom, HasOtherPorts, HasOtherWidth, IsSearched, IsSystemBy, FrameAnswers, IsSystemOf}
 
@@ -30,7 +33,7 @@ even_number sfn i = omega arith
 
 -- where a frame answers in one way
 module _ (Answers : Answering) (one : (j : ℕ) (a b : Result Sib1 Sib1Reason) → Answers j a → Answers j b → a ≡ b)
-    (recording : List Sample) (start sfn wanted : ℕ) where
+    (recording : List Sample) (start sfn : ℕ) (carrier : Carrier) where
   -- a frame that has a reason has no fields
   not_both : (j : ℕ) (fields : Sib1) (reason : Sib1Reason) → Answers j (Ok fields) → Answers j (Err reason) → ⊥
   not_both j fields reason a b = let e = one j (Ok fields) (Err reason) a b in absurd cc
@@ -53,21 +56,21 @@ module _ (Answers : Answering) (one : (j : ℕ) (a b : Result Sib1 Sib1Reason) �
   one_read (Err q) (Err r) a b = one (even_frame sfn 0) (Err q) (Err r) a.refused b.refused
 
   -- which rule told an answer
-  rule : (ports : ℕ) (mib : Mib) (sib1 : Result Sib1 Sib1Reason) → IsSystemBy wanted Answers recording start sfn ports mib sib1 →
-      ((told : ℕ) × (sib1 ≡ Err (NotOnePort told)) × HasOtherPorts wanted ports told)
-      ⊎ (((told : Bandwidth) × (sib1 ≡ Err (OtherWidth told)) × HasOtherWidth wanted ports mib.bandwidth told)
-      ⊎ IsSearched Answers recording start sfn wanted ports mib.bandwidth sib1)
+  rule : (ports : ℕ) (mib : Mib) (sib1 : Result Sib1 Sib1Reason) → IsSystemBy carrier Answers recording start sfn ports mib sib1 →
+      ((told : ℕ) × (sib1 ≡ Err (NotOnePort told)) × HasOtherPorts (ports_of carrier) ports told)
+      ⊎ (((told : Bandwidth) × (sib1 ≡ Err (OtherWidth told)) × HasOtherWidth (ports_of carrier) ports mib.bandwidth told)
+      ⊎ IsSearched Answers recording start sfn carrier ports mib.bandwidth sib1)
   rule ports mib (Err (NotOnePort told)) s = inl (told, refl, s)
   rule ports mib (Err (OtherWidth told)) s = inr (inl (told, refl, s))
   rule ports mib sib1 s = inr (inr s)
 
-  pub one_by : (ports : ℕ) (mib : Mib) (a b : Result Sib1 Sib1Reason) → IsSystemBy wanted Answers recording start sfn ports mib a → IsSystemBy wanted Answers recording start sfn ports mib b → a ≡ b
+  pub one_by : (ports : ℕ) (mib : Mib) (a b : Result Sib1 Sib1Reason) → IsSystemBy carrier Answers recording start sfn ports mib a → IsSystemBy carrier Answers recording start sfn ports mib b → a ≡ b
   one_by ports mib a b s t = cases (rule ports mib a s) (rule ports mib b t)
     where
-      cases : ((told : ℕ) × (a ≡ Err (NotOnePort told)) × HasOtherPorts wanted ports told)
-          ⊎ (((told : Bandwidth) × (a ≡ Err (OtherWidth told)) × HasOtherWidth wanted ports mib.bandwidth told) ⊎ IsSearched Answers recording start sfn wanted ports mib.bandwidth a) →
-          ((told : ℕ) × (b ≡ Err (NotOnePort told)) × HasOtherPorts wanted ports told)
-          ⊎ (((told : Bandwidth) × (b ≡ Err (OtherWidth told)) × HasOtherWidth wanted ports mib.bandwidth told) ⊎ IsSearched Answers recording start sfn wanted ports mib.bandwidth b) → a ≡ b
+      cases : ((told : ℕ) × (a ≡ Err (NotOnePort told)) × HasOtherPorts (ports_of carrier) ports told)
+          ⊎ (((told : Bandwidth) × (a ≡ Err (OtherWidth told)) × HasOtherWidth (ports_of carrier) ports mib.bandwidth told) ⊎ IsSearched Answers recording start sfn carrier ports mib.bandwidth a) →
+          ((told : ℕ) × (b ≡ Err (NotOnePort told)) × HasOtherPorts (ports_of carrier) ports told)
+          ⊎ (((told : Bandwidth) × (b ≡ Err (OtherWidth told)) × HasOtherWidth (ports_of carrier) ports mib.bandwidth told) ⊎ IsSearched Answers recording start sfn carrier ports mib.bandwidth b) → a ≡ b
       cases (inl n) (inl m) = n.1 ∙ ap (λ told. Err (NotOnePort told)) (n.2.told_is ∙ sym m.2.told_is) ∙ sym m.1
       cases (inl n) (inr (inl m)) = absurd (n.2.other m.2.as_wanted)
       cases (inl n) (inr (inr m)) = absurd (n.2.other m.as_wanted)
@@ -95,7 +98,7 @@ module _ (Answers : Answering) (one : (j : ℕ) (a b : Result Sib1 Sib1Reason) �
 
   -- where the first frame of even number has fields, they are what is told
   pub told_first : (mib : Mib) (fields : Sib1) → 57600 ≤ length recording → start < 19200 → mib.bandwidth ≡ N6 → Answers (even_frame sfn 0) (Ok fields) →
-      IsSystemBy wanted Answers recording start sfn wanted mib (Ok fields)
+      IsSystemBy carrier Answers recording start sfn (ports_of carrier) mib (Ok fields)
   told_first mib fields long early six answers = record {
     as_wanted = refl;
     six_blocks = six;
@@ -104,73 +107,21 @@ module _ (Answers : Answering) (one : (j : ℕ) (a b : Result Sib1 Sib1Reason) �
 
   -- where frames tell valid fields alone, so does what is told
   pub valid_by : ((j : ℕ) (fields : Sib1) → Answers j (Ok fields) → IsValid fields) → (ports : ℕ) (mib : Mib) (sib1 : Result Sib1 Sib1Reason) →
-      IsSystemBy wanted Answers recording start sfn ports mib sib1 → IfOk sib1 IsValid
+      IsSystemBy carrier Answers recording start sfn ports mib sib1 → IfOk sib1 IsValid
   valid_by valid ports mib (Err reason) s = tt
   valid_by valid ports mib (Ok fields) s = valid (even_frame sfn s.read.i) fields s.read.answers
 
   -- where no frame has the reason that the prefix is long, nor has what is told
-  pub never_long_by : ((j : ℕ) → Answers j (Err LongPrefix) → ⊥) → (ports : ℕ) (mib : Mib) → IsSystemBy wanted Answers recording start sfn ports mib (Err LongPrefix) → ⊥
+  pub never_long_by : ((j : ℕ) → Answers j (Err LongPrefix) → ⊥) → (ports : ℕ) (mib : Mib) → IsSystemBy carrier Answers recording start sfn ports mib (Err LongPrefix) → ⊥
   never_long_by never ports mib s = never (even_frame sfn 0) s.read.refused
 
   -- what frames answer is told where the ports and the bandwidth are as wanted, since they never answer for the sake of these
   pub searched : ((j told : ℕ) → Answers j (Err (NotOnePort told)) → ⊥) → ((j : ℕ) (told : Bandwidth) → Answers j (Err (OtherWidth told)) → ⊥) →
-      (ports : ℕ) (mib : Mib) → ports ≡ wanted → mib.bandwidth ≡ N6 → (sib1 : Result Sib1 Sib1Reason) → IsReadFrom Answers recording start sfn sib1 →
-      IsSystemBy wanted Answers recording start sfn ports mib sib1
+      (ports : ℕ) (mib : Mib) → ports ≡ ports_of carrier → mib.bandwidth ≡ N6 → (sib1 : Result Sib1 Sib1Reason) → IsReadFrom Answers recording start sfn sib1 →
+      IsSystemBy carrier Answers recording start sfn ports mib sib1
   searched never_ports never_width ports mib as_wanted six (Err (NotOnePort told)) read = absurd (never_ports (even_frame sfn 0) told read.refused)
   searched never_ports never_width ports mib as_wanted six (Err (OtherWidth told)) read = absurd (never_width (even_frame sfn 0) told read.refused)
   searched never_ports never_width ports mib as_wanted six sib1 read = record { as_wanted = as_wanted; six_blocks = six; read = read }
-
-  -- where each frame answers, and never for the sake of antenna ports or bandwidth
-  module _ (some : (j : ℕ) → (answer : Result Sib1 Sib1Reason) × Answers j answer)
-      (never_ports : (j told : ℕ) → Answers j (Err (NotOnePort told)) → ⊥) (never_width : (j : ℕ) (told : Bandwidth) → Answers j (Err (OtherWidth told)) → ⊥)
-      (long : 57600 ≤ length recording) (early : start < 19200) where
-    by_answer : (n i : ℕ) → n + i ≡ 7 → IsTried recording start sfn i → ((h : ℕ) (fields : Sib1) → h < i → Answers (even_frame sfn h) (Ok fields) → ⊥) →
-        ((((h : ℕ) (fields : Sib1) → h < suc i → Answers (even_frame sfn h) (Ok fields) → ⊥) → (sib1 : Result Sib1 Sib1Reason) × IsReadFrom Answers recording start sfn sib1)) →
-        (answer : Result Sib1 Sib1Reason) → Answers (even_frame sfn i) answer → (sib1 : Result Sib1 Sib1Reason) × IsReadFrom Answers recording start sfn sib1
-    by_answer n i sum tried none later (Ok fields) is = (Ok fields, record { i = i; tried = tried; answers = is; first = none })
-    by_answer n i sum tried none later (Err reason) is = later (λ h fields before a. elim (cases_lt h i) [
-      | inl below ↦ none h fields below a
-      | inr above ↦ let same : h ≡ i = omega (arith, before, above) in not_both (even_frame sfn i) fields reason (subst (λ k. Answers (even_frame sfn k) (Ok fields)) same a) is
-    ])
-
-    -- where no tried frame has fields, the first has a reason
-    no_fields : ((h : ℕ) (fields : Sib1) → IsTried recording start sfn h → Answers (even_frame sfn h) (Ok fields) → ⊥) →
-        (answer : Result Sib1 Sib1Reason) → Answers (even_frame sfn 0) answer → (sib1 : Result Sib1 Sib1Reason) × IsReadFrom Answers recording start sfn sib1
-    no_fields none (Ok fields) is = absurd (none 0 fields (first_tried recording start sfn long early) is)
-    no_fields none (Err reason) is = (Err reason, record { none = none; refused = is })
-
-    search : (n i : ℕ) → n + i ≡ 8 → ((h : ℕ) (fields : Sib1) → h < i → Answers (even_frame sfn h) (Ok fields) → ⊥) →
-        (sib1 : Result Sib1 Sib1Reason) × IsReadFrom Answers recording start sfn sib1
-    search zero i sum none =
-        let (answer, is) = some (even_frame sfn 0) in
-        no_fields (λ h fields t a. none h fields (let l = t.among in omega (arith, l, sum)) a) answer is
-    search (suc n) i sum none = elim (cases_lt (length recording) (start + 19200 * (even_frame sfn i + 1))) [
-      | inl short ↦
-          let (answer, is) = some (even_frame sfn 0) in
-          no_fields (λ h fields t a. none h fields (let w = t.whole in omega (arith, short, w)) a) answer is
-      | inr whole ↦
-          let (answer, is) = some (even_frame sfn i) in
-          by_answer n i (omega (arith, sum)) (record { among = omega (arith, sum); whole = whole }) none (λ more. search n (suc i) (omega (arith, sum)) more) answer is
-    ]
-
-    other_width : (ports : ℕ) (mib : Mib) → ports ≡ wanted → mib.bandwidth ≢ N6 → (sib1 : Result Sib1 Sib1Reason) × IsSystemBy wanted Answers recording start sfn ports mib sib1
-    other_width ports mib as_wanted other = (Err (OtherWidth mib.bandwidth), record { as_wanted = as_wanted; told_is = refl; other = other })
-
-    by_width : (ports : ℕ) (mib : Mib) → ports ≡ wanted → (width : Bandwidth) → mib.bandwidth ≡ width → (sib1 : Result Sib1 Sib1Reason) × IsSystemBy wanted Answers recording start sfn ports mib sib1
-    by_width ports mib as_wanted N6 e =
-        let (sib1, read) = search 8 0 refl (λ h fields below a. absurd (omega (arith, below))) in
-        (sib1, searched never_ports never_width ports mib as_wanted e sib1 read)
-    by_width ports mib as_wanted N15 e = other_width ports mib as_wanted (λ six. let same : N15 ≡ N6 = sym e ∙ six in absurd cc)
-    by_width ports mib as_wanted N25 e = other_width ports mib as_wanted (λ six. let same : N25 ≡ N6 = sym e ∙ six in absurd cc)
-    by_width ports mib as_wanted N50 e = other_width ports mib as_wanted (λ six. let same : N50 ≡ N6 = sym e ∙ six in absurd cc)
-    by_width ports mib as_wanted N75 e = other_width ports mib as_wanted (λ six. let same : N75 ≡ N6 = sym e ∙ six in absurd cc)
-    by_width ports mib as_wanted N100 e = other_width ports mib as_wanted (λ six. let same : N100 ≡ N6 = sym e ∙ six in absurd cc)
-
-    pub some_by : (ports : ℕ) (mib : Mib) → (sib1 : Result Sib1 Sib1Reason) × IsSystemBy wanted Answers recording start sfn ports mib sib1
-    some_by ports mib = elim (eqb_tells ports wanted) [
-      | inl same ↦ by_width ports mib same.1 mib.bandwidth refl
-      | inr other ↦ (Err (NotOnePort ports), record { told_is = refl; other = other.1 })
-    ]
 
 -- ---- by one antenna port
 
@@ -182,27 +133,20 @@ one_of_frame recording place mib j a b p q = one_reading _ a b p q
 pub one_system : (recording : List Sample) (place : Place) (sfn ports : ℕ) (mib : Mib) (a b : Result Sib1 Sib1Reason) →
     IsSystemOf recording place sfn ports mib a → IsSystemOf recording place sfn ports mib b → a ≡ b
 one_system recording place sfn ports mib a b p q =
-    one_by (FrameAnswers recording place mib) (one_of_frame recording place mib) recording place.start sfn 1 ports mib a b p q
-
--- and there is one
-pub some_system : (recording : List Sample) (place : Place) (sfn ports : ℕ) (mib : Mib) → 57600 ≤ length recording → place.start < 19200 →
-    (sib1 : Result Sib1 Sib1Reason) × IsSystemOf recording place sfn ports mib sib1
-some_system recording place sfn ports mib long early =
-    some_by (FrameAnswers recording place mib) (one_of_frame recording place mib) recording place.start sfn 1
-    (λ j. some_reading _) (λ j told reads. never_ports _ told reads) (λ j told reads. never_width _ told reads) long early ports mib
+    one_by (FrameAnswers recording place mib) (one_of_frame recording place mib) recording place.start sfn OnePort ports mib a b p q
 
 -- what is read is in its ranges
 pub system_is_valid : (recording : List Sample) (place : Place) (sfn ports : ℕ) (mib : Mib) (sib1 : Result Sib1 Sib1Reason) → IsSystemOf recording place sfn ports mib sib1 → IfOk sib1 IsValid
 system_is_valid recording place sfn ports mib sib1 s =
-    valid_by (FrameAnswers recording place mib) (one_of_frame recording place mib) recording place.start sfn 1 (λ j fields reads. read_is_valid _ fields reads) ports mib sib1 s
+    valid_by (FrameAnswers recording place mib) (one_of_frame recording place mib) recording place.start sfn OnePort (λ j fields reads. read_is_valid _ fields reads) ports mib sib1 s
 
 -- and its reason is not that the prefix is long
 pub system_never_long : (recording : List Sample) (place : Place) (sfn ports : ℕ) (mib : Mib) → IsSystemOf recording place sfn ports mib (Err LongPrefix) → ⊥
 system_never_long recording place sfn ports mib s =
-    never_long_by (FrameAnswers recording place mib) (one_of_frame recording place mib) recording place.start sfn 1 (λ j reads. never_long _ reads) ports mib s
+    never_long_by (FrameAnswers recording place mib) (one_of_frame recording place mib) recording place.start sfn OnePort (λ j reads. never_long _ reads) ports mib s
 
 -- where the first frame of even number has fields, they are what is told
 pub told_at_first : (recording : List Sample) (place : Place) (sfn : ℕ) (mib : Mib) (fields : Sib1) → 57600 ≤ length recording → place.start < 19200 → mib.bandwidth ≡ N6 →
     FrameAnswers recording place mib (even_frame sfn 0) (Ok fields) → IsSystemOf recording place sfn 1 mib (Ok fields)
 told_at_first recording place sfn mib fields long early six answers =
-    told_first (FrameAnswers recording place mib) (one_of_frame recording place mib) recording place.start sfn 1 mib fields long early six answers
+    told_first (FrameAnswers recording place mib) (one_of_frame recording place mib) recording place.start sfn OnePort mib fields long early six answers

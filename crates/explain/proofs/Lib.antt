@@ -7,6 +7,7 @@ pub mod Made
 pub mod Kept
 pub mod Listed
 pub mod Again
+pub mod Beside
 pub mod Deciding
 pub mod OneFrame
 pub mod Granted

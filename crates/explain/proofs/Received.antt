@@ -37,7 +37,7 @@ module _ (Tells : Telling) (recording : List Sample) (place : Place) (whole : �
     have = f.have;
   }
     where
-      by_order : (fewer i : ℕ) → IsInWindow recording place.start fewer i → ComeBefore fewer i count j → TellNone Tells place fewer i
+      by_order : (fewer i : ℕ) → IsInWindow recording place.start fewer i → ComeBefore (fewer, i) (count, j) → TellNone Tells place fewer i
       by_order fewer i window (inl less) = none fewer window.some less i (among fewer i window)
       by_order fewer i window (inr (same, below)) = subst (λ n. TellNone Tells place n i) (sym same) (f.first i below)
 

@@ -44,10 +44,14 @@ frames_of entry = record { count = entry.frames; first = entry.frame; phase = en
 abbrev pub master_of : Entry → Master
 master_of entry = record { ports = entry.ports; mib = entry.mib; cost = entry.cost }
 
--- the values that tell it: those of the entry's frames, the first of them at its phase
+-- the sums by which frames of a cell tell: those of the values of their broadcast channels, the first of them at its phase
+abbrev pub sums_of : List Sample → Place → Frames → List (List ℤ)
+sums_of recording place frames =
+    coded_values (broadcast_slots recording place.id place.start frames.count frames.first) frames.phase
+
+-- those that tell an entry's master block
 abbrev pub values_of_entry : List Sample → Entry → List (List ℤ)
-values_of_entry recording entry =
-    coded_values (broadcast_slots recording entry.id entry.start entry.frames entry.frame) entry.phase
+values_of_entry recording entry = sums_of recording (place_of entry) (frames_of entry)
 
 -- the entry tells a master block of the cell at this place: one of the first of its frames that have any. `Tells` says
 -- which master block frames tell, and `IsSystem` what is told of the system information

@@ -1,5 +1,5 @@
--- The indicator and the grant by which the system information of an entry was read. (own)
-use Rattle.std.specs.Prelude.{◌≡◌, ℕ, ◌<◌, List, Option, Some, None, Result, Ok, Err}
+-- The indicator and the grant by which system information was read. (own)
+use Rattle.std.specs.Prelude.{◌≡◌, ℕ, ◌<◌, List, Option, Some, None, Result, Ok}
 use Rattle.cs_num.specs.declared.Sample.{Sample}
 use Rattle.lte_types.specs.declared.sib1.Sib1.{Sib1}
 use Rattle.lte_types.specs.declared.sib1_reason.Sib1Reason.{Sib1Reason}
@@ -9,44 +9,54 @@ use Rattle.lte_types.specs.declared.entry.Entry.{Entry}
 use Rattle.dci.specs.declared.grant.Grant.{Grant}
 use Rattle.system_block.specs.declared.reading.Attempt.{Attempt}
 use Rattle.system_block.specs.Subframe.{one_port}
-use Rattle.system_block.specs.Attempt.{IsAttempt}
+use Rattle.system_block.specs.Attempt.{IsAttempt, granted_by}
 use Rattle.explain.specs.Frame.{frame_at, seen_slot}
+use Rattle.explain.specs.Told.{Answering, Attempting, Granting}
 use Rattle.explain.specs.System.{even_frame, IsTried}
 use Rattle.explain.specs.Entries.{place_of}
 
+-- ---- the frames that are tried. `Attempts` says which attempt a frame has, by its number from the first frame on
+
+-- the first of the tried frames that answers with fields has this indicator and this grant; the answer is its fields
+pub record IsReadBy (Attempts : Attempting) (recording : List Sample) (start sfn : ℕ) (sib1 : Result Sib1 Sib1Reason)
+    (told : ℕ × Grant) : Type 0 where
+  pub i : ℕ
+  pub tried : IsTried recording start sfn i
+  pub fields : Sib1
+  pub attempt : Attempts (even_frame sfn i) (record { cfi = told.0; grant = Some told.1; answer = Ok fields })
+  pub first : (h : ℕ) (attempt : Attempt) (other : Sib1) → h < i → Attempts (even_frame sfn h) attempt →
+      attempt.answer ≡ Ok other → ⊥
+  pub answers : sib1 ≡ Ok fields
+
+-- the indicator and the grant by which an answer was read, or none where it has no fields
+abbrev pub IsGrantBy : Attempting → List Sample → ℕ → ℕ → Result Sib1 Sib1Reason → Option (ℕ × Grant) → Type 0
+IsGrantBy Attempts recording start sfn sib1 (Some told) = IsReadBy Attempts recording start sfn sib1 told
+IsGrantBy Attempts recording start sfn sib1 None = (fields : Sib1) → sib1 ≡ Ok fields → ⊥
+
+-- a frame answers what its attempt does, and where that has fields it has a grant
+pub record AreAttempts (Attempts : Attempting) (Answers : Answering) : Type 0 where
+  pub answers : (j : ℕ) (attempt : Attempt) → Attempts j attempt → Answers j attempt.answer
+  pub granted : (j : ℕ) (attempt : Attempt) (fields : Sib1) → Attempts j attempt → attempt.answer ≡ Ok fields →
+      granted_by attempt ≡ None → ⊥
+
+-- ---- by one antenna port
+
 -- the attempt on frame j of a cell: on its subframe 5, slots 10 and 11
-abbrev pub IsFrameAttempt : List Sample → Place → Mib → ℕ → Attempt → Type 0
+abbrev pub IsFrameAttempt : List Sample → Place → Mib → Attempting
 IsFrameAttempt recording place mib j attempt =
     IsAttempt (one_port (seen_slot recording (frame_at place.start j) 10 place.id) (seen_slot recording (frame_at place.start j) 11 place.id)
     mib.duration mib.resource) attempt
 
--- that of an entry's cell
-abbrev pub IsAttemptAt : List Sample → Entry → ℕ → Attempt → Type 0
-IsAttemptAt recording entry = IsFrameAttempt recording (place_of entry) entry.mib
+-- the indicator and the grant of the system information of the cell at a place
+abbrev pub IsGrantAt : List Sample → Granting
+IsGrantAt recording place sfn mib sib1 told =
+    IsGrantBy (IsFrameAttempt recording place mib) recording place.start sfn sib1 told
 
--- what an attempt tells: its indicator and its grant, where it has read fields
-abbrev pub told_with : ℕ → Option Grant → Result Sib1 Sib1Reason → Option (ℕ × Grant)
-told_with indicator (Some grant) (Ok fields) = Some (indicator, grant)
-told_with indicator (Some grant) (Err reason) = None
-told_with indicator None answer = None
-
-abbrev pub told_by : Attempt → Option (ℕ × Grant)
-told_by attempt = told_with attempt.cfi attempt.grant attempt.answer
-
--- the first of the tried frames that answers with fields has this indicator and this grant, and the entry has its fields
-pub record IsReadBy (recording : List Sample) (entry : Entry) (indicator : ℕ) (grant : Grant) : Type 0 where
-  pub i : ℕ
-  pub tried : IsTried recording entry.start entry.sfn i
-  pub fields : Sib1
-  pub attempt : IsAttemptAt recording entry (even_frame entry.sfn i) (record { cfi = indicator; grant = Some grant; answer = Ok fields })
-  pub first : (h : ℕ) (attempt : Attempt) (other : Sib1) → h < i → IsAttemptAt recording entry (even_frame entry.sfn h) attempt → attempt.answer ≡ Ok other → ⊥
-  pub listed : entry.sib1 ≡ Ok fields
-
--- the indicator and the grant of an entry, or none where it has no system information
+-- those of an entry
 abbrev pub IsGrantOf : List Sample → Entry → Option (ℕ × Grant) → Type 0
-IsGrantOf recording entry (Some told) = IsReadBy recording entry told.0 told.1
-IsGrantOf recording entry None = (fields : Sib1) → entry.sib1 ≡ Ok fields → ⊥
+IsGrantOf recording entry told = IsGrantAt recording (place_of entry) entry.sfn entry.mib entry.sib1 told
 
 -- a law: they are certain ones
 abbrev pub IsOneGrant : Type 0
-IsOneGrant = (recording : List Sample) (entry : Entry) (a b : Option (ℕ × Grant)) → IsGrantOf recording entry a → IsGrantOf recording entry b → a ≡ b
+IsOneGrant = (recording : List Sample) (entry : Entry) (a b : Option (ℕ × Grant)) → IsGrantOf recording entry a →
+    IsGrantOf recording entry b → a ≡ b

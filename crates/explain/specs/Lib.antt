@@ -11,3 +11,4 @@ pub mod Deciding
 pub mod EntrySlot
 pub mod Reader
 pub mod Grant
+pub mod Readings

@@ -16,10 +16,14 @@ use Rattle.explain.specs.Masters.{HaveMasters}
 abbrev pub values_in : (ℕ → List ℤ) → ℕ → ℕ → List ℤ
 values_in values count j = flat_map (λ frame. frame) (values_below count (λ m. values (j + m)))
 
+-- the sums of the values of a cell's frames
+abbrev pub sums_by : (Place → ℕ → List ℤ) → Place → Frames → List (List ℤ)
+sums_by values place frames = summed_values place.id frames.phase (values_in (values place) frames.count frames.first)
+
 -- they tell this master block, with a count of antenna ports that is taken
 pub record IsToldBy (values : Place → ℕ → List ℤ) (takes : ℕ → Bool) (place : Place) (frames : Frames) (master : Master) : Type 0 where
   pub taken : takes master.ports ≡ true
-  pub told : TellsMaster (summed_values place.id frames.phase (values_in (values place) frames.count frames.first)) master
+  pub told : TellsMaster (sums_by values place frames) master
 
 -- of a master block that may be there, what is taken
 abbrev pub taken_of : (ℕ → Bool) → Option Master → Option Master

@@ -3,6 +3,9 @@
 use Rattle.std.specs.Prelude.{◌≡◌, ◌≢◌, ℕ, ◌+◌, ◌*◌, ◌%◌, ◌<◌, List, Result, Ok, Err}
 use Rattle.cs_num.specs.declared.Sample.{Sample}
 use Rattle.lte_types.specs.CellPlace.{Place}
+use Rattle.lte_types.specs.declared.carrier.Carrier.{Carrier}
+use Rattle.lte_types.specs.declared.carrier.Carrier.TheVariants.{OnePort}
+use Rattle.lte_types.specs.Carrier.{ports_of}
 use Rattle.lte_types.specs.declared.bandwidth.Bandwidth.{Bandwidth}
 use Rattle.lte_types.specs.declared.bandwidth.Bandwidth.TheVariants.{N6}
 use Rattle.lte_types.specs.declared.mib.Mib.{Mib}
@@ -56,17 +59,19 @@ pub record HasOtherWidth (wanted ports : ℕ) (width told : Bandwidth) : Type 0 
   pub other : width ≢ N6
 
 -- there are as many antenna ports as are wanted, and 6 resource blocks, and the frames answer so
-pub record IsSearched (Answers : Answering) (recording : List Sample) (start sfn wanted ports : ℕ) (width : Bandwidth)
-    (sib1 : Result Sib1 Sib1Reason) : Type 0 where
-  pub as_wanted : ports ≡ wanted
+pub record IsSearched (Answers : Answering) (recording : List Sample) (start sfn : ℕ) (carrier : Carrier) (ports : ℕ)
+    (width : Bandwidth) (sib1 : Result Sib1 Sib1Reason) : Type 0 where
+  pub as_wanted : ports ≡ ports_of carrier
   pub six_blocks : width ≡ N6
   pub read : IsReadFrom Answers recording start sfn sib1
 
--- what is told by so many antenna ports
-abbrev pub IsSystemBy : ℕ → Answering → List Sample → ℕ → ℕ → ℕ → Mib → Result Sib1 Sib1Reason → Type 0
-IsSystemBy wanted Answers recording start sfn ports mib (Err (NotOnePort told)) = HasOtherPorts wanted ports told
-IsSystemBy wanted Answers recording start sfn ports mib (Err (OtherWidth told)) = HasOtherWidth wanted ports mib.bandwidth told
-IsSystemBy wanted Answers recording start sfn ports mib sib1 = IsSearched Answers recording start sfn wanted ports mib.bandwidth sib1
+-- what is told where the antenna ports of this carrier are wanted
+abbrev pub IsSystemBy : Carrier → Answering → List Sample → ℕ → ℕ → ℕ → Mib → Result Sib1 Sib1Reason → Type 0
+IsSystemBy carrier Answers recording start sfn ports mib (Err (NotOnePort told)) = HasOtherPorts (ports_of carrier) ports told
+IsSystemBy carrier Answers recording start sfn ports mib (Err (OtherWidth told)) =
+    HasOtherWidth (ports_of carrier) ports mib.bandwidth told
+IsSystemBy carrier Answers recording start sfn ports mib sib1 =
+    IsSearched Answers recording start sfn carrier ports mib.bandwidth sib1
 
 -- ---- by one antenna port
 
@@ -76,8 +81,8 @@ FrameAnswers recording place mib j answer =
     Reads (one_port (seen_slot recording (frame_at place.start j) 10 place.id) (seen_slot recording (frame_at place.start j) 11 place.id)
     mib.duration mib.resource) answer
 
--- what is told of the system information of the cell at a place, whose first frame has this number, with so many antenna ports and
--- this master block
+-- what is told of the system information of the cell at a place, whose first frame has this number, with so many antenna
+-- ports and this master block
 abbrev pub IsSystemOf : List Sample → Informing
 IsSystemOf recording place sfn ports mib sib1 =
-    IsSystemBy 1 (FrameAnswers recording place mib) recording place.start sfn ports mib sib1
+    IsSystemBy OnePort (FrameAnswers recording place mib) recording place.start sfn ports mib sib1

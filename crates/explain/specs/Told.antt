@@ -1,21 +1,32 @@
 -- What the frames of a cell tell, as relations that a way to read the cells of a recording gives. (own)
-use Rattle.std.specs.Prelude.{ℕ, Result}
+use Rattle.std.specs.Prelude.{ℕ, Option, Result}
 use Rattle.lte_types.specs.CellPlace.{Place}
 use Rattle.lte_types.specs.Frames.{Frames}
 use Rattle.lte_types.specs.declared.mib.Mib.{Mib}
 use Rattle.lte_types.specs.declared.sib1.Sib1.{Sib1}
 use Rattle.lte_types.specs.declared.sib1_reason.Sib1Reason.{Sib1Reason}
+use Rattle.dci.specs.declared.grant.Grant.{Grant}
 use Rattle.pbch.specs.declared.master.Master.{Master}
+use Rattle.system_block.specs.declared.reading.Attempt.{Attempt}
 
 -- which master block frames of the cell at a place tell
 abbrev pub Telling : Type 1
 Telling = Place → Frames → Master → Type 0
 
--- what is told of the system information of the cell at a place, whose first frame has this number, and whose master block tells so
--- many antenna ports and this block
+-- what is told of the system information of the cell at a place, whose first frame has this number, and whose master
+-- block tells so many antenna ports and this block
 abbrev pub Informing : Type 1
 Informing = Place → ℕ → ℕ → Mib → Result Sib1 Sib1Reason → Type 0
 
 -- what a frame of one cell answers, by its number from the first frame on
 abbrev pub Answering : Type 1
 Answering = ℕ → Result Sib1 Sib1Reason → Type 0
+
+-- the attempt to read system information in a frame of one cell, by its number from the first frame on
+abbrev pub Attempting : Type 1
+Attempting = ℕ → Attempt → Type 0
+
+-- by which indicator and grant an answer on the cell at a place was read, or none; its first frame has this number, and
+-- this is its master block
+abbrev pub Granting : Type 1
+Granting = Place → ℕ → Mib → Result Sib1 Sib1Reason → Option (ℕ × Grant) → Type 0

@@ -17,9 +17,10 @@ pub record IsInWindow (recording : List Sample) (start count j : ℕ) : Type 0 w
   pub known : j + count ≤ 8
   pub whole : (m : ℕ) → m < count → IsWhole recording start (j + m)
 
--- so many frames from frame i on are looked at before others: they are fewer, or as many and begin earlier
-abbrev pub ComeBefore : ℕ → ℕ → ℕ → ℕ → Type 0
-ComeBefore few i count j = (few < count) ⊎ ((few ≡ count) × (i < j))
+-- frames that follow one another, by their count and the first of them, are looked at before others: they are fewer, or
+-- as many and begin earlier
+abbrev pub ComeBefore : ℕ × ℕ → ℕ × ℕ → Type 0
+ComeBefore (few, i) (count, j) = (few < count) ⊎ ((few ≡ count) × (i < j))
 
 -- so many frames from frame j on tell no master block, at any phase
 abbrev pub TellNone : Telling → Place → ℕ → ℕ → Type 0
@@ -29,7 +30,7 @@ TellNone Tells place count j =
 -- no frames that are looked at before these tell any
 abbrev pub HasNoMasterBefore : Telling → List Sample → Place → ℕ → ℕ → Type 0
 HasNoMasterBefore Tells recording place count j =
-    (few i : ℕ) → IsInWindow recording place.start few i → ComeBefore few i count j → TellNone Tells place few i
+    (few i : ℕ) → IsInWindow recording place.start few i → ComeBefore (few, i) (count, j) → TellNone Tells place few i
 
 -- none that are looked at do
 abbrev pub HasNoMasters : Telling → List Sample → Place → Type 0

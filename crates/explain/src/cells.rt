@@ -1,9 +1,11 @@
 //! The list of the cells of a recording.
 
 ghost use Rattle.std.specs.Prelude.{◌≡◌};
+ghost use Rattle.std.specs.List.{AllZip};
 ghost use Rattle.finite.specs.Sizes.{RowsWithin};
 ghost use Rattle.pss_search.specs.Hits.{IsInSpan};
 ghost use Rattle.pbch.specs.Master.{TellsMaster};
+ghost use Rattle.explain.specs.Readings.{IsReading};
 ghost use Rattle.explain.specs.Entries.{IsExplained, IsInList, master_of, place_at, place_of as place_of_entry, values_of_entry};
 
 use crate::frame::broadcast_slot;
@@ -21,16 +23,17 @@ use sss_detect::place_with;
 /// has the first fields of SystemInformationBlockType1 that one of its first eight whole frames of even
 /// number tells, or a `Sib1Reason` where none does. An entry is dropped where a kept one before it has the
 /// same identity and an epoch at most 9 samples away, modulo 1,024 frames. The list is in order of start,
-/// identity and frame number. It takes no memory. (own)
+/// identity and frame number. The workspace then has how each of them was read. It takes no memory. (own)
 pub fn explain(recording: &Recording, work: &mut Workspace, list: &mut EntryList)
-    ensures { IsExplained recording.now list.new }
+    ensures list { IsExplained recording.now list.new }
+    ensures readings { AllZip (IsReading recording.now) list.new work.new }
 {
     hits(recording, &mut work.hits);
     explain_by(
         &mut work.decoders,
         recording,
         work.hits.slice(),
-        &mut work.places,
+        &mut work.notes,
         list,
     );
 }

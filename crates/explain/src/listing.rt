@@ -1,7 +1,7 @@
 //! A list of entries, each cell once and in order.
 
-ghost use Rattle.std.specs.Prelude.{◌≡◌, ◌+◌, ◌<◌, ◌≤◌, ◌↔◌, [], ◌∷◌, IsTrue, length};
-ghost use Rattle.std.specs.List.{AllWithin, HoldsAt, list_any};
+ghost use Rattle.std.specs.Prelude.{◌≡◌, ◌+◌, ◌<◌, ◌≤◌, ◌↔◌, [], ◌∷◌, IsTrue, MatchOption, length};
+ghost use Rattle.std.specs.List.{AllWithin, HoldsAt, insert as insert_at, list_any};
 ghost use Rattle.lte_types.specs.Numerology.{cycle_length};
 ghost use Rattle.explain.specs.Entries.{IsBefore, Adds, epoch as epoch_of, is_same_cell as same_cell};
 
@@ -12,19 +12,22 @@ use lte_types::{CYCLE_LENGTH, Entry, FRAME_LENGTH};
 const CYCLE: u32 = CYCLE_LENGTH as u32;
 
 impl EntryList {
-    /// Adds an entry at its place, by start, identity and frame number, unless the list has one of
-    /// its cell. Where the list was that of some entries, it is that of these and this one. It takes
-    /// no memory.
-    pub fn add(&mut self, entry: Entry)
+    /// Adds an entry where it stands by start, identity and frame number, unless the list has one of its
+    /// cell, and tells its index. Where the list was that of some entries, it is that of these and this
+    /// one. It takes no memory.
+    pub fn add(&mut self, entry: Entry) -> Option<usize>
         requires room { length self.old < 23040 }
         ensures adds { Adds (entry ∷ []) self.old self.new }
+        ensures at { MatchOption result (self.new ≡ self.old)
+            (λ at. (at ≤ length self.old) × (self.new ≡ insert_at self.old at entry)) }
         ensures one { length self.new ≤ length self.old + 1 }
     {
         if has_cell(self.slice(), &entry) {
-            return;
+            return None;
         }
-        let at = place_of(self.slice(), &entry);
+        let at = index_of(self.slice(), &entry);
         self.insert(at, entry);
+        Some(at)
     }
 }
 
@@ -60,7 +63,7 @@ fn has_cell(list: &[Entry], entry: &Entry) -> bool
 }
 
 // The number of entries, from the first on, that stand before this one.
-fn place_of(list: &[Entry], entry: &Entry) -> usize
+fn index_of(list: &[Entry], entry: &Entry) -> usize
     ensures within { result ≤ length list.now }
     ensures before { AllWithin (λ other. IsBefore other entry.now) list.now 0 result }
     ensures after { result < length list.now → HoldsAt (λ other. ¬ IsBefore other entry.now) list.now result }

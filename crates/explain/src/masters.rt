@@ -1,29 +1,31 @@
 //! The master blocks of a cell by a way to read its frames.
 
-ghost use Rattle.std.specs.Prelude.{◌≡◌, ℕ, ◌+◌, ◌<◌, ◌≤◌, List, MatchOption, is_some, length};
+ghost use Rattle.std.specs.Prelude.{◌≡◌, ℕ, ◌+◌, ◌<◌, ◌≤◌, List, IfSome, MatchOption, is_some, length};
 ghost use Rattle.finite.specs.Tests.{any_below};
 ghost use Rattle.finite.specs.Sizes.{RowsWithin};
 ghost use Rattle.cs_num.specs.declared.Sample.{Sample};
 ghost use Rattle.pbch.specs.Master.{master_at};
 ghost use Rattle.explain.specs.Frame.{IsWhole};
 ghost use Rattle.explain.specs.Masters.{HaveMasters, AreFirstWith};
-ghost use Rattle.explain.specs.Received.{IsToldBy, AreReceived, NoneTell, AreFirstOf, taken_of};
+ghost use Rattle.explain.specs.Readings.{AreSums};
+ghost use Rattle.explain.specs.Received.{IsToldBy, AreReceived, NoneTell, AreFirstOf, sums_by, taken_of};
 ghost use Rattle.explain.specs.Window.{TellNone, HasNoMasters};
 
 use crate::FrameReader;
 use crate::frame::whole_frames;
 use lte_types::CellPlace;
-use pbch::Master;
+use pbch::{Master, Sums};
 use sample_file::Recording;
 use tailbite::Trellis;
 
 /// Frames of a cell that follow one another, by their count and the first of them, with the master block
-/// that they tell at each phase of the first.
+/// that they tell at each phase of the first, and the sums by which they do.
 #[derive(Clone, Copy)]
 pub struct Masters {
     pub frames: u8,
     pub frame: u8,
     pub at: [Option<Master>; 4],
+    pub sums: [Sums; 4],
 }
 
 // What was received in frames 0 to 7 of a cell, as far as they were read.
@@ -38,9 +40,11 @@ pub fn first_masters<F: FrameReader>(
     place: CellPlace,
     work: &mut Trellis,
 ) -> Option<Masters>
-    ensures { let Tells = IsToldBy (F.frame_values recording.now) F.takes in
+    ensures masters { let Tells = IsToldBy (F.frame_values recording.now) F.takes in
         MatchOption result (HasNoMasters Tells recording.now place)
         (λ found. AreFirstWith Tells recording.now place found.frames found.frame found.at) }
+    ensures sums { IfSome result (λ found.
+        AreSums (sums_by (F.frame_values recording.now) place) found.frames found.frame found.sums) }
 {
     let whole = whole_frames(recording, place);
     let mut received = [[0; 480]; 8];
@@ -72,6 +76,8 @@ fn first_alone<F: FrameReader>(
     ensures found { let Tells = IsToldBy (F.frame_values recording.now) F.takes in
         MatchOption result (NoneTell Tells place whole 1)
         (λ found. (found.frames ≡ 1) × AreFirstOf Tells place whole 1 found.frame found.at) }
+    ensures sums { IfSome result (λ found.
+        AreSums (sums_by (F.frame_values recording.now) place) found.frames found.frame found.sums) }
     ensures received { MatchOption result (AreReceived (F.frame_values recording.now place) whole frames.new)
         (λ found. Unit) }
     ensures sizes { RowsWithin 127 frames.new }
@@ -99,11 +105,15 @@ fn first_of<F: FrameReader>(
     requires few { count ≤ 4 }
     requires whole { whole ≤ 8 }
     requires sizes { RowsWithin 127 frames.now }
-    ensures { (recording : List Sample) →
+    ensures masters { (recording : List Sample) →
         AreReceived (F.frame_values recording place) whole frames.now →
         let Tells = IsToldBy (F.frame_values recording) F.takes in
         MatchOption result (NoneTell Tells place whole count)
         (λ found. (found.frames ≡ count) × AreFirstOf Tells place whole count found.frame found.at) }
+    ensures sums { (recording : List Sample) →
+        AreReceived (F.frame_values recording place) whole frames.now →
+        IfSome result (λ found.
+        AreSums (sums_by (F.frame_values recording) place) found.frames found.frame found.sums) }
 {
     for frame in 0..(whole + 1).saturating_sub(count) {
         match masters_of(reader, place, count, frame, frames, work) {
@@ -127,18 +137,20 @@ fn masters_of<F: FrameReader>(
     requires few { count ≤ 4 }
     requires known { frame + count ≤ 8 }
     requires sizes { RowsWithin 127 frames.now }
-    ensures { (recording : List Sample) →
+    ensures masters { (recording : List Sample) →
         AreReceived (F.frame_values recording place) (frame + count) frames.now →
         let Tells = IsToldBy (F.frame_values recording) F.takes in
         MatchOption result (TellNone Tells place count frame)
         (λ found. (found.frames ≡ count) × (found.frame ≡ frame)
         × HaveMasters Tells place count frame found.at) }
+    ensures sums { (recording : List Sample) →
+        AreReceived (F.frame_values recording place) (frame + count) frames.now →
+        IfSome result (λ found.
+        AreSums (sums_by (F.frame_values recording) place) found.frames found.frame found.sums) }
 {
     let first = frame as usize;
-    let at = taken(
-        reader,
-        &pbch::masters(place.id(), &frames[first..first + count as usize], work),
-    );
+    let told = pbch::masters(place.id(), &frames[first..first + count as usize], work);
+    let at = taken(reader, &told.at);
     if !has_master(&at) {
         return None;
     }
@@ -146,6 +158,7 @@ fn masters_of<F: FrameReader>(
         frames: count,
         frame,
         at,
+        sums: told.sums,
     })
 }
 

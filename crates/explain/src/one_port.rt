@@ -1,21 +1,23 @@
 //! The way to read the cells of a recording by one antenna port.
 
 ghost use Rattle.std.specs.Prelude.{true};
+ghost use Rattle.lte_types.specs.declared.carrier.Carrier.TheVariants.{OnePort as OnePortCarrier};
 ghost use Rattle.pss_search.specs.Hits.{IsInSpan};
 ghost use Rattle.pbch.specs.Values.{received_values};
 ghost use Rattle.explain.specs.Frame.{broadcast_slot as broadcast_slot_of};
-ghost use Rattle.explain.specs.Entries.{place_at};
 ghost use Rattle.explain.specs.Window.{IsMasterAt};
 ghost use Rattle.explain.specs.System.{FrameAnswers, IsSystemOf};
+ghost use Rattle.explain.specs.Grant.{IsFrameAttempt, IsGrantAt};
+ghost use Rattle.explain.specs.Entries.{place_at, sums_of};
 
 use crate::frame::{broadcast_slot, slot_of};
 use crate::masters::first_masters;
 use crate::system::system_of;
-use crate::{CellReader, FrameReader, Masters};
-use lte_types::{CellPlace, Hit, Mib, Sfn, Sib1, Sib1Reason};
+use crate::{CellReader, FrameReader, Informed, Masters};
+use lte_types::{Carrier, CellPlace, Hit, Mib, Sfn};
 use pbch::{Master, received};
 use sample_file::Recording;
-use system_block::{Decoders, read};
+use system_block::{Attempt, Decoders, attempt_in};
 
 // The way to read frames by one antenna port: each master block is taken, whatever ports it tells.
 pub(crate) struct OnePort;
@@ -25,9 +27,11 @@ impl FrameReader for OnePort {
 
     ghost takes = { λ ports. true };
 
-    ghost wanted = { 1 };
+    ghost carrier = { OnePortCarrier };
 
     ghost answers = { FrameAnswers };
+
+    ghost attempts = { IsFrameAttempt };
 
     fn received(&self, recording: &Recording, place: CellPlace, j: u8) -> [i16; 480] {
         received(&broadcast_slot(recording, place, j))
@@ -37,21 +41,21 @@ impl FrameReader for OnePort {
         true
     }
 
-    fn wanted_ports(&self) -> u8 {
-        1
+    fn carrier(&self) -> Carrier {
+        Carrier::OnePort
     }
 
-    fn answer(
+    fn attempt(
         &self,
         recording: &Recording,
         place: CellPlace,
         j: u8,
         mib: Mib,
         work: &mut Decoders,
-    ) -> Result<Sib1, Sib1Reason> {
+    ) -> Attempt {
         let first = slot_of(recording, place, j, 10);
         let second = slot_of(recording, place, j, 11);
-        read(&first, &second, mib, work)
+        attempt_in(&first, &second, mib, work)
     }
 
     fn answers_once(&self) {}
@@ -65,6 +69,10 @@ impl CellReader for Decoders {
     ghost tells = { IsMasterAt };
 
     ghost told = { IsSystemOf };
+
+    ghost sums = { sums_of };
+
+    ghost grants = { IsGrantAt };
 
     fn place_of(&self, recording: &Recording, hit: &Hit) -> CellPlace {
         crate::place_of(recording, hit)
@@ -80,7 +88,7 @@ impl CellReader for Decoders {
         place: CellPlace,
         sfn: Sfn,
         master: Master,
-    ) -> Result<Sib1, Sib1Reason> {
+    ) -> Informed {
         system_of(&OnePort, recording, place, sfn, master, self)
     }
 

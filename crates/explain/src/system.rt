@@ -1,19 +1,32 @@
 //! The system information of a cell by a way to read its frames.
 
-ghost use Rattle.std.specs.Prelude.{◌≡◌, ◌<◌, ◌+◌, ◌*◌, ◌%◌};
+ghost use Rattle.std.specs.Prelude.{◌≡◌, ◌<◌, ◌+◌, ◌*◌, ◌%◌, None, Err};
 ghost use Rattle.explain.specs.System.{even_frame as even_frame_of, IsReadFrom, IsSystemBy};
+ghost use Rattle.system_block.specs.Attempt.{granted_by};
+ghost use Rattle.explain.specs.Grant.{IsGrantBy};
 
 use crate::FrameReader;
 use crate::frame::is_whole;
-use lte_types::{Bandwidth, CellPlace, Mib, Sfn, Sib1, Sib1Reason};
+use dci::Grant;
+use lte_types::{Bandwidth, CellPlace, Cfi, Mib, Sfn, Sib1, Sib1Reason};
 use pbch::Master;
 use sample_file::Recording;
-use system_block::Decoders;
+use system_block::{Attempt, Decoders};
+
+/// What is told of the system information of a cell, and by which indicator and grant it was read.
+#[derive(Drop)]
+pub struct Informed {
+    /// The fields of SystemInformationBlockType1, or why there are none.
+    pub sib1: Result<Sib1, Sib1Reason>,
+    /// The control format indicator and the grant by which the fields were read; `None` where there are none.
+    pub granted: Option<(Cfi, Grant)>,
+}
 
 /// SystemInformationBlockType1 of a cell whose first frame has the number `sfn`: `NotOnePort` where the master block
-/// tells other antenna ports than are wanted, `Bandwidth` where it tells another bandwidth than 6 resource blocks;
-/// otherwise the first fields that one of the first eight whole frames of even number tells, or the reason of the
-/// first of these frames.
+/// tells other antenna ports than the reader's carrier has, `Bandwidth` where it tells another bandwidth than 6
+/// resource blocks; otherwise the first fields that one of the first eight whole frames of even number tells, or the
+/// reason of the first of these frames. With fields come the indicator and the grant by which that frame's were read. It takes six
+/// parameters, since a reader of frames lends its decoders for the whole list and keeps nothing itself.
 pub fn system_of<F: FrameReader>(
     reader: &F,
     recording: &Recording,
@@ -21,18 +34,31 @@ pub fn system_of<F: FrameReader>(
     sfn: Sfn,
     master: Master,
     work: &mut Decoders,
-) -> Result<Sib1, Sib1Reason>
-    ensures { IsSystemBy F.wanted (F.answers recording.now place master.mib) recording.now place.start sfn master.ports
-        master.mib result }
+) -> Informed
+    ensures system { IsSystemBy F.carrier (F.answers recording.now place master.mib) recording.now
+        place.start sfn master.ports master.mib result.sib1 }
+    ensures granted { IsGrantBy (F.attempts recording.now place master.mib) recording.now place.start sfn result.sib1
+        result.granted }
 {
-    if master.ports != reader.wanted_ports() {
-        return Err(Sib1Reason::NotOnePort(master.ports));
+    if master.ports != reader.carrier().ports() {
+        return not_read(Sib1Reason::NotOnePort(master.ports));
     }
     if master.mib.bandwidth != Bandwidth::N6 {
-        return Err(Sib1Reason::Bandwidth(master.mib.bandwidth));
+        return not_read(Sib1Reason::Bandwidth(master.mib.bandwidth));
     }
     reader.answers_once();
     read_frames(reader, recording, place, sfn, master.mib, work)
+}
+
+// No fields for this reason.
+fn not_read(reason: Sib1Reason) -> Informed
+    ensures reason { result.sib1 ≡ Err reason }
+    ensures none { result.granted ≡ None }
+{
+    Informed {
+        sib1: Err(reason),
+        granted: None,
+    }
 }
 
 // The first fields that a tried frame tells, or else the reason of the first.
@@ -43,8 +69,10 @@ fn read_frames<F: FrameReader>(
     sfn: Sfn,
     mib: Mib,
     work: &mut Decoders,
-) -> Result<Sib1, Sib1Reason>
-    ensures { IsReadFrom (F.answers recording.now place mib) recording.now place.start sfn result }
+) -> Informed
+    ensures read { IsReadFrom (F.answers recording.now place mib) recording.now place.start sfn result.sib1 }
+    ensures granted { IsGrantBy (F.attempts recording.now place mib) recording.now place.start sfn result.sib1
+        result.granted }
 {
     let first = even_frame(sfn, 0);
     // A recording has at least three frames, so that the first of even number lies within it.
@@ -52,25 +80,37 @@ fn read_frames<F: FrameReader>(
     let start = place.start();
     prove!(57_600 <= count && start < 19_200);
     reader.answers_once();
-    let reason = match reader.answer(recording, place, first, mib, work) {
-        Ok(fields) => return Ok(fields),
-        Err(reason) => reason,
-    };
+    let told = informed_by(reader.attempt(recording, place, first, mib, work));
+    if told.sib1.is_ok() {
+        return told;
+    }
     for i in 1..8 {
         let j = even_frame(sfn, i);
         if !is_whole(recording, place, j) {
-            return Err(reason);
+            return told;
         }
-        match reader.answer(recording, place, j, mib, work) {
-            Ok(fields) => return Ok(fields),
-            Err(_) => {}
+        let later = informed_by(reader.attempt(recording, place, j, mib, work));
+        if later.sib1.is_ok() {
+            return later;
         }
     }
-    Err(reason)
+    told
 }
 
-// Number i of the frames of even number, by its place after the first frame.
-pub(crate) fn even_frame(sfn: Sfn, i: u8) -> u8
+// What an attempt tells.
+fn informed_by(attempt: Attempt) -> Informed
+    ensures sib1 { result.sib1 ≡ attempt.answer }
+    ensures granted { result.granted ≡ granted_by attempt }
+{
+    let granted = attempt.granted();
+    Informed {
+        sib1: attempt.answer,
+        granted,
+    }
+}
+
+// Number i of the frames of even number, by its number from the first frame on.
+fn even_frame(sfn: Sfn, i: u8) -> u8
     requires { i < 8 }
     ensures value { result ≡ even_frame_of sfn i }
     ensures few { result < 16 }

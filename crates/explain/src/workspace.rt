@@ -1,28 +1,49 @@
 //! The working memory of a search for cells.
 
-use crate::places::Places;
+ghost use Rattle.std.specs.Prelude.{◌≡◌, List, [], IfOk};
+ghost use Rattle.explain.specs.declared.readings.Reading.{Reading as ReadingValue};
+
+use crate::notes::Notes;
+use crate::readings::Reading;
 use pss_search::HitList;
 use std::alloc::{AllocError, Global};
+use std::marker::Model;
 use system_block::Decoders;
 
-/// The working memory of a search for cells. What it holds between two searches means nothing.
+/// The working memory of a search for cells. Contracts see it as how the entries of the last list were read, in
+/// the order of the list; what else it holds between two searches means nothing.
 #[derive(Drop)]
 pub struct Workspace {
     pub(crate) hits: HitList,
-    pub(crate) places: Places,
+    pub(crate) notes: Notes,
     pub(crate) decoders: Decoders,
+}
+
+impl Model for Workspace {
+    ghost Value = { List ReadingValue };
+
+    ghost view = { λ w. w.notes.readings };
 }
 
 impl Workspace {
     /// Takes all the memory. Only memory can be wanting.
-    pub fn new(alloc: Global) -> Result<Workspace, AllocError> {
+    pub fn new(alloc: Global) -> Result<Workspace, AllocError>
+        ensures { IfOk result (λ work. work ≡ []) }
+    {
         let hits = HitList::new(alloc)?;
-        let places = Places::new(alloc)?;
+        let notes = Notes::new(alloc)?;
         let decoders = Decoders::new(alloc)?;
         Ok(Workspace {
             hits,
-            places,
+            notes,
             decoders,
         })
+    }
+
+    /// How the entries of the last list were read, in its order.
+    pub fn readings(&self) -> &[Reading]
+        ensures { result.now ≡ self.now }
+    {
+        self.notes.readings.slice()
     }
 }

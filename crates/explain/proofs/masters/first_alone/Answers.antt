@@ -14,7 +14,7 @@ returns-in-Some-clause-found g c =
     let frame = c.loop-frame.frame in
     let few = c.requires.few in
     let test = c.loop-frame-test.true in
-    let (counts, at, have) = c.in-Some.ensures recording
+    let (counts, at, have) = c.in-Some.ensures.masters recording
     (λ j below. set_more [] frame (g.F.FrameReader.frame_values recording place) c.loop-frame.frames c.received.result (let long = c.loop-frame.invariant.whole in omega (arith, long, few, test))
     c.received.ensures.values c.loop-frame.invariant.received j (omega (arith, below))) in (
       counts,
@@ -35,7 +35,7 @@ loop-frame-preserved g c =
     let received = set_more [] frame (g.F.FrameReader.frame_values recording place) c.loop-frame.frames c.received.result (let long = c.loop-frame.invariant.whole in omega (arith, long, few, test))
     c.received.ensures.values c.loop-frame.invariant.received in
     record {
-      none = below_more (λ i. TellNone (IsToldBy (g.F.FrameReader.frame_values recording) g.F.FrameReader.takes) place 1 i) frame c.loop-frame.invariant.none (c.in-None.ensures recording received);
+      none = below_more (λ i. TellNone (IsToldBy (g.F.FrameReader.frame_values recording) g.F.FrameReader.takes) place 1 i) frame c.loop-frame.invariant.none (c.in-None.ensures.masters recording received);
       received = received;
       sizes = All-set (AllWithin 127) c.loop-frame.frames frame c.received.result c.received.ensures.sizes c.loop-frame.invariant.sizes;
       whole = length-set c.loop-frame.frames frame c.received.result ∙ c.loop-frame.invariant.whole;
@@ -45,3 +45,13 @@ pub returns-clause-found : goal.returns-clause-found
 returns-clause-found g c j within =
     let test = c.loop-frame-test.false in
     c.loop-frame.invariant.none j (omega (arith, within, test))
+
+pub returns-in-Some-clause-sums : goal.returns-in-Some-clause-sums
+returns-in-Some-clause-sums g c =
+    let recording = c.args.recording.now in
+    let frame = c.loop-frame.frame in
+    let few = c.requires.few in
+    let test = c.loop-frame-test.true in
+    c.in-Some.ensures.sums recording
+    (λ j below. set_more [] frame (g.F.FrameReader.frame_values recording c.args.place) c.loop-frame.frames c.received.result (let long = c.loop-frame.invariant.whole in omega (arith, long, few, test))
+    c.received.ensures.values c.loop-frame.invariant.received j (omega (arith, below)))

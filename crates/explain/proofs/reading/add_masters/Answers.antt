@@ -7,23 +7,27 @@ use Rattle.explain.proofs.reading.add_masters.Goals as goal
 
 pub loop-phase-init : goal.loop-phase-init
 loop-phase-init g c =
-    let m = c.args.masters.now in
+    let m = c.args.found.now.masters in
     record {
-      adds = no_phases (g.R.CellReader.told c.args.recording.now) c.args.place m.frames m.frame m.at c.args.list.now (λ phase. Err NotDecoded);
+      adds = no_phases (g.R.CellReader.told c.args.recording.now) c.args.found.now.place m.frames m.frame m.at c.args.list.now (λ phase. Err NotDecoded);
       few = omega arith;
+      beside = c.requires.beside;
+      readings = λ hits first all. all;
     }
 
 pub loop-phase-preserved : goal.loop-phase-preserved
 loop-phase-preserved g c =
-    let m = c.args.masters.now in
+    let m = c.args.found.now.masters in
     record {
-      adds = one_more_phase (g.R.CellReader.told c.args.recording.now) c.args.place m.frames m.frame m.at c.loop-phase.phase c.args.list.now c.loop-phase.list c.add_phase.new.list
+      adds = one_more_phase (g.R.CellReader.told c.args.recording.now) c.args.found.now.place m.frames m.frame m.at c.loop-phase.phase c.args.list.now c.loop-phase.list c.add_phase.new.list
           c.loop-phase.invariant.adds c.add_phase.ensures.adds;
       few = omega arith;
+      beside = c.add_phase.ensures.beside;
+      readings = λ hits first all. c.add_phase.ensures.readings hits first (c.loop-phase.invariant.readings hits first all);
     }
 
 pub returns-clause-adds : goal.returns-clause-adds
 returns-clause-adds g c =
-    let m = c.args.masters.now in
+    let m = c.args.found.now.masters in
     let last : c.loop-phase.phase ≡ 5 - m.frames = omega arith in
-    subst (λ n. AddsPhases (g.R.CellReader.told c.args.recording.now) c.args.place m.frames m.frame m.at n c.args.list.now c.loop-phase.list) last c.loop-phase.invariant.adds
+    subst (λ n. AddsPhases (g.R.CellReader.told c.args.recording.now) c.args.found.now.place m.frames m.frame m.at n c.args.list.now c.loop-phase.list) last c.loop-phase.invariant.adds

@@ -1,12 +1,9 @@
 use Rattle.std.proofs.Common.{ℕ, ◌<◌}
-use Rattle.std.specs.Prelude.{Err, Ok}
+use Rattle.std.specs.Prelude.{Ok}
 use Rattle.lte_types.specs.declared.sib1.Sib1.{Sib1}
 use Rattle.explain.specs.System.{even_frame}
 use Rattle.explain.proofs.system.read_frames.Given as goal
 
--- none of the frames so far has fields, and the first has the reason
+-- none of the frames so far has fields
 abbrev pub invariant-loop-i : goal.invariant-loop-i
-invariant-loop-i g l = record {
-  none : (h : ℕ) (fields : Sib1) → h < l.i → g.F.FrameReader.answers l.recording l.place l.mib (even_frame l.sfn h) (Ok fields) → ⊥;
-  refused : g.F.FrameReader.answers l.recording l.place l.mib (even_frame l.sfn 0) (Err l.reason);
-}
+invariant-loop-i g l = (h : ℕ) (fields : Sib1) → h < l.i → g.F.FrameReader.answers l.recording l.place l.mib (even_frame l.sfn h) (Ok fields) → ⊥

@@ -15,9 +15,9 @@ pub returns-clause-adds : goal.returns-clause-adds
 returns-clause-adds c before listed =
     let none : list_any (λ (other : Entry). is_same_cell other c.args.entry) c.args.self.now ≡ false =
     ap (list_any (λ (other : Entry). is_same_cell other c.args.entry)) (sym c.slice.ensures) ∙ sym c.if-has_cell.ensures in
-    let at = c.place_of-at.result in
+    let at = c.index_of-at.result in
     let same = c.slice-2.ensures in
-    let within : at ≤ length c.args.self.now = subst (λ (l : List Entry). at ≤ length l) same c.place_of-at.ensures.within in
-    let front = subst (λ (l : List Entry). AllWithin (λ other. IsBefore other c.args.entry) l 0 at) same c.place_of-at.ensures.before in
-    let back = subst (λ (l : List Entry). at < length l → HoldsAt (λ other. ¬ IsBefore other c.args.entry) l at) same c.place_of-at.ensures.after in
+    let within : at ≤ length c.args.self.now = subst (λ (l : List Entry). at ≤ length l) same c.index_of-at.ensures.within in
+    let front = subst (λ (l : List Entry). AllWithin (λ other. IsBefore other c.args.entry) l 0 at) same c.index_of-at.ensures.before in
+    let back = subst (λ (l : List Entry). at < length l → HoldsAt (λ other. ¬ IsBefore other c.args.entry) l at) same c.index_of-at.ensures.after in
     rw c.insert.ensures (told_now before c.args.self.now c.args.entry at listed none within front back)

@@ -2,7 +2,7 @@ use Rattle.std.proofs.Common.{ap, sym, ◌∙◌}
 use Rattle.soft_bits.specs.Soft.{SeenSlot}
 use Rattle.explain.specs.Frame.{frame_at}
 use Rattle.explain.proofs.FirstFrame.{slot_number, slot_identity}
-use Rattle.explain.proofs.grant.attempt_at.Goals as goal
+use Rattle.explain.proofs.one_port.OnePortFrameReader.attempt.Goals as goal
 
 pub attempt_in-requires-clause-first : goal.attempt_in-requires-clause-first
 attempt_in-requires-clause-first c = ap (λ (s : SeenSlot). s.number) c.slot_of-first.ensures ∙ slot_number c.args.recording.now (frame_at c.args.place.start c.args.j) 10 c.args.place.id

@@ -1,7 +1,7 @@
 use Rattle.std.proofs.Common.{refl}
 use Rattle.std.proofs.lemmas.List.Elements.{AllWithin-none, AllWithin-more, at_read}
 use Rattle.explain.specs.Entries.{IsBefore}
-use Rattle.explain.proofs.listing.place_of.Goals as goal
+use Rattle.explain.proofs.listing.index_of.Goals as goal
 
 pub loop-at-init : goal.loop-at-init
 loop-at-init c = AllWithin-none (λ other. IsBefore other c.args.entry.now) c.args.list.now 0

@@ -1,0 +1,94 @@
+-- How the entries of a list were read, in a list beside it.
+use Rattle.std.proofs.Common.{◌≡◌, ◌≢◌, inl, inr, ℕ, ◌+◌, ◌<◌, Bool, true, false, ◌||◌, List, [], ◌∷◌, ◌++◌, Option, Some, arith, refl, ap, ap₂, sym, subst, ◌∙◌}
+use Rattle.std.specs.Prelude.{ℤ, slice_get}
+use Rattle.std.specs.List.{AllZip, insert}
+use Rattle.std.proofs.lemmas.Bool.{cases_lt, false≢true}
+use Rattle.std.proofs.lemmas.Bool.Decides.{nat_tests}
+use Rattle.std.proofs.lemmas.Option.{get_or_from_slice_get}
+use Rattle.std.proofs.lemmas.List.Folds.{list_any-append}
+use Rattle.finite.proofs.Zips.{all_zip_insert}
+use Rattle.lte_types.specs.declared.hit.Hit.{Hit}
+use Rattle.lte_types.specs.declared.mib.Mib.{Mib}
+use Rattle.lte_types.specs.declared.entry.Entry.{Entry}
+use Rattle.lte_types.specs.CellPlace.{Place}
+use Rattle.lte_types.specs.Frames.{Frames}
+use Rattle.dci.specs.declared.grant.Grant.{Grant}
+use Rattle.pbch.specs.declared.master.Master.{Master}
+use Rattle.explain.specs.declared.readings.Reading.{Reading}
+use Rattle.explain.specs.Told.{Granting}
+use Rattle.explain.specs.Entries.{place_of, frames_of}
+use Rattle.explain.specs.Masters.{entry_of}
+use Rattle.explain.specs.Places.{is_same_place, is_met}
+use Rattle.explain.specs.Readings.{IsFirstTelling, IsReadingBy, AddsBeside, KeepsReadings}
+
+-- an entry that is added with how it was read
+pub keeps : (Is : Entry → Reading → Type 0) (entry : Entry) (reading : Reading) (old new : List Entry) (before after : List Reading) →
+    AddsBeside entry reading old new before after → Is entry reading → KeepsReadings Is old new before after
+keeps Is entry reading old new before after (inl kept) is all =
+    subst (λ xs. AllZip Is xs after) (sym kept.entries) (subst (λ ys. AllZip Is old ys) (sym kept.readings) all)
+keeps Is entry reading old new before after (inr put) is all =
+    subst (λ xs. AllZip Is xs after) (sym put.entries) (subst (λ ys. AllZip Is (insert old put.at entry) ys) (sym put.readings) (all_zip_insert Is put.at old before entry reading put.within is all))
+
+-- that of a master block, with the sums and the grant that were told with it
+module _ (summed : Place → Frames → List (List ℤ)) (IsGrant : Granting) (place_by : Hit → Place) (hits : List Hit) where
+  pub reads_so : (place : Place) (frames : Frames) (master : Master) (entry : Entry) (reading : Reading) → entry ≡ entry_of place frames master entry.sib1 →
+      IsFirstTelling place_by hits place reading.hit → reading.sums ≡ summed place frames → IsGrant place entry.sfn master.mib entry.sib1 reading.granted →
+      IsReadingBy summed IsGrant place_by hits entry reading
+  reads_so place frames master entry reading whole first told granted = record {
+    hit = subst (λ p. IsFirstTelling place_by hits p reading.hit) (sym here) first;
+    sums = told ∙ sym (ap₂ summed here (ap frames_of whole));
+    granted = subst (λ (p : Place). IsGrant p entry.sfn entry.mib entry.sib1 reading.granted) (sym here)
+        (subst (λ (mib : Mib). IsGrant place entry.sfn mib entry.sib1 reading.granted) (sym (ap (λ (e : Entry). e.mib) whole)) granted);
+  }
+    where
+      here : place_of entry ≡ place
+      here = ap place_of whole
+
+same_itself : (place : Place) → is_same_place place place ≡ true
+same_itself place = grind (arith, nat_tests)
+
+first_true : (a b : Bool) → a ≡ true → (a || b) ≡ true
+first_true a b e = rw e refl
+
+second_true : (a b c : Bool) → b ≡ true → (a || (b || c)) ≡ true
+second_true true b c e = refl
+second_true false b c e = rw e refl
+
+-- the places of the first hits, so many, were met
+abbrev pub AllMet : (Hit → Place) → List Hit → ℕ → List Place → Type 0
+AllMet place_by hits k places = (h : ℕ) (other : Hit) → h < k → slice_get hits h ≡ Some other → is_met places (place_by other) ≡ true
+
+module _ (place_by : Hit → Place) (hits : List Hit) (k : ℕ) (hit : Hit) (is : slice_get hits k ≡ Some hit) (places : List Place) (met : AllMet place_by hits k places) where
+  -- where the next one's place was not met, it is the first that tells it
+  pub first_telling : is_met places (place_by hit) ≡ false → IsFirstTelling place_by hits (place_by hit) hit
+  first_telling new = record {
+    at = k;
+    is = is;
+    tells = refl;
+    first = λ h other less at same. false≢true (sym new ∙ subst (λ (p : Place). is_met places p ≡ true) same (met h other less at));
+  }
+
+  -- and then all up to it were met
+  pub all_more : (after : List Place) → (is_met places (place_by hit) ≡ true → after ≡ places) →
+      (is_met places (place_by hit) ≡ false → after ≡ places ++ place_by hit ∷ []) → AllMet place_by hits (k + 1) after
+  all_more after same adds h other less at = settle (is_met places (place_by hit)) refl
+    where
+      last : h ≡ k → other ≡ hit
+      last e = sym (get_or_from_slice_get hits k other other (subst (λ n. slice_get hits n ≡ Some other) e at)) ∙ get_or_from_slice_get hits k hit other is
+
+      before : is_met places (place_by hit) ≡ true → is_met places (place_by other) ≡ true
+      before now = elim (cases_lt h k) [
+        | inl less ↦ met h other less at
+        | inr above ↦ subst (λ (o : Hit). is_met places (place_by o) ≡ true) (sym (last (omega (arith, less, above)))) now
+      ]
+
+      pushed : is_met (places ++ place_by hit ∷ []) (place_by other) ≡ true
+      pushed = elim (cases_lt h k) [
+        | inl less ↦ list_any-append (λ p. is_same_place p (place_by other)) places (place_by hit ∷ []) ∙ first_true _ _ (met h other less at)
+        | inr above ↦ subst (λ (o : Hit). is_met (places ++ place_by hit ∷ []) (place_by o) ≡ true) (sym (last (omega (arith, less, above))))
+            (list_any-append (λ p. is_same_place p (place_by hit)) places (place_by hit ∷ []) ∙ second_true _ _ _ (same_itself (place_by hit)))
+      ]
+
+      settle : (b : Bool) → is_met places (place_by hit) ≡ b → is_met after (place_by other) ≡ true
+      settle true e = subst (λ ps. is_met ps (place_by other) ≡ true) (sym (same e)) (before e)
+      settle false e = subst (λ ps. is_met ps (place_by other) ≡ true) (sym (adds e)) pushed

@@ -1,0 +1,62 @@
+-- How the entries of a list were read. (own)
+use Rattle.std.specs.Prelude.{◌≡◌, ◌≢◌, ◌⊎◌, ℕ, ◌+◌, ◌<◌, ◌≤◌, List, ℤ, Some, length, slice_get}
+use Rattle.std.specs.List.{AllZip, insert}
+use Rattle.cs_num.specs.declared.Sample.{Sample}
+use Rattle.lte_types.specs.declared.hit.Hit.{Hit}
+use Rattle.lte_types.specs.declared.entry.Entry.{Entry}
+use Rattle.lte_types.specs.CellPlace.{Place}
+use Rattle.lte_types.specs.Frames.{Frames, frames_from}
+use Rattle.pss_search.specs.Hits.{hits_of}
+use Rattle.pbch.specs.Master.{sums_at}
+use Rattle.explain.specs.declared.readings.Reading.{Reading}
+use Rattle.explain.specs.Told.{Granting}
+use Rattle.explain.specs.Entries.{place_at, place_of, frames_of, sums_of}
+use Rattle.explain.specs.Grant.{IsGrantAt}
+
+-- of these hits, this is the first that tells a place. `place` says which place a hit tells
+pub record IsFirstTelling (place : Hit → Place) (hits : List Hit) (told : Place) (hit : Hit) : Type 0 where
+  pub at : ℕ
+  pub is : slice_get hits at ≡ Some hit
+  pub tells : place hit ≡ told
+  pub first : (h : ℕ) (other : Hit) → h < at → slice_get hits h ≡ Some other → place other ≢ told
+
+-- an entry of these hits was read so. `summed` says by which sums frames tell a master block, and `IsGrant` by which
+-- indicator and grant system information was read
+pub record IsReadingBy (summed : Place → Frames → List (List ℤ)) (IsGrant : Granting) (place : Hit → Place)
+    (hits : List Hit) (entry : Entry) (reading : Reading) : Type 0 where
+  pub hit : IsFirstTelling place hits (place_of entry) reading.hit
+  pub sums : reading.sums ≡ summed (place_of entry) (frames_of entry)
+  pub granted : IsGrant (place_of entry) entry.sfn entry.mib entry.sib1 reading.granted
+
+-- these are the sums that so many frames of a cell from frame j on tell by, at each phase of the first
+abbrev pub AreSums : (Frames → List (List ℤ)) → ℕ → ℕ → List (List (List ℤ)) → Type 0
+AreSums sums count j all = (phase : ℕ) → phase + count ≤ 4 → sums_at all phase ≡ sums (frames_from count j phase)
+
+-- ---- by one antenna port
+
+-- an entry of a recording was read so
+abbrev pub IsReading : List Sample → Entry → Reading → Type 0
+IsReading recording = IsReadingBy (sums_of recording) (IsGrantAt recording) (place_at recording) (hits_of recording)
+
+-- ---- the code's way
+
+-- where the list gets an entry, a list beside it gets at the same index how the entry was read
+pub record AreInserted (entry : Entry) (reading : Reading) (old new : List Entry) (before after : List Reading) :
+    Type 0 where
+  pub at : ℕ
+  pub within : at ≤ length old
+  pub entries : new ≡ insert old at entry
+  pub readings : after ≡ insert before at reading
+
+-- both lists stay
+pub record AreKept (old new : List Entry) (before after : List Reading) : Type 0 where
+  pub entries : new ≡ old
+  pub readings : after ≡ before
+
+-- one or the other
+abbrev pub AddsBeside : Entry → Reading → List Entry → List Entry → List Reading → List Reading → Type 0
+AddsBeside entry reading old new before after = AreKept old new before after ⊎ AreInserted entry reading old new before after
+
+-- where all entries of the list were read as the list beside it says, they still are
+abbrev pub KeepsReadings : (Entry → Reading → Type 0) → List Entry → List Entry → List Reading → List Reading → Type 0
+KeepsReadings Is old new before after = AllZip Is old before → AllZip Is new after

@@ -1,0 +1,66 @@
+//! Lists of readings.
+
+ghost use Rattle.std.specs.Prelude.{◌≡◌, ◌≤◌, ◌<◌, List, [], length, IfOk};
+ghost use Rattle.std.specs.List.{insert as insert_at};
+ghost use Rattle.std.specs.Vec.{vec_capacity};
+ghost use Rattle.explain.specs.declared.readings.Reading.{Reading as ReadingValue};
+
+use crate::Reading;
+use dci::Grant;
+use lte_types::{Cfi, Hit};
+use pbch::Sums;
+use std::alloc::{AllocError, Global};
+use std::marker::Model;
+
+/// How the entries of a list were read, in the order of the list, with room for 23,040. Contracts see it as the list
+/// of its items.
+#[derive(Drop)]
+pub struct Readings {
+    readings: Vec<Reading>,
+}
+
+impl Model for Readings {
+    ghost Value = { List ReadingValue };
+
+    ghost view = { λ r. r.readings.items };
+
+    ghost invariant = { λ r. 23040 ≤ vec_capacity r.readings };
+}
+
+impl Readings {
+    /// The empty list, with its memory taken. Only memory can be wanting.
+    pub fn new(alloc: Global) -> Result<Self, AllocError>
+        ensures { IfOk result (λ r. r ≡ []) }
+    {
+        Ok(Readings {
+            readings: Vec::with_capacity(alloc, 23_040)?,
+        })
+    }
+
+    /// The items in order.
+    pub fn slice(&self) -> &[Reading]
+        ensures { result.now ≡ self.now }
+    {
+        &self.readings
+    }
+
+    /// Leaves the empty list.
+    pub fn clear(&mut self)
+        ensures { self.new ≡ [] }
+    {
+        self.readings.clear();
+    }
+
+    /// Puts how an entry was read at index `at`; those from there on move up by one. It takes no memory.
+    pub fn insert(&mut self, at: usize, hit: Hit, sums: Sums, granted: Option<(Cfi, Grant)>)
+        requires at { at ≤ length self.old }
+        requires room { length self.old < 23040 }
+        ensures { self.new ≡ insert_at self.old at (record { hit = hit; sums = sums; granted = granted }) }
+    {
+        let item = Reading { hit, sums, granted };
+        match self.readings.insert(at, item) {
+            Ok(()) => {}
+            Err(_) => unreachable!(),
+        }
+    }
+}

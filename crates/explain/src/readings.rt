@@ -1,0 +1,16 @@
+//! How an entry of a list was read.
+
+use dci::Grant;
+use lte_types::{Cfi, Hit};
+use pbch::Sums;
+
+/// How an entry of a list was read. (own)
+#[derive(Clone, Copy)]
+pub struct Reading {
+    /// The first hit that tells the place of its cell.
+    pub hit: Hit,
+    /// The sums that tell its master block.
+    pub sums: Sums,
+    /// The control format indicator and the grant by which its system information was read; `None` where it has none.
+    pub granted: Option<(Cfi, Grant)>,
+}
