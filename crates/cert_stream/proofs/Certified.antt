@@ -19,7 +19,7 @@ use Rattle.tailbite.specs.LeastWord.{IsLeastWord}
 use Rattle.pbch.specs.Values.{coded_values}
 use Rattle.pbch.specs.Master.{Tells, TellsMaster, Carries}
 use Rattle.tailbite.proofs.Only.{one_word}
-use Rattle.pbch.proofs.Sums.{length-coded_values, length-coded_row, coded_values-small}
+use Rattle.pbch.proofs.FrameSums.{length-coded_values, length-coded_row, coded_values-small}
 use Rattle.tail_cert.specs.Certificate.{Held, IsWhole, IsAccepted, IsTriple, Counted, tables_there}
 use Rattle.tail_cert.specs.Form.{bytes_of, head_count, most_count, table_count}
 use Rattle.tail_cert.specs.Forward.{IsFilled}

@@ -1,14 +1,16 @@
 //! A certificate for each master block of the list of a recording.
 
 ghost use Rattle.std.specs.Prelude.{◌≡◌, ◌≤◌, OnOk, OnErr, length, take, vec_len};
+ghost use Rattle.std.specs.List.{AllZip};
 ghost use Rattle.cs_outside.specs.Counts.{Rose};
 ghost use Rattle.explain.specs.Entries.{IsExplained, IsInList};
+ghost use Rattle.explain.specs.Readings.{IsReading};
 ghost use Rattle.tail_cert.specs.Certificate.{IsWhole};
 ghost use Rattle.tail_cert.specs.Form.{bytes_of, most_count};
 ghost use Rattle.cert_stream.specs.Certifying.{IsCertificateOf, HasCertified, HasCertifiedFront, HasCertifiedAll, HasCertifiedSome};
 
 use cs_outside::{Failed, Sink, write_whole};
-use explain::values_of;
+use explain::Reading;
 use lte_types::Entry;
 use sample_file::Recording;
 use std::alloc::{AllocError, Global};
@@ -40,23 +42,26 @@ impl CertificateWork {
 }
 
 /// Writes a certificate for each entry of a recording's list, in order: the values of the entry's
-/// frames, their least word, which tells the entry's master block, and its cost. The certificates are
-/// accepted. `Failed` means that the sink counted a fault, after a front of them was written; where
-/// the sink tells its room, that was too little for all. It takes no memory. (own)
+/// frames, their least word, which tells the entry's master block, and its cost. `readings` are how
+/// the entries were read, in the order of the list. The certificates are accepted. `Failed` means
+/// that the sink counted a fault, after a front of them was written; where the sink tells its room,
+/// that was too little for all. It takes no memory. (own)
 pub fn certify<K: Sink>(
     recording: &Recording,
     entries: &[Entry],
+    readings: &[Reading],
     work: &mut CertificateWork,
     sink: &mut K,
 ) -> Result<(), Failed>
-    requires { IsExplained recording.now entries.now }
+    requires list { IsExplained recording.now entries.now }
+    requires readings { AllZip (IsReading recording.now) entries.now readings.now }
     ensures ok { OnOk result (HasCertifiedAll recording.now entries.now (K.told sink.old) (K.told sink.new)) }
     ensures err { OnErr result (HasCertifiedSome recording.now entries.now (K.told sink.old) (K.told sink.new)) }
     ensures fault { OnErr result (Rose (K.told sink.old).faults (K.told sink.new).faults) }
     ensures never_falls { (K.told sink.old).faults ≤ (K.told sink.new).faults }
 {
-    for entry in entries {
-        certify_one(recording, entry, work, sink)?;
+    for (i, entry) in entries.iter().enumerate() {
+        certify_one(recording, entry, &readings[i], work, sink)?;
     }
     Ok(())
 }
@@ -65,26 +70,34 @@ pub fn certify<K: Sink>(
 fn certify_one<K: Sink>(
     recording: &Recording,
     entry: &Entry,
+    reading: &Reading,
     work: &mut CertificateWork,
     sink: &mut K,
 ) -> Result<(), Failed>
-    requires { IsInList recording.now entry.now }
+    requires listed { IsInList recording.now entry.now }
+    requires reading { IsReading recording.now entry.now reading.now }
     ensures ok { OnOk result (HasCertified recording.now entry.now (K.told sink.old) (K.told sink.new)) }
     ensures err { OnErr result (HasCertifiedFront recording.now entry.now (K.told sink.old) (K.told sink.new)) }
     ensures fault { OnErr result (Rose (K.told sink.old).faults (K.told sink.new).faults) }
     ensures never_falls { (K.told sink.old).faults ≤ (K.told sink.new).faults }
 {
-    let len = make(recording, entry, work);
+    let len = make(recording, entry, reading, work);
     write_whole(sink, &work.buffer[..len])
 }
 
 // Makes the certificate of an entry, and its bytes at the front of the buffer, and gives their number.
-fn make(recording: &Recording, entry: &Entry, work: &mut CertificateWork) -> usize
-    requires { IsInList recording.now entry.now }
+fn make(
+    recording: &Recording,
+    entry: &Entry,
+    reading: &Reading,
+    work: &mut CertificateWork,
+) -> usize
+    requires listed { IsInList recording.now entry.now }
+    requires reading { IsReading recording.now entry.now reading.now }
     ensures fits { result ≤ most_count }
     ensures bytes { IsCertificateOf recording.now entry.now (take result work.new.buffer.items) }
 {
-    let values = values_of(recording, entry);
+    let values = reading.sums.rows();
     fill(&mut work.certificate, &values, &mut work.trellis);
     put(&work.certificate, &mut work.buffer)
 }

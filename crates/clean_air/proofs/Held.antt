@@ -100,7 +100,7 @@ module _ (prefix : Prefix) (is_prefix : IsPrefix prefix) (Tells : Telling) (IsSy
     sent_number = let e = heard.upper in let fits = heard.known in omega (arith, e, fits)
 
     -- no frames are looked at before the first alone
-    none_first : (few i : ℕ) → IsInWindow recording (start_after offset) few i → ComeBefore few i 1 0 → ⊥
+    none_first : (few i : ℕ) → IsInWindow recording (start_after offset) few i → ComeBefore (few, i) (1, 0) → ⊥
     none_first few i window (inl fewer) = let some = window.some in omega (arith, some, fewer)
     none_first few i window (inr (same, below)) = omega (arith, below)
 
@@ -155,7 +155,7 @@ module _ (prefix : Prefix) (is_prefix : IsPrefix prefix) (Tells : Telling) (IsSy
     there other is id start = subst (λ p. Tells p (frames_of other) (master_of other)) (at_place other id start) is.is_of.master
 
     -- it does not come before them, since the first frame alone tells a master block
-    not_after : (other : Entry) → IsOfSome other → other.id ≡ identity → other.start ≡ start_after offset → ComeBefore 1 0 other.frames other.frame → ⊥
+    not_after : (other : Entry) → IsOfSome other → other.id ≡ identity → other.start ≡ start_after offset → ComeBefore (1, 0) (other.frames, other.frame) → ⊥
     not_after other is id start before =
         let long = heard.long in
         let first : start_after offset < 19200 = omega arith in

@@ -6,7 +6,7 @@ use Rattle.std.proofs.lemmas.List.Elements.{All-from_get_or}
 use Rattle.finite.specs.Sums.{total_below}
 use Rattle.finite.specs.Tables.{sum_at}
 use Rattle.finite.proofs.Sums.{total_some}
-use Rattle.conv_code.specs.Code.{coded, taps_0}
+use Rattle.conv_code.specs.Code.{tapped_bit, taps_0}
 use Rattle.conv_code.specs.Cost.{word_cost}
 use Rattle.conv_code.proofs.Sums.{length-summed}
 use Rattle.cs_bits.proofs.Signs.{speaks_with_size, supports-less}
@@ -19,7 +19,7 @@ use Rattle.grid_map.proofs.Points.{length-pbch_places, places_inside}
 use Rattle.soft_bits.specs.Places.{soft_values_of, descrambled}
 use Rattle.pbch.specs.Values.{received_values, summed_values, coded_values}
 use Rattle.pbch.specs.Master.{total}
-use Rattle.pbch.proofs.Sums.{length-received_values}
+use Rattle.pbch.proofs.FrameSums.{length-received_values}
 use Rattle.cell_tx.specs.Block.{scrambled_bit}
 use Rattle.clean_air.specs.Carried.{SpeakOfWord, sums_of, AreHeard}
 use Rattle.clean_air.specs.Broadcast.{TellsFreely, SpokenWordIsTold, SentWordIsTold, ReceivedSlotTells}
@@ -32,7 +32,7 @@ heard : (values : List (List ℤ)) (word : List Bool) → length values ≡ 40 �
 unfolding total
 heard values word size speaks =
     total_some 40 0 (λ k. total_below 3 (λ t. nat_abs (sum_at values k t))) (omega arith)
-    (total_some 3 0 (λ t. nat_abs (sum_at values 0 t)) (omega arith) (speaks_with_size (sum_at values 0 0) (coded taps_0 word 0) (speaks.place 0 (omega (arith, size))).first))
+    (total_some 3 0 (λ t. nat_abs (sum_at values 0 t)) (omega arith) (speaks_with_size (sum_at values 0 0) (tapped_bit taps_0 word 0) (speaks.place 0 (omega (arith, size))).first))
 
 -- values that all speak for a word of 40 bits tell it
 pub spoken_word_is_told : SpokenWordIsTold

@@ -15,7 +15,7 @@ use Rattle.system_block.specs.Subframe.{Subframe, one_port}
 use Rattle.system_block.specs.Attempt.{IsAttempt}
 use Rattle.explain.specs.Frame.{frame_at, seen_slot}
 use Rattle.explain.specs.Entries.{place_of, IsInList}
-use Rattle.explain.specs.Grant.{IsAttemptAt, IsReadBy, IsGrantOf}
+use Rattle.explain.specs.Grant.{IsFrameAttempt, IsReadBy, IsGrantOf}
 use Rattle.explain.specs.System.{even_frame}
 use Rattle.explain.proofs.Granted.{one_grant_of}
 use Rattle.explain.proofs.Information.{first_tried, even_number, system_is_valid}
@@ -123,7 +123,7 @@ module _ (recording : List Sample) (entry : Entry) (plan : CellPlan) (grid : Ele
   granted = sent_grant plan ((sent_sfn + j) % 1024)
 
   -- it is read with the plan's indicator and grant, by the places of the cell
-  attempt_read : IsAttemptAt recording entry (even_frame entry.sfn 0) (attempt_with plan.cfi granted plan.sib1)
+  attempt_read : IsFrameAttempt recording (place_of entry) entry.mib (even_frame entry.sfn 0) (attempt_with plan.cfi granted plan.sib1)
   attempt_read =
       let whole = (first_tried recording (start_of offset) sent_sfn long early).whole in
       let even = even_number sent_sfn 0 in
@@ -132,14 +132,14 @@ module _ (recording : List Sample) (entry : Entry) (plan : CellPlan) (grid : Ele
       let is = subst (λ (a : Attempt). IsAttempt (values_at plan.identity (start_of offset) j plan.duration plan.resource) a) (same_attempt reads.attempt plan.cfi granted plan.sib1 has.cfi has.granted reads.answers) reads.is in
       rw (id, start, number, is_sent.block.duration, is_sent.block.resource) is
 
-  read_by : IsReadBy recording entry plan.cfi granted
+  read_by : IsReadBy (IsFrameAttempt recording (place_of entry) entry.mib) recording entry.start entry.sfn entry.sib1 (plan.cfi, granted)
   read_by = record {
     i = 0;
     tried = let t = first_tried recording (start_of offset) sent_sfn long early in rw (start, number) t;
     fields = plan.sib1;
     attempt = attempt_read;
     first = λ h attempt other before at same. absurd (omega (arith, before));
-    listed = is_sent.sib1;
+    answers = is_sent.sib1;
   }
 
   told : plan ≡ plan_by entry plan.cfi granted plan.sib1

@@ -12,7 +12,7 @@ use Rattle.soft_bits.specs.Soft.{SeenSlot}
 use Rattle.cs_bits.specs.Checks.{message_of}
 use Rattle.turbo_code.specs.declared.rows.Row.{Row}
 use Rattle.turbo_code.specs.Encoder.{coded}
-use Rattle.turbo_code.specs.Reading.{place_of, bit_of}
+use Rattle.turbo_code.specs.Reading.{item_of, bit_of}
 use Rattle.grid_map.specs.Control.{pcfich_places}
 use Rattle.system_block.specs.Subframe.{one_port}
 use Rattle.system_block.specs.Block.{BlockSays}
@@ -134,8 +134,8 @@ module _ (recording : List Sample) (plan : CellPlan) (grid : Elements) (sfn offs
     unfolding shared_coded
     carries_matched row same k i inside =
         carries_block i inside
-        ∙ ap (λ (n : ℕ). point_of (shared_scrambled (slot 10) (λ m. bit_of (coded (row_with (checked_size plan)) (shared_word plan)) (place_of n (version_of number) m))) i) (sym k)
-        ∙ ap (λ (r : Row). point_of (shared_scrambled (slot 10) (λ m. bit_of (coded r (shared_word plan)) (place_of row.k (version_of number) m))) i) (sym same)
+        ∙ ap (λ (n : ℕ). point_of (shared_scrambled (slot 10) (λ m. bit_of (coded (row_with (checked_size plan)) (shared_word plan)) (item_of n (version_of number) m))) i) (sym k)
+        ∙ ap (λ (r : Row). point_of (shared_scrambled (slot 10) (λ m. bit_of (coded r (shared_word plan)) (item_of row.k (version_of number) m))) i) (sym same)
 
     abbrev values : List ℤ
     values = shared_values (slot 10) (slot 11) plan.cfi plan.start plan.blocks

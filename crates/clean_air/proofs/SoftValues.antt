@@ -1,8 +1,8 @@
 -- The soft values of a clean slot: a component of an equalised place outweighs the energy of the pilots.
-use Rattle.std.proofs.Common.{◌≡◌, ℕ, zero, suc, ◌+◌, ◌*◌, ◌<◌, ◌≤◌, arith, ap, ap₂, sym, ◌∙◌, subst, Bool, true, false, List, ℤ, pos, ◌-ℤ◌, ◌*ℤ◌}
+use Rattle.std.proofs.Common.{◌≡◌, ℕ, ◌+◌, ◌*◌, ◌<◌, ◌≤◌, arith, ap, ap₂, sym, ◌∙◌, subst, Bool, true, false, List, ℤ, pos, ◌-ℤ◌, ◌*ℤ◌}
 use Rattle.std.specs.Prelude.{if◌then◌else◌, nat_abs}
 use Rattle.finite.specs.Sums.{total_below}
-use Rattle.finite.proofs.Sums.{total_below-within, total_some}
+use Rattle.finite.proofs.Sums.{total_below-within, total_below-least, total_some}
 use Rattle.finite.proofs.Lists.{values_below_at}
 use Rattle.finite.proofs.Ring.{same}
 use Rattle.cs_num.specs.declared.Cpx.{Cpx}
@@ -27,14 +27,6 @@ use Rattle.clean_air.proofs.Estimates.{sent-size, channel-near}
 use Rattle.budget.proofs.Seen.{amplitude_is_seen_in_recording}
 
 -- ---- the energy of the pilots
-
--- terms that are at least so great
-total_below-least : (n bound : ℕ) (f : ℕ → ℕ) → ((k : ℕ) → k < n → bound ≤ f k) → n * bound ≤ total_below n f
-unfolding total_below
-total_below-least zero bound f h = omega arith
-total_below-least (suc n) bound f h =
-    let before = total_below-least n bound f (λ k l. h k (omega arith)) in
-    omega (arith, before, h n (omega arith))
 
 -- the square of a pilot is near 4096 * 16200 times the gain's
 pub record IsPilotEnergy (n e : ℕ) : Type 0 where

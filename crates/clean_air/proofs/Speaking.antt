@@ -8,7 +8,7 @@ use Rattle.cs_num.specs.declared.Cpx.{Cpx}
 use Rattle.cs_num.specs.declared.Sample.{Sample}
 use Rattle.gold.specs.Gold.{gold_bit}
 use Rattle.conv_code.specs.Code.{coded_word}
-use Rattle.conv_code.specs.Reading.{bit_at_place, place_of}
+use Rattle.conv_code.specs.Reading.{bit_of_item, item_of}
 use Rattle.conv_code.proofs.Sums.{length-summed}
 use Rattle.cs_bits.specs.Signs.{Supports}
 use Rattle.tailbite.specs.Clean.{Speaks}
@@ -36,18 +36,18 @@ begins_again m first i h = ap (λ n. (n + i) % m) whole ∙ mul-add-mod_self_rig
     whole : first ≡ first / m * m
     whole = sym (mod-add-div' first m) ∙ ap (λ r. r + first / m * m) h ∙ nothing_more (first / m * m)
 
-same_place : (size first i : ℕ) → first % (3 * size) ≡ 0 → place_of size (first + i) ≡ place_of size i
-unfolding place_of
-same_place size first i h = let e : (first + i) % (3 * size) ≡ i % (3 * size) = begins_again (3 * size) first i h in rw e refl
+same_item : (size first i : ℕ) → first % (3 * size) ≡ 0 → item_of size (first + i) ≡ item_of size i
+unfolding item_of
+same_item size first i h = let e : (first + i) % (3 * size) ≡ i % (3 * size) = begins_again (3 * size) first i h in rw e refl
 
 in_order : (c_init first : ℕ) (word : List Bool) (values : List ℤ) → SpeakOfWord c_init first word values → SpeakInOrder word (descrambled c_init first values)
 in_order c_init first word values s = record {
   enough = omega (arith, s.enough, length-descrambled c_init first values);
   value = λ i l.
       let inside : i < length values = omega (arith, l, length-descrambled c_init first values) in
-      subst (Supports 1 (bit_at_place (coded_word word) (place_of (length word) i))) (sym (descrambled-at c_init first values i inside))
-      (subst (λ p. Supports 1 (bit_at_place (coded_word word) p) (descrambled_value (gold_bit c_init (first + i)) (get_or values i (pos 0)))) (same_place (length word) first i s.begins)
-      (descrambling_keeps 1 (bit_at_place (coded_word word) (place_of (length word) (first + i))) (gold_bit c_init (first + i)) (get_or values i (pos 0)) (s.value i inside)));
+      subst (Supports 1 (bit_of_item (coded_word word) (item_of (length word) i))) (sym (descrambled-at c_init first values i inside))
+      (subst (λ p. Supports 1 (bit_of_item (coded_word word) p) (descrambled_value (gold_bit c_init (first + i)) (get_or values i (pos 0)))) (same_item (length word) first i s.begins)
+      (descrambling_keeps 1 (bit_of_item (coded_word word) (item_of (length word) (first + i))) (gold_bit c_init (first + i)) (get_or values i (pos 0)) (s.value i inside)));
 }
 
 pub sums_speak_all : (c_init first : ℕ) (word : List Bool) (values : List ℤ) → 6 ≤ length word → length word ≤ 64 → SpeakOfWord c_init first word values →

@@ -13,13 +13,13 @@ use Rattle.finite.proofs.Sums.{total_zero, terms_zero}
 use Rattle.paths.specs.Words.{IsBefore}
 use Rattle.paths.proofs.Words.{number-before}
 use Rattle.conv_code.specs.Code.{coded_bits, coded_word}
-use Rattle.sub_block.specs.declared.Place.{Place}
-use Rattle.sub_block.specs.Places.{spot, is_at, summed_at}
+use Rattle.sub_block.specs.declared.Item.{Item}
+use Rattle.sub_block.specs.Items.{item, is_at, summed_at}
 use Rattle.sub_block.proofs.Sums.{at_itself}
-use Rattle.conv_code.specs.Reading.{bit_at_place, place_of, summed_by}
-use Rattle.conv_code.specs.Cost.{place_cost, word_cost}
+use Rattle.conv_code.specs.Reading.{bit_of_item, item_of, summed_by}
+use Rattle.conv_code.specs.Cost.{cost_at, word_cost}
 use Rattle.conv_code.proofs.OneToOne.{one_to_one}
-use Rattle.conv_code.proofs.Places.{permuting}
+use Rattle.conv_code.proofs.Items.{permuting}
 use Rattle.conv_code.proofs.Sums.{length-summed_by, summed_by-at}
 use Rattle.cs_bits.specs.Signs.{SpeaksFor}
 use Rattle.cs_bits.proofs.Signs.{supports-speaks}
@@ -27,7 +27,7 @@ use Rattle.tailbite.specs.Clean.{Speaks}
 use Rattle.tailbite.proofs.Only.{free_place, same_place}
 use Rattle.cs_bits.specs.Signs.{Supports}
 use Rattle.clean_turbo.specs.Tells.{Tells}
-use Rattle.clean_turbo.proofs.ReceivedSums.{place_tells}
+use Rattle.clean_turbo.proofs.ReceivedSums.{item_tells}
 use Rattle.clean_air.specs.Words.{FourSpeakTogether, DescramblingKeeps, SpeakByReading, SumsSpeak, SpokenWordIsOnly}
 
 -- ---- single values
@@ -44,19 +44,19 @@ descrambling_keeps least true true value h = omega (arith, ints)
 
 -- ---- the sums by place
 
-at_place : (word : List Bool) (k t : ℕ) → k < length word → bit_at_place (coded_word word) (spot t k) ≡ get_or (coded_bits word k) t false
+at_index : (word : List Bool) (k t : ℕ) → k < length word → bit_of_item (coded_word word) (item t k) ≡ get_or (coded_bits word k) t false
 unfolding coded_word
-at_place word k t l = ap (λ xs. get_or xs t false) (values_below_at (coded_bits word) (length word) k [] l)
+at_index word k t l = ap (λ xs. get_or xs t false) (values_below_at (coded_bits word) (length word) k [] l)
 
-module _ (reading : ℕ → Place) (word : List Bool) (values : List ℤ) (speak : SpeakByReading reading word values) where
+module _ (reading : ℕ → Item) (word : List Bool) (values : List ℤ) (speak : SpeakByReading reading word values) where
   -- one of the values comes from each place, and all from there speak for its bit
-  sum_at_supports : (k t : ℕ) → k < length word → t < 3 → Supports 1 (bit_at_place (coded_word word) (spot t k)) (summed_at reading values (length values) t k)
+  sum_at_supports : (k t : ℕ) → k < length word → t < 3 → Supports 1 (bit_of_item (coded_word word) (item t k)) (summed_at reading values (length values) t k)
   sum_at_supports k t inside stream =
       let (i, below, is) = speak.enough k t inside stream in
       let there : any_below (length values) (λ m. is_at t k (reading m) && true) ≡ true =
-      any_below_at (length values) i (λ m. is_at t k (reading m) && true) below (and-true (is_at t k (reading i)) ∙ ap (is_at t k) is ∙ at_itself (spot t k)) in
-      subst (λ some. Tells some (bit_at_place (coded_word word) (spot t k)) (summed_at reading values (length values) t k)) there
-      (place_tells reading values (bit_at_place (coded_word word)) (λ _. true) t k (length values) speak.value)
+      any_below_at (length values) i (λ m. is_at t k (reading m) && true) below (and-true (is_at t k (reading i)) ∙ ap (is_at t k) is ∙ at_itself (item t k)) in
+      subst (λ some. Tells some (bit_of_item (coded_word word) (item t k)) (summed_at reading values (length values) t k)) there
+      (item_tells reading values (bit_of_item (coded_word word)) (λ _. true) t k (length values) speak.value)
 
   pub sums_speak_by_reading : Speaks (summed_by reading (length word) values) word
   sums_speak_by_reading = record {
@@ -68,10 +68,10 @@ module _ (reading : ℕ → Place) (word : List Bool) (values : List ℤ) (speak
       one k t inside stream =
           subst (λ z. SpeaksFor z (get_or (coded_bits word k) t false)) (sym (summed_by-at reading (length word) values k t inside stream))
           (supports-speaks (get_or (coded_bits word k) t false) (summed_at reading values (length values) t k)
-          (subst (λ b. Supports 1 b (summed_at reading values (length values) t k)) (at_place word k t inside) (sum_at_supports k t inside stream)))
+          (subst (λ b. Supports 1 b (summed_at reading values (length values) t k)) (at_index word k t inside) (sum_at_supports k t inside stream)))
 
 pub sums_speak : SumsSpeak
-sums_speak word values long short speak = sums_speak_by_reading (place_of (length word)) word values (record {
+sums_speak word values long short speak = sums_speak_by_reading (item_of (length word)) word values (record {
   enough = λ k t inside stream.
       let (i, below, is) = (permuting (length word) long short).reads.each t k stream inside in
       let enough = speak.enough in
@@ -83,12 +83,12 @@ sums_speak word values long short speak = sums_speak_by_reading (place_of (lengt
 
 -- a word that costs nothing is the one that the values speak for
 only_free : (values : List (List ℤ)) (other word : List Bool) → 6 ≤ length values → length word ≡ length values → length other ≡ length values → Speaks values word →
-    total_below (length values) (place_cost values other) ≡ 0 → other ≡ word
+    total_below (length values) (cost_at values other) ≡ 0 → other ≡ word
 only_free values other word long size size_too speaks zero_cost =
     one_to_one other word (omega (arith, size_too, long)) (size_too ∙ sym size)
     (unfold coded_word in values_below_same (length other) (coded_bits other) (coded_bits word)
     (λ k inside. let below : k < length values = omega (arith, size_too, inside) in
-    same_place values other word speaks k below (terms_zero (length values) (place_cost values other) zero_cost k below))
+    same_place values other word speaks k below (terms_zero (length values) (cost_at values other) zero_cost k below))
     ∙ ap (λ n. values_below n (coded_bits word)) (size_too ∙ sym size))
 
 not_before_itself : (word : List Bool) → IsBefore word word → ⊥
@@ -101,17 +101,17 @@ spoken_word_is_only values word long size speaks = record {
   dear = dear;
   least = record {
     size = size;
-    least = λ other size_too. nothing_less (total_below (length values) (place_cost values word)) (total_below (length values) (place_cost values other)) free;
-    first = λ other size_too before. some_more (total_below (length values) (place_cost values word)) (total_below (length values) (place_cost values other)) free
+    least = λ other size_too. nothing_less (total_below (length values) (cost_at values word)) (total_below (length values) (cost_at values other)) free;
+    first = λ other size_too before. some_more (total_below (length values) (cost_at values word)) (total_below (length values) (cost_at values other)) free
         (dear other size_too (λ same. not_before_itself word (subst (λ (w : List Bool). IsBefore w word) same before)));
   };
 }
   where
-    free : total_below (length values) (place_cost values word) ≡ 0
-    free = total_zero (length values) (place_cost values word) (free_place values word speaks)
+    free : total_below (length values) (cost_at values word) ≡ 0
+    free = total_zero (length values) (cost_at values word) (free_place values word speaks)
 
-    dear : (other : List Bool) → length other ≡ length values → (other ≡ word → ⊥) → 1 ≤ total_below (length values) (place_cost values other)
-    dear other size_too apart = elim (cases_lt (total_below (length values) (place_cost values other)) 1) [
+    dear : (other : List Bool) → length other ≡ length values → (other ≡ word → ⊥) → 1 ≤ total_below (length values) (cost_at values other)
+    dear other size_too apart = elim (cases_lt (total_below (length values) (cost_at values other)) 1) [
       | inl less ↦ absurd (apart (only_free values other word long size size_too speaks (omega (arith, less))))
       | inr some ↦ some
     ]

@@ -7,7 +7,7 @@ use Rattle.cs_bits.specs.Checks.{message_of, has_check_24}
 use Rattle.turbo_code.specs.declared.rows.Row.{Row}
 use Rattle.turbo_code.specs.Table.{IsRow}
 use Rattle.turbo_code.specs.Encoder.{coded}
-use Rattle.turbo_code.specs.Reading.{bit_of, place_of, summed}
+use Rattle.turbo_code.specs.Reading.{bit_of, item_of, summed}
 use Rattle.turbo_dec.specs.Block.{block}
 use Rattle.grid_map.specs.Shared.{shared_places_of}
 use Rattle.soft_bits.specs.Soft.{SeenSlot}
@@ -19,7 +19,7 @@ use Rattle.clean_air.specs.Subframe.{IsSubframeSeen, shared_scrambled, IsSubfram
 
 -- bit i of a coded word, as it is matched from a redundancy version on
 abbrev pub matched_bit : Row → ℕ → List Bool → ℕ → Bool
-matched_bit row rv word i = bit_of (coded row word) (place_of row.k rv i)
+matched_bit row rv word i = bit_of (coded row word) (item_of row.k rv i)
 
 -- a word of the size of a row, whose check passes, and which can be resolved by so many bits of the reading: always where
 -- each coded bit is among them

@@ -2,10 +2,10 @@
 -- 36.212 sections 5.1.3.1 and 5.1.4.2)
 use Rattle.std.specs.Prelude.{◌≡◌, ℕ, ◌*◌, ◌<◌, ◌≤◌, Bool, cond, List, length, slice_index_or, ℤ, pos, ◌+ℤ◌, neg_ℤ}
 use Rattle.finite.specs.Bits.{xor}
-use Rattle.sub_block.specs.declared.Place.{Place}
-use Rattle.sub_block.specs.Places.{spot}
+use Rattle.sub_block.specs.declared.Item.{Item}
+use Rattle.sub_block.specs.Items.{item}
 use Rattle.conv_code.specs.Code.{coded_word}
-use Rattle.conv_code.specs.Reading.{bit_at_place, place_of, summed_by, summed}
+use Rattle.conv_code.specs.Reading.{bit_of_item, item_of, summed_by, summed}
 use Rattle.conv_code.specs.Cost.{word_cost}
 use Rattle.tailbite.specs.LeastWord.{IsLeastWord}
 use Rattle.tailbite.specs.Clean.{Speaks}
@@ -22,18 +22,21 @@ DescramblingKeeps = (least : ℕ) (bit scrambling : Bool) (value : ℤ) → Supp
 
 -- values in the order of a reading, of which there is at least one for each coded bit, each speak for the coded bit of a word
 -- that the reading has there
-pub record SpeakByReading (reading : ℕ → Place) (word : List Bool) (values : List ℤ) : Type 0 where
-  pub enough : (k t : ℕ) → k < length word → t < 3 → (i : ℕ) × (i < length values) × (reading i ≡ spot t k)
-  pub value : (i : ℕ) → i < length values → Supports 1 (bit_at_place (coded_word word) (reading i)) (slice_index_or values i (pos 0))
+pub record SpeakByReading (reading : ℕ → Item) (word : List Bool) (values : List ℤ) : Type 0 where
+  pub enough : (k t : ℕ) → k < length word → t < 3 → (i : ℕ) × (i < length values) × (reading i ≡ item t k)
+  pub value : (i : ℕ) → i < length values →
+      Supports 1 (bit_of_item (coded_word word) (reading i)) (slice_index_or values i (pos 0))
 
--- then the sums of the values by place do
+-- then the sums of the values by item do
 abbrev pub SumsSpeakByReading : Type 0
-SumsSpeakByReading = (reading : ℕ → Place) (word : List Bool) (values : List ℤ) → SpeakByReading reading word values → Speaks (summed_by reading (length word) values) word
+SumsSpeakByReading = (reading : ℕ → Item) (word : List Bool) (values : List ℤ) →
+    SpeakByReading reading word values → Speaks (summed_by reading (length word) values) word
 
 -- the same of the endless reading, for words of 6 to 64 bits
 pub record SpeakInOrder (word : List Bool) (values : List ℤ) : Type 0 where
   pub enough : 3 * length word ≤ length values
-  pub value : (i : ℕ) → i < length values → Supports 1 (bit_at_place (coded_word word) (place_of (length word) i)) (slice_index_or values i (pos 0))
+  pub value : (i : ℕ) → i < length values →
+      Supports 1 (bit_of_item (coded_word word) (item_of (length word) i)) (slice_index_or values i (pos 0))
 
 abbrev pub SumsSpeak : Type 0
 SumsSpeak = (word : List Bool) (values : List ℤ) → 6 ≤ length word → length word ≤ 64 → SpeakInOrder word values → Speaks (summed (length word) values) word

@@ -3,6 +3,7 @@
 ghost use Rattle.std.specs.Prelude.{◌≡◌, ◌↔◌, IsTrue};
 ghost use Rattle.lte_types.specs.declared.bandwidth.Bandwidth.TheVariants.{N6};
 ghost use Rattle.explain.specs.Entries.{IsInList};
+ghost use Rattle.explain.specs.Grant.{IsGrantOf};
 ghost use Rattle.clean_air.specs.Planned.{plan_by as plan_made_by, IsPlanOf, IsSentPlan, IsOnePlan};
 
 use cell_tx::{Cell, CellPlan};
@@ -16,23 +17,40 @@ use sample_file::Recording;
 /// is the block. `None` exactly where `grant_of` gives none, the entry has another count of antenna ports than one or
 /// another bandwidth than n6, or `Cell::new` refuses the plan. Where the recording is what a cell sends, as for
 /// `explain_clean`, and the entry is that cell's, it is the plan by which it was sent. The entry is in the
-/// recording's list. (own)
+/// recording's list; its frames are read again. (own)
 pub fn plan_of(recording: &Recording, entry: &Entry, work: &mut Workspace) -> Option<Cell>
     requires { IsInList recording.now entry.now }
+    ensures plan { IsPlanOf recording.now entry.now result }
+    ensures sent { IsSentPlan recording.now entry.now result }
+    ensures readings { work.new ≡ work.old }
+{
+    plan_granted(recording, entry, grant_of(recording, entry, work))
+}
+
+/// `plan_of` by the indicator and the grant of the entry, which are at hand (`Workspace::readings`). The entry is in
+/// the recording's list, of which nothing is read again. (own)
+pub fn plan_granted(
+    recording: &Recording,
+    entry: &Entry,
+    granted: Option<(Cfi, Grant)>,
+) -> Option<Cell>
+    requires listed { IsInList recording.now entry.now }
+    requires granted { IsGrantOf recording.now entry.now granted }
     ensures plan { IsPlanOf recording.now entry.now result }
     ensures sent { IsSentPlan recording.now entry.now result }
 {
     let count = recording.len();
     prove!(57_600 <= count);
-    told_plan(recording, entry, work)
+    told_plan(recording, entry, granted)
 }
 
-// `plan_of` without its promise on clean recordings, which follows from this clause there.
-fn told_plan(recording: &Recording, entry: &Entry, work: &mut Workspace) -> Option<Cell>
-    requires { IsInList recording.now entry.now }
+// `plan_granted` without its promise on clean recordings, which follows from this clause there.
+fn told_plan(recording: &Recording, entry: &Entry, granted: Option<(Cfi, Grant)>) -> Option<Cell>
+    requires listed { IsInList recording.now entry.now }
+    requires granted { IsGrantOf recording.now entry.now granted }
     ensures { IsPlanOf recording.now entry.now result }
 {
-    let Some(told) = grant_of(recording, entry, work) else {
+    let Some(told) = granted else {
         return None;
     };
     let Ok(sib1) = &entry.sib1 else {

@@ -1,5 +1,5 @@
 -- What supports an entry of a list. (own)
-use Rattle.std.specs.Prelude.{◌≡◌, ℕ, ◌+◌, ◌*◌, ◌/◌, ◌%◌, ◌<◌, ◌≤◌, List, map}
+use Rattle.std.specs.Prelude.{◌≡◌, ℕ, ◌+◌, ◌*◌, ◌/◌, ◌%◌, ◌<◌, ◌≤◌, List}
 use Rattle.std.specs.List.{Contains}
 use Rattle.finite.specs.Sums.{total_below}
 use Rattle.cs_num.specs.declared.Cpx.{Cpx}
@@ -13,10 +13,9 @@ use Rattle.pss_search.specs.Hits.{first_place, last_place, hits_of}
 use Rattle.pss_search.specs.Laws.{IsHitOf}
 use Rattle.soft_bits.specs.Soft.{pilot, pilot_energy}
 use Rattle.pbch.specs.Master.{total}
-use Rattle.explain.specs.Entries.{identity_at, start_at, place_at, values_of_entry}
+use Rattle.explain.specs.Entries.{identity_at, start_at, values_of_entry}
 use Rattle.explain.specs.EntrySlot.{slot_of_entry}
 use Rattle.lte_types.specs.declared.evidence.Evidence.{Evidence}
-use Rattle.evidence.specs.declared.told.ToldHit.{ToldHit}
 
 -- ---- the hit
 
@@ -74,14 +73,6 @@ pub record IsInRange (told : Evidence) : Type 0 where
   pub clear : 4 * told.cost ≤ told.total
 
 -- ---- the code's way to the hit
-
--- a hit with the place that it tells
-abbrev pub told_hit : List Sample → Hit → ToldHit
-told_hit recording hit = record { hit = hit; place = place_at recording hit }
-
--- all hits of a recording with theirs
-abbrev pub told_hits : List Sample → List ToldHit
-told_hits recording = map (told_hit recording) (hits_of recording)
 
 -- the first hit that tells the entry, as it was measured
 pub record IsHitOfEntry (recording : List Sample) (entry : Entry) (hit : Hit) : Type 0 where

@@ -4,7 +4,5 @@
 
 mod listing;
 mod noise;
-mod told;
 
 pub use listing::{evidence_of, evidence_of_list};
-pub use told::{ToldHit, ToldHits};

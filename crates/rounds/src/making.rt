@@ -1,7 +1,10 @@
 //! The rounds of a recording.
 
-ghost use Rattle.std.specs.Prelude.{◌≡◌, IfOk};
+ghost use Rattle.std.specs.Prelude.{◌≡◌, IfOk, IfSome};
+ghost use Rattle.std.specs.List.{AllZip};
 ghost use Rattle.explain.specs.Entries.{IsInList, IsExplained};
+ghost use Rattle.explain.specs.Grant.{IsGrantOf};
+ghost use Rattle.explain.specs.Readings.{IsReading};
 ghost use Rattle.clean_air.specs.Clean.{IsListOfCells};
 ghost use Rattle.cancel.specs.Residue.{power_of as sum_of};
 ghost use Rattle.rounds.specs.Rounds.{AreRounds, IsCancelled};
@@ -9,9 +12,10 @@ ghost use Rattle.rounds.specs.Steps.{IsTakenIf, IsNextRound};
 
 use crate::{Round, Rounds};
 use cancel::{Subtracted, power_of, subtract_from};
-use clean_air::{explain_clean, plan_of};
+use clean_air::{explain_clean, plan_granted};
+use dci::Grant;
 use explain::{EntryList, Workspace};
-use lte_types::Entry;
+use lte_types::{Cfi, Entry};
 use sample_file::Recording;
 use std::alloc::{AllocError, Global};
 
@@ -19,8 +23,8 @@ use std::alloc::{AllocError, Global};
 const MOST_ROUNDS: u8 = 4;
 
 /// The list of a recording, and its rounds: each takes the first entry of the last list whose cell can be taken off
-/// what was left before (`plan_of` gives its cell, and `subtract_from` takes it off), and makes the list of what is left
-/// then. A round without such an entry is the last, and no more than four are made. Only memory can be wanting. (own)
+/// what was left before (`plan_granted` gives its cell, and `subtract_from` takes it off), and makes the list of what is
+/// left then. A round without such an entry is the last, and no more than four are made. Only memory can be wanting. (own)
 pub fn cancel_rounds(
     alloc: Global,
     recording: &Recording,
@@ -38,13 +42,14 @@ pub fn cancel_rounds(
     })
 }
 
-// The list of a recording.
+// The list of a recording. The workspace then has how its entries were read.
 fn list_of(
     alloc: Global,
     recording: &Recording,
     work: &mut Workspace,
 ) -> Result<EntryList, AllocError>
-    ensures { IfOk result (IsListOfCells recording.now) }
+    ensures list { IfOk result (IsListOfCells recording.now) }
+    ensures readings { IfOk result (λ list. AllZip (IsReading recording.now) list work.new) }
 {
     let mut list = EntryList::new(alloc)?;
     explain_clean(recording, work, &mut list);
@@ -52,6 +57,7 @@ fn list_of(
 }
 
 // The rounds on a recording with this power and list, at most so many, and whether one without an entry is the last.
+// The workspace has how the entries of the list were read.
 fn rounds_on(
     alloc: Global,
     most: u8,
@@ -62,6 +68,7 @@ fn rounds_on(
 ) -> Result<(Vec<Round>, bool), AllocError>
     requires power { power ≡ sum_of recording.now }
     requires list { IsExplained recording.now list.now }
+    requires readings { AllZip (IsReading recording.now) list.now work.old }
     ensures { IfOk result (λ told. AreRounds most recording.now list.now told.0.items told.1) }
 {
     if most == 0 {
@@ -84,7 +91,8 @@ fn rounds_on(
     }
 }
 
-// A round on a recording with this power and list; `None` exactly where no entry's cell can be taken off.
+// A round on a recording with this power and list; `None` exactly where no entry's cell can be taken off. The workspace
+// has how the entries of the list were read, and then those of the round's list.
 fn round_on(
     alloc: Global,
     recording: &Recording,
@@ -94,10 +102,14 @@ fn round_on(
 ) -> Result<Option<Round>, AllocError>
     requires power { power ≡ sum_of recording.now }
     requires list { IsExplained recording.now list.now }
-    ensures { IfOk result (IsNextRound recording.now list.now) }
+    requires readings { AllZip (IsReading recording.now) list.now work.old }
+    ensures next { IfOk result (IsNextRound recording.now list.now) }
+    ensures readings { IfOk result (λ next.
+        IfSome next (λ round. AllZip (IsReading round.taken.residue) round.list work.new)) }
 {
-    for entry in list {
-        match taken_off(alloc, recording, power, entry, work)? {
+    for (i, entry) in list.iter().enumerate() {
+        let granted = work.readings()[i].granted;
+        match taken_off(alloc, recording, power, entry, granted)? {
             Some(taken) => {
                 let list = list_of(alloc, &taken.residue, work)?;
                 return Ok(Some(Round {
@@ -118,13 +130,14 @@ fn taken_off(
     recording: &Recording,
     power: u128,
     entry: &Entry,
-    work: &mut Workspace,
+    granted: Option<(Cfi, Grant)>,
 ) -> Result<Option<Subtracted>, AllocError>
     requires power { power ≡ sum_of recording.now }
     requires entry { IsInList recording.now entry.now }
+    requires granted { IsGrantOf recording.now entry.now granted }
     ensures { IfOk result (IsTakenIf recording.now entry.now) }
 {
-    match plan_of(recording, entry, work) {
+    match plan_granted(recording, entry, granted) {
         Some(cell) => subtract_from(alloc, recording, power, &cell, entry.start, entry.sfn),
         None => Ok(None),
     }

@@ -2,8 +2,8 @@ use Rattle.std.proofs.Common.{◌≤◌, take}
 use Rattle.cert_stream.specs.Certifying.{HasCertifiedAll}
 use Rattle.cert_stream.proofs.certifying.certify.Given as goal
 
-abbrev pub invariant-loop-entry : goal.invariant-loop-entry
-invariant-loop-entry g l = record {
-  so_far : HasCertifiedAll l.recording (take l.entry-index l.entries) (g.K.Sink.told l.fn.sink) (g.K.Sink.told l.sink);
+abbrev pub invariant-loop-i : goal.invariant-loop-i
+invariant-loop-i g l = record {
+  so_far : HasCertifiedAll l.recording (take l.i l.entries) (g.K.Sink.told l.fn.sink) (g.K.Sink.told l.sink);
   later : (g.K.Sink.told l.fn.sink).faults ≤ (g.K.Sink.told l.sink).faults;
 }

@@ -4,8 +4,8 @@ use Rattle.std.specs.List.{AllZip}
 use Rattle.evidence.specs.Evidence.{IsEvidence, IsInRange}
 use Rattle.evidence.proofs.listing.evidence_of_list.Given as goal
 
-abbrev pub invariant-loop-entry : goal.invariant-loop-entry
-invariant-loop-entry l = record {
-  each : AllZip (IsEvidence l.recording) (take l.entry-index l.entries) l.list.items;
+abbrev pub invariant-loop-i : goal.invariant-loop-i
+invariant-loop-i l = record {
+  each : AllZip (IsEvidence l.recording) (take l.i l.entries) l.list.items;
   ranges : All IsInRange l.list.items;
 }
