@@ -69,7 +69,7 @@ module _ (recording : List Sample) (place : Place) where
         have = have;
       }))
     where
-      before : (few i : ℕ) → IsInWindow recording place.start few i → ComeBefore few i 1 j → TellNone (IsLongMaster recording) place few i
+      before : (few i : ℕ) → IsInWindow recording place.start few i → ComeBefore (few, i) (1, j) → TellNone (IsLongMaster recording) place few i
       before few i window (inl fewer) = let some = window.some in absurd (omega (arith, some, fewer))
       before few i window (inr (same, below)) = subst (λ n. TellNone (IsLongMaster recording) place n i) (sym same) (none i below)
 

@@ -24,3 +24,5 @@ pub mod Late
 pub mod HeldLong
 -- A number has one recording.
 pub mod Numbered
+-- The sums of a frame are small.
+pub mod LongSums

@@ -11,23 +11,19 @@ use Rattle.cell_tx.specs.Clean.{IsCleanOf}
 use Rattle.cell_tx.specs.Laws.{ReceivedWithErrorsIsClean}
 use Rattle.capture_make.specs.Recipe.{number, offset, sample_count, gain, IsBound}
 use Rattle.capture_make.specs.Errors.{error}
-use Rattle.capture_make.proofs.Samples.{gain_fits, amplified_samples, room_is, with_errors_is, is_recording_of, is_clean_of}
+use Rattle.capture_make.proofs.Samples.{gain_fits, room_is, with_errors_is, is_recording_of, is_clean_of}
 use Rattle.long_prefix.specs.declared.plan.LongPlan.{LongPlan}
 use Rattle.long_prefix.specs.declared.made.LongMade.{LongMade}
 use Rattle.long_prefix.specs.Sent.{long_sent, IsCleanOfLong}
-use Rattle.long_prefix.specs.Made.{samples, IsPlanOf, IsMadeLong, IsCleanlyMade}
+use Rattle.long_prefix.specs.Made.{received_samples, samples, IsPlanOf, IsMadeLong, IsCleanlyMade}
 use Rattle.long_prefix.proofs.Frames.{sent-square}
 
--- what is received without errors
-abbrev pub clean_samples : LongPlan → ℕ → List Sample
-clean_samples plan n = amplified_samples (long_sent plan (number n)) (offset n) (sample_count n) (gain n)
-
--- it leaves room for the errors
-pub has_room : (plan : LongPlan) (n : ℕ) (clean : List Sample) → IsGain (gain n) → clean ≡ clean_samples plan n → All (λ s. IsWithin 32284 (value_of s)) clean
+-- what is received without errors leaves room for the errors
+pub has_room : (plan : LongPlan) (n : ℕ) (clean : List Sample) → IsGain (gain n) → clean ≡ received_samples plan n → All (λ s. IsWithin 32284 (value_of s)) clean
 has_room plan n clean size e = room_is (long_sent plan (number n)) (offset n) (sample_count n) (gain n) clean size (sent-square plan (number n)) e
 
 -- with them it is the recording
-pub samples_are : (plan : LongPlan) (n bound : ℕ) (clean : List Sample) → clean ≡ clean_samples plan n →
+pub samples_are : (plan : LongPlan) (n bound : ℕ) (clean : List Sample) → clean ≡ received_samples plan n →
     values_below (length clean) (λ i. sample_of (plus (sample_at clean i) (error n bound i))) ≡ samples plan n bound
 unfolding samples
 samples_are plan n bound clean e = with_errors_is (error n bound) (long_sent plan (number n)) (offset n) (sample_count n) (gain n) clean e

@@ -9,12 +9,12 @@ use Rattle.cs_bits.specs.Numbers.{field}
 use Rattle.cs_bits.specs.Signs.{Supports}
 use Rattle.cs_bits.proofs.Signs.{supports-less}
 use Rattle.crs.specs.Reference.{long_prefix}
-use Rattle.sub_block.specs.declared.Place.{Place as CodedPlace}
-use Rattle.sub_block.specs.Places.{spot}
+use Rattle.sub_block.specs.declared.Item.{Item}
+use Rattle.sub_block.specs.Items.{item}
 use Rattle.conv_code.specs.Code.{coded_word}
-use Rattle.conv_code.specs.Reading.{bit_at_place, place_of, summed_by}
+use Rattle.conv_code.specs.Reading.{bit_of_item, item_of, summed_by}
 use Rattle.conv_code.proofs.Sums.{length-summed_by}
-use Rattle.conv_code.proofs.Places.{permuting}
+use Rattle.conv_code.proofs.Items.{permuting}
 use Rattle.tailbite.specs.Clean.{Speaks}
 use Rattle.grid_map.specs.declared.Place.{Place}
 use Rattle.grid_map.specs.Place.{place}
@@ -63,8 +63,8 @@ module _ (recording : List Sample) (starts : ℕ → ℕ) (rows : ℕ → ℕ �
 -- ---- the word
 
 -- of 120 bits and more of the reading, from any one on, there is one at least for each place of a word of 40 bits
-pub each_is_read : (first count k t : ℕ) → 120 ≤ count → k < 40 → t < 3 → (i : ℕ) × (i < count) × (place_of 40 (first + i) ≡ spot t k)
-unfolding place_of
+pub each_is_read : (first count k t : ℕ) → 120 ≤ count → k < 40 → t < 3 → (i : ℕ) × (i < count) × (item_of 40 (first + i) ≡ item t k)
+unfolding item_of
 each_is_read first count k t enough inside stream =
     let (j, below, is) = (permuting 40 (omega arith) (omega arith)).reads.each t k stream inside in
     let i : ℕ = (j + (120 - first % 120)) % 120 in
@@ -79,21 +79,21 @@ module _ (identity phase ports : ℕ) (word : List Bool) (values : List ℤ) (si
   abbrev first : ℕ
   first = 432 * phase
 
-  abbrev reading : ℕ → CodedPlace
-  reading i = place_of 40 (first + i)
+  abbrev reading : ℕ → Item
+  reading i = item_of 40 (first + i)
 
   length-plain : length (descrambled c_init first values) ≡ 432
   length-plain = length-descrambled c_init first values ∙ many
 
-  plain_speak : (i : ℕ) → i < length (descrambled c_init first values) → Supports 1 (bit_at_place (coded_word word) (reading i)) (get_or (descrambled c_init first values) i (pos 0))
+  plain_speak : (i : ℕ) → i < length (descrambled c_init first values) → Supports 1 (bit_of_item (coded_word word) (reading i)) (get_or (descrambled c_init first values) i (pos 0))
   plain_speak i l =
       let inside : i < 432 = omega (arith, l, length-plain) in
-      let told = subst (λ n. Supports 1 (bit_at_place (coded_word word) (reading i)) (descrambled_value (gold_bit c_init (first + i)) (get_or values i (pos 0)))) size
-      (descrambling_keeps 1 (bit_at_place (coded_word word) (reading i)) (gold_bit c_init (first + i)) (get_or values i (pos 0)) (here i inside)) in
-      subst (Supports 1 (bit_at_place (coded_word word) (reading i))) (sym (descrambled-at c_init first values i (omega (arith, inside, many)))) told
+      let told = subst (λ n. Supports 1 (bit_of_item (coded_word word) (reading i)) (descrambled_value (gold_bit c_init (first + i)) (get_or values i (pos 0)))) size
+      (descrambling_keeps 1 (bit_of_item (coded_word word) (reading i)) (gold_bit c_init (first + i)) (get_or values i (pos 0)) (here i inside)) in
+      subst (Supports 1 (bit_of_item (coded_word word) (reading i))) (sym (descrambled-at c_init first values i (omega (arith, inside, many)))) told
     where
-      here : (i : ℕ) → i < 432 → Supports 1 (xor (bit_at_place (coded_word word) (reading i)) (gold_bit c_init (first + i))) (get_or values i (pos 0))
-      here i inside = subst (λ n. Supports 1 (xor (bit_at_place (coded_word word) (place_of n (first + i))) (gold_bit c_init (first + i))) (get_or values i (pos 0))) size (speak i inside)
+      here : (i : ℕ) → i < 432 → Supports 1 (xor (bit_of_item (coded_word word) (reading i)) (gold_bit c_init (first + i))) (get_or values i (pos 0))
+      here i inside = subst (λ n. Supports 1 (xor (bit_of_item (coded_word word) (item_of n (first + i))) (gold_bit c_init (first + i))) (get_or values i (pos 0))) size (speak i inside)
 
   -- such values tell the word
   pub word_is_told : PassesWith ports word → field word 0 3 ≤ 5 → TellsFreely (long_sums identity phase values) word ports

@@ -1,5 +1,5 @@
 -- The list of the cells that a recording explains by the extended cyclic prefix, to the master block. (own)
-use Rattle.std.specs.Prelude.{◌≡◌, ℕ, ◌*◌, ◌/◌, ◌%◌, nat_le, List, filter, slice_index_or, ℤ, pos, Result, Err}
+use Rattle.std.specs.Prelude.{◌≡◌, ℕ, ◌*◌, ◌/◌, ◌%◌, nat_le, List, filter, slice_index_or, ℤ, pos, None, Result, Err}
 use Rattle.cs_num.specs.declared.Sample.{Sample}
 use Rattle.cs_num.specs.Complex.{times, conjugate}
 use Rattle.finite.specs.Lists.{values_below}
@@ -22,7 +22,9 @@ use Rattle.conv_code.specs.Reading.{summed_from}
 use Rattle.pbch.specs.declared.master.Master.{Master}
 use Rattle.pbch.specs.Master.{TellsMaster}
 use Rattle.explain.specs.Frame.{frame_at}
-use Rattle.explain.specs.Told.{Informing}
+use Rattle.explain.specs.declared.readings.Reading.{Reading}
+use Rattle.explain.specs.Told.{Informing, Granting}
+use Rattle.explain.specs.Readings.{IsReadingBy}
 use Rattle.explain.specs.Reader.{IsListBy}
 use Rattle.long_prefix.specs.Places.{long_places}
 
@@ -62,14 +64,23 @@ unfoldable pub long_sums : ℕ → ℕ → List ℤ → List (List ℤ)
 long_sums identity phase received =
     summed_from (432 * phase) 40 (descrambled (pbch_c_init identity) (432 * phase) received)
 
+-- those of the frames of a cell: of the first alone
+abbrev pub long_sums_of : List Sample → Place → Frames → List (List ℤ)
+long_sums_of recording place frames =
+    long_sums place.id frames.phase (long_values (long_slot recording place.id place.start frames.first))
+
 -- a frame tells this master block; frames are looked at alone
 pub record IsLongMaster (recording : List Sample) (place : Place) (frames : Frames) (master : Master) : Type 0 where
   pub alone : frames.count ≡ 1
-  pub tells : TellsMaster (long_sums place.id frames.phase (long_values (long_slot recording place.id place.start frames.first))) master
+  pub tells : TellsMaster (long_sums_of recording place frames) master
 
 -- what is told of the system information
 abbrev pub IsLongSystem : Informing
 IsLongSystem place sfn ports mib sib1 = sib1 ≡ Err LongPrefix
+
+-- it is read by no grant
+abbrev pub IsLongGrant : Granting
+IsLongGrant place sfn mib sib1 granted = granted ≡ None
 
 -- ---- the list
 
@@ -77,3 +88,7 @@ IsLongSystem place sfn ports mib sib1 = sib1 ≡ Err LongPrefix
 abbrev pub IsExplainedOfLong : List Sample → List Entry → Type 0
 IsExplainedOfLong recording list =
     IsListBy (IsLongMaster recording) IsLongSystem recording (long_place recording) (long_hits recording) list
+
+-- an entry of it was read so
+abbrev pub IsReadingOfLong : List Sample → Entry → Reading → Type 0
+IsReadingOfLong recording = IsReadingBy (long_sums_of recording) IsLongGrant (long_place recording) (long_hits recording)

@@ -1,8 +1,10 @@
--- Recording number n with the extended cyclic prefix: the recipe is that of one port, without the control region and system
--- information. (own)
-use Rattle.std.specs.Prelude.{◌≡◌, ℕ, ◌/◌, nat_abs, List}
+-- Recording number n with the extended cyclic prefix: the recipe is that of one port, without the control region and
+-- system information. (own)
+use Rattle.std.specs.Prelude.{◌≡◌, ℕ, ◌+◌, ◌/◌, nat_abs, List}
+use Rattle.finite.specs.Lists.{values_below}
 use Rattle.cs_num.specs.declared.Cpx.{Cpx}
 use Rattle.cs_num.specs.declared.Sample.{Sample}
+use Rattle.cs_num.specs.Complex.{times, sample_of}
 use Rattle.lte_types.specs.declared.bandwidth.Bandwidth.TheVariants.{N6}
 use Rattle.lte_types.specs.Block.{HasFields}
 use Rattle.cell_tx.specs.Laws.{received_with}
@@ -16,6 +18,11 @@ use Rattle.long_prefix.specs.Sent.{long_sent, IsCleanOfLong}
 pub record IsPlanOf (n : ℕ) (sent : LongPlan) : Type 0 where
   pub id : sent.id ≡ (plan n).identity
   pub block : HasFields sent.mib N6 (plan n).duration (plan n).resource (number n / 4) (plan n).spare
+
+-- what is received without errors: what is sent of a plan, times the gain
+abbrev pub received_samples : LongPlan → ℕ → List Sample
+received_samples sent n =
+    values_below (sample_count n) (λ i. sample_of (times (gain n) (long_sent sent (number n) (i + offset n))))
 
 -- its samples, where the errors have this bound: what is sent of a plan, times the gain, and each sample's error
 unfoldable pub samples : LongPlan → ℕ → ℕ → List Sample

@@ -12,8 +12,8 @@ use Rattle.long_prefix.specs.Grid.{long_element}
 abbrev pub long_sent : LongPlan → ℕ → ℕ → Cpx
 long_sent plan sfn i = prefix_sent extended (long_element plan) sfn i
 
--- the samples are what is sent from the frame numbered sfn on, from its sample at offset on, times the gain, and each component
--- is off by at most eps
+-- the samples are what is sent from the frame numbered sfn on, from its sample at offset on, times the gain, and each
+-- component is off by at most eps
 pub record IsCleanOfLong (recording : List Sample) (plan : LongPlan) (sfn offset : ℕ) (gain : Cpx) (eps : ℕ) : Type 0 where
   pub number : sfn ≤ 1023
   pub samples : IsCleanOf (long_sent plan sfn) recording offset gain eps

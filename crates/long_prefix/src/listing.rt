@@ -1,23 +1,26 @@
 //! The list of the cells of a recording.
 
-ghost use Rattle.std.specs.Prelude.{◌≡◌, ◌≤◌, All, drop, filter, length, nat_le, IfOk, Err};
-ghost use Rattle.std.specs.List.{AllPairs};
+ghost use Rattle.std.specs.Prelude.{◌≡◌, ◌≤◌, List, All, drop, filter, length, nat_le, IfOk, Err};
+ghost use Rattle.std.specs.List.{AllPairs, AllZip};
 ghost use Rattle.lte_types.specs.declared.sib1_reason.Sib1Reason.TheVariants.{LongPrefix as IsLong};
 ghost use Rattle.lte_types.specs.Numerology.{extended, symbol_step};
 ghost use Rattle.lte_types.specs.Ranges.{IsValid};
 ghost use Rattle.pss_search.specs.Hits.{IsInSpan};
 ghost use Rattle.pss_search.specs.Laws.{IsEarlier};
+ghost use Rattle.explain.specs.declared.readings.Reading.{Reading as ReadingValue};
 ghost use Rattle.long_prefix.specs.Clean.{HoldsLoadedCellsOfLong, HoldsCleanCellsOfLong};
-ghost use Rattle.long_prefix.specs.Entries.{long_place, IsLongMaster, IsLongSystem, IsExplainedOfLong};
+ghost use Rattle.long_prefix.specs.Entries.{long_place, long_sums_of, IsLongMaster, IsLongSystem, IsLongGrant};
+ghost use Rattle.long_prefix.specs.Entries.{IsExplainedOfLong, IsReadingOfLong};
 
 use crate::reading::first_masters;
-use explain::{CellReader, EntryList, Masters, Places, explain_by};
-use lte_types::{CellPlace, Hit, Prefix, Sfn, Sib1, Sib1Reason};
+use explain::{CellReader, EntryList, Informed, Masters, Notes, Reading, explain_by};
+use lte_types::{CellPlace, Hit, Prefix, Sfn, Sib1Reason};
 use pbch::Master;
 use pss_search::{HitList, hits, hits_are_right};
 use sample_file::Recording;
 use sss_detect::place_with;
 use std::alloc::{AllocError, Global};
+use std::marker::Model;
 use tailbite::Trellis;
 
 // The way to read the cells of a recording by the extended cyclic prefix.
@@ -26,26 +29,39 @@ struct LongReader {
     trellis: Trellis,
 }
 
-/// The working memory of a search for cells with the extended cyclic prefix. What it holds between two searches means
-/// nothing.
+/// The working memory of a search for cells with the extended cyclic prefix. Contracts see it as how the entries of the
+/// last list were read, in the order of the list; what else it holds between two searches means nothing.
 #[derive(Drop)]
 pub struct Workspace3 {
     hits: HitList,
-    places: Places,
+    notes: Notes,
     reader: LongReader,
+}
+
+impl Model for Workspace3 {
+    ghost Value = { List ReadingValue };
+
+    ghost view = { λ w. w.notes.readings };
 }
 
 impl Workspace3 {
     /// Takes all the memory. Only memory can be wanting.
     pub fn new(alloc: Global) -> Result<Workspace3, AllocError> {
         let hits = HitList::new(alloc)?;
-        let places = Places::new(alloc)?;
+        let notes = Notes::new(alloc)?;
         let trellis = Trellis::new(alloc)?;
         Ok(Workspace3 {
             hits,
-            places,
+            notes,
             reader: LongReader { trellis },
         })
+    }
+
+    /// How the entries of the last list were read, in its order.
+    pub fn readings(&self) -> &[Reading]
+        ensures { result.now ≡ self.now }
+    {
+        self.notes.readings.slice()
     }
 }
 
@@ -57,6 +73,10 @@ impl CellReader for LongReader {
     ghost tells = { IsLongMaster };
 
     ghost told = { λ recording. IsLongSystem };
+
+    ghost sums = { long_sums_of };
+
+    ghost grants = { λ recording. IsLongGrant };
 
     fn place_of(&self, recording: &Recording, hit: &Hit) -> CellPlace {
         let end = recording.len();
@@ -74,8 +94,11 @@ impl CellReader for LongReader {
         place: CellPlace,
         sfn: Sfn,
         master: Master,
-    ) -> Result<Sib1, Sib1Reason> {
-        Err(Sib1Reason::LongPrefix)
+    ) -> Informed {
+        Informed {
+            sib1: Err(Sib1Reason::LongPrefix),
+            granted: None,
+        }
     }
 
     fn tells_one_answer(&self) {}
@@ -105,10 +128,11 @@ fn early_hits(hits: &[Hit]) -> usize
 /// at most twice the gain's size, the list has an entry with this cell's identity, the sample at which its first frame
 /// begins, that frame's number, one antenna port and its master block, and no other with this identity, sample and
 /// number. It does so whatever else the cell sends where its plan sends nothing, beside the synchronisation signals
-/// nothing, in elements of size at most 256 (`loaded`), and so where it sends nothing else (`holds`). It takes no
-/// memory. (own)
+/// nothing, in elements of size at most 256 (`loaded`), and so where it sends nothing else (`holds`). The workspace then
+/// has how each entry was read. It takes no memory. (own)
 pub fn explain_clean(recording: &Recording, work: &mut Workspace3, list: &mut EntryList)
     ensures list { IsExplainedOfLong recording.now list.new }
+    ensures readings { AllZip (IsReadingOfLong recording.now) list.new work.new }
     ensures loaded { HoldsLoadedCellsOfLong recording.now list.new }
     ensures holds { HoldsCleanCellsOfLong recording.now list.new }
     ensures reason { All (λ entry. entry.sib1 ≡ Err IsLong) list.new }
@@ -124,7 +148,7 @@ pub fn explain_clean(recording: &Recording, work: &mut Workspace3, list: &mut En
         &mut work.reader,
         recording,
         &hits[first..],
-        &mut work.places,
+        &mut work.notes,
         list,
     );
 }

@@ -1,12 +1,9 @@
 //! Recordings by number.
 
-ghost use Rattle.std.specs.Prelude.{◌≡◌, ◌+◌, ◌≤◌, ℕ, IfOk, pos};
-ghost use Rattle.finite.specs.Lists.{values_below};
-ghost use Rattle.cs_num.specs.Complex.{times, sample_of};
+ghost use Rattle.std.specs.Prelude.{◌≡◌, ◌≤◌, ℕ, IfOk, pos};
 ghost use Rattle.sample_file.specs.Recording.{IsRecording};
-ghost use Rattle.capture_make.specs.Recipe.{number as number_of, offset as offset_of, sample_count as count_of, gain as gain_with};
-ghost use Rattle.long_prefix.specs.Sent.{long_sent};
-ghost use Rattle.long_prefix.specs.Made.{IsPlanOf, IsMadeLong, IsCleanlyMade};
+ghost use Rattle.capture_make.specs.Recipe.{number as number_of, offset as offset_of, gain as gain_with};
+ghost use Rattle.long_prefix.specs.Made.{IsPlanOf, received_samples as received_of, IsMadeLong, IsCleanlyMade};
 ghost use Rattle.long_prefix.specs.declared.made.LongMade.{LongMade as MadeValue};
 
 use crate::LongPlan;
@@ -54,8 +51,7 @@ fn plan_of(n: u32) -> LongPlan
 
 // What is received without errors, in memory of its own.
 fn received_samples(alloc: Global, plan: &LongPlan, n: u32) -> Result<Vec<Sample>, AllocError>
-    ensures { IfOk result (λ samples. samples.items ≡ values_below (count_of n)
-        (λ i. sample_of (times (gain_with n) (long_sent plan.now (number_of n) (i + offset_of n))))) }
+    ensures { IfOk result (λ samples. samples.items ≡ received_of plan.now n) }
 {
     let mut samples = vec![in alloc; Sample { re: 0, im: 0 }; sample_count(n) as usize]?;
     fill_received(plan, timing(n), gain(n), &mut samples);

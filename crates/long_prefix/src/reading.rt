@@ -1,6 +1,6 @@
 //! What frames tell.
 
-ghost use Rattle.std.specs.Prelude.{◌≡◌, ◌+◌, ◌*◌, ◌^◌, ◌<◌, ◌≤◌, All, length, MatchOption};
+ghost use Rattle.std.specs.Prelude.{◌≡◌, ◌+◌, ◌*◌, ◌^◌, ◌<◌, ◌≤◌, All, length, IfSome, MatchOption};
 ghost use Rattle.finite.specs.Lists.{values_below};
 ghost use Rattle.finite.specs.Sizes.{AllWithin};
 ghost use Rattle.cs_num.specs.Complex.{IsWithin};
@@ -12,8 +12,9 @@ ghost use Rattle.soft_bits.specs.Kept.{slot_of};
 ghost use Rattle.explain.specs.Frame.{IsWhole};
 ghost use Rattle.explain.specs.Window.{TellNone, HasNoMasters};
 ghost use Rattle.explain.specs.Masters.{HaveMasters, AreFirstWith};
-ghost use Rattle.long_prefix.specs.Entries.{long_slot, long_pair, long_values, IsLongMaster};
-ghost use Rattle.long_prefix.specs.Reading.{IsLongMasterOf, AreLongMasters};
+ghost use Rattle.explain.specs.Readings.{AreSums};
+ghost use Rattle.long_prefix.specs.Entries.{long_slot, long_pair, long_values, long_sums, long_sums_of, IsLongMaster};
+ghost use Rattle.long_prefix.specs.Reading.{IsLongMasterOf, AreLongMasters, AreLongSums};
 
 use crate::places::long_places;
 use conv_code::combine_from;
@@ -23,7 +24,7 @@ use explain::{Masters, has_master, whole_frames};
 use grid_map::{Place, pbch_c_init};
 use lte_types::{CellId, CellPlace, FRAME_LENGTH, Prefix};
 use observe::symbol;
-use pbch::{Master, master_of};
+use pbch::{ByPhase, Master, Sums, master_of};
 use sample_file::Recording;
 use soft_bits::{Seen, descramble, energy_of, estimate, pilots_of, soft_pair};
 use tailbite::Trellis;
@@ -112,47 +113,65 @@ fn pair_at(seen: &Seen, pilots: &[Cpx; 24], energy: u64, place: Place) -> [i16; 
     soft_pair(here, channel, energy)
 }
 
-// The master blocks that the values of a frame of a cell tell at phases 0 to 3; `None` where they tell none at a phase.
-fn masters(id: CellId, values: &[i16; 432], work: &mut Trellis) -> [Option<Master>; 4]
-    requires { AllWithin 127 values.now }
-    ensures { AreLongMasters id values.now result }
-{
-    [
-        master_at(id, 0, values, work),
-        master_at(id, 1, values, work),
-        master_at(id, 2, values, work),
-        master_at(id, 3, values, work),
-    ]
+// What a frame tells at a phase, and the sums that tell it.
+#[derive(Clone, Copy)]
+struct Told {
+    master: Option<Master>,
+    sums: Sums,
 }
 
-// The master block of a frame of this phase.
-fn master_at(id: CellId, phase: u8, values: &[i16; 432], work: &mut Trellis) -> Option<Master>
+// What the values of a frame of a cell tell at phases 0 to 3.
+fn masters(id: CellId, values: &[i16; 432], work: &mut Trellis) -> ByPhase
+    requires { AllWithin 127 values.now }
+    ensures masters { AreLongMasters id values.now result.at }
+    ensures sums { AreLongSums id values.now result.sums }
+{
+    let first = told_at(id, 0, values, work);
+    let second = told_at(id, 1, values, work);
+    let third = told_at(id, 2, values, work);
+    let fourth = told_at(id, 3, values, work);
+    ByPhase {
+        at: [first.master, second.master, third.master, fourth.master],
+        sums: [first.sums, second.sums, third.sums, fourth.sums],
+    }
+}
+
+// What a frame of this phase tells.
+fn told_at(id: CellId, phase: u8, values: &[i16; 432], work: &mut Trellis) -> Told
     requires phase { phase < 4 }
     requires sizes { AllWithin 127 values.now }
-    ensures { IsLongMasterOf id values.now phase result }
+    ensures master { IsLongMasterOf id values.now phase result.master }
+    ensures sums { result.sums ≡ long_sums id phase values.now }
 {
     let first = 432 * phase as usize;
     let mut values = *values;
     descramble(pbch_c_init(id), first, &mut values);
-    master_of(&combine_from(first, &values), work)
+    let sums = combine_from(first, &values);
+    Told {
+        master: master_of(&sums, work),
+        sums: Sums::new(&sums),
+    }
 }
 
 // The master blocks of frame `j` of a cell, which lies within the recording, where it has any.
 fn masters_of(recording: &Recording, place: CellPlace, j: u8, work: &mut Trellis) -> Option<Masters>
     requires { IsWhole recording.now place.start j }
-    ensures { MatchOption result (TellNone (IsLongMaster recording.now) place 1 j)
+    ensures masters { MatchOption result (TellNone (IsLongMaster recording.now) place 1 j)
         (λ found. (found.frames ≡ 1) × (found.frame ≡ j)
         × HaveMasters (IsLongMaster recording.now) place 1 j found.at) }
+    ensures sums { IfSome result (λ found.
+        AreSums (long_sums_of recording.now place) found.frames found.frame found.sums) }
 {
     let values = received(recording, place, j);
-    let at = masters(place.id(), &values, work);
-    if !has_master(&at) {
+    let told = masters(place.id(), &values, work);
+    if !has_master(&told.at) {
         return None;
     }
     Some(Masters {
         frames: 1,
         frame: j,
-        at,
+        at: told.at,
+        sums: told.sums,
     })
 }
 
@@ -163,8 +182,10 @@ pub(crate) fn first_masters(
     place: CellPlace,
     work: &mut Trellis,
 ) -> Option<Masters>
-    ensures { MatchOption result (HasNoMasters (IsLongMaster recording.now) recording.now place)
+    ensures masters { MatchOption result (HasNoMasters (IsLongMaster recording.now) recording.now place)
         (λ found. AreFirstWith (IsLongMaster recording.now) recording.now place found.frames found.frame found.at) }
+    ensures sums { IfSome result (λ found.
+        AreSums (long_sums_of recording.now place) found.frames found.frame found.sums) }
 {
     for j in 0..whole_frames(recording, place) {
         match masters_of(recording, place, j, work) {

@@ -5,11 +5,10 @@ ghost use Rattle.finite.specs.Lists.{values_below};
 ghost use Rattle.cs_num.specs.Complex.{times, sample_of};
 ghost use Rattle.fold128.specs.Symbol.{useful_part};
 ghost use Rattle.lte_types.specs.Numerology.{frame_length, extended, most_samples};
-ghost use Rattle.lte_types.specs.Timing.{number_of};
 ghost use Rattle.cell_tx.specs.Rows.{HasSamples, AreSameOutside};
 ghost use Rattle.cell_tx.specs.Sent.{prefix_frame_sample};
 ghost use Rattle.long_prefix.specs.Grid.{long_element};
-ghost use Rattle.long_prefix.specs.Rows.{IsLayout, frame_samples};
+ghost use Rattle.long_prefix.specs.Rows.{IsLayout, frame_samples, frame_at};
 ghost use Rattle.long_prefix.specs.Sent.{long_sent};
 
 use crate::LongPlan;
@@ -77,10 +76,8 @@ struct Sequence<'a> {
 // Makes the frame of sample i of a sequence, where that of the sample before is another one.
 fn enter_frame(sequence: &Sequence, i: usize, clean: &mut [Sample; FRAME_LENGTH])
     requires i { i < most_samples }
-    requires before { 0 < i → clean.old ≡ frame_samples sequence.now.plan.now
-        (number_of sequence.now.timing.sfn (i - 1 + sequence.now.timing.offset)) }
-    ensures { clean.new ≡ frame_samples sequence.now.plan.now
-        (number_of sequence.now.timing.sfn (i + sequence.now.timing.offset)) }
+    requires before { 0 < i → clean.old ≡ frame_at sequence.now.plan.now sequence.now.timing (i - 1) }
+    ensures { clean.new ≡ frame_at sequence.now.plan.now sequence.now.timing i }
 {
     if i == 0 || (i as u64 + sequence.timing.offset as u64) % FRAME == 0 {
         let sfn = sequence.timing.number_at(i as u64);
@@ -97,8 +94,7 @@ fn received_from(
     clean: &[Sample; FRAME_LENGTH],
 ) -> Sample
     requires i { i < most_samples }
-    requires clean { clean.now ≡ frame_samples sequence.now.plan.now
-        (number_of sequence.now.timing.sfn (i + sequence.now.timing.offset)) }
+    requires clean { clean.now ≡ frame_at sequence.now.plan.now sequence.now.timing i }
     ensures { result ≡ sample_of (times gain
         (long_sent sequence.now.plan.now sequence.now.timing.sfn (i + sequence.now.timing.offset))) }
 {

@@ -8,7 +8,7 @@ use Rattle.cs_bits.specs.Checks.{message_of}
 use Rattle.cs_bits.proofs.Signs.{supports-speaks, supports-less}
 use Rattle.turbo_code.specs.declared.rows.Row.{Row}
 use Rattle.turbo_code.specs.Encoder.{coded}
-use Rattle.turbo_code.specs.Reading.{place_of, bit_of}
+use Rattle.turbo_code.specs.Reading.{item_of, bit_of}
 use Rattle.grid_map.specs.declared.Place.{Place}
 use Rattle.grid_map.specs.Place.{place}
 use Rattle.grid_map.specs.Control.{pcfich_places}
@@ -222,8 +222,8 @@ module _ (recording : List Sample) (plan : CellPlan) (grid others : Elements) (s
     matched_heard : (row : Row) → row ≡ row_with (checked_size plan) → row.k ≡ checked_size plan → AreHeard 16 (2 * length places) (matched_bit row (version_of number) (shared_word plan)) values
     unfolding shared_coded
     matched_heard row same k =
-        subst (λ (r : Row). AreHeard 16 (2 * length places) (λ i. bit_of (coded r (shared_word plan)) (place_of row.k (version_of number) i)) values) (sym same)
-        (subst (λ (n : ℕ). AreHeard 16 (2 * length places) (λ i. bit_of (coded (row_with (checked_size plan)) (shared_word plan)) (place_of n (version_of number) i)) values) (sym k) shared_heard)
+        subst (λ (r : Row). AreHeard 16 (2 * length places) (λ i. bit_of (coded r (shared_word plan)) (item_of row.k (version_of number) i)) values) (sym same)
+        (subst (λ (n : ℕ). AreHeard 16 (2 * length places) (λ i. bit_of (coded (row_with (checked_size plan)) (shared_word plan)) (item_of n (version_of number) i)) values) (sym k) shared_heard)
 
     -- its values tell the block
     sent_block : (row : Row) → row ≡ row_with (checked_size plan) → IsRowOf (checked_size plan) row → IsSentBlock row (version_of number) (2 * length places) (shared_word plan)

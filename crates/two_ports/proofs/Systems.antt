@@ -13,6 +13,7 @@ use Rattle.system_block.proofs.Once.{one_reading}
 use Rattle.system_block.proofs.Exists.{read_is_valid, never_long}
 use Rattle.explain.specs.Reader.{AnswersOnce, HasOneSystem}
 use Rattle.explain.specs.System.{even_frame}
+use Rattle.lte_types.specs.declared.carrier.Carrier.TheVariants.{TwoPorts}
 use Rattle.explain.proofs.Information.{one_by, told_first, valid_by, never_long_by}
 use Rattle.explain.proofs.Listed.{sound_of}
 use Rattle.explain.specs.Entries.{place_at, place_of, IsEntryAt}
@@ -25,21 +26,21 @@ one_answer_of_two recording place mib j a b p q = one_reading _ a b p q
 
 pub one_system_of_two : (recording : List Sample) → HasOneSystem (IsSystemOfTwo recording)
 one_system_of_two recording place sfn ports mib a b p q =
-    one_by (FrameAnswersOfTwo recording place mib) (one_answer_of_two recording place mib) recording place.start sfn 2 ports mib a b p q
+    one_by (FrameAnswersOfTwo recording place mib) (one_answer_of_two recording place mib) recording place.start sfn TwoPorts ports mib a b p q
 
 pub system_of_two_is_valid : (recording : List Sample) (place : Place) (sfn ports : ℕ) (mib : Mib) (sib1 : Result Sib1 Sib1Reason) → IsSystemOfTwo recording place sfn ports mib sib1 → IfOk sib1 IsValid
 system_of_two_is_valid recording place sfn ports mib sib1 s =
-    valid_by (FrameAnswersOfTwo recording place mib) (one_answer_of_two recording place mib) recording place.start sfn 2 (λ j fields reads. read_is_valid _ fields reads) ports mib sib1 s
+    valid_by (FrameAnswersOfTwo recording place mib) (one_answer_of_two recording place mib) recording place.start sfn TwoPorts (λ j fields reads. read_is_valid _ fields reads) ports mib sib1 s
 
 pub told_at_first_of_two : (recording : List Sample) (place : Place) (sfn : ℕ) (mib : Mib) (fields : Sib1) → 57600 ≤ length recording → place.start < 19200 → mib.bandwidth ≡ N6 →
     FrameAnswersOfTwo recording place mib (even_frame sfn 0) (Ok fields) → IsSystemOfTwo recording place sfn 2 mib (Ok fields)
 told_at_first_of_two recording place sfn mib fields long early six answers =
-    told_first (FrameAnswersOfTwo recording place mib) (one_answer_of_two recording place mib) recording place.start sfn 2 mib fields long early six answers
+    told_first (FrameAnswersOfTwo recording place mib) (one_answer_of_two recording place mib) recording place.start sfn TwoPorts mib fields long early six answers
 
 -- no entry of the list of a recording has the reason that the prefix is long
 system_of_two_never_long : (recording : List Sample) (place : Place) (sfn ports : ℕ) (mib : Mib) → IsSystemOfTwo recording place sfn ports mib (Err LongPrefix) → ⊥
 system_of_two_never_long recording place sfn ports mib s =
-    never_long_by (FrameAnswersOfTwo recording place mib) (one_answer_of_two recording place mib) recording place.start sfn 2 (λ j reads. never_long _ reads) ports mib s
+    never_long_by (FrameAnswersOfTwo recording place mib) (one_answer_of_two recording place mib) recording place.start sfn TwoPorts (λ j reads. never_long _ reads) ports mib s
 
 pub never_long_of_two : IsNeverLong
 never_long_of_two recording list entry explained inside long =

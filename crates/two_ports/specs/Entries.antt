@@ -8,8 +8,10 @@ use Rattle.lte_types.specs.declared.entry.Entry.{Entry}
 use Rattle.lte_types.specs.declared.sib1_reason.Sib1Reason.TheVariants.{LongPrefix}
 use Rattle.pss_search.specs.Hits.{hits_of}
 use Rattle.explain.specs.Entries.{place_at, IsEntryAt}
+use Rattle.explain.specs.declared.readings.Reading.{Reading}
 use Rattle.explain.specs.Reader.{IsListBy}
-use Rattle.two_ports.specs.Frames.{IsMasterOfTwo, IsSystemOfTwo}
+use Rattle.explain.specs.Readings.{IsReadingBy}
+use Rattle.two_ports.specs.Frames.{IsMasterOfTwo, IsSystemOfTwo, IsGrantOfTwo, sums_of_two}
 
 -- the entry tells a master block of the hit
 abbrev pub IsEntryOfTwo : List Sample → Hit → Entry → Type 0
@@ -18,6 +20,11 @@ IsEntryOfTwo recording hit entry = IsEntryAt (IsMasterOfTwo recording) (IsSystem
 -- the list of a recording
 abbrev pub IsExplainedOfTwo : List Sample → List Entry → Type 0
 IsExplainedOfTwo recording list = IsListBy (IsMasterOfTwo recording) (IsSystemOfTwo recording) recording (place_at recording) (hits_of recording) list
+
+-- an entry of it was read so
+abbrev pub IsReadingOfTwo : List Sample → Entry → Reading → Type 0
+IsReadingOfTwo recording =
+    IsReadingBy (sums_of_two recording) (IsGrantOfTwo recording) (place_at recording) (hits_of recording)
 
 -- no entry of it has the reason that the cyclic prefix is the extended one
 abbrev pub IsNeverLong : Type 0

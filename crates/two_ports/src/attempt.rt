@@ -4,7 +4,7 @@ ghost use Rattle.std.specs.Prelude.{◌≡◌, ◌<◌, ◌≤◌, IfOk};
 ghost use Rattle.lte_types.specs.Ranges.{IsValid};
 ghost use Rattle.dci.specs.Format1A.{IsGrant};
 ghost use Rattle.grid_map.specs.Control.{element_count};
-ghost use Rattle.system_block.specs.Attempt.{IsAttempt, Reads};
+ghost use Rattle.system_block.specs.Attempt.{IsAttempt};
 ghost use Rattle.system_block.specs.Block.{Tells};
 ghost use Rattle.system_block.specs.Control.{Grants};
 ghost use Rattle.two_ports.specs.Values.{candidate_values, shared_values, two_ports};
@@ -18,27 +18,16 @@ use system_block::{Attempt, Decoders, fields_of, grant_of};
 use tailbite::Trellis;
 use turbo_dec::Work;
 
-/// The answer of subframe 5 of a frame: the fields of SystemInformationBlockType1, each in its range, or the first reason
-/// that applies why there are none, as `system_block::attempt_in` gives them for one antenna port. `first` and `second`
-/// are slots 10 and 11 of one cell, and `mib` is its master block, of which only the duration and the resource of the
-/// PHICH are looked at.
-pub(crate) fn read(
+/// The attempt on subframe 5 of a frame: what was read on the way, and the fields of SystemInformationBlockType1, each in
+/// its range, or the first reason that applies why there are none, as `system_block::attempt_in` gives them for one antenna
+/// port. `first` and `second` are slots 10 and 11 of one cell, and `mib` is its master block, of which only the duration
+/// and the resource of the PHICH are looked at.
+pub(crate) fn attempt_in(
     first: &PairSlot,
     second: &PairSlot,
     mib: Mib,
     work: &mut Decoders,
-) -> Result<Sib1, Sib1Reason>
-    requires first { first.now.number ≡ 10 }
-    requires second { second.now.number ≡ 11 }
-    requires cell { second.now.identity ≡ first.now.identity }
-    ensures answer { Reads (two_ports first.now second.now mib.duration mib.resource) result }
-    ensures valid { IfOk result IsValid }
-{
-    attempt_in(first, second, mib, work).answer
-}
-
-// The attempt: what was read on the way, and the answer.
-fn attempt_in(first: &PairSlot, second: &PairSlot, mib: Mib, work: &mut Decoders) -> Attempt
+) -> Attempt
     requires first { first.now.number ≡ 10 }
     requires second { second.now.number ≡ 11 }
     requires cell { second.now.identity ≡ first.now.identity }

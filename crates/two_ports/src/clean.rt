@@ -1,8 +1,9 @@
 //! The list of cells with two antenna ports of a clean recording.
 
 ghost use Rattle.std.specs.Prelude.{All, IfOk};
+ghost use Rattle.std.specs.List.{AllZip};
 ghost use Rattle.lte_types.specs.Ranges.{IsValid};
-ghost use Rattle.two_ports.specs.Entries.{IsExplainedOfTwo};
+ghost use Rattle.two_ports.specs.Entries.{IsExplainedOfTwo, IsReadingOfTwo};
 ghost use Rattle.two_ports.specs.Clean.{HoldsLoadedCellsOfTwo, HoldsCleanCellsOfTwo};
 
 use crate::Workspace2;
@@ -17,9 +18,11 @@ use sample_file::Recording;
 /// which its first frame begins, that frame's number, two antenna ports, its master block, and the fields of its
 /// SystemInformationBlockType1, and no other with this identity, sample and number. It does so whatever else the ports
 /// send where the plan sends nothing, beside the synchronisation signals nothing, in elements of size at most 256
-/// (`loaded`), and so where they send nothing else (`holds`). It takes no memory. (own)
+/// (`loaded`), and so where they send nothing else (`holds`). The workspace then has how each entry was read. It takes no
+/// memory. (own)
 pub fn explain_clean(recording: &Recording, work: &mut Workspace2, list: &mut EntryList)
     ensures list { IsExplainedOfTwo recording.now list.new }
+    ensures readings { AllZip (IsReadingOfTwo recording.now) list.new work.new }
     ensures loaded { HoldsLoadedCellsOfTwo recording.now list.new }
     ensures holds { HoldsCleanCellsOfTwo recording.now list.new }
     ensures valid { All (λ entry. IfOk entry.sib1 IsValid) list.new }

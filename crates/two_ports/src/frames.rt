@@ -2,15 +2,16 @@
 
 ghost use Rattle.std.specs.Prelude.{◌≡◌, ◌<◌};
 ghost use Rattle.explain.specs.Frame.{IsWhole, frame_at, seen_slot};
-ghost use Rattle.two_ports.specs.Frames.{frame_values as values_of, are_two, FrameAnswersOfTwo};
+ghost use Rattle.lte_types.specs.declared.carrier.Carrier.TheVariants.{TwoPorts as TwoPortsCarrier};
+ghost use Rattle.two_ports.specs.Frames.{frame_values as values_of, are_two, FrameAnswersOfTwo, IsAttemptOfTwo};
 
 use crate::PairSlot;
-use crate::attempt::read;
+use crate::attempt::attempt_in;
 use crate::channels::received;
 use explain::{FrameReader, symbols_of};
-use lte_types::{CellPlace, Mib, Sib1, Sib1Reason};
+use lte_types::{Carrier, CellPlace, Mib};
 use sample_file::Recording;
-use system_block::Decoders;
+use system_block::{Attempt, Decoders};
 
 // The way to read frames with two antenna ports: master blocks that tell two are taken, and no others.
 pub(crate) struct TwoPorts;
@@ -29,9 +30,11 @@ impl FrameReader for TwoPorts {
 
     ghost takes = { are_two };
 
-    ghost wanted = { 2 };
+    ghost carrier = { TwoPortsCarrier };
 
     ghost answers = { FrameAnswersOfTwo };
+
+    ghost attempts = { IsAttemptOfTwo };
 
     fn received(&self, recording: &Recording, place: CellPlace, j: u8) -> [i16; 480] {
         received(&slot_of(recording, place, j, 1))
@@ -41,21 +44,21 @@ impl FrameReader for TwoPorts {
         ports == 2
     }
 
-    fn wanted_ports(&self) -> u8 {
-        2
+    fn carrier(&self) -> Carrier {
+        Carrier::TwoPorts
     }
 
-    fn answer(
+    fn attempt(
         &self,
         recording: &Recording,
         place: CellPlace,
         j: u8,
         mib: Mib,
         work: &mut Decoders,
-    ) -> Result<Sib1, Sib1Reason> {
+    ) -> Attempt {
         let first = slot_of(recording, place, j, 10);
         let second = slot_of(recording, place, j, 11);
-        read(&first, &second, mib, work)
+        attempt_in(&first, &second, mib, work)
     }
 
     fn answers_once(&self) {}

@@ -2,11 +2,11 @@
 
 ghost use Rattle.pss_search.specs.Hits.{IsInSpan};
 ghost use Rattle.explain.specs.Entries.{place_at};
-ghost use Rattle.two_ports.specs.Frames.{IsMasterOfTwo, IsSystemOfTwo};
+ghost use Rattle.two_ports.specs.Frames.{IsMasterOfTwo, IsSystemOfTwo, IsGrantOfTwo, sums_of_two};
 
 use crate::frames::TwoPorts;
-use explain::{CellReader, Masters, first_masters, place_of, system_of};
-use lte_types::{CellPlace, Hit, Sfn, Sib1, Sib1Reason};
+use explain::{CellReader, Informed, Masters, first_masters, place_of, system_of};
+use lte_types::{CellPlace, Hit, Sfn};
 use pbch::Master;
 use sample_file::Recording;
 use system_block::Decoders;
@@ -26,6 +26,10 @@ impl CellReader for PairReader {
 
     ghost told = { IsSystemOfTwo };
 
+    ghost sums = { sums_of_two };
+
+    ghost grants = { IsGrantOfTwo };
+
     fn place_of(&self, recording: &Recording, hit: &Hit) -> CellPlace {
         place_of(recording, hit)
     }
@@ -40,7 +44,7 @@ impl CellReader for PairReader {
         place: CellPlace,
         sfn: Sfn,
         master: Master,
-    ) -> Result<Sib1, Sib1Reason> {
+    ) -> Informed {
         system_of(&TwoPorts, recording, place, sfn, master, &mut self.decoders)
     }
 

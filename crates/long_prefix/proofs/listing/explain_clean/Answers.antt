@@ -1,10 +1,12 @@
 use Rattle.std.proofs.Common.{◌≤◌, List, arith, subst, sym, ◌∙◌}
 use Rattle.std.specs.Prelude.{All}
+use Rattle.std.specs.List.{AllZip}
+use Rattle.explain.specs.Readings.{IsReadingBy}
 use Rattle.lte_types.specs.declared.hit.Hit.{Hit}
 use Rattle.lte_types.specs.Numerology.{extended, symbol_step}
 use Rattle.pss_search.specs.Hits.{IsInSpan}
 use Rattle.explain.specs.Reader.{IsListBy}
-use Rattle.long_prefix.specs.Entries.{long_place, IsLongMaster, IsLongSystem}
+use Rattle.long_prefix.specs.Entries.{long_place, long_sums_of, IsLongMaster, IsLongSystem, IsLongGrant}
 use Rattle.long_prefix.proofs.Late.{late_placed, late_slice}
 use Rattle.long_prefix.proofs.HeldLong.{holds_loaded_cells, holds_clean_cells, reasons_are_long, entries_are_valid}
 use Rattle.long_prefix.proofs.listing.explain_clean.Goals as goal
@@ -19,7 +21,13 @@ pub returns-clause-list : goal.returns-clause-list
 returns-clause-list c =
     let recording = c.args.recording.now in
     let late = late_slice recording c.slice-hits.result.now c.early_hits-first.result (c.slice-hits.ensures ∙ c.hits.ensures.list) c.early_hits-first.ensures.within c.early_hits-first.ensures.later in
-    subst (λ (hs : List Hit). IsListBy (IsLongMaster recording) IsLongSystem recording (long_place recording) hs c.explain_by.new.list) late c.explain_by.ensures
+    subst (λ (hs : List Hit). IsListBy (IsLongMaster recording) IsLongSystem recording (long_place recording) hs c.explain_by.new.list) late c.explain_by.ensures.list
+
+pub returns-clause-readings : goal.returns-clause-readings
+returns-clause-readings c =
+    let recording = c.args.recording.now in
+    let late = late_slice recording c.slice-hits.result.now c.early_hits-first.result (c.slice-hits.ensures ∙ c.hits.ensures.list) c.early_hits-first.ensures.within c.early_hits-first.ensures.later in
+    subst (λ (hs : List Hit). AllZip (IsReadingBy (long_sums_of recording) IsLongGrant (long_place recording) hs) c.explain_by.new.list c.explain_by.new.notes.readings) late c.explain_by.ensures.readings
 
 pub returns-clause-loaded : goal.returns-clause-loaded
 returns-clause-loaded c =

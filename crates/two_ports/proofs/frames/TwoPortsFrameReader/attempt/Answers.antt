@@ -1,0 +1,16 @@
+use Rattle.std.proofs.Common.{ap, sym, ◌∙◌}
+use Rattle.soft_bits.specs.Soft.{SeenSlot}
+use Rattle.explain.specs.Frame.{frame_at}
+use Rattle.explain.proofs.FirstFrame.{slot_number, slot_identity}
+use Rattle.two_ports.proofs.frames.TwoPortsFrameReader.attempt.Goals as goal
+
+pub attempt_in-requires-clause-first : goal.attempt_in-requires-clause-first
+attempt_in-requires-clause-first c = ap (λ (s : SeenSlot). s.number) c.slot_of-first.ensures ∙ slot_number c.args.recording.now (frame_at c.args.place.start c.args.j) 10 c.args.place.id
+
+pub attempt_in-requires-clause-second : goal.attempt_in-requires-clause-second
+attempt_in-requires-clause-second c = ap (λ (s : SeenSlot). s.number) c.slot_of-second.ensures ∙ slot_number c.args.recording.now (frame_at c.args.place.start c.args.j) 11 c.args.place.id
+
+pub attempt_in-requires-clause-cell : goal.attempt_in-requires-clause-cell
+attempt_in-requires-clause-cell c =
+    ap (λ (s : SeenSlot). s.identity) c.slot_of-second.ensures ∙ slot_identity c.args.recording.now (frame_at c.args.place.start c.args.j) 11 c.args.place.id
+    ∙ sym (ap (λ (s : SeenSlot). s.identity) c.slot_of-first.ensures ∙ slot_identity c.args.recording.now (frame_at c.args.place.start c.args.j) 10 c.args.place.id)
