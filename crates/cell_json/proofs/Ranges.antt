@@ -1,12 +1,13 @@
 -- What the conditions of a description say of the transmission.
 use Rattle.std.proofs.Common.{◌≡◌, ℕ, ◌≤◌, ◌<◌, ℤ, pos, arith, refl, ap, sym, subst, ◌∙◌, Bool, true, false, if◌then◌else◌, nat_abs, List, ◌∷◌, Some, None, is_some}
-use Rattle.std.specs.Prelude.{codes}
+use Rattle.std.specs.Prelude.{codes, nat_le, ◌&&◌}
 use Rattle.serde_json.specs.Data.{Data}
 use Rattle.serde_json.specs.Find.{get}
 use Rattle.std.proofs.lemmas.Int.{ints}
 use Rattle.std.proofs.lemmas.Bool.Decides.{nat_tests}
 use Rattle.std.proofs.lemmas.Option.{option_and_then_some}
 use Rattle.cs_num.specs.declared.Cpx.{Cpx}
+use Rattle.cs_num.specs.Complex.{square}
 use Rattle.cs_num.specs.Gain.{IsGain}
 use Rattle.lte_types.specs.declared.sib1.Sib1.{Sib1}
 use Rattle.lte_types.specs.Ranges.{IsValid}
@@ -19,7 +20,7 @@ use Rattle.cell_tx.specs.Conditions.{Condition, condition, first_failed}
 use Rattle.cell_tx.specs.Plan.{IsSendable, plan_refusal}
 use Rattle.cell_tx.proofs.Sendable.{accepted_is_sendable}
 use Rattle.cell_json.specs.Kinds.{is_between}
-use Rattle.cell_json.specs.Information.{sib1_of}
+use Rattle.cell_json.specs.Information.{sib1_in}
 use Rattle.cell_json.specs.Description.{is_gain, has_form, number_at, gain_at, sib1_at, in_field, plan_of, cell_conditions, conditions}
 use Rattle.cell_json.specs.Reading.{refusal_of, Describes, HasValues}
 use Rattle.cell_json.proofs.Refusals.{cell_conditions_are}
@@ -39,6 +40,12 @@ within least most n z e b = between least most n (subst (λ y. is_between (pos l
 
 gain_holds : (g : Cpx) → is_gain g ≡ true → IsGain g
 gain_holds g e = record { least = grind (arith, nat_tests); most = grind (arith, nat_tests) }
+
+pub gain_passes : (g : Cpx) → IsGain g → is_gain g ≡ true
+gain_passes g is = let least = is.least in let most = is.most in both (square g) least most
+  where
+    both : (s : ℕ) → 1 ≤ s → s ≤ 784 → (nat_le 1 s && nat_le s 784) ≡ true
+    both s p q = grind (arith, nat_tests)
 
 -- all conditions after the form hold
 record AllHold (json : Data) : Type 0 where
@@ -73,7 +80,7 @@ held most n z e below = settle (is_between (pos 0) (pos most) z) refl below
     settle false is h = absurd (omega (arith, h))
 
 block_is_valid : (json : Data) (sib1 : Sib1) → Some sib1 ≡ sib1_at json → IsValid sib1
-block_is_valid json sib1 e = option_and_then_some sib1_of (get (codes "sib1") json) sib1 (sym e) (λ inner is h. read_is_valid inner sib1 h)
+block_is_valid json sib1 e = option_and_then_some sib1_in (get (codes "sib1") json) sib1 (sym e) (λ inner is h. read_is_valid inner sib1 h)
 
 -- a plan with a description's values is the plan of the description
 same_plan : (t : Transmission) (json : Data) → HasValues t json → IsSendable (plan_of json t.cell.sib1) → plan_of json t.cell.sib1 ≡ t.cell

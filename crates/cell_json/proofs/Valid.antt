@@ -1,5 +1,5 @@
 -- What is read of SystemInformationBlockType1 is in its ranges.
-use Rattle.std.proofs.Common.{◌≡◌, if◌then◌else◌, ℕ, ◌≤◌, ◌<◌, ◌^◌, ℤ, pos, negsuc, ◌≤ℤ◌, List, [], ◌∷◌, length, Bool, true, false, nat_le, nat_eq, ◌&&◌, suc, ◌-◌, Option, Some, None, option_map, is_some, nat_abs, arith, refl, sym, ap, subst, ◌∙◌}
+use Rattle.std.proofs.Common.{◌≡◌, if◌then◌else◌, ℕ, ◌≤◌, ℤ, pos, negsuc, ◌≤ℤ◌, List, [], ◌∷◌, length, Bool, true, false, nat_le, nat_eq, ◌&&◌, suc, ◌-◌, Option, Some, None, option_map, is_some, nat_abs, arith, refl, sym, ap, subst, ◌∙◌}
 use Rattle.std.specs.Prelude.{codes, All, IfSome}
 use Rattle.std.proofs.lemmas.Int.{ints}
 use Rattle.std.proofs.lemmas.Bool.Decides.{nat_tests}
@@ -17,7 +17,7 @@ use Rattle.lte_types.specs.declared.si_message.SiMessage.{SiMessage}
 use Rattle.lte_types.specs.declared.sib1.Sib1.{Sib1}
 use Rattle.lte_types.specs.Ranges.{AreDigits, HasDigits, IsValidPlmn, FirstHasMcc, ArePlmns, IsValidMessage, AreMessages, IsGroup, IsLevel, IsLevelOffset, IsPower, IsAccess, IsSelection, IsValid}
 use Rattle.cell_json.specs.Kinds.{given, whole_of, is_between, whole_within, natural_within, null_or, each, items_within, list_within, at_key}
-use Rattle.cell_json.specs.Information.{digit_of, two_digits, three_digits, mcc_of, mnc_in, mnc_of, network_of, first_has_mcc, networks_of, period_in, window_in, message_of, access_of, selection_of, sib1_of}
+use Rattle.cell_json.specs.Information.{digit_of, two_digits, three_digits, mcc_of, mnc_in, mnc_of, network_of, first_has_mcc, networks_of, period_in, window_in, message_of, access_in, selection_in, sib1_in}
 
 -- ---- kinds
 
@@ -164,7 +164,7 @@ below_power : (o : Option ℕ) → IfSome o (λ n. (0 ≤ n) × (n ≤ 134217727
 below_power None h = tt
 below_power (Some n) h = omega (arith, h.1)
 
-accesses : (json : Data) (access : CellAccessRelatedInfo) → access_of json ≡ Some access → IsAccess access
+accesses : (json : Data) (access : CellAccessRelatedInfo) → access_in json ≡ Some access → IsAccess access
 accesses json access r = option_and_then_some _ (at_key networks_of (codes "plmns") json) access r (λ plmns e1 r1.
     option_and_then_some _ (at_key (natural_within 0 65535) (codes "tac") json) access r1 (λ tac e2 r2.
     option_and_then_some _ (at_key (natural_within 0 268435455) (codes "cell") json) access r2 (λ cell e3 r3.
@@ -180,7 +180,7 @@ accesses json access r = option_and_then_some _ (at_key networks_of (codes "plmn
       csg_identity = below_power csg_identity groups;
     }))))))))
 
-selections : (json : Data) (selection : CellSelectionInfo) → selection_of json ≡ Some selection → IsSelection selection
+selections : (json : Data) (selection : CellSelectionInfo) → selection_in json ≡ Some selection → IsSelection selection
 selections json selection r = option_and_then_some _ (at_key (whole_within (negsuc 69) (negsuc 21)) (codes "q_rx") json) selection r (λ q_rx e1 r1.
     option_and_then_some _ (at_key (null_or (natural_within 1 8)) (codes "q_offset") json) selection r1 (λ q_offset e2 r2.
     subst IsSelection (same_Some _ selection r2) (record {
@@ -188,10 +188,10 @@ selections json selection r = option_and_then_some _ (at_key (whole_within (negs
       q_offset = at (λ o. IfSome o IsLevelOffset) (null_or (natural_within 1 8)) (or_null IsLevelOffset (natural_within 1 8) (naturals 1 8)) (codes "q_offset") json q_offset e2;
     })))
 
-pub read_is_valid : (json : Data) (s : Sib1) → sib1_of json ≡ Some s → IsValid s
-unfolding sib1_of
-read_is_valid json s r = option_and_then_some _ (access_of json) s r (λ access e1 r1.
-    option_and_then_some _ (selection_of json) s r1 (λ selection e2 r2.
+pub read_is_valid : (json : Data) (s : Sib1) → sib1_in json ≡ Some s → IsValid s
+unfolding sib1_in
+read_is_valid json s r = option_and_then_some _ (access_in json) s r (λ access e1 r1.
+    option_and_then_some _ (selection_in json) s r1 (λ selection e2 r2.
     option_and_then_some _ (at_key (null_or (whole_within (negsuc 29) (pos 33))) (codes "p_max") json) s r2 (λ p_max e3 r3.
     option_and_then_some _ (at_key (natural_within 1 64) (codes "band") json) s r3 (λ band e4 r4.
     option_and_then_some _ (at_key (list_within 1 32 message_of) (codes "scheduling") json) s r4 (λ scheduling e5 r5.

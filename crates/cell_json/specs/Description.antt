@@ -18,7 +18,7 @@ use Rattle.cell_tx.specs.declared.error.CellError.TheVariants.{Form, Sfn, Offset
 use Rattle.cell_tx.specs.Conditions.{Condition, condition}
 use Rattle.cell_tx.specs.Plan.{plan_conditions}
 use Rattle.cell_json.specs.Kinds.{whole_of, is_between, null_or, list_of, at_key, has, has_exactly, object_of}
-use Rattle.cell_json.specs.Information.{sib1_of}
+use Rattle.cell_json.specs.Information.{sib1_in}
 
 -- ---- kinds of its own
 
@@ -139,9 +139,10 @@ resource_at json = unwrap_or (at_key resource_of (codes "resource") json) OneSix
 
 -- SystemInformationBlockType1, where each of its values is in its range
 abbrev pub sib1_at : Data → Option Sib1
-sib1_at json = at_key sib1_of (codes "sib1") json
+sib1_at json = at_key sib1_in (codes "sib1") json
 
--- a number in a field of the plan; what the field cannot hold stands as its greatest number, which no condition accepts
+-- a number in a field of the plan; what the field cannot hold stands as its greatest number, which no condition
+-- accepts
 abbrev pub in_field : ℕ → ℤ → ℕ
 in_field most z = if is_between (pos 0) (pos most) z then nat_abs z else most
 

@@ -12,6 +12,7 @@ use Rattle.lte_types.specs.declared.si_message.SiMessage.{SiMessage}
 use Rattle.lte_types.specs.declared.sib1.Sib1.{Sib1}
 use Rattle.lte_types.specs.declared.window.Window.{Window}
 use Rattle.lte_types.specs.Codes.{period_of, window_of}
+use Rattle.lte_types.specs.Parts.{sib1_of}
 use Rattle.cell_json.specs.Kinds.{◌>>=◌, given, whole_within, natural_within, null_or, list_within, at_key}
 
 -- ---- identities of networks
@@ -87,8 +88,8 @@ message_of json = do
 -- ---- the block; a description has no TDD-Config and no extension
 
 -- who may use the cell
-abbrev pub access_of : Data → Option CellAccessRelatedInfo
-access_of json = do
+abbrev pub access_in : Data → Option CellAccessRelatedInfo
+access_in json = do
   plmns ← at_key networks_of (codes "plmns") json
   tac ← at_key (natural_within 0 65535) (codes "tac") json
   cell ← at_key (natural_within 0 268435455) (codes "cell") json
@@ -96,39 +97,30 @@ access_of json = do
   intra ← at_key as_bool (codes "intra") json
   csg ← at_key as_bool (codes "csg") json
   csg_identity ← at_key (null_or (natural_within 0 134217727)) (codes "csg_identity") json
-  Some (record { plmns = plmns; tac = tac; cell = cell; barred = barred; intra = intra; csg = csg; csg_identity = csg_identity })
+  Some (record {
+    plmns = plmns;
+    tac = tac;
+    cell = cell;
+    barred = barred;
+    intra = intra;
+    csg = csg;
+    csg_identity = csg_identity;
+  })
 
 -- its levels
-abbrev pub selection_of : Data → Option CellSelectionInfo
-selection_of json = do
+abbrev pub selection_in : Data → Option CellSelectionInfo
+selection_in json = do
   q_rx ← at_key (whole_within (negsuc 69) (negsuc 21)) (codes "q_rx") json
   q_offset ← at_key (null_or (natural_within 1 8)) (codes "q_offset") json
   Some (record { q_rx = q_rx; q_offset = q_offset })
 
-unfoldable pub sib1_of : Data → Option Sib1
-sib1_of json = do
-  access ← access_of json
-  selection ← selection_of json
+unfoldable pub sib1_in : Data → Option Sib1
+sib1_in json = do
+  access ← access_in json
+  selection ← selection_in json
   p_max ← at_key (null_or (whole_within (negsuc 29) (pos 33))) (codes "p_max") json
   band ← at_key (natural_within 1 64) (codes "band") json
   scheduling ← at_key (list_within 1 32 message_of) (codes "scheduling") json
   window ← at_key window_in (codes "window") json
   tag ← at_key (natural_within 0 31) (codes "tag") json
-  Some (record {
-    plmns = access.plmns;
-    tac = access.tac;
-    cell = access.cell;
-    barred = access.barred;
-    intra = access.intra;
-    csg = access.csg;
-    csg_identity = access.csg_identity;
-    q_rx = selection.q_rx;
-    q_offset = selection.q_offset;
-    p_max = p_max;
-    band = band;
-    scheduling = scheduling;
-    tdd = None;
-    window = window;
-    tag = tag;
-    extended = false;
-  })
+  Some (sib1_of access selection p_max band scheduling None window tag false)

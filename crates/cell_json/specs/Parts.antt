@@ -3,8 +3,7 @@ use Rattle.std.specs.Prelude.{◌≡◌, codes}
 use Rattle.serde_json.specs.Data.{Data}
 use Rattle.cell_json.specs.declared.description.Sending.{Sending}
 use Rattle.cell_json.specs.declared.description.Numbers.{Numbers}
-use Rattle.cell_json.specs.declared.description.Description.{Description}
-use Rattle.cell_json.specs.Description.{number_at, gain_at, duration_at, resource_at}
+use Rattle.cell_json.specs.Description.{number_at, gain_at}
 
 -- they are those of a JSON value: what is sent of the cell,
 pub record HasSending (d : Sending) (json : Data) : Type 0 where
@@ -13,7 +12,7 @@ pub record HasSending (d : Sending) (json : Data) : Type 0 where
   pub samples : d.samples ≡ number_at (codes "samples") json
   pub gain : d.gain ≡ gain_at json
 
--- the numbers of its plan,
+-- and the numbers of its plan
 pub record HasNumbers (d : Numbers) (json : Data) : Type 0 where
   pub identity : d.identity ≡ number_at (codes "identity") json
   pub spare : d.spare ≡ number_at (codes "spare") json
@@ -22,10 +21,3 @@ pub record HasNumbers (d : Numbers) (json : Data) : Type 0 where
   pub blocks : d.blocks ≡ number_at (codes "blocks") json
   pub mcs : d.mcs ≡ number_at (codes "mcs") json
   pub column : d.column ≡ number_at (codes "column") json
-
--- and all
-pub record HasParts (d : Description) (json : Data) : Type 0 where
-  pub sending : HasSending d.sending json
-  pub numbers : HasNumbers d.numbers json
-  pub duration : d.duration ≡ duration_at json
-  pub resource : d.resource ≡ resource_at json

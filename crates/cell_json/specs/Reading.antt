@@ -41,6 +41,14 @@ pub record HasValues (t : Transmission) (json : Data) : Type 0 where
   pub samples : pos t.samples ≡ number_at (codes "samples") json
   pub gain : t.gain ≡ gain_at json
 
+-- the JSON value is a valid description, and these are its values
+abbrev pub IsValueOf : Data → Transmission → Type 0
+IsValueOf json t = (first_failed (conditions json) ≡ None) × HasValues t json
+
+-- the JSON value is refused for the first condition that fails
+abbrev pub IsRefusedFor : Data → CellError → Type 0
+IsRefusedFor json cause = first_failed (conditions json) ≡ Some cause
+
 -- the bytes are a valid description of the transmission
 pub record Describes (bytes : List ℕ) (t : Transmission) : Type 0 where
   pub value : Data

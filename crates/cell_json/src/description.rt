@@ -3,8 +3,8 @@
 ghost use Rattle.std.specs.Prelude.{◌≡◌, IsTrue, IsFalse, MatchOption, codes};
 ghost use Rattle.serde_json.specs.View.{view};
 ghost use Rattle.cell_json.specs.Kinds.{at_key, has, has_all, object_of};
-ghost use Rattle.cell_json.specs.Description.{pair_of, duration_of, resource_of, sib1_keys, sending_keys, number_keys, has_form};
-ghost use Rattle.cell_json.specs.Parts.{HasSending, HasNumbers, HasParts};
+ghost use Rattle.cell_json.specs.Description.{pair_of, duration_of, duration_at, resource_of, resource_at, sib1_keys, sending_keys, number_keys, has_form};
+ghost use Rattle.cell_json.specs.Parts.{HasSending, HasNumbers};
 
 use crate::form::is_sib1;
 use crate::kinds::{count_keys, whole};
@@ -33,13 +33,19 @@ pub(crate) struct Numbers {
     pub column: i64,
 }
 
-/// The values of a description but for SystemInformationBlockType1.
+/// A JSON value with the form of a description, and its values but for SystemInformationBlockType1.
 #[derive(Clone, Copy)]
-pub(crate) struct Description {
+pub(crate) struct Description<'a> {
+    pub value: &'a Value,
     pub sending: Sending,
     pub numbers: Numbers,
     pub duration: Duration,
     pub resource: Resource,
+    pub ghost has_form: { IsTrue (has_form (view value.now)) },
+    pub ghost has_sending: { HasSending sending (view value.now) },
+    pub ghost has_numbers: { HasNumbers numbers (view value.now) },
+    pub ghost has_duration: { duration ≡ duration_at (view value.now) },
+    pub ghost has_resource: { resource ≡ resource_at (view value.now) },
 }
 
 // The value, as a list of exactly two whole numbers, the real part first.
@@ -118,16 +124,16 @@ fn has_sib1(value: &Value) -> bool
     }
 }
 
-/// The values of a description; `None` exactly where the JSON value has not its form.
+/// The description that a JSON value is; `None` exactly where it has not the form of one.
 #[tactic(auto, using(crate::proofs::Tables::form_parts))]
-pub(crate) fn description_of(value: &Value) -> Option<Description>
-    ensures { MatchOption result (IsFalse (has_form (view value.now)))
-        (λ d. IsTrue (has_form (view value.now)) × HasParts d (view value.now)) }
+pub(crate) fn description_of(value: &Value) -> Option<Description<'_>>
+    ensures { MatchOption result (IsFalse (has_form (view value.now))) (λ d. d.value.now ≡ value.now) }
 {
     if count_keys(value) != 14 || !has_sib1(value) {
         return None;
     }
     Some(Description {
+        value,
         sending: sending_of(value)?,
         numbers: numbers_of(value)?,
         duration: duration(value, "duration")?,

@@ -4,7 +4,10 @@ ghost use Rattle.std.specs.Prelude.{◌≡◌, ◌≤◌, ◌<◌, pos, negsuc, 
 ghost use Rattle.serde_json.specs.View.{view, items_view};
 ghost use Rattle.cell_json.specs.Kinds.{natural_within as natural_of, whole_within as whole_of, null_or, each, list_within, at_key};
 ghost use Rattle.cell_json.specs.Information.{mcc_of, mnc_in, mnc_of as network_code_of, network_of, networks_of, period_in, window_in};
-ghost use Rattle.cell_json.specs.Information.{digit_of as digit_in, two_digits as two_in, three_digits as three_in, message_of as entry_of, first_has_mcc as first_of, access_of as access_in, selection_of as selection_in, sib1_of as block_of};
+ghost use Rattle.cell_json.specs.Information.{digit_of as digit_in, two_digits as two_in, three_digits as three_in};
+ghost use Rattle.cell_json.specs.Information.{message_of as entry_of, first_has_mcc as first_of};
+ghost use Rattle.cell_json.specs.Information.{access_in as described_access, selection_in as described_selection};
+ghost use Rattle.cell_json.specs.Information.{sib1_in as described_sib1};
 
 use crate::kinds::{
     items_within, natural_at, natural_or_null_at, natural_within, small_within, truth,
@@ -199,8 +202,8 @@ fn q_offset_at(value: &Value, key: &str) -> Option<Option<u8>>
 }
 
 // Who may use the cell.
-fn access_of(value: &Value) -> Option<CellAccessRelatedInfo>
-    ensures { result ≡ access_in (view value.now) }
+fn access_in(value: &Value) -> Option<CellAccessRelatedInfo>
+    ensures { result ≡ described_access (view value.now) }
 {
     Some(CellAccessRelatedInfo {
         plmns: plmns_of(value.get("plmns")?)?,
@@ -214,8 +217,8 @@ fn access_of(value: &Value) -> Option<CellAccessRelatedInfo>
 }
 
 // Its levels.
-fn selection_of(value: &Value) -> Option<CellSelectionInfo>
-    ensures { result ≡ selection_in (view value.now) }
+fn selection_in(value: &Value) -> Option<CellSelectionInfo>
+    ensures { result ≡ described_selection (view value.now) }
 {
     Some(CellSelectionInfo {
         q_rx: small_within(value.get("q_rx")?, -70, -22)?,
@@ -224,12 +227,12 @@ fn selection_of(value: &Value) -> Option<CellSelectionInfo>
 }
 
 /// SystemInformationBlockType1 with each value in its range.
-#[tactic(auto, unfolding(crate::specs::Information::sib1_of))]
-pub(crate) fn sib1_of(value: &Value) -> Option<Sib1>
-    ensures { result ≡ block_of (view value.now) }
+#[tactic(auto, unfolding(crate::specs::Information::sib1_in))]
+pub(crate) fn sib1_in(value: &Value) -> Option<Sib1>
+    ensures { result ≡ described_sib1 (view value.now) }
 {
-    let access = access_of(value)?;
-    let selection = selection_of(value)?;
+    let access = access_in(value)?;
+    let selection = selection_in(value)?;
     Some(Sib1 {
         plmns: access.plmns,
         tac: access.tac,

@@ -1,19 +1,15 @@
 //! Descriptions as bytes.
 
-ghost use Rattle.std.specs.Prelude.{◌≡◌, pos, Some, None, IsTrue, IsFalse, IfSome, IfOk, MatchOption, MatchResult};
-ghost use Rattle.serde_json.specs.Data.{Data};
+ghost use Rattle.std.specs.Prelude.{◌≡◌, pos, IsTrue, IsFalse, IfSome, MatchOption, MatchResult};
 ghost use Rattle.serde_json.specs.View.{view};
 ghost use Rattle.lte_types.specs.Ranges.{IsValid};
-ghost use Rattle.cell_tx.specs.Conditions.{first_failed};
-ghost use Rattle.cell_tx.specs.Plan.{IsSendable, plan_refusal};
 ghost use Rattle.cell_json.specs.Kinds.{is_between};
-ghost use Rattle.cell_json.specs.Description.{in_field, sib1_at, plan_of as described_plan, has_form, conditions};
-ghost use Rattle.cell_json.specs.Parts.{HasParts};
-ghost use Rattle.cell_json.specs.Reading.{HasValues, Describes, IsRefused};
+ghost use Rattle.cell_json.specs.Description.{in_field, sib1_at, plan_of as described_plan};
+ghost use Rattle.cell_json.specs.Reading.{IsValueOf, IsRefusedFor, Describes, IsRefused};
 
 use crate::JsonError;
 use crate::description::{Description, description_of};
-use crate::information::sib1_of;
+use crate::information::sib1_in;
 use crate::kinds::within;
 use cell_tx::{Cell, CellError, CellPlan, Transmission};
 use cs_num::Gain;
@@ -41,7 +37,7 @@ pub fn read(alloc: Global, bytes: &[u8]) -> Result<Transmission, JsonError>
     let Some(description) = description_of(&value) else {
         return Err(JsonError::Cell(CellError::Form));
     };
-    match transmission_of(&description, &value) {
+    match transmission_of(&description) {
         Ok(transmission) => Ok(transmission),
         Err(cause) => Err(JsonError::Cell(cause)),
     }
@@ -76,9 +72,8 @@ fn in_8_bits(number: &i64) -> u8
 }
 
 // The plan of a description with this block.
-fn plan_of(description: &Description, sib1: Sib1) -> CellPlan
-    ensures values { (json : Data) → HasParts description.now json → result ≡ described_plan json sib1 }
-    ensures block { result.sib1 ≡ sib1 }
+fn plan_of(description: &Description<'_>, sib1: Sib1) -> CellPlan
+    ensures { result ≡ described_plan (view description.now.value.now) sib1 }
 {
     let numbers = &description.numbers;
     CellPlan {
@@ -95,38 +90,26 @@ fn plan_of(description: &Description, sib1: Sib1) -> CellPlan
     }
 }
 
-// The cell of a description with this block, or its first failed condition.
-fn cell_of(description: &Description, sib1: Sib1) -> Result<Cell, CellError>
-    requires { IsValid sib1 }
-    ensures sendable { IfOk result IsSendable }
-    ensures decided { (json : Data) → HasParts description.now json → MatchResult result
-        (λ cell. (plan_refusal (described_plan json sib1) ≡ None) × (cell ≡ described_plan json sib1))
-        (λ cause. plan_refusal (described_plan json sib1) ≡ Some cause) }
-{
-    Cell::new(plan_of(description, sib1))
-}
-
 // SystemInformationBlockType1 of a description, where each value is in its range.
 fn information_of(value: &Value) -> Option<Sib1>
     ensures value { result ≡ sib1_at (view value.now) }
     ensures valid { IfSome result IsValid }
 {
-    sib1_of(value.get("sib1")?)
+    sib1_in(value.get("sib1")?)
 }
 
 // The transmission of a description, or the first failed condition after the form.
-fn transmission_of(description: &Description, value: &Value) -> Result<Transmission, CellError>
-    ensures { IsTrue (has_form (view value.now)) → HasParts description.now (view value.now) → MatchResult result
-        (λ t. (first_failed (conditions (view value.now)) ≡ None) × HasValues t (view value.now))
-        (λ cause. first_failed (conditions (view value.now)) ≡ Some cause) }
+fn transmission_of(description: &Description<'_>) -> Result<Transmission, CellError>
+    ensures { MatchResult result (IsValueOf (view description.now.value.now))
+        (IsRefusedFor (view description.now.value.now)) }
 {
     let sending = &description.sending;
     let sfn = sfn_of(&sending.sfn).ok_or(CellError::Sfn)?;
     let offset = within(&sending.offset, 0, 19_199).ok_or(CellError::Offset)?;
     let samples = within(&sending.samples, LEAST, MOST).ok_or(CellError::Samples)?;
     let gain = Gain::of(sending.gain).ok_or(CellError::Gain)?;
-    let sib1 = information_of(value).ok_or(CellError::Sib1Range)?;
-    let cell = cell_of(description, sib1)?;
+    let sib1 = information_of(description.value).ok_or(CellError::Sib1Range)?;
+    let cell = Cell::new(plan_of(description, sib1))?;
     Ok(Transmission {
         cell,
         timing: Timing { sfn, offset },

@@ -9,6 +9,7 @@ use Rattle.lte_types.specs.declared.si_message.SiMessage.{SiMessage}
 use Rattle.lte_types.specs.declared.sib1.Sib1.{Sib1}
 use Rattle.lte_types.specs.declared.window.Window.{Window}
 use Rattle.lte_types.specs.Codes.{period, window}
+use Rattle.lte_types.specs.Parts.{sib1_of}
 use Rattle.uper.specs.Grammar.{Grammar, done, ◌>>=◌, from_to, flag, if_present, times}
 use Rattle.lte_types.specs.declared.cell_access_related_info.CellAccessRelatedInfo.{CellAccessRelatedInfo}
 use Rattle.lte_types.specs.declared.cell_selection_info.CellSelectionInfo.{CellSelectionInfo}
@@ -156,22 +157,6 @@ sib1 = do
   scheduling ← scheduling_info_list
   tdd ← if_present has_tdd_config tdd_config
   window ← si_window_length
-  system_info_value_tag ← from_to 5 0 31
-  done (record {
-    plmns = access.plmns;
-    tac = access.tac;
-    cell = access.cell;
-    barred = access.barred;
-    intra = access.intra;
-    csg = access.csg;
-    csg_identity = access.csg_identity;
-    q_rx = selection.q_rx;
-    q_offset = selection.q_offset;
-    p_max = p_max;
-    band = freq_band_indicator + 1;
-    scheduling = scheduling;
-    tdd = tdd;
-    window = window;
-    tag = system_info_value_tag;
-    extended = has_extension;
-  })
+  value_tag ← from_to 5 0 31
+  done
+      (sib1_of access selection p_max (freq_band_indicator + 1) scheduling tdd window value_tag has_extension)

@@ -1,7 +1,10 @@
-use Rattle.std.proofs.Common.{◌≡◌, Bool, true, false, nat_eq, ◌&&◌, sym, ◌∙◌, rules}
+use Rattle.std.proofs.Common.{◌≡◌, Bool, true, false, nat_eq, ◌&&◌, sym, ap, ◌∙◌, rules}
 use Rattle.std.specs.Prelude.{codes}
+use Rattle.std.specs.Option.{unwrap_or}
 use Rattle.serde_json.specs.Data.{Data}
 use Rattle.serde_json.specs.View.{view}
+use Rattle.lte_types.specs.declared.duration.Duration.TheVariants.{Normal}
+use Rattle.lte_types.specs.declared.resource.Resource.TheVariants.{OneSixth}
 use Rattle.cell_json.specs.Kinds.{has, has_all, key_count, object_of}
 use Rattle.cell_json.specs.Description.{sending_keys, number_keys, duration_of, resource_of, sib1_keys}
 use Rattle.cell_json.proofs.Tables.{form_parts}
@@ -19,8 +22,14 @@ returns-then-count_keys-ne14 c =
     let parts : parts_fit json ≡ false = search rules in
     sym (form_parts json) ∙ parts
 
-pub returns : goal.returns
-returns c =
+pub invariant_of-result-clause-has_form : goal.invariant_of-result-clause-has_form
+invariant_of-result-clause-has_form c =
     let json = view c.args.value.now in
     let parts : parts_fit json ≡ true = search rules in
-    (sym (form_parts json) ∙ parts, search rules)
+    sym (form_parts json) ∙ parts
+
+pub invariant_of-result-clause-has_duration : goal.invariant_of-result-clause-has_duration
+invariant_of-result-clause-has_duration c = ap (λ found. unwrap_or found Normal) c.in_ok-duration.ensures
+
+pub invariant_of-result-clause-has_resource : goal.invariant_of-result-clause-has_resource
+invariant_of-result-clause-has_resource c = ap (λ found. unwrap_or found OneSixth) c.in_ok-resource.ensures
