@@ -1,30 +1,16 @@
 -- Trying 25 gains in order finds the best candidate.
-use Rattle.std.proofs.Common.{add-one, ◌≡◌, ℕ, zero, suc, ◌+◌, ◌*◌, ◌/◌, ◌%◌, ◌<◌, ◌≤◌, ◌⊎◌, inl, inr, arith, refl, ap, sym, ◌∙◌, subst, Bool, true, false, true≢false, nat_le, nat_lt, Option, Some, None, ltb-true, ltb-false, ℤ, pos, ◌+ℤ◌, ◌-ℤ◌, ◌≤ℤ◌, ◌<ℤ◌, nat_abs}
-use Rattle.std.specs.Prelude.{if◌then◌else◌, ◌&&◌}
+use Rattle.std.proofs.Common.{◌≡◌, ℕ, ◌+◌, ◌*◌, ◌/◌, ◌%◌, ◌<◌, ◌≤◌, ◌⊎◌, inl, inr, arith, refl, ap, sym, ◌∙◌, subst, Bool, true, false, nat_lt, Option, Some, None, ltb-true, ltb-false, ℤ, pos, ◌+ℤ◌, ◌-ℤ◌, ◌≤ℤ◌, ◌<ℤ◌, nat_abs}
+use Rattle.std.specs.Prelude.{if◌then◌else◌}
 use Rattle.std.proofs.lemmas.Int.{ints}
-use Rattle.std.proofs.lemmas.Bool.{cases_lt, leb-true, and_parts}
-use Rattle.std.proofs.lemmas.Bool.Decides.{nat_tests}
+use Rattle.std.proofs.lemmas.Bool.{cases_lt}
 use Rattle.cs_num.specs.declared.Cpx.{Cpx}
-use Rattle.cs_num.specs.Complex.{IsWithin, minus, square}
+use Rattle.cs_num.specs.Complex.{minus, square}
 use Rattle.cs_num.proofs.Complex.{pair}
 use Rattle.sizes.proofs.Squares.{re-le, im-le}
-use Rattle.cancel.specs.Gain.{IsCandidate, IsBest, GoesBefore}
+use Rattle.cancel.specs.declared.choosing.Choice.{Choice}
+use Rattle.cancel.specs.Gain.{IsCandidate, GoesBefore}
 use Rattle.cancel.specs.Laws.{IsOneBest}
-use Rattle.cancel.specs.Steps.{around, is_candidate, better, found_before}
-
--- ---- the test of a candidate
-
-tells : (middle gain : Cpx) → is_candidate middle gain ≡ true → IsCandidate middle gain
-tells middle gain e =
-    let all = and_parts (nat_le 1 (square gain) && nat_le (square gain) 784) (nat_le (square (minus gain middle)) 4) e in
-    let size = and_parts (nat_le 1 (square gain)) (nat_le (square gain) 784) all.0 in
-    record { size = record { least = leb-true _ _ size.0; most = leb-true _ _ size.1 }; near = leb-true _ _ all.1 }
-
-passes : (middle gain : Cpx) → IsCandidate middle gain → is_candidate middle gain ≡ true
-passes middle gain is = both (square gain) (square (minus gain middle)) is.size.least is.size.most is.near
-  where
-    both : (s d : ℕ) → 1 ≤ s → s ≤ 784 → d ≤ 4 → (nat_le 1 s && nat_le s 784 && nat_le d 4) ≡ true
-    both s d p q r = grind (arith, nat_tests)
+use Rattle.cancel.specs.Steps.{around, better, choice_of, IsBestBefore, IsFoundBefore, IsChosen}
 
 -- ---- each candidate is one of the 25
 
@@ -84,115 +70,96 @@ no_greater greatest gain other (inr (same, rest)) = omega (arith, same)
 -- ---- the search
 
 module _ (greatest : Cpx → ℕ) (middle : Cpx) where
-  record IsKept (n : ℕ) (gain : Cpx) : Type 0 where
-    i : ℕ
-    below : i < n
-    is : around middle i ≡ gain
-    candidate : is_candidate middle gain ≡ true
-    first : (j : ℕ) → j < n → is_candidate middle (around middle j) ≡ true → GoesBefore greatest gain (around middle j)
-
-  abbrev Keeps : ℕ → Option Cpx → Type 0
-  Keeps n None = (j : ℕ) → j < n → is_candidate middle (around middle j) ≡ false
-  Keeps n (Some gain) = IsKept n gain
-
-  last_or_before : (n j : ℕ) → j < suc n → (j < n) ⊎ (n ≡ j)
+  last_or_before : (n j : ℕ) → j < n + 1 → (j < n) ⊎ (n ≡ j)
   last_or_before n j l = grind arith
 
+  pub none_before : IsFoundBefore greatest middle 0 None
+  none_before j l c = absurd (omega (arith, l))
+
   -- the last one is no candidate
-  passed : (n : ℕ) (found : Option Cpx) → is_candidate middle (around middle n) ≡ false → Keeps n found → Keeps (suc n) found
-  passed n None e kept = λ j l. elim (last_or_before n j l) [
-    | inl before ↦ kept j before
-    | inr here ↦ subst (λ k. is_candidate middle (around middle k) ≡ false) here e
+  pub passed : (n : ℕ) (found : Option Choice) → (IsCandidate middle (around middle n) → ⊥) → IsFoundBefore greatest middle n found → IsFoundBefore greatest middle (n + 1) found
+  passed n None fails kept = λ j l c. elim (last_or_before n j l) [
+    | inl before ↦ kept j before c
+    | inr here ↦ fails (subst (λ k. IsCandidate middle (around middle k)) (sym here) c)
   ]
-  passed n (Some gain) e kept = record {
-    i = kept.i;
-    below = let l = kept.below in omega (arith, l);
+  passed n (Some choice) fails kept = record {
+    index = kept.index;
+    before = let l = kept.before in omega (arith, l);
     is = kept.is;
     candidate = kept.candidate;
     first = λ j l c. elim (last_or_before n j l) [
       | inl before ↦ kept.first j before c
-      | inr here ↦ absurd (true≢false (sym c ∙ subst (λ k. is_candidate middle (around middle k) ≡ false) here e))
+      | inr here ↦ absurd (fails (subst (λ k. IsCandidate middle (around middle k)) (sym here) c))
     ];
+    leaves = kept.leaves;
   }
 
   -- it is one
-  taken : (n : ℕ) (found : Option Cpx) → is_candidate middle (around middle n) ≡ true → Keeps n found → Keeps (suc n) (better greatest found (around middle n))
-  taken n None e kept = record {
-    i = n;
-    below = omega arith;
+  pub taken : (n : ℕ) (found : Option Choice) → IsCandidate middle (around middle n) → IsFoundBefore greatest middle n found
+      → IsBestBefore greatest middle (n + 1) (better found (choice_of greatest (around middle n)))
+  taken n None is kept = record {
+    index = n;
+    before = omega arith;
     is = refl;
-    candidate = e;
+    candidate = is;
     first = λ j l c. elim (last_or_before n j l) [
-      | inl before ↦ absurd (true≢false (sym c ∙ kept j before))
+      | inl before ↦ absurd (kept j before c)
       | inr here ↦ subst (λ k. GoesBefore greatest (around middle n) (around middle k)) here (itself greatest (around middle n))
     ];
+    leaves = refl;
   }
-  taken n (Some gain) e kept = settle (nat_lt (greatest (around middle n)) (greatest gain)) refl
+  taken n (Some choice) is kept = settle (nat_lt (greatest (around middle n)) choice.greatest) refl
     where
-      settle : (b : Bool) → nat_lt (greatest (around middle n)) (greatest gain) ≡ b → Keeps (suc n) (if b then Some (around middle n) else Some gain)
+      settle : (b : Bool) → nat_lt (greatest (around middle n)) choice.greatest ≡ b
+          → IsBestBefore greatest middle (n + 1) (if b then choice_of greatest (around middle n) else choice)
       settle true less = record {
-        i = n;
-        below = omega arith;
+        index = n;
+        before = omega arith;
         is = refl;
-        candidate = e;
+        candidate = is;
         first = λ j l c. elim (last_or_before n j l) [
-          | inl before ↦ inl (chain (greatest (around middle n)) (greatest gain) (greatest (around middle j)) (ltb-true _ _ less) (no_greater greatest gain (around middle j) (kept.first j before c)))
+          | inl before ↦ inl (chain (greatest (around middle n)) (greatest choice.gain) (greatest (around middle j))
+              (subst (λ k. greatest (around middle n) < k) kept.leaves (ltb-true _ _ less)) (no_greater greatest choice.gain (around middle j) (kept.first j before c)))
           | inr here ↦ subst (λ k. GoesBefore greatest (around middle n) (around middle k)) here (itself greatest (around middle n))
         ];
+        leaves = refl;
       }
         where
           chain : (a b c : ℕ) → a < b → b ≤ c → a < c
           chain a b c p q = omega (arith, p, q)
       settle false more = record {
-        i = kept.i;
-        below = let l = kept.below in omega (arith, l);
+        index = kept.index;
+        before = let l = kept.before in omega (arith, l);
         is = kept.is;
         candidate = kept.candidate;
         first = λ j l c. elim (last_or_before n j l) [
           | inl before ↦ kept.first j before c
-          | inr here ↦ subst (λ k. GoesBefore greatest gain (around middle k)) here
-              (either (greatest gain) (greatest (around middle n)) (ltb-false _ _ more) (subst (λ (g : Cpx). ComesFirst g (around middle n)) kept.is (earlier middle kept.i n kept.below)))
+          | inr here ↦ subst (λ k. GoesBefore greatest choice.gain (around middle k)) here
+              (either (greatest choice.gain) (greatest (around middle n)) (subst (λ k. k ≤ greatest (around middle n)) kept.leaves (ltb-false _ _ more))
+              (subst (λ (g : Cpx). ComesFirst g (around middle n)) kept.is (earlier middle kept.index n kept.before)))
         ];
+        leaves = kept.leaves;
       }
         where
-          either : (a b : ℕ) → a ≤ b → ComesFirst gain (around middle n) → (a < b) ⊎ ((a ≡ b) × ComesFirst gain (around middle n))
+          either : (a b : ℕ) → a ≤ b → ComesFirst choice.gain (around middle n) → (a < b) ⊎ ((a ≡ b) × ComesFirst choice.gain (around middle n))
           either a b h order = elim (cases_lt a b) [
             | inl less ↦ inl less
             | inr not_less ↦ (let e : a ≡ b = omega (arith, h, not_less) in inr (e, order))
           ]
 
-  step : (n : ℕ) (b : Bool) → is_candidate middle (around middle n) ≡ b → Keeps n (found_before greatest middle n) →
-      Keeps (suc n) (if b then better greatest (found_before greatest middle n) (around middle n) else found_before greatest middle n)
-  step n true e kept = taken n (found_before greatest middle n) e kept
-  step n false e kept = passed n (found_before greatest middle n) e kept
-
-  keeps : (n : ℕ) → Keeps n (found_before greatest middle n)
-  unfolding found_before
-  keeps zero = λ j l. absurd (omega arith)
-  keeps (suc n) = step n (is_candidate middle (around middle n)) refl (keeps n)
-
-  found_is_best : (gain : Cpx) → IsKept 25 gain → IsBest greatest middle gain
-  found_is_best gain kept = record {
-    candidate = tells middle gain kept.candidate;
-    first = λ other is. let at = one_of middle other is.near in
-        subst (λ (g : Cpx). GoesBefore greatest gain g) at.is (kept.first at.i at.few (subst (λ (g : Cpx). is_candidate middle g ≡ true) (sym at.is) (passes middle other is)));
-  }
-
-  none_is_candidate : Keeps 25 None → (gain : Cpx) → IsCandidate middle gain → ⊥
-  none_is_candidate kept gain is =
+  -- what is found among all 25 is the best candidate, and none is found exactly where there is none
+  pub best_is_found : (found : Option Choice) → IsFoundBefore greatest middle 25 found → IsChosen greatest middle found
+  best_is_found None kept = λ gain is.
       let at = one_of middle gain is.near in
-      true≢false (sym (subst (λ (g : Cpx). is_candidate middle g ≡ true) (sym at.is) (passes middle gain is)) ∙ kept at.i at.few)
-
--- what is found among all 25 is the best candidate, and none is found exactly where there is none
-pub record FindsBest (greatest : Cpx → ℕ) (middle : Cpx) : Type 0 where
-  pub best : (gain : Cpx) → found_before greatest middle 25 ≡ Some gain → IsBest greatest middle gain
-  pub none : found_before greatest middle 25 ≡ None → (gain : Cpx) → IsCandidate middle gain → ⊥
-
-pub best_is_found : (greatest : Cpx → ℕ) (middle : Cpx) → FindsBest greatest middle
-best_is_found greatest middle = record {
-  best = λ gain e. found_is_best greatest middle gain (subst (Keeps greatest middle 25) e (keeps greatest middle 25));
-  none = λ e. none_is_candidate greatest middle (subst (Keeps greatest middle 25) e (keeps greatest middle 25));
-}
+      kept at.i at.few (subst (λ (g : Cpx). IsCandidate middle g) (sym at.is) is)
+  best_is_found (Some choice) kept = (
+    record {
+      candidate = kept.candidate;
+      first = λ other is. let at = one_of middle other is.near in
+          subst (λ (g : Cpx). GoesBefore greatest choice.gain g) at.is (kept.first at.i at.few (subst (λ (g : Cpx). IsCandidate middle g) (sym at.is) is));
+    },
+    kept.leaves,
+  )
 
 -- ---- only one
 
@@ -213,20 +180,3 @@ best_is_one greatest middle gain other first second = order (first.first other s
     order (inl a) (inr (e, b)) = absurd (omega (arith, a, e))
     order (inr (e, a)) (inl b) = absurd (omega (arith, b, e))
     order (inr (e, a)) (inr (f, b)) = let p = parts a b in pair p.0 p.1
-
--- ---- one gain after the other
-
-pub found_none : (greatest : Cpx → ℕ) (middle : Cpx) → found_before greatest middle 0 ≡ None
-unfolding found_before
-found_none greatest middle = refl
-
-pub found_more : (greatest : Cpx → ℕ) (middle : Cpx) (n : ℕ) → found_before greatest middle (n + 1)
-    ≡ (if is_candidate middle (around middle n) then better greatest (found_before greatest middle n) (around middle n) else found_before greatest middle n)
-unfolding found_before
-found_more greatest middle n = rw add-one refl
-
--- a candidate has components of size at most 28
-pub candidate-within : (middle gain : Cpx) → is_candidate middle gain ≡ true → IsWithin 28 gain
-candidate-within middle gain e =
-    let most = (tells middle gain e).size.most in
-    record { re = re-le gain 28 (omega (arith, most)); im = im-le gain 28 (omega (arith, most)) }

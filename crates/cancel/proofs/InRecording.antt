@@ -2,7 +2,6 @@
 use Rattle.std.proofs.Common.{Result, Ok, Err, Option, Some, None, ◌≡◌, ℕ, ◌+◌, ◌*◌, ◌/◌, ◌%◌, ◌<◌, ◌≤◌, arith, ap, ap₂, sym, subst, ◌∙◌, List, length}
 use Rattle.std.specs.Prelude.{IsSomeAnd, IfOk}
 use Rattle.std.specs.declared.alloc.AllocError.{AllocError}
-use Rattle.std.proofs.lemmas.Bool.Decides.{nat_tests}
 use Rattle.finite.proofs.Lists.{values_below_at, values_below-length}
 use Rattle.cs_num.specs.declared.Cpx.{Cpx}
 use Rattle.cs_num.specs.declared.Sample.{Sample}

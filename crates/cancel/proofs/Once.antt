@@ -1,5 +1,5 @@
 -- There is one answer of a subtraction.
-use Rattle.std.proofs.Common.{◌≡◌, ℕ, List, Some, None, ℤ, refl, ap, sym, ◌∙◌}
+use Rattle.std.proofs.Common.{◌≡◌, ℕ, List, Some, None, refl, ap, sym, ◌∙◌}
 use Rattle.cs_num.specs.declared.Cpx.{Cpx}
 use Rattle.cs_num.specs.declared.Sample.{Sample}
 use Rattle.cell_tx.specs.declared.cell.CellPlan.{CellPlan}

@@ -1,9 +1,9 @@
--- The gain with which a known signal stands in samples: it is estimated by a correlation, and the best of the gains near
--- the estimate is taken. (own)
+-- The gain with which a known signal stands in samples: it is estimated by a correlation, and the best of the gains
+-- near the estimate is taken. (own)
 use Rattle.std.specs.Prelude.{◌≡◌, ℕ, zero, suc, ◌<◌, ◌≤◌, ◌⊎◌, max, ◌<ℤ◌, ◌≤ℤ◌}
 use Rattle.cs_num.specs.declared.Cpx.{Cpx}
 use Rattle.cs_num.specs.Complex.{minus, square, size}
-use Rattle.cs_num.specs.Rounding.{quotient, floor_div}
+use Rattle.cs_num.specs.Rounding.{quotient}
 use Rattle.cs_num.specs.Gain.{IsGain}
 use Rattle.sizes.specs.Sizes.{energy_below, correlation_below}
 
@@ -21,8 +21,8 @@ unfoldable pub greatest_below : ℕ → (ℕ → Cpx) → ℕ
 greatest_below zero f = 0
 greatest_below (suc n) f = max (greatest_below n f) (size (f n))
 
--- the first gain goes before the second, or is the same: it leaves less, or as much with a lower real part, or then with
--- a lower or equal imaginary part
+-- the first gain goes before the second, or is the same: it leaves less, or as much with a lower real part, or then
+-- with a lower or equal imaginary part
 abbrev pub GoesBefore : (Cpx → ℕ) → Cpx → Cpx → Type 0
 GoesBefore greatest gain other = (greatest gain < greatest other)
     ⊎ ((greatest gain ≡ greatest other) × ((gain.re <ℤ other.re) ⊎ ((gain.re ≡ other.re) × (gain.im ≤ℤ other.im))))

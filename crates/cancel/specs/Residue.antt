@@ -1,12 +1,12 @@
 -- What is left of a recording when a cell is taken off. (own)
-use Rattle.std.specs.Prelude.{◌≡◌, ℕ, ◌+◌, ◌-◌, ◌%◌, ◌<◌, ◌≤◌, nat_eq, if◌then◌else◌, List, length, Option, Some, None, IsSomeAnd}
+use Rattle.std.specs.Prelude.{◌≡◌, ℕ, ◌+◌, ◌%◌, ◌<◌, ◌≤◌, List, length, Option, Some, None, IsSomeAnd}
 use Rattle.finite.specs.Lists.{values_below}
 use Rattle.cs_num.specs.declared.Cpx.{Cpx}
 use Rattle.cs_num.specs.declared.Sample.{Sample}
 use Rattle.cs_num.specs.Complex.{IsWithin, sample_at, minus, times}
 use Rattle.cs_num.specs.Rounding.{nearest_sample}
 use Rattle.sizes.specs.Sizes.{energy_below}
-use Rattle.lte_types.specs.Numerology.{frame_length, primary_start}
+use Rattle.lte_types.specs.Numerology.{primary_start}
 use Rattle.lte_types.specs.declared.frame.Half.TheVariants.{Zero}
 use Rattle.lte_types.specs.Timing.{start_of, number_at_start, offset_of, number_before}
 use Rattle.pss_search.specs.Correlation.{wave}
@@ -74,8 +74,8 @@ pub record IsLeftWithin (eps : ℕ) (taken : Subtracted) : Type 0 where
   pub greatest : taken.greatest ≤ eps
   pub each : (i : ℕ) → i < length taken.residue → IsWithin eps (sample_at taken.residue i)
 
--- where the recording is clean of the cell, whatever else that sends, with its first frame and that frame's number, it is taken off,
--- and no greater component is left than the true gain leaves, where that is at most 32767
+-- where the recording is clean of the cell, whatever else that sends, with its first frame and that frame's number, it
+-- is taken off, and no greater component is left than the true gain leaves, where that is at most 32767
 abbrev pub TakesLoadedOff : List Sample → CellPlan → ℕ → ℕ → Option Subtracted → Type 0
 TakesLoadedOff recording plan start number answer =
     (grid : Elements) (sfn offset : ℕ) (gain : Cpx) (eps most : ℕ) → IsLoaded recording plan grid sfn offset gain eps → start ≡ start_of offset →

@@ -1,26 +1,25 @@
 //! The best of the gains near an estimate.
 
-ghost use Rattle.std.specs.Prelude.{◌≡◌, ℕ, ◌+◌, ◌*◌, ◌^◌, ◌<◌, ◌≤◌, length, max, nat_abs, nat_lt, pos, ◌+ℤ◌, ◌-ℤ◌, if◌then◌else◌, Option};
-ghost use Rattle.cs_num.specs.declared.Cpx.{Cpx as Number};
+ghost use Rattle.std.specs.Prelude.{◌≡◌, ◌+◌, ◌*◌, ◌^◌, ◌<◌, ◌≤◌, length, max, nat_abs, nat_lt, pos, ◌+ℤ◌, ◌-ℤ◌, if◌then◌else◌, MatchOption};
 ghost use Rattle.cs_num.specs.Complex.{IsWithin, value_of, minus, times, square, size};
-ghost use Rattle.cancel.specs.Steps.{around as around_of, is_candidate as is_candidate_of, better as better_of, found_before, choices_of, greatest_of as greatest_left};
+ghost use Rattle.cancel.specs.Gain.{IsCandidate};
+ghost use Rattle.cancel.specs.Steps.{around as around_of, better as better_of, choice_of as choice_with, greatest_of as greatest_left, IsFoundBefore, IsChosen};
 
-use cs_num::{Cpx, Sample};
+use cs_num::{Cpx, Gain, Sample};
 
 // A gain and the greatest size of a component that it leaves.
 #[derive(Clone, Copy, PartialEq, Eq)]
 pub(crate) struct Choice {
-    pub gain: Cpx,
+    pub gain: Gain,
     pub greatest: u32,
 }
 
 /// What a gain leaves of a sample, of which the other was sent.
-pub(crate) fn left(sample: Sample, sent: Sample, gain: Cpx) -> Cpx
-    requires { IsWithin 28 gain }
+pub(crate) fn left(sample: Sample, sent: Sample, gain: Gain) -> Cpx
     ensures value { result ≡ minus (value_of sample) (times gain (value_of sent)) }
     ensures small { IsWithin (2 ^ 22) result }
 {
-    Cpx::from(sample) - gain.mul(Cpx::from(sent))
+    Cpx::from(sample) - gain.value().mul(Cpx::from(sent))
 }
 
 // The greater size of a component.
@@ -32,8 +31,7 @@ fn size_of(z: Cpx) -> u32
 }
 
 // The greater size of a component that a gain leaves of a sample.
-fn size_left(sample: Sample, sent: Sample, gain: Cpx) -> u32
-    requires { IsWithin 28 gain }
+fn size_left(sample: Sample, sent: Sample, gain: Gain) -> u32
     ensures { result ≡ size (minus (value_of sample) (times gain (value_of sent))) }
 {
     size_of(left(sample, sent, gain))
@@ -47,9 +45,8 @@ fn greater(a: u32, b: u32) -> u32
 }
 
 // The greatest size of a component that a gain leaves.
-fn greatest_of(samples: &[Sample], sent: &[Sample], gain: Cpx) -> u32
-    requires gain { IsWithin 28 gain }
-    requires count { length sent.now ≡ length samples.now }
+fn greatest_of(samples: &[Sample], sent: &[Sample], gain: Gain) -> u32
+    requires { length sent.now ≡ length samples.now }
     ensures { result ≡ greatest_left samples.now sent.now gain }
 {
     let mut greatest = 0;
@@ -82,13 +79,28 @@ fn around(middle: Cpx, i: u8) -> Cpx
     }
 }
 
-// Whether a gain is a candidate.
-fn is_candidate(middle: Cpx, gain: Cpx) -> bool
+// The gain that a number is, where it is a candidate.
+fn candidate(middle: Cpx, number: Cpx) -> Option<Gain>
     requires middle { IsWithin (2 ^ 40) middle }
-    requires gain { IsWithin (2 ^ 41) gain }
-    ensures { result ≡ is_candidate_of middle gain }
+    requires number { IsWithin (2 ^ 41) number }
+    ensures { MatchOption result (IsCandidate middle number → ⊥)
+        (λ gain. IsCandidate middle number × (gain ≡ number)) }
 {
-    1 <= gain.norm() && gain.norm() <= 784 && (gain - middle).norm() <= 4
+    let gain = Gain::of(number)?;
+    if (number - middle).norm() <= 4 {
+        Some(gain)
+    } else {
+        None
+    }
+}
+
+// A gain with what it leaves.
+fn choice_of(samples: &[Sample], sent: &[Sample], gain: Gain) -> Choice
+    requires { length sent.now ≡ length samples.now }
+    ensures { result ≡ choice_with (greatest_left samples.now sent.now) gain }
+{
+    let greatest = greatest_of(samples, sent, gain);
+    Choice { gain, greatest }
 }
 
 // The first choice, or the second where it leaves less.
@@ -102,40 +114,33 @@ fn lesser(first: Choice, second: Choice) -> Choice
     }
 }
 
-// The better of what was found and a gain.
-fn better(samples: &[Sample], sent: &[Sample], found: Option<Choice>, gain: Cpx) -> Option<Choice>
-    requires gain { IsWithin 28 gain }
-    requires count { length sent.now ≡ length samples.now }
-    ensures { (old : Option Number) → found ≡ choices_of (greatest_left samples.now sent.now) old →
-        result ≡ choices_of (greatest_left samples.now sent.now) (better_of (greatest_left samples.now sent.now) old gain) }
+// The better of what was found and another choice.
+fn better(found: Option<Choice>, other: Choice) -> Choice
+    ensures { result ≡ better_of found other }
 {
-    let greatest = greatest_of(samples, sent, gain);
-    let choice = Choice { gain, greatest };
     match found {
-        Some(first) => Some(lesser(first, choice)),
-        None => Some(choice),
+        Some(first) => lesser(first, other),
+        None => other,
     }
 }
 
-// What was found, or a gain where it is a candidate and better.
+// What is found among the first gains and one more.
 fn with_gain(
     samples: &[Sample],
     sent: &[Sample],
     middle: Cpx,
     found: Option<Choice>,
-    gain: Cpx,
+    i: u8,
 ) -> Option<Choice>
     requires middle { IsWithin (2 ^ 40) middle }
-    requires gain { IsWithin (2 ^ 41) gain }
     requires count { length sent.now ≡ length samples.now }
-    ensures { (old : Option Number) → found ≡ choices_of (greatest_left samples.now sent.now) old →
-        result ≡ choices_of (greatest_left samples.now sent.now) (if is_candidate_of middle gain
-        then better_of (greatest_left samples.now sent.now) old gain else old) }
+    requires i { i < 25 }
+    requires found { IsFoundBefore (greatest_left samples.now sent.now) middle i found }
+    ensures { IsFoundBefore (greatest_left samples.now sent.now) middle (i + 1) result }
 {
-    if is_candidate(middle, gain) {
-        better(samples, sent, found, gain)
-    } else {
-        found
+    match candidate(middle, around(middle, i)) {
+        Some(gain) => Some(better(found, choice_of(samples, sent, gain))),
+        None => found,
     }
 }
 
@@ -144,12 +149,11 @@ fn with_gain(
 pub(crate) fn best(samples: &[Sample], sent: &[Sample], middle: Cpx) -> Option<Choice>
     requires middle { IsWithin (2 ^ 40) middle }
     requires count { length sent.now ≡ length samples.now }
-    ensures { result ≡ choices_of (greatest_left samples.now sent.now)
-        (found_before (greatest_left samples.now sent.now) middle 25) }
+    ensures { IsChosen (greatest_left samples.now sent.now) middle result }
 {
     let mut found = None;
     for i in 0..25 {
-        found = with_gain(samples, sent, middle, found, around(middle, i));
+        found = with_gain(samples, sent, middle, found, i);
     }
     found
 }

@@ -2,11 +2,10 @@
 
 ghost use Rattle.std.specs.Prelude.{◌≡◌, ◌+◌, ◌^◌, ◌≤◌, ◌<◌, IfOk, length};
 ghost use Rattle.finite.specs.Lists.{values_below};
-ghost use Rattle.cs_num.specs.Complex.{IsWithin, minus, times, square, value_of, sample_of};
+ghost use Rattle.cs_num.specs.Complex.{minus, times, square, value_of, sample_of};
 ghost use Rattle.cs_num.specs.Rounding.{nearest_sample};
 ghost use Rattle.lte_types.specs.Numerology.{frame_length, most_samples};
 ghost use Rattle.cancel.specs.Residue.{sent_at, power_of as sum_of};
-ghost use Rattle.cs_num.specs.Gain.{IsGain};
 ghost use Rattle.cancel.specs.Residue.{IsSubtraction, TakesLoadedOff, TakesCleanOff};
 ghost use Rattle.cancel.specs.Steps.{left_of, IsTakenOff};
 
@@ -88,8 +87,7 @@ fn sent_samples(
 }
 
 // What a gain leaves of a sample, of which the other was sent, as a sample.
-fn sample_left(sample: Sample, sent: Sample, gain: Cpx) -> Sample
-    requires { IsWithin 28 gain }
+fn sample_left(sample: Sample, sent: Sample, gain: Gain) -> Sample
     ensures { result ≡ nearest_sample (minus (value_of sample) (times gain (value_of sent))) }
 {
     left(sample, sent, gain).nearest_sample()
@@ -100,10 +98,9 @@ fn residue_samples(
     alloc: Global,
     samples: &[Sample],
     sent: &[Sample],
-    gain: Cpx,
+    gain: Gain,
 ) -> Result<Vec<Sample>, AllocError>
-    requires gain { IsWithin 28 gain }
-    requires count { length sent.now ≡ length samples.now }
+    requires { length sent.now ≡ length samples.now }
     ensures { IfOk result (λ residue. residue.items
         ≡ values_below (length samples.now) (λ i. nearest_sample (left_of samples.now sent.now gain i))) }
 {
@@ -134,17 +131,6 @@ pub fn power_of(recording: &Recording) -> u128
     sum
 }
 
-// The gain that a number is.
-fn gain_of(number: Cpx) -> Gain
-    requires { IsGain number }
-    ensures { result ≡ number }
-{
-    match Gain::of(number) {
-        Some(gain) => gain,
-        None => unreachable!(),
-    }
-}
-
 // The recording of these samples, of which there are as many as in another.
 fn recording_of(recording: &Recording, samples: Vec<Sample>) -> Recording
     requires { length samples.items ≡ length recording.now }
@@ -167,14 +153,13 @@ fn taken_off(
     choice: Choice,
 ) -> Result<Subtracted, AllocError>
     requires before { before ≡ sum_of recording.now }
-    requires gain { IsGain choice.gain }
     requires count { length sent.now ≡ length recording.now }
     ensures { IfOk result (IsTakenOff recording.now sent.now choice) }
 {
     let samples = residue_samples(alloc, recording.as_slice(), sent, choice.gain)?;
     let residue = recording_of(recording, samples);
     Ok(Subtracted {
-        gain: gain_of(choice.gain),
+        gain: choice.gain,
         greatest: choice.greatest,
         before,
         after: power_of(&residue),

@@ -5,7 +5,7 @@ use Rattle.cancel.proofs.choosing.left.Goals as goal
 
 pub sub-requires : goal.sub-requires
 sub-requires c =
-    let product = times-within c.args.gain c.from-2.result 28 32768 917504 c.requires c.from-2.ensures.1 (omega arith) in
+    let product = times-within c.value.result c.from-2.result 28 32768 917504 (subst (IsWithin 28) (sym c.value.ensures.value) c.value.ensures.within) c.from-2.ensures.1 (omega arith) in
     let right = size-le c.mul.result 1835008 (subst (IsWithin 1835008) (sym c.mul.ensures) product) in
     let left = size-le c.from.result 32768 c.from.ensures.1 in
     both _ _ left right
@@ -15,5 +15,5 @@ sub-requires c =
 
 pub returns-clause-small : goal.returns-clause-small
 returns-clause-small c =
-    let product = times-within c.args.gain c.from-2.result 28 32768 917504 c.requires c.from-2.ensures.1 (omega arith) in
+    let product = times-within c.value.result c.from-2.result 28 32768 917504 (subst (IsWithin 28) (sym c.value.ensures.value) c.value.ensures.within) c.from-2.ensures.1 (omega arith) in
     rw c.sub.ensures (minus-within c.from.result c.mul.result 32768 1835008 4194304 c.from.ensures.1 (subst (IsWithin 1835008) (sym c.mul.ensures) product) (omega arith))

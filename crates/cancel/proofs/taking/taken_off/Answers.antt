@@ -1,13 +1,9 @@
 use Rattle.std.proofs.Common.{◌∙◌, ap, length, List}
 use Rattle.finite.proofs.Lists.{values_below-length}
 use Rattle.cs_num.specs.declared.Sample.{Sample}
-use Rattle.cs_num.proofs.Gains.{gain-within}
 use Rattle.cs_num.specs.Rounding.{nearest_sample}
 use Rattle.cancel.specs.Steps.{left_of}
 use Rattle.cancel.proofs.taking.taken_off.Goals as goal
-
-pub residue_samples-requires-clause-gain : goal.residue_samples-requires-clause-gain
-residue_samples-requires-clause-gain c = gain-within c.args.choice.gain c.requires.gain
 
 pub recording_of-residue-requires : goal.recording_of-residue-requires
 recording_of-residue-requires c =

@@ -1,0 +1,23 @@
+use Rattle.std.proofs.Common.{◌≡◌, ◌+◌, ◌∙◌, sym, ap, subst}
+use Rattle.cs_num.specs.declared.Cpx.{Cpx}
+use Rattle.cancel.specs.declared.choosing.Choice.{Choice}
+use Rattle.cancel.specs.Gain.{IsCandidate}
+use Rattle.cancel.specs.Steps.{around, better, choice_of, greatest_of, IsBestBefore}
+use Rattle.cancel.proofs.Found.{passed, taken}
+use Rattle.cancel.proofs.choosing.with_gain.Goals as goal
+
+pub returns-in-Some : goal.returns-in-Some
+returns-in-Some c =
+    let a = c.args in
+    let greatest = greatest_of a.samples.now a.sent.now in
+    let is : c.in-Some.gain ≡ around a.middle a.i = c.in-Some.ensures.1 ∙ c.around.ensures.value in
+    let made : c.better.result ≡ better a.found (choice_of greatest (around a.middle a.i)) =
+    c.better.ensures ∙ ap (λ (other : Choice). better a.found other) (c.choice_of.ensures ∙ ap (λ (gain : Cpx). choice_of greatest gain) is) in
+    subst (λ (choice : Choice). IsBestBefore greatest a.middle (a.i + 1) choice) (sym made)
+    (taken greatest a.middle a.i a.found (subst (λ (gain : Cpx). IsCandidate a.middle gain) c.around.ensures.value c.in-Some.ensures.0) c.requires.found)
+
+pub returns-in-None : goal.returns-in-None
+returns-in-None c =
+    let a = c.args in
+    passed (greatest_of a.samples.now a.sent.now) a.middle a.i a.found
+    (λ is. c.in-None.ensures (subst (λ (gain : Cpx). IsCandidate a.middle gain) (sym c.around.ensures.value) is)) c.requires.found
