@@ -15,6 +15,7 @@ use Rattle.cell_tx.specs.declared.transmission.Transmission.{Transmission}
 use Rattle.cell_tx.specs.Clean.{IsCleanOf, IsClean}
 use Rattle.cell_tx.specs.Grid.{element}
 use Rattle.cell_tx.specs.Laws.{received_with, ReceivedWithErrorsIsClean}
+use Rattle.cell_tx.specs.Sending.{received_samples}
 use Rattle.cell_tx.specs.Sent.{sent}
 use Rattle.cell_tx.proofs.Bounds.{amplified}
 use Rattle.capture_make.specs.declared.made.Made.{Made}
@@ -53,13 +54,9 @@ with_errors_is errors sequence offset count gain clean e =
     ∙ values_below_same count (λ i. sample_of (plus (sample_at clean i) (errors i))) (λ i. sample_of (plus (times gain (sequence (i + offset))) (errors i)))
     (λ k below. ap (λ (s : Sample). sample_of (plus (value_of s) (errors k))) (ap (λ l. get_or l k silence) e ∙ values_below_at f count k silence below))
 
--- what a transmission sends
-abbrev sent_of : Transmission → List Sample
-sent_of t = amplified_samples (sent (element t.cell) t.timing.sfn) t.timing.offset t.samples t.gain
-
 -- where a transmission is that of a number, the samples are those of its recording
 pub samples_are : (n bound : ℕ) (t : Transmission) (clean : List Sample) → t.cell ≡ plan n → t.timing.sfn ≡ number n → t.timing.offset ≡ offset n → t.samples ≡ sample_count n → t.gain ≡ gain n
-    → clean ≡ sent_of t → values_below (length clean) (λ i. sample_of (plus (sample_at clean i) (error n bound i))) ≡ samples n bound
+    → clean ≡ received_samples t → values_below (length clean) (λ i. sample_of (plus (sample_at clean i) (error n bound i))) ≡ samples n bound
 unfolding samples
 samples_are n bound t clean a b c d e h =
     let g : CellPlan → ℕ → ℕ → ℕ → Cpx → List Sample = λ p s o m z. received_with (sent (element p) s) o m z (error n bound) in
@@ -72,7 +69,7 @@ samples_are n bound t clean a b c d e h =
 
 -- then these, with the errors, are the recording of that number
 pub is_made : (n bound : ℕ) (t : Transmission) (clean : List Sample) (made : Made) → t.cell ≡ plan n → t.timing.sfn ≡ number n → t.timing.offset ≡ offset n → t.samples ≡ sample_count n → t.gain ≡ gain n
-    → IsBound (gain n) (pos bound) → clean ≡ sent_of t → made.sent ≡ t → made.bound ≡ pos bound → made.recording ≡ values_below (length clean) (λ i. sample_of (plus (sample_at clean i) (error n bound i))) → IsMade n made
+    → IsBound (gain n) (pos bound) → clean ≡ received_samples t → made.sent ≡ t → made.bound ≡ pos bound → made.recording ≡ values_below (length clean) (λ i. sample_of (plus (sample_at clean i) (error n bound i))) → IsMade n made
 is_made n bound t clean made a b c d e greatest h s f r = record {
   plan_is = ap (λ (u : Transmission). u.cell) s ∙ a;
   number_is = ap (λ (u : Transmission). u.timing.sfn) s ∙ b;

@@ -1,6 +1,9 @@
 -- The errors of recording number n, from PCG32: O'Neill's generator of 64 bits of state and words of 32 bits. (own)
-use Rattle.std.specs.Prelude.{ℕ, ◌+◌, ◌*◌, ◌%◌, ℤ, pos, ◌-ℤ◌}
+use Rattle.std.specs.Prelude.{ℕ, ◌+◌, ◌*◌, ◌%◌, ℤ, pos, ◌-ℤ◌, List, length}
+use Rattle.finite.specs.Lists.{values_below}
 use Rattle.cs_num.specs.declared.Cpx.{Cpx}
+use Rattle.cs_num.specs.declared.Sample.{Sample}
+use Rattle.cs_num.specs.Complex.{plus, sample_at, sample_of}
 use Rattle.rand_pcg.specs.Lcg.{Lcg, advance, started, increment_of}
 use Rattle.rand_pcg.specs.Pcg.{multiplier_64, pcg32}
 
@@ -19,3 +22,8 @@ drawn bound word = pos (word % (2 * bound + 1)) -ℤ pos bound
 -- the error of sample i: two words, the first for the real component
 abbrev pub error : ℕ → ℕ → ℕ → Cpx
 error n bound i = record { re = drawn bound (word n (2 * i)); im = drawn bound (word n (2 * i + 1)) }
+
+-- samples, each with its error
+abbrev pub with_errors : ℕ → ℕ → List Sample → List Sample
+with_errors n bound samples =
+    values_below (length samples) (λ i. sample_of (plus (sample_at samples i) (error n bound i)))

@@ -1,10 +1,9 @@
 //! The errors of a recording.
 
-ghost use Rattle.std.specs.Prelude.{◌≡◌, ◌≤◌, ◌+◌, ◌*◌, All, length, nat_abs};
-ghost use Rattle.finite.specs.Lists.{values_below};
-ghost use Rattle.cs_num.specs.Complex.{IsWithin, plus, sample_at, value_of, sample_of};
+ghost use Rattle.std.specs.Prelude.{◌≡◌, ◌≤◌, ◌+◌, ◌*◌, All, nat_abs};
+ghost use Rattle.cs_num.specs.Complex.{IsWithin, plus, value_of, sample_of};
 ghost use Rattle.rand_pcg.specs.Pcg.{pcg32};
-ghost use Rattle.capture_make.specs.Errors.{drawn, error};
+ghost use Rattle.capture_make.specs.Errors.{drawn, with_errors};
 
 use cs_num::Sample;
 use rand_core::utils::NextWord;
@@ -49,8 +48,7 @@ fn with_error(clean: Sample, error: Sample) -> Sample
 pub(crate) fn add_errors(n: u32, bound: u16, samples: &mut [Sample])
     requires bound { bound ≤ 56 }
     requires room { All (λ s. IsWithin 32284 (value_of s)) samples.old }
-    ensures { samples.new ≡ values_below (length samples.old)
-        (λ i. sample_of (plus (sample_at samples.old i) (error n bound i))) }
+    ensures { samples.new ≡ with_errors n bound samples.old }
 {
     let mut words = Lcg64Xsh32::new(n as u64, 1);
     for i in 0..samples.len() {

@@ -1,13 +1,12 @@
 //! Recordings by number.
 
-ghost use Rattle.std.specs.Prelude.{◌≡◌, ◌≤◌, ℕ, All, IfOk, length, pos};
-ghost use Rattle.finite.specs.Lists.{values_below};
-ghost use Rattle.cs_num.specs.Complex.{IsWithin, plus, sample_at, value_of, sample_of};
+ghost use Rattle.std.specs.Prelude.{◌≡◌, ◌≤◌, ℕ, All, IfOk, pos};
+ghost use Rattle.cs_num.specs.Complex.{IsWithin, value_of};
 ghost use Rattle.sample_file.specs.Recording.{IsRecording};
 ghost use Rattle.cell_tx.specs.Plan.{IsSendable};
-ghost use Rattle.cell_tx.specs.Sent.{received};
+ghost use Rattle.cell_tx.specs.Sending.{received_samples};
 ghost use Rattle.capture_make.specs.Recipe.{plan};
-ghost use Rattle.capture_make.specs.Errors.{error};
+ghost use Rattle.capture_make.specs.Errors.{with_errors as with_errors_of};
 ghost use Rattle.capture_make.specs.Made.{IsMade, IsCleanlyMade};
 ghost use Rattle.capture_make.specs.declared.made.Made.{Made as MadeValue};
 
@@ -32,8 +31,7 @@ pub struct Made {
 
 // What a transmission sends, in memory of its own.
 fn sent_samples(alloc: Global, t: &Transmission) -> Result<Vec<Sample>, AllocError>
-    ensures { IfOk result (λ samples. samples.items ≡ values_below t.now.samples
-        (λ i. sample_of (received t.now.cell t.now.timing.sfn t.now.timing.offset t.now.gain i))) }
+    ensures { IfOk result (λ samples. samples.items ≡ received_samples t.now) }
 {
     let mut samples = vec![in alloc; Sample { re: 0, im: 0 }; t.samples as usize]?;
     send_all(t, &mut samples);
@@ -45,8 +43,7 @@ fn sent_samples(alloc: Global, t: &Transmission) -> Result<Vec<Sample>, AllocErr
 pub fn with_errors(n: u32, bound: u16, mut samples: Vec<Sample>) -> Vec<Sample>
     requires bound { bound ≤ 56 }
     requires room { All (λ s. IsWithin 32284 (value_of s)) samples.items }
-    ensures { result.items ≡ values_below (length samples.items)
-        (λ i. sample_of (plus (sample_at samples.items i) (error n bound i))) }
+    ensures { result.items ≡ with_errors_of n bound samples.items }
 {
     add_errors(n, bound, &mut samples);
     samples

@@ -7,8 +7,9 @@ use Rattle.std.proofs.lemmas.Option.{slice_get_within}
 use Rattle.dci.specs.Sizes.{column_2, column_3, size_of}
 use Rattle.dci.proofs.SizeRows.{size_fits}
 use Rattle.turbo_code.specs.declared.rows.Row.{Row}
-use Rattle.turbo_code.specs.Table.{rows, row, IsRow, IsSize}
+use Rattle.turbo_code.specs.Table.{rows, IsRow, IsSize}
 use Rattle.turbo_code.proofs.TableFacts.{row_passes, is_small_size}
+use Rattle.turbo_code.proofs.OneRow.{same_row}
 use Rattle.cell_tx.specs.Transport.{row_with}
 
 -- in a table's entry, where there is one
@@ -28,9 +29,6 @@ is_itself r = nat_eq (row_with r.k).k r.k && nat_eq (row_with r.k).f1 r.f1 && na
 all_themselves : list_all is_itself rows ≡ true
 unfolding rows is_itself row_with
 all_themselves = refl
-
-same_row : (k l f1 g1 f2 g2 : ℕ) → k ≡ l → f1 ≡ g1 → f2 ≡ g2 → row k f1 f2 ≡ row l g1 g2
-same_row k l f1 g1 f2 g2 a b c = rw (a, b, c) refl
 
 pub row_with_is : (r : Row) → IsRow r → row_with r.k ≡ r
 unfolding is_itself

@@ -1,5 +1,5 @@
--- The control region of a plan: the control format indicator in every subframe (PCFICH, TS 36.211 section 6.7), and the control
--- information that grants system information in subframe 5 (PDCCH, TS 36.211 section 6.8).
+-- The control region of a plan: the control format indicator in every subframe (PCFICH, TS 36.211 section 6.7), and the
+-- control information that grants system information in subframe 5 (PDCCH, TS 36.211 section 6.8).
 use Rattle.std.specs.Prelude.{ℕ, ◌*◌, ◌/◌, ◌%◌, Bool, List, [], ◌∷◌, slice_index_or}
 use Rattle.cs_num.specs.declared.Cpx.{Cpx}
 use Rattle.cs_bits.specs.Checks.{with_check_16}
@@ -50,7 +50,7 @@ abbrev pub control_places : CellPlan → List Place
 control_places plan =
     candidate_places plan.identity (pdcch_groups plan.identity plan.cfi plan.duration plan.resource)
 
--- point i of the 144 that the 288 coded and matched bits make (TS 36.212 sections 5.3.3.3 and 5.3.3.4), scrambled by slot 10, the
--- first of subframe 5
+-- point i of the 144 that the 288 coded and matched bits make (TS 36.212 sections 5.3.3.3 and 5.3.3.4), scrambled by
+-- slot 10, the first of subframe 5
 unfoldable pub control_point : CellPlan → ℕ → ℕ → Cpx
 control_point plan sfn i = point_of (scrambled_bit (pdcch_c_init plan.identity 10) (control_word plan sfn)) i

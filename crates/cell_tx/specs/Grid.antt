@@ -19,7 +19,8 @@ use Rattle.cell_tx.specs.Block.{port_point}
 use Rattle.cell_tx.specs.Control.{control_places, indicator_point, control_point}
 use Rattle.cell_tx.specs.Shared.{assigned_places, shared_point}
 
--- the middle 62 subcarriers of this symbol of subframes 0 and 5 hold a synchronisation signal (TS 36.211 sections 6.11.1.2 and 6.11.2.2)
+-- the middle 62 subcarriers of this symbol of subframes 0 and 5 hold a synchronisation signal (TS 36.211 sections
+-- 6.11.1.2 and 6.11.2.2)
 abbrev pub is_synchronised : ℕ → ℕ → ℕ → ℕ → Bool
 is_synchronised signal subframe symbol k =
     (nat_eq subframe 0 || nat_eq subframe 5) && nat_eq symbol signal && is_middle k

@@ -42,7 +42,8 @@ abbrev pub FramesFollow : Type 0
 FramesFollow = (prefix : Prefix) (grid : Elements) (sfn j i : ℕ) → i < frame_length →
     prefix_sent prefix grid sfn (frame_length * j + i) ≡ prefix_frame_sample prefix grid ((sfn + j) % 1024) i
 
--- what is sent from an offset on has a frame at its start and then one after the other, with the number at the start and on
+-- what is sent from an offset on has a frame at its start and then one after the other, with the number at the start
+-- and on
 abbrev pub FramesBeginAtStart : Type 0
 FramesBeginAtStart = (prefix : Prefix) (grid : Elements) (sfn offset j i : ℕ) → sfn ≤ 1023 → IsOffset offset → i < frame_length →
     prefix_sent prefix grid sfn (start_of offset + frame_length * j + i + offset) ≡ prefix_frame_sample prefix grid ((number_at_start sfn offset + j) % 1024) i

@@ -9,5 +9,6 @@ pub mod Shared
 pub mod Grid
 pub mod Sent
 pub mod Rows
+pub mod Sending
 pub mod Clean
 pub mod Laws

@@ -1,5 +1,5 @@
--- Which plans of a cell can be sent. (own, with the ranges of TS 36.211 sections 6.11 and 6.7, TS 36.213 section 7.1 and
--- TS 36.331 section 6.2.2)
+-- Which plans of a cell can be sent. (own, with the ranges of TS 36.211 sections 6.11 and 6.7, TS 36.213 section 7.1
+-- and TS 36.331 section 6.2.2)
 use Rattle.std.specs.Prelude.{◌≡◌, ◌⊎◌, ◌+◌, ◌≤◌, Bool, true, false, not, ◌&&◌, ◌||◌, nat_eq, nat_le, List, [], ◌∷◌, length, Option, None, is_some, is_none, IsSome, IsSomeAnd}
 use Rattle.lte_types.specs.Ranges.{IsValid}
 use Rattle.lte_types.specs.Assignment.{AreBlocks}
@@ -11,8 +11,8 @@ use Rattle.cell_tx.specs.declared.cell.CellPlan.{CellPlan}
 use Rattle.cell_tx.specs.Conditions.{Condition, condition, first_failed}
 use Rattle.cell_tx.specs.Transport.{block_size, text_fits, has_block, is_whole, is_resolvable}
 
--- a plan can be sent, where this says that what is sent of its block is enough: the conditions that do not depend on the
--- antenna ports, and that one. Its master block has bandwidth n6
+-- a plan can be sent, where this says that what is sent of its block is enough: the conditions that do not depend on
+-- the antenna ports, and that one. Its master block has bandwidth n6
 pub record IsSendableWith (Enough : Type 0) (plan : CellPlan) : Type 0 where
   pub valid : IsValid plan.sib1
   pub identity : plan.identity ≤ 503
@@ -26,8 +26,8 @@ pub record IsSendableWith (Enough : Type 0) (plan : CellPlan) : Type 0 where
   pub extension : plan.sib1.extended ≡ false
   pub text : IsSomeAnd (text_of plan.sib1) (λ text. length text ≤ block_size plan)
 
--- a plan can be sent with one antenna port: the bits that are sent of its block are enough to resolve it, as they are wherever
--- each coded bit is sent
+-- a plan can be sent with one antenna port: the bits that are sent of its block are enough to resolve it, as they are
+-- wherever each coded bit is sent
 abbrev pub IsSendable : CellPlan → Type 0
 IsSendable plan = IsSendableWith (is_resolvable plan ≡ true) plan
 

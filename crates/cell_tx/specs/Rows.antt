@@ -63,7 +63,8 @@ pub record IsTableOf (places : List Place) (table : PlaceTable) : Type 0 where
   pub count : table.count ≡ length places
   pub number : (symbol k : ℕ) → symbol < 14 → k < 72 → slice_index_or table.numbers (72 * symbol + k) 0 ≡ index_in places (place symbol k)
 
--- what is the same in every frame of a plan at a port: the synchronisation signals, where the channels stand, and the indicators
+-- what is the same in every frame of a plan at a port: the synchronisation signals, where the channels stand, and the
+-- indicators
 pub record IsLayout (port : Port) (plan : CellPlan) (layout : Layout) : Type 0 where
   pub primary : layout.primary ≡ pss_list (plan.identity % 3)
   pub zero : layout.zero ≡ sss_list (plan.identity / 3) (plan.identity % 3) Zero

@@ -1,10 +1,11 @@
--- The shared channel of a plan, which carries SystemInformationBlockType1 (PDSCH, TS 36.211 section 6.4, TS 36.212 section 5.3.2).
+-- The shared channel of a plan, which carries SystemInformationBlockType1 (PDSCH, TS 36.211 section 6.4, TS 36.212
+-- section 5.3.2).
 use Rattle.std.specs.Prelude.{◌≡◌, ℕ, Bool, false, List}
 use Rattle.cs_num.specs.declared.Cpx.{Cpx}
 use Rattle.turbo_code.specs.declared.encoder.Coded.{Coded}
 use Rattle.turbo_code.specs.Table.{IsSize}
 use Rattle.turbo_code.specs.Encoder.{coded}
-use Rattle.turbo_code.specs.Reading.{place_of, bit_of}
+use Rattle.turbo_code.specs.Reading.{item_of, bit_of}
 use Rattle.grid_map.specs.declared.Place.{Place}
 use Rattle.grid_map.specs.Scrambling.{pdsch_c_init}
 use Rattle.grid_map.specs.Shared.{shared_places_of}
@@ -36,9 +37,10 @@ assigned_places two plan = shared_places_of two plan.identity plan.cfi plan.star
 abbrev pub shared_places : CellPlan → List Place
 shared_places plan = assigned_places false plan
 
--- bit i in the frame with this number: those of the coded word, as they are matched from the frame's redundancy version on
+-- bit i in the frame with this number: those of the coded word, as they are matched from the frame's redundancy version
+-- on
 abbrev pub shared_bit : CellPlan → ℕ → ℕ → Bool
-shared_bit plan sfn i = bit_of (shared_coded plan) (place_of (checked_size plan) (version_of sfn) i)
+shared_bit plan sfn i = bit_of (shared_coded plan) (item_of (checked_size plan) (version_of sfn) i)
 
 -- point i, scrambled by slot 10, the first of subframe 5
 unfoldable pub shared_point : CellPlan → ℕ → ℕ → Cpx

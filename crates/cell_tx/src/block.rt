@@ -3,7 +3,7 @@
 ghost use Rattle.std.specs.Prelude.{◌≡◌, ◌+◌, ◌*◌, ◌<◌, ◌≤◌, false, length, slice_index_or};
 ghost use Rattle.finite.specs.Lists.{values_below};
 ghost use Rattle.finite.specs.Bits.{xor};
-ghost use Rattle.conv_code.specs.Reading.{bit_at_place, place_of};
+ghost use Rattle.conv_code.specs.Reading.{bit_of_item, item_of};
 ghost use Rattle.grid_map.specs.Scrambling.{pbch_c_init as c_init_of};
 ghost use Rattle.cell_tx.specs.Points.{point_of};
 ghost use Rattle.cell_tx.specs.Block.{master_word as master_word_of, scrambled_bit, port_word, port_point};
@@ -53,7 +53,7 @@ fn scrambled<const N: usize>(coded: &[[bool; 3]; N], scrambling: &[bool], n: usi
     requires low { 6 ≤ N }
     requires high { N ≤ 64 }
     requires inside { n < length scrambling.now }
-    ensures { result ≡ xor (bit_at_place coded.now (place_of N n)) (slice_index_or scrambling.now n false) }
+    ensures { result ≡ xor (bit_of_item coded.now (item_of N n)) (slice_index_or scrambling.now n false) }
 {
     match_out(coded, n) != scrambling[n]
 }

@@ -23,5 +23,5 @@ pub use cell::{Cell, CellPlan};
 pub use error::CellError;
 pub use laws::{accepted_are_sendable, frames_stand, sent_is_clean, sizes, symbols_stand};
 pub use points::{PlaceTable, table_of, value_at};
-pub use sending::{amplified, frame, port_sample, port_sequence, sample, send, send_all};
+pub use sending::{amplified, frame, port_sequence, sample, send, send_all};
 pub use transmission::Transmission;

@@ -1,13 +1,13 @@
 //! The samples of a cell.
 
-ghost use Rattle.std.specs.Prelude.{◌≡◌, ℕ, ◌+◌, ◌-◌, ◌*◌, ◌/◌, ◌%◌, ◌<◌, ◌≤◌, length};
+ghost use Rattle.std.specs.Prelude.{◌≡◌, ◌+◌, ◌-◌, ◌*◌, ◌/◌, ◌%◌, ◌<◌, ◌≤◌, length};
 ghost use Rattle.finite.specs.Lists.{values_below};
 ghost use Rattle.cs_num.specs.Complex.{IsWithin, square, times, value_of, sample_of};
 ghost use Rattle.fold128.specs.Symbol.{useful_part};
 ghost use Rattle.lte_types.specs.Numerology.{frame_length, slot_length, useful_length, normal, symbol_of, most_samples};
-ghost use Rattle.lte_types.specs.Timing.{number_of};
 ghost use Rattle.cell_tx.specs.Grid.{port_element, element};
 ghost use Rattle.cell_tx.specs.Rows.{useful_place, first_sample, frame_samples, HasSamples, AreSameOutside, IsLayout, AreVersions};
+ghost use Rattle.cell_tx.specs.Sending.{frame_of, RenewsFrame, frame_at, received_samples};
 ghost use Rattle.cell_tx.specs.Sent.{slot_sample, frame_sample, sent, received};
 
 use crate::grid::{Signals, useful_of};
@@ -110,7 +110,7 @@ fn put_symbols(signals: &Signals, first: usize, last: usize, out: &mut [Sample])
 // Writes all samples of a frame.
 fn put_frame(signals: &Signals, out: &mut [Sample])
     requires { length out.old ≡ frame_length }
-    ensures { out.new ≡ frame_samples (port_element signals.now.port signals.now.cell.now) signals.now.sfn }
+    ensures { out.new ≡ frame_of signals.now }
 {
     put_symbols(signals, 0, 140, out);
 }
@@ -119,32 +119,23 @@ fn put_frame(signals: &Signals, out: &mut [Sample])
 // symbols of slot 1, which carry the broadcast channel, and in subframe 5, which carries system information.
 fn renew_frame(signals: &Signals, out: &mut [Sample])
     requires { length out.old ≡ frame_length }
-    ensures { (other : ℕ) → out.old ≡ frame_samples (port_element signals.now.port signals.now.cell.now) other →
-        out.new ≡ frame_samples (port_element signals.now.port signals.now.cell.now) signals.now.sfn }
+    ensures { RenewsFrame signals.now out.old out.new }
 {
     put_symbols(signals, 7, 11, out);
     put_symbols(signals, 70, 84, out);
 }
 
-/// Sample `i` of the endless sequence of frames that a cell sends at a port, which begins with the frame
-/// numbered `sfn` (TS 36.211 section 6.12, in whole numbers). The size of a sample is at most 1,153.
-pub fn port_sample(cell: &Cell, port: Port, sfn: Sfn, i: u64) -> Sample
-    ensures value { result ≡ sample_of (sent (port_element port cell.now) sfn i) }
-    ensures size { square (sent (port_element port cell.now) sfn i) ≤ 1153 * 1153 }
-{
-    let sfn = Timing { sfn, offset: 0 }.number_at(i);
-    let layout = layout_of(cell, port);
-    let carried = carried_of(cell, sfn);
-    let signals = Signals::new(cell, port, &layout, &carried, sfn);
-    sample_of_frame(&signals, (i % FRAME) as usize)
-}
-
-/// The same of a cell with one port.
+/// Sample `i` of the endless sequence of frames that a cell sends, which begins with the frame numbered `sfn`
+/// (TS 36.211 section 6.12, in whole numbers). The size of a sample is at most 1,153.
 pub fn sample(cell: &Cell, sfn: Sfn, i: u64) -> Sample
     ensures value { result ≡ sample_of (sent (element cell.now) sfn i) }
     ensures size { square (sent (element cell.now) sfn i) ≤ 1153 * 1153 }
 {
-    port_sample(cell, Port::Only, sfn, i)
+    let sfn = Timing { sfn, offset: 0 }.number_at(i);
+    let layout = layout_of(cell, Port::Only);
+    let carried = carried_of(cell, sfn);
+    let signals = Signals::new(cell, Port::Only, &layout, &carried, sfn);
+    sample_of_frame(&signals, (i % FRAME) as usize)
 }
 
 /// The whole frame numbered `sfn`, over 19,200 samples: those of `sample` from 0 on. Sample `i` is
@@ -200,10 +191,8 @@ fn make_frame(
     requires layout { IsLayout sequence.now.port sequence.now.cell.now layout.now }
     requires versions { AreVersions sequence.now.cell.now versions.now }
     requires i { i < most_samples }
-    requires before { 0 < i → clean.old ≡ frame_samples (port_element sequence.now.port sequence.now.cell.now)
-        (number_of sequence.now.timing.sfn (i - 1 + sequence.now.timing.offset)) }
-    ensures { clean.new ≡ frame_samples (port_element sequence.now.port sequence.now.cell.now)
-        (number_of sequence.now.timing.sfn (i + sequence.now.timing.offset)) }
+    requires before { 0 < i → clean.old ≡ frame_at sequence.now (i - 1) }
+    ensures { clean.new ≡ frame_at sequence.now i }
 {
     let sfn = sequence.timing.number_at(i as u64);
     let carried = versions.of_frame(sfn);
@@ -226,10 +215,8 @@ fn enter_frame(
     requires layout { IsLayout sequence.now.port sequence.now.cell.now layout.now }
     requires versions { AreVersions sequence.now.cell.now versions.now }
     requires i { i < most_samples }
-    requires before { 0 < i → clean.old ≡ frame_samples (port_element sequence.now.port sequence.now.cell.now)
-        (number_of sequence.now.timing.sfn (i - 1 + sequence.now.timing.offset)) }
-    ensures { clean.new ≡ frame_samples (port_element sequence.now.port sequence.now.cell.now)
-        (number_of sequence.now.timing.sfn (i + sequence.now.timing.offset)) }
+    requires before { 0 < i → clean.old ≡ frame_at sequence.now (i - 1) }
+    ensures { clean.new ≡ frame_at sequence.now i }
 {
     if i == 0 || (i as u64 + sequence.timing.offset as u64) % FRAME == 0 {
         make_frame(sequence, layout, versions, i, clean);
@@ -239,16 +226,15 @@ fn enter_frame(
 // Sample i of a sequence, from the samples of its frame.
 fn sequence_from(sequence: &Sequence, i: usize, clean: &[Sample; FRAME_LENGTH]) -> Sample
     requires i { i < most_samples }
-    requires clean { clean.now ≡ frame_samples (port_element sequence.now.port sequence.now.cell.now)
-        (number_of sequence.now.timing.sfn (i + sequence.now.timing.offset)) }
+    requires clean { clean.now ≡ frame_at sequence.now i }
     ensures { result ≡ sample_of (sent (port_element sequence.now.port sequence.now.cell.now)
         sequence.now.timing.sfn (i + sequence.now.timing.offset)) }
 {
     clean[(i + sequence.timing.offset as usize) % FRAME_LENGTH]
 }
 
-/// What a cell sends at a port from where `timing` says on, over at most 1,920,000 samples: sample `i` is that of
-/// `port_sample` at `i + offset`.
+/// What a cell sends at a port from where `timing` says on, over at most 1,920,000 samples: sample `i` is the one at
+/// `i + offset` of the endless sequence of frames at this port. No sample has a size above 1,153 (`sizes`).
 pub fn port_sequence(cell: &Cell, port: Port, timing: Timing, out: &mut [Sample])
     requires { length out.old ≤ most_samples }
     ensures { out.new ≡ values_below (length out.old)
@@ -267,8 +253,7 @@ pub fn port_sequence(cell: &Cell, port: Port, timing: Timing, out: &mut [Sample]
 /// All samples of a transmission, over as many: sample `i` is that of `send`.
 pub fn send_all(t: &Transmission, out: &mut [Sample])
     requires { length out.old ≡ t.now.samples }
-    ensures { out.new ≡ values_below t.now.samples
-        (λ i. sample_of (received t.now.cell t.now.timing.sfn t.now.timing.offset t.now.gain i)) }
+    ensures { out.new ≡ received_samples t.now }
 {
     port_sequence(&t.cell, Port::Only, t.timing, out);
     for i in 0..out.len() {

@@ -19,7 +19,7 @@ use Rattle.capture_make.specs.Errors.{drawn, error, word}
 use Rattle.two_tx.specs.declared.made.TwoMade.{TwoMade}
 use Rattle.two_tx.specs.Clean.{AreGains, received_of_two, first_port, second_port, IsCleanOfPorts}
 use Rattle.two_tx.specs.Laws.{ReceivedOfTwoIsClean}
-use Rattle.two_tx.specs.Made.{samples, IsMade, IsCleanlyMade}
+use Rattle.two_tx.specs.Made.{port_samples, received_at, received_samples, samples, IsMade, IsCleanlyMade}
 use Rattle.two_tx.specs.Recipe.{first_gain, second_gain, IsBound}
 use Rattle.two_tx.proofs.Received.{received-small}
 
@@ -51,60 +51,51 @@ are_gains n =
 -- ---- what is sent, with errors
 
 -- what a port sends
-abbrev pub port_list : Port → ℕ → List Sample
-port_list port n = values_below (sample_count n) (λ i. sample_of (sent (port_element port (plan n)) (number n) (i + offset n)))
-
-pub port_small : (port : Port) (n : ℕ) (list : List Sample) → list ≡ port_list port n → All (λ s. square (value_of s) ≤ 1153 * 1153) list
+pub port_small : (port : Port) (n : ℕ) (list : List Sample) → list ≡ port_samples port (plan n) n → All (λ s. square (value_of s) ≤ 1153 * 1153) list
 port_small port n list e =
     subst (λ (l : List Sample). All (λ s. square (value_of s) ≤ 1153 * 1153) l) (sym e)
     (values_below-All (λ s. square (value_of s) ≤ 1153 * 1153) (sample_count n) (λ i. sample_of (sent (port_element port (plan n)) (number n) (i + offset n))) silence
     (λ k below. sent-square port (plan n) (number n) (k + offset n)))
 
-pub port_long : (port : Port) (n : ℕ) (list : List Sample) → list ≡ port_list port n → length list ≡ sample_count n
+pub port_long : (port : Port) (n : ℕ) (list : List Sample) → list ≡ port_samples port (plan n) n → length list ≡ sample_count n
 port_long port n list e = ap length e ∙ values_below-length (sample_count n) (λ i. sample_of (sent (port_element port (plan n)) (number n) (i + offset n)))
 
-abbrev clean : ℕ → ℕ → Cpx
-clean n = received_of_two (first_port (plan n) (number n)) (second_port (plan n) (number n)) (offset n) (first_gain n) (second_gain n)
-
 -- and both ports, where each is of the number
-pub clean_list : ℕ → List Sample
-clean_list n = values_below (sample_count n) (λ i. sample_of (clean n i))
-
-pub both_are : (n : ℕ) (first second : List Sample) → first ≡ port_list First n → second ≡ port_list Second n
-    → values_below (length first) (λ i. sample_of (plus (times (first_gain n) (sample_at first i)) (times (second_gain n) (sample_at second i)))) ≡ values_below (sample_count n) (λ i. sample_of (clean n i))
+pub both_are : (n : ℕ) (first second : List Sample) → first ≡ port_samples First (plan n) n → second ≡ port_samples Second (plan n) n
+    → values_below (length first) (λ i. sample_of (plus (times (first_gain n) (sample_at first i)) (times (second_gain n) (sample_at second i)))) ≡ received_samples n
 both_are n first second e f =
     let g : ℕ → Sample = λ i. sample_of (plus (times (first_gain n) (sample_at first i)) (times (second_gain n) (sample_at second i))) in
     let a : ℕ → Sample = λ i. sample_of (sent (port_element First (plan n)) (number n) (i + offset n)) in
     let b : ℕ → Sample = λ i. sample_of (sent (port_element Second (plan n)) (number n) (i + offset n)) in
     ap (λ m. values_below m g) (port_long First n first e)
-    ∙ values_below_same (sample_count n) g (λ i. sample_of (clean n i))
+    ∙ values_below_same (sample_count n) g (λ i. sample_of (received_at n i))
     (λ k below. ap₂ (λ (x y : Sample). sample_of (plus (times (first_gain n) (value_of x)) (times (second_gain n) (value_of y))))
     (ap (λ (l : List Sample). get_or l k silence) e ∙ values_below_at a (sample_count n) k silence below)
     (ap (λ (l : List Sample). get_or l k silence) f ∙ values_below_at b (sample_count n) k silence below))
 
 -- fits the errors
-pub room_is : (n : ℕ) (list : List Sample) → list ≡ values_below (sample_count n) (λ i. sample_of (clean n i)) → All (λ s. IsWithin 32284 (value_of s)) list
+pub room_is : (n : ℕ) (list : List Sample) → list ≡ received_samples n → All (λ s. IsWithin 32284 (value_of s)) list
 room_is n list e =
     subst (λ (l : List Sample). All (λ s. IsWithin 32284 (value_of s)) l) (sym e)
-    (values_below-All (λ s. IsWithin 32284 (value_of s)) (sample_count n) (λ i. sample_of (clean n i)) silence
+    (values_below-All (λ s. IsWithin 32284 (value_of s)) (sample_count n) (λ i. sample_of (received_at n i)) silence
     (λ k below. received-small (first_port (plan n) (number n) (k + offset n)) (second_port (plan n) (number n) (k + offset n)) (first_gain n) (second_gain n)
     (sent-square First (plan n) (number n) (k + offset n)) (sent-square Second (plan n) (number n) (k + offset n)) (are_gains n)))
 
-pub samples_are : (n bound : ℕ) (list : List Sample) → list ≡ values_below (sample_count n) (λ i. sample_of (clean n i))
+pub samples_are : (n bound : ℕ) (list : List Sample) → list ≡ received_samples n
     → values_below (length list) (λ i. sample_of (plus (sample_at list i) (error n bound i))) ≡ samples n bound
 unfolding samples
 samples_are n bound list e =
     let g : ℕ → Sample = λ i. sample_of (plus (sample_at list i) (error n bound i)) in
-    let f : ℕ → Sample = λ i. sample_of (clean n i) in
+    let f : ℕ → Sample = λ i. sample_of (received_at n i) in
     ap (λ m. values_below m g) (ap length e ∙ values_below-length (sample_count n) f)
-    ∙ values_below_same (sample_count n) g (λ i. sample_of (plus (clean n i) (error n bound i)))
+    ∙ values_below_same (sample_count n) g (λ i. sample_of (plus (received_at n i) (error n bound i)))
     (λ k below. ap (λ (s : Sample). sample_of (plus (value_of s) (error n bound k))) (ap (λ (l : List Sample). get_or l k silence) e ∙ values_below_at f (sample_count n) k silence below))
 
 -- as many as a recording has
 pub is_recording : (n bound : ℕ) (list : List Sample) → list ≡ samples n bound → IsRecording list
 unfolding samples
 is_recording n bound list e =
-    let long : length list ≡ sample_count n = ap length e ∙ values_below-length (sample_count n) (λ i. sample_of (plus (clean n i) (error n bound i))) in
+    let long : length list ≡ sample_count n = ap length e ∙ values_below-length (sample_count n) (λ i. sample_of (plus (received_at n i) (error n bound i))) in
     record { least = omega (arith, long); most = omega (arith, long) }
 
 -- ---- and cleanly

@@ -1,4 +1,5 @@
--- Clean recordings of two antenna ports: the samples of each times its own whole-number gain, up to a small error. (own)
+-- Clean recordings of two antenna ports: the samples of each times its own whole-number gain, up to a small error.
+-- (own)
 use Rattle.std.specs.Prelude.{ℕ, ◌+◌, ◌*◌, ◌≤◌, List}
 use Rattle.cs_num.specs.declared.Cpx.{Cpx}
 use Rattle.cs_num.specs.declared.Sample.{Sample}
@@ -15,8 +16,8 @@ pub record AreGains (first second : Cpx) : Type 0 where
   pub least : 1 ≤ square first
   pub most : square first + square second ≤ 392
 
--- errors may have components of this size: its square is at most a quarter of that sum, and four times that of the first
--- gain's size
+-- errors may have components of this size: its square is at most a quarter of that sum, and four times that of the
+-- first gain's size
 pub record IsAllowed (first second : Cpx) (eps : ℕ) : Type 0 where
   pub both : 4 * (eps * eps) ≤ square first + square second
   pub one : eps * eps ≤ 4 * square first

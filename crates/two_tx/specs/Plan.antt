@@ -6,7 +6,8 @@ use Rattle.cell_tx.specs.Conditions.{first_failed}
 use Rattle.cell_tx.specs.Transport.{coded_count, assigned_bits_of}
 use Rattle.cell_tx.specs.Plan.{IsSendableWith, conditions_with}
 
--- a plan can be sent with two antenna ports: the assigned blocks carry each coded bit beside the reference signals of both
+-- a plan can be sent with two antenna ports: the assigned blocks carry each coded bit beside the reference signals of
+-- both
 abbrev pub IsSendableOfTwo : CellPlan → Type 0
 IsSendableOfTwo plan = IsSendableWith (coded_count plan ≤ assigned_bits_of true plan) plan
 

@@ -1,14 +1,11 @@
 //! Recordings by number.
 
-ghost use Rattle.std.specs.Prelude.{◌≡◌, ◌+◌, ◌*◌, ◌≤◌, ℕ, All, IfOk, length, pos};
+ghost use Rattle.std.specs.Prelude.{◌≡◌, ◌*◌, ◌≤◌, ℕ, All, IfOk, length, pos};
 ghost use Rattle.finite.specs.Lists.{values_below};
 ghost use Rattle.cs_num.specs.Complex.{plus, times, sample_at, square, value_of, sample_of};
 ghost use Rattle.sample_file.specs.Recording.{IsRecording};
-ghost use Rattle.cell_tx.specs.Grid.{port_element};
-ghost use Rattle.cell_tx.specs.Sent.{sent};
-ghost use Rattle.capture_make.specs.Recipe.{plan as plan_of, number as number_of, offset as offset_of, sample_count as count_of};
-ghost use Rattle.two_tx.specs.Clean.{received_of_two, first_port, second_port};
-ghost use Rattle.two_tx.specs.Made.{IsMade, IsCleanlyMade};
+ghost use Rattle.capture_make.specs.Recipe.{plan as plan_of, number as number_of, offset as offset_of};
+ghost use Rattle.two_tx.specs.Made.{port_samples as samples_of_port, received_samples as received_of, IsMade, IsCleanlyMade};
 ghost use Rattle.two_tx.specs.Plan.{IsSendableOfTwo};
 ghost use Rattle.two_tx.specs.Recipe.{gains, first_gain as first_of, second_gain as second_of};
 ghost use Rattle.two_tx.specs.declared.made.TwoMade.{TwoMade as MadeValue};
@@ -41,8 +38,7 @@ pub struct TwoMade {
 
 // What a port of the cell of number n sends, in memory of its own.
 fn port_samples(alloc: Global, cell: &Cell2, port: Port, n: u32) -> Result<Vec<Sample>, AllocError>
-    ensures { IfOk result (λ samples. samples.items ≡ values_below (count_of n)
-        (λ i. sample_of (sent (port_element port cell.now) (number_of n) (i + offset_of n)))) }
+    ensures { IfOk result (λ samples. samples.items ≡ samples_of_port port cell.now n) }
 {
     let mut samples = vec![in alloc; Sample { re: 0, im: 0 }; sample_count(n) as usize]?;
     port_sequence(cell.cell(), port, timing(n), &mut samples);
@@ -65,9 +61,7 @@ fn with_second(n: u32, mut samples: Vec<Sample>, second: &[Sample]) -> Vec<Sampl
 // What is received of both ports without errors, in memory of its own.
 fn received_samples(alloc: Global, cell: &Cell2, n: u32) -> Result<Vec<Sample>, AllocError>
     requires { cell.now ≡ plan_of n }
-    ensures { IfOk result (λ samples. samples.items ≡ values_below (count_of n)
-        (λ i. sample_of (received_of_two (first_port (plan_of n) (number_of n)) (second_port (plan_of n) (number_of n))
-        (offset_of n) (first_of n) (second_of n) i))) }
+    ensures { IfOk result (λ samples. samples.items ≡ received_of n) }
 {
     let samples = port_samples(alloc, cell, Port::First, n)?;
     let second = port_samples(alloc, cell, Port::Second, n)?;

@@ -6,7 +6,7 @@ use Rattle.finite.specs.Bits.{xor}
 use Rattle.gold.specs.Gold.{gold_bits}
 use Rattle.gold.proofs.Bits.{get_or-gold_bits}
 use Rattle.conv_code.specs.Code.{coded_word}
-use Rattle.conv_code.specs.Reading.{bit_at_place, place_of}
+use Rattle.conv_code.specs.Reading.{bit_of_item, item_of}
 use Rattle.grid_map.specs.Scrambling.{pbch_c_init}
 use Rattle.cell_tx.specs.Points.{point_of}
 use Rattle.cell_tx.specs.Block.{scrambled_bit}
@@ -14,7 +14,7 @@ use Rattle.cell_tx.proofs.block.fill_broadcast.Goals as goal
 
 -- a scrambled bit, from the coded word and the scrambling bits
 bit_is : (c_init size count n : ℕ) (word : List Bool) (coded : List (List Bool)) (scrambling : List Bool) → length word ≡ size → coded ≡ coded_word word →
-    scrambling ≡ gold_bits c_init count → n < count → xor (bit_at_place coded (place_of size n)) (get_or scrambling n false) ≡ scrambled_bit c_init word n
+    scrambling ≡ gold_bits c_init count → n < count → xor (bit_of_item coded (item_of size n)) (get_or scrambling n false) ≡ scrambled_bit c_init word n
 bit_is c_init size count n word coded scrambling e f g inside = rw (sym e, f, g, get_or-gold_bits c_init count n false inside) refl
 
 pub loop-i-preserved : goal.loop-i-preserved

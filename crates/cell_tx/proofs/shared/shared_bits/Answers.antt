@@ -1,14 +1,14 @@
 use Rattle.std.proofs.Common.{◌≡◌, ℕ, List, Bool, arith, refl, ◌∙◌, length-set, false}
 use Rattle.std.proofs.lemmas.List.FromFn.{fill_by_all}
 use Rattle.std.proofs.lemmas.List.Edits.{fill_by_more}
-use Rattle.turbo_code.specs.Reading.{bit_of, place_of}
+use Rattle.turbo_code.specs.Reading.{bit_of, item_of}
 use Rattle.cell_tx.specs.declared.cell.CellPlan.{CellPlan}
 use Rattle.cell_tx.specs.Transport.{checked_size}
 use Rattle.cell_tx.specs.Control.{version_of}
 use Rattle.cell_tx.specs.Shared.{shared_coded, shared_bit}
 use Rattle.cell_tx.proofs.shared.shared_bits.Goals as goal
 
-bit_is : (plan : CellPlan) (sfn i k version : ℕ) (d : List (List Bool)) → d ≡ shared_coded plan → k ≡ checked_size plan → version ≡ version_of sfn → bit_of d (place_of k version i) ≡ shared_bit plan sfn i
+bit_is : (plan : CellPlan) (sfn i k version : ℕ) (d : List (List Bool)) → d ≡ shared_coded plan → k ≡ checked_size plan → version ≡ version_of sfn → bit_of d (item_of k version i) ≡ shared_bit plan sfn i
 bit_is plan sfn i k version d e f g = rw (e, f, g) refl
 
 pub loop-i-preserved : goal.loop-i-preserved

@@ -1,20 +1,17 @@
-use Rattle.std.proofs.Common.{◌≡◌, ℕ, ◌+◌, List, ap, sym, ◌∙◌}
-use Rattle.finite.specs.Lists.{values_below}
+use Rattle.std.proofs.Common.{◌≡◌, ℕ, List, ap, sym, ◌∙◌}
 use Rattle.cs_num.specs.declared.Sample.{Sample}
-use Rattle.cs_num.specs.Complex.{sample_of}
 use Rattle.cell_tx.specs.declared.cell.CellPlan.{CellPlan}
 use Rattle.cell_tx.specs.declared.antenna.Port.{Port}
 use Rattle.cell_tx.specs.declared.antenna.Port.TheVariants.{First, Second}
-use Rattle.cell_tx.specs.Grid.{port_element}
-use Rattle.cell_tx.specs.Sent.{sent}
-use Rattle.capture_make.specs.Recipe.{plan, number, offset, sample_count}
-use Rattle.two_tx.proofs.Samples.{port_list, port_small, port_long, both_are}
+use Rattle.capture_make.specs.Recipe.{plan}
+use Rattle.two_tx.specs.Made.{port_samples}
+use Rattle.two_tx.proofs.Samples.{port_small, port_long, both_are}
 use Rattle.two_tx.proofs.made.received_samples.Goals as goal
 
 -- what a port of this cell sends is that of the number
 of_number : (port : Port) (n : ℕ) (cell : CellPlan) (list : List Sample) → cell ≡ plan n
-    → list ≡ values_below (sample_count n) (λ i. sample_of (sent (port_element port cell) (number n) (i + offset n))) → list ≡ port_list port n
-of_number port n cell list e f = f ∙ ap (λ (p : CellPlan). values_below (sample_count n) (λ i. sample_of (sent (port_element port p) (number n) (i + offset n)))) e
+    → list ≡ port_samples port cell n → list ≡ port_samples port (plan n) n
+of_number port n cell list e f = f ∙ ap (λ (p : CellPlan). port_samples port p n) e
 
 pub with_second-requires-clause-room : goal.with_second-requires-clause-room
 with_second-requires-clause-room c =
