@@ -2,6 +2,7 @@
 use Rattle.std.specs.Prelude.{ℕ, ℤ, List, ◌++◌, length, codes, Result, Ok, Err}
 use Rattle.std.specs.List.{flat_map}
 use Rattle.std.specs.Fmt.{decimal, signed_decimal}
+use Rattle.lte_types.specs.declared.mib.Mib.{Mib}
 use Rattle.lte_types.specs.declared.mnc.Mnc.{Mnc}
 use Rattle.lte_types.specs.declared.mnc.Mnc.TheVariants.{Two, Three}
 use Rattle.lte_types.specs.declared.plmn.Plmn.{Plmn}
@@ -12,24 +13,27 @@ use Rattle.lte_types.specs.declared.entry.Entry.{Entry}
 use Rattle.lte_types.specs.Block.{br, rest}
 use Rattle.lte_types.specs.Codes.{bandwidth_word, duration_word, period_word, resource_word, window_word}
 use Rattle.lte_types.specs.Reasons.{reason_words}
-use Rattle.report.specs.Words.{or_dash, either, bit_word, digits_word, tdd_word, sibs_word}
+use Rattle.report.specs.Words.{or_dash, bit_word, barred_word, intra_word, reserved_word, digits_word, tdd_word, sibs_word}
 
 -- the place of a cell: its identity, start and frame number, and how many antenna ports it has
 abbrev pub place_part : ℕ → ℕ → ℕ → ℕ → List ℕ
 place_part id start sfn ports =
-    codes "cell " ++ decimal id ++ codes " at " ++ decimal start ++ codes " sfn " ++ decimal sfn ++ codes " ports " ++ decimal ports
+    codes "cell " ++ decimal id ++ codes " at " ++ decimal start ++ codes " sfn " ++ decimal sfn ++ codes " ports "
+    ++ decimal ports
 
 -- its master block: schedulingInfoSIB1-BR stands before the bits that are still spare
 abbrev pub block_part : List ℕ → List ℕ → List ℕ → ℕ → ℕ → List ℕ
 block_part bandwidth duration resource br spare =
-    codes " " ++ bandwidth ++ codes " phich " ++ duration ++ codes " " ++ resource ++ codes " br " ++ decimal br ++ codes " spare "
-    ++ decimal spare ++ codes "\n"
+    codes " " ++ bandwidth ++ codes " phich " ++ duration ++ codes " " ++ resource ++ codes " br " ++ decimal br
+    ++ codes " spare " ++ decimal spare ++ codes "\n"
+
+abbrev pub block_part_of : Mib → List ℕ
+block_part_of mib =
+    block_part (bandwidth_word mib.bandwidth) (duration_word mib.duration) (resource_word mib.resource) (br mib)
+    (rest mib)
 
 abbrev pub cell_line : Entry → List ℕ
-cell_line entry =
-    place_part entry.id entry.start entry.sfn entry.ports
-    ++ block_part (bandwidth_word entry.mib.bandwidth) (duration_word entry.mib.duration) (resource_word entry.mib.resource) (br entry.mib)
-    (rest entry.mib)
+cell_line entry = place_part entry.id entry.start entry.sfn entry.ports ++ block_part_of entry.mib
 
 -- why a cell has no system information
 abbrev pub none_line : Sib1Reason → List ℕ
@@ -39,28 +43,41 @@ none_line reason = codes "sib1 none " ++ reason_words reason ++ codes "\n"
 
 -- tracking area and identity of the cell, and whether a terminal may camp on it and on others of its frequency
 abbrev pub access_part : ℕ → ℕ → List ℕ → List ℕ → List ℕ
-access_part tac cell barred intra = codes "sib1 tac " ++ decimal tac ++ codes " cell " ++ decimal cell ++ codes " " ++ barred ++ codes " " ++ intra
+access_part tac cell barred intra =
+    codes "sib1 tac " ++ decimal tac ++ codes " cell " ++ decimal cell ++ codes " " ++ barred ++ codes " " ++ intra
+
+abbrev pub access_part_of : Sib1 → List ℕ
+access_part_of sib1 = access_part sib1.tac sib1.cell (barred_word sib1.barred) (intra_word sib1.intra)
 
 -- its closed subscriber group
 abbrev pub group_part : List ℕ → List ℕ → List ℕ
 group_part csg identity = codes " csg " ++ csg ++ codes " " ++ identity
 
+abbrev pub group_part_of : Sib1 → List ℕ
+group_part_of sib1 = group_part (bit_word sib1.csg) (or_dash decimal sib1.csg_identity)
+
 -- levels and band
 abbrev pub level_part : ℤ → List ℕ → List ℕ → ℕ → List ℕ
 level_part level offset power band =
-    codes " rx " ++ signed_decimal level ++ codes " offset " ++ offset ++ codes " pmax " ++ power ++ codes " band " ++ decimal band
+    codes " rx " ++ signed_decimal level ++ codes " offset " ++ offset ++ codes " pmax " ++ power ++ codes " band "
+    ++ decimal band
+
+abbrev pub level_part_of : Sib1 → List ℕ
+level_part_of sib1 =
+    level_part sib1.q_rx (or_dash decimal sib1.q_offset) (or_dash signed_decimal sib1.p_max) sib1.band
 
 -- when it is sent, and whether it changed
 abbrev pub window_part : List ℕ → ℕ → List ℕ → List ℕ → List ℕ
 window_part window tag tdd extension =
-    codes " window " ++ window ++ codes " tag " ++ decimal tag ++ codes " tdd " ++ tdd ++ codes " extension " ++ extension ++ codes "\n"
+    codes " window " ++ window ++ codes " tag " ++ decimal tag ++ codes " tdd " ++ tdd
+    ++ codes " extension " ++ extension ++ codes "\n"
+
+abbrev pub window_part_of : Sib1 → List ℕ
+window_part_of sib1 =
+    window_part (window_word sib1.window) sib1.tag (or_dash tdd_word sib1.tdd) (bit_word sib1.extended)
 
 abbrev pub sib1_line : Sib1 → List ℕ
-sib1_line sib1 =
-    access_part sib1.tac sib1.cell (either sib1.barred (codes "barred") (codes "open")) (either sib1.intra (codes "allowed") (codes "forbidden"))
-    ++ group_part (bit_word sib1.csg) (or_dash decimal sib1.csg_identity)
-    ++ level_part sib1.q_rx (or_dash decimal sib1.q_offset) (or_dash signed_decimal sib1.p_max) sib1.band
-    ++ window_part (window_word sib1.window) sib1.tag (or_dash tdd_word sib1.tdd) (bit_word sib1.extended)
+sib1_line sib1 = access_part_of sib1 ++ group_part_of sib1 ++ level_part_of sib1 ++ window_part_of sib1
 
 abbrev pub mnc_word : Mnc → List ℕ
 mnc_word (Two digits) = digits_word digits
@@ -71,7 +88,7 @@ abbrev pub network_line : List ℕ → List ℕ → List ℕ → List ℕ
 network_line mcc mnc reserved = codes "plmn " ++ mcc ++ codes " " ++ mnc ++ codes " " ++ reserved ++ codes "\n"
 
 abbrev pub plmn_line : Plmn → List ℕ
-plmn_line plmn = network_line (or_dash digits_word plmn.mcc) (mnc_word plmn.mnc) (either plmn.reserved (codes "reserved") (codes "free"))
+plmn_line plmn = network_line (or_dash digits_word plmn.mcc) (mnc_word plmn.mnc) (reserved_word plmn.reserved)
 
 -- an entry of the schedule
 abbrev pub schedule_line : List ℕ → List ℕ → List ℕ
@@ -106,4 +123,5 @@ report_text entries = head_line (length entries) ++ flat_map entry_lines entries
 -- the cell of the recording, where its first frame begins, that frame's number, and how often the list holds it
 abbrev pub made_line : ℕ → ℕ → ℕ → ℕ → List ℕ
 made_line id start sfn held =
-    codes "made " ++ decimal id ++ codes " at " ++ decimal start ++ codes " sfn " ++ decimal sfn ++ codes " held " ++ decimal held ++ codes "\n"
+    codes "made " ++ decimal id ++ codes " at " ++ decimal start ++ codes " sfn " ++ decimal sfn ++ codes " held "
+    ++ decimal held ++ codes "\n"

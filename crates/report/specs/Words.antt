@@ -15,6 +15,17 @@ either flag first second = if flag then first else second
 abbrev pub bit_word : Bool → List ℕ
 bit_word flag = either flag (codes "1") (codes "0")
 
+-- whether a terminal may camp on a cell, and on others of its frequency
+abbrev pub barred_word : Bool → List ℕ
+barred_word flag = either flag (codes "barred") (codes "open")
+
+abbrev pub intra_word : Bool → List ℕ
+intra_word flag = either flag (codes "allowed") (codes "forbidden")
+
+-- whether a cell is reserved for the operator's use
+abbrev pub reserved_word : Bool → List ℕ
+reserved_word flag = either flag (codes "reserved") (codes "free")
+
 -- digits, one after the other
 abbrev pub digits_word : List ℕ → List ℕ
 digits_word digits = flat_map decimal digits

@@ -1,12 +1,11 @@
 //! The lines of a report.
 
-ghost use Rattle.std.specs.Prelude.{◌≡◌, IfOk, string_bytes, codes};
+ghost use Rattle.std.specs.Prelude.{◌≡◌, IfOk, string_bytes};
 ghost use Rattle.std.specs.List.{flat_map};
-ghost use Rattle.std.specs.Fmt.{decimal, signed_decimal};
-ghost use Rattle.lte_types.specs.Block.{br as br_of, rest as rest_of};
-ghost use Rattle.lte_types.specs.Codes.{bandwidth_word, duration_word, resource_word, window_word};
-ghost use Rattle.report.specs.Words.{or_dash as word_or_dash, either as either_of, bit_word as bit_of, tdd_word as config_of};
-ghost use Rattle.report.specs.Lines.{cell_line as cell_line_of, block_part as block_of, none_line as none_line_of, access_part as access_of, group_part as group_of, level_part as level_of, window_part as window_of, sib1_line as sib1_line_of, mnc_word as mnc_of, plmn_line as plmn_line_of, message_line as message_line_of, sib1_lines as sib1_lines_of};
+ghost use Rattle.report.specs.Lines.{cell_line as cell_line_of, block_part_of, none_line as none_line_of};
+ghost use Rattle.report.specs.Lines.{access_part_of, group_part_of, level_part_of, window_part_of};
+ghost use Rattle.report.specs.Lines.{sib1_line as sib1_line_of, sib1_lines as sib1_lines_of, mnc_word as mnc_of};
+ghost use Rattle.report.specs.Lines.{plmn_line as plmn_line_of, message_line as message_line_of};
 
 use crate::parts::{
     access_part, block_part, group_part, level_part, network_line, place_part, schedule_line,
@@ -30,9 +29,7 @@ pub(crate) fn cell_line(alloc: Global, entry: &Entry) -> Result<String, AllocErr
 }
 
 fn mib_part(alloc: Global, mib: &Mib) -> Result<String, AllocError>
-    ensures { IfOk result (λ part. string_bytes part ≡
-        block_of (bandwidth_word mib.now.bandwidth) (duration_word mib.now.duration)
-        (resource_word mib.now.resource) (br_of mib.now) (rest_of mib.now)) }
+    ensures { IfOk result (λ part. string_bytes part ≡ block_part_of mib.now) }
 {
     let bandwidth = mib.bandwidth.name();
     let duration = mib.duration.name();
@@ -73,9 +70,7 @@ fn sib1_line(alloc: Global, sib1: &Sib1) -> Result<String, AllocError>
 }
 
 fn access_of_cell(alloc: Global, sib1: &Sib1) -> Result<String, AllocError>
-    ensures { IfOk result (λ part. string_bytes part ≡ access_of sib1.now.tac sib1.now.cell
-        (either_of sib1.now.barred (codes "barred") (codes "open"))
-        (either_of sib1.now.intra (codes "allowed") (codes "forbidden"))) }
+    ensures { IfOk result (λ part. string_bytes part ≡ access_part_of sib1.now) }
 {
     let barred = either(sib1.barred, "barred", "open");
     let intra = either(sib1.intra, "allowed", "forbidden");
@@ -83,8 +78,7 @@ fn access_of_cell(alloc: Global, sib1: &Sib1) -> Result<String, AllocError>
 }
 
 fn group_of_cell(alloc: Global, sib1: &Sib1) -> Result<String, AllocError>
-    ensures { IfOk result (λ part. string_bytes part ≡
-        group_of (bit_of sib1.now.csg) (word_or_dash decimal sib1.now.csg_identity)) }
+    ensures { IfOk result (λ part. string_bytes part ≡ group_part_of sib1.now) }
 {
     let csg = either(sib1.csg, "1", "0");
     let identity = or_dash(alloc, sib1.csg_identity)?;
@@ -92,8 +86,7 @@ fn group_of_cell(alloc: Global, sib1: &Sib1) -> Result<String, AllocError>
 }
 
 fn levels_of_cell(alloc: Global, sib1: &Sib1) -> Result<String, AllocError>
-    ensures { IfOk result (λ part. string_bytes part ≡ level_of sib1.now.q_rx
-        (word_or_dash decimal sib1.now.q_offset) (word_or_dash signed_decimal sib1.now.p_max) sib1.now.band) }
+    ensures { IfOk result (λ part. string_bytes part ≡ level_part_of sib1.now) }
 {
     let offset = or_dash(alloc, sib1.q_offset)?;
     let power = or_dash(alloc, sib1.p_max)?;
@@ -101,9 +94,7 @@ fn levels_of_cell(alloc: Global, sib1: &Sib1) -> Result<String, AllocError>
 }
 
 fn timing_of_cell(alloc: Global, sib1: &Sib1) -> Result<String, AllocError>
-    ensures { IfOk result (λ part. string_bytes part ≡
-        window_of (window_word sib1.now.window) sib1.now.tag (word_or_dash config_of sib1.now.tdd)
-        (bit_of sib1.now.extended)) }
+    ensures { IfOk result (λ part. string_bytes part ≡ window_part_of sib1.now) }
 {
     let window = sib1.window.name();
     let tdd = tdd_or_dash(alloc, sib1.tdd)?;
