@@ -52,7 +52,7 @@ one_length (Reports Evidence form) bytes first second a b = ap length (one_evide
 one_length (Certify form) bytes first second a b = one_certified_length _ first second a b
 one_length Check bytes first second a b = ap length (one_check bytes first second a b)
 one_length Transmit bytes first second a b = one_transmitted_length bytes first second a b
-one_length (Make sender n) bytes first second a b = ap length (one_made sender n first second a b)
+one_length (Make carrier n) bytes first second a b = ap length (one_made carrier n first second a b)
 one_length (Searches search) bytes first second a b = ap length (one_search search (samples_in Ci16 bytes) first second a b)
 one_length (Tunes tune) bytes first second a b = ap length (one_tuned tune (samples_in Ci16 bytes) first second a b)
 

@@ -24,8 +24,8 @@ use Rattle.long_prefix.specs.Made.{IsMadeLong, IsCleanlyMade as IsCleanlyMadeOfL
 use Rattle.long_prefix.proofs.Numbered.{is_identity, one_recording as one_recording_of_long}
 use Rattle.report.specs.Lines.{made_line, report_text}
 use Rattle.lte_top.specs.declared.making.SentCell.{SentCell}
-use Rattle.lte_top.specs.declared.form.Sender.{Sender}
-use Rattle.lte_top.specs.declared.form.Sender.TheVariants.{OnePort, TwoPorts, LongPrefix}
+use Rattle.lte_types.specs.declared.carrier.Carrier.{Carrier}
+use Rattle.lte_types.specs.declared.carrier.Carrier.TheVariants.{OnePort, TwoPorts, LongPrefix}
 use Rattle.lte_top.specs.Making.{Counts, IsSentCell, TellsHeld, first_of, number_of, cell_of, AreSamplesOf, IsListOf, IsMadeList, IsMadeText, IsHeldOnce, WhatIsMadeIsHeld}
 use Rattle.clean_air.specs.Clean.{IsListOfCells}
 use Rattle.lte_top.specs.Searching.{IsListOfTwo, IsListOfLong}
@@ -34,12 +34,12 @@ use Rattle.lte_top.proofs.Lists.{one_list, one_list_of_two, one_list_of_long}
 
 -- ---- a number has one text
 
-same_samples : (sender : Sender) (n : ℕ) (a b : List Sample) → AreSamplesOf sender n a → AreSamplesOf sender n b → a ≡ b
+same_samples : (carrier : Carrier) (n : ℕ) (a b : List Sample) → AreSamplesOf carrier n a → AreSamplesOf carrier n b → a ≡ b
 same_samples OnePort n a b p q = p.are ∙ one_recording n p.made q.made p.is q.is ∙ sym q.are
 same_samples TwoPorts n a b p q = p.are ∙ one_recording_of_two n p.made q.made p.is q.is ∙ sym q.are
 same_samples LongPrefix n a b p q = p.are ∙ one_recording_of_long n p.made q.made p.is q.is ∙ sym q.are
 
-same_list : (sender : Sender) (samples : List Sample) (first second : List Entry) → IsListOf sender samples first → IsListOf sender samples second → first ≡ second
+same_list : (carrier : Carrier) (samples : List Sample) (first second : List Entry) → IsListOf carrier samples first → IsListOf carrier samples second → first ≡ second
 same_list OnePort = one_list
 same_list TwoPorts = one_list_of_two
 same_list LongPrefix = one_list_of_long
@@ -48,15 +48,15 @@ same_list LongPrefix = one_list_of_long
 abbrev text_with : SentCell → List Entry → ℕ → List ℕ
 text_with cell entries held = made_line cell.identity cell.first cell.number held ++ report_text entries
 
-pub one_made : (sender : Sender) (n : ℕ) (first second : List ℕ) → IsMadeText sender n first → IsMadeText sender n second → first ≡ second
-one_made sender n first second a b =
-    let P : Entry → Type 0 = IsSentCell (cell_of sender n) in
+pub one_made : (carrier : Carrier) (n : ℕ) (first second : List ℕ) → IsMadeText carrier n first → IsMadeText carrier n second → first ≡ second
+one_made carrier n first second a b =
+    let P : Entry → Type 0 = IsSentCell (cell_of carrier n) in
     let x = a.listed in
     let y = b.listed in
-    let samples : x.samples ≡ y.samples = same_samples sender n x.samples y.samples x.made y.made in
-    let same : a.entries ≡ b.entries = same_list sender y.samples a.entries b.entries (subst (λ s. IsListOf sender s a.entries) samples x.is_list) y.is_list in
+    let samples : x.samples ≡ y.samples = same_samples carrier n x.samples y.samples x.made y.made in
+    let same : a.entries ≡ b.entries = same_list carrier y.samples a.entries b.entries (subst (λ s. IsListOf carrier s a.entries) samples x.is_list) y.is_list in
     let held : a.tells.held ≡ b.tells.held = one_count P b.entries a.tells.held b.tells.held (subst (λ (l : List Entry). Counts P l a.tells.held) same a.tells.counts) b.tells.counts in
-    a.tells.text ∙ ap (λ l. text_with (cell_of sender n) l a.tells.held) same ∙ ap (text_with (cell_of sender n) b.entries) held ∙ sym b.tells.text
+    a.tells.text ∙ ap (λ l. text_with (cell_of carrier n) l a.tells.held) same ∙ ap (text_with (cell_of carrier n) b.entries) held ∙ sym b.tells.text
 
 -- ---- the sent cell is held
 
@@ -143,24 +143,18 @@ holds_long n made entries m clean l =
     }
 
 -- the list is in order
-in_order : (sender : Sender) (samples : List Sample) (entries : List Entry) → IsListOf sender samples entries → AllPairs IsBefore entries
+in_order : (carrier : Carrier) (samples : List Sample) (entries : List Entry) → IsListOf carrier samples entries → AllPairs IsBefore entries
 in_order OnePort samples entries l = l.explained.listed.in_order
 in_order TwoPorts samples entries l = l.explained.listed.in_order
 in_order LongPrefix samples entries l = l.explained.listed.in_order
 
 -- so it is counted once
-held_once : (sender : Sender) (n : ℕ) (output : List ℕ) (m : IsMadeText sender n output) → Holds (cell_of sender n) m.entries → IsHeldOnce n output
-held_once sender n output m h =
+held_once : (carrier : Carrier) (n : ℕ) (output : List ℕ) (m : IsMadeText carrier n output) → Holds (cell_of carrier n) m.entries → IsHeldOnce n output
+held_once carrier n output m h =
     let one : m.tells.held ≡ 1 =
-    one_counted IsBefore (IsSentCell (cell_of sender n)) (λ x before. before_after x x before before) m.entries h.entry m.tells.held (in_order sender m.listed.samples m.entries m.listed.is_list) h.inside h.is
+    one_counted IsBefore (IsSentCell (cell_of carrier n)) (λ x before. before_after x x before before) m.entries h.entry m.tells.held (in_order carrier m.listed.samples m.entries m.listed.is_list) h.inside h.is
     h.only m.tells.counts in
-    record { entries = m.entries; once = m.tells.text ∙ ap (text_with (cell_of sender n) m.entries) one ∙ ap (λ line. line ++ report_text m.entries) (same_line sender n) }
-  where
-    same_line : (sender : Sender) (n : ℕ) →
-        made_line (cell_of sender n).identity (cell_of sender n).first (cell_of sender n).number 1 ≡ made_line (plan n).identity (first_of n) (number_of n) 1
-    same_line OnePort n = refl
-    same_line TwoPorts n = refl
-    same_line LongPrefix n = refl
+    record { entries = m.entries; once = m.tells.text ∙ ap (text_with (cell_of carrier n) m.entries) one }
 
 pub made_is_held : ((n : ℕ) (made : Made) → IsMade n made → IsCleanlyMade made) →
     ((n : ℕ) (made : TwoMade) → IsMadeOfTwo n made → IsCleanlyMadeOfTwo made) →
@@ -175,7 +169,7 @@ made_is_held one two long LongPrefix n output small m =
 -- ---- the list of what is made
 
 -- a list of made samples is one
-pub made_list_is : {E : Type 0} (sender : Sender) (n : ℕ) (samples : List Sample) (r : Result (List Entry) E) → AreSamplesOf sender n samples →
-    IfOk r (IsListOf sender samples) → IfOk r (IsMadeList sender n)
-made_list_is sender n samples (Ok entries) made is_list = record { samples = samples; made = made; is_list = is_list }
-made_list_is sender n samples (Err e) made is_list = tt
+pub made_list_is : {E : Type 0} (carrier : Carrier) (n : ℕ) (samples : List Sample) (r : Result (List Entry) E) → AreSamplesOf carrier n samples →
+    IfOk r (IsListOf carrier samples) → IfOk r (IsMadeList carrier n)
+made_list_is carrier n samples (Ok entries) made is_list = record { samples = samples; made = made; is_list = is_list }
+made_list_is carrier n samples (Err e) made is_list = tt

@@ -14,10 +14,10 @@ use Rattle.lte_top.specs.declared.form.Form.{Form}
 use Rattle.lte_top.specs.declared.form.Form.TheVariants.{Report as Reports, Search as Searches, Certify, Check, Transmit, Make, Tune as Tunes}
 use Rattle.lte_top.specs.declared.form.Report.TheVariants.{Hits, Ids, Search, Json, Evidence}
 use Rattle.lte_top.specs.declared.form.Search.TheVariants.{TwoPorts, LongPrefix, Cancel}
-use Rattle.lte_top.specs.declared.form.Sender.{Sender}
-use Rattle.lte_top.specs.declared.form.Sender.TheVariants.{OnePort, TwoPorts as SendsTwo, LongPrefix as SendsLong}
+use Rattle.lte_types.specs.declared.carrier.Carrier.{Carrier}
+use Rattle.lte_types.specs.declared.carrier.Carrier.TheVariants.{OnePort, TwoPorts as SendsTwo, LongPrefix as SendsLong}
 use Rattle.lte_top.specs.declared.form.Tune.TheVariants.{Tell, Apply, ApplyTurn}
-use Rattle.lte_top.specs.Forms.{sender_words, words_of, IsTurn, IsInRange, IsWordsOf}
+use Rattle.lte_top.specs.Forms.{carrier_words, words_of, IsTurn, IsInRange, IsWordsOf}
 
 -- these words are those of the form
 are_of : List (List ℕ) → Form → Bool
@@ -31,8 +31,8 @@ turn_in (c ∷ cs) = if nat_eq c 45 then neg_ℤ (pos (digits_value 10 cs)) else
 -- a made recording by the number and the words after it
 made_in : List ℕ → List (List ℕ) → Option Form
 made_in digits words =
-    if pointwise (pointwise nat_eq) words (sender_words OnePort) then Some (Make OnePort (digits_value 10 digits))
-    else if pointwise (pointwise nat_eq) words (sender_words SendsTwo) then Some (Make SendsTwo (digits_value 10 digits))
+    if pointwise (pointwise nat_eq) words (carrier_words OnePort) then Some (Make OnePort (digits_value 10 digits))
+    else if pointwise (pointwise nat_eq) words (carrier_words SendsTwo) then Some (Make SendsTwo (digits_value 10 digits))
     else Some (Make SendsLong (digits_value 10 digits))
 
 -- words of which the second is a number
@@ -85,7 +85,7 @@ turn_back (negsuc n) small =
     let low = small.0 in
     let numeral = decimal_is_IsNumeral (suc n) (omega (arith, ints, low)) in ap (λ k. neg_ℤ (pos k)) numeral.1
 
-made_back : (sender : Sender) (n : ℕ) → n < 2 ^ 32 → made_in (decimal n) (sender_words sender) ≡ Some (Make sender n)
+made_back : (carrier : Carrier) (n : ℕ) → n < 2 ^ 32 → made_in (decimal n) (carrier_words carrier) ≡ Some (Make carrier n)
 unfolding made_in
 made_back OnePort n small = ap (λ k. Some (Make OnePort k)) (decimal_is_IsNumeral n (omega (arith, small))).1
 made_back SendsTwo n small = ap (λ k. Some (Make SendsTwo k)) (decimal_is_IsNumeral n (omega (arith, small))).1

@@ -18,5 +18,5 @@ pub record HasCellsTold (text : List ℕ) (samples : List Sample) : Type 0 where
 
 -- a law: what `apply` writes for a recording is, read as one, a recording, and has as many cells as `tell` writes
 abbrev pub WhatIsAppliedIsTold : Type 0
-WhatIsAppliedIsTold = (bytes text applied : List ℕ) → IsRecording (samples_of bytes) → IsOutput (Tunes Tell) bytes text →
-    IsOutput (Tunes Apply) bytes applied → HasCellsTold text (samples_of applied)
+WhatIsAppliedIsTold = (bytes text applied : List ℕ) → IsRecording (samples_of bytes) →
+    IsOutput (Tunes Tell) bytes text → IsOutput (Tunes Apply) bytes applied → HasCellsTold text (samples_of applied)

@@ -12,8 +12,8 @@ use Rattle.lte_top.specs.declared.form.Form.TheVariants.{Report as Reports, Sear
 use Rattle.lte_top.specs.declared.form.Report.TheVariants.{Hits, Ids, Search, Json, Evidence}
 use Rattle.lte_top.specs.declared.form.Search.{Search as OtherSearch}
 use Rattle.lte_top.specs.declared.form.Search.TheVariants.{TwoPorts, LongPrefix, Cancel}
-use Rattle.lte_top.specs.declared.form.Sender.{Sender}
-use Rattle.lte_top.specs.declared.form.Sender.TheVariants.{OnePort, TwoPorts as SendsTwo, LongPrefix as SendsLong}
+use Rattle.lte_types.specs.declared.carrier.Carrier.{Carrier}
+use Rattle.lte_types.specs.declared.carrier.Carrier.TheVariants.{OnePort, TwoPorts as SendsTwo, LongPrefix as SendsLong}
 use Rattle.lte_top.specs.declared.form.Tune.{Tune}
 use Rattle.lte_top.specs.declared.form.Tune.TheVariants.{Tell, Apply, ApplyTurn}
 use Rattle.lte_top.specs.declared.status.Status.{Status}
@@ -39,16 +39,16 @@ two_ports_words = codes "--ports" ∷ codes "2" ∷ []
 abbrev pub long_prefix_words : List (List ℕ)
 long_prefix_words = codes "--prefix" ∷ codes "long" ∷ []
 
--- those that name the rule of a list, and the sender of a made recording
+-- those that name the rule of a list, and the carrier of a made recording
 abbrev pub search_words : OtherSearch → List (List ℕ)
 search_words TwoPorts = two_ports_words
 search_words LongPrefix = long_prefix_words
 search_words Cancel = codes "--cancel" ∷ []
 
-abbrev pub sender_words : Sender → List (List ℕ)
-sender_words OnePort = []
-sender_words SendsTwo = two_ports_words
-sender_words SendsLong = long_prefix_words
+abbrev pub carrier_words : Carrier → List (List ℕ)
+carrier_words OnePort = []
+carrier_words SendsTwo = two_ports_words
+carrier_words SendsLong = long_prefix_words
 
 abbrev pub tune_words : Tune → List (List ℕ)
 tune_words Tell = codes "tell" ∷ []
@@ -66,7 +66,7 @@ words_of (Searches search) = codes "search" ∷ search_words search
 words_of (Certify form) = codes "certify" ∷ samples_words form
 words_of Check = codes "check" ∷ []
 words_of Transmit = codes "transmit" ∷ []
-words_of (Make sender n) = codes "make" ∷ decimal n ∷ sender_words sender
+words_of (Make carrier n) = codes "make" ∷ decimal n ∷ carrier_words carrier
 words_of (Tunes tune) = tune_words tune
 
 -- a turn that can be asked for
@@ -75,7 +75,7 @@ IsTurn m = (negsuc 2047 ≤ℤ m) × (m ≤ℤ pos 2047)
 
 -- the number of a form is one of 32 bits, or a turn
 abbrev pub IsInRange : Form → Type 0
-IsInRange (Make sender n) = n < 2 ^ 32
+IsInRange (Make carrier n) = n < 2 ^ 32
 IsInRange (Tunes (ApplyTurn m)) = IsTurn m
 IsInRange form = Unit {0}
 
@@ -110,7 +110,7 @@ input_of (Reports report form) = recording form
 input_of (Certify form) = recording form
 input_of Check = certificates
 input_of Transmit = description
-input_of (Make sender n) = nothing
+input_of (Make carrier n) = nothing
 input_of (Searches search) = recording Ci16
 input_of (Tunes tune) = recording Ci16
 
@@ -168,7 +168,7 @@ IsOutput (Reports report form) bytes output = IsReport report (samples_in form b
 IsOutput (Certify form) bytes output = IsCertified (samples_in form bytes) output
 IsOutput Check bytes output = IsChecked bytes output
 IsOutput Transmit bytes output = IsTransmitted bytes output
-IsOutput (Make sender n) bytes output = IsMadeText sender n output
+IsOutput (Make carrier n) bytes output = IsMadeText carrier n output
 IsOutput (Searches search) bytes output = IsSearch search (samples_in Ci16 bytes) output
 IsOutput (Tunes tune) bytes output = IsTuned tune (samples_in Ci16 bytes) output
 

@@ -15,10 +15,12 @@ use Rattle.lte_top.specs.declared.form.Form.TheVariants.{Report as Reports, Tran
 use Rattle.lte_top.specs.declared.form.Report.TheVariants.{Search}
 use Rattle.lte_top.specs.Forms.{IsOutput}
 
--- the line of a sent cell: its identity, where its first frame begins, that frame's number, one antenna port, and its block
+-- the line of a sent cell: its identity, where its first frame begins, that frame's number, one antenna port, and its
+-- block
 abbrev pub sent_line : CellPlan → ℕ → ℕ → List ℕ
 sent_line plan first number =
-    place_part plan.identity first number 1 ++ block_part (codes "n6") (duration_word plan.duration) (resource_word plan.resource)
+    place_part plan.identity first number 1
+    ++ block_part (codes "n6") (duration_word plan.duration) (resource_word plan.resource)
     (plan.spare / 32) (plan.spare % 32)
 
 -- this line, and those of its system information
@@ -35,5 +37,5 @@ pub record IsFoundIn (description : List ℕ) (samples : List Sample) (text : Li
 -- a law: what `transmit` writes for a description, read as a recording, is clean, and what `search` writes
 -- for it has the cell's lines
 abbrev pub WhatIsSentIsFound : Type 0
-WhatIsSentIsFound = (description sent text : List ℕ) → IsOutput Transmit description sent → IsOutput (Reports Search Ci16) sent text →
-    IsFoundIn description (samples_of sent) text
+WhatIsSentIsFound = (description sent text : List ℕ) → IsOutput Transmit description sent →
+    IsOutput (Reports Search Ci16) sent text → IsFoundIn description (samples_of sent) text

@@ -6,6 +6,7 @@ pub mod Tuning
 pub mod Making
 pub mod Forms
 pub mod Errors
+pub mod Memory
 pub mod Run
 pub mod Found
 pub mod Applied

@@ -17,8 +17,9 @@ use Rattle.long_prefix.specs.declared.made.LongMade.{LongMade}
 use Rattle.long_prefix.specs.Made.{IsMadeLong}
 use Rattle.report.specs.Lines.{made_line, report_text}
 use Rattle.lte_top.specs.declared.making.SentCell.{SentCell}
-use Rattle.lte_top.specs.declared.form.Sender.{Sender}
-use Rattle.lte_top.specs.declared.form.Sender.TheVariants.{OnePort, TwoPorts, LongPrefix as Long}
+use Rattle.lte_types.specs.declared.carrier.Carrier.{Carrier}
+use Rattle.lte_types.specs.declared.carrier.Carrier.TheVariants.{OnePort, TwoPorts, LongPrefix as Long}
+use Rattle.lte_types.specs.Carrier.{ports_of}
 use Rattle.clean_air.specs.Clean.{IsListOfCells}
 use Rattle.lte_top.specs.Searching.{IsListOfTwo, IsListOfLong}
 
@@ -44,7 +45,7 @@ pub record TellsHeld (cell : SentCell) (entries : List Entry) (output : List ℕ
   pub counts : Counts (IsSentCell cell) entries held
   pub text : output ≡ made_line cell.identity cell.first cell.number held ++ report_text entries
 
--- ---- recording number n of a sender
+-- ---- recording number n of a carrier
 
 -- where the first frame of its cell begins, and that frame's number
 abbrev pub first_of : ℕ → ℕ
@@ -53,52 +54,54 @@ first_of n = start_of (offset n)
 abbrev pub number_of : ℕ → ℕ
 number_of n = number_at_start (number n) (offset n)
 
--- the cell, with so many antenna ports and this told of its system information
-abbrev pub cell_with : ℕ → ℕ → Result Sib1 Sib1Reason → SentCell
-cell_with n ports sib1 = record {
+-- what is told of the system information that a carrier sends
+abbrev pub told_of : Carrier → Sib1 → Result Sib1 Sib1Reason
+told_of OnePort sib1 = Ok sib1
+told_of TwoPorts sib1 = Ok sib1
+told_of Long sib1 = Err LongPrefix
+
+-- the cell
+abbrev pub cell_of : Carrier → ℕ → SentCell
+cell_of carrier n = record {
   identity = (plan n).identity;
   first = first_of n;
   number = number_of n;
-  ports = ports;
+  ports = ports_of carrier;
   duration = (plan n).duration;
   resource = (plan n).resource;
   spare = (plan n).spare;
-  sib1 = sib1;
+  sib1 = told_of carrier (plan n).sib1;
 }
 
-abbrev pub cell_of : Sender → ℕ → SentCell
-cell_of OnePort n = cell_with n 1 (Ok (plan n).sib1)
-cell_of TwoPorts n = cell_with n 2 (Ok (plan n).sib1)
-cell_of Long n = cell_with n 1 (Err LongPrefix)
-
 -- the samples are those that were made
-pub record AreMade {M : Type 0} (Is : M → Type 0) (recording_of : M → List Sample) (samples : List Sample) : Type 0 where
+pub record AreMade {M : Type 0} (Is : M → Type 0) (recording_of : M → List Sample) (samples : List Sample) :
+    Type 0 where
   pub made : M
   pub is : Is made
   pub are : samples ≡ recording_of made
 
-abbrev pub AreSamplesOf : Sender → ℕ → List Sample → Type 0
+abbrev pub AreSamplesOf : Carrier → ℕ → List Sample → Type 0
 AreSamplesOf OnePort n = AreMade (IsMade n) (λ (made : Made). made.recording)
 AreSamplesOf TwoPorts n = AreMade (IsMadeOfTwo n) (λ (made : TwoMade). made.recording)
 AreSamplesOf Long n = AreMade (IsMadeLong n) (λ (made : LongMade). made.recording)
 
 -- the list that tells such a cell
-abbrev pub IsListOf : Sender → List Sample → List Entry → Type 0
+abbrev pub IsListOf : Carrier → List Sample → List Entry → Type 0
 IsListOf OnePort = IsListOfCells
 IsListOf TwoPorts = IsListOfTwo
 IsListOf Long = IsListOfLong
 
 -- the list of recording number n
-pub record IsMadeList (sender : Sender) (n : ℕ) (entries : List Entry) : Type 0 where
+pub record IsMadeList (carrier : Carrier) (n : ℕ) (entries : List Entry) : Type 0 where
   pub samples : List Sample
-  pub made : AreSamplesOf sender n samples
-  pub is_list : IsListOf sender samples entries
+  pub made : AreSamplesOf carrier n samples
+  pub is_list : IsListOf carrier samples entries
 
 -- the output is the line of recording number n, and then the text of its list
-pub record IsMadeText (sender : Sender) (n : ℕ) (output : List ℕ) : Type 0 where
+pub record IsMadeText (carrier : Carrier) (n : ℕ) (output : List ℕ) : Type 0 where
   pub entries : List Entry
-  pub listed : IsMadeList sender n entries
-  pub tells : TellsHeld (cell_of sender n) entries output
+  pub listed : IsMadeList carrier n entries
+  pub tells : TellsHeld (cell_of carrier n) entries output
 
 -- ---- its cell is held
 
@@ -107,6 +110,7 @@ pub record IsHeldOnce (n : ℕ) (output : List ℕ) : Type 0 where
   pub entries : List Entry
   pub once : output ≡ made_line (plan n).identity (first_of n) (number_of n) 1 ++ report_text entries
 
--- a law: so is what `make N` writes, for each sender and every number of 32 bits
+-- a law: so is what `make N` writes, for each carrier and every number of 32 bits
 abbrev pub WhatIsMadeIsHeld : Type 0
-WhatIsMadeIsHeld = (sender : Sender) (n : ℕ) (output : List ℕ) → n < 2 ^ 32 → IsMadeText sender n output → IsHeldOnce n output
+WhatIsMadeIsHeld = (carrier : Carrier) (n : ℕ) (output : List ℕ) → n < 2 ^ 32 → IsMadeText carrier n output →
+    IsHeldOnce n output

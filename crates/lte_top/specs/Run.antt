@@ -20,7 +20,8 @@ IsRead (recording form) = Unit {0}
 IsRead certificates = Unit {0}
 IsRead description = Unit {0}
 
--- these bytes are the whole input, which was read to its end; where none is read there are none, and the source is as it was
+-- these bytes are the whole input, which was read to its end; where none is read there are none, and the source is as
+-- it was
 abbrev pub HasReadInput : Input → List ℕ → SourceTold → SourceTold → Type 0
 HasReadInput nothing bytes before now = (bytes ≡ []) × NothingRead before now
 HasReadInput (recording form) bytes before now = HasReadAll (limit_of (recording form)) bytes before now
@@ -34,7 +35,8 @@ pub record HasOutput (form : Form) (output : List ℕ) (before now : SourceTold)
   pub unrefused : (status : Status) → Refuses (input_of form) bytes status → ⊥
   pub is_output : IsOutput form bytes output
 
--- what was read, no more than one byte past the limit, has this refusal, and it ended there or has it however it goes on
+-- what was read, no more than one byte past the limit, has this refusal, and it ended there or has it however it goes
+-- on
 pub record HasRefusal (input : Input) (status : Status) (before now : SourceTold) : Type 0 where
   pub bytes : List ℕ
   pub read : HasRead bytes before now
@@ -89,8 +91,8 @@ pub record IsDone (form : Form) (before now : Outside) : Type 0 where
   pub has_output : HasOutput form output before.0 now.0
   pub written : HasWritten output before.1 now.1
 
--- WriteFault: a valid input was read to its end, the sink took a front of its output and counted a fault, and it told no room
--- or too little for the whole
+-- WriteFault: a valid input was read to its end, the sink took a front of its output and counted a fault, and it told
+-- no room or too little for the whole
 pub record IsWriteFault (form : Form) (before now : Outside) : Type 0 where
   pub output : List ℕ
   pub has_output : HasOutput form output before.0 now.0
@@ -127,8 +129,8 @@ Outcome program words before now status = RunsForm program words before now stat
 
 -- ---- the answer that an input has
 
--- the answer to bytes where no memory is wanting and no read or write fails: Done to valid ones, TooLong to more than the
--- limit, or their refusal
+-- the answer to bytes where no memory is wanting and no read or write fails: Done to valid ones, TooLong to more than
+-- the limit, or their refusal
 abbrev pub IsAnswerTo : Input → List ℕ → Status → Type 0
 IsAnswerTo input bytes Done = IsValid input bytes
 IsAnswerTo input bytes TooLong = IsTooLong input bytes
@@ -136,7 +138,8 @@ IsAnswerTo input bytes status = Refuses input bytes status
 
 -- they have one answer
 abbrev pub HasOneAnswer : Type 0
-HasOneAnswer = (input : Input) (bytes : List ℕ) (first second : Status) → IsAnswerTo input bytes first → IsAnswerTo input bytes second → first ≡ second
+HasOneAnswer = (input : Input) (bytes : List ℕ) (first second : Status) → IsAnswerTo input bytes first →
+    IsAnswerTo input bytes second → first ≡ second
 
 -- which answers bytes may have: want of memory, a fault that was counted, or their own
 abbrev pub MayAnswer : Input → List ℕ → Outside → Outside → Status → Type 0
@@ -153,13 +156,15 @@ IsTold certificates bytes before = before.left ≡ Some bytes
 IsTold description bytes before = before.left ≡ Some bytes
 
 -- words of a form, and the bytes of its input, where the source tells them
-pub record IsAsked (program : Program) (words : List (List ℕ)) (before : Outside) (form : Form) (bytes : List ℕ) : Type 0 where
+pub record IsAsked (program : Program) (words : List (List ℕ)) (before : Outside) (form : Form) (bytes : List ℕ) :
+    Type 0 where
   pub is_of : IsWordsOf program words form
   pub told : IsTold (input_of form) bytes before.0
 
 -- the answer is one that the input may have
 abbrev pub IsAnswered : Program → List (List ℕ) → Outside → Outside → Status → Type 0
-IsAnswered program words before now status = (form : Form) (bytes : List ℕ) → IsAsked program words before form bytes → MayAnswer (input_of form) bytes before now status
+IsAnswered program words before now status = (form : Form) (bytes : List ℕ) →
+    IsAsked program words before form bytes → MayAnswer (input_of form) bytes before now status
 
 -- valid bytes are done where no fault was counted, but for want of memory
 abbrev pub IsComplete : Program → List (List ℕ) → Outside → Outside → Status → Type 0
@@ -170,8 +175,8 @@ IsComplete program words before now status =
 -- a sink that tells room for the whole output has no fault
 abbrev pub HasRoom : Program → List (List ℕ) → Outside → Status → Type 0
 HasRoom program words before status =
-    (form : Form) (bytes output : List ℕ) (room : ℕ) → IsAsked program words before form bytes → before.1.room ≡ Some room →
-    IsOutput form bytes output → length output ≤ room → status ≢ WriteFault
+    (form : Form) (bytes output : List ℕ) (room : ℕ) → IsAsked program words before form bytes →
+    before.1.room ≡ Some room → IsOutput form bytes output → length output ≤ room → status ≢ WriteFault
 
 -- what a run of these words by a program does between two moments
 pub record Runs (program : Program) (words : List (List ℕ)) (before now : Outside) (status : Status) : Type 0 where

@@ -12,7 +12,8 @@ use Rattle.lte_top.specs.declared.form.Search.{Search}
 use Rattle.lte_top.specs.declared.form.Search.TheVariants.{TwoPorts, LongPrefix, Cancel}
 use Rattle.lte_top.specs.Reports.{IsTextOfList}
 
--- the list of the cells with two antenna ports, which holds each of which the recording is clean, whatever else its ports send
+-- the list of the cells with two antenna ports, which holds each of which the recording is clean, whatever else its
+-- ports send
 pub record IsListOfTwo (samples : List Sample) (entries : List Entry) : Type 0 where
   pub explained : IsExplainedOfTwo samples entries
   pub loaded : HoldsLoadedCellsOfTwo samples entries

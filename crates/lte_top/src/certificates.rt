@@ -34,7 +34,7 @@ pub(crate) fn certify_recording<S: Source, K: Sink>(
     let (mut search, mut list) = room_for_list(alloc)?;
     let mut work = CertificateWork::new(alloc)?;
     explain_clean(&recording, &mut search, &mut list);
-    match certify(&recording, list.slice(), &mut work, sink) {
+    match certify(&recording, list.slice(), search.readings(), &mut work, sink) {
         Ok(()) => Ok(()),
         Err(Failed) => Err(Status::WriteFault),
     }

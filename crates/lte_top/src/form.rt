@@ -5,6 +5,7 @@ ghost use Rattle.lte_top.specs.Forms.{IsWordsOf, IsNoForm};
 ghost use Rattle.lte_top.specs.declared.form.Program.TheVariants.{Receiver, Tuner};
 
 use crate::words::Words;
+use lte_types::Carrier;
 use sample_file::SampleForm;
 
 /// A program: each has words of its own.
@@ -31,8 +32,9 @@ pub enum Form {
     Check,
     /// `transmit`: the samples of a described cell.
     Transmit,
-    /// `make N`: the list of recording number N, made of the sender's cell.
-    Make(Sender, u32),
+    /// `make N`: the list of recording number N, made of a cell with one antenna port, with two by the words
+    /// `--ports 2` after it, or with the extended cyclic prefix by `--prefix long`.
+    Make(Carrier, u32),
     /// What the second program does with a recording.
     Tune(Tune),
 }
@@ -61,17 +63,6 @@ pub enum Search {
     LongPrefix,
     /// `search --cancel`: the list, and those of what is left where a cell of it is taken off.
     Cancel,
-}
-
-/// What a made recording is of.
-#[derive(Clone, Copy, PartialEq, Eq)]
-pub enum Sender {
-    /// A cell with one antenna port and the normal cyclic prefix.
-    OnePort,
-    /// `--ports 2`: one with two antenna ports.
-    TwoPorts,
-    /// `--prefix long`: one with the extended cyclic prefix.
-    LongPrefix,
 }
 
 /// What is done with the frequency offset of a recording.
@@ -121,8 +112,8 @@ impl Form {
         } else if words.is_one("transmit") {
             Some(Form::Transmit)
         } else {
-            let (sender, n) = words.made_after("make")?;
-            Some(Form::Make(sender, n))
+            let (carrier, n) = words.made_after("make")?;
+            Some(Form::Make(carrier, n))
         }
     }
 

@@ -21,8 +21,8 @@ pub fn what_is_sent_is_found()
     sent_is_clean();
 }
 
-/// The line of `make N` ends in `held 1`, for each sender and every N: the list of the recording holds the cell that was
-/// sent once.
+/// The line of `make N` ends in `held 1`, for each carrier and every N: the list of the recording holds the cell that
+/// was sent once.
 pub fn what_is_made_is_held()
     ensures { WhatIsMadeIsHeld }
 {

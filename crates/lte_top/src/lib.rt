@@ -13,7 +13,7 @@ mod transmitting;
 mod tuning;
 mod words;
 
-pub use form::{Form, Program, Report, Search, Sender, Tune};
+pub use form::{Form, Program, Report, Search, Tune};
 pub use laws::{
     an_input_has_one_answer, what_is_applied_is_told, what_is_made_is_held, what_is_sent_is_found,
 };

@@ -1,15 +1,15 @@
 //! The lists of recordings by number.
 
-ghost use Rattle.std.specs.Prelude.{◌≡◌, ◌↔◌, ◌≤◌, ℕ, IfOk, IsTrue, length, string_bytes};
-ghost use Rattle.capture_make.specs.Recipe.{plan as plan_of};
-ghost use Rattle.lte_top.specs.Making.{Counts, IsSentCell, TellsHeld, cell_of, IsMadeList, IsMadeText};
+ghost use Rattle.std.specs.Prelude.{◌≡◌, ◌↔◌, ◌≤◌, IfOk, IsTrue, length, string_bytes};
+ghost use Rattle.lte_top.specs.Making.{Counts, IsSentCell, TellsHeld, told_of, cell_of, IsMadeList, IsMadeText};
 
-use crate::form::Sender;
 use crate::reporting::list_of;
 use crate::searching::{list_of_long, list_of_two};
 use capture_make::{plan, timing};
 use explain::EntryList;
-use lte_types::{Bandwidth, Duration, Entry, Resource, Sfn, Sib1, Sib1Reason, same_answers};
+use lte_types::{
+    Bandwidth, Carrier, Duration, Entry, Resource, Sfn, Sib1, Sib1Reason, same_answers,
+};
 use report::{line_of_made, text};
 use std::alloc::{AllocError, Global};
 
@@ -26,59 +26,49 @@ pub(crate) struct SentCell {
     pub sib1: Result<Sib1, Sib1Reason>,
 }
 
-// The line of recording number n of a sender, and the text of its list. Nothing is read.
-pub(crate) fn made_text(alloc: Global, sender: Sender, n: u32) -> Result<String, AllocError>
-    ensures { IfOk result (λ text. IsMadeText sender n (string_bytes text)) }
+// The line of recording number n of a carrier, and the text of its list. Nothing is read.
+pub(crate) fn made_text(alloc: Global, carrier: Carrier, n: u32) -> Result<String, AllocError>
+    ensures { IfOk result (λ text. IsMadeText carrier n (string_bytes text)) }
 {
-    let list = made_list(alloc, sender, n)?;
-    text_of_sent(alloc, &sent_cell(sender, n), list.slice())
+    let list = made_list(alloc, carrier, n)?;
+    text_of_sent(alloc, &sent_cell(carrier, n), list.slice())
 }
 
-// The list of recording number n of a sender.
-fn made_list(alloc: Global, sender: Sender, n: u32) -> Result<EntryList, AllocError>
-    ensures { IfOk result (IsMadeList sender n) }
+// The list of recording number n of a carrier.
+fn made_list(alloc: Global, carrier: Carrier, n: u32) -> Result<EntryList, AllocError>
+    ensures { IfOk result (IsMadeList carrier n) }
 {
-    match sender {
-        Sender::OnePort => list_of(alloc, &capture_make::make(alloc, n)?.recording),
-        Sender::TwoPorts => list_of_two(alloc, &two_tx::make(alloc, n)?.recording),
-        Sender::LongPrefix => list_of_long(alloc, &long_prefix::make(alloc, n)?.recording),
+    match carrier {
+        Carrier::OnePort => list_of(alloc, &capture_make::make(alloc, n)?.recording),
+        Carrier::TwoPorts => list_of_two(alloc, &two_tx::make(alloc, n)?.recording),
+        Carrier::LongPrefix => list_of_long(alloc, &long_prefix::make(alloc, n)?.recording),
     }
 }
 
-// The cell of recording number n of a sender.
-fn sent_cell(sender: Sender, n: u32) -> SentCell
-    ensures { result ≡ cell_of sender n }
+// The cell of recording number n of a carrier.
+fn sent_cell(carrier: Carrier, n: u32) -> SentCell
+    ensures { result ≡ cell_of carrier n }
 {
     let plan = plan(n);
     SentCell {
         identity: plan.identity,
         first: timing(n).start(),
         number: timing(n).number_at_start(),
-        ports: ports_of(sender),
+        ports: carrier.ports(),
         duration: plan.duration,
         resource: plan.resource,
         spare: plan.spare,
-        sib1: told_by(sender, plan.sib1),
+        sib1: told_by(carrier, plan.sib1),
     }
 }
 
-// How many antenna ports a sender has.
-fn ports_of(sender: Sender) -> u8
-    ensures { (n : ℕ) → result ≡ (cell_of sender n).ports }
+// What is told of system information that a carrier sends.
+fn told_by(carrier: Carrier, sib1: Sib1) -> Result<Sib1, Sib1Reason>
+    ensures { result ≡ told_of carrier sib1 }
 {
-    match sender {
-        Sender::OnePort | Sender::LongPrefix => 1,
-        Sender::TwoPorts => 2,
-    }
-}
-
-// What is told of the system information that a sender has.
-fn told_by(sender: Sender, sib1: Sib1) -> Result<Sib1, Sib1Reason>
-    ensures { (n : ℕ) → sib1 ≡ (plan_of n).sib1 → result ≡ (cell_of sender n).sib1 }
-{
-    match sender {
-        Sender::OnePort | Sender::TwoPorts => Ok(sib1),
-        Sender::LongPrefix => Err(Sib1Reason::LongPrefix),
+    match carrier {
+        Carrier::OnePort | Carrier::TwoPorts => Ok(sib1),
+        Carrier::LongPrefix => Err(Sib1Reason::LongPrefix),
     }
 }
 

@@ -138,8 +138,9 @@ fn json_of_list(alloc: Global, recording: &Recording) -> Result<String, AllocErr
 fn evidence_text(alloc: Global, recording: &Recording) -> Result<String, AllocError>
     ensures { IfOk result (λ text. IsTextOfEvidence recording.now (string_bytes text)) }
 {
-    let list = list_of(alloc, recording)?;
-    let told = evidence_of_list(alloc, recording, list.slice())?;
+    let (mut work, mut list) = room_for_list(alloc)?;
+    explain_clean(recording, &mut work, &mut list);
+    let told = evidence_of_list(alloc, recording, list.slice(), work.readings())?;
     text_of_evidence(alloc, &told)
 }
 

@@ -1,9 +1,10 @@
 //! The top call.
 
-ghost use Rattle.std.specs.Prelude.{◌≡◌, ◌≤◌, Some, length, IfErr, OnOk, OnErr};
+ghost use Rattle.std.specs.Prelude.{◌≡◌, ◌≤◌, length, IfErr, OnOk, OnErr};
 ghost use Rattle.cs_outside.specs.Counts.{Rose};
 ghost use Rattle.cs_outside.specs.Outside.{SourceTold, SinkTold};
 ghost use Rattle.cs_outside.specs.Streams.{HasWritten, HasWrittenFront, IsShortOf};
+ghost use Rattle.lte_top.specs.Memory.{in_memory, taken_by};
 ghost use Rattle.lte_top.specs.Run.{IsDone, Ends, Outcome, Runs};
 ghost use Rattle.lte_top.specs.declared.form.Program.TheVariants.{Receiver};
 ghost use Rattle.lte_top.specs.declared.status.Status.TheVariants.{WriteFault};
@@ -58,14 +59,8 @@ pub fn run_in_memory(
     source: &mut MemSource,
     sink: &mut MemSink,
 ) -> Status
-    ensures { Runs Receiver words.now (
-      record { left = Some source.old; faults = 0 },
-      record { taken = Some sink.old.taken; room = Some sink.old.room; faults = sink.old.faults },
-    ) (
-      record { left = Some source.new; faults = 0 },
-      record { taken = Some sink.new.taken; room = Some sink.new.room; faults = sink.new.faults },
-    )
-        result }
+    ensures { Runs Receiver words.now
+        (in_memory source.old, taken_by sink.old) (in_memory source.new, taken_by sink.new) result }
 {
     run(alloc, words, source, sink)
 }
@@ -120,8 +115,8 @@ fn run_form<S: Source, K: Sink>(
             let bytes = transmitted_bytes(alloc, source)?;
             write_output(sink, &bytes)
         }
-        Form::Make(sender, n) => {
-            let text = made_text(alloc, sender, n)?;
+        Form::Make(carrier, n) => {
+            let text = made_text(alloc, carrier, n)?;
             write_output(sink, text.as_bytes())
         }
         Form::Search(search) => {

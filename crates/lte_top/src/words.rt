@@ -4,11 +4,12 @@ ghost use Rattle.std.specs.Prelude.{◌≡◌, ◌≢◌, ◌↔◌, ◌<◌, �
 ghost use Rattle.std.specs.Fmt.{decimal, signed_decimal};
 ghost use Rattle.sample_file.specs.declared.form.SampleForm.{SampleForm as SampleFormValue};
 ghost use Rattle.lte_top.specs.declared.form.Search.{Search as SearchValue};
-ghost use Rattle.lte_top.specs.declared.form.Sender.{Sender as SenderValue};
-ghost use Rattle.lte_top.specs.Forms.{samples_words, search_words, sender_words, IsTurn};
+ghost use Rattle.lte_types.specs.declared.carrier.Carrier.{Carrier as CarrierValue};
+ghost use Rattle.lte_top.specs.Forms.{samples_words, search_words, carrier_words, IsTurn};
 
-use crate::form::{Search, Sender};
+use crate::form::Search;
 use itoa::Buffer;
+use lte_types::Carrier;
 use sample_file::SampleForm;
 use std::alloc::{AllocError, Global};
 use std::marker::Model;
@@ -85,17 +86,17 @@ impl Words {
         search_of(words)
     }
 
-    // The number after this word, one of 32 bits without leading zero, and the sender that the words after it name.
-    pub(crate) fn made_after(&self, word: &str) -> Option<(Sender, u32)>
-        ensures some { IfSome result (λ made. self.now ≡ word.now ∷ decimal made.1 ∷ sender_words made.0) }
-        ensures none { IsNone result → (sender : SenderValue) (n : ℕ) → n < 2 ^ 32 →
-            self.now ≡ word.now ∷ decimal n ∷ sender_words sender → ⊥ }
+    // The number after this word, one of 32 bits without leading zero, and the carrier that the words after it name.
+    pub(crate) fn made_after(&self, word: &str) -> Option<(Carrier, u32)>
+        ensures some { IfSome result (λ made. self.now ≡ word.now ∷ decimal made.1 ∷ carrier_words made.0) }
+        ensures none { IsNone result → (carrier : CarrierValue) (n : ℕ) → n < 2 ^ 32 →
+            self.now ≡ word.now ∷ decimal n ∷ carrier_words carrier → ⊥ }
     {
         let words = after(&self.words, word)?;
         let (text, words) = words.split_first()?;
         let n = number_of(text.as_str())?;
-        let sender = sender_of(words)?;
-        Some((sender, n))
+        let carrier = carrier_of(words)?;
+        Some((carrier, n))
     }
 
     // The turn after this word, where there are two words: a number from -2,048 to 2,047 without leading zero.
@@ -176,17 +177,17 @@ fn search_of(words: &[String]) -> Option<Search>
     }
 }
 
-// The sender that these words name.
-fn sender_of(words: &[String]) -> Option<Sender>
-    ensures some { IfSome result (λ sender. map string_bytes words.now ≡ sender_words sender) }
-    ensures none { IsNone result → (sender : SenderValue) → map string_bytes words.now ≡ sender_words sender → ⊥ }
+// The carrier that these words name.
+fn carrier_of(words: &[String]) -> Option<Carrier>
+    ensures some { IfSome result (λ carrier. map string_bytes words.now ≡ carrier_words carrier) }
+    ensures none { IsNone result → (carrier : CarrierValue) → map string_bytes words.now ≡ carrier_words carrier → ⊥ }
 {
     if words.is_empty() {
-        Some(Sender::OnePort)
+        Some(Carrier::OnePort)
     } else if are_two(words, "--ports", "2") {
-        Some(Sender::TwoPorts)
+        Some(Carrier::TwoPorts)
     } else if are_two(words, "--prefix", "long") {
-        Some(Sender::LongPrefix)
+        Some(Carrier::LongPrefix)
     } else {
         None
     }

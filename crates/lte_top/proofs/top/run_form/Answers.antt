@@ -12,8 +12,8 @@ returns-in_ok-text-in-Make-clause-done g c =
     let now = g.K.Sink.told c.write_output-in-Make.new.sink in
     let output = c.as_bytes-in-Make.result.now in
     let r = c.write_output-in-Make.result in
-    let m : IsMadeText c.in-Make.sender c.in-Make.n output = subst (IsMadeText c.in-Make.sender c.in-Make.n) (sym c.as_bytes-in-Make.ensures.value) c.in_ok-text-in-Make.ensures in
-    subst (λ form. OnOk r (IsDone form (told, before) (told, now))) (sym c.in-Make.is) (made_done r c.in-Make.sender c.in-Make.n output told before now m c.write_output-in-Make.ensures.ok)
+    let m : IsMadeText c.in-Make.carrier c.in-Make.n output = subst (IsMadeText c.in-Make.carrier c.in-Make.n) (sym c.as_bytes-in-Make.ensures.value) c.in_ok-text-in-Make.ensures in
+    subst (λ form. OnOk r (IsDone form (told, before) (told, now))) (sym c.in-Make.is) (made_done r c.in-Make.carrier c.in-Make.n output told before now m c.write_output-in-Make.ensures.ok)
 
 pub returns-in_ok-text-in-Make-clause-ended : goal.returns-in_ok-text-in-Make-clause-ended
 returns-in_ok-text-in-Make-clause-ended g c =
@@ -23,5 +23,5 @@ returns-in_ok-text-in-Make-clause-ended g c =
     let output = c.as_bytes-in-Make.result.now in
     let r = c.write_output-in-Make.result in
     let w = c.write_output-in-Make.ensures in
-    let m : IsMadeText c.in-Make.sender c.in-Make.n output = subst (IsMadeText c.in-Make.sender c.in-Make.n) (sym c.as_bytes-in-Make.ensures.value) c.in_ok-text-in-Make.ensures in
-    subst (λ form. IfErr r (Ends form (told, before) (told, now))) (sym c.in-Make.is) (made_fault r c.in-Make.sender c.in-Make.n output told before now m w.status w.front w.full w.fault)
+    let m : IsMadeText c.in-Make.carrier c.in-Make.n output = subst (IsMadeText c.in-Make.carrier c.in-Make.n) (sym c.as_bytes-in-Make.ensures.value) c.in_ok-text-in-Make.ensures in
+    subst (λ form. IfErr r (Ends form (told, before) (told, now))) (sym c.in-Make.is) (made_fault r c.in-Make.carrier c.in-Make.n output told before now m w.status w.front w.full w.fault)
