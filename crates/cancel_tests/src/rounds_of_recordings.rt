@@ -10,7 +10,7 @@ use std::alloc::Global;
 use std::test::Fail;
 use test_signals::{Rows, put_rows, put_signals, silent};
 
-// Expected texts are those of `scripts/second_cancel.py`.
+// Expected texts are those of `scripts/peers/second_cancel.py`.
 
 // The plain cell.
 const PLAIN: &str = r#"{"identity": 0, "sfn": 0, "offset": 0, "samples": 57600, "gain": [20, 9],

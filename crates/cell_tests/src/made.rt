@@ -1,5 +1,5 @@
-//! The command `make`. The texts are those of two other programs, `scripts/second_make.py` and `scripts/second_search.py`;
-//! those of two antenna ports and of the extended prefix are worked rows.
+//! The command `make`. The texts are those of two other programs, `scripts/peers/second_make.py` and
+//! `scripts/peers/second_search.py`; those of two antenna ports and of the extended prefix are worked rows.
 
 use lte_top::{Program, Status};
 use run_tests::{Output, command_line, output_unread};

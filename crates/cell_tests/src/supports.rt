@@ -1,4 +1,4 @@
-//! The command `evidence`. The texts are those of another program, `scripts/second_evidence.py`.
+//! The command `evidence`. The texts are those of another program, `scripts/peers/second_evidence.py`.
 
 use crate::cells::{PLAIN, sent_by};
 use lte_top::Status;

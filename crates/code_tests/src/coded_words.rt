@@ -1,7 +1,7 @@
 ghost use Rattle.std.specs.Prelude.{◌≤◌, length};
 
 use crate::shared::{bits_of, digest, squares};
-use conv_code::{combine, encode, match_out, stream_place};
+use conv_code::{combine, encode, match_out, stream_index};
 use cs_bits::Bits;
 use std::test::Fail;
 
@@ -26,7 +26,7 @@ fn sent_from<const N: usize>(coded: &[[bool; 3]; N], from: u32) -> u64
     number
 }
 
-// The coded word with the bit at place k of stream 0 alone.
+// The coded word with the bit at index k of stream 0 alone.
 fn alone<const N: usize>(k: usize) -> [[bool; 3]; N] {
     let mut coded = [[false; 3]; N];
     for j in 0..N {
@@ -76,7 +76,7 @@ fn coded_words_of_40_bits(rt: HostRuntime) {
     }
 }
 
-// Whether bit i of the reading, and once more after all 120, is that of place k of stream 0, and the next is not.
+// Whether bit i of the reading, and once more after all 120, is that of index k of stream 0, and the next is not.
 fn is_read_at(i: usize, k: usize) -> bool
     requires { i ≤ 100 }
 {
@@ -91,7 +91,7 @@ fn the_first_bits_that_are_read_of_40(rt: HostRuntime) {
     }
 }
 
-// Whether the values give these sums at places 0 and 17, and sums of this digest.
+// Whether the values give these sums at indices 0 and 17, and sums of this digest.
 fn has_sums<const N: usize>(values: &[i16], first: [i32; 3], later: [i32; 3], number: i64) -> bool
     requires low { 18 ≤ N }
     requires high { N ≤ 64 }
@@ -102,7 +102,7 @@ fn has_sums<const N: usize>(values: &[i16], first: [i32; 3], later: [i32; 3], nu
 }
 
 #[test]
-fn sums_by_place_of_37_bits(rt: HostRuntime) -> Result<(), Fail> {
+fn sums_by_index_of_37_bits(rt: HostRuntime) -> Result<(), Fail> {
     let values = squares(rt.alloc(), 288)?;
     assert!(rt; values.len() == 288);
     assert!(rt; has_sums::<37>(&values, [33, -174, -204], [-66, -192, 97], 360_275));
@@ -110,7 +110,7 @@ fn sums_by_place_of_37_bits(rt: HostRuntime) -> Result<(), Fail> {
 }
 
 #[test]
-fn sums_by_place_of_40_bits(rt: HostRuntime) -> Result<(), Fail> {
+fn sums_by_index_of_40_bits(rt: HostRuntime) -> Result<(), Fail> {
     let values = squares(rt.alloc(), 480)?;
     assert!(rt; values.len() == 480);
     assert!(rt; has_sums::<40>(&values, [-312, -97, -87], [-12, 368, -222], 946_771));
@@ -123,9 +123,9 @@ fn no_values_give_sums_of_0(rt: HostRuntime) {
 }
 
 #[test]
-fn the_first_places_of_a_stream_of_40(rt: HostRuntime) {
-    let places = [9, 25, 17, 1, 33, 13, 29, 21, 5, 37];
+fn the_first_indices_of_a_stream_of_40(rt: HostRuntime) {
+    let indices = [9, 25, 17, 1, 33, 13, 29, 21, 5, 37];
     for p in 0..10_usize {
-        assert!(rt; stream_place(40, p) == places[p], "place {p}");
+        assert!(rt; stream_index(40, p) == indices[p], "index {p}");
     }
 }

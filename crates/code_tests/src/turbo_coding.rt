@@ -138,7 +138,7 @@ fn coded_word_of_56_bits(rt: HostRuntime) {
 }
 
 // The coded word of a row's K with one bit.
-fn alone(row: Row, stream: usize, place: usize) -> Coded
+fn alone(row: Row, stream: usize, index: usize) -> Coded
     requires { IsRow row }
     ensures k { result.k ≡ row.k }
     ensures size { IsSize result.k }
@@ -146,21 +146,21 @@ fn alone(row: Row, stream: usize, place: usize) -> Coded
     let mut d = [[false; 1028]; 3];
     for t in 0..3 {
         for k in 0..1028 {
-            d[t][k] = t == stream && k == place;
+            d[t][k] = t == stream && k == index;
         }
     }
     Coded { k: row.k, d }
 }
 
-// Whether bit i of the reading, and once more after all 444, is the one at this place, and bit i + 1 is not. Bits
+// Whether bit i of the reading, and once more after all 444, is the one at this index, and bit i + 1 is not. Bits
 // from the 101st on are not looked at.
-fn is_sent(row: Row, rv: u8, i: usize, stream: usize, place: usize) -> bool
+fn is_sent(row: Row, rv: u8, i: usize, stream: usize, index: usize) -> bool
     requires { IsRow row }
 {
     if rv > 3 || i > 100 {
         return false;
     }
-    let coded = alone(row, stream, place);
+    let coded = alone(row, stream, index);
     match_out(&coded, rv, i) && match_out(&coded, rv, i + 444) && !match_out(&coded, rv, i + 1)
 }
 
@@ -169,7 +169,7 @@ fn first_bits_that_are_sent_of_144(rt: HostRuntime) {
     let Some(row) = row_of(120) else {
         return assert!(rt; false);
     };
-    for (rv, i, stream, place) in [
+    for (rv, i, stream, index) in [
         (0, 0, 0, 28),
         (0, 1, 0, 60),
         (0, 2, 0, 92),
@@ -182,7 +182,7 @@ fn first_bits_that_are_sent_of_144(rt: HostRuntime) {
         (3, 1, 2, 10),
     ] {
         assert!(rt;
-            is_sent(row, rv, i, stream, place),
+            is_sent(row, rv, i, stream, index),
             "bit {i} of version {rv}"
         );
     }

@@ -1,4 +1,4 @@
-// The numbers are those of a second program, `scripts/second_long_prefix.py`.
+// The numbers are those of a second program, `scripts/peers/second_long_prefix.py`.
 use crate::examples::silent_recording;
 use cs_num::Sample;
 use explain::EntryList;

@@ -1,4 +1,4 @@
-// Expected values are those of `scripts/second_cancel.py`.
+// Expected values are those of `scripts/peers/second_cancel.py`.
 ghost use Rattle.std.specs.Prelude.{◌≡◌, length};
 
 use crate::examples::{cell_of, information, silence};
@@ -10,7 +10,7 @@ use sample_file::Recording;
 use std::alloc::Global;
 use std::test::Fail;
 
-// The plan of `scripts/plain_cell.json`, with an identity.
+// The plan of `scripts/examples/plain_cell.json`, with an identity.
 fn plain_plan(identity: u16) -> CellPlan {
     CellPlan {
         identity,

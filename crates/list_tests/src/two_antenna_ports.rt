@@ -1,5 +1,5 @@
-// The values of pairs are those of a second program, `scripts/second_pairs.py`, and the recordings by number those of
-// `two_tx`, whose samples `scripts/second_two_ports.py` gives too.
+// The values of pairs are those of a second program, `scripts/peers/second_pairs.py`, and the recordings by number
+// those of `two_tx`, whose samples `scripts/peers/second_two_ports.py` gives too.
 ghost use Rattle.std.specs.Prelude.{◌≡◌, ◌*◌, ◌^◌, ◌<◌, All, IfOk, length};
 ghost use Rattle.cs_num.specs.Complex.{IsWithin};
 

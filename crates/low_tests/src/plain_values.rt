@@ -1,6 +1,6 @@
 use lte_types::{
-    Assignment, Bandwidth, CellId, Cfi, Duration, Mib, Mnc, Period, Plmn, Plmns, Resource,
-    Schedule, Sfn, SiMessage, Sib1, Sib1Reason, Sibs, Window, same_answers,
+    Assignment, Bandwidth, Carrier, CellId, Cfi, Duration, Mib, Mnc, Period, Plmn, Plmns, Prefix,
+    Resource, Schedule, Sfn, SiMessage, Sib1, Sib1Reason, Sibs, Window, same_answers,
 };
 use std::process::Abort;
 
@@ -25,6 +25,17 @@ fn control_formats_are_1_to_3(rt: HostRuntime) {
     assert!(rt; Cfi::new(0).is_none());
     assert!(rt; Cfi::new(4).is_none());
     assert!(rt; Cfi::new(3).expect(&rt, "in range").value() == 3);
+}
+
+fn is_sent_by(carrier: Carrier, ports: u8, prefix: Prefix) -> bool {
+    carrier.ports() == ports && carrier.prefix() == prefix
+}
+
+#[test]
+fn carriers_have_ports_and_a_prefix(rt: HostRuntime) {
+    assert!(rt; is_sent_by(Carrier::OnePort, 1, Prefix::NORMAL));
+    assert!(rt; is_sent_by(Carrier::TwoPorts, 2, Prefix::NORMAL));
+    assert!(rt; is_sent_by(Carrier::LongPrefix, 1, Prefix::EXTENDED));
 }
 
 // Whether these resource blocks can be assigned; their parts are then what they were made of.

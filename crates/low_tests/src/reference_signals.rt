@@ -1,8 +1,8 @@
 ghost use Rattle.std.specs.Prelude.{◌≡◌, ◌⊎◌, ◌<◌};
 
-use crs::pilots;
+use crs::{Pattern, pilots};
 use cs_num::Cpx;
-use lte_types::CellId;
+use lte_types::{Carrier, CellId};
 use std::process::Abort;
 
 // Subcarrier, real and imaginary part of each pilot.
@@ -109,4 +109,12 @@ fn pilots_of_the_last_identity_in_the_last_slot(rt: HostRuntime) {
                 (68, -90, -90)
             ]
     );
+}
+
+#[test]
+fn ports_of_carriers_have_patterns(rt: HostRuntime) {
+    assert!(rt; Pattern::of(Carrier::OnePort, 0) == Pattern::FIRST_PORT);
+    assert!(rt; Pattern::of(Carrier::TwoPorts, 0) == Pattern::FIRST_PORT);
+    assert!(rt; Pattern::of(Carrier::TwoPorts, 1) == Pattern::SECOND_PORT);
+    assert!(rt; Pattern::of(Carrier::LongPrefix, 0) == Pattern::LONG_PREFIX);
 }

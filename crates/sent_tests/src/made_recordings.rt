@@ -1,5 +1,5 @@
-// The numbers are those of a second program, `scripts/second_make.py`; the first words of the generator those of PCG's
-// reference code.
+// The numbers are those of a second program, `scripts/peers/second_make.py`; the first words of the generator
+// those of PCG's reference code.
 use crate::examples::{Summary, is_summed_up};
 use capture_make::{made_is_clean, make};
 use rand_core::utils::NextWord;

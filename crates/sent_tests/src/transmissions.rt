@@ -1,4 +1,4 @@
-// The samples are those of a second program, `scripts/second_cell.py`.
+// The samples are those of a second program, `scripts/peers/second_cell.py`.
 ghost use Rattle.std.specs.Prelude.{◌≡◌, IfOk, length};
 
 use crate::examples::{message, plain_block};
@@ -350,7 +350,7 @@ fn is_answer(cfi: u8, blocks: u8, column: u8, mcs: u8, letter: u8) -> bool {
 }
 
 // Whether they are for each modulation and coding scheme, from 0 on. The letters are those of
-// `scripts/punctured_table.py`.
+// `scripts/peers/punctured_table.py`.
 fn are_answers(cfi: u8, blocks: u8, column: u8, letters: &str) -> bool {
     let mut all = true;
     let mut mcs = 0_u8;

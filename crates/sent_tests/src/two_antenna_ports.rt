@@ -1,4 +1,4 @@
-// The numbers are those of a second program, `scripts/second_two_ports.py`.
+// The numbers are those of a second program, `scripts/peers/second_two_ports.py`.
 use crate::examples::{Summary, is_summed_up};
 use capture_make::plan;
 use cell_tx::{CellError, CellPlan};

@@ -10,7 +10,7 @@ use std::test::Fail;
 use system_block::{Attempt, Decoders, attempt_in, one_answer, read};
 use test_signals::{EMPTY, Rows};
 
-// Slots 10 and 11 with system information, by `scripts/subframe_reference.py`.
+// Slots 10 and 11 with system information, by `scripts/peers/subframe_reference.py`.
 
 // Symbols 0 to 2 of slot 10.
 type ControlRows = [&'static [u8; 72]; 3];

@@ -1,5 +1,5 @@
 //! What is told of recordings by number that were turned. The texts are those of two other programs,
-//! `scripts/second_make.py` and `scripts/tune_reference.py`.
+//! `scripts/peers/second_make.py` and `scripts/peers/tune_reference.py`.
 
 use crate::sums::has_sums;
 use capture_make::make;

@@ -1,4 +1,4 @@
-//! Recordings turned. The sums are those of another program, `scripts/tune_reference.py`.
+//! Recordings turned. The sums are those of another program, `scripts/peers/tune_reference.py`.
 
 use crate::sums::has_sums;
 use cs_num::Sample;
