@@ -1,0 +1,201 @@
+#!/usr/bin/env python3
+"""documents.py
+
+Looks whether what the pages name is there: definitions (`crate/specs/File.antt:name`) and code
+(`crate/src/file.rt:name`), with the further names behind them; paths below scripts/, crates/ and docs/; scripts that
+are named by their last name alone; files that a block of commands reads, from the folder that it is in by then. The
+scripts that comments of tests name are looked for too. Numbers of crates, tests and wrong bodies have to be those of
+the tree, or of one crate of it, but in sentences with a date or with `Before` at their head, and in CHANGELOG.md. Each
+list of cells in docs/FORMATS.md has to have the form of scripts/tools/report.schema.json; that is left out, and said
+so, without jsonschema (Debian: python3-jsonschema). Prints a line for what is not so, and a count; the status is 0
+where all is.
+"""
+import json
+import pathlib
+import re
+import sys
+
+try:
+    import jsonschema
+except ImportError:
+    jsonschema = None
+
+TOP = pathlib.Path(__file__).resolve().parent.parent.parent
+CRATES = TOP / "crates"
+PAGES = [*sorted(TOP.glob("*.md")), *sorted((TOP / "docs").glob("*.md")), *sorted((TOP / "scripts").glob("**/*.md"))]
+HISTORY = ("CHANGELOG.md",)
+WORD = re.compile(r"`([^`]+)`")
+PLACE = re.compile(
+    r"(?:crates/)?(?:(?:(\w+)/)?(specs|src|proofs|must-fail|wrong)/)?([\w/]+\.(?:antt|rt|edit))(?::([\w']+))?"
+)
+PATH = re.compile(r"(?<![\w/.$*{}-])((?:scripts|crates|docs|\.ci)/[\w./*-]*[\w*/])")
+NUMBER = re.compile(r"(?<![\w,.])(\d[\d,]*) (?:of `(must-fail|wrong)/`|(crates|tests|edits|wrong bodies)\b)")
+DATE = re.compile(r"\b20\d\d-\d\d-\d\d\b")
+
+
+# ---- definitions and code
+
+
+def is_defined(file, name):
+    """Whether a file defines a name: at the head of a line, behind words such as `pub record`."""
+    text = file.read_text(encoding="utf-8")
+    if file.suffix == ".antt":
+        return re.search(rf"^\s*(?:\|\s*)?(?:[a-z]+ )*{re.escape(name)}(?![\w'])", text, re.M) is not None
+    return re.search(rf"\b(?:fn|const|static|struct|enum|trait|type|mod)\s+{re.escape(name)}\b", text) is not None
+
+
+def file_of(crate, folder, name):
+    """A file of a crate; one that is named by its last name alone may be in another folder of it."""
+    file = CRATES / crate / folder / name
+    return file if file.is_file() or "/" in name else next((CRATES / crate).glob(f"*/{name}"), file)
+
+
+def faults_of_places(line):
+    """Of each place in turn; a name or a file that follows one at once is of its file or crate."""
+    crate = folder = file = None
+    end = 0
+    for word in WORD.finditer(line):
+        found, gap = PLACE.fullmatch(word[1]), line[end : word.start()]
+        end = word.end()
+        follows = crate and re.fullmatch(r"[,;] |,? and ", gap)
+        if found and found[1] != "crate" and (found[1] or follows):
+            crate, folder = found[1] or crate, found[2] or folder
+            file = file_of(crate, folder, found[3])
+            if not file.is_file():
+                yield f"no file {file.relative_to(TOP)}"
+                file = None
+            elif found[4] and not is_defined(file, found[4]):
+                yield f"no {found[4]} in {file.relative_to(TOP)}"
+        elif file and gap == ", " and re.fullmatch(r"[A-Za-z]\w*", word[1]):
+            if not is_defined(file, word[1]):
+                yield f"no {word[1]} in {file.relative_to(TOP)}"
+        else:
+            crate = file = None
+
+
+# ---- paths, scripts and blocks of commands
+
+
+def is_there(folder, name):
+    return "/out/" in name or any(folder.glob(name.rstrip("/"))) if "*" in name else (folder / name).exists()
+
+
+def faults_of_paths(line):
+    for path in PATH.findall(line):
+        if (
+            "/out" not in path
+            and "NAME" not in path
+            and not path.startswith("crates/crate/")
+            and not is_there(TOP, path)
+        ):
+            yield f"no {path}"
+
+
+def faults_of_scripts(line, scripts):
+    for name in re.findall(r"(?<![\w./*-])(\w+\.(?:py|sh))\b", line):
+        if name not in scripts:
+            yield f"no script {name}"
+
+
+def faults_of_block(lines):
+    """Of a block of commands, the folders that it goes to, and the files that it reads there."""
+    folder = TOP
+    for line in lines:
+        for part in re.split(r"[;|&]+", re.sub(r"\s# .*", "", line.strip().removeprefix("$ "))):
+            words = part.split()
+            if "NAME" in part and words[:1] == ["cd"]:
+                return
+            if words[:1] == ["cd"] and len(words) > 1:
+                folder = (folder / words[1]).resolve()
+                if not folder.is_dir():
+                    yield f"no folder {words[1]}"
+                    return
+                continue
+            read = [words[i + 1] for i, word in enumerate(words[:-1]) if word == "<"] if folder != TOP else []
+            for word in read + [word for word in words if word.startswith("../")]:
+                if (
+                    "/out/" not in word
+                    and "NAME" not in word
+                    and re.fullmatch(r"[\w./-]+", word)
+                    and not (folder / word).exists()
+                ):
+                    yield f"no {word} from {folder.name}"
+
+
+# ---- numbers
+
+
+def counts():
+    """What may be said, by what is counted: of the whole tree, and of single crates."""
+    crates = [crate for crate in CRATES.iterdir() if crate.is_dir()]
+    edits = {kind: [len(list(crate.glob(f"{kind}/*.edit"))) for crate in crates] for kind in ("must-fail", "wrong")}
+    tests = [
+        sum(file.read_text(encoding="utf-8").count("#[test]") for file in crate.glob("src/**/*.rt")) for crate in crates
+    ]
+    bodies = [one + other for one, other in zip(edits["must-fail"], edits["wrong"])]
+    named = len(re.findall(r"^\w+:", (TOP / "crates.txt").read_text(), re.M))
+    if named != len(crates):
+        print(f"crates.txt: {named} crates, and {len(crates)} folders")
+    found = {"must-fail": edits["must-fail"], "wrong": edits["wrong"], "tests": tests, "wrong bodies": bodies}
+    found["edits"] = edits["must-fail"] + bodies + [sum(edits["must-fail"])]
+    return {kind: {sum(numbers), *numbers} for kind, numbers in found.items()} | {"crates": {named}}
+
+
+def faults_of_numbers(line, may):
+    for sentence in re.split(r"(?<=[.:]) (?=[A-Z])", line):
+        if DATE.search(sentence) or sentence.startswith("Before "):
+            continue
+        for number, folder, kind in NUMBER.findall(sentence):
+            if int(number.replace(",", "")) not in may[folder or kind]:
+                yield f"{number} {folder or kind}, which the tree does not have"
+
+
+# ---- lists of cells
+
+
+def faults_of_lists(text):
+    lists = re.findall(r"^    (\[\{.*\}\])$", text, re.M)
+    if not lists:
+        yield "no list of cells"
+    schema = json.loads((TOP / "scripts/tools/report.schema.json").read_text())
+    for one in lists:
+        for error in jsonschema.Draft202012Validator(schema).iter_errors(json.loads(one)) if jsonschema else ():
+            yield f"{error.json_path}: {error.message}"
+
+
+def faults_of(page, scripts, may):
+    """Pairs of a line's number and what is not so."""
+    text = page.read_text(encoding="utf-8")
+    lines, block = text.split("\n"), []
+    for number, line in enumerate(lines, 1):
+        yield from ((number, fault) for fault in faults_of_places(line))
+        yield from ((number, fault) for fault in faults_of_paths(line))
+        yield from ((number, fault) for fault in faults_of_scripts(line, scripts))
+        if page.name not in HISTORY:
+            yield from ((number, fault) for fault in faults_of_numbers(line, may))
+        if line.startswith("    "):
+            block.append(line)
+        elif block:
+            yield from ((number - 1, fault) for fault in faults_of_block(block))
+            block = []
+    if page.name == "FORMATS.md":
+        yield from ((0, fault) for fault in faults_of_lists(text))
+
+
+def main():
+    if jsonschema is None:
+        print("left out: lists of cells against their schema: no jsonschema (Debian: python3-jsonschema)")
+    scripts, may = {file.name for file in (TOP / "scripts").glob("**/*") if file.suffix in (".py", ".sh")}, counts()
+    found = [f"{page.relative_to(TOP)}:{n}: {fault}" for page in PAGES for n, fault in faults_of(page, scripts, may)]
+    for file in sorted(CRATES.glob("*_tests/src/**/*.rt")):
+        for number, line in enumerate(file.read_text(encoding="utf-8").split("\n"), 1):
+            faults = [*faults_of_paths(line)] if line.lstrip().startswith("//") else []
+            found += [f"{file.relative_to(TOP)}:{number}: {fault}" for fault in faults]
+    for line in found:
+        print(line)
+    print(f"pages: {len(PAGES)} looked through, {len(found)} faults")
+    return 1 if found else 0
+
+
+if __name__ == "__main__":
+    sys.exit(main())

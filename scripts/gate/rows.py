@@ -1,0 +1,325 @@
+#!/usr/bin/env python3
+"""rows.py [--all]
+
+Runs the second programs of scripts/peers that end in some seconds, and looks up what they print in the tests and pages
+that have it from them: a row that was changed is told, and so is a second program that was. The two shipped recordings
+are compared byte by byte. With --all it runs two more, which take half a minute each. Prints a line for what is not
+found, and a count; the status is 0 where all is found. What needs numpy is left out, and said so, where there is none
+(Debian: python3-numpy).
+"""
+import concurrent.futures
+import importlib.util
+import json
+import os
+import pathlib
+import re
+import subprocess
+import sys
+import typing
+
+TOP = pathlib.Path(__file__).resolve().parent.parent.parent
+PUNCTURED = "crates/code_tests/src/punctured_blocks.rt"
+TRANSMISSIONS = "crates/sent_tests/src/transmissions.rt"
+# the description of the test's table TURNED, with the text of the plain cell
+TURNED = dict(identity=503, sfn=1023, offset=19199, samples=57600, gain=[-11, 23], duration="extended", spare=677)
+TURNED |= dict(resource="oneSixth", cfi=3, start=1, blocks=5, mcs=2, column=3)
+
+
+def pressed(text):
+    """A text without what its layout adds: space, `&`, ends of lines, `_` in numbers, last commas, lists in short."""
+    text = re.sub(r"\b(0x[0-9a-f_]+|\d[\d_]*)", lambda it: it[0].replace("_", ""), text.replace("\\n", "\n"))
+    text = re.sub(r"[\s&\\]", "", text)
+    text = re.sub(r"\[(-?\d+);(\d{1,2})\]", lambda it: f"[{','.join([it[1]] * int(it[2]))}]", text)
+    return re.sub(r",([\])}])", r"\1", text)
+
+
+def exactly(text):
+    """A pattern for the text itself."""
+    return re.escape(pressed(text))
+
+
+def unpressed(pattern):
+    """The beginning of a pattern, to be shown."""
+    return re.sub(r"\\(.)", r"\1", pattern)[:200]
+
+
+# ---- of what is printed, the patterns that have to be met in a file's pressed text
+
+
+def lines_together(text):
+    """All lines, in their order and without others between them."""
+    return [exactly(text)]
+
+
+def constants(text):
+    """Constants of rows of subcarriers, and of coded bits."""
+    found = re.findall(r"const (\w+):[^=]*=\s*(\[.*?\]|b\".*?\");", text, re.S)
+    return [rf"const{name}:[^=]*={exactly(value)};" for name, value in found]
+
+
+def values(text):
+    """The same, whatever their names are."""
+    return [pattern.partition("[^=]*=")[2].removesuffix(";") for pattern in constants(text)]
+
+
+def pairs(text):
+    """Of each pair the symbol l and the subcarrier k, and its values."""
+    found = re.findall(r"(\d+) (\d+) (\[.*\])", text)
+    return [exactly(f"({k}, {l}, ({k}, {(int(k) + 1) % 72}), {values})") for l, k, values in found]
+
+
+def turbo(text):
+    """Extrinsic values; of receptions the block, gain, spread, seed, sizes, and what is told."""
+    found = []
+    for line in text.splitlines():
+        if line.startswith("["):
+            found.append(exactly(line.replace("] [", "], [")))
+            continue
+        block, gain, spread, seed, sizes, outcome = line.split()[:6]
+        if len(block) == 8:
+            row = f"0x{block},{gain},{spread},{seed},{sizes}"
+        else:
+            row = f"gain:{gain},spread:{spread},seed:{seed},sizes:{sizes}"
+        found.append(rf"{row}\b((?!Answer::).)*Answer::{outcome.title()}\b")
+    return found
+
+
+def letters(text):
+    """Of each indicator, count of blocks and column the answers to a plan, scheme by scheme."""
+    rows = [line.split() for line in text.splitlines()]
+    return [rf'\({blocks},{column},"{row}"\)((?!#\[test).)*are_answers\({cfi},' for cfi, blocks, column, row in rows]
+
+
+def counts(text):
+    """The least counts that the test has, each of which has to be printed, and not one less."""
+    test = pressed((TOP / PUNCTURED).read_text(encoding="utf-8"))
+    found = [
+        (size, kind, sent)
+        for size, kinds, sent in re.findall(r"is_least\((\d+),(\d+|kind),(\d+)\)", test)
+        for kind in (kinds if kinds != "kind" else "123")
+    ]
+    found += [(size, "0", sent) for size, sent in re.findall(r"\((\d+),(\d+)\)(?=[^]]*\]\{assert!\(rt;is_least)", test)]
+    rows = text.splitlines()
+    is_told = [f"{s} {k} {n} True" in rows and f"{s} {k} {int(n) - 1} False" in rows for s, k, n in found]
+    return ["" if told else f"(least count {case} is not printed)" for told, case in zip(is_told, found)]
+
+
+def summary(text):
+    """The gains, the bound, and count, first four samples and sums of a recording by number."""
+    gains = [f"({a}, {b})" for a, b in re.findall(r"(?:\(|gain )(-?\d+),? (-?\d+)", text)]
+    bound, count = re.search(r"bound (\d+) samples (\d+)", text).groups()
+    sums = ", ".join(re.search(r"sums (\S+) (\S+) weighted (\S+) (\S+)", text).groups())
+    front = ", ".join(f"({a}, {b})" for a, b in re.findall(r"^\d+ (-?\d+) (-?\d+)$", text, re.M)[:4])
+    return ", ".join(gains), bound, f"count: {count}, front: [{front}], sums: [{sums}] }};"
+
+
+def of_one_port(number):
+    def patterns(text):
+        _, bound, told = summary(text)
+        return [exactly(told) + "[^{}]*" + exactly(f"alloc(), {number}, {bound}, &summary)")]
+
+    return patterns
+
+
+def of_two_ports(number):
+    def patterns(text):
+        gains, bound, told = summary(text)
+        ending = exactly(f"is_made(&made, [{gains}], {bound}, &summary)")
+        return [exactly(told) + rf"[^{{}}]*alloc\(\),{number}\)[^{{}}]*{ending}"]
+
+    return patterns
+
+
+def of_long_prefix(number):
+    def patterns(text):
+        gains, bound, told = summary(text)
+        return [
+            exactly(f"gain: {gains}, bound: {bound}, {told}") + "[^{}]*" + exactly(f"alloc(), {number})?, &summary)")
+        ]
+
+    return patterns
+
+
+def numbers_of(data):
+    return [int.from_bytes(data[i : i + 2], "little", signed=True) for i in range(0, len(data), 2)]
+
+
+def table(name):
+    """The samples of a recording at the places that the test's table of this name has."""
+
+    def patterns(data):
+        rows = re.search(rf"const {name}: [^=]*= \[(.*?)\];", (TOP / TRANSMISSIONS).read_text(encoding="utf-8"), re.S)[
+            1
+        ]
+        places = [int(place) for place in re.findall(r"\((\d+),", rows)]
+        numbers = numbers_of(data)
+        return [exactly(f"({i}, {numbers[2 * i]}, {numbers[2 * i + 1]})") for i in places]
+
+    return patterns
+
+
+def sums_of(name):
+    """The sums of the components, each times its place modulo 997, of the recording that the test calls so."""
+
+    def patterns(data):
+        numbers = numbers_of(data)
+        re_, im = (sum(i % 997 * number for i, number in enumerate(numbers[first::2])) for first in (0, 1))
+        return [exactly(f"has_sums(&{name}, ({re_}, {im}))")]
+
+    return patterns
+
+
+def file_itself(name):
+    """The file, which what is printed has to be: no pattern but a message where it is not."""
+    return lambda data: ["" if data == (TOP / name).read_bytes() else f"(other bytes than those of {name})"]
+
+
+# ---- what is run
+
+
+class Look(typing.NamedTuple):
+    """Files, a command of Bash in the folder scripts, whose $PY is this Python, what is looked up, and the input."""
+
+    files: str
+    command: str
+    patterns: typing.Callable
+    data: bytes = b""
+    is_text: bool = True
+
+
+def described(**keys):
+    """The plain cell's description with other values."""
+    return json.dumps({**json.loads((TOP / "scripts/examples/plain_cell.json").read_text()), **keys}).encode()
+
+
+def all_sizes():
+    """The 57,600 samples of crates/turning_tests/src/turned.rt."""
+    numbers = (
+        part for i in range(57_600) for part in (i * 7_919 % 65_536 - 32_768, (i * 104_729 + 5) % 65_536 - 32_768)
+    )
+    return b"".join(number.to_bytes(2, "little", signed=True) for number in numbers)
+
+
+# a folder of its own, where the top's paths lead on
+ROOM = """room=$(mktemp -d); trap 'rm -rf "$room"' EXIT; ln -s "$PWD" "$PWD/../crates" "$room"; cd "$room"\n"""
+PEERS = {
+    "lte_cli transmit": "$PY scripts/peers/second_cell.py",
+    "lte_cli evidence": "$PY scripts/peers/second_evidence.py",
+    "lte_cli search --cancel": "$PY scripts/peers/second_cancel.py",
+    "lte_cli search": "$PY scripts/peers/second_search.py",
+    "lte_tune tell": "$PY scripts/peers/tune_reference.py tell",
+    "python3": "$PY",
+}
+
+
+def shown(page):
+    """The blocks of a page whose commands second programs can run: what they print has to stand there."""
+    for block in re.findall(r"(?:^    .*\n)+", (TOP / page).read_text(encoding="utf-8"), re.M):
+        script = "\n".join(re.findall(r"^    \$ (.*)", block, re.M))
+        for words, peer in PEERS.items():
+            script = re.sub(rf"\b{words}(?= [<|]| scripts|$)", peer, script, flags=re.M)
+        if script and "lte_" not in re.sub(r"crates/\S+", "", script):
+            yield Look(page, ROOM + script, lines_together)
+
+
+CHANCE = "$PY peers/second_cell.py < examples/chance_line.json | $PY peers/second_evidence.py"
+# by hand
+SLOW_LOOKS = [
+    Look(PUNCTURED, "$PY peers/erasure_reference.py", counts),
+    Look(TRANSMISSIONS, "$PY peers/punctured_table.py", letters),
+]
+# without numpy
+PLAIN_LOOKS = [
+    Look("crates/slot_tests/src/*.rt", "$PY peers/subframe_reference.py", constants),
+    Look("crates/slot_tests/src/masters.rt crates/cell_tests/src/rows.rt", "$PY peers/frames_reference.py", values),
+    Look("crates/code_tests/src/turbo_decoding.rt", "$PY peers/turbo_reference.py", turbo),
+]
+PLAIN_LOOKS += [
+    Look(
+        "crates/turning_tests/src/turned.rt", f"$PY peers/tune_reference.py turn {m}", sums_of(name), all_sizes(), False
+    )
+    for m, name in ((-2048, "back"), (77, "forth"))
+]
+# with it
+LOOKS = [
+    Look(
+        "crates/cancel_tests/src/rounds_of_recordings.rt",
+        "$PY peers/second_cell.py | $PY peers/second_cancel.py",
+        lines_together,
+        described(gain=[20, 9]),
+    ),
+    Look("crates/cell_tests/src/made.rt", "$PY peers/second_make.py 0 | $PY peers/second_search.py", lines_together),
+    Look("crates/cell_tests/src/supports.rt", CHANCE, lines_together),
+    Look(
+        "crates/cell_tests/src/supports.rt",
+        "$PY peers/second_cell.py | $PY peers/second_evidence.py",
+        lines_together,
+        described(),
+    ),
+    Look("crates/list_tests/src/two_antenna_ports.rt", "$PY peers/second_pairs.py", pairs),
+    Look(TRANSMISSIONS, "$PY peers/second_cell.py", table("ROW"), described(), False),
+    Look(TRANSMISSIONS, "$PY peers/second_cell.py", table("TURNED"), described(**TURNED), False),
+    Look(
+        "crates/capture_example/stdout", "$PY peers/second_search.py < ../crates/capture_example/stdin", lines_together
+    ),
+    Look(
+        "",
+        "$PY peers/second_cell.py < examples/shipped_cell.json",
+        file_itself("crates/capture_example/stdin"),
+        b"",
+        False,
+    ),
+    Look(
+        "",
+        "$PY peers/second_cell.py < examples/shifted_cell.json | $PY trials/shift.py 26000 300 -180",
+        file_itself("crates/lte_tune/stdin"),
+        b"",
+        False,
+    ),
+]
+LOOKS += [*shown("README.md"), *shown("docs/FORMATS.md")]
+for n in ("0", "7", "4294967221"):
+    LOOKS += [
+        Look("crates/sent_tests/src/made_recordings.rt", f"$PY peers/second_make.py -i {n}", of_one_port(n)),
+        Look("crates/sent_tests/src/two_antenna_ports.rt", f"$PY peers/second_two_ports.py -i {n}", of_two_ports(n)),
+        Look("crates/list_tests/src/extended_prefix.rt", f"$PY peers/second_long_prefix.py -i {n}", of_long_prefix(n)),
+    ]
+
+
+def looked_up(look):
+    """The count of patterns of a run, and a line for each that is not met."""
+    words = ["bash", "-c", "set -eo pipefail; " + look.command]
+    environment = {**os.environ, "PY": sys.executable, "PYTHONDONTWRITEBYTECODE": "1"}
+    done = subprocess.run(
+        words, input=look.data, cwd=TOP / "scripts", env=environment, capture_output=True, check=False
+    )
+    if done.returncode:
+        return 1, [f"rows.py: {look.command}: status {done.returncode}, {done.stderr.decode()[-300:]}"]
+    patterns = look.patterns(done.stdout.decode() if look.is_text else done.stdout)
+    files = [file for name in look.files.split() for file in sorted(TOP.glob(name))]
+    text = "\0".join(pressed(file.read_text(encoding="utf-8")) for file in files)
+    missing = [pattern for pattern in patterns if not re.search(pattern, text)]
+    if not patterns:
+        return 1, [f"rows.py: {look.command}: prints no row"]
+    return len(patterns), [f"rows.py: {look.command}: not in {look.files}: {unpressed(pattern)}" for pattern in missing]
+
+
+def main():
+    if sys.argv[1:] not in ([], ["--all"]):
+        sys.exit(__doc__)
+    looks = list(PLAIN_LOOKS)
+    if importlib.util.find_spec("numpy"):
+        looks += LOOKS + (SLOW_LOOKS if sys.argv[1:] == ["--all"] else [])
+    else:
+        print(f"left out: {len(LOOKS)} runs of second programs: no numpy (Debian: python3-numpy)")
+    with concurrent.futures.ThreadPoolExecutor(os.cpu_count()) as lanes:
+        found = list(lanes.map(looked_up, looks))
+    missing = [line for _, lines in found for line in lines]
+    for line in missing:
+        print(line)
+    print(f"rows: {sum(count for count, _ in found)} of {len(looks)} runs looked up, {len(missing)} not found")
+    return 1 if missing else 0
+
+
+if __name__ == "__main__":
+    sys.exit(main())

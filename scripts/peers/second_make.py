@@ -1,0 +1,112 @@
+#!/usr/bin/python3
+"""second_make.py [-i] N [FIRST [COUNT]]
+
+A second maker of recordings by number: the recording that `make N` searches (docs/FORMATS.md), in the form of a
+recording on standard output. The transmitter is that of second_cell.py; the recipe and the generator of errors stand
+here. With -i it prints a few words of the generator, the bound, sums over all samples, and COUNT samples from sample
+FIRST on.
+
+    scripts/peers/second_make.py 7 | lte_cli search
+    scripts/peers/second_make.py -i 7
+
+Debian: python3-numpy.
+"""
+import sys
+
+import numpy as np
+
+from second_cell import RESOURCES, WINDOWS, Frame
+
+MASK = 2**64 - 1
+
+
+class Pcg32:
+    """PCG XSH RR with 64 bits of state and words of 32 bits (M. E. O'Neill, pcg-random.org)."""
+
+    def __init__(self, state, stream):
+        self.increment = (stream << 1 | 1) & MASK
+        self.state = 0
+        self.next_word()
+        self.state = (self.state + state) & MASK
+        self.next_word()
+
+    def next_word(self):
+        state = self.state
+        self.state = (state * 6364136223846793005 + self.increment) & MASK
+        word, turn = ((state >> 18 ^ state) >> 27) & 0xFFFFFFFF, state >> 59
+        return (word >> turn | word << (-turn & 31)) & 0xFFFFFFFF
+
+
+def recipe(n):
+    """What recording number n sends, as a description of second_cell.py."""
+    period = 8 << n % 7
+    return {
+        "identity": n % 504,
+        "sfn": n % 1024,
+        "offset": n % 19_200,
+        "samples": 19_200 * (10 + n % 90),
+        "gain": [1 + n % 19, n % 20],
+        "duration": ("normal", "extended")[n % 2],
+        "resource": RESOURCES[n % 4],
+        "spare": n % 1024,
+        "cfi": 2 + n % 2,
+        "start": 0,
+        "blocks": 6,
+        "mcs": 5,
+        "column": 2,
+        "sib1": {
+            "plmns": [{"mcc": "001", "mnc": "01", "reserved": False}],
+            "tac": n % 65_536,
+            "cell": n % 2**28,
+            "barred": False,
+            "intra": True,
+            "csg": False,
+            "csg_identity": None,
+            "q_rx": -70 + n % 49,
+            "q_offset": None,
+            "p_max": None,
+            "band": 1 + n % 64,
+            "scheduling": [{"period": period, "sibs": []}, {"period": period, "sibs": [0, 2]}],
+            "window": WINDOWS[n % 7],
+            "tag": n % 32,
+        },
+    }
+
+
+def bound(cell):
+    a, b = cell["gain"]
+    eps = 0
+    while (eps + 1) ** 2 <= 4 * (a * a + b * b):
+        eps += 1
+    return eps
+
+
+def recording(n):
+    cell = recipe(n)
+    count = -(-(cell["offset"] + cell["samples"]) // 19_200)
+    frames = [Frame(cell, (cell["sfn"] + j) % 1024).samples() for j in range(count)]
+    sent = np.concatenate(frames)[cell["offset"] :][: cell["samples"]]
+    words, eps = Pcg32(n, 1), bound(cell)
+    errors = [words.next_word() % (2 * eps + 1) - eps for _ in range(sent.size)]
+    return sent + np.array(errors).reshape(sent.shape)
+
+
+def main():
+    told = sys.argv[1] == "-i"
+    n, *rest = map(int, sys.argv[1 + told :])
+    samples = recording(n)
+    if not told:
+        sys.stdout.buffer.write(samples.astype("<i2").tobytes())
+        return
+    first, count = rest + [0, 8][len(rest) :]
+    words = Pcg32(n, 1)
+    print("words", *(f"{words.next_word():08x}" for _ in range(6)))
+    print("bound", bound(recipe(n)), "samples", len(samples))
+    places = np.arange(1, len(samples) + 1).reshape(-1, 1)
+    print("sums", *samples.sum(0), "weighted", *(samples * (places % 1_000)).sum(0))
+    for i in range(first, first + count):
+        print(i, *samples[i])
+
+
+if __name__ == "__main__":
+    main()

@@ -1,0 +1,84 @@
+#!/usr/bin/env bash
+# benchmark.sh [RUNS [OTHER]]
+#
+# Times of each command on a fixed set of recordings, as one Markdown table: processor time (user and system) of whole
+# runs, the median of RUNS of them (5), the least in brackets, and the peak memory. OTHER is another program that takes
+# the same words, whose runs stand beside, by turns. The recordings are made in a temporary folder: by `transmit`, by
+# scripts/trials/benchmark/many_hits.c (with a C compiler, CC or cc; left out without one) and by Python 3. Each program
+# checks certificates that it wrote itself. A case whose first run takes more than 10 seconds is not repeated: its time
+# has a *.
+#
+# The program is crates/lte_cli/out/lte_cli; LTE_CLI names another.
+set -eu
+cd "$(dirname "$0")/../.."
+program=$(realpath -m "${LTE_CLI:-crates/lte_cli/out/lte_cli}")
+runs=${1:-5}
+programs=("$program" ${2:+"$(realpath -m "$2")"})
+for one in "${programs[@]}"; do
+    [ -x "$one" ] || { echo "benchmark.sh: no program at $one; rt run in crates/lte_cli builds lte_cli" >&2; exit 1; }
+done
+scripts=$PWD/scripts
+room=$(mktemp -d)
+trap 'rm -rf "$room"' EXIT
+cd "$room"
+
+describe() { # describe IDENTITY OFFSET SAMPLES: a description of such a cell
+    sed -e "s/\"identity\": 0/\"identity\": $1/; s/\"offset\": 0/\"offset\": $2/; s/57600/$3/; s/\[1, 0\]/[14, 0]/" \
+        "$scripts/examples/plain_cell.json"
+}
+
+noise() { # noise SAMPLES: components of 16 random bits
+    python3 -c 'import random, sys; sys.stdout.buffer.write(random.Random(1).randbytes(4 * int(sys.argv[1])))' "$1"
+}
+
+again() { # again COUNT FILE: the file so many times
+    for ((i = 0; i < $1; i++)); do cat "$2"; done
+}
+
+for samples in 57600 1920000; do
+    head -c $((4 * samples)) /dev/zero > zeros.$samples
+    noise $samples > noise.$samples
+    describe 271 5000 $samples > cell.$samples.json
+    "$program" transmit < cell.$samples.json > cell.$samples
+    describe 102 12345 $samples | "$program" transmit > further
+    python3 "$scripts/tools/add_recordings.py" cell.$samples further > two.$samples
+done
+{ cat noise.1920000; printf x; } > long
+
+recordings=(zeros.57600 noise.57600 cell.57600 two.57600 zeros.1920000 noise.1920000 cell.1920000 two.1920000)
+if ${CC:-cc} -O2 -ffp-contract=off -o many_hits "$scripts/trials/benchmark/many_hits.c" -lm; then
+    ./many_hits 256 4000 44 57600 noise 30000 > many.57600 2> /dev/null
+    ./many_hits 256 4000 44 192000 noise 30000 > many.192000 2> /dev/null
+    recordings+=(many.57600 many.192000)
+else
+    echo 'benchmark.sh: no C compiler: without the recordings of many hits' >&2
+fi
+
+for number in "${!programs[@]}"; do
+    "${programs[number]}" certify < cell.57600 > "certificate.$number"
+    bytes=$(stat -c %s "certificate.$number")
+    again 100 "certificate.$number" > "hundred.$number"
+    again $((67108864 / bytes)) "certificate.$number" > "full.$number"
+done
+
+{ # one case a line: command, file (with {} for the program's number), exit code, what the file is
+    echo 'hits long 5 one byte more than a second: only read'
+    for command in hits ids search certify; do
+        for recording in "${recordings[@]}"; do
+            case $recording in
+                cell.*) what='one cell' ;;
+                two.*) what='two cells' ;;
+                many.57600) what='many hits' ;;
+                many.*) what='many hits, then noise' ;;
+                *) what=${recording%.*} ;;
+            esac
+            echo "$command $recording 0 $what, ${recording#*.} samples"
+        done
+    done
+    echo 'check certificate.{} 0 one certificate'
+    echo 'check hundred.{} 0 100 certificates'
+    echo 'check full.{} 0 as many certificates as are read'
+    echo 'transmit cell.57600.json 0 57600 samples'
+    echo 'transmit cell.1920000.json 0 1920000 samples'
+} > cases
+python3 "$scripts/trials/benchmark/measure.py" "$runs" "${programs[@]}" < cases

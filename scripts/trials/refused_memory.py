@@ -1,0 +1,95 @@
+#!/usr/bin/env python3
+"""refused_memory.py [PROGRAM [TUNER]]
+
+Refuses each growth of memory of PROGRAM and TUNER in turn (crates/lte_cli/out/lte_cli and crates/lte_tune/out/lte_tune
+where they are left out), for every form of words on a valid input: the first allocation, then the second, until a run
+ends as without a refusal. Each run before has to end with code 8, its text and nothing written. Prints how many growths
+each form has, and what it found; the status is 0 where nothing was found. It takes a C compiler (CC or cc), and a
+program that takes its memory from the C library.
+"""
+import os
+import pathlib
+import subprocess
+import sys
+import tempfile
+
+HERE = pathlib.Path(__file__).resolve().parent
+CRATES = HERE.parent.parent / "crates"
+CELL, TURNED = CRATES / "capture_example/stdin", CRATES / "lte_tune/stdin"
+MOST = 1000  # growths of one run
+
+
+def run(program, words, data, shim=None, refuse=0):
+    environment = {"LD_PRELOAD": str(shim), "REFUSE": str(refuse)} if shim else {}
+    done = subprocess.run([program, *words], input=data, capture_output=True, env=environment, check=False)
+    return done.returncode, done.stdout, done.stderr
+
+
+def as_bytes(data):
+    """A recording of 8-bit numbers from one of 16 bits."""
+    numbers = [int.from_bytes(data[i : i + 2], "little", signed=True) for i in range(0, len(data), 2)]
+    greatest = max(map(abs, numbers))
+    return bytes(round(127.5 + 127 * number / greatest) for number in numbers)
+
+
+def forms(program):
+    """Words and a valid input of each form of lte_cli."""
+    recording, description = CELL.read_bytes(), (HERE.parent / "examples/plain_cell.json").read_bytes()
+    certificates = run(program, ["certify"], recording)[1]
+    for words in ("hits", "ids", "search", "search --json", "certify", "evidence"):
+        yield words.split(), recording
+        yield words.split() + ["--format", "cu8"], as_bytes(recording)
+    yield ["check"], 3 * certificates
+    yield ["transmit"], description
+    yield ["make", "7"], b""
+    for words in ("--ports 2", "--prefix long"):
+        yield ["search", *words.split()], recording
+        yield ["make", "7", *words.split()], b""
+    yield ["search", "--cancel"], recording
+
+
+def forms_of_tuner():
+    """The same of lte_tune."""
+    for words in ("tell", "apply", "apply 222"):
+        yield words.split(), TURNED.read_bytes()
+
+
+def refusals(program, shim, words, data):
+    """How many growths the form has, and what was found."""
+    whole, found = run(program, words, data), []
+    if whole[0] != 0:
+        return 0, [f"code {whole[0]} without a refusal"]
+    for number in range(1, MOST):
+        ending = run(program, words, data, shim, number)
+        if ending == whole:
+            return number - 1, found
+        if ending != (8, b"", os.path.basename(program).encode() + b": out of memory\n"):
+            found.append(f"growth {number}: code {ending[0]}, {len(ending[1])} bytes, {ending[2][:60]!r}")
+    return MOST, found + ["no end"]
+
+
+def main():
+    given = sys.argv[1:]
+    program = os.path.abspath(given[0] if given else CRATES / "lte_cli/out/lte_cli")
+    tuner = os.path.abspath(given[1] if len(given) > 1 else CRATES / "lte_tune/out/lte_tune")
+    for one in (program, tuner):
+        if not os.access(one, os.X_OK):
+            sys.exit(f"refused_memory.py: no program at {one}; rt run in its crate builds it")
+    count = 0
+    with tempfile.TemporaryDirectory() as room:
+        shim = pathlib.Path(room) / "refuse.so"
+        source = HERE / "refused_memory" / "refuse.c"
+        subprocess.run(
+            [os.environ.get("CC", "cc"), "-O1", "-fno-builtin", "-shared", "-fPIC", "-o", shim, source], check=True
+        )
+        print("| Words | growths refused | found |")
+        print("| --- | --- | --- |")
+        runs = [(program, *form) for form in forms(program)] + [(tuner, *form) for form in forms_of_tuner()]
+        for run_program, words, data in runs:
+            growths, found = refusals(run_program, shim, words, data)
+            count += len(found) + (growths == 0)
+            print(f"| `{' '.join(words)}` | {growths} | {'; '.join(found[:3]) or '-'} |", flush=True)
+    sys.exit(count > 0)
+
+
+main()

@@ -1,0 +1,125 @@
+#!/usr/bin/env bash
+# test.sh [PROGRAM]
+#
+# Tries each recipe of docs/RECORDINGS.md that a machine without a radio can: writes what a radio would have written of
+# a sent cell, makes a recording of it, and looks for the cell in its list; and the two programs that were written from
+# the documents. Takes about half a minute. PROGRAM is lte_cli, crates/lte_cli/out/lte_cli where it is left out. A
+# recipe whose tool is not there is left out, and said so. The status is the number of recipes that failed.
+set -u
+shopt -s lastpipe                       # what the last command of a pipeline counts is kept
+here=$(cd "$(dirname "$0")" && pwd)
+tools=$here/../tools peers=$here/../peers
+program=$(realpath -m "${1:-$here/../../crates/lte_cli/out/lte_cli}")
+[ -x "$program" ] || { echo "test.sh: no program at $program; rt run in crates/lte_cli builds it" >&2; exit 1; }
+room=$(mktemp -d)
+trap 'rm -rf "$room"' EXIT
+cd "$room" || exit 1
+failed=0
+
+has() { # has WORD..: whether these commands are there
+    for word; do command -v "$word" > /dev/null || return 1; done
+}
+
+finds() { # finds NAME < LIST: the list has the sent cell, within 12 samples of its place
+    if awk '$1 == "cell" && $2 == 217 && $4 >= 14188 && $4 <= 14212' | grep -q 'sfn 101 ports 1 n6 phich normal two br 0 spare 5'
+    then echo "ok      $1"
+    else echo "FAILED  $1"; failed=$((failed + 1))
+    fi
+}
+
+has_scipy=$(/usr/bin/python3 -c 'import numpy, scipy' 2> /dev/null && echo yes)
+[ "$has_scipy" ] || echo 'left out to_ci16.py and what needs as_radio.py: no scipy'
+
+says() { # says NAME WANTED < TEXT: the text is what is wanted
+    if [ "$(cat)" = "$2" ]; then echo "ok      $1"; else echo "FAILED  $1"; failed=$((failed + 1)); fi
+}
+
+echo '{"identity": 217, "sfn": 100, "offset": 5000, "samples": 192000, "gain": [20, 0],
+       "duration": "normal", "resource": "two", "spare": 5,
+       "cfi": 2, "start": 0, "blocks": 6, "mcs": 4, "column": 2,
+       "sib1": {"plmns": [{"mcc": "001", "mnc": "01", "reserved": false}], "tac": 1, "cell": 1, "barred": false,
+                "intra": true, "csg": false, "csg_identity": null, "q_rx": -70, "q_offset": null, "p_max": null,
+                "band": 1, "scheduling": [{"period": 8, "sibs": []}], "window": 1, "tag": 0}}' | "$program" transmit > sent.ci16
+"$program" search < sent.ci16 | finds 'a recording as it is'
+
+if has jq; then
+    echo '{"global": {"core:datatype": "ci16_le", "core:sample_rate": 1920000}, "captures": [{}]}' > a.sigmf-meta
+    cp sent.ci16 a.sigmf-data
+    "$tools/from_sigmf.sh" a.sigmf-meta | cmp - sent.ci16 > same
+    says 'SigMF ci16_le at 1.92 Ms/s is the recording' '' < same
+    echo '{"global": {"core:datatype": "cf32_le", "core:sample_rate": 2.4e6},
+           "captures": [{"core:frequency": 796000000}]}' > b.sigmf-meta
+    if [ "$has_scipy" ]; then
+        "$here/as_radio.py" f32 2400000 300000 < sent.ci16 > b.sigmf-data
+        "$tools/from_sigmf.sh" b.sigmf-meta 796300000 | "$program" search |
+            finds 'SigMF cf32_le at 2.4 Ms/s, 300 kHz beside the centre'
+    fi
+else
+    echo 'left out SigMF: no jq'
+fi
+
+for form in 'u8 1920000' 'u8 2048000' 's8 15360000' 's16 30720000' 'f32 10000000'; do
+    [ "$has_scipy" ] || break
+    read -r kind rate <<< "$form"
+    "$here/as_radio.py" "$kind" "$rate" < sent.ci16 > radio
+    "$tools/to_ci16.py" "$kind" "$rate" < radio | "$program" search | finds "to_ci16.py $form"
+    if has sox; then
+        type=(-t "$kind")
+        if [ "$kind" = s16 ]; then type+=(-L); fi
+        sox -D "${type[@]}" -c 2 -r "$rate" radio -t s16 -L - rate 1920000 sinc -600k norm -6 trim 0 1 2> /dev/null |
+            "$program" search | finds "sox $form"
+    else
+        echo 'left out sox'
+    fi
+done
+
+if [ "$has_scipy" ] && /usr/bin/python3 -c 'import gnuradio' 2> /dev/null; then
+    "$here/as_radio.py" f32 2000000 100000 < sent.ci16 > radio
+    "$tools/gr_to_ci16.py" radio 2000000 100000 made > /dev/null 2>&1
+    "$program" search < made | finds 'GNU Radio, 2 Ms/s, 100 kHz beside the centre'
+else
+    echo 'left out GNU Radio'
+fi
+
+if [ "$has_scipy" ]; then
+    "$here/as_radio.py" s16 1920000 21500 < sent.ci16 > turned
+    "$program" search < turned | says 'an offset of 21.5 kHz hides the cell' 'cells 0'
+    tuner=${program//lte_cli/lte_tune}
+    if [ -x "$tuner" ]; then
+        "$tuner" apply < turned | "$program" search | finds 'lte_tune takes it off'
+        "$tuner" tell < turned | awk '$1 == "turn" && $2 > 182 && $2 < 185 { print "near" }' | says 'lte_tune tells it' near
+    else
+        echo "left out lte_tune: no program at $tuner"
+    fi
+fi
+
+head -c 400000 /dev/zero | cat - sent.ci16 > long
+"$tools/windows.sh" "$program" long 96000 50000 | says 'windows.sh finds it in a longer file' \
+'100000 cell 217 at 14200 sfn 101 ports 1 n6 phich normal two br 0 spare 5
+150000 cell 217 at 2600 sfn 103 ports 1 n6 phich normal two br 0 spare 5'
+
+if has parallel; then
+    cp sent.ci16 'a b.ci16'
+    head -c 1001 sent.ci16 > cut.ci16
+    "$tools/many.sh" "$program" 'a b.ci16' cut.ci16 2> causes | grep -c 'cell 217' | says 'many.sh searches each file' 1
+    grep -o 'lte_cli: .*' causes | says 'many.sh says which was refused' 'lte_cli: ragged'
+else
+    echo 'left out many.sh: no parallel'
+fi
+
+"$program" certify < sent.ci16 > certificate
+"$program" check < certificate > answers
+"$tools/check_certificate.py" < certificate | says 'check_certificate.py answers as check does' "$(cat answers)"
+head -c 384000 sent.ci16 > five
+"$peers/second_search.py" < five | says 'second_search.py lists what search lists' "$("$program" search < five)"
+"$program" transmit < "$here/../examples/chance_line.json" > two_lines
+for file in five two_lines "$here/../../crates/capture_example/stdin"; do
+    "$peers/second_evidence.py" < "$file" |
+        says "second_evidence.py writes what evidence writes of ${file##*/}" "$("$program" evidence < "$file")"
+done
+printf '\377' | dd of=certificate bs=1 seek=244 conv=notrunc status=none
+"$program" check < certificate | says 'another word is refused' 'certificates 1
+0 no'
+"$tools/check_certificate.py" < certificate | says 'by check_certificate.py too' 'certificates 1
+0 no'
+exit "$failed"
