@@ -1,0 +1,55 @@
+#!/usr/bin/env bash
+# check.sh
+#
+# Checks of scripts and pages that need no built program and no toolchain, in less than a minute:
+#   pyflakes3, shellcheck and black (120 columns) on the scripts;
+#   rows.py: what the second programs print stands in the tests and pages that have it from them;
+#   documents.py: what the pages name is there, numbers and lists of cells in them are right;
+#   crates_picture.py: the picture of the crates is that of crates.txt;
+#   edits.py: each wrong body changes what it means to change.
+# Where lte_cli is built (crates/lte_cli/out/lte_cli, or LTE_CLI), the examples are run too. A check that wants what is
+# not there is left out, and said so: nothing is installed. The status is 1 where anything is wrong.
+set -u
+cd "$(dirname "$0")/.." || exit 1
+python=/usr/bin/python3                 # Debian's, which has Debian's packages
+[ -x "$python" ] || python=python3
+failed=0
+
+check() { # check PACKAGE COMMAND WORD..: runs a command of a package of Debian
+    if ! command -v "$2" > /dev/null; then
+        echo "left out: $2 (Debian: $1)"
+    elif ! "${@:2}"; then
+        echo "check.sh: failed: $2${3:+ $3}"
+        failed=1
+    fi
+}
+
+says() { # says TEXT WORD..: an example writes this line
+    if ! LTE_CLI=$program "${@:2}" | grep -q "^$1\$"; then
+        echo "check.sh: failed: ${*:2}"
+        failed=1
+    fi
+}
+
+mapfile -t sources < <(find scripts -name '*.py' | sort)
+mapfile -t shells < <(find scripts -name '*.sh' | sort)
+check pyflakes3 pyflakes3 "${sources[@]}"
+check shellcheck shellcheck "${shells[@]}" .ci/run
+if [[ $(black --version 2> /dev/null) == *' 23.'* ]]; then
+    check black black --quiet --check --line-length 120 scripts
+else
+    echo 'left out: black, which formats by its version (Debian 12: black 23)'
+fi
+check python3 "$python" scripts/gate/edits.py
+check python3 "$python" scripts/gate/documents.py
+check python3 "$python" scripts/gate/crates_picture.py docs/ARCHITECTURE.md
+check python3 "$python" scripts/gate/rows.py
+
+program=$(realpath -m "${LTE_CLI:-crates/lte_cli/out/lte_cli}")
+if [ -x "$program" ]; then
+    says 'cell 0 at 0 .*' bash scripts/examples/send_and_search.sh
+    says '0 yes' bash scripts/examples/certify_and_check.sh
+else
+    echo 'left out: examples: lte_cli is not built'
+fi
+exit "$failed"
