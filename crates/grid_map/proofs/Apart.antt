@@ -172,7 +172,7 @@ pub record IsAfterRegion (two : Bool) (identity last : ℕ) (p : Place) : Type 0
   pub beside : is_synchronisation p.symbol ≡ false
   pub free : is_pilot_of two identity (p.symbol % 7) p.k ≡ false
 
-shared_symbols : (two : Bool) (identity cfi start blocks : ℕ) → All (λ (p : Place). (p.symbol < 14) × (p.k < 72)) (shared_places_of two identity cfi start blocks)
+pub shared_symbols : (two : Bool) (identity cfi start blocks : ℕ) → All (λ (p : Place). (p.symbol < 14) × (p.k < 72)) (shared_places_of two identity cfi start blocks)
 unfolding shared_places_of
 shared_symbols two identity cfi start blocks =
     All-filter (is_shared_of two identity cfi start blocks) (λ (p : Place). (p.symbol < 14) × (p.k < 72)) (places_of 0 14)

@@ -1,6 +1,7 @@
 -- The soft values of a list of places, and descrambled values.
 use Rattle.std.proofs.Common.{◌≡◌, ℕ, ◌+◌, ◌*◌, ◌/◌, ◌%◌, ◌<◌, ◌≤◌, Bool, true, false, List, [], ◌∷◌, length, get_or, ℤ, pos, negsuc, nat_abs, inl, inr, refl, subst, sym, arith}
-use Rattle.std.specs.Prelude.{All, int_div, ◌*ℤ◌}
+use Rattle.std.specs.Prelude.{All, int_div, ◌*ℤ◌, nat_lt, if◌then◌else◌}
+use Rattle.std.proofs.Math.Path.{fun_ext}
 use Rattle.std.proofs.lemmas.Int.{ints}
 use Rattle.std.proofs.lemmas.Bool.Decides.{eqb_tells}
 use Rattle.std.proofs.lemmas.List.Elements.{All-cons, All-nil, All-get_or, All-from_get_or}
@@ -11,7 +12,7 @@ use Rattle.gold.specs.Gold.{gold_bit}
 use Rattle.grid_map.specs.declared.Place.{Place}
 use Rattle.grid_map.specs.Place.{place}
 use Rattle.soft_bits.specs.Soft.{SeenSlot, soft_value, soft_values, equalised, pilot_energy}
-use Rattle.soft_bits.specs.Places.{values_at, soft_values_of, soft_value_at, descrambled_value, descrambled}
+use Rattle.soft_bits.specs.Places.{values_at, in_subframe, placed_values, placed_value, descrambled_value, descrambled}
 
 -- ---- the values of places
 
@@ -19,18 +20,19 @@ two_values : (slot : SeenSlot) (p : Place) → length (values_at slot p) ≡ 2
 unfolding soft_values
 two_values slot p = refl
 
-twos : (slot : SeenSlot) (places : List Place) → HaveSize 2 (values_at slot) places
-twos slot places k d inside = two_values slot (get_or places k d)
+twos : (slot : Place → SeenSlot) (places : List Place) → HaveSize 2 (λ p. values_at (slot p) p) places
+twos slot places k d inside = two_values (slot (get_or places k d)) (get_or places k d)
 
 -- two a place
-pub length-soft_values_of : (slot : SeenSlot) (places : List Place) → length (soft_values_of slot places) ≡ 2 * length places
-unfolding soft_values_of
-length-soft_values_of slot places = let all = length-pieces 2 (values_at slot) places (twos slot places) in omega (arith, all)
+pub length-placed : (slot : Place → SeenSlot) (places : List Place) → length (placed_values slot places) ≡ 2 * length places
+unfolding placed_values
+length-placed slot places = let all = length-pieces 2 (λ p. values_at (slot p) p) places (twos slot places) in omega (arith, all)
 
-pub soft_values_of-at : (slot : SeenSlot) (places : List Place) (i : ℕ) → i < 2 * length places → get_or (soft_values_of slot places) i (pos 0) ≡ soft_value_at slot places i
-unfolding soft_values_of
-soft_values_of-at slot places i inside =
-    get_or-pieces 2 (values_at slot) places i (place 0 0) (pos 0) (omega arith) (twos slot places) (omega (arith, inside))
+pub placed-at : (slot : Place → SeenSlot) (places : List Place) (i : ℕ) → i < 2 * length places →
+    get_or (placed_values slot places) i (pos 0) ≡ placed_value slot places i
+unfolding placed_values
+placed-at slot places i inside =
+    get_or-pieces 2 (λ p. values_at (slot p) p) places i (place 0 0) (pos 0) (omega arith) (twos slot places) (omega (arith, inside))
 
 -- ---- they are small
 
@@ -53,15 +55,25 @@ soft_values-small slot symbol k =
     All-cons P re (im ∷ []) (soft_value-small (equalised slot symbol k).re (pilot_energy slot))
     (All-cons P im [] (soft_value-small (equalised slot symbol k).im (pilot_energy slot)) (All-nil P))
 
-soft_value_at-small : (slot : SeenSlot) (places : List Place) (i : ℕ) → nat_abs (soft_value_at slot places i) ≤ 127
-soft_value_at-small slot places i =
+placed_value-small : (slot : Place → SeenSlot) (places : List Place) (i : ℕ) → nat_abs (placed_value slot places i) ≤ 127
+placed_value-small slot places i =
     let p = get_or places (i / 2) (place 0 0) in
-    All-get_or (λ z. nat_abs z ≤ 127) (values_at slot p) (i % 2) (pos 0) (let two = two_values slot p in omega (arith, two)) (soft_values-small slot (p.symbol % 7) p.k)
+    All-get_or (λ z. nat_abs z ≤ 127) (values_at (slot p) p) (i % 2) (pos 0) (let two = two_values (slot p) p in omega (arith, two))
+    (soft_values-small (slot p) (p.symbol % 7) p.k)
 
-pub soft_values_of-small : (slot : SeenSlot) (places : List Place) → All (λ z. nat_abs z ≤ 127) (soft_values_of slot places)
-soft_values_of-small slot places =
-    All-from_get_or (λ z. nat_abs z ≤ 127) (soft_values_of slot places) (pos 0)
-    (λ i below. subst (λ z. nat_abs z ≤ 127) (sym (soft_values_of-at slot places i (let size = length-soft_values_of slot places in omega (arith, size, below)))) (soft_value_at-small slot places i))
+pub placed-small : (slot : Place → SeenSlot) (places : List Place) → All (λ z. nat_abs z ≤ 127) (placed_values slot places)
+placed-small slot places =
+    All-from_get_or (λ z. nat_abs z ≤ 127) (placed_values slot places) (pos 0)
+    (λ i below. subst (λ z. nat_abs z ≤ 127) (sym (placed-at slot places i (let size = length-placed slot places in omega (arith, size, below)))) (placed_value-small slot places i))
+
+-- ---- a place of a subframe whose slots are both one
+
+pub one_slot : (slot : SeenSlot) → in_subframe slot slot ≡ (λ (p : Place). slot)
+one_slot slot = fun_ext (λ (p : Place). same (nat_lt p.symbol 7))
+  where
+    same : (b : Bool) → (if b then slot else slot) ≡ slot
+    same true = refl
+    same false = refl
 
 -- ---- descrambled values
 

@@ -3,7 +3,6 @@ use Rattle.std.specs.Prelude.{ℕ, ◌<◌, ◌≡◌, List}
 use Rattle.finite.specs.Lists.{values_below}
 use Rattle.cs_num.specs.declared.Cpx.{Cpx}
 use Rattle.soft_bits.specs.declared.seen.Seen.{Seen}
-use Rattle.crs.specs.declared.pattern.Pattern.{Pattern}
 use Rattle.soft_bits.specs.Soft.{SeenSlot, AreSmall, pilot, pilot_energy}
 
 -- the slot of what was seen

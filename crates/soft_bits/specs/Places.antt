@@ -1,5 +1,5 @@
 -- The soft values of a channel's places, and its values by the bits before scrambling.
-use Rattle.std.specs.Prelude.{ℕ, ◌+◌, ◌/◌, ◌%◌, Bool, if◌then◌else◌, List, length, slice_index_or, ℤ, pos, neg_ℤ}
+use Rattle.std.specs.Prelude.{ℕ, ◌+◌, ◌/◌, ◌%◌, Bool, nat_lt, if◌then◌else◌, List, length, slice_index_or, ℤ, pos, neg_ℤ}
 use Rattle.std.specs.List.{flat_map}
 use Rattle.finite.specs.Lists.{values_below}
 use Rattle.gold.specs.Gold.{gold_bit}
@@ -7,19 +7,39 @@ use Rattle.grid_map.specs.declared.Place.{Place}
 use Rattle.grid_map.specs.Place.{place}
 use Rattle.soft_bits.specs.Soft.{SeenSlot, soft_values}
 
+-- the one of two slots of a subframe that has a symbol: symbols 7 to 13 are those of the second
+abbrev pub slot_with : {Slot : Type 0} → Slot → Slot → ℕ → Slot
+slot_with first second symbol = if nat_lt symbol 7 then first else second
+
+-- the one that has a place
+abbrev pub in_subframe : SeenSlot → SeenSlot → Place → SeenSlot
+in_subframe first second p = slot_with first second p.symbol
+
+-- a way to make the soft values of places, where a function says which slot has a place
+abbrev pub Valuing : Type 0
+Valuing = (Place → SeenSlot) → List Place → List ℤ
+
+-- ---- the values of one antenna port
+
 -- both soft values of a place of the slot's subframe, whose symbols 7 to 13 are those of its second
 -- slot
 abbrev pub values_at : SeenSlot → Place → List ℤ
 values_at slot p = soft_values slot (p.symbol % 7) p.k
 
 -- those of a list of places, one place after the other
-unfoldable pub soft_values_of : SeenSlot → List Place → List ℤ
-soft_values_of slot places = flat_map (values_at slot) places
+unfoldable pub placed_values : Valuing
+placed_values slot places = flat_map (λ p. values_at (slot p) p) places
 
 -- value i of them
-abbrev pub soft_value_at : SeenSlot → List Place → ℕ → ℤ
-soft_value_at slot places i =
-    slice_index_or (values_at slot (slice_index_or places (i / 2) (place 0 0))) (i % 2) (pos 0)
+abbrev pub placed_value : (Place → SeenSlot) → List Place → ℕ → ℤ
+placed_value slot places i =
+    let p : Place = slice_index_or places (i / 2) (place 0 0) in slice_index_or (values_at (slot p) p) (i % 2) (pos 0)
+
+-- where one slot has all places
+abbrev pub soft_values_of : SeenSlot → List Place → List ℤ
+soft_values_of slot places = placed_values (λ p. slot) places
+
+-- ---- scrambling
 
 -- a value by the bit before scrambling: turned where the scrambling bit is 1
 abbrev pub descrambled_value : Bool → ℤ → ℤ

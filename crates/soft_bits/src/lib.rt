@@ -4,13 +4,15 @@
 mod line;
 mod pilots;
 mod places;
+mod read_slot;
 mod seen;
 mod slot;
 mod value;
 
 pub use line::estimate;
 pub use pilots::{energy_of, pilots_are_the_reference_places, pilots_of};
-pub use places::{descramble, fill_soft};
+pub use places::{descramble, slot_of};
+pub use read_slot::{ReadSlot, fill_slot};
 pub use seen::Seen;
 pub use slot::Slot;
 pub use value::{soft, soft_pair};

@@ -2,7 +2,7 @@
 
 ghost use Rattle.std.specs.Prelude.{◌≡◌, ◌+◌, ◌*◌, ◌^◌, ◌<◌, ◌≤◌, All, length, nat_abs};
 ghost use Rattle.finite.specs.Sizes.{AllWithin};
-ghost use Rattle.soft_bits.specs.Places.{values_at, soft_values_of, descrambled_value, descrambled};
+ghost use Rattle.soft_bits.specs.Places.{slot_with, in_subframe, values_at, placed_values, descrambled_value, descrambled};
 
 use crate::{Slot, soft};
 use grid_map::Place;
@@ -10,19 +10,26 @@ use grid_map::Place;
 // How many bits of a sequence a channel takes at most: the broadcast channel in four frames.
 const MOST: usize = 1920;
 
-/// Writes the soft values of places of the slot's subframe over the whole of `values`, two a place, in
-/// the order of the places. A place in symbols 7 to 13 is one of the subframe's second slot.
-pub fn fill_soft(slot: &Slot, places: &[Place], values: &mut [i16])
+/// Writes the soft values of places of a subframe over the whole of `values`, two a place, in the order of the
+/// places. A place in symbols 7 to 13 is one of the subframe's second slot.
+pub(crate) fn fill_soft(first: &Slot, second: &Slot, places: &[Place], values: &mut [i16])
     requires inside { All (λ p. (p.symbol < 14) × (p.k < 72)) places.now }
     requires room { length values.old ≡ 2 * length places.now }
-    ensures values { values.new ≡ soft_values_of slot.now places.now }
+    ensures values { values.new ≡ placed_values (in_subframe first.now second.now) places.now }
     ensures sizes { AllWithin 127 values.new }
 {
     for i in 0..places.len() {
-        let pair = soft_at(slot, &places[i]);
+        let pair = soft_at(slot_of(first, second, places[i].symbol), &places[i]);
         values[2 * i] = pair[0];
         values[2 * i + 1] = pair[1];
     }
+}
+
+/// The one of two slots of a subframe that has a symbol: symbols 7 to 13 are those of the second.
+pub fn slot_of<'a, S>(first: &'a S, second: &'a S, symbol: u8) -> &'a S
+    ensures { result.now ≡ slot_with first.now second.now symbol }
+{
+    if symbol < 7 { first } else { second }
 }
 
 // The soft values of one place.

@@ -1,7 +1,7 @@
 use Rattle.std.proofs.Common.{◌≡◌, ◌∙◌, ◌/◌, ◌<◌, arith, ap, slice_index_or, ℕ, List, refl}
 use Rattle.cs_num.specs.declared.Cpx.{Cpx}
 use Rattle.crs.specs.declared.pattern.Pattern.{Pattern}
-use Rattle.crs.specs.Reference.{pattern_list, pattern_reference}
+use Rattle.crs.specs.Reference.{pattern_list}
 use Rattle.crs.proofs.Values.{no_pair, get_or-pattern_list}
 use Rattle.soft_bits.specs.Soft.{pattern_sent, pattern_symbol, pilot_subcarrier}
 use Rattle.soft_bits.proofs.Sizes.{pattern_sent-within}

@@ -1,7 +1,6 @@
 use Rattle.std.proofs.Common.{◌∙◌, ap₂}
 use Rattle.cs_num.specs.Complex.{times, conjugate}
 use Rattle.cs_num.specs.declared.Cpx.{Cpx}
-use Rattle.std.proofs.Common.{ap}
 use Rattle.soft_bits.specs.Soft.{soft_pair, soft_values}
 use Rattle.soft_bits.proofs.value.soft.Goals as goal
 

@@ -1,0 +1,91 @@
+//! A way to read a slot: its soft values, whatever antenna ports send them.
+
+ghost use Rattle.std.specs.Prelude.{◌≡◌, ◌*◌, ◌%◌, ◌<◌, All, length};
+ghost use Rattle.finite.specs.Sizes.{AllWithin};
+ghost use Rattle.lte_types.specs.declared.carrier.Carrier.{Carrier as CarrierValue};
+ghost use Rattle.lte_types.specs.declared.carrier.Carrier.TheVariants.{OnePort};
+ghost use Rattle.soft_bits.specs.Soft.{SeenSlot, AreSmall};
+ghost use Rattle.soft_bits.specs.Places.{Valuing, in_subframe, placed_values};
+
+use crate::Slot;
+use crate::places::fill_soft;
+use cs_num::Cpx;
+use grid_map::Place;
+use lte_types::{Carrier, CellId};
+
+/// A slot that was seen, with a way to make the soft values of its places.
+pub trait ReadSlot: Drop {
+    ghost seen_as: { Self → SeenSlot };
+
+    ghost carrier: { CarrierValue };
+
+    ghost values_by: { Valuing };
+
+    /// The slot with these symbols. `number` is 0 to 19, and components have size at most 2^25.
+    fn of(seen: [[Cpx; 72]; 7], number: u8, id: CellId) -> Self
+        requires number { number < 20 }
+        requires small { AreSmall seen }
+        ensures { seen_as result ≡ record { symbols = seen; number = number; identity = id } };
+
+    /// How the cell sends that is read so.
+    fn carrier() -> Carrier
+        ensures { result ≡ carrier };
+
+    /// The identity of the cell.
+    fn cell(&self) -> CellId
+        ensures { result ≡ (seen_as self.now).identity };
+
+    /// The slot's number in its frame, 0 to 19.
+    fn slot_number(&self) -> u8
+        ensures value { result ≡ (seen_as self.now).number }
+        ensures valid { result < 20 };
+
+    /// Writes the soft values of places of a subframe, whose slots these two are, over the whole of `values`, two a
+    /// place. A place in symbols 7 to 13 is one of the second slot. There is an even count of places.
+    fn fill(&self, second: &Self, places: &[Place], values: &mut [i16])
+        requires inside { All (λ p. (p.symbol < 14) × (p.k < 72)) places.now }
+        requires even { length places.now % 2 ≡ 0 }
+        requires room { length values.old ≡ 2 * length places.now }
+        ensures values { values.new ≡ values_by (in_subframe (seen_as self.now) (seen_as second.now)) places.now }
+        ensures sizes { AllWithin 127 values.new };
+}
+
+impl ReadSlot for Slot {
+    ghost seen_as = { λ s. s };
+
+    ghost carrier = { OnePort };
+
+    ghost values_by = { placed_values };
+
+    fn of(seen: [[Cpx; 72]; 7], number: u8, id: CellId) -> Slot {
+        Slot::new(seen, number, id)
+    }
+
+    fn carrier() -> Carrier {
+        Carrier::OnePort
+    }
+
+    fn cell(&self) -> CellId {
+        self.id()
+    }
+
+    fn slot_number(&self) -> u8 {
+        self.number()
+    }
+
+    fn fill(&self, second: &Slot, places: &[Place], values: &mut [i16]) {
+        fill_soft(self, second, places, values);
+    }
+}
+
+/// Writes the soft values of places of a channel that stands in one slot over the whole of `values`, two a place. There
+/// is an even count of places.
+pub fn fill_slot<S: ReadSlot>(slot: &S, places: &[Place], values: &mut [i16])
+    requires inside { All (λ p. (p.symbol < 14) × (p.k < 72)) places.now }
+    requires even { length places.now % 2 ≡ 0 }
+    requires room { length values.old ≡ 2 * length places.now }
+    ensures values { values.new ≡ S.values_by (λ p. S.seen_as slot.now) places.now }
+    ensures sizes { AllWithin 127 values.new }
+{
+    slot.fill(slot, places, values);
+}
