@@ -2,7 +2,6 @@
 use Rattle.std.proofs.Common.{◌≡◌, ◌⊎◌, ℕ, zero, suc, ◌-◌, ◌%◌, ◌<◌, ◌≤◌, inl, inr, Bool, true, false, nat_eq, refl, sym, ◌∙◌, List, ℤ, pos, slice_index_or, arith}
 use Rattle.std.proofs.lemmas.Bool.{cases_lt, eqb-true, eq-eqb, false≢true}
 use Rattle.std.proofs.lemmas.Bool.Decides.{nat_tests}
-use Rattle.finite.specs.Sums.{total_below}
 use Rattle.finite.proofs.Sums.{total_below-within, total_some}
 use Rattle.cs_bits.specs.Signs.{disagreement}
 use Rattle.grid_map.specs.Scrambling.{indicator_bit}

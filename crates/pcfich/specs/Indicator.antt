@@ -1,5 +1,5 @@
 -- The control format indicator that values tell.
-use Rattle.std.specs.Prelude.{◌≡◌, ℕ, ◌<◌, ◌≤◌, not, List, slice_index_or, ℤ, pos}
+use Rattle.std.specs.Prelude.{ℕ, ◌<◌, ◌≤◌, List, slice_index_or, ℤ, pos}
 use Rattle.finite.specs.Sums.{total_below}
 use Rattle.cs_bits.specs.Signs.{disagreement, SpeaksFor}
 use Rattle.grid_map.specs.Scrambling.{indicator_bit}

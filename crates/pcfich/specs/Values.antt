@@ -4,9 +4,13 @@ use Rattle.std.specs.Prelude.{List, ℤ}
 use Rattle.grid_map.specs.Control.{pcfich_places}
 use Rattle.grid_map.specs.Scrambling.{pcfich_c_init}
 use Rattle.soft_bits.specs.Soft.{SeenSlot}
-use Rattle.soft_bits.specs.Places.{soft_values_of, descrambled}
+use Rattle.soft_bits.specs.Places.{Valuing, placed_values, descrambled}
 
--- the 32 values by the bits before scrambling
-unfoldable pub indicator_values : SeenSlot → List ℤ
-indicator_values slot =
-    descrambled (pcfich_c_init slot.identity slot.number) 0 (soft_values_of slot (pcfich_places slot.identity))
+-- the 32 values by the bits before scrambling, by a way to make soft values
+unfoldable pub indicator_values_by : Valuing → SeenSlot → List ℤ
+indicator_values_by values slot =
+    descrambled (pcfich_c_init slot.identity slot.number) 0 (values (λ p. slot) (pcfich_places slot.identity))
+
+-- with one antenna port
+abbrev pub indicator_values : SeenSlot → List ℤ
+indicator_values = indicator_values_by placed_values

@@ -2,20 +2,20 @@
 
 ghost use Rattle.std.specs.Prelude.{◌≡◌, ℕ, ◌*◌, ◌<◌, ◌≤◌, ℤ, List, nat_le, ◌&&◌, length, if◌then◌else◌};
 ghost use Rattle.finite.specs.Sizes.{AllWithin};
-ghost use Rattle.pcfich.specs.Values.{indicator_values};
+ghost use Rattle.pcfich.specs.Values.{indicator_values_by};
 ghost use Rattle.pcfich.specs.Indicator.{cost, IsIndicator, Speak};
 
 use crate::values::received;
 use cs_bits::disagreement_of;
 use grid_map::indicator_bit;
 use lte_types::Cfi;
-use soft_bits::Slot;
+use soft_bits::ReadSlot;
 
 /// The control format indicator of least cost in slot 10, the first of subframe 5; of equals the
 /// lowest. A cost is the sum of the sizes of the values that speak against the indicator's 32 bits.
-pub fn cfi(slot: &Slot) -> Cfi
-    requires { slot.now.number ≡ 10 }
-    ensures { IsIndicator (indicator_values slot.now) result }
+pub fn cfi<S: ReadSlot>(slot: &S) -> Cfi
+    requires { (S.seen_as slot.now).number ≡ 10 }
+    ensures { IsIndicator (indicator_values_by S.values_by (S.seen_as slot.now)) result }
 {
     indicator(&received(slot))
 }

@@ -8,20 +8,25 @@ use Rattle.grid_map.specs.Control.{pdcch_groups, element_count}
 use Rattle.grid_map.specs.Candidate.{candidate_places}
 use Rattle.grid_map.specs.Scrambling.{pdcch_c_init}
 use Rattle.soft_bits.specs.Soft.{SeenSlot}
-use Rattle.soft_bits.specs.Places.{soft_values_of, descrambled}
+use Rattle.soft_bits.specs.Places.{Valuing, placed_values, descrambled}
 
--- the 288 values by the bits before scrambling, where these groups carry the channel
-unfoldable pub stream_values : SeenSlot → List Reg → List ℤ
-stream_values slot groups =
-    descrambled (pdcch_c_init slot.identity slot.number) 0 (soft_values_of slot (candidate_places slot.identity groups))
+-- the 288 values by the bits before scrambling, where these groups carry the channel, by a way to make
+-- soft values
+unfoldable pub stream_values_by : Valuing → SeenSlot → List Reg → List ℤ
+stream_values_by values slot groups =
+    descrambled (pdcch_c_init slot.identity slot.number) 0 (values (λ p. slot) (candidate_places slot.identity groups))
 
 -- those of a slot
-abbrev pub candidate_values : SeenSlot → ℕ → Duration → Resource → List ℤ
-candidate_values slot indicator duration resource =
-    stream_values slot (pdcch_groups slot.identity indicator duration resource)
+abbrev pub candidate_values_by : Valuing → SeenSlot → ℕ → Duration → Resource → List ℤ
+candidate_values_by values slot indicator duration resource =
+    stream_values_by values slot (pdcch_groups slot.identity indicator duration resource)
 
 -- and `None` where there are fewer than four elements
-unfoldable pub candidate_if : SeenSlot → ℕ → Duration → Resource → Option (List ℤ)
-candidate_if slot indicator duration resource =
+unfoldable pub candidate_if_by : Valuing → SeenSlot → ℕ → Duration → Resource → Option (List ℤ)
+candidate_if_by values slot indicator duration resource =
     if nat_lt (element_count indicator duration resource) 4 then None
-    else Some (candidate_values slot indicator duration resource)
+    else Some (candidate_values_by values slot indicator duration resource)
+
+-- those of a slot with one antenna port
+abbrev pub candidate_values : SeenSlot → ℕ → Duration → Resource → List ℤ
+candidate_values = candidate_values_by placed_values

@@ -4,11 +4,11 @@ ghost use Rattle.std.specs.Prelude.{◌≡◌, ◌/◌, ◌<◌, ◌≤◌, All,
 ghost use Rattle.finite.specs.Sizes.{AllWithin};
 ghost use Rattle.grid_map.specs.Group.{is_group};
 ghost use Rattle.grid_map.specs.Control.{is_in_region, pdcch_groups, element_count};
-ghost use Rattle.pdcch.specs.Candidate.{stream_values, candidate_if};
+ghost use Rattle.pdcch.specs.Candidate.{stream_values_by, candidate_if_by};
 
 use grid_map::{Reg, candidate_places, pdcch, pdcch_c_init};
 use lte_types::{CellId, Cfi, Mib};
-use soft_bits::{Slot, descramble, fill_soft};
+use soft_bits::{ReadSlot, descramble, fill_slot};
 
 /// How many control channel elements (CCE) the control region has: each takes nine groups of the PDCCH
 /// (TS 36.211 section 6.8.1). There are two with indicator 1, and at least four with 2 and 3.
@@ -22,12 +22,12 @@ pub fn elements(id: CellId, cfi: Cfi, mib: Mib) -> u8
 /// The values of control channel elements 0 to 3 of slot 10, the first of subframe 5, by the bits before
 /// scrambling, in the order of the stream; `None` exactly where there are fewer than four elements.
 #[tactic(auto, using(crate::proofs::Told::too_few, crate::proofs::Told::enough))]
-pub fn candidate(slot: &Slot, cfi: Cfi, mib: Mib) -> Option<[i16; 288]>
-    requires { slot.now.number ≡ 10 }
-    ensures values { result ≡ candidate_if slot.now cfi mib.duration mib.resource }
+pub fn candidate<S: ReadSlot>(slot: &S, cfi: Cfi, mib: Mib) -> Option<[i16; 288]>
+    requires { (S.seen_as slot.now).number ≡ 10 }
+    ensures values { result ≡ candidate_if_by S.values_by (S.seen_as slot.now) cfi mib.duration mib.resource }
     ensures sizes { IfSome result (λ values. AllWithin 127 values) }
 {
-    let groups = pdcch(slot.id(), cfi, mib);
+    let groups = pdcch(slot.cell(), cfi, mib);
     if groups.len() < 4 * 9 {
         return None;
     }
@@ -35,16 +35,17 @@ pub fn candidate(slot: &Slot, cfi: Cfi, mib: Mib) -> Option<[i16; 288]>
 }
 
 // The values of its places, where these groups carry the channel.
-fn stream(slot: &Slot, groups: &[Reg]) -> [i16; 288]
+fn stream<S: ReadSlot>(slot: &S, groups: &[Reg]) -> [i16; 288]
     requires few { length groups.now ≤ 66 }
     requires enough { 36 ≤ length groups.now }
     requires inside { All (λ g. IsTrue (is_group g)) groups.now }
-    ensures values { result ≡ stream_values slot.now groups.now }
+    ensures values { result ≡ stream_values_by S.values_by (S.seen_as slot.now) groups.now }
     ensures sizes { AllWithin 127 result }
 {
-    let places = candidate_places(slot.id(), groups);
+    let places = candidate_places(slot.cell(), groups);
     let mut values = [0; 288];
-    fill_soft(slot, &places, &mut values);
-    descramble(pdcch_c_init(slot.id(), slot.number()), 0, &mut values);
+    fill_slot(slot, &places, &mut values);
+    let c_init = pdcch_c_init(slot.cell(), slot.slot_number());
+    descramble(c_init, 0, &mut values);
     values
 }

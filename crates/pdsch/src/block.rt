@@ -1,41 +1,45 @@
 //! The values of a block.
 
-ghost use Rattle.std.specs.Prelude.{◌≡◌, ◌*◌, ◌<◌, ◌≤◌, false, length, take, drop};
+ghost use Rattle.std.specs.Prelude.{◌≡◌, ◌*◌, ◌%◌, ◌<◌, ◌≤◌, All, length, take, drop};
 ghost use Rattle.finite.specs.Sizes.{AllWithin};
-ghost use Rattle.grid_map.specs.Shared.{block_places_of};
-ghost use Rattle.soft_bits.specs.Places.{values_at};
+ghost use Rattle.grid_map.specs.Shared.{block_places_of, shared_places_of};
+ghost use Rattle.grid_map.specs.Scrambling.{pdsch_c_init as pdsch_seed};
+ghost use Rattle.soft_bits.specs.Places.{in_subframe, descrambled};
 ghost use Rattle.dci.specs.Format1A.{IsGrant};
-ghost use Rattle.pdsch.specs.Values.{slot_with, shared_values};
+ghost use Rattle.dci.specs.Fields.{system_information_rnti};
+ghost use Rattle.pdsch.specs.Values.{has_second_port, shared_values_by};
 
 use dci::{Grant, SI_RNTI};
 use grid_map::{Place, pdsch_c_init, shared_count, shared_place};
-use lte_types::{Assignment, Cfi};
-use soft_bits::{Slot, descramble, fill_soft};
+use lte_types::{Assignment, CellId, Cfi};
+use soft_bits::{ReadSlot, descramble};
 
-/// The most values that a grant has: those of six blocks with indicator 2.
+/// The most values that a grant has: those of six blocks with indicator 2 and one antenna port.
 pub const MOST_VALUES: usize = 1224;
 
 /// Writes the values of a grant's blocks, by the bits before scrambling, to the front of `out`, and
-/// gives their count, 204 a block with `cfi` 2 and 180 with 3; what stands behind them is unchanged.
+/// gives their count, 204 a block with `cfi` 2 and 180 with 3, and with two antenna ports 192 and 168; what
+/// stands behind them is unchanged.
 ///
 /// There are two values a place, of size at most 127, in the order of the places
 /// (TS 36.211 section 6.4). The scrambling sequence begins once, with the subframe (section 6.3.1).
 /// `first` and `second` are slots 10 and 11 of one cell, `cfi` is 2 or 3, and the grant is one that
 /// `dci::read` can answer.
-pub fn values(
-    first: &Slot,
-    second: &Slot,
+pub fn values<S: ReadSlot>(
+    first: &S,
+    second: &S,
     cfi: Cfi,
     grant: &Grant,
     out: &mut [i16; MOST_VALUES],
 ) -> usize
-    requires first { first.now.number ≡ 10 }
-    requires second { second.now.number ≡ 11 }
-    requires cell { second.now.identity ≡ first.now.identity }
+    requires first { (S.seen_as first.now).number ≡ 10 }
+    requires second { (S.seen_as second.now).number ≡ 11 }
+    requires cell { (S.seen_as second.now).identity ≡ (S.seen_as first.now).identity }
     requires cfi { 2 ≤ cfi }
     requires grant { IsGrant grant.now }
-    ensures count { result ≡ 2 * (block_places_of false cfi * grant.now.blocks) }
-    ensures values { take result out.new ≡ shared_values first.now second.now cfi grant.now.start grant.now.blocks }
+    ensures count { result ≡ 2 * (block_places_of (has_second_port S.carrier) cfi * grant.now.blocks) }
+    ensures values { take result out.new ≡ shared_values_by S.carrier S.values_by
+        (S.seen_as first.now) (S.seen_as second.now) cfi grant.now.start grant.now.blocks }
     ensures sizes { AllWithin 127 (take result out.new) }
     ensures rest { drop result out.new ≡ drop result out.old }
 {
@@ -46,45 +50,59 @@ pub fn values(
 }
 
 // Writes the values of the assigned blocks to the front of `out`, and gives their count.
-fn fill_values(
-    first: &Slot,
-    second: &Slot,
+fn fill_values<S: ReadSlot>(
+    first: &S,
+    second: &S,
     assignment: &Assignment,
     out: &mut [i16; MOST_VALUES],
 ) -> usize
-    requires first { first.now.number ≡ 10 }
-    requires second { second.now.number ≡ 11 }
-    requires cell { second.now.identity ≡ first.now.identity }
-    ensures count { result ≡ 2 * (block_places_of false assignment.now.cfi * assignment.now.blocks) }
-    ensures values { take result out.new
-        ≡ shared_values first.now second.now assignment.now.cfi assignment.now.start assignment.now.blocks }
+    ensures count { result
+        ≡ 2 * (block_places_of (has_second_port S.carrier) assignment.now.cfi * assignment.now.blocks) }
+    ensures values { take result out.new ≡ shared_values_by S.carrier S.values_by
+        (S.seen_as first.now) (S.seen_as second.now) assignment.now.cfi assignment.now.start assignment.now.blocks }
     ensures sizes { AllWithin 127 (take result out.new) }
     ensures rest { drop result out.new ≡ drop result out.old }
 {
-    let places = shared_count(false, assignment);
-    let count = 2 * places;
-    for i in 0..places {
-        let place = shared_place(false, first.id(), assignment, i);
-        fill_place(first, second, place, &mut out[2 * i..2 * i + 2]);
+    let mut places = [Place { symbol: 0, k: 0 }; MOST_VALUES / 2];
+    let two = S::carrier().ports() >= 2;
+    let count = fill_places(two, first.cell(), assignment, &mut places);
+    fill_shared(first, second, &places[..count], &mut out[..2 * count]);
+    2 * count
+}
+
+// Writes the places of the assigned blocks to the front of `places`, and gives their count.
+fn fill_places(
+    two: bool,
+    id: CellId,
+    assignment: &Assignment,
+    places: &mut [Place; MOST_VALUES / 2],
+) -> usize
+    ensures count { result ≡ block_places_of two assignment.now.cfi * assignment.now.blocks }
+    ensures few { result ≤ 612 }
+    ensures even { result % 2 ≡ 0 }
+    ensures places { take result places.new
+        ≡ shared_places_of two id assignment.now.cfi assignment.now.start assignment.now.blocks }
+{
+    let count = shared_count(two, assignment);
+    for i in 0..count {
+        places[i] = shared_place(two, id, assignment, i);
     }
-    let c_init = pdsch_c_init(first.id(), first.number(), SI_RNTI);
-    descramble(c_init, 0, &mut out[..count]);
     count
 }
 
-// Writes both values of a place.
-fn fill_place(first: &Slot, second: &Slot, place: Place, pair: &mut [i16])
-    requires symbol { place.symbol < 14 }
-    requires k { place.k < 72 }
-    requires room { length pair.old ≡ 2 }
-    ensures { pair.new ≡ values_at (slot_with first.now second.now place.symbol) place }
+// Writes the values of places of the shared channel, by the bits before scrambling.
+fn fill_shared<S: ReadSlot>(first: &S, second: &S, places: &[Place], values: &mut [i16])
+    requires few { length places.now ≤ 612 }
+    requires inside { All (λ p. (p.symbol < 14) × (p.k < 72)) places.now }
+    requires even { length places.now % 2 ≡ 0 }
+    requires room { length values.old ≡ 2 * length places.now }
+    ensures values { values.new ≡ descrambled
+        (pdsch_seed (S.seen_as first.now).identity (S.seen_as first.now).number system_information_rnti) 0
+        (S.values_by (in_subframe (S.seen_as first.now) (S.seen_as second.now)) places.now) }
+    ensures sizes { AllWithin 127 values.new }
+    ensures size { length values.new ≡ 2 * length places.now }
 {
-    fill_soft(slot_of(first, second, place.symbol), &[place], pair);
-}
-
-// The slot that has a symbol of the subframe.
-fn slot_of<'a>(first: &'a Slot, second: &'a Slot, symbol: u8) -> &'a Slot
-    ensures { result.now ≡ slot_with first.now second.now symbol }
-{
-    if symbol < 7 { first } else { second }
+    first.fill(second, places, values);
+    let c_init = pdsch_c_init(first.cell(), first.slot_number(), SI_RNTI);
+    descramble(c_init, 0, values);
 }

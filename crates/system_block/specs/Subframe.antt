@@ -4,10 +4,13 @@ use Rattle.std.specs.Prelude.{ℕ, List, ℤ}
 use Rattle.lte_types.specs.declared.duration.Duration.{Duration}
 use Rattle.lte_types.specs.declared.resource.Resource.{Resource}
 use Rattle.grid_map.specs.Control.{element_count}
+use Rattle.lte_types.specs.declared.carrier.Carrier.{Carrier}
+use Rattle.lte_types.specs.declared.carrier.Carrier.TheVariants.{OnePort}
 use Rattle.soft_bits.specs.Soft.{SeenSlot}
-use Rattle.pcfich.specs.Values.{indicator_values}
-use Rattle.pdcch.specs.Candidate.{candidate_values}
-use Rattle.pdsch.specs.Values.{shared_values}
+use Rattle.soft_bits.specs.Places.{Valuing, placed_values}
+use Rattle.pcfich.specs.Values.{indicator_values_by}
+use Rattle.pdcch.specs.Candidate.{candidate_values_by}
+use Rattle.pdsch.specs.Values.{shared_values_by}
 
 pub record Subframe : Type 0 where
   -- the 32 values of the control format indicator
@@ -19,11 +22,16 @@ pub record Subframe : Type 0 where
   -- those of the shared channel, by indicator, first block and count of blocks
   pub shared : ℕ → ℕ → ℕ → List ℤ
 
--- with one antenna port, of which both slots were seen, and PHICH by the master block
-abbrev pub one_port : SeenSlot → SeenSlot → Duration → Resource → Subframe
-one_port first second duration resource = record {
-  indicator = indicator_values first;
+-- of which both slots were seen, where the cell sends so, by a way to make soft values, and PHICH by the
+-- master block
+abbrev pub subframe_by : Carrier → Valuing → SeenSlot → SeenSlot → Duration → Resource → Subframe
+subframe_by carrier values first second duration resource = record {
+  indicator = indicator_values_by values first;
   elements = λ indicator. element_count indicator duration resource;
-  candidate = λ indicator. candidate_values first indicator duration resource;
-  shared = shared_values first second;
+  candidate = λ indicator. candidate_values_by values first indicator duration resource;
+  shared = shared_values_by carrier values first second;
 }
+
+-- with one antenna port
+abbrev pub one_port : SeenSlot → SeenSlot → Duration → Resource → Subframe
+one_port = subframe_by OnePort placed_values

@@ -8,31 +8,32 @@ ghost use Rattle.dci.specs.Format1A.{IsGrant};
 ghost use Rattle.turbo_code.specs.Table.{IsRow};
 ghost use Rattle.turbo_code.specs.Reading.{summed};
 ghost use Rattle.turbo_dec.specs.Decoder.{IsSmall};
-ghost use Rattle.pdsch.specs.Values.{shared_values};
+ghost use Rattle.pdsch.specs.Values.{shared_values_by};
 ghost use Rattle.system_block.specs.Block.{IsBlock, Tells};
 
 use dci::Grant;
 use lte_types::{Cfi, Sib1, Sib1Reason};
 use pdsch::MOST_VALUES;
-use soft_bits::Slot;
+use soft_bits::ReadSlot;
 use turbo_code::{Combined, Row, combine, row_of};
 use turbo_dec::{Block, Work, decode};
 
 /// The fields that the blocks of a grant tell, as `fields_of` gives them. `first` and `second` are slots 10
 /// and 11 of one cell, `cfi` is 2 or 3, and the grant is one that `dci::read` can answer.
-pub(crate) fn fields_in(
-    first: &Slot,
-    second: &Slot,
+pub(crate) fn fields_in<S: ReadSlot>(
+    first: &S,
+    second: &S,
     cfi: Cfi,
     grant: &Grant,
     turbo: &mut Work,
 ) -> Result<Sib1, Sib1Reason>
-    requires first { first.now.number ≡ 10 }
-    requires second { second.now.number ≡ 11 }
-    requires cell { second.now.identity ≡ first.now.identity }
+    requires first { (S.seen_as first.now).number ≡ 10 }
+    requires second { (S.seen_as second.now).number ≡ 11 }
+    requires cell { (S.seen_as second.now).identity ≡ (S.seen_as first.now).identity }
     requires cfi { 2 ≤ cfi }
     requires grant { IsGrant grant.now }
-    ensures answer { Tells (shared_values first.now second.now cfi grant.now.start grant.now.blocks) grant.now result }
+    ensures answer { Tells (shared_values_by S.carrier S.values_by (S.seen_as first.now) (S.seen_as second.now)
+        cfi grant.now.start grant.now.blocks) grant.now result }
     ensures valid { IfOk result IsValid }
 {
     let mut values = [0; MOST_VALUES];

@@ -6,7 +6,7 @@ ghost use Rattle.grid_map.specs.Control.{element_count};
 ghost use Rattle.cs_bits.specs.Checks.{HasCheck16, message_of};
 ghost use Rattle.conv_code.specs.Reading.{summed};
 ghost use Rattle.dci.specs.Format1A.{IsGrant};
-ghost use Rattle.pdcch.specs.Candidate.{candidate_values};
+ghost use Rattle.pdcch.specs.Candidate.{candidate_values_by};
 ghost use Rattle.dci.specs.Fields.{system_information_rnti};
 ghost use Rattle.system_block.specs.Control.{Grants};
 
@@ -15,7 +15,7 @@ use cs_bits::{Bits, crc16, number_of};
 use dci::{Grant, SI_RNTI};
 use lte_types::{Cfi, Mib, Sib1Reason};
 use pdcch::{candidate, elements};
-use soft_bits::Slot;
+use soft_bits::ReadSlot;
 use tailbite::{Trellis, least};
 
 // How many bits the control information has before its check.
@@ -23,16 +23,21 @@ const INFORMATION: usize = 21;
 
 /// The grant of subframe 5, or the first reason that applies why there is none: too few control channel
 /// elements, no word that passes its check, or one of those that `dci::read` gives. `first` is slot 10.
-pub fn granted(first: &Slot, cfi: Cfi, mib: Mib, trellis: &mut Trellis) -> Result<Grant, Sib1Reason>
-    requires { first.now.number ≡ 10 }
+pub fn granted<S: ReadSlot>(
+    first: &S,
+    cfi: Cfi,
+    mib: Mib,
+    trellis: &mut Trellis,
+) -> Result<Grant, Sib1Reason>
+    requires { (S.seen_as first.now).number ≡ 10 }
     ensures answer { Grants (element_count cfi mib.duration mib.resource)
-        (candidate_values first.now cfi mib.duration mib.resource) result }
+        (candidate_values_by S.values_by (S.seen_as first.now) cfi mib.duration mib.resource) result }
     ensures grant { IfOk result IsGrant }
     ensures wide { IfOk result (λ grant. 2 ≤ cfi) }
 {
     match candidate(first, cfi, mib) {
         Some(values) => grant_of(&values, trellis),
-        None => Err(Sib1Reason::NoSearchSpace(elements(first.id(), cfi, mib))),
+        None => Err(Sib1Reason::NoSearchSpace(elements(first.cell(), cfi, mib))),
     }
 }
 

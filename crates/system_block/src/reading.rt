@@ -3,7 +3,7 @@
 ghost use Rattle.std.specs.Prelude.{◌≡◌, IfOk, IfSome};
 ghost use Rattle.lte_types.specs.Ranges.{IsValid};
 ghost use Rattle.dci.specs.Format1A.{IsGrant};
-ghost use Rattle.system_block.specs.Subframe.{one_port};
+ghost use Rattle.system_block.specs.Subframe.{subframe_by};
 ghost use Rattle.system_block.specs.Attempt.{IsAttempt, Reads, granted_by};
 
 use crate::Decoders;
@@ -12,7 +12,7 @@ use crate::control::granted;
 use dci::Grant;
 use lte_types::{Cfi, Mib, Sib1, Sib1Reason};
 use pcfich::cfi;
-use soft_bits::Slot;
+use soft_bits::ReadSlot;
 
 /// One attempt to read SystemInformationBlockType1: what was read on the way, and the answer. (own)
 #[derive(Drop)]
@@ -47,13 +47,14 @@ impl Attempt {
 /// - `NotDecoded`, where no transport block passes its check;
 /// - `NotSib1` or `BadFields`, as `sib1::read` gives them.
 ///
-/// `first` and `second` are slots 10 and 11 of one cell with one antenna port, and `mib` is its master
+/// `first` and `second` are slots 10 and 11 of one cell, and `mib` is its master
 /// block, of which only the duration and the resource of the PHICH are looked at.
-pub fn attempt_in(first: &Slot, second: &Slot, mib: Mib, work: &mut Decoders) -> Attempt
-    requires first { first.now.number ≡ 10 }
-    requires second { second.now.number ≡ 11 }
-    requires cell { second.now.identity ≡ first.now.identity }
-    ensures attempt { IsAttempt (one_port first.now second.now mib.duration mib.resource) result }
+pub fn attempt_in<S: ReadSlot>(first: &S, second: &S, mib: Mib, work: &mut Decoders) -> Attempt
+    requires first { (S.seen_as first.now).number ≡ 10 }
+    requires second { (S.seen_as second.now).number ≡ 11 }
+    requires cell { (S.seen_as second.now).identity ≡ (S.seen_as first.now).identity }
+    ensures attempt { IsAttempt (subframe_by S.carrier S.values_by
+        (S.seen_as first.now) (S.seen_as second.now) mib.duration mib.resource) result }
     ensures grant { IfSome result.grant IsGrant }
     ensures valid { IfOk result.answer IsValid }
 {
@@ -73,11 +74,17 @@ pub fn attempt_in(first: &Slot, second: &Slot, mib: Mib, work: &mut Decoders) ->
 }
 
 /// The answer of the attempt on subframe 5 of a frame, as `attempt_in` gives it.
-pub fn read(first: &Slot, second: &Slot, mib: Mib, work: &mut Decoders) -> Result<Sib1, Sib1Reason>
-    requires first { first.now.number ≡ 10 }
-    requires second { second.now.number ≡ 11 }
-    requires cell { second.now.identity ≡ first.now.identity }
-    ensures answer { Reads (one_port first.now second.now mib.duration mib.resource) result }
+pub fn read<S: ReadSlot>(
+    first: &S,
+    second: &S,
+    mib: Mib,
+    work: &mut Decoders,
+) -> Result<Sib1, Sib1Reason>
+    requires first { (S.seen_as first.now).number ≡ 10 }
+    requires second { (S.seen_as second.now).number ≡ 11 }
+    requires cell { (S.seen_as second.now).identity ≡ (S.seen_as first.now).identity }
+    ensures answer { Reads (subframe_by S.carrier S.values_by
+        (S.seen_as first.now) (S.seen_as second.now) mib.duration mib.resource) result }
     ensures valid { IfOk result IsValid }
 {
     attempt_in(first, second, mib, work).answer
