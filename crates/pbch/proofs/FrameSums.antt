@@ -1,22 +1,25 @@
 -- The values of frames and their sums.
-use Rattle.std.proofs.Common.{◌≡◌, ℕ, ◌*◌, ◌/◌, ◌%◌, ◌<◌, ◌≤◌, ◌∙◌, List, [], ◌∷◌, length, get_or, take, ℤ, pos, nat_abs, refl, ap, sym, arith}
-use Rattle.std.specs.Prelude.{map}
+use Rattle.std.proofs.Common.{◌≡◌, ℕ, ◌+◌, ◌*◌, ◌%◌, ◌<◌, ◌≤◌, ◌∙◌, List, [], ◌∷◌, length, get_or, ℤ, pos, nat_abs, refl, ap, arith}
+use Rattle.std.specs.Prelude.{map, All}
 use Rattle.std.specs.List.{flat_map}
-use Rattle.std.proofs.lemmas.List.{ext_get_or, get_or-take, length-take-le, length-map, get_or-map}
+use Rattle.std.proofs.lemmas.List.{length-append}
 use Rattle.std.proofs.lemmas.List.Folds.{flat_map-map}
-use Rattle.std.proofs.lemmas.List.Elements.{All-from_get_or, All-get_or}
+use Rattle.std.proofs.lemmas.List.Elements.{All-nil, All-head, All-tail, All-append}
 use Rattle.finite.specs.Sizes.{AllWithin, RowsWithin}
-use Rattle.finite.proofs.Pieces.{HaveSize, length-pieces, get_or-pieces}
-use Rattle.finite.proofs.Lists.{front_is, values_below_is}
+use Rattle.finite.specs.Lists.{values_below}
+use Rattle.finite.proofs.Lists.{values_below-All}
 use Rattle.grid_map.specs.Broadcast.{pbch_places}
 use Rattle.grid_map.specs.Scrambling.{pbch_c_init}
 use Rattle.grid_map.proofs.Points.{length-pbch_places}
 use Rattle.soft_bits.specs.Soft.{SeenSlot}
 use Rattle.soft_bits.specs.Places.{descrambled}
-use Rattle.soft_bits.proofs.Channel.{length-soft_values_of, soft_values_of-small, length-descrambled, descrambled-small}
-use Rattle.pbch.specs.Values.{received_values, summed_values, identity_of, coded_values}
-use Rattle.conv_code.proofs.Sizes.{sizes_of_sums}
-use Rattle.conv_code.proofs.Sums.{length-summed, length-summed_row}
+use Rattle.soft_bits.proofs.Channel.{length-placed, placed-small, length-descrambled, descrambled-small}
+use Rattle.sub_block.specs.Items.{summed_at}
+use Rattle.sub_block.proofs.Rounds.{GoesRound, summed_at-small}
+use Rattle.conv_code.specs.Reading.{item_of, summed_by}
+use Rattle.conv_code.proofs.Items.{permuting}
+use Rattle.conv_code.proofs.Sums.{length-summed_by, length-summed_by_row}
+use Rattle.pbch.specs.Values.{received_values, summed_values, identity_of}
 
 -- what is not read
 abbrev pub no_slot : SeenSlot
@@ -29,85 +32,75 @@ first_identity (slot ∷ slots) = refl
 -- ---- a frame
 
 pub length-received_values : (slot : SeenSlot) → length (received_values slot) ≡ 480
-length-received_values slot = length-soft_values_of slot (pbch_places slot.identity) ∙ ap (λ n. 2 * n) (length-pbch_places slot.identity)
+length-received_values slot = length-placed (λ p. slot) (pbch_places slot.identity) ∙ ap (λ n. 2 * n) (length-pbch_places slot.identity)
 
 pub received_values-small : (slot : SeenSlot) → AllWithin 127 (received_values slot)
-received_values-small slot = soft_values_of-small slot (pbch_places slot.identity)
+received_values-small slot = placed-small (λ p. slot) (pbch_places slot.identity)
 
 -- ---- frames, one after the other
 
-of_slots : (slots : List SeenSlot) → HaveSize 480 received_values slots
-of_slots slots k d inside = length-received_values (get_or slots k d)
+-- the frames of slots, one after the other
+pub frames_of_slots : (slots : List SeenSlot) (frames : List (List ℤ)) → frames ≡ map received_values slots →
+    flat_map (λ frame. frame) frames ≡ flat_map received_values slots
+frames_of_slots slots frames are = ap (flat_map (λ frame. frame)) are ∙ flat_map-map (λ frame. frame) received_values slots
 
-pub length-received : (slots : List SeenSlot) → length (flat_map received_values slots) ≡ length slots * 480
-length-received slots = length-pieces 480 received_values slots (of_slots slots)
+-- frames of at most 480 values have no more together
+pub count_in_frames : (frames : List (List ℤ)) → All (λ (frame : List ℤ). length frame ≤ 480) frames → length (flat_map (λ frame. frame) frames) ≤ 480 * length frames
+count_in_frames [] each = omega arith
+count_in_frames (frame ∷ frames) each =
+    let first = All-head (λ (frame : List ℤ). length frame ≤ 480) frame frames each in
+    let rest = count_in_frames frames (All-tail (λ (frame : List ℤ). length frame ≤ 480) frame frames each) in
+    let both = length-append frame (flat_map (λ frame. frame) frames) in
+    omega (arith, first, rest, both)
 
-pub received-small : (slots : List SeenSlot) → AllWithin 127 (flat_map received_values slots)
-received-small slots = All-from_get_or (λ z. nat_abs z ≤ 127) (flat_map received_values slots) (pos 0) each
+-- and values of small ones are small
+pub small_in_frames : (frames : List (List ℤ)) → RowsWithin 127 frames → AllWithin 127 (flat_map (λ frame. frame) frames)
+small_in_frames [] each = All-nil (λ z. nat_abs z ≤ 127)
+small_in_frames (frame ∷ frames) each =
+    All-append (λ z. nat_abs z ≤ 127) frame (flat_map (λ frame. frame) frames) (All-head (AllWithin 127) frame frames each)
+    (small_in_frames frames (All-tail (AllWithin 127) frame frames each))
+
+-- ---- the reading of 40 bits, from any bit on
+
+-- an item is that of the rest by 120
+same_rest : (i j : ℕ) → i % 120 ≡ j % 120 → item_of 40 i ≡ item_of 40 j
+unfolding item_of
+same_rest i j e = rw e refl
+
+-- it goes round
+goes_round_from : (first : ℕ) → GoesRound 120 (λ i. item_of 40 (first + i))
+goes_round_from first = record { again = again; once = once }
   where
-    each : (k : ℕ) → k < length (flat_map received_values slots) → nat_abs (get_or (flat_map received_values slots) k (pos 0)) ≤ 127
-    each k below =
-        let size = length-received slots in
-        let slot = get_or slots (k / 480) no_slot in
-        let many = length-received_values slot in
-        rw (get_or-pieces 480 received_values slots k no_slot (pos 0) (omega arith) (of_slots slots) (omega (arith, size, below)))
-        (All-get_or (λ z. nat_abs z ≤ 127) (received_values slot) (k % 480) (pos 0) (omega (arith, many)) (received_values-small slot))
+    again : (q i : ℕ) → i < 120 → item_of 40 (first + (q * 120 + i)) ≡ item_of 40 (first + i)
+    again q i below = same_rest (first + (q * 120 + i)) (first + i) (omega arith)
 
--- rows that hold those of slots are the same
-pub rows_of_slots : (slots : List SeenSlot) (rows : List (List ℤ)) → length slots ≤ length rows →
-    ((k : ℕ) → k < length slots → get_or rows k [] ≡ received_values (get_or slots k no_slot)) →
-    flat_map (λ row. row) (take (length slots) rows) ≡ flat_map received_values slots
-rows_of_slots slots rows long each =
-    let at : ℕ → List ℤ = λ k. received_values (get_or slots k no_slot) in
-    let front : take (length slots) rows ≡ map received_values slots =
-    front_is [] (length slots) at rows long each
-    ∙ sym (values_below_is [] (length slots) at (map received_values slots) (length-map slots received_values) (λ k below. get_or-map received_values slots k no_slot [] below)) in
-    ap (flat_map (λ row. row)) front ∙ flat_map-map (λ row. row) received_values slots
-
--- values that hold rows of 480, one after the other
-pub rows_joined : (rows : List (List ℤ)) (values : List ℤ) → HaveSize 480 (λ row. row) rows → 480 * length rows ≤ length values →
-    ((k : ℕ) → k < 480 * length rows → get_or values k (pos 0) ≡ get_or (get_or rows (k / 480) []) (k % 480) (pos 0)) →
-    take (480 * length rows) values ≡ flat_map (λ row. row) rows
-rows_joined rows values whole long each =
-    ext_get_or (pos 0) (take count values) (flat_map (λ row. row) rows) (few ∙ sym many)
-    (λ k below. let inside : k < count = omega (arith, few, below) in
-    get_or-take count values k (pos 0) inside ∙ each k inside
-    ∙ sym (get_or-pieces 480 (λ row. row) rows k [] (pos 0) (omega arith) whole (omega (arith, inside))))
-  where
-    count : ℕ
-    count = 480 * length rows
-
-    few : length (take count values) ≡ count
-    few = length-take-le count values long
-
-    many : length (flat_map (λ row. row) rows) ≡ count
-    many = let size = length-pieces 480 (λ row. row) rows whole in omega (arith, size)
+    once : (i j : ℕ) → i < 120 → j < 120 → item_of 40 (first + i) ≡ item_of 40 (first + j) → i ≡ j
+    once i j hi hj e =
+        let a : ℕ = (first + i) % 120 in
+        let b : ℕ = (first + j) % 120 in
+        let here : item_of 40 a ≡ item_of 40 b = same_rest a (first + i) (omega arith) ∙ e ∙ same_rest (first + j) b (omega arith) in
+        let same : a ≡ b = (permuting 40 (omega arith) (omega arith)).reads.once a b (omega arith) (omega arith) here in
+        omega (arith, same, hi, hj)
 
 -- ---- sums
 
-pub length-summed_values : (identity phase : ℕ) (received : List ℤ) → length (summed_values identity phase received) ≡ 40
+pub length-summed_values : (identity first : ℕ) (received : List ℤ) → length (summed_values identity first received) ≡ 40
 unfolding summed_values
-length-summed_values identity phase received = length-summed 40 (descrambled (pbch_c_init identity) (480 * phase) received)
+length-summed_values identity first received =
+    length-summed_by (λ i. item_of 40 (first + i)) 40 (descrambled (pbch_c_init identity) first received)
 
 -- of four frames each sum has size at most 2,032
-pub summed_values-small : (identity phase : ℕ) (received : List ℤ) → AllWithin 127 received → length received ≤ 1920 → RowsWithin 2032 (summed_values identity phase received)
+pub summed_values-small : (identity first : ℕ) (received : List ℤ) → AllWithin 127 received → length received ≤ 1920 → RowsWithin 2032 (summed_values identity first received)
+unfolding summed_values summed_by
+summed_values-small identity first received small few =
+    let values = descrambled (pbch_c_init identity) first received in
+    let many = length-descrambled (pbch_c_init identity) first received in
+    let sum : ℕ → ℕ → ℤ = λ p t. summed_at (λ i. item_of 40 (first + i)) values (length values) t p in
+    values_below-All (AllWithin 2032) 40 (λ p. values_below 3 (sum p)) []
+    (λ p _. values_below-All (λ sum. nat_abs sum ≤ 2032) 3 (sum p) (pos 0) (λ t _. summed_at-small 120 (λ i. item_of 40 (first + i)) values 127 16 (goes_round_from first)
+    (descrambled-small 127 (pbch_c_init identity) first received small) (omega (arith, many, few)) t p))
+
+pub length-summed_values_row : (identity first : ℕ) (received : List ℤ) (k : ℕ) (d : List ℤ) → k < 40 → length (get_or (summed_values identity first received) k d) ≡ 3
 unfolding summed_values
-summed_values-small identity phase received small few =
-    let size = length-descrambled (pbch_c_init identity) (480 * phase) received in
-    sizes_of_sums 40 (descrambled (pbch_c_init identity) (480 * phase) received) 127 16 (omega arith) (omega arith)
-    (descrambled-small 127 (pbch_c_init identity) (480 * phase) received small) (omega (arith, size, few))
-
-pub length-coded_values : (slots : List SeenSlot) (phase : ℕ) → length (coded_values slots phase) ≡ 40
-unfolding coded_values
-length-coded_values slots phase = length-summed_values (identity_of slots) phase (flat_map received_values slots)
-
-pub length-coded_row : (slots : List SeenSlot) (phase k : ℕ) (d : List ℤ) → k < 40 → length (get_or (coded_values slots phase) k d) ≡ 3
-unfolding coded_values summed_values
-length-coded_row slots phase k d below =
-    length-summed_row 40 (descrambled (pbch_c_init (identity_of slots)) (480 * phase) (flat_map received_values slots)) k d below
-
-pub coded_values-small : (slots : List SeenSlot) (phase : ℕ) → length slots ≤ 4 → RowsWithin 2032 (coded_values slots phase)
-unfolding coded_values
-coded_values-small slots phase few =
-    let size = length-received slots in
-    summed_values-small (identity_of slots) phase (flat_map received_values slots) (received-small slots) (omega (arith, size, few))
+length-summed_values_row identity first received k d below =
+    length-summed_by_row (λ i. item_of 40 (first + i)) 40 (descrambled (pbch_c_init identity) first received) k d below

@@ -68,17 +68,18 @@ master_at masters phase = slice_index_or masters phase None
 abbrev pub sums_at : List (List (List ℤ)) → ℕ → List (List ℤ)
 sums_at sums phase = slice_index_or sums phase []
 
--- it is what so many frames of a cell tell by what was received, where the first has that phase; none where not all of
--- them are in one period of four
-pub record IsTold (identity count : ℕ) (received : List ℤ) (masters : List (Option Master)) (phase : ℕ) : Type 0 where
+-- it is what so many frames of a cell tell by what was received, where the first has that phase and each has `size` bits
+-- of the period; none where not all of them are in one period of four
+pub record IsTold (identity size count : ℕ) (received : List ℤ) (masters : List (Option Master)) (phase : ℕ) : Type 0 where
   pub told : phase + count ≤ 4 →
-      let values = summed_values identity phase received in MatchOption (master_at masters phase) (TellsNothing values) (TellsMaster values)
+      let values = summed_values identity (size * phase) received in
+      MatchOption (master_at masters phase) (TellsNothing values) (TellsMaster values)
   pub beyond : 4 < phase + count → master_at masters phase ≡ None
 
 -- these are the master blocks that so many frames of a cell tell, by phase
-pub record AreMasters (identity count : ℕ) (received : List ℤ) (masters : List (Option Master)) : Type 0 where
+pub record AreMasters (identity size count : ℕ) (received : List ℤ) (masters : List (Option Master)) : Type 0 where
   pub phases : length masters ≡ 4
-  pub first : IsTold identity count received masters 0
-  pub second : IsTold identity count received masters 1
-  pub third : IsTold identity count received masters 2
-  pub fourth : IsTold identity count received masters 3
+  pub first : IsTold identity size count received masters 0
+  pub second : IsTold identity size count received masters 1
+  pub third : IsTold identity size count received masters 2
+  pub fourth : IsTold identity size count received masters 3

@@ -1,14 +1,17 @@
 //! The soft values of the broadcast channel.
 
-ghost use Rattle.std.specs.Prelude.{◌≡◌, ℕ, ◌+◌, ◌*◌, ◌<◌, ◌≤◌, All, length, take};
+ghost use Rattle.std.specs.Prelude.{◌≡◌, ℕ, ◌+◌, ◌*◌, ◌<◌, ◌≤◌, All, length};
 ghost use Rattle.std.specs.List.{flat_map};
 ghost use Rattle.finite.specs.Sizes.{AllWithin, RowsWithin};
-ghost use Rattle.pbch.specs.Values.{received_values, summed_values, identity_of, coded_values};
+ghost use Rattle.arrayvec.specs.ArrayVec.{array_vec_len};
+ghost use Rattle.pbch.specs.Values.{received_values_by, summed_values, identity_of, coded_values};
 
-use conv_code::combine;
+use crate::Received;
+use arrayvec::ArrayVec;
+use conv_code::combine_from;
 use grid_map::{pbch_c_init, pbch_places};
 use lte_types::CellId;
-use soft_bits::{Slot, descramble, fill_soft};
+use soft_bits::{ReadSlot, Slot, descramble, fill_slot};
 
 /// The values of the coded word of 40 bits: at each place and in each stream the sum of the soft values
 /// of all the frames that were sent for it, four of each frame. `slots` are slots 1 of 1 to 4 frames of
@@ -22,48 +25,49 @@ pub fn values(slots: &[Slot], phase: u8) -> [[i32; 3]; 40]
     ensures values { result ≡ coded_values slots.now phase }
     ensures sizes { RowsWithin 2032 result }
 {
-    let mut frames = [[0; 480]; 4];
-    for i in 0..slots.len() {
-        frames[i] = received(&slots[i]);
+    let mut frames = ArrayVec::<Received, 4>::new();
+    for slot in slots {
+        frames.push(received(slot));
     }
-    sums_of(slots[0].id(), phase, &frames[..slots.len()])
+    sums_of(slots[0].id(), 480 * phase as usize, frames.as_slice())
 }
 
-/// The 480 soft values of the broadcast channel in slot 1 of a frame, as they were received.
-pub fn received(slot: &Slot) -> [i16; 480]
-    ensures values { result ≡ received_values slot.now }
-    ensures sizes { AllWithin 127 result }
+/// The 480 soft values of the broadcast channel in slot 1 of a frame with the normal cyclic prefix, as they
+/// were received.
+pub fn received<S: ReadSlot>(slot: &S) -> Received
+    ensures values { result ≡ received_values_by S.values_by (S.seen_as slot.now) }
+    ensures count { length result ≡ 480 }
 {
-    let places = pbch_places(slot.id());
+    let places = pbch_places(slot.cell());
     let mut values = [0; 480];
-    fill_soft(slot, &places, &mut values);
-    values
+    fill_slot(slot, &places, &mut values);
+    Received::new(&values)
 }
 
-/// The values of the coded word of 40 bits, as `values` gives them, from what was received in each of
-/// the frames of the cell.
-pub fn sums_of(id: CellId, phase: u8, frames: &[[i16; 480]]) -> [[i32; 3]; 40]
-    requires period { phase + length frames.now ≤ 4 }
-    requires sizes { RowsWithin 127 frames.now }
-    ensures values { result ≡ summed_values id phase (flat_map (λ frame. frame) frames.now) }
+/// The values of the coded word of 40 bits, as `values` gives them, from what was received in frames of the
+/// cell that follow one another. `first` is the number of the first of their bits in the period of four
+/// frames, whose bits are 1,920, or 1,728 with the extended cyclic prefix (TS 36.211 section 6.6.1); it and
+/// 480 for each frame are together at most 1,920.
+pub fn sums_of(id: CellId, first: usize, frames: &[Received]) -> [[i32; 3]; 40]
+    requires period { first + 480 * length frames.now ≤ 1920 }
+    ensures values { result ≡ summed_values id first (flat_map (λ frame. frame) frames.now) }
     ensures sizes { RowsWithin 2032 result }
 {
-    let count = 480 * frames.len();
     let mut values = joined(frames);
-    descramble(pbch_c_init(id), 480 * phase as usize, &mut values[..count]);
-    combine(&values[..count])
+    descramble(pbch_c_init(id), first, values.as_mut_slice());
+    combine_from(first, values.as_slice())
 }
 
 // The values of frames, one frame after the other.
-fn joined(frames: &[[i16; 480]]) -> [i16; 1920]
-    requires few { length frames.now ≤ 4 }
-    requires sizes { RowsWithin 127 frames.now }
-    ensures values { take (480 * length frames.now) result ≡ flat_map (λ frame. frame) frames.now }
-    ensures sizes { AllWithin 127 result }
+fn joined(frames: &[Received]) -> ArrayVec<i16, 1920>
+    requires { length frames.now ≤ 4 }
+    ensures values { result.items ≡ flat_map (λ frame. frame) frames.now }
+    ensures count { array_vec_len result ≤ 480 * length frames.now }
+    ensures sizes { AllWithin 127 result.items }
 {
-    let mut values = [0; 1920];
-    for i in 0..480 * frames.len() {
-        values[i] = frames[i / 480][i % 480];
+    let mut values = ArrayVec::new();
+    for frame in frames {
+        let _fits = values.try_extend_from_slice(frame.slice());
     }
     values
 }

@@ -5,12 +5,14 @@
 mod block;
 mod broadcast;
 mod explain;
+mod frame;
 mod laws;
 mod master;
 mod word_sums;
 
 pub use broadcast::{received, sums_of, values};
 pub use explain::{ByPhase, explain_slots, master_of, masters, total_of};
+pub use frame::Received;
 pub use laws::at_most_one_master;
 pub use master::Master;
 pub use word_sums::Sums;

@@ -1,10 +1,11 @@
-use Rattle.std.proofs.Common.{◌≡◌, ℕ, ◌/◌, ◌%◌, ◌<◌, [], length, slice_index_or, pos}
+use Rattle.std.proofs.Common.{◌≡◌, ◌*◌, ◌≤◌, length, take}
+use Rattle.std.specs.List.{flat_map}
 use Rattle.finite.specs.Sizes.{AllWithin}
 use Rattle.pbch.proofs.broadcast.joined.Given as goal
 
-abbrev pub invariant-loop-i : goal.invariant-loop-i
-invariant-loop-i l = record {
-  whole : length l.values ≡ 1920;
-  each : (k : ℕ) → k < l.i → slice_index_or l.values k (pos 0) ≡ slice_index_or (slice_index_or l.frames (k / 480) []) (k % 480) (pos 0);
-  small : AllWithin 127 l.values;
+abbrev pub invariant-loop-frame : goal.invariant-loop-frame
+invariant-loop-frame l = record {
+  so_far : l.values.items ≡ flat_map (λ frame. frame) (take l.frame-index l.frames);
+  few : length l.values.items ≤ 480 * l.frame-index;
+  small : AllWithin 127 l.values.items;
 }

@@ -1,12 +1,10 @@
-use Rattle.std.proofs.Common.{◌≡◌, ℕ, ◌<◌, [], length, slice_index_or}
-use Rattle.finite.specs.Sizes.{RowsWithin}
+use Rattle.std.proofs.Common.{◌≡◌, length, take}
+use Rattle.std.specs.Prelude.{map}
 use Rattle.pbch.specs.Values.{received_values}
-use Rattle.pbch.proofs.FrameSums.{no_slot}
 use Rattle.pbch.proofs.broadcast.values.Given as goal
 
-abbrev pub invariant-loop-i : goal.invariant-loop-i
-invariant-loop-i l = record {
-  whole : length l.frames ≡ 4;
-  each : (k : ℕ) → k < l.i → slice_index_or l.frames k [] ≡ received_values (slice_index_or l.slots k no_slot);
-  small : RowsWithin 127 l.frames;
+abbrev pub invariant-loop-slot : goal.invariant-loop-slot
+invariant-loop-slot l = record {
+  so_far : l.frames.items ≡ map received_values (take l.slot-index l.slots);
+  count : length l.frames.items ≡ l.slot-index;
 }
