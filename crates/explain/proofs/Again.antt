@@ -8,9 +8,9 @@ use Rattle.cs_num.specs.declared.Sample.{Sample}
 use Rattle.lte_types.specs.declared.hit.Hit.{Hit}
 use Rattle.lte_types.specs.declared.entry.Entry.{Entry}
 use Rattle.lte_types.specs.CellPlace.{Place}
-use Rattle.explain.specs.Told.{Telling, Informing}
-use Rattle.explain.specs.Entries.{IsEntryAt, AreEntries, IsListOfHits, AddsHit}
-use Rattle.explain.specs.Reader.{AreEntriesBy}
+use Rattle.explain.specs.Receiver.{Receiver, place_by}
+use Rattle.explain.specs.System.{IsSystemFor}
+use Rattle.explain.specs.Entries.{IsMasterFor, IsEntryAt, AreEntries, AreEntriesFor, IsListOfHits, AddsHit}
 use Rattle.explain.specs.Places.{is_same_place, is_met}
 use Rattle.explain.proofs.Listed.{of_one_more, adds_again_of}
 
@@ -35,10 +35,13 @@ AreMet place_of hits places = (place : Place) → Contains places place → (hit
 
 -- ---- hit after hit
 
--- by a way to read cells
-module _ (Tells : Telling) (IsSystem : Informing) (recording : List Sample) (place_of : Hit → Place) where
+-- by a receiver
+module _ (receiver : Receiver) (recording : List Sample) where
   abbrev pub AreOf : Hit → List Entry → Type 0
-  AreOf = AreEntriesBy Tells IsSystem recording place_of
+  AreOf = AreEntriesFor receiver recording
+
+  abbrev place_of : Hit → Place
+  place_of = place_by receiver.carrier recording
 
   -- a hit with the place of one of them adds nothing to their list
   adds_met : (hits : List Hit) (list : List Entry) (met hit : Hit) → IsListOfHits AreOf hits list →
@@ -47,7 +50,7 @@ module _ (Tells : Telling) (IsSystem : Informing) (recording : List Sample) (pla
       let again = adds_again_of AreOf hits list met listed inside in
       record {
         entries = again.entries;
-        are = subst (λ (p : Place). AreEntries (IsEntryAt Tells IsSystem recording p) again.entries) same again.are;
+        are = subst (λ (p : Place). AreEntries (IsEntryAt (IsMasterFor receiver recording) (IsSystemFor receiver recording) recording p) again.entries) same again.are;
         adds = again.adds;
       }
 

@@ -1,5 +1,5 @@
 -- How the entries of a list were read, in a list beside it.
-use Rattle.std.proofs.Common.{◌≡◌, ◌≢◌, inl, inr, ℕ, ◌+◌, ◌<◌, Bool, true, false, ◌||◌, List, [], ◌∷◌, ◌++◌, Option, Some, arith, refl, ap, ap₂, sym, subst, ◌∙◌}
+use Rattle.std.proofs.Common.{◌≡◌, inl, inr, ℕ, ◌+◌, ◌<◌, Bool, true, false, ◌||◌, List, [], ◌∷◌, ◌++◌, Some, arith, refl, ap, ap₂, sym, subst, ◌∙◌}
 use Rattle.std.specs.Prelude.{ℤ, slice_get}
 use Rattle.std.specs.List.{AllZip, insert}
 use Rattle.std.proofs.lemmas.Bool.{cases_lt, false≢true}
@@ -12,7 +12,6 @@ use Rattle.lte_types.specs.declared.mib.Mib.{Mib}
 use Rattle.lte_types.specs.declared.entry.Entry.{Entry}
 use Rattle.lte_types.specs.CellPlace.{Place}
 use Rattle.lte_types.specs.Frames.{Frames}
-use Rattle.dci.specs.declared.grant.Grant.{Grant}
 use Rattle.pbch.specs.declared.master.Master.{Master}
 use Rattle.explain.specs.declared.readings.Reading.{Reading}
 use Rattle.explain.specs.Told.{Granting}

@@ -1,7 +1,7 @@
 -- Two recordings that agree in their first 17 frames tell the same hits, identities and slots, and so the same list.
-use Rattle.std.proofs.Common.{◌≡◌, ℕ, suc, ◌+◌, ◌*◌, ◌<◌, ◌≤◌, Result, Ok, Err, List, [], ◌∷◌, length, arith, ap, sym, subst, ◌∙◌}
+use Rattle.std.proofs.Common.{◌≡◌, ℕ, suc, ◌+◌, ◌*◌, ◌<◌, ◌≤◌, Result, Ok, Err, List, [], ◌∷◌, ℤ, length, arith, ap, sym, subst, ◌∙◌}
 use Rattle.std.specs.Prelude.{All}
-use Rattle.std.specs.List.{AllZip}
+use Rattle.std.specs.List.{AllZip, flat_map}
 use Rattle.finite.proofs.Lists.{values_below_same}
 use Rattle.cs_num.specs.declared.Cpx.{Cpx}
 use Rattle.cs_num.specs.declared.Sample.{Sample}
@@ -24,9 +24,15 @@ use Rattle.observe.proofs.Agree.{symbol_agrees}
 use Rattle.sss_detect.specs.Identity.{identity_of}
 use Rattle.sss_detect.specs.Place.{start_of}
 use Rattle.sss_detect.proofs.Agree.{identity_agrees}
-use Rattle.pbch.specs.Master.{IsMaster}
-use Rattle.explain.specs.Frame.{frame_at, seen_slot, broadcast_slot, broadcast_slots}
-use Rattle.explain.specs.Entries.{IsEntryOf, AreEntriesOf, start_at, place_of, master_of}
+use Rattle.soft_bits.specs.Places.{placed_values}
+use Rattle.pbch.specs.declared.master.Master.{Master}
+use Rattle.pbch.specs.Values.{received_values, summed_values}
+use Rattle.pbch.specs.Master.{TellsMaster}
+use Rattle.lte_types.specs.Frames.{Frames, frames_from}
+use Rattle.lte_types.specs.declared.carrier.Carrier.TheVariants.{OnePort}
+use Rattle.explain.specs.Frame.{frame_at, seen_slot, broadcast_slot}
+use Rattle.explain.specs.Receiver.{Subframes, subframes_by, one_port_receiver}
+use Rattle.explain.specs.Entries.{IsEntryOf, IsMasterAt, AreEntriesFor, sums_of, start_at, place_of, frames_of, master_of}
 use Rattle.explain.specs.System.{even_frame, IsTried, IsReadFrom, FrameAnswers, IsSystemOf}
 use Rattle.explain.specs.Deciding.{deciding_length, FirstFramesDecide}
 
@@ -48,8 +54,11 @@ deciding_slot start j number identity a b agree early few known =
 
 -- ---- system information
 
+abbrev subframes : Subframes
+subframes = subframes_by OnePort placed_values
+
 frame_agrees : (a b : List Sample) (place : Place) (mib : Mib) (j : ℕ) (answer : Result Sib1 Sib1Reason) → AgreeBefore deciding_length a b → place.start < frame_length → j ≤ 15 →
-    FrameAnswers a place mib j answer → FrameAnswers b place mib j answer
+    FrameAnswers subframes a place mib j answer → FrameAnswers subframes b place mib j answer
 frame_agrees a b place mib j answer agree early few reads =
     subst (λ s. Reads (one_port s (seen_slot b (frame_at place.start j) 11 place.id) mib.duration mib.resource) answer) (deciding_slot place.start j 10 place.id a b agree early few (omega arith))
     (subst (λ s. Reads (one_port (seen_slot a (frame_at place.start j) 10 place.id) s mib.duration mib.resource) answer) (deciding_slot place.start j 11 place.id a b agree early few (omega arith)) reads)
@@ -59,7 +68,7 @@ tried_frame : (recording : List Sample) (start sfn i : ℕ) → deciding_length 
 tried_frame recording start sfn i long early among = record { among = among; whole = omega (arith, long, early, among) }
 
 read_agrees : (a b : List Sample) (place : Place) (sfn : ℕ) (mib : Mib) (sib1 : Result Sib1 Sib1Reason) → AgreeBefore deciding_length a b → deciding_length ≤ length a → deciding_length ≤ length b →
-    place.start < frame_length → IsReadFrom (FrameAnswers a place mib) a place.start sfn sib1 → IsReadFrom (FrameAnswers b place mib) b place.start sfn sib1
+    place.start < frame_length → IsReadFrom (FrameAnswers subframes a place mib) a place.start sfn sib1 → IsReadFrom (FrameAnswers subframes b place mib) b place.start sfn sib1
 read_agrees a b place sfn mib (Ok fields) agree long_a long_b early read =
     let few = read.tried.among in
     record {
@@ -83,6 +92,21 @@ system_agrees a b place sfn ports mib (Err (OtherWidth told)) agree long_a long_
 system_agrees a b place sfn ports mib sib1 agree long_a long_b early s =
     record { as_wanted = s.as_wanted; six_blocks = s.six_blocks; read = read_agrees a b place sfn mib sib1 agree long_a long_b early s.read }
 
+-- ---- master blocks
+
+-- the sums of some of frames 0 to 7 are the same
+sums_agree : (a b : List Sample) (place : Place) (frames : Frames) → AgreeBefore deciding_length a b → place.start < frame_length → frames.first + frames.count ≤ 8 →
+    sums_of a place frames ≡ sums_of b place frames
+sums_agree a b place frames agree early few =
+    ap (λ (rows : List (List ℤ)). summed_values place.id (480 * frames.phase) (flat_map (λ row. row) rows))
+    (values_below_same frames.count (λ m. received_values (broadcast_slot a place.id place.start (frames.first + m))) (λ m. received_values (broadcast_slot b place.id place.start (frames.first + m)))
+    (λ m below. ap received_values (deciding_slot place.start (frames.first + m) 1 place.id a b agree early (omega (arith, few, below)) (omega arith))))
+
+master_agrees : (a b : List Sample) (place : Place) (frames : Frames) (master : Master) → AgreeBefore deciding_length a b → place.start < frame_length → frames.first + frames.count ≤ 8 →
+    IsMasterAt a place frames master → IsMasterAt b place frames master
+master_agrees a b place frames master agree early few m =
+    record { taken = m.taken; told = subst (λ (sums : List (List ℤ)). TellsMaster sums master) (sums_agree a b place frames agree early few) m.told }
+
 -- ---- the entries of a hit
 
 start_early : (recording : List Sample) (hit : Hit) → start_at recording hit < frame_length
@@ -100,10 +124,9 @@ entry_agrees a b hit entry agree long_a long_b span is = record {
     first = λ few i window before phase master period told.
         is.frames.first few i
         (record { some = window.some; few = window.few; known = window.known; whole = λ m below. let last = window.known in omega (arith, long_a, early, last, below) })
-        before phase master period
-        (subst (λ s. IsMaster s phase master) (sym (slots few i window.known)) told);
+        before phase master period (master_agrees b a (place_of entry) (frames_from few i phase) master (sym agree) early window.known told);
   };
-  master = subst (λ s. IsMaster s entry.phase (master_of entry)) (slots entry.frames entry.frame known) is.master;
+  master = master_agrees a b (place_of entry) (frames_of entry) (master_of entry) agree early known is.master;
   sfn = is.sfn;
   sib1 = system_agrees a b (place_of entry) entry.sfn entry.ports entry.mib entry.sib1 agree long_a long_b early is.sib1;
 }
@@ -117,13 +140,9 @@ entry_agrees a b hit entry agree long_a long_b span is = record {
     early : entry.start < frame_length
     early = subst (λ s. s < frame_length) (sym is.start) (start_early a hit)
 
-    slots : (count j : ℕ) → j + count ≤ 8 → broadcast_slots a entry.id entry.start count j ≡ broadcast_slots b entry.id entry.start count j
-    slots count j low = values_below_same count (λ m. broadcast_slot a entry.id entry.start (j + m)) (λ m. broadcast_slot b entry.id entry.start (j + m))
-        (λ m below. deciding_slot entry.start (j + m) 1 entry.id a b agree early (omega (arith, low, below)) (omega arith))
-
 -- the entries of a hit are the same
 entries_agree : (a b : List Sample) (hit : Hit) (entries : List Entry) → AgreeBefore deciding_length a b → deciding_length ≤ length a → deciding_length ≤ length b →
-    IsInSpan hit → AreEntriesOf a hit entries → AreEntriesOf b hit entries
+    IsInSpan hit → AreEntriesFor one_port_receiver a hit entries → AreEntriesFor one_port_receiver b hit entries
 entries_agree a b hit entries agree long_a long_b span are = record {
   given = λ entry. (
     (λ inside. entry_agrees a b hit entry agree long_a long_b span ((are.given entry).0 inside)),
@@ -135,7 +154,7 @@ entries_agree a b hit entries agree long_a long_b span are = record {
 -- ---- the list
 
 each_agrees : (a b : List Sample) (hits : List Hit) (groups : List (List Entry)) → AgreeBefore deciding_length a b → deciding_length ≤ length a → deciding_length ≤ length b →
-    All IsInSpan hits → AllZip (AreEntriesOf a) hits groups → AllZip (AreEntriesOf b) hits groups
+    All IsInSpan hits → AllZip (AreEntriesFor one_port_receiver a) hits groups → AllZip (AreEntriesFor one_port_receiver b) hits groups
 each_agrees a b [] [] agree long_a long_b span each = tt
 each_agrees a b [] (g ∷ gs) agree long_a long_b span each = each
 each_agrees a b (hit ∷ hits) [] agree long_a long_b span each = each
@@ -147,7 +166,7 @@ each_agrees a b (hit ∷ hits) (g ∷ gs) agree long_a long_b span each = (
 pub first_frames_decide : FirstFramesDecide
 first_frames_decide a b list long_a long_b agree explained = record {
   groups = explained.groups;
-  each = subst (λ hits. AllZip (AreEntriesOf b) hits explained.groups) (hits_agree deciding_length a b agree (omega arith))
+  each = subst (λ hits. AllZip (AreEntriesFor one_port_receiver b) hits explained.groups) (hits_agree deciding_length a b agree (omega arith))
       (each_agrees a b (hits_of a) explained.groups agree long_a long_b (listed_in_span a) explained.each);
   listed = explained.listed;
 }

@@ -12,17 +12,17 @@ use Rattle.lte_types.specs.CellPlace.{Place}
 use Rattle.lte_types.specs.declared.carrier.Carrier.TheVariants.{OnePort}
 use Rattle.dci.specs.declared.grant.Grant.{Grant}
 use Rattle.system_block.specs.declared.reading.Attempt.{Attempt}
-use Rattle.system_block.specs.Subframe.{Subframe, one_port}
-use Rattle.system_block.specs.Attempt.{IsAttempt, Reads, granted_with, granted_by}
+use Rattle.system_block.specs.Subframe.{Subframe}
+use Rattle.system_block.specs.Attempt.{IsAttempt, granted_with, granted_by}
 use Rattle.system_block.proofs.Once.{one_attempt}
 use Rattle.system_block.proofs.GrantRead.{has_read, none_read}
 use Rattle.explain.specs.Told.{Attempting, Answering}
-use Rattle.explain.specs.Reader.{AnswersOnce}
-use Rattle.explain.specs.Frame.{frame_at, seen_slot}
-use Rattle.explain.specs.System.{even_frame, IsTried, IsReadFrom, IsSystemOf}
+use Rattle.explain.proofs.Once.{AnswersOnce}
+use Rattle.explain.specs.Receiver.{Subframes, one_port_receiver}
+use Rattle.explain.specs.System.{even_frame, IsTried, IsReadFrom, FrameAnswers, IsSystemFor}
 use Rattle.pbch.specs.declared.master.Master.{Master}
 use Rattle.explain.specs.Entries.{place_of, master_of, IsInList}
-use Rattle.explain.specs.Grant.{AreAttempts, IsFrameAttempt, IsReadBy, IsGrantBy, IsGrantAt, IsGrantOf, IsOneGrant}
+use Rattle.explain.specs.Grant.{AreAttempts, IsFrameAttempt, IsReadBy, IsGrantBy, IsGrantWith, IsGrantFor, IsGrantOf, IsOneGrant}
 use Rattle.explain.proofs.Information.{no_more_fields, one_system}
 use Rattle.explain.proofs.Listed.{is_sound}
 
@@ -106,32 +106,23 @@ module _ (Attempts : Attempting) (Answers : Answering) (are : AreAttempts Attemp
       (λ fields other. absurd (let e : ◌≡◌ {A = Result Sib1 Sib1Reason} (Err reason) (Ok fields) = sym same ∙ other in cc))
 
 -- attempts on subframes with these values are such
-pub are_attempts : (values : ℕ → Subframe) → AreAttempts (λ j attempt. IsAttempt (values j) attempt) (λ j answer. Reads (values j) answer)
-are_attempts values = record {
+pub are_attempts : (values : Subframes) (recording : List Sample) (place : Place) (mib : Mib) → AreAttempts (IsFrameAttempt values recording place mib) (FrameAnswers values recording place mib)
+are_attempts values recording place mib = record {
   answers = λ j attempt is. record { attempt = attempt; is = is; answers = refl };
-  granted = λ j attempt fields is reads none. none_read (values j) attempt.cfi attempt.grant attempt.answer fields is.follows none reads;
+  granted = λ j attempt fields is reads none. none_read (values recording place j mib.duration mib.resource) attempt.cfi attempt.grant attempt.answer fields is.follows none reads;
 }
 
--- an answer without fields has none
-pub none_granted : (Attempts : Attempting) (recording : List Sample) (start sfn : ℕ) (reason : Sib1Reason) →
-    IsGrantBy Attempts recording start sfn (Err reason) None
-none_granted Attempts recording start sfn reason fields same = absurd cc
-
 -- ---- one grant
-
--- the values of the subframe of an attempt
-abbrev pub values_at : List Sample → Place → Mib → ℕ → Subframe
-values_at recording place mib j =
-    one_port (seen_slot recording (frame_at place.start j) 10 place.id) (seen_slot recording (frame_at place.start j) 11 place.id) mib.duration mib.resource
 
 abbrev attempt_with : ℕ × Grant → Sib1 → Attempt
 attempt_with told f = record { cfi = told.0; grant = Some told.1; answer = Ok f }
 
-module _ (recording : List Sample) (entry : Entry) where
-  abbrev IsRead : ℕ × Grant → Type 0
-  IsRead told = IsReadBy (IsFrameAttempt recording (place_of entry) entry.mib) recording entry.start entry.sfn entry.sib1 told
+-- where these are the values of the frames' subframes
+module _ (values : ℕ → Subframe) (recording : List Sample) (start sfn : ℕ) (sib1 : Result Sib1 Sib1Reason) where
+  abbrev IsFramed : Attempting
+  IsFramed j attempt = IsAttempt (values j) attempt
 
-  one_read_by : (s t : ℕ × Grant) → IsRead s → IsRead t → (s.0 ≡ t.0) × (s.1 ≡ t.1)
+  one_read_by : (s t : ℕ × Grant) → IsReadBy IsFramed recording start sfn sib1 s → IsReadBy IsFramed recording start sfn sib1 t → (s.0 ≡ t.0) × (s.1 ≡ t.1)
   one_read_by s t a b = by_order (cases_lt a.i b.i) (cases_lt b.i a.i)
     where
       parts : (x y : Sib1) → attempt_with s x ≡ attempt_with t y → (s.0 ≡ t.0) × (s.1 ≡ t.1)
@@ -142,27 +133,36 @@ module _ (recording : List Sample) (entry : Entry) where
       by_order (inr low) (inl before) = absurd (a.first b.i (attempt_with t b.fields) b.fields before b.attempt refl)
       by_order (inr low) (inr high) =
           let same : a.i ≡ b.i = omega (arith, low, high) in
-          parts a.fields b.fields (one_attempt (values_at recording (place_of entry) entry.mib (even_frame entry.sfn b.i)) (attempt_with s a.fields) (attempt_with t b.fields)
-          (subst (λ k. IsFrameAttempt recording (place_of entry) entry.mib (even_frame entry.sfn k) (attempt_with s a.fields)) same a.attempt) b.attempt)
+          parts a.fields b.fields (one_attempt (values (even_frame sfn b.i)) (attempt_with s a.fields) (attempt_with t b.fields)
+          (subst (λ k. IsFramed (even_frame sfn k) (attempt_with s a.fields)) same a.attempt) b.attempt)
+
+  one_grant_by : (a b : Option (ℕ × Grant)) → IsGrantBy IsFramed recording start sfn sib1 a → IsGrantBy IsFramed recording start sfn sib1 b → a ≡ b
+  one_grant_by None None a b = refl
+  one_grant_by None (Some t) a b = absurd (a b.fields b.answers)
+  one_grant_by (Some s) None a b = absurd (b a.fields a.answers)
+  one_grant_by (Some s) (Some t) a b = let e = one_read_by s t a b in rw (e.0, e.1) refl
+
+one_grant_with : (values : Option Subframes) (recording : List Sample) (place : Place) (sfn : ℕ) (mib : Mib) (sib1 : Result Sib1 Sib1Reason) (a b : Option (ℕ × Grant)) →
+    IsGrantWith values recording place sfn mib sib1 a → IsGrantWith values recording place sfn mib sib1 b → a ≡ b
+one_grant_with (Some values) recording place sfn mib sib1 a b p q =
+    one_grant_by (λ j. values recording place j mib.duration mib.resource) recording place.start sfn sib1 a b p q
+one_grant_with None recording place sfn mib sib1 a b p q = p ∙ sym q
 
 pub one_grant_of : IsOneGrant
-one_grant_of recording entry None None a b = refl
-one_grant_of recording entry None (Some t) a b = absurd (a b.fields b.answers)
-one_grant_of recording entry (Some s) None a b = absurd (b a.fields a.answers)
-one_grant_of recording entry (Some s) (Some t) a b = let e = one_read_by recording entry s t a b in rw (e.0, e.1) refl
+one_grant_of receiver recording place sfn mib sib1 a b p q = one_grant_with receiver.subframe recording place sfn mib sib1 a b p q
 
 -- ---- the grant of an entry
 
 -- what is told again of an entry of the list is what was told of it
 pub grant_told : (recording : List Sample) (entry : Entry) (place : Place) (master : Master) (sib1 : Result Sib1 Sib1Reason) (granted : Option (ℕ × Grant)) →
-    IsInList recording entry → place ≡ place_of entry → master ≡ master_of entry → IsSystemOf recording place entry.sfn master.ports master.mib sib1 →
-    IsGrantAt recording place entry.sfn master.mib sib1 granted → IsGrantOf recording entry granted
+    IsInList recording entry → place ≡ place_of entry → master ≡ master_of entry → IsSystemFor one_port_receiver recording place entry.sfn master.ports master.mib sib1 →
+    IsGrantFor one_port_receiver recording place entry.sfn master.mib sib1 granted → IsGrantOf recording entry granted
 grant_told recording entry place master sib1 granted listed p m system grant =
-    subst (λ (answer : Result Sib1 Sib1Reason). IsGrantAt recording (place_of entry) entry.sfn entry.mib answer granted)
-    (one_system recording (place_of entry) entry.sfn entry.ports entry.mib sib1 entry.sib1
-    (subst (λ (master : Master). IsSystemOf recording (place_of entry) entry.sfn master.ports master.mib sib1) m (subst (λ (place : Place). IsSystemOf recording place entry.sfn master.ports master.mib sib1) p system))
-    (is_sound recording listed.list entry listed.explained listed.inside).is_of.sib1)
-    (subst (λ (master : Master). IsGrantAt recording (place_of entry) entry.sfn master.mib sib1 granted) m (subst (λ (place : Place). IsGrantAt recording place entry.sfn master.mib sib1 granted) p grant))
+    subst (λ (answer : Result Sib1 Sib1Reason). IsGrantFor one_port_receiver recording (place_of entry) entry.sfn entry.mib answer granted)
+    (one_system one_port_receiver recording (place_of entry) entry.sfn entry.ports entry.mib sib1 entry.sib1
+    (subst (λ (master : Master). IsSystemFor one_port_receiver recording (place_of entry) entry.sfn master.ports master.mib sib1) m (subst (λ (place : Place). IsSystemFor one_port_receiver recording place entry.sfn master.ports master.mib sib1) p system))
+    (is_sound one_port_receiver recording listed.list entry listed.explained listed.inside).is_of.sib1)
+    (subst (λ (master : Master). IsGrantFor one_port_receiver recording (place_of entry) entry.sfn master.mib sib1 granted) m (subst (λ (place : Place). IsGrantFor one_port_receiver recording place entry.sfn master.mib sib1 granted) p grant))
 
 no_error : (sib1 : Result Sib1 Sib1Reason) (fields : Sib1) → sib1 ≡ Ok fields → IsErr sib1 → ⊥
 no_error (Ok other) fields same is = absurd cc

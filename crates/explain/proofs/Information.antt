@@ -1,11 +1,10 @@
 -- There is one answer on the system information of a cell, and it is in its ranges.
-use Rattle.std.proofs.Common.{◌≡◌, ◌≢◌, ℕ, zero, suc, ◌+◌, ◌*◌, ◌%◌, ◌<◌, ◌≤◌, ◌⊎◌, inl, inr, List, length, Result, Ok, Err, refl, ap, sym, subst, ◌∙◌, arith}
+use Rattle.std.proofs.Common.{◌≡◌, ℕ, ◌+◌, ◌%◌, ◌<◌, ◌≤◌, ◌⊎◌, inl, inr, List, length, Option, Some, None, Result, Ok, Err, refl, ap, sym, subst, ◌∙◌, arith}
 use Rattle.std.specs.Prelude.{IfOk}
 use Rattle.std.proofs.lemmas.Bool.{cases_lt}
-use Rattle.std.proofs.lemmas.Bool.Decides.{eqb_tells}
 use Rattle.cs_num.specs.declared.Sample.{Sample}
 use Rattle.lte_types.specs.declared.bandwidth.Bandwidth.{Bandwidth}
-use Rattle.lte_types.specs.declared.bandwidth.Bandwidth.TheVariants.{N6, N15, N25, N50, N75, N100}
+use Rattle.lte_types.specs.declared.bandwidth.Bandwidth.TheVariants.{N6}
 use Rattle.lte_types.specs.declared.mib.Mib.{Mib}
 use Rattle.lte_types.specs.declared.sib1.Sib1.{Sib1}
 use Rattle.lte_types.specs.declared.sib1_reason.Sib1Reason.{Sib1Reason}
@@ -15,10 +14,11 @@ use Rattle.system_block.proofs.Once.{one_reading}
 use Rattle.system_block.proofs.Exists.{read_is_valid, never_long}
 use Rattle.lte_types.specs.CellPlace.{Place}
 use Rattle.lte_types.specs.declared.carrier.Carrier.{Carrier}
-use Rattle.lte_types.specs.declared.carrier.Carrier.TheVariants.{OnePort}
 use Rattle.lte_types.specs.Carrier.{ports_of}
 use Rattle.explain.specs.Told.{Answering}
-use Rattle.explain.specs.System.{even_frame, IsTried, IsFirstRead, IsReadFrom, HasOtherPorts, HasOtherWidth, IsSearched, IsSystemBy, FrameAnswers, IsSystemOf}
+use Rattle.explain.specs.Receiver.{Receiver, Subframes}
+use Rattle.explain.proofs.Once.{AnswersOnce, HasOneSystem}
+use Rattle.explain.specs.System.{even_frame, IsTried, IsFirstRead, IsReadFrom, HasOtherPorts, HasOtherWidth, IsSearched, IsSystemBy, FrameAnswers, IsSystemWith, IsSystemFor}
 
 abbrev answer_with : Sib1 → Result Sib1 Sib1Reason
 answer_with fields = Ok fields
@@ -81,10 +81,6 @@ module _ (Answers : Answering) (one : (j : ℕ) (a b : Result Sib1 Sib1Reason) �
       cases (inr (inr n)) (inr (inl m)) = absurd (m.2.other n.six_blocks)
       cases (inr (inr n)) (inr (inr m)) = one_read a b n.read m.read
 
-  -- a frame before a tried one is tried
-  tried_before : (h i : ℕ) → h ≤ i → IsTried recording start sfn i → IsTried recording start sfn h
-  tried_before h i before t = let a = t.among in let w = t.whole in record { among = omega (arith, before, a); whole = omega (arith, before, w) }
-
   -- no frame of even number before number i has fields
   abbrev pub HasNoFields : ℕ → Type 0
   HasNoFields i = (h : ℕ) (fields : Sib1) → h < i → Answers (even_frame sfn h) (Ok fields) → ⊥
@@ -123,30 +119,49 @@ module _ (Answers : Answering) (one : (j : ℕ) (a b : Result Sib1 Sib1Reason) �
   searched never_ports never_width ports mib as_wanted six (Err (OtherWidth told)) read = absurd (never_width (even_frame sfn 0) told read.refused)
   searched never_ports never_width ports mib as_wanted six sib1 read = record { as_wanted = as_wanted; six_blocks = six; read = read }
 
--- ---- by one antenna port
+-- ---- by the values of subframe 5
 
-pub one_of_frame : (recording : List Sample) (place : Place) (mib : Mib) (j : ℕ) (a b : Result Sib1 Sib1Reason) →
-    FrameAnswers recording place mib j a → FrameAnswers recording place mib j b → a ≡ b
-one_of_frame recording place mib j a b p q = one_reading _ a b p q
-
--- there is at most one answer
-pub one_system : (recording : List Sample) (place : Place) (sfn ports : ℕ) (mib : Mib) (a b : Result Sib1 Sib1Reason) →
-    IsSystemOf recording place sfn ports mib a → IsSystemOf recording place sfn ports mib b → a ≡ b
-one_system recording place sfn ports mib a b p q =
-    one_by (FrameAnswers recording place mib) (one_of_frame recording place mib) recording place.start sfn OnePort ports mib a b p q
-
--- what is read is in its ranges
-pub system_is_valid : (recording : List Sample) (place : Place) (sfn ports : ℕ) (mib : Mib) (sib1 : Result Sib1 Sib1Reason) → IsSystemOf recording place sfn ports mib sib1 → IfOk sib1 IsValid
-system_is_valid recording place sfn ports mib sib1 s =
-    valid_by (FrameAnswers recording place mib) (one_of_frame recording place mib) recording place.start sfn OnePort (λ j fields reads. read_is_valid _ fields reads) ports mib sib1 s
-
--- and its reason is not that the prefix is long
-pub system_never_long : (recording : List Sample) (place : Place) (sfn ports : ℕ) (mib : Mib) → IsSystemOf recording place sfn ports mib (Err LongPrefix) → ⊥
-system_never_long recording place sfn ports mib s =
-    never_long_by (FrameAnswers recording place mib) (one_of_frame recording place mib) recording place.start sfn OnePort (λ j reads. never_long _ reads) ports mib s
+-- a frame has at most one answer
+pub one_of_frame : (values : Subframes) (recording : List Sample) (place : Place) (mib : Mib) → AnswersOnce (FrameAnswers values recording place mib)
+one_of_frame values recording place mib j a b p q = one_reading _ a b p q
 
 -- where the first frame of even number has fields, they are what is told
-pub told_at_first : (recording : List Sample) (place : Place) (sfn : ℕ) (mib : Mib) (fields : Sib1) → 57600 ≤ length recording → place.start < 19200 → mib.bandwidth ≡ N6 →
-    FrameAnswers recording place mib (even_frame sfn 0) (Ok fields) → IsSystemOf recording place sfn 1 mib (Ok fields)
-told_at_first recording place sfn mib fields long early six answers =
-    told_first (FrameAnswers recording place mib) (one_of_frame recording place mib) recording place.start sfn OnePort mib fields long early six answers
+pub told_at_first : (carrier : Carrier) (values : Subframes) (recording : List Sample) (place : Place) (sfn : ℕ) (mib : Mib) (fields : Sib1) → 57600 ≤ length recording →
+    place.start < 19200 → mib.bandwidth ≡ N6 → FrameAnswers values recording place mib (even_frame sfn 0) (Ok fields) →
+    IsSystemWith carrier (Some values) recording place sfn (ports_of carrier) mib (Ok fields)
+told_at_first carrier values recording place sfn mib fields long early six answers =
+    told_first (FrameAnswers values recording place mib) (one_of_frame values recording place mib) recording place.start sfn carrier mib fields long early six answers
+
+-- there is at most one answer
+one_with : (carrier : Carrier) (values : Option Subframes) (recording : List Sample) → HasOneSystem (IsSystemWith carrier values recording)
+one_with carrier (Some values) recording place sfn ports mib a b p q =
+    one_by (FrameAnswers values recording place mib) (one_of_frame values recording place mib) recording place.start sfn carrier ports mib a b p q
+one_with carrier None recording place sfn ports mib a b p q = p ∙ sym q
+
+-- what is read is in its ranges
+valid_with : (carrier : Carrier) (values : Option Subframes) (recording : List Sample) (place : Place) (sfn ports : ℕ) (mib : Mib) (sib1 : Result Sib1 Sib1Reason) →
+    IsSystemWith carrier values recording place sfn ports mib sib1 → IfOk sib1 IsValid
+valid_with carrier (Some values) recording place sfn ports mib sib1 s =
+    valid_by (FrameAnswers values recording place mib) (one_of_frame values recording place mib) recording place.start sfn carrier (λ j fields reads. read_is_valid _ fields reads) ports mib sib1 s
+valid_with carrier None recording place sfn ports mib sib1 s = subst (λ (answer : Result Sib1 Sib1Reason). IfOk answer IsValid) (sym s) tt
+
+-- where there are values, the reason is not that the prefix is long
+never_long_with : (carrier : Carrier) (values : Subframes) (recording : List Sample) (place : Place) (sfn ports : ℕ) (mib : Mib) →
+    IsSystemWith carrier (Some values) recording place sfn ports mib (Err LongPrefix) → ⊥
+never_long_with carrier values recording place sfn ports mib s =
+    never_long_by (FrameAnswers values recording place mib) (one_of_frame values recording place mib) recording place.start sfn carrier (λ j reads. never_long _ reads) ports mib s
+
+-- ---- by a receiver
+
+pub one_system : (receiver : Receiver) (recording : List Sample) → HasOneSystem (IsSystemFor receiver recording)
+one_system receiver recording = one_with receiver.carrier receiver.subframe recording
+
+pub system_is_valid : (receiver : Receiver) (recording : List Sample) (place : Place) (sfn ports : ℕ) (mib : Mib) (sib1 : Result Sib1 Sib1Reason) →
+    IsSystemFor receiver recording place sfn ports mib sib1 → IfOk sib1 IsValid
+system_is_valid receiver recording place sfn ports mib sib1 s = valid_with receiver.carrier receiver.subframe recording place sfn ports mib sib1 s
+
+pub system_never_long : (receiver : Receiver) (values : Subframes) (recording : List Sample) (place : Place) (sfn ports : ℕ) (mib : Mib) → receiver.subframe ≡ Some values →
+    IsSystemFor receiver recording place sfn ports mib (Err LongPrefix) → ⊥
+system_never_long receiver values recording place sfn ports mib is s =
+    never_long_with receiver.carrier values recording place sfn ports mib
+    (subst (λ (o : Option Subframes). IsSystemWith receiver.carrier o recording place sfn ports mib (Err LongPrefix)) is s)

@@ -8,10 +8,10 @@ use Rattle.std.proofs.lemmas.List.Sorted.{IsPermutation-refl, IsPermutation-sym,
 use Rattle.std.proofs.lemmas.Grind.{flat_map-append}
 use Rattle.lte_types.specs.declared.hit.Hit.{Hit}
 use Rattle.lte_types.specs.declared.entry.Entry.{Entry}
-use Rattle.pss_search.specs.Hits.{hits_of}
-use Rattle.explain.specs.Entries.{place_of, is_same_cell, kept, IsBefore, IsEntryOf, AreEntries, IsListOf, IsListOfHits, AddsHit}
+use Rattle.explain.specs.Entries.{place_of, is_same_cell, kept, IsBefore, IsEntryFor, AreEntries, IsListOf, IsListOfHits, AddsHit}
 use Rattle.explain.specs.Laws.{HaveOneList, IsOneList, IsEntryOfSome, IsSoundOf, IsSound, IsCompleteOf, IsComplete, AreApart, IsApartOf, IsApart, IsNeverLong}
-use Rattle.explain.specs.System.{IsSystemOf}
+use Rattle.explain.specs.Receiver.{hits_by}
+use Rattle.explain.specs.System.{IsSystemFor}
 use Rattle.explain.proofs.Information.{system_never_long}
 use Rattle.explain.proofs.Sorted.{in_none, in_cons, Contains-here, Contains-later, one_in_order}
 use Rattle.explain.proofs.Kept.{same_cell_turned, same_place_same_cell, kept_only, kept_stands, kept_apart, before_after, adds_again, stands_in}
@@ -49,13 +49,14 @@ sound_of IsOf hits list entry explained h =
     (kept_only (joined explained.groups) entry (Contains-permutation list (kept (joined explained.groups)) entry (IsPermutation-sym _ _ explained.listed.same) h))
 
 pub is_sound : IsSound
-is_sound recording = sound_of (IsEntryOf recording) (hits_of recording)
+is_sound receiver recording = sound_of (IsEntryFor receiver recording) (hits_by receiver.carrier recording)
 
 -- no entry of the list of a recording has the reason that the prefix is long
 pub is_never_long : IsNeverLong
-is_never_long recording list entry explained inside long =
-    let is = is_sound recording list entry explained inside in
-    system_never_long recording (place_of entry) entry.sfn entry.ports entry.mib (subst (IsSystemOf recording (place_of entry) entry.sfn entry.ports entry.mib) long is.is_of.sib1)
+is_never_long receiver values recording list entry is explained inside long =
+    let sound = is_sound receiver recording list entry explained inside in
+    system_never_long receiver values recording (place_of entry) entry.sfn entry.ports entry.mib is
+    (subst (IsSystemFor receiver recording (place_of entry) entry.sfn entry.ports entry.mib) long sound.is_of.sib1)
 
 pub complete_of : (IsOf : Hit → Entry → Type 0) (hits : List Hit) → IsCompleteOf IsOf hits
 complete_of IsOf hits list entry explained is =
@@ -64,7 +65,7 @@ complete_of IsOf hits list entry explained is =
     (other, record { inside = Contains-permutation (kept (joined explained.groups)) list other explained.listed.same s.inside; same = s.same })
 
 pub is_complete : IsComplete
-is_complete recording = complete_of (IsEntryOf recording) (hits_of recording)
+is_complete receiver recording = complete_of (IsEntryFor receiver recording) (hits_by receiver.carrier recording)
 
 -- the entries of a hit are one list
 one_group : (IsOf : Hit → Entry → Type 0) (hit : Hit) (first second : List Entry) → AreEntries (IsOf hit) first → AreEntries (IsOf hit) second → first ≡ second
@@ -103,7 +104,7 @@ pub one_list_of : (IsOf : Hit → Entry → Type 0) (hits : List Hit) → HaveOn
 one_list_of IsOf = one_list (λ hit. AreEntries (IsOf hit)) (one_group IsOf)
 
 pub is_one_list : IsOneList
-is_one_list recording = one_list_of (IsEntryOf recording) (hits_of recording)
+is_one_list receiver recording = one_list_of (IsEntryFor receiver recording) (hits_by receiver.carrier recording)
 
 -- two of a list of which none is of the cell of a later one, at two places
 places_apart : (entries : List Entry) (x y : Entry) (i j : ℕ) → AllPairs (λ a b. is_same_cell a b ≡ false) entries → i < length entries → j < length entries →
@@ -148,16 +149,9 @@ pub apart_of : (IsOf : Hit → Entry → Type 0) (hits : List Hit) → IsApartOf
 apart_of IsOf = list_is_apart (λ hit. AreEntries (IsOf hit))
 
 pub is_apart : IsApart
-is_apart recording = apart_of (IsEntryOf recording) (hits_of recording)
+is_apart receiver recording = apart_of (IsEntryFor receiver recording) (hits_by receiver.carrier recording)
 
 -- ---- hit after hit
-
-pub of_no_hits : (AreOf : Hit → List Entry → Type 0) → IsListOfHits AreOf [] []
-of_no_hits AreOf = record {
-  groups = [];
-  each = tt;
-  listed = record { same = IsPermutation-refl []; in_order = λ i j d below inside. absurd (omega (arith, inside)) };
-}
 
 pub AllZip-more : {A B : Type 0} (R : A → B → Type 0) (xs : List A) (ys : List B) (x : A) (y : B) → AllZip R xs ys → R x y → AllZip R (xs ++ x ∷ []) (ys ++ y ∷ [])
 AllZip-more R [] [] x y h r = (r, tt)

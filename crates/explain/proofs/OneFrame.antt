@@ -2,13 +2,13 @@
 use Rattle.std.proofs.Common.{◌≡◌, ◌⊎◌, inl, inr, ℕ, ◌+◌, ◌<◌, ◌≤◌, arith, sym, subst}
 use Rattle.lte_types.specs.Frames.{frames_from}
 use Rattle.pbch.specs.declared.master.Master.{Master}
-use Rattle.explain.specs.Window.{IsInWindow, IsMasterAt}
-use Rattle.explain.specs.Entries.{master_of, place_of}
+use Rattle.explain.specs.Window.{IsInWindow}
+use Rattle.explain.specs.Entries.{master_of, place_of, IsMasterFor}
 use Rattle.explain.specs.Laws.{OneFrameTells, OneFrameIsListed}
 use Rattle.explain.proofs.Listed.{is_complete}
 
 pub one_frame_tells : OneFrameTells
-one_frame_tells recording hit entry is = record {
+one_frame_tells receiver recording hit entry is = record {
   id = is.id;
   start = is.start;
   period = omega (arith, is.one, is.phase);
@@ -21,18 +21,18 @@ one_frame_tells recording hit entry is = record {
     };
     first = λ few i window before phase master period told. by_order few i window phase master period told before;
   };
-  master = subst (λ c. IsMasterAt recording (place_of entry) (frames_from c entry.frame entry.phase) (master_of entry)) (sym is.one) is.master;
+  master = subst (λ c. IsMasterFor receiver recording (place_of entry) (frames_from c entry.frame entry.phase) (master_of entry)) (sym is.one) is.master;
   sfn = is.sfn;
   sib1 = is.sib1;
 }
   where
     by_order : (few i : ℕ) → IsInWindow recording entry.start few i → (phase : ℕ) (master : Master) → phase + few ≤ 4 →
-        IsMasterAt recording (place_of entry) (frames_from few i phase) master → (few < entry.frames) ⊎ ((few ≡ entry.frames) × (i < entry.frame)) → ⊥
+        IsMasterFor receiver recording (place_of entry) (frames_from few i phase) master → (few < entry.frames) ⊎ ((few ≡ entry.frames) × (i < entry.frame)) → ⊥
     by_order few i window phase master period told (inl fewer) = absurd (omega (arith, window.some, fewer, is.one))
     by_order few i window phase master period told (inr (same, below)) =
         let one : few ≡ 1 = omega (arith, same, is.one) in
-        is.first i phase master below (omega (arith, one, period)) (subst (λ c. IsMasterAt recording (place_of entry) (frames_from c i phase) master) one told)
+        is.first i phase master below (omega (arith, one, period)) (subst (λ c. IsMasterFor receiver recording (place_of entry) (frames_from c i phase) master) one told)
 
 pub one_frame_is_listed : OneFrameIsListed
-one_frame_is_listed recording list hit entry explained listed is =
-    is_complete recording list entry explained (record { hit = hit; listed = listed; is_of = one_frame_tells recording hit entry is })
+one_frame_is_listed receiver recording list hit entry explained listed is =
+    is_complete receiver recording list entry explained (record { hit = hit; listed = listed; is_of = one_frame_tells receiver recording hit entry is })

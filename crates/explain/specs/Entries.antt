@@ -1,37 +1,32 @@
 -- The list of the cells that a recording explains. (own)
-use Rattle.std.specs.Prelude.{◌≡◌, ◌⊎◌, ◌↔◌, ℕ, ◌+◌, ◌-◌, ◌*◌, ◌%◌, ◌<◌, ◌≤◌, min, Bool, ◌&&◌, nat_eq, nat_le, if◌then◌else◌, List, [], ◌∷◌, ◌++◌, ℤ, Result}
+use Rattle.std.specs.Prelude.{◌≡◌, ◌⊎◌, ◌↔◌, ℕ, ◌+◌, ◌-◌, ◌*◌, ◌%◌, ◌<◌, ◌≤◌, min, Bool, ◌&&◌, nat_eq, nat_le, if◌then◌else◌, true, List, [], ◌∷◌, ◌++◌, ℤ}
 use Rattle.std.specs.List.{fold, list_any, flat_map, AllZip, AllPairs, Contains}
 use Rattle.std.specs.List.Sorted.{IsPermutation}
 use Rattle.cs_num.specs.declared.Sample.{Sample}
 use Rattle.lte_types.specs.declared.hit.Hit.{Hit}
 use Rattle.lte_types.specs.declared.entry.Entry.{Entry}
+use Rattle.lte_types.specs.declared.carrier.Carrier.TheVariants.{OnePort}
 use Rattle.lte_types.specs.CellPlace.{Place}
 use Rattle.lte_types.specs.Frames.{Frames, first_number}
-use Rattle.pss_search.specs.Hits.{hits_of}
-use Rattle.sss_detect.specs.Identity.{identity_of}
-use Rattle.lte_types.specs.Identity.{cell_of}
 use Rattle.lte_types.specs.Numerology.{cycle_length, frame_length}
-use Rattle.sss_detect.specs.Place.{start_of}
 use Rattle.pbch.specs.declared.master.Master.{Master}
-use Rattle.pbch.specs.Values.{coded_values}
-use Rattle.explain.specs.Frame.{broadcast_slots}
-use Rattle.explain.specs.System.{IsSystemOf}
+use Rattle.pbch.specs.Master.{TellsMaster}
+use Rattle.explain.specs.Receiver.{Receiver, one_port_receiver, hits_by, place_by, sums_by}
+use Rattle.explain.specs.System.{IsSystemFor}
 use Rattle.explain.specs.Told.{Telling, Informing}
-use Rattle.explain.specs.Window.{AreFirstFrames, IsMasterAt}
+use Rattle.explain.specs.Window.{AreFirstFrames}
 
 -- ---- the entries of a hit
 
--- the identity of the cell that a hit tells
-abbrev pub identity_at : List Sample → Hit → ℕ
-identity_at recording hit = cell_of (identity_of recording hit).0 hit.n2
-
--- the start of the frames that it tells
-abbrev pub start_at : List Sample → Hit → ℕ
-start_at recording hit = start_of hit.t (identity_of recording hit).1
-
--- the place of that cell
+-- the place of the cell that a hit tells, by the normal cyclic prefix: its identity, and the start of its frames
 abbrev pub place_at : List Sample → Hit → Place
-place_at recording hit = record { id = identity_at recording hit; start = start_at recording hit }
+place_at = place_by OnePort
+
+abbrev pub identity_at : List Sample → Hit → ℕ
+identity_at recording hit = (place_at recording hit).id
+
+abbrev pub start_at : List Sample → Hit → ℕ
+start_at recording hit = (place_at recording hit).start
 
 -- the place of an entry's cell, and the frames that tell its master block
 abbrev pub place_of : Entry → Place
@@ -44,10 +39,9 @@ frames_of entry = record { count = entry.frames; first = entry.frame; phase = en
 abbrev pub master_of : Entry → Master
 master_of entry = record { ports = entry.ports; mib = entry.mib; cost = entry.cost }
 
--- the sums by which frames of a cell tell: those of the values of their broadcast channels, the first of them at its phase
+-- the sums by which frames of a cell tell, by one antenna port
 abbrev pub sums_of : List Sample → Place → Frames → List (List ℤ)
-sums_of recording place frames =
-    coded_values (broadcast_slots recording place.id place.start frames.count frames.first) frames.phase
+sums_of = sums_by one_port_receiver
 
 -- those that tell an entry's master block
 abbrev pub values_of_entry : List Sample → Entry → List (List ℤ)
@@ -64,9 +58,24 @@ pub record IsEntryAt (Tells : Telling) (IsSystem : Informing) (recording : List 
   pub sfn : entry.sfn ≡ first_number entry.mib.upper (frames_of entry)
   pub sib1 : IsSystem (place_of entry) entry.sfn entry.ports entry.mib entry.sib1
 
--- the entry tells a master block of the hit, by one antenna port
+-- by a receiver frames tell this master block, with a count of antenna ports that it takes
+pub record IsMasterFor (receiver : Receiver) (recording : List Sample) (place : Place) (frames : Frames) (master : Master) :
+    Type 0 where
+  pub taken : receiver.takes master.ports ≡ true
+  pub told : TellsMaster (sums_by receiver recording place frames) master
+
+-- the entry tells a master block of the hit
+abbrev pub IsEntryFor : Receiver → List Sample → Hit → Entry → Type 0
+IsEntryFor receiver recording hit =
+    IsEntryAt (IsMasterFor receiver recording) (IsSystemFor receiver recording) recording
+    (place_by receiver.carrier recording hit)
+
+-- by one antenna port
+abbrev pub IsMasterAt : List Sample → Telling
+IsMasterAt = IsMasterFor one_port_receiver
+
 abbrev pub IsEntryOf : List Sample → Hit → Entry → Type 0
-IsEntryOf recording hit entry = IsEntryAt (IsMasterAt recording) (IsSystemOf recording) recording (place_at recording hit) entry
+IsEntryOf = IsEntryFor one_port_receiver
 
 -- entries by phase, where `Is` says which there are
 pub record AreEntries (Is : Entry → Type 0) (entries : List Entry) : Type 0 where
@@ -74,8 +83,8 @@ pub record AreEntries (Is : Entry → Type 0) (entries : List Entry) : Type 0 wh
   pub by_phase : AllPairs (λ first second. first.phase < second.phase) entries
 
 -- the entries of a hit: one for each of its master blocks, by phase
-abbrev pub AreEntriesOf : List Sample → Hit → List Entry → Type 0
-AreEntriesOf recording hit = AreEntries (IsEntryOf recording hit)
+abbrev pub AreEntriesFor : Receiver → List Sample → Hit → List Entry → Type 0
+AreEntriesFor receiver recording hit = AreEntries (IsEntryFor receiver recording hit)
 
 -- ---- the entries that are kept
 
@@ -127,9 +136,14 @@ pub record AddsHit (AreOf : Hit → List Entry → Type 0) (hit : Hit) (old new 
   pub are : AreOf hit entries
   pub adds : Adds entries old new
 
--- the list of a recording
+-- the list of a recording by a receiver
+abbrev pub IsListFor : Receiver → List Sample → List Entry → Type 0
+IsListFor receiver recording list =
+    IsListOfHits (AreEntriesFor receiver recording) (hits_by receiver.carrier recording) list
+
+-- by one antenna port
 abbrev pub IsExplained : List Sample → List Entry → Type 0
-IsExplained recording list = IsListOfHits (AreEntriesOf recording) (hits_of recording) list
+IsExplained = IsListFor one_port_receiver
 
 -- the entry is in the recording's list
 pub record IsInList (recording : List Sample) (entry : Entry) : Type 0 where

@@ -1,5 +1,6 @@
 -- The frames of a recording, and what is seen of their slots.
-use Rattle.std.specs.Prelude.{ℕ, ◌+◌, ◌*◌, ◌≤◌, List, length}
+use Rattle.std.specs.Prelude.{ℕ, ◌+◌, ◌*◌, ◌≤◌, List, length, ℤ}
+use Rattle.std.specs.List.{flat_map}
 use Rattle.finite.specs.Lists.{values_below}
 use Rattle.cs_num.specs.declared.Sample.{Sample}
 use Rattle.lte_types.specs.Numerology.{frame_length, normal, useful_start}
@@ -23,6 +24,6 @@ seen_slot recording f number identity =
 abbrev pub broadcast_slot : List Sample → ℕ → ℕ → ℕ → SeenSlot
 broadcast_slot recording identity start j = seen_slot recording (frame_at start j) 1 identity
 
--- those of so many frames from frame j on
-abbrev pub broadcast_slots : List Sample → ℕ → ℕ → ℕ → ℕ → List SeenSlot
-broadcast_slots recording identity start count j = values_below count (λ m. broadcast_slot recording identity start (j + m))
+-- the values of so many frames from frame j on, one frame after the other
+abbrev pub values_in : (ℕ → List ℤ) → ℕ → ℕ → List ℤ
+values_in values count j = flat_map (λ frame. frame) (values_below count (λ m. values (j + m)))

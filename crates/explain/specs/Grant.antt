@@ -8,9 +8,8 @@ use Rattle.lte_types.specs.declared.mib.Mib.{Mib}
 use Rattle.lte_types.specs.declared.entry.Entry.{Entry}
 use Rattle.dci.specs.declared.grant.Grant.{Grant}
 use Rattle.system_block.specs.declared.reading.Attempt.{Attempt}
-use Rattle.system_block.specs.Subframe.{one_port}
 use Rattle.system_block.specs.Attempt.{IsAttempt, granted_by}
-use Rattle.explain.specs.Frame.{frame_at, seen_slot}
+use Rattle.explain.specs.Receiver.{Receiver, Subframes, one_port_receiver}
 use Rattle.explain.specs.Told.{Answering, Attempting, Granting}
 use Rattle.explain.specs.System.{even_frame, IsTried}
 use Rattle.explain.specs.Entries.{place_of}
@@ -39,24 +38,29 @@ pub record AreAttempts (Attempts : Attempting) (Answers : Answering) : Type 0 wh
   pub granted : (j : ℕ) (attempt : Attempt) (fields : Sib1) → Attempts j attempt → attempt.answer ≡ Ok fields →
       granted_by attempt ≡ None → ⊥
 
--- ---- by one antenna port
+-- ---- by a receiver
 
--- the attempt on frame j of a cell: on its subframe 5, slots 10 and 11
-abbrev pub IsFrameAttempt : List Sample → Place → Mib → Attempting
-IsFrameAttempt recording place mib j attempt =
-    IsAttempt (one_port (seen_slot recording (frame_at place.start j) 10 place.id) (seen_slot recording (frame_at place.start j) 11 place.id)
-    mib.duration mib.resource) attempt
+-- the attempt on frame j of the cell at a place, by the values of its subframe 5
+abbrev pub IsFrameAttempt : Subframes → List Sample → Place → Mib → Attempting
+IsFrameAttempt values recording place mib j attempt = IsAttempt (values recording place j mib.duration mib.resource) attempt
 
--- the indicator and the grant of the system information of the cell at a place
-abbrev pub IsGrantAt : List Sample → Granting
-IsGrantAt recording place sfn mib sib1 told =
-    IsGrantBy (IsFrameAttempt recording place mib) recording place.start sfn sib1 told
+-- the indicator and the grant of the system information by these values; none where there are none
+abbrev pub IsGrantWith : Option Subframes → List Sample → Granting
+IsGrantWith (Some values) recording place sfn mib sib1 told =
+    IsGrantBy (IsFrameAttempt values recording place mib) recording place.start sfn sib1 told
+IsGrantWith None recording place sfn mib sib1 told = told ≡ None
 
--- those of an entry
+-- those by which a receiver reads the system information of the cell at a place
+abbrev pub IsGrantFor : Receiver → List Sample → Granting
+IsGrantFor receiver = IsGrantWith receiver.subframe
+
+-- those of an entry, by one antenna port
 abbrev pub IsGrantOf : List Sample → Entry → Option (ℕ × Grant) → Type 0
-IsGrantOf recording entry told = IsGrantAt recording (place_of entry) entry.sfn entry.mib entry.sib1 told
+IsGrantOf recording entry told =
+    IsGrantFor one_port_receiver recording (place_of entry) entry.sfn entry.mib entry.sib1 told
 
--- a law: they are certain ones
+-- a law: by any receiver they are certain ones
 abbrev pub IsOneGrant : Type 0
-IsOneGrant = (recording : List Sample) (entry : Entry) (a b : Option (ℕ × Grant)) → IsGrantOf recording entry a →
-    IsGrantOf recording entry b → a ≡ b
+IsOneGrant = (receiver : Receiver) (recording : List Sample) (place : Place) (sfn : ℕ) (mib : Mib)
+    (sib1 : Result Sib1 Sib1Reason) (a b : Option (ℕ × Grant)) → IsGrantFor receiver recording place sfn mib sib1 a →
+    IsGrantFor receiver recording place sfn mib sib1 b → a ≡ b

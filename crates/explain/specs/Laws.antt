@@ -1,18 +1,17 @@
 -- What the list of a recording is, in plain words; and the same of any list of hits, where `IsOf` says which entries a
 -- hit has. (own)
-use Rattle.std.specs.Prelude.{◌≡◌, ◌≢◌, ◌⊎◌, ℕ, ◌<◌, ◌≤◌, true, List, Err}
+use Rattle.std.specs.Prelude.{◌≡◌, ◌≢◌, ◌⊎◌, ℕ, ◌<◌, ◌≤◌, true, List, Some, Err}
 use Rattle.std.specs.List.{AllPairs, Contains}
 use Rattle.cs_num.specs.declared.Sample.{Sample}
 use Rattle.lte_types.specs.declared.hit.Hit.{Hit}
 use Rattle.lte_types.specs.declared.entry.Entry.{Entry}
 use Rattle.lte_types.specs.Frames.{frames_from, first_number}
 use Rattle.lte_types.specs.declared.sib1_reason.Sib1Reason.TheVariants.{LongPrefix}
-use Rattle.pss_search.specs.Hits.{hits_of}
 use Rattle.pbch.specs.declared.master.Master.{Master}
 use Rattle.explain.specs.Frame.{IsWhole}
-use Rattle.explain.specs.System.{IsSystemOf}
-use Rattle.explain.specs.Window.{IsMasterAt}
-use Rattle.explain.specs.Entries.{identity_at, start_at, master_of, place_of, frames_of, IsEntryOf, AreEntries, IsListOfHits, IsExplained, is_same_cell}
+use Rattle.explain.specs.Receiver.{Receiver, Subframes, hits_by, place_by}
+use Rattle.explain.specs.System.{IsSystemFor}
+use Rattle.explain.specs.Entries.{master_of, place_of, frames_of, IsMasterFor, IsEntryFor, AreEntries, IsListOfHits, IsListFor, is_same_cell}
 
 -- hits have one list
 abbrev pub HaveOneList : (Hit → Entry → Type 0) → List Hit → Type 0
@@ -20,19 +19,16 @@ HaveOneList IsOf hits =
     (first second : List Entry) → IsListOfHits (λ hit. AreEntries (IsOf hit)) hits first →
     IsListOfHits (λ hit. AreEntries (IsOf hit)) hits second → first ≡ second
 
--- a recording has one list
+-- by a receiver a recording has one list
 abbrev pub IsOneList : Type 0
-IsOneList = (recording : List Sample) → HaveOneList (IsEntryOf recording) (hits_of recording)
+IsOneList = (receiver : Receiver) (recording : List Sample) →
+    HaveOneList (IsEntryFor receiver recording) (hits_by receiver.carrier recording)
 
 -- an entry of hits: one of some hit
 pub record IsEntryOfSome (IsOf : Hit → Entry → Type 0) (hits : List Hit) (entry : Entry) : Type 0 where
   pub hit : Hit
   pub listed : Contains hits hit
   pub is_of : IsOf hit entry
-
--- an entry of a recording
-abbrev pub IsEntry : List Sample → Entry → Type 0
-IsEntry recording entry = IsEntryOfSome (IsEntryOf recording) (hits_of recording) entry
 
 -- each entry of the list of hits is one of some hit
 abbrev pub IsSoundOf : (Hit → Entry → Type 0) → List Hit → Type 0
@@ -41,7 +37,8 @@ IsSoundOf IsOf hits =
     IsEntryOfSome IsOf hits entry
 
 abbrev pub IsSound : Type 0
-IsSound = (recording : List Sample) → IsSoundOf (IsEntryOf recording) (hits_of recording)
+IsSound = (receiver : Receiver) (recording : List Sample) →
+    IsSoundOf (IsEntryFor receiver recording) (hits_by receiver.carrier recording)
 
 -- an entry of the list that stands for another: it is the same, or one of its cell
 pub record StandsFor (list : List Entry) (entry other : Entry) : Type 0 where
@@ -55,7 +52,8 @@ IsCompleteOf IsOf hits =
     (other : Entry) × StandsFor list entry other
 
 abbrev pub IsComplete : Type 0
-IsComplete = (recording : List Sample) → IsCompleteOf (IsEntryOf recording) (hits_of recording)
+IsComplete = (receiver : Receiver) (recording : List Sample) →
+    IsCompleteOf (IsEntryFor receiver recording) (hits_by receiver.carrier recording)
 
 -- two of the list are not of one cell, so that they have not the same identity, start and frame number
 pub record AreApart (first second : Entry) : Type 0 where
@@ -67,36 +65,40 @@ abbrev pub IsApartOf : (Hit → Entry → Type 0) → List Hit → Type 0
 IsApartOf IsOf hits = (list : List Entry) → IsListOfHits (λ hit. AreEntries (IsOf hit)) hits list → AllPairs AreApart list
 
 abbrev pub IsApart : Type 0
-IsApart = (recording : List Sample) → IsApartOf (IsEntryOf recording) (hits_of recording)
+IsApart = (receiver : Receiver) (recording : List Sample) →
+    IsApartOf (IsEntryFor receiver recording) (hits_by receiver.carrier recording)
 
--- no entry of it has the reason that the cyclic prefix is the extended one
+-- no entry of it has the reason that the cyclic prefix is the extended one, where there are values of subframe 5
 abbrev pub IsNeverLong : Type 0
-IsNeverLong = (recording : List Sample) (list : List Entry) (entry : Entry) → IsExplained recording list → Contains list entry →
-    entry.sib1 ≢ Err LongPrefix
+IsNeverLong = (receiver : Receiver) (values : Subframes) (recording : List Sample)
+    (list : List Entry) (entry : Entry) → receiver.subframe ≡ Some values → IsListFor receiver recording list →
+    Contains list entry → entry.sib1 ≢ Err LongPrefix
 
 -- ---- single frames
 
 -- the entry tells a master block that one frame of a hit tells: the first of frames 0 to 7 that tells any, by its values
 -- alone
-pub record IsEntryOfOneFrame (recording : List Sample) (hit : Hit) (entry : Entry) : Type 0 where
-  pub id : entry.id ≡ identity_at recording hit
-  pub start : entry.start ≡ start_at recording hit
+pub record IsEntryOfOneFrame (receiver : Receiver) (recording : List Sample) (hit : Hit) (entry : Entry) : Type 0 where
+  pub id : entry.id ≡ (place_by receiver.carrier recording hit).id
+  pub start : entry.start ≡ (place_by receiver.carrier recording hit).start
   pub one : entry.frames ≡ 1
   pub phase : entry.phase < 4
   pub known : entry.frame ≤ 7
   pub whole : IsWhole recording entry.start entry.frame
   pub first : (j phase : ℕ) (master : Master) → j < entry.frame → phase < 4 →
-      IsMasterAt recording (place_of entry) (frames_from 1 j phase) master → ⊥
-  pub master : IsMasterAt recording (place_of entry) (frames_from 1 entry.frame entry.phase) (master_of entry)
+      IsMasterFor receiver recording (place_of entry) (frames_from 1 j phase) master → ⊥
+  pub master : IsMasterFor receiver recording (place_of entry) (frames_from 1 entry.frame entry.phase) (master_of entry)
   pub sfn : entry.sfn ≡ first_number entry.mib.upper (frames_of entry)
-  pub sib1 : IsSystemOf recording (place_of entry) entry.sfn entry.ports entry.mib entry.sib1
+  pub sib1 : IsSystemFor receiver recording (place_of entry) entry.sfn entry.ports entry.mib entry.sib1
 
 -- it is one of the hit's
 abbrev pub OneFrameTells : Type 0
-OneFrameTells = (recording : List Sample) (hit : Hit) (entry : Entry) → IsEntryOfOneFrame recording hit entry → IsEntryOf recording hit entry
+OneFrameTells = (receiver : Receiver) (recording : List Sample) (hit : Hit) (entry : Entry) →
+    IsEntryOfOneFrame receiver recording hit entry → IsEntryFor receiver recording hit entry
 
 -- so it stands in the list, itself or one of its cell
 abbrev pub OneFrameIsListed : Type 0
 OneFrameIsListed =
-    (recording : List Sample) (list : List Entry) (hit : Hit) (entry : Entry) → IsExplained recording list → Contains (hits_of recording) hit →
-    IsEntryOfOneFrame recording hit entry → (other : Entry) × StandsFor list entry other
+    (receiver : Receiver) (recording : List Sample) (list : List Entry) (hit : Hit) (entry : Entry) →
+    IsListFor receiver recording list → Contains (hits_by receiver.carrier recording) hit →
+    IsEntryOfOneFrame receiver recording hit entry → (other : Entry) × StandsFor list entry other

@@ -1,4 +1,5 @@
 pub mod Frame
+pub mod Receiver
 pub mod Told
 pub mod System
 pub mod Window
@@ -9,6 +10,5 @@ pub mod Received
 pub mod Laws
 pub mod Deciding
 pub mod EntrySlot
-pub mod Reader
 pub mod Grant
 pub mod Readings

@@ -6,12 +6,12 @@ use Rattle.lte_types.specs.declared.hit.Hit.{Hit}
 use Rattle.lte_types.specs.declared.entry.Entry.{Entry}
 use Rattle.lte_types.specs.CellPlace.{Place}
 use Rattle.lte_types.specs.Frames.{Frames, frames_from}
-use Rattle.pss_search.specs.Hits.{hits_of}
 use Rattle.pbch.specs.Master.{sums_at}
 use Rattle.explain.specs.declared.readings.Reading.{Reading}
 use Rattle.explain.specs.Told.{Granting}
-use Rattle.explain.specs.Entries.{place_at, place_of, frames_of, sums_of}
-use Rattle.explain.specs.Grant.{IsGrantAt}
+use Rattle.explain.specs.Receiver.{Receiver, one_port_receiver, hits_by, place_by, sums_by}
+use Rattle.explain.specs.Entries.{place_of, frames_of}
+use Rattle.explain.specs.Grant.{IsGrantFor}
 
 -- of these hits, this is the first that tells a place. `place` says which place a hit tells
 pub record IsFirstTelling (place : Hit → Place) (hits : List Hit) (told : Place) (hit : Hit) : Type 0 where
@@ -32,11 +32,25 @@ pub record IsReadingBy (summed : Place → Frames → List (List ℤ)) (IsGrant 
 abbrev pub AreSums : (Frames → List (List ℤ)) → ℕ → ℕ → List (List (List ℤ)) → Type 0
 AreSums sums count j all = (phase : ℕ) → phase + count ≤ 4 → sums_at all phase ≡ sums (frames_from count j phase)
 
--- ---- by one antenna port
+-- ---- by a receiver
 
--- an entry of a recording was read so
+-- an entry of these hits was read so
+abbrev pub IsReadingOf : Receiver → List Sample → List Hit → Entry → Reading → Type 0
+IsReadingOf receiver recording =
+    IsReadingBy (sums_by receiver recording) (IsGrantFor receiver recording) (place_by receiver.carrier recording)
+
+-- an entry of a recording was read so: of the hits that the receiver takes
+abbrev pub IsReadingFor : Receiver → List Sample → Entry → Reading → Type 0
+IsReadingFor receiver recording = IsReadingOf receiver recording (hits_by receiver.carrier recording)
+
+-- a law: in one way
+abbrev pub IsOneReading : Type 0
+IsOneReading = (receiver : Receiver) (recording : List Sample) (entry : Entry) (a b : Reading) →
+    IsReadingFor receiver recording entry a → IsReadingFor receiver recording entry b → a ≡ b
+
+-- by one antenna port
 abbrev pub IsReading : List Sample → Entry → Reading → Type 0
-IsReading recording = IsReadingBy (sums_of recording) (IsGrantAt recording) (place_at recording) (hits_of recording)
+IsReading = IsReadingFor one_port_receiver
 
 -- ---- the code's way
 

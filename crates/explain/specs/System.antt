@@ -1,20 +1,19 @@
 -- The system information of an entry: SystemInformationBlockType1, which subframe 5 of the frames of even number carries (TS 36.331
 -- section 5.2.1.2). Which frames are tried is own.
-use Rattle.std.specs.Prelude.{◌≡◌, ◌≢◌, ℕ, ◌+◌, ◌*◌, ◌%◌, ◌<◌, List, Result, Ok, Err}
+use Rattle.std.specs.Prelude.{◌≡◌, ◌≢◌, ℕ, ◌+◌, ◌*◌, ◌%◌, ◌<◌, List, Option, Some, None, Result, Ok, Err}
 use Rattle.cs_num.specs.declared.Sample.{Sample}
 use Rattle.lte_types.specs.CellPlace.{Place}
 use Rattle.lte_types.specs.declared.carrier.Carrier.{Carrier}
-use Rattle.lte_types.specs.declared.carrier.Carrier.TheVariants.{OnePort}
 use Rattle.lte_types.specs.Carrier.{ports_of}
 use Rattle.lte_types.specs.declared.bandwidth.Bandwidth.{Bandwidth}
 use Rattle.lte_types.specs.declared.bandwidth.Bandwidth.TheVariants.{N6}
 use Rattle.lte_types.specs.declared.mib.Mib.{Mib}
 use Rattle.lte_types.specs.declared.sib1.Sib1.{Sib1}
 use Rattle.lte_types.specs.declared.sib1_reason.Sib1Reason.{Sib1Reason}
-use Rattle.lte_types.specs.declared.sib1_reason.Sib1Reason.TheVariants.{NotOnePort, Bandwidth as OtherWidth}
-use Rattle.system_block.specs.Subframe.{one_port}
+use Rattle.lte_types.specs.declared.sib1_reason.Sib1Reason.TheVariants.{NotOnePort, Bandwidth as OtherWidth, LongPrefix as Extended}
 use Rattle.system_block.specs.Attempt.{Reads}
-use Rattle.explain.specs.Frame.{IsWhole, frame_at, seen_slot}
+use Rattle.explain.specs.Frame.{IsWhole}
+use Rattle.explain.specs.Receiver.{Receiver, Subframes, one_port_receiver}
 use Rattle.explain.specs.Told.{Answering, Informing}
 
 -- ---- the frames that are tried. `Answers` says what a frame answers, by its place after the first
@@ -73,16 +72,23 @@ IsSystemBy carrier Answers recording start sfn ports mib (Err (OtherWidth told))
 IsSystemBy carrier Answers recording start sfn ports mib sib1 =
     IsSearched Answers recording start sfn carrier ports mib.bandwidth sib1
 
--- ---- by one antenna port
+-- ---- by a receiver
 
--- frame j of a cell answers so: its subframe 5, slots 10 and 11, does
-abbrev pub FrameAnswers : List Sample → Place → Mib → Answering
-FrameAnswers recording place mib j answer =
-    Reads (one_port (seen_slot recording (frame_at place.start j) 10 place.id) (seen_slot recording (frame_at place.start j) 11 place.id)
-    mib.duration mib.resource) answer
+-- frame j of the cell at a place answers so, by the values of its subframe 5
+abbrev pub FrameAnswers : Subframes → List Sample → Place → Mib → Answering
+FrameAnswers values recording place mib j answer = Reads (values recording place j mib.duration mib.resource) answer
 
--- what is told of the system information of the cell at a place, whose first frame has this number, with so many antenna
--- ports and this master block
+-- what is told by these values of subframe 5, or where there are none: that the prefix is the extended one
+abbrev pub IsSystemWith : Carrier → Option Subframes → List Sample → Informing
+IsSystemWith carrier (Some values) recording place sfn ports mib sib1 =
+    IsSystemBy carrier (FrameAnswers values recording place mib) recording place.start sfn ports mib sib1
+IsSystemWith carrier None recording place sfn ports mib sib1 = sib1 ≡ Err Extended
+
+-- what a receiver tells of the system information of the cell at a place, whose first frame has this number, with so many
+-- antenna ports and this master block
+abbrev pub IsSystemFor : Receiver → List Sample → Informing
+IsSystemFor receiver = IsSystemWith receiver.carrier receiver.subframe
+
+-- that of one antenna port
 abbrev pub IsSystemOf : List Sample → Informing
-IsSystemOf recording place sfn ports mib sib1 =
-    IsSystemBy OnePort (FrameAnswers recording place mib) recording place.start sfn ports mib sib1
+IsSystemOf = IsSystemFor one_port_receiver

@@ -1,4 +1,4 @@
--- What the frames of a cell tell, as relations that a way to read the cells of a recording gives. (own)
+-- What the frames of a cell tell, as relations, which a receiver has. (own)
 use Rattle.std.specs.Prelude.{ℕ, Option, Result}
 use Rattle.lte_types.specs.CellPlace.{Place}
 use Rattle.lte_types.specs.Frames.{Frames}

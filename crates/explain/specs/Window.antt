@@ -6,8 +6,7 @@ use Rattle.cs_num.specs.declared.Sample.{Sample}
 use Rattle.lte_types.specs.CellPlace.{Place}
 use Rattle.lte_types.specs.Frames.{frames_from}
 use Rattle.pbch.specs.declared.master.Master.{Master}
-use Rattle.pbch.specs.Master.{IsMaster}
-use Rattle.explain.specs.Frame.{IsWhole, broadcast_slots}
+use Rattle.explain.specs.Frame.{IsWhole}
 use Rattle.explain.specs.Told.{Telling}
 
 -- so many frames from frame j of a start on are looked at together
@@ -40,8 +39,3 @@ HasNoMasters Tells recording place = (count j : ℕ) → IsInWindow recording pl
 pub record AreFirstFrames (Tells : Telling) (recording : List Sample) (place : Place) (count j : ℕ) : Type 0 where
   pub inside : IsInWindow recording place.start count j
   pub first : HasNoMasterBefore Tells recording place count j
-
--- frames tell this master block by one antenna port: their slots that carry the broadcast channel do
-abbrev pub IsMasterAt : List Sample → Telling
-IsMasterAt recording place frames master =
-    IsMaster (broadcast_slots recording place.id place.start frames.count frames.first) frames.phase master

@@ -1,20 +1,22 @@
 //! The list of the cells of a recording.
 
-ghost use Rattle.std.specs.Prelude.{◌≡◌};
+ghost use Rattle.std.specs.Prelude.{◌≡◌, All, IfOk};
 ghost use Rattle.std.specs.List.{AllZip};
 ghost use Rattle.finite.specs.Sizes.{RowsWithin};
+ghost use Rattle.lte_types.specs.Ranges.{IsValid};
 ghost use Rattle.pss_search.specs.Hits.{IsInSpan};
 ghost use Rattle.pbch.specs.Master.{TellsMaster};
 ghost use Rattle.explain.specs.Readings.{IsReading};
 ghost use Rattle.explain.specs.Entries.{IsExplained, IsInList, master_of, place_at, place_of as place_of_entry, values_of_entry};
 
 use crate::frame::broadcast_slot;
+use crate::hit_list::place_told;
+use crate::one_port::OnePort;
 use crate::{EntryList, Workspace, explain_by};
-use lte_types::{CellPlace, Entry, Hit, Prefix};
-use pbch::{received, sums_of};
-use pss_search::hits;
+use arrayvec::ArrayVec;
+use lte_types::{Carrier, CellPlace, Entry, Hit};
+use pbch::{Received, received, sums_of};
 use sample_file::Recording;
-use sss_detect::place_with;
 
 /// Afterwards the list is that of the recording, whatever it held before. Each hit, by place, tells
 /// an identity and a start of frames. The first of its whole frames 0 to 7 that has a master block at any
@@ -23,19 +25,14 @@ use sss_detect::place_with;
 /// has the first fields of SystemInformationBlockType1 that one of its first eight whole frames of even
 /// number tells, or a `Sib1Reason` where none does. An entry is dropped where a kept one before it has the
 /// same identity and an epoch at most 9 samples away, modulo 1,024 frames. The list is in order of start,
-/// identity and frame number. The workspace then has how each of them was read. It takes no memory. (own)
+/// identity and frame number. Fields of SystemInformationBlockType1 are in their ranges. The workspace then has how
+/// each entry was read. It takes no memory. (own)
 pub fn explain(recording: &Recording, work: &mut Workspace, list: &mut EntryList)
     ensures list { IsExplained recording.now list.new }
     ensures readings { AllZip (IsReading recording.now) list.new work.new }
+    ensures valid { All (λ entry. IfOk entry.sib1 IsValid) list.new }
 {
-    hits(recording, &mut work.hits);
-    explain_by(
-        &mut work.decoders,
-        recording,
-        work.hits.slice(),
-        &mut work.notes,
-        list,
-    );
+    explain_by(&OnePort, recording, work, list);
 }
 
 /// The values of an entry's master block: for each place and stream of its coded word the sum of the
@@ -49,12 +46,11 @@ pub fn values_of(recording: &Recording, entry: &Entry) -> [[i32; 3]; 40]
     ensures sizes { RowsWithin 2032 result }
 {
     let place = place_in(recording, entry);
-    let mut frames = [[0; 480]; 4];
+    let mut frames = ArrayVec::<Received, 4>::new();
     for m in 0..entry.frames {
-        let slot = broadcast_slot(recording, place, entry.frame + m);
-        frames[m as usize] = received(&slot);
+        frames.push(received(&broadcast_slot(recording, place, entry.frame + m)));
     }
-    sums_of(entry.id, entry.phase, &frames[..entry.frames as usize])
+    sums_of(entry.id, 480 * entry.phase as usize, frames.as_slice())
 }
 
 /// The place of the cell of an entry, which is in the recording's list.
@@ -73,7 +69,5 @@ pub fn place_of(recording: &Recording, hit: &Hit) -> CellPlace
     requires { IsInSpan hit.now }
     ensures { result ≡ place_at recording.now hit.now }
 {
-    let end = recording.len();
-    prove!(hit.t as usize + 128 <= end);
-    place_with(recording, hit, Prefix::NORMAL)
+    place_told(recording, hit, Carrier::OnePort)
 }

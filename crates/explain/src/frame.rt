@@ -7,6 +7,7 @@ ghost use Rattle.observe.specs.Seen.{seen_symbol};
 ghost use Rattle.soft_bits.specs.Soft.{AreSmall};
 ghost use Rattle.explain.specs.Frame.{IsWhole, frame_at, seen_slot, broadcast_slot as broadcast_slot_of};
 
+use crate::slots::slot_of;
 use cs_num::Cpx;
 use lte_types::{CellPlace, FRAME_LENGTH, Prefix};
 use observe::symbol;
@@ -21,7 +22,7 @@ pub(crate) fn is_whole(recording: &Recording, place: CellPlace, j: u8) -> bool
 }
 
 /// How many of frames 0 to 7 of a cell lie within the recording: the first ones.
-pub fn whole_frames(recording: &Recording, place: CellPlace) -> u8
+pub(crate) fn whole_frames(recording: &Recording, place: CellPlace) -> u8
     ensures few { result ≤ 8 }
     ensures whole { (j : ℕ) → j < result → IsWhole recording.now place.start j }
     ensures all { (j : ℕ) → j < 8 → IsWhole recording.now place.start j → j < result }
@@ -66,7 +67,12 @@ fn symbols_in(recording: &Recording, frame: usize, number: u8) -> [[Cpx; 72]; 7]
 
 /// The seven symbols of a slot of frame `j` of a cell by its number, 0 to 19, as they are seen, each by 72 subcarriers.
 /// The frame lies within the recording. Components have size at most 2^25.
-pub fn symbols_of(recording: &Recording, place: CellPlace, j: u8, number: u8) -> [[Cpx; 72]; 7]
+pub(crate) fn symbols_of(
+    recording: &Recording,
+    place: CellPlace,
+    j: u8,
+    number: u8,
+) -> [[Cpx; 72]; 7]
     requires whole { IsWhole recording.now place.start j }
     requires number { number < 20 }
     ensures symbols { result ≡ (seen_slot recording.now (frame_at place.start j) number place.id).symbols }
@@ -74,15 +80,6 @@ pub fn symbols_of(recording: &Recording, place: CellPlace, j: u8, number: u8) ->
 {
     let frame = place.start() as usize + FRAME_LENGTH * j as usize;
     symbols_in(recording, frame, number)
-}
-
-/// A slot of frame `j` of a cell by its number, 0 to 19, as it is seen. The frame lies within the recording.
-pub fn slot_of(recording: &Recording, place: CellPlace, j: u8, number: u8) -> Slot
-    requires whole { IsWhole recording.now place.start j }
-    requires number { number < 20 }
-    ensures { result ≡ seen_slot recording.now (frame_at place.start j) number place.id }
-{
-    Slot::new(symbols_of(recording, place, j, number), number, place.id())
 }
 
 /// The slot of frame `j` of a cell that carries the broadcast channel, as it is seen. The frame

@@ -6,12 +6,12 @@ ghost use Rattle.explain.specs.Grant.{IsGrantOf, IsOneGrant};
 
 use crate::Workspace;
 use crate::cells::place_in;
-use crate::one_port::OnePort;
-use crate::system::system_of;
+use crate::system::system_in;
 use dci::Grant;
 use lte_types::{Cfi, Entry};
 use pbch::Master;
 use sample_file::Recording;
+use soft_bits::Slot;
 
 /// The control format indicator and the grant by which an entry's SystemInformationBlockType1 was read: those of
 /// the first of its tried frames that answered with fields. `None` exactly where the entry has none. The entry
@@ -24,13 +24,12 @@ pub fn grant_of(recording: &Recording, entry: &Entry, work: &mut Workspace) -> O
 {
     let place = place_in(recording, entry);
     let master = master_in(entry);
-    system_of(
-        &OnePort,
+    system_in::<Slot>(
         recording,
         place,
         entry.sfn,
         master,
-        &mut work.decoders,
+        &mut work.notes.decoders,
     )
     .granted
 }
@@ -46,7 +45,7 @@ fn master_in(entry: &Entry) -> Master
     }
 }
 
-/// The indicator and the grant of an entry are certain ones.
+/// The indicator and the grant by which any receiver reads the system information of a cell are certain ones.
 pub fn one_grant()
     ensures { IsOneGrant }
 {}

@@ -2,11 +2,12 @@
 
 ghost use Rattle.explain.specs.Laws.{IsOneList, IsSound, IsComplete, IsApart, IsNeverLong, OneFrameTells, OneFrameIsListed};
 ghost use Rattle.explain.specs.Deciding.{FirstFramesDecide};
+ghost use Rattle.explain.specs.Readings.{IsOneReading};
 
-/// The list of a recording in plain words: there is only one; each of its entries is one of some
+/// The list of a recording by any receiver in plain words: there is only one; each of its entries is one of some
 /// hit; for each entry of each hit it has that entry or one of the same cell; and no two of it are of
-/// one cell, so that no two have the same identity, start and frame number. No entry has the reason
-/// `Sib1Reason::LongPrefix`.
+/// one cell, so that no two have the same identity, start and frame number. Where system information is read, no entry has
+/// the reason `Sib1Reason::LongPrefix`.
 pub fn the_list_in_plain_words()
     ensures one { IsOneList }
     ensures sound { IsSound }
@@ -26,4 +27,10 @@ pub fn the_first_frames_decide()
 pub fn one_frame_is_enough()
     ensures tells { OneFrameTells }
     ensures listed { OneFrameIsListed }
+{}
+
+/// An entry of a recording was read in one way by any receiver: one hit is the first that tells its place, and the sums, the
+/// indicator and the grant are certain ones. (own)
+pub fn one_reading()
+    ensures { IsOneReading }
 {}

@@ -1,20 +1,23 @@
 //! The master blocks of a cell by a way to read its frames.
 
-ghost use Rattle.std.specs.Prelude.{◌≡◌, ℕ, ◌+◌, ◌<◌, ◌≤◌, List, IfSome, MatchOption, is_some, length};
+ghost use Rattle.std.specs.Prelude.{◌≡◌, ℕ, ◌<◌, ◌≤◌, All, List, [], IfSome, MatchOption, is_some, length};
 ghost use Rattle.finite.specs.Tests.{any_below};
-ghost use Rattle.finite.specs.Sizes.{RowsWithin};
+ghost use Rattle.arrayvec.specs.ArrayVec.{array_vec_len};
 ghost use Rattle.cs_num.specs.declared.Sample.{Sample};
 ghost use Rattle.pbch.specs.Master.{master_at};
 ghost use Rattle.explain.specs.Frame.{IsWhole};
+ghost use Rattle.explain.specs.Receiver.{sums_by};
+ghost use Rattle.explain.specs.Entries.{IsMasterFor};
 ghost use Rattle.explain.specs.Masters.{HaveMasters, AreFirstWith};
 ghost use Rattle.explain.specs.Readings.{AreSums};
-ghost use Rattle.explain.specs.Received.{IsToldBy, AreReceived, NoneTell, AreFirstOf, sums_by, taken_of};
+ghost use Rattle.explain.specs.Received.{AreReceived, NoneTell, AreFirstOf, taken_of};
 ghost use Rattle.explain.specs.Window.{TellNone, HasNoMasters};
 
 use crate::FrameReader;
 use crate::frame::whole_frames;
+use arrayvec::ArrayVec;
 use lte_types::CellPlace;
-use pbch::{Master, Sums};
+use pbch::{Master, Received, Sums, masters};
 use sample_file::Recording;
 use tailbite::Trellis;
 
@@ -28,32 +31,32 @@ pub struct Masters {
     pub sums: [Sums; 4],
 }
 
-// What was received in frames 0 to 7 of a cell, as far as they were read.
-type Received = [[i16; 480]; 8];
+// What was received in the first frames of a cell, from frame 0 on, as far as they were read.
+type Frames = ArrayVec<Received, 8>;
 
 /// The first of the whole frames 0 to 7 of a cell that have a master block at any phase, with all their
 /// master blocks: a single frame, or else two, three or four that follow one another in one period.
 /// `None` exactly where no frames have any. Each frame is received once.
-pub fn first_masters<F: FrameReader>(
+pub(crate) fn first_masters<F: FrameReader>(
     reader: &F,
     recording: &Recording,
     place: CellPlace,
     work: &mut Trellis,
 ) -> Option<Masters>
-    ensures masters { let Tells = IsToldBy (F.frame_values recording.now) F.takes in
+    ensures masters { let Tells = IsMasterFor F.receiver recording.now in
         MatchOption result (HasNoMasters Tells recording.now place)
         (λ found. AreFirstWith Tells recording.now place found.frames found.frame found.at) }
     ensures sums { IfSome result (λ found.
-        AreSums (sums_by (F.frame_values recording.now) place) found.frames found.frame found.sums) }
+        AreSums (sums_by F.receiver recording.now place) found.frames found.frame found.sums) }
 {
     let whole = whole_frames(recording, place);
-    let mut received = [[0; 480]; 8];
-    match first_alone(reader, recording, place, whole, &mut received, work) {
+    let mut frames = Frames::new();
+    match first_alone(reader, recording, place, whole, &mut frames, work) {
         Some(found) => return Some(found),
         None => {}
     }
-    for frames in 2..5 {
-        match first_of(reader, place, frames, whole, &received, work) {
+    for count in 2..5 {
+        match first_of(reader, place, count, frames.as_slice(), work) {
             Some(found) => return Some(found),
             None => {}
         }
@@ -67,24 +70,32 @@ fn first_alone<F: FrameReader>(
     recording: &Recording,
     place: CellPlace,
     whole: u8,
-    frames: &mut Received,
+    frames: &mut Frames,
     work: &mut Trellis,
 ) -> Option<Masters>
     requires few { whole ≤ 8 }
     requires whole { (j : ℕ) → j < whole → IsWhole recording.now place.start j }
-    requires sizes { RowsWithin 127 frames.old }
-    ensures found { let Tells = IsToldBy (F.frame_values recording.now) F.takes in
+    requires none { frames.old.items ≡ [] }
+    ensures found { let Tells = IsMasterFor F.receiver recording.now in
         MatchOption result (NoneTell Tells place whole 1)
         (λ found. (found.frames ≡ 1) × AreFirstOf Tells place whole 1 found.frame found.at) }
     ensures sums { IfSome result (λ found.
-        AreSums (sums_by (F.frame_values recording.now) place) found.frames found.frame found.sums) }
-    ensures received { MatchOption result (AreReceived (F.frame_values recording.now place) whole frames.new)
-        (λ found. Unit) }
-    ensures sizes { RowsWithin 127 frames.new }
+        AreSums (sums_by F.receiver recording.now place) found.frames found.frame found.sums) }
+    ensures received { MatchOption result
+        ((array_vec_len frames.new ≡ whole)
+        × AreReceived (F.receiver.broadcast recording.now place) 0 frames.new.items) (λ found. Unit) }
+    ensures sizes { All (λ frame. length frame ≡ F.receiver.size) frames.new.items }
 {
     for frame in 0..whole {
-        frames[frame as usize] = reader.received(recording, place, frame);
-        match masters_of(reader, place, 1, frame, frames, work) {
+        frames.push(reader.received(recording, place, frame));
+        let last = frame as usize;
+        match masters_of(
+            reader,
+            place,
+            frame,
+            &frames.as_slice()[last..last + 1],
+            work,
+        ) {
             Some(found) => return Some(found),
             None => {}
         }
@@ -92,31 +103,39 @@ fn first_alone<F: FrameReader>(
     None
 }
 
-// The first `count` of the first `whole` frames that have a master block together.
+// The first `count` of the first frames that have a master block together, by what was received of all of these.
 fn first_of<F: FrameReader>(
     reader: &F,
     place: CellPlace,
     count: u8,
-    whole: u8,
-    frames: &Received,
+    frames: &[Received],
     work: &mut Trellis,
 ) -> Option<Masters>
     requires some { 1 ≤ count }
     requires few { count ≤ 4 }
-    requires whole { whole ≤ 8 }
-    requires sizes { RowsWithin 127 frames.now }
+    requires known { length frames.now ≤ 8 }
+    requires sizes { All (λ frame. length frame ≡ F.receiver.size) frames.now }
     ensures masters { (recording : List Sample) →
-        AreReceived (F.frame_values recording place) whole frames.now →
-        let Tells = IsToldBy (F.frame_values recording) F.takes in
-        MatchOption result (NoneTell Tells place whole count)
-        (λ found. (found.frames ≡ count) × AreFirstOf Tells place whole count found.frame found.at) }
+        AreReceived (F.receiver.broadcast recording place) 0 frames.now →
+        let Tells = IsMasterFor F.receiver recording in
+        MatchOption result (NoneTell Tells place (length frames.now) count)
+        (λ found. (found.frames ≡ count)
+        × AreFirstOf Tells place (length frames.now) count found.frame found.at) }
     ensures sums { (recording : List Sample) →
-        AreReceived (F.frame_values recording place) whole frames.now →
+        AreReceived (F.receiver.broadcast recording place) 0 frames.now →
         IfSome result (λ found.
-        AreSums (sums_by (F.frame_values recording) place) found.frames found.frame found.sums) }
+        AreSums (sums_by F.receiver recording place) found.frames found.frame found.sums) }
 {
+    let whole = frames.len() as u8;
     for frame in 0..(whole + 1).saturating_sub(count) {
-        match masters_of(reader, place, count, frame, frames, work) {
+        let first = frame as usize;
+        match masters_of(
+            reader,
+            place,
+            frame,
+            &frames[first..first + count as usize],
+            work,
+        ) {
             Some(found) => return Some(found),
             None => {}
         }
@@ -124,38 +143,35 @@ fn first_of<F: FrameReader>(
     None
 }
 
-// The master blocks of `count` frames from a first one on, where they have any.
+// The master blocks of frames of which the first is frame `frame`, where they have any.
 fn masters_of<F: FrameReader>(
     reader: &F,
     place: CellPlace,
-    count: u8,
     frame: u8,
-    frames: &Received,
+    frames: &[Received],
     work: &mut Trellis,
 ) -> Option<Masters>
-    requires some { 1 ≤ count }
-    requires few { count ≤ 4 }
-    requires known { frame + count ≤ 8 }
-    requires sizes { RowsWithin 127 frames.now }
+    requires some { 1 ≤ length frames.now }
+    requires few { length frames.now ≤ 4 }
+    requires sizes { All (λ frame. length frame ≡ F.receiver.size) frames.now }
     ensures masters { (recording : List Sample) →
-        AreReceived (F.frame_values recording place) (frame + count) frames.now →
-        let Tells = IsToldBy (F.frame_values recording) F.takes in
-        MatchOption result (TellNone Tells place count frame)
-        (λ found. (found.frames ≡ count) × (found.frame ≡ frame)
-        × HaveMasters Tells place count frame found.at) }
+        AreReceived (F.receiver.broadcast recording place) frame frames.now →
+        let Tells = IsMasterFor F.receiver recording in
+        MatchOption result (TellNone Tells place (length frames.now) frame)
+        (λ found. (found.frames ≡ length frames.now) × (found.frame ≡ frame)
+        × HaveMasters Tells place (length frames.now) frame found.at) }
     ensures sums { (recording : List Sample) →
-        AreReceived (F.frame_values recording place) (frame + count) frames.now →
+        AreReceived (F.receiver.broadcast recording place) frame frames.now →
         IfSome result (λ found.
-        AreSums (sums_by (F.frame_values recording) place) found.frames found.frame found.sums) }
+        AreSums (sums_by F.receiver recording place) found.frames found.frame found.sums) }
 {
-    let first = frame as usize;
-    let told = pbch::masters(place.id(), &frames[first..first + count as usize], work);
+    let told = masters(place.id(), frames[0].len(), frames, work);
     let at = taken(reader, &told.at);
     if !has_master(&at) {
         return None;
     }
     Some(Masters {
-        frames: count,
+        frames: frames.len() as u8,
         frame,
         at,
         sums: told.sums,
@@ -166,7 +182,7 @@ fn masters_of<F: FrameReader>(
 fn taken<F: FrameReader>(reader: &F, all: &[Option<Master>; 4]) -> [Option<Master>; 4]
     ensures length { length result ≡ 4 }
     ensures each { (phase : ℕ) → phase < 4 →
-        master_at result phase ≡ taken_of F.takes (master_at all.now phase) }
+        master_at result phase ≡ taken_of F.receiver.takes (master_at all.now phase) }
 {
     [
         taken_one(reader, all[0]),
@@ -178,7 +194,7 @@ fn taken<F: FrameReader>(reader: &F, all: &[Option<Master>; 4]) -> [Option<Maste
 
 // A master block, where it is taken.
 fn taken_one<F: FrameReader>(reader: &F, found: Option<Master>) -> Option<Master>
-    ensures { result ≡ taken_of F.takes found }
+    ensures { result ≡ taken_of F.receiver.takes found }
 {
     match found {
         Some(master) => {
@@ -192,9 +208,9 @@ fn taken_one<F: FrameReader>(reader: &F, found: Option<Master>) -> Option<Master
     }
 }
 
-/// Whether any phase of the first of some frames has a master block.
+// Whether any phase of the first of some frames has a master block.
 #[tactic(auto, unfolding(finite::specs::Tests::any_below))]
-pub fn has_master(at: &[Option<Master>; 4]) -> bool
+fn has_master(at: &[Option<Master>; 4]) -> bool
     ensures { result ≡ any_below 4 (λ phase. is_some (master_at at.now phase)) }
 {
     at[0].is_some() || at[1].is_some() || at[2].is_some() || at[3].is_some()

@@ -5,12 +5,15 @@ ghost use Rattle.std.specs.Prelude.{◌≡◌, [], IfOk};
 use crate::places::Places;
 use crate::reading_list::Readings;
 use std::alloc::{AllocError, Global};
+use system_block::Decoders;
 
-/// What a search keeps beside its list: the places of cells that it has met, and how each entry was read.
+/// What a search keeps beside its list: the places of cells that it has met, how each entry was read, and the decoders
+/// by which it was.
 #[derive(Drop)]
 pub struct Notes {
     pub places: Places,
     pub readings: Readings,
+    pub decoders: Decoders,
 }
 
 impl Notes {
@@ -20,6 +23,11 @@ impl Notes {
     {
         let places = Places::new(alloc)?;
         let readings = Readings::new(alloc)?;
-        Ok(Notes { places, readings })
+        let decoders = Decoders::new(alloc)?;
+        Ok(Notes {
+            places,
+            readings,
+            decoders,
+        })
     }
 }

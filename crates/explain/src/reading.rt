@@ -1,21 +1,30 @@
-//! The list of hits by a way to read the cells of a recording.
+//! The list of the cells of a recording by a way to read them.
 
-ghost use Rattle.std.specs.Prelude.{◌≡◌, ◌+◌, ◌-◌, ◌<◌, ◌≤◌, true, false, List, [], ◌∷◌, ◌++◌, All, length};
+ghost use Rattle.std.specs.Prelude.{◌≡◌, ◌+◌, ◌-◌, ◌<◌, ◌≤◌, true, false, List, [], ◌∷◌, ◌++◌, All, IfOk, length};
 ghost use Rattle.std.specs.List.{AllZip};
 ghost use Rattle.lte_types.specs.declared.hit.Hit.{Hit as HitValue};
+ghost use Rattle.lte_types.specs.Frames.{AreFrames, frames_from};
+ghost use Rattle.lte_types.specs.Ranges.{IsValid};
 ghost use Rattle.pbch.specs.Master.{master_at};
-ghost use Rattle.explain.specs.Entries.{Adds, AddsHit};
-ghost use Rattle.explain.specs.Readings.{IsFirstTelling, IsReadingBy, AreSums, AddsBeside, KeepsReadings};
+ghost use Rattle.explain.specs.Receiver.{HasRoom, place_by, sums_by};
+ghost use Rattle.explain.specs.System.{IsSystemFor};
+ghost use Rattle.explain.specs.Grant.{IsGrantFor};
+ghost use Rattle.explain.specs.Entries.{Adds, AddsHit, AreEntriesFor, IsListOfHits, IsListFor};
+ghost use Rattle.explain.specs.Readings.{IsFirstTelling, IsReadingOf, IsReadingFor, AreSums, AddsBeside, KeepsReadings};
 ghost use Rattle.explain.specs.Places.{is_met};
 ghost use Rattle.explain.specs.Masters.{entry_of as entry_of_master, AddsPhase, AddsPhases};
-ghost use Rattle.explain.specs.Reader.{AreEntriesBy, IsListBy};
-ghost use Rattle.lte_types.specs.Frames.{AreFrames, frames_from};
 
-use crate::{CellReader, EntryList, Masters, Notes, Reading, Readings};
+use crate::hit_list::{early_hits, place_told};
+use crate::masters::{Masters, first_masters};
+use crate::notes::Notes;
+use crate::reading_list::Readings;
+use crate::{EntryList, FrameReader, Reading, Workspace};
 use dci::Grant;
 use lte_types::{CellPlace, Cfi, Entry, Frames, Hit};
 use pbch::Master;
+use pss_search::{hits, hits_are_right};
 use sample_file::Recording;
+use system_block::Decoders;
 
 // What a hit tells: the place of a cell, and the master blocks of its first frames that have any.
 #[derive(Drop)]
@@ -25,49 +34,49 @@ struct Found {
     masters: Masters,
 }
 
-/// Afterwards the list is that of these hits, whatever it held before, by a way to read the recording. Each hit, in
-/// their order, tells a place, an identity and a start of frames; the first of its frames that tell a master block at
-/// any phase give an entry for each of their master blocks, by phase, with the system information that is told of the
-/// cell. An entry is dropped where a kept one before it has the same identity and an epoch at most 9 samples away,
-/// modulo 1,024 frames. The list is in order of start, identity and frame number, and the notes have how each entry
-/// was read. There are at most 5,760 hits. It takes no memory. (own)
-pub fn explain_by<R: CellReader>(
-    reader: &mut R,
+/// Afterwards the list is that of the recording by a way to read its cells, whatever it held before. Each hit that
+/// has room before it for the secondary signal tells a place, by their order: an identity and a start of frames.
+/// The first of its whole frames 0 to 7 that tells a master block at any phase gives an entry for each of its
+/// master blocks, by phase; where none does, the first two, three or four frames that follow one another in one
+/// period and do by the sums of their values. An entry has the system information that is told of the cell, whose
+/// fields are in their ranges. An entry is dropped where a kept one before it has the same identity and an epoch at
+/// most 9 samples away, modulo 1,024 frames. The list is in order of start, identity and frame number. The
+/// workspace then has how each of them was read. It takes no memory. (own)
+pub fn explain_by<F: FrameReader>(
+    reader: &F,
     recording: &Recording,
-    hits: &[Hit],
-    notes: &mut Notes,
+    work: &mut Workspace,
     list: &mut EntryList,
 )
-    requires placed { All (R.can_place recording.now) hits.now }
-    requires few { length hits.now ≤ 5760 }
-    ensures list { IsListBy (R.tells recording.now) (R.told recording.now) recording.now (R.place_by recording.now)
-        hits.now list.new }
-    ensures readings { AllZip (IsReadingBy (R.sums recording.now) (R.grants recording.now) (R.place_by recording.now)
-        hits.now) list.new notes.new.readings }
+    ensures list { IsListFor F.receiver recording.now list.new }
+    ensures readings { AllZip (IsReadingFor F.receiver recording.now) list.new work.new }
+    ensures valid { All (λ entry. IfOk entry.sib1 IsValid) list.new }
 {
+    hits(recording, &mut work.hits);
+    hits_are_right();
+    let hits = work.hits.slice();
+    let first = early_hits(hits, reader.carrier());
     list.clear();
-    notes.places.clear();
-    notes.readings.clear();
-    add_hits(reader, recording, hits, notes, list);
+    work.notes.places.clear();
+    work.notes.readings.clear();
+    add_hits(reader, recording, &hits[first..], &mut work.notes, list);
 }
 
-// Adds the entries of hits to the empty list.
-fn add_hits<R: CellReader>(
-    reader: &mut R,
+// Adds the entries of the hits that are taken to the empty list.
+fn add_hits<F: FrameReader>(
+    reader: &F,
     recording: &Recording,
     hits: &[Hit],
     notes: &mut Notes,
     list: &mut EntryList,
 )
-    requires placed { All (R.can_place recording.now) hits.now }
+    requires placed { All (HasRoom F.receiver.carrier) hits.now }
     requires few { length hits.now ≤ 5760 }
     requires none_met { notes.old.places ≡ [] }
     requires none_read { notes.old.readings ≡ [] }
     requires empty { list.old ≡ [] }
-    ensures list { IsListBy (R.tells recording.now) (R.told recording.now) recording.now (R.place_by recording.now)
-        hits.now list.new }
-    ensures readings { AllZip (IsReadingBy (R.sums recording.now) (R.grants recording.now) (R.place_by recording.now)
-        hits.now) list.new notes.new.readings }
+    ensures list { IsListOfHits (AreEntriesFor F.receiver recording.now) hits.now list.new }
+    ensures readings { AllZip (IsReadingOf F.receiver recording.now hits.now) list.new notes.new.readings }
 {
     for hit in hits {
         add_hit(reader, recording, hit, notes, list);
@@ -76,118 +85,128 @@ fn add_hits<R: CellReader>(
 
 // Adds the entries of a hit, unless its place was met before: each of them is then of the cell of one that
 // stands in the list already.
-fn add_hit<R: CellReader>(
-    reader: &mut R,
+fn add_hit<F: FrameReader>(
+    reader: &F,
     recording: &Recording,
     hit: &Hit,
     notes: &mut Notes,
     list: &mut EntryList,
 )
-    requires placed { R.can_place recording.now hit.now }
+    requires placed { HasRoom F.receiver.carrier hit.now }
     requires few_met { length notes.old.places < 5760 }
     requires beside { length notes.old.readings ≡ length list.old }
     requires room { length list.old + 4 ≤ 23040 }
-    ensures again { is_met notes.old.places (R.place_by recording.now hit.now) ≡ true → list.new ≡ list.old }
-    ensures same { is_met notes.old.places (R.place_by recording.now hit.now) ≡ true → notes.new ≡ notes.old }
-    ensures adds { is_met notes.old.places (R.place_by recording.now hit.now) ≡ false →
-        AddsHit (AreEntriesBy (R.tells recording.now) (R.told recording.now) recording.now (R.place_by recording.now))
-        hit.now list.old list.new }
-    ensures met { is_met notes.old.places (R.place_by recording.now hit.now) ≡ false →
-        notes.new.places ≡ notes.old.places ++ R.place_by recording.now hit.now ∷ [] }
+    ensures again { is_met notes.old.places (place_by F.receiver.carrier recording.now hit.now) ≡ true →
+        list.new ≡ list.old }
+    ensures same { is_met notes.old.places (place_by F.receiver.carrier recording.now hit.now) ≡ true →
+        notes.new ≡ notes.old }
+    ensures adds { is_met notes.old.places (place_by F.receiver.carrier recording.now hit.now) ≡ false →
+        AddsHit (AreEntriesFor F.receiver recording.now) hit.now list.old list.new }
+    ensures met { is_met notes.old.places (place_by F.receiver.carrier recording.now hit.now) ≡ false →
+        notes.new.places ≡ notes.old.places ++ place_by F.receiver.carrier recording.now hit.now ∷ [] }
     ensures readings { (hits : List HitValue) →
-        IsFirstTelling (R.place_by recording.now) hits (R.place_by recording.now hit.now) hit.now →
-        KeepsReadings (IsReadingBy (R.sums recording.now) (R.grants recording.now) (R.place_by recording.now) hits)
+        IsFirstTelling (place_by F.receiver.carrier recording.now) hits
+        (place_by F.receiver.carrier recording.now hit.now) hit.now →
+        KeepsReadings (IsReadingOf F.receiver recording.now hits)
         list.old list.new notes.old.readings notes.new.readings }
     ensures beside { length notes.new.readings ≡ length list.new }
     ensures one_met { length notes.new.places ≤ length notes.old.places + 1 }
     ensures few { length list.new ≤ length list.old + 4 }
 {
-    let place = reader.place_of(recording, hit);
+    let place = place_told(recording, hit, reader.carrier());
     if notes.places.has(&place) {
         return;
     }
     notes.places.add(&place);
-    reader.tells_one_answer();
-    match reader.first_masters(recording, place) {
+    match first_masters(reader, recording, place, &mut notes.decoders.trellis) {
         Some(masters) => {
             let found = Found {
                 hit: *hit,
                 place,
                 masters,
             };
-            add_masters(reader, recording, &found, &mut notes.readings, list);
+            add_masters(reader, recording, &found, notes, list);
         }
         None => {}
     }
 }
 
 // Adds the entries of the master blocks that a hit tells.
-fn add_masters<R: CellReader>(
-    reader: &mut R,
+fn add_masters<F: FrameReader>(
+    reader: &F,
     recording: &Recording,
     found: &Found,
-    readings: &mut Readings,
+    notes: &mut Notes,
     list: &mut EntryList,
 )
     requires some { 1 ≤ found.now.masters.frames }
     requires few { found.now.masters.frames ≤ 4 }
     requires known { found.now.masters.frame + found.now.masters.frames ≤ 8 }
     requires count { length found.now.masters.at ≡ 4 }
-    requires sums { AreSums (R.sums recording.now found.now.place) found.now.masters.frames found.now.masters.frame
-        found.now.masters.sums }
-    requires beside { length readings.old ≡ length list.old }
+    requires sums { AreSums (sums_by F.receiver recording.now found.now.place) found.now.masters.frames
+        found.now.masters.frame found.now.masters.sums }
+    requires beside { length notes.old.readings ≡ length list.old }
     requires room { length list.old + 4 ≤ 23040 }
-    ensures adds { AddsPhases (R.told recording.now) found.now.place found.now.masters.frames found.now.masters.frame
-        found.now.masters.at (5 - found.now.masters.frames) list.old list.new }
+    ensures adds { AddsPhases (IsSystemFor F.receiver recording.now) found.now.place found.now.masters.frames
+        found.now.masters.frame found.now.masters.at (5 - found.now.masters.frames) list.old list.new }
     ensures readings { (hits : List HitValue) →
-        IsFirstTelling (R.place_by recording.now) hits found.now.place found.now.hit →
-        KeepsReadings (IsReadingBy (R.sums recording.now) (R.grants recording.now) (R.place_by recording.now) hits)
-        list.old list.new readings.old readings.new }
-    ensures beside { length readings.new ≡ length list.new }
+        IsFirstTelling (place_by F.receiver.carrier recording.now) hits found.now.place found.now.hit →
+        KeepsReadings (IsReadingOf F.receiver recording.now hits)
+        list.old list.new notes.old.readings notes.new.readings }
+    ensures places { notes.new.places ≡ notes.old.places }
+    ensures beside { length notes.new.readings ≡ length list.new }
     ensures few { length list.new ≤ length list.old + 4 }
 {
     for phase in 0..5 - found.masters.frames {
-        add_phase(reader, recording, found, phase, readings, list);
+        add_phase(reader, recording, found, phase, notes, list);
     }
 }
 
 // Adds the entry of the master block of a phase, where there is one. A private call of six parameters: what a hit tells
 // at a phase is added to both lists.
-fn add_phase<R: CellReader>(
-    reader: &mut R,
+fn add_phase<F: FrameReader>(
+    reader: &F,
     recording: &Recording,
     found: &Found,
     phase: u8,
-    readings: &mut Readings,
+    notes: &mut Notes,
     list: &mut EntryList,
 )
     requires frames { AreFrames (frames_from found.now.masters.frames found.now.masters.frame phase) }
     requires count { length found.now.masters.at ≡ 4 }
-    requires sums { AreSums (R.sums recording.now found.now.place) found.now.masters.frames found.now.masters.frame
-        found.now.masters.sums }
-    requires beside { length readings.old ≡ length list.old }
+    requires sums { AreSums (sums_by F.receiver recording.now found.now.place) found.now.masters.frames
+        found.now.masters.frame found.now.masters.sums }
+    requires beside { length notes.old.readings ≡ length list.old }
     requires room { length list.old < 23040 }
-    ensures adds { AddsPhase (R.told recording.now) found.now.place
+    ensures adds { AddsPhase (IsSystemFor F.receiver recording.now) found.now.place
         (frames_from found.now.masters.frames found.now.masters.frame phase)
         (master_at found.now.masters.at phase) list.old list.new }
     ensures readings { (hits : List HitValue) →
-        IsFirstTelling (R.place_by recording.now) hits found.now.place found.now.hit →
-        KeepsReadings (IsReadingBy (R.sums recording.now) (R.grants recording.now) (R.place_by recording.now) hits)
-        list.old list.new readings.old readings.new }
-    ensures beside { length readings.new ≡ length list.new }
+        IsFirstTelling (place_by F.receiver.carrier recording.now) hits found.now.place found.now.hit →
+        KeepsReadings (IsReadingOf F.receiver recording.now hits)
+        list.old list.new notes.old.readings notes.new.readings }
+    ensures places { notes.new.places ≡ notes.old.places }
+    ensures beside { length notes.new.readings ≡ length list.new }
     ensures one { length list.new ≤ length list.old + 1 }
 {
     let frames = frames_at(&found.masters, phase);
     let master = found.masters.at[phase as usize];
     match master {
         Some(master) => {
-            let (entry, granted) = entry_of(reader, recording, found.place, frames, master);
+            let (entry, granted) = entry_of(
+                reader,
+                recording,
+                found.place,
+                frames,
+                master,
+                &mut notes.decoders,
+            );
             let reading = Reading {
                 hit: found.hit,
                 sums: found.masters.sums[phase as usize],
                 granted,
             };
-            add_entry(entry, reading, readings, list);
+            add_entry(entry, reading, &mut notes.readings, list);
         }
         None => {}
     }
@@ -205,19 +224,20 @@ fn frames_at(masters: &Masters, phase: u8) -> Frames
 }
 
 // The entry of a master block that frames tell, and by which grant its system information was read.
-fn entry_of<R: CellReader>(
-    reader: &mut R,
+fn entry_of<F: FrameReader>(
+    reader: &F,
     recording: &Recording,
     place: CellPlace,
     frames: Frames,
     master: Master,
+    work: &mut Decoders,
 ) -> (Entry, Option<(Cfi, Grant)>)
     ensures entry { result.0 ≡ entry_of_master place frames master result.0.sib1 }
-    ensures system { R.told recording.now place result.0.sfn master.ports master.mib result.0.sib1 }
-    ensures granted { R.grants recording.now place result.0.sfn master.mib result.0.sib1 result.1 }
+    ensures system { IsSystemFor F.receiver recording.now place result.0.sfn master.ports master.mib result.0.sib1 }
+    ensures granted { IsGrantFor F.receiver recording.now place result.0.sfn master.mib result.0.sib1 result.1 }
 {
     let sfn = frames.first_number(master.mib.upper);
-    let informed = reader.system_of(recording, place, sfn, master);
+    let informed = reader.system_of(recording, place, sfn, master, work);
     let entry = Entry {
         id: place.id(),
         start: place.start(),

@@ -1,16 +1,18 @@
-//! The system information of a cell by a way to read its frames.
+//! The system information of a cell.
 
-ghost use Rattle.std.specs.Prelude.{◌≡◌, ◌<◌, ◌+◌, ◌*◌, ◌%◌, None, Err};
-ghost use Rattle.explain.specs.System.{even_frame as even_frame_of, IsReadFrom, IsSystemBy};
+ghost use Rattle.std.specs.Prelude.{◌≡◌, ◌<◌, ◌+◌, ◌*◌, ◌%◌, Some, None, Err};
+ghost use Rattle.explain.specs.Receiver.{subframes_by};
+ghost use Rattle.explain.specs.System.{even_frame as even_frame_of, FrameAnswers, IsReadFrom, IsSystemWith};
 ghost use Rattle.system_block.specs.Attempt.{granted_by};
-ghost use Rattle.explain.specs.Grant.{IsGrantBy};
+ghost use Rattle.explain.specs.Grant.{IsFrameAttempt, IsGrantBy, IsGrantWith};
 
-use crate::FrameReader;
 use crate::frame::is_whole;
+use crate::slots::attempt_at;
 use dci::Grant;
 use lte_types::{Bandwidth, CellPlace, Cfi, Mib, Sfn, Sib1, Sib1Reason};
 use pbch::Master;
 use sample_file::Recording;
+use soft_bits::ReadSlot;
 use system_block::{Attempt, Decoders};
 
 /// What is told of the system information of a cell, and by which indicator and grant it was read.
@@ -22,32 +24,30 @@ pub struct Informed {
     pub granted: Option<(Cfi, Grant)>,
 }
 
-/// SystemInformationBlockType1 of a cell whose first frame has the number `sfn`: `NotOnePort` where the master block
-/// tells other antenna ports than the reader's carrier has, `Bandwidth` where it tells another bandwidth than 6
-/// resource blocks; otherwise the first fields that one of the first eight whole frames of even number tells, or the
-/// reason of the first of these frames. With fields come the indicator and the grant by which that frame's were read. It takes six
-/// parameters, since a reader of frames lends its decoders for the whole list and keeps nothing itself.
-pub fn system_of<F: FrameReader>(
-    reader: &F,
+/// SystemInformationBlockType1 of a cell whose first frame has the number `sfn`, by slots with the normal cyclic
+/// prefix: `NotOnePort` where the master block tells other antenna ports than the slot's carrier has, `Bandwidth`
+/// where it tells another bandwidth than 6 resource blocks; otherwise the first fields that one of the first eight
+/// whole frames of even number tells, or the reason of the first of these frames. With fields come the indicator
+/// and the grant by which that frame's were read.
+pub fn system_in<S: ReadSlot>(
     recording: &Recording,
     place: CellPlace,
     sfn: Sfn,
     master: Master,
     work: &mut Decoders,
 ) -> Informed
-    ensures system { IsSystemBy F.carrier (F.answers recording.now place master.mib) recording.now
-        place.start sfn master.ports master.mib result.sib1 }
-    ensures granted { IsGrantBy (F.attempts recording.now place master.mib) recording.now place.start sfn result.sib1
-        result.granted }
+    ensures told { IsSystemWith S.carrier (Some (subframes_by S.carrier S.values_by)) recording.now place sfn
+        master.ports master.mib result.sib1 }
+    ensures granted { IsGrantWith (Some (subframes_by S.carrier S.values_by)) recording.now place sfn master.mib
+        result.sib1 result.granted }
 {
-    if master.ports != reader.carrier().ports() {
+    if master.ports != S::carrier().ports() {
         return not_read(Sib1Reason::NotOnePort(master.ports));
     }
     if master.mib.bandwidth != Bandwidth::N6 {
         return not_read(Sib1Reason::Bandwidth(master.mib.bandwidth));
     }
-    reader.answers_once();
-    read_frames(reader, recording, place, sfn, master.mib, work)
+    read_frames::<S>(recording, place, sfn, master.mib, work)
 }
 
 // No fields for this reason.
@@ -62,25 +62,24 @@ fn not_read(reason: Sib1Reason) -> Informed
 }
 
 // The first fields that a tried frame tells, or else the reason of the first.
-fn read_frames<F: FrameReader>(
-    reader: &F,
+fn read_frames<S: ReadSlot>(
     recording: &Recording,
     place: CellPlace,
     sfn: Sfn,
     mib: Mib,
     work: &mut Decoders,
 ) -> Informed
-    ensures read { IsReadFrom (F.answers recording.now place mib) recording.now place.start sfn result.sib1 }
-    ensures granted { IsGrantBy (F.attempts recording.now place mib) recording.now place.start sfn result.sib1
-        result.granted }
+    ensures read { IsReadFrom (FrameAnswers (subframes_by S.carrier S.values_by) recording.now place mib) recording.now
+        place.start sfn result.sib1 }
+    ensures granted { IsGrantBy (IsFrameAttempt (subframes_by S.carrier S.values_by) recording.now place mib)
+        recording.now place.start sfn result.sib1 result.granted }
 {
     let first = even_frame(sfn, 0);
     // A recording has at least three frames, so that the first of even number lies within it.
     let count = recording.len();
     let start = place.start();
     prove!(57_600 <= count && start < 19_200);
-    reader.answers_once();
-    let told = informed_by(reader.attempt(recording, place, first, mib, work));
+    let told = informed_by(attempt_at::<S>(recording, place, first, mib, work));
     if told.sib1.is_ok() {
         return told;
     }
@@ -89,7 +88,7 @@ fn read_frames<F: FrameReader>(
         if !is_whole(recording, place, j) {
             return told;
         }
-        let later = informed_by(reader.attempt(recording, place, j, mib, work));
+        let later = informed_by(attempt_at::<S>(recording, place, j, mib, work));
         if later.sib1.is_ok() {
             return later;
         }

@@ -8,15 +8,13 @@ use crate::readings::Reading;
 use pss_search::HitList;
 use std::alloc::{AllocError, Global};
 use std::marker::Model;
-use system_block::Decoders;
 
-/// The working memory of a search for cells. Contracts see it as how the entries of the last list were read, in
+/// The working memory of a search for cells by any receiver. Contracts see it as how the entries of the last list were read, in
 /// the order of the list; what else it holds between two searches means nothing.
 #[derive(Drop)]
 pub struct Workspace {
     pub(crate) hits: HitList,
     pub(crate) notes: Notes,
-    pub(crate) decoders: Decoders,
 }
 
 impl Model for Workspace {
@@ -32,12 +30,7 @@ impl Workspace {
     {
         let hits = HitList::new(alloc)?;
         let notes = Notes::new(alloc)?;
-        let decoders = Decoders::new(alloc)?;
-        Ok(Workspace {
-            hits,
-            notes,
-            decoders,
-        })
+        Ok(Workspace { hits, notes })
     }
 
     /// How the entries of the last list were read, in its order.

@@ -1,5 +1,5 @@
-use Rattle.std.proofs.Common.{◌≡◌, ℕ, ◌+◌, ◌<◌, [], length, slice_index_or}
-use Rattle.finite.specs.Sizes.{RowsWithin}
+use Rattle.std.proofs.Common.{◌≡◌, ◌+◌, length}
+use Rattle.finite.specs.Lists.{values_below}
 use Rattle.pbch.specs.Values.{received_values}
 use Rattle.explain.specs.Frame.{broadcast_slot}
 use Rattle.explain.proofs.cells.values_of.Given as goal
@@ -7,7 +7,6 @@ use Rattle.explain.proofs.cells.values_of.Given as goal
 -- the frames so far were received
 abbrev pub invariant-loop-m : goal.invariant-loop-m
 invariant-loop-m l = record {
-  whole : length l.frames ≡ 4;
-  each : (m : ℕ) → m < l.m → slice_index_or l.frames m [] ≡ received_values (broadcast_slot l.recording l.entry.id l.entry.start (l.entry.frame + m));
-  sizes : RowsWithin 127 l.frames;
+  so_far : l.frames.items ≡ values_below l.m (λ m. received_values (broadcast_slot l.recording l.entry.id l.entry.start (l.entry.frame + m)));
+  count : length l.frames.items ≡ l.m;
 }

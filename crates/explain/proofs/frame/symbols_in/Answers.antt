@@ -1,4 +1,4 @@
-use Rattle.std.proofs.Common.{◌∙◌, refl}
+use Rattle.std.proofs.Common.{refl}
 use Rattle.explain.specs.Frame.{seen_slot}
 use Rattle.explain.proofs.frame.symbols_in.Goals as goal
 

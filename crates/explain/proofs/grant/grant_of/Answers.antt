@@ -3,8 +3,8 @@ use Rattle.explain.proofs.grant.grant_of.Goals as goal
 
 pub returns-clause-grant : goal.returns-clause-grant
 returns-clause-grant c =
-    grant_told c.args.recording.now c.args.entry.now c.place_in-place.result c.master_in-master.result c.system_of.result.sib1 c.system_of.result.granted
-    c.requires c.place_in-place.ensures c.master_in-master.ensures c.system_of.ensures.system c.system_of.ensures.granted
+    grant_told c.args.recording.now c.args.entry.now c.place_in-place.result c.master_in-master.result c.system_in.result.sib1 c.system_in.result.granted
+    c.requires c.place_in-place.ensures c.master_in-master.ensures c.system_in.ensures.told c.system_in.ensures.granted
 
 pub returns-clause-none : goal.returns-clause-none
-returns-clause-none c = none_told c.args.recording.now c.args.entry.now c.system_of.result.granted (returns-clause-grant c)
+returns-clause-none c = none_told c.args.recording.now c.args.entry.now c.system_in.result.granted (returns-clause-grant c)

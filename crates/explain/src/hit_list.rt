@@ -1,0 +1,37 @@
+//! The hits that a way to read cells takes.
+
+ghost use Rattle.std.specs.Prelude.{◌≡◌, ◌≤◌, All, drop, filter, length};
+ghost use Rattle.std.specs.List.{AllPairs};
+ghost use Rattle.pss_search.specs.Hits.{IsInSpan};
+ghost use Rattle.pss_search.specs.Laws.{IsEarlier};
+ghost use Rattle.explain.specs.Receiver.{HasRoom, has_step_before, place_by};
+
+use lte_types::{Carrier, CellPlace, Hit};
+use sample_file::Recording;
+use sss_detect::place_with;
+
+// The number of hits, from the first on, before which there is no room for the secondary signal.
+pub(crate) fn early_hits(hits: &[Hit], carrier: Carrier) -> usize
+    requires span { All IsInSpan hits.now }
+    requires order { AllPairs IsEarlier hits.now }
+    ensures within { result ≤ length hits.now }
+    ensures later { filter (has_step_before carrier) hits.now ≡ drop result hits.now }
+{
+    let step = carrier.prefix().step();
+    for (at, hit) in hits.iter().enumerate() {
+        if step <= hit.t as usize {
+            return at;
+        }
+    }
+    hits.len()
+}
+
+// The place of the cell that a hit tells.
+pub(crate) fn place_told(recording: &Recording, hit: &Hit, carrier: Carrier) -> CellPlace
+    requires { HasRoom carrier hit.now }
+    ensures { result ≡ place_by carrier recording.now hit.now }
+{
+    let end = recording.len();
+    prove!(hit.t as usize + 128 <= end);
+    place_with(recording, hit, carrier.prefix())
+}

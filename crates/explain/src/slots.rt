@@ -1,0 +1,49 @@
+//! The frames of a cell by slots with the normal cyclic prefix.
+
+ghost use Rattle.std.specs.Prelude.{◌≡◌, ◌<◌, length};
+ghost use Rattle.explain.specs.Frame.{IsWhole, frame_at, seen_slot};
+ghost use Rattle.explain.specs.Receiver.{broadcast_by, subframes_by};
+ghost use Rattle.system_block.specs.Attempt.{IsAttempt};
+
+use crate::frame::symbols_of;
+use lte_types::{CellPlace, Mib};
+use pbch::{Received, received};
+use sample_file::Recording;
+use soft_bits::ReadSlot;
+use system_block::{Attempt, Decoders, attempt_in};
+
+/// A slot of frame `j` of a cell by its number, 0 to 19, as it is seen. The frame lies within the recording.
+pub fn slot_of<S: ReadSlot>(recording: &Recording, place: CellPlace, j: u8, number: u8) -> S
+    requires whole { IsWhole recording.now place.start j }
+    requires number { number < 20 }
+    ensures { S.seen_as result ≡ seen_slot recording.now (frame_at place.start j) number place.id }
+{
+    S::of(symbols_of(recording, place, j, number), number, place.id())
+}
+
+/// The values of the broadcast channel in frame `j` of a cell, by the slot that carries it. The frame lies within the
+/// recording.
+pub fn received_in<S: ReadSlot>(recording: &Recording, place: CellPlace, j: u8) -> Received
+    requires { IsWhole recording.now place.start j }
+    ensures values { result ≡ broadcast_by S.values_by recording.now place j }
+    ensures length { length result ≡ 480 }
+{
+    let slot: S = slot_of(recording, place, j, 1);
+    received(&slot)
+}
+
+/// The attempt to read system information in subframe 5 of frame `j` of a cell, which lies within the recording.
+pub(crate) fn attempt_at<S: ReadSlot>(
+    recording: &Recording,
+    place: CellPlace,
+    j: u8,
+    mib: Mib,
+    work: &mut Decoders,
+) -> Attempt
+    requires { IsWhole recording.now place.start j }
+    ensures { IsAttempt (subframes_by S.carrier S.values_by recording.now place j mib.duration mib.resource) result }
+{
+    let first: S = slot_of(recording, place, j, 10);
+    let second: S = slot_of(recording, place, j, 11);
+    attempt_in(&first, &second, mib, work)
+}
