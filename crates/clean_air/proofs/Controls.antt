@@ -26,9 +26,9 @@ use Rattle.dci.proofs.Words.{sent_carries}
 use Rattle.soft_bits.specs.Soft.{SeenSlot}
 use Rattle.soft_bits.specs.Places.{soft_values_of}
 use Rattle.pcfich.specs.Indicator.{IsIndicator, Speak}
-use Rattle.pcfich.specs.Values.{indicator_values}
+use Rattle.pcfich.specs.Values.{indicator_values, indicator_values_by}
 use Rattle.pcfich.proofs.Indicators.{some_indicator, spoken_indicator}
-use Rattle.pdcch.specs.Candidate.{stream_values, candidate_values}
+use Rattle.pdcch.specs.Candidate.{stream_values_by, candidate_values}
 use Rattle.system_block.specs.Subframe.{Subframe, one_port}
 use Rattle.system_block.specs.Control.{Grants}
 use Rattle.system_block.specs.Attempt.{Follows}
@@ -58,7 +58,7 @@ sent_indicator_is_told values indicator low high speak =
 -- values of the channel's places that speak for the scrambled bits tell the indicator
 indicator_heard : (slot : SeenSlot) (indicator : ℕ) → 1 ≤ indicator → indicator ≤ 3 →
     AreHeard 8 (2 * length (pcfich_places slot.identity)) (indicator_scrambled slot indicator) (soft_values_of slot (pcfich_places slot.identity)) → TellsIndicator slot indicator
-unfolding indicator_values
+unfolding indicator_values_by
 indicator_heard slot indicator low high heard = record { speak = speak; told = sent_indicator_is_told (indicator_values slot) indicator low high speak }
   where
     all : AreHeard 8 (2 * 16) (indicator_bit indicator) (indicator_values slot)
@@ -131,7 +131,7 @@ four_elements identity indicator duration resource low high =
 grant_heard : (slot : SeenSlot) (indicator : ℕ) (duration : Duration) (resource : Resource) (grant : Grant) → 2 ≤ indicator → indicator ≤ 3 → IsGrant grant →
     AreHeard 8 (2 * length (grant_places slot indicator duration resource)) (grant_scrambled slot grant) (soft_values_of slot (grant_places slot indicator duration resource)) →
     TellsGrant slot indicator duration resource grant
-unfolding stream_values
+unfolding stream_values_by
 grant_heard slot indicator duration resource grant low high is heard = record {
   enough = elements;
   speak = speak;

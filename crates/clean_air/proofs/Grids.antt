@@ -11,6 +11,3 @@ received_same eps gain grid other samples same received = record {
   quiet = received.quiet;
   near = λ n l. subst (λ (z : Cpx). IsWithin eps (minus (samples n) (times gain z))) (useful_same grid other n same) (received.near n l);
 }
-
-pub amplitudes_same : (grid other : ℕ → Cpx) → ((k : ℕ) → k < 72 → grid k ≡ other k) → AreAmplitudes grid → AreAmplitudes other
-amplitudes_same grid other same small k l = subst (λ (z : Cpx). square z ≤ 256 * 256) (same k l) (small k l)

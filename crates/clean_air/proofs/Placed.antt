@@ -1,5 +1,5 @@
--- Where the places of the channels stand: those of the control region in the first slot, all in the grid.
-use Rattle.std.proofs.Common.{ℕ, ◌<◌, ◌≤◌, Bool, get_or, arith}
+-- Where the places of the control region stand: in the first slot, all in the grid.
+use Rattle.std.proofs.Common.{ℕ, ◌<◌, ◌≤◌, get_or, arith}
 use Rattle.std.specs.Prelude.{All}
 use Rattle.std.proofs.lemmas.List.Elements.{All-from_get_or}
 use Rattle.lte_types.specs.declared.duration.Duration.{Duration}
@@ -8,17 +8,13 @@ use Rattle.grid_map.specs.declared.Place.{Place}
 use Rattle.grid_map.specs.Place.{place}
 use Rattle.grid_map.specs.Control.{pcfich_places, pdcch_groups}
 use Rattle.grid_map.specs.Candidate.{candidate_places}
-use Rattle.grid_map.specs.Shared.{shared_places_of}
 use Rattle.grid_map.proofs.Pieces.{length-pcfich_places}
 use Rattle.grid_map.proofs.Indexed.{candidate_indexed, pdcch_carry}
-use Rattle.grid_map.proofs.Apart.{IsInRegion, indicator_place, control_place, shared_place}
+use Rattle.grid_map.proofs.Apart.{IsInRegion, indicator_place, control_place}
 
--- a place of the first slot, and of the subframe
+-- a place of the first slot
 abbrev pub IsInSlot : Place → Type 0
 IsInSlot p = (p.symbol < 7) × (p.k < 72)
-
-abbrev pub IsInSubframe : Place → Type 0
-IsInSubframe p = (p.symbol < 14) × (p.k < 72)
 
 -- the control region has at most four symbols
 in_region : (identity last : ℕ) (p : Place) → last ≤ 3 → IsInRegion identity last p → IsInSlot p
@@ -35,8 +31,3 @@ candidate_placed identity cfi duration resource low high =
     let size = (candidate_indexed identity _ (pdcch_carry identity cfi duration resource low high)).size in
     All-from_get_or IsInSlot places (place 0 0)
     (λ i l. in_region identity cfi (get_or places i (place 0 0)) high (control_place identity cfi duration resource low high i (omega (arith, l, size))))
-
-pub shared_placed : (two : Bool) (identity cfi start blocks : ℕ) → All IsInSubframe (shared_places_of two identity cfi start blocks)
-shared_placed two identity cfi start blocks =
-    All-from_get_or IsInSubframe (shared_places_of two identity cfi start blocks) (place 0 0)
-    (λ i l. let at = shared_place two identity cfi start blocks i l in (at.symbol, at.k))

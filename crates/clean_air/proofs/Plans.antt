@@ -4,16 +4,19 @@ use Rattle.std.proofs.Common.{◌≡◌, ℕ, ◌+◌, ◌%◌, ◌<◌, ◌≤�
 use Rattle.cs_num.specs.declared.Cpx.{Cpx}
 use Rattle.cs_num.specs.declared.Sample.{Sample}
 use Rattle.lte_types.specs.declared.bandwidth.Bandwidth.TheVariants.{N6}
+use Rattle.lte_types.specs.declared.carrier.Carrier.TheVariants.{OnePort}
 use Rattle.lte_types.specs.declared.duration.Duration.{Duration}
 use Rattle.lte_types.specs.declared.resource.Resource.{Resource}
 use Rattle.lte_types.specs.declared.sib1.Sib1.{Sib1}
 use Rattle.lte_types.specs.declared.sib1_reason.Sib1Reason.{Sib1Reason}
 use Rattle.lte_types.specs.declared.entry.Entry.{Entry}
 use Rattle.dci.specs.declared.grant.Grant.{Grant}
+use Rattle.soft_bits.specs.Places.{placed_values}
 use Rattle.system_block.specs.declared.reading.Attempt.{Attempt}
 use Rattle.system_block.specs.Subframe.{Subframe, one_port}
 use Rattle.system_block.specs.Attempt.{IsAttempt}
 use Rattle.explain.specs.Frame.{frame_at, seen_slot}
+use Rattle.explain.specs.Receiver.{subframes_by, one_port_receiver}
 use Rattle.explain.specs.Entries.{place_of, IsInList}
 use Rattle.explain.specs.Grant.{IsFrameAttempt, IsReadBy, IsGrantOf}
 use Rattle.explain.specs.System.{even_frame}
@@ -44,7 +47,7 @@ same_told a b e = cc
 
 pub one_planned : (recording : List Sample) (entry : Entry) (a b : CellPlan) → IsPlanned recording entry a → IsPlanned recording entry b → a ≡ b
 one_planned recording entry a b p q =
-    let told = same_told (a.cfi, p.grant) (b.cfi, q.grant) (one_grant_of recording entry (Some (a.cfi, p.grant)) (Some (b.cfi, q.grant)) p.granted q.granted) in
+    let told = same_told (a.cfi, p.grant) (b.cfi, q.grant) (one_grant_of one_port_receiver recording (place_of entry) entry.sfn entry.mib entry.sib1 (Some (a.cfi, p.grant)) (Some (b.cfi, q.grant)) p.granted q.granted) in
     let block = same_block a.sib1 b.sib1 entry.sib1 p.listed q.listed in
     p.told
     ∙ ap (λ (t : ℕ × Grant). plan_by entry t.0 t.1 a.sib1) told
@@ -62,19 +65,16 @@ one_plan_of recording entry (Some a) (Some b) p q = ap (λ (plan : CellPlan). So
 -- its fields are in their ranges
 pub valid_fields : (recording : List Sample) (entry : Entry) (fields : Sib1) → IsInList recording entry → entry.sib1 ≡ Ok fields → IsValid fields
 valid_fields recording entry fields listed same =
-    let known = is_sound recording listed.list entry listed.explained listed.inside in
+    let known = is_sound one_port_receiver recording listed.list entry listed.explained listed.inside in
     subst (λ (answer : Result Sib1 Sib1Reason). IfOk answer IsValid) same
-    (system_is_valid recording (place_of entry) entry.sfn entry.ports entry.mib entry.sib1 known.is_of.sib1)
+    (system_is_valid one_port_receiver recording (place_of entry) entry.sfn entry.ports entry.mib entry.sib1 known.is_of.sib1)
 
 -- the plan that is made is the entry's, where it is accepted
 module _ (recording : List Sample) (entry : Entry) (indicator : ℕ) (grant : Grant) (fields : Sib1) (granted : IsGrantOf recording entry (Some (indicator, grant)))
     (same : entry.sib1 ≡ Ok fields) where
-  pub made_planned : entry.ports ≡ 1 → entry.mib.bandwidth ≡ N6 → plan_refusal (plan_by entry indicator grant fields) ≡ None → IsPlanned recording entry (plan_by entry indicator grant fields)
-  made_planned ports width accepted = record { grant = grant; granted = granted; listed = same; ports = ports; bandwidth = width; told = refl; accepted = accepted }
-
   pub refused_plan : (cause : CellError) → plan_refusal (plan_by entry indicator grant fields) ≡ Some cause → (plan : CellPlan) → IsPlanned recording entry plan → ⊥
   refused_plan cause refused plan p =
-      let told = same_told (plan.cfi, p.grant) (indicator, grant) (one_grant_of recording entry (Some (plan.cfi, p.grant)) (Some (indicator, grant)) p.granted granted) in
+      let told = same_told (plan.cfi, p.grant) (indicator, grant) (one_grant_of one_port_receiver recording (place_of entry) entry.sfn entry.mib entry.sib1 (Some (plan.cfi, p.grant)) (Some (indicator, grant)) p.granted granted) in
       let block = same_block plan.sib1 fields entry.sib1 p.listed same in
       let made : plan ≡ plan_by entry indicator grant fields =
       p.told ∙ ap (λ (t : ℕ × Grant). plan_by entry t.0 t.1 plan.sib1) told ∙ ap (λ (s : Sib1). plan_by entry indicator grant s) block in
@@ -123,7 +123,7 @@ module _ (recording : List Sample) (entry : Entry) (plan : CellPlan) (grid : Ele
   granted = sent_grant plan ((sent_sfn + j) % 1024)
 
   -- it is read with the plan's indicator and grant, by the places of the cell
-  attempt_read : IsFrameAttempt recording (place_of entry) entry.mib (even_frame entry.sfn 0) (attempt_with plan.cfi granted plan.sib1)
+  attempt_read : IsFrameAttempt (subframes_by OnePort placed_values) recording (place_of entry) entry.mib (even_frame entry.sfn 0) (attempt_with plan.cfi granted plan.sib1)
   attempt_read =
       let whole = (first_tried recording (start_of offset) sent_sfn long early).whole in
       let even = even_number sent_sfn 0 in
@@ -132,7 +132,7 @@ module _ (recording : List Sample) (entry : Entry) (plan : CellPlan) (grid : Ele
       let is = subst (λ (a : Attempt). IsAttempt (values_at plan.identity (start_of offset) j plan.duration plan.resource) a) (same_attempt reads.attempt plan.cfi granted plan.sib1 has.cfi has.granted reads.answers) reads.is in
       rw (id, start, number, is_sent.block.duration, is_sent.block.resource) is
 
-  read_by : IsReadBy (IsFrameAttempt recording (place_of entry) entry.mib) recording entry.start entry.sfn entry.sib1 (plan.cfi, granted)
+  read_by : IsReadBy (IsFrameAttempt (subframes_by OnePort placed_values) recording (place_of entry) entry.mib) recording entry.start entry.sfn entry.sib1 (plan.cfi, granted)
   read_by = record {
     i = 0;
     tried = let t = first_tried recording (start_of offset) sent_sfn long early in rw (start, number) t;

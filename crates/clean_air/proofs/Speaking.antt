@@ -1,7 +1,6 @@
 -- The values of places that carry bits: they speak for them. Where these are the scrambled bits of a word, they tell it
 -- alone.
-use Rattle.std.proofs.Common.{◌≡◌, ℕ, ◌+◌, ◌*◌, ◌/◌, ◌%◌, ◌<◌, ◌≤◌, ◌⊎◌, inl, inr, arith, refl, ap, sym, ◌∙◌, subst, Bool, List, length, get_or, ℤ, pos}
-use Rattle.std.proofs.Math.Nat.{mod-add-div', mul-add-mod_self_right}
+use Rattle.std.proofs.Common.{◌≡◌, ℕ, ◌+◌, ◌*◌, ◌/◌, ◌%◌, ◌<◌, ◌≤◌, ◌⊎◌, inl, inr, arith, sym, ◌∙◌, subst, Bool, List, length, get_or, ℤ, pos}
 use Rattle.std.proofs.lemmas.Bool.{cases_lt}
 use Rattle.std.specs.Prelude.{All}
 use Rattle.cs_num.specs.declared.Cpx.{Cpx}
@@ -9,54 +8,51 @@ use Rattle.cs_num.specs.declared.Sample.{Sample}
 use Rattle.gold.specs.Gold.{gold_bit}
 use Rattle.conv_code.specs.Code.{coded_word}
 use Rattle.conv_code.specs.Reading.{bit_of_item, item_of}
-use Rattle.conv_code.proofs.Sums.{length-summed}
+use Rattle.conv_code.proofs.Sums.{length-summed_by}
 use Rattle.cs_bits.specs.Signs.{Supports}
+use Rattle.cs_bits.proofs.Signs.{supports-less}
 use Rattle.tailbite.specs.Clean.{Speaks}
 use Rattle.grid_map.specs.declared.Place.{Place}
 use Rattle.grid_map.specs.Place.{place}
 use Rattle.soft_bits.specs.Soft.{SeenSlot, seen_at}
-use Rattle.soft_bits.specs.Places.{values_at, descrambled, descrambled_value}
-use Rattle.soft_bits.proofs.Channel.{length-soft_values_of, soft_values_of-at, length-descrambled, descrambled-at}
+use Rattle.soft_bits.specs.Places.{values_at, placed_values, descrambled, descrambled_value}
+use Rattle.soft_bits.proofs.Channel.{length-placed, placed-at, length-descrambled, descrambled-at}
 use Rattle.budget.specs.Received.{IsSeenAs}
+use Rattle.cell_tx.specs.Block.{scrambled_bit}
 use Rattle.clean_air.specs.Values.{SupportBoth, IsSlotReceived}
-use Rattle.clean_air.specs.Words.{SpeakInOrder}
-use Rattle.clean_air.specs.Carried.{SpeakOfWord, sums_of, SentWordIsOnly, ArePlacesSeen, SeenBitsAreHeard, DescrambledBitsAreHeard, CarryBits, CarriedBitsAreHeard}
+use Rattle.clean_air.specs.Words.{SpeakInOrderFrom}
+use Rattle.clean_air.specs.Carried.{SpeakOfWord, AreHeard, sums_of, SentWordIsOnly, ArePlacesSeen, SeenBitsAreHeard, DescrambledBitsAreHeard, CarryBits, CarriedBitsAreHeard}
 use Rattle.clean_air.proofs.SoftValues.{values_support_bits, place_seen, pilots_seen}
-use Rattle.clean_air.proofs.SpokenWords.{descrambling_keeps, sums_speak, spoken_word_is_only}
+use Rattle.clean_air.proofs.SpokenWords.{descrambling_keeps, sums_speak_from, spoken_word_is_only}
 
 -- ---- values in the order of the reading
 
--- after whole readings the next one begins
-begins_again : (m first i : ℕ) → first % m ≡ 0 → (first + i) % m ≡ i % m
-begins_again m first i h = ap (λ n. (n + i) % m) whole ∙ mul-add-mod_self_right (first / m) m i
-  where
-    nothing_more : (n : ℕ) → 0 + n ≡ n
-    nothing_more n = omega arith
-
-    whole : first ≡ first / m * m
-    whole = sym (mod-add-div' first m) ∙ ap (λ r. r + first / m * m) h ∙ nothing_more (first / m * m)
-
-same_item : (size first i : ℕ) → first % (3 * size) ≡ 0 → item_of size (first + i) ≡ item_of size i
-unfolding item_of
-same_item size first i h = let e : (first + i) % (3 * size) ≡ i % (3 * size) = begins_again (3 * size) first i h in rw e refl
-
-in_order : (c_init first : ℕ) (word : List Bool) (values : List ℤ) → SpeakOfWord c_init first word values → SpeakInOrder word (descrambled c_init first values)
+in_order : (c_init first : ℕ) (word : List Bool) (values : List ℤ) → SpeakOfWord c_init first word values → SpeakInOrderFrom first word (descrambled c_init first values)
 in_order c_init first word values s = record {
   enough = omega (arith, s.enough, length-descrambled c_init first values);
   value = λ i l.
       let inside : i < length values = omega (arith, l, length-descrambled c_init first values) in
-      subst (Supports 1 (bit_of_item (coded_word word) (item_of (length word) i))) (sym (descrambled-at c_init first values i inside))
-      (subst (λ p. Supports 1 (bit_of_item (coded_word word) p) (descrambled_value (gold_bit c_init (first + i)) (get_or values i (pos 0)))) (same_item (length word) first i s.begins)
-      (descrambling_keeps 1 (bit_of_item (coded_word word) (item_of (length word) (first + i))) (gold_bit c_init (first + i)) (get_or values i (pos 0)) (s.value i inside)));
+      subst (Supports 1 (bit_of_item (coded_word word) (item_of (length word) (first + i)))) (sym (descrambled-at c_init first values i inside))
+      (descrambling_keeps 1 (bit_of_item (coded_word word) (item_of (length word) (first + i))) (gold_bit c_init (first + i)) (get_or values i (pos 0)) (s.value i inside));
 }
+
+-- values that speak for scrambled bits of a word, and are enough
+pub heard_bits_speak : (least count c_init first : ℕ) (word : List Bool) (values : List ℤ) → 1 ≤ least → 3 * length word ≤ count →
+    AreHeard least count (λ n. scrambled_bit c_init word (first + n)) values → SpeakOfWord c_init first word values
+heard_bits_speak least count c_init first word values some enough heard =
+    let size = heard.size in
+    record {
+      enough = omega (arith, size, enough);
+      value = λ i l. supports-less 1 least (scrambled_bit c_init word (first + i)) (get_or values i (pos 0)) some (heard.value i (omega (arith, size, l)));
+    }
 
 pub sums_speak_all : (c_init first : ℕ) (word : List Bool) (values : List ℤ) → 6 ≤ length word → length word ≤ 64 → SpeakOfWord c_init first word values →
     Speaks (sums_of c_init first (length word) values) word
-sums_speak_all c_init first word values low high speaks = sums_speak word (descrambled c_init first values) low high (in_order c_init first word values speaks)
+sums_speak_all c_init first word values low high speaks = sums_speak_from first word (descrambled c_init first values) low high (in_order c_init first word values speaks)
 
 pub sent_word_is_only : SentWordIsOnly
 sent_word_is_only c_init first word values low high speaks =
-    let size = length-summed (length word) (descrambled c_init first values) in
+    let size = length-summed_by (λ i. item_of (length word) (first + i)) (length word) (descrambled c_init first values) in
     spoken_word_is_only (sums_of c_init first (length word) values) word (omega (arith, low, size)) (sym size) (sums_speak_all c_init first word values low high speaks)
 
 -- ---- the values of places
@@ -74,17 +70,20 @@ one_value values i bits both = elim (even_or_odd i) [
   | inr (place, index) ↦ subst (λ (n : ℕ). Supports 8 (bits i) (get_or values n (pos 0))) (sym place) (subst (λ (n : ℕ). Supports 8 (bits n) (get_or values 1 (pos 0))) index both.im)
 ]
 
-pub seen_bits_are_heard : SeenBitsAreHeard
-seen_bits_are_heard gain slot places bits pilots points = record {
-  size = length-soft_values_of slot places;
-  value = λ i l. subst (Supports 8 (bits i)) (sym (soft_values_of-at slot places i l)) (one_value (values_at slot (here i)) i bits (both i (omega (arith, l))));
+-- where both values of each place speak, so do all
+pub placed_heard : (slot : Place → SeenSlot) (places : List Place) (bits : ℕ → Bool) →
+    ((i : ℕ) → i < length places → let p = get_or places i (place 0 0) in SupportBoth 8 (bits (2 * i)) (bits (2 * i + 1)) (values_at (slot p) p)) →
+    AreHeard 8 (2 * length places) bits (placed_values slot places)
+placed_heard slot places bits both = record {
+  size = length-placed slot places;
+  value = λ i l. let p = get_or places (i / 2) (place 0 0) in
+      subst (Supports 8 (bits i)) (sym (placed-at slot places i l)) (one_value (values_at (slot p) p) i bits (both (i / 2) (omega (arith, l))));
 }
-  where
-    here : ℕ → Place
-    here i = get_or places (i / 2) (place 0 0)
 
-    both : (i : ℕ) → i / 2 < length places → SupportBoth 8 (bits (2 * (i / 2))) (bits (2 * (i / 2) + 1)) (values_at slot (here i))
-    both i half = values_support_bits gain slot ((here i).symbol % 7) (here i).k (bits (2 * (i / 2))) (bits (2 * (i / 2) + 1)) pilots (points (i / 2) half)
+pub seen_bits_are_heard : SeenBitsAreHeard
+seen_bits_are_heard gain slot places bits pilots points =
+    placed_heard (λ p. slot) places bits
+    (λ i l. let p = get_or places i (place 0 0) in values_support_bits gain slot (p.symbol % 7) p.k (bits (2 * i)) (bits (2 * i + 1)) pilots (points i l))
 
 pub descrambled_bits_are_heard : DescrambledBitsAreHeard
 descrambled_bits_are_heard least count c_init bits values heard = record {

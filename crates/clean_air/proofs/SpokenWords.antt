@@ -1,8 +1,11 @@
 -- Where all values speak for the coded bits of one word, that word costs nothing and every other word costs something.
-use Rattle.std.proofs.Common.{◌≡◌, ℕ, ◌<◌, ◌≤◌, inl, inr, arith, refl, ap, sym, ◌∙◌, subst, Bool, true, false, List, [], length, get_or, ℤ, pos}
+use Rattle.std.proofs.Common.{◌≡◌, ℕ, suc, ◌+◌, ◌-◌, ◌*◌, ◌/◌, ◌%◌, ◌<◌, ◌≤◌, inl, inr, arith, refl, ap, sym, ◌∙◌, subst, Bool, true, false, List, [], length, get_or, ℤ, pos}
 use Rattle.std.proofs.lemmas.Int.{ints}
 use Rattle.std.specs.Prelude.{◌&&◌}
 use Rattle.std.proofs.Math.Bool.{and-true}
+use Rattle.std.proofs.Math.Nat.{mod-eq_of_lt}
+use Rattle.std.proofs.Math.Path.{fun_ext}
+use Rattle.std.proofs.lemmas.Nat.{div-add-mod', mod-mul-add, mod_below}
 use Rattle.std.proofs.lemmas.Bool.{cases_lt}
 use Rattle.finite.specs.Sums.{total_below}
 use Rattle.finite.specs.Tests.{any_below}
@@ -16,7 +19,7 @@ use Rattle.conv_code.specs.Code.{coded_bits, coded_word}
 use Rattle.sub_block.specs.declared.Item.{Item}
 use Rattle.sub_block.specs.Items.{item, is_at, summed_at}
 use Rattle.sub_block.proofs.Sums.{at_itself}
-use Rattle.conv_code.specs.Reading.{bit_of_item, item_of, summed_by}
+use Rattle.conv_code.specs.Reading.{bit_of_item, item_of, reading, summed_by}
 use Rattle.conv_code.specs.Cost.{cost_at, word_cost}
 use Rattle.conv_code.proofs.OneToOne.{one_to_one}
 use Rattle.conv_code.proofs.Items.{permuting}
@@ -28,7 +31,7 @@ use Rattle.tailbite.proofs.Only.{free_place, same_place}
 use Rattle.cs_bits.specs.Signs.{Supports}
 use Rattle.clean_turbo.specs.Tells.{Tells}
 use Rattle.clean_turbo.proofs.ReceivedSums.{item_tells}
-use Rattle.clean_air.specs.Words.{FourSpeakTogether, DescramblingKeeps, SpeakByReading, SumsSpeak, SpokenWordIsOnly}
+use Rattle.clean_air.specs.Words.{FourSpeakTogether, DescramblingKeeps, SpeakByReading, SpeakInTurn, SumsSpeakFrom, SumsSpeak, SpokenWordIsOnly}
 
 -- ---- single values
 
@@ -70,14 +73,57 @@ module _ (reading : ℕ → Item) (word : List Bool) (values : List ℤ) (speak 
           (supports-speaks (get_or (coded_bits word k) t false) (summed_at reading values (length values) t k)
           (subst (λ b. Supports 1 b (summed_at reading values (length values) t k)) (at_index word k t inside) (sum_at_supports k t inside stream)))
 
-pub sums_speak : SumsSpeak
-sums_speak word values long short speak = sums_speak_by_reading (item_of (length word)) word values (record {
+-- from any number on, one of the next m has the rest j by m
+next_with_rest : (m first j : ℕ) → j < m → (i : ℕ) × (i < m) × ((first + i) % m ≡ j)
+next_with_rest m first j below =
+    let rest = mod_below first m (omega (arith, below)) in
+    elim (cases_lt j (first % m)) [
+      | inl before ↦ (
+        j + (m - first % m),
+        omega (arith, before, rest),
+        ap (λ n. n % m) (over (first / m * m) m (first % m) first (div-add-mod' first m) rest ∙ ap (λ n. n + j) (sym (one_more (first / m)))) ∙ mod-mul-add (suc (first / m)) m j below,
+      )
+      | inr from ↦ (
+        j - first % m,
+        omega (arith, below),
+        ap (λ n. n % m) (within (first / m * m) (first % m) first (div-add-mod' first m) from) ∙ mod-mul-add (first / m) m j below,
+      )
+    ]
+  where
+    one_more : (q : ℕ) → suc q * m ≡ q * m + m
+    one_more q = grind arith
+
+    over : (whole size rest n : ℕ) → whole + rest ≡ n → rest < size → n + (j + (size - rest)) ≡ whole + size + j
+    over whole size rest n e l = omega (arith, e, l)
+
+    within : (whole rest n : ℕ) → whole + rest ≡ n → rest ≤ j → n + (j - rest) ≡ whole + j
+    within whole rest n e l = omega (arith, e, l)
+
+-- of as many bits of the reading as a word has coded bits, from any one on, there is one for each of these
+each_is_read : (size first k t : ℕ) → 6 ≤ size → size ≤ 64 → k < size → t < 3 → (i : ℕ) × (i < 3 * size) × (item_of size (first + i) ≡ item t k)
+unfolding item_of
+each_is_read size first k t long short inside stream =
+    let (j, below, is) = (permuting size long short).reads.each t k stream inside in
+    let (i, within, same) = next_with_rest (3 * size) first j below in
+    (i, within, ap (λ n. get_or (reading size) n (item 0 0)) (same ∙ sym (mod-eq_of_lt below)) ∙ is)
+
+pub sums_speak_from : SumsSpeakFrom
+sums_speak_from first word values long short speak = sums_speak_by_reading (λ i. item_of (length word) (first + i)) word values (record {
   enough = λ k t inside stream.
-      let (i, below, is) = (permuting (length word) long short).reads.each t k stream inside in
+      let (i, below, is) = each_is_read (length word) first k t long short inside stream in
       let enough = speak.enough in
       (i, omega (arith, below, enough), is);
   value = speak.value;
 })
+
+-- from bit 0 on
+pub sums_speak : SumsSpeak
+sums_speak word values long short =
+    subst (λ reading. SpeakInTurn reading word values → Speaks (summed_by reading (length word) values) word) (fun_ext (λ i. ap (item_of (length word)) (from_start i)))
+    (sums_speak_from 0 word values long short)
+  where
+    from_start : (i : ℕ) → 0 + i ≡ i
+    from_start i = omega arith
 
 -- ---- the word
 

@@ -1,27 +1,26 @@
 -- The values of a subframe's places, each seen in its slot, speak for the bits that the places carry.
-use Rattle.std.proofs.Common.{◌≡◌, ℕ, ◌+◌, ◌*◌, ◌/◌, ◌%◌, ◌<◌, ◌≤◌, arith, refl, sym, subst, Bool, true, false, List, length, get_or}
+use Rattle.std.proofs.Common.{◌≡◌, ℕ, ◌+◌, ◌*◌, ◌%◌, ◌<◌, ◌≤◌, arith, refl, subst, Bool, true, false, List, length, get_or}
 use Rattle.std.specs.Prelude.{All, nat_lt, if◌then◌else◌}
 use Rattle.std.proofs.lemmas.Bool.{ltb-true, ltb-false}
 use Rattle.cs_num.specs.declared.Cpx.{Cpx}
 use Rattle.cs_num.specs.declared.Sample.{Sample}
-use Rattle.cs_bits.specs.Signs.{Supports}
 use Rattle.crs.specs.Qpsk.{point}
 use Rattle.grid_map.specs.declared.Place.{Place}
 use Rattle.grid_map.specs.Place.{place}
 use Rattle.grid_map.specs.Shared.{shared_places_of}
 use Rattle.grid_map.specs.Scrambling.{pdsch_c_init}
 use Rattle.dci.specs.Fields.{system_information_rnti}
+use Rattle.grid_map.proofs.Apart.{shared_symbols}
 use Rattle.soft_bits.specs.Soft.{SeenSlot, seen_at, soft_values}
-use Rattle.pdsch.specs.Values.{slot_with, subframe_values, shared_values}
-use Rattle.pdsch.proofs.Filled.{pair_at, length-subframe, subframe-at}
+use Rattle.soft_bits.specs.Places.{slot_with, in_subframe, placed_values}
+use Rattle.pdsch.specs.Values.{shared_values_by}
 use Rattle.budget.specs.Received.{IsSeenAs}
 use Rattle.cell_tx.specs.Points.{point_of}
 use Rattle.clean_air.specs.Values.{SupportBoth, ArePilotsSeen}
 use Rattle.clean_air.specs.Carried.{CarryBits}
 use Rattle.clean_air.specs.Subframe.{gain_with, IsSubframeSeen, shared_scrambled, SeenSubframeIsHeard, SeenBlocksAreHeard, IsSubframeReceived, CarryInSubframe, ReceivedSubframeIsHeard, ReceivedBlocksAreHeard}
 use Rattle.clean_air.proofs.SoftValues.{values_support_bits, place_seen, pilots_seen}
-use Rattle.clean_air.proofs.Speaking.{one_value, descrambled_bits_are_heard}
-use Rattle.clean_air.proofs.Placed.{IsInSubframe, shared_placed}
+use Rattle.clean_air.proofs.Speaking.{placed_heard, descrambled_bits_are_heard}
 
 -- ---- seen
 
@@ -32,23 +31,16 @@ of_slot true gain later first second symbol k a b p q here = values_support_bits
 of_slot false gain later first second symbol k a b p q here = values_support_bits later second symbol k a b q here
 
 pub seen_subframe_is_heard : SeenSubframeIsHeard
-seen_subframe_is_heard gain later first second places bits seen = record {
-  size = length-subframe first second places;
-  value = λ i l. subst (Supports 8 (bits i)) (sym (subframe-at first second places i l)) (one_value (pair_at first second (here i)) i bits (both i (omega (arith, l))));
-}
-  where
-    here : ℕ → Place
-    here i = get_or places (i / 2) (place 0 0)
-
-    both : (i : ℕ) → i / 2 < length places → SupportBoth 8 (bits (2 * (i / 2))) (bits (2 * (i / 2) + 1)) (pair_at first second (here i))
-    both i half = of_slot (nat_lt (here i).symbol 7) gain later first second ((here i).symbol % 7) (here i).k (bits (2 * (i / 2))) (bits (2 * (i / 2) + 1))
-        seen.first_pilots seen.second_pilots (seen.points (i / 2) half)
+seen_subframe_is_heard gain later first second places bits seen =
+    placed_heard (in_subframe first second) places bits
+    (λ i l. let p = get_or places i (place 0 0) in
+    of_slot (nat_lt p.symbol 7) gain later first second (p.symbol % 7) p.k (bits (2 * i)) (bits (2 * i + 1)) seen.first_pilots seen.second_pilots (seen.points i l))
 
 pub seen_blocks_are_heard : SeenBlocksAreHeard
-unfolding shared_values
+unfolding shared_values_by
 seen_blocks_are_heard gain later first second cfi start blocks bits seen =
     let places = shared_places_of false first.identity cfi start blocks in
-    descrambled_bits_are_heard 8 (2 * length places) (pdsch_c_init first.identity first.number system_information_rnti) bits (subframe_values first second places)
+    descrambled_bits_are_heard 8 (2 * length places) (pdsch_c_init first.identity first.number system_information_rnti) bits (placed_values (in_subframe first second) places)
     (seen_subframe_is_heard gain later first second places (shared_scrambled first bits) seen)
 
 -- ---- in a recording
@@ -70,7 +62,7 @@ module _ (recording : List Sample) (starts : ℕ → ℕ) (grids : ℕ → ℕ �
           subst (λ n. IsSeenAs received.second_slot.gain (grids n k) (seen_at second (symbol % 7) k)) same
           (place_seen recording (λ l. starts (7 + l)) (λ l. grids (7 + l)) second received.second_slot (symbol % 7) k (omega arith) inside)
 
-  pub received_is_seen : (places : List Place) (bits : ℕ → Bool) → All IsInSubframe places → CarryInSubframe grids places bits →
+  pub received_is_seen : (places : List Place) (bits : ℕ → Bool) → All (λ p. (p.symbol < 14) × (p.k < 72)) places → CarryInSubframe grids places bits →
       IsSubframeSeen received.first_slot.gain received.second_slot.gain first second places bits
   received_is_seen places bits inside carry = record {
     first_pilots = pilots_seen recording starts grids first received.first_slot;
@@ -90,7 +82,7 @@ pub received_blocks_are_heard : ReceivedBlocksAreHeard
 received_blocks_are_heard recording starts grids first second cfi start blocks bits received carry =
     let places = shared_places_of false first.identity cfi start blocks in
     seen_blocks_are_heard received.first_slot.gain received.second_slot.gain first second cfi start blocks bits
-    (received_is_seen recording starts grids first second received places (shared_scrambled first bits) (shared_placed false first.identity cfi start blocks) carry)
+    (received_is_seen recording starts grids first second received places (shared_scrambled first bits) (shared_symbols false first.identity cfi start blocks) carry)
 
 -- ---- places of the first slot
 

@@ -10,15 +10,14 @@ use Rattle.crs.specs.Qpsk.{IsPoint}
 use Rattle.crs.proofs.Values.{reference-IsPoint}
 use Rattle.cell_tx.specs.declared.antenna.Port.{Port}
 use Rattle.cell_tx.specs.declared.antenna.Port.TheVariants.{Only, First, Second}
-use Rattle.cell_tx.specs.declared.cell.CellPlan.{CellPlan}
-use Rattle.cell_tx.specs.Ports.{sent_point, is_own_reference, is_other_reference}
+use Rattle.cell_tx.specs.Ports.{sent_point, is_own_reference}
 use Rattle.cell_tx.specs.Block.{port_point}
 use Rattle.cell_tx.specs.Control.{indicator_point, control_point}
 use Rattle.cell_tx.specs.Shared.{shared_point}
 use Rattle.cell_tx.specs.Grid.{has_system_information, is_broadcast, is_indicator, is_control, is_shared, port_channel_value, port_element}
 use Rattle.cell_tx.proofs.Bounds.{pick, broadcast_full, indicator_full, control_full, shared_full}
 use Rattle.cell_tx.proofs.Elements.{reference_at_is}
-use Rattle.clean_air.specs.Load.{is_signal_symbol, is_any_reference, has_channel, is_taken, TakenPlacesAreSent}
+use Rattle.clean_air.specs.Load.{is_any_reference, has_channel, is_taken, TakenPlacesAreSent}
 use Rattle.clean_air.proofs.Estimates.{full-size}
 use Rattle.clean_air.proofs.Carrying.{no_signal}
 

@@ -7,7 +7,7 @@ use Rattle.cs_num.specs.declared.Sample.{Sample}
 use Rattle.cs_bits.specs.Signs.{Supports}
 use Rattle.grid_map.specs.declared.Place.{Place}
 use Rattle.grid_map.specs.Place.{place}
-use Rattle.conv_code.specs.Reading.{summed}
+use Rattle.conv_code.specs.Reading.{summed_from}
 use Rattle.soft_bits.specs.Soft.{SeenSlot, seen_at}
 use Rattle.soft_bits.specs.Places.{soft_values_of, descrambled}
 use Rattle.budget.specs.Received.{IsSeenAs}
@@ -18,16 +18,15 @@ use Rattle.clean_air.specs.Words.{IsOnlyWord}
 
 -- ---- words
 
--- each value speaks for a scrambled bit of the word: for bit `first`, with which a reading of the coded word begins,
--- and the bits after it; there is one at least for each coded bit
+-- each value speaks for a scrambled bit of the word: for bit `first` of the endless reading of the coded word, and the bits
+-- after it; there are as many values as coded bits, and any more
 pub record SpeakOfWord (c_init first : ℕ) (word : List Bool) (values : List ℤ) : Type 0 where
-  pub begins : first % (3 * length word) ≡ 0
   pub enough : 3 * length word ≤ length values
   pub value : (i : ℕ) → i < length values → Supports 1 (scrambled_bit c_init word (first + i)) (slice_index_or values i (pos 0))
 
 -- what such values tell: their sums by place of the coded word, before scrambling
 abbrev pub sums_of : ℕ → ℕ → ℕ → List ℤ → List (List ℤ)
-sums_of c_init first size values = summed size (descrambled c_init first values)
+sums_of c_init first size values = summed_from first size (descrambled c_init first values)
 
 -- these tell the word and no other, where it has 6 to 64 bits
 abbrev pub SentWordIsOnly : Type 0

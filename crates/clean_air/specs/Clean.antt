@@ -1,9 +1,13 @@
 -- The list of cells of a clean recording: it holds the cell that was sent. (own)
-use Rattle.std.specs.Prelude.{◌≡◌, ℕ, ◌/◌, List, Ok}
+use Rattle.std.specs.Prelude.{◌≡◌, ℕ, ◌/◌, List, Result, Ok}
 use Rattle.std.specs.List.{Contains}
 use Rattle.cs_num.specs.declared.Cpx.{Cpx}
 use Rattle.cs_num.specs.declared.Sample.{Sample}
 use Rattle.lte_types.specs.declared.bandwidth.Bandwidth.TheVariants.{N6}
+use Rattle.lte_types.specs.declared.duration.Duration.{Duration}
+use Rattle.lte_types.specs.declared.resource.Resource.{Resource}
+use Rattle.lte_types.specs.declared.sib1.Sib1.{Sib1}
+use Rattle.lte_types.specs.declared.sib1_reason.Sib1Reason.{Sib1Reason}
 use Rattle.lte_types.specs.declared.entry.Entry.{Entry}
 use Rattle.lte_types.specs.Block.{HasFields}
 use Rattle.lte_types.specs.Timing.{start_of, number_at_start}
@@ -25,17 +29,22 @@ pub record HoldsOne (list : List Entry) (identity first number : ℕ) (is_sent :
   pub sent : is_sent entry
   pub only : (other : Entry) → Contains list other → other.id ≡ identity → other.start ≡ first → other.sfn ≡ number → other ≡ entry
 
--- the entry has one antenna port (TS 36.212 section 5.3.1.1), the fields of the master block of a cell in the frame with
--- this number, which holds the upper 8 bits of it, and the fields of its SystemInformationBlockType1 (TS 36.331 section
--- 6.2.2); it was read from the
--- cell's first whole frame alone, and each value speaks for its word, so that this costs nothing
-pub record IsSentEntry (plan : CellPlan) (number : ℕ) (entry : Entry) : Type 0 where
-  pub ports : entry.ports ≡ 1
-  pub block : HasFields entry.mib N6 plan.duration plan.resource (number / 4) plan.spare
-  pub sib1 : entry.sib1 ≡ Ok plan.sib1
+-- the entry has so many antenna ports (TS 36.212 section 5.3.1.1), the fields of the master block of a cell in the frame
+-- with this number, which holds the upper 8 bits of it (TS 36.331 section 6.2.2), and what is told of its system
+-- information; it was read from the cell's first whole frame alone, and each value speaks for its word, so that this costs
+-- nothing
+pub record IsSentEntryBy (count : ℕ) (lasting : Duration) (share : Resource) (bits : ℕ) (told : Result Sib1 Sib1Reason)
+    (number : ℕ) (entry : Entry) : Type 0 where
+  pub ports : entry.ports ≡ count
+  pub block : HasFields entry.mib N6 lasting share (number / 4) bits
+  pub sib1 : entry.sib1 ≡ told
   pub cost : entry.cost ≡ 0
   pub frames : entry.frames ≡ 1
   pub frame : entry.frame ≡ 0
+
+-- with one antenna port and the fields of the plan's SystemInformationBlockType1
+abbrev pub IsSentEntry : CellPlan → ℕ → Entry → Type 0
+IsSentEntry plan number = IsSentEntryBy 1 plan.duration plan.resource plan.spare (Ok plan.sib1) number
 
 -- the list holds the cell of which a frame begins at this sample with this number
 abbrev pub HoldsCell : List Entry → CellPlan → ℕ → ℕ → Type 0

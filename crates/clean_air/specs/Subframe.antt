@@ -8,7 +8,8 @@ use Rattle.grid_map.specs.Shared.{shared_places_of}
 use Rattle.grid_map.specs.Scrambling.{pdsch_c_init}
 use Rattle.dci.specs.Fields.{system_information_rnti}
 use Rattle.soft_bits.specs.Soft.{SeenSlot, seen_at}
-use Rattle.pdsch.specs.Values.{slot_with, subframe_values, shared_values}
+use Rattle.soft_bits.specs.Places.{slot_with, in_subframe, placed_values}
+use Rattle.pdsch.specs.Values.{shared_values}
 use Rattle.budget.specs.Received.{IsSeenAs}
 use Rattle.cell_tx.specs.Points.{scrambled, point_of}
 use Rattle.clean_air.specs.Values.{ArePilotsSeen, IsSlotReceived}
@@ -34,7 +35,7 @@ pub record IsSubframeSeen (gain later : Cpx) (first second : SeenSlot) (places :
 abbrev pub SeenSubframeIsHeard : Type 0
 SeenSubframeIsHeard = (gain later : Cpx) (first second : SeenSlot) (places : List Place) (bits : ℕ → Bool) →
     IsSubframeSeen gain later first second places bits →
-    AreHeard 8 (2 * length places) bits (subframe_values first second places)
+    AreHeard 8 (2 * length places) bits (placed_values (in_subframe first second) places)
 
 -- bits of the shared channel, scrambled from the first place of the subframe on (TS 36.211 section 6.3.1)
 abbrev pub shared_scrambled : SeenSlot → (ℕ → Bool) → ℕ → Bool
@@ -66,7 +67,7 @@ ReceivedSubframeIsHeard =
     (recording : List Sample) (starts : ℕ → ℕ) (grids : ℕ → ℕ → Cpx) (first second : SeenSlot) (places : List Place)
     (bits : ℕ → Bool) → IsSubframeReceived recording starts grids first second →
     All (λ p. (p.symbol < 14) × (p.k < 72)) places → CarryInSubframe grids places bits →
-    AreHeard 8 (2 * length places) bits (subframe_values first second places)
+    AreHeard 8 (2 * length places) bits (placed_values (in_subframe first second) places)
 
 -- and those of the shared channel for the bits before scrambling
 abbrev pub ReceivedBlocksAreHeard : Type 0

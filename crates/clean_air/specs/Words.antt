@@ -1,11 +1,11 @@
 -- Values that all speak for the coded bits of one word tell that word and no other. (own; the code and its reading are those of TS
 -- 36.212 sections 5.1.3.1 and 5.1.4.2)
-use Rattle.std.specs.Prelude.{◌≡◌, ℕ, ◌*◌, ◌<◌, ◌≤◌, Bool, cond, List, length, slice_index_or, ℤ, pos, ◌+ℤ◌, neg_ℤ}
+use Rattle.std.specs.Prelude.{◌≡◌, ℕ, ◌+◌, ◌*◌, ◌<◌, ◌≤◌, Bool, cond, List, length, slice_index_or, ℤ, pos, ◌+ℤ◌, neg_ℤ}
 use Rattle.finite.specs.Bits.{xor}
 use Rattle.sub_block.specs.declared.Item.{Item}
 use Rattle.sub_block.specs.Items.{item}
 use Rattle.conv_code.specs.Code.{coded_word}
-use Rattle.conv_code.specs.Reading.{bit_of_item, item_of, summed_by, summed}
+use Rattle.conv_code.specs.Reading.{bit_of_item, item_of, summed_by, summed, summed_from}
 use Rattle.conv_code.specs.Cost.{word_cost}
 use Rattle.tailbite.specs.LeastWord.{IsLeastWord}
 use Rattle.tailbite.specs.Clean.{Speaks}
@@ -32,11 +32,23 @@ abbrev pub SumsSpeakByReading : Type 0
 SumsSpeakByReading = (reading : ℕ → Item) (word : List Bool) (values : List ℤ) →
     SpeakByReading reading word values → Speaks (summed_by reading (length word) values) word
 
--- the same of the endless reading, for words of 6 to 64 bits
-pub record SpeakInOrder (word : List Bool) (values : List ℤ) : Type 0 where
+-- as many values as the word has coded bits, and any more
+pub record SpeakInTurn (reading : ℕ → Item) (word : List Bool) (values : List ℤ) : Type 0 where
   pub enough : 3 * length word ≤ length values
   pub value : (i : ℕ) → i < length values →
-      Supports 1 (bit_of_item (coded_word word) (item_of (length word) i)) (slice_index_or values i (pos 0))
+      Supports 1 (bit_of_item (coded_word word) (reading i)) (slice_index_or values i (pos 0))
+
+-- in the order of the endless reading, from bit `first` of it on, and from bit 0 on
+abbrev pub SpeakInOrderFrom : ℕ → List Bool → List ℤ → Type 0
+SpeakInOrderFrom first word values = SpeakInTurn (λ i. item_of (length word) (first + i)) word values
+
+abbrev pub SpeakInOrder : List Bool → List ℤ → Type 0
+SpeakInOrder word values = SpeakInTurn (item_of (length word)) word values
+
+-- so do the sums of such values, for words of 6 to 64 bits: the reading goes round from any bit on
+abbrev pub SumsSpeakFrom : Type 0
+SumsSpeakFrom = (first : ℕ) (word : List Bool) (values : List ℤ) → 6 ≤ length word → length word ≤ 64 →
+    SpeakInOrderFrom first word values → Speaks (summed_from first (length word) values) word
 
 abbrev pub SumsSpeak : Type 0
 SumsSpeak = (word : List Bool) (values : List ℤ) → 6 ≤ length word → length word ≤ 64 → SpeakInOrder word values → Speaks (summed (length word) values) word
