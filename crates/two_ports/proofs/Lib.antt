@@ -7,8 +7,6 @@ pub mod ReceivedPairs
 pub mod SentSymbols
 pub mod SentSlots
 pub mod Heard
-pub mod Systems
 pub mod SentMaster
 pub mod SentSystem
 pub mod HeldCells
-pub mod Valid

@@ -1,7 +1,6 @@
 -- The values of pairs of places: how many they are, each of them, and their sizes.
-use Rattle.std.proofs.Common.{◌≡◌, ℕ, zero, suc, ◌-◌, ◌*◌, ◌/◌, ◌%◌, ◌<◌, ◌≤◌, inl, inr, Bool, true, false, nat_lt, List, [], ◌∷◌, length, get_or, ℤ, pos, arith, refl, ap, ap₂, sym, ◌∙◌, length-append}
-use Rattle.std.specs.Prelude.{nat_abs, if◌then◌else◌}
-use Rattle.std.proofs.Math.Path.{fun_ext}
+use Rattle.std.proofs.Common.{◌≡◌, ℕ, zero, suc, ◌-◌, ◌*◌, ◌/◌, ◌%◌, ◌<◌, ◌≤◌, inl, inr, List, [], ◌∷◌, length, get_or, ℤ, pos, arith, refl, ap₂, sym, ◌∙◌, length-append}
+use Rattle.std.specs.Prelude.{nat_abs}
 use Rattle.std.proofs.Math.ListN.{get_or-append}
 use Rattle.std.proofs.lemmas.Bool.{cases_lt}
 use Rattle.std.proofs.lemmas.List.{get_or-append_right}
@@ -13,8 +12,7 @@ use Rattle.grid_map.specs.declared.Place.{Place}
 use Rattle.crs.specs.Reference.{port_0, port_1}
 use Rattle.soft_bits.specs.Soft.{SeenSlot, seen_at, pattern_channel, soft_pair, soft_value}
 use Rattle.soft_bits.proofs.Channel.{soft_value-small}
-use Rattle.pdsch.specs.Values.{slot_with}
-use Rattle.two_ports.specs.Pairs.{first_of, second_of, pilots_energy, values_seen, pair_values, pair_at, paired_values, slot_values}
+use Rattle.two_ports.specs.Pairs.{first_of, second_of, pilots_energy, values_seen, pair_values, pair_at, paired_values}
 
 -- ---- lists of four after four
 
@@ -83,11 +81,3 @@ module _ (slot : Place → SeenSlot) (places : List Place) where
   pub paired-at : (i : ℕ) → i < 4 * (length places / 2) → get_or (paired_values slot places) i (pos 0) ≡ get_or (pair_at slot places (i / 4)) (i % 4) (pos 0)
   unfolding paired_values
   paired-at i inside = get_or-fours (length places / 2) i (pair_at slot places) length-pair_at inside
-
--- where both slots are one
-pub one_slot : (slot : SeenSlot) (places : List Place) → paired_values (λ p. slot_with slot slot p.symbol) places ≡ slot_values slot places
-one_slot slot places = ap (λ (f : Place → SeenSlot). paired_values f places) (fun_ext (λ (p : Place). same (nat_lt p.symbol 7)))
-  where
-    same : (b : Bool) → (if b then slot else slot) ≡ slot
-    same true = refl
-    same false = refl

@@ -1,21 +1,19 @@
--- The broadcast channel of the first whole frame of a recording that is clean of both ports: it tells the master block of its number.
+-- The broadcast channel of a frame of a recording that is clean of both ports: it speaks of the master block of its number.
 use Rattle.std.proofs.Common.{◌≡◌, ℕ, ◌+◌, ◌*◌, ◌/◌, ◌%◌, ◌<◌, ◌≤◌, Bool, true, false, ◌&&◌, None, arith, refl, ap, sym, subst, ◌∙◌, List, length, nat_eq}
 use Rattle.std.proofs.lemmas.Bool.Decides.{nat_tests}
 use Rattle.cs_num.specs.declared.Cpx.{Cpx}
 use Rattle.cs_num.specs.declared.Sample.{Sample}
-use Rattle.cs_bits.proofs.Signs.{supports-less}
 use Rattle.crs.specs.Reference.{is_reference, is_second_reference, first_subcarrier}
 use Rattle.sync_seq.specs.Middle.{is_middle}
 use Rattle.grid_map.specs.declared.Place.{Place}
 use Rattle.grid_map.specs.Place.{place}
 use Rattle.grid_map.specs.Broadcast.{pbch_places, pbch_place, is_pbch, pbch_index}
 use Rattle.grid_map.specs.Scrambling.{pbch_c_init}
+use Rattle.pbch.specs.Values.{received_values_by}
 use Rattle.grid_map.proofs.Points.{length-pbch_places, places_inside, index_of_place}
 use Rattle.lte_types.specs.Numerology.{normal, useful_start}
 use Rattle.lte_types.specs.Timing.{start_of, number_at_start}
 use Rattle.soft_bits.specs.Soft.{SeenSlot}
-use Rattle.pbch.specs.Values.{summed_values}
-use Rattle.clean_air.specs.Broadcast.{TellsFreely}
 use Rattle.cell_tx.specs.declared.antenna.Port.{Port}
 use Rattle.cell_tx.specs.declared.antenna.Port.TheVariants.{Only, First, Second}
 use Rattle.cell_tx.specs.declared.cell.CellPlan.{CellPlan}
@@ -29,12 +27,11 @@ use Rattle.cell_tx.specs.Rows.{port_reference_if}
 use Rattle.cell_tx.proofs.Elements.{element_of_channel, channel_of_broadcast}
 use Rattle.clean_air.proofs.Carrying.{of_broadcast}
 use Rattle.explain.specs.Frame.{IsWhole, frame_at, seen_slot, broadcast_slot}
-use Rattle.clean_air.specs.Carried.{AreHeard}
-use Rattle.clean_air.proofs.Masters.{sent_word_is_told}
+use Rattle.clean_air.specs.Carried.{SpeakOfWord, AreHeard}
+use Rattle.clean_air.proofs.Speaking.{heard_bits_speak}
 use Rattle.clean_air.proofs.SentBlock.{is_block}
 use Rattle.two_ports.specs.Clean.{IsLoadedOfPorts}
-use Rattle.two_ports.specs.Pairs.{pair_at}
-use Rattle.two_ports.specs.Values.{received_values}
+use Rattle.two_ports.specs.Pairs.{pair_at, paired_values}
 use Rattle.two_ports.specs.Received.{CarryPair}
 use Rattle.two_ports.proofs.Heard.{SpeakFrom, pair_speaks, second_even, second_odd, paired_heard}
 use Rattle.clean_air.proofs.SentSlots.{slot_grid}
@@ -109,10 +106,10 @@ module _ (recording : List Sample) (plan : CellPlan) (grid others : Elements) (s
   abbrev slot : SeenSlot
   slot = broadcast_slot recording plan.identity (start_of offset) j
 
-  values_heard : AreHeard 16 480 (sent_bits plan number) (received_values slot)
+  values_heard : AreHeard 16 480 (sent_bits plan number) (received_values_by paired_values slot)
   unfolding seen_slot pbch_place
   values_heard =
-      subst (λ n. AreHeard 16 n (sent_bits plan number) (received_values slot)) (let size = length-pbch_places plan.identity in omega (arith, size))
+      subst (λ n. AreHeard 16 n (sent_bits plan number) (received_values_by paired_values slot)) (let size = length-pbch_places plan.identity in omega (arith, size))
       (paired_heard (λ p. slot) (pbch_places plan.identity) (sent_bits plan number) (let size = length-pbch_places plan.identity in omega (arith, size)) each)
     where
       each : (i : ℕ) → i < length (pbch_places plan.identity) / 2 → SpeakFrom (sent_bits plan number) i (pair_at (λ p. slot) (pbch_places plan.identity) i)
@@ -133,14 +130,8 @@ module _ (recording : List Sample) (plan : CellPlan) (grid others : Elements) (s
           pair_speaks recording (useful_start normal (frame_at (start_of offset) j) 1) (slot_grid grid number 1) (slot_grid others number 1) slot p q (sent_bits plan number) i received
           (broadcast_place plan.identity p (places_inside plan.identity (2 * i) a)).inside (broadcast_place plan.identity q (places_inside plan.identity (2 * i + 1) b)).inside carry
 
-  -- it tells the word of the frame's number, with two antenna ports
-  pub word_told : plan.spare ≤ 1023 → TellsFreely (summed_values plan.identity (number % 4) (received_values slot)) (port_word First plan number) 2
-  unfolding summed_values
-  word_told spare =
-      let block = is_block First plan number spare (omega arith) in
-      sent_word_is_told (pbch_c_init plan.identity) (480 * (number % 4)) 2 (port_word First plan number) (received_values slot) block.size
-      (record {
-        begins = subst (λ n. (480 * (number % 4)) % (3 * n) ≡ 0) (sym block.size) (omega arith);
-        enough = let size = block.size in let count = values_heard.size in omega (arith, size, count);
-        value = λ i l. supports-less 1 16 _ _ (omega arith) (values_heard.value i (let count = values_heard.size in omega (arith, l, count)));
-      }) block.check (let width = block.width in omega (arith, width))
+  -- so they speak of the word of the frame's number, with two antenna ports
+  pub word_speaks : plan.spare ≤ 1023 → SpeakOfWord (pbch_c_init plan.identity) (480 * (number % 4)) (port_word First plan number) (received_values_by paired_values slot)
+  word_speaks spare =
+      let size = (is_block First plan number spare (omega arith)).size in
+      heard_bits_speak 16 480 (pbch_c_init plan.identity) (480 * (number % 4)) (port_word First plan number) (received_values_by paired_values slot) (omega arith) (omega (arith, size)) values_heard

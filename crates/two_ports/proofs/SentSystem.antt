@@ -21,7 +21,12 @@ use Rattle.lte_types.specs.Timing.{start_of, number_at_start}
 use Rattle.dci.specs.Fields.{system_information_rnti}
 use Rattle.soft_bits.specs.Soft.{SeenSlot}
 use Rattle.pcfich.specs.Indicator.{Speak}
-use Rattle.pdsch.specs.Values.{slot_with}
+use Rattle.soft_bits.specs.Places.{in_subframe}
+use Rattle.lte_types.specs.declared.carrier.Carrier.TheVariants.{TwoPorts}
+use Rattle.pcfich.specs.Values.{indicator_values_by}
+use Rattle.pdcch.specs.Candidate.{stream_values_by, candidate_values_by}
+use Rattle.pdsch.specs.Values.{shared_values_by}
+use Rattle.system_block.specs.Subframe.{subframe_by}
 use Rattle.system_block.specs.Block.{BlockSays}
 use Rattle.system_block.specs.Attempt.{Reads}
 use Rattle.cell_tx.specs.declared.antenna.Port.TheVariants.{First, Second}
@@ -48,8 +53,7 @@ use Rattle.clean_air.proofs.SharedBlocks.{heard_block_is_told}
 use Rattle.clean_air.proofs.Speaking.{descrambled_bits_are_heard}
 use Rattle.two_tx.specs.Plan.{IsSendableOfTwo}
 use Rattle.two_ports.specs.Clean.{IsLoadedOfPorts}
-use Rattle.two_ports.specs.Pairs.{pair_at, paired_values, slot_values}
-use Rattle.two_ports.specs.Values.{indicator_values, stream_values, candidate_values, shared_values, two_ports}
+use Rattle.two_ports.specs.Pairs.{pair_at, paired_values}
 use Rattle.two_ports.specs.Received.{CarryPair}
 use Rattle.two_ports.proofs.Heard.{SpeakFrom, pair_speaks, second_even, second_odd, paired_heard, paired_same, heard-less}
 use Rattle.clean_air.proofs.SentSlots.{slot_grid}
@@ -71,7 +75,7 @@ module _ (recording : List Sample) (plan : CellPlan) (grid others : Elements) (s
 
   -- the slot that has a place
   abbrev slot_at : Place → SeenSlot
-  slot_at p = slot_with (slot 10) (slot 11) p.symbol
+  slot_at = in_subframe (slot 10) (slot 11)
 
   slot_is : (p : Place) → p.symbol < 14 → slot_at p ≡ slot (10 + p.symbol / 7)
   slot_is p few = elim (cases_lt p.symbol 7) [
@@ -135,17 +139,17 @@ module _ (recording : List Sample) (plan : CellPlan) (grid others : Elements) (s
     places_heard = paired_heard slot_at places bits even pair_is_heard
 
     -- in the first slot alone
-    first_heard : ((i : ℕ) → i < length places → (item i).symbol < 7) → AreHeard 16 (2 * length places) bits (slot_values (slot 10) places)
+    first_heard : ((i : ℕ) → i < length places → (item i).symbol < 7) → AreHeard 16 (2 * length places) bits (paired_values (λ p. slot 10) places)
     first_heard low =
         subst (AreHeard 16 (2 * length places) bits)
         (paired_same slot_at (λ p. slot 10) places (λ i l. rw (lt-ltb (item (2 * i)).symbol 7 (low (2 * i) (omega (arith, l)))) refl)) places_heard
 
   -- ---- the control region
 
-  indicator_heard : number % 2 ≡ 0 → Speak (indicator_values (slot 10)) plan.cfi
-  unfolding seen_slot indicator_values indicator_point
+  indicator_heard : number % 2 ≡ 0 → Speak (indicator_values_by paired_values (slot 10)) plan.cfi
+  unfolding seen_slot indicator_values_by indicator_point
   indicator_heard is_even i l =
-      supports-speaks (indicator_bit plan.cfi i) (get_or (indicator_values (slot 10)) i (pos 0)) (supports-less 1 16 (indicator_bit plan.cfi i) _ (omega arith) (all.value i l))
+      supports-speaks (indicator_bit plan.cfi i) (get_or (indicator_values_by paired_values (slot 10)) i (pos 0)) (supports-less 1 16 (indicator_bit plan.cfi i) _ (omega arith) (all.value i l))
     where
       size : length (pcfich_places plan.identity) ≡ 16
       size = length-pcfich_places plan.identity
@@ -153,7 +157,7 @@ module _ (recording : List Sample) (plan : CellPlan) (grid others : Elements) (s
       low : (i : ℕ) → i < length (pcfich_places plan.identity) → (get_or (pcfich_places plan.identity) i (place 0 0)).symbol ≤ 0
       low i l = (indicator_stands First plan sendable i (omega (arith, l, size))).symbol
 
-      heard : AreHeard 16 (2 * length (pcfich_places plan.identity)) (scrambled (pcfich_c_init plan.identity 10) (indicator_bit plan.cfi)) (slot_values (slot 10) (pcfich_places plan.identity))
+      heard : AreHeard 16 (2 * length (pcfich_places plan.identity)) (scrambled (pcfich_c_init plan.identity 10) (indicator_bit plan.cfi)) (paired_values (λ p. slot 10) (pcfich_places plan.identity))
       heard =
           first_heard (pcfich_places plan.identity) (scrambled (pcfich_c_init plan.identity 10) (indicator_bit plan.cfi)) (omega (arith, size))
           (λ i l. let at = low i l in (omega (arith, at), (indicator_stands First plan sendable i (omega (arith, l, size))).k))
@@ -162,16 +166,16 @@ module _ (recording : List Sample) (plan : CellPlan) (grid others : Elements) (s
           (λ i l. indicator_carried Second plan others clean.other_carries sendable number is_even i (omega (arith, l, size)))
           (λ i l. let at = low i l in omega (arith, at))
 
-      all : AreHeard 16 (2 * 16) (indicator_bit plan.cfi) (indicator_values (slot 10))
-      all = subst (λ n. AreHeard 16 (2 * n) (indicator_bit plan.cfi) (indicator_values (slot 10))) size
-          (descrambled_bits_are_heard 16 (2 * length (pcfich_places plan.identity)) (pcfich_c_init plan.identity 10) (indicator_bit plan.cfi) (slot_values (slot 10) (pcfich_places plan.identity)) heard)
+      all : AreHeard 16 (2 * 16) (indicator_bit plan.cfi) (indicator_values_by paired_values (slot 10))
+      all = subst (λ n. AreHeard 16 (2 * n) (indicator_bit plan.cfi) (indicator_values_by paired_values (slot 10))) size
+          (descrambled_bits_are_heard 16 (2 * length (pcfich_places plan.identity)) (pcfich_c_init plan.identity 10) (indicator_bit plan.cfi) (paired_values (λ p. slot 10) (pcfich_places plan.identity)) heard)
 
   module _ (is_even : number % 2 ≡ 0) where
-    control_heard : SpeakInOrder (grant_word (grant_of plan number)) (candidate_values (slot 10) plan.cfi plan.duration plan.resource)
-    unfolding seen_slot stream_values control_point control_word
+    control_heard : SpeakInOrder (grant_word (grant_of plan number)) (candidate_values_by paired_values (slot 10) plan.cfi plan.duration plan.resource)
+    unfolding seen_slot stream_values_by control_point control_word
     control_heard = record {
       enough = let size = (grant_parts (grant_of plan number)).size in let count = all.size in omega (arith, size, count);
-      value = λ i l. supports-less 1 16 (coded_bit (grant_word (grant_of plan number)) i) (get_or (candidate_values (slot 10) plan.cfi plan.duration plan.resource) i (pos 0)) (omega arith)
+      value = λ i l. supports-less 1 16 (coded_bit (grant_word (grant_of plan number)) i) (get_or (candidate_values_by paired_values (slot 10) plan.cfi plan.duration plan.resource) i (pos 0)) (omega arith)
           (all.value i (let count = all.size in omega (arith, l, count)));
     }
       where
@@ -181,7 +185,7 @@ module _ (recording : List Sample) (plan : CellPlan) (grid others : Elements) (s
         low : (i : ℕ) → i < length (control_places plan) → (get_or (control_places plan) i (place 0 0)).symbol ≤ 3
         low i l = (control_stands First plan sendable i (omega (arith, l, size))).symbol
 
-        heard : AreHeard 16 (2 * length (control_places plan)) (scrambled (pdcch_c_init plan.identity 10) (coded_bit (grant_word (grant_of plan number)))) (slot_values (slot 10) (control_places plan))
+        heard : AreHeard 16 (2 * length (control_places plan)) (scrambled (pdcch_c_init plan.identity 10) (coded_bit (grant_word (grant_of plan number)))) (paired_values (λ p. slot 10) (control_places plan))
         heard =
             first_heard (control_places plan) (scrambled (pdcch_c_init plan.identity 10) (coded_bit (grant_word (grant_of plan number)))) (omega (arith, size))
             (λ i l. let at = low i l in (omega (arith, at), (control_stands First plan sendable i (omega (arith, l, size))).k))
@@ -190,14 +194,14 @@ module _ (recording : List Sample) (plan : CellPlan) (grid others : Elements) (s
             (λ i l. control_carried Second plan others clean.other_carries sendable number is_even i (omega (arith, l, size)))
             (λ i l. let at = low i l in omega (arith, at))
 
-        all : AreHeard 16 (2 * 144) (coded_bit (grant_word (grant_of plan number))) (candidate_values (slot 10) plan.cfi plan.duration plan.resource)
-        all = subst (λ n. AreHeard 16 (2 * n) (coded_bit (grant_word (grant_of plan number))) (candidate_values (slot 10) plan.cfi plan.duration plan.resource)) size
-            (descrambled_bits_are_heard 16 (2 * length (control_places plan)) (pdcch_c_init plan.identity 10) (coded_bit (grant_word (grant_of plan number))) (slot_values (slot 10) (control_places plan)) heard)
+        all : AreHeard 16 (2 * 144) (coded_bit (grant_word (grant_of plan number))) (candidate_values_by paired_values (slot 10) plan.cfi plan.duration plan.resource)
+        all = subst (λ n. AreHeard 16 (2 * n) (coded_bit (grant_word (grant_of plan number))) (candidate_values_by paired_values (slot 10) plan.cfi plan.duration plan.resource)) size
+            (descrambled_bits_are_heard 16 (2 * length (control_places plan)) (pdcch_c_init plan.identity 10) (coded_bit (grant_word (grant_of plan number))) (paired_values (λ p. slot 10) (control_places plan)) heard)
 
     -- ---- the shared channel
 
     abbrev values : List ℤ
-    values = shared_values (slot 10) (slot 11) plan.cfi plan.start plan.blocks
+    values = shared_values_by TwoPorts paired_values (slot 10) (slot 11) plan.cfi plan.start plan.blocks
 
     abbrev places : List Place
     places = assigned_places true plan
@@ -210,7 +214,7 @@ module _ (recording : List Sample) (plan : CellPlan) (grid others : Elements) (s
         by false e = omega (arith, e)
 
     shared_heard : AreHeard 16 (2 * length places) (shared_bit plan number) values
-    unfolding seen_slot shared_values shared_point shared_place_of
+    unfolding seen_slot shared_values_by shared_point shared_place_of
     shared_heard =
         descrambled_bits_are_heard 16 (2 * length places) (pdsch_c_init plan.identity 10 system_information_rnti) (shared_bit plan number) (paired_values slot_at places)
         (places_heard places (scrambled (pdsch_c_init plan.identity 10 system_information_rnti) (shared_bit plan number)) paired
@@ -249,9 +253,9 @@ module _ (recording : List Sample) (plan : CellPlan) (grid others : Elements) (s
         }
 
     -- so the frame answers with the plan's fields
-    pub fields_read : Reads (two_ports (slot 10) (slot 11) plan.duration plan.resource) (Ok plan.sib1)
+    pub fields_read : Reads (subframe_by TwoPorts paired_values (slot 10) (slot 11) plan.duration plan.resource) (Ok plan.sib1)
     fields_read =
-        let read = spoken_grant_is_read (two_ports (slot 10) (slot 11) plan.duration plan.resource) plan.cfi (grant_of plan number)
+        let read = spoken_grant_is_read (subframe_by TwoPorts paired_values (slot 10) (slot 11) plan.duration plan.resource) plan.cfi (grant_of plan number)
         (record {
           range = (let low = sendable.cfi.0 in omega (arith, low), sendable.cfi.1);
           is_grant = grant_is plan sendable number;

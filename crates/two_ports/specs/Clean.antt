@@ -1,10 +1,8 @@
 -- The list of cells with two antenna ports of a clean recording: it holds the cell that was sent. (own)
-use Rattle.std.specs.Prelude.{◌≡◌, ℕ, ◌/◌, ◌≤◌, List, Ok}
+use Rattle.std.specs.Prelude.{ℕ, ◌≤◌, List, Ok}
 use Rattle.cs_num.specs.declared.Cpx.{Cpx}
 use Rattle.cs_num.specs.declared.Sample.{Sample}
-use Rattle.lte_types.specs.declared.bandwidth.Bandwidth.TheVariants.{N6}
 use Rattle.lte_types.specs.declared.entry.Entry.{Entry}
-use Rattle.lte_types.specs.Block.{HasFields}
 use Rattle.lte_types.specs.Timing.{start_of, number_at_start}
 use Rattle.cell_tx.specs.declared.cell.CellPlan.{CellPlan}
 use Rattle.cell_tx.specs.declared.antenna.Port.TheVariants.{First, Second}
@@ -12,7 +10,7 @@ use Rattle.cell_tx.specs.Sent.{Elements, sent}
 use Rattle.two_tx.specs.Plan.{IsSendableOfTwo}
 use Rattle.two_tx.specs.Clean.{IsCleanOfTwo, IsCleanOfPorts}
 use Rattle.clean_air.specs.Load.{CarriesPlan}
-use Rattle.clean_air.specs.Clean.{HoldsOne}
+use Rattle.clean_air.specs.Clean.{HoldsOne, IsSentEntryBy}
 
 -- a recording is clean of elements of both ports that carry the plan, from the frame numbered sfn on, whatever else they are
 pub record IsLoadedOfPorts (recording : List Sample) (plan : CellPlan) (grid others : Elements) (sfn offset : ℕ) (gain other : Cpx) (eps : ℕ) : Type 0 where
@@ -21,16 +19,9 @@ pub record IsLoadedOfPorts (recording : List Sample) (plan : CellPlan) (grid oth
   pub other_carries : CarriesPlan Second plan others
   pub samples : IsCleanOfTwo (sent grid sfn) (sent others sfn) recording offset gain other eps
 
--- the entry has two antenna ports (TS 36.212 section 5.3.1.1), the fields of the master block of a cell in the frame with this
--- number, which holds the upper 8 bits of it, and the fields of its SystemInformationBlockType1 (TS 36.331 section 6.2.2); it was read from the
--- cell's first whole frame alone, and each value speaks for its word, so that this costs nothing
-pub record IsSentEntryOfTwo (plan : CellPlan) (number : ℕ) (entry : Entry) : Type 0 where
-  pub ports : entry.ports ≡ 2
-  pub block : HasFields entry.mib N6 plan.duration plan.resource (number / 4) plan.spare
-  pub sib1 : entry.sib1 ≡ Ok plan.sib1
-  pub cost : entry.cost ≡ 0
-  pub frames : entry.frames ≡ 1
-  pub frame : entry.frame ≡ 0
+-- the entry is as it was sent with two antenna ports
+abbrev pub IsSentEntryOfTwo : CellPlan → ℕ → Entry → Type 0
+IsSentEntryOfTwo plan number = IsSentEntryBy 2 plan.duration plan.resource plan.spare (Ok plan.sib1) number
 
 -- the list holds the cell of which a frame begins at this sample with this number
 abbrev pub HoldsCellOfTwo : List Entry → CellPlan → ℕ → ℕ → Type 0

@@ -1,32 +1,26 @@
--- The list of the cells with two antenna ports that a recording explains: hits, places, first frames, dropped entries and order are
--- those of one port. (own)
-use Rattle.std.specs.Prelude.{◌≢◌, List, Err}
-use Rattle.std.specs.List.{Contains}
+-- The list of the cells with two antenna ports that a recording explains, by the values of pairs. (own)
+use Rattle.std.specs.Prelude.{ℕ, Bool, nat_eq, List}
 use Rattle.cs_num.specs.declared.Sample.{Sample}
-use Rattle.lte_types.specs.declared.hit.Hit.{Hit}
+use Rattle.lte_types.specs.declared.carrier.Carrier.TheVariants.{TwoPorts}
 use Rattle.lte_types.specs.declared.entry.Entry.{Entry}
-use Rattle.lte_types.specs.declared.sib1_reason.Sib1Reason.TheVariants.{LongPrefix}
-use Rattle.pss_search.specs.Hits.{hits_of}
-use Rattle.explain.specs.Entries.{place_at, IsEntryAt}
+use Rattle.explain.specs.Receiver.{Receiver, by_slots}
+use Rattle.explain.specs.Entries.{IsListFor}
 use Rattle.explain.specs.declared.readings.Reading.{Reading}
-use Rattle.explain.specs.Reader.{IsListBy}
-use Rattle.explain.specs.Readings.{IsReadingBy}
-use Rattle.two_ports.specs.Frames.{IsMasterOfTwo, IsSystemOfTwo, IsGrantOfTwo, sums_of_two}
+use Rattle.explain.specs.Readings.{IsReadingFor}
+use Rattle.two_ports.specs.Pairs.{paired_values}
 
--- the entry tells a master block of the hit
-abbrev pub IsEntryOfTwo : List Sample → Hit → Entry → Type 0
-IsEntryOfTwo recording hit entry = IsEntryAt (IsMasterOfTwo recording) (IsSystemOfTwo recording) recording (place_at recording hit) entry
+-- two antenna ports are told: the check has the mask FFFF (TS 36.212 section 5.3.1.1)
+abbrev pub are_two : ℕ → Bool
+are_two ports = nat_eq ports 2
+
+-- by the values of pairs, master blocks that tell two are taken, and no others
+abbrev pub two_ports_receiver : Receiver
+two_ports_receiver = by_slots TwoPorts are_two paired_values
 
 -- the list of a recording
 abbrev pub IsExplainedOfTwo : List Sample → List Entry → Type 0
-IsExplainedOfTwo recording list = IsListBy (IsMasterOfTwo recording) (IsSystemOfTwo recording) recording (place_at recording) (hits_of recording) list
+IsExplainedOfTwo = IsListFor two_ports_receiver
 
 -- an entry of it was read so
 abbrev pub IsReadingOfTwo : List Sample → Entry → Reading → Type 0
-IsReadingOfTwo recording =
-    IsReadingBy (sums_of_two recording) (IsGrantOfTwo recording) (place_at recording) (hits_of recording)
-
--- no entry of it has the reason that the cyclic prefix is the extended one
-abbrev pub IsNeverLong : Type 0
-IsNeverLong = (recording : List Sample) (list : List Entry) (entry : Entry) → IsExplainedOfTwo recording list → Contains list entry →
-    entry.sib1 ≢ Err LongPrefix
+IsReadingOfTwo = IsReadingFor two_ports_receiver

@@ -1,7 +1,5 @@
 pub mod Pairs
-pub mod Values
 pub mod Kept
 pub mod Received
-pub mod Frames
 pub mod Entries
 pub mod Clean

@@ -7,6 +7,7 @@ use Rattle.cs_num.specs.Complex.{plus, minus, times, conjugate}
 use Rattle.crs.specs.Reference.{port_0, port_1}
 use Rattle.grid_map.specs.declared.Place.{Place}
 use Rattle.grid_map.specs.Place.{place}
+use Rattle.soft_bits.specs.Places.{Valuing}
 use Rattle.soft_bits.specs.Soft.{SeenSlot, seen_at, pattern_channel, pattern_energy, soft_pair}
 
 -- what stands for the first point of a pair, by the channels h and k of the two ports, where a and b were seen at its two places
@@ -38,9 +39,5 @@ pair_at slot places i =
     let first = slice_index_or places (2 * i) (place 0 0) in pair_values (slot first) first (slice_index_or places (2 * i + 1) (place 0 0))
 
 -- the values of all pairs, one pair after the other
-unfoldable pub paired_values : (Place → SeenSlot) → List Place → List ℤ
+unfoldable pub paired_values : Valuing
 paired_values slot places = joined_below (length places / 2) (pair_at slot places)
-
--- where one slot has all places
-abbrev pub slot_values : SeenSlot → List Place → List ℤ
-slot_values slot places = paired_values (λ p. slot) places

@@ -1,6 +1,5 @@
 //! Laws of the values of pairs.
 
-ghost use Rattle.two_ports.specs.Entries.{IsNeverLong};
 ghost use Rattle.two_ports.specs.Received.{PairValuesSpeak, ReceivedPairSpeaks};
 
 /// Where the pilots of both ports of a slot and a pair of points are seen, each port's with its gain, and each off by at
@@ -10,9 +9,4 @@ ghost use Rattle.two_ports.specs.Received.{PairValuesSpeak, ReceivedPairSpeaks};
 pub fn pair_values_speak_for_the_sent_bits()
     ensures seen { PairValuesSpeak }
     ensures recording { ReceivedPairSpeaks }
-{}
-
-/// No entry of the list of a recording has the reason `Sib1Reason::LongPrefix`.
-pub fn no_entry_is_of_the_extended_prefix()
-    ensures { IsNeverLong }
 {}

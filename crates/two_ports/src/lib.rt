@@ -2,19 +2,15 @@
 //! pairs of places, the list of the cells of a recording, and that a clean recording's list holds its cell.
 #![tactic(auto)]
 
-mod attempt;
-mod channels;
 mod clean;
 mod frames;
 mod laws;
-mod list;
 mod pairs;
-mod reader;
 mod slot;
 mod value;
 
 pub use clean::explain_clean;
-pub use laws::{no_entry_is_of_the_extended_prefix, pair_values_speak_for_the_sent_bits};
-pub use list::Workspace2;
+pub use explain::Workspace as Workspace2;
+pub use laws::pair_values_speak_for_the_sent_bits;
 pub use slot::PairSlot;
 pub use value::pair;

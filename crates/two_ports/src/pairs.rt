@@ -2,11 +2,12 @@
 
 ghost use Rattle.std.specs.Prelude.{◌≡◌, ◌*◌, ◌%◌, ◌<◌, All, length};
 ghost use Rattle.finite.specs.Sizes.{AllWithin};
-ghost use Rattle.pdsch.specs.Values.{slot_with};
-ghost use Rattle.two_ports.specs.Pairs.{pair_values, paired_values, slot_values};
+ghost use Rattle.soft_bits.specs.Places.{slot_with, in_subframe};
+ghost use Rattle.two_ports.specs.Pairs.{pair_values, paired_values};
 
 use crate::{PairSlot, pair};
 use grid_map::Place;
+use soft_bits::slot_of;
 
 /// Writes the soft values of places of a subframe over the whole of `values`, two a place, in the order of the places,
 /// which are taken two by two. A place in symbols 0 to 6 is one of the subframe's first slot, and one in symbols 7 to 13
@@ -15,24 +16,13 @@ pub(crate) fn fill_pairs(first: &PairSlot, second: &PairSlot, places: &[Place], 
     requires inside { All (λ p. (p.symbol < 14) × (p.k < 72)) places.now }
     requires even { length places.now % 2 ≡ 0 }
     requires room { length values.old ≡ 2 * length places.now }
-    ensures values { values.new ≡ paired_values (λ p. slot_with first.now second.now p.symbol) places.now }
+    ensures values { values.new ≡ paired_values (in_subframe first.now second.now) places.now }
     ensures sizes { AllWithin 127 values.new }
 {
     for i in 0..places.len() / 2 {
         let four = pair_at(first, second, &places[2 * i], &places[2 * i + 1]);
         values[4 * i..4 * i + 4].copy_from_slice(&four);
     }
-}
-
-/// Writes the values of pairs of places that all stand in one slot, as those of PBCH, PCFICH and PDCCH do.
-pub(crate) fn fill_slot(slot: &PairSlot, places: &[Place], values: &mut [i16])
-    requires inside { All (λ p. (p.symbol < 14) × (p.k < 72)) places.now }
-    requires even { length places.now % 2 ≡ 0 }
-    requires room { length values.old ≡ 2 * length places.now }
-    ensures values { values.new ≡ slot_values slot.now places.now }
-    ensures sizes { AllWithin 127 values.new }
-{
-    fill_pairs(slot, slot, places, values);
 }
 
 // The four values of two places.
@@ -49,11 +39,4 @@ fn pair_at(first: &PairSlot, second: &PairSlot, p: &Place, q: &Place) -> [i16; 4
         slot.seen(p.symbol % 7, p.k),
         slot.seen(q.symbol % 7, q.k),
     )
-}
-
-// The slot that has a symbol of the subframe.
-fn slot_of<'a>(first: &'a PairSlot, second: &'a PairSlot, symbol: u8) -> &'a PairSlot
-    ensures { result.now ≡ slot_with first.now second.now symbol }
-{
-    if symbol < 7 { first } else { second }
 }

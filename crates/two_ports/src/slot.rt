@@ -3,14 +3,17 @@
 ghost use Rattle.std.specs.Prelude.{◌≡◌, ◌*◌, ◌^◌, ◌<◌, ◌≤◌};
 ghost use Rattle.cs_num.specs.Complex.{IsWithin};
 ghost use Rattle.crs.specs.Reference.{port_0, port_1};
+ghost use Rattle.lte_types.specs.declared.carrier.Carrier.TheVariants.{TwoPorts};
 ghost use Rattle.soft_bits.specs.Soft.{SeenSlot, AreSmall, seen_at, pattern_channel};
 ghost use Rattle.two_ports.specs.Kept.{IsPairKept};
-ghost use Rattle.two_ports.specs.Pairs.{pilots_energy};
+ghost use Rattle.two_ports.specs.Pairs.{pilots_energy, paired_values};
 
+use crate::pairs::fill_pairs;
 use crs::Pattern;
 use cs_num::Cpx;
-use lte_types::CellId;
-use soft_bits::{Seen, Slot, energy_of, estimate, pilots_of};
+use grid_map::Place;
+use lte_types::{Carrier, CellId};
+use soft_bits::{ReadSlot, Seen, Slot, energy_of, estimate, pilots_of};
 use std::marker::Model;
 
 /// A slot with the pilots of both antenna ports. Contracts see it as the record of the slot.
@@ -53,21 +56,6 @@ impl PairSlot {
         }
     }
 
-    /// The identity of the cell.
-    pub fn id(&self) -> CellId
-        ensures { result ≡ self.now.identity }
-    {
-        self.slot.id()
-    }
-
-    /// The slot's number in its frame, 0 to 19.
-    pub fn number(&self) -> u8
-        ensures value { result ≡ self.now.number }
-        ensures valid { result < 20 }
-    {
-        self.slot.number()
-    }
-
     // The seen value at a place.
     pub(crate) fn seen(&self, symbol: u8, k: u8) -> Cpx
         requires symbol { symbol < 7 }
@@ -102,5 +90,33 @@ impl PairSlot {
         ensures few { result ≤ 48 * 2 ^ 51 }
     {
         self.energy
+    }
+}
+
+impl ReadSlot for PairSlot {
+    ghost seen_as = { λ s. s };
+
+    ghost carrier = { TwoPorts };
+
+    ghost values_by = { paired_values };
+
+    fn of(seen: [[Cpx; 72]; 7], number: u8, id: CellId) -> PairSlot {
+        PairSlot::new(seen, number, id)
+    }
+
+    fn carrier() -> Carrier {
+        Carrier::TwoPorts
+    }
+
+    fn cell(&self) -> CellId {
+        self.slot.id()
+    }
+
+    fn slot_number(&self) -> u8 {
+        self.slot.number()
+    }
+
+    fn fill(&self, second: &PairSlot, places: &[Place], values: &mut [i16]) {
+        fill_pairs(self, second, places, values);
     }
 }

@@ -6,17 +6,17 @@ use Rattle.finite.specs.Sizes.{AllWithin}
 use Rattle.finite.proofs.Lists.{joined_below_none, joined_below_more}
 use Rattle.grid_map.specs.declared.Place.{Place}
 use Rattle.soft_bits.specs.Soft.{SeenSlot}
-use Rattle.pdsch.specs.Values.{slot_with}
+use Rattle.soft_bits.specs.Places.{in_subframe}
 use Rattle.two_ports.specs.Pairs.{pair_at, paired_values}
 use Rattle.two_ports.proofs.Paired.{length-pair_at, paired-small}
 use Rattle.two_ports.proofs.pairs.fill_pairs.Goals as goal
 
 pub loop-i-init : goal.loop-i-init
-loop-i-init c = sym (joined_below_none (pair_at (λ p. slot_with c.args.first.now c.args.second.now p.symbol) c.args.places.now))
+loop-i-init c = sym (joined_below_none (pair_at (in_subframe c.args.first.now c.args.second.now) c.args.places.now))
 
 pub loop-i-preserved : goal.loop-i-preserved
 loop-i-preserved c =
-    let slot : Place → SeenSlot = λ p. slot_with c.args.first.now c.args.second.now p.symbol in
+    let slot : Place → SeenSlot = in_subframe c.args.first.now c.args.second.now in
     let places = c.args.places.now in
     let i : ℕ = c.loop-i.i in
     let here : c.pair_at-four.result ≡ pair_at slot places i = c.pair_at-four.ensures.values in
@@ -31,7 +31,7 @@ loop-i-preserved c =
 pub returns-clause-values : goal.returns-clause-values
 unfolding paired_values
 returns-clause-values c =
-    let slot : Place → SeenSlot = λ p. slot_with c.args.first.now c.args.second.now p.symbol in
+    let slot : Place → SeenSlot = in_subframe c.args.first.now c.args.second.now in
     let whole = c.loop-i.auto.values in
     let room = c.requires.room in
     let even = c.requires.even in
@@ -41,4 +41,4 @@ returns-clause-values c =
     ∙ ap (λ (n : ℕ). joined_below n (pair_at slot c.args.places.now)) last
 
 pub returns-clause-sizes : goal.returns-clause-sizes
-returns-clause-sizes c = subst (AllWithin 127) (sym (returns-clause-values c)) (paired-small (λ p. slot_with c.args.first.now c.args.second.now p.symbol) c.args.places.now)
+returns-clause-sizes c = subst (AllWithin 127) (sym (returns-clause-values c)) (paired-small (in_subframe c.args.first.now c.args.second.now) c.args.places.now)
