@@ -1,16 +1,15 @@
 -- Sizes of the elements.
-use Rattle.std.proofs.Common.{◌≡◌, ℕ, ◌-◌, ◌*◌, ◌/◌, ◌%◌, ◌≤◌, nat_lt, arith, ℤ, pos, ◌*ℤ◌}
-use Rattle.std.specs.Prelude.{nat_abs}
+use Rattle.std.proofs.Common.{ℕ, ◌-◌, ◌*◌, ◌/◌, ◌%◌, ◌≤◌, nat_lt, arith}
 use Rattle.cs_num.specs.declared.Cpx.{Cpx}
 use Rattle.cs_num.specs.Complex.{IsWithin, nothing, square}
 use Rattle.lte_types.specs.declared.frame.Half.{Half}
 use Rattle.lte_types.specs.Numerology.{half_of}
 use Rattle.crs.specs.Qpsk.{IsPoint}
-use Rattle.crs.specs.Reference.{long_prefix, is_pattern_place, pattern_reference}
+use Rattle.crs.specs.Reference.{long_prefix, is_pattern_place}
 use Rattle.crs.proofs.Values.{pattern_reference-IsPoint}
 use Rattle.sync_seq.specs.Primary.{pss_at}
 use Rattle.sync_seq.specs.Middle.{in_middle}
-use Rattle.sync_seq.specs.Secondary.{sss_at, sss_amplitude}
+use Rattle.sync_seq.specs.Secondary.{sss_amplitude}
 use Rattle.sync_seq.proofs.PrimaryValues.{pss-within}
 use Rattle.grid_map.specs.Place.{place, index_in}
 use Rattle.cell_tx.proofs.Bounds.{pick, bits_full, full_size, secondary_size, primary-square}

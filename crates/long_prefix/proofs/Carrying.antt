@@ -1,12 +1,11 @@
 -- What a plan sends by itself: it carries the plan, is nothing at open places, and a point at those that are taken.
-use Rattle.std.proofs.Common.{◌≡◌, ℕ, ◌/◌, ◌%◌, Bool, true, false, ◌||◌, refl}
+use Rattle.std.proofs.Common.{◌≡◌, ◌/◌, ◌%◌, Bool, true, false, ◌||◌, refl}
 use Rattle.std.proofs.lemmas.Bool.{or_parts}
 use Rattle.cs_num.specs.Complex.{square}
 use Rattle.crs.specs.Reference.{long_prefix, is_pattern_place}
 use Rattle.crs.proofs.Values.{pattern_reference-IsPoint}
 use Rattle.budget.proofs.Scores.{amplitude}
 use Rattle.clean_air.proofs.Estimates.{full-size}
-use Rattle.long_prefix.specs.declared.plan.LongPlan.{LongPlan}
 use Rattle.long_prefix.specs.Grid.{is_signal_symbol, is_broadcast, slot_of, long_element}
 use Rattle.long_prefix.specs.Load.{is_taken, OwnLongElementsCarry, OpenLongPlacesAreSilent, TakenLongPlacesAreSent}
 use Rattle.long_prefix.proofs.Amounts.{point_full, element-square}

@@ -1,9 +1,7 @@
 -- The elements of a grid, case by case.
-use Rattle.std.proofs.Common.{◌≡◌, ℕ, ◌+◌, ◌*◌, ◌/◌, ◌%◌, ◌<◌, ◌≤◌, ◌⊎◌, inl, inr, Bool, true, false, nat_eq, Option, Some, None, List, length, get_or, arith, refl, sym, ap, ◌∙◌}
-use Rattle.std.specs.Prelude.{if◌then◌else◌, ◌&&◌}
-use Rattle.std.proofs.lemmas.Bool.Decides.{nat_tests}
+use Rattle.std.proofs.Common.{◌≡◌, ℕ, ◌+◌, ◌*◌, ◌/◌, ◌%◌, ◌<◌, ◌⊎◌, inl, inr, Bool, true, false, nat_eq, Option, Some, None, List, get_or, arith, refl, sym, ap, ◌∙◌}
+use Rattle.std.specs.Prelude.{if◌then◌else◌}
 use Rattle.finite.specs.Lists.{values_below}
-use Rattle.finite.proofs.Lists.{values_below_at}
 use Rattle.cs_num.specs.declared.Cpx.{Cpx}
 use Rattle.cs_num.specs.Complex.{nothing}
 use Rattle.lte_types.specs.Numerology.{half_of}
@@ -61,9 +59,6 @@ module _ (plan : LongPlan) (sfn subframe symbol k : ℕ) where
   abbrev here : Place
   here = place (symbol % 6) k
 
-  pub not_in_slot : nat_eq (slot_of subframe symbol) 1 ≡ false → nothing ≡ broadcast_value plan sfn subframe symbol k
-  not_in_slot e = rw e refl
-
   told : (points : List Cpx) → points ≡ values_below 216 (long_point plan sfn) → value_in Only (long_places plan.id) points here
       ≡ (if is_one_of (long_places plan.id) here then Some (long_point plan sfn (index_in (long_places plan.id) here)) else None)
   told points is =
@@ -74,17 +69,9 @@ module _ (plan : LongPlan) (sfn subframe symbol k : ℕ) where
   by_test true x o e value f = let same : Some value ≡ Some x = sym f ∙ e in cc
   by_test false x o e value f = absurd (let same : Some value ≡ None = sym f ∙ e in cc)
 
-  none_test : (b : Bool) (x : Cpx) (o : Option Cpx) → o ≡ (if b then Some x else None) → o ≡ None → nothing ≡ (if b then x else nothing)
-  none_test true x o e f = absurd (let same : None ≡ Some x = sym f ∙ e in cc)
-  none_test false x o e f = refl
-
   pub in_slot : (points : List Cpx) (value : Cpx) → points ≡ values_below 216 (long_point plan sfn) → nat_eq (slot_of subframe symbol) 1 ≡ true →
       value_in Only (long_places plan.id) points here ≡ Some value → value ≡ broadcast_value plan sfn subframe symbol k
   in_slot points value is e there = rw e (by_test (is_one_of (long_places plan.id) here) _ _ (told points is) value there)
-
-  pub none_in_slot : (points : List Cpx) → points ≡ values_below 216 (long_point plan sfn) → nat_eq (slot_of subframe symbol) 1 ≡ true →
-      value_in Only (long_places plan.id) points here ≡ None → nothing ≡ broadcast_value plan sfn subframe symbol k
-  none_in_slot points is e there = rw e (none_test (is_one_of (long_places plan.id) here) _ _ (told points is) there)
 
 -- ---- the cases of an element
 

@@ -12,17 +12,11 @@ pub mod Frames
 pub mod Samples
 -- Each symbol of a clean recording is received as it was sent.
 pub mod SentSignals
--- A slot that carries the word of a master block tells it.
+-- The soft values of a slot speak for the bits that it carries.
 pub mod Told
 -- The soft values of a slot are small.
 pub mod Pairs
--- The master blocks of a frame.
-pub mod Frame
--- The hits that are taken.
-pub mod Late
 -- All together: the list of a clean recording holds its cell.
 pub mod HeldLong
 -- A number has one recording.
 pub mod Numbered
--- The sums of a frame are small.
-pub mod LongSums

@@ -1,7 +1,6 @@
 -- A number has one recording.
-use Rattle.std.proofs.Common.{◌≡◌, ℕ, ◌%◌, ◌≤◌, ap, sym, subst, ◌∙◌, arith}
+use Rattle.std.proofs.Common.{◌≡◌, ℕ, ◌≤◌, ap, sym, subst, ◌∙◌, arith}
 use Rattle.std.specs.Prelude.{nat_abs}
-use Rattle.lte_types.specs.declared.mib.Mib.{Mib}
 use Rattle.explain.proofs.Entries.{same_mib}
 use Rattle.capture_make.specs.Recipe.{gain}
 use Rattle.capture_make.proofs.Samples.{one_bound}

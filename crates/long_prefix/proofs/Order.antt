@@ -1,15 +1,12 @@
 -- The places of the broadcast channel by their number, and back, for every identity.
 use Rattle.std.proofs.Common.{◌≡◌, ℕ, zero, suc, ◌+◌, ◌-◌, ◌*◌, ◌/◌, ◌%◌, ◌<◌, ◌≤◌, Bool, true, false, not, ◌&&◌, cond, nat_eq, nat_lt, List, length, map, get_or, refl, ap, ◌∙◌, sym, subst, arith}
-use Rattle.std.specs.Prelude.{if◌then◌else◌, All}
 use Rattle.std.specs.List.{range_with_len}
 use Rattle.std.proofs.lemmas.Bool.{ltb-true, lt-ltb, le-ltb, and_parts, eqb-true}
-use Rattle.std.proofs.lemmas.Bool.Decides.{nat_tests}
 use Rattle.std.proofs.lemmas.List.FromFn.{length-map-range_with_len, get_or-map-range_with_len}
-use Rattle.std.proofs.lemmas.List.Elements.{All-from_get_or}
 use Rattle.finite.specs.Tests.{every_below}
 use Rattle.finite.proofs.Tests.{every_below_at}
 use Rattle.grid_map.specs.declared.Place.{Place}
-use Rattle.grid_map.specs.Place.{place, places_of, same_place, index_in, skipping}
+use Rattle.grid_map.specs.Place.{place, places_of, index_in, skipping}
 use Rattle.long_prefix.specs.Places.{is_kept, free_places, long_places}
 
 -- ---- the place of point i

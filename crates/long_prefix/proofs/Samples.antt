@@ -1,21 +1,19 @@
 -- The samples of a recording by number.
-use Rattle.std.proofs.Common.{◌≡◌, ℕ, ◌+◌, ◌*◌, ◌/◌, ◌%◌, ◌≤◌, List, length, ap, sym, subst, ◌∙◌, arith, ℤ, pos}
+use Rattle.std.proofs.Common.{◌≡◌, ℕ, List, length, sym, subst, arith}
 use Rattle.std.specs.Prelude.{nat_abs, All}
 use Rattle.finite.specs.Lists.{values_below}
-use Rattle.cs_num.specs.declared.Cpx.{Cpx}
 use Rattle.cs_num.specs.declared.Sample.{Sample}
-use Rattle.cs_num.specs.Complex.{IsWithin, plus, sample_at, square, value_of, sample_of}
+use Rattle.cs_num.specs.Complex.{IsWithin, plus, sample_at, value_of, sample_of}
 use Rattle.cs_num.specs.Gain.{IsGain}
 use Rattle.sample_file.specs.Recording.{IsRecording}
-use Rattle.cell_tx.specs.Clean.{IsCleanOf}
 use Rattle.cell_tx.specs.Laws.{ReceivedWithErrorsIsClean}
-use Rattle.capture_make.specs.Recipe.{number, offset, sample_count, gain, IsBound}
+use Rattle.capture_make.specs.Recipe.{number, offset, sample_count, gain}
 use Rattle.capture_make.specs.Errors.{error}
 use Rattle.capture_make.proofs.Samples.{gain_fits, room_is, with_errors_is, is_recording_of, is_clean_of}
 use Rattle.long_prefix.specs.declared.plan.LongPlan.{LongPlan}
 use Rattle.long_prefix.specs.declared.made.LongMade.{LongMade}
 use Rattle.long_prefix.specs.Sent.{long_sent, IsCleanOfLong}
-use Rattle.long_prefix.specs.Made.{received_samples, samples, IsPlanOf, IsMadeLong, IsCleanlyMade}
+use Rattle.long_prefix.specs.Made.{received_samples, samples, IsMadeLong, IsCleanlyMade}
 use Rattle.long_prefix.proofs.Frames.{sent-square}
 
 -- what is received without errors leaves room for the errors

@@ -1,5 +1,5 @@
 -- A recording that is clean of a cell, whatever else the cell sends: its symbols are received as they were sent.
-use Rattle.std.proofs.Common.{◌≡◌, ℕ, ◌+◌, ◌-◌, ◌*◌, ◌/◌, ◌%◌, ◌<◌, ◌≤◌, inr, Bool, true, false, not, ◌&&◌, nat_eq, nat_lt, arith, refl, subst, ◌∙◌, List, [], length, slice_index_or}
+use Rattle.std.proofs.Common.{◌≡◌, ℕ, ◌+◌, ◌-◌, ◌*◌, ◌/◌, ◌%◌, ◌<◌, ◌≤◌, inr, Bool, true, false, ◌&&◌, nat_eq, nat_lt, arith, refl, subst, ◌∙◌, List, [], length, slice_index_or}
 use Rattle.std.specs.Prelude.{if◌then◌else◌}
 use Rattle.std.proofs.lemmas.Bool.{lt-ltb, or_left, or_right}
 use Rattle.std.proofs.lemmas.Bool.Decides.{nat_tests}

@@ -5,5 +5,4 @@ pub mod Load
 pub mod Rows
 pub mod Made
 pub mod Entries
-pub mod Reading
 pub mod Clean

@@ -2,7 +2,6 @@
 -- system information. (own)
 use Rattle.std.specs.Prelude.{◌≡◌, ℕ, ◌+◌, ◌/◌, nat_abs, List}
 use Rattle.finite.specs.Lists.{values_below}
-use Rattle.cs_num.specs.declared.Cpx.{Cpx}
 use Rattle.cs_num.specs.declared.Sample.{Sample}
 use Rattle.cs_num.specs.Complex.{times, sample_of}
 use Rattle.lte_types.specs.declared.bandwidth.Bandwidth.TheVariants.{N6}

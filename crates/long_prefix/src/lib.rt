@@ -12,7 +12,8 @@ mod plan;
 mod reading;
 mod sending;
 
-pub use listing::{Workspace3, explain_clean};
+pub use explain::Workspace as Workspace3;
+pub use listing::explain_clean;
 pub use load::open_long_places_are_silent;
 pub use made::{LongMade, made_is_clean, make};
 pub use plan::LongPlan;

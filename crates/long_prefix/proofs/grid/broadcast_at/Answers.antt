@@ -1,9 +1,9 @@
-use Rattle.std.proofs.Common.{◌≡◌, ℕ, ◌%◌, true, nat_eq, arith, sym, ap, ◌∙◌}
+use Rattle.std.proofs.Common.{◌≡◌, true, nat_eq, arith, sym, ◌∙◌}
 use Rattle.std.proofs.lemmas.Bool.Decides.{nat_tests}
 use Rattle.cell_tx.proofs.ChannelValues.{all_small}
 use Rattle.long_prefix.specs.Grid.{slot_of, long_point}
 use Rattle.long_prefix.specs.Places.{long_places}
-use Rattle.long_prefix.proofs.Elements.{not_in_slot, in_slot, none_in_slot}
+use Rattle.long_prefix.proofs.Elements.{in_slot}
 use Rattle.long_prefix.proofs.Amounts.{point_full}
 use Rattle.long_prefix.proofs.grid.broadcast_at.Goals as goal
 

@@ -1,4 +1,4 @@
-use Rattle.std.proofs.Common.{◌≡◌, ℕ, ◌/◌, ◌%◌, List, ap, subst, ◌∙◌}
+use Rattle.std.proofs.Common.{ℕ, ◌%◌, List, ap, subst, ◌∙◌}
 use Rattle.finite.specs.Lists.{values_below}
 use Rattle.cs_num.specs.declared.Cpx.{Cpx}
 use Rattle.cs_num.specs.Complex.{value_at}

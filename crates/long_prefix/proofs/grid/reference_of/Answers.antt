@@ -1,6 +1,5 @@
-use Rattle.std.proofs.Common.{◌≡◌, ℕ, ◌/◌, ◌%◌, true, false, nat_eq, arith, eq-eqb}
+use Rattle.std.proofs.Common.{arith, eq-eqb}
 use Rattle.std.proofs.lemmas.Bool.Decides.{nat_tests}
-use Rattle.crs.proofs.Values.{no_pair}
 use Rattle.long_prefix.proofs.Elements.{pilot_here, no_pilot_here}
 use Rattle.long_prefix.proofs.grid.reference_of.Goals as goal
 

@@ -1,4 +1,4 @@
-use Rattle.std.proofs.Common.{◌≡◌, ℕ, ◌<◌, ◌∙◌, get_or, length-set, refl, sym, arith}
+use Rattle.std.proofs.Common.{ℕ, ◌<◌, ◌∙◌, get_or, length-set, refl, sym, arith}
 use Rattle.std.proofs.lemmas.List.{ext_get_or}
 use Rattle.std.proofs.lemmas.List.Elements.{All-replicate, All-set}
 use Rattle.std.proofs.lemmas.List.Edits.{fill_by_more}

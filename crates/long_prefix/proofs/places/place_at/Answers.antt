@@ -1,4 +1,4 @@
-use Rattle.std.proofs.Common.{ap, ◌∙◌, ◌-◌}
+use Rattle.std.proofs.Common.{ap, ◌∙◌}
 use Rattle.grid_map.specs.Place.{place}
 use Rattle.long_prefix.proofs.Order.{early_place, middle_place, late_place}
 use Rattle.long_prefix.proofs.places.place_at.Goals as goal

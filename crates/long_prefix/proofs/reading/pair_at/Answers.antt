@@ -4,7 +4,7 @@ use Rattle.cs_num.specs.Complex.{nothing, value_at, times, conjugate}
 use Rattle.finite.proofs.Lists.{values_below_at}
 use Rattle.crs.specs.Reference.{long_prefix}
 use Rattle.soft_bits.specs.Estimate.{estimate}
-use Rattle.soft_bits.specs.Soft.{SeenSlot, seen_at, soft_pair, pattern_pilot, pattern_channel, pattern_energy}
+use Rattle.soft_bits.specs.Soft.{SeenSlot, seen_at, soft_pair, pattern_pilot, pattern_channel}
 use Rattle.soft_bits.specs.Kept.{slot_of}
 use Rattle.soft_bits.proofs.Estimates.{estimate-same}
 use Rattle.long_prefix.specs.Entries.{long_pair}

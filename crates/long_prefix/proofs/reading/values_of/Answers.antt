@@ -1,11 +1,10 @@
-use Rattle.std.proofs.Common.{◌≡◌, ℕ, ◌/◌, ◌%◌, ◌≤◌, ◌∙◌, List, pos, nat_abs, arith, ap, sym, subst, slice_index_or}
+use Rattle.std.proofs.Common.{◌/◌, ◌%◌, ◌≤◌, ◌∙◌, List, pos, nat_abs, arith, ap, sym, subst, slice_index_or}
 use Rattle.std.specs.Prelude.{All}
 use Rattle.std.proofs.lemmas.List.FromFn.{fill_by_all}
 use Rattle.grid_map.specs.declared.Place.{Place}
 use Rattle.grid_map.specs.Place.{place}
 use Rattle.soft_bits.specs.Kept.{slot_of}
 use Rattle.soft_bits.specs.Soft.{SeenSlot}
-use Rattle.long_prefix.specs.Places.{long_places}
 use Rattle.long_prefix.specs.Entries.{long_pair, long_value, long_values}
 use Rattle.long_prefix.proofs.Pairs.{long_values-small}
 use Rattle.long_prefix.proofs.reading.values_of.Goals as goal

@@ -1,11 +1,9 @@
-use Rattle.std.proofs.Common.{◌≡◌, ℕ, ◌+◌, ◌*◌, ◌<◌, ◌≤◌, ◌⊎◌, inl, inr, length, arith, List, slice_index_or, ◌∙◌}
+use Rattle.std.proofs.Common.{ℕ, ◌*◌, inl, inr, arith, ◌∙◌}
 use Rattle.std.proofs.lemmas.Bool.{cases_lt}
 use Rattle.std.proofs.lemmas.List.FromFn.{fill_by_all}
-use Rattle.cs_num.specs.declared.Sample.{Sample}
 use Rattle.cs_num.specs.Complex.{silence, sample_of}
 use Rattle.lte_types.specs.Numerology.{extended}
 use Rattle.cell_tx.specs.Sent.{prefix_frame_sample}
-use Rattle.cell_tx.specs.Rows.{HasSamples, AreSameOutside}
 use Rattle.long_prefix.specs.Grid.{long_element}
 use Rattle.long_prefix.specs.Rows.{frame_samples}
 use Rattle.long_prefix.proofs.sending.put_frame.Goals as goal

@@ -1,4 +1,4 @@
-use Rattle.std.proofs.Common.{◌≡◌, ℕ, ◌+◌, ◌*◌, ◌/◌, ◌<◌, ◌≤◌, List, arith, ap, sym, ◌∙◌, length-set, get_or-set_other}
+use Rattle.std.proofs.Common.{ℕ, ◌*◌, ◌≤◌, List, arith, ◌∙◌, length-set, get_or-set_other}
 use Rattle.cs_num.specs.declared.Sample.{Sample}
 use Rattle.cs_num.specs.Complex.{silence, sample_of}
 use Rattle.lte_types.specs.Numerology.{extended}

@@ -1,6 +1,6 @@
-use Rattle.std.proofs.Common.{◌≡◌, ℕ, ◌+◌, ◌*◌, ◌%◌, ◌≤◌, ap, sym, subst, ◌∙◌}
+use Rattle.std.proofs.Common.{ℕ, ◌+◌, ◌*◌, ◌≤◌, ap, sym, subst, ◌∙◌}
 use Rattle.cs_num.specs.declared.Cpx.{Cpx}
-use Rattle.cs_num.specs.Complex.{square, times, sample_at, sample_of}
+use Rattle.cs_num.specs.Complex.{square, times, sample_of}
 use Rattle.long_prefix.proofs.Frames.{read_frame, sent-square}
 use Rattle.long_prefix.proofs.sending.received_from.Goals as goal
 

@@ -1,5 +1,5 @@
-use Rattle.std.proofs.Common.{ap, sym, subst, ◌∙◌, refl}
-use Rattle.cs_num.specs.Complex.{IsWithin, sample_of}
+use Rattle.std.proofs.Common.{ap, ◌∙◌, refl}
+use Rattle.cs_num.specs.Complex.{sample_of}
 use Rattle.long_prefix.specs.Grid.{long_element}
 use Rattle.long_prefix.proofs.Frames.{sample_value, frame-within}
 use Rattle.long_prefix.proofs.sending.sample_from.Goals as goal

@@ -1,8 +1,8 @@
-use Rattle.std.proofs.Common.{◌≡◌, ℕ, List, ap, ◌∙◌}
+use Rattle.std.proofs.Common.{ℕ, List, ap, ◌∙◌}
 use Rattle.cs_num.specs.declared.Cpx.{Cpx}
 use Rattle.soft_bits.specs.Soft.{SeenSlot}
 use Rattle.long_prefix.specs.Entries.{long_slot, long_values}
-use Rattle.long_prefix.proofs.reading.received.Goals as goal
+use Rattle.long_prefix.proofs.reading.frame_values.Goals as goal
 
 pub returns-clause-values : goal.returns-clause-values
 unfolding long_slot
