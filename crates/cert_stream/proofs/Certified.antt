@@ -1,12 +1,15 @@
 -- Certificates that are written one after the other.
 use Rattle.std.proofs.Common.{◌≡◌, ℕ, suc, ◌+◌, ◌*◌, ◌<◌, ◌≤◌, Bool, true, false, cond, List, [], ◌∷◌, ◌++◌, length, take, drop, get_or, Option, Some, None, ℤ, refl, ap, sym, subst, ◌∙◌, arith, add-one, append-nil, take_all, length-append}
+use Rattle.finite.specs.Sizes.{AllWithin}
+use Rattle.finite.specs.Lists.{values_below}
 use Rattle.finite.proofs.Sums.{total_below-within}
+use Rattle.finite.proofs.Lists.{values_below-length, values_below-All}
 use Rattle.std.specs.Prelude.{IfSome, is_some, Result, Ok, Err, OnOk, OnErr}
 use Rattle.std.proofs.Math.ListN.{drop_of_length-le}
 use Rattle.std.proofs.Math.Seq.{take-suc}
 use Rattle.std.proofs.lemmas.List.{take-append-drop}
 use Rattle.std.proofs.lemmas.List.Elements.{Contains-append_right}
-use Rattle.std.specs.List.{AllZip, Contains}
+use Rattle.std.specs.List.{AllZip, Contains, flat_map}
 use Rattle.std.proofs.lemmas.Grind.{flat_map-append}
 use Rattle.cs_num.specs.declared.Sample.{Sample}
 use Rattle.cs_outside.specs.Outside.{SinkTold}
@@ -16,20 +19,20 @@ use Rattle.lte_types.specs.declared.entry.Entry.{Entry}
 use Rattle.soft_bits.specs.Soft.{SeenSlot}
 use Rattle.conv_code.specs.Cost.{word_cost}
 use Rattle.tailbite.specs.LeastWord.{IsLeastWord}
-use Rattle.pbch.specs.Values.{coded_values}
+use Rattle.pbch.specs.Values.{received_values}
 use Rattle.pbch.specs.Master.{Tells, TellsMaster, Carries}
 use Rattle.tailbite.proofs.Only.{one_word}
-use Rattle.pbch.proofs.FrameSums.{length-coded_values, length-coded_row, coded_values-small}
+use Rattle.pbch.proofs.FrameSums.{length-received_values, received_values-small, count_in_frames, small_in_frames, length-summed_values, length-summed_values_row, summed_values-small}
 use Rattle.tail_cert.specs.Certificate.{Held, IsWhole, IsAccepted, IsTriple, Counted, tables_there}
 use Rattle.tail_cert.specs.Form.{bytes_of, head_count, most_count, table_count}
 use Rattle.tail_cert.specs.Forward.{IsFilled}
 use Rattle.tail_cert.proofs.Codes.{length-bytes_of}
 use Rattle.tail_cert.proofs.Filled.{same_count}
 use Rattle.tail_cert.proofs.Exists.{certificate_of, least_has_certificate}
-use Rattle.explain.specs.Frame.{broadcast_slots}
+use Rattle.explain.specs.Frame.{broadcast_slot}
+use Rattle.explain.specs.Receiver.{one_port_receiver}
 use Rattle.explain.specs.Entries.{IsExplained, master_of, values_of_entry}
 use Rattle.explain.proofs.Sorted.{Contains-here, Contains-later}
-use Rattle.explain.proofs.FirstFrame.{length-broadcast_slots}
 use Rattle.explain.proofs.Listed.{is_sound}
 use Rattle.cs_outside.specs.declared.Failed.{Failed}
 use Rattle.cert_stream.specs.Stream.{all_bytes}
@@ -86,15 +89,23 @@ pub certifies_filled : (samples : List Sample) (entry : Entry) (c : Held) (v : L
 certifies_filled samples entry c v whole accepted filled same values tells least =
     certifies samples entry c whole accepted filled (same ∙ values) (subst (λ v. TellsMaster v (master_of entry)) values tells) (subst (λ v. IsLeastWord v c.word) (sym same) least)
 
--- the values of slots have the shape and the sizes of a certificate
-values_fit : (slots : List SeenSlot) (phase : ℕ) → length slots ≤ 4 → Counted 40 IsTriple (coded_values slots phase)
-values_fit slots phase few =
-    let count = length-coded_values slots phase in
-    let sizes = coded_values-small slots phase few in
+-- the values of an entry have the shape and the sizes of a certificate
+values_fit : (samples : List Sample) (entry : Entry) → entry.frames ≤ 4 → Counted 40 IsTriple (values_of_entry samples entry)
+values_fit samples entry few =
+    let slot : ℕ → SeenSlot = λ m. broadcast_slot samples entry.id entry.start (entry.frame + m) in
+    let frames = values_below entry.frames (λ m. received_values (slot m)) in
+    let received = flat_map (λ (frame : List ℤ). frame) frames in
+    let first = 480 * entry.phase in
+    let many = values_below-length entry.frames (λ m. received_values (slot m)) in
+    let long = count_in_frames frames (values_below-All (λ (frame : List ℤ). length frame ≤ 480) entry.frames (λ m. received_values (slot m)) []
+    (λ m below. let size = length-received_values (slot m) in omega (arith, size))) in
+    let small = small_in_frames frames (values_below-All (AllWithin 127) entry.frames (λ m. received_values (slot m)) [] (λ m below. received_values-small (slot m))) in
+    let count = length-summed_values entry.id first received in
+    let sizes = summed_values-small entry.id first received small (omega (arith, many, long, few)) in
     record {
       count = count;
       all = λ k d inside. record {
-        count = length-coded_row slots phase k d (omega (arith, inside, count));
+        count = length-summed_values_row entry.id first received k d (omega (arith, inside, count));
         all = λ t e there. let s = sizes k d inside t e there in omega (arith, s);
       };
     }
@@ -103,12 +114,10 @@ values_fit slots phase few =
 entry_has_certificate : (samples : List Sample) (entries : List Entry) (entry : Entry) → IsExplained samples entries → Contains entries entry →
     (c : Held) × Certifies samples entry c
 entry_has_certificate samples entries entry explained inside =
-    let known = is_sound samples entries entry explained inside in
+    let known = is_sound one_port_receiver samples entries entry explained inside in
     let values = values_of_entry samples entry in
-    let tells : TellsMaster values (master_of entry) = known.is_of.master in
-    let few = known.is_of.frames.inside.few in
-    let count = length-broadcast_slots samples entry.id entry.start entry.frames entry.frame in
-    let fit = values_fit (broadcast_slots samples entry.id entry.start entry.frames entry.frame) entry.phase (omega (arith, count, few)) in
+    let tells : TellsMaster values (master_of entry) = known.is_of.master.told in
+    let fit = values_fit samples entry known.is_of.frames.inside.few in
     let made = least_has_certificate values tells.word fit tells.tells.least in (
       certificate_of values tells.word,
       certifies samples entry (certificate_of values tells.word) made.whole made.accepted made.filled made.values_are tells

@@ -1,11 +1,11 @@
 -- How great the fraction of a place is.
-use Rattle.std.proofs.Common.{◌≡◌, ℕ, ◌+◌, ◌*◌, ◌/◌, ◌%◌, ◌≤◌, ◌<◌, List, arith, ap, sym, subst, ◌∙◌}
+use Rattle.std.proofs.Common.{◌≡◌, ℕ, ◌*◌, ◌/◌, ◌%◌, ◌≤◌, ◌<◌, List, arith, ap, sym, subst, ◌∙◌}
 use Rattle.std.proofs.Math.Nat.{div-le_of_le-mul}
 use Rattle.std.proofs.lemmas.Nat.{le-div, mul-le}
 use Rattle.cs_num.specs.declared.Sample.{Sample}
 use Rattle.lte_types.specs.declared.hit.Hit.{Hit}
 use Rattle.lte_types.specs.declared.entry.Entry.{Entry}
-use Rattle.pss_search.specs.Correlation.{peak, energy, wave_power}
+use Rattle.pss_search.specs.Correlation.{peak, wave_power}
 use Rattle.pss_search.proofs.Peaks.{peak_within}
 use Rattle.pss_search.proofs.Symmetry.{power_range}
 use Rattle.evidence.specs.Evidence.{IsHitOfEntry, thousandths}

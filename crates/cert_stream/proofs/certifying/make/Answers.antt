@@ -1,5 +1,6 @@
 use Rattle.std.proofs.Common.{◌∙◌, ap, sym, subst, take, arith, length}
 use Rattle.pbch.specs.Master.{TellsMaster}
+use Rattle.explain.specs.Receiver.{one_port_receiver}
 use Rattle.explain.specs.Entries.{master_of}
 use Rattle.explain.proofs.Listed.{is_sound}
 use Rattle.cert_stream.proofs.Certified.{certifies_filled, written_back}
@@ -13,7 +14,7 @@ returns-clause-bytes c =
     let entry = c.args.entry.now in
     let listed = c.requires.listed in
     let values = c.rows-values.ensures.rows ∙ c.requires.reading.sums in
-    let tells : TellsMaster c.rows-values.result (master_of entry) = subst (λ v. TellsMaster v (master_of entry)) (sym values) (is_sound recording listed.list entry listed.explained listed.inside).is_of.master in
+    let tells : TellsMaster c.rows-values.result (master_of entry) = subst (λ v. TellsMaster v (master_of entry)) (sym values) (is_sound one_port_receiver recording listed.list entry listed.explained listed.inside).is_of.master.told in
     record {
       certificate = c.fill.new.certificate;
       certifies = certifies_filled _ _ c.fill.new.certificate _ c.put.ensures.whole c.fill.ensures.accepted c.fill.ensures.filled c.fill.ensures.values

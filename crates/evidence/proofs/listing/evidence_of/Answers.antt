@@ -1,9 +1,10 @@
 use Rattle.std.proofs.Common.{refl, ap, sym, subst, ◌∙◌, ◌≤◌, arith}
 use Rattle.soft_bits.specs.Soft.{pilot, pilot_energy}
 use Rattle.pbch.specs.Master.{TellsMaster, total}
+use Rattle.explain.specs.Receiver.{one_port_receiver}
 use Rattle.explain.specs.Entries.{master_of, values_of_entry}
 use Rattle.explain.proofs.Listed.{is_sound}
-use Rattle.evidence.specs.Evidence.{IsHitOfEntry, mean_steps}
+use Rattle.evidence.specs.Evidence.{mean_steps}
 use Rattle.evidence.proofs.Fractions.{hit_sounds, hit_within, hit_is_clear, hit_fraction}
 use Rattle.evidence.proofs.Least.{first_tells}
 use Rattle.evidence.proofs.Steps.{steps_of_list}
@@ -45,7 +46,7 @@ returns-clause-range c =
     let entry = c.args.entry.now in
     let listed = c.requires.listed in
     let first = first_tells c.args.recording.now c.args.entry.now _ c.requires.reading.hit in
-    let master : TellsMaster (values_of_entry recording entry) (master_of entry) = (is_sound recording listed.list entry listed.explained listed.inside).is_of.master in
+    let master : TellsMaster (values_of_entry recording entry) (master_of entry) = (is_sound one_port_receiver recording listed.list entry listed.explained listed.inside).is_of.master.told in
     let heard = master.tells.heard in
     let clear = master.tells.clear in
     let all = (returns-clause-evidence c).total in
