@@ -1,26 +1,39 @@
--- The report has whole numbers alone.
-use Rattle.std.proofs.Common.{◌≡◌, ℤ, pos, negsuc, refl, List, [], ◌∷◌, map, false, Option, Some, None}
-use Rattle.std.specs.Prelude.{Result, Ok, Err}
-use Rattle.std.proofs.lemmas.Bool.{or_from}
+-- The values that are written have whole numbers alone.
+use Rattle.std.proofs.Common.{◌≡◌, ◌∙◌, ℤ, pos, negsuc, refl, ap, List, [], ◌∷◌, ◌++◌, map, false, Option, Some, None, string_bytes}
+use Rattle.std.specs.Prelude.{IfOk, Result, Ok, Err, String}
+use Rattle.std.specs.declared.alloc.AllocError.{AllocError}
+use Rattle.std.specs.declared.alloc.Global.{Global}
+use Rattle.std.proofs.lemmas.Bool.{or_from, or_parts}
 use Rattle.serde_json.specs.Data.{Data}
 use Rattle.serde_json.specs.View.{items_of}
-use Rattle.serde_json.specs.Written.{has_float, items_have_float}
+use Rattle.serde_json.specs.Written.{compact_text, has_float, items_have_float}
+use Rattle.lte_types.specs.declared.carrier.Carrier.{Carrier}
+use Rattle.lte_types.specs.declared.carrier.Carrier.TheVariants.{OnePort, TwoPorts, LongPrefix}
+use Rattle.lte_types.specs.declared.evidence.Evidence.{Evidence}
 use Rattle.lte_types.specs.declared.plmn.Plmn.{Plmn}
 use Rattle.lte_types.specs.declared.si_message.SiMessage.{SiMessage}
 use Rattle.lte_types.specs.declared.sib1.Sib1.{Sib1}
 use Rattle.lte_types.specs.declared.sib1_reason.Sib1Reason.{Sib1Reason}
 use Rattle.lte_types.specs.declared.entry.Entry.{Entry}
-use Rattle.report.specs.Json.{natural, integer, or_null, plmn_value, message_value, tdd_value, sib1_value, system_value, entry_value, report_value}
+use Rattle.report.specs.Values.{natural, integer, or_null, list_of}
+use Rattle.report.specs.Json.{plmn_value, message_value, tdd_value, sib1_value, system_value, entry_value}
+use Rattle.report.specs.All.{ruled_value, ruled_values, all_value}
 
-in_option : {A : Type 0} (value : A → Data) → ((x : A) → has_float (value x) ≡ false) → (x : Option A) → has_float (or_null value x) ≡ false
+-- a value without floats has its text
+pub written : (seen value : Data) (r : Result (String Global) AllocError) → seen ≡ value → has_float value ≡ false →
+    IfOk r (λ text. has_float seen ≡ false → string_bytes text ≡ compact_text seen) → IfOk r (λ text. string_bytes text ≡ compact_text value)
+written seen value (Ok text) e whole h = h (ap has_float e ∙ whole) ∙ ap compact_text e
+written seen value (Err error) e whole h = tt
+
+pub in_option : {A : Type 0} (value : A → Data) → ((x : A) → has_float (value x) ≡ false) → (x : Option A) → has_float (or_null value x) ≡ false
 in_option value each None = refl
 in_option value each (Some x) = each x
 
-in_list : {A : Type 0} (value : A → Data) → ((x : A) → has_float (value x) ≡ false) → (xs : List A) → items_have_float (items_of (map value xs)) ≡ false
+pub in_list : {A : Type 0} (value : A → Data) → ((x : A) → has_float (value x) ≡ false) → (xs : List A) → items_have_float (items_of (map value xs)) ≡ false
 in_list value each [] = refl
 in_list value each (x ∷ xs) = or_from _ _ (each x) (in_list value each xs)
 
-in_integer : (z : ℤ) → has_float (integer z) ≡ false
+pub in_integer : (z : ℤ) → has_float (integer z) ≡ false
 in_integer (pos n) = refl
 in_integer (negsuc n) = refl
 
@@ -44,8 +57,18 @@ in_system : (sib1 : Result Sib1 Sib1Reason) → has_float (system_value sib1) �
 in_system (Ok sib1) = in_sib1 sib1
 in_system (Err reason) = refl
 
-in_entry : (entry : Entry) → has_float (entry_value entry) ≡ false
+pub in_entry : (entry : Entry) → has_float (entry_value entry) ≡ false
 in_entry entry = or_from _ _ (in_system entry.sib1) refl
 
-pub none_in_report : (entries : List Entry) → has_float (report_value entries) ≡ false
-none_in_report entries = in_list entry_value in_entry entries
+pub in_ruled : (carrier : Carrier) (entry : Entry) → has_float (ruled_value carrier entry) ≡ false
+in_ruled carrier entry = or_from _ _ (in_system entry.sib1) refl
+
+in_both : (xs ys : List Data) → items_have_float (items_of xs) ≡ false → items_have_float (items_of ys) ≡ false → items_have_float (items_of (xs ++ ys)) ≡ false
+in_both [] ys p q = q
+in_both (x ∷ xs) ys p q = let parts = or_parts _ _ p in or_from _ _ parts.0 (in_both xs ys parts.1 q)
+
+pub in_all : (one two long : List Entry) → has_float (all_value one two long) ≡ false
+in_all one two long =
+    in_both (ruled_values OnePort one ++ ruled_values TwoPorts two) (ruled_values LongPrefix long)
+    (in_both (ruled_values OnePort one) (ruled_values TwoPorts two) (in_list (ruled_value OnePort) (in_ruled OnePort) one) (in_list (ruled_value TwoPorts) (in_ruled TwoPorts) two))
+    (in_list (ruled_value LongPrefix) (in_ruled LongPrefix) long)

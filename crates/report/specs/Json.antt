@@ -1,9 +1,7 @@
 -- The report as JSON: the same list as one value, an array of an object for each cell. The keys of an object stand in
 -- the order of their bytes, each once. (own; the names are those of TS 36.331 sections 6.2.2 and 6.3)
-use Rattle.std.specs.Prelude.{ℕ, ℤ, List, [], ◌∷◌, map, Option, Some, None, Result, Ok, Err, codes}
-use Rattle.serde_json.specs.Data.{Data, null, boolean, number, unsigned, string, array, object, Members, member, no_members, put}
-use Rattle.serde_json.specs.Find.{of_integer}
-use Rattle.serde_json.specs.View.{items_of}
+use Rattle.std.specs.Prelude.{ℕ, List, [], ◌∷◌, Result, Ok, Err, codes}
+use Rattle.serde_json.specs.Data.{Data, boolean, string, object, Members, member, no_members, put}
 use Rattle.serde_json.specs.Written.{compact_text}
 use Rattle.lte_types.specs.declared.plmn.Plmn.{Plmn}
 use Rattle.lte_types.specs.declared.si_message.SiMessage.{SiMessage}
@@ -15,22 +13,8 @@ use Rattle.lte_types.specs.Block.{br, rest}
 use Rattle.lte_types.specs.Codes.{bandwidth_word, duration_word, period_frames, resource_word, window_length}
 use Rattle.lte_types.specs.Reasons.{reason_words}
 use Rattle.report.specs.Lines.{mnc_word}
+use Rattle.report.specs.Values.{natural, integer, or_null, list_of}
 use Rattle.report.specs.Words.{digits_word}
-
--- a whole number from 0 on, and any whole number
-abbrev pub natural : ℕ → Data
-natural n = number (unsigned n)
-
-abbrev pub integer : ℤ → Data
-integer z = number (of_integer z)
-
--- what is absent is null
-abbrev pub or_null : {A : Type 0} → (A → Data) → Option A → Data
-or_null value None = null
-or_null value (Some x) = value x
-
-abbrev pub list_of : {A : Type 0} → (A → Data) → List A → Data
-list_of value xs = array (items_of (map value xs))
 
 -- digits are a text, so that leading zeros stay
 abbrev pub plmn_value : Plmn → Data
@@ -103,9 +87,12 @@ block_members mib members =
     put (codes "bandwidth") (string (bandwidth_word mib.bandwidth)) members))))
 
 -- a cell: what its line in the report tells, and its system information
+abbrev pub entry_members : Entry → Members
+entry_members entry =
+    put (codes "sib1") (system_value entry.sib1) (block_members entry.mib (cell_members entry no_members))
+
 abbrev pub entry_value : Entry → Data
-entry_value entry = object (
-    put (codes "sib1") (system_value entry.sib1) (block_members entry.mib (cell_members entry no_members)))
+entry_value entry = object (entry_members entry)
 
 abbrev pub report_value : List Entry → Data
 report_value entries = list_of entry_value entries

@@ -1,6 +1,10 @@
 pub mod Words
 pub mod Lines
+pub mod Values
 pub mod Json
+pub mod HitsJson
+pub mod EvidenceJson
+pub mod All
 pub mod Pieces
 pub mod Hits
 pub mod Answers

@@ -1,12 +1,14 @@
 //! The report as JSON.
 
 ghost use Rattle.std.specs.Prelude.{◌≡◌, IfOk, OnOk, string_bytes};
-ghost use Rattle.serde_json.specs.Data.{Data, string};
+ghost use Rattle.serde_json.specs.Data.{string};
 ghost use Rattle.serde_json.specs.View.{view, members_view};
 ghost use Rattle.report.specs.Words.{digits_word as digits_of};
-ghost use Rattle.report.specs.Json.{natural, or_null, list_of, plmn_value as plmn_of, message_value as message_of, tdd_value as tdd_of, cell_members, block_members, identity_members, access_members, schedule_members, sib1_value as sib1_of, system_value as system_of, entry_value as entry_of, json_text};
+ghost use Rattle.report.specs.Values.{or_null};
+ghost use Rattle.report.specs.Json.{plmn_value as plmn_of, message_value as message_of, tdd_value as tdd_of, cell_members, block_members, identity_members, access_members, schedule_members, sib1_value as sib1_of, system_value as system_of, entry_members, entry_value as entry_of, json_text};
 
 use crate::lines::mnc_word;
+use crate::values::{ToJson, list_text, list_value};
 use crate::words::digits_word;
 use lte_types::{Entry, Mib, Plmn, SiMessage, Sib1, Sib1Reason};
 use serde_json::{Map, ToValue, Value, json, put};
@@ -18,27 +20,7 @@ use std::fmt::Write;
 pub fn json(alloc: Global, entries: &[Entry]) -> Result<String, AllocError>
     ensures { IfOk result (λ text. string_bytes text ≡ json_text entries.now) }
 {
-    let report = list_value(alloc, entries)?;
-    report.to_string(alloc)
-}
-
-// What has a value in JSON.
-trait ToJson {
-    ghost json_of: { Self → Data };
-
-    fn to_json(&self, alloc: Global) -> Result<Value, AllocError>
-        ensures { IfOk result (λ value. view value ≡ json_of self.now) };
-}
-
-// The values of a list.
-fn list_value<T: ToJson>(alloc: Global, items: &[T]) -> Result<Value, AllocError>
-    ensures { IfOk result (λ value. view value ≡ list_of T.json_of items.now) }
-{
-    let mut list = Vec::new(alloc);
-    for item in items {
-        list.push(item.to_json(alloc)?)?;
-    }
-    Ok(Value::from(list))
+    list_text(alloc, entries)
 }
 
 // A cell.
@@ -46,13 +28,21 @@ impl ToJson for Entry {
     ghost json_of = { entry_of };
 
     fn to_json(&self, alloc: Global) -> Result<Value, AllocError> {
-        let mut members = Map::new(alloc);
-        put_cell(alloc, self, &mut members)?;
-        put_block(alloc, &self.mib, &mut members)?;
-        let system = system_value(alloc, &self.sib1)?;
-        put(&mut members, alloc, "sib1", system)?;
+        let members = members_of(alloc, self)?;
         Ok(Value::from(members))
     }
+}
+
+/// What a cell's object has.
+pub(crate) fn members_of(alloc: Global, entry: &Entry) -> Result<Map<String, Value>, AllocError>
+    ensures { IfOk result (λ members. members_view members.entries ≡ entry_members entry.now) }
+{
+    let mut members = Map::new(alloc);
+    put_cell(alloc, entry, &mut members)?;
+    put_block(alloc, &entry.mib, &mut members)?;
+    let system = system_value(alloc, &entry.sib1)?;
+    put(&mut members, alloc, "sib1", system)?;
+    Ok(members)
 }
 
 // Adds what tells a cell from others.
@@ -211,15 +201,6 @@ impl ToJson for SiMessage {
     fn to_json(&self, alloc: Global) -> Result<Value, AllocError> {
         let sibs = list_value(alloc, self.sibs.slice())?;
         json!(in alloc; {"period": self.period.frames(), "sibs": sibs})
-    }
-}
-
-// The code of a block.
-impl ToJson for u8 {
-    ghost json_of = { natural };
-
-    fn to_json(&self, alloc: Global) -> Result<Value, AllocError> {
-        Ok(Value::from(*self))
     }
 }
 

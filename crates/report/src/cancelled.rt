@@ -14,7 +14,7 @@ pub fn text_of_cancelled(
     id: u16,
     gain: Gain,
     greatest: u32,
-    powers: (u128, u128),
+    powers: (u64, u64),
 ) -> Result<String, AllocError>
     ensures { IfOk result (λ text. string_bytes text ≡ cancelled_lines id gain greatest powers.0 powers.1) }
 {
@@ -44,7 +44,7 @@ fn gain_part(alloc: Global, gain: Gain) -> Result<String, AllocError>
 }
 
 // The sums of the squares of the samples' sizes.
-fn power_line(alloc: Global, before: u128, after: u128) -> Result<String, AllocError>
+fn power_line(alloc: Global, before: u64, after: u64) -> Result<String, AllocError>
     ensures { IfOk result (λ line. string_bytes line ≡ power_of before after) }
 {
     format!(in alloc; "power {before} {after}\n")

@@ -1,7 +1,7 @@
 use Rattle.std.proofs.Common.{◌∙◌, arith, ap, map, take_all}
 use Rattle.serde_json.specs.Data.{array}
 use Rattle.serde_json.specs.View.{items_of}
-use Rattle.report.proofs.as_json.list_value.Goals as goal
+use Rattle.report.proofs.values.list_value.Goals as goal
 
 pub returns : goal.returns
 returns g c = c.from.ensures ∙ ap (λ list. array (items_of list))

@@ -1,0 +1,100 @@
+//! The lists of a recording by every rule.
+
+ghost use Rattle.std.specs.Prelude.{◌≡◌, ◌++◌, IfOk, OnOk, map, string_bytes};
+ghost use Rattle.serde_json.specs.View.{view};
+ghost use Rattle.report.specs.All.{rule_word as word_of, rule_line as line_of, ruled_text as text_of, all_text, ruled_value as value_of, ruled_values, all_json};
+
+use crate::as_json::members_of;
+use crate::listing::text;
+use lte_types::{Carrier, Entry};
+use serde_json::{ToValue, Value, put};
+use std::alloc::{AllocError, Global};
+use std::fmt::Write;
+
+/// The text of three lists: of the cells of one antenna port, of those of two, and of those with the extended prefix.
+/// Before each, which is as `text` writes it, stands a line with its rule. Only memory can be wanting. (own)
+pub fn text_of_all(
+    alloc: Global,
+    one: &[Entry],
+    two: &[Entry],
+    long: &[Entry],
+) -> Result<String, AllocError>
+    ensures { IfOk result (λ text. string_bytes text ≡ all_text one.now two.now long.now) }
+{
+    let mut all = ruled_text(alloc, Carrier::OnePort, one)?;
+    let second = ruled_text(alloc, Carrier::TwoPorts, two)?;
+    let third = ruled_text(alloc, Carrier::LongPrefix, long)?;
+    all.push_str(&second)?;
+    all.push_str(&third)?;
+    Ok(all)
+}
+
+/// The same lists as JSON in one line, without a line feed: an array of the objects of all their cells as `json` writes
+/// them, each with its rule as one key more. Only memory can be wanting. (own)
+pub fn json_of_all(
+    alloc: Global,
+    one: &[Entry],
+    two: &[Entry],
+    long: &[Entry],
+) -> Result<String, AllocError>
+    ensures { IfOk result (λ text. string_bytes text ≡ all_json one.now two.now long.now) }
+{
+    let mut list = Vec::new(alloc);
+    add_ruled(alloc, Carrier::OnePort, one, &mut list)?;
+    add_ruled(alloc, Carrier::TwoPorts, two, &mut list)?;
+    add_ruled(alloc, Carrier::LongPrefix, long, &mut list)?;
+    let all = Value::from(list);
+    all.to_string(alloc)
+}
+
+// A list under its rule.
+fn ruled_text(alloc: Global, rule: Carrier, entries: &[Entry]) -> Result<String, AllocError>
+    ensures { IfOk result (λ text. string_bytes text ≡ text_of rule entries.now) }
+{
+    let mut lines = rule_line(alloc, rule_word(rule))?;
+    let list = text(alloc, entries)?;
+    lines.push_str(&list)?;
+    Ok(lines)
+}
+
+fn rule_line(alloc: Global, word: &str) -> Result<String, AllocError>
+    ensures { IfOk result (λ line. string_bytes line ≡ line_of word.now) }
+{
+    format!(in alloc; "rule {word}\n")
+}
+
+// The word of a rule.
+fn rule_word(rule: Carrier) -> &'static str
+    ensures { result.now ≡ word_of rule }
+{
+    match rule {
+        Carrier::OnePort => "one-port",
+        Carrier::TwoPorts => "two-ports",
+        Carrier::LongPrefix => "long-prefix",
+    }
+}
+
+// Adds the values of a list's cells with their rule.
+fn add_ruled(
+    alloc: Global,
+    rule: Carrier,
+    entries: &[Entry],
+    list: &mut Vec<Value>,
+) -> Result<(), AllocError>
+    ensures { OnOk result (map view list.new.items ≡ map view list.old.items ++ ruled_values rule entries.now) }
+{
+    for entry in entries {
+        list.push(ruled_value(alloc, rule, entry)?)?;
+    }
+    Ok(())
+}
+
+// The value of a cell with its rule.
+fn ruled_value(alloc: Global, rule: Carrier, entry: &Entry) -> Result<Value, AllocError>
+    ensures { IfOk result (λ value. view value ≡ value_of rule entry.now) }
+{
+    let mut members = members_of(alloc, entry)?;
+    let word = rule_word(rule).to_value(alloc)?;
+    put(&mut members, alloc, "rule", word)?;
+    Ok(Value::from(members))
+}

@@ -1,0 +1,117 @@
+//! Hits as JSON.
+
+ghost use Rattle.std.specs.Prelude.{◌≡◌, IfOk, OnOk, string_bytes};
+ghost use Rattle.serde_json.specs.View.{view, members_view};
+ghost use Rattle.report.specs.HitsJson.{hit_members, metric_members, identity_members, hit_value, hits_json, id_value, ids_json};
+
+use crate::hits::IdentifiedHit;
+use crate::values::{ToJson, list_text};
+use lte_types::Hit;
+use serde_json::{Map, Value, put};
+use std::alloc::{AllocError, Global};
+
+/// A hit with the numbers of its metric, which is `peak / (energy * power)`. (own)
+#[derive(Clone, Copy, PartialEq, Eq)]
+pub struct MeasuredHit {
+    pub hit: Hit,
+    /// The square of the size of the correlation with the signal.
+    pub peak: u64,
+    /// The energy of the 128 samples of the hit.
+    pub energy: u64,
+    /// The power of the signal.
+    pub power: u64,
+}
+
+/// A hit with what it tells of its cell, and with the numbers of its metric. (own)
+#[derive(Clone, Copy, PartialEq, Eq)]
+pub struct MeasuredId {
+    pub found: IdentifiedHit,
+    /// The square of the size of the correlation with the signal.
+    pub peak: u64,
+    /// The energy of the 128 samples of the hit.
+    pub energy: u64,
+    /// The power of the signal.
+    pub power: u64,
+}
+
+/// Hits as JSON in one line, without a line feed: an array with an object for each, whose keys stand in the order of
+/// their bytes. Only memory can be wanting. (own)
+pub fn json_of_hits(alloc: Global, hits: &[MeasuredHit]) -> Result<String, AllocError>
+    ensures { IfOk result (λ text. string_bytes text ≡ hits_json hits.now) }
+{
+    list_text(alloc, hits)
+}
+
+/// Hits with the identities of their cells as JSON, in the same form. Only memory can be wanting. (own)
+pub fn json_of_ids(alloc: Global, hits: &[MeasuredId]) -> Result<String, AllocError>
+    ensures { IfOk result (λ text. string_bytes text ≡ ids_json hits.now) }
+{
+    list_text(alloc, hits)
+}
+
+impl ToJson for MeasuredHit {
+    ghost json_of = { hit_value };
+
+    fn to_json(&self, alloc: Global) -> Result<Value, AllocError> {
+        let mut members = Map::new(alloc);
+        put_hit(alloc, &self.hit, &mut members)?;
+        put_metric(alloc, self.peak, self.energy, self.power, &mut members)?;
+        Ok(Value::from(members))
+    }
+}
+
+impl ToJson for MeasuredId {
+    ghost json_of = { id_value };
+
+    fn to_json(&self, alloc: Global) -> Result<Value, AllocError> {
+        let mut members = Map::new(alloc);
+        put_hit(alloc, &self.found.hit, &mut members)?;
+        put_identity(alloc, &self.found, &mut members)?;
+        put_metric(alloc, self.peak, self.energy, self.power, &mut members)?;
+        Ok(Value::from(members))
+    }
+}
+
+// Adds the place of a hit, and its identity within the group.
+fn put_hit(alloc: Global, hit: &Hit, members: &mut Map<String, Value>) -> Result<(), AllocError>
+    ensures { OnOk result (members_view members.new.entries
+        ≡ hit_members hit.now (members_view members.old.entries)) }
+{
+    put(members, alloc, "t", Value::from(hit.t))?;
+    put(members, alloc, "n2", Value::from(hit.n2))
+}
+
+// Adds what it tells of its cell.
+fn put_identity(
+    alloc: Global,
+    found: &IdentifiedHit,
+    members: &mut Map<String, Value>,
+) -> Result<(), AllocError>
+    ensures { OnOk result (members_view members.new.entries
+        ≡ identity_members found.now (members_view members.old.entries)) }
+{
+    put(members, alloc, "identity", Value::from(found.id.value()))?;
+    put(
+        members,
+        alloc,
+        "subframe",
+        Value::from(found.half.subframe()),
+    )?;
+    put(members, alloc, "at", Value::from(found.start))
+}
+
+// Adds the numbers of its metric.
+fn put_metric(
+    alloc: Global,
+    peak: u64,
+    energy: u64,
+    power: u64,
+    members: &mut Map<String, Value>,
+) -> Result<(), AllocError>
+    ensures { OnOk result (members_view members.new.entries
+        ≡ metric_members peak energy power (members_view members.old.entries)) }
+{
+    put(members, alloc, "peak", Value::from(peak))?;
+    put(members, alloc, "energy", Value::from(energy))?;
+    put(members, alloc, "power", Value::from(power))
+}

@@ -1,0 +1,48 @@
+//! Values in JSON, and lists of them.
+
+ghost use Rattle.std.specs.Prelude.{◌≡◌, IfOk, false, string_bytes};
+ghost use Rattle.serde_json.specs.Data.{Data};
+ghost use Rattle.serde_json.specs.View.{view};
+ghost use Rattle.serde_json.specs.Written.{compact_text, has_float};
+ghost use Rattle.report.specs.Values.{natural, list_of};
+
+use serde_json::Value;
+use std::alloc::{AllocError, Global};
+
+/// What has a value in JSON. (own)
+pub trait ToJson {
+    ghost json_of: { Self → Data };
+
+    /// The value. Only memory can be wanting.
+    fn to_json(&self, alloc: Global) -> Result<Value, AllocError>
+        ensures { IfOk result (λ value. view value ≡ json_of self.now) };
+}
+
+/// The array of the values of a list. Only memory can be wanting. (own)
+pub fn list_value<T: ToJson>(alloc: Global, items: &[T]) -> Result<Value, AllocError>
+    ensures { IfOk result (λ value. view value ≡ list_of T.json_of items.now) }
+{
+    let mut list = Vec::new(alloc);
+    for item in items {
+        list.push(item.to_json(alloc)?)?;
+    }
+    Ok(Value::from(list))
+}
+
+/// Its text, without spaces. Only memory can be wanting. (own)
+pub fn list_text<T: ToJson>(alloc: Global, items: &[T]) -> Result<String, AllocError>
+    ensures { ((item : T) → has_float (T.json_of item) ≡ false) →
+        IfOk result (λ text. string_bytes text ≡ compact_text (list_of T.json_of items.now)) }
+{
+    let list = list_value(alloc, items)?;
+    list.to_string(alloc)
+}
+
+// The code of a block.
+impl ToJson for u8 {
+    ghost json_of = { natural };
+
+    fn to_json(&self, alloc: Global) -> Result<Value, AllocError> {
+        Ok(Value::from(*self))
+    }
+}
