@@ -11,9 +11,9 @@ pub struct Subtracted {
     /// The greatest size of a component of what is left, before it is taken to 16 bits.
     pub greatest: u32,
     /// The sum of the squares of the sizes of the recording's samples.
-    pub before: u128,
+    pub before: u64,
     /// The power of the residue.
-    pub after: u128,
+    pub after: u64,
     /// What is left, each component taken to the nearest number of 16 bits.
     pub residue: Recording,
 }

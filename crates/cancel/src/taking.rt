@@ -49,7 +49,7 @@ pub fn subtract(
 pub fn subtract_from(
     alloc: Global,
     recording: &Recording,
-    power: u128,
+    power: u64,
     cell: &Cell,
     start: u32,
     sfn: Sfn,
@@ -112,18 +112,20 @@ fn residue_samples(
 }
 
 // The square of the size of a sample.
-fn square_of(sample: Sample) -> u128
+fn square_of(sample: Sample) -> u64
     ensures value { result ≡ square (value_of sample) }
     ensures small { result ≤ 2 ^ 31 }
 {
-    Cpx::from(sample).norm()
+    Cpx::from(sample).norm() as u64
 }
 
 /// The power of a recording: the sum of the squares of the sizes of its samples. (own)
-pub fn power_of(recording: &Recording) -> u128
+pub fn power_of(recording: &Recording) -> u64
     ensures { result ≡ sum_of recording.now }
 {
     let samples = recording.as_slice();
+    let count = samples.len();
+    prove!(count <= 1_920_000);
     let mut sum = 0;
     for i in 0..samples.len() {
         sum = sum + square_of(samples[i]);
@@ -148,7 +150,7 @@ fn recording_of(recording: &Recording, samples: Vec<Sample>) -> Recording
 fn taken_off(
     alloc: Global,
     recording: &Recording,
-    before: u128,
+    before: u64,
     sent: &[Sample],
     choice: Choice,
 ) -> Result<Subtracted, AllocError>

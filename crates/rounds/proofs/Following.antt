@@ -1,11 +1,10 @@
 -- Rounds one after the other.
-use Rattle.std.proofs.Common.{◌≡◌, ℕ, zero, suc, ◌-◌, ◌<◌, arith, sym, subst, List, [], ◌∷◌, Bool, Option, Some, Result, Ok, Err}
+use Rattle.std.proofs.Common.{◌≡◌, ℕ, zero, suc, ◌-◌, ◌<◌, arith, sym, subst, List, ◌∷◌, Bool, Option, Some, Result, Ok, Err}
 use Rattle.std.specs.Prelude.{IfOk}
 use Rattle.cs_num.specs.declared.Sample.{Sample}
 use Rattle.lte_types.specs.declared.entry.Entry.{Entry}
 use Rattle.rounds.specs.declared.round.Round.{Round}
-use Rattle.rounds.specs.declared.round.Rounds.{Rounds}
-use Rattle.rounds.specs.Rounds.{IsRound, AreRounds, IsCancelled}
+use Rattle.rounds.specs.Rounds.{IsRound, AreRounds}
 use Rattle.rounds.specs.Steps.{IsNextRound}
 
 pub next_round : (most : ℕ) (recording : List Sample) (list : List Entry) (round : Round) (found : Option Round) (others : List Entry) (rest rounds : List Round) (ended : Bool) → 0 < most →

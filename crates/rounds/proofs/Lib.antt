@@ -6,3 +6,5 @@ pub mod Following
 pub mod Once
 -- Rounds in plain words.
 pub mod Plain
+-- There are no floats in the JSON.
+pub mod Whole

@@ -1,18 +1,25 @@
--- A recording has one text.
-use Rattle.std.proofs.Common.{◌≡◌, ◌∙◌, ℕ, zero, suc, ◌<◌, arith, refl, sym, ap, subst, List, [], ◌∷◌, ◌++◌, Bool, true, false}
+-- A recording has one text, and one JSON.
+use Rattle.std.proofs.Common.{◌≡◌, ◌∙◌, ℕ, zero, suc, arith, refl, sym, ap, subst, List, [], ◌∷◌, ◌++◌, Bool}
 use Rattle.std.specs.List.{Contains, flat_map}
-use Rattle.std.specs.Prelude.{if◌then◌else◌}
+use Rattle.std.specs.Prelude.{if◌then◌else◌, codes}
+use Rattle.serde_json.specs.Data.{boolean, object, member, no_members}
+use Rattle.serde_json.specs.Written.{compact_text}
 use Rattle.cs_num.specs.declared.Sample.{Sample}
 use Rattle.lte_types.specs.declared.entry.Entry.{Entry}
 use Rattle.explain.specs.Entries.{IsExplained}
+use Rattle.explain.specs.Receiver.{one_port_receiver}
 use Rattle.explain.proofs.Listed.{is_one_list}
 use Rattle.cancel.specs.declared.subtracted.Subtracted.{Subtracted}
 use Rattle.report.specs.Lines.{report_text}
 use Rattle.report.specs.Cancelled.{cancelled_none}
+use Rattle.report.specs.Json.{report_value}
+use Rattle.report.specs.Values.{list_of}
 use Rattle.rounds.specs.declared.round.Round.{Round}
-use Rattle.rounds.specs.Rounds.{IsTakenOff, NoneIsTakenOff, IsRound, AreRounds}
-use Rattle.rounds.specs.Text.{round_text, IsCancelText}
-use Rattle.rounds.specs.Laws.{IsOneText}
+use Rattle.rounds.specs.declared.round.Rounds.{Rounds}
+use Rattle.rounds.specs.Rounds.{IsTakenOff, NoneIsTakenOff, IsRound, AreRounds, IsCancelled}
+use Rattle.rounds.specs.Text.{round_text}
+use Rattle.rounds.specs.AsJson.{round_value, rounds_json}
+use Rattle.rounds.specs.Laws.{IsOneText, IsOneJson}
 use Rattle.rounds.proofs.Taking.{one_taken}
 
 -- ---- the first entry that can be taken off
@@ -51,7 +58,7 @@ one_round recording list a b p q = built a.id b.id a.taken b.taken a.list b.list
     taken = one_taken recording q.entry a.taken b.taken (subst (λ (e : Entry). IsTakenOff recording e a.taken) entry p.taken) q.taken
 
     lists : a.list ≡ b.list
-    lists = is_one_list b.taken.residue a.list b.list (subst (λ (t : Subtracted). IsExplained t.residue a.list) taken p.listed.explained) q.listed.explained
+    lists = is_one_list one_port_receiver b.taken.residue a.list b.list (subst (λ (t : Subtracted). IsExplained t.residue a.list) taken p.listed.explained) q.listed.explained
 
     built : (i j : ℕ) (s t : Subtracted) (x y : List Entry) → i ≡ j → s ≡ t → x ≡ y → ◌≡◌ {A = Round} (record { id = i; taken = s; list = x }) (record { id = j; taken = t; list = y })
     built i j s t x y e f g = rw (e, f, g) refl
@@ -81,22 +88,34 @@ one_rounds (suc n) recording list (x ∷ xs) (y ∷ ys) e f p q =
     let rest = one_rounds n y.taken.residue y.list xs ys e f (subst (λ (r : Round). AreRounds n r.taken.residue r.list xs e) same p.1) q.1 in
     record { rounds = ap (λ (r : Round). r ∷ xs) same ∙ ap (λ (rs : List Round). y ∷ rs) rest.rounds; ended = rest.ended }
 
+-- so what is made of them is one
+one_made : {A : Type 0} (made : List Entry → List Round → Bool → A) (recording : List Sample) (p q : Rounds) → IsCancelled recording p → IsCancelled recording q →
+    made p.first p.taken.items p.ended ≡ made q.first q.taken.items q.ended
+one_made made recording p q a b =
+    ap (λ (l : List Entry). made l p.taken.items p.ended) lists
+    ∙ ap (λ (rs : List Round). made q.first rs p.ended) same.rounds
+    ∙ ap (λ (e : Bool). made q.first q.taken.items e) same.ended
+  where
+    lists : p.first ≡ q.first
+    lists = is_one_list one_port_receiver recording p.first q.first a.listed.explained b.listed.explained
+
+    same : AreSame p.taken.items q.taken.items p.ended q.ended
+    same = one_rounds 4 recording q.first p.taken.items q.taken.items p.ended q.ended
+        (subst (λ (l : List Entry). AreRounds 4 recording l p.taken.items p.ended) lists a.follow) b.follow
+
 text_with : List Entry → List Round → Bool → List ℕ
 text_with list rounds ended = report_text list ++ flat_map round_text rounds ++ (if ended then cancelled_none else [])
 
 pub one_cancel_text : IsOneText
 unfolding text_with
-one_cancel_text recording a b p q = p.text_is ∙ texts ∙ sym q.text_is
-  where
-    lists : p.rounds.first ≡ q.rounds.first
-    lists = is_one_list recording p.rounds.first q.rounds.first p.are.listed.explained q.are.listed.explained
+one_cancel_text recording a b p q = p.text_is ∙ one_made text_with recording p.rounds q.rounds p.are q.are ∙ sym q.text_is
 
-    same : AreSame p.rounds.taken.items q.rounds.taken.items p.rounds.ended q.rounds.ended
-    same = one_rounds 4 recording q.rounds.first p.rounds.taken.items q.rounds.taken.items p.rounds.ended q.rounds.ended
-        (subst (λ (l : List Entry). AreRounds 4 recording l p.rounds.taken.items p.rounds.ended) lists p.are.follow) q.are.follow
+json_with : List Entry → List Round → Bool → List ℕ
+json_with list rounds ended = compact_text (object (
+    member (codes "cells") (report_value list) (
+    member (codes "ended") (boolean ended) (
+    member (codes "rounds") (list_of round_value rounds) no_members))))
 
-    texts : text_with p.rounds.first p.rounds.taken.items p.rounds.ended ≡ text_with q.rounds.first q.rounds.taken.items q.rounds.ended
-    texts =
-        ap (λ (l : List Entry). text_with l p.rounds.taken.items p.rounds.ended) lists
-        ∙ ap (λ (rs : List Round). text_with q.rounds.first rs p.rounds.ended) same.rounds
-        ∙ ap (λ (e : Bool). text_with q.rounds.first q.rounds.taken.items e) same.ended
+pub one_cancel_json : IsOneJson
+unfolding json_with rounds_json
+one_cancel_json recording a b p q = p.text_is ∙ one_made json_with recording p.rounds q.rounds p.are q.are ∙ sym q.text_is

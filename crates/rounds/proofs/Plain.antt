@@ -1,13 +1,12 @@
 -- Rounds in plain words.
-use Rattle.std.proofs.Common.{◌≡◌, ◌∙◌, ℕ, zero, suc, ◌<◌, ◌≤◌, arith, refl, sym, ap, subst, List, [], ◌∷◌, ◌++◌, length, Bool, true, false, true≢false}
-use Rattle.std.specs.Prelude.{◌↔◌}
+use Rattle.std.proofs.Common.{◌∙◌, ℕ, zero, suc, ◌<◌, arith, refl, sym, subst, List, [], ◌∷◌, length, Bool, true≢false}
 use Rattle.std.specs.List.{Contains}
 use Rattle.std.proofs.lemmas.List.Elements.{Contains-append_right}
 use Rattle.cs_num.specs.declared.Sample.{Sample}
 use Rattle.lte_types.specs.declared.entry.Entry.{Entry}
 use Rattle.rounds.specs.declared.round.Round.{Round}
-use Rattle.rounds.specs.Rounds.{NoneIsTakenOff, IsRound, AreRounds}
-use Rattle.rounds.specs.Laws.{recording_after, list_after, IsRoundIn, AreInPlainWords, RoundsInPlainWords}
+use Rattle.rounds.specs.Rounds.{IsRound, AreRounds}
+use Rattle.rounds.specs.Laws.{IsRoundIn, AreInPlainWords, RoundsInPlainWords}
 
 here : (recording : List Sample) (list : List Entry) (round : Round) (rest : List Round) → IsRound recording list round → IsRoundIn recording list (round ∷ rest) 0
 here recording list round rest is = record {

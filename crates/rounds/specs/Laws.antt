@@ -8,6 +8,7 @@ use Rattle.rounds.specs.declared.round.Round.{Round}
 use Rattle.rounds.specs.declared.round.Rounds.{Rounds}
 use Rattle.rounds.specs.Rounds.{IsTakenOff, NoneIsTakenOff, IsCancelled}
 use Rattle.rounds.specs.Text.{IsCancelText}
+use Rattle.rounds.specs.AsJson.{IsCancelJson}
 
 -- what a recording is, and its list, after so many rounds
 abbrev pub recording_after : ℕ → List Sample → List Round → List Sample
@@ -46,3 +47,7 @@ RoundsInPlainWords = (recording : List Sample) (rounds : Rounds) → IsCancelled
 -- a recording has one text
 abbrev pub IsOneText : Type 0
 IsOneText = (recording : List Sample) (a b : List ℕ) → IsCancelText recording a → IsCancelText recording b → a ≡ b
+
+-- and one JSON
+abbrev pub IsOneJson : Type 0
+IsOneJson = (recording : List Sample) (a b : List ℕ) → IsCancelJson recording a → IsCancelJson recording b → a ≡ b

@@ -1,4 +1,5 @@
 pub mod Rounds
 pub mod Steps
 pub mod Text
+pub mod AsJson
 pub mod Laws

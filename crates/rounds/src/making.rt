@@ -62,7 +62,7 @@ fn rounds_on(
     alloc: Global,
     most: u8,
     recording: &Recording,
-    power: u128,
+    power: u64,
     list: &[Entry],
     work: &mut Workspace,
 ) -> Result<(Vec<Round>, bool), AllocError>
@@ -96,7 +96,7 @@ fn rounds_on(
 fn round_on(
     alloc: Global,
     recording: &Recording,
-    power: u128,
+    power: u64,
     list: &[Entry],
     work: &mut Workspace,
 ) -> Result<Option<Round>, AllocError>
@@ -128,7 +128,7 @@ fn round_on(
 fn taken_off(
     alloc: Global,
     recording: &Recording,
-    power: u128,
+    power: u64,
     entry: &Entry,
     granted: Option<(Cfi, Grant)>,
 ) -> Result<Option<Subtracted>, AllocError>

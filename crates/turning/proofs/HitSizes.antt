@@ -41,8 +41,8 @@ hit_is_small recording m hit inside =
     record {
       span = record { from_first = h.is_hit.from_first; to_last = h.is_hit.to_last; root = omega (arith, h.root) };
       fraction = record {
-        top = subst (λ (x : Hit). x.peak ≤ 2 ^ 59) (sym e) s.0;
-        bottom = subst (λ (x : Hit). x.energy * wave_power hit.n2 ≤ 2 ^ 59) (sym e) s.1;
+        peak = subst (λ (x : Hit). x.peak ≤ 2 ^ 59) (sym e) s.0;
+        whole = subst (λ (x : Hit). x.energy * wave_power hit.n2 ≤ 2 ^ 59) (sym e) s.1;
       };
     }
 

@@ -9,3 +9,4 @@ pub mod ToldSoFar
 pub mod OneTold
 pub mod Ranges
 pub mod AtZero
+pub mod Whole

@@ -8,28 +8,31 @@ use Rattle.pss_search.specs.Hits.{hits_of}
 use Rattle.turning.specs.declared.candidate.Candidate.{Candidate}
 use Rattle.turning.specs.Turned.{turned}
 use Rattle.turning.specs.Fractions.{fraction_of, greatest}
-use Rattle.turning.specs.Candidates.{candidate_by, candidate_at, coarse_turn, candidates_below}
+use Rattle.turning.specs.Candidates.{candidate_by, candidate_at, coarse_turn, coarsely_turned, candidates_below}
 use Rattle.turning.specs.Steps.{IsSmallHit}
 use Rattle.turning.proofs.TurnedSamples.{front_hits}
 use Rattle.turning.proofs.HitSizes.{hits_are_small}
 
 -- what a best hit gives, or none
-pub candidate_is : (recording x : List Sample) (m : ℤ) (hits : List Hit) (o : Option Hit) → x ≡ turned recording m → hits ≡ hits_of x → o ≡ greatest fraction_of hits →
-    option_map (candidate_by x m) o ≡ candidate_at recording m
+pub candidate_is : (recording x : List Sample) (k : ℕ) (hits : List Hit) (o : Option Hit) → x ≡ coarsely_turned recording k → hits ≡ hits_of x → o ≡ greatest fraction_of hits →
+    option_map (candidate_by x k) o ≡ candidate_at recording k
 unfolding candidate_at
-candidate_is recording x m hits o e h g =
-    ap (option_map (candidate_by x m)) (g ∙ ap (greatest fraction_of) h) ∙ ap (λ y. option_map (candidate_by y m) (greatest fraction_of (hits_of y))) e
+candidate_is recording x k hits o e h g =
+    ap (option_map (candidate_by x k)) (g ∙ ap (greatest fraction_of) h) ∙ ap (λ y. option_map (candidate_by y k) (greatest fraction_of (hits_of y))) e
+
+pub is_turned : (recording x : List Sample) (k : ℕ) (m n : ℤ) → x ≡ turned recording n → n ≡ m → m ≡ coarse_turn k → x ≡ coarsely_turned recording k
+is_turned recording x k m n is e f = is ∙ ap (turned recording) (e ∙ f)
 
 pub no_candidates : (recording : List Sample) → candidates_below recording 0 ≡ []
 unfolding candidates_below
 no_candidates recording = joined_below_none _
 
 pub one_candidate : (recording : List Sample) (k : ℕ) (old new : List Candidate) (o : Option Candidate) → old ≡ candidates_below recording k →
-    o ≡ candidate_at recording (coarse_turn k) → new ≡ old ++ option_to_list o → new ≡ candidates_below recording (k + 1)
+    o ≡ candidate_at recording k → new ≡ old ++ option_to_list o → new ≡ candidates_below recording (k + 1)
 unfolding candidates_below
 one_candidate recording k old new o before e now =
     now ∙ ap (λ xs. xs ++ option_to_list o) before ∙ ap (λ c. candidates_below recording k ++ option_to_list c) e
-    ∙ sym (joined_below_more k (λ i. option_to_list (candidate_at recording (coarse_turn i))))
+    ∙ sym (joined_below_more k (λ i. option_to_list (candidate_at recording i)))
 
 -- the hits of a front of the recording that is turned are those of all of it
 pub hits_told : (x front : List Sample) (list slice : List Hit) → front ≡ take 57600 x → list ≡ hits_of front → slice ≡ list → slice ≡ hits_of x

@@ -2,6 +2,7 @@
 use Rattle.std.proofs.Common.{◌≡◌, ℕ, ◌<◌, ◌≤◌, ◌⊎◌, inl, inr, List, [], length, get_or, Option, Some, None, arith, refl, ap, sym, subst, ◌∙◌, ℤ, pos}
 use Rattle.std.proofs.lemmas.Bool.{cases_lt}
 use Rattle.cs_num.specs.declared.Sample.{Sample}
+use Rattle.explain.specs.Receiver.{one_port_receiver}
 use Rattle.explain.proofs.Listed.{is_one_list}
 use Rattle.turning.specs.declared.candidate.Candidate.{Candidate}
 use Rattle.turning.specs.declared.telling.Told.{Told}
@@ -11,7 +12,7 @@ use Rattle.turning.specs.Telling.{HasCells, Tells, IsSilent, IsFirstHeard, IsFir
 use Rattle.turning.specs.Laws.{IsOneTold, IsOneApplied, ToldCellsAreThere}
 
 one_count : (recording : List Sample) (a b : ℕ) → HasCells recording a → HasCells recording b → a ≡ b
-one_count recording a b p q = sym p.many ∙ ap length (is_one_list recording p.list q.list p.explained q.explained) ∙ q.many
+one_count recording a b p q = sym p.many ∙ ap length (is_one_list one_port_receiver recording p.list q.list p.explained q.explained) ∙ q.many
 
 told_triple : {t u : ℤ} {h i c d : ℕ} → t ≡ u → h ≡ i → c ≡ d →
     ◌≡◌ {A = Told} (record { turn = t; hits = h; cells = c }) (record { turn = u; hits = i; cells = d })
@@ -21,7 +22,7 @@ told_is : (x y : Told) → x.turn ≡ y.turn → x.hits ≡ y.hits → x.cells �
 told_is x y t h c = told_triple t h c
 
 no_candidate : Candidate
-no_candidate = record { turn = pos 0; hits = 0; fraction = record { top = 0; bottom = 0 } }
+no_candidate = record { coarse = pos 0; turn = pos 0; hits = 0; fraction = record { peak = 0; energy = 0; power = 0 } }
 
 module _ (recording : List Sample) where
   one_tells : (candidate : Candidate) (x y : Told) → Tells recording candidate x → Tells recording candidate y → x ≡ y

@@ -57,12 +57,12 @@ one_alone : (candidate : Candidate) → IsGood candidate → All IsGood (candida
 one_alone candidate h zero d inside = h
 one_alone candidate h (suc i) d inside = absurd (omega (arith, inside))
 
-all_at : (recording : List Sample) (k : ℕ) → k < 33 → All IsGood (option_to_list (candidate_at recording (coarse_turn k)))
+all_at : (recording : List Sample) (k : ℕ) → k < 33 → All IsGood (option_to_list (candidate_at recording k))
 unfolding candidate_at
 all_at recording k l = settle (greatest fraction_of (hits_of (turned recording (coarse_turn k)))) refl
   where
     settle : (o : Option Hit) → greatest fraction_of (hits_of (turned recording (coarse_turn k))) ≡ o →
-        All IsGood (option_to_list (option_map (candidate_by (turned recording (coarse_turn k)) (coarse_turn k)) o))
+        All IsGood (option_to_list (option_map (candidate_by (turned recording (coarse_turn k)) k) o))
     settle None e = λ i d inside. absurd (omega (arith, inside))
     settle (Some best) e =
         let small = greatest_has IsSmallHit fraction_of (hits_of (turned recording (coarse_turn k))) best (hits_are_small recording (coarse_turn k)) e in
@@ -72,7 +72,7 @@ all_below : (recording : List Sample) (n : ℕ) → n ≤ 33 → All IsGood (can
 unfolding candidates_below joined_below
 all_below recording zero l = λ i d inside. absurd (omega (arith, inside))
 all_below recording (suc n) l =
-    All-append IsGood (candidates_below recording n) (option_to_list (candidate_at recording (coarse_turn n))) (all_below recording n (omega (arith, l))) (all_at recording n (omega (arith, l)))
+    All-append IsGood (candidates_below recording n) (option_to_list (candidate_at recording n)) (all_below recording n (omega (arith, l))) (all_at recording n (omega (arith, l)))
 
 turn_small : (turn : ℤ) → IsInTurns turn → nat_abs turn ≤ 576
 turn_small turn h = omega (arith, ints, h.least, h.most, one_part turn)
@@ -86,7 +86,7 @@ taken_are_good : (recording : List Sample) → All IsGood (taken_of recording)
 taken_are_good recording = taken_has IsGood 4 (candidates_of recording) (all_below recording 33 (omega arith))
 
 abbrev nothing_told : Candidate
-nothing_told = record { turn = pos 0; hits = 0; fraction = record { top = 0; bottom = 0 } }
+nothing_told = record { coarse = pos 0; turn = pos 0; hits = 0; fraction = record { peak = 0; energy = 0; power = 0 } }
 
 range_of : (recording : List Sample) (told : Told) → IsFirstHeard recording (taken_of recording) told ⊎ IsFirstSilent recording (taken_of recording) told → IsInTurns told.turn
 range_of recording told (inl p) = subst IsInTurns (sym (p.tells nothing_told).turn) (taken_are_good recording p.place nothing_told p.inside).turn

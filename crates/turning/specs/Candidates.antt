@@ -11,26 +11,32 @@ use Rattle.turning.specs.Order.{by_size}
 use Rattle.turning.specs.Fine.{fine_turn}
 use Rattle.turning.specs.Fractions.{fraction_of, greatest}
 
--- what is told by the best hit of a recording that was turned by m
-abbrev pub candidate_by : List Sample → ℤ → Hit → Candidate
-candidate_by turned m best = record {
-  turn = m +ℤ fine_turn turned best.t;
-  hits = length (hits_of turned);
-  fraction = fraction_of best;
-}
-
--- the candidate of a turn by m, where the recording then has a hit
-unfoldable pub candidate_at : List Sample → ℤ → Option Candidate
-candidate_at recording m =
-    option_map (candidate_by (turned recording m) m) (greatest fraction_of (hits_of (turned recording m)))
-
 -- turns of 3.75 kHz more and less: number k of them, by size
 abbrev pub coarse_turn : ℕ → ℤ
 coarse_turn k = pos 32 *ℤ by_size k
 
+-- what is told by the best hit of a recording that was turned by number k of them
+abbrev pub candidate_by : List Sample → ℕ → Hit → Candidate
+candidate_by turned k best = record {
+  coarse = by_size k;
+  turn = coarse_turn k +ℤ fine_turn turned best.t;
+  hits = length (hits_of turned);
+  fraction = fraction_of best;
+}
+
+-- the recording turned by number k of them
+abbrev pub coarsely_turned : List Sample → ℕ → List Sample
+coarsely_turned recording k = turned recording (coarse_turn k)
+
+-- the candidate of that turn, where the recording then has a hit
+unfoldable pub candidate_at : List Sample → ℕ → Option Candidate
+candidate_at recording k =
+    option_map (candidate_by (coarsely_turned recording k) k)
+    (greatest fraction_of (hits_of (coarsely_turned recording k)))
+
 -- those of the first of the 33 turns up to 60 kHz, by size
 unfoldable pub candidates_below : List Sample → ℕ → List Candidate
-candidates_below recording count = joined_below count (λ k. option_to_list (candidate_at recording (coarse_turn k)))
+candidates_below recording count = joined_below count (λ k. option_to_list (candidate_at recording k))
 
 -- all
 abbrev pub candidates_of : List Sample → List Candidate

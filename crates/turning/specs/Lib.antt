@@ -5,5 +5,6 @@ pub mod Fractions
 pub mod Candidates
 pub mod Telling
 pub mod Texts
+pub mod AsJson
 pub mod Laws
 pub mod Steps

@@ -17,6 +17,8 @@ use std::alloc::{AllocError, Global};
 /// A turn that may be the one, in steps of 117.1875 Hz. (own)
 #[derive(Clone, Copy, PartialEq, Eq)]
 pub struct Candidate {
+    /// The coarse turn, in steps of 3.75 kHz: -16 to 16.
+    pub coarse: i16,
     /// The turn.
     pub turn: i16,
     /// The count of hits at the coarse turn.
@@ -50,8 +52,7 @@ fn add_candidate(
     requires before { candidates.old.items ≡ candidates_below centred.now k }
     ensures { OnOk result (candidates.new.items ≡ candidates_below centred.now (k + 1)) }
 {
-    let m = coarse_turn(k);
-    match candidate_at(alloc, centred, m, list)? {
+    match candidate_at(alloc, centred, k, list)? {
         Some(candidate) => {
             candidates.push(candidate)?;
             Ok(())
@@ -69,16 +70,17 @@ fn coarse_turn(k: usize) -> i16
     32 * by_size(k)
 }
 
-// The candidate of a turn by m, where the recording then has a hit.
+// The candidate of coarse turn k, where the recording then has a hit.
 fn candidate_at(
     alloc: Global,
     centred: &Centred,
-    m: i16,
+    k: usize,
     list: &mut HitList,
 ) -> Result<Option<Candidate>, AllocError>
-    requires { nat_abs m ≤ 512 }
-    ensures { IfOk result (λ candidate. candidate ≡ candidate_of centred.now m) }
+    requires { k < 33 }
+    ensures { IfOk result (λ candidate. candidate ≡ candidate_of centred.now k) }
 {
+    let m = coarse_turn(k);
     let turned = centred.turned(m);
     let end = turned.len();
     prove!(LEAST_SAMPLES <= end);
@@ -86,20 +88,21 @@ fn candidate_at(
     hits(&front, list);
     let hits = list.slice();
     match best_hit(hits) {
-        Some(best) => Ok(Some(candidate_by(&turned, m, hits.len(), &best))),
+        Some(best) => Ok(Some(candidate_by(&turned, k, hits.len(), &best))),
         None => Ok(None),
     }
 }
 
-// What the best hit tells.
-fn candidate_by(turned: &Turned, m: i16, hits: usize, best: &Hit) -> Candidate
-    requires m { nat_abs m ≤ 512 }
+// What the best hit tells at coarse turn k.
+fn candidate_by(turned: &Turned, k: usize, hits: usize, best: &Hit) -> Candidate
+    requires known { k < 33 }
     requires best { IsSmallHit best.now }
     requires hits { hits ≡ length (hits_of turned.now) }
-    ensures { result ≡ candidate_by_hit turned.now m best.now }
+    ensures { result ≡ candidate_by_hit turned.now k best.now }
 {
     Candidate {
-        turn: m + fine_turn(turned, best.t as usize),
+        coarse: by_size(k),
+        turn: coarse_turn(k) + fine_turn(turned, best.t as usize),
         hits,
         fraction: fraction_of(best),
     }

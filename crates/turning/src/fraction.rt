@@ -1,17 +1,31 @@
 //! Fractions of hits.
 
 ghost use Rattle.std.specs.Prelude.{◌≡◌, All, fold};
-ghost use Rattle.turning.specs.Fractions.{fraction_of as fraction_of_hit, is_less as is_less_than, greater, greatest, IsSmall};
+ghost use Rattle.turning.specs.Fractions.{fraction_of as fraction_of_hit, whole as whole_of, is_less as is_less_than, greater, greatest, IsSmall};
 ghost use Rattle.turning.specs.Steps.{IsSmallHit};
 
 use lte_types::Hit;
 use pss_search::signal_power;
 
-/// A fraction of two whole numbers. (own)
+/// The fraction `peak / (energy * power)` of a hit. (own)
 #[derive(Clone, Copy, PartialEq, Eq)]
 pub struct Fraction {
-    pub top: u128,
-    pub bottom: u64,
+    /// The square of the size of the correlation with the signal.
+    pub peak: u64,
+    /// The energy of the 128 samples of the hit.
+    pub energy: u64,
+    /// The power of the signal.
+    pub power: u64,
+}
+
+impl Fraction {
+    // What the peak is divided by.
+    fn whole(&self) -> u64
+        requires { IsSmall self.now }
+        ensures { result ≡ whole_of self.now }
+    {
+        self.energy * self.power
+    }
 }
 
 // Whether the first fraction is less than the second.
@@ -20,7 +34,8 @@ pub(crate) fn is_less(a: &Fraction, b: &Fraction) -> bool
     requires second { IsSmall b.now }
     ensures { result ≡ is_less_than a.now b.now }
 {
-    a.top * (b.bottom as u128) < b.top * (a.bottom as u128)
+    let here = (a.peak as u128) * (b.whole() as u128);
+    here < (b.peak as u128) * (a.whole() as u128)
 }
 
 // How much of the energy at a hit the primary signal is.
@@ -30,8 +45,9 @@ pub(crate) fn fraction_of(hit: &Hit) -> Fraction
     ensures small { IsSmall result }
 {
     Fraction {
-        top: hit.peak,
-        bottom: hit.energy * signal_power(hit.n2),
+        peak: hit.peak as u64,
+        energy: hit.energy,
+        power: signal_power(hit.n2),
     }
 }
 

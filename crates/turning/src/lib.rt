@@ -2,6 +2,7 @@
 //! cells, and taken off, in whole numbers.
 #![tactic(auto)]
 
+mod as_json;
 mod at_turn;
 mod candidate;
 mod centred;
@@ -14,6 +15,7 @@ mod taking;
 mod telling;
 mod text;
 
+pub use as_json::tell_json;
 pub use laws::{the_turn_told, turned_recordings};
 pub use telling::{Told, applied, tell, turned};
 pub use text::tell_text;

@@ -3,6 +3,7 @@
 ghost use Rattle.std.specs.Prelude.{◌≡◌, IfOk, IfSome, option_map};
 ghost use Rattle.sample_file.specs.Recording.{IsRecording};
 ghost use Rattle.turning.specs.Turned.{turned as turned_by};
+ghost use Rattle.turning.specs.Candidates.{taken_of as all_taken};
 ghost use Rattle.turning.specs.Telling.{Tells, IsToldBy, IsTold, IsApplied};
 ghost use Rattle.turning.specs.Laws.{IsTurnInRange};
 ghost use Rattle.turning.specs.Steps.{IsToldTurned};
@@ -50,10 +51,8 @@ pub fn tell(alloc: Global, recording: &Recording) -> Result<Option<Told>, AllocE
     ensures range { IfOk result (λ told. IfSome told IsTurnInRange) }
 {
     let centred = Centred::new(recording);
-    match tell_turned(alloc, &centred)? {
-        Some(turned) => Ok(Some(turned.told)),
-        None => Ok(None),
-    }
+    let taken = taken_of(alloc, &centred)?;
+    told_among(alloc, &centred, &taken)
 }
 
 /// The recording turned by the turn that is told of it, and by 0 where none is. Only memory can be wanting. (own)
@@ -73,9 +72,30 @@ fn tell_turned(alloc: Global, centred: &Centred) -> Result<Option<ToldTurned>, A
     ensures told { IfOk result (λ turned. IsTold centred.now (option_map (λ t. t.told) turned)) }
     ensures samples { IfOk result (λ turned. IfSome turned (IsToldTurned centred.now)) }
 {
-    let candidates = candidates_of(alloc, centred)?;
-    let taken = taken(alloc, candidates)?;
+    let taken = taken_of(alloc, centred)?;
     told_by(alloc, centred, &taken)
+}
+
+// The candidates of a recording that are taken, in their order.
+pub(crate) fn taken_of(alloc: Global, centred: &Centred) -> Result<Vec<Candidate>, AllocError>
+    ensures { IfOk result (λ taken. taken.items ≡ all_taken centred.now) }
+{
+    let candidates = candidates_of(alloc, centred)?;
+    taken(alloc, candidates)
+}
+
+// What candidates tell.
+pub(crate) fn told_among(
+    alloc: Global,
+    centred: &Centred,
+    taken: &[Candidate],
+) -> Result<Option<Told>, AllocError>
+    ensures { IfOk result (IsToldBy centred.now taken.now) }
+{
+    match told_by(alloc, centred, taken)? {
+        Some(turned) => Ok(Some(turned.told)),
+        None => Ok(None),
+    }
 }
 
 // What candidates tell, with the recording turned by it.

@@ -1,4 +1,4 @@
-use Rattle.std.proofs.Common.{◌-◌, ◌<◌, arith, sym, subst, List, Option}
+use Rattle.std.proofs.Common.{arith, sym, subst, List, Option}
 use Rattle.std.specs.Prelude.{IfSome}
 use Rattle.std.specs.List.{AllZip}
 use Rattle.lte_types.specs.declared.entry.Entry.{Entry}

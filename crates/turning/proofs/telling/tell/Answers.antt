@@ -1,13 +1,23 @@
-use Rattle.std.proofs.Common.{ap, subst, List, Option, Some}
-use Rattle.std.specs.Prelude.{option_map}
+use Rattle.std.proofs.Common.{◌∙◌, ap, subst, List, Option, Some, None}
+use Rattle.std.specs.Prelude.{IfOk, IfSome}
+use Rattle.std.proofs.lemmas.Result.{IfOk-weaker}
 use Rattle.cs_num.specs.declared.Sample.{Sample}
-use Rattle.turning.specs.declared.telling.ToldTurned.{ToldTurned}
-use Rattle.turning.specs.Telling.{IsTold}
+use Rattle.turning.specs.declared.candidate.Candidate.{Candidate}
+use Rattle.turning.specs.declared.telling.Told.{Told}
+use Rattle.turning.specs.Candidates.{taken_of}
+use Rattle.turning.specs.Telling.{IsToldBy, IsTold}
+use Rattle.turning.specs.Laws.{IsTurnInRange}
 use Rattle.turning.proofs.Ranges.{turn_is_in_range}
 use Rattle.turning.proofs.telling.tell.Goals as goal
 
-pub returns-in-Some-clause-range : goal.returns-in-Some-clause-range
-returns-in-Some-clause-range c =
-    turn_is_in_range c.args.recording.now c.in-Some.turned.told
-    (subst (λ (r : List Sample). IsTold r (Some c.in-Some.turned.told)) c.new-centred.ensures
-    (subst (IsTold c.new-centred.result) (ap (λ (x : Option ToldTurned). option_map (λ t. t.told) x) c.in-Some.is) c.in_ok-turned.ensures.told))
+pub returns-clause-told : goal.returns-clause-told
+returns-clause-told c =
+    subst (λ (xs : List Candidate). IfOk c.told_among.result (IsToldBy c.args.recording.now xs)) (c.deref.ensures.value ∙ c.in_ok-taken.ensures ∙ ap taken_of c.new-centred.ensures)
+    (subst (λ (r : List Sample). IfOk c.told_among.result (IsToldBy r c.deref.result.now)) c.new-centred.ensures c.told_among.ensures)
+
+pub returns-clause-range : goal.returns-clause-range
+returns-clause-range c = IfOk-weaker c.told_among.result (IsTold c.args.recording.now) _ in_range (returns-clause-told c)
+  where
+    in_range : (told : Option Told) → IsTold c.args.recording.now told → IfSome told IsTurnInRange
+    in_range None is = tt
+    in_range (Some told) is = turn_is_in_range c.args.recording.now told is
