@@ -1,5 +1,5 @@
 -- What `apply` writes has the cells that `tell` tells.
-use Rattle.std.proofs.Common.{◌≡◌, ℕ, ◌<◌, ◌≤◌, suc, ◌+◌, ◌-◌, ◌*◌, ◌/◌, ◌%◌, ◌^◌, ◌++◌, [], ◌∷◌, min, arith, refl, ap, sym, subst, ◌∙◌, List, length, Option, Some, None, ℤ, pos, negsuc, FitsSigned}
+use Rattle.std.proofs.Common.{◌≡◌, ℕ, suc, ◌+◌, ◌-◌, ◌*◌, ◌/◌, ◌%◌, ◌++◌, [], ◌∷◌, arith, refl, ap, sym, subst, ◌∙◌, List, length, Option, Some, None, ℤ, pos, negsuc, FitsSigned}
 use Rattle.std.specs.Prelude.{All, IfSome}
 use Rattle.std.specs.Int.{w16, cast_unsigned}
 use Rattle.std.proofs.lemmas.Int.{ints}
@@ -11,12 +11,12 @@ use Rattle.cs_num.specs.declared.Sample.{Sample}
 use Rattle.cs_num.specs.Complex.{silence}
 use Rattle.cs_num.specs.Rounding.{nearest_sample}
 use Rattle.cs_num.proofs.Samples.{in_16_bits-fits}
-use Rattle.sample_file.specs.Recording.{component_of, samples_of, sample_bytes, bytes_of, IsRecording}
+use Rattle.sample_file.specs.Recording.{component_of, samples_of, samples_in, sample_bytes, bytes_of, IsRecording}
 use Rattle.turning.specs.declared.telling.Told.{Told}
 use Rattle.turning.specs.Turned.{turned_back, turned_at, turned}
 use Rattle.turning.specs.Telling.{HasCells, IsTold, IsApplied, turn_of}
 use Rattle.turning.specs.Laws.{Has16Bits, ToldCellsAreThere, TurnedIsRecording}
-use Rattle.lte_top.specs.Applied.{HasCellsTold, WhatIsAppliedIsTold}
+use Rattle.lte_top.specs.Applied.{WhatIsAppliedIsTold}
 
 nearest_fits : (z : Cpx) → Has16Bits (nearest_sample z)
 nearest_fits z = record { re = in_16_bits-fits z.re; im = in_16_bits-fits z.im }
@@ -54,8 +54,8 @@ read_back (s ∷ rest) fits =
 -- ---- what is applied
 
 pub applied_is_told : TurnedIsRecording → ToldCellsAreThere → WhatIsAppliedIsTold
-applied_is_told is_recording are_there bytes text applied valid a b =
-    let r = samples_of bytes in
+applied_is_told is_recording are_there form bytes text applied valid a b =
+    let r = samples_in form bytes in
     let turned_by = turned r (turn_of b.are.told) in
     let back : samples_of applied ≡ turned_by = ap samples_of b.bytes ∙ ap (λ s. samples_of (bytes_of s)) b.are.samples ∙ read_back turned_by (turned_fits r (turn_of b.are.told)) in
     let same : samples_of applied ≡ b.samples = back ∙ sym b.are.samples in

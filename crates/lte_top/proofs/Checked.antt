@@ -1,5 +1,5 @@
 -- Certificates that are checked, and those that are written.
-use Rattle.std.proofs.Common.{◌≡◌, ℕ, ◌+◌, ◌*◌, ◌≤◌, inl, inr, Bool, List, ◌++◌, length, ap, sym, subst, ◌∙◌, arith, length-append}
+use Rattle.std.proofs.Common.{◌≡◌, ℕ, ◌+◌, ◌≤◌, inl, inr, Bool, List, ◌++◌, length, ap, sym, subst, ◌∙◌, arith, length-append}
 use Rattle.std.specs.List.{AllZip}
 use Rattle.cs_num.specs.declared.Sample.{Sample}
 use Rattle.cs_outside.specs.Outside.{SourceTold}
@@ -11,6 +11,7 @@ use Rattle.cert_stream.specs.declared.error.StreamError.TheVariants.{Broken, Too
 use Rattle.cert_stream.proofs.Certified.{certified_length}
 use Rattle.cert_stream.proofs.Judged.{all_whole, one_answers}
 use Rattle.cert_stream.proofs.Rest.{none_broken}
+use Rattle.explain.specs.Receiver.{one_port_receiver}
 use Rattle.explain.proofs.Listed.{is_one_list}
 use Rattle.report.specs.Answers.{check_text}
 use Rattle.lte_top.specs.declared.form.Form.TheVariants.{Check}
@@ -28,7 +29,7 @@ one_check input first second a b = a.text ∙ ap check_text (one_answers input a
 -- all certificates of a recording's list have one length in all
 pub one_certified_length : (samples : List Sample) (first second : List ℕ) → IsCertified samples first → IsCertified samples second → length first ≡ length second
 one_certified_length samples first second a b =
-    let same = is_one_list samples a.entries b.entries a.is_list.explained b.is_list.explained in
+    let same = is_one_list one_port_receiver samples a.entries b.entries a.is_list.explained b.is_list.explained in
     ap length a.bytes ∙ certified_length samples b.entries a.certificates b.certificates (subst (λ l. AllZip (Certifies samples) l a.certificates) same a.each) b.each ∙ sym (ap length b.bytes)
 
 -- nothing refuses certificates that were answered

@@ -1,60 +1,38 @@
 -- From how an answer comes to which answers an input may have.
 use Rattle.std.proofs.Common.{◌≡◌, ◌⊎◌, inl, inr, ℕ, ◌<◌, ◌≤◌, List, length, Some, arith, refl, ap, sym, subst, ◌∙◌, length-append}
 use Rattle.std.specs.Prelude.{IfSome}
-use Rattle.std.specs.List.{AllZip}
-use Rattle.cs_num.specs.declared.Sample.{Sample}
 use Rattle.cs_outside.specs.Counts.{Rose}
 use Rattle.cs_outside.specs.Outside.{SourceTold, Outside}
 use Rattle.cs_outside.proofs.Reading.{read_whole, read_front}
-use Rattle.sample_file.specs.declared.form.SampleForm.TheVariants.{Ci16}
 use Rattle.sample_file.specs.Recording.{samples_in}
-use Rattle.lte_types.specs.declared.entry.Entry.{Entry}
 use Rattle.lte_top.specs.declared.form.Program.{Program}
 use Rattle.lte_top.specs.declared.form.Form.{Form}
-use Rattle.lte_top.specs.declared.form.Form.TheVariants.{Report as Reports, Search as Searches, Certify, Check, Transmit, Make, Tune as Tunes}
-use Rattle.lte_top.specs.declared.form.Report.TheVariants.{Hits, Ids, Search, Json, Evidence}
+use Rattle.lte_top.specs.declared.form.Form.TheVariants.{Report as Reports, Certify, Check, Transmit, Make, Apply, Print}
 use Rattle.lte_top.specs.declared.status.Status.{Status}
 use Rattle.lte_top.specs.declared.status.Status.TheVariants.{Done, Usage, Ragged, TooShort, TooLong, ReadFault, WriteFault, OutOfMemory, BadCell, BadCertificate}
 use Rattle.cert_stream.specs.Stream.{IsBrokenAt}
-use Rattle.clean_air.specs.Clean.{IsListOfCells}
 use Rattle.lte_top.specs.Forms.{IsWordsOf, Input, nothing, recording, certificates, description, input_of, limit_of, Refuses, RefusesCertificates, RefusesDescription, IsTooLong, IsValid, IsOutput}
-use Rattle.lte_top.specs.Reports.{json_line, IsTextOfEvidence}
 use Rattle.lte_top.specs.Run.{IsRead, HasReadInput, HasOutput, HasRefusal, IsReadTooLong, IsWriteFault, Ends, RunsForm, Outcome, IsAnswerTo, HasOneAnswer, MayAnswer, IsTold, IsAnswered, IsComplete, HasRoom}
 use Rattle.cell_tx.specs.declared.error.CellError.{CellError}
 use Rattle.cell_json.specs.Reading.{refusal}
 use Rattle.lte_top.proofs.Transmitted.{one_transmitted_length}
-use Rattle.report.specs.Lines.{report_text}
-use Rattle.report.specs.Evidence.{evidence_text}
-use Rattle.evidence.specs.Evidence.{IsEvidence}
-use Rattle.evidence.proofs.Only.{one_for_each}
 use Rattle.cert_stream.proofs.Rest.{one_first_broken}
 use Rattle.lte_top.proofs.Checked.{one_check, one_certified_length}
-use Rattle.lte_top.proofs.Lists.{one_text, one_list, one_search, one_tuned}
+use Rattle.lte_top.proofs.Reported.{one_report, one_turned}
 use Rattle.lte_top.proofs.Made.{one_made}
 use Rattle.lte_top.proofs.OneForm.{one_form}
 
 -- ---- outputs: a new form adds a line
 
--- and one text of what supports its entries
-one_evidence_text : (samples : List Sample) (first second : List ℕ) → IsTextOfEvidence samples first → IsTextOfEvidence samples second → first ≡ second
-one_evidence_text samples first second a b =
-    let same = one_list samples a.entries b.entries a.is_list b.is_list in
-    let told = one_for_each samples b.entries a.told b.told (subst (λ entries. AllZip (IsEvidence samples) entries a.told) same a.each) b.each in
-    a.text ∙ ap evidence_text told ∙ sym b.text
-
 -- all outputs of an input have one length
 one_length : (form : Form) (bytes first second : List ℕ) → IsOutput form bytes first → IsOutput form bytes second → length first ≡ length second
-one_length (Reports Hits form) bytes first second a b = ap length (a ∙ sym b)
-one_length (Reports Ids form) bytes first second a b = ap length (a ∙ sym b)
-one_length (Reports Search form) bytes first second a b = ap length (one_text IsListOfCells report_text one_list (samples_in form bytes) first second a b)
-one_length (Reports Json form) bytes first second a b = ap length (one_text IsListOfCells json_line one_list (samples_in form bytes) first second a b)
-one_length (Reports Evidence form) bytes first second a b = ap length (one_evidence_text (samples_in form bytes) first second a b)
+one_length (Reports report output form) bytes first second a b = ap length (one_report report output (samples_in form bytes) first second a b)
 one_length (Certify form) bytes first second a b = one_certified_length _ first second a b
 one_length Check bytes first second a b = ap length (one_check bytes first second a b)
 one_length Transmit bytes first second a b = one_transmitted_length bytes first second a b
 one_length (Make carrier n) bytes first second a b = ap length (one_made carrier n first second a b)
-one_length (Searches search) bytes first second a b = ap length (one_search search (samples_in Ci16 bytes) first second a b)
-one_length (Tunes tune) bytes first second a b = ap length (one_tuned tune (samples_in Ci16 bytes) first second a b)
+one_length (Apply turn form) bytes first second a b = ap length (one_turned turn (samples_in form bytes) first second a b)
+one_length (Print program page) bytes first second a b = ap length (a ∙ sym b)
 
 -- ---- inputs: a new one adds a line
 

@@ -56,6 +56,6 @@ sent_is_found is_clean description bytes text a b =
       t = t;
       describes = a.describes;
       clean = clean;
-      lines = subst (IsPiece (sent_lines t.cell (start_of t.timing.offset) (number_at_start t.timing.sfn t.timing.offset))) (sym b.text)
+      lines = subst (IsPiece (sent_lines t.cell (start_of t.timing.offset) (number_at_start t.timing.sfn t.timing.offset))) (sym b.text_is)
           (held_lines b.entries t.cell (start_of t.timing.offset) (number_at_start t.timing.sfn t.timing.offset) held);
     }

@@ -1,12 +1,13 @@
-pub mod WordLists
 pub mod Checked
 pub mod Transmitted
 pub mod Ending
 pub mod OneForm
 pub mod Held
+pub mod Hits
 pub mod Lists
+pub mod Reported
 pub mod Made
-pub mod MadeEnds
+pub mod Unread
 pub mod Complete
 pub mod Found
 pub mod Applied

@@ -1,48 +1,61 @@
 -- A recording has one list by each rule, and one text of it.
-use Rattle.std.proofs.Common.{◌≡◌, ℕ, List, ap, sym, ◌∙◌, refl}
+use Rattle.std.proofs.Common.{◌≡◌, ℕ, List, ap, sym, ◌∙◌}
 use Rattle.cs_num.specs.declared.Sample.{Sample}
 use Rattle.lte_types.specs.declared.entry.Entry.{Entry}
-use Rattle.sample_file.specs.Recording.{bytes_of}
-use Rattle.explain.specs.Entries.{IsEntryAt}
-use Rattle.explain.proofs.Listed.{one_list_of, is_one_list}
-use Rattle.pss_search.specs.Hits.{hits_of}
-use Rattle.two_ports.specs.Entries.{IsEntryOfTwo}
-use Rattle.long_prefix.specs.Entries.{IsLongMaster, IsLongSystem, long_place, long_hits}
-use Rattle.rounds.proofs.Once.{one_cancel_text}
-use Rattle.turning.specs.Texts.{told_text}
-use Rattle.turning.proofs.OneTold.{is_one_told, is_one_applied}
+use Rattle.lte_types.specs.declared.carrier.Carrier.{Carrier}
+use Rattle.lte_types.specs.declared.carrier.Carrier.TheVariants.{OnePort, TwoPorts, LongPrefix}
+use Rattle.explain.specs.Receiver.{one_port_receiver}
+use Rattle.explain.proofs.Listed.{is_one_list}
+use Rattle.two_ports.specs.Entries.{two_ports_receiver}
+use Rattle.long_prefix.specs.Entries.{long_prefix_receiver}
+use Rattle.rounds.specs.AsJson.{IsCancelJson}
+use Rattle.rounds.proofs.Once.{one_cancel_text, one_cancel_json}
 use Rattle.clean_air.specs.Clean.{IsListOfCells}
-use Rattle.report.specs.Lines.{report_text}
-use Rattle.lte_top.specs.declared.form.Search.{Search}
-use Rattle.lte_top.specs.declared.form.Search.TheVariants.{TwoPorts, LongPrefix, Cancel}
-use Rattle.lte_top.specs.declared.form.Tune.{Tune}
-use Rattle.lte_top.specs.declared.form.Tune.TheVariants.{Tell, Apply, ApplyTurn}
-use Rattle.lte_top.specs.Reports.{IsTextOfList}
-use Rattle.lte_top.specs.Searching.{IsListOfTwo, IsListOfLong, IsSearch}
-use Rattle.lte_top.specs.Tuning.{IsTuned}
+use Rattle.lte_top.specs.declared.form.Output.{Output}
+use Rattle.lte_top.specs.declared.form.Output.TheVariants.{Text, Json}
+use Rattle.lte_top.specs.declared.form.Rule.{Rule}
+use Rattle.lte_top.specs.declared.form.Rule.TheVariants.{Of, Cancel, All}
+use Rattle.lte_top.specs.Line.{as_line, IsLine}
+use Rattle.lte_top.specs.Searching.{IsListOfTwo, IsListOfLong, IsListOf, list_text, lists_text, IsListText, IsTextOfAll, IsCancelled, IsSearch}
 
--- where a recording has one list by a rule, it has one text of it
-pub one_text : (IsListOf : List Sample → List Entry → Type 0) (text_of : List Entry → List ℕ) →
-    ((samples : List Sample) (first second : List Entry) → IsListOf samples first → IsListOf samples second → first ≡ second) →
-    (samples : List Sample) (first second : List ℕ) → IsTextOfList IsListOf text_of samples first → IsTextOfList IsListOf text_of samples second → first ≡ second
-one_text IsListOf text_of one samples first second a b = a.text ∙ ap text_of (one samples a.entries b.entries a.is_list b.is_list) ∙ sym b.text
+-- ---- lists
 
-pub one_list : (samples : List Sample) (first second : List Entry) → IsListOfCells samples first → IsListOfCells samples second → first ≡ second
-one_list samples first second a b = is_one_list samples first second a.explained b.explained
+one_list_of_one : (samples : List Sample) (first second : List Entry) → IsListOfCells samples first → IsListOfCells samples second → first ≡ second
+one_list_of_one samples first second a b = is_one_list one_port_receiver samples first second a.explained b.explained
 
-pub one_list_of_two : (samples : List Sample) (first second : List Entry) → IsListOfTwo samples first → IsListOfTwo samples second → first ≡ second
-one_list_of_two samples first second a b = one_list_of (IsEntryOfTwo samples) (hits_of samples) first second a.explained b.explained
+one_list_of_two : (samples : List Sample) (first second : List Entry) → IsListOfTwo samples first → IsListOfTwo samples second → first ≡ second
+one_list_of_two samples first second a b = is_one_list two_ports_receiver samples first second a.explained b.explained
 
-pub one_list_of_long : (samples : List Sample) (first second : List Entry) → IsListOfLong samples first → IsListOfLong samples second → first ≡ second
-one_list_of_long samples first second a b =
-    one_list_of (λ hit. IsEntryAt (IsLongMaster samples) IsLongSystem samples (long_place samples hit)) (long_hits samples) first second a.explained b.explained
+one_list_of_long : (samples : List Sample) (first second : List Entry) → IsListOfLong samples first → IsListOfLong samples second → first ≡ second
+one_list_of_long samples first second a b = is_one_list long_prefix_receiver samples first second a.explained b.explained
 
-pub one_search : (search : Search) (samples : List Sample) (first second : List ℕ) → IsSearch search samples first → IsSearch search samples second → first ≡ second
-one_search TwoPorts samples first second a b = one_text IsListOfTwo report_text one_list_of_two samples first second a b
-one_search LongPrefix samples first second a b = one_text IsListOfLong report_text one_list_of_long samples first second a b
-one_search Cancel samples first second a b = one_cancel_text samples first second a b
+pub one_list : (carrier : Carrier) (samples : List Sample) (first second : List Entry) → IsListOf carrier samples first → IsListOf carrier samples second → first ≡ second
+one_list OnePort = one_list_of_one
+one_list TwoPorts = one_list_of_two
+one_list LongPrefix = one_list_of_long
 
-pub one_tuned : (tune : Tune) (samples : List Sample) (first second : List ℕ) → IsTuned tune samples first → IsTuned tune samples second → first ≡ second
-one_tuned Tell samples first second a b = a.is_text ∙ ap told_text (is_one_told samples a.told b.told a.is_told b.is_told) ∙ sym b.is_text
-one_tuned Apply samples first second a b = a.bytes ∙ ap bytes_of (is_one_applied samples a.samples b.samples a.are b.are) ∙ sym b.bytes
-one_tuned (ApplyTurn m) samples first second a b = a ∙ sym b
+-- ---- their texts
+
+-- where a recording has one text, it has one line of it
+pub one_line : (Is : List ℕ → Type 0) → ((a b : List ℕ) → Is a → Is b → a ≡ b) → (first second : List ℕ) → IsLine Is first → IsLine Is second → first ≡ second
+one_line Is one first second a b = a.line_is ∙ ap as_line (one a.text b.text a.is b.is) ∙ sym b.line_is
+
+one_list_text : (carrier : Carrier) (output : Output) (samples : List Sample) (first second : List ℕ) → IsListText carrier output samples first → IsListText carrier output samples second → first ≡ second
+one_list_text carrier output samples first second a b =
+    a.text_is ∙ ap (list_text output) (one_list carrier samples a.entries b.entries a.is_list b.is_list) ∙ sym b.text_is
+
+one_text_of_all : (output : Output) (samples : List Sample) (first second : List ℕ) → IsTextOfAll output samples first → IsTextOfAll output samples second → first ≡ second
+one_text_of_all output samples first second a b =
+    let one = one_list OnePort samples a.one b.one a.is_one b.is_one in
+    let two = one_list TwoPorts samples a.two b.two a.is_two b.is_two in
+    let long = one_list LongPrefix samples a.long b.long a.is_long b.is_long in
+    a.text_is ∙ ap (λ l. lists_text output l a.two a.long) one ∙ ap (λ l. lists_text output b.one l a.long) two ∙ ap (λ l. lists_text output b.one b.two l) long ∙ sym b.text_is
+
+one_cancelled : (output : Output) (samples : List Sample) (first second : List ℕ) → IsCancelled output samples first → IsCancelled output samples second → first ≡ second
+one_cancelled Text samples first second a b = one_cancel_text samples first second a b
+one_cancelled Json samples first second a b = one_line (IsCancelJson samples) (one_cancel_json samples) first second a b
+
+pub one_search : (rule : Rule) (output : Output) (samples : List Sample) (first second : List ℕ) → IsSearch rule output samples first → IsSearch rule output samples second → first ≡ second
+one_search (Of carrier) output samples first second a b = one_list_text carrier output samples first second a b
+one_search Cancel output samples first second a b = one_cancelled output samples first second a b
+one_search All output samples first second a b = one_text_of_all output samples first second a b

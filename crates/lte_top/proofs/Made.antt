@@ -1,10 +1,9 @@
 -- What is made is held once.
-use Rattle.std.proofs.Common.{◌≡◌, ℕ, List, ◌++◌, Result, Ok, Err, refl, ap, sym, subst, ◌∙◌}
+use Rattle.std.proofs.Common.{◌≡◌, ℕ, List, ◌++◌, Result, Ok, Err, ap, sym, subst, ◌∙◌}
 use Rattle.std.specs.Prelude.{nat_abs, IfOk}
 use Rattle.std.specs.List.{AllPairs, Contains}
 use Rattle.cs_num.specs.declared.Sample.{Sample}
 use Rattle.lte_types.specs.declared.entry.Entry.{Entry}
-use Rattle.lte_types.specs.Timing.{start_of, number_at_start}
 use Rattle.cell_tx.specs.Clean.{IsClean}
 use Rattle.explain.specs.Entries.{IsBefore}
 use Rattle.explain.proofs.Kept.{before_after}
@@ -26,11 +25,11 @@ use Rattle.report.specs.Lines.{made_line, report_text}
 use Rattle.lte_top.specs.declared.making.SentCell.{SentCell}
 use Rattle.lte_types.specs.declared.carrier.Carrier.{Carrier}
 use Rattle.lte_types.specs.declared.carrier.Carrier.TheVariants.{OnePort, TwoPorts, LongPrefix}
-use Rattle.lte_top.specs.Making.{Counts, IsSentCell, TellsHeld, first_of, number_of, cell_of, AreSamplesOf, IsListOf, IsMadeList, IsMadeText, IsHeldOnce, WhatIsMadeIsHeld}
+use Rattle.lte_top.specs.Making.{Counts, IsSentCell, cell_of, AreSamplesOf, IsMadeList, IsMadeText, IsHeldOnce, WhatIsMadeIsHeld}
 use Rattle.clean_air.specs.Clean.{IsListOfCells}
-use Rattle.lte_top.specs.Searching.{IsListOfTwo, IsListOfLong}
+use Rattle.lte_top.specs.Searching.{IsListOfTwo, IsListOfLong, IsListOf}
 use Rattle.lte_top.proofs.Held.{one_count, one_counted}
-use Rattle.lte_top.proofs.Lists.{one_list, one_list_of_two, one_list_of_long}
+use Rattle.lte_top.proofs.Lists.{one_list}
 
 -- ---- a number has one text
 
@@ -38,11 +37,6 @@ same_samples : (carrier : Carrier) (n : ℕ) (a b : List Sample) → AreSamplesO
 same_samples OnePort n a b p q = p.are ∙ one_recording n p.made q.made p.is q.is ∙ sym q.are
 same_samples TwoPorts n a b p q = p.are ∙ one_recording_of_two n p.made q.made p.is q.is ∙ sym q.are
 same_samples LongPrefix n a b p q = p.are ∙ one_recording_of_long n p.made q.made p.is q.is ∙ sym q.are
-
-same_list : (carrier : Carrier) (samples : List Sample) (first second : List Entry) → IsListOf carrier samples first → IsListOf carrier samples second → first ≡ second
-same_list OnePort = one_list
-same_list TwoPorts = one_list_of_two
-same_list LongPrefix = one_list_of_long
 
 -- the text with a count
 abbrev text_with : SentCell → List Entry → ℕ → List ℕ
@@ -54,7 +48,7 @@ one_made carrier n first second a b =
     let x = a.listed in
     let y = b.listed in
     let samples : x.samples ≡ y.samples = same_samples carrier n x.samples y.samples x.made y.made in
-    let same : a.entries ≡ b.entries = same_list carrier y.samples a.entries b.entries (subst (λ s. IsListOf carrier s a.entries) samples x.is_list) y.is_list in
+    let same : a.entries ≡ b.entries = one_list carrier y.samples a.entries b.entries (subst (λ s. IsListOf carrier s a.entries) samples x.is_list) y.is_list in
     let held : a.tells.held ≡ b.tells.held = one_count P b.entries a.tells.held b.tells.held (subst (λ (l : List Entry). Counts P l a.tells.held) same a.tells.counts) b.tells.counts in
     a.tells.text ∙ ap (λ l. text_with (cell_of carrier n) l a.tells.held) same ∙ ap (text_with (cell_of carrier n) b.entries) held ∙ sym b.tells.text
 

@@ -1,12 +1,15 @@
 -- What `apply` writes has the cells that `tell` tells. (own)
 use Rattle.std.specs.Prelude.{◌≡◌, ℕ, List, Option, IfSome}
 use Rattle.cs_num.specs.declared.Sample.{Sample}
-use Rattle.sample_file.specs.Recording.{samples_of, IsRecording}
+use Rattle.sample_file.specs.declared.form.SampleForm.{SampleForm}
+use Rattle.sample_file.specs.Recording.{samples_of, samples_in, IsRecording}
 use Rattle.turning.specs.declared.telling.Told.{Told}
 use Rattle.turning.specs.Telling.{HasCells}
 use Rattle.turning.specs.Texts.{told_text}
-use Rattle.lte_top.specs.declared.form.Form.TheVariants.{Tune as Tunes}
-use Rattle.lte_top.specs.declared.form.Tune.TheVariants.{Tell, Apply}
+use Rattle.lte_top.specs.declared.form.Form.TheVariants.{Report as Reports, Apply}
+use Rattle.lte_top.specs.declared.form.Report.TheVariants.{Tell}
+use Rattle.lte_top.specs.declared.form.Output.TheVariants.{Text}
+use Rattle.lte_top.specs.declared.form.Turn.TheVariants.{AsTold}
 use Rattle.lte_top.specs.Forms.{IsOutput}
 
 -- the samples are a recording, which has as many cells as the text tells
@@ -16,7 +19,9 @@ pub record HasCellsTold (text : List ℕ) (samples : List Sample) : Type 0 where
   pub recording : IsRecording samples
   pub cells : IfSome told (λ told. HasCells samples told.cells)
 
--- a law: what `apply` writes for a recording is, read as one, a recording, and has as many cells as `tell` writes
+-- a law: what `apply` writes for a recording in either form is, read as one of 16 bits, a recording, and has as many
+-- cells as `tell` writes
 abbrev pub WhatIsAppliedIsTold : Type 0
-WhatIsAppliedIsTold = (bytes text applied : List ℕ) → IsRecording (samples_of bytes) →
-    IsOutput (Tunes Tell) bytes text → IsOutput (Tunes Apply) bytes applied → HasCellsTold text (samples_of applied)
+WhatIsAppliedIsTold = (form : SampleForm) (bytes text applied : List ℕ) → IsRecording (samples_in form bytes) →
+    IsOutput (Reports Tell Text form) bytes text → IsOutput (Apply AsTold form) bytes applied →
+    HasCellsTold text (samples_of applied)

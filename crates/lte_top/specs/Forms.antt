@@ -1,5 +1,5 @@
 -- The forms of words that are run: what each reads, which inputs it refuses, and what it writes. (own)
-use Rattle.std.specs.Prelude.{◌≡◌, ℕ, ◌%◌, ◌^◌, ◌<◌, ◌≤◌, ℤ, pos, negsuc, ◌≤ℤ◌, Option, Some, None, List, [], ◌∷◌, length, codes, nat_lt, not, ◌==◌, if◌then◌else◌}
+use Rattle.std.specs.Prelude.{◌≡◌, ◌⊎◌, ℕ, ◌%◌, ◌^◌, ◌<◌, ◌≤◌, ℤ, pos, negsuc, ◌≤ℤ◌, Option, Some, None, List, [], ◌∷◌, ◌++◌, length, codes, nat_lt, not, ◌==◌, if◌then◌else◌}
 use Rattle.std.specs.Fmt.{decimal, signed_decimal}
 use Rattle.sample_file.specs.declared.form.SampleForm.{SampleForm}
 use Rattle.sample_file.specs.declared.form.SampleForm.TheVariants.{Ci16, Cu8}
@@ -8,14 +8,19 @@ use Rattle.sample_file.specs.Reading.{least_bytes, most_bytes}
 use Rattle.lte_top.specs.declared.form.Program.{Program}
 use Rattle.lte_top.specs.declared.form.Program.TheVariants.{Receiver, Tuner}
 use Rattle.lte_top.specs.declared.form.Form.{Form}
-use Rattle.lte_top.specs.declared.form.Form.TheVariants.{Report as Reports, Search as Searches, Certify, Check, Transmit, Make, Tune as Tunes}
-use Rattle.lte_top.specs.declared.form.Report.TheVariants.{Hits, Ids, Search, Json, Evidence}
-use Rattle.lte_top.specs.declared.form.Search.{Search as OtherSearch}
-use Rattle.lte_top.specs.declared.form.Search.TheVariants.{TwoPorts, LongPrefix, Cancel}
+use Rattle.lte_top.specs.declared.form.Form.TheVariants.{Report as Reports, Certify, Check, Transmit, Make, Apply, Print}
+use Rattle.lte_top.specs.declared.form.Report.{Report}
+use Rattle.lte_top.specs.declared.form.Report.TheVariants.{Hits, Ids, Search, Evidence, Tell}
+use Rattle.lte_top.specs.declared.form.Rule.{Rule}
+use Rattle.lte_top.specs.declared.form.Rule.TheVariants.{Of, Cancel, All}
+use Rattle.lte_top.specs.declared.form.Output.{Output}
+use Rattle.lte_top.specs.declared.form.Output.TheVariants.{Text, Json}
+use Rattle.lte_top.specs.declared.form.Turn.{Turn}
+use Rattle.lte_top.specs.declared.form.Turn.TheVariants.{AsTold, Steps}
+use Rattle.lte_top.specs.declared.form.Page.{Page}
+use Rattle.lte_top.specs.declared.form.Page.TheVariants.{Help, Version}
 use Rattle.lte_types.specs.declared.carrier.Carrier.{Carrier}
-use Rattle.lte_types.specs.declared.carrier.Carrier.TheVariants.{OnePort, TwoPorts as SendsTwo, LongPrefix as SendsLong}
-use Rattle.lte_top.specs.declared.form.Tune.{Tune}
-use Rattle.lte_top.specs.declared.form.Tune.TheVariants.{Tell, Apply, ApplyTurn}
+use Rattle.lte_types.specs.declared.carrier.Carrier.TheVariants.{OnePort, TwoPorts, LongPrefix}
 use Rattle.lte_top.specs.declared.status.Status.{Status}
 use Rattle.lte_top.specs.declared.status.Status.TheVariants.{Done, Usage, Ragged, TooShort, TooLong, ReadFault, WriteFault, OutOfMemory, BadCell, BadCertificate}
 use Rattle.cell_json.specs.Reading.{refusal}
@@ -24,72 +29,91 @@ use Rattle.lte_top.specs.Certificates.{IsChecked, IsCertified}
 use Rattle.cert_stream.specs.Stream.{most_bytes as most_certificate_bytes, IsBrokenAt}
 use Rattle.lte_top.specs.Reports.{IsReport}
 use Rattle.lte_top.specs.Making.{IsMadeText}
-use Rattle.lte_top.specs.Searching.{IsSearch}
-use Rattle.lte_top.specs.Tuning.{IsTuned}
+use Rattle.lte_top.specs.Tuning.{IsTurnedAsBytes}
+use Rattle.lte_top.specs.Pages.{page_text}
 
--- the words that name a form of samples, each as its bytes: that of 16 bits has none
+-- ---- the words of each part, as bytes, in the order in which they stand
+
+-- a form of samples: that of 16 bits has none
 abbrev pub samples_words : SampleForm → List (List ℕ)
 samples_words Ci16 = []
 samples_words Cu8 = codes "--format" ∷ codes "cu8" ∷ []
 
--- those that name two antenna ports, and the extended prefix
-abbrev pub two_ports_words : List (List ℕ)
-two_ports_words = codes "--ports" ∷ codes "2" ∷ []
+-- an output: text has none
+abbrev pub output_words : Output → List (List ℕ)
+output_words Text = []
+output_words Json = codes "--json" ∷ []
 
-abbrev pub long_prefix_words : List (List ℕ)
-long_prefix_words = codes "--prefix" ∷ codes "long" ∷ []
+-- how a recording is told, and read
+abbrev pub told_words : Output → SampleForm → List (List ℕ)
+told_words output form = output_words output ++ samples_words form
 
--- those that name the rule of a list, and the carrier of a made recording
-abbrev pub search_words : OtherSearch → List (List ℕ)
-search_words TwoPorts = two_ports_words
-search_words LongPrefix = long_prefix_words
-search_words Cancel = codes "--cancel" ∷ []
-
+-- a carrier: that of one antenna port has none
 abbrev pub carrier_words : Carrier → List (List ℕ)
 carrier_words OnePort = []
-carrier_words SendsTwo = two_ports_words
-carrier_words SendsLong = long_prefix_words
+carrier_words TwoPorts = codes "--ports" ∷ codes "2" ∷ []
+carrier_words LongPrefix = codes "--prefix" ∷ codes "long" ∷ []
 
-abbrev pub tune_words : Tune → List (List ℕ)
-tune_words Tell = codes "tell" ∷ []
-tune_words Apply = codes "apply" ∷ []
-tune_words (ApplyTurn m) = codes "apply" ∷ signed_decimal m ∷ []
+-- the rule of a list
+abbrev pub rule_words : Rule → List (List ℕ)
+rule_words (Of carrier) = carrier_words carrier
+rule_words Cancel = codes "--cancel" ∷ []
+rule_words All = codes "--all" ∷ []
 
--- the words of a form
-abbrev pub words_of : Form → List (List ℕ)
-words_of (Reports Hits form) = codes "hits" ∷ samples_words form
-words_of (Reports Ids form) = codes "ids" ∷ samples_words form
-words_of (Reports Search form) = codes "search" ∷ samples_words form
-words_of (Reports Json form) = codes "search" ∷ codes "--json" ∷ samples_words form
-words_of (Reports Evidence form) = codes "evidence" ∷ samples_words form
-words_of (Searches search) = codes "search" ∷ search_words search
-words_of (Certify form) = codes "certify" ∷ samples_words form
-words_of Check = codes "check" ∷ []
-words_of Transmit = codes "transmit" ∷ []
-words_of (Make carrier n) = codes "make" ∷ decimal n ∷ carrier_words carrier
-words_of (Tunes tune) = tune_words tune
+-- a report: its command, and the rule of its list
+abbrev pub report_words : Report → List (List ℕ)
+report_words Hits = codes "hits" ∷ []
+report_words Ids = codes "ids" ∷ []
+report_words (Search rule) = codes "search" ∷ rule_words rule
+report_words Evidence = codes "evidence" ∷ []
+report_words Tell = codes "tell" ∷ []
+
+-- a turn: one that is told has none
+abbrev pub turn_words : Turn → List (List ℕ)
+turn_words AsTold = []
+turn_words (Steps m) = signed_decimal m ∷ []
+
+-- a page has a word, and others for the same
+abbrev pub ArePageWords : Page → List (List ℕ) → Type 0
+ArePageWords Help words =
+    (words ≡ codes "help" ∷ []) ⊎ (words ≡ codes "--help" ∷ []) ⊎ (words ≡ codes "-h" ∷ [])
+ArePageWords Version words = (words ≡ codes "version" ∷ []) ⊎ (words ≡ codes "--version" ∷ [])
+
+-- the words are those of a form
+abbrev pub AreWordsOf : Form → List (List ℕ) → Type 0
+AreWordsOf (Reports report output form) words = words ≡ report_words report ++ told_words output form
+AreWordsOf (Certify form) words = words ≡ codes "certify" ∷ samples_words form
+AreWordsOf Check words = words ≡ codes "check" ∷ []
+AreWordsOf Transmit words = words ≡ codes "transmit" ∷ []
+AreWordsOf (Make carrier n) words = words ≡ codes "make" ∷ decimal n ∷ carrier_words carrier
+AreWordsOf (Apply turn form) words = words ≡ codes "apply" ∷ turn_words turn ++ samples_words form
+AreWordsOf (Print program page) words = ArePageWords page words
 
 -- a turn that can be asked for
 abbrev pub IsTurn : ℤ → Type 0
 IsTurn m = (negsuc 2047 ≤ℤ m) × (m ≤ℤ pos 2047)
 
+abbrev pub IsAskedTurn : Turn → Type 0
+IsAskedTurn AsTold = Unit {0}
+IsAskedTurn (Steps m) = IsTurn m
+
 -- the number of a form is one of 32 bits, or a turn
 abbrev pub IsInRange : Form → Type 0
 IsInRange (Make carrier n) = n < 2 ^ 32
-IsInRange (Tunes (ApplyTurn m)) = IsTurn m
+IsInRange (Apply turn form) = IsAskedTurn turn
 IsInRange form = Unit {0}
 
--- the form is one of the program
-abbrev pub IsFormOf : Program → Form → Type 0
-IsFormOf Receiver (Tunes tune) = ⊥
-IsFormOf Receiver form = Unit {0}
-IsFormOf Tuner (Tunes tune) = Unit {0}
-IsFormOf Tuner form = ⊥
+-- the program of a form
+abbrev pub program_of : Form → Program
+program_of (Reports Tell output form) = Tuner
+program_of (Apply turn form) = Tuner
+program_of (Print program page) = program
+program_of form = Receiver
 
 -- the words are those of this form of the program
 pub record IsWordsOf (program : Program) (words : List (List ℕ)) (form : Form) : Type 0 where
-  pub known : IsFormOf program form
-  pub words_are : words ≡ words_of form
+  pub known : program_of form ≡ program
+  pub words_are : AreWordsOf form words
   pub in_range : IsInRange form
 
 -- the words are those of no form of the program
@@ -106,13 +130,13 @@ pub data Input : Type 0 where
   description : Input
 
 abbrev pub input_of : Form → Input
-input_of (Reports report form) = recording form
+input_of (Reports report output form) = recording form
 input_of (Certify form) = recording form
 input_of Check = certificates
 input_of Transmit = description
 input_of (Make carrier n) = nothing
-input_of (Searches search) = recording Ci16
-input_of (Tunes tune) = recording Ci16
+input_of (Apply turn form) = recording form
+input_of (Print program page) = nothing
 
 -- the most bytes that are read
 abbrev pub limit_of : Input → ℕ
@@ -164,13 +188,13 @@ pub record IsValid (input : Input) (bytes : List ℕ) : Type 0 where
 
 -- what a form writes for valid bytes
 abbrev pub IsOutput : Form → List ℕ → List ℕ → Type 0
-IsOutput (Reports report form) bytes output = IsReport report (samples_in form bytes) output
-IsOutput (Certify form) bytes output = IsCertified (samples_in form bytes) output
-IsOutput Check bytes output = IsChecked bytes output
-IsOutput Transmit bytes output = IsTransmitted bytes output
-IsOutput (Make carrier n) bytes output = IsMadeText carrier n output
-IsOutput (Searches search) bytes output = IsSearch search (samples_in Ci16 bytes) output
-IsOutput (Tunes tune) bytes output = IsTuned tune (samples_in Ci16 bytes) output
+IsOutput (Reports report output form) bytes written = IsReport report output (samples_in form bytes) written
+IsOutput (Certify form) bytes written = IsCertified (samples_in form bytes) written
+IsOutput Check bytes written = IsChecked bytes written
+IsOutput Transmit bytes written = IsTransmitted bytes written
+IsOutput (Make carrier n) bytes written = IsMadeText carrier n written
+IsOutput (Apply turn form) bytes written = IsTurnedAsBytes turn (samples_in form bytes) written
+IsOutput (Print program page) bytes written = written ≡ page_text program page
 
 -- ---- exit codes
 

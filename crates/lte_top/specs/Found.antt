@@ -13,6 +13,9 @@ use Rattle.report.specs.Lines.{place_part, block_part, sib1_lines}
 use Rattle.report.specs.Pieces.{IsPiece}
 use Rattle.lte_top.specs.declared.form.Form.TheVariants.{Report as Reports, Transmit}
 use Rattle.lte_top.specs.declared.form.Report.TheVariants.{Search}
+use Rattle.lte_top.specs.declared.form.Rule.TheVariants.{Of}
+use Rattle.lte_top.specs.declared.form.Output.TheVariants.{Text}
+use Rattle.lte_types.specs.declared.carrier.Carrier.TheVariants.{OnePort}
 use Rattle.lte_top.specs.Forms.{IsOutput}
 
 -- the line of a sent cell: its identity, where its first frame begins, that frame's number, one antenna port, and its
@@ -38,4 +41,4 @@ pub record IsFoundIn (description : List ℕ) (samples : List Sample) (text : Li
 -- for it has the cell's lines
 abbrev pub WhatIsSentIsFound : Type 0
 WhatIsSentIsFound = (description sent text : List ℕ) → IsOutput Transmit description sent →
-    IsOutput (Reports Search Ci16) sent text → IsFoundIn description (samples_of sent) text
+    IsOutput (Reports (Search (Of OnePort)) Text Ci16) sent text → IsFoundIn description (samples_of sent) text

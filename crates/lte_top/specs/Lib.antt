@@ -1,7 +1,9 @@
 pub mod Certificates
 pub mod Transmitting
-pub mod Reports
+pub mod Line
 pub mod Searching
+pub mod Reports
+pub mod Pages
 pub mod Tuning
 pub mod Making
 pub mod Forms

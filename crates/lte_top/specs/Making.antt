@@ -20,8 +20,7 @@ use Rattle.lte_top.specs.declared.making.SentCell.{SentCell}
 use Rattle.lte_types.specs.declared.carrier.Carrier.{Carrier}
 use Rattle.lte_types.specs.declared.carrier.Carrier.TheVariants.{OnePort, TwoPorts, LongPrefix as Long}
 use Rattle.lte_types.specs.Carrier.{ports_of}
-use Rattle.clean_air.specs.Clean.{IsListOfCells}
-use Rattle.lte_top.specs.Searching.{IsListOfTwo, IsListOfLong}
+use Rattle.lte_top.specs.Searching.{IsListOf}
 
 -- so many members of a list have a property
 unfoldable pub Counts : {A : Type 0} → (A → Type 0) → List A → ℕ → Type 0
@@ -84,12 +83,6 @@ abbrev pub AreSamplesOf : Carrier → ℕ → List Sample → Type 0
 AreSamplesOf OnePort n = AreMade (IsMade n) (λ (made : Made). made.recording)
 AreSamplesOf TwoPorts n = AreMade (IsMadeOfTwo n) (λ (made : TwoMade). made.recording)
 AreSamplesOf Long n = AreMade (IsMadeLong n) (λ (made : LongMade). made.recording)
-
--- the list that tells such a cell
-abbrev pub IsListOf : Carrier → List Sample → List Entry → Type 0
-IsListOf OnePort = IsListOfCells
-IsListOf TwoPorts = IsListOfTwo
-IsListOf Long = IsListOfLong
 
 -- the list of recording number n
 pub record IsMadeList (carrier : Carrier) (n : ℕ) (entries : List Entry) : Type 0 where

@@ -1,5 +1,5 @@
 -- The reports about a recording. (own)
-use Rattle.std.specs.Prelude.{◌≡◌, ℕ, List, ◌++◌, map, codes}
+use Rattle.std.specs.Prelude.{◌≡◌, ℕ, List, map}
 use Rattle.std.specs.List.{AllZip}
 use Rattle.cs_num.specs.declared.Sample.{Sample}
 use Rattle.lte_types.specs.declared.entry.Entry.{Entry}
@@ -13,10 +13,19 @@ use Rattle.evidence.specs.Evidence.{IsEvidence}
 use Rattle.report.specs.declared.hits.IdentifiedHit.{IdentifiedHit}
 use Rattle.report.specs.Evidence.{evidence_text}
 use Rattle.report.specs.Hits.{hits_text, ids_text}
-use Rattle.report.specs.Json.{json_text}
-use Rattle.report.specs.Lines.{report_text}
+use Rattle.report.specs.EvidenceJson.{evidence_json}
+use Rattle.report.specs.HitsJson.{hits_json, ids_json}
 use Rattle.lte_top.specs.declared.form.Report.{Report}
-use Rattle.lte_top.specs.declared.form.Report.TheVariants.{Hits, Ids, Search, Json, Evidence}
+use Rattle.lte_top.specs.declared.form.Report.TheVariants.{Hits, Ids, Search, Evidence, Tell}
+use Rattle.lte_top.specs.declared.form.Output.{Output}
+use Rattle.lte_top.specs.declared.form.Output.TheVariants.{Text, Json}
+use Rattle.pss_search.specs.Correlation.{wave_power}
+use Rattle.turning.specs.AsJson.{IsTellJson}
+use Rattle.turning.specs.Texts.{IsTellText}
+use Rattle.report.specs.declared.measured.MeasuredHit.{MeasuredHit}
+use Rattle.report.specs.declared.measured.MeasuredId.{MeasuredId}
+use Rattle.lte_top.specs.Line.{as_line, IsLine}
+use Rattle.lte_top.specs.Searching.{IsSearch}
 use Rattle.clean_air.specs.Clean.{IsListOfCells}
 
 -- a hit of a recording with the identity of its cell, the half that it stands in, and where a frame begins
@@ -28,28 +37,49 @@ identified samples hit = record {
   start = start_of hit.t (identity_of samples hit).1;
 }
 
--- a list of the recording by this rule, as this text
-pub record IsTextOfList (IsListOf : List Sample → List Entry → Type 0) (text_of : List Entry → List ℕ) (samples : List Sample) (output : List ℕ) : Type 0 where
-  pub entries : List Entry
-  pub is_list : IsListOf samples entries
-  pub text : output ≡ text_of entries
+-- a hit with the numbers of its metric, and the same with its identity
+abbrev pub measured : Hit → MeasuredHit
+measured hit = record { hit = hit; peak = hit.peak; energy = hit.energy; power = wave_power hit.n2 }
 
--- the line of a list as JSON
-abbrev pub json_line : List Entry → List ℕ
-json_line entries = json_text entries ++ codes "\n"
+abbrev pub measured_id : List Sample → Hit → MeasuredId
+measured_id samples hit = record {
+  found = identified samples hit;
+  peak = hit.peak;
+  energy = hit.energy;
+  power = wave_power hit.n2;
+}
 
--- what supports each entry of a list of the recording, in its order, as text
-pub record IsTextOfEvidence (samples : List Sample) (output : List ℕ) : Type 0 where
+-- ---- each report
+
+abbrev pub IsHits : Output → List Sample → List ℕ → Type 0
+IsHits Text samples text = text ≡ hits_text (hits_of samples)
+IsHits Json samples text = text ≡ as_line (hits_json (map measured (hits_of samples)))
+
+abbrev pub IsIds : Output → List Sample → List ℕ → Type 0
+IsIds Text samples text = text ≡ ids_text (map (identified samples) (hits_of samples))
+IsIds Json samples text = text ≡ as_line (ids_json (map (measured_id samples) (hits_of samples)))
+
+abbrev pub supports_text : Output → List Numbers → List ℕ
+supports_text Text told = evidence_text told
+supports_text Json told = as_line (evidence_json told)
+
+-- what supports each entry of the list of the recording, in its order, as text
+pub record IsTextOfEvidence (output : Output) (samples : List Sample) (text : List ℕ) : Type 0 where
   pub entries : List Entry
   pub is_list : IsListOfCells samples entries
   pub told : List Numbers
   pub each : AllZip (IsEvidence samples) entries told
-  pub text : output ≡ evidence_text told
+  pub text_is : text ≡ supports_text output told
+
+-- what is told of the frequency offset
+abbrev pub IsTelling : Output → List Sample → List ℕ → Type 0
+IsTelling Text samples text = IsTellText samples text
+IsTelling Json samples text = IsLine (IsTellJson samples) text
 
 -- the text of a report
-abbrev pub IsReport : Report → List Sample → List ℕ → Type 0
-IsReport Hits samples output = output ≡ hits_text (hits_of samples)
-IsReport Ids samples output = output ≡ ids_text (map (identified samples) (hits_of samples))
-IsReport Search samples output = IsTextOfList IsListOfCells report_text samples output
-IsReport Json samples output = IsTextOfList IsListOfCells json_line samples output
-IsReport Evidence samples output = IsTextOfEvidence samples output
+abbrev pub IsReport : Report → Output → List Sample → List ℕ → Type 0
+IsReport Hits output samples text = IsHits output samples text
+IsReport Ids output samples text = IsIds output samples text
+IsReport (Search rule) output samples text = IsSearch rule output samples text
+IsReport Evidence output samples text = IsTextOfEvidence output samples text
+IsReport Tell output samples text = IsTelling output samples text

@@ -6,7 +6,8 @@ ghost use Rattle.lte_top.specs.Forms.{certificates};
 ghost use Rattle.lte_top.specs.Run.{Cause, HasOutput, IsDone, Ends};
 ghost use Rattle.lte_top.specs.declared.form.Form.TheVariants.{Certify, Check};
 
-use crate::reporting::{recording_of, room_for_list};
+use crate::reporting::recording_of;
+use crate::searching::room_for_list;
 use crate::status::Status;
 use cert_stream::{CertificateWork, certify, read_answers};
 use clean_air::explain_clean;

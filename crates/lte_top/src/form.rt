@@ -1,9 +1,12 @@
 //! The forms of words that are run.
 
-ghost use Rattle.std.specs.Prelude.{IfSome, IsNone};
+ghost use Rattle.std.specs.Prelude.{IfSome, IsNone, map, string_bytes};
 ghost use Rattle.lte_top.specs.Forms.{IsWordsOf, IsNoForm};
 ghost use Rattle.lte_top.specs.declared.form.Program.TheVariants.{Receiver, Tuner};
 
+use crate::parts::{
+    is_only, made_after, page_of, samples_after, searched_after, told_after, turned_after,
+};
 use crate::words::Words;
 use lte_types::Carrier;
 use sample_file::SampleForm;
@@ -17,26 +20,24 @@ pub enum Program {
     Tuner,
 }
 
-/// A form of words. What is said of a recording may be said of one in either form of samples: the words
-/// `--format cu8` after the others name 8-bit numbers, and without them they are of 16 bits. Where no form of
-/// samples is named below, they are of 16 bits.
+/// A form of words: a command, the rule of its list, the output, and the form of samples that is read, each named by
+/// words after those before it. The words `--format cu8` name 8-bit numbers, and without them they are of 16 bits.
 #[derive(Clone, Copy, PartialEq, Eq)]
 pub enum Form {
     /// A report about a recording of samples in a form.
-    Report(Report, SampleForm),
-    /// The list of cells of a recording by another rule.
-    Search(Search),
+    Report(Report, Output, SampleForm),
     /// `certify`: a certificate for each master block of the list of a recording.
     Certify(SampleForm),
     /// `check`: an answer to each of the certificates that are read.
     Check,
     /// `transmit`: the samples of a described cell.
     Transmit,
-    /// `make N`: the list of recording number N, made of a cell with one antenna port, with two by the words
-    /// `--ports 2` after it, or with the extended cyclic prefix by `--prefix long`.
+    /// `make N`: the list of recording number N, made of a cell of this carrier.
     Make(Carrier, u32),
-    /// What the second program does with a recording.
-    Tune(Tune),
+    /// `apply`: a turned recording, as 16-bit numbers.
+    Apply(Turn, SampleForm),
+    /// A page about a program.
+    Print(Program, Page),
 }
 
 /// A report about a recording.
@@ -46,34 +47,51 @@ pub enum Report {
     Hits,
     /// `ids`: the same with the identity and the frame start that each tells.
     Ids,
-    /// `search`: the list of cells.
-    Search,
-    /// `search --json`: the same as JSON.
-    Json,
+    /// `search`: the list of cells by a rule.
+    Search(Rule),
     /// `evidence`: what supports each cell of the list.
     Evidence,
-}
-
-/// A list of cells by another rule than that of `search`.
-#[derive(Clone, Copy, PartialEq, Eq)]
-pub enum Search {
-    /// `search --ports 2`: cells with two antenna ports.
-    TwoPorts,
-    /// `search --prefix long`: cells with the extended cyclic prefix.
-    LongPrefix,
-    /// `search --cancel`: the list, and those of what is left where a cell of it is taken off.
-    Cancel,
-}
-
-/// What is done with the frequency offset of a recording.
-#[derive(Clone, Copy, PartialEq, Eq)]
-pub enum Tune {
-    /// `tell`: it is told.
+    /// `tell`: the frequency offset.
     Tell,
-    /// `apply`: it is taken off.
-    Apply,
+}
+
+/// The rule of a list of cells.
+#[derive(Clone, Copy, PartialEq, Eq)]
+pub enum Rule {
+    /// The cells of a carrier: those with one antenna port, with two by `--ports 2`, or with the extended cyclic prefix
+    /// by `--prefix long`.
+    Of(Carrier),
+    /// `--cancel`: the list, and those of what is left where a cell of it is taken off.
+    Cancel,
+    /// `--all`: the lists of every carrier.
+    All,
+}
+
+/// What a report is written as.
+#[derive(Clone, Copy, PartialEq, Eq)]
+pub enum Output {
+    /// Lines of text.
+    Text,
+    /// `--json`: a line of JSON.
+    Json,
+}
+
+/// How a recording is turned.
+#[derive(Clone, Copy, PartialEq, Eq)]
+pub enum Turn {
+    /// `apply`: by what is told of it, so that its frequency offset is taken off.
+    AsTold,
     /// `apply M`: its mean is taken off, and it is turned by so many steps of 117.1875 Hz, -2,048 to 2,047.
-    ApplyTurn(i16),
+    Steps(i16),
+}
+
+/// A page about a program.
+#[derive(Clone, Copy, PartialEq, Eq)]
+pub enum Page {
+    /// `help`, also `--help` and `-h`: its forms of words.
+    Help,
+    /// `version`, also `--version`: its version, and that of the definition of a list.
+    Version,
 }
 
 impl Form {
@@ -83,52 +101,50 @@ impl Form {
         ensures none { IsNone result → IsNoForm program words.now }
     {
         match program {
-            Program::Receiver => Form::of_receiver(words),
-            Program::Tuner => Form::of_tuner(words),
+            Program::Receiver => of_receiver(words.texts()),
+            Program::Tuner => of_tuner(words.texts()),
         }
     }
+}
 
-    // The form of the receiver.
-    fn of_receiver(words: &Words) -> Option<Form>
-        ensures some { IfSome result (IsWordsOf Receiver words.now) }
-        ensures none { IsNone result → IsNoForm Receiver words.now }
-    {
-        if let Some(samples) = words.samples_after("hits") {
-            Some(Form::Report(Report::Hits, samples))
-        } else if let Some(samples) = words.samples_after("ids") {
-            Some(Form::Report(Report::Ids, samples))
-        } else if let Some(samples) = words.samples_after("search") {
-            Some(Form::Report(Report::Search, samples))
-        } else if let Some(samples) = words.samples_after_both("search", "--json") {
-            Some(Form::Report(Report::Json, samples))
-        } else if let Some(samples) = words.samples_after("evidence") {
-            Some(Form::Report(Report::Evidence, samples))
-        } else if let Some(search) = words.search_after("search") {
-            Some(Form::Search(search))
-        } else if let Some(samples) = words.samples_after("certify") {
-            Some(Form::Certify(samples))
-        } else if words.is_one("check") {
-            Some(Form::Check)
-        } else if words.is_one("transmit") {
-            Some(Form::Transmit)
-        } else {
-            let (carrier, n) = words.made_after("make")?;
-            Some(Form::Make(carrier, n))
-        }
+// The form of the receiver.
+fn of_receiver(words: &[String]) -> Option<Form>
+    ensures some { IfSome result (IsWordsOf Receiver (map string_bytes words.now)) }
+    ensures none { IsNone result → IsNoForm Receiver (map string_bytes words.now) }
+{
+    if let Some((output, samples)) = told_after(words, "hits") {
+        Some(Form::Report(Report::Hits, output, samples))
+    } else if let Some((output, samples)) = told_after(words, "ids") {
+        Some(Form::Report(Report::Ids, output, samples))
+    } else if let Some((rule, output, samples)) = searched_after(words, "search") {
+        Some(Form::Report(Report::Search(rule), output, samples))
+    } else if let Some((output, samples)) = told_after(words, "evidence") {
+        Some(Form::Report(Report::Evidence, output, samples))
+    } else if let Some(samples) = samples_after(words, "certify") {
+        Some(Form::Certify(samples))
+    } else if is_only(words, "check") {
+        Some(Form::Check)
+    } else if is_only(words, "transmit") {
+        Some(Form::Transmit)
+    } else if let Some((carrier, n)) = made_after(words, "make") {
+        Some(Form::Make(carrier, n))
+    } else {
+        let page = page_of(words)?;
+        Some(Form::Print(Program::Receiver, page))
     }
+}
 
-    // The form of the tuner.
-    fn of_tuner(words: &Words) -> Option<Form>
-        ensures some { IfSome result (IsWordsOf Tuner words.now) }
-        ensures none { IsNone result → IsNoForm Tuner words.now }
-    {
-        if words.is_one("tell") {
-            Some(Form::Tune(Tune::Tell))
-        } else if words.is_one("apply") {
-            Some(Form::Tune(Tune::Apply))
-        } else {
-            let turn = words.turn_after("apply")?;
-            Some(Form::Tune(Tune::ApplyTurn(turn)))
-        }
+// The form of the tuner.
+fn of_tuner(words: &[String]) -> Option<Form>
+    ensures some { IfSome result (IsWordsOf Tuner (map string_bytes words.now)) }
+    ensures none { IsNone result → IsNoForm Tuner (map string_bytes words.now) }
+{
+    if let Some((output, samples)) = told_after(words, "tell") {
+        Some(Form::Report(Report::Tell, output, samples))
+    } else if let Some((turn, samples)) = turned_after(words, "apply") {
+        Some(Form::Apply(turn, samples))
+    } else {
+        let page = page_of(words)?;
+        Some(Form::Print(Program::Tuner, page))
     }
 }

@@ -3,8 +3,7 @@
 ghost use Rattle.std.specs.Prelude.{◌≡◌, ◌↔◌, ◌≤◌, IfOk, IsTrue, length, string_bytes};
 ghost use Rattle.lte_top.specs.Making.{Counts, IsSentCell, TellsHeld, told_of, cell_of, IsMadeList, IsMadeText};
 
-use crate::reporting::list_of;
-use crate::searching::{list_of_long, list_of_two};
+use crate::searching::list_of;
 use capture_make::{plan, timing};
 use explain::EntryList;
 use lte_types::{
@@ -39,9 +38,9 @@ fn made_list(alloc: Global, carrier: Carrier, n: u32) -> Result<EntryList, Alloc
     ensures { IfOk result (IsMadeList carrier n) }
 {
     match carrier {
-        Carrier::OnePort => list_of(alloc, &capture_make::make(alloc, n)?.recording),
-        Carrier::TwoPorts => list_of_two(alloc, &two_tx::make(alloc, n)?.recording),
-        Carrier::LongPrefix => list_of_long(alloc, &long_prefix::make(alloc, n)?.recording),
+        Carrier::OnePort => list_of(alloc, carrier, &capture_make::make(alloc, n)?.recording),
+        Carrier::TwoPorts => list_of(alloc, carrier, &two_tx::make(alloc, n)?.recording),
+        Carrier::LongPrefix => list_of(alloc, carrier, &long_prefix::make(alloc, n)?.recording),
     }
 }
 

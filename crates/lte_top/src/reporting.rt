@@ -5,41 +5,46 @@ ghost use Rattle.cs_outside.specs.Outside.{SourceTold};
 ghost use Rattle.sample_file.specs.Reading.{HasReadRecording};
 ghost use Rattle.sample_file.specs.Recording.{IsRecording};
 ghost use Rattle.pss_search.specs.Hits.{IsInSpan, hits_of as all_hits};
-ghost use Rattle.report.specs.Hits.{ids_text};
-ghost use Rattle.report.specs.Lines.{report_text as list_text};
-ghost use Rattle.clean_air.specs.Clean.{IsListOfCells};
+ghost use Rattle.pss_search.specs.Laws.{IsHitOf};
 ghost use Rattle.lte_top.specs.Forms.{recording};
-ghost use Rattle.lte_top.specs.Reports.{identified, json_line, IsReport, IsTextOfList, IsTextOfEvidence};
+ghost use Rattle.lte_top.specs.Line.{as_line};
+ghost use Rattle.lte_top.specs.Reports.{identified, supports_text, IsHits, IsIds, IsReport, IsTelling, IsTextOfEvidence};
 ghost use Rattle.lte_top.specs.Run.{Cause, HasOutput};
 ghost use Rattle.lte_top.specs.declared.form.Form.TheVariants.{Report as Reports};
 
-use crate::form::Report;
+use crate::form::{Output, Report};
+use crate::measuring::{measured_hits, measured_ids};
+use crate::searching::{room_for_list, search_text};
 use crate::status::Status;
 use clean_air::explain_clean;
 use cs_outside::Source;
 use evidence::evidence_of_list;
-use explain::{EntryList, Workspace};
-use lte_types::Hit;
+use lte_types::{Evidence, Hit};
 use pss_search::{HitList, hits};
-use report::{IdentifiedHit, json, text, text_of_evidence, text_of_hits, text_of_ids};
+use report::{
+    IdentifiedHit, json_of_evidence, json_of_hits, json_of_ids, text_of_evidence, text_of_hits,
+    text_of_ids,
+};
 use sample_file::{Recording, SampleForm, read_as};
 use sss_detect::{cell_id, frame_start, identity};
 use std::alloc::{AllocError, Global};
+use turning::{tell_json, tell_text};
 
 // The text of a report about the recording of a source, which is read to its end.
 pub(crate) fn report_text<S: Source>(
     alloc: Global,
     report: Report,
+    output: Output,
     form: SampleForm,
     source: &mut S,
 ) -> Result<String, Status>
     ensures ok { IfOk result (λ text.
-        HasOutput (Reports report form) (string_bytes text) (S.told source.old) (S.told source.new)) }
+        HasOutput (Reports report output form) (string_bytes text) (S.told source.old) (S.told source.new)) }
     ensures err { IfErr result (Cause (recording form) (S.told source.old) (S.told source.new)) }
     ensures never_falls { (S.told source.old).faults ≤ (S.told source.new).faults }
 {
     let recording = recording_of(alloc, form, source)?;
-    let text = text_of_report(alloc, report, &recording)?;
+    let text = text_of_report(alloc, report, output, &recording)?;
     Ok(text)
 }
 
@@ -62,17 +67,53 @@ pub(crate) fn recording_of<S: Source>(
 fn text_of_report(
     alloc: Global,
     report: Report,
+    output: Output,
     recording: &Recording,
 ) -> Result<String, AllocError>
     requires { IsRecording recording.now }
-    ensures { IfOk result (λ text. IsReport report recording.now (string_bytes text)) }
+    ensures { IfOk result (λ text. IsReport report output recording.now (string_bytes text)) }
 {
     match report {
-        Report::Hits => text_of_hits(alloc, hits_of(alloc, recording)?.slice()),
-        Report::Ids => ids_of(alloc, recording, hits_of(alloc, recording)?.slice()),
-        Report::Search => text_of_list(alloc, recording),
-        Report::Json => json_of_list(alloc, recording),
-        Report::Evidence => evidence_text(alloc, recording),
+        Report::Hits => hits_text(alloc, output, recording),
+        Report::Ids => ids_text(alloc, output, recording),
+        Report::Search(rule) => search_text(alloc, rule, output, recording),
+        Report::Evidence => evidence_text(alloc, output, recording),
+        Report::Tell => told_text(alloc, output, recording),
+    }
+}
+
+// ---- hits
+
+// The text of the hits of a recording.
+fn hits_text(alloc: Global, output: Output, recording: &Recording) -> Result<String, AllocError>
+    requires { IsRecording recording.now }
+    ensures { IfOk result (λ text. IsHits output recording.now (string_bytes text)) }
+{
+    let list = hits_of(alloc, recording)?;
+    match output {
+        Output::Text => text_of_hits(alloc, list.slice()),
+        Output::Json => {
+            let hits = measured_hits(alloc, recording, list.slice())?;
+            line_of(json_of_hits(alloc, &hits)?)
+        }
+    }
+}
+
+// The text of the hits of a recording with their identities.
+fn ids_text(alloc: Global, output: Output, recording: &Recording) -> Result<String, AllocError>
+    requires { IsRecording recording.now }
+    ensures { IfOk result (λ text. IsIds output recording.now (string_bytes text)) }
+{
+    let list = hits_of(alloc, recording)?;
+    match output {
+        Output::Text => {
+            let found = ids_of(alloc, recording, list.slice())?;
+            text_of_ids(alloc, &found)
+        }
+        Output::Json => {
+            let found = measured_ids(alloc, recording, list.slice())?;
+            line_of(json_of_ids(alloc, &found)?)
+        }
     }
 }
 
@@ -81,27 +122,32 @@ fn hits_of(alloc: Global, recording: &Recording) -> Result<HitList, AllocError>
     requires { IsRecording recording.now }
     ensures list { IfOk result (λ list. list ≡ all_hits recording.now) }
     ensures span { IfOk result (λ list. All IsInSpan list) }
+    ensures each { IfOk result (All (IsHitOf recording.now)) }
 {
     let mut list = HitList::new(alloc)?;
     hits(recording, &mut list);
     Ok(list)
 }
 
-// The text of hits of a recording with their identities.
-fn ids_of(alloc: Global, recording: &Recording, hits: &[Hit]) -> Result<String, AllocError>
+// Hits of a recording with their identities.
+fn ids_of(
+    alloc: Global,
+    recording: &Recording,
+    hits: &[Hit],
+) -> Result<Vec<IdentifiedHit>, AllocError>
     requires recording { IsRecording recording.now }
     requires span { All IsInSpan hits.now }
-    ensures { IfOk result (λ text. string_bytes text ≡ ids_text (map (identified recording.now) hits.now)) }
+    ensures { IfOk result (λ found. found.items ≡ map (identified recording.now) hits.now) }
 {
     let mut found = Vec::with_capacity(alloc, hits.len())?;
     for hit in hits {
         found.push(identity_of(recording, hit))?;
     }
-    text_of_ids(alloc, &found)
+    Ok(found)
 }
 
 // A hit of a recording with what it tells of its cell.
-fn identity_of(recording: &Recording, hit: &Hit) -> IdentifiedHit
+pub(crate) fn identity_of(recording: &Recording, hit: &Hit) -> IdentifiedHit
     requires recording { IsRecording recording.now }
     requires span { IsInSpan hit.now }
     ensures { result ≡ identified recording.now hit.now }
@@ -115,47 +161,47 @@ fn identity_of(recording: &Recording, hit: &Hit) -> IdentifiedHit
     }
 }
 
-// The text of the list of a recording.
-fn text_of_list(alloc: Global, recording: &Recording) -> Result<String, AllocError>
-    ensures { IfOk result (λ text.
-        IsTextOfList IsListOfCells list_text recording.now (string_bytes text)) }
-{
-    let list = list_of(alloc, recording)?;
-    text(alloc, list.slice())
-}
-
-fn json_of_list(alloc: Global, recording: &Recording) -> Result<String, AllocError>
-    ensures { IfOk result (λ line.
-        IsTextOfList IsListOfCells json_line recording.now (string_bytes line)) }
-{
-    let list = list_of(alloc, recording)?;
-    let mut line = json(alloc, list.slice())?;
-    line.push_str("\n")?;
-    Ok(line)
-}
+// ---- evidence
 
 // The text of what supports each entry of the list of a recording.
-fn evidence_text(alloc: Global, recording: &Recording) -> Result<String, AllocError>
-    ensures { IfOk result (λ text. IsTextOfEvidence recording.now (string_bytes text)) }
+fn evidence_text(alloc: Global, output: Output, recording: &Recording) -> Result<String, AllocError>
+    ensures { IfOk result (λ text. IsTextOfEvidence output recording.now (string_bytes text)) }
 {
     let (mut work, mut list) = room_for_list(alloc)?;
     explain_clean(recording, &mut work, &mut list);
     let told = evidence_of_list(alloc, recording, list.slice(), work.readings())?;
-    text_of_evidence(alloc, &told)
+    text_of_supports(alloc, output, &told)
 }
 
-// The list of a recording.
-pub(crate) fn list_of(alloc: Global, recording: &Recording) -> Result<EntryList, AllocError>
-    ensures { IfOk result (IsListOfCells recording.now) }
+// The text of what supports the entries of a list.
+fn text_of_supports(alloc: Global, output: Output, told: &[Evidence]) -> Result<String, AllocError>
+    ensures { IfOk result (λ text. string_bytes text ≡ supports_text output told.now) }
 {
-    let (mut work, mut list) = room_for_list(alloc)?;
-    explain_clean(recording, &mut work, &mut list);
-    Ok(list)
+    match output {
+        Output::Text => text_of_evidence(alloc, told),
+        Output::Json => line_of(json_of_evidence(alloc, told)?),
+    }
 }
 
-// The memory of a list and of the search for it.
-pub(crate) fn room_for_list(alloc: Global) -> Result<(Workspace, EntryList), AllocError> {
-    let work = Workspace::new(alloc)?;
-    let list = EntryList::new(alloc)?;
-    Ok((work, list))
+// ---- the frequency offset
+
+// The text of what is told of the frequency offset of a recording.
+fn told_text(alloc: Global, output: Output, recording: &Recording) -> Result<String, AllocError>
+    ensures { IfOk result (λ text. IsTelling output recording.now (string_bytes text)) }
+{
+    match output {
+        Output::Text => tell_text(alloc, recording),
+        Output::Json => line_of(tell_json(alloc, recording)?),
+    }
+}
+
+// ---- lines
+
+// A text as a line.
+pub(crate) fn line_of(text: String) -> Result<String, AllocError>
+    ensures { IfOk result (λ line. string_bytes line ≡ as_line (string_bytes text)) }
+{
+    let mut line = text;
+    line.push_str("\n")?;
+    Ok(line)
 }

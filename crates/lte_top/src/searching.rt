@@ -1,78 +1,97 @@
-//! The lists of a recording by other rules.
+//! The lists of a recording by every rule.
 
-ghost use Rattle.std.specs.Prelude.{◌≤◌, IfOk, IfErr, string_bytes};
-ghost use Rattle.cs_outside.specs.Outside.{SourceTold};
+ghost use Rattle.std.specs.Prelude.{◌≡◌, IfOk, string_bytes};
 ghost use Rattle.sample_file.specs.Recording.{IsRecording};
-ghost use Rattle.sample_file.specs.declared.form.SampleForm.TheVariants.{Ci16};
-ghost use Rattle.report.specs.Lines.{report_text as list_text};
-ghost use Rattle.lte_top.specs.declared.form.Form.TheVariants.{Search as Searches};
-ghost use Rattle.lte_top.specs.Forms.{recording};
-ghost use Rattle.lte_top.specs.Reports.{IsTextOfList};
-ghost use Rattle.lte_top.specs.Run.{Cause, HasOutput};
-ghost use Rattle.lte_top.specs.Searching.{IsListOfTwo, IsListOfLong, IsSearch};
+ghost use Rattle.clean_air.specs.Clean.{IsListOfCells};
+ghost use Rattle.lte_top.specs.Searching.{IsListOfTwo, IsListOfLong, IsListOf, IsListText, IsTextOfAll, IsCancelled, IsSearch, list_text as text_of, lists_text as texts_of};
 
-use crate::form::Search;
-use crate::reporting::recording_of;
-use crate::status::Status;
-use cs_outside::Source;
-use explain::EntryList;
+use crate::form::{Output, Rule};
+use crate::reporting::line_of;
+use clean_air::explain_clean;
+use explain::{EntryList, Workspace};
 use long_prefix::Workspace3;
-use report::text;
-use rounds::cancel_text;
-use sample_file::{Recording, SampleForm};
+use lte_types::{Carrier, Entry};
+use report::{json, json_of_all, text, text_of_all};
+use rounds::{cancel_json, cancel_text};
+use sample_file::Recording;
 use std::alloc::{AllocError, Global};
 use two_ports::Workspace2;
 
-// The text of a list of the recording of a source, which is read to its end.
-pub(crate) fn search_text<S: Source>(
+// The text of the list of a recording by a rule.
+pub(crate) fn search_text(
     alloc: Global,
-    search: Search,
-    source: &mut S,
-) -> Result<String, Status>
-    ensures ok { IfOk result (λ text.
-        HasOutput (Searches search) (string_bytes text) (S.told source.old) (S.told source.new)) }
-    ensures err { IfErr result (Cause (recording Ci16) (S.told source.old) (S.told source.new)) }
-    ensures never_falls { (S.told source.old).faults ≤ (S.told source.new).faults }
-{
-    let recording = recording_of(alloc, SampleForm::Ci16, source)?;
-    let text = text_of_search(alloc, search, &recording)?;
-    Ok(text)
-}
-
-// The text of a list of a recording.
-fn text_of_search(
-    alloc: Global,
-    search: Search,
+    rule: Rule,
+    output: Output,
     recording: &Recording,
 ) -> Result<String, AllocError>
     requires { IsRecording recording.now }
-    ensures { IfOk result (λ text. IsSearch search recording.now (string_bytes text)) }
+    ensures { IfOk result (λ text. IsSearch rule output recording.now (string_bytes text)) }
 {
-    match search {
-        Search::TwoPorts => text_of_two(alloc, recording),
-        Search::LongPrefix => text_of_long(alloc, recording),
-        Search::Cancel => cancel_text(alloc, recording),
+    match rule {
+        Rule::Of(carrier) => text_of_carrier(alloc, carrier, output, recording),
+        Rule::Cancel => text_of_rounds(alloc, output, recording),
+        Rule::All => text_of_each(alloc, output, recording),
     }
 }
 
-fn text_of_two(alloc: Global, recording: &Recording) -> Result<String, AllocError>
-    ensures { IfOk result (λ text.
-        IsTextOfList IsListOfTwo list_text recording.now (string_bytes text)) }
+// ---- the list of a carrier
+
+// The text of the list of a carrier.
+fn text_of_carrier(
+    alloc: Global,
+    carrier: Carrier,
+    output: Output,
+    recording: &Recording,
+) -> Result<String, AllocError>
+    ensures { IfOk result (λ text. IsListText carrier output recording.now (string_bytes text)) }
 {
-    let list = list_of_two(alloc, recording)?;
-    text(alloc, list.slice())
+    let list = list_of(alloc, carrier, recording)?;
+    list_text(alloc, output, list.slice())
 }
 
-fn text_of_long(alloc: Global, recording: &Recording) -> Result<String, AllocError>
-    ensures { IfOk result (λ text.
-        IsTextOfList IsListOfLong list_text recording.now (string_bytes text)) }
+// The text of a list.
+fn list_text(alloc: Global, output: Output, list: &[Entry]) -> Result<String, AllocError>
+    ensures { IfOk result (λ text. string_bytes text ≡ text_of output list.now) }
 {
-    let list = list_of_long(alloc, recording)?;
-    text(alloc, list.slice())
+    match output {
+        Output::Text => text(alloc, list),
+        Output::Json => line_of(json(alloc, list)?),
+    }
 }
 
-// The list of the cells of a recording with two antenna ports.
-pub(crate) fn list_of_two(alloc: Global, recording: &Recording) -> Result<EntryList, AllocError>
+// The list of the cells of a carrier in a recording.
+pub(crate) fn list_of(
+    alloc: Global,
+    carrier: Carrier,
+    recording: &Recording,
+) -> Result<EntryList, AllocError>
+    ensures { IfOk result (IsListOf carrier recording.now) }
+{
+    match carrier {
+        Carrier::OnePort => list_of_one(alloc, recording),
+        Carrier::TwoPorts => list_of_two(alloc, recording),
+        Carrier::LongPrefix => list_of_long(alloc, recording),
+    }
+}
+
+// That of the cells with one antenna port.
+fn list_of_one(alloc: Global, recording: &Recording) -> Result<EntryList, AllocError>
+    ensures { IfOk result (IsListOfCells recording.now) }
+{
+    let (mut work, mut list) = room_for_list(alloc)?;
+    explain_clean(recording, &mut work, &mut list);
+    Ok(list)
+}
+
+// The memory of that list and of the search for it.
+pub(crate) fn room_for_list(alloc: Global) -> Result<(Workspace, EntryList), AllocError> {
+    let work = Workspace::new(alloc)?;
+    let list = EntryList::new(alloc)?;
+    Ok((work, list))
+}
+
+// That of the cells with two antenna ports.
+fn list_of_two(alloc: Global, recording: &Recording) -> Result<EntryList, AllocError>
     ensures { IfOk result (IsListOfTwo recording.now) }
 {
     let mut work = Workspace2::new(alloc)?;
@@ -81,12 +100,55 @@ pub(crate) fn list_of_two(alloc: Global, recording: &Recording) -> Result<EntryL
     Ok(list)
 }
 
-// The list of its cells with the extended prefix.
-pub(crate) fn list_of_long(alloc: Global, recording: &Recording) -> Result<EntryList, AllocError>
+// That of the cells with the extended prefix.
+fn list_of_long(alloc: Global, recording: &Recording) -> Result<EntryList, AllocError>
     ensures { IfOk result (IsListOfLong recording.now) }
 {
     let mut work = Workspace3::new(alloc)?;
     let mut list = EntryList::new(alloc)?;
     long_prefix::explain_clean(recording, &mut work, &mut list);
     Ok(list)
+}
+
+// ---- further rules
+
+// The text of the lists of every carrier.
+fn text_of_each(alloc: Global, output: Output, recording: &Recording) -> Result<String, AllocError>
+    ensures { IfOk result (λ text. IsTextOfAll output recording.now (string_bytes text)) }
+{
+    let one = list_of(alloc, Carrier::OnePort, recording)?;
+    let two = list_of(alloc, Carrier::TwoPorts, recording)?;
+    let long = list_of(alloc, Carrier::LongPrefix, recording)?;
+    lists_text(alloc, output, one.slice(), two.slice(), long.slice())
+}
+
+// The text of three lists.
+fn lists_text(
+    alloc: Global,
+    output: Output,
+    one: &[Entry],
+    two: &[Entry],
+    long: &[Entry],
+) -> Result<String, AllocError>
+    ensures { IfOk result (λ text. string_bytes text ≡ texts_of output one.now two.now long.now) }
+{
+    match output {
+        Output::Text => text_of_all(alloc, one, two, long),
+        Output::Json => line_of(json_of_all(alloc, one, two, long)?),
+    }
+}
+
+// The text of the list, and of those of what is left where a cell of it is taken off.
+fn text_of_rounds(
+    alloc: Global,
+    output: Output,
+    recording: &Recording,
+) -> Result<String, AllocError>
+    requires { IsRecording recording.now }
+    ensures { IfOk result (λ text. IsCancelled output recording.now (string_bytes text)) }
+{
+    match output {
+        Output::Text => cancel_text(alloc, recording),
+        Output::Json => line_of(cancel_json(alloc, recording)?),
+    }
 }

@@ -12,11 +12,11 @@ ghost use Rattle.lte_top.specs.declared.status.Status.TheVariants.{WriteFault};
 use crate::certificates::{answers_text, certify_recording};
 use crate::form::{Form, Program};
 use crate::making::made_text;
+use crate::pages::page_text;
 use crate::reporting::report_text;
-use crate::searching::search_text;
 use crate::status::Status;
 use crate::transmitting::transmitted_bytes;
-use crate::tuning::tuned_bytes;
+use crate::tuning::turned_bytes;
 use crate::words::Words;
 use cs_outside::{Failed, MemSink, MemSource, Sink, Source, write_whole};
 use std::alloc::Global;
@@ -102,8 +102,8 @@ fn run_form<S: Source, K: Sink>(
     ensures writes { (K.told sink.old).faults ≤ (K.told sink.new).faults }
 {
     match form {
-        Form::Report(report, samples) => {
-            let text = report_text(alloc, report, samples, source)?;
+        Form::Report(report, output, samples) => {
+            let text = report_text(alloc, report, output, samples, source)?;
             write_output(sink, text.as_bytes())
         }
         Form::Certify(samples) => certify_recording(alloc, samples, source, sink),
@@ -119,13 +119,13 @@ fn run_form<S: Source, K: Sink>(
             let text = made_text(alloc, carrier, n)?;
             write_output(sink, text.as_bytes())
         }
-        Form::Search(search) => {
-            let text = search_text(alloc, search, source)?;
-            write_output(sink, text.as_bytes())
-        }
-        Form::Tune(tune) => {
-            let bytes = tuned_bytes(alloc, tune, source)?;
+        Form::Apply(turn, samples) => {
+            let bytes = turned_bytes(alloc, turn, samples, source)?;
             write_output(sink, &bytes)
+        }
+        Form::Print(program, page) => {
+            let text = page_text(alloc, program, page)?;
+            write_output(sink, text.as_bytes())
         }
     }
 }

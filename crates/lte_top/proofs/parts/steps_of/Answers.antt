@@ -6,7 +6,7 @@ use Rattle.std.specs.Int.Signed.{mag}
 use Rattle.std.proofs.lemmas.Fmt.{parse-signed_decimal}
 use Rattle.std.proofs.lemmas.Int.{ints, to_z-of_z}
 use Rattle.lte_top.specs.Forms.{IsTurn}
-use Rattle.lte_top.proofs.words.turn_of.Goals as goal
+use Rattle.lte_top.proofs.parts.steps_of.Goals as goal
 
 -- a turn is a number of 16 bits
 fits : (m : ℤ) → IsTurn m → FitsSigned w16 m
@@ -20,9 +20,9 @@ small (negsuc n) within = let low = within.0 in omega (arith, ints, low)
 pub returns-in-Ok-clause-none : goal.returns-in-Ok-clause-none
 returns-in-Ok-clause-none c none m within is =
     let read : c.parse.result ≡ Ok m = parse-signed_decimal w16 m c.args.text.now c.parse.result (fits m within) (small m within) is c.parse.ensures.value.0 in
-    let same : c.in-Ok.turn ≡ m = cc (sym c.in-Ok.is ∙ read) in
-    let told = to_z-of_z w16 c.in-Ok.turn (subst (FitsSigned w16) (sym same) (fits m within)) ∙ same in
-    c.exact_turn.ensures.none none (subst IsTurn (sym told) within) (is ∙ ap signed_decimal (sym told))
+    let same : c.in-Ok.m ≡ m = cc (sym c.in-Ok.is ∙ read) in
+    let told = to_z-of_z w16 c.in-Ok.m (subst (FitsSigned w16) (sym same) (fits m within)) ∙ same in
+    c.exact_steps.ensures.none none (subst IsTurn (sym told) within) (is ∙ ap signed_decimal (sym told))
 
 pub returns-in-Err-clause-none : goal.returns-in-Err-clause-none
 returns-in-Err-clause-none c none m within is =

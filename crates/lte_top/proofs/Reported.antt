@@ -1,0 +1,54 @@
+-- A recording has one text of each report, and is turned in one way.
+use Rattle.std.proofs.Common.{◌≡◌, ℕ, List, ap, sym, subst, ◌∙◌}
+use Rattle.std.specs.List.{AllZip}
+use Rattle.cs_num.specs.declared.Sample.{Sample}
+use Rattle.lte_types.specs.declared.carrier.Carrier.TheVariants.{OnePort}
+use Rattle.sample_file.specs.Recording.{bytes_of}
+use Rattle.evidence.specs.Evidence.{IsEvidence}
+use Rattle.evidence.proofs.Only.{one_for_each}
+use Rattle.turning.specs.AsJson.{telling_json, IsTellJson}
+use Rattle.turning.specs.Candidates.{taken_of}
+use Rattle.turning.specs.Texts.{told_text}
+use Rattle.turning.proofs.OneTold.{is_one_told, is_one_applied}
+use Rattle.lte_top.specs.declared.form.Report.{Report}
+use Rattle.lte_top.specs.declared.form.Report.TheVariants.{Hits, Ids, Search, Evidence, Tell}
+use Rattle.lte_top.specs.declared.form.Output.{Output}
+use Rattle.lte_top.specs.declared.form.Output.TheVariants.{Text, Json}
+use Rattle.lte_top.specs.declared.form.Turn.{Turn}
+use Rattle.lte_top.specs.declared.form.Turn.TheVariants.{AsTold, Steps}
+use Rattle.lte_top.specs.Reports.{supports_text, IsTextOfEvidence, IsTelling, IsHits, IsIds, IsReport}
+use Rattle.lte_top.specs.Tuning.{IsTurnedAsBytes}
+use Rattle.lte_top.proofs.Lists.{one_line, one_list, one_search}
+
+one_hits : (output : Output) (samples : List Sample) (first second : List ℕ) → IsHits output samples first → IsHits output samples second → first ≡ second
+one_hits Text samples first second a b = a ∙ sym b
+one_hits Json samples first second a b = a ∙ sym b
+
+one_ids : (output : Output) (samples : List Sample) (first second : List ℕ) → IsIds output samples first → IsIds output samples second → first ≡ second
+one_ids Text samples first second a b = a ∙ sym b
+one_ids Json samples first second a b = a ∙ sym b
+
+one_evidence_text : (output : Output) (samples : List Sample) (first second : List ℕ) → IsTextOfEvidence output samples first → IsTextOfEvidence output samples second → first ≡ second
+one_evidence_text output samples first second a b =
+    let same = one_list OnePort samples a.entries b.entries a.is_list b.is_list in
+    let told = one_for_each samples b.entries a.told b.told (subst (λ entries. AllZip (IsEvidence samples) entries a.told) same a.each) b.each in
+    a.text_is ∙ ap (supports_text output) told ∙ sym b.text_is
+
+one_tell_json : (samples : List Sample) (first second : List ℕ) → IsTellJson samples first → IsTellJson samples second → first ≡ second
+one_tell_json samples first second a b =
+    a.is_text ∙ ap (λ told. telling_json told (taken_of samples)) (is_one_told samples a.told b.told a.is_told b.is_told) ∙ sym b.is_text
+
+one_telling : (output : Output) (samples : List Sample) (first second : List ℕ) → IsTelling output samples first → IsTelling output samples second → first ≡ second
+one_telling Text samples first second a b = a.is_text ∙ ap told_text (is_one_told samples a.told b.told a.is_told b.is_told) ∙ sym b.is_text
+one_telling Json samples first second a b = one_line (IsTellJson samples) (one_tell_json samples) first second a b
+
+pub one_report : (report : Report) (output : Output) (samples : List Sample) (first second : List ℕ) → IsReport report output samples first → IsReport report output samples second → first ≡ second
+one_report Hits output samples first second a b = one_hits output samples first second a b
+one_report Ids output samples first second a b = one_ids output samples first second a b
+one_report (Search rule) output samples first second a b = one_search rule output samples first second a b
+one_report Evidence output samples first second a b = one_evidence_text output samples first second a b
+one_report Tell output samples first second a b = one_telling output samples first second a b
+
+pub one_turned : (turn : Turn) (samples : List Sample) (first second : List ℕ) → IsTurnedAsBytes turn samples first → IsTurnedAsBytes turn samples second → first ≡ second
+one_turned AsTold samples first second a b = a.bytes ∙ ap bytes_of (is_one_applied samples a.samples b.samples a.are b.are) ∙ sym b.bytes
+one_turned (Steps m) samples first second a b = a ∙ sym b

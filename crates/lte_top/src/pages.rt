@@ -1,0 +1,75 @@
+//! The pages about a program.
+
+ghost use Rattle.std.specs.Prelude.{◌≡◌, IfOk, string_bytes};
+ghost use Rattle.lte_top.specs.Pages.{name_of, help_text, version_after, page_text as page_of};
+
+use crate::form::{Page, Program};
+use crate::version::{DEFINITION, VERSION};
+use std::alloc::{AllocError, Global};
+use std::fmt::Write;
+
+// The forms of words of `lte_cli`.
+const RECEIVER_HELP: &str = "\
+usage: lte_cli COMMAND [RULE] [--json] [--format cu8] < INPUT > OUTPUT
+hits [--json] [--format cu8]: the places of primary synchronisation signals in a recording
+ids [--json] [--format cu8]: the same with the cell identity and the frame start that each tells
+search [RULE] [--json] [--format cu8]: the list of cells of a recording
+  --ports 2: of those with two antenna ports
+  --prefix long: of those with the extended cyclic prefix
+  --cancel: and the lists of what is left where a cell is taken off
+  --all: the lists of one antenna port, of two, and of the extended cyclic prefix
+evidence [--json] [--format cu8]: what supports each cell of the list
+certify [--format cu8]: a certificate for each cell of the list
+check: whether each of the certificates that are read is accepted
+transmit: the samples of the cell that is described
+make N [--ports 2 | --prefix long]: the list of recording number N, which is made and not read
+help, --help, -h: this page
+version, --version: the versions of the program and of its definition
+";
+
+// The forms of words of `lte_tune`.
+const TUNER_HELP: &str = "\
+usage: lte_tune COMMAND [--json] [--format cu8] < INPUT > OUTPUT
+tell [--json] [--format cu8]: the frequency offset of a recording
+apply [--format cu8]: the recording with this offset taken off, in 16-bit samples
+apply M [--format cu8]: the recording turned by M steps of 117.1875 Hz, in 16-bit samples
+help, --help, -h: this page
+version, --version: the versions of the program and of its definition
+";
+
+// The text of a page.
+pub(crate) fn page_text(alloc: Global, program: Program, page: Page) -> Result<String, AllocError>
+    ensures { IfOk result (λ text. string_bytes text ≡ page_of program page) }
+{
+    match page {
+        Page::Help => String::from_str(alloc, help(program)),
+        Page::Version => version_text(alloc, name(program)),
+    }
+}
+
+// The help of a program.
+fn help(program: Program) -> &'static str
+    ensures { result.now ≡ help_text program }
+{
+    match program {
+        Program::Receiver => RECEIVER_HELP,
+        Program::Tuner => TUNER_HELP,
+    }
+}
+
+// The name of a program.
+fn name(program: Program) -> &'static str
+    ensures { result.now ≡ name_of program }
+{
+    match program {
+        Program::Receiver => "lte_cli",
+        Program::Tuner => "lte_tune",
+    }
+}
+
+// The versions, after the name of a program.
+fn version_text(alloc: Global, name: &str) -> Result<String, AllocError>
+    ensures { IfOk result (λ text. string_bytes text ≡ version_after name.now) }
+{
+    format!(in alloc; "{name} {VERSION}\ndefinition {DEFINITION}\n")
+}
