@@ -1,44 +1,12 @@
 ghost use Rattle.std.specs.Prelude.{◌≤◌};
 
-use lte_types::{Mnc, Period, Plmn, Plmns, Schedule, SiMessage, Sib1, Sib1Reason, Sibs, Window};
+use lte_types::{Mnc, Period, Plmn, SiMessage, Sib1, Sib1Reason, Window};
 use sib1::{read, write};
 use std::test::Fail;
+use test_support::{message, plain_block};
 use uper::Writer;
 
-// One network 001/01 without options, and one entry of the schedule without blocks.
-fn example() -> Sib1 {
-    let mut plmns = Plmns::new();
-    plmns.push(Plmn {
-        mcc: Some([0, 0, 1]),
-        mnc: Mnc::Two([0, 1]),
-        reserved: false,
-    });
-    let mut scheduling = Schedule::new();
-    scheduling.push(SiMessage {
-        period: Period::Rf8,
-        sibs: Sibs::new(),
-    });
-    Sib1 {
-        plmns,
-        tac: 1,
-        cell: 1,
-        barred: false,
-        intra: true,
-        csg: false,
-        csg_identity: None,
-        q_rx: -70,
-        q_offset: None,
-        p_max: None,
-        band: 1,
-        scheduling,
-        tdd: None,
-        window: Window::Ms1,
-        tag: 0,
-        extended: false,
-    }
-}
-
-// The example as a block.
+// The plain block as it is sent.
 const BYTES: [u8; 15] = [
     0x40, 0x40, 0x04, 0x03, 0x00, 0x01, 0x00, 0x00, 0x00, 0x18, 0x00, 0x00, 0x00, 0x00, 0x00,
 ];
@@ -80,30 +48,20 @@ fn size_of(fields: &Sib1) -> Option<usize> {
 }
 
 #[test]
-fn the_example_has_113_bits(rt: HostRuntime) {
+fn the_plain_block_has_113_bits(rt: HostRuntime) {
     let block: [bool; 120] = block_of(&BYTES);
-    assert!(rt; is_written(&example(), &block, 113));
-}
-
-// Whether the fields are those of the example, with one network and one entry.
-fn is_example(fields: &Sib1) -> bool {
-    fields.tac == 1
-        && fields.cell == 1
-        && fields.q_rx == -70
-        && fields.band == 1
-        && fields.plmns.slice().len() == 1
-        && fields.scheduling.slice().len() == 1
+    assert!(rt; is_written(&plain_block(), &block, 113));
 }
 
 #[test]
 fn a_block_of_120_bits_is_read(rt: HostRuntime) -> Result<(), Fail> {
     let block: [bool; 120] = block_of(&BYTES);
     let fields = read(&block).ok().ok_or("the block is read")?;
-    assert!(rt; is_example(&fields));
+    assert!(rt; fields == plain_block());
     Ok(())
 }
 
-// Whether the first bits of the example, with these first two bytes, are refused for this reason.
+// Whether the first bits of the plain block, with these first two bytes, are refused for this reason.
 fn is_refused(count: usize, front: [u8; 2], reason: Sib1Reason) -> bool
     requires { count ≤ 120 }
 {
@@ -137,7 +95,7 @@ fn refusals(rt: HostRuntime) {
 
 #[test]
 fn five_further_networks_take_11_bits_each(rt: HostRuntime) {
-    let mut fields = example();
+    let mut fields = plain_block();
     for _ in 0..5_u32 {
         fields.plmns.push(Plmn {
             mcc: None,
@@ -149,34 +107,34 @@ fn five_further_networks_take_11_bits_each(rt: HostRuntime) {
 }
 
 // An entry with so many blocks of a code.
-fn message(period: Period, code: u8, count: u32) -> SiMessage {
-    let mut sibs = Sibs::new();
+fn repeated(period: Period, code: u8, count: u32) -> SiMessage {
+    let mut entry = message(period, &[]);
     for _ in 0..count {
-        sibs.push(code);
+        entry.sibs.push(code);
     }
-    SiMessage { period, sibs }
+    entry
 }
 
 #[test]
 fn a_usual_block_has_163_bits(rt: HostRuntime) {
-    let mut fields = example();
+    let mut fields = plain_block();
     fields.p_max = Some(23);
     for count in 1..4_u32 {
         fields
             .scheduling
-            .push(message(Period::Rf8, 0, (count + 1) / 2));
+            .push(repeated(Period::Rf8, 0, (count + 1) / 2));
     }
     assert!(rt; size_of(&fields) == Some(163));
 }
 
 #[test]
 fn a_text_of_more_than_1000_bits_is_not_written(rt: HostRuntime) {
-    let mut fields = example();
+    let mut fields = plain_block();
     for _ in 0..3_u32 {
-        fields.scheduling.push(message(Period::Rf512, 79, 31));
+        fields.scheduling.push(repeated(Period::Rf512, 79, 31));
     }
     assert!(rt; size_of(&fields) == Some(881));
-    fields.scheduling.push(message(Period::Rf512, 79, 14));
+    fields.scheduling.push(repeated(Period::Rf512, 79, 14));
     assert!(rt; size_of(&fields) == None);
 }
 

@@ -1,17 +1,9 @@
 //! What several of these tests are made with.
 
-ghost use Rattle.std.specs.Prelude.{◌≡◌, ◌^◌, ◌≤◌, IfOk, length, nat_abs};
+ghost use Rattle.std.specs.Prelude.{◌^◌, ◌≤◌, nat_abs};
 ghost use Rattle.finite.specs.Sizes.{AllWithin};
 
-use cs_num::Sample;
 use std::alloc::{AllocError, Global};
-
-// The samples of 30 ms of silence.
-pub(crate) fn silent_samples(alloc: Global) -> Result<Vec<Sample>, AllocError>
-    ensures { IfOk result (λ samples. length samples.items ≡ 57600) }
-{
-    vec![in alloc; Sample { re: 0, im: 0 }; 57_600]
-}
 
 // Three values.
 pub(crate) fn triple(first: i32, second: i32, third: i32) -> [i32; 3]

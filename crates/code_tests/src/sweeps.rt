@@ -2,7 +2,6 @@ ghost use Rattle.std.specs.Prelude.{◌≡◌, ◌+◌, ◌≤◌, length};
 ghost use Rattle.finite.specs.Lists.{values_below};
 ghost use Rattle.pss_search.specs.Correlation.{pss_grid, wave_list};
 
-use crate::shared::silent_samples;
 use cs_num::{Cpx, Sample, clamp_div};
 use fold128::synth;
 use lte_types::Hit;
@@ -11,6 +10,7 @@ use sample_file::Recording;
 use std::alloc::{AllocError, Global};
 use std::test::Fail;
 use sync_seq::{in_middle, pss};
+use test_support::{silent, silent_recording};
 
 // The grid of a symbol that holds the primary sequence of an identity alone.
 fn grid_of(n2: u8) -> [Cpx; 72]
@@ -56,7 +56,7 @@ fn lone_hit(t: u32) -> Hit {
 fn hits_with_signal_at(alloc: Global, t: usize) -> Result<HitList, Fail>
     requires { t + 128 ≤ 57600 }
 {
-    let mut samples = silent_samples(alloc)?;
+    let mut samples = silent(alloc, 57_600)?;
     write(&mut samples[t..t + 128], &wave_of(0));
     let mut list = HitList::new(alloc)?;
     if let Some(recording) = Recording::new(samples) {
@@ -96,7 +96,7 @@ fn the_places_137_to_19336_are_searched(rt: HostRuntime) -> Result<(), Fail> {
 #[test]
 fn a_list_is_emptied_before_it_is_filled(rt: HostRuntime) -> Result<(), Fail> {
     let mut list = hits_with_signal_at(rt.alloc(), 1000)?;
-    let silence = Recording::new(silent_samples(rt.alloc())?).expect(&rt, "30 ms");
+    let silence = silent_recording(rt.alloc())?;
     hits(&silence, &mut list);
     assert!(rt; list.slice().len() == 0);
     Ok(())
@@ -116,7 +116,7 @@ fn is_silent(recording: &Recording) -> bool {
 
 #[test]
 fn a_sweep_of_silence_has_19218_places(rt: HostRuntime) -> Result<(), Fail> {
-    let silence = Recording::new(silent_samples(rt.alloc())?).expect(&rt, "30 ms");
+    let silence = silent_recording(rt.alloc())?;
     assert!(rt; is_silent(&silence));
     Ok(())
 }

@@ -1,15 +1,11 @@
 //! Recordings whose samples are as large as they can be.
 
-ghost use Rattle.std.specs.Prelude.{◌≡◌, All, length};
-ghost use Rattle.cs_num.specs.Complex.{IsWithin};
-
-use cs_num::{Cpx, Sample};
 use lte_top::Status;
-use run_tests::{gives, output_of};
 use sample_file::bytes_of;
 use std::alloc::{AllocError, Global};
 use std::test::Fail;
-use test_signals::{primary_grid, put_sample, put_symbol, silence, silent};
+use test_support::{primary_grid, put_sample, send_often, silence, silent};
+use top_tests::{gives, output_of};
 
 // 57,600 times this sample.
 fn constant(alloc: Global, re: i16, im: i16) -> Result<Vec<u8>, AllocError> {
@@ -51,16 +47,6 @@ fn many_loud_signals(alloc: Global) -> Result<Vec<u8>, AllocError> {
         sample.im = sample.im.saturating_mul(28);
     }
     bytes_of(alloc, &samples)
-}
-
-// Writes a symbol at 1000 + 400 q, for q = 0 to 140.
-fn send_often(samples: &mut [Sample], grid: &[Cpx; 72])
-    requires room { length samples.old ≡ 57600 }
-    requires small { All (IsWithin 127) grid.now }
-{
-    for q in 0..141 {
-        put_symbol(samples, 1000 + 400 * q, grid);
-    }
 }
 
 #[test]

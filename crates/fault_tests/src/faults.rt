@@ -1,16 +1,19 @@
 //! Each call of a source and of a sink fails once, and pieces of one byte.
 
-use crate::forms::{BY_OTHER_RULES, Form, OF_8_BITS, OF_THE_TUNER, OTHERS, REPORTS};
+use crate::forms::{
+    APPLYING, AS_JSON, BY_OTHER_RULES, BY_OTHER_RULES_AND_WORDS, CANCELLING, Form, OF_8_BITS,
+    OF_8_BITS_AS_JSON, OF_ALL, OTHERS, PAGES, REPORTS, TELLING,
+};
 use crate::inputs::{Input, bytes_of, recording};
 use cs_outside::{FailSink, FailSource, MemSource, StdSink, StdSource};
 use lte_top::{Program, Status, Words, run};
-use run_tests::{Output, ROOM, command_line, output_by, output_from, output_into, output_of};
 use std::alloc::{AllocError, Global};
 use std::io;
 use std::io::Write;
 use std::process::Abort;
 use std::test::Fail;
-use test_signals::silence;
+use test_support::silence;
+use top_tests::{Output, ROOM, command_line, output_by, output_from, output_into, output_of};
 
 // The most bytes of a call.
 const MOST: usize = 65_536;
@@ -129,95 +132,91 @@ fn faults_of(
 }
 
 // Each run of these forms of which a call fails is answered as a fault of that call.
-fn fail_each(
-    rt: &impl Abort,
-    alloc: Global,
-    program: Program,
-    forms: &[Form],
-    fault: Fault,
-) -> Result<(), Fail> {
+fn fail_each(rt: &impl Abort, alloc: Global, program: Program, forms: &[Form]) -> Result<(), Fail> {
     for &(line, input) in forms {
         let case = Case::new(alloc, program, (line, input))?;
         assert!(rt; case.whole.status == Status::Done, "{line} {input:?}");
-        let faults = faults_of(rt, alloc, (line, input), &case, fault)?;
-        assert!(rt;
-            faults < CALLS && case.has_faults(fault, input, faults),
-            "{line} {input:?}"
-        );
+        for fault in [Fault::Read, Fault::Write] {
+            let faults = faults_of(rt, alloc, (line, input), &case, fault)?;
+            assert!(rt;
+                faults < CALLS && case.has_faults(fault, input, faults),
+                "{line} {input:?}"
+            );
+        }
     }
     Ok(())
 }
 
 #[test]
-fn each_read_of_reports_that_fails_is_a_read_fault(rt: HostRuntime) -> Result<(), Fail> {
-    fail_each(&rt, rt.alloc(), Program::Receiver, &REPORTS, Fault::Read)
+fn each_call_of_reports_that_fails_is_a_fault(rt: HostRuntime) -> Result<(), Fail> {
+    fail_each(&rt, rt.alloc(), Program::Receiver, &REPORTS)
 }
 
 #[test]
-fn each_read_of_forms_of_8_bits_that_fails_is_a_read_fault(rt: HostRuntime) -> Result<(), Fail> {
-    fail_each(&rt, rt.alloc(), Program::Receiver, &OF_8_BITS, Fault::Read)
+fn each_call_of_reports_as_json_that_fails_is_a_fault(rt: HostRuntime) -> Result<(), Fail> {
+    fail_each(&rt, rt.alloc(), Program::Receiver, &AS_JSON)
 }
 
 #[test]
-fn each_read_of_other_forms_that_fails_is_a_read_fault(rt: HostRuntime) -> Result<(), Fail> {
-    fail_each(&rt, rt.alloc(), Program::Receiver, &OTHERS, Fault::Read)
+fn each_call_of_forms_of_8_bits_that_fails_is_a_fault(rt: HostRuntime) -> Result<(), Fail> {
+    fail_each(&rt, rt.alloc(), Program::Receiver, &OF_8_BITS)
 }
 
 #[test]
-fn each_read_by_other_rules_that_fails_is_a_read_fault(rt: HostRuntime) -> Result<(), Fail> {
-    fail_each(
-        &rt,
-        rt.alloc(),
-        Program::Receiver,
-        &BY_OTHER_RULES,
-        Fault::Read,
-    )
+fn each_call_of_forms_of_8_bits_as_json_that_fails_is_a_fault(rt: HostRuntime) -> Result<(), Fail> {
+    fail_each(&rt, rt.alloc(), Program::Receiver, &OF_8_BITS_AS_JSON)
 }
 
 #[test]
-fn each_read_of_the_tuner_that_fails_is_a_read_fault(rt: HostRuntime) -> Result<(), Fail> {
-    fail_each(&rt, rt.alloc(), Program::Tuner, &OF_THE_TUNER, Fault::Read)
+fn each_call_of_forms_by_other_rules_that_fails_is_a_fault(rt: HostRuntime) -> Result<(), Fail> {
+    fail_each(&rt, rt.alloc(), Program::Receiver, &BY_OTHER_RULES)
 }
 
 #[test]
-fn each_write_of_reports_that_fails_is_a_write_fault_and_leaves_a_front(
-    rt: HostRuntime,
-) -> Result<(), Fail> {
-    fail_each(&rt, rt.alloc(), Program::Receiver, &REPORTS, Fault::Write)
-}
-
-#[test]
-fn each_write_of_forms_of_8_bits_that_fails_is_a_write_fault_and_leaves_a_front(
-    rt: HostRuntime,
-) -> Result<(), Fail> {
-    fail_each(&rt, rt.alloc(), Program::Receiver, &OF_8_BITS, Fault::Write)
-}
-
-#[test]
-fn each_write_of_other_forms_that_fails_is_a_write_fault_and_leaves_a_front(
-    rt: HostRuntime,
-) -> Result<(), Fail> {
-    fail_each(&rt, rt.alloc(), Program::Receiver, &OTHERS, Fault::Write)
-}
-
-#[test]
-fn each_write_by_other_rules_that_fails_is_a_write_fault_and_leaves_a_front(
+fn each_call_of_lists_by_other_rules_and_words_that_fails_is_a_fault(
     rt: HostRuntime,
 ) -> Result<(), Fail> {
     fail_each(
         &rt,
         rt.alloc(),
         Program::Receiver,
-        &BY_OTHER_RULES,
-        Fault::Write,
+        &BY_OTHER_RULES_AND_WORDS,
     )
 }
 
 #[test]
-fn each_write_of_the_tuner_that_fails_is_a_write_fault_and_leaves_a_front(
-    rt: HostRuntime,
-) -> Result<(), Fail> {
-    fail_each(&rt, rt.alloc(), Program::Tuner, &OF_THE_TUNER, Fault::Write)
+fn each_call_of_lists_of_what_is_left_that_fails_is_a_fault(rt: HostRuntime) -> Result<(), Fail> {
+    fail_each(&rt, rt.alloc(), Program::Receiver, &CANCELLING)
+}
+
+#[test]
+fn each_call_of_lists_of_every_carrier_that_fails_is_a_fault(rt: HostRuntime) -> Result<(), Fail> {
+    fail_each(&rt, rt.alloc(), Program::Receiver, &OF_ALL)
+}
+
+#[test]
+fn each_call_of_other_forms_that_fails_is_a_fault(rt: HostRuntime) -> Result<(), Fail> {
+    fail_each(&rt, rt.alloc(), Program::Receiver, &OTHERS)
+}
+
+#[test]
+fn each_call_of_pages_of_the_receiver_that_fails_is_a_fault(rt: HostRuntime) -> Result<(), Fail> {
+    fail_each(&rt, rt.alloc(), Program::Receiver, &PAGES)
+}
+
+#[test]
+fn each_call_of_what_is_told_that_fails_is_a_fault(rt: HostRuntime) -> Result<(), Fail> {
+    fail_each(&rt, rt.alloc(), Program::Tuner, &TELLING)
+}
+
+#[test]
+fn each_call_of_what_is_applied_that_fails_is_a_fault(rt: HostRuntime) -> Result<(), Fail> {
+    fail_each(&rt, rt.alloc(), Program::Tuner, &APPLYING)
+}
+
+#[test]
+fn each_call_of_pages_of_the_tuner_that_fails_is_a_fault(rt: HostRuntime) -> Result<(), Fail> {
+    fail_each(&rt, rt.alloc(), Program::Tuner, &PAGES)
 }
 
 // Whether `search` tells the cell of the recording, and nothing else.

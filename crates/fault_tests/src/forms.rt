@@ -6,39 +6,90 @@ use crate::inputs::Input;
 pub type Form = (&'static str, Input);
 
 /// The reports, one a line.
-pub const REPORTS: [Form; 5] = [
+pub const REPORTS: [Form; 4] = [
     ("hits", Input::Cell16),
     ("ids", Input::Cell16),
     ("search", Input::Cell16),
-    ("search --json", Input::Cell16),
     ("evidence", Input::Cell16),
 ];
 
+/// The same as JSON.
+pub const AS_JSON: [Form; 4] = [
+    ("hits --json", Input::Cell16),
+    ("ids --json", Input::Cell16),
+    ("search --json", Input::Cell16),
+    ("evidence --json", Input::Cell16),
+];
+
 /// The forms that read samples of 8 bits.
-pub const OF_8_BITS: [Form; 6] = [
+pub const OF_8_BITS: [Form; 5] = [
     ("hits --format cu8", Input::Cell8),
     ("ids --format cu8", Input::Cell8),
     ("search --format cu8", Input::Cell8),
-    ("search --json --format cu8", Input::Cell8),
     ("evidence --format cu8", Input::Cell8),
     ("certify --format cu8", Input::Cell8),
 ];
 
+/// Those of them that write JSON.
+pub const OF_8_BITS_AS_JSON: [Form; 4] = [
+    ("hits --json --format cu8", Input::Cell8),
+    ("ids --json --format cu8", Input::Cell8),
+    ("search --json --format cu8", Input::Cell8),
+    ("evidence --json --format cu8", Input::Cell8),
+];
+
 /// The forms that read recordings by other rules, or make them.
-pub const BY_OTHER_RULES: [Form; 5] = [
+pub const BY_OTHER_RULES: [Form; 4] = [
     ("search --ports 2", Input::Cell16),
     ("search --prefix long", Input::Cell16),
-    ("search --cancel", Input::Cell16),
     ("make 0 --ports 2", Input::Nothing),
     ("make 0 --prefix long", Input::Nothing),
 ];
 
-/// The forms of the second program.
-pub const OF_THE_TUNER: [Form; 3] = [
+/// The lists by other rules, as JSON and of samples of 8 bits.
+pub const BY_OTHER_RULES_AND_WORDS: [Form; 6] = [
+    ("search --ports 2 --json", Input::Cell16),
+    ("search --prefix long --json", Input::Cell16),
+    ("search --ports 2 --format cu8", Input::Cell8),
+    ("search --prefix long --format cu8", Input::Cell8),
+    ("search --ports 2 --json --format cu8", Input::Cell8),
+    ("search --prefix long --json --format cu8", Input::Cell8),
+];
+
+/// The lists of what is left where a cell is taken off.
+pub const CANCELLING: [Form; 4] = [
+    ("search --cancel", Input::Cell16),
+    ("search --cancel --json", Input::Cell16),
+    ("search --cancel --format cu8", Input::Cell8),
+    ("search --cancel --json --format cu8", Input::Cell8),
+];
+
+/// The lists of every carrier.
+pub const OF_ALL: [Form; 4] = [
+    ("search --all", Input::Cell16),
+    ("search --all --json", Input::Cell16),
+    ("search --all --format cu8", Input::Cell8),
+    ("search --all --json --format cu8", Input::Cell8),
+];
+
+/// The forms of the second program that tell.
+pub const TELLING: [Form; 4] = [
     ("tell", Input::Cell16),
+    ("tell --json", Input::Cell16),
+    ("tell --format cu8", Input::Cell8),
+    ("tell --json --format cu8", Input::Cell8),
+];
+
+/// Those that write samples.
+pub const APPLYING: [Form; 4] = [
     ("apply", Input::Cell16),
     ("apply -5", Input::Cell16),
+    ("apply --format cu8", Input::Cell8),
+    ("apply -5 --format cu8", Input::Cell8),
 ];
+
+/// The pages of each program.
+pub const PAGES: [Form; 2] = [("help", Input::Nothing), ("version", Input::Nothing)];
 
 /// The other forms.
 pub const OTHERS: [Form; 5] = [

@@ -1,17 +1,9 @@
 //! Valid inputs.
 
 use lte_top::Status;
-use run_tests::output_of;
 use std::alloc::{AllocError, Global};
-use tail_cert::{Certificate, length, to_bytes};
-use test_signals::silence;
-
-/// A cell of identity 0, all from the first sample on, of 57,600 samples and with the gain 1.
-pub const CELL: &str = r#"{"identity": 0, "sfn": 0, "offset": 0, "samples": 57600, "gain": [1, 0],
- "duration": "normal", "resource": "one", "spare": 0, "cfi": 2, "start": 0, "blocks": 6, "mcs": 4, "column": 2, "sib1":
- {"plmns": [{"mcc": "001", "mnc": "01", "reserved": false}], "tac": 1, "cell": 1, "barred": false, "intra": true,
- "csg": false, "csg_identity": null, "q_rx": -70, "q_offset": null, "p_max": null, "band": 1,
- "scheduling": [{"period": 8, "sibs": []}], "window": 1, "tag": 0}}"#;
+use test_support::{certificate_of_zeros, description};
+use top_tests::{output_of, sent_by};
 
 /// What a form reads.
 #[derive(Clone, Copy, Debug, PartialEq, Eq)]
@@ -36,15 +28,20 @@ pub fn bytes_of(alloc: Global, input: Input) -> Result<Vec<u8>, AllocError> {
         Input::Nothing => Ok(Vec::new(alloc)),
         Input::Cell16 => recording(alloc),
         Input::Cell8 => recording_of_8_bits(alloc),
-        Input::Description => CELL.as_bytes().to_vec(alloc),
-        Input::ZeroCertificate => zero_certificate(alloc),
+        Input::Description => plain_description(alloc),
+        Input::ZeroCertificate => certificate_of_zeros(alloc),
         Input::Certificates => Ok(output_of(alloc, "certify", recording(alloc)?)?.written),
     }
 }
 
+/// The description of the plain cell.
+pub fn plain_description(alloc: Global) -> Result<Vec<u8>, AllocError> {
+    description(alloc, "", "")?.as_bytes().to_vec(alloc)
+}
+
 /// The recording of the cell.
 pub fn recording(alloc: Global) -> Result<Vec<u8>, AllocError> {
-    let sent = output_of(alloc, "transmit", CELL.as_bytes().to_vec(alloc)?)?;
+    let sent = sent_by(alloc, "")?;
     match sent.status {
         Status::Done => Ok(sent.written),
         _ => Ok(Vec::new(alloc)),
@@ -66,12 +63,4 @@ fn recording_of_8_bits(alloc: Global) -> Result<Vec<u8>, AllocError> {
 fn eighth(component: i16) -> u8 {
     let [low, high] = (component.saturating_add(1_024).max(0) / 8).to_le_bytes();
     if high == 0 { low } else { 255 }
-}
-
-/// The certificate of 120 zeros, which has the word of zeros.
-pub fn zero_certificate(alloc: Global) -> Result<Vec<u8>, AllocError> {
-    let certificate = Certificate::new(alloc)?;
-    let mut bytes = silence(alloc, length(&certificate))?;
-    to_bytes(&certificate, &mut bytes);
-    Ok(bytes)
 }

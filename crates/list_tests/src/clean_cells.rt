@@ -2,7 +2,7 @@ ghost use Rattle.std.specs.Prelude.{◌≡◌, ◌+◌, ◌*◌, ◌^◌, ◌<�
 ghost use Rattle.cs_num.specs.Complex.{IsWithin};
 ghost use Rattle.dci.specs.Format1A.{IsGrant};
 
-use crate::examples::{cell_of, information, silence, silent_recording};
+use crate::examples::cell_of;
 use cell_tx::{Cell, CellPlan, frame};
 use clean_air::{
     carried_blocks_are_heard, explain_clean, sent_grant_is_read, sent_grant_is_told,
@@ -20,6 +20,7 @@ use soft_bits::Slot;
 use std::alloc::Global;
 use std::test::Fail;
 use system_block::{Attempt, Decoders, attempt_in};
+use test_support::{information, silent, silent_recording};
 
 #[test]
 fn silence_has_no_cell(rt: HostRuntime) -> Result<(), Fail> {
@@ -149,7 +150,7 @@ fn large_values(first: &Slot, second: &Slot, attempt: &Attempt) -> Option<usize>
 // A frame of the cell as it is received, and silence after it.
 fn received_recording(alloc: Global) -> Result<Recording, Fail> {
     let cell = cell_of(plan()).ok_or("a plan that is sent")?;
-    let mut samples = silence(alloc)?;
+    let mut samples = silent(alloc, 57_600)?;
     receive(&cell, Sfn::modulo(6), &mut samples[..]);
     let recording = Recording::new(samples).ok_or("30 ms")?;
     Ok(recording)

@@ -1,97 +1,51 @@
 // The numbers are those of a second program, `scripts/peers/second_long_prefix.py`.
-use crate::examples::silent_recording;
-use cs_num::Sample;
+use cs_num::{Sample, clamp_div};
 use explain::EntryList;
 use long_prefix::{LongMade, Workspace3, explain_clean, made_is_clean, make};
 use lte_types::{Duration, Entry, Resource, Sib1Reason};
 use sample_file::Recording;
 use std::alloc::{AllocError, Global};
 use std::test::Fail;
+use test_support::{Summary, is_summed_up, silent_recording};
 
-// The sums of all real and of all imaginary components, and both with weights that tell the samples apart.
-fn sums(recording: &Recording) -> [i64; 4] {
-    let (mut re, mut im) = (0i64, 0i64);
-    let (mut far_re, mut far_im) = (0i64, 0i64);
-    let mut weight = 0i64;
-    for sample in recording.as_slice() {
-        weight = (weight.wrapping_add(1)) % 1_000;
-        re = re.wrapping_add(sample.re as i64);
-        im = im.wrapping_add(sample.im as i64);
-        far_re = far_re.wrapping_add(weight.wrapping_mul(sample.re as i64));
-        far_im = far_im.wrapping_add(weight.wrapping_mul(sample.im as i64));
-    }
-    [re, im, far_re, far_im]
-}
-
-// The first four samples.
-fn front(recording: &Recording) -> [(i16, i16); 4] {
-    let samples = recording.as_slice();
-    prove!(57_600 <= recording.len());
-    let pair = |s: Sample| (s.re, s.im);
-    [
-        pair(samples[0]),
-        pair(samples[1]),
-        pair(samples[2]),
-        pair(samples[3]),
-    ]
-}
-
-// What the second program says of a recording: the gain, the bound of its errors, how many samples it has, the first
-// four, and sums.
-#[derive(Clone, Copy)]
-struct Summary {
-    gain: (i16, i16),
-    bound: i16,
-    count: usize,
-    front: [(i16, i16); 4],
-    sums: [i64; 4],
-}
-
-fn is_summed_up(made: &LongMade, summary: &Summary) -> bool {
-    (made.gain.re(), made.gain.im()) == summary.gain
-        && made.bound == summary.bound
-        && made.recording.len() == summary.count
-        && front(&made.recording) == summary.front
-        && sums(&made.recording) == summary.sums
+// Whether a recording by number has this gain, this bound of its errors and this summary.
+fn is_made(made: &LongMade, gain: (i16, i16), bound: i16, summary: &Summary) -> bool {
+    (made.gain.re(), made.gain.im()) == gain
+        && made.bound == bound
+        && is_summed_up(&made.recording, summary)
 }
 
 #[test]
 fn the_first_recording(rt: HostRuntime) -> Result<(), Fail> {
     made_is_clean();
     let summary = Summary {
-        gain: (1, 0),
-        bound: 2,
         count: 192_000,
         front: [(0, -23), (-28, -22), (12, 13), (51, 11)],
         sums: [-29_145, 2157, -12_175_129, -3_334_298],
     };
-    assert!(rt; is_summed_up(&make(rt.alloc(), 0)?, &summary));
+    assert!(rt; is_made(&make(rt.alloc(), 0)?, (1, 0), 2, &summary));
     Ok(())
 }
 
 #[test]
 fn a_recording_of_17_frames(rt: HostRuntime) -> Result<(), Fail> {
     let summary = Summary {
-        gain: (8, 7),
-        bound: 21,
         count: 326_400,
         front: [(105, -77), (348, -278), (145, 189), (-230, 711)],
         sums: [-327_871, 315_644, -159_347_480, 96_467_028],
     };
-    assert!(rt; is_summed_up(&make(rt.alloc(), 7)?, &summary));
+    assert!(rt; is_made(&make(rt.alloc(), 7)?, (8, 7), 21, &summary));
     Ok(())
 }
 
 #[test]
 fn a_recording_of_a_large_number(rt: HostRuntime) -> Result<(), Fail> {
     let summary = Summary {
-        gain: (8, 1),
-        bound: 16,
         count: 211_200,
         front: [(9, -15), (9, -13), (-5, -5), (-7, 3)],
         sums: [180_775, 34_420, 104_354_895, 12_631_419],
     };
-    assert!(rt; is_summed_up(&make(rt.alloc(), 4_294_967_221)?, &summary));
+    assert!(rt; is_made(&make(rt.alloc(), 4_294_967_221)?, (8, 1), 16, &summary));
     Ok(())
 }
 
@@ -177,6 +131,81 @@ fn a_first_place_of_152(rt: HostRuntime) -> Result<(), Fail> {
         spare: 40,
     };
     assert!(rt; is_list(rt.alloc(), 10_280, &told)?);
+    Ok(())
+}
+
+// The noise of a trial: a generator of 32 bits.
+#[derive(Drop)]
+struct Noise {
+    state: u32,
+}
+
+impl Noise {
+    // A number from -most to most.
+    fn next(&mut self, most: u16) -> i16 {
+        self.state = self
+            .state
+            .wrapping_mul(1_664_525)
+            .wrapping_add(1_013_904_223);
+        let most = most as i64;
+        clamp_div((self.state >> 16) as i64 % (2 * most + 1) - most, 1, 32_767)
+    }
+}
+
+// A sample with noise of at most so much.
+fn noisy(sample: Sample, noise: &mut Noise, most: u16) -> Sample {
+    let re = sample.re.saturating_add(noise.next(most));
+    let im = sample.im.saturating_add(noise.next(most));
+    Sample { re, im }
+}
+
+// Recording number 1 with such noise in slot 1 of each frame, the first of which begins at sample 19,199.
+fn spoiled(alloc: Global, most: u16) -> Result<Recording, Fail> {
+    let made = make(alloc, 1)?;
+    let mut samples = Vec::with_capacity(alloc, made.recording.len())?;
+    let mut noise = Noise { state: 1 };
+    for (i, sample) in made.recording.as_slice().iter().enumerate() {
+        let in_frame = (i % 19_200 + 1) % 19_200;
+        let sample = if i >= 19_199 && in_frame / 960 == 1 {
+            noisy(*sample, &mut noise, most)
+        } else {
+            *sample
+        };
+        samples.push(sample)?;
+    }
+    let recording = Recording::new(samples).ok_or("10 frames")?;
+    Ok(recording)
+}
+
+// Whether the list of that recording is its cell, of which the frames from this one on, so many, tell the master block.
+fn is_told_together(alloc: Global, most: u16, frames: u8, frame: u8) -> Result<bool, Fail> {
+    let told = Told {
+        identity: 1,
+        start: 19_199,
+        sfn: 2,
+        duration: Duration::Extended,
+        resource: Resource::Half,
+        spare: 1,
+    };
+    let recording = spoiled(alloc, most)?;
+    let list = list_of(alloc, &recording)?;
+    Ok(match list.slice() {
+        [entry] => is_told(entry, &told) && entry.frames == frames && entry.frame == frame,
+        _ => false,
+    })
+}
+
+// By `second_long_prefix.py --spoiled 1000 1` and `second_search.py --prefix long why`: no frame alone tells a block.
+#[test]
+fn two_frames_tell_together(rt: HostRuntime) -> Result<(), Fail> {
+    assert!(rt; is_told_together(rt.alloc(), 1000, 2, 2)?);
+    Ok(())
+}
+
+// By `second_long_prefix.py --spoiled 900 1`: no fewer do.
+#[test]
+fn four_frames_tell_together(rt: HostRuntime) -> Result<(), Fail> {
+    assert!(rt; is_told_together(rt.alloc(), 900, 4, 2)?);
     Ok(())
 }
 

@@ -1,4 +1,4 @@
-//! Tests of the lists of clean recordings, and of cells that are taken off.
+//! Tests of the lists of recordings, of cells that are taken off, and of recordings turned.
 #![tactic(auto)]
 
 #[cfg(test)]
@@ -8,6 +8,16 @@ mod examples;
 #[cfg(test)]
 mod extended_prefix;
 #[cfg(test)]
+mod found_cells;
+#[cfg(test)]
+mod rounds_of_recordings;
+#[cfg(test)]
+mod rows;
+#[cfg(test)]
 mod taken_off;
+#[cfg(test)]
+mod told;
+#[cfg(test)]
+mod turned;
 #[cfg(test)]
 mod two_antenna_ports;

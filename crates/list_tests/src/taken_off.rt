@@ -1,14 +1,15 @@
 // Expected values are those of `scripts/peers/second_cancel.py`.
 ghost use Rattle.std.specs.Prelude.{◌≡◌, length};
 
-use crate::examples::{cell_of, information, silence};
+use crate::examples::cell_of;
 use cancel::{Subtracted, best_candidate_is_one, clean_gain_is_candidate, subtract};
 use cell_tx::{CellPlan, Port, port_sequence};
 use cs_num::{Cpx, Sample, clamp_div};
-use lte_types::{Duration, Period, Resource, Sfn, Timing};
+use lte_types::{Duration, Resource, Sfn, Timing};
 use sample_file::Recording;
 use std::alloc::Global;
 use std::test::Fail;
+use test_support::{plain_block, silent};
 
 // The plan of `scripts/examples/plain_cell.json`, with an identity.
 fn plain_plan(identity: u16) -> CellPlan {
@@ -22,7 +23,7 @@ fn plain_plan(identity: u16) -> CellPlan {
         blocks: 6,
         mcs: 4,
         column: 2,
-        sib1: information(Period::Rf8),
+        sib1: plain_block(),
     }
 }
 
@@ -71,7 +72,7 @@ fn add(
         re: gain.0,
         im: gain.1,
     };
-    let mut sent = silence(alloc)?;
+    let mut sent = silent(alloc, 57_600)?;
     port_sequence(&cell, Port::Only, timing, &mut sent);
     for i in 0..57_600 {
         samples[i] = added(samples[i], sent[i], gain);
@@ -101,8 +102,8 @@ fn taken(
 struct Told {
     gain: (i16, i16),
     greatest: u32,
-    before: u128,
-    after: u128,
+    before: u64,
+    after: u64,
     samples: [(i16, i16); 3],
 }
 
@@ -143,7 +144,7 @@ fn is_taken_off(
 
 #[test]
 fn a_lone_cell_leaves_nothing(rt: HostRuntime) -> Result<(), Fail> {
-    let mut samples = silence(rt.alloc())?;
+    let mut samples = silent(rt.alloc(), 57_600)?;
     add(rt.alloc(), &mut samples, plain_plan(0), (0, 0), (1, 0))?;
     let told = Told {
         gain: (1, 0),
@@ -159,7 +160,7 @@ fn a_lone_cell_leaves_nothing(rt: HostRuntime) -> Result<(), Fail> {
 
 #[test]
 fn the_frame_before_has_the_number_before(rt: HostRuntime) -> Result<(), Fail> {
-    let mut samples = silence(rt.alloc())?;
+    let mut samples = silent(rt.alloc(), 57_600)?;
     add(rt.alloc(), &mut samples, plain_plan(0), (1023, 1), (3, -4))?;
     let told = Told {
         gain: (3, -4),
@@ -186,7 +187,7 @@ fn disturb(samples: &mut [Sample]) {
 
 #[test]
 fn errors_at_the_bound_are_left(rt: HostRuntime) -> Result<(), Fail> {
-    let mut samples = silence(rt.alloc())?;
+    let mut samples = silent(rt.alloc(), 57_600)?;
     let place = (5, 19_199);
     add(rt.alloc(), &mut samples, plain_plan(503), place, (0, 28))?;
     disturb(&mut samples);
@@ -204,7 +205,7 @@ fn errors_at_the_bound_are_left(rt: HostRuntime) -> Result<(), Fail> {
 // In silence 1, j, -1 and -j leave the same.
 #[test]
 fn of_equal_gains_the_lowest_is_taken(rt: HostRuntime) -> Result<(), Fail> {
-    let samples = silence(rt.alloc())?;
+    let samples = silent(rt.alloc(), 57_600)?;
     let told = Told {
         gain: (-1, 0),
         greatest: 370,
@@ -220,7 +221,7 @@ fn of_equal_gains_the_lowest_is_taken(rt: HostRuntime) -> Result<(), Fail> {
 // The estimate is 20 + 9j.
 #[test]
 fn another_gain_than_the_estimate_is_taken(rt: HostRuntime) -> Result<(), Fail> {
-    let mut samples = silence(rt.alloc())?;
+    let mut samples = silent(rt.alloc(), 57_600)?;
     add(rt.alloc(), &mut samples, plain_plan(0), (0, 0), (20, 9))?;
     add(rt.alloc(), &mut samples, other_plan(), (514, 5000), (2, -1))?;
     let told = Told {
@@ -254,7 +255,7 @@ fn the_greatest_is_told_before_16_bits(rt: HostRuntime) -> Result<(), Fail> {
 
 #[test]
 fn a_greater_gain_is_none(rt: HostRuntime) -> Result<(), Fail> {
-    let mut samples = silence(rt.alloc())?;
+    let mut samples = silent(rt.alloc(), 57_600)?;
     add(rt.alloc(), &mut samples, plain_plan(0), (0, 0), (40, 0))?;
     assert!(rt; taken(rt.alloc(), samples, plain_plan(0), (0, 0))?.is_none());
     Ok(())

@@ -3,7 +3,6 @@
 ghost use Rattle.std.specs.Prelude.{◌≡◌, ◌*◌, ◌^◌, ◌<◌, All, IfOk, length};
 ghost use Rattle.cs_num.specs.Complex.{IsWithin};
 
-use crate::examples::{silence, silent_recording};
 use capture_make::plan;
 use cell_tx::{Cell, CellPlan, Port, port_sequence};
 use cs_num::{Cpx, Sample};
@@ -12,6 +11,7 @@ use lte_types::{CellId, Entry, Sfn, Sib1, Timing};
 use sample_file::Recording;
 use std::alloc::{AllocError, Global};
 use std::test::Fail;
+use test_support::{silent, silent_recording};
 use two_ports::{PairSlot, Workspace2, explain_clean, pair};
 use two_tx::make;
 
@@ -193,8 +193,8 @@ fn from_512() -> Timing {
 fn both_ports(alloc: Global, cell: &Cell) -> Result<Vec<Sample>, AllocError>
     ensures { IfOk result (λ samples. length samples.items ≡ 57600) }
 {
-    let mut samples = silence(alloc)?;
-    let mut second = silence(alloc)?;
+    let mut samples = silent(alloc, 57_600)?;
+    let mut second = silent(alloc, 57_600)?;
     port_sequence(cell, Port::First, from_512(), &mut samples);
     port_sequence(cell, Port::Second, from_512(), &mut second);
     receive(&mut samples, &second);

@@ -1,8 +1,9 @@
 use lte_types::{
     Assignment, Bandwidth, Carrier, CellId, Cfi, Duration, Mib, Mnc, Period, Plmn, Plmns, Prefix,
-    Resource, Schedule, Sfn, SiMessage, Sib1, Sib1Reason, Sibs, Window, same_answers,
+    Resource, Schedule, Sfn, Sib1, Sib1Reason, Sibs, Window, same_answers,
 };
 use std::process::Abort;
+use test_support::{message, plain_block};
 
 fn is_503(id: CellId) -> bool {
     id.value() == 503 && id.n1() == 167 && id.n2() == 2
@@ -103,9 +104,9 @@ fn lists_take_so_many_items(rt: HostRuntime) {
     assert!(rt; !plmns.push(network(None, 6)));
     let mut schedule = Schedule::new();
     for _ in 0..32_u8 {
-        assert!(rt; schedule.push(message(Period::Rf8)));
+        assert!(rt; schedule.push(message(Period::Rf8, &[])));
     }
-    assert!(rt; !schedule.push(message(Period::Rf8)) && schedule.slice().len() == 32);
+    assert!(rt; !schedule.push(message(Period::Rf8, &[])) && schedule.slice().len() == 32);
 }
 
 fn network(mcc: Option<[u8; 3]>, digit: u8) -> Plmn {
@@ -116,29 +117,16 @@ fn network(mcc: Option<[u8; 3]>, digit: u8) -> Plmn {
     }
 }
 
-fn message(period: Period) -> SiMessage {
-    SiMessage {
-        period,
-        sibs: Sibs::new(),
-    }
-}
-
 fn information(rt: &impl Abort, mcc: Option<[u8; 3]>, digit: u8, code: u8) -> Sib1 {
     let mut plmns = Plmns::new();
     assert!(rt; plmns.push(network(mcc, digit)));
     let mut scheduling = Schedule::new();
-    let mut message = message(Period::Rf512);
-    assert!(rt; message.sibs.push(code));
-    assert!(rt; scheduling.push(message));
+    assert!(rt; scheduling.push(message(Period::Rf512, &[code])));
     Sib1 {
         plmns,
         tac: 65535,
         cell: 268_435_455,
-        barred: false,
-        intra: true,
-        csg: false,
         csg_identity: Some(134_217_727),
-        q_rx: -70,
         q_offset: Some(8),
         p_max: Some(33),
         band: 64,
@@ -146,7 +134,7 @@ fn information(rt: &impl Abort, mcc: Option<[u8; 3]>, digit: u8, code: u8) -> Si
         tdd: Some((6, 8)),
         window: Window::Ms40,
         tag: 31,
-        extended: false,
+        ..plain_block()
     }
 }
 

@@ -4,7 +4,7 @@ use cs_outside::{FailSource, MemSource};
 use sample_file::{FileError, Recording, SampleForm, read_as, read_cu8, read_recording};
 use std::alloc::{AllocError, Global};
 use std::test::Fail;
-use test_signals::silent;
+use test_support::silent;
 
 // What reading so many bytes in a form is refused by.
 fn refusal(alloc: Global, form: SampleForm, count: usize) -> Result<Option<FileError>, AllocError> {

@@ -3,7 +3,7 @@ use observe::symbol;
 use sample_file::Recording;
 use std::alloc::{AllocError, Global};
 use std::test::Fail;
-use test_signals::silent;
+use test_support::silent;
 
 // What is seen of the symbol at 1,000 of a recording of 30 ms that is this sample from there on, `count` times, and
 // else silence.

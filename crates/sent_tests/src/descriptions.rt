@@ -3,19 +3,7 @@ use cell_tx::{CellError, CellPlan, Transmission};
 use lte_types::{Duration, Mnc, Period, Plmn, Resource, SiMessage, Sib1, Window};
 use std::alloc::{AllocError, Global};
 use std::test::Fail;
-
-// SystemInformationBlockType1 of a description but for its closing brace. Since the last value of a key stands,
-// what follows changes it.
-const BLOCK: &str =
-    "\"plmns\": [{\"mcc\": \"001\", \"mnc\": \"01\", \"reserved\": false}], \"tac\": 1, \"cell\": 1, \
-    \"barred\": false, \"intra\": true, \"csg\": false, \"csg_identity\": null, \"q_rx\": -70, \"q_offset\": null, \
-    \"p_max\": null, \"band\": 1, \"scheduling\": [{\"period\": 8, \"sibs\": []}], \"window\": 1, \"tag\": 0";
-
-// The rest of a description, likewise.
-const PLAIN: &str =
-    "\"identity\": 0, \"sfn\": 0, \"offset\": 0, \"samples\": 57600, \"gain\": [1, 0], \
-    \"duration\": \"normal\", \"resource\": \"one\", \"spare\": 0, \"cfi\": 2, \"start\": 0, \"blocks\": 6, \
-    \"mcs\": 4, \"column\": 2";
+use test_support::{PLAIN_KEYS, description, plain_block};
 
 // What is read where the plain description has this change, and its block this one.
 fn answer(
@@ -23,7 +11,7 @@ fn answer(
     change: &str,
     block: &str,
 ) -> Result<Result<Transmission, JsonError>, AllocError> {
-    let text = format!(in alloc; "{{{PLAIN}, \"sib1\": {{{BLOCK}{block}}}{change}}}")?;
+    let text = description(alloc, change, block)?;
     Ok(read(alloc, text.as_bytes()))
 }
 
@@ -234,7 +222,7 @@ fn no_description_at_all_has_not_the_form(rt: HostRuntime) {
         b"{}".as_slice(),
         b"[]".as_slice(),
         b"\"\xff\"".as_slice(),
-        PLAIN.as_bytes(),
+        PLAIN_KEYS.as_bytes(),
         [b'['; 200].as_slice(),
     ] {
         assert!(rt; has_not_the_form(rt.alloc(), bytes));
@@ -246,48 +234,9 @@ fn has_plain_assignment(plan: &CellPlan) -> bool {
     plan.cfi == 2 && plan.start == 0 && plan.blocks == 6 && plan.mcs == 4 && plan.column == 2
 }
 
-fn has_plain_network(sib1: &Sib1) -> bool {
-    let plain = Plmn {
-        mcc: Some([0, 0, 1]),
-        mnc: Mnc::Two([0, 1]),
-        reserved: false,
-    };
-    match sib1.plmns.slice() {
-        [network] => *network == plain,
-        _ => false,
-    }
-}
-
-fn has_plain_identities(sib1: &Sib1) -> bool {
-    sib1.tac == 1
-        && sib1.cell == 1
-        && !sib1.barred
-        && sib1.intra
-        && !sib1.csg
-        && sib1.csg_identity == None
-        && sib1.tdd == None
-        && !sib1.extended
-}
-
-fn has_plain_levels(sib1: &Sib1) -> bool {
-    sib1.q_rx == -70
-        && sib1.q_offset == None
-        && sib1.p_max == None
-        && sib1.band == 1
-        && sib1.window == Window::Ms1
-        && sib1.tag == 0
-}
-
 // Whether an entry of the schedule has this period, and so many blocks.
 fn is_message(entry: &SiMessage, period: Period, count: usize) -> bool {
     entry.period == period && entry.sibs.slice().len() == count
-}
-
-fn has_plain_schedule(sib1: &Sib1) -> bool {
-    match sib1.scheduling.slice() {
-        [entry] => is_message(entry, Period::Rf8, 0),
-        _ => false,
-    }
 }
 
 fn is_plain(transmission: &Transmission) -> bool {
@@ -295,10 +244,7 @@ fn is_plain(transmission: &Transmission) -> bool {
     transmission.timing.sfn.value() == 0
         && transmission.timing.offset == 0
         && has_plain_assignment(plan)
-        && has_plain_network(&plan.sib1)
-        && has_plain_identities(&plan.sib1)
-        && has_plain_levels(&plan.sib1)
-        && has_plain_schedule(&plan.sib1)
+        && plan.sib1 == plain_block()
 }
 
 #[test]

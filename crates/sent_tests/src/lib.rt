@@ -4,8 +4,6 @@
 #[cfg(test)]
 mod descriptions;
 #[cfg(test)]
-mod examples;
-#[cfg(test)]
 mod made_recordings;
 #[cfg(test)]
 mod texts;

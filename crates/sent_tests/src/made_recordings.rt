@@ -1,11 +1,11 @@
 // The numbers are those of a second program, `scripts/peers/second_make.py`; the first words of the generator
 // those of PCG's reference code.
-use crate::examples::{Summary, is_summed_up};
 use capture_make::{made_is_clean, make};
 use rand_core::utils::NextWord;
 use rand_pcg::Lcg64Xsh32;
 use std::alloc::{AllocError, Global};
 use std::test::Fail;
+use test_support::{Summary, is_summed_up};
 
 #[test]
 fn the_generator_gives_the_reference_words(rt: HostRuntime) {

@@ -1,4 +1,3 @@
-use crate::examples::{message, plain_block};
 use lte_types::{
     Bandwidth, CellId, Duration, Entry, Half, Hit, Mib, Mnc, Period, Plmn, Resource, Sfn, Sib1,
     Sib1Reason, Window,
@@ -6,6 +5,7 @@ use lte_types::{
 use report::{IdentifiedHit, json, text, text_of_answers, text_of_hits, text_of_ids};
 use std::alloc::{AllocError, Global};
 use std::test::Fail;
+use test_support::{PLAIN_REPORT, message, plain_block};
 
 // A cell with this identity, start, frame number and system information.
 fn entry_of(
@@ -56,13 +56,6 @@ fn plain_entry() -> Option<Entry> {
     let mib = Mib::new(Bandwidth::N6, Duration::Normal, Resource::One, 0, 0)?;
     entry_of(0, 0, 0, mib, Ok(plain_block()))
 }
-
-const PLAIN_REPORT: &str = "cells 1
-cell 0 at 0 sfn 0 ports 1 n6 phich normal one br 0 spare 0
-sib1 tac 1 cell 1 open allowed csg 0 - rx -70 offset - pmax - band 1 window ms1 tag 0 tdd - extension 0
-plmn 001 01 free
-si rf8 -
-";
 
 // A cell with two entries of the schedule.
 fn scheduled_entry() -> Option<Entry> {

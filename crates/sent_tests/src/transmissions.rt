@@ -1,7 +1,6 @@
 // The samples are those of a second program, `scripts/peers/second_cell.py`.
-ghost use Rattle.std.specs.Prelude.{◌≡◌, IfOk, length};
+ghost use Rattle.std.specs.Prelude.{◌≡◌, IfOk};
 
-use crate::examples::{message, plain_block};
 use cell_tx::{
     Cell, CellError, CellPlan, Transmission, accepted_are_sendable, frame, frames_stand, sample,
     send, send_all, sent_is_clean, sizes, symbols_stand,
@@ -10,8 +9,8 @@ use cs_num::{Gain, Sample};
 use lte_types::{
     Duration, Mnc, Period, Plmn, Plmns, Resource, Schedule, Sfn, Sib1, Timing, Window,
 };
-use std::alloc::{AllocError, Global};
 use std::test::Fail;
+use test_support::{message, plain_block, silent};
 
 // Samples of the plain cell from frame 0 on.
 const ROW: [(u32, i16, i16); 52] = [
@@ -537,13 +536,6 @@ fn samples_of_a_transmission(rt: HostRuntime) -> Result<(), Fail> {
     Ok(())
 }
 
-// A list of so many samples.
-fn silence(alloc: Global, count: usize) -> Result<Vec<Sample>, AllocError>
-    ensures { IfOk result (λ v. length v.items ≡ count) }
-{
-    Vec::from_elem(alloc, Sample { re: 0, im: 0 }, count)
-}
-
 // Whether these samples are among all.
 fn are_among(rows: &[(u32, i16, i16)], samples: &[Sample]) -> bool {
     let mut all = true;
@@ -565,7 +557,7 @@ fn a_whole_frame(rt: HostRuntime) -> Result<(), Fail> {
         sib1: usual_block(),
         ..plain_plan()
     })?;
-    let mut out = silence(rt.alloc(), 19_200)?;
+    let mut out = silent(rt.alloc(), 19_200)?;
     frame(&cell, Sfn::modulo(6), &mut out);
     assert!(rt; are_among(&FRAME, &out));
     symbols_stand();
@@ -575,7 +567,7 @@ fn a_whole_frame(rt: HostRuntime) -> Result<(), Fail> {
 #[test]
 fn a_whole_transmission(rt: HostRuntime) -> Result<(), Fail> {
     let transmission = turned()?;
-    let mut out = silence(rt.alloc(), 57_600)?;
+    let mut out = silent(rt.alloc(), 57_600)?;
     send_all(&transmission, &mut out);
     assert!(rt; are_among(&TURNED, &out));
     Ok(())

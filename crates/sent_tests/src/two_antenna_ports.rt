@@ -1,9 +1,9 @@
 // The numbers are those of a second program, `scripts/peers/second_two_ports.py`.
-use crate::examples::{Summary, is_summed_up};
 use capture_make::plan;
 use cell_tx::{CellError, CellPlan};
 use lte_types::Sib1;
 use std::test::Fail;
+use test_support::{Summary, is_summed_up};
 use two_tx::{Cell2, TwoMade, made_is_clean, make, received_is_clean};
 
 // The cell of a plan.

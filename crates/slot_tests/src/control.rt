@@ -6,7 +6,7 @@ use lte_types::{Bandwidth, CellId, Cfi, Duration, Mib, Resource};
 use pdcch::{candidate, elements};
 use soft_bits::Slot;
 use std::process::Abort;
-use test_signals::Rows;
+use test_support::Rows;
 
 // Slots 10, whose first symbols carry the control channel. The control information is the same in both.
 

@@ -1,6 +1,6 @@
 use crate::seen::slot_of;
 use pcfich::{cfi, only_one_indicator};
-use test_signals::{EMPTY, Rows};
+use test_support::{EMPTY, Rows};
 
 // Slots 10, whose symbol 0 carries the control format indicator.
 

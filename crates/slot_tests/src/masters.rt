@@ -6,7 +6,7 @@ use pbch::{Master, at_most_one_master, explain_slots, values};
 use soft_bits::Slot;
 use std::test::Fail;
 use tailbite::Trellis;
-use test_signals::{EMPTY, Rows};
+use test_support::{EMPTY, Rows};
 
 // Slots 1, which carry the broadcast channel.
 

@@ -7,7 +7,7 @@ use cs_num::Cpx;
 use lte_types::CellId;
 use soft_bits::Slot;
 use std::process::Abort;
-use test_signals::{EMPTY, Rows, level, point_of};
+use test_support::{EMPTY, Rows, level, point_of};
 
 /// All symbols of a slot, by subcarriers.
 pub(crate) type SlotRows = [&'static [u8; 72]; 7];

@@ -5,7 +5,7 @@ use crate::seen::{SlotRows, subframe_of};
 use cs_bits::Bits;
 use pdsch::{MOST_VALUES, values};
 use std::process::Abort;
-use test_signals::{EMPTY, Rows};
+use test_support::{EMPTY, Rows};
 
 // Slots 10 and 11 with the shared channel alone, and its coded bits, by `scripts/peers/subframe_reference.py`.
 

@@ -8,7 +8,7 @@ use soft_bits::Slot;
 use std::process::Abort;
 use std::test::Fail;
 use system_block::{Attempt, Decoders, attempt_in, one_answer, read};
-use test_signals::{EMPTY, Rows};
+use test_support::{EMPTY, Rows};
 
 // Slots 10 and 11 with system information, by `scripts/peers/subframe_reference.py`.
 

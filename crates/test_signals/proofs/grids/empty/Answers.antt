@@ -1,4 +1,0 @@
-use Rattle.test_signals.proofs.grids.empty.Goals as goal
-
-pub returns : goal.returns
-returns c = c.level.ensures 127 c.bounded.ensures

@@ -1,0 +1,62 @@
+//! Recordings as bytes: of each sample two components, of 16 bits and with the low byte first.
+
+ghost use Rattle.std.specs.Prelude.{◌≡◌, ◌+◌, ◌*◌, ◌≤◌, length, IfOk};
+
+use std::alloc::{AllocError, Global};
+
+/// So many bytes of zeros.
+pub fn silence(alloc: Global, len: usize) -> Result<Vec<u8>, AllocError>
+    ensures { IfOk result (λ bytes. length bytes.items ≡ len) }
+{
+    vec![in alloc; 0u8; len]
+}
+
+/// Writes some bytes from a place on.
+pub fn put(bytes: &mut [u8], at: usize, piece: &[u8])
+    requires { at + length piece.now ≤ length bytes.old }
+{
+    bytes[at..at + piece.len()].copy_from_slice(piece);
+}
+
+/// The certificate of 120 zeros, which has the word of zeros and no table of a start state: the mark, and zeros.
+pub fn certificate_of_zeros(alloc: Global) -> Result<Vec<u8>, AllocError>
+    ensures { IfOk result (λ bytes. length bytes.items ≡ 10501) }
+{
+    let mut bytes = silence(alloc, 10_501)?;
+    put(&mut bytes, 0, &[0x4c, 0x54, 0x43, 0x32]);
+    Ok(bytes)
+}
+
+/// Writes a sample at its place, counted in samples.
+pub fn put_sample(bytes: &mut [u8], at: usize, re: i16, im: i16)
+    requires { 4 * at + 4 ≤ length bytes.old }
+{
+    bytes[4 * at..4 * at + 2].copy_from_slice(&re.to_le_bytes());
+    bytes[4 * at + 2..4 * at + 4].copy_from_slice(&im.to_le_bytes());
+}
+
+/// Adds an error to each component: this number at even samples, and its negative at odd ones.
+pub fn add_errors(bytes: &mut [u8], error: i16) {
+    for i in 0..bytes.len() / 2 {
+        let signed = if i / 2 % 2 == 0 {
+            error
+        } else {
+            error.saturating_neg()
+        };
+        let value = i16::from_le_bytes([bytes[2 * i], bytes[2 * i + 1]]).saturating_add(signed);
+        bytes[2 * i..2 * i + 2].copy_from_slice(&value.to_le_bytes());
+    }
+}
+
+/// Moves each component by this number against its sign.
+pub fn oppose(bytes: &mut [u8], error: i16) {
+    for i in 0..bytes.len() / 2 {
+        let sent = i16::from_le_bytes([bytes[2 * i], bytes[2 * i + 1]]);
+        let moved = if sent > 0 {
+            sent.saturating_sub(error)
+        } else {
+            sent.saturating_add(error)
+        };
+        bytes[2 * i..2 * i + 2].copy_from_slice(&moved.to_le_bytes());
+    }
+}

@@ -1,0 +1,105 @@
+//! Grids of 72 subcarriers. A text of digits gives a symbol: a digit is 2 where the real part of a
+//! point is negative, and 1 more where the imaginary part is; any other character is an empty place.
+
+ghost use Rattle.std.specs.Prelude.{ℕ, ◌≤◌, ◌≡◌, All};
+ghost use Rattle.cs_num.specs.Complex.{IsWithin};
+
+use cs_num::{Cpx, clamp_div};
+use lte_types::Half;
+use sync_seq::{pss, sss};
+
+/// Symbols 0 to 4 of a slot, by subcarriers.
+pub type Rows = [&'static [u8; 72]; 5];
+
+/// An empty symbol.
+pub const EMPTY: &[u8; 72] =
+    b"........................................................................";
+
+/// Symbols 0 to 4 of slot 1 of identity 0, made by a second program: width n50, PHICH normal and one, upper bits 0,
+/// spare bits 0, one port, phase 0.
+pub const WIDE: Rows = [
+    b"321.22230.20323.23211.31000.11321.11110.03230.33021.11103.21202.21130.33",
+    b".02.03.31.20.13.22.31.02.32.01.13.02.02.11.01.13.11.22.10.12.23.32.21.30",
+    b"111313100331221332010132013322213222112220011211303301332003202213012031",
+    b"231230121011012021222231221202100100000120233032121320210002020020330313",
+    b"...0.....3.....3.....3.....2.....2.....0.....1.....3.....3.....0.....0..",
+];
+
+/// The point of a digit.
+pub fn point_of(digit: u8) -> Cpx
+    ensures { IsWithin 90 result }
+{
+    match digit {
+        b'0' => Cpx { re: 90, im: 90 },
+        b'1' => Cpx { re: 90, im: -90 },
+        b'2' => Cpx { re: -90, im: 90 },
+        b'3' => Cpx { re: -90, im: -90 },
+        _ => Cpx::ZERO,
+    }
+}
+
+/// The same value on all subcarriers.
+pub fn level(value: Cpx) -> [Cpx; 72]
+    ensures { (n : ℕ) → IsWithin n value → All (IsWithin n) result }
+{
+    [value; 72]
+}
+
+/// The grid of a row of digits.
+pub fn grid_of(row: &[u8; 72]) -> [Cpx; 72]
+    ensures { All (IsWithin 127) result }
+{
+    let mut grid = empty();
+    for k in 0..72 {
+        grid[k] = bounded(point_of(row[k]));
+    }
+    grid
+}
+
+/// The grid of the primary sequence of an identity within the group.
+pub fn primary_grid(n2: u8) -> [Cpx; 72]
+    requires { n2 ≤ 2 }
+    ensures { All (IsWithin 127) result }
+{
+    middle(&pss(n2))
+}
+
+/// The grid of the secondary sequence of identity 0 in subframe 0.
+pub fn secondary_grid() -> [Cpx; 72]
+    ensures { All (IsWithin 127) result }
+{
+    let signs = sss(0, 0, Half::Zero);
+    let mut values = [Cpx::ZERO; 62];
+    for n in 0..62 {
+        values[n].re = if signs[n] > 0 { 127 } else { -127 };
+    }
+    middle(&values)
+}
+
+// A grid with these values in its middle, each of at most 127.
+fn middle(values: &[Cpx; 62]) -> [Cpx; 72]
+    ensures { All (IsWithin 127) result }
+{
+    let mut grid = empty();
+    for n in 0..62 {
+        grid[n + 5] = bounded(values[n]);
+    }
+    grid
+}
+
+// An empty grid.
+fn empty() -> [Cpx; 72]
+    ensures { All (IsWithin 127) result }
+{
+    level(bounded(Cpx::ZERO))
+}
+
+// The value, or the nearest of at most 127.
+fn bounded(value: Cpx) -> Cpx
+    ensures { IsWithin 127 result }
+{
+    Cpx {
+        re: clamp_div(value.re, 1, 127) as i64,
+        im: clamp_div(value.im, 1, 127) as i64,
+    }
+}

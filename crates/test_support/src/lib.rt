@@ -1,0 +1,21 @@
+//! What the test crates share: signals, recordings, grids, descriptions and system information. Contracts say only
+//! what a test needs.
+#![tactic(auto)]
+
+mod bytes;
+mod descriptions;
+mod grids;
+mod samples;
+mod signals;
+mod summaries;
+mod system_information;
+
+pub use bytes::{add_errors, certificate_of_zeros, oppose, put, put_sample, silence};
+pub use descriptions::{PLAIN_KEYS, PLAIN_REPORT, description};
+pub use grids::{EMPTY, Rows, WIDE, grid_of, level, point_of, primary_grid, secondary_grid};
+pub use samples::{
+    put_rows, put_signals, put_symbol, send_often, silent, silent_recording, wide_cell,
+};
+pub use signals::{PRIMARY, SECONDARY, put_signal, write_signal};
+pub use summaries::{Summary, has_sums, is_summed_up};
+pub use system_information::{information, message, plain_block};

@@ -1,0 +1,47 @@
+//! System information that is sent.
+
+use lte_types::{Mnc, Period, Plmn, Plmns, Schedule, SiMessage, Sib1, Sibs, Window};
+
+/// An entry of the schedule: blocks of these codes, with this period.
+pub fn message(period: Period, codes: &[u8]) -> SiMessage {
+    let mut sibs = Sibs::new();
+    for code in codes {
+        sibs.push(*code);
+    }
+    SiMessage { period, sibs }
+}
+
+/// One network 001/01 without options, and one entry of the schedule, of this period and without blocks.
+pub fn information(period: Period) -> Sib1 {
+    let mut plmns = Plmns::new();
+    plmns.push(Plmn {
+        mcc: Some([0, 0, 1]),
+        mnc: Mnc::Two([0, 1]),
+        reserved: false,
+    });
+    let mut scheduling = Schedule::new();
+    scheduling.push(message(period, &[]));
+    Sib1 {
+        plmns,
+        tac: 1,
+        cell: 1,
+        barred: false,
+        intra: true,
+        csg: false,
+        csg_identity: None,
+        q_rx: -70,
+        q_offset: None,
+        p_max: None,
+        band: 1,
+        scheduling,
+        tdd: None,
+        window: Window::Ms1,
+        tag: 0,
+        extended: false,
+    }
+}
+
+/// The same with a period of 8 frames, the block of the plain cell.
+pub fn plain_block() -> Sib1 {
+    information(Period::Rf8)
+}

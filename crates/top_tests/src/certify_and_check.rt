@@ -1,0 +1,223 @@
+//! The commands `certify` and `check`.
+
+ghost use Rattle.std.specs.Prelude.{◌+◌, ◌≤◌, ◌<◌, length};
+
+use crate::{Output, ROOM, command_line, gives, output_from, output_into, output_of};
+use cs_outside::{FailSink, FailSource, MemSource};
+use lte_top::{Program, Status};
+use sample_file::bytes_of;
+use std::alloc::{AllocError, Global};
+use std::test::Fail;
+use test_support::{certificate_of_zeros, put, silence, wide_cell};
+
+// The bytes of a certificate without a table of a start state.
+const BYTES: usize = 10_501;
+
+// Whether `check` ends so over these bytes, which come in pieces of at most `most`, and writes this text and no other.
+fn checks(
+    alloc: Global,
+    bytes: Vec<u8>,
+    most: usize,
+    status: Status,
+    text: &[u8],
+) -> Result<bool, AllocError>
+    requires { 0 < most }
+{
+    let words = command_line(alloc, "check")?;
+    let mut source = FailSource::new(bytes, Vec::new(alloc), most);
+    Ok(output_from(alloc, Program::Receiver, &words, &mut source)?.is(status, text))
+}
+
+// Whether `check` refuses these bytes for the byte at a place, and writes nothing.
+fn refuses_at(alloc: Global, bytes: Vec<u8>, most: usize, place: u64) -> Result<bool, AllocError>
+    requires { 0 < most }
+{
+    checks(alloc, bytes, most, Status::BadCertificate(place), b"")
+}
+
+// The certificate of zeros with some bytes changed.
+fn changed(alloc: Global, at: usize, piece: &[u8]) -> Result<Vec<u8>, AllocError>
+    requires { at + length piece.now ≤ 10501 }
+{
+    let mut bytes = certificate_of_zeros(alloc)?;
+    put(&mut bytes, at, piece);
+    Ok(bytes)
+}
+
+// The first bytes of the certificate of zeros.
+fn cut(alloc: Global, len: usize) -> Result<Vec<u8>, AllocError> {
+    let mut bytes = certificate_of_zeros(alloc)?;
+    bytes.truncate(len);
+    Ok(bytes)
+}
+
+#[test]
+fn certificates_of_zeros_are_accepted(rt: HostRuntime) -> Result<(), Fail> {
+    let text = b"certificates 1\n0 yes\n";
+    for most in [BYTES, 1_000] {
+        let bytes = certificate_of_zeros(rt.alloc())?;
+        assert!(rt;
+            checks(rt.alloc(), bytes, most, Status::Done, text)?,
+            "{most} bytes"
+        );
+    }
+    Ok(())
+}
+
+#[test]
+fn another_cost_and_a_bound_that_no_branch_allows_are_not_accepted(
+    rt: HostRuntime,
+) -> Result<(), Fail> {
+    let text = b"certificates 1\n0 no\n";
+    // The cost stands at byte 249, and the general bound of step 40, state 0 at 253 + 4 * 64 * 39.
+    for (at, byte) in [(249, [1, 0, 0, 0]), (10_237, [255, 255, 255, 255])] {
+        let bytes = changed(rt.alloc(), at, &byte)?;
+        assert!(rt;
+            checks(rt.alloc(), bytes, BYTES, Status::Done, text)?,
+            "byte {at}"
+        );
+    }
+    Ok(())
+}
+
+#[test]
+fn each_certificate_of_many_is_answered(rt: HostRuntime) -> Result<(), Fail> {
+    let mut bytes = certificate_of_zeros(rt.alloc())?;
+    bytes.extend_from_slice(&changed(rt.alloc(), 249, &[1])?)?;
+    bytes.extend_from_slice(&certificate_of_zeros(rt.alloc())?)?;
+    let text = b"certificates 3\n0 yes\n1 no\n2 yes\n";
+    assert!(rt; checks(rt.alloc(), bytes, 10_007, Status::Done, text)?);
+    Ok(())
+}
+
+#[test]
+fn no_bytes_are_no_certificate(rt: HostRuntime) -> Result<(), Fail> {
+    let bytes = Vec::new(rt.alloc());
+    assert!(rt; checks(rt.alloc(), bytes, BYTES, Status::Done, b"certificates 0\n")?);
+    Ok(())
+}
+
+#[test]
+fn the_first_byte_that_breaks_the_form_is_told(rt: HostRuntime) -> Result<(), Fail> {
+    let alloc = rt.alloc();
+    assert!(rt; refuses_at(alloc, changed(alloc, 4, &[0xf1, 0x07])?, BYTES, 4)?);
+    // A value of -2,033 whose two bytes come in two pieces.
+    assert!(rt; refuses_at(alloc, changed(alloc, 242, &[0x0f, 0xf8])?, 243, 242)?);
+    assert!(rt; refuses_at(alloc, changed(alloc, 3, &[0])?, BYTES, 3)?);
+    assert!(rt; refuses_at(alloc, silence(alloc, 1)?, BYTES, 0)?);
+    Ok(())
+}
+
+#[test]
+fn an_early_end_is_told_as_the_length(rt: HostRuntime) -> Result<(), Fail> {
+    for len in [3, 4, 100, 243, 252, 10_500] {
+        let bytes = cut(rt.alloc(), len)?;
+        assert!(rt;
+            refuses_at(rt.alloc(), bytes, 1_000, len as u64)?,
+            "{len} bytes"
+        );
+    }
+    Ok(())
+}
+
+#[test]
+fn the_table_of_a_start_state_is_read_where_the_set_tells_it(rt: HostRuntime) -> Result<(), Fail> {
+    let mut bytes = changed(rt.alloc(), 10_493, &[1])?;
+    assert!(rt; refuses_at(rt.alloc(), bytes.clone()?, BYTES, 10_501)?);
+    bytes.extend_from_slice(&[0; 10_240])?;
+    bytes.extend_from_slice(&certificate_of_zeros(rt.alloc())?)?;
+    let text = b"certificates 2\n0 yes\n1 yes\n";
+    assert!(rt; checks(rt.alloc(), bytes, 7_001, Status::Done, text)?);
+    Ok(())
+}
+
+#[test]
+fn the_former_mark_is_refused_at_its_last_byte(rt: HostRuntime) -> Result<(), Fail> {
+    assert!(rt; refuses_at(rt.alloc(), changed(rt.alloc(), 3, &[0x31])?, BYTES, 3)?);
+    Ok(())
+}
+
+#[test]
+fn a_byte_after_a_certificate_begins_another(rt: HostRuntime) -> Result<(), Fail> {
+    for (byte, place) in [(0, 10_501), (0x4c, 10_502)] {
+        let mut bytes = certificate_of_zeros(rt.alloc())?;
+        bytes.push(byte)?;
+        assert!(rt;
+            refuses_at(rt.alloc(), bytes, BYTES, place)?,
+            "byte {place}"
+        );
+    }
+    Ok(())
+}
+
+#[test]
+fn a_byte_that_breaks_the_form_comes_before_a_fault(rt: HostRuntime) -> Result<(), Fail> {
+    let words = command_line(rt.alloc(), "check")?;
+    for (first, wanted) in [(0, Status::BadCertificate(0)), (0x4c, Status::ReadFault)] {
+        let bytes = vec![in rt.alloc(); first; 10]?;
+        let mut source = FailSource::new(bytes, vec![in rt.alloc(); 1]?, 1);
+        let output = output_from(rt.alloc(), Program::Receiver, &words, &mut source)?;
+        assert!(rt; output.is(wanted, b""), "byte {first}");
+    }
+    Ok(())
+}
+
+#[test]
+fn silence_has_no_certificate(rt: HostRuntime) -> Result<(), Fail> {
+    let bytes = silence(rt.alloc(), 230_400)?;
+    assert!(rt; gives(rt.alloc(), "certify", bytes, Status::Done, b"")?);
+    Ok(())
+}
+
+// The bytes of a cell of 50 resource blocks.
+fn wide_bytes(alloc: Global) -> Result<Vec<u8>, AllocError> {
+    bytes_of(alloc, &wide_cell(alloc)?)
+}
+
+// The lines of the wide cell.
+const WIDE_LINES: &[u8] =
+    b"cells 1\ncell 0 at 0 sfn 0 ports 1 n50 phich normal one br 0 spare 0\nsib1 none bandwidth n50\n";
+
+// Whether a run is done, and writes as many bytes as one certificate has.
+fn is_one_certificate(output: &Output) -> bool {
+    output.status == Status::Done && output.written.len() == 10_501
+}
+
+#[test]
+fn a_wider_cell_is_certified(rt: HostRuntime) -> Result<(), Fail> {
+    let bytes = wide_bytes(rt.alloc())?;
+    assert!(rt;
+        gives(
+            rt.alloc(),
+            "search",
+            bytes.clone()?,
+            Status::Done,
+            WIDE_LINES
+        )?
+    );
+    let certified = output_of(rt.alloc(), "certify", bytes)?;
+    assert!(rt; is_one_certificate(&certified));
+    let (certificate, text) = (certified.written, b"certificates 1\n0 yes\n");
+    assert!(rt; gives(rt.alloc(), "check", certificate, Status::Done, text)?);
+    Ok(())
+}
+
+// Whether a write failed after the first 2,000 bytes of a whole output.
+fn is_front(output: &Output, whole: &Output) -> bool {
+    output.status == Status::WriteFault
+        && output.written.len() == 2_000
+        && whole.written.starts_with(&output.written)
+}
+
+#[test]
+fn certificates_into_a_sink_that_fails_leave_a_front(rt: HostRuntime) -> Result<(), Fail> {
+    let alloc = rt.alloc();
+    let words = command_line(alloc, "certify")?;
+    let bytes = wide_bytes(alloc)?;
+    let whole = output_of(alloc, "certify", bytes.clone()?)?;
+    let mut sink = FailSink::new(alloc, vec![in alloc; 2; 1]?, 1_000, ROOM)?;
+    let mut source = MemSource::new(bytes);
+    let output = output_into(alloc, Program::Receiver, &words, &mut source, &mut sink)?;
+    assert!(rt; is_front(&output, &whole));
+    Ok(())
+}

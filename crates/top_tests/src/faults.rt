@@ -1,0 +1,39 @@
+//! Runs over zeros that a source or a sink breaks off.
+
+use crate::{Output, ROOM, command_line, output_from, output_into};
+use cs_outside::{FailSink, FailSource, MemSink, MemSource};
+use lte_top::{Program, run};
+use std::alloc::{AllocError, Global};
+use test_support::silence;
+
+/// What a word comes to over zeros where call 2 of the source fails.
+pub(crate) fn output_with_read_fault(alloc: Global, word: &str) -> Result<Output, AllocError> {
+    let fails = vec![in alloc; 2; 1]?;
+    let mut source = FailSource::new(silence(alloc, 230_400)?, fails, 1_000);
+    output_from(
+        alloc,
+        Program::Receiver,
+        &command_line(alloc, word)?,
+        &mut source,
+    )
+}
+
+/// What a word comes to over zeros where call 1 of the sink fails, which takes three bytes a call.
+pub(crate) fn output_with_write_fault(alloc: Global, word: &str) -> Result<Output, AllocError> {
+    let words = command_line(alloc, word)?;
+    let mut sink = FailSink::new(alloc, vec![in alloc; 1; 1]?, 3, ROOM)?;
+    let mut source = MemSource::new(silence(alloc, 230_400)?);
+    output_into(alloc, Program::Receiver, &words, &mut source, &mut sink)
+}
+
+/// What a word comes to over zeros where the sink has room for three bytes.
+pub(crate) fn output_with_little_room(alloc: Global, word: &str) -> Result<Output, AllocError> {
+    let words = command_line(alloc, word)?;
+    let mut source = MemSource::new(silence(alloc, 230_400)?);
+    let mut sink = MemSink::new(alloc, 3)?;
+    let status = run(alloc, &words, &mut source, &mut sink);
+    Ok(Output {
+        status,
+        written: sink.taken().to_vec(alloc)?,
+    })
+}

@@ -1,0 +1,48 @@
+//! Tests of the programs by command, over sources and sinks in memory, some of which fail on purpose.
+#![tactic(auto)]
+
+mod commands;
+
+pub use commands::{
+    Output, ROOM, command_line, gives, gives_by, is_no_form, output_by, output_from, output_into,
+    output_of, output_unread, sent_by, sent_with,
+};
+
+#[cfg(test)]
+mod cells;
+#[cfg(test)]
+mod certify_and_check;
+#[cfg(test)]
+mod evidence_of_cells;
+#[cfg(test)]
+mod faults;
+#[cfg(test)]
+mod hits;
+#[cfg(test)]
+mod ids;
+#[cfg(test)]
+mod lengths;
+#[cfg(test)]
+mod make;
+#[cfg(test)]
+mod pages;
+#[cfg(test)]
+mod samples_of_8_bits;
+#[cfg(test)]
+mod search;
+#[cfg(test)]
+mod search_all;
+#[cfg(test)]
+mod search_cancel;
+#[cfg(test)]
+mod search_long_prefix;
+#[cfg(test)]
+mod search_two_ports;
+#[cfg(test)]
+mod tell_and_apply;
+#[cfg(test)]
+mod texts;
+#[cfg(test)]
+mod transmit;
+#[cfg(test)]
+mod usage;

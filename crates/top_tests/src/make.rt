@@ -1,0 +1,81 @@
+//! The command `make`. The texts are those of two other programs, `scripts/peers/second_make.py` and
+//! `scripts/peers/second_search.py`; those of two antenna ports and of the extended prefix are worked rows.
+
+use crate::{Output, command_line, output_unread};
+use lte_top::{Program, Status};
+use std::alloc::{AllocError, Global};
+use std::test::Fail;
+
+const FIRST: &[u8] = b"made 0 at 0 sfn 0 held 1
+cells 1
+cell 0 at 0 sfn 0 ports 1 n6 phich normal oneSixth br 0 spare 0
+sib1 tac 0 cell 0 open allowed csg 0 - rx -70 offset - pmax - band 1 window ms1 tag 0 tdd - extension 0
+plmn 001 01 free
+si rf8 -
+si rf8 0,2
+";
+
+const LONGEST: &[u8] = b"made 89 at 19111 sfn 90 held 1
+";
+
+const TWO_PORTS: &[u8] = b"made 7 at 19193 sfn 8 held 1
+cells 1
+cell 7 at 19193 sfn 8 ports 2 n6 phich extended two br 0 spare 7
+sib1 tac 7 cell 7 open allowed csg 0 - rx -63 offset - pmax - band 8 window ms1 tag 7 tdd - extension 0
+plmn 001 01 free
+si rf8 -
+si rf8 0,2
+";
+
+const LONG_PREFIX: &[u8] = b"made 7 at 19193 sfn 8 held 1
+cells 1
+cell 7 at 19193 sfn 8 ports 1 n6 phich extended two br 0 spare 7
+sib1 none long-prefix
+";
+
+// What a command line comes to that reads nothing; `None` where it reads.
+fn made_by(alloc: Global, line: &str) -> Result<Option<Output>, AllocError> {
+    let words = command_line(alloc, line)?;
+    let (output, unread) = output_unread(alloc, Program::Receiver, &words)?;
+    Ok(if unread { Some(output) } else { None })
+}
+
+// Whether a command line reads nothing, is done, and writes this text and no other.
+fn makes(alloc: Global, line: &str, text: &[u8]) -> Result<bool, AllocError> {
+    match made_by(alloc, line)? {
+        Some(output) => Ok(output.is(Status::Done, text)),
+        None => Ok(false),
+    }
+}
+
+// The same of a text that begins so.
+fn makes_first(alloc: Global, line: &str, text: &[u8]) -> Result<bool, AllocError> {
+    match made_by(alloc, line)? {
+        Some(output) => Ok(output.status == Status::Done && output.written.starts_with(text)),
+        None => Ok(false),
+    }
+}
+
+#[test]
+fn the_first_recording_holds_its_cell(rt: HostRuntime) -> Result<(), Fail> {
+    assert!(rt; makes(rt.alloc(), "make 0", FIRST)?);
+    Ok(())
+}
+
+#[test]
+fn a_recording_of_99_frames_holds_its_cell(rt: HostRuntime) -> Result<(), Fail> {
+    assert!(rt; makes_first(rt.alloc(), "make 89", LONGEST)?);
+    Ok(())
+}
+
+#[test]
+fn number_7_of_two_antenna_ports_holds_its_cell(rt: HostRuntime) -> Result<(), Fail> {
+    assert!(rt; makes(rt.alloc(), "make 7 --ports 2", TWO_PORTS)?);
+    Ok(())
+}
+
+#[test]
+fn number_7_with_the_extended_prefix_holds_its_cell(rt: HostRuntime) -> Result<(), Fail> {
+    assert!(rt; makes(rt.alloc(), "make 7 --prefix long", LONG_PREFIX)?);
+    Ok(())
+}

@@ -1,0 +1,65 @@
+//! The pages about the programs, word for word.
+
+use crate::{command_line, output_unread};
+use lte_top::{Program, Status};
+use std::alloc::{AllocError, Global};
+use std::test::Fail;
+
+const HELP_OF_THE_RECEIVER: &str =
+    "usage: lte_cli COMMAND [RULE] [--json] [--format cu8] < INPUT > OUTPUT
+hits [--json] [--format cu8]: the places of primary synchronisation signals in a recording
+ids [--json] [--format cu8]: the same with the cell identity and the frame start that each tells
+search [RULE] [--json] [--format cu8]: the list of cells of a recording
+  --ports 2: of those with two antenna ports
+  --prefix long: of those with the extended cyclic prefix
+  --cancel: and the lists of what is left where a cell is taken off
+  --all: the lists of one antenna port, of two, and of the extended cyclic prefix
+evidence [--json] [--format cu8]: what supports each cell of the list
+certify [--format cu8]: a certificate for each cell of the list
+check: whether each of the certificates that are read is accepted
+transmit: the samples of the cell that is described
+make N [--ports 2 | --prefix long]: the list of recording number N, which is made and not read
+help, --help, -h: this page
+version, --version: the versions of the program and of its definition
+";
+
+const HELP_OF_THE_TUNER: &str = "usage: lte_tune COMMAND [--json] [--format cu8] < INPUT > OUTPUT
+tell [--json] [--format cu8]: the frequency offset of a recording
+apply [--format cu8]: the recording with this offset taken off, in 16-bit samples
+apply M [--format cu8]: the recording turned by M steps of 117.1875 Hz, in 16-bit samples
+help, --help, -h: this page
+version, --version: the versions of the program and of its definition
+";
+
+// Whether each of these command lines of a program reads nothing, is done, and writes this text and no other.
+fn print(alloc: Global, program: Program, lines: &[&str], text: &str) -> Result<bool, AllocError> {
+    for line in lines {
+        let (output, unread) = output_unread(alloc, program, &command_line(alloc, line)?)?;
+        if !unread || !output.is(Status::Done, text.as_bytes()) {
+            return Ok(false);
+        }
+    }
+    Ok(true)
+}
+
+#[test]
+fn each_program_has_its_help(rt: HostRuntime) -> Result<(), Fail> {
+    for (program, text) in [
+        (Program::Receiver, HELP_OF_THE_RECEIVER),
+        (Program::Tuner, HELP_OF_THE_TUNER),
+    ] {
+        assert!(rt; print(rt.alloc(), program, &["help", "--help", "-h"], text)?);
+    }
+    Ok(())
+}
+
+#[test]
+fn each_program_has_its_version(rt: HostRuntime) -> Result<(), Fail> {
+    for (program, text) in [
+        (Program::Receiver, "lte_cli 0.9.0\ndefinition 2\n"),
+        (Program::Tuner, "lte_tune 0.9.0\ndefinition 2\n"),
+    ] {
+        assert!(rt; print(rt.alloc(), program, &["version", "--version"], text)?);
+    }
+    Ok(())
+}

@@ -1,0 +1,35 @@
+//! The command `search --ports 2`.
+
+use crate::cells::with_two_ports;
+use crate::gives;
+use crate::lengths::refuse_lengths;
+use lte_top::{Program, Status};
+use std::test::Fail;
+use test_support::silence;
+
+#[test]
+fn zeros_hold_no_cell(rt: HostRuntime) -> Result<(), Fail> {
+    let (line, zeros) = ("search --ports 2", silence(rt.alloc(), 230_400)?);
+    assert!(rt; gives(rt.alloc(), line, zeros, Status::Done, b"cells 0\n")?);
+    Ok(())
+}
+
+#[test]
+fn lengths_that_are_refused(rt: HostRuntime) -> Result<(), Fail> {
+    refuse_lengths(&rt, rt.alloc(), Program::Receiver, "search --ports 2")
+}
+
+// As the second program of outputs, `scripts/peers/second_forms.py`, writes it.
+const AS_JSON: &str =
+    "[{\"at\":19110,\"bandwidth\":\"n6\",\"br\":2,\"duration\":\"normal\",\"identity\":90,\"ports\":2,\
+\"resource\":\"one\",\"sfn\":91,\"sib1\":{\"band\":27,\"barred\":false,\"cell\":90,\"csg\":false,\
+\"csg_identity\":null,\"extension\":false,\"intra\":true,\"p_max\":null,\"plmns\":[{\"mcc\":\"001\",\
+\"mnc\":\"01\",\"reserved\":false}],\"q_offset\":null,\"q_rx\":-29,\"scheduling\":[{\"period\":512,\"sibs\":[]},\
+{\"period\":512,\"sibs\":[0,2]}],\"tac\":90,\"tag\":26,\"tdd\":null,\"window\":40},\"spare\":26}]\n";
+
+#[test]
+fn the_cell_of_number_90_as_json(rt: HostRuntime) -> Result<(), Fail> {
+    let (line, bytes) = ("search --ports 2 --json", with_two_ports(rt.alloc())?);
+    assert!(rt; gives(rt.alloc(), line, bytes, Status::Done, AS_JSON.as_bytes())?);
+    Ok(())
+}

@@ -1,0 +1,122 @@
+//! The commands `tell` and `apply` of the second program.
+
+use crate::lengths::refuse_lengths;
+use crate::{command_line, gives_by, output_by, output_unread, sent_by};
+use lte_top::{Program, Status};
+use std::alloc::{AllocError, Global};
+use std::test::Fail;
+use test_support::silence;
+
+#[test]
+fn words_of_forms_of_the_tuner_read(rt: HostRuntime) -> Result<(), Fail> {
+    for line in [
+        "tell",
+        "apply",
+        "apply 0",
+        "apply 2047",
+        "apply -2048",
+        "apply -1",
+        "tell --json",
+        "tell --format cu8",
+        "tell --json --format cu8",
+        "apply --format cu8",
+        "apply -2048 --format cu8",
+    ] {
+        let words = command_line(rt.alloc(), line)?;
+        let (output, _) = output_unread(rt.alloc(), Program::Tuner, &words)?;
+        assert!(rt; output.status == Status::ReadFault, "{line}");
+    }
+    Ok(())
+}
+
+#[test]
+fn zeros_have_no_offset(rt: HostRuntime) -> Result<(), Fail> {
+    let (alloc, tuner) = (rt.alloc(), Program::Tuner);
+    let zeros = silence(alloc, 230_400)?;
+    assert!(rt;
+        gives_by(
+            alloc,
+            tuner,
+            "tell",
+            zeros.clone()?,
+            Status::Done,
+            b"hits 0\n"
+        )?
+    );
+    assert!(rt; gives_by(alloc, tuner, "apply", zeros.clone()?, Status::Done, &zeros)?);
+    Ok(())
+}
+
+#[test]
+fn lengths_that_are_refused(rt: HostRuntime) -> Result<(), Fail> {
+    for line in ["tell", "apply", "apply 9"] {
+        refuse_lengths(&rt, rt.alloc(), Program::Tuner, line)?;
+    }
+    Ok(())
+}
+
+// As the second program of outputs, `scripts/peers/second_forms.py`, writes it.
+const AS_JSON: &str =
+    "{\"candidates\":[{\"coarse\":0,\"energy\":1996394,\"peak\":3985589003236,\"power\":1996394,\"turn\":0},\
+{\"coarse\":8,\"energy\":2013870,\"peak\":2925206624674,\"power\":1996394,\"turn\":255},{\"coarse\":-12,\
+\"energy\":1985425,\"peak\":2838976729760,\"power\":1996394,\"turn\":-375},{\"coarse\":-4,\"energy\":1952070,\
+\"peak\":2139102564229,\"power\":1996394,\"turn\":-131}],\"told\":{\"cells\":1,\"hits\":2,\"turn\":0}}\n";
+
+#[test]
+fn what_is_told_of_a_plain_cell_as_json(rt: HostRuntime) -> Result<(), Fail> {
+    let (alloc, tuner) = (rt.alloc(), Program::Tuner);
+    let (line, bytes) = ("tell --json", sent_by(alloc, "")?.written);
+    assert!(rt; gives_by(alloc, tuner, line, bytes, Status::Done, AS_JSON.as_bytes())?);
+    Ok(())
+}
+
+#[test]
+fn nothing_is_told_of_zeros_as_json(rt: HostRuntime) -> Result<(), Fail> {
+    let (alloc, tuner) = (rt.alloc(), Program::Tuner);
+    let text = b"{\"candidates\":[],\"told\":null}\n";
+    let zeros = silence(alloc, 230_400)?;
+    assert!(rt; gives_by(alloc, tuner, "tell --json", zeros, Status::Done, text)?);
+    Ok(())
+}
+
+// A recording of 8-bit numbers, each of which stands somewhere.
+fn of_8_bits(alloc: Global) -> Result<Vec<u8>, AllocError> {
+    let mut bytes = Vec::new(alloc);
+    for i in 0..115_200_u32 {
+        let [low, _, _, _] = i.to_le_bytes();
+        bytes.push(low)?;
+    }
+    Ok(bytes)
+}
+
+// The same of 16-bit numbers: v stands for 2v - 255.
+fn of_16_bits(alloc: Global, bytes: &[u8]) -> Result<Vec<u8>, AllocError> {
+    let mut wide = Vec::new(alloc);
+    for &v in bytes {
+        let component = i16::from(v).saturating_mul(2).saturating_sub(255);
+        wide.extend_from_slice(&component.to_le_bytes())?;
+    }
+    Ok(wide)
+}
+
+#[test]
+fn recordings_of_8_bits_are_applied_as_those_of_16(rt: HostRuntime) -> Result<(), Fail> {
+    let (alloc, tuner) = (rt.alloc(), Program::Tuner);
+    let bytes = of_8_bits(alloc)?;
+    let wide = output_by(alloc, tuner, "apply 5", of_16_bits(alloc, &bytes)?)?;
+    assert!(rt; wide.status == Status::Done && wide.written.len() == 230_400);
+    let line = "apply 5 --format cu8";
+    assert!(rt; gives_by(alloc, tuner, line, bytes, Status::Done, &wide.written)?);
+    Ok(())
+}
+
+#[test]
+fn silence_of_8_bits_has_no_offset(rt: HostRuntime) -> Result<(), Fail> {
+    let (alloc, tuner) = (rt.alloc(), Program::Tuner);
+    let silent = vec![in alloc; 127_u8; 115_200]?;
+    let (line, text) = ("tell --format cu8", b"hits 0\n");
+    assert!(rt; gives_by(alloc, tuner, line, silent.clone()?, Status::Done, text)?);
+    let (line, zeros) = ("apply --format cu8", silence(alloc, 230_400)?);
+    assert!(rt; gives_by(alloc, tuner, line, silent, Status::Done, &zeros)?);
+    Ok(())
+}

@@ -1,0 +1,125 @@
+//! Texts of answers and of errors.
+
+use cell_json::JsonError;
+use cell_tx::CellError;
+use cert_stream::StreamError;
+use cs_outside::{Failed, ReadError};
+use lte_top::Status;
+use sample_file::FileError;
+use std::alloc::{AllocError, Global};
+use std::fmt::Display;
+use std::test::Fail;
+use tail_cert::BadCertificate;
+
+// Whether a value is printed so.
+fn prints<T: Display>(alloc: Global, value: &T, text: &str) -> Result<bool, AllocError> {
+    Ok(format!(in alloc; "{value}")?.as_str() == text)
+}
+
+#[test]
+fn texts_of_the_conditions_of_a_description(rt: HostRuntime) -> Result<(), Fail> {
+    let alloc = rt.alloc();
+    for (error, text) in [
+        (CellError::Form, "form"),
+        (CellError::Sfn, "sfn"),
+        (CellError::Offset, "offset"),
+        (CellError::Samples, "samples"),
+        (CellError::Gain, "gain"),
+        (CellError::Sib1Range, "sib1range"),
+        (CellError::Identity, "identity"),
+        (CellError::Spare, "spare"),
+        (CellError::Cfi, "cfi"),
+        (CellError::Assignment, "assignment"),
+        (CellError::Mcs, "mcs"),
+        (CellError::Punctured, "punctured"),
+        (CellError::Duplex, "duplex"),
+        (CellError::Extension, "extension"),
+        (CellError::Sib1Long, "sib1long"),
+    ] {
+        assert!(rt; prints(alloc, &error, text)?, "{text}");
+    }
+    Ok(())
+}
+
+#[test]
+fn texts_of_the_errors_of_recordings(rt: HostRuntime) -> Result<(), Fail> {
+    let alloc = rt.alloc();
+    for (error, text) in [
+        (FileError::Ragged, "ragged"),
+        (FileError::TooShort, "too short"),
+        (FileError::TooLong, "too long"),
+        (FileError::ReadFault, "read fault"),
+        (FileError::OutOfMemory, "out of memory"),
+    ] {
+        assert!(rt; prints(alloc, &error, text)?, "{text}");
+    }
+    Ok(())
+}
+
+#[test]
+fn texts_of_the_errors_of_sources_descriptions_and_certificates(
+    rt: HostRuntime,
+) -> Result<(), Fail> {
+    let alloc = rt.alloc();
+    for (error, text) in [
+        (ReadError::TooLong, "too long"),
+        (ReadError::ReadFault, "read fault"),
+        (ReadError::OutOfMemory, "out of memory"),
+    ] {
+        assert!(rt; prints(alloc, &error, text)?, "{text}");
+    }
+    for (error, text) in [
+        (JsonError::Cell(CellError::Gain), "bad cell: gain"),
+        (JsonError::OutOfMemory, "out of memory"),
+    ] {
+        assert!(rt; prints(alloc, &error, text)?, "{text}");
+    }
+    assert!(rt; prints(alloc, &Failed, "the call failed")?);
+    let broken = BadCertificate { place: 244 };
+    assert!(rt; prints(alloc, &broken, "bad certificate at byte 244")?);
+    Ok(())
+}
+
+#[test]
+fn texts_of_the_errors_of_streams_of_certificates(rt: HostRuntime) -> Result<(), Fail> {
+    let alloc = rt.alloc();
+    for (error, text) in [
+        (StreamError::Broken(10_501), "bad certificate at byte 10501"),
+        (StreamError::TooLong, "too long"),
+        (StreamError::ReadFault, "read fault"),
+        (StreamError::OutOfMemory, "out of memory"),
+    ] {
+        assert!(rt; prints(alloc, &error, text)?, "{text}");
+    }
+    Ok(())
+}
+
+#[test]
+fn texts_of_answers(rt: HostRuntime) -> Result<(), Fail> {
+    let alloc = rt.alloc();
+    for (status, code, text) in [
+        (Status::Usage, 2, "usage"),
+        (Status::Ragged, 3, "ragged"),
+        (Status::TooShort, 4, "too short"),
+        (Status::TooLong, 5, "too long"),
+        (Status::ReadFault, 6, "read fault"),
+        (Status::WriteFault, 7, "write fault"),
+        (Status::OutOfMemory, 8, "out of memory"),
+        (
+            Status::BadCell(CellError::Sib1Long),
+            9,
+            "bad cell: sib1long",
+        ),
+        (
+            Status::BadCertificate(10_501),
+            10,
+            "bad certificate at byte 10501",
+        ),
+    ] {
+        assert!(rt;
+            status.code() == code && prints(alloc, &status, text)?,
+            "{text}"
+        );
+    }
+    Ok(())
+}

@@ -1,0 +1,191 @@
+//! Words of the forms of the programs, and words of none.
+
+use crate::{command_line, is_no_form, output_unread};
+use lte_top::{Program, Status, Words};
+use std::alloc::{AllocError, Global};
+use std::test::Fail;
+
+// Whether a command line is of no form of a program.
+fn is_of_no_form(alloc: Global, program: Program, line: &str) -> Result<bool, AllocError> {
+    is_no_form(alloc, program, &command_line(alloc, line)?)
+}
+
+#[test]
+fn words_of_forms_of_the_receiver_read(rt: HostRuntime) -> Result<(), Fail> {
+    for line in [
+        "hits --json",
+        "hits --json --format cu8",
+        "ids --json",
+        "ids --json --format cu8",
+        "search --ports 2 --json",
+        "search --ports 2 --format cu8",
+        "search --ports 2 --json --format cu8",
+        "search --prefix long --json",
+        "search --prefix long --format cu8",
+        "search --prefix long --json --format cu8",
+        "search --cancel --json",
+        "search --cancel --format cu8",
+        "search --cancel --json --format cu8",
+        "search --all",
+        "search --all --json",
+        "search --all --format cu8",
+        "search --all --json --format cu8",
+        "evidence --json",
+        "evidence --json --format cu8",
+    ] {
+        let words = command_line(rt.alloc(), line)?;
+        let (output, _) = output_unread(rt.alloc(), Program::Receiver, &words)?;
+        assert!(rt; output.status == Status::ReadFault, "{line}");
+    }
+    Ok(())
+}
+
+#[test]
+fn words_of_no_form_of_the_receiver(rt: HostRuntime) -> Result<(), Fail> {
+    for line in [
+        "search --ports",
+        "search --ports 1",
+        "search --ports 02",
+        "search --ports 4",
+        "search --ports 2 --prefix long",
+        "search --json --ports 2",
+        "search --prefix",
+        "search --prefix short",
+        "search --prefix long 1",
+        "search --cancel --ports 2",
+        "search --cancel 4",
+        "search --cancel --all",
+        "search --all --ports 2",
+        "search --all --all",
+        "search --json --all",
+        "search --all --format cu8 --json",
+        "search --json --cancel",
+        "hits --ports 2",
+        "evidence --ports 2",
+        "certify --json",
+        "make 7 --ports",
+        "make 7 --ports 1",
+        "make --ports 2 7",
+        "make 07 --ports 2",
+        "make 4294967296 --ports 2",
+        "make 4294967296 --prefix long",
+        "make 7 --prefix long 7",
+        "make 7 --cancel",
+        "tell",
+        "apply",
+        "apply 5",
+        "help help",
+        "help --json",
+        "-help",
+        "--h",
+        "-v",
+        "-V",
+        "version --json",
+        "--version --version",
+    ] {
+        assert!(rt;
+            is_of_no_form(rt.alloc(), Program::Receiver, line)?,
+            "{line}"
+        );
+    }
+    Ok(())
+}
+
+#[test]
+fn words_of_no_form_of_the_tuner(rt: HostRuntime) -> Result<(), Fail> {
+    for line in [
+        "search",
+        "hits",
+        "make 0",
+        "tell 5",
+        "tell --format cu8 --json",
+        "tell --json --json",
+        "apply --json",
+        "apply --format cu8 5",
+        "apply 5 --format",
+        "help tell",
+        "version 1",
+        "apply -0",
+        "apply 05",
+        "apply -05",
+        "apply +5",
+        "apply 2048",
+        "apply -2049",
+        "apply 65531",
+        "apply 5.0",
+        "apply --5",
+        "apply 5 5",
+        "apply -",
+    ] {
+        assert!(rt; is_of_no_form(rt.alloc(), Program::Tuner, line)?, "{line}");
+    }
+    Ok(())
+}
+
+// The words of a list.
+fn words_of(alloc: Global, list: &[&str]) -> Result<Words, AllocError> {
+    let mut words = Words::new(alloc);
+    for word in list {
+        words.push(word)?;
+    }
+    Ok(words)
+}
+
+// Lists of words of no form.
+const NO_FORMS: [&'static [&'static str]; 17] = [
+    &["hit"],
+    &["hits "],
+    &["transmitter"],
+    &["hits", "ids"],
+    &["search", "-x"],
+    &[],
+    &["make"],
+    &["make 7"],
+    &["make", ""],
+    &["make", "07"],
+    &["make", "00"],
+    &["make", "+7"],
+    &["make", "-1"],
+    &["make", "7 "],
+    &["make", "4294967296"],
+    &["make", "18446744073709551616"],
+    &["search", "7"],
+];
+
+#[test]
+fn words_of_no_form_read_nothing(rt: HostRuntime) -> Result<(), Fail> {
+    for list in NO_FORMS {
+        let words = words_of(rt.alloc(), list)?;
+        assert!(rt;
+            is_no_form(rt.alloc(), Program::Receiver, &words)?,
+            "{list:?}"
+        );
+    }
+    Ok(())
+}
+
+#[test]
+fn forms_of_samples_and_json_stand_in_one_order(rt: HostRuntime) -> Result<(), Fail> {
+    for line in [
+        "hits --json --json",
+        "hits --format cu8 --json",
+        "ids --format cu8 --json",
+        "evidence --format cu8 --json",
+        "evidence --json --format cu8 --format cu8",
+        "search evidence",
+        "--json search",
+        "search --format",
+        "search --format ci16",
+        "search --format cu8 --json",
+        "search --json --json",
+        "check --format cu8",
+        "transmit --format cu8",
+        "make 7 --format cu8",
+    ] {
+        assert!(rt;
+            is_of_no_form(rt.alloc(), Program::Receiver, line)?,
+            "{line}"
+        );
+    }
+    Ok(())
+}
