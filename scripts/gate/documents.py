@@ -6,9 +6,9 @@ Looks whether what the pages name is there: definitions (`crate/specs/File.antt:
 are named by their last name alone; files that a block of commands reads, from the folder that it is in by then. The
 scripts that comments of tests name are looked for too. Numbers of crates, tests and wrong bodies have to be those of
 the tree, or of one crate of it, but in sentences with a date or with `Before` at their head, and in CHANGELOG.md. Each
-list of cells in docs/FORMATS.md has to have the form of scripts/tools/report.schema.json; that is left out, and said
-so, without jsonschema (Debian: python3-jsonschema). Prints a line for what is not so, and a count; the status is 0
-where all is.
+line of JSON in docs/FORMATS.md has to have the form of scripts/tools/report.schema.json under the words of its
+heading, and each JSON output a line; the form is left out, and said so, without jsonschema (Debian:
+python3-jsonschema). Prints a line for what is not so, and a count; the status is 0 where all is.
 """
 import json
 import pathlib
@@ -24,6 +24,7 @@ TOP = pathlib.Path(__file__).resolve().parent.parent.parent
 CRATES = TOP / "crates"
 PAGES = [*sorted(TOP.glob("*.md")), *sorted((TOP / "docs").glob("*.md")), *sorted((TOP / "scripts").glob("**/*.md"))]
 HISTORY = ("CHANGELOG.md",)
+OUTPUTS = ("hits", "ids", "search", "search_all", "search_cancel", "evidence", "tell")
 WORD = re.compile(r"`([^`]+)`")
 PLACE = re.compile(
     r"(?:crates/)?(?:(?:(\w+)/)?(specs|src|proofs|must-fail|wrong)/)?([\w/]+\.(?:antt|rt|edit))(?::([\w']+))?"
@@ -150,17 +151,28 @@ def faults_of_numbers(line, may):
                 yield f"{number} {folder or kind}, which the tree does not have"
 
 
-# ---- lists of cells
+# ---- JSON outputs
 
 
-def faults_of_lists(text):
-    lists = re.findall(r"^    (\[\{.*\}\])$", text, re.M)
-    if not lists:
-        yield "no list of cells"
+def examples(text):
+    """Pairs of a definition of the schema, by the words of the heading, and a line of JSON below that heading."""
+    for section in re.split(r"^#+ ", text, flags=re.M):
+        heading = re.match(r"`([a-z -]+) --json`\n", section)
+        name = heading and heading[1].replace("--", "").replace(" ", "_")
+        yield from ((name, one) for one in re.findall(r"^    ([\[{].*[\]}])$", section, re.M))
+
+
+def faults_of_examples(text):
     schema = json.loads((TOP / "scripts/tools/report.schema.json").read_text())
-    for one in lists:
-        for error in jsonschema.Draft202012Validator(schema).iter_errors(json.loads(one)) if jsonschema else ():
-            yield f"{error.json_path}: {error.message}"
+    found = list(examples(text))
+    yield from (f"no line of JSON of {name}" for name in OUTPUTS if name not in dict(found))
+    for name, one in found:
+        if name not in OUTPUTS:
+            yield f"a line of JSON under another heading: {one[:40]}"
+            continue
+        named = {"$ref": f"#/$defs/{name}", "$defs": schema["$defs"]}
+        for error in jsonschema.Draft202012Validator(named).iter_errors(json.loads(one)) if jsonschema else ():
+            yield f"{name}{error.json_path[1:]}: {error.message}"
 
 
 def faults_of(page, scripts, may):
@@ -179,12 +191,12 @@ def faults_of(page, scripts, may):
             yield from ((number - 1, fault) for fault in faults_of_block(block))
             block = []
     if page.name == "FORMATS.md":
-        yield from ((0, fault) for fault in faults_of_lists(text))
+        yield from ((0, fault) for fault in faults_of_examples(text))
 
 
 def main():
     if jsonschema is None:
-        print("left out: lists of cells against their schema: no jsonschema (Debian: python3-jsonschema)")
+        print("left out: lines of JSON against their schema: no jsonschema (Debian: python3-jsonschema)")
     scripts, may = {file.name for file in (TOP / "scripts").glob("**/*") if file.suffix in (".py", ".sh")}, counts()
     found = [f"{page.relative_to(TOP)}:{n}: {fault}" for page in PAGES for n, fault in faults_of(page, scripts, may)]
     for file in sorted(CRATES.glob("*_tests/src/**/*.rt")):

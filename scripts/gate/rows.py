@@ -133,9 +133,7 @@ def of_two_ports(number):
 def of_long_prefix(number):
     def patterns(text):
         gains, bound, told = summary(text)
-        return [
-            exactly(f"gain: {gains}, bound: {bound}, {told}") + "[^{}]*" + exactly(f"alloc(), {number})?, &summary)")
-        ]
+        return [exactly(told) + "[^{}]*" + exactly(f"alloc(), {number})?, {gains}, {bound}, &summary)")]
 
     return patterns
 
@@ -193,7 +191,7 @@ def described(**keys):
 
 
 def all_sizes():
-    """The 57,600 samples of crates/turning_tests/src/turned.rt."""
+    """The 57,600 samples of crates/list_tests/src/turned.rt."""
     numbers = (
         part for i in range(57_600) for part in (i * 7_919 % 65_536 - 32_768, (i * 104_729 + 5) % 65_536 - 32_768)
     )
@@ -222,6 +220,27 @@ def shown(page):
             yield Look(page, ROOM + script, lines_together)
 
 
+def of_forms(recording, files):
+    """What second_forms.py writes of a recording for the words of each form, and the file that has it."""
+    return [Look(file, f"{recording} | $PY peers/second_forms.py {words}", lines_together) for words, file in files]
+
+
+TESTS = "crates/top_tests/src/"
+PLAIN_FORMS = (
+    ("hits --json", TESTS + "hits.rt"),
+    ("ids --json", TESTS + "ids.rt"),
+    ("evidence --json", TESTS + "evidence_of_cells.rt"),
+    ("search --json", TESTS + "search.rt"),
+    ("search --all", TESTS + "search_all.rt"),
+    ("search --cancel --json", TESTS + "search_cancel.rt"),
+    ("tell --json", TESTS + "tell_and_apply.rt"),
+)
+TWO_PORTS_FORMS = (
+    ("search --ports 2 --json", TESTS + "search_two_ports.rt"),
+    ("search --all --json", TESTS + "search_all.rt"),
+)
+LONG_PREFIX_FORMS = (("search --prefix long --json", TESTS + "search_long_prefix.rt"),)
+SHOWN_FORMS = ("hits --json", "ids --json", "evidence --json", "search --cancel --json", "search --all")
 CHANCE = "$PY peers/second_cell.py < examples/chance_line.json | $PY peers/second_evidence.py"
 # by hand
 SLOW_LOOKS = [
@@ -231,27 +250,25 @@ SLOW_LOOKS = [
 # without numpy
 PLAIN_LOOKS = [
     Look("crates/slot_tests/src/*.rt", "$PY peers/subframe_reference.py", constants),
-    Look("crates/slot_tests/src/masters.rt crates/cell_tests/src/rows.rt", "$PY peers/frames_reference.py", values),
+    Look("crates/slot_tests/src/masters.rt crates/list_tests/src/rows.rt", "$PY peers/frames_reference.py", values),
     Look("crates/code_tests/src/turbo_decoding.rt", "$PY peers/turbo_reference.py", turbo),
 ]
 PLAIN_LOOKS += [
-    Look(
-        "crates/turning_tests/src/turned.rt", f"$PY peers/tune_reference.py turn {m}", sums_of(name), all_sizes(), False
-    )
+    Look("crates/list_tests/src/turned.rt", f"$PY peers/tune_reference.py turn {m}", sums_of(name), all_sizes(), False)
     for m, name in ((-2048, "back"), (77, "forth"))
 ]
 # with it
 LOOKS = [
     Look(
-        "crates/cancel_tests/src/rounds_of_recordings.rt",
+        "crates/list_tests/src/rounds_of_recordings.rt",
         "$PY peers/second_cell.py | $PY peers/second_cancel.py",
         lines_together,
         described(gain=[20, 9]),
     ),
-    Look("crates/cell_tests/src/made.rt", "$PY peers/second_make.py 0 | $PY peers/second_search.py", lines_together),
-    Look("crates/cell_tests/src/supports.rt", CHANCE, lines_together),
+    Look("crates/top_tests/src/make.rt", "$PY peers/second_make.py 0 | $PY peers/second_search.py", lines_together),
+    Look("crates/top_tests/src/evidence_of_cells.rt", CHANCE, lines_together),
     Look(
-        "crates/cell_tests/src/supports.rt",
+        "crates/top_tests/src/evidence_of_cells.rt",
         "$PY peers/second_cell.py | $PY peers/second_evidence.py",
         lines_together,
         described(),
@@ -278,6 +295,11 @@ LOOKS = [
     ),
 ]
 LOOKS += [*shown("README.md"), *shown("docs/FORMATS.md")]
+LOOKS += of_forms("$PY peers/second_cell.py < examples/plain_cell.json", PLAIN_FORMS)
+LOOKS += of_forms("$PY peers/second_two_ports.py 90", TWO_PORTS_FORMS)
+LOOKS += of_forms("$PY peers/second_long_prefix.py 90", LONG_PREFIX_FORMS)
+LOOKS += of_forms("cat ../crates/capture_example/stdin", [(words, "docs/FORMATS.md") for words in SHOWN_FORMS])
+LOOKS += of_forms("cat ../crates/lte_tune/stdin", [("tell --json", "docs/FORMATS.md")])
 for n in ("0", "7", "4294967221"):
     LOOKS += [
         Look("crates/sent_tests/src/made_recordings.rt", f"$PY peers/second_make.py -i {n}", of_one_port(n)),

@@ -1,6 +1,6 @@
 #!/usr/bin/env python3
 """A second transmitter of slot 1 of the four frames of a period, of which each keeps only some places of the broadcast
-channel, from which rows of tests come (`crates/slot_tests`, `crates/cell_tests`). Nothing is shared with the
+channel, from which rows of tests come (`crates/slot_tests`, `crates/list_tests`). Nothing is shared with the
 repository's code; sequence, check and code are those of `scripts/peers/subframe_reference.py`. TS 36.211 sections 6.6
 and 6.10, TS 36.212 section 5.3.1.
 

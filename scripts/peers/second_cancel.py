@@ -10,8 +10,6 @@ that of erasure_reference.py; nothing is shared with the repository's code.
 
 Debian: python3-numpy.
 """
-import sys
-
 import numpy as np
 
 from erasure_reference import crc24a, resolves
@@ -21,42 +19,22 @@ from second_search import (
     INTERLEAVER,
     Refused,
     added,
-    cell_line,
     control_groups,
     control_word,
     decoded,
-    entries,
     fields_lines,
     grant,
-    hits,
     indicator,
-    is_same_cell,
+    list_lines,
+    listed,
     pseudo_random,
+    recording,
     shared_places,
     slot_values,
-    system_lines,
     turbo_reading,
     values_at,
     wave,
 )
-
-
-def silent(_):
-    pass
-
-
-def listed(r):
-    """The entries of the list, in order."""
-    kept = []
-    for hit in hits(r):
-        for entry in entries(r, *hit, silent):
-            if not any(is_same_cell(other, entry) for other in kept):
-                kept.append(entry)
-    return sorted(kept)
-
-
-def list_lines(r, found):
-    return [f"cells {len(found)}"] + [line for e in found for line in (cell_line(e), system_lines(r, e, silent))]
 
 
 # ---- the plan of an entry
@@ -184,8 +162,7 @@ def rounds(r):
 
 
 def main():
-    r = np.frombuffer(sys.stdin.buffer.read(), "<i2").astype(np.int64).reshape(-1, 2)
-    for line in rounds(r):
+    for line in rounds(recording()):
         print(line)
 
 

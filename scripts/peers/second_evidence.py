@@ -7,20 +7,18 @@ code. Slow: seconds for each hit. Debian: python3-numpy.
 """
 import sys
 
-import numpy as np
-
 from second_search import (
     FRAME,
     PORTS,
     added,
     coded_reading,
     crc,
-    entries,
     hits,
     identity,
-    is_same_cell,
     least,
+    listed,
     pseudo_random,
+    recording,
     reference,
     seen,
     slot_values,
@@ -30,27 +28,18 @@ from second_search import (
 )
 
 
-def silent(text):
-    """Nothing is said on the way."""
-
-
-def kept(r, found):
-    """The list, in its order."""
-    cells = []
-    for hit in found:
-        for entry in entries(r, *hit, silent):
-            if not any(is_same_cell(other, entry) for other in cells):
-                cells.append(entry)
-    return sorted(cells)
-
-
-def thousandths(r, t, n2):
-    """1000 C / (E P), rounded down."""
+def measures(r, t, n2):
+    """C, E and P of a place."""
     samples = [(int(a), int(b)) for a, b in r[t : t + 128]]
     signal = [(int(a), int(b)) for a, b in zip(*wave(n2))]
     products = [times_conjugate(x, p) for x, p in zip(samples, signal)]
     c = sum(a for a, b in products) ** 2 + sum(b for a, b in products) ** 2
-    e, p = (sum(a * a + b * b for a, b in values) for values in (samples, signal))
+    return (c, *(sum(a * a + b * b for a, b in values) for values in (samples, signal)))
+
+
+def thousandths(r, t, n2):
+    """1000 C / (E P), rounded down."""
+    c, e, p = measures(r, t, n2)
     return 1000 * c // (e * p)
 
 
@@ -106,14 +95,14 @@ def line(r, told, entry):
     )
 
 
+def lines(r):
+    told = [(t, identity(r, t, n2)) for t, n2 in hits(r)]
+    cells = listed(r)
+    return [f"evidence {len(cells)}"] + [line(r, told, entry) for entry in cells]
+
+
 def main():
-    r = np.frombuffer(sys.stdin.buffer.read(), "<i2").astype(np.int64).reshape(-1, 2)
-    found = hits(r)
-    told = [(t, identity(r, t, n2)) for t, n2 in found]
-    cells = kept(r, found)
-    print("evidence", len(cells))
-    for entry in cells:
-        print(line(r, told, entry))
+    print("\n".join(lines(recording())))
 
 
 if __name__ == "__main__":

@@ -1,12 +1,14 @@
 #!/usr/bin/python3
-"""second_long_prefix.py [-i] N [FIRST [COUNT]]
+"""second_long_prefix.py [-i | --spoiled SIZE] N [FIRST [COUNT]]
 
 A second maker of recordings by number with the extended cyclic prefix (docs/FORMATS.md): synchronisation and reference
 signals and PBCH of TS 36.211 sections 6.6, 6.10.1, 6.11 and 6.12, over the codes of second_cell.py and the recipe of
 second_make.py. It writes the recording to standard output. With -i it prints the gain, the bound, sums over all
-samples, and COUNT samples from sample FIRST on.
+samples, and COUNT samples from sample FIRST on. With --spoiled there is noise of at most SIZE in slot 1 of each frame
+that begins in the recording.
 
     scripts/peers/second_long_prefix.py -i 7
+    scripts/peers/second_long_prefix.py --spoiled 900 1 | scripts/peers/second_search.py --prefix long why
 
 Debian: python3-numpy.
 """
@@ -72,7 +74,21 @@ def recording(n):
     return clean + np.array(errors).reshape(clean.shape)
 
 
+def spoiled(n, most):
+    """The recording with noise in slot 1 of each frame, by a generator of 32 bits."""
+    samples, state = recording(n), 1
+    for frame in range(-recipe(n)["offset"] % 19_200, len(samples), 19_200):
+        for i in range(frame + 960, min(frame + 1920, len(samples))):
+            for part in (0, 1):
+                state = (state * 1_664_525 + 1_013_904_223) % 2**32
+                samples[i, part] += (state >> 16) % (2 * most + 1) - most
+    return np.clip(samples, -32_768, 32_767)
+
+
 def main():
+    if sys.argv[1] == "--spoiled":
+        sys.stdout.buffer.write(spoiled(int(sys.argv[3]), int(sys.argv[2])).astype("<i2").tobytes())
+        return
     told = sys.argv[1] == "-i"
     n, *rest = map(int, sys.argv[1 + told :])
     samples = recording(n)

@@ -1,14 +1,15 @@
 #!/usr/bin/python3
-"""second_search.py [why] < RECORDING
+"""second_search.py [--ports 2 | --prefix long] [why] < RECORDING
 
-A second program for the list, written from docs/DEFINITION.md and the standard (rule 11 also with definitions that it
-names in view), which shares nothing with the repository's code. It prints what `lte_cli search` prints. With `why` it
-says on standard error what it finds on the way: each hit, the identity that it tells, and of the frames that are read
+A second program for the lists, written from docs/DEFINITION.md and the standard (rule 11 also with definitions that it
+names in view), which shares nothing with the repository's code. It prints what `lte_cli search` prints, with the words
+of another rule what `lte_cli search` prints with them. With `why` it says on standard error what it finds on the way: each hit, the identity that it tells, and of the frames that are read
 together at each phase the cost, the total and the antenna ports whose check passes (0: none); then, of each cell and
 each frame of even number that is tried, how far rule 11 comes in it, and why it stops. Slow: seconds for each hit.
 Debian: python3-numpy. Recordings: second_cell.py.
 """
 import sys
+from typing import NamedTuple
 
 import numpy as np
 
@@ -37,6 +38,30 @@ INTERLEAVER = {
     624: (41, 234), 656: (185, 82), 704: (155, 44), 720: (79, 120), 768: (217, 48), 800: (17, 80), 864: (17, 48),
     928: (15, 58), 992: (65, 124), 1024: (31, 64)}
 # fmt: on
+
+
+# ---- rules
+
+
+class Rule(NamedTuple):
+    """How a cell sends: antenna ports, length of a prefix, symbols of a slot, and which master blocks are taken."""
+
+    ports: int = 1
+    first: int = 10  # where the useful part of a slot's first symbol begins
+    step: int = 137  # from one useful part to the next
+    symbols: int = 7
+    later: int = 4  # the second symbol with reference signals
+    n_cp: int = 1
+    beside: tuple = (0, 1)  # the broadcast channel's symbols of slot 1 that leave out reference places
+    size: int = 480  # values of a frame's broadcast channel
+    taken: tuple = (1, 2, 4)
+    has_system: bool = True
+
+
+ONE_PORT = Rule()
+TWO_PORTS = Rule(ports=2, taken=(2,))
+LONG_PREFIX = Rule(first=32, step=160, symbols=6, later=3, n_cp=0, beside=(0, 1, 3), size=432, has_system=False)
+RULES = {(): ONE_PORT, ("--ports", "2"): TWO_PORTS, ("--prefix", "long"): LONG_PREFIX}
 
 
 # ---- tables and rounding
@@ -137,11 +162,11 @@ def secondary(n1, n2, half):
     ]
 
 
-def identity(r, t, n2):
+def identity(r, t, n2, rule=ONE_PORT):
     """The identity that a hit tells, and the start of its frames."""
     (a, b), (p, q) = seen(r, t)[5:67].T, primary(n2).T
     channel = a * p + b * q, b * p - a * q
-    c, e = seen(r, t - 137)[5:67].T
+    c, e = seen(r, t - rule.step)[5:67].T
     agreement = [int(x) for x in c * channel[0] + e * channel[1]]
     scores = [
         (sum(s * x for s, x in zip(secondary(n1, n2, half), agreement)), -half, -n1)
@@ -164,9 +189,9 @@ def pseudo_random(c_init, count):
     return [x1[i + 1600] ^ x2[i + 1600] for i in range(count)]
 
 
-def reference(cell, slot, symbol):
+def reference(cell, slot, symbol, n_cp=1):
     """The twelve values (TS 36.211 section 6.10.1)."""
-    bits = pseudo_random(2**10 * (7 * (slot + 1) + symbol + 1) * (2 * cell + 1) + 2 * cell + 1, 232)
+    bits = pseudo_random(2**10 * (7 * (slot + 1) + symbol + 1) * (2 * cell + 1) + 2 * cell + n_cp, 232)
     return [(90 - 180 * bits[2 * (m + 104)], 90 - 180 * bits[2 * (m + 104) + 1]) for m in range(12)]
 
 
@@ -181,28 +206,55 @@ def channel(pilots, offset):
     return tuple((3 - r) * x + r * y for x, y in zip(pilots[i], pilots[i + 1]))
 
 
-def slot_values(r, frame, cell, slot):
-    """The two values of each element of a slot, by its own reference signals, before descrambling."""
-    symbols = [[(int(a), int(b)) for a, b in seen(r, frame + 960 * slot + 10 + 137 * l)] for l in range(7)]
-    sent = {l: reference(cell, slot, l) for l in (0, 4)}
-    places = [(0 if k % 6 == cell % 6 else 4, k) for k in range(cell % 3, 72, 3)]
-    pilots = [times_conjugate(symbols[l][k], sent[l][k // 6]) for l, k in places]
-    gains = [channel(pilots, k - cell % 3) for k in range(72)]
-    energy = sum(x * x for l, k in places for x in symbols[l][k])
+class Row(NamedTuple):
+    """A symbol of a slot as it was seen, the channel of each antenna port by subcarrier, and the energy of the pilots."""
 
-    def value(part):
-        size = min(6 * abs(part) // energy, 127) if energy else 0
-        return size if part > 0 else -size
+    seen: list
+    channels: list
+    energy: int
 
-    return [
-        [[value(part) for part in times_conjugate(x, gain)] for x, gain in zip(symbol, gains)] for symbol in symbols
+
+def slot_values(r, frame, cell, slot, rule=ONE_PORT):
+    """The symbols of a slot, with the channels by its own reference signals."""
+    symbols = [
+        [(int(a), int(b)) for a, b in seen(r, frame + 960 * slot + rule.first + rule.step * l)]
+        for l in range(rule.symbols)
     ]
+    sent = {l: reference(cell, slot, l, rule.n_cp) for l in (0, rule.later)}
+    channels, energy = [], 0
+    for port in range(rule.ports):
+        places = [(0 if k % 6 == (cell + 3 * port) % 6 else rule.later, k) for k in range(cell % 3, 72, 3)]
+        pilots = [times_conjugate(symbols[l][k], sent[l][k // 6]) for l, k in places]
+        channels.append([channel(pilots, k - cell % 3) for k in range(72)])
+        energy += sum(x * x for l, k in places for x in symbols[l][k])
+    return [Row(symbol, channels, energy) for symbol in symbols]
 
 
-def values_at(symbols, places, scrambling):
-    """Those of places, which are pairs of symbol and subcarrier, by the bits before scrambling."""
-    values = [value for l, k in places for value in symbols[l][k]]
-    return [-value if bit else value for value, bit in zip(values, scrambling)]
+def soft(part, energy):
+    size = min(6 * abs(part) // energy, 127) if energy else 0
+    return size if part > 0 else -size
+
+
+def pair_parts(row, k, a, b):
+    """What stands for the two points that both ports send at two places (TS 36.211 section 6.3.4.3 read backward)."""
+    h, g = (its[k] for its in row.channels)
+    first, second = times_conjugate(a, h), times_conjugate(b, h)
+    third, fourth = times_conjugate(g, b), times_conjugate(g, a)
+    return [first[0] + third[0], first[1] + third[1], second[0] - fourth[0], second[1] - fourth[1]]
+
+
+def values_at(symbols, places, scrambling=None):
+    """The values of places, which are pairs of symbol and subcarrier, by the bits before scrambling."""
+    values = []
+    if len(symbols[0].channels) == 1:
+        for l, k in places:
+            row = symbols[l]
+            values += [soft(part, row.energy) for part in times_conjugate(row.seen[k], row.channels[0][k])]
+    else:
+        for (l, k), (m, j) in zip(places[0::2], places[1::2]):
+            row = symbols[l]
+            values += [soft(part, row.energy) for part in pair_parts(row, k, row.seen[k], symbols[m].seen[j])]
+    return values if scrambling is None else [-value if bit else value for value, bit in zip(values, scrambling)]
 
 
 # ---- the least word
@@ -224,11 +276,11 @@ def coded_reading(count):
     return [(place, stream) for stream in range(3) for place in block_order(count)]
 
 
-def added(values, reading):
-    """The sums of the values of each coded bit, by place and stream; the reading goes round."""
+def added(values, reading, first=0):
+    """The sums of the values of each coded bit, by place and stream; the reading goes round, from this bit on."""
     sums = [[0] * 3 for _ in range(len(reading) // 3)]
     for i, value in enumerate(values):
-        place, stream = reading[i % len(reading)]
+        place, stream = reading[(first + i) % len(reading)]
         sums[place][stream] += value
     return sums
 
@@ -329,9 +381,14 @@ def grant(word):
 # ---- system information: the shared channel
 
 
-def shared_places(cell, cfi, first, count):
+def shared_places(cell, cfi, first, count, rule=ONE_PORT):
     """TS 36.211 section 6.3.5, without symbols 5 and 6."""
-    reference_places = {(l, k) for l, v in ((4, 3), (7, 0), (11, 3)) for k in range((v + cell) % 6, 72, 6)}
+    reference_places = {
+        (l, k)
+        for port in range(rule.ports)
+        for l, v in ((4, 3), (7, 0), (11, 3))
+        for k in range((v + 3 * port + cell) % 6, 72, 6)
+    }
     return [
         (l, k)
         for l in range(cfi + 1, 14)
@@ -444,32 +501,34 @@ def fields_lines(block, size):
     return "\n".join([text] + networks + schedule)
 
 
-def attempt(r, frame, cell, extended, resource, trace):
+def attempt(r, frame, cell, extended, resource, trace, rule):
     """The lines of one frame, by its subframe 5."""
-    symbols = slot_values(r, frame, cell, 10) + slot_values(r, frame, cell, 11)
+    symbols = slot_values(r, frame, cell, 10, rule) + slot_values(r, frame, cell, 11, rule)
     cfi = indicator(symbols, cell)
     trace(f"indicator {cfi}")
     word = control_word(symbols, cell, control_groups(cell, cfi, extended, resource))
     trace(f"control {word:021b}")
     first, count, size, rv = grant(word)
     trace(f"blocks {first} to {first + count - 1} size {size} rv {rv}")
-    places = shared_places(cell, cfi, first, count)
+    places = shared_places(cell, cfi, first, count, rule)
     values = values_at(symbols, places, pseudo_random(65_535 * 2**14 + 5 * 512 + cell, 2 * len(places)))
     block, iterations = decoded(added(values, turbo_reading(size + 24, rv)), size)
     trace(f"iterations {iterations}")
     return fields_lines(block, size)
 
 
-def system_lines(r, entry, say):
+def system_lines(r, entry, say, rule=ONE_PORT):
     start, cell, sfn, ports, block = entry
-    if ports != 1 or block >> 21:
-        return "sib1 none " + (f"ports {ports}" if ports != 1 else f"bandwidth {WIDTHS[block >> 21]}")
+    if not rule.has_system:
+        return "sib1 none long-prefix"
+    if ports != rule.ports or block >> 21:
+        return "sib1 none " + (f"ports {ports}" if ports != rule.ports else f"bandwidth {WIDTHS[block >> 21]}")
     say(f"cell {cell} at {start}")
     reasons = []
     for j in range(sfn % 2, min(16, (len(r) - start) // FRAME), 2):
         steps = [f"  frame {j}"]
         try:
-            lines = attempt(r, start + FRAME * j, cell, block >> 20 & 1, block >> 18 & 3, steps.append)
+            lines = attempt(r, start + FRAME * j, cell, block >> 20 & 1, block >> 18 & 3, steps.append, rule)
             say(", ".join(steps + ["read"]))
             return lines
         except Refused as reason:
@@ -481,36 +540,39 @@ def system_lines(r, entry, say):
 # ---- the list
 
 
-def broadcast_values(r, cell, start, j):
-    """The 480 values of frame j of a start, before descrambling."""
-    symbols = slot_values(r, start + FRAME * j, cell, 1)
-    return [value for l in range(4) for k in range(72) if l >= 2 or k % 3 != cell % 3 for value in symbols[l][k]]
+def broadcast_values(r, cell, start, j, rule):
+    """The values of frame j of a start, before descrambling."""
+    symbols = slot_values(r, start + FRAME * j, cell, 1, rule)
+    return values_at(
+        symbols, [(l, k) for l in range(4) for k in range(72) if l not in rule.beside or k % 3 != cell % 3]
+    )
 
 
-def masters(frames, sequence, phases, say):
+def masters(frames, sequence, phases, say, rule):
     """What frames of one period tell together: phase of the first, ports and the 24 bits of each master block."""
     values = [value for frame in frames for value in frame]
     for phase in phases:
-        scrambling = sequence[480 * phase :]
-        sums = added([-value if bit else value for value, bit in zip(values, scrambling)], coded_reading(40))
+        first = rule.size * phase
+        plain = [-value if bit else value for value, bit in zip(values, sequence[first:])]
+        sums = added(plain, coded_reading(40), first)
         total = sum(abs(v) for row in sums for v in row)
         cost, word = least(sums)
         ports = PORTS.get(crc(word >> 16, 24) ^ word & 0xFFFF, 0)
         say(f"    phase {phase} cost {cost} of {total} ports {ports}")
-        if total > 0 and 4 * cost <= total and ports and word >> 37 <= 5:
+        if total > 0 and 4 * cost <= total and ports in rule.taken and word >> 37 <= 5:
             yield phase, ports, word >> 16
 
 
-def entries(r, t, n2, say):
+def entries(r, t, n2, say, rule=ONE_PORT):
     """Start, identity, frame number, ports and block of each entry of a hit."""
-    cell, start = identity(r, t, n2)
+    cell, start = identity(r, t, n2, rule)
     say(f"hit {t} {n2}: identity {cell} at {start}")
     sequence = pseudo_random(cell, 1920)
-    frames = [broadcast_values(r, cell, start, j) for j in range(min(8, (len(r) - start) // FRAME))]
+    frames = [broadcast_values(r, cell, start, j, rule) for j in range(min(8, (len(r) - start) // FRAME))]
     for count in range(1, 5):
         for j in range(len(frames) - count + 1):
             say(f"  frames {j} to {j + count - 1}")
-            found = list(masters(frames[j : j + count], sequence, range(5 - count), say))
+            found = list(masters(frames[j : j + count], sequence, range(5 - count), say, rule))
             for phase, ports, block in found:
                 yield start, cell, (4 * (block >> 10 & 255) + phase - j) % 1024, ports, block
             if found:
@@ -530,21 +592,41 @@ def cell_line(entry):
     return f"cell {cell} at {start} sfn {sfn} {master}"
 
 
-def main(*why):
-    r = np.frombuffer(sys.stdin.buffer.read(), "<i2").astype(np.int64).reshape(-1, 2)
-    say = (lambda text: print(text, file=sys.stderr)) if why else (lambda text: None)
+def silent(text):
+    """Nothing is said on the way."""
+
+
+def listed(r, rule=ONE_PORT, say=silent):
+    """The entries of the list, in its order."""
     kept = []
-    for hit in hits(r):
-        for entry in entries(r, *hit, say):
+    for t, n2 in hits(r):
+        for entry in entries(r, t, n2, say, rule) if t >= rule.step else ():
             if not any(is_same_cell(other, entry) for other in kept):
                 kept.append(entry)
-    print("cells", len(kept))
-    for entry in sorted(kept):
-        print(cell_line(entry))
-        print(system_lines(r, entry, say))
+    return sorted(kept)
+
+
+def list_lines(r, found, rule=ONE_PORT, say=silent):
+    """The lines of these entries."""
+    told = [f"{cell_line(entry)}\n{system_lines(r, entry, say, rule)}" for entry in found]
+    return "\n".join([f"cells {len(found)}"] + told).split("\n")
+
+
+def recording():
+    """The samples of standard input."""
+    return np.frombuffer(sys.stdin.buffer.read(), "<i2").astype(np.int64).reshape(-1, 2)
+
+
+def main(rule, why):
+    r = recording()
+    say = (lambda text: print(text, file=sys.stderr)) if why else silent
+    print("\n".join(list_lines(r, listed(r, rule, say), rule, say)))
 
 
 if __name__ == "__main__":
-    if sys.argv[1:] not in ([], ["why"]):
+    words = sys.argv[1:]
+    told = words[-1:] == ["why"]
+    named = tuple(words[: len(words) - told])
+    if named not in RULES:
         sys.exit(__doc__)
-    main(*sys.argv[1:])
+    main(RULES[named], told)

@@ -11,6 +11,7 @@ as `-- lte_cli`. Whole numbers alone. Debian: python3-numpy, for second_search.p
 """
 import subprocess
 import sys
+import typing
 from fractions import Fraction
 
 HALF, SLOT, PRIMARY = 9_600, 960, 832
@@ -76,17 +77,15 @@ class Second:
 
     def __init__(self):
         import numpy
-        import second_evidence
         import second_search
 
-        self.numpy, self.evidence, self.search = numpy, second_evidence, second_search
+        self.numpy, self.search = numpy, second_search
 
     def hits(self, x):
         return [(int(t), int(n2)) for t, n2 in self.search.hits(self.numpy.array(x, dtype=self.numpy.int64))]
 
     def cells(self, x):
-        r = self.numpy.array(x, dtype=self.numpy.int64)
-        return len(self.evidence.kept(r, self.search.hits(r)))
+        return len(self.search.listed(self.numpy.array(x, dtype=self.numpy.int64)))
 
     def wave(self, n2):
         return [(int(a), int(b)) for a, b in zip(*self.search.wave(n2))]
@@ -113,14 +112,25 @@ class Program(Second):
 # ---- the turn told
 
 
-def fraction(x, t, wave):
-    """How much of the energy at place t the primary signal is."""
+class Candidate(typing.NamedTuple):
+    """A coarse turn, the turn, the count of hits, and of the greatest fraction of them C, E and P."""
+
+    coarse: int
+    turn: int
+    hits: int
+    peak: int
+    energy: int
+    power: int
+
+
+def measures(x, t, wave):
+    """C, E and P of the primary signal at place t."""
     re = im = energy = 0
     for (a, b), (p, q) in zip(x[t : t + 128], wave):
         re += a * p + b * q
         im += b * p - a * q
         energy += a * a + b * b
-    return Fraction(re * re + im * im, energy * sum(p * p + q * q for p, q in wave))
+    return re * re + im * im, energy, sum(p * p + q * q for p, q in wave)
 
 
 def prefixes(x, t):
@@ -149,26 +159,32 @@ def rest(sums):
     return best[1]
 
 
-def tell(r, by):
-    """The turn, the count of hits and that of cells, or None."""
-    centre = mean(r)
-    found = []
+def taken(r, by):
+    """The candidates that are taken, in their order."""
+    centre, found, kept = mean(r), [], []
     for c in range(-16, 17):
         x = turned(r, 32 * c, centre, FRONT)
         hits = by.hits(x)
         if hits:
-            fractions = [fraction(x, t, by.wave(n2)) for t, n2 in hits]
-            greatest = max(fractions)
-            found.append((-greatest, abs(c), c, hits[fractions.index(greatest)][0], len(hits)))
-    taken = []
-    for _, _, c, t, count in sorted(found):
+            all_measures = [measures(x, t, by.wave(n2)) for t, n2 in hits]
+            fractions = [Fraction(peak, energy * power) for peak, energy, power in all_measures]
+            i = fractions.index(max(fractions))
+            found.append((-fractions[i], abs(c), c, hits[i][0], len(hits), all_measures[i]))
+    for _, _, c, t, count, its in sorted(found):
         m = 32 * c + rest(prefixes(turned(r, 32 * c, centre, MIDDLE), t))
-        if len(taken) == 4 or any(abs(m - other[0]) <= 64 for other in taken):
-            continue
-        taken.append((m, count, by.cells(turned(r, m, centre, len(r)))))
-        if taken[-1][2]:
-            return taken[-1]
-    return taken[0] if taken else None
+        if len(kept) < 4 and all(abs(m - other.turn) > 64 for other in kept):
+            kept.append(Candidate(c, m, count, *its))
+    return kept
+
+
+def told(r, by, candidates):
+    """Of these candidates the one that is told, and the count of its cells, or None."""
+    centre = mean(r)
+    for candidate in candidates:
+        cells = by.cells(turned(r, candidate.turn, centre, len(r)))
+        if cells:
+            return candidate, cells
+    return (candidates[0], 0) if candidates else None
 
 
 def main():
@@ -182,11 +198,12 @@ def main():
     if words[0] == "turn":
         sys.stdout.buffer.write(data_of(turned(r, int(words[1]), mean(r), len(r))))
         return
-    told = tell(r, Program(command) if command else Second())
+    by = Program(command) if command else Second()
+    its = told(r, by, taken(r, by))
     if words[0] == "apply":
-        sys.stdout.buffer.write(data_of(turned(r, told[0] if told else 0, mean(r), len(r))))
+        sys.stdout.buffer.write(data_of(turned(r, its[0].turn if its else 0, mean(r), len(r))))
     else:
-        print(f"hits {told[1]}\nturn {told[0]}\ncells {told[2]}" if told else "hits 0")
+        print(f"hits {its[0].hits}\nturn {its[0].turn}\ncells {its[1]}" if its else "hits 0")
 
 
 if __name__ == "__main__":

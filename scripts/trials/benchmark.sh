@@ -1,7 +1,7 @@
 #!/usr/bin/env bash
 # benchmark.sh [RUNS [OTHER]]
 #
-# Times of each command on a fixed set of recordings, as one Markdown table: processor time (user and system) of whole
+# Times of each form of words on a fixed set of recordings, as one Markdown table: processor time (user and system) of whole
 # runs, the median of RUNS of them (5), the least in brackets, and the peak memory. OTHER is another program that takes
 # the same words, whose runs stand beside, by turns. The recordings are made in a temporary folder: by `transmit`, by
 # scripts/trials/benchmark/many_hits.c (with a C compiler, CC or cc; left out without one) and by Python 3. Each program
@@ -61,7 +61,7 @@ for number in "${!programs[@]}"; do
     again $((67108864 / bytes)) "certificate.$number" > "full.$number"
 done
 
-{ # one case a line: command, file (with {} for the program's number), exit code, what the file is
+{ # one case a line: words with + between them, file (with {} for the program's number), exit code, what the file is
     echo 'hits long 5 one byte more than a second: only read'
     for command in hits ids search certify; do
         for recording in "${recordings[@]}"; do
@@ -74,6 +74,10 @@ done
             esac
             echo "$command $recording 0 $what, ${recording#*.} samples"
         done
+    done
+    for form in evidence {hits,ids,evidence}+--json search{,+--ports+2,+--prefix+long,+--cancel,+--all}+--json \
+        search+{--ports+2,--prefix+long,--cancel,--all}; do
+        echo "$form cell.57600 0 one cell, 57600 samples"
     done
     echo 'check certificate.{} 0 one certificate'
     echo 'check hundred.{} 0 100 certificates'

@@ -29,7 +29,7 @@ TEXTS = {
 CODES = {"check": {0, 5, 10}, "transmit": {0, 5, 9}}
 NONSENSE = "no command"
 # how often a command of lte_cli and of lte_tune is given
-SHARES_OF_TUNE = {"tell": 40, "apply": 50, NONSENSE: 10}
+SHARES_OF_TUNE = {"tell": 40, "apply": 50, fuzz_inputs.PAGE: 1, NONSENSE: 10}
 SHARES = {
     "hits": 14,
     "ids": 12,
@@ -39,6 +39,7 @@ SHARES = {
     "check": 12,
     "transmit": 20,
     "make": 0.2,
+    fuzz_inputs.PAGE: 1,
     NONSENSE: 8,
 }
 Input = collections.namedtuple("Input", "label words data way program")
@@ -92,27 +93,11 @@ class Runner:
         return Ending(os.waitstatus_to_exitcode(status), output, text, usage.ru_utime + usage.ru_stime)
 
 
-def is_turn(word):
-    """Whether the word is a turn, in digits without leading zero."""
-    return re.fullmatch(r"0|-?[1-9][0-9]*", word) is not None and -2048 <= int(word) <= 2047
-
-
 def codes_of_recording(words, length):
     """The codes that a command on a recording may end with."""
-    form = words[-2:] == ["--format", "cu8"]
-    size = 2 if form else 4
-    rest = words[:-2] if form else words
-    by_rule = not form and rest[0] == "search" and rest[1:] in fuzz_inputs.RULES
-    by_turn = not form and rest[0] == "apply" and len(rest) == 2 and is_turn(rest[1])
-    if (
-        form
-        and rest[0] in ("tell", "apply")
-        or len(rest) != 1
-        and rest != ["search", "--json"]
-        and not by_rule
-        and not by_turn
-    ):
+    if not fuzz_inputs.is_form(words):
         return {2}
+    size = 2 if words[-2:] == ["--format", "cu8"] else 4
     long, short = length > size * fuzz_inputs.MOST // 4, length < size * fuzz_inputs.LEAST // 4
     code = 5 if long else 3 if length % size else 4 if short else 0
     return {code}
@@ -126,10 +111,12 @@ def wanted_codes(given):
     if command in CODES:
         codes = CODES[command]
     elif command == "make":
-        codes = {0} if given.words[2:] in ([], *fuzz_inputs.RULES[:2]) else {2}
+        codes = {0} if given.words[2:] in fuzz_inputs.CARRIERS else {2}
+    elif command in fuzz_inputs.PAGES:
+        codes = {2} if given.words[1:] else {0}
     else:
         codes = codes_of_recording(given.words, len(given.data))
-    if given.way == "folder" and command != "make":
+    if given.way == "folder" and command not in ("make", *fuzz_inputs.PAGES):
         return codes & {2} | {6}
     if given.way == "full" and 0 in codes:
         return codes | {7} if command == "certify" else codes - {0} | {7}  # no entry, no certificate to write
@@ -194,6 +181,7 @@ class Inputs:
         self.shown = fuzz_inputs.shown_descriptions()
         crates = fuzz_inputs.SCRIPTS.parent / "crates"
         self.sent = [(crates / crate / "stdin").read_bytes() for crate in ("capture_example", "lte_tune")]
+        self.certificates = [fuzz_inputs.old_certificate(self.random)]
         if self.program == "lte_tune":
             return
         for _ in range(5):
@@ -205,9 +193,8 @@ class Inputs:
             }
             sent = self.made(runner, ["transmit"], json.dumps(value).encode())
             self.sent += [sent] if sent else []
-        self.certificates = [self.made(runner, ["certify"], sent) for sent in self.sent[:3]]
-        self.certificates = [made for made in self.certificates if made]
-        self.certificates = self.certificates or [fuzz_inputs.old_certificate(self.random)]
+        made = [self.made(runner, ["certify"], sent) for sent in self.sent[:3]]
+        self.certificates = [certificate for certificate in made if certificate] or self.certificates
 
     @staticmethod
     def made(runner, words, data):
@@ -226,13 +213,6 @@ class Inputs:
                 command, fuzz_inputs.nonsense(random), random.randbytes(random.randrange(50)), way, self.program
             )
         words = fuzz_inputs.words(random, command)
-        label = (
-            " ".join(["make N", *words[2:]])
-            if command == "make"
-            else "apply M"
-            if words[1:] and command == "apply"
-            else " ".join(words)
-        )
         kind = {"transmit": "description", "check": "certificates"}.get(command, "recording")
         if random.random() < 0.02:
             kind = random.choice(["recording", "description", "certificates"])
@@ -244,7 +224,7 @@ class Inputs:
             data = fuzz_inputs.recording(random, self.sent)
             if words[-1] == "cu8" and random.random() < 0.7:
                 data = fuzz_inputs.as_bytes(data)
-        return Input(label, words, data, way, self.program)
+        return Input(fuzz_inputs.shown(words), words, data, way, self.program)
 
 
 def print_counts(counts):

@@ -2,6 +2,7 @@
 import array
 import json
 import pathlib
+import re
 
 SCRIPTS = pathlib.Path(__file__).resolve().parent.parent
 EXAMPLES = SCRIPTS / "examples"
@@ -41,32 +42,68 @@ def spoiled(random, data):
 
 # ---- words
 
-RULES = (["--ports", "2"], ["--prefix", "long"], ["--cancel"])
+RULES = (["--ports", "2"], ["--prefix", "long"], ["--cancel"], ["--all"])
+CARRIERS = ([], *RULES[:2])  # that `make` takes
+REPORTS = ("hits", "ids", "search", "evidence", "tell")  # that `--json` stands behind
+PAGES = ("help", "--help", "-h", "version", "--version")
+PAGE = "page"  # any of these
+
+
+def is_turn(word):
+    """Whether the word is a turn, in digits without leading zero."""
+    return re.fullmatch(r"0|-?[1-9][0-9]*", word) is not None and -2048 <= int(word) <= 2047
 
 
 def words(random, command):
     """The words of a command in one of its forms, some of them of no command."""
+    if command == PAGE:
+        return [random.choice(PAGES)] + random.choices([[], ["help"], ["--json"]], [94, 3, 3])[0]
     if command == "make":
         number = str(random.choice([0, 90, 2**32 - 46, 90 * random.randrange(10**6)]))
-        return ["make", number] + random.choices([[], *RULES], [70, 14, 14, 2])[0]
-    if command == "search" and random.random() < 0.25:
-        return ["search"] + random.choice(RULES) + random.choices([[], ["--format", "cu8"], ["--json"]], [94, 3, 3])[0]
-    if command == "tell":
-        return random.choices([["tell"], ["tell", "1"]], [97, 3])[0]
+        return ["make", number] + random.choices([[], *RULES], [70, 14, 14, 1, 1])[0]
+    if command not in (*REPORTS, "certify", "apply"):
+        return [command]
+    front = [command]
     if command == "apply":
         turn = random.choice(["", str(random.randrange(-2100, 2100)), "-2048", "2047", "-0", "05", "+5", "2048"])
-        return ["apply"] + [turn] * (turn != "")
-    if command not in ("hits", "ids", "search", "evidence", "certify"):
-        return [command]
-    json_words = ["--json"] if random.random() < (0.3 if command == "search" else 0.03) else []
+        front += [turn] * (turn != "")
+    elif command == "search" and random.random() < 0.35:
+        front += random.choice(RULES)
+    json_words = ["--json"] if random.random() < (0.25 if command in REPORTS else 0.03) else []
     form = random.choices([[], ["--format", "cu8"], ["--format", "ci8"], ["--format"]], [80, 15, 2, 1])[0]
-    return [command] + (form + json_words if random.random() < 0.05 else json_words + form)
+    behind = [json_words, form]
+    if random.random() < 0.05:  # in another order, or one of them twice
+        behind = random.choice([[form, json_words], [json_words, json_words, form], [json_words, form, form]])
+    if random.random() < 0.01:
+        return [command] + json_words + front[1:] + form
+    return front + sum(behind, [])
+
+
+def is_form(given):
+    """Whether these words, of a command on a recording, are of a form."""
+    command, *rest = given
+    if rest[-2:] == ["--format", "cu8"]:
+        rest = rest[:-2]
+    if rest[-1:] == ["--json"] and command in REPORTS:
+        rest = rest[:-1]
+    if command == "apply" and len(rest) == 1:
+        return is_turn(rest[0])
+    return rest == [] or command == "search" and rest in RULES
+
+
+def shown(given):
+    """The words, with a letter for each number."""
+    if given[0] == "make":
+        return " ".join(["make N", *given[2:]])
+    if given[0] == "apply" and given[1:] and not given[1].startswith("--"):
+        return " ".join(["apply M", *given[2:]])
+    return " ".join(given)
 
 
 def nonsense(random):
     """Words of no command."""
     further = ["é", "\udcff", "certify2", "hit", "0", "null"]
-    bad = ["--help", "-h", "--json", "--format", "cu8", "x" * 100_000] + further
+    bad = ["-help", "--h", "--json", "--format", "cu8", "x" * 100_000] + further
     kind = random.randrange(4)
     if kind == 0:
         return []

@@ -32,26 +32,40 @@ def as_bytes(data):
     return bytes(round(127.5 + 127 * number / greatest) for number in numbers)
 
 
+RULES = ("", "--ports 2", "--prefix long", "--cancel", "--all")
+
+
+def of_both(words, recording):
+    """The words on the recording, and on the same of 8-bit numbers."""
+    yield words.split(), recording
+    yield words.split() + ["--format", "cu8"], as_bytes(recording)
+
+
 def forms(program):
     """Words and a valid input of each form of lte_cli."""
     recording, description = CELL.read_bytes(), (HERE.parent / "examples/plain_cell.json").read_bytes()
     certificates = run(program, ["certify"], recording)[1]
-    for words in ("hits", "ids", "search", "search --json", "certify", "evidence"):
-        yield words.split(), recording
-        yield words.split() + ["--format", "cu8"], as_bytes(recording)
+    for words in ("hits", "ids", *(f"search {rule}" for rule in RULES), "evidence"):
+        yield from of_both(words, recording)
+        yield from of_both(words + " --json", recording)
+    yield from of_both("certify", recording)
     yield ["check"], 3 * certificates
     yield ["transmit"], description
-    yield ["make", "7"], b""
-    for words in ("--ports 2", "--prefix long"):
-        yield ["search", *words.split()], recording
-        yield ["make", "7", *words.split()], b""
-    yield ["search", "--cancel"], recording
+    for rule in RULES[:3]:
+        yield ["make", "7", *rule.split()], b""
+    yield from pages()
 
 
 def forms_of_tuner():
     """The same of lte_tune."""
-    for words in ("tell", "apply", "apply 222"):
-        yield words.split(), TURNED.read_bytes()
+    for words in ("tell", "tell --json", "apply", "apply 222"):
+        yield from of_both(words, TURNED.read_bytes())
+    yield from pages()
+
+
+def pages():
+    yield ["help"], b""
+    yield ["version"], b""
 
 
 def refusals(program, shim, words, data):

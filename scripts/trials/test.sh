@@ -2,9 +2,9 @@
 # test.sh [PROGRAM]
 #
 # Tries each recipe of docs/RECORDINGS.md that a machine without a radio can: writes what a radio would have written of
-# a sent cell, makes a recording of it, and looks for the cell in its list; and the two programs that were written from
-# the documents. Takes about half a minute. PROGRAM is lte_cli, crates/lte_cli/out/lte_cli where it is left out. A
-# recipe whose tool is not there is left out, and said so. The status is the number of recipes that failed.
+# a sent cell, makes a recording of it, and looks for the cell in its list; and the programs that were written from the
+# documents. Takes about a minute. PROGRAM is lte_cli, crates/lte_cli/out/lte_cli where it is left out. A recipe whose
+# tool is not there is left out, and said so. The status is the number of recipes that failed.
 set -u
 shopt -s lastpipe                       # what the last command of a pipeline counts is kept
 here=$(cd "$(dirname "$0")" && pwd)
@@ -116,6 +116,11 @@ head -c 384000 sent.ci16 > five
 for file in five two_lines "$here/../../crates/capture_example/stdin"; do
     "$peers/second_evidence.py" < "$file" |
         says "second_evidence.py writes what evidence writes of ${file##*/}" "$("$program" evidence < "$file")"
+    for form in {hits,ids,evidence}' --json' search{,' --all',' --cancel'}' --json' 'search --all'; do
+        read -ra words <<< "$form"
+        "$peers/second_forms.py" "${words[@]}" < "$file" |
+            says "second_forms.py writes what $form writes of ${file##*/}" "$("$program" "${words[@]}" < "$file")"
+    done
 done
 printf '\377' | dd of=certificate bs=1 seek=244 conv=notrunc status=none
 "$program" check < certificate | says 'another word is refused' 'certificates 1

@@ -1,9 +1,10 @@
 #!/usr/bin/env python3
 """measure.py RUNS PROGRAM [OTHER] < CASES: the table that scripts/trials/benchmark.sh prints.
 
-A case is a line: command, input file (with {} for the program's number), exit code, and what the file is. The first
-run of a case goes through /usr/bin/time, which tells the peak memory: a process that Python itself starts counts
-Python's memory as its own. That run counts no time, except where it is the only one. Output goes to /dev/null.
+A case is a line: words with + between them, input file (with {} for the program's number), exit code, and what the
+file is. The first run of a case goes through /usr/bin/time, which tells the peak memory: a process that Python itself
+starts counts Python's memory as its own. That run counts no time, except where it is the only one. Output goes to
+/dev/null.
 """
 import os
 import pathlib
@@ -31,8 +32,8 @@ def run(words, source):
 class Series:
     """The runs of one case with one program."""
 
-    def __init__(self, program, command, source, wanted):
-        self.words, self.source, self.wanted = [program, command], source, wanted
+    def __init__(self, program, words, source, wanted):
+        self.words, self.source, self.wanted = [program, *words], source, wanted
         self.times, self.memory, self.fault = [], "-", None
         self.first()
 
@@ -88,14 +89,13 @@ def main():
         f"Milliseconds of processor time, medians of {runs} runs (least in brackets; * one run), and peak memory in "
         f"kB. {processor()}, {os.cpu_count()} processors, load {os.getloadavg()[0]:.1f}.\n"
     )
-    head = ["Command", "Input"] + [cell for name in names for cell in (f"{name}, ms", f"{name}, kB")]
+    head = ["Words", "Input"] + [cell for name in names for cell in (f"{name}, ms", f"{name}, kB")]
     row(head + ["this / other"] * (len(programs) == 2))
     row(["---"] * (len(head) + (len(programs) == 2)))
     for line in sys.stdin:
-        command, source, wanted, what = line.rstrip("\n").split(" ", 3)
-        series = [
-            Series(program, command, source.format(number), int(wanted)) for number, program in enumerate(programs)
-        ]
+        form, source, wanted, what = line.rstrip("\n").split(" ", 3)
+        words = form.split("+")
+        series = [Series(program, words, source.format(number), int(wanted)) for number, program in enumerate(programs)]
         for _ in range(runs):
             for one in series:
                 one.again()
@@ -103,7 +103,7 @@ def main():
         if len(series) == 2:
             whole = not any(one.fault for one in series)
             cells.append(f"{series[0].median() / series[1].median():.2f}" if whole else "-")
-        row([f"`{command}`", what] + cells)
+        row([f"`{' '.join(words)}`", what] + cells)
 
 
 main()
