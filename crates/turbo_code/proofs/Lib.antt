@@ -10,6 +10,7 @@ pub mod Registers
 pub mod Edges
 pub mod Orders
 pub mod Round
+mod Walking
 pub mod Sums
 pub mod Inside
 pub mod Whole

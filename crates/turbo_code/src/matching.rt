@@ -1,13 +1,15 @@
 //! The cyclic reading of a coded word, and the sums of received values.
 
-ghost use Rattle.std.specs.Prelude.{◌≡◌, ℕ, ◌+◌, ◌*◌, ◌^◌, ◌<◌, ◌≤◌, length, nat_abs, slice_index_or};
+ghost use Rattle.std.specs.Prelude.{◌≡◌, ℕ, ◌+◌, ◌*◌, ◌%◌, ◌^◌, ◌<◌, ◌≤◌, length, nat_abs, slice_index_or};
 ghost use Rattle.finite.specs.Sizes.{AllWithin, RowsWithin};
 ghost use Rattle.finite.specs.Tables.{sum_at, sums_with};
 ghost use Rattle.sub_block.specs.Items.{item};
 ghost use Rattle.turbo_code.specs.Table.{IsRow, IsSize};
 ghost use Rattle.turbo_code.specs.Reading.{bit_of, buffer, item_of, summed};
+ghost use Rattle.turbo_code.specs.Walk.{standing};
 
 use crate::{Coded, Row};
+use std::marker::Model;
 use sub_block::{Code, Item, cell_at};
 
 /// For each of the three streams and each index the sum of the values that were received for it.
@@ -46,6 +48,68 @@ fn buffer_at(rows: usize, j: usize) -> Item
     }
 }
 
+/// A walk along the reading of three streams of K + 4 bits, over the cells of the buffer from the start of a
+/// redundancy version on, round and round. Contracts see the size, the version, and the bit of the round that comes
+/// next.
+#[derive(Drop)]
+struct Walk {
+    k: u16,
+    rv: u8,
+    bit: usize,
+    cell: usize,
+}
+
+impl Model for Walk {
+    ghost use Rattle.turbo_code.specs.Walk.{IsAt, Standing};
+
+    ghost Value = { Standing };
+
+    ghost view = { λ w. record { k = w.k; rv = w.rv; bit = w.bit } };
+
+    ghost invariant = { λ w. IsAt w.k w.rv w.bit w.cell };
+}
+
+impl Walk {
+    /// The walk before the first bit.
+    fn new(k: u16, rv: u8) -> Walk
+        requires size { IsSize k }
+        requires version { rv < 4 }
+        ensures { result ≡ standing k rv 0 }
+    {
+        Walk {
+            k,
+            rv,
+            bit: 0,
+            cell: 0,
+        }
+    }
+
+    /// The item of the bit that comes next, which the walk then passes.
+    fn step(&mut self) -> Item
+        ensures item { result ≡ item_of self.old.k self.old.rv self.old.bit }
+        ensures below_three { result.stream < 3 }
+        ensures inside { result.index < self.old.k + 4 }
+        ensures next { self.new ≡ standing self.old.k self.old.rv ((self.old.bit + 1) % (3 * (self.old.k + 4))) }
+    {
+        let count = self.k as usize + 4;
+        let rows = count.div_ceil(32);
+        let nulls = 32 * rows - count;
+        let start = rows * (24 * self.rv as usize + 2);
+        for m in self.cell..96 * rows {
+            let cell = buffer_at(rows, (start + m) % (96 * rows));
+            if cell.index >= nulls {
+                self.bit = (self.bit + 1) % (3 * count);
+                self.cell = if self.bit == 0 { 0 } else { m + 1 };
+                return Item {
+                    stream: cell.stream,
+                    index: cell.index - nulls,
+                };
+            }
+        }
+        unreachable!()
+    }
+}
+
 /// The item of bit i of the cyclic reading of three streams of k bits with their tails.
 fn item_in(k: u16, rv: u8, i: usize) -> Item
     requires size { IsSize k }
@@ -54,24 +118,11 @@ fn item_in(k: u16, rv: u8, i: usize) -> Item
     ensures below_three { result.stream < 3 }
     ensures inside { result.index < k + 4 }
 {
-    let count = k as usize + 4;
-    let rows = count.div_ceil(32);
-    let nulls = 32 * rows - count;
-    let start = rows * (24 * rv as usize + 2);
-    let mut left = i % (3 * count);
-    for m in 0..96 * rows {
-        let cell = buffer_at(rows, (start + m) % (96 * rows));
-        if cell.index >= nulls {
-            if left == 0 {
-                return Item {
-                    stream: cell.stream,
-                    index: cell.index - nulls,
-                };
-            }
-            left -= 1;
-        }
+    let mut walk = Walk::new(k, rv);
+    for _ in 0..i % (3 * (k as usize + 4)) {
+        walk.step();
     }
-    unreachable!()
+    walk.step()
 }
 
 /// Bit i of the cyclic reading of a coded word from the start of a redundancy version, 0 to 3
@@ -109,8 +160,9 @@ pub fn combine(values: &[i16], row: Row, rv: u8) -> Combined
         RowsWithin (7 * bound) result.d }
 {
     let mut d = [[0; 1028]; 3];
-    for (i, value) in values.iter().enumerate() {
-        add_at(&mut d, &item_in(row.k, rv, i), value);
+    let mut walk = Walk::new(row.k, rv);
+    for value in values {
+        add_at(&mut d, &walk.step(), value);
     }
     Combined { k: row.k, d }
 }

@@ -1,0 +1,23 @@
+-- A walk along the reading, bit after bit. (own)
+use Rattle.std.specs.Prelude.{◌≡◌, ℕ, ◌+◌, ◌*◌, ◌<◌, drop}
+use Rattle.sub_block.specs.Matrix.{matrix_rows, nulls}
+use Rattle.sub_block.specs.Items.{bits_in}
+use Rattle.turbo_code.specs.Table.{IsSize}
+use Rattle.turbo_code.specs.Reading.{buffer, start, turned, reading}
+
+-- where a walk stands: the size, the redundancy version, and the bit of the round that comes next
+pub record Standing : Type 0 where
+  pub k : ℕ
+  pub rv : ℕ
+  pub bit : ℕ
+
+abbrev pub standing : ℕ → ℕ → ℕ → Standing
+standing k rv bit = record { k = k; rv = rv; bit = bit }
+
+-- the cells of the round from this one on hold the bits of the reading from this one on, of which there are some
+pub record IsAt (k rv bit cell : ℕ) : Type 0 where
+  pub size : IsSize k
+  pub version : rv < 4
+  pub inside : bit < 3 * (k + 4)
+  pub rest :
+      bits_in (nulls (k + 4)) (drop cell (turned (start k rv) (buffer (matrix_rows (k + 4))))) ≡ drop bit (reading k rv)
