@@ -1,7 +1,6 @@
 pub mod SignalTables
 pub mod Symmetry
-pub mod Folding
-pub mod Dots
+pub mod Correlations
 pub mod Filling
 pub mod Waves
 pub mod Peaks

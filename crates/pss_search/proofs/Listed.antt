@@ -1,14 +1,19 @@
 -- The list of hits holds each hit once, in order, and nothing else.
-use Rattle.std.proofs.Common.{◌≡◌, ℕ, zero, suc, ◌+◌, ◌-◌, ◌<◌, List, [], ◌∷◌, Bool, true, false, arith, refl, ap, sym, subst, ◌∙◌, get_or}
+use Rattle.std.proofs.Common.{◌≡◌, ℕ, zero, suc, ◌+◌, ◌-◌, ◌^◌, ◌<◌, ◌≤◌, List, [], ◌∷◌, Bool, true, false, arith, refl, ap, sym, subst, ◌∙◌, get_or}
 use Rattle.std.specs.Prelude.{if◌then◌else◌}
 use Rattle.std.specs.List.{All, Contains, AllPairs}
 use Rattle.std.proofs.lemmas.List.Elements.{Contains-get_or}
 use Rattle.cs_num.specs.declared.Sample.{Sample}
+use Rattle.cs_num.specs.Complex.{IsWithin, sample_at}
+use Rattle.cs_num.proofs.Complex.{square-within}
 use Rattle.lte_types.specs.declared.Hit.{Hit}
+use Rattle.finite.proofs.Sums.{total_below-within}
 use Rattle.finite.proofs.Lists.{Contains-in_joined, Contains-joined, joined_below-pairs}
+use Rattle.pss_search.specs.Correlation.{energy, energy_term}
 use Rattle.pss_search.specs.Tests.{is_hit}
-use Rattle.pss_search.specs.Hits.{IsHit, IsInSpan, found, hit_at, hits_at, hits_before, hits_of}
+use Rattle.pss_search.specs.Hits.{IsHit, IsInSpan, IsSmallHit, found, hit_at, hits_at, hits_before, hits_of}
 use Rattle.pss_search.specs.Laws.{IsHitOf, ListIsRight, IsEarlier, ListIsInOrder}
+use Rattle.pss_search.proofs.Peaks.{small_peak}
 use Rattle.pss_search.proofs.RightTest.{right_test}
 
 -- what stands in the list of one place and root
@@ -99,3 +104,19 @@ pub listed_in_span : (recording : List Sample) → All IsInSpan (hits_of recordi
 listed_in_span recording k d within =
     let h = listed_is_hit recording (get_or (hits_of recording) k d) (Contains-get_or (hits_of recording) k d within) in
     record { from_first = h.is_hit.from_first; to_last = h.is_hit.to_last; root = omega (arith, h.root) }
+
+-- where the parts of all samples have 16 bits, the numbers of what is listed are small
+energy_small : (recording : List Sample) (t : ℕ) → ((i : ℕ) → IsWithin 32768 (sample_at recording i)) → energy recording t ≤ 2 ^ 38
+unfolding energy
+energy_small recording t within =
+    omega (arith, total_below-within 128 (2 ^ 31) (energy_term recording t) (λ n l. square-within (sample_at recording (t + n)) 32768 (within (t + n))))
+
+pub listed_are_small : (recording : List Sample) → ((i : ℕ) → IsWithin 32768 (sample_at recording i)) → All IsSmallHit (hits_of recording)
+listed_are_small recording within k d inside =
+    let hit : Hit = get_or (hits_of recording) k d in
+    let h = listed_is_hit recording hit (Contains-get_or (hits_of recording) k d inside) in
+    let energy = energy_small recording hit.t within in
+    record {
+      peak = subst (λ (x : Hit). x.peak ≤ 2 ^ 59) (sym h.measured) (small_peak recording hit.n2 hit.t h.root energy);
+      energy = subst (λ (x : Hit). x.energy ≤ 2 ^ 38) (sym h.measured) energy;
+    }

@@ -13,7 +13,7 @@ use Rattle.cs_num.specs.declared.Cpx.{Cpx}
 use Rattle.cs_num.specs.Complex.{IsWithin, plus, conjugate, square}
 use Rattle.cs_num.proofs.Tested.{is_same, is_same_tells}
 use Rattle.pss_search.specs.Correlation.{wave, wave_power}
-use Rattle.pss_search.specs.Folding.{half_re, half_im}
+use Rattle.pss_search.specs.Products.{wave_re, wave_im}
 use Rattle.pss_search.proofs.SignalTables.{re_25, im_25, re_29, im_29, re_34, im_34, re_of, im_of, samples, wave_is}
 
 -- ---- each signal is the same forward and backward
@@ -53,6 +53,12 @@ conjugate_between n low high =
     wave_is 2 n (omega arith) (omega (arith, high)) ∙ ap (samples 2) (sym e) ∙ here ∙ ap (λ k. conjugate (samples 1 k)) e
     ∙ ap (λ (z : Cpx). conjugate z) (sym (wave_is 1 n (omega arith) (omega (arith, high))))
 
+pub conjugate_after : (n : ℕ) → 64 < n → n < 128 → wave 2 n ≡ conjugate (wave 1 n)
+conjugate_after n low high =
+    sym (wave_mirrored 2 n (omega arith) (omega (arith, low)) high)
+    ∙ conjugate_between (128 - n) (omega (arith, high)) (omega (arith, low))
+    ∙ ap (λ (z : Cpx). conjugate z) (wave_mirrored 1 n (omega arith) (omega (arith, low)) high)
+
 first_tables : samples 2 0 ≡ plus (conjugate (samples 1 0)) unit
 unfolding re_29 im_29 re_34 im_34 re_of im_of samples
 first_tables = refl
@@ -84,15 +90,15 @@ wave_small n2 n known l =
     let parts = and_parts _ _ (every_below_at 128 (is_small n2) (every_below_at 3 (λ n2. every_below 128 (is_small n2)) all_small n2 known) n l) in
     rw (wave_is n2 n known l) (record { re = leb-true _ _ parts.0; im = leb-true _ _ parts.1 })
 
--- ---- the first 65 samples, as the code has them
+-- ---- the samples, as the code has them
 
-pub half_re_is : (n2 : ℕ) → n2 < 3 → values_below 65 (λ n. get_or (re_of n2) n (pos 0)) ≡ half_re n2
+pub wave_re_is : (n2 : ℕ) → n2 < 3 → values_below 128 (λ n. get_or (re_of n2) n (pos 0)) ≡ wave_re n2
 unfolding samples
-half_re_is n2 known = values_below_same 65 (λ n. get_or (re_of n2) n (pos 0)) (λ n. (wave n2 n).re) (λ n l. ap (λ z. z.re) (sym (wave_is n2 n known (omega (arith, l)))))
+wave_re_is n2 known = values_below_same 128 (λ n. get_or (re_of n2) n (pos 0)) (λ n. (wave n2 n).re) (λ n l. ap (λ z. z.re) (sym (wave_is n2 n known (omega (arith, l)))))
 
-pub half_im_is : (n2 : ℕ) → n2 < 3 → values_below 65 (λ n. get_or (im_of n2) n (pos 0)) ≡ half_im n2
+pub wave_im_is : (n2 : ℕ) → n2 < 3 → values_below 128 (λ n. get_or (im_of n2) n (pos 0)) ≡ wave_im n2
 unfolding samples
-half_im_is n2 known = values_below_same 65 (λ n. get_or (im_of n2) n (pos 0)) (λ n. (wave n2 n).im) (λ n l. ap (λ z. z.im) (sym (wave_is n2 n known (omega (arith, l)))))
+wave_im_is n2 known = values_below_same 128 (λ n. get_or (im_of n2) n (pos 0)) (λ n. (wave n2 n).im) (λ n l. ap (λ z. z.im) (sym (wave_is n2 n known (omega (arith, l)))))
 
 -- ---- the sums of the squares
 
@@ -135,10 +141,10 @@ power_range (suc zero) known = let e : 2001625 ≡ wave_power 1 = power_is 1 kno
 power_range (suc (suc zero)) known = let e : 2001665 ≡ wave_power 2 = power_is 2 known in (omega (arith, e), omega (arith, e))
 power_range (suc (suc (suc n2))) known = absurd (omega (arith, known))
 
--- ---- sizes of the first 65
+-- ---- sizes of all
 
-pub half_re-small : (n2 : ℕ) → n2 ≤ 2 → AllWithin 255 (half_re n2)
-half_re-small n2 known k d l = rw (values_below_at (λ n. (wave n2 n).re) 65 k d l) ((wave_small n2 k (omega (arith, known)) (omega (arith, l))).re)
+pub wave_re-small : (n2 : ℕ) → n2 ≤ 2 → AllWithin 255 (wave_re n2)
+wave_re-small n2 known k d l = rw (values_below_at (λ n. (wave n2 n).re) 128 k d l) ((wave_small n2 k (omega (arith, known)) (omega (arith, l))).re)
 
-pub half_im-small : (n2 : ℕ) → n2 ≤ 2 → AllWithin 255 (half_im n2)
-half_im-small n2 known k d l = rw (values_below_at (λ n. (wave n2 n).im) 65 k d l) ((wave_small n2 k (omega (arith, known)) (omega (arith, l))).im)
+pub wave_im-small : (n2 : ℕ) → n2 ≤ 2 → AllWithin 255 (wave_im n2)
+wave_im-small n2 known k d l = rw (values_below_at (λ n. (wave n2 n).im) 128 k d l) ((wave_small n2 k (omega (arith, known)) (omega (arith, l))).im)

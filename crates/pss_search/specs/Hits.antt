@@ -1,6 +1,6 @@
 -- The places where a primary synchronisation signal stands out. The metric of a place is the fraction peak / energy;
 -- fractions are compared by cross products, and only places with energy are compared. (own)
-use Rattle.std.specs.Prelude.{◌≡◌, ℕ, ◌+◌, ◌*◌, ◌<◌, ◌≤◌, List, [], ◌∷◌, if◌then◌else◌}
+use Rattle.std.specs.Prelude.{◌≡◌, ℕ, ◌+◌, ◌*◌, ◌^◌, ◌<◌, ◌≤◌, List, [], ◌∷◌, if◌then◌else◌}
 use Rattle.cs_num.specs.declared.Sample.{Sample}
 use Rattle.lte_types.specs.declared.Hit.{Hit}
 use Rattle.finite.specs.Lists.{joined_below}
@@ -69,3 +69,8 @@ pub record IsInSpan (hit : Hit) : Type 0 where
   pub from_first : first_place ≤ hit.t
   pub to_last : hit.t ≤ last_place
   pub root : hit.n2 ≤ 2
+
+-- the numbers of a hit are small, since a sample's parts have 16 bits
+pub record IsSmallHit (hit : Hit) : Type 0 where
+  pub peak : hit.peak ≤ 2 ^ 59
+  pub energy : hit.energy ≤ 2 ^ 38

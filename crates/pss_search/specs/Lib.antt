@@ -3,5 +3,5 @@ pub mod Tests
 pub mod Hits
 pub mod Laws
 pub mod Metrics
-pub mod Folding
+pub mod Products
 pub mod Steps

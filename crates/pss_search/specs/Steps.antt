@@ -1,13 +1,11 @@
 -- The code's steps: the list while it grows, and how great its numbers are.
 use Rattle.std.specs.Prelude.{◌≡◌, ℕ, ◌+◌, ◌%◌, ◌^◌, ◌<◌, ◌≤◌, List, ◌++◌, All, length, slice_index_or, nat_abs, []}
-use Rattle.finite.specs.Sizes.{AllWithin}
 use Rattle.cs_num.specs.declared.Sample.{Sample}
 use Rattle.cs_num.specs.Complex.{square, sample_at}
 use Rattle.lte_types.specs.declared.Hit.{Hit}
 use Rattle.finite.specs.Lists.{joined_below}
 use Rattle.pss_search.specs.declared.measure.Metric.{Metric}
-use Rattle.pss_search.specs.declared.fold.Folded.{Folded}
-use Rattle.pss_search.specs.declared.fold.ProductSums.{ProductSums}
+use Rattle.pss_search.specs.declared.products.ProductSums.{ProductSums}
 use Rattle.pss_search.specs.declared.recent.Row.{Row}
 use Rattle.pss_search.specs.Correlation.{peak, energy}
 use Rattle.pss_search.specs.Metrics.{Standing, metrics_at, end_place}
@@ -27,17 +25,12 @@ pub record IsMetricOf (recording : List Sample) (n2 t : ℕ) (metric : Metric) :
   pub small_peak : metric.peak < 2 ^ 70
   pub small_energy : metric.energy ≤ 2 ^ 38
 
--- parts of folded samples have size at most 65,536
-pub record IsSmallFolded (folded : Folded) : Type 0 where
-  pub re : AllWithin 65536 folded.re
-  pub im : AllWithin 65536 folded.im
-
--- sums of 65 products of a part of a folded sample and one of a signal, of size at most 255
+-- sums of 128 products of a part of a sample and one of a signal, of size at most 255
 pub record AreSmallProducts (p : ProductSums) : Type 0 where
-  pub re_re : nat_abs p.re_re ≤ 1086259200
-  pub im_im : nat_abs p.im_im ≤ 1086259200
-  pub im_re : nat_abs p.im_re ≤ 1086259200
-  pub re_im : nat_abs p.re_im ≤ 1086259200
+  pub re_re : nat_abs p.re_re ≤ 1069547520
+  pub im_im : nat_abs p.im_im ≤ 1069547520
+  pub im_re : nat_abs p.im_re ≤ 1069547520
+  pub re_im : nat_abs p.re_im ≤ 1069547520
 
 -- ---- a sweep
 

@@ -1,9 +1,9 @@
 //! Which places are hits.
 
-ghost use Rattle.std.specs.Prelude.{◌≡◌, ◌+◌, ◌≤◌, ◌<◌};
+ghost use Rattle.std.specs.Prelude.{◌≡◌, ◌+◌, ◌≤◌, ◌<◌, IfSome};
 ghost use Rattle.std.specs.Option.{option_to_list};
 ghost use Rattle.pss_search.specs.Tests.{rules_out, is_ruled_out, is_hit};
-ghost use Rattle.pss_search.specs.Hits.{hit_at};
+ghost use Rattle.pss_search.specs.Hits.{hit_at, IsSmallHit};
 ghost use Rattle.pss_search.specs.Steps.{DecidesOn, IsMetricOf};
 
 use crate::measure::Metric;
@@ -18,7 +18,8 @@ pub(crate) const FIRST_PLACE: usize = 137;
 #[tactic(auto, unfolding(crate::specs::Hits::hit_at))]
 pub(crate) fn hit_of(window: &Window, root: &Root, t: usize) -> Option<Hit>
     requires decides { DecidesOn window.now t }
-    ensures { option_to_list result ≡ hit_at window.now.recording t root.now.n2 }
+    ensures value { option_to_list result ≡ hit_at window.now.recording t root.now.n2 }
+    ensures small { IfSome result IsSmallHit }
 {
     let own = window.metric(root.n2, t);
     if stands_out(window, root, t, own) {

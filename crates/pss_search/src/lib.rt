@@ -2,9 +2,9 @@
 #![tactic(auto)]
 
 mod choose;
-mod fold;
 mod list;
 mod measure;
+mod products;
 mod recent;
 mod signals;
 

@@ -5,7 +5,7 @@ ghost use Rattle.std.specs.Option.{option_to_list};
 ghost use Rattle.std.specs.Vec.{vec_capacity};
 ghost use Rattle.lte_types.specs.declared.Hit.{Hit};
 ghost use Rattle.lte_types.specs.Numerology.{frame_length};
-ghost use Rattle.pss_search.specs.Hits.{IsInSpan, hits_of};
+ghost use Rattle.pss_search.specs.Hits.{IsInSpan, IsSmallHit, hits_of};
 ghost use Rattle.pss_search.specs.Steps.{so_far};
 
 use crate::choose::{FIRST_PLACE, hit_of};
@@ -66,11 +66,13 @@ impl HitList {
 }
 
 /// Afterwards the list holds the hits of the recording, by place and then by identity within the
-/// group, each with its peak and energy, whatever it held before: the places 137 to 19,336, one
-/// frame's worth, at which a primary synchronisation signal stands out. It takes no memory. (own)
+/// group, each with its peak, at most 2^59, and its energy, at most 2^38, whatever it held before: the
+/// places 137 to 19,336, one frame's worth, at which a primary synchronisation signal stands out. It takes
+/// no memory. (own)
 pub fn hits(recording: &Recording, list: &mut HitList)
     ensures list { list.new ≡ hits_of recording.now }
     ensures span { All IsInSpan list.new }
+    ensures small { All IsSmallHit list.new }
 {
     let first = Root::new(0);
     let second = Root::new(1);
@@ -90,7 +92,9 @@ fn add_of(window: &Window, root: &Root, i: usize, list: &mut HitList)
     requires i { i < frame_length }
     requires middle { window.now.place ≡ i + 147 }
     requires before { list.old ≡ so_far window.now.recording i root.now.n2 }
-    ensures { list.new ≡ so_far window.now.recording i (root.now.n2 + 1) }
+    requires small { All IsSmallHit list.old }
+    ensures list { list.new ≡ so_far window.now.recording i (root.now.n2 + 1) }
+    ensures small { All IsSmallHit list.new }
 {
     match hit_of(window, root, FIRST_PLACE + i) {
         Some(hit) => list.add(hit),

@@ -5,10 +5,10 @@ ghost use Rattle.cs_num.specs.declared.Sample.{Sample as SampleValue};
 ghost use Rattle.cs_num.specs.Complex.{IsWithin, square, value_of, sample_at};
 ghost use Rattle.pss_search.specs.Correlation.{energy};
 ghost use Rattle.pss_search.specs.Metrics.{Standing, metric_of as made_metric, metrics_at, end_place};
-ghost use Rattle.pss_search.specs.Folding.{correlations_at};
+ghost use Rattle.pss_search.specs.Products.{correlations_at};
 ghost use Rattle.pss_search.specs.Steps.{IsSmallMetric};
 
-use crate::fold::{Folded, correlations};
+use crate::products::{Stretch, correlations};
 use crate::signals::Signal;
 use cs_num::{Cpx, Sample};
 use sample_file::Recording;
@@ -39,12 +39,13 @@ pub struct Sweep<'a> {
     energy: u64,
     first: Signal,
     second: Signal,
-    folded: Folded,
+    stretch: Stretch,
 }
 
 impl<'a> Model for Sweep<'a> {
-    ghost use Rattle.std.specs.Prelude.{◌≡◌};
+    ghost use Rattle.std.specs.Prelude.{◌≡◌, ◌≤◌};
     ghost use Rattle.pss_search.specs.Metrics.{Standing};
+    ghost use Rattle.pss_search.specs.Products.{IsStretchOf};
     ghost use Rattle.pss_search.specs.Steps.{IsReady};
 
     ghost Value = { Standing };
@@ -52,7 +53,8 @@ impl<'a> Model for Sweep<'a> {
     ghost view = { λ s. record { recording = s.samples.now; place = s.place } };
 
     ghost invariant = { λ s.
-        IsReady s.samples.now s.place s.energy × (s.first.n2 ≡ 0) × (s.second.n2 ≡ 1) };
+        IsReady s.samples.now s.place s.energy × (s.first.n2 ≡ 0) × (s.second.n2 ≡ 1)
+        × IsStretchOf s.samples.now s.stretch × (s.stretch.from ≤ s.place) };
 }
 
 impl<'a> Sweep<'a> {
@@ -68,7 +70,7 @@ impl<'a> Sweep<'a> {
             energy: energy_sum(samples, START),
             first: Signal::new(0),
             second: Signal::new(1),
-            folded: Folded::EMPTY,
+            stretch: Stretch::new(samples, START),
         }
     }
 
@@ -94,11 +96,11 @@ impl<'a> Sweep<'a> {
         if self.place == END {
             return None;
         }
-        self.folded.fill(self.samples, self.place);
+        self.stretch.reach(self.samples, self.place);
         let sums = correlations(
             self.samples,
             self.place,
-            &self.folded,
+            &self.stretch,
             &self.first,
             &self.second,
         );

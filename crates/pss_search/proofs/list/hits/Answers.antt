@@ -1,6 +1,7 @@
 use Rattle.std.proofs.Common.{◌≡◌, ◌∙◌, ◌+◌, arith, sym, ap, subst}
 use Rattle.std.specs.List.{All}
-use Rattle.pss_search.specs.Hits.{IsInSpan, hits_before}
+use Rattle.std.proofs.lemmas.List.Elements.{All-nil}
+use Rattle.pss_search.specs.Hits.{IsInSpan, IsSmallHit, hits_before}
 use Rattle.pss_search.specs.Steps.{so_far}
 use Rattle.pss_search.proofs.Listed.{listed_in_span}
 use Rattle.pss_search.proofs.Room.{so_far_none, hits_before_none, hits_before_more}
@@ -9,6 +10,7 @@ use Rattle.pss_search.proofs.list.hits.Goals as goal
 pub loop-i-init : goal.loop-i-init
 loop-i-init c = record {
   list = c.clear.ensures ∙ sym (hits_before_none c.args.recording.now);
+  small = rw c.clear.ensures (All-nil IsSmallHit);
   recording = c.new-window.ensures.recording;
   place = c.new-window.ensures.place;
 }
@@ -23,10 +25,11 @@ loop-i-preserved c =
     let recording = c.advance.ensures.recording ∙ c.loop-i.invariant.recording in
     record {
       list =
-          c.add_of-in-loop-i-2.ensures
+          c.add_of-in-loop-i-2.ensures.list
           ∙ ap (λ r. so_far r c.loop-i.i (c.new-third.result.n2 + 1)) recording
           ∙ ap (λ n. so_far c.args.recording.now c.loop-i.i (n + 1)) c.new-third.ensures
           ∙ sym (hits_before_more c.args.recording.now c.loop-i.i);
+      small = c.add_of-in-loop-i-2.ensures.small;
       recording = recording;
       place = omega (arith, c.advance.ensures.place, c.loop-i.invariant.place);
     }
@@ -35,4 +38,4 @@ pub returns : goal.returns
 returns c =
     let last : c.loop-i.i ≡ 19200 = omega arith in
     let whole = c.loop-i.invariant.list ∙ ap (hits_before c.args.recording.now) last in
-    record { list = whole; span = subst (All IsInSpan) (sym whole) (listed_in_span c.args.recording.now) }
+    record { list = whole; span = subst (All IsInSpan) (sym whole) (listed_in_span c.args.recording.now); small = c.loop-i.invariant.small }

@@ -1,10 +1,12 @@
 use Rattle.std.proofs.Common.{◌≡◌, ◌+◌}
-use Rattle.pss_search.specs.Hits.{hits_before}
+use Rattle.std.specs.List.{All}
+use Rattle.pss_search.specs.Hits.{IsSmallHit, hits_before}
 use Rattle.pss_search.proofs.list.hits.Given as goal
 
 abbrev pub invariant-loop-i : goal.invariant-loop-i
 invariant-loop-i l = record {
   list : l.list ≡ hits_before l.recording l.i;
+  small : All IsSmallHit l.list;
   recording : l.window.recording ≡ l.recording;
   place : l.window.place ≡ l.i + 146;
 }

@@ -1,5 +1,5 @@
 use Rattle.std.proofs.Common.{arith}
-use Rattle.pss_search.proofs.Folding.{energy_slides, first-le}
+use Rattle.pss_search.proofs.Correlations.{energy_slides, first-le}
 use Rattle.pss_search.proofs.measure.next_energy.Goals as goal
 
 pub overflow_sub-result : goal.overflow_sub-result

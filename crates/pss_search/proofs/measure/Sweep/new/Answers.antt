@@ -16,4 +16,6 @@ invariant_of-result c =
       },
       c.new.ensures,
       c.new-2.ensures,
+      c.new-3.ensures.held,
+      omega (arith, c.new-3.ensures.from),
     )

@@ -1,5 +1,5 @@
 use Rattle.std.proofs.Common.{arith}
-use Rattle.pss_search.proofs.Folding.{energy-small}
+use Rattle.pss_search.proofs.Correlations.{energy-small}
 use Rattle.pss_search.proofs.measure.Sweep.step.Goals as goal
 
 pub metrics_of-metrics-requires-clause-few : goal.metrics_of-metrics-requires-clause-few
