@@ -1,5 +1,6 @@
 pub mod Members
 pub mod Order
+pub mod LongOrder
 pub mod Points
 pub mod Spans
 pub mod Quadruplets

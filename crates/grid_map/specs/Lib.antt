@@ -1,5 +1,6 @@
 pub mod Place
 pub mod Broadcast
+pub mod LongBroadcast
 pub mod Group
 pub mod Control
 pub mod Candidate

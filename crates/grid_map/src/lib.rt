@@ -11,6 +11,7 @@ mod control;
 mod group;
 mod interleaver;
 mod laws;
+mod long_broadcast;
 mod scrambling;
 mod shared;
 
@@ -20,6 +21,7 @@ pub use control::{control_groups, pcfich, pcfich_places, pdcch};
 pub use group::{places_of_groups, reg_places};
 pub use interleaver::{quadruplet, quadruplets_permute};
 pub use laws::control_places;
+pub use long_broadcast::long_places;
 pub use scrambling::{indicator_bit, pbch_c_init, pcfich_c_init, pdcch_c_init, pdsch_c_init};
 pub use shared::{block_places, pdsch, shared_count, shared_order, shared_place};
 
