@@ -1,5 +1,5 @@
 -- Sizes of elements and of samples.
-use Rattle.std.proofs.Common.{◌≡◌, ℕ, ◌+◌, ◌-◌, ◌*◌, ◌/◌, ◌%◌, ◌<◌, ◌≤◌, ◌^◌, inl, inr, Bool, true, false, nat_eq, nat_lt, arith, refl, sym, subst, ap, ◌∙◌, ℤ, pos, neg_ℤ, ◌+ℤ◌, ◌*ℤ◌}
+use Rattle.std.proofs.Common.{◌≡◌, ℕ, ◌+◌, ◌-◌, ◌*◌, ◌/◌, ◌%◌, ◌<◌, ◌≤◌, ◌^◌, inl, inr, Bool, true, false, nat_eq, nat_lt, Option, Some, None, arith, refl, sym, subst, ap, ◌∙◌, ℤ, pos, neg_ℤ, ◌+ℤ◌, ◌*ℤ◌}
 use Rattle.std.specs.Prelude.{if◌then◌else◌, nat_abs}
 use Rattle.std.proofs.lemmas.Bool.{cases_lt}
 use Rattle.std.proofs.lemmas.Int.{ints, unsigned_abs-mul}
@@ -20,17 +20,20 @@ use Rattle.fold128.specs.Symbol.{frequency, useful_term, useful_at}
 use Rattle.fold128.proofs.EntrySizes.{w-square, z-square}
 use Rattle.lte_types.specs.declared.frame.Half.{Half}
 use Rattle.crs.specs.Qpsk.{IsFull, IsPoint}
-use Rattle.crs.proofs.Values.{reference-IsPoint, component-IsFull}
+use Rattle.crs.specs.Reference.{long_prefix}
+use Rattle.crs.proofs.Values.{reference-IsPoint, pattern_reference-IsPoint, component-IsFull}
+use Rattle.gold.specs.Gold.{gold_bit}
 use Rattle.sync_seq.specs.Primary.{root_of, turns, pss_at}
 use Rattle.sync_seq.specs.Secondary.{sss_at}
 use Rattle.sync_seq.proofs.PrimaryValues.{pss_is, pss-within}
 use Rattle.sync_seq.proofs.SecondaryValues.{sss-size}
 use Rattle.cell_tx.specs.declared.antenna.Port.{Port}
-use Rattle.cell_tx.specs.declared.antenna.Port.TheVariants.{Only, First, Second}
+use Rattle.cell_tx.specs.declared.antenna.Port.TheVariants.{Only, First, Second, Long}
 use Rattle.cell_tx.specs.declared.cell.CellPlan.{CellPlan}
-use Rattle.cell_tx.specs.Ports.{sent_point, sent_signal, is_own_reference, is_other_reference}
+use Rattle.cell_tx.specs.Ports.{port_prefix, port_symbols, port_slot, has_control, sent_point, sent_signal, is_own_reference, is_other_reference, port_reference}
+use Rattle.cell_tx.specs.Load.{is_loaded, load_c_init, load_point, loaded_element, sent_element}
 use Rattle.cell_tx.specs.Block.{port_bit, port_point, scrambled_bit}
-use Rattle.cell_tx.specs.Grid.{is_primary, is_secondary, is_broadcast, is_indicator, is_control, is_shared, port_channel_value, port_element, element}
+use Rattle.cell_tx.specs.Grid.{is_primary, is_secondary, has_broadcast, is_indicator, is_control, is_shared, port_channel_value, port_element, element}
 use Rattle.cell_tx.specs.Points.{scrambled, point_of}
 use Rattle.cell_tx.specs.Control.{indicator_point, control_word, control_point}
 use Rattle.cell_tx.specs.Shared.{shared_bit, shared_point}
@@ -75,6 +78,7 @@ negative_full z (inr e) = inl (ap neg_ℤ e)
 sent_full : (port : Port) (f : ℕ → Cpx) → ((i : ℕ) → IsPoint (f i)) → (i : ℕ) → IsPoint (sent_point port f i)
 sent_full Only f full i = full i
 sent_full First f full i = full i
+sent_full Long f full i = full i
 sent_full Second f full i =
     let next = full (i + 1) in
     let before = full (i - 1) in
@@ -82,17 +86,26 @@ sent_full Second f full i =
     (record { re = negative_full (f (i + 1)).re next.re; im = negative_full _ (negative_full (f (i + 1)).im next.im) })
     (record { re = before.re; im = negative_full (f (i - 1)).im before.im })
 
+-- the reference signals
+pub reference_full : (port : Port) (identity slot symbol k : ℕ) → IsPoint (port_reference port identity slot symbol k)
+reference_full Only identity slot symbol k = subst IsPoint (sym (reference_at_is identity slot symbol k)) (reference-IsPoint identity slot symbol (k / 6))
+reference_full First identity slot symbol k = subst IsPoint (sym (reference_at_is identity slot symbol k)) (reference-IsPoint identity slot symbol (k / 6))
+reference_full Second identity slot symbol k = subst IsPoint (sym (reference_at_is identity slot symbol k)) (reference-IsPoint identity slot symbol (k / 6))
+reference_full Long identity slot symbol k = pattern_reference-IsPoint long_prefix identity slot symbol (k / 6)
+
 channel_all : (P : Cpx → Type 0) → ((z : Cpx) → IsPoint z → P z) → P nothing → (port : Port) (plan : CellPlan) (sfn subframe symbol k : ℕ) → P (port_channel_value port plan sfn subframe symbol k)
 unfolding port_channel_value
 channel_all P full none port plan sfn subframe symbol k =
-    pick P (is_broadcast plan.identity subframe symbol k) _ _ (full _ (sent_full port (port_point port plan sfn) (broadcast_full port plan sfn) _))
+    pick P (has_broadcast port plan.identity subframe symbol k) _ _ (full _ (sent_full port (port_point port plan sfn) (broadcast_full port plan sfn) _))
+    (pick P (has_control port) _ _
     (pick P (is_indicator plan symbol k) _ _ (full _ (sent_full port (indicator_point plan subframe) (indicator_full plan subframe) _))
     (pick P (is_control plan sfn subframe symbol k) _ _ (full _ (sent_full port (control_point plan sfn) (control_full plan sfn) _))
-    (pick P (is_shared port plan sfn subframe symbol k) _ _ (full _ (sent_full port (shared_point plan sfn) (shared_full plan sfn) _)) none)))
+    (pick P (is_shared port plan sfn subframe symbol k) _ _ (full _ (sent_full port (shared_point plan sfn) (shared_full plan sfn) _)) none))) none)
 
 signal_all : (P : Cpx → Type 0) (port : Port) (z : Cpx) → P z → P nothing → P (sent_signal port z)
 signal_all P Only z here none = here
 signal_all P First z here none = here
+signal_all P Long z here none = here
 signal_all P Second z here none = none
 
 -- what holds of each kind of value holds of every element
@@ -101,12 +114,11 @@ element_all : (P : Cpx → Type 0) → ((z : Cpx) → IsPoint z → P z) → ((n
     → (port : Port) (plan : CellPlan) (sfn subframe symbol k : ℕ) → P (port_element port plan sfn subframe symbol k)
 unfolding port_element
 element_all P full primary secondary none port plan sfn subframe symbol k =
-    pick P (is_own_reference port plan.identity (symbol % 7) k) _ _
-    (subst P (sym (reference_at_is plan.identity (2 * subframe + symbol / 7) (symbol % 7) k))
-    (full _ (reference-IsPoint plan.identity (2 * subframe + symbol / 7) (symbol % 7) (k / 6))))
-    (pick P (is_other_reference port plan.identity (symbol % 7) k) _ _ none
-    (pick P (is_primary subframe symbol k) _ _ (signal_all P port _ (primary (plan.identity % 3) (k - 5)) none)
-    (pick P (is_secondary subframe symbol k) _ _ (signal_all P port _ (secondary (plan.identity / 3) (plan.identity % 3) (half_of subframe) (k - 5)) none)
+    pick P (is_own_reference port plan.identity (symbol % port_symbols port) k) _ _
+    (full _ (reference_full port plan.identity (port_slot port subframe symbol) (symbol % port_symbols port) k))
+    (pick P (is_other_reference port plan.identity (symbol % port_symbols port) k) _ _ none
+    (pick P (is_primary port subframe symbol k) _ _ (signal_all P port _ (primary (plan.identity % 3) (k - 5)) none)
+    (pick P (is_secondary port subframe symbol k) _ _ (signal_all P port _ (secondary (plan.identity / 3) (plan.identity % 3) (half_of subframe) (k - 5)) none)
     (channel_all P full none port plan sfn subframe symbol k))))
 
 pub full_size : (z : ℤ) → IsFull z → nat_abs z ≡ 90
@@ -116,10 +128,16 @@ full_size z (inr e) = rw e refl
 pub secondary_size : (n1 n2 : ℕ) (half : Half) (n : ℕ) → nat_abs (pos 127 *ℤ sss_at n1 n2 half n) ≡ 127
 secondary_size n1 n2 half n = unsigned_abs-mul (pos 127) (sss_at n1 n2 half n) ∙ rw (sss-size n1 n2 half n) refl
 
+pub point-within : (z : Cpx) → IsPoint z → IsWithin 127 z
+point-within z full = record { re = omega (arith, full_size z.re full.re); im = omega (arith, full_size z.im full.im) }
+
+pub point-square : (z : Cpx) → IsPoint z → square z ≤ 128 * 128
+point-square z full = rw (full_size z.re full.re, full_size z.im full.im) (omega arith)
+
 pub element-within : (port : Port) (plan : CellPlan) (sfn subframe symbol k : ℕ) → IsWithin 127 (port_element port plan sfn subframe symbol k)
 element-within =
     element_all (IsWithin 127)
-    (λ z full. record { re = omega (arith, full_size z.re full.re); im = omega (arith, full_size z.im full.im) })
+    point-within
     pss-within
     (λ n1 n2 half n. record { re = omega (arith, secondary_size n1 n2 half n); im = omega arith })
     (record { re = omega arith; im = omega arith })
@@ -130,10 +148,27 @@ primary-square n2 n = rw (pss_is n2 n) (z-square ((63 - root_of n2) * turns n))
 pub element-square : (port : Port) (plan : CellPlan) (sfn subframe symbol k : ℕ) → square (port_element port plan sfn subframe symbol k) ≤ 128 * 128
 element-square =
     element_all (λ z. square z ≤ 128 * 128)
-    (λ z full. rw (full_size z.re full.re, full_size z.im full.im) (omega arith))
+    point-square
     primary-square
     (λ n1 n2 half n. rw (secondary_size n1 n2 half n) (omega arith))
     (omega arith)
+
+-- with load and without
+pub load_full : (load : ℕ) (port : Port) (sfn subframe symbol k : ℕ) → IsPoint (load_point load port sfn subframe symbol k)
+unfolding load_point
+load_full load port sfn subframe symbol k = bits_full (gold_bit (load_c_init load port sfn subframe)) (72 * symbol + k)
+
+module _ (P : Cpx → Type 0) (full : (z : Cpx) → IsPoint z → P z) (port : Port) (plan : CellPlan) (each : (sfn subframe symbol k : ℕ) → P (port_element port plan sfn subframe symbol k)) where
+  sent_all : (load : Option ℕ) (sfn subframe symbol k : ℕ) → P (sent_element load port plan sfn subframe symbol k)
+  unfolding loaded_element
+  sent_all None sfn subframe symbol k = each sfn subframe symbol k
+  sent_all (Some load) sfn subframe symbol k = pick P (is_loaded port plan sfn subframe symbol k) _ _ (full _ (load_full load port sfn subframe symbol k)) (each sfn subframe symbol k)
+
+pub sent_element-within : (load : Option ℕ) (port : Port) (plan : CellPlan) (sfn subframe symbol k : ℕ) → IsWithin 127 (sent_element load port plan sfn subframe symbol k)
+sent_element-within load port plan = sent_all (IsWithin 127) point-within port plan (element-within port plan) load
+
+pub sent_element-square : (load : Option ℕ) (port : Port) (plan : CellPlan) (sfn subframe symbol k : ℕ) → square (sent_element load port plan sfn subframe symbol k) ≤ 128 * 128
+sent_element-square load port plan = sent_all (λ z. square z ≤ 128 * 128) point-square port plan (element-square port plan) load
 
 -- ---- samples
 
@@ -178,6 +213,10 @@ module _ (prefix : Prefix) (grid : Elements) (small : (sfn subframe symbol k : �
 pub sent-square : (port : Port) (plan : CellPlan) (sfn i : ℕ) → square (sent (port_element port plan) sfn i) ≤ 1153 * 1153
 sent-square port plan = small-sent-square normal (port_element port plan) (element-square port plan)
 
+-- nor has one of any port, with load or without
+pub sent_by-square : (load : Option ℕ) (port : Port) (plan : CellPlan) (sfn i : ℕ) → square (prefix_sent (port_prefix port) (sent_element load port plan) sfn i) ≤ 1153 * 1153
+sent_by-square load port plan = small-sent-square (port_prefix port) (sent_element load port plan) (sent_element-square load port plan)
+
 -- a number of that size fits 16 bits
 pub small-within : (z : Cpx) → square z ≤ 1153 * 1153 → IsWithin 32767 z
 small-within z h = record { re = omega (arith, re-le z 1153 h); im = omega (arith, im-le z 1153 h) }
@@ -189,11 +228,11 @@ pub record IsAmplified (gain clean : Cpx) : Type 0 where
   pub fits : size gain * size clean ≤ 2 ^ 61
   pub small : IsWithin 32284 (times gain clean)
 
-pub amplified : (gain clean : Cpx) → IsGain gain → square clean ≤ 1153 * 1153 → IsAmplified gain clean
+pub amplified : (gain clean : Cpx) → square gain ≤ 784 → square clean ≤ 1153 * 1153 → IsAmplified gain clean
 amplified gain clean g c =
     let whole : square (times gain clean) ≤ 32284 * 32284 =
-    omega (arith, square-times gain clean, mul-le (square gain) (square clean) 784 1329409 g.most c) in
-    let large : size gain ≤ 28 = omega (arith, re-le gain 28 g.most, im-le gain 28 g.most) in
+    omega (arith, square-times gain clean, mul-le (square gain) (square clean) 784 1329409 g c) in
+    let large : size gain ≤ 28 = omega (arith, re-le gain 28 g, im-le gain 28 g) in
     let small : size clean ≤ 1153 = omega (arith, re-le clean 1153 c, im-le clean 1153 c) in
     record {
       fits = omega (arith, mul-le (size gain) (size clean) 28 1153 large small);
@@ -202,7 +241,7 @@ amplified gain clean g c =
 
 -- what is received of a cell
 pub received-within : (plan : CellPlan) (sfn offset : ℕ) (gain : Cpx) (i : ℕ) → IsGain gain → IsWithin 32284 (received plan sfn offset gain i)
-received-within plan sfn offset gain i g = (amplified gain (sent (element plan) sfn (i + offset)) g (sent-square Only plan sfn (i + offset))).small
+received-within plan sfn offset gain i g = (amplified gain (sent (element plan) sfn (i + offset)) g.most (sent-square Only plan sfn (i + offset))).small
 
 -- ---- errors
 
@@ -213,14 +252,14 @@ error-bound eps n e m = elim (cases_lt 56 eps) [
   | inr fits ↦ omega (arith, fits)
 ]
 
-added : (a b : ℤ) (m n : ℕ) → nat_abs a ≤ m → nat_abs b ≤ n → nat_abs (a +ℤ b) ≤ m + n
+pub added : (a b : ℤ) (m n : ℕ) → nat_abs a ≤ m → nat_abs b ≤ n → nat_abs (a +ℤ b) ≤ m + n
 added a b m n p q = omega (arith, ints, p, q)
 
 pub with-error-fits : (clean gain error : Cpx) (eps : ℕ) → square clean ≤ 1153 * 1153 → IsGain gain → eps * eps ≤ 4 * square gain → IsWithin eps error →
     IsWithin 32340 (plus (times gain clean) error)
 with-error-fits clean gain error eps c g bound e =
     let most = error-bound eps (square gain) bound g.most in
-    let whole = (amplified gain clean g c).small in
+    let whole = (amplified gain clean g.most c).small in
     record {
       re = omega (arith, most, added (times gain clean).re error.re 32284 eps whole.re e.re);
       im = omega (arith, most, added (times gain clean).im error.im 32284 eps whole.im e.im);

@@ -1,5 +1,5 @@
 -- What the code finds of each channel at a place is its value there.
-use Rattle.std.proofs.Common.{◌≡◌, ℕ, ◌%◌, subst, ◌≤◌, Bool, true, false, ◌&&◌, nat_eq, List, length, Some, None, if◌then◌else◌, refl, ap, sym, ◌∙◌, arith}
+use Rattle.std.proofs.Common.{◌≡◌, ℕ, ◌+◌, ◌*◌, ◌/◌, ◌%◌, subst, ◌≤◌, Bool, true, false, ◌&&◌, nat_eq, List, length, Some, None, if◌then◌else◌, refl, ap, sym, ◌∙◌, arith}
 use Rattle.std.proofs.lemmas.Bool.{lt-ltb, ltb-true}
 use Rattle.std.specs.Prelude.{All}
 use Rattle.finite.specs.Lists.{values_below}
@@ -10,17 +10,20 @@ use Rattle.cs_num.specs.declared.Cpx.{Cpx}
 use Rattle.grid_map.specs.declared.Place.{Place}
 use Rattle.grid_map.specs.Place.{place, index_in}
 use Rattle.grid_map.specs.Broadcast.{pbch_places, pbch_index, is_pbch}
+use Rattle.grid_map.specs.LongBroadcast.{long_places}
 use Rattle.grid_map.specs.Control.{pcfich_places}
 use Rattle.grid_map.proofs.Points.{length-pbch_places, index_fits, carries_at_index}
+use Rattle.grid_map.proofs.LongOrder.{length-long_places}
 use Rattle.grid_map.proofs.Pieces.{length-pcfich_places}
 use Rattle.cell_tx.specs.declared.antenna.Port.{Port}
+use Rattle.cell_tx.specs.declared.antenna.Port.TheVariants.{Only, First, Second, Long}
 use Rattle.cell_tx.specs.declared.cell.CellPlan.{CellPlan}
 use Rattle.cell_tx.specs.Ports.{is_two, sent_point}
 use Rattle.cell_tx.specs.Block.{port_point}
 use Rattle.cell_tx.specs.Control.{indicator_point, control_places, control_point}
 use Rattle.cell_tx.specs.Shared.{assigned_places, shared_point}
-use Rattle.cell_tx.specs.Grid.{is_one_of, has_system_information, broadcast_value, control_value, shared_value}
-use Rattle.cell_tx.specs.Rows.{value_in, broadcast_if, indicator_if, control_if, shared_if}
+use Rattle.cell_tx.specs.Grid.{is_one_of, is_broadcast, has_system_information, control_value, shared_value}
+use Rattle.cell_tx.specs.Rows.{value_in, broadcast_places, may_broadcast, broadcast_symbol, broadcast_if, indicator_if, control_if, shared_if}
 use Rattle.cell_tx.proofs.PlaceValues.{values_are}
 use Rattle.cell_tx.proofs.Bounds.{full_size}
 
@@ -55,16 +58,37 @@ all_small points n f e full =
 pub so_many : (points : List Cpx) (n : ℕ) (f : ℕ → Cpx) → points ≡ values_below n f → length points ≡ n
 so_many points n f e = ap length e ∙ values_below-length n f
 
+-- the places of the broadcast channel are at most 240
+pub broadcast_count : (port : Port) (identity : ℕ) → length (broadcast_places port identity) ≤ 240
+broadcast_count Only identity = let n = length-pbch_places identity in omega (arith, n)
+broadcast_count First identity = let n = length-pbch_places identity in omega (arith, n)
+broadcast_count Second identity = let n = length-pbch_places identity in omega (arith, n)
+broadcast_count Long identity = let n = length-long_places identity in omega (arith, n)
+
+-- what it has in the symbols of its subframe, or slot
+module _ (plan : CellPlan) (sfn subframe symbol k : ℕ) where
+  by_number : (port : Port) (places : List Place) (there : Bool) (points : List Cpx) (p : Place) → points ≡ values_below 240 (port_point port plan sfn) → length places ≤ 240 → is_one_of places p ≡ there →
+      value_in port places points p ≡ (if there then Some (sent_point port (port_point port plan sfn) (index_in places p)) else None)
+  by_number port places there points p is room e =
+      looked_up port places points 240 (port_point port plan sfn) p is refl room
+      ∙ ap (λ (b : Bool). if b then Some (sent_point port (port_point port plan sfn) (index_in places p)) else None) e
+
+  in_subframe : nat_eq subframe 0 ≡ true → is_one_of (pbch_places plan.identity) (place symbol k) ≡ is_broadcast plan.identity subframe symbol k
+  in_subframe e = both_true (nat_eq subframe 0) _ (is_pbch plan.identity (place symbol k)) e (is_pbch_place plan.identity (place symbol k))
+
+  pub broadcast_is : (port : Port) (points : List Cpx) → points ≡ values_below 240 (port_point port plan sfn) → may_broadcast port subframe symbol ≡ true →
+      value_in port (broadcast_places port plan.identity) points (place (broadcast_symbol port symbol) k) ≡ broadcast_if port plan sfn subframe symbol k
+  unfolding pbch_index
+  broadcast_is Only points is e = by_number Only (pbch_places plan.identity) _ points (place symbol k) is (broadcast_count Only plan.identity) (in_subframe e)
+  broadcast_is First points is e = by_number First (pbch_places plan.identity) _ points (place symbol k) is (broadcast_count First plan.identity) (in_subframe e)
+  broadcast_is Second points is e = by_number Second (pbch_places plan.identity) _ points (place symbol k) is (broadcast_count Second plan.identity) (in_subframe e)
+  broadcast_is Long points is e =
+      by_number Long (long_places plan.identity) _ points (place (symbol % 6) k) is (broadcast_count Long plan.identity)
+      (both_true (nat_eq (2 * subframe + symbol / 6) 1) _ (is_one_of (long_places plan.identity) (place (symbol % 6) k)) e refl)
+
 module _ (port : Port) (plan : CellPlan) (sfn subframe symbol k : ℕ) where
   abbrev here : Place
   here = place symbol k
-
-  pub broadcast_is : (points : List Cpx) → points ≡ values_below 240 (port_point port plan sfn) → subframe ≡ 0 → value_in port (pbch_places plan.identity) points here ≡ broadcast_if port plan sfn subframe symbol k
-  unfolding pbch_index
-  broadcast_is points is first =
-      looked_up port (pbch_places plan.identity) points 240 (port_point port plan sfn) here is refl (let n = length-pbch_places plan.identity in omega (arith, n))
-      ∙ ap (λ (b : Bool). if b then Some (broadcast_value port plan sfn symbol k) else None)
-      (both_true (nat_eq subframe 0) _ (is_pbch plan.identity here) (ap (λ s. nat_eq s 0) first) (is_pbch_place plan.identity here))
 
   pub indicator_is : (points : List Cpx) → points ≡ values_below 16 (indicator_point plan subframe) → value_in port (pcfich_places plan.identity) points here ≡ indicator_if port plan subframe symbol k
   indicator_is points is = looked_up port (pcfich_places plan.identity) points 16 (indicator_point plan subframe) here is refl (let n = length-pcfich_places plan.identity in omega (arith, n))

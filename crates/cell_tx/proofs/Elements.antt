@@ -1,17 +1,19 @@
 -- The elements of a grid, case by case.
-use Rattle.std.proofs.Common.{◌≡◌, ℕ, ◌+◌, ◌*◌, ◌/◌, ◌%◌, ◌<◌, ◌⊎◌, inl, inr, Bool, true, false, nat_eq, Option, Some, None, List, get_or, arith, refl, sym, ap, ◌∙◌}
+use Rattle.std.proofs.Common.{◌≡◌, ℕ, ◌+◌, ◌*◌, ◌/◌, ◌%◌, ◌<◌, ◌⊎◌, inl, inr, Bool, true, false, not, ◌&&◌, ◌||◌, nat_eq, Option, Some, None, List, get_or, arith, refl, sym, ap, ◌∙◌, eq-eqb}
 use Rattle.std.specs.Prelude.{if◌then◌else◌}
 use Rattle.std.specs.Option.{unwrap_or}
 use Rattle.cs_num.specs.declared.Cpx.{Cpx}
 use Rattle.cs_num.specs.Complex.{nothing}
-use Rattle.crs.specs.Reference.{first_subcarrier, reference, reference_at, is_reference, is_second_reference, reference_list}
-use Rattle.crs.proofs.Values.{no_pair, get_or-reference_list}
+use Rattle.crs.specs.declared.pattern.Pattern.{Pattern}
+use Rattle.crs.specs.Reference.{port_0, long_prefix, has_pilots, pattern_first, pattern_list, pattern_reference, is_pattern_place, first_subcarrier, reference, reference_at, is_reference, is_second_reference}
+use Rattle.crs.proofs.Values.{no_pair, reference-of_port_0, get_or-pattern_list}
 use Rattle.cell_tx.specs.declared.antenna.Port.{Port}
-use Rattle.cell_tx.specs.declared.antenna.Port.TheVariants.{Only, First, Second}
+use Rattle.cell_tx.specs.declared.antenna.Port.TheVariants.{Only, First, Second, Long}
 use Rattle.cell_tx.specs.declared.cell.CellPlan.{CellPlan}
-use Rattle.cell_tx.specs.Ports.{sent_signal, is_own_reference, is_other_reference}
-use Rattle.cell_tx.specs.Grid.{is_primary, is_secondary, is_broadcast, is_indicator, is_control, is_shared, reference_value, primary_value, secondary_value, broadcast_value, indicator_value, control_value, shared_value, port_channel_value, port_element}
-use Rattle.cell_tx.specs.Rows.{port_reference_if, broadcast_if, indicator_if, control_if, shared_if}
+use Rattle.cell_tx.specs.Ports.{port_symbols, port_slot, first_pattern, has_control, sent_signal, is_own_reference, is_other_reference}
+use Rattle.cell_tx.specs.Grid.{is_primary, is_secondary, has_broadcast, is_indicator, is_control, is_shared, has_system_information, reference_value, primary_value, secondary_value, broadcast_value, system_value, port_channel_value, port_element}
+use Rattle.cell_tx.specs.Load.{is_signal_symbol, is_taken, is_loaded, load_point, loaded_element, sent_element}
+use Rattle.cell_tx.specs.Rows.{port_reference_if, indicator_if, control_if, shared_if, system_if, channel_if, open_value}
 
 -- ---- reference places
 
@@ -20,23 +22,28 @@ abbrev pub found : Port → Bool → Bool → Cpx → Option Cpx
 found Only first second value = if first then Some value else (if false then Some nothing else None)
 found First first second value = if first then Some value else (if second then Some nothing else None)
 found Second first second value = if second then Some value else (if first then Some nothing else None)
-
-pub reference_row : (identity symbol k : ℕ) → (symbol ≡ 0) ⊎ (symbol ≡ 4) → is_reference identity symbol k ≡ nat_eq (k % 6) (first_subcarrier identity symbol)
-unfolding is_reference
-reference_row identity symbol k (inl e) = rw e refl
-reference_row identity symbol k (inr e) = rw e refl
-
-pub no_reference : (identity symbol k : ℕ) → nat_eq symbol 0 ≡ false → nat_eq symbol 4 ≡ false → is_reference identity symbol k ≡ false
-unfolding is_reference
-no_reference identity symbol k e f = rw (e, f) refl
+found Long first second value = if first then Some value else (if false then Some nothing else None)
 
 pub reference_at_is : (identity slot symbol k : ℕ) → reference_at identity slot symbol k ≡ reference identity slot symbol (k / 6)
 unfolding reference_at
 reference_at_is identity slot symbol k = refl
 
+reference_of_port_0 : (identity slot symbol k : ℕ) → pattern_reference port_0 identity slot symbol (k / 6) ≡ reference_at identity slot symbol k
+reference_of_port_0 identity slot symbol k = reference-of_port_0 identity slot symbol (k / 6) ∙ sym (reference_at_is identity slot symbol k)
+
+is_reference_of : (identity symbol k : ℕ) → is_pattern_place port_0 identity symbol k ≡ is_reference identity symbol k
+unfolding is_reference first_subcarrier
+is_reference_of identity symbol k = refl
+
+no_place : (pattern : Pattern) (identity symbol k : ℕ) → nat_eq symbol 0 ≡ false → nat_eq symbol pattern.later ≡ false → is_pattern_place pattern identity symbol k ≡ false
+no_place pattern identity symbol k e f = rw (e, f) refl
+
+pub no_reference : (identity symbol k : ℕ) → nat_eq symbol 0 ≡ false → nat_eq symbol 4 ≡ false → is_reference identity symbol k ≡ false
+no_reference identity symbol k e f = sym (is_reference_of identity symbol k) ∙ no_place port_0 identity symbol k e f
+
 -- the second port has the places three subcarriers on
-second_row : (identity symbol k : ℕ) → (symbol ≡ 0) ⊎ (symbol ≡ 4) → is_second_reference identity symbol k ≡ nat_eq (k % 6) ((first_subcarrier identity symbol + 3) % 6)
-unfolding is_second_reference first_subcarrier
+second_row : (identity symbol k : ℕ) → (symbol ≡ 0) ⊎ (symbol ≡ 4) → is_second_reference identity symbol k ≡ nat_eq (k % 6) ((pattern_first port_0 identity symbol + 3) % 6)
+unfolding is_second_reference
 second_row identity symbol k (inl e) = let same : (3 + identity) % 6 ≡ ((0 + identity) % 6 + 3) % 6 = omega arith in rw e (ap (nat_eq (k % 6)) same)
 second_row identity symbol k (inr e) = let same : (0 + identity) % 6 ≡ ((3 + identity) % 6 + 3) % 6 = omega arith in rw e (ap (nat_eq (k % 6)) same)
 
@@ -45,60 +52,72 @@ unfolding is_second_reference
 no_second_reference identity symbol k e f = rw (e, f) refl
 
 -- other symbols have no reference places of any port
-pub no_port_reference : (port : Port) (identity slot symbol k : ℕ) → nat_eq symbol 0 ≡ false → nat_eq symbol 4 ≡ false → port_reference_if port identity slot symbol k ≡ None
+pub no_port_reference : (port : Port) (identity slot symbol k : ℕ) → nat_eq symbol 0 ≡ false → nat_eq symbol (first_pattern port).later ≡ false → port_reference_if port identity slot symbol k ≡ None
 no_port_reference Only identity slot symbol k e f = rw (no_reference identity symbol k e f) refl
 no_port_reference First identity slot symbol k e f = rw (no_reference identity symbol k e f, no_second_reference identity symbol k e f) refl
 no_port_reference Second identity slot symbol k e f = rw (no_second_reference identity symbol k e f, no_reference identity symbol k e f) refl
+no_port_reference Long identity slot symbol k e f = rw (no_place long_prefix identity symbol k e f) refl
 
-first_small : (identity symbol : ℕ) → first_subcarrier identity symbol % 6 ≡ first_subcarrier identity symbol
-unfolding first_subcarrier
-first_small identity symbol = omega arith
-
-module _ (pilots : List (ℕ × Cpx)) (identity slot symbol k : ℕ) (row : (symbol ≡ 0) ⊎ (symbol ≡ 4)) (is : pilots ≡ reference_list identity slot symbol) where
-  first_is : (get_or pilots 0 no_pair).0 % 6 ≡ first_subcarrier identity symbol
+module _ (pattern : Pattern) (pilots : List (ℕ × Cpx)) (identity slot symbol k : ℕ) (row : (symbol ≡ 0) ⊎ (symbol ≡ pattern.later)) (is : pilots ≡ pattern_list pattern identity slot symbol) where
+  first_is : (get_or pilots 0 no_pair).0 % 6 ≡ pattern_first pattern identity symbol
   first_is =
-      let zeroth : 6 * 0 + first_subcarrier identity symbol ≡ first_subcarrier identity symbol = omega arith in
-      ap (λ (pair : ℕ × Cpx). pair.0 % 6) (ap (λ list. get_or list 0 no_pair) is ∙ get_or-reference_list identity slot symbol 0 no_pair (omega arith))
-      ∙ ap (λ (n : ℕ). n % 6) zeroth ∙ first_small identity symbol
+      let zeroth : (6 * 0 + pattern_first pattern identity symbol) % 6 ≡ pattern_first pattern identity symbol = omega arith in
+      ap (λ (pair : ℕ × Cpx). pair.0 % 6) (ap (λ list. get_or list 0 no_pair) is ∙ get_or-pattern_list pattern identity slot symbol 0 no_pair (omega arith)) ∙ zeroth
 
-  value_is : k < 72 → (get_or pilots (k / 6) no_pair).1 ≡ reference_at identity slot symbol k
-  value_is inside =
-      ap (λ (pair : ℕ × Cpx). pair.1) (ap (λ list. get_or list (k / 6) no_pair) is ∙ get_or-reference_list identity slot symbol (k / 6) no_pair (omega arith))
-      ∙ sym (reference_at_is identity slot symbol k)
+  value_is : k < 72 → (get_or pilots (k / 6) no_pair).1 ≡ pattern_reference pattern identity slot symbol (k / 6)
+  value_is inside = ap (λ (pair : ℕ × Cpx). pair.1) (ap (λ list. get_or list (k / 6) no_pair) is ∙ get_or-pattern_list pattern identity slot symbol (k / 6) no_pair (omega arith))
 
-  own : nat_eq (k % 6) ((get_or pilots 0 no_pair).0 % 6) ≡ is_reference identity symbol k
-  own = ap (nat_eq (k % 6)) first_is ∙ sym (reference_row identity symbol k row)
+  has : (a b : Bool) → (symbol ≡ 0 → a ≡ true) → (symbol ≡ pattern.later → b ≡ true) → (a || b) ≡ true
+  has true b first later = refl
+  has false b first later = elim row [ inl e ↦ absurd (let f = first e in cc) | inr e ↦ later e ]
 
-  second : nat_eq (k % 6) (((get_or pilots 0 no_pair).0 % 6 + 3) % 6) ≡ is_second_reference identity symbol k
-  second = ap (λ (n : ℕ). nat_eq (k % 6) ((n + 3) % 6)) first_is ∙ sym (second_row identity symbol k row)
+  own : nat_eq (k % 6) ((get_or pilots 0 no_pair).0 % 6) ≡ is_pattern_place pattern identity symbol k
+  own =
+      let pilots_here : has_pilots pattern symbol ≡ true = has (nat_eq symbol 0) (nat_eq symbol pattern.later) (eq-eqb symbol 0) (eq-eqb symbol pattern.later) in
+      ap (nat_eq (k % 6)) first_is ∙ sym (ap (λ b. b && nat_eq (k % 6) (pattern_first pattern identity symbol)) pilots_here)
 
-  chosen : (a b c d : Bool) (x y : Cpx) → a ≡ c → b ≡ d → x ≡ y → (if a then Some x else (if b then Some nothing else None)) ≡ (if c then Some y else (if d then Some nothing else None))
-  chosen a b c d x y e f g = rw (e, f, g) refl
+-- a place of the second port, by the first subcarrier of the first
+second : (pilots : List (ℕ × Cpx)) (identity slot symbol k : ℕ) → (symbol ≡ 0) ⊎ (symbol ≡ 4) → pilots ≡ pattern_list port_0 identity slot symbol →
+    nat_eq (k % 6) (((get_or pilots 0 no_pair).0 % 6 + 3) % 6) ≡ is_second_reference identity symbol k
+second pilots identity slot symbol k row is =
+    ap (λ (n : ℕ). nat_eq (k % 6) ((n + 3) % 6)) (first_is port_0 pilots identity slot symbol k row is) ∙ sym (second_row identity symbol k row)
 
-  pub pilot_is : (port : Port) → k < 72 →
-      (let n = (get_or pilots 0 no_pair).0 % 6 in
-      let first = nat_eq (k % 6) n in
-      let other = nat_eq (k % 6) ((n + 3) % 6) in
-      let value = (get_or pilots (k / 6) no_pair).1 in
-      found port first other value ≡ port_reference_if port identity slot symbol k)
-  pilot_is Only inside = chosen _ false _ false _ _ own refl (value_is inside)
-  pilot_is First inside = chosen _ _ _ _ _ _ own second (value_is inside)
-  pilot_is Second inside = chosen _ _ _ _ _ _ second own (value_is inside)
+chosen : (a b c d : Bool) (x y : Cpx) → a ≡ c → b ≡ d → x ≡ y → (if a then Some x else (if b then Some nothing else None)) ≡ (if c then Some y else (if d then Some nothing else None))
+chosen a b c d x y e f g = rw (e, f, g) refl
+
+pub pilot_is : (port : Port) (pilots : List (ℕ × Cpx)) (identity slot symbol k : ℕ) → (symbol ≡ 0) ⊎ (symbol ≡ (first_pattern port).later)
+    → pilots ≡ pattern_list (first_pattern port) identity slot symbol → k < 72 →
+    (let n = (get_or pilots 0 no_pair).0 % 6 in
+    let first = nat_eq (k % 6) n in
+    let other = nat_eq (k % 6) ((n + 3) % 6) in
+    let value = (get_or pilots (k / 6) no_pair).1 in
+    found port first other value ≡ port_reference_if port identity slot symbol k)
+pilot_is Only pilots identity slot symbol k row is inside =
+    chosen _ false _ false _ _ (own port_0 pilots identity slot symbol k row is ∙ is_reference_of identity symbol k) refl
+    (value_is port_0 pilots identity slot symbol k row is inside ∙ reference_of_port_0 identity slot symbol k)
+pilot_is First pilots identity slot symbol k row is inside =
+    chosen _ _ _ _ _ _ (own port_0 pilots identity slot symbol k row is ∙ is_reference_of identity symbol k) (second pilots identity slot symbol k row is)
+    (value_is port_0 pilots identity slot symbol k row is inside ∙ reference_of_port_0 identity slot symbol k)
+pilot_is Second pilots identity slot symbol k row is inside =
+    chosen _ _ _ _ _ _ (second pilots identity slot symbol k row is) (own port_0 pilots identity slot symbol k row is ∙ is_reference_of identity symbol k)
+    (value_is port_0 pilots identity slot symbol k row is inside ∙ reference_of_port_0 identity slot symbol k)
+pilot_is Long pilots identity slot symbol k row is inside =
+    chosen _ false _ false _ _ (own long_prefix pilots identity slot symbol k row is) refl (value_is long_prefix pilots identity slot symbol k row is inside)
 
 -- ---- the cases of an element
 
 module _ (port : Port) (plan : CellPlan) (sfn subframe symbol k : ℕ) where
   abbrev here_if : Bool → Bool → Option Cpx
-  here_if own other = if own then Some (reference_value plan subframe symbol k) else (if other then Some nothing else None)
+  here_if own other = if own then Some (reference_value port plan subframe symbol k) else (if other then Some nothing else None)
 
   abbrev rest : Cpx
   rest =
-      if is_primary subframe symbol k then sent_signal port (primary_value plan k)
-      else (if is_secondary subframe symbol k then sent_signal port (secondary_value plan subframe k)
+      if is_primary port subframe symbol k then sent_signal port (primary_value plan k)
+      else (if is_secondary port subframe symbol k then sent_signal port (secondary_value plan subframe k)
       else port_channel_value port plan sfn subframe symbol k)
 
   abbrev by_references : Bool → Bool → Cpx
-  by_references own other = if own then reference_value plan subframe symbol k else (if other then nothing else rest)
+  by_references own other = if own then reference_value port plan subframe symbol k else (if other then nothing else rest)
 
   there : (own other : Bool) (value : Cpx) → here_if own other ≡ Some value → value ≡ by_references own other
   there true other value e = cc
@@ -110,25 +129,35 @@ module _ (port : Port) (plan : CellPlan) (sfn subframe symbol k : ℕ) where
   elsewhere false true e = absurd cc
   elsewhere false false e = refl
 
-  pub element_of_reference : (value : Cpx) → port_reference_if port plan.identity (2 * subframe + symbol / 7) (symbol % 7) k ≡ Some value → value ≡ port_element port plan sfn subframe symbol k
+  pub element_of_reference : (value : Cpx) → port_reference_if port plan.identity (port_slot port subframe symbol) (symbol % port_symbols port) k ≡ Some value → value ≡ port_element port plan sfn subframe symbol k
   unfolding port_element
-  element_of_reference value e = there (is_own_reference port plan.identity (symbol % 7) k) (is_other_reference port plan.identity (symbol % 7) k) value e
+  element_of_reference value e = there (is_own_reference port plan.identity (symbol % port_symbols port) k) (is_other_reference port plan.identity (symbol % port_symbols port) k) value e
 
-  pub element_elsewhere : port_reference_if port plan.identity (2 * subframe + symbol / 7) (symbol % 7) k ≡ None → port_element port plan sfn subframe symbol k ≡ rest
+  pub element_elsewhere : port_reference_if port plan.identity (port_slot port subframe symbol) (symbol % port_symbols port) k ≡ None → port_element port plan sfn subframe symbol k ≡ rest
   unfolding port_element
-  element_elsewhere e = elsewhere (is_own_reference port plan.identity (symbol % 7) k) (is_other_reference port plan.identity (symbol % 7) k) e
+  element_elsewhere e = elsewhere (is_own_reference port plan.identity (symbol % port_symbols port) k) (is_other_reference port plan.identity (symbol % port_symbols port) k) e
 
 -- ---- elements that are no reference signal
 
-module _ (port : Port) (plan : CellPlan) (sfn subframe symbol k : ℕ) (no : port_reference_if port plan.identity (2 * subframe + symbol / 7) (symbol % 7) k ≡ None) where
-  pub element_of_primary : is_primary subframe symbol k ≡ true → port_element port plan sfn subframe symbol k ≡ sent_signal port (primary_value plan k)
+module _ (port : Port) (plan : CellPlan) (sfn subframe symbol k : ℕ) (no : port_reference_if port plan.identity (port_slot port subframe symbol) (symbol % port_symbols port) k ≡ None) where
+  pub element_of_primary : is_primary port subframe symbol k ≡ true → port_element port plan sfn subframe symbol k ≡ sent_signal port (primary_value plan k)
   element_of_primary e = element_elsewhere port plan sfn subframe symbol k no ∙ rw e refl
 
-  pub element_of_secondary : is_primary subframe symbol k ≡ false → is_secondary subframe symbol k ≡ true → port_element port plan sfn subframe symbol k ≡ sent_signal port (secondary_value plan subframe k)
+  pub element_of_secondary : is_primary port subframe symbol k ≡ false → is_secondary port subframe symbol k ≡ true → port_element port plan sfn subframe symbol k ≡ sent_signal port (secondary_value plan subframe k)
   element_of_secondary e f = element_elsewhere port plan sfn subframe symbol k no ∙ rw (e, f) refl
 
-  pub element_of_channel : is_primary subframe symbol k ≡ false → is_secondary subframe symbol k ≡ false → port_element port plan sfn subframe symbol k ≡ port_channel_value port plan sfn subframe symbol k
+  pub element_of_channel : is_primary port subframe symbol k ≡ false → is_secondary port subframe symbol k ≡ false → port_element port plan sfn subframe symbol k ≡ port_channel_value port plan sfn subframe symbol k
   element_of_channel e f = element_elsewhere port plan sfn subframe symbol k no ∙ rw (e, f) refl
+
+-- ---- options one after the other
+
+abbrev pub first_of : Option Cpx → Option Cpx → Option Cpx
+first_of (Some value) other = Some value
+first_of None other = other
+
+pub found_first : (here : Bool) (x : Cpx) (o : Option Cpx) → (if here then Some x else o) ≡ first_of (if here then Some x else None) o
+found_first true x o = refl
+found_first false x o = refl
 
 -- ---- the channels
 
@@ -136,17 +165,145 @@ if_there : (here : Bool) (x z : Cpx) → (if here then x else z) ≡ unwrap_or (
 if_there true x z = refl
 if_there false x z = refl
 
-pub channel_is : (port : Port) (plan : CellPlan) (sfn subframe symbol k : ℕ) → port_channel_value port plan sfn subframe symbol k
-    ≡ unwrap_or (broadcast_if port plan sfn subframe symbol k) (unwrap_or (indicator_if port plan subframe symbol k)
-    (unwrap_or (control_if port plan sfn subframe symbol k) (unwrap_or (shared_if port plan sfn subframe symbol k) nothing)))
-unfolding port_channel_value
-channel_is port plan sfn subframe symbol k =
-    if_there (is_broadcast plan.identity subframe symbol k) (broadcast_value port plan sfn symbol k) _
-    ∙ ap (unwrap_or (broadcast_if port plan sfn subframe symbol k)) (if_there (is_indicator plan symbol k) (indicator_value port plan subframe symbol k) _
-    ∙ ap (unwrap_or (indicator_if port plan subframe symbol k)) (if_there (is_control plan sfn subframe symbol k) (control_value port plan sfn symbol k) _
-    ∙ ap (unwrap_or (control_if port plan sfn subframe symbol k)) (if_there (is_shared port plan sfn subframe symbol k) (shared_value port plan sfn symbol k) nothing)))
+-- the first of a chain of options
+if_first : (here : Bool) (x y z : Cpx) (o : Option Cpx) → y ≡ unwrap_or o z → (if here then x else y) ≡ unwrap_or (if here then Some x else o) z
+if_first true x y z o e = refl
+if_first false x y z o e = e
 
--- where the broadcast channel is, it is the first
-pub channel_of_broadcast : (port : Port) (plan : CellPlan) (sfn subframe symbol k : ℕ) → is_broadcast plan.identity subframe symbol k ≡ true → port_channel_value port plan sfn subframe symbol k ≡ broadcast_value port plan sfn symbol k
-unfolding port_channel_value
-channel_of_broadcast port plan sfn subframe symbol k e = rw e refl
+module _ (port : Port) (plan : CellPlan) (sfn subframe symbol k : ℕ) where
+  system_is : system_value port plan sfn subframe symbol k ≡ unwrap_or (system_if port plan sfn subframe symbol k) nothing
+  system_is =
+      if_first (is_indicator plan symbol k) _ _ nothing _ (if_first (is_control plan sfn subframe symbol k) _ _ nothing _ (if_there (is_shared port plan sfn subframe symbol k) _ nothing))
+
+  pick_system : (there : Bool) → (if there then system_value port plan sfn subframe symbol k else nothing) ≡ unwrap_or (if there then system_if port plan sfn subframe symbol k else None) nothing
+  pick_system true = system_is
+  pick_system false = refl
+
+  pub channel_is : port_channel_value port plan sfn subframe symbol k ≡ unwrap_or (channel_if port plan sfn subframe symbol k) nothing
+  unfolding port_channel_value
+  channel_is = if_first (has_broadcast port plan.identity subframe symbol k) _ _ nothing _ (pick_system (has_control port))
+
+  -- where the broadcast channel is, it is the first
+  pub channel_of_broadcast : has_broadcast port plan.identity subframe symbol k ≡ true → port_channel_value port plan sfn subframe symbol k ≡ broadcast_value port plan sfn symbol k
+  unfolding port_channel_value
+  channel_of_broadcast e = rw e refl
+
+-- the three channels that follow it, found one by one
+pub system_found : (port : Port) (plan : CellPlan) (sfn subframe symbol k : ℕ) → system_if port plan sfn subframe symbol k
+    ≡ first_of (indicator_if port plan subframe symbol k) (first_of (control_if port plan sfn subframe symbol k) (shared_if port plan sfn subframe symbol k))
+system_found port plan sfn subframe symbol k =
+    found_first (is_indicator plan symbol k) _ _ ∙ ap (first_of (indicator_if port plan subframe symbol k)) (found_first (is_control plan sfn subframe symbol k) _ _)
+
+-- ---- load
+
+-- the tests of what is open, one by one
+taken_beside : (signal own other broadcast control information indicator grant shared : Bool) → own ≡ false → other ≡ false →
+    (not (signal || ((own || other) || (broadcast || (control && ((information && indicator) || (grant || shared)))))) && not (control && indicator))
+    ≡ (not signal && (not broadcast && not (control && (indicator || (grant || shared)))))
+taken_beside true own other broadcast control information indicator grant shared e f = refl
+taken_beside false own other broadcast control information indicator grant shared e f = rw (e, f) (left broadcast control information indicator grant shared)
+  where
+    left : (broadcast control information indicator grant shared : Bool) →
+        (not (broadcast || (control && ((information && indicator) || (grant || shared)))) && not (control && indicator)) ≡ (not broadcast && not (control && (indicator || (grant || shared))))
+    left true control information indicator grant shared = refl
+    left false false information indicator grant shared = refl
+    left false true true true grant shared = refl
+    left false true true false true shared = refl
+    left false true true false false true = refl
+    left false true true false false false = refl
+    left false true false true true shared = refl
+    left false true false true false true = refl
+    left false true false true false false = refl
+    left false true false false true shared = refl
+    left false true false false false true = refl
+    left false true false false false false = refl
+
+-- where there is a channel nothing is open
+channel_open : (broadcast control indicator grant shared : Bool) (a b c d : Cpx) (o : Option Cpx) →
+    o ≡ (if broadcast then Some a else (if control then (if indicator then Some b else (if grant then Some c else (if shared then Some d else None))) else None)) →
+    (signal : Bool) (x : Cpx) (free : Bool) → free ≡ (not signal && (not broadcast && not (control && (indicator || (grant || shared))))) →
+    (if free then x else unwrap_or o nothing) ≡ unwrap_or o (if signal then nothing else x)
+channel_open true control indicator grant shared a b c d o e true x free f = rw (f, e) refl
+channel_open true control indicator grant shared a b c d o e false x free f = rw (f, e) refl
+channel_open false false indicator grant shared a b c d o e true x free f = rw (f, e) refl
+channel_open false false indicator grant shared a b c d o e false x free f = rw (f, e) refl
+channel_open false true true grant shared a b c d o e true x free f = rw (f, e) refl
+channel_open false true true grant shared a b c d o e false x free f = rw (f, e) refl
+channel_open false true false true shared a b c d o e true x free f = rw (f, e) refl
+channel_open false true false true shared a b c d o e false x free f = rw (f, e) refl
+channel_open false true false false true a b c d o e true x free f = rw (f, e) refl
+channel_open false true false false true a b c d o e false x free f = rw (f, e) refl
+channel_open false true false false false a b c d o e true x free f = rw (f, e) refl
+channel_open false true false false false a b c d o e false x free f = rw (f, e) refl
+
+-- no reference signal of either port
+neither : (own other : Bool) (x : Cpx) → (if own then Some x else (if other then Some nothing else None)) ≡ None → (own ≡ false) × (other ≡ false)
+neither true other x e = absurd cc
+neither false true x e = absurd cc
+neither false false x e = (refl, refl)
+
+one_of_both : (own other : Bool) (x value : Cpx) → (if own then Some x else (if other then Some nothing else None)) ≡ Some value → (own || other) ≡ true
+one_of_both true other x value e = refl
+one_of_both false true x value e = refl
+one_of_both false false x value e = absurd cc
+
+taken_reference : (signal reference channel : Bool) → reference ≡ true → (signal || (reference || channel)) ≡ true
+taken_reference true reference channel e = refl
+taken_reference false reference channel e = rw e refl
+
+taken_signal : (signal rest : Bool) → signal ≡ true → (signal || rest) ≡ true
+taken_signal signal rest e = rw e refl
+
+last_symbol : (a b c m : Bool) → ((a && b) && m) ≡ true → (a && (c || b)) ≡ true
+last_symbol true true true m e = refl
+last_symbol true true false m e = refl
+last_symbol true false c m e = absurd cc
+last_symbol false b c m e = absurd cc
+
+symbol_before : (a b c m : Bool) → ((a && b) && m) ≡ true → (a && (b || c)) ≡ true
+symbol_before true true c m e = refl
+symbol_before true false c m e = absurd cc
+symbol_before false b c m e = absurd cc
+
+module _ (port : Port) (plan : CellPlan) (sfn subframe symbol k : ℕ) where
+  -- an element at a place that is taken is the plan's
+  pub sent_of_taken : (load : Option ℕ) → is_taken port plan sfn subframe symbol k ≡ true → sent_element load port plan sfn subframe symbol k ≡ port_element port plan sfn subframe symbol k
+  unfolding loaded_element is_loaded
+  sent_of_taken None e = refl
+  sent_of_taken (Some load) e = rw e refl
+
+  pub sent_of_reference : (load : Option ℕ) (value : Cpx) → port_reference_if port plan.identity (port_slot port subframe symbol) (symbol % port_symbols port) k ≡ Some value →
+      value ≡ sent_element load port plan sfn subframe symbol k
+  unfolding is_taken
+  sent_of_reference load value e =
+      element_of_reference port plan sfn subframe symbol k value e
+      ∙ sym (sent_of_taken load (taken_reference _ _ _ (one_of_both (is_own_reference port plan.identity (symbol % port_symbols port) k) (is_other_reference port plan.identity (symbol % port_symbols port) k) _ value e)))
+
+  -- the value of a channel, or what is sent at an open place
+  beside : (load : Option ℕ) → is_own_reference port plan.identity (symbol % port_symbols port) k ≡ false → is_other_reference port plan.identity (symbol % port_symbols port) k ≡ false
+      → port_element port plan sfn subframe symbol k ≡ port_channel_value port plan sfn subframe symbol k
+      → sent_element load port plan sfn subframe symbol k ≡ unwrap_or (channel_if port plan sfn subframe symbol k) (open_value load port sfn subframe symbol k)
+  unfolding loaded_element is_loaded is_taken
+  beside None first second e = e ∙ channel_is port plan sfn subframe symbol k
+  beside (Some load) first second e =
+      ap (λ z. if is_loaded port plan sfn subframe symbol k then load_point load port sfn subframe symbol k else z) (e ∙ channel_is port plan sfn subframe symbol k)
+      ∙ channel_open (has_broadcast port plan.identity subframe symbol k) (has_control port) (is_indicator plan symbol k) (is_control plan sfn subframe symbol k) (is_shared port plan sfn subframe symbol k)
+      _ _ _ _ (channel_if port plan sfn subframe symbol k) refl (is_signal_symbol port subframe symbol) (load_point load port sfn subframe symbol k) (is_loaded port plan sfn subframe symbol k)
+      (taken_beside (is_signal_symbol port subframe symbol) _ _ (has_broadcast port plan.identity subframe symbol k) (has_control port) (has_system_information sfn subframe) (is_indicator plan symbol k)
+      (is_control plan sfn subframe symbol k) (is_shared port plan sfn subframe symbol k) first second)
+
+  module _ (load : Option ℕ) (no : port_reference_if port plan.identity (port_slot port subframe symbol) (symbol % port_symbols port) k ≡ None) where
+    pub sent_of_primary : is_primary port subframe symbol k ≡ true → sent_element load port plan sfn subframe symbol k ≡ sent_signal port (primary_value plan k)
+    unfolding is_taken
+    sent_of_primary e = sent_of_taken load (taken_signal _ _ (last_symbol (nat_eq subframe 0 || nat_eq subframe 5) _ _ _ e)) ∙ element_of_primary port plan sfn subframe symbol k no e
+
+    pub sent_of_secondary : is_primary port subframe symbol k ≡ false → is_secondary port subframe symbol k ≡ true →
+        sent_element load port plan sfn subframe symbol k ≡ sent_signal port (secondary_value plan subframe k)
+    unfolding is_taken
+    sent_of_secondary e f = sent_of_taken load (taken_signal _ _ (symbol_before (nat_eq subframe 0 || nat_eq subframe 5) _ _ _ f)) ∙ element_of_secondary port plan sfn subframe symbol k no e f
+
+    pub sent_beside : is_primary port subframe symbol k ≡ false → is_secondary port subframe symbol k ≡ false →
+        sent_element load port plan sfn subframe symbol k ≡ unwrap_or (channel_if port plan sfn subframe symbol k) (open_value load port sfn subframe symbol k)
+    sent_beside e f =
+        let none = neither (is_own_reference port plan.identity (symbol % port_symbols port) k) (is_other_reference port plan.identity (symbol % port_symbols port) k) _ no in
+        beside load none.0 none.1 (element_of_channel port plan sfn subframe symbol k no e f)

@@ -1,24 +1,29 @@
 -- What the frames of a cell have in common.
-use Rattle.std.proofs.Common.{◌≡◌, ℕ, ◌+◌, ◌*◌, ◌/◌, ◌%◌, ◌<◌, ◌≤◌, ◌⊎◌, inl, inr, Bool, true, false, nat_eq, nat_le, nat_lt, List, slice_index_or, arith, refl, sym, ap, ◌∙◌, eqb-true, length, set, get_or-set_same, get_or-set_other}
-use Rattle.std.specs.Prelude.{if◌then◌else◌, ◌&&◌}
+use Rattle.std.proofs.Common.{◌≡◌, ℕ, ◌+◌, ◌*◌, ◌/◌, ◌%◌, ◌<◌, ◌≤◌, ◌⊎◌, inl, inr, Bool, true, false, nat_eq, nat_le, nat_lt, List, slice_index_or, arith, refl, sym, subst, ap, ◌∙◌, eqb-true, mod-lt, length, set, get_or-set_same, get_or-set_other}
+use Rattle.std.specs.Prelude.{◌&&◌}
 use Rattle.std.proofs.lemmas.Bool.{cases_lt}
 use Rattle.std.proofs.lemmas.Bool.Decides.{nat_tests}
+use Rattle.std.proofs.lemmas.List.FromFn.{fill_by_all}
 use Rattle.finite.proofs.Lists.{values_below_at, values_below_same}
 use Rattle.cs_num.specs.declared.Sample.{Sample}
-use Rattle.cs_num.specs.Complex.{silence, sample_of}
+use Rattle.cs_num.specs.Complex.{silence, sample_at, sample_of}
 use Rattle.fold128.proofs.Samples.{useful_same}
-use Rattle.lte_types.specs.Numerology.{normal, symbol_of}
+use Rattle.lte_types.specs.declared.numerology.Prefix.{Prefix}
+use Rattle.lte_types.specs.Numerology.{normal, extended, IsPrefix, symbols_of_slot, symbol_of}
+use Rattle.lte_types.specs.Timing.{number_of}
 use Rattle.grid_map.specs.Place.{place}
 use Rattle.grid_map.specs.Broadcast.{is_pbch}
 use Rattle.cell_tx.specs.declared.antenna.Port.{Port}
+use Rattle.cell_tx.specs.declared.antenna.Port.TheVariants.{Only, First, Second, Long}
 use Rattle.cell_tx.specs.declared.cell.CellPlan.{CellPlan}
 use Rattle.cell_tx.specs.declared.layout.Carried.{Carried}
+use Rattle.cell_tx.specs.Ports.{port_prefix, has_control}
 use Rattle.cell_tx.specs.Grid.{is_broadcast, port_channel_value, port_element}
 use Rattle.cell_tx.specs.Control.{control_word, control_point}
 use Rattle.cell_tx.specs.Shared.{shared_point}
-use Rattle.cell_tx.specs.Sent.{frame_sample}
+use Rattle.cell_tx.specs.Sent.{Elements, prefix_frame_sample, prefix_sent}
 use Rattle.cell_tx.specs.Rows.{useful_place, first_sample, frame_samples, HasSamples, AreSameOutside, IsCarried}
-use Rattle.cell_tx.proofs.Symbols.{frame_sample_is, slot_sample_is}
+use Rattle.cell_tx.proofs.Symbols.{frame_sample_is, slot_sample_is, prefix_sent_is}
 
 -- ---- what system information depends on
 
@@ -54,31 +59,79 @@ not_broadcast identity subframe symbol k outside = settle (nat_eq subframe 0) re
     settle true e = apart _ _ (outside (eqb-true subframe 0 e))
     settle false e = refl
 
-element_same : (port : Port) (plan : CellPlan) (a b subframe symbol k : ℕ) → (subframe ≡ 0 → (symbol < 7) ⊎ (11 ≤ symbol)) → (subframe ≡ 5 → ⊥) → port_element port plan a subframe symbol k ≡ port_element port plan b subframe symbol k
+-- frames of these numbers have the same elements beside the broadcast channel and subframe 5
+abbrev pub AreSameBeside : Elements → ℕ → ℕ → Type 0
+AreSameBeside grid a b =
+    (subframe symbol k : ℕ) → (subframe ≡ 0 → (symbol < 7) ⊎ (11 ≤ symbol)) → (subframe ≡ 5 → ⊥) → grid a subframe symbol k ≡ grid b subframe symbol k
+
+pub element_same : (port : Port) (plan : CellPlan) (a b : ℕ) → has_control port ≡ true → AreSameBeside (port_element port plan) a b
 unfolding port_element port_channel_value
-element_same port plan a b subframe symbol k outside other =
+element_same Only plan a b control subframe symbol k outside other =
     let none = not_broadcast plan.identity subframe symbol k outside in
     let e : nat_eq subframe 5 ≡ false = grind (arith, nat_tests) in
     rw (none, e) refl
+element_same First plan a b control subframe symbol k outside other =
+    let none = not_broadcast plan.identity subframe symbol k outside in
+    let e : nat_eq subframe 5 ≡ false = grind (arith, nat_tests) in
+    rw (none, e) refl
+element_same Second plan a b control subframe symbol k outside other =
+    let none = not_broadcast plan.identity subframe symbol k outside in
+    let e : nat_eq subframe 5 ≡ false = grind (arith, nat_tests) in
+    rw (none, e) refl
+element_same Long plan a b control subframe symbol k outside other = absurd cc
+
+pub control_is_normal : (port : Port) → has_control port ≡ true → port_prefix port ≡ normal
+control_is_normal Only control = refl
+control_is_normal First control = refl
+control_is_normal Second control = refl
+control_is_normal Long control = absurd cc
+
+-- with the extended prefix they are the same beside slot 1
+abbrev pub AreSameBesideSlot : Elements → ℕ → ℕ → Type 0
+AreSameBesideSlot grid a b = (subframe symbol k : ℕ) → (2 * subframe + symbol / 6 ≡ 1 → ⊥) → grid a subframe symbol k ≡ grid b subframe symbol k
+
+pub long_same : (plan : CellPlan) (a b : ℕ) → AreSameBesideSlot (port_element Long plan) a b
+unfolding port_element port_channel_value
+long_same plan a b subframe symbol k other =
+    let e : nat_eq (2 * subframe + symbol / 6) 1 ≡ false = grind (arith, nat_tests) in
+    rw e refl
 
 -- ---- samples that do not
 
-read_first : (port : Port) (plan : CellPlan) (a i : ℕ) (list : List Sample) → i < 19200 → list ≡ frame_samples (port_element port plan) a → slice_index_or list i silence ≡ sample_of (frame_sample (port_element port plan) a i)
-unfolding frame_samples
-read_first port plan a i list inside is =
-    ap (λ samples. slice_index_or samples i silence) is ∙ values_below_at (λ (n : ℕ). sample_of (frame_sample (port_element port plan) a n)) 19200 i silence inside
+same_sample : (prefix : Prefix) (grid : Elements) (a b i : ℕ) → IsPrefix prefix
+    → ((k : ℕ) → grid a (i / 960 / 2) (symbols_of_slot prefix * (i / 960 % 2) + symbol_of prefix (i % 960)) k
+    ≡ grid b (i / 960 / 2) (symbols_of_slot prefix * (i / 960 % 2) + symbol_of prefix (i % 960)) k)
+    → prefix_frame_sample prefix grid a i ≡ prefix_frame_sample prefix grid b i
+same_sample prefix grid a b i known same =
+    let symbol : ℕ = symbols_of_slot prefix * (i / 960 % 2) + symbol_of prefix (i % 960) in
+    frame_sample_is prefix grid a i
+    ∙ slot_sample_is prefix grid a (i / 960) (i % 960) known (mod-lt i (omega arith))
+    ∙ useful_same (grid a (i / 960 / 2) symbol) (grid b (i / 960 / 2) symbol) (useful_place prefix (i % 960)) (λ k l. same k)
+    ∙ sym (slot_sample_is prefix grid b (i / 960) (i % 960) known (mod-lt i (omega arith)))
+    ∙ sym (frame_sample_is prefix grid b i)
 
-module _ (port : Port) (plan : CellPlan) (a b i : ℕ) (inside : i < 19200) where
-  unchanged : (i < 960) ⊎ (1509 ≤ i) → (i < 9600) ⊎ (11520 ≤ i) → frame_sample (port_element port plan) a i ≡ frame_sample (port_element port plan) b i
-  unchanged first second =
-      let slot : ℕ = i / 960 in
-      let symbol : ℕ = 7 * (slot % 2) + symbol_of normal (i % 960) in
-      frame_sample_is (port_element port plan) a i
-      ∙ slot_sample_is (port_element port plan) a slot (i % 960) (omega arith)
-      ∙ useful_same (port_element port plan a (slot / 2) symbol) (port_element port plan b (slot / 2) symbol) (useful_place (i % 960))
-      (λ k l. element_same port plan a b (slot / 2) symbol k (no_broadcast first) (no_system second))
-      ∙ sym (slot_sample_is (port_element port plan) b slot (i % 960) (omega arith))
-      ∙ sym (frame_sample_is (port_element port plan) b i)
+read_first : (prefix : Prefix) (grid : Elements) (a i : ℕ) (list : List Sample) → i < 19200 → list ≡ frame_samples prefix grid a
+    → slice_index_or list i silence ≡ sample_of (prefix_frame_sample prefix grid a i)
+unfolding frame_samples
+read_first prefix grid a i list inside is =
+    ap (λ samples. slice_index_or samples i silence) is ∙ values_below_at (λ (n : ℕ). sample_of (prefix_frame_sample prefix grid a n)) 19200 i silence inside
+
+-- a sample of a frame of which a part was written over another one
+part_renewed : (prefix : Prefix) (grid : Elements) (b i first last : ℕ) (old new : List Sample)
+    → ((i < first) ⊎ (last ≤ i) → slice_index_or old i silence ≡ sample_of (prefix_frame_sample prefix grid b i))
+    → HasSamples new (prefix_frame_sample prefix grid b) first last → AreSameOutside first last old new
+    → slice_index_or new i silence ≡ sample_of (prefix_frame_sample prefix grid b i)
+part_renewed prefix grid b i first last old new before here outside = place (cases_lt i first) (cases_lt i last)
+  where
+    place : (i < first) ⊎ (first ≤ i) → (i < last) ⊎ (last ≤ i) → slice_index_or new i silence ≡ sample_of (prefix_frame_sample prefix grid b i)
+    place (inl p) q = outside.earlier i p ∙ before (inl p)
+    place (inr p) (inr q) = outside.later i q ∙ before (inr q)
+    place (inr p) (inl q) = here i p q
+
+module _ (grid : Elements) (a b i : ℕ) (inside : i < 19200) where
+  normal_same : AreSameBeside grid a b → (i < 960) ⊎ (1509 ≤ i) → (i < 9600) ⊎ (11520 ≤ i) → prefix_frame_sample normal grid a i ≡ prefix_frame_sample normal grid b i
+  normal_same same first second =
+      same_sample normal grid a b i (inl refl) (λ k. same (i / 960 / 2) (7 * (i / 960 % 2) + symbol_of normal (i % 960)) k (no_broadcast first) (no_system second))
     where
       no_broadcast : (i < 960) ⊎ (1509 ≤ i) → i / 960 / 2 ≡ 0 → (7 * (i / 960 % 2) + symbol_of normal (i % 960) < 7) ⊎ (11 ≤ 7 * (i / 960 % 2) + symbol_of normal (i % 960))
       no_broadcast (inl early) zero = inl (omega (arith, early))
@@ -88,25 +141,62 @@ module _ (port : Port) (plan : CellPlan) (a b i : ℕ) (inside : i < 19200) wher
       no_system (inl early) five = absurd (omega (arith, early, five))
       no_system (inr late) five = absurd (omega (arith, late, five))
 
-  -- a sample of a frame that was written over another one
-  pub renewed : (first second third : List Sample) → first ≡ frame_samples (port_element port plan) a
-      → HasSamples second (frame_sample (port_element port plan) b) 960 1509 → AreSameOutside 960 1509 first second
-      → HasSamples third (frame_sample (port_element port plan) b) 9600 11520 → AreSameOutside 9600 11520 second third
-      → slice_index_or third i silence ≡ sample_of (frame_sample (port_element port plan) b i)
-  renewed first second third whole broadcast early system late = place (cases_lt i 9600) (cases_lt i 11520)
+  -- a sample of a frame whose channels were written over another one
+  pub renewed : (prefix : Prefix) (first second third : List Sample) → prefix ≡ normal → AreSameBeside grid a b → first ≡ frame_samples prefix grid a
+      → HasSamples second (prefix_frame_sample prefix grid b) (first_sample prefix 7) (first_sample prefix 11)
+      → AreSameOutside (first_sample prefix 7) (first_sample prefix 11) first second
+      → HasSamples third (prefix_frame_sample prefix grid b) (first_sample prefix 70) (first_sample prefix 84)
+      → AreSameOutside (first_sample prefix 70) (first_sample prefix 84) second third
+      → slice_index_or third i silence ≡ sample_of (prefix_frame_sample prefix grid b i)
+  renewed prefix first second third is same =
+      subst
+      (λ p. first ≡ frame_samples p grid a → HasSamples second (prefix_frame_sample p grid b) (first_sample p 7) (first_sample p 11)
+      → AreSameOutside (first_sample p 7) (first_sample p 11) first second
+      → HasSamples third (prefix_frame_sample p grid b) (first_sample p 70) (first_sample p 84)
+      → AreSameOutside (first_sample p 70) (first_sample p 84) second third
+      → slice_index_or third i silence ≡ sample_of (prefix_frame_sample p grid b i))
+      (sym is)
+      (λ whole broadcast early system late.
+      part_renewed normal grid b i 9600 11520 second third
+      (λ q. part_renewed normal grid b i 960 1509 first second (λ p. read_first normal grid a i first inside whole ∙ ap sample_of (normal_same same p q)) broadcast early)
+      system late)
+
+  long_sample_same : AreSameBesideSlot grid a b → (i < 960) ⊎ (1920 ≤ i) → prefix_frame_sample extended grid a i ≡ prefix_frame_sample extended grid b i
+  long_sample_same same out =
+      same_sample extended grid a b i (inr refl) (λ k. same (i / 960 / 2) (6 * (i / 960 % 2) + symbol_of extended (i % 960)) k (not_second out))
     where
-      from_first : (i < 960) ⊎ (1509 ≤ i) → (i < 9600) ⊎ (11520 ≤ i) → slice_index_or second i silence ≡ slice_index_or first i silence → slice_index_or second i silence ≡ sample_of (frame_sample (port_element port plan) b i)
-      from_first p q same = same ∙ read_first port plan a i first inside whole ∙ ap sample_of (unchanged p q)
+      not_second : (i < 960) ⊎ (1920 ≤ i) → 2 * (i / 960 / 2) + (6 * (i / 960 % 2) + symbol_of extended (i % 960)) / 6 ≡ 1 → ⊥
+      not_second (inl early) one = absurd (omega (arith, early, one))
+      not_second (inr late) one = absurd (omega (arith, late, one))
 
-      from_second : (i < 9600) ⊎ (11520 ≤ i) → (i < 960) ⊎ (960 ≤ i) → (i < 1509) ⊎ (1509 ≤ i) → slice_index_or second i silence ≡ sample_of (frame_sample (port_element port plan) b i)
-      from_second q (inl p) r = from_first (inl p) q (early.earlier i p)
-      from_second q (inr p) (inr r) = from_first (inr r) q (early.later i r)
-      from_second q (inr p) (inl r) = broadcast i p r
+  pub long_renewed : (prefix : Prefix) (first second : List Sample) → prefix ≡ extended → AreSameBesideSlot grid a b → first ≡ frame_samples prefix grid a
+      → HasSamples second (prefix_frame_sample prefix grid b) (first_sample prefix 6) (first_sample prefix 12)
+      → AreSameOutside (first_sample prefix 6) (first_sample prefix 12) first second
+      → slice_index_or second i silence ≡ sample_of (prefix_frame_sample prefix grid b i)
+  long_renewed prefix first second is same =
+      subst
+      (λ p. first ≡ frame_samples p grid a → HasSamples second (prefix_frame_sample p grid b) (first_sample p 6) (first_sample p 12)
+      → AreSameOutside (first_sample p 6) (first_sample p 12) first second
+      → slice_index_or second i silence ≡ sample_of (prefix_frame_sample p grid b i))
+      (sym is)
+      (λ whole broadcast outside.
+      part_renewed extended grid b i 960 1920 first second (λ p. read_first extended grid a i first inside whole ∙ ap sample_of (long_sample_same same p)) broadcast outside)
 
-      place : (i < 9600) ⊎ (9600 ≤ i) → (i < 11520) ⊎ (11520 ≤ i) → slice_index_or third i silence ≡ sample_of (frame_sample (port_element port plan) b i)
-      place (inl p) q = late.earlier i p ∙ from_second (inl p) (cases_lt i 960) (cases_lt i 1509)
-      place (inr p) (inr q) = late.later i q ∙ from_second (inr q) (cases_lt i 960) (cases_lt i 1509)
-      place (inr p) (inl q) = system i p q
+-- all samples of a frame
+pub all_are : (prefix : Prefix) (grid : Elements) (sfn : ℕ) (list : List Sample) → length list ≡ 19200
+    → ((i : ℕ) → i < 19200 → slice_index_or list i silence ≡ sample_of (prefix_frame_sample prefix grid sfn i)) → list ≡ frame_samples prefix grid sfn
+unfolding frame_samples
+all_are prefix grid sfn list long each = fill_by_all (λ (n : ℕ). sample_of (prefix_frame_sample prefix grid sfn n)) list 19200 silence long each
+
+-- a sample of a sequence, read from the samples of its frame
+pub read_frame : (prefix : Prefix) (grid : Elements) (sfn n : ℕ) (frame : List Sample) → frame ≡ frame_samples prefix grid (number_of sfn n)
+    → sample_at frame (n % 19200) ≡ prefix_sent prefix grid sfn n
+unfolding frame_samples
+read_frame prefix grid sfn n frame is =
+    ap (λ list. sample_at list (n % 19200)) is
+    ∙ ap (λ (s : Sample). record { re = s.re; im = s.im })
+    (values_below_at (λ (i : ℕ). sample_of (prefix_frame_sample prefix grid (number_of sfn n) i)) 19200 (n % 19200) silence (omega arith))
+    ∙ sym (prefix_sent_is prefix grid sfn n)
 
 -- ---- samples written one after the other
 
@@ -117,26 +207,3 @@ set_between f first i xs v inside is before j low below = settle (cases_lt j i)
     settle : (j < i) ⊎ (i ≤ j) → slice_index_or (set xs i v) j silence ≡ f j
     settle (inl l) = get_or-set_other xs i j v silence (λ e. absurd (omega (arith, e, l))) ∙ before j low l
     settle (inr m) = let e : j ≡ i = omega (arith, m, below) in rw e (get_or-set_same xs i v silence inside ∙ is)
-
--- ---- symbols one after the other
-
-abbrev offset : ℕ → ℕ
-offset l = if nat_eq l 0 then 0 else 1 + 137 * l
-
-offset-mono : (l m : ℕ) → l ≤ m → offset l ≤ offset m
-offset-mono l m h = grind (arith, nat_tests)
-
-offset-le : (l : ℕ) → l < 7 → offset l ≤ 823
-offset-le l h = grind (arith, nat_tests)
-
-first_is : (n : ℕ) → first_sample n ≡ 960 * (n / 7) + offset (n % 7)
-first_is n = refl
-
-pub first-mono : (m n : ℕ) → m ≤ n → first_sample m ≤ first_sample n
-first-mono m n h = settle (cases_lt (m / 7) (n / 7))
-  where
-    settle : (m / 7 < n / 7) ⊎ (n / 7 ≤ m / 7) → first_sample m ≤ first_sample n
-    settle (inl less) = rw (first_is m, first_is n) (omega (arith, less, offset-le (m % 7) (omega arith)))
-    settle (inr same) =
-        let e : m / 7 ≡ n / 7 = omega (arith, same, h) in
-        rw (first_is m, first_is n) (omega (arith, e, offset-mono (m % 7) (n % 7) (omega (arith, e, h))))

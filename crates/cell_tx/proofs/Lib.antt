@@ -1,12 +1,14 @@
 pub mod Word
 pub mod Elements
 pub mod Bounds
+pub mod Received
 pub mod Symbols
 pub mod Frames
 pub mod Sendable
 pub mod BlockRows
 pub mod WholeBlocks
 pub mod PlaceValues
+pub mod LoadBits
 pub mod BitPoints
 pub mod NewCells
 pub mod ChannelValues

@@ -3,7 +3,10 @@ use Rattle.std.proofs.Common.{◌≡◌, ◌⊎◌, ℕ, ◌+◌, ◌≤◌, Boo
 use Rattle.std.specs.Prelude.{is_some, IsSome, IsSomeAnd}
 use Rattle.std.specs.Option.{unwrap_or}
 use Rattle.std.specs.Cmp.{unsigned_Decides}
+use Rattle.std.proofs.lemmas.Bool.{leb-true as leb-le}
 use Rattle.std.proofs.lemmas.Bool.Decides.{Decides-or}
+use Rattle.lte_types.specs.declared.carrier.Carrier.{Carrier}
+use Rattle.lte_types.specs.declared.carrier.Carrier.TheVariants.{OnePort, TwoPorts, LongPrefix}
 use Rattle.lte_types.specs.Ranges.{IsValid}
 use Rattle.turbo_code.specs.Table.{IsSize}
 use Rattle.turbo_code.specs.Encoder.{coded}
@@ -12,8 +15,8 @@ use Rattle.cs_bits.specs.Checks.{with_check_24}
 use Rattle.dci.specs.Sizes.{size_of}
 use Rattle.sib1.specs.Text.{text_of}
 use Rattle.cell_tx.specs.declared.cell.CellPlan.{CellPlan}
-use Rattle.cell_tx.specs.Transport.{block_size, filled, row_with, shared_word, has_block, is_whole, is_resolvable}
-use Rattle.cell_tx.specs.Plan.{IsSendable}
+use Rattle.cell_tx.specs.Transport.{block_size, coded_count, assigned_bits_of, filled, row_with, shared_word, is_resolvable}
+use Rattle.cell_tx.specs.Plan.{IsSendableWith, IsSendableBy, is_enough}
 use Rattle.cell_tx.specs.Shared.{shared_coded, IsCoded}
 use Rattle.cell_tx.proofs.Sendable.{assigned}
 use Rattle.cell_tx.proofs.WholeBlocks.{enough_is_resolvable}
@@ -43,7 +46,7 @@ has_size plan size o e f = by (nat_eq plan.column 2 || nat_eq plan.column 3) ref
 
 -- ---- the plan
 
-pub record IsAccepted (plan : CellPlan) (size : ℕ) (text : List Bool) : Type 0 where
+pub record IsAccepted (carrier : Carrier) (plan : CellPlan) (size : ℕ) (text : List Bool) : Type 0 where
   pub valid : IsValid plan.sib1
   pub identity : plan.identity ≤ 503
   pub spare : plan.spare ≤ 1023
@@ -51,7 +54,7 @@ pub record IsAccepted (plan : CellPlan) (size : ℕ) (text : List Bool) : Type 0
   pub high : plan.cfi ≤ 3
   pub blocks : (nat_le 1 plan.blocks && nat_le (plan.start + plan.blocks) 6) ≡ true
   pub sized : HasSize plan size
-  pub enough : (is_whole plan || (has_block plan && is_resolvable plan)) ≡ true
+  pub enough : is_enough carrier plan ≡ true
   pub duplex : is_some plan.sib1.tdd ≡ false
   pub extension : plan.sib1.extended ≡ false
   pub text_is : text_of plan.sib1 ≡ Some text
@@ -67,12 +70,11 @@ there o x e = subst (λ p. IsSome p) (sym e) cc
 there_and : {A : Type 0} (P : A → Type 0) (o : Option A) (x : A) → o ≡ Some x → P x → IsSomeAnd o P
 there_and P o x e p = subst (λ q. IsSomeAnd q P) (sym e) p
 
-pub accepted_can_be_sent : (plan : CellPlan) (size : ℕ) (text : List Bool) → IsAccepted plan size text → IsSendable plan
-accepted_can_be_sent plan size text a =
+accepted_with : (carrier : Carrier) (plan : CellPlan) (size : ℕ) (text : List Bool) → IsAccepted carrier plan size text → (Enough : Type 0) → Enough → IsSendableWith Enough plan
+accepted_with carrier plan size text a Enough enough =
     let blocks = (assigned plan).0 a.blocks in
     let is : block_size plan ≡ size = a.sized.is in
     let fits = a.fits in
-    let sized = there (size_of plan.mcs plan.column) size a.sized.entry in
     record {
       valid = a.valid;
       identity = a.identity;
@@ -80,19 +82,30 @@ accepted_can_be_sent plan size text a =
       cfi = (a.low, a.high);
       assignment = record { some = blocks.0; inside = blocks.1 };
       column = a.sized.column;
-      mcs = sized;
-      enough = enough_is_resolvable plan sized a.enough;
+      mcs = there (size_of plan.mcs plan.column) size a.sized.entry;
+      enough = enough;
       duplex = no_value plan.sib1.tdd a.duplex;
       extension = a.extension;
       text = there_and (λ text. length text ≤ block_size plan) (text_of plan.sib1) text a.text_is (omega (arith, is, fits));
     }
 
+pub accepted_can_be_sent : (carrier : Carrier) (plan : CellPlan) (size : ℕ) (text : List Bool) → IsAccepted carrier plan size text → IsSendableBy carrier plan
+accepted_can_be_sent OnePort plan size text a =
+    accepted_with OnePort plan size text a (is_resolvable plan ≡ true)
+    (enough_is_resolvable plan (there (size_of plan.mcs plan.column) size a.sized.entry) a.enough)
+accepted_can_be_sent TwoPorts plan size text a =
+    accepted_with TwoPorts plan size text a (coded_count plan ≤ assigned_bits_of true plan)
+    (leb-le (coded_count plan) (assigned_bits_of true plan) a.enough)
+accepted_can_be_sent LongPrefix plan size text a =
+    accepted_with LongPrefix plan size text a (is_resolvable plan ≡ true)
+    (enough_is_resolvable plan (there (size_of plan.mcs plan.column) size a.sized.entry) a.enough)
+
 -- ---- its coded block
 
-pub accepted_is_coded : (plan : CellPlan) (size : ℕ) (text : List Bool) (word : Coded) → IsAccepted plan size text → IsSize (size + 24) → word.k ≡ size + 24
+pub accepted_is_coded : (carrier : Carrier) (plan : CellPlan) (size : ℕ) (text : List Bool) (word : Coded) → IsAccepted carrier plan size text → IsSize (size + 24) → word.k ≡ size + 24
     → word.d ≡ coded (row_with (size + 24)) (with_check_24 (filled size text)) → IsCoded plan word
 unfolding shared_coded shared_word
-accepted_is_coded plan size text word a row k d =
+accepted_is_coded carrier plan size text word a row k d =
     let is : size ≡ block_size plan = sym a.sized.is in
     record {
       size = subst IsSize (sym k) row;

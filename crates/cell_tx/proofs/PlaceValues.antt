@@ -11,7 +11,7 @@ use Rattle.grid_map.specs.declared.Place.{Place}
 use Rattle.grid_map.specs.Place.{place, same_place, index_in}
 use Rattle.grid_map.proofs.Order.{same_place-refl, same_place-true}
 use Rattle.cell_tx.specs.declared.antenna.Port.{Port}
-use Rattle.cell_tx.specs.declared.antenna.Port.TheVariants.{Only, First, Second}
+use Rattle.cell_tx.specs.declared.antenna.Port.TheVariants.{Only, First, Second, Long}
 use Rattle.cell_tx.specs.Ports.{sent_point}
 use Rattle.cell_tx.specs.Grid.{is_one_of}
 use Rattle.cell_tx.specs.Rows.{value_in}
@@ -20,6 +20,7 @@ use Rattle.cell_tx.specs.Rows.{value_in}
 pub sent_points : (port : Port) (n : ℕ) (f : ℕ → Cpx) (i : ℕ) → n % 2 ≡ 0 → i < n → sent_point port (value_at (values_below n f)) i ≡ sent_point port f i
 sent_points Only n f i even inside = values_below_at f n i nothing inside
 sent_points First n f i even inside = values_below_at f n i nothing inside
+sent_points Long n f i even inside = values_below_at f n i nothing inside
 sent_points Second n f i even inside = by (nat_eq (i % 2) 0) refl
   where
     by : (b : Bool) → nat_eq (i % 2) 0 ≡ b

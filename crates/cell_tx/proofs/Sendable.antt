@@ -1,20 +1,22 @@
 -- The plans in which no condition fails are those that can be sent.
-use Rattle.std.proofs.Common.{◌≡◌, ◌⊎◌, ℕ, ◌+◌, ◌≤◌, Bool, true, false, not, ◌&&◌, ◌||◌, nat_eq, nat_le, List, length, Option, Some, None, if◌then◌else◌, refl}
+use Rattle.std.proofs.Common.{◌≡◌, ◌⊎◌, ℕ, ◌+◌, ◌*◌, ◌≤◌, Bool, true, false, not, ◌&&◌, ◌||◌, nat_eq, nat_le, List, length, Option, Some, None, if◌then◌else◌, refl, arith}
 use Rattle.std.specs.Prelude.{is_some, is_none, IsSome, IsSomeAnd, ◌↔◌}
 use Rattle.std.specs.Bool.{Decides}
 use Rattle.std.specs.Option.{option_map_or}
 use Rattle.std.specs.Cmp.{unsigned_Decides}
 use Rattle.std.proofs.lemmas.Bool.{le-leb, leb-true as leb-le, and_from, or_right}
 use Rattle.std.proofs.lemmas.Bool.Decides.{Decides-and, Decides-or}
+use Rattle.lte_types.specs.declared.carrier.Carrier.TheVariants.{OnePort, TwoPorts, LongPrefix}
 use Rattle.lte_types.specs.Ranges.{IsValid}
 use Rattle.dci.specs.Sizes.{size_of}
 use Rattle.sib1.specs.Text.{text_of}
 use Rattle.cell_tx.specs.declared.error.CellError.{CellError}
 use Rattle.cell_tx.specs.declared.cell.CellPlan.{CellPlan}
 use Rattle.cell_tx.specs.Conditions.{first_failed}
-use Rattle.cell_tx.specs.Transport.{block_size, text_fits, has_block, is_whole, is_resolvable}
+use Rattle.cell_tx.specs.Transport.{block_size, coded_count, assigned_bits_of, text_fits, has_block, is_whole_of, is_whole, is_resolvable}
 use Rattle.cell_tx.specs.Plan.{IsSendableWith, IsSendable, conditions_with, plan_refusal}
-use Rattle.cell_tx.proofs.WholeBlocks.{enough_is_resolvable}
+use Rattle.cell_tx.specs.Laws.{AcceptedAreSendable, OnePortSendsAll}
+use Rattle.cell_tx.proofs.WholeBlocks.{whole_is_resolvable, enough_is_resolvable}
 
 -- ---- the first condition and the others
 
@@ -129,3 +131,40 @@ accepted_is_sendable plan =
       sendable test (is_resolvable plan ≡ true) plan (enough_is_resolvable plan) (passes plan),
       accepted test (is_resolvable plan ≡ true) plan (enough_is_resolvable plan) (passes plan),
     )
+
+-- ---- by each carrier
+
+pub accepted_is_sendable_by : AcceptedAreSendable
+accepted_is_sendable_by OnePort plan = accepted_is_sendable plan
+accepted_is_sendable_by TwoPorts plan =
+    accepted_is_sendable_with (is_whole_of true plan) (coded_count plan ≤ assigned_bits_of true plan)
+    (le_decides (coded_count plan) (assigned_bits_of true plan)) plan
+accepted_is_sendable_by LongPrefix plan = accepted_is_sendable plan
+
+-- the same plan where enough is said otherwise
+pub with_enough : (Enough Other : Type 0) (plan : CellPlan) → IsSendableWith Enough plan → Other → IsSendableWith Other plan
+with_enough Enough Other plan s other = record {
+  valid = s.valid;
+  identity = s.identity;
+  spare = s.spare;
+  cfi = s.cfi;
+  assignment = s.assignment;
+  column = s.column;
+  mcs = s.mcs;
+  enough = other;
+  duplex = s.duplex;
+  extension = s.extension;
+  text = s.text;
+}
+
+-- two ports leave less room than one
+less_room : (two_first : Bool) (blocks n : ℕ) → n ≤ 2 * ((if two_first then 96 else 84) * blocks) → n ≤ 2 * ((if two_first then 102 else 90) * blocks)
+less_room true blocks n l = omega (arith, l)
+less_room false blocks n l = omega (arith, l)
+
+pub sendable_with_one : OnePortSendsAll
+sendable_with_one OnePort plan s = s
+sendable_with_one TwoPorts plan s =
+    with_enough (coded_count plan ≤ assigned_bits_of true plan) (is_resolvable plan ≡ true) plan s
+    (whole_is_resolvable plan s.mcs (less_room (nat_eq plan.cfi 2) plan.blocks (coded_count plan) s.enough))
+sendable_with_one LongPrefix plan s = s

@@ -1,5 +1,5 @@
 -- In the symbols of the synchronisation signals no channel stands.
-use Rattle.std.proofs.Common.{◌≡◌, ℕ, zero, suc, ◌<◌, ◌≤◌, ◌⊎◌, inl, inr, Bool, true, false, ◌&&◌, ◌||◌, not, nat_eq, nat_le, nat_lt, List, [], ◌∷◌, ◌++◌, map, length, get_or, refl, ap, sym, subst, ◌∙◌, arith}
+use Rattle.std.proofs.Common.{◌≡◌, ℕ, zero, suc, ◌+◌, ◌-◌, ◌*◌, ◌/◌, ◌<◌, ◌≤◌, ◌⊎◌, inl, inr, Bool, true, false, ◌&&◌, ◌||◌, not, nat_eq, nat_le, nat_lt, List, [], ◌∷◌, ◌++◌, map, length, get_or, refl, ap, sym, subst, ◌∙◌, arith}
 use Rattle.std.specs.Prelude.{All, if◌then◌else◌}
 use Rattle.std.specs.List.{list_any, flat_map, range_with_len}
 use Rattle.std.proofs.Math.Bool.{and-false}
@@ -20,11 +20,12 @@ use Rattle.grid_map.proofs.Order.{same_place-refl, same_place-true}
 use Rattle.grid_map.proofs.Kept.{any-filter}
 use Rattle.grid_map.proofs.Regions.{pcfich_inside, pdcch_inside}
 use Rattle.cell_tx.specs.declared.antenna.Port.{Port}
+use Rattle.cell_tx.specs.declared.antenna.Port.TheVariants.{Only, First, Second, Long}
 use Rattle.cell_tx.specs.declared.cell.CellPlan.{CellPlan}
 use Rattle.cell_tx.specs.Control.{control_places}
-use Rattle.cell_tx.specs.Ports.{is_two}
+use Rattle.cell_tx.specs.Ports.{port_symbols, is_two}
 use Rattle.cell_tx.specs.Shared.{assigned_places}
-use Rattle.cell_tx.specs.Grid.{is_one_of, is_indicator, has_system_information, broadcast_value, indicator_value, control_value, shared_value, port_channel_value}
+use Rattle.cell_tx.specs.Grid.{is_one_of, is_broadcast, is_long_broadcast, is_indicator, has_system_information, control_value, shared_value, system_value, port_channel_value}
 use Rattle.cell_tx.proofs.PlaceValues.{absent_is}
 
 -- ---- lists without a place
@@ -138,19 +139,34 @@ no_broadcast : (identity symbol k : ℕ) → symbol < 7 → is_pbch identity (pl
 unfolding is_pbch
 no_broadcast identity symbol k early = let e : nat_le 7 symbol ≡ false = grind (arith, nat_tests) in rw e refl
 
--- no channel is in symbols 5 and 6 of a subframe
-pub no_channel : (port : Port) (plan : CellPlan) (sfn subframe symbol k : ℕ) → (symbol ≡ 5) ⊎ (symbol ≡ 6) → port_channel_value port plan sfn subframe symbol k ≡ nothing
-unfolding port_channel_value
-no_channel port plan sfn subframe symbol k row =
+pick : (a : Bool) (x z : Cpx) → (if a && false then x else z) ≡ z
+pick true x z = refl
+pick false x z = refl
+
+-- none of the three other channels is in symbols 5 and 6 of a subframe
+no_system : (port : Port) (plan : CellPlan) (sfn subframe symbol k : ℕ) → (symbol ≡ 5) ⊎ (symbol ≡ 6) → system_value port plan sfn subframe symbol k ≡ nothing
+no_system port plan sfn subframe symbol k row =
     let late : 4 ≤ symbol = elim row [ inl e ↦ omega (arith, e) | inr e ↦ omega (arith, e) ] in
     let middle : is_synchronisation symbol ≡ true = elim row [ inl e ↦ rw e refl | inr e ↦ rw e refl ] in
-    let early : symbol < 7 = elim row [ inl e ↦ omega (arith, e) | inr e ↦ omega (arith, e) ] in
-    rw (no_broadcast plan.identity symbol k early, no_indicator plan symbol k late, no_control plan symbol k late, no_shared plan symbol k (is_two port) middle) (by (has_system_information sfn subframe))
+    rw (no_indicator plan symbol k late, no_control plan symbol k late, no_shared plan symbol k (is_two port) middle) (by (has_system_information sfn subframe))
   where
-    pick : (a : Bool) (x z : Cpx) → (if a && false then x else z) ≡ z
-    pick true x z = refl
-    pick false x z = refl
+    by : (s : Bool) → (if s && false then control_value port plan sfn symbol k else (if s && false then shared_value port plan sfn symbol k else nothing)) ≡ nothing
+    by s = pick s _ _ ∙ pick s _ _
 
-    by : (s : Bool) → (if nat_eq subframe 0 && false then broadcast_value port plan sfn symbol k else (if false then indicator_value port plan subframe symbol k
-        else (if s && false then control_value port plan sfn symbol k else (if s && false then shared_value port plan sfn symbol k else nothing)))) ≡ nothing
-    by s = pick (nat_eq subframe 0) _ _ ∙ pick s _ _ ∙ pick s _ _
+early_broadcast : (identity subframe symbol k : ℕ) → (symbol ≡ 5) ⊎ (symbol ≡ 6) → is_broadcast identity subframe symbol k ≡ false
+early_broadcast identity subframe symbol k row =
+    let early : symbol < 7 = elim row [ inl e ↦ omega (arith, e) | inr e ↦ omega (arith, e) ] in
+    ap (λ b. nat_eq subframe 0 && b) (no_broadcast identity symbol k early) ∙ and-false (nat_eq subframe 0)
+
+no_long_broadcast : (identity subframe symbol k : ℕ) → (symbol ≡ 4) ⊎ (symbol ≡ 5) → is_long_broadcast identity subframe symbol k ≡ false
+no_long_broadcast identity subframe symbol k row =
+    let early : nat_eq (2 * subframe + symbol / 6) 1 ≡ false = elim row [ inl e ↦ grind (arith, nat_tests) | inr e ↦ grind (arith, nat_tests) ] in
+    rw early refl
+
+-- no channel is in the two last symbols of the first slot of a subframe
+pub no_channel : (port : Port) (plan : CellPlan) (sfn subframe symbol k : ℕ) → (symbol ≡ port_symbols port - 2) ⊎ (symbol ≡ port_symbols port - 1) → port_channel_value port plan sfn subframe symbol k ≡ nothing
+unfolding port_channel_value
+no_channel Only plan sfn subframe symbol k row = rw (early_broadcast plan.identity subframe symbol k row) (no_system Only plan sfn subframe symbol k row)
+no_channel First plan sfn subframe symbol k row = rw (early_broadcast plan.identity subframe symbol k row) (no_system First plan sfn subframe symbol k row)
+no_channel Second plan sfn subframe symbol k row = rw (early_broadcast plan.identity subframe symbol k row) (no_system Second plan sfn subframe symbol k row)
+no_channel Long plan sfn subframe symbol k row = rw (no_long_broadcast plan.identity subframe symbol k row) refl

@@ -1,6 +1,7 @@
 -- Where the samples of a frame's symbols stand.
-use Rattle.std.proofs.Common.{◌≡◌, ℕ, ◌+◌, ◌-◌, ◌*◌, ◌/◌, ◌%◌, ◌<◌, ◌≤◌, inl, inr, Bool, true, false, nat_eq, nat_lt, List, arith, refl, sym, subst, ap, ◌∙◌, ltb-true, ltb-false}
+use Rattle.std.proofs.Common.{◌≡◌, ◌⊎◌, ℕ, ◌+◌, ◌-◌, ◌*◌, ◌/◌, ◌%◌, ◌<◌, ◌≤◌, inl, inr, Bool, true, false, nat_eq, nat_lt, List, arith, refl, sym, subst, ap, ◌∙◌, ltb-true, ltb-false, eqb-true, mod-lt}
 use Rattle.std.specs.Prelude.{if◌then◌else◌}
+use Rattle.std.proofs.lemmas.Bool.{cases_lt}
 use Rattle.std.proofs.lemmas.Bool.Decides.{nat_tests}
 use Rattle.finite.specs.Lists.{values_below}
 use Rattle.finite.proofs.Lists.{values_below_at, values_below_same}
@@ -11,8 +12,11 @@ use Rattle.fold128.proofs.Samples.{useful_same}
 use Rattle.lte_types.specs.declared.numerology.Prefix.{Prefix}
 use Rattle.lte_types.specs.Numerology.{normal, extended, IsPrefix, prefix_length, symbols_of_slot, useful_start, symbol_of}
 use Rattle.lte_types.specs.Timing.{number_of, start_of, number_at_start}
-use Rattle.cell_tx.specs.Sent.{Elements, symbol_sample, slot_sample, prefix_frame_sample, frame_sample, prefix_sent, sent}
-use Rattle.cell_tx.specs.Rows.{useful_place, first_sample}
+use Rattle.cell_tx.specs.declared.antenna.Port.{Port}
+use Rattle.cell_tx.specs.declared.antenna.Port.TheVariants.{Only, First, Second, Long}
+use Rattle.cell_tx.specs.Ports.{port_prefix}
+use Rattle.cell_tx.specs.Sent.{Elements, symbol_sample, prefix_slot_sample, prefix_frame_sample, prefix_sent}
+use Rattle.cell_tx.specs.Rows.{useful_place, first_in_slot, first_sample}
 
 -- a list that holds a grid makes its useful part
 pub useful_from : (grid : ℕ → Cpx) → useful_part (value_at (values_below 72 grid)) ≡ useful_part grid
@@ -24,36 +28,69 @@ pub useful_part_at : (grid : ℕ → Cpx) (n : ℕ) → n < 128 → value_at (us
 unfolding useful_part
 useful_part_at grid n l = values_below_at (useful_at grid) 128 n nothing l
 
+-- ---- the prefix of a port
+
+pub port_prefix_known : (port : Port) → IsPrefix (port_prefix port)
+port_prefix_known Only = inl refl
+port_prefix_known First = inl refl
+port_prefix_known Second = inl refl
+port_prefix_known Long = inr refl
+
+-- what holds with both prefixes holds with each
+pub with_prefix : (P : Prefix → Type 0) → P normal → P extended → (prefix : Prefix) → IsPrefix prefix → P prefix
+with_prefix P a b prefix (inl e) = subst P (sym e) a
+with_prefix P a b prefix (inr e) = subst P (sym e) b
+
 -- ---- a sample of a slot
 
-symbol_sample_is : (useful : ℕ → Cpx) (l i n : ℕ) (before : Bool) → nat_lt i (useful_start normal 0 0 l) ≡ before → l ≡ symbol_of normal i → i < 960 → n ≡ (i + 118 - 137 * l) % 128
-    → symbol_sample useful (useful_start normal 0 0 l) i ≡ useful n
-symbol_sample_is useful l i n true e is inside f = let g : i + 128 - useful_start normal 0 0 l ≡ n = omega (arith, ltb-true _ _ e, is, f) in rw (e, g) refl
-symbol_sample_is useful l i n false e is inside f = let g : i - useful_start normal 0 0 l ≡ n = omega (arith, ltb-false _ _ e, is, f) in rw (e, g) refl
+-- where it stands in its symbol
+pub record IsPlaced (prefix : Prefix) (i : ℕ) : Type 0 where
+  pub symbol : symbol_of prefix i < symbols_of_slot prefix
+  pub low : useful_start prefix 0 0 (symbol_of prefix i) ≤ i + 128
+  pub high : i < useful_start prefix 0 0 (symbol_of prefix i) + 128
+  pub place : useful_place prefix i ≡ (i + 128 - useful_start prefix 0 0 (symbol_of prefix i)) % 128
 
-pub slot_sample_is : (grid : Elements) (sfn slot i : ℕ) → i < 960 →
-    slot_sample grid sfn slot i ≡ useful_at (grid sfn (slot / 2) (7 * (slot % 2) + symbol_of normal i)) (useful_place i)
-slot_sample_is grid sfn slot i inside =
-    symbol_sample_is (useful_at (grid sfn (slot / 2) (7 * (slot % 2) + symbol_of normal i))) (symbol_of normal i) i (useful_place i)
-    (nat_lt i (useful_start normal 0 0 (symbol_of normal i))) refl refl inside refl
+pub placed : (prefix : Prefix) (i : ℕ) → IsPrefix prefix → i < 960 → IsPlaced prefix i
+placed prefix i known inside =
+    with_prefix (λ p. IsPlaced p i)
+    (record { symbol = omega (arith, inside); low = omega (arith, inside); high = omega (arith, inside); place = omega (arith, inside) })
+    (record { symbol = omega (arith, inside); low = omega (arith, inside); high = omega (arith, inside); place = omega (arith, inside) })
+    prefix known
 
--- a sample of a slot, read from the useful part of its symbol
-pub slot_value : (grid : Elements) (sfn slot i n : ℕ) (useful : List Cpx) → i < 960
-    → useful ≡ useful_part (grid sfn (slot / 2) (7 * (slot % 2) + symbol_of normal i)) → n ≡ useful_place i → value_at useful n ≡ slot_sample grid sfn slot i
-slot_value grid sfn slot i n useful inside is place =
-    let row : ℕ → Cpx = grid sfn (slot / 2) (7 * (slot % 2) + symbol_of normal i) in
-    rw place (ap (λ list. value_at list (useful_place i)) is ∙ useful_part_at row (useful_place i) (omega arith) ∙ sym (slot_sample_is grid sfn slot i inside))
+at_place : (useful : ℕ → Cpx) (start i n : ℕ) (before : Bool) → nat_lt i start ≡ before → start ≤ i + 128 → i < start + 128 → n ≡ (i + 128 - start) % 128 →
+    symbol_sample useful start i ≡ useful n
+at_place useful start i n true e low high is = let g : i + 128 - start ≡ n = omega (arith, ltb-true _ _ e, low, is) in rw (e, g) refl
+at_place useful start i n false e low high is = let g : i - start ≡ n = omega (arith, ltb-false _ _ e, high, is) in rw (e, g) refl
 
-pub frame_sample_is : (grid : Elements) (sfn i : ℕ) → frame_sample grid sfn i ≡ slot_sample grid sfn (i / 960) (i % 960)
-unfolding prefix_frame_sample
-frame_sample_is grid sfn i = refl
+module _ (prefix : Prefix) (grid : Elements) (sfn : ℕ) where
+  pub slot_sample_is : (slot i : ℕ) → IsPrefix prefix → i < 960 →
+      prefix_slot_sample prefix grid sfn slot i ≡ useful_at (grid sfn (slot / 2) (symbols_of_slot prefix * (slot % 2) + symbol_of prefix i)) (useful_place prefix i)
+  slot_sample_is slot i known inside =
+      let at = placed prefix i known inside in
+      let start : ℕ = useful_start prefix 0 0 (symbol_of prefix i) in
+      at_place (useful_at (grid sfn (slot / 2) (symbols_of_slot prefix * (slot % 2) + symbol_of prefix i))) start i (useful_place prefix i)
+      (nat_lt i start) refl at.low at.high at.place
 
--- ---- the symbols of a frame, by their number from 0 to 139
+  -- read from the useful part of its symbol
+  pub slot_value : (slot i n : ℕ) (useful : List Cpx) → IsPrefix prefix → i < 960
+      → useful ≡ useful_part (grid sfn (slot / 2) (symbols_of_slot prefix * (slot % 2) + symbol_of prefix i)) → n ≡ useful_place prefix i
+      → value_at useful n ≡ prefix_slot_sample prefix grid sfn slot i
+  slot_value slot i n useful known inside is place =
+      let row : ℕ → Cpx = grid sfn (slot / 2) (symbols_of_slot prefix * (slot % 2) + symbol_of prefix i) in
+      rw place
+      (ap (λ list. value_at list (useful_place prefix i)) is ∙ useful_part_at row (useful_place prefix i) (mod-lt _ (omega arith))
+      ∙ sym (slot_sample_is slot i known inside))
 
-first_next : (n : ℕ) → first_sample (n + 1) ≡ 960 * (n / 7) + 138 + 137 * (n % 7)
-first_next n = settle (nat_lt (n % 7) 6) refl
+  pub frame_sample_is : (i : ℕ) → prefix_frame_sample prefix grid sfn i ≡ prefix_slot_sample prefix grid sfn (i / 960) (i % 960)
+  unfolding prefix_frame_sample
+  frame_sample_is i = refl
+
+-- ---- the symbols of a frame, by their number
+
+normal_next : (n : ℕ) → first_sample normal (n + 1) ≡ 960 * (n / 7) + 138 + 137 * (n % 7)
+normal_next n = settle (nat_lt (n % 7) 6) refl
   where
-    settle : (b : Bool) → nat_lt (n % 7) 6 ≡ b → first_sample (n + 1) ≡ 960 * (n / 7) + 138 + 137 * (n % 7)
+    settle : (b : Bool) → nat_lt (n % 7) 6 ≡ b → first_sample normal (n + 1) ≡ 960 * (n / 7) + 138 + 137 * (n % 7)
     settle true e =
         let l = ltb-true _ _ e in
         let slot : (n + 1) / 7 ≡ n / 7 = omega (arith, l) in
@@ -66,25 +103,70 @@ first_next n = settle (nat_lt (n % 7) 6) refl
         let place : (n + 1) % 7 ≡ 0 = omega (arith, l) in
         rw (slot, place) (omega (arith, l))
 
-first_from : (l : ℕ) → 137 * l ≤ (if nat_eq l 0 then 0 else 1 + 137 * l)
-first_from l = grind (arith, nat_tests)
+from_first : (l : ℕ) → 137 * l ≤ first_in_slot normal l
+from_first l = grind (arith, nat_tests)
 
-first_later : (l : ℕ) → 0 < l → 1 + 137 * l ≤ (if nat_eq l 0 then 0 else 1 + 137 * l)
-first_later l h = let e : nat_eq l 0 ≡ false = grind (arith, nat_tests) in rw e (omega arith)
+from_later : (l : ℕ) → 0 < l → 1 + 137 * l ≤ first_in_slot normal l
+from_later l h = let e : nat_eq l 0 ≡ false = grind (arith, nat_tests) in rw e (omega arith)
+
+up_to : (l : ℕ) → first_in_slot normal l ≤ 1 + 137 * l
+up_to l = grind (arith, nat_tests)
+
+pub extended_first : (n : ℕ) → first_sample extended n ≡ 160 * n
+extended_first n = settle (nat_eq (n % 6) 0) refl
+  where
+    settle : (b : Bool) → nat_eq (n % 6) 0 ≡ b → first_sample extended n ≡ 160 * n
+    settle true e = let z : n % 6 ≡ 0 = eqb-true _ _ e in rw z (omega (arith, z))
+    settle false e = rw e (omega arith)
 
 -- the slot of a sample that a symbol has, and the symbol within it
-pub slot_of_symbol : (n i : ℕ) → first_sample n ≤ i → i < first_sample (n + 1) → i / 960 ≡ n / 7
-slot_of_symbol n i low high = omega (arith, low, rw (first_next n) at high, first_from (n % 7))
+pub record StandsIn (prefix : Prefix) (n i : ℕ) : Type 0 where
+  pub slot : i / 960 ≡ n / symbols_of_slot prefix
+  pub symbol : symbol_of prefix (i % 960) ≡ n % symbols_of_slot prefix
 
-pub symbol_in_slot : (n i : ℕ) → first_sample n ≤ i → i < first_sample (n + 1) → symbol_of normal (i % 960) ≡ n % 7
-symbol_in_slot n i low high = settle (nat_lt 0 (n % 7)) refl
+normal_symbol_of : (n i : ℕ) → first_sample normal n ≤ i → i < 960 * (n / 7) + 138 + 137 * (n % 7) → symbol_of normal (i % 960) ≡ n % 7
+normal_symbol_of n i low high = settle (nat_lt 0 (n % 7)) refl
   where
     settle : (b : Bool) → nat_lt 0 (n % 7) ≡ b → symbol_of normal (i % 960) ≡ n % 7
-    settle true e = omega (arith, low, rw (first_next n) at high, first_later (n % 7) (ltb-true _ _ e))
-    settle false e = omega (arith, low, rw (first_next n) at high, first_from (n % 7), ltb-false _ _ e)
+    settle true e = omega (arith, low, high, from_later (n % 7) (ltb-true _ _ e))
+    settle false e = omega (arith, low, high, from_first (n % 7), ltb-false _ _ e)
 
-pub first_last : first_sample 140 ≡ 19200
-first_last = refl
+pub stands_in : (prefix : Prefix) (n i : ℕ) → IsPrefix prefix → first_sample prefix n ≤ i → i < first_sample prefix (n + 1) → StandsIn prefix n i
+stands_in prefix n i known =
+    with_prefix (λ p. first_sample p n ≤ i → i < first_sample p (n + 1) → StandsIn p n i)
+    (λ low below.
+    let high = rw (normal_next n) at below in
+    record { slot = omega (arith, low, high, from_first (n % 7)); symbol = normal_symbol_of n i low high })
+    (λ low below.
+    let from = rw (extended_first n) at low in
+    let high = rw (extended_first (n + 1)) at below in
+    record { slot = omega (arith, from, high); symbol = omega (arith, from, high) })
+    prefix known
+
+-- where symbol l of a slot begins lies in it
+pub first_inside : (prefix : Prefix) (l : ℕ) → IsPrefix prefix → l < symbols_of_slot prefix → first_in_slot prefix l < 960
+first_inside prefix l known =
+    with_prefix (λ p. l < symbols_of_slot p → first_in_slot p l < 960)
+    (λ few. omega (arith, few, up_to l))
+    (λ few. grind (arith, nat_tests))
+    prefix known
+
+pub first_none : (prefix : Prefix) → IsPrefix prefix → first_sample prefix 0 ≡ 0
+first_none prefix known = with_prefix (λ p. first_sample p 0 ≡ 0) refl refl prefix known
+
+pub first_last : (prefix : Prefix) → IsPrefix prefix → first_sample prefix (20 * symbols_of_slot prefix) ≡ 19200
+first_last prefix known = with_prefix (λ p. first_sample p (20 * symbols_of_slot p) ≡ 19200) refl refl prefix known
+
+normal_mono : (m n : ℕ) → m ≤ n → first_sample normal m ≤ first_sample normal n
+normal_mono m n h = settle (cases_lt m n)
+  where
+    settle : (m < n) ⊎ (n ≤ m) → first_sample normal m ≤ first_sample normal n
+    settle (inl less) = omega (arith, less, up_to (m % 7), from_later (n % 7), from_first (n % 7))
+    settle (inr same) = let e : m ≡ n = omega (arith, same, h) in rw e (omega arith)
+
+pub first-mono : (prefix : Prefix) (m n : ℕ) → IsPrefix prefix → m ≤ n → first_sample prefix m ≤ first_sample prefix n
+first-mono prefix m n known h =
+    with_prefix (λ p. first_sample p m ≤ first_sample p n) (normal_mono m n h) (rw (extended_first m, extended_first n) (omega (arith, h))) prefix known
 
 -- ---- the frames of a sequence
 
@@ -100,9 +182,6 @@ module _ (prefix : Prefix) (grid : Elements) where
   frames_follow sfn j i inside =
       let whole : (19200 * j + i) / 19200 ≡ j = omega (arith, inside) in
       in_frame sfn (19200 * j + i) ((sfn + j) % 1024) i (ap (λ (n : ℕ). (sfn + n) % 1024) whole) (omega (arith, inside))
-
-pub sent_is : (grid : Elements) (sfn i : ℕ) → sent grid sfn i ≡ frame_sample grid (number_of sfn i) (i % 19200)
-sent_is grid sfn i = prefix_sent_is normal grid sfn i
 
 -- the number of a frame from the start on
 number_from_start : (sfn offset j : ℕ) (none : Bool) → nat_eq offset 0 ≡ none → sfn ≤ 1023 → offset < 19200 →

@@ -1,5 +1,5 @@
 -- Where subframe 5 of a frame of even number has the control information and the shared channel, its elements are their points.
-use Rattle.std.proofs.Common.{◌≡◌, ℕ, ◌+◌, ◌*◌, ◌/◌, ◌%◌, ◌<◌, ◌≤◌, ◌⊎◌, inl, inr, Bool, true, false, ◌&&◌, ◌||◌, nat_eq, List, length, get_or, None, refl, ap, ◌∙◌, arith}
+use Rattle.std.proofs.Common.{◌≡◌, ℕ, ◌+◌, ◌*◌, ◌/◌, ◌%◌, ◌<◌, ◌≤◌, ◌⊎◌, inl, inr, Bool, true, false, ◌&&◌, ◌||◌, nat_eq, List, length, get_or, None, refl, ap, sym, subst, ◌-◌, ◌∙◌, arith}
 use Rattle.std.proofs.lemmas.Bool.{lt-ltb}
 use Rattle.std.proofs.lemmas.Bool.Decides.{nat_tests}
 use Rattle.crs.specs.Reference.{is_reference, is_second_reference}
@@ -12,14 +12,14 @@ use Rattle.grid_map.proofs.Symbols.{pdsch_count}
 use Rattle.grid_map.proofs.Indexed.{pcfich_indexed, candidate_indexed, pdcch_carry, shared_indexed}
 use Rattle.grid_map.proofs.Apart.{IsInRegion, IsAfterRegion, indicator_place, control_place, control_not_indicator, shared_place}
 use Rattle.cell_tx.specs.declared.antenna.Port.{Port}
-use Rattle.cell_tx.specs.declared.antenna.Port.TheVariants.{Only, First, Second}
+use Rattle.cell_tx.specs.declared.antenna.Port.TheVariants.{Only, First, Second, Long}
 use Rattle.cell_tx.specs.declared.cell.CellPlan.{CellPlan}
 use Rattle.cell_tx.specs.Transport.{assigned_bits_of}
 use Rattle.cell_tx.specs.Plan.{IsSendableWith}
-use Rattle.cell_tx.specs.Ports.{is_two, sent_point}
+use Rattle.cell_tx.specs.Ports.{port_symbols, has_control, is_two, sent_point}
 use Rattle.cell_tx.specs.Control.{control_places, indicator_point, control_point}
 use Rattle.cell_tx.specs.Shared.{assigned_places, shared_point}
-use Rattle.cell_tx.specs.Grid.{is_one_of, is_indicator, is_control, is_shared, has_system_information, port_channel_value, port_element}
+use Rattle.cell_tx.specs.Grid.{is_one_of, is_synchronised, has_broadcast, is_indicator, is_control, is_shared, has_system_information, port_channel_value, port_element}
 use Rattle.cell_tx.specs.Rows.{port_reference_if}
 use Rattle.cell_tx.proofs.PlaceValues.{absent_is}
 use Rattle.cell_tx.proofs.Elements.{element_of_channel}
@@ -42,14 +42,15 @@ record IsChannelPlace (port : Port) (identity : ℕ) (p : Place) : Type 0 where
   free : (slot : ℕ) → port_reference_if port identity slot (p.symbol % 7) p.k ≡ None
   beside : is_synchronisation p.symbol ≡ false
 
-no_pilot : (port : Port) (identity slot symbol k : ℕ) → is_reference identity symbol k ≡ false → is_second_reference identity symbol k ≡ false → port_reference_if port identity slot symbol k ≡ None
-no_pilot Only identity slot symbol k e f = rw e refl
-no_pilot First identity slot symbol k e f = rw (e, f) refl
-no_pilot Second identity slot symbol k e f = rw (f, e) refl
+pub no_pilot : (port : Port) (identity slot symbol k : ℕ) → has_control port ≡ true → is_reference identity symbol k ≡ false → is_second_reference identity symbol k ≡ false → port_reference_if port identity slot symbol k ≡ None
+no_pilot Only identity slot symbol k has e f = rw e refl
+no_pilot First identity slot symbol k has e f = rw (e, f) refl
+no_pilot Second identity slot symbol k has e f = rw (f, e) refl
+no_pilot Long identity slot symbol k has e f = absurd cc
 
-of_region : (port : Port) (identity last : ℕ) (p : Place) → last ≤ 3 → IsInRegion identity last p → IsChannelPlace port identity p
-of_region port identity last p few at = record {
-  free = λ slot. no_pilot port identity slot (p.symbol % 7) p.k at.free at.second_free;
+of_region : (port : Port) (identity last : ℕ) (p : Place) → has_control port ≡ true → last ≤ 3 → IsInRegion identity last p → IsChannelPlace port identity p
+of_region port identity last p has few at = record {
+  free = λ slot. no_pilot port identity slot (p.symbol % 7) p.k has at.free at.second_free;
   beside = let below = at.symbol in grind (arith, nat_tests);
 }
 
@@ -57,37 +58,56 @@ no_either : (a b : Bool) → (a || b) ≡ false → (a ≡ false) × (b ≡ fals
 no_either true b e = absurd cc
 no_either false b e = (refl, e)
 
-no_pilot_of : (port : Port) (identity slot symbol k : ℕ) → is_pilot_of (is_two port) identity symbol k ≡ false → port_reference_if port identity slot symbol k ≡ None
-no_pilot_of Only identity slot symbol k e = rw e refl
-no_pilot_of First identity slot symbol k e = let both = no_either (is_reference identity symbol k) (is_second_reference identity symbol k) e in no_pilot First identity slot symbol k both.0 both.1
-no_pilot_of Second identity slot symbol k e = let both = no_either (is_reference identity symbol k) (is_second_reference identity symbol k) e in no_pilot Second identity slot symbol k both.0 both.1
+no_pilot_of : (port : Port) (identity slot symbol k : ℕ) → has_control port ≡ true → is_pilot_of (is_two port) identity symbol k ≡ false → port_reference_if port identity slot symbol k ≡ None
+no_pilot_of Only identity slot symbol k has e = rw e refl
+no_pilot_of First identity slot symbol k has e = let both = no_either (is_reference identity symbol k) (is_second_reference identity symbol k) e in no_pilot First identity slot symbol k has both.0 both.1
+no_pilot_of Second identity slot symbol k has e = let both = no_either (is_reference identity symbol k) (is_second_reference identity symbol k) e in no_pilot Second identity slot symbol k has both.0 both.1
+no_pilot_of Long identity slot symbol k has e = absurd cc
 
-of_shared : (port : Port) (identity last : ℕ) (p : Place) → IsAfterRegion (is_two port) identity last p → IsChannelPlace port identity p
-of_shared port identity last p at = record { free = λ slot. no_pilot_of port identity slot (p.symbol % 7) p.k at.free; beside = at.beside }
+of_shared : (port : Port) (identity last : ℕ) (p : Place) → has_control port ≡ true → IsAfterRegion (is_two port) identity last p → IsChannelPlace port identity p
+of_shared port identity last p has at = record { free = λ slot. no_pilot_of port identity slot (p.symbol % 7) p.k has at.free; beside = at.beside }
 
 no_signal : (symbol signal : ℕ) (middle : Bool) → is_synchronisation symbol ≡ false → (signal ≡ 5) ⊎ (signal ≡ 6) → (nat_eq symbol signal && middle) ≡ false
 no_signal symbol signal middle e which = let other : nat_eq symbol signal ≡ false = grind (arith, nat_tests) in rw other refl
 
-element_is : (port : Port) (plan : CellPlan) (number : ℕ) (p : Place) → IsChannelPlace port plan.identity p →
-    port_element port plan number 5 p.symbol p.k ≡ port_channel_value port plan number 5 p.symbol p.k
-element_is port plan number p at =
-    element_of_channel port plan number 5 p.symbol p.k (at.free (2 * 5 + p.symbol / 7)) (no_signal p.symbol 6 _ at.beside (inr refl)) (no_signal p.symbol 5 _ at.beside (inl refl))
+-- a port with a control region has seven symbols in a slot
+pub symbols_are : (port : Port) → has_control port ≡ true → port_symbols port ≡ 7
+symbols_are Only has = refl
+symbols_are First has = refl
+symbols_are Second has = refl
+symbols_are Long has = absurd cc
 
-module _ (port : Port) (plan : CellPlan) (number symbol k : ℕ) where
+element_is : (port : Port) (plan : CellPlan) (number : ℕ) (p : Place) → has_control port ≡ true → IsChannelPlace port plan.identity p →
+    port_element port plan number 5 p.symbol p.k ≡ port_channel_value port plan number 5 p.symbol p.k
+element_is port plan number p has at =
+    let seven = sym (symbols_are port has) in
+    element_of_channel port plan number 5 p.symbol p.k
+    (subst (λ (n : ℕ). port_reference_if port plan.identity (2 * 5 + p.symbol / n) (p.symbol % n) p.k ≡ None) seven (at.free (2 * 5 + p.symbol / 7)))
+    (subst (λ (n : ℕ). is_synchronised (n - 1) 5 p.symbol p.k ≡ false) seven (no_signal p.symbol 6 _ at.beside (inr refl)))
+    (subst (λ (n : ℕ). is_synchronised (n - 2) 5 p.symbol p.k ≡ false) seven (no_signal p.symbol 5 _ at.beside (inl refl)))
+
+-- and has no broadcast channel in subframe 5
+no_broadcast : (port : Port) (identity symbol k : ℕ) → has_control port ≡ true → has_broadcast port identity 5 symbol k ≡ false
+no_broadcast Only identity symbol k has = refl
+no_broadcast First identity symbol k has = refl
+no_broadcast Second identity symbol k has = refl
+no_broadcast Long identity symbol k has = absurd cc
+
+module _ (port : Port) (plan : CellPlan) (number symbol k : ℕ) (has : has_control port ≡ true) where
   of_indicator : is_indicator plan symbol k ≡ true →
       port_channel_value port plan number 5 symbol k ≡ sent_point port (indicator_point plan 5) (index_in (pcfich_places plan.identity) (place symbol k))
   unfolding port_channel_value
-  of_indicator e = rw e refl
+  of_indicator e = rw (no_broadcast port plan.identity symbol k has, has, e) refl
 
   of_control : is_indicator plan symbol k ≡ false → is_control plan number 5 symbol k ≡ true →
       port_channel_value port plan number 5 symbol k ≡ sent_point port (control_point plan number) (index_in (control_places plan) (place symbol k))
   unfolding port_channel_value
-  of_control e f = rw (e, f) refl
+  of_control e f = rw (no_broadcast port plan.identity symbol k has, has, e, f) refl
 
   of_shared_channel : is_indicator plan symbol k ≡ false → is_control plan number 5 symbol k ≡ false → is_shared port plan number 5 symbol k ≡ true →
       port_channel_value port plan number 5 symbol k ≡ sent_point port (shared_point plan number) (index_in (assigned_places (is_two port) plan) (place symbol k))
   unfolding port_channel_value
-  of_shared_channel e f g = rw (e, f, g) refl
+  of_shared_channel e f g = rw (no_broadcast port plan.identity symbol k has, has, e, f, g) refl
 
 -- ---- the three channels
 
@@ -154,14 +174,15 @@ module _ {Enough : Type 0} (port : Port) (plan : CellPlan) (sendable : IsSendabl
       (λ j inside same. let first = (control_place plan.identity plan.cfi plan.duration plan.resource low high j (omega (arith, size, inside))).symbol in
       let level = ap (λ (p : Place). p.symbol) same in omega (arith, first, level, after))
 
-  module _ (number : ℕ) where
+  -- what a port with a control region sends there
+  module _ (has : has_control port ≡ true) (number : ℕ) where
     -- in every frame the places of the indicator have its points
     pub indicator_sent : (i : ℕ) → i < 16 →
         port_element port plan number 5 (item (pcfich_places plan.identity) i).symbol (item (pcfich_places plan.identity) i).k ≡ sent_point port (indicator_point plan 5) i
     indicator_sent i l =
         let p : Place = item (pcfich_places plan.identity) i in
-        element_is port plan number p (of_region port plan.identity 0 p (omega arith) (indicator_stands i l))
-        ∙ of_indicator port plan number p.symbol p.k (among 16 (pcfich_places plan.identity) i indicator_indexed l)
+        element_is port plan number p has (of_region port plan.identity 0 p has (omega arith) (indicator_stands i l))
+        ∙ of_indicator port plan number p.symbol p.k has (among 16 (pcfich_places plan.identity) i indicator_indexed l)
         ∙ ap (sent_point port (indicator_point plan 5)) (indicator_indexed.index i l)
 
     module _ (even : number % 2 ≡ 0) where
@@ -173,8 +194,8 @@ module _ {Enough : Type 0} (port : Port) (plan : CellPlan) (sendable : IsSendabl
           port_element port plan number 5 (item (control_places plan) i).symbol (item (control_places plan) i).k ≡ sent_point port (control_point plan number) i
       control_sent i l =
           let p : Place = item (control_places plan) i in
-          element_is port plan number p (of_region port plan.identity 3 p (omega arith) (control_stands i l))
-          ∙ of_control port plan number p.symbol p.k (control_no_indicator i l) (has_information _ ∙ among 144 (control_places plan) i control_indexed l)
+          element_is port plan number p has (of_region port plan.identity 3 p has (omega arith) (control_stands i l))
+          ∙ of_control port plan number p.symbol p.k has (control_no_indicator i l) (has_information _ ∙ among 144 (control_places plan) i control_indexed l)
           ∙ ap (sent_point port (control_point plan number)) (control_indexed.index i l)
 
       -- and those of the assigned blocks have the points of the system information
@@ -182,7 +203,7 @@ module _ {Enough : Type 0} (port : Port) (plan : CellPlan) (sendable : IsSendabl
           port_element port plan number 5 (item assigned i).symbol (item assigned i).k ≡ sent_point port (shared_point plan number) i
       shared_sent i l =
           let p : Place = item assigned i in
-          element_is port plan number p (of_shared port plan.identity plan.cfi p (assigned_stands i l))
-          ∙ of_shared_channel port plan number p.symbol p.k (shared_no_indicator i l) (has_information _ ∙ shared_no_control i l)
+          element_is port plan number p has (of_shared port plan.identity plan.cfi p has (assigned_stands i l))
+          ∙ of_shared_channel port plan number p.symbol p.k has (shared_no_indicator i l) (has_information _ ∙ shared_no_control i l)
           (has_information _ ∙ among (length assigned) assigned i assigned_indexed l)
           ∙ ap (sent_point port (shared_point plan number)) (assigned_indexed.index i l)

@@ -14,7 +14,7 @@ use Rattle.grid_map.specs.Scrambling.{pbch_c_init}
 use Rattle.cell_tx.specs.declared.antenna.Port.{Port}
 use Rattle.cell_tx.specs.declared.antenna.Port.TheVariants.{Only}
 use Rattle.cell_tx.specs.declared.cell.CellPlan.{CellPlan}
-use Rattle.cell_tx.specs.Ports.{port_mask}
+use Rattle.cell_tx.specs.Ports.{port_mask, port_block_bits}
 use Rattle.cell_tx.specs.Points.{scrambled, point_of}
 
 -- the 24 bits of a master block in the frame with this number: dl-Bandwidth n6, phich-Config, the upper 8 bits of the
@@ -45,11 +45,13 @@ abbrev pub scrambled_bit : ℕ → List Bool → ℕ → Bool
 scrambled_bit c_init word n = scrambled c_init (coded_bit word) n
 
 -- bit i of the 480 that a frame carries: the frames whose numbers are 0, 1, 2 and 3 modulo 4 carry the 1,920 scrambled
--- bits in this order (TS 36.212 sections 5.3.1.2 and 5.3.1.3, TS 36.211 sections 6.6.1 and 6.6.4)
+-- bits in this order; with the extended prefix there are 432 and 1,728 (TS 36.212 sections 5.3.1.2 and 5.3.1.3, TS
+-- 36.211 sections 6.6.1 and 6.6.4)
 unfoldable pub port_bit : Port → CellPlan → ℕ → ℕ → Bool
-port_bit port plan sfn i = scrambled_bit (pbch_c_init plan.identity) (port_word port plan sfn) (480 * (sfn % 4) + i)
+port_bit port plan sfn i =
+    scrambled_bit (pbch_c_init plan.identity) (port_word port plan sfn) (port_block_bits port * (sfn % 4) + i)
 
--- point i of the 240 that a frame carries (QPSK, TS 36.211 section 7.1.2; the amplitude is own)
+-- point i of the 240, or 216, that a frame carries (QPSK, TS 36.211 section 7.1.2; the amplitude is own)
 unfoldable pub port_point : Port → CellPlan → ℕ → ℕ → Cpx
 port_point port plan sfn i = point_of (port_bit port plan sfn) i
 

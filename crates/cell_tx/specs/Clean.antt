@@ -1,13 +1,18 @@
--- Clean recordings of what is sent: its samples times a whole-number gain, up to a small error. (own)
+-- Clean recordings of what is sent: the samples of each antenna port times its own whole-number gain, up to a small
+-- error. (own)
 use Rattle.std.specs.Prelude.{ℕ, ◌+◌, ◌*◌, ◌<◌, ◌≤◌, List, length}
+use Rattle.std.proofs.Props.{props}
 use Rattle.cs_num.specs.declared.Cpx.{Cpx}
 use Rattle.cs_num.specs.declared.Sample.{Sample}
-use Rattle.cs_num.specs.Complex.{square, sample_at, times, IsWithin, minus}
+use Rattle.cs_num.specs.Complex.{square, sample_at, plus, times, IsWithin, minus, value_at}
 use Rattle.cs_num.specs.Gain.{IsGain}
+use Rattle.lte_types.specs.declared.carrier.Carrier.{Carrier}
+use Rattle.lte_types.specs.declared.carrier.Carrier.TheVariants.{OnePort, TwoPorts, LongPrefix}
 use Rattle.lte_types.specs.Numerology.{least_samples, most_samples}
 use Rattle.lte_types.specs.Timing.{IsOffset}
+use Rattle.cell_tx.specs.declared.antenna.Port.TheVariants.{First, Second}
 use Rattle.cell_tx.specs.declared.cell.CellPlan.{CellPlan}
-use Rattle.cell_tx.specs.Grid.{element}
+use Rattle.cell_tx.specs.Grid.{port_element, element}
 use Rattle.cell_tx.specs.Sent.{sent}
 
 -- how many samples a transmission may have
@@ -18,6 +23,8 @@ pub record IsCount (samples : ℕ) : Type 0 where
 -- each component of each sample is off from these values by at most eps
 abbrev pub AreNear : List Sample → (ℕ → Cpx) → ℕ → Type 0
 AreNear recording values eps = (i : ℕ) → i < length recording → IsWithin eps (minus (sample_at recording i) (values i))
+
+-- ---- one antenna port
 
 -- the samples are those of a sequence, from its sample at offset on, times the gain, and each component is off by at
 -- most eps, which is at most twice the gain's size
@@ -31,3 +38,62 @@ pub record IsCleanOf (sequence : ℕ → Cpx) (recording : List Sample) (offset 
 pub record IsClean (recording : List Sample) (plan : CellPlan) (sfn offset : ℕ) (gain : Cpx) (eps : ℕ) : Type 0 where
   pub number : sfn ≤ 1023
   pub samples : IsCleanOf (sent (element plan) sfn) recording offset gain eps
+
+-- ---- two antenna ports
+
+-- the gains of both ports: that of the first is not 0, and the squares of their sizes are together at most 392
+pub record AreGains (first second : Cpx) : Type 0 where
+  pub least : 1 ≤ square first
+  pub most : square first + square second ≤ 392
+
+-- errors may have components of this size: its square is at most a quarter of that sum, and four times that of the
+-- first gain's size
+pub record IsAllowed (first second : Cpx) (eps : ℕ) : Type 0 where
+  pub both : 4 * (eps * eps) ≤ square first + square second
+  pub one : eps * eps ≤ 4 * square first
+
+-- what is received of two sequences, from their samples at offset on, by a channel that is one number for each
+abbrev pub received_of_two : (ℕ → Cpx) → (ℕ → Cpx) → ℕ → Cpx → Cpx → ℕ → Cpx
+received_of_two first second offset gain other i =
+    plus (times gain (first (i + offset))) (times other (second (i + offset)))
+
+-- the samples are those, and each component is off by at most eps
+pub record IsCleanOfTwo (first second : ℕ → Cpx) (recording : List Sample) (offset : ℕ) (gain other : Cpx) (eps : ℕ) :
+    Type 0 where
+  pub within : IsOffset offset
+  pub gains : AreGains gain other
+  pub bound : IsAllowed gain other eps
+  pub near : AreNear recording (received_of_two first second offset gain other) eps
+
+-- what a port of a cell sends from the frame numbered sfn on
+abbrev pub first_port : CellPlan → ℕ → ℕ → Cpx
+first_port plan sfn = sent (port_element First plan) sfn
+
+abbrev pub second_port : CellPlan → ℕ → ℕ → Cpx
+second_port plan sfn = sent (port_element Second plan) sfn
+
+-- the same of what both ports of a cell send
+pub record IsCleanOfPorts (recording : List Sample) (plan : CellPlan) (sfn offset : ℕ) (gain other : Cpx) (eps : ℕ) :
+    Type 0 where
+  pub number : sfn ≤ 1023
+  pub samples : IsCleanOfTwo (first_port plan sfn) (second_port plan sfn) recording offset gain other eps
+
+-- ---- a carrier
+
+-- the gains of its ports are those of clean recordings
+abbrev pub AreGainsOf : Carrier → List Cpx → Type 0
+AreGainsOf OnePort gains = IsGain (value_at gains 0)
+AreGainsOf TwoPorts gains = AreGains (value_at gains 0) (value_at gains 1)
+AreGainsOf LongPrefix gains = IsGain (value_at gains 0)
+
+-- which is a proposition
+pub are_gains_prop : (carrier : Carrier) (gains : List Cpx) → IsProp (AreGainsOf carrier gains)
+are_gains_prop OnePort gains = hlevel props
+are_gains_prop TwoPorts gains = hlevel props
+are_gains_prop LongPrefix gains = hlevel props
+
+-- the errors that a clean recording with these gains allows
+abbrev pub IsAllowedBy : Carrier → List Cpx → ℕ → Type 0
+IsAllowedBy OnePort gains eps = eps * eps ≤ 4 * square (value_at gains 0)
+IsAllowedBy TwoPorts gains eps = IsAllowed (value_at gains 0) (value_at gains 1) eps
+IsAllowedBy LongPrefix gains eps = eps * eps ≤ 4 * square (value_at gains 0)

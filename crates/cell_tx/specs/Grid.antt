@@ -1,23 +1,26 @@
--- The resource grid of a sent frame: by subframe, symbol 0 to 13 of it and subcarrier (TS 36.211 section 6.2).
-use Rattle.std.specs.Prelude.{ℕ, ◌+◌, ◌-◌, ◌*◌, ◌/◌, ◌%◌, Bool, ◌&&◌, ◌||◌, nat_eq, nat_lt, if◌then◌else◌, List, length}
+-- The resource grid of a sent frame: by subframe, symbol of it and subcarrier; a subframe has the symbols 0 to 13, and
+-- with the extended cyclic prefix 0 to 11 (TS 36.211 section 6.2).
+use Rattle.std.specs.Prelude.{ℕ, ◌-◌, ◌/◌, ◌%◌, Bool, ◌&&◌, ◌||◌, nat_eq, nat_lt, if◌then◌else◌, List, length}
 use Rattle.cs_num.specs.declared.Cpx.{Cpx}
 use Rattle.cs_num.specs.Complex.{nothing}
 use Rattle.lte_types.specs.Numerology.{half_of}
-use Rattle.crs.specs.Reference.{reference_at}
 use Rattle.sync_seq.specs.Primary.{pss_at}
 use Rattle.sync_seq.specs.Middle.{is_middle}
 use Rattle.sync_seq.specs.Secondary.{sss_amplitude}
 use Rattle.grid_map.specs.declared.Place.{Place}
 use Rattle.grid_map.specs.Place.{place, index_in}
 use Rattle.grid_map.specs.Broadcast.{is_pbch, pbch_index}
+use Rattle.grid_map.specs.LongBroadcast.{long_places}
 use Rattle.grid_map.specs.Control.{pcfich_places}
 use Rattle.cell_tx.specs.declared.antenna.Port.{Port}
-use Rattle.cell_tx.specs.declared.antenna.Port.TheVariants.{Only}
+use Rattle.cell_tx.specs.declared.antenna.Port.TheVariants.{Only, First, Second, Long}
 use Rattle.cell_tx.specs.declared.cell.CellPlan.{CellPlan}
-use Rattle.cell_tx.specs.Ports.{is_two, sent_point, sent_signal, is_own_reference, is_other_reference}
+use Rattle.cell_tx.specs.Ports.{port_symbols, port_slot, has_control, is_two, sent_point, sent_signal, is_own_reference, is_other_reference, port_reference}
 use Rattle.cell_tx.specs.Block.{port_point}
 use Rattle.cell_tx.specs.Control.{control_places, indicator_point, control_point}
 use Rattle.cell_tx.specs.Shared.{assigned_places, shared_point}
+
+-- ---- the places
 
 -- the middle 62 subcarriers of this symbol of subframes 0 and 5 hold a synchronisation signal (TS 36.211 sections
 -- 6.11.1.2 and 6.11.2.2)
@@ -25,20 +28,38 @@ abbrev pub is_synchronised : ℕ → ℕ → ℕ → ℕ → Bool
 is_synchronised signal subframe symbol k =
     (nat_eq subframe 0 || nat_eq subframe 5) && nat_eq symbol signal && is_middle k
 
--- the primary signal is in symbol 6, the secondary one in symbol 5
-abbrev pub is_primary : ℕ → ℕ → ℕ → Bool
-is_primary subframe symbol k = is_synchronised 6 subframe symbol k
+-- the primary signal is in the last symbol of a slot, the secondary one in the symbol before
+abbrev pub is_primary : Port → ℕ → ℕ → ℕ → Bool
+is_primary port subframe symbol k = is_synchronised (port_symbols port - 1) subframe symbol k
 
-abbrev pub is_secondary : ℕ → ℕ → ℕ → Bool
-is_secondary subframe symbol k = is_synchronised 5 subframe symbol k
+abbrev pub is_secondary : Port → ℕ → ℕ → ℕ → Bool
+is_secondary port subframe symbol k = is_synchronised (port_symbols port - 2) subframe symbol k
+
+-- a place is one of a channel's
+abbrev pub is_one_of : List Place → Place → Bool
+is_one_of places p = nat_lt (index_in places p) (length places)
 
 -- the broadcast channel is in subframe 0 (TS 36.211 section 6.6.4)
 abbrev pub is_broadcast : ℕ → ℕ → ℕ → ℕ → Bool
 is_broadcast identity subframe symbol k = nat_eq subframe 0 && is_pbch identity (place symbol k)
 
--- a place is one of a channel's
-abbrev pub is_one_of : List Place → Place → Bool
-is_one_of places p = nat_lt (index_in places p) (length places)
+-- with the extended prefix it is in slot 1, by whose symbols its places are numbered
+abbrev pub is_long_broadcast : ℕ → ℕ → ℕ → ℕ → Bool
+is_long_broadcast identity subframe symbol k =
+    nat_eq (port_slot Long subframe symbol) 1 && is_one_of (long_places identity) (place (symbol % port_symbols Long) k)
+
+abbrev pub has_broadcast : Port → ℕ → ℕ → ℕ → ℕ → Bool
+has_broadcast Only identity subframe symbol k = is_broadcast identity subframe symbol k
+has_broadcast First identity subframe symbol k = is_broadcast identity subframe symbol k
+has_broadcast Second identity subframe symbol k = is_broadcast identity subframe symbol k
+has_broadcast Long identity subframe symbol k = is_long_broadcast identity subframe symbol k
+
+-- the number of its point there
+abbrev pub broadcast_index : Port → ℕ → ℕ → ℕ → ℕ
+broadcast_index Only identity symbol k = pbch_index identity (place symbol k)
+broadcast_index First identity symbol k = pbch_index identity (place symbol k)
+broadcast_index Second identity symbol k = pbch_index identity (place symbol k)
+broadcast_index Long identity symbol k = index_in (long_places identity) (place (symbol % port_symbols Long) k)
 
 -- the control format indicator is in every subframe (TS 36.211 section 6.7)
 abbrev pub is_indicator : CellPlan → ℕ → ℕ → Bool
@@ -60,9 +81,10 @@ is_shared port plan sfn subframe symbol k =
 
 -- ---- the values of an antenna port
 
--- the cell-specific reference signal (TS 36.211 section 6.10.1); both ports take it from one sequence
-abbrev pub reference_value : CellPlan → ℕ → ℕ → ℕ → Cpx
-reference_value plan subframe symbol k = reference_at plan.identity (2 * subframe + symbol / 7) (symbol % 7) k
+-- the cell-specific reference signal (TS 36.211 section 6.10.1)
+abbrev pub reference_value : Port → CellPlan → ℕ → ℕ → ℕ → Cpx
+reference_value port plan subframe symbol k =
+    port_reference port plan.identity (port_slot port subframe symbol) (symbol % port_symbols port) k
 
 -- the primary synchronisation signal (TS 36.211 section 6.11.1)
 abbrev pub primary_value : CellPlan → ℕ → Cpx
@@ -76,7 +98,7 @@ secondary_value plan subframe k =
 -- the physical broadcast channel (TS 36.211 section 6.6)
 abbrev pub broadcast_value : Port → CellPlan → ℕ → ℕ → ℕ → Cpx
 broadcast_value port plan sfn symbol k =
-    sent_point port (port_point port plan sfn) (pbch_index plan.identity (place symbol k))
+    sent_point port (port_point port plan sfn) (broadcast_index port plan.identity symbol k)
 
 -- the physical control format indicator channel (TS 36.211 section 6.7)
 abbrev pub indicator_value : Port → CellPlan → ℕ → ℕ → ℕ → Cpx
@@ -95,23 +117,29 @@ shared_value port plan sfn symbol k =
 
 -- ---- the element
 
--- what the channels have at a place: the value of the first that is there
-unfoldable pub port_channel_value : Port → CellPlan → ℕ → ℕ → ℕ → ℕ → Cpx
-port_channel_value port plan sfn subframe symbol k =
-    if is_broadcast plan.identity subframe symbol k then broadcast_value port plan sfn symbol k
-    else (if is_indicator plan symbol k then indicator_value port plan subframe symbol k
+-- what the control format indicator, the grant and the shared channel have at a place
+abbrev pub system_value : Port → CellPlan → ℕ → ℕ → ℕ → ℕ → Cpx
+system_value port plan sfn subframe symbol k =
+    if is_indicator plan symbol k then indicator_value port plan subframe symbol k
     else (if is_control plan sfn subframe symbol k then control_value port plan sfn symbol k
     else (if is_shared port plan sfn subframe symbol k then shared_value port plan sfn symbol k
-    else nothing)))
+    else nothing))
+
+-- what the channels have there: the value of the first that is there
+unfoldable pub port_channel_value : Port → CellPlan → ℕ → ℕ → ℕ → ℕ → Cpx
+port_channel_value port plan sfn subframe symbol k =
+    if has_broadcast port plan.identity subframe symbol k then broadcast_value port plan sfn symbol k
+    else (if has_control port then system_value port plan sfn subframe symbol k else nothing)
 
 -- what a port sends at a place of the frame with this number: the value of the first case that applies, the signals
 -- before the channels, and nothing at a reference place of the other port
 unfoldable pub port_element : Port → CellPlan → ℕ → ℕ → ℕ → ℕ → Cpx
 port_element port plan sfn subframe symbol k =
-    if is_own_reference port plan.identity (symbol % 7) k then reference_value plan subframe symbol k
-    else (if is_other_reference port plan.identity (symbol % 7) k then nothing
-    else (if is_primary subframe symbol k then sent_signal port (primary_value plan k)
-    else (if is_secondary subframe symbol k then sent_signal port (secondary_value plan subframe k)
+    if is_own_reference port plan.identity (symbol % port_symbols port) k
+    then reference_value port plan subframe symbol k
+    else (if is_other_reference port plan.identity (symbol % port_symbols port) k then nothing
+    else (if is_primary port subframe symbol k then sent_signal port (primary_value plan k)
+    else (if is_secondary port subframe symbol k then sent_signal port (secondary_value plan subframe k)
     else port_channel_value port plan sfn subframe symbol k)))
 
 -- ---- with one antenna port

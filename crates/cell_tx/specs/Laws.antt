@@ -1,27 +1,37 @@
 -- Laws of what a cell sends.
-use Rattle.std.specs.Prelude.{◌≡◌, ◌↔◌, ℕ, ◌+◌, ◌-◌, ◌*◌, ◌/◌, ◌%◌, ◌<◌, ◌≤◌, true, None, IsSome, List}
+use Rattle.std.specs.Prelude.{◌≡◌, ◌↔◌, ℕ, ◌+◌, ◌-◌, ◌*◌, ◌/◌, ◌%◌, ◌<◌, ◌≤◌, true, Option, None, IsSome, List}
 use Rattle.cs_num.specs.declared.Sample.{Sample}
 use Rattle.cs_num.specs.Complex.{IsWithin, square, plus, times, sample_of}
 use Rattle.fold128.specs.Symbol.{useful_at}
+use Rattle.lte_types.specs.declared.carrier.Carrier.{Carrier}
 use Rattle.lte_types.specs.Ranges.{IsValid}
 use Rattle.lte_types.specs.declared.numerology.Prefix.{Prefix}
 use Rattle.lte_types.specs.Numerology.{frame_length, IsPrefix, prefix_length, symbols_of_slot, useful_start}
 use Rattle.dci.specs.Sizes.{size_of}
 use Rattle.cell_tx.specs.declared.cell.CellPlan.{CellPlan}
 use Rattle.cell_tx.specs.Transport.{is_whole, is_resolvable}
-use Rattle.cell_tx.specs.Plan.{IsSendable, plan_refusal}
+use Rattle.cell_tx.specs.Plan.{IsSendable, IsSendableBy, refusal_of}
 use Rattle.cell_tx.specs.declared.antenna.Port.{Port}
-use Rattle.cell_tx.specs.Grid.{port_element}
-use Rattle.cell_tx.specs.Sent.{Elements, prefix_frame_sample, prefix_sent, sent, received}
+use Rattle.cell_tx.specs.Ports.{port_prefix}
+use Rattle.cell_tx.specs.Load.{sent_element}
+use Rattle.cell_tx.specs.Sent.{Elements, prefix_frame_sample, prefix_sent, received}
 use Rattle.finite.specs.Lists.{values_below}
 use Rattle.cs_num.specs.declared.Cpx.{Cpx}
 use Rattle.cs_num.specs.Gain.{IsGain}
 use Rattle.lte_types.specs.Timing.{IsOffset, start_of, number_at_start}
-use Rattle.cell_tx.specs.Clean.{IsCleanOf, IsClean}
+use Rattle.cell_tx.specs.Clean.{IsCleanOf, IsClean, AreGains, IsAllowed, received_of_two, IsCleanOfTwo, AreGainsOf, IsAllowedBy}
+use Rattle.cell_tx.specs.Emission.{received_by, IsCleanBy}
 
--- the plans that can be sent are those with a block of system information in its ranges in which no condition fails
+-- the plans that a carrier can send are those with a block of system information in its ranges in which no condition
+-- fails
 abbrev pub AcceptedAreSendable : Type 0
-AcceptedAreSendable = (plan : CellPlan) → (IsValid plan.sib1 × (plan_refusal plan ≡ None)) ↔ IsSendable plan
+AcceptedAreSendable =
+    (carrier : Carrier) (plan : CellPlan) →
+    (IsValid plan.sib1 × (refusal_of carrier plan ≡ None)) ↔ IsSendableBy carrier plan
+
+-- what any carrier can send one antenna port can
+abbrev pub OnePortSendsAll : Type 0
+OnePortSendsAll = (carrier : Carrier) (plan : CellPlan) → IsSendableBy carrier plan → IsSendable plan
 
 -- where each coded bit is sent the block can be resolved, whatever its text is
 abbrev pub WholeBlocksAreResolvable : Type 0
@@ -48,12 +58,16 @@ abbrev pub FramesBeginAtStart : Type 0
 FramesBeginAtStart = (prefix : Prefix) (grid : Elements) (sfn offset j i : ℕ) → sfn ≤ 1023 → IsOffset offset → i < frame_length →
     prefix_sent prefix grid sfn (start_of offset + frame_length * j + i + offset) ≡ prefix_frame_sample prefix grid ((number_at_start sfn offset + j) % 1024) i
 
--- an element has components of size at most 127, and size at most 128
+-- an element of any port, with load or without, has components of size at most 127, and size at most 128
 abbrev pub ElementsAreWithin : Type 0
-ElementsAreWithin = (port : Port) (plan : CellPlan) (sfn subframe symbol k : ℕ) → IsWithin 127 (port_element port plan sfn subframe symbol k)
+ElementsAreWithin =
+    (load : Option ℕ) (port : Port) (plan : CellPlan) (sfn subframe symbol k : ℕ) →
+    IsWithin 127 (sent_element load port plan sfn subframe symbol k)
 
 abbrev pub ElementsAreSmall : Type 0
-ElementsAreSmall = (port : Port) (plan : CellPlan) (sfn subframe symbol k : ℕ) → square (port_element port plan sfn subframe symbol k) ≤ 128 * 128
+ElementsAreSmall =
+    (load : Option ℕ) (port : Port) (plan : CellPlan) (sfn subframe symbol k : ℕ) →
+    square (sent_element load port plan sfn subframe symbol k) ≤ 128 * 128
 
 -- where no element has more, no sample has a size above 1,153
 abbrev pub SmallElementsMakeSmallSamples : Type 0
@@ -62,11 +76,17 @@ SmallElementsMakeSmallSamples =
 
 -- so has no sample of a cell
 abbrev pub SamplesAreSmall : Type 0
-SamplesAreSmall = (port : Port) (plan : CellPlan) (sfn i : ℕ) → square (sent (port_element port plan) sfn i) ≤ 1153 * 1153
+SamplesAreSmall =
+    (load : Option ℕ) (port : Port) (plan : CellPlan) (sfn i : ℕ) →
+    square (prefix_sent (port_prefix port) (sent_element load port plan) sfn i) ≤ 1153 * 1153
+
+-- values, each with an error, as samples
+abbrev pub values_with : ℕ → (ℕ → Cpx) → (ℕ → Cpx) → List Sample
+values_with count values errors = values_below count (λ i. sample_of (plus (values i) (errors i)))
 
 -- samples that are received of a sequence, each with an error
 abbrev pub received_with : (ℕ → Cpx) → ℕ → ℕ → Cpx → (ℕ → Cpx) → List Sample
-received_with sequence offset count gain errors = values_below count (λ i. sample_of (plus (times gain (sequence (i + offset))) (errors i)))
+received_with sequence offset count gain errors = values_with count (λ i. times gain (sequence (i + offset))) errors
 
 -- with any errors within the bound they are a clean recording of the sequence
 abbrev pub ReceivedWithErrorsIsClean : Type 0
@@ -83,3 +103,51 @@ ReceivedWithErrorsFits = (clean gain error : Cpx) (eps : ℕ) → square clean �
 abbrev pub ReceivedIsClean : Type 0
 ReceivedIsClean = (plan : CellPlan) (sfn offset count : ℕ) (gain : Cpx) → sfn ≤ 1023 → IsOffset offset → IsGain gain →
     IsClean (values_below count (λ i. sample_of (received plan sfn offset gain i))) plan sfn offset gain 0
+
+-- ---- two antenna ports
+
+-- samples that are received of two sequences, each with an error
+abbrev pub received_of_two_with : (ℕ → Cpx) → (ℕ → Cpx) → ℕ → ℕ → Cpx → Cpx → (ℕ → Cpx) → List Sample
+received_of_two_with first second offset count gain other errors =
+    values_with count (received_of_two first second offset gain other) errors
+
+-- with any errors within the bound they are a clean recording of both sequences
+abbrev pub ReceivedOfTwoIsClean : Type 0
+ReceivedOfTwoIsClean =
+    (first second : ℕ → Cpx) (offset count : ℕ) (gain other : Cpx) (eps : ℕ) (errors : ℕ → Cpx) →
+    IsOffset offset → AreGains gain other →
+    IsAllowed gain other eps → ((i : ℕ) → i < count → IsWithin eps (errors i)) →
+    IsCleanOfTwo first second (received_of_two_with first second offset count gain other errors) offset gain other eps
+
+-- where no sample of either has a size above 1,153, what is received without errors has components of at most 32,284
+abbrev pub ReceivedOfTwoIsSmall : Type 0
+ReceivedOfTwoIsSmall =
+    (first second gain other : Cpx) → square first ≤ 1153 * 1153 → square second ≤ 1153 * 1153 → AreGains gain other →
+    IsWithin 32284 (plus (times gain first) (times other second))
+
+-- and with errors of at most 32,293, so that they fit 16 bits
+abbrev pub ReceivedOfTwoFits : Type 0
+ReceivedOfTwoFits =
+    (first second gain other error : Cpx) (eps : ℕ) →
+    square first ≤ 1153 * 1153 → square second ≤ 1153 * 1153 → AreGains gain other →
+    IsAllowed gain other eps → IsWithin eps error →
+    IsWithin 32293 (plus (plus (times gain first) (times other second)) error)
+
+-- ---- a carrier
+
+-- what is received of an emission with any errors within the bound is a clean recording of it
+abbrev pub EmittedIsClean : Type 0
+EmittedIsClean =
+    (carrier : Carrier) (load : Option ℕ) (plan : CellPlan) (sfn offset count : ℕ) (gains : List Cpx) (eps : ℕ)
+    (errors : ℕ → Cpx) →
+    sfn ≤ 1023 → IsOffset offset → AreGainsOf carrier gains → IsAllowedBy carrier gains eps →
+    ((i : ℕ) → i < count → IsWithin eps (errors i)) →
+    IsCleanBy carrier load (values_with count (received_by carrier load plan sfn offset gains) errors)
+    plan sfn offset gains eps
+
+-- and where there are none its components are at most 32,284
+abbrev pub EmittedIsSmall : Type 0
+EmittedIsSmall =
+    (carrier : Carrier) (load : Option ℕ) (plan : CellPlan) (sfn offset : ℕ) (gains : List Cpx) (i : ℕ) →
+    AreGainsOf carrier gains →
+    IsWithin 32284 (received_by carrier load plan sfn offset gains i)

@@ -8,7 +8,9 @@ pub mod Control
 pub mod Shared
 pub mod Grid
 pub mod Sent
+pub mod Load
 pub mod Rows
 pub mod Sending
 pub mod Clean
+pub mod Emission
 pub mod Laws

@@ -1,35 +1,38 @@
 -- What the code makes of a frame, part by part. (own)
-use Rattle.std.specs.Prelude.{ℕ, ◌+◌, ◌-◌, ◌*◌, ◌/◌, ◌%◌, ◌<◌, ◌≤◌, ◌≡◌, nat_eq, if◌then◌else◌, Option, Some, None, List, length, slice_index_or}
+use Rattle.std.specs.Prelude.{ℕ, ◌+◌, ◌-◌, ◌*◌, ◌/◌, ◌%◌, ◌<◌, ◌≤◌, ◌≡◌, Bool, nat_eq, if◌then◌else◌, Option, Some, None, List, length, slice_index_or}
 use Rattle.finite.specs.Lists.{values_below}
 use Rattle.cs_num.specs.declared.Cpx.{Cpx}
 use Rattle.cs_num.specs.declared.Sample.{Sample}
 use Rattle.cs_num.specs.Complex.{nothing, silence, value_at, sample_of}
-use Rattle.lte_types.specs.Numerology.{frame_length, slot_length, useful_length, normal, symbol_step, symbol_of}
+use Rattle.lte_types.specs.declared.numerology.Prefix.{Prefix}
+use Rattle.lte_types.specs.Numerology.{frame_length, slot_length, useful_length, symbol_step, symbols_of_slot, symbol_of}
 use Rattle.lte_types.specs.declared.frame.Half.TheVariants.{Zero, Five}
 use Rattle.sync_seq.specs.Primary.{pss_list}
 use Rattle.sync_seq.specs.Secondary.{sss_list}
-use Rattle.crs.specs.Reference.{reference_at}
+use Rattle.gold.specs.Gold.{gold_bit}
 use Rattle.grid_map.specs.declared.Place.{Place}
 use Rattle.grid_map.specs.Place.{place, index_in}
 use Rattle.grid_map.specs.Broadcast.{pbch_places}
 use Rattle.grid_map.specs.Control.{pcfich_places}
+use Rattle.grid_map.specs.LongBroadcast.{long_places}
 use Rattle.cell_tx.specs.declared.antenna.Port.{Port}
-use Rattle.cell_tx.specs.declared.antenna.Port.TheVariants.{Only}
+use Rattle.cell_tx.specs.declared.antenna.Port.TheVariants.{Only, First, Second, Long}
 use Rattle.cell_tx.specs.declared.cell.CellPlan.{CellPlan}
 use Rattle.cell_tx.specs.declared.points.PlaceTable.{PlaceTable}
 use Rattle.cell_tx.specs.declared.layout.Layout.{Layout}
 use Rattle.cell_tx.specs.declared.layout.Carried.{Carried}
 use Rattle.cell_tx.specs.declared.layout.Versions.{Versions}
-use Rattle.cell_tx.specs.Ports.{is_two, sent_point, is_own_reference, is_other_reference}
+use Rattle.cell_tx.specs.Ports.{is_two, has_control, sent_point, is_own_reference, is_other_reference, port_reference}
 use Rattle.cell_tx.specs.Control.{indicator_point, control_places, control_point}
 use Rattle.cell_tx.specs.Shared.{assigned_places, shared_point}
-use Rattle.cell_tx.specs.Grid.{is_broadcast, broadcast_value, is_one_of, is_indicator, indicator_value, is_control, control_value, is_shared, shared_value}
-use Rattle.cell_tx.specs.Sent.{Elements, frame_sample}
+use Rattle.cell_tx.specs.Load.{is_signal_symbol, load_c_init, load_point}
+use Rattle.cell_tx.specs.Grid.{has_broadcast, broadcast_value, is_one_of, is_indicator, indicator_value, is_control, control_value, is_shared, shared_value}
+use Rattle.cell_tx.specs.Sent.{Elements, prefix_frame_sample}
 
 -- what a port sends at a reference place of a slot, its own or the other port's; none at every other place
 abbrev pub port_reference_if : Port → ℕ → ℕ → ℕ → ℕ → Option Cpx
 port_reference_if port identity slot symbol k =
-    if is_own_reference port identity symbol k then Some (reference_at identity slot symbol k)
+    if is_own_reference port identity symbol k then Some (port_reference port identity slot symbol k)
     else (if is_other_reference port identity symbol k then Some nothing else None)
 
 -- with one antenna port
@@ -41,10 +44,31 @@ abbrev pub value_in : Port → List Place → List Cpx → Place → Option Cpx
 value_in port places points p =
     if is_one_of places p then Some (sent_point port (value_at points) (index_in places p)) else None
 
+-- the places of the broadcast channel, by the symbols of subframe 0, or with the extended prefix by those of slot 1
+abbrev pub broadcast_places : Port → ℕ → List Place
+broadcast_places Only identity = pbch_places identity
+broadcast_places First identity = pbch_places identity
+broadcast_places Second identity = pbch_places identity
+broadcast_places Long identity = long_places identity
+
+-- a symbol of a subframe is in that subframe, or slot
+abbrev pub may_broadcast : Port → ℕ → ℕ → Bool
+may_broadcast Only subframe symbol = nat_eq subframe 0
+may_broadcast First subframe symbol = nat_eq subframe 0
+may_broadcast Second subframe symbol = nat_eq subframe 0
+may_broadcast Long subframe symbol = nat_eq (2 * subframe + symbol / 6) 1
+
+-- the number there of a symbol of a subframe
+abbrev pub broadcast_symbol : Port → ℕ → ℕ
+broadcast_symbol Only symbol = symbol
+broadcast_symbol First symbol = symbol
+broadcast_symbol Second symbol = symbol
+broadcast_symbol Long symbol = symbol % 6
+
 -- the value of a channel at a place of a subframe; none at every other place
 abbrev pub broadcast_if : Port → CellPlan → ℕ → ℕ → ℕ → ℕ → Option Cpx
 broadcast_if port plan sfn subframe symbol k =
-    if is_broadcast plan.identity subframe symbol k then Some (broadcast_value port plan sfn symbol k) else None
+    if has_broadcast port plan.identity subframe symbol k then Some (broadcast_value port plan sfn symbol k) else None
 
 abbrev pub indicator_if : Port → CellPlan → ℕ → ℕ → ℕ → Option Cpx
 indicator_if port plan subframe symbol k =
@@ -58,6 +82,29 @@ abbrev pub shared_if : Port → CellPlan → ℕ → ℕ → ℕ → ℕ → Opt
 shared_if port plan sfn subframe symbol k =
     if is_shared port plan sfn subframe symbol k then Some (shared_value port plan sfn symbol k) else None
 
+-- the value of the first of the three; none where there is none of them
+abbrev pub system_if : Port → CellPlan → ℕ → ℕ → ℕ → ℕ → Option Cpx
+system_if port plan sfn subframe symbol k =
+    if is_indicator plan symbol k then Some (indicator_value port plan subframe symbol k)
+    else (if is_control plan sfn subframe symbol k then Some (control_value port plan sfn symbol k)
+    else (if is_shared port plan sfn subframe symbol k then Some (shared_value port plan sfn symbol k) else None))
+
+-- and of the first of all channels
+abbrev pub channel_if : Port → CellPlan → ℕ → ℕ → ℕ → ℕ → Option Cpx
+channel_if port plan sfn subframe symbol k =
+    if has_broadcast port plan.identity subframe symbol k then Some (broadcast_value port plan sfn symbol k)
+    else (if has_control port then system_if port plan sfn subframe symbol k else None)
+
+-- what is sent at a place without signals and channels: load, but for the symbols of the synchronisation signals
+abbrev pub open_value : Option ℕ → Port → ℕ → ℕ → ℕ → ℕ → Cpx
+open_value None port sfn subframe symbol k = nothing
+open_value (Some load) port sfn subframe symbol k =
+    if is_signal_symbol port subframe symbol then nothing else load_point load port sfn subframe symbol k
+
+-- the bits of a load in a frame, 2,016 for each subframe
+unfoldable pub load_bits : ℕ → Port → ℕ → List Bool
+load_bits load port sfn = values_below 20160 (λ n. gold_bit (load_c_init load port sfn (n / 2016)) (n % 2016))
+
 -- a table has for each place of a subframe its number in a list of places, and their count where it is not in it
 pub record IsTableOf (places : List Place) (table : PlaceTable) : Type 0 where
   pub count : table.count ≡ length places
@@ -69,7 +116,7 @@ pub record IsLayout (port : Port) (plan : CellPlan) (layout : Layout) : Type 0 w
   pub primary : layout.primary ≡ pss_list (plan.identity % 3)
   pub zero : layout.zero ≡ sss_list (plan.identity / 3) (plan.identity % 3) Zero
   pub five : layout.five ≡ sss_list (plan.identity / 3) (plan.identity % 3) Five
-  pub broadcast : IsTableOf (pbch_places plan.identity) layout.broadcast
+  pub broadcast : IsTableOf (broadcast_places port plan.identity) layout.broadcast
   pub indicator : IsTableOf (pcfich_places plan.identity) layout.indicator
   pub indicators : layout.indicators ≡ values_below 10 (λ subframe. values_below 16 (indicator_point plan subframe))
   pub control : IsTableOf (control_places plan) layout.control
@@ -90,17 +137,20 @@ pub record AreVersions (plan : CellPlan) (versions : Versions) : Type 0 where
   pub fourth : IsCarried plan 6 versions.fourth
 
 -- the sample of the useful part of its symbol that sample i of a slot repeats or is
-abbrev pub useful_place : ℕ → ℕ
-useful_place i = (i + (useful_length - normal.first) - symbol_step normal * symbol_of normal i) % useful_length
+abbrev pub useful_place : Prefix → ℕ → ℕ
+useful_place prefix i = (i + (useful_length - prefix.first) - symbol_step prefix * symbol_of prefix i) % useful_length
 
--- the first sample of symbol number n of a frame's 140, and of what follows the last
-abbrev pub first_sample : ℕ → ℕ
-first_sample n =
-    slot_length * (n / 7) + (if nat_eq (n % 7) 0 then 0 else normal.first - normal.other + symbol_step normal * (n % 7))
+-- where symbol l of a slot begins, with its prefix
+abbrev pub first_in_slot : Prefix → ℕ → ℕ
+first_in_slot prefix l = if nat_eq l 0 then 0 else prefix.first - prefix.other + symbol_step prefix * l
+
+-- the first sample of symbol number n of a frame's 140, or 120, and of what follows the last
+abbrev pub first_sample : Prefix → ℕ → ℕ
+first_sample prefix n = slot_length * (n / symbols_of_slot prefix) + first_in_slot prefix (n % symbols_of_slot prefix)
 
 -- the samples of the frame with this number
-unfoldable pub frame_samples : Elements → ℕ → List Sample
-frame_samples grid sfn = values_below frame_length (λ i. sample_of (frame_sample grid sfn i))
+unfoldable pub frame_samples : Prefix → Elements → ℕ → List Sample
+frame_samples prefix grid sfn = values_below frame_length (λ i. sample_of (prefix_frame_sample prefix grid sfn i))
 
 -- the samples of a list from first on up to last are these
 abbrev pub HasSamples : List Sample → (ℕ → Cpx) → ℕ → ℕ → Type 0

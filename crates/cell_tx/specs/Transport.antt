@@ -60,9 +60,13 @@ assigned_bits plan = assigned_bits_of false plan
 abbrev pub coded_count : CellPlan → ℕ
 coded_count plan = 3 * (checked_size plan + 4)
 
--- each of them is sent at least once, with one antenna port
+-- each of them is sent at least once, with two antenna ports or one
+abbrev pub is_whole_of : Bool → CellPlan → Bool
+is_whole_of two plan = nat_le (coded_count plan) (assigned_bits_of two plan)
+
+-- with one
 abbrev pub is_whole : CellPlan → Bool
-is_whole plan = nat_le (coded_count plan) (assigned_bits plan)
+is_whole plan = is_whole_of false plan
 
 -- a word of K bits can be resolved by so many bits of the reading, from each redundancy version on
 unfoldable pub is_resolvable_by : ℕ → ℕ → List Bool → Bool

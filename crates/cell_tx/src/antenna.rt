@@ -1,19 +1,88 @@
 //! Antenna ports.
 
-/// An antenna port of a cell: its only one, or one of two with transmit diversity (TS 36.211 section 6.3.4.3).
+use lte_types::Carrier;
+
+/// An antenna port of a cell: its only one, with either cyclic prefix, or one of two with transmit diversity
+/// (TS 36.211 sections 6.3.4.3 and 6.12).
 #[derive(Clone, Copy, PartialEq, Eq)]
 pub enum Port {
-    /// Port 0 of a cell with one port.
+    /// Port 0 of a cell with one port and the normal cyclic prefix.
     Only,
     /// Port 0 of a cell with two ports.
     First,
     /// Port 1 of a cell with two ports.
     Second,
+    /// Port 0 of a cell with the extended cyclic prefix.
+    Long,
 }
 
 impl Port {
-    ghost use Rattle.std.specs.Prelude.{◌≡◌};
-    ghost use Rattle.cell_tx.specs.Ports.{is_two, port_mask};
+    ghost use Rattle.std.specs.Prelude.{◌≡◌, ◌≤◌};
+    ghost use Rattle.cell_tx.specs.Ports.{carrier_of, port_symbols, port_block_bits, has_control, port_number, is_two, port_mask};
+
+    /// The carrier that has it.
+    pub fn carrier(self) -> Carrier
+        ensures { result ≡ carrier_of self }
+    {
+        match self {
+            Port::Only => Carrier::OnePort,
+            Port::First => Carrier::TwoPorts,
+            Port::Second => Carrier::TwoPorts,
+            Port::Long => Carrier::LongPrefix,
+        }
+    }
+
+    // The symbols of a slot: half of those of a subframe.
+    pub(crate) fn symbols(self) -> u8
+        ensures value { result ≡ port_symbols self }
+        ensures low { 6 ≤ result }
+        ensures high { result ≤ 7 }
+    {
+        match self {
+            Port::Only => 7,
+            Port::First => 7,
+            Port::Second => 7,
+            Port::Long => 6,
+        }
+    }
+
+    // The bits of the broadcast channel in a frame (TS 36.211 section 6.6.1).
+    pub(crate) fn block_bits(self) -> usize
+        ensures value { result ≡ port_block_bits self }
+        ensures bound { result ≤ 480 }
+    {
+        match self {
+            Port::Only => 480,
+            Port::First => 480,
+            Port::Second => 480,
+            Port::Long => 432,
+        }
+    }
+
+    // The control region and system information are sent. (own)
+    pub(crate) fn has_control(self) -> bool
+        ensures { result ≡ has_control self }
+    {
+        match self {
+            Port::Only => true,
+            Port::First => true,
+            Port::Second => true,
+            Port::Long => false,
+        }
+    }
+
+    // Its number.
+    pub(crate) fn number(self) -> u8
+        ensures value { result ≡ port_number self }
+        ensures bound { result ≤ 1 }
+    {
+        match self {
+            Port::Only => 0,
+            Port::First => 0,
+            Port::Second => 1,
+            Port::Long => 0,
+        }
+    }
 
     // The cell has two ports.
     pub(crate) fn is_two(self) -> bool
@@ -23,6 +92,7 @@ impl Port {
             Port::Only => false,
             Port::First => true,
             Port::Second => true,
+            Port::Long => false,
         }
     }
 
@@ -34,6 +104,7 @@ impl Port {
             Port::Only => 0,
             Port::First => 0xffff,
             Port::Second => 0xffff,
+            Port::Long => 0,
         }
     }
 }

@@ -17,16 +17,10 @@ use cs_num::Cpx;
 use grid_map::pbch_c_init;
 use lte_types::{Bandwidth, CellId, Duration, Resource, Sfn};
 
-/// The word of the master block in a frame of a cell with 6 resource blocks: its 24 bits, by the duration and the
-/// resource of the PHICH, the number of the frame and the 10 spare bits, and their check with the mask of the
-/// antenna ports (TS 36.331 section 6.2.2, TS 36.212 section 5.3.1.1).
-pub fn master_word(
-    mask: u16,
-    duration: Duration,
-    resource: Resource,
-    sfn: Sfn,
-    spare: u16,
-) -> Bits<40>
+// The word of the master block in a frame of a cell with 6 resource blocks: its 24 bits, by the duration and the
+// resource of the PHICH, the number of the frame and the 10 spare bits, and their check with the mask of the
+// antenna ports (TS 36.331 section 6.2.2, TS 36.212 section 5.3.1.1).
+fn master_word(mask: u16, duration: Duration, resource: Resource, sfn: Sfn, spare: u16) -> Bits<40>
     ensures { result ≡ master_word_of mask duration resource sfn spare }
 {
     let mut bits = [false; 40];
@@ -58,10 +52,10 @@ fn scrambled<const N: usize>(coded: &[[bool; 3]; N], scrambling: &[bool], n: usi
     match_out(coded, n) != scrambling[n]
 }
 
-/// Writes the points of the broadcast channel of a cell that carry bits of a word, coded, matched and scrambled, from
-/// bit `first` of the endless sequence on, two a point (TS 36.212 section 5.3.1, TS 36.211 section 6.6). The sequence
-/// has 1,920 bits at most.
-pub fn fill_broadcast(id: CellId, word: &Bits<40>, first: usize, points: &mut [Cpx])
+// Writes the points of the broadcast channel of a cell that carry bits of a word, coded, matched and scrambled, from
+// bit `first` of the endless sequence on, two a point (TS 36.212 section 5.3.1, TS 36.211 section 6.6). The sequence
+// has 1,920 bits at most.
+fn fill_broadcast(id: CellId, word: &Bits<40>, first: usize, points: &mut [Cpx])
     requires { first + 2 * length points.old ≤ 1920 }
     ensures { points.new ≡ values_below (length points.old)
         (point_of (λ i. scrambled_bit (c_init_of id) word.now (first + i))) }
@@ -79,12 +73,13 @@ pub fn fill_broadcast(id: CellId, word: &Bits<40>, first: usize, points: &mut [C
     }
 }
 
-/// The 240 points of the broadcast channel in a frame of a cell with this port.
+/// The 240 points of the broadcast channel in a frame of a cell with this port; with the extended prefix the first 216
+/// of them are sent.
 pub(crate) fn broadcast_points(cell: &Cell, port: Port, sfn: Sfn) -> [Cpx; 240]
     ensures { result ≡ values_below 240 (port_point port cell.now sfn) }
 {
     let mut points = [Cpx::ZERO; 240];
-    let first = 480 * (sfn.value() % 4) as usize;
+    let first = port.block_bits() * (sfn.value() % 4) as usize;
     fill_broadcast(cell.id(), &word_of(cell, port, sfn), first, &mut points);
     points
 }

@@ -6,18 +6,20 @@ ghost use Rattle.lte_types.specs.Ranges.{IsValid};
 ghost use Rattle.dci.specs.Sizes.{size_of};
 ghost use Rattle.sib1.specs.Text.{text_of};
 ghost use Rattle.turbo_code.specs.Table.{IsSize};
-ghost use Rattle.cell_tx.specs.Transport.{block_size, has_block, is_whole, is_resolvable};
+ghost use Rattle.cell_tx.specs.Transport.{block_size, has_block, is_whole_of, is_resolvable};
+ghost use Rattle.cell_tx.specs.Plan.{is_enough};
 
 use crate::CellError;
 use crate::shared::{block_fills, coded_block};
 use grid_map::block_places;
-use lte_types::{Assignment, CellId, Cfi, Duration, Resource, Sib1};
+use lte_types::{Assignment, Carrier, CellId, Cfi, Duration, Resource, Sib1};
 use std::marker::Model;
 use turbo_code::Coded;
 use uper::Writer;
 
-/// What a cell is to send. Its master block has bandwidth n6, one antenna port, and the upper bits
-/// of the frame's number.
+/// What a cell is to send, by whichever carrier. Its master block has bandwidth n6, the antenna ports of the carrier
+/// in the mask of its check, and the upper bits of the frame's number. With the extended cyclic prefix only the
+/// identity, the PHICH fields and the spare bits are sent: it has no control region and no system information (own).
 #[derive(Drop)]
 pub struct CellPlan {
     /// The physical-layer cell identity, 0 to 503 (TS 36.211 section 6.11).
@@ -103,14 +105,14 @@ fn text_of(fields: &Sib1, size: u16) -> Option<Writer>
     }
 }
 
-// Whether the assigned resource blocks carry each coded bit of the transport block and its check: three
-// streams, each with four bits of its tails.
-fn is_sent_whole(plan: &CellPlan, size: u16) -> bool
+// Whether the assigned resource blocks carry each coded bit of the transport block and its check, with two antenna
+// ports or one: three streams, each with four bits of its tails.
+fn is_sent_whole(two: bool, plan: &CellPlan, size: u16) -> bool
     requires blocks { plan.now.blocks ≤ 6 }
     requires size { block_size plan.now ≡ size }
-    ensures { result ≡ is_whole plan.now }
+    ensures { result ≡ is_whole_of two plan.now }
 {
-    3 * (size as usize + 24 + 4) <= 2 * plan.assigned_places(false)
+    3 * (size as usize + 24 + 4) <= 2 * plan.assigned_places(two)
 }
 
 // Whether the plan has a transport block that can be resolved by the bits which these blocks carry.
@@ -131,16 +133,21 @@ fn has_resolvable_block(plan: &CellPlan, size: u16) -> bool
     }
 }
 
-// Whether the bits that are sent of the transport block are enough.
-fn is_sent_enough(plan: &CellPlan, size: u16) -> bool
+// Whether the bits that a carrier sends of the transport block are enough.
+fn is_sent_enough(carrier: Carrier, plan: &CellPlan, size: u16) -> bool
     requires valid { IsValid plan.now.sib1 }
     requires blocks { plan.now.blocks ≤ 6 }
     requires size { block_size plan.now ≡ size }
     requires row { IsSize (size + 24) }
     requires room { size ≤ 1000 }
-    ensures { result ≡ (is_whole plan.now || (has_block plan.now && is_resolvable plan.now)) }
+    ensures { result ≡ is_enough carrier plan.now }
 {
-    is_sent_whole(plan, size) || has_resolvable_block(plan, size)
+    match carrier {
+        Carrier::OnePort | Carrier::LongPrefix => {
+            is_sent_whole(false, plan, size) || has_resolvable_block(plan, size)
+        }
+        Carrier::TwoPorts => is_sent_whole(true, plan, size),
+    }
 }
 
 impl Model for Cell {
@@ -157,28 +164,34 @@ impl Model for Cell {
 
 impl Cell {
     ghost use Rattle.dci.specs.Sizes.{size_of};
-    ghost use Rattle.cell_tx.specs.Plan.{IsSendable, plan_refusal};
+    ghost use Rattle.cell_tx.specs.Plan.{IsSendable, IsSendableBy, plan_refusal, refusal_of};
     ghost use Rattle.cell_tx.specs.Shared.{IsCoded};
 
-    /// The cell of a plan whose SystemInformationBlockType1 is in its ranges, or the first failed condition:
+    /// The cell of a plan whose SystemInformationBlockType1 is in its ranges, to be sent by a carrier, or the first
+    /// failed condition:
     ///
     /// - `Identity`: at most 503.
     /// - `Spare`: at most 1023.
     /// - `Cfi`: 2 or 3.
     /// - `Assignment`: `blocks` is at least 1, and `start` + `blocks` at most 6.
     /// - `Mcs`: `column` is 2 or 3, and its table has a size for `mcs`.
-    /// - `Punctured`: the assigned blocks carry each coded bit at least once, or a transport block that can be
-    ///   resolved by the bits which they carry, from each redundancy version on (`erasure::fills`). They carry
-    ///   204 bits each with `cfi` 2 and 180 with 3, and a block of so many bits and its check has three bits for
-    ///   each of them and twelve more. There is a block to be resolved where the last three conditions hold.
+    /// - `Punctured`: the assigned blocks carry each coded bit at least once, or, but for two antenna ports, a
+    ///   transport block that can be resolved by the bits which they carry, from each redundancy version on
+    ///   (`erasure::fills`). They carry 204 bits each with `cfi` 2 and 180 with 3, and beside the reference signals
+    ///   of two ports 192 and 168; a block of so many bits and its check has three bits for each of them and twelve
+    ///   more. There is a block to be resolved where the last three conditions hold.
     /// - `Duplex`: there is no TDD-Config.
     /// - `Extension`: there is no extension.
     /// - `Sib1Long`: the text of SystemInformationBlockType1 fits the size.
-    pub fn new(plan: CellPlan) -> Result<Cell, CellError>
+    ///
+    /// With the extended cyclic prefix the conditions are those of one antenna port, though system information is not
+    /// sent. (own)
+    pub fn of(carrier: Carrier, plan: CellPlan) -> Result<Cell, CellError>
         requires { IsValid plan.sib1 }
-        ensures refusal { MatchResult result (λ _. plan_refusal plan ≡ None) (λ cause. plan_refusal plan ≡ Some cause) }
+        ensures refusal { MatchResult result (λ _. refusal_of carrier plan ≡ None)
+            (λ cause. refusal_of carrier plan ≡ Some cause) }
         ensures plan { IfOk result (λ cell. cell ≡ plan) }
-        ensures sendable { IfOk result IsSendable }
+        ensures sendable { IfOk result (λ cell. IsSendableBy carrier cell) }
     {
         if CellId::new(plan.identity).is_none() {
             return Err(CellError::Identity);
@@ -195,7 +208,7 @@ impl Cell {
         let Some(size) = size_of(&plan) else {
             return Err(CellError::Mcs);
         };
-        if !is_sent_enough(&plan, size) {
+        if !is_sent_enough(carrier, &plan, size) {
             return Err(CellError::Punctured);
         }
         if plan.sib1.tdd.is_some() {
@@ -209,6 +222,17 @@ impl Cell {
         };
         let coded = coded_block(text.bits(), size);
         Ok(Cell { plan, coded })
+    }
+
+    /// The same with one antenna port and the normal cyclic prefix.
+    pub fn new(plan: CellPlan) -> Result<Cell, CellError>
+        requires { IsValid plan.sib1 }
+        ensures refusal { MatchResult result (λ _. plan_refusal plan ≡ None)
+            (λ cause. plan_refusal plan ≡ Some cause) }
+        ensures plan { IfOk result (λ cell. cell ≡ plan) }
+        ensures sendable { IfOk result IsSendable }
+    {
+        Cell::of(Carrier::OnePort, plan)
     }
 
     /// The plan.

@@ -1,9 +1,10 @@
 //! What the channels of a frame carry at each place.
 
 ghost use Rattle.std.specs.Prelude.{◌≡◌, ◌<◌};
-ghost use Rattle.cell_tx.specs.Grid.{has_system_information, port_channel_value};
-ghost use Rattle.cell_tx.specs.Rows.{broadcast_if, indicator_if, control_if, shared_if};
+ghost use Rattle.cell_tx.specs.Grid.{has_system_information};
+ghost use Rattle.cell_tx.specs.Rows.{may_broadcast, broadcast_symbol, broadcast_if, indicator_if, control_if, shared_if, system_if, channel_if};
 
+use crate::Port;
 use crate::grid::Signals;
 use crate::points::value_at;
 use cs_num::Cpx;
@@ -17,20 +18,50 @@ fn has_system_information(sfn: Sfn, subframe: u8) -> bool
     subframe == 5 && sfn.value() % 2 == 0
 }
 
+// Whether a symbol of a subframe is in the subframe, or slot, of the broadcast channel.
+fn may_broadcast(port: Port, subframe: u8, symbol: u8) -> bool
+    requires subframe { subframe < 10 }
+    requires symbol { symbol < 14 }
+    ensures { result ≡ may_broadcast port subframe symbol }
+{
+    match port {
+        Port::Only => subframe == 0,
+        Port::First => subframe == 0,
+        Port::Second => subframe == 0,
+        Port::Long => 2 * subframe + symbol / 6 == 1,
+    }
+}
+
+// The number there of a symbol of a subframe.
+fn broadcast_symbol(port: Port, symbol: u8) -> u8
+    requires { symbol < 14 }
+    ensures value { result ≡ broadcast_symbol port symbol }
+    ensures small { result < 14 }
+{
+    match port {
+        Port::Only => symbol,
+        Port::First => symbol,
+        Port::Second => symbol,
+        Port::Long => symbol % 6,
+    }
+}
+
 // The value of the broadcast channel at a place of a subframe.
 fn broadcast_at(signals: &Signals, subframe: u8, here: Place) -> Option<Cpx>
+    requires subframe { subframe < 10 }
     requires symbol { here.symbol < 14 }
     requires k { here.k < 72 }
     ensures { result ≡ broadcast_if signals.now.port signals.now.cell.now signals.now.sfn subframe here.symbol here.k }
 {
-    if subframe > 0 {
+    if !may_broadcast(signals.port, subframe, here.symbol) {
         return None;
     }
+    let symbol = broadcast_symbol(signals.port, here.symbol);
     value_at(
         signals.port,
         &signals.layout.broadcast,
         &signals.broadcast,
-        here,
+        Place { symbol, k: here.k },
     )
 }
 
@@ -71,22 +102,35 @@ fn shared_at(signals: &Signals, subframe: u8, here: Place) -> Option<Cpx>
     value_at(signals.port, &signals.layout.shared, points, here)
 }
 
-/// What the channels have at a place of a subframe: the value of the first that is there, and 0 where none is.
-pub(crate) fn channel_value(signals: &Signals, subframe: u8, here: Place) -> Cpx
+// What PCFICH, PDCCH and PDSCH have at a place of a subframe: the value of the first that is there.
+fn system_at(signals: &Signals, subframe: u8, here: Place) -> Option<Cpx>
     requires subframe { subframe < 10 }
     requires symbol { here.symbol < 14 }
     requires k { here.k < 72 }
-    ensures { result ≡ port_channel_value signals.now.port signals.now.cell.now signals.now.sfn
-        subframe here.symbol here.k }
+    ensures { result ≡ system_if signals.now.port signals.now.cell.now signals.now.sfn subframe here.symbol here.k }
 {
-    if let Some(value) = broadcast_at(signals, subframe, here) {
-        return value;
-    }
     if let Some(value) = indicator_at(signals, subframe, here) {
-        return value;
+        return Some(value);
     }
     if let Some(value) = control_at(signals, subframe, here) {
-        return value;
+        return Some(value);
     }
-    shared_at(signals, subframe, here).unwrap_or(Cpx::ZERO)
+    shared_at(signals, subframe, here)
+}
+
+/// What the channels have at a place of a subframe: the value of the first that is there.
+pub(crate) fn channel_at(signals: &Signals, subframe: u8, here: Place) -> Option<Cpx>
+    requires subframe { subframe < 10 }
+    requires symbol { here.symbol < 14 }
+    requires k { here.k < 72 }
+    ensures { result ≡ channel_if signals.now.port signals.now.cell.now signals.now.sfn subframe here.symbol here.k }
+{
+    if let Some(value) = broadcast_at(signals, subframe, here) {
+        return Some(value);
+    }
+    if signals.port.has_control() {
+        system_at(signals, subframe, here)
+    } else {
+        None
+    }
 }

@@ -5,18 +5,22 @@ ghost use Rattle.finite.specs.Lists.{values_below};
 ghost use Rattle.cs_num.specs.Complex.{nothing};
 ghost use Rattle.lte_types.specs.Numerology.{half_of};
 ghost use Rattle.sync_seq.specs.Secondary.{sss_at};
-ghost use Rattle.crs.specs.Reference.{reference_list};
+ghost use Rattle.crs.specs.Reference.{IsPattern, pattern_list};
 ghost use Rattle.fold128.specs.Symbol.{useful_part};
-ghost use Rattle.cell_tx.specs.Grid.{is_synchronised, secondary_value, port_element};
-ghost use Rattle.cell_tx.specs.Ports.{sent_signal};
+ghost use Rattle.std.specs.Option.{unwrap_or};
+ghost use Rattle.cell_tx.specs.declared.antenna.Port.{Port as Antenna};
+ghost use Rattle.cell_tx.specs.Grid.{is_synchronised, secondary_value};
+ghost use Rattle.cell_tx.specs.Ports.{port_symbols, port_slot, first_pattern, sent_signal};
+ghost use Rattle.cell_tx.specs.Load.{is_signal_symbol, load_point, sent_element};
 ghost use Rattle.cell_tx.specs.Block.{port_point};
-ghost use Rattle.cell_tx.specs.Rows.{port_reference_if, IsLayout, IsCarried};
+ghost use Rattle.cell_tx.specs.Rows.{port_reference_if, channel_if, open_value, load_bits as bits_of_load, IsLayout, IsCarried};
 
 use crate::block::broadcast_points;
-use crate::channels::channel_value;
+use crate::channels::channel_at;
 use crate::layout::{Carried, Layout};
+use crate::load::{LOAD_BITS, load_bits};
 use crate::{Cell, Port};
-use crs::pilots;
+use crs::{Pattern, pattern_pilots, point};
 use cs_num::Cpx;
 use fold128::synth;
 use grid_map::Place;
@@ -28,20 +32,24 @@ use sync_seq::{MIDDLE, amplitude, is_middle};
 pub(crate) struct Signals<'a> {
     pub cell: &'a Cell,
     pub port: Port,
+    pub load: Option<u32>,
     pub sfn: Sfn,
     pub layout: &'a Layout,
     pub carried: &'a Carried,
     pub broadcast: [Cpx; 240],
+    pub load_bits: [bool; LOAD_BITS],
     ghost layout_is: { IsLayout port cell.now layout.now },
     ghost carried_is: { IsCarried cell.now sfn carried.now },
     ghost broadcast_is: { broadcast ≡ values_below 240 (port_point port cell.now sfn) },
+    ghost load_is: { (number : ℕ) → load ≡ Some number → load_bits ≡ bits_of_load number port sfn },
 }
 
 impl<'a> Signals<'a> {
-    /// The signals of a cell's frame at a port.
+    /// The signals of a cell's frame at a port, with a load or without.
     pub(crate) fn new(
         cell: &'a Cell,
         port: Port,
+        load: Option<u32>,
         layout: &'a Layout,
         carried: &'a Carried,
         sfn: Sfn,
@@ -50,16 +58,20 @@ impl<'a> Signals<'a> {
         requires carried { IsCarried cell.now sfn carried.now }
         ensures cell { result.cell.now ≡ cell.now }
         ensures port { result.port ≡ port }
+        ensures load { result.load ≡ load }
         ensures sfn { result.sfn ≡ sfn }
     {
         let broadcast = broadcast_points(cell, port, sfn);
+        let load_bits = load_bits(load, port, sfn);
         Signals {
             cell,
             port,
+            load,
             sfn,
             layout,
             carried,
             broadcast,
+            load_bits,
         }
     }
 }
@@ -68,8 +80,8 @@ impl<'a> Signals<'a> {
 // Port 1 has its own three subcarriers on.
 fn reference_of(port: Port, pilots: &[(u8, Cpx); 12], k: usize) -> Option<Cpx>
     requires { k < 72 }
-    ensures { (identity slot symbol : ℕ) → (symbol ≡ 0) ⊎ (symbol ≡ 4) →
-        pilots.now ≡ reference_list identity slot symbol →
+    ensures { (identity slot symbol : ℕ) → (symbol ≡ 0) ⊎ (symbol ≡ (first_pattern port).later) →
+        pilots.now ≡ pattern_list (first_pattern port) identity slot symbol →
         result ≡ port_reference_if port identity slot symbol k }
 {
     let first = pilots[0].0 as usize % 6;
@@ -78,6 +90,7 @@ fn reference_of(port: Port, pilots: &[(u8, Cpx); 12], k: usize) -> Option<Cpx>
         Port::Only => value_or(k % 6 == first, false, pilots[k / 6].1),
         Port::First => value_or(k % 6 == first, k % 6 == second, pilots[k / 6].1),
         Port::Second => value_or(k % 6 == second, k % 6 == first, pilots[k / 6].1),
+        Port::Long => value_or(k % 6 == first, false, pilots[k / 6].1),
     }
 }
 
@@ -94,6 +107,19 @@ fn value_or(own: bool, other: bool, value: Cpx) -> Option<Cpx>
     }
 }
 
+// What the reference signals of port 0 of its carrier differ in.
+fn pattern_of(port: Port) -> Pattern
+    ensures pattern { result ≡ first_pattern port }
+    ensures is { IsPattern result }
+{
+    match port {
+        Port::Only => Pattern::FIRST_PORT,
+        Port::First => Pattern::FIRST_PORT,
+        Port::Second => Pattern::FIRST_PORT,
+        Port::Long => Pattern::LONG_PREFIX,
+    }
+}
+
 // What a port sends at the reference places of a symbol of a slot, by subcarriers.
 fn references(id: CellId, port: Port, slot: u8, symbol: u8) -> [Option<Cpx>; 72]
     requires slot { slot < 20 }
@@ -101,8 +127,9 @@ fn references(id: CellId, port: Port, slot: u8, symbol: u8) -> [Option<Cpx>; 72]
     ensures { result ≡ values_below 72 (port_reference_if port id slot symbol) }
 {
     let mut row = [None; 72];
-    if symbol == 0 || symbol == 4 {
-        let pilots = pilots(id, slot, symbol);
+    let pattern = pattern_of(port);
+    if symbol == 0 || symbol == pattern.later {
+        let pilots = pattern_pilots(pattern, id, slot, symbol);
         for k in 0..72 {
             row[k] = reference_of(port, &pilots, k);
         }
@@ -148,6 +175,61 @@ fn sent_signal(port: Port, value: Cpx) -> Cpx
         Port::Only => value,
         Port::First => value,
         Port::Second => Cpx::ZERO,
+        Port::Long => value,
+    }
+}
+
+// Whether a symbol of a subframe is one of those of the synchronisation signals.
+fn is_signal_symbol(port: Port, subframe: u8, symbol: u8) -> bool
+    ensures { result ≡ is_signal_symbol port subframe symbol }
+{
+    let last = port.symbols() - 1;
+    (subframe == 0 || subframe == 5) && (symbol == last - 1 || symbol == last)
+}
+
+// The point of a load at a place of a subframe.
+fn load_point(bits: &[bool; LOAD_BITS], subframe: u8, symbol: u8, k: u8) -> Cpx
+    requires subframe { subframe < 10 }
+    requires symbol { symbol < 14 }
+    requires k { k < 72 }
+    ensures { (load sfn : ℕ) (port : Antenna) → bits.now ≡ bits_of_load load port sfn →
+        result ≡ load_point load port sfn subframe symbol k }
+{
+    let first = 2016 * subframe as usize + 2 * (72 * symbol as usize + k as usize);
+    point(bits[first], bits[first + 1])
+}
+
+// What is sent at a place without signals and channels.
+fn open_value(signals: &Signals, subframe: u8, symbol: u8, k: u8) -> Cpx
+    requires subframe { subframe < 10 }
+    requires symbol { symbol < 14 }
+    requires k { k < 72 }
+    ensures { result ≡ open_value signals.now.load signals.now.port signals.now.sfn subframe symbol k }
+{
+    match signals.load {
+        Some(_) => {
+            if is_signal_symbol(signals.port, subframe, symbol) {
+                Cpx::ZERO
+            } else {
+                load_point(&signals.load_bits, subframe, symbol, k)
+            }
+        }
+        None => Cpx::ZERO,
+    }
+}
+
+// What is sent at a place without signals: the value of a channel, where there is one.
+fn value_beside(signals: &Signals, subframe: u8, symbol: u8, k: u8) -> Cpx
+    requires subframe { subframe < 10 }
+    requires symbol { symbol < 14 }
+    requires k { k < 72 }
+    ensures { result ≡ unwrap_or
+        (channel_if signals.now.port signals.now.cell.now signals.now.sfn subframe symbol k)
+        (open_value signals.now.load signals.now.port signals.now.sfn subframe symbol k) }
+{
+    match channel_at(signals, subframe, Place { symbol, k }) {
+        Some(value) => value,
+        None => open_value(signals, subframe, symbol, k),
     }
 }
 
@@ -160,35 +242,39 @@ fn element_of(
     k: u8,
 ) -> Cpx
     requires references { references.now ≡ values_below 72
-        (port_reference_if signals.now.port signals.now.cell.now.identity (2 * subframe + symbol / 7) (symbol % 7)) }
+        (port_reference_if signals.now.port signals.now.cell.now.identity
+        (port_slot signals.now.port subframe symbol) (symbol % port_symbols signals.now.port)) }
     requires subframe { subframe < 10 }
     requires symbol { symbol < 14 }
     requires k { k < 72 }
-    ensures { result ≡ port_element signals.now.port signals.now.cell.now signals.now.sfn subframe symbol k }
+    ensures { result ≡ sent_element signals.now.load signals.now.port signals.now.cell.now signals.now.sfn
+        subframe symbol k }
 {
+    let last = signals.port.symbols() - 1;
     if let Some(value) = references[k as usize] {
         value
-    } else if is_signal(6, subframe, symbol, k) {
+    } else if is_signal(last, subframe, symbol, k) {
         sent_signal(signals.port, signals.layout.primary[k as usize - MIDDLE])
-    } else if is_signal(5, subframe, symbol, k) {
+    } else if is_signal(last - 1, subframe, symbol, k) {
         sent_signal(signals.port, secondary_of(signals, subframe, k))
     } else {
-        channel_value(signals, subframe, Place { symbol, k })
+        value_beside(signals, subframe, symbol, k)
     }
 }
 
 // The values of a symbol of a subframe.
 fn grid_of(signals: &Signals, subframe: u8, symbol: u8) -> [Cpx; 72]
     requires subframe { subframe < 10 }
-    requires symbol { symbol < 14 }
-    ensures { result ≡ values_below 72
-        (port_element signals.now.port signals.now.cell.now signals.now.sfn subframe symbol) }
+    requires symbol { symbol < 2 * port_symbols signals.now.port }
+    ensures { result ≡ values_below 72 (sent_element signals.now.load signals.now.port signals.now.cell.now
+        signals.now.sfn subframe symbol) }
 {
+    let symbols = signals.port.symbols();
     let references = references(
         signals.cell.id(),
         signals.port,
-        2 * subframe + symbol / 7,
-        symbol % 7,
+        2 * subframe + symbol / symbols,
+        symbol % symbols,
     );
     let mut grid = [Cpx::ZERO; 72];
     for k in 0..72_u8 {
@@ -197,13 +283,26 @@ fn grid_of(signals: &Signals, subframe: u8, symbol: u8) -> [Cpx; 72]
     grid
 }
 
+// The number in its subframe of a symbol of a slot.
+fn symbol_of(port: Port, slot: u8, symbol: u8) -> u8
+    requires { symbol < port_symbols port }
+    ensures value { result ≡ port_symbols port * (slot % 2) + symbol }
+    ensures fits { result < 2 * port_symbols port }
+{
+    if slot % 2 == 0 {
+        symbol
+    } else {
+        port.symbols() + symbol
+    }
+}
+
 /// The samples of the useful part of symbol `symbol` of a slot.
 pub(crate) fn useful_of(signals: &Signals, slot: u8, symbol: u8) -> [Cpx; 128]
     requires slot { slot < 20 }
-    requires symbol { symbol < 7 }
-    ensures { result ≡ useful_part (port_element signals.now.port signals.now.cell.now signals.now.sfn
-        (slot / 2) (7 * (slot % 2) + symbol)) }
+    requires symbol { symbol < port_symbols signals.now.port }
+    ensures { result ≡ useful_part (sent_element signals.now.load signals.now.port signals.now.cell.now signals.now.sfn
+        (slot / 2) (port_symbols signals.now.port * (slot % 2) + symbol)) }
 {
-    let grid = grid_of(signals, slot / 2, 7 * (slot % 2) + symbol);
+    let grid = grid_of(signals, slot / 2, symbol_of(signals.port, slot, symbol));
     synth(&grid)
 }

@@ -1,11 +1,13 @@
 //! Laws of what a cell sends.
 
-ghost use Rattle.cell_tx.specs.Laws.{AcceptedAreSendable, WholeBlocksAreResolvable, UsefulPartsStand, PrefixesRepeat, FramesFollow, FramesBeginAtStart, ElementsAreWithin, ElementsAreSmall, SmallElementsMakeSmallSamples, SamplesAreSmall, ReceivedWithErrorsIsClean, ReceivedWithErrorsFits, ReceivedIsClean};
+ghost use Rattle.cell_tx.specs.Laws.{AcceptedAreSendable, OnePortSendsAll, WholeBlocksAreResolvable, UsefulPartsStand, PrefixesRepeat, FramesFollow, FramesBeginAtStart, ElementsAreWithin, ElementsAreSmall, SmallElementsMakeSmallSamples, SamplesAreSmall, ReceivedWithErrorsIsClean, ReceivedWithErrorsFits, ReceivedIsClean, ReceivedOfTwoIsClean, ReceivedOfTwoIsSmall, ReceivedOfTwoFits, EmittedIsClean, EmittedIsSmall};
 
-/// The plans that `Cell::new` accepts are those that can be sent. The block of one whose resource blocks
-/// carry each coded bit can always be resolved, so that the first part of `Punctured` is a case of the second.
+/// The plans that `Cell::of` accepts for a carrier are those that it can send, and what any carrier can send one
+/// antenna port can. The block of a plan whose resource blocks carry each coded bit can always be resolved, so that
+/// the first part of `Punctured` is a case of the second.
 pub fn accepted_are_sendable()
     ensures accepted { AcceptedAreSendable }
+    ensures one { OnePortSendsAll }
     ensures whole { WholeBlocksAreResolvable }
 {}
 
@@ -23,7 +25,8 @@ pub fn frames_stand()
     ensures begin { FramesBeginAtStart }
 {}
 
-/// Elements of a cell have size at most 128, and samples of such elements 1,153. (own amplitudes)
+/// Elements of a cell at any port, with load or without, have size at most 128, and samples of such elements 1,153.
+/// (own amplitudes)
 pub fn sizes()
     ensures within { ElementsAreWithin }
     ensures elements { ElementsAreSmall }
@@ -38,4 +41,16 @@ pub fn sent_is_clean()
     ensures errors { ReceivedWithErrorsIsClean }
     ensures fits { ReceivedWithErrorsFits }
     ensures exact { ReceivedIsClean }
+{}
+
+/// Two sequences, each times its gain, with any error in each component within the bound that the gains allow, are a
+/// clean recording of both; where no sample of either has a size above 1,153, components are at most 32,284 without
+/// errors and 32,293 with them, so that they fit 16 bits. What is received of an emission by any carrier, with load or
+/// without, is so as well.
+pub fn sum_is_clean()
+    ensures errors { ReceivedOfTwoIsClean }
+    ensures small { ReceivedOfTwoIsSmall }
+    ensures fits { ReceivedOfTwoFits }
+    ensures emitted { EmittedIsClean }
+    ensures emitted_small { EmittedIsSmall }
 {}

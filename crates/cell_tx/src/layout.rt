@@ -1,15 +1,15 @@
 //! What is made once for all frames of a cell.
 
 ghost use Rattle.std.specs.Prelude.{◌≡◌};
-ghost use Rattle.cell_tx.specs.Rows.{IsLayout, IsCarried, AreVersions};
+ghost use Rattle.cell_tx.specs.Rows.{broadcast_places, IsTableOf, IsLayout, IsCarried, AreVersions};
 
 use crate::control::{Indicator, control_places, control_points, indicators};
 use crate::points::{PlaceTable, table_of};
 use crate::shared::{shared_places, shared_points};
 use crate::{Cell, Port};
 use cs_num::Cpx;
-use grid_map::{pbch_places, pcfich_places};
-use lte_types::{Half, Sfn};
+use grid_map::{long_places, pbch_places, pcfich_places};
+use lte_types::{CellId, Half, Sfn};
 use sync_seq::{pss, sss};
 
 /// What is the same in every frame: the synchronisation signals, where the channels stand, and the
@@ -61,6 +61,18 @@ impl Layout {
     }
 }
 
+// The table of the broadcast channel's places.
+fn broadcast_table(id: CellId, port: Port) -> PlaceTable
+    ensures { IsTableOf (broadcast_places port id) result }
+{
+    match port {
+        Port::Only => table_of(&pbch_places(id)),
+        Port::First => table_of(&pbch_places(id)),
+        Port::Second => table_of(&pbch_places(id)),
+        Port::Long => table_of(&long_places(id)),
+    }
+}
+
 /// The layout of a cell at a port.
 pub(crate) fn layout_of(cell: &Cell, port: Port) -> Layout
     ensures { IsLayout port cell.now result }
@@ -70,7 +82,7 @@ pub(crate) fn layout_of(cell: &Cell, port: Port) -> Layout
     let primary = pss(n2);
     let zero = sss(id.n1(), n2, Half::Zero);
     let five = sss(id.n1(), n2, Half::Five);
-    let broadcast = table_of(&pbch_places(id));
+    let broadcast = broadcast_table(id, port);
     let indicator = table_of(&pcfich_places(id));
     let indicators = indicators(cell);
     let control = table_of(&control_places(cell));

@@ -1,5 +1,6 @@
-//! The transmitter of a described cell: synchronisation signals, reference signals, the broadcast channel,
-//! and the control region and the shared channel with SystemInformationBlockType1 (TS 36.211 section 6).
+//! The transmitter of a described cell by any carrier: synchronisation signals, reference signals, the broadcast
+//! channel, and, but for the extended cyclic prefix, the control region and the shared channel with
+//! SystemInformationBlockType1 (TS 36.211 section 6); with load at all other places, or without (own).
 #![tactic(auto)]
 
 mod antenna;
@@ -8,20 +9,25 @@ mod block;
 mod cell;
 mod channels;
 mod control;
+mod emission;
+mod emitting;
 mod error;
 mod grid;
 mod laws;
 mod layout;
+mod load;
 mod points;
 mod sending;
 mod shared;
 mod transmission;
 
 pub use antenna::Port;
-pub use block::{fill_broadcast, master_word};
 pub use cell::{Cell, CellPlan};
+pub use emission::Emission;
+pub use emitting::emit;
 pub use error::CellError;
-pub use laws::{accepted_are_sendable, frames_stand, sent_is_clean, sizes, symbols_stand};
-pub use points::{PlaceTable, table_of, value_at};
-pub use sending::{amplified, frame, port_sequence, sample, send, send_all};
+pub use laws::{
+    accepted_are_sendable, frames_stand, sent_is_clean, sizes, sum_is_clean, symbols_stand,
+};
+pub use sending::{Sender, amplified, frame, sample, send, send_all, sequence};
 pub use transmission::Transmission;

@@ -62,7 +62,7 @@ const PLACES: usize = 14 * 72;
 
 /// For each place of a subframe its number in a list of places, and their count where it is not in it.
 #[derive(Drop)]
-pub struct PlaceTable {
+pub(crate) struct PlaceTable {
     pub count: u16,
     pub numbers: [u16; PLACES],
 }
@@ -85,7 +85,7 @@ fn put_number(numbers: &mut [u16; PLACES], none: u16, here: Place, number: u16)
 }
 
 /// The table of at most 612 places.
-pub fn table_of(places: &[Place]) -> PlaceTable
+pub(crate) fn table_of(places: &[Place]) -> PlaceTable
     requires { length places.now ≤ 612 }
     ensures { IsTableOf places.now result }
 {
@@ -108,6 +108,7 @@ fn sent_point(port: Port, points: &[Cpx], i: usize) -> Cpx
         Port::Only => points[i],
         Port::First => points[i],
         Port::Second => second_of(points, i),
+        Port::Long => points[i],
     }
 }
 
@@ -128,7 +129,7 @@ fn second_of(points: &[Cpx], i: usize) -> Cpx
 
 /// What a port sends at a place of the grid, by the table of a channel's places and its points in the same
 /// order, of which there is an even number; `None` at every other place.
-pub fn value_at(port: Port, table: &PlaceTable, points: &[Cpx], here: Place) -> Option<Cpx>
+pub(crate) fn value_at(port: Port, table: &PlaceTable, points: &[Cpx], here: Place) -> Option<Cpx>
     requires symbol { here.symbol < 14 }
     requires k { here.k < 72 }
     requires room { table.now.count ≤ length points.now }

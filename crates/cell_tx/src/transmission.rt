@@ -2,7 +2,7 @@
 
 ghost use Rattle.cell_tx.specs.Clean.{IsCount};
 
-use crate::Cell;
+use crate::{Cell, Emission};
 use cs_num::Gain;
 use lte_types::Timing;
 
@@ -18,4 +18,29 @@ pub struct Transmission {
     /// The gain.
     pub gain: Gain,
     pub ghost samples_range: { IsCount samples },
+}
+
+impl Transmission {
+    ghost use Rattle.std.specs.Prelude.{◌≡◌};
+    ghost use Rattle.cs_num.specs.Complex.{value_at};
+    ghost use Rattle.lte_types.specs.declared.carrier.Carrier.TheVariants.{OnePort};
+
+    /// The transmission that an emission of one antenna port with the normal cyclic prefix is; its load is left out.
+    pub fn of(emission: Emission) -> Transmission
+        requires { emission.carrier ≡ OnePort }
+        ensures cell { result.cell ≡ emission.cell }
+        ensures timing { result.timing ≡ emission.timing }
+        ensures samples { result.samples ≡ emission.samples }
+        ensures gain { result.gain ≡ value_at emission.gains 0 }
+    {
+        let Some(gain) = Gain::of(emission.gains[0]) else {
+            unreachable!()
+        };
+        Transmission {
+            cell: emission.cell,
+            timing: emission.timing,
+            samples: emission.samples,
+            gain,
+        }
+    }
 }

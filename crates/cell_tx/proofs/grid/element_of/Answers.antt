@@ -1,4 +1,4 @@
-use Rattle.std.proofs.Common.{◌≡◌, ℕ, ◌-◌, ◌+◌, ◌*◌, ◌/◌, ◌%◌, ◌<◌, Bool, true, nat_eq, nat_le, nat_lt, Option, None, List, get_or, arith, sym, ap, ◌∙◌}
+use Rattle.std.proofs.Common.{◌≡◌, ℕ, ◌-◌, ◌%◌, ◌<◌, Bool, true, nat_eq, nat_le, nat_lt, Option, None, List, get_or, arith, refl, sym, ap, ◌∙◌}
 use Rattle.std.specs.Prelude.{◌&&◌, ◌||◌}
 use Rattle.std.proofs.lemmas.Bool.{and_parts, ltb-true}
 use Rattle.finite.specs.Lists.{values_below}
@@ -8,10 +8,10 @@ use Rattle.cs_num.specs.Complex.{value_at}
 use Rattle.sync_seq.specs.Middle.{is_middle}
 use Rattle.sync_seq.proofs.PrimaryValues.{pss_list_at}
 use Rattle.cell_tx.specs.declared.antenna.Port.{Port}
-use Rattle.cell_tx.specs.Ports.{sent_signal}
-use Rattle.cell_tx.specs.Grid.{is_primary}
+use Rattle.cell_tx.specs.Ports.{port_symbols, port_slot, sent_signal}
+use Rattle.cell_tx.specs.Grid.{is_synchronised, is_primary}
 use Rattle.cell_tx.specs.Rows.{port_reference_if}
-use Rattle.cell_tx.proofs.Elements.{element_of_reference, element_of_primary, element_of_secondary, element_of_channel}
+use Rattle.cell_tx.proofs.Elements.{sent_of_reference, sent_of_primary, sent_of_secondary, sent_beside}
 use Rattle.cell_tx.proofs.grid.element_of.Goals as goal
 
 read_row : (port : Port) (row : List (Option Cpx)) (identity slot symbol k : ℕ) → k < 72 → row ≡ values_below 72 (port_reference_if port identity slot symbol) → get_or row k None ≡ port_reference_if port identity slot symbol k
@@ -19,46 +19,62 @@ read_row port row identity slot symbol k inside is = ap (λ list. get_or list k 
 
 pub returns-in-Some : goal.returns-in-Some
 returns-in-Some c =
-    let plan = c.args.signals.now.cell.now in
-    let row = read_row c.args.signals.now.port c.args.references.now plan.identity (2 * c.args.subframe + c.args.symbol / 7) (c.args.symbol % 7) c.args.k c.requires.k c.requires.references in
-    element_of_reference c.args.signals.now.port plan c.args.signals.now.sfn c.args.subframe c.args.symbol c.args.k c.in-Some.value (sym row ∙ c.in-Some.is)
+    let signals = c.args.signals.now in
+    let plan = signals.cell.now in
+    let row = read_row signals.port c.args.references.now plan.identity (port_slot signals.port c.args.subframe c.args.symbol) (c.args.symbol % port_symbols signals.port) c.args.k c.requires.k c.requires.references in
+    sent_of_reference signals.port plan signals.sfn c.args.subframe c.args.symbol c.args.k signals.load c.in-Some.value (sym row ∙ c.in-Some.is)
 
 -- where no row of the references has the place
 none_at : (port : Port) (row : List (Option Cpx)) (identity slot symbol k : ℕ) → k < 72 → row ≡ values_below 72 (port_reference_if port identity slot symbol) → get_or row k None ≡ None → port_reference_if port identity slot symbol k ≡ None
 none_at port row identity slot symbol k inside is none = sym (read_row port row identity slot symbol k inside is) ∙ none
 
-abbrev is_row : ℕ → ℕ → Bool
-is_row subframe symbol = (nat_eq subframe 0 || nat_eq subframe 5) && nat_eq symbol 6
+-- the last symbol of a slot, and the one before it
+last_is : (symbols n last subframe symbol k : ℕ) → symbols ≡ n → last ≡ symbols - 1 → is_synchronised last subframe symbol k ≡ is_synchronised (n - 1) subframe symbol k
+last_is symbols n last subframe symbol k e f = rw (f, e) refl
 
-last_place : (subframe symbol k : ℕ) → is_primary subframe symbol k ≡ true → k - 5 < 62
-last_place subframe symbol k e =
-    let parts = and_parts (is_row subframe symbol) (is_middle k) e in
+before_is : (symbols n last subframe symbol k : ℕ) → symbols ≡ n → last ≡ symbols - 1 → is_synchronised (last - 1) subframe symbol k ≡ is_synchronised (n - 2) subframe symbol k
+before_is symbols n last subframe symbol k e f = let same : last - 1 ≡ n - 2 = omega (arith, e, f) in rw same refl
+
+abbrev is_row : ℕ → ℕ → ℕ → Bool
+is_row signal subframe symbol = (nat_eq subframe 0 || nat_eq subframe 5) && nat_eq symbol signal
+
+last_place : (signal subframe symbol k : ℕ) → is_synchronised signal subframe symbol k ≡ true → k - 5 < 62
+last_place signal subframe symbol k e =
+    let parts = and_parts (is_row signal subframe symbol) (is_middle k) e in
     let ends = and_parts (nat_le 5 k) (nat_lt k 67) parts.1 in
     omega (arith, ltb-true k 67 ends.1)
 
 pub returns-then-is_signal : goal.returns-then-is_signal
 returns-then-is_signal c =
-    let plan = c.args.signals.now.cell.now in
-    let none = none_at c.args.signals.now.port c.args.references.now plan.identity (2 * c.args.subframe + c.args.symbol / 7) (c.args.symbol % 7) c.args.k c.requires.k c.requires.references c.in_default.is in
-    let here : is_primary c.args.subframe c.args.symbol c.args.k ≡ true = sym c.is_signal.ensures ∙ c.if-is_signal.true in
+    let signals = c.args.signals.now in
+    let plan = signals.cell.now in
+    let none = none_at signals.port c.args.references.now plan.identity (port_slot signals.port c.args.subframe c.args.symbol) (c.args.symbol % port_symbols signals.port) c.args.k c.requires.k c.requires.references c.in_default.is in
+    let last = last_is c.symbols-last.result (port_symbols signals.port) (c.symbols-last.result - 1) c.args.subframe c.args.symbol c.args.k c.symbols-last.ensures.value refl in
+    let here : is_primary signals.port c.args.subframe c.args.symbol c.args.k ≡ true = sym last ∙ sym c.is_signal.ensures ∙ c.if-is_signal.true in
     c.sent_signal.ensures
-    ∙ ap (sent_signal c.args.signals.now.port)
-    (ap (λ values. value_at values (c.args.k - 5)) c.args.signals.now.layout_is.primary
-    ∙ pss_list_at (plan.identity % 3) (c.args.k - 5) (last_place c.args.subframe c.args.symbol c.args.k here))
-    ∙ sym (element_of_primary c.args.signals.now.port plan c.args.signals.now.sfn c.args.subframe c.args.symbol c.args.k none here)
+    ∙ ap (sent_signal signals.port)
+    (ap (λ values. value_at values (c.args.k - 5)) signals.layout_is.primary
+    ∙ pss_list_at (plan.identity % 3) (c.args.k - 5) (last_place (port_symbols signals.port - 1) c.args.subframe c.args.symbol c.args.k here))
+    ∙ sym (sent_of_primary signals.port plan signals.sfn c.args.subframe c.args.symbol c.args.k signals.load none here)
 
 pub returns-then-is_signal-2 : goal.returns-then-is_signal-2
 returns-then-is_signal-2 c =
-    let plan = c.args.signals.now.cell.now in
-    let none = none_at c.args.signals.now.port c.args.references.now plan.identity (2 * c.args.subframe + c.args.symbol / 7) (c.args.symbol % 7) c.args.k c.requires.k c.requires.references c.in_default.is in
-    c.sent_signal-then-is_signal-2.ensures ∙ ap (sent_signal c.args.signals.now.port) c.secondary_of.ensures
-    ∙ sym (element_of_secondary c.args.signals.now.port plan c.args.signals.now.sfn c.args.subframe c.args.symbol c.args.k none
-    (sym c.is_signal.ensures ∙ c.if-is_signal.false) (sym c.is_signal-else-is_signal.ensures ∙ c.if-is_signal-2.true))
+    let signals = c.args.signals.now in
+    let plan = signals.cell.now in
+    let none = none_at signals.port c.args.references.now plan.identity (port_slot signals.port c.args.subframe c.args.symbol) (c.args.symbol % port_symbols signals.port) c.args.k c.requires.k c.requires.references c.in_default.is in
+    let last = last_is c.symbols-last.result (port_symbols signals.port) (c.symbols-last.result - 1) c.args.subframe c.args.symbol c.args.k c.symbols-last.ensures.value refl in
+    let before = before_is c.symbols-last.result (port_symbols signals.port) (c.symbols-last.result - 1) c.args.subframe c.args.symbol c.args.k c.symbols-last.ensures.value refl in
+    c.sent_signal-then-is_signal-2.ensures ∙ ap (sent_signal signals.port) c.secondary_of.ensures
+    ∙ sym (sent_of_secondary signals.port plan signals.sfn c.args.subframe c.args.symbol c.args.k signals.load none
+    (sym last ∙ sym c.is_signal.ensures ∙ c.if-is_signal.false) (sym before ∙ sym c.is_signal-else-is_signal.ensures ∙ c.if-is_signal-2.true))
 
 pub returns-else-is_signal-2 : goal.returns-else-is_signal-2
 returns-else-is_signal-2 c =
-    let plan = c.args.signals.now.cell.now in
-    let none = none_at c.args.signals.now.port c.args.references.now plan.identity (2 * c.args.subframe + c.args.symbol / 7) (c.args.symbol % 7) c.args.k c.requires.k c.requires.references c.in_default.is in
-    c.channel_value.ensures
-    ∙ sym (element_of_channel c.args.signals.now.port plan c.args.signals.now.sfn c.args.subframe c.args.symbol c.args.k none
-    (sym c.is_signal.ensures ∙ c.if-is_signal.false) (sym c.is_signal-else-is_signal.ensures ∙ c.if-is_signal-2.false))
+    let signals = c.args.signals.now in
+    let plan = signals.cell.now in
+    let none = none_at signals.port c.args.references.now plan.identity (port_slot signals.port c.args.subframe c.args.symbol) (c.args.symbol % port_symbols signals.port) c.args.k c.requires.k c.requires.references c.in_default.is in
+    let last = last_is c.symbols-last.result (port_symbols signals.port) (c.symbols-last.result - 1) c.args.subframe c.args.symbol c.args.k c.symbols-last.ensures.value refl in
+    let before = before_is c.symbols-last.result (port_symbols signals.port) (c.symbols-last.result - 1) c.args.subframe c.args.symbol c.args.k c.symbols-last.ensures.value refl in
+    c.value_beside.ensures
+    ∙ sym (sent_beside signals.port plan signals.sfn c.args.subframe c.args.symbol c.args.k signals.load none
+    (sym last ∙ sym c.is_signal.ensures ∙ c.if-is_signal.false) (sym before ∙ sym c.is_signal-else-is_signal.ensures ∙ c.if-is_signal-2.false))

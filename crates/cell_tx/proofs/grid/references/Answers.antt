@@ -1,7 +1,9 @@
-use Rattle.std.proofs.Common.{◌≡◌, false, nat_eq, None, arith, sym}
+use Rattle.std.proofs.Common.{◌≡◌, false, nat_eq, None, ap, arith, sym, ◌∙◌}
 use Rattle.std.proofs.lemmas.Bool.Decides.{nat_tests}
 use Rattle.std.proofs.lemmas.List.FromFn.{fill_by_all}
 use Rattle.finite.proofs.Lists.{values_below_same}
+use Rattle.crs.specs.declared.pattern.Pattern.{Pattern}
+use Rattle.cell_tx.specs.Ports.{first_pattern}
 use Rattle.cell_tx.specs.Rows.{port_reference_if}
 use Rattle.cell_tx.proofs.Elements.{no_port_reference}
 use Rattle.cell_tx.proofs.grid.references.Goals as goal
@@ -12,8 +14,9 @@ returns-after-loop-k c =
     (λ k inside. c.loop-k.invariant.each k (omega arith))
 
 -- other symbols have no reference places
-pub returns-else-symbol-eq4 : goal.returns-else-symbol-eq4
-returns-else-symbol-eq4 c =
-    let e : nat_eq c.args.symbol 0 ≡ false = grind (arith, nat_tests) in
-    let f : nat_eq c.args.symbol 4 ≡ false = grind (arith, nat_tests) in
-    values_below_same 72 (λ k. None) (port_reference_if c.args.port c.args.id c.args.slot c.args.symbol) (λ k inside. sym (no_port_reference c.args.port c.args.id c.args.slot c.args.symbol k e f))
+pub returns-else-symbol-pattern : goal.returns-else-symbol-pattern
+returns-else-symbol-pattern c =
+    let e : nat_eq c.args.symbol 0 ≡ false = let other = c.if-symbol-eq0.false in grind (arith, nat_tests) in
+    let f : nat_eq c.args.symbol c.pattern_of-pattern.result.later ≡ false = let other = c.if-symbol-pattern.false in grind (arith, nat_tests) in
+    let g : nat_eq c.args.symbol (first_pattern c.args.port).later ≡ false = sym (ap (λ (p : Pattern). nat_eq c.args.symbol p.later) c.pattern_of-pattern.ensures.pattern) ∙ f in
+    values_below_same 72 (λ k. None) (port_reference_if c.args.port c.args.id c.args.slot c.args.symbol) (λ k inside. sym (no_port_reference c.args.port c.args.id c.args.slot c.args.symbol k e g))

@@ -1,14 +1,17 @@
-use Rattle.std.proofs.Common.{◌≡◌, ℕ, length, arith}
-use Rattle.std.proofs.lemmas.List.FromFn.{fill_by_all}
-use Rattle.cs_num.specs.Complex.{silence, sample_of}
-use Rattle.cell_tx.specs.Grid.{port_element}
-use Rattle.cell_tx.specs.Sent.{frame_sample}
-use Rattle.cell_tx.specs.Rows.{frame_samples}
+use Rattle.std.proofs.Common.{◌≡◌, ℕ, ◌*◌, arith, subst, sym}
+use Rattle.cell_tx.specs.Ports.{port_prefix}
+use Rattle.cell_tx.specs.Sending.{elements_of, symbol_start}
+use Rattle.cell_tx.proofs.Symbols.{port_prefix_known, first_none, first_last}
+use Rattle.cell_tx.proofs.Frames.{all_are}
 use Rattle.cell_tx.proofs.sending.put_frame.Goals as goal
 
 pub returns : goal.returns
-unfolding frame_samples
 returns c =
-    let long : length c.put_symbols.new.out ≡ 19200 = omega (arith, c.requires, c.put_symbols.auto.out) in
-    fill_by_all (λ (n : ℕ). sample_of (frame_sample (port_element c.args.signals.now.port c.args.signals.now.cell.now) c.args.signals.now.sfn n)) c.put_symbols.new.out 19200 silence long
-    (λ k inside. c.put_symbols.ensures.samples k (omega arith) inside)
+    let signals = c.args.signals.now in
+    let prefix = port_prefix signals.port in
+    let known = port_prefix_known signals.port in
+    let none : symbol_start signals 0 ≡ 0 = first_none prefix known in
+    let last : symbol_start signals (20 * c.symbols.result) ≡ 19200 =
+    subst (λ (n : ℕ). symbol_start signals (20 * n) ≡ 19200) (sym c.symbols.ensures.value) (first_last prefix known) in
+    all_are prefix (elements_of signals) signals.sfn c.put_symbols.new.out (omega (arith, c.requires, c.put_symbols.auto.out))
+    (λ k inside. c.put_symbols.ensures.samples k (omega (arith, none)) (omega (arith, inside, last)))

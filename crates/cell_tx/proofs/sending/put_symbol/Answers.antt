@@ -1,26 +1,23 @@
-use Rattle.std.proofs.Common.{◌≡◌, ℕ, ◌+◌, ◌/◌, ◌%◌, ◌<◌, ◌≤◌, List, arith, ap, sym, ◌∙◌, length-set, get_or-set_other}
+use Rattle.std.proofs.Common.{ℕ, ◌≤◌, List, arith, ap, sym, ◌∙◌, length-set, get_or-set_other}
 use Rattle.cs_num.specs.declared.Sample.{Sample}
 use Rattle.cs_num.specs.Complex.{silence, sample_of}
-use Rattle.cell_tx.specs.Grid.{port_element}
-use Rattle.cell_tx.specs.Sent.{slot_sample, frame_sample}
+use Rattle.cell_tx.specs.Ports.{port_prefix}
 use Rattle.cell_tx.specs.Rows.{first_sample}
-use Rattle.cell_tx.proofs.Symbols.{frame_sample_is, slot_of_symbol}
+use Rattle.cell_tx.specs.Sending.{elements_of, sample_in}
+use Rattle.cell_tx.proofs.Symbols.{frame_sample_is}
 use Rattle.cell_tx.proofs.Frames.{set_between}
 use Rattle.cell_tx.proofs.sending.put_symbol.Goals as goal
 
 pub loop-i-preserved : goal.loop-i-preserved
 loop-i-preserved c =
-    let grid = port_element c.args.signals.now.port c.args.signals.now.cell.now in
-    let sfn : ℕ = c.args.signals.now.sfn in
+    let signals = c.args.signals.now in
     let i : ℕ = c.loop-i.i in
     let out : List Sample = c.loop-i.out in
-    let low : first_sample c.args.symbol ≤ i = omega (arith, c.first_of-i.ensures.value, c.loop-i.auto.i, c.loop-i-test.true) in
-    let high : i < first_sample (c.args.symbol + 1) = omega (arith, c.first_of-i-end.ensures.value, c.loop-i-test.true) in
-    let slot : i / 960 ≡ c.args.symbol / 7 = slot_of_symbol c.args.symbol i low high in
-    let here = c.sample_of_slot.ensures ∙ ap (λ (s : ℕ). sample_of (slot_sample grid sfn s (i % 960))) (sym slot) ∙ ap sample_of (sym (frame_sample_is grid sfn i)) in
+    let low : first_sample (port_prefix signals.port) c.args.symbol ≤ i = omega (arith, c.first_of-i.ensures.value, c.loop-i.auto.i, c.loop-i-test.true) in
+    let here = c.sample_of_slot.ensures ∙ ap sample_of (sym (frame_sample_is (port_prefix signals.port) (elements_of signals) signals.sfn i)) in
     record {
       whole = length-set out i _ ∙ c.loop-i.invariant.whole;
-      samples = set_between (λ (n : ℕ). sample_of (frame_sample grid sfn n)) (first_sample c.args.symbol) i out c.sample_of_slot.result
+      samples = set_between (λ (n : ℕ). sample_of (sample_in signals n)) (first_sample (port_prefix signals.port) c.args.symbol) i out c.sample_of_slot.result
           (omega (arith, c.loop-i.invariant.whole, c.first_of-i-end.ensures.inside, c.loop-i-test.true)) here c.loop-i.invariant.samples;
       rest = record {
         earlier = λ j before. get_or-set_other out i j _ silence (λ e. absurd (omega (arith, e, before, low))) ∙ c.loop-i.invariant.rest.earlier j before;

@@ -1,12 +1,11 @@
 use Rattle.std.proofs.Common.{◌≡◌, length}
-use Rattle.cell_tx.specs.Grid.{port_element}
-use Rattle.cell_tx.specs.Sent.{frame_sample}
-use Rattle.cell_tx.specs.Rows.{HasSamples, AreSameOutside, first_sample}
+use Rattle.cell_tx.specs.Rows.{HasSamples, AreSameOutside}
+use Rattle.cell_tx.specs.Sending.{sample_in, symbol_start}
 use Rattle.cell_tx.proofs.sending.put_symbols.Given as goal
 
 abbrev pub invariant-loop-symbol : goal.invariant-loop-symbol
 invariant-loop-symbol l = record {
   whole : length l.out ≡ 19200;
-  samples : HasSamples l.out (frame_sample (port_element l.signals.port l.signals.cell.now) l.signals.sfn) (first_sample l.first) (first_sample l.symbol);
-  rest : AreSameOutside (first_sample l.first) (first_sample l.symbol) l.fn.out l.out;
+  samples : HasSamples l.out (sample_in l.signals) (symbol_start l.signals l.first) (symbol_start l.signals l.symbol);
+  rest : AreSameOutside (symbol_start l.signals l.first) (symbol_start l.signals l.symbol) l.fn.out l.out;
 }

@@ -1,52 +1,41 @@
-use Rattle.std.proofs.Common.{◌≡◌, ℕ, ◌+◌, ◌*◌, ◌<◌, ◌≤◌, length, arith, List, ap, sym, subst, ◌∙◌, length-set, get_or-set_other, slice_index_or}
-use Rattle.std.proofs.lemmas.List.FromFn.{fill_by_all}
-use Rattle.finite.proofs.Lists.{values_below_at, values_below-length}
-use Rattle.cs_num.specs.declared.Sample.{Sample}
+use Rattle.std.proofs.Common.{◌≡◌, ℕ, ◌+◌, ◌<◌, List, length, ap, sym, subst, ◌∙◌}
+use Rattle.finite.specs.Lists.{values_below}
+use Rattle.finite.proofs.Lists.{values_below-length}
 use Rattle.cs_num.specs.declared.Cpx.{Cpx}
-use Rattle.cs_num.specs.Complex.{silence, value_of, times, square, sample_of}
+use Rattle.cs_num.specs.declared.Sample.{Sample}
+use Rattle.cs_num.specs.Complex.{times, plus, sample_at, silence, sample_of}
+use Rattle.cs_num.specs.Gain.{IsGain}
+use Rattle.cell_tx.specs.declared.transmission.Transmission.{Transmission}
 use Rattle.cell_tx.specs.Grid.{element}
-use Rattle.cell_tx.specs.declared.antenna.Port.TheVariants.{Only}
-use Rattle.cell_tx.specs.Sent.{sent, received}
-use Rattle.cell_tx.proofs.Bounds.{sent-square}
-use Rattle.cell_tx.proofs.Frames.{set_between}
+use Rattle.cell_tx.specs.Sent.{sent}
+use Rattle.cell_tx.proofs.Bounds.{received-within}
+use Rattle.cell_tx.proofs.Received.{alone_small, alone_is}
 use Rattle.cell_tx.proofs.sending.send_all.Goals as goal
 
-pub loop-i-init : goal.loop-i-init
-loop-i-init c =
-    let t = c.args.t.now in
-    let f : ℕ → Sample = λ n. sample_of (sent (element t.cell) t.timing.sfn (n + t.timing.offset)) in
-    let is = c.port_sequence.ensures in
-    record {
-      whole = ap length is ∙ values_below-length (length c.args.out.now) f ∙ c.requires;
-      done = λ i low below. absurd (omega (arith, below));
-      left = λ i low below. ap (λ (list : List Sample). slice_index_or list i silence) is ∙ values_below_at f (length c.args.out.now) i silence (omega (arith, below, c.requires));
-    }
+-- what is sent, times a gain
+abbrev part : Transmission → Cpx → ℕ → Cpx
+part t gain i = times gain (sent (element t.cell) t.timing.sfn (i + t.timing.offset))
 
-pub loop-i-preserved : goal.loop-i-preserved
-loop-i-preserved c =
-    let t = c.args.t.now in
-    let i : ℕ = c.loop-i.i in
-    let clean : Cpx = sent (element t.cell) t.timing.sfn (i + t.timing.offset) in
-    let inside : i < length c.loop-i.out = omega (arith, c.loop-i-test.true) in
-    let there : value_of (slice_index_or c.loop-i.out i silence) ≡ clean = ap value_of (c.loop-i.invariant.left i (omega arith) (omega (arith, inside, c.loop-i.invariant.whole))) in
-    let here = c.amplified.ensures.value ∙ ap (λ (z : Cpx). sample_of (times t.gain z)) there in
-    record {
-      whole = length-set c.loop-i.out i _ ∙ c.loop-i.invariant.whole;
-      done = set_between (λ (n : ℕ). sample_of (received t.cell t.timing.sfn t.timing.offset t.gain n)) 0 i c.loop-i.out c.amplified.result inside here c.loop-i.invariant.done;
-      left = λ j low below. get_or-set_other c.loop-i.out i j _ silence (λ e. absurd (omega (arith, e, low))) ∙ c.loop-i.invariant.left j (omega (arith, low)) below;
-    }
+-- so long is what is silent
+silent_long : (n : ℕ) (list : List Sample) → list ≡ values_below n (λ i. silence) → length list ≡ n
+silent_long n list is = ap length is ∙ values_below-length n (λ (i : ℕ). silence)
 
-pub amplified-requires : goal.amplified-requires
-amplified-requires c =
+pub add_sequence-requires-clause-small : goal.add_sequence-requires-clause-small
+add_sequence-requires-clause-small c i inside =
     let t = c.args.t.now in
-    let i : ℕ = c.loop-i.i in
-    let clean : Cpx = sent (element t.cell) t.timing.sfn (i + t.timing.offset) in
-    let inside : i < length c.loop-i.out = omega (arith, c.loop-i-test.true) in
-    let there : value_of (slice_index_or c.loop-i.out i silence) ≡ clean = ap value_of (c.loop-i.invariant.left i (omega arith) (omega (arith, inside, c.loop-i.invariant.whole))) in
-    subst (λ z. square z ≤ 1153 * 1153) (sym there) (sent-square Only t.cell t.timing.sfn (i + t.timing.offset))
+    let n : ℕ = length c.args.out.now in
+    let gain = c.value.result in
+    alone_small (part t gain) n c.clear.new.out i c.clear.ensures (subst (λ (m : ℕ). i < m) (silent_long n c.clear.new.out c.clear.ensures) inside)
+    (received-within t.cell t.timing.sfn t.timing.offset gain i (subst IsGain (sym c.value.ensures.value) c.value.ensures.valid))
 
 pub returns : goal.returns
 returns c =
     let t = c.args.t.now in
-    fill_by_all (λ (i : ℕ). sample_of (received t.cell t.timing.sfn t.timing.offset t.gain i)) c.loop-i.out t.samples silence c.loop-i.invariant.whole
-    (λ k inside. c.loop-i.invariant.done k (omega arith) (omega (arith, inside, c.loop-i-test.false, c.loop-i.invariant.whole)))
+    let n : ℕ = length c.args.out.now in
+    let gain = c.value.result in
+    let out = c.clear.new.out in
+    let written : c.add_sequence.new.out ≡ values_below (length out) (λ i. sample_of (plus (sample_at out i) (part t gain i))) = c.add_sequence.ensures in
+    written
+    ∙ ap (λ (m : ℕ). values_below m (λ i. sample_of (plus (sample_at out i) (part t gain i)))) (silent_long n out c.clear.ensures ∙ c.requires)
+    ∙ alone_is (part t gain) t.samples out (c.clear.ensures ∙ ap (λ (m : ℕ). values_below m (λ i. silence)) c.requires)
+    ∙ ap (λ (z : Cpx). values_below t.samples (λ i. sample_of (part t z i))) c.value.ensures.value

@@ -3,15 +3,15 @@ use Rattle.std.specs.Prelude.{is_some}
 use Rattle.cs_bits.specs.Checks.{with_check_24}
 use Rattle.turbo_code.specs.Encoder.{coded}
 use Rattle.cell_tx.specs.Transport.{filled, row_with}
-use Rattle.cell_tx.specs.Plan.{IsSendable}
-use Rattle.cell_tx.proofs.Sendable.{accepted_is_sendable}
+use Rattle.cell_tx.specs.Plan.{IsSendableBy}
+use Rattle.cell_tx.proofs.Sendable.{accepted_is_sendable_by, sendable_with_one}
 use Rattle.dci.proofs.SizeRows.{size_fits}
 use Rattle.cell_tx.proofs.NewCells.{has_size, IsAccepted, accepted_can_be_sent, accepted_is_coded}
-use Rattle.cell_tx.proofs.cell.Cell.new.Goals as goal
+use Rattle.cell_tx.proofs.cell.Cell.of.Goals as goal
 
 -- what the steps before the block's coded word say of the plan
 module _ (c : goal.After-coded_block-coded) where
-  accepted : IsAccepted c.args.plan c.in-Some.size c.in-Some-text_of.text
+  accepted : IsAccepted c.args.carrier c.args.plan c.in-Some.size c.in-Some-text_of.text
   accepted =
       let identity : c.args.plan.identity ≤ 503 = search rules in
       let low = c.if-plan-lt2.false in
@@ -34,18 +34,18 @@ module _ (c : goal.After-coded_block-coded) where
         fits = c.in-Some-text_of.ensures.1;
       }
 
-  can_be_sent : IsSendable c.args.plan
-  can_be_sent = accepted_can_be_sent c.args.plan c.in-Some.size c.in-Some-text_of.text accepted
+  can_be_sent : IsSendableBy c.args.carrier c.args.plan
+  can_be_sent = accepted_can_be_sent c.args.carrier c.args.plan c.in-Some.size c.in-Some-text_of.text accepted
 
 pub invariant_of-result : goal.invariant_of-result
 invariant_of-result c =
     let a = accepted c in
     let row = size_fits c.args.plan.mcs c.args.plan.column c.in-Some.size a.sized.entry in
     let d = c.coded_block-coded.ensures.d ∙ ap (λ (text : List Bool). coded (row_with (c.in-Some.size + 24)) (with_check_24 (filled c.in-Some.size text))) c.bits.ensures.bits in
-    (can_be_sent c, accepted_is_coded c.args.plan c.in-Some.size c.in-Some-text_of.text c.coded_block-coded.result a row c.coded_block-coded.ensures.k d)
+    (sendable_with_one c.args.carrier c.args.plan (can_be_sent c), accepted_is_coded c.args.carrier c.args.plan c.in-Some.size c.in-Some-text_of.text c.coded_block-coded.result a row c.coded_block-coded.ensures.k d)
 
 pub returns-clause-refusal : goal.returns-clause-refusal
-returns-clause-refusal c = ((accepted_is_sendable c.args.plan).1 (can_be_sent c)).1
+returns-clause-refusal c = ((accepted_is_sendable_by c.args.carrier c.args.plan).1 (can_be_sent c)).1
 
 pub returns-clause-sendable : goal.returns-clause-sendable
 returns-clause-sendable c = can_be_sent c

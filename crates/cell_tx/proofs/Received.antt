@@ -1,0 +1,136 @@
+-- Sizes of what is received of the antenna ports of a carrier, and that it is clean.
+use Rattle.std.proofs.Common.{◌≡◌, ℕ, ◌+◌, ◌*◌, ◌<◌, ◌≤◌, inl, inr, List, Option, arith, ap, sym, subst, ◌∙◌, ℤ, ◌+ℤ◌, ◌-ℤ◌}
+use Rattle.std.specs.Prelude.{nat_abs}
+use Rattle.finite.specs.Lists.{values_below}
+use Rattle.std.proofs.lemmas.Bool.{cases_lt}
+use Rattle.std.proofs.lemmas.Int.{ints}
+use Rattle.std.proofs.lemmas.Nat.{mul-le}
+use Rattle.finite.proofs.Lists.{values_below_at, values_below-length, values_below_same}
+use Rattle.cs_num.specs.declared.Cpx.{Cpx}
+use Rattle.cs_num.specs.declared.Sample.{Sample}
+use Rattle.cs_num.specs.Complex.{IsWithin, plus, minus, times, square, silence, nothing, value_at, sample_at, value_of, sample_of}
+use Rattle.cs_num.proofs.Complex.{plus-nothing, within_more}
+use Rattle.sizes.proofs.Squares.{re-le, im-le, square-times}
+use Rattle.sizes.proofs.TwoTerms.{two_term_cauchy}
+use Rattle.cell_tx.specs.Clean.{AreNear, AreGains, AreGainsOf, received_of_two}
+use Rattle.lte_types.specs.declared.carrier.Carrier.{Carrier}
+use Rattle.lte_types.specs.declared.carrier.Carrier.TheVariants.{OnePort, TwoPorts, LongPrefix}
+use Rattle.cell_tx.specs.declared.antenna.Port.{Port}
+use Rattle.cell_tx.specs.declared.antenna.Port.TheVariants.{Only, First, Second, Long}
+use Rattle.cell_tx.specs.declared.cell.CellPlan.{CellPlan}
+use Rattle.cell_tx.specs.Emission.{sent_by, received_by}
+use Rattle.cell_tx.proofs.Bounds.{amplified, added, sent_by-square}
+use Rattle.cell_tx.specs.Laws.{values_with, EmittedIsClean, EmittedIsSmall, ReceivedOfTwoIsClean, ReceivedOfTwoIsSmall, ReceivedOfTwoFits}
+
+times-most : (g z : Cpx) → square z ≤ 1153 * 1153 → square (times g z) ≤ square g * (1153 * 1153)
+times-most g z small = let law = square-times g z in let l = mul-le (square g) (square z) (square g) (1153 * 1153) (omega arith) small in omega (arith, law, l)
+
+sum-most : (n m : ℕ) → m ≤ 392 → n ≤ m * (1153 * 1153 + 1153 * 1153) → n ≤ 32284 * 32284
+sum-most n m most l = omega (arith, most, l)
+
+pub received-square : (first second gain other : Cpx) → square first ≤ 1153 * 1153 → square second ≤ 1153 * 1153 → AreGains gain other →
+    square (plus (times gain first) (times other second)) ≤ 32284 * 32284
+received-square first second gain other a b g =
+    sum-most _ (square gain + square other) g.most
+    (two_term_cauchy (times gain first) (times other second) (square gain) (1153 * 1153) (square other) (1153 * 1153) (times-most gain first a) (times-most other second b))
+
+pub received-small : ReceivedOfTwoIsSmall
+received-small first second gain other a b g =
+    let z : Cpx = plus (times gain first) (times other second) in
+    let whole = received-square first second gain other a b g in
+    record { re = re-le z 32284 whole; im = im-le z 32284 whole }
+
+-- ---- errors
+
+error-bound : (eps n : ℕ) → 4 * (eps * eps) ≤ n → n ≤ 392 → eps ≤ 9
+error-bound eps n e m = elim (cases_lt 9 eps) [
+  | inl more ↦ absurd (let k : 10 * 10 ≤ eps * eps = mul-le 10 10 eps eps (omega (arith, more)) (omega (arith, more)) in omega (arith, e, m, k))
+  | inr fits ↦ omega (arith, fits)
+]
+
+pub received-fits : ReceivedOfTwoFits
+received-fits first second gain other error eps a b g bound e =
+    let most = error-bound eps (square gain + square other) bound.both g.most in
+    let whole = received-small first second gain other a b g in
+    let z : Cpx = plus (times gain first) (times other second) in
+    record {
+      re = omega (arith, most, added z.re error.re 32284 eps whole.re e.re);
+      im = omega (arith, most, added z.im error.im 32284 eps whole.im e.im);
+    }
+
+-- the error is what is left
+pub error_left : (a e : ℤ) (n : ℕ) → nat_abs e ≤ n → nat_abs (a +ℤ e -ℤ a) ≤ n
+error_left a e n h = let is : a +ℤ e -ℤ a ≡ e = omega (arith, ints) in subst (λ z. nat_abs z ≤ n) (sym is) h
+
+pub near_with : (values errors : ℕ → Cpx) (count eps : ℕ) → ((i : ℕ) → i < count → IsWithin eps (errors i)) → AreNear (values_with count values errors) values eps
+near_with values errors count eps small i below =
+    let f : ℕ → Sample = λ i. sample_of (plus (values i) (errors i)) in
+    let there : i < count = subst (λ n. i < n) (values_below-length count f) below in
+    let e = small i there in
+    subst (λ z. IsWithin eps (minus z (values i))) (sym (ap value_of (values_below_at f count i silence there)))
+    (record { re = error_left (values i).re (errors i).re eps e.re; im = error_left (values i).im (errors i).im eps e.im })
+
+pub received_clean : ReceivedOfTwoIsClean
+received_clean first second offset count gain other eps errors within gains bound small = record {
+  within = within;
+  gains = gains;
+  bound = bound;
+  near = near_with (received_of_two first second offset gain other) errors count eps small;
+}
+
+-- ---- a carrier
+
+-- the greatest gain of a port
+pub first_most : (carrier : Carrier) (gains : List Cpx) → AreGainsOf carrier gains → square (value_at gains 0) ≤ 784
+first_most OnePort gains g = g.most
+first_most TwoPorts gains g = let m = g.most in omega (arith, m)
+first_most LongPrefix gains g = g.most
+
+pub received_by-small : EmittedIsSmall
+received_by-small OnePort load plan sfn offset gains i g =
+    (amplified (value_at gains 0) (sent_by load Only plan sfn (i + offset)) g.most (sent_by-square load Only plan sfn (i + offset))).small
+received_by-small TwoPorts load plan sfn offset gains i g =
+    received-small (sent_by load First plan sfn (i + offset)) (sent_by load Second plan sfn (i + offset)) (value_at gains 0) (value_at gains 1)
+    (sent_by-square load First plan sfn (i + offset)) (sent_by-square load Second plan sfn (i + offset)) g
+received_by-small LongPrefix load plan sfn offset gains i g =
+    (amplified (value_at gains 0) (sent_by load Long plan sfn (i + offset)) g.most (sent_by-square load Long plan sfn (i + offset))).small
+
+pub emitted_clean : EmittedIsClean
+emitted_clean carrier load plan sfn offset count gains eps errors number within are bound small = record {
+  number = number;
+  within = within;
+  gains_are = are;
+  bound = bound;
+  near = near_with (received_by carrier load plan sfn offset gains) errors count eps small;
+}
+
+pub first-small : (carrier : Carrier) (gains : List Cpx) (load : Option ℕ) (port : Port) (plan : CellPlan) (sfn i : ℕ) → AreGainsOf carrier gains →
+    IsWithin 32284 (times (value_at gains 0) (sent_by load port plan sfn i))
+first-small carrier gains load port plan sfn i g = (amplified (value_at gains 0) (sent_by load port plan sfn i) (first_most carrier gains g) (sent_by-square load port plan sfn i)).small
+
+-- ---- sums that are made port by port
+
+-- a sample that was written is its value
+pub written_at : (z : ℕ → Cpx) (n : ℕ) (list : List Sample) (k : ℕ) → list ≡ values_below n (λ i. sample_of (z i)) → k < n → sample_at list k ≡ z k
+written_at z n list k is below = ap (λ (l : List Sample). sample_at l k) is ∙ ap value_of (values_below_at (λ (i : ℕ). sample_of (z i)) n k silence below)
+
+-- what is added to it, within a bound
+pub added_small : (z w : ℕ → Cpx) (n : ℕ) (list : List Sample) (k : ℕ) → list ≡ values_below n (λ i. sample_of (z i)) → k < n → IsWithin 32284 (plus (z k) (w k)) → IsWithin 32767 (plus (sample_at list k) (w k))
+added_small z w n list k is below small =
+    subst (IsWithin 32767) (sym (ap (λ (a : Cpx). plus a (w k)) (written_at z n list k is below))) (within_more (plus (z k) (w k)) 32284 32767 small (omega arith))
+
+pub added_is : (z w : ℕ → Cpx) (n : ℕ) (list : List Sample) → list ≡ values_below n (λ i. sample_of (z i))
+    → values_below n (λ i. sample_of (plus (sample_at list i) (w i))) ≡ values_below n (λ i. sample_of (plus (z i) (w i)))
+added_is z w n list is =
+    values_below_same n (λ i. sample_of (plus (sample_at list i) (w i))) (λ i. sample_of (plus (z i) (w i)))
+    (λ k below. ap (λ (a : Cpx). sample_of (plus a (w k))) (written_at z n list k is below))
+
+-- to silence
+pub alone_small : (w : ℕ → Cpx) (n : ℕ) (list : List Sample) (k : ℕ) → list ≡ values_below n (λ i. silence) → k < n → IsWithin 32284 (w k) → IsWithin 32767 (plus (sample_at list k) (w k))
+alone_small w n list k is below small = added_small (λ (i : ℕ). nothing) w n list k is below (subst (IsWithin 32284) (sym (plus-nothing (w k))) small)
+
+pub alone_is : (w : ℕ → Cpx) (n : ℕ) (list : List Sample) → list ≡ values_below n (λ i. silence)
+    → values_below n (λ i. sample_of (plus (sample_at list i) (w i))) ≡ values_below n (λ i. sample_of (w i))
+alone_is w n list is =
+    added_is (λ (i : ℕ). nothing) w n list is
+    ∙ values_below_same n (λ i. sample_of (plus nothing (w i))) (λ i. sample_of (w i)) (λ k below. ap sample_of (plus-nothing (w k)))

@@ -1,0 +1,46 @@
+-- What is sent of a cell by a carrier: the samples of each of its antenna ports, times the gain of the port, with load
+-- or without. (own)
+use Rattle.std.specs.Prelude.{ℕ, ◌+◌, ◌≤◌, Option, List}
+use Rattle.finite.specs.Lists.{values_below}
+use Rattle.cs_num.specs.declared.Cpx.{Cpx}
+use Rattle.cs_num.specs.declared.Sample.{Sample}
+use Rattle.cs_num.specs.Complex.{times, value_at, sample_of}
+use Rattle.lte_types.specs.Timing.{IsOffset}
+use Rattle.lte_types.specs.declared.carrier.Carrier.{Carrier}
+use Rattle.lte_types.specs.declared.carrier.Carrier.TheVariants.{OnePort, TwoPorts, LongPrefix}
+use Rattle.cell_tx.specs.declared.antenna.Port.{Port}
+use Rattle.cell_tx.specs.declared.antenna.Port.TheVariants.{Only, First, Second, Long}
+use Rattle.cell_tx.specs.declared.cell.CellPlan.{CellPlan}
+use Rattle.cell_tx.specs.declared.emission.Emission.{Emission}
+use Rattle.cell_tx.specs.Ports.{port_prefix}
+use Rattle.cell_tx.specs.Load.{sent_element}
+use Rattle.cell_tx.specs.Sent.{prefix_sent}
+use Rattle.cell_tx.specs.Clean.{AreNear, received_of_two, AreGainsOf, IsAllowedBy}
+
+-- sample i of what a port sends from the frame numbered sfn on
+abbrev pub sent_by : Option ℕ → Port → CellPlan → ℕ → ℕ → Cpx
+sent_by load port plan sfn i = prefix_sent (port_prefix port) (sent_element load port plan) sfn i
+
+-- what is received of all ports of a carrier, from the sample at offset on, by a channel that is one number for each
+abbrev pub received_by : Carrier → Option ℕ → CellPlan → ℕ → ℕ → List Cpx → ℕ → Cpx
+received_by OnePort load plan sfn offset gains i = times (value_at gains 0) (sent_by load Only plan sfn (i + offset))
+received_by TwoPorts load plan sfn offset gains i =
+    received_of_two (sent_by load First plan sfn) (sent_by load Second plan sfn) offset (value_at gains 0)
+    (value_at gains 1) i
+received_by LongPrefix load plan sfn offset gains i = times (value_at gains 0) (sent_by load Long plan sfn (i + offset))
+
+-- what is received of an emission without errors
+abbrev pub emitted : Emission → ℕ → Cpx
+emitted e i = received_by e.carrier e.load e.cell e.timing.sfn e.timing.offset e.gains i
+
+abbrev pub emitted_samples : Emission → List Sample
+emitted_samples e = values_below e.samples (λ i. sample_of (emitted e i))
+
+-- the samples are what is received of all ports of a carrier, and each component is off by at most eps
+pub record IsCleanBy (carrier : Carrier) (load : Option ℕ) (recording : List Sample) (plan : CellPlan)
+    (sfn offset : ℕ) (gains : List Cpx) (eps : ℕ) : Type 0 where
+  pub number : sfn ≤ 1023
+  pub within : IsOffset offset
+  pub gains_are : AreGainsOf carrier gains
+  pub bound : IsAllowedBy carrier gains eps
+  pub near : AreNear recording (received_by carrier load plan sfn offset gains) eps
