@@ -1,13 +1,16 @@
 -- The plan of each number can be sent.
-use Rattle.std.proofs.Common.{◌≡◌, inl, ℕ, zero, suc, ◌+◌, ◌*◌, ◌%◌, ◌≤◌, ◌<◌, false, List, length, None, refl, sym, subst, arith}
+use Rattle.std.proofs.Common.{◌≡◌, inl, ℕ, zero, suc, ◌+◌, ◌*◌, ◌%◌, ◌≤◌, ◌<◌, false, true, List, length, None, refl, sym, subst, arith}
 use Rattle.std.specs.Prelude.{Bool, IsSomeAnd}
+use Rattle.lte_types.specs.declared.carrier.Carrier.{Carrier}
+use Rattle.lte_types.specs.declared.carrier.Carrier.TheVariants.{OnePort, TwoPorts, LongPrefix}
 use Rattle.grid_map.specs.Shared.{block_places_of}
 use Rattle.dci.specs.Sizes.{column_2}
 use Rattle.sib1.specs.Text.{text_of}
 use Rattle.sib1.proofs.Texts.{text_of_is}
 use Rattle.sib1.proofs.Valid.{sib1_holds}
-use Rattle.cell_tx.specs.Plan.{IsSendable, plan_refusal}
-use Rattle.cell_tx.proofs.Sendable.{accepted_is_sendable}
+use Rattle.cell_tx.specs.Transport.{coded_count, assigned_bits_of, is_resolvable}
+use Rattle.cell_tx.specs.Plan.{IsSendable, IsSendableBy, refusal_of}
+use Rattle.cell_tx.proofs.Sendable.{accepted_is_sendable_by, with_enough}
 use Rattle.cell_tx.proofs.WholeBlocks.{whole_is_resolvable}
 use Rattle.capture_make.specs.Recipe.{plan, information}
 use Rattle.capture_make.proofs.Information.{has_text}
@@ -42,6 +45,20 @@ is_sendable n =
       text = fits n;
     }
 
+-- beside the reference signals of two ports they are in 1,152 or 1,008
+whole_of_two : (parity : ℕ) → parity < 2 → 3 * (144 + 24 + 4) ≤ 2 * (block_places_of true (2 + parity) * 6)
+whole_of_two zero l = omega arith
+whole_of_two (suc zero) l = omega arith
+whole_of_two (suc (suc k)) l = absurd (omega (arith, l))
+
+pub is_sendable_by : (carrier : Carrier) (n : ℕ) → IsSendableBy carrier (plan n)
+unfolding column_2
+is_sendable_by OnePort n = is_sendable n
+is_sendable_by LongPrefix n = is_sendable n
+is_sendable_by TwoPorts n =
+    with_enough (is_resolvable (plan n) ≡ true) (coded_count (plan n) ≤ assigned_bits_of true (plan n)) (plan n) (is_sendable n)
+    (whole_of_two (n % 2) (omega arith))
+
 -- so no condition on it fails
-pub none_fails : (n : ℕ) → plan_refusal (plan n) ≡ None
-none_fails n = ((accepted_is_sendable (plan n)).1 (is_sendable n)).1
+pub none_fails : (carrier : Carrier) (n : ℕ) → refusal_of carrier (plan n) ≡ None
+none_fails carrier n = ((accepted_is_sendable_by carrier (plan n)).1 (is_sendable_by carrier n)).1

@@ -1,5 +1,5 @@
 -- The samples of a recording by number.
-use Rattle.std.proofs.Common.{◌≡◌, ℕ, ◌+◌, ◌*◌, ◌%◌, ◌<◌, ◌≤◌, List, length, ap, sym, subst, ◌∙◌, arith, ℤ, pos, get_or, mod-lt}
+use Rattle.std.proofs.Common.{◌≡◌, ℕ, ◌+◌, ◌*◌, ◌%◌, ◌<◌, ◌≤◌, List, length, None, refl, ap, sym, subst, ◌∙◌, arith, ℤ, pos, neg_ℤ, get_or, mod-lt}
 use Rattle.std.specs.Prelude.{nat_abs, All}
 use Rattle.std.proofs.lemmas.Int.{ints}
 use Rattle.std.proofs.lemmas.Nat.{mul-le}
@@ -7,21 +7,23 @@ use Rattle.finite.specs.Lists.{values_below}
 use Rattle.finite.proofs.Lists.{values_below-length, values_below_at, values_below_same, values_below-All}
 use Rattle.cs_num.specs.declared.Cpx.{Cpx}
 use Rattle.cs_num.specs.declared.Sample.{Sample}
-use Rattle.cs_num.specs.Complex.{IsWithin, plus, times, square, silence, sample_at, value_of, sample_of}
+use Rattle.cs_num.specs.Complex.{IsWithin, plus, square, silence, sample_at, value_of, sample_of}
 use Rattle.cs_num.specs.Gain.{IsGain}
+use Rattle.lte_types.specs.declared.carrier.Carrier.{Carrier}
+use Rattle.lte_types.specs.declared.carrier.Carrier.TheVariants.{OnePort, TwoPorts, LongPrefix}
 use Rattle.sample_file.specs.Recording.{IsRecording}
-use Rattle.cell_tx.specs.declared.cell.CellPlan.{CellPlan}
-use Rattle.cell_tx.specs.declared.transmission.Transmission.{Transmission}
-use Rattle.cell_tx.specs.Clean.{IsCleanOf, IsClean}
-use Rattle.cell_tx.specs.Grid.{element}
-use Rattle.cell_tx.specs.Laws.{received_with, ReceivedWithErrorsIsClean}
-use Rattle.cell_tx.specs.Sending.{received_samples}
-use Rattle.cell_tx.specs.Sent.{sent}
-use Rattle.cell_tx.proofs.Bounds.{amplified}
+use Rattle.cell_tx.specs.declared.emission.Emission.{Emission}
+use Rattle.cell_tx.specs.Clean.{IsClean, AreGains, AreGainsOf}
+use Rattle.cell_tx.specs.Emission.{received_by, emitted, emitted_samples}
+use Rattle.cell_tx.specs.Laws.{values_with, EmittedIsClean}
+use Rattle.cell_tx.proofs.Received.{received_by-small}
 use Rattle.capture_make.specs.declared.made.Made.{Made}
-use Rattle.capture_make.specs.Recipe.{plan, number, offset, sample_count, gain, IsBound}
+use Rattle.capture_make.specs.declared.made.MadeBy.{MadeBy}
+use Rattle.capture_make.specs.Recipe.{plan, number, offset, sample_count, gain, first_gain, second_gain, gains, IsBound}
 use Rattle.capture_make.specs.Errors.{drawn, error, word}
-use Rattle.capture_make.specs.Made.{samples, IsMade, IsCleanlyMade}
+use Rattle.capture_make.specs.Made.{samples_by, samples, IsMadeBy, IsCleanNumber, IsMade, IsCleanlyMade}
+
+-- ---- the gains
 
 -- the gain of a number is one
 pub gain_fits : (n : ℕ) → IsGain (gain n)
@@ -31,85 +33,124 @@ gain_fits n =
     let im : (n % 20) * (n % 20) ≤ 19 * 19 = mul-le (n % 20) (n % 20) 19 19 (omega arith) (omega arith) in
     record { least = omega (arith, some); most = omega (arith, re, im) }
 
+abs-neg : (n : ℕ) → nat_abs (neg_ℤ (pos n)) ≡ n
+abs-neg n = omega (arith, ints)
+
+pub first-square : (n : ℕ) → square (first_gain n) ≡ (1 + n % 9) * (1 + n % 9) + n % 10 * (n % 10)
+first-square n = refl
+
+pub second-square : (n : ℕ) → square (second_gain n) ≡ n % 11 * (n % 11) + n % 8 * (n % 8)
+second-square n = rw (abs-neg (n % 8)) refl
+
+one-square : (x m : ℕ) → x ≤ m → x * x ≤ m * m
+one-square x m l = mul-le x x m m l l
+
+pub both_fit : (n : ℕ) → AreGains (first_gain n) (second_gain n)
+both_fit n =
+    let first = first-square n in
+    let second = second-square n in
+    let a = one-square (1 + n % 9) 9 (omega arith) in
+    let b = one-square (n % 10) 9 (omega arith) in
+    let c = one-square (n % 11) 10 (omega arith) in
+    let d = one-square (n % 8) 7 (omega arith) in
+    let least = mul-le 1 1 (1 + n % 9) (1 + n % 9) (omega arith) (omega arith) in
+    record { least = omega (arith, first, least); most = omega (arith, first, second, a, b, c, d) }
+
+pub are_gains : (carrier : Carrier) (n : ℕ) → AreGainsOf carrier (gains carrier n)
+are_gains OnePort n = gain_fits n
+are_gains TwoPorts n = both_fit n
+are_gains LongPrefix n = gain_fits n
+
 -- ---- what is sent, with errors
 
--- the samples of a sequence from an offset on, times a gain
-abbrev pub amplified_samples : (ℕ → Cpx) → ℕ → ℕ → Cpx → List Sample
-amplified_samples sequence offset count gain = values_below count (λ i. sample_of (times gain (sequence (i + offset))))
+-- what is received leaves room for the errors
+pub room_is : (e : Emission) (clean : List Sample) → clean ≡ emitted_samples e → All (λ s. IsWithin 32284 (value_of s)) clean
+room_is e clean is =
+    subst (λ l. All (λ s. IsWithin 32284 (value_of s)) l) (sym is)
+    (values_below-All (λ s. IsWithin 32284 (value_of s)) e.samples (λ i. sample_of (emitted e i)) silence
+    (λ k below. received_by-small e.carrier e.load e.cell e.timing.sfn e.timing.offset e.gains k e.gains_are))
 
--- where the sequence is small they leave room for the errors
-pub room_is : (sequence : ℕ → Cpx) (offset count : ℕ) (gain : Cpx) (clean : List Sample) → IsGain gain → ((i : ℕ) → square (sequence i) ≤ 1153 * 1153)
-    → clean ≡ amplified_samples sequence offset count gain → All (λ s. IsWithin 32284 (value_of s)) clean
-room_is sequence offset count gain clean size small e =
-    subst (λ l. All (λ s. IsWithin 32284 (value_of s)) l) (sym e)
-    (values_below-All (λ s. IsWithin 32284 (value_of s)) count (λ i. sample_of (times gain (sequence (i + offset)))) silence
-    (λ k below. (amplified gain (sequence (k + offset)) size (small (k + offset))).small))
-
-pub with_errors_is : (errors sequence : ℕ → Cpx) (offset count : ℕ) (gain : Cpx) (clean : List Sample) → clean ≡ amplified_samples sequence offset count gain
-    → values_below (length clean) (λ i. sample_of (plus (sample_at clean i) (errors i))) ≡ received_with sequence offset count gain errors
-with_errors_is errors sequence offset count gain clean e =
-    let f : ℕ → Sample = λ i. sample_of (times gain (sequence (i + offset))) in
+pub with_errors_is : (errors values : ℕ → Cpx) (count : ℕ) (clean : List Sample) → clean ≡ values_below count (λ i. sample_of (values i))
+    → values_below (length clean) (λ i. sample_of (plus (sample_at clean i) (errors i))) ≡ values_with count values errors
+with_errors_is errors values count clean e =
+    let f : ℕ → Sample = λ i. sample_of (values i) in
     let long : length clean ≡ count = ap length e ∙ values_below-length count f in
     ap (λ n. values_below n (λ i. sample_of (plus (sample_at clean i) (errors i)))) long
-    ∙ values_below_same count (λ i. sample_of (plus (sample_at clean i) (errors i))) (λ i. sample_of (plus (times gain (sequence (i + offset))) (errors i)))
+    ∙ values_below_same count (λ i. sample_of (plus (sample_at clean i) (errors i))) (λ i. sample_of (plus (values i) (errors i)))
     (λ k below. ap (λ (s : Sample). sample_of (plus (value_of s) (errors k))) (ap (λ l. get_or l k silence) e ∙ values_below_at f count k silence below))
 
--- where a transmission is that of a number, the samples are those of its recording
-pub samples_are : (n bound : ℕ) (t : Transmission) (clean : List Sample) → t.cell ≡ plan n → t.timing.sfn ≡ number n → t.timing.offset ≡ offset n → t.samples ≡ sample_count n → t.gain ≡ gain n
-    → clean ≡ received_samples t → values_below (length clean) (λ i. sample_of (plus (sample_at clean i) (error n bound i))) ≡ samples n bound
-unfolding samples
-samples_are n bound t clean a b c d e h =
-    let g : CellPlan → ℕ → ℕ → ℕ → Cpx → List Sample = λ p s o m z. received_with (sent (element p) s) o m z (error n bound) in
-    with_errors_is (error n bound) (sent (element t.cell) t.timing.sfn) t.timing.offset t.samples t.gain clean h
-    ∙ ap (λ p. g p t.timing.sfn t.timing.offset t.samples t.gain) a
-    ∙ ap (λ s. g (plan n) s t.timing.offset t.samples t.gain) b
-    ∙ ap (λ o. g (plan n) (number n) o t.samples t.gain) c
-    ∙ ap (λ m. g (plan n) (number n) (offset n) m t.gain) d
-    ∙ ap (λ z. g (plan n) (number n) (offset n) (sample_count n) z) e
+-- what was sent is what is sent for a number
+pub record IsSentFor (carrier : Carrier) (n : ℕ) (e : Emission) : Type 0 where
+  pub carrier_is : e.carrier ≡ carrier
+  pub plan_is : e.cell ≡ plan n
+  pub number_is : e.timing.sfn ≡ number n
+  pub offset_is : e.timing.offset ≡ offset n
+  pub count_is : e.samples ≡ sample_count n
+  pub gains_are : e.gains ≡ gains carrier n
+  pub load_is : e.load ≡ None
 
--- then these, with the errors, are the recording of that number
-pub is_made : (n bound : ℕ) (t : Transmission) (clean : List Sample) (made : Made) → t.cell ≡ plan n → t.timing.sfn ≡ number n → t.timing.offset ≡ offset n → t.samples ≡ sample_count n → t.gain ≡ gain n
-    → IsBound (gain n) (pos bound) → clean ≡ received_samples t → made.sent ≡ t → made.bound ≡ pos bound → made.recording ≡ values_below (length clean) (λ i. sample_of (plus (sample_at clean i) (error n bound i))) → IsMade n made
-is_made n bound t clean made a b c d e greatest h s f r = record {
-  plan_is = ap (λ (u : Transmission). u.cell) s ∙ a;
-  number_is = ap (λ (u : Transmission). u.timing.sfn) s ∙ b;
-  offset_is = ap (λ (u : Transmission). u.timing.offset) s ∙ c;
-  count_is = ap (λ (u : Transmission). u.samples) s ∙ d;
-  gain_is = ap (λ (u : Transmission). u.gain) s ∙ e;
-  bound = subst (IsBound (gain n)) (sym f) greatest;
-  samples_are = r ∙ samples_are n bound t clean a b c d e h ∙ ap (λ z. samples n (nat_abs z)) (sym f);
+-- then the samples, with the errors, are those of its recording
+pub samples_are : (carrier : Carrier) (n bound : ℕ) (e : Emission) (clean : List Sample) → IsSentFor carrier n e → clean ≡ emitted_samples e
+    → values_below (length clean) (λ i. sample_of (plus (sample_at clean i) (error n bound i))) ≡ samples_by carrier n bound
+unfolding samples_by
+samples_are carrier n bound e clean s is =
+    let errors : ℕ → Cpx = error n bound in
+    with_errors_is errors (emitted e) e.samples clean is
+    ∙ ap (λ c. values_with e.samples (received_by c e.load e.cell e.timing.sfn e.timing.offset e.gains) errors) s.carrier_is
+    ∙ ap (λ l. values_with e.samples (received_by carrier l e.cell e.timing.sfn e.timing.offset e.gains) errors) s.load_is
+    ∙ ap (λ p. values_with e.samples (received_by carrier None p e.timing.sfn e.timing.offset e.gains) errors) s.plan_is
+    ∙ ap (λ x. values_with e.samples (received_by carrier None (plan n) x e.timing.offset e.gains) errors) s.number_is
+    ∙ ap (λ o. values_with e.samples (received_by carrier None (plan n) (number n) o e.gains) errors) s.offset_is
+    ∙ ap (λ g. values_with e.samples (received_by carrier None (plan n) (number n) (offset n) g) errors) s.gains_are
+    ∙ ap (λ m. values_with m (received_by carrier None (plan n) (number n) (offset n) (gains carrier n)) errors) s.count_is
+
+-- and these, with their bound, are that recording
+pub is_made : (carrier : Carrier) (n bound : ℕ) (made : MadeBy) → IsSentFor carrier n made.sent → IsBound carrier n (pos bound) → made.bound ≡ pos bound
+    → made.recording ≡ samples_by carrier n bound → IsMadeBy carrier n made
+is_made carrier n bound made s greatest is samples = record {
+  carrier_is = s.carrier_is;
+  plan_is = s.plan_is;
+  number_is = s.number_is;
+  offset_is = s.offset_is;
+  count_is = s.count_is;
+  gains_are = s.gains_are;
+  load_is = s.load_is;
+  bound = subst (IsBound carrier n) (sym is) greatest;
+  samples_are = samples ∙ ap (λ (z : ℤ). samples_by carrier n (nat_abs z)) (sym is);
 }
 
 -- as many as a recording has
-pub is_recording_of : (sequence errors : ℕ → Cpx) (n offset : ℕ) (gain : Cpx) (list : List Sample) → list ≡ received_with sequence offset (sample_count n) gain errors → IsRecording list
-is_recording_of sequence errors n offset gain list e =
-    let long : length list ≡ sample_count n = ap length e ∙ values_below-length (sample_count n) (λ i. sample_of (plus (times gain (sequence (i + offset))) (errors i))) in
+pub is_recording : (carrier : Carrier) (n bound : ℕ) (list : List Sample) → list ≡ samples_by carrier n bound → IsRecording list
+unfolding samples_by
+is_recording carrier n bound list e =
+    let values = received_by carrier None (plan n) (number n) (offset n) (gains carrier n) in
+    let long : length list ≡ sample_count n = ap length e ∙ values_below-length (sample_count n) (λ i. sample_of (plus (values i) (error n bound i))) in
     record { least = omega (arith, long); most = omega (arith, long) }
-
-pub is_recording : (n bound : ℕ) (list : List Sample) → list ≡ samples n bound → IsRecording list
-unfolding samples
-is_recording n bound list e = is_recording_of (sent (element (plan n)) (number n)) (error n bound) n (offset n) (gain n) list e
 
 -- ---- and cleanly
 
 drawn-within : (bound w : ℕ) → nat_abs (drawn bound w) ≤ bound
 drawn-within bound w = let below : w % (2 * bound + 1) < 2 * bound + 1 = mod-lt w (omega arith) in omega (arith, ints, below)
 
--- with the errors of the number it is a clean recording of the sequence
-pub is_clean_of : ReceivedWithErrorsIsClean → (sequence : ℕ → Cpx) (n eps : ℕ) → IsGain (gain n) → eps * eps ≤ 4 * square (gain n) →
-    IsCleanOf sequence (received_with sequence (offset n) (sample_count n) (gain n) (error n eps)) (offset n) (gain n) eps
-is_clean_of law sequence n eps size bound =
-    law sequence (offset n) (sample_count n) (gain n) eps (error n eps) (omega arith) size bound
+pub is_clean_number : EmittedIsClean → (carrier : Carrier) (n : ℕ) (bound : ℤ) → IsBound carrier n bound → IsCleanNumber carrier n (samples_by carrier n (nat_abs bound)) (nat_abs bound)
+unfolding samples_by
+is_clean_number law carrier n bound b =
+    let eps = nat_abs bound in
+    law carrier None (plan n) (number n) (offset n) (sample_count n) (gains carrier n) eps (error n eps) (omega arith) (omega arith) (are_gains carrier n) b.within
     (λ i below. record { re = drawn-within eps (word n (2 * i)); im = drawn-within eps (word n (2 * i + 1)) })
 
-pub is_clean : ReceivedWithErrorsIsClean → (n : ℕ) (made : Made) → IsMade n made → IsCleanlyMade made
-unfolding samples
+-- the law that it is
+abbrev pub NumbersAreClean : Type 0
+NumbersAreClean = (carrier : Carrier) (n : ℕ) (bound : ℤ) → IsBound carrier n bound → IsCleanNumber carrier n (samples_by carrier n (nat_abs bound)) (nat_abs bound)
+
+pub is_clean : NumbersAreClean → (n : ℕ) (made : Made) → IsMade n made → IsCleanlyMade made
 is_clean law n made m =
     let eps = nat_abs made.bound in
     let t = made.sent in
+    let clean = law OnePort n made.bound m.bound in
     let whole : IsClean (samples n eps) (plan n) (number n) (offset n) (gain n) eps = record {
-      number = omega arith;
-      samples = is_clean_of law (sent (element (plan n)) (number n)) n eps (gain_fits n) m.bound.within;
+      number = clean.number;
+      samples = record { within = clean.within; size = clean.gains_are; bound = clean.bound; near = clean.near };
     } in
     subst (λ l. IsClean l t.cell t.timing.sfn t.timing.offset t.gain eps) (sym m.samples_are)
     (subst (λ p. IsClean (samples n eps) p t.timing.sfn t.timing.offset t.gain eps) (sym m.plan_is)
@@ -119,11 +160,16 @@ is_clean law n made m =
 
 -- ---- a number has one recording
 
-pub one_bound : (g : Cpx) (x y : ℤ) → IsBound g x → IsBound g y → nat_abs x ≡ nat_abs y
-one_bound g x y a b =
+pub one_bound : (carrier : Carrier) (n : ℕ) (x y : ℤ) → IsBound carrier n x → IsBound carrier n y → nat_abs x ≡ nat_abs y
+one_bound carrier n x y a b =
     let p = a.greatest (nat_abs y) b.within in
     let q = b.greatest (nat_abs x) a.within in
     omega (arith, ints, p, q)
 
+-- where the recordings are the samples with their bounds
+pub one_of_number : (carrier : Carrier) (n : ℕ) (x y : ℤ) (a b : List Sample) → IsBound carrier n x → IsBound carrier n y
+    → a ≡ samples_by carrier n (nat_abs x) → b ≡ samples_by carrier n (nat_abs y) → a ≡ b
+one_of_number carrier n x y a b p q e f = e ∙ ap (samples_by carrier n) (one_bound carrier n x y p q) ∙ sym f
+
 pub one_recording : (n : ℕ) (a b : Made) → IsMade n a → IsMade n b → a.recording ≡ b.recording
-one_recording n a b p q = p.samples_are ∙ ap (samples n) (one_bound (gain n) a.bound b.bound p.bound q.bound) ∙ sym q.samples_are
+one_recording n a b p q = one_of_number OnePort n a.bound b.bound a.recording b.recording p.bound q.bound p.samples_are q.samples_are

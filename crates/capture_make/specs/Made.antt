@@ -1,26 +1,51 @@
--- Recording number n. (own)
-use Rattle.std.specs.Prelude.{◌≡◌, ℕ, nat_abs, List}
+-- Recording number n of each carrier. (own)
+use Rattle.std.specs.Prelude.{◌≡◌, ℕ, nat_abs, List, None}
 use Rattle.cs_num.specs.declared.Sample.{Sample}
+use Rattle.lte_types.specs.declared.carrier.Carrier.{Carrier}
+use Rattle.lte_types.specs.declared.carrier.Carrier.TheVariants.{OnePort}
 use Rattle.cell_tx.specs.Clean.{IsClean}
-use Rattle.cell_tx.specs.Grid.{element}
-use Rattle.cell_tx.specs.Laws.{received_with}
-use Rattle.cell_tx.specs.Sent.{sent}
+use Rattle.cell_tx.specs.Emission.{received_by, IsCleanBy}
+use Rattle.cell_tx.specs.Laws.{values_with}
 use Rattle.capture_make.specs.declared.made.Made.{Made}
-use Rattle.capture_make.specs.Recipe.{plan, number, offset, sample_count, gain, IsBound}
+use Rattle.capture_make.specs.declared.made.MadeBy.{MadeBy}
+use Rattle.capture_make.specs.Recipe.{plan, number, offset, sample_count, gain, gains, IsBound}
 use Rattle.capture_make.specs.Errors.{error}
 
--- its samples, where the errors have this bound: what is sent, times the gain, and each sample's error
-unfoldable pub samples : ℕ → ℕ → List Sample
-samples n bound = received_with (sent (element (plan n)) (number n)) (offset n) (sample_count n) (gain n) (error n bound)
+-- its samples, where the errors have this bound: what is received of all ports without load, and each sample's error
+unfoldable pub samples_by : Carrier → ℕ → ℕ → List Sample
+samples_by carrier n bound =
+    values_with (sample_count n) (received_by carrier None (plan n) (number n) (offset n) (gains carrier n))
+    (error n bound)
 
 -- what was sent, the bound of the errors, and the samples are those of recording number n
+pub record IsMadeBy (carrier : Carrier) (n : ℕ) (made : MadeBy) : Type 0 where
+  pub carrier_is : made.sent.carrier ≡ carrier
+  pub plan_is : made.sent.cell ≡ plan n
+  pub number_is : made.sent.timing.sfn ≡ number n
+  pub offset_is : made.sent.timing.offset ≡ offset n
+  pub count_is : made.sent.samples ≡ sample_count n
+  pub gains_are : made.sent.gains ≡ gains carrier n
+  pub load_is : made.sent.load ≡ None
+  pub bound : IsBound carrier n made.bound
+  pub samples_are : made.recording ≡ samples_by carrier n (nat_abs made.bound)
+
+-- the recording is a clean one of what is sent of the cell of that number, with errors within this bound
+abbrev pub IsCleanNumber : Carrier → ℕ → List Sample → ℕ → Type 0
+IsCleanNumber carrier n recording eps =
+    IsCleanBy carrier None recording (plan n) (number n) (offset n) (gains carrier n) eps
+
+-- ---- with one antenna port
+
+abbrev pub samples : ℕ → ℕ → List Sample
+samples n bound = samples_by OnePort n bound
+
 pub record IsMade (n : ℕ) (made : Made) : Type 0 where
   pub plan_is : made.sent.cell ≡ plan n
   pub number_is : made.sent.timing.sfn ≡ number n
   pub offset_is : made.sent.timing.offset ≡ offset n
   pub count_is : made.sent.samples ≡ sample_count n
   pub gain_is : made.sent.gain ≡ gain n
-  pub bound : IsBound (gain n) made.bound
+  pub bound : IsBound OnePort n made.bound
   pub samples_are : made.recording ≡ samples n (nat_abs made.bound)
 
 -- the recording is a clean one of what was sent, with errors within the bound

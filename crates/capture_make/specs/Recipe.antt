@@ -1,7 +1,9 @@
 -- The recipe of recording number n: which cell is sent, and how. (own)
-use Rattle.std.specs.Prelude.{ℕ, ◌+◌, ◌*◌, ◌%◌, ◌^◌, ◌≤◌, pos, ℤ, ◌-ℤ◌, ◌≤ℤ◌, nat_abs, true, false, List, [], ◌∷◌, Some, None}
+use Rattle.std.specs.Prelude.{ℕ, ◌+◌, ◌*◌, ◌%◌, ◌^◌, pos, ℤ, neg_ℤ, ◌-ℤ◌, ◌≤ℤ◌, nat_abs, true, false, List, [], ◌∷◌, Some, None}
 use Rattle.cs_num.specs.declared.Cpx.{Cpx}
-use Rattle.cs_num.specs.Complex.{square}
+use Rattle.cs_num.specs.Complex.{nothing}
+use Rattle.lte_types.specs.declared.carrier.Carrier.{Carrier}
+use Rattle.lte_types.specs.declared.carrier.Carrier.TheVariants.{OnePort, TwoPorts, LongPrefix}
 use Rattle.lte_types.specs.Codes.{duration, period, resource, window}
 use Rattle.lte_types.specs.Numerology.{frame_length}
 use Rattle.lte_types.specs.declared.mnc.Mnc.TheVariants.{Two}
@@ -10,6 +12,7 @@ use Rattle.lte_types.specs.declared.plmn.Plmn.{Plmn}
 use Rattle.lte_types.specs.declared.si_message.SiMessage.{SiMessage}
 use Rattle.lte_types.specs.declared.sib1.Sib1.{Sib1}
 use Rattle.cell_tx.specs.declared.cell.CellPlan.{CellPlan}
+use Rattle.cell_tx.specs.Clean.{IsAllowedBy}
 
 -- ---- the cell
 
@@ -71,10 +74,26 @@ offset n = n % frame_length
 abbrev pub sample_count : ℕ → ℕ
 sample_count n = frame_length * (10 + n % 90)
 
+-- the gain of one antenna port
 abbrev pub gain : ℕ → Cpx
 gain n = record { re = pos (1 + n % 19); im = pos (n % 20) }
 
--- the bound of the errors: the greatest whole number whose square is at most four times that of the gain's size
-pub record IsBound (gain : Cpx) (bound : ℤ) : Type 0 where
-  pub within : nat_abs bound * nat_abs bound ≤ 4 * square gain
-  pub greatest : (m : ℕ) → m * m ≤ 4 * square gain → pos m ≤ℤ bound
+-- and those of the first and of the second of two
+abbrev pub first_gain : ℕ → Cpx
+first_gain n = record { re = pos (1 + n % 9); im = pos (n % 10) }
+
+abbrev pub second_gain : ℕ → Cpx
+second_gain n = record { re = pos (n % 11); im = neg_ℤ (pos (n % 8)) }
+
+abbrev pub gains : Carrier → ℕ → List Cpx
+gains OnePort n = gain n ∷ nothing ∷ []
+gains TwoPorts n = first_gain n ∷ second_gain n ∷ []
+gains LongPrefix n = gain n ∷ nothing ∷ []
+
+-- the bound of the errors: the greatest that a clean recording with these gains allows
+pub record IsBoundBy (carrier : Carrier) (gains : List Cpx) (bound : ℤ) : Type 0 where
+  pub within : IsAllowedBy carrier gains (nat_abs bound)
+  pub greatest : (m : ℕ) → IsAllowedBy carrier gains m → pos m ≤ℤ bound
+
+abbrev pub IsBound : Carrier → ℕ → ℤ → Type 0
+IsBound carrier n bound = IsBoundBy carrier (gains carrier n) bound

@@ -5,5 +5,5 @@ mod errors;
 mod made;
 mod recipe;
 
-pub use made::{Made, made_is_clean, make, with_errors};
-pub use recipe::{bound, gain, plan, sample_count, timing};
+pub use made::{Made, MadeBy, made_is_clean, make, make_by, numbers_are_clean};
+pub use recipe::{gain, gains, plan, timing};

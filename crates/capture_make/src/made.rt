@@ -1,23 +1,37 @@
 //! Recordings by number.
 
-ghost use Rattle.std.specs.Prelude.{◌≡◌, ◌≤◌, ℕ, All, IfOk, pos};
+ghost use Rattle.std.specs.Prelude.{◌≡◌, ◌≤◌, ℕ, All, IfOk, nat_abs, pos, ℤ};
+ghost use Rattle.lte_types.specs.declared.carrier.Carrier.{Carrier as AnyCarrier};
+ghost use Rattle.lte_types.specs.declared.carrier.Carrier.TheVariants.{OnePort};
 ghost use Rattle.cs_num.specs.Complex.{IsWithin, value_of};
 ghost use Rattle.sample_file.specs.Recording.{IsRecording};
-ghost use Rattle.cell_tx.specs.Plan.{IsSendable};
-ghost use Rattle.cell_tx.specs.Sending.{received_samples};
-ghost use Rattle.capture_make.specs.Recipe.{plan};
+ghost use Rattle.cell_tx.specs.Plan.{IsSendable, IsSendableBy};
+ghost use Rattle.cell_tx.specs.Emission.{emitted_samples};
+ghost use Rattle.capture_make.specs.Recipe.{plan, IsBound};
 ghost use Rattle.capture_make.specs.Errors.{with_errors as with_errors_of};
-ghost use Rattle.capture_make.specs.Made.{IsMade, IsCleanlyMade};
+ghost use Rattle.capture_make.specs.Made.{samples_by, IsMadeBy, IsCleanNumber, IsMade, IsCleanlyMade};
 ghost use Rattle.capture_make.specs.declared.made.Made.{Made as MadeValue};
 
 use crate::errors::add_errors;
-use crate::recipe::{bound, transmission};
-use cell_tx::{Transmission, send_all, sent_is_clean};
+use crate::recipe::{bound, emission};
+use cell_tx::{Emission, Transmission, emit, sum_is_clean};
 use cs_num::Sample;
+use lte_types::Carrier;
 use sample_file::Recording;
 use std::alloc::{AllocError, Global};
 
-/// A recording by number, and what was sent.
+/// A recording by number of any carrier, and what was sent.
+#[derive(Drop)]
+pub struct MadeBy {
+    /// What was sent.
+    pub sent: Emission,
+    /// The greatest bound that a clean recording with these gains allows: no component of an error has a greater size.
+    pub bound: i16,
+    /// What was sent, with the errors.
+    pub recording: Recording,
+}
+
+/// A recording by number of one antenna port, and what was sent.
 #[derive(Drop)]
 pub struct Made {
     /// What was sent.
@@ -29,18 +43,18 @@ pub struct Made {
     pub recording: Recording,
 }
 
-// What a transmission sends, in memory of its own.
-fn sent_samples(alloc: Global, t: &Transmission) -> Result<Vec<Sample>, AllocError>
-    ensures { IfOk result (λ samples. samples.items ≡ received_samples t.now) }
+// What is received of an emission, in memory of its own.
+fn emitted_samples(alloc: Global, sent: &Emission) -> Result<Vec<Sample>, AllocError>
+    ensures { IfOk result (λ samples. samples.items ≡ emitted_samples sent.now) }
 {
-    let mut samples = vec![in alloc; Sample { re: 0, im: 0 }; t.samples as usize]?;
-    send_all(t, &mut samples);
+    let mut samples = vec![in alloc; Sample { re: 0, im: 0 }; sent.samples as usize]?;
+    emit(sent, &mut samples);
     Ok(samples)
 }
 
-/// Samples, whose components have size at most 32,284, with the errors of number `n`; no component of an error has a
-/// greater size than `bound`, which is at most 56.
-pub fn with_errors(n: u32, bound: u16, mut samples: Vec<Sample>) -> Vec<Sample>
+// Samples, whose components have size at most 32,284, with the errors of number `n`; no component of an error has a
+// greater size than `bound`, which is at most 56.
+fn with_errors(n: u32, bound: u16, mut samples: Vec<Sample>) -> Vec<Sample>
     requires bound { bound ≤ 56 }
     requires room { All (λ s. IsWithin 32284 (value_of s)) samples.items }
     ensures { result.items ≡ with_errors_of n bound samples.items }
@@ -50,41 +64,76 @@ pub fn with_errors(n: u32, bound: u16, mut samples: Vec<Sample>) -> Vec<Sample>
 }
 
 // The recording with what was sent and the bound of its errors.
-fn with_bound(sent: Transmission, bound: u16, recording: Recording) -> Made
+fn with_bound(sent: Emission, bound: u16, recording: Recording) -> MadeBy
     requires { bound ≤ 56 }
     ensures sent { result.sent ≡ sent }
     ensures bound { result.bound ≡ pos bound }
     ensures recording { result.recording ≡ recording }
 {
-    Made {
+    MadeBy {
         sent,
         bound: bound as i16,
         recording,
     }
 }
 
-/// Recording number `n`, of 10 to 99 frames: a cell that can be sent, times a gain, and errors of at most twice the
-/// gain's size, all by one recipe (`docs/FORMATS.md`). Only memory can be wanting. (own)
-pub fn make(alloc: Global, n: u32) -> Result<Made, AllocError>
-    ensures made { IfOk result (IsMade n) }
-    ensures sendable { IsSendable (plan n) }
-    ensures clean { IfOk result IsCleanlyMade }
+/// Recording number `n` of a carrier, of 10 to 99 frames: what a cell that can be sent by it sends at each antenna
+/// port, times the gain of the port, and errors of the greatest bound that a clean recording allows, all by one recipe
+/// (`docs/FORMATS.md`). Only memory can be wanting. (own)
+pub fn make_by(alloc: Global, carrier: Carrier, n: u32) -> Result<MadeBy, AllocError>
+    ensures made { IfOk result (IsMadeBy carrier n) }
+    ensures sendable { IsSendableBy carrier (plan n) }
+    ensures clean { IfOk result (λ made. IsCleanNumber carrier n made.recording (nat_abs made.bound)) }
     ensures valid { IfOk result (λ made. IsRecording made.recording) }
 {
-    let sent = transmission(n);
-    let bound = bound(n);
-    let samples = sent_samples(alloc, &sent)?;
+    let sent = emission(carrier, n);
+    let bound = bound(carrier, n);
+    let samples = emitted_samples(alloc, &sent)?;
     let samples = with_errors(n, bound, samples);
-    made_is_clean();
+    numbers_are_clean();
     match Recording::new(samples) {
         Some(recording) => Ok(with_bound(sent, bound, recording)),
         None => unreachable!(),
     }
 }
 
-/// A law: each recording by number is a clean one of what was sent, with errors within the bound.
+// What was made with one antenna port.
+fn of_one_port(n: u32, made: MadeBy) -> Made
+    requires { IsMadeBy OnePort n made }
+    ensures made { IsMade n result }
+    ensures recording { result.recording ≡ made.recording }
+{
+    Made {
+        sent: Transmission::of(made.sent),
+        bound: made.bound,
+        recording: made.recording,
+    }
+}
+
+/// Recording number `n` with one antenna port: that of `make_by`, with errors of at most twice the gain's size. (own)
+pub fn make(alloc: Global, n: u32) -> Result<Made, AllocError>
+    ensures made { IfOk result (IsMade n) }
+    ensures sendable { IsSendable (plan n) }
+    ensures clean { IfOk result IsCleanlyMade }
+    ensures valid { IfOk result (λ made. IsRecording made.recording) }
+{
+    let made = make_by(alloc, Carrier::OnePort, n)?;
+    made_is_clean();
+    Ok(of_one_port(n, made))
+}
+
+/// A law: the samples of each recording by number, with errors of the greatest bound that its gains allow, are a clean
+/// recording of what is sent for the number.
+pub fn numbers_are_clean()
+    ensures { (carrier : AnyCarrier) (n : ℕ) (bound : ℤ) → IsBound carrier n bound →
+        IsCleanNumber carrier n (samples_by carrier n (nat_abs bound)) (nat_abs bound) }
+{
+    sum_is_clean();
+}
+
+/// A law: each recording by number with one antenna port is a clean one of what was sent, with errors within the bound.
 pub fn made_is_clean()
     ensures { (n : ℕ) (made : MadeValue) → IsMade n made → IsCleanlyMade made }
 {
-    sent_is_clean();
+    numbers_are_clean();
 }

@@ -1,15 +1,17 @@
 //! What is sent for a number.
 
-ghost use Rattle.std.specs.Prelude.{◌≡◌, ◌≤◌, ◌%◌, [], ◌∷◌, pos, length, None};
+ghost use Rattle.std.specs.Prelude.{◌≡◌, ◌⊎◌, ◌≤◌, ◌%◌, [], ◌∷◌, pos, length, None};
+ghost use Rattle.lte_types.specs.declared.carrier.Carrier.TheVariants.{OnePort, TwoPorts};
 ghost use Rattle.lte_types.specs.Codes.{duration as duration_with, period as period_with, resource as resource_with, window as window_with};
 ghost use Rattle.cell_tx.specs.Clean.{IsCount};
-ghost use Rattle.capture_make.specs.Recipe.{network, message as message_of, information as information_of, plan as plan_of, number, offset, sample_count, gain as gain_with, IsBound};
+ghost use Rattle.cell_tx.specs.Plan.{refusal_of};
+ghost use Rattle.capture_make.specs.Recipe.{network, message as message_of, information as information_of, plan as plan_of, number, offset, sample_count, gain as gain_with, first_gain, second_gain, gains as gains_of, IsBound};
 
-use cell_tx::{Cell, CellPlan, Transmission};
-use cs_num::Gain;
+use cell_tx::{Cell, CellPlan, Emission};
+use cs_num::{Cpx, Gain};
 use lte_types::{
-    Duration, Mnc, Period, Plmn, Plmns, Resource, Schedule, Sfn, SiMessage, Sib1, Sibs, Timing,
-    Window,
+    Carrier, Duration, Mnc, Period, Plmn, Plmns, Resource, Schedule, Sfn, SiMessage, Sib1, Sibs,
+    Timing, Window,
 };
 
 // The samples of a frame.
@@ -132,23 +134,55 @@ pub fn plan(n: u32) -> CellPlan
     }
 }
 
-// The plan of each number can be sent (`Plans`), so that it is never refused.
-fn cell(n: u32) -> Cell
-    ensures { result ≡ plan_of n }
+// The plan of each number can be sent by each carrier (`Plans`), so that it is never refused.
+fn cell(carrier: Carrier, n: u32) -> Cell
+    ensures plan { result ≡ plan_of n }
+    ensures accepted { refusal_of carrier result ≡ None }
 {
-    match Cell::new(plan(n)) {
+    match Cell::of(carrier, plan(n)) {
         Ok(cell) => cell,
         Err(_) => unreachable!(),
     }
 }
 
-/// The gain of recording number `n`.
+/// The gain of recording number `n` with one antenna port.
 pub fn gain(n: u32) -> Gain
     ensures { result ≡ gain_with n }
 {
     match Gain::new((1 + n % 19) as i16, (n % 20) as i16) {
         Some(gain) => gain,
         None => unreachable!(),
+    }
+}
+
+// The gain of the first of two ports.
+fn first_gain(n: u32) -> Cpx
+    ensures { result ≡ first_gain n }
+{
+    Cpx {
+        re: (1 + n % 9) as i64,
+        im: (n % 10) as i64,
+    }
+}
+
+// The gain of the second port, which may be 0.
+fn second_gain(n: u32) -> Cpx
+    ensures { result ≡ second_gain n }
+{
+    Cpx {
+        re: (n % 11) as i64,
+        im: -((n % 8) as i64),
+    }
+}
+
+/// The gains of the antenna ports of a carrier for recording number `n`; that of a port which it has not is 0.
+pub fn gains(carrier: Carrier, n: u32) -> [Cpx; 2]
+    ensures { result ≡ gains_of carrier n }
+{
+    match carrier {
+        Carrier::OnePort => [gain(n).value(), Cpx::ZERO],
+        Carrier::TwoPorts => [first_gain(n), second_gain(n)],
+        Carrier::LongPrefix => [gain(n).value(), Cpx::ZERO],
     }
 }
 
@@ -163,35 +197,73 @@ pub fn timing(n: u32) -> Timing
     }
 }
 
-/// How many samples recording number `n` has: those of 10 to 99 frames.
-pub fn sample_count(n: u32) -> u32
+// How many samples recording number `n` has: those of 10 to 99 frames.
+fn sample_count(n: u32) -> u32
     ensures value { result ≡ sample_count n }
     ensures bound { IsCount result }
 {
     FRAME * (10 + n % 90)
 }
 
-/// What is sent for number `n`.
-pub(crate) fn transmission(n: u32) -> Transmission
+/// What is sent by a carrier for number `n`.
+pub(crate) fn emission(carrier: Carrier, n: u32) -> Emission
+    ensures carrier { result.carrier ≡ carrier }
     ensures cell { result.cell ≡ plan_of n }
     ensures number { result.timing.sfn ≡ number n }
     ensures offset { result.timing.offset ≡ offset n }
     ensures count { result.samples ≡ sample_count n }
-    ensures gain { result.gain ≡ gain_with n }
+    ensures gains { result.gains ≡ gains_of carrier n }
+    ensures load { result.load ≡ None }
 {
-    Transmission {
-        cell: cell(n),
+    Emission {
+        cell: cell(carrier, n),
+        carrier,
         timing: timing(n),
         samples: sample_count(n),
-        gain: gain(n),
+        gains: gains(carrier, n),
+        load: None,
     }
 }
 
-/// The bound of the errors: the greatest whole number whose square is at most four times that of the gain's size.
-pub fn bound(n: u32) -> u16
-    ensures bound { IsBound (gain_with n) (pos result) }
+// The bound of the errors with one antenna port: the greatest whole number whose square is at most four times that of
+// the gain's size.
+fn bound_of_one(n: u32) -> u16
+    ensures bound { IsBound OnePort n (pos result) }
     ensures small { result ≤ 56 }
 {
     let (re, im) = (1 + n % 19, n % 20);
     (4 * (re * re + im * im)).isqrt() as u16
+}
+
+// The lesser of two numbers.
+fn least(a: u32, b: u32) -> u32
+    ensures first { result ≤ a }
+    ensures second { result ≤ b }
+    ensures one { (result ≡ a) ⊎ (result ≡ b) }
+{
+    if a < b { a } else { b }
+}
+
+// That with two: the greatest whole number whose square is at most a quarter of the sum of the squares of both gains'
+// sizes, and at most four times that of the first.
+fn bound_of_two(n: u32) -> u16
+    ensures bound { IsBound TwoPorts n (pos result) }
+    ensures small { result ≤ 56 }
+{
+    let (a, b, c, d) = (1 + n % 9, n % 10, n % 11, n % 8);
+    let first = a * a + b * b;
+    let both = first + c * c + d * d;
+    least(both / 4, 4 * first).isqrt() as u16
+}
+
+/// The bound of the errors: the greatest that a clean recording with the gains of the number allows.
+pub(crate) fn bound(carrier: Carrier, n: u32) -> u16
+    ensures bound { IsBound carrier n (pos result) }
+    ensures small { result ≤ 56 }
+{
+    match carrier {
+        Carrier::OnePort => bound_of_one(n),
+        Carrier::TwoPorts => bound_of_two(n),
+        Carrier::LongPrefix => bound_of_one(n),
+    }
 }

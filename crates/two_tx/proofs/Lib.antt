@@ -1,4 +1,2 @@
-mod Refusals
 pub mod Plans
-mod Received
 pub mod Samples

@@ -1,23 +1,18 @@
 //! Recordings by number.
 
-ghost use Rattle.std.specs.Prelude.{◌≡◌, ◌*◌, ◌≤◌, ℕ, All, IfOk, length, pos};
-ghost use Rattle.finite.specs.Lists.{values_below};
-ghost use Rattle.cs_num.specs.Complex.{plus, times, sample_at, square, value_of, sample_of};
+ghost use Rattle.std.specs.Prelude.{◌≡◌, ℕ, IfOk};
+ghost use Rattle.lte_types.specs.declared.carrier.Carrier.TheVariants.{TwoPorts};
 ghost use Rattle.sample_file.specs.Recording.{IsRecording};
-ghost use Rattle.capture_make.specs.Recipe.{plan as plan_of, number as number_of, offset as offset_of};
-ghost use Rattle.two_tx.specs.Made.{port_samples as samples_of_port, received_samples as received_of, IsMade, IsCleanlyMade};
+ghost use Rattle.capture_make.specs.Recipe.{plan as plan_of};
+ghost use Rattle.capture_make.specs.Made.{IsMadeBy};
+ghost use Rattle.two_tx.specs.Made.{IsMade, IsCleanlyMade};
 ghost use Rattle.two_tx.specs.Plan.{IsSendableOfTwo};
-ghost use Rattle.two_tx.specs.Recipe.{gains, first_gain as first_of, second_gain as second_of};
 ghost use Rattle.two_tx.specs.declared.made.TwoMade.{TwoMade as MadeValue};
 
-use crate::Cell2;
-use crate::gains::add_ports;
-use crate::laws::received_is_clean;
-use crate::recipe::{bound, cell, first_gain, second_gain};
-use capture_make::{plan, sample_count, timing, with_errors};
-use cell_tx::{CellPlan, Port, port_sequence};
-use cs_num::{Cpx, Sample};
-use lte_types::Timing;
+use capture_make::{MadeBy, gains, make_by, numbers_are_clean, plan, timing};
+use cell_tx::CellPlan;
+use cs_num::Cpx;
+use lte_types::{Carrier, Timing};
 use sample_file::Recording;
 use std::alloc::{AllocError, Global};
 
@@ -36,80 +31,38 @@ pub struct TwoMade {
     pub recording: Recording,
 }
 
-// What a port of the cell of number n sends, in memory of its own.
-fn port_samples(alloc: Global, cell: &Cell2, port: Port, n: u32) -> Result<Vec<Sample>, AllocError>
-    ensures { IfOk result (λ samples. samples.items ≡ samples_of_port port cell.now n) }
-{
-    let mut samples = vec![in alloc; Sample { re: 0, im: 0 }; sample_count(n) as usize]?;
-    port_sequence(cell.cell(), port, timing(n), &mut samples);
-    Ok(samples)
-}
-
-// The samples of the first port, and those of the second, each times its gain.
-fn with_second(n: u32, mut samples: Vec<Sample>, second: &[Sample]) -> Vec<Sample>
-    requires room { length second.now ≡ length samples.items }
-    requires first_size { All (λ s. square (value_of s) ≤ 1153 * 1153) samples.items }
-    requires second_size { All (λ s. square (value_of s) ≤ 1153 * 1153) second.now }
-    ensures { result.items ≡ values_below (length samples.items)
-        (λ i. sample_of (plus (times (first_of n) (sample_at samples.items i))
-        (times (second_of n) (sample_at second.now i)))) }
-{
-    add_ports(first_gain(n), second_gain(n), &mut samples, second);
-    samples
-}
-
-// What is received of both ports without errors, in memory of its own.
-fn received_samples(alloc: Global, cell: &Cell2, n: u32) -> Result<Vec<Sample>, AllocError>
-    requires { cell.now ≡ plan_of n }
-    ensures { IfOk result (λ samples. samples.items ≡ received_of n) }
-{
-    let samples = port_samples(alloc, cell, Port::First, n)?;
-    let second = port_samples(alloc, cell, Port::Second, n)?;
-    Ok(with_second(n, samples, &second))
-}
-
-// The recording of number n with what was sent and the bound of its errors.
-fn made_of(n: u32, bound: u16, recording: Recording) -> TwoMade
-    requires { bound ≤ 56 }
-    ensures plan { result.plan ≡ plan_of n }
-    ensures number { result.timing.sfn ≡ number_of n }
-    ensures offset { result.timing.offset ≡ offset_of n }
-    ensures gains { result.gains ≡ gains n }
-    ensures bound { result.bound ≡ pos bound }
-    ensures recording { result.recording ≡ recording }
+// What was made with two antenna ports.
+fn of_two_ports(n: u32, made: MadeBy) -> TwoMade
+    requires made { IsMadeBy TwoPorts n made }
+    requires valid { IsRecording made.recording }
+    ensures made { IsMade n result }
+    ensures valid { IsRecording result.recording }
 {
     TwoMade {
         plan: plan(n),
         timing: timing(n),
-        gains: [first_gain(n), second_gain(n)],
-        bound: bound as i16,
-        recording,
+        gains: gains(Carrier::TwoPorts, n),
+        bound: made.bound,
+        recording: made.recording,
     }
 }
 
-/// Recording number `n` with two antenna ports, of 10 to 99 frames: what both ports of a cell send, each times its
-/// gain, and errors of the greatest bound that a clean recording allows, all by one recipe (`docs/FORMATS.md`). Only
-/// memory can be wanting. (own)
+/// Recording number `n` with two antenna ports, of 10 to 99 frames: that of `capture_make::make_by`, what both ports of
+/// a cell send, each times its gain, and errors of the greatest bound that a clean recording allows. (own)
 pub fn make(alloc: Global, n: u32) -> Result<TwoMade, AllocError>
     ensures made { IfOk result (IsMade n) }
     ensures sendable { IsSendableOfTwo (plan_of n) }
     ensures clean { IfOk result IsCleanlyMade }
     ensures valid { IfOk result (λ made. IsRecording made.recording) }
 {
-    let cell = cell(n);
-    let bound = bound(n);
-    let samples = received_samples(alloc, &cell, n)?;
-    let samples = with_errors(n, bound, samples);
+    let made = make_by(alloc, Carrier::TwoPorts, n)?;
     made_is_clean();
-    match Recording::new(samples) {
-        Some(recording) => Ok(made_of(n, bound, recording)),
-        None => unreachable!(),
-    }
+    Ok(of_two_ports(n, made))
 }
 
 /// A law: each recording by number is a clean one of what was sent, with its gains and with errors within its bound.
 pub fn made_is_clean()
     ensures { (n : ℕ) (made : MadeValue) → IsMade n made → IsCleanlyMade made }
 {
-    received_is_clean();
+    numbers_are_clean();
 }

@@ -1,11 +1,12 @@
 use Rattle.std.proofs.Common.{◌≡◌, Some, None, ap, sym, ◌∙◌}
-use Rattle.cell_tx.specs.Plan.{plan_refusal}
+use Rattle.cell_tx.specs.Plan.{refusal_of}
 use Rattle.capture_make.proofs.Plans.{none_fails}
 use Rattle.capture_make.proofs.recipe.cell.Goals as goal
 
 pub unreachable-requires : goal.unreachable-requires
 unreachable-requires c =
-    let refused : plan_refusal c.plan.result ≡ Some c.in-Err.field-0 = c.in-Err.ensures.refusal in
-    let none : plan_refusal c.plan.result ≡ None = ap plan_refusal c.plan.ensures ∙ none_fails c.args.n in
+    let carrier = c.args.carrier in
+    let refused : refusal_of carrier c.plan.result ≡ Some c.in-Err.field-0 = c.in-Err.ensures.refusal in
+    let none : refusal_of carrier c.plan.result ≡ None = ap (refusal_of carrier) c.plan.ensures ∙ none_fails carrier c.args.n in
     let both : None ≡ Some c.in-Err.field-0 = sym none ∙ refused in
     absurd cc

@@ -2,8 +2,8 @@ use Rattle.std.proofs.Common.{◌≡◌, ◌⊎◌, inl, inr, ℕ, ◌+◌, ◌*
 use Rattle.std.proofs.lemmas.Bool.{cases_lt}
 use Rattle.std.proofs.lemmas.Int.{ints}
 use Rattle.std.proofs.lemmas.Nat.{mul-le}
-use Rattle.two_tx.proofs.Samples.{first-square, second-square}
-use Rattle.two_tx.proofs.recipe.bound.Goals as goal
+use Rattle.capture_make.proofs.Samples.{first-square, second-square}
+use Rattle.capture_make.proofs.recipe.bound_of_two.Goals as goal
 
 -- a number whose square is below the next square is no greater
 no_greater : (m r n : ℕ) → m * m ≤ n → n < (r + 1) * (r + 1) → m ≤ r
