@@ -9,9 +9,10 @@ use Rattle.serde_json.specs.Find.{as_object}
 use Rattle.serde_json.specs.Read.{read as value_of_text}
 use Rattle.serde_json.specs.View.{items_view}
 use Rattle.serde_json.specs.declared.value.Value.{Value}
+use Rattle.lte_types.specs.declared.carrier.Carrier.{Carrier}
 use Rattle.cell_tx.specs.declared.error.CellError.TheVariants.{Form}
 use Rattle.cell_json.specs.Kinds.{key_count}
-use Rattle.cell_json.specs.Reading.{json_of, refusal_of, refusal}
+use Rattle.cell_json.specs.Reading.{json_of, refusal_of, refusal_by}
 use Rattle.cell_json.specs.Description.{pair_in}
 
 -- the members of an object are its keys
@@ -36,9 +37,9 @@ pub text_has_value : (bytes : List ℕ) (json : Data) → IsUtf8 bytes → value
 text_has_value bytes json text e = let t : is_utf8 bytes ≡ true = is_utf8-from_IsUtf8 bytes text in rw (t, e) refl
 
 -- bytes that are no text, or a text that is no JSON, have not the form
-pub no_json : (bytes : List ℕ) → (IsUtf8 bytes → value_of_text bytes ≡ None) → refusal bytes ≡ Some Form
-no_json bytes h = settle (is_utf8 bytes) refl
+pub no_json : (carrier : Carrier) (bytes : List ℕ) → (IsUtf8 bytes → value_of_text bytes ≡ None) → refusal_by carrier bytes ≡ Some Form
+no_json carrier bytes h = settle (is_utf8 bytes) refl
   where
-    settle : (b : Bool) → is_utf8 bytes ≡ b → refusal_of (if is_utf8 bytes then value_of_text bytes else None) ≡ Some Form
+    settle : (b : Bool) → is_utf8 bytes ≡ b → refusal_of carrier (if is_utf8 bytes then value_of_text bytes else None) ≡ Some Form
     settle true e = let none : value_of_text bytes ≡ None = h (IsUtf8-from_is_utf8 bytes e) in rw (e, none) refl
     settle false e = rw e refl

@@ -5,10 +5,11 @@ use Rattle.std.proofs.lemmas.Option.{slice_get_within}
 use Rattle.serde_json.specs.Data.{Data}
 use Rattle.lte_types.specs.declared.sib1.Sib1.{Sib1}
 use Rattle.dci.specs.Sizes.{size_of, column_2, column_3}
-use Rattle.cell_tx.specs.declared.transmission.Transmission.{Transmission}
+use Rattle.lte_types.specs.declared.timing.Timing.{Timing}
+use Rattle.cell_tx.specs.declared.cell.CellPlan.{CellPlan}
 use Rattle.cell_tx.specs.Plan.{IsSendable}
 use Rattle.cell_json.specs.Kinds.{is_between}
-use Rattle.cell_json.specs.Description.{in_field, number_at, gain_at, sib1_at, plan_of}
+use Rattle.cell_json.specs.Description.{in_field, number_at, sib1_at, plan_of}
 use Rattle.cell_json.specs.Reading.{HasValues}
 
 not_negative : (most : ℕ) (z : ℤ) → is_between (pos 0) (pos most) z ≡ true → pos (nat_abs z) ≡ z
@@ -47,22 +48,20 @@ small_column column (inl e) = omega (arith, e)
 small_column column (inr e) = omega (arith, e)
 
 -- a cell with the plan of a description has its values
-pub has_values : (t : Transmission) (json : Data) (sib1 : Sib1) → IsSendable t.cell → t.cell ≡ plan_of json sib1 → Some sib1 ≡ sib1_at json
-    → pos t.timing.sfn ≡ number_at (codes "sfn") json → pos t.timing.offset ≡ number_at (codes "offset") json → pos t.samples ≡ number_at (codes "samples") json
-    → t.gain ≡ gain_at json → HasValues t json
-has_values t json sib1 sendable is there sfn offset samples gain = record {
-  identity = kept 65535 t.cell.identity (number_at (codes "identity") json) (ap (λ plan. plan.identity) is) (omega (arith, sendable.identity));
-  duration = ap (λ plan. plan.duration) is;
-  resource = ap (λ plan. plan.resource) is;
-  spare = kept 65535 t.cell.spare (number_at (codes "spare") json) (ap (λ plan. plan.spare) is) (omega (arith, sendable.spare));
-  cfi = kept 255 t.cell.cfi (number_at (codes "cfi") json) (ap (λ plan. plan.cfi) is) (omega (arith, sendable.cfi.1));
-  start = kept 255 t.cell.start (number_at (codes "start") json) (ap (λ plan. plan.start) is) (omega (arith, sendable.assignment.inside));
-  blocks = kept 255 t.cell.blocks (number_at (codes "blocks") json) (ap (λ plan. plan.blocks) is) (omega (arith, sendable.assignment.inside));
-  mcs = kept 255 t.cell.mcs (number_at (codes "mcs") json) (ap (λ plan. plan.mcs) is) (small_scheme t.cell.mcs t.cell.column sendable.mcs);
-  column = kept 255 t.cell.column (number_at (codes "column") json) (ap (λ plan. plan.column) is) (small_column t.cell.column sendable.column);
-  sib1 = ap (λ plan. Some plan.sib1) is ∙ there;
-  sfn = sfn;
-  offset = offset;
-  samples = samples;
-  gain = gain;
+pub has_values : (plan : CellPlan) (timing : Timing) (samples : ℕ) (json : Data) (sib1 : Sib1) → IsSendable plan → plan ≡ plan_of json sib1 → Some sib1 ≡ sib1_at json
+    → pos timing.sfn ≡ number_at (codes "sfn") json → pos timing.offset ≡ number_at (codes "offset") json → pos samples ≡ number_at (codes "samples") json → HasValues plan timing samples json
+has_values plan timing samples json sib1 sendable is there sfn_is offset_is samples_is = record {
+  identity = kept 65535 plan.identity (number_at (codes "identity") json) (ap (λ p. p.identity) is) (omega (arith, sendable.identity));
+  duration = ap (λ p. p.duration) is;
+  resource = ap (λ p. p.resource) is;
+  spare = kept 65535 plan.spare (number_at (codes "spare") json) (ap (λ p. p.spare) is) (omega (arith, sendable.spare));
+  cfi = kept 255 plan.cfi (number_at (codes "cfi") json) (ap (λ p. p.cfi) is) (omega (arith, sendable.cfi.1));
+  start = kept 255 plan.start (number_at (codes "start") json) (ap (λ p. p.start) is) (omega (arith, sendable.assignment.inside));
+  blocks = kept 255 plan.blocks (number_at (codes "blocks") json) (ap (λ p. p.blocks) is) (omega (arith, sendable.assignment.inside));
+  mcs = kept 255 plan.mcs (number_at (codes "mcs") json) (ap (λ p. p.mcs) is) (small_scheme plan.mcs plan.column sendable.mcs);
+  column = kept 255 plan.column (number_at (codes "column") json) (ap (λ p. p.column) is) (small_column plan.column sendable.column);
+  sib1 = ap (λ p. Some p.sib1) is ∙ there;
+  sfn = sfn_is;
+  offset = offset_is;
+  samples = samples_is;
 }

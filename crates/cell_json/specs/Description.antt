@@ -1,11 +1,13 @@
 -- The keys of a description, and the conditions on what stands there. (own)
-use Rattle.std.specs.Prelude.{ℕ, Bool, ◌&&◌, nat_le, if◌then◌else◌, List, [], ◌∷◌, ◌++◌, codes, Option, None, is_some, option_map, option_and_then, ℤ, pos, nat_abs}
+use Rattle.std.specs.Prelude.{ℕ, ◌+◌, Bool, ◌&&◌, nat_le, if◌then◌else◌, List, [], ◌∷◌, ◌++◌, codes, Option, None, is_some, option_map, option_and_then, ℤ, pos, nat_abs}
 use Rattle.std.specs.Option.{unwrap_or, option_map_or}
 use Rattle.serde_json.specs.Data.{Data, Items, no_items, item}
 use Rattle.serde_json.specs.Find.{as_bool, as_str, as_array}
 use Rattle.cs_num.specs.declared.Cpx.{Cpx}
-use Rattle.cs_num.specs.Complex.{nothing, square}
+use Rattle.cs_num.specs.Complex.{nothing, square, value_at}
 use Rattle.cs_num.specs.Gain.{with_parts}
+use Rattle.lte_types.specs.declared.carrier.Carrier.{Carrier}
+use Rattle.lte_types.specs.declared.carrier.Carrier.TheVariants.{OnePort, TwoPorts, LongPrefix}
 use Rattle.lte_types.specs.declared.duration.Duration.{Duration}
 use Rattle.lte_types.specs.declared.duration.Duration.TheVariants.{Normal}
 use Rattle.lte_types.specs.declared.resource.Resource.{Resource}
@@ -16,7 +18,7 @@ use Rattle.lte_types.specs.Numerology.{least_samples, most_samples}
 use Rattle.cell_tx.specs.declared.cell.CellPlan.{CellPlan}
 use Rattle.cell_tx.specs.declared.error.CellError.TheVariants.{Form, Sfn, Offset, Samples, Gain, Sib1Range}
 use Rattle.cell_tx.specs.Conditions.{Condition, condition}
-use Rattle.cell_tx.specs.Plan.{plan_conditions}
+use Rattle.cell_tx.specs.Plan.{conditions_of}
 use Rattle.cell_json.specs.Kinds.{whole_of, is_between, null_or, list_of, at_key, has, has_exactly, object_of}
 use Rattle.cell_json.specs.Information.{sib1_in}
 
@@ -109,18 +111,24 @@ number_keys =
     ∷ has (codes "column") whole_of
     ∷ []
 
+-- of the carrier: two antenna ports have a second gain,
+abbrev pub carrier_keys : Carrier → List (Data → Bool)
+carrier_keys OnePort = []
+carrier_keys TwoPorts = has (codes "gain2") pair_of ∷ []
+carrier_keys LongPrefix = []
+
 -- and all
-abbrev pub keys : List (Data → Bool)
-keys =
+abbrev pub keys : Carrier → List (Data → Bool)
+keys carrier =
     sending_keys
     ++ number_keys
     ++ has (codes "duration") duration_of
     ∷ has (codes "resource") resource_of
     ∷ has (codes "sib1") (object_of sib1_keys)
-    ∷ []
+    ∷ carrier_keys carrier
 
-abbrev pub has_form : Data → Bool
-has_form json = has_exactly keys json
+abbrev pub has_form : Carrier → Data → Bool
+has_form carrier json = has_exactly (keys carrier) json
 
 -- ---- what stands at the keys
 
@@ -130,6 +138,16 @@ number_at key json = unwrap_or (at_key whole_of key json) (pos 0)
 
 abbrev pub gain_at : Data → Cpx
 gain_at json = unwrap_or (at_key pair_of (codes "gain") json) nothing
+
+-- the gain of a second antenna port, which is not used where there is none
+abbrev pub other_gain : Carrier → Data → Cpx
+other_gain OnePort json = nothing
+other_gain TwoPorts json = unwrap_or (at_key pair_of (codes "gain2") json) nothing
+other_gain LongPrefix json = nothing
+
+-- the gains of both
+abbrev pub gains_at : Carrier → Data → List Cpx
+gains_at carrier json = gain_at json ∷ other_gain carrier json ∷ []
 
 abbrev pub duration_at : Data → Duration
 duration_at json = unwrap_or (at_key duration_of (codes "duration") json) Normal
@@ -167,17 +185,28 @@ plan_of json sib1 = record {
 abbrev pub is_gain : Cpx → Bool
 is_gain gain = nat_le 1 (square gain) && nat_le (square gain) 784
 
+-- the first is not 0, and the squares of both are together at most 392
+abbrev pub are_both_gains : Cpx → Cpx → Bool
+are_both_gains first other = nat_le 1 (square first) && nat_le (square first + square other) 392
+
+-- the gains of a carrier's antenna ports are those of clean recordings
+abbrev pub are_gains : Carrier → List Cpx → Bool
+are_gains OnePort gains = is_gain (value_at gains 0)
+are_gains TwoPorts gains = are_both_gains (value_at gains 0) (value_at gains 1)
+are_gains LongPrefix gains = is_gain (value_at gains 0)
+
 -- those of the plan, which there is where the block's values are in their ranges
-unfoldable pub cell_conditions : Data → List Condition
-cell_conditions json = option_map_or (λ sib1. plan_conditions (plan_of json sib1)) (sib1_at json) []
+unfoldable pub cell_conditions : Carrier → Data → List Condition
+cell_conditions carrier json =
+    option_map_or (λ sib1. conditions_of carrier (plan_of json sib1)) (sib1_at json) []
 
 -- all conditions in their order: the form, what is sent, the block's ranges, and then those of the cell's plan
-abbrev pub conditions : Data → List Condition
-conditions json =
-    condition (has_form json) Form
+abbrev pub conditions : Carrier → Data → List Condition
+conditions carrier json =
+    condition (has_form carrier json) Form
     ∷ condition (is_between (pos 0) (pos 1023) (number_at (codes "sfn") json)) Sfn
     ∷ condition (is_between (pos 0) (pos 19199) (number_at (codes "offset") json)) Offset
     ∷ condition (is_between (pos least_samples) (pos most_samples) (number_at (codes "samples") json)) Samples
-    ∷ condition (is_gain (gain_at json)) Gain
+    ∷ condition (are_gains carrier (gains_at carrier json)) Gain
     ∷ condition (is_some (sib1_at json)) Sib1Range
-    ∷ cell_conditions json
+    ∷ cell_conditions carrier json

@@ -3,60 +3,86 @@ use Rattle.std.specs.Prelude.{◌≡◌, ℕ, List, codes, if◌then◌else◌, 
 use Rattle.std.specs.Str.{is_utf8}
 use Rattle.serde_json.specs.Data.{Data}
 use Rattle.serde_json.specs.Read.{read as value_of_text}
+use Rattle.lte_types.specs.declared.carrier.Carrier.{Carrier}
+use Rattle.lte_types.specs.declared.carrier.Carrier.TheVariants.{OnePort}
+use Rattle.lte_types.specs.declared.timing.Timing.{Timing}
+use Rattle.cell_tx.specs.declared.cell.CellPlan.{CellPlan}
+use Rattle.cell_tx.specs.declared.emission.Emission.{Emission}
 use Rattle.cell_tx.specs.declared.error.CellError.{CellError}
 use Rattle.cell_tx.specs.declared.error.CellError.TheVariants.{Form}
 use Rattle.cell_tx.specs.declared.transmission.Transmission.{Transmission}
 use Rattle.cell_tx.specs.Conditions.{first_failed}
 use Rattle.cell_json.specs.declared.error.JsonError.{JsonError}
 use Rattle.cell_json.specs.declared.error.JsonError.TheVariants.{Cell, OutOfMemory}
-use Rattle.cell_json.specs.Description.{number_at, gain_at, duration_at, resource_at, sib1_at, conditions}
+use Rattle.cell_json.specs.Description.{number_at, gain_at, gains_at, duration_at, resource_at, sib1_at, conditions}
 
 -- the JSON value of a text; None where the bytes are no text or the text is no JSON
 abbrev pub json_of : List ℕ → Option Data
 json_of bytes = if is_utf8 bytes then value_of_text bytes else None
 
--- the first failed condition of a value: of what is no JSON it is the form
-abbrev pub refusal_of : Option Data → Option CellError
-refusal_of None = Some Form
-refusal_of (Some json) = first_failed (conditions json)
+-- the first failed condition of a value, where a carrier sends what it describes: of what is no JSON it is the form
+abbrev pub refusal_of : Carrier → Option Data → Option CellError
+refusal_of carrier None = Some Form
+refusal_of carrier (Some json) = first_failed (conditions carrier json)
 
 -- the first failed condition of a description; None where it is valid
+abbrev pub refusal_by : Carrier → List ℕ → Option CellError
+refusal_by carrier bytes = refusal_of carrier (json_of bytes)
+
+-- with one antenna port
 abbrev pub refusal : List ℕ → Option CellError
-refusal bytes = refusal_of (json_of bytes)
+refusal bytes = refusal_by OnePort bytes
 
--- the transmission has the description's values
-pub record HasValues (t : Transmission) (json : Data) : Type 0 where
-  pub identity : pos t.cell.identity ≡ number_at (codes "identity") json
-  pub duration : t.cell.duration ≡ duration_at json
-  pub resource : t.cell.resource ≡ resource_at json
-  pub spare : pos t.cell.spare ≡ number_at (codes "spare") json
-  pub cfi : pos t.cell.cfi ≡ number_at (codes "cfi") json
-  pub start : pos t.cell.start ≡ number_at (codes "start") json
-  pub blocks : pos t.cell.blocks ≡ number_at (codes "blocks") json
-  pub mcs : pos t.cell.mcs ≡ number_at (codes "mcs") json
-  pub column : pos t.cell.column ≡ number_at (codes "column") json
-  pub sib1 : Some t.cell.sib1 ≡ sib1_at json
-  pub sfn : pos t.timing.sfn ≡ number_at (codes "sfn") json
-  pub offset : pos t.timing.offset ≡ number_at (codes "offset") json
-  pub samples : pos t.samples ≡ number_at (codes "samples") json
-  pub gain : t.gain ≡ gain_at json
+-- the plan of a cell, the first sample that is sent of it and their count are the description's
+pub record HasValues (plan : CellPlan) (timing : Timing) (count : ℕ) (json : Data) : Type 0 where
+  pub identity : pos plan.identity ≡ number_at (codes "identity") json
+  pub duration : plan.duration ≡ duration_at json
+  pub resource : plan.resource ≡ resource_at json
+  pub spare : pos plan.spare ≡ number_at (codes "spare") json
+  pub cfi : pos plan.cfi ≡ number_at (codes "cfi") json
+  pub start : pos plan.start ≡ number_at (codes "start") json
+  pub blocks : pos plan.blocks ≡ number_at (codes "blocks") json
+  pub mcs : pos plan.mcs ≡ number_at (codes "mcs") json
+  pub column : pos plan.column ≡ number_at (codes "column") json
+  pub sib1 : Some plan.sib1 ≡ sib1_at json
+  pub sfn : pos timing.sfn ≡ number_at (codes "sfn") json
+  pub offset : pos timing.offset ≡ number_at (codes "offset") json
+  pub samples : pos count ≡ number_at (codes "samples") json
 
--- the JSON value is a valid description, and these are its values
-abbrev pub IsValueOf : Data → Transmission → Type 0
-IsValueOf json t = (first_failed (conditions json) ≡ None) × HasValues t json
+-- the emission is that of the description by a carrier, without load
+pub record IsEmissionOf (carrier : Carrier) (json : Data) (e : Emission) : Type 0 where
+  pub carrier_is : e.carrier ≡ carrier
+  pub values : HasValues e.cell e.timing e.samples json
+  pub gains : e.gains ≡ gains_at carrier json
+  pub load : e.load ≡ None
+
+-- the JSON value is a valid description by a carrier, and this is its emission
+abbrev pub IsValueOf : Carrier → Data → Emission → Type 0
+IsValueOf carrier json e = (first_failed (conditions carrier json) ≡ None) × IsEmissionOf carrier json e
 
 -- the JSON value is refused for the first condition that fails
-abbrev pub IsRefusedFor : Data → CellError → Type 0
-IsRefusedFor json cause = first_failed (conditions json) ≡ Some cause
+abbrev pub IsRefusedFor : Carrier → Data → CellError → Type 0
+IsRefusedFor carrier json cause = first_failed (conditions carrier json) ≡ Some cause
 
--- the bytes are a valid description of the transmission
+-- the bytes are a valid description, by a carrier, of the emission
+pub record DescribesBy (carrier : Carrier) (bytes : List ℕ) (e : Emission) : Type 0 where
+  pub value : Data
+  pub json : json_of bytes ≡ Some value
+  pub valid : refusal_by carrier bytes ≡ None
+  pub is : IsEmissionOf carrier value e
+
+-- of the transmission
 pub record Describes (bytes : List ℕ) (t : Transmission) : Type 0 where
   pub value : Data
   pub json : json_of bytes ≡ Some value
   pub valid : refusal bytes ≡ None
-  pub values : HasValues t value
+  pub values : HasValues t.cell t.timing t.samples value
+  pub gain : t.gain ≡ gain_at value
 
 -- how a refusal comes: a cause exactly where it is the first failed condition, and want of memory at any bytes
+abbrev pub IsRefusedBy : Carrier → List ℕ → JsonError → Type 0
+IsRefusedBy carrier bytes (Cell cause) = refusal_by carrier bytes ≡ Some cause
+IsRefusedBy carrier bytes OutOfMemory = Unit {0}
+
 abbrev pub IsRefused : List ℕ → JsonError → Type 0
-IsRefused bytes (Cell cause) = refusal bytes ≡ Some cause
-IsRefused bytes OutOfMemory = Unit {0}
+IsRefused bytes error = IsRefusedBy OnePort bytes error

@@ -1,15 +1,15 @@
 //! What a JSON value describes.
 
-ghost use Rattle.std.specs.Prelude.{◌≡◌, IsTrue, IsFalse, MatchOption, codes};
+ghost use Rattle.std.specs.Prelude.{◌≡◌, IsTrue, IsFalse, MatchOption, codes, length};
 ghost use Rattle.serde_json.specs.View.{view};
 ghost use Rattle.cell_json.specs.Kinds.{at_key, has, has_all, object_of};
-ghost use Rattle.cell_json.specs.Description.{pair_of, duration_of, duration_at, resource_of, resource_at, sib1_keys, sending_keys, number_keys, has_form};
+ghost use Rattle.cell_json.specs.Description.{pair_of, duration_of, duration_at, resource_of, resource_at, sib1_keys, sending_keys, number_keys, carrier_keys, keys, has_form, other_gain};
 ghost use Rattle.cell_json.specs.Parts.{HasSending, HasNumbers};
 
 use crate::form::is_sib1;
 use crate::kinds::{count_keys, whole};
 use cs_num::Cpx;
-use lte_types::{Duration, Resource};
+use lte_types::{Carrier, Duration, Resource};
 use serde_json::Value;
 
 /// What is sent of the cell, not yet checked.
@@ -33,19 +33,23 @@ pub(crate) struct Numbers {
     pub column: i64,
 }
 
-/// A JSON value with the form of a description, and its values but for SystemInformationBlockType1.
+/// A JSON value with the form of a description by a carrier, and its values but for SystemInformationBlockType1.
 #[derive(Clone, Copy)]
 pub(crate) struct Description<'a> {
     pub value: &'a Value,
+    pub carrier: Carrier,
     pub sending: Sending,
     pub numbers: Numbers,
     pub duration: Duration,
     pub resource: Resource,
-    pub ghost has_form: { IsTrue (has_form (view value.now)) },
+    /// The gain of a second antenna port; 0 where the carrier has none.
+    pub other: Cpx,
+    pub ghost has_form: { IsTrue (has_form carrier (view value.now)) },
     pub ghost has_sending: { HasSending sending (view value.now) },
     pub ghost has_numbers: { HasNumbers numbers (view value.now) },
     pub ghost has_duration: { duration ≡ duration_at (view value.now) },
     pub ghost has_resource: { resource ≡ resource_at (view value.now) },
+    pub ghost has_other: { other ≡ other_gain carrier (view value.now) },
 }
 
 // The value, as a list of exactly two whole numbers, the real part first.
@@ -124,19 +128,45 @@ fn has_sib1(value: &Value) -> bool
     }
 }
 
-/// The description that a JSON value is; `None` exactly where it has not the form of one.
-#[tactic(auto, using(crate::proofs::Tables::form_parts))]
-pub(crate) fn description_of(value: &Value) -> Option<Description<'_>>
-    ensures { MatchOption result (IsFalse (has_form (view value.now))) (λ d. d.value.now ≡ value.now) }
+// How many keys a description by a carrier has.
+#[tactic(auto, unfolding(crate::specs::Description::sending_keys, crate::specs::Description::number_keys))]
+fn key_count(carrier: Carrier) -> usize
+    ensures { result ≡ length (keys carrier) }
 {
-    if count_keys(value) != 14 || !has_sib1(value) {
+    match carrier {
+        Carrier::OnePort | Carrier::LongPrefix => 14,
+        Carrier::TwoPorts => 15,
+    }
+}
+
+// The gain of a second antenna port, where the carrier has one; 0 where it has none.
+fn other_of(carrier: Carrier, value: &Value) -> Option<Cpx>
+    ensures { MatchOption result (IsFalse (has_all (carrier_keys carrier) (view value.now)))
+        (λ gain. IsTrue (has_all (carrier_keys carrier) (view value.now))
+        × (gain ≡ other_gain carrier (view value.now))) }
+{
+    match carrier {
+        Carrier::OnePort | Carrier::LongPrefix => Some(Cpx::ZERO),
+        Carrier::TwoPorts => pair(value, "gain2"),
+    }
+}
+
+/// The description by a carrier that a JSON value is; `None` exactly where it has not the form of one.
+#[tactic(auto, using(crate::proofs::Tables::form_parts))]
+pub(crate) fn description_of(carrier: Carrier, value: &Value) -> Option<Description<'_>>
+    ensures { MatchOption result (IsFalse (has_form carrier (view value.now)))
+        (λ d. (d.value.now ≡ value.now) × (d.carrier ≡ carrier)) }
+{
+    if count_keys(value) != key_count(carrier) || !has_sib1(value) {
         return None;
     }
     Some(Description {
         value,
+        carrier,
         sending: sending_of(value)?,
         numbers: numbers_of(value)?,
         duration: duration(value, "duration")?,
         resource: resource(value, "resource")?,
+        other: other_of(carrier, value)?,
     })
 }

@@ -1,4 +1,4 @@
-//! Descriptions of a transmission in JSON.
+//! Descriptions of a transmission in JSON, by each carrier.
 #![tactic(auto)]
 
 mod description;
@@ -9,4 +9,4 @@ mod kinds;
 mod reading;
 
 pub use error::JsonError;
-pub use reading::read;
+pub use reading::{read, read_by};

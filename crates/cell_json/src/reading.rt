@@ -1,19 +1,19 @@
 //! Descriptions as bytes.
 
-ghost use Rattle.std.specs.Prelude.{◌≡◌, pos, IsTrue, IsFalse, IfSome, MatchOption, MatchResult};
+ghost use Rattle.std.specs.Prelude.{◌≡◌, pos, IsTrue, IsFalse, IfSome, MatchOption, MatchResult, [], ◌∷◌};
 ghost use Rattle.serde_json.specs.View.{view};
 ghost use Rattle.lte_types.specs.Ranges.{IsValid};
 ghost use Rattle.cell_json.specs.Kinds.{is_between};
-ghost use Rattle.cell_json.specs.Description.{in_field, sib1_at, plan_of as described_plan};
-ghost use Rattle.cell_json.specs.Reading.{IsValueOf, IsRefusedFor, Describes, IsRefused};
+ghost use Rattle.cell_json.specs.Description.{in_field, are_gains, sib1_at, plan_of as described_plan};
+ghost use Rattle.cell_json.specs.Reading.{IsValueOf, IsRefusedFor, DescribesBy, IsRefusedBy, Describes, IsRefused};
 
 use crate::JsonError;
 use crate::description::{Description, description_of};
 use crate::information::sib1_in;
 use crate::kinds::within;
-use cell_tx::{Cell, CellError, CellPlan, Transmission};
-use cs_num::Gain;
-use lte_types::{LEAST_SAMPLES, MOST_SAMPLES, Sfn, Sib1, Timing};
+use cell_tx::{Cell, CellError, CellPlan, Emission, Transmission};
+use cs_num::Cpx;
+use lte_types::{Carrier, LEAST_SAMPLES, MOST_SAMPLES, Sfn, Sib1, Timing};
 use serde_json::Value;
 use std::alloc::Global;
 
@@ -22,24 +22,35 @@ const LEAST: u32 = LEAST_SAMPLES as u32;
 
 const MOST: u32 = MOST_SAMPLES as u32;
 
-/// The transmission that a description in JSON has the values of, or the first failed condition in
-/// this order: `Form`, `Sfn`, `Offset`, `Samples`, `Gain`, `Sib1Range`, and those of `Cell::new`. JSON
-/// is what `serde_json` reads, so of a key that is written twice the last value stands. Want of memory
+/// The emission that a description in JSON has the values of, by a carrier and without load, or the first failed
+/// condition in this order: `Form`, `Sfn`, `Offset`, `Samples`, `Gain`, `Sib1Range`, and those of `Cell::of`. With two
+/// antenna ports a description has one key more, the second port's gain, and both gains have to be those of a clean
+/// recording. JSON is what `serde_json` reads, so of a key that is written twice the last value stands. Want of memory
 /// may come at any bytes.
-pub fn read(alloc: Global, bytes: &[u8]) -> Result<Transmission, JsonError>
-    ensures { MatchResult result (Describes bytes.now) (IsRefused bytes.now) }
+pub fn read_by(alloc: Global, carrier: Carrier, bytes: &[u8]) -> Result<Emission, JsonError>
+    ensures { MatchResult result (DescribesBy carrier bytes.now) (IsRefusedBy carrier bytes.now) }
 {
     let value = match Value::from_slice(alloc, bytes) {
         Ok(value) => value,
         Err(error) if error.is_memory() => return Err(JsonError::OutOfMemory),
         Err(_) => return Err(JsonError::Cell(CellError::Form)),
     };
-    let Some(description) = description_of(&value) else {
+    let Some(description) = description_of(carrier, &value) else {
         return Err(JsonError::Cell(CellError::Form));
     };
-    match transmission_of(&description) {
-        Ok(transmission) => Ok(transmission),
+    match emission_of(&description) {
+        Ok(emission) => Ok(emission),
         Err(cause) => Err(JsonError::Cell(cause)),
+    }
+}
+
+/// The same with one antenna port and the normal cyclic prefix, as a transmission.
+pub fn read(alloc: Global, bytes: &[u8]) -> Result<Transmission, JsonError>
+    ensures { MatchResult result (Describes bytes.now) (IsRefused bytes.now) }
+{
+    match read_by(alloc, Carrier::OnePort, bytes) {
+        Ok(emission) => Ok(Transmission::of(emission)),
+        Err(error) => Err(error),
     }
 }
 
@@ -98,22 +109,48 @@ fn information_of(value: &Value) -> Option<Sib1>
     sib1_in(value.get("sib1")?)
 }
 
-// The transmission of a description, or the first failed condition after the form.
-fn transmission_of(description: &Description<'_>) -> Result<Transmission, CellError>
-    ensures { MatchResult result (IsValueOf (view description.now.value.now))
-        (IsRefusedFor (view description.now.value.now)) }
+// Whether the gains of a carrier's antenna ports are those of clean recordings.
+fn are_gains(carrier: Carrier, first: Cpx, other: Cpx) -> bool
+    ensures { result ≡ are_gains carrier (first ∷ other ∷ []) }
 {
+    let (one, two) = (first.norm(), other.norm());
+    match carrier {
+        Carrier::OnePort | Carrier::LongPrefix => 1 <= one && one <= 784,
+        Carrier::TwoPorts => 1 <= one && one <= 392 && two <= 392 - one,
+    }
+}
+
+// The gains of a carrier's antenna ports; `None` exactly where they are not those of clean recordings.
+fn gains_of(carrier: Carrier, first: Cpx, other: Cpx) -> Option<[Cpx; 2]>
+    ensures { MatchOption result (IsFalse (are_gains carrier (first ∷ other ∷ [])))
+        (λ gains. IsTrue (are_gains carrier (first ∷ other ∷ [])) × (gains ≡ first ∷ other ∷ [])) }
+{
+    if are_gains(carrier, first, other) {
+        Some([first, other])
+    } else {
+        None
+    }
+}
+
+// The emission of a description, or the first failed condition after the form.
+fn emission_of(description: &Description<'_>) -> Result<Emission, CellError>
+    ensures { MatchResult result (IsValueOf description.now.carrier (view description.now.value.now))
+        (IsRefusedFor description.now.carrier (view description.now.value.now)) }
+{
+    let carrier = description.carrier;
     let sending = &description.sending;
     let sfn = sfn_of(&sending.sfn).ok_or(CellError::Sfn)?;
     let offset = within(&sending.offset, 0, 19_199).ok_or(CellError::Offset)?;
     let samples = within(&sending.samples, LEAST, MOST).ok_or(CellError::Samples)?;
-    let gain = Gain::of(sending.gain).ok_or(CellError::Gain)?;
+    let gains = gains_of(carrier, sending.gain, description.other).ok_or(CellError::Gain)?;
     let sib1 = information_of(description.value).ok_or(CellError::Sib1Range)?;
-    let cell = Cell::new(plan_of(description, sib1))?;
-    Ok(Transmission {
+    let cell = Cell::of(carrier, plan_of(description, sib1))?;
+    Ok(Emission {
         cell,
+        carrier,
         timing: Timing { sfn, offset },
         samples,
-        gain,
+        gains,
+        load: None,
     })
 }
