@@ -12,7 +12,7 @@ ghost use Rattle.cancel.specs.Steps.{left_of, IsTakenOff};
 use crate::Subtracted;
 use crate::choosing::{Choice, best, left};
 use crate::estimating::estimate;
-use cell_tx::{Cell, Port, port_sequence};
+use cell_tx::{Cell, Port, Sender, sequence};
 use cs_num::{Cpx, Gain, Sample};
 use lte_types::{Sfn, Timing};
 use sample_file::Recording;
@@ -82,7 +82,13 @@ fn sent_samples(
     ensures { IfOk result (λ sent. sent.items ≡ values_below count (λ i. sample_of (sent_at cell.now start sfn i))) }
 {
     let mut sent = vec![in alloc; Sample { re: 0, im: 0 }; count]?;
-    port_sequence(cell, Port::Only, Timing::before(start, sfn), &mut sent);
+    let sender = Sender {
+        cell,
+        port: Port::Only,
+        timing: Timing::before(start, sfn),
+        load: None,
+    };
+    sequence(&sender, &mut sent);
     Ok(sent)
 }
 

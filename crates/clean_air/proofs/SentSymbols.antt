@@ -63,7 +63,7 @@ received_at recording grid sfn offset gain eps t j slot l clean a b inside place
 
 -- ---- the synchronisation signals
 
-middle : (k : ℕ) (a b : Cpx) → (if nat_le 5 k && nat_lt k 67 then a else b) ≡ (if nat_lt k 5 then b else if nat_lt k 67 then a else b)
+pub middle : (k : ℕ) (a b : Cpx) → (if nat_le 5 k && nat_lt k 67 then a else b) ≡ (if nat_lt k 5 then b else if nat_lt k 67 then a else b)
 middle k a b = grind (arith, nat_tests)
 
 -- symbol 6 of the subframe holds the primary signal alone

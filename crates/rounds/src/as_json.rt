@@ -1,14 +1,13 @@
 //! A search that takes found cells off, as JSON.
 
 ghost use Rattle.std.specs.Prelude.{◌≡◌, IfOk, string_bytes};
-ghost use Rattle.serde_json.specs.Data.{array, item, no_items};
 ghost use Rattle.serde_json.specs.View.{view};
 ghost use Rattle.rounds.specs.AsJson.{gain_value as gain_of, powers_value, round_value, rounds_value as rounds_of, rounds_json, IsCancelJson};
 
 use crate::{Round, Rounds, cancel_rounds};
 use cs_num::Gain;
 use explain::Workspace;
-use report::{ToJson, list_value};
+use report::{ToJson, list_value, pair_value};
 use sample_file::Recording;
 use serde_json::{Value, json};
 use std::alloc::{AllocError, Global};
@@ -69,13 +68,6 @@ fn gain_value(alloc: Global, gain: Gain) -> Result<Value, AllocError>
     let re = Value::from(gain.re());
     let im = Value::from(gain.im());
     pair_value(alloc, re, im)
-}
-
-// An array of two values.
-fn pair_value(alloc: Global, first: Value, second: Value) -> Result<Value, AllocError>
-    ensures { IfOk result (λ value. view value ≡ array (item (view first) (item (view second) no_items))) }
-{
-    json!(in alloc; [first, second])
 }
 
 // The power before and after.

@@ -1,8 +1,7 @@
 -- The symbols of a recording that is clean of both ports of a cell, whatever else they send: each is received as it was sent, and those of the synchronisation
 -- signals as from the first port alone.
-use Rattle.std.proofs.Common.{◌≡◌, ℕ, ◌+◌, ◌-◌, ◌*◌, ◌/◌, ◌%◌, ◌<◌, ◌≤◌, Bool, true, false, inl, inr, arith, refl, ap, ap₂, subst, ◌∙◌, List, length, nat_le, nat_lt}
-use Rattle.std.specs.Prelude.{if◌then◌else◌, ◌&&◌}
-use Rattle.std.proofs.lemmas.Bool.Decides.{nat_tests}
+use Rattle.std.proofs.Common.{◌≡◌, ℕ, ◌+◌, ◌-◌, ◌*◌, ◌/◌, ◌%◌, ◌<◌, ◌≤◌, Bool, true, false, inl, inr, arith, refl, ap, ap₂, subst, ◌∙◌, List, length}
+use Rattle.std.specs.Prelude.{if◌then◌else◌}
 use Rattle.cs_num.specs.declared.Cpx.{Cpx}
 use Rattle.cs_num.specs.declared.Sample.{Sample}
 use Rattle.cs_num.specs.Complex.{IsWithin, nothing, plus, times, minus, sample_at}
@@ -27,8 +26,8 @@ use Rattle.clean_air.proofs.Carrying.{of_primary_symbol, of_secondary_symbol}
 use Rattle.budget.specs.Received.{IsReceived, IsReceivedFromTwo, samples_from}
 use Rattle.budget.specs.Score.{sss_grid, AreSynchronisation}
 use Rattle.budget.specs.Peak.{IsPrimaryAt}
-use Rattle.clean_air.proofs.SentSymbols.{sent_symbol, IsTruePlace}
-use Rattle.two_tx.specs.Clean.{IsCleanOfTwo}
+use Rattle.clean_air.proofs.SentSymbols.{sent_symbol, middle, IsTruePlace}
+use Rattle.cell_tx.specs.Clean.{IsCleanOfTwo}
 use Rattle.two_ports.specs.Clean.{IsLoadedOfPorts}
 
 -- ---- a symbol
@@ -70,9 +69,6 @@ as_one_port eps gain other grid others alone samples received same none n l =
     (received.near n l)
 
 -- ---- the synchronisation signals
-
-middle : (k : ℕ) (a b : Cpx) → (if nat_le 5 k && nat_lt k 67 then a else b) ≡ (if nat_lt k 5 then b else if nat_lt k 67 then a else b)
-middle k a b = grind (arith, nat_tests)
 
 either : (b : Bool) → (if b then nothing else nothing) ≡ nothing
 either true = refl

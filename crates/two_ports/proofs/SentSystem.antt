@@ -162,8 +162,8 @@ module _ (recording : List Sample) (plan : CellPlan) (grid others : Elements) (s
           first_heard (pcfich_places plan.identity) (scrambled (pcfich_c_init plan.identity 10) (indicator_bit plan.cfi)) (omega (arith, size))
           (λ i l. let at = low i l in (omega (arith, at), (indicator_stands First plan sendable i (omega (arith, l, size))).k))
           (λ i l. let at = low (2 * i) (omega (arith, l)) in let next = low (2 * i + 1) (omega (arith, l)) in omega (arith, at, next))
-          (λ i l. indicator_carried First plan grid clean.carries sendable number is_even i (omega (arith, l, size)))
-          (λ i l. indicator_carried Second plan others clean.other_carries sendable number is_even i (omega (arith, l, size)))
+          (λ i l. indicator_carried First plan grid clean.carries sendable refl number is_even i (omega (arith, l, size)))
+          (λ i l. indicator_carried Second plan others clean.other_carries sendable refl number is_even i (omega (arith, l, size)))
           (λ i l. let at = low i l in omega (arith, at))
 
       all : AreHeard 16 (2 * 16) (indicator_bit plan.cfi) (indicator_values_by paired_values (slot 10))
@@ -190,8 +190,8 @@ module _ (recording : List Sample) (plan : CellPlan) (grid others : Elements) (s
             first_heard (control_places plan) (scrambled (pdcch_c_init plan.identity 10) (coded_bit (grant_word (grant_of plan number)))) (omega (arith, size))
             (λ i l. let at = low i l in (omega (arith, at), (control_stands First plan sendable i (omega (arith, l, size))).k))
             (λ i l. let at = low (2 * i) (omega (arith, l)) in let next = low (2 * i + 1) (omega (arith, l)) in omega (arith, at, next))
-            (λ i l. control_carried First plan grid clean.carries sendable number is_even i (omega (arith, l, size)))
-            (λ i l. control_carried Second plan others clean.other_carries sendable number is_even i (omega (arith, l, size)))
+            (λ i l. control_carried First plan grid clean.carries sendable refl number is_even i (omega (arith, l, size)))
+            (λ i l. control_carried Second plan others clean.other_carries sendable refl number is_even i (omega (arith, l, size)))
             (λ i l. let at = low i l in omega (arith, at))
 
         all : AreHeard 16 (2 * 144) (coded_bit (grant_word (grant_of plan number))) (candidate_values_by paired_values (slot 10) plan.cfi plan.duration plan.resource)
@@ -220,8 +220,8 @@ module _ (recording : List Sample) (plan : CellPlan) (grid others : Elements) (s
         (places_heard places (scrambled (pdsch_c_init plan.identity 10 system_information_rnti) (shared_bit plan number)) paired
         (λ i l. let at = assigned_stands First plan sendable i l in (at.symbol, at.k))
         (λ i l. ap (λ (n : ℕ). n / 7) (pair_in_one_symbol plan.identity plan.cfi plan.start plan.blocks (2 * i) sendable.cfi.0 sendable.cfi.1 sendable.assignment.inside (omega arith) (omega (arith, l, paired))))
-        (λ i l. shared_carried First plan grid clean.carries sendable number is_even i l)
-        (λ i l. shared_carried Second plan others clean.other_carries sendable number is_even i l))
+        (λ i l. shared_carried First plan grid clean.carries sendable refl number is_even i l)
+        (λ i l. shared_carried Second plan others clean.other_carries sendable refl number is_even i l))
 
     matched_heard : (row : Row) → row ≡ row_with (checked_size plan) → row.k ≡ checked_size plan → AreHeard 16 (2 * length places) (matched_bit row (version_of number) (shared_word plan)) values
     unfolding shared_coded

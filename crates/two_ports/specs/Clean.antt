@@ -8,7 +8,7 @@ use Rattle.cell_tx.specs.declared.cell.CellPlan.{CellPlan}
 use Rattle.cell_tx.specs.declared.antenna.Port.TheVariants.{First, Second}
 use Rattle.cell_tx.specs.Sent.{Elements, sent}
 use Rattle.two_tx.specs.Plan.{IsSendableOfTwo}
-use Rattle.two_tx.specs.Clean.{IsCleanOfTwo, IsCleanOfPorts}
+use Rattle.cell_tx.specs.Clean.{IsCleanOfTwo, IsCleanOfPorts}
 use Rattle.clean_air.specs.Load.{CarriesPlan}
 use Rattle.clean_air.specs.Clean.{HoldsOne, IsSentEntryBy}
 

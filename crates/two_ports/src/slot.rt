@@ -1,10 +1,11 @@
 //! A slot of a cell with two antenna ports, as it was seen.
 
-ghost use Rattle.std.specs.Prelude.{◌≡◌, ◌*◌, ◌^◌, ◌<◌, ◌≤◌};
+ghost use Rattle.std.specs.Prelude.{◌≡◌, ◌*◌, ◌^◌, ◌<◌, ◌≤◌, All};
+ghost use Rattle.finite.specs.Lists.{values_below};
 ghost use Rattle.cs_num.specs.Complex.{IsWithin};
 ghost use Rattle.crs.specs.Reference.{port_0, port_1};
 ghost use Rattle.lte_types.specs.declared.carrier.Carrier.TheVariants.{TwoPorts};
-ghost use Rattle.soft_bits.specs.Soft.{SeenSlot, AreSmall, seen_at, pattern_channel};
+ghost use Rattle.soft_bits.specs.Soft.{SeenSlot, AreSmall, seen_at, pattern_pilot, pattern_channel};
 ghost use Rattle.two_ports.specs.Kept.{IsPairKept};
 ghost use Rattle.two_ports.specs.Pairs.{pilots_energy, paired_values};
 
@@ -84,8 +85,26 @@ impl PairSlot {
         estimate(&self.second, self.slot.id().n2() as u8, k)
     }
 
-    // The energy of the pilots of both ports.
-    pub(crate) fn energy(&self) -> u64
+    /// The pilots of the first port: at each of its 24 reference places, by subcarrier, what was seen there times the
+    /// conjugate of what was sent. Components have size at most 180 * 2^25.
+    pub fn first_pilots(&self) -> &[Cpx; 24]
+        ensures value { result.now ≡ values_below 24 (pattern_pilot port_0 self.now) }
+        ensures small { All (IsWithin (180 * 2 ^ 25)) result.now }
+    {
+        self.slot.pilots()
+    }
+
+    /// Those of the second port.
+    pub fn second_pilots(&self) -> &[Cpx; 24]
+        ensures value { result.now ≡ values_below 24 (pattern_pilot port_1 self.now) }
+        ensures small { All (IsWithin (180 * 2 ^ 25)) result.now }
+    {
+        &self.second
+    }
+
+    /// The energy of the pilots of both ports: the sum of the squares of the sizes of what was seen at the 48 reference
+    /// places.
+    pub fn energy(&self) -> u64
         ensures value { result ≡ pilots_energy self.now }
         ensures few { result ≤ 48 * 2 ^ 51 }
     {
