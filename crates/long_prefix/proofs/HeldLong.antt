@@ -10,49 +10,49 @@ use Rattle.lte_types.specs.Numerology.{extended, useful_start}
 use Rattle.lte_types.specs.Timing.{start_of, number_at_start}
 use Rattle.grid_map.specs.Scrambling.{pbch_c_init}
 use Rattle.soft_bits.specs.Soft.{SeenSlot}
-use Rattle.cell_tx.specs.declared.antenna.Port.TheVariants.{Only}
+use Rattle.cell_tx.specs.declared.antenna.Port.TheVariants.{Long}
+use Rattle.cell_tx.specs.declared.cell.CellPlan.{CellPlan}
+use Rattle.cell_tx.specs.Block.{port_word, port_bit, port_point}
+use Rattle.cell_tx.specs.Grid.{port_element}
 use Rattle.cell_tx.specs.Sent.{Elements}
 use Rattle.explain.specs.Frame.{frame_at}
 use Rattle.explain.proofs.Listed.{is_sound}
+use Rattle.clean_air.proofs.Carrying.{own_elements_carry}
 use Rattle.clean_air.proofs.Held.{IsShown, number_fits, shown_is_held}
-use Rattle.clean_air.proofs.SentBlock.{is_master_word}
+use Rattle.clean_air.proofs.SentBlock.{is_block}
 use Rattle.clean_air.proofs.Speaking.{heard_bits_speak}
-use Rattle.long_prefix.specs.declared.plan.LongPlan.{LongPlan}
-use Rattle.long_prefix.specs.Grid.{long_word, long_bit, long_point, long_element}
-use Rattle.long_prefix.specs.Load.{IsLoadedLong}
 use Rattle.long_prefix.specs.Entries.{long_slot, long_values, long_prefix_receiver, IsExplainedOfLong}
-use Rattle.long_prefix.specs.Clean.{HoldsLoadedCellsOfLong, HoldsCleanCellsOfLong}
-use Rattle.long_prefix.proofs.Carrying.{own_long_elements_carry}
+use Rattle.long_prefix.specs.Clean.{IsLoadedLong, IsLongPlan, HoldsLoadedCellsOfLong, HoldsCleanCellsOfLong}
 use Rattle.long_prefix.proofs.SentSignals.{primary_at, signals_at, slot_row, points_stand, slot_received}
 use Rattle.long_prefix.proofs.Told.{values_heard}
 
-module _ (recording : List Sample) (plan : LongPlan) (grid : Elements) (sfn offset : ℕ) (gain : Cpx) (eps : ℕ) (known : plan.id ≤ 503) (clean : IsLoadedLong recording plan grid sfn offset gain eps)
+module _ (recording : List Sample) (plan : CellPlan) (grid : Elements) (sfn offset : ℕ) (gain : Cpx) (eps : ℕ) (known : IsLongPlan plan) (clean : IsLoadedLong recording plan grid sfn offset gain eps)
     (long : 57600 ≤ length recording) where
   abbrev number : ℕ
   number = number_at_start sfn offset
 
   -- the slot of the cell's first frame that carries the broadcast channel
   abbrev slot : SeenSlot
-  slot = long_slot recording plan.id (start_of offset) 0
+  slot = long_slot recording plan.identity (start_of offset) 0
 
   -- what the recording shows of the cell to a receiver of the extended prefix
-  is_shown : IsShown long_prefix_receiver recording plan.id sfn offset 1 plan.mib.duration plan.mib.resource plan.mib.spare (Err LongPrefix)
-  unfolding long_slot long_point
+  is_shown : IsShown long_prefix_receiver recording plan.identity sfn offset 1 plan.duration plan.resource plan.spare (Err LongPrefix)
+  unfolding long_slot port_point port_bit
   is_shown =
-      let block = is_master_word Only plan.mib.duration plan.mib.resource number plan.mib.spare plan.mib.spare_range (number_fits sfn offset clean.number clean.samples.within) in
+      let block = is_block Long plan number known.spare (number_fits sfn offset clean.number clean.samples.within) in
       let size = block.size in
       let received = slot_received recording plan grid sfn offset gain eps clean long in
       record {
         long = long;
         number = clean.number;
         within = clean.samples.within;
-        range = plan.mib.spare_range;
+        range = known.spare;
         primary = λ t half at inside. primary_at recording plan grid sfn offset gain eps clean t inside half at;
-        secondary = λ t half at first inside. signals_at recording plan grid sfn offset gain eps clean t inside half at first known;
-        word = long_word plan number;
+        secondary = λ t half at first inside. signals_at recording plan grid sfn offset gain eps clean t inside half at first known.identity;
+        word = port_word Long plan number;
         block = block;
-        speaks = heard_bits_speak 8 432 (pbch_c_init plan.id) (432 * (number % 4)) (long_word plan number) (long_values slot) (omega arith) (omega (arith, size))
-            (values_heard recording (useful_start extended (frame_at (start_of offset) 0) 1) (slot_row grid number) slot received (long_bit plan number) (points_stand plan grid clean.carries number));
+        speaks = heard_bits_speak 8 432 (pbch_c_init plan.identity) (432 * (number % 4)) (port_word Long plan number) (long_values slot) (omega arith) (omega (arith, size))
+            (values_heard recording (useful_start extended (frame_at (start_of offset) 0) 1) (slot_row grid number) slot received (port_bit Long plan number) (points_stand plan grid clean.carries number));
         taken = refl;
         system = refl;
       }
@@ -60,14 +60,14 @@ module _ (recording : List Sample) (plan : LongPlan) (grid : Elements) (sfn offs
 -- on a clean recording of a cell the list of cells holds that cell
 pub holds_loaded_cells : (recording : List Sample) (list : List Entry) → 57600 ≤ length recording → IsExplainedOfLong recording list → HoldsLoadedCellsOfLong recording list
 holds_loaded_cells recording list long explained plan grid sfn offset gain eps known clean =
-    shown_is_held long_prefix_receiver recording plan.id sfn offset 1 plan.mib.duration plan.mib.resource plan.mib.spare (Err LongPrefix)
+    shown_is_held long_prefix_receiver recording plan.identity sfn offset 1 plan.duration plan.resource plan.spare (Err LongPrefix)
     (is_shown recording plan grid sfn offset gain eps known clean long) list explained
 
 -- so it does where the cell sends nothing else
 pub holds_clean_cells : (recording : List Sample) (list : List Entry) → HoldsLoadedCellsOfLong recording list → HoldsCleanCellsOfLong recording list
 holds_clean_cells recording list holds plan sfn offset gain eps known clean =
-    holds plan (long_element plan) sfn offset gain eps known
-    (record { number = clean.number; carries = own_long_elements_carry plan; samples = clean.samples })
+    holds plan (port_element Long plan) sfn offset gain eps known
+    (record { number = clean.number; carries = own_elements_carry Long plan; samples = clean.samples })
 
 -- each entry of the list has the one reason
 pub reasons_are_long : (recording : List Sample) (list : List Entry) → IsExplainedOfLong recording list → All (λ entry. entry.sib1 ≡ Err LongPrefix) list

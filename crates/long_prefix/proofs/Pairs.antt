@@ -10,7 +10,7 @@ use Rattle.grid_map.specs.declared.Place.{Place}
 use Rattle.grid_map.specs.Place.{place}
 use Rattle.soft_bits.specs.Soft.{SeenSlot, seen_at, pattern_channel, pattern_energy, soft_value, soft_pair}
 use Rattle.soft_bits.proofs.Channel.{soft_value-small}
-use Rattle.long_prefix.specs.Places.{long_places}
+use Rattle.grid_map.specs.LongBroadcast.{long_places}
 use Rattle.long_prefix.specs.Entries.{long_pair, long_value, long_values}
 
 soft_pair-small : (z : Cpx) (energy : ℕ) → All (λ v. nat_abs v ≤ 127) (soft_pair z energy)

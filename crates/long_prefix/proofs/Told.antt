@@ -14,9 +14,9 @@ use Rattle.clean_air.specs.Values.{SupportBoth, IsPatternReceived}
 use Rattle.clean_air.specs.Carried.{AreHeard}
 use Rattle.clean_air.proofs.SoftValues.{seen_pair_supports_bits, pattern_place_seen, pattern_pilots_seen}
 use Rattle.clean_air.proofs.Speaking.{one_value}
-use Rattle.long_prefix.specs.Places.{long_places}
+use Rattle.grid_map.specs.LongBroadcast.{long_places}
 use Rattle.long_prefix.specs.Entries.{long_pair, long_value, long_values}
-use Rattle.long_prefix.proofs.Order.{long_place_is}
+use Rattle.grid_map.proofs.LongOrder.{long_place_is}
 
 module _ (recording : List Sample) (starts : ℕ → ℕ) (rows : ℕ → ℕ → Cpx) (slot : SeenSlot) (received : IsPatternReceived long_prefix 6 recording starts rows slot)
     (bits : ℕ → Bool) (carry : (i : ℕ) → i < 216 → let p = slice_index_or (long_places slot.identity) i (place 0 0) in rows p.symbol p.k ≡ point_of bits i) where

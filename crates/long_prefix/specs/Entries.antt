@@ -16,7 +16,7 @@ use Rattle.explain.specs.Receiver.{Receiver}
 use Rattle.explain.specs.Entries.{IsListFor}
 use Rattle.explain.specs.declared.readings.Reading.{Reading}
 use Rattle.explain.specs.Readings.{IsReadingFor}
-use Rattle.long_prefix.specs.Places.{long_places}
+use Rattle.grid_map.specs.LongBroadcast.{long_places}
 
 -- ---- frames
 

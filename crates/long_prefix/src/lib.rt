@@ -1,19 +1,15 @@
-//! The extended cyclic prefix, to the master block: what a cell sends with it, recordings by number, the list of the
-//! cells that a recording explains by it, and that it holds each clean cell (TS 36.211 sections 6.6, 6.10.1, 6.11 and
-//! 6.12).
+//! The extended cyclic prefix, to the master block: recordings by number, the list of the cells that a recording
+//! explains by it, and that it holds each clean cell (TS 36.211 sections 6.6, 6.10.1, 6.11 and 6.12). What a cell sends
+//! with it stands in `cell_tx`.
 #![tactic(auto)]
 
-mod grid;
 mod listing;
-mod load;
 mod made;
-mod places;
 mod plan;
 mod reading;
-mod sending;
 
 pub use explain::Workspace as Workspace3;
 pub use listing::explain_clean;
-pub use load::open_long_places_are_silent;
 pub use made::{LongMade, made_is_clean, make};
 pub use plan::LongPlan;
+pub use reading::{LongFrame, long_frame};

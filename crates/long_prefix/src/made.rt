@@ -1,17 +1,16 @@
 //! Recordings by number.
 
-ghost use Rattle.std.specs.Prelude.{◌≡◌, ◌≤◌, ℕ, IfOk, pos};
+ghost use Rattle.std.specs.Prelude.{ℕ, IfOk};
+ghost use Rattle.lte_types.specs.declared.carrier.Carrier.TheVariants.{LongPrefix};
 ghost use Rattle.sample_file.specs.Recording.{IsRecording};
-ghost use Rattle.capture_make.specs.Recipe.{number as number_of, offset as offset_of, gain as gain_with};
-ghost use Rattle.long_prefix.specs.Made.{IsPlanOf, received_samples as received_of, IsMadeLong, IsCleanlyMade};
+ghost use Rattle.capture_make.specs.Made.{IsMadeBy};
+ghost use Rattle.long_prefix.specs.Made.{IsPlanOf, IsMadeLong, IsCleanlyMade};
 ghost use Rattle.long_prefix.specs.declared.made.LongMade.{LongMade as MadeValue};
 
 use crate::LongPlan;
-use crate::sending::fill_received;
-use capture_make::{bound, gain, plan, sample_count, timing, with_errors};
-use cell_tx::sent_is_clean;
-use cs_num::{Gain, Sample};
-use lte_types::{Bandwidth, CellId, Mib, Timing};
+use capture_make::{MadeBy, gain, make_by, numbers_are_clean, plan, timing};
+use cs_num::Gain;
+use lte_types::{Bandwidth, Carrier, CellId, Mib, Timing};
 use sample_file::Recording;
 use std::alloc::{AllocError, Global};
 
@@ -49,56 +48,38 @@ fn plan_of(n: u32) -> LongPlan
     }
 }
 
-// What is received without errors, in memory of its own.
-fn received_samples(alloc: Global, plan: &LongPlan, n: u32) -> Result<Vec<Sample>, AllocError>
-    ensures { IfOk result (λ samples. samples.items ≡ received_of plan.now n) }
-{
-    let mut samples = vec![in alloc; Sample { re: 0, im: 0 }; sample_count(n) as usize]?;
-    fill_received(plan, timing(n), gain(n), &mut samples);
-    Ok(samples)
-}
-
-// The recording of number n with what was sent and the bound of its errors.
-fn made_of(n: u32, plan: LongPlan, bound: u16, recording: Recording) -> LongMade
-    requires { bound ≤ 56 }
-    ensures plan { result.plan ≡ plan }
-    ensures number { result.timing.sfn ≡ number_of n }
-    ensures offset { result.timing.offset ≡ offset_of n }
-    ensures gain { result.gain ≡ gain_with n }
-    ensures bound { result.bound ≡ pos bound }
-    ensures recording { result.recording ≡ recording }
+// What was made with the extended prefix.
+fn of_long_prefix(n: u32, made: MadeBy) -> LongMade
+    requires made { IsMadeBy LongPrefix n made }
+    requires valid { IsRecording made.recording }
+    ensures made { IsMadeLong n result }
+    ensures valid { IsRecording result.recording }
 {
     LongMade {
-        plan,
+        plan: plan_of(n),
         timing: timing(n),
         gain: gain(n),
-        bound: bound as i16,
-        recording,
+        bound: made.bound,
+        recording: made.recording,
     }
 }
 
-/// Recording number `n` with the extended cyclic prefix, of 10 to 99 frames: what a cell sends, times a gain, and errors
-/// of at most twice the gain's size, all by the recipe of one antenna port with the normal prefix, without the control
-/// region and system information (`docs/FORMATS.md`). Only memory can be wanting. (own)
+/// Recording number `n` with the extended cyclic prefix, of 10 to 99 frames: that of `capture_make::make_by`, what a
+/// cell sends, times a gain, and errors of at most twice the gain's size, without the control region and system
+/// information. Only memory can be wanting. (own)
 pub fn make(alloc: Global, n: u32) -> Result<LongMade, AllocError>
     ensures made { IfOk result (IsMadeLong n) }
-    ensures clean { IfOk result IsCleanlyMade }
+    ensures clean { IfOk result (IsCleanlyMade n) }
     ensures valid { IfOk result (λ made. IsRecording made.recording) }
 {
-    let plan = plan_of(n);
-    let bound = bound(n);
-    let samples = received_samples(alloc, &plan, n)?;
-    let samples = with_errors(n, bound, samples);
+    let made = make_by(alloc, Carrier::LongPrefix, n)?;
     made_is_clean();
-    match Recording::new(samples) {
-        Some(recording) => Ok(made_of(n, plan, bound, recording)),
-        None => unreachable!(),
-    }
+    Ok(of_long_prefix(n, made))
 }
 
-/// A law: each recording by number is a clean one of what was sent, with errors within its bound.
+/// A law: each recording by number is a clean one of what is sent for the number, with errors within its bound.
 pub fn made_is_clean()
-    ensures { (n : ℕ) (made : MadeValue) → IsMadeLong n made → IsCleanlyMade made }
+    ensures { (n : ℕ) (made : MadeValue) → IsMadeLong n made → IsCleanlyMade n made }
 {
-    sent_is_clean();
+    numbers_are_clean();
 }

@@ -12,11 +12,10 @@ ghost use Rattle.soft_bits.specs.Kept.{slot_of};
 ghost use Rattle.explain.specs.Frame.{IsWhole};
 ghost use Rattle.long_prefix.specs.Entries.{long_slot, long_pair, long_values, long_prefix_receiver};
 
-use crate::places::long_places;
 use crs::Pattern;
 use cs_num::Cpx;
 use explain::{FrameReader, Informed};
-use grid_map::Place;
+use grid_map::{Place, long_places};
 use lte_types::{Carrier, CellPlace, FRAME_LENGTH, Prefix, Sfn, Sib1Reason};
 use observe::symbol;
 use pbch::{Master, Received};
@@ -35,7 +34,7 @@ impl FrameReader for ExtendedPrefix {
     }
 
     fn received(&self, recording: &Recording, place: CellPlace, j: u8) -> Received {
-        Received::new(&frame_values(recording, place, j))
+        long_frame(recording, place, j).values
     }
 
     fn takes_ports(&self, ports: u8) -> bool {
@@ -86,12 +85,30 @@ fn symbols_of(recording: &Recording, frame: usize) -> [[Cpx; 72]; 6]
     ]
 }
 
-// The 432 soft values of the broadcast channel in frame `j` of a cell, as they were received: two of each place, in the
-// order of the places. The frame lies within the recording.
-fn frame_values(recording: &Recording, place: CellPlace, j: u8) -> [i16; 432]
+/// What is read of slot 1 of a frame with the extended cyclic prefix, which carries the broadcast channel. (own)
+#[derive(Drop)]
+pub struct LongFrame {
+    /// The 24 pilots, in the order of subcarriers: what was seen at each reference place of symbols 0 and 3 times the
+    /// conjugate of what was sent.
+    pub pilots: [Cpx; 24],
+    /// The sum of the squares of the sizes of what was seen at these places.
+    pub energy: u64,
+    /// The 432 soft values of the broadcast channel as they were received: two of each place, in the order of the
+    /// places.
+    pub values: Received,
+}
+
+/// What is read of frame `j` of a cell with the extended cyclic prefix. The frame lies within the recording. Components
+/// of pilots have size at most 180 * 2^25, and their energy is at most 24 * 2^51.
+pub fn long_frame(recording: &Recording, place: CellPlace, j: u8) -> LongFrame
     requires { IsWhole recording.now place.start j }
-    ensures values { result ≡ long_values (long_slot recording.now place.id place.start j) }
-    ensures sizes { AllWithin 127 result }
+    ensures pilots { result.pilots
+        ≡ values_below 24 (pattern_pilot long_prefix (long_slot recording.now place.id place.start j)) }
+    ensures small { All (IsWithin (180 * 2 ^ 25)) result.pilots }
+    ensures energy { result.energy ≡ pattern_energy long_prefix (long_slot recording.now place.id place.start j) }
+    ensures few { result.energy ≤ 24 * 2 ^ 51 }
+    ensures values { result.values ≡ long_values (long_slot recording.now place.id place.start j) }
+    ensures length { length result.values ≡ 432 }
 {
     let frame = place.start() as usize + FRAME_LENGTH * j as usize;
     let symbols = symbols_of(recording, frame);
@@ -101,22 +118,31 @@ fn frame_values(recording: &Recording, place: CellPlace, j: u8) -> [i16; 432]
         id: place.id(),
         pattern: Pattern::LONG_PREFIX,
     };
-    values_of(&seen)
+    let pilots = pilots_of(&seen);
+    let energy = energy_of(&seen);
+    let values = Received::new(&values_of(&seen, &pilots, energy));
+    LongFrame {
+        pilots,
+        energy,
+        values,
+    }
 }
 
-// The soft values of a slot.
-fn values_of(seen: &Seen) -> [i16; 432]
+// The soft values of a slot, by its pilots and their energy.
+fn values_of(seen: &Seen, pilots: &[Cpx; 24], energy: u64) -> [i16; 432]
     requires pattern { seen.now.pattern ≡ long_prefix }
     requires symbols { length seen.now.symbols.now ≡ 6 }
+    requires pilots { pilots.now ≡ values_below 24 (pattern_pilot long_prefix (slot_of seen.now)) }
+    requires small { All (IsWithin (180 * 2 ^ 25)) pilots.now }
+    requires energy { energy ≡ pattern_energy long_prefix (slot_of seen.now) }
+    requires few { energy ≤ 24 * 2 ^ 51 }
     ensures values { result ≡ long_values (slot_of seen.now) }
     ensures sizes { AllWithin 127 result }
 {
-    let pilots = pilots_of(seen);
-    let energy = energy_of(seen);
     let places = long_places(seen.id);
     let mut values = [0; 432];
     for i in 0..216 {
-        let pair = pair_at(seen, &pilots, energy, places[i]);
+        let pair = pair_at(seen, pilots, energy, places[i]);
         values[2 * i] = pair[0];
         values[2 * i + 1] = pair[1];
     }

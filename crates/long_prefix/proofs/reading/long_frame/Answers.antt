@@ -1,0 +1,34 @@
+use Rattle.std.proofs.Common.{◌≡◌, ℕ, List, ap, ◌∙◌}
+use Rattle.finite.specs.Lists.{values_below}
+use Rattle.cs_num.specs.declared.Cpx.{Cpx}
+use Rattle.cs_num.specs.declared.Sample.{Sample}
+use Rattle.crs.specs.Reference.{long_prefix}
+use Rattle.lte_types.specs.Numerology.{extended, useful_start}
+use Rattle.observe.specs.Seen.{seen_symbol}
+use Rattle.soft_bits.specs.Soft.{SeenSlot, pattern_pilot, pattern_energy}
+use Rattle.explain.specs.Frame.{frame_at}
+use Rattle.long_prefix.specs.Entries.{long_slot, long_values}
+use Rattle.long_prefix.proofs.reading.long_frame.Goals as goal
+
+-- the slot of these symbols is that of the frame
+slot_is : (recording : List Sample) (identity id start at j : ℕ) (symbols : List (List Cpx)) →
+    symbols ≡ values_below 6 (λ symbol. seen_symbol recording (useful_start extended (frame_at at j) 1 symbol)) → id ≡ identity → at ≡ start →
+    ◌≡◌ {A = SeenSlot} (record { symbols = symbols; number = 1; identity = id }) (long_slot recording identity start j)
+unfolding long_slot
+slot_is recording identity id start at j symbols are same begins =
+    ap (λ (symbols : List (List Cpx)). let slot : SeenSlot = record { symbols = symbols; number = 1; identity = id } in slot) are
+    ∙ ap (λ (id : ℕ). long_slot recording id at j) same ∙ ap (λ (at : ℕ). long_slot recording identity at j) begins
+
+pub returns-clause-pilots : goal.returns-clause-pilots
+returns-clause-pilots c =
+    c.pilots_of-pilots.ensures.value
+    ∙ ap (λ (s : SeenSlot). values_below 24 (pattern_pilot long_prefix s)) (slot_is _ _ _ _ _ _ _ c.symbols_of-symbols.ensures.values c.id.ensures c.start.ensures.value)
+
+pub returns-clause-energy : goal.returns-clause-energy
+returns-clause-energy c =
+    c.energy_of-energy.ensures.value ∙ ap (pattern_energy long_prefix) (slot_is _ _ _ _ _ _ _ c.symbols_of-symbols.ensures.values c.id.ensures c.start.ensures.value)
+
+pub returns-clause-values : goal.returns-clause-values
+returns-clause-values c =
+    c.new-values.ensures ∙ c.values_of.ensures.values
+    ∙ ap long_values (slot_is _ _ _ _ _ _ _ c.symbols_of-symbols.ensures.values c.id.ensures c.start.ensures.value)
