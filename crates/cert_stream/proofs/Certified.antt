@@ -9,49 +9,47 @@ use Rattle.std.proofs.Math.ListN.{drop_of_length-le}
 use Rattle.std.proofs.Math.Seq.{take-suc}
 use Rattle.std.proofs.lemmas.List.{take-append-drop}
 use Rattle.std.proofs.lemmas.List.Elements.{Contains-append_right}
-use Rattle.std.specs.List.{AllZip, Contains, flat_map}
+use Rattle.std.specs.List.{AllZip, Contains}
 use Rattle.std.proofs.lemmas.Grind.{flat_map-append}
 use Rattle.cs_num.specs.declared.Sample.{Sample}
 use Rattle.cs_outside.specs.Outside.{SinkTold}
 use Rattle.cs_outside.specs.Streams.{HasWritten, HasWrittenFront, IsShortOf}
 use Rattle.cs_outside.proofs.Writing.{write_nothing, write_then, front_after, front_of_longer, short_after}
 use Rattle.lte_types.specs.declared.entry.Entry.{Entry}
-use Rattle.soft_bits.specs.Soft.{SeenSlot}
 use Rattle.conv_code.specs.Cost.{word_cost}
 use Rattle.tailbite.specs.LeastWord.{IsLeastWord}
-use Rattle.pbch.specs.Values.{received_values}
 use Rattle.pbch.specs.Master.{Tells, TellsMaster, Carries}
 use Rattle.tailbite.proofs.Only.{one_word}
-use Rattle.pbch.proofs.FrameSums.{length-received_values, received_values-small, count_in_frames, small_in_frames, length-summed_values, length-summed_values_row, summed_values-small}
+use Rattle.pbch.proofs.FrameSums.{count_in_frames, small_in_frames, length-summed_values, length-summed_values_row, summed_values-small}
 use Rattle.tail_cert.specs.Certificate.{Held, IsWhole, IsAccepted, IsTriple, Counted, tables_there}
 use Rattle.tail_cert.specs.Form.{bytes_of, head_count, most_count, table_count}
 use Rattle.tail_cert.specs.Forward.{IsFilled}
 use Rattle.tail_cert.proofs.Codes.{length-bytes_of}
 use Rattle.tail_cert.proofs.Filled.{same_count}
 use Rattle.tail_cert.proofs.Exists.{certificate_of, least_has_certificate}
-use Rattle.explain.specs.Frame.{broadcast_slot}
-use Rattle.explain.specs.Receiver.{one_port_receiver}
-use Rattle.explain.specs.Entries.{IsExplained, master_of, values_of_entry}
+use Rattle.explain.specs.Frame.{values_in}
+use Rattle.explain.specs.Receiver.{Receiver, sums_by}
+use Rattle.explain.specs.Entries.{IsListFor, master_of, place_of, frames_of}
 use Rattle.explain.proofs.Sorted.{Contains-here, Contains-later}
 use Rattle.explain.proofs.Listed.{is_sound}
 use Rattle.cs_outside.specs.declared.Failed.{Failed}
 use Rattle.cert_stream.specs.Stream.{all_bytes}
-use Rattle.cert_stream.specs.Certifying.{Certifies, IsCertificateOf, HasCertified, HasCertifiedFront, HasCertifiedAll, HasCertifiedSome}
+use Rattle.cert_stream.specs.Certifying.{HasSmallValues, Certifies, IsCertificateOf, HasCertified, HasCertifiedFront, HasCertifiedAll, HasCertifiedSome}
 use Rattle.cert_stream.proofs.Judged.{zip_append}
 
 -- certificates of the same entries have as many bytes
-pub certified_length : (samples : List Sample) (entries : List Entry) (cs ds : List Held) → AllZip (Certifies samples) entries cs → AllZip (Certifies samples) entries ds →
+pub certified_length : (receiver : Receiver) (samples : List Sample) (entries : List Entry) (cs ds : List Held) → AllZip (Certifies receiver samples) entries cs → AllZip (Certifies receiver samples) entries ds →
     length (all_bytes cs) ≡ length (all_bytes ds)
-certified_length samples [] [] [] a b = refl
-certified_length samples [] [] (d ∷ ds) a b = absurd b
-certified_length samples [] (c ∷ cs) ds a b = absurd a
-certified_length samples (e ∷ es) [] ds a b = absurd a
-certified_length samples (e ∷ es) (c ∷ cs) [] a b = absurd b
-certified_length samples (e ∷ es) (c ∷ cs) (d ∷ ds) (first, rest) (other, others) =
+certified_length receiver samples [] [] [] a b = refl
+certified_length receiver samples [] [] (d ∷ ds) a b = absurd b
+certified_length receiver samples [] (c ∷ cs) ds a b = absurd a
+certified_length receiver samples (e ∷ es) [] ds a b = absurd a
+certified_length receiver samples (e ∷ es) (c ∷ cs) [] a b = absurd b
+certified_length receiver samples (e ∷ es) (c ∷ cs) (d ∷ ds) (first, rest) (other, others) =
     let many = same_count c d first.filled other.filled (first.values ∙ sym other.values) (first.cost ∙ sym other.cost) in
     let one = length-bytes_of c first.whole in
     let two = length-bytes_of d other.whole in
-    let more = certified_length samples es cs ds rest others in
+    let more = certified_length receiver samples es cs ds rest others in
     omega (arith, many, one, two, more, length-append (bytes_of c) (all_bytes cs), length-append (bytes_of d) (all_bytes ds))
 
 -- a certificate has no more bytes than the longest
@@ -66,11 +64,15 @@ tables_most tables =
 
 -- ---- an entry's certificate
 
+-- the values by which a receiver reads an entry's frames
+abbrev values_of : Receiver → List Sample → Entry → List (List ℤ)
+values_of receiver samples entry = sums_by receiver samples (place_of entry) (frames_of entry)
+
 -- what makes a certificate of an entry: it is accepted, with the values of the entry's frames and a least word of them
-pub certifies : (samples : List Sample) (entry : Entry) (c : Held) → IsWhole c → IsAccepted c → IsFilled c →
-    c.values ≡ values_of_entry samples entry →
-    TellsMaster (values_of_entry samples entry) (master_of entry) → IsLeastWord c.values c.word → Certifies samples entry c
-certifies samples entry c whole accepted filled values tells least =
+pub certifies : (receiver : Receiver) (samples : List Sample) (entry : Entry) (c : Held) → IsWhole c → IsAccepted c → IsFilled c →
+    c.values ≡ values_of receiver samples entry →
+    TellsMaster (values_of receiver samples entry) (master_of entry) → IsLeastWord c.values c.word → Certifies receiver samples entry c
+certifies receiver samples entry c whole accepted filled values tells least =
     let there : TellsMaster c.values (master_of entry) = subst (λ v. TellsMaster v (master_of entry)) (sym values) tells in
     let same : there.word ≡ c.word = one_word c.values there.word c.word there.tells.least least in
     record {
@@ -84,22 +86,23 @@ certifies samples entry c whole accepted filled values tells least =
     }
 
 -- the same by the values that it was filled with
-pub certifies_filled : (samples : List Sample) (entry : Entry) (c : Held) (v : List (List ℤ)) → IsWhole c → IsAccepted c → IsFilled c → c.values ≡ v →
-    v ≡ values_of_entry samples entry → TellsMaster v (master_of entry) → IsLeastWord v c.word → Certifies samples entry c
-certifies_filled samples entry c v whole accepted filled same values tells least =
-    certifies samples entry c whole accepted filled (same ∙ values) (subst (λ v. TellsMaster v (master_of entry)) values tells) (subst (λ v. IsLeastWord v c.word) (sym same) least)
+pub certifies_filled : (receiver : Receiver) (samples : List Sample) (entry : Entry) (c : Held) (v : List (List ℤ)) → IsWhole c → IsAccepted c → IsFilled c → c.values ≡ v →
+    v ≡ values_of receiver samples entry → TellsMaster v (master_of entry) → IsLeastWord v c.word → Certifies receiver samples entry c
+certifies_filled receiver samples entry c v whole accepted filled same values tells least =
+    certifies receiver samples entry c whole accepted filled (same ∙ values) (subst (λ v. TellsMaster v (master_of entry)) values tells) (subst (λ v. IsLeastWord v c.word) (sym same) least)
 
 -- the values of an entry have the shape and the sizes of a certificate
-values_fit : (samples : List Sample) (entry : Entry) → entry.frames ≤ 4 → Counted 40 IsTriple (values_of_entry samples entry)
-values_fit samples entry few =
-    let slot : ℕ → SeenSlot = λ m. broadcast_slot samples entry.id entry.start (entry.frame + m) in
-    let frames = values_below entry.frames (λ m. received_values (slot m)) in
-    let received = flat_map (λ (frame : List ℤ). frame) frames in
-    let first = 480 * entry.phase in
-    let many = values_below-length entry.frames (λ m. received_values (slot m)) in
-    let long = count_in_frames frames (values_below-All (λ (frame : List ℤ). length frame ≤ 480) entry.frames (λ m. received_values (slot m)) []
-    (λ m below. let size = length-received_values (slot m) in omega (arith, size))) in
-    let small = small_in_frames frames (values_below-All (AllWithin 127) entry.frames (λ m. received_values (slot m)) [] (λ m below. received_values-small (slot m))) in
+values_fit : (receiver : Receiver) (samples : List Sample) (entry : Entry) → HasSmallValues receiver → entry.frames ≤ 4 → Counted 40 IsTriple (values_of receiver samples entry)
+values_fit receiver samples entry within few =
+    let values : ℕ → List ℤ = receiver.broadcast samples (place_of entry) in
+    let each : ℕ → List ℤ = λ m. values (entry.frame + m) in
+    let frames = values_below entry.frames each in
+    let received = values_in values entry.frames entry.frame in
+    let first = receiver.size * entry.phase in
+    let many = values_below-length entry.frames each in
+    let long = count_in_frames frames (values_below-All (λ (frame : List ℤ). length frame ≤ 480) entry.frames each []
+    (λ m below. within.few samples (place_of entry) (entry.frame + m))) in
+    let small = small_in_frames frames (values_below-All (AllWithin 127) entry.frames each [] (λ m below. within.small samples (place_of entry) (entry.frame + m))) in
     let count = length-summed_values entry.id first received in
     let sizes = summed_values-small entry.id first received small (omega (arith, many, long, few)) in
     record {
@@ -111,44 +114,44 @@ values_fit samples entry few =
     }
 
 -- each entry of the list has a certificate
-entry_has_certificate : (samples : List Sample) (entries : List Entry) (entry : Entry) → IsExplained samples entries → Contains entries entry →
-    (c : Held) × Certifies samples entry c
-entry_has_certificate samples entries entry explained inside =
-    let known = is_sound one_port_receiver samples entries entry explained inside in
-    let values = values_of_entry samples entry in
+entry_has_certificate : (receiver : Receiver) (samples : List Sample) (entries : List Entry) (entry : Entry) → HasSmallValues receiver → IsListFor receiver samples entries → Contains entries entry →
+    (c : Held) × Certifies receiver samples entry c
+entry_has_certificate receiver samples entries entry within explained inside =
+    let known = is_sound receiver samples entries entry explained inside in
+    let values = values_of receiver samples entry in
     let tells : TellsMaster values (master_of entry) = known.is_of.master.told in
-    let fit = values_fit samples entry known.is_of.frames.inside.few in
+    let fit = values_fit receiver samples entry within known.is_of.frames.inside.few in
     let made = least_has_certificate values tells.word fit tells.tells.least in (
       certificate_of values tells.word,
-      certifies samples entry (certificate_of values tells.word) made.whole made.accepted made.filled made.values_are tells
+      certifies receiver samples entry (certificate_of values tells.word) made.whole made.accepted made.filled made.values_are tells
           (subst (λ w. IsLeastWord (certificate_of values tells.word).values w) (sym made.word_is) (subst (λ v. IsLeastWord v tells.word) (sym made.values_are) tells.tells.least)),
     )
 
 -- and so have all
-pub entries_have : (samples : List Sample) (entries rest : List Entry) → IsExplained samples entries → ((entry : Entry) → Contains rest entry → Contains entries entry) →
-    (cs : List Held) × AllZip (Certifies samples) rest cs
-entries_have samples entries [] explained inside = ([], tt)
-entries_have samples entries (e ∷ rest) explained inside =
-    let (c, first) = entry_has_certificate samples entries e explained (inside e (Contains-here e rest)) in
-    let (cs, more) = entries_have samples entries rest explained (λ entry there. inside entry (Contains-later e rest entry there)) in
+pub entries_have : (receiver : Receiver) (samples : List Sample) (entries rest : List Entry) → HasSmallValues receiver → IsListFor receiver samples entries → ((entry : Entry) → Contains rest entry → Contains entries entry) →
+    (cs : List Held) × AllZip (Certifies receiver samples) rest cs
+entries_have receiver samples entries [] within explained inside = ([], tt)
+entries_have receiver samples entries (e ∷ rest) within explained inside =
+    let (c, first) = entry_has_certificate receiver samples entries e within explained (inside e (Contains-here e rest)) in
+    let (cs, more) = entries_have receiver samples entries rest within explained (λ entry there. inside entry (Contains-later e rest entry there)) in
     (c ∷ cs, (first, more))
 
 -- ---- one certificate is written
 
-pub certified_ok : (samples : List Sample) (entry : Entry) (made piece : List ℕ) (before now : SinkTold) (r : Result (Unit {0}) Failed) →
-    IsCertificateOf samples entry made → piece ≡ made → OnOk r (HasWritten piece before now) → OnOk r (HasCertified samples entry before now)
-certified_ok samples entry made piece before now (Err e) h same written = tt
-certified_ok samples entry made piece before now (Ok u) h same written = record {
+pub certified_ok : (receiver : Receiver) (samples : List Sample) (entry : Entry) (made piece : List ℕ) (before now : SinkTold) (r : Result (Unit {0}) Failed) →
+    IsCertificateOf receiver samples entry made → piece ≡ made → OnOk r (HasWritten piece before now) → OnOk r (HasCertified receiver samples entry before now)
+certified_ok receiver samples entry made piece before now (Err e) h same written = tt
+certified_ok receiver samples entry made piece before now (Ok u) h same written = record {
   certificate = h.certificate;
   certifies = h.certifies;
   written = subst (λ l. HasWritten l before now) (same ∙ h.bytes_are) written;
 }
 
-pub certified_err : (samples : List Sample) (entry : Entry) (made piece : List ℕ) (before now : SinkTold) (r : Result (Unit {0}) Failed) →
-    IsCertificateOf samples entry made → piece ≡ made → OnErr r (HasWrittenFront piece before now) → OnErr r (IsShortOf (length piece) before) →
-    OnErr r (HasCertifiedFront samples entry before now)
-certified_err samples entry made piece before now (Ok u) h same front full = tt
-certified_err samples entry made piece before now (Err e) h same front full = record {
+pub certified_err : (receiver : Receiver) (samples : List Sample) (entry : Entry) (made piece : List ℕ) (before now : SinkTold) (r : Result (Unit {0}) Failed) →
+    IsCertificateOf receiver samples entry made → piece ≡ made → OnErr r (HasWrittenFront piece before now) → OnErr r (IsShortOf (length piece) before) →
+    OnErr r (HasCertifiedFront receiver samples entry before now)
+certified_err receiver samples entry made piece before now (Ok u) h same front full = tt
+certified_err receiver samples entry made piece before now (Err e) h same front full = record {
   certificate = h.certificate;
   certifies = h.certifies;
   front = subst (λ l. HasWrittenFront l before now) (same ∙ h.bytes_are) front;
@@ -158,18 +161,18 @@ certified_err samples entry made piece before now (Err e) h same front full = re
 -- ---- one after the other
 
 -- at first none is written
-pub written_none : (samples : List Sample) (before : SinkTold) → HasCertifiedAll samples [] before before
-written_none samples before = record { certificates = []; each = tt; written = write_nothing before }
+pub written_none : (receiver : Receiver) (samples : List Sample) (before : SinkTold) → HasCertifiedAll receiver samples [] before before
+written_none receiver samples before = record { certificates = []; each = tt; written = write_nothing before }
 
 -- the bytes of certificates and of one more
 bytes_and_one : (cs : List Held) (c : Held) → all_bytes (cs ++ c ∷ []) ≡ all_bytes cs ++ bytes_of c
 bytes_and_one cs c = flat_map-append bytes_of cs (c ∷ []) ∙ ap (λ l. all_bytes cs ++ l) (append-nil (bytes_of c))
 
-pub written_more : (samples : List Sample) (entries : List Entry) (entry : Entry) (before between now : SinkTold) →
-    HasCertifiedAll samples entries before between → HasCertified samples entry between now → HasCertifiedAll samples (entries ++ entry ∷ []) before now
-written_more samples entries entry before between now a h = record {
+pub written_more : (receiver : Receiver) (samples : List Sample) (entries : List Entry) (entry : Entry) (before between now : SinkTold) →
+    HasCertifiedAll receiver samples entries before between → HasCertified receiver samples entry between now → HasCertifiedAll receiver samples (entries ++ entry ∷ []) before now
+written_more receiver samples entries entry before between now a h = record {
   certificates = a.certificates ++ h.certificate ∷ [];
-  each = zip_append (Certifies samples) entries (entry ∷ []) a.certificates (h.certificate ∷ []) a.each (h.certifies, tt);
+  each = zip_append (Certifies receiver samples) entries (entry ∷ []) a.certificates (h.certificate ∷ []) a.each (h.certifies, tt);
   written = subst (λ l. HasWritten l before now) (sym (bytes_and_one a.certificates h.certificate))
       (write_then (all_bytes a.certificates) (bytes_of h.certificate) before between now a.written h.written);
 }
@@ -183,15 +186,15 @@ short_of_more n m before few short = by_room before.room short
     by_room (Some left) short = omega (arith, short, few)
 
 -- where a front of one is written, a front of all is
-pub written_some : (samples : List Sample) (list entries : List Entry) (entry : Entry) (rest : List Entry) (before between now : SinkTold) →
-    IsExplained samples list → list ≡ (entries ++ entry ∷ []) ++ rest → HasCertifiedAll samples entries before between →
-    HasCertifiedFront samples entry between now → HasCertifiedSome samples list before now
-written_some samples list entries entry rest before between now explained split a h =
-    let (cs, more) = entries_have samples list rest explained (λ other there. subst (λ l. Contains l other) (sym split) (Contains-append_right (entries ++ entry ∷ []) rest other there)) in
+pub written_some : (receiver : Receiver) (samples : List Sample) (list entries : List Entry) (entry : Entry) (rest : List Entry) (before between now : SinkTold) →
+    HasSmallValues receiver → IsListFor receiver samples list → list ≡ (entries ++ entry ∷ []) ++ rest → HasCertifiedAll receiver samples entries before between →
+    HasCertifiedFront receiver samples entry between now → HasCertifiedSome receiver samples list before now
+written_some receiver samples list entries entry rest before between now within explained split a h =
+    let (cs, more) = entries_have receiver samples list rest within explained (λ other there. subst (λ l. Contains l other) (sym split) (Contains-append_right (entries ++ entry ∷ []) rest other there)) in
     let first : List ℕ = all_bytes a.certificates in
     let all : List Held = (a.certificates ++ h.certificate ∷ []) ++ cs in
-    let zip : AllZip (Certifies samples) list all = subst (λ l. AllZip (Certifies samples) l all) (sym split)
-    (zip_append (Certifies samples) (entries ++ entry ∷ []) rest (a.certificates ++ h.certificate ∷ []) cs (zip_append (Certifies samples) entries (entry ∷ []) a.certificates (h.certificate ∷ []) a.each (h.certifies, tt)) more) in
+    let zip : AllZip (Certifies receiver samples) list all = subst (λ l. AllZip (Certifies receiver samples) l all) (sym split)
+    (zip_append (Certifies receiver samples) (entries ++ entry ∷ []) rest (a.certificates ++ h.certificate ∷ []) cs (zip_append (Certifies receiver samples) entries (entry ∷ []) a.certificates (h.certificate ∷ []) a.each (h.certifies, tt)) more) in
     let joined : all_bytes all ≡ (first ++ bytes_of h.certificate) ++ all_bytes cs =
     flat_map-append bytes_of (a.certificates ++ h.certificate ∷ []) cs ∙ ap (λ l. l ++ all_bytes cs) (bytes_and_one a.certificates h.certificate) in
     let fewer : length first + length (bytes_of h.certificate) ≤ length (all_bytes all) =
@@ -206,20 +209,20 @@ written_some samples list entries entry rest before between now explained split 
     }
 
 -- the same by the index of the entry
-pub written_next : (samples : List Sample) (list : List Entry) (i : ℕ) (entry : Entry) (before between now : SinkTold) →
-    i < length list → entry ≡ get_or list i entry → HasCertifiedAll samples (take i list) before between →
-    HasCertified samples entry between now → HasCertifiedAll samples (take (i + 1) list) before now
-written_next samples list i entry before between now inside is a h =
+pub written_next : (receiver : Receiver) (samples : List Sample) (list : List Entry) (i : ℕ) (entry : Entry) (before between now : SinkTold) →
+    i < length list → entry ≡ get_or list i entry → HasCertifiedAll receiver samples (take i list) before between →
+    HasCertified receiver samples entry between now → HasCertifiedAll receiver samples (take (i + 1) list) before now
+written_next receiver samples list i entry before between now inside is a h =
     let next : take (i + 1) list ≡ take i list ++ entry ∷ [] = rw (add-one i) (take-suc list i entry inside ∙ ap (λ e. take i list ++ e ∷ []) (sym is)) in
-    subst (λ l. HasCertifiedAll samples l before now) (sym next) (written_more samples (take i list) entry before between now a h)
+    subst (λ l. HasCertifiedAll receiver samples l before now) (sym next) (written_more receiver samples (take i list) entry before between now a h)
 
-pub written_some_at : (samples : List Sample) (list : List Entry) (i : ℕ) (entry : Entry) (before between now : SinkTold) →
-    i < length list → entry ≡ get_or list i entry → IsExplained samples list → HasCertifiedAll samples (take i list) before between →
-    HasCertifiedFront samples entry between now → HasCertifiedSome samples list before now
-written_some_at samples list i entry before between now inside is explained a h =
+pub written_some_at : (receiver : Receiver) (samples : List Sample) (list : List Entry) (i : ℕ) (entry : Entry) (before between now : SinkTold) →
+    i < length list → entry ≡ get_or list i entry → HasSmallValues receiver → IsListFor receiver samples list → HasCertifiedAll receiver samples (take i list) before between →
+    HasCertifiedFront receiver samples entry between now → HasCertifiedSome receiver samples list before now
+written_some_at receiver samples list i entry before between now inside is within explained a h =
     let next : take (suc i) list ≡ take i list ++ entry ∷ [] = take-suc list i entry inside ∙ ap (λ e. take i list ++ e ∷ []) (sym is) in
     let split : list ≡ (take i list ++ entry ∷ []) ++ drop (suc i) list = sym (take-append-drop (suc i) list) ∙ ap (λ l. l ++ drop (suc i) list) next in
-    written_some samples list (take i list) entry (drop (suc i) list) before between now explained split a h
+    written_some receiver samples list (take i list) entry (drop (suc i) list) before between now within explained split a h
 
 -- a buffer that is written back whole
 pub written_back : {A : Type 0} (new old : List A) (n : ℕ) → length new ≡ length old → n ≡ length old → take n (new ++ drop (length new) old) ≡ new

@@ -3,11 +3,13 @@
 ghost use Rattle.std.specs.Prelude.{◌≡◌, ◌≤◌, OnOk, OnErr, length, take, vec_len};
 ghost use Rattle.std.specs.List.{AllZip};
 ghost use Rattle.cs_outside.specs.Counts.{Rose};
-ghost use Rattle.explain.specs.Entries.{IsExplained, IsInList};
-ghost use Rattle.explain.specs.Readings.{IsReading};
+ghost use Rattle.explain.specs.Receiver.{Receiver, hits_by};
+ghost use Rattle.explain.specs.Entries.{IsEntryFor, IsListFor};
+ghost use Rattle.explain.specs.Laws.{IsEntryOfSome};
+ghost use Rattle.explain.specs.Readings.{IsReadingFor};
 ghost use Rattle.tail_cert.specs.Certificate.{IsWhole};
 ghost use Rattle.tail_cert.specs.Form.{bytes_of, most_count};
-ghost use Rattle.cert_stream.specs.Certifying.{IsCertificateOf, HasCertified, HasCertifiedFront, HasCertifiedAll, HasCertifiedSome};
+ghost use Rattle.cert_stream.specs.Certifying.{HasSmallValues, IsCertificateOf, HasCertified, HasCertifiedFront, HasCertifiedAll, HasCertifiedSome};
 
 use cs_outside::{Failed, Sink, write_whole};
 use explain::Reading;
@@ -41,11 +43,11 @@ impl CertificateWork {
     }
 }
 
-/// Writes a certificate for each entry of a recording's list, in order: the values of the entry's
-/// frames, their least word, which tells the entry's master block, and its cost. `readings` are how
-/// the entries were read, in the order of the list. The certificates are accepted. `Failed` means
-/// that the sink counted a fault, after a front of them was written; where the sink tells its room,
-/// that was too little for all. It takes no memory. (own)
+/// Writes a certificate for each entry of a recording's list by a receiver, in order: the sums of the values of the
+/// entry's frames, their least word, which tells the entry's master block, and its cost. `readings` are how the
+/// entries were read, in the order of the list. Of a frame the receiver has at most 480 values, of size at most 127.
+/// The certificates are accepted. `Failed` means that the sink counted a fault, after a front of them was written;
+/// where the sink tells its room, that was too little for all. It takes no memory. (own)
 pub fn certify<K: Sink>(
     recording: &Recording,
     entries: &[Entry],
@@ -53,10 +55,13 @@ pub fn certify<K: Sink>(
     work: &mut CertificateWork,
     sink: &mut K,
 ) -> Result<(), Failed>
-    requires list { IsExplained recording.now entries.now }
-    requires readings { AllZip (IsReading recording.now) entries.now readings.now }
-    ensures ok { OnOk result (HasCertifiedAll recording.now entries.now (K.told sink.old) (K.told sink.new)) }
-    ensures err { OnErr result (HasCertifiedSome recording.now entries.now (K.told sink.old) (K.told sink.new)) }
+    ghost receiver: { Receiver }
+    requires small { HasSmallValues receiver }
+    requires list { IsListFor receiver recording.now entries.now }
+    requires readings { AllZip (IsReadingFor receiver recording.now) entries.now readings.now }
+    ensures ok { OnOk result (HasCertifiedAll receiver recording.now entries.now (K.told sink.old) (K.told sink.new)) }
+    ensures err { OnErr result
+        (HasCertifiedSome receiver recording.now entries.now (K.told sink.old) (K.told sink.new)) }
     ensures fault { OnErr result (Rose (K.told sink.old).faults (K.told sink.new).faults) }
     ensures never_falls { (K.told sink.old).faults ≤ (K.told sink.new).faults }
 {
@@ -74,10 +79,13 @@ fn certify_one<K: Sink>(
     work: &mut CertificateWork,
     sink: &mut K,
 ) -> Result<(), Failed>
-    requires listed { IsInList recording.now entry.now }
-    requires reading { IsReading recording.now entry.now reading.now }
-    ensures ok { OnOk result (HasCertified recording.now entry.now (K.told sink.old) (K.told sink.new)) }
-    ensures err { OnErr result (HasCertifiedFront recording.now entry.now (K.told sink.old) (K.told sink.new)) }
+    ghost receiver: { Receiver }
+    requires entry { IsEntryOfSome (IsEntryFor receiver recording.now)
+        (hits_by receiver.carrier recording.now) entry.now }
+    requires reading { IsReadingFor receiver recording.now entry.now reading.now }
+    ensures ok { OnOk result (HasCertified receiver recording.now entry.now (K.told sink.old) (K.told sink.new)) }
+    ensures err { OnErr result
+        (HasCertifiedFront receiver recording.now entry.now (K.told sink.old) (K.told sink.new)) }
     ensures fault { OnErr result (Rose (K.told sink.old).faults (K.told sink.new).faults) }
     ensures never_falls { (K.told sink.old).faults ≤ (K.told sink.new).faults }
 {
@@ -92,10 +100,12 @@ fn make(
     reading: &Reading,
     work: &mut CertificateWork,
 ) -> usize
-    requires listed { IsInList recording.now entry.now }
-    requires reading { IsReading recording.now entry.now reading.now }
+    ghost receiver: { Receiver }
+    requires entry { IsEntryOfSome (IsEntryFor receiver recording.now)
+        (hits_by receiver.carrier recording.now) entry.now }
+    requires reading { IsReadingFor receiver recording.now entry.now reading.now }
     ensures fits { result ≤ most_count }
-    ensures bytes { IsCertificateOf recording.now entry.now (take result work.new.buffer.items) }
+    ensures bytes { IsCertificateOf receiver recording.now entry.now (take result work.new.buffer.items) }
 {
     let values = reading.sums.rows();
     fill(&mut work.certificate, &values, &mut work.trellis);

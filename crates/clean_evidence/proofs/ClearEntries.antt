@@ -12,7 +12,7 @@ use Rattle.explain.specs.Entries.{IsInList}
 use Rattle.cell_tx.specs.declared.cell.CellPlan.{CellPlan}
 use Rattle.cell_tx.specs.Plan.{IsSendable}
 use Rattle.cell_tx.specs.Sent.{Elements}
-use Rattle.evidence.specs.Evidence.{mean_steps}
+use Rattle.evidence.specs.Evidence.{noise_of, steps}
 use Rattle.clean_air.specs.Load.{IsLoaded}
 use Rattle.clean_air.specs.Values.{ArePilotsSeen}
 use Rattle.clean_air.specs.Clean.{IsSentEntry}
@@ -24,8 +24,8 @@ use Rattle.clean_evidence.proofs.PilotSteps.{steps_are_small, steps_are_quiet}
 
 -- what is asked of the pilots of the entry's slot
 record HasQuietPilots (gain : Cpx) (slot : SeenSlot) : Type 0 where
-  small : mean_steps (pilot slot) ≤ 171500431 * square gain
-  quiet : 5 * mean_steps (pilot slot) ≤ pilot_energy slot
+  small : noise_of (steps (pilot slot)) ≤ 171500431 * square gain
+  quiet : 5 * noise_of (steps (pilot slot)) ≤ pilot_energy slot
 
 module _ (recording : List Sample) (entry : Entry) (plan : CellPlan) (grid : Elements) (sfn offset : ℕ) (gain : Cpx) (eps : ℕ) (long : 57600 ≤ length recording)
     (listed : IsInList recording entry) (sendable : IsSendable plan) (clean : IsLoaded recording plan grid sfn offset gain eps)
@@ -57,7 +57,7 @@ clean_entries_are_clear recording entry told plan grid sfn offset gain eps long 
       frame = evidence.frame ∙ sent.frame;
       peak = subst (λ n. 999 ≤ n) (sym evidence.peak) (peak_is_high recording plan grid sfn offset gain eps entry told.t long clean id start evidence.t.told);
       noise = subst (λ n. n ≤ 171500431 * square gain) (sym evidence.noise) pilots.small;
-      quiet = two (mean_steps _) told.noise (pilot_energy _) told.power evidence.noise evidence.power pilots.quiet;
+      quiet = two (noise_of (steps _)) told.noise (pilot_energy _) told.power evidence.noise evidence.power pilots.quiet;
     }
   where
     two : (m noise e power : ℕ) → noise ≡ m → power ≡ e → 5 * m ≤ e → 5 * noise ≤ power

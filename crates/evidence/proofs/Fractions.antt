@@ -3,6 +3,7 @@ use Rattle.std.proofs.Common.{◌≡◌, ℕ, ◌*◌, ◌/◌, ◌%◌, ◌≤�
 use Rattle.std.proofs.Math.Nat.{div-le_of_le-mul}
 use Rattle.std.proofs.lemmas.Nat.{le-div, mul-le}
 use Rattle.cs_num.specs.declared.Sample.{Sample}
+use Rattle.lte_types.specs.declared.carrier.Carrier.{Carrier}
 use Rattle.lte_types.specs.declared.hit.Hit.{Hit}
 use Rattle.lte_types.specs.declared.entry.Entry.{Entry}
 use Rattle.pss_search.specs.Correlation.{peak, wave_power}
@@ -24,7 +25,7 @@ some_product a b p q = omega (arith, p, q, mul-le 1 1 a b p q)
 
 -- ---- the hit of an entry
 
-module _ (recording : List Sample) (entry : Entry) (hit : Hit) (h : IsHitOfEntry recording entry hit) where
+module _ (carrier : Carrier) (recording : List Sample) (entry : Entry) (hit : Hit) (h : IsHitOfEntry carrier recording entry hit) where
   -- it has energy
   pub hit_sounds : 0 < hit.energy
   hit_sounds = subst (λ (x : Hit). 0 < x.energy) (sym h.is_hit.measured) h.is_hit.is_hit.sounds

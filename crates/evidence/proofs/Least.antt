@@ -1,30 +1,47 @@
 -- The first hit of a list that tells an entry.
 use Rattle.std.proofs.Common.{◌≡◌, inl, inr, ℕ, ◌%◌, ◌<◌, ◌≤◌, List, length, get_or, arith, refl, ap, sym, subst, ◌∙◌}
-use Rattle.std.specs.List.{Contains}
+use Rattle.std.specs.List.{AllPairs, Contains}
 use Rattle.std.proofs.lemmas.Bool.{cases_lt}
+use Rattle.std.proofs.lemmas.List.Kept.{AllPairs-filter}
 use Rattle.std.proofs.lemmas.Option.{get_or_from_slice_get, slice_get_within, slice_get_read}
 use Rattle.cs_num.specs.declared.Sample.{Sample}
+use Rattle.lte_types.specs.declared.carrier.Carrier.{Carrier}
 use Rattle.lte_types.specs.declared.hit.Hit.{Hit}
 use Rattle.lte_types.specs.declared.entry.Entry.{Entry}
+use Rattle.lte_types.specs.CellPlace.{Place}
 use Rattle.pss_search.specs.Hits.{hits_of}
 use Rattle.pss_search.specs.Laws.{IsHitOf, IsEarlier}
 use Rattle.pss_search.proofs.Listed.{list_is_right, list_is_in_order}
-use Rattle.lte_types.specs.CellPlace.{Place}
-use Rattle.explain.specs.Entries.{identity_at, start_at, place_at, place_of}
+use Rattle.explain.specs.Entries.{place_of}
 use Rattle.explain.specs.Readings.{IsFirstTelling}
-use Rattle.evidence.specs.Evidence.{IsToldAt, IsHitOfEntry}
+use Rattle.explain.specs.Receiver.{has_step_before, hits_by, place_by}
+use Rattle.explain.proofs.Late.{taken_are_late, are_taken}
+use Rattle.evidence.specs.Evidence.{IsToldBy, IsHitOfEntry}
 
-same_place : (recording : List Sample) (entry : Entry) (hit : Hit) → identity_at recording hit ≡ entry.id → start_at recording hit ≡ entry.start →
-    place_at recording hit ≡ place_of entry
-same_place recording entry hit id start = cc
+-- ---- the hits that are taken
+
+-- each is one of the recording
+taken_is_hit : (carrier : Carrier) (recording : List Sample) (hit : Hit) → Contains (hits_by carrier recording) hit → IsHitOf recording hit
+taken_is_hit carrier recording hit listed = (list_is_right recording hit).0 ((are_taken carrier recording hit).0 listed).0
+
+-- and they are in order
+taken_in_order : (carrier : Carrier) (recording : List Sample) → AllPairs IsEarlier (hits_by carrier recording)
+taken_in_order carrier recording =
+    subst (AllPairs IsEarlier) (taken_are_late carrier recording)
+    (AllPairs-filter IsEarlier (has_step_before carrier) (hits_of recording) (list_is_in_order recording))
+
+-- ---- the first of an entry
+
+same_place : (place : Place) (entry : Entry) → place.id ≡ entry.id → place.start ≡ entry.start → place ≡ place_of entry
+same_place place entry id start = ap (λ n. record { id = n; start = place.start }) id ∙ ap (λ n. record { id = entry.id; start = n }) start
 
 -- the first hit that tells the place of an entry is the entry's
-pub first_tells : (recording : List Sample) (entry : Entry) (hit : Hit) → IsFirstTelling (place_at recording) (hits_of recording) (place_of entry) hit →
-    IsHitOfEntry recording entry hit
-first_tells recording entry hit f = record { is_hit = hit_is; first = record { told = told; least = least }; root = root }
+pub first_tells : (carrier : Carrier) (recording : List Sample) (entry : Entry) (hit : Hit) → IsFirstTelling (place_by carrier recording) (hits_by carrier recording) (place_of entry) hit →
+    IsHitOfEntry carrier recording entry hit
+first_tells carrier recording entry hit f = record { is_hit = hit_is; first = record { told = told; least = least }; root = root }
   where
     hits : List Hit
-    hits = hits_of recording
+    hits = hits_by carrier recording
 
     inside : f.at < length hits
     inside = slice_get_within hits f.at hit f.is
@@ -36,27 +53,27 @@ first_tells recording entry hit f = record { is_hit = hit_is; first = record { t
     listed = (f.at, inside, here hit)
 
     hit_is : IsHitOf recording hit
-    hit_is = (list_is_right recording hit).0 listed
+    hit_is = taken_is_hit carrier recording hit listed
 
-    identity : identity_at recording hit ≡ entry.id
+    identity : (place_by carrier recording hit).id ≡ entry.id
     identity = ap (λ (p : Place). p.id) f.tells
 
-    told : IsToldAt recording entry hit.t
+    told : IsToldBy carrier recording entry hit.t
     told = record { hit = hit; listed = listed; place = refl; identity = identity; start = ap (λ (p : Place). p.start) f.tells }
 
     root : hit.n2 ≡ entry.id % 3
     root = let third = hit_is.root in omega (arith, identity, third)
 
     -- no hit before tells the entry
-    not_before : (u : ℕ) (other : IsToldAt recording entry u) (k : ℕ) → k < length hits → get_or hits k other.hit ≡ other.hit → f.at ≤ k
+    not_before : (u : ℕ) (other : IsToldBy carrier recording entry u) (k : ℕ) → k < length hits → get_or hits k other.hit ≡ other.hit → f.at ≤ k
     not_before u other k within is = elim (cases_lt k f.at) [
-      | inl earlier ↦ absurd (f.first k other.hit earlier (slice_get_read hits (length hits) k other.hit refl within (sym is)) (same_place recording entry other.hit other.identity other.start))
+      | inl earlier ↦ absurd (f.first k other.hit earlier (slice_get_read hits (length hits) k other.hit refl within (sym is)) (same_place (place_by carrier recording other.hit) entry other.identity other.start))
       | inr not_earlier ↦ not_earlier
     ]
 
     in_order : (k : ℕ) (other : Hit) → f.at ≤ k → k < length hits → get_or hits k other ≡ other → other.n2 < 3 → hit.t ≤ other.t
     in_order k other low within is third = elim (cases_lt f.at k) [
-      | inl later ↦ let e : IsEarlier (get_or hits f.at other) (get_or hits k other) = list_is_in_order recording f.at k other later within in
+      | inl later ↦ let e : IsEarlier (get_or hits f.at other) (get_or hits k other) = taken_in_order carrier recording f.at k other later within in
           let ordered : IsEarlier hit other = subst (λ h. IsEarlier h other) (here other) (subst (λ h. IsEarlier (get_or hits f.at other) h) is e) in
           omega (arith, ordered, third)
       | inr not_later ↦ let same : k ≡ f.at = omega (arith, low, not_later) in
@@ -64,8 +81,8 @@ first_tells recording entry hit f = record { is_hit = hit_is; first = record { t
           omega (arith, ap (λ (h : Hit). h.t) one)
     ]
 
-    least : (u : ℕ) → IsToldAt recording entry u → hit.t ≤ u
+    least : (u : ℕ) → IsToldBy carrier recording entry u → hit.t ≤ u
     least u other =
         let (k, within, is) = other.listed in
-        let later = in_order k other.hit (not_before u other k within is) within is ((list_is_right recording other.hit).0 other.listed).root in
+        let later = in_order k other.hit (not_before u other k within is) within is (taken_is_hit carrier recording other.hit other.listed).root in
         omega (arith, later, other.place)

@@ -2,4 +2,5 @@ pub mod Fractions
 pub mod Steps
 pub mod Least
 pub mod Only
+mod Early
 pub mod Each

@@ -3,8 +3,11 @@ use Rattle.std.proofs.Common.{◌≡◌, ◌%◌, List, [], ◌∷◌, arith, re
 use Rattle.std.specs.List.{AllZip}
 use Rattle.cs_num.specs.declared.Sample.{Sample}
 use Rattle.lte_types.specs.declared.entry.Entry.{Entry}
+use Rattle.explain.specs.Receiver.{Receiver}
 use Rattle.lte_types.specs.declared.evidence.Evidence.{Evidence}
-use Rattle.evidence.specs.Evidence.{IsEvidence, thousandths}
+use Rattle.evidence.specs.Evidence.{IsEvidenceFor, thousandths}
+use Rattle.evidence.specs.Shown.{IsShownFor}
+use Rattle.report.specs.EvidenceJson.{Shown}
 
 -- two of the same numbers are the same
 same_evidence : (a b : Evidence) → a.id ≡ b.id → a.start ≡ b.start → a.sfn ≡ b.sfn → a.t ≡ b.t → a.peak ≡ b.peak → a.cost ≡ b.cost → a.total ≡ b.total →
@@ -24,20 +27,34 @@ same_evidence a b id start sfn t peak cost total frames frame phase power noise 
     ∙ ap (λ x. record a { id = b.id; start = b.start; sfn = b.sfn; t = b.t; peak = b.peak; cost = b.cost; total = b.total; frames = b.frames; frame = b.frame; phase = b.phase; power = b.power; noise = x }) noise
 
 -- an entry has one
-one_evidence : (recording : List Sample) (entry : Entry) (a b : Evidence) → IsEvidence recording entry a → IsEvidence recording entry b → a ≡ b
-one_evidence recording entry a b p q =
+one_evidence : (receiver : Receiver) (recording : List Sample) (entry : Entry) (a b : Evidence) → IsEvidenceFor receiver recording entry a → IsEvidenceFor receiver recording entry b → a ≡ b
+one_evidence receiver recording entry a b p q =
     let t : a.t ≡ b.t = omega (arith, p.t.least b.t q.t.told, q.t.least a.t p.t.told) in
     same_evidence a b (p.id ∙ sym q.id) (p.start ∙ sym q.start) (p.sfn ∙ sym q.sfn) t
     (p.peak ∙ ap (thousandths recording (entry.id % 3)) t ∙ sym q.peak) (p.cost ∙ sym q.cost) (p.total ∙ sym q.total) (p.frames ∙ sym q.frames)
     (p.frame ∙ sym q.frame) (p.phase ∙ sym q.phase) (p.power ∙ sym q.power) (p.noise ∙ sym q.noise)
 
+-- it shows one slot
+one_shown : (receiver : Receiver) (recording : List Sample) (entry : Entry) (a b : Shown) → IsShownFor receiver recording entry a → IsShownFor receiver recording entry b → a ≡ b
+one_shown receiver recording entry a b p q =
+    ap (λ x. record a { numbers = x }) (one_evidence receiver recording entry a.numbers b.numbers p.numbers q.numbers)
+    ∙ ap (λ x. record a { numbers = b.numbers; channel = x }) (p.channel ∙ sym q.channel)
+    ∙ ap (λ x. record a { numbers = b.numbers; channel = b.channel; values = x }) (p.values ∙ sym q.values)
+
 -- and so have all of a list
-pub one_for_each : (recording : List Sample) (entries : List Entry) (first second : List Evidence) → AllZip (IsEvidence recording) entries first →
-    AllZip (IsEvidence recording) entries second → first ≡ second
-one_for_each recording [] [] [] a b = refl
-one_for_each recording [] [] (y ∷ ys) a b = absurd b
-one_for_each recording [] (x ∷ xs) second a b = absurd a
-one_for_each recording (entry ∷ entries) [] second a b = absurd a
-one_for_each recording (entry ∷ entries) (x ∷ xs) [] a b = absurd b
-one_for_each recording (entry ∷ entries) (x ∷ xs) (y ∷ ys) a b =
-    ap (λ e. e ∷ xs) (one_evidence recording entry x y a.0 b.0) ∙ ap (λ es. y ∷ es) (one_for_each recording entries xs ys a.1 b.1)
+each_once : {A B : Type 0} (R : A → B → Type 0) → ((x : A) (a b : B) → R x a → R x b → a ≡ b) → (xs : List A) (first second : List B) → AllZip R xs first → AllZip R xs second → first ≡ second
+each_once R once [] [] [] a b = refl
+each_once R once [] [] (y ∷ ys) a b = absurd b
+each_once R once [] (x ∷ xs) second a b = absurd a
+each_once R once (entry ∷ entries) [] second a b = absurd a
+each_once R once (entry ∷ entries) (x ∷ xs) [] a b = absurd b
+each_once R once (entry ∷ entries) (x ∷ xs) (y ∷ ys) a b =
+    ap (λ e. e ∷ xs) (once entry x y a.0 b.0) ∙ ap (λ es. y ∷ es) (each_once R once entries xs ys a.1 b.1)
+
+pub one_for_each : (receiver : Receiver) (recording : List Sample) (entries : List Entry) (first second : List Evidence) → AllZip (IsEvidenceFor receiver recording) entries first →
+    AllZip (IsEvidenceFor receiver recording) entries second → first ≡ second
+one_for_each receiver recording = each_once (IsEvidenceFor receiver recording) (one_evidence receiver recording)
+
+pub one_shown_for_each : (receiver : Receiver) (recording : List Sample) (entries : List Entry) (first second : List Shown) → AllZip (IsShownFor receiver recording) entries first →
+    AllZip (IsShownFor receiver recording) entries second → first ≡ second
+one_shown_for_each receiver recording = each_once (IsShownFor receiver recording) (one_shown receiver recording)

@@ -1,4 +1,4 @@
--- What supports an entry of a list. (own)
+-- What supports an entry of a list by a receiver. (own)
 use Rattle.std.specs.Prelude.{◌≡◌, ℕ, ◌+◌, ◌*◌, ◌/◌, ◌%◌, ◌<◌, ◌≤◌, List}
 use Rattle.std.specs.List.{Contains}
 use Rattle.finite.specs.Sums.{total_below}
@@ -6,31 +6,42 @@ use Rattle.cs_num.specs.declared.Cpx.{Cpx}
 use Rattle.cs_num.specs.declared.Sample.{Sample}
 use Rattle.cs_num.specs.Complex.{minus, square}
 use Rattle.crs.specs.Power.{point_power}
+use Rattle.crs.specs.Reference.{port_0, port_1, long_prefix}
+use Rattle.lte_types.specs.declared.carrier.Carrier.{Carrier}
+use Rattle.lte_types.specs.declared.carrier.Carrier.TheVariants.{OnePort, TwoPorts, LongPrefix}
 use Rattle.lte_types.specs.declared.hit.Hit.{Hit}
 use Rattle.lte_types.specs.declared.entry.Entry.{Entry}
+use Rattle.lte_types.specs.CellPlace.{Place}
 use Rattle.pss_search.specs.Correlation.{peak, energy, wave_power}
-use Rattle.pss_search.specs.Hits.{first_place, last_place, hits_of}
+use Rattle.pss_search.specs.Hits.{first_place, last_place}
 use Rattle.pss_search.specs.Laws.{IsHitOf}
-use Rattle.soft_bits.specs.Soft.{pilot, pilot_energy}
+use Rattle.soft_bits.specs.Soft.{SeenSlot, pattern_pilot, pattern_energy}
 use Rattle.pbch.specs.Master.{total}
-use Rattle.explain.specs.Entries.{identity_at, start_at, values_of_entry}
-use Rattle.explain.specs.EntrySlot.{slot_of_entry}
+use Rattle.explain.specs.Frame.{broadcast_slot}
+use Rattle.explain.specs.Receiver.{Receiver, one_port_receiver, hits_by, place_by, sums_by}
+use Rattle.explain.specs.Entries.{place_of, frames_of}
+use Rattle.two_ports.specs.Pairs.{pilots_energy}
+use Rattle.long_prefix.specs.Entries.{long_slot}
 use Rattle.lte_types.specs.declared.evidence.Evidence.{Evidence}
 
 -- ---- the hit
 
--- a hit at place t tells the entry's identity and start
-pub record IsToldAt (recording : List Sample) (entry : Entry) (t : ℕ) : Type 0 where
+-- a hit at place t tells the entry's identity and start, as cells of a carrier tell them
+pub record IsToldBy (carrier : Carrier) (recording : List Sample) (entry : Entry) (t : ℕ) : Type 0 where
   pub hit : Hit
-  pub listed : Contains (hits_of recording) hit
+  pub listed : Contains (hits_by carrier recording) hit
   pub place : hit.t ≡ t
-  pub identity : identity_at recording hit ≡ entry.id
-  pub start : start_at recording hit ≡ entry.start
+  pub identity : (place_by carrier recording hit).id ≡ entry.id
+  pub start : (place_by carrier recording hit).start ≡ entry.start
 
 -- t is the least such place
-pub record IsFirstTold (recording : List Sample) (entry : Entry) (t : ℕ) : Type 0 where
-  pub told : IsToldAt recording entry t
-  pub least : (u : ℕ) → IsToldAt recording entry u → t ≤ u
+pub record IsFirstToldBy (carrier : Carrier) (recording : List Sample) (entry : Entry) (t : ℕ) : Type 0 where
+  pub told : IsToldBy carrier recording entry t
+  pub least : (u : ℕ) → IsToldBy carrier recording entry u → t ≤ u
+
+-- with one antenna port
+abbrev pub IsToldAt : List Sample → Entry → ℕ → Type 0
+IsToldAt = IsToldBy OnePort
 
 -- the fraction of a place for n2 in thousandths, rounded down: 1000 C / (E P)
 abbrev pub thousandths : List Sample → ℕ → ℕ → ℕ
@@ -38,30 +49,58 @@ thousandths recording n2 t = 1000 * peak recording n2 t / (energy recording t * 
 
 -- ---- the pilots
 
+-- the slot that carries the broadcast channel in frame j of the cell at a place, as it is seen
+abbrev pub slot_by : Carrier → List Sample → Place → ℕ → SeenSlot
+slot_by OnePort recording place j = broadcast_slot recording place.id place.start j
+slot_by TwoPorts recording place j = broadcast_slot recording place.id place.start j
+slot_by LongPrefix recording place j = long_slot recording place.id place.start j
+
+-- the energy of the pilots of all antenna ports
+abbrev pub power_by : Carrier → SeenSlot → ℕ
+power_by OnePort slot = pattern_energy port_0 slot
+power_by TwoPorts slot = pilots_energy slot
+power_by LongPrefix slot = pattern_energy long_prefix slot
+
 -- the square of the size of the step from one pilot to the next
 abbrev pub step_power : (ℕ → Cpx) → ℕ → ℕ
 step_power pilots i = square (minus (pilots (i + 1)) (pilots i))
 
--- those of 24 pilots together, divided by twice the square of a reference value's size, and rounded down
-unfoldable pub mean_steps : (ℕ → Cpx) → ℕ
-mean_steps pilots = total_below 23 (step_power pilots) / (2 * point_power)
+-- those of the 24 pilots of a port together
+unfoldable pub steps : (ℕ → Cpx) → ℕ
+steps pilots = total_below 23 (step_power pilots)
+
+-- and of all ports
+abbrev pub steps_by : Carrier → SeenSlot → ℕ
+steps_by OnePort slot = steps (pattern_pilot port_0 slot)
+steps_by TwoPorts slot = steps (pattern_pilot port_0 slot) + steps (pattern_pilot port_1 slot)
+steps_by LongPrefix slot = steps (pattern_pilot long_prefix slot)
+
+-- divided by twice the square of a reference value's size, and rounded down
+abbrev pub noise_of : ℕ → ℕ
+noise_of steps = steps / (2 * point_power)
 
 -- ---- the numbers of an entry
 
--- these are the numbers of the entry
-pub record IsEvidence (recording : List Sample) (entry : Entry) (told : Evidence) : Type 0 where
+-- these are the numbers of the entry, as a receiver reads it
+pub record IsEvidenceFor (receiver : Receiver) (recording : List Sample) (entry : Entry) (told : Evidence) :
+    Type 0 where
   pub id : told.id ≡ entry.id
   pub start : told.start ≡ entry.start
   pub sfn : told.sfn ≡ entry.sfn
-  pub t : IsFirstTold recording entry told.t
+  pub t : IsFirstToldBy receiver.carrier recording entry told.t
   pub peak : told.peak ≡ thousandths recording (entry.id % 3) told.t
   pub cost : told.cost ≡ entry.cost
-  pub total : told.total ≡ total (values_of_entry recording entry)
+  pub total : told.total ≡ total (sums_by receiver recording (place_of entry) (frames_of entry))
   pub frames : told.frames ≡ entry.frames
   pub frame : told.frame ≡ entry.frame
   pub phase : told.phase ≡ entry.phase
-  pub power : told.power ≡ pilot_energy (slot_of_entry recording entry)
-  pub noise : told.noise ≡ mean_steps (pilot (slot_of_entry recording entry))
+  pub power : told.power ≡ power_by receiver.carrier (slot_by receiver.carrier recording (place_of entry) entry.frame)
+  pub noise : told.noise
+      ≡ noise_of (steps_by receiver.carrier (slot_by receiver.carrier recording (place_of entry) entry.frame))
+
+-- by one antenna port
+abbrev pub IsEvidence : List Sample → Entry → Evidence → Type 0
+IsEvidence = IsEvidenceFor one_port_receiver
 
 -- how great they are
 pub record IsInRange (told : Evidence) : Type 0 where
@@ -75,7 +114,7 @@ pub record IsInRange (told : Evidence) : Type 0 where
 -- ---- the code's way to the hit
 
 -- the first hit that tells the entry, as it was measured
-pub record IsHitOfEntry (recording : List Sample) (entry : Entry) (hit : Hit) : Type 0 where
+pub record IsHitOfEntry (carrier : Carrier) (recording : List Sample) (entry : Entry) (hit : Hit) : Type 0 where
   pub is_hit : IsHitOf recording hit
-  pub first : IsFirstTold recording entry hit.t
+  pub first : IsFirstToldBy carrier recording entry hit.t
   pub root : hit.n2 ≡ entry.id % 3

@@ -4,5 +4,8 @@
 
 mod listing;
 mod noise;
+mod slot;
+mod support;
 
 pub use listing::{evidence_of, evidence_of_list};
+pub use support::support_of_list;

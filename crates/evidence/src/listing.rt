@@ -3,49 +3,63 @@
 ghost use Rattle.std.specs.Prelude.{◌≡◌, ◌/◌, ◌*◌, ◌<◌, ◌≤◌, All, IfOk};
 ghost use Rattle.std.specs.List.{AllZip};
 ghost use Rattle.pss_search.specs.Correlation.{wave_power};
-ghost use Rattle.explain.specs.Entries.{IsExplained, IsInList};
-ghost use Rattle.explain.specs.Readings.{IsReading};
-ghost use Rattle.evidence.specs.Evidence.{IsEvidence, IsInRange};
+ghost use Rattle.explain.specs.Entries.{place_of, IsEntryFor, IsListFor};
+ghost use Rattle.explain.specs.Laws.{IsEntryOfSome};
+ghost use Rattle.explain.specs.Readings.{IsReadingFor};
+ghost use Rattle.explain.specs.Receiver.{Receiver, hits_by};
+ghost use Rattle.evidence.specs.Evidence.{IsEvidenceFor, IsInRange};
 
 use crate::noise::noise_of;
-use explain::{Reading, slot_of_entry};
-use lte_types::{Entry, Evidence, Hit};
+use crate::slot::pilot_sums;
+use explain::Reading;
+use lte_types::{Carrier, CellPlace, Entry, Evidence, Hit};
 use pbch::total_of;
 use pss_search::signal_power;
 use sample_file::Recording;
 use std::alloc::{AllocError, Global};
 
-/// What supports each entry of a recording's list, in its order. `readings` are how the entries were read, in the
-/// order of the list. Only memory can be wanting. (own)
+/// What supports each entry of a recording's list by the receiver for a carrier, in its order. `readings` are how the
+/// entries were read, in the order of the list. Only memory can be wanting. (own)
 pub fn evidence_of_list(
     alloc: Global,
     recording: &Recording,
+    carrier: Carrier,
     entries: &[Entry],
     readings: &[Reading],
 ) -> Result<Vec<Evidence>, AllocError>
-    requires list { IsExplained recording.now entries.now }
-    requires readings { AllZip (IsReading recording.now) entries.now readings.now }
-    ensures each { IfOk result (λ list. AllZip (IsEvidence recording.now) entries.now list.items) }
+    ghost receiver: { Receiver }
+    requires carrier { carrier ≡ receiver.carrier }
+    requires list { IsListFor receiver recording.now entries.now }
+    requires readings { AllZip (IsReadingFor receiver recording.now) entries.now readings.now }
+    ensures each { IfOk result (λ list. AllZip (IsEvidenceFor receiver recording.now) entries.now list.items) }
     ensures ranges { IfOk result (λ list. All IsInRange list.items) }
 {
     let mut list = Vec::with_capacity(alloc, entries.len())?;
     for (i, entry) in entries.iter().enumerate() {
-        list.push(evidence_of(recording, entry, &readings[i]))?;
+        list.push(evidence_of(recording, carrier, entry, &readings[i]))?;
     }
     Ok(list)
 }
 
-/// What supports an entry of a recording's list: the least place of a hit that tells its identity and start, and how
-/// much of the energy there the primary signal explains; the sum of the sizes of the values that its master block was
-/// read from; and the energy of the pilots of its slot, and how much they differ from one to the next. `reading` is how
-/// the entry was read. (own)
-pub fn evidence_of(recording: &Recording, entry: &Entry, reading: &Reading) -> Evidence
-    requires listed { IsInList recording.now entry.now }
-    requires reading { IsReading recording.now entry.now reading.now }
-    ensures evidence { IsEvidence recording.now entry.now result }
+/// What supports an entry of a recording by the receiver for a carrier: the least place of a hit that tells its
+/// identity and start, and how much of the energy there the primary signal explains; the sum of the sizes of the values
+/// that its master block was read from; and the energy of the pilots of its slot, and how much they differ from one to
+/// the next, of all antenna ports together. `reading` is how the entry was read. (own)
+pub fn evidence_of(
+    recording: &Recording,
+    carrier: Carrier,
+    entry: &Entry,
+    reading: &Reading,
+) -> Evidence
+    ghost receiver: { Receiver }
+    requires carrier { carrier ≡ receiver.carrier }
+    requires entry { IsEntryOfSome (IsEntryFor receiver recording.now)
+        (hits_by receiver.carrier recording.now) entry.now }
+    requires reading { IsReadingFor receiver recording.now entry.now reading.now }
+    ensures evidence { IsEvidenceFor receiver recording.now entry.now result }
     ensures range { IsInRange result }
 {
-    let slot = slot_of_entry(recording, entry);
+    let pilots = pilot_sums(recording, carrier, place_in(entry), entry.frame);
     Evidence {
         id: entry.id,
         start: entry.start,
@@ -57,8 +71,19 @@ pub fn evidence_of(recording: &Recording, entry: &Entry, reading: &Reading) -> E
         frames: entry.frames,
         frame: entry.frame,
         phase: entry.phase,
-        power: slot.energy(),
-        noise: noise_of(slot.pilots()),
+        power: pilots.energy,
+        noise: noise_of(pilots.steps),
+    }
+}
+
+// The place of the cell of an entry, whose start lies within the samples of a frame.
+pub(crate) fn place_in(entry: &Entry) -> CellPlace
+    requires { entry.now.start < 19200 }
+    ensures { result ≡ place_of entry.now }
+{
+    match CellPlace::new(entry.id, entry.start) {
+        Some(place) => place,
+        None => unreachable!(),
     }
 }
 

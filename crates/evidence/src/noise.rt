@@ -2,21 +2,31 @@
 
 ghost use Rattle.std.specs.Prelude.{◌≡◌, ◌+◌, ◌*◌, ◌^◌, ◌<◌, ◌≤◌, All};
 ghost use Rattle.cs_num.specs.Complex.{IsWithin, value_at};
-ghost use Rattle.evidence.specs.Evidence.{step_power as step_power_of, mean_steps};
+ghost use Rattle.evidence.specs.Evidence.{step_power as step_power_of, steps, noise_of as noise_by};
 
 use crs::POINT_POWER;
 use cs_num::Cpx;
 
-// The squares of the steps from pilot to pilot, together, by twice the square of a reference value's size, rounded down.
-pub(crate) fn noise_of(pilots: &[Cpx; 24]) -> u64
+// The squares of the steps of two ports at most, together, by twice the square of a reference value's size, rounded
+// down.
+pub(crate) fn noise_of(sum: u128) -> u64
+    requires { sum ≤ 46 * 2 ^ 68 }
+    ensures { result ≡ noise_by sum }
+{
+    (sum / (2 * POINT_POWER as u128)) as u64
+}
+
+// The squares of the steps from pilot to pilot, together.
+pub(crate) fn steps_of(pilots: &[Cpx; 24]) -> u128
     requires { All (IsWithin (180 * 2 ^ 25)) pilots.now }
-    ensures { result ≡ mean_steps (value_at pilots.now) }
+    ensures value { result ≡ steps (value_at pilots.now) }
+    ensures small { result ≤ 23 * 2 ^ 68 }
 {
     let mut sum: u128 = 0;
     for i in 0..23_usize {
         sum += step_power(pilots, i);
     }
-    (sum / (2 * POINT_POWER as u128)) as u64
+    sum
 }
 
 // The square of the size of the step from pilot i to the next.

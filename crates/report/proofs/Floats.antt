@@ -7,17 +7,20 @@ use Rattle.std.proofs.lemmas.Bool.{or_from, or_parts}
 use Rattle.serde_json.specs.Data.{Data}
 use Rattle.serde_json.specs.View.{items_of}
 use Rattle.serde_json.specs.Written.{compact_text, has_float, items_have_float}
+use Rattle.cs_num.specs.declared.Cpx.{Cpx}
 use Rattle.lte_types.specs.declared.carrier.Carrier.{Carrier}
 use Rattle.lte_types.specs.declared.carrier.Carrier.TheVariants.{OnePort, TwoPorts, LongPrefix}
-use Rattle.lte_types.specs.declared.evidence.Evidence.{Evidence}
 use Rattle.lte_types.specs.declared.plmn.Plmn.{Plmn}
 use Rattle.lte_types.specs.declared.si_message.SiMessage.{SiMessage}
 use Rattle.lte_types.specs.declared.sib1.Sib1.{Sib1}
 use Rattle.lte_types.specs.declared.sib1_reason.Sib1Reason.{Sib1Reason}
 use Rattle.lte_types.specs.declared.entry.Entry.{Entry}
-use Rattle.report.specs.Values.{natural, integer, or_null, list_of}
+use Rattle.report.specs.Values.{natural, integer, or_null}
 use Rattle.report.specs.Json.{plmn_value, message_value, tdd_value, sib1_value, system_value, entry_value}
 use Rattle.report.specs.All.{ruled_value, ruled_values, all_value}
+use Rattle.report.specs.EvidenceJson.{Shown, complex_value, port_value, soft_value, support_value}
+use Rattle.report.specs.declared.supports_json.PortChannel.{PortChannel}
+use Rattle.report.specs.declared.supports_json.SoftPair.{SoftPair}
 
 -- a value without floats has its text
 pub written : (seen value : Data) (r : Result (String Global) AllocError) → seen ≡ value → has_float value ≡ false →
@@ -72,3 +75,15 @@ in_all one two long =
     in_both (ruled_values OnePort one ++ ruled_values TwoPorts two) (ruled_values LongPrefix long)
     (in_both (ruled_values OnePort one) (ruled_values TwoPorts two) (in_list (ruled_value OnePort) (in_ruled OnePort) one) (in_list (ruled_value TwoPorts) (in_ruled TwoPorts) two))
     (in_list (ruled_value LongPrefix) (in_ruled LongPrefix) long)
+
+in_complex : (z : Cpx) → has_float (complex_value z) ≡ false
+in_complex z = or_from _ _ (in_integer z.re) (or_from _ _ (in_integer z.im) refl)
+
+in_port : (port : PortChannel) → has_float (port_value port) ≡ false
+in_port port = in_list complex_value in_complex port.pilots
+
+in_soft : (pair : SoftPair) → has_float (soft_value pair) ≡ false
+in_soft pair = or_from _ _ (in_integer pair.re) (or_from _ _ (in_integer pair.im) refl)
+
+pub in_support : (shown : Shown) → has_float (support_value shown) ≡ false
+in_support shown = or_from _ _ (in_list port_value in_port shown.channel) (or_from _ _ (in_list soft_value in_soft shown.values) refl)

@@ -1,10 +1,20 @@
 -- What supports the entries of a list as JSON: one array with an object for each, whose keys are the names of its
--- numbers, in the order of their bytes. (own)
-use Rattle.std.specs.Prelude.{ℕ, List, codes}
+-- numbers, and of what its slot shows, in the order of their bytes. (own)
+use Rattle.std.specs.Prelude.{ℕ, List, [], ◌∷◌, codes}
 use Rattle.serde_json.specs.Data.{Data, object, Members, no_members, put}
 use Rattle.serde_json.specs.Written.{compact_text}
+use Rattle.cs_num.specs.declared.Cpx.{Cpx}
 use Rattle.lte_types.specs.declared.evidence.Evidence.{Evidence}
-use Rattle.report.specs.Values.{natural, list_of}
+use Rattle.report.specs.Values.{natural, integer, list_of}
+use Rattle.report.specs.declared.supports_json.PortChannel.{PortChannel}
+use Rattle.report.specs.declared.supports_json.SoftPair.{SoftPair}
+
+-- what supports an entry: its numbers, the channel of each antenna port in its slot, and the soft values of the
+-- broadcast channel there
+pub record Shown : Type 0 where
+  pub numbers : Evidence
+  pub channel : List PortChannel
+  pub values : List SoftPair
 
 -- which entry it is, and the place of the hit that tells it, added to other members
 abbrev pub entry_members : Evidence → Members → Members
@@ -33,10 +43,32 @@ abbrev pub pilots_members : Evidence → Members → Members
 pilots_members told members =
     put (codes "noise") (natural told.noise) (put (codes "power") (natural told.power) members)
 
-abbrev pub evidence_value : Evidence → Data
-evidence_value told =
-    object (pilots_members told (frame_members told (word_members told (entry_members told no_members))))
+-- ---- what its slot shows
+
+-- a complex number, as a pair
+abbrev pub complex_value : Cpx → Data
+complex_value z = list_of integer (z.re ∷ z.im ∷ [])
+
+-- the pilots of an antenna port
+abbrev pub port_value : PortChannel → Data
+port_value port = list_of complex_value port.pilots
+
+-- the two soft values of a resource element
+abbrev pub soft_value : SoftPair → Data
+soft_value pair = list_of integer (pair.re ∷ pair.im ∷ [])
+
+-- the channel of each port, and the values of the broadcast channel
+abbrev pub slot_members : List PortChannel → List SoftPair → Members → Members
+slot_members channel values members =
+    put (codes "values") (list_of soft_value values) (put (codes "channel") (list_of port_value channel) members)
+
+abbrev pub support_value : Shown → Data
+support_value shown = object (
+    slot_members shown.channel shown.values (
+    pilots_members shown.numbers (
+    frame_members shown.numbers (
+    word_members shown.numbers (entry_members shown.numbers no_members)))))
 
 -- its text, without spaces
-unfoldable pub evidence_json : List Evidence → List ℕ
-evidence_json list = compact_text (list_of evidence_value list)
+unfoldable pub evidence_json : List Shown → List ℕ
+evidence_json list = compact_text (list_of support_value list)

@@ -2,32 +2,104 @@
 
 ghost use Rattle.std.specs.Prelude.{◌≡◌, IfOk, OnOk, string_bytes};
 ghost use Rattle.serde_json.specs.View.{view, members_view};
-ghost use Rattle.report.specs.EvidenceJson.{entry_members, word_members, frame_members, pilots_members, evidence_value, evidence_json};
+ghost use Rattle.report.specs.EvidenceJson.{Shown, entry_members, word_members, frame_members, pilots_members, slot_members, complex_value, port_value, soft_value, support_value, evidence_json};
 
-use crate::values::{ToJson, list_text};
+use crate::values::{ToJson, list_text, list_value, pair_value};
+use cs_num::Cpx;
 use lte_types::Evidence;
 use serde_json::{Map, Value, put};
 use std::alloc::{AllocError, Global};
+use std::marker::Model;
+
+/// The channel of an antenna port in a slot: its 24 pilots in the order of subcarriers, each what was seen at a
+/// reference place times the conjugate of what was sent. (own)
+#[derive(Clone, Copy)]
+pub struct PortChannel {
+    pub pilots: [Cpx; 24],
+}
+
+/// The soft values of a resource element, of its real and its imaginary part: -127 to 127. (own)
+#[derive(Clone, Copy, PartialEq, Eq)]
+pub struct SoftPair {
+    pub re: i16,
+    pub im: i16,
+}
+
+/// What supports an entry of a list, and what its slot shows. Contracts see it as these. (own)
+#[derive(Drop)]
+pub struct Support {
+    numbers: Evidence,
+    channel: Vec<PortChannel>,
+    values: Vec<SoftPair>,
+}
+
+impl Model for Support {
+    ghost Value = { Shown };
+
+    ghost view = { λ s. record { numbers = s.numbers; channel = s.channel.items; values = s.values.items } };
+}
+
+impl Support {
+    /// These numbers; the channel of each antenna port of the slot with the broadcast channel; and the soft values of
+    /// that channel, as they were received, in the order of its places.
+    pub fn new(numbers: Evidence, channel: Vec<PortChannel>, values: Vec<SoftPair>) -> Support
+        ensures { result ≡ record { numbers = numbers; channel = channel.items; values = values.items } }
+    {
+        Support {
+            numbers,
+            channel,
+            values,
+        }
+    }
+}
 
 /// What supports the entries of a list as JSON in one line, without a line feed: an array with an object for each,
-/// whose keys are the names that `text_of_evidence` writes, `identity`, `at` and `sfn`, in the order of their bytes.
-/// Only memory can be wanting. (own)
-pub fn json_of_evidence(alloc: Global, list: &[Evidence]) -> Result<String, AllocError>
+/// whose keys are the names that `text_of_evidence` writes, `identity`, `at` and `sfn`, and `channel` and `values`, of
+/// what the slot shows, in the order of their bytes. Only memory can be wanting. (own)
+pub fn json_of_evidence(alloc: Global, list: &[Support]) -> Result<String, AllocError>
     ensures { IfOk result (λ text. string_bytes text ≡ evidence_json list.now) }
 {
     list_text(alloc, list)
 }
 
-impl ToJson for Evidence {
-    ghost json_of = { evidence_value };
+impl ToJson for Support {
+    ghost json_of = { support_value };
 
     fn to_json(&self, alloc: Global) -> Result<Value, AllocError> {
         let mut members = Map::new(alloc);
-        put_entry(alloc, self, &mut members)?;
-        put_word(alloc, self, &mut members)?;
-        put_frame(alloc, self, &mut members)?;
-        put_pilots(alloc, self, &mut members)?;
+        put_entry(alloc, &self.numbers, &mut members)?;
+        put_word(alloc, &self.numbers, &mut members)?;
+        put_frame(alloc, &self.numbers, &mut members)?;
+        put_pilots(alloc, &self.numbers, &mut members)?;
+        put_slot(alloc, &self.channel, &self.values, &mut members)?;
         Ok(Value::from(members))
+    }
+}
+
+// A complex number.
+impl ToJson for Cpx {
+    ghost json_of = { complex_value };
+
+    fn to_json(&self, alloc: Global) -> Result<Value, AllocError> {
+        pair_value(alloc, Value::from(self.re), Value::from(self.im))
+    }
+}
+
+// The channel of an antenna port.
+impl ToJson for PortChannel {
+    ghost json_of = { port_value };
+
+    fn to_json(&self, alloc: Global) -> Result<Value, AllocError> {
+        list_value(alloc, &self.pilots)
+    }
+}
+
+// The soft values of a resource element.
+impl ToJson for SoftPair {
+    ghost json_of = { soft_value };
+
+    fn to_json(&self, alloc: Global) -> Result<Value, AllocError> {
+        pair_value(alloc, Value::from(self.re), Value::from(self.im))
     }
 }
 
@@ -85,4 +157,18 @@ fn put_pilots(
 {
     put(members, alloc, "power", Value::from(told.power))?;
     put(members, alloc, "noise", Value::from(told.noise))
+}
+
+// Adds what its slot shows.
+fn put_slot(
+    alloc: Global,
+    channel: &[PortChannel],
+    values: &[SoftPair],
+    members: &mut Map<String, Value>,
+) -> Result<(), AllocError>
+    ensures { OnOk result (members_view members.new.entries
+        ≡ slot_members channel.now values.now (members_view members.old.entries)) }
+{
+    put(members, alloc, "channel", list_value(alloc, channel)?)?;
+    put(members, alloc, "values", list_value(alloc, values)?)
 }

@@ -1,12 +1,12 @@
 //! Values in JSON, and lists of them.
 
 ghost use Rattle.std.specs.Prelude.{◌≡◌, IfOk, false, string_bytes};
-ghost use Rattle.serde_json.specs.Data.{Data};
+ghost use Rattle.serde_json.specs.Data.{Data, array, item, no_items};
 ghost use Rattle.serde_json.specs.View.{view};
 ghost use Rattle.serde_json.specs.Written.{compact_text, has_float};
 ghost use Rattle.report.specs.Values.{natural, list_of};
 
-use serde_json::Value;
+use serde_json::{Value, json};
 use std::alloc::{AllocError, Global};
 
 /// What has a value in JSON. (own)
@@ -36,6 +36,13 @@ pub fn list_text<T: ToJson>(alloc: Global, items: &[T]) -> Result<String, AllocE
 {
     let list = list_value(alloc, items)?;
     list.to_string(alloc)
+}
+
+/// The array of two values. Only memory can be wanting. (own)
+pub fn pair_value(alloc: Global, first: Value, second: Value) -> Result<Value, AllocError>
+    ensures { IfOk result (λ value. view value ≡ array (item (view first) (item (view second) no_items))) }
+{
+    json!(in alloc; [first, second])
 }
 
 // The code of a block.

@@ -1,23 +1,20 @@
 use Rattle.std.proofs.Common.{◌∙◌, ap, sym, subst, take, arith, length}
 use Rattle.pbch.specs.Master.{TellsMaster}
-use Rattle.explain.specs.Receiver.{one_port_receiver}
 use Rattle.explain.specs.Entries.{master_of}
-use Rattle.explain.proofs.Listed.{is_sound}
 use Rattle.cert_stream.proofs.Certified.{certifies_filled, written_back}
 use Rattle.cert_stream.proofs.certifying.make.Goals as goal
 
 pub returns-clause-bytes : goal.returns-clause-bytes
-returns-clause-bytes c =
+returns-clause-bytes g c =
     let size = ap length c.deref_mut.ensures.value in
     let all = c.deref_mut.ensures.len in
     let recording = c.args.recording.now in
     let entry = c.args.entry.now in
-    let listed = c.requires.listed in
-    let values = c.rows-values.ensures.rows ∙ c.requires.reading.sums in
-    let tells : TellsMaster c.rows-values.result (master_of entry) = subst (λ v. TellsMaster v (master_of entry)) (sym values) (is_sound one_port_receiver recording listed.list entry listed.explained listed.inside).is_of.master.told in
+    let values = c.rows-values.ensures.rows ∙ c.requires.1.sums in
+    let tells : TellsMaster c.rows-values.result (master_of entry) = subst (λ v. TellsMaster v (master_of entry)) (sym values) c.requires.0.is_of.master.told in
     record {
       certificate = c.fill.new.certificate;
-      certifies = certifies_filled _ _ c.fill.new.certificate _ c.put.ensures.whole c.fill.ensures.accepted c.fill.ensures.filled c.fill.ensures.values
+      certifies = certifies_filled _ _ _ c.fill.new.certificate _ c.put.ensures.whole c.fill.ensures.accepted c.fill.ensures.filled c.fill.ensures.values
           values tells c.fill.ensures.word;
       bytes_are = ap (take c.put.result) (written_back c.put.new.buffer c.args.work.now.buffer.items c.args.work.now.buffer.len
           (omega (arith, c.put.ensures.size, size, all)) (omega (arith, size, all))) ∙ c.put.ensures.bytes;

@@ -1,9 +1,9 @@
-use Rattle.std.proofs.Common.{arith, refl, ◌≡◌, ◌∙◌, ◌/◌, ap}
+use Rattle.std.proofs.Common.{arith, refl, ◌≡◌, ◌∙◌, ap}
 use Rattle.finite.specs.Sums.{total_below}
 use Rattle.finite.proofs.Sums.{total_below_more}
 use Rattle.cs_num.specs.Complex.{value_at}
-use Rattle.evidence.specs.Evidence.{step_power, mean_steps}
-use Rattle.evidence.proofs.noise.noise_of.Goals as goal
+use Rattle.evidence.specs.Evidence.{step_power, steps}
+use Rattle.evidence.proofs.noise.steps_of.Goals as goal
 
 pub loop-i-init : goal.loop-i-init
 unfolding total_below
@@ -16,8 +16,8 @@ loop-i-preserved c =
     let more = total_below_more c.loop-i.i (step_power (value_at c.args.pilots.now)) in
     record { so_far = cc; small = omega arith }
 
-pub returns : goal.returns
-unfolding mean_steps
-returns c =
+pub returns-clause-value : goal.returns-clause-value
+unfolding steps
+returns-clause-value c =
     let last : c.loop-i.i ≡ 23 = omega arith in
-    ap (λ s. s / 32400) (c.loop-i.invariant.so_far ∙ ap (λ n. total_below n (step_power (value_at c.args.pilots.now))) last)
+    c.loop-i.invariant.so_far ∙ ap (λ n. total_below n (step_power (value_at c.args.pilots.now))) last

@@ -2,7 +2,7 @@ use Rattle.std.proofs.Common.{◌≡◌, ◌*◌, ◌≤◌}
 use Rattle.finite.specs.Sums.{total_below}
 use Rattle.cs_num.specs.Complex.{value_at}
 use Rattle.evidence.specs.Evidence.{step_power}
-use Rattle.evidence.proofs.noise.noise_of.Given as goal
+use Rattle.evidence.proofs.noise.steps_of.Given as goal
 
 abbrev pub invariant-loop-i : goal.invariant-loop-i
 invariant-loop-i l = record {

@@ -1,0 +1,83 @@
+//! What is estimated of the channel in the slot of an entry.
+
+ghost use Rattle.std.specs.Prelude.{◌≡◌, ◌*◌, ◌^◌, ◌≤◌};
+ghost use Rattle.explain.specs.Frame.{IsWhole};
+ghost use Rattle.lte_types.specs.declared.carrier.Carrier.TheVariants.{OnePort as One, TwoPorts as Two, LongPrefix as Long};
+ghost use Rattle.evidence.specs.Evidence.{slot_by, power_by, steps_by};
+
+use crate::noise::steps_of;
+use explain::{broadcast_slot, slot_of};
+use long_prefix::long_frame;
+use lte_types::{Carrier, CellPlace};
+use sample_file::Recording;
+use two_ports::PairSlot;
+
+// What the pilots of a slot are together, of all antenna ports: their energy, and the squares of the steps from one to
+// the next.
+#[derive(Clone, Copy)]
+pub(crate) struct PilotSums {
+    pub(crate) energy: u64,
+    pub(crate) steps: u128,
+}
+
+// The sums of the pilots of the slot that carries the broadcast channel in frame `j` of a cell, which lies within the
+// recording.
+pub(crate) fn pilot_sums(
+    recording: &Recording,
+    carrier: Carrier,
+    place: CellPlace,
+    j: u8,
+) -> PilotSums
+    requires { IsWhole recording.now place.start j }
+    ensures energy { result.energy ≡ power_by carrier (slot_by carrier recording.now place j) }
+    ensures steps { result.steps ≡ steps_by carrier (slot_by carrier recording.now place j) }
+    ensures small { result.steps ≤ 46 * 2 ^ 68 }
+{
+    match carrier {
+        Carrier::OnePort => of_one_port(recording, place, j),
+        Carrier::TwoPorts => of_two_ports(recording, place, j),
+        Carrier::LongPrefix => of_long_prefix(recording, place, j),
+    }
+}
+
+// The same with one antenna port.
+fn of_one_port(recording: &Recording, place: CellPlace, j: u8) -> PilotSums
+    requires { IsWhole recording.now place.start j }
+    ensures energy { result.energy ≡ power_by One (slot_by One recording.now place j) }
+    ensures steps { result.steps ≡ steps_by One (slot_by One recording.now place j) }
+    ensures small { result.steps ≤ 46 * 2 ^ 68 }
+{
+    let slot = broadcast_slot(recording, place, j);
+    PilotSums {
+        energy: slot.energy(),
+        steps: steps_of(slot.pilots()),
+    }
+}
+
+// With two.
+fn of_two_ports(recording: &Recording, place: CellPlace, j: u8) -> PilotSums
+    requires { IsWhole recording.now place.start j }
+    ensures energy { result.energy ≡ power_by Two (slot_by Two recording.now place j) }
+    ensures steps { result.steps ≡ steps_by Two (slot_by Two recording.now place j) }
+    ensures small { result.steps ≤ 46 * 2 ^ 68 }
+{
+    let slot: PairSlot = slot_of(recording, place, j, 1);
+    PilotSums {
+        energy: slot.energy(),
+        steps: steps_of(slot.first_pilots()) + steps_of(slot.second_pilots()),
+    }
+}
+
+// With the extended prefix.
+fn of_long_prefix(recording: &Recording, place: CellPlace, j: u8) -> PilotSums
+    requires { IsWhole recording.now place.start j }
+    ensures energy { result.energy ≡ power_by Long (slot_by Long recording.now place j) }
+    ensures steps { result.steps ≡ steps_by Long (slot_by Long recording.now place j) }
+    ensures small { result.steps ≤ 46 * 2 ^ 68 }
+{
+    let frame = long_frame(recording, place, j);
+    PilotSums {
+        energy: frame.energy,
+        steps: steps_of(&frame.pilots),
+    }
+}

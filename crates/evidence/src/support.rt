@@ -1,0 +1,197 @@
+//! What the slots of entries show.
+
+ghost use Rattle.std.specs.Prelude.{◌≡◌, ◌+◌, ◌*◌, ◌<◌, [], ◌∷◌, IfOk, length};
+ghost use Rattle.std.specs.List.{AllZip};
+ghost use Rattle.finite.specs.Sizes.{AllWithin};
+ghost use Rattle.lte_types.specs.declared.carrier.Carrier.TheVariants.{OnePort as One, TwoPorts as Two, LongPrefix as Long};
+ghost use Rattle.explain.specs.Entries.{IsEntryFor, IsListFor};
+ghost use Rattle.explain.specs.Frame.{IsWhole};
+ghost use Rattle.explain.specs.Laws.{IsEntryOfSome};
+ghost use Rattle.explain.specs.Readings.{IsReadingFor};
+ghost use Rattle.explain.specs.Receiver.{Receiver, hits_by};
+ghost use Rattle.report.specs.EvidenceJson.{Shown};
+ghost use Rattle.evidence.specs.Evidence.{slot_by};
+ghost use Rattle.evidence.specs.Shown.{channels_by, values_by, pair_at, pairs_of, IsShownFor};
+
+use crate::listing::{evidence_of, place_in};
+use cs_num::Cpx;
+use explain::{Reading, broadcast_slot, slot_of};
+use long_prefix::long_frame;
+use lte_types::{Carrier, CellPlace, Entry, Evidence};
+use pbch::received;
+use report::{PortChannel, SoftPair, Support};
+use sample_file::Recording;
+use std::alloc::{AllocError, Global};
+use two_ports::PairSlot;
+
+/// What supports each entry of a recording's list by the receiver for a carrier, as `evidence_of_list` tells it, and
+/// what its slot shows: the pilots of each antenna port, and the soft values of the broadcast channel as they were
+/// received. Only memory can be wanting. (own)
+pub fn support_of_list(
+    alloc: Global,
+    recording: &Recording,
+    carrier: Carrier,
+    entries: &[Entry],
+    readings: &[Reading],
+) -> Result<Vec<Support>, AllocError>
+    ghost receiver: { Receiver }
+    requires carrier { carrier ≡ receiver.carrier }
+    requires list { IsListFor receiver recording.now entries.now }
+    requires readings { AllZip (IsReadingFor receiver recording.now) entries.now readings.now }
+    ensures { IfOk result (λ list. AllZip (IsShownFor receiver recording.now) entries.now list.items) }
+{
+    let mut list = Vec::with_capacity(alloc, entries.len())?;
+    for (i, entry) in entries.iter().enumerate() {
+        let support = support_of(alloc, recording, carrier, entry, &readings[i])?;
+        list.push(support)?;
+    }
+    Ok(list)
+}
+
+// What supports an entry, and what its slot shows.
+fn support_of(
+    alloc: Global,
+    recording: &Recording,
+    carrier: Carrier,
+    entry: &Entry,
+    reading: &Reading,
+) -> Result<Support, AllocError>
+    ghost receiver: { Receiver }
+    requires carrier { carrier ≡ receiver.carrier }
+    requires entry { IsEntryOfSome (IsEntryFor receiver recording.now)
+        (hits_by receiver.carrier recording.now) entry.now }
+    requires reading { IsReadingFor receiver recording.now entry.now reading.now }
+    ensures { IfOk result (IsShownFor receiver recording.now entry.now) }
+{
+    let numbers = evidence_of(recording, carrier, entry, reading);
+    shown(
+        alloc,
+        recording,
+        carrier,
+        place_in(entry),
+        entry.frame,
+        numbers,
+    )
+}
+
+// Numbers, and what the slot with the broadcast channel in frame `j` of a cell shows.
+fn shown(
+    alloc: Global,
+    recording: &Recording,
+    carrier: Carrier,
+    place: CellPlace,
+    j: u8,
+    numbers: Evidence,
+) -> Result<Support, AllocError>
+    requires { IsWhole recording.now place.start j }
+    ensures { IfOk result (λ support. support ≡ record {
+      numbers = numbers;
+      channel = channels_by carrier (slot_by carrier recording.now place j);
+      values = pairs_of (values_by carrier recording.now place j);
+    }) }
+{
+    match carrier {
+        Carrier::OnePort => shown_of_one(alloc, recording, place, j, numbers),
+        Carrier::TwoPorts => shown_of_two(alloc, recording, place, j, numbers),
+        Carrier::LongPrefix => shown_of_long(alloc, recording, place, j, numbers),
+    }
+}
+
+// The same with one antenna port.
+fn shown_of_one(
+    alloc: Global,
+    recording: &Recording,
+    place: CellPlace,
+    j: u8,
+    numbers: Evidence,
+) -> Result<Support, AllocError>
+    requires { IsWhole recording.now place.start j }
+    ensures { IfOk result (λ support. support ≡ record {
+      numbers = numbers;
+      channel = channels_by One (slot_by One recording.now place j);
+      values = pairs_of (values_by One recording.now place j);
+    }) }
+{
+    let slot = broadcast_slot(recording, place, j);
+    let channel = one_channel(alloc, slot.pilots())?;
+    let values = pairs(alloc, received(&slot).slice())?;
+    Ok(Support::new(numbers, channel, values))
+}
+
+// With two.
+fn shown_of_two(
+    alloc: Global,
+    recording: &Recording,
+    place: CellPlace,
+    j: u8,
+    numbers: Evidence,
+) -> Result<Support, AllocError>
+    requires { IsWhole recording.now place.start j }
+    ensures { IfOk result (λ support. support ≡ record {
+      numbers = numbers;
+      channel = channels_by Two (slot_by Two recording.now place j);
+      values = pairs_of (values_by Two recording.now place j);
+    }) }
+{
+    let slot: PairSlot = slot_of(recording, place, j, 1);
+    let mut channel = one_channel(alloc, slot.first_pilots())?;
+    channel.push(PortChannel {
+        pilots: *slot.second_pilots(),
+    })?;
+    let values = pairs(alloc, received(&slot).slice())?;
+    Ok(Support::new(numbers, channel, values))
+}
+
+// With the extended prefix.
+fn shown_of_long(
+    alloc: Global,
+    recording: &Recording,
+    place: CellPlace,
+    j: u8,
+    numbers: Evidence,
+) -> Result<Support, AllocError>
+    requires { IsWhole recording.now place.start j }
+    ensures { IfOk result (λ support. support ≡ record {
+      numbers = numbers;
+      channel = channels_by Long (slot_by Long recording.now place j);
+      values = pairs_of (values_by Long recording.now place j);
+    }) }
+{
+    let frame = long_frame(recording, place, j);
+    let channel = one_channel(alloc, &frame.pilots)?;
+    let values = pairs(alloc, frame.values.slice())?;
+    Ok(Support::new(numbers, channel, values))
+}
+
+// The channel of one antenna port, by its pilots.
+fn one_channel(alloc: Global, pilots: &[Cpx; 24]) -> Result<Vec<PortChannel>, AllocError>
+    ensures { IfOk result (λ list. list.items ≡ record { pilots = pilots.now } ∷ []) }
+{
+    let mut list = Vec::new(alloc);
+    list.push(PortChannel { pilots: *pilots })?;
+    Ok(list)
+}
+
+// Values two by two.
+fn pairs(alloc: Global, values: &[i16]) -> Result<Vec<SoftPair>, AllocError>
+    requires { AllWithin 127 values.now }
+    ensures { IfOk result (λ list. list.items ≡ pairs_of values.now) }
+{
+    let mut list = Vec::new(alloc);
+    for i in 0..values.len() / 2 {
+        list.push(pair_of(values, i))?;
+    }
+    Ok(list)
+}
+
+// Two of them.
+fn pair_of(values: &[i16], i: usize) -> SoftPair
+    requires sizes { AllWithin 127 values.now }
+    requires inside { 2 * i + 1 < length values.now }
+    ensures { result ≡ pair_at values.now i }
+{
+    SoftPair {
+        re: values[2 * i],
+        im: values[2 * i + 1],
+    }
+}
