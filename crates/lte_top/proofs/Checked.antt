@@ -11,8 +11,7 @@ use Rattle.cert_stream.specs.declared.error.StreamError.TheVariants.{Broken, Too
 use Rattle.cert_stream.proofs.Certified.{certified_length}
 use Rattle.cert_stream.proofs.Judged.{all_whole, one_answers}
 use Rattle.cert_stream.proofs.Rest.{none_broken}
-use Rattle.explain.specs.Receiver.{one_port_receiver}
-use Rattle.explain.proofs.Listed.{is_one_list}
+use Rattle.lte_types.specs.declared.carrier.Carrier.{Carrier}
 use Rattle.report.specs.Answers.{check_text}
 use Rattle.lte_top.specs.declared.form.Form.TheVariants.{Check}
 use Rattle.lte_top.specs.declared.status.Status.{Status}
@@ -20,6 +19,8 @@ use Rattle.lte_top.specs.declared.status.Status.TheVariants.{Done, Usage, Ragged
 use Rattle.lte_top.specs.Certificates.{IsChecked, IsCertified}
 use Rattle.lte_top.specs.Errors.{of_stream}
 use Rattle.lte_top.specs.Forms.{certificates, RefusesCertificates}
+use Rattle.lte_top.specs.Searching.{receiver_of}
+use Rattle.lte_top.proofs.Lists.{one_list}
 use Rattle.lte_top.specs.Run.{Cause, HasOutput}
 
 -- an input has one output
@@ -27,10 +28,10 @@ pub one_check : (input first second : List ℕ) → IsChecked input first → Is
 one_check input first second a b = a.text ∙ ap check_text (one_answers input a.answers b.answers a.are_answers b.are_answers) ∙ sym b.text
 
 -- all certificates of a recording's list have one length in all
-pub one_certified_length : (samples : List Sample) (first second : List ℕ) → IsCertified samples first → IsCertified samples second → length first ≡ length second
-one_certified_length samples first second a b =
-    let same = is_one_list one_port_receiver samples a.entries b.entries a.is_list.explained b.is_list.explained in
-    ap length a.bytes ∙ certified_length samples b.entries a.certificates b.certificates (subst (λ l. AllZip (Certifies samples) l a.certificates) same a.each) b.each ∙ sym (ap length b.bytes)
+pub one_certified_length : (carrier : Carrier) (samples : List Sample) (first second : List ℕ) → IsCertified carrier samples first → IsCertified carrier samples second → length first ≡ length second
+one_certified_length carrier samples first second a b =
+    let same = one_list carrier samples a.entries b.entries a.is_list b.is_list in
+    ap length a.bytes ∙ certified_length (receiver_of carrier) samples b.entries a.certificates b.certificates (subst (λ l. AllZip (Certifies (receiver_of carrier) samples) l a.certificates) same a.each) b.each ∙ sym (ap length b.bytes)
 
 -- nothing refuses certificates that were answered
 answered_unrefused : (answers : List Bool) (before now : SourceTold) (h : HasReadAnswers answers before now) (status : Status) → RefusesCertificates h.bytes status → ⊥

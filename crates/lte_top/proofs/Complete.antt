@@ -13,8 +13,9 @@ use Rattle.lte_top.specs.declared.status.Status.TheVariants.{Done, Usage, Ragged
 use Rattle.cert_stream.specs.Stream.{IsBrokenAt}
 use Rattle.lte_top.specs.Forms.{IsWordsOf, Input, nothing, recording, certificates, description, input_of, limit_of, Refuses, RefusesCertificates, RefusesDescription, IsTooLong, IsValid, IsOutput}
 use Rattle.lte_top.specs.Run.{IsRead, HasReadInput, HasOutput, HasRefusal, IsReadTooLong, IsWriteFault, Ends, RunsForm, Outcome, IsAnswerTo, HasOneAnswer, MayAnswer, IsTold, IsAnswered, IsComplete, HasRoom}
+use Rattle.lte_types.specs.declared.carrier.Carrier.{Carrier}
 use Rattle.cell_tx.specs.declared.error.CellError.{CellError}
-use Rattle.cell_json.specs.Reading.{refusal}
+use Rattle.cell_json.specs.Reading.{refusal_by}
 use Rattle.lte_top.proofs.Transmitted.{one_transmitted_length}
 use Rattle.cert_stream.proofs.Rest.{one_first_broken}
 use Rattle.lte_top.proofs.Checked.{one_check, one_certified_length}
@@ -27,9 +28,9 @@ use Rattle.lte_top.proofs.OneForm.{one_form}
 -- all outputs of an input have one length
 one_length : (form : Form) (bytes first second : List ℕ) → IsOutput form bytes first → IsOutput form bytes second → length first ≡ length second
 one_length (Reports report output form) bytes first second a b = ap length (one_report report output (samples_in form bytes) first second a b)
-one_length (Certify form) bytes first second a b = one_certified_length _ first second a b
+one_length (Certify carrier form) bytes first second a b = one_certified_length carrier _ first second a b
 one_length Check bytes first second a b = ap length (one_check bytes first second a b)
-one_length Transmit bytes first second a b = one_transmitted_length bytes first second a b
+one_length (Transmit carrier load) bytes first second a b = one_transmitted_length carrier load bytes first second a b
 one_length (Make carrier n) bytes first second a b = ap length (one_made carrier n first second a b)
 one_length (Apply turn form) bytes first second a b = ap length (one_turned turn (samples_in form bytes) first second a b)
 one_length (Print program page) bytes first second a b = ap length (a ∙ sym b)
@@ -50,17 +51,17 @@ first_place bytes OutOfMemory r = absurd r
 first_place bytes (BadCell cause) r = absurd r
 
 -- a refusal of a description tells its first condition that fails
-first_condition : (bytes : List ℕ) (status : Status) → RefusesDescription bytes status → (cause : CellError) × (status ≡ BadCell cause) × (refusal bytes ≡ Some cause)
-first_condition bytes (BadCell cause) r = (cause, refl, r.1)
-first_condition bytes Done r = absurd r
-first_condition bytes Usage r = absurd r
-first_condition bytes Ragged r = absurd r
-first_condition bytes TooShort r = absurd r
-first_condition bytes TooLong r = absurd r
-first_condition bytes ReadFault r = absurd r
-first_condition bytes WriteFault r = absurd r
-first_condition bytes OutOfMemory r = absurd r
-first_condition bytes (BadCertificate place) r = absurd r
+first_condition : (carrier : Carrier) (bytes : List ℕ) (status : Status) → RefusesDescription carrier bytes status → (cause : CellError) × (status ≡ BadCell cause) × (refusal_by carrier bytes ≡ Some cause)
+first_condition carrier bytes (BadCell cause) r = (cause, refl, r.1)
+first_condition carrier bytes Done r = absurd r
+first_condition carrier bytes Usage r = absurd r
+first_condition carrier bytes Ragged r = absurd r
+first_condition carrier bytes TooShort r = absurd r
+first_condition carrier bytes TooLong r = absurd r
+first_condition carrier bytes ReadFault r = absurd r
+first_condition carrier bytes WriteFault r = absurd r
+first_condition carrier bytes OutOfMemory r = absurd r
+first_condition carrier bytes (BadCertificate place) r = absurd r
 
 -- bytes have one refusal
 one_refusal : (input : Input) (bytes : List ℕ) (first second : Status) → Refuses input bytes first → Refuses input bytes second → first ≡ second
@@ -70,9 +71,9 @@ one_refusal certificates bytes first second a b =
     let (p, e, broken) = first_place bytes first a in
     let (q, e', broken') = first_place bytes second b in
     e ∙ ap (λ place. BadCertificate place) (one_first_broken bytes p q broken.first broken'.first) ∙ sym e'
-one_refusal description bytes first second a b =
-    let (c, e, failed) = first_condition bytes first a in
-    let (d, e', failed') = first_condition bytes second b in
+one_refusal (description carrier) bytes first second a b =
+    let (c, e, failed) = first_condition carrier bytes first a in
+    let (d, e', failed') = first_condition carrier bytes second b in
     let same : c ≡ d = cc (sym failed ∙ failed') in
     e ∙ ap (λ cause. BadCell cause) same ∙ sym e'
 
@@ -118,28 +119,28 @@ told_bytes : (input : Input) (bytes told : List ℕ) (before now : SourceTold) �
 told_bytes nothing bytes told before now e r = e ∙ sym r.0
 told_bytes (recording form) bytes told before now e r = read_whole bytes told before now e r.read r.ended
 told_bytes certificates bytes told before now e r = read_whole bytes told before now e r.read r.ended
-told_bytes description bytes told before now e r = read_whole bytes told before now e r.read r.ended
+told_bytes (description carrier) bytes told before now e r = read_whole bytes told before now e r.read r.ended
 
 -- and within the limit
 told_within : (input : Input) (bytes : List ℕ) (before now : SourceTold) → HasReadInput input bytes before now → length bytes ≤ limit_of input
 told_within nothing bytes before now r = omega (arith, ap length r.0)
 told_within (recording form) bytes before now r = r.within
 told_within certificates bytes before now r = r.within
-told_within description bytes before now r = r.within
+told_within (description carrier) bytes before now r = r.within
 
 -- of what is read the source tells what is left
 told_left : (input : Input) (told : List ℕ) (before : SourceTold) → IsRead input → IsTold input told before → before.left ≡ Some told
 told_left nothing told before r e = absurd r
 told_left (recording form) told before r e = e
 told_left certificates told before r e = e
-told_left description told before r e = e
+told_left (description carrier) told before r e = e
 
 -- only what is read is refused
 refused_read : (input : Input) (bytes : List ℕ) (status : Status) → Refuses input bytes status → IsRead input
 refused_read nothing bytes status r = r
 refused_read (recording form) bytes status r = tt
 refused_read certificates bytes status r = tt
-refused_read description bytes status r = tt
+refused_read (description carrier) bytes status r = tt
 
 output_is_valid : (form : Form) (told output : List ℕ) (before now : SourceTold) → IsTold (input_of form) told before → HasOutput form output before now → IsValid (input_of form) told
 output_is_valid form told output before now e h =

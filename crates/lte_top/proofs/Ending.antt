@@ -7,13 +7,14 @@ use Rattle.cs_outside.specs.Outside.{SourceTold, Outside}
 use Rattle.sample_file.specs.declared.form.SampleForm.{SampleForm}
 use Rattle.sample_file.specs.Recording.{width}
 use Rattle.sample_file.specs.Reading.{HasReadRecording, least_bytes}
+use Rattle.lte_types.specs.declared.carrier.Carrier.{Carrier}
 use Rattle.lte_types.specs.declared.entry.Entry.{Entry}
 use Rattle.lte_top.specs.declared.form.Form.TheVariants.{Certify}
 use Rattle.lte_top.specs.declared.status.Status.{Status}
-use Rattle.clean_air.specs.Clean.{IsListOfCells}
 use Rattle.lte_top.specs.Certificates.{IsCertified}
 use Rattle.cert_stream.specs.Certifying.{HasCertifiedAll, HasCertifiedSome}
 use Rattle.cert_stream.specs.Stream.{all_bytes}
+use Rattle.lte_top.specs.Searching.{receiver_of, IsListOf}
 use Rattle.lte_top.specs.Forms.{recording_refusal, RefusesRecording}
 use Rattle.lte_top.specs.Run.{HasOutput, IsDone, IsWriteFault}
 
@@ -31,29 +32,29 @@ recording_unrefused form samples before now h status (within, refused) =
     settle false e = e
 
 -- certificates of all entries are the output
-pub certified_output : (form : SampleForm) (samples : List Sample) (before now : SourceTold) (output : List ℕ) → HasReadRecording form samples before now →
-    IsCertified samples output → HasOutput (Certify form) output before now
-certified_output form samples before now output h certified = record {
+pub certified_output : (carrier : Carrier) (form : SampleForm) (samples : List Sample) (before now : SourceTold) (output : List ℕ) → HasReadRecording form samples before now →
+    IsCertified carrier samples output → HasOutput (Certify carrier form) output before now
+certified_output carrier form samples before now output h certified = record {
   bytes = h.input;
   whole = h.read;
   unrefused = recording_unrefused form samples before now h;
-  is_output = subst (λ s. IsCertified s output) h.samples certified;
+  is_output = subst (λ s. IsCertified carrier s output) h.samples certified;
 }
 
-pub certified_done : (form : SampleForm) (samples : List Sample) (entries : List Entry) (before now : Outside) → HasReadRecording form samples before.0 now.0 → IsListOfCells samples entries →
-    HasCertifiedAll samples entries before.1 now.1 → IsDone (Certify form) before now
-certified_done form samples entries before now h is_list all = record {
+pub certified_done : (carrier : Carrier) (form : SampleForm) (samples : List Sample) (entries : List Entry) (before now : Outside) → HasReadRecording form samples before.0 now.0 → IsListOf carrier samples entries →
+    HasCertifiedAll (receiver_of carrier) samples entries before.1 now.1 → IsDone (Certify carrier form) before now
+certified_done carrier form samples entries before now h is_list all = record {
   output = all_bytes all.certificates;
-  has_output = certified_output form samples before.0 now.0 (all_bytes all.certificates) h
+  has_output = certified_output carrier form samples before.0 now.0 (all_bytes all.certificates) h
       (record { entries = entries; is_list = is_list; certificates = all.certificates; each = all.each; bytes = refl });
   written = all.written;
 }
 
-pub certified_fault : (form : SampleForm) (samples : List Sample) (entries : List Entry) (before now : Outside) → HasReadRecording form samples before.0 now.0 → IsListOfCells samples entries →
-    HasCertifiedSome samples entries before.1 now.1 → Rose before.1.faults now.1.faults → IsWriteFault (Certify form) before now
-certified_fault form samples entries before now h is_list some rose = record {
+pub certified_fault : (carrier : Carrier) (form : SampleForm) (samples : List Sample) (entries : List Entry) (before now : Outside) → HasReadRecording form samples before.0 now.0 → IsListOf carrier samples entries →
+    HasCertifiedSome (receiver_of carrier) samples entries before.1 now.1 → Rose before.1.faults now.1.faults → IsWriteFault (Certify carrier form) before now
+certified_fault carrier form samples entries before now h is_list some rose = record {
   output = all_bytes some.certificates;
-  has_output = certified_output form samples before.0 now.0 (all_bytes some.certificates) h
+  has_output = certified_output carrier form samples before.0 now.0 (all_bytes some.certificates) h
       (record { entries = entries; is_list = is_list; certificates = some.certificates; each = some.each; bytes = refl });
   front_written = some.front;
   counted = rose;

@@ -1,61 +1,98 @@
 -- What is sent is found.
-use Rattle.std.proofs.Common.{◌≡◌, ℕ, arith, refl, ap, sym, subst, ◌∙◌, List}
+use Rattle.std.proofs.Common.{◌≡◌, ℕ, ◌≤◌, Option, arith, refl, ap, sym, subst, ◌∙◌, List}
 use Rattle.std.specs.Prelude.{All}
-use Rattle.finite.proofs.Lists.{values_below-All}
+use Rattle.finite.specs.Lists.{values_below}
+use Rattle.finite.proofs.Lists.{values_below-All, values_below_same}
+use Rattle.cs_num.specs.declared.Cpx.{Cpx}
 use Rattle.cs_num.specs.declared.Sample.{Sample}
-use Rattle.cs_num.specs.Complex.{IsWithin, silence, value_of, sample_of}
+use Rattle.cs_num.specs.Complex.{IsWithin, nothing, plus, silence, value_of, sample_of}
 use Rattle.cs_num.proofs.Complex.{within_more}
-use Rattle.cs_num.specs.Gain.{IsGain}
+use Rattle.sizes.proofs.Algebra.{plus-nothing_right}
 use Rattle.sample_file.specs.Recording.{samples_of, bytes_of}
 use Rattle.sample_file.proofs.Samples.{samples_back}
+use Rattle.lte_types.specs.declared.carrier.Carrier.{Carrier}
+use Rattle.lte_types.specs.declared.carrier.Carrier.TheVariants.{OnePort, TwoPorts, LongPrefix}
 use Rattle.lte_types.specs.declared.entry.Entry.{Entry}
-use Rattle.lte_types.specs.Timing.{start_of, number_at_start}
+use Rattle.lte_types.specs.Timing.{IsOffset, start_of, number_at_start}
 use Rattle.cell_tx.specs.declared.cell.CellPlan.{CellPlan}
-use Rattle.cell_tx.specs.declared.transmission.Transmission.{Transmission}
-use Rattle.cell_tx.specs.Sent.{received}
-use Rattle.cell_tx.specs.Clean.{IsClean}
-use Rattle.cell_tx.specs.Laws.{ReceivedIsClean}
-use Rattle.cell_tx.proofs.Bounds.{received-within}
-use Rattle.clean_air.specs.Clean.{HoldsCell}
-use Rattle.cell_json.proofs.Ranges.{described_ranges}
+use Rattle.cell_tx.specs.declared.emission.Emission.{Emission}
+use Rattle.cell_tx.specs.Clean.{AreGainsOf, IsAllowedBy}
+use Rattle.cell_tx.specs.Emission.{received_by, IsCleanBy}
+use Rattle.cell_tx.specs.Laws.{EmittedIsClean}
+use Rattle.cell_tx.proofs.Received.{received_by-small}
+use Rattle.cell_json.proofs.Ranges.{described_ranges_by}
 use Rattle.report.specs.Lines.{entry_lines, report_text}
 use Rattle.report.specs.Pieces.{IsPiece}
 use Rattle.report.proofs.Pieces.{lines_stand}
 use Rattle.lte_top.specs.Transmitting.{sent_samples}
+use Rattle.lte_top.proofs.Holding.{HoldsSent, held}
 use Rattle.lte_top.specs.Found.{sent_lines, WhatIsSentIsFound}
 
--- what a transmission sends fits the bytes of samples
-sent_fits : (t : Transmission) → IsGain t.gain → All (λ s. IsWithin 32767 (value_of s)) (sent_samples t)
-unfolding sent_samples
-sent_fits t size =
-    let f : ℕ → Sample = λ i. sample_of (received t.cell t.timing.sfn t.timing.offset t.gain i) in
-    values_below-All (λ s. IsWithin 32767 (value_of s)) t.samples f silence (λ k below.
-    within_more (received t.cell t.timing.sfn t.timing.offset t.gain k) 32284 32767 (received-within t.cell t.timing.sfn t.timing.offset t.gain k size) (omega arith))
+-- ---- the bytes
+
+-- what an emission sends
+samples_by : Carrier → Option ℕ → Emission → List Sample
+samples_by carrier load e =
+    values_below e.samples (λ i. sample_of (received_by carrier load e.cell e.timing.sfn e.timing.offset e.gains i))
+
+-- fits the bytes of samples
+sent_fits : (carrier : Carrier) (load : Option ℕ) (e : Emission) → AreGainsOf carrier e.gains → All (λ s. IsWithin 32767 (value_of s)) (samples_by carrier load e)
+unfolding samples_by
+sent_fits carrier load e gains =
+    let f : ℕ → Sample = λ i. sample_of (received_by carrier load e.cell e.timing.sfn e.timing.offset e.gains i) in
+    values_below-All (λ s. IsWithin 32767 (value_of s)) e.samples f silence (λ k below.
+    within_more (received_by carrier load e.cell e.timing.sfn e.timing.offset e.gains k) 32284 32767
+    (received_by-small carrier load e.cell e.timing.sfn e.timing.offset e.gains k gains) (omega arith))
 
 -- so it is read back as it was
-sent_back : (t : Transmission) (bytes : List ℕ) → IsGain t.gain → bytes ≡ bytes_of (sent_samples t) → samples_of bytes ≡ sent_samples t
-sent_back t bytes size e = ap samples_of e ∙ samples_back (sent_samples t) (sent_fits t size)
+sent_back : (carrier : Carrier) (load : Option ℕ) (e : Emission) (bytes : List ℕ) → e.carrier ≡ carrier → AreGainsOf carrier e.gains → bytes ≡ bytes_of (sent_samples load e)
+    → samples_of bytes ≡ samples_by carrier load e
+unfolding sent_samples samples_by
+sent_back carrier load e bytes by_carrier gains is =
+    ap samples_of (is ∙ ap (λ (c : Carrier). bytes_of (samples_by c load e)) by_carrier) ∙ samples_back (samples_by carrier load e) (sent_fits carrier load e gains)
+
+-- ---- it is clean
+
+no_error : IsWithin 0 nothing
+no_error = record { re = omega arith; im = omega arith }
+
+-- any gains allow no error
+none_allowed : (carrier : Carrier) (gains : List Cpx) → IsAllowedBy carrier gains 0
+none_allowed OnePort gains = omega arith
+none_allowed TwoPorts gains = record { both = omega arith; one = omega arith }
+none_allowed LongPrefix gains = omega arith
+
+sent_cleanly : EmittedIsClean → (carrier : Carrier) (load : Option ℕ) (e : Emission) → e.timing.sfn ≤ 1023 → IsOffset e.timing.offset → AreGainsOf carrier e.gains →
+    IsCleanBy carrier load (samples_by carrier load e) e.cell e.timing.sfn e.timing.offset e.gains 0
+unfolding samples_by
+sent_cleanly law carrier load e number within gains =
+    let z : ℕ → Cpx = received_by carrier load e.cell e.timing.sfn e.timing.offset e.gains in
+    subst (λ l. IsCleanBy carrier load l e.cell e.timing.sfn e.timing.offset e.gains 0)
+    (values_below_same e.samples (λ i. sample_of (plus (z i) nothing)) (λ i. sample_of (z i)) (λ k below. ap sample_of (plus-nothing_right (z k))))
+    (law carrier load e.cell e.timing.sfn e.timing.offset e.samples e.gains 0 (λ i. nothing) number within gains (none_allowed carrier e.gains) (λ i below. no_error))
+
+-- ---- and found
 
 -- the lines of a held cell stand in the text of the list
-held_lines : (list : List Entry) (plan : CellPlan) (first number : ℕ) → HoldsCell list plan first number → IsPiece (sent_lines plan first number) (report_text list)
-held_lines list plan first number held =
-    let is : entry_lines held.entry ≡ sent_lines plan first number =
+held_lines : (carrier : Carrier) (list : List Entry) (plan : CellPlan) (first number : ℕ) → HoldsSent carrier list plan first number → IsPiece (sent_lines carrier plan first number) (report_text list)
+held_lines carrier list plan first number held =
+    let is : entry_lines held.entry ≡ sent_lines carrier plan first number =
     rw (held.id, held.start, held.sfn, held.sent.ports, held.sent.block.bandwidth, held.sent.block.duration, held.sent.block.resource, held.sent.block.spare, held.sent.sib1) refl in
     subst (λ l. IsPiece l (report_text list)) is (lines_stand list held.entry held.inside)
 
-pub sent_is_found : ReceivedIsClean → WhatIsSentIsFound
-unfolding sent_samples
-sent_is_found is_clean description bytes text a b =
-    let t = a.transmission in
-    let ranges = described_ranges description t a.describes in
-    let clean : IsClean (samples_of bytes) t.cell t.timing.sfn t.timing.offset t.gain 0 =
-    subst (λ samples. IsClean samples t.cell t.timing.sfn t.timing.offset t.gain 0) (sym (sent_back t bytes ranges.gain a.sent))
-    (is_clean t.cell t.timing.sfn t.timing.offset t.samples t.gain ranges.number ranges.offset ranges.gain) in
-    let held = b.is_list.holds t.cell t.timing.sfn t.timing.offset t.gain 0 ranges.sendable clean in
+pub sent_is_found : EmittedIsClean → WhatIsSentIsFound
+sent_is_found law carrier load description bytes text a b =
+    let e = a.emission in
+    let ranges = described_ranges_by carrier description e a.describes in
+    let back = sent_back carrier load e bytes a.describes.is.carrier_is ranges.gains a.sent in
+    let clean : IsCleanBy carrier load (samples_of bytes) e.cell e.timing.sfn e.timing.offset e.gains 0 =
+    subst (λ samples. IsCleanBy carrier load samples e.cell e.timing.sfn e.timing.offset e.gains 0) (sym back)
+    (sent_cleanly law carrier load e ranges.parts.number ranges.parts.offset ranges.gains) in
+    let there = held carrier load e.cell e.timing.sfn e.timing.offset e.gains 0 (samples_of bytes) b.entries ranges.parts.sendable clean b.is_list in
     record {
-      t = t;
+      e = e;
       describes = a.describes;
       clean = clean;
-      lines = subst (IsPiece (sent_lines t.cell (start_of t.timing.offset) (number_at_start t.timing.sfn t.timing.offset))) (sym b.text_is)
-          (held_lines b.entries t.cell (start_of t.timing.offset) (number_at_start t.timing.sfn t.timing.offset) held);
+      lines = subst (IsPiece (sent_lines carrier e.cell (start_of e.timing.offset) (number_at_start e.timing.sfn e.timing.offset))) (sym b.text_is)
+          (held_lines carrier b.entries e.cell (start_of e.timing.offset) (number_at_start e.timing.sfn e.timing.offset) there);
     }

@@ -1,13 +1,15 @@
+pub mod Lists
 pub mod Checked
 pub mod Transmitted
 pub mod Ending
 pub mod OneForm
 pub mod Held
-pub mod Hits
-pub mod Lists
 pub mod Reported
+pub mod SmallValues
+pub mod Holding
 pub mod Made
 pub mod Unread
 pub mod Complete
 pub mod Found
 pub mod Applied
+pub mod Carriers

@@ -1,42 +1,30 @@
 -- What is made is held once.
-use Rattle.std.proofs.Common.{◌≡◌, ℕ, List, ◌++◌, Result, Ok, Err, ap, sym, subst, ◌∙◌}
+use Rattle.std.proofs.Common.{◌≡◌, ℕ, List, ◌++◌, Result, Ok, Err, None, ap, sym, subst, ◌∙◌}
 use Rattle.std.specs.Prelude.{nat_abs, IfOk}
 use Rattle.std.specs.List.{AllPairs, Contains}
 use Rattle.cs_num.specs.declared.Sample.{Sample}
 use Rattle.lte_types.specs.declared.entry.Entry.{Entry}
-use Rattle.cell_tx.specs.Clean.{IsClean}
 use Rattle.explain.specs.Entries.{IsBefore}
 use Rattle.explain.proofs.Kept.{before_after}
-use Rattle.capture_make.specs.declared.made.Made.{Made}
-use Rattle.capture_make.specs.Recipe.{plan, number, offset, gain}
-use Rattle.capture_make.specs.Made.{IsMade, IsCleanlyMade}
-use Rattle.capture_make.proofs.Plans.{is_sendable}
-use Rattle.capture_make.proofs.Samples.{one_recording}
-use Rattle.two_tx.specs.declared.made.TwoMade.{TwoMade}
-use Rattle.two_tx.specs.Clean.{IsCleanOfPorts}
-use Rattle.two_tx.specs.Made.{IsMade as IsMadeOfTwo, IsCleanlyMade as IsCleanlyMadeOfTwo, gain_at}
-use Rattle.two_tx.proofs.Plans.{sendable_of_two}
-use Rattle.two_tx.proofs.Samples.{one_recording as one_recording_of_two}
-use Rattle.long_prefix.specs.declared.made.LongMade.{LongMade}
-use Rattle.long_prefix.specs.Sent.{IsCleanOfLong}
-use Rattle.long_prefix.specs.Made.{IsMadeLong, IsCleanlyMade as IsCleanlyMadeOfLong}
-use Rattle.long_prefix.proofs.Numbered.{is_identity, one_recording as one_recording_of_long}
+use Rattle.capture_make.specs.Recipe.{plan, number, offset, gains}
+use Rattle.capture_make.specs.Made.{IsCleanNumber}
+use Rattle.capture_make.proofs.Plans.{is_sendable_by}
+use Rattle.capture_make.proofs.Samples.{NumbersAreClean, one_of_number}
 use Rattle.report.specs.Lines.{made_line, report_text}
 use Rattle.lte_top.specs.declared.making.SentCell.{SentCell}
 use Rattle.lte_types.specs.declared.carrier.Carrier.{Carrier}
 use Rattle.lte_types.specs.declared.carrier.Carrier.TheVariants.{OnePort, TwoPorts, LongPrefix}
 use Rattle.lte_top.specs.Making.{Counts, IsSentCell, cell_of, AreSamplesOf, IsMadeList, IsMadeText, IsHeldOnce, WhatIsMadeIsHeld}
-use Rattle.clean_air.specs.Clean.{IsListOfCells}
-use Rattle.lte_top.specs.Searching.{IsListOfTwo, IsListOfLong, IsListOf}
+use Rattle.lte_top.specs.Searching.{IsListOf}
 use Rattle.lte_top.proofs.Held.{one_count, one_counted}
+use Rattle.lte_top.proofs.Holding.{held}
 use Rattle.lte_top.proofs.Lists.{one_list}
 
 -- ---- a number has one text
 
 same_samples : (carrier : Carrier) (n : ℕ) (a b : List Sample) → AreSamplesOf carrier n a → AreSamplesOf carrier n b → a ≡ b
-same_samples OnePort n a b p q = p.are ∙ one_recording n p.made q.made p.is q.is ∙ sym q.are
-same_samples TwoPorts n a b p q = p.are ∙ one_recording_of_two n p.made q.made p.is q.is ∙ sym q.are
-same_samples LongPrefix n a b p q = p.are ∙ one_recording_of_long n p.made q.made p.is q.is ∙ sym q.are
+same_samples carrier n a b p q =
+    p.are ∙ one_of_number carrier n p.made.bound q.made.bound p.made.recording q.made.recording p.is.bound q.is.bound p.is.samples_are q.is.samples_are ∙ sym q.are
 
 -- the text with a count
 abbrev text_with : SentCell → List Entry → ℕ → List ℕ
@@ -61,79 +49,16 @@ record Holds (cell : SentCell) (entries : List Entry) : Type 0 where
   is : IsSentCell cell entry
   only : (other : Entry) → Contains entries other → IsSentCell cell other → other ≡ entry
 
--- with one antenna port
-clean_of : (n : ℕ) (made : Made) → IsMade n made → IsCleanlyMade made → IsClean made.recording (plan n) (number n) (offset n) (gain n) (nat_abs made.bound)
-clean_of n made m clean =
-    let t = made.sent in
-    let eps = nat_abs made.bound in
-    subst (λ z. IsClean made.recording (plan n) (number n) (offset n) z eps) m.gain_is
-    (subst (λ o. IsClean made.recording (plan n) (number n) o t.gain eps) m.offset_is
-    (subst (λ s. IsClean made.recording (plan n) s t.timing.offset t.gain eps) m.number_is
-    (subst (λ p. IsClean made.recording p t.timing.sfn t.timing.offset t.gain eps) m.plan_is clean)))
-
-holds_one : (n : ℕ) (made : Made) (entries : List Entry) → IsMade n made → IsCleanlyMade made → IsListOfCells made.recording entries → Holds (cell_of OnePort n) entries
-holds_one n made entries m clean l =
-    let held = l.holds (plan n) (number n) (offset n) (gain n) (nat_abs made.bound) (is_sendable n) (clean_of n made m clean) in
+holds : NumbersAreClean → (carrier : Carrier) (n : ℕ) (samples : List Sample) (entries : List Entry) → AreSamplesOf carrier n samples → IsListOf carrier samples entries → Holds (cell_of carrier n) entries
+holds law carrier n samples entries m l =
+    let eps = nat_abs m.made.bound in
+    let clean = subst (λ s. IsCleanNumber carrier n s eps) (sym (m.are ∙ m.is.samples_are)) (law carrier n m.made.bound m.is.bound) in
+    let h = held carrier None (plan n) (number n) (offset n) (gains carrier n) eps samples entries (is_sendable_by carrier n) clean l in
     record {
-      entry = held.entry;
-      inside = held.inside;
-      is = record { id = held.id; start = held.start; sfn = held.sfn; ports = held.sent.ports; block = held.sent.block; sib1 = held.sent.sib1 };
-      only = λ other inside p. held.only other inside p.id p.start p.sfn;
-    }
-
--- with two
-clean_of_two : (n : ℕ) (made : TwoMade) → IsMadeOfTwo n made → IsCleanlyMadeOfTwo made →
-    IsCleanOfPorts made.recording (plan n) (number n) (offset n) (gain_at made 0) (gain_at made 1) (nat_abs made.bound)
-clean_of_two n made m clean =
-    let first = gain_at made 0 in
-    let second = gain_at made 1 in
-    let eps = nat_abs made.bound in
-    subst (λ o. IsCleanOfPorts made.recording (plan n) (number n) o first second eps) m.offset_is
-    (subst (λ s. IsCleanOfPorts made.recording (plan n) s made.timing.offset first second eps) m.number_is
-    (subst (λ p. IsCleanOfPorts made.recording p made.timing.sfn made.timing.offset first second eps) m.plan_is clean))
-
-holds_two : (n : ℕ) (made : TwoMade) (entries : List Entry) → IsMadeOfTwo n made → IsCleanlyMadeOfTwo made → IsListOfTwo made.recording entries → Holds (cell_of TwoPorts n) entries
-holds_two n made entries m clean l =
-    let held = l.holds (plan n) (number n) (offset n) (gain_at made 0) (gain_at made 1) (nat_abs made.bound) (sendable_of_two n) (clean_of_two n made m clean) in
-    record {
-      entry = held.entry;
-      inside = held.inside;
-      is = record { id = held.id; start = held.start; sfn = held.sfn; ports = held.sent.ports; block = held.sent.block; sib1 = held.sent.sib1 };
-      only = λ other inside p. held.only other inside p.id p.start p.sfn;
-    }
-
--- with the extended prefix
-clean_of_long : (n : ℕ) (made : LongMade) → IsMadeLong n made → IsCleanlyMadeOfLong made →
-    IsCleanOfLong made.recording made.plan (number n) (offset n) made.gain (nat_abs made.bound)
-clean_of_long n made m clean =
-    let gain = made.gain in
-    let eps = nat_abs made.bound in
-    subst (λ o. IsCleanOfLong made.recording made.plan (number n) o gain eps) m.offset_is
-    (subst (λ s. IsCleanOfLong made.recording made.plan s made.timing.offset gain eps) m.number_is clean)
-
-holds_long : (n : ℕ) (made : LongMade) (entries : List Entry) → IsMadeLong n made → IsCleanlyMadeOfLong made → IsListOfLong made.recording entries → Holds (cell_of LongPrefix n) entries
-holds_long n made entries m clean l =
-    let p = m.plan_is in
-    let held = l.holds made.plan (number n) (offset n) made.gain (nat_abs made.bound) (is_identity n made.plan p) (clean_of_long n made m clean) in
-    let sent = held.sent.block in
-    record {
-      entry = held.entry;
-      inside = held.inside;
-      is = record {
-        id = held.id ∙ p.id;
-        start = held.start;
-        sfn = held.sfn;
-        ports = held.sent.ports;
-        block = record {
-          bandwidth = sent.bandwidth;
-          duration = sent.duration ∙ p.block.duration;
-          resource = sent.resource ∙ p.block.resource;
-          upper = sent.upper;
-          spare = sent.spare ∙ p.block.spare;
-        };
-        sib1 = held.sent.sib1;
-      };
-      only = λ other inside q. held.only other inside (q.id ∙ sym p.id) q.start q.sfn;
+      entry = h.entry;
+      inside = h.inside;
+      is = record { id = h.id; start = h.start; sfn = h.sfn; ports = h.sent.ports; block = h.sent.block; sib1 = h.sent.sib1 };
+      only = λ other inside p. h.only other inside p.id p.start p.sfn;
     }
 
 -- the list is in order
@@ -150,15 +75,8 @@ held_once carrier n output m h =
     h.only m.tells.counts in
     record { entries = m.entries; once = m.tells.text ∙ ap (text_with (cell_of carrier n) m.entries) one }
 
-pub made_is_held : ((n : ℕ) (made : Made) → IsMade n made → IsCleanlyMade made) →
-    ((n : ℕ) (made : TwoMade) → IsMadeOfTwo n made → IsCleanlyMadeOfTwo made) →
-    ((n : ℕ) (made : LongMade) → IsMadeLong n made → IsCleanlyMadeOfLong made) → WhatIsMadeIsHeld
-made_is_held one two long OnePort n output small m =
-    held_once OnePort n output m (holds_one n m.listed.made.made m.entries m.listed.made.is (one n m.listed.made.made m.listed.made.is) (subst (λ s. IsListOfCells s m.entries) m.listed.made.are m.listed.is_list))
-made_is_held one two long TwoPorts n output small m =
-    held_once TwoPorts n output m (holds_two n m.listed.made.made m.entries m.listed.made.is (two n m.listed.made.made m.listed.made.is) (subst (λ s. IsListOfTwo s m.entries) m.listed.made.are m.listed.is_list))
-made_is_held one two long LongPrefix n output small m =
-    held_once LongPrefix n output m (holds_long n m.listed.made.made m.entries m.listed.made.is (long n m.listed.made.made m.listed.made.is) (subst (λ s. IsListOfLong s m.entries) m.listed.made.are m.listed.is_list))
+pub made_is_held : NumbersAreClean → WhatIsMadeIsHeld
+made_is_held law carrier n output small m = held_once carrier n output m (holds law carrier n m.listed.samples m.entries m.listed.made m.listed.is_list)
 
 -- ---- the list of what is made
 

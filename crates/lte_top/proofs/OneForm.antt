@@ -24,7 +24,7 @@ use Rattle.lte_top.specs.declared.form.Turn.{Turn}
 use Rattle.lte_top.specs.declared.form.Turn.TheVariants.{AsTold, Steps}
 use Rattle.lte_top.specs.declared.form.Page.{Page}
 use Rattle.lte_top.specs.declared.form.Page.TheVariants.{Help, Version}
-use Rattle.lte_top.specs.Forms.{samples_words, told_words, rule_words, carrier_words, turn_words, ArePageWords, AreWordsOf, IsTurn, IsAskedTurn, IsInRange, program_of, IsWordsOf}
+use Rattle.lte_top.specs.Forms.{samples_words, told_words, rule_words, carrier_words, load_words, turn_words, ArePageWords, AreWordsOf, IsAskedLoad, IsTurn, IsAskedTurn, IsInRange, program_of, IsWordsOf}
 
 -- the word is this one
 is_word : List ℕ → List ℕ → Bool
@@ -59,28 +59,50 @@ told_back Text Cu8 = refl
 told_back Json Ci16 = refl
 told_back Json Cu8 = refl
 
+-- the carrier, and those: `of` says what form they are of
+carried_with : (Carrier → Output → SampleForm → Form) → Carrier → Manner → Option Form
+carried_with of carrier manner = Some (of carrier manner.output manner.form)
+
+carried_in : (Carrier → Output → SampleForm → Form) → List (List ℕ) → Option Form
+carried_in of [] = carried_with of OnePort (told_in [])
+carried_in of (word ∷ words) =
+    if is_word word (codes "--ports") then carried_with of TwoPorts (told_in (drop 1 words))
+    else if is_word word (codes "--prefix") then carried_with of LongPrefix (told_in (drop 1 words))
+    else carried_with of OnePort (told_in (word ∷ words))
+
+carried_back : (of : Carrier → Output → SampleForm → Form) (carrier : Carrier) (output : Output) (form : SampleForm) →
+    carried_in of (carrier_words carrier ++ told_words output form) ≡ Some (of carrier output form)
+unfolding carried_in carried_with told_in samples_in is_word
+carried_back of OnePort Text Ci16 = refl
+carried_back of OnePort Text Cu8 = refl
+carried_back of OnePort Json Ci16 = refl
+carried_back of OnePort Json Cu8 = refl
+carried_back of TwoPorts output form = ap (carried_with of TwoPorts) (told_back output form)
+carried_back of LongPrefix output form = ap (carried_with of LongPrefix) (told_back output form)
+
 -- the rule, and those
 searched_with : Rule → Manner → Option Form
 searched_with rule manner = Some (Reports (Search rule) manner.output manner.form)
 
+listed_with : Carrier → Output → SampleForm → Form
+listed_with carrier = Reports (Search (Of carrier))
+
 searched_in : List (List ℕ) → Option Form
-searched_in [] = searched_with (Of OnePort) (told_in [])
+searched_in [] = carried_in listed_with []
 searched_in (word ∷ words) =
-    if is_word word (codes "--ports") then searched_with (Of TwoPorts) (told_in (drop 1 words))
-    else if is_word word (codes "--prefix") then searched_with (Of LongPrefix) (told_in (drop 1 words))
-    else if is_word word (codes "--cancel") then searched_with Cancel (told_in words)
+    if is_word word (codes "--cancel") then searched_with Cancel (told_in words)
     else if is_word word (codes "--all") then searched_with All (told_in words)
-    else searched_with (Of OnePort) (told_in (word ∷ words))
+    else carried_in listed_with (word ∷ words)
 
 searched_back : (rule : Rule) (output : Output) (form : SampleForm) →
     searched_in (rule_words rule ++ told_words output form) ≡ Some (Reports (Search rule) output form)
-unfolding searched_in searched_with told_in samples_in is_word
-searched_back (Of OnePort) Text Ci16 = refl
-searched_back (Of OnePort) Text Cu8 = refl
-searched_back (Of OnePort) Json Ci16 = refl
-searched_back (Of OnePort) Json Cu8 = refl
-searched_back (Of TwoPorts) output form = ap (searched_with (Of TwoPorts)) (told_back output form)
-searched_back (Of LongPrefix) output form = ap (searched_with (Of LongPrefix)) (told_back output form)
+unfolding searched_in searched_with listed_with is_word
+searched_back (Of OnePort) Text Ci16 = carried_back listed_with OnePort Text Ci16
+searched_back (Of OnePort) Text Cu8 = carried_back listed_with OnePort Text Cu8
+searched_back (Of OnePort) Json Ci16 = carried_back listed_with OnePort Json Ci16
+searched_back (Of OnePort) Json Cu8 = carried_back listed_with OnePort Json Cu8
+searched_back (Of TwoPorts) output form = carried_back listed_with TwoPorts output form
+searched_back (Of LongPrefix) output form = carried_back listed_with LongPrefix output form
 searched_back Cancel output form = ap (searched_with Cancel) (told_back output form)
 searched_back All output form = ap (searched_with All) (told_back output form)
 
@@ -105,6 +127,32 @@ unfolding made_in
 made_back carrier n small =
     ap (λ c. Some (Make c (digits_value 10 (decimal n)))) (carrier_back carrier)
     ∙ ap (λ k. Some (Make carrier k)) (decimal_is_IsNumeral n (omega (arith, small))).1
+
+-- the load
+load_in : List (List ℕ) → Option ℕ
+load_in [] = None
+load_in (word ∷ []) = None
+load_in (word ∷ digits ∷ rest) = Some (digits_value 10 digits)
+
+load_back : (load : Option ℕ) → IsAskedLoad load → load_in (load_words load) ≡ load
+unfolding load_in
+load_back None asked = refl
+load_back (Some n) small = ap (λ k. Some k) (decimal_is_IsNumeral n (omega (arith, small))).1
+
+-- and the carrier before it
+sent_in : List (List ℕ) → Option Form
+sent_in [] = Some (Transmit OnePort None)
+sent_in (word ∷ words) =
+    if is_word word (codes "--ports") then Some (Transmit TwoPorts (load_in (drop 1 words)))
+    else if is_word word (codes "--prefix") then Some (Transmit LongPrefix (load_in (drop 1 words)))
+    else Some (Transmit OnePort (load_in (word ∷ words)))
+
+sent_back : (carrier : Carrier) (load : Option ℕ) → IsAskedLoad load → sent_in (carrier_words carrier ++ load_words load) ≡ Some (Transmit carrier load)
+unfolding sent_in is_word
+sent_back OnePort None asked = refl
+sent_back OnePort (Some n) small = ap (λ l. Some (Transmit OnePort l)) (load_back (Some n) small)
+sent_back TwoPorts load asked = ap (λ l. Some (Transmit TwoPorts l)) (load_back load asked)
+sent_back LongPrefix load asked = ap (λ l. Some (Transmit LongPrefix l)) (load_back load asked)
 
 -- ---- turns
 
@@ -147,6 +195,14 @@ turned_back AsTold Cu8 within = refl
 turned_back (Steps m) Ci16 within = ap (λ k. Some (Apply (Steps k) Ci16)) (turn_back m within)
 turned_back (Steps m) Cu8 within = ap (λ k. Some (Apply (Steps k) Cu8)) (turn_back m within)
 
+-- what is certified, and how it is read
+certified_with : Carrier → Output → SampleForm → Form
+certified_with carrier output form = Certify carrier form
+
+-- what is supported, and how
+supported_with : Carrier → Output → SampleForm → Form
+supported_with carrier = Reports (Evidence carrier)
+
 -- ---- the form of words: a new form adds a line here, and one below
 
 -- a report with what is told of it
@@ -159,11 +215,11 @@ form_of program (word ∷ words) =
     if is_word word (codes "hits") then reported_with (Reports Hits) (told_in words)
     else if is_word word (codes "ids") then reported_with (Reports Ids) (told_in words)
     else if is_word word (codes "search") then searched_in words
-    else if is_word word (codes "evidence") then reported_with (Reports Evidence) (told_in words)
+    else if is_word word (codes "evidence") then carried_in supported_with words
     else if is_word word (codes "tell") then reported_with (Reports Tell) (told_in words)
-    else if is_word word (codes "certify") then Some (Certify (samples_in words))
+    else if is_word word (codes "certify") then carried_in certified_with words
     else if is_word word (codes "check") then Some Check
-    else if is_word word (codes "transmit") then Some Transmit
+    else if is_word word (codes "transmit") then sent_in words
     else if is_word word (codes "make") then made_in words
     else if is_word word (codes "apply") then turned_in words
     else if is_word word (codes "version") then Some (Print program Version)
@@ -179,15 +235,15 @@ form_of_page program Version words (inl e) = ap (form_of program) e
 form_of_page program Version words (inr e) = ap (form_of program) e
 
 form_of_words : (form : Form) (words : List (List ℕ)) → AreWordsOf form words → IsInRange form → form_of (program_of form) words ≡ Some form
-unfolding form_of reported_with is_word
+unfolding form_of reported_with supported_with certified_with is_word
 form_of_words (Reports Hits output form) words e within = ap (form_of (program_of (Reports Hits output form))) e ∙ ap (reported_with (Reports Hits)) (told_back output form)
 form_of_words (Reports Ids output form) words e within = ap (form_of (program_of (Reports Ids output form))) e ∙ ap (reported_with (Reports Ids)) (told_back output form)
 form_of_words (Reports (Search rule) output form) words e within = ap (form_of (program_of (Reports (Search rule) output form))) e ∙ searched_back rule output form
-form_of_words (Reports Evidence output form) words e within = ap (form_of (program_of (Reports Evidence output form))) e ∙ ap (reported_with (Reports Evidence)) (told_back output form)
+form_of_words (Reports (Evidence carrier) output form) words e within = ap (form_of (program_of (Reports (Evidence carrier) output form))) e ∙ carried_back supported_with carrier output form
 form_of_words (Reports Tell output form) words e within = ap (form_of (program_of (Reports Tell output form))) e ∙ ap (reported_with (Reports Tell)) (told_back output form)
-form_of_words (Certify form) words e within = ap (form_of (program_of (Certify form))) e ∙ ap (λ f. Some (Certify f)) (samples_back form)
+form_of_words (Certify carrier form) words e within = ap (form_of (program_of (Certify carrier form))) e ∙ carried_back certified_with carrier Text form
 form_of_words Check words e within = ap (form_of (program_of Check)) e
-form_of_words Transmit words e within = ap (form_of (program_of Transmit)) e
+form_of_words (Transmit carrier load) words e within = ap (form_of (program_of (Transmit carrier load))) e ∙ sent_back carrier load within
 form_of_words (Make carrier n) words e within = ap (form_of (program_of (Make carrier n))) e ∙ made_back carrier n within
 form_of_words (Apply turn form) words e within = ap (form_of (program_of (Apply turn form))) e ∙ turned_back turn form within
 form_of_words (Print program page) words e within = form_of_page program page words e

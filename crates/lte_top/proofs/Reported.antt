@@ -2,10 +2,13 @@
 use Rattle.std.proofs.Common.{◌≡◌, ℕ, List, ap, sym, subst, ◌∙◌}
 use Rattle.std.specs.List.{AllZip}
 use Rattle.cs_num.specs.declared.Sample.{Sample}
-use Rattle.lte_types.specs.declared.carrier.Carrier.TheVariants.{OnePort}
+use Rattle.lte_types.specs.declared.carrier.Carrier.{Carrier}
 use Rattle.sample_file.specs.Recording.{bytes_of}
-use Rattle.evidence.specs.Evidence.{IsEvidence}
-use Rattle.evidence.proofs.Only.{one_for_each}
+use Rattle.evidence.specs.Evidence.{IsEvidenceFor}
+use Rattle.evidence.specs.Shown.{IsShownFor}
+use Rattle.evidence.proofs.Only.{one_for_each, one_shown_for_each}
+use Rattle.report.specs.Evidence.{evidence_text}
+use Rattle.report.specs.EvidenceJson.{evidence_json}
 use Rattle.turning.specs.AsJson.{telling_json, IsTellJson}
 use Rattle.turning.specs.Candidates.{taken_of}
 use Rattle.turning.specs.Texts.{told_text}
@@ -16,7 +19,8 @@ use Rattle.lte_top.specs.declared.form.Output.{Output}
 use Rattle.lte_top.specs.declared.form.Output.TheVariants.{Text, Json}
 use Rattle.lte_top.specs.declared.form.Turn.{Turn}
 use Rattle.lte_top.specs.declared.form.Turn.TheVariants.{AsTold, Steps}
-use Rattle.lte_top.specs.Reports.{supports_text, IsTextOfEvidence, IsTelling, IsHits, IsIds, IsReport}
+use Rattle.lte_top.specs.Reports.{IsEvidence, IsEvidenceJson, IsEvidenceText, IsTelling, IsHits, IsIds, IsReport}
+use Rattle.lte_top.specs.Searching.{receiver_of}
 use Rattle.lte_top.specs.Tuning.{IsTurnedAsBytes}
 use Rattle.lte_top.proofs.Lists.{one_line, one_list, one_search}
 
@@ -28,11 +32,21 @@ one_ids : (output : Output) (samples : List Sample) (first second : List ℕ) �
 one_ids Text samples first second a b = a ∙ sym b
 one_ids Json samples first second a b = a ∙ sym b
 
-one_evidence_text : (output : Output) (samples : List Sample) (first second : List ℕ) → IsTextOfEvidence output samples first → IsTextOfEvidence output samples second → first ≡ second
-one_evidence_text output samples first second a b =
-    let same = one_list OnePort samples a.entries b.entries a.is_list b.is_list in
-    let told = one_for_each samples b.entries a.told b.told (subst (λ entries. AllZip (IsEvidence samples) entries a.told) same a.each) b.each in
-    a.text_is ∙ ap (supports_text output) told ∙ sym b.text_is
+one_evidence_text : (carrier : Carrier) (samples : List Sample) (first second : List ℕ) → IsEvidenceText carrier samples first → IsEvidenceText carrier samples second → first ≡ second
+one_evidence_text carrier samples first second a b =
+    let same = one_list carrier samples a.entries b.entries a.is_list b.is_list in
+    let told = one_for_each (receiver_of carrier) samples b.entries a.told b.told (subst (λ entries. AllZip (IsEvidenceFor (receiver_of carrier) samples) entries a.told) same a.each) b.each in
+    a.text_is ∙ ap evidence_text told ∙ sym b.text_is
+
+one_evidence_json : (carrier : Carrier) (samples : List Sample) (first second : List ℕ) → IsEvidenceJson carrier samples first → IsEvidenceJson carrier samples second → first ≡ second
+one_evidence_json carrier samples first second a b =
+    let same = one_list carrier samples a.entries b.entries a.is_list b.is_list in
+    let shown = one_shown_for_each (receiver_of carrier) samples b.entries a.shown b.shown (subst (λ entries. AllZip (IsShownFor (receiver_of carrier) samples) entries a.shown) same a.each) b.each in
+    a.text_is ∙ ap evidence_json shown ∙ sym b.text_is
+
+one_evidence : (carrier : Carrier) (output : Output) (samples : List Sample) (first second : List ℕ) → IsEvidence carrier output samples first → IsEvidence carrier output samples second → first ≡ second
+one_evidence carrier Text samples first second a b = one_evidence_text carrier samples first second a b
+one_evidence carrier Json samples first second a b = one_line (IsEvidenceJson carrier samples) (one_evidence_json carrier samples) first second a b
 
 one_tell_json : (samples : List Sample) (first second : List ℕ) → IsTellJson samples first → IsTellJson samples second → first ≡ second
 one_tell_json samples first second a b =
@@ -46,7 +60,7 @@ pub one_report : (report : Report) (output : Output) (samples : List Sample) (fi
 one_report Hits output samples first second a b = one_hits output samples first second a b
 one_report Ids output samples first second a b = one_ids output samples first second a b
 one_report (Search rule) output samples first second a b = one_search rule output samples first second a b
-one_report Evidence output samples first second a b = one_evidence_text output samples first second a b
+one_report (Evidence carrier) output samples first second a b = one_evidence carrier output samples first second a b
 one_report Tell output samples first second a b = one_telling output samples first second a b
 
 pub one_turned : (turn : Turn) (samples : List Sample) (first second : List ℕ) → IsTurnedAsBytes turn samples first → IsTurnedAsBytes turn samples second → first ≡ second

@@ -1,15 +1,16 @@
--- The bytes of a transmission.
-use Rattle.std.proofs.Common.{◌≡◌, ℕ, ◌*◌, List, [], ◌∷◌, length, pos, refl, ap, sym, subst, ◌∙◌, arith, length-append}
+-- The bytes of an emission.
+use Rattle.std.proofs.Common.{◌≡◌, ℕ, ◌*◌, Option, List, [], ◌∷◌, length, pos, refl, ap, sym, subst, ◌∙◌, arith, length-append}
 use Rattle.finite.proofs.Lists.{values_below-length}
 use Rattle.cs_num.specs.declared.Sample.{Sample}
 use Rattle.cs_num.specs.Complex.{sample_of}
 use Rattle.cs_outside.specs.Outside.{SourceTold}
 use Rattle.sample_file.specs.Recording.{sample_bytes, bytes_of}
-use Rattle.cell_tx.specs.declared.transmission.Transmission.{Transmission}
-use Rattle.cell_tx.specs.Sent.{received}
+use Rattle.lte_types.specs.declared.carrier.Carrier.{Carrier}
+use Rattle.cell_tx.specs.declared.emission.Emission.{Emission}
+use Rattle.cell_tx.specs.Emission.{received_by}
 use Rattle.std.specs.Prelude.{codes}
 use Rattle.cell_json.specs.Description.{number_at}
-use Rattle.cell_json.specs.Reading.{Describes}
+use Rattle.cell_json.specs.Reading.{DescribesBy}
 use Rattle.lte_top.specs.declared.form.Form.TheVariants.{Transmit}
 use Rattle.lte_top.specs.declared.status.Status.{Status}
 use Rattle.lte_top.specs.declared.status.Status.TheVariants.{Done, Usage, Ragged, TooShort, TooLong, ReadFault, WriteFault, OutOfMemory, BadCell, BadCertificate}
@@ -26,43 +27,44 @@ bytes_length (s ∷ samples) =
     let four : length (sample_bytes s) ≡ 4 = refl in
     omega (arith, more, all, four)
 
-sent_length : (t : Transmission) → length (sent_samples t) ≡ t.samples
+sent_length : (load : Option ℕ) (e : Emission) → length (sent_samples load e) ≡ e.samples
 unfolding sent_samples
-sent_length t = values_below-length t.samples (λ i. sample_of (received t.cell t.timing.sfn t.timing.offset t.gain i))
+sent_length load e = values_below-length e.samples (λ i. sample_of (received_by e.carrier load e.cell e.timing.sfn e.timing.offset e.gains i))
 
--- the transmissions that the same bytes describe have as many samples
-same_count : (bytes : List ℕ) (s t : Transmission) → Describes bytes s → Describes bytes t → s.samples ≡ t.samples
-same_count bytes s t a b =
+-- the emissions that the same bytes describe have as many samples
+same_count : (carrier : Carrier) (bytes : List ℕ) (s t : Emission) → DescribesBy carrier bytes s → DescribesBy carrier bytes t → s.samples ≡ t.samples
+same_count carrier bytes s t a b =
     let value : a.value ≡ b.value = cc (sym a.json ∙ b.json) in
-    let there : pos s.samples ≡ pos t.samples = subst (λ v. pos s.samples ≡ number_at (codes "samples") v) value a.values.samples ∙ sym b.values.samples in
+    let there : pos s.samples ≡ pos t.samples = subst (λ v. pos s.samples ≡ number_at (codes "samples") v) value a.is.values.samples ∙ sym b.is.values.samples in
     cc there
 
-pub one_transmitted_length : (bytes first second : List ℕ) → IsTransmitted bytes first → IsTransmitted bytes second → length first ≡ length second
-one_transmitted_length bytes first second a b =
-    let p = bytes_length (sent_samples a.transmission) in
-    let q = bytes_length (sent_samples b.transmission) in
-    let same = same_count bytes a.transmission b.transmission a.describes b.describes in
-    let m = sent_length a.transmission in
-    let n = sent_length b.transmission in
+pub one_transmitted_length : (carrier : Carrier) (load : Option ℕ) (bytes first second : List ℕ) → IsTransmitted carrier load bytes first → IsTransmitted carrier load bytes second → length first ≡ length second
+one_transmitted_length carrier load bytes first second a b =
+    let p = bytes_length (sent_samples load a.emission) in
+    let q = bytes_length (sent_samples load b.emission) in
+    let same = same_count carrier bytes a.emission b.emission a.describes b.describes in
+    let m = sent_length load a.emission in
+    let n = sent_length load b.emission in
     omega (arith, ap length a.sent, ap length b.sent, p, q, same, m, n)
 
--- nothing refuses a description of a transmission
-unrefused : (bytes : List ℕ) (t : Transmission) → Describes bytes t → (status : Status) → RefusesDescription bytes status → ⊥
-unrefused bytes t d (BadCell cause) (within, failed) = cc (sym d.valid ∙ failed)
-unrefused bytes t d Done r = r
-unrefused bytes t d Usage r = r
-unrefused bytes t d Ragged r = r
-unrefused bytes t d TooShort r = r
-unrefused bytes t d TooLong r = r
-unrefused bytes t d ReadFault r = r
-unrefused bytes t d WriteFault r = r
-unrefused bytes t d OutOfMemory r = r
-unrefused bytes t d (BadCertificate place) r = r
+-- nothing refuses a description of an emission
+unrefused : (carrier : Carrier) (bytes : List ℕ) (e : Emission) → DescribesBy carrier bytes e → (status : Status) → RefusesDescription carrier bytes status → ⊥
+unrefused carrier bytes e d (BadCell cause) (within, failed) = cc (sym d.valid ∙ failed)
+unrefused carrier bytes e d Done r = r
+unrefused carrier bytes e d Usage r = r
+unrefused carrier bytes e d Ragged r = r
+unrefused carrier bytes e d TooShort r = r
+unrefused carrier bytes e d TooLong r = r
+unrefused carrier bytes e d ReadFault r = r
+unrefused carrier bytes e d WriteFault r = r
+unrefused carrier bytes e d OutOfMemory r = r
+unrefused carrier bytes e d (BadCertificate place) r = r
 
-pub transmitted_output : (t : Transmission) (output : List ℕ) (before now : SourceTold) → HasDescription t before now → output ≡ bytes_of (sent_samples t) → HasOutput Transmit output before now
-transmitted_output t output before now h e = record {
+pub transmitted_output : (carrier : Carrier) (load : Option ℕ) (e : Emission) (output : List ℕ) (before now : SourceTold) → HasDescription carrier e before now →
+    output ≡ bytes_of (sent_samples load e) → HasOutput (Transmit carrier load) output before now
+transmitted_output carrier load e output before now h is = record {
   bytes = h.bytes;
   whole = h.whole;
-  unrefused = unrefused h.bytes t h.describes;
-  is_output = record { transmission = t; describes = h.describes; sent = e };
+  unrefused = unrefused carrier h.bytes e h.describes;
+  is_output = record { emission = e; describes = h.describes; sent = is };
 }

@@ -3,18 +3,19 @@ use Rattle.std.specs.Prelude.{◌≡◌, ℕ, Bool, List}
 use Rattle.std.specs.List.{AllZip}
 use Rattle.cs_num.specs.declared.Sample.{Sample}
 use Rattle.lte_types.specs.declared.entry.Entry.{Entry}
-use Rattle.clean_air.specs.Clean.{IsListOfCells}
+use Rattle.lte_types.specs.declared.carrier.Carrier.{Carrier}
 use Rattle.tail_cert.specs.Certificate.{Held}
 use Rattle.cert_stream.specs.Stream.{all_bytes, AreAnswers}
 use Rattle.cert_stream.specs.Certifying.{Certifies}
 use Rattle.report.specs.Answers.{check_text}
+use Rattle.lte_top.specs.Searching.{receiver_of, IsListOf}
 
--- the output is the bytes of certificates, one for each entry of the list, in order
-pub record IsCertified (samples : List Sample) (output : List ℕ) : Type 0 where
+-- the output is the bytes of certificates, one for each entry of the list of a carrier, in order
+pub record IsCertified (carrier : Carrier) (samples : List Sample) (output : List ℕ) : Type 0 where
   pub entries : List Entry
-  pub is_list : IsListOfCells samples entries
+  pub is_list : IsListOf carrier samples entries
   pub certificates : List Held
-  pub each : AllZip (Certifies samples) entries certificates
+  pub each : AllZip (Certifies (receiver_of carrier) samples) entries certificates
   pub bytes : output ≡ all_bytes certificates
 
 -- the input is the bytes of certificates, and the output the text of the answers to them

@@ -23,7 +23,7 @@ use Rattle.lte_types.specs.declared.carrier.Carrier.{Carrier}
 use Rattle.lte_types.specs.declared.carrier.Carrier.TheVariants.{OnePort, TwoPorts, LongPrefix}
 use Rattle.lte_top.specs.declared.status.Status.{Status}
 use Rattle.lte_top.specs.declared.status.Status.TheVariants.{Done, Usage, Ragged, TooShort, TooLong, ReadFault, WriteFault, OutOfMemory, BadCell, BadCertificate}
-use Rattle.cell_json.specs.Reading.{refusal}
+use Rattle.cell_json.specs.Reading.{refusal_by}
 use Rattle.lte_top.specs.Transmitting.{most_description_bytes, IsTransmitted}
 use Rattle.lte_top.specs.Certificates.{IsChecked, IsCertified}
 use Rattle.cert_stream.specs.Stream.{most_bytes as most_certificate_bytes, IsBrokenAt}
@@ -54,18 +54,23 @@ carrier_words OnePort = []
 carrier_words TwoPorts = codes "--ports" ∷ codes "2" ∷ []
 carrier_words LongPrefix = codes "--prefix" ∷ codes "long" ∷ []
 
+-- a load by its number: none has no words
+abbrev pub load_words : Option ℕ → List (List ℕ)
+load_words None = []
+load_words (Some n) = codes "--load" ∷ decimal n ∷ []
+
 -- the rule of a list
 abbrev pub rule_words : Rule → List (List ℕ)
 rule_words (Of carrier) = carrier_words carrier
 rule_words Cancel = codes "--cancel" ∷ []
 rule_words All = codes "--all" ∷ []
 
--- a report: its command, and the rule of its list
+-- a report: its command, and the rule or the carrier of its list
 abbrev pub report_words : Report → List (List ℕ)
 report_words Hits = codes "hits" ∷ []
 report_words Ids = codes "ids" ∷ []
 report_words (Search rule) = codes "search" ∷ rule_words rule
-report_words Evidence = codes "evidence" ∷ []
+report_words (Evidence carrier) = codes "evidence" ∷ carrier_words carrier
 report_words Tell = codes "tell" ∷ []
 
 -- a turn: one that is told has none
@@ -82,9 +87,9 @@ ArePageWords Version words = (words ≡ codes "version" ∷ []) ⊎ (words ≡ c
 -- the words are those of a form
 abbrev pub AreWordsOf : Form → List (List ℕ) → Type 0
 AreWordsOf (Reports report output form) words = words ≡ report_words report ++ told_words output form
-AreWordsOf (Certify form) words = words ≡ codes "certify" ∷ samples_words form
+AreWordsOf (Certify carrier form) words = words ≡ codes "certify" ∷ carrier_words carrier ++ samples_words form
 AreWordsOf Check words = words ≡ codes "check" ∷ []
-AreWordsOf Transmit words = words ≡ codes "transmit" ∷ []
+AreWordsOf (Transmit carrier load) words = words ≡ codes "transmit" ∷ carrier_words carrier ++ load_words load
 AreWordsOf (Make carrier n) words = words ≡ codes "make" ∷ decimal n ∷ carrier_words carrier
 AreWordsOf (Apply turn form) words = words ≡ codes "apply" ∷ turn_words turn ++ samples_words form
 AreWordsOf (Print program page) words = ArePageWords page words
@@ -97,8 +102,14 @@ abbrev pub IsAskedTurn : Turn → Type 0
 IsAskedTurn AsTold = Unit {0}
 IsAskedTurn (Steps m) = IsTurn m
 
+-- a load that can be asked for
+abbrev pub IsAskedLoad : Option ℕ → Type 0
+IsAskedLoad None = Unit {0}
+IsAskedLoad (Some n) = n < 2 ^ 32
+
 -- the number of a form is one of 32 bits, or a turn
 abbrev pub IsInRange : Form → Type 0
+IsInRange (Transmit carrier load) = IsAskedLoad load
 IsInRange (Make carrier n) = n < 2 ^ 32
 IsInRange (Apply turn form) = IsAskedTurn turn
 IsInRange form = Unit {0}
@@ -122,18 +133,19 @@ IsNoForm program words = (form : Form) → IsWordsOf program words form → ⊥
 
 -- ---- what is read
 
--- what a form reads: nothing, a recording of samples in a form, certificates one after the other, or a description
+-- what a form reads: nothing, a recording of samples in a form, certificates one after the other, or a description by a
+-- carrier
 pub data Input : Type 0 where
   nothing : Input
   recording : SampleForm → Input
   certificates : Input
-  description : Input
+  description : Carrier → Input
 
 abbrev pub input_of : Form → Input
 input_of (Reports report output form) = recording form
-input_of (Certify form) = recording form
+input_of (Certify carrier form) = recording form
 input_of Check = certificates
-input_of Transmit = description
+input_of (Transmit carrier load) = description carrier
 input_of (Make carrier n) = nothing
 input_of (Apply turn form) = recording form
 input_of (Print program page) = nothing
@@ -143,7 +155,7 @@ abbrev pub limit_of : Input → ℕ
 limit_of nothing = 0
 limit_of (recording form) = most_bytes form
 limit_of certificates = most_certificate_bytes
-limit_of description = most_description_bytes
+limit_of (description carrier) = most_description_bytes
 
 -- the refusal of a recording's bytes, where there is one: they must be of whole samples, and of enough of them
 abbrev pub recording_refusal : SampleForm → List ℕ → Option Status
@@ -163,16 +175,17 @@ RefusesCertificates bytes (BadCertificate place) = IsBrokenAt bytes place
 RefusesCertificates bytes status = ⊥
 
 -- a description within the limit is refused for its first condition that fails
-abbrev pub RefusesDescription : List ℕ → Status → Type 0
-RefusesDescription bytes (BadCell cause) = (length bytes ≤ most_description_bytes) × (refusal bytes ≡ Some cause)
-RefusesDescription bytes status = ⊥
+abbrev pub RefusesDescription : Carrier → List ℕ → Status → Type 0
+RefusesDescription carrier bytes (BadCell cause) =
+    (length bytes ≤ most_description_bytes) × (refusal_by carrier bytes ≡ Some cause)
+RefusesDescription carrier bytes status = ⊥
 
 -- these bytes have this refusal
 abbrev pub Refuses : Input → List ℕ → Status → Type 0
 Refuses nothing bytes status = ⊥
 Refuses (recording form) bytes status = RefusesRecording form bytes status
 Refuses certificates bytes status = RefusesCertificates bytes status
-Refuses description bytes status = RefusesDescription bytes status
+Refuses (description carrier) bytes status = RefusesDescription carrier bytes status
 
 -- there are more bytes than the limit, and nothing in them was refused before
 pub record IsTooLong (input : Input) (bytes : List ℕ) : Type 0 where
@@ -189,9 +202,9 @@ pub record IsValid (input : Input) (bytes : List ℕ) : Type 0 where
 -- what a form writes for valid bytes
 abbrev pub IsOutput : Form → List ℕ → List ℕ → Type 0
 IsOutput (Reports report output form) bytes written = IsReport report output (samples_in form bytes) written
-IsOutput (Certify form) bytes written = IsCertified (samples_in form bytes) written
+IsOutput (Certify carrier form) bytes written = IsCertified carrier (samples_in form bytes) written
 IsOutput Check bytes written = IsChecked bytes written
-IsOutput Transmit bytes written = IsTransmitted bytes written
+IsOutput (Transmit carrier load) bytes written = IsTransmitted carrier load bytes written
 IsOutput (Make carrier n) bytes written = IsMadeText carrier n written
 IsOutput (Apply turn form) bytes written = IsTurnedAsBytes turn (samples_in form bytes) written
 IsOutput (Print program page) bytes written = written ≡ page_text program page

@@ -1,7 +1,7 @@
-pub mod Certificates
 pub mod Transmitting
 pub mod Line
 pub mod Searching
+pub mod Certificates
 pub mod Reports
 pub mod Pages
 pub mod Tuning

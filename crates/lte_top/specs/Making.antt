@@ -8,13 +8,9 @@ use Rattle.lte_types.specs.declared.sib1_reason.Sib1Reason.{Sib1Reason}
 use Rattle.lte_types.specs.declared.sib1_reason.Sib1Reason.TheVariants.{LongPrefix}
 use Rattle.lte_types.specs.Block.{HasFields}
 use Rattle.lte_types.specs.Timing.{start_of, number_at_start}
-use Rattle.capture_make.specs.declared.made.Made.{Made}
-use Rattle.capture_make.specs.Made.{IsMade}
+use Rattle.capture_make.specs.declared.made.MadeBy.{MadeBy}
+use Rattle.capture_make.specs.Made.{IsMadeBy}
 use Rattle.capture_make.specs.Recipe.{plan, number, offset}
-use Rattle.two_tx.specs.declared.made.TwoMade.{TwoMade}
-use Rattle.two_tx.specs.Made.{IsMade as IsMadeOfTwo}
-use Rattle.long_prefix.specs.declared.made.LongMade.{LongMade}
-use Rattle.long_prefix.specs.Made.{IsMadeLong}
 use Rattle.report.specs.Lines.{made_line, report_text}
 use Rattle.lte_top.specs.declared.making.SentCell.{SentCell}
 use Rattle.lte_types.specs.declared.carrier.Carrier.{Carrier}
@@ -72,17 +68,11 @@ cell_of carrier n = record {
   sib1 = told_of carrier (plan n).sib1;
 }
 
--- the samples are those that were made
-pub record AreMade {M : Type 0} (Is : M → Type 0) (recording_of : M → List Sample) (samples : List Sample) :
-    Type 0 where
-  pub made : M
-  pub is : Is made
-  pub are : samples ≡ recording_of made
-
-abbrev pub AreSamplesOf : Carrier → ℕ → List Sample → Type 0
-AreSamplesOf OnePort n = AreMade (IsMade n) (λ (made : Made). made.recording)
-AreSamplesOf TwoPorts n = AreMade (IsMadeOfTwo n) (λ (made : TwoMade). made.recording)
-AreSamplesOf Long n = AreMade (IsMadeLong n) (λ (made : LongMade). made.recording)
+-- the samples are those of recording number n of the carrier
+pub record AreSamplesOf (carrier : Carrier) (n : ℕ) (samples : List Sample) : Type 0 where
+  pub made : MadeBy
+  pub is : IsMadeBy carrier n made
+  pub are : samples ≡ made.recording
 
 -- the list of recording number n
 pub record IsMadeList (carrier : Carrier) (n : ℕ) (entries : List Entry) : Type 0 where

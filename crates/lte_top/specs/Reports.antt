@@ -4,16 +4,18 @@ use Rattle.std.specs.List.{AllZip}
 use Rattle.cs_num.specs.declared.Sample.{Sample}
 use Rattle.lte_types.specs.declared.entry.Entry.{Entry}
 use Rattle.lte_types.specs.declared.hit.Hit.{Hit}
+use Rattle.lte_types.specs.declared.carrier.Carrier.{Carrier}
 use Rattle.lte_types.specs.Identity.{cell_of}
 use Rattle.pss_search.specs.Hits.{hits_of}
 use Rattle.sss_detect.specs.Identity.{identity_of}
 use Rattle.sss_detect.specs.Place.{start_of}
 use Rattle.lte_types.specs.declared.evidence.Evidence.{Evidence as Numbers}
-use Rattle.evidence.specs.Evidence.{IsEvidence}
+use Rattle.evidence.specs.Evidence.{IsEvidenceFor}
+use Rattle.evidence.specs.Shown.{IsShownFor}
 use Rattle.report.specs.declared.hits.IdentifiedHit.{IdentifiedHit}
 use Rattle.report.specs.Evidence.{evidence_text}
 use Rattle.report.specs.Hits.{hits_text, ids_text}
-use Rattle.report.specs.EvidenceJson.{evidence_json}
+use Rattle.report.specs.EvidenceJson.{Shown, evidence_json}
 use Rattle.report.specs.HitsJson.{hits_json, ids_json}
 use Rattle.lte_top.specs.declared.form.Report.{Report}
 use Rattle.lte_top.specs.declared.form.Report.TheVariants.{Hits, Ids, Search, Evidence, Tell}
@@ -25,8 +27,7 @@ use Rattle.turning.specs.Texts.{IsTellText}
 use Rattle.report.specs.declared.measured.MeasuredHit.{MeasuredHit}
 use Rattle.report.specs.declared.measured.MeasuredId.{MeasuredId}
 use Rattle.lte_top.specs.Line.{as_line, IsLine}
-use Rattle.lte_top.specs.Searching.{IsSearch}
-use Rattle.clean_air.specs.Clean.{IsListOfCells}
+use Rattle.lte_top.specs.Searching.{receiver_of, IsListOf, IsSearch}
 
 -- a hit of a recording with the identity of its cell, the half that it stands in, and where a frame begins
 abbrev pub identified : List Sample → Hit → IdentifiedHit
@@ -59,17 +60,25 @@ abbrev pub IsIds : Output → List Sample → List ℕ → Type 0
 IsIds Text samples text = text ≡ ids_text (map (identified samples) (hits_of samples))
 IsIds Json samples text = text ≡ as_line (ids_json (map (measured_id samples) (hits_of samples)))
 
-abbrev pub supports_text : Output → List Numbers → List ℕ
-supports_text Text told = evidence_text told
-supports_text Json told = as_line (evidence_json told)
-
--- what supports each entry of the list of the recording, in its order, as text
-pub record IsTextOfEvidence (output : Output) (samples : List Sample) (text : List ℕ) : Type 0 where
+-- what supports each entry of the list of a carrier in the recording, in its order, as text
+pub record IsEvidenceText (carrier : Carrier) (samples : List Sample) (text : List ℕ) : Type 0 where
   pub entries : List Entry
-  pub is_list : IsListOfCells samples entries
+  pub is_list : IsListOf carrier samples entries
   pub told : List Numbers
-  pub each : AllZip (IsEvidence samples) entries told
-  pub text_is : text ≡ supports_text output told
+  pub each : AllZip (IsEvidenceFor (receiver_of carrier) samples) entries told
+  pub text_is : text ≡ evidence_text told
+
+-- and with what its slot shows, as JSON
+pub record IsEvidenceJson (carrier : Carrier) (samples : List Sample) (text : List ℕ) : Type 0 where
+  pub entries : List Entry
+  pub is_list : IsListOf carrier samples entries
+  pub shown : List Shown
+  pub each : AllZip (IsShownFor (receiver_of carrier) samples) entries shown
+  pub text_is : text ≡ evidence_json shown
+
+abbrev pub IsEvidence : Carrier → Output → List Sample → List ℕ → Type 0
+IsEvidence carrier Text samples text = IsEvidenceText carrier samples text
+IsEvidence carrier Json samples text = IsLine (IsEvidenceJson carrier samples) text
 
 -- what is told of the frequency offset
 abbrev pub IsTelling : Output → List Sample → List ℕ → Type 0
@@ -81,5 +90,5 @@ abbrev pub IsReport : Report → Output → List Sample → List ℕ → Type 0
 IsReport Hits output samples text = IsHits output samples text
 IsReport Ids output samples text = IsIds output samples text
 IsReport (Search rule) output samples text = IsSearch rule output samples text
-IsReport Evidence output samples text = IsTextOfEvidence output samples text
+IsReport (Evidence carrier) output samples text = IsEvidence carrier output samples text
 IsReport Tell output samples text = IsTelling output samples text

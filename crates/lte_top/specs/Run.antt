@@ -18,7 +18,7 @@ abbrev pub IsRead : Input → Type 0
 IsRead nothing = ⊥
 IsRead (recording form) = Unit {0}
 IsRead certificates = Unit {0}
-IsRead description = Unit {0}
+IsRead (description carrier) = Unit {0}
 
 -- these bytes are the whole input, which was read to its end; where none is read there are none, and the source is as
 -- it was
@@ -26,7 +26,7 @@ abbrev pub HasReadInput : Input → List ℕ → SourceTold → SourceTold → T
 HasReadInput nothing bytes before now = (bytes ≡ []) × NothingRead before now
 HasReadInput (recording form) bytes before now = HasReadAll (limit_of (recording form)) bytes before now
 HasReadInput certificates bytes before now = HasReadAll (limit_of certificates) bytes before now
-HasReadInput description bytes before now = HasReadAll (limit_of description) bytes before now
+HasReadInput (description carrier) bytes before now = HasReadAll (limit_of (description carrier)) bytes before now
 
 -- a valid input was read, and this is an output of it
 pub record HasOutput (form : Form) (output : List ℕ) (before now : SourceTold) : Type 0 where
@@ -57,7 +57,7 @@ abbrev pub NothingMet : Input → List ℕ → Type 0
 NothingMet nothing bytes = Unit {0}
 NothingMet (recording form) bytes = Unit {0}
 NothingMet certificates bytes = IsUnbroken bytes
-NothingMet description bytes = Unit {0}
+NothingMet (description carrier) bytes = Unit {0}
 
 -- a read failed after no more than the limit was read, and what was read could not be refused already
 pub record IsReadFault (input : Input) (before now : SourceTold) : Type 0 where
@@ -71,7 +71,7 @@ abbrev pub IsLeft : Input → SourceTold → SourceTold → Type 0
 IsLeft nothing before now = NothingRead before now
 IsLeft (recording form) before now = Unit {0}
 IsLeft certificates before now = Unit {0}
-IsLeft description before now = Unit {0}
+IsLeft (description carrier) before now = Unit {0}
 
 -- why an input was not read and answered to its end
 abbrev pub Cause : Input → SourceTold → SourceTold → Status → Type 0
@@ -153,7 +153,7 @@ abbrev pub IsTold : Input → List ℕ → SourceTold → Type 0
 IsTold nothing bytes before = bytes ≡ []
 IsTold (recording form) bytes before = before.left ≡ Some bytes
 IsTold certificates bytes before = before.left ≡ Some bytes
-IsTold description bytes before = before.left ≡ Some bytes
+IsTold (description carrier) bytes before = before.left ≡ Some bytes
 
 -- words of a form, and the bytes of its input, where the source tells them
 pub record IsAsked (program : Program) (words : List (List ℕ)) (before : Outside) (form : Form) (bytes : List ℕ) :

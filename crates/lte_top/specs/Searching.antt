@@ -5,9 +5,10 @@ use Rattle.lte_types.specs.declared.entry.Entry.{Entry}
 use Rattle.lte_types.specs.declared.carrier.Carrier.{Carrier}
 use Rattle.lte_types.specs.declared.carrier.Carrier.TheVariants.{OnePort, TwoPorts, LongPrefix}
 use Rattle.clean_air.specs.Clean.{IsListOfCells}
-use Rattle.two_ports.specs.Entries.{IsExplainedOfTwo}
+use Rattle.explain.specs.Receiver.{Receiver, one_port_receiver}
+use Rattle.two_ports.specs.Entries.{two_ports_receiver, IsExplainedOfTwo}
 use Rattle.two_ports.specs.Clean.{HoldsLoadedCellsOfTwo, HoldsCleanCellsOfTwo}
-use Rattle.long_prefix.specs.Entries.{IsExplainedOfLong}
+use Rattle.long_prefix.specs.Entries.{long_prefix_receiver, IsExplainedOfLong}
 use Rattle.long_prefix.specs.Clean.{HoldsLoadedCellsOfLong, HoldsCleanCellsOfLong}
 use Rattle.rounds.specs.AsJson.{IsCancelJson}
 use Rattle.rounds.specs.Text.{IsCancelText}
@@ -21,6 +22,12 @@ use Rattle.lte_top.specs.declared.form.Output.TheVariants.{Text, Json}
 use Rattle.lte_top.specs.Line.{as_line, IsLine}
 
 -- ---- the list of a carrier
+
+-- the receiver by which the cells of a carrier are read
+abbrev pub receiver_of : Carrier → Receiver
+receiver_of OnePort = one_port_receiver
+receiver_of TwoPorts = two_ports_receiver
+receiver_of LongPrefix = long_prefix_receiver
 
 -- the list of the cells with two antenna ports, which holds each of which the recording is clean, whatever else its
 -- ports send

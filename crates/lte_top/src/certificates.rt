@@ -1,44 +1,157 @@
 //! The certificates of a recording, and the answers to certificates.
 
-ghost use Rattle.std.specs.Prelude.{◌≤◌, IfOk, IfErr, OnOk, string_bytes};
+ghost use Rattle.std.specs.Prelude.{◌≤◌, IfOk, IfErr, OnOk, OnErr, string_bytes};
+ghost use Rattle.cs_outside.specs.Counts.{Rose};
 ghost use Rattle.cs_outside.specs.Outside.{SourceTold, SinkTold};
+ghost use Rattle.cert_stream.specs.Certifying.{HasCertifiedAll, HasCertifiedSome};
+ghost use Rattle.lte_types.specs.declared.carrier.Carrier.TheVariants.{OnePort, TwoPorts, LongPrefix};
 ghost use Rattle.lte_top.specs.Forms.{certificates};
 ghost use Rattle.lte_top.specs.Run.{Cause, HasOutput, IsDone, Ends};
+ghost use Rattle.lte_top.specs.Searching.{receiver_of, IsListOf};
 ghost use Rattle.lte_top.specs.declared.form.Form.TheVariants.{Certify, Check};
 
 use crate::reporting::recording_of;
 use crate::searching::room_for_list;
 use crate::status::Status;
 use cert_stream::{CertificateWork, certify, read_answers};
-use clean_air::explain_clean;
 use cs_outside::{Failed, Sink, Source};
+use explain::{EntryList, Workspace};
+use lte_types::Carrier;
 use report::text_of_answers;
-use sample_file::SampleForm;
-use std::alloc::Global;
+use sample_file::{Recording, SampleForm};
+use std::alloc::{AllocError, Global};
 
-// Writes the certificates of a source's recording: one for each entry of the list, in order. All
+// The memory in which a list is certified: those of the list, of the search for it, and of certificates.
+#[derive(Drop)]
+struct Rooms {
+    search: Workspace,
+    list: EntryList,
+    work: CertificateWork,
+}
+
+// Writes the certificates of a source's recording: one for each entry of the list of a carrier, in order. All
 // memory is taken before the first is written.
 pub(crate) fn certify_recording<S: Source, K: Sink>(
     alloc: Global,
+    carrier: Carrier,
     form: SampleForm,
     source: &mut S,
     sink: &mut K,
 ) -> Result<(), Status>
-    ensures done { OnOk result (IsDone (Certify form)
+    ensures done { OnOk result (IsDone (Certify carrier form)
         (S.told source.old, K.told sink.old) (S.told source.new, K.told sink.new)) }
-    ensures ended { IfErr result (Ends (Certify form)
+    ensures ended { IfErr result (Ends (Certify carrier form)
         (S.told source.old, K.told sink.old) (S.told source.new, K.told sink.new)) }
     ensures reads { (S.told source.old).faults ≤ (S.told source.new).faults }
     ensures writes { (K.told sink.old).faults ≤ (K.told sink.new).faults }
 {
     let recording = recording_of(alloc, form, source)?;
-    let (mut search, mut list) = room_for_list(alloc)?;
-    let mut work = CertificateWork::new(alloc)?;
-    explain_clean(&recording, &mut search, &mut list);
-    match certify(&recording, list.slice(), search.readings(), &mut work, sink) {
+    let mut rooms = rooms_of(alloc)?;
+    match certify_list(&recording, carrier, &mut rooms, sink) {
         Ok(()) => Ok(()),
         Err(Failed) => Err(Status::WriteFault),
     }
+}
+
+// Takes all that memory.
+fn rooms_of(alloc: Global) -> Result<Rooms, AllocError> {
+    let (search, list) = room_for_list(alloc)?;
+    let work = CertificateWork::new(alloc)?;
+    Ok(Rooms { search, list, work })
+}
+
+// Makes the list of a carrier, and writes its certificates.
+fn certify_list<K: Sink>(
+    recording: &Recording,
+    carrier: Carrier,
+    rooms: &mut Rooms,
+    sink: &mut K,
+) -> Result<(), Failed>
+    ensures list { IsListOf carrier recording.now rooms.new.list }
+    ensures ok { OnOk result (HasCertifiedAll (receiver_of carrier) recording.now rooms.new.list
+        (K.told sink.old) (K.told sink.new)) }
+    ensures err { OnErr result (HasCertifiedSome (receiver_of carrier) recording.now rooms.new.list
+        (K.told sink.old) (K.told sink.new)) }
+    ensures fault { OnErr result (Rose (K.told sink.old).faults (K.told sink.new).faults) }
+    ensures never_falls { (K.told sink.old).faults ≤ (K.told sink.new).faults }
+{
+    match carrier {
+        Carrier::OnePort => certify_one(recording, rooms, sink),
+        Carrier::TwoPorts => certify_two(recording, rooms, sink),
+        Carrier::LongPrefix => certify_long(recording, rooms, sink),
+    }
+}
+
+// That of the cells with one antenna port.
+fn certify_one<K: Sink>(
+    recording: &Recording,
+    rooms: &mut Rooms,
+    sink: &mut K,
+) -> Result<(), Failed>
+    ensures list { IsListOf OnePort recording.now rooms.new.list }
+    ensures ok { OnOk result (HasCertifiedAll (receiver_of OnePort) recording.now rooms.new.list
+        (K.told sink.old) (K.told sink.new)) }
+    ensures err { OnErr result (HasCertifiedSome (receiver_of OnePort) recording.now rooms.new.list
+        (K.told sink.old) (K.told sink.new)) }
+    ensures fault { OnErr result (Rose (K.told sink.old).faults (K.told sink.new).faults) }
+    ensures never_falls { (K.told sink.old).faults ≤ (K.told sink.new).faults }
+{
+    clean_air::explain_clean(recording, &mut rooms.search, &mut rooms.list);
+    certify(
+        recording,
+        rooms.list.slice(),
+        rooms.search.readings(),
+        &mut rooms.work,
+        sink,
+    )
+}
+
+// That of the cells with two antenna ports.
+fn certify_two<K: Sink>(
+    recording: &Recording,
+    rooms: &mut Rooms,
+    sink: &mut K,
+) -> Result<(), Failed>
+    ensures list { IsListOf TwoPorts recording.now rooms.new.list }
+    ensures ok { OnOk result (HasCertifiedAll (receiver_of TwoPorts) recording.now rooms.new.list
+        (K.told sink.old) (K.told sink.new)) }
+    ensures err { OnErr result (HasCertifiedSome (receiver_of TwoPorts) recording.now rooms.new.list
+        (K.told sink.old) (K.told sink.new)) }
+    ensures fault { OnErr result (Rose (K.told sink.old).faults (K.told sink.new).faults) }
+    ensures never_falls { (K.told sink.old).faults ≤ (K.told sink.new).faults }
+{
+    two_ports::explain_clean(recording, &mut rooms.search, &mut rooms.list);
+    certify(
+        recording,
+        rooms.list.slice(),
+        rooms.search.readings(),
+        &mut rooms.work,
+        sink,
+    )
+}
+
+// That of the cells with the extended prefix.
+fn certify_long<K: Sink>(
+    recording: &Recording,
+    rooms: &mut Rooms,
+    sink: &mut K,
+) -> Result<(), Failed>
+    ensures list { IsListOf LongPrefix recording.now rooms.new.list }
+    ensures ok { OnOk result (HasCertifiedAll (receiver_of LongPrefix) recording.now rooms.new.list
+        (K.told sink.old) (K.told sink.new)) }
+    ensures err { OnErr result (HasCertifiedSome (receiver_of LongPrefix) recording.now rooms.new.list
+        (K.told sink.old) (K.told sink.new)) }
+    ensures fault { OnErr result (Rose (K.told sink.old).faults (K.told sink.new).faults) }
+    ensures never_falls { (K.told sink.old).faults ≤ (K.told sink.new).faults }
+{
+    long_prefix::explain_clean(recording, &mut rooms.search, &mut rooms.list);
+    certify(
+        recording,
+        rooms.list.slice(),
+        rooms.search.readings(),
+        &mut rooms.work,
+        sink,
+    )
 }
 
 // The text of the answers to the certificates of a source, which are read to the end of the input.

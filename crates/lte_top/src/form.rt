@@ -5,7 +5,8 @@ ghost use Rattle.lte_top.specs.Forms.{IsWordsOf, IsNoForm};
 ghost use Rattle.lte_top.specs.declared.form.Program.TheVariants.{Receiver, Tuner};
 
 use crate::parts::{
-    is_only, made_after, page_of, samples_after, searched_after, told_after, turned_after,
+    carried_after, certified_after, is_only, made_after, page_of, searched_after, sent_after,
+    told_after, turned_after,
 };
 use crate::words::Words;
 use lte_types::Carrier;
@@ -26,12 +27,12 @@ pub enum Program {
 pub enum Form {
     /// A report about a recording of samples in a form.
     Report(Report, Output, SampleForm),
-    /// `certify`: a certificate for each master block of the list of a recording.
-    Certify(SampleForm),
+    /// `certify`: a certificate for each master block of the list of a carrier in a recording.
+    Certify(Carrier, SampleForm),
     /// `check`: an answer to each of the certificates that are read.
     Check,
-    /// `transmit`: the samples of a described cell.
-    Transmit,
+    /// `transmit`: the samples of a cell that is described for this carrier, with the load of a number by `--load N`.
+    Transmit(Carrier, Option<u32>),
     /// `make N`: the list of recording number N, made of a cell of this carrier.
     Make(Carrier, u32),
     /// `apply`: a turned recording, as 16-bit numbers.
@@ -49,8 +50,8 @@ pub enum Report {
     Ids,
     /// `search`: the list of cells by a rule.
     Search(Rule),
-    /// `evidence`: what supports each cell of the list.
-    Evidence,
+    /// `evidence`: what supports each cell of the list of a carrier.
+    Evidence(Carrier),
     /// `tell`: the frequency offset.
     Tell,
 }
@@ -118,14 +119,14 @@ fn of_receiver(words: &[String]) -> Option<Form>
         Some(Form::Report(Report::Ids, output, samples))
     } else if let Some((rule, output, samples)) = searched_after(words, "search") {
         Some(Form::Report(Report::Search(rule), output, samples))
-    } else if let Some((output, samples)) = told_after(words, "evidence") {
-        Some(Form::Report(Report::Evidence, output, samples))
-    } else if let Some(samples) = samples_after(words, "certify") {
-        Some(Form::Certify(samples))
+    } else if let Some((carrier, output, samples)) = carried_after(words, "evidence") {
+        Some(Form::Report(Report::Evidence(carrier), output, samples))
+    } else if let Some((carrier, samples)) = certified_after(words, "certify") {
+        Some(Form::Certify(carrier, samples))
     } else if is_only(words, "check") {
         Some(Form::Check)
-    } else if is_only(words, "transmit") {
-        Some(Form::Transmit)
+    } else if let Some((carrier, load)) = sent_after(words, "transmit") {
+        Some(Form::Transmit(carrier, load))
     } else if let Some((carrier, n)) = made_after(words, "make") {
         Some(Form::Make(carrier, n))
     } else {

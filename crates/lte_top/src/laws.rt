@@ -5,7 +5,8 @@ ghost use Rattle.lte_top.specs.Found.{WhatIsSentIsFound};
 ghost use Rattle.lte_top.specs.Making.{WhatIsMadeIsHeld};
 ghost use Rattle.lte_top.specs.Run.{HasOneAnswer};
 
-use cell_tx::sent_is_clean;
+use capture_make::numbers_are_clean;
+use cell_tx::sum_is_clean;
 
 /// A law of the answers: the bytes of an input have one answer, so that each is given exactly where
 /// it is theirs, but for want of memory and counted faults.
@@ -13,12 +14,13 @@ pub fn an_input_has_one_answer()
     ensures { HasOneAnswer }
 {}
 
-/// What `transmit` writes for a description is, read as a recording, free of errors, and what `search`
-/// writes for that recording has the lines of the described cell, with its system information.
+/// What `transmit` writes for a description, by each carrier and with each load or none, is, read as a recording, free
+/// of errors, and what `search` of this carrier writes for that recording has the lines of the described cell, with its
+/// system information where the carrier sends it.
 pub fn what_is_sent_is_found()
     ensures { WhatIsSentIsFound }
 {
-    sent_is_clean();
+    sum_is_clean();
 }
 
 /// The line of `make N` ends in `held 1`, for each carrier and every N: the list of the recording holds the cell that
@@ -26,9 +28,7 @@ pub fn what_is_sent_is_found()
 pub fn what_is_made_is_held()
     ensures { WhatIsMadeIsHeld }
 {
-    capture_make::made_is_clean();
-    two_tx::made_is_clean();
-    long_prefix::made_is_clean();
+    numbers_are_clean();
 }
 
 /// What `apply` writes for a recording is, read as one, a recording, and has as many cells as `tell` writes.

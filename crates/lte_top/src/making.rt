@@ -4,7 +4,7 @@ ghost use Rattle.std.specs.Prelude.{◌≡◌, ◌↔◌, ◌≤◌, IfOk, IsTru
 ghost use Rattle.lte_top.specs.Making.{Counts, IsSentCell, TellsHeld, told_of, cell_of, IsMadeList, IsMadeText};
 
 use crate::searching::list_of;
-use capture_make::{plan, timing};
+use capture_make::{make_by, plan, timing};
 use explain::EntryList;
 use lte_types::{
     Bandwidth, Carrier, Duration, Entry, Resource, Sfn, Sib1, Sib1Reason, same_answers,
@@ -37,11 +37,8 @@ pub(crate) fn made_text(alloc: Global, carrier: Carrier, n: u32) -> Result<Strin
 fn made_list(alloc: Global, carrier: Carrier, n: u32) -> Result<EntryList, AllocError>
     ensures { IfOk result (IsMadeList carrier n) }
 {
-    match carrier {
-        Carrier::OnePort => list_of(alloc, carrier, &capture_make::make(alloc, n)?.recording),
-        Carrier::TwoPorts => list_of(alloc, carrier, &two_tx::make(alloc, n)?.recording),
-        Carrier::LongPrefix => list_of(alloc, carrier, &long_prefix::make(alloc, n)?.recording),
-    }
+    let made = make_by(alloc, carrier, n)?;
+    list_of(alloc, carrier, &made.recording)
 }
 
 // The cell of recording number n of a carrier.

@@ -1,6 +1,6 @@
 //! The parts of a form that words name: each is read after those before it, and no words are those of two.
 
-ghost use Rattle.std.specs.Prelude.{◌≡◌, ◌≢◌, ◌↔◌, ◌<◌, ◌^◌, ℕ, ℤ, List, [], ◌∷◌, ◌++◌, map, IfSome, IsNone, IsTrue, string_bytes};
+ghost use Rattle.std.specs.Prelude.{◌≡◌, ◌≢◌, ◌↔◌, ◌<◌, ◌^◌, ℕ, ℤ, Option, Some, List, [], ◌∷◌, ◌++◌, map, IfSome, IsNone, IsTrue, string_bytes};
 ghost use Rattle.std.specs.Fmt.{decimal, signed_decimal};
 ghost use Rattle.sample_file.specs.declared.form.SampleForm.{SampleForm as SampleFormValue};
 ghost use Rattle.lte_types.specs.declared.carrier.Carrier.{Carrier as CarrierValue};
@@ -8,7 +8,7 @@ ghost use Rattle.lte_top.specs.declared.form.Output.{Output as OutputValue};
 ghost use Rattle.lte_top.specs.declared.form.Page.{Page as PageValue};
 ghost use Rattle.lte_top.specs.declared.form.Rule.{Rule as RuleValue};
 ghost use Rattle.lte_top.specs.declared.form.Turn.{Turn as TurnValue};
-ghost use Rattle.lte_top.specs.Forms.{samples_words, told_words, rule_words, carrier_words, turn_words, IsTurn, IsAskedTurn, ArePageWords};
+ghost use Rattle.lte_top.specs.Forms.{samples_words, told_words, rule_words, carrier_words, load_words, turn_words, IsAskedLoad, IsTurn, IsAskedTurn, ArePageWords};
 
 use crate::form::{Output, Page, Rule, Turn};
 use itoa::Buffer;
@@ -19,7 +19,7 @@ use sample_file::SampleForm;
 
 // The form of samples that the words after this one name; `None` where the first word is another, or those after it
 // name none.
-pub(crate) fn samples_after(words: &[String], word: &str) -> Option<SampleForm>
+fn samples_after(words: &[String], word: &str) -> Option<SampleForm>
     ensures some { IfSome result (λ form. map string_bytes words.now ≡ word.now ∷ samples_words form) }
     ensures none { IsNone result → (form : SampleFormValue) →
         map string_bytes words.now ≡ word.now ∷ samples_words form → ⊥ }
@@ -40,6 +40,17 @@ fn samples_of(words: &[String]) -> Option<SampleForm>
     } else {
         None
     }
+}
+
+// The same after two words.
+fn samples_after_two(words: &[String], first: &str, second: &str) -> Option<SampleForm>
+    ensures some { IfSome result (λ form.
+        map string_bytes words.now ≡ first.now ∷ second.now ∷ samples_words form) }
+    ensures none { IsNone result → (form : SampleFormValue) →
+        map string_bytes words.now ≡ first.now ∷ second.now ∷ samples_words form → ⊥ }
+{
+    let words = after(words, first)?;
+    samples_after(words, second)
 }
 
 // The output and the form of samples that the words after this one name.
@@ -79,6 +90,62 @@ fn told_of(words: &[String]) -> Option<(Output, SampleForm)>
 
 // ---- rules and carriers
 
+// The carrier, the output and the form of samples that the words after this one name.
+pub(crate) fn carried_after(words: &[String], word: &str) -> Option<(Carrier, Output, SampleForm)>
+    ensures some { IfSome result (λ carried.
+        map string_bytes words.now ≡ word.now ∷ carrier_words carried.0 ++ told_words carried.1 carried.2) }
+    ensures none { IsNone result → (carrier : CarrierValue) (output : OutputValue) (form : SampleFormValue) →
+        map string_bytes words.now ≡ word.now ∷ carrier_words carrier ++ told_words output form → ⊥ }
+{
+    let words = after(words, word)?;
+    carried_of(words)
+}
+
+// The carrier, the output and the form of samples that these words name.
+fn carried_of(words: &[String]) -> Option<(Carrier, Output, SampleForm)>
+    ensures some { IfSome result (λ carried.
+        map string_bytes words.now ≡ carrier_words carried.0 ++ told_words carried.1 carried.2) }
+    ensures none { IsNone result → (carrier : CarrierValue) (output : OutputValue) (form : SampleFormValue) →
+        map string_bytes words.now ≡ carrier_words carrier ++ told_words output form → ⊥ }
+{
+    if let Some((output, samples)) = told_of(words) {
+        Some((Carrier::OnePort, output, samples))
+    } else if let Some((output, samples)) = told_after_two(words, "--ports", "2") {
+        Some((Carrier::TwoPorts, output, samples))
+    } else {
+        let (output, samples) = told_after_two(words, "--prefix", "long")?;
+        Some((Carrier::LongPrefix, output, samples))
+    }
+}
+
+// The carrier and the form of samples that the words after this one name.
+pub(crate) fn certified_after(words: &[String], word: &str) -> Option<(Carrier, SampleForm)>
+    ensures some { IfSome result (λ certified.
+        map string_bytes words.now ≡ word.now ∷ carrier_words certified.0 ++ samples_words certified.1) }
+    ensures none { IsNone result → (carrier : CarrierValue) (form : SampleFormValue) →
+        map string_bytes words.now ≡ word.now ∷ carrier_words carrier ++ samples_words form → ⊥ }
+{
+    let words = after(words, word)?;
+    certified_of(words)
+}
+
+// The carrier and the form of samples that these words name.
+fn certified_of(words: &[String]) -> Option<(Carrier, SampleForm)>
+    ensures some { IfSome result (λ certified.
+        map string_bytes words.now ≡ carrier_words certified.0 ++ samples_words certified.1) }
+    ensures none { IsNone result → (carrier : CarrierValue) (form : SampleFormValue) →
+        map string_bytes words.now ≡ carrier_words carrier ++ samples_words form → ⊥ }
+{
+    if let Some(samples) = samples_of(words) {
+        Some((Carrier::OnePort, samples))
+    } else if let Some(samples) = samples_after_two(words, "--ports", "2") {
+        Some((Carrier::TwoPorts, samples))
+    } else {
+        let samples = samples_after_two(words, "--prefix", "long")?;
+        Some((Carrier::LongPrefix, samples))
+    }
+}
+
 // The rule, the output and the form of samples that the words after this one name.
 pub(crate) fn searched_after(words: &[String], word: &str) -> Option<(Rule, Output, SampleForm)>
     ensures some { IfSome result (λ searched.
@@ -97,12 +164,8 @@ fn searched_of(words: &[String]) -> Option<(Rule, Output, SampleForm)>
     ensures none { IsNone result → (rule : RuleValue) (output : OutputValue) (form : SampleFormValue) →
         map string_bytes words.now ≡ rule_words rule ++ told_words output form → ⊥ }
 {
-    if let Some((output, samples)) = told_of(words) {
-        Some((Rule::Of(Carrier::OnePort), output, samples))
-    } else if let Some((output, samples)) = told_after_two(words, "--ports", "2") {
-        Some((Rule::Of(Carrier::TwoPorts), output, samples))
-    } else if let Some((output, samples)) = told_after_two(words, "--prefix", "long") {
-        Some((Rule::Of(Carrier::LongPrefix), output, samples))
+    if let Some((carrier, output, samples)) = carried_of(words) {
+        Some((Rule::Of(carrier), output, samples))
     } else if let Some((output, samples)) = told_after(words, "--cancel") {
         Some((Rule::Cancel, output, samples))
     } else {
@@ -136,6 +199,74 @@ fn carrier_of(words: &[String]) -> Option<Carrier>
         Some(Carrier::TwoPorts)
     } else if are_two(words, "--prefix", "long") {
         Some(Carrier::LongPrefix)
+    } else {
+        None
+    }
+}
+
+// The carrier and the load that the words after this one name.
+pub(crate) fn sent_after(words: &[String], word: &str) -> Option<(Carrier, Option<u32>)>
+    ensures some { IfSome result (λ sent.
+        IsAskedLoad sent.1 × (map string_bytes words.now ≡ word.now ∷ carrier_words sent.0 ++ load_words sent.1)) }
+    ensures none { IsNone result → (carrier : CarrierValue) (load : Option ℕ) → IsAskedLoad load →
+        map string_bytes words.now ≡ word.now ∷ carrier_words carrier ++ load_words load → ⊥ }
+{
+    let words = after(words, word)?;
+    sent_of(words)
+}
+
+// The carrier and the load that these words name.
+fn sent_of(words: &[String]) -> Option<(Carrier, Option<u32>)>
+    ensures some { IfSome result (λ sent.
+        IsAskedLoad sent.1 × (map string_bytes words.now ≡ carrier_words sent.0 ++ load_words sent.1)) }
+    ensures none { IsNone result → (carrier : CarrierValue) (load : Option ℕ) → IsAskedLoad load →
+        map string_bytes words.now ≡ carrier_words carrier ++ load_words load → ⊥ }
+{
+    if let Some(load) = load_of(words) {
+        Some((Carrier::OnePort, load))
+    } else if let Some(load) = load_after_two(words, "--ports", "2") {
+        Some((Carrier::TwoPorts, load))
+    } else {
+        let load = load_after_two(words, "--prefix", "long")?;
+        Some((Carrier::LongPrefix, load))
+    }
+}
+
+// The load that the words after two name.
+fn load_after_two(words: &[String], first: &str, second: &str) -> Option<Option<u32>>
+    ensures some { IfSome result (λ load.
+        IsAskedLoad load × (map string_bytes words.now ≡ first.now ∷ second.now ∷ load_words load)) }
+    ensures none { IsNone result → (load : Option ℕ) → IsAskedLoad load →
+        map string_bytes words.now ≡ first.now ∷ second.now ∷ load_words load → ⊥ }
+{
+    let words = after(words, first)?;
+    let words = after(words, second)?;
+    load_of(words)
+}
+
+// The load that these words name; no words name none.
+fn load_of(words: &[String]) -> Option<Option<u32>>
+    ensures some { IfSome result (λ load. IsAskedLoad load × (map string_bytes words.now ≡ load_words load)) }
+    ensures none { IsNone result → (load : Option ℕ) → IsAskedLoad load →
+        map string_bytes words.now ≡ load_words load → ⊥ }
+{
+    if words.is_empty() {
+        Some(None)
+    } else {
+        let n = load_number(words)?;
+        Some(Some(n))
+    }
+}
+
+// The number of a load, one of 32 bits without leading zero.
+fn load_number(words: &[String]) -> Option<u32>
+    ensures some { IfSome result (λ n. (n < 2 ^ 32) × (map string_bytes words.now ≡ load_words (Some n))) }
+    ensures none { IsNone result → (n : ℕ) → n < 2 ^ 32 → map string_bytes words.now ≡ load_words (Some n) → ⊥ }
+{
+    let words = after(words, "--load")?;
+    let (text, rest) = words.split_first()?;
+    if rest.is_empty() {
+        number_of(text.as_str())
     } else {
         None
     }

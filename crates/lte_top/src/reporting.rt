@@ -4,22 +4,20 @@ ghost use Rattle.std.specs.Prelude.{◌≡◌, ◌≤◌, All, IfOk, IfErr, map,
 ghost use Rattle.cs_outside.specs.Outside.{SourceTold};
 ghost use Rattle.sample_file.specs.Reading.{HasReadRecording};
 ghost use Rattle.sample_file.specs.Recording.{IsRecording};
-ghost use Rattle.pss_search.specs.Hits.{IsInSpan, hits_of as all_hits};
-ghost use Rattle.pss_search.specs.Laws.{IsHitOf};
+ghost use Rattle.pss_search.specs.Hits.{IsInSpan, IsSmallHit, hits_of as all_hits};
 ghost use Rattle.lte_top.specs.Forms.{recording};
 ghost use Rattle.lte_top.specs.Line.{as_line};
-ghost use Rattle.lte_top.specs.Reports.{identified, supports_text, IsHits, IsIds, IsReport, IsTelling, IsTextOfEvidence};
+ghost use Rattle.lte_top.specs.Reports.{identified, IsEvidence, IsEvidenceJson, IsEvidenceText, IsHits, IsIds, IsReport, IsTelling};
 ghost use Rattle.lte_top.specs.Run.{Cause, HasOutput};
 ghost use Rattle.lte_top.specs.declared.form.Form.TheVariants.{Report as Reports};
 
 use crate::form::{Output, Report};
 use crate::measuring::{measured_hits, measured_ids};
-use crate::searching::{room_for_list, search_text};
+use crate::searching::{read_list, room_for_list, search_text};
 use crate::status::Status;
-use clean_air::explain_clean;
 use cs_outside::Source;
-use evidence::evidence_of_list;
-use lte_types::{Evidence, Hit};
+use evidence::{evidence_of_list, support_of_list};
+use lte_types::{Carrier, Hit};
 use pss_search::{HitList, hits};
 use report::{
     IdentifiedHit, json_of_evidence, json_of_hits, json_of_ids, text_of_evidence, text_of_hits,
@@ -77,7 +75,7 @@ fn text_of_report(
         Report::Hits => hits_text(alloc, output, recording),
         Report::Ids => ids_text(alloc, output, recording),
         Report::Search(rule) => search_text(alloc, rule, output, recording),
-        Report::Evidence => evidence_text(alloc, output, recording),
+        Report::Evidence(carrier) => evidence_report(alloc, carrier, output, recording),
         Report::Tell => told_text(alloc, output, recording),
     }
 }
@@ -93,7 +91,7 @@ fn hits_text(alloc: Global, output: Output, recording: &Recording) -> Result<Str
     match output {
         Output::Text => text_of_hits(alloc, list.slice()),
         Output::Json => {
-            let hits = measured_hits(alloc, recording, list.slice())?;
+            let hits = measured_hits(alloc, list.slice())?;
             line_of(json_of_hits(alloc, &hits)?)
         }
     }
@@ -122,7 +120,7 @@ fn hits_of(alloc: Global, recording: &Recording) -> Result<HitList, AllocError>
     requires { IsRecording recording.now }
     ensures list { IfOk result (λ list. list ≡ all_hits recording.now) }
     ensures span { IfOk result (λ list. All IsInSpan list) }
-    ensures each { IfOk result (All (IsHitOf recording.now)) }
+    ensures small { IfOk result (λ list. All IsSmallHit list) }
 {
     let mut list = HitList::new(alloc)?;
     hits(recording, &mut list);
@@ -163,24 +161,47 @@ pub(crate) fn identity_of(recording: &Recording, hit: &Hit) -> IdentifiedHit
 
 // ---- evidence
 
-// The text of what supports each entry of the list of a recording.
-fn evidence_text(alloc: Global, output: Output, recording: &Recording) -> Result<String, AllocError>
-    ensures { IfOk result (λ text. IsTextOfEvidence output recording.now (string_bytes text)) }
-{
-    let (mut work, mut list) = room_for_list(alloc)?;
-    explain_clean(recording, &mut work, &mut list);
-    let told = evidence_of_list(alloc, recording, list.slice(), work.readings())?;
-    text_of_supports(alloc, output, &told)
-}
-
-// The text of what supports the entries of a list.
-fn text_of_supports(alloc: Global, output: Output, told: &[Evidence]) -> Result<String, AllocError>
-    ensures { IfOk result (λ text. string_bytes text ≡ supports_text output told.now) }
+// The text of what supports each entry of the list of a carrier in a recording.
+fn evidence_report(
+    alloc: Global,
+    carrier: Carrier,
+    output: Output,
+    recording: &Recording,
+) -> Result<String, AllocError>
+    ensures { IfOk result (λ text. IsEvidence carrier output recording.now (string_bytes text)) }
 {
     match output {
-        Output::Text => text_of_evidence(alloc, told),
-        Output::Json => line_of(json_of_evidence(alloc, told)?),
+        Output::Text => evidence_text(alloc, carrier, recording),
+        Output::Json => line_of(evidence_json(alloc, carrier, recording)?),
     }
+}
+
+// Its lines.
+fn evidence_text(
+    alloc: Global,
+    carrier: Carrier,
+    recording: &Recording,
+) -> Result<String, AllocError>
+    ensures { IfOk result (λ text. IsEvidenceText carrier recording.now (string_bytes text)) }
+{
+    let (mut work, mut list) = room_for_list(alloc)?;
+    read_list(recording, carrier, &mut work, &mut list);
+    let told = evidence_of_list(alloc, recording, carrier, list.slice(), work.readings())?;
+    text_of_evidence(alloc, &told)
+}
+
+// Its JSON, which has what the slots of the entries show too.
+fn evidence_json(
+    alloc: Global,
+    carrier: Carrier,
+    recording: &Recording,
+) -> Result<String, AllocError>
+    ensures { IfOk result (λ text. IsEvidenceJson carrier recording.now (string_bytes text)) }
+{
+    let (mut work, mut list) = room_for_list(alloc)?;
+    read_list(recording, carrier, &mut work, &mut list);
+    let shown = support_of_list(alloc, recording, carrier, list.slice(), work.readings())?;
+    json_of_evidence(alloc, &shown)
 }
 
 // ---- the frequency offset

@@ -1,21 +1,19 @@
 //! The lists of a recording by every rule.
 
 ghost use Rattle.std.specs.Prelude.{◌≡◌, IfOk, string_bytes};
+ghost use Rattle.std.specs.List.{AllZip};
 ghost use Rattle.sample_file.specs.Recording.{IsRecording};
-ghost use Rattle.clean_air.specs.Clean.{IsListOfCells};
-ghost use Rattle.lte_top.specs.Searching.{IsListOfTwo, IsListOfLong, IsListOf, IsListText, IsTextOfAll, IsCancelled, IsSearch, list_text as text_of, lists_text as texts_of};
+ghost use Rattle.explain.specs.Readings.{IsReadingFor};
+ghost use Rattle.lte_top.specs.Searching.{receiver_of, IsListOf, IsListText, IsTextOfAll, IsCancelled, IsSearch, list_text as text_of, lists_text as texts_of};
 
 use crate::form::{Output, Rule};
 use crate::reporting::line_of;
-use clean_air::explain_clean;
 use explain::{EntryList, Workspace};
-use long_prefix::Workspace3;
 use lte_types::{Carrier, Entry};
 use report::{json, json_of_all, text, text_of_all};
 use rounds::{cancel_json, cancel_text};
 use sample_file::Recording;
 use std::alloc::{AllocError, Global};
-use two_ports::Workspace2;
 
 // The text of the list of a recording by a rule.
 pub(crate) fn search_text(
@@ -67,47 +65,33 @@ pub(crate) fn list_of(
 ) -> Result<EntryList, AllocError>
     ensures { IfOk result (IsListOf carrier recording.now) }
 {
-    match carrier {
-        Carrier::OnePort => list_of_one(alloc, recording),
-        Carrier::TwoPorts => list_of_two(alloc, recording),
-        Carrier::LongPrefix => list_of_long(alloc, recording),
-    }
-}
-
-// That of the cells with one antenna port.
-fn list_of_one(alloc: Global, recording: &Recording) -> Result<EntryList, AllocError>
-    ensures { IfOk result (IsListOfCells recording.now) }
-{
     let (mut work, mut list) = room_for_list(alloc)?;
-    explain_clean(recording, &mut work, &mut list);
+    read_list(recording, carrier, &mut work, &mut list);
     Ok(list)
 }
 
-// The memory of that list and of the search for it.
+// The memory of a list and of the search for it.
 pub(crate) fn room_for_list(alloc: Global) -> Result<(Workspace, EntryList), AllocError> {
     let work = Workspace::new(alloc)?;
     let list = EntryList::new(alloc)?;
     Ok((work, list))
 }
 
-// That of the cells with two antenna ports.
-fn list_of_two(alloc: Global, recording: &Recording) -> Result<EntryList, AllocError>
-    ensures { IfOk result (IsListOfTwo recording.now) }
+// Makes the list of the cells of a carrier in a recording, and keeps how each entry was read.
+pub(crate) fn read_list(
+    recording: &Recording,
+    carrier: Carrier,
+    work: &mut Workspace,
+    list: &mut EntryList,
+)
+    ensures list { IsListOf carrier recording.now list.new }
+    ensures readings { AllZip (IsReadingFor (receiver_of carrier) recording.now) list.new work.new }
 {
-    let mut work = Workspace2::new(alloc)?;
-    let mut list = EntryList::new(alloc)?;
-    two_ports::explain_clean(recording, &mut work, &mut list);
-    Ok(list)
-}
-
-// That of the cells with the extended prefix.
-fn list_of_long(alloc: Global, recording: &Recording) -> Result<EntryList, AllocError>
-    ensures { IfOk result (IsListOfLong recording.now) }
-{
-    let mut work = Workspace3::new(alloc)?;
-    let mut list = EntryList::new(alloc)?;
-    long_prefix::explain_clean(recording, &mut work, &mut list);
-    Ok(list)
+    match carrier {
+        Carrier::OnePort => clean_air::explain_clean(recording, work, list),
+        Carrier::TwoPorts => two_ports::explain_clean(recording, work, list),
+        Carrier::LongPrefix => long_prefix::explain_clean(recording, work, list),
+    }
 }
 
 // ---- further rules

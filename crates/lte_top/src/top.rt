@@ -106,13 +106,13 @@ fn run_form<S: Source, K: Sink>(
             let text = report_text(alloc, report, output, samples, source)?;
             write_output(sink, text.as_bytes())
         }
-        Form::Certify(samples) => certify_recording(alloc, samples, source, sink),
+        Form::Certify(carrier, samples) => certify_recording(alloc, carrier, samples, source, sink),
         Form::Check => {
             let text = answers_text(alloc, source)?;
             write_output(sink, text.as_bytes())
         }
-        Form::Transmit => {
-            let bytes = transmitted_bytes(alloc, source)?;
+        Form::Transmit(carrier, load) => {
+            let bytes = transmitted_bytes(alloc, carrier, load, source)?;
             write_output(sink, &bytes)
         }
         Form::Make(carrier, n) => {
