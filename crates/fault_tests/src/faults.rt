@@ -2,7 +2,7 @@
 
 use crate::forms::{
     APPLYING, AS_JSON, BY_OTHER_RULES, BY_OTHER_RULES_AND_WORDS, CANCELLING, Form, OF_8_BITS,
-    OF_8_BITS_AS_JSON, OF_ALL, OTHERS, PAGES, REPORTS, TELLING,
+    OF_8_BITS_AS_JSON, OF_ALL, OF_LISTS_BY_OTHER_RULES, OTHERS, PAGES, REPORTS, SENDING, TELLING,
 };
 use crate::inputs::{Input, bytes_of, recording};
 use cs_outside::{FailSink, FailSource, MemSource, StdSink, StdSource};
@@ -185,6 +185,13 @@ fn each_call_of_lists_by_other_rules_and_words_that_fails_is_a_fault(
 }
 
 #[test]
+fn each_call_of_what_is_told_of_lists_by_other_rules_that_fails_is_a_fault(
+    rt: HostRuntime,
+) -> Result<(), Fail> {
+    fail_each(&rt, rt.alloc(), Program::Receiver, &OF_LISTS_BY_OTHER_RULES)
+}
+
+#[test]
 fn each_call_of_lists_of_what_is_left_that_fails_is_a_fault(rt: HostRuntime) -> Result<(), Fail> {
     fail_each(&rt, rt.alloc(), Program::Receiver, &CANCELLING)
 }
@@ -192,6 +199,11 @@ fn each_call_of_lists_of_what_is_left_that_fails_is_a_fault(rt: HostRuntime) -> 
 #[test]
 fn each_call_of_lists_of_every_carrier_that_fails_is_a_fault(rt: HostRuntime) -> Result<(), Fail> {
     fail_each(&rt, rt.alloc(), Program::Receiver, &OF_ALL)
+}
+
+#[test]
+fn each_call_of_forms_that_send_that_fails_is_a_fault(rt: HostRuntime) -> Result<(), Fail> {
+    fail_each(&rt, rt.alloc(), Program::Receiver, &SENDING)
 }
 
 #[test]

@@ -56,6 +56,16 @@ pub const BY_OTHER_RULES_AND_WORDS: [Form; 6] = [
     ("search --prefix long --json --format cu8", Input::Cell8),
 ];
 
+/// What supports the entries of lists by other rules, and their certificates.
+pub const OF_LISTS_BY_OTHER_RULES: [Form; 6] = [
+    ("evidence --ports 2", Input::Cell16),
+    ("evidence --prefix long", Input::Cell16),
+    ("evidence --ports 2 --json", Input::TwoPorts),
+    ("evidence --prefix long --json --format cu8", Input::Cell8),
+    ("certify --ports 2", Input::TwoPorts),
+    ("certify --prefix long", Input::LongPrefix),
+];
+
 /// The lists of what is left where a cell is taken off.
 pub const CANCELLING: [Form; 4] = [
     ("search --cancel", Input::Cell16),
@@ -91,11 +101,19 @@ pub const APPLYING: [Form; 4] = [
 /// The pages of each program.
 pub const PAGES: [Form; 2] = [("help", Input::Nothing), ("version", Input::Nothing)];
 
+/// The descriptions that are sent.
+pub const SENDING: [Form; 5] = [
+    ("transmit", Input::Description),
+    ("transmit --load 7", Input::Description),
+    ("transmit --ports 2", Input::TwoPortsDescription),
+    ("transmit --ports 2 --load 7", Input::TwoPortsDescription),
+    ("transmit --prefix long", Input::Description),
+];
+
 /// The other forms.
-pub const OTHERS: [Form; 5] = [
+pub const OTHERS: [Form; 4] = [
     ("certify", Input::Cell16),
     ("check", Input::ZeroCertificate),
     ("check", Input::Certificates),
-    ("transmit", Input::Description),
     ("make 0", Input::Nothing),
 ];

@@ -3,7 +3,7 @@
 use lte_top::Status;
 use std::alloc::{AllocError, Global};
 use test_support::{certificate_of_zeros, description};
-use top_tests::{output_of, sent_by};
+use top_tests::{output_of, sent_by, with_long_prefix, with_two_ports};
 
 /// What a form reads.
 #[derive(Clone, Copy, Debug, PartialEq, Eq)]
@@ -14,8 +14,14 @@ pub enum Input {
     Cell16,
     /// The same of 8 bits.
     Cell8,
+    /// Recording 90 with two antenna ports, of samples of 16 bits.
+    TwoPorts,
+    /// Recording 90 with the extended prefix.
+    LongPrefix,
     /// The description of that cell.
     Description,
+    /// The same for two antenna ports.
+    TwoPortsDescription,
     /// The certificate of 120 zeros.
     ZeroCertificate,
     /// The certificates of the recording.
@@ -28,7 +34,12 @@ pub fn bytes_of(alloc: Global, input: Input) -> Result<Vec<u8>, AllocError> {
         Input::Nothing => Ok(Vec::new(alloc)),
         Input::Cell16 => recording(alloc),
         Input::Cell8 => recording_of_8_bits(alloc),
+        Input::TwoPorts => with_two_ports(alloc),
+        Input::LongPrefix => with_long_prefix(alloc),
         Input::Description => plain_description(alloc),
+        Input::TwoPortsDescription => description(alloc, ", \"gain2\": [0, 1]", "")?
+            .as_bytes()
+            .to_vec(alloc),
         Input::ZeroCertificate => certificate_of_zeros(alloc),
         Input::Certificates => Ok(output_of(alloc, "certify", recording(alloc)?)?.written),
     }

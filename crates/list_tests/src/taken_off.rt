@@ -3,7 +3,7 @@ ghost use Rattle.std.specs.Prelude.{◌≡◌, length};
 
 use crate::examples::cell_of;
 use cancel::{Subtracted, best_candidate_is_one, clean_gain_is_candidate, subtract};
-use cell_tx::{CellPlan, Port, port_sequence};
+use cell_tx::{CellPlan, Port, Sender, sequence};
 use cs_num::{Cpx, Sample, clamp_div};
 use lte_types::{Duration, Resource, Sfn, Timing};
 use sample_file::Recording;
@@ -73,7 +73,13 @@ fn add(
         im: gain.1,
     };
     let mut sent = silent(alloc, 57_600)?;
-    port_sequence(&cell, Port::Only, timing, &mut sent);
+    let sender = Sender {
+        cell: &cell,
+        port: Port::Only,
+        timing,
+        load: None,
+    };
+    sequence(&sender, &mut sent);
     for i in 0..57_600 {
         samples[i] = added(samples[i], sent[i], gain);
     }

@@ -4,7 +4,7 @@ ghost use Rattle.std.specs.Prelude.{◌≡◌, ◌*◌, ◌^◌, ◌<◌, All, I
 ghost use Rattle.cs_num.specs.Complex.{IsWithin};
 
 use capture_make::plan;
-use cell_tx::{Cell, CellPlan, Port, port_sequence};
+use cell_tx::{Cell, CellPlan, Port, Sender, sequence};
 use cs_num::{Cpx, Sample};
 use explain::EntryList;
 use lte_types::{CellId, Entry, Sfn, Sib1, Timing};
@@ -181,11 +181,16 @@ fn receive(samples: &mut [Sample], second: &[Sample])
     }
 }
 
-// A recording that begins with frame 512.
-fn from_512() -> Timing {
-    Timing {
-        sfn: Sfn::modulo(512),
-        offset: 0,
+// What a cell sends at a port, from frame 512 on.
+fn from_512<'a>(cell: &'a Cell, port: Port) -> Sender<'a> {
+    Sender {
+        cell,
+        port,
+        timing: Timing {
+            sfn: Sfn::modulo(512),
+            offset: 0,
+        },
+        load: None,
     }
 }
 
@@ -195,8 +200,8 @@ fn both_ports(alloc: Global, cell: &Cell) -> Result<Vec<Sample>, AllocError>
 {
     let mut samples = silent(alloc, 57_600)?;
     let mut second = silent(alloc, 57_600)?;
-    port_sequence(cell, Port::First, from_512(), &mut samples);
-    port_sequence(cell, Port::Second, from_512(), &mut second);
+    sequence(&from_512(cell, Port::First), &mut samples);
+    sequence(&from_512(cell, Port::Second), &mut second);
     receive(&mut samples, &second);
     Ok(samples)
 }

@@ -4,6 +4,8 @@
 #[cfg(test)]
 mod descriptions;
 #[cfg(test)]
+mod emissions;
+#[cfg(test)]
 mod made_recordings;
 #[cfg(test)]
 mod texts;

@@ -1,10 +1,10 @@
 // The numbers are those of a second program, `scripts/peers/second_two_ports.py`.
 use capture_make::plan;
-use cell_tx::{CellError, CellPlan};
+use cell_tx::{CellError, CellPlan, sum_is_clean};
 use lte_types::Sib1;
 use std::test::Fail;
 use test_support::{Summary, is_summed_up};
-use two_tx::{Cell2, TwoMade, made_is_clean, make, received_is_clean};
+use two_tx::{Cell2, TwoMade, made_is_clean, make};
 
 // The cell of a plan.
 fn cell_of(plan: CellPlan) -> Result<Cell2, CellError> {
@@ -76,7 +76,7 @@ fn is_made(made: &TwoMade, gains: [(i64, i64); 2], bound: i16, summary: &Summary
 #[test]
 fn the_first_recording(rt: HostRuntime) -> Result<(), Fail> {
     made_is_clean();
-    received_is_clean();
+    sum_is_clean();
     let summary = Summary {
         count: 192_000,
         front: [(-99, 131), (8, 51), (-8, -20), (-79, 8)],

@@ -1,7 +1,5 @@
-//! What several commands are run over: cells, as changes of the plain cell's description, many signals, and cells of
-//! other carriers.
+//! What several commands are run over: cells, as changes of the plain cell's description, and many signals.
 
-use sample_file::bytes_of;
 use std::alloc::{AllocError, Global};
 use test_support::{PRIMARY, put_signal, silence};
 
@@ -19,14 +17,4 @@ pub(crate) fn many_signals(alloc: Global) -> Result<Vec<u8>, AllocError> {
         put_signal(&mut bytes, 1000 + 400 * q, &PRIMARY);
     }
     Ok(bytes)
-}
-
-/// Recording number 90 with two antenna ports, of ten frames.
-pub(crate) fn with_two_ports(alloc: Global) -> Result<Vec<u8>, AllocError> {
-    bytes_of(alloc, two_tx::make(alloc, 90)?.recording.as_slice())
-}
-
-/// The same with the extended prefix.
-pub(crate) fn with_long_prefix(alloc: Global) -> Result<Vec<u8>, AllocError> {
-    bytes_of(alloc, long_prefix::make(alloc, 90)?.recording.as_slice())
 }

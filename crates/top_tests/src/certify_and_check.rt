@@ -2,7 +2,10 @@
 
 ghost use Rattle.std.specs.Prelude.{◌+◌, ◌≤◌, ◌<◌, length};
 
-use crate::{Output, ROOM, command_line, gives, output_from, output_into, output_of};
+use crate::{
+    Output, ROOM, command_line, gives, output_from, output_into, output_of, with_long_prefix,
+    with_two_ports,
+};
 use cs_outside::{FailSink, FailSource, MemSource};
 use lte_top::{Program, Status};
 use sample_file::bytes_of;
@@ -195,10 +198,25 @@ fn a_wider_cell_is_certified(rt: HostRuntime) -> Result<(), Fail> {
             WIDE_LINES
         )?
     );
-    let certified = output_of(rt.alloc(), "certify", bytes)?;
-    assert!(rt; is_one_certificate(&certified));
-    let (certificate, text) = (certified.written, b"certificates 1\n0 yes\n");
-    assert!(rt; gives(rt.alloc(), "check", certificate, Status::Done, text)?);
+    assert!(rt; is_certified(rt.alloc(), "certify", bytes)?);
+    Ok(())
+}
+
+// Whether the cell of a recording is certified by a form of words, and `check` accepts what that writes.
+fn is_certified(alloc: Global, line: &str, bytes: Vec<u8>) -> Result<bool, AllocError> {
+    let certified = output_of(alloc, line, bytes)?;
+    if !is_one_certificate(&certified) {
+        return Ok(false);
+    }
+    let text = b"certificates 1\n0 yes\n";
+    gives(alloc, "check", certified.written, Status::Done, text)
+}
+
+#[test]
+fn cells_of_number_90_of_other_carriers_are_certified(rt: HostRuntime) -> Result<(), Fail> {
+    let alloc = rt.alloc();
+    assert!(rt; is_certified(alloc, "certify --ports 2", with_two_ports(alloc)?)?);
+    assert!(rt; is_certified(alloc, "certify --prefix long", with_long_prefix(alloc)?)?);
     Ok(())
 }
 

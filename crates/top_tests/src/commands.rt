@@ -132,6 +132,12 @@ pub fn gives_by(
     Ok(output_by(alloc, program, line, bytes)?.is(status, text))
 }
 
+/// What a command line comes to over the plain cell's description with this change.
+pub fn sent_with_words(alloc: Global, line: &str, change: &str) -> Result<Output, AllocError> {
+    let text = description(alloc, change, "")?;
+    output_of(alloc, line, text.as_bytes().to_vec(alloc)?)
+}
+
 /// What `transmit` comes to over the plain cell's description with this change, and its block with this one.
 pub fn sent_with(alloc: Global, change: &str, block: &str) -> Result<Output, AllocError> {
     let text = description(alloc, change, block)?;

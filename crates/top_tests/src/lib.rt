@@ -1,11 +1,13 @@
 //! Tests of the programs by command, over sources and sinks in memory, some of which fail on purpose.
 #![tactic(auto)]
 
+mod carriers;
 mod commands;
 
+pub use carriers::{with_long_prefix, with_two_ports};
 pub use commands::{
     Output, ROOM, command_line, gives, gives_by, is_no_form, output_by, output_from, output_into,
-    output_of, output_unread, sent_by, sent_with,
+    output_of, output_unread, sent_by, sent_with, sent_with_words,
 };
 
 #[cfg(test)]

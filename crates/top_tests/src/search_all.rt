@@ -1,8 +1,7 @@
 //! The command `search --all`. The texts are those of another program, `scripts/peers/second_forms.py`.
 
-use crate::cells::with_two_ports;
 use crate::lengths::refuse_lengths;
-use crate::{gives, sent_by};
+use crate::{gives, sent_by, with_two_ports};
 use lte_top::{Program, Status};
 use std::test::Fail;
 use test_support::silence;

@@ -1,8 +1,7 @@
 //! The command `search --prefix long`.
 
-use crate::cells::with_long_prefix;
-use crate::gives;
 use crate::lengths::refuse_lengths;
+use crate::{gives, with_long_prefix};
 use lte_top::{Program, Status};
 use std::test::Fail;
 use test_support::silence;

@@ -1,8 +1,7 @@
 //! The command `search --ports 2`.
 
-use crate::cells::with_two_ports;
-use crate::gives;
 use crate::lengths::refuse_lengths;
+use crate::{gives, with_two_ports};
 use lte_top::{Program, Status};
 use std::test::Fail;
 use test_support::silence;

@@ -1,11 +1,12 @@
-//! The command `transmit`, where it refuses descriptions; what it sends is looked at by the other commands.
+//! The command `transmit`, where it refuses descriptions, and what is found of what it sends by each carrier. The lists
+//! are those of second programs: of `scripts/peers/second_search.py` over what `scripts/peers/second_cell.py` sends.
 
-use crate::{Output, gives, output_of, sent_by};
+use crate::{Output, gives, output_of, sent_by, sent_with_words};
 use cell_tx::CellError;
 use lte_top::Status;
 use std::alloc::{AllocError, Global};
 use std::test::Fail;
-use test_support::description;
+use test_support::{PLAIN_REPORT, description};
 
 // Whether a description is refused for this cause, and nothing is sent.
 fn is_refused(sent: &Output, cause: CellError) -> bool {
@@ -64,5 +65,87 @@ fn a_description_that_is_too_long(rt: HostRuntime) -> Result<(), Fail> {
             "{len} bytes"
         );
     }
+    Ok(())
+}
+
+// The gains of both antenna ports, in a change of the plain description.
+const TWO_GAINS: &str = r#", "gain": [9, -5], "gain2": [-6, 8]"#;
+
+// The plain cell with two antenna ports, as `search --ports 2` writes it.
+const TWO_PORTS_REPORT: &str = "cells 1
+cell 0 at 0 sfn 0 ports 2 n6 phich normal one br 0 spare 0
+sib1 tac 1 cell 1 open allowed csg 0 - rx -70 offset - pmax - band 1 window ms1 tag 0 tdd - extension 0
+plmn 001 01 free
+si rf8 -
+";
+
+// With the extended prefix, as `search --prefix long` writes it.
+const LONG_PREFIX_REPORT: &str = "cells 1
+cell 0 at 0 sfn 0 ports 1 n6 phich normal one br 0 spare 0
+sib1 none long-prefix
+";
+
+// Whether what is sent by these words, of the plain description with this change, has this list.
+fn is_found(
+    alloc: Global,
+    line: &str,
+    change: &str,
+    search: &str,
+    report: &str,
+) -> Result<bool, AllocError> {
+    let sent = sent_with_words(alloc, line, change)?;
+    gives(alloc, search, sent.written, Status::Done, report.as_bytes())
+}
+
+#[test]
+fn what_is_sent_is_found_by_the_same_rule(rt: HostRuntime) -> Result<(), Fail> {
+    for (line, change, search, report) in [
+        ("transmit --load 7", "", "search", PLAIN_REPORT),
+        (
+            "transmit --ports 2",
+            TWO_GAINS,
+            "search --ports 2",
+            TWO_PORTS_REPORT,
+        ),
+        (
+            "transmit --ports 2 --load 7",
+            TWO_GAINS,
+            "search --ports 2",
+            TWO_PORTS_REPORT,
+        ),
+        (
+            "transmit --prefix long",
+            "",
+            "search --prefix long",
+            LONG_PREFIX_REPORT,
+        ),
+        (
+            "transmit --prefix long --load 7",
+            "",
+            "search --prefix long",
+            LONG_PREFIX_REPORT,
+        ),
+    ] {
+        assert!(rt;
+            is_found(rt.alloc(), line, change, search, report)?,
+            "{line}"
+        );
+    }
+    Ok(())
+}
+
+#[test]
+fn a_second_gain_is_of_two_ports_alone(rt: HostRuntime) -> Result<(), Fail> {
+    for (line, change) in [
+        ("transmit", TWO_GAINS),
+        ("transmit --prefix long", TWO_GAINS),
+        ("transmit --ports 2", ""),
+    ] {
+        let sent = sent_with_words(rt.alloc(), line, change)?;
+        assert!(rt; is_refused(&sent, CellError::Form), "{line}");
+    }
+    let greater = r#", "gain": [14, 14], "gain2": [1, 0]"#;
+    let sent = sent_with_words(rt.alloc(), "transmit --ports 2", greater)?;
+    assert!(rt; is_refused(&sent, CellError::Gain));
     Ok(())
 }
