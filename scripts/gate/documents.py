@@ -24,7 +24,7 @@ TOP = pathlib.Path(__file__).resolve().parent.parent.parent
 CRATES = TOP / "crates"
 PAGES = [*sorted(TOP.glob("*.md")), *sorted((TOP / "docs").glob("*.md")), *sorted((TOP / "scripts").glob("**/*.md"))]
 HISTORY = ("CHANGELOG.md",)
-OUTPUTS = ("hits", "ids", "search", "search_all", "search_cancel", "evidence", "tell")
+OUTPUTS = ("hits", "ids", "search", "search_all", "search_cancel", "evidence", "tell", "survey")
 WORD = re.compile(r"`([^`]+)`")
 PLACE = re.compile(
     r"(?:crates/)?(?:(?:(\w+)/)?(specs|src|proofs|must-fail|wrong)/)?([\w/]+\.(?:antt|rt|edit))(?::([\w']+))?"
@@ -157,7 +157,7 @@ def faults_of_numbers(line, may):
 def examples(text):
     """Pairs of a definition of the schema, by the words of the heading, and a line of JSON below that heading."""
     for section in re.split(r"^#+ ", text, flags=re.M):
-        heading = re.match(r"`([a-z -]+) --json`\n", section)
+        heading = re.match(r"`([a-z -]+)(?:\.py)? --json`\n", section)
         name = heading and heading[1].replace("--", "").replace(" ", "_")
         yield from ((name, one) for one in re.findall(r"^    ([\[{].*[\]}])$", section, re.M))
 

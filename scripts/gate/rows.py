@@ -23,6 +23,12 @@ TRANSMISSIONS = "crates/sent_tests/src/transmissions.rt"
 # the description of the test's table TURNED, with the text of the plain cell
 TURNED = dict(identity=503, sfn=1023, offset=19199, samples=57600, gain=[-11, 23], duration="extended", spare=677)
 TURNED |= dict(resource="oneSixth", cfi=3, start=1, blocks=5, mcs=2, column=3)
+# those of the tables of two ports and of the extended prefix
+EMISSIONS = "crates/sent_tests/src/emissions.rt"
+TWO_PORTS = dict(identity=302, sfn=1022, offset=9595, samples=57600, gain=[-9, 12], gain2=[4, 11], spare=341)
+TWO_PORTS |= dict(resource="two", mcs=5)
+LONG_PREFIX = dict(identity=167, sfn=511, offset=18000, samples=57600, gain=[5, -27], duration="extended", spare=1023)
+LONG_PREFIX |= dict(resource="half")
 
 
 def pressed(text):
@@ -142,13 +148,11 @@ def numbers_of(data):
     return [int.from_bytes(data[i : i + 2], "little", signed=True) for i in range(0, len(data), 2)]
 
 
-def table(name):
+def table(name, file=TRANSMISSIONS):
     """The samples of a recording at the places that the test's table of this name has."""
 
     def patterns(data):
-        rows = re.search(rf"const {name}: [^=]*= \[(.*?)\];", (TOP / TRANSMISSIONS).read_text(encoding="utf-8"), re.S)[
-            1
-        ]
+        rows = re.search(rf"const {name}: [^=]*= \[(.*?)\];", (TOP / file).read_text(encoding="utf-8"), re.S)[1]
         places = [int(place) for place in re.findall(r"\((\d+),", rows)]
         numbers = numbers_of(data)
         return [exactly(f"({i}, {numbers[2 * i]}, {numbers[2 * i + 1]})") for i in places]
@@ -156,13 +160,23 @@ def table(name):
     return patterns
 
 
+def sums_by_place(data):
+    """The sums of the real and of the imaginary components, each times its place modulo 997."""
+    numbers = numbers_of(data)
+    return tuple(sum(i % 997 * number for i, number in enumerate(numbers[first::2])) for first in (0, 1))
+
+
 def sums_of(name):
-    """The sums of the components, each times its place modulo 997, of the recording that the test calls so."""
+    """Those of the recording that the test calls so."""
+    return lambda data: [exactly(f"has_sums(&{name}, {sums_by_place(data)})")]
+
+
+def table_and_sums(name):
+    """The samples at the places of the table of this name, and those sums."""
 
     def patterns(data):
-        numbers = numbers_of(data)
-        re_, im = (sum(i % 997 * number for i, number in enumerate(numbers[first::2])) for first in (0, 1))
-        return [exactly(f"has_sums(&{name}, ({re_}, {im}))")]
+        sums = exactly(f"const {name}_SUMS: (i64, i64) = {sums_by_place(data)};")
+        return [*table(name, EMISSIONS)(data), sums]
 
     return patterns
 
@@ -210,12 +224,16 @@ PEERS = {
 }
 
 
+# words that the second programs have too
+FURTHER = r"(?: --ports 2| --prefix long| --load \d+)*"
+
+
 def shown(page):
     """The blocks of a page whose commands second programs can run: what they print has to stand there."""
     for block in re.findall(r"(?:^    .*\n)+", (TOP / page).read_text(encoding="utf-8"), re.M):
         script = "\n".join(re.findall(r"^    \$ (.*)", block, re.M))
         for words, peer in PEERS.items():
-            script = re.sub(rf"\b{words}(?= [<|]| scripts|$)", peer, script, flags=re.M)
+            script = re.sub(rf"\b{words}({FURTHER})(?= [<|]| scripts|$)", peer + r"\1", script, flags=re.M)
         if script and "lte_" not in re.sub(r"crates/\S+", "", script):
             yield Look(page, ROOM + script, lines_together)
 
@@ -237,9 +255,13 @@ PLAIN_FORMS = (
 )
 TWO_PORTS_FORMS = (
     ("search --ports 2 --json", TESTS + "search_two_ports.rt"),
+    ("evidence --ports 2 --json", TESTS + "evidence_of_cells.rt"),
     ("search --all --json", TESTS + "search_all.rt"),
 )
-LONG_PREFIX_FORMS = (("search --prefix long --json", TESTS + "search_long_prefix.rt"),)
+LONG_PREFIX_FORMS = (
+    ("search --prefix long --json", TESTS + "search_long_prefix.rt"),
+    ("evidence --prefix long --json", TESTS + "evidence_of_cells.rt"),
+)
 SHOWN_FORMS = ("hits --json", "ids --json", "evidence --json", "search --cancel --json", "search --all")
 CHANCE = "$PY peers/second_cell.py < examples/chance_line.json | $PY peers/second_evidence.py"
 # by hand
@@ -273,6 +295,11 @@ LOOKS = [
         lines_together,
         described(),
     ),
+    *(
+        Look(file, f"$PY peers/{peer}.py 90 | $PY peers/second_evidence.py {carrier}", lines_together)
+        for peer, carrier in (("second_two_ports", "--ports 2"), ("second_long_prefix", "--prefix long"))
+        for file in ("crates/top_tests/src/evidence_of_cells.rt", "docs/FORMATS.md")
+    ),
     Look("crates/list_tests/src/two_antenna_ports.rt", "$PY peers/second_pairs.py", pairs),
     Look(TRANSMISSIONS, "$PY peers/second_cell.py", table("ROW"), described(), False),
     Look(TRANSMISSIONS, "$PY peers/second_cell.py", table("TURNED"), described(**TURNED), False),
@@ -293,6 +320,17 @@ LOOKS = [
         b"",
         False,
     ),
+]
+SENT_FORMS = (
+    ("LOADED", TURNED, "--load 4294967295"),
+    ("TWO_PORTS", TWO_PORTS, "--ports 2"),
+    ("LOADED_TWO_PORTS", TWO_PORTS, "--ports 2 --load 7"),
+    ("LONG_PREFIX", LONG_PREFIX, "--prefix long"),
+    ("LOADED_LONG_PREFIX", LONG_PREFIX, "--prefix long --load 2863311530"),
+)
+LOOKS += [
+    Look(EMISSIONS, f"$PY peers/second_cell.py {words}", table_and_sums(name), described(**keys), False)
+    for name, keys, words in SENT_FORMS
 ]
 LOOKS += [*shown("README.md"), *shown("docs/FORMATS.md")]
 LOOKS += of_forms("$PY peers/second_cell.py < examples/plain_cell.json", PLAIN_FORMS)

@@ -1,17 +1,20 @@
 #!/usr/bin/python3
-"""second_cell.py < DESCRIPTION > RECORDING
+"""second_cell.py [--ports 2 | --prefix long] [--load N] < DESCRIPTION > RECORDING
 
-A second transmitter: whole frames of a cell of 6 resource blocks with one antenna port, in the form of a recording
-(docs/FORMATS.md). Reference and synchronisation signals and PBCH; where `sib1` is described, PCFICH in every subframe,
-and in subframe 5 of frames of even number PDCCH and PDSCH with SystemInformationBlockType1. Tables and sequences are
-those of second_search.py; what codes, maps and sends stands here, from TS 36.211, 36.212, 36.213 and 36.331.
+A second transmitter: whole frames of a cell of 6 resource blocks, in the form of a recording (docs/FORMATS.md).
+Reference and synchronisation signals and PBCH; where `sib1` is described, PCFICH in every subframe, and in subframe 5
+of frames of even number PDCCH and PDSCH with SystemInformationBlockType1. With --ports 2 there are two antenna ports
+with transmit diversity, each with a gain of its own; with --prefix long the cyclic prefix is extended, and no system
+information is sent. With --load N, of 32 bits, there are points of QPSK at the places that the plan leaves open. Tables
+and sequences are those of second_search.py; what codes, maps and sends stands here, from TS 36.211, 36.212, 36.213 and
+36.331.
 
-The description is JSON: the keys of `transmit`, then, all or none, `cfi`, `start`, `blocks`, `mcs`, `column` and
-`sib1`. Of a key that is written twice the last value stands. For trials there are `control` (21 bits, sent in place of
-the grant), `block` (a transport block in hexadecimal, in place of the text), `noise` (the greatest error of a
-component, drawn by the identity) and `load` (the greatest size of the elements, 1 to 256, that are sent where the cell
-sends nothing that is read, but not beside the synchronisation signals, as the traffic of a live cell; drawn by the
-identity and the frame's number). In Bash:
+The description is JSON: the keys of `transmit`, with two ports `gain2` too, then, all or none, `cfi`, `start`,
+`blocks`, `mcs`, `column` and `sib1`. Of a key that is written twice the last value stands. For trials there are
+`control` (21 bits, sent in place of the grant), `block` (a transport block in hexadecimal, in place of the text),
+`noise` (the greatest error of a component, drawn by the identity) and `traffic` (the greatest size of the elements, 1
+to 256, that are sent where the cell sends nothing that is read, but not beside the synchronisation signals, as the
+traffic of a live cell; drawn by the identity, the frame's number and the port). In Bash:
 
     D='"identity": 0, "sfn": 0, "offset": 0, "samples": 57600, "gain": [20, 9],
        "duration": "normal", "resource": "one", "spare": 0, "cfi": 2, "start": 0, "blocks": 6, "mcs": 4, "column": 2,
@@ -25,12 +28,15 @@ identity and the frame's number). In Bash:
     # another identity and PHICH, and a frame of odd number at the start
     scripts/peers/second_cell.py <<< "{$D, \"identity\": 301, \"sfn\": 1022, \"offset\": 7000, \"cfi\": 3, \"mcs\": 5,
                                 \"column\": 3, \"duration\": \"extended\", \"resource\": \"two\"}"
+    # two ports, and every open place taken
+    scripts/peers/second_cell.py --ports 2 --load 7 <<< "{$D, \"gain\": [8, 7], \"gain2\": [7, -7]}"
     # refused: another size is granted than is sent, not-decoded; a digit of 11, bad-fields 10
     scripts/peers/second_cell.py <<< "{$D, \"control\": \"100101100101000000000\"}"
     scripts/peers/second_cell.py <<< "{$D, \"block\": \"406c04030001000000180000000000\"}"
 
 Debian: python3-numpy.
 """
+import argparse
 import json
 import random
 import sys
@@ -152,7 +158,7 @@ def text(s):
     return bits + bits_of(WINDOWS.index(s["window"]), 3) + bits_of(s["tag"], 5)
 
 
-# ---- the grid of a frame: 140 symbols of 72 elements, pairs of real and imaginary part
+# ---- the grid of a frame: its symbols of 72 elements, pairs of real and imaginary part
 
 
 def points(bits, c_init):
@@ -170,18 +176,22 @@ def drawn(size, count, *seed):
 
 
 class Frame:
+    """What the one antenna port of a cell sends in a frame, with the normal cyclic prefix."""
+
+    SYMBOLS, PREFIXES = 7, (10, 9, 9, 9, 9, 9, 9)  # of a slot
+    N_CP = 1  # of its reference signals (TS 36.211 section 6.10.1.1)
+    BLOCK, KEPT = 1920, (0, 1)  # bits of PBCH, and its symbols in which reference places of four ports are kept
     MASK = 0  # of the master block's check, with one antenna port (TS 36.212 section 5.3.1.1)
-    port = 0
+    HAS_CONTROL = True
+    port, gain_key = 0, "gain"
 
     def __init__(self, cell, sfn):
         self.cell, self.sfn, self.identity = cell, sfn, cell["identity"]
-        self.grid = np.zeros((140, 72, 2), np.int64)
-        self.taken = np.zeros((140, 72), bool)
+        self.grid = np.zeros((20 * self.SYMBOLS, 72, 2), np.int64)
+        self.taken = np.zeros((20 * self.SYMBOLS, 72), bool)
         for slot in range(20):
-            for l in (0, 4):
-                shift = ((3 if l else 0) + self.identity) % 6
-                for m, value in enumerate(reference(self.identity, slot, l)):
-                    self.put([(7 * slot + l, 6 * m + shift)], [value])
+            for l, v in ((0, 0), (self.SYMBOLS - 3, 3)):
+                self.references(slot, l, v)
 
     def put(self, places, values):
         for (l, k), value in zip(places, values):
@@ -191,20 +201,28 @@ class Frame:
         """The points of a channel: with one antenna port they are sent as they are."""
         self.put(places, values)
 
+    def put_references(self, slot, l, v, values):
+        """TS 36.211 section 6.10.1.2."""
+        self.put([(self.SYMBOLS * slot + l, 6 * m + (v + self.identity) % 6) for m in range(12)], values)
+
+    def references(self, slot, l, v):
+        self.put_references(slot, l, v, reference(self.identity, slot, l, self.N_CP))
+
     def synchronisation(self):
         n1, n2 = divmod(self.identity, 3)
         for half, slot in ((0, 0), (5, 10)):
-            self.put([(7 * slot + 6, k) for k in range(5, 67)], primary(n2))
-            self.put([(7 * slot + 5, k) for k in range(5, 67)], [(127 * s, 0) for s in secondary(n1, n2, half)])
+            last = self.SYMBOLS * (slot + 1) - 1
+            self.put([(last, k) for k in range(5, 67)], primary(n2))
+            self.put([(last - 1, k) for k in range(5, 67)], [(127 * s, 0) for s in secondary(n1, n2, half)])
 
     def broadcast(self):
-        """TS 36.211 section 6.6: as if there were four antenna ports, a third of symbols 0 and 1 is left out."""
-        cell = self.cell
+        """TS 36.211 section 6.6: as if there were four antenna ports, a third of some symbols is left out."""
+        cell, count = self.cell, self.BLOCK // 8
         bits = [0, 0, 0, DURATIONS.index(cell["duration"])] + bits_of(RESOURCES.index(cell["resource"]), 2)
         bits += bits_of(self.sfn // 4, 8) + bits_of(cell["spare"], 10)
-        sent = points(convolutional(with_check(bits, 16, 0x11021, self.MASK), 1920), self.identity)
-        places = [(7 + l, k) for l in range(4) for k in range(72) if l > 1 or (k - self.identity) % 3]
-        self.send(places, sent[240 * (self.sfn % 4) :][:240])
+        sent = points(convolutional(with_check(bits, 16, 0x11021, self.MASK), self.BLOCK), self.identity)
+        rows = [(l, k) for l in range(4) for k in range(72) if l not in self.KEPT or (k - self.identity) % 3]
+        self.send([(self.SYMBOLS + l, k) for l, k in rows], sent[count * (self.sfn % 4) :][:count])
 
     def groups(self, l):
         """The places of each group of a symbol of a subframe's control region (TS 36.211 section 6.2.4)."""
@@ -257,42 +275,113 @@ class Frame:
         ]
         self.send(places, points(turbo(block, rv, 2 * len(places)), 65535 * 2**14 + 5 * 2**9 + self.identity))
 
-    def load(self, indicator_groups):
-        """Any elements where nothing is sent that is read; beside the synchronisation signals there are none."""
+    def open_places(self):
+        """Where nothing is sent; beside the synchronisation signals there are none."""
         is_open = ~self.taken
         for slot in (0, 10):
-            is_open[7 * slot + 5 : 7 * slot + 7] = False
+            last = self.SYMBOLS * (slot + 1) - 1
+            is_open[last - 1 : last + 1] = False
+        return is_open
+
+    def load(self, number):
+        """QPSK of a number at the open places, by a sequence of each port and subframe whose bits are the pairs of all
+        places of the subframe, symbol by symbol."""
+        is_open, rows = self.open_places(), 2 * self.SYMBOLS
+        for subframe in range(10):
+            c_init = (40_960 * number + 10_240 * self.port + 10 * self.sfn + subframe) % 2**31
+            values = np.array(points([0] * (2 * 72 * rows), c_init)).reshape(rows, 72, 2)
+            here = slice(rows * subframe, rows * (subframe + 1))
+            self.grid[here][is_open[here]] = values[is_open[here]]
+
+    def traffic(self, size, indicator_groups):
+        """Any elements where nothing is sent that is read."""
+        is_open = self.open_places()
         for subframe, mine in enumerate(indicator_groups):
             if (subframe, self.sfn % 2) != (5, 0):
                 is_open[14 * subframe, [k for n in mine for k in self.groups(0)[n]]] = True
-        self.grid[is_open] = drawn(self.cell["load"], is_open.sum(), self.identity, self.sfn, self.port)
+        self.grid[is_open] = drawn(size, is_open.sum(), self.identity, self.sfn, self.port)
 
     def samples(self):
         self.synchronisation()
         self.broadcast()
         taken = []
-        if "sib1" in self.cell:
+        if self.HAS_CONTROL and "sib1" in self.cell:
             taken = [self.indicator(subframe) for subframe in range(10)]
             if self.sfn % 2 == 0:
                 self.system_information(taken[5])
         if "load" in self.cell:
-            self.load(taken)
-        (re, im), (a, b) = np.moveaxis(self.grid, 2, 0), self.cell["gain"]
+            self.load(self.cell["load"])
+        if "traffic" in self.cell:
+            self.traffic(self.cell["traffic"], taken)
+        (re, im), (a, b) = np.moveaxis(self.grid, 2, 0), self.cell[self.gain_key]
         wave = np.stack([rounded(re @ W_REAL - im @ W_IMAG, 17), rounded(re @ W_IMAG + im @ W_REAL, 17)], 2)
-        parts = [part for i, symbol in enumerate(wave) for part in (symbol[-9 if i % 7 else -10 :], symbol)]
-        x, y = np.concatenate(parts).T
+        prefixes = [symbol[-self.PREFIXES[i % self.SYMBOLS] :] for i, symbol in enumerate(wave)]
+        x, y = np.concatenate([part for pair in zip(prefixes, wave) for part in pair]).T
         return np.stack([a * x - b * y, a * y + b * x], 1)
 
 
+class FirstFrame(Frame):
+    """What port 0 of two sends: nothing at the reference places of port 1, three subcarriers on."""
+
+    MASK = 0xFFFF
+
+    def references(self, slot, l, v):
+        super().references(slot, l, v + 3 * self.port)
+        self.put_references(slot, l, v + 3 - 3 * self.port, [(0, 0)] * 12)
+
+
+class SecondFrame(FirstFrame):
+    """What port 1 of two sends: transmit diversity (TS 36.211 sections 6.3.3.3 and 6.3.4.3) without its factor, and no
+    synchronisation signals."""
+
+    port, gain_key = 1, "gain2"
+
+    def send(self, places, values):
+        """Two by two: where port 0 has x and y, -conj y and conj x."""
+        for i in range(0, min(len(places), len(values)), 2):
+            (x_re, x_im), (y_re, y_im) = values[i], values[i + 1]
+            self.put(places[i : i + 2], [(-y_re, y_im), (x_re, -x_im)])
+
+    def synchronisation(self):
+        pass
+
+
+class LongFrame(Frame):
+    """With the extended cyclic prefix (TS 36.211 sections 6.6, 6.10.1, 6.11 and 6.12): no system information."""
+
+    SYMBOLS, PREFIXES = 6, (32,) * 6
+    N_CP = 0
+    BLOCK, KEPT = 1728, (0, 1, 3)
+    HAS_CONTROL = False
+
+
+# ---- recordings
+
+PORTS = {"one": (Frame,), "two": (FirstFrame, SecondFrame), "long": (LongFrame,)}
+
+
+def sent(cell, carrier="one"):
+    """The samples of a described cell: what its antenna ports send, added."""
+    numbers = [(cell["sfn"] + j) % 1024 for j in range(-(-(cell["offset"] + cell["samples"]) // 19_200))]
+    ports = [np.concatenate([frame(cell, sfn).samples() for sfn in numbers]) for frame in PORTS[carrier]]
+    return sum(ports)[cell["offset"] :][: cell["samples"]]
+
+
 def main():
+    words = argparse.ArgumentParser(usage=__doc__)
+    carrier = words.add_mutually_exclusive_group()
+    carrier.add_argument("--ports", choices=["2"])
+    carrier.add_argument("--prefix", choices=["long"])
+    words.add_argument("--load", type=int)
+    told = words.parse_args()
     cell = json.load(sys.stdin)
-    count = -(-(cell["offset"] + cell["samples"]) // 19_200)
-    frames = [Frame(cell, (cell["sfn"] + j) % 1024).samples() for j in range(count)]
-    sent = np.concatenate(frames)[cell["offset"] :][: cell["samples"]]
+    if told.load is not None:
+        cell["load"] = told.load
+    samples = sent(cell, "two" if told.ports else told.prefix or "one")
     if "noise" in cell:
         draw, bound = random.Random(cell["identity"]), cell["noise"]
-        sent = sent + np.array([draw.randint(-bound, bound) for _ in range(sent.size)]).reshape(sent.shape)
-    sys.stdout.buffer.write(np.clip(sent, -32_768, 32_767).astype("<i2").tobytes())
+        samples = samples + np.array([draw.randint(-bound, bound) for _ in range(samples.size)]).reshape(samples.shape)
+    sys.stdout.buffer.write(np.clip(samples, -32_768, 32_767).astype("<i2").tobytes())
 
 
 if __name__ == "__main__":

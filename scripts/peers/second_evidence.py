@@ -1,16 +1,19 @@
 #!/usr/bin/python3
-"""second_evidence.py < RECORDING
+"""second_evidence.py [--ports 2 | --prefix long] < RECORDING
 
-A second program for `lte_cli evidence`, written from rule 13 of docs/DEFINITION.md: it prints what that prints. Hits,
-identities, values, least words and the list are those of second_search.py, which shares nothing with the repository's
-code. Slow: seconds for each hit. Debian: python3-numpy.
+A second program for `lte_cli evidence`, written from rule 13 of docs/DEFINITION.md and what it says of it for the lists
+by other rules: it prints what that prints. Hits, identities, values, least words and the lists are those of
+second_search.py, which shares nothing with the repository's code. Slow: seconds for each hit. Debian: python3-numpy.
 """
 import sys
 
 from second_search import (
     FRAME,
+    ONE_PORT,
     PORTS,
+    RULES,
     added,
+    broadcast_values,
     coded_reading,
     crc,
     hits,
@@ -21,9 +24,7 @@ from second_search import (
     recording,
     reference,
     seen,
-    slot_values,
     times_conjugate,
-    values_at,
     wave,
 )
 
@@ -43,25 +44,22 @@ def thousandths(r, t, n2):
     return 1000 * c // (e * p)
 
 
-def sums(r, entry, frames, j, phase):
+def sums(r, entry, frames, j, phase, rule):
     """The 120 values of so many frames from frame j on, of which the first has this phase."""
     start, cell, *_ = entry
-    places = [(l, k) for l in range(4) for k in range(72) if l >= 2 or k % 3 != cell % 3]
-    sequence, total = pseudo_random(cell, 1920), [[0] * 3 for _ in range(40)]
-    for i in range(frames):
-        symbols = slot_values(r, start + FRAME * (j + i), cell, 1)
-        values = values_at(symbols, places, sequence[480 * (phase + i) :][:480])
-        total = [[a + b for a, b in zip(*rows)] for rows in zip(total, added(values, coded_reading(40)))]
-    return total
+    values = [value for i in range(frames) for value in broadcast_values(r, cell, start, j + i, rule)]
+    first, sequence = rule.size * phase, pseudo_random(cell, 1920)
+    plain = [-value if bit else value for value, bit in zip(values, sequence[first:])]
+    return added(plain, coded_reading(40), first)
 
 
-def read(r, entry):
+def read(r, entry, rule):
     """How many frames were added, the first of them, its phase, cost and total: the first that tell the entry."""
     start, cell, sfn, ports, block = entry[:5]
     for frames in range(1, 5):
         for j in range(min(8, (len(r) - start) // FRAME) - frames + 1):
             for phase in range(5 - frames):
-                values = sums(r, entry, frames, j, phase)
+                values = sums(r, entry, frames, j, phase, rule)
                 total, (cost, word) = sum(abs(value) for row in values for value in row), least(values)
                 told = PORTS.get(crc(word >> 16, 24) ^ word & 0xFFFF), word >> 16
                 if (
@@ -73,39 +71,55 @@ def read(r, entry):
     raise ValueError(entry)
 
 
-def pilots(r, entry, j):
-    """What was seen at the 24 reference places of slot 1, and the pilots, by subcarrier."""
+def pilots(r, entry, j, rule):
+    """Of each antenna port what was seen at the 24 reference places of slot 1, and the pilots, by subcarrier."""
     start, cell, *_ = entry
-    symbols = {l: seen(r, start + FRAME * j + 960 + 10 + 137 * l) for l in (0, 4)}
-    places = [(0 if k % 6 == cell % 6 else 4, k) for k in range(cell % 3, 72, 3)]
-    there = [tuple(int(x) for x in symbols[l][k]) for l, k in places]
-    return there, [times_conjugate(x, reference(cell, 1, l)[k // 6]) for x, (l, k) in zip(there, places)]
+    first, later = 0, rule.later
+    symbols = {l: seen(r, start + FRAME * j + 960 + rule.first + rule.step * l) for l in (first, later)}
+    found = []
+    for port in range(rule.ports):
+        places = [(first if k % 6 == (cell + 3 * port) % 6 else later, k) for k in range(cell % 3, 72, 3)]
+        there = [tuple(int(x) for x in symbols[l][k]) for l, k in places]
+        sent = [reference(cell, 1, l, rule.n_cp)[k // 6] for l, k in places]
+        found.append((there, [times_conjugate(x, value) for x, value in zip(there, sent)]))
+    return found
 
 
-def line(r, told, entry):
+def line(r, told, entry, rule):
     start, cell, sfn, *_ = entry
     t = min(t for t, place in told if place == (cell, start))
-    frames, j, phase, cost, total = read(r, entry)
-    there, sent = pilots(r, entry, j)
-    power = sum(a * a + b * b for a, b in there)
-    noise = sum((a - c) ** 2 + (b - d) ** 2 for (a, b), (c, d) in zip(sent, sent[1:])) // (2 * 16_200)
+    frames, j, phase, cost, total = read(r, entry, rule)
+    ports = pilots(r, entry, j, rule)
+    power = sum(a * a + b * b for there, _ in ports for a, b in there)
+    steps = [pair for _, its in ports for pair in zip(its, its[1:])]
+    noise = sum((a - c) ** 2 + (b - d) ** 2 for (a, b), (c, d) in steps) // (2 * 16_200)
     return (
         f"{cell} {start} {sfn} t {t} peak {thousandths(r, t, cell % 3)} cost {cost} total {total} "
         f"frames {frames} frame {j} phase {phase} power {power} noise {noise}"
     )
 
 
-def lines(r):
-    told = [(t, identity(r, t, n2)) for t, n2 in hits(r)]
-    cells = listed(r)
-    return [f"evidence {len(cells)}"] + [line(r, told, entry) for entry in cells]
+def lines(r, rule=ONE_PORT):
+    told = [(t, identity(r, t, n2, rule)) for t, n2 in hits(r) if t >= rule.step]
+    cells = listed(r, rule)
+    return [f"evidence {len(cells)}"] + [line(r, told, entry, rule) for entry in cells]
 
 
-def main():
-    print("\n".join(lines(recording())))
+def shown(r, entry, j, rule=ONE_PORT):
+    """What slot 1 of frame j of a cell shows: the pilots of each antenna port, and the pairs of values."""
+    start, cell, *_ = entry
+    values = broadcast_values(r, cell, start, j, rule)
+    return {
+        "channel": [[list(pilot) for pilot in its] for _, its in pilots(r, entry, j, rule)],
+        "values": [list(pair) for pair in zip(values[0::2], values[1::2])],
+    }
+
+
+def main(rule):
+    print("\n".join(lines(recording(), rule)))
 
 
 if __name__ == "__main__":
-    if sys.argv[1:]:
+    if tuple(sys.argv[1:]) not in RULES:
         sys.exit(__doc__)
-    main()
+    main(RULES[tuple(sys.argv[1:])])

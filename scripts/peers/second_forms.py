@@ -4,7 +4,8 @@
 A second program for what stands in docs/FORMATS.md for these words: it prints what `lte_cli` writes, and `lte_tune` for
 the last ones.
 
-    hits --json, ids --json, evidence --json
+    hits --json, ids --json
+    evidence [--ports 2 | --prefix long] --json
     search [--ports 2 | --prefix long | --cancel | --all] --json
     search --all
     tell --json
@@ -156,10 +157,14 @@ def of_cancel(r):
 # ---- evidence, and a turn
 
 
-def of_evidence(r):
-    rows = [line.split() for line in second_evidence.lines(r)[1:]]
-    names = ["identity", "at", "sfn"]
-    return [{name: int(word) for name, word in (*zip(names, row), *by_names(row[3:]).items())} for row in rows]
+def of_evidence(r, words):
+    rule, names = RULES[words], ("identity", "at", "sfn")
+    found = []
+    for entry, line in zip(listed(r, rule), second_evidence.lines(r, rule)[1:]):
+        row = line.split()
+        numbers = {name: int(word) for name, word in (*zip(names, row), *by_names(row[3:]).items())}
+        found.append(numbers | second_evidence.shown(r, entry, numbers["frame"], rule))
+    return found
 
 
 def of_tell(samples):
@@ -178,8 +183,11 @@ FORMS = {
     "ids --json": of_ids,
     "search --cancel --json": of_cancel,
     "search --all --json": of_all,
-    "evidence --json": of_evidence,
-    **{" ".join(["search", *words, "--json"]): functools.partial(of_search, words=words) for words in RULES},
+    **{
+        " ".join([command, *words, "--json"]): functools.partial(of, words=words)
+        for command, of in (("search", of_search), ("evidence", of_evidence))
+        for words in RULES
+    },
 }
 
 

@@ -15,7 +15,7 @@ import sys
 
 import numpy as np
 
-from second_cell import RESOURCES, WINDOWS, Frame
+from second_cell import RESOURCES, WINDOWS, sent
 
 MASK = 2**64 - 1
 
@@ -81,14 +81,17 @@ def bound(cell):
     return eps
 
 
-def recording(n):
-    cell = recipe(n)
-    count = -(-(cell["offset"] + cell["samples"]) // 19_200)
-    frames = [Frame(cell, (cell["sfn"] + j) % 1024).samples() for j in range(count)]
-    sent = np.concatenate(frames)[cell["offset"] :][: cell["samples"]]
-    words, eps = Pcg32(n, 1), bound(cell)
-    errors = [words.next_word() % (2 * eps + 1) - eps for _ in range(sent.size)]
-    return sent + np.array(errors).reshape(sent.shape)
+def with_errors(samples, n, eps):
+    """The samples with the errors of recording number n, each of at most eps."""
+    words = Pcg32(n, 1)
+    errors = [words.next_word() % (2 * eps + 1) - eps for _ in range(samples.size)]
+    return samples + np.array(errors).reshape(samples.shape)
+
+
+def recording(n, **keys):
+    """Recording number n; for trials with other values of keys."""
+    cell = {**recipe(n), **keys}
+    return with_errors(sent(cell), n, bound(cell))
 
 
 def main():

@@ -109,26 +109,33 @@ def wave(n2):
     return rounded((re * w - im * v).sum(0), 17), rounded((re * v + im * w).sum(0), 17)
 
 
-def hits(r):
-    """Pairs of place and N2."""
-    first = 128
-    windows = np.lib.stride_tricks.sliding_window_view(r[first : 19_346 + 127], 128, axis=0)
+FIRST = 128  # the place from which on metrics are compared
+
+
+def metrics(r):
+    """From that place on E, and by N2 the pair of P and C."""
+    windows = np.lib.stride_tricks.sliding_window_view(r[FIRST : 19_346 + 127], 128, axis=0)
     re, im = windows[:, 0], windows[:, 1]
     energy = [int(e) for e in (re * re + im * im).sum(1)]
+    waves = [wave(n2) for n2 in range(3)]
+    peaks = [[int(a) ** 2 + int(b) ** 2 for a, b in zip(re @ p + im @ q, im @ p - re @ q)] for p, q in waves]
+    return energy, [(int((p * p + q * q).sum()), peak) for (p, q), peak in zip(waves, peaks)]
+
+
+def hits(r):
+    """Pairs of place and N2."""
     found = []
-    for n2 in range(3):
-        p, q = wave(n2)
-        power = int((p * p + q * q).sum())
-        peak = [int(a) ** 2 + int(b) ** 2 for a, b in zip(re @ p + im @ q, im @ p - re @ q)]
+    energy, by_n2 = metrics(r)
+    for n2, (power, peak) in enumerate(by_n2):
 
         def rules_out(other, i):
             left, right = peak[other] * energy[i], peak[i] * energy[other]
             return energy[other] > 0 and (left > right or left == right and other < i)
 
-        for i in range(137 - first, 19_337 - first):
+        for i in range(137 - FIRST, 19_337 - FIRST):
             near = (u for u in range(i - 9, i + 10) if u != i)
             if energy[i] and 4 * peak[i] >= energy[i] * power and not any(rules_out(u, i) for u in near):
-                found.append((first + i, n2))
+                found.append((FIRST + i, n2))
     return sorted(found)
 
 

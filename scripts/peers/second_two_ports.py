@@ -1,10 +1,9 @@
 #!/usr/bin/python3
 """second_two_ports.py [-i] N [FIRST [COUNT]]
 
-A second maker of recordings by number with two antenna ports (docs/FORMATS.md): transmit diversity of TS 36.211
-sections 6.3.3.3 and 6.3.4.3 without its factor, over the codes and maps of second_cell.py and the recipe of
-second_make.py. It writes the recording to standard output. With -i it prints the gains, the bound, sums over all
-samples, and COUNT samples from sample FIRST on.
+A second maker of recordings by number with two antenna ports (docs/FORMATS.md): the transmitter of second_cell.py
+with two ports, and the recipe of second_make.py with two gains. It writes the recording to standard output. With -i it
+prints the gains, the bound, sums over all samples, and COUNT samples from sample FIRST on.
 
     scripts/peers/second_two_ports.py -i 7
 
@@ -14,37 +13,8 @@ import sys
 
 import numpy as np
 
-from second_cell import Frame
-from second_make import Pcg32, recipe
-from second_search import reference
-
-
-class PortFrame(Frame):
-    MASK = 0xFFFF
-
-    def __init__(self, cell, sfn, port):
-        self.cell, self.sfn, self.identity, self.port = {**cell, "gain": [1, 0]}, sfn, cell["identity"], port
-        self.grid = np.zeros((140, 72, 2), np.int64)
-        self.taken = np.zeros((140, 72), bool)
-        for slot in range(20):
-            for l in (0, 4):
-                for p in (0, 1):
-                    v = 0 if (p == 0) == (l == 0) else 3
-                    for m, value in enumerate(reference(self.identity, slot, l)):
-                        self.put([(7 * slot + l, 6 * m + (v + self.identity) % 6)], [value if p == port else (0, 0)])
-
-    def send(self, places, values):
-        """Two by two: (x, y) on the first port, (-conj y, conj x) on the second."""
-        if self.port == 0:
-            self.put(places, values)
-            return
-        for i in range(0, min(len(places), len(values)), 2):
-            (x_re, x_im), (y_re, y_im) = values[i], values[i + 1]
-            self.put(places[i : i + 2], [(-y_re, y_im), (x_re, -x_im)])
-
-    def synchronisation(self):
-        if self.port == 0:
-            super().synchronisation()
+from second_cell import sent
+from second_make import recipe, with_errors
 
 
 def gains(n):
@@ -59,25 +29,11 @@ def bound(n):
     return eps
 
 
-def sent(n, port):
-    """The samples of a port from the first frame's first sample on."""
-    cell = recipe(n)
-    count = -(-(cell["offset"] + cell["samples"]) // 19_200)
-    return np.concatenate([PortFrame(cell, (cell["sfn"] + j) % 1024, port).samples() for j in range(count)])
-
-
-def times(gain, samples):
-    (a, b), (x, y) = gain, samples.T
-    return np.stack([a * x - b * y, a * y + b * x], 1)
-
-
-def recording(n):
-    cell = recipe(n)
-    ports = [times(gain, sent(n, port)) for port, gain in enumerate(gains(n))]
-    clean = sum(ports)[cell["offset"] :][: cell["samples"]]
-    words, eps = Pcg32(n, 1), bound(n)
-    errors = [words.next_word() % (2 * eps + 1) - eps for _ in range(clean.size)]
-    return clean + np.array(errors).reshape(clean.shape)
+def recording(n, **keys):
+    """Recording number n; for trials with other values of keys."""
+    first, second = gains(n)
+    cell = {**recipe(n), "gain": first, "gain2": second, **keys}
+    return with_errors(sent(cell, "two"), n, bound(n))
 
 
 def main():

@@ -39,6 +39,7 @@ for samples in 57600 1920000; do
     head -c $((4 * samples)) /dev/zero > zeros.$samples
     noise $samples > noise.$samples
     describe 271 5000 $samples > cell.$samples.json
+    sed 's/"gain": \[14, 0\]/&, "gain2": [0, 14]/' cell.$samples.json > ports.$samples.json
     "$program" transmit < cell.$samples.json > cell.$samples
     describe 102 12345 $samples | "$program" transmit > further
     python3 "$scripts/tools/add_recordings.py" cell.$samples further > two.$samples
@@ -75,14 +76,20 @@ done
             echo "$command $recording 0 $what, ${recording#*.} samples"
         done
     done
-    for form in evidence {hits,ids,evidence}+--json search{,+--ports+2,+--prefix+long,+--cancel,+--all}+--json \
+    for form in evidence{,+--ports+2,+--prefix+long} {hits,ids,evidence}+--json search{,+--ports+2,+--prefix+long,+--cancel,+--all}+--json \
         search+{--ports+2,--prefix+long,--cancel,--all}; do
         echo "$form cell.57600 0 one cell, 57600 samples"
     done
     echo 'check certificate.{} 0 one certificate'
     echo 'check hundred.{} 0 100 certificates'
     echo 'check full.{} 0 as many certificates as are read'
-    echo 'transmit cell.57600.json 0 57600 samples'
-    echo 'transmit cell.1920000.json 0 1920000 samples'
+    for samples in 57600 1920000; do
+        for form in transmit{,+--prefix+long}{,+--load+7}; do
+            echo "$form cell.$samples.json 0 $samples samples"
+        done
+        for form in transmit+--ports+2{,+--load+7}; do
+            echo "$form ports.$samples.json 0 $samples samples"
+        done
+    done
 } > cases
 python3 "$scripts/trials/benchmark/measure.py" "$runs" "${programs[@]}" < cases

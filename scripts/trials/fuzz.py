@@ -108,7 +108,9 @@ def wanted_codes(given):
     if given.label == NONSENSE:
         return {2}
     command = given.words[0]
-    if command in CODES:
+    if command == "transmit" and not fuzz_inputs.is_sent(given.words):
+        codes = {2}
+    elif command in CODES:
         codes = CODES[command]
     elif command == "make":
         codes = {0} if given.words[2:] in fuzz_inputs.CARRIERS else {2}
@@ -217,7 +219,7 @@ class Inputs:
         if random.random() < 0.02:
             kind = random.choice(["recording", "description", "certificates"])
         if kind == "description":
-            data = fuzz_inputs.description(random, self.shown)
+            data = fuzz_inputs.description(random, self.shown, "--ports" in words)
         elif kind == "certificates":
             data = fuzz_inputs.certificates(random, self.certificates)
         else:

@@ -43,7 +43,7 @@ def spoiled(random, data):
 # ---- words
 
 RULES = (["--ports", "2"], ["--prefix", "long"], ["--cancel"], ["--all"])
-CARRIERS = ([], *RULES[:2])  # that `make` takes
+CARRIERS = ([], *RULES[:2])  # that `make`, `transmit`, `evidence` and `certify` take
 REPORTS = ("hits", "ids", "search", "evidence", "tell")  # that `--json` stands behind
 PAGES = ("help", "--help", "-h", "version", "--version")
 PAGE = "page"  # any of these
@@ -61,6 +61,8 @@ def words(random, command):
     if command == "make":
         number = str(random.choice([0, 90, 2**32 - 46, 90 * random.randrange(10**6)]))
         return ["make", number] + random.choices([[], *RULES], [70, 14, 14, 1, 1])[0]
+    if command == "transmit":
+        return ["transmit"] + random.choices([*CARRIERS, *RULES[2:]], [60, 20, 18, 1, 1])[0] + load_words(random)
     if command not in (*REPORTS, "certify", "apply"):
         return [command]
     front = [command]
@@ -69,6 +71,8 @@ def words(random, command):
         front += [turn] * (turn != "")
     elif command == "search" and random.random() < 0.35:
         front += random.choice(RULES)
+    elif command in ("evidence", "certify") and random.random() < 0.35:
+        front += random.choices(RULES, [48, 48, 2, 2])[0]
     json_words = ["--json"] if random.random() < (0.25 if command in REPORTS else 0.03) else []
     form = random.choices([[], ["--format", "cu8"], ["--format", "ci8"], ["--format"]], [80, 15, 2, 1])[0]
     behind = [json_words, form]
@@ -77,6 +81,22 @@ def words(random, command):
     if random.random() < 0.01:
         return [command] + json_words + front[1:] + form
     return front + sum(behind, [])
+
+
+def load_words(random):
+    """None, those of a load, or some that are nearly so."""
+    number = str(random.choice([0, 7, 2**31, 2**32 - 1, random.randrange(2**32)]))
+    bad = random.choice(["", "-1", "+1", "07", str(2**32), "1e3", "9" * 1000, "--load"])
+    near = [["--load"], ["--load", bad], ["--load", number, number], [number], ["--load", number, "--ports", "2"]]
+    return random.choices([[], ["--load", number], random.choice(near)], [50, 45, 5])[0]
+
+
+def is_sent(given):
+    """Whether these words of `transmit` are of a form."""
+    rest = given[1:]
+    if rest[-2:-1] == ["--load"] and re.fullmatch(r"0|[1-9][0-9]{0,9}", rest[-1]) and int(rest[-1]) < 2**32:
+        rest = rest[:-2]
+    return rest in CARRIERS
 
 
 def is_form(given):
@@ -88,13 +108,15 @@ def is_form(given):
         rest = rest[:-1]
     if command == "apply" and len(rest) == 1:
         return is_turn(rest[0])
-    return rest == [] or command == "search" and rest in RULES
+    return rest == [] or rest in {"search": RULES, "evidence": CARRIERS, "certify": CARRIERS}.get(command, ())
 
 
 def shown(given):
     """The words, with a letter for each number."""
     if given[0] == "make":
         return " ".join(["make N", *given[2:]])
+    if given[0] == "transmit":
+        return " ".join(["transmit", *("N" if word[:1].isdigit() and word != "2" else word for word in given[1:])])
     if given[0] == "apply" and given[1:] and not given[1].startswith("--"):
         return " ".join(["apply M", *given[2:]])
     return " ".join(given)
@@ -324,9 +346,21 @@ def long_text(random, text):
     return text[:-1] + b', "' + b"a" * count + b'": ' + b"1." + b"0" * count + b"}"
 
 
-def description(random, shown):
+def with_second_gain(random, value):
+    """The description for two antenna ports, mostly with gains that fit."""
+    pick = random.randrange
+    gains = {"gain": [pick(1, 11), pick(-9, 10)], "gain2": [pick(-10, 11), pick(-10, 11)]}
+    return {**value, **gains} if pick(10) else {**value, "gain2": [pick(30), pick(30)]}
+
+
+def description(random, shown, two=False):
+    """One, spoiled or not; `two` for that of two antenna ports, which one of the others may stand for."""
     chance = random.random()
     value = random.choice(shown) if random.random() < 0.5 else valid_description(random)
+    if random.random() < (0.9 if two else 0.03):
+        value = with_second_gain(random, value)
+    elif not two:
+        value = {key: value[key] for key in value if key != "gain2"}
     if chance < 0.5:
         return json.dumps(with_odd_value(random, value)).encode()
     text = json.dumps(value).encode()

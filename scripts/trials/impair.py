@@ -9,8 +9,9 @@ here is proved. The numbers are drawn with fixed seeds, so a second run prints t
 PROGRAM is lte_cli, and lte_tune stands where its path has that name in place of lte_cli.
 
 A cell is five frames that `transmit` sends, with nothing but signals, the broadcast channel, the control format
-indicator and system information; in a full carrier every other resource element has a random QPSK point. Es/N0 is the
-energy of an element by that of the noise in one. Debian: python3-numpy, python3-scipy.
+indicator and system information; a full carrier is sent with load (`--load N`), a QPSK point at every resource element
+that the cell leaves open. Es/N0 is the energy of an element by that of the noise in one. Debian: python3-numpy,
+python3-scipy.
 """
 import json
 import pathlib
@@ -52,8 +53,9 @@ class Sent:
             "resource": resource,
             "spare": spare,
         }
+        load = ["--load", str(draw.integers(2**32))] if full else []
         done = subprocess.run(
-            [program, "transmit"], input=json.dumps(plan).encode(), stdout=subprocess.PIPE, check=True
+            [program, "transmit", *load], input=json.dumps(plan).encode(), stdout=subprocess.PIPE, check=True
         )
         self.start = radio.FRAME - offset_in_frame
         self.line = (
@@ -61,8 +63,6 @@ class Sent:
         )
         self.half = identity % 3
         self.samples = radio.from_bytes(done.stdout)
-        if full:
-            self.samples = self.samples + GAIN * traffic(self.samples, offset_in_frame, draw)
 
     def is_line(self, words):
         """Whether the words after `cell` are this cell's."""
@@ -75,28 +75,6 @@ class Sent:
             n2 == self.half and min((t - self.start - 832) % 9_600, (self.start + 832 - t) % 9_600) <= NEAR
             for t, n2 in places
         )
-
-
-def traffic(x, offset_in_frame, draw):
-    """Random QPSK points at the resource elements that are empty in a sent recording, but for the symbols of the
-    synchronisation signals, in samples of gain 1."""
-    out = np.zeros(len(x), complex)
-    used = np.r_[1:37, 92:128]
-    for slot in range(len(x) // 960 + 2):
-        for symbol in range(7):
-            useful = (slot * 960 - offset_in_frame % 960) + 10 + 137 * symbol
-            in_frame = (useful + offset_in_frame) // 960 % 20
-            if useful < 10 or useful + 128 > len(x) or (in_frame % 10 == 0 and symbol in (5, 6)):
-                continue
-            seen = np.fft.fft(x[useful : useful + 128])[used]
-            points = draw.choice([-90, 90], (2, 72))
-            grid = np.zeros(128, complex)
-            grid[used] = np.where(np.abs(seen) < 8 * GAIN * TRANSFORM, points[0] + 1j * points[1], 0)
-            wave = TRANSFORM * np.fft.ifft(grid)
-            prefix = 10 if symbol == 0 else 9
-            out[useful - prefix : useful] = wave[-prefix:]
-            out[useful : useful + 128] = wave
-    return out
 
 
 # ---- what is done to a recording: each takes the samples and a generator

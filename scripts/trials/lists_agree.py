@@ -2,10 +2,11 @@
 """lists_agree.py [COUNT [SEED]]
 
 Holds the program's lists against those of second_search.py: COUNT (100) recordings each by one antenna port, by two and
-with the extended prefix, from the second makers, of a cell or of two at a time, with noise between none and more than a
-list can bear, so that frames are added, blocks are refused, and some lists are empty. Each recording is listed by all
-three rules. A test, no proof; it needs crates/lte_cli/out/lte_cli. Prints a line for each list that differs, and of each
-kind the lists that hold an entry, and those with an entry of added frames; the status is 0 where none differs.
+with the extended prefix, and as many of each with load, from the second makers, of a cell or of two at a time, with
+noise between none and more than a list can bear, so that frames are added, blocks are refused, and some lists are
+empty. Each recording is listed by all three rules. A test, no proof; it needs crates/lte_cli/out/lte_cli. Prints a line
+for each list that differs, and of each kind the lists that hold an entry, and those with an entry of added frames; the
+status is 0 where none differs.
 
 Debian: python3-numpy.
 """
@@ -28,13 +29,16 @@ MAKERS = {
     "two": second_two_ports.recording,
     "long": second_long_prefix.recording,
 }
+KINDS = [*MAKERS, *(f"{kind} with load" for kind in MAKERS)]
 RULES = ([], ["--ports", "2"], ["--prefix", "long"])
 
 
 def recording(kind, seed):
     """A recording, its components within 16 bits."""
-    draw = np.random.default_rng([seed, list(MAKERS).index(kind)])
-    samples = MAKERS[kind](int(draw.integers(2**32))).astype(float)
+    draw = np.random.default_rng([seed, KINDS.index(kind)])
+    number = int(draw.integers(2**32))
+    load = {} if kind in MAKERS else {"load": int(draw.integers(2**32))}
+    samples = MAKERS[kind.split()[0]](number, **load).astype(float)
     if draw.random() < 0.3:
         other = MAKERS[draw.choice(list(MAKERS))](int(draw.integers(2**32)))
         length = min(len(samples), len(other))
@@ -72,7 +76,7 @@ def pairs(line):
 def main(count=100, seed=1):
     failed = False
     with multiprocessing.Pool() as pool:
-        for kind in MAKERS:
+        for kind in KINDS:
             seeds = [(kind, number) for number in range(seed, seed + count)]
             found = pool.map(compared, seeds, chunksize=1)
             for (_, number), (differ, _, _) in zip(seeds, found):

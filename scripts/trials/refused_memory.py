@@ -44,13 +44,17 @@ def of_both(words, recording):
 def forms(program):
     """Words and a valid input of each form of lte_cli."""
     recording, description = CELL.read_bytes(), (HERE.parent / "examples/plain_cell.json").read_bytes()
+    two_ports = (HERE.parent / "examples/two_ports_cell.json").read_bytes()
     certificates = run(program, ["certify"], recording)[1]
-    for words in ("hits", "ids", *(f"search {rule}" for rule in RULES), "evidence"):
+    for words in ("hits", "ids", *(f"search {rule}" for rule in RULES), *(f"evidence {rule}" for rule in RULES[:3])):
         yield from of_both(words, recording)
         yield from of_both(words + " --json", recording)
-    yield from of_both("certify", recording)
+    for rule in RULES[:3]:
+        yield from of_both(f"certify {rule}", recording)
     yield ["check"], 3 * certificates
-    yield ["transmit"], description
+    for rule in RULES[:3]:
+        for load in ("", " --load 7"):
+            yield ("transmit " + rule + load).split(), two_ports if rule == "--ports 2" else description
     for rule in RULES[:3]:
         yield ["make", "7", *rule.split()], b""
     yield from pages()

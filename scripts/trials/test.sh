@@ -3,14 +3,17 @@
 #
 # Tries each recipe of docs/RECORDINGS.md that a machine without a radio can: writes what a radio would have written of
 # a sent cell, makes a recording of it, and looks for the cell in its list; and the programs that were written from the
-# documents. Takes about a minute. PROGRAM is lte_cli, crates/lte_cli/out/lte_cli where it is left out. A recipe whose
-# tool is not there is left out, and said so. The status is the number of recipes that failed.
+# documents. Takes about a minute. PROGRAM is lte_cli, crates/lte_cli/out/lte_cli where it is left out, and lte_tune is
+# the one that LTE_TUNE names, or that of a path like PROGRAM's. A recipe whose tool is not there is left out, and said
+# so. The status is the number of recipes that failed.
 set -u
 shopt -s lastpipe                       # what the last command of a pipeline counts is kept
 here=$(cd "$(dirname "$0")" && pwd)
 tools=$here/../tools peers=$here/../peers
 program=$(realpath -m "${1:-$here/../../crates/lte_cli/out/lte_cli}")
 [ -x "$program" ] || { echo "test.sh: no program at $program; rt run in crates/lte_cli builds it" >&2; exit 1; }
+tuner=$(realpath -m "${LTE_TUNE:-${program//lte_cli/lte_tune}}")
+export LTE_CLI=$program LTE_TUNE=$tuner
 room=$(mktemp -d)
 trap 'rm -rf "$room"' EXIT
 cd "$room" || exit 1
@@ -84,7 +87,6 @@ fi
 if [ "$has_scipy" ]; then
     "$here/as_radio.py" s16 1920000 21500 < sent.ci16 > turned
     "$program" search < turned | says 'an offset of 21.5 kHz hides the cell' 'cells 0'
-    tuner=${program//lte_cli/lte_tune}
     if [ -x "$tuner" ]; then
         "$tuner" apply < turned | "$program" search | finds 'lte_tune takes it off'
         "$tuner" tell < turned | awk '$1 == "turn" && $2 > 182 && $2 < 185 { print "near" }' | says 'lte_tune tells it' near
@@ -98,19 +100,45 @@ head -c 400000 /dev/zero | cat - sent.ci16 > long
 '100000 cell 217 at 14200 sfn 101 ports 1 n6 phich normal two br 0 spare 5
 150000 cell 217 at 2600 sfn 103 ports 1 n6 phich normal two br 0 spare 5'
 
-if has parallel; then
-    cp sent.ci16 'a b.ci16'
-    head -c 1001 sent.ci16 > cut.ci16
-    "$tools/many.sh" "$program" 'a b.ci16' cut.ci16 2> causes | grep -c 'cell 217' | says 'many.sh searches each file' 1
-    grep -o 'lte_cli: .*' causes | says 'many.sh says which was refused' 'lte_cli: ragged'
+head -c 384000 sent.ci16 > five
+"$tools/add_recordings.py" sent.ci16 five 3 | head -c 12 | cmp - <(head -c 12 sent.ci16) > same
+says 'add_recordings.py adds the second later' '' < same
+if [ "$has_scipy" ] && [ -x "$tuner" ]; then
+    "$tools/add_noise.py" 20 < sent.ci16 | "$program" search | finds 'add_noise.py, 20 dB'
+    "$here/as_radio.py" u8 2400000 21500 < sent.ci16 > drive.cu8
+    "$tools/survey.py" drive.cu8 --rate 2.4e6 --every 0.03 --csv |
+        awk -F, '$2 == 217 { print $6, $7, $12, $13, int($19 / 200), $22 }' |
+        says 'survey.py: a file of 8 bits at 2.4 Ms/s, 21.5 kHz off' '3 3 001-01 1 107 no'
+    "$tools/survey.py" sent.ci16 --json > survey.json
+    : > empty.cu8
+    head -c 100001 sent.ci16 > cut.ci16
+    "$program" search < sent.ci16 > list.txt
+    for file in empty.cu8 cut.ci16 list.txt; do
+        "$tools/survey.py" "$file" 2>&1 | sed 's/^[^:]*: [^:]*: //; s/,.*//'
+    done | says 'survey.py refuses a file in a line' $'empty\n100001 bytes\na text'
+    if /usr/bin/python3 -c 'import matplotlib' 2> /dev/null; then
+        "$tools/picture.py" drive.cu8 --rate 2.4e6 --tune -o drive.svg
+        head -c 5 drive.svg | says 'picture.py draws it' '<?xml'
+        "$tools/picture.py" survey.json -o survey.html
+        head -c 15 survey.html | says 'picture.py draws a survey' '<!doctype html>'
+    else
+        echo 'left out picture.py: no matplotlib'
+    fi
+    if has parallel; then
+        cp sent.ci16 'a b.ci16'
+        "$tools/many.sh" 'a b.ci16' cut.ci16 2> causes | cut -d, -f1,2 |
+            says 'many.sh surveys each file' $'file,identity\na b.ci16,217'
+        grep -o 'cut within a sample' causes | says 'many.sh says which was refused' 'cut within a sample'
+    else
+        echo 'left out many.sh: no parallel'
+    fi
 else
-    echo 'left out many.sh: no parallel'
+    echo "left out survey.py, picture.py and many.sh: no scipy, or no program at $tuner"
 fi
 
 "$program" certify < sent.ci16 > certificate
 "$program" check < certificate > answers
 "$tools/check_certificate.py" < certificate | says 'check_certificate.py answers as check does' "$(cat answers)"
-head -c 384000 sent.ci16 > five
 "$peers/second_search.py" < five | says 'second_search.py lists what search lists' "$("$program" search < five)"
 "$program" transmit < "$here/../examples/chance_line.json" > two_lines
 for file in five two_lines "$here/../../crates/capture_example/stdin"; do
@@ -121,6 +149,16 @@ for file in five two_lines "$here/../../crates/capture_example/stdin"; do
         "$peers/second_forms.py" "${words[@]}" < "$file" |
             says "second_forms.py writes what $form writes of ${file##*/}" "$("$program" "${words[@]}" < "$file")"
     done
+done
+for carrier in '--ports 2' '--prefix long'; do
+    read -ra words <<< "$carrier"
+    peer=$([ "$carrier" = '--ports 2' ] && echo second_two_ports || echo second_long_prefix)
+    "$peers/$peer.py" 90 > other
+    "$peers/second_evidence.py" "${words[@]}" < other |
+        says "second_evidence.py writes what evidence $carrier writes" "$("$program" evidence "${words[@]}" < other)"
+    "$program" certify "${words[@]}" < other > others
+    "$tools/check_certificate.py" < others | says "check_certificate.py accepts what certify $carrier writes" 'certificates 1
+0 yes'
 done
 printf '\377' | dd of=certificate bs=1 seek=244 conv=notrunc status=none
 "$program" check < certificate | says 'another word is refused' 'certificates 1

@@ -1,80 +1,44 @@
 #!/usr/bin/python3
 """two_ports.py PROGRAM [CELLS]
 
-Sends CELLS random cells (10) of two antenna ports, whose broadcast channel is sent with transmit diversity (TS 36.211
-sections 6.3.3.3 and 6.3.4.3), adds noise, searches each, and prints of how many the list holds the cell, by how much
-stronger port 1 is received than port 0. Both channels are flat, of a random phase; the synchronisation signals come
-from port 0. These are observations: nothing here is proved. The numbers are drawn with fixed seeds.
+Sends CELLS random cells (10) of two antenna ports by `transmit --ports 2`, adds noise, searches each, and prints of how
+many the list of one port holds the cell, by how much stronger port 1 is received than port 0. Both channels are flat,
+of a random phase; the synchronisation signals come from port 0. These are observations: nothing here is proved. The
+numbers are drawn with fixed seeds.
 
-Debian: python3-numpy. It takes its sequences from ../peers/second_search.py.
+Debian: python3-numpy.
 """
+import json
 import pathlib
+import subprocess
 import sys
 
 import numpy as np
 
 ROOMS = pathlib.Path(__file__).resolve().parent.parent
-sys.path += [str(ROOMS / "tools"), str(ROOMS / "peers")]
+sys.path.append(str(ROOMS / "tools"))
 import radio
-import second_search as standard
 
-GAIN = 20
+GAIN = 13  # of each port, as it is sent
 NOISE = 32_400  # of a sample, where a resource element of energy 2 * 90^2 has Es/N0 0 dB
+PLAIN = json.loads((ROOMS / "examples/plain_cell.json").read_text())
 
 
-def broadcast_bits(cell, sfn):
-    """The 480 bits of a frame: n6, normal PHICH, resource one, and the check of two ports (TS 36.212 section 5.3.1)."""
-    block = 0b000_0_10 << 18 | sfn // 4 << 10
-    word = block << 16 | standard.crc(block, 24) ^ 0xFFFF
-    bits = [word >> 39 - k & 1 for k in range(40)]
-    coded = [[sum(bits[(k - t) % 40] for t in taps) % 2 for taps in standard.TAPS] for k in range(40)]
-    places = 4 * standard.coded_reading(40)
-    sequence = standard.pseudo_random(cell, 1920)[480 * (sfn % 4) :]
-    return [coded[place][stream] ^ sequence[i] for i, (place, stream) in enumerate(places)]
-
-
-def grid(cell, sfn):
-    """The values of a frame by port, slot, symbol and subcarrier."""
-    out = np.zeros((2, 20, 7, 72), complex)
-    for slot in range(20):
-        for symbol, v in ((0, (0, 3)), (4, (3, 0))):
-            bits = standard.pseudo_random(2**10 * (7 * (slot + 1) + symbol + 1) * (2 * cell + 1) + 2 * cell + 1, 232)
-            for port in (0, 1):
-                for m in range(12):
-                    value = complex(90 - 180 * bits[2 * (m + 104)], 90 - 180 * bits[2 * (m + 104) + 1])
-                    out[port, slot, symbol, 6 * m + (v[port] + cell) % 6] = value
-    for half in (0, 5):
-        out[0, 2 * half, 6, 5:67] = standard.primary(cell % 3) @ (1, 1j)
-        out[0, 2 * half, 5, 5:67] = 127 * np.array(standard.secondary(cell // 3, cell % 3, half))
-    bits = broadcast_bits(cell, sfn)
-    points = [complex(90 - 180 * a, 90 - 180 * b) / np.sqrt(2) for a, b in zip(bits[0::2], bits[1::2])]
-    places = [(l, k) for l in range(4) for k in range(72) if l >= 2 or k % 3 != cell % 3]
-    for i in range(0, 240, 2):
-        first, second = (1, *places[i]), (1, *places[i + 1])
-        out[(0, *first)], out[(0, *second)] = points[i], points[i + 1]
-        out[(1, *first)], out[(1, *second)] = -points[i + 1].conjugate(), points[i].conjugate()
-    return out
-
-
-def samples(values):
-    """A frame of one port."""
-    out = np.zeros(radio.FRAME, complex)
-    for slot in range(20):
-        for symbol in range(7):
-            bins = np.zeros(128, complex)
-            bins[standard.FREQUENCY % 128] = values[slot, symbol]
-            wave, at, prefix = 16 * np.fft.ifft(bins), 960 * slot + 10 + 137 * symbol, 9 if symbol else 10
-            out[at - prefix : at], out[at : at + 128] = wave[-prefix:], wave
-    return out
+def sent(program, plan, gain2):
+    """What both ports send, port 1 with this gain."""
+    words = [program, "transmit", "--ports", "2"]
+    told = json.dumps({**plan, "gain": [GAIN, 0], "gain2": [gain2, 0]}).encode()
+    return radio.from_bytes(subprocess.run(words, input=told, stdout=subprocess.PIPE, check=True).stdout)
 
 
 def is_found(program, seed, ratio, noise):
     draw = np.random.default_rng(seed)
     cell, sfn, cut = int(draw.integers(504)), int(draw.integers(1000)), int(draw.integers(200, 19_000))
     phases = np.exp(2j * np.pi * draw.random(2))
-    frames = [grid(cell, sfn + j) for j in range(6)]
-    first, second = (np.concatenate([samples(frame[port]) for frame in frames]) for port in (0, 1))
-    x = GAIN * (first * phases[0] + 10 ** (ratio / 20) * second * phases[1])[cut : cut + 5 * radio.FRAME]
+    plan = {**PLAIN, "identity": cell, "sfn": sfn, "offset": cut, "samples": 5 * radio.FRAME}
+    first = sent(program, plan, 0)
+    second = sent(program, plan, GAIN) - first
+    x = first * phases[0] + 10 ** (ratio / 20) * second * phases[1]
     size = GAIN * np.sqrt(NOISE / 10 ** (noise / 10) / 2)
     x = x + size * (draw.standard_normal(len(x)) + 1j * draw.standard_normal(len(x)))
     return any(
