@@ -1,7 +1,8 @@
-"""What to_ci16.py and trials on recordings share: recordings as arrays of complex numbers, and questions to lte_cli.
+"""What tools and trials on recordings share: recordings as arrays of complex numbers, levels, and questions to lte_cli.
 
 A recording is ci16_le at 1.92 million samples per second (docs/FORMATS.md). Debian: python3-numpy.
 """
+import math
 import subprocess
 
 import numpy as np
@@ -43,6 +44,27 @@ def pss(n2):
     grid = np.zeros(128, complex)
     grid[np.r_[-31:0, 1:32] % 128] = np.exp(-1j * np.pi * PSS_ROOTS[n2] * turns / 63)
     return np.fft.ifft(grid)
+
+
+def elements(power, noise):
+    """Signal and noise of a reference element, by two numbers of `evidence` (docs/FORMATS.md, "A ratio in dB")."""
+    return power / 24 - noise / 23, noise / 23
+
+
+def decibels(quotient):
+    """10 log10, and nothing where there is none."""
+    return 10 * math.log10(quotient) if quotient > 0 else None
+
+
+def level(power, noise, full=FULL + 1):
+    """The level of a reference element in dBFS, where full scale is that in the recording (docs/FORMATS.md)."""
+    return decibels(elements(power, noise)[0] / (512 * full) ** 2)
+
+
+def ratio(power, noise):
+    """Its signal to noise in dB."""
+    signal, rest = elements(power, noise)
+    return decibels(signal / rest) if rest > 0 else None
 
 
 def ask(program, word, x):

@@ -1,0 +1,61 @@
+"""What the tools ask of the machine: Debian's packages, whichever Python began, and the two programs.
+
+What is wanting, and each file that is refused, is told in one line, and the status is 1.
+"""
+import importlib.util
+import json
+import os
+import pathlib
+import shutil
+import subprocess
+import sys
+
+DEBIAN = "/usr/bin/python3"
+TOP = pathlib.Path(__file__).resolve().parent.parent.parent
+
+
+class Refused(Exception):
+    """The line that says why there is no result."""
+
+
+def run(main):
+    """Runs a tool; what it refuses is one line on standard error."""
+    name = pathlib.Path(sys.argv[0]).name
+    try:
+        main()
+    except Refused as refusal:
+        sys.exit(f"{name}: {refusal}")
+    except OSError as fault:
+        sys.exit(f"{name}: {fault.filename or 'output'}: {fault.strerror}")
+    except KeyboardInterrupt:
+        sys.exit(f"{name}: stopped")
+
+
+def want(*packages):
+    """Goes on with Debian's Python where this one has not these packages."""
+    missing = [package for package in packages if importlib.util.find_spec(package) is None]
+    if missing and sys.prefix != "/usr" and os.access(DEBIAN, os.X_OK):
+        os.execv(DEBIAN, [DEBIAN, *sys.argv])
+    if missing:
+        names = " ".join(f"python3-{package}" for package in missing)
+        sys.exit(f"{pathlib.Path(sys.argv[0]).name}: no {', no '.join(missing)} (Debian: {names})")
+
+
+def program(name):
+    """The path of a program: what LTE_CLI or LTE_TUNE names, or what is built here, or a command of this name."""
+    told = os.environ.get(name.upper())
+    for place in [told] if told else [str(TOP / "crates" / name / "out" / name), name]:
+        if found := shutil.which(place):
+            return os.path.abspath(found)
+    if told:
+        raise Refused(f"no program at {told}, which {name.upper()} names")
+    raise Refused(f"no {name}: `rt run -- version` in crates/{name} builds it, or {name.upper()} names it")
+
+
+def answer(words, data):
+    """What a program answers in JSON about a recording."""
+    done = subprocess.run(words, input=data, capture_output=True, check=False)
+    if done.returncode:
+        said = done.stderr.decode(errors="replace").strip() or f"status {done.returncode}"
+        raise Refused(f"{' '.join(words[1:])}: {said}")
+    return json.loads(done.stdout)
