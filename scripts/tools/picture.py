@@ -61,6 +61,11 @@ STYLE = {
 }
 
 
+def evidence_words(rule):
+    """The words of `evidence` of a rule's list."""
+    return " ".join(("evidence", *survey.CARRIERS[rule][0], "--json"))
+
+
 class View(NamedTuple):
     """A recording, what full scale of its file is in it, and what the programs say."""
 
@@ -79,13 +84,13 @@ class View(NamedTuple):
         return sorted(found.values(), key=lambda line: ("none" in line["sib1"], -(self.level(line) or -1e9)))
 
     def evidence(self, line):
-        """The numbers of `evidence` about a line, or None: they are of the list of one antenna port."""
-        every = {survey.place_of(one): one for one in self.said["lte_cli evidence --json"]}
-        return every.get(survey.place_of(line))
+        """The numbers of `evidence` about a line, of its rule's list."""
+        every = self.said[f"lte_cli {evidence_words(line['rule'])}"]
+        return next(one for one in every if survey.place_of(one) == survey.place_of(line))
 
     def level(self, line):
         its = self.evidence(line)
-        return its and radio.level(its["power"], its["noise"], self.full)
+        return radio.level(its["power"], its["noise"], self.full, survey.CARRIERS[line["rule"]][1])
 
     def is_listed(self, hit):
         return any((line["identity"], line["at"]) == (hit["identity"], hit["at"]) for line in self.cells)
@@ -103,7 +108,7 @@ def view_of(told, file):
         offset += tell["told"]["turn"] * survey.STEP
         data, full = file.recording(told.at, seconds, offset)
     said = {"lte_tune tell --json": tell}
-    for words in ("ids --json", "search --all --json", "evidence --json"):
+    for words in ("ids --json", "search --all --json", *map(evidence_words, survey.CARRIERS)):
         said[f"lte_cli {words}"] = machine.answer([programs["lte_cli"], *words.split()], data)
     title = f"{told.title or file.path}: {1000 * seconds:,.0f} ms from second {told.at:g} on"
     title += f", {offset:+,.0f} Hz taken off" if offset else ""
@@ -233,25 +238,13 @@ class Reading(NamedTuple):
 
 
 def reading_of(view, line):
-    """By `evidence` where it speaks of the line, else by the second program's steps."""
-    rule = RULES[line["rule"]]
-    identity, at, sfn = survey.place_of(line)
-    r, its = view.samples, view.evidence(line) if line["rule"] == "one-port" else None
-    values = [second.broadcast_values(r, identity, at, j, rule) for j in range(min(8, (len(r) - at) // second.FRAME))]
+    """By the frames that `evidence` tells, with the second program's values."""
+    rule, its = RULES[line["rule"]], view.evidence(line)
+    identity, at, _ = survey.place_of(line)
+    frames, frame, phase = its["frames"], its["frame"], its["phase"]
+    values = [second.broadcast_values(view.samples, identity, at, j, rule) for j in range(frame, frame + frames)]
     sequence = second.pseudo_random(identity, 1920)
-    if its:
-        frames, frame, phase = its["frames"], its["frame"], its["phase"]
-    else:
-        frames, frame, phase = next(
-            (count, j, phase)
-            for count in range(1, 5)
-            for j in range(len(values) - count + 1)
-            for phase, _, block in second.masters(
-                values[j : j + count], sequence, range(5 - count), second.silent, rule
-            )
-            if (4 * (block >> 10 & 255) + phase - j) % 1024 == sfn
-        )
-    flat, first = sum(values[frame : frame + frames], []), rule.size * phase
+    flat, first = sum(values, []), rule.size * phase
     plain = [-value if bit else value for value, bit in zip(flat, sequence[first:])]
     order = second.coded_reading(40)
     sums = second.added(plain, order, first)
@@ -365,10 +358,9 @@ def fields_of(view, line, reading):
             f"q-RxLevMin {2 * sib1['q_rx']} dBm",
         ]
     lines += ["", f"cost {100 * reading.cost / (reading.total or 1):.1f} %, frames added: {reading.frames}"]
-    if its:
-        ratio = radio.ratio(its["power"], its["noise"])
-        lines.append(f"level {text_of(view.level(line))} dBFS, S/N {text_of(ratio)} dB")
-        lines.append(f"primary signal {its['peak'] / 10:.1f} %")
+    ratio = radio.ratio(its["power"], its["noise"], survey.CARRIERS[line["rule"]][1])
+    lines.append(f"level {text_of(view.level(line))} dBFS, S/N {text_of(ratio)} dB")
+    lines.append(f"primary signal {its['peak'] / 10:.1f} %")
     return lines
 
 

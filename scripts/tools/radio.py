@@ -46,9 +46,10 @@ def pss(n2):
     return np.fft.ifft(grid)
 
 
-def elements(power, noise):
-    """Signal and noise of a reference element, by two numbers of `evidence` (docs/FORMATS.md, "A ratio in dB")."""
-    return power / 24 - noise / 23, noise / 23
+def elements(power, noise, ports=1):
+    """Signal and noise of a reference element, the mean of one antenna port or two, by two numbers of `evidence`
+    (docs/FORMATS.md, "A ratio in dB")."""
+    return power / (24 * ports) - noise / (23 * ports), noise / (23 * ports)
 
 
 def decibels(quotient):
@@ -56,14 +57,14 @@ def decibels(quotient):
     return 10 * math.log10(quotient) if quotient > 0 else None
 
 
-def level(power, noise, full=FULL + 1):
+def level(power, noise, full=FULL + 1, ports=1):
     """The level of a reference element in dBFS, where full scale is that in the recording (docs/FORMATS.md)."""
-    return decibels(elements(power, noise)[0] / (512 * full) ** 2)
+    return decibels(elements(power, noise, ports)[0] / (512 * full) ** 2)
 
 
-def ratio(power, noise):
+def ratio(power, noise, ports=1):
     """Its signal to noise in dB."""
-    signal, rest = elements(power, noise)
+    signal, rest = elements(power, noise, ports)
     return decibels(signal / rest) if rest > 0 else None
 
 

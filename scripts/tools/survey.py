@@ -7,8 +7,8 @@ explains. docs/RECORDINGS.md, "A whole file", says what each column is.
 
 The file is read in windows of 17 frames, as far as a list looks, one after the other or every S seconds. Each becomes
 a recording as to_ci16.py makes it. `lte_tune tell` tells the offset of the strongest window and of some along the
-file, and of more where it drifts; between them it is a straight line. `lte_cli search --all` and `lte_cli evidence`
-list each window, one process a processor. Lines are one cell where identity, frame numbers and offset fit.
+file, and of more where it drifts; between them it is a straight line. `lte_cli search --all`, and `lte_cli evidence` of
+each list with a cell, tell of each window, one process a processor. Lines are one cell where identity, frame numbers and offset fit.
 
 Debian: python3-numpy, python3-scipy. Needs lte_cli and lte_tune (README, "Build").
 """
@@ -40,6 +40,10 @@ STEP = radio.RATE / 128 / 128  # hertz of a turn
 SAME_OFFSET, DRIFT = 1_000, 200  # hertz, and hertz per second, by which the offset of one cell may change
 DEAR = 0.07  # cost by total from which on chance explains a line that was seen once
 FEW = 1_000  # a total of values that are nearly all 0
+
+
+# the words behind `evidence` for the list of a rule, and the antenna ports whose reference signals its numbers are of
+CARRIERS = {"one-port": ((), 1), "two-ports": (("--ports", "2"), 2), "long-prefix": (("--prefix", "long"), 1)}
 
 
 # ---- what the programs say of a window
@@ -75,24 +79,29 @@ def sightings(task):
     listed = machine.answer([program, "search", "--all", "--json"], data)
     if not listed:
         return []
-    support = {place_of(one): one for one in machine.answer([program, "evidence", "--json"], data)}
+    support = {rule: support_of(program, rule, data) for rule in {line["rule"] for line in listed}}
     found = []
     for line in listed:
-        evidence = support.get(place_of(line)) if line["rule"] == "one-port" else None
-        add_line(found, Sighting(task, line, [line["rule"]], *numbers_of(evidence, full)))
+        rule = line["rule"]
+        add_line(found, Sighting(task, line, [rule], *numbers_of(support[rule][place_of(line)], full, rule)))
     return found
 
 
+def support_of(program, rule, data):
+    """What `evidence` of a rule's list says of each of its lines, by their places."""
+    return {place_of(one): one for one in machine.answer([program, "evidence", *CARRIERS[rule][0], "--json"], data)}
+
+
 class Sighting(NamedTuple):
-    """A cell in a window: a line of its list, and numbers of `evidence` where there are some."""
+    """A cell in a window: a line of its list, and numbers of `evidence` of that list."""
 
     task: Task
     line: dict
     rules: list
-    level: float = None  # dBFS
-    ratio: float = None  # dB
-    cost: int = None
-    total: int = None
+    level: float  # dBFS, or None
+    ratio: float  # dB, or None
+    cost: int
+    total: int
 
     @property
     def seconds(self):
@@ -107,18 +116,16 @@ class Sighting(NamedTuple):
     @property
     def share(self):
         """Cost by total."""
-        return self.cost / self.total if self.total else None
+        return self.cost / self.total
 
 
 def place_of(line):
     return line["identity"], line["at"], line["sfn"]
 
 
-def numbers_of(evidence, full):
-    if evidence is None:
-        return ()
-    power, noise = evidence["power"], evidence["noise"]
-    return radio.level(power, noise, full), radio.ratio(power, noise), evidence["cost"], evidence["total"]
+def numbers_of(evidence, full, rule):
+    power, noise, ports = evidence["power"], evidence["noise"], CARRIERS[rule][1]
+    return radio.level(power, noise, full, ports), radio.ratio(power, noise, ports), evidence["cost"], evidence["total"]
 
 
 def distance(a, b, cycle=CYCLE):
@@ -130,8 +137,8 @@ def add_line(found, new):
     """Adds a line of a window, to the same cell by another rule where there is one; the line that tells more stays."""
     for i, old in enumerate(found):
         if old.line["identity"] == new.line["identity"] and distance(old.epoch, new.epoch) <= NEAR:
-            line = max(old.line, new.line, key=tells)
-            found[i] = old._replace(line=line, rules=old.rules + new.rules)
+            more = max(old, new, key=lambda sighting: tells(sighting.line))
+            found[i] = more._replace(rules=old.rules + new.rules)
             return
     found.append(new)
 
@@ -211,24 +218,23 @@ class Cell:
 
     @property
     def share(self):
-        """The least cost by total, where there is one."""
-        return min((one.share for one in self.seen if one.share is not None), default=None)
+        """The least cost by total."""
+        return min(one.share for one in self.seen)
 
     def is_chance(self, cells):
         """Whether chance explains it: no SIB1 was read, and it was seen once at a cost, or at another's place."""
         if "none" not in self.line["sib1"]:
             return False
         strongest = self.strongest
-        if self.windows == 1 and (self.share is None or self.share >= DEAR or strongest.total < FEW):
+        if self.windows == 1 and (self.share >= DEAR or strongest.total < FEW):
             return True
-        return self.share is not None and self.share >= DEAR and any(self.stands_at(other) for other in cells)
+        return self.share >= DEAR and any(self.stands_at(other) for other in cells)
 
     def stands_at(self, other):
         """Whether another cell of this identity has frames that begin there, and costs less."""
         return (
             other is not self
             and other.line["identity"] == self.line["identity"]
-            and other.share is not None
             and other.share < self.share
             and any(distance(a.epoch, b.epoch, radio.FRAME) <= NEAR for a in self.seen for b in other.seen)
         )
@@ -363,7 +369,7 @@ def row_of(cell, survey):
         "S/N dB": text["ratio"],
         "offset Hz": text["offset"],
         "ppm": text["ppm"],
-        "cost %": "-" if cell["share"] is None else f"{100 * cell['share']:.1f}",
+        "cost %": f"{100 * cell['share']:.1f}",
         "": "?" if cell["chance"] else "",
         "no SIB1": sib1.get("none", ""),
     }
