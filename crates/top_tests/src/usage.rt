@@ -59,7 +59,7 @@ fn words_of_forms_of_the_receiver_read(rt: HostRuntime) -> Result<(), Fail> {
 }
 
 #[test]
-fn words_of_no_form_of_the_receiver(rt: HostRuntime) -> Result<(), Fail> {
+fn words_of_no_report_of_the_receiver(rt: HostRuntime) -> Result<(), Fail> {
     for line in [
         "search --ports",
         "search --ports 1",
@@ -90,6 +90,19 @@ fn words_of_no_form_of_the_receiver(rt: HostRuntime) -> Result<(), Fail> {
         "certify --format cu8 --ports 2",
         "certify --prefix",
         "certify --all",
+        "search --load 7",
+    ] {
+        assert!(rt;
+            is_of_no_form(rt.alloc(), Program::Receiver, line)?,
+            "{line}"
+        );
+    }
+    Ok(())
+}
+
+#[test]
+fn words_of_no_other_form_of_the_receiver(rt: HostRuntime) -> Result<(), Fail> {
+    for line in [
         "make 7 --ports",
         "make 7 --ports 1",
         "make --ports 2 7",
@@ -112,7 +125,6 @@ fn words_of_no_form_of_the_receiver(rt: HostRuntime) -> Result<(), Fail> {
         "transmit --ports 2 --prefix long",
         "transmit 7",
         "make 7 --load 7",
-        "search --load 7",
         "tell",
         "apply",
         "apply 5",
