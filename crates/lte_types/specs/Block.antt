@@ -6,7 +6,8 @@ use Rattle.lte_types.specs.declared.resource.Resource.{Resource}
 use Rattle.lte_types.specs.declared.mib.Mib.{Mib}
 
 -- the block has these fields
-pub record HasFields (mib : Mib) (width : Bandwidth) (length : Duration) (share : Resource) (frame bits : ℕ) : Type 0 where
+pub record HasFields (mib : Mib) (width : Bandwidth) (length : Duration) (share : Resource)
+    (frame bits : ℕ) : Type 0 where
   pub bandwidth : mib.bandwidth ≡ width
   pub duration : mib.duration ≡ length
   pub resource : mib.resource ≡ share

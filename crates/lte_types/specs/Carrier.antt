@@ -1,7 +1,7 @@
 -- How a cell sends its broadcast channel (TS 36.211 sections 6.3.4.3 and 6.12).
 use Rattle.std.specs.Prelude.{ℕ}
 use Rattle.lte_types.specs.declared.carrier.Carrier.{Carrier}
-use Rattle.lte_types.specs.declared.carrier.Carrier.TheVariants.{OnePort, TwoPorts, LongPrefix}
+use Rattle.lte_types.specs.declared.carrier.Carrier.TheVariants.{OnePort, TwoPorts, LongPrefix, FourPorts}
 use Rattle.lte_types.specs.declared.numerology.Prefix.{Prefix}
 use Rattle.lte_types.specs.Numerology.{normal, extended}
 
@@ -10,9 +10,11 @@ abbrev pub prefix_of : Carrier → Prefix
 prefix_of OnePort = normal
 prefix_of TwoPorts = normal
 prefix_of LongPrefix = extended
+prefix_of FourPorts = normal
 
 -- its antenna ports
 abbrev pub ports_of : Carrier → ℕ
 ports_of OnePort = 1
 ports_of TwoPorts = 2
 ports_of LongPrefix = 1
+ports_of FourPorts = 4

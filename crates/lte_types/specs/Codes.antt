@@ -1,6 +1,7 @@
 -- The codes and the names of the fields of a master information block and of SystemInformationBlockType1 (TS 36.331
 -- sections 6.2.2 and 6.3.2).
-use Rattle.std.specs.Prelude.{ℕ, nat_eq, if◌then◌else◌, Option, Some, None, List, [], ◌∷◌, codes, bytes_eq, slice_index_or}
+use Rattle.std.specs.Prelude.{ℕ, nat_eq, if◌then◌else◌, Option, Some, None, List, [], ◌∷◌, codes}
+use Rattle.std.specs.Prelude.{bytes_eq, slice_index_or}
 use Rattle.std.specs.List.{find}
 use Rattle.lte_types.specs.declared.bandwidth.Bandwidth.{Bandwidth}
 use Rattle.lte_types.specs.declared.bandwidth.Bandwidth.TheVariants.{N6, N15, N25, N50, N75, N100}

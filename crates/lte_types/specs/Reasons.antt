@@ -2,7 +2,10 @@
 use Rattle.std.specs.Prelude.{ℕ, List, ◌++◌, codes}
 use Rattle.std.specs.Fmt.{decimal}
 use Rattle.lte_types.specs.declared.sib1_reason.Sib1Reason.{Sib1Reason}
-use Rattle.lte_types.specs.declared.sib1_reason.Sib1Reason.TheVariants.{NotOnePort, Bandwidth as OtherWidth, NoSearchSpace, NoControl, NotFormat1A, Distributed, BadRiv, ReservedMcs, BlockTooLarge, NotDecoded, NotSib1, BadFields, LongPrefix}
+use Rattle.lte_types.specs.declared.sib1_reason.Sib1Reason.TheVariants.{NotOnePort, Bandwidth as OtherWidth}
+use Rattle.lte_types.specs.declared.sib1_reason.Sib1Reason.TheVariants.{NoSearchSpace, NoControl, NotFormat1A}
+use Rattle.lte_types.specs.declared.sib1_reason.Sib1Reason.TheVariants.{Distributed, BadRiv, ReservedMcs, BlockTooLarge}
+use Rattle.lte_types.specs.declared.sib1_reason.Sib1Reason.TheVariants.{NotDecoded, NotSib1, BadFields, LongPrefix}
 use Rattle.lte_types.specs.declared.sib1_reason.Words.{Words}
 use Rattle.lte_types.specs.declared.sib1_reason.Words.TheVariants.{Plain, WithNumber, WithWidth}
 use Rattle.lte_types.specs.Codes.{bandwidth_word}

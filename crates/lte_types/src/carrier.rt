@@ -14,6 +14,8 @@ pub enum Carrier {
     TwoPorts,
     /// One antenna port, and the extended cyclic prefix (TS 36.211 section 6.12).
     LongPrefix,
+    /// Four antenna ports with transmit diversity (TS 36.211 section 6.3.4.3), and the normal cyclic prefix.
+    FourPorts,
 }
 
 impl Carrier {
@@ -22,18 +24,19 @@ impl Carrier {
         ensures { result ≡ prefix_of self }
     {
         match self {
-            Carrier::OnePort | Carrier::TwoPorts => Prefix::NORMAL,
+            Carrier::OnePort | Carrier::TwoPorts | Carrier::FourPorts => Prefix::NORMAL,
             Carrier::LongPrefix => Prefix::EXTENDED,
         }
     }
 
-    /// The count of antenna ports, 1 or 2.
+    /// The count of antenna ports, 1, 2 or 4.
     pub fn ports(self) -> u8
         ensures { result ≡ ports_of self }
     {
         match self {
             Carrier::OnePort | Carrier::LongPrefix => 1,
             Carrier::TwoPorts => 2,
+            Carrier::FourPorts => 4,
         }
     }
 }

@@ -1,7 +1,9 @@
 //! The first block of system information.
 
 ghost use Rattle.std.specs.Prelude.{◌≡◌, ◌↔◌, All, IsTrue, IfSome};
-ghost use Rattle.lte_types.specs.Ranges.{AreDigits, IsValidPlmn, ArePlmns, IsValidMessage, AreMessages, IsGroup, IsLevel, IsLevelOffset, IsPower, IsBand, IsTddConfig, IsAccess, IsSelection, IsValid};
+ghost use Rattle.lte_types.specs.Ranges.{AreDigits, IsValidPlmn, ArePlmns, IsValidMessage, AreMessages, IsGroup};
+ghost use Rattle.lte_types.specs.Ranges.{IsLevel, IsLevelOffset, IsPower, IsBand, IsTddConfig, IsAccess};
+ghost use Rattle.lte_types.specs.Ranges.{IsSelection, IsValid};
 ghost use Rattle.lte_types.specs.Parts.{access_of, selection_of};
 
 use crate::{Mnc, Plmn, Plmns, Schedule, SiMessage, Sib1Reason, Window};

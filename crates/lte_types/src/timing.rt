@@ -2,7 +2,8 @@
 
 ghost use Rattle.std.specs.Prelude.{◌≡◌, ◌+◌, ◌^◌, ◌<◌, IsSome, IfSome, ◌↔◌};
 ghost use Rattle.lte_types.specs.Numerology.{frame_length};
-ghost use Rattle.lte_types.specs.Timing.{IsOffset, start_of, offset_of, number_of, number_before, number_at_start as number_at_start_of, TimingsComeBack, StartsComeBack};
+ghost use Rattle.lte_types.specs.Timing.{IsOffset, start_of, offset_of, number_of, number_before};
+ghost use Rattle.lte_types.specs.Timing.{number_at_start as number_at_start_of, TimingsComeBack, StartsComeBack};
 
 use crate::{FRAME_LENGTH, Sfn};
 
