@@ -6,7 +6,8 @@ use Rattle.gold.specs.Gold.{gold_bit, gold_bits}
 use Rattle.gold.proofs.Bits.{get_or-gold_bits}
 use Rattle.crs.specs.Qpsk.{component, IsFull, IsPoint}
 use Rattle.crs.specs.declared.pattern.Pattern.{Pattern}
-use Rattle.crs.specs.Reference.{port_0, has_pilots, value_by, pattern_c_init, pattern_reference, pattern_pair, pattern_list, reference_c_init, reference, reference_list, reference_pair, first_subcarrier, is_reference, is_second_reference}
+use Rattle.crs.specs.Reference.{port_0, has_pilots, value_by, pattern_c_init, pattern_reference, pattern_pair, pattern_list, reference_c_init, reference, reference_list, reference_pair, first_subcarrier, is_reference, is_second_reference, single_pair, single_list}
+use Rattle.crs.specs.declared.single.SinglePort.{SinglePort}
 use Rattle.cs_num.specs.Complex.{nothing}
 use Rattle.std.specs.List.{range_with_len}
 use Rattle.std.proofs.lemmas.List.FromFn.{length-map-range_with_len, get_or-map-range_with_len}
@@ -92,3 +93,15 @@ both_ports identity symbol k = cases (nat_eq symbol 0) (nat_eq symbol 4) refl re
     cases true b e f = rw (e) (even_odd 0 0)
     cases false true e f = rw (e, f) odd_even
     cases false false e f = rw (e, f) refl
+
+-- ---- ports 2 and 3 of four
+
+pub single_list-full : (port : SinglePort) (identity slot : ℕ) → All (λ pilot. IsPoint pilot.1) (single_list port identity slot)
+unfolding single_list
+single_list-full port identity slot =
+    All-map (λ (pilot : ℕ × Cpx). IsPoint pilot.1) (single_pair port identity slot) (range_with_len 0 12)
+    (λ k d inside. reference-IsPoint identity slot 1 _)
+
+pub get_or-single_list : (port : SinglePort) (identity slot m : ℕ) (d : ℕ × Cpx) → m < 12 → get_or (single_list port identity slot) m d ≡ single_pair port identity slot m
+unfolding single_list
+get_or-single_list port identity slot m d few = get_or-map-range_with_len (single_pair port identity slot) 0 12 m m d few (omega arith)

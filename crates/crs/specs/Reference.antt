@@ -1,12 +1,15 @@
 -- The cell-specific reference signals of an antenna port (TS 36.211 section 6.10.1).
-use Rattle.std.specs.Prelude.{ℕ, ◌+◌, ◌-◌, ◌*◌, ◌/◌, ◌%◌, ◌^◌, ◌<◌, ◌≤◌, Bool, ◌&&◌, ◌||◌, nat_eq, if◌then◌else◌, List, map}
+use Rattle.std.specs.Prelude.{ℕ, ◌+◌, ◌-◌, ◌*◌, ◌/◌, ◌%◌, ◌^◌, ◌<◌, ◌≤◌, Bool, ◌&&◌, ◌||◌, nat_eq, if◌then◌else◌}
+use Rattle.std.specs.Prelude.{List, map}
 use Rattle.std.specs.List.{range_with_len}
 use Rattle.cs_num.specs.declared.Cpx.{Cpx}
 use Rattle.lte_types.specs.declared.carrier.Carrier.{Carrier}
-use Rattle.lte_types.specs.declared.carrier.Carrier.TheVariants.{OnePort, TwoPorts, LongPrefix}
+use Rattle.lte_types.specs.declared.carrier.Carrier.TheVariants.{OnePort, TwoPorts, LongPrefix, FourPorts}
 use Rattle.gold.specs.Gold.{gold_bit}
 use Rattle.crs.specs.Qpsk.{point}
 use Rattle.crs.specs.declared.pattern.Pattern.{Pattern}
+use Rattle.crs.specs.declared.single.SinglePort.{SinglePort}
+use Rattle.crs.specs.declared.single.SinglePort.TheVariants.{Third, Fourth}
 
 -- port 0 with the normal prefix: the one that is meant where no pattern is named
 abbrev pub port_0 : Pattern
@@ -20,11 +23,12 @@ port_1 = record { later = 4; shift = 3; prefix = 1 }
 abbrev pub long_prefix : Pattern
 long_prefix = record { later = 3; shift = 0; prefix = 0 }
 
--- the pattern of a port of a carrier
+-- the pattern of port 0 of a carrier, or of port 1 of several
 abbrev pub pattern_of : Carrier → ℕ → Pattern
 pattern_of OnePort port = port_0
 pattern_of TwoPorts port = if nat_eq port 0 then port_0 else port_1
 pattern_of LongPrefix port = long_prefix
+pattern_of FourPorts port = if nat_eq port 0 then port_0 else port_1
 
 -- ---- for any pattern
 
@@ -115,3 +119,26 @@ reference_at identity slot symbol k = reference identity slot symbol (k / 6)
 -- v is 3 in symbol 0 and 0 in symbol 4; the sequence, and so the value by the sixth of a subcarrier, is that of port 0
 unfoldable pub is_second_reference : ℕ → ℕ → ℕ → Bool
 is_second_reference identity symbol k = is_pattern_place port_1 identity symbol k
+
+-- ---- for ports 2 and 3 of four with the normal prefix, which have them in one symbol of a slot, its second
+
+-- what stands before 3 (n_s mod 2) in v: 0 for port 2 and 3 for port 3 (section 6.10.1.2)
+abbrev pub single_shift : SinglePort → ℕ
+single_shift Third = 0
+single_shift Fourth = 3
+
+-- the first subcarrier: the two ports change places from slot to slot
+abbrev pub single_first : SinglePort → ℕ → ℕ → ℕ
+single_first port identity slot = (single_shift port + 3 * (slot % 2) + identity) % 6
+
+-- symbol and subcarrier are one of its reference places in a slot
+unfoldable pub is_single_reference : SinglePort → ℕ → ℕ → ℕ → ℕ → Bool
+is_single_reference port identity slot symbol k = nat_eq symbol 1 && nat_eq (k % 6) (single_first port identity slot)
+
+-- subcarrier and value number m; the sequence, and so the value by the sixth of a subcarrier, is that of port 0
+abbrev pub single_pair : SinglePort → ℕ → ℕ → ℕ → ℕ × Cpx
+single_pair port identity slot m = (6 * m + single_first port identity slot, reference identity slot 1 m)
+
+-- all twelve
+unfoldable pub single_list : SinglePort → ℕ → ℕ → List (ℕ × Cpx)
+single_list port identity slot = map (single_pair port identity slot) (range_with_len 0 12)

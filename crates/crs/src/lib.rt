@@ -3,19 +3,23 @@
 //! Where no pattern is named, port 0 with the normal prefix is meant.
 #![tactic(auto)]
 
-ghost use Rattle.std.specs.Prelude.{◌≡◌, ◌⊎◌, ◌%◌, ◌^◌, ◌<◌, ◌↔◌, ◌/◌, ◌&&◌, ◌||◌, nat_eq, ℕ, length, false, get_or, All, IsTrue};
+ghost use Rattle.std.specs.Prelude.{◌≡◌, ◌⊎◌, ◌%◌, ◌^◌, ◌<◌, ◌↔◌, ◌/◌, ◌&&◌, ◌||◌, nat_eq, ℕ, length, false, get_or};
+ghost use Rattle.std.specs.Prelude.{All, IsTrue};
 ghost use Rattle.crs.specs.Qpsk.{IsPoint};
 ghost use Rattle.crs.specs.Reference.{IsPattern, pattern_c_init, pattern_first, pattern_list};
 ghost use Rattle.crs.specs.Reference.{value_by, reference, reference_list};
-ghost use Rattle.crs.specs.Reference.{port_0, has_pilots, first_subcarrier, subcarrier, is_reference, is_second_reference, reference_at};
+ghost use Rattle.crs.specs.Reference.{port_0, has_pilots, first_subcarrier, subcarrier, is_reference};
+ghost use Rattle.crs.specs.Reference.{is_second_reference, reference_at};
 
 mod pattern;
 mod qpsk;
+mod single;
 
 use cs_num::Cpx;
 use lte_types::CellId;
 pub use pattern::{Pattern, patterns};
 pub use qpsk::{POINT_POWER, point};
+pub use single::{SinglePort, first_of_single, single_pilots};
 
 // c_init of the sequence for a slot and a symbol of it.
 fn c_init(pattern: Pattern, id: CellId, slot: u8, symbol: u8) -> u32

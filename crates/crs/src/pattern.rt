@@ -39,14 +39,15 @@ impl Pattern {
         prefix: 0,
     };
 
-    /// The pattern of a port of a carrier: port 0, or port 0 or 1 of two.
+    /// The pattern of port 0 of a carrier, or of port 1 of two or four. Ports 2 and 3 have none: `SinglePort`.
     pub fn of(carrier: Carrier, port: u8) -> Pattern
-        requires { port < ports_of carrier }
+        requires known { port < ports_of carrier }
+        requires first { port < 2 }
         ensures { result ≡ pattern_of carrier port }
     {
         match carrier {
             Carrier::OnePort => Pattern::FIRST_PORT,
-            Carrier::TwoPorts => {
+            Carrier::TwoPorts | Carrier::FourPorts => {
                 if port == 0 {
                     Pattern::FIRST_PORT
                 } else {

@@ -1,0 +1,55 @@
+//! The reference signals of ports 2 and 3 of four, which have them in one symbol of a slot.
+
+ghost use Rattle.std.specs.Prelude.{◌≡◌, ◌<◌, All};
+ghost use Rattle.crs.specs.Qpsk.{IsPoint};
+ghost use Rattle.crs.specs.Reference.{single_shift, single_first, single_list};
+
+use crate::{Pattern, pattern_pilots};
+use cs_num::Cpx;
+use lte_types::CellId;
+
+/// An antenna port that has reference signals in one symbol of a slot, its second (TS 36.211 section 6.10.1.2).
+#[derive(Clone, Copy, PartialEq, Eq)]
+pub enum SinglePort {
+    /// Port 2.
+    Third,
+    /// Port 3.
+    Fourth,
+}
+
+// What stands before 3 (n_s mod 2) in v.
+fn shift_of(port: SinglePort) -> u16
+    ensures value { result ≡ single_shift port }
+    ensures small { result < 4 }
+{
+    match port {
+        SinglePort::Third => 0,
+        SinglePort::Fourth => 3,
+    }
+}
+
+/// The first of the subcarriers of symbol 1 of a slot that have reference places of a port: each sixth from it on has
+/// one (TS 36.211 section 6.10.1.2).
+pub fn first_of_single(port: SinglePort, id: CellId, slot: u8) -> u8
+    ensures value { result ≡ single_first port id slot }
+    ensures bound { result < 6 }
+{
+    ((shift_of(port) + 3 * (u16::from(slot) % 2) + id.value()) % 6) as u8
+}
+
+/// Subcarriers and values of the reference signals of a port in symbol 1 of a slot, in the order of subcarriers. `slot`
+/// is 0 to 19. Each component of a value is 90 or -90.
+pub fn single_pilots(port: SinglePort, id: CellId, slot: u8) -> [(u8, Cpx); 12]
+    requires slot { slot < 20 }
+    ensures pilots { result ≡ single_list port id slot }
+    ensures full { All (λ pilot. IsPoint pilot.1) result }
+{
+    let first = first_of_single(port, id, slot);
+    // The values are those of port 0, on other subcarriers.
+    let of_port_0 = pattern_pilots(Pattern::FIRST_PORT, id, slot, 1);
+    let mut pilots = [(0, Cpx::ZERO); 12];
+    for m in 0..12_u8 {
+        pilots[m as usize] = (6 * m + first, of_port_0[m as usize].1);
+    }
+    pilots
+}
