@@ -1,3 +1,4 @@
 pub mod Windows
 pub mod Registers
+pub mod Pieces
 pub mod Bits

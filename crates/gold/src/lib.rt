@@ -6,35 +6,53 @@
 ghost use Rattle.std.specs.Prelude.{◌≡◌, ◌+◌, ◌*◌, ◌/◌, ◌^◌, ◌<◌, ◌↔◌, ℕ, true, false, IsTrue, IsBitSet, length};
 ghost use Rattle.gold.specs.Gold.{gold_bit, gold_bits};
 ghost use Rattle.finite.specs.Bits.{xor};
-ghost use Rattle.gold.specs.Register.{step, low_bits};
+ghost use Rattle.gold.specs.Register.{low_bits, window};
 ghost use Rattle.gold.specs.Sequence.{x1, x2, x1_taps, x2_taps};
 
-// The register one place on, where this bit comes in.
-fn shift_in(register: u32, bit: u32) -> u32
+// How many places the registers go on at a time: the first bits of a register tell up to 28 of those that follow it,
+// and 64 times 25 are the 1,600 places before the sequence c.
+const BLOCK: usize = 25;
+
+// The low 25 bits of a number.
+const LOW: u32 = 0x1ff_ffff;
+
+// The register 25 places on, where these bits come in.
+fn shift_in(register: u32, bits: u32) -> u32
     requires register { register < 2 ^ 31 }
-    requires bit { bit < 2 }
-    ensures { result ≡ register / 2 + bit * 2 ^ 30 }
+    requires bits { bits < 2 ^ 25 }
+    ensures { result ≡ register / 2 ^ 25 + bits * 2 ^ 6 }
 {
-    (register >> 1) | (bit << 30)
+    (register >> 25) | (bits << 6)
 }
 
-fn next_x1(register: u32) -> u32
+fn later_x1(register: u32) -> u32
     requires { register < 2 ^ 31 }
     ensures fits { result < 2 ^ 31 }
-    ensures step { low_bits 31 result ≡ step x1_taps (low_bits 31 register) }
+    ensures later { low_bits 31 result ≡ window x1_taps (low_bits 31 register) 25 }
 {
-    shift_in(register, ((register >> 3) ^ register) & 1)
+    shift_in(register, ((register >> 3) ^ register) & LOW)
 }
 
-fn next_x2(register: u32) -> u32
+fn later_x2(register: u32) -> u32
     requires { register < 2 ^ 31 }
     ensures fits { result < 2 ^ 31 }
-    ensures step { low_bits 31 result ≡ step x2_taps (low_bits 31 register) }
+    ensures later { low_bits 31 result ≡ window x2_taps (low_bits 31 register) 25 }
 {
     shift_in(
         register,
-        ((register >> 3) ^ (register >> 2) ^ (register >> 1) ^ register) & 1,
+        ((register >> 3) ^ (register >> 2) ^ (register >> 1) ^ register) & LOW,
     )
+}
+
+// Writes the low bits of a number over the whole of `out`, the lowest first.
+fn put_low_bits(number: u32, out: &mut [bool])
+    ensures { out.new ≡ low_bits (length out.old) number }
+{
+    let mut left = number;
+    for bit in out.iter_mut() {
+        *bit = left & 1 == 1;
+        left >>= 1;
+    }
 }
 
 /// Writes the first bits of the sequence c over the whole of `out`. `c_init` is below 2^31; its
@@ -45,14 +63,17 @@ pub fn fill(c_init: u32, out: &mut [bool])
 {
     let mut first = 1;
     let mut second = c_init;
-    for _place in 0..1600_usize {
-        first = next_x1(first);
-        second = next_x2(second);
+    for _block in 0..64_usize {
+        first = later_x1(first);
+        second = later_x2(second);
     }
-    for bit in out.iter_mut() {
-        *bit = (first ^ second) & 1 == 1;
-        first = next_x1(first);
-        second = next_x2(second);
+    let mut at = 0;
+    while at < out.len() {
+        let end = out.len().min(at + BLOCK);
+        put_low_bits(first ^ second, &mut out[at..end]);
+        first = later_x1(first);
+        second = later_x2(second);
+        at += BLOCK;
     }
 }
 

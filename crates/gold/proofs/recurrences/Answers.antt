@@ -1,4 +1,4 @@
-use Rattle.std.proofs.Common.{ℕ, zero, suc, ◌+◌, ◌≡◌, ◌<◌, ◌/◌, ◌^◌, nat_eq, refl, ap, ap₂, sym, ◌∙◌, arith, false, get_or, length, lit<}
+use Rattle.std.proofs.Common.{ℕ, zero, suc, ◌+◌, ◌≡◌, ◌<◌, ◌/◌, ◌^◌, nat_eq, refl, ap, ap₂, sym, ◌∙◌, arith, false, get_or, lit<}
 use Rattle.std.proofs.lemmas.List.{get_or-replicate}
 use Rattle.std.specs.Int.{bit_at}
 use Rattle.std.proofs.lemmas.Nat.{bit_set_by_shift, and_mask}
@@ -9,16 +9,8 @@ use Rattle.gold.specs.Register.{sum_at, window}
 use Rattle.gold.specs.Sequence.{x1_taps, x1_start, x2_taps, x2_start, x1, x2}
 use Rattle.gold.specs.Gold.{gold_bit}
 use Rattle.gold.proofs.Windows.{recurrence, get_or-window}
-use Rattle.gold.proofs.Registers.{length-low_bits, get_or-low_bits}
+use Rattle.gold.proofs.Registers.{get_or-low_bits, x1_long, x2_long}
 use Rattle.gold.proofs.recurrences.Goals as goal
-
-x1_long : length x1_start ≡ 31
-unfolding x1_start
-x1_long = refl
-
-x2_long : (c_init : ℕ) → length (x2_start c_init) ≡ 31
-unfolding x2_start
-x2_long c_init = length-low_bits 31 c_init
 
 -- bit i of the window at n is bit n + i of the sequence
 x1-window : (n i : ℕ) → i < 31 → get_or (window x1_taps x1_start n) i false ≡ x1 (n + i)
