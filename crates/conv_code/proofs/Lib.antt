@@ -7,3 +7,4 @@ pub mod Costs
 pub mod OneToOne
 pub mod Rows
 pub mod Sizes
+pub mod Walk

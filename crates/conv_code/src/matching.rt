@@ -102,9 +102,16 @@ fn stream_indices<const N: usize>() -> [usize; N]
     requires high { N ≤ 64 }
     ensures { result ≡ stream_order N }
 {
+    let rows = N.div_ceil(32);
+    let nulls = 32 * rows - N;
     let mut order = [0; N];
-    for p in 0..N {
-        order[p] = stream_index(N, p);
+    let mut p = 0;
+    for m in 0..32 * rows {
+        let place = cell_at(Code::Convolutional, rows, m);
+        if place >= nulls {
+            order[p] = place - nulls;
+            p += 1;
+        }
     }
     order
 }
