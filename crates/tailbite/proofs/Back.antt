@@ -1,32 +1,40 @@
 -- A pass back over the places, kept by its loop.
-use Rattle.std.proofs.Common.{◌≡◌, ◌≢◌, ℕ, suc, ◌+◌, ◌-◌, ◌*◌, ◌^◌, ◌<◌, ◌≤◌, Bool, true, false, List, [], length, get_or, set, ℤ, inl, inr, refl, ap, ap₂, ◌∙◌, arith, get_or-set_other, get_or-set_same}
+use Rattle.std.proofs.Common.{◌≡◌, ◌≢◌, ℕ, zero, suc, ◌+◌, ◌-◌, ◌*◌, ◌^◌, ◌<◌, ◌≤◌, Bool, true, false, List, [], length, get_or, set, ℤ, inl, inr, refl, ap, ap₂, ◌∙◌, arith, get_or-set_same}
 use Rattle.std.specs.Prelude.{min, nat_lt}
 use Rattle.std.proofs.lemmas.Bool.{cases_lt}
+use Rattle.std.proofs.lemmas.List.{length-set}
 use Rattle.paths.specs.Paths.{best, best_bit}
-use Rattle.paths.specs.Rows.{least_out, bit_out}
+use Rattle.paths.specs.Rows.{least_out}
 use Rattle.tailbite.specs.Machine.{shift, step_cost}
-use Rattle.tailbite.specs.Costs.{AreCosts, shared_cost}
-use Rattle.tailbite.specs.Passes.{bit_in, IsPass}
+use Rattle.tailbite.specs.Costs.{AreCosts, HaveCosts, shared_cost}
+use Rattle.tailbite.specs.Passes.{told_bit, IsPass}
 use Rattle.tailbite.proofs.Windows.{shift_below}
 
--- the row and the bits are those of the places from i on
-pub record IsPassAt (values : List (List ℤ)) (ends : ℕ → ℕ) (row : List ℕ) (bits : List (List Bool)) (i : ℕ) : Type 0 where
+-- the entry of a row of rows
+abbrev pub entry : List (List ℕ) → ℕ → ℕ → ℕ
+entry rows k x = get_or (get_or rows k []) x 0
+
+-- the rows are those of the places from i on
+pub record IsPassAt (values : List (List ℤ)) (ends : ℕ → ℕ) (rows : List (List ℕ)) (i : ℕ) : Type 0 where
   pub place : i ≤ length values
-  pub cost : (x : ℕ) → x < 64 → get_or row x 0 ≡ best shift (step_cost values) ends i (length values - i) x
-  pub bit : (k m x : ℕ) → i ≤ k → k + suc m ≡ length values → x < 64 → bit_in bits k x ≡ best_bit shift (step_cost values) ends k m x
-  pub room : (x : ℕ) → x < 64 → get_or row x 0 ≤ 2 ^ 30 + (length values - i) * (3 * 2 ^ 20)
+  pub count : length values < length rows
+  pub cost : (k m x : ℕ) → i ≤ k → k + m ≡ length values → x < 64 → entry rows k x ≡ best shift (step_cost values) ends k m x
+  pub room : (k x : ℕ) → i ≤ k → k ≤ length values → x < 64 → entry rows k x ≤ 2 ^ 30 + (length values - k) * (3 * 2 ^ 20)
 
 -- at the end no place is left
-pub pass_end : (values : List (List ℤ)) (ends : List ℕ) (bits : List (List Bool)) → ((x : ℕ) → x < 64 → get_or ends x 0 ≤ 2 ^ 30) →
-    IsPassAt values (λ x. get_or ends x 0) ends bits (length values)
-pass_end values ends bits small =
-    let none : length values - length values ≡ 0 = omega arith in
-    record {
-      place = omega arith;
-      cost = λ x below. rw none refl;
-      bit = λ k m x late size below. absurd (omega (arith, late, size));
-      room = λ x below. let h = small x below in omega (arith, h);
-    }
+pub pass_end : (values : List (List ℤ)) (ends : List ℕ) (rows : List (List ℕ)) → length values < length rows →
+    ((x : ℕ) → x < 64 → get_or ends x 0 ≤ 2 ^ 30) → IsPassAt values (λ x. get_or ends x 0) (set rows (length values) ends) (length values)
+pass_end values ends rows inside small = record {
+  place = omega arith;
+  count = simp length-set (omega (arith, inside));
+  cost = λ k m x late size below.
+      let here : k ≡ length values = omega (arith, late, size) in
+      let none : m ≡ 0 = omega (arith, late, size) in
+      rw (here, none, get_or-set_same rows (length values) ends [] inside) refl;
+  room = λ k x late early below.
+      let here : k ≡ length values = omega (arith, late, early) in
+      rw (here, get_or-set_same rows (length values) ends [] inside) (let h = small x below in omega (arith, h));
+}
 
 -- the sums that a row is compared by
 same_sums : (costs row : List ℕ) (values : List (List ℤ)) (ends : ℕ → ℕ) (i m x : ℕ) (b : Bool) → AreCosts (get_or values i []) costs →
@@ -35,50 +43,61 @@ same_sums : (costs row : List ℕ) (values : List (List ℤ)) (ends : ℕ → �
 same_sums costs row values ends i m x b are known below = ap₂ ◌+◌ (are.cost x b below) (known (shift x b) (shift_below x b below))
 
 -- one place back
-pub pass_step : (values : List (List ℤ)) (ends : ℕ → ℕ) (costs row earlier : List ℕ) (bits : List (List Bool)) (step : List Bool) (j i : ℕ) →
-    IsPassAt values ends row bits j → j ≡ suc i → AreCosts (get_or values i []) costs → i < length bits →
-    ((x : ℕ) → x < 64 → get_or earlier x 0 ≡ least_out shift (shared_cost costs) row x) →
-    ((x : ℕ) → x < 64 → get_or step x false ≡ bit_out shift (shared_cost costs) row x) →
-    ((x : ℕ) → x < 64 → get_or earlier x 0 ≤ get_or row (shift x false) 0 + 3 * 2 ^ 20) →
-    IsPassAt values ends earlier (set bits i step) i
-pass_step values ends costs row earlier bits step j i known next are inside least chosen growth = back (rw next at known)
+pub pass_step : (values : List (List ℤ)) (ends : ℕ → ℕ) (costs : List ℕ) (rows rows' : List (List ℕ)) (j i : ℕ) →
+    IsPassAt values ends rows j → j ≡ i + 1 → AreCosts (get_or values i []) costs →
+    ((x : ℕ) → x < 64 → entry rows' i x ≡ least_out shift (shared_cost costs) (get_or rows (i + 1) []) x) →
+    ((x : ℕ) → x < 64 → entry rows' i x ≤ entry rows (i + 1) (shift x false) + 3 * 2 ^ 20) →
+    ((k : ℕ) → k ≢ i → get_or rows' k [] ≡ get_or rows k []) → length rows' ≡ length rows → IsPassAt values ends rows' i
+pass_step values ends costs rows rows' j i known next are least growth others count = record {
+  place = let h = known.place in omega (arith, h, next);
+  count = let h = known.count in omega (arith, h, count);
+  cost = λ k m x late size below. elim (cases_lt i k) [
+    | inl later ↦
+        let apart : k ≢ i = omega (arith, later) in
+        ap (λ (r : List ℕ). get_or r x 0) (others k apart) ∙ known.cost k m x (omega (arith, later, next)) size below
+    | inr early ↦ here k m x (omega (arith, late, early)) size below
+  ];
+  room = λ k x late early below. elim (cases_lt i k) [
+    | inl later ↦
+        let apart : k ≢ i = omega (arith, later) in
+        rw (others k apart) (known.room k x (omega (arith, later, next)) early below)
+    | inr no_later ↦
+        let e : k ≡ i = omega (arith, late, no_later) in
+        let h = growth x below in
+        let h' = known.room (i + 1) (shift x false) (omega (arith, next)) (let p = known.place in omega (arith, p, next)) (shift_below x false below) in
+        let p = known.place in
+        rw e (omega (arith, h, h', p, next))
+  ];
+}
   where
-    back : IsPassAt values ends row bits (suc i) → IsPassAt values ends earlier (set bits i step) i
-    back known = record {
-      place = let h = known.place in omega (arith, h);
-      cost = λ x below.
-          let left : length values - i ≡ suc (length values - suc i) = let h = known.place in omega (arith, h) in
-          rw left
-          (least x below
-          ∙ ap₂ min (same_sums costs row values ends i (length values - suc i) x false are known.cost below)
-          (same_sums costs row values ends i (length values - suc i) x true are known.cost below));
-      bit = λ k m x late size below. elim (cases_lt i k) [
-        | inl later ↦
-            let apart : k ≢ i = omega (arith, later) in
-            ap (λ (r : List Bool). get_or r x false) (get_or-set_other bits i k step [] apart) ∙ known.bit k m x later size below
-        | inr here ↦
-            let e : k ≡ i = omega (arith, late, here) in
-            let left : length values - suc i ≡ m = omega (arith, size, e) in
-            let row_is = rw left at known.cost in
-            rw (e, get_or-set_same bits i step [] inside)
-            (chosen x below
-            ∙ ap₂ nat_lt (same_sums costs row values ends i m x true are row_is below) (same_sums costs row values ends i m x false are row_is below))
-      ];
-      room = λ x below.
-          let h = growth x below in
-          let h' = known.room (shift x false) (shift_below x false below) in
-          let p = known.place in
-          omega (arith, h, h', p);
-    }
+    here : (k m x : ℕ) → k ≡ i → k + m ≡ length values → x < 64 → entry rows' k x ≡ best shift (step_cost values) ends k m x
+    here k zero x e size below = absurd (let p = known.place in omega (arith, p, next, e, size))
+    here k (suc m) x e size below =
+        let row_is : (x : ℕ) → x < 64 → get_or (get_or rows (i + 1) []) x 0 ≡ best shift (step_cost values) ends (suc i) m x =
+        λ x below'.
+        known.cost (i + 1) m x (omega (arith, next)) (omega (arith, size, e)) below'
+        ∙ ap (λ (k : ℕ). best shift (step_cost values) ends k m x) (let one : i + 1 ≡ suc i = omega arith in one) in
+        rw e
+        (least x below
+        ∙ ap₂ min (same_sums costs (get_or rows (i + 1) []) values ends i m x false are row_is below)
+        (same_sums costs (get_or rows (i + 1) []) values ends i m x true are row_is below))
 
 -- at the start all places are passed
-pub pass_start : (values : List (List ℤ)) (ends : ℕ → ℕ) (row : List ℕ) (bits : List (List Bool)) (i : ℕ) → IsPassAt values ends row bits i → i ≤ 0 →
-    IsPass values ends row bits
-pass_start values ends row bits i known done =
-    let e : i ≡ 0 = omega (arith, done) in
-    let known' = rw e at known in
-    let all : length values - 0 ≡ length values = omega arith in
-    record {
-      cost = λ x below. rw all at (known'.cost x below);
-      bit = λ k m x size below. known'.bit k m x (omega arith) size below;
-    }
+pub pass_start : (values : List (List ℤ)) (ends : ℕ → ℕ) (rows : List (List ℕ)) (i : ℕ) → length values ≤ 64 → IsPassAt values ends rows i → i ≤ 0 →
+    IsPass values ends rows
+pass_start values ends rows i short known done = record {
+  cost = λ k m x size below. known.cost k m x (omega (arith, done)) size below;
+  room = λ k x inside below. let h = known.room k x (omega (arith, done)) inside below in omega (arith, h, short);
+}
+
+-- what is told is the bit with which the least cost begins
+pub told_best : (values : List (List ℤ)) (tables : List (List ℕ)) (ends : ℕ → ℕ) (rows : List (List ℕ)) → HaveCosts values tables (length values) →
+    IsPass values ends rows → (k m x : ℕ) → k + suc m ≡ length values → x < 64 → told_bit tables rows k x ≡ best_bit shift (step_cost values) ends k m x
+told_best values tables ends rows have passed k m x size below =
+    let are = have.place k (omega (arith, size)) in
+    let row_is : (x : ℕ) → x < 64 → get_or (get_or rows (k + 1) []) x 0 ≡ best shift (step_cost values) ends (suc k) m x =
+    λ x below'.
+    passed.cost (k + 1) m x (omega (arith, size)) below'
+    ∙ ap (λ (j : ℕ). best shift (step_cost values) ends j m x) (let one : k + 1 ≡ suc k = omega arith in one) in
+    ap₂ nat_lt (same_sums (get_or tables k []) (get_or rows (k + 1) []) values ends k m x true are row_is below)
+    (same_sums (get_or tables k []) (get_or rows (k + 1) []) values ends k m x false are row_is below)

@@ -1,23 +1,25 @@
 -- The keys that passes give are bounds and keys of words, and the least key is that of the least word.
-use Rattle.std.proofs.Common.{◌≡◌, ℕ, ◌+◌, ◌*◌, ◌/◌, ◌%◌, ◌^◌, ◌<◌, ◌≤◌, Bool, List, length, get_or, set, ℤ, refl, ap, sym, ◌∙◌, subst, inl, inr, arith, get_or-set_other, get_or-set_same}
+use Rattle.std.proofs.Common.{◌≡◌, ℕ, ◌+◌, ◌*◌, ◌/◌, ◌%◌, ◌^◌, ◌<◌, ◌≤◌, Bool, List, [], length, max, get_or, set, ℤ, refl, ap, sym, ◌∙◌, subst, inl, inr, arith, get_or-set_other, get_or-set_same}
 use Rattle.std.specs.Prelude.{min}
 use Rattle.std.proofs.lemmas.Bool.Decides.{eqb_tells}
 use Rattle.std.proofs.Math.Pow.{pow_mono}
 use Rattle.finite.specs.Sizes.{RowsWithin}
 use Rattle.cs_bits.specs.Numbers.{number, bits_of}
 use Rattle.cs_bits.proofs.Numbers.{number_below, bits_of_is, length-bits_of}
-use Rattle.paths.specs.Paths.{end_of, path_cost, walked}
+use Rattle.paths.specs.Paths.{end_of, path_cost, walked, best}
 use Rattle.paths.specs.Words.{IsFirstLeast}
-use Rattle.paths.specs.Least.{ends_in}
+use Rattle.paths.specs.Least.{ends_in, IsLeastTo}
 use Rattle.paths.proofs.Walks.{length-walked, walked_first, first_least_is_best}
 use Rattle.paths.proofs.Keys.{first_least-key, first_least_by_key}
-use Rattle.paths.proofs.Best.{min_cases}
+use Rattle.paths.proofs.Best.{min_cases, best-le}
 use Rattle.paths.proofs.Rounds.{ends_in_same, ends_in_other}
 use Rattle.conv_code.specs.Cost.{word_cost}
 use Rattle.conv_code.proofs.Costs.{word_cost-le}
 use Rattle.tailbite.specs.LeastWord.{IsLeastWord}
 use Rattle.tailbite.specs.Machine.{shift, step_cost}
-use Rattle.tailbite.specs.Passes.{bit_in, IsPass}
+use Rattle.tailbite.specs.Passes.{told_bit, IsPass}
+use Rattle.tailbite.specs.Costs.{HaveCosts}
+use Rattle.tailbite.proofs.Back.{told_best}
 use Rattle.tailbite.specs.Keys.{scale, far, word_key, IsWordKey, IsBound, AreBounds, IsKeyOrFar, IsLeastKey}
 use Rattle.tailbite.proofs.Windows.{same_end, end_below, shift_below}
 use Rattle.tailbite.proofs.Branches.{word_cost-path}
@@ -38,60 +40,75 @@ wide n short = pow_mono {j = 64} short
 
 -- ---- what a pass gives
 
--- the word that the bits tell from state s on
-abbrev told_word : List (List ℤ) → List (List Bool) → ℕ → List Bool
-told_word values bits s = walked shift (bit_in bits) 0 (length values) s
+-- the word that the rows tell from state s on
+abbrev told_word : List (List ℤ) → List (List ℕ) → List (List ℕ) → ℕ → List Bool
+told_word values tables rows s = walked shift (told_bit tables rows) 0 (length values) s
 
-told_first : (values : List (List ℤ)) (ends : ℕ → ℕ) (row : List ℕ) (bits : List (List Bool)) (s : ℕ) → IsPass values ends row bits → s < 64 →
-    IsFirstLeast (length values) (λ bs. path_cost shift (step_cost values) 0 s bs + ends (end_of shift s bs)) (told_word values bits s)
-told_first values ends row bits s passed below =
-    walked_first shift (step_cost values) ends (bit_in bits) 64 (length values) shift_below passed.bit 0 (length values) s (omega arith) below
+told_first : (values : List (List ℤ)) (ends : ℕ → ℕ) (tables : List (List ℕ)) (rows : List (List ℕ)) (s : ℕ) → HaveCosts values tables (length values) → IsPass values ends rows → s < 64 →
+    IsFirstLeast (length values) (λ bs. path_cost shift (step_cost values) 0 s bs + ends (end_of shift s bs)) (told_word values tables rows s)
+told_first values ends tables rows s have passed below =
+    walked_first shift (step_cost values) ends (told_bit tables rows) 64 (length values) shift_below (told_best values tables ends rows have passed) 0 (length values) s (omega arith) below
 
-told_cost : (values : List (List ℤ)) (ends : ℕ → ℕ) (row : List ℕ) (bits : List (List Bool)) (s : ℕ) → IsPass values ends row bits → s < 64 →
-    path_cost shift (step_cost values) 0 s (told_word values bits s) + ends (end_of shift s (told_word values bits s)) ≡ get_or row s 0
-told_cost values ends row bits s passed below =
-    first_least_is_best shift (step_cost values) ends 0 (length values) s (told_word values bits s) (told_first values ends row bits s passed below)
-    ∙ sym (passed.cost s below)
+told_cost : (values : List (List ℤ)) (ends : ℕ → ℕ) (tables : List (List ℕ)) (rows : List (List ℕ)) (s : ℕ) → HaveCosts values tables (length values) → IsPass values ends rows → s < 64 →
+    path_cost shift (step_cost values) 0 s (told_word values tables rows s) + ends (end_of shift s (told_word values tables rows s)) ≡ get_or (get_or rows 0 []) s 0
+told_cost values ends tables rows s have passed below =
+    first_least_is_best shift (step_cost values) ends 0 (length values) s (told_word values tables rows s) (told_first values ends tables rows s have passed below)
+    ∙ sym (passed.cost 0 (length values) s (omega arith) below)
 
 -- where an end in s is free, no word that starts in s has a smaller key
-pub pass_bound : (values : List (List ℤ)) (ends : ℕ → ℕ) (row : List ℕ) (bits : List (List Bool)) (s : ℕ) → IsPass values ends row bits →
-    6 ≤ length values → length values ≤ 64 → s < 64 → ends s ≡ 0 → IsBound values s (get_or row s 0 * scale + number (told_word values bits s))
-pass_bound values ends row bits s passed long short below free word size is =
+pub pass_bound : (values : List (List ℤ)) (ends : ℕ → ℕ) (tables : List (List ℕ)) (rows : List (List ℕ)) (s : ℕ) → HaveCosts values tables (length values) → IsPass values ends rows →
+    6 ≤ length values → length values ≤ 64 → s < 64 → ends s ≡ 0 → IsBound values s (get_or (get_or rows 0 []) s 0 * scale + number (told_word values tables rows s))
+pass_bound values ends tables rows s have passed long short below free word size is =
     let (back, cost) = round values s word size long below is in
     let free_end : ends (end_of shift s word) ≡ 0 = ap ends back ∙ free in
-    let least = first_least-key (length values) (scale) (λ bs. path_cost shift (step_cost values) 0 s bs + ends (end_of shift s bs)) (told_word values bits s)
-    (wide (length values) short) (told_first values ends row bits s passed below) word size in
-    let told = told_cost values ends row bits s passed below in
+    let least = first_least-key (length values) (scale) (λ bs. path_cost shift (step_cost values) 0 s bs + ends (end_of shift s bs)) (told_word values tables rows s)
+    (wide (length values) short) (told_first values ends tables rows s have passed below) word size in
+    let told = told_cost values ends tables rows s have passed below in
     omega (arith, cost, free_end, least, told)
 
+-- where all ends and all starts are free, no word that starts in s, and so ends there, costs less than either
+pub cost_bound : (values : List (List ℤ)) (ends : ℕ → ℕ) (rows : List (List ℕ)) (s m : ℕ) → IsPass values ends rows → 6 ≤ length values → s < 64 → ends s ≡ 0 →
+    IsLeastTo shift (step_cost values) (λ start. 0) 64 (length values) s m → IsBound values s (max (get_or (get_or rows 0 []) s 0) m * scale)
+cost_bound values ends rows s m passed long below free to word size is =
+    let (back, cost) = round values s word size long below is in
+    let free_end : ends (end_of shift s word) ≡ 0 = ap ends back ∙ free in
+    let from_s = best-le shift (step_cost values) ends 0 s word in
+    let from_is : get_or (get_or rows 0 []) s 0 ≡ best shift (step_cost values) ends 0 (length word) s = passed.cost 0 (length word) s (omega (arith, size)) below in
+    let to_s = to.least s word below size back in
+    omega (arith, cost, free_end, from_s, from_is, to_s)
+
 -- where the path ends in s too, and that is free, it is a word's
-pub pass_key : (values : List (List ℤ)) (ends : ℕ → ℕ) (row : List ℕ) (bits : List (List Bool)) (s : ℕ) → IsPass values ends row bits →
-    6 ≤ length values → s < 64 → ends s ≡ 0 → end_of shift s (told_word values bits s) ≡ s →
-    IsWordKey values (get_or row s 0 * scale + number (told_word values bits s))
-pass_key values ends row bits s passed long below free closed =
-    let word = told_word values bits s in
-    let size = length-walked shift (bit_in bits) 0 (length values) s in
+pub pass_key : (values : List (List ℤ)) (ends : ℕ → ℕ) (tables : List (List ℕ)) (rows : List (List ℕ)) (s : ℕ) → HaveCosts values tables (length values) → IsPass values ends rows →
+    6 ≤ length values → s < 64 → ends s ≡ 0 → end_of shift s (told_word values tables rows s) ≡ s →
+    IsWordKey values (get_or (get_or rows 0 []) s 0 * scale + number (told_word values tables rows s))
+pass_key values ends tables rows s have passed long below free closed =
+    let word = told_word values tables rows s in
+    let size = length-walked shift (told_bit tables rows) 0 (length values) s in
     let start : end_of shift 0 word ≡ s = same_end 0 s word (omega arith) below (omega (arith, size, long)) ∙ closed in
     let (back, cost) = round values s word size long below start in
     let free_end : ends (end_of shift s word) ≡ 0 = ap ends closed ∙ free in
-    let told = told_cost values ends row bits s passed below in
+    let told = told_cost values ends tables rows s have passed below in
     (word, size, omega (arith, cost, free_end, told))
 
 -- where only an end in s is free
-pub pass_key_or_far : (values : List (List ℤ)) (ends : ℕ → ℕ) (row : List ℕ) (bits : List (List Bool)) (s : ℕ) → IsPass values ends row bits →
+pub pass_key_or_far : (values : List (List ℤ)) (ends : ℕ → ℕ) (tables : List (List ℕ)) (rows : List (List ℕ)) (s : ℕ) → HaveCosts values tables (length values) → IsPass values ends rows →
     6 ≤ length values → s < 64 → ((x : ℕ) → x < 64 → ends x ≡ ends_in far s x) →
-    IsKeyOrFar values (get_or row s 0 * scale + number (told_word values bits s))
-pass_key_or_far values ends row bits s passed long below are small =
-    let word = told_word values bits s in
+    IsKeyOrFar values (get_or (get_or rows 0 []) s 0 * scale + number (told_word values tables rows s))
+pass_key_or_far values ends tables rows s have passed long below are small =
+    let word = told_word values tables rows s in
     elim (eqb_tells (end_of shift s word) s) [
-      | inl (t, closed) ↦ pass_key values ends row bits s passed long below (are s below ∙ ends_in_same (far) s s refl) closed
+      | inl (t, closed) ↦ pass_key values ends tables rows s have passed long below (are s below ∙ ends_in_same (far) s s refl) closed
       | inr (f, away) ↦
           let costs : ends (end_of shift s word) ≡ far = are (end_of shift s word) (end_below s word below) ∙ ends_in_other (far) s (end_of shift s word) f in
-          let told = told_cost values ends row bits s passed below in
+          let told = told_cost values ends tables rows s have passed below in
           absurd (omega (arith, costs, told, small))
     ]
 
 -- ---- the least key
+
+-- the greater of two bounds
+pub greater_bound : (values : List (List ℤ)) (s m n : ℕ) → IsBound values s m → IsBound values s n → IsBound values s (max m n)
+greater_bound values s m n one other word size is = let h = one word size is in let h' = other word size is in omega (arith, h, h')
 
 -- the lesser of two
 pub least_or_far : (values : List (List ℤ)) (m n : ℕ) → IsKeyOrFar values m → IsKeyOrFar values n → IsKeyOrFar values (min m n)

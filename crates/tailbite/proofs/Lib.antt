@@ -7,3 +7,4 @@ pub mod Back
 pub mod Walking
 pub mod Keys
 pub mod Only
+pub mod Pairs

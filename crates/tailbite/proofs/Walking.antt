@@ -1,28 +1,27 @@
--- A walk over rows of bits, kept by its loop.
-use Rattle.std.proofs.Common.{◌≡◌, ℕ, suc, ◌+◌, ◌-◌, ◌*◌, ◌^◌, ◌<◌, ◌≤◌, Bool, true, false, cond, List, refl, sym, ◌∙◌, arith}
+-- A walk by the bits of places and states, kept by its loop.
+use Rattle.std.proofs.Common.{◌≡◌, ℕ, suc, ◌+◌, ◌-◌, ◌*◌, ◌^◌, ◌<◌, ◌≤◌, Bool, true, false, cond, refl, sym, ◌∙◌, arith}
 use mir.Val.{bool_byte}
 use Rattle.std.proofs.Math.Nat.{pow-suc}
 use Rattle.cs_bits.specs.Numbers.{number}
 use Rattle.paths.specs.Paths.{end_of, walked}
 use Rattle.paths.proofs.Walks.{length-walked}
 use Rattle.tailbite.specs.Machine.{shift}
-use Rattle.tailbite.specs.Passes.{bit_in}
 use Rattle.tailbite.proofs.Windows.{shift_below}
 
 -- after k of n bits: the number of these, the state that they lead to, and that the whole walk goes on from there
-pub record IsWalkAt (bits : List (List Bool)) (n start k word state : ℕ) : Type 0 where
+pub record IsWalkAt (bit_at : ℕ → ℕ → Bool) (n start k word state : ℕ) : Type 0 where
   pub state_below : state < 64
   pub small : word < 2 ^ k
-  pub word_is : number (walked shift (bit_in bits) 0 n start) ≡ word * 2 ^ (n - k) + number (walked shift (bit_in bits) k (n - k) state)
-  pub end_is : end_of shift start (walked shift (bit_in bits) 0 n start) ≡ end_of shift state (walked shift (bit_in bits) k (n - k) state)
+  pub word_is : number (walked shift bit_at 0 n start) ≡ word * 2 ^ (n - k) + number (walked shift bit_at k (n - k) state)
+  pub end_is : end_of shift start (walked shift bit_at 0 n start) ≡ end_of shift state (walked shift bit_at k (n - k) state)
 
-pub walk_begins : (bits : List (List Bool)) (n start : ℕ) → start < 64 → IsWalkAt bits n start 0 0 start
-walk_begins bits n start below =
+pub walk_begins : (bit_at : ℕ → ℕ → Bool) (n start : ℕ) → start < 64 → IsWalkAt bit_at n start 0 0 start
+walk_begins bit_at n start below =
     let all : n - 0 ≡ n = omega arith in
     record {
       state_below = below;
       small = omega arith;
-      word_is = rw all (let e : number (walked shift (bit_in bits) 0 n start) ≡ 0 * 2 ^ n + number (walked shift (bit_in bits) 0 n start) = omega arith in e);
+      word_is = rw all (let e : number (walked shift bit_at 0 n start) ≡ 0 * 2 ^ n + number (walked shift bit_at 0 n start) = omega arith in e);
       end_is = rw all refl;
     }
 
@@ -34,24 +33,24 @@ bit_small : (word k : ℕ) (b : Bool) → word < 2 ^ k → 2 * word + bool_byte 
 bit_small word k false h = let p = pow-suc 2 k in omega (arith, p, h)
 bit_small word k true h = let p = pow-suc 2 k in omega (arith, p, h)
 
-pub walk_more : (bits : List (List Bool)) (n start k word state : ℕ) → k < n → IsWalkAt bits n start k word state →
-    IsWalkAt bits n start (k + 1) (2 * word + bool_byte (bit_in bits k state)) (shift state (bit_in bits k state))
-walk_more bits n start k word state inside known =
+pub walk_more : (bit_at : ℕ → ℕ → Bool) (n start k word state : ℕ) → k < n → IsWalkAt bit_at n start k word state →
+    IsWalkAt bit_at n start (k + 1) (2 * word + bool_byte (bit_at k state)) (shift state (bit_at k state))
+walk_more bit_at n start k word state inside known =
     let one : k + 1 ≡ suc k = omega arith in
     let left : n - k ≡ suc (n - suc k) = omega (arith, inside) in
-    let b = bit_in bits k state in
+    let b = bit_at k state in
     rw one (record {
       state_below = shift_below state b known.state_below;
       small = bit_small word k b known.small;
       word_is =
           (rw left at known.word_is)
-          ∙ shifted word (n - suc k) _ b _ (length-walked shift (bit_in bits) (suc k) (n - suc k) (shift state b));
+          ∙ shifted word (n - suc k) _ b _ (length-walked shift bit_at (suc k) (n - suc k) (shift state b));
       end_is = rw left at known.end_is;
     })
 
-pub walk_ends : (bits : List (List Bool)) (n start k word state : ℕ) → n ≤ k → IsWalkAt bits n start k word state →
-    (word ≡ number (walked shift (bit_in bits) 0 n start)) × (state ≡ end_of shift start (walked shift (bit_in bits) 0 n start))
-walk_ends bits n start k word state done known =
+pub walk_ends : (bit_at : ℕ → ℕ → Bool) (n start k word state : ℕ) → n ≤ k → IsWalkAt bit_at n start k word state →
+    (word ≡ number (walked shift bit_at 0 n start)) × (state ≡ end_of shift start (walked shift bit_at 0 n start))
+walk_ends bit_at n start k word state done known =
     let none : n - k ≡ 0 = omega (arith, done) in
     let w = rw none at known.word_is in
     let e = rw none at known.end_is in

@@ -17,5 +17,6 @@ pub record Speaks (values : List (List ℤ)) (word : List Bool) : Type 0 where
 -- where all values speak for a word, it is the only least word, for 6 bits and more
 abbrev pub IsOnlyLeast : Type 0
 IsOnlyLeast =
-    (values : List (List ℤ)) (word least : List Bool) → 6 ≤ length values → length word ≡ length values → Speaks values word →
+    (values : List (List ℤ)) (word least : List Bool) → 6 ≤ length values → length word ≡ length values →
+    Speaks values word →
     IsLeastWord values least → least ≡ word

@@ -7,4 +7,5 @@ use Rattle.conv_code.specs.Cost.{word_cost}
 pub record IsLeastWord (values : List (List ℤ)) (word : List Bool) : Type 0 where
   pub size : length word ≡ length values
   pub least : (other : List Bool) → length other ≡ length values → word_cost values word ≤ word_cost values other
-  pub first : (other : List Bool) → length other ≡ length values → IsBefore other word → word_cost values word < word_cost values other
+  pub first : (other : List Bool) → length other ≡ length values → IsBefore other word →
+      word_cost values word < word_cost values other

@@ -1,4 +1,5 @@
--- The encoder as a machine of 64 states. A state holds the last six bits, the newest with weight 32 (TS 36.212 section 5.1.3.1).
+-- The encoder as a machine of 64 states. A state holds the last six bits, the newest with weight 32 (TS 36.212 section
+-- 5.1.3.1).
 use Rattle.std.specs.Prelude.{ℕ, zero, suc, ◌+◌, ◌-◌, ◌*◌, ◌/◌, ◌%◌, ◌^◌, Bool, cond, List, [], map, slice_index_or, ℤ}
 use Rattle.finite.specs.Bits.{odd}
 use Rattle.paths.specs.Rows.{least_in}
@@ -17,7 +18,8 @@ window_bit x b (suc t) = odd (x / 2 ^ (5 - t))
 -- what the three values of a place speak against the coded bits of the step from x by b
 abbrev pub branch_cost : List ℤ → ℕ → Bool → ℕ
 branch_cost v x b =
-    triple_cost v (parity (map (window_bit x b) taps_0)) (parity (map (window_bit x b) taps_1)) (parity (map (window_bit x b) taps_2))
+    triple_cost v (parity (map (window_bit x b) taps_0)) (parity (map (window_bit x b) taps_1))
+    (parity (map (window_bit x b) taps_2))
 
 -- what the step at place k costs
 abbrev pub step_cost : List (List ℤ) → ℕ → ℕ → Bool → ℕ

@@ -1,15 +1,20 @@
 -- Passes back over all places (own).
-use Rattle.std.specs.Prelude.{◌≡◌, ℕ, suc, ◌+◌, ◌<◌, Bool, false, List, [], length, slice_index, slice_index_or, ℤ}
-use Rattle.paths.specs.Paths.{best, best_bit}
+use Rattle.std.specs.Prelude.{◌≡◌, ℕ, ◌+◌, ◌^◌, ◌<◌, ◌≤◌, Bool, List, [], length, slice_index, slice_index_or, ℤ}
+use Rattle.paths.specs.Paths.{best}
+use Rattle.paths.specs.Rows.{bit_out}
 use Rattle.tailbite.specs.Machine.{shift, step_cost}
+use Rattle.tailbite.specs.Costs.{shared_cost}
 
--- the bit that rows of bits tell for a place and a state
-abbrev pub bit_in : List (List Bool) → ℕ → ℕ → Bool
-bit_in rows k x = slice_index_or (slice_index_or rows k []) x false
+-- row k has the least cost of a path from each state through the places from k on, with what its end costs
+pub record IsPass (values : List (List ℤ)) (ends : ℕ → ℕ) (rows : List (List ℕ)) : Type 0 where
+  pub cost : (k m x : ℕ) → k + m ≡ length values → x < 64 →
+      slice_index (slice_index_or rows k []) x ≡ best shift (step_cost values) ends k m x
+  pub room : (k x : ℕ) → k ≤ length values → x < 64 → slice_index (slice_index_or rows k []) x ≤ 2 ^ 31
 
--- the row has the least cost of a path through all places from each state, with what its end costs, and the rows of
--- bits have the bit with which the least cost from each place and state begins
-pub record IsPass (values : List (List ℤ)) (ends : ℕ → ℕ) (row : List ℕ) (bits : List (List Bool)) : Type 0 where
-  pub cost : (x : ℕ) → x < 64 → slice_index row x ≡ best shift (step_cost values) ends 0 (length values) x
-  pub bit : (k m x : ℕ) → k + suc m ≡ length values → x < 64 →
-      bit_in bits k x ≡ best_bit shift (step_cost values) ends k m x
+-- rows of a pass with every end free
+abbrev pub IsFreePass : List (List ℤ) → List (List ℕ) → Type 0
+IsFreePass values rows = (ends : ℕ → ℕ) × ((x : ℕ) → x < 64 → ends x ≡ 0) × IsPass values ends rows
+
+-- the bit that the tables of costs and such rows tell for a place and a state: that with which the least cost begins
+abbrev pub told_bit : List (List ℕ) → List (List ℕ) → ℕ → ℕ → Bool
+told_bit tables rows k = bit_out shift (shared_cost (slice_index_or tables k [])) (slice_index_or rows (k + 1) [])

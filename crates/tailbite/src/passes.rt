@@ -1,87 +1,144 @@
-//! Passes back over the places: the least cost from each state to an end, and the bits that lead there.
+//! Passes over the places: the least cost from each state to an end, and to each state from any start.
 
-ghost use Rattle.std.specs.Prelude.{◌≡◌, ℕ, ◌+◌, ◌*◌, ◌^◌, ◌<◌, ◌≤◌, false, length, slice_index, slice_index_or};
+ghost use Rattle.std.specs.Prelude.{◌≡◌, ◌≢◌, ℕ, ◌+◌, ◌*◌, ◌^◌, ◌<◌, ◌≤◌, false, [], length};
+ghost use Rattle.std.specs.Prelude.{slice_index, slice_index_or};
+ghost use Rattle.paths.specs.Least.{IsLeastTo};
 ghost use Rattle.paths.specs.Paths.{end_of, walked};
-ghost use Rattle.paths.specs.Rows.{bit_out, least_out};
+ghost use Rattle.paths.specs.Rows.{bit_out, least_in, least_out};
 ghost use Rattle.cs_bits.specs.Numbers.{number};
-ghost use Rattle.tailbite.specs.Machine.{shift};
+ghost use Rattle.tailbite.specs.Machine.{first_from, newest_bit, second_from, shift, step_cost};
 ghost use Rattle.tailbite.specs.Costs.{HaveCosts, shared_cost};
-ghost use Rattle.tailbite.specs.Passes.{IsPass, bit_in};
+ghost use Rattle.tailbite.specs.Passes.{IsPass, told_bit};
 
 use crate::costs::StepCosts;
 use crate::steps::next;
 
-/// For each state the bit with which the least cost begins.
-pub(crate) type StepBits = [bool; 64];
+/// A cost for each state.
+pub(crate) type Row = [u32; 64];
 
-/// Writes the row of least costs from each state, one step before the given row, and the bits with which they begin. Of
-/// two equal costs that of the bit 0 counts, since its word stands first.
-// Inlined, the loop is not compiled into vector instructions.
+/// Writes the row of least costs from each state, one step before the given row.
+// Inlined, the loops are not compiled into vector instructions; nor is one that writes both states of a pair.
 #[inline(never)]
-fn step_back(costs: &StepCosts, row: &[u32; 64], earlier: &mut [u32; 64], bits: &mut StepBits)
+fn step_back(costs: &StepCosts, row: &Row, earlier: &mut Row)
     requires small { (y : ℕ) → y < 64 → slice_index costs.now y ≤ 3 * 2 ^ 20 }
     requires room { (x : ℕ) → x < 64 → slice_index row.now x ≤ 2 ^ 31 }
     ensures least { (x : ℕ) → x < 64 → slice_index earlier.new x ≡ least_out shift (shared_cost costs.now) row.now x }
-    ensures bits { (x : ℕ) → x < 64 →
-        slice_index_or bits.new x false ≡ bit_out shift (shared_cost costs.now) row.now x }
     ensures growth { (x : ℕ) → x < 64 → slice_index earlier.new x ≤ slice_index row.now (shift x false) + 3 * 2 ^ 20 }
 {
+    let mut even = [0; 32];
+    let mut odd = [0; 32];
     for h in 0..32 {
-        let by_0 = costs[h] + row[h];
-        let by_1 = costs[h + 32] + row[h + 32];
-        earlier[2 * h] = by_0.min(by_1);
-        bits[2 * h] = by_1 < by_0;
-        let odd_by_0 = costs[h + 32] + row[h];
-        let odd_by_1 = costs[h] + row[h + 32];
-        earlier[2 * h + 1] = odd_by_0.min(odd_by_1);
-        bits[2 * h + 1] = odd_by_1 < odd_by_0;
+        even[h] = (costs[h] + row[h]).min(costs[h + 32] + row[h + 32]);
+        odd[h] = (costs[h + 32] + row[h]).min(costs[h] + row[h + 32]);
+    }
+    for h in 0..32 {
+        earlier[2 * h] = even[h];
+        earlier[2 * h + 1] = odd[h];
     }
 }
 
-/// The least cost of a path through all places from each state, with what `ends` says of the state in which it ends;
-/// writes for each place and state the bit with which the least cost from there begins.
-pub(crate) fn pass(
-    values: &[[i32; 3]],
-    tables: &[StepCosts],
-    ends: &[u32; 64],
-    bits: &mut [StepBits],
-) -> [u32; 64]
+/// Writes row i by row i + 1.
+fn write_earlier(costs: &StepCosts, rows: &mut [Row], i: usize)
+    requires inside { i + 1 < length rows.old }
+    requires small { (y : ℕ) → y < 64 → slice_index costs.now y ≤ 3 * 2 ^ 20 }
+    requires room { (x : ℕ) → x < 64 → slice_index (slice_index_or rows.old (i + 1) []) x ≤ 2 ^ 31 }
+    ensures least { (x : ℕ) → x < 64 →
+        slice_index (slice_index_or rows.new i []) x
+        ≡ least_out shift (shared_cost costs.now) (slice_index_or rows.old (i + 1) []) x }
+    ensures growth { (x : ℕ) → x < 64 →
+        slice_index (slice_index_or rows.new i []) x
+        ≤ slice_index (slice_index_or rows.old (i + 1) []) (shift x false) + 3 * 2 ^ 20 }
+    ensures others { (k : ℕ) → k ≢ i → slice_index_or rows.new k [] ≡ slice_index_or rows.old k [] }
+    ensures count { length rows.new ≡ length rows.old }
+{
+    let (earlier, later) = rows.split_at_mut(i + 1);
+    step_back(costs, &later[0], &mut earlier[i]);
+}
+
+/// Writes, for each place, the least cost from each state to an end, with what `ends` says of the state in which it
+/// ends; the row after the last place is that of the ends.
+pub(crate) fn pass(values: &[[i32; 3]], tables: &[StepCosts], ends: &Row, rows: &mut [Row])
     requires places { length values.now ≤ 64 }
     requires tables { length values.now ≤ length tables.now }
-    requires bits { length values.now ≤ length bits.old }
+    requires rows { length values.now < length rows.old }
     requires costs { HaveCosts values.now tables.now (length values.now) }
     requires ends { (x : ℕ) → x < 64 → slice_index ends.now x ≤ 2 ^ 30 }
-    ensures { IsPass values.now (slice_index ends.now) result bits.new }
+    ensures pass { IsPass values.now (slice_index ends.now) rows.new }
+    ensures count { length rows.new ≡ length rows.old }
 {
-    let mut row = *ends;
-    let mut earlier = [0; 64];
     let mut i = values.len();
-    // Two places a turn, so that no row is copied.
-    while i > 1 {
-        i -= 2;
-        step_back(&tables[i + 1], &row, &mut earlier, &mut bits[i + 1]);
-        step_back(&tables[i], &earlier, &mut row, &mut bits[i]);
+    rows[i] = *ends;
+    while i > 0 {
+        i -= 1;
+        write_earlier(&tables[i], rows, i);
     }
-    if i == 0 {
-        return row;
-    }
-    step_back(&tables[0], &row, &mut earlier, &mut bits[0]);
-    earlier
 }
 
-/// The word of `count` bits that the rows of bits tell from the start state on, as a number, and the state in which it
-/// ends.
-pub(crate) fn walk(bits: &[StepBits], count: usize, start: usize) -> (u64, usize)
+/// The row of least costs to each state, one step after the given row.
+#[inline(never)]
+fn step_on(costs: &StepCosts, row: &Row) -> Row
+    requires small { (y : ℕ) → y < 64 → slice_index costs.now y ≤ 3 * 2 ^ 20 }
+    requires room { (x : ℕ) → x < 64 → slice_index row.now x ≤ 2 ^ 31 }
+    ensures least { (x : ℕ) → x < 64 → slice_index result x ≡
+        least_in (shared_cost costs.now) row.now (first_from x) (newest_bit x) (second_from x) (newest_bit x) }
+    ensures growth { (x : ℕ) → x < 64 → slice_index result x ≤ slice_index row.now (first_from x) + 3 * 2 ^ 20 }
+{
+    let mut later = [0; 64];
+    for h in 0..32 {
+        later[h] = (row[2 * h] + costs[h]).min(row[2 * h + 1] + costs[h + 32]);
+        later[h + 32] = (row[2 * h] + costs[h + 32]).min(row[2 * h + 1] + costs[h]);
+    }
+    later
+}
+
+/// The least cost of a path through all places to each state, wherever it starts.
+pub(crate) fn reach(values: &[[i32; 3]], tables: &[StepCosts]) -> Row
+    requires places { length values.now ≤ 64 }
+    requires tables { length values.now ≤ length tables.now }
+    requires costs { HaveCosts values.now tables.now (length values.now) }
+    ensures { (x : ℕ) → x < 64 →
+        IsLeastTo shift (step_cost values.now) (λ start. 0) 64 (length values.now) x (slice_index result x) }
+{
+    let mut row = [0; 64];
+    for i in 0..values.len() {
+        row = step_on(&tables[i], &row);
+    }
+    row
+}
+
+/// The bit with which the least cost from a state begins, where the row has the least costs one step on: of two equal
+/// costs that of the bit 0 counts, since its word stands first.
+fn bit_from(costs: &StepCosts, row: &Row, state: usize) -> bool
+    requires state { state < 64 }
+    requires small { (y : ℕ) → y < 64 → slice_index costs.now y ≤ 3 * 2 ^ 20 }
+    requires room { (x : ℕ) → x < 64 → slice_index row.now x ≤ 2 ^ 31 }
+    ensures { result ≡ bit_out shift (shared_cost costs.now) row.now state }
+{
+    let half = state / 2;
+    let (same, opposite) = if state % 2 == 0 {
+        (half, half + 32)
+    } else {
+        (half + 32, half)
+    };
+    costs[opposite] + row[half + 32] < costs[same] + row[half]
+}
+
+/// The word of `count` bits that the rows of a pass tell from the start state on, as a number, and the state in which
+/// it ends.
+pub(crate) fn walk(tables: &[StepCosts], rows: &[Row], count: usize, start: usize) -> (u64, usize)
     requires few { count ≤ 64 }
-    requires rows { count ≤ length bits.now }
+    requires tables { count ≤ length tables.now }
+    requires rows { count < length rows.now }
+    requires small { (k y : ℕ) → k < count → y < 64 → slice_index (slice_index_or tables.now k []) y ≤ 3 * 2 ^ 20 }
+    requires room { (k x : ℕ) → k ≤ count → x < 64 → slice_index (slice_index_or rows.now k []) x ≤ 2 ^ 31 }
     requires start { start < 64 }
-    ensures word { result.0 ≡ number (walked shift (bit_in bits.now) 0 count start) }
-    ensures end { result.1 ≡ end_of shift start (walked shift (bit_in bits.now) 0 count start) }
+    ensures word { result.0 ≡ number (walked shift (told_bit tables.now rows.now) 0 count start) }
+    ensures end { result.1 ≡ end_of shift start (walked shift (told_bit tables.now rows.now) 0 count start) }
 {
     let mut state = start;
     let mut word: u64 = 0;
     for k in 0..count {
-        let bit = bits[k][state];
+        let bit = bit_from(&tables[k], &rows[k + 1], state);
         word = 2 * word + bit as u64;
         state = next(state, bit);
     }

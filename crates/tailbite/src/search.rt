@@ -1,19 +1,22 @@
 //! The search for the least key, over the states in which a word may start and end. A key is the cost of a word
 //! times 2^64 plus its number: it tells words of equal cost apart, and the least key is that of the least word.
 //!
-//! A pass with every end free gives each start state a bound: the key of the least path from it, wherever that ends.
-//! The start states are then searched in order of their bounds, until none is below the least key that was found.
+//! A pass back with every end free, and one on with every start free, give each state a bound: the least cost of a path
+//! that starts there, wherever it ends, and of one that ends there. Where the bound of a state is below the key of a
+//! word that was found, the key of the least path from it is a better one. The start states are then searched in order
+//! of their bounds, until none is below the least key that was found.
 
-ghost use Rattle.std.specs.Prelude.{◌≡◌, ℕ, ◌+◌, ◌*◌, ◌^◌, ◌<◌, ◌≤◌, length, slice_index};
+ghost use Rattle.std.specs.Prelude.{◌≡◌, ℕ, ◌+◌, ◌*◌, ◌^◌, ◌<◌, ◌≤◌, length, max, slice_index};
 ghost use Rattle.finite.specs.Sizes.{RowsWithin};
 ghost use Rattle.paths.specs.Least.{ends_in};
 ghost use Rattle.conv_code.specs.Cost.{word_cost};
 ghost use Rattle.tailbite.specs.Costs.{HaveCosts};
 ghost use Rattle.tailbite.specs.Keys.{AreBounds, IsBound, IsKeyOrFar, IsLeastKey, far, scale};
+ghost use Rattle.tailbite.specs.Passes.{IsFreePass};
 ghost use Rattle.tailbite.specs.LeastWord.{IsLeastWord};
 
 use crate::costs::{StepCosts, fill_costs};
-use crate::passes::{StepBits, pass, walk};
+use crate::passes::{Row, pass, reach, walk};
 use crate::trellis::Trellis;
 use cs_bits::Bits;
 
@@ -33,14 +36,14 @@ fn key_of(cost: u32, word: u64) -> u128
 }
 
 /// What the ends cost where all are free.
-fn free_ends() -> [u32; 64]
+fn free_ends() -> Row
     ensures { (x : ℕ) → x < 64 → slice_index result x ≡ 0 }
 {
     [0; STATES]
 }
 
 /// What the ends cost where only the start state is free.
-fn ends_at(start: usize) -> [u32; 64]
+fn ends_at(start: usize) -> Row
     requires { start < 64 }
     ensures ends { (x : ℕ) → x < 64 → slice_index result x ≡ ends_in far start x }
     ensures room { (x : ℕ) → x < 64 → slice_index result x ≤ 2 ^ 30 }
@@ -51,45 +54,61 @@ fn ends_at(start: usize) -> [u32; 64]
 }
 
 /// The least key of a path through all places from the start state that ends there.
-fn key_from(values: &[[i32; 3]], tables: &[StepCosts], bits: &mut [StepBits], start: usize) -> u128
+fn key_from(values: &[[i32; 3]], tables: &[StepCosts], rows: &mut [Row], start: usize) -> u128
     requires low { 6 ≤ length values.now }
     requires high { length values.now ≤ 64 }
     requires tables { length values.now ≤ length tables.now }
-    requires bits { length values.now ≤ length bits.old }
+    requires rows { length values.now < length rows.old }
     requires costs { HaveCosts values.now tables.now (length values.now) }
     requires start { start < 64 }
     ensures bound { IsBound values.now start result }
     ensures reached { IsKeyOrFar values.now result }
+    ensures count { length rows.new ≡ length rows.old }
 {
-    let row = pass(values, tables, &ends_at(start), bits);
-    let (word, _) = walk(bits, values.len(), start);
-    key_of(row[start], word)
+    pass(values, tables, &ends_at(start), rows);
+    let (word, _) = walk(tables, rows, values.len(), start);
+    key_of(rows[0][start], word)
 }
 
-/// Writes the key of the least path from each state, wherever it ends. The answer is the least key of those paths
-/// that end where they start, which are the paths of words; where none does, it is the key of a far end.
-fn fill_bounds(
+/// Writes the least cost of a path that starts in each state or of one that ends there, whichever is greater, as a key.
+fn fill_bounds(from: &Row, to: &Row, bounds: &mut [u128; 64])
+    ensures { (x : ℕ) → x < 64 →
+        slice_index bounds.new x ≡ max (slice_index from.now x) (slice_index to.now x) * scale }
+{
+    for x in 0..STATES {
+        bounds[x] = key_of(from[x].max(to[x]), 0);
+    }
+}
+
+/// Raises the bounds below `least` to the keys of the least paths from their states, wherever those end. The answer is
+/// the least of `least` and the keys of those paths that end where they start, which are the paths of words.
+fn raise_bounds(
     values: &[[i32; 3]],
     tables: &[StepCosts],
-    bits: &mut [StepBits],
+    free: &[Row],
     bounds: &mut [u128; 64],
+    least: u128,
 ) -> u128
     requires low { 6 ≤ length values.now }
     requires high { length values.now ≤ 64 }
     requires tables { length values.now ≤ length tables.now }
-    requires bits { length values.now ≤ length bits.old }
+    requires rows { length values.now < length free.now }
     requires costs { HaveCosts values.now tables.now (length values.now) }
+    requires pass { IsFreePass values.now free.now }
+    requires bounds { AreBounds values.now bounds.old }
+    requires reached { IsKeyOrFar values.now least }
     ensures bounds { AreBounds values.now bounds.new }
     ensures reached { IsKeyOrFar values.now result }
 {
-    let row = pass(values, tables, &free_ends(), bits);
-    let mut least = key_of(FAR, 0);
+    let mut least = least;
     for start in 0..STATES {
-        let (word, end) = walk(bits, values.len(), start);
-        let key = key_of(row[start], word);
-        bounds[start] = key;
-        if end == start {
-            least = least.min(key);
+        if bounds[start] < least {
+            let (word, end) = walk(tables, free, values.len(), start);
+            let key = key_of(free[0][start], word);
+            bounds[start] = bounds[start].max(key);
+            if end == start {
+                least = least.min(key);
+            }
         }
     }
     least
@@ -110,21 +129,27 @@ fn state_of_least(bounds: &[u128; 64]) -> usize
 }
 
 /// The least key of a word.
-fn least_key(values: &[[i32; 3]], tables: &[StepCosts], bits: &mut [StepBits]) -> u128
+fn least_key(values: &[[i32; 3]], tables: &[StepCosts], free: &mut [Row], rows: &mut [Row]) -> u128
     requires low { 6 ≤ length values.now }
     requires high { length values.now ≤ 64 }
     requires sizes { RowsWithin (2 ^ 20) values.now }
     requires tables { length values.now ≤ length tables.now }
-    requires bits { length values.now ≤ length bits.old }
+    requires free { length values.now < length free.old }
+    requires rows { length values.now < length rows.old }
     requires costs { HaveCosts values.now tables.now (length values.now) }
     ensures { IsLeastKey values.now result }
 {
     let mut bounds = [0; STATES];
-    let mut least = fill_bounds(values, tables, bits, &mut bounds);
+    pass(values, tables, &free_ends(), free);
+    fill_bounds(&free[0], &reach(values, tables), &mut bounds);
     let mut start = state_of_least(&bounds);
+    let mut least = key_from(values, tables, rows, start);
+    bounds[start] = least;
+    least = raise_bounds(values, tables, free, &mut bounds, least);
+    start = state_of_least(&bounds);
     while bounds[start] < least {
         // The least key from a state is its best bound, and it is not below the least one any more.
-        let key = key_from(values, tables, bits, start);
+        let key = key_from(values, tables, rows, start);
         bounds[start] = key;
         least = least.min(key);
         start = state_of_least(&bounds);
@@ -140,7 +165,7 @@ fn least_of_words(values: &[[i32; 3]], work: &mut Trellis) -> u128
     ensures { IsLeastKey values.now result }
 {
     fill_costs(values, &mut work.tables);
-    least_key(values, &work.tables, &mut work.bits)
+    least_key(values, &work.tables, &mut work.free, &mut work.rows)
 }
 
 /// The least word and its cost: no word of N bits costs less by these values, and each that stands before

@@ -3,7 +3,8 @@
 ghost use Rattle.std.specs.Prelude.{◌≡◌, ℕ, ◌+◌, ◌*◌, ◌^◌, ◌<◌, ◌≤◌, ◌∷◌, [], length, map, slice_index};
 ghost use Rattle.finite.specs.Sizes.{AllWithin};
 ghost use Rattle.conv_code.specs.Code.{parity, taps_0, taps_1, taps_2};
-ghost use Rattle.tailbite.specs.Machine.{newest_bit, branch_cost, first_from, forward_least, second_from, shift, window_bit};
+ghost use Rattle.tailbite.specs.Machine.{newest_bit, branch_cost, first_from, forward_least, second_from};
+ghost use Rattle.tailbite.specs.Machine.{shift, window_bit};
 
 use conv_code::against;
 

@@ -1,41 +1,35 @@
-use Rattle.std.proofs.Common.{◌≡◌, suc, ◌+◌, ◌-◌, ◌<◌, ◌≤◌, length, arith, length-set}
-use Rattle.tailbite.proofs.Back.{pass_step, pass_start}
+use Rattle.std.proofs.Common.{◌≡◌, ◌+◌, ◌-◌, arith, length-set, ◌∙◌, refl}
+use Rattle.tailbite.proofs.Back.{pass_end, pass_step, pass_start}
 use Rattle.tailbite.proofs.passes.pass.Goals as goal
 
-pub step_back-requires-clause-small : goal.step_back-requires-clause-small
-step_back-requires-clause-small c y below =
-    (c.requires.costs.place (c.loop-i.i - 2 + 1) (omega (arith, c.loop-i.invariant.place, c.loop-i-test.true))).small y below
+pub loop-i-init : goal.loop-i-init
+loop-i-init c = (simp length-set refl, pass_end _ _ _ c.requires.rows c.requires.ends)
 
-pub step_back-requires-in-loop-i-clause-small : goal.step_back-requires-in-loop-i-clause-small
-step_back-requires-in-loop-i-clause-small c y below =
-    (c.requires.costs.place (c.loop-i.i - 2) (omega (arith, c.loop-i.invariant.place, c.loop-i-test.true))).small y below
+pub write_earlier-requires-clause-inside : goal.write_earlier-requires-clause-inside
+write_earlier-requires-clause-inside c =
+    let place = c.loop-i.invariant.1.place in
+    let count = c.loop-i.invariant.1.count in
+    omega (arith, place, count, c.loop-i-test.true)
 
-pub step_back-requires-2-clause-small : goal.step_back-requires-2-clause-small
-step_back-requires-2-clause-small c y below =
-    (c.requires.costs.place 0 (omega (arith, c.loop-i.invariant.place, c.if-i-eq0.false))).small y below
+pub write_earlier-requires-clause-small : goal.write_earlier-requires-clause-small
+write_earlier-requires-clause-small c =
+    let place = c.loop-i.invariant.1.place in
+    (c.requires.costs.place (c.loop-i.i - 1) (omega (arith, place, c.loop-i-test.true))).small
+
+pub write_earlier-requires-clause-room : goal.write_earlier-requires-clause-room
+write_earlier-requires-clause-room c x below =
+    let place = c.loop-i.invariant.1.place in
+    let room = c.loop-i.invariant.1.room (c.loop-i.i - 1 + 1) x (omega (arith, c.loop-i-test.true)) (omega (arith, place, c.loop-i-test.true)) below in
+    omega (arith, room, c.requires.places)
 
 pub loop-i-preserved : goal.loop-i-preserved
 loop-i-preserved c =
-    let last : c.loop-i.i ≡ suc (c.loop-i.i - 2 + 1) = omega (arith, c.loop-i-test.true) in
-    let one : c.loop-i.i - 2 + 1 ≡ suc (c.loop-i.i - 2) = omega arith in
-    let place : c.loop-i.i ≤ length c.args.values.now = c.loop-i.invariant.place in
-    let inside : c.loop-i.i - 2 + 1 < length c.loop-i.bits = omega (arith, c.loop-i.auto.bits, c.requires.bits, place, last) in
-    let known =
-    pass_step _ _ _ _ _ _ _ _ _ c.loop-i.invariant last (c.requires.costs.place (c.loop-i.i - 2 + 1) (omega (arith, place, last))) inside
-    c.step_back.ensures.least c.step_back.ensures.bits c.step_back.ensures.growth in
-    pass_step _ _ _ _ _ _ _ _ _ known one (c.requires.costs.place (c.loop-i.i - 2) (omega (arith, place, last)))
-    (simp length-set (omega (arith, inside))) c.step_back-in-loop-i.ensures.least c.step_back-in-loop-i.ensures.bits
-    c.step_back-in-loop-i.ensures.growth
+    let place = c.loop-i.invariant.1.place in
+    let next : c.loop-i.i ≡ c.loop-i.i - 1 + 1 = omega (arith, c.loop-i-test.true) in (
+      c.write_earlier.ensures.count ∙ c.loop-i.invariant.0,
+      pass_step _ _ _ _ _ _ _ c.loop-i.invariant.1 next (c.requires.costs.place (c.loop-i.i - 1) (omega (arith, place, c.loop-i-test.true)))
+          c.write_earlier.ensures.least c.write_earlier.ensures.growth c.write_earlier.ensures.others c.write_earlier.ensures.count,
+    )
 
-pub returns-then-i-eq0 : goal.returns-then-i-eq0
-returns-then-i-eq0 c = pass_start _ _ _ _ _ c.loop-i.invariant (omega arith)
-
-pub returns : goal.returns
-returns c =
-    let last : c.loop-i.i ≡ suc 0 = omega (arith, c.if-i-eq0.false, c.loop-i-test.false) in
-    let place : c.loop-i.i ≤ length c.args.values.now = c.loop-i.invariant.place in
-    let inside : 0 < length c.loop-i.bits = omega (arith, c.loop-i.auto.bits, c.requires.bits, place, last) in
-    pass_start _ _ _ _ _
-    (pass_step _ _ _ _ _ _ _ _ 0 c.loop-i.invariant last (c.requires.costs.place 0 (omega (arith, place, last))) inside c.step_back-2.ensures.least
-    c.step_back-2.ensures.bits c.step_back-2.ensures.growth)
-    (omega arith)
+pub returns-clause-pass : goal.returns-clause-pass
+returns-clause-pass c = pass_start _ _ _ _ c.requires.places c.loop-i.invariant.1 (omega arith)

@@ -1,8 +1,21 @@
 use Rattle.std.proofs.Common.{◌<◌, length, length-set, arith}
+use Rattle.tailbite.specs.Keys.{AreBounds}
 use Rattle.std.proofs.Math.Nat.{min-le_left, min-le_right}
 use Rattle.paths.proofs.Rows.{fewer_below}
-use Rattle.tailbite.proofs.Keys.{bounds_with, least_or_far, no_bound_below}
+use Rattle.tailbite.proofs.Keys.{cost_bound, bounds_with, least_or_far, no_bound_below}
 use Rattle.tailbite.proofs.search.least_key.Goals as goal
+
+pub raise_bounds-least-requires-clause-pass : goal.raise_bounds-least-requires-clause-pass
+raise_bounds-least-requires-clause-pass c = (_, c.free_ends.ensures, c.pass.ensures.pass)
+
+pub raise_bounds-least-requires-clause-bounds : goal.raise_bounds-least-requires-clause-bounds
+raise_bounds-least-requires-clause-bounds c =
+    let all : AreBounds c.args.values.now c.fill_bounds.new.bounds = record {
+      bound = λ s below.
+          rw (c.fill_bounds.ensures s below)
+          (cost_bound _ _ _ s _ c.pass.ensures.pass c.requires.low below (c.free_ends.ensures s below) (c.reach.ensures s below));
+    } in
+    bounds_with _ _ _ _ (omega (arith, c.fill_bounds.array_long, c.state_of_least-start.ensures.state)) all c.key_from-least.ensures.bound
 
 pub loop-bounds-preserved : goal.loop-bounds-preserved
 loop-bounds-preserved c = record {
