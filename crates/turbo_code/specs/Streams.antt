@@ -1,4 +1,5 @@
--- The parts of a coded word that a decoder reads, and the two orders of a word; what stands past the end of a list is d.
+-- The parts of a coded word that a decoder reads, and the two orders of a word; what stands past the end of a list is
+-- d.
 use Rattle.std.specs.Prelude.{ℕ, ◌+◌, List, [], ◌∷◌, slice_index_or}
 use Rattle.finite.specs.Lists.{values_below}
 use Rattle.turbo_code.specs.declared.rows.Row.{Row}

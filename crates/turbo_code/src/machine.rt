@@ -3,7 +3,8 @@
 
 ghost use Rattle.std.specs.Prelude.{◌≡◌, ◌/◌, ◌<◌};
 ghost use Rattle.finite.specs.Bits.{odd};
-ghost use Rattle.turbo_code.specs.Machine.{bit_to, first_from, next, parity_bit, register, second_from, tail_bit, tail_parity};
+ghost use Rattle.turbo_code.specs.Machine.{bit_to, first_from, next, parity_bit, register, second_from};
+ghost use Rattle.turbo_code.specs.Machine.{tail_bit, tail_parity};
 
 /// The bit a(k - 1) of a state.
 fn latest(x: usize) -> bool

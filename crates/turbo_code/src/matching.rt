@@ -1,6 +1,7 @@
 //! The cyclic reading of a coded word, and the sums of received values.
 
 ghost use Rattle.std.specs.Prelude.{◌≡◌, ℕ, ◌+◌, ◌*◌, ◌%◌, ◌^◌, ◌<◌, ◌≤◌, length, nat_abs, slice_index_or};
+ghost use Rattle.finite.specs.Lists.{values_below};
 ghost use Rattle.finite.specs.Sizes.{AllWithin, RowsWithin};
 ghost use Rattle.finite.specs.Tables.{sum_at, sums_with};
 ghost use Rattle.sub_block.specs.Items.{item};
@@ -133,7 +134,30 @@ pub fn match_out(coded: &Coded, rv: u8, i: usize) -> bool
     requires count { i ≤ 4096 }
     ensures { result ≡ bit_of coded.now.d (item_of coded.now.k rv i) }
 {
-    let at = item_in(coded.k, rv, i);
+    bit_at(coded, &item_in(coded.k, rv, i))
+}
+
+/// Writes the first bits of the cyclic reading of a coded word over the whole of `bits`: bit `i` is that of
+/// `match_out`. There are at most 1,224.
+pub fn match_all(coded: &Coded, rv: u8, bits: &mut [bool])
+    requires size { IsSize coded.now.k }
+    requires version { rv < 4 }
+    requires count { length bits.old ≤ 1224 }
+    ensures { bits.new ≡ values_below (length bits.old) (λ i. bit_of coded.now.d (item_of coded.now.k rv i)) }
+{
+    let mut walk = Walk::new(coded.k, rv);
+    for i in 0..bits.len() {
+        bits[i] = bit_at(coded, &walk.step());
+    }
+}
+
+/// The bit of a coded word that is an item.
+fn bit_at(coded: &Coded, at: &Item) -> bool
+    requires size { IsSize coded.now.k }
+    requires stream { at.now.stream < 3 }
+    requires index { at.now.index < coded.now.k + 4 }
+    ensures { result ≡ bit_of coded.now.d at.now }
+{
     coded.d[at.stream][at.index]
 }
 
