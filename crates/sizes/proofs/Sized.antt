@@ -1,7 +1,8 @@
 -- Sizes in units of a gain.
 use Rattle.std.proofs.Common.{◌≡◌, ℕ, zero, suc, ◌+◌, ◌*◌, ◌<◌, ◌≤◌, arith, mul-le-mul, mul-le-mul_left, mul-le-mul_right}
 use Rattle.std.specs.Prelude.{nat_abs}
-use Rattle.finite.specs.Sums.{sum_below}
+use Rattle.finite.specs.Sums.{sum_below, total_below}
+use Rattle.finite.proofs.Sums.{total_below-within}
 use Rattle.cs_num.specs.declared.Cpx.{Cpx}
 use Rattle.cs_num.specs.Complex.{plus, times, conjugate, square}
 use Rattle.cs_num.specs.Sums.{complex_sum_below}
@@ -60,11 +61,16 @@ sized_any x a n l p = record { sized = wider a n (square x) l p.sized }
         let k : a * a * 1 ≤ a * a * n = mul-le-mul_left (a * a) l in
         omega (arith, h, k)
 
+-- a sum of terms with a bound each
+pub sized-sum_by : (n : ℕ) (f : ℕ → Cpx) (a : ℕ → ℕ) (m : ℕ) → ((k : ℕ) → k < n → IsSized (a k) m (f k)) → IsSized (total_below n a) m (complex_sum_below n f)
+unfolding sum_below total_below
+sized-sum_by zero f a m h = record { sized = omega arith }
+sized-sum_by (suc n) f a m h =
+    sized-plus (complex_sum_below n f) (f n) (total_below n a) (a n) m (sized-sum_by n f a m (λ k l. h k (omega arith))) (h n (omega arith))
+
 pub sized-sum : (n : ℕ) (f : ℕ → Cpx) (a m : ℕ) → ((k : ℕ) → k < n → IsSized a m (f k)) → IsSized (n * a) m (complex_sum_below n f)
-unfolding sum_below
-sized-sum zero f a m h = record { sized = omega arith }
-sized-sum (suc n) f a m h =
-    sized_more _ (n * a + a) (suc n * a) m (omega arith) (sized-plus (complex_sum_below n f) (f n) (n * a) a m (sized-sum n f a m (λ k l. h k (omega arith))) (h n (omega arith)))
+sized-sum n f a m h =
+    sized_more (complex_sum_below n f) (total_below n (λ _. a)) (n * a) m (total_below-within n a (λ _. a) (λ k l. omega arith)) (sized-sum_by n f (λ _. a) m h)
 
 rooted : (a n s : ℕ) → s ≤ a * a * (n * n) → s ≤ (a * n) * (a * n)
 rooted a n s h = omega (arith, h)

@@ -1,5 +1,5 @@
 -- Sizes of whole complex numbers, by their squares. (own)
-use Rattle.std.specs.Prelude.{ℕ, ◌*◌, ◌≤◌, ℤ, pos, ◌+ℤ◌, ◌*ℤ◌}
+use Rattle.std.specs.Prelude.{ℕ, ◌+◌, ◌*◌, ◌≤◌, ℤ, pos, ◌+ℤ◌, ◌*ℤ◌}
 use Rattle.finite.specs.Sums.{total_below}
 use Rattle.cs_num.specs.declared.Cpx.{Cpx}
 use Rattle.cs_num.specs.Complex.{times, conjugate, square}
@@ -24,3 +24,14 @@ energy_below n f = total_below n (λ k. square (f k))
 -- f 0 * conj (g 0) + .. + f (n - 1) * conj (g (n - 1))
 abbrev pub correlation_below : ℕ → (ℕ → Cpx) → (ℕ → Cpx) → Cpx
 correlation_below n f g = complex_sum_below n (λ k. times (f k) (conjugate (g k)))
+
+-- ---- four numbers, as the gains of four antenna ports
+
+-- their squares together
+abbrev pub squares_of_four : (ℕ → Cpx) → ℕ
+squares_of_four numbers = square (numbers 0) + square (numbers 1) + square (numbers 2) + square (numbers 3)
+
+-- the first and the third have at least three eighths of these, and so have the second and the fourth
+pub record ArePaired (numbers : ℕ → Cpx) : Type 0 where
+  pub even : 3 * squares_of_four numbers ≤ 8 * (square (numbers 0) + square (numbers 2))
+  pub odd : 3 * squares_of_four numbers ≤ 8 * (square (numbers 1) + square (numbers 3))
