@@ -1,27 +1,33 @@
 -- The line through the pilots.
 use Rattle.std.proofs.Common.{◌≡◌, ℕ, ◌+◌, ◌-◌, ◌/◌, ◌%◌, ◌<◌, Bool, true, false, nat_lt, refl, ap, arith}
 use Rattle.std.specs.Prelude.{if◌then◌else◌}
-use Rattle.std.proofs.lemmas.Bool.{ltb-true, ltb-false}
+use Rattle.std.proofs.lemmas.Bool.{ltb-true}
 use Rattle.cs_num.specs.declared.Cpx.{Cpx}
 use Rattle.cs_num.specs.Complex.{multiple}
-use Rattle.soft_bits.specs.Estimate.{pilot_place, between, estimate}
+use Rattle.soft_bits.specs.Estimate.{place_by, between_by, line_by, estimate}
 
--- it is that of the 24 pilots alone
-pub estimate-same : (f g : ℕ → Cpx) (shift k : ℕ) → ((i : ℕ) → i < 24 → f i ≡ g i) → estimate f shift k ≡ estimate g shift k
-estimate-same f g shift k same = first (nat_lt k (pilot_place shift 0)) refl
+-- it is that of the pilots up to the last alone
+pub line-same : (step last : ℕ) (f g : ℕ → Cpx) (shift k : ℕ) → (k < place_by step shift last → (k - shift) / step < last) →
+    ((i : ℕ) → i < last + 1 → f i ≡ g i) → line_by step last f shift k ≡ line_by step last g shift k
+line-same step last f g shift k inside same = first (nat_lt k (place_by step shift 0))
   where
-    inner : k < pilot_place shift 23 → (nat_lt k (pilot_place shift 0) ≡ false) → between f ((k - shift) / 3) ((k - shift) % 3) ≡ between g ((k - shift) / 3) ((k - shift) % 3)
-    inner high low =
-        let from = ltb-false k (pilot_place shift 0) low in
-        rw (same ((k - shift) / 3) (omega (arith, high, from)), same ((k - shift) / 3 + 1) (omega (arith, high, from))) refl
+    second : (b : Bool) → nat_lt k (place_by step shift last) ≡ b →
+        (if b then between_by step f ((k - shift) / step) ((k - shift) % step) else multiple step (f last))
+        ≡ (if b then between_by step g ((k - shift) / step) ((k - shift) % step) else multiple step (g last))
+    second true high =
+        let few = inside (ltb-true k (place_by step shift last) high) in
+        rw (same ((k - shift) / step) (omega (arith, few)), same ((k - shift) / step + 1) (omega (arith, few))) refl
+    second false high = ap (multiple step) (same last (omega arith))
 
-    second : (b : Bool) → nat_lt k (pilot_place shift 23) ≡ b → nat_lt k (pilot_place shift 0) ≡ false →
-        (if b then between f ((k - shift) / 3) ((k - shift) % 3) else multiple 3 (f 23)) ≡ (if b then between g ((k - shift) / 3) ((k - shift) % 3) else multiple 3 (g 23))
-    second true high low = inner (ltb-true k (pilot_place shift 23) high) low
-    second false high low = ap (multiple 3) (same 23 (omega arith))
+    first : (b : Bool) →
+        (if b then multiple step (f 0) else (if nat_lt k (place_by step shift last) then between_by step f ((k - shift) / step) ((k - shift) % step) else multiple step (f last)))
+        ≡ (if b then multiple step (g 0) else (if nat_lt k (place_by step shift last) then between_by step g ((k - shift) / step) ((k - shift) % step) else multiple step (g last)))
+    first true = ap (multiple step) (same 0 (omega arith))
+    first false = second (nat_lt k (place_by step shift last)) refl
 
-    first : (b : Bool) → nat_lt k (pilot_place shift 0) ≡ b →
-        (if b then multiple 3 (f 0) else (if nat_lt k (pilot_place shift 23) then between f ((k - shift) / 3) ((k - shift) % 3) else multiple 3 (f 23)))
-        ≡ (if b then multiple 3 (g 0) else (if nat_lt k (pilot_place shift 23) then between g ((k - shift) / 3) ((k - shift) % 3) else multiple 3 (g 23)))
-    first true low = ap (multiple 3) (same 0 (omega arith))
-    first false low = second (nat_lt k (pilot_place shift 23)) refl low
+pub estimate-same : (f g : ℕ → Cpx) (shift k : ℕ) → ((i : ℕ) → i < 24 → f i ≡ g i) → estimate f shift k ≡ estimate g shift k
+estimate-same f g shift k same = line-same 3 23 f g shift k (λ high. omega (arith, high)) same
+
+-- the same of 12 pilots
+pub single_line-same : (f g : ℕ → Cpx) (shift k : ℕ) → ((i : ℕ) → i < 12 → f i ≡ g i) → line_by 6 11 f shift k ≡ line_by 6 11 g shift k
+single_line-same f g shift k same = line-same 6 11 f g shift k (λ high. omega (arith, high)) same

@@ -1,5 +1,5 @@
 -- Sizes of what was seen and sent at the pilots.
-use Rattle.std.proofs.Common.{ℕ, ◌*◌, ◌^◌, ◌≤◌, ◌/◌, arith, inl, inr, List, [], ◌∷◌, All, get_or, slice_index_or, ℤ, zero, suc}
+use Rattle.std.proofs.Common.{ℕ, ◌*◌, ◌^◌, ◌≤◌, ◌/◌, ◌+◌, arith, inl, inr, List, [], ◌∷◌, All, get_or, slice_index_or, ℤ, zero, suc}
 use Rattle.std.proofs.lemmas.List.Elements.{All-nil, All-head, All-tail}
 use Rattle.std.specs.Prelude.{nat_abs}
 use Rattle.cs_num.specs.Complex.{IsWithin, nothing, conjugate, square}
@@ -9,8 +9,11 @@ use Rattle.finite.proofs.Lists.{values_below-All}
 use Rattle.finite.proofs.Sums.{total_below-within}
 use Rattle.crs.specs.Qpsk.{IsFull}
 use Rattle.crs.specs.declared.pattern.Pattern.{Pattern}
-use Rattle.crs.proofs.Values.{pattern_reference-IsPoint}
+use Rattle.crs.specs.Reference.{reference, single_first}
+use Rattle.crs.specs.declared.single.SinglePort.{SinglePort}
+use Rattle.crs.proofs.Values.{pattern_reference-IsPoint, reference-IsPoint}
 use Rattle.soft_bits.specs.Soft.{SeenSlot, AreSmall, seen_at, pilot_subcarrier, pattern_symbol, pattern_seen, pattern_sent, pattern_pilot, pattern_energy}
+use Rattle.soft_bits.specs.Single.{single_seen, single_pilot, single_energy}
 
 -- what holds of all values and of the one past the end holds at each place
 all_at : {A : Type 0} (P : A → Type 0) (xs : List A) (i : ℕ) (d : A) → P d → All P xs → P (get_or xs i d)
@@ -52,3 +55,30 @@ pattern_energy-within pattern slot small =
 pub pattern_pilots-within : (pattern : Pattern) (slot : SeenSlot) → AreSmall slot.symbols → All (IsWithin (180 * 2 ^ 25)) (values_below 24 (pattern_pilot pattern slot))
 pattern_pilots-within pattern slot small =
     values_below-All (IsWithin (180 * 2 ^ 25)) 24 (pattern_pilot pattern slot) nothing (λ i few. pattern_pilot-within pattern slot i small)
+
+-- ---- ports 2 and 3 of four
+
+pub single_seen-within : (port : SinglePort) (slot : SeenSlot) (m : ℕ) → AreSmall slot.symbols → IsWithin (2 ^ 25) (single_seen port slot m)
+unfolding single_seen
+single_seen-within port slot m small = seen_at-within slot 1 (single_first port slot.identity slot.number + 6 * m) small
+
+pub reference-within : (identity number symbol m : ℕ) → IsWithin 90 (reference identity number symbol m)
+reference-within identity number symbol m =
+    let full = reference-IsPoint identity number symbol m in
+    record { re = full_within _ full.re; im = full_within _ full.im }
+
+pub single_pilot-within : (port : SinglePort) (slot : SeenSlot) (m : ℕ) → AreSmall slot.symbols → IsWithin (180 * 2 ^ 25) (single_pilot port slot m)
+unfolding single_pilot
+single_pilot-within port slot m small =
+    times-within (single_seen port slot m) (conjugate (reference slot.identity slot.number 1 m)) (2 ^ 25) 90 (90 * 2 ^ 25)
+    (single_seen-within port slot m small) (conjugate-within _ 90 (reference-within slot.identity slot.number 1 m)) (omega arith)
+
+pub single_energy-within : (port : SinglePort) (slot : SeenSlot) → AreSmall slot.symbols → single_energy port slot ≤ 12 * 2 ^ 51
+unfolding single_energy
+single_energy-within port slot small =
+    total_below-within 12 (2 ^ 51) (λ m. square (single_seen port slot m))
+    (λ m few. let h = square-within (single_seen port slot m) (2 ^ 25) (single_seen-within port slot m small) in omega (arith, h))
+
+pub single_pilots-within : (port : SinglePort) (slot : SeenSlot) → AreSmall slot.symbols → All (IsWithin (180 * 2 ^ 25)) (values_below 12 (single_pilot port slot))
+single_pilots-within port slot small =
+    values_below-All (IsWithin (180 * 2 ^ 25)) 12 (single_pilot port slot) nothing (λ m few. single_pilot-within port slot m small)

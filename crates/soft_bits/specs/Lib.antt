@@ -2,3 +2,4 @@ pub mod Estimate
 pub mod Soft
 pub mod Kept
 pub mod Places
+pub mod Single

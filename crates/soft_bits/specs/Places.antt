@@ -1,5 +1,6 @@
 -- The soft values of a channel's places, and its values by the bits before scrambling.
-use Rattle.std.specs.Prelude.{ℕ, ◌+◌, ◌/◌, ◌%◌, Bool, nat_lt, if◌then◌else◌, List, length, slice_index_or, ℤ, pos, neg_ℤ}
+use Rattle.std.specs.Prelude.{ℕ, ◌+◌, ◌/◌, ◌%◌, Bool, nat_lt, if◌then◌else◌, List, length, slice_index_or, ℤ}
+use Rattle.std.specs.Prelude.{pos, neg_ℤ}
 use Rattle.std.specs.List.{flat_map}
 use Rattle.finite.specs.Lists.{values_below}
 use Rattle.gold.specs.Gold.{gold_bit}
@@ -49,4 +50,5 @@ descrambled_value bit value = if bit then neg_ℤ value else value
 -- of c_init (TS 36.211 sections 7.2, 6.3.1, 6.6.1, 6.7.1 and 6.8.2)
 unfoldable pub descrambled : ℕ → ℕ → List ℤ → List ℤ
 descrambled c_init first values =
-    values_below (length values) (λ i. descrambled_value (gold_bit c_init (first + i)) (slice_index_or values i (pos 0)))
+    values_below (length values)
+    (λ i. descrambled_value (gold_bit c_init (first + i)) (slice_index_or values i (pos 0)))

@@ -1,5 +1,6 @@
 -- The channel estimate of a slot, and the soft values of its places. (own)
-use Rattle.std.specs.Prelude.{ℕ, ◌/◌, ◌%◌, ◌^◌, nat_eq, if◌then◌else◌, List, [], ◌∷◌, All, slice_index_or, ℤ, pos, ◌*ℤ◌, int_div}
+use Rattle.std.specs.Prelude.{ℕ, ◌/◌, ◌%◌, ◌^◌, nat_eq, if◌then◌else◌, List, [], ◌∷◌, All, slice_index_or, ℤ, pos}
+use Rattle.std.specs.Prelude.{◌*ℤ◌, int_div}
 use Rattle.finite.specs.Sums.{total_below}
 use Rattle.cs_num.specs.declared.Cpx.{Cpx}
 use Rattle.cs_num.specs.Complex.{times, conjugate, square, value_at, IsWithin}
@@ -45,7 +46,8 @@ pattern_sent pattern identity number i =
 
 -- the channel at a pilot, times the square of the reference's size
 unfoldable pub pattern_pilot : Pattern → SeenSlot → ℕ → Cpx
-pattern_pilot pattern slot i = times (pattern_seen pattern slot i) (conjugate (pattern_sent pattern slot.identity slot.number i))
+pattern_pilot pattern slot i =
+    times (pattern_seen pattern slot i) (conjugate (pattern_sent pattern slot.identity slot.number i))
 
 -- the energy of the pilots
 unfoldable pub pattern_energy : Pattern → SeenSlot → ℕ

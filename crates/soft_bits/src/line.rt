@@ -1,12 +1,10 @@
 //! The channel between the pilots.
 
-ghost use Rattle.std.specs.Prelude.{◌≡◌, ℕ, ◌*◌, ◌^◌, ◌<◌, ◌≤◌, All};
+ghost use Rattle.std.specs.Prelude.{◌≡◌, ℕ, ◌+◌, ◌-◌, ◌*◌, ◌^◌, ◌<◌, ◌≤◌, All, length};
 ghost use Rattle.cs_num.specs.Complex.{IsWithin, multiple, value_at};
-ghost use Rattle.soft_bits.specs.Estimate.{between, estimate};
+ghost use Rattle.soft_bits.specs.Estimate.{between_by, line_by, estimate};
 
 use cs_num::Cpx;
-
-const LAST: u8 = 23;
 
 /// Three times the channel at subcarrier `k`, by 24 pilots that stand at every third subcarrier from
 /// `first` on: linear between two of them, and level before the first and from the last on. `first`
@@ -18,22 +16,55 @@ pub fn estimate(pilots: &[Cpx; 24], first: u8, k: u8) -> Cpx
     ensures value { result ≡ estimate (value_at pilots.now) first k }
     ensures small { IsWithin (540 * 2 ^ 25) result }
 {
+    line(pilots, 3, first, k)
+}
+
+/// Six times the channel at subcarrier `k`, by 12 pilots that stand at every sixth subcarrier from `first` on: linear
+/// between two of them, and level before the first and from the last on. `first` is 0 to 5 and `k` 0 to 71; a pilot is
+/// what was seen times the conjugate of what was sent.
+pub fn single_estimate(pilots: &[Cpx; 12], first: u8, k: u8) -> Cpx
+    requires pilots { All (IsWithin (180 * 2 ^ 25)) pilots.now }
+    requires first { first < 6 }
+    requires k { k < 72 }
+    ensures value { result ≡ line_by 6 11 (value_at pilots.now) first k }
+    ensures small { IsWithin (1080 * 2 ^ 25) result }
+{
+    line(pilots, 6, first, k)
+}
+
+// So many times the line through pilots that stand at every `step` subcarriers of the 72.
+fn line(pilots: &[Cpx], step: u8, first: u8, k: u8) -> Cpx
+    requires pilots { All (IsWithin (180 * 2 ^ 25)) pilots.now }
+    requires whole { step * length pilots.now ≡ 72 }
+    requires first { first < step }
+    requires few { step ≤ 6 }
+    requires k { k < 72 }
+    ensures value { result ≡ line_by step (length pilots.now - 1) (value_at pilots.now) first k }
+    ensures small { IsWithin (step * (180 * 2 ^ 25)) result }
+{
+    let last = pilots.len() - 1;
     if k < first {
-        pilots[0].scaled(3)
-    } else if k < first + 3 * LAST {
-        between(pilots, (k - first) / 3, (k - first) % 3)
+        pilots[0].scaled(step)
+    } else if (k as usize) < first as usize + step as usize * last {
+        between(
+            pilots,
+            step,
+            ((k - first) / step) as usize,
+            (k - first) % step,
+        )
     } else {
-        pilots[LAST as usize].scaled(3)
+        pilots[last].scaled(step)
     }
 }
 
-// The same, r thirds of the way from pilot i to the next.
-fn between(pilots: &[Cpx; 24], i: u8, r: u8) -> Cpx
+// The same, r subcarriers from pilot i on the way to the next.
+fn between(pilots: &[Cpx], step: u8, i: usize, r: u8) -> Cpx
     requires pilots { All (IsWithin (180 * 2 ^ 25)) pilots.now }
-    requires i { i < 23 }
-    requires r { r < 3 }
-    ensures value { result ≡ between (value_at pilots.now) i r }
-    ensures small { IsWithin (540 * 2 ^ 25) result }
+    requires few { step ≤ 6 }
+    requires i { i + 1 < length pilots.now }
+    requires r { r < step }
+    ensures value { result ≡ between_by step (value_at pilots.now) i r }
+    ensures small { IsWithin (step * (180 * 2 ^ 25)) result }
 {
-    pilots[i as usize].scaled(3 - r) + pilots[i as usize + 1].scaled(r)
+    pilots[i].scaled(step - r) + pilots[i + 1].scaled(r)
 }

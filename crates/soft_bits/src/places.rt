@@ -1,8 +1,10 @@
 //! The values of a channel: the soft values of its places, by the bits before scrambling.
 
-ghost use Rattle.std.specs.Prelude.{◌≡◌, ◌+◌, ◌*◌, ◌^◌, ◌<◌, ◌≤◌, All, length, nat_abs};
+ghost use Rattle.std.specs.Prelude.{◌≡◌, ℕ, ◌+◌, ◌*◌, ◌^◌, ◌<◌, ◌≤◌, false, All, length, nat_abs, slice_index_or};
 ghost use Rattle.finite.specs.Sizes.{AllWithin};
-ghost use Rattle.soft_bits.specs.Places.{slot_with, in_subframe, values_at, placed_values, descrambled_value, descrambled};
+ghost use Rattle.gold.specs.Gold.{gold_bit};
+ghost use Rattle.soft_bits.specs.Places.{slot_with, in_subframe, values_at, placed_values};
+ghost use Rattle.soft_bits.specs.Places.{descrambled_value, descrambled};
 
 use crate::{Slot, soft};
 use grid_map::Place;
@@ -53,10 +55,19 @@ pub fn descramble(c_init: u32, first: usize, values: &mut [i16])
     ensures sizes { AllWithin 127 values.new }
 {
     let mut bits = [false; MOST];
-    gold::fill(c_init, &mut bits);
+    write_first_bits(c_init, first + values.len(), &mut bits);
     for i in 0..values.len() {
         values[i] = turned(values[i], bits[first + i]);
     }
+}
+
+// Writes the first `count` bits of the sequence of `c_init`, and leaves those behind them.
+fn write_first_bits(c_init: u32, count: usize, bits: &mut [bool])
+    requires c_init { c_init < 2 ^ 31 }
+    requires room { count ≤ length bits.old }
+    ensures { (k : ℕ) → k < count → slice_index_or bits.new k false ≡ gold_bit c_init k }
+{
+    gold::fill(c_init, &mut bits[..count]);
 }
 
 // A value by the bit before scrambling.

@@ -1,10 +1,9 @@
-use Rattle.std.proofs.Common.{◌≡◌, ℕ, ◌+◌, ◌≤◌, false, List, ℤ, pos, nat_abs, get_or, w16, length-set, ap, ◌∙◌, arith, get_or-set_other}
+use Rattle.std.proofs.Common.{◌≡◌, ℕ, ◌+◌, ◌≤◌, List, ℤ, pos, nat_abs, get_or, w16, length-set, ◌∙◌, arith, get_or-set_other}
 use Rattle.std.proofs.lemmas.Int.{to_z-of_z, fits_signed_from_abs}
 use Rattle.std.proofs.lemmas.List.Elements.{All-set, All-get_or}
 use Rattle.std.proofs.lemmas.List.Edits.{fill_by_more}
 use Rattle.std.proofs.lemmas.List.FromFn.{fill_by_all}
 use Rattle.gold.specs.Gold.{gold_bit}
-use Rattle.gold.proofs.Bits.{get_or-gold_bits}
 use Rattle.soft_bits.specs.Places.{descrambled_value, descrambled}
 use Rattle.soft_bits.proofs.places.descramble.Goals as goal
 
@@ -18,8 +17,7 @@ loop-i-preserved c =
     let kept = to_z-of_z w16 c.turned.result (fits_signed_from_abs w16 c.turned.result (omega (arith, few))) in
     let small = All-get_or (λ value. nat_abs value ≤ 127) c.loop-i.values i (pos 0) (omega (arith, whole)) c.loop-i.invariant.small in
     let seen = to_z-of_z w16 (get_or c.loop-i.values i (pos 0)) (fits_signed_from_abs w16 (get_or c.loop-i.values i (pos 0)) (omega (arith, small))) in
-    let bit : get_or c.fill.new.out (c.args.first + i) false ≡ gold_bit c.args.c_init (c.args.first + i) =
-    ap (λ bits. get_or bits (c.args.first + i) false) c.fill.ensures ∙ get_or-gold_bits c.args.c_init 1920 (c.args.first + i) false (omega arith) in
+    let bit = c.write_first_bits.ensures (c.args.first + i) (omega arith) in
     let was : get_or c.loop-i.values i (pos 0) ≡ get_or old i (pos 0) = c.loop-i.invariant.left i (omega arith) in
     let here : c.turned.result ≡ item i = rw (seen, bit, was) at c.turned.ensures.value in
     rw (kept, here) (record {
