@@ -18,13 +18,13 @@ not_less a b e = grind (arith, ints)
 no_more : (a b c : ℤ) → a ≤ℤ b → b ≤ℤ c → a ≤ℤ c
 no_more a b c p q = omega (arith, ints)
 
-under : (a b c : ℤ) → a ≤ℤ b → b <ℤ c → a <ℤ c
+pub under : (a b c : ℤ) → a ≤ℤ b → b <ℤ c → a <ℤ c
 under a b c p q = omega (arith, ints)
 
 below : (a b c : ℤ) → a <ℤ b → b ≤ℤ c → a <ℤ c
 below a b c p q = omega (arith, ints)
 
-equal-le : (a : ℤ) → a ≤ℤ a
+pub equal-le : (a : ℤ) → a ≤ℤ a
 equal-le a = omega (arith, ints)
 
 before_or_last : (k n : ℕ) → k ≤ suc n → (k ≤ n) ⊎ (k ≡ suc n)
@@ -41,7 +41,7 @@ first_greatest-le f (suc n) = settle (int_lt (f (first_greatest f n)) (f (suc n)
     settle true before = omega arith
     settle false before = omega arith
 
-first_greatest_is : (f : ℕ → ℤ) (n k : ℕ) → k ≤ n → f k ≤ℤ f (first_greatest f n)
+pub first_greatest_is : (f : ℕ → ℤ) (n k : ℕ) → k ≤ n → f k ≤ℤ f (first_greatest f n)
 unfolding first_greatest
 first_greatest_is f zero k l = let e : k ≡ 0 = omega arith in subst (λ i. f i ≤ℤ f 0) (sym e) (equal-le (f 0))
 first_greatest_is f (suc n) k l = settle (int_lt (f (first_greatest f n)) (f (suc n))) refl (before_or_last k n l) (λ p. first_greatest_is f n k p)
@@ -53,7 +53,7 @@ first_greatest_is f (suc n) k l = settle (int_lt (f (first_greatest f n)) (f (su
     settle false e (inl p) before = before p
     settle false e (inr p) before = subst (λ i. f i ≤ℤ f (first_greatest f n)) (sym p) (not_less _ _ e)
 
-first_greatest_first : (f : ℕ → ℤ) (n k : ℕ) → k < first_greatest f n → f k <ℤ f (first_greatest f n)
+pub first_greatest_first : (f : ℕ → ℤ) (n k : ℕ) → k < first_greatest f n → f k <ℤ f (first_greatest f n)
 unfolding first_greatest
 first_greatest_first f zero k l = absurd (omega arith)
 first_greatest_first f (suc n) k l = settle (int_lt (f (first_greatest f n)) (f (suc n))) refl l (λ p. first_greatest_first f n k p)
@@ -172,7 +172,7 @@ best_pair_is_best scores = settle (int_lt (scores (best_group scores Zero) Zero)
 not_before : (scores : ℕ → Half → ℤ) (n m : ℕ) (half other : Half) → IsBest scores n half → IsBest scores m other → IsBefore n half m other → ⊥
 not_before scores n m half other p q b = lt-not_le _ _ (q.first n half p.known b) (p.greatest m other q.known)
 
-same_pair : (n m : ℕ) (half other : Half) → (IsBefore n half m other → ⊥) → (IsBefore m other n half → ⊥) → (n ≡ m) × (half ≡ other)
+pub same_pair : (n m : ℕ) (half other : Half) → (IsBefore n half m other → ⊥) → (IsBefore m other n half → ⊥) → (n ≡ m) × (half ≡ other)
 same_pair n m Zero Zero p q = (grind arith, refl)
 same_pair n m Zero Five p q = absurd (p tt)
 same_pair n m Five Zero p q = absurd (q tt)

@@ -1,3 +1,5 @@
 pub mod Choices
+pub mod Seconds
+pub mod Small
 pub mod Scoring
 pub mod Agree

@@ -1,4 +1,5 @@
--- The identity group and the half of a frame that a hit belongs to. (own; the signals are those of TS 36.211 section 6.11)
+-- The identity group and the half of a frame that a hit belongs to. (own; the signals are those of TS 36.211 section
+-- 6.11)
 use Rattle.std.specs.Prelude.{ℕ, zero, suc, ◌-◌, ◌<◌, ◌≤◌, List, ℤ, ◌<ℤ◌, ◌≤ℤ◌, int_lt, if◌then◌else◌}
 use Rattle.cs_num.specs.declared.Sample.{Sample}
 use Rattle.lte_types.specs.declared.frame.Half.{Half}
@@ -34,11 +35,12 @@ best_group scores half = first_greatest (λ n1. scores n1 half) 167
 -- the best pair
 unfoldable pub best_pair : (ℕ → Half → ℤ) → ℕ × Half
 best_pair scores =
-    if int_lt (scores (best_group scores Zero) Zero) (scores (best_group scores Five) Five) then (best_group scores Five, Five)
+    if int_lt (scores (best_group scores Zero) Zero) (scores (best_group scores Five) Five)
+    then (best_group scores Five, Five)
     else (best_group scores Zero, Zero)
 
--- the scores of a hit by a cyclic prefix: those of what is seen of the primary symbol at the hit and of the secondary one, which is one
--- symbol before it
+-- the scores of a hit by a cyclic prefix: those of what is seen of the primary symbol at the hit and of the secondary
+-- one, which is one symbol before it
 abbrev pub prefix_scores : Prefix → List Sample → Hit → ℕ → Half → ℤ
 prefix_scores prefix recording hit = score (seen recording hit.t) (seen recording (hit.t - symbol_step prefix)) hit.n2
 

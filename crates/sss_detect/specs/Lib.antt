@@ -1,5 +1,6 @@
 pub mod Scores
 pub mod Identity
+pub mod Second
 pub mod Place
 pub mod Laws
 pub mod Steps

@@ -11,7 +11,8 @@ use Rattle.sss_detect.specs.Scores.{agreement}
 unfoldable pub agreements_of : (ℕ → Cpx) → (ℕ → Cpx) → ℕ → List ℤ
 agreements_of primary secondary n2 = values_below 62 (agreement primary secondary n2)
 
--- the sum of the agreements at the first n of every other place from first on, with the signs of the sequence of these shifts
+-- the sum of the agreements at the first n of every other place from first on, with the signs of the sequence of these
+-- shifts
 unfoldable pub places_sum : List ℤ → ℕ → ℕ → ℕ → ℕ → ℕ → ℤ
 places_sum agreements n2 even odd first n =
     sum_below n (λ i. shifted_value (period_bits S) (period_bits C) (period_bits Z) n2 even odd (2 * i + first)

@@ -4,18 +4,22 @@
 
 mod choose;
 mod place;
+mod rank;
 mod score;
 
 ghost use Rattle.std.specs.Prelude.{◌≡◌, ◌+◌, ◌≤◌, length};
 ghost use Rattle.lte_types.specs.Numerology.{normal, symbol_step};
 ghost use Rattle.sss_detect.specs.Identity.{IsBest, prefix_scores, prefix_identity, scores_of, identity_of};
 ghost use Rattle.sss_detect.specs.Place.{prefix_place};
-ghost use Rattle.sss_detect.specs.Laws.{BestPairIsBest, OnlyOneIsBest};
+ghost use Rattle.sss_detect.specs.Second.{IsSecond, prefix_ranking};
+ghost use Rattle.sss_detect.specs.Laws.{BestPairIsBest, OnlyOneIsBest, SecondPairIsSecond, OnlyOneIsSecond};
 
 pub use choose::best;
 use lte_types::{CellPlace, Half, Hit, Prefix};
 use observe::symbol;
 pub use place::{cell_id, frame_start};
+use rank::best_two;
+pub use rank::{Choice, Ranking};
 use sample_file::Recording;
 
 /// The identity group and the half of a frame of a hit, by a cyclic prefix: `best` of the primary symbol that is
@@ -62,8 +66,34 @@ pub fn place_with(recording: &Recording, hit: &Hit, prefix: Prefix) -> CellPlace
     }
 }
 
+/// How clear the choice was of `identity_with`: that pair and the second, each with its score. `t`, the primary symbol
+/// and `n2` are as there. Scores have size at most 8,864,972,382,876,467,200, which is below 2^63. (own)
+pub fn ranking_with(recording: &Recording, hit: &Hit, prefix: Prefix) -> Ranking
+    requires after { symbol_step prefix ≤ hit.now.t }
+    requires within { hit.now.t + 128 ≤ length recording.now }
+    requires member { hit.now.n2 ≤ 2 }
+    ensures value { result ≡ prefix_ranking prefix recording.now hit.now }
+    ensures best { IsBest (prefix_scores prefix recording.now hit.now) result.best.n1 result.best.half }
+    ensures second { IsSecond (prefix_scores prefix recording.now hit.now) (result.best.n1, result.best.half)
+        result.second.n1 result.second.half }
+{
+    let primary = hit.t as usize;
+    let secondary = primary - prefix.step();
+    best_two(
+        &symbol(recording, primary),
+        &symbol(recording, secondary),
+        hit.n2,
+    )
+}
+
 /// The best pair in plain words: it is the first of the pairs of greatest score, and no other is.
 pub fn best_pair_is_first_of_greatest()
     ensures best { BestPairIsBest }
     ensures only { OnlyOneIsBest }
+{}
+
+/// The second pair in plain words: it is the first of the others of greatest score, and no other is.
+pub fn second_pair_is_first_of_the_others()
+    ensures second { SecondPairIsSecond }
+    ensures only { OnlyOneIsSecond }
 {}

@@ -1,0 +1,57 @@
+-- The second pair of a group and a half, and the two best ones with their scores. (own)
+use Rattle.std.specs.Prelude.{◌≢◌, ℕ, ◌+◌, ◌-◌, ◌≤◌, List, ℤ, ◌<ℤ◌, ◌≤ℤ◌, nat_lt, if◌then◌else◌}
+use Rattle.cs_num.specs.declared.Sample.{Sample}
+use Rattle.lte_types.specs.declared.frame.Half.{Half}
+use Rattle.lte_types.specs.declared.frame.Half.TheVariants.{Zero, Five}
+use Rattle.lte_types.specs.declared.hit.Hit.{Hit}
+use Rattle.lte_types.specs.declared.numerology.Prefix.{Prefix}
+use Rattle.sss_detect.specs.declared.rank.Choice.{Choice}
+use Rattle.sss_detect.specs.declared.rank.Ranking.{Ranking}
+use Rattle.sss_detect.specs.Identity.{IsBefore, first_greatest, best_pair, prefix_scores}
+
+-- of the 335 other pairs than the best this one has the greatest score, and each of them before it a smaller one
+pub record IsSecond (scores : ℕ → Half → ℤ) (best : ℕ × Half) (n1 : ℕ) (half : Half) : Type 0 where
+  pub known : n1 ≤ 167
+  pub another : (n1, half) ≢ best
+  pub greatest : (m : ℕ) (other : Half) → m ≤ 167 → (m, other) ≢ best → scores m other ≤ℤ scores n1 half
+  pub first : (m : ℕ) (other : Half) → m ≤ 167 → (m, other) ≢ best → IsBefore m other n1 half →
+      scores m other <ℤ scores n1 half
+
+-- the pairs in their order, and the place of each
+abbrev pub pair_at : ℕ → ℕ × Half
+pair_at place = if nat_lt place 168 then (place, Zero) else (place - 168, Five)
+
+abbrev pub place_of : ℕ × Half → ℕ
+place_of (n1, Zero) = n1
+place_of (n1, Five) = 168 + n1
+
+-- the scores by places
+abbrev pub score_at : (ℕ → Half → ℤ) → ℕ → ℤ
+score_at scores place = scores (pair_at place).0 (pair_at place).1
+
+-- place i of those that are left when one is taken away
+abbrev pub left_without : ℕ → ℕ → ℕ
+left_without taken i = if nat_lt i taken then i else i + 1
+
+-- the first greatest of f 0 to f (n + 1) when one is taken away
+abbrev pub next_greatest : (ℕ → ℤ) → ℕ → ℕ → ℕ
+next_greatest f taken n = left_without taken (first_greatest (λ i. f (left_without taken i)) n)
+
+-- the second pair: the best of those that are left when the best one is taken away
+unfoldable pub second_pair : (ℕ → Half → ℤ) → ℕ × Half
+second_pair scores = pair_at (next_greatest (score_at scores) (place_of (best_pair scores)) 334)
+
+-- ---- with their scores
+
+abbrev pub choice_of : (ℕ → Half → ℤ) → ℕ × Half → Choice
+choice_of scores pair = record { n1 = pair.0; half = pair.1; score = scores pair.0 pair.1 }
+
+unfoldable pub ranking_of : (ℕ → Half → ℤ) → Ranking
+ranking_of scores = record {
+  best = choice_of scores (best_pair scores);
+  second = choice_of scores (second_pair scores);
+}
+
+-- those of a hit by a cyclic prefix
+unfoldable pub prefix_ranking : Prefix → List Sample → Hit → Ranking
+prefix_ranking prefix recording hit = ranking_of (prefix_scores prefix recording hit)

@@ -1,0 +1,129 @@
+//! The two best pairs of a group and a half, with their scores.
+
+ghost use Rattle.std.specs.Prelude.{◌≡◌, ◌<◌, ◌≤◌, All, int_lt, if◌then◌else◌};
+ghost use Rattle.finite.specs.Sizes.{AllWithin};
+ghost use Rattle.cs_num.specs.Complex.{IsWithin, value_at};
+ghost use Rattle.sss_detect.specs.Scores.{score};
+ghost use Rattle.sss_detect.specs.Steps.{score_by};
+ghost use Rattle.sss_detect.specs.Second.{choice_of, pair_at as pair_of, ranking_of};
+
+use crate::score::{Sums, agreements};
+use cs_num::Cpx;
+use lte_types::Half;
+
+/// An identity group, 0 to 167, and a half of a frame, with the score of their secondary sequence. (own)
+#[derive(Clone, Copy, PartialEq, Eq)]
+pub struct Choice {
+    pub n1: u16,
+    pub half: Half,
+    pub score: i64,
+}
+
+/// The best pair of a group and a half, and the second: the best of the 335 others. (own)
+#[derive(Clone, Copy, PartialEq, Eq)]
+pub struct Ranking {
+    pub best: Choice,
+    pub second: Choice,
+}
+
+// The two best pairs beside what is seen of a primary and a secondary symbol.
+pub(crate) fn best_two(pss_seen: &[Cpx; 72], sss_seen: &[Cpx; 72], n2: u8) -> Ranking
+    requires member { n2 ≤ 2 }
+    requires primary { All (IsWithin 23726080) pss_seen.now }
+    requires secondary { All (IsWithin 23726080) sss_seen.now }
+    ensures { result ≡ ranking_of (score (value_at pss_seen.now) (value_at sss_seen.now) n2) }
+{
+    best_two_by(&agreements(pss_seen, sss_seen, n2), n2)
+}
+
+// Those that agreements give, which have size at most 254 times the square of 23,726,080.
+fn best_two_by(agreements: &[i64; 62], n2: u8) -> Ranking
+    requires small { AllWithin 142983425530265600 agreements.now }
+    requires member { n2 ≤ 2 }
+    ensures { result ≡ ranking_of (score_by agreements.now n2) }
+{
+    let sums = Sums::new(agreements, n2);
+    let mut ranking = in_order(scored_pair(&sums, 0), scored_pair(&sums, 1));
+    for place in 2..336 {
+        ranking = with_next(ranking, scored_pair(&sums, place));
+    }
+    ranking
+}
+
+// The pair at a place of all, with its score.
+fn scored_pair(sums: &Sums, place: u16) -> Choice
+    requires small { AllWithin 142983425530265600 sums.now.agreements.now }
+    requires place { place < 336 }
+    ensures { result ≡ choice_of (score_by sums.now.agreements.now sums.now.n2) (pair_of place) }
+{
+    let (n1, half) = pair_at(place);
+    Choice {
+        n1,
+        half,
+        score: sums.score_of(n1, half) as i64,
+    }
+}
+
+// The pair at a place of all: those of subframe 0, and then those of subframe 5.
+fn pair_at(place: u16) -> (u16, Half)
+    requires { place < 336 }
+    ensures pair { result ≡ pair_of place }
+    ensures group { result.0 ≤ 167 }
+{
+    if place < 168 {
+        (place, Half::Zero)
+    } else {
+        (place - 168, Half::Five)
+    }
+}
+
+// Two pairs, the first of which stands before the other.
+fn in_order(first: Choice, other: Choice) -> Ranking
+    ensures { result ≡ (if int_lt first.score other.score
+        then record { best = other; second = first } else record { best = first; second = other }) }
+{
+    if first.score < other.score {
+        Ranking {
+            best: other,
+            second: first,
+        }
+    } else {
+        Ranking {
+            best: first,
+            second: other,
+        }
+    }
+}
+
+// The two best of those before a pair and of it.
+fn with_next(before: Ranking, next: Choice) -> Ranking
+    ensures { result ≡ (if int_lt before.best.score next.score
+        then record { best = next; second = before.best }
+        else record {
+          best = before.best;
+          second = if int_lt before.second.score next.score then next else before.second;
+        }) }
+{
+    if before.best.score < next.score {
+        Ranking {
+            best: next,
+            second: before.best,
+        }
+    } else {
+        Ranking {
+            best: before.best,
+            second: greater(before.second, next),
+        }
+    }
+}
+
+// The one of greater score, and of equals the first.
+fn greater(first: Choice, later: Choice) -> Choice
+    ensures { result ≡ (if int_lt first.score later.score then later else first) }
+{
+    if first.score < later.score {
+        later
+    } else {
+        first
+    }
+}
