@@ -1,5 +1,5 @@
--- The four causes by which what is seen of two symbols is off.
-use Rattle.std.proofs.Common.{◌≡◌, ℕ, ◌+◌, ◌*◌, ◌^◌, ◌<◌, ◌≤◌, arith, refl, ap, ap₂, sym, ◌∙◌, ℤ, pos, ◌+ℤ◌, ◌-ℤ◌, ◌*ℤ◌, mul-le-mul, mul-le-mul_left}
+-- The three causes by which what is seen is off.
+use Rattle.std.proofs.Common.{◌≡◌, ℕ, ◌+◌, ◌*◌, ◌^◌, ◌<◌, ◌≤◌, arith, refl, ap, ap₂, sym, subst, ◌∙◌, ℤ, pos, ◌+ℤ◌, ◌-ℤ◌, ◌*ℤ◌, mul-le-mul, mul-le-mul_left}
 use Rattle.finite.proofs.Sums.{total_below-within}
 use Rattle.finite.proofs.Ring.{var, lit, same}
 use Rattle.finite.proofs.Ring as ring
@@ -10,7 +10,8 @@ use Rattle.cs_num.specs.Sums.{complex_sum_below}
 use Rattle.cs_num.proofs.Complex.{square-within, pair, plus-associates}
 use Rattle.sizes.specs.Sizes.{IsSized, energy_below, correlation_below}
 use Rattle.sizes.proofs.Algebra.{plus-minus, minus-plus, times-minus, times-multiple}
-use Rattle.sizes.proofs.Squares.{square-multiple}
+use Rattle.sizes.proofs.Squares.{square-multiple, square-times}
+use Rattle.sizes.proofs.TwoTerms.{two_term_cauchy}
 use Rattle.sizes.proofs.Sized.{sized_plain, sized-plus}
 use Rattle.sizes.proofs.Cauchy.{cauchy, correlation_same, correlation_plus, correlation_times, correlation_multiple}
 use Rattle.sizes.proofs.Rounding.{rounded_near}
@@ -18,7 +19,7 @@ use Rattle.fold128.specs.Symbol.{frequency, useful_term, useful_at}
 use Rattle.fold128.specs.Spectrum.{spectrum_at}
 use Rattle.fold128.proofs.EntrySizes.{w-square}
 use Rattle.budget.specs.Received.{AreAmplitudes}
-use Rattle.budget.specs.Budget.{DeviationHasFourCauses}
+use Rattle.budget.specs.Budget.{SendingIsSmall, SendingIsLinear, DeviationHasThreeCauses, sending_off}
 use Rattle.budget.proofs.Leakage.{sum_sent, tone_at, leak, seen_sent, leak-small}
 
 -- ---- energies
@@ -66,90 +67,125 @@ sending_is grid k l =
     ∙ plus-associates (multiple 34359738368 (grid k)) (leak grid k) r in
     ap (λ (z : Cpx). minus z (multiple 34359738368 (grid k))) parts ∙ minus-plus (multiple 34359738368 (grid k)) (plus (leak grid k) r)
 
--- together 115 units of 2^31
-sending-small : (grid : ℕ → Cpx) (k : ℕ) → AreAmplitudes grid → k < 72 → square (sending grid k) ≤ (115 * 2 ^ 31) * (115 * 2 ^ 31)
-sending-small grid k small l =
+-- together 97 units of 2^31
+pub sending_is_small : SendingIsSmall
+unfolding sending spectrum_at
+sending_is_small grid k small l =
     let r : Cpx = correlation_below 128 (rounding_off grid) (tone_at k) in
-    let a : IsSized 52376371200 1 (leak grid k) = leak-small grid k small in
+    let a : IsSized 13094092800 1 (leak grid k) = leak-small grid k small in
     let b : IsSized 194584248320 1 r = sized_plain r 194584248320 (fits (square r) (seen-small (rounding_off grid) k 65536 (λ n p. rounding-off_small grid n))) in
-    rw (sending_is grid k l) (plain (square (plus (leak grid k) r)) (sized-plus (leak grid k) r 52376371200 194584248320 1 a b).sized)
+    subst (λ (z : Cpx). square z ≤ (97 * 2 ^ 31) * (97 * 2 ^ 31)) (sym (sending_is grid k l))
+    (plain (square (plus (leak grid k) r)) (sized-plus (leak grid k) r 13094092800 194584248320 1 a b).sized)
   where
     fits : (s : ℕ) → s ≤ (256 * (65536 * 65536)) * (128 * 268468225) → s ≤ 194584248320 * 194584248320
     fits s h = omega (arith, h)
 
-    plain : (s : ℕ) → s ≤ (52376371200 + 194584248320) * (52376371200 + 194584248320) * 1 → s ≤ (115 * 2 ^ 31) * (115 * 2 ^ 31)
+    plain : (s : ℕ) → s ≤ (13094092800 + 194584248320) * (13094092800 + 194584248320) * 1 → s ≤ (97 * 2 ^ 31) * (97 * 2 ^ 31)
     plain s h = omega (arith, h)
 
 -- ---- the whole
 
-error : Cpx → Cpx → (ℕ → Cpx) → (ℕ → Cpx) → (ℕ → Cpx) → ℕ → Cpx
-error gain other grid second_grid samples n = minus (samples n) (plus (times gain (useful_at grid n)) (times other (useful_at second_grid n)))
-
 -- the plain sum of the samples, by its parts
-sum_is : (gain other : Cpx) (grid second_grid samples : ℕ → Cpx) (k : ℕ) →
-    correlation_below 128 samples (tone_at k)
-    ≡ plus (plus (times gain (correlation_below 128 (useful_at grid) (tone_at k))) (times other (correlation_below 128 (useful_at second_grid) (tone_at k))))
-    (correlation_below 128 (error gain other grid second_grid samples) (tone_at k))
-unfolding error
-sum_is gain other grid second_grid samples k =
-    let sent : ℕ → Cpx = λ n. plus (times gain (useful_at grid n)) (times other (useful_at second_grid n)) in
+sum_is : (sent samples : ℕ → Cpx) (k : ℕ) →
+    correlation_below 128 samples (tone_at k) ≡ plus (correlation_below 128 sent (tone_at k)) (correlation_below 128 (λ n. minus (samples n) (sent n)) (tone_at k))
+sum_is sent samples k =
     correlation_same 128 samples (λ n. plus (sent n) (minus (samples n) (sent n))) (tone_at k) (tone_at k) (λ n p. sym (plus-minus (samples n) (sent n))) (λ n p. refl)
     ∙ correlation_plus 128 sent (λ n. minus (samples n) (sent n)) (tone_at k)
-    ∙ ap (λ (z : Cpx). plus z (correlation_below 128 (λ n. minus (samples n) (sent n)) (tone_at k)))
-    (correlation_plus 128 (λ n. times gain (useful_at grid n)) (λ n. times other (useful_at second_grid n)) (tone_at k)
-    ∙ ap₂ plus (correlation_times 128 gain (useful_at grid) (tone_at k)) (correlation_times 128 other (useful_at second_grid) (tone_at k)))
 
-whole_part : (s p q x y e : ℤ) →
-    pos 536870912 *ℤ (s -ℤ pos 64 *ℤ (p +ℤ q))
-    ≡ pos 131072 *ℤ x -ℤ pos 34359738368 *ℤ p +ℤ (pos 131072 *ℤ y -ℤ pos 34359738368 *ℤ q) +ℤ (pos 131072 *ℤ e +ℤ pos 131072 *ℤ (pos 4096 *ℤ s -ℤ (x +ℤ y +ℤ e)))
-whole_part s p q x y e =
+whole_part : (s p x e : ℤ) →
+    pos 536870912 *ℤ (s -ℤ pos 64 *ℤ p) ≡ pos 131072 *ℤ x -ℤ pos 34359738368 *ℤ p +ℤ (pos 131072 *ℤ e +ℤ pos 131072 *ℤ (pos 4096 *ℤ s -ℤ (x +ℤ e)))
+whole_part s p x e =
     let a = var s in
     let b = var p in
-    let c = var q in
-    let d = var x in
-    let f = var y in
-    let g = var e in
-    same (ring.times (lit 536870912) (ring.minus a (ring.times (lit 64) (ring.plus b c))))
-    (ring.plus (ring.plus (ring.minus (ring.times (lit 131072) d) (ring.times (lit 34359738368) b)) (ring.minus (ring.times (lit 131072) f) (ring.times (lit 34359738368) c)))
-    (ring.plus (ring.times (lit 131072) g) (ring.times (lit 131072) (ring.minus (ring.times (lit 4096) a) (ring.plus (ring.plus d f) g))))) (omega arith)
+    let c = var x in
+    let d = var e in
+    same (ring.times (lit 536870912) (ring.minus a (ring.times (lit 64) b)))
+    (ring.plus (ring.minus (ring.times (lit 131072) c) (ring.times (lit 34359738368) b))
+    (ring.plus (ring.times (lit 131072) d) (ring.times (lit 131072) (ring.minus (ring.times (lit 4096) a) (ring.plus c d))))) (omega arith)
 
-whole_is : (s p q x y e : Cpx) →
-    multiple 536870912 (minus s (multiple 64 (plus p q)))
-    ≡ plus (plus (minus (multiple 131072 x) (multiple 34359738368 p)) (minus (multiple 131072 y) (multiple 34359738368 q))) (plus (multiple 131072 e) (multiple 131072 (minus (multiple 4096 s) (plus (plus x y) e))))
-whole_is s p q x y e = pair (whole_part s.re p.re q.re x.re y.re e.re) (whole_part s.im p.im q.im x.im y.im e.im)
-
-gain_in : (g x a : Cpx) → times g (minus (multiple 131072 x) (multiple 34359738368 a)) ≡ minus (multiple 131072 (times g x)) (multiple 34359738368 (times g a))
-gain_in g x a = times-minus g (multiple 131072 x) (multiple 34359738368 a) ∙ ap₂ minus (times-multiple 131072 g x) (times-multiple 34359738368 g a)
+whole_is : (s p x e : Cpx) →
+    multiple 536870912 (minus s (multiple 64 p))
+    ≡ plus (minus (multiple 131072 x) (multiple 34359738368 p)) (plus (multiple 131072 e) (multiple 131072 (minus (multiple 4096 s) (plus x e))))
+whole_is s p x e = pair (whole_part s.re p.re x.re e.re) (whole_part s.im p.im x.im e.im)
 
 multiple-small : (m b : ℕ) (z : Cpx) → square z ≤ b → square (multiple m z) ≤ m * m * b
 multiple-small m b z h = rw (square-multiple m z) (mul-le-mul_left (m * m) h)
 
-pub four_causes : DeviationHasFourCauses
-unfolding sending error spectrum_at
-four_causes eps gain other grid second_grid samples k small second_small near l =
+pub three_causes : DeviationHasThreeCauses
+unfolding spectrum_at
+three_causes eps sent samples amplitude k near =
     let s : Cpx = correlation_below 128 samples (tone_at k) in
-    let x : Cpx = correlation_below 128 (useful_at grid) (tone_at k) in
-    let y : Cpx = correlation_below 128 (useful_at second_grid) (tone_at k) in
-    let e : Cpx = correlation_below 128 (error gain other grid second_grid samples) (tone_at k) in
+    let x : Cpx = correlation_below 128 sent (tone_at k) in
+    let e : Cpx = correlation_below 128 (λ n. minus (samples n) (sent n)) (tone_at k) in
     record {
-      sending = sending grid k;
-      second_sending = sending second_grid k;
       errors = multiple 131072 e;
       rounding = multiple 131072 (minus (multiple 4096 (rounded s 12)) s);
       whole =
-          whole_is (rounded s 12) (times gain (grid k)) (times other (second_grid k)) (times gain x) (times other y) e
-          ∙ ap (λ (z : Cpx). plus (plus (minus (multiple 131072 (times gain x)) (multiple 34359738368 (times gain (grid k)))) (minus (multiple 131072 (times other y)) (multiple 34359738368 (times other (second_grid k)))))
-          (plus (multiple 131072 e) (multiple 131072 (minus (multiple 4096 (rounded s 12)) z)))) (sym (sum_is gain other grid second_grid samples k))
-          ∙ ap (λ (z : Cpx). plus z (plus (multiple 131072 e) (multiple 131072 (minus (multiple 4096 (rounded s 12)) s)))) (ap₂ plus (sym (gain_in gain x (grid k))) (sym (gain_in other y (second_grid k))));
-      sending_is = refl;
-      second_sending_is = refl;
+          whole_is (rounded s 12) amplitude x e
+          ∙ ap (λ (z : Cpx). plus (minus (multiple 131072 x) (multiple 34359738368 amplitude)) (plus (multiple 131072 e) (multiple 131072 (minus (multiple 4096 (rounded s 12)) z))))
+          (sym (sum_is sent samples k));
       errors_is = refl;
       rounding_is = refl;
-      sending_small = sending-small grid k small l;
-      second_sending_small = sending-small second_grid k second_small l;
-      errors_small = scaled eps (square (multiple 131072 e)) (multiple-small 131072 ((256 * (eps * eps)) * (128 * 268468225)) e (seen-small (error gain other grid second_grid samples) k eps near));
+      errors_small = scaled eps (square (multiple 131072 e)) (multiple-small 131072 ((256 * (eps * eps)) * (128 * 268468225)) e (seen-small (λ n. minus (samples n) (sent n)) k eps near));
       rounding_small = multiple-small 131072 8388608 (minus (multiple 4096 (rounded s 12)) s) (square-within (minus (multiple 4096 (rounded s 12)) s) 2048 (rounded_near s 12 2048 (omega arith) refl refl));
     }
   where
     scaled : (eps s : ℕ) → s ≤ 131072 * 131072 * ((256 * (eps * eps)) * (128 * 268468225)) → s ≤ 2 ^ 49 * (eps * eps) * (16385 * 16385)
     scaled eps s h = omega (arith, h)
+
+-- ---- what several ports send together
+
+gain_in : (g x a : Cpx) → times g (minus (multiple 131072 x) (multiple 34359738368 a)) ≡ minus (multiple 131072 (times g x)) (multiple 34359738368 (times g a))
+gain_in g x a = times-minus g (multiple 131072 x) (multiple 34359738368 a) ∙ ap₂ minus (times-multiple 131072 g x) (times-multiple 34359738368 g a)
+
+joined_part : (m n x y a b : ℤ) → m *ℤ (x +ℤ y) -ℤ n *ℤ (a +ℤ b) ≡ m *ℤ x -ℤ n *ℤ a +ℤ (m *ℤ y -ℤ n *ℤ b)
+joined_part m n x y a b =
+    let p = var m in
+    let q = var n in
+    let c = var x in
+    let d = var y in
+    let e = var a in
+    let f = var b in
+    same (ring.minus (ring.times p (ring.plus c d)) (ring.times q (ring.plus e f)))
+    (ring.plus (ring.minus (ring.times p c) (ring.times q e)) (ring.minus (ring.times p d) (ring.times q f))) (omega arith)
+
+gain_out : (g : Cpx) (sent : ℕ → Cpx) (amplitude : Cpx) (k : ℕ) → sending_off (λ n. times g (sent n)) (times g amplitude) k ≡ times g (sending_off sent amplitude k)
+unfolding spectrum_at
+gain_out g sent amplitude k =
+    ap (λ (z : Cpx). minus (multiple 131072 z) (multiple 34359738368 (times g amplitude))) (correlation_times 128 g sent (tone_at k))
+    ∙ sym (gain_in g (correlation_below 128 sent (tone_at k)) amplitude)
+
+parts_out : (s t : ℕ → Cpx) (x y : Cpx) (k : ℕ) → sending_off (λ n. plus (s n) (t n)) (plus x y) k ≡ plus (sending_off s x k) (sending_off t y k)
+unfolding spectrum_at
+parts_out s t x y k =
+    let c : Cpx = correlation_below 128 s (tone_at k) in
+    let d : Cpx = correlation_below 128 t (tone_at k) in
+    ap (λ (z : Cpx). minus (multiple 131072 z) (multiple 34359738368 (plus x y))) (correlation_plus 128 s t (tone_at k))
+    ∙ pair (joined_part (pos 131072) (pos 34359738368) c.re d.re x.re y.re) (joined_part (pos 131072) (pos 34359738368) c.im d.im x.im y.im)
+
+pub sending_is_linear : SendingIsLinear
+sending_is_linear gain sent others amplitude other k =
+    parts_out (λ n. times gain (sent n)) others (times gain amplitude) other k ∙ ap (λ (z : Cpx). plus z (sending_off others other k)) (gain_out gain sent amplitude k)
+
+-- what is sent gives an amplitude, and the square of what sending is off by is at most `bound` times the squares of the gains
+pub record IsSent (bound power : ℕ) (sent : ℕ → Cpx) (amplitude : Cpx) (k : ℕ) : Type 0 where
+  pub off : square (sending_off sent amplitude k) ≤ bound * power
+
+-- by one port with a gain
+pub sent_by_one : (g : Cpx) (grid : ℕ → Cpx) (k : ℕ) → AreAmplitudes grid → k < 72 →
+    IsSent ((97 * 2 ^ 31) * (97 * 2 ^ 31)) (square g) (λ n. times g (useful_at grid n)) (times g (grid k)) k
+sent_by_one g grid k small l = record {
+  off = by_size (square (sending_off (λ n. times g (useful_at grid n)) (times g (grid k)) k)) (square g) (square (sending_off (useful_at grid) (grid k) k))
+      (ap (λ (z : Cpx). square z) (gain_out g (useful_at grid) (grid k) k) ∙ square-times g (sending_off (useful_at grid) (grid k) k)) (sending_is_small grid k small l);
+}
+  where
+    by_size : (s n t : ℕ) → s ≡ n * t → t ≤ (97 * 2 ^ 31) * (97 * 2 ^ 31) → s ≤ ((97 * 2 ^ 31) * (97 * 2 ^ 31)) * n
+    by_size s n t e h =
+        let k : n * t ≤ n * ((97 * 2 ^ 31) * (97 * 2 ^ 31)) = mul-le-mul_left n h in
+        omega (arith, e, k)
+
+-- and by two together: Cauchy's inequality
+pub sent-plus : (a b v w : ℕ) (s t : ℕ → Cpx) (x y : Cpx) (k : ℕ) → IsSent a v s x k → IsSent b w t y k → IsSent (a + b) (v + w) (λ n. plus (s n) (t n)) (plus x y) k
+sent-plus a b v w s t x y k p q = record {
+  off = subst (λ (z : Cpx). square z ≤ (a + b) * (v + w)) (sym (parts_out s t x y k)) (two_term_cauchy (sending_off s x k) (sending_off t y k) a v b w p.off q.off);
+}

@@ -1,8 +1,8 @@
 -- The table W: the product of two entries is nearly the entry of the sum of their places (a finite check).
 pub mod Products
--- Four causes of a deviation. First cause: what the tables and the rounding of the sent samples leak from subcarrier to subcarrier.
+-- Three causes of a deviation. First cause: what the tables leak from each fourth subcarrier.
 pub mod Leakage
--- The errors of the samples and the rounding of what is seen, and the sum of all.
+-- It with the rounding of the sent samples, the errors of the samples and the rounding of what is seen, and the sum of all.
 pub mod Causes
 -- Together: what is seen is near 64 times the gain times the amplitude.
 pub mod Seen
@@ -19,5 +19,7 @@ pub mod Deviations
 pub mod Scores
 -- Channel estimates: a multiple of a gain up to a deviation, at every subcarrier as at the pilots.
 pub mod Near
+-- What is seen of an amplitude of known size: its square, and the channel by it.
+pub mod Pilots
 -- The sign and size of a soft value, by its component and the energy of the pilots.
 pub mod Signs

@@ -1,4 +1,5 @@
--- How a clean primary synchronisation signal stands out of a recording. (own; the signal is that of TS 36.211 section 6.11.1)
+-- How a clean primary synchronisation signal stands out of a recording. (own; the signal is that of TS 36.211 section
+-- 6.11.1)
 use Rattle.std.specs.Prelude.{◌≡◌, ◌≢◌, ℕ, ◌+◌, ◌*◌, ◌<◌, ◌≤◌, List}
 use Rattle.std.specs.List.{Contains}
 use Rattle.cs_num.specs.declared.Cpx.{Cpx}
@@ -7,15 +8,16 @@ use Rattle.pss_search.specs.Correlation.{pss_grid, peak, energy, wave_power}
 use Rattle.pss_search.specs.Hits.{IsAbove, IsHit, first_place, last_place, found, hits_of}
 use Rattle.budget.specs.Received.{IsReceived, samples_from}
 
--- the 128 samples from t on are the primary signal of n2 times a gain, with errors; what stands around them may be anything
+-- the 128 samples from t on are the primary signal of n2 times a gain, with errors; what stands around them may be
+-- anything
 pub record IsPrimaryAt (recording : List Sample) (t n2 : ℕ) : Type 0 where
   pub eps : ℕ
   pub gain : Cpx
   pub root : n2 ≤ 2
   pub received : IsReceived eps gain (pss_grid n2) (samples_from recording t)
 
--- the place t has energy, and its peak is at least 999 thousandths of its energy times the signal's power; its metric is greater than
--- that of each place with energy at distance 1 to 9
+-- the place t has energy, and its peak is at least 999 thousandths of its energy times the signal's power; its metric
+-- is greater than that of each place with energy at distance 1 to 9
 pub record StandsOut (recording : List Sample) (t n2 : ℕ) : Type 0 where
   pub sounds : 0 < energy recording t
   pub clear : 999 * (energy recording t * wave_power n2) ≤ 1000 * peak recording n2 t
@@ -37,5 +39,6 @@ PrimaryIsListed = (recording : List Sample) (t n2 : ℕ) → IsPrimaryAt recordi
 -- and of all places within 9 and all roots it is the only hit, wherever it stands
 abbrev pub OnlyHitNear : Type 0
 OnlyHitNear =
-    (recording : List Sample) (t u n2 m2 : ℕ) → IsPrimaryAt recording t n2 → m2 ≤ 2 → u ≤ t + 9 → t ≤ u + 9 → IsHit recording u m2 →
+    (recording : List Sample) (t u n2 m2 : ℕ) → IsPrimaryAt recording t n2 → m2 ≤ 2 → u ≤ t + 9 → t ≤ u + 9 →
+    IsHit recording u m2 →
     (u ≡ t) × (m2 ≡ n2)

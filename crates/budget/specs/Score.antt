@@ -1,5 +1,5 @@
--- The score of a clean cell: that of the group and the half that were sent is the greatest. (own; the signals are those of TS 36.211
--- section 6.11)
+-- The score of a clean cell: that of the group and the half that were sent is the greatest. (own; the signals are those
+-- of TS 36.211 section 6.11)
 use Rattle.std.specs.Prelude.{◌≡◌, ℕ, ◌-◌, ◌<◌, ◌≤◌, List, pos, ◌*ℤ◌, ◌<ℤ◌}
 use Rattle.cs_num.specs.declared.Cpx.{Cpx}
 use Rattle.cs_num.specs.declared.Sample.{Sample}
@@ -31,21 +31,25 @@ pub record AreSeen (gain : Cpx) (n1 n2 : ℕ) (half : Half) (pss_seen sss_seen :
 -- each term of the score of what was sent is above 0
 abbrev pub TermsArePositive : Type 0
 TermsArePositive =
-    (gain : Cpx) (n1 n2 : ℕ) (half : Half) (pss_seen sss_seen : ℕ → Cpx) → AreSeen gain n1 n2 half pss_seen sss_seen → (n : ℕ) → n < 62 →
+    (gain : Cpx) (n1 n2 : ℕ) (half : Half) (pss_seen sss_seen : ℕ → Cpx) → AreSeen gain n1 n2 half pss_seen sss_seen →
+    (n : ℕ) → n < 62 →
     pos 0 <ℤ (sss_at n1 n2 half n *ℤ agreement pss_seen sss_seen n2 n)
 
 -- the score of every other group and half is less
 abbrev pub SentPairIsGreatest : Type 0
 SentPairIsGreatest =
-    (gain : Cpx) (n1 n2 : ℕ) (half : Half) (pss_seen sss_seen : ℕ → Cpx) → AreSeen gain n1 n2 half pss_seen sss_seen → (m : ℕ) (other : Half) → m ≤ 167 →
+    (gain : Cpx) (n1 n2 : ℕ) (half : Half) (pss_seen sss_seen : ℕ → Cpx) → AreSeen gain n1 n2 half pss_seen sss_seen →
+    (m : ℕ) (other : Half) → m ≤ 167 →
     ((m ≡ n1) × (other ≡ half) → ⊥) → score pss_seen sss_seen n2 m other <ℤ score pss_seen sss_seen n2 n1 half
 
 -- so it is the best pair
 abbrev pub SentPairIsBest : Type 0
 SentPairIsBest =
-    (gain : Cpx) (n1 n2 : ℕ) (half : Half) (pss_seen sss_seen : ℕ → Cpx) → AreSeen gain n1 n2 half pss_seen sss_seen → best_pair (score pss_seen sss_seen n2) ≡ (n1, half)
+    (gain : Cpx) (n1 n2 : ℕ) (half : Half) (pss_seen sss_seen : ℕ → Cpx) → AreSeen gain n1 n2 half pss_seen sss_seen →
+    best_pair (score pss_seen sss_seen n2) ≡ (n1, half)
 
--- in a recording: the primary signal is received from t on, and the secondary one from one symbol of this prefix before it
+-- in a recording: the primary signal is received from t on, and the secondary one from one symbol of this prefix before
+-- it
 pub record AreSignals (prefix : Prefix) (recording : List Sample) (t n1 n2 : ℕ) (half : Half) : Type 0 where
   pub group : n1 ≤ 167
   pub root : n2 ≤ 2
@@ -61,5 +65,6 @@ AreSynchronisation recording t n1 n2 half = AreSignals normal recording t n1 n2 
 -- the sent pair is what is identified by a hit there
 abbrev pub SentPairIsIdentified : Type 0
 SentPairIsIdentified =
-    (prefix : Prefix) (recording : List Sample) (hit : Hit) (n1 : ℕ) (half : Half) → AreSignals prefix recording hit.t n1 hit.n2 half →
+    (prefix : Prefix) (recording : List Sample) (hit : Hit) (n1 : ℕ) (half : Half) →
+    AreSignals prefix recording hit.t n1 hit.n2 half →
     prefix_identity prefix recording hit ≡ (n1, half)

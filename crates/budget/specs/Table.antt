@@ -5,4 +5,5 @@ use Rattle.fold128.specs.Tables.{w_at}
 
 -- the product of two entries is 16384 times the entry of the sum, up to a number of size 22200
 abbrev pub IsNearlyMultiplicative : Type 0
-IsNearlyMultiplicative = (a b : ℕ) → square (minus (times (w_at a) (w_at b)) (multiple 16384 (w_at (a + b)))) ≤ 22200 * 22200
+IsNearlyMultiplicative =
+    (a b : ℕ) → square (minus (times (w_at a) (w_at b)) (multiple 16384 (w_at (a + b)))) ≤ 22200 * 22200
