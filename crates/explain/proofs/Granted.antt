@@ -142,11 +142,11 @@ module _ (values : ℕ → Subframe) (recording : List Sample) (start sfn : ℕ)
   one_grant_by (Some s) None a b = absurd (b a.fields a.answers)
   one_grant_by (Some s) (Some t) a b = let e = one_read_by s t a b in rw (e.0, e.1) refl
 
-one_grant_with : (values : Option Subframes) (recording : List Sample) (place : Place) (sfn : ℕ) (mib : Mib) (sib1 : Result Sib1 Sib1Reason) (a b : Option (ℕ × Grant)) →
+one_grant_with : (values : Result Subframes Sib1Reason) (recording : List Sample) (place : Place) (sfn : ℕ) (mib : Mib) (sib1 : Result Sib1 Sib1Reason) (a b : Option (ℕ × Grant)) →
     IsGrantWith values recording place sfn mib sib1 a → IsGrantWith values recording place sfn mib sib1 b → a ≡ b
-one_grant_with (Some values) recording place sfn mib sib1 a b p q =
+one_grant_with (Ok values) recording place sfn mib sib1 a b p q =
     one_grant_by (λ j. values recording place j mib.duration mib.resource) recording place.start sfn sib1 a b p q
-one_grant_with None recording place sfn mib sib1 a b p q = p ∙ sym q
+one_grant_with (Err reason) recording place sfn mib sib1 a b p q = p ∙ sym q
 
 pub one_grant_of : IsOneGrant
 one_grant_of receiver recording place sfn mib sib1 a b p q = one_grant_with receiver.subframe recording place sfn mib sib1 a b p q

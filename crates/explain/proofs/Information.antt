@@ -1,5 +1,5 @@
 -- There is one answer on the system information of a cell, and it is in its ranges.
-use Rattle.std.proofs.Common.{◌≡◌, ℕ, ◌+◌, ◌%◌, ◌<◌, ◌≤◌, ◌⊎◌, inl, inr, List, length, Option, Some, None, Result, Ok, Err, refl, ap, sym, subst, ◌∙◌, arith}
+use Rattle.std.proofs.Common.{◌≡◌, ℕ, ◌+◌, ◌%◌, ◌<◌, ◌≤◌, ◌⊎◌, inl, inr, List, length, Result, Ok, Err, refl, ap, sym, subst, ◌∙◌, arith}
 use Rattle.std.specs.Prelude.{IfOk}
 use Rattle.std.proofs.lemmas.Bool.{cases_lt}
 use Rattle.cs_num.specs.declared.Sample.{Sample}
@@ -128,26 +128,26 @@ one_of_frame values recording place mib j a b p q = one_reading _ a b p q
 -- where the first frame of even number has fields, they are what is told
 pub told_at_first : (carrier : Carrier) (values : Subframes) (recording : List Sample) (place : Place) (sfn : ℕ) (mib : Mib) (fields : Sib1) → 57600 ≤ length recording →
     place.start < 19200 → mib.bandwidth ≡ N6 → FrameAnswers values recording place mib (even_frame sfn 0) (Ok fields) →
-    IsSystemWith carrier (Some values) recording place sfn (ports_of carrier) mib (Ok fields)
+    IsSystemWith carrier (Ok values) recording place sfn (ports_of carrier) mib (Ok fields)
 told_at_first carrier values recording place sfn mib fields long early six answers =
     told_first (FrameAnswers values recording place mib) (one_of_frame values recording place mib) recording place.start sfn carrier mib fields long early six answers
 
 -- there is at most one answer
-one_with : (carrier : Carrier) (values : Option Subframes) (recording : List Sample) → HasOneSystem (IsSystemWith carrier values recording)
-one_with carrier (Some values) recording place sfn ports mib a b p q =
+one_with : (carrier : Carrier) (values : Result Subframes Sib1Reason) (recording : List Sample) → HasOneSystem (IsSystemWith carrier values recording)
+one_with carrier (Ok values) recording place sfn ports mib a b p q =
     one_by (FrameAnswers values recording place mib) (one_of_frame values recording place mib) recording place.start sfn carrier ports mib a b p q
-one_with carrier None recording place sfn ports mib a b p q = p ∙ sym q
+one_with carrier (Err reason) recording place sfn ports mib a b p q = p ∙ sym q
 
 -- what is read is in its ranges
-valid_with : (carrier : Carrier) (values : Option Subframes) (recording : List Sample) (place : Place) (sfn ports : ℕ) (mib : Mib) (sib1 : Result Sib1 Sib1Reason) →
+valid_with : (carrier : Carrier) (values : Result Subframes Sib1Reason) (recording : List Sample) (place : Place) (sfn ports : ℕ) (mib : Mib) (sib1 : Result Sib1 Sib1Reason) →
     IsSystemWith carrier values recording place sfn ports mib sib1 → IfOk sib1 IsValid
-valid_with carrier (Some values) recording place sfn ports mib sib1 s =
+valid_with carrier (Ok values) recording place sfn ports mib sib1 s =
     valid_by (FrameAnswers values recording place mib) (one_of_frame values recording place mib) recording place.start sfn carrier (λ j fields reads. read_is_valid _ fields reads) ports mib sib1 s
-valid_with carrier None recording place sfn ports mib sib1 s = subst (λ (answer : Result Sib1 Sib1Reason). IfOk answer IsValid) (sym s) tt
+valid_with carrier (Err reason) recording place sfn ports mib sib1 s = subst (λ (answer : Result Sib1 Sib1Reason). IfOk answer IsValid) (sym s) tt
 
 -- where there are values, the reason is not that the prefix is long
 never_long_with : (carrier : Carrier) (values : Subframes) (recording : List Sample) (place : Place) (sfn ports : ℕ) (mib : Mib) →
-    IsSystemWith carrier (Some values) recording place sfn ports mib (Err LongPrefix) → ⊥
+    IsSystemWith carrier (Ok values) recording place sfn ports mib (Err LongPrefix) → ⊥
 never_long_with carrier values recording place sfn ports mib s =
     never_long_by (FrameAnswers values recording place mib) (one_of_frame values recording place mib) recording place.start sfn carrier (λ j reads. never_long _ reads) ports mib s
 
@@ -160,8 +160,8 @@ pub system_is_valid : (receiver : Receiver) (recording : List Sample) (place : P
     IsSystemFor receiver recording place sfn ports mib sib1 → IfOk sib1 IsValid
 system_is_valid receiver recording place sfn ports mib sib1 s = valid_with receiver.carrier receiver.subframe recording place sfn ports mib sib1 s
 
-pub system_never_long : (receiver : Receiver) (values : Subframes) (recording : List Sample) (place : Place) (sfn ports : ℕ) (mib : Mib) → receiver.subframe ≡ Some values →
+pub system_never_long : (receiver : Receiver) (values : Subframes) (recording : List Sample) (place : Place) (sfn ports : ℕ) (mib : Mib) → receiver.subframe ≡ Ok values →
     IsSystemFor receiver recording place sfn ports mib (Err LongPrefix) → ⊥
 system_never_long receiver values recording place sfn ports mib is s =
     never_long_with receiver.carrier values recording place sfn ports mib
-    (subst (λ (o : Option Subframes). IsSystemWith receiver.carrier o recording place sfn ports mib (Err LongPrefix)) is s)
+    (subst (λ (o : Result Subframes Sib1Reason). IsSystemWith receiver.carrier o recording place sfn ports mib (Err LongPrefix)) is s)

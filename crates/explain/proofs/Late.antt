@@ -8,7 +8,7 @@ use Rattle.std.proofs.lemmas.List.{take_all}
 use Rattle.cs_num.specs.declared.Sample.{Sample}
 use Rattle.lte_types.specs.declared.hit.Hit.{Hit}
 use Rattle.lte_types.specs.declared.carrier.Carrier.{Carrier}
-use Rattle.lte_types.specs.declared.carrier.Carrier.TheVariants.{OnePort, TwoPorts, LongPrefix}
+use Rattle.lte_types.specs.declared.carrier.Carrier.TheVariants.{OnePort, TwoPorts, FourPorts, LongPrefix}
 use Rattle.lte_types.specs.Carrier.{prefix_of}
 use Rattle.lte_types.specs.Numerology.{symbol_step}
 use Rattle.pss_search.specs.Hits.{IsInSpan, hits_of}
@@ -81,6 +81,7 @@ normal_are_late recording =
 pub taken_are_late : (carrier : Carrier) (recording : List Sample) → filter (has_step_before carrier) (hits_of recording) ≡ hits_by carrier recording
 taken_are_late OnePort recording = normal_are_late recording
 taken_are_late TwoPorts recording = normal_are_late recording
+taken_are_late FourPorts recording = normal_are_late recording
 taken_are_late LongPrefix recording = refl
 
 -- a hit is taken exactly where it is listed and has room before it

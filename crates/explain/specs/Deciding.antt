@@ -6,13 +6,15 @@ use Rattle.lte_types.specs.Numerology.{frame_length}
 use Rattle.sample_file.specs.Recording.{AgreeBefore}
 use Rattle.explain.specs.Entries.{IsExplained}
 
--- the samples of 17 frames, 326,400: a hit stands in the first frame or shortly after it, the frames that it tells start within the
--- first, and at most 16 of them are looked at
+-- the samples of 17 frames, 326,400: a hit stands in the first frame or shortly after it, the frames that it tells
+-- start within the first, and at most 16 of them are looked at
 abbrev pub deciding_length : ℕ
 deciding_length = 17 * frame_length
 
--- a law: two recordings that have these samples, and the same ones, have the same list, so that a longer recording may be cut there
+-- a law: two recordings that have these samples, and the same ones, have the same list, so that a longer recording may
+-- be cut there
 abbrev pub FirstFramesDecide : Type 0
 FirstFramesDecide =
-    (first second : List Sample) (list : List Entry) → deciding_length ≤ length first → deciding_length ≤ length second →
+    (first second : List Sample) (list : List Entry) → deciding_length ≤ length first →
+    deciding_length ≤ length second →
     AgreeBefore deciding_length first second → IsExplained first list → IsExplained second list

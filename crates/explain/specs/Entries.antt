@@ -1,5 +1,6 @@
 -- The list of the cells that a recording explains. (own)
-use Rattle.std.specs.Prelude.{◌≡◌, ◌⊎◌, ◌↔◌, ℕ, ◌+◌, ◌-◌, ◌*◌, ◌%◌, ◌<◌, ◌≤◌, min, Bool, ◌&&◌, nat_eq, nat_le, if◌then◌else◌, true, List, [], ◌∷◌, ◌++◌, ℤ}
+use Rattle.std.specs.Prelude.{◌≡◌, ◌⊎◌, ◌↔◌, ℕ, ◌+◌, ◌-◌, ◌*◌, ◌%◌, ◌<◌, ◌≤◌, min, Bool, ◌&&◌, nat_eq, nat_le}
+use Rattle.std.specs.Prelude.{if◌then◌else◌, true, List, [], ◌∷◌, ◌++◌, ℤ}
 use Rattle.std.specs.List.{fold, list_any, flat_map, AllZip, AllPairs, Contains}
 use Rattle.std.specs.List.Sorted.{IsPermutation}
 use Rattle.cs_num.specs.declared.Sample.{Sample}
@@ -21,9 +22,6 @@ use Rattle.explain.specs.Window.{AreFirstFrames}
 -- the place of the cell that a hit tells, by the normal cyclic prefix: its identity, and the start of its frames
 abbrev pub place_at : List Sample → Hit → Place
 place_at = place_by OnePort
-
-abbrev pub identity_at : List Sample → Hit → ℕ
-identity_at recording hit = (place_at recording hit).id
 
 abbrev pub start_at : List Sample → Hit → ℕ
 start_at recording hit = (place_at recording hit).start
@@ -49,7 +47,8 @@ values_of_entry recording entry = sums_of recording (place_of entry) (frames_of 
 
 -- the entry tells a master block of the cell at this place: one of the first of its frames that have any. `Tells` says
 -- which master block frames tell, and `IsSystem` what is told of the system information
-pub record IsEntryAt (Tells : Telling) (IsSystem : Informing) (recording : List Sample) (place : Place) (entry : Entry) : Type 0 where
+pub record IsEntryAt (Tells : Telling) (IsSystem : Informing) (recording : List Sample) (place : Place)
+    (entry : Entry) : Type 0 where
   pub id : entry.id ≡ place.id
   pub start : entry.start ≡ place.start
   pub period : entry.phase + entry.frames ≤ 4
@@ -59,8 +58,8 @@ pub record IsEntryAt (Tells : Telling) (IsSystem : Informing) (recording : List 
   pub sib1 : IsSystem (place_of entry) entry.sfn entry.ports entry.mib entry.sib1
 
 -- by a receiver frames tell this master block, with a count of antenna ports that it takes
-pub record IsMasterFor (receiver : Receiver) (recording : List Sample) (place : Place) (frames : Frames) (master : Master) :
-    Type 0 where
+pub record IsMasterFor (receiver : Receiver) (recording : List Sample) (place : Place) (frames : Frames)
+    (master : Master) : Type 0 where
   pub taken : receiver.takes master.ports ≡ true
   pub told : TellsMaster (sums_by receiver recording place frames) master
 
@@ -124,7 +123,8 @@ pub record IsListOf (entries list : List Entry) : Type 0 where
 abbrev pub Adds : List Entry → List Entry → List Entry → Type 0
 Adds entries old new = (before : List Entry) → IsListOf before old → IsListOf (before ++ entries) new
 
--- the list of hits, where `AreOf` says which entries each hit has: that of their entries, those of one hit after those of the other
+-- the list of hits, where `AreOf` says which entries each hit has: that of their entries, those of one hit after those
+-- of the other
 pub record IsListOfHits (AreOf : Hit → List Entry → Type 0) (hits : List Hit) (list : List Entry) : Type 0 where
   pub groups : List (List Entry)
   pub each : AllZip AreOf hits groups

@@ -18,7 +18,11 @@ IsWhole recording start j = start + frame_length * (j + 1) ≤ length recording
 -- the slot of a frame that begins at f, as it is seen: its seven symbols, with the normal cyclic prefix
 unfoldable pub seen_slot : List Sample → ℕ → ℕ → ℕ → SeenSlot
 seen_slot recording f number identity =
-    record { symbols = values_below 7 (λ symbol. seen_symbol recording (useful_start normal f number symbol)); number = number; identity = identity }
+    record {
+      symbols = values_below 7 (λ symbol. seen_symbol recording (useful_start normal f number symbol));
+      number = number;
+      identity = identity;
+    }
 
 -- the slot of frame j of a cell's start that carries the broadcast channel (TS 36.211 section 6.6.4)
 abbrev pub broadcast_slot : List Sample → ℕ → ℕ → ℕ → SeenSlot

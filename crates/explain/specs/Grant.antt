@@ -1,5 +1,5 @@
 -- The indicator and the grant by which system information was read. (own)
-use Rattle.std.specs.Prelude.{◌≡◌, ℕ, ◌<◌, List, Option, Some, None, Result, Ok}
+use Rattle.std.specs.Prelude.{◌≡◌, ℕ, ◌<◌, List, Option, Some, None, Result, Ok, Err}
 use Rattle.cs_num.specs.declared.Sample.{Sample}
 use Rattle.lte_types.specs.declared.sib1.Sib1.{Sib1}
 use Rattle.lte_types.specs.declared.sib1_reason.Sib1Reason.{Sib1Reason}
@@ -42,13 +42,14 @@ pub record AreAttempts (Attempts : Attempting) (Answers : Answering) : Type 0 wh
 
 -- the attempt on frame j of the cell at a place, by the values of its subframe 5
 abbrev pub IsFrameAttempt : Subframes → List Sample → Place → Mib → Attempting
-IsFrameAttempt values recording place mib j attempt = IsAttempt (values recording place j mib.duration mib.resource) attempt
+IsFrameAttempt values recording place mib j attempt =
+    IsAttempt (values recording place j mib.duration mib.resource) attempt
 
 -- the indicator and the grant of the system information by these values; none where there are none
-abbrev pub IsGrantWith : Option Subframes → List Sample → Granting
-IsGrantWith (Some values) recording place sfn mib sib1 told =
+abbrev pub IsGrantWith : Result Subframes Sib1Reason → List Sample → Granting
+IsGrantWith (Ok values) recording place sfn mib sib1 told =
     IsGrantBy (IsFrameAttempt values recording place mib) recording place.start sfn sib1 told
-IsGrantWith None recording place sfn mib sib1 told = told ≡ None
+IsGrantWith (Err reason) recording place sfn mib sib1 told = told ≡ None
 
 -- those by which a receiver reads the system information of the cell at a place
 abbrev pub IsGrantFor : Receiver → List Sample → Granting

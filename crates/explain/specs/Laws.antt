@@ -1,6 +1,6 @@
 -- What the list of a recording is, in plain words; and the same of any list of hits, where `IsOf` says which entries a
 -- hit has. (own)
-use Rattle.std.specs.Prelude.{◌≡◌, ◌≢◌, ◌⊎◌, ℕ, ◌<◌, ◌≤◌, true, List, Some, Err}
+use Rattle.std.specs.Prelude.{◌≡◌, ◌≢◌, ◌⊎◌, ℕ, ◌<◌, ◌≤◌, true, List, Ok, Err}
 use Rattle.std.specs.List.{AllPairs, Contains}
 use Rattle.cs_num.specs.declared.Sample.{Sample}
 use Rattle.lte_types.specs.declared.hit.Hit.{Hit}
@@ -11,7 +11,8 @@ use Rattle.pbch.specs.declared.master.Master.{Master}
 use Rattle.explain.specs.Frame.{IsWhole}
 use Rattle.explain.specs.Receiver.{Receiver, Subframes, hits_by, place_by}
 use Rattle.explain.specs.System.{IsSystemFor}
-use Rattle.explain.specs.Entries.{master_of, place_of, frames_of, IsMasterFor, IsEntryFor, AreEntries, IsListOfHits, IsListFor, is_same_cell}
+use Rattle.explain.specs.Entries.{master_of, place_of, frames_of, IsMasterFor, IsEntryFor, AreEntries, IsListOfHits}
+use Rattle.explain.specs.Entries.{IsListFor, is_same_cell}
 
 -- hits have one list
 abbrev pub HaveOneList : (Hit → Entry → Type 0) → List Hit → Type 0
@@ -48,7 +49,8 @@ pub record StandsFor (list : List Entry) (entry other : Entry) : Type 0 where
 -- for each entry of each hit one stands in the list: itself, or one of its cell
 abbrev pub IsCompleteOf : (Hit → Entry → Type 0) → List Hit → Type 0
 IsCompleteOf IsOf hits =
-    (list : List Entry) (entry : Entry) → IsListOfHits (λ hit. AreEntries (IsOf hit)) hits list → IsEntryOfSome IsOf hits entry →
+    (list : List Entry) (entry : Entry) → IsListOfHits (λ hit. AreEntries (IsOf hit)) hits list →
+    IsEntryOfSome IsOf hits entry →
     (other : Entry) × StandsFor list entry other
 
 abbrev pub IsComplete : Type 0
@@ -62,7 +64,8 @@ pub record AreApart (first second : Entry) : Type 0 where
 
 -- no two of the list are
 abbrev pub IsApartOf : (Hit → Entry → Type 0) → List Hit → Type 0
-IsApartOf IsOf hits = (list : List Entry) → IsListOfHits (λ hit. AreEntries (IsOf hit)) hits list → AllPairs AreApart list
+IsApartOf IsOf hits =
+    (list : List Entry) → IsListOfHits (λ hit. AreEntries (IsOf hit)) hits list → AllPairs AreApart list
 
 abbrev pub IsApart : Type 0
 IsApart = (receiver : Receiver) (recording : List Sample) →
@@ -71,13 +74,13 @@ IsApart = (receiver : Receiver) (recording : List Sample) →
 -- no entry of it has the reason that the cyclic prefix is the extended one, where there are values of subframe 5
 abbrev pub IsNeverLong : Type 0
 IsNeverLong = (receiver : Receiver) (values : Subframes) (recording : List Sample)
-    (list : List Entry) (entry : Entry) → receiver.subframe ≡ Some values → IsListFor receiver recording list →
+    (list : List Entry) (entry : Entry) → receiver.subframe ≡ Ok values → IsListFor receiver recording list →
     Contains list entry → entry.sib1 ≢ Err LongPrefix
 
 -- ---- single frames
 
--- the entry tells a master block that one frame of a hit tells: the first of frames 0 to 7 that tells any, by its values
--- alone
+-- the entry tells a master block that one frame of a hit tells: the first of frames 0 to 7 that tells any, by its
+-- values alone
 pub record IsEntryOfOneFrame (receiver : Receiver) (recording : List Sample) (hit : Hit) (entry : Entry) : Type 0 where
   pub id : entry.id ≡ (place_by receiver.carrier recording hit).id
   pub start : entry.start ≡ (place_by receiver.carrier recording hit).start

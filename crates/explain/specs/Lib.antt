@@ -9,6 +9,5 @@ pub mod Masters
 pub mod Received
 pub mod Laws
 pub mod Deciding
-pub mod EntrySlot
 pub mod Grant
 pub mod Readings

@@ -76,7 +76,8 @@ IsSystemAt IsSystem place frames o sib1 =
     IfSome o (λ master. IsSystem place (first_number master.mib.upper frames) master.ports master.mib sib1)
 
 -- the list has the entry of a phase besides
-pub record AddsPhase (IsSystem : Informing) (place : Place) (frames : Frames) (o : Option Master) (old new : List Entry) : Type 0 where
+pub record AddsPhase (IsSystem : Informing) (place : Place) (frames : Frames) (o : Option Master)
+    (old new : List Entry) : Type 0 where
   pub sib1 : Result Sib1 Sib1Reason
   pub told : IsSystemAt IsSystem place frames o sib1
   pub adds : Adds (entry_at place frames o sib1) old new

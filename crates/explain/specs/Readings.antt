@@ -69,7 +69,8 @@ pub record AreKept (old new : List Entry) (before after : List Reading) : Type 0
 
 -- one or the other
 abbrev pub AddsBeside : Entry → Reading → List Entry → List Entry → List Reading → List Reading → Type 0
-AddsBeside entry reading old new before after = AreKept old new before after ⊎ AreInserted entry reading old new before after
+AddsBeside entry reading old new before after =
+    AreKept old new before after ⊎ AreInserted entry reading old new before after
 
 -- where all entries of the list were read as the list beside it says, they still are
 abbrev pub KeepsReadings : (Entry → Reading → Type 0) → List Entry → List Entry → List Reading → List Reading → Type 0

@@ -21,7 +21,8 @@ abbrev pub NoneTell : Telling → Place → ℕ → ℕ → Type 0
 NoneTell Tells place whole count = (j : ℕ) → j + count ≤ whole → TellNone Tells place count j
 
 -- of these, those from frame j on are the first that do, and these are their master blocks
-pub record AreFirstOf (Tells : Telling) (place : Place) (whole count j : ℕ) (masters : List (Option Master)) : Type 0 where
+pub record AreFirstOf (Tells : Telling) (place : Place) (whole count j : ℕ)
+    (masters : List (Option Master)) : Type 0 where
   pub within : j + count ≤ whole
   pub first : (i : ℕ) → i < j → TellNone Tells place count i
   pub have : HaveMasters Tells place count j masters

@@ -1,14 +1,15 @@
 -- A receiver: a way to read the cells of a recording that send by one kind of carrier. (own)
-use Rattle.std.specs.Prelude.{ℕ, ◌*◌, ◌≤◌, Bool, true, nat_le, List, filter, ℤ, Option, Some}
+use Rattle.std.specs.Prelude.{ℕ, ◌*◌, ◌≤◌, Bool, true, nat_le, List, filter, ℤ, Result, Ok}
 use Rattle.cs_num.specs.declared.Sample.{Sample}
 use Rattle.lte_types.specs.CellPlace.{Place}
 use Rattle.lte_types.specs.Frames.{Frames}
 use Rattle.lte_types.specs.declared.carrier.Carrier.{Carrier}
-use Rattle.lte_types.specs.declared.carrier.Carrier.TheVariants.{OnePort, TwoPorts, LongPrefix}
+use Rattle.lte_types.specs.declared.carrier.Carrier.TheVariants.{OnePort, TwoPorts, FourPorts, LongPrefix}
 use Rattle.lte_types.specs.Carrier.{prefix_of}
 use Rattle.lte_types.specs.Numerology.{symbol_step}
 use Rattle.lte_types.specs.declared.duration.Duration.{Duration}
 use Rattle.lte_types.specs.declared.resource.Resource.{Resource}
+use Rattle.lte_types.specs.declared.sib1_reason.Sib1Reason.{Sib1Reason}
 use Rattle.lte_types.specs.declared.hit.Hit.{Hit}
 use Rattle.pss_search.specs.Hits.{IsInSpan, hits_of}
 use Rattle.sss_detect.specs.Place.{prefix_place}
@@ -30,8 +31,8 @@ pub record Receiver : Type 0 where
   pub broadcast : List Sample → Place → ℕ → List ℤ
   -- a master block that tells so many antenna ports is taken
   pub takes : ℕ → Bool
-  -- the values of subframe 5, by which system information is read; none where it is not, since the prefix is the extended one
-  pub subframe : Option Subframes
+  -- the values of subframe 5, by which system information is read, or why it is not
+  pub subframe : Result Subframes Sib1Reason
 
 -- ---- by slots with the normal prefix, and a way to make soft values of their places
 
@@ -49,7 +50,7 @@ by_slots kind taken values = record {
   size = 480;
   broadcast = broadcast_by values;
   takes = taken;
-  subframe = Some (subframes_by kind values);
+  subframe = Ok (subframes_by kind values);
 }
 
 -- by one antenna port: each master block is taken, whatever ports it tells
@@ -66,6 +67,7 @@ has_step_before carrier hit = nat_le (symbol_step (prefix_of carrier)) hit.t
 abbrev pub hits_by : Carrier → List Sample → List Hit
 hits_by OnePort recording = hits_of recording
 hits_by TwoPorts recording = hits_of recording
+hits_by FourPorts recording = hits_of recording
 hits_by LongPrefix recording = filter (has_step_before LongPrefix) (hits_of recording)
 
 -- a hit lies in the span of one frame, and has this room
@@ -77,8 +79,8 @@ pub record HasRoom (carrier : Carrier) (hit : Hit) : Type 0 where
 abbrev pub place_by : Carrier → List Sample → Hit → Place
 place_by carrier recording hit = prefix_place (prefix_of carrier) recording hit
 
--- the sums by which frames of a cell tell a master block: of their values, one frame after the other, the first of them at
--- its phase
+-- the sums by which frames of a cell tell a master block: of their values, one frame after the other, the first of them
+-- at its phase
 abbrev pub sums_by : Receiver → List Sample → Place → Frames → List (List ℤ)
 sums_by receiver recording place frames =
     summed_values place.id (receiver.size * frames.phase)

@@ -1,6 +1,6 @@
--- The system information of an entry: SystemInformationBlockType1, which subframe 5 of the frames of even number carries (TS 36.331
--- section 5.2.1.2). Which frames are tried is own.
-use Rattle.std.specs.Prelude.{◌≡◌, ◌≢◌, ℕ, ◌+◌, ◌*◌, ◌%◌, ◌<◌, List, Option, Some, None, Result, Ok, Err}
+-- The system information of an entry: SystemInformationBlockType1, which subframe 5 of the frames of even number
+-- carries (TS 36.331 section 5.2.1.2). Which frames are tried is own.
+use Rattle.std.specs.Prelude.{◌≡◌, ◌≢◌, ℕ, ◌+◌, ◌*◌, ◌%◌, ◌<◌, List, Result, Ok, Err}
 use Rattle.cs_num.specs.declared.Sample.{Sample}
 use Rattle.lte_types.specs.CellPlace.{Place}
 use Rattle.lte_types.specs.declared.carrier.Carrier.{Carrier}
@@ -10,7 +10,7 @@ use Rattle.lte_types.specs.declared.bandwidth.Bandwidth.TheVariants.{N6}
 use Rattle.lte_types.specs.declared.mib.Mib.{Mib}
 use Rattle.lte_types.specs.declared.sib1.Sib1.{Sib1}
 use Rattle.lte_types.specs.declared.sib1_reason.Sib1Reason.{Sib1Reason}
-use Rattle.lte_types.specs.declared.sib1_reason.Sib1Reason.TheVariants.{NotOnePort, Bandwidth as OtherWidth, LongPrefix as Extended}
+use Rattle.lte_types.specs.declared.sib1_reason.Sib1Reason.TheVariants.{NotOnePort, Bandwidth as OtherWidth}
 use Rattle.system_block.specs.Attempt.{Reads}
 use Rattle.explain.specs.Frame.{IsWhole}
 use Rattle.explain.specs.Receiver.{Receiver, Subframes, one_port_receiver}
@@ -35,7 +35,8 @@ pub record IsFirstRead (Answers : Answering) (recording : List Sample) (start sf
   pub first : (h : ℕ) (other : Sib1) → h < i → Answers (even_frame sfn h) (Ok other) → ⊥
 
 -- no tried frame answers with fields, and the first of them has this reason
-pub record IsNoneRead (Answers : Answering) (recording : List Sample) (start sfn : ℕ) (reason : Sib1Reason) : Type 0 where
+pub record IsNoneRead (Answers : Answering) (recording : List Sample) (start sfn : ℕ) (reason : Sib1Reason) :
+    Type 0 where
   pub none : (i : ℕ) (fields : Sib1) → IsTried recording start sfn i → Answers (even_frame sfn i) (Ok fields) → ⊥
   pub refused : Answers (even_frame sfn 0) (Err reason)
 
@@ -66,7 +67,8 @@ pub record IsSearched (Answers : Answering) (recording : List Sample) (start sfn
 
 -- what is told where the antenna ports of this carrier are wanted
 abbrev pub IsSystemBy : Carrier → Answering → List Sample → ℕ → ℕ → ℕ → Mib → Result Sib1 Sib1Reason → Type 0
-IsSystemBy carrier Answers recording start sfn ports mib (Err (NotOnePort told)) = HasOtherPorts (ports_of carrier) ports told
+IsSystemBy carrier Answers recording start sfn ports mib (Err (NotOnePort told)) =
+    HasOtherPorts (ports_of carrier) ports told
 IsSystemBy carrier Answers recording start sfn ports mib (Err (OtherWidth told)) =
     HasOtherWidth (ports_of carrier) ports mib.bandwidth told
 IsSystemBy carrier Answers recording start sfn ports mib sib1 =
@@ -78,14 +80,14 @@ IsSystemBy carrier Answers recording start sfn ports mib sib1 =
 abbrev pub FrameAnswers : Subframes → List Sample → Place → Mib → Answering
 FrameAnswers values recording place mib j answer = Reads (values recording place j mib.duration mib.resource) answer
 
--- what is told by these values of subframe 5, or where there are none: that the prefix is the extended one
-abbrev pub IsSystemWith : Carrier → Option Subframes → List Sample → Informing
-IsSystemWith carrier (Some values) recording place sfn ports mib sib1 =
+-- what is told by these values of subframe 5, or where there are none: why
+abbrev pub IsSystemWith : Carrier → Result Subframes Sib1Reason → List Sample → Informing
+IsSystemWith carrier (Ok values) recording place sfn ports mib sib1 =
     IsSystemBy carrier (FrameAnswers values recording place mib) recording place.start sfn ports mib sib1
-IsSystemWith carrier None recording place sfn ports mib sib1 = sib1 ≡ Err Extended
+IsSystemWith carrier (Err reason) recording place sfn ports mib sib1 = sib1 ≡ Err reason
 
--- what a receiver tells of the system information of the cell at a place, whose first frame has this number, with so many
--- antenna ports and this master block
+-- what a receiver tells of the system information of the cell at a place, whose first frame has this number, with so
+-- many antenna ports and this master block
 abbrev pub IsSystemFor : Receiver → List Sample → Informing
 IsSystemFor receiver = IsSystemWith receiver.carrier receiver.subframe
 

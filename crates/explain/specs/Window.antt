@@ -1,6 +1,6 @@
 -- The frames of a cell in which its master blocks are looked for: frames 0 to 7 of its start, as far as they lie within
--- the recording, one alone, or two to four that follow one another in one period of four. `Tells` says which master block
--- frames tell. (own)
+-- the recording, one alone, or two to four that follow one another in one period of four. `Tells` says which master
+-- block frames tell. (own)
 use Rattle.std.specs.Prelude.{◌≡◌, ◌⊎◌, ℕ, ◌+◌, ◌<◌, ◌≤◌, List}
 use Rattle.cs_num.specs.declared.Sample.{Sample}
 use Rattle.lte_types.specs.CellPlace.{Place}
@@ -33,7 +33,8 @@ HasNoMasterBefore Tells recording place count j =
 
 -- none that are looked at do
 abbrev pub HasNoMasters : Telling → List Sample → Place → Type 0
-HasNoMasters Tells recording place = (count j : ℕ) → IsInWindow recording place.start count j → TellNone Tells place count j
+HasNoMasters Tells recording place =
+    (count j : ℕ) → IsInWindow recording place.start count j → TellNone Tells place count j
 
 -- so many frames from frame j on are looked at, and none before them tell a master block
 pub record AreFirstFrames (Tells : Telling) (recording : List Sample) (place : Place) (count j : ℕ) : Type 0 where

@@ -7,7 +7,8 @@ ghost use Rattle.lte_types.specs.Ranges.{IsValid};
 ghost use Rattle.pss_search.specs.Hits.{IsInSpan};
 ghost use Rattle.pbch.specs.Master.{TellsMaster};
 ghost use Rattle.explain.specs.Readings.{IsReading};
-ghost use Rattle.explain.specs.Entries.{IsExplained, IsInList, master_of, place_at, place_of as place_of_entry, values_of_entry};
+ghost use Rattle.explain.specs.Entries.{IsExplained, IsInList, master_of, place_at};
+ghost use Rattle.explain.specs.Entries.{place_of as place_of_entry, values_of_entry};
 
 use crate::frame::broadcast_slot;
 use crate::hit_list::place_told;

@@ -1,13 +1,14 @@
 //! Laws of the list.
 
-ghost use Rattle.explain.specs.Laws.{IsOneList, IsSound, IsComplete, IsApart, IsNeverLong, OneFrameTells, OneFrameIsListed};
+ghost use Rattle.explain.specs.Laws.{IsOneList, IsSound, IsComplete, IsApart, IsNeverLong};
+ghost use Rattle.explain.specs.Laws.{OneFrameTells, OneFrameIsListed};
 ghost use Rattle.explain.specs.Deciding.{FirstFramesDecide};
 ghost use Rattle.explain.specs.Readings.{IsOneReading};
 
 /// The list of a recording by any receiver in plain words: there is only one; each of its entries is one of some
 /// hit; for each entry of each hit it has that entry or one of the same cell; and no two of it are of
-/// one cell, so that no two have the same identity, start and frame number. Where system information is read, no entry has
-/// the reason `Sib1Reason::LongPrefix`.
+/// one cell, so that no two have the same identity, start and frame number. Where system information is read, no entry
+/// has the reason `Sib1Reason::LongPrefix`.
 pub fn the_list_in_plain_words()
     ensures one { IsOneList }
     ensures sound { IsSound }
@@ -29,8 +30,8 @@ pub fn one_frame_is_enough()
     ensures listed { OneFrameIsListed }
 {}
 
-/// An entry of a recording was read in one way by any receiver: one hit is the first that tells its place, and the sums, the
-/// indicator and the grant are certain ones. (own)
+/// An entry of a recording was read in one way by any receiver: one hit is the first that tells its place, and the
+/// sums, the indicator and the grant are certain ones. (own)
 pub fn one_reading()
     ensures { IsOneReading }
 {}

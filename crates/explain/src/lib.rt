@@ -4,7 +4,6 @@
 
 mod cells;
 mod entry_list;
-mod entry_slot;
 mod frame;
 mod frame_reader;
 mod grant;
@@ -24,7 +23,6 @@ mod workspace;
 
 pub use cells::{explain, place_in, place_of, values_of};
 pub use entry_list::EntryList;
-pub use entry_slot::slot_of_entry;
 pub use frame::broadcast_slot;
 pub use frame_reader::FrameReader;
 pub use grant::{grant_of, one_grant};

@@ -1,6 +1,6 @@
 //! The system information of a cell.
 
-ghost use Rattle.std.specs.Prelude.{◌≡◌, ◌<◌, ◌+◌, ◌*◌, ◌%◌, Some, None, Err};
+ghost use Rattle.std.specs.Prelude.{◌≡◌, ◌<◌, ◌+◌, ◌*◌, ◌%◌, None, Ok, Err};
 ghost use Rattle.explain.specs.Receiver.{subframes_by};
 ghost use Rattle.explain.specs.System.{even_frame as even_frame_of, FrameAnswers, IsReadFrom, IsSystemWith};
 ghost use Rattle.system_block.specs.Attempt.{granted_by};
@@ -36,9 +36,9 @@ pub fn system_in<S: ReadSlot>(
     master: Master,
     work: &mut Decoders,
 ) -> Informed
-    ensures told { IsSystemWith S.carrier (Some (subframes_by S.carrier S.values_by)) recording.now place sfn
+    ensures told { IsSystemWith S.carrier (Ok (subframes_by S.carrier S.values_by)) recording.now place sfn
         master.ports master.mib result.sib1 }
-    ensures granted { IsGrantWith (Some (subframes_by S.carrier S.values_by)) recording.now place sfn master.mib
+    ensures granted { IsGrantWith (Ok (subframes_by S.carrier S.values_by)) recording.now place sfn master.mib
         result.sib1 result.granted }
 {
     if master.ports != S::carrier().ports() {

@@ -9,8 +9,8 @@ use pss_search::HitList;
 use std::alloc::{AllocError, Global};
 use std::marker::Model;
 
-/// The working memory of a search for cells by any receiver. Contracts see it as how the entries of the last list were read, in
-/// the order of the list; what else it holds between two searches means nothing.
+/// The working memory of a search for cells by any receiver. Contracts see it as how the entries of the last list were
+/// read, in the order of the list; what else it holds between two searches means nothing.
 #[derive(Drop)]
 pub struct Workspace {
     pub(crate) hits: HitList,
