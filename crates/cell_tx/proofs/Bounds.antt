@@ -28,9 +28,10 @@ use Rattle.sync_seq.specs.Secondary.{sss_at}
 use Rattle.sync_seq.proofs.PrimaryValues.{pss_is, pss-within}
 use Rattle.sync_seq.proofs.SecondaryValues.{sss-size}
 use Rattle.cell_tx.specs.declared.antenna.Port.{Port}
-use Rattle.cell_tx.specs.declared.antenna.Port.TheVariants.{Only, First, Second, Long}
+use Rattle.cell_tx.specs.declared.antenna.Port.TheVariants.{Only, First, Second, Long, OfFour}
+use Rattle.cell_tx.specs.declared.antenna.PortOfFour.TheVariants.{Zero, One, Two, Three}
 use Rattle.cell_tx.specs.declared.cell.CellPlan.{CellPlan}
-use Rattle.cell_tx.specs.Ports.{port_prefix, port_symbols, port_slot, has_control, sent_point, sent_signal, is_own_reference, is_other_reference, port_reference}
+use Rattle.cell_tx.specs.Ports.{port_prefix, port_symbols, port_slot, has_control, crossed_point, is_even_pair, sent_point, sent_signal, is_own_reference, is_other_reference, port_reference}
 use Rattle.cell_tx.specs.Load.{is_loaded, load_c_init, load_point, loaded_element, sent_element}
 use Rattle.cell_tx.specs.Block.{port_bit, port_point, scrambled_bit}
 use Rattle.cell_tx.specs.Grid.{is_primary, is_secondary, has_broadcast, is_indicator, is_control, is_shared, port_channel_value, port_element, element}
@@ -70,21 +71,29 @@ pub shared_full : (plan : CellPlan) (sfn i : ℕ) → IsPoint (shared_point plan
 unfolding shared_point
 shared_full plan sfn i = bits_full (scrambled (pdsch_c_init plan.identity 10 system_information_rnti) (shared_bit plan sfn)) i
 
--- so have those that a port sends
+-- so have their negatives
 negative_full : (z : ℤ) → IsFull z → IsFull (neg_ℤ z)
 negative_full z (inl e) = inr (ap neg_ℤ e)
 negative_full z (inr e) = inl (ap neg_ℤ e)
 
-sent_full : (port : Port) (f : ℕ → Cpx) → ((i : ℕ) → IsPoint (f i)) → (i : ℕ) → IsPoint (sent_point port f i)
-sent_full Only f full i = full i
-sent_full First f full i = full i
-sent_full Long f full i = full i
-sent_full Second f full i =
+crossed_full : (f : ℕ → Cpx) → ((i : ℕ) → IsPoint (f i)) → (i : ℕ) → IsPoint (crossed_point f i)
+crossed_full f full i =
     let next = full (i + 1) in
     let before = full (i - 1) in
     pick IsPoint (nat_eq (i % 2) 0) _ _
     (record { re = negative_full (f (i + 1)).re next.re; im = negative_full _ (negative_full (f (i + 1)).im next.im) })
     (record { re = before.re; im = negative_full (f (i - 1)).im before.im })
+
+-- what holds of points and of 0 holds of what a port sends of points
+sent_points_all : (P : Cpx → Type 0) → ((z : Cpx) → IsPoint z → P z) → P nothing → (port : Port) (f : ℕ → Cpx) → ((i : ℕ) → IsPoint (f i)) → (i : ℕ) → P (sent_point port f i)
+sent_points_all P full none Only f points i = full _ (points i)
+sent_points_all P full none First f points i = full _ (points i)
+sent_points_all P full none Long f points i = full _ (points i)
+sent_points_all P full none Second f points i = full _ (crossed_full f points i)
+sent_points_all P full none (OfFour Zero) f points i = pick P (is_even_pair i) _ _ (full _ (points i)) none
+sent_points_all P full none (OfFour One) f points i = pick P (is_even_pair i) _ _ none (full _ (points i))
+sent_points_all P full none (OfFour Two) f points i = pick P (is_even_pair i) _ _ (full _ (crossed_full f points i)) none
+sent_points_all P full none (OfFour Three) f points i = pick P (is_even_pair i) _ _ none (full _ (crossed_full f points i))
 
 -- the reference signals
 pub reference_full : (port : Port) (identity slot symbol k : ℕ) → IsPoint (port_reference port identity slot symbol k)
@@ -92,21 +101,26 @@ reference_full Only identity slot symbol k = subst IsPoint (sym (reference_at_is
 reference_full First identity slot symbol k = subst IsPoint (sym (reference_at_is identity slot symbol k)) (reference-IsPoint identity slot symbol (k / 6))
 reference_full Second identity slot symbol k = subst IsPoint (sym (reference_at_is identity slot symbol k)) (reference-IsPoint identity slot symbol (k / 6))
 reference_full Long identity slot symbol k = pattern_reference-IsPoint long_prefix identity slot symbol (k / 6)
+reference_full (OfFour port) identity slot symbol k = subst IsPoint (sym (reference_at_is identity slot symbol k)) (reference-IsPoint identity slot symbol (k / 6))
 
 channel_all : (P : Cpx → Type 0) → ((z : Cpx) → IsPoint z → P z) → P nothing → (port : Port) (plan : CellPlan) (sfn subframe symbol k : ℕ) → P (port_channel_value port plan sfn subframe symbol k)
 unfolding port_channel_value
 channel_all P full none port plan sfn subframe symbol k =
-    pick P (has_broadcast port plan.identity subframe symbol k) _ _ (full _ (sent_full port (port_point port plan sfn) (broadcast_full port plan sfn) _))
+    pick P (has_broadcast port plan.identity subframe symbol k) _ _ (sent_points_all P full none port (port_point port plan sfn) (broadcast_full port plan sfn) _)
     (pick P (has_control port) _ _
-    (pick P (is_indicator plan symbol k) _ _ (full _ (sent_full port (indicator_point plan subframe) (indicator_full plan subframe) _))
-    (pick P (is_control plan sfn subframe symbol k) _ _ (full _ (sent_full port (control_point plan sfn) (control_full plan sfn) _))
-    (pick P (is_shared port plan sfn subframe symbol k) _ _ (full _ (sent_full port (shared_point plan sfn) (shared_full plan sfn) _)) none))) none)
+    (pick P (is_indicator plan symbol k) _ _ (sent_points_all P full none port (indicator_point plan subframe) (indicator_full plan subframe) _)
+    (pick P (is_control plan sfn subframe symbol k) _ _ (sent_points_all P full none port (control_point plan sfn) (control_full plan sfn) _)
+    (pick P (is_shared port plan sfn subframe symbol k) _ _ (sent_points_all P full none port (shared_point plan sfn) (shared_full plan sfn) _) none))) none)
 
 signal_all : (P : Cpx → Type 0) (port : Port) (z : Cpx) → P z → P nothing → P (sent_signal port z)
 signal_all P Only z here none = here
 signal_all P First z here none = here
 signal_all P Long z here none = here
 signal_all P Second z here none = none
+signal_all P (OfFour Zero) z here none = here
+signal_all P (OfFour One) z here none = none
+signal_all P (OfFour Two) z here none = none
+signal_all P (OfFour Three) z here none = none
 
 -- what holds of each kind of value holds of every element
 element_all : (P : Cpx → Type 0) → ((z : Cpx) → IsPoint z → P z) → ((n2 n : ℕ) → P (pss_at n2 n))
@@ -114,9 +128,9 @@ element_all : (P : Cpx → Type 0) → ((z : Cpx) → IsPoint z → P z) → ((n
     → (port : Port) (plan : CellPlan) (sfn subframe symbol k : ℕ) → P (port_element port plan sfn subframe symbol k)
 unfolding port_element
 element_all P full primary secondary none port plan sfn subframe symbol k =
-    pick P (is_own_reference port plan.identity (symbol % port_symbols port) k) _ _
+    pick P (is_own_reference port plan.identity (port_slot port subframe symbol) (symbol % port_symbols port) k) _ _
     (full _ (reference_full port plan.identity (port_slot port subframe symbol) (symbol % port_symbols port) k))
-    (pick P (is_other_reference port plan.identity (symbol % port_symbols port) k) _ _ none
+    (pick P (is_other_reference port plan.identity (port_slot port subframe symbol) (symbol % port_symbols port) k) _ _ none
     (pick P (is_primary port subframe symbol k) _ _ (signal_all P port _ (primary (plan.identity % 3) (k - 5)) none)
     (pick P (is_secondary port subframe symbol k) _ _ (signal_all P port _ (secondary (plan.identity / 3) (plan.identity % 3) (half_of subframe) (k - 5)) none)
     (channel_all P full none port plan sfn subframe symbol k))))

@@ -16,7 +16,7 @@ use Rattle.grid_map.proofs.Points.{length-pbch_places, index_fits, carries_at_in
 use Rattle.grid_map.proofs.LongOrder.{length-long_places}
 use Rattle.grid_map.proofs.Pieces.{length-pcfich_places}
 use Rattle.cell_tx.specs.declared.antenna.Port.{Port}
-use Rattle.cell_tx.specs.declared.antenna.Port.TheVariants.{Only, First, Second, Long}
+use Rattle.cell_tx.specs.declared.antenna.Port.TheVariants.{Only, First, Second, Long, OfFour}
 use Rattle.cell_tx.specs.declared.cell.CellPlan.{CellPlan}
 use Rattle.cell_tx.specs.Ports.{is_two, sent_point}
 use Rattle.cell_tx.specs.Block.{port_point}
@@ -64,6 +64,7 @@ broadcast_count Only identity = let n = length-pbch_places identity in omega (ar
 broadcast_count First identity = let n = length-pbch_places identity in omega (arith, n)
 broadcast_count Second identity = let n = length-pbch_places identity in omega (arith, n)
 broadcast_count Long identity = let n = length-long_places identity in omega (arith, n)
+broadcast_count (OfFour port) identity = let n = length-pbch_places identity in omega (arith, n)
 
 -- what it has in the symbols of its subframe, or slot
 module _ (plan : CellPlan) (sfn subframe symbol k : ℕ) where
@@ -82,6 +83,8 @@ module _ (plan : CellPlan) (sfn subframe symbol k : ℕ) where
   broadcast_is Only points is e = by_number Only (pbch_places plan.identity) _ points (place symbol k) is (broadcast_count Only plan.identity) (in_subframe e)
   broadcast_is First points is e = by_number First (pbch_places plan.identity) _ points (place symbol k) is (broadcast_count First plan.identity) (in_subframe e)
   broadcast_is Second points is e = by_number Second (pbch_places plan.identity) _ points (place symbol k) is (broadcast_count Second plan.identity) (in_subframe e)
+  broadcast_is (OfFour port) points is e =
+      by_number (OfFour port) (pbch_places plan.identity) _ points (place symbol k) is (broadcast_count (OfFour port) plan.identity) (in_subframe e)
   broadcast_is Long points is e =
       by_number Long (long_places plan.identity) _ points (place (symbol % 6) k) is (broadcast_count Long plan.identity)
       (both_true (nat_eq (2 * subframe + symbol / 6) 1) _ (is_one_of (long_places plan.identity) (place (symbol % 6) k)) e refl)

@@ -2,20 +2,31 @@
 use Rattle.std.proofs.Common.{◌≡◌, ℕ, ◌+◌, ◌*◌, ◌/◌, ◌%◌, ◌<◌, ◌⊎◌, inl, inr, Bool, true, false, not, ◌&&◌, ◌||◌, nat_eq, Option, Some, None, List, get_or, arith, refl, sym, ap, ◌∙◌, eq-eqb}
 use Rattle.std.specs.Prelude.{if◌then◌else◌}
 use Rattle.std.specs.Option.{unwrap_or}
+use Rattle.std.proofs.lemmas.Bool.Decides.{nat_tests}
 use Rattle.cs_num.specs.declared.Cpx.{Cpx}
 use Rattle.cs_num.specs.Complex.{nothing}
 use Rattle.crs.specs.declared.pattern.Pattern.{Pattern}
-use Rattle.crs.specs.Reference.{port_0, long_prefix, has_pilots, pattern_first, pattern_list, pattern_reference, is_pattern_place, first_subcarrier, reference, reference_at, is_reference, is_second_reference}
+use Rattle.crs.specs.declared.single.SinglePort.{SinglePort}
+use Rattle.crs.specs.declared.single.SinglePort.TheVariants.{Third, Fourth}
+use Rattle.crs.specs.Reference.{port_0, long_prefix, has_pilots, pattern_first, pattern_list, pattern_reference, is_pattern_place, first_subcarrier, reference, reference_at, is_reference, is_second_reference, is_single_reference, single_first, single_pair, single_list}
 use Rattle.crs.proofs.Values.{no_pair, reference-of_port_0, get_or-pattern_list}
+use Rattle.std.proofs.lemmas.List.FromFn.{get_or-map-range_with_len}
 use Rattle.cell_tx.specs.declared.antenna.Port.{Port}
-use Rattle.cell_tx.specs.declared.antenna.Port.TheVariants.{Only, First, Second, Long}
+use Rattle.cell_tx.specs.declared.antenna.Port.TheVariants.{Only, First, Second, Long, OfFour}
+use Rattle.cell_tx.specs.declared.antenna.PortOfFour.{PortOfFour}
+use Rattle.cell_tx.specs.declared.antenna.PortOfFour.TheVariants.{Zero, One, Two, Three}
 use Rattle.cell_tx.specs.declared.cell.CellPlan.{CellPlan}
 use Rattle.cell_tx.specs.Ports.{port_symbols, port_slot, first_pattern, has_control, sent_signal, is_own_reference, is_other_reference}
 use Rattle.cell_tx.specs.Grid.{is_primary, is_secondary, has_broadcast, is_indicator, is_control, is_shared, has_system_information, reference_value, primary_value, secondary_value, broadcast_value, system_value, port_channel_value, port_element}
 use Rattle.cell_tx.specs.Load.{is_signal_symbol, is_taken, is_loaded, load_point, loaded_element, sent_element}
-use Rattle.cell_tx.specs.Rows.{port_reference_if, indicator_if, control_if, shared_if, system_if, channel_if, open_value}
+use Rattle.cell_tx.specs.Rows.{port_reference_if, test_of_four, indicator_if, control_if, shared_if, system_if, channel_if, open_value}
 
 -- ---- reference places
+
+-- what the code finds of a port of four, by whether a place is one of each of the four ports, and of any
+abbrev pub found_of_four : PortOfFour → Bool → Bool → Bool → Bool → Bool → Cpx → Option Cpx
+found_of_four port zero one two three any value =
+    if test_of_four port zero one two three then Some value else (if any then Some nothing else None)
 
 -- what the code finds at a place, by whether it is one of the first port's twelve or of the second's
 abbrev pub found : Port → Bool → Bool → Cpx → Option Cpx
@@ -23,6 +34,7 @@ found Only first second value = if first then Some value else (if false then Som
 found First first second value = if first then Some value else (if second then Some nothing else None)
 found Second first second value = if second then Some value else (if first then Some nothing else None)
 found Long first second value = if first then Some value else (if false then Some nothing else None)
+found (OfFour port) first second value = found_of_four port first second false false (first || second) value
 
 pub reference_at_is : (identity slot symbol k : ℕ) → reference_at identity slot symbol k ≡ reference identity slot symbol (k / 6)
 unfolding reference_at
@@ -51,12 +63,79 @@ pub no_second_reference : (identity symbol k : ℕ) → nat_eq symbol 0 ≡ fals
 unfolding is_second_reference
 no_second_reference identity symbol k e f = rw (e, f) refl
 
+no_single_reference : (port : SinglePort) (identity slot symbol k : ℕ) → nat_eq symbol 1 ≡ false → is_single_reference port identity slot symbol k ≡ false
+unfolding is_single_reference
+no_single_reference port identity slot symbol k e = rw e refl
+
+-- ---- reference places of four ports
+
+-- the own place is found first, so that the others may be those of any port
+any_of : (own any other : Bool) (value : Cpx) → any ≡ (own || other) → (if own then Some value else (if any then Some nothing else None)) ≡ (if own then Some value else (if other then Some nothing else None))
+any_of true any other value e = refl
+any_of false any other value e = rw e refl
+
+zero_first : (a b c d : Bool) → ((a || b) || (c || d)) ≡ (a || (b || (c || d)))
+zero_first true b c d = refl
+zero_first false b c d = refl
+
+one_first : (a b c d : Bool) → ((a || b) || (c || d)) ≡ (b || (a || (c || d)))
+one_first true true c d = refl
+one_first true false c d = refl
+one_first false b c d = refl
+
+two_first : (a b c d : Bool) → ((a || b) || (c || d)) ≡ (c || (a || (b || d)))
+two_first true b true d = refl
+two_first true b false d = refl
+two_first false true true d = refl
+two_first false true false d = refl
+two_first false false c d = refl
+
+or-false : (d : Bool) → d ≡ (d || false)
+or-false true = refl
+or-false false = refl
+
+three_first : (a b c d : Bool) → ((a || b) || (c || d)) ≡ (d || (a || (b || c)))
+three_first true b c true = refl
+three_first true b c false = refl
+three_first false true c true = refl
+three_first false true c false = refl
+three_first false false true true = refl
+three_first false false true false = refl
+three_first false false false d = or-false d
+
+-- one of two tests, where the first is known
+pub by_first : (m n : ℕ) (b : Bool) → m ≡ n → nat_eq m n ≡ (nat_eq m n || b)
+by_first m n b e = rw (eq-eqb m n e) refl
+
+pub by_second : (m n : ℕ) (b : Bool) → (m ≡ n → ⊥) → b ≡ (nat_eq m n || b)
+by_second m n b other = let no : nat_eq m n ≡ false = grind (arith, nat_tests) in rw no refl
+
+-- what the code finds of four tests
+four_is : (port : PortOfFour) (identity slot symbol k : ℕ) (zero one two three any : Bool) → is_reference identity symbol k ≡ zero → is_second_reference identity symbol k ≡ one
+    → is_single_reference Third identity slot symbol k ≡ two → is_single_reference Fourth identity slot symbol k ≡ three → any ≡ ((zero || one) || (two || three))
+    → found_of_four port zero one two three any (reference_at identity slot symbol k) ≡ port_reference_if (OfFour port) identity slot symbol k
+four_is Zero identity slot symbol k zero one two three any e f g h is = rw (e, f, g, h) (any_of zero any _ (reference_at identity slot symbol k) (is ∙ zero_first zero one two three))
+four_is One identity slot symbol k zero one two three any e f g h is = rw (e, f, g, h) (any_of one any _ (reference_at identity slot symbol k) (is ∙ one_first zero one two three))
+four_is Two identity slot symbol k zero one two three any e f g h is = rw (e, f, g, h) (any_of two any _ (reference_at identity slot symbol k) (is ∙ two_first zero one two three))
+four_is Three identity slot symbol k zero one two three any e f g h is = rw (e, f, g, h) (any_of three any _ (reference_at identity slot symbol k) (is ∙ three_first zero one two three))
+
+found_none : (port : PortOfFour) (value : Cpx) → found_of_four port false false false false false value ≡ None
+found_none Zero value = refl
+found_none One value = refl
+found_none Two value = refl
+found_none Three value = refl
+
 -- other symbols have no reference places of any port
-pub no_port_reference : (port : Port) (identity slot symbol k : ℕ) → nat_eq symbol 0 ≡ false → nat_eq symbol (first_pattern port).later ≡ false → port_reference_if port identity slot symbol k ≡ None
-no_port_reference Only identity slot symbol k e f = rw (no_reference identity symbol k e f) refl
-no_port_reference First identity slot symbol k e f = rw (no_reference identity symbol k e f, no_second_reference identity symbol k e f) refl
-no_port_reference Second identity slot symbol k e f = rw (no_second_reference identity symbol k e f, no_reference identity symbol k e f) refl
-no_port_reference Long identity slot symbol k e f = rw (no_place long_prefix identity symbol k e f) refl
+pub no_port_reference : (port : Port) (identity slot symbol k : ℕ) → nat_eq symbol 0 ≡ false → nat_eq symbol 1 ≡ false → nat_eq symbol (first_pattern port).later ≡ false →
+    port_reference_if port identity slot symbol k ≡ None
+no_port_reference Only identity slot symbol k e g f = rw (no_reference identity symbol k e f) refl
+no_port_reference First identity slot symbol k e g f = rw (no_reference identity symbol k e f, no_second_reference identity symbol k e f) refl
+no_port_reference Second identity slot symbol k e g f = rw (no_second_reference identity symbol k e f, no_reference identity symbol k e f) refl
+no_port_reference Long identity slot symbol k e g f = rw (no_place long_prefix identity symbol k e f) refl
+no_port_reference (OfFour port) identity slot symbol k e g f =
+    sym (four_is port identity slot symbol k false false false false false (no_reference identity symbol k e f) (no_second_reference identity symbol k e f)
+    (no_single_reference Third identity slot symbol k g) (no_single_reference Fourth identity slot symbol k g) refl)
+    ∙ found_none port (reference_at identity slot symbol k)
 
 module _ (pattern : Pattern) (pilots : List (ℕ × Cpx)) (identity slot symbol k : ℕ) (row : (symbol ≡ 0) ⊎ (symbol ≡ pattern.later)) (is : pilots ≡ pattern_list pattern identity slot symbol) where
   first_is : (get_or pilots 0 no_pair).0 % 6 ≡ pattern_first pattern identity symbol
@@ -103,6 +182,45 @@ pilot_is Second pilots identity slot symbol k row is inside =
     (value_is port_0 pilots identity slot symbol k row is inside ∙ reference_of_port_0 identity slot symbol k)
 pilot_is Long pilots identity slot symbol k row is inside =
     chosen _ false _ false _ _ (own long_prefix pilots identity slot symbol k row is) refl (value_is long_prefix pilots identity slot symbol k row is inside)
+pilot_is (OfFour port) pilots identity slot symbol k row is inside =
+    let single : nat_eq symbol 1 ≡ false = elim row [ inl e ↦ rw e refl | inr e ↦ rw e refl ] in
+    ap (found_of_four port _ _ false false _) (value_is port_0 pilots identity slot symbol k row is inside ∙ reference_of_port_0 identity slot symbol k)
+    ∙ four_is port identity slot symbol k _ _ false false _ (sym (own port_0 pilots identity slot symbol k row is ∙ is_reference_of identity symbol k))
+    (sym (second pilots identity slot symbol k row is)) (no_single_reference Third identity slot symbol k single) (no_single_reference Fourth identity slot symbol k single) (or-false _)
+
+-- the row of ports 2 and 3
+get_or-single_list : (port : SinglePort) (identity slot m : ℕ) → m < 12 → get_or (single_list port identity slot) m no_pair ≡ single_pair port identity slot m
+unfolding single_list
+get_or-single_list port identity slot m few = get_or-map-range_with_len (single_pair port identity slot) 0 12 m m no_pair few (omega arith)
+
+single_first_is : (pilots : List (ℕ × Cpx)) (identity slot : ℕ) → pilots ≡ single_list Third identity slot → (get_or pilots 0 no_pair).0 % 6 ≡ single_first Third identity slot
+single_first_is pilots identity slot is =
+    let zeroth : (6 * 0 + single_first Third identity slot) % 6 ≡ single_first Third identity slot = omega arith in
+    ap (λ (pair : ℕ × Cpx). pair.0 % 6) (ap (λ list. get_or list 0 no_pair) is ∙ get_or-single_list Third identity slot 0 (omega arith)) ∙ zeroth
+
+single_value_is : (pilots : List (ℕ × Cpx)) (identity slot k : ℕ) → pilots ≡ single_list Third identity slot → k < 72 → (get_or pilots (k / 6) no_pair).1 ≡ reference_at identity slot 1 k
+single_value_is pilots identity slot k is inside =
+    ap (λ (pair : ℕ × Cpx). pair.1) (ap (λ list. get_or list (k / 6) no_pair) is ∙ get_or-single_list Third identity slot (k / 6) (omega (arith, inside)))
+    ∙ sym (reference_at_is identity slot 1 k)
+
+third_row : (identity slot k n : ℕ) → n ≡ single_first Third identity slot → is_single_reference Third identity slot 1 k ≡ nat_eq (k % 6) n
+unfolding is_single_reference
+third_row identity slot k n e = rw e refl
+
+fourth_row : (identity slot k n : ℕ) → n ≡ single_first Third identity slot → is_single_reference Fourth identity slot 1 k ≡ nat_eq (k % 6) ((n + 3) % 6)
+unfolding is_single_reference
+fourth_row identity slot k n e = let same : single_first Fourth identity slot ≡ (n + 3) % 6 = omega (arith, e) in ap (nat_eq (k % 6)) same
+
+pub single_is : (port : PortOfFour) (pilots : List (ℕ × Cpx)) (identity slot k : ℕ) → pilots ≡ single_list Third identity slot → k < 72 →
+    (let n = (get_or pilots 0 no_pair).0 % 6 in
+    let two = nat_eq (k % 6) n in
+    let three = nat_eq (k % 6) ((n + 3) % 6) in
+    let value = (get_or pilots (k / 6) no_pair).1 in
+    found_of_four port false false two three (two || three) value ≡ port_reference_if (OfFour port) identity slot 1 k)
+single_is port pilots identity slot k is inside =
+    ap (found_of_four port false false _ _ _) (single_value_is pilots identity slot k is inside)
+    ∙ four_is port identity slot 1 k false false _ _ _ (no_reference identity 1 k refl refl) (no_second_reference identity 1 k refl refl)
+    (third_row identity slot k _ (single_first_is pilots identity slot is)) (fourth_row identity slot k _ (single_first_is pilots identity slot is)) refl
 
 -- ---- the cases of an element
 
@@ -131,11 +249,11 @@ module _ (port : Port) (plan : CellPlan) (sfn subframe symbol k : ℕ) where
 
   pub element_of_reference : (value : Cpx) → port_reference_if port plan.identity (port_slot port subframe symbol) (symbol % port_symbols port) k ≡ Some value → value ≡ port_element port plan sfn subframe symbol k
   unfolding port_element
-  element_of_reference value e = there (is_own_reference port plan.identity (symbol % port_symbols port) k) (is_other_reference port plan.identity (symbol % port_symbols port) k) value e
+  element_of_reference value e = there (is_own_reference port plan.identity (port_slot port subframe symbol) (symbol % port_symbols port) k) (is_other_reference port plan.identity (port_slot port subframe symbol) (symbol % port_symbols port) k) value e
 
   pub element_elsewhere : port_reference_if port plan.identity (port_slot port subframe symbol) (symbol % port_symbols port) k ≡ None → port_element port plan sfn subframe symbol k ≡ rest
   unfolding port_element
-  element_elsewhere e = elsewhere (is_own_reference port plan.identity (symbol % port_symbols port) k) (is_other_reference port plan.identity (symbol % port_symbols port) k) e
+  element_elsewhere e = elsewhere (is_own_reference port plan.identity (port_slot port subframe symbol) (symbol % port_symbols port) k) (is_other_reference port plan.identity (port_slot port subframe symbol) (symbol % port_symbols port) k) e
 
 -- ---- elements that are no reference signal
 
@@ -277,10 +395,10 @@ module _ (port : Port) (plan : CellPlan) (sfn subframe symbol k : ℕ) where
   unfolding is_taken
   sent_of_reference load value e =
       element_of_reference port plan sfn subframe symbol k value e
-      ∙ sym (sent_of_taken load (taken_reference _ _ _ (one_of_both (is_own_reference port plan.identity (symbol % port_symbols port) k) (is_other_reference port plan.identity (symbol % port_symbols port) k) _ value e)))
+      ∙ sym (sent_of_taken load (taken_reference _ _ _ (one_of_both (is_own_reference port plan.identity (port_slot port subframe symbol) (symbol % port_symbols port) k) (is_other_reference port plan.identity (port_slot port subframe symbol) (symbol % port_symbols port) k) _ value e)))
 
   -- the value of a channel, or what is sent at an open place
-  beside : (load : Option ℕ) → is_own_reference port plan.identity (symbol % port_symbols port) k ≡ false → is_other_reference port plan.identity (symbol % port_symbols port) k ≡ false
+  beside : (load : Option ℕ) → is_own_reference port plan.identity (port_slot port subframe symbol) (symbol % port_symbols port) k ≡ false → is_other_reference port plan.identity (port_slot port subframe symbol) (symbol % port_symbols port) k ≡ false
       → port_element port plan sfn subframe symbol k ≡ port_channel_value port plan sfn subframe symbol k
       → sent_element load port plan sfn subframe symbol k ≡ unwrap_or (channel_if port plan sfn subframe symbol k) (open_value load port sfn subframe symbol k)
   unfolding loaded_element is_loaded is_taken
@@ -305,5 +423,5 @@ module _ (port : Port) (plan : CellPlan) (sfn subframe symbol k : ℕ) where
     pub sent_beside : is_primary port subframe symbol k ≡ false → is_secondary port subframe symbol k ≡ false →
         sent_element load port plan sfn subframe symbol k ≡ unwrap_or (channel_if port plan sfn subframe symbol k) (open_value load port sfn subframe symbol k)
     sent_beside e f =
-        let none = neither (is_own_reference port plan.identity (symbol % port_symbols port) k) (is_other_reference port plan.identity (symbol % port_symbols port) k) _ no in
+        let none = neither (is_own_reference port plan.identity (port_slot port subframe symbol) (symbol % port_symbols port) k) (is_other_reference port plan.identity (port_slot port subframe symbol) (symbol % port_symbols port) k) _ no in
         beside load none.0 none.1 (element_of_channel port plan sfn subframe symbol k no e f)

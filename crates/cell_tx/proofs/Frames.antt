@@ -9,12 +9,12 @@ use Rattle.cs_num.specs.declared.Sample.{Sample}
 use Rattle.cs_num.specs.Complex.{silence, sample_at, sample_of}
 use Rattle.fold128.proofs.Samples.{useful_same}
 use Rattle.lte_types.specs.declared.numerology.Prefix.{Prefix}
-use Rattle.lte_types.specs.Numerology.{normal, extended, IsPrefix, symbols_of_slot, symbol_of}
+use Rattle.lte_types.specs.Numerology.{normal, IsPrefix, symbols_of_slot, symbol_of}
 use Rattle.lte_types.specs.Timing.{number_of}
 use Rattle.grid_map.specs.Place.{place}
 use Rattle.grid_map.specs.Broadcast.{is_pbch}
 use Rattle.cell_tx.specs.declared.antenna.Port.{Port}
-use Rattle.cell_tx.specs.declared.antenna.Port.TheVariants.{Only, First, Second, Long}
+use Rattle.cell_tx.specs.declared.antenna.Port.TheVariants.{Only, First, Second, Long, OfFour}
 use Rattle.cell_tx.specs.declared.cell.CellPlan.{CellPlan}
 use Rattle.cell_tx.specs.declared.layout.Carried.{Carried}
 use Rattle.cell_tx.specs.Ports.{port_prefix, has_control}
@@ -23,7 +23,7 @@ use Rattle.cell_tx.specs.Control.{control_word, control_point}
 use Rattle.cell_tx.specs.Shared.{shared_point}
 use Rattle.cell_tx.specs.Sent.{Elements, prefix_frame_sample, prefix_sent}
 use Rattle.cell_tx.specs.Rows.{useful_place, first_sample, frame_samples, HasSamples, AreSameOutside, IsCarried}
-use Rattle.cell_tx.proofs.Symbols.{frame_sample_is, slot_sample_is, prefix_sent_is}
+use Rattle.cell_tx.proofs.Symbols.{with_prefix, frame_sample_is, slot_sample_is, prefix_sent_is}
 
 -- ---- what system information depends on
 
@@ -79,22 +79,40 @@ element_same Second plan a b control subframe symbol k outside other =
     let e : nat_eq subframe 5 ≡ false = grind (arith, nat_tests) in
     rw (none, e) refl
 element_same Long plan a b control subframe symbol k outside other = absurd cc
+element_same (OfFour port) plan a b control subframe symbol k outside other = absurd cc
 
 pub control_is_normal : (port : Port) → has_control port ≡ true → port_prefix port ≡ normal
 control_is_normal Only control = refl
 control_is_normal First control = refl
 control_is_normal Second control = refl
 control_is_normal Long control = absurd cc
+control_is_normal (OfFour port) control = absurd cc
 
--- with the extended prefix they are the same beside slot 1
-abbrev pub AreSameBesideSlot : Elements → ℕ → ℕ → Type 0
-AreSameBesideSlot grid a b = (subframe symbol k : ℕ) → (2 * subframe + symbol / 6 ≡ 1 → ⊥) → grid a subframe symbol k ≡ grid b subframe symbol k
+-- without a control region they are the same beside slot 1
+abbrev pub AreSameBesideSlot : Prefix → Elements → ℕ → ℕ → Type 0
+AreSameBesideSlot prefix grid a b =
+    (subframe symbol k : ℕ) → (2 * subframe + symbol / symbols_of_slot prefix ≡ 1 → ⊥) → grid a subframe symbol k ≡ grid b subframe symbol k
 
-pub long_same : (plan : CellPlan) (a b : ℕ) → AreSameBesideSlot (port_element Long plan) a b
+beside_slot : (subframe symbol : ℕ) → (2 * subframe + symbol / 7 ≡ 1 → ⊥) → subframe ≡ 0 → (symbol < 7) ⊎ (11 ≤ symbol)
+beside_slot subframe symbol other first = elim (cases_lt symbol 7) [
+  | inl early ↦ inl early
+  | inr late ↦ inr (elim (cases_lt symbol 14) [
+    | inl inside ↦ absurd (other (omega (arith, first, late, inside)))
+    | inr past ↦ omega (arith, past)
+  ])
+]
+
+pub slot_same : (port : Port) (plan : CellPlan) (a b : ℕ) → has_control port ≡ false → AreSameBesideSlot (port_prefix port) (port_element port plan) a b
 unfolding port_element port_channel_value
-long_same plan a b subframe symbol k other =
+slot_same Only plan a b control subframe symbol k other = absurd cc
+slot_same First plan a b control subframe symbol k other = absurd cc
+slot_same Second plan a b control subframe symbol k other = absurd cc
+slot_same Long plan a b control subframe symbol k other =
     let e : nat_eq (2 * subframe + symbol / 6) 1 ≡ false = grind (arith, nat_tests) in
     rw e refl
+slot_same (OfFour port) plan a b control subframe symbol k other =
+    let none = not_broadcast plan.identity subframe symbol k (beside_slot subframe symbol other) in
+    rw none refl
 
 -- ---- samples that do not
 
@@ -127,6 +145,11 @@ part_renewed prefix grid b i first last old new before here outside = place (cas
     place (inl p) q = outside.earlier i p ∙ before (inl p)
     place (inr p) (inr q) = outside.later i q ∙ before (inr q)
     place (inr p) (inl q) = here i p q
+
+-- where slots 1 and 2 begin
+first_of_slots : (prefix : Prefix) → IsPrefix prefix → (first_sample prefix (symbols_of_slot prefix) ≡ 960) × (first_sample prefix (2 * symbols_of_slot prefix) ≡ 1920)
+first_of_slots prefix known =
+    with_prefix (λ p. (first_sample p (symbols_of_slot p) ≡ 960) × (first_sample p (2 * symbols_of_slot p) ≡ 1920)) (refl, refl) (refl, refl) prefix known
 
 module _ (grid : Elements) (a b i : ℕ) (inside : i < 19200) where
   normal_same : AreSameBeside grid a b → (i < 960) ⊎ (1509 ≤ i) → (i < 9600) ⊎ (11520 ≤ i) → prefix_frame_sample normal grid a i ≡ prefix_frame_sample normal grid b i
@@ -161,26 +184,31 @@ module _ (grid : Elements) (a b i : ℕ) (inside : i < 19200) where
       (λ q. part_renewed normal grid b i 960 1509 first second (λ p. read_first normal grid a i first inside whole ∙ ap sample_of (normal_same same p q)) broadcast early)
       system late)
 
-  long_sample_same : AreSameBesideSlot grid a b → (i < 960) ⊎ (1920 ≤ i) → prefix_frame_sample extended grid a i ≡ prefix_frame_sample extended grid b i
-  long_sample_same same out =
-      same_sample extended grid a b i (inr refl) (λ k. same (i / 960 / 2) (6 * (i / 960 % 2) + symbol_of extended (i % 960)) k (not_second out))
-    where
-      not_second : (i < 960) ⊎ (1920 ≤ i) → 2 * (i / 960 / 2) + (6 * (i / 960 % 2) + symbol_of extended (i % 960)) / 6 ≡ 1 → ⊥
-      not_second (inl early) one = absurd (omega (arith, early, one))
-      not_second (inr late) one = absurd (omega (arith, late, one))
+  -- with either prefix a sample beside slot 1
+  not_second : (prefix : Prefix) → IsPrefix prefix → (i < 960) ⊎ (1920 ≤ i) →
+      2 * (i / 960 / 2) + (symbols_of_slot prefix * (i / 960 % 2) + symbol_of prefix (i % 960)) / symbols_of_slot prefix ≡ 1 → ⊥
+  not_second prefix known (inl early) =
+      with_prefix (λ p. 2 * (i / 960 / 2) + (symbols_of_slot p * (i / 960 % 2) + symbol_of p (i % 960)) / symbols_of_slot p ≡ 1 → ⊥)
+      (λ one. absurd (omega (arith, early, one))) (λ one. absurd (omega (arith, early, one))) prefix known
+  not_second prefix known (inr late) =
+      with_prefix (λ p. 2 * (i / 960 / 2) + (symbols_of_slot p * (i / 960 % 2) + symbol_of p (i % 960)) / symbols_of_slot p ≡ 1 → ⊥)
+      (λ one. absurd (omega (arith, late, one))) (λ one. absurd (omega (arith, late, one))) prefix known
 
-  pub long_renewed : (prefix : Prefix) (first second : List Sample) → prefix ≡ extended → AreSameBesideSlot grid a b → first ≡ frame_samples prefix grid a
-      → HasSamples second (prefix_frame_sample prefix grid b) (first_sample prefix 6) (first_sample prefix 12)
-      → AreSameOutside (first_sample prefix 6) (first_sample prefix 12) first second
+  slot_sample_same : (prefix : Prefix) → IsPrefix prefix → AreSameBesideSlot prefix grid a b → (i < 960) ⊎ (1920 ≤ i) →
+      prefix_frame_sample prefix grid a i ≡ prefix_frame_sample prefix grid b i
+  slot_sample_same prefix known same out =
+      same_sample prefix grid a b i known
+      (λ k. same (i / 960 / 2) (symbols_of_slot prefix * (i / 960 % 2) + symbol_of prefix (i % 960)) k (not_second prefix known out))
+
+  pub slot_renewed : (prefix : Prefix) (symbols : ℕ) (first second : List Sample) → IsPrefix prefix → symbols ≡ symbols_of_slot prefix → AreSameBesideSlot prefix grid a b
+      → first ≡ frame_samples prefix grid a
+      → HasSamples second (prefix_frame_sample prefix grid b) (first_sample prefix symbols) (first_sample prefix (2 * symbols))
+      → AreSameOutside (first_sample prefix symbols) (first_sample prefix (2 * symbols)) first second
       → slice_index_or second i silence ≡ sample_of (prefix_frame_sample prefix grid b i)
-  long_renewed prefix first second is same =
-      subst
-      (λ p. first ≡ frame_samples p grid a → HasSamples second (prefix_frame_sample p grid b) (first_sample p 6) (first_sample p 12)
-      → AreSameOutside (first_sample p 6) (first_sample p 12) first second
-      → slice_index_or second i silence ≡ sample_of (prefix_frame_sample p grid b i))
-      (sym is)
-      (λ whole broadcast outside.
-      part_renewed extended grid b i 960 1920 first second (λ p. read_first extended grid a i first inside whole ∙ ap sample_of (long_sample_same same p)) broadcast outside)
+  slot_renewed prefix symbols first second known is same whole =
+      rw (is, (first_of_slots prefix known).0, (first_of_slots prefix known).1)
+      (λ broadcast outside.
+      part_renewed prefix grid b i 960 1920 first second (λ p. read_first prefix grid a i first inside whole ∙ ap sample_of (slot_sample_same prefix known same p)) broadcast outside)
 
 -- all samples of a frame
 pub all_are : (prefix : Prefix) (grid : Elements) (sfn : ℕ) (list : List Sample) → length list ≡ 19200

@@ -6,7 +6,7 @@ use Rattle.std.specs.Cmp.{unsigned_Decides}
 use Rattle.std.proofs.lemmas.Bool.{leb-true as leb-le}
 use Rattle.std.proofs.lemmas.Bool.Decides.{Decides-or}
 use Rattle.lte_types.specs.declared.carrier.Carrier.{Carrier}
-use Rattle.lte_types.specs.declared.carrier.Carrier.TheVariants.{OnePort, TwoPorts, LongPrefix}
+use Rattle.lte_types.specs.declared.carrier.Carrier.TheVariants.{OnePort, TwoPorts, LongPrefix, FourPorts}
 use Rattle.lte_types.specs.Ranges.{IsValid}
 use Rattle.turbo_code.specs.Table.{IsSize}
 use Rattle.turbo_code.specs.Encoder.{coded}
@@ -98,6 +98,9 @@ accepted_can_be_sent TwoPorts plan size text a =
     (leb-le (coded_count plan) (assigned_bits_of true plan) a.enough)
 accepted_can_be_sent LongPrefix plan size text a =
     accepted_with LongPrefix plan size text a (is_resolvable plan ≡ true)
+    (enough_is_resolvable plan (there (size_of plan.mcs plan.column) size a.sized.entry) a.enough)
+accepted_can_be_sent FourPorts plan size text a =
+    accepted_with FourPorts plan size text a (is_resolvable plan ≡ true)
     (enough_is_resolvable plan (there (size_of plan.mcs plan.column) size a.sized.entry) a.enough)
 
 -- ---- its coded block

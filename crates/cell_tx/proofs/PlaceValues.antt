@@ -11,22 +11,40 @@ use Rattle.grid_map.specs.declared.Place.{Place}
 use Rattle.grid_map.specs.Place.{place, same_place, index_in}
 use Rattle.grid_map.proofs.Order.{same_place-refl, same_place-true}
 use Rattle.cell_tx.specs.declared.antenna.Port.{Port}
-use Rattle.cell_tx.specs.declared.antenna.Port.TheVariants.{Only, First, Second, Long}
-use Rattle.cell_tx.specs.Ports.{sent_point}
+use Rattle.cell_tx.specs.declared.antenna.Port.TheVariants.{Only, First, Second, Long, OfFour}
+use Rattle.cell_tx.specs.declared.antenna.PortOfFour.TheVariants.{Zero, One, Two, Three}
+use Rattle.cell_tx.specs.Ports.{crossed_point, is_even_pair, sent_point}
 use Rattle.cell_tx.specs.Grid.{is_one_of}
 use Rattle.cell_tx.specs.Rows.{value_in}
 
--- what a port sends of a list of points depends on nothing after them, where they are whole pairs
-pub sent_points : (port : Port) (n : ℕ) (f : ℕ → Cpx) (i : ℕ) → n % 2 ≡ 0 → i < n → sent_point port (value_at (values_below n f)) i ≡ sent_point port f i
-sent_points Only n f i even inside = values_below_at f n i nothing inside
-sent_points First n f i even inside = values_below_at f n i nothing inside
-sent_points Long n f i even inside = values_below_at f n i nothing inside
-sent_points Second n f i even inside = by (nat_eq (i % 2) 0) refl
+-- the points of a list depend on nothing after them
+points_there : (n : ℕ) (f : ℕ → Cpx) (i : ℕ) → i < n → value_at (values_below n f) i ≡ f i
+points_there n f i inside = values_below_at f n i nothing inside
+
+crossed_points : (n : ℕ) (f : ℕ → Cpx) (i : ℕ) → n % 2 ≡ 0 → i < n → crossed_point (value_at (values_below n f)) i ≡ crossed_point f i
+crossed_points n f i even inside = by (nat_eq (i % 2) 0) refl
   where
     by : (b : Bool) → nat_eq (i % 2) 0 ≡ b
         → (if b then negated (conjugate (value_at (values_below n f) (i + 1))) else conjugate (value_at (values_below n f) (i - 1))) ≡ (if b then negated (conjugate (f (i + 1))) else conjugate (f (i - 1)))
-    by true e = ap (λ (z : Cpx). negated (conjugate z)) (values_below_at f n (i + 1) nothing (let first = eqb-true (i % 2) 0 e in omega (arith, first, even, inside)))
-    by false e = ap conjugate (values_below_at f n (i - 1) nothing (omega (arith, inside)))
+    by true e = ap (λ (z : Cpx). negated (conjugate z)) (points_there n f (i + 1) (let first = eqb-true (i % 2) 0 e in omega (arith, first, even, inside)))
+    by false e = ap conjugate (points_there n f (i - 1) (omega (arith, inside)))
+
+in_even : (i : ℕ) (x y : Cpx) → x ≡ y → (if is_even_pair i then x else nothing) ≡ (if is_even_pair i then y else nothing)
+in_even i x y e = ap (λ (z : Cpx). if is_even_pair i then z else nothing) e
+
+in_odd : (i : ℕ) (x y : Cpx) → x ≡ y → (if is_even_pair i then nothing else x) ≡ (if is_even_pair i then nothing else y)
+in_odd i x y e = ap (λ (z : Cpx). if is_even_pair i then nothing else z) e
+
+-- nor what a port sends of them, where they are whole pairs
+pub sent_points : (port : Port) (n : ℕ) (f : ℕ → Cpx) (i : ℕ) → n % 2 ≡ 0 → i < n → sent_point port (value_at (values_below n f)) i ≡ sent_point port f i
+sent_points Only n f i even inside = points_there n f i inside
+sent_points First n f i even inside = points_there n f i inside
+sent_points Long n f i even inside = points_there n f i inside
+sent_points Second n f i even inside = crossed_points n f i even inside
+sent_points (OfFour Zero) n f i even inside = in_even i _ _ (points_there n f i inside)
+sent_points (OfFour One) n f i even inside = in_odd i _ _ (points_there n f i inside)
+sent_points (OfFour Two) n f i even inside = in_even i _ _ (crossed_points n f i even inside)
+sent_points (OfFour Three) n f i even inside = in_odd i _ _ (crossed_points n f i even inside)
 
 module _ (places : List Place) (p : Place) where
   fails : (q : Place) → (q ≡ p → ⊥) → (b : Bool) → same_place p q ≡ b → b ≡ false

@@ -14,9 +14,11 @@ use Rattle.sizes.proofs.Squares.{re-le, im-le, square-times}
 use Rattle.sizes.proofs.TwoTerms.{two_term_cauchy}
 use Rattle.cell_tx.specs.Clean.{AreNear, AreGains, AreGainsOf, received_of_two}
 use Rattle.lte_types.specs.declared.carrier.Carrier.{Carrier}
-use Rattle.lte_types.specs.declared.carrier.Carrier.TheVariants.{OnePort, TwoPorts, LongPrefix}
+use Rattle.lte_types.specs.declared.carrier.Carrier.TheVariants.{OnePort, TwoPorts, LongPrefix, FourPorts}
 use Rattle.cell_tx.specs.declared.antenna.Port.{Port}
-use Rattle.cell_tx.specs.declared.antenna.Port.TheVariants.{Only, First, Second, Long}
+use Rattle.cell_tx.specs.declared.antenna.Port.TheVariants.{Only, First, Second, Long, OfFour}
+use Rattle.cell_tx.specs.declared.antenna.PortOfFour.{PortOfFour}
+use Rattle.cell_tx.specs.declared.antenna.PortOfFour.TheVariants.{Zero, One, Two, Three}
 use Rattle.cell_tx.specs.declared.cell.CellPlan.{CellPlan}
 use Rattle.cell_tx.specs.Emission.{sent_by, received_by}
 use Rattle.cell_tx.proofs.Bounds.{amplified, added, sent_by-square}
@@ -78,6 +80,28 @@ received_clean first second offset count gain other eps errors within gains boun
   near = near_with (received_of_two first second offset gain other) errors count eps small;
 }
 
+-- ---- four ports
+
+-- a sum of n products, each of a gain and of a sample, where the squares of the gains are together so much
+pub record IsSumOf (n power : ℕ) (z : Cpx) : Type 0 where
+  pub most : square z ≤ power * (n * (1153 * 1153))
+
+pub product_is : (gain z : Cpx) → square z ≤ 1153 * 1153 → IsSumOf 1 (square gain) (times gain z)
+product_is gain z small = record { most = omega (arith, times-most gain z small) }
+
+pub sum_is : (a b : Cpx) (m n power other : ℕ) → IsSumOf m power a → IsSumOf n other b → IsSumOf (m + n) (power + other) (plus a b)
+sum_is a b m n power other p q =
+    let law = two_term_cauchy a b power (m * (1153 * 1153)) other (n * (1153 * 1153)) p.most q.most in
+    let e : m * (1153 * 1153) + n * (1153 * 1153) ≡ (m + n) * (1153 * 1153) = omega arith in
+    record { most = subst (λ (room : ℕ). square (plus a b) ≤ (power + other) * room) e law }
+
+-- where there are at most four and the squares are at most 196
+pub sum_fits : (z : Cpx) (n power : ℕ) → n ≤ 4 → power ≤ 196 → IsSumOf n power z → IsWithin 32284 z
+sum_fits z n power few most is =
+    let room : n * (1153 * 1153) ≤ 4 * (1153 * 1153) = omega (arith, few) in
+    let whole : square z ≤ 32284 * 32284 = omega (arith, is.most, mul-le power (n * (1153 * 1153)) 196 (4 * (1153 * 1153)) most room) in
+    record { re = re-le z 32284 whole; im = im-le z 32284 whole }
+
 -- ---- a carrier
 
 -- the greatest gain of a port
@@ -85,6 +109,7 @@ pub first_most : (carrier : Carrier) (gains : List Cpx) → AreGainsOf carrier g
 first_most OnePort gains g = g.most
 first_most TwoPorts gains g = let m = g.most in omega (arith, m)
 first_most LongPrefix gains g = g.most
+first_most FourPorts gains g = let m = g.most in omega (arith, m)
 
 pub received_by-small : EmittedIsSmall
 received_by-small OnePort load plan sfn offset gains i g =
@@ -94,6 +119,12 @@ received_by-small TwoPorts load plan sfn offset gains i g =
     (sent_by-square load First plan sfn (i + offset)) (sent_by-square load Second plan sfn (i + offset)) g
 received_by-small LongPrefix load plan sfn offset gains i g =
     (amplified (value_at gains 0) (sent_by load Long plan sfn (i + offset)) g.most (sent_by-square load Long plan sfn (i + offset))).small
+received_by-small FourPorts load plan sfn offset gains i g =
+    let part : (port : PortOfFour) (gain : Cpx) → IsSumOf 1 (square gain) (times gain (sent_by load (OfFour port) plan sfn (i + offset))) =
+    λ port gain. product_is gain _ (sent_by-square load (OfFour port) plan sfn (i + offset)) in
+    let first = sum_is _ _ 1 1 _ _ (part Zero (value_at gains 0)) (part One (value_at gains 1)) in
+    let second = sum_is _ _ 1 1 _ _ (part Two (value_at gains 2)) (part Three (value_at gains 3)) in
+    sum_fits _ 4 _ (omega arith) (let m = g.most in omega (arith, m)) (sum_is _ _ 2 2 _ _ first second)
 
 pub emitted_clean : EmittedIsClean
 emitted_clean carrier load plan sfn offset count gains eps errors number within are bound small = record {

@@ -6,7 +6,7 @@ use Rattle.std.specs.Option.{option_map_or}
 use Rattle.std.specs.Cmp.{unsigned_Decides}
 use Rattle.std.proofs.lemmas.Bool.{le-leb, leb-true as leb-le, and_from, or_right}
 use Rattle.std.proofs.lemmas.Bool.Decides.{Decides-and, Decides-or}
-use Rattle.lte_types.specs.declared.carrier.Carrier.TheVariants.{OnePort, TwoPorts, LongPrefix}
+use Rattle.lte_types.specs.declared.carrier.Carrier.TheVariants.{OnePort, TwoPorts, LongPrefix, FourPorts}
 use Rattle.lte_types.specs.Ranges.{IsValid}
 use Rattle.dci.specs.Sizes.{size_of}
 use Rattle.sib1.specs.Text.{text_of}
@@ -140,6 +140,7 @@ accepted_is_sendable_by TwoPorts plan =
     accepted_is_sendable_with (is_whole_of true plan) (coded_count plan ≤ assigned_bits_of true plan)
     (le_decides (coded_count plan) (assigned_bits_of true plan)) plan
 accepted_is_sendable_by LongPrefix plan = accepted_is_sendable plan
+accepted_is_sendable_by FourPorts plan = accepted_is_sendable plan
 
 -- the same plan where enough is said otherwise
 pub with_enough : (Enough Other : Type 0) (plan : CellPlan) → IsSendableWith Enough plan → Other → IsSendableWith Other plan
@@ -168,3 +169,4 @@ sendable_with_one TwoPorts plan s =
     with_enough (coded_count plan ≤ assigned_bits_of true plan) (is_resolvable plan ≡ true) plan s
     (whole_is_resolvable plan s.mcs (less_room (nat_eq plan.cfi 2) plan.blocks (coded_count plan) s.enough))
 sendable_with_one LongPrefix plan s = s
+sendable_with_one FourPorts plan s = s

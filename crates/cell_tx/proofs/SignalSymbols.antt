@@ -20,7 +20,7 @@ use Rattle.grid_map.proofs.Order.{same_place-refl, same_place-true}
 use Rattle.grid_map.proofs.Kept.{any-filter}
 use Rattle.grid_map.proofs.Regions.{pcfich_inside, pdcch_inside}
 use Rattle.cell_tx.specs.declared.antenna.Port.{Port}
-use Rattle.cell_tx.specs.declared.antenna.Port.TheVariants.{Only, First, Second, Long}
+use Rattle.cell_tx.specs.declared.antenna.Port.TheVariants.{Only, First, Second, Long, OfFour}
 use Rattle.cell_tx.specs.declared.cell.CellPlan.{CellPlan}
 use Rattle.cell_tx.specs.Control.{control_places}
 use Rattle.cell_tx.specs.Ports.{port_symbols, is_two}
@@ -170,3 +170,4 @@ no_channel Only plan sfn subframe symbol k row = rw (early_broadcast plan.identi
 no_channel First plan sfn subframe symbol k row = rw (early_broadcast plan.identity subframe symbol k row) (no_system First plan sfn subframe symbol k row)
 no_channel Second plan sfn subframe symbol k row = rw (early_broadcast plan.identity subframe symbol k row) (no_system Second plan sfn subframe symbol k row)
 no_channel Long plan sfn subframe symbol k row = rw (no_long_broadcast plan.identity subframe symbol k row) refl
+no_channel (OfFour port) plan sfn subframe symbol k row = rw (early_broadcast plan.identity subframe symbol k row) refl

@@ -12,7 +12,7 @@ use Rattle.grid_map.proofs.Symbols.{pdsch_count}
 use Rattle.grid_map.proofs.Indexed.{pcfich_indexed, candidate_indexed, pdcch_carry, shared_indexed}
 use Rattle.grid_map.proofs.Apart.{IsInRegion, IsAfterRegion, indicator_place, control_place, control_not_indicator, shared_place}
 use Rattle.cell_tx.specs.declared.antenna.Port.{Port}
-use Rattle.cell_tx.specs.declared.antenna.Port.TheVariants.{Only, First, Second, Long}
+use Rattle.cell_tx.specs.declared.antenna.Port.TheVariants.{Only, First, Second, Long, OfFour}
 use Rattle.cell_tx.specs.declared.cell.CellPlan.{CellPlan}
 use Rattle.cell_tx.specs.Transport.{assigned_bits_of}
 use Rattle.cell_tx.specs.Plan.{IsSendableWith}
@@ -47,6 +47,7 @@ no_pilot Only identity slot symbol k has e f = rw e refl
 no_pilot First identity slot symbol k has e f = rw (e, f) refl
 no_pilot Second identity slot symbol k has e f = rw (f, e) refl
 no_pilot Long identity slot symbol k has e f = absurd cc
+no_pilot (OfFour port) identity slot symbol k has e f = absurd cc
 
 of_region : (port : Port) (identity last : ℕ) (p : Place) → has_control port ≡ true → last ≤ 3 → IsInRegion identity last p → IsChannelPlace port identity p
 of_region port identity last p has few at = record {
@@ -63,6 +64,7 @@ no_pilot_of Only identity slot symbol k has e = rw e refl
 no_pilot_of First identity slot symbol k has e = let both = no_either (is_reference identity symbol k) (is_second_reference identity symbol k) e in no_pilot First identity slot symbol k has both.0 both.1
 no_pilot_of Second identity slot symbol k has e = let both = no_either (is_reference identity symbol k) (is_second_reference identity symbol k) e in no_pilot Second identity slot symbol k has both.0 both.1
 no_pilot_of Long identity slot symbol k has e = absurd cc
+no_pilot_of (OfFour port) identity slot symbol k has e = absurd cc
 
 of_shared : (port : Port) (identity last : ℕ) (p : Place) → has_control port ≡ true → IsAfterRegion (is_two port) identity last p → IsChannelPlace port identity p
 of_shared port identity last p has at = record { free = λ slot. no_pilot_of port identity slot (p.symbol % 7) p.k has at.free; beside = at.beside }
@@ -76,6 +78,7 @@ symbols_are Only has = refl
 symbols_are First has = refl
 symbols_are Second has = refl
 symbols_are Long has = absurd cc
+symbols_are (OfFour port) has = absurd cc
 
 element_is : (port : Port) (plan : CellPlan) (number : ℕ) (p : Place) → has_control port ≡ true → IsChannelPlace port plan.identity p →
     port_element port plan number 5 p.symbol p.k ≡ port_channel_value port plan number 5 p.symbol p.k
@@ -92,6 +95,7 @@ no_broadcast Only identity symbol k has = refl
 no_broadcast First identity symbol k has = refl
 no_broadcast Second identity symbol k has = refl
 no_broadcast Long identity symbol k has = absurd cc
+no_broadcast (OfFour port) identity symbol k has = absurd cc
 
 module _ (port : Port) (plan : CellPlan) (number symbol k : ℕ) (has : has_control port ≡ true) where
   of_indicator : is_indicator plan symbol k ≡ true →

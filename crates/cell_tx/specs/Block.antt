@@ -21,8 +21,8 @@ use Rattle.cell_tx.specs.Points.{scrambled, point_of}
 -- frame number, and the spare bits (TS 36.331 section 6.2.2)
 unfoldable pub master_bits : Duration → Resource → ℕ → ℕ → List Bool
 master_bits duration resource sfn spare =
-    bits_of 3 (bandwidth_code N6) ++ bits_of 1 (duration_code duration) ++ bits_of 2 (resource_code resource) ++ bits_of 8 (sfn / 4)
-    ++ bits_of 10 spare
+    bits_of 3 (bandwidth_code N6) ++ bits_of 1 (duration_code duration) ++ bits_of 2 (resource_code resource)
+    ++ bits_of 8 (sfn / 4) ++ bits_of 10 spare
 
 -- the block and its check, which is masked by the count of antenna ports (TS 36.212 section 5.3.1.1)
 unfoldable pub master_word : ℕ → Duration → Resource → ℕ → ℕ → List Bool
@@ -59,9 +59,3 @@ port_point port plan sfn i = point_of (port_bit port plan sfn) i
 
 abbrev pub broadcast_word : CellPlan → ℕ → List Bool
 broadcast_word plan sfn = port_word Only plan sfn
-
-abbrev pub broadcast_bit : CellPlan → ℕ → ℕ → Bool
-broadcast_bit plan sfn i = port_bit Only plan sfn i
-
-abbrev pub broadcast_point : CellPlan → ℕ → ℕ → Cpx
-broadcast_point plan sfn i = port_point Only plan sfn i

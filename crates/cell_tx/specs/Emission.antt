@@ -7,15 +7,15 @@ use Rattle.cs_num.specs.declared.Sample.{Sample}
 use Rattle.cs_num.specs.Complex.{times, value_at, sample_of}
 use Rattle.lte_types.specs.Timing.{IsOffset}
 use Rattle.lte_types.specs.declared.carrier.Carrier.{Carrier}
-use Rattle.lte_types.specs.declared.carrier.Carrier.TheVariants.{OnePort, TwoPorts, LongPrefix}
+use Rattle.lte_types.specs.declared.carrier.Carrier.TheVariants.{OnePort, TwoPorts, LongPrefix, FourPorts}
 use Rattle.cell_tx.specs.declared.antenna.Port.{Port}
-use Rattle.cell_tx.specs.declared.antenna.Port.TheVariants.{Only, First, Second, Long}
+use Rattle.cell_tx.specs.declared.antenna.Port.TheVariants.{Only, First, Second, Long, OfFour}
 use Rattle.cell_tx.specs.declared.cell.CellPlan.{CellPlan}
 use Rattle.cell_tx.specs.declared.emission.Emission.{Emission}
 use Rattle.cell_tx.specs.Ports.{port_prefix}
 use Rattle.cell_tx.specs.Load.{sent_element}
 use Rattle.cell_tx.specs.Sent.{prefix_sent}
-use Rattle.cell_tx.specs.Clean.{AreNear, received_of_two, AreGainsOf, IsAllowedBy}
+use Rattle.cell_tx.specs.Clean.{AreNear, received_of_two, received_of_four, AreGainsOf, IsAllowedBy}
 
 -- sample i of what a port sends from the frame numbered sfn on
 abbrev pub sent_by : Option ℕ → Port → CellPlan → ℕ → ℕ → Cpx
@@ -28,6 +28,8 @@ received_by TwoPorts load plan sfn offset gains i =
     received_of_two (sent_by load First plan sfn) (sent_by load Second plan sfn) offset (value_at gains 0)
     (value_at gains 1) i
 received_by LongPrefix load plan sfn offset gains i = times (value_at gains 0) (sent_by load Long plan sfn (i + offset))
+received_by FourPorts load plan sfn offset gains i =
+    received_of_four (λ port. sent_by load (OfFour port) plan sfn) offset gains i
 
 -- what is received of an emission without errors
 abbrev pub emitted : Emission → ℕ → Cpx

@@ -13,9 +13,10 @@ use Rattle.grid_map.specs.Broadcast.{is_pbch, pbch_index}
 use Rattle.grid_map.specs.LongBroadcast.{long_places}
 use Rattle.grid_map.specs.Control.{pcfich_places}
 use Rattle.cell_tx.specs.declared.antenna.Port.{Port}
-use Rattle.cell_tx.specs.declared.antenna.Port.TheVariants.{Only, First, Second, Long}
+use Rattle.cell_tx.specs.declared.antenna.Port.TheVariants.{Only, First, Second, Long, OfFour}
 use Rattle.cell_tx.specs.declared.cell.CellPlan.{CellPlan}
-use Rattle.cell_tx.specs.Ports.{port_symbols, port_slot, has_control, is_two, sent_point, sent_signal, is_own_reference, is_other_reference, port_reference}
+use Rattle.cell_tx.specs.Ports.{port_symbols, port_slot, has_control, is_two, sent_point, sent_signal, is_own_reference}
+use Rattle.cell_tx.specs.Ports.{is_other_reference, port_reference}
 use Rattle.cell_tx.specs.Block.{port_point}
 use Rattle.cell_tx.specs.Control.{control_places, indicator_point, control_point}
 use Rattle.cell_tx.specs.Shared.{assigned_places, shared_point}
@@ -53,6 +54,7 @@ has_broadcast Only identity subframe symbol k = is_broadcast identity subframe s
 has_broadcast First identity subframe symbol k = is_broadcast identity subframe symbol k
 has_broadcast Second identity subframe symbol k = is_broadcast identity subframe symbol k
 has_broadcast Long identity subframe symbol k = is_long_broadcast identity subframe symbol k
+has_broadcast (OfFour port) identity subframe symbol k = is_broadcast identity subframe symbol k
 
 -- the number of its point there
 abbrev pub broadcast_index : Port → ℕ → ℕ → ℕ → ℕ
@@ -60,6 +62,7 @@ broadcast_index Only identity symbol k = pbch_index identity (place symbol k)
 broadcast_index First identity symbol k = pbch_index identity (place symbol k)
 broadcast_index Second identity symbol k = pbch_index identity (place symbol k)
 broadcast_index Long identity symbol k = index_in (long_places identity) (place (symbol % port_symbols Long) k)
+broadcast_index (OfFour port) identity symbol k = pbch_index identity (place symbol k)
 
 -- the control format indicator is in every subframe (TS 36.211 section 6.7)
 abbrev pub is_indicator : CellPlan → ℕ → ℕ → Bool
@@ -132,20 +135,18 @@ port_channel_value port plan sfn subframe symbol k =
     else (if has_control port then system_value port plan sfn subframe symbol k else nothing)
 
 -- what a port sends at a place of the frame with this number: the value of the first case that applies, the signals
--- before the channels, and nothing at a reference place of the other port
+-- before the channels, and nothing at a reference place of the other ports
 unfoldable pub port_element : Port → CellPlan → ℕ → ℕ → ℕ → ℕ → Cpx
 port_element port plan sfn subframe symbol k =
-    if is_own_reference port plan.identity (symbol % port_symbols port) k
+    if is_own_reference port plan.identity (port_slot port subframe symbol) (symbol % port_symbols port) k
     then reference_value port plan subframe symbol k
-    else (if is_other_reference port plan.identity (symbol % port_symbols port) k then nothing
+    else (if is_other_reference port plan.identity (port_slot port subframe symbol) (symbol % port_symbols port) k
+    then nothing
     else (if is_primary port subframe symbol k then sent_signal port (primary_value plan k)
     else (if is_secondary port subframe symbol k then sent_signal port (secondary_value plan subframe k)
     else port_channel_value port plan sfn subframe symbol k)))
 
 -- ---- with one antenna port
-
-abbrev pub channel_value : CellPlan → ℕ → ℕ → ℕ → ℕ → Cpx
-channel_value plan sfn subframe symbol k = port_channel_value Only plan sfn subframe symbol k
 
 abbrev pub element : CellPlan → ℕ → ℕ → ℕ → ℕ → Cpx
 element plan sfn subframe symbol k = port_element Only plan sfn subframe symbol k

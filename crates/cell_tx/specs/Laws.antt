@@ -19,7 +19,8 @@ use Rattle.finite.specs.Lists.{values_below}
 use Rattle.cs_num.specs.declared.Cpx.{Cpx}
 use Rattle.cs_num.specs.Gain.{IsGain}
 use Rattle.lte_types.specs.Timing.{IsOffset, start_of, number_at_start}
-use Rattle.cell_tx.specs.Clean.{IsCleanOf, IsClean, AreGains, IsAllowed, received_of_two, IsCleanOfTwo, AreGainsOf, IsAllowedBy}
+use Rattle.cell_tx.specs.Clean.{IsCleanOf, IsClean, AreGains, IsAllowed, received_of_two, IsCleanOfTwo}
+use Rattle.cell_tx.specs.Clean.{AreGainsOf, IsAllowedBy}
 use Rattle.cell_tx.specs.Emission.{received_by, IsCleanBy}
 
 -- the plans that a carrier can send are those with a block of system information in its ranges in which no condition
@@ -35,17 +36,23 @@ OnePortSendsAll = (carrier : Carrier) (plan : CellPlan) → IsSendableBy carrier
 
 -- where each coded bit is sent the block can be resolved, whatever its text is
 abbrev pub WholeBlocksAreResolvable : Type 0
-WholeBlocksAreResolvable = (plan : CellPlan) → IsSome (size_of plan.mcs plan.column) → is_whole plan ≡ true → is_resolvable plan ≡ true
+WholeBlocksAreResolvable =
+    (plan : CellPlan) → IsSome (size_of plan.mcs plan.column) → is_whole plan ≡ true → is_resolvable plan ≡ true
 
 -- with either cyclic prefix the useful part of symbol l of a slot stands from its first sample on
 abbrev pub UsefulPartsStand : Type 0
-UsefulPartsStand = (prefix : Prefix) (grid : Elements) (sfn slot l n : ℕ) → IsPrefix prefix → l < symbols_of_slot prefix → n < 128 →
-    prefix_frame_sample prefix grid sfn (useful_start prefix 0 slot l + n) ≡ useful_at (grid sfn (slot / 2) (symbols_of_slot prefix * (slot % 2) + l)) n
+UsefulPartsStand =
+    (prefix : Prefix) (grid : Elements) (sfn slot l n : ℕ) → IsPrefix prefix → l < symbols_of_slot prefix → n < 128 →
+    prefix_frame_sample prefix grid sfn (useful_start prefix 0 slot l + n)
+    ≡ useful_at (grid sfn (slot / 2) (symbols_of_slot prefix * (slot % 2) + l)) n
 
 -- before it stand its last samples, as many as its prefix has
 abbrev pub PrefixesRepeat : Type 0
-PrefixesRepeat = (prefix : Prefix) (grid : Elements) (sfn slot l d : ℕ) → IsPrefix prefix → l < symbols_of_slot prefix → 1 ≤ d → d ≤ prefix_length prefix l →
-    prefix_frame_sample prefix grid sfn (useful_start prefix 0 slot l - d) ≡ useful_at (grid sfn (slot / 2) (symbols_of_slot prefix * (slot % 2) + l)) (128 - d)
+PrefixesRepeat =
+    (prefix : Prefix) (grid : Elements) (sfn slot l d : ℕ) → IsPrefix prefix → l < symbols_of_slot prefix → 1 ≤ d →
+    d ≤ prefix_length prefix l →
+    prefix_frame_sample prefix grid sfn (useful_start prefix 0 slot l - d)
+    ≡ useful_at (grid sfn (slot / 2) (symbols_of_slot prefix * (slot % 2) + l)) (128 - d)
 
 -- frame j of a sequence has the number of its first frame and j more
 abbrev pub FramesFollow : Type 0
@@ -55,8 +62,10 @@ FramesFollow = (prefix : Prefix) (grid : Elements) (sfn j i : ℕ) → i < frame
 -- what is sent from an offset on has a frame at its start and then one after the other, with the number at the start
 -- and on
 abbrev pub FramesBeginAtStart : Type 0
-FramesBeginAtStart = (prefix : Prefix) (grid : Elements) (sfn offset j i : ℕ) → sfn ≤ 1023 → IsOffset offset → i < frame_length →
-    prefix_sent prefix grid sfn (start_of offset + frame_length * j + i + offset) ≡ prefix_frame_sample prefix grid ((number_at_start sfn offset + j) % 1024) i
+FramesBeginAtStart =
+    (prefix : Prefix) (grid : Elements) (sfn offset j i : ℕ) → sfn ≤ 1023 → IsOffset offset → i < frame_length →
+    prefix_sent prefix grid sfn (start_of offset + frame_length * j + i + offset)
+    ≡ prefix_frame_sample prefix grid ((number_at_start sfn offset + j) % 1024) i
 
 -- an element of any port, with load or without, has components of size at most 127, and size at most 128
 abbrev pub ElementsAreWithin : Type 0
@@ -72,7 +81,9 @@ ElementsAreSmall =
 -- where no element has more, no sample has a size above 1,153
 abbrev pub SmallElementsMakeSmallSamples : Type 0
 SmallElementsMakeSmallSamples =
-    (prefix : Prefix) (grid : Elements) → ((sfn subframe symbol k : ℕ) → square (grid sfn subframe symbol k) ≤ 128 * 128) → (sfn i : ℕ) → square (prefix_sent prefix grid sfn i) ≤ 1153 * 1153
+    (prefix : Prefix) (grid : Elements) →
+    ((sfn subframe symbol k : ℕ) → square (grid sfn subframe symbol k) ≤ 128 * 128) → (sfn i : ℕ) →
+    square (prefix_sent prefix grid sfn i) ≤ 1153 * 1153
 
 -- so has no sample of a cell
 abbrev pub SamplesAreSmall : Type 0
@@ -90,13 +101,17 @@ received_with sequence offset count gain errors = values_with count (λ i. times
 
 -- with any errors within the bound they are a clean recording of the sequence
 abbrev pub ReceivedWithErrorsIsClean : Type 0
-ReceivedWithErrorsIsClean = (sequence : ℕ → Cpx) (offset count : ℕ) (gain : Cpx) (eps : ℕ) (errors : ℕ → Cpx) → IsOffset offset → IsGain gain →
-    eps * eps ≤ 4 * square gain → ((i : ℕ) → i < count → IsWithin eps (errors i)) → IsCleanOf sequence (received_with sequence offset count gain errors) offset gain eps
+ReceivedWithErrorsIsClean =
+    (sequence : ℕ → Cpx) (offset count : ℕ) (gain : Cpx) (eps : ℕ) (errors : ℕ → Cpx) → IsOffset offset → IsGain gain →
+    eps * eps ≤ 4 * square gain → ((i : ℕ) → i < count → IsWithin eps (errors i)) →
+    IsCleanOf sequence (received_with sequence offset count gain errors) offset gain eps
 
 -- and where no sample of the sequence has a size above 1,153, their components have sizes of at most 32,340, so that
 -- they fit 16 bits
 abbrev pub ReceivedWithErrorsFits : Type 0
-ReceivedWithErrorsFits = (clean gain error : Cpx) (eps : ℕ) → square clean ≤ 1153 * 1153 → IsGain gain → eps * eps ≤ 4 * square gain → IsWithin eps error →
+ReceivedWithErrorsFits =
+    (clean gain error : Cpx) (eps : ℕ) → square clean ≤ 1153 * 1153 → IsGain gain → eps * eps ≤ 4 * square gain →
+    IsWithin eps error →
     IsWithin 32340 (plus (times gain clean) error)
 
 -- what is received of a cell without errors is a clean recording of it

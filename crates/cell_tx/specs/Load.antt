@@ -1,11 +1,12 @@
 -- What a plan takes of a frame's places, and what a cell may send at those that it leaves open: points by a number, as
 -- the traffic of a live cell. (own)
-use Rattle.std.specs.Prelude.{ℕ, ◌+◌, ◌-◌, ◌*◌, ◌%◌, ◌^◌, Bool, not, ◌&&◌, ◌||◌, nat_eq, if◌then◌else◌, Option, Some, None}
+use Rattle.std.specs.Prelude.{ℕ, ◌+◌, ◌-◌, ◌*◌, ◌%◌, ◌^◌, Bool, not, ◌&&◌, ◌||◌, nat_eq, if◌then◌else◌, Option}
+use Rattle.std.specs.Prelude.{Some, None}
 use Rattle.cs_num.specs.declared.Cpx.{Cpx}
 use Rattle.gold.specs.Gold.{gold_bit}
 use Rattle.cell_tx.specs.declared.antenna.Port.{Port}
 use Rattle.cell_tx.specs.declared.cell.CellPlan.{CellPlan}
-use Rattle.cell_tx.specs.Ports.{port_symbols, has_control, port_number, is_own_reference, is_other_reference}
+use Rattle.cell_tx.specs.Ports.{port_symbols, port_slot, has_control, port_number, is_own_reference, is_other_reference}
 use Rattle.cell_tx.specs.Points.{point_of}
 use Rattle.cell_tx.specs.Grid.{has_system_information, has_broadcast, is_indicator, is_control, is_shared, port_element}
 use Rattle.cell_tx.specs.Sent.{Elements}
@@ -20,10 +21,10 @@ is_signal_symbol port subframe symbol =
     && (nat_eq symbol (port_symbols port - 2) || nat_eq symbol (port_symbols port - 1))
 
 -- a place is one of the reference signals of the cell's ports
-abbrev pub is_any_reference : Port → CellPlan → ℕ → ℕ → Bool
-is_any_reference port plan symbol k =
-    is_own_reference port plan.identity (symbol % port_symbols port) k
-    || is_other_reference port plan.identity (symbol % port_symbols port) k
+abbrev pub is_any_reference : Port → CellPlan → ℕ → ℕ → ℕ → Bool
+is_any_reference port plan subframe symbol k =
+    is_own_reference port plan.identity (port_slot port subframe symbol) (symbol % port_symbols port) k
+    || is_other_reference port plan.identity (port_slot port subframe symbol) (symbol % port_symbols port) k
 
 -- or of what carries the plan's system information, in a frame that has it; where there is none the control format
 -- indicator may be any other
@@ -43,7 +44,7 @@ has_channel port plan sfn subframe symbol k =
 unfoldable pub is_taken : Port → CellPlan → ℕ → ℕ → ℕ → ℕ → Bool
 is_taken port plan sfn subframe symbol k =
     is_signal_symbol port subframe symbol
-    || (is_any_reference port plan symbol k || has_channel port plan sfn subframe symbol k)
+    || (is_any_reference port plan subframe symbol k || has_channel port plan sfn subframe symbol k)
 
 -- ---- load
 

@@ -1,17 +1,20 @@
 -- Which plans of a cell can be sent. (own, with the ranges of TS 36.211 sections 6.11 and 6.7, TS 36.213 section 7.1
 -- and TS 36.331 section 6.2.2)
-use Rattle.std.specs.Prelude.{◌≡◌, ◌⊎◌, ◌+◌, ◌≤◌, Bool, true, false, not, ◌&&◌, ◌||◌, nat_eq, nat_le, List, [], ◌∷◌, length, Option, None, is_some, is_none, IsSome, IsSomeAnd}
+use Rattle.std.specs.Prelude.{◌≡◌, ◌⊎◌, ◌+◌, ◌≤◌, Bool, true, false, not, ◌&&◌, ◌||◌, nat_eq, nat_le, List, [], ◌∷◌}
+use Rattle.std.specs.Prelude.{length, Option, None, is_some, is_none, IsSome, IsSomeAnd}
 use Rattle.lte_types.specs.declared.carrier.Carrier.{Carrier}
-use Rattle.lte_types.specs.declared.carrier.Carrier.TheVariants.{OnePort, TwoPorts, LongPrefix}
+use Rattle.lte_types.specs.declared.carrier.Carrier.TheVariants.{OnePort, TwoPorts, LongPrefix, FourPorts}
 use Rattle.lte_types.specs.Ranges.{IsValid}
 use Rattle.lte_types.specs.Assignment.{AreBlocks}
 use Rattle.dci.specs.Sizes.{size_of}
 use Rattle.sib1.specs.Text.{text_of}
 use Rattle.cell_tx.specs.declared.error.CellError.{CellError}
-use Rattle.cell_tx.specs.declared.error.CellError.TheVariants.{Identity, Spare, Cfi, Assignment, Mcs, Punctured, Duplex, Extension, Sib1Long}
+use Rattle.cell_tx.specs.declared.error.CellError.TheVariants.{Identity, Spare, Cfi, Assignment, Mcs, Punctured, Duplex}
+use Rattle.cell_tx.specs.declared.error.CellError.TheVariants.{Extension, Sib1Long}
 use Rattle.cell_tx.specs.declared.cell.CellPlan.{CellPlan}
 use Rattle.cell_tx.specs.Conditions.{Condition, condition, first_failed}
-use Rattle.cell_tx.specs.Transport.{block_size, coded_count, assigned_bits_of, text_fits, has_block, is_whole_of, is_whole, is_resolvable}
+use Rattle.cell_tx.specs.Transport.{block_size, coded_count, assigned_bits_of, text_fits, has_block, is_whole_of}
+use Rattle.cell_tx.specs.Transport.{is_whole, is_resolvable}
 
 -- a plan can be sent, where this says that what is sent of its block is enough: the conditions that do not depend on
 -- the antenna ports, and that one. Its master block has bandwidth n6
@@ -34,11 +37,13 @@ abbrev pub IsSendable : CellPlan → Type 0
 IsSendable plan = IsSendableWith (is_resolvable plan ≡ true) plan
 
 -- a plan can be sent by a carrier: with two antenna ports the assigned blocks carry each coded bit beside the reference
--- signals of both. With the extended cyclic prefix it has to be one of one port, though no block of it is sent
+-- signals of both. With the extended cyclic prefix, or four ports, it has to be one of one port, though no block of it
+-- is sent
 abbrev pub IsSendableBy : Carrier → CellPlan → Type 0
 IsSendableBy OnePort plan = IsSendable plan
 IsSendableBy TwoPorts plan = IsSendableWith (coded_count plan ≤ assigned_bits_of true plan) plan
 IsSendableBy LongPrefix plan = IsSendable plan
+IsSendableBy FourPorts plan = IsSendable plan
 
 -- the same as conditions, in their order, where it is known whether enough is sent
 abbrev pub conditions_with : Bool → CellPlan → List Condition
@@ -60,6 +65,7 @@ abbrev pub is_enough : Carrier → CellPlan → Bool
 is_enough OnePort plan = is_whole plan || (has_block plan && is_resolvable plan)
 is_enough TwoPorts plan = is_whole_of true plan
 is_enough LongPrefix plan = is_whole plan || (has_block plan && is_resolvable plan)
+is_enough FourPorts plan = is_whole plan || (has_block plan && is_resolvable plan)
 
 -- the conditions of a plan that is sent by a carrier
 abbrev pub conditions_of : Carrier → CellPlan → List Condition
@@ -70,8 +76,5 @@ abbrev pub refusal_of : Carrier → CellPlan → Option CellError
 refusal_of carrier plan = first_failed (conditions_of carrier plan)
 
 -- with one antenna port
-abbrev pub plan_conditions : CellPlan → List Condition
-plan_conditions plan = conditions_of OnePort plan
-
 abbrev pub plan_refusal : CellPlan → Option CellError
 plan_refusal plan = refusal_of OnePort plan

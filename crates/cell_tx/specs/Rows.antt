@@ -1,12 +1,14 @@
 -- What the code makes of a frame, part by part. (own)
-use Rattle.std.specs.Prelude.{ℕ, ◌+◌, ◌-◌, ◌*◌, ◌/◌, ◌%◌, ◌<◌, ◌≤◌, ◌≡◌, Bool, nat_eq, if◌then◌else◌, Option, Some, None, List, length, slice_index_or}
+use Rattle.std.specs.Prelude.{ℕ, ◌+◌, ◌-◌, ◌*◌, ◌/◌, ◌%◌, ◌<◌, ◌≤◌, ◌≡◌, Bool, nat_eq, if◌then◌else◌, Option, Some}
+use Rattle.std.specs.Prelude.{None, List, length, slice_index_or}
 use Rattle.finite.specs.Lists.{values_below}
 use Rattle.cs_num.specs.declared.Cpx.{Cpx}
 use Rattle.cs_num.specs.declared.Sample.{Sample}
 use Rattle.cs_num.specs.Complex.{nothing, silence, value_at, sample_of}
 use Rattle.lte_types.specs.declared.numerology.Prefix.{Prefix}
-use Rattle.lte_types.specs.Numerology.{frame_length, slot_length, useful_length, symbol_step, symbols_of_slot, symbol_of}
-use Rattle.lte_types.specs.declared.frame.Half.TheVariants.{Zero, Five}
+use Rattle.lte_types.specs.Numerology.{frame_length, slot_length, useful_length, symbol_step}
+use Rattle.lte_types.specs.Numerology.{symbols_of_slot, symbol_of}
+use Rattle.lte_types.specs.declared.frame.Half.TheVariants.{Zero as Start, Five as Middle}
 use Rattle.sync_seq.specs.Primary.{pss_list}
 use Rattle.sync_seq.specs.Secondary.{sss_list}
 use Rattle.gold.specs.Gold.{gold_bit}
@@ -16,7 +18,9 @@ use Rattle.grid_map.specs.Broadcast.{pbch_places}
 use Rattle.grid_map.specs.Control.{pcfich_places}
 use Rattle.grid_map.specs.LongBroadcast.{long_places}
 use Rattle.cell_tx.specs.declared.antenna.Port.{Port}
-use Rattle.cell_tx.specs.declared.antenna.Port.TheVariants.{Only, First, Second, Long}
+use Rattle.cell_tx.specs.declared.antenna.Port.TheVariants.{Only, First, Second, Long, OfFour}
+use Rattle.cell_tx.specs.declared.antenna.PortOfFour.{PortOfFour}
+use Rattle.cell_tx.specs.declared.antenna.PortOfFour.TheVariants.{Zero, One, Two, Three}
 use Rattle.cell_tx.specs.declared.cell.CellPlan.{CellPlan}
 use Rattle.cell_tx.specs.declared.points.PlaceTable.{PlaceTable}
 use Rattle.cell_tx.specs.declared.layout.Layout.{Layout}
@@ -26,18 +30,22 @@ use Rattle.cell_tx.specs.Ports.{is_two, has_control, sent_point, is_own_referenc
 use Rattle.cell_tx.specs.Control.{indicator_point, control_places, control_point}
 use Rattle.cell_tx.specs.Shared.{assigned_places, shared_point}
 use Rattle.cell_tx.specs.Load.{is_signal_symbol, load_c_init, load_point}
-use Rattle.cell_tx.specs.Grid.{has_broadcast, broadcast_value, is_one_of, is_indicator, indicator_value, is_control, control_value, is_shared, shared_value}
+use Rattle.cell_tx.specs.Grid.{has_broadcast, broadcast_value, is_one_of, is_indicator, indicator_value, is_control}
+use Rattle.cell_tx.specs.Grid.{control_value, is_shared, shared_value}
 use Rattle.cell_tx.specs.Sent.{Elements, prefix_frame_sample}
 
--- what a port sends at a reference place of a slot, its own or the other port's; none at every other place
+-- what a port sends at a reference place of a slot, its own or one of the other ports; none at every other place
 abbrev pub port_reference_if : Port → ℕ → ℕ → ℕ → ℕ → Option Cpx
 port_reference_if port identity slot symbol k =
-    if is_own_reference port identity symbol k then Some (port_reference port identity slot symbol k)
-    else (if is_other_reference port identity symbol k then Some nothing else None)
+    if is_own_reference port identity slot symbol k then Some (port_reference port identity slot symbol k)
+    else (if is_other_reference port identity slot symbol k then Some nothing else None)
 
--- with one antenna port
-abbrev pub reference_if : ℕ → ℕ → ℕ → ℕ → Option Cpx
-reference_if identity slot symbol k = port_reference_if Only identity slot symbol k
+-- of four tests, one for each port of four, that of a port
+abbrev pub test_of_four : PortOfFour → Bool → Bool → Bool → Bool → Bool
+test_of_four Zero zero one two three = zero
+test_of_four One zero one two three = one
+test_of_four Two zero one two three = two
+test_of_four Three zero one two three = three
 
 -- what a port sends at a place, by a channel's places and points; none at every other place
 abbrev pub value_in : Port → List Place → List Cpx → Place → Option Cpx
@@ -50,6 +58,7 @@ broadcast_places Only identity = pbch_places identity
 broadcast_places First identity = pbch_places identity
 broadcast_places Second identity = pbch_places identity
 broadcast_places Long identity = long_places identity
+broadcast_places (OfFour port) identity = pbch_places identity
 
 -- a symbol of a subframe is in that subframe, or slot
 abbrev pub may_broadcast : Port → ℕ → ℕ → Bool
@@ -57,6 +66,7 @@ may_broadcast Only subframe symbol = nat_eq subframe 0
 may_broadcast First subframe symbol = nat_eq subframe 0
 may_broadcast Second subframe symbol = nat_eq subframe 0
 may_broadcast Long subframe symbol = nat_eq (2 * subframe + symbol / 6) 1
+may_broadcast (OfFour port) subframe symbol = nat_eq subframe 0
 
 -- the number there of a symbol of a subframe
 abbrev pub broadcast_symbol : Port → ℕ → ℕ
@@ -64,6 +74,7 @@ broadcast_symbol Only symbol = symbol
 broadcast_symbol First symbol = symbol
 broadcast_symbol Second symbol = symbol
 broadcast_symbol Long symbol = symbol % 6
+broadcast_symbol (OfFour port) symbol = symbol
 
 -- the value of a channel at a place of a subframe; none at every other place
 abbrev pub broadcast_if : Port → CellPlan → ℕ → ℕ → ℕ → ℕ → Option Cpx
@@ -108,14 +119,15 @@ load_bits load port sfn = values_below 20160 (λ n. gold_bit (load_c_init load p
 -- a table has for each place of a subframe its number in a list of places, and their count where it is not in it
 pub record IsTableOf (places : List Place) (table : PlaceTable) : Type 0 where
   pub count : table.count ≡ length places
-  pub number : (symbol k : ℕ) → symbol < 14 → k < 72 → slice_index_or table.numbers (72 * symbol + k) 0 ≡ index_in places (place symbol k)
+  pub number : (symbol k : ℕ) → symbol < 14 → k < 72 →
+      slice_index_or table.numbers (72 * symbol + k) 0 ≡ index_in places (place symbol k)
 
 -- what is the same in every frame of a plan at a port: the synchronisation signals, where the channels stand, and the
 -- indicators
 pub record IsLayout (port : Port) (plan : CellPlan) (layout : Layout) : Type 0 where
   pub primary : layout.primary ≡ pss_list (plan.identity % 3)
-  pub zero : layout.zero ≡ sss_list (plan.identity / 3) (plan.identity % 3) Zero
-  pub five : layout.five ≡ sss_list (plan.identity / 3) (plan.identity % 3) Five
+  pub zero : layout.zero ≡ sss_list (plan.identity / 3) (plan.identity % 3) Start
+  pub five : layout.five ≡ sss_list (plan.identity / 3) (plan.identity % 3) Middle
   pub broadcast : IsTableOf (broadcast_places port plan.identity) layout.broadcast
   pub indicator : IsTableOf (pcfich_places plan.identity) layout.indicator
   pub indicators : layout.indicators ≡ values_below 10 (λ subframe. values_below 16 (indicator_point plan subframe))
@@ -154,7 +166,8 @@ frame_samples prefix grid sfn = values_below frame_length (λ i. sample_of (pref
 
 -- the samples of a list from first on up to last are these
 abbrev pub HasSamples : List Sample → (ℕ → Cpx) → ℕ → ℕ → Type 0
-HasSamples samples values first last = (i : ℕ) → first ≤ i → i < last → slice_index_or samples i silence ≡ sample_of (values i)
+HasSamples samples values first last =
+    (i : ℕ) → first ≤ i → i < last → slice_index_or samples i silence ≡ sample_of (values i)
 
 -- two lists of samples are the same before first, and from last on
 pub record AreSameOutside (first last : ℕ) (before now : List Sample) : Type 0 where

@@ -5,7 +5,8 @@ use Rattle.cs_num.specs.declared.Cpx.{Cpx}
 use Rattle.cs_num.specs.Complex.{times}
 use Rattle.fold128.specs.Symbol.{useful_at}
 use Rattle.lte_types.specs.declared.numerology.Prefix.{Prefix}
-use Rattle.lte_types.specs.Numerology.{frame_length, slot_length, useful_length, normal, symbols_of_slot, useful_start, symbol_of}
+use Rattle.lte_types.specs.Numerology.{frame_length, slot_length, useful_length, normal, symbols_of_slot}
+use Rattle.lte_types.specs.Numerology.{useful_start, symbol_of}
 use Rattle.lte_types.specs.Timing.{number_of}
 use Rattle.cell_tx.specs.declared.cell.CellPlan.{CellPlan}
 use Rattle.cell_tx.specs.Grid.{element}
@@ -36,12 +37,6 @@ unfoldable pub prefix_sent : Prefix → Elements → ℕ → ℕ → Cpx
 prefix_sent prefix grid sfn i = prefix_frame_sample prefix grid (number_of sfn i) (i % frame_length)
 
 -- ---- with the normal cyclic prefix
-
-abbrev pub slot_sample : Elements → ℕ → ℕ → ℕ → Cpx
-slot_sample grid sfn slot i = prefix_slot_sample normal grid sfn slot i
-
-abbrev pub frame_sample : Elements → ℕ → ℕ → Cpx
-frame_sample grid sfn i = prefix_frame_sample normal grid sfn i
 
 abbrev pub sent : Elements → ℕ → ℕ → Cpx
 sent grid sfn i = prefix_sent normal grid sfn i

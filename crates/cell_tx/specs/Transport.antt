@@ -1,6 +1,7 @@
 -- The transport block of a plan, which carries SystemInformationBlockType1, and whether the bits that are sent of it
 -- are enough (TS 36.212 section 5.3.2, TS 36.213 section 7.1.7).
-use Rattle.std.specs.Prelude.{ℕ, ◌+◌, ◌-◌, ◌*◌, Bool, false, not, ◌&&◌, nat_eq, nat_le, is_none, List, [], ◌++◌, length, replicate, slice_index_or}
+use Rattle.std.specs.Prelude.{ℕ, ◌+◌, ◌-◌, ◌*◌, Bool, false, not, ◌&&◌, nat_eq, nat_le, is_none, List, [], ◌++◌, length}
+use Rattle.std.specs.Prelude.{replicate, slice_index_or}
 use Rattle.std.specs.List.{position_or_len}
 use Rattle.std.specs.Option.{unwrap_or, option_map_or}
 use Rattle.finite.specs.Tests.{every_below}

@@ -2,7 +2,7 @@
 
 use lte_types::Carrier;
 
-/// An antenna port of a cell: its only one, with either cyclic prefix, or one of two with transmit diversity
+/// An antenna port of a cell: its only one, with either cyclic prefix, or one of two or four with transmit diversity
 /// (TS 36.211 sections 6.3.4.3 and 6.12).
 #[derive(Clone, Copy, PartialEq, Eq)]
 pub enum Port {
@@ -14,11 +14,27 @@ pub enum Port {
     Second,
     /// Port 0 of a cell with the extended cyclic prefix.
     Long,
+    /// A port of a cell with four ports.
+    OfFour(PortOfFour),
+}
+
+/// A port of a cell with four antenna ports and the normal cyclic prefix.
+#[derive(Clone, Copy, PartialEq, Eq)]
+pub enum PortOfFour {
+    /// Port 0.
+    Zero,
+    /// Port 1.
+    One,
+    /// Port 2, which has reference signals in one symbol of a slot alone, as port 3 has.
+    Two,
+    /// Port 3.
+    Three,
 }
 
 impl Port {
     ghost use Rattle.std.specs.Prelude.{◌≡◌, ◌≤◌};
-    ghost use Rattle.cell_tx.specs.Ports.{carrier_of, port_symbols, port_block_bits, has_control, port_number, is_two, port_mask};
+    ghost use Rattle.cell_tx.specs.Ports.{carrier_of, port_symbols, port_block_bits, has_control, port_number};
+    ghost use Rattle.cell_tx.specs.Ports.{is_two, port_mask};
 
     /// The carrier that has it.
     pub fn carrier(self) -> Carrier
@@ -29,6 +45,7 @@ impl Port {
             Port::First => Carrier::TwoPorts,
             Port::Second => Carrier::TwoPorts,
             Port::Long => Carrier::LongPrefix,
+            Port::OfFour(_) => Carrier::FourPorts,
         }
     }
 
@@ -43,6 +60,7 @@ impl Port {
             Port::First => 7,
             Port::Second => 7,
             Port::Long => 6,
+            Port::OfFour(_) => 7,
         }
     }
 
@@ -56,6 +74,7 @@ impl Port {
             Port::First => 480,
             Port::Second => 480,
             Port::Long => 432,
+            Port::OfFour(_) => 480,
         }
     }
 
@@ -68,19 +87,24 @@ impl Port {
             Port::First => true,
             Port::Second => true,
             Port::Long => false,
+            Port::OfFour(_) => false,
         }
     }
 
     // Its number.
     pub(crate) fn number(self) -> u8
         ensures value { result ≡ port_number self }
-        ensures bound { result ≤ 1 }
+        ensures bound { result ≤ 3 }
     {
         match self {
             Port::Only => 0,
             Port::First => 0,
             Port::Second => 1,
             Port::Long => 0,
+            Port::OfFour(PortOfFour::Zero) => 0,
+            Port::OfFour(PortOfFour::One) => 1,
+            Port::OfFour(PortOfFour::Two) => 2,
+            Port::OfFour(PortOfFour::Three) => 3,
         }
     }
 
@@ -93,6 +117,7 @@ impl Port {
             Port::First => true,
             Port::Second => true,
             Port::Long => false,
+            Port::OfFour(_) => false,
         }
     }
 
@@ -105,6 +130,7 @@ impl Port {
             Port::First => 0xffff,
             Port::Second => 0xffff,
             Port::Long => 0,
+            Port::OfFour(_) => 0x5555,
         }
     }
 }

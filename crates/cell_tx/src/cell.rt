@@ -1,6 +1,7 @@
 //! Plans of cells, and the cells that can be sent.
 
-ghost use Rattle.std.specs.Prelude.{◌≡◌, ◌+◌, ◌≤◌, ◌&&◌, ◌||◌, nat_eq, nat_le, false, if◌then◌else◌, length, Some, None, MatchOption, MatchResult, IfSome, IfOk};
+ghost use Rattle.std.specs.Prelude.{◌≡◌, ◌+◌, ◌≤◌, ◌&&◌, ◌||◌, nat_eq, nat_le, false, if◌then◌else◌, length, Some};
+ghost use Rattle.std.specs.Prelude.{None, MatchOption, MatchResult, IfSome, IfOk};
 ghost use Rattle.std.specs.Option.{option_map_or};
 ghost use Rattle.lte_types.specs.Ranges.{IsValid};
 ghost use Rattle.dci.specs.Sizes.{size_of};
@@ -18,8 +19,9 @@ use turbo_code::Coded;
 use uper::Writer;
 
 /// What a cell is to send, by whichever carrier. Its master block has bandwidth n6, the antenna ports of the carrier
-/// in the mask of its check, and the upper bits of the frame's number. With the extended cyclic prefix only the
-/// identity, the PHICH fields and the spare bits are sent: it has no control region and no system information (own).
+/// in the mask of its check, and the upper bits of the frame's number. With the extended cyclic prefix or four antenna
+/// ports only the identity, the PHICH fields and the spare bits are sent: there is no control region and no system
+/// information (own).
 #[derive(Drop)]
 pub struct CellPlan {
     /// The physical-layer cell identity, 0 to 503 (TS 36.211 section 6.11).
@@ -143,7 +145,7 @@ fn is_sent_enough(carrier: Carrier, plan: &CellPlan, size: u16) -> bool
     ensures { result ≡ is_enough carrier plan.now }
 {
     match carrier {
-        Carrier::OnePort | Carrier::LongPrefix => {
+        Carrier::OnePort | Carrier::LongPrefix | Carrier::FourPorts => {
             is_sent_whole(false, plan, size) || has_resolvable_block(plan, size)
         }
         Carrier::TwoPorts => is_sent_whole(true, plan, size),
@@ -184,8 +186,8 @@ impl Cell {
     /// - `Extension`: there is no extension.
     /// - `Sib1Long`: the text of SystemInformationBlockType1 fits the size.
     ///
-    /// With the extended cyclic prefix the conditions are those of one antenna port, though system information is not
-    /// sent. (own)
+    /// With the extended cyclic prefix or four antenna ports the conditions are those of one antenna port, though
+    /// system information is not sent. (own)
     pub fn of(carrier: Carrier, plan: CellPlan) -> Result<Cell, CellError>
         requires { IsValid plan.sib1 }
         ensures refusal { MatchResult result (λ _. refusal_of carrier plan ≡ None)

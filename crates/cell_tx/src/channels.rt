@@ -2,7 +2,8 @@
 
 ghost use Rattle.std.specs.Prelude.{◌≡◌, ◌<◌};
 ghost use Rattle.cell_tx.specs.Grid.{has_system_information};
-ghost use Rattle.cell_tx.specs.Rows.{may_broadcast, broadcast_symbol, broadcast_if, indicator_if, control_if, shared_if, system_if, channel_if};
+ghost use Rattle.cell_tx.specs.Rows.{may_broadcast, broadcast_symbol, broadcast_if, indicator_if, control_if};
+ghost use Rattle.cell_tx.specs.Rows.{shared_if, system_if, channel_if};
 
 use crate::Port;
 use crate::grid::Signals;
@@ -29,6 +30,7 @@ fn may_broadcast(port: Port, subframe: u8, symbol: u8) -> bool
         Port::First => subframe == 0,
         Port::Second => subframe == 0,
         Port::Long => 2 * subframe + symbol / 6 == 1,
+        Port::OfFour(_) => subframe == 0,
     }
 }
 
@@ -43,6 +45,7 @@ fn broadcast_symbol(port: Port, symbol: u8) -> u8
         Port::First => symbol,
         Port::Second => symbol,
         Port::Long => symbol % 6,
+        Port::OfFour(_) => symbol,
     }
 }
 

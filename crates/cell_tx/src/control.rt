@@ -7,7 +7,8 @@ ghost use Rattle.grid_map.specs.Scrambling.{indicator_bit};
 ghost use Rattle.dci.specs.Fields.{system_information_rnti};
 ghost use Rattle.dci.specs.Format1A.{IsGrant};
 ghost use Rattle.cell_tx.specs.Block.{coded_bit};
-ghost use Rattle.cell_tx.specs.Control.{indicator_point, version_of, grant_of, control_word, control_places, control_point};
+ghost use Rattle.cell_tx.specs.Control.{indicator_point, version_of, grant_of, control_word};
+ghost use Rattle.cell_tx.specs.Control.{control_places, control_point};
 
 use crate::Cell;
 use crate::bits::put_bits;

@@ -12,7 +12,7 @@ use lte_types::{Carrier, Timing};
 /// the gain of the port. (own)
 #[derive(Drop)]
 pub struct Emission {
-    /// The cell. With the extended cyclic prefix its system information is not sent.
+    /// The cell. With the extended cyclic prefix or four antenna ports its system information is not sent.
     pub cell: Cell,
     /// The carrier.
     pub carrier: Carrier,
@@ -21,7 +21,7 @@ pub struct Emission {
     /// The number of samples, 57,600 to 1,920,000.
     pub samples: u32,
     /// The gains of the antenna ports; that of a port which the carrier has not is not used.
-    pub gains: [Cpx; 2],
+    pub gains: [Cpx; 4],
     /// The number of the load that stands at each place which the plan leaves open, where there is one.
     pub load: Option<u32>,
     pub ghost samples_range: { IsCount samples },

@@ -2,12 +2,13 @@
 
 ghost use Rattle.std.specs.Prelude.{ℕ, ◌≡◌, ◌<◌, ◌≤◌, length};
 ghost use Rattle.finite.specs.Lists.{values_below};
-ghost use Rattle.cs_num.specs.Complex.{IsWithin, square, sample_of};
+ghost use Rattle.cs_num.specs.Complex.{IsWithin, square, silence, sample_of};
+ghost use Rattle.lte_types.specs.declared.carrier.Carrier.TheVariants.{FourPorts};
 ghost use Rattle.cell_tx.specs.Sending.{sum_of_port};
 ghost use Rattle.cell_tx.specs.Emission.{emitted, emitted_samples};
 
 use crate::sending::{Sender, add_sequence, clear};
-use crate::{Emission, Port};
+use crate::{Emission, Port, PortOfFour};
 use cs_num::{Cpx, Sample};
 use lte_types::Carrier;
 
@@ -44,5 +45,19 @@ pub fn emit(emission: &Emission, out: &mut [Sample])
             add_port(emission, Port::Second, &emission.gains[1], out);
         }
         Carrier::LongPrefix => add_port(emission, Port::Long, &emission.gains[0], out),
+        Carrier::FourPorts => add_four(emission, out),
     }
+}
+
+// Adds to silence what the four ports of an emission send.
+fn add_four(emission: &Emission, out: &mut [Sample])
+    requires carrier { emission.now.carrier ≡ FourPorts }
+    requires silent { out.old ≡ values_below emission.now.samples (λ i. silence) }
+    ensures { out.new ≡ emitted_samples emission.now }
+{
+    let gains = &emission.gains;
+    add_port(emission, Port::OfFour(PortOfFour::Zero), &gains[0], out);
+    add_port(emission, Port::OfFour(PortOfFour::One), &gains[1], out);
+    add_port(emission, Port::OfFour(PortOfFour::Two), &gains[2], out);
+    add_port(emission, Port::OfFour(PortOfFour::Three), &gains[3], out);
 }

@@ -5,22 +5,25 @@ ghost use Rattle.finite.specs.Lists.{values_below};
 ghost use Rattle.cs_num.specs.Complex.{nothing};
 ghost use Rattle.lte_types.specs.Numerology.{half_of};
 ghost use Rattle.sync_seq.specs.Secondary.{sss_at};
-ghost use Rattle.crs.specs.Reference.{IsPattern, pattern_list};
+ghost use Rattle.crs.specs.declared.single.SinglePort.TheVariants.{Third};
+ghost use Rattle.crs.specs.Reference.{IsPattern, pattern_list, single_list};
 ghost use Rattle.fold128.specs.Symbol.{useful_part};
 ghost use Rattle.std.specs.Option.{unwrap_or};
 ghost use Rattle.cell_tx.specs.declared.antenna.Port.{Port as Antenna};
+ghost use Rattle.cell_tx.specs.declared.antenna.Port.TheVariants.{OfFour};
 ghost use Rattle.cell_tx.specs.Grid.{is_synchronised, secondary_value};
 ghost use Rattle.cell_tx.specs.Ports.{port_symbols, port_slot, first_pattern, sent_signal};
 ghost use Rattle.cell_tx.specs.Load.{is_signal_symbol, load_point, sent_element};
 ghost use Rattle.cell_tx.specs.Block.{port_point};
-ghost use Rattle.cell_tx.specs.Rows.{port_reference_if, channel_if, open_value, load_bits as bits_of_load, IsLayout, IsCarried};
+ghost use Rattle.cell_tx.specs.Rows.{port_reference_if, test_of_four, channel_if, open_value};
+ghost use Rattle.cell_tx.specs.Rows.{load_bits as bits_of_load, IsLayout, IsCarried};
 
 use crate::block::broadcast_points;
 use crate::channels::channel_at;
 use crate::layout::{Carried, Layout};
 use crate::load::{LOAD_BITS, load_bits};
-use crate::{Cell, Port};
-use crs::{Pattern, pattern_pilots, point};
+use crate::{Cell, Port, PortOfFour};
+use crs::{Pattern, SinglePort, pattern_pilots, point, single_pilots};
 use cs_num::Cpx;
 use fold128::synth;
 use grid_map::Place;
@@ -77,7 +80,7 @@ impl<'a> Signals<'a> {
 }
 
 // What a port sends at a reference place by the twelve of the symbol at port 0; `None` at every other place.
-// Port 1 has its own three subcarriers on.
+// Port 1 has its own three subcarriers on, and ports 2 and 3 have none in these symbols.
 fn reference_of(port: Port, pilots: &[(u8, Cpx); 12], k: usize) -> Option<Cpx>
     requires { k < 72 }
     ensures { (identity slot symbol : ℕ) → (symbol ≡ 0) ⊎ (symbol ≡ (first_pattern port).later) →
@@ -91,10 +94,42 @@ fn reference_of(port: Port, pilots: &[(u8, Cpx); 12], k: usize) -> Option<Cpx>
         Port::First => value_or(k % 6 == first, k % 6 == second, pilots[k / 6].1),
         Port::Second => value_or(k % 6 == second, k % 6 == first, pilots[k / 6].1),
         Port::Long => value_or(k % 6 == first, false, pilots[k / 6].1),
+        Port::OfFour(four) => {
+            let zero = k % 6 == first;
+            let one = k % 6 == second;
+            let own = test_of_four(four, zero, one, false, false);
+            value_or(own, zero || one, pilots[k / 6].1)
+        }
     }
 }
 
-// The value at a port's own place, 0 at the other port's, and `None` at neither.
+// Of four tests, one for each port, that of a port.
+fn test_of_four(port: PortOfFour, zero: bool, one: bool, two: bool, three: bool) -> bool
+    ensures { result ≡ test_of_four port zero one two three }
+{
+    match port {
+        PortOfFour::Zero => zero,
+        PortOfFour::One => one,
+        PortOfFour::Two => two,
+        PortOfFour::Three => three,
+    }
+}
+
+// What a port of four sends at a reference place of symbol 1 by the twelve of port 2 there; `None` at every other
+// place. Port 3 has its own three subcarriers on.
+fn single_of(port: PortOfFour, pilots: &[(u8, Cpx); 12], k: usize) -> Option<Cpx>
+    requires { k < 72 }
+    ensures { (identity slot : ℕ) → pilots.now ≡ single_list Third identity slot →
+        result ≡ port_reference_if (OfFour port) identity slot 1 k }
+{
+    let first = pilots[0].0 as usize % 6;
+    let two = k % 6 == first;
+    let three = k % 6 == (first + 3) % 6;
+    let own = test_of_four(port, false, false, two, three);
+    value_or(own, two || three, pilots[k / 6].1)
+}
+
+// The value at a port's own place, 0 at another port's, and `None` at neither.
 fn value_or(own: bool, other: bool, value: Cpx) -> Option<Cpx>
     ensures { result ≡ (if own then Some value else (if other then Some nothing else None)) }
 {
@@ -117,6 +152,7 @@ fn pattern_of(port: Port) -> Pattern
         Port::First => Pattern::FIRST_PORT,
         Port::Second => Pattern::FIRST_PORT,
         Port::Long => Pattern::LONG_PREFIX,
+        Port::OfFour(_) => Pattern::FIRST_PORT,
     }
 }
 
@@ -126,6 +162,9 @@ fn references(id: CellId, port: Port, slot: u8, symbol: u8) -> [Option<Cpx>; 72]
     requires symbol { symbol < 7 }
     ensures { result ≡ values_below 72 (port_reference_if port id slot symbol) }
 {
+    if symbol == 1 {
+        return second_row(id, port, slot);
+    }
     let mut row = [None; 72];
     let pattern = pattern_of(port);
     if symbol == 0 || symbol == pattern.later {
@@ -133,6 +172,33 @@ fn references(id: CellId, port: Port, slot: u8, symbol: u8) -> [Option<Cpx>; 72]
         for k in 0..72 {
             row[k] = reference_of(port, &pilots, k);
         }
+    }
+    row
+}
+
+// The same in symbol 1, where ports 2 and 3 of four have theirs.
+fn second_row(id: CellId, port: Port, slot: u8) -> [Option<Cpx>; 72]
+    requires { slot < 20 }
+    ensures { result ≡ values_below 72 (port_reference_if port id slot 1) }
+{
+    match port {
+        Port::Only => [None; 72],
+        Port::First => [None; 72],
+        Port::Second => [None; 72],
+        Port::Long => [None; 72],
+        Port::OfFour(four) => single_row(id, four, slot),
+    }
+}
+
+// That of a port of four.
+fn single_row(id: CellId, port: PortOfFour, slot: u8) -> [Option<Cpx>; 72]
+    requires { slot < 20 }
+    ensures { result ≡ values_below 72 (port_reference_if (OfFour port) id slot 1) }
+{
+    let mut row = [None; 72];
+    let pilots = single_pilots(SinglePort::Third, id, slot);
+    for k in 0..72 {
+        row[k] = single_of(port, &pilots, k);
     }
     row
 }
@@ -176,6 +242,8 @@ fn sent_signal(port: Port, value: Cpx) -> Cpx
         Port::First => value,
         Port::Second => Cpx::ZERO,
         Port::Long => value,
+        Port::OfFour(PortOfFour::Zero) => value,
+        Port::OfFour(_) => Cpx::ZERO,
     }
 }
 

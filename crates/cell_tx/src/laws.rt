@@ -1,6 +1,11 @@
 //! Laws of what a cell sends.
 
-ghost use Rattle.cell_tx.specs.Laws.{AcceptedAreSendable, OnePortSendsAll, WholeBlocksAreResolvable, UsefulPartsStand, PrefixesRepeat, FramesFollow, FramesBeginAtStart, ElementsAreWithin, ElementsAreSmall, SmallElementsMakeSmallSamples, SamplesAreSmall, ReceivedWithErrorsIsClean, ReceivedWithErrorsFits, ReceivedIsClean, ReceivedOfTwoIsClean, ReceivedOfTwoIsSmall, ReceivedOfTwoFits, EmittedIsClean, EmittedIsSmall};
+ghost use Rattle.cell_tx.specs.Laws.{AcceptedAreSendable, OnePortSendsAll, WholeBlocksAreResolvable, UsefulPartsStand};
+ghost use Rattle.cell_tx.specs.Laws.{PrefixesRepeat, FramesFollow, FramesBeginAtStart, ElementsAreWithin};
+ghost use Rattle.cell_tx.specs.Laws.{ElementsAreSmall, SmallElementsMakeSmallSamples, SamplesAreSmall};
+ghost use Rattle.cell_tx.specs.Laws.{ReceivedWithErrorsIsClean, ReceivedWithErrorsFits, ReceivedIsClean};
+ghost use Rattle.cell_tx.specs.Laws.{ReceivedOfTwoIsClean, ReceivedOfTwoIsSmall, ReceivedOfTwoFits};
+ghost use Rattle.cell_tx.specs.Laws.{EmittedIsClean, EmittedIsSmall};
 
 /// The plans that `Cell::of` accepts for a carrier are those that it can send, and what any carrier can send one
 /// antenna port can. The block of a plan whose resource blocks carry each coded bit can always be resolved, so that

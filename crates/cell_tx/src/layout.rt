@@ -70,6 +70,7 @@ fn broadcast_table(id: CellId, port: Port) -> PlaceTable
         Port::First => table_of(&pbch_places(id)),
         Port::Second => table_of(&pbch_places(id)),
         Port::Long => table_of(&long_places(id)),
+        Port::OfFour(_) => table_of(&pbch_places(id)),
     }
 }
 

@@ -1,6 +1,6 @@
 //! The transmitter of a described cell by any carrier: synchronisation signals, reference signals, the broadcast
-//! channel, and, but for the extended cyclic prefix, the control region and the shared channel with
-//! SystemInformationBlockType1 (TS 36.211 section 6); with load at all other places, or without (own).
+//! channel, and, but for the extended cyclic prefix and four antenna ports, the control region and the shared channel
+//! with SystemInformationBlockType1 (TS 36.211 section 6); with load at all other places, or without (own).
 #![tactic(auto)]
 
 mod antenna;
@@ -21,7 +21,7 @@ mod sending;
 mod shared;
 mod transmission;
 
-pub use antenna::Port;
+pub use antenna::{Port, PortOfFour};
 pub use cell::{Cell, CellPlan};
 pub use emission::Emission;
 pub use emitting::emit;
@@ -29,5 +29,5 @@ pub use error::CellError;
 pub use laws::{
     accepted_are_sendable, frames_stand, sent_is_clean, sizes, sum_is_clean, symbols_stand,
 };
-pub use sending::{Sender, amplified, frame, sample, send, send_all, sequence};
+pub use sending::{Sender, frame, sample, send, send_all, sequence};
 pub use transmission::Transmission;

@@ -1,18 +1,19 @@
 //! Points of scrambled bits, and the places that they take.
 
-ghost use Rattle.std.specs.Prelude.{◌≡◌, ℕ, ◌*◌, ◌/◌, ◌%◌, ◌^◌, ◌<◌, ◌≤◌, false, List, All, length, slice_index_or};
+ghost use Rattle.std.specs.Prelude.{◌≡◌, ℕ, ◌*◌, ◌/◌, ◌%◌, ◌^◌, ◌<◌, ◌≤◌, false, if◌then◌else◌, List, All};
+ghost use Rattle.std.specs.Prelude.{length, slice_index_or};
 ghost use Rattle.finite.specs.Lists.{values_below};
 ghost use Rattle.finite.specs.Bits.{xor};
 ghost use Rattle.gold.specs.Gold.{gold_bits};
 ghost use Rattle.cell_tx.specs.Points.{scrambled, point_of};
-ghost use Rattle.cs_num.specs.Complex.{IsWithin, value_at};
-ghost use Rattle.cell_tx.specs.declared.antenna.Port.TheVariants.{Second};
+ghost use Rattle.cs_num.specs.Complex.{IsWithin, nothing, value_at};
+ghost use Rattle.cell_tx.specs.declared.antenna.Port.TheVariants.{Second, OfFour};
 ghost use Rattle.cell_tx.specs.Ports.{sent_point};
 ghost use Rattle.cell_tx.specs.Rows.{value_in, IsTableOf};
 ghost use Rattle.grid_map.specs.declared.Place.{Place};
 ghost use Rattle.grid_map.specs.Place.{place};
 
-use crate::Port;
+use crate::{Port, PortOfFour};
 use crs::point;
 use cs_num::Cpx;
 use grid_map::Place;
@@ -109,7 +110,32 @@ fn sent_point(port: Port, points: &[Cpx], i: usize) -> Cpx
         Port::First => points[i],
         Port::Second => second_of(points, i),
         Port::Long => points[i],
+        Port::OfFour(four) => point_of_four(four, points, i),
     }
+}
+
+// The same of a port of four: of the pairs of even number ports 0 and 2 send as two ports do, and ports 1 and 3 of the
+// others.
+fn point_of_four(port: PortOfFour, points: &[Cpx], i: usize) -> Cpx
+    requires i { i < length points.now }
+    requires pairs { length points.now % 2 ≡ 0 }
+    requires small { All (IsWithin 90) points.now }
+    ensures { result ≡ sent_point (OfFour port) (value_at points.now) i }
+{
+    let even = i / 2 % 2 == 0;
+    match port {
+        PortOfFour::Zero => value_if(even, points[i]),
+        PortOfFour::One => value_if(!even, points[i]),
+        PortOfFour::Two => value_if(even, second_of(points, i)),
+        PortOfFour::Three => value_if(!even, second_of(points, i)),
+    }
+}
+
+// A value, or 0 in its place.
+fn value_if(sent: bool, value: Cpx) -> Cpx
+    ensures { result ≡ (if sent then value else nothing) }
+{
+    if sent { value } else { Cpx::ZERO }
 }
 
 // The same of the second port: of a pair the negative conjugate of the other at the first place, and the conjugate

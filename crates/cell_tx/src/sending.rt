@@ -1,15 +1,16 @@
 //! The samples of a cell.
 
-ghost use Rattle.std.specs.Prelude.{ℕ, ◌≡◌, ◌+◌, ◌-◌, ◌*◌, ◌/◌, ◌%◌, ◌<◌, ◌≤◌, None, true, length};
+ghost use Rattle.std.specs.Prelude.{ℕ, ◌≡◌, ◌+◌, ◌-◌, ◌*◌, ◌/◌, ◌%◌, ◌<◌, ◌≤◌, None, true, false, length};
 ghost use Rattle.finite.specs.Lists.{values_below};
 ghost use Rattle.cs_num.specs.Complex.{IsWithin, silence, square, plus, times, value_of, sample_of};
 ghost use Rattle.fold128.specs.Symbol.{useful_part};
 ghost use Rattle.lte_types.specs.Numerology.{frame_length, slot_length, useful_length, normal, symbol_of, most_samples};
-ghost use Rattle.cell_tx.specs.declared.antenna.Port.TheVariants.{Long};
 ghost use Rattle.cell_tx.specs.Ports.{has_control, port_prefix, port_symbols};
 ghost use Rattle.cell_tx.specs.Grid.{element};
-ghost use Rattle.cell_tx.specs.Rows.{useful_place, first_in_slot, first_sample, frame_samples, HasSamples, AreSameOutside, IsLayout, AreVersions};
-ghost use Rattle.cell_tx.specs.Sending.{elements_of, sample_in, symbol_start, frame_of, RenewsFrame, sample_by, frame_at, sum_with, received_samples};
+ghost use Rattle.cell_tx.specs.Rows.{useful_place, first_in_slot, first_sample, frame_samples, HasSamples};
+ghost use Rattle.cell_tx.specs.Rows.{AreSameOutside, IsLayout, AreVersions};
+ghost use Rattle.cell_tx.specs.Sending.{elements_of, sample_in, symbol_start, frame_of, RenewsFrame, sample_by};
+ghost use Rattle.cell_tx.specs.Sending.{frame_at, sum_with, received_samples};
 ghost use Rattle.cell_tx.specs.Sent.{prefix_slot_sample, sent, received};
 
 use crate::grid::{Signals, useful_of};
@@ -153,14 +154,15 @@ fn renew_channels(signals: &Signals, out: &mut [Sample])
     put_symbols(signals, 70, 84, out);
 }
 
-// The same with the extended prefix, where they differ in slot 1 alone.
+// The same where no system information is sent: they differ in slot 1 alone.
 fn renew_broadcast(signals: &Signals, out: &mut [Sample])
     requires load { signals.now.load ≡ None }
-    requires port { signals.now.port ≡ Long }
+    requires control { has_control signals.now.port ≡ false }
     requires room { length out.old ≡ frame_length }
     ensures { RenewsFrame signals.now out.old out.new }
 {
-    put_symbols(signals, 6, 12, out);
+    let symbols = signals.port.symbols() as usize;
+    put_symbols(signals, symbols, 2 * symbols, out);
 }
 
 // The same of any frame: each symbol has load of its own, where there is load.
@@ -170,10 +172,10 @@ fn renew_frame(signals: &Signals, out: &mut [Sample])
 {
     if signals.load.is_some() {
         put_frame(signals, out);
-    } else if signals.port == Port::Long {
-        renew_broadcast(signals, out);
-    } else {
+    } else if signals.port.has_control() {
         renew_channels(signals, out);
+    } else {
+        renew_broadcast(signals, out);
     }
 }
 
@@ -202,8 +204,8 @@ pub fn frame(cell: &Cell, sfn: Sfn, out: &mut [Sample])
     put_frame(&signals, out);
 }
 
-/// A clean sample times a gain. The size of the sample is at most 1,153.
-pub fn amplified(gain: Gain, clean: Sample) -> Sample
+// A clean sample times a gain. The size of the sample is at most 1,153.
+fn amplified(gain: Gain, clean: Sample) -> Sample
     requires { square (value_of clean) ≤ 1153 * 1153 }
     ensures value { result ≡ sample_of (times gain (value_of clean)) }
     ensures size { IsWithin 32284 (times gain (value_of clean)) }
@@ -227,7 +229,7 @@ pub fn send(t: &Transmission, i: u32) -> Sample
 /// What sends a cell at an antenna port, from a sample of a frame on, with load or without.
 #[derive(Drop)]
 pub struct Sender<'a> {
-    /// The cell. With the extended cyclic prefix its system information is not sent.
+    /// The cell. With the extended cyclic prefix or four antenna ports its system information is not sent.
     pub cell: &'a Cell,
     /// The antenna port.
     pub port: Port,

@@ -18,7 +18,7 @@ use dci::SI_RNTI;
 use erasure::fills;
 use grid_map::{Place, pdsch_c_init, shared_count, shared_place};
 use lte_types::Sfn;
-use turbo_code::{Coded, encode, match_out, row_of};
+use turbo_code::{Coded, encode, match_all, row_of};
 
 // Writes a text over the first bits.
 fn put_text(word: &mut [bool; 1024], text: &[bool])
@@ -92,11 +92,8 @@ pub(crate) fn block_fills(text: &[bool], size: u16, count: u16) -> bool
 fn shared_bits(cell: &Cell, sfn: Sfn) -> [bool; 1224]
     ensures { result ≡ values_below 1224 (shared_bit cell.now sfn) }
 {
-    let version = version_of(sfn);
     let mut bits = [false; 1224];
-    for i in 0..1224 {
-        bits[i] = match_out(cell.coded(), version, i);
-    }
+    match_all(cell.coded(), version_of(sfn), &mut bits);
     bits
 }
 

@@ -21,13 +21,14 @@ pub struct Transmission {
 }
 
 impl Transmission {
-    ghost use Rattle.std.specs.Prelude.{◌≡◌};
+    ghost use Rattle.std.specs.Prelude.{◌≡◌, None};
     ghost use Rattle.cs_num.specs.Complex.{value_at};
     ghost use Rattle.lte_types.specs.declared.carrier.Carrier.TheVariants.{OnePort};
 
-    /// The transmission that an emission of one antenna port with the normal cyclic prefix is; its load is left out.
+    /// The transmission that an emission of one antenna port with the normal cyclic prefix and without load is.
     pub fn of(emission: Emission) -> Transmission
-        requires { emission.carrier ≡ OnePort }
+        requires carrier { emission.carrier ≡ OnePort }
+        requires load { emission.load ≡ None }
         ensures cell { result.cell ≡ emission.cell }
         ensures timing { result.timing ≡ emission.timing }
         ensures samples { result.samples ≡ emission.samples }

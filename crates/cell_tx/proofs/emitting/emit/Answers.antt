@@ -80,5 +80,8 @@ returns-in-OnePort-clause-size c = size c.args.emission.now
 pub returns-in-TwoPorts-clause-size : goal.returns-in-TwoPorts-clause-size
 returns-in-TwoPorts-clause-size c = size c.args.emission.now
 
+pub returns-in-FourPorts-clause-size : goal.returns-in-FourPorts-clause-size
+returns-in-FourPorts-clause-size c = size c.args.emission.now
+
 pub returns-in-LongPrefix-clause-size : goal.returns-in-LongPrefix-clause-size
 returns-in-LongPrefix-clause-size c = size c.args.emission.now

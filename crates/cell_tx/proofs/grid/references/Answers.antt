@@ -18,5 +18,6 @@ pub returns-else-symbol-pattern : goal.returns-else-symbol-pattern
 returns-else-symbol-pattern c =
     let e : nat_eq c.args.symbol 0 ≡ false = let other = c.if-symbol-eq0.false in grind (arith, nat_tests) in
     let f : nat_eq c.args.symbol c.pattern_of-pattern.result.later ≡ false = let other = c.if-symbol-pattern.false in grind (arith, nat_tests) in
+    let one : nat_eq c.args.symbol 1 ≡ false = let other = c.if-symbol-eq1.false in grind (arith, nat_tests) in
     let g : nat_eq c.args.symbol (first_pattern c.args.port).later ≡ false = sym (ap (λ (p : Pattern). nat_eq c.args.symbol p.later) c.pattern_of-pattern.ensures.pattern) ∙ f in
-    values_below_same 72 (λ k. None) (port_reference_if c.args.port c.args.id c.args.slot c.args.symbol) (λ k inside. sym (no_port_reference c.args.port c.args.id c.args.slot c.args.symbol k e g))
+    values_below_same 72 (λ k. None) (port_reference_if c.args.port c.args.id c.args.slot c.args.symbol) (λ k inside. sym (no_port_reference c.args.port c.args.id c.args.slot c.args.symbol k e one g))
