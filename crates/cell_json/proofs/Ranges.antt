@@ -10,7 +10,7 @@ use Rattle.cs_num.specs.declared.Cpx.{Cpx}
 use Rattle.cs_num.specs.Complex.{value_at}
 use Rattle.cs_num.specs.Gain.{IsGain}
 use Rattle.lte_types.specs.declared.carrier.Carrier.{Carrier}
-use Rattle.lte_types.specs.declared.carrier.Carrier.TheVariants.{OnePort, TwoPorts, LongPrefix}
+use Rattle.lte_types.specs.declared.carrier.Carrier.TheVariants.{OnePort, TwoPorts, LongPrefix, FourPorts}
 use Rattle.lte_types.specs.declared.sib1.Sib1.{Sib1}
 use Rattle.lte_types.specs.declared.timing.Timing.{Timing}
 use Rattle.lte_types.specs.Ranges.{IsValid}
@@ -51,6 +51,7 @@ pub gains_hold : (carrier : Carrier) (gains : List Cpx) → are_gains carrier ga
 gains_hold OnePort gains e = gain_holds (value_at gains 0) e
 gains_hold TwoPorts gains e = record { least = grind (arith, nat_tests); most = grind (arith, nat_tests) }
 gains_hold LongPrefix gains e = gain_holds (value_at gains 0) e
+gains_hold FourPorts gains e = record { least = grind (arith, nat_tests); most = grind (arith, nat_tests) }
 
 -- all conditions after the form hold
 record AllHold (carrier : Carrier) (json : Data) : Type 0 where

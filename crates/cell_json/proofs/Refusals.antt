@@ -1,5 +1,5 @@
 -- Which condition of a description fails first.
-use Rattle.std.proofs.Common.{◌≡◌, pos, true, false, Option, Some, [], ◌∷◌, refl, sym, ap, ap₂, ◌∙◌}
+use Rattle.std.proofs.Common.{◌≡◌, pos, true, false, List, Option, Some, [], refl, sym, ap, ◌∙◌}
 use Rattle.std.specs.Option.{option_map_or}
 use Rattle.serde_json.specs.Data.{Data}
 use Rattle.cs_num.specs.declared.Cpx.{Cpx}
@@ -10,7 +10,7 @@ use Rattle.cell_tx.specs.Conditions.{first_failed}
 use Rattle.cell_tx.specs.Plan.{conditions_of, refusal_of}
 use Rattle.cell_json.specs.declared.description.Sending.{Sending}
 use Rattle.cell_json.specs.Kinds.{is_between}
-use Rattle.cell_json.specs.Description.{are_gains, has_form, other_gain, gains_at, sib1_at, plan_of, cell_conditions, conditions}
+use Rattle.cell_json.specs.Description.{are_gains, has_form, gains_at, sib1_at, plan_of, cell_conditions, conditions}
 use Rattle.cell_json.specs.Parts.{HasSending}
 
 pub form_fails : (carrier : Carrier) (json : Data) → has_form carrier json ≡ false → first_failed (conditions carrier json) ≡ Some Form
@@ -21,15 +21,15 @@ pub cell_conditions_are : (carrier : Carrier) (json : Data) (sib1 : Sib1) → So
 unfolding cell_conditions
 cell_conditions_are carrier json sib1 e = ap (λ (found : Option Sib1). option_map_or (λ s. conditions_of carrier (plan_of json s)) found []) (sym e)
 
-module _ (carrier : Carrier) (json : Data) (d : Sending) (other : Cpx) (sib1 : Sib1) (form : has_form carrier json ≡ true) (parts : HasSending d json)
-    (other_is : other ≡ other_gain carrier json) (there : Some sib1 ≡ sib1_at json) where
+module _ (carrier : Carrier) (json : Data) (d : Sending) (gains : List Cpx) (sib1 : Sib1) (form : has_form carrier json ≡ true) (parts : HasSending d json)
+    (gains_are : gains ≡ gains_at carrier json) (there : Some sib1 ≡ sib1_at json) where
   -- where what is sent and the block are in their ranges, the cell decides
   pub cell_decides : is_between (pos 0) (pos 1023) d.sfn ≡ true → is_between (pos 0) (pos 19199) d.offset ≡ true
-      → is_between (pos 57600) (pos 1920000) d.samples ≡ true → are_gains carrier (d.gain ∷ other ∷ []) ≡ true
+      → is_between (pos 57600) (pos 1920000) d.samples ≡ true → are_gains carrier gains ≡ true
       → first_failed (conditions carrier json) ≡ refusal_of carrier (plan_of json sib1)
   cell_decides e f g h =
       let s = ap (is_between (pos 0) (pos 1023)) (sym parts.sfn) ∙ e in
       let o = ap (is_between (pos 0) (pos 19199)) (sym parts.offset) ∙ f in
       let n = ap (is_between (pos 57600) (pos 1920000)) (sym parts.samples) ∙ g in
-      let a : are_gains carrier (gains_at carrier json) ≡ true = ap₂ (λ (x y : Cpx). are_gains carrier (x ∷ y ∷ [])) (sym parts.gain) (sym other_is) ∙ h in
+      let a : are_gains carrier (gains_at carrier json) ≡ true = ap (are_gains carrier) (sym gains_are) ∙ h in
       rw (form, s, o, n, a, sym there) (ap first_failed (cell_conditions_are carrier json sib1 there))

@@ -5,7 +5,7 @@ use Rattle.std.specs.Prelude.{codes}
 use Rattle.serde_json.specs.Data.{Data}
 use Rattle.lte_types.specs.declared.carrier.Carrier.{Carrier}
 use Rattle.cell_json.specs.Kinds.{has, has_all, has_exactly, key_count, object_of}
-use Rattle.cell_json.specs.Description.{access_keys, selection_keys, schedule_keys, sib1_keys, sending_keys, number_keys, carrier_keys, keys, duration_of, resource_of, has_form}
+use Rattle.cell_json.specs.Description.{access_keys, selection_keys, schedule_keys, sib1_keys, sending_keys, number_keys, gain_keys, keys, duration_of, resource_of, has_form}
 
 sib1_count : length sib1_keys ≡ 14
 unfolding access_keys selection_keys schedule_keys
@@ -19,9 +19,9 @@ sib1_parts json = rw (sib1_count, list_all-append (λ is_there. is_there json) a
 
 -- a description has its form where its parts have theirs
 pub form_parts : (carrier : Carrier) (json : Data) → (nat_eq (key_count json) (length (keys carrier)) && (has_all sending_keys json && (has_all number_keys json && (has (codes "duration") duration_of json
-    && (has (codes "resource") resource_of json && (has (codes "sib1") (object_of sib1_keys) json && has_all (carrier_keys carrier) json)))))) ≡ has_form carrier json
+    && (has (codes "resource") resource_of json && (has (codes "sib1") (object_of sib1_keys) json && has_all (gain_keys carrier) json)))))) ≡ has_form carrier json
 unfolding sending_keys number_keys
 form_parts carrier json = rw (
-  list_all-append (λ is_there. is_there json) sending_keys (number_keys ++ has (codes "duration") duration_of ∷ has (codes "resource") resource_of ∷ has (codes "sib1") (object_of sib1_keys) ∷ carrier_keys carrier),
-  list_all-append (λ is_there. is_there json) number_keys (has (codes "duration") duration_of ∷ has (codes "resource") resource_of ∷ has (codes "sib1") (object_of sib1_keys) ∷ carrier_keys carrier),
+  list_all-append (λ is_there. is_there json) sending_keys (number_keys ++ has (codes "duration") duration_of ∷ has (codes "resource") resource_of ∷ has (codes "sib1") (object_of sib1_keys) ∷ gain_keys carrier),
+  list_all-append (λ is_there. is_there json) number_keys (has (codes "duration") duration_of ∷ has (codes "resource") resource_of ∷ has (codes "sib1") (object_of sib1_keys) ∷ gain_keys carrier),
 ) refl

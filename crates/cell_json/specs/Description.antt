@@ -1,5 +1,6 @@
 -- The keys of a description, and the conditions on what stands there. (own)
-use Rattle.std.specs.Prelude.{ℕ, ◌+◌, Bool, ◌&&◌, nat_le, if◌then◌else◌, List, [], ◌∷◌, ◌++◌, codes, Option, None, is_some, option_map, option_and_then, ℤ, pos, nat_abs}
+use Rattle.std.specs.Prelude.{ℕ, ◌+◌, Bool, ◌&&◌, nat_le, if◌then◌else◌, List, [], ◌∷◌, ◌++◌, codes, Option, None}
+use Rattle.std.specs.Prelude.{is_some, option_map, option_and_then, ℤ, pos, nat_abs}
 use Rattle.std.specs.Option.{unwrap_or, option_map_or}
 use Rattle.serde_json.specs.Data.{Data, Items, no_items, item}
 use Rattle.serde_json.specs.Find.{as_bool, as_str, as_array}
@@ -7,7 +8,7 @@ use Rattle.cs_num.specs.declared.Cpx.{Cpx}
 use Rattle.cs_num.specs.Complex.{nothing, square, value_at}
 use Rattle.cs_num.specs.Gain.{with_parts}
 use Rattle.lte_types.specs.declared.carrier.Carrier.{Carrier}
-use Rattle.lte_types.specs.declared.carrier.Carrier.TheVariants.{OnePort, TwoPorts, LongPrefix}
+use Rattle.lte_types.specs.declared.carrier.Carrier.TheVariants.{OnePort, TwoPorts, LongPrefix, FourPorts}
 use Rattle.lte_types.specs.declared.duration.Duration.{Duration}
 use Rattle.lte_types.specs.declared.duration.Duration.TheVariants.{Normal}
 use Rattle.lte_types.specs.declared.resource.Resource.{Resource}
@@ -19,6 +20,7 @@ use Rattle.cell_tx.specs.declared.cell.CellPlan.{CellPlan}
 use Rattle.cell_tx.specs.declared.error.CellError.TheVariants.{Form, Sfn, Offset, Samples, Gain, Sib1Range}
 use Rattle.cell_tx.specs.Conditions.{Condition, condition}
 use Rattle.cell_tx.specs.Plan.{conditions_of}
+use Rattle.cell_tx.specs.Clean.{power_of_four}
 use Rattle.cell_json.specs.Kinds.{whole_of, is_between, null_or, list_of, at_key, has, has_exactly, object_of}
 use Rattle.cell_json.specs.Information.{sib1_in}
 
@@ -96,7 +98,6 @@ sending_keys =
     has (codes "sfn") whole_of
     ∷ has (codes "offset") whole_of
     ∷ has (codes "samples") whole_of
-    ∷ has (codes "gain") pair_of
     ∷ []
 
 -- of the numbers of the plan,
@@ -111,11 +112,17 @@ number_keys =
     ∷ has (codes "column") whole_of
     ∷ []
 
--- of the carrier: two antenna ports have a second gain,
-abbrev pub carrier_keys : Carrier → List (Data → Bool)
-carrier_keys OnePort = []
-carrier_keys TwoPorts = has (codes "gain2") pair_of ∷ []
-carrier_keys LongPrefix = []
+-- of the gains of the carrier's antenna ports,
+abbrev pub gain_keys : Carrier → List (Data → Bool)
+gain_keys OnePort = has (codes "gain") pair_of ∷ []
+gain_keys TwoPorts = has (codes "gain") pair_of ∷ has (codes "gain2") pair_of ∷ []
+gain_keys LongPrefix = has (codes "gain") pair_of ∷ []
+gain_keys FourPorts =
+    has (codes "gain") pair_of
+    ∷ has (codes "gain2") pair_of
+    ∷ has (codes "gain3") pair_of
+    ∷ has (codes "gain4") pair_of
+    ∷ []
 
 -- and all
 abbrev pub keys : Carrier → List (Data → Bool)
@@ -125,7 +132,7 @@ keys carrier =
     ++ has (codes "duration") duration_of
     ∷ has (codes "resource") resource_of
     ∷ has (codes "sib1") (object_of sib1_keys)
-    ∷ carrier_keys carrier
+    ∷ gain_keys carrier
 
 abbrev pub has_form : Carrier → Data → Bool
 has_form carrier json = has_exactly (keys carrier) json
@@ -136,18 +143,25 @@ has_form carrier json = has_exactly (keys carrier) json
 abbrev pub number_at : List ℕ → Data → ℤ
 number_at key json = unwrap_or (at_key whole_of key json) (pos 0)
 
+-- a gain by its key
+abbrev pub gain_by : List ℕ → Data → Cpx
+gain_by key json = unwrap_or (at_key pair_of key json) nothing
+
+-- that of the first antenna port
 abbrev pub gain_at : Data → Cpx
-gain_at json = unwrap_or (at_key pair_of (codes "gain") json) nothing
+gain_at json = gain_by (codes "gain") json
 
--- the gain of a second antenna port, which is not used where there is none
-abbrev pub other_gain : Carrier → Data → Cpx
-other_gain OnePort json = nothing
-other_gain TwoPorts json = unwrap_or (at_key pair_of (codes "gain2") json) nothing
-other_gain LongPrefix json = nothing
-
--- the gains of both
+-- those of four ports; that of a port which the carrier has not is not used
 abbrev pub gains_at : Carrier → Data → List Cpx
-gains_at carrier json = gain_at json ∷ other_gain carrier json ∷ []
+gains_at OnePort json = gain_at json ∷ nothing ∷ nothing ∷ nothing ∷ []
+gains_at TwoPorts json = gain_at json ∷ gain_by (codes "gain2") json ∷ nothing ∷ nothing ∷ []
+gains_at LongPrefix json = gain_at json ∷ nothing ∷ nothing ∷ nothing ∷ []
+gains_at FourPorts json =
+    gain_at json
+    ∷ gain_by (codes "gain2") json
+    ∷ gain_by (codes "gain3") json
+    ∷ gain_by (codes "gain4") json
+    ∷ []
 
 abbrev pub duration_at : Data → Duration
 duration_at json = unwrap_or (at_key duration_of (codes "duration") json) Normal
@@ -189,11 +203,16 @@ is_gain gain = nat_le 1 (square gain) && nat_le (square gain) 784
 abbrev pub are_both_gains : Cpx → Cpx → Bool
 are_both_gains first other = nat_le 1 (square first) && nat_le (square first + square other) 392
 
+-- the first is not 0, and the squares of all four are together at most 196
+abbrev pub are_four_gains : List Cpx → Bool
+are_four_gains gains = nat_le 1 (square (value_at gains 0)) && nat_le (power_of_four gains) 196
+
 -- the gains of a carrier's antenna ports are those of clean recordings
 abbrev pub are_gains : Carrier → List Cpx → Bool
 are_gains OnePort gains = is_gain (value_at gains 0)
 are_gains TwoPorts gains = are_both_gains (value_at gains 0) (value_at gains 1)
 are_gains LongPrefix gains = is_gain (value_at gains 0)
+are_gains FourPorts gains = are_four_gains gains
 
 -- those of the plan, which there is where the block's values are in their ranges
 unfoldable pub cell_conditions : Carrier → Data → List Condition

@@ -3,14 +3,13 @@ use Rattle.std.specs.Prelude.{◌≡◌, codes}
 use Rattle.serde_json.specs.Data.{Data}
 use Rattle.cell_json.specs.declared.description.Sending.{Sending}
 use Rattle.cell_json.specs.declared.description.Numbers.{Numbers}
-use Rattle.cell_json.specs.Description.{number_at, gain_at}
+use Rattle.cell_json.specs.Description.{number_at}
 
 -- they are those of a JSON value: what is sent of the cell,
 pub record HasSending (d : Sending) (json : Data) : Type 0 where
   pub sfn : d.sfn ≡ number_at (codes "sfn") json
   pub offset : d.offset ≡ number_at (codes "offset") json
   pub samples : d.samples ≡ number_at (codes "samples") json
-  pub gain : d.gain ≡ gain_at json
 
 -- and the numbers of its plan
 pub record HasNumbers (d : Numbers) (json : Data) : Type 0 where

@@ -3,7 +3,8 @@
 ghost use Rattle.std.specs.Prelude.{◌≡◌, IsTrue, IsFalse, MatchOption, codes, length};
 ghost use Rattle.serde_json.specs.View.{view};
 ghost use Rattle.cell_json.specs.Kinds.{at_key, has, has_all, object_of};
-ghost use Rattle.cell_json.specs.Description.{pair_of, duration_of, duration_at, resource_of, resource_at, sib1_keys, sending_keys, number_keys, carrier_keys, keys, has_form, other_gain};
+ghost use Rattle.cell_json.specs.Description.{pair_of, duration_of, duration_at, resource_of, resource_at, sib1_keys};
+ghost use Rattle.cell_json.specs.Description.{sending_keys, number_keys, gain_keys, keys, has_form, gains_at};
 ghost use Rattle.cell_json.specs.Parts.{HasSending, HasNumbers};
 
 use crate::form::is_sib1;
@@ -18,7 +19,6 @@ pub(crate) struct Sending {
     pub sfn: i64,
     pub offset: i64,
     pub samples: i64,
-    pub gain: Cpx,
 }
 
 /// The numbers of the cell's plan, not yet checked.
@@ -42,14 +42,14 @@ pub(crate) struct Description<'a> {
     pub numbers: Numbers,
     pub duration: Duration,
     pub resource: Resource,
-    /// The gain of a second antenna port; 0 where the carrier has none.
-    pub other: Cpx,
+    /// The gains of four antenna ports; 0 for a port which the carrier has not.
+    pub gains: [Cpx; 4],
     pub ghost has_form: { IsTrue (has_form carrier (view value.now)) },
     pub ghost has_sending: { HasSending sending (view value.now) },
     pub ghost has_numbers: { HasNumbers numbers (view value.now) },
     pub ghost has_duration: { duration ≡ duration_at (view value.now) },
     pub ghost has_resource: { resource ≡ resource_at (view value.now) },
-    pub ghost has_other: { other ≡ other_gain carrier (view value.now) },
+    pub ghost has_gains: { gains ≡ gains_at carrier (view value.now) },
 }
 
 // The value, as a list of exactly two whole numbers, the real part first.
@@ -97,7 +97,6 @@ fn sending_of(value: &Value) -> Option<Sending>
         sfn: whole(value, "sfn")?,
         offset: whole(value, "offset")?,
         samples: whole(value, "samples")?,
-        gain: pair(value, "gain")?,
     })
 }
 
@@ -136,18 +135,26 @@ fn key_count(carrier: Carrier) -> usize
     match carrier {
         Carrier::OnePort | Carrier::LongPrefix => 14,
         Carrier::TwoPorts => 15,
+        Carrier::FourPorts => 17,
     }
 }
 
-// The gain of a second antenna port, where the carrier has one; 0 where it has none.
-fn other_of(carrier: Carrier, value: &Value) -> Option<Cpx>
-    ensures { MatchOption result (IsFalse (has_all (carrier_keys carrier) (view value.now)))
-        (λ gain. IsTrue (has_all (carrier_keys carrier) (view value.now))
-        × (gain ≡ other_gain carrier (view value.now))) }
+// The gains of the carrier's antenna ports, and 0 for each further port of four.
+fn gains_of(carrier: Carrier, value: &Value) -> Option<[Cpx; 4]>
+    ensures { MatchOption result (IsFalse (has_all (gain_keys carrier) (view value.now)))
+        (λ gains. IsTrue (has_all (gain_keys carrier) (view value.now))
+        × (gains ≡ gains_at carrier (view value.now))) }
 {
+    let first = pair(value, "gain")?;
     match carrier {
-        Carrier::OnePort | Carrier::LongPrefix => Some(Cpx::ZERO),
-        Carrier::TwoPorts => pair(value, "gain2"),
+        Carrier::OnePort | Carrier::LongPrefix => Some([first, Cpx::ZERO, Cpx::ZERO, Cpx::ZERO]),
+        Carrier::TwoPorts => Some([first, pair(value, "gain2")?, Cpx::ZERO, Cpx::ZERO]),
+        Carrier::FourPorts => Some([
+            first,
+            pair(value, "gain2")?,
+            pair(value, "gain3")?,
+            pair(value, "gain4")?,
+        ]),
     }
 }
 
@@ -167,6 +174,6 @@ pub(crate) fn description_of(carrier: Carrier, value: &Value) -> Option<Descript
         numbers: numbers_of(value)?,
         duration: duration(value, "duration")?,
         resource: resource(value, "resource")?,
-        other: other_of(carrier, value)?,
+        gains: gains_of(carrier, value)?,
     })
 }

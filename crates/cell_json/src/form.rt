@@ -4,7 +4,8 @@ ghost use Rattle.std.specs.Prelude.{◌≡◌, codes, is_some, Bool};
 ghost use Rattle.serde_json.specs.Find.{as_str, as_bool};
 ghost use Rattle.serde_json.specs.View.{view};
 ghost use Rattle.cell_json.specs.Kinds.{whole_of, null_or, list_of, has, has_all, has_exactly, object_of};
-ghost use Rattle.cell_json.specs.Description.{network_keys, message_keys, access_keys, selection_keys, schedule_keys, sib1_keys};
+ghost use Rattle.cell_json.specs.Description.{network_keys, message_keys, access_keys, selection_keys};
+ghost use Rattle.cell_json.specs.Description.{schedule_keys, sib1_keys};
 
 use crate::kinds::{count_keys, truth, whole};
 use serde_json::Value;

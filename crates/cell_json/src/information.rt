@@ -2,8 +2,10 @@
 
 ghost use Rattle.std.specs.Prelude.{◌≡◌, ◌≤◌, ◌<◌, pos, negsuc, length};
 ghost use Rattle.serde_json.specs.View.{view, items_view};
-ghost use Rattle.cell_json.specs.Kinds.{natural_within as natural_of, whole_within as whole_of, null_or, each, list_within, at_key};
-ghost use Rattle.cell_json.specs.Information.{mcc_of, mnc_in, mnc_of as network_code_of, network_of, networks_of, period_in, window_in};
+ghost use Rattle.cell_json.specs.Kinds.{natural_within as natural_of, whole_within as whole_of, null_or, each};
+ghost use Rattle.cell_json.specs.Kinds.{list_within, at_key};
+ghost use Rattle.cell_json.specs.Information.{mcc_of, mnc_in, mnc_of as network_code_of, network_of, networks_of};
+ghost use Rattle.cell_json.specs.Information.{period_in, window_in};
 ghost use Rattle.cell_json.specs.Information.{digit_of as digit_in, two_digits as two_in, three_digits as three_in};
 ghost use Rattle.cell_json.specs.Information.{message_of as entry_of, first_has_mcc as first_of};
 ghost use Rattle.cell_json.specs.Information.{access_in as described_access, selection_in as described_selection};

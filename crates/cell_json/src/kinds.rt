@@ -4,7 +4,8 @@ ghost use Rattle.std.specs.Prelude.{◌≡◌, ℕ, ◌≤◌, ◌≤ℤ◌, pos
 ghost use Rattle.serde_json.specs.Find.{as_bool};
 ghost use Rattle.serde_json.specs.View.{view, items_view};
 ghost use Rattle.cell_json.specs.Kinds.{is_between, whole_of, null_or, at_key, key_count};
-ghost use Rattle.cell_json.specs.Kinds.{natural_within as natural_of, whole_within as small_of, items_within as items_of};
+ghost use Rattle.cell_json.specs.Kinds.{natural_within as natural_of, whole_within as small_of};
+ghost use Rattle.cell_json.specs.Kinds.{items_within as items_of};
 
 use serde_json::Value;
 

@@ -1,6 +1,6 @@
 //! Descriptions as bytes.
 
-ghost use Rattle.std.specs.Prelude.{◌≡◌, pos, IsTrue, IsFalse, IfSome, MatchOption, MatchResult, [], ◌∷◌};
+ghost use Rattle.std.specs.Prelude.{◌≡◌, ◌+◌, nat_le, pos, IsTrue, IsFalse, IfSome, MatchOption, MatchResult};
 ghost use Rattle.serde_json.specs.View.{view};
 ghost use Rattle.lte_types.specs.Ranges.{IsValid};
 ghost use Rattle.cell_json.specs.Kinds.{is_between};
@@ -24,9 +24,9 @@ const MOST: u32 = MOST_SAMPLES as u32;
 
 /// The emission that a description in JSON has the values of, by a carrier and without load, or the first failed
 /// condition in this order: `Form`, `Sfn`, `Offset`, `Samples`, `Gain`, `Sib1Range`, and those of `Cell::of`. With two
-/// antenna ports a description has one key more, the second port's gain, and both gains have to be those of a clean
-/// recording. JSON is what `serde_json` reads, so of a key that is written twice the last value stands. Want of memory
-/// may come at any bytes.
+/// antenna ports a description has one key more, the second port's gain, and with four three more; the gains of all
+/// ports have to be those of a clean recording. JSON is what `serde_json` reads, so of a key that is written twice the
+/// last value stands. Want of memory may come at any bytes.
 pub fn read_by(alloc: Global, carrier: Carrier, bytes: &[u8]) -> Result<Emission, JsonError>
     ensures { MatchResult result (DescribesBy carrier bytes.now) (IsRefusedBy carrier bytes.now) }
 {
@@ -110,23 +110,31 @@ fn information_of(value: &Value) -> Option<Sib1>
 }
 
 // Whether the gains of a carrier's antenna ports are those of clean recordings.
-fn are_gains(carrier: Carrier, first: Cpx, other: Cpx) -> bool
-    ensures { result ≡ are_gains carrier (first ∷ other ∷ []) }
+fn are_gains(carrier: Carrier, gains: &[Cpx; 4]) -> bool
+    ensures { result ≡ are_gains carrier gains.now }
 {
-    let (one, two) = (first.norm(), other.norm());
+    let (one, two) = (gains[0].norm(), gains[1].norm());
     match carrier {
         Carrier::OnePort | Carrier::LongPrefix => 1 <= one && one <= 784,
         Carrier::TwoPorts => 1 <= one && one <= 392 && two <= 392 - one,
+        Carrier::FourPorts => 1 <= one && are_together(one, two, gains[2].norm(), gains[3].norm()),
     }
 }
 
-// The gains of a carrier's antenna ports; `None` exactly where they are not those of clean recordings.
-fn gains_of(carrier: Carrier, first: Cpx, other: Cpx) -> Option<[Cpx; 2]>
-    ensures { MatchOption result (IsFalse (are_gains carrier (first ∷ other ∷ [])))
-        (λ gains. IsTrue (are_gains carrier (first ∷ other ∷ [])) × (gains ≡ first ∷ other ∷ [])) }
+// Whether four squares are together at most 196.
+fn are_together(one: u128, two: u128, three: u128, four: u128) -> bool
+    ensures { result ≡ nat_le (one + two + three + four) 196 }
 {
-    if are_gains(carrier, first, other) {
-        Some([first, other])
+    one <= 196 && two <= 196 - one && three <= 196 - one - two && four <= 196 - one - two - three
+}
+
+// The gains, where they are those of clean recordings.
+fn clean_gains(carrier: Carrier, gains: &[Cpx; 4]) -> Option<[Cpx; 4]>
+    ensures { MatchOption result (IsFalse (are_gains carrier gains.now))
+        (λ clean. IsTrue (are_gains carrier gains.now) × (clean ≡ gains.now)) }
+{
+    if are_gains(carrier, gains) {
+        Some(*gains)
     } else {
         None
     }
@@ -142,7 +150,7 @@ fn emission_of(description: &Description<'_>) -> Result<Emission, CellError>
     let sfn = sfn_of(&sending.sfn).ok_or(CellError::Sfn)?;
     let offset = within(&sending.offset, 0, 19_199).ok_or(CellError::Offset)?;
     let samples = within(&sending.samples, LEAST, MOST).ok_or(CellError::Samples)?;
-    let gains = gains_of(carrier, sending.gain, description.other).ok_or(CellError::Gain)?;
+    let gains = clean_gains(carrier, &description.gains).ok_or(CellError::Gain)?;
     let sib1 = information_of(description.value).ok_or(CellError::Sib1Range)?;
     let cell = Cell::of(carrier, plan_of(description, sib1))?;
     Ok(Emission {
