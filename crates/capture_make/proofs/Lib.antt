@@ -3,3 +3,4 @@ pub mod Plans
 pub mod Words
 pub mod Adding
 pub mod Samples
+mod Roots

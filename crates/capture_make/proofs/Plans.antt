@@ -2,7 +2,7 @@
 use Rattle.std.proofs.Common.{◌≡◌, inl, ℕ, zero, suc, ◌+◌, ◌*◌, ◌%◌, ◌≤◌, ◌<◌, false, true, List, length, None, refl, sym, subst, arith}
 use Rattle.std.specs.Prelude.{Bool, IsSomeAnd}
 use Rattle.lte_types.specs.declared.carrier.Carrier.{Carrier}
-use Rattle.lte_types.specs.declared.carrier.Carrier.TheVariants.{OnePort, TwoPorts, LongPrefix}
+use Rattle.lte_types.specs.declared.carrier.Carrier.TheVariants.{OnePort, TwoPorts, LongPrefix, FourPorts}
 use Rattle.grid_map.specs.Shared.{block_places_of}
 use Rattle.dci.specs.Sizes.{column_2}
 use Rattle.sib1.specs.Text.{text_of}
@@ -55,6 +55,7 @@ pub is_sendable_by : (carrier : Carrier) (n : ℕ) → IsSendableBy carrier (pla
 unfolding column_2
 is_sendable_by OnePort n = is_sendable n
 is_sendable_by LongPrefix n = is_sendable n
+is_sendable_by FourPorts n = is_sendable n
 is_sendable_by TwoPorts n =
     with_enough (is_resolvable (plan n) ≡ true) (coded_count (plan n) ≤ assigned_bits_of true (plan n)) (plan n) (is_sendable n)
     (whole_of_two (n % 2) (omega arith))

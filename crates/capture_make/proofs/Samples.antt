@@ -1,5 +1,5 @@
 -- The samples of a recording by number.
-use Rattle.std.proofs.Common.{◌≡◌, ℕ, ◌+◌, ◌*◌, ◌%◌, ◌<◌, ◌≤◌, List, length, None, refl, ap, sym, subst, ◌∙◌, arith, ℤ, pos, neg_ℤ, get_or, mod-lt}
+use Rattle.std.proofs.Common.{◌≡◌, ℕ, ◌+◌, ◌*◌, ◌%◌, ◌<◌, ◌≤◌, List, length, None, refl, ap, sym, subst, ◌∙◌, arith, ℤ, pos, neg_ℤ, ◌-ℤ◌, get_or, mod-lt}
 use Rattle.std.specs.Prelude.{nat_abs, All}
 use Rattle.std.proofs.lemmas.Int.{ints}
 use Rattle.std.proofs.lemmas.Nat.{mul-le}
@@ -10,16 +10,17 @@ use Rattle.cs_num.specs.declared.Sample.{Sample}
 use Rattle.cs_num.specs.Complex.{IsWithin, plus, square, silence, sample_at, value_of, sample_of}
 use Rattle.cs_num.specs.Gain.{IsGain}
 use Rattle.lte_types.specs.declared.carrier.Carrier.{Carrier}
-use Rattle.lte_types.specs.declared.carrier.Carrier.TheVariants.{OnePort, TwoPorts, LongPrefix}
+use Rattle.lte_types.specs.declared.carrier.Carrier.TheVariants.{OnePort, TwoPorts, LongPrefix, FourPorts}
 use Rattle.sample_file.specs.Recording.{IsRecording}
+use Rattle.cell_tx.specs.declared.antenna.PortOfFour.TheVariants.{Zero, One, Two, Three}
 use Rattle.cell_tx.specs.declared.emission.Emission.{Emission}
-use Rattle.cell_tx.specs.Clean.{IsClean, AreGains, AreGainsOf}
+use Rattle.cell_tx.specs.Clean.{IsClean, AreGains, AreGainsOfFour, HavePairs, AreGainsOf, ArePairedBy}
 use Rattle.cell_tx.specs.Emission.{received_by, emitted, emitted_samples}
 use Rattle.cell_tx.specs.Laws.{values_with, EmittedIsClean}
 use Rattle.cell_tx.proofs.Received.{received_by-small}
 use Rattle.capture_make.specs.declared.made.Made.{Made}
 use Rattle.capture_make.specs.declared.made.MadeBy.{MadeBy}
-use Rattle.capture_make.specs.Recipe.{plan, number, offset, sample_count, gain, first_gain, second_gain, gains, IsBound}
+use Rattle.capture_make.specs.Recipe.{plan, number, offset, sample_count, gain, first_gain, second_gain, gain_of_four, gains, IsBound}
 use Rattle.capture_make.specs.Errors.{drawn, error, word}
 use Rattle.capture_make.specs.Made.{samples_by, samples, IsMadeBy, IsCleanNumber, IsMade, IsCleanlyMade}
 
@@ -56,10 +57,55 @@ both_fit n =
     let least = mul-le 1 1 (1 + n % 9) (1 + n % 9) (omega arith) (omega arith) in
     record { least = omega (arith, first, least); most = omega (arith, first, second, a, b, c, d) }
 
+-- the squares of the sizes of four
+pub record AreNearOneAnother (n : ℕ) : Type 0 where
+  pub first : (16 ≤ square (gain_of_four Zero n)) × (square (gain_of_four Zero n) ≤ 25)
+  pub second : (16 ≤ square (gain_of_four One n)) × (square (gain_of_four One n) ≤ 20)
+  pub third : (9 ≤ square (gain_of_four Two n)) × (square (gain_of_four Two n) ≤ 13)
+  pub fourth : (16 ≤ square (gain_of_four Three n)) × (square (gain_of_four Three n) ≤ 17)
+
+-- a number below twice another one and one more is off from it by no more
+off_by : (x m : ℕ) → x < 2 * m + 1 → nat_abs (pos x -ℤ pos m) ≤ m
+off_by x m below = omega (arith, ints, below)
+
+pub near_one_another : (n : ℕ) → AreNearOneAnother n
+near_one_another n =
+    let a = one-square (nat_abs (pos (n % 7) -ℤ pos 3)) 3 (off_by (n % 7) 3 (omega arith)) in
+    let b = one-square (nat_abs (pos (n % 5) -ℤ pos 2)) 2 (off_by (n % 5) 2 (omega arith)) in
+    let d = one-square (nat_abs (pos (n % 4) -ℤ pos 2)) 2 (off_by (n % 4) 2 (omega arith)) in
+    let e = one-square (nat_abs (pos (n % 3) -ℤ pos 1)) 1 (off_by (n % 3) 1 (omega arith)) in
+    record {
+      first = (omega arith, omega (arith, a));
+      second = (omega arith, omega (arith, b));
+      third = (omega arith, omega (arith, d));
+      fourth = (omega arith, omega (arith, e));
+    }
+
+four_fit : (n : ℕ) → AreGainsOfFour (gains FourPorts n)
+four_fit n =
+    let s = near_one_another n in
+    record { least = omega (arith, s.first.0); most = omega (arith, s.first.1, s.second.1, s.third.1, s.fourth.1) }
+
+pub four_paired : (n : ℕ) → HavePairs (gains FourPorts n)
+four_paired n =
+    let s = near_one_another n in
+    record {
+      even = omega (arith, s.first.0, s.third.0, s.second.1, s.fourth.1);
+      odd = omega (arith, s.second.0, s.fourth.0, s.first.1, s.third.1);
+    }
+
 pub are_gains : (carrier : Carrier) (n : ℕ) → AreGainsOf carrier (gains carrier n)
 are_gains OnePort n = gain_fits n
 are_gains TwoPorts n = both_fit n
 are_gains LongPrefix n = gain_fits n
+are_gains FourPorts n = four_fit n
+
+-- and no pair of four is weak
+pub are_paired : (carrier : Carrier) (n : ℕ) → ArePairedBy carrier (gains carrier n)
+are_paired OnePort n = tt
+are_paired TwoPorts n = tt
+are_paired LongPrefix n = tt
+are_paired FourPorts n = four_paired n
 
 -- ---- what is sent, with errors
 

@@ -51,4 +51,5 @@ pub record IsMade (n : ℕ) (made : Made) : Type 0 where
 -- the recording is a clean one of what was sent, with errors within the bound
 abbrev pub IsCleanlyMade : Made → Type 0
 IsCleanlyMade made =
-    IsClean made.recording made.sent.cell made.sent.timing.sfn made.sent.timing.offset made.sent.gain (nat_abs made.bound)
+    IsClean made.recording made.sent.cell made.sent.timing.sfn made.sent.timing.offset made.sent.gain
+    (nat_abs made.bound)

@@ -1,16 +1,19 @@
 -- The recipe of recording number n: which cell is sent, and how. (own)
-use Rattle.std.specs.Prelude.{ℕ, ◌+◌, ◌*◌, ◌%◌, ◌^◌, pos, ℤ, neg_ℤ, ◌-ℤ◌, ◌≤ℤ◌, nat_abs, true, false, List, [], ◌∷◌, Some, None}
+use Rattle.std.specs.Prelude.{ℕ, ◌+◌, ◌*◌, ◌%◌, ◌^◌, pos, ℤ, neg_ℤ, ◌-ℤ◌, ◌≤ℤ◌, nat_abs, true, false, List, [], ◌∷◌}
+use Rattle.std.specs.Prelude.{Some, None}
 use Rattle.cs_num.specs.declared.Cpx.{Cpx}
 use Rattle.cs_num.specs.Complex.{nothing}
 use Rattle.lte_types.specs.declared.carrier.Carrier.{Carrier}
-use Rattle.lte_types.specs.declared.carrier.Carrier.TheVariants.{OnePort, TwoPorts, LongPrefix}
+use Rattle.lte_types.specs.declared.carrier.Carrier.TheVariants.{OnePort, TwoPorts, LongPrefix, FourPorts}
 use Rattle.lte_types.specs.Codes.{duration, period, resource, window}
 use Rattle.lte_types.specs.Numerology.{frame_length}
-use Rattle.lte_types.specs.declared.mnc.Mnc.TheVariants.{Two}
+use Rattle.lte_types.specs.declared.mnc.Mnc.TheVariants.{Two as TwoDigits}
 use Rattle.lte_types.specs.declared.period.Period.{Period}
 use Rattle.lte_types.specs.declared.plmn.Plmn.{Plmn}
 use Rattle.lte_types.specs.declared.si_message.SiMessage.{SiMessage}
 use Rattle.lte_types.specs.declared.sib1.Sib1.{Sib1}
+use Rattle.cell_tx.specs.declared.antenna.PortOfFour.{PortOfFour}
+use Rattle.cell_tx.specs.declared.antenna.PortOfFour.TheVariants.{Zero, One, Two, Three}
 use Rattle.cell_tx.specs.declared.cell.CellPlan.{CellPlan}
 use Rattle.cell_tx.specs.Clean.{IsAllowedBy}
 
@@ -18,7 +21,7 @@ use Rattle.cell_tx.specs.Clean.{IsAllowedBy}
 
 -- the network 001/01
 abbrev pub network : Plmn
-network = record { mcc = Some (0 ∷ 0 ∷ 1 ∷ []); mnc = Two (0 ∷ 1 ∷ []); reserved = false }
+network = record { mcc = Some (0 ∷ 0 ∷ 1 ∷ []); mnc = TwoDigits (0 ∷ 1 ∷ []); reserved = false }
 
 -- an entry of the schedule, with its period and the codes of its blocks
 abbrev pub message : Period → List ℕ → SiMessage
@@ -85,10 +88,19 @@ first_gain n = record { re = pos (1 + n % 9); im = pos (n % 10) }
 abbrev pub second_gain : ℕ → Cpx
 second_gain n = record { re = pos (n % 11); im = neg_ℤ (pos (n % 8)) }
 
+-- and those of four, of sizes near one another, each about its own quarter of a turn
+abbrev pub gain_of_four : PortOfFour → ℕ → Cpx
+gain_of_four Zero n = record { re = pos 4; im = pos (n % 7) -ℤ pos 3 }
+gain_of_four One n = record { re = pos (n % 5) -ℤ pos 2; im = pos 4 }
+gain_of_four Two n = record { re = neg_ℤ (pos 3); im = pos (n % 4) -ℤ pos 2 }
+gain_of_four Three n = record { re = pos (n % 3) -ℤ pos 1; im = neg_ℤ (pos 4) }
+
+-- those of a carrier's ports, and 0 for each further one of four
 abbrev pub gains : Carrier → ℕ → List Cpx
-gains OnePort n = gain n ∷ nothing ∷ []
-gains TwoPorts n = first_gain n ∷ second_gain n ∷ []
-gains LongPrefix n = gain n ∷ nothing ∷ []
+gains OnePort n = gain n ∷ nothing ∷ nothing ∷ nothing ∷ []
+gains TwoPorts n = first_gain n ∷ second_gain n ∷ nothing ∷ nothing ∷ []
+gains LongPrefix n = gain n ∷ nothing ∷ nothing ∷ nothing ∷ []
+gains FourPorts n = gain_of_four Zero n ∷ gain_of_four One n ∷ gain_of_four Two n ∷ gain_of_four Three n ∷ []
 
 -- the bound of the errors: the greatest that a clean recording with these gains allows
 pub record IsBoundBy (carrier : Carrier) (gains : List Cpx) (bound : ℤ) : Type 0 where

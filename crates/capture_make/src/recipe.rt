@@ -1,13 +1,17 @@
 //! What is sent for a number.
 
 ghost use Rattle.std.specs.Prelude.{◌≡◌, ◌⊎◌, ◌≤◌, ◌%◌, [], ◌∷◌, pos, length, None};
-ghost use Rattle.lte_types.specs.declared.carrier.Carrier.TheVariants.{OnePort, TwoPorts};
-ghost use Rattle.lte_types.specs.Codes.{duration as duration_with, period as period_with, resource as resource_with, window as window_with};
+ghost use Rattle.lte_types.specs.declared.carrier.Carrier.TheVariants.{OnePort, TwoPorts, FourPorts};
+ghost use Rattle.cs_num.specs.Complex.{square};
+ghost use Rattle.lte_types.specs.Codes.{duration as duration_with, period as period_with};
+ghost use Rattle.lte_types.specs.Codes.{resource as resource_with, window as window_with};
 ghost use Rattle.cell_tx.specs.Clean.{IsCount};
 ghost use Rattle.cell_tx.specs.Plan.{refusal_of};
-ghost use Rattle.capture_make.specs.Recipe.{network, message as message_of, information as information_of, plan as plan_of, number, offset, sample_count, gain as gain_with, first_gain, second_gain, gains as gains_of, IsBound};
+ghost use Rattle.capture_make.specs.Recipe.{network, message as message_of, information as information_of};
+ghost use Rattle.capture_make.specs.Recipe.{plan as plan_of, number, offset, sample_count, gain as gain_with};
+ghost use Rattle.capture_make.specs.Recipe.{first_gain, second_gain, gain_of_four, gains as gains_of, IsBound};
 
-use cell_tx::{Cell, CellPlan, Emission};
+use cell_tx::{Cell, CellPlan, Emission, PortOfFour};
 use cs_num::{Cpx, Gain};
 use lte_types::{
     Carrier, Duration, Mnc, Period, Plmn, Plmns, Resource, Schedule, Sfn, SiMessage, Sib1, Sibs,
@@ -175,14 +179,44 @@ fn second_gain(n: u32) -> Cpx
     }
 }
 
+// The gain of a port of four.
+fn gain_of_four(port: PortOfFour, n: u32) -> Cpx
+    ensures { result ≡ gain_of_four port n }
+{
+    match port {
+        PortOfFour::Zero => Cpx {
+            re: 4,
+            im: (n % 7) as i64 - 3,
+        },
+        PortOfFour::One => Cpx {
+            re: (n % 5) as i64 - 2,
+            im: 4,
+        },
+        PortOfFour::Two => Cpx {
+            re: -3,
+            im: (n % 4) as i64 - 2,
+        },
+        PortOfFour::Three => Cpx {
+            re: (n % 3) as i64 - 1,
+            im: -4,
+        },
+    }
+}
+
 /// The gains of the antenna ports of a carrier for recording number `n`; that of a port which it has not is 0.
-pub fn gains(carrier: Carrier, n: u32) -> [Cpx; 2]
+pub fn gains(carrier: Carrier, n: u32) -> [Cpx; 4]
     ensures { result ≡ gains_of carrier n }
 {
     match carrier {
-        Carrier::OnePort => [gain(n).value(), Cpx::ZERO],
-        Carrier::TwoPorts => [first_gain(n), second_gain(n)],
-        Carrier::LongPrefix => [gain(n).value(), Cpx::ZERO],
+        Carrier::OnePort => [gain(n).value(), Cpx::ZERO, Cpx::ZERO, Cpx::ZERO],
+        Carrier::TwoPorts => [first_gain(n), second_gain(n), Cpx::ZERO, Cpx::ZERO],
+        Carrier::LongPrefix => [gain(n).value(), Cpx::ZERO, Cpx::ZERO, Cpx::ZERO],
+        Carrier::FourPorts => [
+            gain_of_four(PortOfFour::Zero, n),
+            gain_of_four(PortOfFour::One, n),
+            gain_of_four(PortOfFour::Two, n),
+            gain_of_four(PortOfFour::Three, n),
+        ],
     }
 }
 
@@ -256,6 +290,27 @@ fn bound_of_two(n: u32) -> u16
     least(both / 4, 4 * first).isqrt() as u16
 }
 
+// The square of the size of the gain of a port of four.
+fn square_of_four(port: PortOfFour, n: u32) -> u32
+    ensures value { result ≡ square (gain_of_four port n) }
+    ensures small { result ≤ 25 }
+{
+    gain_of_four(port, n).norm() as u32
+}
+
+// That with four: the greatest whole number whose square is at most a 64th of the sum of the squares of all gains'
+// sizes, and at most four times that of the first.
+fn bound_of_four(n: u32) -> u16
+    ensures bound { IsBound FourPorts n (pos result) }
+    ensures small { result ≤ 56 }
+{
+    let first = square_of_four(PortOfFour::Zero, n);
+    let second = square_of_four(PortOfFour::One, n);
+    let third = square_of_four(PortOfFour::Two, n);
+    let fourth = square_of_four(PortOfFour::Three, n);
+    least((first + second + third + fourth) / 64, 4 * first).isqrt() as u16
+}
+
 /// The bound of the errors: the greatest that a clean recording with the gains of the number allows.
 pub(crate) fn bound(carrier: Carrier, n: u32) -> u16
     ensures bound { IsBound carrier n (pos result) }
@@ -265,5 +320,6 @@ pub(crate) fn bound(carrier: Carrier, n: u32) -> u16
         Carrier::OnePort => bound_of_one(n),
         Carrier::TwoPorts => bound_of_two(n),
         Carrier::LongPrefix => bound_of_one(n),
+        Carrier::FourPorts => bound_of_four(n),
     }
 }

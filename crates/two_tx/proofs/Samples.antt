@@ -5,7 +5,7 @@ use Rattle.cs_num.specs.declared.Cpx.{Cpx}
 use Rattle.cs_num.specs.Complex.{value_at}
 use Rattle.lte_types.specs.declared.carrier.Carrier.TheVariants.{TwoPorts}
 use Rattle.cell_tx.specs.Clean.{IsCleanOfPorts}
-use Rattle.capture_make.specs.Recipe.{plan, number, offset, gains}
+use Rattle.capture_make.specs.Recipe.{plan, number, offset, first_gain, second_gain}
 use Rattle.capture_make.specs.Made.{samples_by}
 use Rattle.capture_make.proofs.Samples.{NumbersAreClean, one_of_number}
 use Rattle.two_tx.specs.declared.made.TwoMade.{TwoMade}
@@ -16,16 +16,15 @@ pub is_clean : NumbersAreClean → (n : ℕ) (made : TwoMade) → IsMade n made 
 is_clean law n made m =
     let eps = nat_abs made.bound in
     let clean = law TwoPorts n made.bound m.bound in
-    let part : List Cpx → ℕ → Cpx = value_at in
-    let whole : IsCleanOfPorts (samples_by TwoPorts n eps) (plan n) (number n) (offset n) (part (gains TwoPorts n) 0) (part (gains TwoPorts n) 1) eps = record {
+    let whole : IsCleanOfPorts (samples_by TwoPorts n eps) (plan n) (number n) (offset n) (first_gain n) (second_gain n) eps = record {
       number = clean.number;
       samples = record { within = clean.within; gains = clean.gains_are; bound = clean.bound; near = clean.near };
     } in
     subst (λ (l : List Cpx). IsCleanOfPorts made.recording made.plan made.timing.sfn made.timing.offset (value_at l 0) (value_at l 1) eps) (sym m.gains_are)
-    (subst (λ l. IsCleanOfPorts l made.plan made.timing.sfn made.timing.offset (part (gains TwoPorts n) 0) (part (gains TwoPorts n) 1) eps) (sym m.samples_are)
-    (subst (λ p. IsCleanOfPorts (samples_by TwoPorts n eps) p made.timing.sfn made.timing.offset (part (gains TwoPorts n) 0) (part (gains TwoPorts n) 1) eps) (sym m.plan_is)
-    (subst (λ s. IsCleanOfPorts (samples_by TwoPorts n eps) (plan n) s made.timing.offset (part (gains TwoPorts n) 0) (part (gains TwoPorts n) 1) eps) (sym m.number_is)
-    (subst (λ o. IsCleanOfPorts (samples_by TwoPorts n eps) (plan n) (number n) o (part (gains TwoPorts n) 0) (part (gains TwoPorts n) 1) eps) (sym m.offset_is) whole))))
+    (subst (λ l. IsCleanOfPorts l made.plan made.timing.sfn made.timing.offset (first_gain n) (second_gain n) eps) (sym m.samples_are)
+    (subst (λ p. IsCleanOfPorts (samples_by TwoPorts n eps) p made.timing.sfn made.timing.offset (first_gain n) (second_gain n) eps) (sym m.plan_is)
+    (subst (λ s. IsCleanOfPorts (samples_by TwoPorts n eps) (plan n) s made.timing.offset (first_gain n) (second_gain n) eps) (sym m.number_is)
+    (subst (λ o. IsCleanOfPorts (samples_by TwoPorts n eps) (plan n) (number n) o (first_gain n) (second_gain n) eps) (sym m.offset_is) whole))))
 
 -- a number has one recording
 pub one_recording : (n : ℕ) (a b : TwoMade) → IsMade n a → IsMade n b → a.recording ≡ b.recording

@@ -1,10 +1,10 @@
 -- Recording number n with two antenna ports: the case of two ports of the recipe of any carrier. (own)
-use Rattle.std.specs.Prelude.{◌≡◌, ℕ, nat_abs}
+use Rattle.std.specs.Prelude.{◌≡◌, ℕ, nat_abs, [], ◌∷◌}
 use Rattle.cs_num.specs.declared.Cpx.{Cpx}
 use Rattle.cs_num.specs.Complex.{value_at}
 use Rattle.lte_types.specs.declared.carrier.Carrier.TheVariants.{TwoPorts}
 use Rattle.cell_tx.specs.Clean.{IsCleanOfPorts}
-use Rattle.capture_make.specs.Recipe.{plan, number, offset, gains, IsBound}
+use Rattle.capture_make.specs.Recipe.{plan, number, offset, first_gain, second_gain, IsBound}
 use Rattle.capture_make.specs.Made.{samples_by}
 use Rattle.two_tx.specs.declared.made.TwoMade.{TwoMade}
 
@@ -13,7 +13,7 @@ pub record IsMade (n : ℕ) (made : TwoMade) : Type 0 where
   pub plan_is : made.plan ≡ plan n
   pub number_is : made.timing.sfn ≡ number n
   pub offset_is : made.timing.offset ≡ offset n
-  pub gains_are : made.gains ≡ gains TwoPorts n
+  pub gains_are : made.gains ≡ first_gain n ∷ second_gain n ∷ []
   pub bound : IsBound TwoPorts n made.bound
   pub samples_are : made.recording ≡ samples_by TwoPorts n (nat_abs made.bound)
 
@@ -24,4 +24,5 @@ gain_at made port = value_at made.gains port
 -- the recording is a clean one of what was sent, with these gains and with errors within the bound
 abbrev pub IsCleanlyMade : TwoMade → Type 0
 IsCleanlyMade made =
-    IsCleanOfPorts made.recording made.plan made.timing.sfn made.timing.offset (gain_at made 0) (gain_at made 1) (nat_abs made.bound)
+    IsCleanOfPorts made.recording made.plan made.timing.sfn made.timing.offset (gain_at made 0) (gain_at made 1)
+    (nat_abs made.bound)

@@ -38,10 +38,11 @@ fn of_two_ports(n: u32, made: MadeBy) -> TwoMade
     ensures made { IsMade n result }
     ensures valid { IsRecording result.recording }
 {
+    let gains = gains(Carrier::TwoPorts, n);
     TwoMade {
         plan: plan(n),
         timing: timing(n),
-        gains: gains(Carrier::TwoPorts, n),
+        gains: [gains[0], gains[1]],
         bound: made.bound,
         recording: made.recording,
     }
