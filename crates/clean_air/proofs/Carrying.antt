@@ -14,10 +14,10 @@ use Rattle.grid_map.specs.Place.{place, index_in}
 use Rattle.grid_map.specs.Control.{pcfich_places}
 use Rattle.grid_map.specs.Laws.{IsIndexed}
 use Rattle.cell_tx.specs.declared.antenna.Port.{Port}
-use Rattle.cell_tx.specs.declared.antenna.Port.TheVariants.{Only, First, Second, Long}
+use Rattle.cell_tx.specs.declared.antenna.Port.TheVariants.{Only, First, Second, Long, OfFour}
 use Rattle.cell_tx.specs.declared.cell.CellPlan.{CellPlan}
 use Rattle.cell_tx.specs.Plan.{IsSendableWith}
-use Rattle.cell_tx.specs.Ports.{port_symbols, has_control, is_two, sent_point, is_own_reference, is_other_reference}
+use Rattle.cell_tx.specs.Ports.{port_symbols, port_slot, has_control, is_two, sent_point, is_own_reference, is_other_reference}
 use Rattle.cell_tx.specs.Control.{control_places, indicator_point, control_point}
 use Rattle.cell_tx.specs.Shared.{assigned_places, shared_point}
 use Rattle.cell_tx.specs.Grid.{is_one_of, has_system_information, has_broadcast, is_indicator, is_control, is_shared, port_channel_value, port_element}
@@ -70,6 +70,8 @@ primary_taken Second plan Zero sfn k = refl
 primary_taken Second plan Five sfn k = refl
 primary_taken Long plan Zero sfn k = refl
 primary_taken Long plan Five sfn k = refl
+primary_taken (OfFour own) plan Zero sfn k = refl
+primary_taken (OfFour own) plan Five sfn k = refl
 
 secondary_taken : (port : Port) (plan : CellPlan) (half : Half) (sfn k : ℕ) → is_taken port plan sfn (subframe_of half) (port_symbols port - 2) k ≡ true
 unfolding is_taken
@@ -81,29 +83,31 @@ secondary_taken Second plan Zero sfn k = refl
 secondary_taken Second plan Five sfn k = refl
 secondary_taken Long plan Zero sfn k = refl
 secondary_taken Long plan Five sfn k = refl
+secondary_taken (OfFour own) plan Zero sfn k = refl
+secondary_taken (OfFour own) plan Five sfn k = refl
 
 -- what the elements are there
 module _ (port : Port) (plan : CellPlan) (grid : Elements) (carries : CarriesPlan port plan grid) where
-  pub of_own_reference : (sfn subframe symbol k : ℕ) → is_own_reference port plan.identity (symbol % port_symbols port) k ≡ true → grid sfn subframe symbol k ≡ port_element port plan sfn subframe symbol k
+  pub of_own_reference : (sfn subframe symbol k : ℕ) → is_own_reference port plan.identity (port_slot port subframe symbol) (symbol % port_symbols port) k ≡ true → grid sfn subframe symbol k ≡ port_element port plan sfn subframe symbol k
   unfolding is_taken
   of_own_reference sfn subframe symbol k e = carries.taken sfn subframe symbol k here
     where
       here : is_taken port plan sfn subframe symbol k ≡ true
-      here = or_right (is_signal_symbol port subframe symbol) _ (or_left (is_any_reference port plan symbol k) _ (or_left _ _ e))
+      here = or_right (is_signal_symbol port subframe symbol) _ (or_left (is_any_reference port plan subframe symbol k) _ (or_left _ _ e))
 
-  pub of_other_reference : (sfn subframe symbol k : ℕ) → is_other_reference port plan.identity (symbol % port_symbols port) k ≡ true → grid sfn subframe symbol k ≡ port_element port plan sfn subframe symbol k
+  pub of_other_reference : (sfn subframe symbol k : ℕ) → is_other_reference port plan.identity (port_slot port subframe symbol) (symbol % port_symbols port) k ≡ true → grid sfn subframe symbol k ≡ port_element port plan sfn subframe symbol k
   unfolding is_taken
   of_other_reference sfn subframe symbol k e = carries.taken sfn subframe symbol k here
     where
       here : is_taken port plan sfn subframe symbol k ≡ true
-      here = or_right (is_signal_symbol port subframe symbol) _ (or_left (is_any_reference port plan symbol k) _ (or_right (is_own_reference port plan.identity (symbol % port_symbols port) k) _ e))
+      here = or_right (is_signal_symbol port subframe symbol) _ (or_left (is_any_reference port plan subframe symbol k) _ (or_right (is_own_reference port plan.identity (port_slot port subframe symbol) (symbol % port_symbols port) k) _ e))
 
   of_channel : (sfn subframe symbol k : ℕ) → has_channel port plan sfn subframe symbol k ≡ true → grid sfn subframe symbol k ≡ port_element port plan sfn subframe symbol k
   unfolding is_taken
   of_channel sfn subframe symbol k e = carries.taken sfn subframe symbol k here
     where
       here : is_taken port plan sfn subframe symbol k ≡ true
-      here = or_right (is_signal_symbol port subframe symbol) _ (or_right (is_any_reference port plan symbol k) _ e)
+      here = or_right (is_signal_symbol port subframe symbol) _ (or_right (is_any_reference port plan subframe symbol k) _ e)
 
   pub of_broadcast : (sfn subframe symbol k : ℕ) → has_broadcast port plan.identity subframe symbol k ≡ true → grid sfn subframe symbol k ≡ port_element port plan sfn subframe symbol k
   of_broadcast sfn subframe symbol k e = of_channel sfn subframe symbol k (or_left (has_broadcast port plan.identity subframe symbol k) _ e)
@@ -168,8 +172,8 @@ pub open_is_silent : (port : Port) (plan : CellPlan) (sfn subframe symbol k : �
 unfolding is_taken port_element port_channel_value
 open_is_silent port plan sfn subframe symbol k e none =
     let signals = or_parts (is_signal_symbol port subframe symbol) _ e in
-    let references = or_parts (is_any_reference port plan symbol k) _ signals.1 in
-    let reference = or_parts (is_own_reference port plan.identity (symbol % port_symbols port) k) _ references.0 in
+    let references = or_parts (is_any_reference port plan subframe symbol k) _ signals.1 in
+    let reference = or_parts (is_own_reference port plan.identity (port_slot port subframe symbol) (symbol % port_symbols port) k) _ references.0 in
     let channels = or_parts (has_broadcast port plan.identity subframe symbol k) _ references.1 in
     let signal = no_signal (nat_eq subframe 0 || nat_eq subframe 5) (nat_eq symbol (port_symbols port - 2)) (nat_eq symbol (port_symbols port - 1)) (is_middle k) signals.0 in
     rw (reference.0, reference.1, signal.0, signal.1, channels.0)

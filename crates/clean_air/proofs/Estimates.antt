@@ -1,10 +1,7 @@
--- The channel estimate of a clean slot: a multiple of the gain, up to a deviation.
-use Rattle.std.proofs.Common.{◌≡◌, ℕ, ◌+◌, ◌*◌, ◌/◌, ◌%◌, ◌<◌, ◌≤◌, arith, refl, ap, ap₂, ◌∙◌, subst}
+-- The channel estimate of a slot: a multiple of the gain, up to a deviation.
+use Rattle.std.proofs.Common.{◌≡◌, ℕ, ◌+◌, ◌*◌, ◌/◌, ◌%◌, ◌<◌, ◌≤◌, arith, refl, ap₂}
 use Rattle.cs_num.specs.declared.Cpx.{Cpx}
-use Rattle.cs_num.specs.Complex.{plus, times, conjugate, square, multiple}
-use Rattle.sizes.specs.Sizes.{IsSized}
-use Rattle.sizes.proofs.Squares.{square-conjugate}
-use Rattle.sizes.proofs.Sized.{sized_plain, sized-times}
+use Rattle.cs_num.specs.Complex.{square}
 use Rattle.crs.specs.Qpsk.{IsPoint}
 use Rattle.crs.specs.declared.pattern.Pattern.{Pattern}
 use Rattle.crs.proofs.Values.{pattern_reference-IsPoint}
@@ -12,7 +9,8 @@ use Rattle.soft_bits.specs.Soft.{SeenSlot, pilot_subcarrier, pattern_symbol, pat
 use Rattle.cell_tx.proofs.Bounds.{full_size}
 use Rattle.clean_air.specs.Values.{ArePatternSeen}
 use Rattle.budget.proofs.Near.{IsNear, estimate-near}
-use Rattle.budget.proofs.Deviations.{deviation, deviation-sized, channel_is}
+use Rattle.budget.proofs.Deviations.{deviation-sized}
+use Rattle.budget.proofs.Pilots.{IsPilot, turned_pilot-near}
 
 -- ---- the pilots
 
@@ -26,36 +24,46 @@ pub sent-size : (pattern : Pattern) (identity number i : ℕ) → square (patter
 unfolding pattern_sent
 sent-size pattern identity number i = full-size _ (pattern_reference-IsPoint pattern identity number (pattern_symbol pattern identity i) (pilot_subcarrier identity i / 6))
 
-pub pilot-near : (pattern : Pattern) (gain : Cpx) (slot : SeenSlot) (i : ℕ) → i < 24 → ArePatternSeen pattern gain slot → IsNear (square gain) gain 1036800 245760 (pattern_pilot pattern slot i)
-unfolding pattern_pilot
-pilot-near pattern gain slot i l seen = record {
-  off = times (deviation gain d p) (conjugate d);
-  is = channel_is gain d p ∙ ap (λ (n : ℕ). plus (multiple (64 * n) gain) (times (deviation gain d p) (conjugate d))) size;
-  small = subst (λ (n : ℕ). IsSized 245760 n (times (deviation gain d p) (conjugate d))) (once (square gain))
-      (sized-times (deviation gain d p) (conjugate d) 1920 128 (square gain) 1 (deviation-sized gain d p (seen.pilot i l)) (sized_plain (conjugate d) 128 small_value));
-}
-  where
-    d : Cpx
-    d = pattern_sent pattern slot.identity slot.number i
-
-    p : Cpx
-    p = pattern_seen pattern slot i
-
-    size : square d ≡ 16200
-    size = sent-size pattern slot.identity slot.number i
-
-    small_value : square (conjugate d) ≤ 128 * 128
-    small_value = below (square (conjugate d)) (square-conjugate d ∙ size)
-      where
-        below : (n : ℕ) → n ≡ 16200 → n ≤ 128 * 128
-        below n e = omega (arith, e)
-
-    once : (n : ℕ) → n * 1 ≡ n
-    once n = omega arith
+-- the pilots of a port by a pattern are seen with its gain, each off by at most t times the root of n
+pub record ArePilots (t n : ℕ) (pattern : Pattern) (gain : Cpx) (slot : SeenSlot) : Type 0 where
+  pub each : (i : ℕ) → i < 24 → IsPilot t n gain (pattern_sent pattern slot.identity slot.number i) (pattern_seen pattern slot i)
 
 -- at every subcarrier the estimate is near 3 * 64 * 16200 times the gain
-pub channel-near : (pattern : Pattern) (gain : Cpx) (slot : SeenSlot) (k : ℕ) → ArePatternSeen pattern gain slot →
+pub channel-near : (t n : ℕ) (pattern : Pattern) (gain : Cpx) (slot : SeenSlot) (k : ℕ) → ArePilots t n pattern gain slot →
+    IsNear (16200 * n) gain 3110400 (3 * t) (pattern_channel pattern slot k)
+unfolding pattern_channel pattern_pilot
+channel-near t n pattern gain slot k pilots =
+    estimate-near (16200 * n) gain 1036800 t (pattern_pilot pattern slot)
+    (λ i l. turned_pilot-near t n gain (pattern_sent pattern slot.identity slot.number i) (pattern_seen pattern slot i) (pilots.each i l)) (slot.identity % 3) k
+
+-- ---- with one gain alone
+
+pub clean_pilots : (pattern : Pattern) (gain : Cpx) (slot : SeenSlot) → ArePatternSeen pattern gain slot → ArePilots 1920 (square gain) pattern gain slot
+clean_pilots pattern gain slot seen = record {
+  each = λ i l. record {
+    full = sent-size pattern slot.identity slot.number i;
+    seen = deviation-sized gain (pattern_sent pattern slot.identity slot.number i) (pattern_seen pattern slot i) (seen.pilot i l);
+  };
+}
+
+-- 16200 is below the square of 128
+in_gain : (n : ℕ) (gain : Cpx) (c t : ℕ) (z : Cpx) → IsNear (16200 * n) gain c t z → IsNear n gain c (128 * t) z
+in_gain n gain c t z near = record {
+  off = near.off;
+  is = near.is;
+  small = record { sized = wider (square near.off) near.small.sized };
+}
+  where
+    wider : (s : ℕ) → s ≤ t * t * (16200 * n) → s ≤ 128 * t * (128 * t) * n
+    wider s h = omega (arith, h)
+
+pub pilot-near : (pattern : Pattern) (gain : Cpx) (slot : SeenSlot) (i : ℕ) → i < 24 → ArePatternSeen pattern gain slot → IsNear (square gain) gain 1036800 245760 (pattern_pilot pattern slot i)
+unfolding pattern_pilot
+pilot-near pattern gain slot i l seen =
+    in_gain (square gain) gain 1036800 1920 (pattern_pilot pattern slot i)
+    (turned_pilot-near 1920 (square gain) gain (pattern_sent pattern slot.identity slot.number i) (pattern_seen pattern slot i) ((clean_pilots pattern gain slot seen).each i l))
+
+pub clean_channel-near : (pattern : Pattern) (gain : Cpx) (slot : SeenSlot) (k : ℕ) → ArePatternSeen pattern gain slot →
     IsNear (square gain) gain 3110400 737280 (pattern_channel pattern slot k)
-unfolding pattern_channel
-channel-near pattern gain slot k seen =
-    estimate-near (square gain) gain 1036800 245760 (pattern_pilot pattern slot) (λ i l. pilot-near pattern gain slot i l seen) (slot.identity % 3) k
+clean_channel-near pattern gain slot k seen =
+    in_gain (square gain) gain 3110400 5760 (pattern_channel pattern slot k) (channel-near 1920 (square gain) pattern gain slot k (clean_pilots pattern gain slot seen))

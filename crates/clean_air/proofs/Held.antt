@@ -1,6 +1,6 @@
 -- A list holds each cell that a recording shows to its receiver: whose signals stand at their places, and whose first frame tells
 -- a master block of its number, and its system information.
-use Rattle.std.proofs.Common.{◌≡◌, ℕ, ◌+◌, ◌*◌, ◌/◌, ◌%◌, ◌<◌, ◌≤◌, inl, inr, arith, refl, ap, sym, subst, ◌∙◌, append-nil, Bool, List, length, Some, Ok, nat_eq, nat_le, true}
+use Rattle.std.proofs.Common.{◌≡◌, ℕ, ◌+◌, ◌*◌, ◌/◌, ◌%◌, ◌<◌, ◌≤◌, inl, inr, arith, refl, ap, sym, subst, ◌∙◌, append-nil, Bool, List, length, Ok, nat_eq, nat_le, true}
 use Rattle.std.specs.Prelude.{◌&&◌, Result}
 use Rattle.std.specs.List.{Contains}
 use Rattle.std.proofs.lemmas.Bool.{cases_lt}
@@ -8,7 +8,7 @@ use Rattle.std.proofs.lemmas.Bool.Decides.{nat_tests}
 use Rattle.cs_num.specs.declared.Sample.{Sample}
 use Rattle.lte_types.specs.declared.bandwidth.Bandwidth.TheVariants.{N6}
 use Rattle.lte_types.specs.declared.carrier.Carrier.{Carrier}
-use Rattle.lte_types.specs.declared.carrier.Carrier.TheVariants.{OnePort, TwoPorts, LongPrefix}
+use Rattle.lte_types.specs.declared.carrier.Carrier.TheVariants.{OnePort, TwoPorts, FourPorts, LongPrefix}
 use Rattle.lte_types.specs.declared.duration.Duration.{Duration}
 use Rattle.lte_types.specs.declared.resource.Resource.{Resource}
 use Rattle.lte_types.specs.declared.mib.Mib.{Mib}
@@ -92,7 +92,7 @@ number_fits sfn offset known within = let e = (first_frame sfn offset known with
 pub told_by_frames : (carrier : Carrier) (values : Subframes) (recording : List Sample) (place : Place) (number : ℕ) (mib : Mib) (fields : Sib1) → 57600 ≤ length recording →
     place.start < 19200 → mib.bandwidth ≡ N6 →
     ((j : ℕ) → IsWhole recording place.start j → (number + j) % 1024 % 2 ≡ 0 → FrameAnswers values recording place mib j (Ok fields)) →
-    IsSystemWith carrier (Some values) recording place number (ports_of carrier) mib (Ok fields)
+    IsSystemWith carrier (Ok values) recording place number (ports_of carrier) mib (Ok fields)
 told_by_frames carrier values recording place number mib fields long early six answers =
     told_at_first carrier values recording place number mib fields long early six
     (answers (even_frame number 0) (first_tried recording place.start number long early).whole (even_number number 0))
@@ -112,6 +112,7 @@ start_small t Five = omega arith
 step_fits : (carrier : Carrier) → symbol_step (prefix_of carrier) ≤ 832
 step_fits OnePort = omega arith
 step_fits TwoPorts = omega arith
+step_fits FourPorts = omega arith
 step_fits LongPrefix = omega arith
 
 module _ (receiver : Receiver) (recording : List Sample) (identity sfn offset count : ℕ) (lasting : Duration) (share : Resource) (bits : ℕ) (told : Result Sib1 Sib1Reason)

@@ -10,7 +10,7 @@ use Rattle.lte_types.specs.Codes.{duration, duration_code, resource, resource_co
 use Rattle.lte_types.proofs.RoundTrips.{duration-code, duration_code_fits, resource-code, resource_code_fits}
 use Rattle.pbch.specs.Master.{PassesWith}
 use Rattle.cell_tx.specs.declared.antenna.Port.{Port}
-use Rattle.cell_tx.specs.declared.antenna.Port.TheVariants.{Only, First, Second, Long}
+use Rattle.cell_tx.specs.declared.antenna.Port.TheVariants.{Only, First, Second, Long, OfFour}
 use Rattle.cell_tx.specs.declared.cell.CellPlan.{CellPlan}
 use Rattle.cell_tx.specs.Block.{master_bits, master_word, port_word}
 use Rattle.cell_tx.specs.Ports.{port_mask}
@@ -48,11 +48,13 @@ ports_of Only = 1
 ports_of First = 2
 ports_of Second = 2
 ports_of Long = 1
+ports_of (OfFour own) = 4
 
 passes : (port : Port) (bits : List Bool) → PassesWith (ports_of port) (with_check_16 (port_mask port) bits)
 passes Only bits = record { count = inl refl; check = checked_16 0 bits (omega arith) }
 passes First bits = record { count = inr (inl refl); check = checked_16 65535 bits (omega arith) }
 passes Second bits = record { count = inr (inl refl); check = checked_16 65535 bits (omega arith) }
+passes (OfFour own) bits = record { count = inr (inr refl); check = checked_16 21845 bits (omega arith) }
 passes Long bits = record { count = inl refl; check = checked_16 0 bits (omega arith) }
 
 pub is_master_word : (port : Port) (lasting : Duration) (share : Resource) (sfn spare : ℕ) → spare ≤ 1023 → sfn ≤ 1023 →

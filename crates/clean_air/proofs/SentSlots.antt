@@ -5,7 +5,9 @@ use Rattle.std.proofs.lemmas.Bool.Decides.{nat_tests}
 use Rattle.cs_num.specs.declared.Cpx.{Cpx}
 use Rattle.cs_num.specs.declared.Sample.{Sample}
 use Rattle.finite.proofs.Lists.{values_below_at}
-use Rattle.crs.specs.Reference.{port_0, is_reference, is_second_reference, first_subcarrier, pattern_reference, reference, reference_c_init, reference_at}
+use Rattle.crs.specs.declared.single.SinglePort.TheVariants.{Third, Fourth}
+use Rattle.cell_tx.specs.declared.antenna.PortOfFour.TheVariants.{Zero, One, Two, Three}
+use Rattle.crs.specs.Reference.{port_0, is_reference, is_second_reference, is_single_reference, first_subcarrier, pattern_reference, reference, reference_c_init, reference_at}
 use Rattle.observe.specs.Seen.{seen_symbol}
 use Rattle.sync_seq.specs.Middle.{is_middle}
 use Rattle.soft_bits.specs.Soft.{pattern_symbol, pattern_sent, pilot_symbol, pilot_subcarrier, pilot_sent}
@@ -16,15 +18,14 @@ use Rattle.grid_map.specs.Scrambling.{pbch_c_init}
 use Rattle.grid_map.proofs.Points.{length-pbch_places, places_inside, index_of_place}
 use Rattle.cell_tx.specs.declared.cell.CellPlan.{CellPlan}
 use Rattle.cell_tx.specs.declared.antenna.Port.{Port}
-use Rattle.cell_tx.specs.declared.antenna.Port.TheVariants.{Only, First, Second, Long}
-use Rattle.cell_tx.specs.Ports.{has_control, sent_point}
+use Rattle.cell_tx.specs.declared.antenna.Port.TheVariants.{Only, First, Second, Long, OfFour}
+use Rattle.cell_tx.specs.Ports.{port_symbols, sent_point}
 use Rattle.cell_tx.specs.Block.{port_point, port_bit, broadcast_word}
 use Rattle.cell_tx.specs.Grid.{is_synchronised, is_broadcast, has_broadcast, broadcast_index, port_element, element}
 use Rattle.cell_tx.specs.Sent.{Elements}
 use Rattle.clean_air.specs.Load.{CarriesPlan, IsLoaded}
 use Rattle.cell_tx.specs.Rows.{port_reference_if}
 use Rattle.cell_tx.proofs.Elements.{element_of_channel, channel_of_broadcast}
-use Rattle.cell_tx.proofs.SystemPlaces.{no_pilot, symbols_are}
 use Rattle.clean_air.proofs.Carrying.{of_own_reference, of_broadcast}
 use Rattle.lte_types.specs.Numerology.{normal, useful_start}
 use Rattle.lte_types.specs.Timing.{start_of, number_at_start}
@@ -87,39 +88,62 @@ record IsBroadcastPlace (identity symbol k : ℕ) : Type 0 where
   high : symbol < 11
   free : is_reference identity (symbol % 7) k ≡ false
   second_free : is_second_reference identity (symbol % 7) k ≡ false
+  third_free : (slot : ℕ) → is_single_reference Third identity slot (symbol % 7) k ≡ false
+  fourth_free : (slot : ℕ) → is_single_reference Fourth identity slot (symbol % 7) k ≡ false
   here : is_broadcast identity 0 symbol k ≡ true
 
 broadcast_place : (identity : ℕ) (p : Place) → is_pbch identity p ≡ true → IsBroadcastPlace identity p.symbol p.k
-unfolding is_pbch is_reference first_subcarrier is_second_reference
-broadcast_place identity p e = record { low = grind (arith, nat_tests); high = grind (arith, nat_tests); free = grind (arith, nat_tests); second_free = grind (arith, nat_tests); here = e }
+unfolding is_pbch is_reference first_subcarrier is_second_reference is_single_reference
+broadcast_place identity p e = record {
+  low = grind (arith, nat_tests);
+  high = grind (arith, nat_tests);
+  free = grind (arith, nat_tests);
+  second_free = grind (arith, nat_tests);
+  third_free = λ slot. grind (arith, nat_tests);
+  fourth_free = λ slot. grind (arith, nat_tests);
+  here = e;
+}
 
 not_there : (symbol row : ℕ) (a : Bool) → 7 ≤ symbol → row < 7 → (nat_eq symbol row && a) ≡ false
 not_there symbol row a low small = let e : nat_eq symbol row ≡ false = grind (arith, nat_tests) in rw e refl
 
--- with the normal prefix, whichever the port
-module _ (port : Port) (has : has_control port ≡ true) where
-  broadcast_is : (port : Port) → has_control port ≡ true → (identity subframe symbol k : ℕ) → has_broadcast port identity subframe symbol k ≡ is_broadcast identity subframe symbol k
-  broadcast_is Only has identity subframe symbol k = refl
-  broadcast_is First has identity subframe symbol k = refl
-  broadcast_is Second has identity subframe symbol k = refl
-  broadcast_is Long has identity subframe symbol k = absurd cc
+-- no port has a reference signal there
+none_there : (port : Port) → port_symbols port ≡ 7 → (identity slot symbol k : ℕ) → IsBroadcastPlace identity symbol k → port_reference_if port identity slot (symbol % 7) k ≡ None
+none_there Only normal identity slot symbol k at = rw at.free refl
+none_there First normal identity slot symbol k at = rw (at.free, at.second_free) refl
+none_there Second normal identity slot symbol k at = rw (at.free, at.second_free) refl
+none_there Long normal identity slot symbol k at = absurd (omega (arith, normal))
+none_there (OfFour Zero) normal identity slot symbol k at = rw (at.free, at.second_free, at.third_free slot, at.fourth_free slot) refl
+none_there (OfFour One) normal identity slot symbol k at = rw (at.free, at.second_free, at.third_free slot, at.fourth_free slot) refl
+none_there (OfFour Two) normal identity slot symbol k at = rw (at.free, at.second_free, at.third_free slot, at.fourth_free slot) refl
+none_there (OfFour Three) normal identity slot symbol k at = rw (at.free, at.second_free, at.third_free slot, at.fourth_free slot) refl
 
-  index_is : (port : Port) → has_control port ≡ true → (identity symbol k : ℕ) → broadcast_index port identity symbol k ≡ pbch_index identity (place symbol k)
-  index_is Only has identity symbol k = refl
-  index_is First has identity symbol k = refl
-  index_is Second has identity symbol k = refl
-  index_is Long has identity symbol k = absurd cc
+-- with the normal prefix, whichever the port
+module _ (port : Port) (normal : port_symbols port ≡ 7) where
+  broadcast_is : (port : Port) → port_symbols port ≡ 7 → (identity subframe symbol k : ℕ) → has_broadcast port identity subframe symbol k ≡ is_broadcast identity subframe symbol k
+  broadcast_is Only normal identity subframe symbol k = refl
+  broadcast_is First normal identity subframe symbol k = refl
+  broadcast_is Second normal identity subframe symbol k = refl
+  broadcast_is (OfFour own) normal identity subframe symbol k = refl
+  broadcast_is Long normal identity subframe symbol k = absurd (omega (arith, normal))
+
+  index_is : (port : Port) → port_symbols port ≡ 7 → (identity symbol k : ℕ) → broadcast_index port identity symbol k ≡ pbch_index identity (place symbol k)
+  index_is Only normal identity symbol k = refl
+  index_is First normal identity symbol k = refl
+  index_is Second normal identity symbol k = refl
+  index_is (OfFour own) normal identity symbol k = refl
+  index_is Long normal identity symbol k = absurd (omega (arith, normal))
 
   point_here : (plan : CellPlan) (number symbol k i : ℕ) → IsBroadcastPlace plan.identity symbol k → i ≡ pbch_index plan.identity (place symbol k) →
       port_element port plan number 0 symbol k ≡ sent_point port (port_point port plan number) i
   point_here plan number symbol k i at e =
-      let seven = sym (symbols_are port has) in
+      let seven = sym normal in
       element_of_channel port plan number 0 symbol k
-      (subst (λ (n : ℕ). port_reference_if port plan.identity (2 * 0 + symbol / n) (symbol % n) k ≡ None) seven (no_pilot port plan.identity (2 * 0 + symbol / 7) (symbol % 7) k has at.free at.second_free))
+      (subst (λ (n : ℕ). port_reference_if port plan.identity (2 * 0 + symbol / n) (symbol % n) k ≡ None) seven (none_there port normal plan.identity (2 * 0 + symbol / 7) symbol k at))
       (subst (λ (n : ℕ). is_synchronised (n - 1) 0 symbol k ≡ false) seven (not_there symbol 6 (is_middle k) at.low (omega arith)))
       (subst (λ (n : ℕ). is_synchronised (n - 2) 0 symbol k ≡ false) seven (not_there symbol 5 (is_middle k) at.low (omega arith)))
-      ∙ channel_of_broadcast port plan number 0 symbol k (broadcast_is port has plan.identity 0 symbol k ∙ at.here)
-      ∙ ap (sent_point port (port_point port plan number)) (index_is port has plan.identity symbol k ∙ sym e)
+      ∙ channel_of_broadcast port plan number 0 symbol k (broadcast_is port normal plan.identity 0 symbol k ∙ at.here)
+      ∙ ap (sent_point port (port_point port plan number)) (index_is port normal plan.identity symbol k ∙ sym e)
 
   pub points_stand : (plan : CellPlan) (grid : Elements) → CarriesPlan port plan grid → (number i : ℕ) → i < 240 →
       slot_grid grid number 1 ((pbch_place plan.identity i).symbol % 7) (pbch_place plan.identity i).k ≡ sent_point port (port_point port plan number) i
@@ -128,7 +152,7 @@ module _ (port : Port) (has : has_control port ≡ true) where
       let is = places_inside plan.identity i inside in
       let at = broadcast_place plan.identity p is in
       let symbol : 7 + p.symbol % 7 ≡ p.symbol = omega (arith, at.low, at.high) in
-      ap (λ n. grid number 0 n p.k) symbol ∙ of_broadcast port plan grid carries number 0 p.symbol p.k (broadcast_is port has plan.identity 0 p.symbol p.k ∙ at.here)
+      ap (λ n. grid number 0 n p.k) symbol ∙ of_broadcast port plan grid carries number 0 p.symbol p.k (broadcast_is port normal plan.identity 0 p.symbol p.k ∙ at.here)
       ∙ point_here plan number p.symbol p.k i at (sym (index_of_place plan.identity i inside))
 
 pub carries_word : (plan : CellPlan) (grid : Elements) → CarriesPlan Only plan grid → (number : ℕ) →

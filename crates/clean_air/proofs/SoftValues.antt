@@ -7,10 +7,8 @@ use Rattle.finite.proofs.Lists.{values_below_at}
 use Rattle.finite.proofs.Ring.{same}
 use Rattle.cs_num.specs.declared.Cpx.{Cpx}
 use Rattle.cs_num.specs.declared.Sample.{Sample}
-use Rattle.cs_num.specs.Complex.{IsWithin, nothing, plus, times, conjugate, square, value_at, minus, multiple}
+use Rattle.cs_num.specs.Complex.{IsWithin, nothing, times, conjugate, square, value_at, minus, multiple}
 use Rattle.sizes.proofs.Algebra.{multiple_twice}
-use Rattle.sizes.proofs.Squares.{square-times, square-multiple}
-use Rattle.sizes.proofs.TwoTerms.{weighted, weighted_term}
 use Rattle.sizes.proofs.Products.{product_near}
 use Rattle.crs.specs.Qpsk.{component, point}
 use Rattle.crs.specs.declared.pattern.Pattern.{Pattern}
@@ -22,8 +20,9 @@ use Rattle.cs_bits.specs.Signs.{Supports}
 use Rattle.clean_air.specs.Values.{ArePatternSeen, ArePilotsSeen, SeenPairSupportsBits, IsPatternReceived, IsSlotReceived, ValuesSupportBits, ReceivedValuesSupportBits}
 use Rattle.budget.proofs.Deviations.{deviation, seen_is, deviation-sized}
 use Rattle.budget.proofs.Near.{IsNear}
+use Rattle.budget.proofs.Pilots.{IsPilot, pilot-square}
 use Rattle.budget.proofs.Signs.{near_component_speaks}
-use Rattle.clean_air.proofs.Estimates.{sent-size, channel-near}
+use Rattle.clean_air.proofs.Estimates.{clean_pilots, clean_channel-near}
 use Rattle.budget.proofs.Seen.{amplitude_is_seen_in_recording}
 
 -- ---- the energy of the pilots
@@ -34,24 +33,11 @@ pub record IsPilotEnergy (n e : ℕ) : Type 0 where
   pub near : 38707200 * n ≤ e
   pub most : e ≤ 101376000 * n
 
-pub one_pilot : (g d p : Cpx) → 1 ≤ square g → square d ≡ 16200 → IsSeenAs g d p → IsPilotEnergy (square g) (square p)
-one_pilot g d p some size seen =
-    subst (λ (z : Cpx). IsPilotEnergy (square g) (square z)) (sym (seen_is g d p))
-    (numbers (square g) (square d) (square m) (square x) (square v) (square (plus x v)) some size (square-multiple 64 d) (square-times g m) (deviation-sized g d p seen).sized (weighted 4 x v) (weighted_term 3 x v))
+one_pilot : (g d p : Cpx) → 1 ≤ square g → IsPilot 1920 (square g) g d p → IsPilotEnergy (square g) (square p)
+one_pilot g d p some is = numbers (square g) (square p) some (pilot-square 3 1920 (square g) g d p is).least (pilot-square 4 1920 (square g) g d p is).most
   where
-    m : Cpx
-    m = multiple 64 d
-
-    x : Cpx
-    x = times g m
-
-    v : Cpx
-    v = deviation g d p
-
-    numbers : (n w m x v s : ℕ) → 1 ≤ n → w ≡ 16200 → m ≡ 64 * 64 * w → x ≡ n * m → v ≤ 1920 * 1920 * n → 4 * s ≤ (4 + 1) * x + 4 * (4 + 1) * v → 3 * x ≤ (3 + 1) * s + 3 * (3 + 1) * v → IsPilotEnergy n s
-    numbers n w m x v s some a b c h up low =
-        let e : x ≡ n * 66355200 = c ∙ ap (λ k. n * k) (omega (arith, a, b)) in
-        record { least = omega (arith, e, h, low, some); near = omega (arith, e, h, low); most = omega (arith, e, h, up) }
+    numbers : (n e : ℕ) → 1 ≤ n → 3 * (66355200 * n) ≤ (3 + 1) * e + 3 * (3 + 1) * (1920 * 1920 * n) → 4 * e ≤ (4 + 1) * (66355200 * n) + 4 * (4 + 1) * (1920 * 1920 * n) → IsPilotEnergy n e
+    numbers n e some low up = record { least = omega (arith, low, some); near = omega (arith, low); most = omega (arith, up) }
 
 pub energy-near : (pattern : Pattern) (gain : Cpx) (slot : SeenSlot) → ArePatternSeen pattern gain slot → IsPilotEnergy (24 * square gain) (pattern_energy pattern slot)
 unfolding pattern_energy
@@ -64,7 +50,7 @@ energy-near pattern gain slot seen = record {
 }
   where
     each : (i : ℕ) → i < 24 → IsPilotEnergy (square gain) (square (pattern_seen pattern slot i))
-    each i l = one_pilot gain (pattern_sent pattern slot.identity slot.number i) (pattern_seen pattern slot i) seen.sounds (sent-size pattern slot.identity slot.number i) (seen.pilot i l)
+    each i l = one_pilot gain (pattern_sent pattern slot.identity slot.number i) (pattern_seen pattern slot i) seen.sounds ((clean_pilots pattern gain slot seen).each i l)
 
     parts : (e n : ℕ) → 24 * (38707200 * n) ≤ e → 38707200 * (24 * n) ≤ e
     parts e n h = omega (arith, h)
@@ -97,7 +83,7 @@ seen_pair_supports_bits pattern gain slot z k first second seen here =
     energy = energy-near pattern gain slot seen
 
     estimate : IsNear (square gain) gain 3110400 737280 (pattern_channel pattern slot k)
-    estimate = channel-near pattern gain slot k seen
+    estimate = clean_channel-near pattern gain slot k seen
 
     product : IsWithin (13427343360 * square gain) (minus (times z (conjugate (pattern_channel pattern slot k))) (multiple (3110400 * square gain) (multiple 64 (point first second))))
     product = subst (λ (y : Cpx). IsWithin (13427343360 * square gain) (minus y (multiple (3110400 * square gain) (multiple 64 a))))

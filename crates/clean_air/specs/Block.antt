@@ -1,5 +1,5 @@
--- A transport block that was sent is told by the values of its resource blocks (PDSCH, TS 36.211 section 6.4, TS 36.212 sections
--- 5.1.3.2 and 5.1.4.1). (own)
+-- A transport block that was sent is told by the values of its resource blocks (PDSCH, TS 36.211 section 6.4, TS 36.212
+-- sections 5.1.3.2 and 5.1.4.1). (own)
 use Rattle.std.specs.Prelude.{◌≡◌, ℕ, ◌+◌, ◌*◌, ◌<◌, ◌≤◌, Bool, true, false, List, length, ℤ, Some}
 use Rattle.cs_num.specs.declared.Cpx.{Cpx}
 use Rattle.cs_num.specs.declared.Sample.{Sample}
@@ -21,8 +21,8 @@ use Rattle.clean_air.specs.Subframe.{IsSubframeSeen, shared_scrambled, IsSubfram
 abbrev pub matched_bit : Row → ℕ → List Bool → ℕ → Bool
 matched_bit row rv word i = bit_of (coded row word) (item_of row.k rv i)
 
--- a word of the size of a row, whose check passes, and which can be resolved by so many bits of the reading: always where
--- each coded bit is among them
+-- a word of the size of a row, whose check passes, and which can be resolved by so many bits of the reading: always
+-- where each coded bit is among them
 pub record IsSentBlock (row : Row) (rv count : ℕ) (word : List Bool) : Type 0 where
   pub is_row : IsRow row
   pub version : rv < 4
@@ -31,7 +31,8 @@ pub record IsSentBlock (row : Row) (rv count : ℕ) (word : List Bool) : Type 0 
   pub resolvable : resolvable row (sent_of row.k rv count) word ≡ true
 
 -- values tell a word: the sums of the coded bits that were sent speak for them, and those of all others are 0, of which
--- there are none where the values are as many as the coded bits; and the block that is decoded is the word before its check
+-- there are none where the values are as many as the coded bits; and the block that is decoded is the word before its
+-- check
 pub record TellsBlock (row : Row) (rv : ℕ) (word : List Bool) (values : List ℤ) : Type 0 where
   pub sums : SumsTell row word (sent_of row.k rv (length values)) (summed row.k rv values)
   pub whole : 3 * (row.k + 4) ≤ length values → SumsSupport 1 row word (summed row.k rv values)
@@ -42,8 +43,8 @@ abbrev pub HeardBlockIsTold : Type 0
 HeardBlockIsTold = (row : Row) (rv count : ℕ) (word : List Bool) (values : List ℤ) → IsSentBlock row rv count word →
     AreHeard 1 count (matched_bit row rv word) values → TellsBlock row rv word values
 
--- so do the values of resource blocks, where the pilots of both slots of the subframe are seen, those of each with one gain, and
--- the places of the blocks, with the gain of their slot, as the points of the scrambled bits
+-- so do the values of resource blocks, where the pilots of both slots of the subframe are seen, those of each with one
+-- gain, and the places of the blocks, with the gain of their slot, as the points of the scrambled bits
 abbrev pub SeenBlockIsTold : Type 0
 SeenBlockIsTold =
     (gain later : Cpx) (first second : SeenSlot) (cfi start blocks : ℕ) (row : Row) (rv : ℕ) (word : List Bool) →
@@ -55,7 +56,8 @@ SeenBlockIsTold =
 -- in a recording: where both slots are received, and the places of the blocks carry these bits
 abbrev pub ReceivedBlockIsTold : Type 0
 ReceivedBlockIsTold =
-    (recording : List Sample) (starts : ℕ → ℕ) (grids : ℕ → ℕ → Cpx) (first second : SeenSlot) (cfi start blocks : ℕ) (row : Row) (rv : ℕ) (word : List Bool) →
+    (recording : List Sample) (starts : ℕ → ℕ) (grids : ℕ → ℕ → Cpx) (first second : SeenSlot) (cfi start blocks : ℕ)
+    (row : Row) (rv : ℕ) (word : List Bool) →
     let places = shared_places_of false first.identity cfi start blocks in
     IsSentBlock row rv (2 * length places) word →
     IsSubframeReceived recording starts grids first second →

@@ -1,4 +1,5 @@
--- A master block that was sent is told by its slot. (own; the channel is that of TS 36.211 section 6.6 and TS 36.212 section 5.3.1)
+-- A master block that was sent is told by its slot. (own; the channel is that of TS 36.211 section 6.6 and TS 36.212
+-- section 5.3.1)
 use Rattle.std.specs.Prelude.{◌≡◌, ℕ, ◌*◌, ◌≤◌, Bool, List, [], ◌∷◌, length, ℤ}
 use Rattle.cs_num.specs.declared.Cpx.{Cpx}
 use Rattle.cs_num.specs.declared.Sample.{Sample}
@@ -18,23 +19,27 @@ pub record TellsFreely (sums : List (List ℤ)) (word : List Bool) (ports : ℕ)
   pub tells : Tells sums word ports
   pub free : word_cost sums word ≡ 0
 
--- sums that all speak for the coded bits of a word of 40 bits, whose check passes with the mask of so many ports, and whose
--- code of the bandwidth is one, tell it, and it costs nothing
+-- sums that all speak for the coded bits of a word of 40 bits, whose check passes with the mask of so many ports, and
+-- whose code of the bandwidth is one, tell it, and it costs nothing
 abbrev pub SpokenWordIsTold : Type 0
 SpokenWordIsTold =
-    (ports : ℕ) (word : List Bool) (sums : List (List ℤ)) → length word ≡ 40 → length sums ≡ 40 → Speaks sums word → PassesWith ports word → field word 0 3 ≤ 5 →
+    (ports : ℕ) (word : List Bool) (sums : List (List ℤ)) → length word ≡ 40 → length sums ≡ 40 → Speaks sums word →
+    PassesWith ports word → field word 0 3 ≤ 5 →
     TellsFreely sums word ports
 
 -- so do the sums of values that speak of it
 abbrev pub SentWordIsTold : Type 0
 SentWordIsTold =
-    (c_init first ports : ℕ) (word : List Bool) (values : List ℤ) → length word ≡ 40 → SpeakOfWord c_init first word values → PassesWith ports word → field word 0 3 ≤ 5 →
+    (c_init first ports : ℕ) (word : List Bool) (values : List ℤ) → length word ≡ 40 →
+    SpeakOfWord c_init first word values → PassesWith ports word → field word 0 3 ≤ 5 →
     TellsFreely (sums_of c_init first 40 values) word ports
 
 -- in a recording: a slot that is received, and whose broadcast channel carries such a word in a frame of this phase,
 -- tells it alone
 abbrev pub ReceivedSlotTells : Type 0
 ReceivedSlotTells =
-    (recording : List Sample) (starts : ℕ → ℕ) (grids : ℕ → ℕ → Cpx) (slot : SeenSlot) (phase ports : ℕ) (word : List Bool) → IsSlotReceived recording starts grids slot →
-    length word ≡ 40 → CarryWord grids (pbch_places slot.identity) (pbch_c_init slot.identity) (480 * phase) word → PassesWith ports word → field word 0 3 ≤ 5 →
+    (recording : List Sample) (starts : ℕ → ℕ) (grids : ℕ → ℕ → Cpx) (slot : SeenSlot) (phase ports : ℕ)
+    (word : List Bool) → IsSlotReceived recording starts grids slot →
+    length word ≡ 40 → CarryWord grids (pbch_places slot.identity) (pbch_c_init slot.identity) (480 * phase) word →
+    PassesWith ports word → field word 0 3 ≤ 5 →
     TellsFreely (coded_values (slot ∷ []) phase) word ports

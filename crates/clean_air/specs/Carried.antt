@@ -1,6 +1,6 @@
 -- Bits that are sent at places of a slot: the soft values of these places speak for them. Where they are the scrambled
--- bits of a coded word, the values tell it alone. (own; the coding is that of TS 36.212 sections 5.1.3.1 and 5.1.4.2, the scrambling that of TS
--- 36.211 section 7.2)
+-- bits of a coded word, the values tell it alone. (own; the coding is that of TS 36.212 sections 5.1.3.1 and 5.1.4.2,
+-- the scrambling that of TS 36.211 section 7.2)
 use Rattle.std.specs.Prelude.{◌≡◌, ℕ, ◌+◌, ◌*◌, ◌%◌, ◌<◌, ◌≤◌, Bool, All, List, length, slice_index_or, ℤ, pos}
 use Rattle.cs_num.specs.declared.Cpx.{Cpx}
 use Rattle.cs_num.specs.declared.Sample.{Sample}
@@ -18,11 +18,12 @@ use Rattle.clean_air.specs.Words.{IsOnlyWord}
 
 -- ---- words
 
--- each value speaks for a scrambled bit of the word: for bit `first` of the endless reading of the coded word, and the bits
--- after it; there are as many values as coded bits, and any more
+-- each value speaks for a scrambled bit of the word: for bit `first` of the endless reading of the coded word, and the
+-- bits after it; there are as many values as coded bits, and any more
 pub record SpeakOfWord (c_init first : ℕ) (word : List Bool) (values : List ℤ) : Type 0 where
   pub enough : 3 * length word ≤ length values
-  pub value : (i : ℕ) → i < length values → Supports 1 (scrambled_bit c_init word (first + i)) (slice_index_or values i (pos 0))
+  pub value : (i : ℕ) → i < length values →
+      Supports 1 (scrambled_bit c_init word (first + i)) (slice_index_or values i (pos 0))
 
 -- what such values tell: their sums by place of the coded word, before scrambling
 abbrev pub sums_of : ℕ → ℕ → ℕ → List ℤ → List (List ℤ)
@@ -30,7 +31,9 @@ sums_of c_init first size values = summed_from first size (descrambled c_init fi
 
 -- these tell the word and no other, where it has 6 to 64 bits
 abbrev pub SentWordIsOnly : Type 0
-SentWordIsOnly = (c_init first : ℕ) (word : List Bool) (values : List ℤ) → 6 ≤ length word → length word ≤ 64 → SpeakOfWord c_init first word values →
+SentWordIsOnly =
+    (c_init first : ℕ) (word : List Bool) (values : List ℤ) → 6 ≤ length word → length word ≤ 64 →
+    SpeakOfWord c_init first word values →
     IsOnlyWord (sums_of c_init first (length word) values) word
 
 -- ---- places and their values
@@ -40,7 +43,8 @@ pub record AreHeard (least count : ℕ) (bits : ℕ → Bool) (values : List ℤ
   pub size : length values ≡ count
   pub value : (i : ℕ) → i < count → Supports least (bits i) (slice_index_or values i (pos 0))
 
--- places of the subframe of a slot are seen with one gain, each as the point of two bits (QPSK, TS 36.211 section 7.1.2)
+-- places of the subframe of a slot are seen with one gain, each as the point of two bits (QPSK, TS 36.211 section
+-- 7.1.2)
 abbrev pub ArePlacesSeen : Cpx → SeenSlot → List Place → (ℕ → Bool) → Type 0
 ArePlacesSeen gain slot places bits = (i : ℕ) → i < length places →
     let p = slice_index_or places i (place 0 0) in IsSeenAs gain (point_of bits i) (seen_at slot (p.symbol % 7) p.k)

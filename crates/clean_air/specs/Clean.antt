@@ -1,5 +1,5 @@
 -- The list of cells of a clean recording: it holds the cell that was sent. (own)
-use Rattle.std.specs.Prelude.{◌≡◌, ℕ, ◌/◌, List, Result, Ok}
+use Rattle.std.specs.Prelude.{◌≡◌, ℕ, ◌/◌, ◌≤◌, List, Result, Ok}
 use Rattle.std.specs.List.{Contains}
 use Rattle.cs_num.specs.declared.Cpx.{Cpx}
 use Rattle.cs_num.specs.declared.Sample.{Sample}
@@ -18,6 +18,11 @@ use Rattle.cell_tx.specs.Sent.{Elements}
 use Rattle.cell_tx.specs.Clean.{IsClean}
 use Rattle.clean_air.specs.Load.{IsLoaded}
 
+-- what is sent of a plan to the master block has its ranges: the identity, and the spare bits of the block
+pub record IsKnownPlan (plan : CellPlan) : Type 0 where
+  pub identity : plan.identity ≤ 503
+  pub spare : plan.spare ≤ 1023
+
 -- the list has an entry with this identity, start and frame number, which is as it was sent; every entry with these
 -- three is that one
 pub record HoldsOne (list : List Entry) (identity first number : ℕ) (is_sent : Entry → Type 0) : Type 0 where
@@ -27,12 +32,13 @@ pub record HoldsOne (list : List Entry) (identity first number : ℕ) (is_sent :
   pub start : entry.start ≡ first
   pub sfn : entry.sfn ≡ number
   pub sent : is_sent entry
-  pub only : (other : Entry) → Contains list other → other.id ≡ identity → other.start ≡ first → other.sfn ≡ number → other ≡ entry
+  pub only : (other : Entry) → Contains list other → other.id ≡ identity → other.start ≡ first → other.sfn ≡ number →
+      other ≡ entry
 
--- the entry has so many antenna ports (TS 36.212 section 5.3.1.1), the fields of the master block of a cell in the frame
--- with this number, which holds the upper 8 bits of it (TS 36.331 section 6.2.2), and what is told of its system
--- information; it was read from the cell's first whole frame alone, and each value speaks for its word, so that this costs
--- nothing
+-- the entry has so many antenna ports (TS 36.212 section 5.3.1.1), the fields of the master block of a cell in the
+-- frame with this number, which holds the upper 8 bits of it (TS 36.331 section 6.2.2), and what is told of its system
+-- information; it was read from the cell's first whole frame alone, and each value speaks for its word, so that this
+-- costs nothing
 pub record IsSentEntryBy (count : ℕ) (lasting : Duration) (share : Resource) (bits : ℕ) (told : Result Sib1 Sib1Reason)
     (number : ℕ) (entry : Entry) : Type 0 where
   pub ports : entry.ports ≡ count
@@ -50,17 +56,19 @@ IsSentEntry plan number = IsSentEntryBy 1 plan.duration plan.resource plan.spare
 abbrev pub HoldsCell : List Entry → CellPlan → ℕ → ℕ → Type 0
 HoldsCell list plan first number = HoldsOne list plan.identity first number (IsSentEntry plan number)
 
--- of each cell of which the recording is clean, whatever its plan is, what it sends elsewhere, its first frame's number, the
--- offset, the gain and the errors
+-- of each cell of which the recording is clean, whatever its plan is, what it sends elsewhere, its first frame's
+-- number, the offset, the gain and the errors
 abbrev pub HoldsLoadedCells : List Sample → List Entry → Type 0
 HoldsLoadedCells recording list =
-    (plan : CellPlan) (grid : Elements) (sfn offset : ℕ) (gain : Cpx) (eps : ℕ) → IsSendable plan → IsLoaded recording plan grid sfn offset gain eps →
+    (plan : CellPlan) (grid : Elements) (sfn offset : ℕ) (gain : Cpx) (eps : ℕ) → IsSendable plan →
+    IsLoaded recording plan grid sfn offset gain eps →
     HoldsCell list plan (start_of offset) (number_at_start sfn offset)
 
 -- so of each that sends nothing elsewhere
 abbrev pub HoldsCleanCells : List Sample → List Entry → Type 0
 HoldsCleanCells recording list =
-    (plan : CellPlan) (sfn offset : ℕ) (gain : Cpx) (eps : ℕ) → IsSendable plan → IsClean recording plan sfn offset gain eps →
+    (plan : CellPlan) (sfn offset : ℕ) (gain : Cpx) (eps : ℕ) → IsSendable plan →
+    IsClean recording plan sfn offset gain eps →
     HoldsCell list plan (start_of offset) (number_at_start sfn offset)
 
 -- the list of a recording, which holds each cell of which the recording is clean, whatever else that cell sends

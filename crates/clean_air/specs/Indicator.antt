@@ -35,7 +35,8 @@ indicator_scrambled slot indicator = scrambled (pcfich_c_init slot.identity slot
 abbrev pub SeenIndicatorIsTold : Type 0
 SeenIndicatorIsTold = (gain : Cpx) (slot : SeenSlot) (indicator : ℕ) → 1 ≤ indicator → indicator ≤ 3 →
     ArePilotsSeen gain slot →
-    ArePlacesSeen gain slot (pcfich_places slot.identity) (indicator_scrambled slot indicator) → TellsIndicator slot indicator
+    ArePlacesSeen gain slot (pcfich_places slot.identity) (indicator_scrambled slot indicator) →
+    TellsIndicator slot indicator
 
 -- in a recording: the slot that is received, and whose channel carries an indicator
 abbrev pub ReceivedIndicatorIsTold : Type 0

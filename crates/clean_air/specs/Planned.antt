@@ -28,8 +28,8 @@ plan_by entry indicator grant block = record {
   sib1 = block;
 }
 
--- the entry's cell has this plan: that of the entry's fields and of the indicator and the grant by which they were read, with
--- one antenna port and bandwidth n6, and none of the conditions of a plan fails
+-- the entry's cell has this plan: that of the entry's fields and of the indicator and the grant by which they were
+-- read, with one antenna port and bandwidth n6, and none of the conditions of a plan fails
 pub record IsPlanned (recording : List Sample) (entry : Entry) (plan : CellPlan) : Type 0 where
   pub grant : Grant
   pub granted : IsGrantOf recording entry (Some (plan.cfi, grant))
@@ -44,13 +44,18 @@ abbrev pub IsPlanOf : List Sample → Entry → Option CellPlan → Type 0
 IsPlanOf recording entry (Some plan) = IsPlanned recording entry plan
 IsPlanOf recording entry None = (plan : CellPlan) → IsPlanned recording entry plan → ⊥
 
--- where the recording is clean of a cell that can be sent, whatever else that cell sends, and the entry is of its identity, of the sample at which its first
--- frame begins and of that frame's number, the plan is the one by which it was sent
+-- where the recording is clean of a cell that can be sent, whatever else that cell sends, and the entry is of its
+-- identity, of the sample at which its first frame begins and of that frame's number, the plan is the one by which it
+-- was sent
 abbrev pub IsSentPlan : List Sample → Entry → Option CellPlan → Type 0
 IsSentPlan recording entry answer =
-    (plan : CellPlan) (grid : Elements) (sfn offset : ℕ) (gain : Cpx) (eps : ℕ) → IsSendable plan → IsLoaded recording plan grid sfn offset gain eps →
-    entry.id ≡ plan.identity → entry.start ≡ start_of offset → entry.sfn ≡ number_at_start sfn offset → answer ≡ Some plan
+    (plan : CellPlan) (grid : Elements) (sfn offset : ℕ) (gain : Cpx) (eps : ℕ) → IsSendable plan →
+    IsLoaded recording plan grid sfn offset gain eps →
+    entry.id ≡ plan.identity → entry.start ≡ start_of offset → entry.sfn ≡ number_at_start sfn offset →
+    answer ≡ Some plan
 
 -- a law: an entry has one plan, or none
 abbrev pub IsOnePlan : Type 0
-IsOnePlan = (recording : List Sample) (entry : Entry) (a b : Option CellPlan) → IsPlanOf recording entry a → IsPlanOf recording entry b → a ≡ b
+IsOnePlan =
+    (recording : List Sample) (entry : Entry) (a b : Option CellPlan) → IsPlanOf recording entry a →
+    IsPlanOf recording entry b → a ≡ b

@@ -8,7 +8,8 @@ use Rattle.crs.specs.Qpsk.{point}
 use Rattle.crs.specs.declared.pattern.Pattern.{Pattern}
 use Rattle.crs.specs.Reference.{port_0}
 use Rattle.observe.specs.Seen.{seen_symbol}
-use Rattle.soft_bits.specs.Soft.{SeenSlot, seen_at, pilot_subcarrier, pattern_symbol, pattern_seen, pattern_sent, pattern_channel, pattern_energy, soft_pair, soft_values}
+use Rattle.soft_bits.specs.Soft.{SeenSlot, seen_at, pilot_subcarrier, pattern_symbol, pattern_seen, pattern_sent}
+use Rattle.soft_bits.specs.Soft.{pattern_channel, pattern_energy, soft_pair, soft_values}
 use Rattle.budget.specs.Received.{AreAmplitudes, IsReceived, IsSeenAs, samples_from}
 
 -- both soft values of a place do, for two bits
@@ -19,35 +20,42 @@ pub record SupportBoth (least : ℕ) (first second : Bool) (values : List ℤ) :
 -- the 24 pilots of a slot by a pattern are seen with one gain that is not 0
 pub record ArePatternSeen (pattern : Pattern) (gain : Cpx) (slot : SeenSlot) : Type 0 where
   pub sounds : 1 ≤ square gain
-  pub pilot : (i : ℕ) → i < 24 → IsSeenAs gain (pattern_sent pattern slot.identity slot.number i) (pattern_seen pattern slot i)
+  pub pilot : (i : ℕ) → i < 24 →
+      IsSeenAs gain (pattern_sent pattern slot.identity slot.number i) (pattern_seen pattern slot i)
 
 -- those of port 0 with the normal prefix
 abbrev pub ArePilotsSeen : Cpx → SeenSlot → Type 0
 ArePilotsSeen gain slot = ArePatternSeen port_0 gain slot
 
--- where what stands for two bits is seen at a subcarrier with the same gain, its soft values by these pilots speak for them
--- with size 8 and more
+-- where what stands for two bits is seen at a subcarrier with the same gain, its soft values by these pilots speak for
+-- them with size 8 and more
 abbrev pub SeenPairSupportsBits : Type 0
 SeenPairSupportsBits =
-    (pattern : Pattern) (gain : Cpx) (slot : SeenSlot) (seen : Cpx) (k : ℕ) (first second : Bool) → ArePatternSeen pattern gain slot →
+    (pattern : Pattern) (gain : Cpx) (slot : SeenSlot) (seen : Cpx) (k : ℕ) (first second : Bool) →
+    ArePatternSeen pattern gain slot →
     IsSeenAs gain (point first second) seen →
-    SupportBoth 8 first second (soft_pair (times seen (conjugate (pattern_channel pattern slot k))) (pattern_energy pattern slot))
+    SupportBoth 8 first second
+    (soft_pair (times seen (conjugate (pattern_channel pattern slot k))) (pattern_energy pattern slot))
 
 -- where a place carries two bits and is seen with the same gain, its soft values speak for them with size 8 and more
 abbrev pub ValuesSupportBits : Type 0
 ValuesSupportBits =
-    (gain : Cpx) (slot : SeenSlot) (symbol k : ℕ) (first second : Bool) → ArePilotsSeen gain slot → IsSeenAs gain (point first second) (seen_at slot symbol k) →
+    (gain : Cpx) (slot : SeenSlot) (symbol k : ℕ) (first second : Bool) → ArePilotsSeen gain slot →
+    IsSeenAs gain (point first second) (seen_at slot symbol k) →
     SupportBoth 8 first second (soft_values slot symbol k)
 
--- in a recording: so many symbols of a slot are received with one gain, each from its place on, and hold the reference signals
--- of the slot's identity and number by a pattern
-pub record IsPatternReceived (pattern : Pattern) (count : ℕ) (recording : List Sample) (starts : ℕ → ℕ) (grids : ℕ → ℕ → Cpx) (slot : SeenSlot) : Type 0 where
+-- in a recording: so many symbols of a slot are received with one gain, each from its place on, and hold the reference
+-- signals of the slot's identity and number by a pattern
+pub record IsPatternReceived (pattern : Pattern) (count : ℕ) (recording : List Sample) (starts : ℕ → ℕ)
+    (grids : ℕ → ℕ → Cpx) (slot : SeenSlot) : Type 0 where
   pub eps : ℕ
   pub gain : Cpx
   pub seen : (l : ℕ) → l < count → slice_index_or slot.symbols l [] ≡ seen_symbol recording (starts l)
   pub amplitudes : (l : ℕ) → l < count → AreAmplitudes (grids l)
   pub received : (l : ℕ) → l < count → IsReceived eps gain (grids l) (samples_from recording (starts l))
-  pub references : (i : ℕ) → i < 24 → grids (pattern_symbol pattern slot.identity i) (pilot_subcarrier slot.identity i) ≡ pattern_sent pattern slot.identity slot.number i
+  pub references : (i : ℕ) → i < 24 →
+      grids (pattern_symbol pattern slot.identity i) (pilot_subcarrier slot.identity i)
+      ≡ pattern_sent pattern slot.identity slot.number i
 
 -- the seven symbols with the normal prefix, with the reference signals of port 0
 abbrev pub IsSlotReceived : List Sample → (ℕ → ℕ) → (ℕ → ℕ → Cpx) → SeenSlot → Type 0
@@ -55,5 +63,6 @@ IsSlotReceived recording starts grids slot = IsPatternReceived port_0 7 recordin
 
 abbrev pub ReceivedValuesSupportBits : Type 0
 ReceivedValuesSupportBits =
-    (recording : List Sample) (starts : ℕ → ℕ) (grids : ℕ → ℕ → Cpx) (slot : SeenSlot) (symbol k : ℕ) (first second : Bool) → IsSlotReceived recording starts grids slot →
+    (recording : List Sample) (starts : ℕ → ℕ) (grids : ℕ → ℕ → Cpx) (slot : SeenSlot) (symbol k : ℕ)
+    (first second : Bool) → IsSlotReceived recording starts grids slot →
     symbol < 7 → k < 72 → grids symbol k ≡ point first second → SupportBoth 8 first second (soft_values slot symbol k)

@@ -1,5 +1,5 @@
--- Values that all speak for the coded bits of one word tell that word and no other. (own; the code and its reading are those of TS
--- 36.212 sections 5.1.3.1 and 5.1.4.2)
+-- Values that all speak for the coded bits of one word tell that word and no other. (own; the code and its reading are
+-- those of TS 36.212 sections 5.1.3.1 and 5.1.4.2)
 use Rattle.std.specs.Prelude.{◌≡◌, ℕ, ◌+◌, ◌*◌, ◌<◌, ◌≤◌, Bool, cond, List, length, slice_index_or, ℤ, pos, ◌+ℤ◌, neg_ℤ}
 use Rattle.finite.specs.Bits.{xor}
 use Rattle.sub_block.specs.declared.Item.{Item}
@@ -14,14 +14,17 @@ use Rattle.cs_bits.specs.Signs.{Supports}
 -- the sum of four values that speak for a bit with some size speaks for it with four times that size
 abbrev pub FourSpeakTogether : Type 0
 FourSpeakTogether =
-    (least : ℕ) (bit : Bool) (a b c d : ℤ) → Supports least bit a → Supports least bit b → Supports least bit c → Supports least bit d → Supports (4 * least) bit (a +ℤ b +ℤ c +ℤ d)
+    (least : ℕ) (bit : Bool) (a b c d : ℤ) → Supports least bit a → Supports least bit b → Supports least bit c →
+    Supports least bit d → Supports (4 * least) bit (a +ℤ b +ℤ c +ℤ d)
 
 -- a value that speaks for a scrambled bit, turned where the scrambling bit is 1, speaks for the bit before scrambling
 abbrev pub DescramblingKeeps : Type 0
-DescramblingKeeps = (least : ℕ) (bit scrambling : Bool) (value : ℤ) → Supports least (xor bit scrambling) value → Supports least bit (cond scrambling (neg_ℤ value) value)
+DescramblingKeeps =
+    (least : ℕ) (bit scrambling : Bool) (value : ℤ) → Supports least (xor bit scrambling) value →
+    Supports least bit (cond scrambling (neg_ℤ value) value)
 
--- values in the order of a reading, of which there is at least one for each coded bit, each speak for the coded bit of a word
--- that the reading has there
+-- values in the order of a reading, of which there is at least one for each coded bit, each speak for the coded bit of
+-- a word that the reading has there
 pub record SpeakByReading (reading : ℕ → Item) (word : List Bool) (values : List ℤ) : Type 0 where
   pub enough : (k t : ℕ) → k < length word → t < 3 → (i : ℕ) × (i < length values) × (reading i ≡ item t k)
   pub value : (i : ℕ) → i < length values →
@@ -51,7 +54,9 @@ SumsSpeakFrom = (first : ℕ) (word : List Bool) (values : List ℤ) → 6 ≤ l
     SpeakInOrderFrom first word values → Speaks (summed_from first (length word) values) word
 
 abbrev pub SumsSpeak : Type 0
-SumsSpeak = (word : List Bool) (values : List ℤ) → 6 ≤ length word → length word ≤ 64 → SpeakInOrder word values → Speaks (summed (length word) values) word
+SumsSpeak =
+    (word : List Bool) (values : List ℤ) → 6 ≤ length word → length word ≤ 64 → SpeakInOrder word values →
+    Speaks (summed (length word) values) word
 
 -- a word costs nothing, each other word of its length costs something, and so it is the least word
 pub record IsOnlyWord (values : List (List ℤ)) (word : List Bool) : Type 0 where
@@ -61,4 +66,6 @@ pub record IsOnlyWord (values : List (List ℤ)) (word : List Bool) : Type 0 whe
 
 -- the word that all values speak for is such a word, for 6 bits and more
 abbrev pub SpokenWordIsOnly : Type 0
-SpokenWordIsOnly = (values : List (List ℤ)) (word : List Bool) → 6 ≤ length values → length word ≡ length values → Speaks values word → IsOnlyWord values word
+SpokenWordIsOnly =
+    (values : List (List ℤ)) (word : List Bool) → 6 ≤ length values → length word ≡ length values → Speaks values word →
+    IsOnlyWord values word

@@ -1,6 +1,7 @@
 //! Bits that are sent at places of a slot.
 
-ghost use Rattle.clean_air.specs.Carried.{SentWordIsOnly, SeenBitsAreHeard, DescrambledBitsAreHeard, CarriedBitsAreHeard};
+ghost use Rattle.clean_air.specs.Carried.{SentWordIsOnly, SeenBitsAreHeard};
+ghost use Rattle.clean_air.specs.Carried.{DescrambledBitsAreHeard, CarriedBitsAreHeard};
 
 /// Where each soft value speaks for the scrambled bit of one word of 6 to 64 bits that stands there, from
 /// the beginning of a reading on, with at least one value for each coded bit, the values tell this word

@@ -1,6 +1,7 @@
 //! The soft values of a subframe.
 
-ghost use Rattle.clean_air.specs.Subframe.{SeenSubframeIsHeard, SeenBlocksAreHeard, ReceivedSubframeIsHeard, ReceivedBlocksAreHeard};
+ghost use Rattle.clean_air.specs.Subframe.{SeenSubframeIsHeard, SeenBlocksAreHeard};
+ghost use Rattle.clean_air.specs.Subframe.{ReceivedSubframeIsHeard, ReceivedBlocksAreHeard};
 
 /// Where the pilots of both slots of a subframe are seen, each slot's with a gain of its own, and places
 /// that carry bits with the gain of their slot, the soft values of these places, two of each, speak for

@@ -1,6 +1,7 @@
 //! The word that clean values tell.
 
-ghost use Rattle.clean_air.specs.Words.{FourSpeakTogether, DescramblingKeeps, SumsSpeakByReading, SumsSpeakFrom, SumsSpeak, SpokenWordIsOnly};
+ghost use Rattle.clean_air.specs.Words.{FourSpeakTogether, DescramblingKeeps, SumsSpeakByReading, SumsSpeakFrom};
+ghost use Rattle.clean_air.specs.Words.{SumsSpeak, SpokenWordIsOnly};
 
 /// Where the values of a coded word, in the order in which it is sent and from any of its bits on,
 /// each speak for the bit that stands there, with at least one value for each bit, so do their sums

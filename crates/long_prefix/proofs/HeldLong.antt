@@ -22,11 +22,12 @@ use Rattle.clean_air.proofs.Held.{IsShown, number_fits, shown_is_held}
 use Rattle.clean_air.proofs.SentBlock.{is_block}
 use Rattle.clean_air.proofs.Speaking.{heard_bits_speak}
 use Rattle.long_prefix.specs.Entries.{long_slot, long_values, long_prefix_receiver, IsExplainedOfLong}
-use Rattle.long_prefix.specs.Clean.{IsLoadedLong, IsLongPlan, HoldsLoadedCellsOfLong, HoldsCleanCellsOfLong}
+use Rattle.clean_air.specs.Clean.{IsKnownPlan}
+use Rattle.long_prefix.specs.Clean.{IsLoadedLong, HoldsLoadedCellsOfLong, HoldsCleanCellsOfLong}
 use Rattle.long_prefix.proofs.SentSignals.{primary_at, signals_at, slot_row, points_stand, slot_received}
 use Rattle.long_prefix.proofs.Told.{values_heard}
 
-module _ (recording : List Sample) (plan : CellPlan) (grid : Elements) (sfn offset : ℕ) (gain : Cpx) (eps : ℕ) (known : IsLongPlan plan) (clean : IsLoadedLong recording plan grid sfn offset gain eps)
+module _ (recording : List Sample) (plan : CellPlan) (grid : Elements) (sfn offset : ℕ) (gain : Cpx) (eps : ℕ) (known : IsKnownPlan plan) (clean : IsLoadedLong recording plan grid sfn offset gain eps)
     (long : 57600 ≤ length recording) where
   abbrev number : ℕ
   number = number_at_start sfn offset

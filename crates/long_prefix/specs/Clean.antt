@@ -11,7 +11,7 @@ use Rattle.cell_tx.specs.Sent.{Elements}
 use Rattle.cell_tx.specs.Emission.{sent_by}
 use Rattle.cell_tx.specs.Clean.{IsCleanOf}
 use Rattle.clean_air.specs.Load.{IsLoadedAt}
-use Rattle.clean_air.specs.Clean.{HoldsOne, IsSentEntryBy}
+use Rattle.clean_air.specs.Clean.{IsKnownPlan, HoldsOne, IsSentEntryBy}
 
 -- a recording is clean of what a cell sends from the frame numbered sfn on
 pub record IsCleanOfLong (recording : List Sample) (plan : CellPlan) (sfn offset : ℕ) (gain : Cpx) (eps : ℕ) :
@@ -23,20 +23,15 @@ pub record IsCleanOfLong (recording : List Sample) (plan : CellPlan) (sfn offset
 abbrev pub IsLoadedLong : List Sample → CellPlan → Elements → ℕ → ℕ → Cpx → ℕ → Type 0
 IsLoadedLong recording plan grid sfn offset gain eps = IsLoadedAt Long recording plan grid sfn offset gain eps
 
--- what is sent of a plan has its ranges: the identity, and the spare bits of the master block
-pub record IsLongPlan (plan : CellPlan) : Type 0 where
-  pub identity : plan.identity ≤ 503
-  pub spare : plan.spare ≤ 1023
-
 -- the entry is as it was sent with one antenna port; its system information is not read
 abbrev pub IsSentEntryOfLong : CellPlan → ℕ → Entry → Type 0
 IsSentEntryOfLong plan number = IsSentEntryBy 1 plan.duration plan.resource plan.spare (Err LongPrefix) number
 
--- the list holds each cell of which the recording is clean, whatever its plan is, what it sends elsewhere, its first frame's number,
--- the offset, the gain and the errors
+-- the list holds each cell of which the recording is clean, whatever its plan is, what it sends elsewhere, its first
+-- frame's number, the offset, the gain and the errors
 abbrev pub HoldsLoadedCellsOfLong : List Sample → List Entry → Type 0
 HoldsLoadedCellsOfLong recording list =
-    (plan : CellPlan) (grid : Elements) (sfn offset : ℕ) (gain : Cpx) (eps : ℕ) → IsLongPlan plan →
+    (plan : CellPlan) (grid : Elements) (sfn offset : ℕ) (gain : Cpx) (eps : ℕ) → IsKnownPlan plan →
     IsLoadedLong recording plan grid sfn offset gain eps →
     HoldsOne list plan.identity (start_of offset) (number_at_start sfn offset)
     (IsSentEntryOfLong plan (number_at_start sfn offset))
@@ -44,7 +39,7 @@ HoldsLoadedCellsOfLong recording list =
 -- so each that sends nothing elsewhere
 abbrev pub HoldsCleanCellsOfLong : List Sample → List Entry → Type 0
 HoldsCleanCellsOfLong recording list =
-    (plan : CellPlan) (sfn offset : ℕ) (gain : Cpx) (eps : ℕ) → IsLongPlan plan →
+    (plan : CellPlan) (sfn offset : ℕ) (gain : Cpx) (eps : ℕ) → IsKnownPlan plan →
     IsCleanOfLong recording plan sfn offset gain eps →
     HoldsOne list plan.identity (start_of offset) (number_at_start sfn offset)
     (IsSentEntryOfLong plan (number_at_start sfn offset))

@@ -1,9 +1,10 @@
 -- The list of the cells that a recording explains by the extended cyclic prefix, to the master block. (own)
-use Rattle.std.specs.Prelude.{ℕ, ◌/◌, ◌%◌, true, List, slice_index_or, ℤ, pos, None}
+use Rattle.std.specs.Prelude.{ℕ, ◌/◌, ◌%◌, true, List, slice_index_or, ℤ, pos, Err}
 use Rattle.cs_num.specs.declared.Sample.{Sample}
 use Rattle.cs_num.specs.Complex.{times, conjugate}
 use Rattle.finite.specs.Lists.{values_below}
 use Rattle.lte_types.specs.declared.carrier.Carrier.TheVariants.{LongPrefix}
+use Rattle.lte_types.specs.declared.sib1_reason.Sib1Reason.TheVariants.{LongPrefix as Extended}
 use Rattle.lte_types.specs.declared.entry.Entry.{Entry}
 use Rattle.lte_types.specs.Numerology.{extended, useful_start}
 use Rattle.observe.specs.Seen.{seen_symbol}
@@ -23,12 +24,17 @@ use Rattle.grid_map.specs.LongBroadcast.{long_places}
 -- slot 1 of frame j of a cell's start, which carries the broadcast channel, as it is seen: its six symbols
 unfoldable pub long_slot : List Sample → ℕ → ℕ → ℕ → SeenSlot
 long_slot recording identity start j =
-    record { symbols = values_below 6 (λ symbol. seen_symbol recording (useful_start extended (frame_at start j) 1 symbol)); number = 1; identity = identity }
+    record {
+      symbols = values_below 6 (λ symbol. seen_symbol recording (useful_start extended (frame_at start j) 1 symbol));
+      number = 1;
+      identity = identity;
+    }
 
 -- the soft values of a place of it, by the reference signals of symbols 0 and 3
 unfoldable pub long_pair : SeenSlot → GridPlace → List ℤ
 long_pair slot p =
-    soft_pair (times (seen_at slot p.symbol p.k) (conjugate (pattern_channel long_prefix slot p.k))) (pattern_energy long_prefix slot)
+    soft_pair (times (seen_at slot p.symbol p.k) (conjugate (pattern_channel long_prefix slot p.k)))
+    (pattern_energy long_prefix slot)
 
 -- value i of the 432 of the broadcast channel: two of each place, real before imaginary
 abbrev pub long_value : SeenSlot → ℕ → ℤ
@@ -40,15 +46,15 @@ long_values slot = values_below 432 (long_value slot)
 
 -- ---- the receiver
 
--- it has 432 values of the broadcast channel in a frame, and takes each master block, whatever ports it tells; subframe 5 is not
--- read
+-- it has 432 values of the broadcast channel in a frame, and takes each master block, whatever ports it tells; subframe
+-- 5 is not read
 abbrev pub long_prefix_receiver : Receiver
 long_prefix_receiver = record {
   carrier = LongPrefix;
   size = 432;
   broadcast = λ recording place j. long_values (long_slot recording place.id place.start j);
   takes = λ ports. true;
-  subframe = None;
+  subframe = Err Extended;
 }
 
 -- the list of a recording
