@@ -15,30 +15,39 @@ use Rattle.cell_tx.specs.Ports.{sent_point}
 use Rattle.clean_air.specs.Carried.{AreHeard}
 use Rattle.two_ports.specs.Pairs.{pair_values, pair_at, paired_values}
 use Rattle.two_ports.specs.Received.{SupportFour, IsSlotReceivedOfTwo, CarryPair}
-use Rattle.two_ports.proofs.Paired.{length-paired, paired-at}
+use Rattle.finite.specs.Lists.{joined_below}
+use Rattle.two_ports.proofs.Paired.{length-fours, get_or-fours, length-pair_at}
 use Rattle.two_ports.proofs.ReceivedPairs.{received_pair_speaks}
 
 -- ---- one pair
 
--- four values speak for the bits from 4i on
+-- four values speak for the bits from 4i on, with this size and more
+abbrev pub SpeakAs : ℕ → (ℕ → Bool) → ℕ → List ℤ → Type 0
+SpeakAs least bits i values = SupportFour least (bits (4 * i)) (bits (4 * i + 1)) (bits (4 * i + 2)) (bits (4 * i + 3)) values
+
 abbrev pub SpeakFrom : (ℕ → Bool) → ℕ → List ℤ → Type 0
-SpeakFrom bits i values = SupportFour 16 (bits (4 * i)) (bits (4 * i + 1)) (bits (4 * i + 2)) (bits (4 * i + 3)) values
+SpeakFrom bits i values = SpeakAs 16 bits i values
+
+-- the bits of two points that follow one another
+pub of_points : (least : ℕ) (bits : ℕ → Bool) (i : ℕ) (values : List ℤ) →
+    SupportFour least (bits (2 * (2 * i))) (bits (2 * (2 * i) + 1)) (bits (2 * (2 * i + 1))) (bits (2 * (2 * i + 1) + 1)) values → SpeakAs least bits i values
+of_points least bits i values all =
+    let a : 2 * (2 * i) ≡ 4 * i = omega arith in
+    let b : 2 * (2 * i) + 1 ≡ 4 * i + 1 = omega arith in
+    let c : 2 * (2 * i + 1) ≡ 4 * i + 2 = omega arith in
+    let d : 2 * (2 * i + 1) + 1 ≡ 4 * i + 3 = omega arith in
+    let Holds : ℕ → ℕ → ℕ → ℕ → Type 0 = λ w x y z. SupportFour least (bits w) (bits x) (bits y) (bits z) values in
+    subst (λ w. Holds w (4 * i + 1) (4 * i + 2) (4 * i + 3)) a
+    (subst (λ x. Holds (2 * (2 * i)) x (4 * i + 2) (4 * i + 3)) b
+    (subst (λ y. Holds (2 * (2 * i)) (2 * (2 * i) + 1) y (4 * i + 3)) c
+    (subst (λ z. Holds (2 * (2 * i)) (2 * (2 * i) + 1) (2 * (2 * i + 1)) z) d all)))
 
 pub pair_speaks : (recording : List Sample) (starts : ℕ → ℕ) (grids others : ℕ → ℕ → Cpx) (slot : SeenSlot) (p q : Place) (bits : ℕ → Bool) (i : ℕ) →
     IsSlotReceivedOfTwo recording starts grids others slot → p.k < 72 → q.k < 72 → CarryPair grids others p q (point_of bits (2 * i)) (point_of bits (2 * i + 1)) →
     SpeakFrom bits i (pair_values slot p q)
 pair_speaks recording starts grids others slot p q bits i is l m carry =
-    let a : 2 * (2 * i) ≡ 4 * i = omega arith in
-    let b : 2 * (2 * i) + 1 ≡ 4 * i + 1 = omega arith in
-    let c : 2 * (2 * i + 1) ≡ 4 * i + 2 = omega arith in
-    let d : 2 * (2 * i + 1) + 1 ≡ 4 * i + 3 = omega arith in
-    let Holds : ℕ → ℕ → ℕ → ℕ → Type 0 = λ w x y z. SupportFour 16 (bits w) (bits x) (bits y) (bits z) (pair_values slot p q) in
-    let all : Holds (2 * (2 * i)) (2 * (2 * i) + 1) (2 * (2 * i + 1)) (2 * (2 * i + 1) + 1) =
-    received_pair_speaks recording starts grids others slot p q (bits (2 * (2 * i))) (bits (2 * (2 * i) + 1)) (bits (2 * (2 * i + 1))) (bits (2 * (2 * i + 1) + 1)) is l m carry in
-    subst (λ w. Holds w (4 * i + 1) (4 * i + 2) (4 * i + 3)) a
-    (subst (λ x. Holds (2 * (2 * i)) x (4 * i + 2) (4 * i + 3)) b
-    (subst (λ y. Holds (2 * (2 * i)) (2 * (2 * i) + 1) y (4 * i + 3)) c
-    (subst (λ z. Holds (2 * (2 * i)) (2 * (2 * i) + 1) (2 * (2 * i + 1)) z) d all)))
+    of_points 16 bits i (pair_values slot p q)
+    (received_pair_speaks recording starts grids others slot p q (bits (2 * (2 * i))) (bits (2 * (2 * i) + 1)) (bits (2 * (2 * i + 1))) (bits (2 * (2 * i + 1) + 1)) is l m carry)
 
 -- ---- what the second port sends of a pair
 
@@ -53,22 +62,28 @@ second_odd points i =
 
 -- ---- all pairs
 
-one_of_four : (bits : ℕ → Bool) (i q r : ℕ) (values : List ℤ) → i ≡ 4 * q + r → r < 4 → SpeakFrom bits q values → Supports 16 (bits i) (get_or values r (pos 0))
-one_of_four bits i q zero values e l four = subst (λ n. Supports 16 (bits n) (get_or values 0 (pos 0))) (let f : 4 * q ≡ i = omega (arith, e) in f) four.first
-one_of_four bits i q (suc zero) values e l four = subst (λ n. Supports 16 (bits n) (get_or values 1 (pos 0))) (sym e) four.second
-one_of_four bits i q (suc (suc zero)) values e l four = subst (λ n. Supports 16 (bits n) (get_or values 2 (pos 0))) (sym e) four.third
-one_of_four bits i q (suc (suc (suc zero))) values e l four = subst (λ n. Supports 16 (bits n) (get_or values 3 (pos 0))) (sym e) four.fourth
-one_of_four bits i q (suc (suc (suc (suc n)))) values e l four = absurd (omega (arith, l))
+one_of_four : (least : ℕ) (bits : ℕ → Bool) (i q r : ℕ) (values : List ℤ) → i ≡ 4 * q + r → r < 4 → SpeakAs least bits q values → Supports least (bits i) (get_or values r (pos 0))
+one_of_four least bits i q zero values e l four = subst (λ n. Supports least (bits n) (get_or values 0 (pos 0))) (let f : 4 * q ≡ i = omega (arith, e) in f) four.first
+one_of_four least bits i q (suc zero) values e l four = subst (λ n. Supports least (bits n) (get_or values 1 (pos 0))) (sym e) four.second
+one_of_four least bits i q (suc (suc zero)) values e l four = subst (λ n. Supports least (bits n) (get_or values 2 (pos 0))) (sym e) four.third
+one_of_four least bits i q (suc (suc (suc zero))) values e l four = subst (λ n. Supports least (bits n) (get_or values 3 (pos 0))) (sym e) four.fourth
+one_of_four least bits i q (suc (suc (suc (suc n)))) values e l four = absurd (omega (arith, l))
+
+-- lists of four values, one after the other, of which each speaks for its four bits
+pub fours_heard : (least n : ℕ) (bits : ℕ → Bool) (f : ℕ → List ℤ) → ((k : ℕ) → length (f k) ≡ 4) → ((i : ℕ) → i < n → SpeakAs least bits i (f i)) → AreHeard least (4 * n) bits (joined_below n f)
+fours_heard least n bits f fours each = record {
+  size = length-fours n f fours;
+  value = λ i inside. subst (λ z. Supports least (bits i) z) (sym (get_or-fours n i f fours inside))
+      (one_of_four least bits i (i / 4) (i % 4) (f (i / 4)) (omega arith) (omega arith) (each (i / 4) (omega (arith, inside))));
+}
 
 pub paired_heard : (slot : Place → SeenSlot) (places : List Place) (bits : ℕ → Bool) → length places % 2 ≡ 0 →
     ((i : ℕ) → i < length places / 2 → SpeakFrom bits i (pair_at slot places i)) → AreHeard 16 (2 * length places) bits (paired_values slot places)
-paired_heard slot places bits even each = record {
-  size = let size = length-paired slot places in omega (arith, size, even);
-  value = λ i inside.
-      let few : i < 4 * (length places / 2) = omega (arith, inside, even) in
-      subst (λ z. Supports 16 (bits i) z) (sym (paired-at slot places i few))
-      (one_of_four bits i (i / 4) (i % 4) (pair_at slot places (i / 4)) (omega arith) (omega arith) (each (i / 4) (omega (arith, few))));
-}
+unfolding paired_values
+paired_heard slot places bits even each =
+    let count : 4 * (length places / 2) ≡ 2 * length places = omega (arith, even) in
+    subst (λ n. AreHeard 16 n bits (joined_below (length places / 2) (pair_at slot places))) count
+    (fours_heard 16 (length places / 2) bits (pair_at slot places) (length-pair_at slot places) each)
 
 -- they are those of the slots of the first places of pairs
 pub paired_same : (slot other : Place → SeenSlot) (places : List Place) → ((i : ℕ) → i < length places / 2 → slot (get_or places (2 * i) (place 0 0)) ≡ other (get_or places (2 * i) (place 0 0))) →

@@ -1,18 +1,21 @@
 -- The values of pairs of places: how many they are, each of them, and their sizes.
-use Rattle.std.proofs.Common.{◌≡◌, ℕ, zero, suc, ◌-◌, ◌*◌, ◌/◌, ◌%◌, ◌<◌, ◌≤◌, inl, inr, List, [], ◌∷◌, length, get_or, ℤ, pos, arith, refl, ap₂, sym, ◌∙◌, length-append}
+use Rattle.std.proofs.Common.{◌≡◌, ℕ, zero, suc, ◌+◌, ◌-◌, ◌*◌, ◌/◌, ◌%◌, ◌<◌, ◌≤◌, inl, inr, List, [], ◌∷◌, length, get_or, ℤ, pos, arith, refl, ap, ap₂, sym, take, ◌++◌, ◌∙◌, length-append}
 use Rattle.std.specs.Prelude.{nat_abs}
 use Rattle.std.proofs.Math.ListN.{get_or-append}
 use Rattle.std.proofs.lemmas.Bool.{cases_lt}
-use Rattle.std.proofs.lemmas.List.{get_or-append_right}
+use borrow.Rule.Slice.PartMut.{put_mid}
+use Rattle.std.proofs.lemmas.Slice.{take-put_mid}
+use Rattle.std.proofs.lemmas.List.{get_or-append_right, take_all}
 use Rattle.std.proofs.lemmas.List.Elements.{All-append, All-cons, All-nil}
 use Rattle.finite.specs.Lists.{joined_below}
 use Rattle.finite.specs.Sizes.{AllWithin}
+use Rattle.finite.proofs.Lists.{joined_below_more}
 use Rattle.cs_num.specs.declared.Cpx.{Cpx}
 use Rattle.grid_map.specs.declared.Place.{Place}
 use Rattle.crs.specs.Reference.{port_0, port_1}
 use Rattle.soft_bits.specs.Soft.{SeenSlot, seen_at, pattern_channel, soft_pair, soft_value}
 use Rattle.soft_bits.proofs.Channel.{soft_value-small}
-use Rattle.two_ports.specs.Pairs.{first_of, second_of, pilots_energy, values_seen, pair_values, pair_at, paired_values}
+use Rattle.two_ports.specs.Pairs.{first_of, second_of, pilots_energy, point_values, pair_values, pair_at, paired_values}
 
 -- ---- lists of four after four
 
@@ -43,6 +46,19 @@ unfolding joined_below
 all-fours zero f each = All-nil (λ z. nat_abs z ≤ 127)
 all-fours (suc n) f each = All-append (λ z. nat_abs z ≤ 127) (joined_below n f) (f n) (all-fours n f each) (each n)
 
+-- four more are written
+pub four_more : (i : ℕ) (f : ℕ → List ℤ) (values four : List ℤ) → length (f i) ≡ 4 → 4 * i + 4 ≤ length values → take (4 * i) values ≡ joined_below i f → four ≡ f i →
+    take (4 * (i + 1)) (put_mid (4 * i) (4 * i + 4 - 4 * i) values four) ≡ joined_below (i + 1) f
+four_more i f values four size room before here =
+    let long : length four ≡ 4 = ap (λ (xs : List ℤ). length xs) here ∙ size in
+    take-put_mid (4 * i) (4 * i + 4 - 4 * i) values four (4 * (i + 1)) (omega (arith, long)) (omega (arith, room))
+    ∙ ap₂ (λ (xs ys : List ℤ). xs ++ ys) before here ∙ sym (joined_below_more i f)
+
+-- all are
+pub fours_done : (i n : ℕ) (f : ℕ → List ℤ) (values : List ℤ) → length values ≡ 4 * n → i ≡ n → take (4 * i) values ≡ joined_below i f → values ≡ joined_below n f
+fours_done i n f values whole last so_far =
+    sym (take_all (4 * i) values (omega (arith, whole, last))) ∙ so_far ∙ ap (λ (m : ℕ). joined_below m f) last
+
 -- ---- pairs
 
 pub pair-small : (a : Cpx) (energy : ℕ) → AllWithin 127 (soft_pair a energy)
@@ -50,11 +66,9 @@ pair-small a energy =
     All-cons (λ z. nat_abs z ≤ 127) (soft_value a.re energy) (soft_value a.im energy ∷ []) (soft_value-small a.re energy)
     (All-cons (λ z. nat_abs z ≤ 127) (soft_value a.im energy) [] (soft_value-small a.im energy) (All-nil (λ z. nat_abs z ≤ 127)))
 
-pub seen-small : (slot : SeenSlot) (k : ℕ) (a b : Cpx) → AllWithin 127 (values_seen slot k a b)
-seen-small slot k a b =
-    let h : Cpx = pattern_channel port_0 slot k in
-    let g : Cpx = pattern_channel port_1 slot k in
-    let energy : ℕ = pilots_energy slot in
+-- of a pair, by any channels
+pub points-small : (h g : Cpx) (energy : ℕ) (a b : Cpx) → AllWithin 127 (point_values h g energy a b)
+points-small h g energy a b =
     All-append (λ z. nat_abs z ≤ 127) (soft_pair (first_of h g a b) energy) (soft_pair (second_of h g a b) energy)
     (pair-small (first_of h g a b) energy) (pair-small (second_of h g a b) energy)
 
@@ -64,7 +78,8 @@ length-pair slot p q = refl
 
 pub values-small : (slot : SeenSlot) (p q : Place) → AllWithin 127 (pair_values slot p q)
 unfolding pair_values
-values-small slot p q = seen-small slot p.k (seen_at slot (p.symbol % 7) p.k) (seen_at slot (q.symbol % 7) q.k)
+values-small slot p q =
+    points-small (pattern_channel port_0 slot p.k) (pattern_channel port_1 slot p.k) (pilots_energy slot) (seen_at slot (p.symbol % 7) p.k) (seen_at slot (q.symbol % 7) q.k)
 
 module _ (slot : Place → SeenSlot) (places : List Place) where
   pub length-pair_at : (i : ℕ) → length (pair_at slot places i) ≡ 4

@@ -17,7 +17,7 @@ use Rattle.two_ports.specs.Received.{ArePortsSeen, IsPairSeen, IsSlotReceivedOfT
 use Rattle.two_ports.proofs.Values.{pair_values_speak}
 
 -- the symbols of pilots are among the seven
-symbol_few : (pattern : Pattern) (identity i : ℕ) → pattern.later < 7 → pattern_symbol pattern identity i < 7
+pub symbol_few : (pattern : Pattern) (identity i : ℕ) → pattern.later < 7 → pattern_symbol pattern identity i < 7
 unfolding pattern_symbol
 symbol_few pattern identity i later = few (is_pattern_place pattern identity 0 (pilot_subcarrier identity i))
   where

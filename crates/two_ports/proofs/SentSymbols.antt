@@ -56,7 +56,7 @@ received_at recording grid others sfn offset gain other eps t j slot l clean a b
 times-nothing_left : (a : Cpx) → times nothing a ≡ nothing
 times-nothing_left a = times-commutes nothing a ∙ times-nothing a
 
-no_signal : (grid : ℕ → Cpx) (n : ℕ) → ((k : ℕ) → k < 72 → grid k ≡ nothing) → useful_at grid n ≡ nothing
+pub no_signal : (grid : ℕ → Cpx) (n : ℕ) → ((k : ℕ) → k < 72 → grid k ≡ nothing) → useful_at grid n ≡ nothing
 unfolding useful_at
 no_signal grid n none =
     ap (λ (z : Cpx). rounded z 17) (sum_zero 72 (useful_term grid n) (λ k l. ap (λ (z : Cpx). times z (w_at (frequency k * n))) (none k l) ∙ times-nothing_left (w_at (frequency k * n))))
@@ -70,7 +70,7 @@ as_one_port eps gain other grid others alone samples received same none n l =
 
 -- ---- the synchronisation signals
 
-either : (b : Bool) → (if b then nothing else nothing) ≡ nothing
+pub either : (b : Bool) → (if b then nothing else nothing) ≡ nothing
 either true = refl
 either false = refl
 

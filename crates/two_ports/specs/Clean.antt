@@ -12,8 +12,10 @@ use Rattle.cell_tx.specs.Clean.{IsCleanOfTwo, IsCleanOfPorts}
 use Rattle.clean_air.specs.Load.{CarriesPlan}
 use Rattle.clean_air.specs.Clean.{HoldsOne, IsSentEntryBy}
 
--- a recording is clean of elements of both ports that carry the plan, from the frame numbered sfn on, whatever else they are
-pub record IsLoadedOfPorts (recording : List Sample) (plan : CellPlan) (grid others : Elements) (sfn offset : ℕ) (gain other : Cpx) (eps : ℕ) : Type 0 where
+-- a recording is clean of elements of both ports that carry the plan, from the frame numbered sfn on, whatever else
+-- they are
+pub record IsLoadedOfPorts (recording : List Sample) (plan : CellPlan) (grid others : Elements) (sfn offset : ℕ)
+    (gain other : Cpx) (eps : ℕ) : Type 0 where
   pub number : sfn ≤ 1023
   pub carries : CarriesPlan First plan grid
   pub other_carries : CarriesPlan Second plan others
@@ -27,15 +29,17 @@ IsSentEntryOfTwo plan number = IsSentEntryBy 2 plan.duration plan.resource plan.
 abbrev pub HoldsCellOfTwo : List Entry → CellPlan → ℕ → ℕ → Type 0
 HoldsCellOfTwo list plan first number = HoldsOne list plan.identity first number (IsSentEntryOfTwo plan number)
 
--- of each cell of which the recording is clean, whatever its plan is, what its ports send elsewhere, its first frame's number, the
--- offset, the gains and the errors
+-- of each cell of which the recording is clean, whatever its plan is, what its ports send elsewhere, its first frame's
+-- number, the offset, the gains and the errors
 abbrev pub HoldsLoadedCellsOfTwo : List Sample → List Entry → Type 0
 HoldsLoadedCellsOfTwo recording list =
     (plan : CellPlan) (grid others : Elements) (sfn offset : ℕ) (gain other : Cpx) (eps : ℕ) → IsSendableOfTwo plan →
-    IsLoadedOfPorts recording plan grid others sfn offset gain other eps → HoldsCellOfTwo list plan (start_of offset) (number_at_start sfn offset)
+    IsLoadedOfPorts recording plan grid others sfn offset gain other eps →
+    HoldsCellOfTwo list plan (start_of offset) (number_at_start sfn offset)
 
 -- so of each whose ports send nothing elsewhere
 abbrev pub HoldsCleanCellsOfTwo : List Sample → List Entry → Type 0
 HoldsCleanCellsOfTwo recording list =
     (plan : CellPlan) (sfn offset : ℕ) (gain other : Cpx) (eps : ℕ) → IsSendableOfTwo plan →
-    IsCleanOfPorts recording plan sfn offset gain other eps → HoldsCellOfTwo list plan (start_of offset) (number_at_start sfn offset)
+    IsCleanOfPorts recording plan sfn offset gain other eps →
+    HoldsCellOfTwo list plan (start_of offset) (number_at_start sfn offset)

@@ -1,5 +1,5 @@
--- The soft values of pairs of places that two antenna ports send (TS 36.211 section 6.3.4.3, without its factor; the receiver is
--- own).
+-- The soft values of pairs of places that two antenna ports send (TS 36.211 section 6.3.4.3, without its factor; the
+-- receiver is own).
 use Rattle.std.specs.Prelude.{ℕ, ◌+◌, ◌*◌, ◌/◌, ◌%◌, List, ◌++◌, ℤ, length, slice_index_or}
 use Rattle.finite.specs.Lists.{joined_below}
 use Rattle.cs_num.specs.declared.Cpx.{Cpx}
@@ -10,7 +10,8 @@ use Rattle.grid_map.specs.Place.{place}
 use Rattle.soft_bits.specs.Places.{Valuing}
 use Rattle.soft_bits.specs.Soft.{SeenSlot, seen_at, pattern_channel, pattern_energy, soft_pair}
 
--- what stands for the first point of a pair, by the channels h and k of the two ports, where a and b were seen at its two places
+-- what stands for the first point of a pair, by the channels h and k of the two ports, where a and b were seen at its
+-- two places
 abbrev pub first_of : Cpx → Cpx → Cpx → Cpx → Cpx
 first_of h k a b = plus (times (conjugate h) a) (times k (conjugate b))
 
@@ -22,21 +23,25 @@ second_of h k a b = minus (times (conjugate h) b) (times k (conjugate a))
 unfoldable pub pilots_energy : SeenSlot → ℕ
 pilots_energy slot = pattern_energy port_0 slot + pattern_energy port_1 slot
 
--- the four values of what was seen at two places, by the channels at a subcarrier: those of the first point, then those of the second
-abbrev pub values_seen : SeenSlot → ℕ → Cpx → Cpx → List ℤ
-values_seen slot k a b =
-    soft_pair (first_of (pattern_channel port_0 slot k) (pattern_channel port_1 slot k) a b) (pilots_energy slot)
-    ++ soft_pair (second_of (pattern_channel port_0 slot k) (pattern_channel port_1 slot k) a b) (pilots_energy slot)
+-- the four values of the points of a pair, by these channels and the energy of the pilots: those of the first point,
+-- then those of the second
+abbrev pub point_values : Cpx → Cpx → ℕ → Cpx → Cpx → List ℤ
+point_values h k energy a b = soft_pair (first_of h k a b) energy ++ soft_pair (second_of h k a b) energy
 
--- those of two places of the slot's subframe, whose symbols 7 to 13 are those of its second slot; the channels are those at the
--- first place
+-- those of what was seen at two places, by the channels at a subcarrier
+abbrev pub values_seen : SeenSlot → ℕ → Cpx → Cpx → List ℤ
+values_seen slot k = point_values (pattern_channel port_0 slot k) (pattern_channel port_1 slot k) (pilots_energy slot)
+
+-- those of two places of the slot's subframe, whose symbols 7 to 13 are those of its second slot; the channels are
+-- those at the first place
 unfoldable pub pair_values : SeenSlot → Place → Place → List ℤ
 pair_values slot p q = values_seen slot p.k (seen_at slot (p.symbol % 7) p.k) (seen_at slot (q.symbol % 7) q.k)
 
 -- pair i of a list of places takes the places 2i and 2i + 1; `slot` says which slot has a place
 abbrev pub pair_at : (Place → SeenSlot) → List Place → ℕ → List ℤ
 pair_at slot places i =
-    let first = slice_index_or places (2 * i) (place 0 0) in pair_values (slot first) first (slice_index_or places (2 * i + 1) (place 0 0))
+    let first = slice_index_or places (2 * i) (place 0 0) in
+    pair_values (slot first) first (slice_index_or places (2 * i + 1) (place 0 0))
 
 -- the values of all pairs, one pair after the other
 unfoldable pub paired_values : Valuing

@@ -13,4 +13,4 @@ pub use clean::explain_clean;
 pub use explain::Workspace as Workspace2;
 pub use laws::pair_values_speak_for_the_sent_bits;
 pub use slot::PairSlot;
-pub use value::pair;
+pub use value::{pair, point_values};

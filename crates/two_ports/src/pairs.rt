@@ -10,8 +10,9 @@ use grid_map::Place;
 use soft_bits::slot_of;
 
 /// Writes the soft values of places of a subframe over the whole of `values`, two a place, in the order of the places,
-/// which are taken two by two. A place in symbols 0 to 6 is one of the subframe's first slot, and one in symbols 7 to 13
-/// one of its second; both places of a pair are in one slot, that of the first of them. There is an even count of places.
+/// which are taken two by two. A place in symbols 0 to 6 is one of the subframe's first slot, and one in symbols 7 to
+/// 13 one of its second; both places of a pair are in one slot, that of the first of them. There is an even count of
+/// places.
 pub(crate) fn fill_pairs(first: &PairSlot, second: &PairSlot, places: &[Place], values: &mut [i16])
     requires inside { All (λ p. (p.symbol < 14) × (p.k < 72)) places.now }
     requires even { length places.now % 2 ≡ 0 }

@@ -57,8 +57,8 @@ impl PairSlot {
         }
     }
 
-    // The seen value at a place.
-    pub(crate) fn seen(&self, symbol: u8, k: u8) -> Cpx
+    /// The seen value at a place. `symbol` is 0 to 6 and `k` 0 to 71; components have size at most 2^25.
+    pub fn seen(&self, symbol: u8, k: u8) -> Cpx
         requires symbol { symbol < 7 }
         requires k { k < 72 }
         ensures value { result ≡ seen_at self.now symbol k }
@@ -67,8 +67,8 @@ impl PairSlot {
         self.slot.seen(symbol, k)
     }
 
-    // Three times the channel of the first port at a subcarrier.
-    pub(crate) fn first_channel(&self, k: u8) -> Cpx
+    /// Three times the channel of the first port at a subcarrier, 0 to 71, times the square of a reference's size.
+    pub fn first_channel(&self, k: u8) -> Cpx
         requires { k < 72 }
         ensures value { result ≡ pattern_channel port_0 self.now k }
         ensures small { IsWithin (540 * 2 ^ 25) result }
@@ -76,8 +76,8 @@ impl PairSlot {
         self.slot.channel(k)
     }
 
-    // Three times the channel of the second port at a subcarrier.
-    pub(crate) fn second_channel(&self, k: u8) -> Cpx
+    /// That of the second port.
+    pub fn second_channel(&self, k: u8) -> Cpx
         requires { k < 72 }
         ensures value { result ≡ pattern_channel port_1 self.now k }
         ensures small { IsWithin (540 * 2 ^ 25) result }

@@ -8,25 +8,25 @@ use Rattle.two_ports.proofs.value.second_point.Goals as goal
 turned : (z w : Cpx) (m : ℕ) → w ≡ conjugate z → IsWithin m z → IsWithin m w
 turned z w m e small = rw e (conjugate-within z m small)
 
-product : (h a z : Cpx) → z ≡ times h a → IsWithin (540 * 2 ^ 25) h → IsWithin (2 ^ 25) a → IsWithin (1080 * 2 ^ 50) z
-product h a z e p q = rw e (times-within h a (540 * 2 ^ 25) (2 ^ 25) (540 * 2 ^ 50) p q (omega arith))
+product : (h a z : Cpx) → z ≡ times h a → IsWithin (1080 * 2 ^ 25) h → IsWithin (2 ^ 25) a → IsWithin (2160 * 2 ^ 50) z
+product h a z e p q = rw e (times-within h a (1080 * 2 ^ 25) (2 ^ 25) (1080 * 2 ^ 50) p q (omega arith))
 
 pub mul-requires : goal.mul-requires
 mul-requires c =
-    omega (arith, mul-le (size c.conj.result) (size c.args.b) (540 * 2 ^ 25) (2 ^ 25) (size-le _ _ (turned c.args.h c.conj.result (540 * 2 ^ 25) c.conj.ensures c.requires.h)) (size-le _ _ c.requires.b))
+    omega (arith, mul-le (size c.conj.result) (size c.args.b) (1080 * 2 ^ 25) (2 ^ 25) (size-le _ _ (turned c.args.h c.conj.result (1080 * 2 ^ 25) c.conj.ensures c.requires.h)) (size-le _ _ c.requires.b))
 
 pub mul-requires-2 : goal.mul-requires-2
 mul-requires-2 c =
-    omega (arith, mul-le (size c.args.g) (size c.conj-2.result) (540 * 2 ^ 25) (2 ^ 25) (size-le _ _ c.requires.g) (size-le _ _ (turned c.args.a c.conj-2.result (2 ^ 25) c.conj-2.ensures c.requires.a)))
+    omega (arith, mul-le (size c.args.g) (size c.conj-2.result) (1080 * 2 ^ 25) (2 ^ 25) (size-le _ _ c.requires.g) (size-le _ _ (turned c.args.a c.conj-2.result (2 ^ 25) c.conj-2.ensures c.requires.a)))
 
 pub sub-requires : goal.sub-requires
 sub-requires c =
-    let x : IsWithin (1080 * 2 ^ 50) c.mul.result = product c.conj.result c.args.b c.mul.result c.mul.ensures (turned c.args.h c.conj.result (540 * 2 ^ 25) c.conj.ensures c.requires.h) c.requires.b in
-    let y : IsWithin (1080 * 2 ^ 50) c.mul-2.result = product c.args.g c.conj-2.result c.mul-2.result c.mul-2.ensures c.requires.g (turned c.args.a c.conj-2.result (2 ^ 25) c.conj-2.ensures c.requires.a) in
+    let x : IsWithin (2160 * 2 ^ 50) c.mul.result = product c.conj.result c.args.b c.mul.result c.mul.ensures (turned c.args.h c.conj.result (1080 * 2 ^ 25) c.conj.ensures c.requires.h) c.requires.b in
+    let y : IsWithin (2160 * 2 ^ 50) c.mul-2.result = product c.args.g c.conj-2.result c.mul-2.result c.mul-2.ensures c.requires.g (turned c.args.a c.conj-2.result (2 ^ 25) c.conj-2.ensures c.requires.a) in
     omega (arith, size-le _ _ x, size-le _ _ y)
 
 pub returns-clause-small : goal.returns-clause-small
 returns-clause-small c =
-    let x : IsWithin (1080 * 2 ^ 50) c.mul.result = product c.conj.result c.args.b c.mul.result c.mul.ensures (turned c.args.h c.conj.result (540 * 2 ^ 25) c.conj.ensures c.requires.h) c.requires.b in
-    let y : IsWithin (1080 * 2 ^ 50) c.mul-2.result = product c.args.g c.conj-2.result c.mul-2.result c.mul-2.ensures c.requires.g (turned c.args.a c.conj-2.result (2 ^ 25) c.conj-2.ensures c.requires.a) in
-    rw c.sub.ensures (minus-within c.mul.result c.mul-2.result (1080 * 2 ^ 50) (1080 * 2 ^ 50) (2160 * 2 ^ 50) x y (omega arith))
+    let x : IsWithin (2160 * 2 ^ 50) c.mul.result = product c.conj.result c.args.b c.mul.result c.mul.ensures (turned c.args.h c.conj.result (1080 * 2 ^ 25) c.conj.ensures c.requires.h) c.requires.b in
+    let y : IsWithin (2160 * 2 ^ 50) c.mul-2.result = product c.args.g c.conj-2.result c.mul-2.result c.mul-2.ensures c.requires.g (turned c.args.a c.conj-2.result (2 ^ 25) c.conj-2.ensures c.requires.a) in
+    rw c.sub.ensures (minus-within c.mul.result c.mul-2.result (2160 * 2 ^ 50) (2160 * 2 ^ 50) (4320 * 2 ^ 50) x y (omega arith))
