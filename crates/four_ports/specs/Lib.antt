@@ -1,0 +1,5 @@
+pub mod Pairs
+pub mod Kept
+pub mod Entries
+pub mod Received
+pub mod Clean

@@ -1,0 +1,43 @@
+//! The way to read frames with four antenna ports.
+
+ghost use Rattle.four_ports.specs.Entries.{four_ports_receiver};
+
+use crate::FourSlot;
+use explain::{FrameReader, Informed, received_in};
+use lte_types::{Carrier, CellPlace, Sfn, Sib1Reason};
+use pbch::{Master, Received};
+use sample_file::Recording;
+use system_block::Decoders;
+
+// The way to read frames with four antenna ports, to the master block: those that tell four are taken, and no others.
+pub(crate) struct FourPorts;
+
+impl FrameReader for FourPorts {
+    ghost receiver = { four_ports_receiver };
+
+    fn carrier(&self) -> Carrier {
+        Carrier::FourPorts
+    }
+
+    fn received(&self, recording: &Recording, place: CellPlace, j: u8) -> Received {
+        received_in::<FourSlot>(recording, place, j)
+    }
+
+    fn takes_ports(&self, ports: u8) -> bool {
+        ports == 4
+    }
+
+    fn system_of(
+        &self,
+        recording: &Recording,
+        place: CellPlace,
+        sfn: Sfn,
+        master: Master,
+        work: &mut Decoders,
+    ) -> Informed {
+        Informed {
+            sib1: Err(Sib1Reason::NotOnePort(4)),
+            granted: None,
+        }
+    }
+}

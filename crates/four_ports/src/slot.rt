@@ -1,0 +1,177 @@
+//! A slot of a cell with four antenna ports, as it was seen.
+
+ghost use Rattle.std.specs.Prelude.{◌≡◌, ◌*◌, ◌^◌, ◌<◌, ◌≤◌, All};
+ghost use Rattle.finite.specs.Lists.{values_below};
+ghost use Rattle.cs_num.specs.Complex.{IsWithin};
+ghost use Rattle.crs.specs.Reference.{port_0, port_1};
+ghost use Rattle.lte_types.specs.declared.carrier.Carrier.TheVariants.{FourPorts};
+ghost use Rattle.soft_bits.specs.Soft.{SeenSlot, AreSmall, seen_at, pattern_pilot};
+ghost use Rattle.soft_bits.specs.Single.{single_pilot, single_channel};
+ghost use Rattle.four_ports.specs.Kept.{IsFourKept};
+ghost use Rattle.four_ports.specs.Pairs.{lower_channel, upper_channel, ports_energy, paired_values};
+
+use crate::pairs::fill_pairs;
+use crs::{Pattern, SinglePort, first_of_single};
+use cs_num::Cpx;
+use grid_map::Place;
+use lte_types::{Carrier, CellId};
+use soft_bits::{ReadSlot, Seen, single_energy_of, single_estimate, single_pilots_of};
+use std::marker::Model;
+use two_ports::PairSlot;
+
+/// A slot with the pilots of all four antenna ports. Contracts see it as the record of the slot.
+#[derive(Drop)]
+pub struct FourSlot {
+    // The slot with the pilots of ports 0 and 1.
+    lower: PairSlot,
+    third: [Cpx; 12],
+    fourth: [Cpx; 12],
+    energy: u64,
+}
+
+impl Model for FourSlot {
+    ghost Value = { SeenSlot };
+
+    ghost view = { λ s. s.lower };
+
+    ghost invariant = { λ s. IsFourKept s.lower s.third s.fourth s.energy };
+}
+
+impl FourSlot {
+    /// The slot with these symbols. `number` is 0 to 19, and components have size at most 2^25.
+    pub fn new(seen: [[Cpx; 72]; 7], number: u8, id: CellId) -> FourSlot
+        requires number { number < 20 }
+        requires small { AreSmall seen }
+        ensures { result ≡ record { symbols = seen; number = number; identity = id } }
+    {
+        let upper = Seen {
+            symbols: &seen,
+            number,
+            id,
+            pattern: Pattern::FIRST_PORT,
+        };
+        let third = single_pilots_of(&upper, SinglePort::Third);
+        let fourth = single_pilots_of(&upper, SinglePort::Fourth);
+        let third_energy = single_energy_of(&upper, SinglePort::Third);
+        let fourth_energy = single_energy_of(&upper, SinglePort::Fourth);
+        let lower = PairSlot::new(seen, number, id);
+        let energy = lower.energy() + 2 * (third_energy + fourth_energy);
+        FourSlot {
+            lower,
+            third,
+            fourth,
+            energy,
+        }
+    }
+
+    // The seen value at a place.
+    pub(crate) fn seen(&self, symbol: u8, k: u8) -> Cpx
+        requires symbol { symbol < 7 }
+        requires k { k < 72 }
+        ensures value { result ≡ seen_at self.now symbol k }
+        ensures small { IsWithin (2 ^ 25) result }
+    {
+        self.lower.seen(symbol, k)
+    }
+
+    // Six times the channel at a subcarrier of the port, 0 or 1, that sends pair number i.
+    pub(crate) fn lower_channel(&self, i: usize, k: u8) -> Cpx
+        requires { k < 72 }
+        ensures value { result ≡ lower_channel i self.now k }
+        ensures small { IsWithin (1080 * 2 ^ 25) result }
+    {
+        if i % 2 == 0 {
+            self.lower.first_channel(k).scaled(2)
+        } else {
+            self.lower.second_channel(k).scaled(2)
+        }
+    }
+
+    // Six times that of the port, 2 or 3, that sends it too.
+    pub(crate) fn upper_channel(&self, i: usize, k: u8) -> Cpx
+        requires { k < 72 }
+        ensures value { result ≡ upper_channel i self.now k }
+        ensures small { IsWithin (1080 * 2 ^ 25) result }
+    {
+        if i % 2 == 0 {
+            self.single_channel(SinglePort::Third, k)
+        } else {
+            self.single_channel(SinglePort::Fourth, k)
+        }
+    }
+
+    // Six times the channel of port 2 or 3 at a subcarrier.
+    fn single_channel(&self, port: SinglePort, k: u8) -> Cpx
+        requires { k < 72 }
+        ensures value { result ≡ single_channel port self.now k }
+        ensures small { IsWithin (1080 * 2 ^ 25) result }
+    {
+        let first = first_of_single(port, self.lower.cell(), self.lower.slot_number());
+        single_estimate(self.single_pilots(port), first, k)
+    }
+
+    /// The pilots of port 0: at each of its 24 reference places, by subcarrier, what was seen there times the conjugate
+    /// of what was sent. Components have size at most 180 * 2^25.
+    pub fn first_pilots(&self) -> &[Cpx; 24]
+        ensures value { result.now ≡ values_below 24 (pattern_pilot port_0 self.now) }
+        ensures small { All (IsWithin (180 * 2 ^ 25)) result.now }
+    {
+        self.lower.first_pilots()
+    }
+
+    /// Those of port 1.
+    pub fn second_pilots(&self) -> &[Cpx; 24]
+        ensures value { result.now ≡ values_below 24 (pattern_pilot port_1 self.now) }
+        ensures small { All (IsWithin (180 * 2 ^ 25)) result.now }
+    {
+        self.lower.second_pilots()
+    }
+
+    /// Those of port 2 or 3, which has 12.
+    pub fn single_pilots(&self, port: SinglePort) -> &[Cpx; 12]
+        ensures value { result.now ≡ values_below 12 (single_pilot port self.now) }
+        ensures small { All (IsWithin (180 * 2 ^ 25)) result.now }
+    {
+        match port {
+            SinglePort::Third => &self.third,
+            SinglePort::Fourth => &self.fourth,
+        }
+    }
+
+    /// The energy of the pilots of all ports: the sum of the squares of the sizes of what was seen at the 48 reference
+    /// places of ports 0 and 1, and twice that at the 24 of ports 2 and 3. It is at most 96 * 2^51.
+    pub fn energy(&self) -> u64
+        ensures value { result ≡ ports_energy self.now }
+        ensures few { result ≤ 96 * 2 ^ 51 }
+    {
+        self.energy
+    }
+}
+
+impl ReadSlot for FourSlot {
+    ghost seen_as = { λ s. s };
+
+    ghost carrier = { FourPorts };
+
+    ghost values_by = { paired_values };
+
+    fn of(seen: [[Cpx; 72]; 7], number: u8, id: CellId) -> FourSlot {
+        FourSlot::new(seen, number, id)
+    }
+
+    fn carrier() -> Carrier {
+        Carrier::FourPorts
+    }
+
+    fn cell(&self) -> CellId {
+        self.lower.cell()
+    }
+
+    fn slot_number(&self) -> u8 {
+        self.lower.slot_number()
+    }
+
+    fn fill(&self, second: &FourSlot, places: &[Place], values: &mut [i16]) {
+        fill_pairs(self, second, places, values);
+    }
+}
