@@ -7,7 +7,6 @@ use Rattle.lte_types.specs.declared.entry.Entry.{Entry}
 use Rattle.lte_types.specs.Timing.{start_of, number_at_start}
 use Rattle.soft_bits.specs.Soft.{SeenSlot, pilot, pilot_energy}
 use Rattle.explain.specs.Frame.{broadcast_slot}
-use Rattle.explain.specs.EntrySlot.{slot_of_entry}
 use Rattle.explain.specs.Entries.{IsInList}
 use Rattle.cell_tx.specs.declared.cell.CellPlan.{CellPlan}
 use Rattle.cell_tx.specs.Plan.{IsSendable}
@@ -24,8 +23,8 @@ use Rattle.clean_evidence.proofs.PilotSteps.{steps_are_small, steps_are_quiet}
 
 -- what is asked of the pilots of the entry's slot
 record HasQuietPilots (gain : Cpx) (slot : SeenSlot) : Type 0 where
-  small : noise_of (steps (pilot slot)) ≤ 171500431 * square gain
-  quiet : 5 * noise_of (steps (pilot slot)) ≤ pilot_energy slot
+  small : noise_of (steps 23 (pilot slot)) ≤ 171500431 * square gain
+  quiet : 5 * noise_of (steps 23 (pilot slot)) ≤ pilot_energy slot
 
 module _ (recording : List Sample) (entry : Entry) (plan : CellPlan) (grid : Elements) (sfn offset : ℕ) (gain : Cpx) (eps : ℕ) (long : 57600 ≤ length recording)
     (listed : IsInList recording entry) (sendable : IsSendable plan) (clean : IsLoaded recording plan grid sfn offset gain eps)
@@ -40,7 +39,7 @@ module _ (recording : List Sample) (entry : Entry) (plan : CellPlan) (grid : Ele
   pilots_seen : ArePilotsSeen gain (broadcast_slot recording plan.identity (start_of offset) 0)
   pilots_seen = pilots_received recording plan grid sfn offset gain eps clean 0 1 (omega (arith, long)) (omega arith)
 
-  quiet_pilots : HasQuietPilots gain (slot_of_entry recording entry)
+  quiet_pilots : HasQuietPilots gain (broadcast_slot recording entry.id entry.start entry.frame)
   quiet_pilots =
       subst (λ n. HasQuietPilots gain (broadcast_slot recording n entry.start entry.frame)) (sym id)
       (subst (λ n. HasQuietPilots gain (broadcast_slot recording plan.identity n entry.frame)) (sym start)
@@ -57,7 +56,7 @@ clean_entries_are_clear recording entry told plan grid sfn offset gain eps long 
       frame = evidence.frame ∙ sent.frame;
       peak = subst (λ n. 999 ≤ n) (sym evidence.peak) (peak_is_high recording plan grid sfn offset gain eps entry told.t long clean id start evidence.t.told);
       noise = subst (λ n. n ≤ 171500431 * square gain) (sym evidence.noise) pilots.small;
-      quiet = two (noise_of (steps _)) told.noise (pilot_energy _) told.power evidence.noise evidence.power pilots.quiet;
+      quiet = two (noise_of (steps 23 _)) told.noise (pilot_energy _) told.power evidence.noise evidence.power pilots.quiet;
     }
   where
     two : (m noise e power : ℕ) → noise ≡ m → power ≡ e → 5 * m ≤ e → 5 * noise ≤ power

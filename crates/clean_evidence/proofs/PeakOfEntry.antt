@@ -3,6 +3,7 @@ use Rattle.std.proofs.Common.{◌≡◌, ℕ, ◌+◌, ◌*◌, ◌/◌, ◌%◌
 use Rattle.std.proofs.lemmas.Nat.{le-div}
 use Rattle.cs_num.specs.declared.Cpx.{Cpx}
 use Rattle.cs_num.specs.declared.Sample.{Sample}
+use Rattle.lte_types.specs.declared.carrier.Carrier.TheVariants.{OnePort}
 use Rattle.lte_types.specs.declared.frame.Half.{Half}
 use Rattle.lte_types.specs.declared.frame.Half.TheVariants.{Zero, Five}
 use Rattle.lte_types.specs.declared.entry.Entry.{Entry}
@@ -16,7 +17,7 @@ use Rattle.cell_tx.specs.declared.cell.CellPlan.{CellPlan}
 use Rattle.cell_tx.specs.Sent.{Elements}
 use Rattle.budget.specs.Peak.{StandsOut}
 use Rattle.budget.proofs.Peaks.{primary_stands_out}
-use Rattle.evidence.specs.Evidence.{IsToldAt, thousandths}
+use Rattle.evidence.specs.Evidence.{IsToldBy, thousandths}
 use Rattle.evidence.proofs.Fractions.{some_product}
 use Rattle.clean_air.specs.Load.{IsLoaded}
 use Rattle.clean_air.proofs.SentSymbols.{IsTruePlace, primary_at}
@@ -31,7 +32,7 @@ fraction c e w some power h = le-div 999 (1000 * c) (e * w) (some_product e w so
 
 -- at such a place the fraction is high
 pub peak_is_high : (recording : List Sample) (plan : CellPlan) (grid : Elements) (sfn offset : ℕ) (gain : Cpx) (eps : ℕ) (entry : Entry) (t : ℕ) → 57600 ≤ length recording →
-    IsLoaded recording plan grid sfn offset gain eps → entry.id ≡ plan.identity → entry.start ≡ start_after offset → IsToldAt recording entry t → 999 ≤ thousandths recording (entry.id % 3) t
+    IsLoaded recording plan grid sfn offset gain eps → entry.id ≡ plan.identity → entry.start ≡ start_after offset → IsToldBy OnePort recording entry t → 999 ≤ thousandths recording (entry.id % 3) t
 peak_is_high recording plan grid sfn offset gain eps entry t long clean id start told =
     let is = (list_is_right recording told.hit).0 told.listed in
     let last : told.hit.t ≤ 19336 = is.is_hit.to_last in

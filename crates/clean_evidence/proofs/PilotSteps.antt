@@ -38,15 +38,15 @@ module _ (gain : Cpx) (slot : SeenSlot) (seen : ArePilotsSeen gain slot) where
   one_step i l =
       near_step (square gain) gain 1036800 245760 (pilot slot i) (pilot slot (i + 1)) (pilot-near port_0 gain slot i (omega (arith, l)) seen) (pilot-near port_0 gain slot (i + 1) (omega (arith, l)) seen)
 
-  pub steps_are_small : noise_of (steps (pilot slot)) ≤ 171500431 * square gain
+  pub steps_are_small : noise_of (steps 23 (pilot slot)) ≤ 171500431 * square gain
   unfolding steps
   steps_are_small = mean (square gain) (total_below 23 (step_power (pilot slot))) (total_below-within 23 (4 * (245760 * 245760 * square gain)) (step_power (pilot slot)) one_step)
     where
       mean : (n s : ℕ) → s ≤ 23 * (4 * (245760 * 245760 * n)) → s / (2 * 16200) ≤ 171500431 * n
       mean n s h = omega (arith, h)
 
-  pub steps_are_quiet : 5 * noise_of (steps (pilot slot)) ≤ pilot_energy slot
-  steps_are_quiet = fifth (square gain) (noise_of (steps (pilot slot))) (pilot_energy slot) steps_are_small (energy-near port_0 gain slot seen).near
+  pub steps_are_quiet : 5 * noise_of (steps 23 (pilot slot)) ≤ pilot_energy slot
+  steps_are_quiet = fifth (square gain) (noise_of (steps 23 (pilot slot))) (pilot_energy slot) steps_are_small (energy-near port_0 gain slot seen).near
     where
       fifth : (n m e : ℕ) → m ≤ 171500431 * n → 38707200 * (24 * n) ≤ e → 5 * m ≤ e
       fifth n m e h k = omega (arith, h, k)

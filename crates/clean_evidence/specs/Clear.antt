@@ -14,9 +14,9 @@ use Rattle.cell_tx.specs.Sent.{Elements}
 use Rattle.evidence.specs.Evidence.{IsEvidence}
 use Rattle.clean_air.specs.Load.{IsLoaded}
 
--- The word cost nothing and was read from the first whole frame alone; at least 999 thousandths of the energy at the hit are the
--- primary signal's; and the noise is small against the gain and against the power. The bound is 23 times the square of twice 128 times 1920, by 32400, rounded up: each of two
--- pilots is off by 30 units of amplitude.
+-- The word cost nothing and was read from the first whole frame alone; at least 999 thousandths of the energy at the
+-- hit are the primary signal's; and the noise is small against the gain and against the power. The bound is 23 times
+-- the square of twice 128 times 1920, by 32400, rounded up: each of two pilots is off by 30 units of amplitude.
 pub record IsClear (gain : Cpx) (told : Evidence) : Type 0 where
   pub cost : told.cost ≡ 0
   pub frames : told.frames ≡ 1
@@ -25,11 +25,13 @@ pub record IsClear (gain : Cpx) (told : Evidence) : Type 0 where
   pub noise : told.noise ≤ 171500431 * square gain
   pub quiet : 5 * told.noise ≤ told.power
 
--- so it is of each entry of a clean cell, whatever the cell's plan is, what it sends elsewhere, its first frame's number, the
--- offset, the gain and the errors
+-- so it is of each entry of a clean cell, whatever the cell's plan is, what it sends elsewhere, its first frame's
+-- number, the offset, the gain and the errors
 abbrev pub CleanEntriesAreClear : Type 0
 CleanEntriesAreClear =
     (recording : List Sample) (entry : Entry) (told : Evidence) (plan : CellPlan) (grid : Elements) (sfn offset : ℕ)
-    (gain : Cpx) (eps : ℕ) → least_samples ≤ length recording → IsInList recording entry → IsEvidence recording entry told →
+    (gain : Cpx) (eps : ℕ) → least_samples ≤ length recording → IsInList recording entry →
+    IsEvidence recording entry told →
     IsSendable plan → IsLoaded recording plan grid sfn offset gain eps →
-    entry.id ≡ plan.identity → entry.start ≡ start_of offset → entry.sfn ≡ number_at_start sfn offset → IsClear gain told
+    entry.id ≡ plan.identity → entry.start ≡ start_of offset → entry.sfn ≡ number_at_start sfn offset →
+    IsClear gain told

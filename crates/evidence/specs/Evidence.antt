@@ -6,9 +6,10 @@ use Rattle.cs_num.specs.declared.Cpx.{Cpx}
 use Rattle.cs_num.specs.declared.Sample.{Sample}
 use Rattle.cs_num.specs.Complex.{minus, square}
 use Rattle.crs.specs.Power.{point_power}
+use Rattle.crs.specs.declared.single.SinglePort.TheVariants.{Third, Fourth}
 use Rattle.crs.specs.Reference.{port_0, port_1, long_prefix}
 use Rattle.lte_types.specs.declared.carrier.Carrier.{Carrier}
-use Rattle.lte_types.specs.declared.carrier.Carrier.TheVariants.{OnePort, TwoPorts, LongPrefix}
+use Rattle.lte_types.specs.declared.carrier.Carrier.TheVariants.{OnePort, TwoPorts, LongPrefix, FourPorts}
 use Rattle.lte_types.specs.declared.hit.Hit.{Hit}
 use Rattle.lte_types.specs.declared.entry.Entry.{Entry}
 use Rattle.lte_types.specs.CellPlace.{Place}
@@ -16,11 +17,13 @@ use Rattle.pss_search.specs.Correlation.{peak, energy, wave_power}
 use Rattle.pss_search.specs.Hits.{first_place, last_place}
 use Rattle.pss_search.specs.Laws.{IsHitOf}
 use Rattle.soft_bits.specs.Soft.{SeenSlot, pattern_pilot, pattern_energy}
+use Rattle.soft_bits.specs.Single.{single_pilot}
 use Rattle.pbch.specs.Master.{total}
 use Rattle.explain.specs.Frame.{broadcast_slot}
 use Rattle.explain.specs.Receiver.{Receiver, one_port_receiver, hits_by, place_by, sums_by}
 use Rattle.explain.specs.Entries.{place_of, frames_of}
 use Rattle.two_ports.specs.Pairs.{pilots_energy}
+use Rattle.four_ports.specs.Pairs.{ports_energy}
 use Rattle.long_prefix.specs.Entries.{long_slot}
 use Rattle.lte_types.specs.declared.evidence.Evidence.{Evidence}
 
@@ -39,10 +42,6 @@ pub record IsFirstToldBy (carrier : Carrier) (recording : List Sample) (entry : 
   pub told : IsToldBy carrier recording entry t
   pub least : (u : ℕ) → IsToldBy carrier recording entry u → t ≤ u
 
--- with one antenna port
-abbrev pub IsToldAt : List Sample → Entry → ℕ → Type 0
-IsToldAt = IsToldBy OnePort
-
 -- the fraction of a place for n2 in thousandths, rounded down: 1000 C / (E P)
 abbrev pub thousandths : List Sample → ℕ → ℕ → ℕ
 thousandths recording n2 t = 1000 * peak recording n2 t / (energy recording t * wave_power n2)
@@ -54,26 +53,31 @@ abbrev pub slot_by : Carrier → List Sample → Place → ℕ → SeenSlot
 slot_by OnePort recording place j = broadcast_slot recording place.id place.start j
 slot_by TwoPorts recording place j = broadcast_slot recording place.id place.start j
 slot_by LongPrefix recording place j = long_slot recording place.id place.start j
+slot_by FourPorts recording place j = broadcast_slot recording place.id place.start j
 
--- the energy of the pilots of all antenna ports
+-- the energy of the pilots of all antenna ports; that of a port with 12 of them counts twice
 abbrev pub power_by : Carrier → SeenSlot → ℕ
 power_by OnePort slot = pattern_energy port_0 slot
 power_by TwoPorts slot = pilots_energy slot
 power_by LongPrefix slot = pattern_energy long_prefix slot
+power_by FourPorts slot = ports_energy slot
 
 -- the square of the size of the step from one pilot to the next
 abbrev pub step_power : (ℕ → Cpx) → ℕ → ℕ
 step_power pilots i = square (minus (pilots (i + 1)) (pilots i))
 
--- those of the 24 pilots of a port together
-unfoldable pub steps : (ℕ → Cpx) → ℕ
-steps pilots = total_below 23 (step_power pilots)
+-- those of the pilots of a port together, up to the last, whose number is given
+unfoldable pub steps : ℕ → (ℕ → Cpx) → ℕ
+steps last pilots = total_below last (step_power pilots)
 
 -- and of all ports
 abbrev pub steps_by : Carrier → SeenSlot → ℕ
-steps_by OnePort slot = steps (pattern_pilot port_0 slot)
-steps_by TwoPorts slot = steps (pattern_pilot port_0 slot) + steps (pattern_pilot port_1 slot)
-steps_by LongPrefix slot = steps (pattern_pilot long_prefix slot)
+steps_by OnePort slot = steps 23 (pattern_pilot port_0 slot)
+steps_by TwoPorts slot = steps 23 (pattern_pilot port_0 slot) + steps 23 (pattern_pilot port_1 slot)
+steps_by LongPrefix slot = steps 23 (pattern_pilot long_prefix slot)
+steps_by FourPorts slot =
+    steps 23 (pattern_pilot port_0 slot) + steps 23 (pattern_pilot port_1 slot)
+    + steps 11 (single_pilot Third slot) + steps 11 (single_pilot Fourth slot)
 
 -- divided by twice the square of a reference value's size, and rounded down
 abbrev pub noise_of : ℕ → ℕ

@@ -2,11 +2,14 @@
 
 ghost use Rattle.std.specs.Prelude.{◌≡◌, ◌*◌, ◌^◌, ◌≤◌};
 ghost use Rattle.explain.specs.Frame.{IsWhole};
-ghost use Rattle.lte_types.specs.declared.carrier.Carrier.TheVariants.{OnePort as One, TwoPorts as Two, LongPrefix as Long};
+ghost use Rattle.lte_types.specs.declared.carrier.Carrier.TheVariants.{OnePort as One, TwoPorts as Two};
+ghost use Rattle.lte_types.specs.declared.carrier.Carrier.TheVariants.{LongPrefix as Long, FourPorts as Four};
 ghost use Rattle.evidence.specs.Evidence.{slot_by, power_by, steps_by};
 
 use crate::noise::steps_of;
+use crs::SinglePort;
 use explain::{broadcast_slot, slot_of};
+use four_ports::FourSlot;
 use long_prefix::long_frame;
 use lte_types::{Carrier, CellPlace};
 use sample_file::Recording;
@@ -31,12 +34,13 @@ pub(crate) fn pilot_sums(
     requires { IsWhole recording.now place.start j }
     ensures energy { result.energy ≡ power_by carrier (slot_by carrier recording.now place j) }
     ensures steps { result.steps ≡ steps_by carrier (slot_by carrier recording.now place j) }
-    ensures small { result.steps ≤ 46 * 2 ^ 68 }
+    ensures small { result.steps ≤ 92 * 2 ^ 68 }
 {
     match carrier {
         Carrier::OnePort => of_one_port(recording, place, j),
         Carrier::TwoPorts => of_two_ports(recording, place, j),
         Carrier::LongPrefix => of_long_prefix(recording, place, j),
+        Carrier::FourPorts => of_four_ports(recording, place, j),
     }
 }
 
@@ -45,7 +49,7 @@ fn of_one_port(recording: &Recording, place: CellPlace, j: u8) -> PilotSums
     requires { IsWhole recording.now place.start j }
     ensures energy { result.energy ≡ power_by One (slot_by One recording.now place j) }
     ensures steps { result.steps ≡ steps_by One (slot_by One recording.now place j) }
-    ensures small { result.steps ≤ 46 * 2 ^ 68 }
+    ensures small { result.steps ≤ 92 * 2 ^ 68 }
 {
     let slot = broadcast_slot(recording, place, j);
     PilotSums {
@@ -59,7 +63,7 @@ fn of_two_ports(recording: &Recording, place: CellPlace, j: u8) -> PilotSums
     requires { IsWhole recording.now place.start j }
     ensures energy { result.energy ≡ power_by Two (slot_by Two recording.now place j) }
     ensures steps { result.steps ≡ steps_by Two (slot_by Two recording.now place j) }
-    ensures small { result.steps ≤ 46 * 2 ^ 68 }
+    ensures small { result.steps ≤ 92 * 2 ^ 68 }
 {
     let slot: PairSlot = slot_of(recording, place, j, 1);
     PilotSums {
@@ -73,11 +77,28 @@ fn of_long_prefix(recording: &Recording, place: CellPlace, j: u8) -> PilotSums
     requires { IsWhole recording.now place.start j }
     ensures energy { result.energy ≡ power_by Long (slot_by Long recording.now place j) }
     ensures steps { result.steps ≡ steps_by Long (slot_by Long recording.now place j) }
-    ensures small { result.steps ≤ 46 * 2 ^ 68 }
+    ensures small { result.steps ≤ 92 * 2 ^ 68 }
 {
     let frame = long_frame(recording, place, j);
     PilotSums {
         energy: frame.energy,
         steps: steps_of(&frame.pilots),
+    }
+}
+
+// With four antenna ports.
+fn of_four_ports(recording: &Recording, place: CellPlace, j: u8) -> PilotSums
+    requires { IsWhole recording.now place.start j }
+    ensures energy { result.energy ≡ power_by Four (slot_by Four recording.now place j) }
+    ensures steps { result.steps ≡ steps_by Four (slot_by Four recording.now place j) }
+    ensures small { result.steps ≤ 92 * 2 ^ 68 }
+{
+    let slot: FourSlot = slot_of(recording, place, j, 1);
+    PilotSums {
+        energy: slot.energy(),
+        steps: steps_of(slot.first_pilots())
+            + steps_of(slot.second_pilots())
+            + steps_of(slot.single_pilots(SinglePort::Third))
+            + steps_of(slot.single_pilots(SinglePort::Fourth)),
     }
 }

@@ -3,19 +3,23 @@
 ghost use Rattle.std.specs.Prelude.{◌≡◌, ◌+◌, ◌*◌, ◌<◌, [], ◌∷◌, IfOk, length};
 ghost use Rattle.std.specs.List.{AllZip};
 ghost use Rattle.finite.specs.Sizes.{AllWithin};
-ghost use Rattle.lte_types.specs.declared.carrier.Carrier.TheVariants.{OnePort as One, TwoPorts as Two, LongPrefix as Long};
+ghost use Rattle.lte_types.specs.declared.carrier.Carrier.TheVariants.{OnePort as One, TwoPorts as Two};
+ghost use Rattle.lte_types.specs.declared.carrier.Carrier.TheVariants.{LongPrefix as Long, FourPorts as Four};
 ghost use Rattle.explain.specs.Entries.{IsEntryFor, IsListFor};
 ghost use Rattle.explain.specs.Frame.{IsWhole};
 ghost use Rattle.explain.specs.Laws.{IsEntryOfSome};
 ghost use Rattle.explain.specs.Readings.{IsReadingFor};
 ghost use Rattle.explain.specs.Receiver.{Receiver, hits_by};
 ghost use Rattle.report.specs.EvidenceJson.{Shown};
+ghost use Rattle.report.specs.declared.supports_json.PortChannel.TheVariants.{Double as DoubleOf};
 ghost use Rattle.evidence.specs.Evidence.{slot_by};
 ghost use Rattle.evidence.specs.Shown.{channels_by, values_by, pair_at, pairs_of, IsShownFor};
 
 use crate::listing::{evidence_of, place_in};
+use crs::SinglePort;
 use cs_num::Cpx;
 use explain::{Reading, broadcast_slot, slot_of};
+use four_ports::FourSlot;
 use long_prefix::long_frame;
 use lte_types::{Carrier, CellPlace, Entry, Evidence};
 use pbch::received;
@@ -94,6 +98,7 @@ fn shown(
         Carrier::OnePort => shown_of_one(alloc, recording, place, j, numbers),
         Carrier::TwoPorts => shown_of_two(alloc, recording, place, j, numbers),
         Carrier::LongPrefix => shown_of_long(alloc, recording, place, j, numbers),
+        Carrier::FourPorts => shown_of_four(alloc, recording, place, j, numbers),
     }
 }
 
@@ -134,10 +139,7 @@ fn shown_of_two(
     }) }
 {
     let slot: PairSlot = slot_of(recording, place, j, 1);
-    let mut channel = one_channel(alloc, slot.first_pilots())?;
-    channel.push(PortChannel {
-        pilots: *slot.second_pilots(),
-    })?;
+    let channel = two_channels(alloc, slot.first_pilots(), slot.second_pilots())?;
     let values = pairs(alloc, received(&slot).slice())?;
     Ok(Support::new(numbers, channel, values))
 }
@@ -163,12 +165,48 @@ fn shown_of_long(
     Ok(Support::new(numbers, channel, values))
 }
 
+// With four antenna ports.
+fn shown_of_four(
+    alloc: Global,
+    recording: &Recording,
+    place: CellPlace,
+    j: u8,
+    numbers: Evidence,
+) -> Result<Support, AllocError>
+    requires { IsWhole recording.now place.start j }
+    ensures { IfOk result (λ support. support ≡ record {
+      numbers = numbers;
+      channel = channels_by Four (slot_by Four recording.now place j);
+      values = pairs_of (values_by Four recording.now place j);
+    }) }
+{
+    let slot: FourSlot = slot_of(recording, place, j, 1);
+    let mut channel = two_channels(alloc, slot.first_pilots(), slot.second_pilots())?;
+    channel.push(PortChannel::Single(*slot.single_pilots(SinglePort::Third)))?;
+    channel.push(PortChannel::Single(*slot.single_pilots(SinglePort::Fourth)))?;
+    let values = pairs(alloc, received(&slot).slice())?;
+    Ok(Support::new(numbers, channel, values))
+}
+
 // The channel of one antenna port, by its pilots.
 fn one_channel(alloc: Global, pilots: &[Cpx; 24]) -> Result<Vec<PortChannel>, AllocError>
-    ensures { IfOk result (λ list. list.items ≡ record { pilots = pilots.now } ∷ []) }
+    ensures { IfOk result (λ list. list.items ≡ DoubleOf pilots.now ∷ []) }
 {
     let mut list = Vec::new(alloc);
-    list.push(PortChannel { pilots: *pilots })?;
+    list.push(PortChannel::Double(*pilots))?;
+    Ok(list)
+}
+
+// Those of two.
+fn two_channels(
+    alloc: Global,
+    first: &[Cpx; 24],
+    second: &[Cpx; 24],
+) -> Result<Vec<PortChannel>, AllocError>
+    ensures { IfOk result (λ list. list.items ≡ DoubleOf first.now ∷ DoubleOf second.now ∷ []) }
+{
+    let mut list = one_channel(alloc, first)?;
+    list.push(PortChannel::Double(*second))?;
     Ok(list)
 }
 

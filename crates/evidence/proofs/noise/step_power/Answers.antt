@@ -5,6 +5,6 @@ use Rattle.evidence.proofs.noise.step_power.Goals as goal
 
 pub returns-clause-bound : goal.returns-clause-bound
 returns-clause-bound c =
-    let few = c.requires.i in
+    let inside = c.requires.i in
     subst (λ n. n ≤ 2 ^ 68) (sym (c.norm.ensures ∙ ap square c.sub.ensures))
-    (step_small _ _ (c.requires.small _ _ (omega (arith, few, c.told-pilots))) (c.requires.small _ _ (omega (arith, few, c.told-pilots))))
+    (step_small _ _ (c.requires.small _ _ (omega (arith, inside))) (c.requires.small _ _ (omega (arith, inside))))

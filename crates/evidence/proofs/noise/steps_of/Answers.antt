@@ -1,4 +1,4 @@
-use Rattle.std.proofs.Common.{arith, refl, ◌≡◌, ◌∙◌, ap}
+use Rattle.std.proofs.Common.{arith, refl, ◌≡◌, ◌-◌, ◌∙◌, length, ap}
 use Rattle.finite.specs.Sums.{total_below}
 use Rattle.finite.proofs.Sums.{total_below_more}
 use Rattle.cs_num.specs.Complex.{value_at}
@@ -19,5 +19,6 @@ loop-i-preserved c =
 pub returns-clause-value : goal.returns-clause-value
 unfolding steps
 returns-clause-value c =
-    let last : c.loop-i.i ≡ 23 = omega arith in
+    let some = c.requires.some in
+    let last : c.loop-i.i ≡ length c.args.pilots.now - 1 = omega (arith, some) in
     c.loop-i.invariant.so_far ∙ ap (λ n. total_below n (step_power (value_at c.args.pilots.now))) last

@@ -10,5 +10,5 @@ returns-clause-energy c = c.energy.ensures.value ∙ ap (pattern_energy port_0) 
 
 pub returns-clause-steps : goal.returns-clause-steps
 returns-clause-steps c =
-    c.steps_of.ensures.value ∙ steps_of_list _ (pattern_pilot port_0 c.broadcast_slot-slot.result) c.pilots.ensures.value
-    ∙ ap (λ s. steps (pattern_pilot port_0 s)) c.broadcast_slot-slot.ensures
+    c.steps_of.ensures.value ∙ steps_of_list 23 _ (pattern_pilot port_0 c.broadcast_slot-slot.result) c.pilots.ensures.value
+    ∙ ap (λ s. steps 23 (pattern_pilot port_0 s)) c.broadcast_slot-slot.ensures

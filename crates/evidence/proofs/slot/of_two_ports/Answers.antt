@@ -12,6 +12,6 @@ returns-clause-energy c = c.energy.ensures.value ∙ ap pilots_energy c.slot_of-
 pub returns-clause-steps : goal.returns-clause-steps
 returns-clause-steps c =
     ap₂ (λ m n. m + n)
-    (c.steps_of.ensures.value ∙ steps_of_list _ (pattern_pilot port_0 c.slot_of-slot.result) c.first_pilots.ensures.value)
-    (c.steps_of-2.ensures.value ∙ steps_of_list _ (pattern_pilot port_1 c.slot_of-slot.result) c.second_pilots.ensures.value)
-    ∙ ap (λ s. steps (pattern_pilot port_0 s) + steps (pattern_pilot port_1 s)) c.slot_of-slot.ensures
+    (c.steps_of.ensures.value ∙ steps_of_list 23 _ (pattern_pilot port_0 c.slot_of-slot.result) c.first_pilots.ensures.value)
+    (c.steps_of-2.ensures.value ∙ steps_of_list 23 _ (pattern_pilot port_1 c.slot_of-slot.result) c.second_pilots.ensures.value)
+    ∙ ap (λ s. steps 23 (pattern_pilot port_0 s) + steps 23 (pattern_pilot port_1 s)) c.slot_of-slot.ensures
