@@ -54,6 +54,17 @@ pub greatest_more : (n : ℕ) (f : ℕ → Cpx) → greatest_below (n + 1) f ≡
 unfolding greatest_below
 greatest_more n f = rw add-one refl
 
+pub greatest-grows : (m n : ℕ) (f : ℕ → Cpx) → m ≤ n → greatest_below m f ≤ greatest_below n f
+unfolding greatest_below
+greatest-grows m zero f h = let e : m ≡ 0 = omega (arith, h) in rw e (omega arith)
+greatest-grows m (suc n) f h = elim (cases_lt n m) [
+  | inl more ↦ let e : m ≡ suc n = omega (arith, h, more) in rw e (omega arith)
+  | inr less ↦ wider (greatest_below m f) (greatest_below n f) (size (f n)) (greatest-grows m n f less)
+]
+  where
+    wider : (a b c : ℕ) → a ≤ b → a ≤ max b c
+    wider a b c p = omega (arith, p)
+
 pub greatest_same : (n : ℕ) (f g : ℕ → Cpx) → ((i : ℕ) → i < n → f i ≡ g i) → greatest_below n f ≡ greatest_below n g
 unfolding greatest_below
 greatest_same zero f g same = refl

@@ -1,6 +1,7 @@
 -- Trying 25 gains in order finds the best candidate.
 use Rattle.std.proofs.Common.{◌≡◌, ℕ, ◌+◌, ◌*◌, ◌/◌, ◌%◌, ◌<◌, ◌≤◌, ◌⊎◌, inl, inr, arith, refl, ap, sym, ◌∙◌, subst, Bool, true, false, nat_lt, Option, Some, None, ltb-true, ltb-false, ℤ, pos, ◌+ℤ◌, ◌-ℤ◌, ◌≤ℤ◌, ◌<ℤ◌, nat_abs}
 use Rattle.std.specs.Prelude.{if◌then◌else◌}
+use Rattle.std.specs.Option.{option_or}
 use Rattle.std.proofs.lemmas.Int.{ints}
 use Rattle.std.proofs.lemmas.Bool.{cases_lt}
 use Rattle.cs_num.specs.declared.Cpx.{Cpx}
@@ -10,7 +11,7 @@ use Rattle.sizes.proofs.Squares.{re-le, im-le}
 use Rattle.cancel.specs.declared.choosing.Choice.{Choice}
 use Rattle.cancel.specs.Gain.{IsCandidate, GoesBefore}
 use Rattle.cancel.specs.Laws.{IsOneBest}
-use Rattle.cancel.specs.Steps.{around, better, choice_of, IsBestBefore, IsFoundBefore, IsChosen}
+use Rattle.cancel.specs.Steps.{around, better, choice_of, IsBestBefore, IsFoundBefore, IsLimit, IsChosen}
 
 -- ---- each candidate is one of the 25
 
@@ -73,73 +74,73 @@ module _ (greatest : Cpx → ℕ) (middle : Cpx) where
   last_or_before : (n j : ℕ) → j < n + 1 → (j < n) ⊎ (n ≡ j)
   last_or_before n j l = grind arith
 
-  pub none_before : IsFoundBefore greatest middle 0 None
-  none_before j l c = absurd (omega (arith, l))
+  pub none_before : (limit : Option ℕ) → IsFoundBefore greatest middle limit 0 None
+  none_before limit j l c = absurd (omega (arith, l))
 
-  -- the last one is no candidate
-  pub passed : (n : ℕ) (found : Option Choice) → (IsCandidate middle (around middle n) → ⊥) → IsFoundBefore greatest middle n found → IsFoundBefore greatest middle (n + 1) found
-  passed n None fails kept = λ j l c. elim (last_or_before n j l) [
-    | inl before ↦ kept j before c
-    | inr here ↦ fails (subst (λ k. IsCandidate middle (around middle k)) (sym here) c)
-  ]
-  passed n (Some choice) fails kept = record {
+  -- what is found stays the best, where the next one is no candidate or leaves no less
+  stays : (n : ℕ) (choice : Choice) → (IsCandidate middle (around middle n) → GoesBefore greatest choice.gain (around middle n)) → IsBestBefore greatest middle n choice
+      → IsBestBefore greatest middle (n + 1) choice
+  stays n choice next kept = record {
     index = kept.index;
     before = let l = kept.before in omega (arith, l);
     is = kept.is;
     candidate = kept.candidate;
     first = λ j l c. elim (last_or_before n j l) [
       | inl before ↦ kept.first j before c
-      | inr here ↦ absurd (fails (subst (λ k. IsCandidate middle (around middle k)) (sym here) c))
+      | inr here ↦ subst (λ k. GoesBefore greatest choice.gain (around middle k)) here (next (subst (λ k. IsCandidate middle (around middle k)) (sym here) c))
     ];
     leaves = kept.leaves;
   }
 
-  -- it is one
-  pub taken : (n : ℕ) (found : Option Choice) → IsCandidate middle (around middle n) → IsFoundBefore greatest middle n found
-      → IsBestBefore greatest middle (n + 1) (better found (choice_of greatest (around middle n)))
-  taken n None is kept = record {
+  -- the next one is the best, where it leaves less than all before
+  is_new : (n : ℕ) → IsCandidate middle (around middle n) → ((j : ℕ) → j < n → IsCandidate middle (around middle j) → greatest (around middle n) < greatest (around middle j))
+      → IsBestBefore greatest middle (n + 1) (choice_of greatest (around middle n))
+  is_new n is less = record {
     index = n;
     before = omega arith;
     is = refl;
     candidate = is;
     first = λ j l c. elim (last_or_before n j l) [
-      | inl before ↦ absurd (kept j before c)
+      | inl before ↦ inl (less j before c)
       | inr here ↦ subst (λ k. GoesBefore greatest (around middle n) (around middle k)) here (itself greatest (around middle n))
     ];
     leaves = refl;
   }
-  taken n (Some choice) is kept = settle (nat_lt (greatest (around middle n)) choice.greatest) refl
+
+  -- the next one is no candidate
+  pub passed : (limit : Option ℕ) (n : ℕ) (found : Option Choice) → (IsCandidate middle (around middle n) → ⊥) → IsFoundBefore greatest middle limit n found
+      → IsFoundBefore greatest middle limit (n + 1) found
+  passed limit n None fails kept = λ j l c. elim (last_or_before n j l) [
+    | inl before ↦ kept j before c
+    | inr here ↦ absurd (fails (subst (λ k. IsCandidate middle (around middle k)) (sym here) c))
+  ]
+  passed limit n (Some choice) fails kept = stays n choice (λ is. absurd (fails is)) kept
+
+  less_than_all : (a b c : ℕ) → a < b → b ≤ c → a < c
+  less_than_all a b c p q = omega (arith, p, q)
+
+  -- it is one
+  pub taken : (limit : Option ℕ) (n : ℕ) (found : Option Choice) → IsCandidate middle (around middle n) → IsFoundBefore greatest middle limit n found
+      → IsFoundBefore greatest middle limit (n + 1) (better limit found (choice_of greatest (around middle n)))
+  taken None n None is kept = is_new n is (λ j l c. absurd (kept j l c))
+  taken (Some end) n None is kept = settle (nat_lt (greatest (around middle n)) end) refl
+    where
+      settle : (b : Bool) → nat_lt (greatest (around middle n)) end ≡ b
+          → IsFoundBefore greatest middle (Some end) (n + 1) (option_or (if b then Some (choice_of greatest (around middle n)) else None) None)
+      settle true less = is_new n is (λ j l c. less_than_all (greatest (around middle n)) end (greatest (around middle j)) (ltb-true _ _ less) (kept j l c))
+      settle false more = λ j l c. elim (last_or_before n j l) [
+        | inl before ↦ kept j before c
+        | inr here ↦ subst (λ k. end ≤ greatest (around middle k)) here (ltb-false _ _ more)
+      ]
+  taken limit n (Some choice) is kept = settle (nat_lt (greatest (around middle n)) choice.greatest) refl
     where
       settle : (b : Bool) → nat_lt (greatest (around middle n)) choice.greatest ≡ b
-          → IsBestBefore greatest middle (n + 1) (if b then choice_of greatest (around middle n) else choice)
-      settle true less = record {
-        index = n;
-        before = omega arith;
-        is = refl;
-        candidate = is;
-        first = λ j l c. elim (last_or_before n j l) [
-          | inl before ↦ inl (chain (greatest (around middle n)) (greatest choice.gain) (greatest (around middle j))
-              (subst (λ k. greatest (around middle n) < k) kept.leaves (ltb-true _ _ less)) (no_greater greatest choice.gain (around middle j) (kept.first j before c)))
-          | inr here ↦ subst (λ k. GoesBefore greatest (around middle n) (around middle k)) here (itself greatest (around middle n))
-        ];
-        leaves = refl;
-      }
-        where
-          chain : (a b c : ℕ) → a < b → b ≤ c → a < c
-          chain a b c p q = omega (arith, p, q)
-      settle false more = record {
-        index = kept.index;
-        before = let l = kept.before in omega (arith, l);
-        is = kept.is;
-        candidate = kept.candidate;
-        first = λ j l c. elim (last_or_before n j l) [
-          | inl before ↦ kept.first j before c
-          | inr here ↦ subst (λ k. GoesBefore greatest choice.gain (around middle k)) here
-              (either (greatest choice.gain) (greatest (around middle n)) (subst (λ k. k ≤ greatest (around middle n)) kept.leaves (ltb-false _ _ more))
-              (subst (λ (g : Cpx). ComesFirst g (around middle n)) kept.is (earlier middle kept.index n kept.before)))
-        ];
-        leaves = kept.leaves;
-      }
+          → IsFoundBefore greatest middle limit (n + 1) (option_or (if b then Some (choice_of greatest (around middle n)) else None) (Some choice))
+      settle true less = is_new n is (λ j l c. less_than_all (greatest (around middle n)) (greatest choice.gain) (greatest (around middle j))
+          (subst (λ k. greatest (around middle n) < k) kept.leaves (ltb-true _ _ less)) (no_greater greatest choice.gain (around middle j) (kept.first j l c)))
+      settle false more = stays n choice
+          (λ _. either (greatest choice.gain) (greatest (around middle n)) (subst (λ k. k ≤ greatest (around middle n)) kept.leaves (ltb-false _ _ more))
+          (subst (λ (g : Cpx). ComesFirst g (around middle n)) kept.is (earlier middle kept.index n kept.before))) kept
         where
           either : (a b : ℕ) → a ≤ b → ComesFirst choice.gain (around middle n) → (a < b) ⊎ ((a ≡ b) × ComesFirst choice.gain (around middle n))
           either a b h order = elim (cases_lt a b) [
@@ -147,12 +148,23 @@ module _ (greatest : Cpx → ℕ) (middle : Cpx) where
             | inr not_less ↦ (let e : a ≡ b = omega (arith, h, not_less) in inr (e, order))
           ]
 
+  -- the middle is the one of number 12
+  middle_is : around middle 12 ≡ middle
+  middle_is = pair (unmoved middle.re) (unmoved middle.im)
+    where
+      unmoved : (a : ℤ) → a +ℤ (pos 2 -ℤ pos 2) ≡ a
+      unmoved a = omega (arith, ints)
+
   -- what is found among all 25 is the best candidate, and none is found exactly where there is none
-  pub best_is_found : (found : Option Choice) → IsFoundBefore greatest middle 25 found → IsChosen greatest middle found
-  best_is_found None kept = λ gain is.
+  pub best_is_found : (limit : Option ℕ) (found : Option Choice) → IsLimit greatest middle limit → IsFoundBefore greatest middle limit 25 found → IsChosen greatest middle found
+  best_is_found None None above kept = λ gain is.
       let at = one_of middle gain is.near in
       kept at.i at.few (subst (λ (g : Cpx). IsCandidate middle g) (sym at.is) is)
-  best_is_found (Some choice) kept = (
+  best_is_found (Some end) None above kept = λ gain is.
+      let past : end ≤ greatest middle = subst (λ (g : Cpx). end ≤ greatest g) middle_is (kept 12 (omega arith) (subst (λ (g : Cpx). IsCandidate middle g) (sym middle_is) above.0)) in
+      let less = above.1 in
+      absurd (omega (arith, past, less))
+  best_is_found limit (Some choice) above kept = (
     record {
       candidate = kept.candidate;
       first = λ other is. let at = one_of middle other is.near in

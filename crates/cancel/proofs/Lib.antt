@@ -5,6 +5,8 @@ pub mod Estimates
 -- The best candidate, and what it leaves.
 pub mod Best
 pub mod Found
+-- Products in 32 bits.
+pub mod Narrow
 -- A recording that is clean of a cell.
 pub mod InRecording
 -- There is one answer.

@@ -55,7 +55,8 @@ abbrev pub power_of : List Sample → ℕ
 power_of samples = energy_below (length samples) (sample_at samples)
 
 -- the cell is taken off with its gain, and this is left
-pub record IsSubtracted (recording : List Sample) (plan : CellPlan) (start number : ℕ) (taken : Subtracted) : Type 0 where
+pub record IsSubtracted (recording : List Sample) (plan : CellPlan) (start number : ℕ)
+    (taken : Subtracted) : Type 0 where
   pub gain : IsTaken recording plan start number taken.gain
   pub greatest : taken.greatest ≡ greatest_left recording plan start number taken.gain
   pub residue : taken.residue ≡ residue_of recording plan start number taken.gain
@@ -78,9 +79,11 @@ pub record IsLeftWithin (eps : ℕ) (taken : Subtracted) : Type 0 where
 -- is taken off, and no greater component is left than the true gain leaves, where that is at most 32767
 abbrev pub TakesLoadedOff : List Sample → CellPlan → ℕ → ℕ → Option Subtracted → Type 0
 TakesLoadedOff recording plan start number answer =
-    (grid : Elements) (sfn offset : ℕ) (gain : Cpx) (eps most : ℕ) → IsLoaded recording plan grid sfn offset gain eps → start ≡ start_of offset →
+    (grid : Elements) (sfn offset : ℕ) (gain : Cpx) (eps most : ℕ) → IsLoaded recording plan grid sfn offset gain eps →
+    start ≡ start_of offset →
     number ≡ number_at_start sfn offset → most ≤ 32767 →
-    ((i : ℕ) → i < length recording → IsWithin most (left_at recording plan start number gain i)) → IsSomeAnd answer (IsLeftWithin most)
+    ((i : ℕ) → i < length recording → IsWithin most (left_at recording plan start number gain i)) →
+    IsSomeAnd answer (IsLeftWithin most)
 
 -- where the recording is clean of the cell, with its first frame and that frame's number, it is taken off, and no more
 -- is left than the errors, whatever its first sample, gain and errors are

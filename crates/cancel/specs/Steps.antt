@@ -1,5 +1,7 @@
 -- The code's steps: the best candidate found by trying 25 gains in order. (own)
-use Rattle.std.specs.Prelude.{◌≡◌, ℕ, ◌/◌, ◌%◌, ◌<◌, nat_lt, if◌then◌else◌, Option, Some, None, pos, ◌+ℤ◌, ◌-ℤ◌, List, length}
+use Rattle.std.specs.Prelude.{◌≡◌, ℕ, ◌/◌, ◌%◌, ◌<◌, ◌≤◌, nat_lt, if◌then◌else◌, Option, Some, None, MatchOption}
+use Rattle.std.specs.Prelude.{IfSome, pos, ◌+ℤ◌, ◌-ℤ◌, List, length}
+use Rattle.std.specs.Option.{option_or}
 use Rattle.finite.specs.Lists.{values_below}
 use Rattle.cs_num.specs.declared.Cpx.{Cpx}
 use Rattle.cs_num.specs.declared.Sample.{Sample}
@@ -23,20 +25,38 @@ pub record IsBestBefore (greatest : Cpx → ℕ) (middle : Cpx) (n : ℕ) (choic
   pub first : (j : ℕ) → j < n → IsCandidate middle (around middle j) → GoesBefore greatest choice.gain (around middle j)
   pub leaves : choice.greatest ≡ greatest choice.gain
 
--- it is found, or none of them is a candidate
-abbrev pub IsFoundBefore : (Cpx → ℕ) → Cpx → ℕ → Option Choice → Type 0
-IsFoundBefore greatest middle n (Some choice) = IsBestBefore greatest middle n choice
-IsFoundBefore greatest middle n None = (j : ℕ) → j < n → IsCandidate middle (around middle j) → ⊥
+-- a gain that leaves so much is not looked for, where there is a limit
+abbrev pub IsPast : Option ℕ → ℕ → Type 0
+IsPast limit left = MatchOption limit ⊥ (λ end. end ≤ left)
+
+-- the limit is above what the middle leaves, where that is a candidate
+abbrev pub IsLimit : (Cpx → ℕ) → Cpx → Option ℕ → Type 0
+IsLimit greatest middle limit = IfSome limit (λ end. IsCandidate middle middle × (greatest middle < end))
+
+-- it is found, or none of them is a candidate and below the limit
+abbrev pub IsFoundBefore : (Cpx → ℕ) → Cpx → Option ℕ → ℕ → Option Choice → Type 0
+IsFoundBefore greatest middle limit n (Some choice) = IsBestBefore greatest middle n choice
+IsFoundBefore greatest middle limit n None =
+    (j : ℕ) → j < n → IsCandidate middle (around middle j) → IsPast limit (greatest (around middle j))
 
 -- the best candidate is chosen, with what it leaves, or there is no candidate
 abbrev pub IsChosen : (Cpx → ℕ) → Cpx → Option Choice → Type 0
 IsChosen greatest middle (Some choice) = IsBest greatest middle choice.gain × (choice.greatest ≡ greatest choice.gain)
 IsChosen greatest middle None = (gain : Cpx) → IsCandidate middle gain → ⊥
 
+-- the end of what a gain may leave to be better than what was found
+abbrev pub end_of : Option ℕ → Option Choice → Option ℕ
+end_of limit None = limit
+end_of limit (Some found) = Some found.greatest
+
+-- a choice, where it leaves less than the end, if there is one
+abbrev pub choice_below : Option ℕ → Choice → Option Choice
+choice_below None choice = Some choice
+choice_below (Some end) choice = if nat_lt choice.greatest end then Some choice else None
+
 -- the better of what was found and another choice: the other only where it leaves less
-abbrev pub better : Option Choice → Choice → Choice
-better None choice = choice
-better (Some found) choice = if nat_lt choice.greatest found.greatest then choice else found
+abbrev pub better : Option ℕ → Option Choice → Choice → Option Choice
+better limit found choice = option_or (choice_below (end_of limit found) choice) found
 
 -- what a gain leaves of samples, of which these were sent
 abbrev pub left_of : List Sample → List Sample → Cpx → ℕ → Cpx

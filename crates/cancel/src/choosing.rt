@@ -1,10 +1,14 @@
 //! The best of the gains near an estimate.
 
-ghost use Rattle.std.specs.Prelude.{◌≡◌, ◌+◌, ◌*◌, ◌^◌, ◌<◌, ◌≤◌, length, max, nat_abs, nat_lt, pos, ◌+ℤ◌, ◌-ℤ◌, if◌then◌else◌, MatchOption};
-ghost use Rattle.cs_num.specs.Complex.{IsWithin, value_of, minus, times, square, size};
+ghost use Rattle.std.specs.Prelude.{◌≡◌, ◌+◌, ◌*◌, ◌^◌, ◌<◌, ◌≤◌, length, max, nat_abs, nat_lt, pos, ◌+ℤ◌, ◌-ℤ◌};
+ghost use Rattle.std.specs.Prelude.{if◌then◌else◌, MatchOption};
+ghost use Rattle.cs_num.specs.Complex.{IsWithin};
 ghost use Rattle.cancel.specs.Gain.{IsCandidate};
-ghost use Rattle.cancel.specs.Steps.{around as around_of, better as better_of, choice_of as choice_with, greatest_of as greatest_left, IsFoundBefore, IsChosen};
+ghost use Rattle.cancel.specs.Steps.{around as around_of, better as better_of, choice_below, choice_of as choice_with};
+ghost use Rattle.cancel.specs.Steps.{end_of as end_with, greatest_of as greatest_left, IsLimit};
+ghost use Rattle.cancel.specs.Steps.{IsFoundBefore, IsChosen};
 
+use crate::leaving::greatest_of;
 use cs_num::{Cpx, Gain, Sample};
 
 // A gain and the greatest size of a component that it leaves.
@@ -12,48 +16,6 @@ use cs_num::{Cpx, Gain, Sample};
 pub(crate) struct Choice {
     pub gain: Gain,
     pub greatest: u32,
-}
-
-/// What a gain leaves of a sample, of which the other was sent.
-pub(crate) fn left(sample: Sample, sent: Sample, gain: Gain) -> Cpx
-    ensures value { result ≡ minus (value_of sample) (times gain (value_of sent)) }
-    ensures small { IsWithin (2 ^ 22) result }
-{
-    Cpx::from(sample) - gain.value().mul(Cpx::from(sent))
-}
-
-// The greater size of a component.
-fn size_of(z: Cpx) -> u32
-    requires { IsWithin (2 ^ 22) z }
-    ensures { result ≡ size z }
-{
-    z.re.unsigned_abs().max(z.im.unsigned_abs()) as u32
-}
-
-// The greater size of a component that a gain leaves of a sample.
-fn size_left(sample: Sample, sent: Sample, gain: Gain) -> u32
-    ensures { result ≡ size (minus (value_of sample) (times gain (value_of sent))) }
-{
-    size_of(left(sample, sent, gain))
-}
-
-// The greater of two sizes.
-fn greater(a: u32, b: u32) -> u32
-    ensures { result ≡ max a b }
-{
-    a.max(b)
-}
-
-// The greatest size of a component that a gain leaves.
-fn greatest_of(samples: &[Sample], sent: &[Sample], gain: Gain) -> u32
-    requires { length sent.now ≡ length samples.now }
-    ensures { result ≡ greatest_left samples.now sent.now gain }
-{
-    let mut greatest = 0;
-    for i in 0..samples.len() {
-        greatest = greater(greatest, size_left(samples[i], sent[i], gain));
-    }
-    greatest
 }
 
 // A component off by 2 less than this.
@@ -94,34 +56,53 @@ fn candidate(middle: Cpx, number: Cpx) -> Option<Gain>
     }
 }
 
-// A gain with what it leaves.
-fn choice_of(samples: &[Sample], sent: &[Sample], gain: Gain) -> Choice
+// A gain with what it leaves, where that is below the end, if there is one.
+fn choice_of(samples: &[Sample], sent: &[Sample], gain: Gain, end: Option<u32>) -> Option<Choice>
     requires { length sent.now ≡ length samples.now }
-    ensures { result ≡ choice_with (greatest_left samples.now sent.now) gain }
+    ensures { result ≡ choice_below end (choice_with (greatest_left samples.now sent.now) gain) }
 {
-    let greatest = greatest_of(samples, sent, gain);
-    Choice { gain, greatest }
-}
-
-// The first choice, or the second where it leaves less.
-fn lesser(first: Choice, second: Choice) -> Choice
-    ensures { result ≡ (if nat_lt second.greatest first.greatest then second else first) }
-{
-    if second.greatest < first.greatest {
-        second
+    let end = end.unwrap_or(u32::MAX);
+    let greatest = greatest_of(samples, sent, gain, end);
+    if greatest < end {
+        Some(Choice { gain, greatest })
     } else {
-        first
+        None
     }
 }
 
-// The better of what was found and another choice.
-fn better(found: Option<Choice>, other: Choice) -> Choice
-    ensures { result ≡ better_of found other }
+// What the middle leaves and 1 more, where it is a candidate: no gain that leaves as much is the best.
+fn limit_of(samples: &[Sample], sent: &[Sample], middle: Cpx) -> Option<u32>
+    requires middle { IsWithin (2 ^ 40) middle }
+    requires count { length sent.now ≡ length samples.now }
+    ensures { IsLimit (greatest_left samples.now sent.now) middle result }
+{
+    let gain = Gain::of(middle)?;
+    Some(greatest_of(samples, sent, gain, u32::MAX) + 1)
+}
+
+// The end of what a gain may leave to be better than what was found.
+fn end_of(limit: Option<u32>, found: &Option<Choice>) -> Option<u32>
+    ensures { result ≡ end_with limit found.now }
 {
     match found {
-        Some(first) => lesser(first, other),
-        None => other,
+        Some(choice) => Some(choice.greatest),
+        None => limit,
     }
+}
+
+// The better of what was found and another gain.
+fn better(
+    samples: &[Sample],
+    sent: &[Sample],
+    limit: Option<u32>,
+    found: Option<Choice>,
+    gain: Gain,
+) -> Option<Choice>
+    requires { length sent.now ≡ length samples.now }
+    ensures { result ≡ better_of limit found (choice_with (greatest_left samples.now sent.now) gain) }
+{
+    let end = end_of(limit, &found);
+    choice_of(samples, sent, gain, end).or(found)
 }
 
 // What is found among the first gains and one more.
@@ -129,17 +110,18 @@ fn with_gain(
     samples: &[Sample],
     sent: &[Sample],
     middle: Cpx,
+    limit: Option<u32>,
     found: Option<Choice>,
     i: u8,
 ) -> Option<Choice>
     requires middle { IsWithin (2 ^ 40) middle }
     requires count { length sent.now ≡ length samples.now }
     requires i { i < 25 }
-    requires found { IsFoundBefore (greatest_left samples.now sent.now) middle i found }
-    ensures { IsFoundBefore (greatest_left samples.now sent.now) middle (i + 1) result }
+    requires found { IsFoundBefore (greatest_left samples.now sent.now) middle limit i found }
+    ensures { IsFoundBefore (greatest_left samples.now sent.now) middle limit (i + 1) result }
 {
     match candidate(middle, around(middle, i)) {
-        Some(gain) => Some(better(found, choice_of(samples, sent, gain))),
+        Some(gain) => better(samples, sent, limit, found, gain),
         None => found,
     }
 }
@@ -151,9 +133,10 @@ pub(crate) fn best(samples: &[Sample], sent: &[Sample], middle: Cpx) -> Option<C
     requires count { length sent.now ≡ length samples.now }
     ensures { IsChosen (greatest_left samples.now sent.now) middle result }
 {
+    let limit = limit_of(samples, sent, middle);
     let mut found = None;
     for i in 0..25 {
-        found = with_gain(samples, sent, middle, found, i);
+        found = with_gain(samples, sent, middle, limit, found, i);
     }
     found
 }

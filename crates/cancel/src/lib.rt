@@ -5,6 +5,7 @@
 mod choosing;
 mod estimating;
 mod laws;
+mod leaving;
 mod subtracted;
 mod taking;
 

@@ -10,8 +10,9 @@ ghost use Rattle.cancel.specs.Residue.{IsSubtraction, TakesLoadedOff, TakesClean
 ghost use Rattle.cancel.specs.Steps.{left_of, IsTakenOff};
 
 use crate::Subtracted;
-use crate::choosing::{Choice, best, left};
+use crate::choosing::{Choice, best};
 use crate::estimating::estimate;
+use crate::leaving::left;
 use cell_tx::{Cell, Port, Sender, sequence};
 use cs_num::{Cpx, Gain, Sample};
 use lte_types::{Sfn, Timing};
@@ -99,6 +100,18 @@ fn sample_left(sample: Sample, sent: Sample, gain: Gain) -> Sample
     left(sample, sent, gain).nearest_sample()
 }
 
+// Writes what a gain leaves of samples, of which these were sent.
+fn write_left(samples: &[Sample], sent: &[Sample], gain: Gain, residue: &mut [Sample])
+    requires count { length sent.now ≡ length samples.now }
+    requires room { length residue.old ≡ length samples.now }
+    ensures { residue.new
+        ≡ values_below (length samples.now) (λ i. nearest_sample (left_of samples.now sent.now gain i)) }
+{
+    for i in 0..samples.len() {
+        residue[i] = sample_left(samples[i], sent[i], gain);
+    }
+}
+
 // What a gain leaves of samples, of which these were sent.
 fn residue_samples(
     alloc: Global,
@@ -110,10 +123,8 @@ fn residue_samples(
     ensures { IfOk result (λ residue. residue.items
         ≡ values_below (length samples.now) (λ i. nearest_sample (left_of samples.now sent.now gain i))) }
 {
-    let mut residue = Vec::with_capacity(alloc, samples.len())?;
-    for i in 0..samples.len() {
-        residue.push(sample_left(samples[i], sent[i], gain))?;
-    }
+    let mut residue = vec![in alloc; Sample { re: 0, im: 0 }; samples.len()]?;
+    write_left(samples, sent, gain, &mut residue);
     Ok(residue)
 }
 
