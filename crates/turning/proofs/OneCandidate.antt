@@ -5,12 +5,12 @@ use Rattle.finite.proofs.Lists.{joined_below_none, joined_below_more}
 use Rattle.cs_num.specs.declared.Sample.{Sample}
 use Rattle.lte_types.specs.declared.hit.Hit.{Hit}
 use Rattle.pss_search.specs.Hits.{hits_of}
+use Rattle.pss_search.proofs.Agree.{hits_agree}
 use Rattle.turning.specs.declared.candidate.Candidate.{Candidate}
 use Rattle.turning.specs.Turned.{turned}
 use Rattle.turning.specs.Fractions.{fraction_of, greatest}
 use Rattle.turning.specs.Candidates.{candidate_by, candidate_at, coarse_turn, coarsely_turned, candidates_below}
 use Rattle.turning.specs.Steps.{IsSmallHit}
-use Rattle.turning.proofs.TurnedSamples.{front_hits}
 use Rattle.turning.proofs.HitSizes.{hits_are_small}
 
 -- what a best hit gives, or none
@@ -34,9 +34,9 @@ one_candidate recording k old new o before e now =
     now ∙ ap (λ xs. xs ++ option_to_list o) before ∙ ap (λ c. candidates_below recording k ++ option_to_list c) e
     ∙ sym (joined_below_more k (λ i. option_to_list (candidate_at recording i)))
 
--- the hits of a front of the recording that is turned are those of all of it
-pub hits_told : (x front : List Sample) (list slice : List Hit) → front ≡ take 57600 x → list ≡ hits_of front → slice ≡ list → slice ≡ hits_of x
-hits_told x front list slice f l s = s ∙ l ∙ ap hits_of f ∙ front_hits x 57600 (omega arith)
+-- what has the samples of the turned recording that are looked at has its hits
+pub hits_told : (x front : List Sample) (list slice : List Hit) → take 19473 front ≡ take 19473 x → list ≡ hits_of front → slice ≡ list → slice ≡ hits_of x
+hits_told x front list slice f l s = s ∙ l ∙ hits_agree 19473 front x f (omega arith)
 
 -- and so their fractions are small
 pub small_told : (recording x : List Sample) (m : ℤ) (hits : List Hit) → x ≡ turned recording m → hits ≡ hits_of x → All IsSmallHit hits

@@ -1,14 +1,11 @@
 -- The samples of a turned recording.
-use Rattle.std.proofs.Common.{◌≡◌, ℕ, ◌<◌, ◌≤◌, List, length, get_or, take, ◌⊎◌, inl, inr, arith, ap, sym, subst, ℤ}
+use Rattle.std.proofs.Common.{◌≡◌, ℕ, ◌<◌, ◌≤◌, List, length, get_or, ◌⊎◌, inl, inr, arith, ap, sym, subst, ℤ}
 use Rattle.std.proofs.lemmas.Bool.{cases_lt}
-use Rattle.std.proofs.lemmas.List.{take-take}
 use Rattle.std.proofs.Math.ListN.{get_or-eq_default}
 use Rattle.finite.proofs.Lists.{values_below-length, values_below_at}
 use Rattle.cs_num.specs.declared.Sample.{Sample}
 use Rattle.cs_num.specs.Complex.{IsWithin, sample_at, value_of, silence}
 use Rattle.cs_num.proofs.Samples.{nearest_sample-within}
-use Rattle.pss_search.specs.Hits.{hits_of}
-use Rattle.pss_search.proofs.Agree.{hits_agree}
 use Rattle.turning.specs.Turned.{turned_back, turned_at, turned}
 
 pub turned-length : (recording : List Sample) (m : ℤ) → length (turned recording m) ≡ length recording
@@ -16,10 +13,6 @@ turned-length recording m = values_below-length (length recording) (turned_at re
 
 pub turned_sample : (recording : List Sample) (m : ℤ) (i : ℕ) → i < length recording → sample_at (turned recording m) i ≡ value_of (turned_at recording m i)
 turned_sample recording m i l = ap value_of (values_below_at (turned_at recording m) (length recording) i silence l)
-
--- hits are those of a front
-pub front_hits : (samples : List Sample) (count : ℕ) → 19473 ≤ count → hits_of (take count samples) ≡ hits_of samples
-front_hits samples count enough = hits_agree count (take count samples) samples (take-take count count samples (omega arith)) enough
 
 -- ---- sizes
 

@@ -1,5 +1,6 @@
 -- The turns that may be the one: candidates, and which of them are taken. (own)
-use Rattle.std.specs.Prelude.{ℕ, zero, suc, Bool, nat_lt, nat_abs, ℤ, pos, ◌+ℤ◌, ◌-ℤ◌, ◌*ℤ◌, List, [], ◌∷◌, length, filter, Option, option_map, option_to_list}
+use Rattle.std.specs.Prelude.{ℕ, zero, suc, Bool, nat_lt, nat_abs, ℤ, pos, ◌+ℤ◌, ◌-ℤ◌, ◌*ℤ◌, List, [], ◌∷◌, length}
+use Rattle.std.specs.Prelude.{filter, Option, option_map, option_to_list}
 use Rattle.std.specs.Option.{option_map_or}
 use Rattle.finite.specs.Lists.{joined_below}
 use Rattle.cs_num.specs.declared.Sample.{Sample}
@@ -50,7 +51,8 @@ is_far first second = nat_lt 64 (nat_abs (second.turn -ℤ first.turn))
 unfoldable pub first_taken : ℕ → List Candidate → List Candidate
 first_taken zero candidates = []
 first_taken (suc n) candidates =
-    option_map_or (λ best. best ∷ first_taken n (filter (is_far best) candidates)) (greatest (λ c. c.fraction) candidates) []
+    option_map_or (λ best. best ∷ first_taken n (filter (is_far best) candidates))
+    (greatest (λ c. c.fraction) candidates) []
 
 -- the candidates that are taken, in their order
 abbrev pub taken_of : List Sample → List Candidate

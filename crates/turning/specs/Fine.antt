@@ -1,5 +1,5 @@
--- The rest of a turn, by the cyclic prefixes: each sample of one comes again 128 samples later (TS 36.211 section 6.12),
--- turned by as much as the frequency is off. (own)
+-- The rest of a turn, by the cyclic prefixes: each sample of one comes again 128 samples later (TS 36.211 section
+-- 6.12), turned by as much as the frequency is off. (own)
 use Rattle.std.specs.Prelude.{ℕ, ◌+◌, ◌-◌, ◌%◌, Bool, ◌&&◌, ◌||◌, nat_eq, nat_le, if◌then◌else◌, List, length, ℤ}
 use Rattle.cs_num.specs.declared.Cpx.{Cpx}
 use Rattle.cs_num.specs.declared.Sample.{Sample}

@@ -15,20 +15,26 @@ pub record Has16Bits (sample : Sample) : Type 0 where
 
 -- a recording without a mean, turned by 0, is itself
 abbrev pub StaysAtZero : Type 0
-StaysAtZero = (recording : List Sample) → All Has16Bits recording → mean recording ≡ nothing → turned recording (pos 0) ≡ recording
+StaysAtZero =
+    (recording : List Sample) → All Has16Bits recording → mean recording ≡ nothing →
+    turned recording (pos 0) ≡ recording
 
 -- one thing is told of a recording
 abbrev pub IsOneTold : Type 0
-IsOneTold = (recording : List Sample) (first second : Option Told) → IsTold recording first → IsTold recording second → first ≡ second
+IsOneTold =
+    (recording : List Sample) (first second : Option Told) → IsTold recording first → IsTold recording second →
+    first ≡ second
 
 -- so a recording is turned in one way by what is told of it
 abbrev pub IsOneApplied : Type 0
-IsOneApplied = (recording first second : List Sample) → IsApplied recording first → IsApplied recording second → first ≡ second
+IsOneApplied =
+    (recording first second : List Sample) → IsApplied recording first → IsApplied recording second → first ≡ second
 
 -- where a turn is told, the recording turned by it has as many cells as are told
 abbrev pub ToldCellsAreThere : Type 0
 ToldCellsAreThere =
-    (recording applied : List Sample) (told : Told) → IsTold recording (Some told) → IsApplied recording applied → HasCells applied told.cells
+    (recording applied : List Sample) (told : Told) → IsTold recording (Some told) → IsApplied recording applied →
+    HasCells applied told.cells
 
 -- the turn that is told is one of those within 67.5 kHz
 pub record IsTurnInRange (told : Told) : Type 0 where

@@ -21,8 +21,8 @@ mean recording = quotient (sum_of recording) (length recording)
 abbrev pub w_of : ℤ → Cpx
 w_of z = w_at (nat_abs (int_rem_euclid z (pos 128)))
 
--- how far a turn of m has come at sample i, in parts of which 128 are a whole turn: m / 128 more from each sample to the
--- next, which is m times 117.1875 Hz
+-- how far a turn of m has come at sample i, in parts of which 128 are a whole turn: m / 128 more from each sample to
+-- the next, which is m times 117.1875 Hz
 abbrev pub angle : ℤ → ℕ → ℤ
 angle m i = floor_div (m *ℤ pos i) 128
 

@@ -3,7 +3,8 @@
 ghost use Rattle.std.specs.Prelude.{◌≡◌, IfOk, string_bytes};
 ghost use Rattle.serde_json.specs.View.{view};
 ghost use Rattle.report.specs.Values.{or_null};
-ghost use Rattle.turning.specs.AsJson.{told_value as told_of, candidate_value, telling_value as telling_of, telling_json, IsTellJson};
+ghost use Rattle.turning.specs.AsJson.{told_value as told_of, candidate_value, telling_value as telling_of};
+ghost use Rattle.turning.specs.AsJson.{telling_json, IsTellJson};
 
 use crate::candidate::Candidate;
 use crate::centred::Centred;

@@ -9,9 +9,13 @@ ghost use Rattle.turning.specs.Steps.{IsCentred};
 
 use crate::table::w_at;
 use cs_num::{Cpx, Sample};
+use lte_types::LEAST_SAMPLES;
 use sample_file::Recording;
 use std::alloc::{AllocError, Global};
 use std::marker::Model;
+
+// As many samples are looked at for the hits of a recording.
+const LOOKED_AT: usize = 19_473;
 
 // A recording turned, whose samples are made where they are asked for. Contracts see it as their list.
 #[derive(Drop)]
@@ -64,40 +68,51 @@ impl<'a> Turned<'a> {
         turned_back(samples[i], self.mean, angle(&self.turn, i))
     }
 
-    // The first samples.
-    pub(crate) fn front(&self, alloc: Global, count: usize) -> Result<Recording, AllocError>
-        requires least { least_samples ≤ count }
-        requires most { count ≤ length self.now }
-        ensures { IfOk result (λ front. front ≡ take count self.now) }
-    {
-        let end = self.len();
-        prove!(count <= end);
-        let samples = self.first_samples(alloc, count)?;
-        match Recording::new(samples) {
-            Some(front) => Ok(front),
-            None => unreachable!(),
-        }
-    }
-
     // All samples.
     pub(crate) fn whole(&self, alloc: Global) -> Result<Recording, AllocError>
         ensures value { IfOk result (λ whole. whole ≡ self.now) }
         ensures valid { IfOk result IsRecording }
     {
         let end = self.len();
-        self.front(alloc, end)
+        self.with_first(alloc, end, end)
     }
 
-    // The first samples in memory.
-    fn first_samples(&self, alloc: Global, count: usize) -> Result<Vec<Sample>, AllocError>
-        requires { count ≤ length self.now }
-        ensures { IfOk result (λ samples. samples.items ≡ take count self.now) }
+    // A recording as short as one can be with the same hits: the samples that are looked at for them, and silence.
+    pub(crate) fn looked_at(&self, alloc: Global) -> Result<Recording, AllocError>
+        ensures { IfOk result (λ front. take 19473 front ≡ take 19473 self.now) }
     {
-        let mut samples = Vec::with_capacity(alloc, count)?;
-        for i in 0..count {
-            samples.push(self.at(i))?;
+        let end = self.len();
+        prove!(LOOKED_AT <= end);
+        self.with_first(alloc, LOOKED_AT, LEAST_SAMPLES)
+    }
+
+    // The first `count` samples, and silence, `whole` in all.
+    fn with_first(&self, alloc: Global, count: usize, whole: usize) -> Result<Recording, AllocError>
+        requires count { count ≤ length self.now }
+        requires room { count ≤ whole }
+        requires least { least_samples ≤ whole }
+        requires most { whole ≤ most_samples }
+        ensures length { IfOk result (λ front. length front ≡ whole) }
+        ensures value { IfOk result (λ front. take count front ≡ take count self.now) }
+    {
+        let mut samples = vec![in alloc; Sample { re: 0, im: 0 }; whole]?;
+        self.write(count, &mut samples);
+        match Recording::new(samples) {
+            Some(front) => Ok(front),
+            None => unreachable!(),
         }
-        Ok(samples)
+    }
+
+    // Writes the first `count` samples over those of others.
+    fn write(&self, count: usize, others: &mut [Sample])
+        requires count { count ≤ length self.now }
+        requires room { count ≤ length others.old }
+        ensures length { length others.new ≡ length others.old }
+        ensures value { take count others.new ≡ take count self.now }
+    {
+        for i in 0..count {
+            others[i] = self.at(i);
+        }
     }
 }
 

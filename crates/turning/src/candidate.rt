@@ -2,7 +2,9 @@
 
 ghost use Rattle.std.specs.Prelude.{◌≡◌, ◌+◌, ◌*◌, ◌<◌, ◌≤◌, All, IfOk, OnOk, nat_abs, length};
 ghost use Rattle.pss_search.specs.Hits.{hits_of};
-ghost use Rattle.turning.specs.Candidates.{candidate_by as candidate_by_hit, candidate_at as candidate_of, coarse_turn as coarse_turn_of, candidates_below, candidates_of as all_candidates};
+ghost use Rattle.turning.specs.Candidates.{candidate_by as candidate_by_hit, candidate_at as candidate_of};
+ghost use Rattle.turning.specs.Candidates.{coarse_turn as coarse_turn_of, candidates_below};
+ghost use Rattle.turning.specs.Candidates.{candidates_of as all_candidates};
 ghost use Rattle.turning.specs.Steps.{IsSmallHit, IsSmallCandidate};
 
 use crate::at_turn::Turned;
@@ -10,7 +12,7 @@ use crate::centred::Centred;
 use crate::fine::fine_turn;
 use crate::fraction::{Fraction, best_hit, fraction_of};
 use crate::order::by_size;
-use lte_types::{Hit, LEAST_SAMPLES};
+use lte_types::Hit;
 use pss_search::{HitList, hits};
 use std::alloc::{AllocError, Global};
 
@@ -82,9 +84,7 @@ fn candidate_at(
 {
     let m = coarse_turn(k);
     let turned = centred.turned(m);
-    let end = turned.len();
-    prove!(LEAST_SAMPLES <= end);
-    let front = turned.front(alloc, LEAST_SAMPLES)?;
+    let front = turned.looked_at(alloc)?;
     hits(&front, list);
     let hits = list.slice();
     match best_hit(hits) {

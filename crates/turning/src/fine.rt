@@ -1,10 +1,14 @@
 //! The rest of a turn, by the cyclic prefixes.
 
-ghost use Rattle.std.specs.Prelude.{◌≡◌, ◌+◌, ◌-◌, ◌*◌, ◌^◌, ◌<◌, ◌≤◌, length, nat_abs, int_lt, nat_le, ◌&&◌, if◌then◌else◌};
+ghost use Rattle.std.specs.Prelude.{◌≡◌, ◌+◌, ◌-◌, ◌*◌, ◌^◌, ◌<◌, ◌≤◌, length, nat_abs, int_lt, nat_le};
+ghost use Rattle.std.specs.Prelude.{◌&&◌, if◌then◌else◌};
 ghost use Rattle.cs_num.specs.Complex.{IsWithin};
 ghost use Rattle.lte_types.specs.Numerology.{half_frame_length};
 ghost use Rattle.turning.specs.Order.{by_size as by_size_of};
-ghost use Rattle.turning.specs.Fine.{half_start as half_start_of, is_carried as is_carried_at, repeat_term as repeat_term_at, repeat_sum as repeat_sum_at, symbol_sum as symbol_sum_at, slot_sum as slot_sum_at, prefix_sum as prefix_sum_of, fit as fit_of, best_fit as best_fit_of, fine_turn as fine_turn_of};
+ghost use Rattle.turning.specs.Fine.{half_start as half_start_of, is_carried as is_carried_at};
+ghost use Rattle.turning.specs.Fine.{repeat_term as repeat_term_at, repeat_sum as repeat_sum_at};
+ghost use Rattle.turning.specs.Fine.{symbol_sum as symbol_sum_at, slot_sum as slot_sum_at, prefix_sum as prefix_sum_of};
+ghost use Rattle.turning.specs.Fine.{fit as fit_of, best_fit as best_fit_of, fine_turn as fine_turn_of};
 
 use crate::at_turn::Turned;
 use crate::order::by_size;
@@ -39,7 +43,8 @@ fn better_fit(sum: Cpx, first: usize, second: usize) -> usize
     requires sum { IsWithin (2 ^ 46) sum }
     requires first { first < 128 }
     requires second { second < 128 }
-    ensures { result ≡ (if int_lt (fit_of sum (by_size_of first)) (fit_of sum (by_size_of second)) then second else first) }
+    ensures { result ≡ (if int_lt (fit_of sum (by_size_of first)) (fit_of sum (by_size_of second))
+        then second else first) }
 {
     if fit(sum, by_size(first)) < fit(sum, by_size(second)) {
         second

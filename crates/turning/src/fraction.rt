@@ -1,7 +1,8 @@
 //! Fractions of hits.
 
 ghost use Rattle.std.specs.Prelude.{◌≡◌, All, fold};
-ghost use Rattle.turning.specs.Fractions.{fraction_of as fraction_of_hit, whole as whole_of, is_less as is_less_than, greater, greatest, IsSmall};
+ghost use Rattle.turning.specs.Fractions.{fraction_of as fraction_of_hit, whole as whole_of, is_less as is_less_than};
+ghost use Rattle.turning.specs.Fractions.{greater, greatest, IsSmall};
 ghost use Rattle.turning.specs.Steps.{IsSmallHit};
 
 use lte_types::Hit;

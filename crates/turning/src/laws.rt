@@ -1,6 +1,7 @@
 //! Laws.
 
-ghost use Rattle.turning.specs.Laws.{StaysAtZero, TurnedIsRecording, IsOneTold, IsOneApplied, ToldCellsAreThere, TurnIsInRange};
+ghost use Rattle.turning.specs.Laws.{StaysAtZero, TurnedIsRecording, IsOneTold, IsOneApplied};
+ghost use Rattle.turning.specs.Laws.{ToldCellsAreThere, TurnIsInRange};
 
 /// Laws of recordings turned: a recording without a mean stays as it is where it is turned by 0, and a recording turned
 /// is one. (own)

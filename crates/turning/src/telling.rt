@@ -43,9 +43,9 @@ pub fn turned(alloc: Global, recording: &Recording, m: i16) -> Result<Recording,
 }
 
 /// What is told of a recording's offset; nothing where none of the 33 coarse turns, up to 60 kHz, gives a hit. Of the
-/// candidates, one for each of these turns that give hits, the one of greatest fraction of energy is taken, then that of those whose turn
-/// is more than 64 from its, and so on, at most four; the first of them whose turn gives cells is told, and where none
-/// does the first. Only memory can be wanting. (own)
+/// candidates, one for each of these turns that give hits, the one of greatest fraction of energy is taken, then that
+/// of those whose turn is more than 64 from its, and so on, at most four; the first of them whose turn gives cells is
+/// told, and where none does the first. Only memory can be wanting. (own)
 pub fn tell(alloc: Global, recording: &Recording) -> Result<Option<Told>, AllocError>
     ensures told { IfOk result (IsTold recording.now) }
     ensures range { IfOk result (λ told. IfSome told IsTurnInRange) }
