@@ -9,17 +9,22 @@ use Rattle.serde_json.specs.View.{items_of}
 use Rattle.serde_json.specs.Written.{compact_text, has_float, items_have_float}
 use Rattle.cs_num.specs.declared.Cpx.{Cpx}
 use Rattle.lte_types.specs.declared.carrier.Carrier.{Carrier}
-use Rattle.lte_types.specs.declared.carrier.Carrier.TheVariants.{OnePort, TwoPorts, LongPrefix}
+use Rattle.lte_types.specs.declared.carrier.Carrier.TheVariants.{OnePort, TwoPorts, LongPrefix, FourPorts}
 use Rattle.lte_types.specs.declared.plmn.Plmn.{Plmn}
 use Rattle.lte_types.specs.declared.si_message.SiMessage.{SiMessage}
 use Rattle.lte_types.specs.declared.sib1.Sib1.{Sib1}
 use Rattle.lte_types.specs.declared.sib1_reason.Sib1Reason.{Sib1Reason}
 use Rattle.lte_types.specs.declared.entry.Entry.{Entry}
+use Rattle.sss_detect.specs.declared.rank.Choice.{Choice}
+use Rattle.sss_detect.specs.declared.rank.Ranking.{Ranking}
+use Rattle.report.specs.HitsJson.{choice_value, ranking_value, id_value}
+use Rattle.report.specs.declared.measured.MeasuredId.{MeasuredId}
 use Rattle.report.specs.Values.{natural, integer, or_null}
 use Rattle.report.specs.Json.{plmn_value, message_value, tdd_value, sib1_value, system_value, entry_value}
 use Rattle.report.specs.All.{ruled_value, ruled_values, all_value}
 use Rattle.report.specs.EvidenceJson.{Shown, complex_value, port_value, soft_value, support_value}
 use Rattle.report.specs.declared.supports_json.PortChannel.{PortChannel}
+use Rattle.report.specs.declared.supports_json.PortChannel.TheVariants.{Double, Single}
 use Rattle.report.specs.declared.supports_json.SoftPair.{SoftPair}
 
 -- a value without floats has its text
@@ -70,20 +75,35 @@ in_both : (xs ys : List Data) → items_have_float (items_of xs) ≡ false → i
 in_both [] ys p q = q
 in_both (x ∷ xs) ys p q = let parts = or_parts _ _ p in or_from _ _ parts.0 (in_both xs ys parts.1 q)
 
-pub in_all : (one two long : List Entry) → has_float (all_value one two long) ≡ false
-in_all one two long =
-    in_both (ruled_values OnePort one ++ ruled_values TwoPorts two) (ruled_values LongPrefix long)
-    (in_both (ruled_values OnePort one) (ruled_values TwoPorts two) (in_list (ruled_value OnePort) (in_ruled OnePort) one) (in_list (ruled_value TwoPorts) (in_ruled TwoPorts) two))
-    (in_list (ruled_value LongPrefix) (in_ruled LongPrefix) long)
+-- and the values of a list's cells, after values that have none
+after : (xs : List Data) (carrier : Carrier) (entries : List Entry) → items_have_float (items_of xs) ≡ false → items_have_float (items_of (xs ++ ruled_values carrier entries)) ≡ false
+after xs carrier entries p = in_both xs (ruled_values carrier entries) p (in_list (ruled_value carrier) (in_ruled carrier) entries)
+
+pub in_all : (one two long four : List Entry) → has_float (all_value one two long four) ≡ false
+in_all one two long four =
+    let first = in_list (ruled_value OnePort) (in_ruled OnePort) one in
+    let second = after (ruled_values OnePort one) TwoPorts two first in
+    let third = after (ruled_values OnePort one ++ ruled_values TwoPorts two) LongPrefix long second in
+    after (ruled_values OnePort one ++ ruled_values TwoPorts two ++ ruled_values LongPrefix long) FourPorts four third
 
 in_complex : (z : Cpx) → has_float (complex_value z) ≡ false
 in_complex z = or_from _ _ (in_integer z.re) (or_from _ _ (in_integer z.im) refl)
 
 in_port : (port : PortChannel) → has_float (port_value port) ≡ false
-in_port port = in_list complex_value in_complex port.pilots
+in_port (Double pilots) = in_list complex_value in_complex pilots
+in_port (Single pilots) = in_list complex_value in_complex pilots
 
 in_soft : (pair : SoftPair) → has_float (soft_value pair) ≡ false
 in_soft pair = or_from _ _ (in_integer pair.re) (or_from _ _ (in_integer pair.im) refl)
 
 pub in_support : (shown : Shown) → has_float (support_value shown) ≡ false
 in_support shown = or_from _ _ (in_list port_value in_port shown.channel) (or_from _ _ (in_list soft_value in_soft shown.values) refl)
+
+in_choice : (choice : Choice) → has_float (choice_value choice) ≡ false
+in_choice choice = or_from _ _ (in_integer choice.score) refl
+
+in_ranking : (ranking : Ranking) → has_float (ranking_value ranking) ≡ false
+in_ranking ranking = or_from _ _ (in_choice ranking.best) (or_from _ _ (in_choice ranking.second) refl)
+
+pub in_id : (measured : MeasuredId) → has_float (id_value measured) ≡ false
+in_id measured = or_from _ _ (in_ranking measured.ranking) refl

@@ -4,7 +4,7 @@ use Rattle.serde_json.specs.Data.{Data, string, array, object, put}
 use Rattle.serde_json.specs.View.{items_of}
 use Rattle.serde_json.specs.Written.{compact_text}
 use Rattle.lte_types.specs.declared.carrier.Carrier.{Carrier}
-use Rattle.lte_types.specs.declared.carrier.Carrier.TheVariants.{OnePort, TwoPorts, LongPrefix}
+use Rattle.lte_types.specs.declared.carrier.Carrier.TheVariants.{OnePort, TwoPorts, LongPrefix, FourPorts}
 use Rattle.lte_types.specs.declared.entry.Entry.{Entry}
 use Rattle.report.specs.Lines.{report_text}
 use Rattle.report.specs.Json.{entry_members}
@@ -14,6 +14,7 @@ abbrev pub rule_word : Carrier → List ℕ
 rule_word OnePort = codes "one-port"
 rule_word TwoPorts = codes "two-ports"
 rule_word LongPrefix = codes "long-prefix"
+rule_word FourPorts = codes "four-ports"
 
 -- a list under the line of its rule
 abbrev pub rule_line : List ℕ → List ℕ
@@ -22,9 +23,10 @@ rule_line word = codes "rule " ++ word ++ codes "\n"
 abbrev pub ruled_text : Carrier → List Entry → List ℕ
 ruled_text carrier entries = rule_line (rule_word carrier) ++ report_text entries
 
--- the three lists, one after the other
-abbrev pub all_text : List Entry → List Entry → List Entry → List ℕ
-all_text one two long = ruled_text OnePort one ++ ruled_text TwoPorts two ++ ruled_text LongPrefix long
+-- the four lists, one after the other
+abbrev pub all_text : List Entry → List Entry → List Entry → List Entry → List ℕ
+all_text one two long four =
+    ruled_text OnePort one ++ ruled_text TwoPorts two ++ ruled_text LongPrefix long ++ ruled_text FourPorts four
 
 -- a cell with its rule
 abbrev pub ruled_value : Carrier → Entry → Data
@@ -33,11 +35,12 @@ ruled_value carrier entry = object (put (codes "rule") (string (rule_word carrie
 abbrev pub ruled_values : Carrier → List Entry → List Data
 ruled_values carrier entries = map (ruled_value carrier) entries
 
--- the cells of the three lists in one array
-abbrev pub all_value : List Entry → List Entry → List Entry → Data
-all_value one two long =
-    array (items_of (ruled_values OnePort one ++ ruled_values TwoPorts two ++ ruled_values LongPrefix long))
+-- the cells of the four lists in one array
+abbrev pub all_value : List Entry → List Entry → List Entry → List Entry → Data
+all_value one two long four =
+    array (items_of (ruled_values OnePort one ++ ruled_values TwoPorts two
+    ++ ruled_values LongPrefix long ++ ruled_values FourPorts four))
 
 -- its text, without spaces
-unfoldable pub all_json : List Entry → List Entry → List Entry → List ℕ
-all_json one two long = compact_text (all_value one two long)
+unfoldable pub all_json : List Entry → List Entry → List Entry → List Entry → List ℕ
+all_json one two long four = compact_text (all_value one two long four)

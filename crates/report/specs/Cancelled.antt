@@ -9,7 +9,8 @@ gain_part gain = codes " gain " ++ signed_decimal gain.re ++ codes " " ++ signed
 
 -- the cell's identity, the gain, and the greatest size of a component that was left
 abbrev pub cancelled_line : ℕ → Cpx → ℕ → List ℕ
-cancelled_line id gain greatest = codes "cancelled " ++ decimal id ++ gain_part gain ++ codes " residue " ++ decimal greatest ++ codes "\n"
+cancelled_line id gain greatest =
+    codes "cancelled " ++ decimal id ++ gain_part gain ++ codes " residue " ++ decimal greatest ++ codes "\n"
 
 -- the power of the recording with the cell, and without it
 abbrev pub power_line : ℕ → ℕ → List ℕ

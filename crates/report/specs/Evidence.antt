@@ -6,15 +6,18 @@ use Rattle.lte_types.specs.declared.evidence.Evidence.{Evidence}
 
 -- which entry it is, and the place of the hit that tells it
 abbrev pub entry_part : ℕ → ℕ → ℕ → ℕ → List ℕ
-entry_part id start sfn t = decimal id ++ codes " " ++ decimal start ++ codes " " ++ decimal sfn ++ codes " t " ++ decimal t
+entry_part id start sfn t =
+    decimal id ++ codes " " ++ decimal start ++ codes " " ++ decimal sfn ++ codes " t " ++ decimal t
 
 -- the fraction there in thousandths, and what speaks against the word, of how much
 abbrev pub word_part : ℕ → ℕ → ℕ → List ℕ
-word_part peak cost total = codes " peak " ++ decimal peak ++ codes " cost " ++ decimal cost ++ codes " total " ++ decimal total
+word_part peak cost total =
+    codes " peak " ++ decimal peak ++ codes " cost " ++ decimal cost ++ codes " total " ++ decimal total
 
 -- the frames that were summed, the first of them, and its number modulo 4
 abbrev pub frame_part : ℕ → ℕ → ℕ → List ℕ
-frame_part frames frame phase = codes " frames " ++ decimal frames ++ codes " frame " ++ decimal frame ++ codes " phase " ++ decimal phase
+frame_part frames frame phase =
+    codes " frames " ++ decimal frames ++ codes " frame " ++ decimal frame ++ codes " phase " ++ decimal phase
 
 -- the energy of the pilots, and how much they differ from one to the next
 abbrev pub pilots_part : ℕ → ℕ → List ℕ

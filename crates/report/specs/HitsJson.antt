@@ -4,7 +4,9 @@ use Rattle.serde_json.specs.Data.{Data, object, Members, no_members, put}
 use Rattle.serde_json.specs.Written.{compact_text}
 use Rattle.lte_types.specs.declared.hit.Hit.{Hit}
 use Rattle.lte_types.specs.Numerology.{subframe_of}
-use Rattle.report.specs.Values.{natural, list_of}
+use Rattle.sss_detect.specs.declared.rank.Choice.{Choice}
+use Rattle.sss_detect.specs.declared.rank.Ranking.{Ranking}
+use Rattle.report.specs.Values.{natural, integer, list_of}
 use Rattle.report.specs.declared.hits.IdentifiedHit.{IdentifiedHit}
 use Rattle.report.specs.declared.measured.MeasuredHit.{MeasuredHit}
 use Rattle.report.specs.declared.measured.MeasuredId.{MeasuredId}
@@ -36,11 +38,25 @@ hit_value measured =
 unfoldable pub hits_json : List MeasuredHit → List ℕ
 hits_json hits = compact_text (list_of hit_value hits)
 
--- a hit with the identity of its cell
+-- a pair of a group and a half with its score
+abbrev pub choice_value : Choice → Data
+choice_value choice = object (
+    put (codes "subframe") (natural (subframe_of choice.half)) (
+    put (codes "score") (integer choice.score) (
+    put (codes "group") (natural choice.n1) no_members)))
+
+-- the two best pairs
+abbrev pub ranking_value : Ranking → Data
+ranking_value ranking = object (
+    put (codes "second") (choice_value ranking.second) (
+    put (codes "best") (choice_value ranking.best) no_members))
+
+-- a hit with the identity of its cell, and the pairs of its secondary signal
 abbrev pub id_value : MeasuredId → Data
 id_value measured = object (
     metric_members measured.peak measured.energy measured.power (
-    identity_members measured.found (hit_members measured.found.hit no_members)))
+    put (codes "secondary") (ranking_value measured.ranking) (
+    identity_members measured.found (hit_members measured.found.hit no_members))))
 
 unfoldable pub ids_json : List MeasuredId → List ℕ
 ids_json hits = compact_text (list_of id_value hits)

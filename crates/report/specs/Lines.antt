@@ -13,7 +13,8 @@ use Rattle.lte_types.specs.declared.entry.Entry.{Entry}
 use Rattle.lte_types.specs.Block.{br, rest}
 use Rattle.lte_types.specs.Codes.{bandwidth_word, duration_word, period_word, resource_word, window_word}
 use Rattle.lte_types.specs.Reasons.{reason_words}
-use Rattle.report.specs.Words.{or_dash, bit_word, barred_word, intra_word, reserved_word, digits_word, tdd_word, sibs_word}
+use Rattle.report.specs.Words.{or_dash, bit_word, barred_word, intra_word, reserved_word, digits_word}
+use Rattle.report.specs.Words.{tdd_word, sibs_word}
 
 -- the place of a cell: its identity, start and frame number, and how many antenna ports it has
 abbrev pub place_part : ℕ → ℕ → ℕ → ℕ → List ℕ

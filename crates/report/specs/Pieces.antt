@@ -12,4 +12,5 @@ pub record IsPiece (piece text : List ℕ) : Type 0 where
 
 -- a law: the lines of each listed cell, with those on its system information, stand together in the text of the list
 abbrev pub ListedLinesStand : Type 0
-ListedLinesStand = (entries : List Entry) (entry : Entry) → Contains entries entry → IsPiece (entry_lines entry) (report_text entries)
+ListedLinesStand =
+    (entries : List Entry) (entry : Entry) → Contains entries entry → IsPiece (entry_lines entry) (report_text entries)

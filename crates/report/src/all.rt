@@ -2,7 +2,8 @@
 
 ghost use Rattle.std.specs.Prelude.{◌≡◌, ◌++◌, IfOk, OnOk, map, string_bytes};
 ghost use Rattle.serde_json.specs.View.{view};
-ghost use Rattle.report.specs.All.{rule_word as word_of, rule_line as line_of, ruled_text as text_of, all_text, ruled_value as value_of, ruled_values, all_json};
+ghost use Rattle.report.specs.All.{rule_word as word_of, rule_line as line_of, ruled_text as text_of, all_text};
+ghost use Rattle.report.specs.All.{ruled_value as value_of, ruled_values, all_json};
 
 use crate::as_json::members_of;
 use crate::listing::text;
@@ -11,21 +12,25 @@ use serde_json::{ToValue, Value, put};
 use std::alloc::{AllocError, Global};
 use std::fmt::Write;
 
-/// The text of three lists: of the cells of one antenna port, of those of two, and of those with the extended prefix.
-/// Before each, which is as `text` writes it, stands a line with its rule. Only memory can be wanting. (own)
+/// The text of four lists: of the cells of one antenna port, of those of two, of those with the extended prefix, and of
+/// those of four antenna ports. Before each, which is as `text` writes it, stands a line with its rule. Only memory can
+/// be wanting. (own)
 pub fn text_of_all(
     alloc: Global,
     one: &[Entry],
     two: &[Entry],
     long: &[Entry],
+    four: &[Entry],
 ) -> Result<String, AllocError>
-    ensures { IfOk result (λ text. string_bytes text ≡ all_text one.now two.now long.now) }
+    ensures { IfOk result (λ text. string_bytes text ≡ all_text one.now two.now long.now four.now) }
 {
     let mut all = ruled_text(alloc, Carrier::OnePort, one)?;
     let second = ruled_text(alloc, Carrier::TwoPorts, two)?;
     let third = ruled_text(alloc, Carrier::LongPrefix, long)?;
+    let fourth = ruled_text(alloc, Carrier::FourPorts, four)?;
     all.push_str(&second)?;
     all.push_str(&third)?;
+    all.push_str(&fourth)?;
     Ok(all)
 }
 
@@ -36,13 +41,15 @@ pub fn json_of_all(
     one: &[Entry],
     two: &[Entry],
     long: &[Entry],
+    four: &[Entry],
 ) -> Result<String, AllocError>
-    ensures { IfOk result (λ text. string_bytes text ≡ all_json one.now two.now long.now) }
+    ensures { IfOk result (λ text. string_bytes text ≡ all_json one.now two.now long.now four.now) }
 {
     let mut list = Vec::new(alloc);
     add_ruled(alloc, Carrier::OnePort, one, &mut list)?;
     add_ruled(alloc, Carrier::TwoPorts, two, &mut list)?;
     add_ruled(alloc, Carrier::LongPrefix, long, &mut list)?;
+    add_ruled(alloc, Carrier::FourPorts, four, &mut list)?;
     let all = Value::from(list);
     all.to_string(alloc)
 }
@@ -71,6 +78,7 @@ fn rule_word(rule: Carrier) -> &'static str
         Carrier::OnePort => "one-port",
         Carrier::TwoPorts => "two-ports",
         Carrier::LongPrefix => "long-prefix",
+        Carrier::FourPorts => "four-ports",
     }
 }
 

@@ -5,7 +5,10 @@ ghost use Rattle.serde_json.specs.Data.{string};
 ghost use Rattle.serde_json.specs.View.{view, members_view};
 ghost use Rattle.report.specs.Words.{digits_word as digits_of};
 ghost use Rattle.report.specs.Values.{or_null};
-ghost use Rattle.report.specs.Json.{plmn_value as plmn_of, message_value as message_of, tdd_value as tdd_of, cell_members, block_members, identity_members, access_members, schedule_members, sib1_value as sib1_of, system_value as system_of, entry_members, entry_value as entry_of, json_text};
+ghost use Rattle.report.specs.Json.{plmn_value as plmn_of, message_value as message_of, tdd_value as tdd_of};
+ghost use Rattle.report.specs.Json.{cell_members, block_members, identity_members, access_members, schedule_members};
+ghost use Rattle.report.specs.Json.{sib1_value as sib1_of, system_value as system_of, entry_members};
+ghost use Rattle.report.specs.Json.{entry_value as entry_of, json_text};
 
 use crate::lines::mnc_word;
 use crate::values::{ToJson, list_text, list_value};

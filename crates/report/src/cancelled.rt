@@ -1,7 +1,8 @@
 //! The lines of a cell that was taken off a recording.
 
 ghost use Rattle.std.specs.Prelude.{◌≡◌, IfOk, string_bytes};
-ghost use Rattle.report.specs.Cancelled.{cancelled_line as cancelled_of, gain_part as gain_of, power_line as power_of, cancelled_lines, cancelled_none};
+ghost use Rattle.report.specs.Cancelled.{cancelled_line as cancelled_of, gain_part as gain_of, power_line as power_of};
+ghost use Rattle.report.specs.Cancelled.{cancelled_lines, cancelled_none};
 
 use cs_num::Gain;
 use std::alloc::{AllocError, Global};

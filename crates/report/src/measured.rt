@@ -2,12 +2,14 @@
 
 ghost use Rattle.std.specs.Prelude.{◌≡◌, IfOk, OnOk, string_bytes};
 ghost use Rattle.serde_json.specs.View.{view, members_view};
-ghost use Rattle.report.specs.HitsJson.{hit_members, metric_members, identity_members, hit_value, hits_json, id_value, ids_json};
+ghost use Rattle.report.specs.HitsJson.{hit_members, metric_members, identity_members, hit_value, hits_json};
+ghost use Rattle.report.specs.HitsJson.{choice_value, ranking_value, id_value, ids_json};
 
 use crate::hits::IdentifiedHit;
 use crate::values::{ToJson, list_text};
 use lte_types::Hit;
 use serde_json::{Map, Value, put};
+use sss_detect::{Choice, Ranking};
 use std::alloc::{AllocError, Global};
 
 /// A hit with the numbers of its metric, which is `peak / (energy * power)`. (own)
@@ -22,10 +24,12 @@ pub struct MeasuredHit {
     pub power: u64,
 }
 
-/// A hit with what it tells of its cell, and with the numbers of its metric. (own)
+/// A hit with what it tells of its cell, with how clear that was, and with the numbers of its metric. (own)
 #[derive(Clone, Copy, PartialEq, Eq)]
 pub struct MeasuredId {
     pub found: IdentifiedHit,
+    /// The two best pairs of a group and a half.
+    pub ranking: Ranking,
     /// The square of the size of the correlation with the signal.
     pub peak: u64,
     /// The energy of the 128 samples of the hit.
@@ -42,7 +46,8 @@ pub fn json_of_hits(alloc: Global, hits: &[MeasuredHit]) -> Result<String, Alloc
     list_text(alloc, hits)
 }
 
-/// Hits with the identities of their cells as JSON, in the same form. Only memory can be wanting. (own)
+/// Hits with the identities of their cells as JSON, in the same form; the two best pairs of each stand under
+/// `secondary`. Only memory can be wanting. (own)
 pub fn json_of_ids(alloc: Global, hits: &[MeasuredId]) -> Result<String, AllocError>
     ensures { IfOk result (λ text. string_bytes text ≡ ids_json hits.now) }
 {
@@ -67,7 +72,37 @@ impl ToJson for MeasuredId {
         let mut members = Map::new(alloc);
         put_hit(alloc, &self.found.hit, &mut members)?;
         put_identity(alloc, &self.found, &mut members)?;
+        let ranking = self.ranking.to_json(alloc)?;
+        put(&mut members, alloc, "secondary", ranking)?;
         put_metric(alloc, self.peak, self.energy, self.power, &mut members)?;
+        Ok(Value::from(members))
+    }
+}
+
+// A pair of a group and a half with its score.
+impl ToJson for Choice {
+    ghost json_of = { choice_value };
+
+    fn to_json(&self, alloc: Global) -> Result<Value, AllocError> {
+        let mut members = Map::new(alloc);
+        put(&mut members, alloc, "group", Value::from(self.n1))?;
+        put(&mut members, alloc, "score", Value::from(self.score))?;
+        let subframe = self.half.subframe();
+        put(&mut members, alloc, "subframe", Value::from(subframe))?;
+        Ok(Value::from(members))
+    }
+}
+
+// The two best pairs.
+impl ToJson for Ranking {
+    ghost json_of = { ranking_value };
+
+    fn to_json(&self, alloc: Global) -> Result<Value, AllocError> {
+        let best = self.best.to_json(alloc)?;
+        let second = self.second.to_json(alloc)?;
+        let mut members = Map::new(alloc);
+        put(&mut members, alloc, "best", best)?;
+        put(&mut members, alloc, "second", second)?;
         Ok(Value::from(members))
     }
 }

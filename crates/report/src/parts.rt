@@ -1,7 +1,9 @@
 //! The parts of a report's lines, made of plain words and numbers.
 
 ghost use Rattle.std.specs.Prelude.{◌≡◌, IfOk, string_bytes};
-ghost use Rattle.report.specs.Lines.{place_part as place_of, block_part as block_of, access_part as access_of, group_part as group_of, level_part as level_of, window_part as window_of, network_line as network_of, schedule_line as schedule_of};
+ghost use Rattle.report.specs.Lines.{place_part as place_of, block_part as block_of, access_part as access_of};
+ghost use Rattle.report.specs.Lines.{group_part as group_of, level_part as level_of, window_part as window_of};
+ghost use Rattle.report.specs.Lines.{network_line as network_of, schedule_line as schedule_of};
 
 use std::alloc::{AllocError, Global};
 use std::fmt::Write;

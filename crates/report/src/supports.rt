@@ -1,7 +1,8 @@
 //! The text of what supports the entries of a list.
 
 ghost use Rattle.std.specs.Prelude.{◌≡◌, IfOk, string_bytes};
-ghost use Rattle.report.specs.Evidence.{evidence_text, evidence_line, entry_part as entry_of, word_part as word_of, frame_part as frame_of, pilots_part as pilots_of};
+ghost use Rattle.report.specs.Evidence.{evidence_text, evidence_line, entry_part as entry_of, word_part as word_of};
+ghost use Rattle.report.specs.Evidence.{frame_part as frame_of, pilots_part as pilots_of};
 
 use lte_types::Evidence;
 use std::alloc::{AllocError, Global};

@@ -2,7 +2,9 @@
 
 ghost use Rattle.std.specs.Prelude.{◌≡◌, IfOk, OnOk, string_bytes};
 ghost use Rattle.serde_json.specs.View.{view, members_view};
-ghost use Rattle.report.specs.EvidenceJson.{Shown, entry_members, word_members, frame_members, pilots_members, slot_members, complex_value, port_value, soft_value, support_value, evidence_json};
+ghost use Rattle.report.specs.EvidenceJson.{Shown, entry_members, word_members, frame_members, pilots_members};
+ghost use Rattle.report.specs.EvidenceJson.{slot_members, complex_value, port_value, soft_value};
+ghost use Rattle.report.specs.EvidenceJson.{support_value, evidence_json};
 
 use crate::values::{ToJson, list_text, list_value, pair_value};
 use cs_num::Cpx;
@@ -11,11 +13,14 @@ use serde_json::{Map, Value, put};
 use std::alloc::{AllocError, Global};
 use std::marker::Model;
 
-/// The channel of an antenna port in a slot: its 24 pilots in the order of subcarriers, each what was seen at a
-/// reference place times the conjugate of what was sent. (own)
+/// The channel of an antenna port in a slot: its pilots in the order of subcarriers, each what was seen at a reference
+/// place times the conjugate of what was sent. (own)
 #[derive(Clone, Copy)]
-pub struct PortChannel {
-    pub pilots: [Cpx; 24],
+pub enum PortChannel {
+    /// The pilots of a port with reference signals in two symbols of a slot.
+    Double([Cpx; 24]),
+    /// Those of a port with reference signals in one symbol.
+    Single([Cpx; 12]),
 }
 
 /// The soft values of a resource element, of its real and its imaginary part: -127 to 127. (own)
@@ -90,7 +95,10 @@ impl ToJson for PortChannel {
     ghost json_of = { port_value };
 
     fn to_json(&self, alloc: Global) -> Result<Value, AllocError> {
-        list_value(alloc, &self.pilots)
+        match self {
+            PortChannel::Double(pilots) => list_value(alloc, pilots),
+            PortChannel::Single(pilots) => list_value(alloc, pilots),
+        }
     }
 }
 

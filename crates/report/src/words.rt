@@ -1,7 +1,8 @@
 //! The words of a report.
 
 ghost use Rattle.std.specs.Prelude.{◌≡◌, ◌∷◌, ℕ, List, Some, IfOk, string_bytes};
-ghost use Rattle.report.specs.Words.{or_dash as word_or_dash, either as either_of, digits_word as digits_of, tdd_word as config_of, sibs_word as sibs_of};
+ghost use Rattle.report.specs.Words.{or_dash as word_or_dash, either as either_of, digits_word as digits_of};
+ghost use Rattle.report.specs.Words.{tdd_word as config_of, sibs_word as sibs_of};
 
 use std::alloc::{AllocError, Global};
 use std::fmt::{Display, Write};
