@@ -11,12 +11,12 @@ use Rattle.sizes.proofs.Algebra.{plus-nothing_right}
 use Rattle.sample_file.specs.Recording.{samples_of, bytes_of}
 use Rattle.sample_file.proofs.Samples.{samples_back}
 use Rattle.lte_types.specs.declared.carrier.Carrier.{Carrier}
-use Rattle.lte_types.specs.declared.carrier.Carrier.TheVariants.{OnePort, TwoPorts, LongPrefix}
+use Rattle.lte_types.specs.declared.carrier.Carrier.TheVariants.{OnePort, TwoPorts, LongPrefix, FourPorts}
 use Rattle.lte_types.specs.declared.entry.Entry.{Entry}
 use Rattle.lte_types.specs.Timing.{IsOffset, start_of, number_at_start}
 use Rattle.cell_tx.specs.declared.cell.CellPlan.{CellPlan}
 use Rattle.cell_tx.specs.declared.emission.Emission.{Emission}
-use Rattle.cell_tx.specs.Clean.{AreGainsOf, IsAllowedBy}
+use Rattle.cell_tx.specs.Clean.{AreGainsOf, IsAllowedBy, ArePairedBy}
 use Rattle.cell_tx.specs.Emission.{received_by, IsCleanBy}
 use Rattle.cell_tx.specs.Laws.{EmittedIsClean}
 use Rattle.cell_tx.proofs.Received.{received_by-small}
@@ -56,20 +56,21 @@ sent_back carrier load e bytes by_carrier gains is =
 no_error : IsWithin 0 nothing
 no_error = record { re = omega arith; im = omega arith }
 
--- any gains allow no error
-none_allowed : (carrier : Carrier) (gains : List Cpx) → IsAllowedBy carrier gains 0
-none_allowed OnePort gains = omega arith
-none_allowed TwoPorts gains = record { both = omega arith; one = omega arith }
-none_allowed LongPrefix gains = omega arith
+-- any gains, with four ports such that no pair is weak, allow no error
+none_allowed : (carrier : Carrier) (gains : List Cpx) → ArePairedBy carrier gains → IsAllowedBy carrier gains 0
+none_allowed OnePort gains paired = omega arith
+none_allowed TwoPorts gains paired = record { both = omega arith; one = omega arith }
+none_allowed LongPrefix gains paired = omega arith
+none_allowed FourPorts gains paired = record { pairs = paired; quiet = omega arith; one = omega arith }
 
-sent_cleanly : EmittedIsClean → (carrier : Carrier) (load : Option ℕ) (e : Emission) → e.timing.sfn ≤ 1023 → IsOffset e.timing.offset → AreGainsOf carrier e.gains →
+sent_cleanly : EmittedIsClean → (carrier : Carrier) (load : Option ℕ) (e : Emission) → e.timing.sfn ≤ 1023 → IsOffset e.timing.offset → AreGainsOf carrier e.gains → ArePairedBy carrier e.gains →
     IsCleanBy carrier load (samples_by carrier load e) e.cell e.timing.sfn e.timing.offset e.gains 0
 unfolding samples_by
-sent_cleanly law carrier load e number within gains =
+sent_cleanly law carrier load e number within gains paired =
     let z : ℕ → Cpx = received_by carrier load e.cell e.timing.sfn e.timing.offset e.gains in
     subst (λ l. IsCleanBy carrier load l e.cell e.timing.sfn e.timing.offset e.gains 0)
     (values_below_same e.samples (λ i. sample_of (plus (z i) nothing)) (λ i. sample_of (z i)) (λ k below. ap sample_of (plus-nothing_right (z k))))
-    (law carrier load e.cell e.timing.sfn e.timing.offset e.samples e.gains 0 (λ i. nothing) number within gains (none_allowed carrier e.gains) (λ i below. no_error))
+    (law carrier load e.cell e.timing.sfn e.timing.offset e.samples e.gains 0 (λ i. nothing) number within gains (none_allowed carrier e.gains paired) (λ i below. no_error))
 
 -- ---- and found
 
@@ -81,13 +82,13 @@ held_lines carrier list plan first number held =
     subst (λ l. IsPiece l (report_text list)) is (lines_stand list held.entry held.inside)
 
 pub sent_is_found : EmittedIsClean → WhatIsSentIsFound
-sent_is_found law carrier load description bytes text a b =
+sent_is_found law carrier load description bytes text paired a b =
     let e = a.emission in
     let ranges = described_ranges_by carrier description e a.describes in
     let back = sent_back carrier load e bytes a.describes.is.carrier_is ranges.gains a.sent in
     let clean : IsCleanBy carrier load (samples_of bytes) e.cell e.timing.sfn e.timing.offset e.gains 0 =
     subst (λ samples. IsCleanBy carrier load samples e.cell e.timing.sfn e.timing.offset e.gains 0) (sym back)
-    (sent_cleanly law carrier load e ranges.parts.number ranges.parts.offset ranges.gains) in
+    (sent_cleanly law carrier load e ranges.parts.number ranges.parts.offset ranges.gains (paired e a.describes)) in
     let there = held carrier load e.cell e.timing.sfn e.timing.offset e.gains 0 (samples_of bytes) b.entries ranges.parts.sendable clean b.is_list in
     record {
       e = e;

@@ -4,7 +4,7 @@ use Rattle.cs_num.specs.declared.Cpx.{Cpx}
 use Rattle.cs_num.specs.declared.Sample.{Sample}
 use Rattle.cs_num.specs.Complex.{value_at}
 use Rattle.lte_types.specs.declared.carrier.Carrier.{Carrier}
-use Rattle.lte_types.specs.declared.carrier.Carrier.TheVariants.{OnePort, TwoPorts, LongPrefix}
+use Rattle.lte_types.specs.declared.carrier.Carrier.TheVariants.{OnePort, TwoPorts, LongPrefix, FourPorts}
 use Rattle.lte_types.specs.declared.entry.Entry.{Entry}
 use Rattle.lte_types.specs.Carrier.{ports_of}
 use Rattle.lte_types.specs.Timing.{start_of, number_at_start}
@@ -39,3 +39,5 @@ held TwoPorts load plan sfn offset gains eps samples list sendable clean l =
 held LongPrefix load plan sfn offset gains eps samples list sendable clean l =
     l.loaded plan (sent_element load Long plan) sfn offset (value_at gains 0) eps (record { identity = sendable.identity; spare = sendable.spare })
     (record { number = clean.number; carries = sent_elements_carry load Long plan; samples = record { within = clean.within; size = clean.gains_are; bound = clean.bound; near = clean.near } })
+held FourPorts load plan sfn offset gains eps samples list sendable clean l =
+    l.holds load plan sfn offset gains eps (record { identity = sendable.identity; spare = sendable.spare }) clean

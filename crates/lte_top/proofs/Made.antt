@@ -13,7 +13,7 @@ use Rattle.capture_make.proofs.Samples.{NumbersAreClean, one_of_number}
 use Rattle.report.specs.Lines.{made_line, report_text}
 use Rattle.lte_top.specs.declared.making.SentCell.{SentCell}
 use Rattle.lte_types.specs.declared.carrier.Carrier.{Carrier}
-use Rattle.lte_types.specs.declared.carrier.Carrier.TheVariants.{OnePort, TwoPorts, LongPrefix}
+use Rattle.lte_types.specs.declared.carrier.Carrier.TheVariants.{OnePort, TwoPorts, LongPrefix, FourPorts}
 use Rattle.lte_top.specs.Making.{Counts, IsSentCell, cell_of, AreSamplesOf, IsMadeList, IsMadeText, IsHeldOnce, WhatIsMadeIsHeld}
 use Rattle.lte_top.specs.Searching.{IsListOf}
 use Rattle.lte_top.proofs.Held.{one_count, one_counted}
@@ -66,6 +66,7 @@ in_order : (carrier : Carrier) (samples : List Sample) (entries : List Entry) �
 in_order OnePort samples entries l = l.explained.listed.in_order
 in_order TwoPorts samples entries l = l.explained.listed.in_order
 in_order LongPrefix samples entries l = l.explained.listed.in_order
+in_order FourPorts samples entries l = l.explained.listed.in_order
 
 -- so it is counted once
 held_once : (carrier : Carrier) (n : ℕ) (output : List ℕ) (m : IsMadeText carrier n output) → Holds (cell_of carrier n) m.entries → IsHeldOnce n output

@@ -11,7 +11,7 @@ use Rattle.std.proofs.lemmas.Str.Parse.{digit_from_value}
 use Rattle.sample_file.specs.declared.form.SampleForm.{SampleForm}
 use Rattle.sample_file.specs.declared.form.SampleForm.TheVariants.{Ci16, Cu8}
 use Rattle.lte_types.specs.declared.carrier.Carrier.{Carrier}
-use Rattle.lte_types.specs.declared.carrier.Carrier.TheVariants.{OnePort, TwoPorts, LongPrefix}
+use Rattle.lte_types.specs.declared.carrier.Carrier.TheVariants.{OnePort, TwoPorts, LongPrefix, FourPorts}
 use Rattle.lte_top.specs.declared.form.Program.{Program}
 use Rattle.lte_top.specs.declared.form.Form.{Form}
 use Rattle.lte_top.specs.declared.form.Form.TheVariants.{Report as Reports, Certify, Check, Transmit, Make, Apply, Print}
@@ -59,6 +59,11 @@ told_back Text Cu8 = refl
 told_back Json Ci16 = refl
 told_back Json Cu8 = refl
 
+-- the carrier, by the word after "--ports"
+ports_in : List (List ℕ) → Carrier
+ports_in [] = TwoPorts
+ports_in (word ∷ words) = if is_word word (codes "4") then FourPorts else TwoPorts
+
 -- the carrier, and those: `of` says what form they are of
 carried_with : (Carrier → Output → SampleForm → Form) → Carrier → Manner → Option Form
 carried_with of carrier manner = Some (of carrier manner.output manner.form)
@@ -66,19 +71,20 @@ carried_with of carrier manner = Some (of carrier manner.output manner.form)
 carried_in : (Carrier → Output → SampleForm → Form) → List (List ℕ) → Option Form
 carried_in of [] = carried_with of OnePort (told_in [])
 carried_in of (word ∷ words) =
-    if is_word word (codes "--ports") then carried_with of TwoPorts (told_in (drop 1 words))
+    if is_word word (codes "--ports") then carried_with of (ports_in words) (told_in (drop 1 words))
     else if is_word word (codes "--prefix") then carried_with of LongPrefix (told_in (drop 1 words))
     else carried_with of OnePort (told_in (word ∷ words))
 
 carried_back : (of : Carrier → Output → SampleForm → Form) (carrier : Carrier) (output : Output) (form : SampleForm) →
     carried_in of (carrier_words carrier ++ told_words output form) ≡ Some (of carrier output form)
-unfolding carried_in carried_with told_in samples_in is_word
+unfolding carried_in carried_with ports_in told_in samples_in is_word
 carried_back of OnePort Text Ci16 = refl
 carried_back of OnePort Text Cu8 = refl
 carried_back of OnePort Json Ci16 = refl
 carried_back of OnePort Json Cu8 = refl
 carried_back of TwoPorts output form = ap (carried_with of TwoPorts) (told_back output form)
 carried_back of LongPrefix output form = ap (carried_with of LongPrefix) (told_back output form)
+carried_back of FourPorts output form = ap (carried_with of FourPorts) (told_back output form)
 
 -- the rule, and those
 searched_with : Rule → Manner → Option Form
@@ -103,19 +109,21 @@ searched_back (Of OnePort) Json Ci16 = carried_back listed_with OnePort Json Ci1
 searched_back (Of OnePort) Json Cu8 = carried_back listed_with OnePort Json Cu8
 searched_back (Of TwoPorts) output form = carried_back listed_with TwoPorts output form
 searched_back (Of LongPrefix) output form = carried_back listed_with LongPrefix output form
+searched_back (Of FourPorts) output form = carried_back listed_with FourPorts output form
 searched_back Cancel output form = ap (searched_with Cancel) (told_back output form)
 searched_back All output form = ap (searched_with All) (told_back output form)
 
 -- the carrier
 carrier_in : List (List ℕ) → Carrier
 carrier_in [] = OnePort
-carrier_in (word ∷ words) = if is_word word (codes "--ports") then TwoPorts else LongPrefix
+carrier_in (word ∷ words) = if is_word word (codes "--ports") then ports_in words else LongPrefix
 
 carrier_back : (carrier : Carrier) → carrier_in (carrier_words carrier) ≡ carrier
-unfolding carrier_in is_word
+unfolding carrier_in ports_in is_word
 carrier_back OnePort = refl
 carrier_back TwoPorts = refl
 carrier_back LongPrefix = refl
+carrier_back FourPorts = refl
 
 -- the number before it
 made_in : List (List ℕ) → Option Form
@@ -143,16 +151,17 @@ load_back (Some n) small = ap (λ k. Some k) (decimal_is_IsNumeral n (omega (ari
 sent_in : List (List ℕ) → Option Form
 sent_in [] = Some (Transmit OnePort None)
 sent_in (word ∷ words) =
-    if is_word word (codes "--ports") then Some (Transmit TwoPorts (load_in (drop 1 words)))
+    if is_word word (codes "--ports") then Some (Transmit (ports_in words) (load_in (drop 1 words)))
     else if is_word word (codes "--prefix") then Some (Transmit LongPrefix (load_in (drop 1 words)))
     else Some (Transmit OnePort (load_in (word ∷ words)))
 
 sent_back : (carrier : Carrier) (load : Option ℕ) → IsAskedLoad load → sent_in (carrier_words carrier ++ load_words load) ≡ Some (Transmit carrier load)
-unfolding sent_in is_word
+unfolding sent_in ports_in is_word
 sent_back OnePort None asked = refl
 sent_back OnePort (Some n) small = ap (λ l. Some (Transmit OnePort l)) (load_back (Some n) small)
 sent_back TwoPorts load asked = ap (λ l. Some (Transmit TwoPorts l)) (load_back load asked)
 sent_back LongPrefix load asked = ap (λ l. Some (Transmit LongPrefix l)) (load_back load asked)
+sent_back FourPorts load asked = ap (λ l. Some (Transmit FourPorts l)) (load_back load asked)
 
 -- ---- turns
 

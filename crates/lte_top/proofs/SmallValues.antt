@@ -1,23 +1,37 @@
 -- The values of the receivers have room in certificates.
-use Rattle.std.proofs.Common.{◌≡◌, length, arith}
+use Rattle.std.proofs.Common.{◌≡◌, List, length, sym, subst, arith}
+use Rattle.std.specs.List.{AllZip}
 use Rattle.finite.proofs.Lists.{values_below-length}
+use Rattle.cs_num.specs.declared.Sample.{Sample}
 use Rattle.lte_types.specs.declared.carrier.Carrier.{Carrier}
-use Rattle.lte_types.specs.declared.carrier.Carrier.TheVariants.{OnePort, TwoPorts, LongPrefix}
+use Rattle.lte_types.specs.declared.carrier.Carrier.TheVariants.{OnePort, TwoPorts, LongPrefix, FourPorts}
+use Rattle.lte_types.specs.declared.entry.Entry.{Entry}
 use Rattle.grid_map.specs.Broadcast.{pbch_places}
 use Rattle.grid_map.proofs.Points.{length-pbch_places}
 use Rattle.soft_bits.specs.Soft.{SeenSlot}
 use Rattle.pbch.proofs.FrameSums.{length-received_values, received_values-small}
 use Rattle.cert_stream.specs.Certifying.{HasSmallValues}
+use Rattle.explain.specs.Entries.{IsListFor}
 use Rattle.explain.specs.Frame.{broadcast_slot}
+use Rattle.explain.specs.Readings.{IsReadingFor}
+use Rattle.explain.specs.Receiver.{Receiver}
+use Rattle.explain.specs.declared.readings.Reading.{Reading}
 use Rattle.two_ports.specs.Pairs.{paired_values}
 use Rattle.two_ports.proofs.Paired.{length-paired, paired-small}
+use Rattle.four_ports.specs.Pairs.{paired_values as four_values}
+use Rattle.four_ports.proofs.Paired.{length-paired as length-four, paired-small as four-small}
 use Rattle.long_prefix.specs.Entries.{long_slot, long_value, long_values}
 use Rattle.long_prefix.proofs.Pairs.{long_values-small}
-use Rattle.lte_top.specs.Searching.{receiver_of}
+use Rattle.lte_top.specs.Searching.{receiver_of, IsListOf}
+use Rattle.lte_top.proofs.Carriers.{list_is}
 
 length-pairs : (slot : SeenSlot) → length (paired_values (λ p. slot) (pbch_places slot.identity)) ≡ 480
 length-pairs slot =
     let all = length-paired (λ p. slot) (pbch_places slot.identity) in omega (arith, all, length-pbch_places slot.identity)
+
+length-fours : (slot : SeenSlot) → length (four_values (λ p. slot) (pbch_places slot.identity)) ≡ 480
+length-fours slot =
+    let all = length-four (λ p. slot) (pbch_places slot.identity) in omega (arith, all, length-pbch_places slot.identity)
 
 length-long : (slot : SeenSlot) → length (long_values slot) ≡ 432
 unfolding long_values
@@ -36,3 +50,14 @@ small_values LongPrefix = record {
   few = λ recording place j. let size = length-long (long_slot recording place.id place.start j) in omega (arith, size);
   small = λ recording place j. long_values-small (long_slot recording place.id place.start j);
 }
+small_values FourPorts = record {
+  few = λ recording place j. let size = length-fours (broadcast_slot recording place.id place.start j) in omega (arith, size);
+  small = λ recording place j. let slot = broadcast_slot recording place.id place.start j in four-small (λ p. slot) (pbch_places slot.identity);
+}
+
+-- a list of a carrier, and how its entries were read, can be certified by the receiver for it
+pub certifiable : (receiver : Receiver) (carrier : Carrier) → receiver ≡ receiver_of carrier → (recording : List Sample) (list : List Entry) (readings : List Reading) →
+    IsListOf carrier recording list → AllZip (IsReadingFor (receiver_of carrier) recording) list readings →
+    HasSmallValues receiver × (IsListFor receiver recording list × AllZip (IsReadingFor receiver recording) list readings)
+certifiable receiver carrier same recording list readings is read =
+    subst (λ r. HasSmallValues r × (IsListFor r recording list × AllZip (IsReadingFor r recording) list readings)) (sym same) (small_values carrier, (list_is carrier recording list is, read))

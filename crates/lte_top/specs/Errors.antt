@@ -1,14 +1,19 @@
 -- The status of an error, as which it ends the run. (own)
 use Rattle.cs_outside.specs.declared.streams.ReadError.{ReadError}
-use Rattle.cs_outside.specs.declared.streams.ReadError.TheVariants.{TooLong as PastLimit, ReadFault as Failed, OutOfMemory as NoMemory}
+use Rattle.cs_outside.specs.declared.streams.ReadError.TheVariants.{TooLong as PastLimit, ReadFault as Failed}
+use Rattle.cs_outside.specs.declared.streams.ReadError.TheVariants.{OutOfMemory as NoMemory}
 use Rattle.sample_file.specs.declared.reading.FileError.{FileError}
-use Rattle.sample_file.specs.declared.reading.FileError.TheVariants.{Ragged as WithinSample, TooShort as TooFew, TooLong as PastMost, ReadFault as Fault, OutOfMemory as Memory}
+use Rattle.sample_file.specs.declared.reading.FileError.TheVariants.{Ragged as WithinSample, TooShort as TooFew}
+use Rattle.sample_file.specs.declared.reading.FileError.TheVariants.{TooLong as PastMost, ReadFault as Fault}
+use Rattle.sample_file.specs.declared.reading.FileError.TheVariants.{OutOfMemory as Memory}
 use Rattle.cell_json.specs.declared.error.JsonError.{JsonError}
 use Rattle.cell_json.specs.declared.error.JsonError.TheVariants.{Cell, OutOfMemory as Wanting}
 use Rattle.cert_stream.specs.declared.error.StreamError.{StreamError}
-use Rattle.cert_stream.specs.declared.error.StreamError.TheVariants.{Broken, TooLong as PastBytes, ReadFault as Stopped, OutOfMemory as Refused}
+use Rattle.cert_stream.specs.declared.error.StreamError.TheVariants.{Broken, TooLong as PastBytes}
+use Rattle.cert_stream.specs.declared.error.StreamError.TheVariants.{ReadFault as Stopped, OutOfMemory as Refused}
 use Rattle.lte_top.specs.declared.status.Status.{Status}
-use Rattle.lte_top.specs.declared.status.Status.TheVariants.{Ragged, TooShort, TooLong, ReadFault, OutOfMemory, BadCell, BadCertificate}
+use Rattle.lte_top.specs.declared.status.Status.TheVariants.{Ragged, TooShort, TooLong, ReadFault, OutOfMemory}
+use Rattle.lte_top.specs.declared.status.Status.TheVariants.{BadCell, BadCertificate}
 
 -- of an input that was not read whole
 abbrev pub of_read : ReadError → Status

@@ -1,5 +1,6 @@
 -- The forms of words that are run: what each reads, which inputs it refuses, and what it writes. (own)
-use Rattle.std.specs.Prelude.{◌≡◌, ◌⊎◌, ℕ, ◌%◌, ◌^◌, ◌<◌, ◌≤◌, ℤ, pos, negsuc, ◌≤ℤ◌, Option, Some, None, List, [], ◌∷◌, ◌++◌, length, codes, nat_lt, not, ◌==◌, if◌then◌else◌}
+use Rattle.std.specs.Prelude.{◌≡◌, ◌⊎◌, ℕ, ◌%◌, ◌^◌, ◌<◌, ◌≤◌, ℤ, pos, negsuc, ◌≤ℤ◌, Option, Some, None, List, [], ◌∷◌}
+use Rattle.std.specs.Prelude.{◌++◌, length, codes, nat_lt, not, ◌==◌, if◌then◌else◌}
 use Rattle.std.specs.Fmt.{decimal, signed_decimal}
 use Rattle.sample_file.specs.declared.form.SampleForm.{SampleForm}
 use Rattle.sample_file.specs.declared.form.SampleForm.TheVariants.{Ci16, Cu8}
@@ -8,7 +9,8 @@ use Rattle.sample_file.specs.Reading.{least_bytes, most_bytes}
 use Rattle.lte_top.specs.declared.form.Program.{Program}
 use Rattle.lte_top.specs.declared.form.Program.TheVariants.{Receiver, Tuner}
 use Rattle.lte_top.specs.declared.form.Form.{Form}
-use Rattle.lte_top.specs.declared.form.Form.TheVariants.{Report as Reports, Certify, Check, Transmit, Make, Apply, Print}
+use Rattle.lte_top.specs.declared.form.Form.TheVariants.{Report as Reports, Certify, Check, Transmit, Make}
+use Rattle.lte_top.specs.declared.form.Form.TheVariants.{Apply, Print}
 use Rattle.lte_top.specs.declared.form.Report.{Report}
 use Rattle.lte_top.specs.declared.form.Report.TheVariants.{Hits, Ids, Search, Evidence, Tell}
 use Rattle.lte_top.specs.declared.form.Rule.{Rule}
@@ -20,9 +22,10 @@ use Rattle.lte_top.specs.declared.form.Turn.TheVariants.{AsTold, Steps}
 use Rattle.lte_top.specs.declared.form.Page.{Page}
 use Rattle.lte_top.specs.declared.form.Page.TheVariants.{Help, Version}
 use Rattle.lte_types.specs.declared.carrier.Carrier.{Carrier}
-use Rattle.lte_types.specs.declared.carrier.Carrier.TheVariants.{OnePort, TwoPorts, LongPrefix}
+use Rattle.lte_types.specs.declared.carrier.Carrier.TheVariants.{OnePort, TwoPorts, LongPrefix, FourPorts}
 use Rattle.lte_top.specs.declared.status.Status.{Status}
-use Rattle.lte_top.specs.declared.status.Status.TheVariants.{Done, Usage, Ragged, TooShort, TooLong, ReadFault, WriteFault, OutOfMemory, BadCell, BadCertificate}
+use Rattle.lte_top.specs.declared.status.Status.TheVariants.{Done, Usage, Ragged, TooShort, TooLong, ReadFault}
+use Rattle.lte_top.specs.declared.status.Status.TheVariants.{WriteFault, OutOfMemory, BadCell, BadCertificate}
 use Rattle.cell_json.specs.Reading.{refusal_by}
 use Rattle.lte_top.specs.Transmitting.{most_description_bytes, IsTransmitted}
 use Rattle.lte_top.specs.Certificates.{IsChecked, IsCertified}
@@ -53,6 +56,7 @@ abbrev pub carrier_words : Carrier → List (List ℕ)
 carrier_words OnePort = []
 carrier_words TwoPorts = codes "--ports" ∷ codes "2" ∷ []
 carrier_words LongPrefix = codes "--prefix" ∷ codes "long" ∷ []
+carrier_words FourPorts = codes "--ports" ∷ codes "4" ∷ []
 
 -- a load by its number: none has no words
 abbrev pub load_words : Option ℕ → List (List ℕ)

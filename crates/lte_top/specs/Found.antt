@@ -9,6 +9,7 @@ use Rattle.lte_types.specs.Codes.{duration_word, resource_word}
 use Rattle.lte_types.specs.Timing.{start_of, number_at_start}
 use Rattle.cell_tx.specs.declared.cell.CellPlan.{CellPlan}
 use Rattle.cell_tx.specs.declared.emission.Emission.{Emission}
+use Rattle.cell_tx.specs.Clean.{ArePairedBy}
 use Rattle.cell_tx.specs.Emission.{IsCleanBy}
 use Rattle.cell_json.specs.Reading.{DescribesBy}
 use Rattle.report.specs.Lines.{place_part, block_part, system_lines}
@@ -28,7 +29,7 @@ sent_line carrier plan first number =
     ++ block_part (codes "n6") (duration_word plan.duration) (resource_word plan.resource)
     (plan.spare / 32) (plan.spare % 32)
 
--- this line, and those of its system information, which the extended prefix does not send
+-- this line, and those of its system information, which is not sent with the extended prefix or four antenna ports
 abbrev pub sent_lines : Carrier → CellPlan → ℕ → ℕ → List ℕ
 sent_lines carrier plan first number =
     sent_line carrier plan first number ++ system_lines (told_of carrier plan.sib1)
@@ -42,11 +43,16 @@ pub record IsFoundIn (carrier : Carrier) (load : Option ℕ) (description : List
   pub lines :
       IsPiece (sent_lines carrier e.cell (start_of e.timing.offset) (number_at_start e.timing.sfn e.timing.offset)) text
 
+-- the gains that are described leave the cell's pairs heard: with four antenna ports no two that send one are weak
+abbrev pub DescribesPaired : Carrier → List ℕ → Type 0
+DescribesPaired carrier description = (e : Emission) → DescribesBy carrier description e → ArePairedBy carrier e.gains
+
 -- a law: what `transmit` writes for a description, by each carrier and with each load or none, read as a recording, is
 -- clean, and what `search` of this carrier writes for it has the cell's lines
 abbrev pub WhatIsSentIsFound : Type 0
 WhatIsSentIsFound =
     (carrier : Carrier) (load : Option ℕ) (description sent text : List ℕ) →
+    DescribesPaired carrier description →
     IsOutput (Transmit carrier load) description sent →
     IsOutput (Reports (Search (Of carrier)) Text Ci16) sent text →
     IsFoundIn carrier load description (samples_of sent) text

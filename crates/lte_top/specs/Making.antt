@@ -5,7 +5,7 @@ use Rattle.lte_types.specs.declared.bandwidth.Bandwidth.TheVariants.{N6}
 use Rattle.lte_types.specs.declared.entry.Entry.{Entry}
 use Rattle.lte_types.specs.declared.sib1.Sib1.{Sib1}
 use Rattle.lte_types.specs.declared.sib1_reason.Sib1Reason.{Sib1Reason}
-use Rattle.lte_types.specs.declared.sib1_reason.Sib1Reason.TheVariants.{LongPrefix}
+use Rattle.lte_types.specs.declared.sib1_reason.Sib1Reason.TheVariants.{LongPrefix, NotOnePort}
 use Rattle.lte_types.specs.Block.{HasFields}
 use Rattle.lte_types.specs.Timing.{start_of, number_at_start}
 use Rattle.capture_make.specs.declared.made.MadeBy.{MadeBy}
@@ -14,7 +14,7 @@ use Rattle.capture_make.specs.Recipe.{plan, number, offset}
 use Rattle.report.specs.Lines.{made_line, report_text}
 use Rattle.lte_top.specs.declared.making.SentCell.{SentCell}
 use Rattle.lte_types.specs.declared.carrier.Carrier.{Carrier}
-use Rattle.lte_types.specs.declared.carrier.Carrier.TheVariants.{OnePort, TwoPorts, LongPrefix as Long}
+use Rattle.lte_types.specs.declared.carrier.Carrier.TheVariants.{OnePort, TwoPorts, LongPrefix as Long, FourPorts}
 use Rattle.lte_types.specs.Carrier.{ports_of}
 use Rattle.lte_top.specs.Searching.{IsListOf}
 
@@ -54,6 +54,7 @@ abbrev pub told_of : Carrier → Sib1 → Result Sib1 Sib1Reason
 told_of OnePort sib1 = Ok sib1
 told_of TwoPorts sib1 = Ok sib1
 told_of Long sib1 = Err LongPrefix
+told_of FourPorts sib1 = Err (NotOnePort 4)
 
 -- the cell
 abbrev pub cell_of : Carrier → ℕ → SentCell

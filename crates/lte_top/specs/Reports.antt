@@ -3,12 +3,15 @@ use Rattle.std.specs.Prelude.{◌≡◌, ℕ, List, map}
 use Rattle.std.specs.List.{AllZip}
 use Rattle.cs_num.specs.declared.Sample.{Sample}
 use Rattle.lte_types.specs.declared.entry.Entry.{Entry}
+use Rattle.lte_types.specs.declared.frame.Half.{Half}
 use Rattle.lte_types.specs.declared.hit.Hit.{Hit}
 use Rattle.lte_types.specs.declared.carrier.Carrier.{Carrier}
 use Rattle.lte_types.specs.Identity.{cell_of}
+use Rattle.lte_types.specs.Numerology.{normal}
 use Rattle.pss_search.specs.Hits.{hits_of}
 use Rattle.sss_detect.specs.Identity.{identity_of}
 use Rattle.sss_detect.specs.Place.{start_of}
+use Rattle.sss_detect.specs.Second.{prefix_ranking}
 use Rattle.lte_types.specs.declared.evidence.Evidence.{Evidence as Numbers}
 use Rattle.evidence.specs.Evidence.{IsEvidenceFor}
 use Rattle.evidence.specs.Shown.{IsShownFor}
@@ -29,22 +32,28 @@ use Rattle.report.specs.declared.measured.MeasuredId.{MeasuredId}
 use Rattle.lte_top.specs.Line.{as_line, IsLine}
 use Rattle.lte_top.specs.Searching.{receiver_of, IsListOf, IsSearch}
 
--- a hit of a recording with the identity of its cell, the half that it stands in, and where a frame begins
-abbrev pub identified : List Sample → Hit → IdentifiedHit
-identified samples hit = record {
+-- a hit with the identity of its cell, the half that it stands in, and where a frame begins, by its group and this half
+abbrev pub identified_by : Hit → ℕ × Half → IdentifiedHit
+identified_by hit pair = record {
   hit = hit;
-  id = cell_of (identity_of samples hit).0 hit.n2;
-  half = (identity_of samples hit).1;
-  start = start_of hit.t (identity_of samples hit).1;
+  id = cell_of pair.0 hit.n2;
+  half = pair.1;
+  start = start_of hit.t pair.1;
 }
 
--- a hit with the numbers of its metric, and the same with its identity
+-- a hit of a recording with these
+abbrev pub identified : List Sample → Hit → IdentifiedHit
+identified samples hit = identified_by hit (identity_of samples hit)
+
+-- a hit with the numbers of its metric, and the same with its identity, and the best and the second pair of a group and
+-- a half with their scores
 abbrev pub measured : Hit → MeasuredHit
 measured hit = record { hit = hit; peak = hit.peak; energy = hit.energy; power = wave_power hit.n2 }
 
 abbrev pub measured_id : List Sample → Hit → MeasuredId
 measured_id samples hit = record {
   found = identified samples hit;
+  ranking = prefix_ranking normal samples hit;
   peak = hit.peak;
   energy = hit.energy;
   power = wave_power hit.n2;

@@ -3,13 +3,15 @@ use Rattle.std.specs.Prelude.{◌≡◌, ℕ, List}
 use Rattle.cs_num.specs.declared.Sample.{Sample}
 use Rattle.lte_types.specs.declared.entry.Entry.{Entry}
 use Rattle.lte_types.specs.declared.carrier.Carrier.{Carrier}
-use Rattle.lte_types.specs.declared.carrier.Carrier.TheVariants.{OnePort, TwoPorts, LongPrefix}
+use Rattle.lte_types.specs.declared.carrier.Carrier.TheVariants.{OnePort, TwoPorts, LongPrefix, FourPorts}
 use Rattle.clean_air.specs.Clean.{IsListOfCells}
 use Rattle.explain.specs.Receiver.{Receiver, one_port_receiver}
 use Rattle.two_ports.specs.Entries.{two_ports_receiver, IsExplainedOfTwo}
 use Rattle.two_ports.specs.Clean.{HoldsLoadedCellsOfTwo, HoldsCleanCellsOfTwo}
 use Rattle.long_prefix.specs.Entries.{long_prefix_receiver, IsExplainedOfLong}
 use Rattle.long_prefix.specs.Clean.{HoldsLoadedCellsOfLong, HoldsCleanCellsOfLong}
+use Rattle.four_ports.specs.Entries.{four_ports_receiver, IsExplainedOfFour}
+use Rattle.four_ports.specs.Clean.{HoldsLoadedCellsOfFour, HoldsCleanCellsOfFour}
 use Rattle.rounds.specs.AsJson.{IsCancelJson}
 use Rattle.rounds.specs.Text.{IsCancelText}
 use Rattle.report.specs.All.{all_text, all_json}
@@ -28,6 +30,7 @@ abbrev pub receiver_of : Carrier → Receiver
 receiver_of OnePort = one_port_receiver
 receiver_of TwoPorts = two_ports_receiver
 receiver_of LongPrefix = long_prefix_receiver
+receiver_of FourPorts = four_ports_receiver
 
 -- the list of the cells with two antenna ports, which holds each of which the recording is clean, whatever else its
 -- ports send
@@ -42,11 +45,18 @@ pub record IsListOfLong (samples : List Sample) (entries : List Entry) : Type 0 
   pub loaded : HoldsLoadedCellsOfLong samples entries
   pub holds : HoldsCleanCellsOfLong samples entries
 
+-- and of the cells with four antenna ports
+pub record IsListOfFour (samples : List Sample) (entries : List Entry) : Type 0 where
+  pub explained : IsExplainedOfFour samples entries
+  pub loaded : HoldsLoadedCellsOfFour samples entries
+  pub holds : HoldsCleanCellsOfFour samples entries
+
 -- the list of the cells of a carrier
 abbrev pub IsListOf : Carrier → List Sample → List Entry → Type 0
 IsListOf OnePort = IsListOfCells
 IsListOf TwoPorts = IsListOfTwo
 IsListOf LongPrefix = IsListOfLong
+IsListOf FourPorts = IsListOfFour
 
 -- ---- its text
 
@@ -62,19 +72,21 @@ pub record IsListText (carrier : Carrier) (output : Output) (samples : List Samp
 
 -- ---- the lists of all carriers
 
-abbrev pub lists_text : Output → List Entry → List Entry → List Entry → List ℕ
-lists_text Text one two long = all_text one two long
-lists_text Json one two long = as_line (all_json one two long)
+abbrev pub lists_text : Output → List Entry → List Entry → List Entry → List Entry → List ℕ
+lists_text Text one two long four = all_text one two long four
+lists_text Json one two long four = as_line (all_json one two long four)
 
 -- the list of each carrier in the recording, as this text
 pub record IsTextOfAll (output : Output) (samples : List Sample) (text : List ℕ) : Type 0 where
   pub one : List Entry
   pub two : List Entry
   pub long : List Entry
+  pub four : List Entry
   pub is_one : IsListOf OnePort samples one
   pub is_two : IsListOf TwoPorts samples two
   pub is_long : IsListOf LongPrefix samples long
-  pub text_is : text ≡ lists_text output one two long
+  pub is_four : IsListOf FourPorts samples four
+  pub text_is : text ≡ lists_text output one two long four
 
 -- ---- by each rule
 

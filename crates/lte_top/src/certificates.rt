@@ -1,17 +1,17 @@
 //! The certificates of a recording, and the answers to certificates.
 
-ghost use Rattle.std.specs.Prelude.{◌≤◌, IfOk, IfErr, OnOk, OnErr, string_bytes};
+ghost use Rattle.std.specs.Prelude.{◌≡◌, ◌≤◌, IfOk, IfErr, OnOk, OnErr, string_bytes};
 ghost use Rattle.cs_outside.specs.Counts.{Rose};
 ghost use Rattle.cs_outside.specs.Outside.{SourceTold, SinkTold};
 ghost use Rattle.cert_stream.specs.Certifying.{HasCertifiedAll, HasCertifiedSome};
-ghost use Rattle.lte_types.specs.declared.carrier.Carrier.TheVariants.{OnePort, TwoPorts, LongPrefix};
 ghost use Rattle.lte_top.specs.Forms.{certificates};
 ghost use Rattle.lte_top.specs.Run.{Cause, HasOutput, IsDone, Ends};
+ghost use Rattle.explain.specs.Receiver.{Receiver};
 ghost use Rattle.lte_top.specs.Searching.{receiver_of, IsListOf};
 ghost use Rattle.lte_top.specs.declared.form.Form.TheVariants.{Certify, Check};
 
 use crate::reporting::recording_of;
-use crate::searching::room_for_list;
+use crate::searching::{read_list, room_for_list};
 use crate::status::Status;
 use cert_stream::{CertificateWork, certify, read_answers};
 use cs_outside::{Failed, Sink, Source};
@@ -67,84 +67,17 @@ fn certify_list<K: Sink>(
     rooms: &mut Rooms,
     sink: &mut K,
 ) -> Result<(), Failed>
+    ghost receiver: { Receiver }
+    requires { receiver ≡ receiver_of carrier }
     ensures list { IsListOf carrier recording.now rooms.new.list }
-    ensures ok { OnOk result (HasCertifiedAll (receiver_of carrier) recording.now rooms.new.list
+    ensures ok { OnOk result (HasCertifiedAll receiver recording.now rooms.new.list
         (K.told sink.old) (K.told sink.new)) }
-    ensures err { OnErr result (HasCertifiedSome (receiver_of carrier) recording.now rooms.new.list
-        (K.told sink.old) (K.told sink.new)) }
-    ensures fault { OnErr result (Rose (K.told sink.old).faults (K.told sink.new).faults) }
-    ensures never_falls { (K.told sink.old).faults ≤ (K.told sink.new).faults }
-{
-    match carrier {
-        Carrier::OnePort => certify_one(recording, rooms, sink),
-        Carrier::TwoPorts => certify_two(recording, rooms, sink),
-        Carrier::LongPrefix => certify_long(recording, rooms, sink),
-    }
-}
-
-// That of the cells with one antenna port.
-fn certify_one<K: Sink>(
-    recording: &Recording,
-    rooms: &mut Rooms,
-    sink: &mut K,
-) -> Result<(), Failed>
-    ensures list { IsListOf OnePort recording.now rooms.new.list }
-    ensures ok { OnOk result (HasCertifiedAll (receiver_of OnePort) recording.now rooms.new.list
-        (K.told sink.old) (K.told sink.new)) }
-    ensures err { OnErr result (HasCertifiedSome (receiver_of OnePort) recording.now rooms.new.list
+    ensures err { OnErr result (HasCertifiedSome receiver recording.now rooms.new.list
         (K.told sink.old) (K.told sink.new)) }
     ensures fault { OnErr result (Rose (K.told sink.old).faults (K.told sink.new).faults) }
     ensures never_falls { (K.told sink.old).faults ≤ (K.told sink.new).faults }
 {
-    clean_air::explain_clean(recording, &mut rooms.search, &mut rooms.list);
-    certify(
-        recording,
-        rooms.list.slice(),
-        rooms.search.readings(),
-        &mut rooms.work,
-        sink,
-    )
-}
-
-// That of the cells with two antenna ports.
-fn certify_two<K: Sink>(
-    recording: &Recording,
-    rooms: &mut Rooms,
-    sink: &mut K,
-) -> Result<(), Failed>
-    ensures list { IsListOf TwoPorts recording.now rooms.new.list }
-    ensures ok { OnOk result (HasCertifiedAll (receiver_of TwoPorts) recording.now rooms.new.list
-        (K.told sink.old) (K.told sink.new)) }
-    ensures err { OnErr result (HasCertifiedSome (receiver_of TwoPorts) recording.now rooms.new.list
-        (K.told sink.old) (K.told sink.new)) }
-    ensures fault { OnErr result (Rose (K.told sink.old).faults (K.told sink.new).faults) }
-    ensures never_falls { (K.told sink.old).faults ≤ (K.told sink.new).faults }
-{
-    two_ports::explain_clean(recording, &mut rooms.search, &mut rooms.list);
-    certify(
-        recording,
-        rooms.list.slice(),
-        rooms.search.readings(),
-        &mut rooms.work,
-        sink,
-    )
-}
-
-// That of the cells with the extended prefix.
-fn certify_long<K: Sink>(
-    recording: &Recording,
-    rooms: &mut Rooms,
-    sink: &mut K,
-) -> Result<(), Failed>
-    ensures list { IsListOf LongPrefix recording.now rooms.new.list }
-    ensures ok { OnOk result (HasCertifiedAll (receiver_of LongPrefix) recording.now rooms.new.list
-        (K.told sink.old) (K.told sink.new)) }
-    ensures err { OnErr result (HasCertifiedSome (receiver_of LongPrefix) recording.now rooms.new.list
-        (K.told sink.old) (K.told sink.new)) }
-    ensures fault { OnErr result (Rose (K.told sink.old).faults (K.told sink.new).faults) }
-    ensures never_falls { (K.told sink.old).faults ≤ (K.told sink.new).faults }
-{
-    long_prefix::explain_clean(recording, &mut rooms.search, &mut rooms.list);
+    read_list(recording, carrier, &mut rooms.search, &mut rooms.list);
     certify(
         recording,
         rooms.list.slice(),

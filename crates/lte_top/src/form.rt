@@ -59,8 +59,8 @@ pub enum Report {
 /// The rule of a list of cells.
 #[derive(Clone, Copy, PartialEq, Eq)]
 pub enum Rule {
-    /// The cells of a carrier: those with one antenna port, with two by `--ports 2`, or with the extended cyclic prefix
-    /// by `--prefix long`.
+    /// The cells of a carrier: those with one antenna port, with two or four by `--ports 2` and `--ports 4`, or with
+    /// the extended cyclic prefix by `--prefix long`.
     Of(Carrier),
     /// `--cancel`: the list, and those of what is left where a cell of it is taken off.
     Cancel,

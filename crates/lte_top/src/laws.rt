@@ -16,7 +16,8 @@ pub fn an_input_has_one_answer()
 
 /// What `transmit` writes for a description, by each carrier and with each load or none, is, read as a recording, free
 /// of errors, and what `search` of this carrier writes for that recording has the lines of the described cell, with its
-/// system information where the carrier sends it.
+/// system information where the carrier sends it. With four antenna ports the described gains have to be such that the
+/// squares of those of ports 0 and 2 together, and of ports 1 and 3, are at least three eighths of all.
 pub fn what_is_sent_is_found()
     ensures { WhatIsSentIsFound }
 {

@@ -65,6 +65,7 @@ fn told_by(carrier: Carrier, sib1: Sib1) -> Result<Sib1, Sib1Reason>
     match carrier {
         Carrier::OnePort | Carrier::TwoPorts => Ok(sib1),
         Carrier::LongPrefix => Err(Sib1Reason::LongPrefix),
+        Carrier::FourPorts => Err(Sib1Reason::NotOnePort(4)),
     }
 }
 

@@ -5,11 +5,12 @@ ghost use Rattle.sample_file.specs.Recording.{IsRecording};
 ghost use Rattle.pss_search.specs.Hits.{IsInSpan, IsSmallHit};
 ghost use Rattle.lte_top.specs.Reports.{measured as measured_of, measured_id as measured_id_of};
 
-use crate::reporting::identity_of;
-use lte_types::Hit;
+use crate::reporting::identified;
+use lte_types::{Hit, Prefix};
 use pss_search::signal_power;
 use report::{MeasuredHit, MeasuredId};
 use sample_file::Recording;
+use sss_detect::ranking_with;
 use std::alloc::{AllocError, Global};
 
 // Hits with the numbers of their metrics.
@@ -57,7 +58,7 @@ fn measured(hit: &Hit) -> MeasuredHit
     }
 }
 
-// The same with what it tells of its cell.
+// The same with what it tells of its cell, and how clearly.
 fn measured_id(recording: &Recording, hit: &Hit) -> MeasuredId
     requires recording { IsRecording recording.now }
     requires span { IsInSpan hit.now }
@@ -65,8 +66,10 @@ fn measured_id(recording: &Recording, hit: &Hit) -> MeasuredId
     ensures { result ≡ measured_id_of recording.now hit.now }
 {
     let measured = measured(hit);
+    let ranking = ranking_with(recording, hit, Prefix::NORMAL);
     MeasuredId {
-        found: identity_of(recording, hit),
+        found: identified(hit, ranking.best.n1, ranking.best.half),
+        ranking,
         peak: measured.peak,
         energy: measured.energy,
         power: measured.power,

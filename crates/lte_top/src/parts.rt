@@ -1,6 +1,7 @@
 //! The parts of a form that words name: each is read after those before it, and no words are those of two.
 
-ghost use Rattle.std.specs.Prelude.{◌≡◌, ◌≢◌, ◌↔◌, ◌<◌, ◌^◌, ℕ, ℤ, Option, Some, List, [], ◌∷◌, ◌++◌, map, IfSome, IsNone, IsTrue, string_bytes};
+ghost use Rattle.std.specs.Prelude.{◌≡◌, ◌≢◌, ◌↔◌, ◌<◌, ◌^◌, ℕ, ℤ, Option, Some, List, [], ◌∷◌, ◌++◌, map, IfSome};
+ghost use Rattle.std.specs.Prelude.{IsNone, IsTrue, string_bytes};
 ghost use Rattle.std.specs.Fmt.{decimal, signed_decimal};
 ghost use Rattle.sample_file.specs.declared.form.SampleForm.{SampleForm as SampleFormValue};
 ghost use Rattle.lte_types.specs.declared.carrier.Carrier.{Carrier as CarrierValue};
@@ -8,7 +9,8 @@ ghost use Rattle.lte_top.specs.declared.form.Output.{Output as OutputValue};
 ghost use Rattle.lte_top.specs.declared.form.Page.{Page as PageValue};
 ghost use Rattle.lte_top.specs.declared.form.Rule.{Rule as RuleValue};
 ghost use Rattle.lte_top.specs.declared.form.Turn.{Turn as TurnValue};
-ghost use Rattle.lte_top.specs.Forms.{samples_words, told_words, rule_words, carrier_words, load_words, turn_words, IsAskedLoad, IsTurn, IsAskedTurn, ArePageWords};
+ghost use Rattle.lte_top.specs.Forms.{samples_words, told_words, rule_words, carrier_words, load_words, turn_words};
+ghost use Rattle.lte_top.specs.Forms.{IsAskedLoad, IsTurn, IsAskedTurn, ArePageWords};
 
 use crate::form::{Output, Page, Rule, Turn};
 use itoa::Buffer;
@@ -112,6 +114,8 @@ fn carried_of(words: &[String]) -> Option<(Carrier, Output, SampleForm)>
         Some((Carrier::OnePort, output, samples))
     } else if let Some((output, samples)) = told_after_two(words, "--ports", "2") {
         Some((Carrier::TwoPorts, output, samples))
+    } else if let Some((output, samples)) = told_after_two(words, "--ports", "4") {
+        Some((Carrier::FourPorts, output, samples))
     } else {
         let (output, samples) = told_after_two(words, "--prefix", "long")?;
         Some((Carrier::LongPrefix, output, samples))
@@ -140,6 +144,8 @@ fn certified_of(words: &[String]) -> Option<(Carrier, SampleForm)>
         Some((Carrier::OnePort, samples))
     } else if let Some(samples) = samples_after_two(words, "--ports", "2") {
         Some((Carrier::TwoPorts, samples))
+    } else if let Some(samples) = samples_after_two(words, "--ports", "4") {
+        Some((Carrier::FourPorts, samples))
     } else {
         let samples = samples_after_two(words, "--prefix", "long")?;
         Some((Carrier::LongPrefix, samples))
@@ -197,6 +203,8 @@ fn carrier_of(words: &[String]) -> Option<Carrier>
         Some(Carrier::OnePort)
     } else if are_two(words, "--ports", "2") {
         Some(Carrier::TwoPorts)
+    } else if are_two(words, "--ports", "4") {
+        Some(Carrier::FourPorts)
     } else if are_two(words, "--prefix", "long") {
         Some(Carrier::LongPrefix)
     } else {
@@ -226,6 +234,8 @@ fn sent_of(words: &[String]) -> Option<(Carrier, Option<u32>)>
         Some((Carrier::OnePort, load))
     } else if let Some(load) = load_after_two(words, "--ports", "2") {
         Some((Carrier::TwoPorts, load))
+    } else if let Some(load) = load_after_two(words, "--ports", "4") {
+        Some((Carrier::FourPorts, load))
     } else {
         let load = load_after_two(words, "--prefix", "long")?;
         Some((Carrier::LongPrefix, load))
@@ -277,7 +287,8 @@ fn load_number(words: &[String]) -> Option<u32>
 // The turn and the form of samples that the words after this one name.
 pub(crate) fn turned_after(words: &[String], word: &str) -> Option<(Turn, SampleForm)>
     ensures some { IfSome result (λ turned.
-        IsAskedTurn turned.0 × (map string_bytes words.now ≡ word.now ∷ turn_words turned.0 ++ samples_words turned.1)) }
+        IsAskedTurn turned.0
+        × (map string_bytes words.now ≡ word.now ∷ turn_words turned.0 ++ samples_words turned.1)) }
     ensures none { IsNone result → (turn : TurnValue) (form : SampleFormValue) → IsAskedTurn turn →
         map string_bytes words.now ≡ word.now ∷ turn_words turn ++ samples_words form → ⊥ }
 {

@@ -7,7 +7,8 @@ ghost use Rattle.sample_file.specs.Recording.{IsRecording};
 ghost use Rattle.pss_search.specs.Hits.{IsInSpan, IsSmallHit, hits_of as all_hits};
 ghost use Rattle.lte_top.specs.Forms.{recording};
 ghost use Rattle.lte_top.specs.Line.{as_line};
-ghost use Rattle.lte_top.specs.Reports.{identified, IsEvidence, IsEvidenceJson, IsEvidenceText, IsHits, IsIds, IsReport, IsTelling};
+ghost use Rattle.lte_top.specs.Reports.{identified as identified_in, identified_by, IsEvidence, IsEvidenceJson};
+ghost use Rattle.lte_top.specs.Reports.{IsEvidenceText, IsHits, IsIds, IsReport, IsTelling};
 ghost use Rattle.lte_top.specs.Run.{Cause, HasOutput};
 ghost use Rattle.lte_top.specs.declared.form.Form.TheVariants.{Report as Reports};
 
@@ -17,7 +18,7 @@ use crate::searching::{read_list, room_for_list, search_text};
 use crate::status::Status;
 use cs_outside::Source;
 use evidence::{evidence_of_list, support_of_list};
-use lte_types::{Carrier, Hit};
+use lte_types::{Carrier, Half, Hit};
 use pss_search::{HitList, hits};
 use report::{
     IdentifiedHit, json_of_evidence, json_of_hits, json_of_ids, text_of_evidence, text_of_hits,
@@ -135,7 +136,7 @@ fn ids_of(
 ) -> Result<Vec<IdentifiedHit>, AllocError>
     requires recording { IsRecording recording.now }
     requires span { All IsInSpan hits.now }
-    ensures { IfOk result (λ found. found.items ≡ map (identified recording.now) hits.now) }
+    ensures { IfOk result (λ found. found.items ≡ map (identified_in recording.now) hits.now) }
 {
     let mut found = Vec::with_capacity(alloc, hits.len())?;
     for hit in hits {
@@ -145,12 +146,21 @@ fn ids_of(
 }
 
 // A hit of a recording with what it tells of its cell.
-pub(crate) fn identity_of(recording: &Recording, hit: &Hit) -> IdentifiedHit
+fn identity_of(recording: &Recording, hit: &Hit) -> IdentifiedHit
     requires recording { IsRecording recording.now }
     requires span { IsInSpan hit.now }
-    ensures { result ≡ identified recording.now hit.now }
+    ensures { result ≡ identified_in recording.now hit.now }
 {
     let (n1, half) = identity(recording, hit);
+    identified(hit, n1, half)
+}
+
+// A hit with what its group and its half tell of its cell.
+pub(crate) fn identified(hit: &Hit, n1: u16, half: Half) -> IdentifiedHit
+    requires group { n1 ≤ 167 }
+    requires member { hit.now.n2 ≤ 2 }
+    ensures { result ≡ identified_by hit.now (n1, half) }
+{
     IdentifiedHit {
         hit: *hit,
         id: cell_id(n1, hit.n2),

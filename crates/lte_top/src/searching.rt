@@ -4,7 +4,8 @@ ghost use Rattle.std.specs.Prelude.{◌≡◌, IfOk, string_bytes};
 ghost use Rattle.std.specs.List.{AllZip};
 ghost use Rattle.sample_file.specs.Recording.{IsRecording};
 ghost use Rattle.explain.specs.Readings.{IsReadingFor};
-ghost use Rattle.lte_top.specs.Searching.{receiver_of, IsListOf, IsListText, IsTextOfAll, IsCancelled, IsSearch, list_text as text_of, lists_text as texts_of};
+ghost use Rattle.lte_top.specs.Searching.{receiver_of, IsListOf, IsListText, IsTextOfAll, IsCancelled, IsSearch};
+ghost use Rattle.lte_top.specs.Searching.{list_text as text_of, lists_text as texts_of};
 
 use crate::form::{Output, Rule};
 use crate::reporting::line_of;
@@ -91,6 +92,7 @@ pub(crate) fn read_list(
         Carrier::OnePort => clean_air::explain_clean(recording, work, list),
         Carrier::TwoPorts => two_ports::explain_clean(recording, work, list),
         Carrier::LongPrefix => long_prefix::explain_clean(recording, work, list),
+        Carrier::FourPorts => four_ports::explain_clean(recording, work, list),
     }
 }
 
@@ -103,22 +105,31 @@ fn text_of_each(alloc: Global, output: Output, recording: &Recording) -> Result<
     let one = list_of(alloc, Carrier::OnePort, recording)?;
     let two = list_of(alloc, Carrier::TwoPorts, recording)?;
     let long = list_of(alloc, Carrier::LongPrefix, recording)?;
-    lists_text(alloc, output, one.slice(), two.slice(), long.slice())
+    let four = list_of(alloc, Carrier::FourPorts, recording)?;
+    lists_text(
+        alloc,
+        output,
+        one.slice(),
+        two.slice(),
+        long.slice(),
+        four.slice(),
+    )
 }
 
-// The text of three lists.
+// The text of four lists.
 fn lists_text(
     alloc: Global,
     output: Output,
     one: &[Entry],
     two: &[Entry],
     long: &[Entry],
+    four: &[Entry],
 ) -> Result<String, AllocError>
-    ensures { IfOk result (λ text. string_bytes text ≡ texts_of output one.now two.now long.now) }
+    ensures { IfOk result (λ text. string_bytes text ≡ texts_of output one.now two.now long.now four.now) }
 {
     match output {
-        Output::Text => text_of_all(alloc, one, two, long),
-        Output::Json => line_of(json_of_all(alloc, one, two, long)?),
+        Output::Text => text_of_all(alloc, one, two, long, four),
+        Output::Json => line_of(json_of_all(alloc, one, two, long, four)?),
     }
 }
 

@@ -16,3 +16,8 @@ pub returns-in-LongPrefix-clause-list : goal.returns-in-LongPrefix-clause-list
 returns-in-LongPrefix-clause-list c =
     let e = c.explain_clean-in-LongPrefix.ensures in
     subst (λ carrier. IsListOf carrier c.args.recording.now c.explain_clean-in-LongPrefix.new.list) (sym c.in-LongPrefix.is) (record { explained = e.list; loaded = e.loaded; holds = e.holds })
+
+pub returns-in-FourPorts-clause-list : goal.returns-in-FourPorts-clause-list
+returns-in-FourPorts-clause-list c =
+    let e = c.explain_clean-in-FourPorts.ensures in
+    subst (λ carrier. IsListOf carrier c.args.recording.now c.explain_clean-in-FourPorts.new.list) (sym c.in-FourPorts.is) (record { explained = e.list; loaded = e.loaded; holds = e.holds })

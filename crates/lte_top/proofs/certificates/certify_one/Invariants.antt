@@ -1,6 +1,0 @@
-use Rattle.lte_types.specs.declared.carrier.Carrier.TheVariants.{OnePort}
-use Rattle.lte_top.specs.Searching.{receiver_of}
-use Rattle.lte_top.proofs.certificates.certify_one.Given as goal
-
-abbrev pub ghost-certify : goal.ghost-certify
-ghost-certify g a = receiver_of OnePort
