@@ -39,30 +39,37 @@ pub const OF_8_BITS_AS_JSON: [Form; 4] = [
 ];
 
 /// The forms that read recordings by other rules, or make them.
-pub const BY_OTHER_RULES: [Form; 4] = [
+pub const BY_OTHER_RULES: [Form; 6] = [
     ("search --ports 2", Input::Cell16),
+    ("search --ports 4", Input::Cell16),
     ("search --prefix long", Input::Cell16),
     ("make 0 --ports 2", Input::Nothing),
+    ("make 0 --ports 4", Input::Nothing),
     ("make 0 --prefix long", Input::Nothing),
 ];
 
 /// The lists by other rules, as JSON and of samples of 8 bits.
-pub const BY_OTHER_RULES_AND_WORDS: [Form; 6] = [
+pub const BY_OTHER_RULES_AND_WORDS: [Form; 8] = [
     ("search --ports 2 --json", Input::Cell16),
+    ("search --ports 4 --json", Input::Cell16),
     ("search --prefix long --json", Input::Cell16),
     ("search --ports 2 --format cu8", Input::Cell8),
+    ("search --ports 4 --format cu8", Input::Cell8),
     ("search --prefix long --format cu8", Input::Cell8),
     ("search --ports 2 --json --format cu8", Input::Cell8),
     ("search --prefix long --json --format cu8", Input::Cell8),
 ];
 
 /// What supports the entries of lists by other rules, and their certificates.
-pub const OF_LISTS_BY_OTHER_RULES: [Form; 6] = [
+pub const OF_LISTS_BY_OTHER_RULES: [Form; 9] = [
     ("evidence --ports 2", Input::Cell16),
+    ("evidence --ports 4", Input::Cell16),
     ("evidence --prefix long", Input::Cell16),
     ("evidence --ports 2 --json", Input::TwoPorts),
+    ("evidence --ports 4 --json", Input::FourPorts),
     ("evidence --prefix long --json --format cu8", Input::Cell8),
     ("certify --ports 2", Input::TwoPorts),
+    ("certify --ports 4", Input::FourPorts),
     ("certify --prefix long", Input::LongPrefix),
 ];
 
@@ -102,11 +109,13 @@ pub const APPLYING: [Form; 4] = [
 pub const PAGES: [Form; 2] = [("help", Input::Nothing), ("version", Input::Nothing)];
 
 /// The descriptions that are sent.
-pub const SENDING: [Form; 5] = [
+pub const SENDING: [Form; 7] = [
     ("transmit", Input::Description),
     ("transmit --load 7", Input::Description),
     ("transmit --ports 2", Input::TwoPortsDescription),
     ("transmit --ports 2 --load 7", Input::TwoPortsDescription),
+    ("transmit --ports 4", Input::FourPortsDescription),
+    ("transmit --ports 4 --load 7", Input::FourPortsDescription),
     ("transmit --prefix long", Input::Description),
 ];
 

@@ -3,7 +3,10 @@
 use lte_top::Status;
 use std::alloc::{AllocError, Global};
 use test_support::{certificate_of_zeros, description};
-use top_tests::{output_of, sent_by, with_long_prefix, with_two_ports};
+use top_tests::{output_of, sent_by, with_four_ports, with_long_prefix, with_two_ports};
+
+// The gains of ports 1 to 3 of four.
+const OTHER_GAINS: &str = ", \"gain2\": [0, 1], \"gain3\": [1, 0], \"gain4\": [0, -1]";
 
 /// What a form reads.
 #[derive(Clone, Copy, Debug, PartialEq, Eq)]
@@ -16,12 +19,16 @@ pub enum Input {
     Cell8,
     /// Recording 90 with two antenna ports, of samples of 16 bits.
     TwoPorts,
+    /// The same with four antenna ports.
+    FourPorts,
     /// Recording 90 with the extended prefix.
     LongPrefix,
     /// The description of that cell.
     Description,
     /// The same for two antenna ports.
     TwoPortsDescription,
+    /// The same for four.
+    FourPortsDescription,
     /// The certificate of 120 zeros.
     ZeroCertificate,
     /// The certificates of the recording.
@@ -35,9 +42,13 @@ pub fn bytes_of(alloc: Global, input: Input) -> Result<Vec<u8>, AllocError> {
         Input::Cell16 => recording(alloc),
         Input::Cell8 => recording_of_8_bits(alloc),
         Input::TwoPorts => with_two_ports(alloc),
+        Input::FourPorts => with_four_ports(alloc),
         Input::LongPrefix => with_long_prefix(alloc),
         Input::Description => plain_description(alloc),
         Input::TwoPortsDescription => description(alloc, ", \"gain2\": [0, 1]", "")?
+            .as_bytes()
+            .to_vec(alloc),
+        Input::FourPortsDescription => description(alloc, OTHER_GAINS, "")?
             .as_bytes()
             .to_vec(alloc),
         Input::ZeroCertificate => certificate_of_zeros(alloc),

@@ -10,6 +10,8 @@ mod extended_prefix;
 #[cfg(test)]
 mod found_cells;
 #[cfg(test)]
+mod four_antenna_ports;
+#[cfg(test)]
 mod rounds_of_recordings;
 #[cfg(test)]
 mod rows;

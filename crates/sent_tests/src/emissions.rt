@@ -18,6 +18,11 @@ const TWO_PORTS_KEYS: &str =
     ", \"identity\": 302, \"sfn\": 1022, \"offset\": 9595, \"gain\": [-9, 12], \
     \"gain2\": [4, 11], \"spare\": 341, \"resource\": \"two\", \"mcs\": 5";
 
+const FOUR_PORTS_KEYS: &str =
+    ", \"identity\": 59, \"sfn\": 1022, \"offset\": 10000, \"gain\": [-5, 4], \
+    \"gain2\": [6, -2], \"gain3\": [3, 7], \"gain4\": [-7, -1], \"duration\": \"extended\", \"spare\": 682, \
+    \"resource\": \"oneSixth\"";
+
 const LONG_PREFIX_KEYS: &str =
     ", \"identity\": 167, \"sfn\": 511, \"offset\": 18000, \"gain\": [5, -27], \
     \"duration\": \"extended\", \"spare\": 1023, \"resource\": \"half\"";
@@ -185,6 +190,130 @@ const LOADED_TWO_PORTS: [(u32, i16, i16); 49] = [
 ];
 
 const LOADED_TWO_PORTS_SUMS: (i64, i64) = (-68_603_635, -126_521_268);
+
+// `transmit --ports 4`.
+const FOUR_PORTS: [(u32, i16, i16); 54] = [
+    (0, 0, 0),
+    (1, 0, 0),
+    (301, 207, 228),
+    (479, 684, 281),
+    (831, 205, -235),
+    (8470, -363, -305),
+    (9199, 0, 0),
+    (9200, -259, -56),
+    (9271, -93, -107),
+    (9382, 6, -40),
+    (9776, 272, -267),
+    (9953, 95, 498),
+    (10077, 694, -178),
+    (10167, 419, -914),
+    (10364, -724, 33),
+    (10367, 506, -275),
+    (10484, -389, -78),
+    (10614, -611, -54),
+    (10788, -212, -446),
+    (16346, 0, 0),
+    (19718, 621, 643),
+    (27677, -228, -80),
+    (28399, 0, 0),
+    (28400, -259, -56),
+    (28530, -167, 9),
+    (28601, -586, -250),
+    (28994, 416, 18),
+    (29149, -28, 908),
+    (29344, -829, -1),
+    (29432, 99, 954),
+    (29520, 2038, 821),
+    (29574, -148, 93),
+    (29636, 717, -643),
+    (29846, 173, -123),
+    (29988, -212, -446),
+    (35546, 0, 0),
+    (38816, 185, -107),
+    (39171, 1033, 93),
+    (46819, 355, 271),
+    (47599, 0, 0),
+    (47600, -259, -56),
+    (47660, 183, -17),
+    (47816, -238, -452),
+    (48215, 390, 1012),
+    (48297, 338, -295),
+    (48443, 443, 113),
+    (48572, 227, 944),
+    (48769, -1199, 591),
+    (48816, -583, -619),
+    (48967, -772, 170),
+    (49108, -226, -1054),
+    (49229, -142, 72),
+    (54746, 0, 0),
+    (57599, 0, 0),
+];
+
+const FOUR_PORTS_SUMS: (i64, i64) = (-7_178_227, 15_066_153);
+
+// `transmit --ports 4 --load 3735928559`.
+const LOADED_FOUR_PORTS: [(u32, i16, i16); 58] = [
+    (0, 1051, -69),
+    (1, -1755, 102),
+    (349, 145, 7),
+    (520, 28, 281),
+    (724, -24, -1041),
+    (3270, 2404, -1453),
+    (8441, -1467, 868),
+    (9199, 386, -158),
+    (9200, -241, 1376),
+    (9272, -876, -301),
+    (9384, 112, 2236),
+    (9848, -424, -580),
+    (9926, 170, -505),
+    (10041, 263, -153),
+    (10196, -730, 1302),
+    (10330, -46, -1280),
+    (10411, 294, 1332),
+    (10468, 975, -780),
+    (10572, 440, 846),
+    (10710, -819, -275),
+    (12405, -497, 67),
+    (17755, 236, -771),
+    (19940, -15, 938),
+    (22412, 1299, -1106),
+    (28399, 1666, 3149),
+    (28400, -684, -154),
+    (28451, -450, -1033),
+    (28636, -2656, 1277),
+    (29025, -189, -84),
+    (29091, 304, -399),
+    (29315, 694, -178),
+    (29467, -40, 251),
+    (29535, 292, 881),
+    (29540, 290, -1558),
+    (29702, -501, -161),
+    (29788, -140, -686),
+    (29993, -639, -1032),
+    (31645, -1040, -1823),
+    (36981, -356, -458),
+    (38823, 263, -153),
+    (39184, 657, -385),
+    (41689, -766, 3125),
+    (47599, 959, 159),
+    (47600, 85, -1308),
+    (47681, -2789, -1540),
+    (47785, -976, 2427),
+    (48272, 1941, 1134),
+    (48406, 392, 80),
+    (48468, -452, 788),
+    (48575, -19, 861),
+    (48703, -592, -56),
+    (48763, -864, -762),
+    (48926, 1309, 238),
+    (49075, -147, -6),
+    (49113, 535, -1312),
+    (50805, -2201, -1086),
+    (56133, -391, 459),
+    (57599, -903, 727),
+];
+
+const LOADED_FOUR_PORTS_SUMS: (i64, i64) = (67_027_000, -28_913_513);
 
 // `transmit --prefix long`.
 const LONG_PREFIX: [(u32, i16, i16); 45] = [
@@ -397,6 +526,37 @@ fn two_ports_with_load(rt: HostRuntime) -> Result<(), Fail> {
 }
 
 #[test]
+fn four_ports(rt: HostRuntime) -> Result<(), Fail> {
+    assert!(rt;
+        sends(
+            rt.alloc(),
+            Carrier::FourPorts,
+            None,
+            FOUR_PORTS_KEYS,
+            &FOUR_PORTS,
+            FOUR_PORTS_SUMS
+        )?
+    );
+    Ok(())
+}
+
+#[test]
+fn four_ports_with_load(rt: HostRuntime) -> Result<(), Fail> {
+    let (load, rows) = (Some(3_735_928_559), &LOADED_FOUR_PORTS);
+    assert!(rt;
+        sends(
+            rt.alloc(),
+            Carrier::FourPorts,
+            load,
+            FOUR_PORTS_KEYS,
+            rows,
+            LOADED_FOUR_PORTS_SUMS
+        )?
+    );
+    Ok(())
+}
+
+#[test]
 fn the_extended_prefix(rt: HostRuntime) -> Result<(), Fail> {
     assert!(rt;
         sends(
@@ -427,11 +587,47 @@ fn the_extended_prefix_with_load(rt: HostRuntime) -> Result<(), Fail> {
     Ok(())
 }
 
-// What a description by a carrier is refused for: the second port's gain is a key of two ports alone, and no gain of
-// them may be greater than a clean recording allows.
-const REFUSALS: [(Carrier, &str, CellError); 10] = [
+// Gains of the further ports of four.
+const THREE_GAINS: &str = ", \"gain2\": [0, 1], \"gain3\": [-1, 0], \"gain4\": [0, -1]";
+
+// What a description by a carrier is refused for: a further port's gain is a key of the carriers that have the port,
+// and no gain of them may be greater than a clean recording allows.
+const REFUSALS: [(Carrier, &str, CellError); 19] = [
     (Carrier::OnePort, ", \"gain2\": [1, 0]", CellError::Form),
     (Carrier::LongPrefix, ", \"gain2\": [1, 0]", CellError::Form),
+    (Carrier::OnePort, THREE_GAINS, CellError::Form),
+    (Carrier::TwoPorts, THREE_GAINS, CellError::Form),
+    (Carrier::FourPorts, "", CellError::Form),
+    (
+        Carrier::FourPorts,
+        ", \"gain2\": [1, 0], \"gain3\": [1, 0]",
+        CellError::Form,
+    ),
+    (
+        Carrier::FourPorts,
+        ", \"gain2\": [1, 0], \"gain3\": [1, 0], \"gain4\": [1, 0, 0]",
+        CellError::Form,
+    ),
+    (
+        Carrier::FourPorts,
+        ", \"gain2\": [10, 0], \"gain3\": [8, 0], \"gain4\": [4, 4]",
+        CellError::Gain,
+    ),
+    (
+        Carrier::FourPorts,
+        ", \"gain\": [0, 0], \"gain2\": [1, 0], \"gain3\": [1, 0], \"gain4\": [1, 0]",
+        CellError::Gain,
+    ),
+    (
+        Carrier::FourPorts,
+        ", \"gain2\": [0, 0], \"gain3\": [0, 0], \"gain4\": [0, -9223372036854775808]",
+        CellError::Gain,
+    ),
+    (
+        Carrier::FourPorts,
+        ", \"gain2\": [1, 0], \"gain3\": [1, 0], \"gain4\": [1, 0], \"mcs\": 21, \"blocks\": 1",
+        CellError::Punctured,
+    ),
     (Carrier::TwoPorts, "", CellError::Form),
     (Carrier::TwoPorts, ", \"gain2\": [1]", CellError::Form),
     (Carrier::TwoPorts, ", \"gain2\": [0, 20]", CellError::Gain),
@@ -471,6 +667,17 @@ fn descriptions_that_a_carrier_does_not_send(rt: HostRuntime) -> Result<(), Fail
 }
 
 #[test]
+fn gains_of_four_ports_at_their_greatest(rt: HostRuntime) -> Result<(), Fail> {
+    let equal = ", \"gain\": [-7, 0], \"gain2\": [0, 7], \"gain3\": [7, 0], \"gain4\": [0, -7]";
+    assert!(rt; answer(rt.alloc(), Carrier::FourPorts, equal)?.is_ok());
+    let first = ", \"gain\": [14, 0], \"gain2\": [0, 0], \"gain3\": [0, 0], \"gain4\": [0, 0]";
+    assert!(rt; answer(rt.alloc(), Carrier::FourPorts, first)?.is_ok());
+    let last = ", \"gain\": [-1, 0], \"gain2\": [0, 0], \"gain3\": [0, 1], \"gain4\": [-13, 5]";
+    assert!(rt; answer(rt.alloc(), Carrier::FourPorts, last)?.is_ok());
+    Ok(())
+}
+
+#[test]
 fn gains_of_both_ports_at_their_greatest(rt: HostRuntime) -> Result<(), Fail> {
     let both = ", \"gain\": [-14, 0], \"gain2\": [0, 14]";
     assert!(rt; answer(rt.alloc(), Carrier::TwoPorts, both)?.is_ok());
@@ -505,6 +712,7 @@ fn two_ports_leave_less_room(rt: HostRuntime) {
     // 376 bits have 1,212 coded bits: with one port 1,224 are sent, and with two 1,152.
     assert!(rt; refusal(Carrier::OnePort, 11, 6) == None);
     assert!(rt; refusal(Carrier::LongPrefix, 11, 6) == None);
+    assert!(rt; refusal(Carrier::FourPorts, 11, 6) == None);
     assert!(rt; refusal(Carrier::TwoPorts, 11, 6) == Some(CellError::Punctured));
     assert!(rt; refusal(Carrier::TwoPorts, 10, 6) == None);
 }

@@ -6,6 +6,8 @@ mod descriptions;
 #[cfg(test)]
 mod emissions;
 #[cfg(test)]
+mod four_antenna_ports;
+#[cfg(test)]
 mod made_recordings;
 #[cfg(test)]
 mod texts;

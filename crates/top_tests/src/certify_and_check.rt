@@ -3,8 +3,8 @@
 ghost use Rattle.std.specs.Prelude.{◌+◌, ◌≤◌, ◌<◌, length};
 
 use crate::{
-    Output, ROOM, command_line, gives, output_from, output_into, output_of, with_long_prefix,
-    with_two_ports,
+    Output, ROOM, command_line, gives, output_from, output_into, output_of, with_four_ports,
+    with_long_prefix, with_two_ports,
 };
 use cs_outside::{FailSink, FailSource, MemSource};
 use lte_top::{Program, Status};
@@ -216,6 +216,7 @@ fn is_certified(alloc: Global, line: &str, bytes: Vec<u8>) -> Result<bool, Alloc
 fn cells_of_number_90_of_other_carriers_are_certified(rt: HostRuntime) -> Result<(), Fail> {
     let alloc = rt.alloc();
     assert!(rt; is_certified(alloc, "certify --ports 2", with_two_ports(alloc)?)?);
+    assert!(rt; is_certified(alloc, "certify --ports 4", with_four_ports(alloc)?)?);
     assert!(rt; is_certified(alloc, "certify --prefix long", with_long_prefix(alloc)?)?);
     Ok(())
 }

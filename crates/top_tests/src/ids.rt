@@ -65,8 +65,11 @@ fn faults_of_identities(rt: HostRuntime) -> Result<(), Fail> {
 // As the second program of outputs, `scripts/peers/second_forms.py`, writes it.
 const AS_JSON: &str =
     "[{\"at\":0,\"energy\":1996394,\"identity\":0,\"n2\":0,\"peak\":3985589003236,\"power\":1996394,\
-\"subframe\":0,\"t\":832},{\"at\":0,\"energy\":1996394,\"identity\":0,\"n2\":0,\"peak\":3985589003236,\
-\"power\":1996394,\"subframe\":5,\"t\":10432}]\n";
+\"secondary\":{\"best\":{\"group\":0,\"score\":519218053738,\"subframe\":0},\"second\":{\"group\":165,\
+\"score\":251614439592,\"subframe\":0}},\"subframe\":0,\"t\":832},{\"at\":0,\"energy\":1996394,\
+\"identity\":0,\"n2\":0,\"peak\":3985589003236,\"power\":1996394,\"secondary\":{\"best\":{\"group\":0,\
+\"score\":519209529351,\"subframe\":5},\"second\":{\"group\":88,\"score\":251626081825,\"subframe\":0}},\
+\"subframe\":5,\"t\":10432}]\n";
 
 #[test]
 fn identities_of_a_plain_cell_as_json(rt: HostRuntime) -> Result<(), Fail> {

@@ -4,7 +4,7 @@
 mod carriers;
 mod commands;
 
-pub use carriers::{with_long_prefix, with_two_ports};
+pub use carriers::{with_four_ports, with_long_prefix, with_two_ports};
 pub use commands::{
     Output, ROOM, command_line, gives, gives_by, is_no_form, output_by, output_from, output_into,
     output_of, output_unread, sent_by, sent_with, sent_with_words,
@@ -36,6 +36,8 @@ mod search;
 mod search_all;
 #[cfg(test)]
 mod search_cancel;
+#[cfg(test)]
+mod search_four_ports;
 #[cfg(test)]
 mod search_long_prefix;
 #[cfg(test)]

@@ -1,5 +1,5 @@
 //! The command `make`. The texts are those of two other programs, `scripts/peers/second_make.py` and
-//! `scripts/peers/second_search.py`; those of two antenna ports and of the extended prefix are worked rows.
+//! `scripts/peers/second_search.py`; those of further antenna ports and of the extended prefix are worked rows.
 
 use crate::{Output, command_line, output_unread};
 use lte_top::{Program, Status};
@@ -25,6 +25,12 @@ sib1 tac 7 cell 7 open allowed csg 0 - rx -63 offset - pmax - band 8 window ms1 
 plmn 001 01 free
 si rf8 -
 si rf8 0,2
+";
+
+const FOUR_PORTS: &[u8] = b"made 7 at 19193 sfn 8 held 1
+cells 1
+cell 7 at 19193 sfn 8 ports 4 n6 phich extended two br 0 spare 7
+sib1 none ports 4
 ";
 
 const LONG_PREFIX: &[u8] = b"made 7 at 19193 sfn 8 held 1
@@ -71,6 +77,12 @@ fn a_recording_of_99_frames_holds_its_cell(rt: HostRuntime) -> Result<(), Fail> 
 #[test]
 fn number_7_of_two_antenna_ports_holds_its_cell(rt: HostRuntime) -> Result<(), Fail> {
     assert!(rt; makes(rt.alloc(), "make 7 --ports 2", TWO_PORTS)?);
+    Ok(())
+}
+
+#[test]
+fn number_7_of_four_antenna_ports_holds_its_cell(rt: HostRuntime) -> Result<(), Fail> {
+    assert!(rt; makes(rt.alloc(), "make 7 --ports 4", FOUR_PORTS)?);
     Ok(())
 }
 

@@ -11,15 +11,16 @@ hits [--json] [--format cu8]: the places of primary synchronisation signals in a
 ids [--json] [--format cu8]: the same with the cell identity and the frame start that each tells
 search [RULE] [--json] [--format cu8]: the list of cells of a recording
   --ports 2: of those with two antenna ports
+  --ports 4: of those with four antenna ports
   --prefix long: of those with the extended cyclic prefix
   --cancel: and the lists of what is left where a cell is taken off
-  --all: the lists of one antenna port, of two, and of the extended cyclic prefix
-evidence [--ports 2 | --prefix long] [--json] [--format cu8]: what supports each cell of the list
-certify [--ports 2 | --prefix long] [--format cu8]: a certificate for each cell of the list
+  --all: the lists of one antenna port, of two, of the extended cyclic prefix, and of four antenna ports
+evidence [--ports 2 | --ports 4 | --prefix long] [--json] [--format cu8]: what supports each cell of the list
+certify [--ports 2 | --ports 4 | --prefix long] [--format cu8]: a certificate for each cell of the list
 check: whether each of the certificates that are read is accepted
-transmit [--ports 2 | --prefix long] [--load N]: the samples of the cell that is described
+transmit [--ports 2 | --ports 4 | --prefix long] [--load N]: the samples of the cell that is described
   --load N: with the points of load number N at all places that it leaves open
-make N [--ports 2 | --prefix long]: the list of recording number N, which is made and not read
+make N [--ports 2 | --ports 4 | --prefix long]: the list of recording number N, which is made and not read
 help, --help, -h: this page
 version, --version: the versions of the program and of its definition
 ";

@@ -23,6 +23,8 @@ fn each_report_reads_8_bit_numbers(rt: HostRuntime) -> Result<(), Fail> {
         ("evidence --json --format cu8", "[]\n"),
         ("search --ports 2 --format cu8", "cells 0\n"),
         ("search --ports 2 --json --format cu8", "[]\n"),
+        ("search --ports 4 --format cu8", "cells 0\n"),
+        ("search --ports 4 --json --format cu8", "[]\n"),
         ("search --prefix long --format cu8", "cells 0\n"),
         ("search --prefix long --json --format cu8", "[]\n"),
         ("search --cancel --format cu8", "cells 0\ncancelled none\n"),
@@ -32,7 +34,7 @@ fn each_report_reads_8_bit_numbers(rt: HostRuntime) -> Result<(), Fail> {
         ),
         (
             "search --all --format cu8",
-            "rule one-port\ncells 0\nrule two-ports\ncells 0\nrule long-prefix\ncells 0\n",
+            "rule one-port\ncells 0\nrule two-ports\ncells 0\nrule long-prefix\ncells 0\nrule four-ports\ncells 0\n",
         ),
         ("search --all --json --format cu8", "[]\n"),
         ("certify --format cu8", ""),

@@ -1,7 +1,7 @@
 //! The command `search --all`. The texts are those of another program, `scripts/peers/second_forms.py`.
 
 use crate::lengths::refuse_lengths;
-use crate::{gives, sent_by, with_two_ports};
+use crate::{gives, sent_by, with_four_ports, with_two_ports};
 use lte_top::{Program, Status};
 use std::test::Fail;
 use test_support::silence;
@@ -17,6 +17,23 @@ rule two-ports
 cells 0
 rule long-prefix
 cells 0
+rule four-ports
+cells 0
+";
+
+// Those of number 90 with four antenna ports: the list of one port has the cell too.
+const OF_FOUR_PORTS: &str = "rule one-port
+cells 1
+cell 90 at 19110 sfn 91 ports 4 n6 phich normal one br 2 spare 26
+sib1 none ports 4
+rule two-ports
+cells 0
+rule long-prefix
+cells 0
+rule four-ports
+cells 1
+cell 90 at 19110 sfn 91 ports 4 n6 phich normal one br 2 spare 26
+sib1 none ports 4
 ";
 
 // Those of number 90 with two antenna ports.
@@ -39,6 +56,21 @@ fn the_lists_of_a_plain_cell(rt: HostRuntime) -> Result<(), Fail> {
 }
 
 #[test]
+fn the_lists_of_a_cell_with_four_antenna_ports(rt: HostRuntime) -> Result<(), Fail> {
+    let (line, bytes) = ("search --all", with_four_ports(rt.alloc())?);
+    assert!(rt;
+        gives(
+            rt.alloc(),
+            line,
+            bytes,
+            Status::Done,
+            OF_FOUR_PORTS.as_bytes()
+        )?
+    );
+    Ok(())
+}
+
+#[test]
 fn the_lists_of_a_cell_with_two_antenna_ports_as_json(rt: HostRuntime) -> Result<(), Fail> {
     let (line, bytes) = ("search --all --json", with_two_ports(rt.alloc())?);
     assert!(rt; gives(rt.alloc(), line, bytes, Status::Done, AS_JSON.as_bytes())?);
@@ -50,7 +82,7 @@ fn zeros_hold_no_cell_of_any_kind(rt: HostRuntime) -> Result<(), Fail> {
     for (line, text) in [
         (
             "search --all",
-            "rule one-port\ncells 0\nrule two-ports\ncells 0\nrule long-prefix\ncells 0\n",
+            "rule one-port\ncells 0\nrule two-ports\ncells 0\nrule long-prefix\ncells 0\nrule four-ports\ncells 0\n",
         ),
         ("search --all --json", "[]\n"),
     ] {

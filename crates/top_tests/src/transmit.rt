@@ -71,12 +71,22 @@ fn a_description_that_is_too_long(rt: HostRuntime) -> Result<(), Fail> {
 // The gains of both antenna ports, in a change of the plain description.
 const TWO_GAINS: &str = r#", "gain": [9, -5], "gain2": [-6, 8]"#;
 
+// Those of four.
+const FOUR_GAINS: &str =
+    r#", "gain": [6, -3], "gain2": [5, 5], "gain3": [-4, 6], "gain4": [2, -6]"#;
+
 // The plain cell with two antenna ports, as `search --ports 2` writes it.
 const TWO_PORTS_REPORT: &str = "cells 1
 cell 0 at 0 sfn 0 ports 2 n6 phich normal one br 0 spare 0
 sib1 tac 1 cell 1 open allowed csg 0 - rx -70 offset - pmax - band 1 window ms1 tag 0 tdd - extension 0
 plmn 001 01 free
 si rf8 -
+";
+
+// With four, as `search --ports 4` writes it.
+const FOUR_PORTS_REPORT: &str = "cells 1
+cell 0 at 0 sfn 0 ports 4 n6 phich normal one br 0 spare 0
+sib1 none ports 4
 ";
 
 // With the extended prefix, as `search --prefix long` writes it.
@@ -114,6 +124,18 @@ fn what_is_sent_is_found_by_the_same_rule(rt: HostRuntime) -> Result<(), Fail> {
             TWO_PORTS_REPORT,
         ),
         (
+            "transmit --ports 4",
+            FOUR_GAINS,
+            "search --ports 4",
+            FOUR_PORTS_REPORT,
+        ),
+        (
+            "transmit --ports 4 --load 7",
+            FOUR_GAINS,
+            "search --ports 4",
+            FOUR_PORTS_REPORT,
+        ),
+        (
             "transmit --prefix long",
             "",
             "search --prefix long",
@@ -135,17 +157,23 @@ fn what_is_sent_is_found_by_the_same_rule(rt: HostRuntime) -> Result<(), Fail> {
 }
 
 #[test]
-fn a_second_gain_is_of_two_ports_alone(rt: HostRuntime) -> Result<(), Fail> {
+fn a_further_gain_is_of_its_ports_alone(rt: HostRuntime) -> Result<(), Fail> {
     for (line, change) in [
         ("transmit", TWO_GAINS),
         ("transmit --prefix long", TWO_GAINS),
         ("transmit --ports 2", ""),
+        ("transmit --ports 2", FOUR_GAINS),
+        ("transmit --ports 4", ""),
+        ("transmit --ports 4", TWO_GAINS),
     ] {
         let sent = sent_with_words(rt.alloc(), line, change)?;
         assert!(rt; is_refused(&sent, CellError::Form), "{line}");
     }
     let greater = r#", "gain": [14, 14], "gain2": [1, 0]"#;
     let sent = sent_with_words(rt.alloc(), "transmit --ports 2", greater)?;
+    assert!(rt; is_refused(&sent, CellError::Gain));
+    let greater = r#", "gain": [6, -3], "gain2": [5, 5], "gain3": [-4, 7], "gain4": [2, -6]"#;
+    let sent = sent_with_words(rt.alloc(), "transmit --ports 4", greater)?;
     assert!(rt; is_refused(&sent, CellError::Gain));
     Ok(())
 }
