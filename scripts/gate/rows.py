@@ -23,10 +23,12 @@ TRANSMISSIONS = "crates/sent_tests/src/transmissions.rt"
 # the description of the test's table TURNED, with the text of the plain cell
 TURNED = dict(identity=503, sfn=1023, offset=19199, samples=57600, gain=[-11, 23], duration="extended", spare=677)
 TURNED |= dict(resource="oneSixth", cfi=3, start=1, blocks=5, mcs=2, column=3)
-# those of the tables of two ports and of the extended prefix
+# those of the tables of two ports, of four and of the extended prefix
 EMISSIONS = "crates/sent_tests/src/emissions.rt"
 TWO_PORTS = dict(identity=302, sfn=1022, offset=9595, samples=57600, gain=[-9, 12], gain2=[4, 11], spare=341)
 TWO_PORTS |= dict(resource="two", mcs=5)
+FOUR_PORTS = dict(identity=59, sfn=1022, offset=10000, samples=57600, gain=[-5, 4], gain2=[6, -2], gain3=[3, 7])
+FOUR_PORTS |= dict(gain4=[-7, -1], duration="extended", spare=682, resource="oneSixth")
 LONG_PREFIX = dict(identity=167, sfn=511, offset=18000, samples=57600, gain=[5, -27], duration="extended", spare=1023)
 LONG_PREFIX |= dict(resource="half")
 
@@ -72,6 +74,12 @@ def pairs(text):
     """Of each pair the symbol l and the subcarrier k, and its values."""
     found = re.findall(r"(\d+) (\d+) (\[.*\])", text)
     return [exactly(f"({k}, {l}, ({k}, {(int(k) + 1) % 72}), {values})") for l, k, values in found]
+
+
+def pairs_in_order(text):
+    """Of all pairs together the symbol, the first subcarrier and the values, in their order."""
+    found = re.findall(r"(\d+) (\d+) (\[.*\])", text)
+    return [exactly(f"[{', '.join(f'({l}, {k}, {values})' for l, k, values in found)}]")]
 
 
 def turbo(text):
@@ -127,11 +135,11 @@ def of_one_port(number):
     return patterns
 
 
-def of_two_ports(number):
+def of_ports(number):
     def patterns(text):
         gains, bound, told = summary(text)
         ending = exactly(f"is_made(&made, [{gains}], {bound}, &summary)")
-        return [exactly(told) + rf"[^{{}}]*alloc\(\),{number}\)[^{{}}]*{ending}"]
+        return [exactly(told) + rf"[^{{}}]*alloc\(\),(Carrier::FourPorts,)?{number}\)[^{{}}]*{ending}"]
 
     return patterns
 
@@ -225,7 +233,7 @@ PEERS = {
 
 
 # words that the second programs have too
-FURTHER = r"(?: --ports 2| --prefix long| --load \d+)*"
+FURTHER = r"(?: --ports [24]| --prefix long| --load \d+)*"
 
 
 def shown(page):
@@ -258,11 +266,21 @@ TWO_PORTS_FORMS = (
     ("evidence --ports 2 --json", TESTS + "evidence_of_cells.rt"),
     ("search --all --json", TESTS + "search_all.rt"),
 )
+FOUR_PORTS_FORMS = (
+    ("search --ports 4 --json", TESTS + "search_four_ports.rt"),
+    ("search --all", TESTS + "search_all.rt"),
+    ("evidence --ports 4 --json", TESTS + "evidence_of_cells.rt"),
+)
 LONG_PREFIX_FORMS = (
     ("search --prefix long --json", TESTS + "search_long_prefix.rt"),
     ("evidence --prefix long --json", TESTS + "evidence_of_cells.rt"),
 )
 SHOWN_FORMS = ("hits --json", "ids --json", "evidence --json", "search --cancel --json", "search --all")
+OTHER_CARRIERS = (
+    ("second_two_ports", "--ports 2"),
+    ("second_four_ports", "--ports 4"),
+    ("second_long_prefix", "--prefix long"),
+)
 CHANCE = "$PY peers/second_cell.py < examples/chance_line.json | $PY peers/second_evidence.py"
 # by hand
 SLOW_LOOKS = [
@@ -297,10 +315,11 @@ LOOKS = [
     ),
     *(
         Look(file, f"$PY peers/{peer}.py 90 | $PY peers/second_evidence.py {carrier}", lines_together)
-        for peer, carrier in (("second_two_ports", "--ports 2"), ("second_long_prefix", "--prefix long"))
+        for peer, carrier in OTHER_CARRIERS
         for file in ("crates/top_tests/src/evidence_of_cells.rt", "docs/FORMATS.md")
     ),
     Look("crates/list_tests/src/two_antenna_ports.rt", "$PY peers/second_pairs.py", pairs),
+    Look("crates/list_tests/src/four_antenna_ports.rt", "$PY peers/second_pairs.py --ports 4", pairs_in_order),
     Look(TRANSMISSIONS, "$PY peers/second_cell.py", table("ROW"), described(), False),
     Look(TRANSMISSIONS, "$PY peers/second_cell.py", table("TURNED"), described(**TURNED), False),
     Look(
@@ -325,6 +344,8 @@ SENT_FORMS = (
     ("LOADED", TURNED, "--load 4294967295"),
     ("TWO_PORTS", TWO_PORTS, "--ports 2"),
     ("LOADED_TWO_PORTS", TWO_PORTS, "--ports 2 --load 7"),
+    ("FOUR_PORTS", FOUR_PORTS, "--ports 4"),
+    ("LOADED_FOUR_PORTS", FOUR_PORTS, "--ports 4 --load 3735928559"),
     ("LONG_PREFIX", LONG_PREFIX, "--prefix long"),
     ("LOADED_LONG_PREFIX", LONG_PREFIX, "--prefix long --load 2863311530"),
 )
@@ -335,13 +356,15 @@ LOOKS += [
 LOOKS += [*shown("README.md"), *shown("docs/FORMATS.md")]
 LOOKS += of_forms("$PY peers/second_cell.py < examples/plain_cell.json", PLAIN_FORMS)
 LOOKS += of_forms("$PY peers/second_two_ports.py 90", TWO_PORTS_FORMS)
+LOOKS += of_forms("$PY peers/second_four_ports.py 90", FOUR_PORTS_FORMS)
 LOOKS += of_forms("$PY peers/second_long_prefix.py 90", LONG_PREFIX_FORMS)
 LOOKS += of_forms("cat ../crates/capture_example/stdin", [(words, "docs/FORMATS.md") for words in SHOWN_FORMS])
 LOOKS += of_forms("cat ../crates/lte_tune/stdin", [("tell --json", "docs/FORMATS.md")])
 for n in ("0", "7", "4294967221"):
     LOOKS += [
         Look("crates/sent_tests/src/made_recordings.rt", f"$PY peers/second_make.py -i {n}", of_one_port(n)),
-        Look("crates/sent_tests/src/two_antenna_ports.rt", f"$PY peers/second_two_ports.py -i {n}", of_two_ports(n)),
+        Look("crates/sent_tests/src/two_antenna_ports.rt", f"$PY peers/second_two_ports.py -i {n}", of_ports(n)),
+        Look("crates/sent_tests/src/four_antenna_ports.rt", f"$PY peers/second_four_ports.py -i {n}", of_ports(n)),
         Look("crates/list_tests/src/extended_prefix.rt", f"$PY peers/second_long_prefix.py -i {n}", of_long_prefix(n)),
     ]
 

@@ -1,20 +1,20 @@
 #!/usr/bin/python3
-"""second_cell.py [--ports 2 | --prefix long] [--load N] < DESCRIPTION > RECORDING
+"""second_cell.py [--ports 2 | --ports 4 | --prefix long] [--load N] < DESCRIPTION > RECORDING
 
 A second transmitter: whole frames of a cell of 6 resource blocks, in the form of a recording (docs/FORMATS.md).
 Reference and synchronisation signals and PBCH; where `sib1` is described, PCFICH in every subframe, and in subframe 5
 of frames of even number PDCCH and PDSCH with SystemInformationBlockType1. With --ports 2 there are two antenna ports
-with transmit diversity, each with a gain of its own; with --prefix long the cyclic prefix is extended, and no system
-information is sent. With --load N, of 32 bits, there are points of QPSK at the places that the plan leaves open. Tables
-and sequences are those of second_search.py; what codes, maps and sends stands here, from TS 36.211, 36.212, 36.213 and
-36.331.
+with transmit diversity, each with a gain of its own, with --ports 4 four; with --prefix long the cyclic prefix is
+extended; with both of these no control region and no system information are sent. With --load N, of 32 bits, there are
+points of QPSK at the places that the plan leaves open. Tables and sequences are those of second_search.py; what codes,
+maps and sends stands here, from TS 36.211, 36.212, 36.213 and 36.331.
 
-The description is JSON: the keys of `transmit`, with two ports `gain2` too, then, all or none, `cfi`, `start`,
-`blocks`, `mcs`, `column` and `sib1`. Of a key that is written twice the last value stands. For trials there are
-`control` (21 bits, sent in place of the grant), `block` (a transport block in hexadecimal, in place of the text),
-`noise` (the greatest error of a component, drawn by the identity) and `traffic` (the greatest size of the elements, 1
-to 256, that are sent where the cell sends nothing that is read, but not beside the synchronisation signals, as the
-traffic of a live cell; drawn by the identity, the frame's number and the port). In Bash:
+The description is JSON: the keys of `transmit`, with two ports `gain2` too, with four `gain2` to `gain4`, then, all or
+none, `cfi`, `start`, `blocks`, `mcs`, `column` and `sib1`. Of a key that is written twice the last value stands. For
+trials there are `control` (21 bits, sent in place of the grant), `block` (a transport block in hexadecimal, in place of
+the text), `noise` (the greatest error of a component, drawn by the identity) and `traffic` (the greatest size of the
+elements, 1 to 256, that are sent where the cell sends nothing that is read, but not beside the synchronisation signals,
+as the traffic of a live cell; drawn by the identity, the frame's number and the port). In Bash:
 
     D='"identity": 0, "sfn": 0, "offset": 0, "samples": 57600, "gain": [20, 9],
        "duration": "normal", "resource": "one", "spare": 0, "cfi": 2, "start": 0, "blocks": 6, "mcs": 4, "column": 2,
@@ -28,8 +28,10 @@ traffic of a live cell; drawn by the identity, the frame's number and the port).
     # another identity and PHICH, and a frame of odd number at the start
     scripts/peers/second_cell.py <<< "{$D, \"identity\": 301, \"sfn\": 1022, \"offset\": 7000, \"cfi\": 3, \"mcs\": 5,
                                 \"column\": 3, \"duration\": \"extended\", \"resource\": \"two\"}"
-    # two ports, and every open place taken
+    # two ports, and four, and every open place taken
     scripts/peers/second_cell.py --ports 2 --load 7 <<< "{$D, \"gain\": [8, 7], \"gain2\": [7, -7]}"
+    scripts/peers/second_cell.py --ports 4 --load 7 <<< "{$D, \"gain\": [6, 3], \"gain2\": [0, -7], \"gain3\": [5, 5],
+                                \"gain4\": [-6, 4]}"
     # refused: another size is granted than is sent, not-decoded; a digit of 11, bad-fields 10
     scripts/peers/second_cell.py <<< "{$D, \"control\": \"100101100101000000000\"}"
     scripts/peers/second_cell.py <<< "{$D, \"block\": \"406c04030001000000180000000000\"}"
@@ -176,22 +178,22 @@ def drawn(size, count, *seed):
 
 
 class Frame:
-    """What the one antenna port of a cell sends in a frame, with the normal cyclic prefix."""
+    """What an antenna port of a cell sends in a frame; here the only one, with the normal cyclic prefix."""
 
+    PORTS = 1
     SYMBOLS, PREFIXES = 7, (10, 9, 9, 9, 9, 9, 9)  # of a slot
     N_CP = 1  # of its reference signals (TS 36.211 section 6.10.1.1)
     BLOCK, KEPT = 1920, (0, 1)  # bits of PBCH, and its symbols in which reference places of four ports are kept
     MASK = 0  # of the master block's check, with one antenna port (TS 36.212 section 5.3.1.1)
     HAS_CONTROL = True
-    port, gain_key = 0, "gain"
 
-    def __init__(self, cell, sfn):
-        self.cell, self.sfn, self.identity = cell, sfn, cell["identity"]
+    def __init__(self, cell, sfn, port=0):
+        self.cell, self.sfn, self.identity, self.port = cell, sfn, cell["identity"], port
         self.grid = np.zeros((20 * self.SYMBOLS, 72, 2), np.int64)
         self.taken = np.zeros((20 * self.SYMBOLS, 72), bool)
         for slot in range(20):
-            for l, v in ((0, 0), (self.SYMBOLS - 3, 3)):
-                self.references(slot, l, v)
+            for any_port in range(self.PORTS):
+                self.references(slot, any_port)
 
     def put(self, places, values):
         for (l, k), value in zip(places, values):
@@ -201,14 +203,20 @@ class Frame:
         """The points of a channel: with one antenna port they are sent as they are."""
         self.put(places, values)
 
-    def put_references(self, slot, l, v, values):
-        """TS 36.211 section 6.10.1.2."""
-        self.put([(self.SYMBOLS * slot + l, 6 * m + (v + self.identity) % 6) for m in range(12)], values)
-
-    def references(self, slot, l, v):
-        self.put_references(slot, l, v, reference(self.identity, slot, l, self.N_CP))
+    def references(self, slot, port):
+        """TS 36.211 section 6.10.1.2: the port's own; of another port nothing at their places."""
+        if port < 2:
+            shifts = (0, 3 * port), (self.SYMBOLS - 3, 3 - 3 * port)
+        else:
+            shifts = ((1, 3 * (port - 2) + 3 * (slot % 2)),)
+        for l, v in shifts:
+            values = reference(self.identity, slot, l, self.N_CP) if port == self.port else [(0, 0)] * 12
+            self.put([(self.SYMBOLS * slot + l, 6 * m + (v + self.identity) % 6) for m in range(12)], values)
 
     def synchronisation(self):
+        """Port 0 alone sends it."""
+        if self.port != 0:
+            return
         n1, n2 = divmod(self.identity, 3)
         for half, slot in ((0, 0), (5, 10)):
             last = self.SYMBOLS * (slot + 1) - 1
@@ -313,37 +321,45 @@ class Frame:
             self.load(self.cell["load"])
         if "traffic" in self.cell:
             self.traffic(self.cell["traffic"], taken)
-        (re, im), (a, b) = np.moveaxis(self.grid, 2, 0), self.cell[self.gain_key]
+        (re, im), (a, b) = np.moveaxis(self.grid, 2, 0), self.cell[("gain", "gain2", "gain3", "gain4")[self.port]]
         wave = np.stack([rounded(re @ W_REAL - im @ W_IMAG, 17), rounded(re @ W_IMAG + im @ W_REAL, 17)], 2)
         prefixes = [symbol[-self.PREFIXES[i % self.SYMBOLS] :] for i, symbol in enumerate(wave)]
         x, y = np.concatenate([part for pair in zip(prefixes, wave) for part in pair]).T
         return np.stack([a * x - b * y, a * y + b * x], 1)
 
 
-class FirstFrame(Frame):
-    """What port 0 of two sends: nothing at the reference places of port 1, three subcarriers on."""
+class FrameOfTwo(Frame):
+    """Of two ports: transmit diversity (TS 36.211 sections 6.3.3.3 and 6.3.4.3) without its factor."""
 
+    PORTS = 2
     MASK = 0xFFFF
 
-    def references(self, slot, l, v):
-        super().references(slot, l, v + 3 * self.port)
-        self.put_references(slot, l, v + 3 - 3 * self.port, [(0, 0)] * 12)
-
-
-class SecondFrame(FirstFrame):
-    """What port 1 of two sends: transmit diversity (TS 36.211 sections 6.3.3.3 and 6.3.4.3) without its factor, and no
-    synchronisation signals."""
-
-    port, gain_key = 1, "gain2"
-
     def send(self, places, values):
-        """Two by two: where port 0 has x and y, -conj y and conj x."""
+        """Two by two, so that the number of a pair is that of its layers by two."""
         for i in range(0, min(len(places), len(values)), 2):
-            (x_re, x_im), (y_re, y_im) = values[i], values[i + 1]
-            self.put(places[i : i + 2], [(-y_re, y_im), (x_re, -x_im)])
+            self.put(places[i : i + 2], self.pair(i // 2, *values[i : i + 2]))
 
-    def synchronisation(self):
-        pass
+    def pair(self, _, x, y):
+        """Port 0 sends both, port 1 beside it -conj y and conj x."""
+        return (x, y) if self.port == 0 else crosswise(x, y)
+
+
+class FrameOfFour(FrameOfTwo):
+    """Of four ports, without control region and system information."""
+
+    PORTS = 4
+    MASK = 0x5555
+    HAS_CONTROL = False
+
+    def pair(self, number, x, y):
+        """Pairs of even number go over ports 0 and 2 as over two ports, those of odd number over ports 1 and 3."""
+        if number % 2 != self.port % 2:
+            return (0, 0), (0, 0)
+        return (x, y) if self.port < 2 else crosswise(x, y)
+
+
+def crosswise(x, y):
+    return (-y[0], y[1]), (x[0], -x[1])
 
 
 class LongFrame(Frame):
@@ -357,27 +373,28 @@ class LongFrame(Frame):
 
 # ---- recordings
 
-PORTS = {"one": (Frame,), "two": (FirstFrame, SecondFrame), "long": (LongFrame,)}
+CARRIERS = {"one": Frame, "two": FrameOfTwo, "four": FrameOfFour, "long": LongFrame}
 
 
 def sent(cell, carrier="one"):
     """The samples of a described cell: what its antenna ports send, added."""
     numbers = [(cell["sfn"] + j) % 1024 for j in range(-(-(cell["offset"] + cell["samples"]) // 19_200))]
-    ports = [np.concatenate([frame(cell, sfn).samples() for sfn in numbers]) for frame in PORTS[carrier]]
+    frame = CARRIERS[carrier]
+    ports = [np.concatenate([frame(cell, sfn, port).samples() for sfn in numbers]) for port in range(frame.PORTS)]
     return sum(ports)[cell["offset"] :][: cell["samples"]]
 
 
 def main():
     words = argparse.ArgumentParser(usage=__doc__)
     carrier = words.add_mutually_exclusive_group()
-    carrier.add_argument("--ports", choices=["2"])
+    carrier.add_argument("--ports", choices=["2", "4"])
     carrier.add_argument("--prefix", choices=["long"])
     words.add_argument("--load", type=int)
     told = words.parse_args()
     cell = json.load(sys.stdin)
     if told.load is not None:
         cell["load"] = told.load
-    samples = sent(cell, "two" if told.ports else told.prefix or "one")
+    samples = sent(cell, {"2": "two", "4": "four"}.get(told.ports) or told.prefix or "one")
     if "noise" in cell:
         draw, bound = random.Random(cell["identity"]), cell["noise"]
         samples = samples + np.array([draw.randint(-bound, bound) for _ in range(samples.size)]).reshape(samples.shape)

@@ -1,5 +1,5 @@
 #!/usr/bin/python3
-"""second_evidence.py [--ports 2 | --prefix long] < RECORDING
+"""second_evidence.py [--ports 2 | --ports 4 | --prefix long] < RECORDING
 
 A second program for `lte_cli evidence`, written from rule 13 of docs/DEFINITION.md and what it says of it for the lists
 by other rules: it prints what that prints. Hits, identities, values, least words and the lists are those of
@@ -20,9 +20,9 @@ from second_search import (
     identity,
     least,
     listed,
+    pilots_of,
     pseudo_random,
     recording,
-    reference,
     seen,
     times_conjugate,
     wave,
@@ -72,17 +72,13 @@ def read(r, entry, rule):
 
 
 def pilots(r, entry, j, rule):
-    """Of each antenna port what was seen at the 24 reference places of slot 1, and the pilots, by subcarrier."""
+    """Of each antenna port what was seen at the 24 or 12 reference places of slot 1, and the pilots, by subcarrier."""
     start, cell, *_ = entry
-    first, later = 0, rule.later
-    symbols = {l: seen(r, start + FRAME * j + 960 + rule.first + rule.step * l) for l in (first, later)}
-    found = []
-    for port in range(rule.ports):
-        places = [(first if k % 6 == (cell + 3 * port) % 6 else later, k) for k in range(cell % 3, 72, 3)]
-        there = [tuple(int(x) for x in symbols[l][k]) for l, k in places]
-        sent = [reference(cell, 1, l, rule.n_cp)[k // 6] for l, k in places]
-        found.append((there, [times_conjugate(x, value) for x, value in zip(there, sent)]))
-    return found
+    symbols = [
+        [(int(a), int(b)) for a, b in seen(r, start + FRAME * j + 960 + rule.first + rule.step * l)]
+        for l in range(rule.later + 1)
+    ]
+    return [pilots_of(symbols, cell, 1, port, rule) for port in range(rule.ports)]
 
 
 def line(r, told, entry, rule):
@@ -90,7 +86,7 @@ def line(r, told, entry, rule):
     t = min(t for t, place in told if place == (cell, start))
     frames, j, phase, cost, total = read(r, entry, rule)
     ports = pilots(r, entry, j, rule)
-    power = sum(a * a + b * b for there, _ in ports for a, b in there)
+    power = sum(24 // len(there) * (a * a + b * b) for there, _ in ports for a, b in there)
     steps = [pair for _, its in ports for pair in zip(its, its[1:])]
     noise = sum((a - c) ** 2 + (b - d) ** 2 for (a, b), (c, d) in steps) // (2 * 16_200)
     return (

@@ -5,8 +5,8 @@ A second program for what stands in docs/FORMATS.md for these words: it prints w
 the last ones.
 
     hits --json, ids --json
-    evidence [--ports 2 | --prefix long] --json
-    search [--ports 2 | --prefix long | --cancel | --all] --json
+    evidence [--ports 2 | --ports 4 | --prefix long] --json
+    search [--ports 2 | --ports 4 | --prefix long | --cancel | --all] --json
     search --all
     tell --json
 
@@ -21,9 +21,9 @@ import sys
 import second_cancel
 import second_evidence
 import tune_reference
-from second_search import FRAME, RULES, hits, identity, list_lines, listed, recording
+from second_search import FRAME, RULES, hits, identity, list_lines, listed, ranked, recording
 
-NAMES = dict(zip(RULES, ("one-port", "two-ports", "long-prefix")))
+NAMES = dict(zip(RULES, ("one-port", "two-ports", "long-prefix", "four-ports")))
 
 
 def by_names(words):
@@ -52,8 +52,17 @@ def of_ids(r):
     for value in of_hits(r):
         cell, start = identity(r, value["t"], value["n2"])
         half = 0 if (value["t"] - 832) % FRAME == start else 5
-        found.append({**value, "identity": cell, "subframe": half, "at": start})
+        two = {"secondary": two_best(r, value["t"], value["n2"])}
+        found.append({**value, **two, "identity": cell, "subframe": half, "at": start})
     return found
+
+
+def two_best(r, t, n2):
+    """The best and the second of all groups and halves."""
+    return {
+        name: {"group": n1, "subframe": half, "score": score}
+        for name, (score, half, n1) in zip(("best", "second"), ranked(r, t, n2))
+    }
 
 
 # ---- lists, by their lines

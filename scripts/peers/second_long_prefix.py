@@ -16,7 +16,7 @@ import sys
 import numpy as np
 
 from second_cell import sent
-from second_make import bound, recipe, with_errors
+from second_make import bound, command, recipe, with_errors
 
 
 def recording(n, **keys):
@@ -36,22 +36,16 @@ def spoiled(n, most):
     return np.clip(samples, -32_768, 32_767)
 
 
+def heading_of(n):
+    real, imag = recipe(n)["gain"]
+    return f"gain {real} {imag} bound {bound(recipe(n))}"
+
+
 def main():
     if sys.argv[1] == "--spoiled":
         sys.stdout.buffer.write(spoiled(int(sys.argv[3]), int(sys.argv[2])).astype("<i2").tobytes())
         return
-    told = sys.argv[1] == "-i"
-    n, *rest = map(int, sys.argv[1 + told :])
-    samples = recording(n)
-    if not told:
-        sys.stdout.buffer.write(samples.astype("<i2").tobytes())
-        return
-    first, count = rest + [0, 8][len(rest) :]
-    print("gain", *recipe(n)["gain"], "bound", bound(recipe(n)), "samples", len(samples))
-    places = np.arange(1, len(samples) + 1).reshape(-1, 1)
-    print("sums", *samples.sum(0), "weighted", *(samples * (places % 1_000)).sum(0))
-    for i in range(first, first + count):
-        print(i, *samples[i])
+    command(sys.argv[1:], recording, heading_of)
 
 
 if __name__ == "__main__":

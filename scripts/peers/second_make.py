@@ -94,22 +94,27 @@ def recording(n, **keys):
     return with_errors(sent(cell), n, bound(cell))
 
 
-def main():
-    told = sys.argv[1] == "-i"
-    n, *rest = map(int, sys.argv[1 + told :])
-    samples = recording(n)
+def command(words, made, heading):
+    """Writes the recording of a number, or with -i its heading, sums and some samples."""
+    told = words[0] == "-i"
+    n, *rest = map(int, words[told:])
+    samples = made(n)
     if not told:
         sys.stdout.buffer.write(samples.astype("<i2").tobytes())
         return
     first, count = rest + [0, 8][len(rest) :]
-    words = Pcg32(n, 1)
-    print("words", *(f"{words.next_word():08x}" for _ in range(6)))
-    print("bound", bound(recipe(n)), "samples", len(samples))
+    print(heading(n), "samples", len(samples))
     places = np.arange(1, len(samples) + 1).reshape(-1, 1)
     print("sums", *samples.sum(0), "weighted", *(samples * (places % 1_000)).sum(0))
     for i in range(first, first + count):
         print(i, *samples[i])
 
 
+def heading_of(n):
+    words = Pcg32(n, 1)
+    front = " ".join(f"{words.next_word():08x}" for _ in range(6))
+    return f"words {front}\nbound {bound(recipe(n))}"
+
+
 if __name__ == "__main__":
-    main()
+    command(sys.argv[1:], recording, heading_of)

@@ -1,13 +1,15 @@
 #!/usr/bin/python3
-"""second_search.py [--ports 2 | --prefix long] [why] < RECORDING
+"""second_search.py [--ports 2 | --ports 4 | --prefix long] [why] < RECORDING
 
 A second program for the lists, written from docs/DEFINITION.md and the standard (rule 11 also with definitions that it
 names in view), which shares nothing with the repository's code. It prints what `lte_cli search` prints, with the words
-of another rule what `lte_cli search` prints with them. With `why` it says on standard error what it finds on the way: each hit, the identity that it tells, and of the frames that are read
-together at each phase the cost, the total and the antenna ports whose check passes (0: none); then, of each cell and
-each frame of even number that is tried, how far rule 11 comes in it, and why it stops. Slow: seconds for each hit.
+of another rule what `lte_cli search` prints with them. With `why` it says on standard error what it finds on the way:
+each hit, the identity that it tells, and of the frames that are read together at each phase the cost, the total and the
+antenna ports whose check passes (0: none); then, of each cell and each frame of even number that is tried, how far rule
+11 comes in it, and why it stops. Slow: seconds for each hit.
 Debian: python3-numpy. Recordings: second_cell.py.
 """
+import functools
 import sys
 from typing import NamedTuple
 
@@ -55,13 +57,19 @@ class Rule(NamedTuple):
     beside: tuple = (0, 1)  # the broadcast channel's symbols of slot 1 that leave out reference places
     size: int = 480  # values of a frame's broadcast channel
     taken: tuple = (1, 2, 4)
-    has_system: bool = True
+    unread: str = ""  # why system information is not read, where it is not
 
 
 ONE_PORT = Rule()
 TWO_PORTS = Rule(ports=2, taken=(2,))
-LONG_PREFIX = Rule(first=32, step=160, symbols=6, later=3, n_cp=0, beside=(0, 1, 3), size=432, has_system=False)
-RULES = {(): ONE_PORT, ("--ports", "2"): TWO_PORTS, ("--prefix", "long"): LONG_PREFIX}
+LONG_PREFIX = Rule(first=32, step=160, symbols=6, later=3, n_cp=0, beside=(0, 1, 3), size=432, unread="long-prefix")
+FOUR_PORTS = Rule(ports=4, taken=(4,), unread="ports 4")
+RULES = {
+    (): ONE_PORT,
+    ("--ports", "2"): TWO_PORTS,
+    ("--prefix", "long"): LONG_PREFIX,
+    ("--ports", "4"): FOUR_PORTS,
+}
 
 
 # ---- tables and rounding
@@ -124,8 +132,14 @@ def metrics(r):
 
 def hits(r):
     """Pairs of place and N2."""
+    return hits_in(r[: 19_346 + 127].tobytes())
+
+
+@functools.lru_cache(1)
+def hits_in(front):
+    """Those of the samples that decide them."""
     found = []
-    energy, by_n2 = metrics(r)
+    energy, by_n2 = metrics(np.frombuffer(front, np.int64).reshape(-1, 2))
     for n2, (power, peak) in enumerate(by_n2):
 
         def rules_out(other, i):
@@ -169,19 +183,24 @@ def secondary(n1, n2, half):
     ]
 
 
-def identity(r, t, n2, rule=ONE_PORT):
-    """The identity that a hit tells, and the start of its frames."""
+def ranked(r, t, n2, rule=ONE_PORT):
+    """All groups and halves with the scores that a hit gives them, the best first: score, half, group."""
     (a, b), (p, q) = seen(r, t)[5:67].T, primary(n2).T
     channel = a * p + b * q, b * p - a * q
     c, e = seen(r, t - rule.step)[5:67].T
     agreement = [int(x) for x in c * channel[0] + e * channel[1]]
     scores = [
-        (sum(s * x for s, x in zip(secondary(n1, n2, half), agreement)), -half, -n1)
+        (sum(s * x for s, x in zip(secondary(n1, n2, half), agreement)), half, n1)
         for half in (0, 5)
         for n1 in range(168)
     ]
-    _, half, n1 = max(scores)
-    return 3 * -n1 + n2, (t - (10_432 if half else 832)) % FRAME
+    return sorted(scores, key=lambda row: (-row[0], row[1], row[2]))
+
+
+def identity(r, t, n2, rule=ONE_PORT):
+    """The identity that a hit tells, and the start of its frames."""
+    _, half, n1 = ranked(r, t, n2, rule)[0]
+    return 3 * n1 + n2, (t - (10_432 if half else 832)) % FRAME
 
 
 # ---- soft values
@@ -206,15 +225,32 @@ def times_conjugate(a, b):
     return a[0] * b[0] + a[1] * b[1], a[1] * b[0] - a[0] * b[1]
 
 
-def channel(pilots, offset):
-    """At so many subcarriers after the first pilot."""
+def reference_places(cell, slot, port, rule=ONE_PORT):
+    """Symbol and subcarrier of a port's reference signals, by subcarrier (TS 36.211 section 6.10.1.2)."""
+    if port < 2:
+        return [(0 if k % 6 == (cell + 3 * port) % 6 else rule.later, k) for k in range(cell % 3, 72, 3)]
+    return [(1, k) for k in range((3 * (port - 2) + 3 * (slot % 2) + cell) % 6, 72, 6)]
+
+
+def pilots_of(symbols, cell, slot, port, rule=ONE_PORT):
+    """What was seen at these places, and the pilots."""
+    places = reference_places(cell, slot, port, rule)
+    sent = {l: reference(cell, slot, l, rule.n_cp) for l, _ in places}
+    there = [symbols[l][k] for l, k in places]
+    return there, [times_conjugate(x, sent[l][k // 6]) for x, (l, k) in zip(there, places)]
+
+
+def channel(pilots, first, k):
+    """The line through the pilots, which begin there, at a subcarrier: as many times as they are subcarriers apart."""
+    step = 72 // len(pilots)
     pilots = pilots[:1] + pilots + pilots[-1:]
-    i, r = divmod(offset + 3, 3)
-    return tuple((3 - r) * x + r * y for x, y in zip(pilots[i], pilots[i + 1]))
+    i, r = divmod(k - first + step, step)
+    return tuple((step - r) * x + r * y for x, y in zip(pilots[i], pilots[i + 1]))
 
 
 class Row(NamedTuple):
-    """A symbol of a slot as it was seen, the channel of each antenna port by subcarrier, and the energy of the pilots."""
+    """A symbol of a slot as it was seen, the channel of each antenna port by subcarrier, and the energy of the pilots.
+    The channels are three times what the pilots say, with four ports six times."""
 
     seen: list
     channels: list
@@ -227,14 +263,19 @@ def slot_values(r, frame, cell, slot, rule=ONE_PORT):
         [(int(a), int(b)) for a, b in seen(r, frame + 960 * slot + rule.first + rule.step * l)]
         for l in range(rule.symbols)
     ]
-    sent = {l: reference(cell, slot, l, rule.n_cp) for l in (0, rule.later)}
     channels, energy = [], 0
     for port in range(rule.ports):
-        places = [(0 if k % 6 == (cell + 3 * port) % 6 else rule.later, k) for k in range(cell % 3, 72, 3)]
-        pilots = [times_conjugate(symbols[l][k], sent[l][k // 6]) for l, k in places]
-        channels.append([channel(pilots, k - cell % 3) for k in range(72)])
-        energy += sum(x * x for l, k in places for x in symbols[l][k])
+        there, pilots = pilots_of(symbols, cell, slot, port, rule)
+        _, first = reference_places(cell, slot, port, rule)[0]
+        times = scale_of(rule) * len(pilots) // 72  # 2 for the first two ports of four, else 1
+        channels.append([tuple(times * x for x in channel(pilots, first, k)) for k in range(72)])
+        energy += 24 // len(pilots) * sum(x * x for place in there for x in place)
     return [Row(symbol, channels, energy) for symbol in symbols]
+
+
+def scale_of(rule):
+    """How many times the channel the estimates are."""
+    return 6 if rule.ports == 4 else 3
 
 
 def soft(part, energy):
@@ -242,9 +283,8 @@ def soft(part, energy):
     return size if part > 0 else -size
 
 
-def pair_parts(row, k, a, b):
-    """What stands for the two points that both ports send at two places (TS 36.211 section 6.3.4.3 read backward)."""
-    h, g = (its[k] for its in row.channels)
+def pair_parts(h, g, a, b):
+    """What stands for the two points that two ports send at two places (TS 36.211 section 6.3.4.3 read backward)."""
     first, second = times_conjugate(a, h), times_conjugate(b, h)
     third, fourth = times_conjugate(g, b), times_conjugate(g, a)
     return [first[0] + third[0], first[1] + third[1], second[0] - fourth[0], second[1] - fourth[1]]
@@ -252,15 +292,16 @@ def pair_parts(row, k, a, b):
 
 def values_at(symbols, places, scrambling=None):
     """The values of places, which are pairs of symbol and subcarrier, by the bits before scrambling."""
-    values = []
-    if len(symbols[0].channels) == 1:
+    values, count = [], len(symbols[0].channels) // 2
+    if count == 0:
         for l, k in places:
             row = symbols[l]
             values += [soft(part, row.energy) for part in times_conjugate(row.seen[k], row.channels[0][k])]
     else:
-        for (l, k), (m, j) in zip(places[0::2], places[1::2]):
+        for i, ((l, k), (m, j)) in enumerate(zip(places[0::2], places[1::2])):
             row = symbols[l]
-            values += [soft(part, row.energy) for part in pair_parts(row, k, row.seen[k], symbols[m].seen[j])]
+            h, g = (its[k] for its in row.channels[i % count :: count])  # of four: 0 and 2, then 1 and 3
+            values += [soft(part, row.energy) for part in pair_parts(h, g, row.seen[k], symbols[m].seen[j])]
     return values if scrambling is None else [-value if bit else value for value, bit in zip(values, scrambling)]
 
 
@@ -526,8 +567,8 @@ def attempt(r, frame, cell, extended, resource, trace, rule):
 
 def system_lines(r, entry, say, rule=ONE_PORT):
     start, cell, sfn, ports, block = entry
-    if not rule.has_system:
-        return "sib1 none long-prefix"
+    if rule.unread:
+        return f"sib1 none {rule.unread}"
     if ports != rule.ports or block >> 21:
         return "sib1 none " + (f"ports {ports}" if ports != rule.ports else f"bandwidth {WIDTHS[block >> 21]}")
     say(f"cell {cell} at {start}")

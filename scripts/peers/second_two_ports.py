@@ -11,10 +11,8 @@ Debian: python3-numpy.
 """
 import sys
 
-import numpy as np
-
 from second_cell import sent
-from second_make import recipe, with_errors
+from second_make import command, recipe, with_errors
 
 
 def gains(n):
@@ -36,20 +34,10 @@ def recording(n, **keys):
     return with_errors(sent(cell, "two"), n, bound(n))
 
 
-def main():
-    told = sys.argv[1] == "-i"
-    n, *rest = map(int, sys.argv[1 + told :])
-    samples = recording(n)
-    if not told:
-        sys.stdout.buffer.write(samples.astype("<i2").tobytes())
-        return
-    first, count = rest + [0, 8][len(rest) :]
-    print("gains", *gains(n), "bound", bound(n), "samples", len(samples))
-    places = np.arange(1, len(samples) + 1).reshape(-1, 1)
-    print("sums", *samples.sum(0), "weighted", *(samples * (places % 1_000)).sum(0))
-    for i in range(first, first + count):
-        print(i, *samples[i])
+def heading_of(n):
+    first, second = gains(n)
+    return f"gains {first} {second} bound {bound(n)}"
 
 
 if __name__ == "__main__":
-    main()
+    command(sys.argv[1:], recording, heading_of)

@@ -41,7 +41,7 @@ sys.path.append(str(machine.TOP / "scripts/peers"))
 import second_cell
 import second_search as second
 
-RULES = {"one-port": second.ONE_PORT, "two-ports": second.TWO_PORTS, "long-prefix": second.LONG_PREFIX}
+RULES = {name: second.RULES[words] for name, (words, _) in survey.CARRIERS.items()}
 BAND = 540  # kilohertz on either side that six resource blocks take
 COLOURS = ("#1f6fb4", "#d9731a", "#2f8f4e", "#8a4fb0", "#b8383d", "#5c6670")
 WIDTH = 12  # inches, at 100 dots
@@ -264,22 +264,22 @@ def draw_points(ax, values):
     ax.set_aspect("equal", anchor="W")
 
 
-def draw_channel(ax, view, symbols, identity):
+def draw_channel(ax, view, symbols, identity, rule=second.ONE_PORT):
     """Size and phase of the channel at the places of the reference signals, of each antenna port."""
-    phases = ax.twinx()
-    for port, channel in enumerate(symbols[0].channels):
-        places = range(identity % 3, 72, 3)
-        pilots = np.array([complex(*channel[k]) / 3 for k in places])
+    phases, seen = ax.twinx(), [row.seen for row in symbols]
+    for port in range(rule.ports):
+        places = [k for _, k in second.reference_places(identity, 1, port, rule)]
+        pilots = np.array([complex(*pilot) for pilot in second.pilots_of(seen, identity, 1, port, rule)[1]])
         kilohertz = [15 * second.FREQUENCY[k] for k in places]
         size = 20 * np.log10(np.abs(pilots) / np.hypot(90, 90) / (512 * view.full) + 1e-12)
-        line, dots = ("-o", "--s")[port], "ox"[port]
-        name = f"port {port}, " if len(symbols[0].channels) > 1 else ""
+        line, dots = ("-o", "--s", "-.^", ":d")[port], "ox^d"[port]
+        name = f"port {port}, " if rule.ports > 1 else ""
         ax.plot(kilohertz, size, line, ms=2.5, lw=1, color=COLOURS[0], label=f"{name}size")
         phases.plot(kilohertz, np.degrees(np.angle(pilots)), dots, ms=3, mfc="none", color=COLOURS[1])
         ax.plot([], [], dots, ms=3, mfc="none", color=COLOURS[1], label=f"{name}phase")
     low, high = ax.get_ylim()
     middle, reach = (low + high) / 2, max(6, (high - low) / 2)
-    above = 1.6 if len(symbols[0].channels) == 1 else 2.2  # for one line of names or two
+    above = {1: 1.6, 2: 2.2, 4: 3.4}[rule.ports]  # for the lines of names, one a port
     ax.set(xlim=(-BAND, BAND), ylim=(middle - reach, middle + above * reach))
     ax.set(xlabel="kHz", xticks=range(-450, 451, 150))
     ax.set_ylabel("size, dBFS", color=COLOURS[0])
@@ -314,7 +314,7 @@ def draw_cell(figure, view, line):
     points, channel, values, text = row_of_axes(figure)
     draw_points(points, second.broadcast_values(view.samples, identity, at, reading.frame, rule))
     points.set_title(f"PCI {identity}: broadcast channel")
-    draw_channel(channel, view, second.slot_values(view.samples, start, identity, 1, rule), identity)
+    draw_channel(channel, view, second.slot_values(view.samples, start, identity, 1, rule), identity, rule)
     channel.set_title("Channel, at the reference signals of slot 1")
     draw_values(values, reading)
     values.set_title(f"Master block: {reading.cost:,} of {reading.total:,} against it")

@@ -43,7 +43,13 @@ FEW = 1_000  # a total of values that are nearly all 0
 
 
 # the words behind `evidence` for the list of a rule, and the antenna ports whose reference signals its numbers are of
-CARRIERS = {"one-port": ((), 1), "two-ports": (("--ports", "2"), 2), "long-prefix": (("--prefix", "long"), 1)}
+CARRIERS = {
+    "one-port": ((), 1),
+    "two-ports": (("--ports", "2"), 2),
+    "long-prefix": (("--prefix", "long"), 1),
+    "four-ports": (("--ports", "4"), 4),
+}
+READ_BY = {1: "one-port", 2: "two-ports", 4: "four-ports"}  # the rule that reads so many antenna ports
 
 
 # ---- what the programs say of a window
@@ -145,7 +151,7 @@ def add_line(found, new):
 
 def tells(line):
     """How much a line tells: SIB1, else a master block of the antenna ports that its rule reads."""
-    return "none" not in line["sib1"], line["rule"] == {2: "two-ports"}.get(line["ports"], "one-port")
+    return "none" not in line["sib1"], line["rule"] == READ_BY[line["ports"]]
 
 
 # ---- the offset along the file

@@ -39,7 +39,9 @@ for samples in 57600 1920000; do
     head -c $((4 * samples)) /dev/zero > zeros.$samples
     noise $samples > noise.$samples
     describe 271 5000 $samples > cell.$samples.json
-    sed 's/"gain": \[14, 0\]/&, "gain2": [0, 14]/' cell.$samples.json > ports.$samples.json
+    sed 's/"gain": \[14, 0\]/&, "gain2": [0, 14]/' cell.$samples.json > ports2.$samples.json
+    sed 's/"gain": \[14, 0\]/"gain": [7, 0], "gain2": [0, 7], "gain3": [0, -7], "gain4": [-7, 0]/' \
+        cell.$samples.json > ports4.$samples.json
     "$program" transmit < cell.$samples.json > cell.$samples
     describe 102 12345 $samples | "$program" transmit > further
     python3 "$scripts/tools/add_recordings.py" cell.$samples further > two.$samples
@@ -76,8 +78,9 @@ done
             echo "$command $recording 0 $what, ${recording#*.} samples"
         done
     done
-    for form in evidence{,+--ports+2,+--prefix+long} {hits,ids,evidence}+--json search{,+--ports+2,+--prefix+long,+--cancel,+--all}+--json \
-        search+{--ports+2,--prefix+long,--cancel,--all}; do
+    for form in evidence{,+--ports+2,+--prefix+long,+--ports+4} {hits,ids,evidence}+--json \
+        search{,+--ports+2,+--prefix+long,+--ports+4,+--cancel,+--all}+--json \
+        search+{--ports+2,--prefix+long,--ports+4,--cancel,--all}; do
         echo "$form cell.57600 0 one cell, 57600 samples"
     done
     echo 'check certificate.{} 0 one certificate'
@@ -87,8 +90,10 @@ done
         for form in transmit{,+--prefix+long}{,+--load+7}; do
             echo "$form cell.$samples.json 0 $samples samples"
         done
-        for form in transmit+--ports+2{,+--load+7}; do
-            echo "$form ports.$samples.json 0 $samples samples"
+        for ports in 2 4; do
+            for form in transmit+--ports+$ports{,+--load+7}; do
+                echo "$form ports$ports.$samples.json 0 $samples samples"
+            done
         done
     done
 } > cases

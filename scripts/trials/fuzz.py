@@ -219,7 +219,8 @@ class Inputs:
         if random.random() < 0.02:
             kind = random.choice(["recording", "description", "certificates"])
         if kind == "description":
-            data = fuzz_inputs.description(random, self.shown, "--ports" in words)
+            behind = dict(zip(words, words[1:])).get("--ports")
+            data = fuzz_inputs.description(random, self.shown, {"2": 2, "4": 4}.get(behind, 1))
         elif kind == "certificates":
             data = fuzz_inputs.certificates(random, self.certificates)
         else:

@@ -42,8 +42,14 @@ def spoiled(random, data):
 
 # ---- words
 
-RULES = (["--ports", "2"], ["--prefix", "long"], ["--cancel"], ["--all"])
-CARRIERS = ([], *RULES[:2])  # that `make`, `transmit`, `evidence` and `certify` take
+CARRIERS = (
+    [],
+    ["--ports", "2"],
+    ["--prefix", "long"],
+    ["--ports", "4"],
+)  # of `make`, `transmit`, `evidence`, `certify`
+LISTS = (["--cancel"], ["--all"])  # of `search` alone
+RULES = (*CARRIERS[1:], *LISTS)
 REPORTS = ("hits", "ids", "search", "evidence", "tell")  # that `--json` stands behind
 PAGES = ("help", "--help", "-h", "version", "--version")
 PAGE = "page"  # any of these
@@ -60,9 +66,9 @@ def words(random, command):
         return [random.choice(PAGES)] + random.choices([[], ["help"], ["--json"]], [94, 3, 3])[0]
     if command == "make":
         number = str(random.choice([0, 90, 2**32 - 46, 90 * random.randrange(10**6)]))
-        return ["make", number] + random.choices([[], *RULES], [70, 14, 14, 1, 1])[0]
+        return ["make", number] + random.choices([*CARRIERS, *LISTS], [56, 14, 14, 14, 1, 1])[0]
     if command == "transmit":
-        return ["transmit"] + random.choices([*CARRIERS, *RULES[2:]], [60, 20, 18, 1, 1])[0] + load_words(random)
+        return ["transmit"] + random.choices([*CARRIERS, *LISTS], [44, 18, 18, 18, 1, 1])[0] + load_words(random)
     if command not in (*REPORTS, "certify", "apply"):
         return [command]
     front = [command]
@@ -72,7 +78,7 @@ def words(random, command):
     elif command == "search" and random.random() < 0.35:
         front += random.choice(RULES)
     elif command in ("evidence", "certify") and random.random() < 0.35:
-        front += random.choices(RULES, [48, 48, 2, 2])[0]
+        front += random.choices(RULES, [32, 32, 32, 2, 2])[0]
     json_words = ["--json"] if random.random() < (0.25 if command in REPORTS else 0.03) else []
     form = random.choices([[], ["--format", "cu8"], ["--format", "ci8"], ["--format"]], [80, 15, 2, 1])[0]
     behind = [json_words, form]
@@ -87,7 +93,7 @@ def load_words(random):
     """None, those of a load, or some that are nearly so."""
     number = str(random.choice([0, 7, 2**31, 2**32 - 1, random.randrange(2**32)]))
     bad = random.choice(["", "-1", "+1", "07", str(2**32), "1e3", "9" * 1000, "--load"])
-    near = [["--load"], ["--load", bad], ["--load", number, number], [number], ["--load", number, "--ports", "2"]]
+    near = [["--load"], ["--load", bad], ["--load", number, number], [number], ["--load", number, "--ports", "4"]]
     return random.choices([[], ["--load", number], random.choice(near)], [50, 45, 5])[0]
 
 
@@ -116,7 +122,8 @@ def shown(given):
     if given[0] == "make":
         return " ".join(["make N", *given[2:]])
     if given[0] == "transmit":
-        return " ".join(["transmit", *("N" if word[:1].isdigit() and word != "2" else word for word in given[1:])])
+        pairs = zip(given, given[1:])
+        return " ".join(["transmit", *("N" if b[:1].isdigit() and a != "--ports" else b for a, b in pairs)])
     if given[0] == "apply" and given[1:] and not given[1].startswith("--"):
         return " ".join(["apply M", *given[2:]])
     return " ".join(given)
@@ -346,21 +353,27 @@ def long_text(random, text):
     return text[:-1] + b', "' + b"a" * count + b'": ' + b"1." + b"0" * count + b"}"
 
 
-def with_second_gain(random, value):
-    """The description for two antenna ports, mostly with gains that fit."""
-    pick = random.randrange
-    gains = {"gain": [pick(1, 11), pick(-9, 10)], "gain2": [pick(-10, 11), pick(-10, 11)]}
-    return {**value, **gains} if pick(10) else {**value, "gain2": [pick(30), pick(30)]}
+FURTHER_GAINS = ("gain2", "gain3", "gain4")
 
 
-def description(random, shown, two=False):
-    """One, spoiled or not; `two` for that of two antenna ports, which one of the others may stand for."""
+def with_gains(random, value, ports):
+    """The description for so many antenna ports, mostly with gains that fit."""
+    pick, reach = random.randrange, {1: 19, 2: 9, 4: 4}[ports]
+    value = {key: value[key] for key in value if key not in FURTHER_GAINS}
+    further = FURTHER_GAINS[: ports - 1]
+    if not pick(10):
+        return {**value, **{key: [pick(30), pick(30)] for key in further}}
+    fitting = {key: [pick(-reach, reach + 1), pick(-reach, reach + 1)] for key in further}
+    return {**value, "gain": [pick(1, reach + 2), pick(-reach, reach + 1)], **fitting}
+
+
+def description(random, shown, ports=1):
+    """One, spoiled or not, mostly for so many antenna ports."""
     chance = random.random()
     value = random.choice(shown) if random.random() < 0.5 else valid_description(random)
-    if random.random() < (0.9 if two else 0.03):
-        value = with_second_gain(random, value)
-    elif not two:
-        value = {key: value[key] for key in value if key != "gain2"}
+    likely = ports if random.random() < 0.93 else random.choice([1, 2, 4])
+    if likely != 1 or "gain2" in value:
+        value = with_gains(random, value, likely)
     if chance < 0.5:
         return json.dumps(with_odd_value(random, value)).encode()
     text = json.dumps(value).encode()

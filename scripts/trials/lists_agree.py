@@ -1,12 +1,12 @@
 #!/usr/bin/python3
 """lists_agree.py [COUNT [SEED]]
 
-Holds the program's lists against those of second_search.py: COUNT (100) recordings each by one antenna port, by two and
-with the extended prefix, and as many of each with load, from the second makers, of a cell or of two at a time, with
-noise between none and more than a list can bear, so that frames are added, blocks are refused, and some lists are
-empty. Each recording is listed by all three rules. A test, no proof; it needs crates/lte_cli/out/lte_cli. Prints a line
-for each list that differs, and of each kind the lists that hold an entry, and those with an entry of added frames; the
-status is 0 where none differs.
+Holds the program's lists against those of second_search.py: COUNT (100) recordings each by one antenna port, by two,
+with the extended prefix and by four ports, and as many of each with load, from the second makers, of a cell or of two
+at a time, with noise between none and more than a list can bear, so that frames are added, blocks are refused, and some
+lists are empty. Each recording is listed by all four rules. A test, no proof; it needs crates/lte_cli/out/lte_cli.
+Prints a line for each list that differs, and of each kind the lists that hold an entry, and those with an entry of
+added frames; the status is 0 where none differs.
 
 Debian: python3-numpy.
 """
@@ -19,6 +19,7 @@ import numpy as np
 
 SCRIPTS = pathlib.Path(__file__).resolve().parent.parent
 sys.path.append(str(SCRIPTS / "peers"))
+import second_four_ports
 import second_long_prefix
 import second_make
 import second_two_ports
@@ -28,9 +29,10 @@ MAKERS = {
     "one": second_make.recording,
     "two": second_two_ports.recording,
     "long": second_long_prefix.recording,
+    "four": second_four_ports.recording,
 }
 KINDS = [*MAKERS, *(f"{kind} with load" for kind in MAKERS)]
-RULES = ([], ["--ports", "2"], ["--prefix", "long"])
+RULES = ([], ["--ports", "2"], ["--prefix", "long"], ["--ports", "4"])
 
 
 def recording(kind, seed):
@@ -85,7 +87,8 @@ def main(count=100, seed=1):
             failed |= any(differ for differ, _, _ in found)
             lists, added = sum(some for _, some, _ in found), sum(added for _, _, added in found)
             print(
-                f"{kind}: {3 * count} lists, {lists} with an entry, {added} by one port with added frames", flush=True
+                f"{kind}: {len(RULES) * count} lists, {lists} with an entry, {added} by one port with added frames",
+                flush=True,
             )
     sys.exit(failed)
 

@@ -2,7 +2,7 @@
 """loaded_recordings.py [COUNT [SIZE]]
 
 Cells that send something wherever their plan leaves places open, with errors of the greatest size that a clean recording
-allows: of each kind (one antenna port, two, the extended prefix) COUNT (200) recordings with any elements of at most
+allows: of each kind (one antenna port, two, the extended prefix, four) COUNT (200) recordings with any elements of at most
 SIZE (256), and COUNT with the load of a number, by the second transmitter. Of each the program has to list the cell
 exactly as where it sends nothing else, and `evidence`, of one antenna port, has to tell the numbers of a clean cell. A
 test, no proof; it needs crates/lte_cli/out/lte_cli. Prints a line for each recording of which this is not so, and a
@@ -25,7 +25,8 @@ from second_cell import sent
 from second_make import recipe
 
 PROGRAM = SCRIPTS.parent / "crates/lte_cli/out/lte_cli"
-WORDS = {"one": [], "two": ["--ports", "2"], "long": ["--prefix", "long"]}
+GAINS = ("gain", "gain2", "gain3", "gain4")
+WORDS = {"one": [], "two": ["--ports", "2"], "long": ["--prefix", "long"], "four": ["--ports", "4"]}
 
 
 def size(gain):
@@ -33,22 +34,34 @@ def size(gain):
     return gain[0] ** 2 + gain[1] ** 2
 
 
-def any_gain(draw):
+def any_gain(draw, most=28):
     while True:
-        gain = draw.randint(-28, 28), draw.randint(-28, 28)
-        if 1 <= size(gain) <= 784:
+        gain = draw.randint(-most, most), draw.randint(-most, most)
+        if 1 <= size(gain) <= most**2:
             return gain
+
+
+def four_gains(draw):
+    """Gains of which each pair of ports has three eighths of the sum (docs/CLAIMS.md)."""
+    while True:
+        gains = [any_gain(draw, 12), *(draw.choice([any_gain(draw, 12), (0, 0)]) for _ in range(3))]
+        whole = sum(map(size, gains))
+        if whole <= 196 and all(3 * whole <= 8 * sum(map(size, gains[port::2])) for port in (0, 1)):
+            return gains
 
 
 def recording(kind, cell, draw):
     """A recording of a cell, or None where it does not fit 16 bits."""
-    first, second = any_gain(draw), any_gain(draw)
-    eps = math.isqrt(4 * size(first))
+    gains = [any_gain(draw), any_gain(draw)]
+    eps = math.isqrt(4 * size(gains[0]))
     if kind == "two":
-        while size(first) + size(second) > 392:
-            first, second = any_gain(draw), draw.choice([any_gain(draw), (0, 0)])
-        eps = min(math.isqrt((size(first) + size(second)) // 4), math.isqrt(4 * size(first)))
-    clean = sent({**cell, "gain": first, "gain2": second}, kind)
+        while sum(map(size, gains)) > 392:
+            gains = [any_gain(draw), draw.choice([any_gain(draw), (0, 0)])]
+        eps = min(math.isqrt(sum(map(size, gains)) // 4), math.isqrt(4 * size(gains[0])))
+    elif kind == "four":
+        gains = four_gains(draw)
+        eps = min(math.isqrt(sum(map(size, gains)) // 64), math.isqrt(4 * size(gains[0])))
+    clean = sent({**cell, **dict(zip(GAINS, gains))}, kind)
     samples = clean + np.random.default_rng(draw.randrange(2**32)).choice([-eps, eps], clean.shape)
     return samples.astype("<i2").tobytes() if abs(samples).max() <= 32_767 else None
 

@@ -23,7 +23,7 @@ from scipy import signal
 SCRIPTS = pathlib.Path(__file__).resolve().parent.parent
 sys.path += [str(SCRIPTS / "tools"), str(SCRIPTS / "peers")]
 import radio
-from second_cell import FirstFrame, Frame, SecondFrame
+from second_cell import Frame, FrameOfTwo
 
 RATE = 2_400_000
 PLAIN = json.loads((SCRIPTS / "examples/usual_cell.json").read_text())
@@ -42,7 +42,7 @@ CYCLE = 1024  # frames
 def frame(number):
     """A frame of both cells: the strong one's samples, and the weak one's through a channel of each port."""
     strong = Frame(STRONG, number).samples()
-    first, second = (make(WEAK, number).samples() for make in (FirstFrame, SecondFrame))
+    first, second = (FrameOfTwo(WEAK, number, port).samples() for port in (0, 1))
     return strong @ (1, 1j), first @ (1, 1j) + second @ (0.6 - 0.7j, 0.7 + 0.6j)
 
 

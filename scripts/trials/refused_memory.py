@@ -32,7 +32,9 @@ def as_bytes(data):
     return bytes(round(127.5 + 127 * number / greatest) for number in numbers)
 
 
-RULES = ("", "--ports 2", "--prefix long", "--cancel", "--all")
+CARRIERS = ("", "--ports 2", "--prefix long", "--ports 4")
+RULES = (*CARRIERS, "--cancel", "--all")
+EXAMPLES = {"--ports 2": "two_ports_cell.json", "--ports 4": "four_ports_cell.json"}
 
 
 def of_both(words, recording):
@@ -43,19 +45,19 @@ def of_both(words, recording):
 
 def forms(program):
     """Words and a valid input of each form of lte_cli."""
-    recording, description = CELL.read_bytes(), (HERE.parent / "examples/plain_cell.json").read_bytes()
-    two_ports = (HERE.parent / "examples/two_ports_cell.json").read_bytes()
+    recording = CELL.read_bytes()
     certificates = run(program, ["certify"], recording)[1]
-    for words in ("hits", "ids", *(f"search {rule}" for rule in RULES), *(f"evidence {rule}" for rule in RULES[:3])):
+    for words in ("hits", "ids", *(f"search {rule}" for rule in RULES), *(f"evidence {rule}" for rule in CARRIERS)):
         yield from of_both(words, recording)
         yield from of_both(words + " --json", recording)
-    for rule in RULES[:3]:
+    for rule in CARRIERS:
         yield from of_both(f"certify {rule}", recording)
     yield ["check"], 3 * certificates
-    for rule in RULES[:3]:
+    for rule in CARRIERS:
+        description = (HERE.parent / "examples" / EXAMPLES.get(rule, "plain_cell.json")).read_bytes()
         for load in ("", " --load 7"):
-            yield ("transmit " + rule + load).split(), two_ports if rule == "--ports 2" else description
-    for rule in RULES[:3]:
+            yield ("transmit " + rule + load).split(), description
+    for rule in CARRIERS:
         yield ["make", "7", *rule.split()], b""
     yield from pages()
 

@@ -150,10 +150,10 @@ for file in five two_lines "$here/../../crates/capture_example/stdin"; do
             says "second_forms.py writes what $form writes of ${file##*/}" "$("$program" "${words[@]}" < "$file")"
     done
 done
-for carrier in '--ports 2' '--prefix long'; do
+for carrier in two_ports:'--ports 2' four_ports:'--ports 4' long_prefix:'--prefix long'; do
+    maker=second_${carrier%%:*} carrier=${carrier#*:}
     read -ra words <<< "$carrier"
-    peer=$([ "$carrier" = '--ports 2' ] && echo second_two_ports || echo second_long_prefix)
-    "$peers/$peer.py" 90 > other
+    "$peers/$maker.py" 90 > other
     "$peers/second_evidence.py" "${words[@]}" < other |
         says "second_evidence.py writes what evidence $carrier writes" "$("$program" evidence "${words[@]}" < other)"
     "$program" certify "${words[@]}" < other > others
