@@ -299,7 +299,7 @@ fn square_of_four(port: PortOfFour, n: u32) -> u32
 }
 
 // That with four: the greatest whole number whose square is at most a 64th of the sum of the squares of all gains'
-// sizes, and at most four times that of the first.
+// sizes.
 fn bound_of_four(n: u32) -> u16
     ensures bound { IsBound FourPorts n (pos result) }
     ensures small { result ≤ 56 }
@@ -308,7 +308,7 @@ fn bound_of_four(n: u32) -> u16
     let second = square_of_four(PortOfFour::One, n);
     let third = square_of_four(PortOfFour::Two, n);
     let fourth = square_of_four(PortOfFour::Three, n);
-    least((first + second + third + fourth) / 64, 4 * first).isqrt() as u16
+    ((first + second + third + fourth) / 64).isqrt() as u16
 }
 
 /// The bound of the errors: the greatest that a clean recording with the gains of the number allows.

@@ -96,12 +96,11 @@ pub record AreGainsOfFour (gains : List Cpx) : Type 0 where
 abbrev pub HavePairs : List Cpx → Type 0
 HavePairs gains = ArePaired (value_at gains)
 
--- errors may have components of this size: its square is at most a 64th of that sum, and four times that of the first
--- gain's size
+-- no pair of ports is weak, and errors may have components of this size: its square is at most a 64th of that sum, so
+-- that it is 0 or 1
 pub record IsAllowedOfFour (gains : List Cpx) (eps : ℕ) : Type 0 where
   pub pairs : HavePairs gains
   pub quiet : 64 * (eps * eps) ≤ power_of_four gains
-  pub one : eps * eps ≤ 4 * square (value_at gains 0)
 
 -- what is received of four sequences, from their samples at offset on, by a channel that is one number for each
 abbrev pub received_of_four : (PortOfFour → ℕ → Cpx) → ℕ → List Cpx → ℕ → Cpx

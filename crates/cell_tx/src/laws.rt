@@ -51,7 +51,7 @@ pub fn sent_is_clean()
 /// Two sequences, each times its gain, with any error in each component within the bound that the gains allow, are a
 /// clean recording of both; where no sample of either has a size above 1,153, components are at most 32,284 without
 /// errors and 32,293 with them, so that they fit 16 bits. What is received of an emission by any carrier, with load or
-/// without, is so as well.
+/// without, is so as well, where no pair of four ports is weak.
 pub fn sum_is_clean()
     ensures errors { ReceivedOfTwoIsClean }
     ensures small { ReceivedOfTwoIsSmall }

@@ -1,6 +1,6 @@
-use Rattle.std.proofs.Common.{◌*◌, arith}
+use Rattle.std.proofs.Common.{arith}
 use Rattle.std.proofs.lemmas.Int.{ints}
-use Rattle.capture_make.proofs.Roots.{no_greater, within_both}
+use Rattle.capture_make.proofs.Roots.{no_greater}
 use Rattle.capture_make.proofs.Samples.{four_paired}
 use Rattle.capture_make.proofs.recipe.bound_of_four.Goals as goal
 
@@ -13,14 +13,10 @@ returns-clause-bound c =
     let r = c.isqrt.result in
     let low = c.isqrt.ensures.square_le in
     let high = c.isqrt.ensures.next_square_gt in
-    let a = c.least.ensures.first in
-    let b = c.least.ensures.second in
     record {
-      within = record { pairs = four_paired c.args.n; quiet = omega (arith, first, second, third, fourth, low, a); one = omega (arith, first, low, b) };
+      within = record { pairs = four_paired c.args.n; quiet = omega (arith, first, second, third, fourth, low) };
       greatest = λ m allowed.
           let p = allowed.quiet in
-          let q = allowed.one in
-          let small = within_both (m * m) _ _ c.least.result (omega (arith, first, second, third, fourth, p)) (omega (arith, first, q)) c.least.ensures.one in
-          let less = no_greater m r c.least.result small high in
+          let less = no_greater m r _ (omega (arith, first, second, third, fourth, p)) high in
           omega (arith, ints, less);
     }
