@@ -25,8 +25,9 @@ const MOST: u32 = MOST_SAMPLES as u32;
 /// The emission that a description in JSON has the values of, by a carrier and without load, or the first failed
 /// condition in this order: `Form`, `Sfn`, `Offset`, `Samples`, `Gain`, `Sib1Range`, and those of `Cell::of`. With two
 /// antenna ports a description has one key more, the second port's gain, and with four three more; the gains of all
-/// ports have to be those of a clean recording. JSON is what `serde_json` reads, so of a key that is written twice the
-/// last value stands. Want of memory may come at any bytes.
+/// ports have to be those of the carrier's clean recordings (`AreGainsOf`), and of four ports a pair may be weak. JSON
+/// is what `serde_json` reads, so of a key that is written twice the last value stands. Want of memory may come at any
+/// bytes.
 pub fn read_by(alloc: Global, carrier: Carrier, bytes: &[u8]) -> Result<Emission, JsonError>
     ensures { MatchResult result (DescribesBy carrier bytes.now) (IsRefusedBy carrier bytes.now) }
 {
