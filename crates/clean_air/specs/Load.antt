@@ -1,15 +1,15 @@
 -- What else a cell may send: any elements at the places that its plan leaves open, as the traffic of a live cell. (own)
-use Rattle.std.specs.Prelude.{◌≡◌, ℕ, ◌%◌, ◌≤◌, true, false, ◌&&◌, nat_le, Option, List}
+use Rattle.std.specs.Prelude.{◌≡◌, ℕ, ◌%◌, ◌≤◌, Bool, true, false, not, ◌&&◌, Option, List}
 use Rattle.cs_num.specs.declared.Cpx.{Cpx}
 use Rattle.cs_num.specs.declared.Sample.{Sample}
 use Rattle.cs_num.specs.Complex.{nothing, square}
 use Rattle.budget.specs.Received.{AreAmplitudes}
-use Rattle.lte_types.specs.Carrier.{ports_of}
 use Rattle.cell_tx.specs.declared.antenna.Port.{Port}
-use Rattle.cell_tx.specs.declared.antenna.Port.TheVariants.{Only}
+use Rattle.cell_tx.specs.declared.antenna.Port.TheVariants.{Only, First, Second, Long, OfFour}
+use Rattle.cell_tx.specs.declared.antenna.PortOfFour.TheVariants.{Zero, One, Two, Three}
 use Rattle.cell_tx.specs.declared.cell.CellPlan.{CellPlan}
-use Rattle.cell_tx.specs.Ports.{carrier_of, port_prefix, port_symbols, port_slot, has_control, is_other_reference}
-use Rattle.cell_tx.specs.Grid.{is_indicator, port_element}
+use Rattle.cell_tx.specs.Ports.{port_prefix, port_symbols, port_slot, has_control, is_even_pair, is_other_reference}
+use Rattle.cell_tx.specs.Grid.{has_broadcast, broadcast_index, is_indicator, port_element}
 use Rattle.cell_tx.specs.Load.{is_signal_symbol, is_taken, sent_element}
 use Rattle.cell_tx.specs.Sent.{Elements, prefix_sent}
 use Rattle.cell_tx.specs.Clean.{IsCleanOf}
@@ -44,11 +44,29 @@ OpenPlacesAreSilent =
     (port : Port) (plan : CellPlan) (sfn subframe symbol k : ℕ) → is_taken port plan sfn subframe symbol k ≡ false →
     (has_control port && is_indicator plan symbol k) ≡ false → port_element port plan sfn subframe symbol k ≡ nothing
 
--- and at each place that it takes, outside the symbols of the signals and the other ports' reference signals, they have
--- the size of a point, where the cell has one port or two; of four each port is silent in half of the pairs
+-- point i of a channel is in a pair that two other ports of four send (TS 36.211 section 6.3.4.3)
+abbrev pub is_of_others : Port → ℕ → Bool
+is_of_others Only i = false
+is_of_others First i = false
+is_of_others Second i = false
+is_of_others Long i = false
+is_of_others (OfFour Zero) i = not (is_even_pair i)
+is_of_others (OfFour One) i = is_even_pair i
+is_of_others (OfFour Two) i = not (is_even_pair i)
+is_of_others (OfFour Three) i = is_even_pair i
+
+-- a place of the broadcast channel has such a point
+abbrev pub is_other_pair : Port → CellPlan → ℕ → ℕ → ℕ → Bool
+is_other_pair port plan subframe symbol k =
+    has_broadcast port plan.identity subframe symbol k
+    && is_of_others port (broadcast_index port plan.identity symbol k)
+
+-- and at each place that it takes, outside the symbols of the signals and the other ports' reference signals
+-- and pairs, they have the size of a point
 abbrev pub TakenPlacesAreSent : Type 0
 TakenPlacesAreSent =
-    (port : Port) (plan : CellPlan) (sfn subframe symbol k : ℕ) → nat_le (ports_of (carrier_of port)) 2 ≡ true →
-    is_taken port plan sfn subframe symbol k ≡ true → is_signal_symbol port subframe symbol ≡ false →
+    (port : Port) (plan : CellPlan) (sfn subframe symbol k : ℕ) → is_taken port plan sfn subframe symbol k ≡ true →
+    is_signal_symbol port subframe symbol ≡ false →
     is_other_reference port plan.identity (port_slot port subframe symbol) (symbol % port_symbols port) k ≡ false →
+    is_other_pair port plan subframe symbol k ≡ false →
     square (port_element port plan sfn subframe symbol k) ≡ 16200

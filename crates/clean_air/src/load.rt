@@ -4,8 +4,8 @@ ghost use Rattle.clean_air.specs.Load.{SentElementsCarry, OpenPlacesAreSilent, T
 
 /// What a plan sends carries the plan, with load or without, so that a clean recording is one of the same plan whatever
 /// its load is; without load it is nothing at each place that the plan leaves open, but for the control format
-/// indicators of other subframes, and with one antenna port or two it is a point at each that it takes, but for the
-/// synchronisation signals and what is silent for others. (own)
+/// indicators of other subframes, and it is a point at each that it takes, but for the synchronisation signals and
+/// what is silent for other ports. (own)
 pub fn open_places_are_silent()
     ensures carry { SentElementsCarry }
     ensures silent { OpenPlacesAreSilent }
