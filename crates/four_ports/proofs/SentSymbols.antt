@@ -134,12 +134,16 @@ module _ (recording : List Sample) (plan : CellPlan) (grids : PortOfFour → Ele
         (clean.near (t + n) (omega (arith, inside, c)));
   }
 
+  -- errors of 0 or 1 are small beside any gain
+  small_beside : (a b c d e : ℕ) → 1 ≤ a → a + b + c + d ≤ 196 → 64 * e ≤ a + b + c + d → e ≤ 4 * a
+  small_beside a b c d e some most h = omega (arith, some, most, h)
+
   module _ (t : ℕ) (inside : t + 128 ≤ length recording) where
     alone_at : (j slot l u : ℕ) (alone : ℕ → Cpx) → slot < 20 → l < 7 → u + 128 ≤ length recording → u + offset ≡ 19200 * j + useful_start normal 0 slot l →
         ((port : PortOfFour) (k : ℕ) → slot_grid (grids port) ((sfn + j) % 1024) slot l k ≡ of_zero port (alone k)) → IsReceived eps (value_at gains 0) alone (samples_from recording u)
     alone_at j slot l u alone few row within place same = record {
       sounds = clean.gains_are.least;
-      quiet = clean.bound.one;
+      quiet = small_beside (square (value_at gains 0)) (square (value_at gains 1)) (square (value_at gains 2)) (square (value_at gains 3)) (eps * eps) clean.gains_are.least clean.gains_are.most clean.bound.quiet;
       near = as_one_port eps (value_at gains) (in_symbol ((sfn + j) % 1024) slot l) alone (samples_from recording u) (received_at u j slot l few row within place)
           (λ k l. same P0 k) (λ k l. same P1 k) (λ k l. same P2 k) (λ k l. same P3 k);
     }

@@ -66,7 +66,8 @@ pub record IsPairSeen (gains : ℕ → Cpx) (i : ℕ) (x y a b : Cpx) : Type 0 w
   pub first : IsSeenAsFour gains (over_pair i x (negated (conjugate y))) a
   pub second : IsSeenAsFour gains (over_pair i y (conjugate x)) b
 
--- the four values of a pair of points speak for their bits, whatever subcarrier the channels are taken at
+-- the four values of a pair of points speak for their bits, with size 1 and more, whatever subcarrier the channels are
+-- taken at
 abbrev pub PairValuesSpeak : Type 0
 PairValuesSpeak =
     (gains : ℕ → Cpx) (slot : SeenSlot) (i k : ℕ) (b c d e : Bool) (at_first at_second : Cpx) →

@@ -22,10 +22,10 @@ use sample_file::Recording;
 /// the sample at which its first frame begins, that frame's number, four antenna ports and its master block, and no
 /// other with this identity, sample and number. The squares of the gains' sizes are together at most 196 and that of
 /// the first is at least 1; ports 0 and 2 have at least three eighths of the sum, and so have ports 1 and 3; each
-/// component is off by at most as much as its square is a 64th of the sum, and four times that of the first. It does so
-/// whatever else the ports send where the plan sends nothing, beside the synchronisation signals nothing, in elements
-/// of size at most 256 (`loaded`), and so where they send nothing else or load by a number (`holds`). The workspace
-/// then has how each entry was read. It takes no memory. (own)
+/// component is exact, or off by 1 at most where the sum is at least 64. It does so whatever else the ports send where
+/// the plan sends nothing, beside the synchronisation signals nothing, in elements of size at most 256 (`loaded`), and
+/// so where they send nothing else or load by a number (`holds`). The workspace then has how each entry was read. It
+/// takes no memory. (own)
 pub fn explain_clean(recording: &Recording, work: &mut Workspace4, list: &mut EntryList)
     ensures list { IsExplainedOfFour recording.now list.new }
     ensures readings { AllZip (IsReadingOfFour recording.now) list.new work.new }
