@@ -61,7 +61,7 @@ none_allowed : (carrier : Carrier) (gains : List Cpx) → ArePairedBy carrier ga
 none_allowed OnePort gains paired = omega arith
 none_allowed TwoPorts gains paired = record { both = omega arith; one = omega arith }
 none_allowed LongPrefix gains paired = omega arith
-none_allowed FourPorts gains paired = record { pairs = paired; quiet = omega arith; one = omega arith }
+none_allowed FourPorts gains paired = record { pairs = paired; quiet = omega arith }
 
 sent_cleanly : EmittedIsClean → (carrier : Carrier) (load : Option ℕ) (e : Emission) → e.timing.sfn ≤ 1023 → IsOffset e.timing.offset → AreGainsOf carrier e.gains → ArePairedBy carrier e.gains →
     IsCleanBy carrier load (samples_by carrier load e) e.cell e.timing.sfn e.timing.offset e.gains 0

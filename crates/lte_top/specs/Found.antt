@@ -43,7 +43,7 @@ pub record IsFoundIn (carrier : Carrier) (load : Option ℕ) (description : List
   pub lines :
       IsPiece (sent_lines carrier e.cell (start_of e.timing.offset) (number_at_start e.timing.sfn e.timing.offset)) text
 
--- the gains that are described leave the cell's pairs heard: with four antenna ports no two that send one are weak
+-- the gains that are described are such that no pair is weak: with four antenna ports each has its three eighths
 abbrev pub DescribesPaired : Carrier → List ℕ → Type 0
 DescribesPaired carrier description = (e : Emission) → DescribesBy carrier description e → ArePairedBy carrier e.gains
 
