@@ -140,19 +140,27 @@ fn evidence_of_the_cell_of_number_90_with_the_extended_prefix(rt: HostRuntime) -
     Ok(())
 }
 
+// The plain cell has no evidence by a rule.
+fn has_none(alloc: Global, line: &str) -> Result<bool, AllocError> {
+    let bytes = sent_by(alloc, "")?.written;
+    gives(alloc, line, bytes, Status::Done, b"evidence 0\n")
+}
+
 #[test]
-fn no_cell_of_another_carrier_has_evidence(rt: HostRuntime) -> Result<(), Fail> {
-    for line in [
-        "evidence --ports 2",
-        "evidence --ports 4",
-        "evidence --prefix long",
-    ] {
-        let bytes = sent_by(rt.alloc(), "")?.written;
-        assert!(rt;
-            gives(rt.alloc(), line, bytes, Status::Done, b"evidence 0\n")?,
-            "{line}"
-        );
-    }
+fn no_cell_of_two_ports_has_evidence(rt: HostRuntime) -> Result<(), Fail> {
+    assert!(rt; has_none(rt.alloc(), "evidence --ports 2")?);
+    Ok(())
+}
+
+#[test]
+fn no_cell_of_four_ports_has_evidence(rt: HostRuntime) -> Result<(), Fail> {
+    assert!(rt; has_none(rt.alloc(), "evidence --ports 4")?);
+    Ok(())
+}
+
+#[test]
+fn no_cell_with_the_extended_prefix_has_evidence(rt: HostRuntime) -> Result<(), Fail> {
+    assert!(rt; has_none(rt.alloc(), "evidence --prefix long")?);
     Ok(())
 }
 
@@ -250,13 +258,49 @@ const OF_LONG_PREFIX: &str = "\
 [-67,-67],[-66,-66],[-68,68],[67,-67],[-66,67],[-68,-67],[-66,67],[-66,-67],[67,66],[-66,-66]]}]\n";
 
 #[test]
-fn evidence_of_cells_of_number_90_as_json(rt: HostRuntime) -> Result<(), Fail> {
-    let alloc = rt.alloc();
-    let (line, bytes) = ("evidence --ports 2 --json", with_two_ports(alloc)?);
-    assert!(rt; gives(alloc, line, bytes, Status::Done, OF_TWO_PORTS.as_bytes())?);
-    let (line, bytes) = ("evidence --ports 4 --json", with_four_ports(alloc)?);
-    assert!(rt; gives(alloc, line, bytes, Status::Done, OF_FOUR_PORTS.as_bytes())?);
-    let (line, bytes) = ("evidence --prefix long --json", with_long_prefix(alloc)?);
-    assert!(rt; gives(alloc, line, bytes, Status::Done, OF_LONG_PREFIX.as_bytes())?);
+fn evidence_of_number_90_of_two_ports_as_json(rt: HostRuntime) -> Result<(), Fail> {
+    let (line, bytes) = ("evidence --ports 2 --json", with_two_ports(rt.alloc())?);
+    assert!(rt;
+        gives(
+            rt.alloc(),
+            line,
+            bytes,
+            Status::Done,
+            OF_TWO_PORTS.as_bytes()
+        )?
+    );
+    Ok(())
+}
+
+#[test]
+fn evidence_of_number_90_of_four_ports_as_json(rt: HostRuntime) -> Result<(), Fail> {
+    let (line, bytes) = ("evidence --ports 4 --json", with_four_ports(rt.alloc())?);
+    assert!(rt;
+        gives(
+            rt.alloc(),
+            line,
+            bytes,
+            Status::Done,
+            OF_FOUR_PORTS.as_bytes()
+        )?
+    );
+    Ok(())
+}
+
+#[test]
+fn evidence_of_number_90_with_the_extended_prefix_as_json(rt: HostRuntime) -> Result<(), Fail> {
+    let (line, bytes) = (
+        "evidence --prefix long --json",
+        with_long_prefix(rt.alloc())?,
+    );
+    assert!(rt;
+        gives(
+            rt.alloc(),
+            line,
+            bytes,
+            Status::Done,
+            OF_LONG_PREFIX.as_bytes()
+        )?
+    );
     Ok(())
 }
