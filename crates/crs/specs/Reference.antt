@@ -8,8 +8,8 @@ use Rattle.lte_types.specs.declared.carrier.Carrier.TheVariants.{OnePort, TwoPor
 use Rattle.gold.specs.Gold.{gold_bit}
 use Rattle.crs.specs.Qpsk.{point}
 use Rattle.crs.specs.declared.pattern.Pattern.{Pattern}
-use Rattle.crs.specs.declared.single.SinglePort.{SinglePort}
-use Rattle.crs.specs.declared.single.SinglePort.TheVariants.{Third, Fourth}
+use Rattle.crs.specs.declared.upper.UpperPort.{UpperPort}
+use Rattle.crs.specs.declared.upper.UpperPort.TheVariants.{Third, Fourth}
 
 -- port 0 with the normal prefix: the one that is meant where no pattern is named
 abbrev pub port_0 : Pattern
@@ -123,22 +123,22 @@ is_second_reference identity symbol k = is_pattern_place port_1 identity symbol 
 -- ---- for ports 2 and 3 of four with the normal prefix, which have them in one symbol of a slot, its second
 
 -- what stands before 3 (n_s mod 2) in v: 0 for port 2 and 3 for port 3 (section 6.10.1.2)
-abbrev pub single_shift : SinglePort → ℕ
-single_shift Third = 0
-single_shift Fourth = 3
+abbrev pub upper_shift : UpperPort → ℕ
+upper_shift Third = 0
+upper_shift Fourth = 3
 
 -- the first subcarrier: the two ports change places from slot to slot
-abbrev pub single_first : SinglePort → ℕ → ℕ → ℕ
-single_first port identity slot = (single_shift port + 3 * (slot % 2) + identity) % 6
+abbrev pub upper_first : UpperPort → ℕ → ℕ → ℕ
+upper_first port identity slot = (upper_shift port + 3 * (slot % 2) + identity) % 6
 
 -- symbol and subcarrier are one of its reference places in a slot
-unfoldable pub is_single_reference : SinglePort → ℕ → ℕ → ℕ → ℕ → Bool
-is_single_reference port identity slot symbol k = nat_eq symbol 1 && nat_eq (k % 6) (single_first port identity slot)
+unfoldable pub is_upper_reference : UpperPort → ℕ → ℕ → ℕ → ℕ → Bool
+is_upper_reference port identity slot symbol k = nat_eq symbol 1 && nat_eq (k % 6) (upper_first port identity slot)
 
 -- subcarrier and value number m; the sequence, and so the value by the sixth of a subcarrier, is that of port 0
-abbrev pub single_pair : SinglePort → ℕ → ℕ → ℕ → ℕ × Cpx
-single_pair port identity slot m = (6 * m + single_first port identity slot, reference identity slot 1 m)
+abbrev pub upper_pair : UpperPort → ℕ → ℕ → ℕ → ℕ × Cpx
+upper_pair port identity slot m = (6 * m + upper_first port identity slot, reference identity slot 1 m)
 
 -- all twelve
-unfoldable pub single_list : SinglePort → ℕ → ℕ → List (ℕ × Cpx)
-single_list port identity slot = map (single_pair port identity slot) (range_with_len 0 12)
+unfoldable pub upper_list : UpperPort → ℕ → ℕ → List (ℕ × Cpx)
+upper_list port identity slot = map (upper_pair port identity slot) (range_with_len 0 12)

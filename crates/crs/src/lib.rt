@@ -13,13 +13,13 @@ ghost use Rattle.crs.specs.Reference.{is_second_reference, reference_at};
 
 mod pattern;
 mod qpsk;
-mod single;
+mod upper;
 
 use cs_num::Cpx;
 use lte_types::CellId;
 pub use pattern::{Pattern, patterns};
 pub use qpsk::{POINT_POWER, point};
-pub use single::{SinglePort, first_of_single, single_pilots};
+pub use upper::{UpperPort, first_of_upper, reference_places_of_upper, upper_pilots};
 
 // c_init of the sequence for a slot and a symbol of it.
 fn c_init(pattern: Pattern, id: CellId, slot: u8, symbol: u8) -> u32
