@@ -30,10 +30,6 @@ z_imaginary_small i h = leb-true _ _ (entry_passes (λ x. nat_le (nat_abs x) 127
 pub widened : (x : ℤ) → nat_abs x ≤ 127 → to_z w64 (of_z w64 (to_z w8 (of_z w8 x))) ≡ x
 widened x h = omega (arith, ints)
 
-pub cosine_period : (m : ℕ) → cosine (m % 128) ≡ cosine m
-unfolding cosine
-cosine_period m = let e : m % 128 % 128 ≡ m % 128 = omega arith in rw e refl
-
 pub w_period : (m : ℕ) → w_at (m % 128) ≡ w_at m
 unfolding w_at cosine
 w_period m =
