@@ -8,3 +8,5 @@ pub mod OneToOne
 pub mod Rows
 pub mod Sizes
 pub mod Walk
+pub mod Runs
+pub mod ByIndex

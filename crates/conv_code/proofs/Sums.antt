@@ -1,26 +1,11 @@
 -- The sums of values by index.
-use Rattle.std.proofs.Common.{◌≡◌, ℕ, ◌+◌, ◌^◌, ◌<◌, List, [], length, get_or, ℤ, pos, ap, ◌∙◌, arith}
+use Rattle.std.proofs.Common.{◌≡◌, ℕ, ◌+◌, ◌<◌, List, [], length, get_or, ℤ, pos, ap, ◌∙◌, arith}
 use Rattle.std.proofs.Math.Path.{fun_ext}
 use Rattle.finite.specs.Lists.{values_below}
 use Rattle.finite.proofs.Lists.{values_below-length, values_below_at}
-use Rattle.finite.proofs.Tables as tables
 use Rattle.sub_block.specs.declared.Item.{Item}
 use Rattle.sub_block.specs.Items.{summed_at}
-use Rattle.sub_block.proofs.Sums.{table_by_index}
 use Rattle.conv_code.specs.Reading.{item_of, summed_by, summed, summed_from}
-
--- after the first m values, the sums are those of the definition, and not large
-abbrev pub AreSums : (ℕ → Item) → ℕ → List ℤ → ℕ → List (List ℤ) → Type 0
-AreSums reading n values m sums = tables.AreSums n 3 (2 ^ 15) (λ i. (reading i).index) (λ i. (reading i).stream) values m sums
-
--- all values
-pub sums_all : (reading : ℕ → Item) (n : ℕ) (values : List ℤ) (m : ℕ) (sums : List (List ℤ)) → m ≡ length values → AreSums reading n values m sums →
-    sums ≡ summed_by reading n values
-unfolding summed_by
-sums_all reading n values m sums e known =
-    tables.sums_all n 3 (2 ^ 15) (λ i. (reading i).index) (λ i. (reading i).stream) values m sums known
-    ∙ table_by_index reading values m n 3
-    ∙ ap (λ i. values_below n (λ p. values_below 3 (λ t. summed_at reading values i t p))) e
 
 -- values that begin with the first bit of the reading
 pub from_first : (n : ℕ) (values : List ℤ) → summed_from 0 n values ≡ summed n values

@@ -2,3 +2,4 @@ pub mod Code
 pub mod Reading
 pub mod Cost
 pub mod Laws
+pub mod Steps

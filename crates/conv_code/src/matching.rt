@@ -1,9 +1,10 @@
 //! The cyclic reading of a coded word, and the sums of received values.
 
-ghost use Rattle.std.specs.Prelude.{◌≡◌, ℕ, ◌+◌, ◌*◌, ◌^◌, ◌<◌, ◌≤◌, length, nat_abs, slice_index_or};
+ghost use Rattle.std.specs.Prelude.{◌≡◌, ℕ, ◌+◌, ◌*◌, ◌^◌, ◌<◌, ◌-◌, ◌≤◌, [], length, nat_abs, pos, slice_index_or};
 ghost use Rattle.finite.specs.Sizes.{AllWithin, RowsWithin};
 ghost use Rattle.finite.specs.Tables.{sum_at, sums_with};
 ghost use Rattle.conv_code.specs.Reading.{bit_of_item, item_of, stream_order, summed, summed_from};
+ghost use Rattle.conv_code.specs.Steps.{place_of, HasPlacedSums};
 
 use sub_block::{Code, Item, cell_at};
 
@@ -55,17 +56,6 @@ pub fn match_out<const N: usize>(coded: &[[bool; 3]; N], i: usize) -> bool
     coded[at.index][at.stream]
 }
 
-/// Adds the value to the sum of an item.
-fn add_at(sums: &mut [[i32; 3]], at: &Item, value: &i16)
-    requires index { at.now.index < length sums.old }
-    requires stream { at.now.stream < 3 }
-    requires room { nat_abs (sum_at sums.old at.now.index at.now.stream) ≤ 2 ^ 30 }
-    ensures sum { sums.new ≡ sums_with sums.old at.now.index at.now.stream value.now }
-    ensures size { nat_abs value.now ≤ 2 ^ 15 }
-{
-    sums[at.index][at.stream] += *value as i32;
-}
-
 /// At each index of a coded word the sum of the values that the endless reading maps to it, from its bit
 /// `first` on. At most 1,920 values; `first` is below 2^32.
 pub fn combine_from<const N: usize>(first: usize, values: &[i16]) -> [[i32; 3]; N]
@@ -76,12 +66,7 @@ pub fn combine_from<const N: usize>(first: usize, values: &[i16]) -> [[i32; 3]; 
     ensures sums { result ≡ summed_from first N values.now }
     ensures sizes { (bound : ℕ) → AllWithin bound values.now → RowsWithin (length values.now * bound) result }
 {
-    let order: [usize; N] = stream_indices();
-    let mut sums = [[0; 3]; N];
-    for (i, value) in values.iter().enumerate() {
-        add_at(&mut sums, &item_by(&order, first + i), value);
-    }
-    sums
+    by_index(&by_place(first, values))
 }
 
 /// The same of values that begin with bit 0 of the reading: in each round of it one value for an item.
@@ -116,18 +101,86 @@ fn stream_indices<const N: usize>() -> [usize; N]
     order
 }
 
-// The item of bit i of the endless reading, by the order of a stream.
-fn item_by<const N: usize>(order: &[usize; N], i: usize) -> Item
+// Adds a value to the sum at a place of a stream.
+fn add_at<const N: usize>(sums: &mut [[i32; N]; 3], stream: usize, place: usize, value: &i16)
+    requires stream { stream < 3 }
+    requires place { place < N }
+    requires room { nat_abs (sum_at sums.old stream place) ≤ 2 ^ 30 }
+    ensures sum { sums.new ≡ sums_with sums.old stream place value.now }
+    ensures size { nat_abs value.now ≤ 2 ^ 15 }
+{
+    sums[stream][place] += *value as i32;
+}
+
+// Adds the values from number `at` to `end`, which follow one another in one stream, to the sums of those before them.
+fn add_run<const N: usize>(
+    sums: &mut [[i32; N]; 3],
+    first: usize,
+    values: &[i16],
+    at: usize,
+    end: usize,
+)
     requires low { 6 ≤ N }
     requires high { N ≤ 64 }
-    requires order { order.now ≡ stream_order N }
-    ensures item { result ≡ item_of N i }
-    ensures inside { result.index < N }
-    ensures below_three { result.stream < 3 }
+    requires first { first < 2 ^ 32 }
+    requires few { length values.now ≤ 1920 }
+    requires order { at ≤ end }
+    requires inside { end ≤ length values.now }
+    requires one { place_of N (first + at) + (end - at) ≤ N }
+    requires before { HasPlacedSums N first values.now at sums.old }
+    ensures after { HasPlacedSums N first values.now end sums.new }
 {
-    let i = i % (3 * N);
-    Item {
-        stream: i / N,
-        index: order[i % N],
+    let bit = (first + at) % (3 * N);
+    let stream = bit / N;
+    let start = bit % N;
+    for i in at..end {
+        add_at(sums, stream, start + (i - at), &values[i]);
     }
+}
+
+// For each stream, by places in the order of its reading, the sums of the values that the endless reading has there,
+// from its bit `first` on.
+fn by_place<const N: usize>(first: usize, values: &[i16]) -> [[i32; N]; 3]
+    requires low { 6 ≤ N }
+    requires high { N ≤ 64 }
+    requires first { first < 2 ^ 32 }
+    requires few { length values.now ≤ 1920 }
+    ensures { HasPlacedSums N first values.now (length values.now) result }
+{
+    let mut sums = [[0; N]; 3];
+    let mut at = 0;
+    while at < values.len() {
+        let left = N - (first + at) % (3 * N) % N;
+        let end = values.len().min(at + left);
+        add_run(&mut sums, first, values, at, end);
+        at = end;
+    }
+    sums
+}
+
+// The three sums at a place.
+fn sums_at<const N: usize>(placed: &[[i32; N]; 3], p: usize) -> [i32; 3]
+    requires p { p < N }
+    requires room { (t : ℕ) → t < 3 → nat_abs (sum_at placed.now t p) ≤ 2 ^ 30 }
+    ensures sums { (t : ℕ) → t < 3 → slice_index_or result t (pos 0) ≡ sum_at placed.now t p }
+    ensures length { length result ≡ 3 }
+{
+    [placed[0][p], placed[1][p], placed[2][p]]
+}
+
+// The same sums by the index of each place.
+fn by_index<const N: usize>(placed: &[[i32; N]; 3]) -> [[i32; 3]; N]
+    requires high { N ≤ 64 }
+    requires room { (t p : ℕ) → t < 3 → p < N → nat_abs (sum_at placed.now t p) ≤ 2 ^ 30 }
+    ensures sums { (t p : ℕ) → t < 3 → p < N →
+        sum_at result (slice_index_or (stream_order N) p 0) t ≡ sum_at placed.now t p }
+    ensures rows { (q : ℕ) → q < N → length (slice_index_or result q []) ≡ 3 }
+    ensures count { length result ≡ N }
+{
+    let order: [usize; N] = stream_indices();
+    let mut sums = [[0; 3]; N];
+    for p in 0..N {
+        sums[order[p]] = sums_at(placed, p);
+    }
+    sums
 }
