@@ -54,16 +54,22 @@ pub record WrittenSoFar (piece rest : List ℕ) (before now : SinkTold) : Type 0
 pub written_none : (piece : List ℕ) (before : SinkTold) → WrittenSoFar piece piece before before
 written_none piece before = record { done = []; split = refl; written = write_nothing before }
 
+-- the front of the rest is written too
+pub written_on : (piece rest next left : List ℕ) (before between now : SinkTold) → WrittenSoFar piece rest before between → rest ≡ next ++ left →
+    HasWritten next between now → WrittenSoFar piece left before now
+written_on piece rest next left before between now s split written = record {
+  done = s.done ++ next;
+  split = s.split ∙ ap (λ l. s.done ++ l) split ∙ sym (append_assoc s.done next left);
+  written = write_then s.done next before between now s.written written;
+}
+
 -- the first n bytes of the rest are written too: the new rest is `&rest[n..]`
 pub written_more : (piece rest : List ℕ) (n : ℕ) (before between now : SinkTold) → WrittenSoFar piece rest before between → n ≤ length rest →
     HasWritten (take n rest) between now → WrittenSoFar piece (take (length rest - n) (drop n rest)) before now
 written_more piece rest n before between now s fits written =
-    let slice : drop n rest ≡ take (length rest - n) (drop n rest) = sym (take_all (length rest - n) (drop n rest) (omega (arith, length-drop n rest))) in
-    subst (λ l. WrittenSoFar piece l before now) slice (record {
-      done = s.done ++ take n rest;
-      split = s.split ∙ ap (λ l. s.done ++ l) (sym (take-append-drop n rest)) ∙ sym (append_assoc s.done (take n rest) (drop n rest));
-      written = write_then s.done (take n rest) before between now s.written written;
-    })
+    let slice : take (length rest - n) (drop n rest) ≡ drop n rest = take_all (length rest - n) (drop n rest) (omega (arith, length-drop n rest)) in
+    written_on piece rest (take n rest) (take (length rest - n) (drop n rest)) before between now s
+    (sym (ap (λ l. take n rest ++ l) slice ∙ take-append-drop n rest)) written
 
 -- where the rest is empty, the whole piece is written
 pub written_whole : (piece : List ℕ) (before now : SinkTold) → WrittenSoFar piece [] before now → HasWritten piece before now
@@ -111,3 +117,26 @@ front_of_longer piece more before now a = record {
   split = ap (λ l. l ++ more) a.split ∙ append_assoc a.front a.rest more;
   taken = a.taken;
 }
+
+-- where a front of the rest's front is written, a front of the piece is
+pub front_on : (piece rest next left : List ℕ) (before between now : SinkTold) → WrittenSoFar piece rest before between → rest ≡ next ++ left →
+    HasWrittenFront next between now → HasWrittenFront piece before now
+front_on piece rest next left before between now s split front =
+    subst (λ l. HasWrittenFront l before now) (sym (s.split ∙ ap (λ l. s.done ++ l) split ∙ sym (append_assoc s.done next left)))
+    (front_of_longer (s.done ++ next) left before now (front_after s.done next before between now s.written front))
+
+-- where the room is too little for fewer bytes, it is too little for more
+pub short_of_more : (n m : ℕ) (before : SinkTold) → n ≤ m → IsShortOf n before → IsShortOf m before
+short_of_more n m before few short = by_room before.room short
+  where
+    by_room : (room : Option ℕ) → IfSome room (λ left. left < n) → IfSome room (λ left. left < m)
+    by_room None short = tt
+    by_room (Some left) short = omega (arith, short, few)
+
+-- where what is left of the room is too little for the rest's front, the room was too little for the piece
+pub short_on : (piece rest next left : List ℕ) (before between : SinkTold) → WrittenSoFar piece rest before between → rest ≡ next ++ left →
+    IsShortOf (length next) between → IsShortOf (length piece) before
+short_on piece rest next left before between s split short =
+    short_of_more (length s.done + length next) (length piece) before
+    (omega (arith, ap length s.split, length-append s.done rest, ap length split, length-append next left))
+    (short_after s.done (length next) before between s.written short)

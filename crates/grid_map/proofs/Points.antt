@@ -1,12 +1,13 @@
 -- The points of the broadcast channel and their places, for every identity.
-use Rattle.std.proofs.Common.{ℕ, ◌+◌, ◌*◌, ◌/◌, ◌%◌, ◌-◌, ◌<◌, ◌≤◌, ◌≡◌, ◌↔◌, Bool, true, false, nat_lt, if◌then◌else◌, List, length, get_or, slice_get, Some, refl, ap, sym, ◌∙◌, arith}
+use Rattle.std.proofs.Common.{ℕ, ◌+◌, ◌*◌, ◌/◌, ◌%◌, ◌-◌, ◌<◌, ◌≤◌, ◌≡◌, ◌↔◌, Bool, true, false, nat_lt, nat_le, inl, inr, if◌then◌else◌, length, get_or, slice_get, Some, refl, ap, sym, ◌∙◌, arith}
 use Rattle.std.specs.List.{Contains}
-use Rattle.std.proofs.lemmas.Bool.{lt-ltb, le-ltb}
+use Rattle.std.proofs.lemmas.List.{get_or_past}
+use Rattle.std.proofs.lemmas.Bool.{lt-ltb, le-ltb, and_parts, leb-true, ltb-true, cases_lt}
 use Rattle.std.proofs.lemmas.List.Sums.{position_or_len_is, passes_at_first}
 use Rattle.std.proofs.lemmas.Option.{slice_get-get_or}
 use Rattle.grid_map.specs.declared.Place.{Place}
 use Rattle.grid_map.specs.Place.{place, place_number, same_place}
-use Rattle.grid_map.specs.Broadcast.{pbch_places, pbch_place, is_pbch, pbch_index}
+use Rattle.grid_map.specs.Broadcast.{pbch_places, pbch_place, is_free, is_pbch, pbch_index}
 use Rattle.grid_map.specs.Order.{AreInOrder}
 use Rattle.grid_map.proofs.Order.{skip, nth_place, length-free_places, get_or-free_places, in_order as nth_in_order, one_to_one, same_place-refl, same_place-true, nth_place-is_free, number_of, number_of-is}
 
@@ -41,6 +42,23 @@ unfolding is_pbch
 places_inside identity i inside =
     let here = pbch_place-nth identity i inside in
     rw here (nth_place-is_free (identity % 3) i (shift_fits identity) inside)
+
+-- each is in the first four symbols of its slot
+pub places_in_front : (identity i : ℕ) → (get_or (pbch_places identity) i (place 0 0)).symbol % 7 < 4
+unfolding pbch_place is_pbch
+places_in_front identity i = elim (cases_lt i 240) [
+  | inl inside ↦ symbol_in_front (pbch_place identity i) (identity % 3) (places_inside identity i inside)
+  | inr past ↦ rw (get_or_past (pbch_places identity) i (place 0 0) (omega (arith, length-pbch_places identity, past))) (omega arith)
+]
+  where
+    symbol_in_front : (p : Place) (shift : ℕ) → is_free shift p ≡ true → p.symbol % 7 < 4
+    symbol_in_front p shift free =
+        let placed = and_parts _ _ free in
+        let inside = and_parts _ _ placed.0 in
+        let symbols = and_parts (nat_le 7 p.symbol) (nat_lt p.symbol 11) inside.0 in
+        let low = leb-true 7 p.symbol symbols.0 in
+        let high = ltb-true p.symbol 11 symbols.1 in
+        omega (arith, low, high)
 
 different : (identity i k : ℕ) → i < 240 → k < i → same_place (pbch_place identity i) (pbch_place identity k) ≡ false
 different identity i k inside before = cases (same_place (pbch_place identity i) (pbch_place identity k)) refl

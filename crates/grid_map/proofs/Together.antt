@@ -1,10 +1,9 @@
 -- With two antenna ports the places of the shared channel are taken two by two: each pair stands in one symbol.
-use Rattle.std.proofs.Common.{◌≡◌, ℕ, zero, suc, ◌+◌, ◌-◌, ◌*◌, ◌%◌, ◌<◌, ◌≤◌, inl, inr, Bool, true, false, length, get_or, refl, ap, sym, subst, ◌∙◌, arith}
+use Rattle.std.proofs.Common.{◌≡◌, ℕ, zero, suc, ◌+◌, ◌-◌, ◌*◌, ◌%◌, ◌<◌, ◌≤◌, inl, inr, Bool, true, false, length, refl, ap, sym, subst, ◌∙◌, arith}
 use Rattle.std.specs.Prelude.{if◌then◌else◌}
 use Rattle.std.proofs.lemmas.Bool.{cases_lt}
 use Rattle.grid_map.specs.declared.Place.{Place}
-use Rattle.grid_map.specs.Place.{place}
-use Rattle.grid_map.specs.Shared.{is_synchronisation, shared_places_of, shared_place_of, block_places_of}
+use Rattle.grid_map.specs.Shared.{is_synchronisation, shared_places_of, shared_place_of}
 use Rattle.grid_map.specs.Steps.{has_references, room}
 use Rattle.grid_map.proofs.Symbols.{IsAhead, pdsch_count, ahead_first, ahead_later, ahead_here, ahead_never}
 

@@ -1,13 +1,10 @@
--- Items that are the same, and the sums of values by stream and index, or by index and stream.
-use Rattle.std.proofs.Common.{◌≡◌, ℕ, Bool, true, List, get_or, ℤ, pos, refl, ap, ap₂, ◌∙◌, arith}
-use Rattle.std.specs.Prelude.{◌&&◌, cond, nat_eq}
-use Rattle.std.proofs.Math.Bool.{and_comm}
+-- Items that are the same, and the sums of values by stream and index.
+use Rattle.std.proofs.Common.{◌≡◌, ℕ, Bool, true, List, ℤ, refl, ap, ap₂, ◌∙◌, arith}
+use Rattle.std.specs.Prelude.{◌&&◌}
 use Rattle.std.proofs.lemmas.Bool.{eq-eqb}
 use Rattle.std.proofs.lemmas.Bool.Decides.{nat_tests}
 use Rattle.finite.specs.Lists.{values_below}
 use Rattle.finite.specs.Sums.{sum_below}
-use Rattle.finite.proofs.Lists.{values_below_same}
-use Rattle.finite.proofs.Sums.{sum_below_same}
 use Rattle.finite.proofs.Tables.{share}
 use Rattle.sub_block.specs.declared.Item.{Item}
 use Rattle.sub_block.specs.Items.{item, is_at, summed_at}
@@ -27,13 +24,3 @@ pub table_by_stream : (reading : ℕ → Item) (values : List ℤ) (m rows colum
     ≡ values_below rows (λ t. values_below columns (summed_at reading values m t))
 unfolding summed_at
 table_by_stream reading values m rows columns = refl
-
--- a table with a row for each index
-pub table_by_index : (reading : ℕ → Item) (values : List ℤ) (m rows columns : ℕ) →
-    values_below rows (λ p. values_below columns (λ t. sum_below m (share (λ i. (reading i).index) (λ i. (reading i).stream) values p t)))
-    ≡ values_below rows (λ p. values_below columns (λ t. summed_at reading values m t p))
-unfolding summed_at
-table_by_index reading values m rows columns =
-    values_below_same rows _ _ (λ p _. values_below_same columns _ _ (λ t _.
-    sum_below_same m (share (λ i. (reading i).index) (λ i. (reading i).stream) values p t) (λ i. cond (is_at t p (reading i)) (get_or values i (pos 0)) (pos 0))
-    (λ i _. ap (λ b. cond b (get_or values i (pos 0)) (pos 0)) (and_comm (nat_eq (reading i).index p) (nat_eq (reading i).stream t)))))
