@@ -1,5 +1,5 @@
 -- The samples that bytes stand for.
-use Rattle.std.proofs.Common.{◌≡◌, ℕ, suc, ◌+◌, ◌-◌, ◌*◌, ◌/◌, ◌%◌, ◌<◌, ◌≤◌, arith, refl, ap, ◌∙◌, List, [], ◌∷◌, ◌++◌, length, drop, ℤ, pos, negsuc}
+use Rattle.std.proofs.Common.{◌≡◌, ℕ, suc, ◌+◌, ◌-◌, ◌*◌, ◌/◌, ◌%◌, ◌<◌, ◌≤◌, arith, refl, ap, ◌∙◌, List, [], ◌∷◌, ◌++◌, length, ℤ, pos, negsuc}
 use Rattle.std.specs.Prelude.{nat_abs}
 use Rattle.std.specs.Int.{w16, cast_unsigned}
 use Rattle.std.proofs.lemmas.Int.{ints}
@@ -10,7 +10,7 @@ use Rattle.cs_num.specs.declared.Sample.{Sample}
 use Rattle.cs_num.specs.Complex.{IsWithin, value_of}
 use Rattle.sample_file.specs.declared.form.SampleForm.{SampleForm}
 use Rattle.sample_file.specs.declared.form.SampleForm.TheVariants.{Ci16, Cu8}
-use Rattle.sample_file.specs.Recording.{component_of, samples_of, centred, samples_of_8, width, samples_in, sample_in, sample_bytes, bytes_of, AreReadBack}
+use Rattle.sample_file.specs.Recording.{component_of, samples_of, centred, samples_of_8, width, samples_in, sample_bytes, bytes_of, AreReadBack}
 
 -- the bytes 02 01 ff ff are the sample (258, -1)
 two_components : samples_of (2 ∷ 1 ∷ 255 ∷ 255 ∷ []) ≡ record { re = pos 258; im = negsuc 0 } ∷ []
@@ -21,30 +21,7 @@ two_samples : samples_of_8 (0 ∷ 255 ∷ 128 ∷ 127 ∷ []) ≡
     record { re = negsuc 254; im = pos 255 } ∷ record { re = pos 1; im = negsuc 0 } ∷ []
 two_samples = refl
 
--- ---- one sample after the other
-
--- the first sample, and those of the bytes after its own
-pub samples_step : (form : SampleForm) (bytes : List ℕ) → width form ≤ length bytes →
-    samples_in form bytes ≡ sample_in form bytes ∷ samples_in form (drop (width form) bytes)
-samples_step Ci16 [] some = absurd (omega (arith, some))
-samples_step Ci16 (a ∷ []) some = absurd (omega (arith, some))
-samples_step Ci16 (a ∷ b ∷ []) some = absurd (omega (arith, some))
-samples_step Ci16 (a ∷ b ∷ c ∷ []) some = absurd (omega (arith, some))
-samples_step Ci16 (a ∷ b ∷ c ∷ d ∷ bytes) some = refl
-samples_step Cu8 [] some = absurd (omega (arith, some))
-samples_step Cu8 (a ∷ []) some = absurd (omega (arith, some))
-samples_step Cu8 (a ∷ b ∷ bytes) some = refl
-
--- less than a sample is none
-pub samples_none : (form : SampleForm) (bytes : List ℕ) → length bytes < width form → samples_in form bytes ≡ []
-samples_none Ci16 [] few = refl
-samples_none Ci16 (a ∷ []) few = refl
-samples_none Ci16 (a ∷ b ∷ []) few = refl
-samples_none Ci16 (a ∷ b ∷ c ∷ []) few = refl
-samples_none Ci16 (a ∷ b ∷ c ∷ d ∷ bytes) few = absurd (omega (arith, few))
-samples_none Cu8 [] few = refl
-samples_none Cu8 (a ∷ []) few = refl
-samples_none Cu8 (a ∷ b ∷ bytes) few = absurd (omega (arith, few))
+-- ---- bytes of whole samples
 
 -- bytes of whole samples, and then others
 pub samples_joined : (form : SampleForm) (front back : List ℕ) → length front % width form ≡ 0 →

@@ -1,10 +1,13 @@
 //! The forms of samples.
 
-ghost use Rattle.std.specs.Prelude.{◌≡◌, ◌≤◌, ◌*◌, ◌++◌, ◌∷◌, [], length, slice_index, take};
-ghost use Rattle.sample_file.specs.Recording.{width as width_of, sample_in, component_of, centred};
+ghost use Rattle.std.specs.Prelude.{◌≡◌, ◌≤◌, ◌*◌, ◌++◌, ◌∷◌, [], length, slice_index, take, IfOk};
+ghost use Rattle.sample_file.specs.Recording.{width as width_of, samples_of, samples_of_8, samples_in, sample_in};
+ghost use Rattle.sample_file.specs.Recording.{component_of, centred};
+ghost use Rattle.sample_file.specs.declared.form.SampleForm.TheVariants.{Ci16, Cu8};
 
 use byteorder::{ByteOrder, LittleEndian};
 use cs_num::Sample;
+use std::alloc::AllocError;
 
 /// How the bytes of a recording stand for its samples, as SigMF names it. (own)
 #[derive(Clone, Copy, PartialEq, Eq)]
@@ -29,21 +32,57 @@ impl SampleForm {
         }
     }
 
-    // The sample of the first bytes.
-    pub(crate) fn first_sample(self, bytes: &[u8]) -> Sample
-        requires { width_of self ≤ length bytes.now }
-        ensures { result ≡ sample_in self bytes.now }
+    // Appends the samples that bytes stand for.
+    pub(crate) fn append_samples(
+        self,
+        bytes: &[u8],
+        samples: &mut Vec<Sample>,
+    ) -> Result<(), AllocError>
+        ensures { IfOk result (λ _. samples.new.items ≡ samples.old.items ++ samples_in self bytes.now) }
     {
         match self {
-            SampleForm::Ci16 => Sample {
-                re: component(&bytes[..2]),
-                im: component(&bytes[2..4]),
-            },
-            SampleForm::Cu8 => Sample {
-                re: centred(bytes[0]),
-                im: centred(bytes[1]),
-            },
+            SampleForm::Ci16 => append_16_bits(bytes, samples),
+            SampleForm::Cu8 => append_8_bits(bytes, samples),
         }
+    }
+}
+
+// Appends the samples that bytes stand for, four each. Their memory is asked for first, so that a refusal is final:
+// `extend` would ask once more for less.
+fn append_16_bits(bytes: &[u8], samples: &mut Vec<Sample>) -> Result<(), AllocError>
+    ensures { IfOk result (λ _. samples.new.items ≡ samples.old.items ++ samples_of bytes.now) }
+{
+    let (fours, _) = bytes.as_chunks::<4>();
+    samples.reserve(fours.len())?;
+    samples.extend(fours.iter().map(|four| sample_of_four(four)))
+}
+
+// Appends the samples that bytes stand for, two each, in the same way.
+fn append_8_bits(bytes: &[u8], samples: &mut Vec<Sample>) -> Result<(), AllocError>
+    ensures { IfOk result (λ _. samples.new.items ≡ samples.old.items ++ samples_of_8 bytes.now) }
+{
+    let (twos, _) = bytes.as_chunks::<2>();
+    samples.reserve(twos.len())?;
+    samples.extend(twos.iter().map(|two| sample_of_two(two)))
+}
+
+// The sample of four bytes.
+fn sample_of_four(bytes: &[u8; 4]) -> Sample
+    ensures { result ≡ sample_in Ci16 bytes.now }
+{
+    Sample {
+        re: component(&bytes[..2]),
+        im: component(&bytes[2..4]),
+    }
+}
+
+// The sample of two bytes.
+fn sample_of_two(bytes: &[u8; 2]) -> Sample
+    ensures { result ≡ sample_in Cu8 bytes.now }
+{
+    Sample {
+        re: centred(bytes[0]),
+        im: centred(bytes[1]),
     }
 }
 

@@ -9,4 +9,4 @@ mod writing;
 pub use form::SampleForm;
 pub use reading::{FileError, read_as, read_cu8, read_recording};
 pub use recording::Recording;
-pub use writing::{bytes_are_read_back, bytes_of};
+pub use writing::{bytes_are_read_back, bytes_of, write_samples};

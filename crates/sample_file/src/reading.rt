@@ -5,7 +5,7 @@ ghost use Rattle.lte_types.specs.Numerology.{least_samples, most_samples};
 ghost use Rattle.cs_outside.specs.Outside.{SourceTold};
 ghost use Rattle.cs_outside.specs.Streams.{HasReadPast, HasReadFault};
 ghost use Rattle.sample_file.specs.Reading.{HasReadRecording, HasReadRagged, HasReadTooShort, most_bytes};
-ghost use Rattle.sample_file.specs.Recording.{IsRecording, samples_in, width as width_of};
+ghost use Rattle.sample_file.specs.Recording.{IsRecording, width as width_of};
 ghost use Rattle.sample_file.specs.Steps.{TakesSamples};
 ghost use Rattle.sample_file.specs.declared.form.SampleForm.TheVariants.{Ci16, Cu8};
 ghost use Rattle.sample_file.specs.declared.reading.FileError.TheVariants.{OutOfMemory};
@@ -47,7 +47,7 @@ impl From<AllocError> for FileError {
 }
 
 // The most bytes that one call of a source is asked for.
-const PIECE: usize = 4_096;
+const PIECE: usize = 16_384;
 
 /// Reads a recording of 57,600 to 1,920,000 samples from a source, to its end, each sample as the form
 /// says. The bytes may come in pieces of any size. An input that ends within a sample is ragged, however
@@ -171,19 +171,7 @@ fn take_samples(
     ensures same_length { length buffer.new ≡ length buffer.old }
 {
     let whole = end - end % form.width();
-    push_samples(form, &buffer[..whole], samples)?;
+    form.append_samples(&buffer[..whole], samples)?;
     buffer.copy_within(whole..end, 0);
     Ok(end - whole)
-}
-
-// Appends the samples that bytes stand for.
-fn push_samples(form: SampleForm, bytes: &[u8], samples: &mut Vec<Sample>) -> Result<(), AllocError>
-    ensures { IfOk result (λ _. samples.new.items ≡ samples.old.items ++ samples_in form bytes.now) }
-{
-    let mut rest = bytes;
-    while rest.len() >= form.width() {
-        samples.push(form.first_sample(rest))?;
-        rest = &rest[form.width()..];
-    }
-    Ok(())
 }

@@ -12,7 +12,7 @@ use Rattle.sample_file.proofs.Progress.{taken_on, recorded_on, short_on, ragged_
 use Rattle.sample_file.proofs.reading.read_as.Goals as goal
 
 -- the begun bytes at the front of the buffer
-begun_size : (form : SampleForm) (n : ℕ) (buffer : List ℕ) → n < width form → length buffer ≡ 4096 → length (take n buffer) ≡ n
+begun_size : (form : SampleForm) (n : ℕ) (buffer : List ℕ) → n < width form → length buffer ≡ 16384 → length (take n buffer) ≡ n
 begun_size Ci16 n buffer few size = length-take-le n buffer (omega (arith, few, size))
 begun_size Cu8 n buffer few size = length-take-le n buffer (omega (arith, few, size))
 

@@ -9,7 +9,7 @@ invariant-loop-samples g l = record {
   later : (g.S.Source.told l.fn.source).faults ≤ (g.S.Source.told l.source).faults;
   few : width l.form * length l.samples.items + l.begun ≤ l.limit;
   begun : l.begun < width l.form;
-  whole : length l.buffer ≡ 4096;
+  whole : length l.buffer ≡ 16384;
 }
 
 abbrev pub decreases-loop-samples : goal.decreases-loop-samples

@@ -7,7 +7,7 @@ pub returns-clause-takes : goal.returns-clause-takes
 returns-clause-takes c =
     let w = c.args.end - c.args.end % c.width.result in
     let cut : w ≡ c.args.end - c.args.end % width c.args.form = ap (λ m. c.args.end - c.args.end % m) c.width.ensures.value in
-    rw c.copy_within.ensures.after (end_taken c.args.form c.args.end w c.args.buffer.now _ _ c.requires cut c.in_ok-push_samples.ensures)
+    rw c.copy_within.ensures.after (end_taken c.args.form c.args.end w c.args.buffer.now _ _ c.requires cut c.in_ok-append_samples.ensures)
 
 pub returns-clause-count : goal.returns-clause-count
 returns-clause-count c =
