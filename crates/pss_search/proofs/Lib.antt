@@ -1,12 +1,14 @@
 pub mod SignalTables
 pub mod Symmetry
 pub mod Correlations
+pub mod Rows
 pub mod Filling
 pub mod Waves
 pub mod Peaks
 pub mod Window
 pub mod Sparse
 pub mod Room
+pub mod NoHit
 pub mod RightTest
 pub mod Listed
 pub mod Agree

@@ -1,5 +1,5 @@
 -- The symmetries of the three signals, how great their samples are, and the sums of their squares, by their tables.
-use Rattle.std.proofs.Common.{◌≡◌, ℕ, zero, suc, ◌+◌, ◌-◌, ◌<◌, ◌≤◌, Bool, true, [], ◌∷◌, arith, refl, ap, sym, ◌∙◌, pos, get_or, nat_le}
+use Rattle.std.proofs.Common.{◌≡◌, ℕ, zero, suc, ◌+◌, ◌-◌, ◌<◌, ◌≤◌, Bool, true, List, ℤ, [], ◌∷◌, arith, refl, ap, sym, ◌∙◌, pos, get_or, nat_le}
 use Rattle.std.specs.Prelude.{◌&&◌, nat_abs, slice_index_or}
 use Rattle.std.proofs.lemmas.Bool.{and_parts, leb-true}
 use Rattle.finite.specs.Sums.{total_below}
@@ -13,7 +13,7 @@ use Rattle.cs_num.specs.declared.Cpx.{Cpx}
 use Rattle.cs_num.specs.Complex.{IsWithin, plus, conjugate, square}
 use Rattle.cs_num.proofs.Tested.{is_same, is_same_tells}
 use Rattle.pss_search.specs.Correlation.{wave, wave_power}
-use Rattle.pss_search.specs.Products.{wave_re, wave_im}
+use Rattle.pss_search.specs.Products.{wave_re, wave_im, wave_part}
 use Rattle.pss_search.proofs.SignalTables.{re_25, im_25, re_29, im_29, re_34, im_34, re_of, im_of, samples, wave_is}
 
 -- ---- each signal is the same forward and backward
@@ -148,3 +148,19 @@ wave_re-small n2 known k d l = rw (values_below_at (λ n. (wave n2 n).re) 128 k 
 
 pub wave_im-small : (n2 : ℕ) → n2 ≤ 2 → AllWithin 255 (wave_im n2)
 wave_im-small n2 known k d l = rw (values_below_at (λ n. (wave n2 n).im) 128 k d l) ((wave_small n2 k (omega (arith, known)) (omega (arith, l))).im)
+
+-- ---- the four lists of parts
+
+pub part_is : (part : ℕ) → part < 4 → slice_index_or {A = List ℤ} (re_25 ∷ im_25 ∷ re_29 ∷ im_29 ∷ []) part [] ≡ wave_part part
+unfolding re_25 im_25 re_29 im_29 re_of im_of
+part_is zero known = wave_re_is 0 (omega arith)
+part_is (suc zero) known = wave_im_is 0 (omega arith)
+part_is (suc (suc zero)) known = wave_re_is 1 (omega arith)
+part_is (suc (suc (suc zero))) known = wave_im_is 1 (omega arith)
+part_is (suc (suc (suc (suc part)))) known = absurd (omega (arith, known))
+
+pub wave_part-small : (part : ℕ) → AllWithin 255 (wave_part part)
+wave_part-small zero = wave_re-small 0 (omega arith)
+wave_part-small (suc zero) = wave_im-small 0 (omega arith)
+wave_part-small (suc (suc zero)) = wave_re-small 1 (omega arith)
+wave_part-small (suc (suc (suc part))) = wave_im-small 1 (omega arith)

@@ -1,9 +1,7 @@
 -- What a sweep over a recording measures: the metrics of one place after the other. (own)
 use Rattle.std.specs.Prelude.{ℕ, List}
 use Rattle.finite.specs.Lists.{values_below}
-use Rattle.cs_num.specs.declared.Cpx.{Cpx}
 use Rattle.cs_num.specs.declared.Sample.{Sample}
-use Rattle.cs_num.specs.Complex.{square}
 use Rattle.pss_search.specs.declared.measure.Metric.{Metric}
 use Rattle.pss_search.specs.Correlation.{peak, energy}
 
@@ -23,7 +21,3 @@ metric_at recording t n2 = record { peak = peak recording n2 t; energy = energy 
 -- the metrics of a place, by n2
 abbrev pub metrics_at : List Sample → ℕ → List Metric
 metrics_at recording t = values_below 3 (metric_at recording t)
-
--- the metric of a correlation and an energy
-abbrev pub metric_of : Cpx → ℕ → Metric
-metric_of correlation total = record { peak = square correlation; energy = total }

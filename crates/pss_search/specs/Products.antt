@@ -1,5 +1,5 @@
 -- The correlation with a signal by sums of products of parts. (own)
-use Rattle.std.specs.Prelude.{◌≡◌, ℕ, ◌+◌, List, ℤ, pos, ◌+ℤ◌, ◌-ℤ◌, ◌*ℤ◌, slice_index_or}
+use Rattle.std.specs.Prelude.{◌≡◌, ℕ, zero, suc, ◌+◌, List, ℤ, pos, ◌+ℤ◌, ◌-ℤ◌, ◌*ℤ◌, slice_index_or}
 use Rattle.finite.specs.Sums.{sum_below}
 use Rattle.finite.specs.Lists.{values_below}
 use Rattle.cs_num.specs.declared.Cpx.{Cpx}
@@ -21,6 +21,13 @@ wave_re n2 = values_below 128 (λ n. (wave n2 n).re)
 
 abbrev pub wave_im : ℕ → List ℤ
 wave_im n2 = values_below 128 (λ n. (wave n2 n).im)
+
+-- the samples of the first two signals, in four lists: real and imaginary parts of the one, and those of the other
+abbrev pub wave_part : ℕ → List ℤ
+wave_part zero = wave_re 0
+wave_part (suc zero) = wave_im 0
+wave_part (suc (suc zero)) = wave_re 1
+wave_part (suc (suc (suc part))) = wave_im 1
 
 -- the products of 128 values from place o on with a signal, and their sum
 abbrev pub product_at : List ℤ → ℕ → List ℤ → ℕ → ℤ

@@ -1,9 +1,9 @@
 //! Which places are hits.
 
-ghost use Rattle.std.specs.Prelude.{◌≡◌, ◌+◌, ◌≤◌, ◌<◌, IfSome};
+ghost use Rattle.std.specs.Prelude.{◌≡◌, ◌+◌, ◌≤◌, ◌<◌, [], false, IfSome};
 ghost use Rattle.std.specs.Option.{option_to_list};
 ghost use Rattle.pss_search.specs.Tests.{rules_out, is_ruled_out, is_hit};
-ghost use Rattle.pss_search.specs.Hits.{hit_at, IsSmallHit};
+ghost use Rattle.pss_search.specs.Hits.{hit_at, hits_at, IsSmallHit};
 ghost use Rattle.pss_search.specs.Steps.{DecidesOn, IsMetricOf};
 
 use crate::measure::Metric;
@@ -13,6 +13,28 @@ use lte_types::Hit;
 
 // The first place of the span: the useful part of the symbol before it is in the recording.
 pub(crate) const FIRST_PLACE: usize = 137;
+
+// A quarter of 1,990,000: no signal has less power than that.
+const QUARTER_OF_LEAST: u64 = 497_500;
+
+// Whether the place may be a hit: some peak is great enough for a signal of the least power. Most places are not, and
+// need no other test.
+#[inline(always)]
+pub(crate) fn may_be_hit(window: &Window, t: usize) -> bool
+    requires decides { DecidesOn window.now t }
+    ensures { result ≡ false → hits_at window.now.recording t ≡ [] }
+{
+    let row = window.row(t);
+    let least = row.energy * QUARTER_OF_LEAST;
+    let [first, second, third] = row.peaks;
+    if least <= first {
+        return true;
+    }
+    if least <= second {
+        return true;
+    }
+    least <= third
+}
 
 // The hit of a root at place t, where there is one.
 #[tactic(auto, unfolding(crate::specs::Hits::hit_at))]

@@ -8,7 +8,7 @@ ghost use Rattle.lte_types.specs.Numerology.{frame_length};
 ghost use Rattle.pss_search.specs.Hits.{IsInSpan, IsSmallHit, hits_of};
 ghost use Rattle.pss_search.specs.Steps.{so_far};
 
-use crate::choose::{FIRST_PLACE, hit_of};
+use crate::choose::{FIRST_PLACE, hit_of, may_be_hit};
 use crate::recent::Window;
 use crate::signals::Root;
 use lte_types::{FRAME_LENGTH, Hit};
@@ -81,9 +81,11 @@ pub fn hits(recording: &Recording, list: &mut HitList)
     list.clear();
     for i in 0..FRAME_LENGTH {
         window.advance();
-        add_of(&window, &first, i, list);
-        add_of(&window, &second, i, list);
-        add_of(&window, &third, i, list);
+        if may_be_hit(&window, FIRST_PLACE + i) {
+            add_of(&window, &first, i, list);
+            add_of(&window, &second, i, list);
+            add_of(&window, &third, i, list);
+        }
     }
 }
 

@@ -4,12 +4,11 @@ ghost use Rattle.std.specs.Prelude.{◌≡◌, ℕ, ◌+◌, ◌*◌, ◌^◌, �
 ghost use Rattle.cs_num.specs.declared.Sample.{Sample as SampleValue};
 ghost use Rattle.cs_num.specs.Complex.{IsWithin, square, value_of, sample_at};
 ghost use Rattle.pss_search.specs.Correlation.{energy};
-ghost use Rattle.pss_search.specs.Metrics.{Standing, metric_of as made_metric, metrics_at, end_place};
+ghost use Rattle.pss_search.specs.Metrics.{Standing, metrics_at, end_place};
 ghost use Rattle.pss_search.specs.Products.{correlations_at};
-ghost use Rattle.pss_search.specs.Steps.{IsSmallMetric};
+ghost use Rattle.pss_search.specs.Steps.{IsSmallMetric, IsMetricOf, IsRowOf};
 
 use crate::products::{Stretch, correlations};
-use crate::signals::Signal;
 use cs_num::{Cpx, Sample};
 use sample_file::Recording;
 use std::marker::Model;
@@ -29,6 +28,42 @@ pub struct Metric {
     pub energy: u64,
 }
 
+// What is measured of a place against the three primary signals: a peak for each, at most 2^63, and the energy.
+#[derive(Clone, Copy)]
+pub(crate) struct Row {
+    pub peaks: [u64; 3],
+    pub energy: u64,
+}
+
+impl Row {
+    pub(crate) const EMPTY: Row = Row {
+        peaks: [0; 3],
+        energy: 0,
+    };
+
+    // The metric for one identity within the group.
+    pub(crate) fn metric(&self, n2: u8) -> Metric
+        requires { n2 ≤ 2 }
+        ensures { (recording : List SampleValue) → (t : ℕ) → IsRowOf recording t self.now →
+            IsMetricOf recording n2 t result }
+    {
+        Metric {
+            peak: self.peaks[n2 as usize] as u128,
+            energy: self.energy,
+        }
+    }
+
+    // All three metrics.
+    fn metrics(&self) -> [Metric; 3]
+        ensures value { (recording : List SampleValue) → (t : ℕ) → IsRowOf recording t self.now →
+            result ≡ metrics_at recording t }
+        ensures small { (recording : List SampleValue) → (t : ℕ) → IsRowOf recording t self.now →
+            All IsSmallMetric result }
+    {
+        [self.metric(0), self.metric(1), self.metric(2)]
+    }
+}
+
 /// A sweep over the places 128 to 19,345 of a recording, which measures one after the other: those of
 /// one frame's worth, and nine on each side. Contracts see it as the recording's samples and the place
 /// that comes next. It takes no memory. (own)
@@ -37,8 +72,6 @@ pub struct Sweep<'a> {
     samples: &'a [Sample],
     place: usize,
     energy: u64,
-    first: Signal,
-    second: Signal,
     stretch: Stretch,
 }
 
@@ -53,8 +86,8 @@ impl<'a> Model for Sweep<'a> {
     ghost view = { λ s. record { recording = s.samples.now; place = s.place } };
 
     ghost invariant = { λ s.
-        IsReady s.samples.now s.place s.energy × (s.first.n2 ≡ 0) × (s.second.n2 ≡ 1)
-        × IsStretchOf s.samples.now s.stretch × (s.stretch.from ≤ s.place) };
+        IsReady s.samples.now s.place s.energy × IsStretchOf s.samples.now s.stretch
+        × (s.stretch.from ≤ s.place) };
 }
 
 impl<'a> Sweep<'a> {
@@ -68,8 +101,6 @@ impl<'a> Sweep<'a> {
             samples,
             place: START,
             energy: energy_sum(samples, START),
-            first: Signal::new(0),
-            second: Signal::new(1),
             stretch: Stretch::new(samples, START),
         }
     }
@@ -93,50 +124,56 @@ impl<'a> Sweep<'a> {
         ensures recording { self.new.recording ≡ self.old.recording }
         ensures place { IfSome result (λ _. self.new.place ≡ self.old.place + 1) }
     {
+        match self.measure() {
+            Some(row) => Some(row.metrics()),
+            None => None,
+        }
+    }
+
+    // The same as a row.
+    #[inline(always)]
+    pub(crate) fn measure(&mut self) -> Option<Row>
+        ensures end { IsNone result ↔ (self.old.place ≡ end_place) }
+        ensures stays { IfNone result (self.new ≡ self.old) }
+        ensures value { IfSome result (IsRowOf self.old.recording self.old.place) }
+        ensures recording { self.new.recording ≡ self.old.recording }
+        ensures place { IfSome result (λ _. self.new.place ≡ self.old.place + 1) }
+    {
         if self.place == END {
             return None;
         }
         self.stretch.reach(self.samples, self.place);
-        let sums = correlations(
-            self.samples,
-            self.place,
-            &self.stretch,
-            &self.first,
-            &self.second,
-        );
-        let metrics = metrics_of(&sums, self.energy);
+        let sums = correlations(self.samples, self.place, &self.stretch);
+        let row = row_of(&sums, self.energy);
         self.energy = next_energy(self.samples, self.place, self.energy);
         self.place += 1;
-        Some(metrics)
+        Some(row)
     }
 }
 
-// The metrics of three correlations and an energy.
-fn metrics_of(sums: &[Cpx; 3], total: u64) -> [Metric; 3]
-    requires small { All (IsWithin (2 ^ 33)) sums.now }
+// The row of three correlations and an energy.
+fn row_of(sums: &[Cpx; 3], total: u64) -> Row
+    requires small { All (IsWithin (2 ^ 31)) sums.now }
     requires few { total ≤ 2 ^ 38 }
-    ensures value { (recording : List SampleValue) → (t : ℕ) → sums.now ≡ correlations_at recording t →
-        total ≡ energy recording t → result ≡ metrics_at recording t }
-    ensures small { All IsSmallMetric result }
+    ensures { (recording : List SampleValue) → (t : ℕ) → sums.now ≡ correlations_at recording t →
+        total ≡ energy recording t → IsRowOf recording t result }
 {
-    [
-        metric_of(sums[0], total),
-        metric_of(sums[1], total),
-        metric_of(sums[2], total),
-    ]
-}
-
-// The metric of a correlation and an energy.
-fn metric_of(correlation: Cpx, total: u64) -> Metric
-    requires small { IsWithin (2 ^ 33) correlation }
-    requires few { total ≤ 2 ^ 38 }
-    ensures value { result ≡ made_metric correlation total }
-    ensures small { IsSmallMetric result }
-{
-    Metric {
-        peak: correlation.norm(),
+    let peaks = [square_of(sums[0]), square_of(sums[1]), square_of(sums[2])];
+    Row {
+        peaks,
         energy: total,
     }
+}
+
+// The square of the size of a number that is so small that 64 bits hold it.
+fn square_of(number: Cpx) -> u64
+    requires { IsWithin (2 ^ 31) number }
+    ensures value { result ≡ square number }
+    ensures small { result ≤ 2 ^ 63 }
+{
+    let re = number.re.unsigned_abs();
+    let im = number.im.unsigned_abs();
+    re * re + im * im
 }
 
 // The energy of the next place: without the first sample of this one, and with the sample behind it.
@@ -168,5 +205,5 @@ fn energy_part(sample: Sample) -> u64
     ensures value { result ≡ square (value_of sample) }
     ensures small { result ≤ 2 ^ 31 }
 {
-    Cpx::from(sample).norm() as u64
+    square_of(Cpx::from(sample))
 }

@@ -5,10 +5,11 @@ ghost use Rattle.std.specs.Prelude.{◌≡◌, ℕ, ◌+◌, ◌*◌, ◌^◌, �
 ghost use Rattle.finite.specs.Sizes.{AllWithin};
 ghost use Rattle.finite.specs.Sums.{sum_below};
 ghost use Rattle.cs_num.specs.Complex.{IsWithin, sample_at};
-ghost use Rattle.pss_search.specs.Products.{IsStretchOf, product_at, dot_of, products_of, with_conjugate_of, with_signal_of, wave_re, wave_im, correlations_at};
+ghost use Rattle.pss_search.specs.Products.{IsStretchOf, product_at, dot_of, products_of, wave_part};
+ghost use Rattle.pss_search.specs.Products.{with_conjugate_of, with_signal_of, correlations_at};
 ghost use Rattle.pss_search.specs.Steps.{AreSmallProducts};
 
-use crate::signals::Signal;
+use crate::signals::part_of;
 use cs_num::{Cpx, Sample};
 
 // 256 samples of a recording from place `from` on, in parts, so that the machine takes eight at once.
@@ -50,24 +51,26 @@ impl Stretch {
     }
 }
 
-// The sum of the products of 128 values from o on with a signal. It fits 32 bits, in any order of adding: 128
-// times 32,768 times 255 is below 2^31.
-// Inlined, the loops are not compiled into instructions that add the products of 16 bits in pairs.
+// The sum of the products of 128 values from o on with list `part` of the signals' samples. It fits 32 bits, in any
+// order of adding: 128 times 32,768 times 255 is below 2^31.
+// It is not inlined, and knows its list only when it runs: so the machine adds the products of 16 bits in pairs. With
+// a constant list, products with 0, 1 and powers of two become other instructions and break the lanes up.
 #[inline(never)]
-fn dot(values: &[i16; 256], o: usize, signal: &[i16; 128]) -> i32
+fn dot(values: &[i16; 256], o: usize, part: usize) -> i32
     requires o { o ≤ 128 }
-    requires signal { AllWithin 255 signal.now }
-    ensures value { result ≡ dot_of values.now o signal.now }
+    requires part { part < 4 }
+    ensures value { result ≡ dot_of values.now o (wave_part part) }
     ensures small { nat_abs result ≤ 1069547520 }
 {
-    let mut sum: i32 = 0;
-    for k in 0..4 {
-        sum += row_sum(values, o, signal, k);
-    }
-    sum
+    let signal = part_of(part);
+    row_sum(values, o, signal, 0)
+        + row_sum(values, o, signal, 1)
+        + row_sum(values, o, signal, 2)
+        + row_sum(values, o, signal, 3)
 }
 
 // The sum of row k of 32 of these products.
+#[inline(always)]
 fn row_sum(values: &[i16; 256], o: usize, signal: &[i16; 128], k: usize) -> i32
     requires o { o ≤ 128 }
     requires signal { AllWithin 255 signal.now }
@@ -83,6 +86,7 @@ fn row_sum(values: &[i16; 256], o: usize, signal: &[i16; 128], k: usize) -> i32
 }
 
 // The product at place n.
+#[inline(always)]
 fn product(values: &[i16; 256], o: usize, signal: &[i16; 128], n: usize) -> i32
     requires o { o ≤ 128 }
     requires signal { AllWithin 255 signal.now }
@@ -96,23 +100,26 @@ fn product(values: &[i16; 256], o: usize, signal: &[i16; 128], n: usize) -> i32
 // The sums of products of the parts of 128 samples with those of a signal.
 #[derive(Clone, Copy)]
 struct ProductSums {
-    re_re: i64,
-    im_im: i64,
-    im_re: i64,
-    re_im: i64,
+    re_re: i32,
+    im_im: i32,
+    im_re: i32,
+    re_im: i32,
 }
 
-// Those sums, of the samples from o on of a stretch.
-fn products(stretch: &Stretch, o: usize, signal: &Signal) -> ProductSums
-    requires { o ≤ 128 }
-    ensures value { result ≡ products_of stretch.now o (wave_re signal.now.n2) (wave_im signal.now.n2) }
+// Those sums, of the samples from o on of a stretch, with the signal whose real parts are list `part`, and whose
+// imaginary parts are the next.
+#[inline(always)]
+fn product_sums(stretch: &Stretch, o: usize, part: usize) -> ProductSums
+    requires o { o ≤ 128 }
+    requires part { part + 1 < 4 }
+    ensures value { result ≡ products_of stretch.now o (wave_part part) (wave_part (part + 1)) }
     ensures small { AreSmallProducts result }
 {
     ProductSums {
-        re_re: dot(&stretch.re, o, &signal.re) as i64,
-        im_im: dot(&stretch.im, o, &signal.im) as i64,
-        im_re: dot(&stretch.im, o, &signal.re) as i64,
-        re_im: dot(&stretch.re, o, &signal.im) as i64,
+        re_re: dot(&stretch.re, o, part),
+        im_im: dot(&stretch.im, o, part + 1),
+        im_re: dot(&stretch.im, o, part),
+        re_im: dot(&stretch.re, o, part + 1),
     }
 }
 
@@ -121,11 +128,11 @@ impl ProductSums {
     fn with_conjugate(&self) -> Cpx
         requires { AreSmallProducts self.now }
         ensures value { result ≡ with_conjugate_of self.now }
-        ensures small { IsWithin (2 ^ 32) result }
+        ensures small { IsWithin 2139095040 result }
     {
         Cpx {
-            re: self.re_re + self.im_im,
-            im: self.im_re - self.re_im,
+            re: (self.re_re + self.im_im) as i64,
+            im: (self.im_re - self.re_im) as i64,
         }
     }
 
@@ -133,36 +140,29 @@ impl ProductSums {
     fn with_signal(&self) -> Cpx
         requires { AreSmallProducts self.now }
         ensures value { result ≡ with_signal_of self.now }
-        ensures small { IsWithin (2 ^ 32) result }
+        ensures small { IsWithin 2139095040 result }
     {
         Cpx {
-            re: self.re_re - self.im_im,
-            im: self.im_re + self.re_im,
+            re: (self.re_re - self.im_im) as i64,
+            im: (self.im_re + self.re_im) as i64,
         }
     }
 }
 
 // The correlations of a place with the three signals. The signal of root 34 is the conjugate of that
 // of root 29 plus j at the samples 0 and 64.
-pub(crate) fn correlations(
-    samples: &[Sample],
-    t: usize,
-    stretch: &Stretch,
-    first: &Signal,
-    second: &Signal,
-) -> [Cpx; 3]
+#[inline(always)]
+pub(crate) fn correlations(samples: &[Sample], t: usize, stretch: &Stretch) -> [Cpx; 3]
     requires room { t + 128 ≤ length samples.now }
     requires held { IsStretchOf samples.now stretch.now }
     requires from { stretch.now.from ≤ t }
     requires reached { t ≤ stretch.now.from + 128 }
-    requires first { first.now.n2 ≡ 0 }
-    requires second { second.now.n2 ≡ 1 }
     ensures value { result ≡ correlations_at samples.now t }
-    ensures small { All (IsWithin (2 ^ 33)) result }
+    ensures small { All (IsWithin (2 ^ 31)) result }
 {
     let o = t - stretch.from;
-    let own = products(stretch, o, first);
-    let shared = products(stretch, o, second);
+    let own = product_sums(stretch, o, 0);
+    let shared = product_sums(stretch, o, 2);
     let ends = Cpx::from(samples[t]) + Cpx::from(samples[t + 64]);
     [
         own.with_conjugate(),

@@ -2,32 +2,23 @@
 
 ghost use Rattle.std.specs.Prelude.{◌≡◌, ◌+◌, ◌<◌, ◌≤◌};
 ghost use Rattle.pss_search.specs.Metrics.{Standing, end_place};
-ghost use Rattle.pss_search.specs.Steps.{IsMetricOf};
+ghost use Rattle.pss_search.specs.Steps.{IsMetricOf, IsRowOf};
 
-use crate::measure::{Metric, Sweep};
+use crate::measure::{Metric, Row, Sweep};
 use sample_file::Recording;
 use std::marker::Model;
 
 // As many places decide whether one is a hit: itself and nine on each side.
 const PLACES: usize = 19;
 
-// The metrics of one place, by identity within the group.
-#[derive(Clone, Copy)]
-pub(crate) struct Row {
-    pub metrics: [Metric; 3],
-}
+// The rows that are kept: a power of two, so that a place's row is soon found.
+const ROWS: usize = 32;
 
-impl Row {
-    const EMPTY: Row = Row {
-        metrics: [Metric { peak: 0, energy: 0 }; 3],
-    };
-}
-
-// The sweep, and the metrics of the last 19 places, those of place u in row u modulo 19.
+// The sweep, and the rows of the last 19 places at least, that of place u at u modulo 32.
 #[derive(Drop)]
 pub(crate) struct Window<'a> {
     sweep: Sweep<'a>,
-    rows: [Row; 19],
+    rows: [Row; 32],
 }
 
 impl<'a> Model for Window<'a> {
@@ -49,7 +40,7 @@ impl<'a> Window<'a> {
     {
         Window {
             sweep: Sweep::new(recording),
-            rows: [Row::EMPTY; 19],
+            rows: [Row::EMPTY; 32],
         }
     }
 
@@ -66,15 +57,26 @@ impl<'a> Window<'a> {
     }
 
     // Measures the next place.
+    #[inline(always)]
     pub(crate) fn advance(&mut self)
         requires { self.old.place < end_place }
         ensures recording { self.new.recording ≡ self.old.recording }
         ensures place { self.new.place ≡ self.old.place + 1 }
     {
         let place = self.sweep.place();
-        if let Some(metrics) = self.sweep.step() {
-            self.rows[place % PLACES] = Row { metrics };
+        if let Some(row) = self.sweep.measure() {
+            self.rows[place % ROWS] = row;
         }
+    }
+
+    // The row of one of the last 19 places.
+    pub(crate) fn row(&self, u: usize) -> Row
+        requires first { 128 ≤ u }
+        requires measured { u < self.now.place }
+        requires kept { self.now.place ≤ u + 19 }
+        ensures { IsRowOf self.now.recording u result }
+    {
+        self.rows[u % ROWS]
     }
 
     // The metric of one of the last 19 places.
@@ -85,6 +87,6 @@ impl<'a> Window<'a> {
         requires kept { self.now.place ≤ u + 19 }
         ensures { IsMetricOf self.now.recording n2 u result }
     {
-        self.rows[u % PLACES].metrics[n2 as usize]
+        self.row(u).metric(n2)
     }
 }

@@ -13,8 +13,8 @@ returns-clause-value c =
     let t = c.args.t in
     let s = c.args.stretch.now in
     let four : ℕ → ProductSums = λ n2. products_of s (t - s.from) (wave_re n2) (wave_im n2) in
-    let own : c.products-own.result ≡ four 0 = c.products-own.ensures.value ∙ ap four c.requires.first in
-    let shared : c.products-shared.result ≡ four 1 = c.products-shared.ensures.value ∙ ap four c.requires.second in
+    let own : c.product_sums-own.result ≡ four 0 = c.product_sums-own.ensures.value in
+    let shared : c.product_sums-shared.result ≡ four 1 = c.product_sums-shared.ensures.value in
     let by : (n2 : ℕ) → with_conjugate_of (four n2) ≡ correlation_at samples t n2 =
     λ n2. by_conjugate samples s t n2 c.requires.held c.requires.from c.requires.reached in
     let e0 : c.with_conjugate.result ≡ correlation_at samples t 0 = c.with_conjugate.ensures.value ∙ ap with_conjugate_of own ∙ by 0 in
@@ -37,10 +37,10 @@ pub returns-clause-small : goal.returns-clause-small
 returns-clause-small c =
     let both = plus-within c.from.result c.from-2.result 32768 32768 65536 c.from.ensures.1 c.from-2.ensures.1 (omega arith) in
     let turned : IsWithin 65536 c.times_j.result = subst (IsWithin 65536) (sym (c.times_j.ensures ∙ ap times_j c.add-ends.ensures)) (times_j-within (plus c.from.result c.from-2.result) 65536 both) in
-    let third : IsWithin 8589934592 c.sub.result = subst (IsWithin 8589934592) (sym c.sub.ensures)
-    (minus-within c.with_signal.result c.times_j.result 4294967296 65536 8589934592 c.with_signal.ensures.small turned (omega arith)) in
-    let first = within_more c.with_conjugate.result 4294967296 8589934592 c.with_conjugate.ensures.small (omega arith) in
-    let second = within_more c.with_conjugate-2.result 4294967296 8589934592 c.with_conjugate-2.ensures.small (omega arith) in
-    All-cons (IsWithin 8589934592) c.with_conjugate.result (c.with_conjugate-2.result ∷ c.sub.result ∷ []) first
-    (All-cons (IsWithin 8589934592) c.with_conjugate-2.result (c.sub.result ∷ []) second
-    (All-cons (IsWithin 8589934592) c.sub.result [] third (All-nil (IsWithin 8589934592))))
+    let third : IsWithin 2147483648 c.sub.result = subst (IsWithin 2147483648) (sym c.sub.ensures)
+    (minus-within c.with_signal.result c.times_j.result 2139095040 65536 2147483648 c.with_signal.ensures.small turned (omega arith)) in
+    let first = within_more c.with_conjugate.result 2139095040 2147483648 c.with_conjugate.ensures.small (omega arith) in
+    let second = within_more c.with_conjugate-2.result 2139095040 2147483648 c.with_conjugate-2.ensures.small (omega arith) in
+    All-cons (IsWithin 2147483648) c.with_conjugate.result (c.with_conjugate-2.result ∷ c.sub.result ∷ []) first
+    (All-cons (IsWithin 2147483648) c.with_conjugate-2.result (c.sub.result ∷ []) second
+    (All-cons (IsWithin 2147483648) c.sub.result [] third (All-nil (IsWithin 2147483648))))

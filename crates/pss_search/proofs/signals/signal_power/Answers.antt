@@ -1,4 +1,4 @@
-use Rattle.std.proofs.Common.{◌≡◌, ◌∙◌, arith, sym, subst, ◌<◌, ◌≤◌}
+use Rattle.std.proofs.Common.{arith, sym, subst, ◌≤◌}
 use Rattle.pss_search.proofs.Symmetry.{power_is, power_high, power_range}
 use Rattle.pss_search.proofs.signals.signal_power.Goals as goal
 

@@ -14,8 +14,6 @@ invariant_of-result c =
             let e : 128 + k ≡ k + 128 = omega arith in
             subst (λ i. square (sample_at samples i) ≤ 2147483648) e (c.energy_sum.ensures.each k l);
       },
-      c.new.ensures,
-      c.new-2.ensures,
-      c.new-3.ensures.held,
-      omega (arith, c.new-3.ensures.from),
+      c.new.ensures.held,
+      omega (arith, c.new.ensures.from),
     )

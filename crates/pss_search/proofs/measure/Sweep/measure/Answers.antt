@@ -1,9 +1,9 @@
 use Rattle.std.proofs.Common.{arith}
 use Rattle.pss_search.proofs.Correlations.{energy-small}
-use Rattle.pss_search.proofs.measure.Sweep.step.Goals as goal
+use Rattle.pss_search.proofs.measure.Sweep.measure.Goals as goal
 
-pub metrics_of-metrics-requires-clause-few : goal.metrics_of-metrics-requires-clause-few
-metrics_of-metrics-requires-clause-few c =
+pub row_of-row-requires-clause-few : goal.row_of-row-requires-clause-few
+row_of-row-requires-clause-few c =
     let ready = c.self.invariant.0 in
     omega (arith, ready.energy, energy-small c.self.inside.samples.now c.self.inside.place ready.first ready.small)
 
