@@ -67,7 +67,7 @@ pub fn place_with(recording: &Recording, hit: &Hit, prefix: Prefix) -> CellPlace
 }
 
 /// How clear the choice was of `identity_with`: that pair and the second, each with its score. `t`, the primary symbol
-/// and `n2` are as there. Scores have size at most 8,864,972,382,876,467,200, which is below 2^63. (own)
+/// and `n2` are as there. Each score is the whole sum, which 64 bits hold. (own)
 pub fn ranking_with(recording: &Recording, hit: &Hit, prefix: Prefix) -> Ranking
     requires after { symbol_step prefix ≤ hit.now.t }
     requires within { hit.now.t + 128 ≤ length recording.now }

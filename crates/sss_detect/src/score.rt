@@ -124,12 +124,12 @@ fn places_sum(agreements: &[i64; 62], n2: u8, even: usize, odd: usize, first: us
     sum
 }
 
-// A number with a sign.
+// A number with a sign. A product, since a branch by the sign would go wrong every other time.
 fn signed(number: i64, sign: i8) -> i64
     requires small { nat_abs number ≤ 2 ^ 59 }
     requires sign { nat_abs sign ≡ 1 }
     ensures value { result ≡ sign *ℤ number }
     ensures small { nat_abs result ≤ 2 ^ 59 }
 {
-    if sign < 0 { -number } else { number }
+    sign as i64 * number
 }
