@@ -1,18 +1,18 @@
 -- The soft values of a list of places, and descrambled values.
-use Rattle.std.proofs.Common.{◌≡◌, ℕ, ◌+◌, ◌*◌, ◌/◌, ◌%◌, ◌<◌, ◌≤◌, Bool, true, false, List, [], ◌∷◌, length, get_or, ℤ, pos, negsuc, nat_abs, inl, inr, refl, subst, sym, arith}
+use Rattle.std.proofs.Common.{◌≡◌, ℕ, ◌+◌, ◌*◌, ◌/◌, ◌%◌, ◌<◌, ◌≤◌, Bool, true, false, List, [], ◌∷◌, length, get_or, ℤ, pos, negsuc, nat_abs, inl, inr, refl, ap, subst, sym, arith}
 use Rattle.std.specs.Prelude.{All, int_div, ◌*ℤ◌, nat_lt, if◌then◌else◌}
 use Rattle.std.proofs.Math.Path.{fun_ext}
 use Rattle.std.proofs.lemmas.Int.{ints}
 use Rattle.std.proofs.lemmas.Bool.Decides.{eqb_tells}
 use Rattle.std.proofs.lemmas.List.Elements.{All-cons, All-nil, All-get_or, All-from_get_or}
-use Rattle.finite.proofs.Lists.{values_below-length, values_below_at, values_below-All}
+use Rattle.finite.proofs.Lists.{values_below-length, values_below_at, values_below_same, values_below-All}
 use Rattle.finite.proofs.Pieces.{HaveSize, length-pieces, get_or-pieces}
 use Rattle.cs_num.specs.Rounding.{clamped}
 use Rattle.gold.specs.Gold.{gold_bit}
 use Rattle.grid_map.specs.declared.Place.{Place}
 use Rattle.grid_map.specs.Place.{place}
 use Rattle.soft_bits.specs.Soft.{SeenSlot, soft_value, soft_values, equalised, pilot_energy}
-use Rattle.soft_bits.specs.Places.{values_at, in_subframe, placed_values, placed_value, descrambled_value, descrambled}
+use Rattle.soft_bits.specs.Places.{values_at, in_subframe, placed_values, placed_value, descrambled_value, turned_by, descrambled}
 
 -- ---- the values of places
 
@@ -86,6 +86,14 @@ pub descrambled-at : (c_init first : ℕ) (values : List ℤ) (i : ℕ) → i < 
 unfolding descrambled
 descrambled-at c_init first values i inside =
     values_below_at (λ i. descrambled_value (gold_bit c_init (first + i)) (get_or values i (pos 0))) (length values) i (pos 0) inside
+
+-- by the first bits of the sequence
+pub turned-descrambled : (bits : List Bool) (c_init first : ℕ) (values : List ℤ) → ((k : ℕ) → k < first + length values → get_or bits k false ≡ gold_bit c_init k) →
+    turned_by (λ k. get_or bits k false) first values ≡ descrambled c_init first values
+unfolding descrambled
+turned-descrambled bits c_init first values are =
+    values_below_same (length values) _ _
+    (λ i inside. ap (λ b. descrambled_value b (get_or values i (pos 0))) (are (first + i) (omega (arith, inside))))
 
 descrambled_value-small : (bound : ℕ) (bit : Bool) (z : ℤ) → nat_abs z ≤ bound → nat_abs (descrambled_value bit z) ≤ bound
 descrambled_value-small bound false z small = small

@@ -29,5 +29,5 @@ pub estimate-same : (f g : ℕ → Cpx) (shift k : ℕ) → ((i : ℕ) → i < 2
 estimate-same f g shift k same = line-same 3 23 f g shift k (λ high. omega (arith, high)) same
 
 -- the same of 12 pilots
-pub single_line-same : (f g : ℕ → Cpx) (shift k : ℕ) → ((i : ℕ) → i < 12 → f i ≡ g i) → line_by 6 11 f shift k ≡ line_by 6 11 g shift k
-single_line-same f g shift k same = line-same 6 11 f g shift k (λ high. omega (arith, high)) same
+pub upper_line-same : (f g : ℕ → Cpx) (shift k : ℕ) → ((i : ℕ) → i < 12 → f i ≡ g i) → line_by 6 11 f shift k ≡ line_by 6 11 g shift k
+upper_line-same f g shift k same = line-same 6 11 f g shift k (λ high. omega (arith, high)) same

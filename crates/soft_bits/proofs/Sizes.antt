@@ -9,11 +9,11 @@ use Rattle.finite.proofs.Lists.{values_below-All}
 use Rattle.finite.proofs.Sums.{total_below-within}
 use Rattle.crs.specs.Qpsk.{IsFull}
 use Rattle.crs.specs.declared.pattern.Pattern.{Pattern}
-use Rattle.crs.specs.Reference.{reference, single_first}
-use Rattle.crs.specs.declared.single.SinglePort.{SinglePort}
+use Rattle.crs.specs.Reference.{reference, upper_first}
+use Rattle.crs.specs.declared.upper.UpperPort.{UpperPort}
 use Rattle.crs.proofs.Values.{pattern_reference-IsPoint, reference-IsPoint}
 use Rattle.soft_bits.specs.Soft.{SeenSlot, AreSmall, seen_at, pilot_subcarrier, pattern_symbol, pattern_seen, pattern_sent, pattern_pilot, pattern_energy}
-use Rattle.soft_bits.specs.Single.{single_seen, single_pilot, single_energy}
+use Rattle.soft_bits.specs.Upper.{upper_seen, upper_pilot, upper_energy}
 
 -- what holds of all values and of the one past the end holds at each place
 all_at : {A : Type 0} (P : A → Type 0) (xs : List A) (i : ℕ) (d : A) → P d → All P xs → P (get_or xs i d)
@@ -58,27 +58,27 @@ pattern_pilots-within pattern slot small =
 
 -- ---- ports 2 and 3 of four
 
-pub single_seen-within : (port : SinglePort) (slot : SeenSlot) (m : ℕ) → AreSmall slot.symbols → IsWithin (2 ^ 25) (single_seen port slot m)
-unfolding single_seen
-single_seen-within port slot m small = seen_at-within slot 1 (single_first port slot.identity slot.number + 6 * m) small
+pub upper_seen-within : (port : UpperPort) (slot : SeenSlot) (m : ℕ) → AreSmall slot.symbols → IsWithin (2 ^ 25) (upper_seen port slot m)
+unfolding upper_seen
+upper_seen-within port slot m small = seen_at-within slot 1 (upper_first port slot.identity slot.number + 6 * m) small
 
 pub reference-within : (identity number symbol m : ℕ) → IsWithin 90 (reference identity number symbol m)
 reference-within identity number symbol m =
     let full = reference-IsPoint identity number symbol m in
     record { re = full_within _ full.re; im = full_within _ full.im }
 
-pub single_pilot-within : (port : SinglePort) (slot : SeenSlot) (m : ℕ) → AreSmall slot.symbols → IsWithin (180 * 2 ^ 25) (single_pilot port slot m)
-unfolding single_pilot
-single_pilot-within port slot m small =
-    times-within (single_seen port slot m) (conjugate (reference slot.identity slot.number 1 m)) (2 ^ 25) 90 (90 * 2 ^ 25)
-    (single_seen-within port slot m small) (conjugate-within _ 90 (reference-within slot.identity slot.number 1 m)) (omega arith)
+pub upper_pilot-within : (port : UpperPort) (slot : SeenSlot) (m : ℕ) → AreSmall slot.symbols → IsWithin (180 * 2 ^ 25) (upper_pilot port slot m)
+unfolding upper_pilot
+upper_pilot-within port slot m small =
+    times-within (upper_seen port slot m) (conjugate (reference slot.identity slot.number 1 m)) (2 ^ 25) 90 (90 * 2 ^ 25)
+    (upper_seen-within port slot m small) (conjugate-within _ 90 (reference-within slot.identity slot.number 1 m)) (omega arith)
 
-pub single_energy-within : (port : SinglePort) (slot : SeenSlot) → AreSmall slot.symbols → single_energy port slot ≤ 12 * 2 ^ 51
-unfolding single_energy
-single_energy-within port slot small =
-    total_below-within 12 (2 ^ 51) (λ m. square (single_seen port slot m))
-    (λ m few. let h = square-within (single_seen port slot m) (2 ^ 25) (single_seen-within port slot m small) in omega (arith, h))
+pub upper_energy-within : (port : UpperPort) (slot : SeenSlot) → AreSmall slot.symbols → upper_energy port slot ≤ 12 * 2 ^ 51
+unfolding upper_energy
+upper_energy-within port slot small =
+    total_below-within 12 (2 ^ 51) (λ m. square (upper_seen port slot m))
+    (λ m few. let h = square-within (upper_seen port slot m) (2 ^ 25) (upper_seen-within port slot m small) in omega (arith, h))
 
-pub single_pilots-within : (port : SinglePort) (slot : SeenSlot) → AreSmall slot.symbols → All (IsWithin (180 * 2 ^ 25)) (values_below 12 (single_pilot port slot))
-single_pilots-within port slot small =
-    values_below-All (IsWithin (180 * 2 ^ 25)) 12 (single_pilot port slot) nothing (λ m few. single_pilot-within port slot m small)
+pub upper_pilots-within : (port : UpperPort) (slot : SeenSlot) → AreSmall slot.symbols → All (IsWithin (180 * 2 ^ 25)) (values_below 12 (upper_pilot port slot))
+upper_pilots-within port slot small =
+    values_below-All (IsWithin (180 * 2 ^ 25)) 12 (upper_pilot port slot) nothing (λ m few. upper_pilot-within port slot m small)

@@ -2,4 +2,5 @@ pub mod Estimate
 pub mod Soft
 pub mod Kept
 pub mod Places
-pub mod Single
+pub mod Upper
+pub mod Front

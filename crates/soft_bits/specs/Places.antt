@@ -46,9 +46,11 @@ soft_values_of slot places = placed_values (λ p. slot) places
 abbrev pub descrambled_value : Bool → ℤ → ℤ
 descrambled_value bit value = if bit then neg_ℤ value else value
 
--- values by the bits before scrambling, of which the first is scrambled by bit `first` of the sequence
--- of c_init (TS 36.211 sections 7.2, 6.3.1, 6.6.1, 6.7.1 and 6.8.2)
+-- values by the bits before scrambling, of which the first is scrambled by bit `first` of these
+abbrev pub turned_by : (ℕ → Bool) → ℕ → List ℤ → List ℤ
+turned_by bit first values =
+    values_below (length values) (λ i. descrambled_value (bit (first + i)) (slice_index_or values i (pos 0)))
+
+-- the same by the bits of the sequence of c_init (TS 36.211 sections 7.2, 6.3.1, 6.6.1, 6.7.1 and 6.8.2)
 unfoldable pub descrambled : ℕ → ℕ → List ℤ → List ℤ
-descrambled c_init first values =
-    values_below (length values)
-    (λ i. descrambled_value (gold_bit c_init (first + i)) (slice_index_or values i (pos 0)))
+descrambled c_init first values = turned_by (gold_bit c_init) first values

@@ -22,7 +22,7 @@ pub fn estimate(pilots: &[Cpx; 24], first: u8, k: u8) -> Cpx
 /// Six times the channel at subcarrier `k`, by 12 pilots that stand at every sixth subcarrier from `first` on: linear
 /// between two of them, and level before the first and from the last on. `first` is 0 to 5 and `k` 0 to 71; a pilot is
 /// what was seen times the conjugate of what was sent.
-pub fn single_estimate(pilots: &[Cpx; 12], first: u8, k: u8) -> Cpx
+pub fn upper_estimate(pilots: &[Cpx; 12], first: u8, k: u8) -> Cpx
     requires pilots { All (IsWithin (180 * 2 ^ 25)) pilots.now }
     requires first { first < 6 }
     requires k { k < 72 }

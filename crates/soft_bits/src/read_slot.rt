@@ -5,6 +5,7 @@ ghost use Rattle.finite.specs.Sizes.{AllWithin};
 ghost use Rattle.lte_types.specs.declared.carrier.Carrier.{Carrier as CarrierValue};
 ghost use Rattle.lte_types.specs.declared.carrier.Carrier.TheVariants.{OnePort};
 ghost use Rattle.soft_bits.specs.Soft.{SeenSlot, AreSmall};
+ghost use Rattle.soft_bits.specs.Front.{LooksAtFront};
 ghost use Rattle.soft_bits.specs.Places.{Valuing, in_subframe, placed_values};
 
 use crate::Slot;
@@ -48,6 +49,10 @@ pub trait ReadSlot: Drop {
         requires room { length values.old ≡ 2 * length places.now }
         ensures values { values.new ≡ values_by (in_subframe (seen_as self.now) (seen_as second.now)) places.now }
         ensures sizes { AllWithin 127 values.new };
+
+    /// A law: the values of places in the first four symbols of a slot hang on its first five symbols alone.
+    fn looks_at_front()
+        ensures { LooksAtFront values_by };
 }
 
 impl ReadSlot for Slot {
@@ -76,6 +81,8 @@ impl ReadSlot for Slot {
     fn fill(&self, second: &Slot, places: &[Place], values: &mut [i16]) {
         fill_soft(self, second, places, values);
     }
+
+    fn looks_at_front() {}
 }
 
 /// Writes the soft values of places of a channel that stands in one slot over the whole of `values`, two a place. There

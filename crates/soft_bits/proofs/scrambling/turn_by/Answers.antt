@@ -1,25 +1,23 @@
-use Rattle.std.proofs.Common.{◌≡◌, ℕ, ◌+◌, ◌≤◌, List, ℤ, pos, nat_abs, get_or, w16, length-set, ◌∙◌, arith, get_or-set_other}
+use Rattle.std.proofs.Common.{◌≡◌, ℕ, ◌+◌, ◌≤◌, List, ℤ, false, pos, nat_abs, get_or, w16, length-set, ◌∙◌, arith, get_or-set_other}
 use Rattle.std.proofs.lemmas.Int.{to_z-of_z, fits_signed_from_abs}
 use Rattle.std.proofs.lemmas.List.Elements.{All-set, All-get_or}
 use Rattle.std.proofs.lemmas.List.Edits.{fill_by_more}
 use Rattle.std.proofs.lemmas.List.FromFn.{fill_by_all}
-use Rattle.gold.specs.Gold.{gold_bit}
-use Rattle.soft_bits.specs.Places.{descrambled_value, descrambled}
-use Rattle.soft_bits.proofs.places.descramble.Goals as goal
+use Rattle.soft_bits.specs.Places.{descrambled_value}
+use Rattle.soft_bits.proofs.scrambling.turn_by.Goals as goal
 
 pub loop-i-preserved : goal.loop-i-preserved
 loop-i-preserved c =
     let i : ℕ = c.loop-i.i in
     let old : List ℤ = c.args.values.now in
     let whole = c.loop-i.invariant.whole in
-    let item : ℕ → ℤ = λ k. descrambled_value (gold_bit c.args.c_init (c.args.first + k)) (get_or old k (pos 0)) in
+    let item : ℕ → ℤ = λ k. descrambled_value (get_or c.args.bits.now (c.args.first + k) false) (get_or old k (pos 0)) in
     let few = c.turned.ensures.size in
     let kept = to_z-of_z w16 c.turned.result (fits_signed_from_abs w16 c.turned.result (omega (arith, few))) in
     let small = All-get_or (λ value. nat_abs value ≤ 127) c.loop-i.values i (pos 0) (omega (arith, whole)) c.loop-i.invariant.small in
     let seen = to_z-of_z w16 (get_or c.loop-i.values i (pos 0)) (fits_signed_from_abs w16 (get_or c.loop-i.values i (pos 0)) (omega (arith, small))) in
-    let bit = c.write_first_bits.ensures (c.args.first + i) (omega arith) in
     let was : get_or c.loop-i.values i (pos 0) ≡ get_or old i (pos 0) = c.loop-i.invariant.left i (omega arith) in
-    let here : c.turned.result ≡ item i = rw (seen, bit, was) at c.turned.ensures.value in
+    let here : c.turned.result ≡ item i = rw (seen, was) at c.turned.ensures.value in
     rw (kept, here) (record {
       whole = length-set c.loop-i.values i _ ∙ whole;
       done = fill_by_more item c.loop-i.values i (pos 0) (omega (arith, whole)) c.loop-i.invariant.done;
@@ -28,8 +26,7 @@ loop-i-preserved c =
     })
 
 pub returns-clause-values : goal.returns-clause-values
-unfolding descrambled
 returns-clause-values c =
     let whole = c.loop-i.invariant.whole in
-    fill_by_all (λ k. descrambled_value (gold_bit c.args.c_init (c.args.first + k)) (get_or c.args.values.now k (pos 0))) c.loop-i.values _ (pos 0) whole
+    fill_by_all (λ k. descrambled_value (get_or c.args.bits.now (c.args.first + k) false) (get_or c.args.values.now k (pos 0))) c.loop-i.values _ (pos 0) whole
     (λ k few. c.loop-i.invariant.done k (omega (arith, whole, few)))

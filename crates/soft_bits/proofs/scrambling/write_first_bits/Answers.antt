@@ -2,7 +2,7 @@ use Rattle.std.proofs.Common.{◌≡◌, length, take, false, get_or, ap, ◌∙
 use Rattle.std.proofs.lemmas.List.{get_or_append_left}
 use Rattle.gold.specs.Gold.{gold_bits}
 use Rattle.gold.proofs.Bits.{length-gold_bits, get_or-gold_bits}
-use Rattle.soft_bits.proofs.places.write_first_bits.Goals as goal
+use Rattle.soft_bits.proofs.scrambling.write_first_bits.Goals as goal
 
 pub returns : goal.returns
 returns c k inside =
