@@ -1,16 +1,16 @@
 -- The coded bits of the steps by their numbers.
-use Rattle.std.proofs.Common.{◌≡◌, ◌≢◌, ℕ, ◌+◌, ◌-◌, ◌*◌, ◌/◌, ◌^◌, ◌<◌, ◌≤◌, Bool, true, false, cond, List, length, map, get_or, set, ℤ, inl, inr, refl, ap, sym, ◌∙◌, arith, length-set, get_or-set_other, get_or-set_same}
+use Rattle.std.proofs.Common.{◌≡◌, ℕ, ◌+◌, ◌-◌, ◌*◌, ◌/◌, ◌^◌, ◌<◌, ◌≤◌, Bool, true, false, cond, List, length, map, get_or, ℤ, inl, inr, refl, ap, sym, ◌∙◌, arith}
 use Rattle.std.specs.Prelude.{◌&&◌, nat_lt}
 use Rattle.std.specs.Bool.{beq}
+use Rattle.std.proofs.lemmas.List.{length-append, length-map, get_or-map, get_or_append_left, get_or-append_right}
 use Rattle.std.proofs.lemmas.Bool.{and_parts, cases_lt, ltb-true}
 use Rattle.finite.specs.Bits.{odd, xor}
 use Rattle.finite.specs.Tests.{every_below}
 use Rattle.finite.proofs.Tests.{every_below_at}
-use Rattle.paths.proofs.Rows.{row_more}
 use Rattle.conv_code.specs.Code.{parity, taps_0, taps_1, taps_2}
 use Rattle.conv_code.specs.Cost.{triple_cost}
 use Rattle.tailbite.specs.Machine.{window_bit, branch_cost}
-use Rattle.tailbite.specs.Costs.{even_codes, code_cost, AreCosts}
+use Rattle.tailbite.specs.Costs.{even_codes, spread_costs, code_cost, AreCosts}
 
 -- the number of the coded bits of the step from x by b
 abbrev code_of : ℕ → Bool → ℕ
@@ -60,6 +60,10 @@ pub code_below : (h : ℕ) → h < 32 → get_or even_codes h 0 < 8
 unfolding small_test
 code_below h below = ltb-true _ _ (every_below_at 32 small_test all_small h below)
 
+count_of_codes : length even_codes ≡ 32
+unfolding even_codes
+count_of_codes = refl
+
 -- ---- the table of a place
 
 -- what it has for the pairs of states below h
@@ -70,36 +74,40 @@ pub record HasPairs (v : List ℤ) (costs : List ℕ) (h : ℕ) : Type 0 where
   pub former_small : (k : ℕ) → k < h → get_or costs k 0 ≤ 3 * 2 ^ 20
   pub latter_small : (k : ℕ) → k < h → get_or costs (k + 32) 0 ≤ 3 * 2 ^ 20
 
-pub pairs_more : (v : List ℤ) (costs : List ℕ) (h code a b : ℕ) → code ≡ get_or even_codes h 0 → a ≡ code_cost v code → b ≡ code_cost v (7 - code) →
-    a ≤ 3 * 2 ^ 20 → b ≤ 3 * 2 ^ 20 → h < 32 → HasPairs v costs h → HasPairs v (set (set costs h a) (h + 32) b) (h + 1)
-pairs_more v costs h code a b is a_is b_is a_small b_small inside known = record {
-  size = length-set (set costs h a) (h + 32) b ∙ length-set costs h a ∙ known.size;
-  former = λ k below. at_first (λ k n. n ≡ code_cost v (get_or even_codes k 0)) known.former (a_is ∙ ap (code_cost v) is) k below;
-  latter = λ k below. at_second (λ k n. n ≡ code_cost v (7 - get_or even_codes k 0)) known.latter (b_is ∙ ap (λ p. code_cost v (7 - p)) is) k below;
-  former_small = λ k below. at_first (λ k n. n ≤ 3 * 2 ^ 20) known.former_small a_small k below;
-  latter_small = λ k below. at_second (λ k n. n ≤ 3 * 2 ^ 20) known.latter_small b_small k below;
+-- the costs by code, spread, have them for all
+pub spread_pairs : (v : List ℤ) (by_code costs : List ℕ) → costs ≡ spread_costs by_code →
+    ((p : ℕ) → p < 8 → get_or by_code p 0 ≡ code_cost v p) → ((p : ℕ) → p < 8 → get_or by_code p 0 ≤ 3 * 2 ^ 20) → HasPairs v costs 32
+unfolding spread_costs
+spread_pairs v by_code costs is each small = record {
+  size = ap length is ∙ length-append first second ∙ rw (long, long') refl;
+  former = λ k below. at_first k below ∙ each (get_or even_codes k 0) (code_below k below);
+  latter = λ k below. at_second k below ∙ each (7 - get_or even_codes k 0) (omega arith);
+  former_small = λ k below. rw (at_first k below) (small (get_or even_codes k 0) (code_below k below));
+  latter_small = λ k below. rw (at_second k below) (small (7 - get_or even_codes k 0) (omega arith));
 }
   where
-    at_first : (P : ℕ → ℕ → Type 0) → ((k : ℕ) → k < h → P k (get_or costs k 0)) → P h a →
-        (k : ℕ) → k < h + 1 → P k (get_or (set (set costs h a) (h + 32) b) k 0)
-    at_first P before here k below =
-        let apart : k ≢ h + 32 = omega (arith, below, inside) in
-        let size = known.size in
-        rw (get_or-set_other (set costs h a) (h + 32) k b 0 apart) (row_more P costs h a (omega (arith, inside, size)) before here k below)
+    first : List ℕ
+    first = map (λ code. get_or by_code code 0) even_codes
 
-    at_second : (P : ℕ → ℕ → Type 0) → ((k : ℕ) → k < h → P k (get_or costs (k + 32) 0)) → P h b →
-        (k : ℕ) → k < h + 1 → P k (get_or (set (set costs h a) (h + 32) b) (k + 32) 0)
-    at_second P before here k below = elim (cases_lt k h) [
-      | inl less ↦
-          let apart : k + 32 ≢ h + 32 = omega (arith, less) in
-          let apart' : k + 32 ≢ h = omega (arith, inside) in
-          rw (get_or-set_other (set costs h a) (h + 32) (k + 32) b 0 apart, get_or-set_other costs h (k + 32) a 0 apart') (before k less)
-      | inr no_less ↦
-          let e : k ≡ h = omega (arith, below, no_less) in
-          let size = length-set costs h a in
-          let size' = known.size in
-          rw (e, get_or-set_same (set costs h a) (h + 32) b 0 (omega (arith, size, size', inside))) here
-    ]
+    second : List ℕ
+    second = map (λ code. get_or by_code (7 - code) 0) even_codes
+
+    long : length first ≡ 32
+    long = length-map even_codes _ ∙ count_of_codes
+
+    long' : length second ≡ 32
+    long' = length-map even_codes _ ∙ count_of_codes
+
+    at_first : (k : ℕ) → k < 32 → get_or costs k 0 ≡ get_or by_code (get_or even_codes k 0) 0
+    at_first k below =
+        ap (λ xs. get_or xs k 0) is ∙ get_or_append_left first second 0 k (omega (arith, long, below))
+        ∙ get_or-map (λ code. get_or by_code code 0) even_codes k 0 0 (omega (arith, count_of_codes, below))
+
+    at_second : (k : ℕ) → k < 32 → get_or costs (k + 32) 0 ≡ get_or by_code (7 - get_or even_codes k 0) 0
+    at_second k below =
+        let e : k + 32 - 32 ≡ k = omega arith in
+        ap (λ xs. get_or xs (k + 32) 0) is ∙ get_or-append_right first second 32 (k + 32) 0 long (omega arith)
+        ∙ rw e (get_or-map (λ code. get_or by_code (7 - code) 0) even_codes k 0 0 (omega (arith, count_of_codes, below)))
 
 half_cost : (v : List ℤ) (costs : List ℕ) (h : ℕ) (t : Bool) → HasPairs v costs 32 → h < 32 →
     get_or costs (h + cond t 32 0) 0 ≡ code_cost v (cond t (7 - get_or even_codes h 0) (get_or even_codes h 0))

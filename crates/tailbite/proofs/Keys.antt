@@ -1,17 +1,17 @@
 -- The keys that passes give are bounds and keys of words, and the least key is that of the least word.
-use Rattle.std.proofs.Common.{◌≡◌, ℕ, ◌+◌, ◌*◌, ◌/◌, ◌%◌, ◌^◌, ◌<◌, ◌≤◌, Bool, List, [], length, max, get_or, set, ℤ, refl, ap, sym, ◌∙◌, subst, inl, inr, arith, get_or-set_other, get_or-set_same}
+use Rattle.std.proofs.Common.{◌≡◌, ℕ, ◌+◌, ◌-◌, ◌*◌, ◌/◌, ◌%◌, ◌^◌, ◌<◌, ◌≤◌, Bool, List, [], length, max, get_or, set, ℤ, refl, ap, sym, ◌∙◌, subst, inl, inr, arith, get_or-set_other, get_or-set_same}
 use Rattle.std.specs.Prelude.{min}
 use Rattle.std.proofs.lemmas.Bool.Decides.{eqb_tells}
 use Rattle.std.proofs.Math.Pow.{pow_mono}
 use Rattle.finite.specs.Sizes.{RowsWithin}
 use Rattle.cs_bits.specs.Numbers.{number, bits_of}
 use Rattle.cs_bits.proofs.Numbers.{number_below, bits_of_is, length-bits_of}
-use Rattle.paths.specs.Paths.{end_of, path_cost, walked, best}
+use Rattle.paths.specs.Paths.{end_of, path_cost, walked}
 use Rattle.paths.specs.Words.{IsFirstLeast}
 use Rattle.paths.specs.Least.{ends_in, IsLeastTo}
 use Rattle.paths.proofs.Walks.{length-walked, walked_first, first_least_is_best}
 use Rattle.paths.proofs.Keys.{first_least-key, first_least_by_key}
-use Rattle.paths.proofs.Best.{min_cases, best-le}
+use Rattle.paths.proofs.Best.{min_cases}
 use Rattle.paths.proofs.Rounds.{ends_in_same, ends_in_other}
 use Rattle.conv_code.specs.Cost.{word_cost}
 use Rattle.conv_code.proofs.Costs.{word_cost-le}
@@ -66,16 +66,13 @@ pass_bound values ends tables rows s have passed long short below free word size
     let told = told_cost values ends tables rows s have passed below in
     omega (arith, cost, free_end, least, told)
 
--- where all ends and all starts are free, no word that starts in s, and so ends there, costs less than either
-pub cost_bound : (values : List (List ℤ)) (ends : ℕ → ℕ) (rows : List (List ℕ)) (s m : ℕ) → IsPass values ends rows → 6 ≤ length values → s < 64 → ends s ≡ 0 →
-    IsLeastTo shift (step_cost values) (λ start. 0) 64 (length values) s m → IsBound values s (max (get_or (get_or rows 0 []) s 0) m * scale)
-cost_bound values ends rows s m passed long below free to word size is =
+-- no word that starts in s, and so ends there, costs less than what the least cost to s is beyond what the start in s costs
+pub cost_bound : (values : List (List ℤ)) (starts : ℕ → ℕ) (s m : ℕ) → 6 ≤ length values → s < 64 →
+    IsLeastTo shift (step_cost values) starts 64 (length values) s m → IsBound values s ((m - starts s) * scale)
+cost_bound values starts s m long below to word size is =
     let (back, cost) = round values s word size long below is in
-    let free_end : ends (end_of shift s word) ≡ 0 = ap ends back ∙ free in
-    let from_s = best-le shift (step_cost values) ends 0 s word in
-    let from_is : get_or (get_or rows 0 []) s 0 ≡ best shift (step_cost values) ends 0 (length word) s = passed.cost 0 (length word) s (omega (arith, size)) below in
     let to_s = to.least s word below size back in
-    omega (arith, cost, free_end, from_s, from_is, to_s)
+    omega (arith, cost, to_s)
 
 -- where the path ends in s too, and that is free, it is a word's
 pub pass_key : (values : List (List ℤ)) (ends : ℕ → ℕ) (tables : List (List ℕ)) (rows : List (List ℕ)) (s : ℕ) → HaveCosts values tables (length values) → IsPass values ends rows →

@@ -1,5 +1,5 @@
 -- The costs of a place's steps in a table, which is made once for all passes (own).
-use Rattle.std.specs.Prelude.{◌≡◌, ℕ, ◌*◌, ◌/◌, ◌^◌, ◌<◌, ◌≤◌, Bool, List, [], ◌∷◌, slice_index, slice_index_or, ℤ}
+use Rattle.std.specs.Prelude.{◌≡◌, ℕ, ◌-◌, ◌*◌, ◌/◌, ◌^◌, ◌<◌, ◌≤◌, Bool, List, [], ◌∷◌, ◌++◌, map, slice_index, slice_index_or, ℤ}
 use Rattle.finite.specs.Bits.{odd, xor}
 use Rattle.conv_code.specs.Cost.{triple_cost}
 use Rattle.tailbite.specs.Machine.{shift, branch_cost}
@@ -10,6 +10,12 @@ unfoldable pub even_codes : List ℕ
 even_codes =
     0 ∷ 4 ∷ 1 ∷ 5 ∷ 6 ∷ 2 ∷ 7 ∷ 3 ∷ 7 ∷ 3 ∷ 6 ∷ 2 ∷ 1 ∷ 5 ∷ 0 ∷ 4 ∷
     3 ∷ 7 ∷ 2 ∷ 6 ∷ 5 ∷ 1 ∷ 4 ∷ 0 ∷ 4 ∷ 0 ∷ 5 ∷ 1 ∷ 2 ∷ 6 ∷ 3 ∷ 7 ∷ []
+
+-- the costs of a place's steps, by what each three coded bits cost: first of those bits of even_codes, then of the
+-- opposite ones
+unfoldable pub spread_costs : List ℕ → List ℕ
+spread_costs by_code =
+    map (λ code. slice_index_or by_code code 0) even_codes ++ map (λ code. slice_index_or by_code (7 - code) 0) even_codes
 
 -- what the three values of a place speak against the coded bits with this number
 abbrev pub code_cost : List ℤ → ℕ → ℕ

@@ -91,15 +91,17 @@ fn step_on(costs: &StepCosts, row: &Row) -> Row
     later
 }
 
-/// The least cost of a path through all places to each state, wherever it starts.
-pub(crate) fn reach(values: &[[i32; 3]], tables: &[StepCosts]) -> Row
+/// The least cost of a path through all places to each state, with what `starts` says of the state in which it starts.
+pub(crate) fn reach(values: &[[i32; 3]], tables: &[StepCosts], starts: &Row) -> Row
     requires places { length values.now ≤ 64 }
     requires tables { length values.now ≤ length tables.now }
     requires costs { HaveCosts values.now tables.now (length values.now) }
+    requires starts { (x : ℕ) → x < 64 → slice_index starts.now x ≤ 2 ^ 30 }
     ensures { (x : ℕ) → x < 64 →
-        IsLeastTo shift (step_cost values.now) (λ start. 0) 64 (length values.now) x (slice_index result x) }
+        IsLeastTo shift (step_cost values.now) (slice_index starts.now) 64 (length values.now) x
+        (slice_index result x) }
 {
-    let mut row = [0; 64];
+    let mut row = *starts;
     for i in 0..values.len() {
         row = step_on(&tables[i], &row);
     }

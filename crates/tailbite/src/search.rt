@@ -1,12 +1,14 @@
 //! The search for the least key, over the states in which a word may start and end. A key is the cost of a word
 //! times 2^64 plus its number: it tells words of equal cost apart, and the least key is that of the least word.
 //!
-//! A pass back with every end free, and one on with every start free, give each state a bound: the least cost of a path
-//! that starts there, wherever it ends, and of one that ends there. Where the bound of a state is below the key of a
-//! word that was found, the key of the least path from it is a better one. The start states are then searched in order
-//! of their bounds, until none is below the least key that was found.
+//! A pass back with every end free gives each state the least cost of a path that starts there, wherever it ends. A
+//! pass on, in which a start costs so much the less as that is more, then gives each state a bound: a path that starts
+//! and ends there is one of those that end there, so it costs no less than these cost beyond what its own start does.
+//! Where the bound of a state is below the key of a word that was found, the key of the least path from it, wherever
+//! that ends, is another one. The start states are then searched in order of their bounds, until none is below the
+//! least key that was found.
 
-ghost use Rattle.std.specs.Prelude.{◌≡◌, ℕ, ◌+◌, ◌*◌, ◌^◌, ◌<◌, ◌≤◌, length, max, slice_index};
+ghost use Rattle.std.specs.Prelude.{◌≡◌, ℕ, ◌+◌, ◌-◌, ◌*◌, ◌^◌, ◌<◌, ◌≤◌, length, slice_index};
 ghost use Rattle.finite.specs.Sizes.{RowsWithin};
 ghost use Rattle.paths.specs.Least.{ends_in};
 ghost use Rattle.conv_code.specs.Cost.{word_cost};
@@ -70,13 +72,25 @@ fn key_from(values: &[[i32; 3]], tables: &[StepCosts], rows: &mut [Row], start: 
     key_of(rows[0][start], word)
 }
 
-/// Writes the least cost of a path that starts in each state or of one that ends there, whichever is greater, as a key.
-fn fill_bounds(from: &Row, to: &Row, bounds: &mut [u128; 64])
+/// What each start costs in the pass on: so much the less as the least cost of a path from it is more.
+fn starts_by(from: &Row) -> Row
+    ensures starts { (x : ℕ) → x < 64 → slice_index result x ≡ far - slice_index from.now x }
+    ensures room { (x : ℕ) → x < 64 → slice_index result x ≤ 2 ^ 30 }
+{
+    let mut starts = [0; STATES];
+    for x in 0..STATES {
+        starts[x] = FAR.saturating_sub(from[x]);
+    }
+    starts
+}
+
+/// Writes what the least cost to each state is beyond what a start in it costs, as a key.
+fn fill_bounds(starts: &Row, to: &Row, bounds: &mut [u128; 64])
     ensures { (x : ℕ) → x < 64 →
-        slice_index bounds.new x ≡ max (slice_index from.now x) (slice_index to.now x) * scale }
+        slice_index bounds.new x ≡ (slice_index to.now x - slice_index starts.now x) * scale }
 {
     for x in 0..STATES {
-        bounds[x] = key_of(from[x].max(to[x]), 0);
+        bounds[x] = key_of(to[x].saturating_sub(starts[x]), 0);
     }
 }
 
@@ -141,7 +155,8 @@ fn least_key(values: &[[i32; 3]], tables: &[StepCosts], free: &mut [Row], rows: 
 {
     let mut bounds = [0; STATES];
     pass(values, tables, &free_ends(), free);
-    fill_bounds(&free[0], &reach(values, tables), &mut bounds);
+    let starts = starts_by(&free[0]);
+    fill_bounds(&starts, &reach(values, tables, &starts), &mut bounds);
     let mut start = state_of_least(&bounds);
     let mut least = key_from(values, tables, rows, start);
     bounds[start] = least;

@@ -13,7 +13,7 @@ raise_bounds-least-requires-clause-bounds c =
     let all : AreBounds c.args.values.now c.fill_bounds.new.bounds = record {
       bound = λ s below.
           rw (c.fill_bounds.ensures s below)
-          (cost_bound _ _ _ s _ c.pass.ensures.pass c.requires.low below (c.free_ends.ensures s below) (c.reach.ensures s below));
+          (cost_bound _ _ s _ c.requires.low below (c.reach.ensures s below));
     } in
     bounds_with _ _ _ _ (omega (arith, c.fill_bounds.array_long, c.state_of_least-start.ensures.state)) all c.key_from-least.ensures.bound
 
