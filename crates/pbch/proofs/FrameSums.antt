@@ -8,18 +8,20 @@ use Rattle.std.proofs.lemmas.List.Elements.{All-nil, All-head, All-tail, All-app
 use Rattle.finite.specs.Sizes.{AllWithin, RowsWithin}
 use Rattle.finite.specs.Lists.{values_below}
 use Rattle.finite.proofs.Lists.{values_below-All}
+use Rattle.grid_map.specs.declared.Place.{Place}
 use Rattle.grid_map.specs.Broadcast.{pbch_places}
 use Rattle.grid_map.specs.Scrambling.{pbch_c_init}
-use Rattle.grid_map.proofs.Points.{length-pbch_places}
+use Rattle.grid_map.proofs.Points.{length-pbch_places, places_in_front}
 use Rattle.soft_bits.specs.Soft.{SeenSlot}
-use Rattle.soft_bits.specs.Places.{descrambled}
+use Rattle.soft_bits.specs.Places.{Valuing, descrambled}
+use Rattle.soft_bits.specs.Front.{HaveOneFront, LooksAtFront}
 use Rattle.soft_bits.proofs.Channel.{length-placed, placed-small, length-descrambled, descrambled-small}
 use Rattle.sub_block.specs.Items.{summed_at}
 use Rattle.sub_block.proofs.Rounds.{GoesRound, summed_at-small}
 use Rattle.conv_code.specs.Reading.{item_of, summed_by}
 use Rattle.conv_code.proofs.Items.{permuting}
 use Rattle.conv_code.proofs.Sums.{length-summed_by, length-summed_by_row}
-use Rattle.pbch.specs.Values.{received_values, summed_values, identity_of}
+use Rattle.pbch.specs.Values.{received_values_by, received_values, summed_values, identity_of}
 
 -- what is not read
 abbrev pub no_slot : SeenSlot
@@ -36,6 +38,12 @@ length-received_values slot = length-placed (λ p. slot) (pbch_places slot.ident
 
 pub received_values-small : (slot : SeenSlot) → AllWithin 127 (received_values slot)
 received_values-small slot = placed-small (λ p. slot) (pbch_places slot.identity)
+
+-- they are told by the front of the slot
+pub front_received : (values : Valuing) (a b : SeenSlot) → LooksAtFront values → HaveOneFront a b → received_values_by values a ≡ received_values_by values b
+front_received values a b looks one =
+    looks a b (pbch_places a.identity) one (places_in_front a.identity)
+    ∙ ap (λ identity. values (λ (p : Place). b) (pbch_places identity)) one.identity
 
 -- ---- frames, one after the other
 

@@ -6,12 +6,12 @@ ghost use Rattle.finite.specs.Sizes.{AllWithin, RowsWithin};
 ghost use Rattle.arrayvec.specs.ArrayVec.{array_vec_len};
 ghost use Rattle.pbch.specs.Values.{received_values_by, summed_values, identity_of, coded_values};
 
-use crate::Received;
+use crate::{CellScrambling, Received};
 use arrayvec::ArrayVec;
 use conv_code::combine_from;
-use grid_map::{pbch_c_init, pbch_places};
+use grid_map::pbch_places;
 use lte_types::CellId;
-use soft_bits::{ReadSlot, Slot, descramble, fill_slot};
+use soft_bits::{ReadSlot, Slot, fill_slot};
 
 /// The values of the coded word of 40 bits: at each place and in each stream the sum of the soft values
 /// of all the frames that were sent for it, four of each frame. `slots` are slots 1 of 1 to 4 frames of
@@ -53,8 +53,17 @@ pub fn sums_of(id: CellId, first: usize, frames: &[Received]) -> [[i32; 3]; 40]
     ensures values { result ≡ summed_values id first (flat_map (λ frame. frame) frames.now) }
     ensures sizes { RowsWithin 2032 result }
 {
+    sums_by(&CellScrambling::new(id), first, frames)
+}
+
+// The same by the scrambling bits of the cell.
+pub(crate) fn sums_by(cell: &CellScrambling, first: usize, frames: &[Received]) -> [[i32; 3]; 40]
+    requires period { first + 480 * length frames.now ≤ 1920 }
+    ensures values { result ≡ summed_values cell.now first (flat_map (λ frame. frame) frames.now) }
+    ensures sizes { RowsWithin 2032 result }
+{
     let mut values = joined(frames);
-    descramble(pbch_c_init(id), first, values.as_mut_slice());
+    cell.descramble(first, values.as_mut_slice());
     combine_from(first, values.as_slice())
 }
 

@@ -8,9 +8,8 @@ ghost use Rattle.pbch.specs.Values.{summed_values, identity_of};
 ghost use Rattle.pbch.specs.Master.{total, TellsMaster, TellsNothing, IsMaster, HasNoMaster, AreMasters, sums_at};
 
 use crate::block::{mib_of, ports_of};
-use crate::broadcast::{sums_of, values};
-use crate::{Master, Received, Sums};
-use lte_types::CellId;
+use crate::broadcast::{sums_by, values};
+use crate::{CellScrambling, Master, Received, Sums};
 use soft_bits::Slot;
 use tailbite::{Trellis, least};
 
@@ -44,20 +43,25 @@ struct Told {
     sums: Sums,
 }
 
-/// What frames of a cell tell at phases 0 to 3, from what was received in each of the frames: each master
-/// block as `explain_slots` gives it, and the sums that tell it, as `values` gives them. A frame has `size` of
-/// the bits of the period: 480, or 432 with the extended cyclic prefix. Where the frames would not be in one
+/// What frames of a cell tell at phases 0 to 3, by its scrambling bits and what was received in each of the frames:
+/// each master block as `explain_slots` gives it, and the sums that tell it, as `values` gives them. A frame has `size`
+/// of the bits of the period: 480, or 432 with the extended cyclic prefix. Where the frames would not be in one
 /// period, there is no master block, and the sums say nothing.
-pub fn masters(id: CellId, size: usize, frames: &[Received], work: &mut Trellis) -> ByPhase
+pub fn masters(
+    cell: &CellScrambling,
+    size: usize,
+    frames: &[Received],
+    work: &mut Trellis,
+) -> ByPhase
     requires { size ≤ 480 }
-    ensures masters { AreMasters id size (length frames.now) (flat_map (λ frame. frame) frames.now) result.at }
+    ensures masters { AreMasters cell.now size (length frames.now) (flat_map (λ frame. frame) frames.now) result.at }
     ensures sums { (phase : ℕ) → phase < 4 → phase + length frames.now ≤ 4 →
-        sums_at result.sums phase ≡ summed_values id (size * phase) (flat_map (λ frame. frame) frames.now) }
+        sums_at result.sums phase ≡ summed_values cell.now (size * phase) (flat_map (λ frame. frame) frames.now) }
 {
-    let first = told_at(id, size, 0, frames, work);
-    let second = told_at(id, size, 1, frames, work);
-    let third = told_at(id, size, 2, frames, work);
-    let fourth = told_at(id, size, 3, frames, work);
+    let first = told_at(cell, size, 0, frames, work);
+    let second = told_at(cell, size, 1, frames, work);
+    let third = told_at(cell, size, 2, frames, work);
+    let fourth = told_at(cell, size, 3, frames, work);
     ByPhase {
         at: [first.master, second.master, third.master, fourth.master],
         sums: [first.sums, second.sums, third.sums, fourth.sums],
@@ -65,14 +69,20 @@ pub fn masters(id: CellId, size: usize, frames: &[Received], work: &mut Trellis)
 }
 
 // What frames of this size tell of which the first has this phase.
-fn told_at(id: CellId, size: usize, phase: u8, frames: &[Received], work: &mut Trellis) -> Told
+fn told_at(
+    cell: &CellScrambling,
+    size: usize,
+    phase: u8,
+    frames: &[Received],
+    work: &mut Trellis,
+) -> Told
     requires size { size ≤ 480 }
     requires phase { phase < 4 }
     ensures told { phase + length frames.now ≤ 4 →
-        let values = summed_values id (size * phase) (flat_map (λ frame. frame) frames.now) in
+        let values = summed_values cell.now (size * phase) (flat_map (λ frame. frame) frames.now) in
         MatchOption result.master (TellsNothing values) (TellsMaster values) }
     ensures sums { phase + length frames.now ≤ 4 →
-        result.sums ≡ summed_values id (size * phase) (flat_map (λ frame. frame) frames.now) }
+        result.sums ≡ summed_values cell.now (size * phase) (flat_map (λ frame. frame) frames.now) }
     ensures beyond { 4 < phase + length frames.now → result.master ≡ None }
 {
     if frames.len() > 4 - phase as usize {
@@ -81,7 +91,7 @@ fn told_at(id: CellId, size: usize, phase: u8, frames: &[Received], work: &mut T
             sums: Sums::new(&[[0; 3]; 40]),
         };
     }
-    let sums = sums_of(id, size * phase as usize, frames);
+    let sums = sums_by(cell, size * phase as usize, frames);
     Told {
         master: master_of(&sums, work),
         sums: Sums::new(&sums),

@@ -8,6 +8,7 @@ mod explain;
 mod frame;
 mod laws;
 mod master;
+mod scrambling;
 mod word_sums;
 
 pub use broadcast::{received, sums_of, values};
@@ -15,4 +16,5 @@ pub use explain::{ByPhase, explain_slots, master_of, masters, total_of};
 pub use frame::Received;
 pub use laws::at_most_one_master;
 pub use master::Master;
+pub use scrambling::CellScrambling;
 pub use word_sums::Sums;

@@ -1,13 +1,14 @@
-use Rattle.std.proofs.Common.{◌≡◌, ◌∙◌, ◌++◌, List, ℤ, length, take, drop, ap, ap₂, arith, sym, subst}
+use Rattle.std.proofs.Common.{◌≡◌, ◌∙◌, ◌++◌, List, ℤ, length, take, drop, ap, arith, sym, subst}
 use Rattle.std.specs.List.{flat_map}
 use Rattle.std.proofs.Math.Seq.{take-append_seam}
 use Rattle.finite.specs.Sizes.{AllWithin, RowsWithin}
+use Rattle.grid_map.specs.Scrambling.{pbch_c_init}
 use Rattle.soft_bits.specs.Places.{descrambled}
 use Rattle.soft_bits.proofs.Channel.{length-descrambled}
 use Rattle.conv_code.specs.Reading.{summed_from}
 use Rattle.pbch.specs.Values.{summed_values}
 use Rattle.pbch.proofs.FrameSums.{summed_values-small}
-use Rattle.pbch.proofs.broadcast.sums_of.Goals as goal
+use Rattle.pbch.proofs.broadcast.sums_by.Goals as goal
 
 pub returns-clause-values : goal.returns-clause-values
 unfolding summed_values
@@ -20,7 +21,7 @@ returns-clause-values c =
     let front : c.as_slice.result.now ≡ new =
     c.as_slice.ensures.value ∙ ap (λ n. take n (new ++ drop (length new) old)) (sym size) ∙ take-append_seam new (drop (length new) old) in
     c.combine_from.ensures.sums ∙ ap (summed_from c.args.first 40) (front ∙ c.descramble.ensures.values
-    ∙ ap₂ (λ seed values. descrambled seed c.args.first values) c.pbch_c_init.ensures.value (c.as_mut_slice.ensures.value ∙ c.joined-values.ensures.values))
+    ∙ ap (descrambled (pbch_c_init c.args.cell.now) c.args.first) (c.as_mut_slice.ensures.value ∙ c.joined-values.ensures.values))
 
 pub returns-clause-sizes : goal.returns-clause-sizes
 returns-clause-sizes c =
@@ -29,4 +30,4 @@ returns-clause-sizes c =
     let many = c.joined-values.ensures.count in
     let all = ap (λ (values : List ℤ). length values) c.joined-values.ensures.values in
     subst (RowsWithin 2032) (sym (returns-clause-values c))
-    (summed_values-small c.args.id c.args.first received (subst (AllWithin 127) c.joined-values.ensures.values c.joined-values.ensures.sizes) (omega (arith, many, few, all)))
+    (summed_values-small c.args.cell.now c.args.first received (subst (AllWithin 127) c.joined-values.ensures.values c.joined-values.ensures.sizes) (omega (arith, many, few, all)))
