@@ -1,5 +1,5 @@
 -- The frames of which master blocks were told, among those that were received.
-use Rattle.std.proofs.Common.{inl, inr, ℕ, ◌+◌, ◌-◌, ◌<◌, ◌≤◌, List, Option, arith, subst, sym}
+use Rattle.std.proofs.Common.{◌≡◌, inl, inr, ℕ, ◌+◌, ◌-◌, ◌<◌, ◌≤◌, List, Option, arith, subst, sym}
 use Rattle.cs_num.specs.declared.Sample.{Sample}
 use Rattle.pbch.specs.declared.master.Master.{Master}
 use Rattle.lte_types.specs.CellPlace.{Place}
@@ -8,6 +8,15 @@ use Rattle.explain.specs.Told.{Telling}
 use Rattle.explain.specs.Window.{IsInWindow, ComeBefore, TellNone, HasNoMasters}
 use Rattle.explain.specs.Masters.{AreFirstWith}
 use Rattle.explain.specs.Received.{NoneTell, AreFirstOf}
+
+-- which frames lie within the recording, of two places that are one
+pub whole_at : (recording : List Sample) (here there : Place) → here ≡ there → (whole : ℕ) →
+    ((j : ℕ) → j < whole → IsWhole recording there.start j) → ((j : ℕ) → j < 8 → IsWhole recording there.start j → j < whole) →
+    ((j : ℕ) → j < whole → IsWhole recording here.start j) × ((j : ℕ) → j < 8 → IsWhole recording here.start j → j < whole)
+whole_at recording here there same whole inside all = (
+  subst (λ (place : Place). (j : ℕ) → j < whole → IsWhole recording place.start j) (sym same) inside,
+  subst (λ (place : Place). (j : ℕ) → j < 8 → IsWhole recording place.start j → j < whole) (sym same) all,
+)
 
 -- where the first `whole` of frames 0 to 7 lie within the recording, and no others
 module _ (Tells : Telling) (recording : List Sample) (place : Place) (whole : ℕ) (few : whole ≤ 8) (inside : (j : ℕ) → j < whole → IsWhole recording place.start j)

@@ -1,6 +1,6 @@
 //! The frames of a recording.
 
-ghost use Rattle.std.specs.Prelude.{◌≡◌, ℕ, ◌+◌, ◌^◌, ◌<◌, ◌≤◌, ◌↔◌, IsTrue, All, length};
+ghost use Rattle.std.specs.Prelude.{◌≡◌, ℕ, ◌+◌, ◌^◌, ◌<◌, ◌≤◌, ◌↔◌, [], IsTrue, All, length, slice_index_or};
 ghost use Rattle.cs_num.specs.Complex.{IsWithin};
 ghost use Rattle.lte_types.specs.Numerology.{frame_length, normal, useful_start};
 ghost use Rattle.observe.specs.Seen.{seen_symbol};
@@ -80,6 +80,45 @@ pub(crate) fn symbols_of(
 {
     let frame = place.start() as usize + FRAME_LENGTH * j as usize;
     symbols_in(recording, frame, number)
+}
+
+// The values of a symbol that is not looked at.
+fn zeros() -> [Cpx; 72]
+    ensures { All (IsWithin (2 ^ 25)) result }
+{
+    [Cpx::ZERO; 72]
+}
+
+// The first five symbols of slot 1, in a frame that begins at the given sample, and two more that are not looked at.
+fn front_in(recording: &Recording, frame: usize) -> [[Cpx; 72]; 7]
+    requires within { frame + frame_length ≤ length recording.now }
+    requires small { frame < 2 ^ 40 }
+    ensures front { (identity symbol : ℕ) → symbol < 5 → slice_index_or result symbol []
+        ≡ slice_index_or (seen_slot recording.now frame 1 identity).symbols symbol [] }
+    ensures small { AreSmall result }
+{
+    [
+        symbol_of(recording, frame, 1, 0),
+        symbol_of(recording, frame, 1, 1),
+        symbol_of(recording, frame, 1, 2),
+        symbol_of(recording, frame, 1, 3),
+        symbol_of(recording, frame, 1, 4),
+        zeros(),
+        zeros(),
+    ]
+}
+
+/// The first five symbols of the slot of frame `j` of a cell that carries the broadcast channel, as they are seen, and
+/// two more that are not looked at: neither the channel nor its reference signals are in them. The frame lies within
+/// the recording. Components have size at most 2^25.
+pub(crate) fn broadcast_front(recording: &Recording, place: CellPlace, j: u8) -> [[Cpx; 72]; 7]
+    requires { IsWhole recording.now place.start j }
+    ensures front { (symbol : ℕ) → symbol < 5 → slice_index_or result symbol []
+        ≡ slice_index_or (broadcast_slot_of recording.now place.id place.start j).symbols symbol [] }
+    ensures small { AreSmall result }
+{
+    let frame = place.start() as usize + FRAME_LENGTH * j as usize;
+    front_in(recording, frame)
 }
 
 /// The slot of frame `j` of a cell that carries the broadcast channel, as it is seen. The frame

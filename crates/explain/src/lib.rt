@@ -17,6 +17,7 @@ mod places;
 mod reading;
 mod reading_list;
 mod readings;
+mod scrambled_cell;
 mod slots;
 mod system;
 mod workspace;

@@ -15,6 +15,7 @@ ghost use Rattle.explain.specs.Window.{TellNone, HasNoMasters};
 
 use crate::FrameReader;
 use crate::frame::whole_frames;
+use crate::scrambled_cell::ScrambledCell;
 use arrayvec::ArrayVec;
 use lte_types::CellPlace;
 use pbch::{Master, Received, Sums, masters};
@@ -50,13 +51,14 @@ pub(crate) fn first_masters<F: FrameReader>(
         AreSums (sums_by F.receiver recording.now place) found.frames found.frame found.sums) }
 {
     let whole = whole_frames(recording, place);
+    let cell = ScrambledCell::new(place);
     let mut frames = Frames::new();
-    match first_alone(reader, recording, place, whole, &mut frames, work) {
+    match first_alone(reader, recording, &cell, whole, &mut frames, work) {
         Some(found) => return Some(found),
         None => {}
     }
     for count in 2..5 {
-        match first_of(reader, place, count, frames.as_slice(), work) {
+        match first_of(reader, &cell, count, frames.as_slice(), work) {
             Some(found) => return Some(found),
             None => {}
         }
@@ -68,30 +70,30 @@ pub(crate) fn first_masters<F: FrameReader>(
 fn first_alone<F: FrameReader>(
     reader: &F,
     recording: &Recording,
-    place: CellPlace,
+    cell: &ScrambledCell,
     whole: u8,
     frames: &mut Frames,
     work: &mut Trellis,
 ) -> Option<Masters>
     requires few { whole ≤ 8 }
-    requires whole { (j : ℕ) → j < whole → IsWhole recording.now place.start j }
+    requires whole { (j : ℕ) → j < whole → IsWhole recording.now cell.now.start j }
     requires none { frames.old.items ≡ [] }
     ensures found { let Tells = IsMasterFor F.receiver recording.now in
-        MatchOption result (NoneTell Tells place whole 1)
-        (λ found. (found.frames ≡ 1) × AreFirstOf Tells place whole 1 found.frame found.at) }
+        MatchOption result (NoneTell Tells cell.now whole 1)
+        (λ found. (found.frames ≡ 1) × AreFirstOf Tells cell.now whole 1 found.frame found.at) }
     ensures sums { IfSome result (λ found.
-        AreSums (sums_by F.receiver recording.now place) found.frames found.frame found.sums) }
+        AreSums (sums_by F.receiver recording.now cell.now) found.frames found.frame found.sums) }
     ensures received { MatchOption result
         ((array_vec_len frames.new ≡ whole)
-        × AreReceived (F.receiver.broadcast recording.now place) 0 frames.new.items) (λ found. Unit) }
+        × AreReceived (F.receiver.broadcast recording.now cell.now) 0 frames.new.items) (λ found. Unit) }
     ensures sizes { All (λ frame. length frame ≡ F.receiver.size) frames.new.items }
 {
     for frame in 0..whole {
-        frames.push(reader.received(recording, place, frame));
+        frames.push(reader.received(recording, cell.place(), frame));
         let last = frame as usize;
         match masters_of(
             reader,
-            place,
+            cell,
             frame,
             &frames.as_slice()[last..last + 1],
             work,
@@ -106,7 +108,7 @@ fn first_alone<F: FrameReader>(
 // The first `count` of the first frames that have a master block together, by what was received of all of these.
 fn first_of<F: FrameReader>(
     reader: &F,
-    place: CellPlace,
+    cell: &ScrambledCell,
     count: u8,
     frames: &[Received],
     work: &mut Trellis,
@@ -116,22 +118,22 @@ fn first_of<F: FrameReader>(
     requires known { length frames.now ≤ 8 }
     requires sizes { All (λ frame. length frame ≡ F.receiver.size) frames.now }
     ensures masters { (recording : List Sample) →
-        AreReceived (F.receiver.broadcast recording place) 0 frames.now →
+        AreReceived (F.receiver.broadcast recording cell.now) 0 frames.now →
         let Tells = IsMasterFor F.receiver recording in
-        MatchOption result (NoneTell Tells place (length frames.now) count)
+        MatchOption result (NoneTell Tells cell.now (length frames.now) count)
         (λ found. (found.frames ≡ count)
-        × AreFirstOf Tells place (length frames.now) count found.frame found.at) }
+        × AreFirstOf Tells cell.now (length frames.now) count found.frame found.at) }
     ensures sums { (recording : List Sample) →
-        AreReceived (F.receiver.broadcast recording place) 0 frames.now →
+        AreReceived (F.receiver.broadcast recording cell.now) 0 frames.now →
         IfSome result (λ found.
-        AreSums (sums_by F.receiver recording place) found.frames found.frame found.sums) }
+        AreSums (sums_by F.receiver recording cell.now) found.frames found.frame found.sums) }
 {
     let whole = frames.len() as u8;
     for frame in 0..(whole + 1).saturating_sub(count) {
         let first = frame as usize;
         match masters_of(
             reader,
-            place,
+            cell,
             frame,
             &frames[first..first + count as usize],
             work,
@@ -146,7 +148,7 @@ fn first_of<F: FrameReader>(
 // The master blocks of frames of which the first is frame `frame`, where they have any.
 fn masters_of<F: FrameReader>(
     reader: &F,
-    place: CellPlace,
+    cell: &ScrambledCell,
     frame: u8,
     frames: &[Received],
     work: &mut Trellis,
@@ -155,17 +157,17 @@ fn masters_of<F: FrameReader>(
     requires few { length frames.now ≤ 4 }
     requires sizes { All (λ frame. length frame ≡ F.receiver.size) frames.now }
     ensures masters { (recording : List Sample) →
-        AreReceived (F.receiver.broadcast recording place) frame frames.now →
+        AreReceived (F.receiver.broadcast recording cell.now) frame frames.now →
         let Tells = IsMasterFor F.receiver recording in
-        MatchOption result (TellNone Tells place (length frames.now) frame)
+        MatchOption result (TellNone Tells cell.now (length frames.now) frame)
         (λ found. (found.frames ≡ length frames.now) × (found.frame ≡ frame)
-        × HaveMasters Tells place (length frames.now) frame found.at) }
+        × HaveMasters Tells cell.now (length frames.now) frame found.at) }
     ensures sums { (recording : List Sample) →
-        AreReceived (F.receiver.broadcast recording place) frame frames.now →
+        AreReceived (F.receiver.broadcast recording cell.now) frame frames.now →
         IfSome result (λ found.
-        AreSums (sums_by F.receiver recording place) found.frames found.frame found.sums) }
+        AreSums (sums_by F.receiver recording cell.now) found.frames found.frame found.sums) }
 {
-    let told = masters(place.id(), frames[0].len(), frames, work);
+    let told = masters(cell.bits(), frames[0].len(), frames, work);
     let at = taken(reader, &told.at);
     if !has_master(&at) {
         return None;

@@ -1,11 +1,12 @@
 //! The frames of a cell by slots with the normal cyclic prefix.
 
 ghost use Rattle.std.specs.Prelude.{◌≡◌, ◌<◌, length};
-ghost use Rattle.explain.specs.Frame.{IsWhole, frame_at, seen_slot};
+ghost use Rattle.soft_bits.specs.Front.{HaveOneFront};
+ghost use Rattle.explain.specs.Frame.{IsWhole, frame_at, seen_slot, broadcast_slot as broadcast_slot_of};
 ghost use Rattle.explain.specs.Receiver.{broadcast_by, subframes_by};
 ghost use Rattle.system_block.specs.Attempt.{IsAttempt};
 
-use crate::frame::symbols_of;
+use crate::frame::{broadcast_front, symbols_of};
 use lte_types::{CellPlace, Mib};
 use pbch::{Received, received};
 use sample_file::Recording;
@@ -21,6 +22,14 @@ pub fn slot_of<S: ReadSlot>(recording: &Recording, place: CellPlace, j: u8, numb
     S::of(symbols_of(recording, place, j, number), number, place.id())
 }
 
+// The slot of frame `j` of a cell that carries the broadcast channel, as far as the channel's values hang on it.
+fn front_of<S: ReadSlot>(recording: &Recording, place: CellPlace, j: u8) -> S
+    requires { IsWhole recording.now place.start j }
+    ensures { HaveOneFront (S.seen_as result) (broadcast_slot_of recording.now place.id place.start j) }
+{
+    S::of(broadcast_front(recording, place, j), 1, place.id())
+}
+
 /// The values of the broadcast channel in frame `j` of a cell, by the slot that carries it. The frame lies within the
 /// recording.
 pub fn received_in<S: ReadSlot>(recording: &Recording, place: CellPlace, j: u8) -> Received
@@ -28,7 +37,8 @@ pub fn received_in<S: ReadSlot>(recording: &Recording, place: CellPlace, j: u8) 
     ensures values { result ≡ broadcast_by S.values_by recording.now place j }
     ensures length { length result ≡ 480 }
 {
-    let slot: S = slot_of(recording, place, j, 1);
+    S::looks_at_front();
+    let slot: S = front_of(recording, place, j);
     received(&slot)
 }
 

@@ -7,8 +7,8 @@ use Rattle.explain.proofs.masters.first_alone.Given as goal
 -- no frame so far has a master block, and each was received
 abbrev pub invariant-loop-frame : goal.invariant-loop-frame
 invariant-loop-frame g l = record {
-  none : (i : ℕ) → i < l.frame → TellNone (IsMasterFor g.F.FrameReader.receiver l.recording) l.place 1 i;
-  received : AreReceived (g.F.FrameReader.receiver.broadcast l.recording l.place) 0 l.frames.items;
+  none : (i : ℕ) → i < l.frame → TellNone (IsMasterFor g.F.FrameReader.receiver l.recording) l.cell 1 i;
+  received : AreReceived (g.F.FrameReader.receiver.broadcast l.recording l.cell) 0 l.frames.items;
   sizes : All (λ (frame : List ℤ). length frame ≡ g.F.FrameReader.receiver.size) l.frames.items;
   count : length l.frames.items ≡ l.frame;
 }

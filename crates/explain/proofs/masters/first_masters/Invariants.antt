@@ -5,4 +5,4 @@ use Rattle.explain.proofs.masters.first_masters.Given as goal
 
 -- no fewer frames have a master block
 abbrev pub invariant-loop-count : goal.invariant-loop-count
-invariant-loop-count g l = (few : ℕ) → 1 ≤ few → few < l.count → NoneTell (IsMasterFor g.F.FrameReader.receiver l.recording) l.place l.whole few
+invariant-loop-count g l = (few : ℕ) → 1 ≤ few → few < l.count → NoneTell (IsMasterFor g.F.FrameReader.receiver l.recording) l.cell l.whole few

@@ -11,7 +11,7 @@ loop-frame-init g c recording are i below = absurd (omega (arith, below))
 pub returns-in-Some-clause-masters : goal.returns-in-Some-clause-masters
 returns-in-Some-clause-masters g c recording are =
     let receiver = g.F.FrameReader.receiver in
-    let place = c.args.place in
+    let place = c.args.cell.now in
     let count = c.args.count in
     let frames = c.args.frames.now in
     let frame = c.loop-frame.frame in
@@ -37,12 +37,12 @@ returns-in-Some-clause-sums g c recording are =
     let end = c.saturating_sub-frame-end.ensures in
     let test = c.loop-frame-test.true in
     let inside : c.loop-frame.frame + count ≤ length c.args.frames.now = omega (arith, some, end, test) in
-    c.in-Some.ensures.sums recording (received_part (g.F.FrameReader.receiver.broadcast recording c.args.place) c.loop-frame.frame count c.args.frames.now inside are)
+    c.in-Some.ensures.sums recording (received_part (g.F.FrameReader.receiver.broadcast recording c.args.cell.now) c.loop-frame.frame count c.args.frames.now inside are)
 
 pub loop-frame-preserved : goal.loop-frame-preserved
 loop-frame-preserved g c recording are =
     let receiver = g.F.FrameReader.receiver in
-    let place = c.args.place in
+    let place = c.args.cell.now in
     let count = c.args.count in
     let frames = c.args.frames.now in
     let frame = c.loop-frame.frame in

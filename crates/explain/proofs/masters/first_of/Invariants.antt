@@ -8,5 +8,5 @@ use Rattle.explain.proofs.masters.first_of.Given as goal
 -- none from a frame so far on have a master block
 abbrev pub invariant-loop-frame : goal.invariant-loop-frame
 invariant-loop-frame g l =
-    (recording : List Sample) → AreReceived (g.F.FrameReader.receiver.broadcast recording l.place) 0 l.frames →
-    (i : ℕ) → i < l.frame → TellNone (IsMasterFor g.F.FrameReader.receiver recording) l.place l.count i
+    (recording : List Sample) → AreReceived (g.F.FrameReader.receiver.broadcast recording l.cell) 0 l.frames →
+    (i : ℕ) → i < l.frame → TellNone (IsMasterFor g.F.FrameReader.receiver recording) l.cell l.count i

@@ -6,12 +6,12 @@ use Rattle.explain.proofs.masters.masters_of.Goals as goal
 pub returns-then-not-has_master-clause-masters : goal.returns-then-not-has_master-clause-masters
 returns-then-not-has_master-clause-masters g c recording are =
     let receiver = g.F.FrameReader.receiver in
-    let place = c.args.place in
+    let place = c.args.cell.now in
     let count = length c.args.frames.now in
     let all = c.masters-told.result.at in
     let size : c.len.result ≡ receiver.size =
     c.len.ensures.value ∙ ap (λ (frame : List ℤ). length frame) c.index-frames-0.is ∙ c.requires.sizes 0 c.index-frames-0.result c.requires.some in
-    let m = masters_of_frames receiver recording place c.id.result c.len.result c.args.frame c.args.frames.now all c.id.ensures size are c.masters-told.ensures.masters in
+    let m = masters_of_frames receiver recording place c.bits.result.now c.len.result c.args.frame c.args.frames.now all c.bits.ensures size are c.masters-told.ensures.masters in
     no_master (IsMasterFor receiver recording) place count c.args.frame c.taken-at.result c.requires.some
     (told_in_frames receiver recording place count c.args.frame all c.taken-at.result c.taken-at.ensures.each m c.requires.some)
     (sym c.has_master.ensures ∙ c.if-not-has_master.true)
@@ -19,13 +19,13 @@ returns-then-not-has_master-clause-masters g c recording are =
 pub returns-clause-masters : goal.returns-clause-masters
 returns-clause-masters g c recording are =
     let receiver = g.F.FrameReader.receiver in
-    let place = c.args.place in
+    let place = c.args.cell.now in
     let count = length c.args.frames.now in
     let all = c.masters-told.result.at in
     let masters = c.taken-at.result in
     let size : c.len.result ≡ receiver.size =
     c.len.ensures.value ∙ ap (λ (frame : List ℤ). length frame) c.index-frames-0.is ∙ c.requires.sizes 0 c.index-frames-0.result c.requires.some in
-    let m = masters_of_frames receiver recording place c.id.result c.len.result c.args.frame c.args.frames.now all c.id.ensures size are c.masters-told.ensures.masters in (
+    let m = masters_of_frames receiver recording place c.bits.result.now c.len.result c.args.frame c.args.frames.now all c.bits.ensures size are c.masters-told.ensures.masters in (
       refl,
       refl,
       record {
