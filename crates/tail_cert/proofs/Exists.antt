@@ -1,5 +1,5 @@
 -- Values of a small size have an accepted certificate with their least word.
-use Rattle.std.proofs.Common.{◌≡◌, ℕ, zero, suc, ◌-◌, ◌*◌, ◌^◌, ◌<◌, ◌≤◌, Bool, false, List, [], Some, length, get_or, ℤ, map, refl, sym, subst, ap, ◌∙◌, inl, inr, arith}
+use Rattle.std.proofs.Common.{◌≡◌, ℕ, zero, suc, ◌-◌, ◌*◌, ◌^◌, ◌<◌, ◌≤◌, Bool, false, List, [], length, get_or, ℤ, map, refl, sym, subst, ap, ◌∙◌, inl, inr, arith}
 use Rattle.std.specs.Prelude.{All, nat_lt, replicate}
 use Rattle.std.proofs.lemmas.Bool.Decides.{eqb_tells}
 use Rattle.std.proofs.lemmas.List.{get_or-replicate, length-replicate}
@@ -165,7 +165,13 @@ least_has_certificate values word places least = record {
       fits = omega (arith, within, places.count);
       general_is = rows_fit values start_of_any (general_of values) (general_size values) (general_rows values small);
       states = values_below-length 64 (λ i. needs values word (63 - i));
-      room = record { count = values_below-length 64 (table_of values); all = tables };
+      tables_are =
+          let count = values_below-length 64 (table_of values) in
+          record {
+            each = tables;
+            most = omega (arith, count);
+            room = λ s below there. omega (arith, below, count);
+          };
     }
 
     holds : (s : ℕ) → s < 64 → ShowsBounds values s (table_of values s)
@@ -174,4 +180,4 @@ least_has_certificate values word places least = record {
     both : IsAccepted (certificate_of values word) × IsFilled (certificate_of values word)
     both = filled values values word (word_cost values word) (general_of values) (states_of values word) (values_below 64 (table_of values)) (values_below 64 (table_of values))
         refl refl small places.count least refl (general_rows values small) (λ s below. needed_states values word s below)
-        (λ s below low. subst (ShowsBounds values s) (sym (values_below_at (table_of values) 64 s [] below)) (holds s below))
+        (λ s below there. subst (ShowsBounds values s) (sym (values_below_at (table_of values) 64 s [] below)) (holds s below))

@@ -1,7 +1,7 @@
 -- The tables that are filled, one start state after the other.
 use Rattle.std.proofs.Common.{◌≡◌, ◌≢◌, ℕ, suc, ◌+◌, ◌-◌, ◌^◌, ◌<◌, ◌≤◌, ◌↔◌, Bool, true, false, cond, List, [], Some, None, length, get_or, set, ℤ, sym, subst, ◌∙◌, inl, inr, arith, length-set, get_or-set_other, get_or-set_same, ap, refl}
 use Rattle.std.specs.Prelude.{IsSome, is_some, nat_lt, replicate}
-use Rattle.std.proofs.lemmas.Bool.{cases_eq, cases_lt, le-ltb, lt-ltb, ltb-true, ltb-false}
+use Rattle.std.proofs.lemmas.Bool.{cases_lt, lt-ltb, ltb-true, ltb-false}
 use Rattle.std.proofs.lemmas.List.{get_or-replicate, get_or_past, length-replicate}
 use Rattle.std.proofs.Math.Path.{fun_ext}
 use Rattle.paths.specs.Least.{IsLeastTo}
@@ -11,91 +11,81 @@ use Rattle.conv_code.specs.Cost.{word_cost}
 use Rattle.conv_code.proofs.Costs.{word_cost-le}
 use Rattle.tailbite.specs.LeastWord.{IsLeastWord}
 use Rattle.tailbite.specs.Machine.{shift, step_cost}
-use Rattle.tail_cert.specs.Certificate.{Counted, Held, IsAccepted, IsLowerBound, IsTable, StartHolds, bound, from_any, tables_there}
+use Rattle.tail_cert.specs.Certificate.{Held, IsAccepted, IsLowerBound, IsTable, StartHolds, bound, from_any, tables_there}
 use Rattle.tail_cert.specs.Forward.{HasLeastRows, IsFilled, ShowsBounds}
-use Rattle.tail_cert.specs.Stored.{is_in, shown}
+use Rattle.tail_cert.specs.Stored.{AreStored, is_in, shown}
 use Rattle.tail_cert.proofs.Accept.{steps_hold}
-use Rattle.tail_cert.proofs.Shown.{some_shown, starts_shown}
+use Rattle.tail_cert.proofs.Shown.{some_shown, starts_shown, stored_with}
 
--- of the states below n those with a bound below the cost are in the set, and their tables bound it
-pub record IsFilledTo (values : List (List ℤ)) (cost : ℕ) (ends : List ℕ) (tables : List (List (List ℕ))) (states : List Bool) (n : ℕ) : Type 0 where
+-- of the states below n those with a bound below the cost are in the set
+pub record AreNeededTo (cost : ℕ) (ends : List ℕ) (states : List Bool) (n : ℕ) : Type 0 where
   pub size : length states ≡ 64
-  pub room : Counted 64 IsTable tables
   pub needed : (s : ℕ) → s < n → is_in states s ≡ nat_lt (get_or ends s 0) cost
-  pub later : (s : ℕ) → n ≤ s → s < 64 → is_in states s ≡ false
-  pub bounds : (s : ℕ) → s < n → get_or ends s 0 < cost → ShowsBounds values s (get_or tables s [])
 
--- a state that needs no table
-pub without : (values : List (List ℤ)) (cost : ℕ) (ends : List ℕ) (tables : List (List (List ℕ))) (states : List Bool) (n : ℕ) →
-    IsFilledTo values cost ends tables states n → n < 64 → cost ≤ get_or ends n 0 → IsFilledTo values cost ends tables states (n + 1)
-without values cost ends tables states n known below none = record {
-  size = known.size;
-  room = known.room;
-  needed = λ s h. elim (cases_lt s n) [
-    | inl l ↦ known.needed s l
-    | inr m ↦ let e : s ≡ n = omega (arith, h, m) in rw e (known.later n (omega arith) below ∙ sym (le-ltb (get_or ends n 0) cost none))
-  ];
-  later = λ s h inside. known.later s (omega (arith, h)) inside;
-  bounds = λ s h low. elim (cases_lt s n) [
-    | inl l ↦ known.bounds s l low
-    | inr m ↦ let e : s ≡ n = omega (arith, h, m) in let low' = rw e at low in absurd (omega (arith, none, low'))
-  ];
-}
-
--- one that needs a table
-pub with_table : (values : List (List ℤ)) (cost : ℕ) (ends : List ℕ) (tables : List (List (List ℕ))) (states : List Bool) (n : ℕ) (table : List (List ℕ)) →
-    IsFilledTo values cost ends tables states n → n < 64 → get_or ends n 0 < cost → IsTable table → ShowsBounds values n table →
-    IsFilledTo values cost ends (set tables n table) (set states (63 - n) true) (n + 1)
-with_table values cost ends tables states n table known below needs whole holds = record {
-  size = length-set states (63 - n) true ∙ known.size;
-  room = record {
-    count = length-set tables n table ∙ room;
-    all = λ s d inside. elim (cases_eq s n) [
-      | inl e ↦ rw (e, get_or-set_same tables n table d (omega (arith, room, below))) whole
-      | inr ne ↦ rw (get_or-set_other tables n s table d ne) (known.room.all s d (omega (arith, inside, length-set tables n table)))
-    ];
-  };
-  needed = λ s h. elim (cases_lt s n) [
-    | inl l ↦ let ne : 63 - s ≢ 63 - n = omega (arith, l, below) in rw (get_or-set_other states (63 - n) (63 - s) true false ne) (known.needed s l)
-    | inr m ↦
-        let e : s ≡ n = omega (arith, h, m) in
-        rw (e, get_or-set_same states (63 - n) true false (omega (arith, size))) (sym (lt-ltb (get_or ends n 0) cost needs))
-  ];
-  later = λ s h inside.
-      let ne : 63 - s ≢ 63 - n = omega (arith, h, below, inside) in
-      rw (get_or-set_other states (63 - n) (63 - s) true false ne) (known.later s (omega (arith, h)) inside);
-  bounds = λ s h low. elim (cases_lt s n) [
-    | inl l ↦ let ne : s ≢ n = omega (arith, l) in rw (get_or-set_other tables n s table [] ne) (known.bounds s l low)
-    | inr m ↦
-        let e : s ≡ n = omega (arith, h, m) in
-        rw (e, get_or-set_same tables n table [] (omega (arith, room, below))) holds
-  ];
-}
-  where
-    size : length states ≡ 64
-    size = known.size
-
-    room : length tables ≡ 64
-    room = known.room.count
-
--- at first
-pub filled_none : (values : List (List ℤ)) (cost : ℕ) (ends : List ℕ) (tables : List (List (List ℕ))) → Counted 64 IsTable tables →
-    IsFilledTo values cost ends tables (replicate 64 false) 0
-filled_none values cost ends tables room = record {
+pub needed_none : (cost : ℕ) (ends : List ℕ) → AreNeededTo cost ends (replicate 64 false) 0
+needed_none cost ends = record {
   size = length-replicate 64 false;
-  room = room;
   needed = λ s below. absurd (omega (arith, below));
-  later = λ s h inside. get_or-replicate 64 (63 - s) false false (omega arith);
-  bounds = λ s below low. absurd (omega (arith, below));
 }
+
+-- one state more
+pub needed_more : (cost : ℕ) (ends : List ℕ) (states : List Bool) (n : ℕ) → AreNeededTo cost ends states n → n < 64 →
+    AreNeededTo cost ends (set states (63 - n) (nat_lt (get_or ends n 0) cost)) (n + 1)
+needed_more cost ends states n known below =
+    let b : Bool = nat_lt (get_or ends n 0) cost in
+    record {
+      size = length-set states (63 - n) b ∙ known.size;
+      needed = λ s h. elim (cases_lt s n) [
+        | inl l ↦ let ne : 63 - s ≢ 63 - n = omega (arith, l, below) in rw (get_or-set_other states (63 - n) (63 - s) b false ne) (known.needed s l)
+        | inr m ↦
+            let e : s ≡ n = omega (arith, h, m) in
+            let size = known.size in
+            rw e (get_or-set_same states (63 - n) b false (omega (arith, size)))
+      ];
+    }
+
+-- the tables of the states of the set below n show bounds
+pub record AreFilledTo (values : List (List ℤ)) (states : List Bool) (tables : List (List (List ℕ))) (n : ℕ) : Type 0 where
+  pub tables_are : AreStored states tables
+  pub bounds : (s : ℕ) → s < n → is_in states s ≡ true → ShowsBounds values s (get_or tables s [])
+
+pub filled_none : (values : List (List ℤ)) (states : List Bool) (tables : List (List (List ℕ))) → AreStored states tables → AreFilledTo values states tables 0
+filled_none values states tables stored = record {
+  tables_are = stored;
+  bounds = λ s below there. absurd (omega (arith, below));
+}
+
+-- a state that the set has not
+pub without : (values : List (List ℤ)) (states : List Bool) (tables : List (List (List ℕ))) (n : ℕ) → AreFilledTo values states tables n → is_in states n ≡ false →
+    AreFilledTo values states tables (n + 1)
+without values states tables n known none = record {
+  tables_are = known.tables_are;
+  bounds = λ s h there. elim (cases_lt s n) [
+    | inl l ↦ known.bounds s l there
+    | inr m ↦ let e : s ≡ n = omega (arith, h, m) in let there' = rw e at there in absurd (cc (sym none ∙ there'))
+  ];
+}
+
+-- one that it has
+pub with_table : (values : List (List ℤ)) (states : List Bool) (tables : List (List (List ℕ))) (n : ℕ) (table : List (List ℕ)) → AreFilledTo values states tables n →
+    n < 64 → is_in states n ≡ true → IsTable table → ShowsBounds values n table → AreFilledTo values states (set tables n table) (n + 1)
+with_table values states tables n table known below there whole holds =
+    let inside = known.tables_are.room n below there in
+    record {
+      tables_are = stored_with states tables n table known.tables_are whole;
+      bounds = λ s h own. elim (cases_lt s n) [
+        | inl l ↦ let ne : s ≢ n = omega (arith, l) in rw (get_or-set_other tables n s table [] ne) (known.bounds s l own)
+        | inr m ↦ let e : s ≡ n = omega (arith, h, m) in rw (e, get_or-set_same tables n table [] inside) holds
+      ];
+    }
 
 -- ---- the certificate that is filled
 
 -- what is asked of a start state, by whether its bound in the general table is below the cost
 start_filled : (values : List (List ℤ)) (cost : ℕ) (general : List (List ℕ)) (s : ℕ) (table : List (List ℕ)) (b : Bool) →
-    b ≡ nat_lt (bound from_any general 40 s) cost → (bound from_any general 40 s < cost → StartHolds values cost [] s (Some table)) →
+    b ≡ nat_lt (bound from_any general 40 s) cost → (b ≡ true → StartHolds values cost [] s (Some table)) →
     StartHolds values cost general s (cond b (Some table) None)
-start_filled values cost general s table true e own = own (ltb-true (bound from_any general 40 s) cost (sym e))
+start_filled values cost general s table true e own = own refl
 start_filled values cost general s table false e own = ltb-false (bound from_any general 40 s) cost (sym e)
 
 -- a table is there exactly where it is needed
@@ -117,7 +107,7 @@ pub filled : (values copied : List (List ℤ)) (word : List Bool) (cost : ℕ) (
     copied ≡ values → kept ≡ tables → RowsWithin 2032 values → length values ≡ 40 → IsLeastWord values word → cost ≡ word_cost values word →
     HasLeastRows values (replicate 64 0) general 40 →
     ((s : ℕ) → s < 64 → is_in set s ≡ nat_lt (bound from_any general 40 s) cost) →
-    ((s : ℕ) → s < 64 → bound from_any general 40 s < cost → ShowsBounds values s (get_or tables s [])) →
+    ((s : ℕ) → s < 64 → is_in set s ≡ true → ShowsBounds values s (get_or tables s [])) →
     IsAccepted (record { values = copied; word = word; cost = cost; general = general; tables = shown set kept }) ×
     IsFilled (record { values = copied; word = word; cost = cost; general = general; tables = shown set kept })
 filled values copied word cost general set tables kept copy same sizes places least stated rows needed bounds = rw (copy, same) (
@@ -125,7 +115,7 @@ filled values copied word cost general set tables kept copy same sizes places le
     stated = stated;
     general = steps_hold values from_any (replicate 64 0) general (λ x below some. get_or-replicate 64 x 0 0 below) rows;
     starts = (starts_shown values cost general set tables).1 (λ s below.
-        start_filled values cost general s (get_or tables s []) (is_in set s) (needed s below) (λ low. bounds s below low cost lower small));
+        start_filled values cost general s (get_or tables s []) (is_in set s) (needed s below) (λ there. bounds s below there cost lower small));
   },
   record {
     least = λ i x inside below. subst (λ starts. IsLeastTo shift (step_cost values) starts 64 (suc i) x (get_or (get_or general i []) x 0)) zero_start

@@ -5,7 +5,7 @@ use Rattle.std.proofs.lemmas.Bool.{cases_lt}
 use Rattle.std.proofs.lemmas.List.{get_or_default}
 use Rattle.paths.specs.Rows.{least_in}
 use Rattle.paths.proofs.Rows.{row_first}
-use Rattle.tail_cert.specs.Costs.{AreCosts, cost_in}
+use Rattle.tailbite.specs.Costs.{AreCosts, shared_cost}
 use Rattle.tailbite.specs.Machine.{shift, step_cost, newest_bit, first_from, second_from, forward_least}
 use Rattle.tailbite.proofs.Edges.{forward_row_is}
 use Rattle.tail_cert.specs.Certificate.{IsTable}
@@ -27,7 +27,7 @@ later_row values start k row later known size step growth = record {
 
 -- the least cost by a table of costs
 by_table : (v : List ℤ) (costs row : List ℕ) → AreCosts v costs → (x : ℕ) → x < 64 →
-    least_in (cost_in costs) row (first_from x) (newest_bit x) (second_from x) (newest_bit x) ≡ forward_least v row x
+    least_in (shared_cost costs) row (first_from x) (newest_bit x) (second_from x) (newest_bit x) ≡ forward_least v row x
 by_table v costs row are x below =
     let first = are.cost (first_from x) (newest_bit x) (omega arith) in
     let second = are.cost (second_from x) (newest_bit x) (omega arith) in
@@ -36,7 +36,7 @@ by_table v costs row are x below =
 -- one row on, by a table of costs
 pub row_by_table : (values : List (List ℤ)) (start : List ℕ) (k : ℕ) (costs row later : List ℕ) → AreCosts (get_or values k []) costs →
     IsStepRow values start k row → length later ≡ 64 →
-    ((x : ℕ) → x < 64 → get_or later x 0 ≡ least_in (cost_in costs) row (first_from x) (newest_bit x) (second_from x) (newest_bit x)) →
+    ((x : ℕ) → x < 64 → get_or later x 0 ≡ least_in (shared_cost costs) row (first_from x) (newest_bit x) (second_from x) (newest_bit x)) →
     ((x : ℕ) → x < 64 → get_or later x 0 ≤ get_or row (first_from x) 0 + 3 * 2 ^ 20) → IsStepRow values start (suc k) later
 row_by_table values start k costs row later are known size step growth =
     later_row values start k row later known size (λ x below. step x below ∙ by_table (get_or values k []) costs row are x below) growth

@@ -1,18 +1,18 @@
 -- The tables that a set of start states shows.
-use Rattle.std.proofs.Common.{◌≡◌, ◌≢◌, ℕ, ◌+◌, ◌*◌, ◌-◌, ◌<◌, ◌≤◌, ◌↔◌, Bool, true, false, cond, List, [], ◌++◌, Some, None, length, take, drop, get_or, set, ℤ, refl, subst, sym, ap, ◌∙◌, inl, inr, arith, append-nil, drop-drop, length-set, get_or-set_other, get_or-set_same}
-use Rattle.std.specs.Prelude.{is_some}
+use Rattle.std.proofs.Common.{◌≡◌, ◌≢◌, ℕ, ◌+◌, ◌*◌, ◌-◌, ◌<◌, ◌≤◌, ◌↔◌, Bool, true, false, cond, List, [], ◌++◌, Some, None, length, take, drop, get_or, set, ℤ, refl, subst, sym, ap, ◌∙◌, arith, append-nil, drop-drop, length-set, get_or-set_other, get_or-set_same}
+use Rattle.std.specs.Prelude.{All, is_some}
 use Rattle.std.specs.List.{flat_map}
 use Rattle.std.proofs.Math.Seq.{take-add}
-use Rattle.std.proofs.lemmas.Bool.{cases_eq}
 use Rattle.std.proofs.lemmas.List.{take_rest}
+use Rattle.std.proofs.lemmas.List.Elements.{All-set}
 use Rattle.finite.specs.Lists.{values_below}
 use Rattle.finite.specs.Sums.{total_below}
 use Rattle.finite.proofs.Lists.{values_below-length, values_below_at, values_below_is, values_below_same, values_below-All}
 use Rattle.finite.proofs.Sums.{total_below_more, total_below_same, total_below_split}
 use Rattle.conv_code.specs.Cost.{word_cost}
-use Rattle.tail_cert.specs.Certificate.{Counted, Held, IsMaybeTable, IsTable, IsWhole, StartHolds, StepsHold, from_any, IsAccepted, tables_there}
+use Rattle.tail_cert.specs.Certificate.{Held, IsMaybeTable, IsTable, IsWhole, StartHolds, StepsHold, from_any, IsAccepted, tables_there}
 use Rattle.tail_cert.specs.Form.{maybe_bytes, set_of, table_bytes, table_count, with_piece}
-use Rattle.tail_cert.specs.Stored.{IsStored, is_in, shown, shown_at}
+use Rattle.tail_cert.specs.Stored.{AreStored, IsStored, is_in, shown, shown_at}
 use Rattle.tail_cert.proofs.Pieces.{AreWrittenTo, one_more}
 
 some_by : {A : Type 0} (b : Bool) (x : A) → is_some (cond b (Some x) None) ≡ b
@@ -37,8 +37,8 @@ same_set set tables size = sym (values_below_is false 64 (λ i. is_some (get_or 
     let back : 63 - (63 - i) ≡ i = omega (arith, below) in
     sym (some_shown set tables (63 - i) (omega (arith, below)) ∙ ap (λ k. get_or set k false) back)))
 
-maybe_table : (b : Bool) (table : List (List ℕ)) → IsTable table → IsMaybeTable (cond b (Some table) None)
-maybe_table true table h = h
+maybe_table : (b : Bool) (table : List (List ℕ)) → (b ≡ true → IsTable table) → IsMaybeTable (cond b (Some table) None)
+maybe_table true table h = h refl
 maybe_table false table h = tt
 
 -- what memory holds is whole
@@ -53,10 +53,29 @@ stored_whole c set tables h same = record {
   starts = rw same (record {
     count = values_below-length 64 (shown_at set tables);
     all = values_below-All IsMaybeTable 64 (shown_at set tables) None (λ s below.
-        let size = h.room.count in
-        maybe_table (is_in set s) (get_or tables s []) (h.room.all s [] (omega (arith, size, below))));
+        maybe_table (is_in set s) (get_or tables s []) (λ there. h.tables_are.each s [] (h.tables_are.room s below there)));
   });
 }
+
+-- tables up to one past the last state of a set
+pub stored_to : (set : List Bool) (tables : List (List (List ℕ))) (end : ℕ) → ((s : ℕ) → s < 64 → is_in set s ≡ true → s < end) → All IsTable tables →
+    length tables ≤ 64 → end ≤ length tables → AreStored set tables
+stored_to set tables end past each most enough = record {
+  each = each;
+  most = most;
+  room = λ s below there. let p = past s below there in omega (arith, p, enough);
+}
+
+-- with a table in the place of another
+pub stored_with : (states : List Bool) (tables : List (List (List ℕ))) (n : ℕ) (table : List (List ℕ)) → AreStored states tables → IsTable table →
+    AreStored states (set tables n table)
+stored_with states tables n table known whole =
+    let size = length-set tables n table in
+    record {
+      each = All-set IsTable tables n table whole known.each;
+      most = omega (arith, known.most, size);
+      room = λ s below there. omega (arith, known.room s below there, size);
+    }
 
 -- what is asked of a start state, by whether the set has it
 pub start_there : (values : List (List ℤ)) (cost : ℕ) (general : List (List ℕ)) (s : ℕ) (table : List (List ℕ)) (b : Bool) → b ≡ true →
@@ -128,14 +147,14 @@ shown_bytes set tables from place old new w =
 
 -- the tables of the states of the set below n are read from a place on, and the next comes from another place
 pub record AreReadTo (set : List Bool) (tables : List (List (List ℕ))) (from place : ℕ) (bytes : List ℕ) (n : ℕ) : Type 0 where
-  pub room : Counted 64 IsTable tables
+  pub tables_are : AreStored set tables
   pub read : flat_map maybe_bytes (values_below n (shown_at set tables)) ≡ take (place - from) (drop from bytes)
   pub at : place ≡ from + table_count * total_below n (λ s. cond (is_some (shown_at set tables s)) 1 0)
 
-pub read_none : (set : List Bool) (tables : List (List (List ℕ))) (from : ℕ) (bytes : List ℕ) → Counted 64 IsTable tables → AreReadTo set tables from from bytes 0
+pub read_none : (set : List Bool) (tables : List (List (List ℕ))) (from : ℕ) (bytes : List ℕ) → AreStored set tables → AreReadTo set tables from from bytes 0
 unfolding total_below
-read_none set tables from bytes room = record {
-  room = room;
+read_none set tables from bytes stored = record {
+  tables_are = stored;
   read = let e : from - from ≡ 0 = omega arith in rw e refl;
   at = omega arith;
 }
@@ -152,7 +171,7 @@ read_not set tables from place bytes n known none =
     let count = total_below_more n (λ s. cond (is_some (shown_at set tables s)) 1 0) in
     let zero : cond {A = ℕ} (is_some (shown_at set tables n)) 1 0 ≡ 0 = ap {B = ℕ} (λ m. cond (is_some m) 1 0) maybe in
     record {
-      room = known.room;
+      tables_are = known.tables_are;
       read = same ∙ known.read;
       at = omega (arith, known.at, count, zero);
     }
@@ -163,12 +182,12 @@ pub read_there : (states : List Bool) (tables : List (List (List ℕ))) (from pl
     AreReadTo states (set tables n table) from (place + table_count) bytes (n + 1)
 unfolding maybe_bytes
 read_there states tables from place bytes n table known below there whole e =
-    let long = known.room.count in
+    let inside = known.tables_are.room n below there in
     let at = known.at in
     let before : (s : ℕ) → s < n → shown_at states (set tables n table) s ≡ shown_at states tables s =
     λ s l. let ne : s ≢ n = omega (arith, l) in ap (λ t. cond (is_in states s) (Some t) None) (get_or-set_other tables n s table [] ne) in
     let here : shown_at states (set tables n table) n ≡ Some table =
-    shown_there states (set tables n table) n there ∙ ap Some (get_or-set_same tables n table [] (omega (arith, long, below))) in
+    shown_there states (set tables n table) n there ∙ ap Some (get_or-set_same tables n table [] inside) in
     let front = ap (flat_map maybe_bytes) (values_below_same n (shown_at states (set tables n table)) (shown_at states tables) before) in
     let next : drop (place - from) (drop from bytes) ≡ drop place bytes =
     drop-drop (place - from) from bytes ∙ ap (λ m. drop m bytes) (let m : from + (place - from) ≡ place = omega (arith, at) in m) in
@@ -180,13 +199,7 @@ read_there states tables from place bytes n table known below there whole e =
     (λ s l. ap {B = ℕ} (λ m. cond (is_some m) 1 0) (before s l)) in
     let one : cond {A = ℕ} (is_some (shown_at states (set tables n table) n)) 1 0 ≡ 1 = ap {B = ℕ} (λ m. cond (is_some m) 1 0) here in
     record {
-      room = record {
-        count = length-set tables n table ∙ long;
-        all = λ s d inside. elim (cases_eq s n) [
-          | inl same ↦ rw (same, get_or-set_same tables n table d (omega (arith, long, below))) whole
-          | inr other ↦ rw (get_or-set_other tables n s table d other) (known.room.all s d (omega (arith, inside, length-set tables n table)))
-        ];
-      };
+      tables_are = stored_with states tables n table known.tables_are whole;
       read = one_more n (shown_at states (set tables n table)) ∙ ap (λ m. flat_map maybe_bytes (values_below n (shown_at states (set tables n table))) ++ maybe_bytes m) here
           ∙ ap (λ l. l ++ table_bytes table) (front ∙ known.read) ∙ ap (λ l. take (place - from) (drop from bytes) ++ l) e ∙ sym joined;
       at = omega (arith, at, count, same, one);

@@ -1,6 +1,6 @@
 -- A table that holds up to a step.
 use Rattle.std.proofs.Common.{◌≡◌, ℕ, zero, suc, ◌+◌, ◌<◌, ◌≤◌, ◌↔◌, Bool, true, false, List, [], get_or, ℤ, refl, sym, subst, ◌∙◌, add-one, below_more}
-use Rattle.tail_cert.specs.Costs.{HaveCosts, cost_in}
+use Rattle.tailbite.specs.Costs.{HaveCosts, shared_cost}
 use Rattle.tailbite.specs.Machine.{shift, step_cost}
 use Rattle.tail_cert.specs.Certificate.{StepsHold, bound}
 use Rattle.tail_cert.specs.Steps.{BothHold, RowHolds, StepHolds}
@@ -14,7 +14,7 @@ from_row first table (suc n) = get_or table n []
 abbrev pub HoldsTo : List (List ℕ) → List ℕ → List (List ℕ) → ℕ → Type 0
 HoldsTo costs first table n = (i : ℕ) → i < n → RowHolds (get_or costs i []) (from_row first table i) (get_or table i [])
 
-of_both : (costs : List ℕ) (m : ℕ) (to : List ℕ) (x : ℕ) (b : Bool) → BothHold costs m to x → StepHolds (cost_in costs x b) m (get_or to (shift x b) 0)
+of_both : (costs : List ℕ) (m : ℕ) (to : List ℕ) (x : ℕ) (b : Bool) → BothHold costs m to x → StepHolds (shared_cost costs x b) m (get_or to (shift x b) 0)
 of_both costs m to x true h = h.1
 of_both costs m to x false h = h.0
 
@@ -40,7 +40,7 @@ steps_by_table values costs first table have = (to, back)
         rw (← cost, ← from) (step (rw from some))
 
     one : StepsHold values start table → (i x : ℕ) (b : Bool) → i < 40 → x < 64 →
-        StepHolds (cost_in (get_or costs i []) x b) (get_or (from_row first table i) x 0) (get_or (get_or table i []) (shift x b) 0)
+        StepHolds (shared_cost (get_or costs i []) x b) (get_or (from_row first table i) x 0) (get_or (get_or table i []) (shift x b) 0)
     one h i x b inside below some =
         let cost = (have.place i inside).cost x b below in
         let from = bound_is first table i x below in

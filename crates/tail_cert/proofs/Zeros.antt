@@ -2,7 +2,7 @@
 use Rattle.std.proofs.Common.{◌≡◌, ℕ, ◌-◌, false, cond, List, [], Option, Some, None, get_or, replicate, pos, sym, ap, ◌∙◌, arith}
 use Rattle.std.proofs.lemmas.List.{get_or-replicate, length-replicate}
 use Rattle.finite.proofs.Lists.{values_below_is}
-use Rattle.tail_cert.specs.Certificate.{Counted, Held, of_zeros}
+use Rattle.tail_cert.specs.Certificate.{Counted, Held, IsTable, of_zeros}
 use Rattle.tail_cert.specs.Stored.{IsStored, shown, shown_at}
 
 -- a list of one element, n times
@@ -14,15 +14,23 @@ counted_same P n x h = record {
       rw (get_or-replicate n i x d (omega (arith, inside, size))) h;
 }
 
-pub zeros_stored : IsStored (replicate 40 (replicate 3 (pos 0))) (replicate 40 false) 0 (replicate 40 (replicate 64 0)) (replicate 64 false) (replicate 64 (replicate 40 (replicate 64 0)))
+pub zeros_stored : IsStored (replicate 40 (replicate 3 (pos 0))) (replicate 40 false) 0 (replicate 40 (replicate 64 0)) (replicate 64 false) []
 zeros_stored = record {
   places = counted_same _ 40 _ (counted_same _ 3 _ (omega arith));
   bits = length-replicate 40 false;
   fits = omega arith;
   general_is = counted_same _ 40 _ (counted_same _ 64 _ (omega arith));
   states = length-replicate 64 false;
-  room = counted_same _ 64 _ (counted_same _ 40 _ (counted_same _ 64 _ (omega arith)));
+  tables_are = record {
+    each = λ s d inside. absurd (omega (arith, inside));
+    most = omega arith;
+    room = λ s below there. absurd (cc (sym (get_or-replicate 64 (63 - s) false false (omega arith)) ∙ there));
+  };
 }
+
+-- a table of zeros
+pub zero_table : IsTable (replicate 40 (replicate 64 0))
+zero_table = counted_same _ 40 _ (counted_same _ 64 _ (omega arith))
 
 -- the set of no state shows no table
 pub none_shown : (tables : List (List (List ℕ))) → shown (replicate 64 false) tables ≡ replicate 64 None

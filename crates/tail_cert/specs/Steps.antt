@@ -1,7 +1,7 @@
 -- The inequalities of one branch and of one step (own).
 use Rattle.std.specs.Prelude.{◌≢◌, ℕ, ◌+◌, ◌<◌, ◌≤◌, true, false, List, slice_index}
 use Rattle.tailbite.specs.Machine.{shift}
-use Rattle.tail_cert.specs.Costs.{cost_in}
+use Rattle.tailbite.specs.Costs.{shared_cost}
 use Rattle.tail_cert.specs.Certificate.{unbounded}
 
 -- the inequality of a branch of some cost
@@ -11,7 +11,7 @@ StepHolds cost from to = from ≢ unbounded → to ≤ from + cost
 -- the inequalities of both branches from a state, by a table of costs
 abbrev pub BothHold : List ℕ → ℕ → List ℕ → ℕ → Type 0
 BothHold costs from to x =
-    StepHolds (cost_in costs x false) from (slice_index to (shift x false)) × StepHolds (cost_in costs x true) from (slice_index to (shift x true))
+    StepHolds (shared_cost costs x false) from (slice_index to (shift x false)) × StepHolds (shared_cost costs x true) from (slice_index to (shift x true))
 
 -- the inequalities of all branches from one step to the next
 abbrev pub RowHolds : List ℕ → List ℕ → List ℕ → Type 0

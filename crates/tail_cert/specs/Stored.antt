@@ -1,6 +1,6 @@
--- How a certificate stands in memory: there is room for the tables of all start states, and a set of 64 bits says which are
--- there, the bit of the state s with weight 2 ^ s (own).
-use Rattle.std.specs.Prelude.{◌≡◌, ℕ, ◌-◌, ◌^◌, ◌<◌, Bool, false, cond, List, [], Option, Some, None, length, slice_index_or, ℤ}
+-- How a certificate stands in memory: a set of 64 bits says which start states have a table, the bit of the state s with weight
+-- 2 ^ s, and the tables up to that of its last state are there (own).
+use Rattle.std.specs.Prelude.{◌≡◌, ℕ, ◌-◌, ◌^◌, ◌<◌, ◌≤◌, All, Bool, true, false, cond, List, [], Option, Some, None, length, slice_index_or, ℤ}
 use Rattle.finite.specs.Lists.{values_below}
 use Rattle.tail_cert.specs.Certificate.{Counted, IsTable, IsTriple}
 
@@ -16,11 +16,21 @@ shown_at set tables s = cond (is_in set s) (Some (slice_index_or tables s [])) N
 unfoldable pub shown : List Bool → List (List (List ℕ)) → List (Option (List (List ℕ)))
 shown set tables = values_below 64 (shown_at set tables)
 
--- what memory holds, the room that no table takes among it
+-- each state of the set has its place among the tables
+abbrev pub HaveRoom : List Bool → List (List (List ℕ)) → Type 0
+HaveRoom set tables = (s : ℕ) → s < 64 → is_in set s ≡ true → s < length tables
+
+-- they are tables, at most 64, with one for each state of the set
+pub record AreStored (set : List Bool) (tables : List (List (List ℕ))) : Type 0 where
+  pub each : All IsTable tables
+  pub most : length tables ≤ 64
+  pub room : HaveRoom set tables
+
+-- what memory holds
 pub record IsStored (values : List (List ℤ)) (word : List Bool) (cost : ℕ) (general : List (List ℕ)) (set : List Bool) (tables : List (List (List ℕ))) : Type 0 where
   pub places : Counted 40 IsTriple values
   pub bits : length word ≡ 40
   pub fits : cost < 2 ^ 32
   pub general_is : IsTable general
   pub states : length set ≡ 64
-  pub room : Counted 64 IsTable tables
+  pub tables_are : AreStored set tables

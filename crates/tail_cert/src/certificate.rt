@@ -1,10 +1,11 @@
 //! A certificate in memory.
 
-ghost use Rattle.std.specs.Prelude.{◌≡◌, ◌*◌, ◌+◌, ◌<◌, ◌≤◌, IfOk, None, cond, false, length, pos, replicate};
+ghost use Rattle.std.specs.Prelude.{◌≡◌, ◌*◌, ◌+◌, ◌++◌, ◌∷◌, [], ◌<◌, ◌≤◌, ℕ, All, IfOk, None, cond, false, length, pos, replicate, true};
+ghost use Rattle.std.specs.Vec.{vec_capacity};
 ghost use Rattle.finite.specs.Sums.{total_below};
-ghost use Rattle.tail_cert.specs.Certificate.{Held, of_zeros, tables_there};
+ghost use Rattle.tail_cert.specs.Certificate.{Held, IsTable, of_zeros, tables_there};
 ghost use Rattle.tail_cert.specs.Form.{bytes_of, head_count, table_count};
-ghost use Rattle.tail_cert.specs.Stored.{IsStored, is_in, shown};
+ghost use Rattle.tail_cert.specs.Stored.{AreStored, IsStored, is_in, shown};
 
 use crate::{HEAD_BYTES, TABLE_BYTES};
 use cs_bits::Bits;
@@ -16,7 +17,8 @@ pub(crate) type Table = [[u32; 64]; 40];
 
 /// A certificate: the three values of each of 40 places, a word of 40 bits, its cost, a general table of
 /// bounds for paths from all of the 64 start states, and for each start state a table of its own, or none.
-/// Contracts see it as the record of these. It has the memory of all tables.
+/// Contracts see it as the record of these. It has the memory of all tables, and touches only that of the
+/// tables up to the last one that it had.
 #[derive(Drop)]
 pub struct Certificate {
     pub(crate) values: [[i32; 3]; 40],
@@ -28,6 +30,8 @@ pub struct Certificate {
 }
 
 impl Model for Certificate {
+    ghost use Rattle.std.specs.Prelude.{◌*◌, ◌≤◌};
+    ghost use Rattle.std.specs.Vec.{vec_capacity};
     ghost use Rattle.tail_cert.specs.Certificate.{Held};
     ghost use Rattle.tail_cert.specs.Stored.{IsStored, shown};
 
@@ -41,7 +45,8 @@ impl Model for Certificate {
       tables = shown c.set c.tables.items;
     } };
 
-    ghost invariant = { λ c. IsStored c.values c.word c.cost c.general c.set c.tables.items };
+    ghost invariant = { λ c. IsStored c.values c.word c.cost c.general c.set c.tables.items
+        × (64 ≤ vec_capacity c.tables) };
 }
 
 /// Values of zeros.
@@ -72,23 +77,52 @@ fn zero_table() -> Table
     [[0; 64]; 40]
 }
 
-/// The room for the tables of all start states.
-fn room_for_tables(alloc: Global) -> Result<Vec<Table>, AllocError>
-    ensures { IfOk result (λ tables. tables.items ≡ replicate 64 (replicate 40 (replicate 64 0))) }
-{
-    let mut tables = Vec::with_capacity(alloc, 64)?;
-    while tables.len() < 64 {
-        tables.push(zero_table())?;
-    }
-    Ok(tables)
-}
-
 /// Whether a set of start states has the state s.
 pub(crate) fn has(set: &Bits<64>, s: usize) -> bool
     requires { s < 64 }
     ensures { result ≡ is_in set.now s }
 {
     set.get(63 - s)
+}
+
+/// One past the last start state of a set, and 0 where it has none.
+fn end_of(set: &Bits<64>) -> usize
+    ensures past { (s : ℕ) → s < 64 → is_in set.now s ≡ true → s < result }
+    ensures most { result ≤ 64 }
+{
+    let mut end = 0;
+    for s in 0..64 {
+        if has(set, s) {
+            end = s + 1;
+        }
+    }
+    end
+}
+
+/// Adds a table of zeros, for which there is room.
+fn add_table(tables: &mut Vec<Table>)
+    requires room { length tables.old.items < vec_capacity tables.old }
+    ensures tables { tables.new.items ≡ tables.old.items ++ replicate 40 (replicate 64 0) ∷ [] }
+    ensures room { vec_capacity tables.old ≤ vec_capacity tables.new }
+{
+    match tables.push(zero_table()) {
+        Ok(()) => {}
+        Err(_) => unreachable!(),
+    }
+}
+
+/// Adds tables of zeros until each start state of a set has one. It takes no memory.
+pub(crate) fn make_tables(set: &Bits<64>, tables: &mut Vec<Table>)
+    requires each { All IsTable tables.old.items }
+    requires most { length tables.old.items ≤ 64 }
+    requires room { 64 ≤ vec_capacity tables.old }
+    ensures tables { AreStored set.now tables.new.items }
+    ensures room { 64 ≤ vec_capacity tables.new }
+{
+    let end = end_of(set);
+    while tables.len() < end {
+        add_table(tables);
+    }
 }
 
 /// How many start states a set has.
@@ -124,7 +158,7 @@ impl Certificate {
     pub fn new(alloc: Global) -> Result<Certificate, AllocError>
         ensures { IfOk result (λ certificate. certificate ≡ of_zeros) }
     {
-        let tables = room_for_tables(alloc)?;
+        let tables = Vec::with_capacity(alloc, 64)?;
         Ok(Certificate {
             values: zero_values(),
             word: zero_word(),

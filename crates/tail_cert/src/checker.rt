@@ -5,11 +5,11 @@ ghost use Rattle.finite.specs.Sizes.{RowsWithin};
 ghost use Rattle.conv_code.specs.Cost.{word_cost};
 ghost use Rattle.tail_cert.specs.Certificate.{from_any, from_state, IsAccepted, IsLowerBound, StartHolds, StepsHold};
 ghost use Rattle.tail_cert.specs.Steps.{BothHold, RowHolds, StepHolds};
-ghost use Rattle.tail_cert.specs.Stored.{shown_at};
+ghost use Rattle.tail_cert.specs.Stored.{HaveRoom, shown_at};
 
 use crate::Certificate;
 use crate::certificate::{Table, has};
-use crate::costs::{PathCosts, StepCosts, step_costs};
+use crate::costs::{PathCosts, StepCosts, cost_at, step_costs};
 use conv_code::{against, encode};
 use cs_bits::Bits;
 use tailbite::next;
@@ -33,8 +33,8 @@ fn both_hold(costs: &StepCosts, from: u32, to: &[u32; 64], x: usize) -> bool
     requires { x < 64 }
     ensures { IsTrue result ↔ BothHold costs.now from to.now x }
 {
-    step_holds(costs[x], from, to[next(x, false)])
-        && step_holds(costs[STATES + x], from, to[next(x, true)])
+    step_holds(cost_at(costs, x, false), from, to[next(x, false)])
+        && step_holds(cost_at(costs, x, true), from, to[next(x, true)])
 }
 
 /// Whether the inequalities of all branches of a step hold.
@@ -83,7 +83,7 @@ fn start_holds(
     s: usize,
 ) -> bool
     requires state { s < 64 }
-    requires room { length tables.now ≡ 64 }
+    requires room { HaveRoom set.now tables.now }
     ensures { IsTrue result
         ↔ StartHolds costs.now.values.now cost general.now s (shown_at set.now tables.now s) }
 {
@@ -102,7 +102,7 @@ fn starts_hold(
     set: &Bits<64>,
     tables: &[Table],
 ) -> bool
-    requires { length tables.now ≡ 64 }
+    requires { HaveRoom set.now tables.now }
     ensures { IsTrue result ↔ ((s : ℕ) → s < 64 →
         StartHolds costs.now.values.now cost general.now s (shown_at set.now tables.now s)) }
 {
@@ -123,7 +123,7 @@ fn tables_hold(
     tables: &[Table],
 ) -> bool
     requires sizes { RowsWithin (2 ^ 20) values.now }
-    requires room { length tables.now ≡ 64 }
+    requires room { HaveRoom set.now tables.now }
     ensures { IsTrue result ↔ (StepsHold values.now from_any general.now × ((s : ℕ) → s < 64 →
         StartHolds values.now cost general.now s (shown_at set.now tables.now s))) }
 {

@@ -1,14 +1,14 @@
 //! How a certificate is filled.
 
-ghost use Rattle.std.specs.Prelude.{◌≡◌, ◌*◌, ◌^◌, ◌<◌, ◌≤◌, ℕ, [], length, nat_lt, slice_index, slice_index_or};
+ghost use Rattle.std.specs.Prelude.{◌≡◌, ◌*◌, ◌^◌, ◌<◌, ◌≤◌, ℕ, [], length, nat_lt, slice_index, slice_index_or, true};
 ghost use Rattle.finite.specs.Sizes.{RowsWithin};
 ghost use Rattle.tailbite.specs.LeastWord.{IsLeastWord};
-ghost use Rattle.tail_cert.specs.Certificate.{Counted, IsAccepted, IsTable, bound, from_any};
+ghost use Rattle.tail_cert.specs.Certificate.{IsAccepted, IsTable, bound, from_any};
 ghost use Rattle.tail_cert.specs.Forward.{HasLeastRows, IsFilled, IsStartRow, ShowsBounds};
-ghost use Rattle.tail_cert.specs.Stored.{is_in};
+ghost use Rattle.tail_cert.specs.Stored.{AreStored, is_in};
 
 use crate::Certificate;
-use crate::certificate::Table;
+use crate::certificate::{Table, has, make_tables};
 use crate::costs::{PathCosts, later_row, step_costs};
 use cs_bits::Bits;
 use tailbite::{Trellis, least};
@@ -53,24 +53,30 @@ fn fill_start(costs: &PathCosts, s: usize, table: &mut Table)
     fill_table(costs, &start_at(s), table);
 }
 
-/// Fills the tables of the start states whose bound in the general table, of all steps back to them, is below
-/// the cost, and gives the set of these.
-fn fill_tables(costs: &PathCosts, cost: u32, general: &Table, tables: &mut [Table]) -> Bits<64>
-    requires room { Counted 64 IsTable tables.old }
+/// The set of the start states whose bound in the general table, of all steps back to them, is below the cost.
+fn states_below(cost: u32, general: &Table) -> Bits<64>
     ensures needed { (s : ℕ) → s < 64 → is_in result s ≡ nat_lt (bound from_any general.now 40 s) cost }
-    ensures bounds { (s : ℕ) → s < 64 → bound from_any general.now 40 s < cost →
-        ShowsBounds costs.now.values.now s (slice_index_or tables.new s []) }
     ensures states { length result ≡ 64 }
-    ensures whole { Counted 64 IsTable tables.new }
 {
     let mut set = [false; 64];
     for s in 0..STATES {
-        if general[STEPS - 1][s] < cost {
-            fill_start(costs, s, &mut tables[s]);
-            set[63 - s] = true;
-        }
+        set[63 - s] = general[STEPS - 1][s] < cost;
     }
     Bits::new(set)
+}
+
+/// Fills the tables of the start states of a set.
+fn fill_tables(costs: &PathCosts, set: &Bits<64>, tables: &mut [Table])
+    requires tables { AreStored set.now tables.old }
+    ensures bounds { (s : ℕ) → s < 64 → is_in set.now s ≡ true →
+        ShowsBounds costs.now.values.now s (slice_index_or tables.new s []) }
+    ensures tables { AreStored set.now tables.new }
+{
+    for s in 0..STATES {
+        if has(set, s) {
+            fill_start(costs, s, &mut tables[s]);
+        }
+    }
 }
 
 /// The three values of a place.
@@ -111,7 +117,9 @@ pub fn fill(certificate: &mut Certificate, values: &[[i32; 3]; 40], work: &mut T
     };
     let copied = copy_of(costs.values);
     fill_table(&costs, &[0; STATES], &mut certificate.general);
-    certificate.set = fill_tables(&costs, cost, &certificate.general, &mut certificate.tables);
+    certificate.set = states_below(cost, &certificate.general);
+    make_tables(&certificate.set, &mut certificate.tables);
+    fill_tables(&costs, &certificate.set, &mut certificate.tables);
     certificate.values = copied;
     certificate.word = word;
     certificate.cost = cost;

@@ -5,9 +5,9 @@ ghost use Rattle.std.specs.List.{flat_map};
 ghost use Rattle.finite.specs.Sums.{total_below};
 ghost use Rattle.tail_cert.specs.Certificate.{Counted, Held, IsRow, IsTable, IsTriple, IsWhole};
 ghost use Rattle.tail_cert.specs.Form.{Breaks, IsFirstBreak, IsFirstBreakUpTo, IsLargeValue, IsOffMark, IsUnbrokenUpTo, bytes_of, count_of, entry_bytes, head_count, maybe_bytes, most_count, place_bytes, row_bytes, set_bytes, table_bytes, table_count, tells_table, value_at, value_bytes, word_bytes};
-ghost use Rattle.tail_cert.specs.Stored.{is_in, shown};
+ghost use Rattle.tail_cert.specs.Stored.{AreStored, is_in, shown};
 
-use crate::certificate::{Table, has, length_with};
+use crate::certificate::{Table, has, length_with, make_tables};
 use crate::{Certificate, FRONT_BYTES, HEAD_BYTES, SET_PLACE, TABLE_BYTES};
 use byteorder::{BigEndian, ByteOrder, LittleEndian};
 use cs_bits::Bits;
@@ -150,10 +150,10 @@ fn whole_length(bytes: &[u8]) -> usize
 
 /// Reads the tables of the start states of a set.
 fn get_tables(bytes: &[u8], at: usize, set: &Bits<64>, tables: &mut [Table])
-    requires room { Counted 64 IsTable tables.old }
+    requires tables { AreStored set.now tables.old }
     requires size { at + table_count * total_below 64 (λ s. cond (is_in set.now s) 1 0) ≡ length bytes.now }
     ensures bytes { flat_map maybe_bytes (shown set.now tables.new) ≡ drop at bytes.now }
-    ensures tables { Counted 64 IsTable tables.new }
+    ensures tables { AreStored set.now tables.new }
 {
     let mut place = at;
     for s in 0..64 {
@@ -185,6 +185,7 @@ fn get_all(bytes: &[u8], into: &mut Certificate)
     into.cost = get_entry(bytes, 249);
     get_table(bytes, 253, &mut into.general);
     into.set = get_set(bytes);
+    make_tables(&into.set, &mut into.tables);
     get_tables(bytes, HEAD_BYTES, &into.set, &mut into.tables);
 }
 

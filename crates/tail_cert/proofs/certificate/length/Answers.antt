@@ -7,4 +7,4 @@ pub returns-clause-count : goal.returns-clause-count
 returns-clause-count c = rw (← c.certificate.view_is, as_many c.certificate.inside.set c.certificate.inside.tables.items) c.length_with.ensures
 
 pub returns-clause-bytes : goal.returns-clause-bytes
-returns-clause-bytes c = returns-clause-count c ∙ sym (length-bytes_of _ (rw (← c.certificate.view_is) (stored_whole _ _ _ c.certificate.invariant refl)))
+returns-clause-bytes c = returns-clause-count c ∙ sym (length-bytes_of _ (rw (← c.certificate.view_is) (stored_whole _ _ _ c.certificate.invariant.0 refl)))

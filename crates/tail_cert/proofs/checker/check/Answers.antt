@@ -9,4 +9,4 @@ returns-then-cost_of-certificate-clause-accepted c = rw (← c.certificate.view_
 
 pub returns-then-cost_of-certificate-clause-least : goal.returns-then-cost_of-certificate-clause-least
 returns-then-cost_of-certificate-clause-least c = λ t.
-    lower_bound _ (rw (← c.certificate.view_is) (stored_whole _ _ _ c.certificate.invariant refl)) ((returns-then-cost_of-certificate-clause-accepted c).0 t)
+    lower_bound _ (rw (← c.certificate.view_is) (stored_whole _ _ _ c.certificate.invariant.0 refl)) ((returns-then-cost_of-certificate-clause-accepted c).0 t)

@@ -1,5 +1,5 @@
 use Rattle.std.proofs.Common.{◌≡◌, ℕ, ◌<◌, [], get_or, length}
-use Rattle.tail_cert.specs.Costs.{AreCosts}
+use Rattle.tailbite.specs.Costs.{AreCosts}
 use Rattle.tail_cert.proofs.costs.step_costs.Given as goal
 
 abbrev pub invariant-loop-k : goal.invariant-loop-k

@@ -13,33 +13,34 @@ invariant_of-certificate c =
     let h = word_cost-le 2032 c.args.values.now c.least-word.result.0 c.requires in
     let e : c.copy_of-copied.result ≡ c.args.values.now = c.copy_of-copied.ensures.same in
     let size : length c.copy_of-copied.result ≡ 40 = rw e c.told-values in
-    let kept : take c.certificate.inside.tables.len (c.fill_tables-certificate-inside.new.tables ++ drop (length c.fill_tables-certificate-inside.new.tables) c.certificate.inside.tables.items) ≡ c.fill_tables-certificate-inside.new.tables =
-    take_at _ _ _ (c.fill_tables-certificate-inside.ensures.whole.count ∙ (omega (arith, c.certificate.invariant.room.count, c.certificate.inside.tables.ok))) in
-    record {
-      places = record {
-        count = size;
-        all = λ k d inside. record {
-          count = rw (get_or_default c.copy_of-copied.result k d [] inside) (c.copy_of-copied.ensures.count k (omega (arith, inside, size)));
-          all = rw e (c.requires k d (omega (arith, inside, size, c.told-values)));
+    let made = c.make_tables.new.tables in
+    let kept : take made.len (c.fill_tables.new.tables ++ drop (length c.fill_tables.new.tables) made.items) ≡ c.fill_tables.new.tables =
+    take_at _ _ _ (c.fill_tables.auto.tables ∙ c.deref_mut.ensures.len) in (
+      record {
+        places = record {
+          count = size;
+          all = λ k d inside. record {
+            count = rw (get_or_default c.copy_of-copied.result k d [] inside) (c.copy_of-copied.ensures.count k (omega (arith, inside, size)));
+            all = rw e (c.requires k d (omega (arith, inside, size, c.told-values)));
+          };
         };
-      };
-      bits = c.least-word.ensures.word.size ∙ c.told-values;
-      fits = omega (arith, h, c.least-word.ensures.cost, c.told-values);
-      general_is = rows_fit c.args.values.now _ _ c.fill_table.ensures.size c.fill_table.ensures.rows;
-      states = c.fill_tables-certificate-inside.ensures.states;
-      room = rw kept c.fill_tables-certificate-inside.ensures.whole;
-    }
+        bits = c.least-word.ensures.word.size ∙ c.told-values;
+        fits = omega (arith, h, c.least-word.ensures.cost, c.told-values);
+        general_is = rows_fit c.args.values.now _ _ c.fill_table.ensures.size c.fill_table.ensures.rows;
+        states = c.states_below-certificate-inside.ensures.states;
+        tables_are = rw kept c.fill_tables.ensures.tables;
+      },
+      c.make_tables.ensures.room,
+    )
 
 pub returns-clause-accepted : goal.returns-clause-accepted
 returns-clause-accepted c =
-    let size = c.fill_tables-certificate-inside.ensures.whole.count ∙ (omega (arith, c.certificate.invariant.room.count, c.certificate.inside.tables.ok)) in
-    (filled c.args.values.now _ _ _ _ _ _ _ c.copy_of-copied.ensures.same (take_at c.fill_tables-certificate-inside.new.tables _ _ size) c.requires c.told-values c.least-word.ensures.word c.least-word.ensures.cost
-    c.fill_table.ensures.rows c.fill_tables-certificate-inside.ensures.needed
-    c.fill_tables-certificate-inside.ensures.bounds).0
+    let size = c.fill_tables.auto.tables ∙ c.deref_mut.ensures.len in
+    (filled c.args.values.now _ _ _ _ _ _ _ c.copy_of-copied.ensures.same (take_at c.fill_tables.new.tables _ _ size) c.requires c.told-values c.least-word.ensures.word c.least-word.ensures.cost
+    c.fill_table.ensures.rows c.states_below-certificate-inside.ensures.needed c.fill_tables.ensures.bounds).0
 
 pub returns-clause-filled : goal.returns-clause-filled
 returns-clause-filled c =
-    let size = c.fill_tables-certificate-inside.ensures.whole.count ∙ (omega (arith, c.certificate.invariant.room.count, c.certificate.inside.tables.ok)) in
-    (filled c.args.values.now _ _ _ _ _ _ _ c.copy_of-copied.ensures.same (take_at c.fill_tables-certificate-inside.new.tables _ _ size) c.requires c.told-values c.least-word.ensures.word c.least-word.ensures.cost
-    c.fill_table.ensures.rows c.fill_tables-certificate-inside.ensures.needed
-    c.fill_tables-certificate-inside.ensures.bounds).1
+    let size = c.fill_tables.auto.tables ∙ c.deref_mut.ensures.len in
+    (filled c.args.values.now _ _ _ _ _ _ _ c.copy_of-copied.ensures.same (take_at c.fill_tables.new.tables _ _ size) c.requires c.told-values c.least-word.ensures.word c.least-word.ensures.cost
+    c.fill_table.ensures.rows c.states_below-certificate-inside.ensures.needed c.fill_tables.ensures.bounds).1

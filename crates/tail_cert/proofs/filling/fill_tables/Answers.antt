@@ -1,15 +1,16 @@
-use Rattle.std.proofs.Common.{arith}
+use Rattle.std.proofs.Common.{sym, ◌∙◌, arith}
 use Rattle.tail_cert.proofs.Filled.{with_table, without, filled_none}
 use Rattle.tail_cert.proofs.filling.fill_tables.Goals as goal
-use Rattle.tail_cert.proofs.filling.fill_tables.Goals.{then-general-s, else-general-s}
+use Rattle.tail_cert.proofs.filling.fill_tables.Goals.{then-has, else-has}
 
 pub loop-s-init : goal.loop-s-init
-loop-s-init c = filled_none _ _ _ _ c.requires.room
+loop-s-init c = filled_none _ _ _ c.requires.tables
 
 pub loop-s-preserved : goal.loop-s-preserved
-loop-s-preserved c = elim c.if-general-s.branch [
-  | then-general-s w ↦ rw (w.tables-is, w.set-is) (with_table _ _ _ _ _ _ _ c.loop-s.invariant c.loop-s-test.true w.if-general-s.true w.fill_start.ensures.whole w.fill_start.ensures.bounds)
-  | else-general-s w ↦ rw (w.tables-is, w.set-is) (without _ _ _ _ _ _ c.loop-s.invariant c.loop-s-test.true (omega (arith, w.if-general-s.false)))
+loop-s-preserved c = elim c.if-has.branch [
+  | then-has w ↦
+      rw w.tables-is (with_table _ _ _ _ _ c.loop-s.invariant c.loop-s-test.true (sym c.has.ensures ∙ w.if-has.true) w.fill_start.ensures.whole w.fill_start.ensures.bounds)
+  | else-has w ↦ rw w.tables-is (without _ _ _ _ c.loop-s.invariant (sym c.has.ensures ∙ w.if-has.false))
 ]
 
 pub returns-clause-bounds : goal.returns-clause-bounds

@@ -30,22 +30,26 @@ get_tables-requires-clause-size c =
 
 pub invariant_of-into : goal.invariant_of-into
 invariant_of-into c =
-    let kept : take c.into.inside.tables.len (c.get_tables.new.tables ++ drop (length c.get_tables.new.tables) c.into.inside.tables.items) ≡ c.get_tables.new.tables =
-    take_at _ _ _ (c.get_tables.ensures.tables.count ∙ (omega (arith, c.into.invariant.room.count, c.into.inside.tables.ok))) in
-    record {
-      places = c.get_values.ensures.places;
-      bits = c.get_word-into-inside.ensures.size;
-      fits = c.get_entry-into-inside.type_inv;
-      general_is = c.get_table.ensures.table;
-      states = c.get_set-into-inside.ensures.size;
-      room = rw kept c.get_tables.ensures.tables;
-    }
+    let made = c.make_tables.new.tables in
+    let kept : take made.len (c.get_tables.new.tables ++ drop (length c.get_tables.new.tables) made.items) ≡ c.get_tables.new.tables =
+    take_at _ _ _ (c.get_tables.auto.tables ∙ c.deref_mut.ensures.len) in (
+      record {
+        places = c.get_values.ensures.places;
+        bits = c.get_word-into-inside.ensures.size;
+        fits = c.get_entry-into-inside.type_inv;
+        general_is = c.get_table.ensures.table;
+        states = c.get_set-into-inside.ensures.size;
+        tables_are = rw kept c.get_tables.ensures.tables;
+      },
+      c.make_tables.ensures.room,
+    )
 
 pub returns-clause-bytes : goal.returns-clause-bytes
 unfolding bytes_of
 returns-clause-bytes c =
-    let kept : take c.into.inside.tables.len (c.get_tables.new.tables ++ drop (length c.get_tables.new.tables) c.into.inside.tables.items) ≡ c.get_tables.new.tables =
-    take_at _ _ _ (c.get_tables.ensures.tables.count ∙ (omega (arith, c.into.invariant.room.count, c.into.inside.tables.ok))) in
+    let made = c.make_tables.new.tables in
+    let kept : take made.len (c.get_tables.new.tables ++ drop (length c.get_tables.new.tables) made.items) ≡ c.get_tables.new.tables =
+    take_at _ _ _ (c.get_tables.auto.tables ∙ c.deref_mut.ensures.len) in
     let total = rw (mark_there _ c.args.bytes.now c.requires.unbroken (omega (arith, long_enough _ c.args.bytes.now c.requires.unbroken, count_least c.args.bytes.now))) at (seven_parts c.args.bytes.now 4 240 5 4 10240 8) in
     rw (
       kept,
@@ -58,4 +62,4 @@ returns-clause-bytes c =
     ) (sym total)
 
 pub returns-clause-whole : goal.returns-clause-whole
-returns-clause-whole c = stored_whole _ _ _ (invariant_of-into c) refl
+returns-clause-whole c = stored_whole _ _ _ (invariant_of-into c).0 refl

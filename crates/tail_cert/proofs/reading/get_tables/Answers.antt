@@ -4,7 +4,7 @@ use Rattle.tail_cert.proofs.reading.get_tables.Goals as goal
 use Rattle.tail_cert.proofs.reading.get_tables.Goals.{then-has, else-has}
 
 pub loop-s-init : goal.loop-s-init
-loop-s-init c = read_none _ _ _ _ c.requires.room
+loop-s-init c = read_none _ _ _ _ c.requires.tables
 
 pub get_table-requires : goal.get_table-requires
 get_table-requires c =

@@ -11,7 +11,7 @@ put_tables-requires-clause-room c =
     omega (arith, room, many)
 
 pub returns-clause-whole : goal.returns-clause-whole
-returns-clause-whole c = rw (← c.certificate.view_is) (stored_whole _ _ _ c.certificate.invariant refl)
+returns-clause-whole c = rw (← c.certificate.view_is) (stored_whole _ _ _ c.certificate.invariant.0 refl)
 
 pub returns-clause-bytes : goal.returns-clause-bytes
 unfolding bytes_of
