@@ -1,11 +1,10 @@
 -- Certificates that are written one after the other.
-use Rattle.std.proofs.Common.{◌≡◌, ℕ, suc, ◌+◌, ◌*◌, ◌<◌, ◌≤◌, Bool, true, false, cond, List, [], ◌∷◌, ◌++◌, length, take, drop, get_or, Option, Some, None, ℤ, refl, ap, sym, subst, ◌∙◌, arith, add-one, append-nil, take_all, length-append}
+use Rattle.std.proofs.Common.{◌≡◌, ℕ, suc, ◌+◌, ◌*◌, ◌<◌, ◌≤◌, Bool, true, false, cond, List, [], ◌∷◌, ◌++◌, length, take, drop, get_or, Option, None, ℤ, refl, ap, sym, subst, ◌∙◌, arith, add-one, append-nil, length-append}
 use Rattle.finite.specs.Sizes.{AllWithin}
 use Rattle.finite.specs.Lists.{values_below}
 use Rattle.finite.proofs.Sums.{total_below-within}
 use Rattle.finite.proofs.Lists.{values_below-length, values_below-All}
-use Rattle.std.specs.Prelude.{IfSome, is_some, Result, Ok, Err, OnOk, OnErr}
-use Rattle.std.proofs.Math.ListN.{drop_of_length-le}
+use Rattle.std.specs.Prelude.{is_some, Result, Ok, Err, OnOk, OnErr}
 use Rattle.std.proofs.Math.Seq.{take-suc}
 use Rattle.std.proofs.lemmas.List.{take-append-drop}
 use Rattle.std.proofs.lemmas.List.Elements.{Contains-append_right}
@@ -14,7 +13,7 @@ use Rattle.std.proofs.lemmas.Grind.{flat_map-append}
 use Rattle.cs_num.specs.declared.Sample.{Sample}
 use Rattle.cs_outside.specs.Outside.{SinkTold}
 use Rattle.cs_outside.specs.Streams.{HasWritten, HasWrittenFront, IsShortOf}
-use Rattle.cs_outside.proofs.Writing.{write_nothing, write_then, front_after, front_of_longer, short_after}
+use Rattle.cs_outside.proofs.Writing.{write_nothing, write_then, front_after, front_of_longer, short_after, short_of_more}
 use Rattle.lte_types.specs.declared.entry.Entry.{Entry}
 use Rattle.conv_code.specs.Cost.{word_cost}
 use Rattle.tailbite.specs.LeastWord.{IsLeastWord}
@@ -177,14 +176,6 @@ written_more receiver samples entries entry before between now a h = record {
       (write_then (all_bytes a.certificates) (bytes_of h.certificate) before between now a.written h.written);
 }
 
--- less room than for a front is less than for all
-short_of_more : (n m : ℕ) (before : SinkTold) → n ≤ m → IsShortOf n before → IsShortOf m before
-short_of_more n m before few short = by_room before.room short
-  where
-    by_room : (room : Option ℕ) → IfSome room (λ left. left < n) → IfSome room (λ left. left < m)
-    by_room None short = tt
-    by_room (Some left) short = omega (arith, short, few)
-
 -- where a front of one is written, a front of all is
 pub written_some : (receiver : Receiver) (samples : List Sample) (list entries : List Entry) (entry : Entry) (rest : List Entry) (before between now : SinkTold) →
     HasSmallValues receiver → IsListFor receiver samples list → list ≡ (entries ++ entry ∷ []) ++ rest → HasCertifiedAll receiver samples entries before between →
@@ -223,9 +214,3 @@ written_some_at receiver samples list i entry before between now inside is withi
     let next : take (suc i) list ≡ take i list ++ entry ∷ [] = take-suc list i entry inside ∙ ap (λ e. take i list ++ e ∷ []) (sym is) in
     let split : list ≡ (take i list ++ entry ∷ []) ++ drop (suc i) list = sym (take-append-drop (suc i) list) ∙ ap (λ l. l ++ drop (suc i) list) next in
     written_some receiver samples list (take i list) entry (drop (suc i) list) before between now within explained split a h
-
--- a buffer that is written back whole
-pub written_back : {A : Type 0} (new old : List A) (n : ℕ) → length new ≡ length old → n ≡ length old → take n (new ++ drop (length new) old) ≡ new
-written_back new old n same all =
-    let none : drop (length new) old ≡ [] = drop_of_length-le old (omega (arith, same)) in
-    rw none (ap (take n) (append-nil new) ∙ take_all n new (omega (arith, same, all)))

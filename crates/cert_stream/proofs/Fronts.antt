@@ -144,6 +144,11 @@ pub aim_least : (part : List ℕ) (aim : ℕ) → IsAim part aim → aim ≤ cou
 aim_least part aim (inl head) = let least = count_least part in omega (arith, head, least)
 aim_least part aim (inr (long, all)) = omega (arith, all)
 
+-- and at least those up to its set
+pub aim_head : (part : List ℕ) (aim : ℕ) → IsAim part aim → head_count ≤ aim
+aim_head part aim (inl head) = omega (arith, head)
+aim_head part aim (inr (long, all)) = let least = count_least part in omega (arith, all, least)
+
 -- so that a part that was read so far has no more bytes than it tells
 pub aim_fits : (part piece : List ℕ) (aim : ℕ) → IsAim part aim → length (part ++ piece) ≤ aim → length (part ++ piece) ≤ count_of (part ++ piece)
 aim_fits part piece aim (inl head) few = let least = count_least (part ++ piece) in omega (arith, head, few, least)

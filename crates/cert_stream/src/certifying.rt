@@ -1,6 +1,7 @@
 //! A certificate for each master block of the list of a recording.
 
-ghost use Rattle.std.specs.Prelude.{◌≡◌, ◌≤◌, OnOk, OnErr, length, take, vec_len};
+ghost use Rattle.std.specs.Prelude.{◌≡◌, ◌≤◌, OnOk, OnErr};
+ghost use Rattle.std.specs.Vec.{vec_capacity};
 ghost use Rattle.std.specs.List.{AllZip};
 ghost use Rattle.cs_outside.specs.Counts.{Rose};
 ghost use Rattle.explain.specs.Receiver.{Receiver, hits_by};
@@ -20,13 +21,13 @@ use tail_cert::{Certificate, MOST_BYTES, fill, length, to_bytes};
 use tailbite::Trellis;
 
 /// The memory in which certificates are made: that of one certificate, of the search for its word,
-/// and of its bytes. What it holds between two calls means nothing.
+/// and of the bytes of the longest. What it holds between two calls means nothing.
 #[derive(Drop)]
 pub struct CertificateWork {
     certificate: Certificate,
     trellis: Trellis,
     buffer: Vec<u8>,
-    ghost size: { vec_len buffer ≡ most_count },
+    ghost room: { most_count ≤ vec_capacity buffer },
 }
 
 impl CertificateWork {
@@ -34,7 +35,7 @@ impl CertificateWork {
     pub fn new(alloc: Global) -> Result<CertificateWork, AllocError> {
         let certificate = Certificate::new(alloc)?;
         let trellis = Trellis::new(alloc)?;
-        let buffer = vec![in alloc; 0u8; MOST_BYTES]?;
+        let buffer = Vec::with_capacity(alloc, MOST_BYTES)?;
         Ok(CertificateWork {
             certificate,
             trellis,
@@ -89,38 +90,32 @@ fn certify_one<K: Sink>(
     ensures fault { OnErr result (Rose (K.told sink.old).faults (K.told sink.new).faults) }
     ensures never_falls { (K.told sink.old).faults ≤ (K.told sink.new).faults }
 {
-    let len = make(recording, entry, reading, work);
-    write_whole(sink, &work.buffer[..len])
+    make(recording, entry, reading, work);
+    write_whole(sink, work.buffer.as_slice())
 }
 
-// Makes the certificate of an entry, and its bytes at the front of the buffer, and gives their number.
-fn make(
-    recording: &Recording,
-    entry: &Entry,
-    reading: &Reading,
-    work: &mut CertificateWork,
-) -> usize
+// Makes the certificate of an entry, and its bytes.
+fn make(recording: &Recording, entry: &Entry, reading: &Reading, work: &mut CertificateWork)
     ghost receiver: { Receiver }
     requires entry { IsEntryOfSome (IsEntryFor receiver recording.now)
         (hits_by receiver.carrier recording.now) entry.now }
     requires reading { IsReadingFor receiver recording.now entry.now reading.now }
-    ensures fits { result ≤ most_count }
-    ensures bytes { IsCertificateOf receiver recording.now entry.now (take result work.new.buffer.items) }
+    ensures { IsCertificateOf receiver recording.now entry.now work.new.buffer.items }
 {
     let values = reading.sums.rows();
     fill(&mut work.certificate, &values, &mut work.trellis);
     put(&work.certificate, &mut work.buffer)
 }
 
-// Writes the bytes of a certificate to the front of a buffer, and gives their number.
-fn put(certificate: &Certificate, buffer: &mut [u8]) -> usize
-    requires { length buffer.old ≡ most_count }
-    ensures fits { result ≤ most_count }
-    ensures bytes { take result buffer.new ≡ bytes_of certificate.now }
+// Writes the bytes of a certificate over what a buffer has, which has memory for them.
+fn put(certificate: &Certificate, buffer: &mut Vec<u8>)
+    requires { most_count ≤ vec_capacity buffer.old }
+    ensures bytes { buffer.new.items ≡ bytes_of certificate.now }
     ensures whole { IsWhole certificate.now }
-    ensures size { length buffer.new ≡ most_count }
+    ensures room { most_count ≤ vec_capacity buffer.new }
 {
-    let len = length(certificate);
-    to_bytes(certificate, &mut buffer[..len]);
-    len
+    match buffer.resize(length(certificate), 0) {
+        Ok(()) => to_bytes(certificate, buffer.as_mut_slice()),
+        Err(_) => unreachable!(),
+    }
 }

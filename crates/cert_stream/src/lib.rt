@@ -5,6 +5,7 @@
 mod certifying;
 mod error;
 mod reading;
+mod window;
 
 pub use certifying::{CertificateWork, certify};
 pub use error::StreamError;

@@ -2,14 +2,15 @@
 
 ghost use Rattle.std.specs.Prelude.{◌≡◌, ◌<◌, ◌≤◌, ◌+◌, ◌-◌, min, length, take, IfOk, IfErr, OnErr};
 ghost use Rattle.cs_outside.specs.Counts.{Rose};
-ghost use Rattle.tail_cert.specs.Form.{count_of, most_count};
+ghost use Rattle.tail_cert.specs.Form.{count_of, head_count, most_count};
 ghost use Rattle.cert_stream.specs.Stream.{most_bytes};
 ghost use Rattle.cert_stream.specs.Reading.{HasReadAnswers, IsCause, IsStep};
 
 use crate::StreamError;
-use cs_outside::{Failed, Source, read_at};
-use std::alloc::{AllocError, Global};
-use tail_cert::{Certificate, HEAD_BYTES, MOST_BYTES as CERTIFICATE_BYTES, check, head, parse};
+use crate::window::Window;
+use cs_outside::{Failed, Source};
+use std::alloc::Global;
+use tail_cert::{Certificate, HEAD_BYTES, check, head, parse};
 
 // The most bytes that are read.
 const MOST_BYTES: usize = 67_108_864;
@@ -34,18 +35,19 @@ pub fn read_answers<S: Source>(alloc: Global, source: &mut S) -> Result<Vec<bool
     ensures err { IfErr result (IsCause (S.told source.old) (S.told source.new)) }
     ensures never_falls { (S.told source.old).faults ≤ (S.told source.new).faults }
 {
-    let (mut certificate, mut buffer) = room_for_one(alloc)?;
-    read_each(alloc, source, &mut certificate, &mut buffer)
+    let mut certificate = Certificate::new(alloc)?;
+    let mut window = Window::new(alloc)?;
+    read_each(alloc, source, &mut certificate, &mut window)
 }
 
-// The same with the memory of the longest certificate and of its bytes.
+// The same with the memory of the longest certificate, and a window on its bytes.
 fn read_each<S: Source>(
     alloc: Global,
     source: &mut S,
     certificate: &mut Certificate,
-    buffer: &mut [u8],
+    window: &mut Window,
 ) -> Result<Vec<bool>, StreamError>
-    requires { length buffer.old ≡ most_count }
+    requires { length window.old ≡ head_count }
     ensures ok { IfOk result (λ answers. HasReadAnswers answers.items (S.told source.old) (S.told source.new)) }
     ensures err { IfErr result (IsCause (S.told source.old) (S.told source.new)) }
     ensures never_falls { (S.told source.old).faults ≤ (S.told source.new).faults }
@@ -56,19 +58,20 @@ fn read_each<S: Source>(
     let mut filled = 0;
     let mut aim = HEAD_BYTES;
     loop {
-        match read_at(source, buffer, filled, window_end(aim, done)) {
+        match window.read(source, filled, window_end(aim, done)) {
             Err(Failed) => return Err(StreamError::ReadFault),
             Ok(0) if filled == 0 => return Ok(answers),
             Ok(0) => return Err(StreamError::Broken((done + filled) as u64)),
             Ok(n) => filled += n,
         }
-        match judge(&buffer[..filled], certificate) {
+        match judge(window.front(filled), certificate) {
             Step::Broken(place) => return Err(broken_at(done as u64 + place)),
             Step::Partial(next) => {
                 if done + filled > MOST_BYTES {
                     return Err(StreamError::TooLong);
                 }
                 aim = next;
+                window.make_room(aim)?;
             }
             Step::Whole(answer) => {
                 if done + filled > MOST_BYTES {
@@ -95,15 +98,6 @@ fn broken_at(place: u64) -> StreamError
     } else {
         StreamError::TooLong
     }
-}
-
-// The memory of the longest certificate, and of its bytes.
-fn room_for_one(alloc: Global) -> Result<(Certificate, Vec<u8>), AllocError>
-    ensures { IfOk result (λ room. length room.1.items ≡ most_count) }
-{
-    let certificate = Certificate::new(alloc)?;
-    let buffer = vec![in alloc; 0u8; CERTIFICATE_BYTES]?;
-    Ok((certificate, buffer))
 }
 
 // How many bytes of a certificate may have been read after so many bytes of whole ones: of the input one more

@@ -1,13 +1,11 @@
-use Rattle.std.proofs.Common.{◌∙◌, ap, sym, subst, take, arith, length}
+use Rattle.std.proofs.Common.{◌∙◌, sym, subst}
 use Rattle.pbch.specs.Master.{TellsMaster}
 use Rattle.explain.specs.Entries.{master_of}
-use Rattle.cert_stream.proofs.Certified.{certifies_filled, written_back}
+use Rattle.cert_stream.proofs.Certified.{certifies_filled}
 use Rattle.cert_stream.proofs.certifying.make.Goals as goal
 
-pub returns-clause-bytes : goal.returns-clause-bytes
-returns-clause-bytes g c =
-    let size = ap length c.deref_mut.ensures.value in
-    let all = c.deref_mut.ensures.len in
+pub returns : goal.returns
+returns g c =
     let recording = c.args.recording.now in
     let entry = c.args.entry.now in
     let values = c.rows-values.ensures.rows ∙ c.requires.1.sums in
@@ -16,6 +14,5 @@ returns-clause-bytes g c =
       certificate = c.fill.new.certificate;
       certifies = certifies_filled _ _ _ c.fill.new.certificate _ c.put.ensures.whole c.fill.ensures.accepted c.fill.ensures.filled c.fill.ensures.values
           values tells c.fill.ensures.word;
-      bytes_are = ap (take c.put.result) (written_back c.put.new.buffer c.args.work.now.buffer.items c.args.work.now.buffer.len
-          (omega (arith, c.put.ensures.size, size, all)) (omega (arith, size, all))) ∙ c.put.ensures.bytes;
+      bytes_are = c.put.ensures.bytes;
     }

@@ -1,15 +1,16 @@
-use Rattle.std.proofs.Common.{◌≡◌, ◌<◌, ◌≤◌, ◌+◌, ◌-◌, length, take}
+use Rattle.std.proofs.Common.{◌<◌, ◌≤◌, ◌+◌, ◌-◌, length, take}
 use Rattle.cert_stream.specs.Reading.{IsAim}
 use Rattle.cert_stream.proofs.Progress.{IsReadTo}
 use Rattle.cert_stream.proofs.reading.read_each.Given as goal
 
 abbrev pub invariant-loop-answers : goal.invariant-loop-answers
 invariant-loop-answers g l = record {
-  so_far : IsReadTo l.answers.items l.done (take l.filled l.buffer) (g.S.Source.told l.fn.source) (g.S.Source.told l.source);
+  so_far : IsReadTo l.answers.items l.done (take l.filled l.window) (g.S.Source.told l.fn.source) (g.S.Source.told l.source);
   later : (g.S.Source.told l.fn.source).faults ≤ (g.S.Source.told l.source).faults;
-  whole : length l.buffer ≡ 665861;
+  room : l.aim ≤ length l.window;
+  most : length l.window ≤ 665861;
   part : l.filled < l.aim;
-  aims : IsAim (take l.filled l.buffer) l.aim;
+  aims : IsAim (take l.filled l.window) l.aim;
   few : l.done + l.filled ≤ 67108864;
 }
 

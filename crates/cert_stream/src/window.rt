@@ -1,0 +1,75 @@
+//! The bytes of a certificate while they are read.
+
+ghost use Rattle.std.specs.Prelude.{◌≡◌, ℕ, ◌+◌, ◌<◌, ◌≤◌, List, IfOk, OnErr, length, take};
+ghost use Rattle.cs_outside.specs.Counts.{Rose};
+ghost use Rattle.cs_outside.specs.Streams.{HasReadOn};
+ghost use Rattle.tail_cert.specs.Form.{head_count};
+
+use cs_outside::{Failed, Source, read_at};
+use std::alloc::{AllocError, Global};
+use std::marker::Model;
+use tail_cert::HEAD_BYTES;
+
+// Room for bytes of a certificate while they are read: for as many as it was known to have. Contracts see it as the
+// list of all bytes there.
+#[derive(Drop)]
+pub(crate) struct Window {
+    bytes: Vec<u8>,
+}
+
+impl Model for Window {
+    ghost Value = { List ℕ };
+
+    ghost view = { λ w. w.bytes.items };
+}
+
+impl Window {
+    // Room for the bytes that tell how many there are.
+    pub(crate) fn new(alloc: Global) -> Result<Window, AllocError>
+        ensures { IfOk result (λ window. length window ≡ head_count) }
+    {
+        let bytes = vec![in alloc; 0u8; HEAD_BYTES]?;
+        Ok(Window { bytes })
+    }
+
+    // Makes room for so many bytes, where there is less. What stands there stays.
+    pub(crate) fn make_room(&mut self, count: usize) -> Result<(), AllocError>
+        ensures room { IfOk result (λ _. count ≤ length self.new) }
+        ensures stays { (k : ℕ) → k ≤ length self.old → take k self.new ≡ take k self.old }
+        ensures most { (n : ℕ) → length self.old ≤ n → count ≤ n → length self.new ≤ n }
+    {
+        if self.bytes.len() < count {
+            self.bytes.resize(count, 0)
+        } else {
+            Ok(())
+        }
+    }
+
+    // The first bytes, so many.
+    pub(crate) fn front(&self, count: usize) -> &[u8]
+        requires { count ≤ length self.now }
+        ensures { result.now ≡ take count self.now }
+    {
+        &self.bytes.as_slice()[..count]
+    }
+
+    // Reads on from a place, to another at most.
+    pub(crate) fn read<S: Source>(
+        &mut self,
+        source: &mut S,
+        at: usize,
+        end: usize,
+    ) -> Result<usize, Failed>
+        requires some { at < end }
+        requires room { end ≤ length self.old }
+        ensures fits { IfOk result (λ n. at + n ≤ end) }
+        ensures read { IfOk result (λ n.
+            HasReadOn n (take at self.old) (take (at + n) self.new) (S.told source.old) (S.told source.new)) }
+        ensures same_length { length self.new ≡ length self.old }
+        ensures unchanged { OnErr result ((S.told source.new).left ≡ (S.told source.old).left) }
+        ensures cause { OnErr result (Rose (S.told source.old).faults (S.told source.new).faults) }
+        ensures never_falls { (S.told source.old).faults ≤ (S.told source.new).faults }
+    {
+        read_at(source, self.bytes.as_mut_slice(), at, end)
+    }
+}
