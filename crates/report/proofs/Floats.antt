@@ -24,7 +24,7 @@ use Rattle.report.specs.Json.{plmn_value, message_value, tdd_value, sib1_value, 
 use Rattle.report.specs.All.{ruled_value, ruled_values, all_value}
 use Rattle.report.specs.EvidenceJson.{Shown, complex_value, port_value, soft_value, support_value}
 use Rattle.report.specs.declared.supports_json.PortChannel.{PortChannel}
-use Rattle.report.specs.declared.supports_json.PortChannel.TheVariants.{Double, Single}
+use Rattle.report.specs.declared.supports_json.PortChannel.TheVariants.{Lower, Upper}
 use Rattle.report.specs.declared.supports_json.SoftPair.{SoftPair}
 
 -- a value without floats has its text
@@ -90,8 +90,8 @@ in_complex : (z : Cpx) → has_float (complex_value z) ≡ false
 in_complex z = or_from _ _ (in_integer z.re) (or_from _ _ (in_integer z.im) refl)
 
 in_port : (port : PortChannel) → has_float (port_value port) ≡ false
-in_port (Double pilots) = in_list complex_value in_complex pilots
-in_port (Single pilots) = in_list complex_value in_complex pilots
+in_port (Lower pilots) = in_list complex_value in_complex pilots
+in_port (Upper pilots) = in_list complex_value in_complex pilots
 
 in_soft : (pair : SoftPair) → has_float (soft_value pair) ≡ false
 in_soft pair = or_from _ _ (in_integer pair.re) (or_from _ _ (in_integer pair.im) refl)

@@ -7,7 +7,7 @@ use Rattle.cs_num.specs.declared.Cpx.{Cpx}
 use Rattle.lte_types.specs.declared.evidence.Evidence.{Evidence}
 use Rattle.report.specs.Values.{natural, integer, list_of}
 use Rattle.report.specs.declared.supports_json.PortChannel.{PortChannel}
-use Rattle.report.specs.declared.supports_json.PortChannel.TheVariants.{Double, Single}
+use Rattle.report.specs.declared.supports_json.PortChannel.TheVariants.{Lower, Upper}
 use Rattle.report.specs.declared.supports_json.SoftPair.{SoftPair}
 
 -- what supports an entry: its numbers, the channel of each antenna port in its slot, and the soft values of the
@@ -52,8 +52,8 @@ complex_value z = list_of integer (z.re ∷ z.im ∷ [])
 
 -- the pilots of an antenna port
 abbrev pub port_value : PortChannel → Data
-port_value (Double pilots) = list_of complex_value pilots
-port_value (Single pilots) = list_of complex_value pilots
+port_value (Lower pilots) = list_of complex_value pilots
+port_value (Upper pilots) = list_of complex_value pilots
 
 -- the two soft values of a resource element
 abbrev pub soft_value : SoftPair → Data

@@ -18,9 +18,9 @@ use std::marker::Model;
 #[derive(Clone, Copy)]
 pub enum PortChannel {
     /// The pilots of a port with reference signals in two symbols of a slot.
-    Double([Cpx; 24]),
+    Lower([Cpx; 24]),
     /// Those of a port with reference signals in one symbol.
-    Single([Cpx; 12]),
+    Upper([Cpx; 12]),
 }
 
 /// The soft values of a resource element, of its real and its imaginary part: -127 to 127. (own)
@@ -96,8 +96,8 @@ impl ToJson for PortChannel {
 
     fn to_json(&self, alloc: Global) -> Result<Value, AllocError> {
         match self {
-            PortChannel::Double(pilots) => list_value(alloc, pilots),
-            PortChannel::Single(pilots) => list_value(alloc, pilots),
+            PortChannel::Lower(pilots) => list_value(alloc, pilots),
+            PortChannel::Upper(pilots) => list_value(alloc, pilots),
         }
     }
 }
