@@ -34,7 +34,7 @@ use Rattle.cell_tx.specs.declared.cell.CellPlan.{CellPlan}
 use Rattle.cell_tx.specs.Ports.{port_prefix, port_symbols, port_slot, has_control, crossed_point, is_even_pair, sent_point, sent_signal, is_own_reference, is_other_reference, port_reference}
 use Rattle.cell_tx.specs.Load.{is_loaded, load_c_init, load_point, loaded_element, sent_element}
 use Rattle.cell_tx.specs.Block.{port_bit, port_point, scrambled_bit}
-use Rattle.cell_tx.specs.Grid.{is_primary, is_secondary, has_broadcast, is_indicator, is_control, is_shared, port_channel_value, port_element, element}
+use Rattle.cell_tx.specs.Grid.{is_primary, is_secondary, has_broadcast, is_indicator, is_control, is_shared, port_channel_value, port_element}
 use Rattle.cell_tx.specs.Points.{scrambled, point_of}
 use Rattle.cell_tx.specs.Control.{indicator_point, control_word, control_point}
 use Rattle.cell_tx.specs.Shared.{shared_bit, shared_point}
@@ -43,7 +43,7 @@ use Rattle.dci.specs.Fields.{system_information_rnti}
 use Rattle.lte_types.specs.declared.numerology.Prefix.{Prefix}
 use Rattle.lte_types.specs.Numerology.{normal, half_of, symbols_of_slot, useful_start, symbol_of}
 use Rattle.lte_types.specs.Timing.{number_of}
-use Rattle.cell_tx.specs.Sent.{Elements, prefix_slot_sample, prefix_frame_sample, prefix_sent, sent, received}
+use Rattle.cell_tx.specs.Sent.{Elements, prefix_slot_sample, prefix_frame_sample, prefix_sent, sent}
 use Rattle.cell_tx.proofs.Elements.{reference_at_is}
 
 -- ---- elements
@@ -252,10 +252,6 @@ amplified gain clean g c =
       fits = omega (arith, mul-le (size gain) (size clean) 28 1153 large small);
       small = record { re = re-le (times gain clean) 32284 whole; im = im-le (times gain clean) 32284 whole };
     }
-
--- what is received of a cell
-pub received-within : (plan : CellPlan) (sfn offset : ℕ) (gain : Cpx) (i : ℕ) → IsGain gain → IsWithin 32284 (received plan sfn offset gain i)
-received-within plan sfn offset gain i g = (amplified gain (sent (element plan) sfn (i + offset)) g.most (sent-square Only plan sfn (i + offset))).small
 
 -- ---- errors
 

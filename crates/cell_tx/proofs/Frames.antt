@@ -1,29 +1,29 @@
 -- What the frames of a cell have in common.
-use Rattle.std.proofs.Common.{◌≡◌, ℕ, ◌+◌, ◌*◌, ◌/◌, ◌%◌, ◌<◌, ◌≤◌, ◌⊎◌, inl, inr, Bool, true, false, nat_eq, nat_le, nat_lt, List, slice_index_or, arith, refl, sym, subst, ap, ◌∙◌, eqb-true, mod-lt, length, set, get_or-set_same, get_or-set_other}
+use Rattle.std.proofs.Common.{◌≡◌, ℕ, ◌+◌, ◌*◌, ◌/◌, ◌%◌, ◌<◌, ◌≤◌, ◌⊎◌, inl, inr, Bool, true, false, nat_eq, nat_le, nat_lt, List, slice_index_or, arith, refl, sym, ◌∙◌, eqb-true, mod-lt, length}
 use Rattle.std.specs.Prelude.{◌&&◌}
 use Rattle.std.proofs.lemmas.Bool.{cases_lt}
 use Rattle.std.proofs.lemmas.Bool.Decides.{nat_tests}
 use Rattle.std.proofs.lemmas.List.FromFn.{fill_by_all}
-use Rattle.finite.proofs.Lists.{values_below_at, values_below_same}
+use Rattle.finite.proofs.Lists.{values_below_same}
 use Rattle.cs_num.specs.declared.Sample.{Sample}
-use Rattle.cs_num.specs.Complex.{silence, sample_at, sample_of}
+use Rattle.cs_num.specs.Complex.{silence, sample_of}
 use Rattle.fold128.proofs.Samples.{useful_same}
 use Rattle.lte_types.specs.declared.numerology.Prefix.{Prefix}
 use Rattle.lte_types.specs.Numerology.{normal, IsPrefix, symbols_of_slot, symbol_of}
-use Rattle.lte_types.specs.Timing.{number_of}
 use Rattle.grid_map.specs.Place.{place}
 use Rattle.grid_map.specs.Broadcast.{is_pbch}
 use Rattle.cell_tx.specs.declared.antenna.Port.{Port}
 use Rattle.cell_tx.specs.declared.antenna.Port.TheVariants.{Only, First, Second, Long, OfFour}
+use Rattle.cell_tx.specs.declared.antenna.PortOfFour.{PortOfFour}
 use Rattle.cell_tx.specs.declared.cell.CellPlan.{CellPlan}
 use Rattle.cell_tx.specs.declared.layout.Carried.{Carried}
 use Rattle.cell_tx.specs.Ports.{port_prefix, has_control}
 use Rattle.cell_tx.specs.Grid.{is_broadcast, port_channel_value, port_element}
 use Rattle.cell_tx.specs.Control.{control_word, control_point}
 use Rattle.cell_tx.specs.Shared.{shared_point}
-use Rattle.cell_tx.specs.Sent.{Elements, prefix_frame_sample, prefix_sent}
-use Rattle.cell_tx.specs.Rows.{useful_place, first_sample, frame_samples, HasSamples, AreSameOutside, IsCarried}
-use Rattle.cell_tx.proofs.Symbols.{with_prefix, frame_sample_is, slot_sample_is, prefix_sent_is}
+use Rattle.cell_tx.specs.Sent.{Elements, prefix_frame_sample}
+use Rattle.cell_tx.specs.Rows.{useful_place, frame_samples, IsCarried}
+use Rattle.cell_tx.proofs.Symbols.{with_prefix, frame_sample_is, slot_sample_is}
 
 -- ---- what system information depends on
 
@@ -81,12 +81,14 @@ element_same Second plan a b control subframe symbol k outside other =
 element_same Long plan a b control subframe symbol k outside other = absurd cc
 element_same (OfFour port) plan a b control subframe symbol k outside other = absurd cc
 
-pub control_is_normal : (port : Port) → has_control port ≡ true → port_prefix port ≡ normal
-control_is_normal Only control = refl
-control_is_normal First control = refl
-control_is_normal Second control = refl
-control_is_normal Long control = absurd cc
-control_is_normal (OfFour port) control = absurd cc
+-- of a port of four, whose system information is not sent, they are the same beside the broadcast channel
+abbrev pub AreSameBesideBroadcast : Elements → ℕ → ℕ → Type 0
+AreSameBesideBroadcast grid a b =
+    (subframe symbol k : ℕ) → (subframe ≡ 0 → (symbol < 7) ⊎ (11 ≤ symbol)) → grid a subframe symbol k ≡ grid b subframe symbol k
+
+pub element_of_four_same : (port : PortOfFour) (plan : CellPlan) (a b : ℕ) → AreSameBesideBroadcast (port_element (OfFour port) plan) a b
+unfolding port_element port_channel_value
+element_of_four_same port plan a b subframe symbol k outside = let none = not_broadcast plan.identity subframe symbol k outside in rw none refl
 
 -- without a control region they are the same beside slot 1
 abbrev pub AreSameBesideSlot : Prefix → Elements → ℕ → ℕ → Type 0
@@ -128,61 +130,22 @@ same_sample prefix grid a b i known same =
     ∙ sym (slot_sample_is prefix grid b (i / 960) (i % 960) known (mod-lt i (omega arith)))
     ∙ sym (frame_sample_is prefix grid b i)
 
-read_first : (prefix : Prefix) (grid : Elements) (a i : ℕ) (list : List Sample) → i < 19200 → list ≡ frame_samples prefix grid a
-    → slice_index_or list i silence ≡ sample_of (prefix_frame_sample prefix grid a i)
-unfolding frame_samples
-read_first prefix grid a i list inside is =
-    ap (λ samples. slice_index_or samples i silence) is ∙ values_below_at (λ (n : ℕ). sample_of (prefix_frame_sample prefix grid a n)) 19200 i silence inside
-
--- a sample of a frame of which a part was written over another one
-part_renewed : (prefix : Prefix) (grid : Elements) (b i first last : ℕ) (old new : List Sample)
-    → ((i < first) ⊎ (last ≤ i) → slice_index_or old i silence ≡ sample_of (prefix_frame_sample prefix grid b i))
-    → HasSamples new (prefix_frame_sample prefix grid b) first last → AreSameOutside first last old new
-    → slice_index_or new i silence ≡ sample_of (prefix_frame_sample prefix grid b i)
-part_renewed prefix grid b i first last old new before here outside = place (cases_lt i first) (cases_lt i last)
-  where
-    place : (i < first) ⊎ (first ≤ i) → (i < last) ⊎ (last ≤ i) → slice_index_or new i silence ≡ sample_of (prefix_frame_sample prefix grid b i)
-    place (inl p) q = outside.earlier i p ∙ before (inl p)
-    place (inr p) (inr q) = outside.later i q ∙ before (inr q)
-    place (inr p) (inl q) = here i p q
-
--- where slots 1 and 2 begin
-first_of_slots : (prefix : Prefix) → IsPrefix prefix → (first_sample prefix (symbols_of_slot prefix) ≡ 960) × (first_sample prefix (2 * symbols_of_slot prefix) ≡ 1920)
-first_of_slots prefix known =
-    with_prefix (λ p. (first_sample p (symbols_of_slot p) ≡ 960) × (first_sample p (2 * symbols_of_slot p) ≡ 1920)) (refl, refl) (refl, refl) prefix known
-
 module _ (grid : Elements) (a b i : ℕ) (inside : i < 19200) where
-  normal_same : AreSameBeside grid a b → (i < 960) ⊎ (1509 ≤ i) → (i < 9600) ⊎ (11520 ≤ i) → prefix_frame_sample normal grid a i ≡ prefix_frame_sample normal grid b i
+  no_broadcast : (i < 960) ⊎ (1509 ≤ i) → i / 960 / 2 ≡ 0 → (7 * (i / 960 % 2) + symbol_of normal (i % 960) < 7) ⊎ (11 ≤ 7 * (i / 960 % 2) + symbol_of normal (i % 960))
+  no_broadcast (inl early) zero = inl (omega (arith, early))
+  no_broadcast (inr late) zero = inr (omega (arith, late, zero))
+
+  no_system : (i < 9600) ⊎ (11520 ≤ i) → i / 960 / 2 ≡ 5 → ⊥
+  no_system (inl early) five = absurd (omega (arith, early, five))
+  no_system (inr late) five = absurd (omega (arith, late, five))
+
+  pub normal_same : AreSameBeside grid a b → (i < 960) ⊎ (1509 ≤ i) → (i < 9600) ⊎ (11520 ≤ i) → prefix_frame_sample normal grid a i ≡ prefix_frame_sample normal grid b i
   normal_same same first second =
       same_sample normal grid a b i (inl refl) (λ k. same (i / 960 / 2) (7 * (i / 960 % 2) + symbol_of normal (i % 960)) k (no_broadcast first) (no_system second))
-    where
-      no_broadcast : (i < 960) ⊎ (1509 ≤ i) → i / 960 / 2 ≡ 0 → (7 * (i / 960 % 2) + symbol_of normal (i % 960) < 7) ⊎ (11 ≤ 7 * (i / 960 % 2) + symbol_of normal (i % 960))
-      no_broadcast (inl early) zero = inl (omega (arith, early))
-      no_broadcast (inr late) zero = inr (omega (arith, late, zero))
 
-      no_system : (i < 9600) ⊎ (11520 ≤ i) → i / 960 / 2 ≡ 5 → ⊥
-      no_system (inl early) five = absurd (omega (arith, early, five))
-      no_system (inr late) five = absurd (omega (arith, late, five))
-
-  -- a sample of a frame whose channels were written over another one
-  pub renewed : (prefix : Prefix) (first second third : List Sample) → prefix ≡ normal → AreSameBeside grid a b → first ≡ frame_samples prefix grid a
-      → HasSamples second (prefix_frame_sample prefix grid b) (first_sample prefix 7) (first_sample prefix 11)
-      → AreSameOutside (first_sample prefix 7) (first_sample prefix 11) first second
-      → HasSamples third (prefix_frame_sample prefix grid b) (first_sample prefix 70) (first_sample prefix 84)
-      → AreSameOutside (first_sample prefix 70) (first_sample prefix 84) second third
-      → slice_index_or third i silence ≡ sample_of (prefix_frame_sample prefix grid b i)
-  renewed prefix first second third is same =
-      subst
-      (λ p. first ≡ frame_samples p grid a → HasSamples second (prefix_frame_sample p grid b) (first_sample p 7) (first_sample p 11)
-      → AreSameOutside (first_sample p 7) (first_sample p 11) first second
-      → HasSamples third (prefix_frame_sample p grid b) (first_sample p 70) (first_sample p 84)
-      → AreSameOutside (first_sample p 70) (first_sample p 84) second third
-      → slice_index_or third i silence ≡ sample_of (prefix_frame_sample p grid b i))
-      (sym is)
-      (λ whole broadcast early system late.
-      part_renewed normal grid b i 9600 11520 second third
-      (λ q. part_renewed normal grid b i 960 1509 first second (λ p. read_first normal grid a i first inside whole ∙ ap sample_of (normal_same same p q)) broadcast early)
-      system late)
+  pub broadcast_same : AreSameBesideBroadcast grid a b → (i < 960) ⊎ (1509 ≤ i) → prefix_frame_sample normal grid a i ≡ prefix_frame_sample normal grid b i
+  broadcast_same same first =
+      same_sample normal grid a b i (inl refl) (λ k. same (i / 960 / 2) (7 * (i / 960 % 2) + symbol_of normal (i % 960)) k (no_broadcast first))
 
   -- with either prefix a sample beside slot 1
   not_second : (prefix : Prefix) → IsPrefix prefix → (i < 960) ⊎ (1920 ≤ i) →
@@ -194,44 +157,14 @@ module _ (grid : Elements) (a b i : ℕ) (inside : i < 19200) where
       with_prefix (λ p. 2 * (i / 960 / 2) + (symbols_of_slot p * (i / 960 % 2) + symbol_of p (i % 960)) / symbols_of_slot p ≡ 1 → ⊥)
       (λ one. absurd (omega (arith, late, one))) (λ one. absurd (omega (arith, late, one))) prefix known
 
-  slot_sample_same : (prefix : Prefix) → IsPrefix prefix → AreSameBesideSlot prefix grid a b → (i < 960) ⊎ (1920 ≤ i) →
+  pub slot_sample_same : (prefix : Prefix) → IsPrefix prefix → AreSameBesideSlot prefix grid a b → (i < 960) ⊎ (1920 ≤ i) →
       prefix_frame_sample prefix grid a i ≡ prefix_frame_sample prefix grid b i
   slot_sample_same prefix known same out =
       same_sample prefix grid a b i known
       (λ k. same (i / 960 / 2) (symbols_of_slot prefix * (i / 960 % 2) + symbol_of prefix (i % 960)) k (not_second prefix known out))
-
-  pub slot_renewed : (prefix : Prefix) (symbols : ℕ) (first second : List Sample) → IsPrefix prefix → symbols ≡ symbols_of_slot prefix → AreSameBesideSlot prefix grid a b
-      → first ≡ frame_samples prefix grid a
-      → HasSamples second (prefix_frame_sample prefix grid b) (first_sample prefix symbols) (first_sample prefix (2 * symbols))
-      → AreSameOutside (first_sample prefix symbols) (first_sample prefix (2 * symbols)) first second
-      → slice_index_or second i silence ≡ sample_of (prefix_frame_sample prefix grid b i)
-  slot_renewed prefix symbols first second known is same whole =
-      rw (is, (first_of_slots prefix known).0, (first_of_slots prefix known).1)
-      (λ broadcast outside.
-      part_renewed prefix grid b i 960 1920 first second (λ p. read_first prefix grid a i first inside whole ∙ ap sample_of (slot_sample_same prefix known same p)) broadcast outside)
 
 -- all samples of a frame
 pub all_are : (prefix : Prefix) (grid : Elements) (sfn : ℕ) (list : List Sample) → length list ≡ 19200
     → ((i : ℕ) → i < 19200 → slice_index_or list i silence ≡ sample_of (prefix_frame_sample prefix grid sfn i)) → list ≡ frame_samples prefix grid sfn
 unfolding frame_samples
 all_are prefix grid sfn list long each = fill_by_all (λ (n : ℕ). sample_of (prefix_frame_sample prefix grid sfn n)) list 19200 silence long each
-
--- a sample of a sequence, read from the samples of its frame
-pub read_frame : (prefix : Prefix) (grid : Elements) (sfn n : ℕ) (frame : List Sample) → frame ≡ frame_samples prefix grid (number_of sfn n)
-    → sample_at frame (n % 19200) ≡ prefix_sent prefix grid sfn n
-unfolding frame_samples
-read_frame prefix grid sfn n frame is =
-    ap (λ list. sample_at list (n % 19200)) is
-    ∙ ap (λ (s : Sample). record { re = s.re; im = s.im })
-    (values_below_at (λ (i : ℕ). sample_of (prefix_frame_sample prefix grid (number_of sfn n) i)) 19200 (n % 19200) silence (omega arith))
-    ∙ sym (prefix_sent_is prefix grid sfn n)
-
--- ---- samples written one after the other
-
-pub set_between : (f : ℕ → Sample) (first i : ℕ) (xs : List Sample) (v : Sample) → i < length xs → v ≡ f i
-    → ((j : ℕ) → first ≤ j → j < i → slice_index_or xs j silence ≡ f j) → (j : ℕ) → first ≤ j → j < i + 1 → slice_index_or (set xs i v) j silence ≡ f j
-set_between f first i xs v inside is before j low below = settle (cases_lt j i)
-  where
-    settle : (j < i) ⊎ (i ≤ j) → slice_index_or (set xs i v) j silence ≡ f j
-    settle (inl l) = get_or-set_other xs i j v silence (λ e. absurd (omega (arith, e, l))) ∙ before j low l
-    settle (inr m) = let e : j ≡ i = omega (arith, m, below) in rw e (get_or-set_same xs i v silence inside ∙ is)

@@ -4,6 +4,11 @@ pub mod Bounds
 pub mod Received
 pub mod Symbols
 pub mod Frames
+pub mod Changes
+pub mod OwnSymbols
+pub mod Mixing
+pub mod Pieces
+pub mod Advancing
 pub mod Sendable
 pub mod BlockRows
 pub mod WholeBlocks

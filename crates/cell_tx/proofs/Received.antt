@@ -1,25 +1,21 @@
 -- Sizes of what is received of the antenna ports of a carrier, and that it is clean.
-use Rattle.std.proofs.Common.{◌≡◌, ℕ, ◌+◌, ◌*◌, ◌<◌, ◌≤◌, inl, inr, List, Option, arith, ap, sym, subst, ◌∙◌, ℤ, ◌+ℤ◌, ◌-ℤ◌}
+use Rattle.std.proofs.Common.{◌≡◌, ℕ, ◌+◌, ◌*◌, ◌<◌, ◌≤◌, inl, inr, List, arith, ap, sym, subst, ℤ, ◌+ℤ◌, ◌-ℤ◌}
 use Rattle.std.specs.Prelude.{nat_abs}
-use Rattle.finite.specs.Lists.{values_below}
 use Rattle.std.proofs.lemmas.Bool.{cases_lt}
 use Rattle.std.proofs.lemmas.Int.{ints}
 use Rattle.std.proofs.lemmas.Nat.{mul-le}
-use Rattle.finite.proofs.Lists.{values_below_at, values_below-length, values_below_same}
+use Rattle.finite.proofs.Lists.{values_below_at, values_below-length}
 use Rattle.cs_num.specs.declared.Cpx.{Cpx}
 use Rattle.cs_num.specs.declared.Sample.{Sample}
-use Rattle.cs_num.specs.Complex.{IsWithin, plus, minus, times, square, silence, nothing, value_at, sample_at, value_of, sample_of}
-use Rattle.cs_num.proofs.Complex.{plus-nothing, within_more}
+use Rattle.cs_num.specs.Complex.{IsWithin, plus, minus, times, square, silence, value_at, value_of, sample_of}
 use Rattle.sizes.proofs.Squares.{re-le, im-le, square-times}
 use Rattle.sizes.proofs.TwoTerms.{two_term_cauchy}
 use Rattle.cell_tx.specs.Clean.{AreNear, AreGains, AreGainsOf, received_of_two}
 use Rattle.lte_types.specs.declared.carrier.Carrier.{Carrier}
 use Rattle.lte_types.specs.declared.carrier.Carrier.TheVariants.{OnePort, TwoPorts, LongPrefix, FourPorts}
-use Rattle.cell_tx.specs.declared.antenna.Port.{Port}
 use Rattle.cell_tx.specs.declared.antenna.Port.TheVariants.{Only, First, Second, Long, OfFour}
 use Rattle.cell_tx.specs.declared.antenna.PortOfFour.{PortOfFour}
 use Rattle.cell_tx.specs.declared.antenna.PortOfFour.TheVariants.{Zero, One, Two, Three}
-use Rattle.cell_tx.specs.declared.cell.CellPlan.{CellPlan}
 use Rattle.cell_tx.specs.Emission.{sent_by, received_by}
 use Rattle.cell_tx.proofs.Bounds.{amplified, added, sent_by-square}
 use Rattle.cell_tx.specs.Laws.{values_with, EmittedIsClean, EmittedIsSmall, ReceivedOfTwoIsClean, ReceivedOfTwoIsSmall, ReceivedOfTwoFits}
@@ -134,34 +130,3 @@ emitted_clean carrier load plan sfn offset count gains eps errors number within 
   bound = bound;
   near = near_with (received_by carrier load plan sfn offset gains) errors count eps small;
 }
-
-pub first-small : (carrier : Carrier) (gains : List Cpx) (load : Option ℕ) (port : Port) (plan : CellPlan) (sfn i : ℕ) → AreGainsOf carrier gains →
-    IsWithin 32284 (times (value_at gains 0) (sent_by load port plan sfn i))
-first-small carrier gains load port plan sfn i g = (amplified (value_at gains 0) (sent_by load port plan sfn i) (first_most carrier gains g) (sent_by-square load port plan sfn i)).small
-
--- ---- sums that are made port by port
-
--- a sample that was written is its value
-pub written_at : (z : ℕ → Cpx) (n : ℕ) (list : List Sample) (k : ℕ) → list ≡ values_below n (λ i. sample_of (z i)) → k < n → sample_at list k ≡ z k
-written_at z n list k is below = ap (λ (l : List Sample). sample_at l k) is ∙ ap value_of (values_below_at (λ (i : ℕ). sample_of (z i)) n k silence below)
-
--- what is added to it, within a bound
-pub added_small : (z w : ℕ → Cpx) (n : ℕ) (list : List Sample) (k : ℕ) → list ≡ values_below n (λ i. sample_of (z i)) → k < n → IsWithin 32284 (plus (z k) (w k)) → IsWithin 32767 (plus (sample_at list k) (w k))
-added_small z w n list k is below small =
-    subst (IsWithin 32767) (sym (ap (λ (a : Cpx). plus a (w k)) (written_at z n list k is below))) (within_more (plus (z k) (w k)) 32284 32767 small (omega arith))
-
-pub added_is : (z w : ℕ → Cpx) (n : ℕ) (list : List Sample) → list ≡ values_below n (λ i. sample_of (z i))
-    → values_below n (λ i. sample_of (plus (sample_at list i) (w i))) ≡ values_below n (λ i. sample_of (plus (z i) (w i)))
-added_is z w n list is =
-    values_below_same n (λ i. sample_of (plus (sample_at list i) (w i))) (λ i. sample_of (plus (z i) (w i)))
-    (λ k below. ap (λ (a : Cpx). sample_of (plus a (w k))) (written_at z n list k is below))
-
--- to silence
-pub alone_small : (w : ℕ → Cpx) (n : ℕ) (list : List Sample) (k : ℕ) → list ≡ values_below n (λ i. silence) → k < n → IsWithin 32284 (w k) → IsWithin 32767 (plus (sample_at list k) (w k))
-alone_small w n list k is below small = added_small (λ (i : ℕ). nothing) w n list k is below (subst (IsWithin 32284) (sym (plus-nothing (w k))) small)
-
-pub alone_is : (w : ℕ → Cpx) (n : ℕ) (list : List Sample) → list ≡ values_below n (λ i. silence)
-    → values_below n (λ i. sample_of (plus (sample_at list i) (w i))) ≡ values_below n (λ i. sample_of (w i))
-alone_is w n list is =
-    added_is (λ (i : ℕ). nothing) w n list is
-    ∙ values_below_same n (λ i. sample_of (plus nothing (w i))) (λ i. sample_of (w i)) (λ k below. ap sample_of (plus-nothing (w k)))

@@ -144,19 +144,36 @@ stands_in prefix n i known =
     record { slot = omega (arith, from, high); symbol = omega (arith, from, high) })
     prefix known
 
--- where symbol l of a slot begins lies in it
-pub first_inside : (prefix : Prefix) (l : ℕ) → IsPrefix prefix → l < symbols_of_slot prefix → first_in_slot prefix l < 960
-first_inside prefix l known =
-    with_prefix (λ p. l < symbols_of_slot p → first_in_slot p l < 960)
-    (λ few. omega (arith, few, up_to l))
-    (λ few. grind (arith, nat_tests))
+-- the sample of its useful part that it repeats or is, told from its end
+pub place_from_end : (prefix : Prefix) (n i : ℕ) → IsPrefix prefix → first_sample prefix n ≤ i → i < first_sample prefix (n + 1)
+    → useful_place prefix (i % 960) ≡ (i + 256 - first_sample prefix (n + 1)) % 128
+place_from_end prefix n i known =
+    with_prefix (λ p. first_sample p n ≤ i → i < first_sample p (n + 1) → useful_place p (i % 960) ≡ (i + 256 - first_sample p (n + 1)) % 128)
+    (λ low below.
+    let at = stands_in normal n i (inl refl) low below in
+    let high = rw (normal_next n) at below in
+    let e = at.symbol in
+    let s = at.slot in
+    rw (e, normal_next n) (omega (arith, s, high, low, from_first (n % 7))))
+    (λ low below.
+    let at = stands_in extended n i (inr refl) low below in
+    let from = rw (extended_first n) at low in
+    let high = rw (extended_first (n + 1)) at below in
+    let e = at.symbol in
+    let s = at.slot in
+    rw (e, extended_first (n + 1)) (omega (arith, s, from, high)))
     prefix known
 
-pub first_none : (prefix : Prefix) → IsPrefix prefix → first_sample prefix 0 ≡ 0
-first_none prefix known = with_prefix (λ p. first_sample p 0 ≡ 0) refl refl prefix known
-
-pub first_last : (prefix : Prefix) → IsPrefix prefix → first_sample prefix (20 * symbols_of_slot prefix) ≡ 19200
-first_last prefix known = with_prefix (λ p. first_sample p (20 * symbols_of_slot p) ≡ 19200) refl refl prefix known
+-- and the sample, read from that part
+pub value_there : (prefix : Prefix) (grid : Elements) (sfn n i last : ℕ) (useful : List Cpx) → IsPrefix prefix
+    → useful ≡ useful_part (grid sfn (n / symbols_of_slot prefix / 2) (symbols_of_slot prefix * (n / symbols_of_slot prefix % 2) + n % symbols_of_slot prefix))
+    → last ≡ first_sample prefix (n + 1) → first_sample prefix n ≤ i → i < last → value_at useful ((i + 256 - last) % 128) ≡ prefix_frame_sample prefix grid sfn i
+value_there prefix grid sfn n i last useful known is e low below =
+    let high : i < first_sample prefix (n + 1) = subst (λ (m : ℕ). i < m) e below in
+    let at = stands_in prefix n i known low high in
+    let place : (i + 256 - last) % 128 ≡ useful_place prefix (i % 960) = ap (λ (m : ℕ). (i + 256 - m) % 128) e ∙ sym (place_from_end prefix n i known low high) in
+    slot_value prefix grid sfn (i / 960) (i % 960) ((i + 256 - last) % 128) useful known (mod-lt i (omega arith)) (rw (at.slot, at.symbol) is) place
+    ∙ sym (frame_sample_is prefix grid sfn i)
 
 normal_mono : (m n : ℕ) → m ≤ n → first_sample normal m ≤ first_sample normal n
 normal_mono m n h = settle (cases_lt m n)

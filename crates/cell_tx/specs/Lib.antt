@@ -13,4 +13,5 @@ pub mod Rows
 pub mod Sending
 pub mod Clean
 pub mod Emission
+pub mod Emitting
 pub mod Laws

@@ -4,7 +4,7 @@ use Rattle.std.specs.Prelude.{None, List, length, slice_index_or}
 use Rattle.finite.specs.Lists.{values_below}
 use Rattle.cs_num.specs.declared.Cpx.{Cpx}
 use Rattle.cs_num.specs.declared.Sample.{Sample}
-use Rattle.cs_num.specs.Complex.{nothing, silence, value_at, sample_of}
+use Rattle.cs_num.specs.Complex.{nothing, value_at, sample_of}
 use Rattle.lte_types.specs.declared.numerology.Prefix.{Prefix}
 use Rattle.lte_types.specs.Numerology.{frame_length, slot_length, useful_length, symbol_step}
 use Rattle.lte_types.specs.Numerology.{symbols_of_slot, symbol_of}
@@ -163,13 +163,3 @@ first_sample prefix n = slot_length * (n / symbols_of_slot prefix) + first_in_sl
 -- the samples of the frame with this number
 unfoldable pub frame_samples : Prefix → Elements → ℕ → List Sample
 frame_samples prefix grid sfn = values_below frame_length (λ i. sample_of (prefix_frame_sample prefix grid sfn i))
-
--- the samples of a list from first on up to last are these
-abbrev pub HasSamples : List Sample → (ℕ → Cpx) → ℕ → ℕ → Type 0
-HasSamples samples values first last =
-    (i : ℕ) → first ≤ i → i < last → slice_index_or samples i silence ≡ sample_of (values i)
-
--- two lists of samples are the same before first, and from last on
-pub record AreSameOutside (first last : ℕ) (before now : List Sample) : Type 0 where
-  pub earlier : (i : ℕ) → i < first → slice_index_or now i silence ≡ slice_index_or before i silence
-  pub later : (i : ℕ) → last ≤ i → slice_index_or now i silence ≡ slice_index_or before i silence

@@ -5,8 +5,8 @@ ghost use Rattle.finite.specs.Lists.{values_below};
 ghost use Rattle.cs_num.specs.Complex.{nothing};
 ghost use Rattle.lte_types.specs.Numerology.{half_of};
 ghost use Rattle.sync_seq.specs.Secondary.{sss_at};
-ghost use Rattle.crs.specs.declared.single.SinglePort.TheVariants.{Third};
-ghost use Rattle.crs.specs.Reference.{IsPattern, pattern_list, single_list};
+ghost use Rattle.crs.specs.declared.upper.UpperPort.TheVariants.{Third};
+ghost use Rattle.crs.specs.Reference.{IsPattern, pattern_list, upper_list};
 ghost use Rattle.fold128.specs.Symbol.{useful_part};
 ghost use Rattle.std.specs.Option.{unwrap_or};
 ghost use Rattle.cell_tx.specs.declared.antenna.Port.{Port as Antenna};
@@ -23,7 +23,7 @@ use crate::channels::channel_at;
 use crate::layout::{Carried, Layout};
 use crate::load::{LOAD_BITS, load_bits};
 use crate::{Cell, Port, PortOfFour};
-use crs::{Pattern, SinglePort, pattern_pilots, point, single_pilots};
+use crs::{Pattern, UpperPort, pattern_pilots, point, upper_pilots};
 use cs_num::Cpx;
 use fold128::synth;
 use grid_map::Place;
@@ -117,9 +117,9 @@ fn test_of_four(port: PortOfFour, zero: bool, one: bool, two: bool, three: bool)
 
 // What a port of four sends at a reference place of symbol 1 by the twelve of port 2 there; `None` at every other
 // place. Port 3 has its own three subcarriers on.
-fn single_of(port: PortOfFour, pilots: &[(u8, Cpx); 12], k: usize) -> Option<Cpx>
+fn upper_of(port: PortOfFour, pilots: &[(u8, Cpx); 12], k: usize) -> Option<Cpx>
     requires { k < 72 }
-    ensures { (identity slot : ℕ) → pilots.now ≡ single_list Third identity slot →
+    ensures { (identity slot : ℕ) → pilots.now ≡ upper_list Third identity slot →
         result ≡ port_reference_if (OfFour port) identity slot 1 k }
 {
     let first = pilots[0].0 as usize % 6;
@@ -186,19 +186,19 @@ fn second_row(id: CellId, port: Port, slot: u8) -> [Option<Cpx>; 72]
         Port::First => [None; 72],
         Port::Second => [None; 72],
         Port::Long => [None; 72],
-        Port::OfFour(four) => single_row(id, four, slot),
+        Port::OfFour(four) => upper_row(id, four, slot),
     }
 }
 
 // That of a port of four.
-fn single_row(id: CellId, port: PortOfFour, slot: u8) -> [Option<Cpx>; 72]
+fn upper_row(id: CellId, port: PortOfFour, slot: u8) -> [Option<Cpx>; 72]
     requires { slot < 20 }
     ensures { result ≡ values_below 72 (port_reference_if (OfFour port) id slot 1) }
 {
     let mut row = [None; 72];
-    let pilots = single_pilots(SinglePort::Third, id, slot);
+    let pilots = upper_pilots(UpperPort::Third, id, slot);
     for k in 0..72 {
-        row[k] = single_of(port, &pilots, k);
+        row[k] = upper_of(port, &pilots, k);
     }
     row
 }

@@ -3,6 +3,7 @@
 //! with SystemInformationBlockType1 (TS 36.211 section 6); with load at all other places, or without (own).
 #![tactic(auto)]
 
+mod adding;
 mod antenna;
 mod bits;
 mod block;
@@ -10,12 +11,14 @@ mod cell;
 mod channels;
 mod control;
 mod emission;
+mod emitter;
 mod emitting;
 mod error;
 mod grid;
 mod laws;
 mod layout;
 mod load;
+mod made_symbols;
 mod points;
 mod sending;
 mod shared;
@@ -24,6 +27,7 @@ mod transmission;
 pub use antenna::{Port, PortOfFour};
 pub use cell::{Cell, CellPlan};
 pub use emission::Emission;
+pub use emitter::Emitter;
 pub use emitting::emit;
 pub use error::CellError;
 pub use laws::{

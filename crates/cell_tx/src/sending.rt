@@ -1,29 +1,32 @@
 //! The samples of a cell.
 
-ghost use Rattle.std.specs.Prelude.{ℕ, ◌≡◌, ◌+◌, ◌-◌, ◌*◌, ◌/◌, ◌%◌, ◌<◌, ◌≤◌, None, true, false, length};
+ghost use Rattle.std.specs.Prelude.{ℕ, ◌≡◌, ◌+◌, ◌-◌, ◌*◌, ◌/◌, ◌%◌, ◌<◌, ◌≤◌, ◌++◌, length, min, take, drop};
 ghost use Rattle.finite.specs.Lists.{values_below};
-ghost use Rattle.cs_num.specs.Complex.{IsWithin, silence, square, plus, times, value_of, sample_of};
+ghost use Rattle.cs_num.specs.Complex.{IsWithin, square, times, value_of, sample_of};
 ghost use Rattle.fold128.specs.Symbol.{useful_part};
 ghost use Rattle.lte_types.specs.Numerology.{frame_length, slot_length, useful_length, normal, symbol_of, most_samples};
-ghost use Rattle.cell_tx.specs.Ports.{has_control, port_prefix, port_symbols};
+ghost use Rattle.lte_types.specs.Timing.{number_of};
+ghost use Rattle.cell_tx.specs.Ports.{port_prefix, port_symbols};
 ghost use Rattle.cell_tx.specs.Grid.{element};
-ghost use Rattle.cell_tx.specs.Rows.{useful_place, first_in_slot, first_sample, frame_samples, HasSamples};
-ghost use Rattle.cell_tx.specs.Rows.{AreSameOutside, IsLayout, AreVersions};
-ghost use Rattle.cell_tx.specs.Sending.{elements_of, sample_in, symbol_start, frame_of, RenewsFrame, sample_by};
-ghost use Rattle.cell_tx.specs.Sending.{frame_at, sum_with, received_samples};
+ghost use Rattle.cell_tx.specs.Rows.{useful_place, frame_samples, IsLayout, AreVersions};
+ghost use Rattle.cell_tx.specs.Sending.{elements_of, sample_in, sample_by, scaled_in_frame, received_samples};
 ghost use Rattle.cell_tx.specs.Sent.{prefix_slot_sample, sent, received};
+ghost use Rattle.cell_tx.specs.Emitting.{AreFrameOf};
 
+use crate::adding::put_symbols;
+use crate::emitting::put_piece;
 use crate::grid::{Signals, useful_of};
 use crate::layout::{Layout, Versions, carried_of, layout_of, versions_of};
+use crate::made_symbols::{all_symbols, symbols_at};
 use crate::{Cell, Port, Transmission};
 use cs_num::{Cpx, Gain, Sample};
-use lte_types::{FRAME_LENGTH, SLOT_LENGTH, Sfn, Timing, USEFUL_LENGTH};
+use lte_types::{Carrier, FRAME_LENGTH, SLOT_LENGTH, Sfn, Timing, USEFUL_LENGTH};
 
 // The samples of a frame.
 const FRAME: u64 = FRAME_LENGTH as u64;
 
-// A sample of silence.
-const SILENCE: Sample = Sample { re: 0, im: 0 };
+// The gain by which nothing changes.
+const ONE: Cpx = Cpx { re: 1, im: 0 };
 
 // The sample of the useful part of its symbol that sample i of a slot repeats or is.
 fn place_at(port: Port, i: usize) -> usize
@@ -70,115 +73,6 @@ fn sample_of_frame(signals: &Signals, i: usize) -> Sample
     sample_of_slot(signals, &useful, slot, i % SLOT_LENGTH)
 }
 
-// Where symbol l of a slot begins.
-fn first_in_slot(port: Port, l: usize) -> usize
-    requires { l < port_symbols port }
-    ensures value { result ≡ first_in_slot (port_prefix port) l }
-    ensures inside { result < slot_length }
-{
-    let prefix = port.carrier().prefix();
-    if l == 0 {
-        0
-    } else {
-        (prefix.first - prefix.other) as usize + prefix.step() * l
-    }
-}
-
-// The first sample of a symbol of a frame by its number, the greatest of which is that of what follows the last.
-fn first_of(port: Port, symbol: usize) -> usize
-    requires { symbol ≤ 20 * port_symbols port }
-    ensures value { result ≡ first_sample (port_prefix port) symbol }
-    ensures inside { result ≤ frame_length }
-{
-    let symbols = port.symbols() as usize;
-    SLOT_LENGTH * (symbol / symbols) + first_in_slot(port, symbol % symbols)
-}
-
-// The useful part of a symbol of a frame by its number.
-fn useful_at(signals: &Signals, symbol: usize) -> [Cpx; 128]
-    requires { symbol < 20 * port_symbols signals.now.port }
-    ensures { result ≡ useful_part (elements_of signals.now signals.now.sfn (symbol / port_symbols signals.now.port / 2)
-        (port_symbols signals.now.port * (symbol / port_symbols signals.now.port % 2)
-        + symbol % port_symbols signals.now.port)) }
-{
-    let symbols = signals.port.symbols() as usize;
-    useful_of(signals, (symbol / symbols) as u8, (symbol % symbols) as u8)
-}
-
-// Writes the samples of a symbol of a frame.
-fn put_symbol(signals: &Signals, symbol: usize, out: &mut [Sample])
-    requires symbol { symbol < 20 * port_symbols signals.now.port }
-    requires room { length out.old ≡ frame_length }
-    ensures samples { HasSamples out.new (sample_in signals.now)
-        (symbol_start signals.now symbol) (symbol_start signals.now (symbol + 1)) }
-    ensures rest { AreSameOutside (symbol_start signals.now symbol) (symbol_start signals.now (symbol + 1))
-        out.old out.new }
-{
-    let useful = useful_at(signals, symbol);
-    for i in first_of(signals.port, symbol)..first_of(signals.port, symbol + 1) {
-        out[i] = sample_of_slot(signals, &useful, i / SLOT_LENGTH, i % SLOT_LENGTH);
-    }
-}
-
-// Writes the samples of some symbols of a frame, one after the other.
-fn put_symbols(signals: &Signals, first: usize, last: usize, out: &mut [Sample])
-    requires order { first ≤ last }
-    requires last { last ≤ 20 * port_symbols signals.now.port }
-    requires room { length out.old ≡ frame_length }
-    ensures samples { HasSamples out.new (sample_in signals.now)
-        (symbol_start signals.now first) (symbol_start signals.now last) }
-    ensures rest { AreSameOutside (symbol_start signals.now first) (symbol_start signals.now last) out.old out.new }
-{
-    for symbol in first..last {
-        put_symbol(signals, symbol, out);
-    }
-}
-
-// Writes all samples of a frame.
-fn put_frame(signals: &Signals, out: &mut [Sample])
-    requires { length out.old ≡ frame_length }
-    ensures { out.new ≡ frame_of signals.now }
-{
-    put_symbols(signals, 0, 20 * signals.port.symbols() as usize, out);
-}
-
-// Writes the samples of a frame without load over those of another frame of the cell: frames differ only in the first
-// four symbols of slot 1, which carry the broadcast channel, and in subframe 5, which carries system information.
-fn renew_channels(signals: &Signals, out: &mut [Sample])
-    requires load { signals.now.load ≡ None }
-    requires control { has_control signals.now.port ≡ true }
-    requires room { length out.old ≡ frame_length }
-    ensures { RenewsFrame signals.now out.old out.new }
-{
-    put_symbols(signals, 7, 11, out);
-    put_symbols(signals, 70, 84, out);
-}
-
-// The same where no system information is sent: they differ in slot 1 alone.
-fn renew_broadcast(signals: &Signals, out: &mut [Sample])
-    requires load { signals.now.load ≡ None }
-    requires control { has_control signals.now.port ≡ false }
-    requires room { length out.old ≡ frame_length }
-    ensures { RenewsFrame signals.now out.old out.new }
-{
-    let symbols = signals.port.symbols() as usize;
-    put_symbols(signals, symbols, 2 * symbols, out);
-}
-
-// The same of any frame: each symbol has load of its own, where there is load.
-fn renew_frame(signals: &Signals, out: &mut [Sample])
-    requires { length out.old ≡ frame_length }
-    ensures { RenewsFrame signals.now out.old out.new }
-{
-    if signals.load.is_some() {
-        put_frame(signals, out);
-    } else if signals.port.has_control() {
-        renew_channels(signals, out);
-    } else {
-        renew_broadcast(signals, out);
-    }
-}
-
 /// Sample `i` of the endless sequence of frames that a cell sends, which begins with the frame numbered `sfn`
 /// (TS 36.211 section 6.12, in whole numbers). The size of a sample is at most 1,153.
 pub fn sample(cell: &Cell, sfn: Sfn, i: u64) -> Sample
@@ -201,7 +95,7 @@ pub fn frame(cell: &Cell, sfn: Sfn, out: &mut [Sample])
     let layout = layout_of(cell, Port::Only);
     let carried = carried_of(cell, sfn);
     let signals = Signals::new(cell, Port::Only, None, &layout, &carried, sfn);
-    put_frame(&signals, out);
+    put_symbols(&signals, &ONE, &all_symbols(Carrier::OnePort), out);
 }
 
 // A clean sample times a gain. The size of the sample is at most 1,153.
@@ -239,56 +133,60 @@ pub struct Sender<'a> {
     pub load: Option<u32>,
 }
 
-// Makes the frame of sample i of a sequence, over the frame before where there is one.
-fn make_frame(
+// Makes the frame of a sample of a sequence, times a gain: over any frame of it, but for the first.
+fn enter(
     sender: &Sender,
+    gain: &Cpx,
     layout: &Layout,
     versions: &Versions,
-    i: usize,
-    clean: &mut [Sample; FRAME_LENGTH],
+    at: usize,
+    frame: &mut [Sample],
 )
     requires layout { IsLayout sender.now.port sender.now.cell.now layout.now }
     requires versions { AreVersions sender.now.cell.now versions.now }
-    requires i { i < most_samples }
-    requires before { 0 < i → clean.old ≡ frame_at sender.now (i - 1) }
-    ensures { clean.new ≡ frame_at sender.now i }
+    requires gain { square gain.now ≤ 784 }
+    requires at { at < most_samples }
+    requires room { length frame.old ≡ frame_length }
+    ensures { (n : ℕ) → (0 < at → AreFrameOf (scaled_in_frame sender.now gain.now) n frame.old) →
+        AreFrameOf (scaled_in_frame sender.now gain.now)
+        (number_of sender.now.timing.sfn (at + sender.now.timing.offset)) frame.new }
 {
-    let sfn = sender.timing.number_at(i as u64);
+    let sfn = sender.timing.number_at(at as u64);
     let carried = versions.of_frame(sfn);
     let signals = Signals::new(sender.cell, sender.port, sender.load, layout, carried, sfn);
-    if i == 0 {
-        put_frame(&signals, clean);
-    } else {
-        renew_frame(&signals, clean);
-    }
+    let symbols = symbols_at(sender.port.carrier(), sender.load, at == 0);
+    put_symbols(&signals, gain, &symbols, frame);
 }
 
-// Makes the frame of sample i of a sequence, where that of the sample before is another one.
-fn enter_frame(
-    sender: &Sender,
-    layout: &Layout,
-    versions: &Versions,
-    i: usize,
-    clean: &mut [Sample; FRAME_LENGTH],
-)
-    requires layout { IsLayout sender.now.port sender.now.cell.now layout.now }
-    requires versions { AreVersions sender.now.cell.now versions.now }
-    requires i { i < most_samples }
-    requires before { 0 < i → clean.old ≡ frame_at sender.now (i - 1) }
-    ensures { clean.new ≡ frame_at sender.now i }
+// Puts the samples of a frame from a place on into samples from another on, as many as both have.
+fn put_part(frame: &[Sample], start: usize, at: usize, out: &mut [Sample]) -> usize
+    requires frame { length frame.now ≡ frame_length }
+    requires start { start < frame_length }
+    requires at { at ≤ length out.old }
+    ensures count { result ≡ min (frame_length - start) (length out.old - at) }
+    ensures front { take (at + result) out.new ≡ take at out.old ++ take result (drop start frame.now) }
+    ensures same_length { length out.new ≡ length out.old }
 {
-    if i == 0 || (i as u64 + sender.timing.offset as u64) % FRAME == 0 {
-        make_frame(sender, layout, versions, i, clean);
-    }
+    let count = (FRAME_LENGTH - start).min(out.len() - at);
+    put_piece(at, &frame[start..start + count], out);
+    count
 }
 
-// Sample i of a sequence, from the samples of its frame.
-fn sample_from(sender: &Sender, i: usize, clean: &[Sample; FRAME_LENGTH]) -> Sample
-    requires i { i < most_samples }
-    requires clean { clean.now ≡ frame_at sender.now i }
-    ensures { result ≡ sample_of (sample_by sender.now i) }
+// Writes what is sent at a port, times a gain, a frame's piece at a time.
+fn fill(sender: &Sender, gain: &Cpx, out: &mut [Sample])
+    requires count { length out.old ≤ most_samples }
+    requires gain { square gain.now ≤ 784 }
+    ensures { out.new ≡ values_below (length out.old) (λ i. sample_of (times gain.now (sample_by sender.now i))) }
 {
-    clean[(i + sender.timing.offset as usize) % FRAME_LENGTH]
+    let layout = layout_of(sender.cell, sender.port);
+    let versions = versions_of(sender.cell);
+    let mut frame = [Sample { re: 0, im: 0 }; FRAME_LENGTH];
+    let mut at = 0;
+    while at < out.len() {
+        enter(sender, gain, &layout, &versions, at, &mut frame);
+        let start = (at + sender.timing.offset as usize) % FRAME_LENGTH;
+        at += put_part(&frame, start, at, out);
+    }
 }
 
 /// What is sent at a port, over at most 1,920,000 samples: sample `i` is the one at `i + offset` of the endless
@@ -297,49 +195,7 @@ pub fn sequence(sender: &Sender, out: &mut [Sample])
     requires { length out.old ≤ most_samples }
     ensures { out.new ≡ values_below (length out.old) (λ i. sample_of (sample_by sender.now i)) }
 {
-    let layout = layout_of(sender.cell, sender.port);
-    let versions = versions_of(sender.cell);
-    let mut clean = [SILENCE; FRAME_LENGTH];
-    for i in 0..out.len() {
-        enter_frame(sender, &layout, &versions, i, &mut clean);
-        out[i] = sample_from(sender, i, &clean);
-    }
-}
-
-/// Overwrites samples with silence.
-pub(crate) fn clear(out: &mut [Sample])
-    ensures { out.new ≡ values_below (length out.old) (λ i. silence) }
-{
-    for i in 0..out.len() {
-        out[i] = SILENCE;
-    }
-}
-
-// A sample with one of a sequence added to it, times a gain.
-fn sum_of(before: Sample, gain: &Cpx, clean: Sample) -> Sample
-    requires gain { square gain.now ≤ 784 }
-    requires clean { square (value_of clean) ≤ 1153 * 1153 }
-    requires small { IsWithin 32767 (plus (value_of before) (times gain.now (value_of clean))) }
-    ensures { result ≡ sample_of (plus (value_of before) (times gain.now (value_of clean))) }
-{
-    let product = gain.mul(Cpx::from(clean));
-    (Cpx::from(before) + product).exact_sample()
-}
-
-/// Adds to samples what is sent at a port, times a gain.
-pub(crate) fn add_sequence(sender: &Sender, gain: &Cpx, out: &mut [Sample])
-    requires count { length out.old ≤ most_samples }
-    requires gain { square gain.now ≤ 784 }
-    requires small { (i : ℕ) → i < length out.old → IsWithin 32767 (sum_with sender.now gain.now out.old i) }
-    ensures { out.new ≡ values_below (length out.old) (λ i. sample_of (sum_with sender.now gain.now out.old i)) }
-{
-    let layout = layout_of(sender.cell, sender.port);
-    let versions = versions_of(sender.cell);
-    let mut clean = [SILENCE; FRAME_LENGTH];
-    for i in 0..out.len() {
-        enter_frame(sender, &layout, &versions, i, &mut clean);
-        out[i] = sum_of(out[i], gain, sample_from(sender, i, &clean));
-    }
+    fill(sender, &ONE, out);
 }
 
 /// All samples of a transmission, over as many: sample `i` is that of `send`.
@@ -353,6 +209,5 @@ pub fn send_all(t: &Transmission, out: &mut [Sample])
         timing: t.timing,
         load: None,
     };
-    clear(out);
-    add_sequence(&sender, &t.gain.value(), out);
+    fill(&sender, &t.gain.value(), out);
 }

@@ -1,87 +1,85 @@
-use Rattle.std.proofs.Common.{◌≡◌, ℕ, ◌+◌, List, length, ap, sym, subst, ◌∙◌}
-use Rattle.finite.specs.Lists.{values_below}
-use Rattle.cs_num.specs.declared.Cpx.{Cpx}
+use Rattle.std.proofs.Common.{◌≡◌, ℕ, ◌+◌, ◌<◌, ◌≤◌, List, ◌++◌, arith, sym, ap, ◌∙◌, length, take, take_all}
+use Rattle.std.proofs.lemmas.Bool.{ltb-true, ltb-false}
 use Rattle.cs_num.specs.declared.Sample.{Sample}
-use Rattle.cs_num.specs.Complex.{IsWithin, times, value_at, silence, sample_of}
-use Rattle.lte_types.specs.declared.carrier.Carrier.{Carrier}
-use Rattle.lte_types.specs.declared.carrier.Carrier.TheVariants.{TwoPorts}
-use Rattle.cell_tx.specs.declared.antenna.Port.{Port}
-use Rattle.cell_tx.specs.declared.antenna.Port.TheVariants.{Only, First, Second, Long}
 use Rattle.cell_tx.specs.declared.emission.Emission.{Emission}
-use Rattle.cell_tx.specs.Clean.{AreGainsOf}
-use Rattle.cell_tx.specs.Emission.{sent_by, received_by, emitted}
-use Rattle.cell_tx.proofs.Bounds.{sent_by-square}
-use Rattle.cell_tx.proofs.Received.{first-small, received-small, received_by-small, added_small, added_is, alone_small, alone_is}
+use Rattle.cell_tx.specs.Emission.{emitted_samples}
+use Rattle.cell_tx.specs.Emitting.{Progress, piece_end, piece_of}
+use Rattle.cell_tx.proofs.Received.{received_by-small}
+use Rattle.cell_tx.proofs.Pieces.{so_many}
+use Rattle.cell_tx.proofs.Advancing.{grows, ends_within, reaches, front_is}
 use Rattle.cell_tx.proofs.emitting.emit.Goals as goal
 
--- what a port adds, times one of the gains
-abbrev part : Emission → Port → ℕ → ℕ → Cpx
-part e port number i = times (value_at e.gains number) (sent_by e.load port e.cell e.timing.sfn (i + e.timing.offset))
+-- a further piece, where samples were made up to a place
+record IsStep (e : Emission) (at : ℕ) (q : Progress) : Type 0 where
+  more : at < q.at
+  within : q.at ≤ e.samples
+  there : at + length (piece_of q) ≡ q.at
+  front : take q.at (emitted_samples e) ≡ take at (emitted_samples e) ++ piece_of q
 
--- the samples of a carrier
-abbrev samples_by : Emission → Carrier → List Sample
-samples_by e carrier = values_below e.samples (λ i. sample_of (received_by carrier e.load e.cell e.timing.sfn e.timing.offset e.gains i))
+step : (e : Emission) (at : ℕ) (p q : Progress) → p.samples ≡ emitted_samples e → p.at ≡ at → q.samples ≡ p.samples → q.from ≡ p.at → q.at ≡ piece_end p
+    → p.at < length p.samples → IsStep e at q
+step e at p q all here samples from ends below =
+    let long = ap length all ∙ so_many e in
+    let moves = grows p q samples from ends below in
+    record {
+      more = omega (arith, moves, here);
+      within = omega (arith, ends_within p q samples from ends below, long);
+      there = omega (arith, reaches p q samples from ends below, here);
+      front = rw (sym all, sym here) (front_is p q samples from ends below);
+    }
 
-silent : (old n : ℕ) (list : List Sample) → list ≡ values_below old (λ i. silence) → old ≡ n → list ≡ values_below n (λ i. silence)
-silent old n list is e = is ∙ ap (λ (m : ℕ). values_below m (λ i. silence)) e
+pub put_piece-requires : goal.put_piece-requires
+put_piece-requires c =
+    let p = c.loop-emitter.emitter in
+    let q = c.advance.new.self in
+    let a = c.advance.ensures in
+    let s = step c.args.emission.now c.loop-emitter.at p q c.loop-emitter.invariant.samples c.loop-emitter.invariant.at a.samples a.from a.at
+    (ltb-true p.at (length p.samples) (sym a.more ∙ c.loop-emitter-test.true)) in
+    let piece : length c.piece-piece.result.now ≡ length (piece_of q) = ap length c.piece-piece.ensures in
+    omega (arith, piece, s.there, s.within, c.loop-emitter.invariant.whole)
 
-pub add_port-requires-clause-small : goal.add_port-requires-clause-small
-add_port-requires-clause-small c i inside =
+module _ (c : goal.After-out-1) where
+  stepped : IsStep c.args.emission.now c.loop-emitter.at c.advance.new.self
+  stepped =
+      let p = c.loop-emitter.emitter in
+      let a = c.advance.ensures in
+      step c.args.emission.now c.loop-emitter.at p c.advance.new.self c.loop-emitter.invariant.samples c.loop-emitter.invariant.at a.samples a.from a.at
+      (ltb-true p.at (length p.samples) (sym a.more ∙ c.loop-emitter-test.true))
+
+  reached : c.loop-emitter.at + length c.piece-piece.result.now ≡ c.advance.new.self.at
+  reached = ap (λ (l : List Sample). c.loop-emitter.at + length l) c.piece-piece.ensures ∙ stepped.there
+
+pub loop-emitter-smaller : goal.loop-emitter-smaller
+loop-emitter-smaller c = omega (arith, reached c, (stepped c).more, (stepped c).within)
+
+pub loop-emitter-preserved : goal.loop-emitter-preserved
+loop-emitter-preserved c =
+    let s = stepped c in
     let e = c.args.emission.now in
-    alone_small (part e Only 0) e.samples c.clear.new.out i (silent (length c.args.out.now) e.samples c.clear.new.out c.clear.ensures c.requires) inside
-    (first-small e.carrier e.gains e.load Only e.cell e.timing.sfn (i + e.timing.offset) e.gains_are)
+    record {
+      samples = c.advance.ensures.samples ∙ c.loop-emitter.invariant.samples;
+      at = sym (reached c);
+      within = omega (arith, reached c, s.within);
+      whole = c.put_piece.ensures.same_length ∙ c.loop-emitter.invariant.whole;
+      done =
+          c.put_piece.ensures.front
+          ∙ ap (λ (l : List Sample). l ++ c.piece-piece.result.now) c.loop-emitter.invariant.done
+          ∙ ap (λ (l : List Sample). take c.loop-emitter.at (emitted_samples e) ++ l) c.piece-piece.ensures
+          ∙ sym s.front
+          ∙ ap (λ (n : ℕ). take n (emitted_samples e)) (sym (reached c));
+    }
 
-pub add_port-requires-in-TwoPorts-clause-small : goal.add_port-requires-in-TwoPorts-clause-small
-add_port-requires-in-TwoPorts-clause-small c i inside =
+pub returns-clause-samples : goal.returns-clause-samples
+returns-clause-samples c =
     let e = c.args.emission.now in
-    alone_small (part e First 0) e.samples c.clear.new.out i (silent (length c.args.out.now) e.samples c.clear.new.out c.clear.ensures c.requires) inside
-    (first-small e.carrier e.gains e.load First e.cell e.timing.sfn (i + e.timing.offset) e.gains_are)
+    let i = c.loop-emitter.invariant in
+    let past : length c.loop-emitter.emitter.samples ≤ c.loop-emitter.emitter.at =
+    ltb-false c.loop-emitter.emitter.at (length c.loop-emitter.emitter.samples) (sym c.advance.ensures.more ∙ c.loop-emitter-test.false) in
+    let long = ap length i.samples in
+    let most : e.samples ≤ c.loop-emitter.at = omega (arith, past, long, so_many e, i.at) in
+    sym (take_all c.loop-emitter.at c.loop-emitter.out (omega (arith, most, i.whole))) ∙ i.done ∙ take_all c.loop-emitter.at (emitted_samples e) (omega (arith, most, so_many e))
 
-pub add_port-requires-in-LongPrefix-clause-small : goal.add_port-requires-in-LongPrefix-clause-small
-add_port-requires-in-LongPrefix-clause-small c i inside =
+pub returns-clause-size : goal.returns-clause-size
+returns-clause-size c i =
     let e = c.args.emission.now in
-    alone_small (part e Long 0) e.samples c.clear.new.out i (silent (length c.args.out.now) e.samples c.clear.new.out c.clear.ensures c.requires) inside
-    (first-small e.carrier e.gains e.load Long e.cell e.timing.sfn (i + e.timing.offset) e.gains_are)
-
-pub add_port-requires-in-TwoPorts-2-clause-small : goal.add_port-requires-in-TwoPorts-2-clause-small
-add_port-requires-in-TwoPorts-2-clause-small c i inside =
-    let e = c.args.emission.now in
-    let gains : AreGainsOf TwoPorts e.gains = subst (λ (carrier : Carrier). AreGainsOf carrier e.gains) c.in-TwoPorts.is e.gains_are in
-    let first = c.add_port-in-TwoPorts.ensures ∙ alone_is (part e First 0) e.samples c.clear.new.out (silent (length c.args.out.now) e.samples c.clear.new.out c.clear.ensures c.requires) in
-    added_small (part e First 0) (part e Second 1) e.samples c.add_port-in-TwoPorts.new.out i first inside
-    (received-small _ _ (value_at e.gains 0) (value_at e.gains 1) (sent_by-square e.load First e.cell e.timing.sfn (i + e.timing.offset)) (sent_by-square e.load Second e.cell e.timing.sfn (i + e.timing.offset)) gains)
-
-pub returns-in-OnePort-clause-samples : goal.returns-in-OnePort-clause-samples
-returns-in-OnePort-clause-samples c =
-    let e = c.args.emission.now in
-    c.add_port.ensures ∙ alone_is (part e Only 0) e.samples c.clear.new.out (silent (length c.args.out.now) e.samples c.clear.new.out c.clear.ensures c.requires)
-    ∙ ap (samples_by e) (sym c.in-OnePort.is)
-
-pub returns-in-LongPrefix-clause-samples : goal.returns-in-LongPrefix-clause-samples
-returns-in-LongPrefix-clause-samples c =
-    let e = c.args.emission.now in
-    c.add_port-in-LongPrefix.ensures ∙ alone_is (part e Long 0) e.samples c.clear.new.out (silent (length c.args.out.now) e.samples c.clear.new.out c.clear.ensures c.requires)
-    ∙ ap (samples_by e) (sym c.in-LongPrefix.is)
-
-pub returns-in-TwoPorts-clause-samples : goal.returns-in-TwoPorts-clause-samples
-returns-in-TwoPorts-clause-samples c =
-    let e = c.args.emission.now in
-    let first = c.add_port-in-TwoPorts.ensures ∙ alone_is (part e First 0) e.samples c.clear.new.out (silent (length c.args.out.now) e.samples c.clear.new.out c.clear.ensures c.requires) in
-    c.add_port-in-TwoPorts-2.ensures ∙ added_is (part e First 0) (part e Second 1) e.samples c.add_port-in-TwoPorts.new.out first
-    ∙ ap (samples_by e) (sym c.in-TwoPorts.is)
-
--- the size, whichever carrier it is
-size : (e : Emission) (i : ℕ) → IsWithin 32284 (emitted e i)
-size e i = received_by-small e.carrier e.load e.cell e.timing.sfn e.timing.offset e.gains i e.gains_are
-
-pub returns-in-OnePort-clause-size : goal.returns-in-OnePort-clause-size
-returns-in-OnePort-clause-size c = size c.args.emission.now
-
-pub returns-in-TwoPorts-clause-size : goal.returns-in-TwoPorts-clause-size
-returns-in-TwoPorts-clause-size c = size c.args.emission.now
-
-pub returns-in-FourPorts-clause-size : goal.returns-in-FourPorts-clause-size
-returns-in-FourPorts-clause-size c = size c.args.emission.now
-
-pub returns-in-LongPrefix-clause-size : goal.returns-in-LongPrefix-clause-size
-returns-in-LongPrefix-clause-size c = size c.args.emission.now
+    received_by-small e.carrier e.load e.cell e.timing.sfn e.timing.offset e.gains i e.gains_are

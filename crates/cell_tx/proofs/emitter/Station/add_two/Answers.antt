@@ -1,0 +1,23 @@
+use Rattle.std.proofs.Common.{sym, subst}
+use Rattle.lte_types.specs.declared.carrier.Carrier.{Carrier}
+use Rattle.lte_types.specs.declared.carrier.Carrier.TheVariants.{TwoPorts}
+use Rattle.lte_types.specs.Carrier.{prefix_of}
+use Rattle.cs_num.specs.Complex.{sample_of}
+use Rattle.cell_tx.specs.declared.antenna.Port.TheVariants.{First}
+use Rattle.cell_tx.specs.Emitting.{is_in, AreChanged, mixed}
+use Rattle.cell_tx.proofs.Mixing.{heard, room_alone, room_for_second, two_made}
+use Rattle.cell_tx.proofs.emitter.Station.add_two.Goals as goal
+
+pub add-requires-clause-small : goal.add-requires-clause-small
+add-requires-clause-small c = room_alone c.args.self.now.emission.now c.args.sfn (is_in (prefix_of TwoPorts) c.args.symbols.now) First c.args.frame.now c.requires.silent
+
+pub add-requires-2-clause-small : goal.add-requires-2-clause-small
+add-requires-2-clause-small c =
+    room_for_second c.args.self.now.emission.now c.args.sfn (is_in (prefix_of TwoPorts) c.args.symbols.now) c.requires.carrier c.args.frame.now c.add.new.frame c.add.new.frame c.requires.silent c.add.ensures
+
+pub returns : goal.returns
+returns c =
+    let e = c.args.self.now.emission.now in
+    let p = is_in (prefix_of TwoPorts) c.args.symbols.now in
+    subst (λ (carrier : Carrier). AreChanged p (λ i before. sample_of (mixed carrier (λ port. heard e c.args.sfn port i) e.gains)) c.args.frame.now c.add-2.new.frame) (sym c.requires.carrier)
+    (two_made e c.args.sfn p c.requires.carrier c.args.frame.now c.add.new.frame c.add-2.new.frame c.requires.silent c.add.ensures c.add-2.ensures)

@@ -1,0 +1,128 @@
+-- How an emission is made: a frame after the other, of which only some symbols are made anew. (own)
+use Rattle.std.specs.Prelude.{◌≡◌, ℕ, ◌+◌, ◌-◌, ◌*◌, ◌%◌, ◌<◌, ◌≤◌, Bool, true, false, ◌&&◌, ◌||◌, nat_le, nat_lt, min}
+use Rattle.std.specs.Prelude.{if◌then◌else◌, Option, List, length, take, drop, slice_index_or}
+use Rattle.cs_num.specs.declared.Cpx.{Cpx}
+use Rattle.cs_num.specs.declared.Sample.{Sample}
+use Rattle.cs_num.specs.Complex.{IsWithin, times, plus, value_at, sample_at, value_of, sample_of, silence}
+use Rattle.lte_types.specs.declared.carrier.Carrier.{Carrier}
+use Rattle.lte_types.specs.declared.carrier.Carrier.TheVariants.{OnePort, TwoPorts, LongPrefix, FourPorts}
+use Rattle.lte_types.specs.declared.numerology.Prefix.{Prefix}
+use Rattle.lte_types.specs.Carrier.{prefix_of}
+use Rattle.lte_types.specs.Numerology.{frame_length, symbols_of_slot}
+use Rattle.lte_types.specs.Timing.{number_of}
+use Rattle.cell_tx.specs.declared.antenna.Port.{Port}
+use Rattle.cell_tx.specs.declared.antenna.Port.TheVariants.{Only, First, Second, Long, OfFour}
+use Rattle.cell_tx.specs.declared.antenna.PortOfFour.TheVariants.{Zero, One, Two, Three}
+use Rattle.cell_tx.specs.declared.cell.CellPlan.{CellPlan}
+use Rattle.cell_tx.specs.declared.emission.Emission.{Emission}
+use Rattle.cell_tx.specs.declared.made_symbols.Symbols.{Symbols}
+use Rattle.cell_tx.specs.Ports.{carrier_of, port_prefix}
+use Rattle.cell_tx.specs.Load.{sent_element}
+use Rattle.cell_tx.specs.Rows.{first_sample}
+use Rattle.cell_tx.specs.Sent.{prefix_frame_sample}
+
+-- ---- the frames of an emission
+
+-- sample i of the frame with number n, as a port sends it
+abbrev pub sent_in_frame : Option ℕ → Port → CellPlan → ℕ → ℕ → Cpx
+sent_in_frame load port plan n i = prefix_frame_sample (port_prefix port) (sent_element load port plan) n i
+
+-- what is received of all ports of a carrier that send these values
+abbrev pub mixed : Carrier → (Port → Cpx) → List Cpx → Cpx
+mixed OnePort values gains = times (value_at gains 0) (values Only)
+mixed TwoPorts values gains = plus (times (value_at gains 0) (values First)) (times (value_at gains 1) (values Second))
+mixed LongPrefix values gains = times (value_at gains 0) (values Long)
+mixed FourPorts values gains =
+    plus
+    (plus (times (value_at gains 0) (values (OfFour Zero))) (times (value_at gains 1) (values (OfFour One))))
+    (plus (times (value_at gains 2) (values (OfFour Two))) (times (value_at gains 3) (values (OfFour Three))))
+
+-- sample i of the frame with number n, as it is received
+abbrev pub framed : Emission → ℕ → ℕ → Cpx
+framed e n i = mixed e.carrier (λ port. sent_in_frame e.load port e.cell n i) e.gains
+
+-- samples are the frame with number n, where these are the values of its samples by n
+abbrev pub AreFrameOf : (ℕ → ℕ → Cpx) → ℕ → List Sample → Type 0
+AreFrameOf values n samples = (i : ℕ) → i < frame_length → slice_index_or samples i silence ≡ sample_of (values n i)
+
+-- that of an emission
+abbrev pub AreFrame : Emission → ℕ → List Sample → Type 0
+AreFrame e n samples = AreFrameOf (framed e) n samples
+
+-- ---- some symbols of a frame
+
+-- sample i is one of those from first up to last
+abbrev pub is_between : ℕ → ℕ → ℕ → Bool
+is_between first last i = nat_le first i && nat_lt i last
+
+-- it is in one of these symbols
+abbrev pub is_in : Prefix → Symbols → ℕ → Bool
+is_in prefix symbols i =
+    is_between (first_sample prefix symbols.first) (first_sample prefix symbols.last) i
+    || is_between (first_sample prefix symbols.again) (first_sample prefix symbols.end) i
+
+-- they are one after the other, and in a frame
+pub record AreInOrder (prefix : Prefix) (symbols : Symbols) : Type 0 where
+  pub first : symbols.first ≤ symbols.last
+  pub again : symbols.last ≤ symbols.again
+  pub end : symbols.again ≤ symbols.end
+  pub most : symbols.end ≤ 20 * symbols_of_slot prefix
+
+-- all samples of a frame are in them
+abbrev pub AreAll : Prefix → Symbols → Type 0
+AreAll prefix symbols = (i : ℕ) → i < frame_length → is_in prefix symbols i ≡ true
+
+-- no other sample of a port of the carrier depends on which frame it is
+abbrev pub AreOwn : Carrier → Option ℕ → Symbols → Type 0
+AreOwn carrier load symbols =
+    (port : Port) (plan : CellPlan) (a b i : ℕ) → carrier_of port ≡ carrier → i < frame_length →
+    is_in (prefix_of carrier) symbols i ≡ false → sent_in_frame load port plan a i ≡ sent_in_frame load port plan b i
+
+-- ---- samples that are changed in some places
+
+-- there each sample is what the change makes of it, and the others are as they were
+abbrev pub AreChanged : (ℕ → Bool) → (ℕ → Sample → Sample) → List Sample → List Sample → Type 0
+AreChanged there change old new =
+    (i : ℕ) → i < frame_length →
+    slice_index_or new i silence
+    ≡ (if there i then change i (slice_index_or old i silence) else slice_index_or old i silence)
+
+-- these values, times a gain, are added
+abbrev pub added : Cpx → (ℕ → Cpx) → ℕ → Sample → Sample
+added gain values i before = sample_of (plus (value_of before) (times gain (values i)))
+
+-- and the sums fit
+abbrev pub HaveRoom : (ℕ → Bool) → Cpx → (ℕ → Cpx) → List Sample → Type 0
+HaveRoom there gain values samples =
+    (i : ℕ) → i < frame_length → there i ≡ true → IsWithin 32767 (plus (sample_at samples i) (times gain (values i)))
+
+-- samples are silent there
+abbrev pub AreSilent : (ℕ → Bool) → List Sample → Type 0
+AreSilent there samples = (i : ℕ) → i < frame_length → there i ≡ true → slice_index_or samples i silence ≡ silence
+
+-- ---- one piece after the other
+
+-- what is made, and how far: of these samples the last piece begins at from, and the next one at at; the first frame
+-- begins so many samples before
+pub record Progress : Type 0 where
+  pub samples : List Sample
+  pub offset : ℕ
+  pub from : ℕ
+  pub at : ℕ
+
+-- where the piece ends that begins there: with the frame, or with the samples
+abbrev pub piece_end : Progress → ℕ
+piece_end p = min (p.at + (frame_length - (p.at + p.offset) % frame_length)) (length p.samples)
+
+-- the last piece
+abbrev pub piece_of : Progress → List Sample
+piece_of p = take (p.at - p.from) (drop p.from p.samples)
+
+-- what an emitter keeps: the piece is of one frame, and that frame is there
+pub record IsMade (e : Emission) (from at : ℕ) (frame : List Sample) : Type 0 where
+  pub order : from ≤ at
+  pub most : at ≤ e.samples
+  pub whole : length frame ≡ frame_length
+  pub within : (from + e.timing.offset) % frame_length + (at - from) ≤ frame_length
+  pub held : from < at → AreFrame e (number_of e.timing.sfn (from + e.timing.offset)) frame
+  pub begun : 0 < at → at < e.samples → from < at

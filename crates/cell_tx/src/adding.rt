@@ -1,0 +1,155 @@
+//! What a port sends in some symbols of a frame, added to samples.
+
+ghost use Rattle.std.specs.Prelude.{◌≡◌, ◌+◌, ◌*◌, ◌/◌, ◌%◌, ◌<◌, ◌≤◌, length};
+ghost use Rattle.cs_num.specs.Complex.{IsWithin, square, plus, times, value_of, sample_of, silence};
+ghost use Rattle.fold128.specs.Symbol.{useful_part};
+ghost use Rattle.lte_types.specs.Numerology.{frame_length, slot_length};
+ghost use Rattle.cell_tx.specs.Ports.{port_prefix, port_symbols};
+ghost use Rattle.cell_tx.specs.Rows.{first_in_slot, first_sample};
+ghost use Rattle.cell_tx.specs.Sending.{elements_of, sample_in, symbol_start};
+ghost use Rattle.cell_tx.specs.Emitting.{is_between, is_in, AreInOrder, AreChanged, added, HaveRoom};
+
+use crate::Port;
+use crate::grid::{Signals, useful_of};
+use crate::made_symbols::Symbols;
+use cs_num::{Cpx, Sample};
+use lte_types::SLOT_LENGTH;
+
+// A sample of silence.
+const SILENCE: Sample = Sample { re: 0, im: 0 };
+
+// Where symbol l of a slot begins.
+fn first_in_slot(port: Port, l: usize) -> usize
+    requires { l < port_symbols port }
+    ensures value { result ≡ first_in_slot (port_prefix port) l }
+    ensures inside { result < slot_length }
+{
+    let prefix = port.carrier().prefix();
+    if l == 0 {
+        0
+    } else {
+        (prefix.first - prefix.other) as usize + prefix.step() * l
+    }
+}
+
+// The first sample of a symbol of a frame by its number, the greatest of which is that of what follows the last.
+fn first_of(port: Port, symbol: usize) -> usize
+    requires { symbol ≤ 20 * port_symbols port }
+    ensures value { result ≡ first_sample (port_prefix port) symbol }
+    ensures inside { result ≤ frame_length }
+{
+    let symbols = port.symbols() as usize;
+    SLOT_LENGTH * (symbol / symbols) + first_in_slot(port, symbol % symbols)
+}
+
+// The useful part of a symbol of a frame by its number.
+fn useful_at(signals: &Signals, symbol: usize) -> [Cpx; 128]
+    requires { symbol < 20 * port_symbols signals.now.port }
+    ensures { result ≡ useful_part (elements_of signals.now signals.now.sfn (symbol / port_symbols signals.now.port / 2)
+        (port_symbols signals.now.port * (symbol / port_symbols signals.now.port % 2)
+        + symbol % port_symbols signals.now.port)) }
+{
+    let symbols = signals.port.symbols() as usize;
+    useful_of(signals, (symbol / symbols) as u8, (symbol % symbols) as u8)
+}
+
+// Overwrites the samples from one up to another with silence.
+fn clear_between(first: usize, last: usize, out: &mut [Sample])
+    requires order { first ≤ last }
+    requires last { last ≤ frame_length }
+    requires room { length out.old ≡ frame_length }
+    ensures { AreChanged (is_between first last) (λ i before. silence) out.old out.new }
+{
+    for i in first..last {
+        out[i] = SILENCE;
+    }
+}
+
+/// Overwrites some symbols of a frame with silence.
+pub(crate) fn clear_symbols(port: Port, symbols: &Symbols, out: &mut [Sample])
+    requires order { AreInOrder (port_prefix port) symbols.now }
+    requires room { length out.old ≡ frame_length }
+    ensures { AreChanged (is_in (port_prefix port) symbols.now) (λ i before. silence) out.old out.new }
+{
+    clear_between(
+        first_of(port, symbols.first),
+        first_of(port, symbols.last),
+        out,
+    );
+    clear_between(
+        first_of(port, symbols.again),
+        first_of(port, symbols.end),
+        out,
+    );
+}
+
+// A sample with a value added to it, times a gain.
+fn sum_of(before: Sample, gain: &Cpx, value: Cpx) -> Sample
+    requires gain { square gain.now ≤ 784 }
+    requires value { square value ≤ 1153 * 1153 }
+    requires small { IsWithin 32767 (plus (value_of before) (times gain.now value)) }
+    ensures { result ≡ sample_of (plus (value_of before) (times gain.now value)) }
+{
+    let product = gain.mul(value);
+    (Cpx::from(before) + product).exact_sample()
+}
+
+// Adds what a port sends in a symbol of a frame, times a gain. Its samples are those of the useful part up to its
+// last one, before which they repeat.
+fn add_symbol(signals: &Signals, gain: &Cpx, symbol: usize, out: &mut [Sample])
+    requires symbol { symbol < 20 * port_symbols signals.now.port }
+    requires gain { square gain.now ≤ 784 }
+    requires room { length out.old ≡ frame_length }
+    requires small { HaveRoom (is_between (symbol_start signals.now symbol) (symbol_start signals.now (symbol + 1)))
+        gain.now (sample_in signals.now) out.old }
+    ensures { AreChanged (is_between (symbol_start signals.now symbol) (symbol_start signals.now (symbol + 1)))
+        (added gain.now (sample_in signals.now)) out.old out.new }
+{
+    let useful = useful_at(signals, symbol);
+    let last = first_of(signals.port, symbol + 1);
+    for i in first_of(signals.port, symbol)..last {
+        out[i] = sum_of(out[i], gain, useful[(i + 256 - last) % 128]);
+    }
+}
+
+// The same in the symbols from one up to another.
+fn add_between(signals: &Signals, gain: &Cpx, first: usize, last: usize, out: &mut [Sample])
+    requires order { first ≤ last }
+    requires last { last ≤ 20 * port_symbols signals.now.port }
+    requires gain { square gain.now ≤ 784 }
+    requires room { length out.old ≡ frame_length }
+    requires small { HaveRoom (is_between (symbol_start signals.now first) (symbol_start signals.now last))
+        gain.now (sample_in signals.now) out.old }
+    ensures { AreChanged (is_between (symbol_start signals.now first) (symbol_start signals.now last))
+        (added gain.now (sample_in signals.now)) out.old out.new }
+{
+    for symbol in first..last {
+        add_symbol(signals, gain, symbol, out);
+    }
+}
+
+/// Adds what a port sends in some symbols of a frame, times a gain.
+pub(crate) fn add_symbols(signals: &Signals, gain: &Cpx, symbols: &Symbols, out: &mut [Sample])
+    requires order { AreInOrder (port_prefix signals.now.port) symbols.now }
+    requires gain { square gain.now ≤ 784 }
+    requires room { length out.old ≡ frame_length }
+    requires small { HaveRoom (is_in (port_prefix signals.now.port) symbols.now)
+        gain.now (sample_in signals.now) out.old }
+    ensures { AreChanged (is_in (port_prefix signals.now.port) symbols.now)
+        (added gain.now (sample_in signals.now)) out.old out.new }
+{
+    add_between(signals, gain, symbols.first, symbols.last, out);
+    add_between(signals, gain, symbols.again, symbols.end, out);
+}
+
+/// Writes what a port sends in some symbols of a frame, times a gain.
+pub(crate) fn put_symbols(signals: &Signals, gain: &Cpx, symbols: &Symbols, out: &mut [Sample])
+    requires order { AreInOrder (port_prefix signals.now.port) symbols.now }
+    requires gain { square gain.now ≤ 784 }
+    requires room { length out.old ≡ frame_length }
+    ensures { AreChanged (is_in (port_prefix signals.now.port) symbols.now)
+        (λ i before. sample_of (times gain.now (sample_in signals.now i))) out.old out.new }
+{
+    clear_symbols(signals.port, symbols, out);
+    add_symbols(signals, gain, symbols, out);
+}
