@@ -5,9 +5,9 @@ use Rattle.std.proofs.lemmas.Bool.Decides.{nat_tests}
 use Rattle.cs_num.specs.declared.Cpx.{Cpx}
 use Rattle.cs_num.specs.declared.Sample.{Sample}
 use Rattle.finite.proofs.Lists.{values_below_at}
-use Rattle.crs.specs.declared.single.SinglePort.TheVariants.{Third, Fourth}
+use Rattle.crs.specs.declared.upper.UpperPort.TheVariants.{Third, Fourth}
 use Rattle.cell_tx.specs.declared.antenna.PortOfFour.TheVariants.{Zero, One, Two, Three}
-use Rattle.crs.specs.Reference.{port_0, is_reference, is_second_reference, is_single_reference, first_subcarrier, pattern_reference, reference, reference_c_init, reference_at}
+use Rattle.crs.specs.Reference.{port_0, is_reference, is_second_reference, is_upper_reference, first_subcarrier, pattern_reference, reference, reference_c_init, reference_at}
 use Rattle.observe.specs.Seen.{seen_symbol}
 use Rattle.sync_seq.specs.Middle.{is_middle}
 use Rattle.soft_bits.specs.Soft.{pattern_symbol, pattern_sent, pilot_symbol, pilot_subcarrier, pilot_sent}
@@ -88,12 +88,12 @@ record IsBroadcastPlace (identity symbol k : ℕ) : Type 0 where
   high : symbol < 11
   free : is_reference identity (symbol % 7) k ≡ false
   second_free : is_second_reference identity (symbol % 7) k ≡ false
-  third_free : (slot : ℕ) → is_single_reference Third identity slot (symbol % 7) k ≡ false
-  fourth_free : (slot : ℕ) → is_single_reference Fourth identity slot (symbol % 7) k ≡ false
+  third_free : (slot : ℕ) → is_upper_reference Third identity slot (symbol % 7) k ≡ false
+  fourth_free : (slot : ℕ) → is_upper_reference Fourth identity slot (symbol % 7) k ≡ false
   here : is_broadcast identity 0 symbol k ≡ true
 
 broadcast_place : (identity : ℕ) (p : Place) → is_pbch identity p ≡ true → IsBroadcastPlace identity p.symbol p.k
-unfolding is_pbch is_reference first_subcarrier is_second_reference is_single_reference
+unfolding is_pbch is_reference first_subcarrier is_second_reference is_upper_reference
 broadcast_place identity p e = record {
   low = grind (arith, nat_tests);
   high = grind (arith, nat_tests);

@@ -6,7 +6,7 @@ use Rattle.cs_num.specs.declared.Cpx.{Cpx}
 use Rattle.cs_num.specs.declared.Sample.{Sample}
 use Rattle.cs_num.specs.Complex.{minus, square}
 use Rattle.crs.specs.Power.{point_power}
-use Rattle.crs.specs.declared.single.SinglePort.TheVariants.{Third, Fourth}
+use Rattle.crs.specs.declared.upper.UpperPort.TheVariants.{Third, Fourth}
 use Rattle.crs.specs.Reference.{port_0, port_1, long_prefix}
 use Rattle.lte_types.specs.declared.carrier.Carrier.{Carrier}
 use Rattle.lte_types.specs.declared.carrier.Carrier.TheVariants.{OnePort, TwoPorts, LongPrefix, FourPorts}
@@ -17,7 +17,7 @@ use Rattle.pss_search.specs.Correlation.{peak, energy, wave_power}
 use Rattle.pss_search.specs.Hits.{first_place, last_place}
 use Rattle.pss_search.specs.Laws.{IsHitOf}
 use Rattle.soft_bits.specs.Soft.{SeenSlot, pattern_pilot, pattern_energy}
-use Rattle.soft_bits.specs.Single.{single_pilot}
+use Rattle.soft_bits.specs.Upper.{upper_pilot}
 use Rattle.pbch.specs.Master.{total}
 use Rattle.explain.specs.Frame.{broadcast_slot}
 use Rattle.explain.specs.Receiver.{Receiver, one_port_receiver, hits_by, place_by, sums_by}
@@ -77,7 +77,7 @@ steps_by TwoPorts slot = steps 23 (pattern_pilot port_0 slot) + steps 23 (patter
 steps_by LongPrefix slot = steps 23 (pattern_pilot long_prefix slot)
 steps_by FourPorts slot =
     steps 23 (pattern_pilot port_0 slot) + steps 23 (pattern_pilot port_1 slot)
-    + steps 11 (single_pilot Third slot) + steps 11 (single_pilot Fourth slot)
+    + steps 11 (upper_pilot Third slot) + steps 11 (upper_pilot Fourth slot)
 
 -- divided by twice the square of a reference value's size, and rounded down
 abbrev pub noise_of : ℕ → ℕ

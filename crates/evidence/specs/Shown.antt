@@ -3,39 +3,39 @@ use Rattle.std.specs.Prelude.{◌≡◌, ℕ, ◌+◌, ◌*◌, ◌/◌, List, [
 use Rattle.finite.specs.Lists.{values_below}
 use Rattle.cs_num.specs.declared.Sample.{Sample}
 use Rattle.crs.specs.declared.pattern.Pattern.{Pattern}
-use Rattle.crs.specs.declared.single.SinglePort.{SinglePort}
-use Rattle.crs.specs.declared.single.SinglePort.TheVariants.{Third, Fourth}
+use Rattle.crs.specs.declared.upper.UpperPort.{UpperPort}
+use Rattle.crs.specs.declared.upper.UpperPort.TheVariants.{Third, Fourth}
 use Rattle.crs.specs.Reference.{port_0, port_1, long_prefix}
 use Rattle.lte_types.specs.declared.carrier.Carrier.{Carrier}
 use Rattle.lte_types.specs.declared.carrier.Carrier.TheVariants.{OnePort, TwoPorts, LongPrefix, FourPorts}
 use Rattle.lte_types.specs.declared.entry.Entry.{Entry}
 use Rattle.lte_types.specs.CellPlace.{Place}
 use Rattle.soft_bits.specs.Soft.{SeenSlot, pattern_pilot}
-use Rattle.soft_bits.specs.Single.{single_pilot}
+use Rattle.soft_bits.specs.Upper.{upper_pilot}
 use Rattle.explain.specs.Receiver.{Receiver, one_port_receiver}
 use Rattle.explain.specs.Entries.{place_of}
 use Rattle.two_ports.specs.Entries.{two_ports_receiver}
 use Rattle.long_prefix.specs.Entries.{long_prefix_receiver}
 use Rattle.four_ports.specs.Entries.{four_ports_receiver}
 use Rattle.report.specs.declared.supports_json.PortChannel.{PortChannel}
-use Rattle.report.specs.declared.supports_json.PortChannel.TheVariants.{Double, Single}
+use Rattle.report.specs.declared.supports_json.PortChannel.TheVariants.{Lower, Upper}
 use Rattle.report.specs.declared.supports_json.SoftPair.{SoftPair}
 use Rattle.report.specs.EvidenceJson.{Shown}
 use Rattle.evidence.specs.Evidence.{slot_by, IsEvidenceFor}
 
 -- the pilots of an antenna port, and of each
 abbrev pub channel_by : Pattern → SeenSlot → PortChannel
-channel_by pattern slot = Double (values_below 24 (pattern_pilot pattern slot))
+channel_by pattern slot = Lower (values_below 24 (pattern_pilot pattern slot))
 
-abbrev pub single_channel_by : SinglePort → SeenSlot → PortChannel
-single_channel_by port slot = Single (values_below 12 (single_pilot port slot))
+abbrev pub upper_channel_by : UpperPort → SeenSlot → PortChannel
+upper_channel_by port slot = Upper (values_below 12 (upper_pilot port slot))
 
 abbrev pub channels_by : Carrier → SeenSlot → List PortChannel
 channels_by OnePort slot = channel_by port_0 slot ∷ []
 channels_by TwoPorts slot = channel_by port_0 slot ∷ channel_by port_1 slot ∷ []
 channels_by LongPrefix slot = channel_by long_prefix slot ∷ []
 channels_by FourPorts slot =
-    channel_by port_0 slot ∷ channel_by port_1 slot ∷ single_channel_by Third slot ∷ single_channel_by Fourth slot ∷ []
+    channel_by port_0 slot ∷ channel_by port_1 slot ∷ upper_channel_by Third slot ∷ upper_channel_by Fourth slot ∷ []
 
 -- the soft values of the broadcast channel in frame j of the cell at a place, as they were received
 abbrev pub values_by : Carrier → List Sample → Place → ℕ → List ℤ

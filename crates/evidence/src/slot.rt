@@ -7,7 +7,7 @@ ghost use Rattle.lte_types.specs.declared.carrier.Carrier.TheVariants.{LongPrefi
 ghost use Rattle.evidence.specs.Evidence.{slot_by, power_by, steps_by};
 
 use crate::noise::steps_of;
-use crs::SinglePort;
+use crs::UpperPort;
 use explain::{broadcast_slot, slot_of};
 use four_ports::FourSlot;
 use long_prefix::long_frame;
@@ -98,7 +98,7 @@ fn of_four_ports(recording: &Recording, place: CellPlace, j: u8) -> PilotSums
         energy: slot.energy(),
         steps: steps_of(slot.first_pilots())
             + steps_of(slot.second_pilots())
-            + steps_of(slot.single_pilots(SinglePort::Third))
-            + steps_of(slot.single_pilots(SinglePort::Fourth)),
+            + steps_of(slot.upper_pilots(UpperPort::Third))
+            + steps_of(slot.upper_pilots(UpperPort::Fourth)),
     }
 }

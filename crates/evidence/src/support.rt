@@ -11,12 +11,12 @@ ghost use Rattle.explain.specs.Laws.{IsEntryOfSome};
 ghost use Rattle.explain.specs.Readings.{IsReadingFor};
 ghost use Rattle.explain.specs.Receiver.{Receiver, hits_by};
 ghost use Rattle.report.specs.EvidenceJson.{Shown};
-ghost use Rattle.report.specs.declared.supports_json.PortChannel.TheVariants.{Double as DoubleOf};
+ghost use Rattle.report.specs.declared.supports_json.PortChannel.TheVariants.{Lower as LowerOf};
 ghost use Rattle.evidence.specs.Evidence.{slot_by};
 ghost use Rattle.evidence.specs.Shown.{channels_by, values_by, pair_at, pairs_of, IsShownFor};
 
 use crate::listing::{evidence_of, place_in};
-use crs::SinglePort;
+use crs::UpperPort;
 use cs_num::Cpx;
 use explain::{Reading, broadcast_slot, slot_of};
 use four_ports::FourSlot;
@@ -182,18 +182,18 @@ fn shown_of_four(
 {
     let slot: FourSlot = slot_of(recording, place, j, 1);
     let mut channel = two_channels(alloc, slot.first_pilots(), slot.second_pilots())?;
-    channel.push(PortChannel::Single(*slot.single_pilots(SinglePort::Third)))?;
-    channel.push(PortChannel::Single(*slot.single_pilots(SinglePort::Fourth)))?;
+    channel.push(PortChannel::Upper(*slot.upper_pilots(UpperPort::Third)))?;
+    channel.push(PortChannel::Upper(*slot.upper_pilots(UpperPort::Fourth)))?;
     let values = pairs(alloc, received(&slot).slice())?;
     Ok(Support::new(numbers, channel, values))
 }
 
 // The channel of one antenna port, by its pilots.
 fn one_channel(alloc: Global, pilots: &[Cpx; 24]) -> Result<Vec<PortChannel>, AllocError>
-    ensures { IfOk result (λ list. list.items ≡ DoubleOf pilots.now ∷ []) }
+    ensures { IfOk result (λ list. list.items ≡ LowerOf pilots.now ∷ []) }
 {
     let mut list = Vec::new(alloc);
-    list.push(PortChannel::Double(*pilots))?;
+    list.push(PortChannel::Lower(*pilots))?;
     Ok(list)
 }
 
@@ -203,10 +203,10 @@ fn two_channels(
     first: &[Cpx; 24],
     second: &[Cpx; 24],
 ) -> Result<Vec<PortChannel>, AllocError>
-    ensures { IfOk result (λ list. list.items ≡ DoubleOf first.now ∷ DoubleOf second.now ∷ []) }
+    ensures { IfOk result (λ list. list.items ≡ LowerOf first.now ∷ LowerOf second.now ∷ []) }
 {
     let mut list = one_channel(alloc, first)?;
-    list.push(PortChannel::Double(*second))?;
+    list.push(PortChannel::Lower(*second))?;
     Ok(list)
 }
 

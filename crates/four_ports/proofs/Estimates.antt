@@ -7,12 +7,12 @@ use Rattle.cs_num.proofs.Complex.{pair}
 use Rattle.sizes.specs.Sizes.{squares_of_four}
 use Rattle.sizes.proofs.Algebra.{times-nothing}
 use Rattle.crs.specs.declared.pattern.Pattern.{Pattern}
-use Rattle.crs.specs.declared.single.SinglePort.{SinglePort}
-use Rattle.crs.specs.declared.single.SinglePort.TheVariants.{Third, Fourth}
-use Rattle.crs.specs.Reference.{port_0, port_1, single_first, reference}
+use Rattle.crs.specs.declared.upper.UpperPort.{UpperPort}
+use Rattle.crs.specs.declared.upper.UpperPort.TheVariants.{Third, Fourth}
+use Rattle.crs.specs.Reference.{port_0, port_1, upper_first, reference}
 use Rattle.crs.proofs.Values.{reference-IsPoint}
 use Rattle.soft_bits.specs.Soft.{SeenSlot, pattern_channel}
-use Rattle.soft_bits.specs.Single.{single_seen, single_pilot, single_channel}
+use Rattle.soft_bits.specs.Upper.{upper_seen, upper_pilot, channel_of_upper}
 use Rattle.budget.specs.Received.{IsSeenAsFour, sum_of_four}
 use Rattle.budget.proofs.Deviations.{deviation}
 use Rattle.budget.proofs.Near.{IsNear, near-multiple, near-off, line-near}
@@ -84,8 +84,8 @@ alone gains these g d p same full seen = record {
 }
 
 -- those of a port that has them in one symbol
-pub record AreSinglesSeen (t n : ℕ) (port : SinglePort) (g : Cpx) (slot : SeenSlot) : Type 0 where
-  pub each : (m : ℕ) → m < 12 → IsPilot t n g (reference slot.identity slot.number 1 m) (single_seen port slot m)
+pub record AreUpperSeen (t n : ℕ) (port : UpperPort) (g : Cpx) (slot : SeenSlot) : Type 0 where
+  pub each : (m : ℕ) → m < 12 → IsPilot t n g (reference slot.identity slot.number 1 m) (upper_seen port slot m)
 
 reference-size : (identity slot m : ℕ) → square (reference identity slot 1 m) ≡ 16200
 reference-size identity slot m = full-size _ (reference-IsPoint identity slot 1 m)
@@ -97,29 +97,29 @@ module _ (gains : ℕ → Cpx) (slot : SeenSlot) (ports : ArePortsSeen gains slo
   pub pilots_of_one : ArePilots 872 (squares_of_four gains) port_1 (gains 1) slot
   pilots_of_one = record { each = λ i l. alone gains _ (gains 1) _ _ (one_alone gains _) (sent-size port_1 slot.identity slot.number i) (ports.one i l) }
 
-  pub pilots_of_two : AreSinglesSeen 872 (squares_of_four gains) Third (gains 2) slot
+  pub pilots_of_two : AreUpperSeen 872 (squares_of_four gains) Third (gains 2) slot
   pilots_of_two = record { each = λ m l. alone gains _ (gains 2) _ _ (two_alone gains _) (reference-size slot.identity slot.number m) (ports.two m l) }
 
-  pub pilots_of_three : AreSinglesSeen 872 (squares_of_four gains) Fourth (gains 3) slot
+  pub pilots_of_three : AreUpperSeen 872 (squares_of_four gains) Fourth (gains 3) slot
   pilots_of_three = record { each = λ m l. alone gains _ (gains 3) _ _ (three_alone gains _) (reference-size slot.identity slot.number m) (ports.three m l) }
 
 -- ---- the channels
 
-single-near : (t n : ℕ) (port : SinglePort) (g : Cpx) (slot : SeenSlot) (k : ℕ) → AreSinglesSeen t n port g slot → IsNear (16200 * n) g 6220800 (6 * t) (single_channel port slot k)
-unfolding single_channel single_pilot
-single-near t n port g slot k pilots =
-    line-near (16200 * n) g 1036800 t (single_pilot port slot) 6 11 (omega arith)
-    (λ m l. turned_pilot-near t n g (reference slot.identity slot.number 1 m) (single_seen port slot m) (pilots.each m (omega (arith, l)))) (single_first port slot.identity slot.number) k
+upper-near : (t n : ℕ) (port : UpperPort) (g : Cpx) (slot : SeenSlot) (k : ℕ) → AreUpperSeen t n port g slot → IsNear (16200 * n) g 6220800 (6 * t) (channel_of_upper port slot k)
+unfolding channel_of_upper upper_pilot
+upper-near t n port g slot k pilots =
+    line-near (16200 * n) g 1036800 t (upper_pilot port slot) 6 11 (omega arith)
+    (λ m l. turned_pilot-near t n g (reference slot.identity slot.number 1 m) (upper_seen port slot m) (pilots.each m (omega (arith, l)))) (upper_first port slot.identity slot.number) k
 
 -- 36 * 872^2 * 16200 * 8 / 3, where the pair's gains have three eighths
-pub pair_is_estimated : (n : ℕ) (pattern : Pattern) (port : SinglePort) (g o : Cpx) (slot : SeenSlot) (k : ℕ) → 3 * n ≤ 8 * (square g + square o) →
-    ArePilots 872 n pattern g slot → AreSinglesSeen 872 n port o slot →
-    AreEstimates 6220800 1182549196800 g o (multiple 2 (pattern_channel pattern slot k)) (single_channel port slot k)
+pub pair_is_estimated : (n : ℕ) (pattern : Pattern) (port : UpperPort) (g o : Cpx) (slot : SeenSlot) (k : ℕ) → 3 * n ≤ 8 * (square g + square o) →
+    ArePilots 872 n pattern g slot → AreUpperSeen 872 n port o slot →
+    AreEstimates 6220800 1182549196800 g o (multiple 2 (pattern_channel pattern slot k)) (channel_of_upper port slot k)
 pair_is_estimated n pattern port g o slot k share lower upper = record {
   off = in_pair n (square g + square o) _ share
       (near-off (16200 * n) g (multiple 2 (pattern_channel pattern slot k)) 6220800 5232
       (near-multiple (16200 * n) g (pattern_channel pattern slot k) 2 3110400 2616 (channel-near 872 n pattern g slot k lower)));
-  other_off = in_pair n (square g + square o) _ share (near-off (16200 * n) o (single_channel port slot k) 6220800 5232 (single-near 872 n port o slot k upper));
+  other_off = in_pair n (square g + square o) _ share (near-off (16200 * n) o (channel_of_upper port slot k) 6220800 5232 (upper-near 872 n port o slot k upper));
 }
   where
     in_pair : (n m s : ℕ) → 3 * n ≤ 8 * m → s ≤ 5232 * 5232 * (16200 * n) → s ≤ 1182549196800 * m

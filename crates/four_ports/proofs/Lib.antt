@@ -14,3 +14,4 @@ pub mod SentSlots
 pub mod SentMaster
 -- Its list holds its cell.
 pub mod HeldCells
+pub mod Fronts

@@ -4,13 +4,13 @@ use Rattle.cs_num.specs.declared.Cpx.{Cpx}
 use Rattle.cs_num.specs.declared.Sample.{Sample}
 use Rattle.cs_num.specs.Complex.{value_at, conjugate, negated, times, minus, multiple, square}
 use Rattle.sizes.specs.Sizes.{squares_of_four}
-use Rattle.crs.specs.declared.single.SinglePort.{SinglePort}
-use Rattle.crs.specs.declared.single.SinglePort.TheVariants.{Third, Fourth}
+use Rattle.crs.specs.declared.upper.UpperPort.{UpperPort}
+use Rattle.crs.specs.declared.upper.UpperPort.TheVariants.{Third, Fourth}
 use Rattle.crs.specs.Qpsk.{point}
-use Rattle.crs.specs.Reference.{port_0, port_1, single_first}
+use Rattle.crs.specs.Reference.{port_0, port_1, upper_first}
 use Rattle.grid_map.specs.declared.Place.{Place}
 use Rattle.soft_bits.specs.Soft.{SeenSlot, seen_at, pattern_symbol, pattern_seen, pilot_subcarrier}
-use Rattle.soft_bits.specs.Single.{single_seen}
+use Rattle.soft_bits.specs.Upper.{upper_seen}
 use Rattle.budget.specs.Received.{IsSeenAsFour}
 use Rattle.budget.proofs.Seen.{four_amplitudes_are_seen_in_recording}
 use Rattle.clean_air.proofs.SoftValues.{read_symbol}
@@ -20,9 +20,9 @@ use Rattle.four_ports.specs.Received.{DoPortsSendAt, ArePortsSeen, IsPairSeen, I
 use Rattle.four_ports.proofs.Estimates.{four_same, received_of}
 use Rattle.four_ports.proofs.Values.{pair_values_speak}
 
-single_place-few : (port : SinglePort) (identity number m : ℕ) → m < 12 → single_first port identity number + 6 * m < 72
-single_place-few Third identity number m l = omega (arith, l)
-single_place-few Fourth identity number m l = omega (arith, l)
+upper_place-few : (port : UpperPort) (identity number m : ℕ) → m < 12 → upper_first port identity number + 6 * m < 72
+upper_place-few Third identity number m l = omega (arith, l)
+upper_place-few Fourth identity number m l = omega (arith, l)
 
 module _ (recording : List Sample) (starts : ℕ → ℕ) (grids : ℕ → ℕ → ℕ → Cpx) (slot : SeenSlot) (is : IsSlotReceivedOfFour recording starts grids slot) where
   place_seen : (symbol k : ℕ) → symbol < 7 → k < 72 → IsSeenAsFour is.gains (λ port. grids port symbol k) (seen_at slot symbol k)
@@ -40,14 +40,14 @@ module _ (recording : List Sample) (starts : ℕ → ℕ) (grids : ℕ → ℕ �
       same = four_same (ap (times (is.gains 0)) send.zero) (ap (times (is.gains 1)) send.one) (ap (times (is.gains 2)) send.two) (ap (times (is.gains 3)) send.three)
 
   ports_seen : ArePortsSeen is.gains slot
-  unfolding pattern_seen single_seen
+  unfolding pattern_seen upper_seen
   ports_seen = record {
     sounds = (is.received 0 (omega arith)).sounds;
     pairs = is.pairs;
     zero = λ i l. place_holds (pattern_symbol port_0 slot.identity i) (pilot_subcarrier slot.identity i) _ (symbol_few port_0 slot.identity i (omega arith)) (omega (arith, l)) (is.zero i l);
     one = λ i l. place_holds (pattern_symbol port_1 slot.identity i) (pilot_subcarrier slot.identity i) _ (symbol_few port_1 slot.identity i (omega arith)) (omega (arith, l)) (is.one i l);
-    two = λ m l. place_holds 1 (single_first Third slot.identity slot.number + 6 * m) _ (omega arith) (single_place-few Third slot.identity slot.number m l) (is.two m l);
-    three = λ m l. place_holds 1 (single_first Fourth slot.identity slot.number + 6 * m) _ (omega arith) (single_place-few Fourth slot.identity slot.number m l) (is.three m l);
+    two = λ m l. place_holds 1 (upper_first Third slot.identity slot.number + 6 * m) _ (omega arith) (upper_place-few Third slot.identity slot.number m l) (is.two m l);
+    three = λ m l. place_holds 1 (upper_first Fourth slot.identity slot.number + 6 * m) _ (omega arith) (upper_place-few Fourth slot.identity slot.number m l) (is.three m l);
   }
 
   pair_seen : (i : ℕ) (p q : Place) (x y : Cpx) → p.k < 72 → q.k < 72 → CarryPair grids i p q x y →

@@ -7,9 +7,9 @@ use Rattle.finite.proofs.Lists.{values_below_at}
 use Rattle.cs_num.specs.declared.Cpx.{Cpx}
 use Rattle.cs_num.specs.declared.Sample.{Sample}
 use Rattle.cs_num.specs.Complex.{nothing, value_at}
-use Rattle.crs.specs.declared.single.SinglePort.{SinglePort}
-use Rattle.crs.specs.declared.single.SinglePort.TheVariants.{Third, Fourth}
-use Rattle.crs.specs.Reference.{port_0, port_1, is_reference, is_second_reference, is_single_reference, is_pattern_place, first_subcarrier, pattern_reference, reference, reference_c_init, reference_at, single_first}
+use Rattle.crs.specs.declared.upper.UpperPort.{UpperPort}
+use Rattle.crs.specs.declared.upper.UpperPort.TheVariants.{Third, Fourth}
+use Rattle.crs.specs.Reference.{port_0, port_1, is_reference, is_second_reference, is_upper_reference, is_pattern_place, first_subcarrier, pattern_reference, reference, reference_c_init, reference_at, upper_first}
 use Rattle.observe.specs.Seen.{seen_symbol}
 use Rattle.soft_bits.specs.Soft.{pattern_symbol, pattern_sent, pilot_subcarrier}
 use Rattle.cell_tx.specs.declared.antenna.Port.TheVariants.{OfFour}
@@ -37,16 +37,16 @@ record AreReferences (zero one two three : Bool) (identity slot l k : ℕ) : Typ
   inside : l < 7
   of_zero : is_reference identity l k ≡ zero
   of_one : is_second_reference identity l k ≡ one
-  of_two : is_single_reference Third identity slot l k ≡ two
-  of_three : is_single_reference Fourth identity slot l k ≡ three
+  of_two : is_upper_reference Third identity slot l k ≡ two
+  of_three : is_upper_reference Fourth identity slot l k ≡ three
 
 zero_at : (identity slot i k : ℕ) (b : Bool) → k ≡ pilot_subcarrier identity i → is_pattern_place port_0 identity 0 k ≡ b → AreReferences true false false false identity slot (if b then 0 else 4) k
-unfolding is_reference first_subcarrier is_second_reference is_single_reference
+unfolding is_reference first_subcarrier is_second_reference is_upper_reference
 zero_at identity slot i k true e is = record { inside = omega arith; of_zero = is; of_one = grind (arith, nat_tests); of_two = refl; of_three = refl }
 zero_at identity slot i k false e is = record { inside = omega arith; of_zero = grind (arith, nat_tests); of_one = grind (arith, nat_tests); of_two = refl; of_three = refl }
 
 one_at : (identity slot i k : ℕ) (b : Bool) → k ≡ pilot_subcarrier identity i → is_pattern_place port_1 identity 0 k ≡ b → AreReferences false true false false identity slot (if b then 0 else 4) k
-unfolding is_reference first_subcarrier is_second_reference is_single_reference
+unfolding is_reference first_subcarrier is_second_reference is_upper_reference
 one_at identity slot i k true e is = record { inside = omega arith; of_zero = grind (arith, nat_tests); of_one = is; of_two = refl; of_three = refl }
 one_at identity slot i k false e is = record { inside = omega arith; of_zero = grind (arith, nat_tests); of_one = grind (arith, nat_tests); of_two = refl; of_three = refl }
 
@@ -58,12 +58,12 @@ one_pilot : (identity slot i : ℕ) → AreReferences false true false false ide
 unfolding pattern_symbol
 one_pilot identity slot i = one_at identity slot i (pilot_subcarrier identity i) (is_pattern_place port_1 identity 0 (pilot_subcarrier identity i)) refl refl
 
-two_pilot : (identity slot m : ℕ) → AreReferences false false true false identity slot 1 (single_first Third identity slot + 6 * m)
-unfolding is_reference first_subcarrier is_second_reference is_single_reference
+two_pilot : (identity slot m : ℕ) → AreReferences false false true false identity slot 1 (upper_first Third identity slot + 6 * m)
+unfolding is_reference first_subcarrier is_second_reference is_upper_reference
 two_pilot identity slot m = record { inside = omega arith; of_zero = refl; of_one = refl; of_two = grind (arith, nat_tests); of_three = grind (arith, nat_tests) }
 
-three_pilot : (identity slot m : ℕ) → AreReferences false false false true identity slot 1 (single_first Fourth identity slot + 6 * m)
-unfolding is_reference first_subcarrier is_second_reference is_single_reference
+three_pilot : (identity slot m : ℕ) → AreReferences false false false true identity slot 1 (upper_first Fourth identity slot + 6 * m)
+unfolding is_reference first_subcarrier is_second_reference is_upper_reference
 three_pilot identity slot m = record { inside = omega arith; of_zero = refl; of_one = refl; of_two = grind (arith, nat_tests); of_three = grind (arith, nat_tests) }
 
 -- ---- what is sent there
@@ -118,16 +118,16 @@ module _ (plan : CellPlan) (grids : PortOfFour → Elements) (carries : (port : 
 
   only_three : AreReferences false false false true plan.identity slot l k → DoPortsSendAt (sent_in grids number slot) l k (of_ports nothing nothing nothing (reference_at plan.identity slot l k))
   only_three at = record {
-    zero = silent_here plan grids carries number slot l k at.inside Zero at.of_zero (or_right (is_second_reference plan.identity l k) _ (or_right (is_single_reference Third plan.identity slot l k) _ at.of_three));
-    one = silent_here plan grids carries number slot l k at.inside One at.of_one (or_right (is_reference plan.identity l k) _ (or_right (is_single_reference Third plan.identity slot l k) _ at.of_three));
+    zero = silent_here plan grids carries number slot l k at.inside Zero at.of_zero (or_right (is_second_reference plan.identity l k) _ (or_right (is_upper_reference Third plan.identity slot l k) _ at.of_three));
+    one = silent_here plan grids carries number slot l k at.inside One at.of_one (or_right (is_reference plan.identity l k) _ (or_right (is_upper_reference Third plan.identity slot l k) _ at.of_three));
     two = silent_here plan grids carries number slot l k at.inside Two at.of_two (or_right (is_reference plan.identity l k) _ (or_right (is_second_reference plan.identity l k) _ at.of_three));
     three = own_here plan grids carries number slot l k at.inside Three at.of_three;
   }
 
 -- the value of a reference signal in symbol 1
-single_value : (port : SinglePort) (identity slot m : ℕ) → reference_at identity slot 1 (single_first port identity slot + 6 * m) ≡ reference identity slot 1 m
+upper_value : (port : UpperPort) (identity slot m : ℕ) → reference_at identity slot 1 (upper_first port identity slot + 6 * m) ≡ reference identity slot 1 m
 unfolding reference_at
-single_value port identity slot m = ap (reference identity slot 1) (let e : (single_first port identity slot + 6 * m) / 6 ≡ m = omega arith in e)
+upper_value port identity slot m = ap (reference identity slot 1) (let e : (upper_first port identity slot + 6 * m) / 6 ≡ m = omega arith in e)
 
 module _ (plan : CellPlan) (grids : PortOfFour → Elements) (carries : (port : PortOfFour) → CarriesPlan (OfFour port) plan (grids port)) (number slot i : ℕ) where
   zero_sent : DoPortsSendAt (sent_in grids number slot) (pattern_symbol port_0 plan.identity i) (pilot_subcarrier plan.identity i) (of_ports (pattern_sent port_0 plan.identity slot i) nothing nothing nothing)
@@ -138,15 +138,15 @@ module _ (plan : CellPlan) (grids : PortOfFour → Elements) (carries : (port : 
   unfolding pattern_sent pattern_reference reference_at reference reference_c_init
   one_sent = only_one plan grids carries number slot (pattern_symbol port_1 plan.identity i) (pilot_subcarrier plan.identity i) (one_pilot plan.identity slot i)
 
-  two_sent : DoPortsSendAt (sent_in grids number slot) 1 (single_first Third plan.identity slot + 6 * i) (of_ports nothing nothing (reference plan.identity slot 1 i) nothing)
+  two_sent : DoPortsSendAt (sent_in grids number slot) 1 (upper_first Third plan.identity slot + 6 * i) (of_ports nothing nothing (reference plan.identity slot 1 i) nothing)
   two_sent =
-      subst (λ (z : Cpx). DoPortsSendAt (sent_in grids number slot) 1 (single_first Third plan.identity slot + 6 * i) (of_ports nothing nothing z nothing)) (single_value Third plan.identity slot i)
-      (only_two plan grids carries number slot 1 (single_first Third plan.identity slot + 6 * i) (two_pilot plan.identity slot i))
+      subst (λ (z : Cpx). DoPortsSendAt (sent_in grids number slot) 1 (upper_first Third plan.identity slot + 6 * i) (of_ports nothing nothing z nothing)) (upper_value Third plan.identity slot i)
+      (only_two plan grids carries number slot 1 (upper_first Third plan.identity slot + 6 * i) (two_pilot plan.identity slot i))
 
-  three_sent : DoPortsSendAt (sent_in grids number slot) 1 (single_first Fourth plan.identity slot + 6 * i) (of_ports nothing nothing nothing (reference plan.identity slot 1 i))
+  three_sent : DoPortsSendAt (sent_in grids number slot) 1 (upper_first Fourth plan.identity slot + 6 * i) (of_ports nothing nothing nothing (reference plan.identity slot 1 i))
   three_sent =
-      subst (λ (z : Cpx). DoPortsSendAt (sent_in grids number slot) 1 (single_first Fourth plan.identity slot + 6 * i) (of_ports nothing nothing nothing z)) (single_value Fourth plan.identity slot i)
-      (only_three plan grids carries number slot 1 (single_first Fourth plan.identity slot + 6 * i) (three_pilot plan.identity slot i))
+      subst (λ (z : Cpx). DoPortsSendAt (sent_in grids number slot) 1 (upper_first Fourth plan.identity slot + 6 * i) (of_ports nothing nothing nothing z)) (upper_value Fourth plan.identity slot i)
+      (only_three plan grids carries number slot 1 (upper_first Fourth plan.identity slot + 6 * i) (three_pilot plan.identity slot i))
 
 -- ---- the slots
 

@@ -10,9 +10,9 @@ use Rattle.fold128.proofs.Samples.{useful_same}
 use Rattle.lte_types.specs.declared.frame.Half.{Half}
 use Rattle.lte_types.specs.declared.frame.Half.TheVariants.{Zero, Five}
 use Rattle.lte_types.specs.Numerology.{normal, useful_start, subframe_of}
-use Rattle.crs.specs.declared.single.SinglePort.{SinglePort}
-use Rattle.crs.specs.declared.single.SinglePort.TheVariants.{Third, Fourth}
-use Rattle.crs.specs.Reference.{is_reference, is_second_reference, is_single_reference}
+use Rattle.crs.specs.declared.upper.UpperPort.{UpperPort}
+use Rattle.crs.specs.declared.upper.UpperPort.TheVariants.{Third, Fourth}
+use Rattle.crs.specs.Reference.{is_reference, is_second_reference, is_upper_reference}
 use Rattle.pss_search.specs.Correlation.{pss_grid}
 use Rattle.cell_tx.specs.declared.antenna.Port.TheVariants.{OfFour}
 use Rattle.cell_tx.specs.declared.antenna.PortOfFour.{PortOfFour}
@@ -59,9 +59,9 @@ as_one_port eps gains grids alone samples received same one two three n l =
 
 -- ---- the synchronisation signals
 
-no_single : (port : SinglePort) (identity slot symbol k : ℕ) → nat_eq symbol 1 ≡ false → is_single_reference port identity slot symbol k ≡ false
-unfolding is_single_reference
-no_single port identity slot symbol k e = rw e refl
+no_upper : (port : UpperPort) (identity slot symbol k : ℕ) → nat_eq symbol 1 ≡ false → is_upper_reference port identity slot symbol k ≡ false
+unfolding is_upper_reference
+no_upper port identity slot symbol k e = rw e refl
 
 -- no port has a reference signal in a symbol
 record HasNone (port : PortOfFour) (identity slot symbol k : ℕ) : Type 0 where
@@ -70,10 +70,10 @@ record HasNone (port : PortOfFour) (identity slot symbol k : ℕ) : Type 0 where
 
 none_in : (port : PortOfFour) (identity slot symbol k : ℕ) → nat_eq symbol 0 ≡ false → nat_eq symbol 4 ≡ false → nat_eq symbol 1 ≡ false → HasNone port identity slot symbol k
 none_in port identity slot symbol k e f g =
-    by port (no_reference identity symbol k e f) (no_second_reference identity symbol k e f) (no_single Third identity slot symbol k g) (no_single Fourth identity slot symbol k g)
+    by port (no_reference identity symbol k e f) (no_second_reference identity symbol k e f) (no_upper Third identity slot symbol k g) (no_upper Fourth identity slot symbol k g)
   where
-    by : (port : PortOfFour) → is_reference identity symbol k ≡ false → is_second_reference identity symbol k ≡ false → is_single_reference Third identity slot symbol k ≡ false →
-        is_single_reference Fourth identity slot symbol k ≡ false → HasNone port identity slot symbol k
+    by : (port : PortOfFour) → is_reference identity symbol k ≡ false → is_second_reference identity symbol k ≡ false → is_upper_reference Third identity slot symbol k ≡ false →
+        is_upper_reference Fourth identity slot symbol k ≡ false → HasNone port identity slot symbol k
     by P0 a b c d = record { own = a; other = rw (b, c, d) refl }
     by P1 a b c d = record { own = b; other = rw (a, c, d) refl }
     by P2 a b c d = record { own = c; other = rw (a, b, d) refl }

@@ -8,12 +8,12 @@ use Rattle.cs_num.specs.Complex.{nothing, minus, conjugate, negated, square, mul
 use Rattle.sizes.specs.Sizes.{squares_of_four}
 use Rattle.cs_bits.specs.Signs.{Supports}
 use Rattle.crs.specs.declared.pattern.Pattern.{Pattern}
-use Rattle.crs.specs.declared.single.SinglePort.{SinglePort}
-use Rattle.crs.specs.declared.single.SinglePort.TheVariants.{Third, Fourth}
+use Rattle.crs.specs.declared.upper.UpperPort.{UpperPort}
+use Rattle.crs.specs.declared.upper.UpperPort.TheVariants.{Third, Fourth}
 use Rattle.crs.specs.Qpsk.{component, point}
 use Rattle.crs.specs.Reference.{port_0, port_1, reference}
 use Rattle.soft_bits.specs.Soft.{SeenSlot, pattern_seen, pattern_sent, pattern_energy, pattern_channel, soft_value}
-use Rattle.soft_bits.specs.Single.{single_seen, single_energy, single_channel}
+use Rattle.soft_bits.specs.Upper.{upper_seen, upper_energy, channel_of_upper}
 use Rattle.budget.specs.Received.{IsSeenAsFour}
 use Rattle.budget.proofs.Pilots.{IsPilotSquare, pilot-square}
 use Rattle.budget.proofs.Signs.{near_component_speaks}
@@ -24,7 +24,7 @@ use Rattle.two_ports.proofs.Points.{AreRoots, IsPairNear, pair_is_combined}
 use Rattle.two_ports.proofs.Values.{point-small}
 use Rattle.four_ports.specs.Pairs.{ports_energy}
 use Rattle.four_ports.specs.Received.{ArePortsSeen, PairValuesSpeak, of_ports}
-use Rattle.four_ports.proofs.Estimates.{AreSinglesSeen, received_of, even_pair, odd_pair, pilots_of_zero, pilots_of_one, pilots_of_two, pilots_of_three, pair_is_estimated}
+use Rattle.four_ports.proofs.Estimates.{AreUpperSeen, received_of, even_pair, odd_pair, pilots_of_zero, pilots_of_one, pilots_of_two, pilots_of_three, pair_is_estimated}
 
 -- ---- the energy of the pilots
 
@@ -51,11 +51,11 @@ of_pattern n pattern g slot pilots =
     of_pilots 24 n (square g) (λ i. square (pattern_seen pattern slot i)) (omega arith)
     (λ m i l. pilot-square m 872 n g (pattern_sent pattern slot.identity slot.number i) (pattern_seen pattern slot i) (pilots.each i l))
 
-of_single : (n : ℕ) (port : SinglePort) (g : Cpx) (slot : SeenSlot) → AreSinglesSeen 872 n port g slot → IsEnergyOf 12 n (square g) (single_energy port slot)
-unfolding single_energy
-of_single n port g slot pilots =
-    of_pilots 12 n (square g) (λ m. square (single_seen port slot m)) (omega arith)
-    (λ m i l. pilot-square m 872 n g (reference slot.identity slot.number 1 i) (single_seen port slot i) (pilots.each i l))
+of_upper : (n : ℕ) (port : UpperPort) (g : Cpx) (slot : SeenSlot) → AreUpperSeen 872 n port g slot → IsEnergyOf 12 n (square g) (upper_energy port slot)
+unfolding upper_energy
+of_upper n port g slot pilots =
+    of_pilots 12 n (square g) (λ m. square (upper_seen port slot m)) (omega arith)
+    (λ m i l. pilot-square m 872 n g (reference slot.identity slot.number 1 i) (upper_seen port slot i) (pilots.each i l))
 
 -- that of all ports
 record IsEnergy (n q : ℕ) : Type 0 where
@@ -65,11 +65,11 @@ record IsEnergy (n q : ℕ) : Type 0 where
 energy-near : (gains : ℕ → Cpx) (slot : SeenSlot) → ArePortsSeen gains slot → IsEnergy (squares_of_four gains) (ports_energy slot)
 unfolding ports_energy
 energy-near gains slot ports =
-    all (square (gains 0)) (square (gains 1)) (square (gains 2)) (square (gains 3)) (pattern_energy port_0 slot) (pattern_energy port_1 slot) (single_energy Third slot) (single_energy Fourth slot) ports.sounds
+    all (square (gains 0)) (square (gains 1)) (square (gains 2)) (square (gains 3)) (pattern_energy port_0 slot) (pattern_energy port_1 slot) (upper_energy Third slot) (upper_energy Fourth slot) ports.sounds
     (of_pattern (squares_of_four gains) port_0 (gains 0) slot (pilots_of_zero gains slot ports))
     (of_pattern (squares_of_four gains) port_1 (gains 1) slot (pilots_of_one gains slot ports))
-    (of_single (squares_of_four gains) Third (gains 2) slot (pilots_of_two gains slot ports))
-    (of_single (squares_of_four gains) Fourth (gains 3) slot (pilots_of_three gains slot ports))
+    (of_upper (squares_of_four gains) Third (gains 2) slot (pilots_of_two gains slot ports))
+    (of_upper (squares_of_four gains) Fourth (gains 3) slot (pilots_of_three gains slot ports))
   where
     all : (a b c d e f g h : ℕ) → 1 ≤ a + b + c + d → IsEnergyOf 24 (a + b + c + d) a e → IsEnergyOf 24 (a + b + c + d) b f → IsEnergyOf 12 (a + b + c + d) c g → IsEnergyOf 12 (a + b + c + d) d h →
         IsEnergy (a + b + c + d) (e + f + 2 * (g + h))
@@ -95,13 +95,13 @@ roots : AreRoots 1182549196800 2027691 2014 276819776 3096994907
 roots = record { seen = omega arith; estimates = omega arith; both = omega arith }
 
 -- by the channels of the two ports that send it
-speaks_by : (n q : ℕ) (pattern : Pattern) (port : SinglePort) (g o : Cpx) (slot : SeenSlot) (k : ℕ) (b c d e : Bool) (at_first at_second : Cpx) →
-    3 * n ≤ 8 * (square g + square o) → IsEnergy n q → ArePilots 872 n pattern g slot → AreSinglesSeen 872 n port o slot →
+speaks_by : (n q : ℕ) (pattern : Pattern) (port : UpperPort) (g o : Cpx) (slot : SeenSlot) (k : ℕ) (b c d e : Bool) (at_first at_second : Cpx) →
+    3 * n ≤ 8 * (square g + square o) → IsEnergy n q → ArePilots 872 n pattern g slot → AreUpperSeen 872 n port o slot →
     IsPairNear 2027691 g o (point b c) (point d e) at_first at_second →
-    SupportFour 1 b c d e (point_values (multiple 2 (pattern_channel pattern slot k)) (single_channel port slot k) q at_first at_second)
+    SupportFour 1 b c d e (point_values (multiple 2 (pattern_channel pattern slot k)) (channel_of_upper port slot k) q at_first at_second)
 speaks_by n q pattern port g o slot k b c d e at_first at_second share energy lower upper pair =
     let h : Cpx = multiple 2 (pattern_channel pattern slot k) in
-    let u : Cpx = single_channel port slot k in
+    let u : Cpx = channel_of_upper port slot k in
     let near = pair_is_combined 6220800 1182549196800 2027691 2014 276819776 3096994907 roots g o h u (point b c) (point d e) at_first at_second
     (pair_is_estimated n pattern port g o slot k share lower upper) (point-small b c) (point-small d e) pair in
     let m : ℕ = square g + square o in
@@ -128,7 +128,7 @@ speaks : (even : Bool) (gains : ℕ → Cpx) (slot : SeenSlot) (k : ℕ) (b c d 
     (if even then conjugate (point b c) else nothing) (if even then nothing else conjugate (point b c))) at_second →
     SupportFour 1 b c d e
     (point_values (if even then multiple 2 (pattern_channel port_0 slot k) else multiple 2 (pattern_channel port_1 slot k))
-    (if even then single_channel Third slot k else single_channel Fourth slot k) (ports_energy slot) at_first at_second)
+    (if even then channel_of_upper Third slot k else channel_of_upper Fourth slot k) (ports_energy slot) at_first at_second)
 speaks true gains slot k b c d e at_first at_second ports first second =
     speaks_by (squares_of_four gains) (ports_energy slot) port_0 Third (gains 0) (gains 2) slot k b c d e at_first at_second ports.pairs.even (energy-near gains slot ports)
     (pilots_of_zero gains slot ports) (pilots_of_two gains slot ports) (record {

@@ -5,13 +5,13 @@ use Rattle.std.specs.Prelude.{ℕ, ◌+◌, ◌*◌, ◌/◌, ◌%◌, nat_eq, i
 use Rattle.finite.specs.Lists.{joined_below}
 use Rattle.cs_num.specs.declared.Cpx.{Cpx}
 use Rattle.cs_num.specs.Complex.{multiple}
-use Rattle.crs.specs.declared.single.SinglePort.TheVariants.{Third, Fourth}
+use Rattle.crs.specs.declared.upper.UpperPort.TheVariants.{Third, Fourth}
 use Rattle.crs.specs.Reference.{port_0, port_1}
 use Rattle.grid_map.specs.declared.Place.{Place}
 use Rattle.grid_map.specs.Place.{place}
 use Rattle.soft_bits.specs.Places.{Valuing}
 use Rattle.soft_bits.specs.Soft.{SeenSlot, seen_at, pattern_channel, pattern_energy}
-use Rattle.soft_bits.specs.Single.{single_channel, single_energy}
+use Rattle.soft_bits.specs.Upper.{channel_of_upper, upper_energy}
 use Rattle.two_ports.specs.Pairs.{point_values}
 
 -- six times the channels at a subcarrier of the two ports that send pair number i
@@ -20,12 +20,12 @@ lower_channel i slot k =
     if nat_eq (i % 2) 0 then multiple 2 (pattern_channel port_0 slot k) else multiple 2 (pattern_channel port_1 slot k)
 
 abbrev pub upper_channel : ℕ → SeenSlot → ℕ → Cpx
-upper_channel i slot k = if nat_eq (i % 2) 0 then single_channel Third slot k else single_channel Fourth slot k
+upper_channel i slot k = if nat_eq (i % 2) 0 then channel_of_upper Third slot k else channel_of_upper Fourth slot k
 
 -- the energy of the pilots of all ports, as if each had 24 of them: those of ports 2 and 3, which have 12, count twice
 unfoldable pub ports_energy : SeenSlot → ℕ
 ports_energy slot =
-    pattern_energy port_0 slot + pattern_energy port_1 slot + 2 * (single_energy Third slot + single_energy Fourth slot)
+    pattern_energy port_0 slot + pattern_energy port_1 slot + 2 * (upper_energy Third slot + upper_energy Fourth slot)
 
 -- the four values of what was seen at the two places of a pair, by the channels at a subcarrier: those of the first
 -- point, then those of the second

@@ -6,13 +6,13 @@ use Rattle.cs_num.specs.declared.Cpx.{Cpx}
 use Rattle.cs_num.specs.declared.Sample.{Sample}
 use Rattle.cs_num.specs.Complex.{nothing, conjugate, negated, value_at}
 use Rattle.sizes.specs.Sizes.{squares_of_four, ArePaired}
-use Rattle.crs.specs.declared.single.SinglePort.TheVariants.{Third, Fourth}
+use Rattle.crs.specs.declared.upper.UpperPort.TheVariants.{Third, Fourth}
 use Rattle.crs.specs.Qpsk.{point}
-use Rattle.crs.specs.Reference.{port_0, port_1, single_first, reference}
+use Rattle.crs.specs.Reference.{port_0, port_1, upper_first, reference}
 use Rattle.observe.specs.Seen.{seen_symbol}
 use Rattle.grid_map.specs.declared.Place.{Place}
 use Rattle.soft_bits.specs.Soft.{SeenSlot, pattern_symbol, pattern_seen, pattern_sent, pilot_subcarrier}
-use Rattle.soft_bits.specs.Single.{single_seen}
+use Rattle.soft_bits.specs.Upper.{upper_seen}
 use Rattle.budget.specs.Received.{AreAmplitudes, IsReceivedFromFour, IsSeenAsFour, samples_from}
 use Rattle.two_ports.specs.Received.{SupportFour}
 use Rattle.four_ports.specs.Pairs.{values_seen, pair_values}
@@ -55,10 +55,10 @@ pub record ArePortsSeen (gains : ℕ → Cpx) (slot : SeenSlot) : Type 0 where
       (pattern_seen port_1 slot i)
   pub two : (m : ℕ) → m < 12 →
       IsSeenAsFour gains (of_ports nothing nothing (reference slot.identity slot.number 1 m) nothing)
-      (single_seen Third slot m)
+      (upper_seen Third slot m)
   pub three : (m : ℕ) → m < 12 →
       IsSeenAsFour gains (of_ports nothing nothing nothing (reference slot.identity slot.number 1 m))
-      (single_seen Fourth slot m)
+      (upper_seen Fourth slot m)
 
 -- pair number i, of the points x and y, is seen at two places: the lower of its ports sends x and y there, the upper
 -- the negative conjugate of y and the conjugate of x (TS 36.211 section 6.3.4.3)
@@ -94,10 +94,10 @@ pub record IsSlotReceivedOfFour (recording : List Sample) (starts : ℕ → ℕ)
       DoPortsSendAt grids (pattern_symbol port_1 slot.identity i) (pilot_subcarrier slot.identity i)
       (of_ports nothing (pattern_sent port_1 slot.identity slot.number i) nothing nothing)
   pub two : (m : ℕ) → m < 12 →
-      DoPortsSendAt grids 1 (single_first Third slot.identity slot.number + 6 * m)
+      DoPortsSendAt grids 1 (upper_first Third slot.identity slot.number + 6 * m)
       (of_ports nothing nothing (reference slot.identity slot.number 1 m) nothing)
   pub three : (m : ℕ) → m < 12 →
-      DoPortsSendAt grids 1 (single_first Fourth slot.identity slot.number + 6 * m)
+      DoPortsSendAt grids 1 (upper_first Fourth slot.identity slot.number + 6 * m)
       (of_ports nothing nothing nothing (reference slot.identity slot.number 1 m))
 
 -- two places carry pair number i, of the points x and y

@@ -6,16 +6,16 @@ ghost use Rattle.cs_num.specs.Complex.{IsWithin};
 ghost use Rattle.crs.specs.Reference.{port_0, port_1};
 ghost use Rattle.lte_types.specs.declared.carrier.Carrier.TheVariants.{FourPorts};
 ghost use Rattle.soft_bits.specs.Soft.{SeenSlot, AreSmall, seen_at, pattern_pilot};
-ghost use Rattle.soft_bits.specs.Single.{single_pilot, single_channel};
+ghost use Rattle.soft_bits.specs.Upper.{upper_pilot, channel_of_upper};
 ghost use Rattle.four_ports.specs.Kept.{IsFourKept};
 ghost use Rattle.four_ports.specs.Pairs.{lower_channel, upper_channel, ports_energy, paired_values};
 
 use crate::pairs::fill_pairs;
-use crs::{Pattern, SinglePort, first_of_single};
+use crs::{Pattern, UpperPort, first_of_upper};
 use cs_num::Cpx;
 use grid_map::Place;
 use lte_types::{Carrier, CellId};
-use soft_bits::{ReadSlot, Seen, single_energy_of, single_estimate, single_pilots_of};
+use soft_bits::{ReadSlot, Seen, upper_energy_of, upper_estimate, upper_pilots_of};
 use std::marker::Model;
 use two_ports::PairSlot;
 
@@ -50,10 +50,10 @@ impl FourSlot {
             id,
             pattern: Pattern::FIRST_PORT,
         };
-        let third = single_pilots_of(&upper, SinglePort::Third);
-        let fourth = single_pilots_of(&upper, SinglePort::Fourth);
-        let third_energy = single_energy_of(&upper, SinglePort::Third);
-        let fourth_energy = single_energy_of(&upper, SinglePort::Fourth);
+        let third = upper_pilots_of(&upper, UpperPort::Third);
+        let fourth = upper_pilots_of(&upper, UpperPort::Fourth);
+        let third_energy = upper_energy_of(&upper, UpperPort::Third);
+        let fourth_energy = upper_energy_of(&upper, UpperPort::Fourth);
         let lower = PairSlot::new(seen, number, id);
         let energy = lower.energy() + 2 * (third_energy + fourth_energy);
         FourSlot {
@@ -94,20 +94,20 @@ impl FourSlot {
         ensures small { IsWithin (1080 * 2 ^ 25) result }
     {
         if i % 2 == 0 {
-            self.single_channel(SinglePort::Third, k)
+            self.channel_of_upper(UpperPort::Third, k)
         } else {
-            self.single_channel(SinglePort::Fourth, k)
+            self.channel_of_upper(UpperPort::Fourth, k)
         }
     }
 
     // Six times the channel of port 2 or 3 at a subcarrier.
-    fn single_channel(&self, port: SinglePort, k: u8) -> Cpx
+    fn channel_of_upper(&self, port: UpperPort, k: u8) -> Cpx
         requires { k < 72 }
-        ensures value { result ≡ single_channel port self.now k }
+        ensures value { result ≡ channel_of_upper port self.now k }
         ensures small { IsWithin (1080 * 2 ^ 25) result }
     {
-        let first = first_of_single(port, self.lower.cell(), self.lower.slot_number());
-        single_estimate(self.single_pilots(port), first, k)
+        let first = first_of_upper(port, self.lower.cell(), self.lower.slot_number());
+        upper_estimate(self.upper_pilots(port), first, k)
     }
 
     /// The pilots of port 0: at each of its 24 reference places, by subcarrier, what was seen there times the conjugate
@@ -128,13 +128,13 @@ impl FourSlot {
     }
 
     /// Those of port 2 or 3, which has 12.
-    pub fn single_pilots(&self, port: SinglePort) -> &[Cpx; 12]
-        ensures value { result.now ≡ values_below 12 (single_pilot port self.now) }
+    pub fn upper_pilots(&self, port: UpperPort) -> &[Cpx; 12]
+        ensures value { result.now ≡ values_below 12 (upper_pilot port self.now) }
         ensures small { All (IsWithin (180 * 2 ^ 25)) result.now }
     {
         match port {
-            SinglePort::Third => &self.third,
-            SinglePort::Fourth => &self.fourth,
+            UpperPort::Third => &self.third,
+            UpperPort::Fourth => &self.fourth,
         }
     }
 
@@ -174,4 +174,6 @@ impl ReadSlot for FourSlot {
     fn fill(&self, second: &FourSlot, places: &[Place], values: &mut [i16]) {
         fill_pairs(self, second, places, values);
     }
+
+    fn looks_at_front() {}
 }

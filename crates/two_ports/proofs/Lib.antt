@@ -10,3 +10,4 @@ pub mod Heard
 pub mod SentMaster
 pub mod SentSystem
 pub mod HeldCells
+pub mod Fronts

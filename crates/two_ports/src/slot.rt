@@ -138,4 +138,6 @@ impl ReadSlot for PairSlot {
     fn fill(&self, second: &PairSlot, places: &[Place], values: &mut [i16]) {
         fill_pairs(self, second, places, values);
     }
+
+    fn looks_at_front() {}
 }
