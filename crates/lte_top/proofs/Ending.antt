@@ -1,21 +1,25 @@
 -- How the run of a form ends.
-use Rattle.std.proofs.Common.{◌≡◌, ◌%◌, List, length, None, Bool, true, false, ℕ, nat_lt, nat_eq, refl, sym, subst, ◌∙◌, arith}
+use Rattle.std.proofs.Common.{◌≡◌, ◌%◌, List, length, None, Bool, true, false, ℕ, nat_lt, nat_eq, refl, ap, sym, subst, ◌∙◌, arith}
 use Rattle.std.proofs.lemmas.Bool.{ltb-true, eq-eqb}
 use Rattle.cs_num.specs.declared.Sample.{Sample}
 use Rattle.cs_outside.specs.Counts.{Rose}
 use Rattle.cs_outside.specs.Outside.{SourceTold, Outside}
+use Rattle.cs_outside.specs.Streams.{HasWritten, HasWrittenFront, IsShortOf}
 use Rattle.sample_file.specs.declared.form.SampleForm.{SampleForm}
-use Rattle.sample_file.specs.Recording.{width}
+use Rattle.sample_file.specs.Recording.{width, bytes_of}
 use Rattle.sample_file.specs.Reading.{HasReadRecording, least_bytes}
 use Rattle.lte_types.specs.declared.carrier.Carrier.{Carrier}
 use Rattle.lte_types.specs.declared.entry.Entry.{Entry}
-use Rattle.lte_top.specs.declared.form.Form.TheVariants.{Certify}
+use Rattle.lte_top.specs.declared.form.Form.TheVariants.{Certify, Apply}
+use Rattle.lte_top.specs.declared.form.Turn.{Turn}
+use Rattle.lte_top.specs.declared.form.Turn.TheVariants.{AsTold, Steps}
 use Rattle.lte_top.specs.declared.status.Status.{Status}
 use Rattle.lte_top.specs.Certificates.{IsCertified}
 use Rattle.cert_stream.specs.Certifying.{HasCertifiedAll, HasCertifiedSome}
 use Rattle.cert_stream.specs.Stream.{all_bytes}
 use Rattle.lte_top.specs.Searching.{receiver_of, IsListOf}
 use Rattle.lte_top.specs.Forms.{recording_refusal, RefusesRecording}
+use Rattle.lte_top.specs.Tuning.{IsTurned, IsTurnedAsBytes}
 use Rattle.lte_top.specs.Run.{HasOutput, IsDone, IsWriteFault}
 
 -- nothing refuses the bytes of a recording
@@ -59,4 +63,39 @@ certified_fault carrier form samples entries before now h is_list some rose = re
   front_written = some.front;
   counted = rose;
   full = some.full;
+}
+
+-- ---- a recording turned
+
+-- its bytes are the output
+turned_output : (turn : Turn) (form : SampleForm) (samples turned : List Sample) (before now : SourceTold) → HasReadRecording form samples before now →
+    IsTurned turn samples turned → HasOutput (Apply turn form) (bytes_of turned) before now
+turned_output turn form samples turned before now h is = record {
+  bytes = h.input;
+  whole = h.read;
+  unrefused = recording_unrefused form samples before now h;
+  is_output = subst (λ s. IsTurnedAsBytes turn s (bytes_of turned)) h.samples (as_bytes turn is);
+}
+  where
+    as_bytes : (turn : Turn) → IsTurned turn samples turned → IsTurnedAsBytes turn samples (bytes_of turned)
+    as_bytes AsTold is = record { samples = turned; are = is; bytes = refl }
+    as_bytes (Steps m) is = ap bytes_of is
+
+pub applied_done : (turn : Turn) (form : SampleForm) (samples turned written : List Sample) (before now : Outside) → HasReadRecording form samples before.0 now.0 →
+    IsTurned turn samples turned → written ≡ turned → HasWritten (bytes_of written) before.1 now.1 → IsDone (Apply turn form) before now
+applied_done turn form samples turned written before now h is same all = record {
+  output = bytes_of turned;
+  has_output = turned_output turn form samples turned before.0 now.0 h is;
+  written = subst (λ s. HasWritten (bytes_of s) before.1 now.1) same all;
+}
+
+pub applied_fault : (turn : Turn) (form : SampleForm) (samples turned written : List Sample) (before now : Outside) → HasReadRecording form samples before.0 now.0 →
+    IsTurned turn samples turned → written ≡ turned → HasWrittenFront (bytes_of written) before.1 now.1 → IsShortOf (length (bytes_of written)) before.1 →
+    Rose before.1.faults now.1.faults → IsWriteFault (Apply turn form) before now
+applied_fault turn form samples turned written before now h is same front full rose = record {
+  output = bytes_of turned;
+  has_output = turned_output turn form samples turned before.0 now.0 h is;
+  front_written = subst (λ s. HasWrittenFront (bytes_of s) before.1 now.1) same front;
+  counted = rose;
+  full = subst (λ s. IsShortOf (length (bytes_of s)) before.1) same full;
 }

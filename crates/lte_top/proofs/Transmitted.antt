@@ -3,7 +3,9 @@ use Rattle.std.proofs.Common.{◌≡◌, ℕ, ◌*◌, Option, List, [], ◌∷�
 use Rattle.finite.proofs.Lists.{values_below-length}
 use Rattle.cs_num.specs.declared.Sample.{Sample}
 use Rattle.cs_num.specs.Complex.{sample_of}
-use Rattle.cs_outside.specs.Outside.{SourceTold}
+use Rattle.cs_outside.specs.Counts.{Rose}
+use Rattle.cs_outside.specs.Outside.{SourceTold, Outside}
+use Rattle.cs_outside.specs.Streams.{HasWritten, HasWrittenFront, IsShortOf}
 use Rattle.sample_file.specs.Recording.{sample_bytes, bytes_of}
 use Rattle.lte_types.specs.declared.carrier.Carrier.{Carrier}
 use Rattle.cell_tx.specs.declared.emission.Emission.{Emission}
@@ -15,7 +17,7 @@ use Rattle.lte_top.specs.declared.form.Form.TheVariants.{Transmit}
 use Rattle.lte_top.specs.declared.status.Status.{Status}
 use Rattle.lte_top.specs.declared.status.Status.TheVariants.{Done, Usage, Ragged, TooShort, TooLong, ReadFault, WriteFault, OutOfMemory, BadCell, BadCertificate}
 use Rattle.lte_top.specs.Forms.{RefusesDescription}
-use Rattle.lte_top.specs.Run.{HasOutput}
+use Rattle.lte_top.specs.Run.{HasOutput, IsDone, IsWriteFault}
 use Rattle.lte_top.specs.Transmitting.{sent_samples, IsTransmitted, HasDescription}
 
 -- four bytes a sample
@@ -60,11 +62,32 @@ unrefused carrier bytes e d WriteFault r = r
 unrefused carrier bytes e d OutOfMemory r = r
 unrefused carrier bytes e d (BadCertificate place) r = r
 
-pub transmitted_output : (carrier : Carrier) (load : Option ℕ) (e : Emission) (output : List ℕ) (before now : SourceTold) → HasDescription carrier e before now →
+transmitted_output : (carrier : Carrier) (load : Option ℕ) (e : Emission) (output : List ℕ) (before now : SourceTold) → HasDescription carrier e before now →
     output ≡ bytes_of (sent_samples load e) → HasOutput (Transmit carrier load) output before now
 transmitted_output carrier load e output before now h is = record {
   bytes = h.bytes;
   whole = h.whole;
   unrefused = unrefused carrier h.bytes e h.describes;
   is_output = record { emission = e; describes = h.describes; sent = is };
+}
+
+-- its samples are all written
+pub transmitted_done : (carrier : Carrier) (load : Option ℕ) (e : Emission) (samples : List Sample) (before now : Outside) → HasDescription carrier e before.0 now.0 →
+    samples ≡ sent_samples load e → HasWritten (bytes_of samples) before.1 now.1 → IsDone (Transmit carrier load) before now
+transmitted_done carrier load e samples before now h is written = record {
+  output = bytes_of samples;
+  has_output = transmitted_output carrier load e (bytes_of samples) before.0 now.0 h (ap bytes_of is);
+  written = written;
+}
+
+-- or a front of them
+pub transmitted_fault : (carrier : Carrier) (load : Option ℕ) (e : Emission) (samples : List Sample) (before now : Outside) → HasDescription carrier e before.0 now.0 →
+    samples ≡ sent_samples load e → HasWrittenFront (bytes_of samples) before.1 now.1 → Rose before.1.faults now.1.faults → IsShortOf (length (bytes_of samples)) before.1 →
+    IsWriteFault (Transmit carrier load) before now
+transmitted_fault carrier load e samples before now h is front rose full = record {
+  output = bytes_of samples;
+  has_output = transmitted_output carrier load e (bytes_of samples) before.0 now.0 h (ap bytes_of is);
+  front_written = front;
+  counted = rose;
+  full = full;
 }

@@ -1,4 +1,4 @@
--- A turned recording as bytes. (own)
+-- A turned recording, and its bytes. (own)
 use Rattle.std.specs.Prelude.{◌≡◌, ℕ, List}
 use Rattle.cs_num.specs.declared.Sample.{Sample}
 use Rattle.sample_file.specs.Recording.{bytes_of}
@@ -7,13 +7,18 @@ use Rattle.turning.specs.Turned.{turned}
 use Rattle.lte_top.specs.declared.form.Turn.{Turn}
 use Rattle.lte_top.specs.declared.form.Turn.TheVariants.{AsTold, Steps}
 
+-- these samples are the recording as it is turned
+abbrev pub IsTurned : Turn → List Sample → List Sample → Type 0
+IsTurned AsTold samples now = IsApplied samples now
+IsTurned (Steps m) samples now = now ≡ turned samples m
+
 -- the samples as bytes, of 16-bit numbers
 pub record IsBytesOf (Are : List Sample → Type 0) (output : List ℕ) : Type 0 where
   pub samples : List Sample
   pub are : Are samples
   pub bytes : output ≡ bytes_of samples
 
--- the recording as it is turned
+-- the recording as it is turned, as bytes
 abbrev pub IsTurnedAsBytes : Turn → List Sample → List ℕ → Type 0
 IsTurnedAsBytes AsTold samples output = IsBytesOf (IsApplied samples) output
 IsTurnedAsBytes (Steps m) samples output = output ≡ bytes_of (turned samples m)

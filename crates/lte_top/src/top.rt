@@ -15,8 +15,8 @@ use crate::making::made_text;
 use crate::pages::page_text;
 use crate::reporting::report_text;
 use crate::status::Status;
-use crate::transmitting::transmitted_bytes;
-use crate::tuning::turned_bytes;
+use crate::transmitting::transmit;
+use crate::tuning::apply_turn;
 use crate::words::Words;
 use cs_outside::{Failed, MemSink, MemSource, Sink, Source, write_whole};
 use std::alloc::Global;
@@ -111,18 +111,12 @@ fn run_form<S: Source, K: Sink>(
             let text = answers_text(alloc, source)?;
             write_output(sink, text.as_bytes())
         }
-        Form::Transmit(carrier, load) => {
-            let bytes = transmitted_bytes(alloc, carrier, load, source)?;
-            write_output(sink, &bytes)
-        }
+        Form::Transmit(carrier, load) => transmit(alloc, carrier, load, source, sink),
         Form::Make(carrier, n) => {
             let text = made_text(alloc, carrier, n)?;
             write_output(sink, text.as_bytes())
         }
-        Form::Apply(turn, samples) => {
-            let bytes = turned_bytes(alloc, turn, samples, source)?;
-            write_output(sink, &bytes)
-        }
+        Form::Apply(turn, samples) => apply_turn(alloc, turn, samples, source, sink),
         Form::Print(program, page) => {
             let text = page_text(alloc, program, page)?;
             write_output(sink, text.as_bytes())

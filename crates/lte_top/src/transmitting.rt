@@ -1,41 +1,48 @@
 //! The samples of a described cell.
 
-ghost use Rattle.std.specs.Prelude.{◌≡◌, ◌≤◌, length, IfOk, IfErr};
-ghost use Rattle.cs_outside.specs.Outside.{SourceTold};
-ghost use Rattle.sample_file.specs.Recording.{bytes_of as all_bytes};
+ghost use Rattle.std.specs.Prelude.{◌≡◌, ◌≤◌, length, IfOk, IfErr, OnOk, OnErr};
+ghost use Rattle.cs_outside.specs.Counts.{Rose};
+ghost use Rattle.cs_outside.specs.Outside.{SourceTold, SinkTold};
+ghost use Rattle.cs_outside.specs.Streams.{HasWritten, HasWrittenFront, IsShortOf};
+ghost use Rattle.sample_file.specs.Recording.{bytes_of};
 ghost use Rattle.cell_tx.specs.Emission.{emitted_samples};
 ghost use Rattle.lte_top.specs.Transmitting.{sent_samples, HasDescription};
 ghost use Rattle.lte_top.specs.Forms.{description};
-ghost use Rattle.lte_top.specs.Run.{Cause, HasOutput};
+ghost use Rattle.lte_top.specs.Run.{Cause, IsDone, Ends};
 ghost use Rattle.lte_top.specs.declared.form.Form.TheVariants.{Transmit};
 
 use crate::status::Status;
 use cell_json::read_by;
-use cell_tx::{Emission, emit};
-use cs_num::Sample;
-use cs_outside::{Source, read_to_end};
+use cell_tx::{Emission, Emitter};
+use cs_outside::{Failed, Sink, Source, read_to_end};
 use lte_types::Carrier;
-use std::alloc::{AllocError, Global};
+use sample_file::write_samples;
+use std::alloc::Global;
 
 // The most bytes of a description.
 const MOST_BYTES: usize = 65_536;
 
-// The bytes of the samples, with this load or without, of the cell that a source describes by a carrier, which is read
-// to its end.
-pub(crate) fn transmitted_bytes<S: Source>(
+// Writes the samples, with this load or without, of the cell that a source describes by a carrier. The source is read
+// to its end before the first is written, and no memory is taken after it.
+pub(crate) fn transmit<S: Source, K: Sink>(
     alloc: Global,
     carrier: Carrier,
     load: Option<u32>,
     source: &mut S,
-) -> Result<Vec<u8>, Status>
-    ensures ok { IfOk result (λ bytes.
-        HasOutput (Transmit carrier load) bytes.items (S.told source.old) (S.told source.new)) }
-    ensures err { IfErr result (Cause (description carrier) (S.told source.old) (S.told source.new)) }
-    ensures never_falls { (S.told source.old).faults ≤ (S.told source.new).faults }
+    sink: &mut K,
+) -> Result<(), Status>
+    ensures done { OnOk result (IsDone (Transmit carrier load)
+        (S.told source.old, K.told sink.old) (S.told source.new, K.told sink.new)) }
+    ensures ended { IfErr result (Ends (Transmit carrier load)
+        (S.told source.old, K.told sink.old) (S.told source.new, K.told sink.new)) }
+    ensures reads { (S.told source.old).faults ≤ (S.told source.new).faults }
+    ensures writes { (K.told sink.old).faults ≤ (K.told sink.new).faults }
 {
     let emission = emission_of(alloc, carrier, source)?;
-    let output = bytes_of(alloc, &with_load(emission, load))?;
-    Ok(output)
+    match write_emission(&with_load(emission, load), sink) {
+        Ok(()) => Ok(()),
+        Err(Failed) => Err(Status::WriteFault),
+    }
 }
 
 // The emission that a source describes by a carrier, which is read to its end.
@@ -61,18 +68,22 @@ fn with_load(mut emission: Emission, load: Option<u32>) -> Emission
     emission
 }
 
-// The samples of an emission as bytes.
-fn bytes_of(alloc: Global, emission: &Emission) -> Result<Vec<u8>, AllocError>
-    ensures { IfOk result (λ bytes. bytes.items ≡ all_bytes (emitted_samples emission.now)) }
+// Writes the samples of an emission as bytes, a frame's piece at a time.
+fn write_emission<K: Sink>(emission: &Emission, sink: &mut K) -> Result<(), Failed>
+    ensures ok { OnOk result (HasWritten (bytes_of (emitted_samples emission.now))
+        (K.told sink.old) (K.told sink.new)) }
+    ensures front { OnErr result (HasWrittenFront (bytes_of (emitted_samples emission.now))
+        (K.told sink.old) (K.told sink.new)) }
+    ensures full { OnErr result (IsShortOf (length (bytes_of (emitted_samples emission.now))) (K.told sink.old)) }
+    ensures fault { OnErr result (Rose (K.told sink.old).faults (K.told sink.new).faults) }
+    ensures never_falls { (K.told sink.old).faults ≤ (K.told sink.new).faults }
 {
-    let mut samples = silence(alloc, emission.samples as usize)?;
-    emit(emission, &mut samples);
-    sample_file::bytes_of(alloc, &samples)
-}
-
-// So many samples of silence.
-fn silence(alloc: Global, count: usize) -> Result<Vec<Sample>, AllocError>
-    ensures { IfOk result (λ samples. length samples.items ≡ count) }
-{
-    vec![in alloc; Sample { re: 0, im: 0 }; count]
+    let mut emitter = Emitter::new(emission);
+    while emitter.advance() {
+        match write_samples(sink, emitter.piece()) {
+            Ok(()) => {}
+            Err(Failed) => return Err(Failed),
+        }
+    }
+    Ok(())
 }

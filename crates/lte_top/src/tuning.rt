@@ -1,49 +1,49 @@
 //! Recordings turned.
 
-ghost use Rattle.std.specs.Prelude.{◌≤◌, IfOk, IfErr};
-ghost use Rattle.cs_outside.specs.Outside.{SourceTold};
+ghost use Rattle.std.specs.Prelude.{◌≤◌, IfOk, IfErr, OnOk};
+ghost use Rattle.cs_outside.specs.Outside.{SourceTold, SinkTold};
 ghost use Rattle.lte_top.specs.declared.form.Form.TheVariants.{Apply};
-ghost use Rattle.lte_top.specs.Forms.{recording};
-ghost use Rattle.lte_top.specs.Run.{Cause, HasOutput};
-ghost use Rattle.lte_top.specs.Tuning.{IsTurnedAsBytes};
+ghost use Rattle.lte_top.specs.Run.{IsDone, Ends};
+ghost use Rattle.lte_top.specs.Tuning.{IsTurned};
 
 use crate::form::Turn;
 use crate::reporting::recording_of;
 use crate::status::Status;
-use cs_outside::Source;
-use sample_file::{Recording, SampleForm, bytes_of};
+use cs_outside::{Failed, Sink, Source};
+use sample_file::{Recording, SampleForm, write_samples};
 use std::alloc::{AllocError, Global};
 use turning::{applied, turned};
 
-// The recording of a source, which is read to its end, as it is turned, as bytes of 16-bit numbers.
-pub(crate) fn turned_bytes<S: Source>(
+// Writes the recording of a source, which is read to its end, as it is turned, as bytes of 16-bit numbers. All memory
+// is taken before the first is written.
+pub(crate) fn apply_turn<S: Source, K: Sink>(
     alloc: Global,
     turn: Turn,
     form: SampleForm,
     source: &mut S,
-) -> Result<Vec<u8>, Status>
-    ensures ok { IfOk result (λ bytes.
-        HasOutput (Apply turn form) bytes.items (S.told source.old) (S.told source.new)) }
-    ensures err { IfErr result (Cause (recording form) (S.told source.old) (S.told source.new)) }
-    ensures never_falls { (S.told source.old).faults ≤ (S.told source.new).faults }
+    sink: &mut K,
+) -> Result<(), Status>
+    ensures done { OnOk result (IsDone (Apply turn form)
+        (S.told source.old, K.told sink.old) (S.told source.new, K.told sink.new)) }
+    ensures ended { IfErr result (Ends (Apply turn form)
+        (S.told source.old, K.told sink.old) (S.told source.new, K.told sink.new)) }
+    ensures reads { (S.told source.old).faults ≤ (S.told source.new).faults }
+    ensures writes { (K.told sink.old).faults ≤ (K.told sink.new).faults }
 {
     let recording = recording_of(alloc, form, source)?;
-    let bytes = bytes_of_turned(alloc, turn, &recording)?;
-    Ok(bytes)
+    let turned = turned_by(alloc, turn, &recording)?;
+    match write_samples(sink, turned.as_slice()) {
+        Ok(()) => Ok(()),
+        Err(Failed) => Err(Status::WriteFault),
+    }
 }
 
 // A recording as it is turned.
-fn bytes_of_turned(alloc: Global, turn: Turn, recording: &Recording) -> Result<Vec<u8>, AllocError>
-    ensures { IfOk result (λ bytes. IsTurnedAsBytes turn recording.now bytes.items) }
+fn turned_by(alloc: Global, turn: Turn, recording: &Recording) -> Result<Recording, AllocError>
+    ensures { IfOk result (IsTurned turn recording.now) }
 {
     match turn {
-        Turn::AsTold => {
-            let applied = applied(alloc, recording)?;
-            bytes_of(alloc, applied.as_slice())
-        }
-        Turn::Steps(m) => {
-            let turned = turned(alloc, recording, m)?;
-            bytes_of(alloc, turned.as_slice())
-        }
+        Turn::AsTold => applied(alloc, recording),
+        Turn::Steps(m) => turned(alloc, recording, m),
     }
 }
