@@ -1,6 +1,6 @@
 ghost use Rattle.std.specs.Prelude.{◌≡◌, ◌⊎◌, ◌<◌};
 
-use crs::{Pattern, SinglePort, pilots, single_pilots};
+use crs::{Pattern, UpperPort, pilots, upper_pilots};
 use cs_num::Cpx;
 use lte_types::{Carrier, CellId};
 use std::process::Abort;
@@ -122,17 +122,17 @@ fn ports_of_carriers_have_patterns(rt: HostRuntime) {
 }
 
 // The same of port 2 or 3 of four, in symbol 1.
-fn single_parts(rt: &impl Abort, port: SinglePort, identity: u16, slot: u8) -> [(u8, i64, i64); 12]
+fn upper_parts(rt: &impl Abort, port: UpperPort, identity: u16, slot: u8) -> [(u8, i64, i64); 12]
     requires slot { slot < 20 }
 {
     let id = CellId::new(identity).expect(rt, "in range");
-    single_pilots(port, id, slot).map(|(k, Cpx { re, im })| (k, re, im))
+    upper_pilots(port, id, slot).map(|(k, Cpx { re, im })| (k, re, im))
 }
 
 #[test]
 fn pilots_of_port_2_change_places(rt: HostRuntime) {
     assert!(rt;
-        single_parts(&rt, SinglePort::Third, 0, 0)
+        upper_parts(&rt, UpperPort::Third, 0, 0)
             == [
                 (0, 90, 90),
                 (6, 90, -90),
@@ -149,7 +149,7 @@ fn pilots_of_port_2_change_places(rt: HostRuntime) {
             ]
     );
     assert!(rt;
-        single_parts(&rt, SinglePort::Third, 0, 1)
+        upper_parts(&rt, UpperPort::Third, 0, 1)
             == [
                 (3, -90, -90),
                 (9, 90, -90),
@@ -170,7 +170,7 @@ fn pilots_of_port_2_change_places(rt: HostRuntime) {
 #[test]
 fn pilots_of_port_3_stand_between_them(rt: HostRuntime) {
     assert!(rt;
-        single_parts(&rt, SinglePort::Fourth, 0, 0)
+        upper_parts(&rt, UpperPort::Fourth, 0, 0)
             == [
                 (3, 90, 90),
                 (9, 90, -90),
@@ -187,7 +187,7 @@ fn pilots_of_port_3_stand_between_them(rt: HostRuntime) {
             ]
     );
     assert!(rt;
-        single_parts(&rt, SinglePort::Fourth, 503, 19)
+        upper_parts(&rt, UpperPort::Fourth, 503, 19)
             == [
                 (5, 90, -90),
                 (11, -90, -90),
