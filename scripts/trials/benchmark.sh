@@ -1,21 +1,24 @@
 #!/usr/bin/env bash
-# benchmark.sh [RUNS [OTHER]]
+# benchmark.sh [RUNS [OTHER [OTHER_TUNER]]]
 #
-# Times of each form of words on a fixed set of recordings, as one Markdown table: processor time (user and system) of whole
-# runs, the median of RUNS of them (5), the least in brackets, and the peak memory. OTHER is another program that takes
-# the same words, whose runs stand beside, by turns. The recordings are made in a temporary folder: by `transmit`, by
+# Times of each form of words of both programs on a fixed set of recordings, as two Markdown tables: processor time (user
+# and system) of whole runs, the median of RUNS of them (5), the least in brackets, and the peak memory. OTHER is another
+# program that takes the words of lte_cli, OTHER_TUNER one that takes those of lte_tune; their runs stand beside, by
+# turns. The recordings are made in a temporary folder: by `transmit` and `apply`, by
 # scripts/trials/benchmark/many_hits.c (with a C compiler, CC or cc; left out without one) and by Python 3. Each program
 # checks certificates that it wrote itself. A case whose first run takes more than 10 seconds is not repeated: its time
 # has a *.
 #
-# The program is crates/lte_cli/out/lte_cli; LTE_CLI names another.
+# The programs are crates/lte_cli/out/lte_cli and crates/lte_tune/out/lte_tune; LTE_CLI and LTE_TUNE name others.
 set -eu
 cd "$(dirname "$0")/../.."
 program=$(realpath -m "${LTE_CLI:-crates/lte_cli/out/lte_cli}")
+tuner=$(realpath -m "${LTE_TUNE:-crates/lte_tune/out/lte_tune}")
 runs=${1:-5}
 programs=("$program" ${2:+"$(realpath -m "$2")"})
-for one in "${programs[@]}"; do
-    [ -x "$one" ] || { echo "benchmark.sh: no program at $one; rt run in crates/lte_cli builds lte_cli" >&2; exit 1; }
+tuners=("$tuner" ${3:+"$(realpath -m "$3")"})
+for one in "${programs[@]}" "${tuners[@]}"; do
+    [ -x "$one" ] || { echo "benchmark.sh: no program at $one; rt run in its crate builds it" >&2; exit 1; }
 done
 scripts=$PWD/scripts
 room=$(mktemp -d)
@@ -45,10 +48,13 @@ for samples in 57600 1920000; do
     "$program" transmit < cell.$samples.json > cell.$samples
     describe 102 12345 $samples | "$program" transmit > further
     python3 "$scripts/tools/add_recordings.py" cell.$samples further > two.$samples
+    "$tuner" apply 128 < cell.$samples > turned.$samples
 done
+python3 -c 'import sys; sys.stdout.buffer.write(bytes(b ^ 128 for b in sys.stdin.buffer.read()[1::2]))' \
+    < cell.1920000 > bytes.1920000
 { cat noise.1920000; printf x; } > long
 
-recordings=(zeros.57600 noise.57600 cell.57600 two.57600 zeros.1920000 noise.1920000 cell.1920000 two.1920000)
+recordings=(zeros.57600 noise.57600 cell.57600 two.57600 noise.1920000 cell.1920000 two.1920000)
 if ${CC:-cc} -O2 -ffp-contract=off -o many_hits "$scripts/trials/benchmark/many_hits.c" -lm; then
     ./many_hits 256 4000 44 57600 noise 30000 > many.57600 2> /dev/null
     ./many_hits 256 4000 44 192000 noise 30000 > many.192000 2> /dev/null
@@ -78,10 +84,18 @@ done
             echo "$command $recording 0 $what, ${recording#*.} samples"
         done
     done
-    for form in evidence{,+--ports+2,+--prefix+long,+--ports+4} {hits,ids,evidence}+--json \
-        search{,+--ports+2,+--prefix+long,+--ports+4,+--cancel,+--all}+--json \
-        search+{--ports+2,--prefix+long,--ports+4,--cancel,--all}; do
+    for samples in 57600 1920000; do
+        for form in search+{--ports+2,--ports+4,--prefix+long,--cancel,--all} \
+            evidence{,+--ports+2,+--ports+4,+--prefix+long} certify+{--ports+2,--ports+4,--prefix+long}; do
+            echo "$form cell.$samples 0 one cell, $samples samples"
+        done
+    done
+    for form in {hits,ids,search,evidence}+--json {search,evidence}+{--ports+2,--ports+4,--prefix+long}+--json \
+        search+{--cancel,--all}+--json; do
         echo "$form cell.57600 0 one cell, 57600 samples"
+    done
+    for form in search certify evidence; do
+        echo "$form+--format+cu8 bytes.1920000 0 one cell in 8-bit numbers, 1920000 samples"
     done
     echo 'check certificate.{} 0 one certificate'
     echo 'check hundred.{} 0 100 certificates'
@@ -96,5 +110,27 @@ done
             done
         done
     done
+    for form in make+89{,+--ports+2,+--ports+4,+--prefix+long} help version; do
+        echo "$form /dev/null 0 none"
+    done
 } > cases
+
+{
+    for recording in noise.57600 noise.1920000 {cell,turned}.{57600,1920000}; do
+        case $recording in
+            noise.*) what=noise ;;
+            cell.*) what='one cell' ;;
+            *) what='one cell, 15 kHz off' ;;
+        esac
+        for form in tell{,+--json} apply{,+-128}; do
+            echo "$form $recording 0 $what, ${recording#*.} samples"
+        done
+    done
+    for form in help version; do
+        echo "$form /dev/null 0 none"
+    done
+} > tuner_cases
+
 python3 "$scripts/trials/benchmark/measure.py" "$runs" "${programs[@]}" < cases
+echo
+python3 "$scripts/trials/benchmark/measure.py" "$runs" "${tuners[@]}" < tuner_cases
