@@ -2,10 +2,10 @@
 """refused_memory.py [PROGRAM [TUNER]]
 
 Refuses each growth of memory of PROGRAM and TUNER in turn (crates/lte_cli/out/lte_cli and crates/lte_tune/out/lte_tune
-where they are left out), for every form of words on a valid input: the first allocation, then the second, until a run
-ends as without a refusal. Each run before has to end with code 8, its text and nothing written. Prints how many growths
-each form has, and what it found; the status is 0 where nothing was found. It takes a C compiler (CC or cc), and a
-program that takes its memory from the C library.
+where they are left out), for every form of words on a valid input: the first allocation, then the second, until there
+is none to refuse. That run has to end as without a refusal, and each before it with code 8, its text and nothing
+written. Prints how many growths each form has, and what it found; the status is 0 where nothing was found. It takes a C
+compiler (CC or cc), and a program that takes its memory from the C library.
 """
 import os
 import pathlib
@@ -19,10 +19,25 @@ CELL, TURNED = CRATES / "capture_example/stdin", CRATES / "lte_tune/stdin"
 MOST = 1000  # growths of one run
 
 
-def run(program, words, data, shim=None, refuse=0):
-    environment = {"LD_PRELOAD": str(shim), "REFUSE": str(refuse)} if shim else {}
-    done = subprocess.run([program, *words], input=data, capture_output=True, env=environment, check=False)
+def run(program, words, data):
+    done = subprocess.run([program, *words], input=data, capture_output=True, env={}, check=False)
     return done.returncode, done.stdout, done.stderr
+
+
+def run_refused(program, words, data, shim, number):
+    """The ending of a run whose growth of this number is refused, and whether there was one."""
+    with tempfile.TemporaryFile() as told:
+        environment = {"LD_PRELOAD": str(shim), "REFUSE": str(number), "TOLD": str(told.fileno())}
+        done = subprocess.run(
+            [program, *words],
+            input=data,
+            capture_output=True,
+            env=environment,
+            pass_fds=[told.fileno()],
+            check=False,
+        )
+        refused = os.fstat(told.fileno()).st_size > 0
+    return (done.returncode, done.stdout, done.stderr), refused
 
 
 def as_bytes(data):
@@ -80,9 +95,9 @@ def refusals(program, shim, words, data):
     if whole[0] != 0:
         return 0, [f"code {whole[0]} without a refusal"]
     for number in range(1, MOST):
-        ending = run(program, words, data, shim, number)
-        if ending == whole:
-            return number - 1, found
+        ending, refused = run_refused(program, words, data, shim, number)
+        if not refused:
+            return number - 1, found + ["another ending without a refusal"] * (ending != whole)
         if ending != (8, b"", os.path.basename(program).encode() + b": out of memory\n"):
             found.append(f"growth {number}: code {ending[0]}, {len(ending[1])} bytes, {ending[2][:60]!r}")
     return MOST, found + ["no end"]
