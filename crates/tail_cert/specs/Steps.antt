@@ -11,7 +11,8 @@ StepHolds cost from to = from ≢ unbounded → to ≤ from + cost
 -- the inequalities of both branches from a state, by a table of costs
 abbrev pub BothHold : List ℕ → ℕ → List ℕ → ℕ → Type 0
 BothHold costs from to x =
-    StepHolds (shared_cost costs x false) from (slice_index to (shift x false)) × StepHolds (shared_cost costs x true) from (slice_index to (shift x true))
+    StepHolds (shared_cost costs x false) from (slice_index to (shift x false))
+    × StepHolds (shared_cost costs x true) from (slice_index to (shift x true))
 
 -- the inequalities of all branches from one step to the next
 abbrev pub RowHolds : List ℕ → List ℕ → List ℕ → Type 0

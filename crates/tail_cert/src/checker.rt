@@ -1,6 +1,6 @@
 //! The check of a certificate.
 
-ghost use Rattle.std.specs.Prelude.{◌≡◌, ◌^◌, ◌<◌, ◌≤◌, ◌↔◌, ℕ, IsTrue, length, slice_index};
+ghost use Rattle.std.specs.Prelude.{◌≡◌, ◌+◌, ◌*◌, ◌^◌, ◌<◌, ◌≤◌, ◌↔◌, ℕ, IsTrue, length, slice_index};
 ghost use Rattle.finite.specs.Sizes.{RowsWithin};
 ghost use Rattle.conv_code.specs.Cost.{word_cost};
 ghost use Rattle.tail_cert.specs.Certificate.{from_any, from_state, IsAccepted, IsLowerBound, StartHolds, StepsHold};
@@ -9,7 +9,7 @@ ghost use Rattle.tail_cert.specs.Stored.{HaveRoom, shown_at};
 
 use crate::Certificate;
 use crate::certificate::{Table, has};
-use crate::costs::{PathCosts, StepCosts, cost_at, step_costs};
+use crate::costs::{PathCosts, StepCosts, cost_at, fill_costs};
 use conv_code::{against, encode};
 use cs_bits::Bits;
 use tailbite::next;
@@ -37,12 +37,21 @@ fn both_hold(costs: &StepCosts, from: u32, to: &[u32; 64], x: usize) -> bool
         && step_holds(cost_at(costs, x, true), from, to[next(x, true)])
 }
 
+/// Whether the inequalities of the branches from the states 2h and 2h + 1 hold.
+fn pair_holds(costs: &StepCosts, from: &[u32; 64], to: &[u32; 64], h: usize) -> bool
+    requires { h < 32 }
+    ensures { IsTrue result ↔ (BothHold costs.now (slice_index from.now (2 * h)) to.now (2 * h)
+        × BothHold costs.now (slice_index from.now (2 * h + 1)) to.now (2 * h + 1)) }
+{
+    both_hold(costs, from[2 * h], to, 2 * h) && both_hold(costs, from[2 * h + 1], to, 2 * h + 1)
+}
+
 /// Whether the inequalities of all branches of a step hold.
 fn row_holds(costs: &StepCosts, from: &[u32; 64], to: &[u32; 64]) -> bool
     ensures { IsTrue result ↔ RowHolds costs.now from.now to.now }
 {
-    for x in 0..STATES {
-        if !both_hold(costs, from[x], to, x) {
+    for h in 0..STATES / 2 {
+        if !pair_holds(costs, from, to, h) {
             return false;
         }
     }
@@ -53,12 +62,12 @@ fn row_holds(costs: &StepCosts, from: &[u32; 64], to: &[u32; 64]) -> bool
 fn steps_hold(costs: &PathCosts, first: &[u32; 64], table: &Table) -> bool
     ensures { IsTrue result ↔ StepsHold costs.now.values.now (λ x. slice_index first.now x) table.now }
 {
-    let mut from = *first;
+    let mut from = first;
     for i in 0..STEPS {
-        if !row_holds(&costs.steps[i], &from, &table[i]) {
+        if !row_holds(&costs.steps[i], from, &table[i]) {
             return false;
         }
-        from = table[i];
+        from = &table[i];
     }
     true
 }
@@ -127,7 +136,8 @@ fn tables_hold(
     ensures { IsTrue result ↔ (StepsHold values.now from_any general.now × ((s : ℕ) → s < 64 →
         StartHolds values.now cost general.now s (shown_at set.now tables.now s))) }
 {
-    let steps = step_costs(values);
+    let mut steps = [[0; 64]; 40];
+    fill_costs(values, &mut steps);
     let costs = PathCosts {
         values,
         steps: &steps,

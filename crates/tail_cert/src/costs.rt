@@ -62,16 +62,14 @@ fn costs_of(values: &[i32; 3]) -> StepCosts
     spread(&code_costs(values))
 }
 
-/// What the steps of all places cost.
-pub(crate) fn step_costs(values: &[[i32; 3]; 40]) -> [StepCosts; 40]
+/// Writes what the steps of all places cost.
+pub(crate) fn fill_costs(values: &[[i32; 3]; 40], tables: &mut [StepCosts; 40])
     requires { RowsWithin (2 ^ 20) values.now }
-    ensures { HaveCosts values.now result 40 }
+    ensures { HaveCosts values.now tables.new 40 }
 {
-    let mut costs = [[0; 64]; 40];
     for k in 0..40 {
-        costs[k] = costs_of(&values[k]);
+        tables[k] = costs_of(&values[k]);
     }
-    costs
 }
 
 /// What the step from state x by the bit b costs.

@@ -9,7 +9,7 @@ ghost use Rattle.tail_cert.specs.Stored.{AreStored, is_in};
 
 use crate::Certificate;
 use crate::certificate::{Table, has, make_tables};
-use crate::costs::{PathCosts, later_row, step_costs};
+use crate::costs::{PathCosts, fill_costs, later_row};
 use cs_bits::Bits;
 use tailbite::{Trellis, least};
 
@@ -110,7 +110,8 @@ pub fn fill(certificate: &mut Certificate, values: &[[i32; 3]; 40], work: &mut T
     ensures filled { IsFilled certificate.new }
 {
     let (word, cost) = least(values, work);
-    let steps = step_costs(values);
+    let mut steps = [[0; 64]; 40];
+    fill_costs(values, &mut steps);
     let costs = PathCosts {
         values,
         steps: &steps,

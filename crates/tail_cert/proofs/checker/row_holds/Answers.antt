@@ -1,8 +1,14 @@
-use Rattle.std.proofs.Common.{refl, below_more}
+use Rattle.std.proofs.Common.{◌≡◌, ◌+◌, ◌*◌, refl, arith, below_more}
 use Rattle.tail_cert.proofs.checker.row_holds.Goals as goal
 
-pub returns-then-not-both_hold : goal.returns-then-not-both_hold
-returns-then-not-both_hold c = ((λ h. cc), λ rows. c.if-not-both_hold.ensures.1 (rows c.loop-x.x c.loop-x-test.true))
+pub returns-then-not-pair_holds : goal.returns-then-not-pair_holds
+returns-then-not-pair_holds c = (
+  (λ h. cc),
+  λ rows. c.if-not-pair_holds.ensures.1 (rows (2 * c.loop-h.h) (omega (arith, c.loop-h-test.true)), rows (2 * c.loop-h.h + 1) (omega (arith, c.loop-h-test.true))),
+)
 
-pub loop-x-preserved : goal.loop-x-preserved
-loop-x-preserved c = below_more _ _ c.loop-x.invariant (c.if-not-both_hold.ensures.0 refl)
+pub loop-h-preserved : goal.loop-h-preserved
+loop-h-preserved c =
+    let pair = c.if-not-pair_holds.ensures.0 refl in
+    let e : 2 * (c.loop-h.h + 1) ≡ 2 * c.loop-h.h + 1 + 1 = omega arith in
+    rw e (below_more _ _ (below_more _ _ c.loop-h.invariant pair.0) pair.1)

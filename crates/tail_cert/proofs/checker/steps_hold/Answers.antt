@@ -15,7 +15,7 @@ returns-then-not-row_holds c = (
 pub loop-i-preserved : goal.loop-i-preserved
 loop-i-preserved c = (
   row_next c.args.first.now c.args.table.now c.loop-i.i,
-  holds_more c.args.costs.now.steps.now c.args.first.now c.args.table.now c.loop-i.from c.loop-i.i c.loop-i.invariant.0 (c.if-not-row_holds.ensures.0 refl) c.loop-i.invariant.1,
+  holds_more c.args.costs.now.steps.now c.args.first.now c.args.table.now c.loop-i.from.now c.loop-i.i c.loop-i.invariant.0 (c.if-not-row_holds.ensures.0 refl) c.loop-i.invariant.1,
 )
 
 pub returns : goal.returns
