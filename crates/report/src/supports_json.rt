@@ -17,9 +17,9 @@ use std::marker::Model;
 /// place times the conjugate of what was sent. (own)
 #[derive(Clone, Copy)]
 pub enum PortChannel {
-    /// The pilots of a port with reference signals in two symbols of a slot.
+    /// The pilots of port 0 or 1, which has reference signals in two symbols of a slot.
     Lower([Cpx; 24]),
-    /// Those of a port with reference signals in one symbol.
+    /// Those of port 2 or 3, which has them in one symbol.
     Upper([Cpx; 12]),
 }
 
