@@ -1,25 +1,23 @@
 -- The ports of a carrier in one frame, and sums that are made of them port by port.
-use Rattle.std.proofs.Common.{◌≡◌, ℕ, ◌+◌, ◌*◌, ◌%◌, ◌<◌, ◌≤◌, Bool, true, List, slice_index_or, arith, refl, sym, subst, ap, ◌∙◌}
+use Rattle.std.proofs.Common.{◌≡◌, ℕ, ◌+◌, ◌*◌, ◌%◌, ◌<◌, ◌≤◌, Bool, true, List, slice_index_or, arith, sym, subst, ap, ◌∙◌}
 use Rattle.std.proofs.Math.Path.{fun_ext}
-use Rattle.std.specs.Prelude.{Option}
 use Rattle.cs_num.specs.declared.Cpx.{Cpx}
 use Rattle.cs_num.specs.declared.Sample.{Sample}
 use Rattle.cs_num.specs.Complex.{IsWithin, nothing, silence, square, plus, times, value_at, value_of, sample_of}
 use Rattle.cs_num.proofs.Complex.{plus-nothing, plus-associates, within_more}
 use Rattle.lte_types.specs.declared.carrier.Carrier.{Carrier}
-use Rattle.lte_types.specs.declared.carrier.Carrier.TheVariants.{OnePort, TwoPorts, LongPrefix, FourPorts}
+use Rattle.lte_types.specs.declared.carrier.Carrier.TheVariants.{TwoPorts, FourPorts}
 use Rattle.lte_types.specs.Timing.{number_of}
 use Rattle.cell_tx.specs.declared.antenna.Port.{Port}
 use Rattle.cell_tx.specs.declared.antenna.Port.TheVariants.{First, Second, OfFour}
 use Rattle.cell_tx.specs.declared.antenna.PortOfFour.{PortOfFour}
 use Rattle.cell_tx.specs.declared.antenna.PortOfFour.TheVariants.{Zero, One, Two, Three}
-use Rattle.cell_tx.specs.declared.cell.CellPlan.{CellPlan}
 use Rattle.cell_tx.specs.declared.emission.Emission.{Emission}
 use Rattle.cell_tx.specs.Ports.{port_prefix}
 use Rattle.cell_tx.specs.Load.{sent_element}
 use Rattle.cell_tx.specs.Clean.{AreGainsOf, AreGainsOfFour, power_of_four}
-use Rattle.cell_tx.specs.Emission.{sent_by, received_by, emitted}
-use Rattle.cell_tx.specs.Emitting.{sent_in_frame, mixed, framed, AreChanged, added, HaveRoom, AreSilent}
+use Rattle.cell_tx.specs.Emission.{mixed, emitted}
+use Rattle.cell_tx.specs.Emitting.{sent_in_frame, framed, AreChanged, added, HaveRoom, AreSilent}
 use Rattle.cell_tx.proofs.Bounds.{amplified, sent_element-square, frame-square}
 use Rattle.cell_tx.proofs.Received.{IsSumOf, product_is, sum_is, sum_fits, first_most, received-small}
 use Rattle.cell_tx.proofs.Symbols.{prefix_sent_is}
@@ -27,17 +25,9 @@ use Rattle.cell_tx.proofs.Changes.{changed_there, changed_alike, changed_twice}
 
 -- ---- a sample of an emission is one of a frame
 
-received_is : (carrier : Carrier) (load : Option ℕ) (plan : CellPlan) (sfn offset : ℕ) (gains : List Cpx) (i : ℕ)
-    → received_by carrier load plan sfn offset gains i ≡ mixed carrier (λ port. sent_by load port plan sfn (i + offset)) gains
-received_is OnePort load plan sfn offset gains i = refl
-received_is TwoPorts load plan sfn offset gains i = refl
-received_is LongPrefix load plan sfn offset gains i = refl
-received_is FourPorts load plan sfn offset gains i = refl
-
 pub emitted_is : (e : Emission) (i : ℕ) → emitted e i ≡ framed e (number_of e.timing.sfn (i + e.timing.offset)) ((i + e.timing.offset) % 19200)
 emitted_is e i =
-    received_is e.carrier e.load e.cell e.timing.sfn e.timing.offset e.gains i
-    ∙ ap (λ (f : Port → Cpx). mixed e.carrier f e.gains)
+    ap (λ (f : Port → Cpx). mixed e.carrier f e.gains)
     (fun_ext (λ port. prefix_sent_is (port_prefix port) (sent_element e.load port e.cell) e.timing.sfn (i + e.timing.offset)))
 
 -- ---- what a port adds

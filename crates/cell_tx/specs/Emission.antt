@@ -4,32 +4,38 @@ use Rattle.std.specs.Prelude.{ℕ, ◌+◌, ◌≤◌, Option, List}
 use Rattle.finite.specs.Lists.{values_below}
 use Rattle.cs_num.specs.declared.Cpx.{Cpx}
 use Rattle.cs_num.specs.declared.Sample.{Sample}
-use Rattle.cs_num.specs.Complex.{times, value_at, sample_of}
+use Rattle.cs_num.specs.Complex.{plus, times, value_at, sample_of}
 use Rattle.lte_types.specs.Timing.{IsOffset}
 use Rattle.lte_types.specs.declared.carrier.Carrier.{Carrier}
 use Rattle.lte_types.specs.declared.carrier.Carrier.TheVariants.{OnePort, TwoPorts, LongPrefix, FourPorts}
 use Rattle.cell_tx.specs.declared.antenna.Port.{Port}
 use Rattle.cell_tx.specs.declared.antenna.Port.TheVariants.{Only, First, Second, Long, OfFour}
+use Rattle.cell_tx.specs.declared.antenna.PortOfFour.TheVariants.{Zero, One, Two, Three}
 use Rattle.cell_tx.specs.declared.cell.CellPlan.{CellPlan}
 use Rattle.cell_tx.specs.declared.emission.Emission.{Emission}
 use Rattle.cell_tx.specs.Ports.{port_prefix}
 use Rattle.cell_tx.specs.Load.{sent_element}
 use Rattle.cell_tx.specs.Sent.{prefix_sent}
-use Rattle.cell_tx.specs.Clean.{AreNear, received_of_two, received_of_four, AreGainsOf, IsAllowedBy}
+use Rattle.cell_tx.specs.Clean.{AreNear, AreGainsOf, IsAllowedBy}
 
 -- sample i of what a port sends from the frame numbered sfn on
 abbrev pub sent_by : Option ℕ → Port → CellPlan → ℕ → ℕ → Cpx
 sent_by load port plan sfn i = prefix_sent (port_prefix port) (sent_element load port plan) sfn i
 
--- what is received of all ports of a carrier, from the sample at offset on, by a channel that is one number for each
+-- what is received of all ports of a carrier that send these values, by a channel that is one number for each
+abbrev pub mixed : Carrier → (Port → Cpx) → List Cpx → Cpx
+mixed OnePort values gains = times (value_at gains 0) (values Only)
+mixed TwoPorts values gains = plus (times (value_at gains 0) (values First)) (times (value_at gains 1) (values Second))
+mixed LongPrefix values gains = times (value_at gains 0) (values Long)
+mixed FourPorts values gains =
+    plus
+    (plus (times (value_at gains 0) (values (OfFour Zero))) (times (value_at gains 1) (values (OfFour One))))
+    (plus (times (value_at gains 2) (values (OfFour Two))) (times (value_at gains 3) (values (OfFour Three))))
+
+-- the same of what they send from the sample at offset on
 abbrev pub received_by : Carrier → Option ℕ → CellPlan → ℕ → ℕ → List Cpx → ℕ → Cpx
-received_by OnePort load plan sfn offset gains i = times (value_at gains 0) (sent_by load Only plan sfn (i + offset))
-received_by TwoPorts load plan sfn offset gains i =
-    received_of_two (sent_by load First plan sfn) (sent_by load Second plan sfn) offset (value_at gains 0)
-    (value_at gains 1) i
-received_by LongPrefix load plan sfn offset gains i = times (value_at gains 0) (sent_by load Long plan sfn (i + offset))
-received_by FourPorts load plan sfn offset gains i =
-    received_of_four (λ port. sent_by load (OfFour port) plan sfn) offset gains i
+received_by carrier load plan sfn offset gains i =
+    mixed carrier (λ port. sent_by load port plan sfn (i + offset)) gains
 
 -- what is received of an emission without errors
 abbrev pub emitted : Emission → ℕ → Cpx

@@ -3,20 +3,18 @@ use Rattle.std.specs.Prelude.{◌≡◌, ℕ, ◌+◌, ◌-◌, ◌*◌, ◌%◌
 use Rattle.std.specs.Prelude.{if◌then◌else◌, Option, List, length, take, drop, slice_index_or}
 use Rattle.cs_num.specs.declared.Cpx.{Cpx}
 use Rattle.cs_num.specs.declared.Sample.{Sample}
-use Rattle.cs_num.specs.Complex.{IsWithin, times, plus, value_at, sample_at, value_of, sample_of, silence}
+use Rattle.cs_num.specs.Complex.{IsWithin, times, plus, sample_at, value_of, sample_of, silence}
 use Rattle.lte_types.specs.declared.carrier.Carrier.{Carrier}
-use Rattle.lte_types.specs.declared.carrier.Carrier.TheVariants.{OnePort, TwoPorts, LongPrefix, FourPorts}
 use Rattle.lte_types.specs.declared.numerology.Prefix.{Prefix}
 use Rattle.lte_types.specs.Carrier.{prefix_of}
 use Rattle.lte_types.specs.Numerology.{frame_length, symbols_of_slot}
 use Rattle.lte_types.specs.Timing.{number_of}
 use Rattle.cell_tx.specs.declared.antenna.Port.{Port}
-use Rattle.cell_tx.specs.declared.antenna.Port.TheVariants.{Only, First, Second, Long, OfFour}
-use Rattle.cell_tx.specs.declared.antenna.PortOfFour.TheVariants.{Zero, One, Two, Three}
 use Rattle.cell_tx.specs.declared.cell.CellPlan.{CellPlan}
 use Rattle.cell_tx.specs.declared.emission.Emission.{Emission}
 use Rattle.cell_tx.specs.declared.made_symbols.Symbols.{Symbols}
 use Rattle.cell_tx.specs.Ports.{carrier_of, port_prefix}
+use Rattle.cell_tx.specs.Emission.{mixed}
 use Rattle.cell_tx.specs.Load.{sent_element}
 use Rattle.cell_tx.specs.Rows.{first_sample}
 use Rattle.cell_tx.specs.Sent.{prefix_frame_sample}
@@ -26,16 +24,6 @@ use Rattle.cell_tx.specs.Sent.{prefix_frame_sample}
 -- sample i of the frame with number n, as a port sends it
 abbrev pub sent_in_frame : Option ℕ → Port → CellPlan → ℕ → ℕ → Cpx
 sent_in_frame load port plan n i = prefix_frame_sample (port_prefix port) (sent_element load port plan) n i
-
--- what is received of all ports of a carrier that send these values
-abbrev pub mixed : Carrier → (Port → Cpx) → List Cpx → Cpx
-mixed OnePort values gains = times (value_at gains 0) (values Only)
-mixed TwoPorts values gains = plus (times (value_at gains 0) (values First)) (times (value_at gains 1) (values Second))
-mixed LongPrefix values gains = times (value_at gains 0) (values Long)
-mixed FourPorts values gains =
-    plus
-    (plus (times (value_at gains 0) (values (OfFour Zero))) (times (value_at gains 1) (values (OfFour One))))
-    (plus (times (value_at gains 2) (values (OfFour Two))) (times (value_at gains 3) (values (OfFour Three))))
 
 -- sample i of the frame with number n, as it is received
 abbrev pub framed : Emission → ℕ → ℕ → Cpx
@@ -102,8 +90,8 @@ AreSilent there samples = (i : ℕ) → i < frame_length → there i ≡ true �
 
 -- ---- one piece after the other
 
--- what is made, and how far: of these samples the last piece begins at from, and the next one at at; the first frame
--- begins so many samples before
+-- what is made, and how far: in these samples the last piece stands from number `from` on, and the next one from number
+-- `at` on; the first frame begins `offset` samples before them
 pub record Progress : Type 0 where
   pub samples : List Sample
   pub offset : ℕ

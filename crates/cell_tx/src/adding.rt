@@ -16,7 +16,7 @@ use cs_num::{Cpx, Sample};
 use lte_types::SLOT_LENGTH;
 
 // A sample of silence.
-const SILENCE: Sample = Sample { re: 0, im: 0 };
+pub(crate) const SILENCE: Sample = Sample { re: 0, im: 0 };
 
 // Where symbol l of a slot begins.
 fn first_in_slot(port: Port, l: usize) -> usize

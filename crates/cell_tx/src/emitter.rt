@@ -7,7 +7,7 @@ ghost use Rattle.lte_types.specs.Carrier.{prefix_of};
 ghost use Rattle.cell_tx.specs.Ports.{carrier_of};
 ghost use Rattle.cell_tx.specs.Rows.{IsLayout, AreVersions};
 
-use crate::adding::{add_symbols, clear_symbols};
+use crate::adding::{SILENCE, add_symbols, clear_symbols};
 use crate::grid::Signals;
 use crate::layout::{Layout, Versions, layout_of, versions_of};
 use crate::made_symbols::{Symbols, symbols_at};
@@ -153,7 +153,8 @@ impl<'a> Station<'a> {
 }
 
 /// Makes the samples of an emission piece by piece: those of a frame at a time, of which it holds one. The samples that
-/// every frame has are not made again. (own)
+/// every frame has are not made again. Contracts see it as the emission's samples and the places from which the last
+/// piece and the next one stand in them. (own)
 #[derive(Drop)]
 pub struct Emitter<'a> {
     station: Station<'a>,
@@ -192,14 +193,14 @@ impl<'a> Emitter<'a> {
     {
         Emitter {
             station: Station::new(emission),
-            frame: [Sample { re: 0, im: 0 }; FRAME_LENGTH],
+            frame: [SILENCE; FRAME_LENGTH],
             from: 0,
             at: 0,
         }
     }
 
-    /// Makes the next piece, up to the end of the frame that it begins in or of the emission. There is none where all
-    /// samples were made.
+    /// Makes the next piece, up to the end of the frame that it begins in or of the emission, and tells whether there
+    /// is one: there is none where all samples were made.
     pub fn advance(&mut self) -> bool
         ensures samples { self.new.samples ≡ self.old.samples }
         ensures offset { self.new.offset ≡ self.old.offset }

@@ -6,8 +6,8 @@ ghost use Rattle.cell_tx.specs.Emitting.{AreInOrder, AreAll, AreOwn};
 
 use lte_types::Carrier;
 
-/// Some symbols of a frame, by their numbers in it: those from `first` up to `last`, and those from `again` up to
-/// `end`.
+/// Some symbols of a frame, by their numbers in it: those from `first` on before `last`, and those from `again` on
+/// before `end`.
 #[derive(Clone, Copy)]
 pub(crate) struct Symbols {
     pub first: usize,

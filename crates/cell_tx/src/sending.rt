@@ -13,7 +13,7 @@ ghost use Rattle.cell_tx.specs.Sending.{elements_of, sample_in, sample_by, scale
 ghost use Rattle.cell_tx.specs.Sent.{prefix_slot_sample, sent, received};
 ghost use Rattle.cell_tx.specs.Emitting.{AreFrameOf};
 
-use crate::adding::put_symbols;
+use crate::adding::{SILENCE, put_symbols};
 use crate::emitting::put_piece;
 use crate::grid::{Signals, useful_of};
 use crate::layout::{Layout, Versions, carried_of, layout_of, versions_of};
@@ -158,7 +158,8 @@ fn enter(
     put_symbols(&signals, gain, &symbols, frame);
 }
 
-// Puts the samples of a frame from a place on into samples from another on, as many as both have.
+// Puts the samples of a frame from a place on into samples from another on, as many as both have, and gives their
+// number.
 fn put_part(frame: &[Sample], start: usize, at: usize, out: &mut [Sample]) -> usize
     requires frame { length frame.now ≡ frame_length }
     requires start { start < frame_length }
@@ -180,7 +181,7 @@ fn fill(sender: &Sender, gain: &Cpx, out: &mut [Sample])
 {
     let layout = layout_of(sender.cell, sender.port);
     let versions = versions_of(sender.cell);
-    let mut frame = [Sample { re: 0, im: 0 }; FRAME_LENGTH];
+    let mut frame = [SILENCE; FRAME_LENGTH];
     let mut at = 0;
     while at < out.len() {
         enter(sender, gain, &layout, &versions, at, &mut frame);

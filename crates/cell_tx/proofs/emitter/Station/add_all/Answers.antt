@@ -7,7 +7,8 @@ use Rattle.cs_num.specs.Complex.{sample_of}
 use Rattle.cell_tx.specs.declared.antenna.Port.TheVariants.{Only, Long}
 use Rattle.cell_tx.specs.declared.emission.Emission.{Emission}
 use Rattle.cell_tx.specs.declared.made_symbols.Symbols.{Symbols}
-use Rattle.cell_tx.specs.Emitting.{is_in, AreChanged, AreSilent, mixed}
+use Rattle.cell_tx.specs.Emission.{mixed}
+use Rattle.cell_tx.specs.Emitting.{is_in, AreChanged, AreSilent}
 use Rattle.cell_tx.proofs.Mixing.{heard, room_alone, alone_made}
 use Rattle.cell_tx.proofs.emitter.Station.add_all.Goals as goal
 

@@ -5,7 +5,8 @@ use Rattle.lte_types.specs.Carrier.{prefix_of}
 use Rattle.cs_num.specs.Complex.{sample_of}
 use Rattle.cell_tx.specs.declared.antenna.Port.TheVariants.{OfFour}
 use Rattle.cell_tx.specs.declared.antenna.PortOfFour.TheVariants.{Zero}
-use Rattle.cell_tx.specs.Emitting.{is_in, AreChanged, mixed}
+use Rattle.cell_tx.specs.Emission.{mixed}
+use Rattle.cell_tx.specs.Emitting.{is_in, AreChanged}
 use Rattle.cell_tx.proofs.Mixing.{heard, room_alone, room_for_one, room_for_two, room_for_three, four_made}
 use Rattle.cell_tx.proofs.emitter.Station.add_four.Goals as goal
 

@@ -4,7 +4,8 @@ use Rattle.lte_types.specs.declared.carrier.Carrier.TheVariants.{TwoPorts}
 use Rattle.lte_types.specs.Carrier.{prefix_of}
 use Rattle.cs_num.specs.Complex.{sample_of}
 use Rattle.cell_tx.specs.declared.antenna.Port.TheVariants.{First}
-use Rattle.cell_tx.specs.Emitting.{is_in, AreChanged, mixed}
+use Rattle.cell_tx.specs.Emission.{mixed}
+use Rattle.cell_tx.specs.Emitting.{is_in, AreChanged}
 use Rattle.cell_tx.proofs.Mixing.{heard, room_alone, room_for_second, two_made}
 use Rattle.cell_tx.proofs.emitter.Station.add_two.Goals as goal
 
