@@ -74,12 +74,8 @@ turned_output turn form samples turned before now h is = record {
   bytes = h.input;
   whole = h.read;
   unrefused = recording_unrefused form samples before now h;
-  is_output = subst (λ s. IsTurnedAsBytes turn s (bytes_of turned)) h.samples (as_bytes turn is);
+  is_output = subst (λ s. IsTurnedAsBytes turn s (bytes_of turned)) h.samples (record { samples = turned; are = is; bytes = refl });
 }
-  where
-    as_bytes : (turn : Turn) → IsTurned turn samples turned → IsTurnedAsBytes turn samples (bytes_of turned)
-    as_bytes AsTold is = record { samples = turned; are = is; bytes = refl }
-    as_bytes (Steps m) is = ap bytes_of is
 
 pub applied_done : (turn : Turn) (form : SampleForm) (samples turned written : List Sample) (before now : Outside) → HasReadRecording form samples before.0 now.0 →
     IsTurned turn samples turned → written ≡ turned → HasWritten (bytes_of written) before.1 now.1 → IsDone (Apply turn form) before now

@@ -65,4 +65,4 @@ one_report Tell output samples first second a b = one_telling output samples fir
 
 pub one_turned : (turn : Turn) (samples : List Sample) (first second : List ℕ) → IsTurnedAsBytes turn samples first → IsTurnedAsBytes turn samples second → first ≡ second
 one_turned AsTold samples first second a b = a.bytes ∙ ap bytes_of (is_one_applied samples a.samples b.samples a.are b.are) ∙ sym b.bytes
-one_turned (Steps m) samples first second a b = a ∙ sym b
+one_turned (Steps m) samples first second a b = a.bytes ∙ ap bytes_of (a.are ∙ sym b.are) ∙ sym b.bytes

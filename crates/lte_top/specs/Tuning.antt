@@ -20,5 +20,4 @@ pub record IsBytesOf (Are : List Sample → Type 0) (output : List ℕ) : Type 0
 
 -- the recording as it is turned, as bytes
 abbrev pub IsTurnedAsBytes : Turn → List Sample → List ℕ → Type 0
-IsTurnedAsBytes AsTold samples output = IsBytesOf (IsApplied samples) output
-IsTurnedAsBytes (Steps m) samples output = output ≡ bytes_of (turned samples m)
+IsTurnedAsBytes turn samples output = IsBytesOf (IsTurned turn samples) output

@@ -31,6 +31,7 @@ struct Rooms {
 
 // Writes the certificates of a source's recording: one for each entry of the list of a carrier, in order. All
 // memory is taken before the first is written.
+#[inline(never)]
 pub(crate) fn certify_recording<S: Source, K: Sink>(
     alloc: Global,
     carrier: Carrier,
@@ -88,6 +89,7 @@ fn certify_list<K: Sink>(
 }
 
 // The text of the answers to the certificates of a source, which are read to the end of the input.
+#[inline(never)]
 pub(crate) fn answers_text<S: Source>(alloc: Global, source: &mut S) -> Result<String, Status>
     ensures ok { IfOk result (λ text.
         HasOutput Check (string_bytes text) (S.told source.old) (S.told source.new)) }

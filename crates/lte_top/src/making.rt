@@ -26,6 +26,7 @@ pub(crate) struct SentCell {
 }
 
 // The line of recording number n of a carrier, and the text of its list. Nothing is read.
+#[inline(never)]
 pub(crate) fn made_text(alloc: Global, carrier: Carrier, n: u32) -> Result<String, AllocError>
     ensures { IfOk result (λ text. IsMadeText carrier n (string_bytes text)) }
 {

@@ -30,6 +30,7 @@ use std::alloc::{AllocError, Global};
 use turning::{tell_json, tell_text};
 
 // The text of a report about the recording of a source, which is read to its end.
+#[inline(never)]
 pub(crate) fn report_text<S: Source>(
     alloc: Global,
     report: Report,

@@ -87,7 +87,8 @@ fn run_words<S: Source, K: Sink>(
     }
 }
 
-// Runs a form: reads its input, makes its output, and writes it.
+// Runs a form: reads its input, makes its output, and writes it. The calls are not inlined, so that a run takes no stack
+// for other forms than its own.
 fn run_form<S: Source, K: Sink>(
     alloc: Global,
     form: Form,

@@ -24,6 +24,7 @@ const MOST_BYTES: usize = 65_536;
 
 // Writes the samples, with this load or without, of the cell that a source describes by a carrier. The source is read
 // to its end before the first is written, and no memory is taken after it.
+#[inline(never)]
 pub(crate) fn transmit<S: Source, K: Sink>(
     alloc: Global,
     carrier: Carrier,

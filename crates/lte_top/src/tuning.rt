@@ -16,6 +16,7 @@ use turning::{applied, turned};
 
 // Writes the recording of a source, which is read to its end, as it is turned, as bytes of 16-bit numbers. All memory
 // is taken before the first is written.
+#[inline(never)]
 pub(crate) fn apply_turn<S: Source, K: Sink>(
     alloc: Global,
     turn: Turn,
