@@ -30,10 +30,11 @@ bit_of_item coded p = slice_index_or (slice_index_or coded p.index []) p.stream 
 unfoldable pub summed_by : (ℕ → Item) → ℕ → List ℤ → List (List ℤ)
 summed_by reading n values = values_below n (λ p. values_below 3 (λ t. summed_at reading values (length values) t p))
 
--- the same of values that begin with bit 0 of the endless reading
+-- at each of n indices and three streams, the sum of the values that the endless reading maps to it from its bit 0 on
 abbrev pub summed : ℕ → List ℤ → List (List ℤ)
 summed n values = summed_by (item_of n) n values
 
--- and of values that begin with bit `first` of it
+-- at each of n indices and three streams, the sum of the values that the endless reading maps to it from its bit
+-- `first` on
 abbrev pub summed_from : ℕ → ℕ → List ℤ → List (List ℤ)
 summed_from first n values = summed_by (λ i. item_of n (first + i)) n values

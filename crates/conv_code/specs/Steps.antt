@@ -16,7 +16,7 @@ placed_sum n first values m t p =
     sum_below m
     (λ i. cond (nat_eq (stream_of n (first + i)) t && nat_eq (place_of n (first + i)) p) (slice_index_or values i (pos 0)) (pos 0))
 
--- a table has them for the first m values, and none is large
+-- a table has the sums of the first m values by stream and place, and none is large
 pub record HasPlacedSums (n first : ℕ) (values : List ℤ) (m : ℕ) (sums : List (List ℤ)) : Type 0 where
   pub streams : length sums ≡ 3
   pub places : (t : ℕ) → t < 3 → length (slice_index_or sums t []) ≡ n

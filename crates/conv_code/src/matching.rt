@@ -69,7 +69,8 @@ pub fn combine_from<const N: usize>(first: usize, values: &[i16]) -> [[i32; 3]; 
     by_index(&by_place(first, values))
 }
 
-/// The same of values that begin with bit 0 of the reading: in each round of it one value for an item.
+/// At each index of a coded word the sum of the values that the endless reading maps to it, from its bit 0 on: in
+/// each round of the reading one value for an item.
 pub fn combine<const N: usize>(values: &[i16]) -> [[i32; 3]; N]
     requires low { 6 ≤ N }
     requires high { N ≤ 64 }
@@ -168,7 +169,7 @@ fn sums_at<const N: usize>(placed: &[[i32; N]; 3], p: usize) -> [i32; 3]
     [placed[0][p], placed[1][p], placed[2][p]]
 }
 
-// The same sums by the index of each place.
+// The sums of the three streams at each index, by those at each place in the order of the reading.
 fn by_index<const N: usize>(placed: &[[i32; N]; 3]) -> [[i32; 3]; N]
     requires high { N ≤ 64 }
     requires room { (t p : ℕ) → t < 3 → p < N → nat_abs (sum_at placed.now t p) ≤ 2 ^ 30 }

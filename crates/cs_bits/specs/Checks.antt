@@ -11,7 +11,7 @@ crc16_of message = number (remainder 16 generator_16 message)
 unfoldable pub crc24a_of : List Bool → ℕ
 crc24a_of message = number (remainder 24 generator_24a message)
 
--- what stands before a check of so many bits
+-- the message before a check of a number of bits
 abbrev pub message_of : ℕ → List Bool → List Bool
 message_of width word = take (length word - width) word
 

@@ -46,7 +46,7 @@ square a = nat_abs a.re * nat_abs a.re + nat_abs a.im * nat_abs a.im
 abbrev pub size : Cpx → ℕ
 size a = max (nat_abs a.re) (nat_abs a.im)
 
--- both components have at most this size
+-- the real and the imaginary part of a number have at most this size
 pub record IsWithin (bound : ℕ) (a : Cpx) : Type 0 where
   pub re : nat_abs a.re ≤ bound
   pub im : nat_abs a.im ≤ bound

@@ -13,7 +13,7 @@ floor_div (negsuc n) d = negsuc (n / d)
 abbrev pub round_shifted : ℤ → ℕ → ℤ
 round_shifted x bits = floor_div (x +ℤ pos (2 ^ (bits - 1))) (2 ^ bits)
 
--- the same of both components
+-- a complex number divided by 2 ^ bits, each part rounded to the nearest, halves up
 abbrev pub rounded : Cpx → ℕ → Cpx
 rounded a bits = record { re = round_shifted a.re bits; im = round_shifted a.im bits }
 
@@ -21,7 +21,7 @@ rounded a bits = record { re = round_shifted a.re bits; im = round_shifted a.im 
 abbrev pub rounded_quotient : ℤ → ℕ → ℤ
 rounded_quotient x d = floor_div (pos 2 *ℤ x +ℤ pos d) (2 * d)
 
--- the same of both components
+-- a complex number divided by d, each part rounded to the nearest, halves up
 abbrev pub quotient : Cpx → ℕ → Cpx
 quotient a d = record { re = rounded_quotient a.re d; im = rounded_quotient a.im d }
 

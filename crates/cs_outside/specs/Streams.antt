@@ -6,7 +6,7 @@ use Rattle.cs_outside.specs.Outside.{SourceTold, SinkTold}
 
 -- ---- reading
 
--- these bytes and then those that are left now are what was left before, where that is told
+-- what was left before is these bytes and then what is left now, where that is told
 abbrev pub AreNext : List ℕ → SourceTold → SourceTold → Type 0
 AreNext bytes before now = before.left ≡ option_map (λ rest. bytes ++ rest) now.left
 

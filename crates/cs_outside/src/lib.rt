@@ -26,7 +26,7 @@ pub struct Failed;
 
 /// A source of bytes.
 pub trait Source {
-    /// What it tells: the bytes that are left, or nothing of them, and its count of faults, from 0 to
+    /// What the source tells: the bytes that are left, or nothing of them, and its count of faults, from 0 to
     /// 2^64 - 1, where it stays.
     ghost told: { Self → SourceTold };
 
@@ -46,8 +46,8 @@ pub trait Source {
 
 /// A sink of bytes.
 pub trait Sink {
-    /// What it tells: the bytes that it took and the room that is left, or nothing of them, and its
-    /// count of faults, from 0 to 2^64 - 1, where it stays.
+    /// What the sink tells: the bytes that it took and the room that is left, or nothing of them, and its count of
+    /// faults, from 0 to 2^64 - 1, where it stays.
     ghost told: { Self → SinkTold };
 
     /// Takes one or more of the first bytes of `piece`, which is not empty, and gives their number.

@@ -10,7 +10,7 @@ use thiserror::Error;
 /// Why an input was not read whole.
 #[derive(Clone, Copy, Debug, PartialEq, Eq, Error)]
 pub enum ReadError {
-    /// It is longer than the limit.
+    /// The input is longer than the limit.
     #[error("too long")]
     TooLong,
     /// A call of the source failed.

@@ -25,11 +25,11 @@ abbrev pub step_shows : Sent → (ℕ → Bool) → ℕ → List Bool → ℕ �
 step_shows sent known k word j =
     ((not (nat_eq j k) && bit_at word j) && (sent.information j || known j)) || (parity word j && sent.parity j)
 
--- tail step j does
+-- tail step j shows a bit 1 that is sent
 abbrev pub tail_shows : Sent → List Bool → ℕ → Bool
 tail_shows sent word j = (tail_x word j && sent.tail (2 * j)) || (tail_z word j && sent.tail (2 * j + 1))
 
--- some step of a word of n bits does
+-- some step of a word of n bits, or of its tail, shows a bit 1 that is sent or known: not bit k of the word
 abbrev pub shows : ℕ → Sent → (ℕ → Bool) → ℕ → List Bool → Bool
 shows n sent known k word = any_below n (step_shows sent known k word) || any_below 3 (tail_shows sent word)
 
@@ -58,11 +58,11 @@ second_sent row sent = record {
 abbrev pub first_found : Row → (ℕ → ℕ → Bool) → (ℕ → Bool) → ℕ → Bool
 first_found row sent known = found row.k (first_sent row sent) known
 
--- those that the second finds, which works in its own order
+-- the bits that the second decoder, which works in its own order, finds by those that are known
 abbrev pub second_found : Row → (ℕ → ℕ → Bool) → (ℕ → Bool) → ℕ → Bool
 second_found row sent known k = found row.k (second_sent row sent) (λ i. known (interleaver row i)) (step_of row k)
 
--- those that the second decoder found in the last of n iterations, in each of which it knows what the first found
+-- the bits that the second decoder found in the last of n iterations, in each of which it knows what the first found
 unfoldable pub known_after : Row → (ℕ → ℕ → Bool) → ℕ → ℕ → Bool
 known_after row sent zero k = false
 known_after row sent (suc n) k = second_found row sent (first_found row sent (known_after row sent n)) k
@@ -71,21 +71,22 @@ known_after row sent (suc n) k = second_found row sent (first_found row sent (kn
 abbrev pub settled : Row → (ℕ → ℕ → Bool) → ℕ → ℕ → Bool
 settled row sent n k = (sent 0 k || first_found row sent (known_after row sent n) k) || known_after row sent (suc n) k
 
--- it settles every bit
+-- the iteration after n others settles every bit
 abbrev pub settles_all : Row → (ℕ → ℕ → Bool) → ℕ → Bool
 settles_all row sent n = every_below row.k (settled row sent n)
 
--- the word that it leaves: the sent word, with 0 at every bit that is not settled
+-- the word that the iteration after n others leaves: the sent word, with 0 at every bit that is not settled
 abbrev pub word_after : Row → (ℕ → ℕ → Bool) → List Bool → ℕ → List Bool
 word_after row sent word n = values_below row.k (λ k. bit_at word k && settled row sent n k)
 
--- it is the first that settles every bit, and the word of none before it passes its check
+-- the iteration after n others is the first that settles every bit, and the word of none before it passes its check
 abbrev pub resolves : Row → (ℕ → ℕ → Bool) → List Bool → ℕ → Bool
 resolves row sent word n =
     settles_all row sent n
     && every_below n (λ m. not (settles_all row sent m) && not (has_check_24 (word_after row sent word m)))
 
--- a block can be resolved: one of eight iterations does so
+-- a block can be resolved: one of eight iterations is the first that settles every bit, and no word before passes its
+-- check
 unfoldable pub resolvable : Row → (ℕ → ℕ → Bool) → List Bool → Bool
 resolvable row sent word = any_below 8 (resolves row sent word)
 

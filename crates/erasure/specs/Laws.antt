@@ -10,7 +10,7 @@ WholeBlockIsResolvable =
     (row : Row) (rv count : ℕ) (word : List Bool) → IsRow row → rv < 4 → 3 * (row.k + 4) ≤ count →
     resolvable row (sent_of row.k rv count) word ≡ true
 
--- a block of which none is sent cannot
+-- a block of which no coded bit is sent cannot be resolved
 abbrev pub UnsentBlockIsNotResolvable : Type 0
 UnsentBlockIsNotResolvable =
     (row : Row) (rv : ℕ) (word : List Bool) → IsRow row → resolvable row (sent_of row.k rv 0) word ≡ false

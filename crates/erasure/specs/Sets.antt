@@ -23,11 +23,11 @@ abbrev pub leads_from : Bool → Bool → List Bool → ℕ → Bool
 leads_from own parity set x =
     (hides own parity x false && bit_at set (next x false)) || (hides own parity x true && bit_at set (next x true))
 
--- tail step j from state x does
+-- tail step j from state x hides: neither of its two bits is a 1 that is sent
 abbrev pub tail_step_hides : List Bool → ℕ → ℕ → Bool
 tail_step_hides tail j x = not (tail_bit x && bit_at tail (2 * j)) && not (tail_parity x && bit_at tail (2 * j + 1))
 
--- and the whole tail
+-- all three tail steps from state x hide
 abbrev pub tail_hides : List Bool → ℕ → Bool
 tail_hides tail x = (tail_step_hides tail 0 x && tail_step_hides tail 1 (x / 2)) && tail_step_hides tail 2 (x / 2 / 2)
 
@@ -54,7 +54,7 @@ pub record IsSet (own parity : List Bool) (k : ℕ) (set : List Bool) : Type 0 w
   pub least : (x : ℕ) → x < 8 → IsLeastTo next (step_ones own parity) starts 8 k x (ones x)
   pub member : (x : ℕ) → x < 8 → bit_at set x ≡ none (ones x)
 
--- so have the sets up to k
+-- each set up to k has the states to which as many steps lead that have no known bit 1
 pub record HasSets (own parity : List Bool) (sets : List (List Bool)) (k : ℕ) : Type 0 where
   pub set : (j : ℕ) → j ≤ k → IsSet own parity j (slice_index_or sets j [])
 
@@ -62,7 +62,7 @@ pub record HasSets (own parity : List Bool) (sets : List (List Bool)) (k : ℕ) 
 abbrev pub sent_by : List Bool → List Bool → List Bool → Sent
 sent_by own parity tail = record { information = bit_at own; parity = bit_at parity; tail = bit_at tail }
 
--- bit k is found by them
+-- bit k is found by lists of what is known of a decoder
 abbrev pub found_by : List Bool → List Bool → List Bool → ℕ → Bool
 found_by own parity tail k = found (length own) (sent_by own parity tail) (λ _. false) k
 

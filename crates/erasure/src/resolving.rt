@@ -69,7 +69,7 @@ fn own_of(counts: &Counts, row: &Row, known: &Marks) -> Marks
     marks
 }
 
-/// The same in the order of the second decoder.
+/// Which bits of the word are sent or known, in the order of the second decoder.
 fn own_in_order_of(counts: &Counts, row: &Row, known: &Marks) -> Marks
     requires row { IsRow row.now }
     ensures marks { (i : ℕ) → i < row.now.k → slice_index_or result i false ≡

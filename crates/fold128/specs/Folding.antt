@@ -18,7 +18,7 @@ back_by (suc q) z = back_by q (times_minus_j z)
 unfoldable pub seen_of_four : ℕ → Cpx → Cpx → Cpx → Cpx → Cpx
 seen_of_four r a b c d = plus a (plus (back_by r b) (plus (back_by (2 * r) c) (back_by (3 * r) d)))
 
--- that for r from 0 to 3
+-- what the frequencies see of four samples 32 apart, by the rest r that they leave modulo 4, 0 to 3
 abbrev pub quartet_of : Cpx → Cpx → Cpx → Cpx → Quartet
 quartet_of a b c d = record {
   zero = seen_of_four 0 a b c d;
@@ -31,11 +31,11 @@ quartet_of a b c d = record {
 abbrev pub quartet_at : (ℕ → Cpx) → ℕ → Quartet
 quartet_at samples m = quartet_of (samples m) (samples (m + 32)) (samples (m + 64)) (samples (m + 96))
 
--- the one of them for r
+-- the number of a quartet for the rest r
 abbrev pub taken : Quartet → ℕ → Cpx
 taken q r = if nat_eq r 0 then q.zero else if nat_eq r 1 then q.one else if nat_eq r 2 then q.two else q.three
 
--- the 32 places
+-- the quartets of the 32 places
 unfoldable pub folded_places : (ℕ → Cpx) → List Quartet
 folded_places samples = values_below 32 (quartet_at samples)
 
@@ -46,7 +46,7 @@ empty_quartet = record { zero = nothing; one = nothing; two = nothing; three = n
 abbrev pub folded_term : List Quartet → ℕ → ℕ → Cpx
 folded_term folded frequency m = times (taken (slice_index_or folded m empty_quartet) (frequency % 4)) (conjugate (w_at (frequency * m)))
 
--- all four have components of at most this size
+-- all four numbers of a quartet have components of at most this size
 pub record AreWithin (bound : ℕ) (q : Quartet) : Type 0 where
   pub zero : IsWithin bound q.zero
   pub one : IsWithin bound q.one
@@ -60,7 +60,7 @@ abbrev pub opposite : List Quartet → ℕ → ℕ → Cpx
 opposite folded r m =
     if nat_eq (m % 16) 0 then nothing else back_by r (taken (slice_index_or folded (32 - m) empty_quartet) r)
 
--- what the real part of W multiplies for them, and what its imaginary part
+-- what the real part of W multiplies for the places m and 32 - m together, and what its imaginary part
 abbrev pub mirror_at : List Quartet → ℕ → ℕ → Mirror
 mirror_at folded r m = record {
   real = plus (taken (slice_index_or folded m empty_quartet) r) (opposite folded r m);
@@ -70,11 +70,11 @@ mirror_at folded r m = record {
 abbrev pub empty_mirror : Mirror
 empty_mirror = record { real = nothing; imaginary = nothing }
 
--- the 17 places
+-- the 17 places 0 to 16, each with the one opposite
 unfoldable pub mirrors : List Quartet → ℕ → List Mirror
 mirrors folded r = values_below 17 (mirror_at folded r)
 
--- what both places give where W is w at the first
+-- what the places m and 32 - m give together where W is w at m
 abbrev pub mirrored : Mirror → Cpx → Cpx
 mirrored p w = record {
   re = p.real.re *ℤ w.re +ℤ p.imaginary.re *ℤ w.im;
@@ -84,7 +84,7 @@ mirrored p w = record {
 abbrev pub mirrored_term : List Mirror → ℕ → ℕ → Cpx
 mirrored_term row frequency m = mirrored (slice_index_or row m empty_mirror) (w_at (frequency * m))
 
--- both have components of size at most 2^18
+-- what the real and the imaginary part of W multiply have components of size at most 2^18
 pub record IsSmallMirror (p : Mirror) : Type 0 where
   pub real : IsWithin 262144 p.real
   pub imaginary : IsWithin 262144 p.imaginary
@@ -100,11 +100,11 @@ forward_by (suc q) z = forward_by q (times_j z)
 unfoldable pub given_at : ℕ → Quartet → Cpx
 given_at q p = plus p.zero (plus (forward_by q p.one) (plus (forward_by (2 * q) p.two) (forward_by (3 * q) p.three)))
 
--- that for q from 0 to 3
+-- what the frequencies of each rest modulo 4 give to the samples 0 to 3 quarters on
 abbrev pub unfolded : Quartet → Quartet
 unfolded p = record { zero = given_at 0 p; one = given_at 1 p; two = given_at 2 p; three = given_at 3 p }
 
--- the four with a number added to that of r
+-- a quartet with a number added to that of the rest r
 abbrev pub added : Quartet → ℕ → Cpx → Quartet
 added p r z = record {
   zero = if nat_eq r 0 then plus p.zero z else p.zero;

@@ -15,7 +15,7 @@ frequency k = if nat_lt k 36 then k + 92 else k - 35
 abbrev pub useful_term : (ℕ → Cpx) → ℕ → ℕ → Cpx
 useful_term grid n k = times (grid k) (w_at (frequency k * n))
 
--- sample n, of their sum
+-- sample n of the useful part: the sum of what all subcarriers give to it
 unfoldable pub useful_at : (ℕ → Cpx) → ℕ → Cpx
 useful_at grid n = rounded (complex_sum_below 72 (useful_term grid n)) 17
 

@@ -14,7 +14,7 @@ quarter =
 abbrev pub half_turn : ℕ → ℤ
 half_turn m = if nat_le m 32 then pos (slice_index quarter m) else neg_ℤ (pos (slice_index quarter (64 - m)))
 
--- the place in it that m has the same C as, by the period 128 and since C is even
+-- the place in the half turn that m has the same C as, by the period 128 and since C is even
 abbrev pub folded : ℕ → ℕ
 folded m = if nat_le (m % 128) 64 then m % 128 else 128 - m % 128
 
@@ -33,7 +33,7 @@ z_real =
     negsuc 73 ∷ negsuc 83 ∷ negsuc 92 ∷ negsuc 100 ∷ negsuc 107 ∷ negsuc 113 ∷ negsuc 118 ∷ negsuc 122 ∷ negsuc 125 ∷
     negsuc 126 ∷ []
 
--- the imaginary parts
+-- the imaginary parts of Z(0) to Z(31)
 unfoldable pub z_imaginary : List ℤ
 z_imaginary =
     pos 0 ∷ pos 13 ∷ pos 25 ∷ pos 37 ∷ pos 49 ∷ pos 61 ∷ pos 72 ∷ pos 82 ∷ pos 91 ∷ pos 99 ∷ pos 107 ∷ pos 113 ∷

@@ -92,7 +92,7 @@ fn opposite_of(folded: &[Quartet; 32], residue: usize, m: usize) -> Cpx
     back(folded[32 - m].of_residue(residue), residue)
 }
 
-// What they see of both.
+// What the frequencies of a residue see of the places m and 32 - m together.
 fn mirror_of(folded: &[Quartet; 32], residue: usize, m: usize) -> Mirror
     requires small { All (AreWithin 131072) folded.now }
     requires residue { residue < 4 }
@@ -110,7 +110,7 @@ fn mirror_of(folded: &[Quartet; 32], residue: usize, m: usize) -> Mirror
     }
 }
 
-// What they see of all places.
+// What the frequencies of a residue see of the places 0 to 16, each with the one opposite.
 fn mirrors_of(folded: &[Quartet; 32], residue: usize) -> [Mirror; 17]
     requires small { All (AreWithin 131072) folded.now }
     requires residue { residue < 4 }
@@ -137,7 +137,7 @@ fn mirrored_sum(row: &[Mirror; 17], frequency: usize) -> Cpx
     sum
 }
 
-// What both places give, with W at the first.
+// What the places m and 32 - m give together, with W at m.
 fn product(mirror: Mirror, w: Cpx) -> Cpx
     requires mirror { IsSmallMirror mirror }
     requires w { IsWithin 16384 w }

@@ -11,7 +11,7 @@ least_in edge row p b q d = min (slice_index row p + edge p b) (slice_index row 
 abbrev pub least_out : (ℕ → Bool → ℕ) → (ℕ → Bool → ℕ) → List ℕ → ℕ → ℕ
 least_out next edge row x = min (edge x false + slice_index row (next x false)) (edge x true + slice_index row (next x true))
 
--- the bit with which it begins: 1 only where it then is less
+-- the bit with which the least cost from x begins: 1 only where it then is less
 abbrev pub bit_out : (ℕ → Bool → ℕ) → (ℕ → Bool → ℕ) → List ℕ → ℕ → Bool
 bit_out next edge row x =
     nat_lt (edge x true + slice_index row (next x true)) (edge x false + slice_index row (next x false))

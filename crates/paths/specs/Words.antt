@@ -11,7 +11,7 @@ IsBefore (false ∷ xs) (true ∷ ys) = Unit {0}
 IsBefore (true ∷ xs) (false ∷ ys) = ⊥
 IsBefore (true ∷ xs) (true ∷ ys) = IsBefore xs ys
 
--- of the words of n bits this one costs least, and those before it cost more
+-- among the words of n bits this one costs least, and those before it cost more
 pub record IsFirstLeast (n : ℕ) (cost : List Bool → ℕ) (word : List Bool) : Type 0 where
   pub size : length word ≡ n
   pub least : (other : List Bool) → length other ≡ n → cost word ≤ cost other

@@ -27,11 +27,12 @@ correlation_below n f g = complex_sum_below n (λ k. times (f k) (conjugate (g k
 
 -- ---- four numbers, as the gains of four antenna ports
 
--- their squares together
+-- the sum of the squares of four numbers
 abbrev pub squares_of_four : (ℕ → Cpx) → ℕ
 squares_of_four numbers = square (numbers 0) + square (numbers 1) + square (numbers 2) + square (numbers 3)
 
--- the first and the third have at least three eighths of these, and so have the second and the fourth
+-- the first and the third of four numbers have at least three eighths of the sum of squares, and so have the second
+-- and the fourth
 pub record ArePaired (numbers : ℕ → Cpx) : Type 0 where
   pub even : 3 * squares_of_four numbers ≤ 8 * (square (numbers 0) + square (numbers 2))
   pub odd : 3 * squares_of_four numbers ≤ 8 * (square (numbers 1) + square (numbers 3))

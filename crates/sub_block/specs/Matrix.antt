@@ -10,7 +10,8 @@ turbo_columns =
     0 ∷ 16 ∷ 8 ∷ 24 ∷ 4 ∷ 20 ∷ 12 ∷ 28 ∷ 2 ∷ 18 ∷ 10 ∷ 26 ∷ 6 ∷ 22 ∷ 14 ∷ 30 ∷
     1 ∷ 17 ∷ 9 ∷ 25 ∷ 5 ∷ 21 ∷ 13 ∷ 29 ∷ 3 ∷ 19 ∷ 11 ∷ 27 ∷ 7 ∷ 23 ∷ 15 ∷ 31 ∷ []
 
--- in which a code reads them: the convolutional code begins with the second half (TS 36.212 table 5.1.4-2)
+-- the columns in the order in which a code reads them: the convolutional code begins with the second half (TS 36.212
+-- table 5.1.4-2)
 unfoldable pub columns : Code → List ℕ
 columns Turbo = turbo_columns
 columns Convolutional = drop 16 turbo_columns ++ take 16 turbo_columns

@@ -10,7 +10,7 @@ pub record PlaceSpeaks (v : List ℤ) (word : List Bool) (k : ℕ) : Type 0 wher
   pub second : SpeaksFor (slice_index_or v 1 (pos 0)) (tapped_bit taps_1 word k)
   pub third : SpeaksFor (slice_index_or v 2 (pos 0)) (tapped_bit taps_2 word k)
 
--- the values of all places do
+-- the values of every place speak for the coded bits of a word
 pub record Speaks (values : List (List ℤ)) (word : List Bool) : Type 0 where
   pub place : (k : ℕ) → k < length values → PlaceSpeaks (slice_index_or values k []) word k
 

@@ -26,11 +26,11 @@ code_cost v p = triple_cost v (odd (p / 4)) (odd (p / 2)) (odd p)
 abbrev pub shared_cost : List ℕ → ℕ → Bool → ℕ
 shared_cost costs x b = slice_index costs (shift x (xor b (odd x)))
 
--- it says what the steps cost by the values of a place
+-- the table of costs says what the steps cost by the values of a place
 pub record AreCosts (values : List ℤ) (costs : List ℕ) : Type 0 where
   pub cost : (x : ℕ) (b : Bool) → x < 64 → shared_cost costs x b ≡ branch_cost values x b
   pub small : (y : ℕ) → y < 64 → slice_index costs y ≤ 3 * 2 ^ 20
 
--- the tables of the first n places do
+-- the tables of the first n places say what the steps of each cost by its values
 pub record HaveCosts (values : List (List ℤ)) (tables : List (List ℕ)) (n : ℕ) : Type 0 where
   pub place : (k : ℕ) → k < n → AreCosts (slice_index_or values k []) (slice_index_or tables k [])

@@ -26,11 +26,11 @@ abbrev pub IsBound : List (List ℤ) → ℕ → ℕ → Type 0
 IsBound values s m =
     (word : List Bool) → length word ≡ length values → end_of shift 0 word ≡ s → m ≤ word_key values word
 
--- the row has such a bound for each state
+-- the row has for each state a bound: no word whose path starts there has a key below it
 pub record AreBounds (values : List (List ℤ)) (bounds : List ℕ) : Type 0 where
   pub bound : (s : ℕ) → s < 64 → IsBound values s (slice_index bounds s)
 
--- where m is below the keys of far ends, it is the key of a word
+-- m is the key of a word, where it is below the keys of far ends
 abbrev pub IsKeyOrFar : List (List ℤ) → ℕ → Type 0
 IsKeyOrFar values m = m < far * scale → IsWordKey values m
 

@@ -6,6 +6,6 @@ use Rattle.tailbite.specs.LeastWord.{IsLeastWord}
 abbrev pub IsOneWord : Type 0
 IsOneWord = (values : List (List ℤ)) (u w : List Bool) → IsLeastWord values u → IsLeastWord values w → u ≡ w
 
--- and there is one
+-- there is a least word
 abbrev pub IsSomeWord : Type 0
 IsSomeWord = (values : List (List ℤ)) → (word : List Bool) × IsLeastWord values word

@@ -34,7 +34,7 @@ parity word k = xor (xor (register_bit word k) (back (before word k) 1)) (back (
 unfoldable pub parities : List Bool → List Bool
 parities word = values_below (length word) (parity word)
 
--- before tail step j: after the word, each tail step has added a bit 0
+-- the register before tail step j: after the word, each tail step has added a bit 0
 abbrev pub before_tail : List Bool → ℕ → List Bool
 before_tail word j = replicate j false ++ before word (length word)
 

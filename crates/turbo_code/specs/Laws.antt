@@ -20,6 +20,6 @@ pub record ReadsEachBitOnce (k rv : ℕ) : Type 0 where
   pub count : length (reading k rv) ≡ 3 * (k + 4)
   pub reads : ReadsEachOnce (k + 4) (item_of k rv)
 
--- for each K of the table and each redundancy version
+-- for each K of the table and each redundancy version, once round the buffer each bit is read once
 abbrev pub ReadingIsWhole : Type 0
 ReadingIsWhole = (k rv : ℕ) → IsSize k → rv < 4 → ReadsEachBitOnce k rv

@@ -24,6 +24,6 @@ tail_items d streams p =
 unfoldable pub in_order : {A : Type 0} → A → Row → List A → List A
 in_order d row items = values_below row.k (λ i. slice_index_or items (interleaver row i) d)
 
--- back in the order of the word
+-- a list in the order of the second encoder, put back in the order of the word
 unfoldable pub in_word_order : {A : Type 0} → A → Row → List A → List A
 in_word_order d row items = values_below row.k (λ k. slice_index_or items (step_of row k) d)

@@ -18,14 +18,14 @@ unfoldable pub first_extrinsics : Row → List (List ℤ) → List ℤ → List 
 first_extrinsics row sums prior =
     extrinsics (values_of (bits_of_stream (pos 0) row sums 0) (bits_of_stream (pos 0) row sums 1) (tail_items (pos 0) sums row.k) prior)
 
--- those of the second, in the order of the word, by what the first hands on
+-- the extrinsic values of the second decoder, in the order of the word, by what the first hands on
 unfoldable pub second_extrinsics : Row → List (List ℤ) → List ℤ → List ℤ
 second_extrinsics row sums handed =
     in_word_order (pos 0) row (extrinsics (values_of
     (in_order (pos 0) row (bits_of_stream (pos 0) row sums 0)) (bits_of_stream (pos 0) row sums 2) (tail_items (pos 0) sums (row.k + 2))
     (in_order (pos 0) row handed)))
 
--- and in an iteration, by the prior of the first
+-- the extrinsic values of the second decoder in an iteration, by the prior of the first
 abbrev pub second_after : Row → List (List ℤ) → List ℤ → List ℤ
 second_after row sums prior = second_extrinsics row sums (map handed_on (first_extrinsics row sums prior))
 

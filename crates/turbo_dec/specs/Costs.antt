@@ -41,6 +41,6 @@ starts x = cond (nat_eq x 0) 0 far
 abbrev pub IsForwardRow : Values → ℕ → List ℕ → Type 0
 IsForwardRow v = IsLeastRow next (step_cost v) starts 8 far 12288
 
--- so do the rows up to k
+-- each row up to k has the least costs of as many steps to each state
 pub record HasRows (v : Values) (rows : List (List ℕ)) (k : ℕ) : Type 0 where
   pub row : (j : ℕ) → j ≤ k → IsForwardRow v j (slice_index_or rows j [])

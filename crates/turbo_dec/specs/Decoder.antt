@@ -22,7 +22,7 @@ values_of systematic parity tail prior = record { systematic = systematic; parit
 abbrev pub at : List ℤ → ℕ → ℤ
 at values k = slice_index_or values k (pos 0)
 
--- its size is at most 4,096
+-- the size of a value is at most 4,096
 abbrev pub IsSmall : ℤ → Type 0
 IsSmall value = nat_abs value ≤ 4096
 
@@ -35,7 +35,7 @@ taken value true = pos 0
 abbrev pub score_at : Values → List Bool → ℕ → ℤ
 score_at v word k = taken (at v.systematic k +ℤ at v.prior k) (bit_at word k) +ℤ taken (at v.parity k) (parity word k)
 
--- what those of tail step j give
+-- what the values of tail step j give to a word
 abbrev pub tail_score : Values → List Bool → ℕ → ℤ
 tail_score v word j = taken (at v.tail (2 * j)) (tail_x word j) +ℤ taken (at v.tail (2 * j + 1)) (tail_z word j)
 
@@ -56,6 +56,6 @@ unfoldable pub extrinsic : Values → ℕ → ℤ
 extrinsic v k =
     within_2047 (((greatest_score v k false -ℤ greatest_score v k true) -ℤ at v.systematic k) -ℤ at v.prior k)
 
--- those of all bits
+-- the extrinsic values of all bits
 unfoldable pub extrinsics : Values → List ℤ
 extrinsics v = values_below (length v.systematic) (extrinsic v)

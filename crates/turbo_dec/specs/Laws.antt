@@ -11,7 +11,7 @@ pub record IsGreatest (v : Values) (k : ℕ) (b : Bool) (m : ℤ) : Type 0 where
   pub reached : (word : List Bool) × (length word ≡ length v.systematic) × (bit_at word k ≡ b) × (score v word ≡ m)
   pub greatest : (word : List Bool) → length word ≡ length v.systematic → bit_at word k ≡ b → score v word ≤ℤ m
 
--- for all values and each bit
+-- for all values and each bit, the greatest score is one that a word has, and none has more
 abbrev pub GreatestScoresAreGreatest : Type 0
 GreatestScoresAreGreatest = (v : Values) (k : ℕ) (b : Bool) → k < length v.systematic → IsGreatest v k b (greatest_score v k b)
 

@@ -33,7 +33,7 @@ if_present true what = do
   value ← what
   done (Some value)
 
--- so many of a kind, one after the other (the items of a SEQUENCE OF)
+-- a list of items of a kind, one after the other, as many as told (the items of a SEQUENCE OF)
 unfoldable pub times : {A : Type 0} → ℕ → Grammar A → Grammar (List A)
 times zero each = done []
 times (suc n) each = do

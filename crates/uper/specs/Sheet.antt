@@ -3,7 +3,7 @@ use Rattle.std.specs.Prelude.{◌≡◌, ◌-◌, nat_le, if◌then◌else◌, B
 use Rattle.uper.specs.Grammar.{Grammar}
 use Rattle.uper.specs.Texts.{IsText}
 
--- with more bits at the end; none once there was no room for all of them
+-- a text with more bits at its end; none once there was no room for all of them
 abbrev pub append : Option (List Bool) → List Bool → Option (List Bool)
 append None more = None
 append (Some bits) more = if nat_le (length more) (1000 - length bits) then Some (bits ++ more) else None

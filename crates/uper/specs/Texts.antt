@@ -31,7 +31,7 @@ IsBad width least greatest bits =
     (length bits < width)
     ⊎ ((width ≤ length bits) × ((number (take width bits) < least) ⊎ (greatest < number (take width bits))))
 
--- at this place is the first bit of the first field that is cut off or out of its range
+-- the first bit of the first field that is cut off or out of its range is at this place
 unfoldable pub Refuses : {A : Type 0} → Grammar A → List Bool → ℕ → Type 0
 Refuses (done x) bits place = ⊥
 Refuses (field width least greatest next) bits place =
@@ -41,7 +41,7 @@ Refuses (field width least greatest next) bits place =
 
 -- ---- the text of a value, found among all texts (own)
 
--- the first that is there of so many
+-- the first that is there of f 0, .., f (n - 1)
 unfoldable pub first_some : {A : Type 0} → ℕ → (ℕ → Option A) → Option A
 first_some zero f = None
 first_some (suc n) f = option_or (first_some n f) (f n)
