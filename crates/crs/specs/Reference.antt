@@ -32,7 +32,7 @@ pattern_of FourPorts port = if nat_eq port 0 then port_0 else port_1
 
 -- ---- for any pattern
 
--- its later symbol is one of a slot, v is 0 to 3, and N_CP is 0 or 1
+-- a pattern: its later symbol is one of a slot, v is 0 to 3, and N_CP is 0 or 1
 pub record IsPattern (pattern : Pattern) : Type 0 where
   pub later : (0 < pattern.later) × (pattern.later < 7)
   pub shift : pattern.shift ≤ 3
@@ -48,7 +48,7 @@ pattern_c_init pattern identity slot symbol =
 abbrev pub value_by : (ℕ → Bool) → ℕ → Cpx
 value_by bit m = point (bit (2 * (m + 104))) (bit (2 * (m + 104) + 1))
 
--- the first subcarrier (section 6.10.1.2)
+-- the first reference subcarrier of a symbol (section 6.10.1.2)
 abbrev pub pattern_first : Pattern → ℕ → ℕ → ℕ
 pattern_first pattern identity symbol =
     ((if nat_eq symbol 0 then pattern.shift else 3 - pattern.shift) + identity) % 6
@@ -70,12 +70,12 @@ pattern_subcarrier pattern identity symbol m = 6 * m + pattern_first pattern ide
 unfoldable pub pattern_reference : Pattern → ℕ → ℕ → ℕ → ℕ → Cpx
 pattern_reference pattern identity slot symbol m = value_by (gold_bit (pattern_c_init pattern identity slot symbol)) m
 
--- subcarrier and value number m
+-- the subcarrier of value m of a symbol, and the value
 abbrev pub pattern_pair : Pattern → ℕ → ℕ → ℕ → ℕ → ℕ × Cpx
 pattern_pair pattern identity slot symbol m =
     (pattern_subcarrier pattern identity symbol m, pattern_reference pattern identity slot symbol m)
 
--- all twelve
+-- the twelve subcarriers and values of a symbol
 unfoldable pub pattern_list : Pattern → ℕ → ℕ → ℕ → List (ℕ × Cpx)
 pattern_list pattern identity slot symbol = map (pattern_pair pattern identity slot symbol) (range_with_len 0 12)
 
@@ -87,7 +87,7 @@ reference_c_init identity slot symbol = pattern_c_init port_0 identity slot symb
 unfoldable pub reference : ℕ → ℕ → ℕ → ℕ → Cpx
 reference identity slot symbol m = value_by (gold_bit (reference_c_init identity slot symbol)) m
 
--- v is 0 in symbol 0 and 3 in symbol 4
+-- the first reference subcarrier: v is 0 in symbol 0 and 3 in symbol 4
 unfoldable pub first_subcarrier : ℕ → ℕ → ℕ
 first_subcarrier identity symbol = pattern_first port_0 identity symbol
 
@@ -95,17 +95,17 @@ first_subcarrier identity symbol = pattern_first port_0 identity symbol
 abbrev pub subcarrier : ℕ → ℕ → ℕ → ℕ
 subcarrier identity symbol m = 6 * m + first_subcarrier identity symbol
 
--- subcarrier and value number m
+-- the subcarrier of value m of a symbol, and the value
 abbrev pub reference_pair : ℕ → ℕ → ℕ → ℕ → ℕ × Cpx
 reference_pair identity slot symbol m =
     (subcarrier identity symbol m, reference identity slot symbol m)
 
--- all twelve
+-- the twelve subcarriers and values of a symbol
 unfoldable pub reference_list : ℕ → ℕ → ℕ → List (ℕ × Cpx)
 reference_list identity slot symbol =
     map (reference_pair identity slot symbol) (range_with_len 0 12)
 
--- every sixth subcarrier of symbols 0 and 4
+-- the reference places of port 0: every sixth subcarrier of symbols 0 and 4
 unfoldable pub is_reference : ℕ → ℕ → ℕ → Bool
 is_reference identity symbol k =
     has_pilots port_0 symbol && nat_eq (k % 6) (first_subcarrier identity symbol)
@@ -116,7 +116,8 @@ reference_at identity slot symbol k = reference identity slot symbol (k / 6)
 
 -- ---- for port 1 with the normal prefix
 
--- v is 3 in symbol 0 and 0 in symbol 4; the sequence, and so the value by the sixth of a subcarrier, is that of port 0
+-- the reference places of port 1: v is 3 in symbol 0 and 0 in symbol 4; the sequence, and so the value by the sixth
+-- of a subcarrier, is that of port 0
 unfoldable pub is_second_reference : ℕ → ℕ → ℕ → Bool
 is_second_reference identity symbol k = is_pattern_place port_1 identity symbol k
 
@@ -135,10 +136,11 @@ upper_first port identity slot = (upper_shift port + 3 * (slot % 2) + identity) 
 unfoldable pub is_upper_reference : UpperPort → ℕ → ℕ → ℕ → ℕ → Bool
 is_upper_reference port identity slot symbol k = nat_eq symbol 1 && nat_eq (k % 6) (upper_first port identity slot)
 
--- subcarrier and value number m; the sequence, and so the value by the sixth of a subcarrier, is that of port 0
+-- the subcarrier of value m, and the value; the sequence, and so the value by the sixth of a subcarrier, is that of
+-- port 0
 abbrev pub upper_pair : UpperPort → ℕ → ℕ → ℕ → ℕ × Cpx
 upper_pair port identity slot m = (6 * m + upper_first port identity slot, reference identity slot 1 m)
 
--- all twelve
+-- the twelve subcarriers and values of port 2 or 3 in a slot
 unfoldable pub upper_list : UpperPort → ℕ → ℕ → List (ℕ × Cpx)
 upper_list port identity slot = map (upper_pair port identity slot) (range_with_len 0 12)

@@ -25,7 +25,7 @@ pub record Carries (bits : List Bool) (grant : Grant) : Type 0 where
   pub column_is : grant.column ≡ column_of (tpc_low bits)
   pub size_is : size_of grant.mcs grant.column ≡ Some grant.size
 
--- the same bits, as they are sent: what is not looked at is 0
+-- the bits carry this grant as they are sent: what is not looked at is 0
 pub record IsSentFor (bits : List Bool) (grant : Grant) : Type 0 where
   pub carries : Carries bits grant
   pub harq_is : harq bits ≡ 0
@@ -33,7 +33,7 @@ pub record IsSentFor (bits : List Bool) (grant : Grant) : Type 0 where
   pub power : tpc_high bits ≡ false
   pub pads : padding bits ≡ false
 
--- the first of five refusals that applies, and none of those before it
+-- the bits have another format than 1A: the first of five refusals
 pub record IsOther (bits : List Bool) : Type 0 where
   pub format : is_1a bits ≡ false
 

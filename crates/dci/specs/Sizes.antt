@@ -2,13 +2,13 @@
 -- columns of 2 and 3 resource blocks, whose larger sizes are left out).
 use Rattle.std.specs.Prelude.{ℕ, nat_eq, if◌then◌else◌, List, [], ◌∷◌, Option, slice_get}
 
--- column 2
+-- the sizes of column 2, by scheme
 unfoldable pub column_2 : List ℕ
 column_2 =
     32 ∷ 56 ∷ 72 ∷ 104 ∷ 120 ∷ 144 ∷ 176 ∷ 224 ∷ 256 ∷ 296 ∷ 328 ∷ 376 ∷ 440 ∷ 488 ∷ 552 ∷ 600 ∷
     632 ∷ 696 ∷ 776 ∷ 840 ∷ 904 ∷ 1000 ∷ []
 
--- column 3
+-- the sizes of column 3, by scheme
 unfoldable pub column_3 : List ℕ
 column_3 =
     56 ∷ 88 ∷ 144 ∷ 176 ∷ 208 ∷ 224 ∷ 256 ∷ 328 ∷ 392 ∷ 456 ∷ 504 ∷ 584 ∷ 680 ∷ 744 ∷ 840 ∷ 904 ∷

@@ -5,7 +5,7 @@ use Rattle.std.specs.Prelude.{ℕ, ◌%◌, Bool, not, ◌&&◌, nat_eq, nat_lt,
 use Rattle.grid_map.specs.declared.Place.{Place}
 use Rattle.grid_map.specs.Place.{place, places_of, index_in}
 
--- a place is kept for them: in symbols 7 and 8 every third subcarrier, from the identity modulo 3
+-- a place is kept for reference signals: in symbols 7 and 8 every third subcarrier, from the identity modulo 3
 abbrev pub is_reserved : ℕ → Place → Bool
 is_reserved shift p = nat_lt p.symbol 9 && nat_eq (p.k % 3) shift
 

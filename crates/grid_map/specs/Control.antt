@@ -16,7 +16,7 @@ use Rattle.grid_map.specs.Group.{group, is_group, same_group, symbol_groups, gro
 abbrev pub is_in : List Reg → Reg → Bool
 is_in groups g = list_any (same_group g) groups
 
--- those of the groups that are not taken
+-- the groups of a list that are not taken
 abbrev pub without : List Reg → List Reg → List Reg
 without taken groups = filter (λ g. not (is_in taken g)) groups
 
@@ -52,7 +52,7 @@ abbrev pub phich_symbol : Duration → ℕ → ℕ
 phich_symbol Normal i = 0
 phich_symbol Extended i = i
 
--- which of the n groups of its symbol quadruplet i of PHICH group m takes, where symbol 0 has n0
+-- the number of the group that quadruplet i of PHICH group m takes among the n of its symbol, where symbol 0 has n0
 abbrev pub phich_number : ℕ → ℕ → ℕ → ℕ → ℕ → ℕ
 phich_number identity n n0 m i = ((identity * n) / n0 + m + (i * n) / 3) % n
 
@@ -77,15 +77,15 @@ numbered n = group (n % 4) (n / 4)
 abbrev pub number_of : Reg → ℕ
 number_of g = 4 * g.first + g.symbol
 
--- the region has cfi + 1 symbols
+-- a group is in the control region, which has cfi + 1 symbols
 abbrev pub is_in_region : ℕ → Reg → Bool
 is_in_region cfi g = is_group g && nat_le g.symbol cfi
 
--- the groups of the region, in that order
+-- the groups of the control region, by first subcarrier, then by symbol
 unfoldable pub region_groups : ℕ → List Reg
 region_groups cfi = filter (is_in_region cfi) (values_below 288 numbered)
 
--- the groups of the PDCCH: those that the PCFICH and the PHICH leave, in that order
+-- the groups of the PDCCH: those that the PCFICH and the PHICH leave, by first subcarrier, then by symbol
 unfoldable pub pdcch_groups : ℕ → ℕ → Duration → Resource → List Reg
 pdcch_groups identity cfi duration resource =
     without (phich_groups identity duration resource) (without (pcfich_groups identity) (region_groups cfi))

@@ -4,7 +4,7 @@ use Rattle.std.specs.Prelude.{ℕ, ◌%◌, Bool, not, ◌&&◌, nat_eq, List, f
 use Rattle.grid_map.specs.declared.Place.{Place}
 use Rattle.grid_map.specs.Place.{places_of}
 
--- a place is kept for them: in symbols 0, 1 and 3 every third subcarrier, from the identity modulo 3 on
+-- a place is kept for reference signals: in symbols 0, 1 and 3 every third subcarrier, from the identity modulo 3 on
 abbrev pub is_kept : ℕ → Place → Bool
 is_kept shift p = not (nat_eq p.symbol 2) && nat_eq (p.k % 3) shift
 

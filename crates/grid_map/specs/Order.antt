@@ -2,7 +2,8 @@
 use Rattle.std.specs.Prelude.{◌≡◌, ◌↔◌, ℕ, ◌<◌, Bool, IsTrue, Some, List, length, slice_get}
 use Rattle.std.specs.List.{Contains}
 
--- these are so many; item i is as told; their numbers rise, so that each stands once; and these are the members
+-- a list in order: it has this count of items; item i is as told; their numbers rise, so that each stands once; and
+-- they are the members
 pub record AreInOrder {A : Type 0} (number : A → ℕ) (items : List A) (count : ℕ) (at : ℕ → A) (is : A → Bool) :
     Type 0 where
   pub size : length items ≡ count

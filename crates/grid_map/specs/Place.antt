@@ -19,7 +19,7 @@ places_of first count = flat_map symbol_places (range_with_len first count)
 abbrev pub is_in_grid : Place → Bool
 is_in_grid p = nat_lt p.symbol 14 && nat_lt p.k 72
 
--- the number of a place in that order
+-- the number of a place by symbol, then by subcarrier
 abbrev pub place_number : Place → ℕ
 place_number p = 72 * p.symbol + p.k
 

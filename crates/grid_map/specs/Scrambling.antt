@@ -2,19 +2,19 @@
 -- number of the slot in which its subframe begins; and the bits that the PCFICH sends.
 use Rattle.std.specs.Prelude.{ℕ, ◌+◌, ◌-◌, ◌*◌, ◌/◌, ◌%◌, ◌^◌, Bool, not, nat_eq}
 
--- of the PBCH (section 6.6.1)
+-- c_init of the PBCH (section 6.6.1)
 abbrev pub pbch_c_init : ℕ → ℕ
 pbch_c_init identity = identity
 
--- of the PCFICH (section 6.7.1)
+-- c_init of the PCFICH (section 6.7.1)
 abbrev pub pcfich_c_init : ℕ → ℕ → ℕ
 pcfich_c_init identity slot = (slot / 2 + 1) * (2 * identity + 1) * 2 ^ 9 + identity
 
--- of the PDCCH (section 6.8.2)
+-- c_init of the PDCCH (section 6.8.2)
 abbrev pub pdcch_c_init : ℕ → ℕ → ℕ
 pdcch_c_init identity slot = slot / 2 * 2 ^ 9 + identity
 
--- of the first codeword of the PDSCH for an RNTI (section 6.3.1)
+-- c_init of the first codeword of the PDSCH for an RNTI (section 6.3.1)
 abbrev pub pdsch_c_init : ℕ → ℕ → ℕ → ℕ
 pdsch_c_init identity slot rnti = rnti * 2 ^ 14 + slot / 2 * 2 ^ 9 + identity
 

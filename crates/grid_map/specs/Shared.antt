@@ -24,8 +24,7 @@ is_shared_of two identity cfi start blocks p =
     nat_lt cfi p.symbol && not (is_synchronisation p.symbol) && not (is_pilot_of two identity (p.symbol % 7) p.k)
     && is_in_blocks start blocks p.k
 
--- these places of the subframe, in the order in which the points take them: subcarriers first, then
--- symbols
+-- the places of the shared channel in the order in which the points take them: subcarriers first, then symbols
 unfoldable pub shared_places_of : Bool → ℕ → ℕ → ℕ → ℕ → List Place
 shared_places_of two identity cfi start blocks = filter (is_shared_of two identity cfi start blocks) (places_of 0 14)
 

@@ -104,8 +104,8 @@ pub fn shared_place(two: bool, id: CellId, assignment: &Assignment, i: usize) ->
     unreachable!()
 }
 
-/// The same with one antenna port, over `blocks` resource blocks from `start` on. `cfi` is 2 or 3, `blocks` at
-/// least 1 and `start` + `blocks` at most 6.
+/// The place that point i of the shared channel takes with one antenna port, over `blocks` resource blocks from
+/// `start` on. `cfi` is 2 or 3, `blocks` at least 1 and `start` + `blocks` at most 6.
 pub fn pdsch(id: CellId, cfi: Cfi, start: u8, blocks: u8, i: usize) -> Place
     requires cfi { 2 ≤ cfi }
     requires some { 1 ≤ blocks }

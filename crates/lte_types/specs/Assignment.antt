@@ -12,7 +12,7 @@ pub record AreBlocks (start blocks : ℕ) : Type 0 where
   pub some : 1 ≤ blocks
   pub inside : start + blocks ≤ 6
 
--- these, with an indicator that leaves room for the candidate of the common search space
+-- an assignment of blocks with an indicator that leaves room for the candidate of the common search space
 pub record IsAssignment (assigned : Assigned) : Type 0 where
   pub wide : 2 ≤ assigned.cfi
   pub are : AreBlocks assigned.start assigned.blocks

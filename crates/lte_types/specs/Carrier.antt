@@ -5,14 +5,14 @@ use Rattle.lte_types.specs.declared.carrier.Carrier.TheVariants.{OnePort, TwoPor
 use Rattle.lte_types.specs.declared.numerology.Prefix.{Prefix}
 use Rattle.lte_types.specs.Numerology.{normal, extended}
 
--- its cyclic prefix
+-- the cyclic prefix of a carrier
 abbrev pub prefix_of : Carrier → Prefix
 prefix_of OnePort = normal
 prefix_of TwoPorts = normal
 prefix_of LongPrefix = extended
 prefix_of FourPorts = normal
 
--- its antenna ports
+-- the number of a carrier's antenna ports
 abbrev pub ports_of : Carrier → ℕ
 ports_of OnePort = 1
 ports_of TwoPorts = 2

@@ -1,7 +1,7 @@
 -- Where a cell stands in a recording. (own)
 use Rattle.std.specs.Prelude.{ℕ}
 
--- its identity, and the sample at which its first frame starts
+-- a cell's identity, and the sample at which its first frame starts
 pub record Place : Type 0 where
   pub id : ℕ
   pub start : ℕ

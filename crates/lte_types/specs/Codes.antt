@@ -29,7 +29,7 @@ bandwidth_code N50 = 3
 bandwidth_code N75 = 4
 bandwidth_code N100 = 5
 
--- its name
+-- the name of a width
 abbrev pub bandwidth_word : Bandwidth → List ℕ
 bandwidth_word N6 = codes "n6"
 bandwidth_word N15 = codes "n15"
@@ -49,7 +49,7 @@ abbrev pub duration_code : Duration → ℕ
 duration_code Normal = 0
 duration_code Extended = 1
 
--- its name
+-- the name of a duration
 abbrev pub duration_word : Duration → List ℕ
 duration_word Normal = codes "normal"
 duration_word Extended = codes "extended"
@@ -74,7 +74,7 @@ resource_code Half = 1
 resource_code One = 2
 resource_code Two = 3
 
--- its name
+-- the name of a resource
 abbrev pub resource_word : Resource → List ℕ
 resource_word OneSixth = codes "oneSixth"
 resource_word Half = codes "half"
@@ -92,7 +92,7 @@ resource_named name =
 
 -- ---- si-WindowLength (section 6.2.2)
 
--- in the order of their codes
+-- the windows, in the order of their codes
 abbrev pub windows : List Window
 windows = Ms1 ∷ Ms2 ∷ Ms5 ∷ Ms10 ∷ Ms15 ∷ Ms20 ∷ Ms40 ∷ []
 
@@ -110,7 +110,7 @@ window_code Ms15 = 4
 window_code Ms20 = 5
 window_code Ms40 = 6
 
--- its name
+-- the name of a window
 abbrev pub window_word : Window → List ℕ
 window_word Ms1 = codes "ms1"
 window_word Ms2 = codes "ms2"
@@ -120,7 +120,7 @@ window_word Ms15 = codes "ms15"
 window_word Ms20 = codes "ms20"
 window_word Ms40 = codes "ms40"
 
--- its milliseconds
+-- the milliseconds of a window
 abbrev pub window_length : Window → ℕ
 window_length Ms1 = 1
 window_length Ms2 = 2
@@ -130,13 +130,13 @@ window_length Ms15 = 15
 window_length Ms20 = 20
 window_length Ms40 = 40
 
--- the window of so many milliseconds
+-- the window with a number of milliseconds
 abbrev pub window_of : ℕ → Option Window
 window_of milliseconds = find (λ window. nat_eq milliseconds (window_length window)) windows
 
 -- ---- si-Periodicity (section 6.2.2)
 
--- in the order of their codes
+-- the periods, in the order of their codes
 abbrev pub periods : List Period
 periods = Rf8 ∷ Rf16 ∷ Rf32 ∷ Rf64 ∷ Rf128 ∷ Rf256 ∷ Rf512 ∷ []
 
@@ -154,7 +154,7 @@ period_code Rf128 = 4
 period_code Rf256 = 5
 period_code Rf512 = 6
 
--- its name
+-- the name of a period
 abbrev pub period_word : Period → List ℕ
 period_word Rf8 = codes "rf8"
 period_word Rf16 = codes "rf16"
@@ -164,7 +164,7 @@ period_word Rf128 = codes "rf128"
 period_word Rf256 = codes "rf256"
 period_word Rf512 = codes "rf512"
 
--- its frames
+-- the frames of a period
 abbrev pub period_frames : Period → ℕ
 period_frames Rf8 = 8
 period_frames Rf16 = 16
@@ -174,6 +174,6 @@ period_frames Rf128 = 128
 period_frames Rf256 = 256
 period_frames Rf512 = 512
 
--- the period of so many frames
+-- the period with a number of frames
 abbrev pub period_of : ℕ → Option Period
 period_of frames = find (λ period. nat_eq frames (period_frames period)) periods

@@ -2,18 +2,18 @@
 -- section 5.2.1.2). (own)
 use Rattle.std.specs.Prelude.{ℕ, ◌+◌, ◌-◌, ◌*◌, ◌%◌, ◌≤◌}
 
--- how many there are, the number of the first of them from the cell's first frame on, and the place of the first in its
--- period
+-- the count of frames, the number of the first of them from the cell's first frame on, and the place of the first in
+-- its period
 pub record Frames : Type 0 where
   pub count : ℕ
   pub first : ℕ
   pub phase : ℕ
 
--- so many from frame j on, of which the first is at this place
+-- a count of frames from frame j on, of which the first is at a place of its period
 abbrev pub frames_from : ℕ → ℕ → ℕ → Frames
 frames_from count j phase = record { count = count; first = j; phase = phase }
 
--- there are 1 to 4, of one period, among the first eight frames
+-- 1 to 4 frames of one period, among the first eight
 pub record AreFrames (frames : Frames) : Type 0 where
   pub some : 1 ≤ frames.count
   pub period : frames.phase + frames.count ≤ 4

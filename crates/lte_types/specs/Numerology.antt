@@ -39,7 +39,7 @@ normal = record { first = 10; other = 9 }
 abbrev pub extended : Prefix
 extended = record { first = 32; other = 32 }
 
--- it is one of the two
+-- a prefix is the normal or the extended one
 abbrev pub IsPrefix : Prefix → Type 0
 IsPrefix prefix = (prefix ≡ normal) ⊎ (prefix ≡ extended)
 
@@ -47,7 +47,7 @@ IsPrefix prefix = (prefix ≡ normal) ⊎ (prefix ≡ extended)
 abbrev pub prefix_length : Prefix → ℕ → ℕ
 prefix_length prefix symbol = if nat_eq symbol 0 then prefix.first else prefix.other
 
--- from the useful part of a symbol to that of the next one in its slot
+-- the samples from the useful part of a symbol to that of the next one in its slot
 abbrev pub symbol_step : Prefix → ℕ
 symbol_step prefix = useful_length + prefix.other
 

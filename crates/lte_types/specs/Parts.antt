@@ -6,7 +6,7 @@ use Rattle.lte_types.specs.declared.si_message.SiMessage.{SiMessage}
 use Rattle.lte_types.specs.declared.sib1.Sib1.{Sib1}
 use Rattle.lte_types.specs.declared.window.Window.{Window}
 
--- who may use the cell
+-- the part that says who may use the cell
 abbrev pub access_of : Sib1 → CellAccessRelatedInfo
 access_of sib1 = record {
   plmns = sib1.plmns;
@@ -18,12 +18,12 @@ access_of sib1 = record {
   csg_identity = sib1.csg_identity;
 }
 
--- its levels
+-- the part with the least levels at which a mobile may choose the cell
 abbrev pub selection_of : Sib1 → CellSelectionInfo
 selection_of sib1 = record { q_rx = sib1.q_rx; q_offset = sib1.q_offset }
 
--- the block of its parts in their order: who may use the cell, its levels, p-Max, freqBandIndicator, the schedule,
--- TDD-Config, the window, systemInfoValueTag, and whether there is an extension
+-- the block of its parts in their order: who may use the cell, the levels to choose it, p-Max, freqBandIndicator, the
+-- schedule, TDD-Config, the window, systemInfoValueTag, and whether there is an extension
 abbrev pub sib1_of :
     CellAccessRelatedInfo → CellSelectionInfo → Option ℤ → ℕ → List SiMessage → Option (ℕ × ℕ) → Window → ℕ → Bool →
     Sib1

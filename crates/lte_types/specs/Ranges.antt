@@ -9,7 +9,7 @@ use Rattle.lte_types.specs.declared.si_message.SiMessage.{SiMessage}
 use Rattle.lte_types.specs.declared.sib1.Sib1.{Sib1}
 use Rattle.lte_types.specs.Parts.{access_of, selection_of}
 
--- each is a decimal digit
+-- each item is a decimal digit
 abbrev pub AreDigits : List ℕ → Type 0
 AreDigits digits = All (λ digit. digit ≤ 9) digits
 
@@ -34,11 +34,11 @@ pub record ArePlmns (plmns : List Plmn) : Type 0 where
   pub valid : All IsValidPlmn plmns
   pub first_mcc : FirstHasMcc plmns
 
--- an entry of the schedule: the codes of its blocks
+-- an entry of the schedule has blocks with valid codes
 abbrev pub IsValidMessage : SiMessage → Type 0
 IsValidMessage message = All (λ code. code ≤ 79) message.sibs
 
--- 1 to 32 entries
+-- a schedule has 1 to 32 valid entries
 pub record AreMessages (messages : List SiMessage) : Type 0 where
   pub count : (1 ≤ length messages) × (length messages ≤ 32)
   pub valid : All IsValidMessage messages
@@ -67,13 +67,13 @@ IsBand band = (1 ≤ band) × (band ≤ 64)
 abbrev pub IsTddConfig : ℕ × ℕ → Type 0
 IsTddConfig config = (config.0 ≤ 6) × (config.1 ≤ 8)
 
--- who may use the cell
+-- the fields that say who may use the cell are in their ranges
 pub record IsAccess (access : CellAccessRelatedInfo) : Type 0 where
   pub plmns : ArePlmns access.plmns
   pub cell : access.cell < 2 ^ 28
   pub csg_identity : IfSome access.csg_identity IsGroup
 
--- its levels
+-- the levels at which a mobile may choose the cell are in their ranges
 pub record IsSelection (selection : CellSelectionInfo) : Type 0 where
   pub q_rx : IsLevel selection.q_rx
   pub q_offset : IfSome selection.q_offset IsLevelOffset

@@ -6,7 +6,7 @@ use Rattle.lte_types.specs.Numerology.{frame_length}
 abbrev pub IsOffset : ℕ → Type 0
 IsOffset offset = offset < frame_length
 
--- ---- from it on
+-- ---- from where a recording begins
 
 -- the number of the frame that sample i is in, where sample 0 is the first of the frame numbered sfn
 abbrev pub number_of : ℕ → ℕ → ℕ
@@ -16,13 +16,13 @@ number_of sfn i = (sfn + i / frame_length) % 1024
 abbrev pub start_of : ℕ → ℕ
 start_of offset = (frame_length - offset) % frame_length
 
--- the number of that frame
+-- the number of the first frame that begins in the recording
 abbrev pub number_at_start : ℕ → ℕ → ℕ
 number_at_start sfn offset = if nat_eq offset 0 then sfn else (sfn + 1) % 1024
 
--- ---- back to it, from the first sample at which a frame begins and that frame's number
+-- ---- back to where a recording begins, from the first sample at which a frame begins and that frame's number
 
--- the offset
+-- the offset, by the first sample at which a frame begins
 abbrev pub offset_of : ℕ → ℕ
 offset_of start = (frame_length - start) % frame_length
 
@@ -38,7 +38,7 @@ abbrev pub TimingsComeBack : Type 0
 TimingsComeBack = (sfn offset : ℕ) → sfn ≤ 1023 → IsOffset offset →
     (offset_of (start_of offset) ≡ offset) × (number_before (start_of offset) (number_at_start sfn offset) ≡ sfn)
 
--- and from there one comes to the same start and number
+-- from where a recording begins the first start of a frame and its number are found again
 abbrev pub StartsComeBack : Type 0
 StartsComeBack = (start number : ℕ) → start < frame_length → number ≤ 1023 →
     (start_of (offset_of start) ≡ start) × (number_at_start (number_before start number) (offset_of start) ≡ number)

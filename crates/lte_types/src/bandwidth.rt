@@ -34,7 +34,7 @@ impl Bandwidth {
         }
     }
 
-    /// Its code in dl-Bandwidth, 0 to 5.
+    /// The code of a width in dl-Bandwidth, 0 to 5.
     pub fn code(self) -> u8
         ensures value { result ≡ bandwidth_code self }
         ensures bound { result ≤ 5 }
@@ -50,7 +50,7 @@ impl Bandwidth {
         }
     }
 
-    /// Its name in the standard.
+    /// The name of a width in the standard.
     pub fn name(self) -> &'static str
         ensures { result.now ≡ bandwidth_word self }
     {

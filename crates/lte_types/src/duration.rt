@@ -26,7 +26,7 @@ impl Duration {
         }
     }
 
-    /// Its code in phich-Duration, 0 or 1.
+    /// The code of a duration in phich-Duration, 0 or 1.
     pub fn code(self) -> u8
         ensures value { result ≡ duration_code self }
         ensures bound { result ≤ 1 }
@@ -50,7 +50,7 @@ impl Duration {
         }
     }
 
-    /// Its name in the standard.
+    /// The name of a duration in the standard.
     pub fn name(self) -> &'static str
         ensures value { result.now ≡ duration_word self }
         ensures back { duration_named result.now ≡ Some self }

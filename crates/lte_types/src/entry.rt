@@ -17,9 +17,9 @@ pub struct Entry {
     pub mib: Mib,
     /// The count of frames, 1 to 4, whose values were summed for the master block.
     pub frames: u8,
-    /// The number of the first of them, from the first frame on.
+    /// The number of the first of the frames, from the cell's first frame on.
     pub frame: u8,
-    /// That frame's number modulo 4.
+    /// The frame number of the first of the frames, modulo 4.
     pub phase: u8,
     /// The cost of the master block's word.
     pub cost: u32,

@@ -21,9 +21,9 @@ pub struct Evidence {
     pub total: u32,
     /// The count of frames whose values were summed.
     pub frames: u8,
-    /// The number of the first of them, from the first frame on.
+    /// The number of the first of the frames, from the cell's first frame on.
     pub frame: u8,
-    /// That frame's number modulo 4.
+    /// The frame number of the first of the frames, modulo 4.
     pub phase: u8,
     /// The sum of the squares of the sizes of what was seen at the 24 reference places of that frame's slot with the
     /// broadcast channel.

@@ -27,8 +27,8 @@ impl Model for Frames {
 }
 
 impl Frames {
-    /// So many frames from one on, which is at this place of its period; `None` exactly where these are none, are of
-    /// two periods, or go beyond the first eight.
+    /// A count of frames from one on, which is at this place of its period; `None` exactly where there are none, or
+    /// they are of two periods, or go beyond the first eight.
     pub fn new(count: u8, first: u8, phase: u8) -> Option<Self>
         ensures valid { IsSome result ↔ AreFrames (record { count = count; first = first; phase = phase }) }
         ensures value { IfSome result (λ frames. frames ≡ record { count = count; first = first; phase = phase }) }

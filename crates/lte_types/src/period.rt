@@ -34,7 +34,7 @@ impl Period {
         }
     }
 
-    /// Its code in si-Periodicity, 0 to 6.
+    /// The code of a period in si-Periodicity, 0 to 6.
     pub fn code(self) -> u8
         ensures value { result ≡ period_code self }
         ensures bound { result ≤ 6 }
@@ -68,7 +68,7 @@ impl Period {
         }
     }
 
-    /// Its frames, 8 to 512.
+    /// The frames of a period, 8 to 512.
     pub fn frames(self) -> u16
         ensures value { result ≡ period_frames self }
         ensures back { period_of result ≡ Some self }
@@ -84,7 +84,7 @@ impl Period {
         }
     }
 
-    /// Its name in the standard.
+    /// The name of a period in the standard.
     pub fn name(self) -> &'static str
         ensures { result.now ≡ period_word self }
     {

@@ -58,7 +58,7 @@ impl Plmns {
         self.items.as_slice()
     }
 
-    /// The same list.
+    /// A copy of the list.
     pub fn copy(&self) -> Plmns
         ensures { result ≡ self.now }
     {

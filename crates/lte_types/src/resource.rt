@@ -30,7 +30,7 @@ impl Resource {
         }
     }
 
-    /// Its code in phich-Resource, 0 to 3.
+    /// The code of a resource in phich-Resource, 0 to 3.
     pub fn code(self) -> u8
         ensures value { result ≡ resource_code self }
         ensures bound { result ≤ 3 }
@@ -58,7 +58,7 @@ impl Resource {
         }
     }
 
-    /// Its name in the standard.
+    /// The name of a resource in the standard.
     pub fn name(self) -> &'static str
         ensures value { result.now ≡ resource_word self }
         ensures back { resource_named result.now ≡ Some self }

@@ -58,7 +58,7 @@ impl Schedule {
         self.items.as_slice()
     }
 
-    /// The same list.
+    /// A copy of the list.
     pub fn copy(&self) -> Schedule
         ensures { result ≡ self.now }
     {

@@ -14,7 +14,7 @@ pub struct SiMessage {
 }
 
 impl SiMessage {
-    /// The same entry.
+    /// A copy of the entry.
     pub fn copy(&self) -> SiMessage
         ensures { result ≡ self.now }
     {

@@ -59,7 +59,7 @@ impl Sib1 {
             && self.tag <= 31
     }
 
-    /// The same fields.
+    /// A copy of all fields.
     pub fn copy(&self) -> Sib1
         ensures { result ≡ self.now }
     {

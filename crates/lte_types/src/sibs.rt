@@ -56,7 +56,7 @@ impl Sibs {
         self.items.as_slice()
     }
 
-    /// The same list.
+    /// A copy of the list.
     pub fn copy(&self) -> Sibs
         ensures { result ≡ self.now }
     {

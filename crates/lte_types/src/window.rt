@@ -34,7 +34,7 @@ impl Window {
         }
     }
 
-    /// Its code in si-WindowLength, 0 to 6.
+    /// The code of a window in si-WindowLength, 0 to 6.
     pub fn code(self) -> u8
         ensures value { result ≡ window_code self }
         ensures bound { result ≤ 6 }
@@ -68,7 +68,7 @@ impl Window {
         }
     }
 
-    /// Its milliseconds, 1 to 40.
+    /// The milliseconds of a window, 1 to 40.
     pub fn milliseconds(self) -> u8
         ensures value { result ≡ window_length self }
         ensures back { window_of result ≡ Some self }
@@ -84,7 +84,7 @@ impl Window {
         }
     }
 
-    /// Its name in the standard.
+    /// The name of a window in the standard.
     pub fn name(self) -> &'static str
         ensures { result.now ≡ window_word self }
     {

@@ -53,7 +53,7 @@ plmn_identity_list = do
 abbrev pub csg_identity : Grammar ℕ
 csg_identity = from_to 27 0 134217727
 
--- 0 is `barred`, and 0 is `allowed`
+-- cellAccessRelatedInfo, where 0 is `barred` for cellBarred and `allowed` for intraFreqReselection
 unfoldable pub cell_access_related_info : Grammar CellAccessRelatedInfo
 cell_access_related_info = do
   has_csg_identity ← flag
@@ -76,7 +76,7 @@ cell_access_related_info = do
 
 -- ---- cellSelectionInfo
 
--- 1 to 8
+-- q-RxLevMinOffset is 1 to 8
 unfoldable pub q_rx_lev_min_offset : Grammar ℕ
 q_rx_lev_min_offset = do
   n ← from_to 3 0 7
@@ -90,7 +90,7 @@ cell_selection_info = do
   offset ← if_present has_offset q_rx_lev_min_offset
   done (record { q_rx = pos q_rx_lev_min -ℤ pos 70; q_offset = offset })
 
--- -30 to 33
+-- p-Max is -30 to 33
 unfoldable pub p_max : Grammar ℤ
 p_max = do
   n ← from_to 6 0 63

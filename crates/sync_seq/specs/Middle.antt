@@ -7,10 +7,10 @@ use Rattle.cs_num.specs.Complex.{nothing}
 abbrev pub middle : ℕ → ℕ
 middle n = n + 5
 
--- a subcarrier is one of them
+-- a subcarrier is one of the middle 62
 abbrev pub is_middle : ℕ → Bool
 is_middle k = nat_le 5 k && nat_lt k 67
 
--- the grid of a symbol that holds these values alone
+-- the grid of a symbol that holds 62 values in the middle, and nothing elsewhere
 abbrev pub in_middle : (ℕ → Cpx) → ℕ → Cpx
 in_middle values k = if nat_lt k 5 then nothing else if nat_lt k 67 then values (k - 5) else nothing

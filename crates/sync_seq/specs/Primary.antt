@@ -16,6 +16,6 @@ turns n = if nat_lt n 31 then n * (n + 1) / 2 else (n + 1) * (n + 2) / 2
 unfoldable pub pss_at : ℕ → ℕ → Cpx
 pss_at n2 n = z_at ((63 - root_of n2) * turns n)
 
--- the whole sequence
+-- the whole primary synchronisation sequence
 unfoldable pub pss_list : ℕ → List Cpx
 pss_list n2 = values_below 62 (pss_at n2)

@@ -83,6 +83,6 @@ amplitude sign = record { re = pos 127 *ℤ sign; im = pos 0 }
 abbrev pub sss_amplitude : ℕ → ℕ → Half → ℕ → Cpx
 sss_amplitude n1 n2 half n = amplitude (sss_at n1 n2 half n)
 
--- the whole sequence
+-- the whole secondary synchronisation sequence of an identity and a half
 unfoldable pub sss_list : ℕ → ℕ → Half → List ℤ
 sss_list n1 n2 half = values_below 62 (sss_at n1 n2 half)
