@@ -11,6 +11,6 @@ use Rattle.cs_num.specs.Complex.{sample_at}
 unfoldable pub seen : List Sample → ℕ → ℕ → Cpx
 seen recording start k = rounded (spectrum_at (λ n. sample_at recording (start + n)) k) 12
 
--- what is seen at all its subcarriers
+-- what is seen at all subcarriers of the symbol whose useful part begins at sample start
 unfoldable pub seen_symbol : List Sample → ℕ → List Cpx
 seen_symbol recording start = values_below 72 (seen recording start)

@@ -3,7 +3,7 @@ use Rattle.std.specs.Prelude.{◌≡◌, List, ℤ}
 use Rattle.pbch.specs.declared.master.Master.{Master}
 use Rattle.pbch.specs.Master.{TellsMaster}
 
--- two masters have the same ports, the same cost and the same fields
+-- two masters have the same ports, cost and fields as one another
 pub record IsSame (a b : Master) : Type 0 where
   pub ports : a.ports ≡ b.ports
   pub cost : a.cost ≡ b.cost

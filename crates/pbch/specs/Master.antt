@@ -21,7 +21,7 @@ total values = total_below 40 (λ k. total_below 3 (λ t. nat_abs (sum_at values
 abbrev pub mask : ℕ → ℕ
 mask ports = if nat_eq ports 1 then 0 else (if nat_eq ports 2 then 0xffff else 0x5555)
 
--- the check of a word passes with the mask of so many antenna ports: 1, 2 or 4
+-- the check of a word passes with the mask of a number of antenna ports: 1, 2 or 4
 pub record PassesWith (ports : ℕ) (word : List Bool) : Type 0 where
   pub count : (ports ≡ 1) ⊎ (ports ≡ 2) ⊎ (ports ≡ 4)
   pub check : HasCheck16 (mask ports) word
@@ -31,7 +31,7 @@ abbrev pub Carries : List Bool → Mib → Type 0
 Carries word mib =
     HasFields mib (bandwidth (field word 0 3)) (duration (field word 3 1)) (resource (field word 4 2)) (field word 6 8) (field word 14 10)
 
--- these values tell this word, as one of so many antenna ports
+-- these values tell this word, as one of a cell with a number of antenna ports
 pub record Tells (values : List (List ℤ)) (word : List Bool) (ports : ℕ) : Type 0 where
   pub least : IsLeastWord values word
   pub heard : 0 < total values
@@ -50,11 +50,11 @@ pub record TellsMaster (values : List (List ℤ)) (master : Master) : Type 0 whe
 abbrev pub TellsNothing : List (List ℤ) → Type 0
 TellsNothing values = (word : List Bool) (ports : ℕ) → Tells values word ports → ⊥
 
--- the slots tell this master at the phase of the first
+-- the slots tell this master, where the first has a phase
 abbrev pub IsMaster : List SeenSlot → ℕ → Master → Type 0
 IsMaster slots phase master = TellsMaster (coded_values slots phase) master
 
--- they tell no master at it
+-- the slots tell no master, where the first has a phase
 abbrev pub HasNoMaster : List SeenSlot → ℕ → Type 0
 HasNoMaster slots phase = TellsNothing (coded_values slots phase)
 
@@ -68,15 +68,15 @@ master_at masters phase = slice_index_or masters phase None
 abbrev pub sums_at : List (List (List ℤ)) → ℕ → List (List ℤ)
 sums_at sums phase = slice_index_or sums phase []
 
--- it is what so many frames of a cell tell by what was received, where the first has that phase and each has `size` bits
--- of the period; none where not all of them are in one period of four
+-- what is listed for a phase is what a count of frames of a cell tells by what was received, where the first has that
+-- phase and each has `size` bits of the period; none where not all of them are in one period of four
 pub record IsTold (identity size count : ℕ) (received : List ℤ) (masters : List (Option Master)) (phase : ℕ) : Type 0 where
   pub told : phase + count ≤ 4 →
       let values = summed_values identity (size * phase) received in
       MatchOption (master_at masters phase) (TellsNothing values) (TellsMaster values)
   pub beyond : 4 < phase + count → master_at masters phase ≡ None
 
--- these are the master blocks that so many frames of a cell tell, by phase
+-- these are the master blocks that a count of frames of a cell tells, by phase
 pub record AreMasters (identity size count : ℕ) (received : List ℤ) (masters : List (Option Master)) : Type 0 where
   pub phases : length masters ≡ 4
   pub first : IsTold identity size count received masters 0

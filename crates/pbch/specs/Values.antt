@@ -11,7 +11,7 @@ use Rattle.conv_code.specs.Reading.{summed_from}
 abbrev pub received_values_by : Valuing → SeenSlot → List ℤ
 received_values_by values slot = values (λ p. slot) (pbch_places slot.identity)
 
--- with one antenna port
+-- the 480 soft values of the channel's places in a slot, with one antenna port
 abbrev pub received_values : SeenSlot → List ℤ
 received_values = received_values_by placed_values
 
@@ -27,6 +27,7 @@ abbrev pub identity_of : List SeenSlot → ℕ
 identity_of [] = 0
 identity_of (slot ∷ slots) = slot.identity
 
--- those of slots, one of each frame, where the first frame has this phase: each has the next 480 bits of the period
+-- the sums by place of the coded word, by slots, one of each frame, where the first frame has this phase: each has
+-- the next 480 bits of the period
 unfoldable pub coded_values : List SeenSlot → ℕ → List (List ℤ)
 coded_values slots phase = summed_values (identity_of slots) (480 * phase) (flat_map received_values slots)

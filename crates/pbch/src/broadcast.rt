@@ -56,7 +56,7 @@ pub fn sums_of(id: CellId, first: usize, frames: &[Received]) -> [[i32; 3]; 40]
     sums_by(&CellScrambling::new(id), first, frames)
 }
 
-// The same by the scrambling bits of the cell.
+// The values of the coded word of 40 bits by the scrambling bits of the cell.
 pub(crate) fn sums_by(cell: &CellScrambling, first: usize, frames: &[Received]) -> [[i32; 3]; 40]
     requires period { first + 480 * length frames.now ≤ 1920 }
     ensures values { result ≡ summed_values cell.now first (flat_map (λ frame. frame) frames.now) }

@@ -23,7 +23,7 @@ impl Model for Received {
 }
 
 impl Received {
-    /// These values, at most 480, each from -127 to 127.
+    /// What was received in a frame: these values, at most 480, each from -127 to 127.
     pub fn new(values: &[i16]) -> Received
         requires few { length values.now ≤ 480 }
         requires sizes { AllWithin 127 values.now }
@@ -43,7 +43,7 @@ impl Received {
         self.values.as_slice()
     }
 
-    /// How many they are.
+    /// How many values were received in a frame.
     pub fn len(&self) -> usize
         ensures value { result ≡ length self.now }
         ensures few { result ≤ 480 }

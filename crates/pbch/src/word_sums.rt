@@ -61,7 +61,7 @@ impl Model for Sums {
 }
 
 impl Sums {
-    /// These sums, by index and stream, each of size at most 2,032.
+    /// The sums of a word: these, by index and stream, each of size at most 2,032.
     pub fn new(rows: &[[i32; 3]; 40]) -> Sums
         requires { RowsWithin 2032 rows.now }
         ensures { result ≡ rows.now }

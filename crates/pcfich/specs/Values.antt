@@ -11,6 +11,6 @@ unfoldable pub indicator_values_by : Valuing → SeenSlot → List ℤ
 indicator_values_by values slot =
     descrambled (pcfich_c_init slot.identity slot.number) 0 (values (λ p. slot) (pcfich_places slot.identity))
 
--- with one antenna port
+-- the 32 values by the bits before scrambling, with one antenna port
 abbrev pub indicator_values : SeenSlot → List ℤ
 indicator_values = indicator_values_by placed_values

@@ -16,17 +16,17 @@ unfoldable pub stream_values_by : Valuing → SeenSlot → List Reg → List ℤ
 stream_values_by values slot groups =
     descrambled (pdcch_c_init slot.identity slot.number) 0 (values (λ p. slot) (candidate_places slot.identity groups))
 
--- those of a slot
+-- the 288 values of elements 0 to 3 in a slot, by the indicator and the PHICH
 abbrev pub candidate_values_by : Valuing → SeenSlot → ℕ → Duration → Resource → List ℤ
 candidate_values_by values slot indicator duration resource =
     stream_values_by values slot (pdcch_groups slot.identity indicator duration resource)
 
--- and `None` where there are fewer than four elements
+-- the 288 values of elements 0 to 3 in a slot, and `None` where there are fewer than four elements
 unfoldable pub candidate_if_by : Valuing → SeenSlot → ℕ → Duration → Resource → Option (List ℤ)
 candidate_if_by values slot indicator duration resource =
     if nat_lt (element_count indicator duration resource) 4 then None
     else Some (candidate_values_by values slot indicator duration resource)
 
--- those of a slot with one antenna port
+-- the 288 values of elements 0 to 3 in a slot, with one antenna port
 abbrev pub candidate_values : SeenSlot → ℕ → Duration → Resource → List ℤ
 candidate_values = candidate_values_by placed_values

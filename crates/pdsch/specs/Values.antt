@@ -14,14 +14,13 @@ use Rattle.soft_bits.specs.Places.{Valuing, in_subframe, placed_values, descramb
 abbrev pub has_second_port : Carrier → Bool
 has_second_port carrier = nat_le 2 (ports_of carrier)
 
--- the values of so many blocks from a first one on, by the bits before scrambling, where the cell sends so
--- and by a way to make soft values; the sequence begins with the first place of the subframe and runs on
--- through both slots
+-- the values of a count of blocks from a first one on, by the bits before scrambling and by a way to make soft
+-- values; the sequence begins with the first place of the subframe and runs on through both slots
 unfoldable pub shared_values_by : Carrier → Valuing → SeenSlot → SeenSlot → ℕ → ℕ → ℕ → List ℤ
 shared_values_by carrier values first second cfi start blocks =
     descrambled (pdsch_c_init first.identity first.number system_information_rnti) 0
     (values (in_subframe first second) (shared_places_of (has_second_port carrier) first.identity cfi start blocks))
 
--- with one antenna port
+-- the values of a count of blocks from a first one on, with one antenna port
 abbrev pub shared_values : SeenSlot → SeenSlot → ℕ → ℕ → ℕ → List ℤ
 shared_values = shared_values_by OnePort placed_values

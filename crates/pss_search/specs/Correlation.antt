@@ -13,11 +13,11 @@ use Rattle.sync_seq.specs.Primary.{pss_at}
 abbrev pub pss_grid : ℕ → ℕ → Cpx
 pss_grid n2 = in_middle (pss_at n2)
 
--- p: sample n of the useful part of that symbol
+-- p: sample n of the useful part of a symbol that holds the primary sequence of n2 alone
 unfoldable pub wave : ℕ → ℕ → Cpx
 wave n2 n = useful_at (pss_grid n2) n
 
--- the whole useful part
+-- p(0) to p(127), the whole useful part
 abbrev pub wave_list : ℕ → List Cpx
 wave_list n2 = useful_part (pss_grid n2)
 
@@ -29,7 +29,7 @@ wave_power n2 = total_below 128 (λ n. square (wave n2 n))
 abbrev pub peak_term : (ℕ → Cpx) → List Sample → ℕ → ℕ → Cpx
 peak_term p recording t n = times (sample_at recording (t + n)) (conjugate (p n))
 
--- C: the square of the size of their sum
+-- C: the square of the size of the sum of r(t + n) * conj p(n)
 unfoldable pub peak : List Sample → ℕ → ℕ → ℕ
 peak recording n2 t = square (complex_sum_below 128 (peak_term (wave n2) recording t))
 
@@ -37,6 +37,6 @@ peak recording n2 t = square (complex_sum_below 128 (peak_term (wave n2) recordi
 abbrev pub energy_term : List Sample → ℕ → ℕ → ℕ
 energy_term recording t n = square (sample_at recording (t + n))
 
--- E: their sum
+-- E: the sum of |r(t + n)| ^ 2
 unfoldable pub energy : List Sample → ℕ → ℕ
 energy recording t = total_below 128 (energy_term recording t)

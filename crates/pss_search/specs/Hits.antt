@@ -52,15 +52,15 @@ found recording t n2 = record { t = t; n2 = n2; peak = peak recording n2 t; ener
 unfoldable pub hit_at : List Sample → ℕ → ℕ → List Hit
 hit_at recording t n2 = if is_hit recording t n2 then found recording t n2 ∷ [] else []
 
--- those of a place, by n2
+-- the hits at a place, by n2
 unfoldable pub hits_at : List Sample → ℕ → List Hit
 hits_at recording t = joined_below 3 (hit_at recording t)
 
--- those of the first places of the span, by place
+-- the hits at the first places of the span, by place
 unfoldable pub hits_before : List Sample → ℕ → List Hit
 hits_before recording count = joined_below count (λ i. hits_at recording (first_place + i))
 
--- all of them
+-- all hits of a recording
 abbrev pub hits_of : List Sample → List Hit
 hits_of recording = hits_before recording frame_length
 

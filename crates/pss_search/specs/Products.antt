@@ -36,7 +36,7 @@ product_at values o signal n = slice_index_or values (o + n) (pos 0) *ℤ slice_
 unfoldable pub dot_of : List ℤ → ℕ → List ℤ → ℤ
 dot_of values o signal = sum_below 128 (product_at values o signal)
 
--- the four sums of products of parts
+-- the four sums of products of parts of samples and of a signal
 abbrev pub products_of : Stretch → ℕ → List ℤ → List ℤ → ProductSums
 products_of stretch o re im = record {
   re_re = dot_of stretch.re o re;
@@ -45,11 +45,11 @@ products_of stretch o re im = record {
   re_im = dot_of stretch.re o im;
 }
 
--- by them, the sum of products with the conjugate of the signal
+-- the sum of products with the conjugate of the signal, by the sums of products of parts
 abbrev pub with_conjugate_of : ProductSums → Cpx
 with_conjugate_of p = record { re = p.re_re +ℤ p.im_im; im = p.im_re -ℤ p.re_im }
 
--- and that with the signal itself
+-- the sum of products with the signal itself, by the sums of products of parts
 abbrev pub with_signal_of : ProductSums → Cpx
 with_signal_of p = record { re = p.re_re -ℤ p.im_im; im = p.im_re +ℤ p.re_im }
 
@@ -57,6 +57,6 @@ with_signal_of p = record { re = p.re_re -ℤ p.im_im; im = p.im_re +ℤ p.re_im
 abbrev pub correlation_at : List Sample → ℕ → ℕ → Cpx
 correlation_at recording t n2 = complex_sum_below 128 (peak_term (wave n2) recording t)
 
--- that for the three signals
+-- the sums whose squared sizes the peaks of the three signals are
 abbrev pub correlations_at : List Sample → ℕ → List Cpx
 correlations_at recording t = values_below 3 (correlation_at recording t)

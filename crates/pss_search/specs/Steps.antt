@@ -18,7 +18,7 @@ pub record IsSmallMetric (metric : Metric) : Type 0 where
   pub peak : metric.peak < 2 ^ 70
   pub energy : metric.energy ≤ 2 ^ 38
 
--- the metric of place t for n2, and so small
+-- a metric is that of place t for n2, and its two numbers are small
 pub record IsMetricOf (recording : List Sample) (n2 t : ℕ) (metric : Metric) : Type 0 where
   pub peak : metric.peak ≡ peak recording n2 t
   pub energy : metric.energy ≡ energy recording t
@@ -34,8 +34,8 @@ pub record AreSmallProducts (p : ProductSums) : Type 0 where
 
 -- ---- a sweep
 
--- its place is one of those to be measured or the end, it knows the energy there, and the squares of the samples that it
--- has seen are no greater than those of 16-bit numbers
+-- the place of a sweep is one of those to be measured or the end, the energy there is known, and the squares of the
+-- samples that were seen are no greater than those of 16-bit numbers
 pub record IsReady (recording : List Sample) (place total : ℕ) : Type 0 where
   pub long : 57600 ≤ length recording
   pub first : 128 ≤ place
@@ -69,6 +69,6 @@ pub record DecidesOn (window : Standing) (t : ℕ) : Type 0 where
 
 -- ---- the list
 
--- the hits of the first places, and of the lower roots at the next
+-- the hits of the first places, and those of the lower roots at the next place
 abbrev pub so_far : List Sample → ℕ → ℕ → List Hit
 so_far recording i n2 = hits_before recording i ++ joined_below n2 (hit_at recording (first_place + i))

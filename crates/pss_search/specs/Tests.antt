@@ -18,7 +18,7 @@ is_level recording n2 first second = nat_lt 0 (energy recording first) && nat_lt
 unfoldable pub rules_out : List Sample → ℕ → ℕ → ℕ → Bool
 rules_out recording n2 t u = is_above recording n2 u t || (nat_lt u t && is_level recording n2 u t)
 
--- some place within 9 does
+-- some place within 9 of t rules t out
 unfoldable pub is_ruled_out : List Sample → ℕ → ℕ → Bool
 is_ruled_out recording n2 t = any_below 19 (λ d. rules_out recording n2 t (t - 9 + d))
 

@@ -130,7 +130,7 @@ impl<'a> Sweep<'a> {
         }
     }
 
-    // The same as a row.
+    // The metrics of the next place, for all n2, as a row.
     #[inline(always)]
     pub(crate) fn measure(&mut self) -> Option<Row>
         ensures end { IsNone result ↔ (self.old.place ≡ end_place) }

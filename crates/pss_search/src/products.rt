@@ -21,7 +21,7 @@ pub(crate) struct Stretch {
 }
 
 impl Stretch {
-    // Those from place t on.
+    // The stretch of 256 samples from place t on.
     pub(crate) fn new(samples: &[Sample], t: usize) -> Self
         requires { t + 256 ≤ length samples.now }
         ensures held { IsStretchOf samples.now result }
@@ -106,8 +106,8 @@ struct ProductSums {
     re_im: i32,
 }
 
-// Those sums, of the samples from o on of a stretch, with the signal whose real parts are list `part`, and whose
-// imaginary parts are the next.
+// The sums of products of parts for the samples from o on of a stretch, with the signal whose real parts are list
+// `part`, and whose imaginary parts are the next.
 #[inline(always)]
 fn product_sums(stretch: &Stretch, o: usize, part: usize) -> ProductSums
     requires o { o ≤ 128 }

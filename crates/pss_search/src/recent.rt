@@ -8,7 +8,7 @@ use crate::measure::{Metric, Row, Sweep};
 use sample_file::Recording;
 use std::marker::Model;
 
-// As many places decide whether one is a hit: itself and nine on each side.
+// How many places decide whether one is a hit: itself and nine on each side.
 const PLACES: usize = 19;
 
 // The rows that are kept: a power of two, so that a place's row is soon found.

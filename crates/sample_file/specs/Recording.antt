@@ -47,7 +47,7 @@ AreReadBack = (samples : List Sample) → All (λ s. IsWithin 32767 (value_of s)
 
 -- ---- forms of samples
 
--- so many bytes a sample
+-- how many bytes a sample has
 abbrev pub width : SampleForm → ℕ
 width Ci16 = 4
 width Cu8 = 2
@@ -72,6 +72,6 @@ pub record IsRecording (samples : List Sample) : Type 0 where
   pub least : least_samples ≤ length samples
   pub most : length samples ≤ most_samples
 
--- two recordings have the same first samples, so many
+-- the first samples of two recordings, as many as the count says, are the same
 abbrev pub AgreeBefore : ℕ → List Sample → List Sample → Type 0
 AgreeBefore count first second = take count first ≡ take count second

@@ -46,7 +46,7 @@ pub fn write_samples<K: Sink>(sink: &mut K, samples: &[Sample]) -> Result<(), Fa
     Ok(())
 }
 
-// The same for no more samples than a buffer has bytes for.
+// Writes the bytes of no more samples than a buffer has room for.
 fn write_piece<K: Sink>(sink: &mut K, buffer: &mut [u8], samples: &[Sample]) -> Result<(), Failed>
     requires { 4 * length samples.now ≤ length buffer.old }
     ensures same_length { length buffer.new ≡ length buffer.old }

@@ -13,8 +13,8 @@ place_by step shift i = shift + step * i
 abbrev pub between_by : ℕ → (ℕ → Cpx) → ℕ → ℕ → Cpx
 between_by step pilots i r = plus (multiple (step - r) (pilots i)) (multiple r (pilots (i + 1)))
 
--- so many times the line through the pilots up to the last at a subcarrier: at a subcarrier before the first pilot so
--- many times that pilot, from the last pilot on so many times the last, and straight between two
+-- the line through the pilots up to the last at a subcarrier, as many times as there are subcarriers from pilot to
+-- pilot: before the first pilot it is that pilot, from the last pilot on the last, and straight between two
 abbrev pub line_by : ℕ → ℕ → (ℕ → Cpx) → ℕ → ℕ → Cpx
 line_by step last pilots shift k =
     if nat_lt k (place_by step shift 0) then multiple step (pilots 0)

@@ -16,7 +16,7 @@ pub record HaveOneFront (a b : SeenSlot) : Type 0 where
 abbrev pub AreInFront : List Place → Type 0
 AreInFront places = (i : ℕ) → (slice_index_or places i (place 0 0)).symbol % 7 < 4
 
--- a way to make soft values looks at the front of a slot alone for those of such places
+-- a way to make soft values looks at the front of a slot alone where all places are in its first four symbols
 abbrev pub LooksAtFront : Valuing → Type 0
 LooksAtFront values =
     (a b : SeenSlot) (places : List Place) → HaveOneFront a b → AreInFront places → values (λ p. a) places ≡ values (λ p. b) places

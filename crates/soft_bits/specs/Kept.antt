@@ -9,7 +9,7 @@ use Rattle.soft_bits.specs.Soft.{SeenSlot, AreSmall, pilot, pilot_energy}
 abbrev pub slot_of : Seen → SeenSlot
 slot_of seen = record { symbols = seen.symbols.now; number = seen.number; identity = seen.id }
 
--- its pilots and their energy, made once
+-- what is kept of a slot: its pilots and their energy, made once
 pub record IsKept (slot : SeenSlot) (pilots : List Cpx) (energy : ℕ) : Type 0 where
   pub number : slot.number < 20
   pub small : AreSmall slot.symbols

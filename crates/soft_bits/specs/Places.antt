@@ -12,7 +12,7 @@ use Rattle.soft_bits.specs.Soft.{SeenSlot, soft_values}
 abbrev pub slot_with : {Slot : Type 0} → Slot → Slot → ℕ → Slot
 slot_with first second symbol = if nat_lt symbol 7 then first else second
 
--- the one that has a place
+-- the one of two slots of a subframe that has a place
 abbrev pub in_subframe : SeenSlot → SeenSlot → Place → SeenSlot
 in_subframe first second p = slot_with first second p.symbol
 
@@ -27,16 +27,16 @@ Valuing = (Place → SeenSlot) → List Place → List ℤ
 abbrev pub values_at : SeenSlot → Place → List ℤ
 values_at slot p = soft_values slot (p.symbol % 7) p.k
 
--- those of a list of places, one place after the other
+-- the soft values of a list of places, one place after the other
 unfoldable pub placed_values : Valuing
 placed_values slot places = flat_map (λ p. values_at (slot p) p) places
 
--- value i of them
+-- value i of the soft values of a list of places
 abbrev pub placed_value : (Place → SeenSlot) → List Place → ℕ → ℤ
 placed_value slot places i =
     let p : Place = slice_index_or places (i / 2) (place 0 0) in slice_index_or (values_at (slot p) p) (i % 2) (pos 0)
 
--- where one slot has all places
+-- the soft values of a list of places that are all in one slot
 abbrev pub soft_values_of : SeenSlot → List Place → List ℤ
 soft_values_of slot places = placed_values (λ p. slot) places
 
@@ -46,11 +46,12 @@ soft_values_of slot places = placed_values (λ p. slot) places
 abbrev pub descrambled_value : Bool → ℤ → ℤ
 descrambled_value bit value = if bit then neg_ℤ value else value
 
--- values by the bits before scrambling, of which the first is scrambled by bit `first` of these
+-- values by the bits before scrambling, of which the first is scrambled by bit `first` of a sequence
 abbrev pub turned_by : (ℕ → Bool) → ℕ → List ℤ → List ℤ
 turned_by bit first values =
     values_below (length values) (λ i. descrambled_value (bit (first + i)) (slice_index_or values i (pos 0)))
 
--- the same by the bits of the sequence of c_init (TS 36.211 sections 7.2, 6.3.1, 6.6.1, 6.7.1 and 6.8.2)
+-- values by the bits before scrambling with the sequence of c_init, of which the first is scrambled by bit `first`
+-- (TS 36.211 sections 7.2, 6.3.1, 6.6.1, 6.7.1 and 6.8.2)
 unfoldable pub descrambled : ℕ → ℕ → List ℤ → List ℤ
 descrambled c_init first values = turned_by (gold_bit c_init) first values

@@ -30,16 +30,16 @@ pilot_subcarrier identity i = pilot_place (identity % 3) i
 
 -- ---- for any pattern of reference signals
 
--- the symbol that holds it
+-- the symbol that holds pilot i
 unfoldable pub pattern_symbol : Pattern → ℕ → ℕ → ℕ
 pattern_symbol pattern identity i =
     if is_pattern_place pattern identity 0 (pilot_subcarrier identity i) then 0 else pattern.later
 
--- what was seen there
+-- what was seen at pilot i
 unfoldable pub pattern_seen : Pattern → SeenSlot → ℕ → Cpx
 pattern_seen pattern slot i = seen_at slot (pattern_symbol pattern slot.identity i) (pilot_subcarrier slot.identity i)
 
--- what was sent there
+-- what was sent at pilot i
 unfoldable pub pattern_sent : Pattern → ℕ → ℕ → ℕ → Cpx
 pattern_sent pattern identity number i =
     pattern_reference pattern identity number (pattern_symbol pattern identity i) (pilot_subcarrier identity i / 6)
@@ -85,11 +85,12 @@ abbrev pub soft_value : ℤ → ℕ → ℤ
 soft_value component energy =
     if nat_eq energy 0 then pos 0 else clamped (int_div (pos 6 *ℤ component) (pos energy)) 127
 
--- those of what stands for an amplitude: of the bit in the real part, then of that in the imaginary part
+-- the two soft values of what stands for an amplitude: of the bit in the real part, then of that in the imaginary
+-- part
 abbrev pub soft_pair : Cpx → ℕ → List ℤ
 soft_pair amplitude energy = soft_value amplitude.re energy ∷ soft_value amplitude.im energy ∷ []
 
--- a place equalised: times the conjugate of the channel there
+-- a place equalised: what was seen there times the conjugate of the channel
 abbrev pub equalised : SeenSlot → ℕ → ℕ → Cpx
 equalised slot symbol k = times (seen_at slot symbol k) (conjugate (channel slot k))
 

@@ -13,7 +13,7 @@ use Rattle.soft_bits.specs.Estimate.{line_by}
 unfoldable pub upper_seen : UpperPort → SeenSlot → ℕ → Cpx
 upper_seen port slot m = seen_at slot 1 (upper_first port slot.identity slot.number + 6 * m)
 
--- the channel there, times the square of the reference's size
+-- the channel at pilot m of 12, times the square of the reference's size
 unfoldable pub upper_pilot : UpperPort → SeenSlot → ℕ → Cpx
 upper_pilot port slot m = times (upper_seen port slot m) (conjugate (reference slot.identity slot.number 1 m))
 

@@ -32,7 +32,7 @@ pub fn upper_estimate(pilots: &[Cpx; 12], first: u8, k: u8) -> Cpx
     line(pilots, 6, first, k)
 }
 
-// So many times the line through pilots that stand at every `step` subcarriers of the 72.
+// The line through pilots that stand at every `step` subcarriers of the 72, `step` times.
 fn line(pilots: &[Cpx], step: u8, first: u8, k: u8) -> Cpx
     requires pilots { All (IsWithin (180 * 2 ^ 25)) pilots.now }
     requires whole { step * length pilots.now ≡ 72 }
@@ -57,7 +57,7 @@ fn line(pilots: &[Cpx], step: u8, first: u8, k: u8) -> Cpx
     }
 }
 
-// The same, r subcarriers from pilot i on the way to the next.
+// The line at r subcarriers from pilot i on the way to the next, `step` times.
 fn between(pilots: &[Cpx], step: u8, i: usize, r: u8) -> Cpx
     requires pilots { All (IsWithin (180 * 2 ^ 25)) pilots.now }
     requires few { step ≤ 6 }

@@ -17,7 +17,7 @@ IsBefore m Zero n Five = Unit {0}
 IsBefore m Five n Zero = ⊥
 IsBefore m Five n Five = m < n
 
--- of all 336 pairs this one has the greatest score, and each before it a smaller one
+-- among all 336 pairs this one has the greatest score, and each before it a smaller one
 pub record IsBest (scores : ℕ → Half → ℤ) (n1 : ℕ) (half : Half) : Type 0 where
   pub known : n1 ≤ 167
   pub greatest : (m : ℕ) (other : Half) → m ≤ 167 → scores m other ≤ℤ scores n1 half
@@ -32,7 +32,7 @@ first_greatest f (suc n) = if int_lt (f (first_greatest f n)) (f (suc n)) then s
 abbrev pub best_group : (ℕ → Half → ℤ) → Half → ℕ
 best_group scores half = first_greatest (λ n1. scores n1 half) 167
 
--- the best pair
+-- the best pair of a group and a half
 unfoldable pub best_pair : (ℕ → Half → ℤ) → ℕ × Half
 best_pair scores =
     if int_lt (scores (best_group scores Zero) Zero) (scores (best_group scores Five) Five)
@@ -44,7 +44,7 @@ best_pair scores =
 abbrev pub prefix_scores : Prefix → List Sample → Hit → ℕ → Half → ℤ
 prefix_scores prefix recording hit = score (seen recording hit.t) (seen recording (hit.t - symbol_step prefix)) hit.n2
 
--- the identity group and the half of a hit by it
+-- the identity group and the half of a hit by a cyclic prefix
 unfoldable pub prefix_identity : Prefix → List Sample → Hit → ℕ × Half
 prefix_identity prefix recording hit = best_pair (prefix_scores prefix recording hit)
 

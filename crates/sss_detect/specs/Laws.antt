@@ -8,7 +8,7 @@ use Rattle.sss_detect.specs.Second.{IsSecond, second_pair}
 abbrev pub BestPairIsBest : Type 0
 BestPairIsBest = (scores : ℕ → Half → ℤ) → IsBest scores (best_pair scores).0 (best_pair scores).1
 
--- and no other pair is
+-- no other pair than the best is the first of the greatest of all 336
 abbrev pub OnlyOneIsBest : Type 0
 OnlyOneIsBest =
     (scores : ℕ → Half → ℤ) (n1 : ℕ) (half : Half) → IsBest scores n1 half →
@@ -19,7 +19,7 @@ abbrev pub SecondPairIsSecond : Type 0
 SecondPairIsSecond =
     (scores : ℕ → Half → ℤ) → IsSecond scores (best_pair scores) (second_pair scores).0 (second_pair scores).1
 
--- and no other pair is
+-- no other pair than the second is the first of the greatest of the 335 others
 abbrev pub OnlyOneIsSecond : Type 0
 OnlyOneIsSecond =
     (scores : ℕ → Half → ℤ) (n1 : ℕ) (half : Half) → IsSecond scores (best_pair scores) n1 half →

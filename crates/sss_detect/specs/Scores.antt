@@ -16,6 +16,6 @@ channel primary n2 n = times (primary (middle n)) (conjugate (pss_at n2 n))
 abbrev pub agreement : (ℕ → Cpx) → (ℕ → Cpx) → ℕ → ℕ → ℤ
 agreement primary secondary n2 n = (times (secondary (middle n)) (conjugate (channel primary n2 n))).re
 
--- the score of a group and a half: the sum of the agreements, with the signs of their secondary sequence
+-- the score of a group and a half: the sum of the agreements, each with the sign of the secondary sequence there
 unfoldable pub score : (ℕ → Cpx) → (ℕ → Cpx) → ℕ → ℕ → Half → ℤ
 score primary secondary n2 n1 half = sum_below 62 (λ n. sss_at n1 n2 half n *ℤ agreement primary secondary n2 n)

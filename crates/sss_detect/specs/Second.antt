@@ -9,7 +9,7 @@ use Rattle.sss_detect.specs.declared.rank.Choice.{Choice}
 use Rattle.sss_detect.specs.declared.rank.Ranking.{Ranking}
 use Rattle.sss_detect.specs.Identity.{IsBefore, first_greatest, best_pair, prefix_scores}
 
--- of the 335 other pairs than the best this one has the greatest score, and each of them before it a smaller one
+-- among the 335 other pairs than the best this one has the greatest score, and each of them before it a smaller one
 pub record IsSecond (scores : ℕ → Half → ℤ) (best : ℕ × Half) (n1 : ℕ) (half : Half) : Type 0 where
   pub known : n1 ≤ 167
   pub another : (n1, half) ≢ best
@@ -29,7 +29,7 @@ place_of (n1, Five) = 168 + n1
 abbrev pub score_at : (ℕ → Half → ℤ) → ℕ → ℤ
 score_at scores place = scores (pair_at place).0 (pair_at place).1
 
--- place i of those that are left when one is taken away
+-- place i of the places that are left when one is taken away
 abbrev pub left_without : ℕ → ℕ → ℕ
 left_without taken i = if nat_lt i taken then i else i + 1
 
@@ -41,7 +41,7 @@ next_greatest f taken n = left_without taken (first_greatest (λ i. f (left_with
 unfoldable pub second_pair : (ℕ → Half → ℤ) → ℕ × Half
 second_pair scores = pair_at (next_greatest (score_at scores) (place_of (best_pair scores)) 334)
 
--- ---- with their scores
+-- ---- the two best pairs with their scores
 
 abbrev pub choice_of : (ℕ → Half → ℤ) → ℕ × Half → Choice
 choice_of scores pair = record { n1 = pair.0; half = pair.1; score = scores pair.0 pair.1 }
@@ -52,6 +52,6 @@ ranking_of scores = record {
   second = choice_of scores (second_pair scores);
 }
 
--- those of a hit by a cyclic prefix
+-- the two best pairs of a hit by a cyclic prefix, with their scores
 unfoldable pub prefix_ranking : Prefix → List Sample → Hit → Ranking
 prefix_ranking prefix recording hit = ranking_of (prefix_scores prefix recording hit)

@@ -7,7 +7,7 @@ use Rattle.lte_types.specs.declared.frame.Half.{Half}
 use Rattle.sync_seq.specs.Secondary.{S, C, Z, period_bits, shifted_value, sss_at}
 use Rattle.sss_detect.specs.Scores.{agreement}
 
--- all agreements
+-- the agreements at all 62 places
 unfoldable pub agreements_of : (ℕ → Cpx) → (ℕ → Cpx) → ℕ → List ℤ
 agreements_of primary secondary n2 = values_below 62 (agreement primary secondary n2)
 
@@ -18,11 +18,12 @@ places_sum agreements n2 even odd first n =
     sum_below n (λ i. shifted_value (period_bits S) (period_bits C) (period_bits Z) n2 even odd (2 * i + first)
     *ℤ slice_index_or agreements (2 * i + first) (pos 0))
 
--- that of the even places for a shift of these; the shift of the odd ones does not matter
+-- the sum of the agreements at the even places, by a shift of these; the shift of the odd ones does not matter
 abbrev pub even_sum : List ℤ → ℕ → ℕ → ℤ
 even_sum agreements n2 shift = places_sum agreements n2 shift 0 0 31
 
--- that of the odd places for number i of their shifts, each with those of the even places modulo 8
+-- the sum of the agreements at the odd places for number i of their shifts, each with those of the even places modulo
+-- 8
 abbrev pub odd_sum : List ℤ → ℕ → ℕ → ℤ
 odd_sum agreements n2 i = places_sum agreements n2 (i % 8) (i / 8) 1 31
 

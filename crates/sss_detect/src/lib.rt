@@ -40,7 +40,8 @@ pub fn identity_with(recording: &Recording, hit: &Hit, prefix: Prefix) -> (u16, 
     )
 }
 
-/// The same by the normal cyclic prefix: the secondary symbol is 137 samples before the primary one.
+/// The identity group and the half of a frame of a hit by the normal cyclic prefix: the secondary symbol is 137
+/// samples before the primary one. `t`, the primary symbol and `n2` are as for `identity_with`.
 pub fn identity(recording: &Recording, hit: &Hit) -> (u16, Half)
     requires after { symbol_step normal ≤ hit.now.t }
     requires within { hit.now.t + 128 ≤ length recording.now }

@@ -36,7 +36,7 @@ pub(crate) fn best_two(pss_seen: &[Cpx; 72], sss_seen: &[Cpx; 72], n2: u8) -> Ra
     best_two_by(&agreements(pss_seen, sss_seen, n2), n2)
 }
 
-// Those that agreements give, which have size at most 254 times the square of 23,726,080.
+// The two best pairs by agreements, which have size at most 254 times the square of 23,726,080.
 fn best_two_by(agreements: &[i64; 62], n2: u8) -> Ranking
     requires small { AllWithin 142983425530265600 agreements.now }
     requires member { n2 ≤ 2 }

@@ -18,7 +18,7 @@ pub record IsBlock (values : List ℤ) (grant : Grant) (found : Option (List Boo
   pub size : row.k ≡ grant.size + 24
   pub tells : block row (summed row.k grant.rv values) ≡ found
 
--- there is a block, and it says this
+-- the values tell a block, and it says this
 pub record BlockSays (values : List ℤ) (grant : Grant) (answer : Result Sib1 Sib1Reason) : Type 0 where
   pub bits : List Bool
   pub is : IsBlock values grant (Some bits)

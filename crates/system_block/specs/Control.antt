@@ -10,7 +10,7 @@ use Rattle.dci.specs.declared.grant.Grant.{Grant}
 use Rattle.dci.specs.Format1A.{Says}
 use Rattle.dci.specs.Fields.{system_information_rnti}
 
--- there are so many elements, too few for a candidate
+-- there are too few control channel elements for a candidate, and their count is told
 pub record HasNoSearchSpace (count told : ℕ) : Type 0 where
   pub told_is : told ≡ count
   pub few : count < 4
@@ -20,13 +20,13 @@ pub record IsWord (count : ℕ) (candidate : List ℤ) (word : List Bool) : Type
   pub enough : 4 ≤ count
   pub least : IsLeastWord (summed 37 candidate) word
 
--- its check, masked by the identifier, fails
+-- the check of the candidate's word, masked by the identifier, fails
 pub record HasNoControl (count : ℕ) (candidate : List ℤ) : Type 0 where
   pub word : List Bool
   pub is : IsWord count candidate word
   pub fails : HasCheck16 system_information_rnti word → ⊥
 
--- that check passes, and the 21 bits before it say this
+-- the check of the candidate's word passes, and the 21 bits before it say this
 pub record ControlSays (count : ℕ) (candidate : List ℤ) (answer : Result Grant Sib1Reason) : Type 0 where
   pub word : List Bool
   pub is : IsWord count candidate word

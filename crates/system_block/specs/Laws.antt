@@ -11,17 +11,17 @@ use Rattle.system_block.specs.Attempt.{IsAttempt, Reads}
 abbrev pub IsOneAttempt : Type 0
 IsOneAttempt = (values : Subframe) (a b : Attempt) → IsAttempt values a → IsAttempt values b → a ≡ b
 
--- and only one answer
+-- there is only one answer of a subframe
 abbrev pub IsOneAnswer : Type 0
 IsOneAnswer = (values : Subframe) (a b : Result Sib1 Sib1Reason) → Reads values a → Reads values b → a ≡ b
 
--- there is one
+-- there is an attempt on each subframe
 abbrev pub IsSomeAttempt : Type 0
 IsSomeAttempt = (values : Subframe) → (attempt : Attempt) × IsAttempt values attempt
 
 abbrev pub IsSomeAnswer : Type 0
 IsSomeAnswer = (values : Subframe) → (answer : Result Sib1 Sib1Reason) × Reads values answer
 
--- and fields that are read are in their ranges
+-- fields that are read are in their ranges
 abbrev pub IsReadValid : Type 0
 IsReadValid = (values : Subframe) (fields : Sib1) → Reads values (Ok fields) → IsValid fields

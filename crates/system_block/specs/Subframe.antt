@@ -19,11 +19,11 @@ pub record Subframe : Type 0 where
   pub elements : ℕ → ℕ
   -- the 288 values of control channel elements 0 to 3, by indicator
   pub candidate : ℕ → List ℤ
-  -- those of the shared channel, by indicator, first block and count of blocks
+  -- the values of the shared channel, by indicator, first block and count of blocks
   pub shared : ℕ → ℕ → ℕ → List ℤ
 
--- of which both slots were seen, where the cell sends so, by a way to make soft values, and PHICH by the
--- master block
+-- the values of a subframe of which both slots were seen, by the carrier and a way to make soft values, with the
+-- PHICH of the master block
 abbrev pub subframe_by : Carrier → Valuing → SeenSlot → SeenSlot → Duration → Resource → Subframe
 subframe_by carrier values first second duration resource = record {
   indicator = indicator_values_by values first;
@@ -32,6 +32,6 @@ subframe_by carrier values first second duration resource = record {
   shared = shared_values_by carrier values first second;
 }
 
--- with one antenna port
+-- the values of a subframe of which both slots were seen, with one antenna port
 abbrev pub one_port : SeenSlot → SeenSlot → Duration → Resource → Subframe
 one_port = subframe_by OnePort placed_values
