@@ -16,7 +16,7 @@ use Rattle.cert_stream.specs.Stream.{most_bytes, IsAnswer, AreAnswers, IsFirstBr
 abbrev pub IsSound : List ℕ → Type 0
 IsSound part = (place : ℕ) → place < length part → Breaks part place → ⊥
 
--- so many bytes can be read of a certificate that has begun: those up to its set, or all, where its set was read
+-- how many bytes can be read of a certificate that has begun: those up to its set, or all, where its set was read
 abbrev pub IsAim : List ℕ → ℕ → Type 0
 IsAim part aim = (aim ≡ head_count) ⊎ ((head_count ≤ length part) × (aim ≡ count_of part))
 

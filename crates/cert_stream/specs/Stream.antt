@@ -39,7 +39,7 @@ pub record IsFirstBroken (bytes : List ℕ) (place : ℕ) : Type 0 where
   pub first : IsFirstBreak rest within
   pub here : place ≡ length (all_bytes certificates) + within
 
--- the same by a byte within the limit, or by the end of bytes within it
+-- the first place that breaks the form of certificates is a byte within the limit, or the end of bytes within it
 pub record IsBrokenAt (bytes : List ℕ) (place : ℕ) : Type 0 where
   pub first : IsFirstBroken bytes place
   pub within : (place < most_bytes) ⊎ (length bytes ≤ most_bytes)

@@ -20,7 +20,7 @@ const MOST_BYTES: usize = 67_108_864;
 pub(crate) enum Step {
     // The certificate goes on, and so many of its bytes can be read.
     Partial(usize),
-    // It is whole, and this is the answer to it.
+    // The certificate is whole, and this is the answer to it.
     Whole(bool),
     // The byte at this place is the first that breaks the form.
     Broken(u64),
@@ -40,7 +40,7 @@ pub fn read_answers<S: Source>(alloc: Global, source: &mut S) -> Result<Vec<bool
     read_each(alloc, source, &mut certificate, &mut window)
 }
 
-// The same with the memory of the longest certificate, and a window on its bytes.
+// The answers to the certificates of a source, with memory for the longest certificate and a window on its bytes.
 fn read_each<S: Source>(
     alloc: Global,
     source: &mut S,

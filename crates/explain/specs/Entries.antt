@@ -37,11 +37,11 @@ frames_of entry = record { count = entry.frames; first = entry.frame; phase = en
 abbrev pub master_of : Entry → Master
 master_of entry = record { ports = entry.ports; mib = entry.mib; cost = entry.cost }
 
--- the sums by which frames of a cell tell, by one antenna port
+-- the sums by which frames of a cell tell a master block, by one antenna port
 abbrev pub sums_of : List Sample → Place → Frames → List (List ℤ)
 sums_of = sums_by one_port_receiver
 
--- those that tell an entry's master block
+-- the sums that tell an entry's master block, by one antenna port
 abbrev pub values_of_entry : List Sample → Entry → List (List ℤ)
 values_of_entry recording entry = sums_of recording (place_of entry) (frames_of entry)
 
@@ -57,7 +57,7 @@ pub record IsEntryAt (Tells : Telling) (IsSystem : Informing) (recording : List 
   pub sfn : entry.sfn ≡ first_number entry.mib.upper (frames_of entry)
   pub sib1 : IsSystem (place_of entry) entry.sfn entry.ports entry.mib entry.sib1
 
--- by a receiver frames tell this master block, with a count of antenna ports that it takes
+-- frames tell this master block by a receiver, with a count of antenna ports that it takes
 pub record IsMasterFor (receiver : Receiver) (recording : List Sample) (place : Place) (frames : Frames)
     (master : Master) : Type 0 where
   pub taken : receiver.takes master.ports ≡ true
@@ -69,7 +69,7 @@ IsEntryFor receiver recording hit =
     IsEntryAt (IsMasterFor receiver recording) (IsSystemFor receiver recording) recording
     (place_by receiver.carrier recording hit)
 
--- by one antenna port
+-- frames tell this master block by one antenna port
 abbrev pub IsMasterAt : List Sample → Telling
 IsMasterAt = IsMasterFor one_port_receiver
 
@@ -103,7 +103,7 @@ is_same_cell a b = nat_eq a.id b.id && nat_le (distance (epoch a) (epoch b)) 9
 abbrev pub with_entry : List Entry → Entry → List Entry
 with_entry kept entry = if list_any (λ other. is_same_cell other entry) kept then kept else kept ++ entry ∷ []
 
--- of entries in order, those that are kept: each that is of the cell of no kept one before it
+-- the entries that are kept, of entries in order: each that is of the cell of no kept one before it
 abbrev pub kept : List Entry → List Entry
 kept entries = fold with_entry [] entries
 
@@ -114,23 +114,23 @@ abbrev pub IsBefore : Entry → Entry → Type 0
 IsBefore a b =
     (a.start < b.start) ⊎ ((a.start ≡ b.start) × ((a.id < b.id) ⊎ ((a.id ≡ b.id) × (a.sfn < b.sfn))))
 
--- the list has the kept ones of these entries, in order
+-- the list has, in order, the entries that are kept of these
 pub record IsListOf (entries list : List Entry) : Type 0 where
   pub same : IsPermutation (kept entries) list
   pub in_order : AllPairs IsBefore list
 
--- the list has these entries besides
+-- the list has these entries beside those that it had
 abbrev pub Adds : List Entry → List Entry → List Entry → Type 0
 Adds entries old new = (before : List Entry) → IsListOf before old → IsListOf (before ++ entries) new
 
--- the list of hits, where `AreOf` says which entries each hit has: that of their entries, those of one hit after those
--- of the other
+-- the list of hits, where `AreOf` says which entries each hit has: the entries of one hit come after those of the hit
+-- before
 pub record IsListOfHits (AreOf : Hit → List Entry → Type 0) (hits : List Hit) (list : List Entry) : Type 0 where
   pub groups : List (List Entry)
   pub each : AllZip AreOf hits groups
   pub listed : IsListOf (flat_map (λ entries. entries) groups) list
 
--- the list has the entries of a hit besides
+-- the list has the entries of a hit beside those that it had
 pub record AddsHit (AreOf : Hit → List Entry → Type 0) (hit : Hit) (old new : List Entry) : Type 0 where
   pub entries : List Entry
   pub are : AreOf hit entries
@@ -141,7 +141,7 @@ abbrev pub IsListFor : Receiver → List Sample → List Entry → Type 0
 IsListFor receiver recording list =
     IsListOfHits (AreEntriesFor receiver recording) (hits_by receiver.carrier recording) list
 
--- by one antenna port
+-- the list of a recording by one antenna port
 abbrev pub IsExplained : List Sample → List Entry → Type 0
 IsExplained = IsListFor one_port_receiver
 

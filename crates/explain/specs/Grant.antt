@@ -51,16 +51,16 @@ IsGrantWith (Ok values) recording place sfn mib sib1 told =
     IsGrantBy (IsFrameAttempt values recording place mib) recording place.start sfn sib1 told
 IsGrantWith (Err reason) recording place sfn mib sib1 told = told ≡ None
 
--- those by which a receiver reads the system information of the cell at a place
+-- the indicator and the grant by which a receiver reads the system information of the cell at a place
 abbrev pub IsGrantFor : Receiver → List Sample → Granting
 IsGrantFor receiver = IsGrantWith receiver.subframe
 
--- those of an entry, by one antenna port
+-- the indicator and the grant by which the system information of an entry was read, by one antenna port
 abbrev pub IsGrantOf : List Sample → Entry → Option (ℕ × Grant) → Type 0
 IsGrantOf recording entry told =
     IsGrantFor one_port_receiver recording (place_of entry) entry.sfn entry.mib entry.sib1 told
 
--- a law: by any receiver they are certain ones
+-- a law: system information was read by one indicator and grant, by any receiver
 abbrev pub IsOneGrant : Type 0
 IsOneGrant = (receiver : Receiver) (recording : List Sample) (place : Place) (sfn : ℕ) (mib : Mib)
     (sib1 : Result Sib1 Sib1Reason) (a b : Option (ℕ × Grant)) → IsGrantFor receiver recording place sfn mib sib1 a →

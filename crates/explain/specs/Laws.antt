@@ -1,5 +1,5 @@
--- What the list of a recording is, in plain words; and the same of any list of hits, where `IsOf` says which entries a
--- hit has. (own)
+-- What the list of a recording is, in plain words, and what the list of any hits is, where `IsOf` says which entries
+-- a hit has. (own)
 use Rattle.std.specs.Prelude.{◌≡◌, ◌≢◌, ◌⊎◌, ℕ, ◌<◌, ◌≤◌, true, List, Ok, Err}
 use Rattle.std.specs.List.{AllPairs, Contains}
 use Rattle.cs_num.specs.declared.Sample.{Sample}
@@ -20,7 +20,7 @@ HaveOneList IsOf hits =
     (first second : List Entry) → IsListOfHits (λ hit. AreEntries (IsOf hit)) hits first →
     IsListOfHits (λ hit. AreEntries (IsOf hit)) hits second → first ≡ second
 
--- by a receiver a recording has one list
+-- a recording has one list by a receiver
 abbrev pub IsOneList : Type 0
 IsOneList = (receiver : Receiver) (recording : List Sample) →
     HaveOneList (IsEntryFor receiver recording) (hits_by receiver.carrier recording)
@@ -41,12 +41,12 @@ abbrev pub IsSound : Type 0
 IsSound = (receiver : Receiver) (recording : List Sample) →
     IsSoundOf (IsEntryFor receiver recording) (hits_by receiver.carrier recording)
 
--- an entry of the list that stands for another: it is the same, or one of its cell
+-- an entry of the list stands for another: it is the same entry as that one, or one of its cell
 pub record StandsFor (list : List Entry) (entry other : Entry) : Type 0 where
   pub inside : Contains list other
   pub same : (other ≡ entry) ⊎ (is_same_cell other entry ≡ true)
 
--- for each entry of each hit one stands in the list: itself, or one of its cell
+-- each entry of each hit stands in the list, itself or as one of its cell
 abbrev pub IsCompleteOf : (Hit → Entry → Type 0) → List Hit → Type 0
 IsCompleteOf IsOf hits =
     (list : List Entry) (entry : Entry) → IsListOfHits (λ hit. AreEntries (IsOf hit)) hits list →
@@ -57,12 +57,12 @@ abbrev pub IsComplete : Type 0
 IsComplete = (receiver : Receiver) (recording : List Sample) →
     IsCompleteOf (IsEntryFor receiver recording) (hits_by receiver.carrier recording)
 
--- two of the list are not of one cell, so that they have not the same identity, start and frame number
+-- two entries are not of one cell, so that they have not the same identity, start and frame number as one another
 pub record AreApart (first second : Entry) : Type 0 where
   pub other_cell : is_same_cell first second ≢ true
   pub differ : first.id ≡ second.id → first.start ≡ second.start → first.sfn ≢ second.sfn
 
--- no two of the list are
+-- no two entries of the list of hits are of one cell
 abbrev pub IsApartOf : (Hit → Entry → Type 0) → List Hit → Type 0
 IsApartOf IsOf hits =
     (list : List Entry) → IsListOfHits (λ hit. AreEntries (IsOf hit)) hits list → AllPairs AreApart list
@@ -71,7 +71,7 @@ abbrev pub IsApart : Type 0
 IsApart = (receiver : Receiver) (recording : List Sample) →
     IsApartOf (IsEntryFor receiver recording) (hits_by receiver.carrier recording)
 
--- no entry of it has the reason that the cyclic prefix is the extended one, where there are values of subframe 5
+-- no entry of a list has the reason that the cyclic prefix is the extended one, where there are values of subframe 5
 abbrev pub IsNeverLong : Type 0
 IsNeverLong = (receiver : Receiver) (values : Subframes) (recording : List Sample)
     (list : List Entry) (entry : Entry) → receiver.subframe ≡ Ok values → IsListFor receiver recording list →
@@ -94,12 +94,12 @@ pub record IsEntryOfOneFrame (receiver : Receiver) (recording : List Sample) (hi
   pub sfn : entry.sfn ≡ first_number entry.mib.upper (frames_of entry)
   pub sib1 : IsSystemFor receiver recording (place_of entry) entry.sfn entry.ports entry.mib entry.sib1
 
--- it is one of the hit's
+-- an entry of one frame of a hit is one of the hit's
 abbrev pub OneFrameTells : Type 0
 OneFrameTells = (receiver : Receiver) (recording : List Sample) (hit : Hit) (entry : Entry) →
     IsEntryOfOneFrame receiver recording hit entry → IsEntryFor receiver recording hit entry
 
--- so it stands in the list, itself or one of its cell
+-- an entry of one frame of a hit stands in the list, itself or as one of its cell
 abbrev pub OneFrameIsListed : Type 0
 OneFrameIsListed =
     (receiver : Receiver) (recording : List Sample) (list : List Entry) (hit : Hit) (entry : Entry) →

@@ -1,5 +1,5 @@
--- The master blocks of frames, and the entries that are made of them. `Tells` and `IsSystem` are those of an entry.
--- (own)
+-- The master blocks of frames, and the entries that are made of them. `Tells` says which master block frames tell,
+-- and `IsSystem` what is told of the system information. (own)
 use Rattle.std.specs.Prelude.{◌≡◌, ℕ, ◌+◌, ◌<◌, ◌≤◌, List, [], ◌∷◌, Option, None, Some, MatchOption, IfSome, Result}
 use Rattle.finite.specs.Lists.{joined_below}
 use Rattle.cs_num.specs.declared.Sample.{Sample}
@@ -23,19 +23,19 @@ abbrev pub AreTold : Telling → Place → ℕ → ℕ → List (Option Master) 
 AreTold Tells place count j masters =
     (phase : ℕ) → phase + count ≤ 4 → IsToldAt Tells place (frames_from count j phase) (master_at masters phase)
 
--- some phase of so many frames has a master block
+-- some phase of a count of frames has a master block
 pub record HasMaster (count : ℕ) (masters : List (Option Master)) : Type 0 where
   pub phase : ℕ
   pub known : phase + count ≤ 4
   pub master : Master
   pub is : master_at masters phase ≡ Some master
 
--- so many frames from frame j on tell a master block, and these are their master blocks
+-- a count of frames from frame j on tell a master block, and these are their master blocks
 pub record HaveMasters (Tells : Telling) (place : Place) (count j : ℕ) (masters : List (Option Master)) : Type 0 where
   pub are : AreTold Tells place count j masters
   pub some : HasMaster count masters
 
--- they are the first that do
+-- a count of frames from frame j on are the first that tell a master block, and these are their master blocks
 pub record AreFirstWith (Tells : Telling) (recording : List Sample) (place : Place) (count j : ℕ)
     (masters : List (Option Master)) : Type 0 where
   pub frames : AreFirstFrames Tells recording place count j
@@ -58,12 +58,12 @@ entry_of place frames master sib1 = record {
   sib1 = sib1;
 }
 
--- that of a phase, where it has a master block
+-- the entry of a phase, where it has a master block
 abbrev pub entry_at : Place → Frames → Option Master → Result Sib1 Sib1Reason → List Entry
 entry_at place frames None sib1 = []
 entry_at place frames (Some master) sib1 = entry_of place frames master sib1 ∷ []
 
--- those of the first phases, so many, with their system information by phase
+-- the entries of the first phases, as many as the last number says, with their system information by phase
 abbrev pub entries_of : Place → ℕ → ℕ → List (Option Master) → (ℕ → Result Sib1 Sib1Reason) → ℕ → List Entry
 entries_of place count j masters systems phases =
     joined_below phases (λ phase. entry_at place (frames_from count j phase) (master_at masters phase) (systems phase))
@@ -75,14 +75,14 @@ abbrev pub IsSystemAt : Informing → Place → Frames → Option Master → Res
 IsSystemAt IsSystem place frames o sib1 =
     IfSome o (λ master. IsSystem place (first_number master.mib.upper frames) master.ports master.mib sib1)
 
--- the list has the entry of a phase besides
+-- the list has the entry of a phase beside those that it had
 pub record AddsPhase (IsSystem : Informing) (place : Place) (frames : Frames) (o : Option Master)
     (old new : List Entry) : Type 0 where
   pub sib1 : Result Sib1 Sib1Reason
   pub told : IsSystemAt IsSystem place frames o sib1
   pub adds : Adds (entry_at place frames o sib1) old new
 
--- the list has the entries of the first phases besides, so many
+-- the list has the entries of the first phases, as many as `phases` says, beside those that it had
 pub record AddsPhases (IsSystem : Informing) (place : Place) (count j : ℕ) (masters : List (Option Master)) (phases : ℕ)
     (old new : List Entry) : Type 0 where
   pub systems : ℕ → Result Sib1 Sib1Reason

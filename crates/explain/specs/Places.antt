@@ -3,7 +3,7 @@ use Rattle.std.specs.Prelude.{◌&&◌, Bool, nat_eq, List}
 use Rattle.std.specs.List.{list_any}
 use Rattle.lte_types.specs.CellPlace.{Place}
 
--- two places have the same identity and start
+-- two places have the same identity and start as one another
 abbrev pub is_same_place : Place → Place → Bool
 is_same_place a b = nat_eq a.id b.id && nat_eq a.start b.start
 

@@ -13,42 +13,42 @@ use Rattle.explain.specs.Receiver.{Receiver, one_port_receiver, hits_by, place_b
 use Rattle.explain.specs.Entries.{place_of, frames_of}
 use Rattle.explain.specs.Grant.{IsGrantFor}
 
--- of these hits, this is the first that tells a place. `place` says which place a hit tells
+-- a hit is the first of a list of hits that tells a place. `place` says which place a hit tells
 pub record IsFirstTelling (place : Hit → Place) (hits : List Hit) (told : Place) (hit : Hit) : Type 0 where
   pub at : ℕ
   pub is : slice_get hits at ≡ Some hit
   pub tells : place hit ≡ told
   pub first : (h : ℕ) (other : Hit) → h < at → slice_get hits h ≡ Some other → place other ≢ told
 
--- an entry of these hits was read so. `summed` says by which sums frames tell a master block, and `IsGrant` by which
--- indicator and grant system information was read
+-- the reading of an entry of these hits. `summed` says by which sums frames tell a master block, and `IsGrant` by
+-- which indicator and grant system information was read
 pub record IsReadingBy (summed : Place → Frames → List (List ℤ)) (IsGrant : Granting) (place : Hit → Place)
     (hits : List Hit) (entry : Entry) (reading : Reading) : Type 0 where
   pub hit : IsFirstTelling place hits (place_of entry) reading.hit
   pub sums : reading.sums ≡ summed (place_of entry) (frames_of entry)
   pub granted : IsGrant (place_of entry) entry.sfn entry.mib entry.sib1 reading.granted
 
--- these are the sums that so many frames of a cell from frame j on tell by, at each phase of the first
+-- these are the sums that a count of frames of a cell from frame j on tell by, at each phase of the first
 abbrev pub AreSums : (Frames → List (List ℤ)) → ℕ → ℕ → List (List (List ℤ)) → Type 0
 AreSums sums count j all = (phase : ℕ) → phase + count ≤ 4 → sums_at all phase ≡ sums (frames_from count j phase)
 
 -- ---- by a receiver
 
--- an entry of these hits was read so
+-- the reading of an entry of these hits, by a receiver
 abbrev pub IsReadingOf : Receiver → List Sample → List Hit → Entry → Reading → Type 0
 IsReadingOf receiver recording =
     IsReadingBy (sums_by receiver recording) (IsGrantFor receiver recording) (place_by receiver.carrier recording)
 
--- an entry of a recording was read so: of the hits that the receiver takes
+-- the reading of an entry of a recording, of the hits that the receiver takes
 abbrev pub IsReadingFor : Receiver → List Sample → Entry → Reading → Type 0
 IsReadingFor receiver recording = IsReadingOf receiver recording (hits_by receiver.carrier recording)
 
--- a law: in one way
+-- a law: an entry of a recording was read in one way
 abbrev pub IsOneReading : Type 0
 IsOneReading = (receiver : Receiver) (recording : List Sample) (entry : Entry) (a b : Reading) →
     IsReadingFor receiver recording entry a → IsReadingFor receiver recording entry b → a ≡ b
 
--- by one antenna port
+-- the reading of an entry of a recording, by one antenna port
 abbrev pub IsReading : List Sample → Entry → Reading → Type 0
 IsReading = IsReadingFor one_port_receiver
 
@@ -62,12 +62,12 @@ pub record AreInserted (entry : Entry) (reading : Reading) (old new : List Entry
   pub entries : new ≡ insert old at entry
   pub readings : after ≡ insert before at reading
 
--- both lists stay
+-- the list and the list of readings beside it stay
 pub record AreKept (old new : List Entry) (before after : List Reading) : Type 0 where
   pub entries : new ≡ old
   pub readings : after ≡ before
 
--- one or the other
+-- the two lists stay, or each gets one item at the same index as the other
 abbrev pub AddsBeside : Entry → Reading → List Entry → List Entry → List Reading → List Reading → Type 0
 AddsBeside entry reading old new before after =
     AreKept old new before after ⊎ AreInserted entry reading old new before after

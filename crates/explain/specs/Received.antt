@@ -7,20 +7,21 @@ use Rattle.explain.specs.Told.{Telling}
 use Rattle.explain.specs.Window.{TellNone}
 use Rattle.explain.specs.Masters.{HaveMasters}
 
--- of a master block that may be there, what is taken
+-- the master block that is taken, of one that may be there
 abbrev pub taken_of : (ℕ → Bool) → Option Master → Option Master
 taken_of takes None = None
 taken_of takes (Some master) = if takes master.ports then Some master else None
 
--- these are the values of as many frames, as they were received, from frame j on
+-- the values of a list of frames are those that were received in as many frames from frame j on
 abbrev pub AreReceived : (ℕ → List ℤ) → ℕ → List (List ℤ) → Type 0
 AreReceived values j frames = frames ≡ values_below (length frames) (λ m. values (j + m))
 
--- of the first `whole` frames, no `count` that follow one another tell a master block
+-- no `count` frames that follow one another among the first `whole` ones tell a master block
 abbrev pub NoneTell : Telling → Place → ℕ → ℕ → Type 0
 NoneTell Tells place whole count = (j : ℕ) → j + count ≤ whole → TellNone Tells place count j
 
--- of these, those from frame j on are the first that do, and these are their master blocks
+-- frames from frame j on are the first `count` among the first `whole` ones that tell a master block, and these are
+-- their master blocks
 pub record AreFirstOf (Tells : Telling) (place : Place) (whole count j : ℕ)
     (masters : List (Option Master)) : Type 0 where
   pub within : j + count ≤ whole

@@ -27,9 +27,9 @@ pub record Receiver : Type 0 where
   pub carrier : Carrier
   -- how many values the broadcast channel has in a frame
   pub size : ℕ
-  -- these values, of frame j of the cell at a place
+  -- the values of the broadcast channel in frame j of the cell at a place
   pub broadcast : List Sample → Place → ℕ → List ℤ
-  -- a master block that tells so many antenna ports is taken
+  -- a master block with a number of antenna ports is taken
   pub takes : ℕ → Bool
   -- the values of subframe 5, by which system information is read, or why it is not
   pub subframe : Result Subframes Sib1Reason
@@ -53,24 +53,25 @@ by_slots kind taken values = record {
   subframe = Ok (subframes_by kind values);
 }
 
--- by one antenna port: each master block is taken, whatever ports it tells
+-- the receiver of one antenna port: each master block is taken, whatever ports it tells
 abbrev pub one_port_receiver : Receiver
 one_port_receiver = by_slots OnePort (λ ports. true) placed_values
 
--- ---- what it makes of a recording
+-- ---- what a receiver makes of a recording
 
 -- there is room before a hit for the secondary signal, one symbol earlier
 abbrev pub has_step_before : Carrier → Hit → Bool
 has_step_before carrier hit = nat_le (symbol_step (prefix_of carrier)) hit.t
 
--- the hits that it takes: those that have this room, which with the normal prefix are all
+-- the hits that a receiver takes: those with room before them for the secondary signal, which with the normal prefix
+-- are all
 abbrev pub hits_by : Carrier → List Sample → List Hit
 hits_by OnePort recording = hits_of recording
 hits_by TwoPorts recording = hits_of recording
 hits_by FourPorts recording = hits_of recording
 hits_by LongPrefix recording = filter (has_step_before LongPrefix) (hits_of recording)
 
--- a hit lies in the span of one frame, and has this room
+-- a hit lies in the span of one frame, and there is room before it for the secondary signal
 pub record HasRoom (carrier : Carrier) (hit : Hit) : Type 0 where
   pub span : IsInSpan hit
   pub before : symbol_step (prefix_of carrier) ≤ hit.t
@@ -79,8 +80,8 @@ pub record HasRoom (carrier : Carrier) (hit : Hit) : Type 0 where
 abbrev pub place_by : Carrier → List Sample → Hit → Place
 place_by carrier recording hit = prefix_place (prefix_of carrier) recording hit
 
--- the sums by which frames of a cell tell a master block: of their values, one frame after the other, the first of them
--- at its phase
+-- the sums by which frames of a cell tell a master block, from their values, one frame after the other, the first of
+-- them at its phase
 abbrev pub sums_by : Receiver → List Sample → Place → Frames → List (List ℤ)
 sums_by receiver recording place frames =
     summed_values place.id (receiver.size * frames.phase)

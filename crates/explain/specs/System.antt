@@ -22,7 +22,7 @@ use Rattle.explain.specs.Told.{Answering, Informing}
 abbrev pub even_frame : ℕ → ℕ → ℕ
 even_frame sfn i = sfn % 2 + 2 * i
 
--- it is tried: it is one of the first eight of them, and lies within the recording
+-- frame i of even number is tried: it is one of the first eight of them, and lies within the recording
 pub record IsTried (recording : List Sample) (start sfn i : ℕ) : Type 0 where
   pub among : i < 8
   pub whole : IsWhole recording start (even_frame sfn i)
@@ -34,7 +34,7 @@ pub record IsFirstRead (Answers : Answering) (recording : List Sample) (start sf
   pub answers : Answers (even_frame sfn i) (Ok fields)
   pub first : (h : ℕ) (other : Sib1) → h < i → Answers (even_frame sfn h) (Ok other) → ⊥
 
--- no tried frame answers with fields, and the first of them has this reason
+-- no tried frame answers with fields, and the first of the frames has this reason
 pub record IsNoneRead (Answers : Answering) (recording : List Sample) (start sfn : ℕ) (reason : Sib1Reason) :
     Type 0 where
   pub none : (i : ℕ) (fields : Sib1) → IsTried recording start sfn i → Answers (even_frame sfn i) (Ok fields) → ⊥
@@ -47,25 +47,25 @@ IsReadFrom Answers recording start sfn (Err reason) = IsNoneRead Answers recordi
 
 -- ---- the first rule that applies
 
--- there are other antenna ports than are wanted
+-- a cell has other antenna ports than are wanted
 pub record HasOtherPorts (wanted ports told : ℕ) : Type 0 where
   pub told_is : told ≡ ports
   pub other : ports ≢ wanted
 
--- there are as many, and another bandwidth than 6 resource blocks
+-- a cell has as many antenna ports as are wanted, and another bandwidth than 6 resource blocks
 pub record HasOtherWidth (wanted ports : ℕ) (width told : Bandwidth) : Type 0 where
   pub as_wanted : ports ≡ wanted
   pub told_is : told ≡ width
   pub other : width ≢ N6
 
--- there are as many antenna ports as are wanted, and 6 resource blocks, and the frames answer so
+-- a cell has as many antenna ports as are wanted, and 6 resource blocks, and the frames answer this
 pub record IsSearched (Answers : Answering) (recording : List Sample) (start sfn : ℕ) (carrier : Carrier) (ports : ℕ)
     (width : Bandwidth) (sib1 : Result Sib1 Sib1Reason) : Type 0 where
   pub as_wanted : ports ≡ ports_of carrier
   pub six_blocks : width ≡ N6
   pub read : IsReadFrom Answers recording start sfn sib1
 
--- what is told where the antenna ports of this carrier are wanted
+-- what is told of system information where the antenna ports of this carrier are wanted
 abbrev pub IsSystemBy : Carrier → Answering → List Sample → ℕ → ℕ → ℕ → Mib → Result Sib1 Sib1Reason → Type 0
 IsSystemBy carrier Answers recording start sfn ports mib (Err (NotOnePort told)) =
     HasOtherPorts (ports_of carrier) ports told
@@ -76,21 +76,21 @@ IsSystemBy carrier Answers recording start sfn ports mib sib1 =
 
 -- ---- by a receiver
 
--- frame j of the cell at a place answers so, by the values of its subframe 5
+-- the answer of frame j of the cell at a place, by the values of its subframe 5
 abbrev pub FrameAnswers : Subframes → List Sample → Place → Mib → Answering
 FrameAnswers values recording place mib j answer = Reads (values recording place j mib.duration mib.resource) answer
 
--- what is told by these values of subframe 5, or where there are none: why
+-- what is told of system information by the values of subframe 5, or where there are none: why
 abbrev pub IsSystemWith : Carrier → Result Subframes Sib1Reason → List Sample → Informing
 IsSystemWith carrier (Ok values) recording place sfn ports mib sib1 =
     IsSystemBy carrier (FrameAnswers values recording place mib) recording place.start sfn ports mib sib1
 IsSystemWith carrier (Err reason) recording place sfn ports mib sib1 = sib1 ≡ Err reason
 
--- what a receiver tells of the system information of the cell at a place, whose first frame has this number, with so
--- many antenna ports and this master block
+-- what a receiver tells of the system information of the cell at a place, whose first frame has a number, by its
+-- count of antenna ports and its master block
 abbrev pub IsSystemFor : Receiver → List Sample → Informing
 IsSystemFor receiver = IsSystemWith receiver.carrier receiver.subframe
 
--- that of one antenna port
+-- what is told of the system information of the cell at a place, by one antenna port
 abbrev pub IsSystemOf : List Sample → Informing
 IsSystemOf = IsSystemFor one_port_receiver

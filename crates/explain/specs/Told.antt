@@ -13,8 +13,8 @@ use Rattle.system_block.specs.declared.reading.Attempt.{Attempt}
 abbrev pub Telling : Type 1
 Telling = Place → Frames → Master → Type 0
 
--- what is told of the system information of the cell at a place, whose first frame has this number, and whose master
--- block tells so many antenna ports and this block
+-- what is told of the system information of the cell at a place, by the number of its first frame, its count of
+-- antenna ports and its master block
 abbrev pub Informing : Type 1
 Informing = Place → ℕ → ℕ → Mib → Result Sib1 Sib1Reason → Type 0
 
@@ -26,7 +26,7 @@ Answering = ℕ → Result Sib1 Sib1Reason → Type 0
 abbrev pub Attempting : Type 1
 Attempting = ℕ → Attempt → Type 0
 
--- by which indicator and grant an answer on the cell at a place was read, or none; its first frame has this number, and
--- this is its master block
+-- the indicator and the grant by which an answer on the cell at a place was read, or none, by the number of its first
+-- frame and its master block
 abbrev pub Granting : Type 1
 Granting = Place → ℕ → Mib → Result Sib1 Sib1Reason → Option (ℕ × Grant) → Type 0

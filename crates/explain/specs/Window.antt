@@ -9,7 +9,7 @@ use Rattle.pbch.specs.declared.master.Master.{Master}
 use Rattle.explain.specs.Frame.{IsWhole}
 use Rattle.explain.specs.Told.{Telling}
 
--- so many frames from frame j of a start on are looked at together
+-- a count of frames from frame j of a start on are looked at together
 pub record IsInWindow (recording : List Sample) (start count j : ℕ) : Type 0 where
   pub some : 1 ≤ count
   pub few : count ≤ 4
@@ -21,22 +21,22 @@ pub record IsInWindow (recording : List Sample) (start count j : ℕ) : Type 0 w
 abbrev pub ComeBefore : ℕ × ℕ → ℕ × ℕ → Type 0
 ComeBefore (few, i) (count, j) = (few < count) ⊎ ((few ≡ count) × (i < j))
 
--- so many frames from frame j on tell no master block, at any phase
+-- a count of frames from frame j on tell no master block, at any phase
 abbrev pub TellNone : Telling → Place → ℕ → ℕ → Type 0
 TellNone Tells place count j =
     (phase : ℕ) (master : Master) → phase + count ≤ 4 → Tells place (frames_from count j phase) master → ⊥
 
--- no frames that are looked at before these tell any
+-- no frames that are looked at before these tell any master block
 abbrev pub HasNoMasterBefore : Telling → List Sample → Place → ℕ → ℕ → Type 0
 HasNoMasterBefore Tells recording place count j =
     (few i : ℕ) → IsInWindow recording place.start few i → ComeBefore (few, i) (count, j) → TellNone Tells place few i
 
--- none that are looked at do
+-- no frames that are looked at tell any master block
 abbrev pub HasNoMasters : Telling → List Sample → Place → Type 0
 HasNoMasters Tells recording place =
     (count j : ℕ) → IsInWindow recording place.start count j → TellNone Tells place count j
 
--- so many frames from frame j on are looked at, and none before them tell a master block
+-- a count of frames from frame j on are looked at, and none before them tell a master block
 pub record AreFirstFrames (Tells : Telling) (recording : List Sample) (place : Place) (count j : ℕ) : Type 0 where
   pub inside : IsInWindow recording place.start count j
   pub first : HasNoMasterBefore Tells recording place count j

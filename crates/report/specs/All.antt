@@ -41,6 +41,6 @@ all_value one two long four =
     array (items_of (ruled_values OnePort one ++ ruled_values TwoPorts two
     ++ ruled_values LongPrefix long ++ ruled_values FourPorts four))
 
--- its text, without spaces
+-- the JSON of the cells of the four lists, without spaces
 unfoldable pub all_json : List Entry → List Entry → List Entry → List Entry → List ℕ
 all_json one two long four = compact_text (all_value one two long four)

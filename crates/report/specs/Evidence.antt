@@ -9,12 +9,12 @@ abbrev pub entry_part : ℕ → ℕ → ℕ → ℕ → List ℕ
 entry_part id start sfn t =
     decimal id ++ codes " " ++ decimal start ++ codes " " ++ decimal sfn ++ codes " t " ++ decimal t
 
--- the fraction there in thousandths, and what speaks against the word, of how much
+-- the fraction at the hit in thousandths, and what speaks against the word, of how much
 abbrev pub word_part : ℕ → ℕ → ℕ → List ℕ
 word_part peak cost total =
     codes " peak " ++ decimal peak ++ codes " cost " ++ decimal cost ++ codes " total " ++ decimal total
 
--- the frames that were summed, the first of them, and its number modulo 4
+-- the frames that were summed, the first of them, and the number of the first modulo 4
 abbrev pub frame_part : ℕ → ℕ → ℕ → List ℕ
 frame_part frames frame phase =
     codes " frames " ++ decimal frames ++ codes " frame " ++ decimal frame ++ codes " phase " ++ decimal phase
@@ -31,10 +31,10 @@ evidence_line told =
     ++ frame_part told.frames told.frame told.phase
     ++ pilots_part told.power told.noise
 
--- the first line, which tells how many there are
+-- the first line, which tells how many entries there are
 abbrev pub evidence_head : ℕ → List ℕ
 evidence_head count = codes "evidence " ++ decimal count ++ codes "\n"
 
--- then a line for each
+-- the text: the first line, and then a line for each entry
 unfoldable pub evidence_text : List Evidence → List ℕ
 evidence_text list = evidence_head (length list) ++ flat_map evidence_line list

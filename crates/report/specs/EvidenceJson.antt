@@ -25,14 +25,14 @@ entry_members told members =
     put (codes "at") (natural told.start) (
     put (codes "identity") (natural told.id) members)))
 
--- the fraction there in thousandths, and what speaks against the word, of how much
+-- the fraction at the hit in thousandths, and what speaks against the word, of how much
 abbrev pub word_members : Evidence → Members → Members
 word_members told members =
     put (codes "total") (natural told.total) (
     put (codes "cost") (natural told.cost) (
     put (codes "peak") (natural told.peak) members))
 
--- the frames that were summed, the first of them, and its number modulo 4
+-- the frames that were summed, the first of them, and the number of the first modulo 4
 abbrev pub frame_members : Evidence → Members → Members
 frame_members told members =
     put (codes "phase") (natural told.phase) (
@@ -44,7 +44,7 @@ abbrev pub pilots_members : Evidence → Members → Members
 pilots_members told members =
     put (codes "noise") (natural told.noise) (put (codes "power") (natural told.power) members)
 
--- ---- what its slot shows
+-- ---- what the slot of an entry shows
 
 -- a complex number, as a pair
 abbrev pub complex_value : Cpx → Data
@@ -71,6 +71,6 @@ support_value shown = object (
     frame_members shown.numbers (
     word_members shown.numbers (entry_members shown.numbers no_members)))))
 
--- its text, without spaces
+-- the JSON of what supports the entries of a list, without spaces
 unfoldable pub evidence_json : List Shown → List ℕ
 evidence_json list = compact_text (list_of support_value list)

@@ -10,15 +10,15 @@ use Rattle.report.specs.declared.hits.IdentifiedHit.{IdentifiedHit}
 abbrev pub hit_line : Hit → List ℕ
 hit_line hit = decimal hit.t ++ codes " " ++ decimal hit.n2 ++ codes "\n"
 
--- the first line, which tells how many there are
+-- the first line, which tells how many hits there are
 abbrev pub hits_head : ℕ → List ℕ
 hits_head count = codes "hits " ++ decimal count ++ codes "\n"
 
--- then a line for each
+-- the text: the first line, and then a line for each hit
 unfoldable pub hits_text : List Hit → List ℕ
 hits_text hits = hits_head (length hits) ++ flat_map hit_line hits
 
--- ---- with the identity of each
+-- ---- hits with the identity of each
 
 -- the line of a place: the place, the identity, the subframe and the frame start
 abbrev pub place_line : ℕ → ℕ → ℕ → ℕ → List ℕ

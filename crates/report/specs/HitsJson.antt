@@ -15,14 +15,14 @@ use Rattle.report.specs.declared.measured.MeasuredId.{MeasuredId}
 abbrev pub hit_members : Hit → Members → Members
 hit_members hit members = put (codes "n2") (natural hit.n2) (put (codes "t") (natural hit.t) members)
 
--- the numbers of its metric
+-- the numbers of a hit's metric
 abbrev pub metric_members : ℕ → ℕ → ℕ → Members → Members
 metric_members peak energy power members =
     put (codes "power") (natural power) (
     put (codes "energy") (natural energy) (
     put (codes "peak") (natural peak) members))
 
--- what it tells of its cell: the subframe is the first of the half that the hit stands in
+-- what a hit tells of its cell: the subframe is the first of the half that the hit stands in
 abbrev pub identity_members : IdentifiedHit → Members → Members
 identity_members found members =
     put (codes "at") (natural found.start) (

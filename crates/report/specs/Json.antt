@@ -1,5 +1,5 @@
--- The report as JSON: the same list as one value, an array of an object for each cell. The keys of an object stand in
--- the order of their bytes, each once. (own; the names are those of TS 36.331 sections 6.2.2 and 6.3)
+-- The report as JSON: the list as one value, an array of an object for each cell. The keys of an object stand in the
+-- order of their bytes, each once. (own; the names are those of TS 36.331 sections 6.2.2 and 6.3)
 use Rattle.std.specs.Prelude.{ℕ, List, [], ◌∷◌, Result, Ok, Err, codes}
 use Rattle.serde_json.specs.Data.{Data, boolean, string, object, Members, member, no_members, put}
 use Rattle.serde_json.specs.Written.{compact_text}
@@ -16,7 +16,7 @@ use Rattle.report.specs.Lines.{mnc_word}
 use Rattle.report.specs.Values.{natural, integer, or_null, list_of}
 use Rattle.report.specs.Words.{digits_word}
 
--- digits are a text, so that leading zeros stay
+-- the identity of a network, whose digits are a text, so that leading zeros stay
 abbrev pub plmn_value : Plmn → Data
 plmn_value plmn = object (
     member (codes "mcc") (or_null (λ digits. string (digits_word digits)) plmn.mcc) (
@@ -41,7 +41,7 @@ identity_members sib1 members =
     put (codes "tac") (natural sib1.tac) (
     put (codes "plmns") (list_of plmn_value sib1.plmns) members))))
 
--- who may camp on it, its levels and its band
+-- who may camp on a cell, the levels to choose it, and its band
 abbrev pub access_members : Sib1 → Members → Members
 access_members sib1 members =
     put (codes "band") (natural sib1.band) (
@@ -51,7 +51,7 @@ access_members sib1 members =
     put (codes "intra") (boolean sib1.intra) (
     put (codes "barred") (boolean sib1.barred) members)))))
 
--- its schedule: the window in milliseconds, and whether an extension follows
+-- the schedule of system information: the window in milliseconds, and whether an extension follows
 abbrev pub schedule_members : Sib1 → Members → Members
 schedule_members sib1 members =
     put (codes "extension") (boolean sib1.extended) (
@@ -60,7 +60,7 @@ schedule_members sib1 members =
     put (codes "window") (natural (window_length sib1.window)) (
     put (codes "scheduling") (list_of message_value sib1.scheduling) members))))
 
--- all of them, each at its place
+-- all fields of system information, each at its place
 abbrev pub sib1_value : Sib1 → Data
 sib1_value sib1 = object (schedule_members sib1 (access_members sib1 (identity_members sib1 no_members)))
 
@@ -77,7 +77,7 @@ cell_members entry members =
     put (codes "at") (natural entry.start) (
     put (codes "identity") (natural entry.id) members)))
 
--- its master information block
+-- the master information block of a cell
 abbrev pub block_members : Mib → Members → Members
 block_members mib members =
     put (codes "spare") (natural (rest mib)) (
@@ -97,6 +97,6 @@ entry_value entry = object (entry_members entry)
 abbrev pub report_value : List Entry → Data
 report_value entries = list_of entry_value entries
 
--- its text, without spaces
+-- the JSON of a list, without spaces
 unfoldable pub json_text : List Entry → List ℕ
 json_text entries = compact_text (report_value entries)

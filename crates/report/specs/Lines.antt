@@ -22,7 +22,7 @@ place_part id start sfn ports =
     codes "cell " ++ decimal id ++ codes " at " ++ decimal start ++ codes " sfn " ++ decimal sfn ++ codes " ports "
     ++ decimal ports
 
--- its master block: schedulingInfoSIB1-BR stands before the bits that are still spare
+-- the master block of a cell: schedulingInfoSIB1-BR stands before the bits that are still spare
 abbrev pub block_part : List ℕ → List ℕ → List ℕ → ℕ → ℕ → List ℕ
 block_part bandwidth duration resource br spare =
     codes " " ++ bandwidth ++ codes " phich " ++ duration ++ codes " " ++ resource ++ codes " br " ++ decimal br
@@ -50,14 +50,14 @@ access_part tac cell barred intra =
 abbrev pub access_part_of : Sib1 → List ℕ
 access_part_of sib1 = access_part sib1.tac sib1.cell (barred_word sib1.barred) (intra_word sib1.intra)
 
--- its closed subscriber group
+-- the closed subscriber group of a cell
 abbrev pub group_part : List ℕ → List ℕ → List ℕ
 group_part csg identity = codes " csg " ++ csg ++ codes " " ++ identity
 
 abbrev pub group_part_of : Sib1 → List ℕ
 group_part_of sib1 = group_part (bit_word sib1.csg) (or_dash decimal sib1.csg_identity)
 
--- levels and band
+-- the levels to choose a cell, and its band
 abbrev pub level_part : ℤ → List ℕ → List ℕ → ℕ → List ℕ
 level_part level offset power band =
     codes " rx " ++ signed_decimal level ++ codes " offset " ++ offset ++ codes " pmax " ++ power ++ codes " band "
@@ -67,7 +67,7 @@ abbrev pub level_part_of : Sib1 → List ℕ
 level_part_of sib1 =
     level_part sib1.q_rx (or_dash decimal sib1.q_offset) (or_dash signed_decimal sib1.p_max) sib1.band
 
--- when it is sent, and whether it changed
+-- when system information is sent, and whether it changed
 abbrev pub window_part : List ℕ → ℕ → List ℕ → List ℕ → List ℕ
 window_part window tag tdd extension =
     codes " window " ++ window ++ codes " tag " ++ decimal tag ++ codes " tdd " ++ tdd

@@ -34,8 +34,8 @@ pub fn text_of_all(
     Ok(all)
 }
 
-/// The same lists as JSON in one line, without a line feed: an array of the objects of all their cells as `json` writes
-/// them, each with its rule as one key more. Only memory can be wanting. (own)
+/// The four lists as JSON in one line, without a line feed: an array of the objects of all their cells as `json`
+/// writes them, each with its rule as one key more. Only memory can be wanting. (own)
 pub fn json_of_all(
     alloc: Global,
     one: &[Entry],

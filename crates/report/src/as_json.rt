@@ -103,7 +103,7 @@ fn system_value(alloc: Global, sib1: &Result<Sib1, Sib1Reason>) -> Result<Value,
     }
 }
 
-// That of system information.
+// The value of system information.
 fn sib1_value(alloc: Global, sib1: &Sib1) -> Result<Value, AllocError>
     ensures { IfOk result (λ value. view value ≡ sib1_of sib1.now) }
 {

@@ -21,7 +21,7 @@ pub(crate) fn place_part(
     format!(in alloc; "cell {id} at {start} sfn {sfn} ports {ports}")
 }
 
-/// Its master block.
+/// The master block of a cell.
 pub(crate) fn block_part(
     alloc: Global,
     bandwidth: &str,
@@ -50,7 +50,7 @@ pub(crate) fn access_part(
     format!(in alloc; "sib1 tac {tac} cell {cell} {barred} {intra}")
 }
 
-/// Its closed subscriber group.
+/// The closed subscriber group of a cell.
 pub(crate) fn group_part(alloc: Global, csg: &str, identity: &str) -> Result<String, AllocError>
     ensures { IfOk result (λ part. string_bytes part ≡ group_of csg.now identity.now) }
 {

@@ -19,7 +19,7 @@ use std::marker::Model;
 pub enum PortChannel {
     /// The pilots of port 0 or 1, which has reference signals in two symbols of a slot.
     Lower([Cpx; 24]),
-    /// Those of port 2 or 3, which has them in one symbol.
+    /// The pilots of port 2 or 3, which has reference signals in one symbol of a slot.
     Upper([Cpx; 12]),
 }
 
@@ -45,8 +45,8 @@ impl Model for Support {
 }
 
 impl Support {
-    /// These numbers; the channel of each antenna port of the slot with the broadcast channel; and the soft values of
-    /// that channel, as they were received, in the order of its places.
+    /// What supports an entry: its numbers; the channel of each antenna port of the slot with the broadcast channel;
+    /// and the soft values of that channel, as they were received, in the order of its places.
     pub fn new(numbers: Evidence, channel: Vec<PortChannel>, values: Vec<SoftPair>) -> Support
         ensures { result ≡ record { numbers = numbers; channel = channel.items; values = values.items } }
     {

@@ -29,7 +29,7 @@ pub fn list_value<T: ToJson>(alloc: Global, items: &[T]) -> Result<Value, AllocE
     Ok(Value::from(list))
 }
 
-/// Its text, without spaces. Only memory can be wanting. (own)
+/// The JSON of a list, without spaces. Only memory can be wanting. (own)
 pub fn list_text<T: ToJson>(alloc: Global, items: &[T]) -> Result<String, AllocError>
     ensures { ((item : T) → has_float (T.json_of item) ≡ false) →
         IfOk result (λ text. string_bytes text ≡ compact_text (list_of T.json_of items.now)) }

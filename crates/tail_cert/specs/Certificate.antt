@@ -75,7 +75,7 @@ IsTable table = Counted 40 IsRow table
 abbrev pub IsMaybeTable : Option (List (List ℕ)) → Type 0
 IsMaybeTable maybe = IfSome maybe IsTable
 
--- what every certificate has: so many values, bits and bounds, each in its range
+-- what every certificate has: the values, bits and bounds are as many as they have to be, each in its range
 pub record IsWhole (c : Held) : Type 0 where
   pub places : Counted 40 IsTriple c.values
   pub bits : length c.word ≡ 40

@@ -9,7 +9,7 @@ use Rattle.finite.specs.Sums.{total_below}
 use Rattle.cs_bits.specs.Numbers.{number}
 use Rattle.tail_cert.specs.Certificate.{Held}
 
--- the first four bytes
+-- the first four bytes of a certificate
 abbrev pub mark : List ℕ
 mark = 0x4c ∷ 0x54 ∷ 0x43 ∷ 0x32 ∷ []
 
@@ -61,15 +61,15 @@ with_piece at piece bytes = take at bytes ++ piece ++ drop (at + length piece) b
 
 -- ---- how many bytes there are
 
--- up to the set, with it
+-- how many bytes a certificate has up to its set of start states, with the set
 abbrev pub head_count : ℕ
 head_count = 10501
 
--- of a table
+-- how many bytes a table has
 abbrev pub table_count : ℕ
 table_count = 10240
 
--- of the longest certificate
+-- how many bytes the longest certificate has
 abbrev pub most_count : ℕ
 most_count = 665861
 
@@ -77,7 +77,7 @@ most_count = 665861
 abbrev pub tells_table : List ℕ → ℕ → Bool
 tells_table bytes s = odd (little_number 8 (drop 10493 bytes) / 2 ^ s)
 
--- of the certificate that these bytes begin, or are: its set tells it, where it is there
+-- how many bytes the certificate has that these bytes begin, or are: its set tells it, where it is there
 unfoldable pub count_of : List ℕ → ℕ
 count_of bytes = head_count + table_count * total_below 64 (λ s. cond (tells_table bytes s) 1 0)
 
@@ -87,7 +87,7 @@ count_of bytes = head_count + table_count * total_below 64 (λ s. cond (tells_ta
 unfoldable pub value_at : List ℕ → ℕ → ℤ
 value_at bytes p = cast_signed w16 (little_number 2 (drop p bytes))
 
--- another byte than the mark's
+-- a byte is another than the mark has there
 abbrev pub IsOffMark : List ℕ → ℕ → Type 0
 IsOffMark bytes p = (p < 4) × (p < length bytes) × (slice_index bytes p ≢ slice_index mark p)
 
@@ -95,26 +95,26 @@ IsOffMark bytes p = (p < 4) × (p < length bytes) × (slice_index bytes p ≢ sl
 abbrev pub IsLargeValue : List ℕ → ℕ → Type 0
 IsLargeValue bytes p = (4 ≤ p) × (p < 244) × (p % 2 ≡ 0) × (p + 2 ≤ length bytes) × (2032 < nat_abs (value_at bytes p))
 
--- the bytes end before there are so many
+-- the bytes end before there are as many as there have to be
 abbrev pub IsEarlyEnd : ℕ → List ℕ → ℕ → Type 0
 IsEarlyEnd count bytes p = (p ≡ length bytes) × (p < count)
 
--- the form of so many bytes is broken here
+-- the form of a count of bytes is broken here
 abbrev pub BreaksUpTo : ℕ → List ℕ → ℕ → Type 0
 BreaksUpTo count bytes p = IsOffMark bytes p ⊎ IsLargeValue bytes p ⊎ IsEarlyEnd count bytes p
 
--- that of a whole certificate, and that of the bytes up to its set
+-- the form of a whole certificate is broken here, and that of the bytes up to its set
 abbrev pub Breaks : List ℕ → ℕ → Type 0
 Breaks bytes p = BreaksUpTo (count_of bytes) bytes p
 
 abbrev pub BreaksHead : List ℕ → ℕ → Type 0
 BreaksHead bytes p = BreaksUpTo head_count bytes p
 
--- nowhere is the form of so many bytes broken
+-- nowhere is the form of a count of bytes broken
 abbrev pub IsUnbrokenUpTo : ℕ → List ℕ → Type 0
 IsUnbrokenUpTo count bytes = (p : ℕ) → BreaksUpTo count bytes p → ⊥
 
--- the first place where it is
+-- the first place where the form of a count of bytes is broken
 pub record IsFirstBreakUpTo (count : ℕ) (bytes : List ℕ) (p : ℕ) : Type 0 where
   pub here : BreaksUpTo count bytes p
   pub before : (q : ℕ) → q < p → BreaksUpTo count bytes q → ⊥

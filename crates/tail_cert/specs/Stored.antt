@@ -12,7 +12,7 @@ is_in set s = slice_index_or set (63 - s) false
 abbrev pub shown_at : List Bool → List (List (List ℕ)) → ℕ → Option (List (List ℕ))
 shown_at set tables s = cond (is_in set s) (Some (slice_index_or tables s [])) None
 
--- the tables that are there
+-- the tables of all start states, for each the one that is there, or none
 unfoldable pub shown : List Bool → List (List (List ℕ)) → List (Option (List (List ℕ)))
 shown set tables = values_below 64 (shown_at set tables)
 
@@ -20,7 +20,7 @@ shown set tables = values_below 64 (shown_at set tables)
 abbrev pub HaveRoom : List Bool → List (List (List ℕ)) → Type 0
 HaveRoom set tables = (s : ℕ) → s < 64 → is_in set s ≡ true → s < length tables
 
--- they are tables, at most 64, with one for each state of the set
+-- the tables that stand in memory: at most 64, with one for each state of the set
 pub record AreStored (set : List Bool) (tables : List (List (List ℕ))) : Type 0 where
   pub each : All IsTable tables
   pub most : length tables ≤ 64

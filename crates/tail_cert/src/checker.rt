@@ -103,7 +103,7 @@ fn start_holds(
     }
 }
 
-/// Whether it does so for all states.
+/// Whether the cost bounds every path from each state back to it.
 fn starts_hold(
     costs: &PathCosts,
     cost: u32,

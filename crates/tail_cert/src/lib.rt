@@ -23,7 +23,7 @@ pub(crate) const FRONT_BYTES: usize = 244;
 /// The bytes of a certificate up to the set of the start states that have a table, which tells the rest.
 pub const HEAD_BYTES: usize = 10_501;
 
-/// Where that set stands.
+/// Where the set of the start states that have a table stands.
 pub(crate) const SET_PLACE: usize = HEAD_BYTES - 8;
 
 /// The bytes of a table.
