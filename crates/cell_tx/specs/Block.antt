@@ -24,11 +24,11 @@ master_bits duration resource sfn spare =
     bits_of 3 (bandwidth_code N6) ++ bits_of 1 (duration_code duration) ++ bits_of 2 (resource_code resource)
     ++ bits_of 8 (sfn / 4) ++ bits_of 10 spare
 
--- the block and its check, which is masked by the count of antenna ports (TS 36.212 section 5.3.1.1)
+-- the master block and its check, which is masked by the count of antenna ports (TS 36.212 section 5.3.1.1)
 unfoldable pub master_word : ℕ → Duration → Resource → ℕ → ℕ → List Bool
 master_word mask duration resource sfn spare = with_check_16 mask (master_bits duration resource sfn spare)
 
--- those of a plan
+-- the bits of the master block of a plan
 abbrev pub block_bits : CellPlan → ℕ → List Bool
 block_bits plan sfn = master_bits plan.duration plan.resource sfn plan.spare
 
@@ -40,7 +40,7 @@ port_word port plan sfn = master_word (port_mask port) plan.duration plan.resour
 abbrev pub coded_bit : List Bool → ℕ → Bool
 coded_bit word n = bit_of_item (coded_word word) (item_of (length word) n)
 
--- it, scrambled by the sequence of c_init (TS 36.211 section 7.2)
+-- bit n of the coded and matched bits of a word, scrambled by the sequence of c_init (TS 36.211 section 7.2)
 abbrev pub scrambled_bit : ℕ → List Bool → ℕ → Bool
 scrambled_bit c_init word n = scrambled c_init (coded_bit word) n
 

@@ -23,7 +23,7 @@ pub record IsCount (samples : ℕ) : Type 0 where
   pub least : least_samples ≤ samples
   pub most : samples ≤ most_samples
 
--- each component of each sample is off from these values by at most eps
+-- each component of each sample is off from the given values by at most eps
 abbrev pub AreNear : List Sample → (ℕ → Cpx) → ℕ → Type 0
 AreNear recording values eps = (i : ℕ) → i < length recording → IsWithin eps (minus (sample_at recording i) (values i))
 
@@ -37,7 +37,7 @@ pub record IsCleanOf (sequence : ℕ → Cpx) (recording : List Sample) (offset 
   pub bound : eps * eps ≤ 4 * square gain
   pub near : AreNear recording (λ i. times gain (sequence (i + offset))) eps
 
--- the same of what a cell sends from the frame numbered sfn on
+-- a recording is clean of what a cell sends from the frame numbered sfn on
 pub record IsClean (recording : List Sample) (plan : CellPlan) (sfn offset : ℕ) (gain : Cpx) (eps : ℕ) : Type 0 where
   pub number : sfn ≤ 1023
   pub samples : IsCleanOf (sent (element plan) sfn) recording offset gain eps
@@ -49,8 +49,8 @@ pub record AreGains (first second : Cpx) : Type 0 where
   pub least : 1 ≤ square first
   pub most : square first + square second ≤ 392
 
--- errors may have components of this size: its square is at most a quarter of that sum, and four times that of the
--- first gain's size
+-- errors may have components of size eps: its square is at most a quarter of the sum of the squares of both gains'
+-- sizes, and at most four times the square of the first gain's size
 pub record IsAllowed (first second : Cpx) (eps : ℕ) : Type 0 where
   pub both : 4 * (eps * eps) ≤ square first + square second
   pub one : eps * eps ≤ 4 * square first
@@ -60,7 +60,7 @@ abbrev pub received_of_two : (ℕ → Cpx) → (ℕ → Cpx) → ℕ → Cpx →
 received_of_two first second offset gain other i =
     plus (times gain (first (i + offset))) (times other (second (i + offset)))
 
--- the samples are those, and each component is off by at most eps
+-- the samples are those received of two sequences, and each component is off by at most eps
 pub record IsCleanOfTwo (first second : ℕ → Cpx) (recording : List Sample) (offset : ℕ) (gain other : Cpx) (eps : ℕ) :
     Type 0 where
   pub within : IsOffset offset
@@ -75,7 +75,7 @@ first_port plan sfn = sent (port_element First plan) sfn
 abbrev pub second_port : CellPlan → ℕ → ℕ → Cpx
 second_port plan sfn = sent (port_element Second plan) sfn
 
--- the same of what both ports of a cell send
+-- a recording is clean of what both ports of a cell send from the frame numbered sfn on
 pub record IsCleanOfPorts (recording : List Sample) (plan : CellPlan) (sfn offset : ℕ) (gain other : Cpx) (eps : ℕ) :
     Type 0 where
   pub number : sfn ≤ 1023
@@ -83,21 +83,21 @@ pub record IsCleanOfPorts (recording : List Sample) (plan : CellPlan) (sfn offse
 
 -- ---- four antenna ports
 
--- the squares of the sizes of their gains together
+-- the sum of the squares of the sizes of four gains
 abbrev pub power_of_four : List Cpx → ℕ
 power_of_four gains = squares_of_four (value_at gains)
 
--- the gain of port 0 is not 0, and the squares are together at most 196
+-- the gain of port 0 is not 0, and the squares of the sizes of all four are together at most 196
 pub record AreGainsOfFour (gains : List Cpx) : Type 0 where
   pub least : 1 ≤ square (value_at gains 0)
   pub most : power_of_four gains ≤ 196
 
--- each pair of ports over which points are sent has at least three eighths of the sum
+-- each pair of ports over which points are sent has at least three eighths of the sum of the gains' squares
 abbrev pub HavePairs : List Cpx → Type 0
 HavePairs gains = ArePaired (value_at gains)
 
--- no pair of ports is weak, and errors may have components of this size: its square is at most a 64th of that sum, so
--- that it is 0 or 1
+-- no pair of ports is weak, and errors may have components of size eps: its square is at most a 64th of the sum of
+-- the gains' squares, so that it is 0 or 1
 pub record IsAllowedOfFour (gains : List Cpx) (eps : ℕ) : Type 0 where
   pub pairs : HavePairs gains
   pub quiet : 64 * (eps * eps) ≤ power_of_four gains
@@ -111,14 +111,14 @@ received_of_four sequences offset gains i =
 
 -- ---- a carrier
 
--- the gains of its ports are those of clean recordings
+-- the gains of a carrier's ports are those of clean recordings
 abbrev pub AreGainsOf : Carrier → List Cpx → Type 0
 AreGainsOf OnePort gains = IsGain (value_at gains 0)
 AreGainsOf TwoPorts gains = AreGains (value_at gains 0) (value_at gains 1)
 AreGainsOf LongPrefix gains = IsGain (value_at gains 0)
 AreGainsOf FourPorts gains = AreGainsOfFour gains
 
--- which is a proposition
+-- a law: that gains are those of clean recordings is a proposition
 pub are_gains_prop : (carrier : Carrier) (gains : List Cpx) → IsProp (AreGainsOf carrier gains)
 are_gains_prop OnePort gains = hlevel props
 are_gains_prop TwoPorts gains = hlevel props

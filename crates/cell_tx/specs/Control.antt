@@ -39,7 +39,7 @@ grant_of plan sfn = record {
   size = block_size plan;
 }
 
--- its 21 bits and their check, masked by the identifier of system information (TS 36.212 section 5.3.3.2)
+-- the 21 bits of a grant and their check, masked by the identifier of system information (TS 36.212 section 5.3.3.2)
 unfoldable pub control_word : CellPlan → ℕ → List Bool
 control_word plan sfn = with_check_16 system_information_rnti (sent_word (grant_of plan sfn))
 

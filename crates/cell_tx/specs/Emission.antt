@@ -32,7 +32,7 @@ mixed FourPorts values gains =
     (plus (times (value_at gains 0) (values (OfFour Zero))) (times (value_at gains 1) (values (OfFour One))))
     (plus (times (value_at gains 2) (values (OfFour Two))) (times (value_at gains 3) (values (OfFour Three))))
 
--- the same of what they send from the sample at offset on
+-- what is received of all ports of a carrier, from the sample at offset on, by a channel that is one number for each
 abbrev pub received_by : Carrier → Option ℕ → CellPlan → ℕ → ℕ → List Cpx → ℕ → Cpx
 received_by carrier load plan sfn offset gains i =
     mixed carrier (λ port. sent_by load port plan sfn (i + offset)) gains

@@ -33,7 +33,7 @@ framed e n i = mixed e.carrier (λ port. sent_in_frame e.load port e.cell n i) e
 abbrev pub AreFrameOf : (ℕ → ℕ → Cpx) → ℕ → List Sample → Type 0
 AreFrameOf values n samples = (i : ℕ) → i < frame_length → slice_index_or samples i silence ≡ sample_of (values n i)
 
--- that of an emission
+-- samples are the frame with number n of an emission
 abbrev pub AreFrame : Emission → ℕ → List Sample → Type 0
 AreFrame e n samples = AreFrameOf (framed e) n samples
 
@@ -43,24 +43,24 @@ AreFrame e n samples = AreFrameOf (framed e) n samples
 abbrev pub is_between : ℕ → ℕ → ℕ → Bool
 is_between first last i = nat_le first i && nat_lt i last
 
--- it is in one of these symbols
+-- sample i of a frame is in one of these symbols
 abbrev pub is_in : Prefix → Symbols → ℕ → Bool
 is_in prefix symbols i =
     is_between (first_sample prefix symbols.first) (first_sample prefix symbols.last) i
     || is_between (first_sample prefix symbols.again) (first_sample prefix symbols.end) i
 
--- they are one after the other, and in a frame
+-- the symbols are in order, and within a frame
 pub record AreInOrder (prefix : Prefix) (symbols : Symbols) : Type 0 where
   pub first : symbols.first ≤ symbols.last
   pub again : symbols.last ≤ symbols.again
   pub end : symbols.again ≤ symbols.end
   pub most : symbols.end ≤ 20 * symbols_of_slot prefix
 
--- all samples of a frame are in them
+-- all samples of a frame are in these symbols
 abbrev pub AreAll : Prefix → Symbols → Type 0
 AreAll prefix symbols = (i : ℕ) → i < frame_length → is_in prefix symbols i ≡ true
 
--- no other sample of a port of the carrier depends on which frame it is
+-- no sample of a port of the carrier outside these symbols depends on which frame it is in
 abbrev pub AreOwn : Carrier → Option ℕ → Symbols → Type 0
 AreOwn carrier load symbols =
     (port : Port) (plan : CellPlan) (a b i : ℕ) → carrier_of port ≡ carrier → i < frame_length →
@@ -68,29 +68,29 @@ AreOwn carrier load symbols =
 
 -- ---- samples that are changed in some places
 
--- there each sample is what the change makes of it, and the others are as they were
+-- each sample at one of the places is what the change makes of it, and the others are as they were
 abbrev pub AreChanged : (ℕ → Bool) → (ℕ → Sample → Sample) → List Sample → List Sample → Type 0
 AreChanged there change old new =
     (i : ℕ) → i < frame_length →
     slice_index_or new i silence
     ≡ (if there i then change i (slice_index_or old i silence) else slice_index_or old i silence)
 
--- these values, times a gain, are added
+-- a sample with a value, times a gain, added
 abbrev pub added : Cpx → (ℕ → Cpx) → ℕ → Sample → Sample
 added gain values i before = sample_of (plus (value_of before) (times gain (values i)))
 
--- and the sums fit
+-- samples with values, times a gain, added at some places fit 16 bits
 abbrev pub HaveRoom : (ℕ → Bool) → Cpx → (ℕ → Cpx) → List Sample → Type 0
 HaveRoom there gain values samples =
     (i : ℕ) → i < frame_length → there i ≡ true → IsWithin 32767 (plus (sample_at samples i) (times gain (values i)))
 
--- samples are silent there
+-- samples are silent at some places
 abbrev pub AreSilent : (ℕ → Bool) → List Sample → Type 0
 AreSilent there samples = (i : ℕ) → i < frame_length → there i ≡ true → slice_index_or samples i silence ≡ silence
 
 -- ---- one piece after the other
 
--- what is made, and how far: in these samples the last piece stands from number `from` on, and the next one from number
+-- what is made, and how far: the last piece of the samples stands from number `from` on, and the next one from number
 -- `at` on; the first frame begins `offset` samples before them
 pub record Progress : Type 0 where
   pub samples : List Sample
@@ -98,11 +98,11 @@ pub record Progress : Type 0 where
   pub from : ℕ
   pub at : ℕ
 
--- where the piece ends that begins there: with the frame, or with the samples
+-- where the piece that begins at `at` ends: with the frame, or with the samples
 abbrev pub piece_end : Progress → ℕ
 piece_end p = min (p.at + (frame_length - (p.at + p.offset) % frame_length)) (length p.samples)
 
--- the last piece
+-- the last piece that was made
 abbrev pub piece_of : Progress → List Sample
 piece_of p = take (p.at - p.from) (drop p.from p.samples)
 

@@ -44,7 +44,7 @@ is_one_of places p = nat_lt (index_in places p) (length places)
 abbrev pub is_broadcast : ℕ → ℕ → ℕ → ℕ → Bool
 is_broadcast identity subframe symbol k = nat_eq subframe 0 && is_pbch identity (place symbol k)
 
--- with the extended prefix it is in slot 1, by whose symbols its places are numbered
+-- the broadcast channel with the extended prefix is in slot 1, by whose symbols its places are numbered
 abbrev pub is_long_broadcast : ℕ → ℕ → ℕ → ℕ → Bool
 is_long_broadcast identity subframe symbol k =
     nat_eq (port_slot Long subframe symbol) 1 && is_one_of (long_places identity) (place (symbol % port_symbols Long) k)
@@ -56,7 +56,7 @@ has_broadcast Second identity subframe symbol k = is_broadcast identity subframe
 has_broadcast Long identity subframe symbol k = is_long_broadcast identity subframe symbol k
 has_broadcast (OfFour port) identity subframe symbol k = is_broadcast identity subframe symbol k
 
--- the number of its point there
+-- the number of the point of the broadcast channel at a place
 abbrev pub broadcast_index : Port → ℕ → ℕ → ℕ → ℕ
 broadcast_index Only identity symbol k = pbch_index identity (place symbol k)
 broadcast_index First identity symbol k = pbch_index identity (place symbol k)
@@ -72,12 +72,12 @@ is_indicator plan symbol k = is_one_of (pcfich_places plan.identity) (place symb
 abbrev pub has_system_information : ℕ → ℕ → Bool
 has_system_information sfn subframe = nat_eq subframe 5 && nat_eq (sfn % 2) 0
 
--- what grants it (TS 36.211 section 6.8)
+-- the control channel that grants system information (TS 36.211 section 6.8)
 abbrev pub is_control : CellPlan → ℕ → ℕ → ℕ → ℕ → Bool
 is_control plan sfn subframe symbol k =
     has_system_information sfn subframe && is_one_of (control_places plan) (place symbol k)
 
--- and the shared channel that carries it (TS 36.211 section 6.4)
+-- the shared channel that carries system information (TS 36.211 section 6.4)
 abbrev pub is_shared : Port → CellPlan → ℕ → ℕ → ℕ → ℕ → Bool
 is_shared port plan sfn subframe symbol k =
     has_system_information sfn subframe && is_one_of (assigned_places (is_two port) plan) (place symbol k)
@@ -128,7 +128,7 @@ system_value port plan sfn subframe symbol k =
     else (if is_shared port plan sfn subframe symbol k then shared_value port plan sfn symbol k
     else nothing))
 
--- what the channels have there: the value of the first that is there
+-- what the channels have at a place: the value of the first that is there
 unfoldable pub port_channel_value : Port → CellPlan → ℕ → ℕ → ℕ → ℕ → Cpx
 port_channel_value port plan sfn subframe symbol k =
     if has_broadcast port plan.identity subframe symbol k then broadcast_value port plan sfn symbol k

@@ -34,19 +34,19 @@ AcceptedAreSendable =
 abbrev pub OnePortSendsAll : Type 0
 OnePortSendsAll = (carrier : Carrier) (plan : CellPlan) → IsSendableBy carrier plan → IsSendable plan
 
--- where each coded bit is sent the block can be resolved, whatever its text is
+-- where each coded bit is sent, the block can be resolved, whatever its text is
 abbrev pub WholeBlocksAreResolvable : Type 0
 WholeBlocksAreResolvable =
     (plan : CellPlan) → IsSome (size_of plan.mcs plan.column) → is_whole plan ≡ true → is_resolvable plan ≡ true
 
--- with either cyclic prefix the useful part of symbol l of a slot stands from its first sample on
+-- the useful part of symbol l of a slot, with either cyclic prefix, stands from its first sample on
 abbrev pub UsefulPartsStand : Type 0
 UsefulPartsStand =
     (prefix : Prefix) (grid : Elements) (sfn slot l n : ℕ) → IsPrefix prefix → l < symbols_of_slot prefix → n < 128 →
     prefix_frame_sample prefix grid sfn (useful_start prefix 0 slot l + n)
     ≡ useful_at (grid sfn (slot / 2) (symbols_of_slot prefix * (slot % 2) + l)) n
 
--- before it stand its last samples, as many as its prefix has
+-- before the useful part of a symbol stand its last samples, as many as its prefix has
 abbrev pub PrefixesRepeat : Type 0
 PrefixesRepeat =
     (prefix : Prefix) (grid : Elements) (sfn slot l d : ℕ) → IsPrefix prefix → l < symbols_of_slot prefix → 1 ≤ d →
@@ -78,14 +78,14 @@ ElementsAreSmall =
     (load : Option ℕ) (port : Port) (plan : CellPlan) (sfn subframe symbol k : ℕ) →
     square (sent_element load port plan sfn subframe symbol k) ≤ 128 * 128
 
--- where no element has more, no sample has a size above 1,153
+-- where no element has a size above 128, no sample has a size above 1,153
 abbrev pub SmallElementsMakeSmallSamples : Type 0
 SmallElementsMakeSmallSamples =
     (prefix : Prefix) (grid : Elements) →
     ((sfn subframe symbol k : ℕ) → square (grid sfn subframe symbol k) ≤ 128 * 128) → (sfn i : ℕ) →
     square (prefix_sent prefix grid sfn i) ≤ 1153 * 1153
 
--- so has no sample of a cell
+-- no sample of a cell has a size above 1,153
 abbrev pub SamplesAreSmall : Type 0
 SamplesAreSmall =
     (load : Option ℕ) (port : Port) (plan : CellPlan) (sfn i : ℕ) →
@@ -99,15 +99,15 @@ values_with count values errors = values_below count (λ i. sample_of (plus (val
 abbrev pub received_with : (ℕ → Cpx) → ℕ → ℕ → Cpx → (ℕ → Cpx) → List Sample
 received_with sequence offset count gain errors = values_with count (λ i. times gain (sequence (i + offset))) errors
 
--- with any errors within the bound they are a clean recording of the sequence
+-- samples that are received of a sequence, with any errors within the bound, are a clean recording of it
 abbrev pub ReceivedWithErrorsIsClean : Type 0
 ReceivedWithErrorsIsClean =
     (sequence : ℕ → Cpx) (offset count : ℕ) (gain : Cpx) (eps : ℕ) (errors : ℕ → Cpx) → IsOffset offset → IsGain gain →
     eps * eps ≤ 4 * square gain → ((i : ℕ) → i < count → IsWithin eps (errors i)) →
     IsCleanOf sequence (received_with sequence offset count gain errors) offset gain eps
 
--- and where no sample of the sequence has a size above 1,153, their components have sizes of at most 32,340, so that
--- they fit 16 bits
+-- where no sample of a sequence has a size above 1,153, the samples received of it with errors have components of
+-- sizes of at most 32,340, so that they fit 16 bits
 abbrev pub ReceivedWithErrorsFits : Type 0
 ReceivedWithErrorsFits =
     (clean gain error : Cpx) (eps : ℕ) → square clean ≤ 1153 * 1153 → IsGain gain → eps * eps ≤ 4 * square gain →
@@ -126,7 +126,7 @@ abbrev pub received_of_two_with : (ℕ → Cpx) → (ℕ → Cpx) → ℕ → �
 received_of_two_with first second offset count gain other errors =
     values_with count (received_of_two first second offset gain other) errors
 
--- with any errors within the bound they are a clean recording of both sequences
+-- samples that are received of two sequences, with any errors within the bound, are a clean recording of both
 abbrev pub ReceivedOfTwoIsClean : Type 0
 ReceivedOfTwoIsClean =
     (first second : ℕ → Cpx) (offset count : ℕ) (gain other : Cpx) (eps : ℕ) (errors : ℕ → Cpx) →
@@ -134,13 +134,15 @@ ReceivedOfTwoIsClean =
     IsAllowed gain other eps → ((i : ℕ) → i < count → IsWithin eps (errors i)) →
     IsCleanOfTwo first second (received_of_two_with first second offset count gain other errors) offset gain other eps
 
--- where no sample of either has a size above 1,153, what is received without errors has components of at most 32,284
+-- where no sample of two sequences has a size above 1,153, what is received without errors has components of at most
+-- 32,284
 abbrev pub ReceivedOfTwoIsSmall : Type 0
 ReceivedOfTwoIsSmall =
     (first second gain other : Cpx) → square first ≤ 1153 * 1153 → square second ≤ 1153 * 1153 → AreGains gain other →
     IsWithin 32284 (plus (times gain first) (times other second))
 
--- and with errors of at most 32,293, so that they fit 16 bits
+-- where no sample of two sequences has a size above 1,153, what is received with errors has components of at most
+-- 32,293, so that they fit 16 bits
 abbrev pub ReceivedOfTwoFits : Type 0
 ReceivedOfTwoFits =
     (first second gain other error : Cpx) (eps : ℕ) →
@@ -160,7 +162,7 @@ EmittedIsClean =
     IsCleanBy carrier load (values_with count (received_by carrier load plan sfn offset gains) errors)
     plan sfn offset gains eps
 
--- and where there are none its components are at most 32,284
+-- what is received of an emission without errors has components of at most 32,284
 abbrev pub EmittedIsSmall : Type 0
 EmittedIsSmall =
     (carrier : Carrier) (load : Option ℕ) (plan : CellPlan) (sfn offset : ℕ) (gains : List Cpx) (i : ℕ) →

@@ -26,14 +26,14 @@ is_any_reference port plan subframe symbol k =
     is_own_reference port plan.identity (port_slot port subframe symbol) (symbol % port_symbols port) k
     || is_other_reference port plan.identity (port_slot port subframe symbol) (symbol % port_symbols port) k
 
--- or of what carries the plan's system information, in a frame that has it; where there is none the control format
--- indicator may be any other
+-- a place is one of what carries the plan's system information, in a frame that has it; where there is none the
+-- control format indicator may be any other
 abbrev pub has_system_place : Port → CellPlan → ℕ → ℕ → ℕ → ℕ → Bool
 has_system_place port plan sfn subframe symbol k =
     (has_system_information sfn subframe && is_indicator plan symbol k)
     || (is_control plan sfn subframe symbol k || is_shared port plan sfn subframe symbol k)
 
--- or of a channel that the plan sends in the frame with this number
+-- a place is one of a channel that the plan sends in the frame with this number
 abbrev pub has_channel : Port → CellPlan → ℕ → ℕ → ℕ → ℕ → Bool
 has_channel port plan sfn subframe symbol k =
     has_broadcast port plan.identity subframe symbol k
@@ -53,22 +53,22 @@ unfoldable pub is_loaded : Port → CellPlan → ℕ → ℕ → ℕ → ℕ →
 is_loaded port plan sfn subframe symbol k =
     not (is_taken port plan sfn subframe symbol k) && not (has_control port && is_indicator plan symbol k)
 
--- c_init of the load with this number: each port, frame and subframe has its own; numbers that differ by 2^18 have the
--- same
+-- c_init of the load with this number: each port, frame and subframe has its own; numbers that differ by 2^18 have
+-- one c_init
 abbrev pub load_c_init : ℕ → Port → ℕ → ℕ → ℕ
 load_c_init load port sfn subframe = (40960 * load + 10240 * port_number port + 10 * sfn + subframe) % 2 ^ 31
 
--- its point at a place (TS 36.211 sections 7.2 and 7.1.2)
+-- the point of the load with a number at a place (TS 36.211 sections 7.2 and 7.1.2)
 unfoldable pub load_point : ℕ → Port → ℕ → ℕ → ℕ → ℕ → Cpx
 load_point load port sfn subframe symbol k = point_of (gold_bit (load_c_init load port sfn subframe)) (72 * symbol + k)
 
--- the elements of a plan with this load
+-- the elements of a plan with the load of this number
 unfoldable pub loaded_element : ℕ → Port → CellPlan → Elements
 loaded_element load port plan sfn subframe symbol k =
     if is_loaded port plan sfn subframe symbol k then load_point load port sfn subframe symbol k
     else port_element port plan sfn subframe symbol k
 
--- those that are sent, with load or without
+-- the elements of a plan that are sent, with load or without
 abbrev pub sent_element : Option ℕ → Port → CellPlan → Elements
 sent_element None port plan = port_element port plan
 sent_element (Some load) port plan = loaded_element load port plan

@@ -45,7 +45,7 @@ IsSendableBy TwoPorts plan = IsSendableWith (coded_count plan ≤ assigned_bits_
 IsSendableBy LongPrefix plan = IsSendable plan
 IsSendableBy FourPorts plan = IsSendable plan
 
--- the same as conditions, in their order, where it is known whether enough is sent
+-- the conditions on a plan, in their order, where it is known whether enough of its block is sent
 abbrev pub conditions_with : Bool → CellPlan → List Condition
 conditions_with enough plan =
     condition (nat_le plan.identity 503) Identity
@@ -59,8 +59,8 @@ conditions_with enough plan =
     ∷ condition (text_fits plan) Sib1Long
     ∷ []
 
--- enough is sent of the block. With one antenna port, where not every coded bit is sent, this asks for a block that can
--- be resolved; a plan that has none fails it
+-- enough is sent of the block of a plan. With one antenna port, where not every coded bit is sent, this asks for a
+-- block that can be resolved; a plan that has none fails it
 abbrev pub is_enough : Carrier → CellPlan → Bool
 is_enough OnePort plan = is_whole plan || (has_block plan && is_resolvable plan)
 is_enough TwoPorts plan = is_whole_of true plan
@@ -71,10 +71,10 @@ is_enough FourPorts plan = is_whole plan || (has_block plan && is_resolvable pla
 abbrev pub conditions_of : Carrier → CellPlan → List Condition
 conditions_of carrier plan = conditions_with (is_enough carrier plan) plan
 
--- the cause of the first of them that fails
+-- the cause of the first condition that fails, of a plan that is sent by a carrier
 abbrev pub refusal_of : Carrier → CellPlan → Option CellError
 refusal_of carrier plan = first_failed (conditions_of carrier plan)
 
--- with one antenna port
+-- the cause of the first condition that fails, of a plan that is sent with one antenna port
 abbrev pub plan_refusal : CellPlan → Option CellError
 plan_refusal plan = refusal_of OnePort plan

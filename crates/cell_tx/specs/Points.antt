@@ -5,10 +5,10 @@ use Rattle.finite.specs.Bits.{xor}
 use Rattle.gold.specs.Gold.{gold_bit}
 use Rattle.crs.specs.Qpsk.{point}
 
--- the bits, scrambled by the sequence of c_init from its first bit on
+-- bits, scrambled by the sequence of c_init from its first bit on
 abbrev pub scrambled : ℕ → (ℕ → Bool) → ℕ → Bool
 scrambled c_init bits i = xor (bits i) (gold_bit c_init i)
 
--- point i of these bits
+-- point i of a sequence of bits
 abbrev pub point_of : (ℕ → Bool) → ℕ → Cpx
 point_of bits i = point (bits (2 * i)) (bits (2 * i + 1))

@@ -26,7 +26,7 @@ carrier_of Second = TwoPorts
 carrier_of Long = LongPrefix
 carrier_of (OfFour port) = FourPorts
 
--- its cyclic prefix
+-- the cyclic prefix of a port
 abbrev pub port_prefix : Port → Prefix
 port_prefix port = prefix_of (carrier_of port)
 
@@ -50,7 +50,7 @@ port_block_bits Second = 480
 port_block_bits Long = 432
 port_block_bits (OfFour port) = 480
 
--- its control region and system information are sent; with the extended prefix, and of four ports, they are not (own)
+-- the control region and system information are sent; with the extended prefix, and of four ports, they are not (own)
 abbrev pub has_control : Port → Bool
 has_control Only = true
 has_control First = true
@@ -58,7 +58,7 @@ has_control Second = true
 has_control Long = false
 has_control (OfFour port) = false
 
--- its number
+-- the number of a port
 abbrev pub port_number : Port → ℕ
 port_number Only = 0
 port_number First = 0
@@ -79,7 +79,7 @@ is_two Second = true
 is_two Long = false
 is_two (OfFour port) = false
 
--- the mask of the check of its master block (TS 36.212 section 5.3.1.1)
+-- the mask of the check of the master block that a port sends (TS 36.212 section 5.3.1.1)
 abbrev pub port_mask : Port → ℕ
 port_mask Only = 0
 port_mask First = 65535
@@ -87,7 +87,8 @@ port_mask Second = 65535
 port_mask Long = 0
 port_mask (OfFour port) = 21845
 
--- of points that are taken two by two, x and y: the negative conjugate of y, and the conjugate of x
+-- points that are taken two by two, x and y, as another port sends them: the negative conjugate of y, and the
+-- conjugate of x
 abbrev pub crossed_point : (ℕ → Cpx) → ℕ → Cpx
 crossed_point points i =
     if nat_eq (i % 2) 0 then negated (conjugate (points (i + 1))) else conjugate (points (i - 1))
@@ -111,7 +112,7 @@ sent_point (OfFour One) points i = if is_even_pair i then nothing else points i
 sent_point (OfFour Two) points i = if is_even_pair i then crossed_point points i else nothing
 sent_point (OfFour Three) points i = if is_even_pair i then nothing else crossed_point points i
 
--- what it sends of a synchronisation signal, which the first port alone has (own)
+-- what a port sends of a synchronisation signal, which the first port alone has (own)
 abbrev pub sent_signal : Port → Cpx → Cpx
 sent_signal Only z = z
 sent_signal First z = z
@@ -129,13 +130,13 @@ is_reference_of_four One identity slot symbol k = is_second_reference identity s
 is_reference_of_four Two identity slot symbol k = is_upper_reference Third identity slot symbol k
 is_reference_of_four Three identity slot symbol k = is_upper_reference Fourth identity slot symbol k
 
--- or of one of three of them
+-- a place of a slot is one of the reference signals of one of three of four ports
 abbrev pub is_reference_of_three : PortOfFour → PortOfFour → PortOfFour → ℕ → ℕ → ℕ → ℕ → Bool
 is_reference_of_three one two three identity slot symbol k =
     is_reference_of_four one identity slot symbol k
     || (is_reference_of_four two identity slot symbol k || is_reference_of_four three identity slot symbol k)
 
--- a place of a slot is one of its reference signals
+-- a place of a slot is one of a port's own reference signals
 abbrev pub is_own_reference : Port → ℕ → ℕ → ℕ → ℕ → Bool
 is_own_reference Only identity slot symbol k = is_reference identity symbol k
 is_own_reference First identity slot symbol k = is_reference identity symbol k
@@ -143,7 +144,7 @@ is_own_reference Second identity slot symbol k = is_second_reference identity sy
 is_own_reference Long identity slot symbol k = is_pattern_place long_prefix identity symbol k
 is_own_reference (OfFour port) identity slot symbol k = is_reference_of_four port identity slot symbol k
 
--- or of those of the cell's other ports, where it sends nothing
+-- a place of a slot is one of the reference signals of the cell's other ports, where a port sends nothing
 abbrev pub is_other_reference : Port → ℕ → ℕ → ℕ → ℕ → Bool
 is_other_reference Only identity slot symbol k = false
 is_other_reference First identity slot symbol k = is_second_reference identity symbol k
@@ -154,7 +155,8 @@ is_other_reference (OfFour One) identity slot symbol k = is_reference_of_three Z
 is_other_reference (OfFour Two) identity slot symbol k = is_reference_of_three Zero One Three identity slot symbol k
 is_other_reference (OfFour Three) identity slot symbol k = is_reference_of_three Zero One Two identity slot symbol k
 
--- the value there; all ports with the normal prefix take it from one sequence (TS 36.211 section 6.10.1.1)
+-- the value of a port's reference signal at a place; all ports with the normal prefix take it from one sequence (TS
+-- 36.211 section 6.10.1.1)
 abbrev pub port_reference : Port → ℕ → ℕ → ℕ → ℕ → Cpx
 port_reference Only identity slot symbol k = reference_at identity slot symbol k
 port_reference First identity slot symbol k = reference_at identity slot symbol k

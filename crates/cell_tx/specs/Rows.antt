@@ -40,7 +40,7 @@ port_reference_if port identity slot symbol k =
     if is_own_reference port identity slot symbol k then Some (port_reference port identity slot symbol k)
     else (if is_other_reference port identity slot symbol k then Some nothing else None)
 
--- of four tests, one for each port of four, that of a port
+-- the test of a port, of four tests, one for each port of four
 abbrev pub test_of_four : PortOfFour → Bool → Bool → Bool → Bool → Bool
 test_of_four Zero zero one two three = zero
 test_of_four One zero one two three = one
@@ -60,7 +60,7 @@ broadcast_places Second identity = pbch_places identity
 broadcast_places Long identity = long_places identity
 broadcast_places (OfFour port) identity = pbch_places identity
 
--- a symbol of a subframe is in that subframe, or slot
+-- a symbol of a subframe is in the subframe, or the slot, of the broadcast channel
 abbrev pub may_broadcast : Port → ℕ → ℕ → Bool
 may_broadcast Only subframe symbol = nat_eq subframe 0
 may_broadcast First subframe symbol = nat_eq subframe 0
@@ -68,7 +68,7 @@ may_broadcast Second subframe symbol = nat_eq subframe 0
 may_broadcast Long subframe symbol = nat_eq (2 * subframe + symbol / 6) 1
 may_broadcast (OfFour port) subframe symbol = nat_eq subframe 0
 
--- the number there of a symbol of a subframe
+-- the number that a symbol of a subframe has among those by which the broadcast channel's places are numbered
 abbrev pub broadcast_symbol : Port → ℕ → ℕ
 broadcast_symbol Only symbol = symbol
 broadcast_symbol First symbol = symbol
@@ -93,14 +93,15 @@ abbrev pub shared_if : Port → CellPlan → ℕ → ℕ → ℕ → ℕ → Opt
 shared_if port plan sfn subframe symbol k =
     if is_shared port plan sfn subframe symbol k then Some (shared_value port plan sfn symbol k) else None
 
--- the value of the first of the three; none where there is none of them
+-- the value at a place of the control format indicator, the grant or the shared channel; none where none of them is
+-- there
 abbrev pub system_if : Port → CellPlan → ℕ → ℕ → ℕ → ℕ → Option Cpx
 system_if port plan sfn subframe symbol k =
     if is_indicator plan symbol k then Some (indicator_value port plan subframe symbol k)
     else (if is_control plan sfn subframe symbol k then Some (control_value port plan sfn symbol k)
     else (if is_shared port plan sfn subframe symbol k then Some (shared_value port plan sfn symbol k) else None))
 
--- and of the first of all channels
+-- the value at a place of the first channel that is there; none where there is none
 abbrev pub channel_if : Port → CellPlan → ℕ → ℕ → ℕ → ℕ → Option Cpx
 channel_if port plan sfn subframe symbol k =
     if has_broadcast port plan.identity subframe symbol k then Some (broadcast_value port plan sfn symbol k)
@@ -141,7 +142,7 @@ pub record IsCarried (plan : CellPlan) (sfn : ℕ) (carried : Carried) : Type 0 
   pub control : carried.control ≡ values_below 144 (control_point plan sfn)
   pub shared : carried.shared ≡ values_below 612 (shared_point plan sfn)
 
--- the same for each redundancy version: those of frames 0, 2, 4 and 6
+-- what grants and carries the system information, for each redundancy version: in frames 0, 2, 4 and 6
 pub record AreVersions (plan : CellPlan) (versions : Versions) : Type 0 where
   pub first : IsCarried plan 0 versions.first
   pub second : IsCarried plan 2 versions.second

@@ -19,21 +19,21 @@ use Rattle.cell_tx.specs.Emitting.{sent_in_frame}
 abbrev pub elements_of : Signals → Elements
 elements_of signals = sent_element signals.load signals.port signals.cell.now
 
--- sample i of it
+-- sample i of the frame of signals
 abbrev pub sample_in : Signals → ℕ → Cpx
 sample_in signals i = prefix_frame_sample (port_prefix signals.port) (elements_of signals) signals.sfn i
 
--- where symbol number n of it begins
+-- where symbol number n of the frame of signals begins
 abbrev pub symbol_start : Signals → ℕ → ℕ
 symbol_start signals n = first_sample (port_prefix signals.port) n
 
 -- ---- the sequence of a sender
 
--- sample i of it
+-- sample i of the sequence of a sender
 abbrev pub sample_by : Sender → ℕ → Cpx
 sample_by sender i = sent_by sender.load sender.port sender.cell.now sender.timing.sfn (i + sender.timing.offset)
 
--- sample i of its frame with number n, times a gain
+-- sample i of the frame with number n of a sender, times a gain
 abbrev pub scaled_in_frame : Sender → Cpx → ℕ → ℕ → Cpx
 scaled_in_frame sender gain n i = times gain (sent_in_frame sender.load sender.port sender.cell.now n i)
 

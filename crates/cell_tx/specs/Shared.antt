@@ -21,7 +21,7 @@ use Rattle.cell_tx.specs.Control.{version_of}
 unfoldable pub shared_coded : CellPlan → List (List Bool)
 shared_coded plan = coded (row_with (checked_size plan)) (shared_word plan)
 
--- K and the three streams are those of this coded word
+-- K and the three streams are those of the coded word of a plan
 pub record IsCoded (plan : CellPlan) (word : Coded) : Type 0 where
   pub size : IsSize word.k
   pub k : word.k ≡ checked_size plan
@@ -33,16 +33,16 @@ pub record IsCoded (plan : CellPlan) (word : Coded) : Type 0 where
 abbrev pub assigned_places : Bool → CellPlan → List Place
 assigned_places two plan = shared_places_of two plan.identity plan.cfi plan.start plan.blocks
 
--- with one
+-- the places of the assigned resource blocks, with one antenna port
 abbrev pub shared_places : CellPlan → List Place
 shared_places plan = assigned_places false plan
 
--- bit i in the frame with this number: those of the coded word, as they are matched from the frame's redundancy version
--- on
+-- bit i that the shared channel has in the frame with this number: those of the coded word, as they are matched from
+-- the frame's redundancy version on
 abbrev pub shared_bit : CellPlan → ℕ → ℕ → Bool
 shared_bit plan sfn i = bit_of (shared_coded plan) (item_of (checked_size plan) (version_of sfn) i)
 
--- point i, scrambled by slot 10, the first of subframe 5
+-- point i of the shared channel, scrambled by slot 10, the first of subframe 5
 unfoldable pub shared_point : CellPlan → ℕ → ℕ → Cpx
 shared_point plan sfn i =
     point_of (scrambled (pdsch_c_init plan.identity 10 system_information_rnti) (shared_bit plan sfn)) i

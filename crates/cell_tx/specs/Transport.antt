@@ -28,7 +28,7 @@ checked_size plan = block_size plan + 24
 abbrev pub system_text : CellPlan → List Bool
 system_text plan = unwrap_or (text_of plan.sib1) []
 
--- bits and then zeros, so many in all
+-- bits and then zeros, as many in all as the number says
 abbrev pub filled : ℕ → List Bool → List Bool
 filled size bits = bits ++ replicate (size - length bits) false
 
@@ -47,13 +47,13 @@ text_fits plan = option_map_or (λ text. nat_le (length text) (block_size plan))
 abbrev pub has_block : CellPlan → Bool
 has_block plan = (is_none plan.sib1.tdd && not plan.sib1.extended) && text_fits plan
 
--- ---- what is sent of it
+-- ---- what is sent of the block
 
 -- the bits that the assigned resource blocks carry with two antenna ports or one: two in each place
 abbrev pub assigned_bits_of : Bool → CellPlan → ℕ
 assigned_bits_of two plan = 2 * (block_places_of two plan.cfi * plan.blocks)
 
--- with one
+-- the bits that the assigned resource blocks carry with one antenna port
 abbrev pub assigned_bits : CellPlan → ℕ
 assigned_bits plan = assigned_bits_of false plan
 
@@ -61,18 +61,19 @@ assigned_bits plan = assigned_bits_of false plan
 abbrev pub coded_count : CellPlan → ℕ
 coded_count plan = 3 * (checked_size plan + 4)
 
--- each of them is sent at least once, with two antenna ports or one
+-- each coded bit of the block is sent at least once, with two antenna ports or one
 abbrev pub is_whole_of : Bool → CellPlan → Bool
 is_whole_of two plan = nat_le (coded_count plan) (assigned_bits_of two plan)
 
--- with one
+-- each coded bit of the block is sent at least once, with one antenna port
 abbrev pub is_whole : CellPlan → Bool
 is_whole plan = is_whole_of false plan
 
--- a word of K bits can be resolved by so many bits of the reading, from each redundancy version on
+-- a word of K bits can be resolved by the first bits of the reading, as many as the count says, from each redundancy
+-- version on
 unfoldable pub is_resolvable_by : ℕ → ℕ → List Bool → Bool
 is_resolvable_by k count word = every_below 4 (λ rv. resolvable (row_with k) (sent_of k rv count) word)
 
--- so can the plan's block and its check, by the bits that are sent
+-- the plan's block and its check can be resolved by the bits that are sent
 abbrev pub is_resolvable : CellPlan → Bool
 is_resolvable plan = is_resolvable_by (checked_size plan) (assigned_bits plan) (shared_word plan)

@@ -112,7 +112,7 @@ fn add_symbol(signals: &Signals, gain: &Cpx, symbol: usize, out: &mut [Sample])
     }
 }
 
-// The same in the symbols from one up to another.
+// Adds what a port sends in the symbols of a frame from one up to another, times a gain.
 fn add_between(signals: &Signals, gain: &Cpx, first: usize, last: usize, out: &mut [Sample])
     requires order { first ≤ last }
     requires last { last ≤ 20 * port_symbols signals.now.port }

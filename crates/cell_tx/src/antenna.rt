@@ -91,7 +91,7 @@ impl Port {
         }
     }
 
-    // Its number.
+    // The number of the port.
     pub(crate) fn number(self) -> u8
         ensures value { result ≡ port_number self }
         ensures bound { result ≤ 3 }

@@ -36,9 +36,9 @@ pub struct CellPlan {
     pub cfi: u8,
     /// The first resource block of SystemInformationBlockType1, 0 to 5.
     pub start: u8,
-    /// The count of its resource blocks, 1 to 6; with `start` at most 6.
+    /// The count of resource blocks of SystemInformationBlockType1, 1 to 6; with `start` at most 6.
     pub blocks: u8,
-    /// Its modulation and coding scheme, of which `column` has a size.
+    /// The modulation and coding scheme of SystemInformationBlockType1, of which `column` has a size.
     pub mcs: u8,
     /// The column of the table of sizes, 2 or 3.
     pub column: u8,
@@ -226,7 +226,7 @@ impl Cell {
         Ok(Cell { plan, coded })
     }
 
-    /// The same with one antenna port and the normal cyclic prefix.
+    /// The cell of a plan with one antenna port and the normal cyclic prefix.
     pub fn new(plan: CellPlan) -> Result<Cell, CellError>
         requires { IsValid plan.sib1 }
         ensures refusal { MatchResult result (λ _. plan_refusal plan ≡ None)

@@ -49,7 +49,7 @@ impl<'a> Station<'a> {
     ghost use Rattle.cell_tx.specs.Emitting.{sent_in_frame, framed, AreFrame, is_in, AreInOrder, AreChanged, added};
     ghost use Rattle.cell_tx.specs.Emitting.{HaveRoom, AreSilent};
 
-    // That of an emission.
+    // The station of an emission.
     fn new(emission: &'a Emission) -> Station<'a>
         ensures { result.emission.now ≡ emission.now }
     {
@@ -96,7 +96,7 @@ impl<'a> Station<'a> {
         self.add(Port::Second, 1, sfn, symbols, frame);
     }
 
-    // The same of four ports.
+    // Adds to silence what the four ports of an emission send.
     fn add_four(&self, sfn: Sfn, symbols: &Symbols, frame: &mut [Sample])
         requires carrier { self.now.emission.now.carrier ≡ FourPorts }
         requires order { AreInOrder (prefix_of FourPorts) symbols.now }
@@ -111,7 +111,7 @@ impl<'a> Station<'a> {
         self.add(Port::OfFour(PortOfFour::Three), 3, sfn, symbols, frame);
     }
 
-    // The same of the ports of any carrier.
+    // Adds to silence what the ports of an emission send, by any carrier.
     fn add_all(&self, sfn: Sfn, symbols: &Symbols, frame: &mut [Sample])
         requires order { AreInOrder (prefix_of self.now.emission.now.carrier) symbols.now }
         requires room { length frame.old ≡ frame_length }

@@ -103,7 +103,7 @@ fn reference_of(port: Port, pilots: &[(u8, Cpx); 12], k: usize) -> Option<Cpx>
     }
 }
 
-// Of four tests, one for each port, that of a port.
+// The test of a port, of four tests, one for each port of four.
 fn test_of_four(port: PortOfFour, zero: bool, one: bool, two: bool, three: bool) -> bool
     ensures { result ≡ test_of_four port zero one two three }
 {
@@ -176,7 +176,7 @@ fn references(id: CellId, port: Port, slot: u8, symbol: u8) -> [Option<Cpx>; 72]
     row
 }
 
-// The same in symbol 1, where ports 2 and 3 of four have theirs.
+// What a port sends at the reference places of symbol 1 of a slot, where ports 2 and 3 of four have theirs.
 fn second_row(id: CellId, port: Port, slot: u8) -> [Option<Cpx>; 72]
     requires { slot < 20 }
     ensures { result ≡ values_below 72 (port_reference_if port id slot 1) }
@@ -190,7 +190,7 @@ fn second_row(id: CellId, port: Port, slot: u8) -> [Option<Cpx>; 72]
     }
 }
 
-// That of a port of four.
+// What a port of four sends at the reference places of symbol 1 of a slot.
 fn upper_row(id: CellId, port: PortOfFour, slot: u8) -> [Option<Cpx>; 72]
     requires { slot < 20 }
     ensures { result ≡ values_below 72 (port_reference_if (OfFour port) id slot 1) }

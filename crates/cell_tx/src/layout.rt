@@ -33,7 +33,7 @@ pub(crate) struct Carried {
     pub shared: [Cpx; 612],
 }
 
-/// The same for each redundancy version.
+/// What grants system information, and the points that carry it, for each redundancy version.
 #[derive(Drop)]
 pub(crate) struct Versions {
     pub first: Carried,

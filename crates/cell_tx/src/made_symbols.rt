@@ -92,7 +92,7 @@ pub(crate) fn own_symbols(carrier: Carrier, load: Option<u32>) -> Symbols
     }
 }
 
-/// The same, and all of them in the first frame that is made.
+/// The symbols of a frame that are made anew: all in the first frame that is made, and else as for `own_symbols`.
 pub(crate) fn symbols_at(carrier: Carrier, load: Option<u32>, is_first: bool) -> Symbols
     ensures order { AreInOrder (prefix_of carrier) result }
     ensures all { is_first ≡ true → AreAll (prefix_of carrier) result }

@@ -114,8 +114,8 @@ fn sent_point(port: Port, points: &[Cpx], i: usize) -> Cpx
     }
 }
 
-// The same of a port of four: of the pairs of even number ports 0 and 2 send as two ports do, and ports 1 and 3 of the
-// others.
+// What a port of four sends at place i of a channel: of the pairs of even number ports 0 and 2 send as two ports do,
+// and ports 1 and 3 of the others.
 fn point_of_four(port: PortOfFour, points: &[Cpx], i: usize) -> Cpx
     requires i { i < length points.now }
     requires pairs { length points.now % 2 ≡ 0 }
@@ -138,8 +138,8 @@ fn value_if(sent: bool, value: Cpx) -> Cpx
     if sent { value } else { Cpx::ZERO }
 }
 
-// The same of the second port: of a pair the negative conjugate of the other at the first place, and the conjugate
-// of the other at the second.
+// What the second port sends at place i of a channel: of a pair the negative conjugate of the other point at the
+// first place, and the conjugate of the other at the second.
 fn second_of(points: &[Cpx], i: usize) -> Cpx
     requires i { i < length points.now }
     requires pairs { length points.now % 2 ≡ 0 }
