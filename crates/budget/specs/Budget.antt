@@ -18,13 +18,13 @@ seen_in samples k = rounded (spectrum_at samples k) 12
 abbrev pub sending_off : (ℕ → Cpx) → Cpx → ℕ → Cpx
 sending_off sent amplitude k = minus (multiple (2 ^ 17) (spectrum_at sent k)) (multiple (2 ^ 35) amplitude)
 
--- of one symbol it comes from the tables and the rounding of the samples
+-- what sending one symbol is off by, from the tables and the rounding of the samples, is small
 abbrev pub SendingIsSmall : Type 0
 SendingIsSmall =
     (grid : ℕ → Cpx) (k : ℕ) → AreAmplitudes grid → k < 72 →
     square (sending_off (useful_at grid) (grid k) k) ≤ (97 * 2 ^ 31) * (97 * 2 ^ 31)
 
--- of what several ports send it adds up, each port's times its gain
+-- what sending by several ports is off by adds up, each port's times its gain
 abbrev pub SendingIsLinear : Type 0
 SendingIsLinear =
     (gain : Cpx) (sent others : ℕ → Cpx) (amplitude other : Cpx) (k : ℕ) →
@@ -43,7 +43,8 @@ pub record HasThreeCauses (eps : ℕ) (sent samples : ℕ → Cpx) (amplitude : 
   pub errors_small : square errors ≤ 2 ^ 49 * (eps * eps) * (16385 * 16385)
   pub rounding_small : square rounding ≤ 2 ^ 57
 
--- whatever was sent, gains included, where each component of a sample is off by at most eps
+-- the deviation of what is seen has three causes, whatever was sent, gains included, where each component of a sample
+-- is off by at most eps
 abbrev pub DeviationHasThreeCauses : Type 0
 DeviationHasThreeCauses =
     (eps : ℕ) (sent samples : ℕ → Cpx) (amplitude : Cpx) (k : ℕ) →
@@ -63,21 +64,21 @@ TwoAmplitudesAreSeen =
     AreAmplitudes second_grid → IsReceivedFromTwo eps gain other grid second_grid samples → k < 72 →
     IsSeenAsTwo gain other (grid k) (second_grid k) (seen_in samples k)
 
--- and so are four
+-- four amplitudes with a gain each are seen together
 abbrev pub FourAmplitudesAreSeen : Type 0
 FourAmplitudesAreSeen =
     (eps : ℕ) (gains : ℕ → Cpx) (grids : ℕ → ℕ → Cpx) (samples : ℕ → Cpx) (k : ℕ) →
     ((port : ℕ) → port < 4 → AreAmplitudes (grids port)) → IsReceivedFromFour eps gains grids samples → k < 72 →
     IsSeenAsFour gains (λ port. grids port k) (seen_in samples k)
 
--- in a recording: what `observe` tells of a symbol at a place
+-- each amplitude is seen in a recording, by what `observe` tells of a symbol at a place
 abbrev pub AmplitudeIsSeenInRecording : Type 0
 AmplitudeIsSeenInRecording =
     (eps : ℕ) (gain : Cpx) (grid : ℕ → Cpx) (recording : List Sample) (start k : ℕ) → AreAmplitudes grid →
     IsReceived eps gain grid (samples_from recording start) → k < 72 →
     IsSeenAs gain (grid k) (seen recording start k)
 
--- the same of two symbols with a gain each
+-- two amplitudes with a gain each are seen together in a recording
 abbrev pub TwoAmplitudesAreSeenInRecording : Type 0
 TwoAmplitudesAreSeenInRecording =
     (eps : ℕ) (gain other : Cpx) (grid second_grid : ℕ → Cpx) (recording : List Sample) (start k : ℕ) →
@@ -85,7 +86,7 @@ TwoAmplitudesAreSeenInRecording =
     IsReceivedFromTwo eps gain other grid second_grid (samples_from recording start) → k < 72 →
     IsSeenAsTwo gain other (grid k) (second_grid k) (seen recording start k)
 
--- and of four
+-- four amplitudes with a gain each are seen together in a recording
 abbrev pub FourAmplitudesAreSeenInRecording : Type 0
 FourAmplitudesAreSeenInRecording =
     (eps : ℕ) (gains : ℕ → Cpx) (grids : ℕ → ℕ → Cpx) (recording : List Sample) (start k : ℕ) →

@@ -26,17 +26,17 @@ pub record StandsOut (recording : List Sample) (t n2 : ℕ) : Type 0 where
 abbrev pub PrimaryStandsOut : Type 0
 PrimaryStandsOut = (recording : List Sample) (t n2 : ℕ) → IsPrimaryAt recording t n2 → StandsOut recording t n2
 
--- in the span of one frame it is a hit
+-- a clean primary signal in the span of one frame is a hit
 abbrev pub PrimaryIsHit : Type 0
 PrimaryIsHit = (recording : List Sample) (t n2 : ℕ) → IsPrimaryAt recording t n2 → first_place ≤ t → t ≤ last_place →
     IsHit recording t n2
 
--- and it is listed
+-- a clean primary signal in the span of one frame is listed
 abbrev pub PrimaryIsListed : Type 0
 PrimaryIsListed = (recording : List Sample) (t n2 : ℕ) → IsPrimaryAt recording t n2 → first_place ≤ t → t ≤ last_place →
     Contains (hits_of recording) (found recording t n2)
 
--- and of all places within 9 and all roots it is the only hit, wherever it stands
+-- a clean primary signal is the only hit of all places within 9 and all roots, wherever it stands
 abbrev pub OnlyHitNear : Type 0
 OnlyHitNear =
     (recording : List Sample) (t u n2 m2 : ℕ) → IsPrimaryAt recording t n2 → m2 ≤ 2 → u ≤ t + 9 → t ≤ u + 9 →

@@ -24,7 +24,8 @@ AreSum eps gain other grid second_grid samples =
     (n : ℕ) → n < 128 →
     IsWithin eps (minus (samples n) (plus (times gain (useful_at grid n)) (times other (useful_at second_grid n))))
 
--- the same where not both gains are 0, and eps is at most half the root of the sum of their squares
+-- 128 samples are received of two symbols: the sum of both, each times a gain; not both gains are 0, and eps is at
+-- most half the root of the sum of their squares
 pub record IsReceivedFromTwo (eps : ℕ) (gain other : Cpx) (grid second_grid samples : ℕ → Cpx) : Type 0 where
   pub sounds : 1 ≤ square gain + square other
   pub quiet : 4 * (eps * eps) ≤ square gain + square other
@@ -51,13 +52,14 @@ samples_from recording start n = sample_at recording (start + n)
 pub record IsSeenAs (gain amplitude seen : Cpx) : Type 0 where
   pub off : square (minus seen (multiple 64 (times gain amplitude))) ≤ 1920 * 1920 * square gain
 
--- the same of two amplitudes with a gain each, off by at most 1024 times the root of the sum of the gains' squares: 16
--- units
+-- what is seen of two amplitudes with a gain each is 64 times the sum of their products, off by at most 1024 times
+-- the root of the sum of the gains' squares: 16 units
 pub record IsSeenAsTwo (gain other amplitude second_amplitude seen : Cpx) : Type 0 where
   pub off : square (minus seen (multiple 64 (plus (times gain amplitude) (times other second_amplitude))))
       ≤ 1024 * 1024 * (square gain + square other)
 
--- the same of four, off by at most 872 times that root: less than 14 units
+-- what is seen of four amplitudes with a gain each is 64 times the sum of their products, off by at most 872 times
+-- the root of the sum of the gains' squares: less than 14 units
 pub record IsSeenAsFour (gains amplitudes : ℕ → Cpx) (seen : Cpx) : Type 0 where
   pub off : square (minus seen (multiple 64 (sum_of_four (λ port. times (gains port) (amplitudes port)))))
       ≤ 872 * 872 * squares_of_four gains

@@ -20,7 +20,7 @@ use Rattle.budget.specs.Received.{IsReceived, IsSeenAs, samples_from}
 abbrev pub sss_grid : ℕ → ℕ → Half → ℕ → Cpx
 sss_grid n1 n2 half = in_middle (sss_amplitude n1 n2 half)
 
--- of the cell's identity and half, both synchronisation signals are seen with the same gain, which is not 0
+-- both synchronisation signals of a cell's identity and half are seen with one gain, which is not 0
 pub record AreSeen (gain : Cpx) (n1 n2 : ℕ) (half : Half) (pss_seen sss_seen : ℕ → Cpx) : Type 0 where
   pub group : n1 ≤ 167
   pub root : n2 ≤ 2
@@ -35,21 +35,21 @@ TermsArePositive =
     (n : ℕ) → n < 62 →
     pos 0 <ℤ (sss_at n1 n2 half n *ℤ agreement pss_seen sss_seen n2 n)
 
--- the score of every other group and half is less
+-- the score of every other group and half than what was sent is less
 abbrev pub SentPairIsGreatest : Type 0
 SentPairIsGreatest =
     (gain : Cpx) (n1 n2 : ℕ) (half : Half) (pss_seen sss_seen : ℕ → Cpx) → AreSeen gain n1 n2 half pss_seen sss_seen →
     (m : ℕ) (other : Half) → m ≤ 167 →
     ((m ≡ n1) × (other ≡ half) → ⊥) → score pss_seen sss_seen n2 m other <ℤ score pss_seen sss_seen n2 n1 half
 
--- so it is the best pair
+-- the group and the half that were sent are the best pair
 abbrev pub SentPairIsBest : Type 0
 SentPairIsBest =
     (gain : Cpx) (n1 n2 : ℕ) (half : Half) (pss_seen sss_seen : ℕ → Cpx) → AreSeen gain n1 n2 half pss_seen sss_seen →
     best_pair (score pss_seen sss_seen n2) ≡ (n1, half)
 
--- in a recording: the primary signal is received from t on, and the secondary one from one symbol of this prefix before
--- it
+-- the primary signal of a cell is received from t on in a recording, and the secondary one from one symbol of this
+-- prefix before it
 pub record AreSignals (prefix : Prefix) (recording : List Sample) (t n1 n2 : ℕ) (half : Half) : Type 0 where
   pub group : n1 ≤ 167
   pub root : n2 ≤ 2
@@ -58,11 +58,12 @@ pub record AreSignals (prefix : Prefix) (recording : List Sample) (t n1 n2 : ℕ
   pub primary : IsReceived eps gain (pss_grid n2) (samples_from recording t)
   pub secondary : IsReceived eps gain (sss_grid n1 n2 half) (samples_from recording (t - symbol_step prefix))
 
--- the same with the normal cyclic prefix
+-- the primary signal of a cell is received from t on in a recording, and the secondary one from one symbol of the
+-- normal prefix before it
 abbrev pub AreSynchronisation : List Sample → ℕ → ℕ → ℕ → Half → Type 0
 AreSynchronisation recording t n1 n2 half = AreSignals normal recording t n1 n2 half
 
--- the sent pair is what is identified by a hit there
+-- the group and the half that were sent are what is identified by a hit at the primary signal
 abbrev pub SentPairIsIdentified : Type 0
 SentPairIsIdentified =
     (prefix : Prefix) (recording : List Sample) (hit : Hit) (n1 : ℕ) (half : Half) →

@@ -9,15 +9,15 @@ abbrev pub sign : Bool → ℤ
 sign false = pos 1
 sign true = negsuc 0
 
--- a value speaks for a bit with a size of 1 to 127 where six times the component, by the bit's sign, is at least so
--- many times the energy
+-- a value speaks for a bit with a size of 1 to 127 where six times the component, by the bit's sign, is at least the
+-- size times the energy
 abbrev pub LargeComponentSpeaks : Type 0
 LargeComponentSpeaks = (size energy : ℕ) (bit : Bool) (c : ℤ) → 1 ≤ size → size ≤ 127 → 1 ≤ energy →
     pos (size * energy) ≤ℤ (pos 6 *ℤ (sign bit *ℤ c)) → Supports size bit (soft_value c energy)
 
--- so it does where the component is a multiple of that of the bit, in any unit, up to a deviation that leaves enough:
--- of six times 90 times `main` units, six times `off` taken away, at least the size times `most`, where the energy has
--- at most `most` units
+-- a value speaks for a bit where the component is a multiple of that of the bit, in any unit, up to a deviation that
+-- leaves enough: of six times 90 times `main` units, six times `off` taken away, at least the size times `most`,
+-- where the energy has at most `most` units
 abbrev pub NearComponentSpeaks : Type 0
 NearComponentSpeaks = (size main off most : ℕ) → 1 ≤ size → size ≤ 127 → size * most + 6 * off ≤ 540 * main →
     (unit energy : ℕ) (bit : Bool) (c : ℤ) → 1 ≤ energy → energy ≤ most * unit →

@@ -7,11 +7,11 @@ use Rattle.cs_num.specs.Complex.{plus, sample_at, sample_of}
 use Rattle.rand_pcg.specs.Lcg.{Lcg, advance, started, increment_of}
 use Rattle.rand_pcg.specs.Pcg.{multiplier_64, pcg32}
 
--- the generator of state n and stream 1, after so many words
+-- the generator of state n and stream 1, after a number of words
 abbrev pub generator : ℕ → ℕ → Lcg
 generator n words = advance 64 multiplier_64 words (started 64 multiplier_64 n (increment_of 64 1))
 
--- the word that it gives then
+-- the word that the generator gives after a number of words
 abbrev pub word : ℕ → ℕ → ℕ
 word n words = (pcg32 (generator n words)).0
 

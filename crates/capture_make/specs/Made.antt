@@ -11,7 +11,8 @@ use Rattle.capture_make.specs.declared.made.MadeBy.{MadeBy}
 use Rattle.capture_make.specs.Recipe.{plan, number, offset, sample_count, gain, gains, IsBound}
 use Rattle.capture_make.specs.Errors.{error}
 
--- its samples, where the errors have this bound: what is received of all ports without load, and each sample's error
+-- the samples of recording number n, where the errors have this bound: what is received of all ports without load,
+-- and each sample's error
 unfoldable pub samples_by : Carrier → ℕ → ℕ → List Sample
 samples_by carrier n bound =
     values_with (sample_count n) (received_by carrier None (plan n) (number n) (offset n) (gains carrier n))
@@ -29,7 +30,7 @@ pub record IsMadeBy (carrier : Carrier) (n : ℕ) (made : MadeBy) : Type 0 where
   pub bound : IsBound carrier n made.bound
   pub samples_are : made.recording ≡ samples_by carrier n (nat_abs made.bound)
 
--- the recording is a clean one of what is sent of the cell of that number, with errors within this bound
+-- the recording is a clean one of what is sent of cell number n, with errors within this bound
 abbrev pub IsCleanNumber : Carrier → ℕ → List Sample → ℕ → Type 0
 IsCleanNumber carrier n recording eps =
     IsCleanBy carrier None recording (plan n) (number n) (offset n) (gains carrier n) eps

@@ -27,7 +27,7 @@ network = record { mcc = Some (0 ∷ 0 ∷ 1 ∷ []); mnc = TwoDigits (0 ∷ 1 �
 abbrev pub message : Period → List ℕ → SiMessage
 message period sibs = record { period = period; sibs = sibs }
 
--- its SystemInformationBlockType1, of 131 bits
+-- SystemInformationBlockType1 of cell number n, of 131 bits
 abbrev pub information : ℕ → Sib1
 information n = record {
   plmns = network ∷ [];
@@ -48,7 +48,7 @@ information n = record {
   extended = false;
 }
 
--- its plan: the size of the transport block is 144
+-- the plan of cell number n: the size of the transport block is 144
 abbrev pub plan : ℕ → CellPlan
 plan n = record {
   identity = n % 504;
@@ -63,17 +63,17 @@ plan n = record {
   sib1 = information n;
 }
 
--- ---- what is sent of it
+-- ---- what is sent of the cell
 
--- the number of its first frame
+-- the number of the first frame of which something is sent
 abbrev pub number : ℕ → ℕ
 number n = n % 1024
 
--- the first sample of that frame which is sent
+-- the first sample of the first frame which is sent
 abbrev pub offset : ℕ → ℕ
 offset n = n % frame_length
 
--- 10 to 99 frames
+-- the count of samples that are sent: those of 10 to 99 frames
 abbrev pub sample_count : ℕ → ℕ
 sample_count n = frame_length * (10 + n % 90)
 
@@ -81,21 +81,21 @@ sample_count n = frame_length * (10 + n % 90)
 abbrev pub gain : ℕ → Cpx
 gain n = record { re = pos (1 + n % 19); im = pos (n % 20) }
 
--- and those of the first and of the second of two
+-- the gains of the first and of the second of two antenna ports
 abbrev pub first_gain : ℕ → Cpx
 first_gain n = record { re = pos (1 + n % 9); im = pos (n % 10) }
 
 abbrev pub second_gain : ℕ → Cpx
 second_gain n = record { re = pos (n % 11); im = neg_ℤ (pos (n % 8)) }
 
--- and those of four, of sizes near one another, each about its own quarter of a turn
+-- the gains of four antenna ports, of sizes near one another, each about its own quarter of a turn
 abbrev pub gain_of_four : PortOfFour → ℕ → Cpx
 gain_of_four Zero n = record { re = pos 4; im = pos (n % 7) -ℤ pos 3 }
 gain_of_four One n = record { re = pos (n % 5) -ℤ pos 2; im = pos 4 }
 gain_of_four Two n = record { re = neg_ℤ (pos 3); im = pos (n % 4) -ℤ pos 2 }
 gain_of_four Three n = record { re = pos (n % 3) -ℤ pos 1; im = neg_ℤ (pos 4) }
 
--- those of a carrier's ports, and 0 for each further one of four
+-- the gains of a carrier's ports, and 0 for each further one of four
 abbrev pub gains : Carrier → ℕ → List Cpx
 gains OnePort n = gain n ∷ nothing ∷ nothing ∷ nothing ∷ []
 gains TwoPorts n = first_gain n ∷ second_gain n ∷ nothing ∷ nothing ∷ []

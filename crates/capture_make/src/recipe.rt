@@ -278,8 +278,8 @@ fn least(a: u32, b: u32) -> u32
     if a < b { a } else { b }
 }
 
-// That with two: the greatest whole number whose square is at most a quarter of the sum of the squares of both gains'
-// sizes, and at most four times that of the first.
+// The bound of the errors with two antenna ports: the greatest whole number whose square is at most a quarter of the
+// sum of the squares of both gains' sizes, and at most four times that of the first.
 fn bound_of_two(n: u32) -> u16
     ensures bound { IsBound TwoPorts n (pos result) }
     ensures small { result ≤ 56 }
@@ -298,8 +298,8 @@ fn square_of_four(port: PortOfFour, n: u32) -> u32
     gain_of_four(port, n).norm() as u32
 }
 
-// That with four: the greatest whole number whose square is at most a 64th of the sum of the squares of all gains'
-// sizes.
+// The bound of the errors with four antenna ports: the greatest whole number whose square is at most a 64th of the
+// sum of the squares of all gains' sizes.
 fn bound_of_four(n: u32) -> u16
     ensures bound { IsBound FourPorts n (pos result) }
     ensures small { result ≤ 56 }

@@ -1,4 +1,4 @@
--- The keys of a description, and the conditions on what stands there. (own)
+-- The keys of a description, and the conditions on what it has at them. (own)
 use Rattle.std.specs.Prelude.{ℕ, ◌+◌, Bool, ◌&&◌, nat_le, if◌then◌else◌, List, [], ◌∷◌, ◌++◌, codes, Option, None}
 use Rattle.std.specs.Prelude.{is_some, option_map, option_and_then, ℤ, pos, nat_abs}
 use Rattle.std.specs.Option.{unwrap_or, option_map_or}
@@ -24,7 +24,7 @@ use Rattle.cell_tx.specs.Clean.{power_of_four}
 use Rattle.cell_json.specs.Kinds.{whole_of, is_between, null_or, list_of, at_key, has, has_exactly, object_of}
 use Rattle.cell_json.specs.Information.{sib1_in}
 
--- ---- kinds of its own
+-- ---- kinds of values of a description
 
 -- a list of exactly two whole numbers, as the parts of a complex one
 abbrev pub pair_in : Items → Option Cpx
@@ -44,7 +44,7 @@ resource_of json = option_and_then resource_named (as_str json)
 
 -- ---- the keys, and of which kind each is
 
--- of an identity of a network
+-- the keys of an identity of a network
 abbrev pub network_keys : List (Data → Bool)
 network_keys =
     has (codes "mcc") (null_or as_str)
@@ -52,14 +52,14 @@ network_keys =
     ∷ has (codes "reserved") as_bool
     ∷ []
 
--- of an entry of the schedule
+-- the keys of an entry of the schedule
 abbrev pub message_keys : List (Data → Bool)
 message_keys =
     has (codes "period") whole_of
     ∷ has (codes "sibs") (list_of whole_of)
     ∷ []
 
--- of SystemInformationBlockType1: of cellAccessRelatedInfo,
+-- the keys of cellAccessRelatedInfo
 unfoldable pub access_keys : List (Data → Bool)
 access_keys =
     has (codes "plmns") (list_of (object_of network_keys))
@@ -71,7 +71,7 @@ access_keys =
     ∷ has (codes "csg_identity") (null_or whole_of)
     ∷ []
 
--- of cellSelectionInfo with p-Max and freqBandIndicator,
+-- the keys of cellSelectionInfo with p-Max and freqBandIndicator
 unfoldable pub selection_keys : List (Data → Bool)
 selection_keys =
     has (codes "q_rx") whole_of
@@ -80,7 +80,7 @@ selection_keys =
     ∷ has (codes "band") whole_of
     ∷ []
 
--- of the schedule with systemInfoValueTag,
+-- the keys of the schedule with systemInfoValueTag
 unfoldable pub schedule_keys : List (Data → Bool)
 schedule_keys =
     has (codes "scheduling") (list_of (object_of message_keys))
@@ -88,11 +88,11 @@ schedule_keys =
     ∷ has (codes "tag") whole_of
     ∷ []
 
--- and all
+-- all keys of SystemInformationBlockType1
 abbrev pub sib1_keys : List (Data → Bool)
 sib1_keys = access_keys ++ selection_keys ++ schedule_keys
 
--- of a description: of what is sent,
+-- the keys of what is sent of a cell
 unfoldable pub sending_keys : List (Data → Bool)
 sending_keys =
     has (codes "sfn") whole_of
@@ -100,7 +100,7 @@ sending_keys =
     ∷ has (codes "samples") whole_of
     ∷ []
 
--- of the numbers of the plan,
+-- the keys of the numbers of a plan
 unfoldable pub number_keys : List (Data → Bool)
 number_keys =
     has (codes "identity") whole_of
@@ -112,7 +112,7 @@ number_keys =
     ∷ has (codes "column") whole_of
     ∷ []
 
--- of the gains of the carrier's antenna ports,
+-- the keys of the gains of a carrier's antenna ports
 abbrev pub gain_keys : Carrier → List (Data → Bool)
 gain_keys OnePort = has (codes "gain") pair_of ∷ []
 gain_keys TwoPorts = has (codes "gain") pair_of ∷ has (codes "gain2") pair_of ∷ []
@@ -124,7 +124,7 @@ gain_keys FourPorts =
     ∷ has (codes "gain4") pair_of
     ∷ []
 
--- and all
+-- all keys of a description
 abbrev pub keys : Carrier → List (Data → Bool)
 keys carrier =
     sending_keys
@@ -147,11 +147,11 @@ number_at key json = unwrap_or (at_key whole_of key json) (pos 0)
 abbrev pub gain_by : List ℕ → Data → Cpx
 gain_by key json = unwrap_or (at_key pair_of key json) nothing
 
--- that of the first antenna port
+-- the gain of the first antenna port
 abbrev pub gain_at : Data → Cpx
 gain_at json = gain_by (codes "gain") json
 
--- those of four ports; that of a port which the carrier has not is not used
+-- the gains of four antenna ports; a port that the carrier has not gets one that is not used
 abbrev pub gains_at : Carrier → Data → List Cpx
 gains_at OnePort json = gain_at json ∷ nothing ∷ nothing ∷ nothing ∷ []
 gains_at TwoPorts json = gain_at json ∷ gain_by (codes "gain2") json ∷ nothing ∷ nothing ∷ []
@@ -199,11 +199,11 @@ plan_of json sib1 = record {
 abbrev pub is_gain : Cpx → Bool
 is_gain gain = nat_le 1 (square gain) && nat_le (square gain) 784
 
--- the first is not 0, and the squares of both are together at most 392
+-- the first gain is not 0, and the squares of the sizes of both are together at most 392
 abbrev pub are_both_gains : Cpx → Cpx → Bool
 are_both_gains first other = nat_le 1 (square first) && nat_le (square first + square other) 392
 
--- the first is not 0, and the squares of all four are together at most 196
+-- the first gain is not 0, and the squares of the sizes of all four are together at most 196
 abbrev pub are_four_gains : List Cpx → Bool
 are_four_gains gains = nat_le 1 (square (value_at gains 0)) && nat_le (power_of_four gains) 196
 
@@ -214,7 +214,7 @@ are_gains TwoPorts gains = are_both_gains (value_at gains 0) (value_at gains 1)
 are_gains LongPrefix gains = is_gain (value_at gains 0)
 are_gains FourPorts gains = are_four_gains gains
 
--- those of the plan, which there is where the block's values are in their ranges
+-- the conditions of the plan, which there is where the block's values are in their ranges
 unfoldable pub cell_conditions : Carrier → Data → List Condition
 cell_conditions carrier json =
     option_map_or (λ sib1. conditions_of carrier (plan_of json sib1)) (sib1_at json) []

@@ -88,7 +88,7 @@ message_of json = do
 
 -- ---- the block; a description has no TDD-Config and no extension
 
--- who may use the cell
+-- the fields that say who may use the cell
 abbrev pub access_in : Data → Option CellAccessRelatedInfo
 access_in json = do
   plmns ← at_key networks_of (codes "plmns") json
@@ -108,7 +108,7 @@ access_in json = do
     csg_identity = csg_identity;
   })
 
--- its levels
+-- the least levels at which a mobile may choose the cell
 abbrev pub selection_in : Data → Option CellSelectionInfo
 selection_in json = do
   q_rx ← at_key (whole_within (negsuc 69) (negsuc 21)) (codes "q_rx") json

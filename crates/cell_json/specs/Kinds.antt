@@ -6,7 +6,7 @@ use Rattle.serde_json.specs.Data.{Data, object, Items, no_items, item}
 use Rattle.serde_json.specs.Events.{items_len, members_len}
 use Rattle.serde_json.specs.Find.{get, as_null, as_number, as_i64, as_array}
 
--- the second step, where the first gave a value
+-- two readings in turn: the second where the first gave a value
 infixl 10 ◌>>=◌
 abbrev pub ◌>>=◌ : {A B : Type 0} → Option A → (A → Option B) → Option B
 option >>= f = option_and_then f option
@@ -24,13 +24,13 @@ whole_of json = option_and_then as_i64 (as_number json)
 abbrev pub is_between : ℤ → ℤ → ℤ → Bool
 is_between least most z = int_le least z && int_le z most
 
--- such a number within a range
+-- a whole number within a range
 abbrev pub whole_within : ℤ → ℤ → Data → Option ℤ
 whole_within least most json = do
   z ← whole_of json
   given (is_between least most z) z
 
--- the same where the range has no negative numbers
+-- a whole number within a range that has no negative numbers
 abbrev pub natural_within : ℕ → ℕ → Data → Option ℕ
 natural_within least most json = option_map nat_abs (whole_within (pos least) (pos most) json)
 
@@ -42,7 +42,7 @@ null_or kind json = if is_some (as_null json) then Some None else option_map Som
 
 -- ---- lists
 
--- each item of a kind
+-- the values of items, each of a kind
 abbrev pub each : {A : Type 0} → (Data → Option A) → Items → Option (List A)
 each kind no_items = Some []
 each kind (item first rest) = do
@@ -53,13 +53,13 @@ each kind (item first rest) = do
 abbrev pub list_of : {A : Type 0} → (Data → Option A) → Data → Option (List A)
 list_of kind json = option_and_then (each kind) (as_array json)
 
--- the items of a list of so many
+-- the items of a list, where their count is within a range
 abbrev pub items_within : ℕ → ℕ → Data → Option Items
 items_within least most json = do
   items ← as_array json
   given (nat_le least (items_len items) && nat_le (items_len items) most) items
 
--- a list of so many values
+-- the values of a list, each of a kind, where their count is within a range
 abbrev pub list_within : {A : Type 0} → ℕ → ℕ → (Data → Option A) → Data → Option (List A)
 list_within least most kind json = option_and_then (each kind) (items_within least most json)
 
@@ -78,11 +78,11 @@ key_count _ = 0
 abbrev pub has : {A : Type 0} → List ℕ → (Data → Option A) → Data → Bool
 has key kind json = is_some (at_key kind key json)
 
--- these keys, each with a value of its kind
+-- each of these keys is there, with a value of its kind
 abbrev pub has_all : List (Data → Bool) → Data → Bool
 has_all keys json = list_all (λ is_there. is_there json) keys
 
--- exactly these keys: the object has so many, and these are among them
+-- exactly these keys: the object has as many, and each of these is among them
 abbrev pub has_exactly : List (Data → Bool) → Data → Bool
 has_exactly keys json = nat_eq (key_count json) (length keys) && has_all keys json
 

@@ -20,7 +20,7 @@ use Rattle.cell_json.specs.Description.{number_at, gain_at, gains_at, duration_a
 abbrev pub json_of : List ℕ → Option Data
 json_of bytes = if is_utf8 bytes then value_of_text bytes else None
 
--- the first failed condition of a value, where a carrier sends what it describes: of what is no JSON it is the form
+-- the first failed condition of a value, where a carrier sends what it describes; what is no JSON fails the form
 abbrev pub refusal_of : Carrier → Option Data → Option CellError
 refusal_of carrier None = Some Form
 refusal_of carrier (Some json) = first_failed (conditions carrier json)
@@ -29,11 +29,11 @@ refusal_of carrier (Some json) = first_failed (conditions carrier json)
 abbrev pub refusal_by : Carrier → List ℕ → Option CellError
 refusal_by carrier bytes = refusal_of carrier (json_of bytes)
 
--- with one antenna port
+-- the first failed condition of a description with one antenna port; None where it is valid
 abbrev pub refusal : List ℕ → Option CellError
 refusal bytes = refusal_by OnePort bytes
 
--- the plan of a cell, the first sample that is sent of it and their count are the description's
+-- the plan of a cell, the first sample that is sent and the count of samples are those of a description
 pub record HasValues (plan : CellPlan) (timing : Timing) (count : ℕ) (json : Data) : Type 0 where
   pub identity : pos plan.identity ≡ number_at (codes "identity") json
   pub duration : plan.duration ≡ duration_at json
@@ -71,7 +71,7 @@ pub record DescribesBy (carrier : Carrier) (bytes : List ℕ) (e : Emission) : T
   pub valid : refusal_by carrier bytes ≡ None
   pub is : IsEmissionOf carrier value e
 
--- of the transmission
+-- the bytes are a valid description of the transmission, with one antenna port
 pub record Describes (bytes : List ℕ) (t : Transmission) : Type 0 where
   pub value : Data
   pub json : json_of bytes ≡ Some value

@@ -54,7 +54,7 @@ fn has_text_or_null(value: &Value, key: &str) -> bool
     }
 }
 
-// Whether it is an identity of a network.
+// Whether a value is an identity of a network.
 fn is_network(value: &Value) -> bool
     ensures { result ≡ has_exactly network_keys (view value.now) }
 {
@@ -102,7 +102,7 @@ fn are_wholes(value: &Value) -> bool
     }
 }
 
-// Whether it is an entry of the schedule.
+// Whether a value is an entry of the schedule.
 fn is_message(value: &Value) -> bool
     ensures { result ≡ has_exactly message_keys (view value.now) }
 {
@@ -128,7 +128,7 @@ fn are_messages(value: &Value) -> bool
     }
 }
 
-// Whether it has the keys of cellAccessRelatedInfo.
+// Whether a value has the keys of cellAccessRelatedInfo.
 #[tactic(auto, unfolding(crate::specs::Description::access_keys))]
 fn has_access(value: &Value) -> bool
     ensures { result ≡ has_all access_keys (view value.now) }
@@ -142,7 +142,7 @@ fn has_access(value: &Value) -> bool
         && has_whole_or_null(value, "csg_identity")
 }
 
-// Whether it has the keys of cellSelectionInfo, p-Max and freqBandIndicator.
+// Whether a value has the keys of cellSelectionInfo, p-Max and freqBandIndicator.
 #[tactic(auto, unfolding(crate::specs::Description::selection_keys))]
 fn has_selection(value: &Value) -> bool
     ensures { result ≡ has_all selection_keys (view value.now) }
@@ -153,7 +153,7 @@ fn has_selection(value: &Value) -> bool
         && has_whole(value, "band")
 }
 
-// Whether it has the keys of the schedule and systemInfoValueTag.
+// Whether a value has the keys of the schedule and systemInfoValueTag.
 #[tactic(auto, unfolding(crate::specs::Description::schedule_keys))]
 fn has_schedule(value: &Value) -> bool
     ensures { result ≡ has_all schedule_keys (view value.now) }
@@ -161,7 +161,7 @@ fn has_schedule(value: &Value) -> bool
     has_messages(value, "scheduling") && has_whole(value, "window") && has_whole(value, "tag")
 }
 
-/// Whether it has the form of SystemInformationBlockType1.
+/// Whether a value has the form of SystemInformationBlockType1.
 #[tactic(auto, using(crate::proofs::Tables::sib1_parts))]
 pub(crate) fn is_sib1(value: &Value) -> bool
     ensures { result ≡ has_exactly sib1_keys (view value.now) }

@@ -145,7 +145,7 @@ fn sibs_in(items: &[Value]) -> Option<Sibs>
     Some(sibs)
 }
 
-// At most 31 of them.
+// The codes of at most 31 blocks.
 fn sibs_of(value: &Value) -> Option<Sibs>
     ensures { result ≡ list_within 0 31 (natural_of 0 79) (view value.now) }
 {
@@ -218,7 +218,7 @@ fn access_in(value: &Value) -> Option<CellAccessRelatedInfo>
     })
 }
 
-// Its levels.
+// The least levels at which a mobile may choose the cell.
 fn selection_in(value: &Value) -> Option<CellSelectionInfo>
     ensures { result ≡ described_selection (view value.now) }
 {

@@ -56,7 +56,7 @@ pub(crate) fn natural_within(value: &Value, least: u32, most: u32) -> Option<u32
     within(&number, least, most)
 }
 
-/// The same at a key.
+/// A whole number at a key, within a range that has no negative ones.
 pub(crate) fn natural_at(value: &Value, key: &str, least: u32, most: u32) -> Option<u32>
     ensures value { result ≡ at_key (natural_of least most) key.now (view value.now) }
     ensures range { IfSome result (λ n. (least ≤ n) × (n ≤ most)) }
@@ -64,7 +64,7 @@ pub(crate) fn natural_at(value: &Value, key: &str, least: u32, most: u32) -> Opt
     natural_within(value.get(key)?, least, most)
 }
 
-/// The same, or null.
+/// A whole number at a key, within a range that has no negative ones, or null.
 pub(crate) fn natural_or_null_at(
     value: &Value,
     key: &str,

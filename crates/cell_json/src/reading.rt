@@ -45,7 +45,8 @@ pub fn read_by(alloc: Global, carrier: Carrier, bytes: &[u8]) -> Result<Emission
     }
 }
 
-/// The same with one antenna port and the normal cyclic prefix, as a transmission.
+/// The transmission that a description in JSON has the values of, as `read_by` reads it with one antenna port and the
+/// normal cyclic prefix.
 pub fn read(alloc: Global, bytes: &[u8]) -> Result<Transmission, JsonError>
     ensures { MatchResult result (Describes bytes.now) (IsRefused bytes.now) }
 {
@@ -73,7 +74,7 @@ fn in_16_bits(number: &i64) -> u16
     }
 }
 
-// The same in a field of 8 bits.
+// A number in a field of 8 bits; what the field cannot hold stands as its greatest number.
 fn in_8_bits(number: &i64) -> u8
     ensures { result ≡ in_field 255 number.now }
 {
