@@ -109,7 +109,7 @@ fn is_message(value: &Value) -> bool
     count_keys(value) == 2 && has_whole(value, "period") && has_wholes(value, "sibs")
 }
 
-// Whether there is a list of them at a key.
+// Whether there is a list of entries of the schedule at a key.
 fn has_messages(value: &Value, key: &str) -> bool
     ensures { result ≡ has key.now (list_of (object_of message_keys)) (view value.now) }
 {

@@ -43,12 +43,13 @@ pub record IsReadWith (values : Subframe) (indicator : ℕ) (grant : Grant) : Ty
   pub reads : (answer : Result Sib1 Sib1Reason) →
       Tells (values.shared indicator grant.start grant.blocks) grant answer → Reads values answer
 
--- so it is read with those for which its values speak
+-- a subframe is read with the indicator and the grant for which its values speak
 abbrev pub SpokenGrantIsRead : Type 0
 SpokenGrantIsRead = (values : Subframe) (indicator : ℕ) (grant : Grant) → SpeakOfGrant values indicator grant →
     IsReadWith values indicator grant
 
--- with those whose points are seen in its first slot, with the gain of the pilots
+-- a subframe is read with the indicator and the grant whose points are seen in its first slot, with the gain of the
+-- pilots
 abbrev pub SeenGrantIsRead : Type 0
 SeenGrantIsRead =
     (gain : Cpx) (first second : SeenSlot) (indicator : ℕ) (duration : Duration) (resource : Resource) (grant : Grant) →
@@ -57,7 +58,7 @@ SeenGrantIsRead =
     ArePlacesSeen gain first (grant_places first indicator duration resource) (grant_scrambled first grant) →
     IsReadWith (one_port first second duration resource) indicator grant
 
--- in a recording: with those that the subframe carries, whose first slot is received
+-- a subframe of a recording whose first slot is received is read with the indicator and the grant that it carries
 abbrev pub ReceivedGrantIsRead : Type 0
 ReceivedGrantIsRead =
     (recording : List Sample) (starts : ℕ → ℕ) (grids : ℕ → ℕ → Cpx) (first second : SeenSlot) (indicator : ℕ)

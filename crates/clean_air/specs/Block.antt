@@ -21,8 +21,8 @@ use Rattle.clean_air.specs.Subframe.{IsSubframeSeen, shared_scrambled, IsSubfram
 abbrev pub matched_bit : Row → ℕ → List Bool → ℕ → Bool
 matched_bit row rv word i = bit_of (coded row word) (item_of row.k rv i)
 
--- a word of the size of a row, whose check passes, and which can be resolved by so many bits of the reading: always
--- where each coded bit is among them
+-- a word of the size of a row, whose check passes, and which can be resolved by the first bits of the reading, as
+-- many as the count says: always where each coded bit is among them
 pub record IsSentBlock (row : Row) (rv count : ℕ) (word : List Bool) : Type 0 where
   pub is_row : IsRow row
   pub version : rv < 4
@@ -38,13 +38,13 @@ pub record TellsBlock (row : Row) (rv : ℕ) (word : List Bool) (values : List �
   pub whole : 3 * (row.k + 4) ≤ length values → SumsSupport 1 row word (summed row.k rv values)
   pub told : block row (summed row.k rv values) ≡ Some (message_of 24 word)
 
--- values that each speak for the coded bit that was sent there do
+-- values that each speak for the coded bit of a word that was sent there tell the word
 abbrev pub HeardBlockIsTold : Type 0
 HeardBlockIsTold = (row : Row) (rv count : ℕ) (word : List Bool) (values : List ℤ) → IsSentBlock row rv count word →
     AreHeard 1 count (matched_bit row rv word) values → TellsBlock row rv word values
 
--- so do the values of resource blocks, where the pilots of both slots of the subframe are seen, those of each with one
--- gain, and the places of the blocks, with the gain of their slot, as the points of the scrambled bits
+-- the values of resource blocks tell a word where the pilots of both slots of the subframe are seen, those of each
+-- with one gain, and the places of the blocks, with the gain of their slot, as the points of the scrambled bits
 abbrev pub SeenBlockIsTold : Type 0
 SeenBlockIsTold =
     (gain later : Cpx) (first second : SeenSlot) (cfi start blocks : ℕ) (row : Row) (rv : ℕ) (word : List Bool) →
@@ -53,7 +53,8 @@ SeenBlockIsTold =
     IsSubframeSeen gain later first second places (shared_scrambled first (matched_bit row rv word)) →
     TellsBlock row rv word (shared_values first second cfi start blocks)
 
--- in a recording: where both slots are received, and the places of the blocks carry these bits
+-- the values of resource blocks of a recording tell a word where both slots are received, and the places of the
+-- blocks carry its scrambled bits
 abbrev pub ReceivedBlockIsTold : Type 0
 ReceivedBlockIsTold =
     (recording : List Sample) (starts : ℕ → ℕ) (grids : ℕ → ℕ → Cpx) (first second : SeenSlot) (cfi start blocks : ℕ)

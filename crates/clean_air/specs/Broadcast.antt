@@ -14,28 +14,28 @@ use Rattle.pbch.specs.Master.{PassesWith, Tells}
 use Rattle.clean_air.specs.Values.{IsSlotReceived}
 use Rattle.clean_air.specs.Carried.{SpeakOfWord, sums_of, CarryWord}
 
--- sums tell a word with so many ports, and it costs nothing
+-- sums tell a word with a number of antenna ports, and it costs nothing
 pub record TellsFreely (sums : List (List ℤ)) (word : List Bool) (ports : ℕ) : Type 0 where
   pub tells : Tells sums word ports
   pub free : word_cost sums word ≡ 0
 
--- sums that all speak for the coded bits of a word of 40 bits, whose check passes with the mask of so many ports, and
--- whose code of the bandwidth is one, tell it, and it costs nothing
+-- sums that all speak for the coded bits of a word of 40 bits, whose check passes with the mask of a number of ports,
+-- and whose code of the bandwidth is one, tell it, and it costs nothing
 abbrev pub SpokenWordIsTold : Type 0
 SpokenWordIsTold =
     (ports : ℕ) (word : List Bool) (sums : List (List ℤ)) → length word ≡ 40 → length sums ≡ 40 → Speaks sums word →
     PassesWith ports word → field word 0 3 ≤ 5 →
     TellsFreely sums word ports
 
--- so do the sums of values that speak of it
+-- the sums of values that speak of a master block's word tell it, and it costs nothing
 abbrev pub SentWordIsTold : Type 0
 SentWordIsTold =
     (c_init first ports : ℕ) (word : List Bool) (values : List ℤ) → length word ≡ 40 →
     SpeakOfWord c_init first word values → PassesWith ports word → field word 0 3 ≤ 5 →
     TellsFreely (sums_of c_init first 40 values) word ports
 
--- in a recording: a slot that is received, and whose broadcast channel carries such a word in a frame of this phase,
--- tells it alone
+-- a slot of a recording that is received, and whose broadcast channel carries a master block's word in a frame of
+-- this phase, tells it alone
 abbrev pub ReceivedSlotTells : Type 0
 ReceivedSlotTells =
     (recording : List Sample) (starts : ℕ → ℕ) (grids : ℕ → ℕ → Cpx) (slot : SeenSlot) (phase ports : ℕ)

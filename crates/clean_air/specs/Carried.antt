@@ -25,11 +25,11 @@ pub record SpeakOfWord (c_init first : ℕ) (word : List Bool) (values : List �
   pub value : (i : ℕ) → i < length values →
       Supports 1 (scrambled_bit c_init word (first + i)) (slice_index_or values i (pos 0))
 
--- what such values tell: their sums by place of the coded word, before scrambling
+-- the sums by place of a coded word, before scrambling, of values that speak of it
 abbrev pub sums_of : ℕ → ℕ → ℕ → List ℤ → List (List ℤ)
 sums_of c_init first size values = summed_from first size (descrambled c_init first values)
 
--- these tell the word and no other, where it has 6 to 64 bits
+-- the sums of values that speak of a word of 6 to 64 bits tell the word and no other
 abbrev pub SentWordIsOnly : Type 0
 SentWordIsOnly =
     (c_init first : ℕ) (word : List Bool) (values : List ℤ) → 6 ≤ length word → length word ≤ 64 →
@@ -38,7 +38,7 @@ SentWordIsOnly =
 
 -- ---- places and their values
 
--- so many values, of which each speaks for its bit with this size and more
+-- there are as many values as the count says, of which each speaks for its bit with this size and more
 pub record AreHeard (least count : ℕ) (bits : ℕ → Bool) (values : List ℤ) : Type 0 where
   pub size : length values ≡ count
   pub value : (i : ℕ) → i < count → Supports least (bits i) (slice_index_or values i (pos 0))
@@ -49,8 +49,8 @@ abbrev pub ArePlacesSeen : Cpx → SeenSlot → List Place → (ℕ → Bool) �
 ArePlacesSeen gain slot places bits = (i : ℕ) → i < length places →
     let p = slice_index_or places i (place 0 0) in IsSeenAs gain (point_of bits i) (seen_at slot (p.symbol % 7) p.k)
 
--- where the pilots of the slot are seen with that gain too, the soft values of these places, two of each, speak for the
--- bits with size 8 and more
+-- where the pilots of a slot and some of its places are seen with one gain, the soft values of these places, two of
+-- each, speak for the bits with size 8 and more
 abbrev pub SeenBitsAreHeard : Type 0
 SeenBitsAreHeard = (gain : Cpx) (slot : SeenSlot) (places : List Place) (bits : ℕ → Bool) → ArePilotsSeen gain slot →
     ArePlacesSeen gain slot places bits → AreHeard 8 (2 * length places) bits (soft_values_of slot places)
@@ -67,11 +67,11 @@ abbrev pub CarryBits : (ℕ → ℕ → Cpx) → List Place → (ℕ → Bool) �
 CarryBits grids places bits = (i : ℕ) → i < length places →
     let p = slice_index_or places i (place 0 0) in grids (p.symbol % 7) p.k ≡ point_of bits i
 
--- they carry the scrambled bits of a word from bit `first` on
+-- places of the subframe of a slot carry the scrambled bits of a word from bit `first` on
 abbrev pub CarryWord : (ℕ → ℕ → Cpx) → List Place → ℕ → ℕ → List Bool → Type 0
 CarryWord grids places c_init first word = CarryBits grids places (λ n. scrambled_bit c_init word (first + n))
 
--- where a slot is received, the soft values of such places speak for these bits with size 8 and more
+-- where a slot is received, the soft values of places that carry bits speak for them with size 8 and more
 abbrev pub CarriedBitsAreHeard : Type 0
 CarriedBitsAreHeard =
     (recording : List Sample) (starts : ℕ → ℕ) (grids : ℕ → ℕ → Cpx) (slot : SeenSlot) (places : List Place)

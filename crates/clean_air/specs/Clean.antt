@@ -35,10 +35,10 @@ pub record HoldsOne (list : List Entry) (identity first number : ℕ) (is_sent :
   pub only : (other : Entry) → Contains list other → other.id ≡ identity → other.start ≡ first → other.sfn ≡ number →
       other ≡ entry
 
--- the entry has so many antenna ports (TS 36.212 section 5.3.1.1), the fields of the master block of a cell in the
--- frame with this number, which holds the upper 8 bits of it (TS 36.331 section 6.2.2), and what is told of its system
--- information; it was read from the cell's first whole frame alone, and each value speaks for its word, so that this
--- costs nothing
+-- the entry has this count of antenna ports (TS 36.212 section 5.3.1.1), the fields of the master block of a cell in
+-- the frame with this number, which holds the upper 8 bits of it (TS 36.331 section 6.2.2), and what is told of its
+-- system information; it was read from the cell's first whole frame alone, and each value speaks for its word, so
+-- that this costs nothing
 pub record IsSentEntryBy (count : ℕ) (lasting : Duration) (share : Resource) (bits : ℕ) (told : Result Sib1 Sib1Reason)
     (number : ℕ) (entry : Entry) : Type 0 where
   pub ports : entry.ports ≡ count
@@ -48,7 +48,7 @@ pub record IsSentEntryBy (count : ℕ) (lasting : Duration) (share : Resource) (
   pub frames : entry.frames ≡ 1
   pub frame : entry.frame ≡ 0
 
--- with one antenna port and the fields of the plan's SystemInformationBlockType1
+-- the entry is as it was sent with one antenna port and the fields of the plan's SystemInformationBlockType1
 abbrev pub IsSentEntry : CellPlan → ℕ → Entry → Type 0
 IsSentEntry plan number = IsSentEntryBy 1 plan.duration plan.resource plan.spare (Ok plan.sib1) number
 
@@ -56,15 +56,15 @@ IsSentEntry plan number = IsSentEntryBy 1 plan.duration plan.resource plan.spare
 abbrev pub HoldsCell : List Entry → CellPlan → ℕ → ℕ → Type 0
 HoldsCell list plan first number = HoldsOne list plan.identity first number (IsSentEntry plan number)
 
--- of each cell of which the recording is clean, whatever its plan is, what it sends elsewhere, its first frame's
--- number, the offset, the gain and the errors
+-- the list holds each cell of which the recording is clean, whatever its plan is, what it sends elsewhere, its first
+-- frame's number, the offset, the gain and the errors
 abbrev pub HoldsLoadedCells : List Sample → List Entry → Type 0
 HoldsLoadedCells recording list =
     (plan : CellPlan) (grid : Elements) (sfn offset : ℕ) (gain : Cpx) (eps : ℕ) → IsSendable plan →
     IsLoaded recording plan grid sfn offset gain eps →
     HoldsCell list plan (start_of offset) (number_at_start sfn offset)
 
--- so of each that sends nothing elsewhere
+-- the list holds each cell of which the recording is clean and that sends nothing elsewhere
 abbrev pub HoldsCleanCells : List Sample → List Entry → Type 0
 HoldsCleanCells recording list =
     (plan : CellPlan) (sfn offset : ℕ) (gain : Cpx) (eps : ℕ) → IsSendable plan →

@@ -27,7 +27,7 @@ use Rattle.clean_air.specs.Carried.{ArePlacesSeen, CarryBits}
 abbrev pub grant_word : Grant → List Bool
 grant_word grant = with_check_16 system_information_rnti (sent_word grant)
 
--- so many control channel elements, and the values of the first four, tell a grant and nothing else: the word that is
+-- the values of the first four of a count of control channel elements tell a grant and nothing else: the word that is
 -- sent for it is the only least word of the sums, and its check passes
 pub record IsOnlyGrant (count : ℕ) (candidate : List ℤ) (grant : Grant) : Type 0 where
   pub word : IsOnlyWord (summed 37 candidate) (grant_word grant)
@@ -35,14 +35,14 @@ pub record IsOnlyGrant (count : ℕ) (candidate : List ℤ) (grant : Grant) : Ty
   pub told : Grants count candidate (Ok grant)
   pub only : (answer : Result Grant Sib1Reason) → Grants count candidate answer → answer ≡ Ok grant
 
--- values before scrambling, at least 111, that each speak for the coded bit of that word that stands there, tell the
--- grant
+-- values before scrambling, at least 111, that each speak for the coded bit of a grant's word that stands there, tell
+-- the grant
 abbrev pub SentGrantIsTold : Type 0
 SentGrantIsTold = (count : ℕ) (candidate : List ℤ) (grant : Grant) → IsGrant grant → 4 ≤ count →
     SpeakInOrder (grant_word grant) candidate → IsOnlyGrant count candidate grant
 
 -- a slot tells a grant, with an indicator and the PHICH of a master block: there are at least four elements, and the
--- 288 values of the first four do
+-- 288 values of the first four tell it
 pub record TellsGrant (slot : SeenSlot) (indicator : ℕ) (duration : Duration) (resource : Resource) (grant : Grant)
     : Type 0 where
   pub enough : 4 ≤ element_count indicator duration resource
@@ -50,7 +50,8 @@ pub record TellsGrant (slot : SeenSlot) (indicator : ℕ) (duration : Duration) 
   pub told : IsOnlyGrant (element_count indicator duration resource)
       (candidate_values slot indicator duration resource) grant
 
--- the places of these elements in the subframe that begins with a slot, and the bits of a grant as they are sent there
+-- the places of the first four elements in the subframe that begins with a slot, and the bits of a grant as they are
+-- sent there
 abbrev pub grant_places : SeenSlot → ℕ → Duration → Resource → List Place
 grant_places slot indicator duration resource =
     candidate_places slot.identity (pdcch_groups slot.identity indicator duration resource)
@@ -58,8 +59,8 @@ grant_places slot indicator duration resource =
 abbrev pub grant_scrambled : SeenSlot → Grant → ℕ → Bool
 grant_scrambled slot grant = scrambled_bit (pdcch_c_init slot.identity slot.number) (grant_word grant)
 
--- so does the slot whose pilots, and these places with a grant's points, are seen with one gain, where the indicator is
--- 2 or 3
+-- a slot tells a grant where its pilots, and the places of the first four elements with the grant's points, are seen
+-- with one gain, and the indicator is 2 or 3
 abbrev pub SeenGrantIsTold : Type 0
 SeenGrantIsTold =
     (gain : Cpx) (slot : SeenSlot) (indicator : ℕ) (duration : Duration) (resource : Resource) (grant : Grant) →
@@ -67,7 +68,7 @@ SeenGrantIsTold =
     ArePlacesSeen gain slot (grant_places slot indicator duration resource) (grant_scrambled slot grant) →
     TellsGrant slot indicator duration resource grant
 
--- in a recording: the slot that is received, and whose control channel carries a grant
+-- a slot of a recording tells a grant where it is received and its control channel carries the grant
 abbrev pub ReceivedGrantIsTold : Type 0
 ReceivedGrantIsTold =
     (recording : List Sample) (starts : ℕ → ℕ) (grids : ℕ → ℕ → Cpx) (slot : SeenSlot) (indicator : ℕ)

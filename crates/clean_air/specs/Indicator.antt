@@ -30,15 +30,15 @@ pub record TellsIndicator (slot : SeenSlot) (indicator : ℕ) : Type 0 where
 abbrev pub indicator_scrambled : SeenSlot → ℕ → ℕ → Bool
 indicator_scrambled slot indicator = scrambled (pcfich_c_init slot.identity slot.number) (indicator_bit indicator)
 
--- so does the slot whose pilots, and the sixteen places of the channel with an indicator's points, are seen with one
--- gain
+-- a slot tells an indicator where its pilots, and the sixteen places of the channel with the indicator's points, are
+-- seen with one gain
 abbrev pub SeenIndicatorIsTold : Type 0
 SeenIndicatorIsTold = (gain : Cpx) (slot : SeenSlot) (indicator : ℕ) → 1 ≤ indicator → indicator ≤ 3 →
     ArePilotsSeen gain slot →
     ArePlacesSeen gain slot (pcfich_places slot.identity) (indicator_scrambled slot indicator) →
     TellsIndicator slot indicator
 
--- in a recording: the slot that is received, and whose channel carries an indicator
+-- a slot of a recording tells an indicator where it is received and its channel carries the indicator
 abbrev pub ReceivedIndicatorIsTold : Type 0
 ReceivedIndicatorIsTold =
     (recording : List Sample) (starts : ℕ → ℕ) (grids : ℕ → ℕ → Cpx) (slot : SeenSlot) (indicator : ℕ) →

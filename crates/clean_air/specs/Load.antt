@@ -29,16 +29,16 @@ pub record IsLoadedAt (port : Port) (recording : List Sample) (plan : CellPlan) 
   pub carries : CarriesPlan port plan grid
   pub samples : IsCleanOf (prefix_sent (port_prefix port) grid sfn) recording offset gain eps
 
--- with the normal prefix
+-- a recording is clean of elements of a cell's only port, with the normal prefix, that carry the plan
 abbrev pub IsLoaded : List Sample → CellPlan → Elements → ℕ → ℕ → Cpx → ℕ → Type 0
 IsLoaded recording plan grid sfn offset gain eps = IsLoadedAt Only recording plan grid sfn offset gain eps
 
--- laws: what a plan sends carries it, with load or without
+-- a law: what a plan sends carries it, with load or without
 abbrev pub SentElementsCarry : Type 0
 SentElementsCarry =
     (load : Option ℕ) (port : Port) (plan : CellPlan) → CarriesPlan port plan (sent_element load port plan)
 
--- without load the plan's elements are nothing at each place that it leaves open, but for the indicators
+-- a law: the plan's elements without load are nothing at each place that it leaves open, but for the indicators
 abbrev pub OpenPlacesAreSilent : Type 0
 OpenPlacesAreSilent =
     (port : Port) (plan : CellPlan) (sfn subframe symbol k : ℕ) → is_taken port plan sfn subframe symbol k ≡ false →
@@ -55,14 +55,14 @@ is_of_others (OfFour One) i = is_even_pair i
 is_of_others (OfFour Two) i = not (is_even_pair i)
 is_of_others (OfFour Three) i = is_even_pair i
 
--- a place of the broadcast channel has such a point
+-- a place of the broadcast channel has a point that two other ports of four send
 abbrev pub is_other_pair : Port → CellPlan → ℕ → ℕ → ℕ → Bool
 is_other_pair port plan subframe symbol k =
     has_broadcast port plan.identity subframe symbol k
     && is_of_others port (broadcast_index port plan.identity symbol k)
 
--- and at each place that it takes, outside the symbols of the signals and the other ports' reference signals
--- and pairs, they have the size of a point
+-- a law: the plan's elements have the size of a point at each place that it takes, outside the symbols of the signals
+-- and the other ports' reference signals and pairs
 abbrev pub TakenPlacesAreSent : Type 0
 TakenPlacesAreSent =
     (port : Port) (plan : CellPlan) (sfn subframe symbol k : ℕ) → is_taken port plan sfn subframe symbol k ≡ true →

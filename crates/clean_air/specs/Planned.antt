@@ -39,7 +39,7 @@ pub record IsPlanned (recording : List Sample) (entry : Entry) (plan : CellPlan)
   pub told : plan ≡ plan_by entry plan.cfi grant plan.sib1
   pub accepted : plan_refusal plan ≡ None
 
--- the plan, or none where there is none such
+-- the plan of an entry's cell, or none where there is none
 abbrev pub IsPlanOf : List Sample → Entry → Option CellPlan → Type 0
 IsPlanOf recording entry (Some plan) = IsPlanned recording entry plan
 IsPlanOf recording entry None = (plan : CellPlan) → IsPlanned recording entry plan → ⊥

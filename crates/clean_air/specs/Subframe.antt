@@ -32,7 +32,7 @@ pub record IsSubframeSeen (gain later : Cpx) (first second : SeenSlot) (places :
       IsSeenAs (gain_with gain later p.symbol) (point_of bits i)
       (seen_at (slot_with first second p.symbol) (p.symbol % 7) p.k)
 
--- then the soft values of these places speak for the bits with size 8 and more
+-- the soft values of places that are seen in a subframe speak for their bits with size 8 and more
 abbrev pub SeenSubframeIsHeard : Type 0
 SeenSubframeIsHeard = (gain later : Cpx) (first second : SeenSlot) (places : List Place) (bits : ℕ → Bool) →
     IsSubframeSeen gain later first second places bits →
@@ -62,7 +62,7 @@ abbrev pub CarryInSubframe : (ℕ → ℕ → Cpx) → List Place → (ℕ → B
 CarryInSubframe grids places bits = (i : ℕ) → i < length places →
     let p = slice_index_or places i (place 0 0) in grids p.symbol p.k ≡ point_of bits i
 
--- then the soft values of these places speak for the bits with size 8 and more
+-- the soft values of places of a received subframe that carry bits speak for these with size 8 and more
 abbrev pub ReceivedSubframeIsHeard : Type 0
 ReceivedSubframeIsHeard =
     (recording : List Sample) (starts : ℕ → ℕ) (grids : ℕ → ℕ → Cpx) (first second : SeenSlot) (places : List Place)
@@ -70,7 +70,8 @@ ReceivedSubframeIsHeard =
     All (λ p. (p.symbol < 14) × (p.k < 72)) places → CarryInSubframe grids places bits →
     AreHeard 8 (2 * length places) bits (placed_values (in_subframe first second) places)
 
--- and those of the shared channel for the bits before scrambling
+-- the values of the shared channel of a received subframe speak for the bits before scrambling, where its places
+-- carry them
 abbrev pub ReceivedBlocksAreHeard : Type 0
 ReceivedBlocksAreHeard =
     (recording : List Sample) (starts : ℕ → ℕ) (grids : ℕ → ℕ → Cpx) (first second : SeenSlot)

@@ -12,7 +12,7 @@ use Rattle.soft_bits.specs.Soft.{SeenSlot, seen_at, pilot_subcarrier, pattern_sy
 use Rattle.soft_bits.specs.Soft.{pattern_channel, pattern_energy, soft_pair, soft_values}
 use Rattle.budget.specs.Received.{AreAmplitudes, IsReceived, IsSeenAs, samples_from}
 
--- both soft values of a place do, for two bits
+-- the two soft values of a place speak for two bits
 pub record SupportBoth (least : ℕ) (first second : Bool) (values : List ℤ) : Type 0 where
   pub re : Supports least first (slice_index_or values 0 (pos 0))
   pub im : Supports least second (slice_index_or values 1 (pos 0))
@@ -23,12 +23,12 @@ pub record ArePatternSeen (pattern : Pattern) (gain : Cpx) (slot : SeenSlot) : T
   pub pilot : (i : ℕ) → i < 24 →
       IsSeenAs gain (pattern_sent pattern slot.identity slot.number i) (pattern_seen pattern slot i)
 
--- those of port 0 with the normal prefix
+-- the 24 pilots of a slot of port 0 with the normal prefix are seen with one gain that is not 0
 abbrev pub ArePilotsSeen : Cpx → SeenSlot → Type 0
 ArePilotsSeen gain slot = ArePatternSeen port_0 gain slot
 
--- where what stands for two bits is seen at a subcarrier with the same gain, its soft values by these pilots speak for
--- them with size 8 and more
+-- where what stands for two bits is seen at a subcarrier with the gain of a slot's pilots, its soft values by these
+-- speak for the bits with size 8 and more
 abbrev pub SeenPairSupportsBits : Type 0
 SeenPairSupportsBits =
     (pattern : Pattern) (gain : Cpx) (slot : SeenSlot) (seen : Cpx) (k : ℕ) (first second : Bool) →
@@ -37,15 +37,16 @@ SeenPairSupportsBits =
     SupportBoth 8 first second
     (soft_pair (times seen (conjugate (pattern_channel pattern slot k))) (pattern_energy pattern slot))
 
--- where a place carries two bits and is seen with the same gain, its soft values speak for them with size 8 and more
+-- where a place carries two bits and is seen with the gain of the slot's pilots, its soft values speak for them with
+-- size 8 and more
 abbrev pub ValuesSupportBits : Type 0
 ValuesSupportBits =
     (gain : Cpx) (slot : SeenSlot) (symbol k : ℕ) (first second : Bool) → ArePilotsSeen gain slot →
     IsSeenAs gain (point first second) (seen_at slot symbol k) →
     SupportBoth 8 first second (soft_values slot symbol k)
 
--- in a recording: so many symbols of a slot are received with one gain, each from its place on, and hold the reference
--- signals of the slot's identity and number by a pattern
+-- the first symbols of a slot, as many as the count says, are received in a recording with one gain, each from its
+-- place on, and hold the reference signals of the slot's identity and number by a pattern
 pub record IsPatternReceived (pattern : Pattern) (count : ℕ) (recording : List Sample) (starts : ℕ → ℕ)
     (grids : ℕ → ℕ → Cpx) (slot : SeenSlot) : Type 0 where
   pub eps : ℕ
@@ -57,7 +58,7 @@ pub record IsPatternReceived (pattern : Pattern) (count : ℕ) (recording : List
       grids (pattern_symbol pattern slot.identity i) (pilot_subcarrier slot.identity i)
       ≡ pattern_sent pattern slot.identity slot.number i
 
--- the seven symbols with the normal prefix, with the reference signals of port 0
+-- the seven symbols of a slot with the normal prefix are received, with the reference signals of port 0
 abbrev pub IsSlotReceived : List Sample → (ℕ → ℕ) → (ℕ → ℕ → Cpx) → SeenSlot → Type 0
 IsSlotReceived recording starts grids slot = IsPatternReceived port_0 7 recording starts grids slot
 

@@ -30,25 +30,27 @@ pub record SpeakByReading (reading : ℕ → Item) (word : List Bool) (values : 
   pub value : (i : ℕ) → i < length values →
       Supports 1 (bit_of_item (coded_word word) (reading i)) (slice_index_or values i (pos 0))
 
--- then the sums of the values by item do
+-- the sums by item of values in the order of a reading speak for the coded bits of a word, where the values do so
 abbrev pub SumsSpeakByReading : Type 0
 SumsSpeakByReading = (reading : ℕ → Item) (word : List Bool) (values : List ℤ) →
     SpeakByReading reading word values → Speaks (summed_by reading (length word) values) word
 
--- as many values as the word has coded bits, and any more
+-- values, as many as a word has coded bits, and any more, each speak for the coded bit that a reading has there
 pub record SpeakInTurn (reading : ℕ → Item) (word : List Bool) (values : List ℤ) : Type 0 where
   pub enough : 3 * length word ≤ length values
   pub value : (i : ℕ) → i < length values →
       Supports 1 (bit_of_item (coded_word word) (reading i)) (slice_index_or values i (pos 0))
 
--- in the order of the endless reading, from bit `first` of it on, and from bit 0 on
+-- values speak for the coded bits of a word in the order of the endless reading, from bit `first` of it on, and from
+-- bit 0 on
 abbrev pub SpeakInOrderFrom : ℕ → List Bool → List ℤ → Type 0
 SpeakInOrderFrom first word values = SpeakInTurn (λ i. item_of (length word) (first + i)) word values
 
 abbrev pub SpeakInOrder : List Bool → List ℤ → Type 0
 SpeakInOrder word values = SpeakInTurn (item_of (length word)) word values
 
--- so do the sums of such values, for words of 6 to 64 bits: the reading goes round from any bit on
+-- the sums of values in the order of the endless reading speak for the coded bits of a word of 6 to 64 bits: the
+-- reading goes round from any bit on
 abbrev pub SumsSpeakFrom : Type 0
 SumsSpeakFrom = (first : ℕ) (word : List Bool) (values : List ℤ) → 6 ≤ length word → length word ≤ 64 →
     SpeakInOrderFrom first word values → Speaks (summed_from first (length word) values) word
@@ -64,7 +66,7 @@ pub record IsOnlyWord (values : List (List ℤ)) (word : List Bool) : Type 0 whe
   pub dear : (other : List Bool) → length other ≡ length values → (other ≡ word → ⊥) → 1 ≤ word_cost values other
   pub least : IsLeastWord values word
 
--- the word that all values speak for is such a word, for 6 bits and more
+-- the word that all values speak for costs nothing, and is the only least word, for 6 bits and more
 abbrev pub SpokenWordIsOnly : Type 0
 SpokenWordIsOnly =
     (values : List (List ℤ)) (word : List Bool) → 6 ≤ length values → length word ≡ length values → Speaks values word →

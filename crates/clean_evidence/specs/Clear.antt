@@ -25,7 +25,7 @@ pub record IsClear (gain : Cpx) (told : Evidence) : Type 0 where
   pub noise : told.noise ≤ 171500431 * square gain
   pub quiet : 5 * told.noise ≤ told.power
 
--- so it is of each entry of a clean cell, whatever the cell's plan is, what it sends elsewhere, its first frame's
+-- each entry of a clean cell is clear, whatever the cell's plan is, what it sends elsewhere, its first frame's
 -- number, the offset, the gain and the errors
 abbrev pub CleanEntriesAreClear : Type 0
 CleanEntriesAreClear =

@@ -47,14 +47,14 @@ IterationsTell =
 
 -- ---- the block of sums
 
--- no sum speaks against the coded word of a block with its check, and none of its own bits has the sum 0
+-- a block with its check is told where no sum speaks against its coded word, and none of its own bits has the sum 0
 abbrev pub SpokenBlockIsTold : Type 0
 SpokenBlockIsTold =
     (row : Row) (word : List Bool) (sums : List (List ℤ)) → IsRow row → length word ≡ row.k →
     has_check_24 word ≡ true → SumsSupport 0 row word sums → ((k : ℕ) → k < row.k → sum_at sums 0 k ≢ pos 0) →
     block row sums ≡ Some (message_of 24 word)
 
--- the sums tell the coded bits that are sent, by which the block can be resolved
+-- a block with its check is told where the sums tell the coded bits that are sent, by which it can be resolved
 abbrev pub ResolvableBlockIsTold : Type 0
 ResolvableBlockIsTold =
     (row : Row) (word : List Bool) (sent : ℕ → ℕ → Bool) (sums : List (List ℤ)) → IsRow row → length word ≡ row.k →
@@ -69,13 +69,14 @@ ReceivedSumsAllow =
     (row : Row) (word : List Bool) (rv : ℕ) (values : List ℤ) → IsRow row → ValuesSupport 0 row word rv values →
     SumsSupport 0 row word (summed row.k rv values)
 
--- where each value speaks for it, the sums tell the coded bits that were sent
+-- where each value speaks for the bit that was sent there, the sums tell the coded bits that were sent
 abbrev pub ReceivedSumsTell : Type 0
 ReceivedSumsTell =
     (row : Row) (word : List Bool) (rv : ℕ) (values : List ℤ) → IsRow row → ValuesSupport 1 row word rv values →
     SumsTell row word (sent_of row.k rv (length values)) (summed row.k rv values)
 
--- and with as many values as coded bits each sum speaks for its bit
+-- where there are as many values as coded bits, and each speaks for the bit that was sent there, each sum speaks for
+-- its bit
 abbrev pub WholeSumsSpeak : Type 0
 WholeSumsSpeak =
     (row : Row) (word : List Bool) (rv : ℕ) (values : List ℤ) → IsRow row → rv < 4 → ValuesSupport 1 row word rv values →
@@ -90,7 +91,8 @@ SentBlockIsTold =
     has_check_24 word ≡ true → ValuesSupport 1 row word rv values → 3 * (row.k + 4) ≤ length values →
     block row (summed row.k rv values) ≡ Some (message_of 24 word)
 
--- and so do fewer, where it can be resolved by the bits that were sent
+-- fewer values than coded bits, each of which speaks for the bit that was sent, tell a block with its check where it
+-- can be resolved by these bits
 abbrev pub PuncturedBlockIsTold : Type 0
 PuncturedBlockIsTold =
     (row : Row) (word : List Bool) (rv : ℕ) (values : List ℤ) → IsRow row → length word ≡ row.k →

@@ -26,7 +26,7 @@ pub record AllAllow (word : List Bool) (v : Values) : Type 0 where
   pub tail_z : (j : ℕ) → j < 3 → Supports 0 (tail_z word j) (at v.tail (2 * j + 1))
   pub prior : (k : ℕ) → k < length word → Supports 0 (bit_at word k) (at v.prior k)
 
--- its values tell the bits that are sent, and its priors those that are known
+-- the values of a decoder tell the bits that are sent, and its priors those that are known
 pub record AllTell (word : List Bool) (sent : Sent) (known : ℕ → Bool) (v : Values) : Type 0 where
   pub size : length v.systematic ≡ length word
   pub systematic : (k : ℕ) → k < length word → Tells (sent.information k) (bit_at word k) (at v.systematic k)
@@ -37,19 +37,19 @@ pub record AllTell (word : List Bool) (sent : Sent) (known : ℕ → Bool) (v : 
 
 -- ---- the sums of a block
 
--- each supports its coded bit of a word with this size: with 0 none speaks against it, with 1 each speaks for it
+-- each sum supports its coded bit of a word with this size: with 0 none speaks against it, with 1 each speaks for it
 abbrev pub SumsSupport : ℕ → Row → List Bool → List (List ℤ) → Type 0
 SumsSupport least row word sums =
     (t p : ℕ) → t < 3 → p < row.k + 4 → Supports least (bit_of (coded row word) (item t p)) (sum_at sums t p)
 
--- they tell the coded bits that are sent
+-- the sums tell the coded bits that are sent
 abbrev pub SumsTell : Row → List Bool → (ℕ → ℕ → Bool) → List (List ℤ) → Type 0
 SumsTell row word sent sums =
     (t p : ℕ) → t < 3 → p < row.k + 4 → Tells (sent t p) (bit_of (coded row word) (item t p)) (sum_at sums t p)
 
 -- ---- the values received
 
--- each supports the coded bit of a word that the reading sends there, from a redundancy version on
+-- each value supports the coded bit of a word that the reading sends there, from a redundancy version on
 abbrev pub ValuesSupport : ℕ → Row → List Bool → ℕ → List ℤ → Type 0
 ValuesSupport least row word rv values =
     (i : ℕ) → i < length values → Supports least (bit_of (coded row word) (item_of row.k rv i)) (at values i)

@@ -37,7 +37,7 @@ pub record IsToldBy (carrier : Carrier) (recording : List Sample) (entry : Entry
   pub identity : (place_by carrier recording hit).id ≡ entry.id
   pub start : (place_by carrier recording hit).start ≡ entry.start
 
--- t is the least such place
+-- the least place at which a hit tells the entry's identity and start
 pub record IsFirstToldBy (carrier : Carrier) (recording : List Sample) (entry : Entry) (t : ℕ) : Type 0 where
   pub told : IsToldBy carrier recording entry t
   pub least : (u : ℕ) → IsToldBy carrier recording entry u → t ≤ u
@@ -66,11 +66,11 @@ power_by FourPorts slot = ports_energy slot
 abbrev pub step_power : (ℕ → Cpx) → ℕ → ℕ
 step_power pilots i = square (minus (pilots (i + 1)) (pilots i))
 
--- those of the pilots of a port together, up to the last, whose number is given
+-- the sum of the squares of the steps from pilot to pilot of a port, up to the last, whose number is given
 unfoldable pub steps : ℕ → (ℕ → Cpx) → ℕ
 steps last pilots = total_below last (step_power pilots)
 
--- and of all ports
+-- the sum of the squares of the steps from pilot to pilot of all ports
 abbrev pub steps_by : Carrier → SeenSlot → ℕ
 steps_by OnePort slot = steps 23 (pattern_pilot port_0 slot)
 steps_by TwoPorts slot = steps 23 (pattern_pilot port_0 slot) + steps 23 (pattern_pilot port_1 slot)
@@ -79,7 +79,7 @@ steps_by FourPorts slot =
     steps 23 (pattern_pilot port_0 slot) + steps 23 (pattern_pilot port_1 slot)
     + steps 11 (upper_pilot Third slot) + steps 11 (upper_pilot Fourth slot)
 
--- divided by twice the square of a reference value's size, and rounded down
+-- the noise: the sum of the steps' squares, divided by twice the square of a reference value's size, and rounded down
 abbrev pub noise_of : ℕ → ℕ
 noise_of steps = steps / (2 * point_power)
 
@@ -102,11 +102,11 @@ pub record IsEvidenceFor (receiver : Receiver) (recording : List Sample) (entry 
   pub noise : told.noise
       ≡ noise_of (steps_by receiver.carrier (slot_by receiver.carrier recording (place_of entry) entry.frame))
 
--- by one antenna port
+-- these are the numbers of the entry, as the receiver of one antenna port reads it
 abbrev pub IsEvidence : List Sample → Entry → Evidence → Type 0
 IsEvidence = IsEvidenceFor one_port_receiver
 
--- how great they are
+-- the numbers of an entry are in their ranges
 pub record IsInRange (told : Evidence) : Type 0 where
   pub from_first : first_place ≤ told.t
   pub to_last : told.t ≤ last_place

@@ -44,14 +44,14 @@ values_by TwoPorts = two_ports_receiver.broadcast
 values_by LongPrefix = long_prefix_receiver.broadcast
 values_by FourPorts = four_ports_receiver.broadcast
 
--- two by two, one pair for each resource element
+-- soft values two by two, one pair for each resource element
 abbrev pub pair_at : List ℤ → ℕ → SoftPair
 pair_at values i = record { re = slice_index_or values (2 * i) (pos 0); im = slice_index_or values (2 * i + 1) (pos 0) }
 
 unfoldable pub pairs_of : List ℤ → List SoftPair
 pairs_of values = values_below (length values / 2) (pair_at values)
 
--- this supports the entry, and this its slot shows
+-- what supports the entry, and what its slot shows
 pub record IsShownFor (receiver : Receiver) (recording : List Sample) (entry : Entry) (shown : Shown) : Type 0 where
   pub numbers : IsEvidenceFor receiver recording entry shown.numbers
   pub channel : shown.channel

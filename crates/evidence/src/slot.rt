@@ -44,7 +44,7 @@ pub(crate) fn pilot_sums(
     }
 }
 
-// The same with one antenna port.
+// The energy and the steps of the pilots of a cell with one antenna port, in frame `j`.
 fn of_one_port(recording: &Recording, place: CellPlace, j: u8) -> PilotSums
     requires { IsWhole recording.now place.start j }
     ensures energy { result.energy ≡ power_by One (slot_by One recording.now place j) }
@@ -58,7 +58,7 @@ fn of_one_port(recording: &Recording, place: CellPlace, j: u8) -> PilotSums
     }
 }
 
-// With two.
+// The energy and the steps of the pilots of a cell with two antenna ports, in frame `j`.
 fn of_two_ports(recording: &Recording, place: CellPlace, j: u8) -> PilotSums
     requires { IsWhole recording.now place.start j }
     ensures energy { result.energy ≡ power_by Two (slot_by Two recording.now place j) }
@@ -72,7 +72,7 @@ fn of_two_ports(recording: &Recording, place: CellPlace, j: u8) -> PilotSums
     }
 }
 
-// With the extended prefix.
+// The energy and the steps of the pilots of a cell with the extended prefix, in frame `j`.
 fn of_long_prefix(recording: &Recording, place: CellPlace, j: u8) -> PilotSums
     requires { IsWhole recording.now place.start j }
     ensures energy { result.energy ≡ power_by Long (slot_by Long recording.now place j) }
@@ -86,7 +86,7 @@ fn of_long_prefix(recording: &Recording, place: CellPlace, j: u8) -> PilotSums
     }
 }
 
-// With four antenna ports.
+// The energy and the steps of the pilots of a cell with four antenna ports, in frame `j`.
 fn of_four_ports(recording: &Recording, place: CellPlace, j: u8) -> PilotSums
     requires { IsWhole recording.now place.start j }
     ensures energy { result.energy ≡ power_by Four (slot_by Four recording.now place j) }

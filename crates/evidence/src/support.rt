@@ -102,7 +102,7 @@ fn shown(
     }
 }
 
-// The same with one antenna port.
+// Numbers, and what the slot with the broadcast channel of a cell with one antenna port shows.
 fn shown_of_one(
     alloc: Global,
     recording: &Recording,
@@ -123,7 +123,7 @@ fn shown_of_one(
     Ok(Support::new(numbers, channel, values))
 }
 
-// With two.
+// Numbers, and what the slot with the broadcast channel of a cell with two antenna ports shows.
 fn shown_of_two(
     alloc: Global,
     recording: &Recording,
@@ -144,7 +144,7 @@ fn shown_of_two(
     Ok(Support::new(numbers, channel, values))
 }
 
-// With the extended prefix.
+// Numbers, and what the slot with the broadcast channel of a cell with the extended prefix shows.
 fn shown_of_long(
     alloc: Global,
     recording: &Recording,
@@ -165,7 +165,7 @@ fn shown_of_long(
     Ok(Support::new(numbers, channel, values))
 }
 
-// With four antenna ports.
+// Numbers, and what the slot with the broadcast channel of a cell with four antenna ports shows.
 fn shown_of_four(
     alloc: Global,
     recording: &Recording,
@@ -197,7 +197,7 @@ fn one_channel(alloc: Global, pilots: &[Cpx; 24]) -> Result<Vec<PortChannel>, Al
     Ok(list)
 }
 
-// Those of two.
+// The channels of two antenna ports, by their pilots.
 fn two_channels(
     alloc: Global,
     first: &[Cpx; 24],

@@ -34,15 +34,16 @@ IsSentEntryOfFour plan number = IsSentEntryBy 4 plan.duration plan.resource plan
 abbrev pub HoldsCellOfFour : List Entry → CellPlan → ℕ → ℕ → Type 0
 HoldsCellOfFour list plan first number = HoldsOne list plan.identity first number (IsSentEntryOfFour plan number)
 
--- of each cell of which the recording is clean, whatever its plan is, what its ports send elsewhere, its first frame's
--- number, the offset, the gains and the errors
+-- the list holds each cell with four antenna ports of which the recording is clean, whatever its plan is, what its
+-- ports send elsewhere, its first frame's number, the offset, the gains and the errors
 abbrev pub HoldsLoadedCellsOfFour : List Sample → List Entry → Type 0
 HoldsLoadedCellsOfFour recording list =
     (plan : CellPlan) (grids : PortOfFour → Elements) (sfn offset : ℕ) (gains : List Cpx) (eps : ℕ) → IsKnownPlan plan →
     IsLoadedOfFour recording plan grids sfn offset gains eps →
     HoldsCellOfFour list plan (start_of offset) (number_at_start sfn offset)
 
--- so of each whose ports send nothing elsewhere, or the load with a number
+-- the list holds each cell with four antenna ports of which the recording is clean and whose ports send nothing
+-- elsewhere, or the load with a number
 abbrev pub HoldsCleanCellsOfFour : List Sample → List Entry → Type 0
 HoldsCleanCellsOfFour recording list =
     (load : Option ℕ) (plan : CellPlan) (sfn offset : ℕ) (gains : List Cpx) (eps : ℕ) → IsKnownPlan plan →

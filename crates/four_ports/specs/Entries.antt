@@ -15,7 +15,8 @@ use Rattle.four_ports.specs.Pairs.{paired_values}
 abbrev pub are_four : ℕ → Bool
 are_four ports = nat_eq ports 4
 
--- by the values of pairs, master blocks that tell four are taken, and no others; subframe 5 is not read
+-- the receiver of four antenna ports: by the values of pairs, master blocks that tell four are taken, and no others;
+-- subframe 5 is not read
 abbrev pub four_ports_receiver : Receiver
 four_ports_receiver = record {
   carrier = FourPorts;
@@ -25,10 +26,10 @@ four_ports_receiver = record {
   subframe = Err (NotOnePort 4);
 }
 
--- the list of a recording
+-- the list of the cells with four antenna ports of a recording
 abbrev pub IsExplainedOfFour : List Sample → List Entry → Type 0
 IsExplainedOfFour = IsListFor four_ports_receiver
 
--- an entry of it was read so
+-- the reading of an entry of the list of the cells with four antenna ports
 abbrev pub IsReadingOfFour : List Sample → Entry → Reading → Type 0
 IsReadingOfFour = IsReadingFor four_ports_receiver

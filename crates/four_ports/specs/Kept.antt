@@ -14,7 +14,7 @@ pub record AreUpperPilots (port : UpperPort) (slot : SeenSlot) (pilots : List Cp
   pub channel : pilots ≡ values_below 12 (upper_pilot port slot)
   pub small : All (IsWithin (180 * 2 ^ 25)) pilots
 
--- those of both, and the energy of those of all four
+-- the pilots of ports 2 and 3, and the energy of those of all four ports, made once
 pub record IsFourKept (slot : SeenSlot) (third fourth : List Cpx) (energy : ℕ) : Type 0 where
   pub of_third : AreUpperPilots Third slot third
   pub of_fourth : AreUpperPilots Fourth slot fourth

@@ -32,8 +32,8 @@ ports_energy slot =
 abbrev pub values_seen : ℕ → SeenSlot → ℕ → Cpx → Cpx → List ℤ
 values_seen i slot k = point_values (lower_channel i slot k) (upper_channel i slot k) (ports_energy slot)
 
--- those of two places of the slot's subframe, whose symbols 7 to 13 are those of its second slot; the channels are
--- those at the first place
+-- the four values of pair number i at two places of the slot's subframe, whose symbols 7 to 13 are those of its
+-- second slot; the channels are those at the first place
 unfoldable pub pair_values : ℕ → SeenSlot → Place → Place → List ℤ
 pair_values i slot p q = values_seen i slot p.k (seen_at slot (p.symbol % 7) p.k) (seen_at slot (q.symbol % 7) q.k)
 

@@ -19,25 +19,27 @@ use Rattle.four_ports.specs.Pairs.{values_seen, pair_values}
 
 -- ---- what the ports send
 
--- by port, 0 to 3
+-- four numbers by port, 0 to 3
 abbrev pub of_ports : Cpx → Cpx → Cpx → Cpx → ℕ → Cpx
 of_ports a b c d = value_at (a ∷ b ∷ c ∷ d ∷ [])
 
--- for pair number i of places: the lower of the two ports that send it sends a, the upper b, and the two others nothing
+-- what the ports send of pair number i of places: the lower of the two ports that send it a, the upper b, and the two
+-- others nothing
 abbrev pub over_pair : ℕ → Cpx → Cpx → ℕ → Cpx
 over_pair i a b =
     let even : Bool = nat_eq (i % 2) 0 in
     of_ports (if even then a else nothing) (if even then nothing else a)
     (if even then b else nothing) (if even then nothing else b)
 
--- all four ports send these amplitudes
+-- the amplitudes of all four ports are these
 pub record DoPortsSend (amplitudes these : ℕ → Cpx) : Type 0 where
   pub zero : amplitudes 0 ≡ these 0
   pub one : amplitudes 1 ≡ these 1
   pub two : amplitudes 2 ≡ these 2
   pub three : amplitudes 3 ≡ these 3
 
--- so they do at a place of a slot, where `grids` says what is sent by port, symbol and subcarrier
+-- all four ports send these amplitudes at a place of a slot, where `grids` says what is sent by port, symbol and
+-- subcarrier
 abbrev pub DoPortsSendAt : (ℕ → ℕ → ℕ → Cpx) → ℕ → ℕ → (ℕ → Cpx) → Type 0
 DoPortsSendAt grids symbol k these = DoPortsSend (λ port. grids port symbol k) these
 
@@ -105,7 +107,8 @@ pub record CarryPair (grids : ℕ → ℕ → ℕ → Cpx) (i : ℕ) (p q : Plac
   pub first : DoPortsSendAt grids (p.symbol % 7) p.k (over_pair i x (negated (conjugate y)))
   pub second : DoPortsSendAt grids (q.symbol % 7) q.k (over_pair i y (conjugate x))
 
--- then their values speak for the bits of the points
+-- where a slot is received from four ports, the four values of two places that carry a pair of points speak for their
+-- bits
 abbrev pub ReceivedPairSpeaks : Type 0
 ReceivedPairSpeaks =
     (recording : List Sample) (starts : ℕ → ℕ) (grids : ℕ → ℕ → ℕ → Cpx) (slot : SeenSlot) (i : ℕ) (p q : Place)

@@ -87,7 +87,7 @@ impl FourSlot {
         }
     }
 
-    // Six times that of the port, 2 or 3, that sends it too.
+    // Six times the channel at a subcarrier of the port, 2 or 3, that sends pair number i.
     pub(crate) fn upper_channel(&self, i: usize, k: u8) -> Cpx
         requires { k < 72 }
         ensures value { result ≡ upper_channel i self.now k }
@@ -119,7 +119,7 @@ impl FourSlot {
         self.lower.first_pilots()
     }
 
-    /// Those of port 1.
+    /// The pilots of port 1, as `first_pilots` has those of port 0.
     pub fn second_pilots(&self) -> &[Cpx; 24]
         ensures value { result.now ≡ values_below 24 (pattern_pilot port_1 self.now) }
         ensures small { All (IsWithin (180 * 2 ^ 25)) result.now }
@@ -127,7 +127,7 @@ impl FourSlot {
         self.lower.second_pilots()
     }
 
-    /// Those of port 2 or 3, which has 12.
+    /// The pilots of port 2 or 3, which has 12, as `first_pilots` has those of port 0.
     pub fn upper_pilots(&self, port: UpperPort) -> &[Cpx; 12]
         ensures value { result.now ≡ values_below 12 (upper_pilot port self.now) }
         ensures small { All (IsWithin (180 * 2 ^ 25)) result.now }

@@ -19,7 +19,7 @@ pub record IsCleanOfLong (recording : List Sample) (plan : CellPlan) (sfn offset
   pub number : sfn ≤ 1023
   pub samples : IsCleanOf (sent_by None Long plan sfn) recording offset gain eps
 
--- or of elements that carry its plan, whatever else they are
+-- a recording is clean of elements that carry the plan of a cell, whatever else they are
 abbrev pub IsLoadedLong : List Sample → CellPlan → Elements → ℕ → ℕ → Cpx → ℕ → Type 0
 IsLoadedLong recording plan grid sfn offset gain eps = IsLoadedAt Long recording plan grid sfn offset gain eps
 
@@ -36,7 +36,7 @@ HoldsLoadedCellsOfLong recording list =
     HoldsOne list plan.identity (start_of offset) (number_at_start sfn offset)
     (IsSentEntryOfLong plan (number_at_start sfn offset))
 
--- so each that sends nothing elsewhere
+-- the list holds each cell of which the recording is clean and that sends nothing elsewhere
 abbrev pub HoldsCleanCellsOfLong : List Sample → List Entry → Type 0
 HoldsCleanCellsOfLong recording list =
     (plan : CellPlan) (sfn offset : ℕ) (gain : Cpx) (eps : ℕ) → IsKnownPlan plan →

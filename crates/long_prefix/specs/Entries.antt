@@ -30,7 +30,7 @@ long_slot recording identity start j =
       identity = identity;
     }
 
--- the soft values of a place of it, by the reference signals of symbols 0 and 3
+-- the soft values of a place of slot 1, by the reference signals of symbols 0 and 3
 unfoldable pub long_pair : SeenSlot → GridPlace → List ℤ
 long_pair slot p =
     soft_pair (times (seen_at slot p.symbol p.k) (conjugate (pattern_channel long_prefix slot p.k)))
@@ -46,8 +46,8 @@ long_values slot = values_below 432 (long_value slot)
 
 -- ---- the receiver
 
--- it has 432 values of the broadcast channel in a frame, and takes each master block, whatever ports it tells; subframe
--- 5 is not read
+-- the receiver of the extended prefix has 432 values of the broadcast channel in a frame, and takes each master
+-- block, whatever ports it tells; subframe 5 is not read
 abbrev pub long_prefix_receiver : Receiver
 long_prefix_receiver = record {
   carrier = LongPrefix;
@@ -57,10 +57,10 @@ long_prefix_receiver = record {
   subframe = Err Extended;
 }
 
--- the list of a recording
+-- the list of the cells of a recording with the extended prefix
 abbrev pub IsExplainedOfLong : List Sample → List Entry → Type 0
 IsExplainedOfLong = IsListFor long_prefix_receiver
 
--- an entry of it was read so
+-- the reading of an entry of the list of the cells with the extended prefix
 abbrev pub IsReadingOfLong : List Sample → Entry → Reading → Type 0
 IsReadingOfLong = IsReadingFor long_prefix_receiver

@@ -67,7 +67,7 @@ fn symbol_of(recording: &Recording, frame: usize, l: usize) -> [Cpx; 72]
     symbol(recording, Prefix::EXTENDED.useful_start(frame, 1, l))
 }
 
-// Its six symbols.
+// The six symbols of slot 1 of a frame.
 fn symbols_of(recording: &Recording, frame: usize) -> [[Cpx; 72]; 6]
     requires within { frame + frame_length ≤ length recording.now }
     requires small { frame < 2 ^ 40 }
@@ -149,7 +149,7 @@ fn values_of(seen: &Seen, pilots: &[Cpx; 24], energy: u64) -> [i16; 432]
     values
 }
 
-// Those of a place, by the pilots of the slot and their energy.
+// The two soft values of a place, by the pilots of the slot and their energy.
 fn pair_at(seen: &Seen, pilots: &[Cpx; 24], energy: u64, place: Place) -> [i16; 2]
     requires pattern { seen.now.pattern ≡ long_prefix }
     requires symbols { length seen.now.symbols.now ≡ 6 }

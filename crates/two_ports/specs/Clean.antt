@@ -29,15 +29,16 @@ IsSentEntryOfTwo plan number = IsSentEntryBy 2 plan.duration plan.resource plan.
 abbrev pub HoldsCellOfTwo : List Entry → CellPlan → ℕ → ℕ → Type 0
 HoldsCellOfTwo list plan first number = HoldsOne list plan.identity first number (IsSentEntryOfTwo plan number)
 
--- of each cell of which the recording is clean, whatever its plan is, what its ports send elsewhere, its first frame's
--- number, the offset, the gains and the errors
+-- the list holds each cell with two antenna ports of which the recording is clean, whatever its plan is, what its
+-- ports send elsewhere, its first frame's number, the offset, the gains and the errors
 abbrev pub HoldsLoadedCellsOfTwo : List Sample → List Entry → Type 0
 HoldsLoadedCellsOfTwo recording list =
     (plan : CellPlan) (grid others : Elements) (sfn offset : ℕ) (gain other : Cpx) (eps : ℕ) → IsSendableOfTwo plan →
     IsLoadedOfPorts recording plan grid others sfn offset gain other eps →
     HoldsCellOfTwo list plan (start_of offset) (number_at_start sfn offset)
 
--- so of each whose ports send nothing elsewhere
+-- the list holds each cell with two antenna ports of which the recording is clean and whose ports send nothing
+-- elsewhere
 abbrev pub HoldsCleanCellsOfTwo : List Sample → List Entry → Type 0
 HoldsCleanCellsOfTwo recording list =
     (plan : CellPlan) (sfn offset : ℕ) (gain other : Cpx) (eps : ℕ) → IsSendableOfTwo plan →

@@ -13,14 +13,14 @@ use Rattle.two_ports.specs.Pairs.{paired_values}
 abbrev pub are_two : ℕ → Bool
 are_two ports = nat_eq ports 2
 
--- by the values of pairs, master blocks that tell two are taken, and no others
+-- the receiver of two antenna ports: by the values of pairs, master blocks that tell two are taken, and no others
 abbrev pub two_ports_receiver : Receiver
 two_ports_receiver = by_slots TwoPorts are_two paired_values
 
--- the list of a recording
+-- the list of the cells with two antenna ports of a recording
 abbrev pub IsExplainedOfTwo : List Sample → List Entry → Type 0
 IsExplainedOfTwo = IsListFor two_ports_receiver
 
--- an entry of it was read so
+-- the reading of an entry of the list of the cells with two antenna ports
 abbrev pub IsReadingOfTwo : List Sample → Entry → Reading → Type 0
 IsReadingOfTwo = IsReadingFor two_ports_receiver

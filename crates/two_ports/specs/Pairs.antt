@@ -15,7 +15,8 @@ use Rattle.soft_bits.specs.Soft.{SeenSlot, seen_at, pattern_channel, pattern_ene
 abbrev pub first_of : Cpx → Cpx → Cpx → Cpx → Cpx
 first_of h k a b = plus (times (conjugate h) a) (times k (conjugate b))
 
--- and what stands for the second
+-- what stands for the second point of a pair, by the channels h and k of the two ports, where a and b were seen at
+-- its two places
 abbrev pub second_of : Cpx → Cpx → Cpx → Cpx → Cpx
 second_of h k a b = minus (times (conjugate h) b) (times k (conjugate a))
 
@@ -28,12 +29,12 @@ pilots_energy slot = pattern_energy port_0 slot + pattern_energy port_1 slot
 abbrev pub point_values : Cpx → Cpx → ℕ → Cpx → Cpx → List ℤ
 point_values h k energy a b = soft_pair (first_of h k a b) energy ++ soft_pair (second_of h k a b) energy
 
--- those of what was seen at two places, by the channels at a subcarrier
+-- the four values of a pair by what was seen at its two places, and by the channels at a subcarrier
 abbrev pub values_seen : SeenSlot → ℕ → Cpx → Cpx → List ℤ
 values_seen slot k = point_values (pattern_channel port_0 slot k) (pattern_channel port_1 slot k) (pilots_energy slot)
 
--- those of two places of the slot's subframe, whose symbols 7 to 13 are those of its second slot; the channels are
--- those at the first place
+-- the four values of a pair at two places of the slot's subframe, whose symbols 7 to 13 are those of its second slot;
+-- the channels are those at the first place
 unfoldable pub pair_values : SeenSlot → Place → Place → List ℤ
 pair_values slot p q = values_seen slot p.k (seen_at slot (p.symbol % 7) p.k) (seen_at slot (q.symbol % 7) q.k)
 

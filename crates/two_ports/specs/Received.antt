@@ -78,7 +78,8 @@ pub record CarryPair (grids others : ℕ → ℕ → Cpx) (p q : Place) (x y : C
   pub other_first : others (p.symbol % 7) p.k ≡ negated (conjugate y)
   pub other_second : others (q.symbol % 7) q.k ≡ conjugate x
 
--- then their values speak for the bits of the points
+-- where a slot is received from two ports, the four values of two places that carry a pair of points speak for their
+-- bits
 abbrev pub ReceivedPairSpeaks : Type 0
 ReceivedPairSpeaks =
     (recording : List Sample) (starts : ℕ → ℕ) (grids others : ℕ → ℕ → Cpx) (slot : SeenSlot) (p q : Place)

@@ -76,7 +76,7 @@ impl PairSlot {
         self.slot.channel(k)
     }
 
-    /// That of the second port.
+    /// Three times the channel of the second port at a subcarrier, 0 to 71, times the square of a reference's size.
     pub fn second_channel(&self, k: u8) -> Cpx
         requires { k < 72 }
         ensures value { result ≡ pattern_channel port_1 self.now k }
@@ -94,7 +94,7 @@ impl PairSlot {
         self.slot.pilots()
     }
 
-    /// Those of the second port.
+    /// The pilots of the second port, as `first_pilots` has those of the first.
     pub fn second_pilots(&self) -> &[Cpx; 24]
         ensures value { result.now ≡ values_below 24 (pattern_pilot port_1 self.now) }
         ensures small { All (IsWithin (180 * 2 ^ 25)) result.now }

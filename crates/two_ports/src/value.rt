@@ -25,9 +25,9 @@ pub fn pair(slot: &PairSlot, k: u8, a: Cpx, b: Cpx) -> [i16; 4]
     point_values(h, g, slot.energy(), a, b)
 }
 
-/// Those by the channels `h` and `g` of the two ports that send the pair, and the energy of the pilots. Components of
-/// the channels have size at most 1080 * 2^25, those of what was seen at most 2^25, and the energy is at most
-/// 96 * 2^51.
+/// The four soft values of a pair by the channels `h` and `g` of the two ports that send it, and the energy of the
+/// pilots. Components of the channels have size at most 1080 * 2^25, those of what was seen at most 2^25, and the
+/// energy is at most 96 * 2^51.
 pub fn point_values(h: Cpx, g: Cpx, energy: u64, a: Cpx, b: Cpx) -> [i16; 4]
     requires h { IsWithin (1080 * 2 ^ 25) h }
     requires g { IsWithin (1080 * 2 ^ 25) g }
