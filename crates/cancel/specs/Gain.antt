@@ -21,8 +21,8 @@ unfoldable pub greatest_below : ℕ → (ℕ → Cpx) → ℕ
 greatest_below zero f = 0
 greatest_below (suc n) f = max (greatest_below n f) (size (f n))
 
--- the first gain goes before the second, or is the same: it leaves less, or as much with a lower real part, or then
--- with a lower or equal imaginary part
+-- the first gain does not go after the second: it leaves less, or as much with a lower real part, or then with a
+-- lower or equal imaginary part
 abbrev pub GoesBefore : (Cpx → ℕ) → Cpx → Cpx → Type 0
 GoesBefore greatest gain other = (greatest gain < greatest other)
     ⊎ ((greatest gain ≡ greatest other) × ((gain.re <ℤ other.re) ⊎ ((gain.re ≡ other.re) × (gain.im ≤ℤ other.im))))

@@ -17,12 +17,12 @@ pub record IsGainSeen (eps : ℕ) (gain : Cpx) (samples signal : ℕ → Cpx) : 
   pub power : 1990000 ≤ energy_below 128 signal
   pub near : (n : ℕ) → n < 128 → IsWithin eps (minus (samples n) (times gain (signal n)))
 
--- then the gain is the estimate, or stands beside it
+-- where 128 samples are a signal times a gain, the gain is the estimate, or stands beside it
 abbrev pub EstimateIsNear : Type 0
 EstimateIsNear = (eps : ℕ) (gain : Cpx) (samples signal : ℕ → Cpx) → IsGainSeen eps gain samples signal →
     square (minus gain (estimate samples signal)) ≤ 1
 
--- and so it is a candidate
+-- where 128 samples are a signal times a gain, the gain is a candidate
 abbrev pub GainIsCandidate : Type 0
 GainIsCandidate = (eps : ℕ) (gain : Cpx) (samples signal : ℕ → Cpx) → IsGainSeen eps gain samples signal →
     IsCandidate (estimate samples signal) gain
@@ -40,7 +40,7 @@ abbrev pub IsOneBest : Type 0
 IsOneBest = (greatest : Cpx → ℕ) (middle gain other : Cpx) → IsBest greatest middle gain →
     IsBest greatest middle other → gain ≡ other
 
--- and so one answer
+-- there is only one answer to taking a cell off
 abbrev pub IsOneSubtraction : Type 0
 IsOneSubtraction = (recording : List Sample) (plan : CellPlan) (start number : ℕ) (a b : Option Subtracted) →
     IsSubtraction recording plan start number a → IsSubtraction recording plan start number b → a ≡ b

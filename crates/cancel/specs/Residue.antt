@@ -20,7 +20,7 @@ use Rattle.cancel.specs.Gain.{estimate, IsCandidate, greatest_below, IsBest}
 
 -- ---- the cell, of which a frame begins at a sample, its start, and has a number there
 
--- the gain that the primary signal of that frame tells
+-- the gain that the primary signal of the frame at the start tells
 abbrev pub estimate_at : List Sample → CellPlan → ℕ → Cpx
 estimate_at recording plan start =
     estimate (λ n. sample_at recording (start + primary_start Zero + n)) (wave (plan.identity % 3))
@@ -31,11 +31,11 @@ sent_at plan start number i = sent (element plan) (number_before start number) (
 
 -- ---- what a gain leaves
 
--- of sample i
+-- what a gain leaves of sample i
 abbrev pub left_at : List Sample → CellPlan → ℕ → ℕ → Cpx → ℕ → Cpx
 left_at recording plan start number gain i = minus (sample_at recording i) (times gain (sent_at plan start number i))
 
--- its greatest size of a component, over all samples
+-- the greatest size of a component that a gain leaves, over all samples
 abbrev pub greatest_left : List Sample → CellPlan → ℕ → ℕ → Cpx → ℕ
 greatest_left recording plan start number gain =
     greatest_below (length recording) (left_at recording plan start number gain)
@@ -63,7 +63,7 @@ pub record IsSubtracted (recording : List Sample) (plan : CellPlan) (start numbe
   pub before : taken.before ≡ power_of recording
   pub after : taken.after ≡ power_of taken.residue
 
--- so it is, or there is no candidate
+-- the cell is taken off with its gain, or there is no candidate
 abbrev pub IsSubtraction : List Sample → CellPlan → ℕ → ℕ → Option Subtracted → Type 0
 IsSubtraction recording plan start number (Some taken) = IsSubtracted recording plan start number taken
 IsSubtraction recording plan start number None = (gain : Cpx) → IsCandidate (estimate_at recording plan start) gain → ⊥

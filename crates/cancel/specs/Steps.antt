@@ -25,7 +25,7 @@ pub record IsBestBefore (greatest : Cpx → ℕ) (middle : Cpx) (n : ℕ) (choic
   pub first : (j : ℕ) → j < n → IsCandidate middle (around middle j) → GoesBefore greatest choice.gain (around middle j)
   pub leaves : choice.greatest ≡ greatest choice.gain
 
--- a gain that leaves so much is not looked for, where there is a limit
+-- a gain that leaves at least the limit is not looked for, where there is a limit
 abbrev pub IsPast : Option ℕ → ℕ → Type 0
 IsPast limit left = MatchOption limit ⊥ (λ end. end ≤ left)
 
@@ -33,7 +33,7 @@ IsPast limit left = MatchOption limit ⊥ (λ end. end ≤ left)
 abbrev pub IsLimit : (Cpx → ℕ) → Cpx → Option ℕ → Type 0
 IsLimit greatest middle limit = IfSome limit (λ end. IsCandidate middle middle × (greatest middle < end))
 
--- it is found, or none of them is a candidate and below the limit
+-- the best candidate of the first gains is found, or none of them is a candidate and below the limit
 abbrev pub IsFoundBefore : (Cpx → ℕ) → Cpx → Option ℕ → ℕ → Option Choice → Type 0
 IsFoundBefore greatest middle limit n (Some choice) = IsBestBefore greatest middle n choice
 IsFoundBefore greatest middle limit n None =

@@ -9,7 +9,7 @@ ghost use Rattle.cancel.specs.Steps.{left_of, greatest_of as greatest_left};
 use cs_num::{Cpx, Gain, Sample};
 use std::marker::Model;
 
-// So many samples are looked at before a gain that leaves too much is given up.
+// How many samples are looked at before a gain that leaves too much is given up.
 const PIECE: usize = 256;
 
 // What a gain leaves, in 32 bits, so that the machine takes four numbers at once. Contracts see it as that number.

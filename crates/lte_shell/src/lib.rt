@@ -46,7 +46,7 @@ fn words_of<R: Env + Alloc<A = Global>>(rt: &R) -> Result<Words, Status> {
     Ok(words)
 }
 
-// What it means that the arguments could not be had.
+// The status where the arguments could not be had.
 fn refusal_of(kind: io::ErrorKind) -> Status {
     match kind {
         io::ErrorKind::OutOfMemory => Status::OutOfMemory,

@@ -15,13 +15,13 @@ use Rattle.lte_top.specs.declared.status.Status.{Status}
 use Rattle.lte_top.specs.declared.status.Status.TheVariants.{Ragged, TooShort, TooLong, ReadFault, OutOfMemory}
 use Rattle.lte_top.specs.declared.status.Status.TheVariants.{BadCell, BadCertificate}
 
--- of an input that was not read whole
+-- the status of an input that was not read whole
 abbrev pub of_read : ReadError → Status
 of_read PastLimit = TooLong
 of_read Failed = ReadFault
 of_read NoMemory = OutOfMemory
 
--- of a recording
+-- the status of a recording that was not read
 abbrev pub of_file : FileError → Status
 of_file WithinSample = Ragged
 of_file TooFew = TooShort
@@ -29,12 +29,12 @@ of_file PastMost = TooLong
 of_file Fault = ReadFault
 of_file Memory = OutOfMemory
 
--- of a description
+-- the status of a description that was not read
 abbrev pub of_json : JsonError → Status
 of_json (Cell cause) = BadCell cause
 of_json Wanting = OutOfMemory
 
--- of certificates
+-- the status of certificates that were not answered
 abbrev pub of_stream : StreamError → Status
 of_stream (Broken place) = BadCertificate place
 of_stream PastBytes = TooLong

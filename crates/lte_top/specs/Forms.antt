@@ -184,7 +184,7 @@ RefusesDescription carrier bytes (BadCell cause) =
     (length bytes ≤ most_description_bytes) × (refusal_by carrier bytes ≡ Some cause)
 RefusesDescription carrier bytes status = ⊥
 
--- these bytes have this refusal
+-- the bytes of an input have this refusal
 abbrev pub Refuses : Input → List ℕ → Status → Type 0
 Refuses nothing bytes status = ⊥
 Refuses (recording form) bytes status = RefusesRecording form bytes status

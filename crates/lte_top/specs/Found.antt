@@ -29,7 +29,8 @@ sent_line carrier plan first number =
     ++ block_part (codes "n6") (duration_word plan.duration) (resource_word plan.resource)
     (plan.spare / 32) (plan.spare % 32)
 
--- this line, and those of its system information, which is not sent with the extended prefix or four antenna ports
+-- the line of a sent cell, and those of its system information, which is not sent with the extended prefix or four
+-- antenna ports
 abbrev pub sent_lines : Carrier → CellPlan → ℕ → ℕ → List ℕ
 sent_lines carrier plan first number =
     sent_line carrier plan first number ++ system_lines (told_of carrier plan.sib1)

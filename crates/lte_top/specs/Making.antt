@@ -18,7 +18,7 @@ use Rattle.lte_types.specs.declared.carrier.Carrier.TheVariants.{OnePort, TwoPor
 use Rattle.lte_types.specs.Carrier.{ports_of}
 use Rattle.lte_top.specs.Searching.{IsListOf}
 
--- so many members of a list have a property
+-- a count of members of a list have a property
 unfoldable pub Counts : {A : Type 0} → (A → Type 0) → List A → ℕ → Type 0
 Counts P [] n = n ≡ 0
 Counts P (x ∷ xs) n = (P x × ((m : ℕ) × (n ≡ m + 1) × Counts P xs m)) ⊎ ((P x → ⊥) × Counts P xs n)
@@ -42,7 +42,7 @@ pub record TellsHeld (cell : SentCell) (entries : List Entry) (output : List ℕ
 
 -- ---- recording number n of a carrier
 
--- where the first frame of its cell begins, and that frame's number
+-- where the first frame of the cell of recording number n begins, and that frame's number
 abbrev pub first_of : ℕ → ℕ
 first_of n = start_of (offset n)
 
@@ -56,7 +56,7 @@ told_of TwoPorts sib1 = Ok sib1
 told_of Long sib1 = Err LongPrefix
 told_of FourPorts sib1 = Err (NotOnePort 4)
 
--- the cell
+-- the cell of recording number n, as it is listed
 abbrev pub cell_of : Carrier → ℕ → SentCell
 cell_of carrier n = record {
   identity = (plan n).identity;
@@ -87,14 +87,14 @@ pub record IsMadeText (carrier : Carrier) (n : ℕ) (output : List ℕ) : Type 0
   pub listed : IsMadeList carrier n entries
   pub tells : TellsHeld (cell_of carrier n) entries output
 
--- ---- its cell is held
+-- ---- the cell of a recording by number is held
 
 -- the line of recording number n ends in `held 1`, and the text of a list follows
 pub record IsHeldOnce (n : ℕ) (output : List ℕ) : Type 0 where
   pub entries : List Entry
   pub once : output ≡ made_line (plan n).identity (first_of n) (number_of n) 1 ++ report_text entries
 
--- a law: so is what `make N` writes, for each carrier and every number of 32 bits
+-- a law: what `make N` writes ends its line in `held 1`, for each carrier and every number of 32 bits
 abbrev pub WhatIsMadeIsHeld : Type 0
 WhatIsMadeIsHeld = (carrier : Carrier) (n : ℕ) (output : List ℕ) → n < 2 ^ 32 → IsMadeText carrier n output →
     IsHeldOnce n output

@@ -41,12 +41,12 @@ identified_by hit pair = record {
   start = start_of hit.t pair.1;
 }
 
--- a hit of a recording with these
+-- a hit of a recording with what it tells: the identity of its cell, the half, and where a frame begins
 abbrev pub identified : List Sample → Hit → IdentifiedHit
 identified samples hit = identified_by hit (identity_of samples hit)
 
--- a hit with the numbers of its metric, and the same with its identity, and the best and the second pair of a group and
--- a half with their scores
+-- a hit with the numbers of its metric, and a hit with these, its identity, and the best and the second pair of a
+-- group and a half with their scores
 abbrev pub measured : Hit → MeasuredHit
 measured hit = record { hit = hit; peak = hit.peak; energy = hit.energy; power = wave_power hit.n2 }
 
@@ -77,7 +77,7 @@ pub record IsEvidenceText (carrier : Carrier) (samples : List Sample) (text : Li
   pub each : AllZip (IsEvidenceFor (receiver_of carrier) samples) entries told
   pub text_is : text ≡ evidence_text told
 
--- and with what its slot shows, as JSON
+-- what supports each entry of the list of a carrier in the recording, with what its slot shows, as JSON
 pub record IsEvidenceJson (carrier : Carrier) (samples : List Sample) (text : List ℕ) : Type 0 where
   pub entries : List Entry
   pub is_list : IsListOf carrier samples entries

@@ -15,14 +15,14 @@ use Rattle.lte_top.specs.Forms.{limit_of, Refuses, IsTooLong, IsValid, IsOutput}
 
 -- ---- reading: what the source told before, and what it tells now
 
--- something is read
+-- a form reads something
 abbrev pub IsRead : Input → Type 0
 IsRead nothing = ⊥
 IsRead (recording form) = Unit {0}
 IsRead certificates = Unit {0}
 IsRead (description carrier) = Unit {0}
 
--- these bytes are the whole input, which was read to its end; where none is read there are none, and the source is as
+-- the bytes are the whole input, which was read to its end; where none is read there are none, and the source is as
 -- it was
 abbrev pub HasReadInput : Input → List ℕ → SourceTold → SourceTold → Type 0
 HasReadInput nothing bytes before now = (bytes ≡ []) × NothingRead before now
@@ -54,7 +54,7 @@ pub record IsReadTooLong (input : Input) (before now : SourceTold) : Type 0 wher
   pub past : length front ≡ limit_of input + 1
   pub unrefused : (rest : List ℕ) (status : Status) → Refuses input (front ++ rest) status → ⊥
 
--- nothing in these bytes could be refused already: certificates are judged byte by byte, the others at their end
+-- nothing in the bytes could be refused already: certificates are judged byte by byte, other inputs at their end
 abbrev pub NothingMet : Input → List ℕ → Type 0
 NothingMet nothing bytes = Unit {0}
 NothingMet (recording form) bytes = Unit {0}
@@ -113,7 +113,7 @@ Ends form before now Done = IsDone form before now
 Ends form before now WriteFault = IsWriteFault form before now
 Ends form before now status = IsRefused form status before now
 
--- the words are of a form of the program, whose run ended so
+-- the words are of a form of the program, whose run ended with the status
 pub record RunsForm (program : Program) (words : List (List ℕ)) (before now : Outside) (status : Status) : Type 0 where
   pub form : Form
   pub is_of : IsWordsOf program words form
@@ -138,7 +138,7 @@ IsAnswerTo input bytes Done = IsValid input bytes
 IsAnswerTo input bytes TooLong = IsTooLong input bytes
 IsAnswerTo input bytes status = Refuses input bytes status
 
--- they have one answer
+-- bytes have one answer
 abbrev pub HasOneAnswer : Type 0
 HasOneAnswer = (input : Input) (bytes : List ℕ) (first second : Status) → IsAnswerTo input bytes first →
     IsAnswerTo input bytes second → first ≡ second

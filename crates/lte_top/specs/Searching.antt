@@ -39,13 +39,15 @@ pub record IsListOfTwo (samples : List Sample) (entries : List Entry) : Type 0 w
   pub loaded : HoldsLoadedCellsOfTwo samples entries
   pub holds : HoldsCleanCellsOfTwo samples entries
 
--- the same of the cells with the extended prefix
+-- the list of the cells with the extended prefix, which holds each of which the recording is clean, whatever else it
+-- sends
 pub record IsListOfLong (samples : List Sample) (entries : List Entry) : Type 0 where
   pub explained : IsExplainedOfLong samples entries
   pub loaded : HoldsLoadedCellsOfLong samples entries
   pub holds : HoldsCleanCellsOfLong samples entries
 
--- and of the cells with four antenna ports
+-- the list of the cells with four antenna ports, which holds each of which the recording is clean, whatever else its
+-- ports send
 pub record IsListOfFour (samples : List Sample) (entries : List Entry) : Type 0 where
   pub explained : IsExplainedOfFour samples entries
   pub loaded : HoldsLoadedCellsOfFour samples entries
@@ -58,7 +60,7 @@ IsListOf TwoPorts = IsListOfTwo
 IsListOf LongPrefix = IsListOfLong
 IsListOf FourPorts = IsListOfFour
 
--- ---- its text
+-- ---- the text of a list
 
 abbrev pub list_text : Output → List Entry → List ℕ
 list_text Text entries = report_text entries
@@ -88,9 +90,9 @@ pub record IsTextOfAll (output : Output) (samples : List Sample) (text : List �
   pub is_four : IsListOf FourPorts samples four
   pub text_is : text ≡ lists_text output one two long four
 
--- ---- by each rule
+-- ---- the lists by each rule
 
--- the list, and those of what is left where a cell of it is taken off
+-- the list of a recording, and those of what is left where a cell of it is taken off
 abbrev pub IsCancelled : Output → List Sample → List ℕ → Type 0
 IsCancelled Text samples text = IsCancelText samples text
 IsCancelled Json samples text = IsLine (IsCancelJson samples) text

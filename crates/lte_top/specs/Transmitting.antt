@@ -15,13 +15,13 @@ use Rattle.cell_json.specs.Reading.{DescribesBy}
 abbrev pub most_description_bytes : ℕ
 most_description_bytes = 65536
 
--- the samples of an emission, with this load or without
+-- the samples of an emission, with a load or without
 unfoldable pub sent_samples : Option ℕ → Emission → List Sample
 sent_samples load e =
     values_below e.samples
     (λ i. sample_of (received_by e.carrier load e.cell e.timing.sfn e.timing.offset e.gains i))
 
--- the output is the samples, with this load or without, of the emission that the bytes describe by a carrier
+-- the output is the samples, with a load or without, of the emission that the bytes describe by a carrier
 pub record IsTransmitted (carrier : Carrier) (load : Option ℕ) (bytes output : List ℕ) : Type 0 where
   pub emission : Emission
   pub describes : DescribesBy carrier bytes emission

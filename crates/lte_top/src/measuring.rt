@@ -26,7 +26,7 @@ pub(crate) fn measured_hits(alloc: Global, hits: &[Hit]) -> Result<Vec<MeasuredH
     Ok(list)
 }
 
-// The same with what each tells of its cell.
+// Hits with the numbers of their metrics, and with what each tells of its cell.
 pub(crate) fn measured_ids(
     alloc: Global,
     recording: &Recording,
@@ -58,7 +58,7 @@ fn measured(hit: &Hit) -> MeasuredHit
     }
 }
 
-// The same with what it tells of its cell, and how clearly.
+// A hit with the numbers of its metric, with what it tells of its cell, and how clearly.
 fn measured_id(recording: &Recording, hit: &Hit) -> MeasuredId
     requires recording { IsRecording recording.now }
     requires span { IsInSpan hit.now }

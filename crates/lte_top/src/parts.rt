@@ -44,7 +44,7 @@ fn samples_of(words: &[String]) -> Option<SampleForm>
     }
 }
 
-// The same after two words.
+// The form of samples that the words after two words name.
 fn samples_after_two(words: &[String], first: &str, second: &str) -> Option<SampleForm>
     ensures some { IfSome result (λ form.
         map string_bytes words.now ≡ first.now ∷ second.now ∷ samples_words form) }
@@ -65,7 +65,7 @@ pub(crate) fn told_after(words: &[String], word: &str) -> Option<(Output, Sample
     told_of(words)
 }
 
-// The same after two words.
+// The output and the form of samples that the words after two words name.
 fn told_after_two(words: &[String], first: &str, second: &str) -> Option<(Output, SampleForm)>
     ensures some { IfSome result (λ told.
         map string_bytes words.now ≡ first.now ∷ second.now ∷ told_words told.0 told.1) }

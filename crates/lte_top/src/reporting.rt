@@ -187,7 +187,7 @@ fn evidence_report(
     }
 }
 
-// Its lines.
+// What supports each entry of the list of a carrier in a recording, as lines.
 fn evidence_text(
     alloc: Global,
     carrier: Carrier,
@@ -201,7 +201,7 @@ fn evidence_text(
     text_of_evidence(alloc, &told)
 }
 
-// Its JSON, which has what the slots of the entries show too.
+// What supports each entry of the list of a carrier in a recording, as JSON, which has what the slots show too.
 fn evidence_json(
     alloc: Global,
     carrier: Carrier,

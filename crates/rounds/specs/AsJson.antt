@@ -34,7 +34,7 @@ rounds_value rounds = object (
     member (codes "ended") (boolean rounds.ended) (
     member (codes "rounds") (list_of round_value rounds.taken.items) no_members)))
 
--- its text, without spaces
+-- the JSON of a list and its rounds, without spaces
 unfoldable pub rounds_json : Rounds → List ℕ
 rounds_json rounds = compact_text (rounds_value rounds)
 

@@ -10,7 +10,7 @@ use Rattle.rounds.specs.Rounds.{IsTakenOff, NoneIsTakenOff, IsCancelled}
 use Rattle.rounds.specs.Text.{IsCancelText}
 use Rattle.rounds.specs.AsJson.{IsCancelJson}
 
--- what a recording is, and its list, after so many rounds
+-- what a recording is, and its list, after a number of rounds
 abbrev pub recording_after : ℕ → List Sample → List Round → List Sample
 recording_after zero recording rounds = recording
 recording_after (suc n) recording [] = recording
@@ -30,8 +30,8 @@ pub record IsRoundIn (recording : List Sample) (list : List Entry) (rounds : Lis
   pub residue : recording_after (suc n) recording rounds ≡ round.taken.residue
   pub listed : IsListOfCells round.taken.residue (list_after (suc n) list rounds)
 
--- rounds in plain words: there are at most so many that take a cell off, and fewer exactly where one follows that takes
--- off none, since no entry of the last list can be
+-- rounds in plain words: at most `most` take a cell off, and fewer exactly where one follows that takes off none,
+-- since the cell of no entry of the last list can be taken off
 pub record AreInPlainWords (most : ℕ) (recording : List Sample) (list : List Entry) (rounds : List Round)
     (ended : Bool) : Type 0 where
   pub few : length rounds ≤ most
@@ -48,6 +48,6 @@ RoundsInPlainWords = (recording : List Sample) (rounds : Rounds) → IsCancelled
 abbrev pub IsOneText : Type 0
 IsOneText = (recording : List Sample) (a b : List ℕ) → IsCancelText recording a → IsCancelText recording b → a ≡ b
 
--- and one JSON
+-- a recording has one JSON
 abbrev pub IsOneJson : Type 0
 IsOneJson = (recording : List Sample) (a b : List ℕ) → IsCancelJson recording a → IsCancelJson recording b → a ≡ b

@@ -18,7 +18,7 @@ pub record IsTakenOff (recording : List Sample) (entry : Entry) (taken : Subtrac
   pub planned : IsPlanned recording entry plan
   pub subtracted : IsSubtracted recording plan entry.start entry.sfn taken
 
--- no entry's cell can be
+-- the cell of no entry of a list can be taken off
 abbrev pub NoneIsTakenOff : List Sample → List Entry → Type 0
 NoneIsTakenOff recording entries =
     (entry : Entry) (taken : Subtracted) → Contains entries entry → IsTakenOff recording entry taken → ⊥
@@ -35,8 +35,8 @@ pub record IsRound (recording : List Sample) (list : List Entry) (round : Round)
   pub id : round.id ≡ entry.id
   pub listed : IsListOfCells round.taken.residue round.list
 
--- the rounds on a recording with this list, at most so many: each works on what the one before has left and on its list,
--- and a round without such an entry, of which `ended` tells, is the last
+-- the rounds on a recording with this list, at most as many as the number says: each works on what the one before has
+-- left and on its list, and a round without an entry that can be taken off, of which `ended` tells, is the last
 abbrev pub AreRounds : ℕ → List Sample → List Entry → List Round → Bool → Type 0
 AreRounds zero recording list rounds ended = (rounds ≡ []) × (ended ≡ false)
 AreRounds (suc most) recording list [] ended = (ended ≡ true) × NoneIsTakenOff recording list

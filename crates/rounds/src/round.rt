@@ -9,7 +9,7 @@ use lte_types::CellId;
 pub struct Round {
     /// The identity of the cell.
     pub id: CellId,
-    /// Its gain, and what is left without it.
+    /// The gain of the cell, and what is left without it.
     pub taken: Subtracted,
     /// The list of cells of what is left.
     pub list: EntryList,

@@ -38,7 +38,7 @@ pub fn point_of(digit: u8) -> Cpx
     }
 }
 
-/// The same value on all subcarriers.
+/// One value on all subcarriers.
 pub fn level(value: Cpx) -> [Cpx; 72]
     ensures { (n : ℕ) → IsWithin n value → All (IsWithin n) result }
 {

@@ -10,7 +10,7 @@ use sample_file::Recording;
 use std::alloc::{AllocError, Global};
 use std::test::Fail;
 
-/// So many samples of silence.
+/// A number of samples of silence.
 pub fn silent(alloc: Global, count: usize) -> Result<Vec<Sample>, AllocError>
     ensures { IfOk result (λ samples. length samples.items ≡ count) }
 {

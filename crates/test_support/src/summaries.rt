@@ -55,7 +55,7 @@ pub fn has_sums(recording: &Recording, expected: (i64, i64)) -> bool {
     sums_by_place(recording.as_slice()) == expected
 }
 
-// These sums of samples.
+// The sums of the components of samples, each times its place modulo 997.
 fn sums_by_place(samples: &[Sample]) -> (i64, i64) {
     let mut re: i64 = 0;
     let mut im: i64 = 0;

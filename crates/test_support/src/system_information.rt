@@ -41,7 +41,7 @@ pub fn information(period: Period) -> Sib1 {
     }
 }
 
-/// The same with a period of 8 frames, the block of the plain cell.
+/// The block of the plain cell, with a period of 8 frames.
 pub fn plain_block() -> Sib1 {
     information(Period::Rf8)
 }

@@ -31,7 +31,7 @@ telling_value told taken = object (
     member (codes "candidates") (list_of candidate_value taken) (
     member (codes "told") (or_null told_value told) no_members))
 
--- its text, without spaces
+-- the JSON of what is told, without spaces
 unfoldable pub telling_json : Option Told → List Candidate → List ℕ
 telling_json told taken = compact_text (telling_value told taken)
 

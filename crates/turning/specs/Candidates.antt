@@ -16,7 +16,7 @@ use Rattle.turning.specs.Fractions.{fraction_of, greatest}
 abbrev pub coarse_turn : ℕ → ℤ
 coarse_turn k = pos 32 *ℤ by_size k
 
--- what is told by the best hit of a recording that was turned by number k of them
+-- what is told by the best hit of a recording that was turned by coarse turn number k
 abbrev pub candidate_by : List Sample → ℕ → Hit → Candidate
 candidate_by turned k best = record {
   coarse = by_size k;
@@ -25,21 +25,21 @@ candidate_by turned k best = record {
   fraction = fraction_of best;
 }
 
--- the recording turned by number k of them
+-- the recording turned by coarse turn number k
 abbrev pub coarsely_turned : List Sample → ℕ → List Sample
 coarsely_turned recording k = turned recording (coarse_turn k)
 
--- the candidate of that turn, where the recording then has a hit
+-- the candidate of coarse turn number k, where the recording then has a hit
 unfoldable pub candidate_at : List Sample → ℕ → Option Candidate
 candidate_at recording k =
     option_map (candidate_by (coarsely_turned recording k) k)
     (greatest fraction_of (hits_of (coarsely_turned recording k)))
 
--- those of the first of the 33 turns up to 60 kHz, by size
+-- the candidates of the first of the 33 turns up to 60 kHz, by size
 unfoldable pub candidates_below : List Sample → ℕ → List Candidate
 candidates_below recording count = joined_below count (λ k. option_to_list (candidate_at recording k))
 
--- all
+-- the candidates of all 33 turns
 abbrev pub candidates_of : List Sample → List Candidate
 candidates_of recording = candidates_below recording 33
 
@@ -47,7 +47,8 @@ candidates_of recording = candidates_below recording 33
 abbrev pub is_far : Candidate → Candidate → Bool
 is_far first second = nat_lt 64 (nat_abs (second.turn -ℤ first.turn))
 
--- the one of greatest fraction, and so on of those that are far from it, as many at most
+-- the candidate of greatest fraction, then that of the ones far from it, and on in this way, at most as many as the
+-- number says
 unfoldable pub first_taken : ℕ → List Candidate → List Candidate
 first_taken zero candidates = []
 first_taken (suc n) candidates =

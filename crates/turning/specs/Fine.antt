@@ -25,21 +25,21 @@ is_carried slot symbol =
 abbrev pub repeat_term : List Sample → ℕ → ℕ → Cpx
 repeat_term recording u i = times (conjugate (sample_at recording (u - 9 + i))) (sample_at recording (u + 119 + i))
 
--- all nine
+-- the sum of all nine products of a prefix sample and the one that repeats it
 unfoldable pub repeat_sum : List Sample → ℕ → Cpx
 repeat_sum recording u = complex_sum_below 9 (repeat_term recording u)
 
--- those of a symbol, where it carries something and lies in the recording
+-- the nine products of a symbol, where it carries something and lies in the recording
 unfoldable pub symbol_sum : List Sample → ℕ → ℕ → ℕ → Cpx
 symbol_sum recording start slot symbol =
     if is_carried slot symbol && nat_le (useful_start normal start slot symbol + 128) (length recording)
     then repeat_sum recording (useful_start normal start slot symbol) else nothing
 
--- those of a slot
+-- the products of the symbols of a slot together
 unfoldable pub slot_sum : List Sample → ℕ → ℕ → Cpx
 slot_sum recording start slot = complex_sum_below 7 (symbol_sum recording start slot)
 
--- S: those of 160 slots from the half on that a place of a primary signal tells
+-- S: the products of 160 slots together, from the half on that a place of a primary signal tells
 unfoldable pub prefix_sum : List Sample → ℕ → Cpx
 prefix_sum recording t = complex_sum_below 160 (slot_sum recording (half_start t))
 

@@ -8,7 +8,7 @@ use Rattle.turning.specs.declared.fraction.Fraction.{Fraction}
 abbrev pub fraction_of : Hit → Fraction
 fraction_of hit = record { peak = hit.peak; energy = hit.energy; power = wave_power hit.n2 }
 
--- what its peak is divided by
+-- what the peak of a fraction is divided by
 abbrev pub whole : Fraction → ℕ
 whole a = a.energy * a.power
 
@@ -16,11 +16,11 @@ whole a = a.energy * a.power
 abbrev pub is_less : Fraction → Fraction → Bool
 is_less a b = nat_lt (a.peak * whole b) (b.peak * whole a)
 
--- of two values the one of greater fraction, and of equals the first
+-- the one of greater fraction of two values, and of equals the first
 abbrev pub greater : {A : Type 0} → (A → Fraction) → A → A → A
 greater fraction a b = if is_less (fraction a) (fraction b) then b else a
 
--- of values the one of greatest fraction, and of equals the first
+-- the one of greatest fraction of a list of values, and of equals the first
 abbrev pub greatest : {A : Type 0} → (A → Fraction) → List A → Option A
 greatest fraction [] = None
 greatest fraction (x ∷ xs) = Some (fold (greater fraction) x xs)

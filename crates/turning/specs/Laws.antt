@@ -25,7 +25,7 @@ IsOneTold =
     (recording : List Sample) (first second : Option Told) → IsTold recording first → IsTold recording second →
     first ≡ second
 
--- so a recording is turned in one way by what is told of it
+-- a recording is turned in one way by what is told of it
 abbrev pub IsOneApplied : Type 0
 IsOneApplied =
     (recording first second : List Sample) → IsApplied recording first → IsApplied recording second → first ≡ second
@@ -44,6 +44,6 @@ pub record IsTurnInRange (told : Told) : Type 0 where
 abbrev pub TurnIsInRange : Type 0
 TurnIsInRange = (recording : List Sample) (told : Told) → IsTold recording (Some told) → IsTurnInRange told
 
--- a recording turned is one
+-- what a recording is turned to is a recording
 abbrev pub TurnedIsRecording : Type 0
 TurnedIsRecording = (recording : List Sample) (m : ℤ) → IsRecording recording → IsRecording (turned recording m)

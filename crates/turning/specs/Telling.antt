@@ -9,7 +9,7 @@ use Rattle.turning.specs.declared.telling.Told.{Told}
 use Rattle.turning.specs.Turned.{turned}
 use Rattle.turning.specs.Candidates.{taken_of}
 
--- the list of a recording has so many entries
+-- the list of a recording has this count of entries
 pub record HasCells (recording : List Sample) (count : ℕ) : Type 0 where
   pub list : List Entry
   pub explained : IsExplained recording list
@@ -25,7 +25,7 @@ pub record Tells (recording : List Sample) (candidate : Candidate) (told : Told)
 abbrev pub IsSilent : List Sample → Candidate → Type 0
 IsSilent recording candidate = HasCells (turned recording candidate.turn) 0
 
--- of these candidates the first that gives a cell tells this
+-- the first candidate of a list that gives a cell tells this
 pub record IsFirstHeard (recording : List Sample) (taken : List Candidate) (told : Told) : Type 0 where
   pub place : ℕ
   pub inside : place < length taken
@@ -33,13 +33,13 @@ pub record IsFirstHeard (recording : List Sample) (taken : List Candidate) (told
   pub tells : HoldsAt (λ candidate. Tells recording candidate told) taken place
   pub some : 0 < told.cells
 
--- none of them gives a cell, and the first tells this
+-- no candidate of a list gives a cell, and the first tells this
 pub record IsFirstSilent (recording : List Sample) (taken : List Candidate) (told : Told) : Type 0 where
   pub inside : 0 < length taken
   pub silent : All (IsSilent recording) taken
   pub tells : HoldsAt (λ candidate. Tells recording candidate told) taken 0
 
--- what such candidates tell; nothing where there is none
+-- what the candidates of a list tell; nothing where there is none
 abbrev pub IsToldBy : List Sample → List Candidate → Option Told → Type 0
 IsToldBy recording taken None = taken ≡ []
 IsToldBy recording taken (Some told) = IsFirstHeard recording taken told ⊎ IsFirstSilent recording taken told

@@ -34,6 +34,6 @@ turned_back value mean angle = nearest_sample (rounded (times (minus value mean)
 unfoldable pub turned_at : List Sample → ℤ → ℕ → Sample
 turned_at recording m i = turned_back (sample_at recording i) (mean recording) (angle m i)
 
--- all of them
+-- a recording turned by m
 abbrev pub turned : List Sample → ℤ → List Sample
 turned recording m = values_below (length recording) (turned_at recording m)

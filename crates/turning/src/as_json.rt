@@ -36,7 +36,7 @@ fn json_of(alloc: Global, told: &Option<Told>, taken: &[Candidate]) -> Result<St
     telling.to_string(alloc)
 }
 
-// Their value.
+// The JSON value of what is told, and of the candidates.
 fn telling_value(
     alloc: Global,
     told: &Option<Told>,

@@ -14,7 +14,7 @@ use sample_file::Recording;
 use std::alloc::{AllocError, Global};
 use std::marker::Model;
 
-// As many samples are looked at for the hits of a recording.
+// How many samples are looked at for the hits of a recording.
 const LOOKED_AT: usize = 19_473;
 
 // A recording turned, whose samples are made where they are asked for. Contracts see it as their list.

@@ -30,7 +30,7 @@ impl<'a> Model for Centred<'a> {
 }
 
 impl<'a> Centred<'a> {
-    // With the recording's mean, made once for all turns.
+    // A recording with its mean, made once for all turns.
     pub(crate) fn new(recording: &'a Recording) -> Centred<'a>
         ensures { result ≡ recording.now }
     {

@@ -63,7 +63,7 @@ pub(crate) fn best_hit(hits: &[Hit]) -> Option<Hit>
     }
 }
 
-// By a fold, so that of equals the first stays.
+// The hit of greatest fraction: found by a fold, so that of equals the first stays.
 fn best_of(first: &Hit, rest: &[Hit]) -> Hit
     requires first { IsSmallHit first.now }
     requires rest { All IsSmallHit rest.now }

@@ -68,7 +68,7 @@ fn greatest(candidates: &[Candidate]) -> Option<Candidate>
     }
 }
 
-// By a fold, so that of equals the first stays.
+// The candidate of greatest fraction: found by a fold, so that of equals the first stays.
 fn greatest_by(first: &Candidate, rest: &[Candidate]) -> Candidate
     requires first { IsSmallCandidate first.now }
     requires rest { All IsSmallCandidate rest.now }
