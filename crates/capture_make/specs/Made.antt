@@ -35,7 +35,7 @@ abbrev pub IsCleanNumber : Carrier → ℕ → List Sample → ℕ → Type 0
 IsCleanNumber carrier n recording eps =
     IsCleanBy carrier None recording (plan n) (number n) (offset n) (gains carrier n) eps
 
--- ---- with one antenna port
+-- ---- recording number n with one antenna port
 
 abbrev pub samples : ℕ → ℕ → List Sample
 samples n bound = samples_by OnePort n bound

@@ -55,7 +55,7 @@ port_bit port plan sfn i =
 unfoldable pub port_point : Port → CellPlan → ℕ → ℕ → Cpx
 port_point port plan sfn i = point_of (port_bit port plan sfn) i
 
--- ---- with one antenna port
+-- ---- the broadcast channel with one antenna port
 
 abbrev pub broadcast_word : CellPlan → ℕ → List Bool
 broadcast_word plan sfn = port_word Only plan sfn

@@ -43,7 +43,7 @@ grant_of plan sfn = record {
 unfoldable pub control_word : CellPlan → ℕ → List Bool
 control_word plan sfn = with_check_16 system_information_rnti (sent_word (grant_of plan sfn))
 
--- ---- as it is sent
+-- ---- the grant as it is sent
 
 -- the places of control channel elements 0 to 3. No other element is sent. (own)
 abbrev pub control_places : CellPlan → List Place

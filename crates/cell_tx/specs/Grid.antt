@@ -146,7 +146,7 @@ port_element port plan sfn subframe symbol k =
     else (if is_secondary port subframe symbol k then sent_signal port (secondary_value plan subframe k)
     else port_channel_value port plan sfn subframe symbol k)))
 
--- ---- with one antenna port
+-- ---- the element with one antenna port
 
 abbrev pub element : CellPlan → ℕ → ℕ → ℕ → ℕ → Cpx
 element plan sfn subframe symbol k = port_element Only plan sfn subframe symbol k

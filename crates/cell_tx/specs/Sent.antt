@@ -20,7 +20,7 @@ Elements = ℕ → ℕ → ℕ → ℕ → Cpx
 abbrev pub symbol_sample : (ℕ → Cpx) → ℕ → ℕ → Cpx
 symbol_sample useful start i = if nat_lt i start then useful (i + useful_length - start) else useful (i - start)
 
--- ---- with a cyclic prefix
+-- ---- the samples with a cyclic prefix
 
 -- sample i of slot 0 to 19 of the frame with this number
 abbrev pub prefix_slot_sample : Prefix → Elements → ℕ → ℕ → ℕ → Cpx
@@ -36,7 +36,7 @@ prefix_frame_sample prefix grid sfn i = prefix_slot_sample prefix grid sfn (i / 
 unfoldable pub prefix_sent : Prefix → Elements → ℕ → ℕ → Cpx
 prefix_sent prefix grid sfn i = prefix_frame_sample prefix grid (number_of sfn i) (i % frame_length)
 
--- ---- with the normal cyclic prefix
+-- ---- the samples with the normal cyclic prefix
 
 abbrev pub sent : Elements → ℕ → ℕ → Cpx
 sent grid sfn i = prefix_sent normal grid sfn i

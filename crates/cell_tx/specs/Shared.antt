@@ -27,7 +27,7 @@ pub record IsCoded (plan : CellPlan) (word : Coded) : Type 0 where
   pub k : word.k ≡ checked_size plan
   pub d : word.d ≡ shared_coded plan
 
--- ---- as it is sent
+-- ---- the block as it is sent
 
 -- the places of the assigned resource blocks, with two antenna ports or one
 abbrev pub assigned_places : Bool → CellPlan → List Place

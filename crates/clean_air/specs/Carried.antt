@@ -60,7 +60,7 @@ abbrev pub DescrambledBitsAreHeard : Type 0
 DescrambledBitsAreHeard = (least count c_init : ℕ) (bits : ℕ → Bool) (values : List ℤ) →
     AreHeard least count (scrambled c_init bits) values → AreHeard least count bits (descrambled c_init 0 values)
 
--- ---- in a recording
+-- ---- places of a recording
 
 -- places of the subframe of a slot carry bits, each two of them
 abbrev pub CarryBits : (ℕ → ℕ → Cpx) → List Place → (ℕ → Bool) → Type 0

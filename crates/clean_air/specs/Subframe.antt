@@ -49,7 +49,7 @@ SeenBlocksAreHeard = (gain later : Cpx) (first second : SeenSlot) (cfi start blo
     IsSubframeSeen gain later first second places (shared_scrambled first bits) →
     AreHeard 8 (2 * length places) bits (shared_values first second cfi start blocks)
 
--- ---- in a recording
+-- ---- subframes of a recording
 
 -- both slots of a subframe are received, whose symbols 0 to 13 begin at these samples and have these grids
 pub record IsSubframeReceived (recording : List Sample) (starts : ℕ → ℕ) (grids : ℕ → ℕ → Cpx) (first second : SeenSlot)

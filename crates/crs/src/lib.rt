@@ -124,8 +124,8 @@ pub fn reference_places()
         IsTrue (is_reference identity 0 k) → ¬ IsTrue (is_reference identity 4 k) }
 {}
 
-/// With two antenna ports the reference places of both are every third subcarrier of symbols 0 and 4 of a
-/// slot, from the identity modulo 3 on, and no place is one of both.
+/// The reference places of both of two antenna ports are every third subcarrier of symbols 0 and 4 of a slot, from
+/// the identity modulo 3 on, and no place is one of both.
 pub fn reference_places_of_two()
     ensures both { (identity symbol k : ℕ) →
         (is_reference identity symbol k || is_second_reference identity symbol k)

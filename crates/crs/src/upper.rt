@@ -56,7 +56,7 @@ pub fn upper_pilots(port: UpperPort, id: CellId, slot: u8) -> [(u8, Cpx); 12]
     pilots
 }
 
-/// With four antenna ports the reference places of ports 2 and 3 are every third subcarrier of symbol 1 of a slot, from
+/// The reference places of ports 2 and 3 of four antenna ports are every third subcarrier of symbol 1 of a slot, from
 /// the identity modulo 3 on, no place is one of both, and from slot to slot the two ports change places.
 pub fn reference_places_of_upper()
     ensures both { (identity slot symbol k : ℕ) →

@@ -38,7 +38,7 @@ pub record AreAttempts (Attempts : Attempting) (Answers : Answering) : Type 0 wh
   pub granted : (j : ℕ) (attempt : Attempt) (fields : Sib1) → Attempts j attempt → attempt.answer ≡ Ok fields →
       granted_by attempt ≡ None → ⊥
 
--- ---- by a receiver
+-- ---- the grant that a receiver reads
 
 -- the attempt on frame j of the cell at a place, by the values of its subframe 5
 abbrev pub IsFrameAttempt : Subframes → List Sample → Place → Mib → Attempting

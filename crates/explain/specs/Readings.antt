@@ -32,7 +32,7 @@ pub record IsReadingBy (summed : Place → Frames → List (List ℤ)) (IsGrant 
 abbrev pub AreSums : (Frames → List (List ℤ)) → ℕ → ℕ → List (List (List ℤ)) → Type 0
 AreSums sums count j all = (phase : ℕ) → phase + count ≤ 4 → sums_at all phase ≡ sums (frames_from count j phase)
 
--- ---- by a receiver
+-- ---- how a receiver reads
 
 -- the reading of an entry of these hits, by a receiver
 abbrev pub IsReadingOf : Receiver → List Sample → List Hit → Entry → Reading → Type 0

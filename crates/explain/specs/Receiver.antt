@@ -34,7 +34,7 @@ pub record Receiver : Type 0 where
   -- the values of subframe 5, by which system information is read, or why it is not
   pub subframe : Result Subframes Sib1Reason
 
--- ---- by slots with the normal prefix, and a way to make soft values of their places
+-- ---- receivers by slots with the normal prefix, and by a way to make soft values of their places
 
 abbrev pub broadcast_by : Valuing → List Sample → Place → ℕ → List ℤ
 broadcast_by values recording place j = received_values_by values (broadcast_slot recording place.id place.start j)

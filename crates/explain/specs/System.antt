@@ -74,7 +74,7 @@ IsSystemBy carrier Answers recording start sfn ports mib (Err (OtherWidth told))
 IsSystemBy carrier Answers recording start sfn ports mib sib1 =
     IsSearched Answers recording start sfn carrier ports mib.bandwidth sib1
 
--- ---- by a receiver
+-- ---- what a receiver tells
 
 -- the answer of frame j of the cell at a place, by the values of its subframe 5
 abbrev pub FrameAnswers : Subframes → List Sample → Place → Mib → Answering

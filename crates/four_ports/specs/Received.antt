@@ -76,7 +76,7 @@ PairValuesSpeak =
     ArePortsSeen gains slot → IsPairSeen gains i (point b c) (point d e) at_first at_second →
     SupportFour 1 b c d e (values_seen i slot k at_first at_second)
 
--- ---- in a recording
+-- ---- slots of a recording
 
 -- the seven symbols of a slot are received from four ports with one gain each, each from its place on, and hold the
 -- reference signals of all ports; each port sends nothing at those of the others

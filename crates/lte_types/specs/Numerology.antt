@@ -74,7 +74,7 @@ subframe_of Five = 5
 abbrev pub half_of : ℕ → Half
 half_of subframe = if nat_eq subframe 0 then Zero else Five
 
--- from the start of a frame to the useful part of the primary synchronisation signal of a half, which is in the last
--- symbol of slot 0 or 10 (TS 36.211 section 6.11.1.2): 832 and 10,432
+-- the samples from the start of a frame to the useful part of the primary synchronisation signal of a half, which is
+-- in the last symbol of slot 0 or 10 (TS 36.211 section 6.11.1.2): 832 and 10,432
 abbrev pub primary_start : Half → ℕ
 primary_start half = useful_start normal 0 (2 * subframe_of half) 6

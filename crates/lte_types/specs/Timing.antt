@@ -31,14 +31,14 @@ offset_of start = (frame_length - start) % frame_length
 abbrev pub number_before : ℕ → ℕ → ℕ
 number_before start number = if nat_eq start 0 then number else (number + 1023) % 1024
 
--- ---- there and back
+-- ---- the way there and back
 
--- the way back leads to where a recording begins
+-- where a recording begins is found again from the first start of a frame and its number
 abbrev pub TimingsComeBack : Type 0
 TimingsComeBack = (sfn offset : ℕ) → sfn ≤ 1023 → IsOffset offset →
     (offset_of (start_of offset) ≡ offset) × (number_before (start_of offset) (number_at_start sfn offset) ≡ sfn)
 
--- from where a recording begins the first start of a frame and its number are found again
+-- the first start of a frame and its number are found again from where a recording begins
 abbrev pub StartsComeBack : Type 0
 StartsComeBack = (start number : ℕ) → start < frame_length → number ≤ 1023 →
     (start_of (offset_of start) ≡ start) × (number_at_start (number_before start number) (offset_of start) ≡ number)

@@ -45,7 +45,7 @@ impl Prefix {
         other: 32,
     };
 
-    /// From the useful part of a symbol to that of the next one in its slot.
+    /// The samples from the useful part of a symbol to that of the next one in its slot.
     pub fn step(self) -> usize
         ensures { result ≡ symbol_step self }
     {

@@ -58,7 +58,7 @@ IsMaster slots phase master = TellsMaster (coded_values slots phase) master
 abbrev pub HasNoMaster : List SeenSlot → ℕ → Type 0
 HasNoMaster slots phase = TellsNothing (coded_values slots phase)
 
--- ---- at all phases
+-- ---- the master blocks at all phases
 
 -- what a list of master blocks has for a phase
 abbrev pub master_at : List (Option Master) → ℕ → Option Master

@@ -28,7 +28,7 @@ pub trait ReadSlot: Drop {
         requires small { AreSmall seen }
         ensures { seen_as result ≡ record { symbols = seen; number = number; identity = id } };
 
-    /// How the cell sends that is read so.
+    /// The carrier of a cell whose slots are read in this way.
     fn carrier() -> Carrier
         ensures { result ≡ carrier };
 

@@ -48,7 +48,7 @@ prefix_scores prefix recording hit = score (seen recording hit.t) (seen recordin
 unfoldable pub prefix_identity : Prefix → List Sample → Hit → ℕ × Half
 prefix_identity prefix recording hit = best_pair (prefix_scores prefix recording hit)
 
--- ---- by the normal cyclic prefix
+-- ---- identities by the normal cyclic prefix
 
 abbrev pub scores_of : List Sample → Hit → ℕ → Half → ℤ
 scores_of recording hit = prefix_scores normal recording hit

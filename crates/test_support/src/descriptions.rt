@@ -10,7 +10,7 @@ pub const PLAIN_KEYS: &str =
     \"duration\": \"normal\", \"resource\": \"one\", \"spare\": 0, \"cfi\": 2, \"start\": 0, \"blocks\": 6, \
     \"mcs\": 4, \"column\": 2";
 
-// `plain_block`, likewise.
+// The keys of the block `plain_block`, without braces.
 const BLOCK_KEYS: &str =
     "\"plmns\": [{\"mcc\": \"001\", \"mnc\": \"01\", \"reserved\": false}], \"tac\": 1, \"cell\": 1, \
     \"barred\": false, \"intra\": true, \"csg\": false, \"csg_identity\": null, \"q_rx\": -70, \"q_offset\": null, \

@@ -46,7 +46,7 @@ PairValuesSpeak =
     IsPairSeen gain other (point b c) (point d e) at_first at_second →
     SupportFour 16 b c d e (values_seen slot k at_first at_second)
 
--- ---- in a recording
+-- ---- slots of a recording
 
 -- the seven symbols of a slot are received from two ports with one gain each, each from its place on, and hold the
 -- reference signals of both ports; each port sends nothing at those of the other
