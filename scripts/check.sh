@@ -6,7 +6,8 @@
 #   rows.py: what the second programs print stands in the tests and pages that have it from them;
 #   documents.py: what the pages name is there, numbers and lists of cells in them are right;
 #   crates_picture.py: the picture of the crates is that of crates.txt;
-#   edits.py: each wrong body changes what it means to change.
+#   edits.py: each wrong body changes what it means to change;
+#   comments.py: each comment says what it is about without what stands above it.
 # Where lte_cli is built (crates/lte_cli/out/lte_cli, or LTE_CLI), the examples are run too. A check that wants what is
 # not there is left out, and said so: nothing is installed. The status is 1 where anything is wrong.
 set -u
@@ -41,6 +42,7 @@ else
     echo 'left out: black, which formats by its version (Debian 12: black 23)'
 fi
 check python3 "$python" scripts/gate/edits.py
+check python3 "$python" scripts/gate/comments.py
 check python3 "$python" scripts/gate/documents.py
 check python3 "$python" scripts/gate/crates_picture.py docs/ARCHITECTURE.md
 check python3 "$python" scripts/gate/rows.py
