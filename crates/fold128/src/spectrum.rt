@@ -64,7 +64,7 @@ fn fold(samples: &[Sample; 128]) -> [Quartet; 32]
     folded
 }
 
-// A number times -j, so many times over.
+// A number times -j, as often as `turns` says.
 fn back(z: Cpx, turns: usize) -> Cpx
     requires small { IsWithin 131072 z }
     requires turns { turns < 4 }
@@ -150,7 +150,7 @@ fn product(mirror: Mirror, w: Cpx) -> Cpx
     }
 }
 
-// One component of it.
+// One component of what the places m and 32 - m give together.
 fn component(real: i64, cosine: i64, imaginary: i64, sine: i64) -> i64
     requires real { nat_abs real ≤ 262144 }
     requires cosine { nat_abs cosine ≤ 16384 }
