@@ -28,6 +28,8 @@ LEANING = re.compile(
       | (?:what|whether|where|which|when|how(?:[ ]\w+)?)[ ](?:it|they|that|those)
       | in[ ]a[ ]recording (?= [:,] ) | which (?= [ ](?:is|are|has|have)\b ) | whose
       | \w+[ ]times (?= [.]? $ )
+      | \w+s[ ](?:it|its|them|their)                          # what is done to such a thing: "adds its schedule"
+      | (?:\w+[ ]){1,5} of[ ](?:it|them) (?= [.]? $ )
     )\b
     """,
     re.X | re.I,

@@ -145,7 +145,7 @@ fn sibs_in(items: &[Value]) -> Option<Sibs>
     Some(sibs)
 }
 
-// The codes of at most 31 blocks.
+// The codes of a list of at most 31 blocks.
 fn sibs_of(value: &Value) -> Option<Sibs>
     ensures { result ≡ list_within 0 31 (natural_of 0 79) (view value.now) }
 {
@@ -174,7 +174,7 @@ fn schedule_in(items: &[Value]) -> Option<Schedule>
     Some(schedule)
 }
 
-// 1 to 32 of them.
+// A schedule of 1 to 32 entries.
 fn schedule_of(value: &Value) -> Option<Schedule>
     ensures { result ≡ list_within 1 32 entry_of (view value.now) }
 {

@@ -92,7 +92,7 @@ pub(crate) fn small_within(value: &Value, least: i8, most: i8) -> Option<i8>
     }
 }
 
-/// The items of a list of so many.
+/// The items of a list, where their count is within a range.
 pub(crate) fn items_within(value: &Value, least: usize, most: usize) -> Option<&[Value]>
     ensures value { option_map (λ items. items_view items.now) result ≡ items_of least most (view value.now) }
     ensures count { IfSome result (λ items. (least ≤ length items.now) × (length items.now ≤ most)) }

@@ -16,8 +16,8 @@ use Rattle.cell_tx.specs.Conditions.{Condition, condition, first_failed}
 use Rattle.cell_tx.specs.Transport.{block_size, coded_count, assigned_bits_of, text_fits, has_block, is_whole_of}
 use Rattle.cell_tx.specs.Transport.{is_whole, is_resolvable}
 
--- a plan can be sent, where this says that what is sent of its block is enough: the conditions that do not depend on
--- the antenna ports, and that one. Its master block has bandwidth n6
+-- a plan can be sent, where `Enough` says that what is sent of its block is enough: the conditions that do not depend
+-- on the antenna ports, and that one. Its master block has bandwidth n6
 pub record IsSendableWith (Enough : Type 0) (plan : CellPlan) : Type 0 where
   pub valid : IsValid plan.sib1
   pub identity : plan.identity ≤ 503

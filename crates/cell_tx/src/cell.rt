@@ -90,7 +90,7 @@ fn size_of(plan: &CellPlan) -> Option<u16>
     }
 }
 
-// The text of a block without an extension, which has at most so many bits; `None` exactly where it has more.
+// The text of a block without an extension, which has at most `size` bits; `None` exactly where it has more.
 fn text_of(fields: &Sib1, size: u16) -> Option<Writer>
     requires valid { IsValid fields.now }
     requires plain { fields.now.extended ≡ false }

@@ -34,7 +34,7 @@ fn may_broadcast(port: Port, subframe: u8, symbol: u8) -> bool
     }
 }
 
-// The number there of a symbol of a subframe.
+// The number that a symbol of a subframe has among those by which the broadcast channel's places are numbered.
 fn broadcast_symbol(port: Port, symbol: u8) -> u8
     requires { symbol < 14 }
     ensures value { result ≡ broadcast_symbol port symbol }

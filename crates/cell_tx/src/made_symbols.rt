@@ -16,7 +16,7 @@ pub(crate) struct Symbols {
     pub end: usize,
 }
 
-// The first so many symbols of a frame.
+// The first symbols of a frame, as many as `count` says.
 fn first_symbols(count: usize) -> Symbols
     ensures { result ≡ record { first = 0; last = count; again = count; end = count } }
 {

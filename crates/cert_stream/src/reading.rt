@@ -18,7 +18,7 @@ const MOST_BYTES: usize = 67_108_864;
 // What the bytes of a certificate that were read so far tell.
 #[derive(Drop)]
 pub(crate) enum Step {
-    // The certificate goes on, and so many of its bytes can be read.
+    // The certificate goes on, and this many of its bytes can be read.
     Partial(usize),
     // The certificate is whole, and this is the answer to it.
     Whole(bool),

@@ -11,7 +11,7 @@ use std::marker::Model;
 use tail_cert::HEAD_BYTES;
 
 // Room for bytes of a certificate while they are read: for as many as it was known to have. Contracts see it as the
-// list of all bytes there.
+// list of all these bytes.
 #[derive(Drop)]
 pub(crate) struct Window {
     bytes: Vec<u8>,
@@ -24,7 +24,7 @@ impl Model for Window {
 }
 
 impl Window {
-    // Room for the bytes that tell how many there are.
+    // Room for the bytes that tell how many a certificate has.
     pub(crate) fn new(alloc: Global) -> Result<Window, AllocError>
         ensures { IfOk result (λ window. length window ≡ head_count) }
     {
@@ -32,7 +32,7 @@ impl Window {
         Ok(Window { bytes })
     }
 
-    // Makes room for so many bytes, where there is less. What stands there stays.
+    // Makes room for `count` bytes, where there is less. What stands in the room stays.
     pub(crate) fn make_room(&mut self, count: usize) -> Result<(), AllocError>
         ensures room { IfOk result (λ _. count ≤ length self.new) }
         ensures stays { (k : ℕ) → k ≤ length self.old → take k self.new ≡ take k self.old }
@@ -45,7 +45,7 @@ impl Window {
         }
     }
 
-    // The first bytes, so many.
+    // The first bytes, as many as `count` says.
     pub(crate) fn front(&self, count: usize) -> &[u8]
         requires { count ≤ length self.now }
         ensures { result.now ≡ take count self.now }

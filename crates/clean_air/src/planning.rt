@@ -44,7 +44,7 @@ pub fn plan_granted(
     told_plan(recording, entry, granted)
 }
 
-// `plan_granted` without its promise on clean recordings, which follows from this clause there.
+// `plan_granted` without its promise on clean recordings, which follows from this clause in `plan_granted`.
 fn told_plan(recording: &Recording, entry: &Entry, granted: Option<(Cfi, Grant)>) -> Option<Cell>
     requires listed { IsInList recording.now entry.now }
     requires granted { IsGrantOf recording.now entry.now granted }

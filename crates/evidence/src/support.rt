@@ -210,7 +210,7 @@ fn two_channels(
     Ok(list)
 }
 
-// Values two by two.
+// Soft values two by two, one pair for each resource element.
 fn pairs(alloc: Global, values: &[i16]) -> Result<Vec<SoftPair>, AllocError>
     requires { AllWithin 127 values.now }
     ensures { IfOk result (λ list. list.items ≡ pairs_of values.now) }
@@ -222,7 +222,7 @@ fn pairs(alloc: Global, values: &[i16]) -> Result<Vec<SoftPair>, AllocError>
     Ok(list)
 }
 
-// Two of them.
+// The soft values of resource element i.
 fn pair_of(values: &[i16], i: usize) -> SoftPair
     requires sizes { AllWithin 127 values.now }
     requires inside { 2 * i + 1 < length values.now }

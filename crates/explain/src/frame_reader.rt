@@ -27,7 +27,7 @@ pub trait FrameReader {
         ensures values { result ≡ receiver.broadcast recording.now place j }
         ensures length { length result ≡ receiver.size };
 
-    /// Whether a master block with so many antenna ports is taken.
+    /// Whether a master block with this count of antenna ports is taken.
     fn takes_ports(&self, ports: u8) -> bool
         ensures { result ≡ receiver.takes ports };
 

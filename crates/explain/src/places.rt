@@ -41,7 +41,7 @@ impl Places {
         self.met.clear();
     }
 
-    /// Whether the place is one of them.
+    /// Whether the place is one of those that were met.
     pub fn has(&self, place: &CellPlace) -> bool
         ensures { result ≡ is_met self.now place.now }
     {

@@ -105,7 +105,7 @@ group_count cfi duration resource = 12 + 18 * cfi - 4 - phich_inside cfi duratio
 abbrev pub element_count : ℕ → Duration → Resource → ℕ
 element_count cfi duration resource = group_count cfi duration resource / 9
 
--- the quadruplet that group r of so many carries: their numbers are interleaved as the bits of a
--- stream are (TS 36.212 section 5.1.4.2.1), and shifted by the identity
+-- the quadruplet that group r of a count of groups carries: their numbers are interleaved as the bits of a stream are
+-- (TS 36.212 section 5.1.4.2.1), and shifted by the identity
 unfoldable pub quadruplet_at : ℕ → ℕ → ℕ → ℕ
 quadruplet_at identity count r = slice_index_or (stream_order count) ((r + identity) % count) 0

@@ -5,8 +5,8 @@ use Rattle.grid_map.specs.declared.Reg.{Reg}
 use Rattle.grid_map.specs.Place.{place, index_in}
 use Rattle.grid_map.specs.Group.{group, is_group}
 
--- the places of a list are so many, each stands in it once, and they and their numbers determine each
--- other
+-- the places of a list are as many as the count says, each stands in it once, and they and their numbers determine
+-- each other
 pub record IsIndexed (count : ℕ) (places : List Place) : Type 0 where
   pub size : length places ≡ count
   pub once : (i j : ℕ) → i < count → j < count →

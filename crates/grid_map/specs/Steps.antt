@@ -8,8 +8,8 @@ use Rattle.grid_map.specs.Shared.{is_synchronisation}
 abbrev pub has_references : ℕ → Bool
 has_references symbol = nat_eq symbol 0 || nat_eq symbol 4 || nat_eq symbol 7 || nat_eq symbol 11
 
--- how many places of so many blocks a symbol after the control region has for the channel, with two antenna
--- ports or one
+-- how many places of a count of blocks a symbol after the control region has for the channel, with two antenna ports
+-- or one
 abbrev pub room : Bool → ℕ → ℕ → ℕ
 room two symbol blocks =
     if is_synchronisation symbol then 0

@@ -54,7 +54,7 @@ pub(crate) fn certify_recording<S: Source, K: Sink>(
     }
 }
 
-// Takes all that memory.
+// Takes all memory that a list and its certificates need.
 fn rooms_of(alloc: Global) -> Result<Rooms, AllocError> {
     let (search, list) = room_for_list(alloc)?;
     let work = CertificateWork::new(alloc)?;

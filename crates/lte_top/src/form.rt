@@ -80,9 +80,9 @@ pub enum Output {
 /// How a recording is turned.
 #[derive(Clone, Copy, PartialEq, Eq)]
 pub enum Turn {
-    /// `apply`: by what is told of it, so that its frequency offset is taken off.
+    /// `apply`: the recording is turned by what is told of it, so that its frequency offset is taken off.
     AsTold,
-    /// `apply M`: its mean is taken off, and it is turned by so many steps of 117.1875 Hz, -2,048 to 2,047.
+    /// `apply M`: the recording's mean is taken off, and it is turned by M steps of 117.1875 Hz, -2,048 to 2,047.
     Steps(i16),
 }
 

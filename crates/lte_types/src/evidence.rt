@@ -7,13 +7,13 @@ use crate::{CellId, Sfn};
 pub struct Evidence {
     /// The identity of the entry's cell.
     pub id: CellId,
-    /// The sample at which its first frame starts.
+    /// The sample at which the cell's first frame starts.
     pub start: u32,
-    /// The frame number of that frame.
+    /// The frame number of the cell's first frame.
     pub sfn: Sfn,
-    /// The least place of a hit that tells this identity and start: 137 to 19,336.
+    /// The least place of a hit that tells the identity and the start of the entry: 137 to 19,336.
     pub t: u32,
-    /// How much of the energy there the primary signal explains, in thousandths: 250 to 1,000.
+    /// How much of the energy at the hit the primary signal explains, in thousandths: 250 to 1,000.
     pub peak: u16,
     /// The cost of the master block's word.
     pub cost: u32,
@@ -25,10 +25,11 @@ pub struct Evidence {
     pub frame: u8,
     /// The frame number of the first of the frames, modulo 4.
     pub phase: u8,
-    /// The sum of the squares of the sizes of what was seen at the 24 reference places of that frame's slot with the
-    /// broadcast channel.
+    /// The sum of the squares of the sizes of what was seen at the 24 reference places of the slot with the broadcast
+    /// channel in the first of the frames.
     pub power: u64,
-    /// How much the 24 pilots of that slot differ from one to the next: the sum of the squares of the sizes of the 23
-    /// differences, divided by twice the square of a reference value's size, 16,200, and rounded down.
+    /// How much the 24 pilots of the slot with the broadcast channel differ from one to the next: the sum of the
+    /// squares of the sizes of the 23 differences, divided by twice the square of a reference value's size, 16,200,
+    /// and rounded down.
     pub noise: u64,
 }

@@ -35,7 +35,7 @@ impl Sfn {
         }
     }
 
-    /// The number of a frame that is so many frames after one numbered 0: the count modulo 1,024.
+    /// The number of the frame that is `count` frames after one numbered 0: the count modulo 1,024.
     pub fn modulo(count: u64) -> Self
         ensures { result ≡ count % 1024 }
     {

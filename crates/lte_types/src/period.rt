@@ -51,7 +51,7 @@ impl Period {
         }
     }
 
-    /// The period of so many frames; `None` exactly where none has so many.
+    /// The period with this number of frames; `None` exactly where none has it.
     pub fn of_frames(frames: u16) -> Option<Self>
         ensures value { result ≡ period_of frames }
         ensures back { IfSome result (λ p. period_frames p ≡ frames) }

@@ -9,11 +9,11 @@ use std::fmt;
 /// Why SystemInformationBlockType1 of a cell was not read. (own)
 #[derive(Clone, Copy, PartialEq, Eq)]
 pub enum Sib1Reason {
-    /// The cell has so many antenna ports: 2 or 4.
+    /// The cell has this count of antenna ports: 2 or 4.
     NotOnePort(u8),
     /// The carrier has another width than 6 resource blocks.
     Bandwidth(Bandwidth),
-    /// The control region has only so many control channel elements, too few for a candidate.
+    /// The control region has too few control channel elements for a candidate, and this is their count.
     NoSearchSpace(u8),
     /// No control information passed its check.
     NoControl,

@@ -13,9 +13,9 @@ const FRAME: u32 = FRAME_LENGTH as u32;
 /// Where in the endless sequence of a cell's frames a recording begins. (own)
 #[derive(Clone, Copy, PartialEq, Eq)]
 pub struct Timing {
-    /// The number of the frame in which it begins.
+    /// The number of the frame in which the recording begins.
     pub sfn: Sfn,
-    /// The sample of that frame at which it begins, 0 to 19,199.
+    /// The sample of its frame at which the recording begins, 0 to 19,199.
     pub offset: u32,
     pub ghost offset_range: { IsOffset offset },
 }
@@ -57,7 +57,7 @@ impl Timing {
         (FRAME - self.offset) % FRAME
     }
 
-    /// The number of the frame that begins there.
+    /// The number of the first frame that begins in the recording.
     pub fn number_at_start(self) -> Sfn
         ensures { result ≡ number_at_start_of self.sfn self.offset }
     {

@@ -51,7 +51,7 @@ impl Window {
         }
     }
 
-    /// The window of so many milliseconds; `None` exactly where none has so many.
+    /// The window with this number of milliseconds; `None` exactly where none has it.
     pub fn of_milliseconds(milliseconds: u8) -> Option<Self>
         ensures value { result ≡ window_of milliseconds }
         ensures back { IfSome result (λ w. window_length w ≡ milliseconds) }

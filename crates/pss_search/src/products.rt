@@ -36,7 +36,7 @@ impl Stretch {
         Stretch { from: t, re, im }
     }
 
-    // Moves them on where they do not hold the 128 samples from place t on.
+    // Moves the stretch on where it does not hold the 128 samples from place t on.
     pub(crate) fn reach(&mut self, samples: &[Sample], t: usize)
         requires room { t + 256 ≤ length samples.now }
         requires held { IsStretchOf samples.now self.old }

@@ -63,7 +63,7 @@ fn put_cell(
     put(members, alloc, "ports", Value::from(entry.ports))
 }
 
-// Adds its master information block.
+// Adds the master information block of a cell.
 fn put_block(alloc: Global, mib: &Mib, members: &mut Map<String, Value>) -> Result<(), AllocError>
     ensures { OnOk result (members_view members.new.entries
         ≡ block_members mib.now (members_view members.old.entries)) }
@@ -153,7 +153,7 @@ fn put_access(
     put(members, alloc, "band", Value::from(sib1.band))
 }
 
-// Adds its schedule.
+// Adds the schedule of system information.
 fn put_schedule(
     alloc: Global,
     sib1: &Sib1,

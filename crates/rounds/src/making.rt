@@ -56,7 +56,7 @@ fn list_of(
     Ok(list)
 }
 
-// The rounds on a recording with this power and list, at most so many, and whether one without an entry is the last.
+// The rounds on a recording with this power and list, at most `most`, and whether one without an entry is the last.
 // The workspace has how the entries of the list were read.
 fn rounds_on(
     alloc: Global,

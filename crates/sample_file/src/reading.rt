@@ -128,7 +128,7 @@ pub fn read_cu8<S: Source>(alloc: Global, source: &mut S) -> Result<Recording, F
     read_as(alloc, source, SampleForm::Cu8)
 }
 
-// How many bytes so many samples have, and those of one that is begun.
+// How many bytes a count of samples have, and those of one that is begun.
 fn bytes_read(form: SampleForm, samples: usize, begun: usize) -> usize
     requires samples { samples ≤ 2 ^ 40 }
     requires begun { begun ≤ 4 }

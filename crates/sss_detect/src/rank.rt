@@ -95,7 +95,7 @@ fn in_order(first: Choice, other: Choice) -> Ranking
     }
 }
 
-// The two best of those before a pair and of it.
+// The two best of the pairs before one and of this one.
 fn with_next(before: Ranking, next: Choice) -> Ranking
     ensures { result ≡ (if int_lt before.best.score next.score
         then record { best = next; second = before.best }

@@ -58,8 +58,8 @@ fn spoils(bytes: &[u8], p: usize) -> bool
     is_off_mark(bytes, p) || is_large_value(bytes, p)
 }
 
-/// The first place where the form of so many bytes is broken: only the mark and the values can break it, and
-/// an early end.
+/// The first place where the form of the first `count` bytes is broken: only the mark and the values can break it,
+/// and an early end.
 fn first_break(bytes: &[u8], count: usize) -> Option<usize>
     ensures some { IfSome result (λ p. IsFirstBreakUpTo count bytes.now p) }
     ensures none { IsNone result → IsUnbrokenUpTo count bytes.now }

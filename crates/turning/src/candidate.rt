@@ -25,7 +25,7 @@ pub struct Candidate {
     pub turn: i16,
     /// The count of hits at the coarse turn.
     pub hits: usize,
-    /// The greatest fraction of them.
+    /// The greatest fraction of a hit at the coarse turn.
     pub fraction: Fraction,
 }
 

@@ -145,7 +145,7 @@ fn repeat_sum(turned: &Turned, u: usize) -> Cpx
     sum
 }
 
-// What one of them gives.
+// What one of the nine samples of a prefix gives.
 fn repeat_term(turned: &Turned, u: usize, i: usize) -> Cpx
     requires first { 9 ≤ u }
     requires few { u < 170000 }
