@@ -11,8 +11,8 @@ use Rattle.explain.specs.Entries.{IsExplained}
 abbrev pub deciding_length : ℕ
 deciding_length = 17 * frame_length
 
--- a law: two recordings of at least 17 frames of samples, of which the first 17 frames are the same, have the same
--- list, so that a longer recording may be cut there
+-- a law: two recordings of at least 326,400 samples, the first 326,400 of one the same as those of the other, have
+-- one list, so that a longer recording may be cut there
 abbrev pub FirstFramesDecide : Type 0
 FirstFramesDecide =
     (first second : List Sample) (list : List Entry) → deciding_length ≤ length first →

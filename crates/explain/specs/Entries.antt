@@ -123,8 +123,7 @@ pub record IsListOf (entries list : List Entry) : Type 0 where
 abbrev pub Adds : List Entry → List Entry → List Entry → Type 0
 Adds entries old new = (before : List Entry) → IsListOf before old → IsListOf (before ++ entries) new
 
--- the list of hits, where `AreOf` says which entries each hit has: the entries of one hit come after those of the hit
--- before
+-- the list of the entries of hits, taken hit after hit, where `AreOf` says which entries each hit has
 pub record IsListOfHits (AreOf : Hit → List Entry → Type 0) (hits : List Hit) (list : List Entry) : Type 0 where
   pub groups : List (List Entry)
   pub each : AllZip AreOf hits groups

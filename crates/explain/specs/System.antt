@@ -22,7 +22,8 @@ use Rattle.explain.specs.Told.{Answering, Informing}
 abbrev pub even_frame : ℕ → ℕ → ℕ
 even_frame sfn i = sfn % 2 + 2 * i
 
--- frame i of even number is tried: it is one of the first eight of them, and lies within the recording
+-- number i of the frames of even number is tried: it is one of the first eight of these, and lies within the
+-- recording
 pub record IsTried (recording : List Sample) (start sfn i : ℕ) : Type 0 where
   pub among : i < 8
   pub whole : IsWhole recording start (even_frame sfn i)

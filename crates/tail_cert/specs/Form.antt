@@ -99,22 +99,22 @@ IsLargeValue bytes p = (4 ≤ p) × (p < 244) × (p % 2 ≡ 0) × (p + 2 ≤ len
 abbrev pub IsEarlyEnd : ℕ → List ℕ → ℕ → Type 0
 IsEarlyEnd count bytes p = (p ≡ length bytes) × (p < count)
 
--- the form of a count of bytes is broken here
+-- the form of a certificate's first bytes, as many as the count says, is broken at this place
 abbrev pub BreaksUpTo : ℕ → List ℕ → ℕ → Type 0
 BreaksUpTo count bytes p = IsOffMark bytes p ⊎ IsLargeValue bytes p ⊎ IsEarlyEnd count bytes p
 
--- the form of a whole certificate is broken here, and that of the bytes up to its set
+-- the form of a whole certificate is broken at this place, and that of the bytes up to its set
 abbrev pub Breaks : List ℕ → ℕ → Type 0
 Breaks bytes p = BreaksUpTo (count_of bytes) bytes p
 
 abbrev pub BreaksHead : List ℕ → ℕ → Type 0
 BreaksHead bytes p = BreaksUpTo head_count bytes p
 
--- nowhere is the form of a count of bytes broken
+-- the form of a certificate's first bytes, as many as the count says, is nowhere broken
 abbrev pub IsUnbrokenUpTo : ℕ → List ℕ → Type 0
 IsUnbrokenUpTo count bytes = (p : ℕ) → BreaksUpTo count bytes p → ⊥
 
--- the first place where the form of a count of bytes is broken
+-- the first place where the form of a certificate's first bytes, as many as the count says, is broken
 pub record IsFirstBreakUpTo (count : ℕ) (bytes : List ℕ) (p : ℕ) : Type 0 where
   pub here : BreaksUpTo count bytes p
   pub before : (q : ℕ) → q < p → BreaksUpTo count bytes q → ⊥

@@ -43,7 +43,7 @@ slot_sum recording start slot = complex_sum_below 7 (symbol_sum recording start 
 unfoldable pub prefix_sum : List Sample → ℕ → Cpx
 prefix_sum recording t = complex_sum_below 160 (slot_sum recording (half_start t))
 
--- how well such a sum fits a turn by m
+-- how well a sum of products fits a turn by m
 unfoldable pub fit : Cpx → ℤ → ℤ
 fit sum m = (times sum (conjugate (w_of m))).re
 
