@@ -56,7 +56,7 @@ fn schedule(period: Period) -> Schedule
     schedule
 }
 
-// The period of both.
+// The period of both entries of the schedule.
 fn period(n: u32) -> Period
     ensures { result ≡ period_with (n % 7) }
 {

@@ -117,7 +117,7 @@ fn numbers_of(value: &Value) -> Option<Numbers>
     })
 }
 
-// Whether SystemInformationBlockType1 is there and has its form.
+// Whether SystemInformationBlockType1 is at the key `sib1` and has the form of one.
 fn has_sib1(value: &Value) -> bool
     ensures { result ≡ has (codes "sib1") (object_of sib1_keys) (view value.now) }
 {

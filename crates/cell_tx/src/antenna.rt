@@ -36,7 +36,7 @@ impl Port {
     ghost use Rattle.cell_tx.specs.Ports.{carrier_of, port_symbols, port_block_bits, has_control, port_number};
     ghost use Rattle.cell_tx.specs.Ports.{is_two, port_mask};
 
-    /// The carrier that has it.
+    /// The carrier of the port.
     pub fn carrier(self) -> Carrier
         ensures { result ≡ carrier_of self }
     {

@@ -50,7 +50,7 @@ pub struct CellPlan {
 #[derive(Drop)]
 pub struct Cell {
     plan: CellPlan,
-    // The coded word of its transport block, made once.
+    // The coded word of the plan's transport block, made once.
     coded: Coded,
 }
 

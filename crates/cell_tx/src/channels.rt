@@ -68,7 +68,7 @@ fn broadcast_at(signals: &Signals, subframe: u8, here: Place) -> Option<Cpx>
     )
 }
 
-// What PCFICH carries there, which it does in every subframe.
+// What PCFICH carries at a place, which it does in every subframe.
 fn indicator_at(signals: &Signals, subframe: u8, here: Place) -> Option<Cpx>
     requires subframe { subframe < 10 }
     requires symbol { here.symbol < 14 }
@@ -79,7 +79,7 @@ fn indicator_at(signals: &Signals, subframe: u8, here: Place) -> Option<Cpx>
     value_at(signals.port, &signals.layout.indicator, points, here)
 }
 
-// What PDCCH carries there; none outside subframe 5 of even frames.
+// What PDCCH carries at a place; none outside subframe 5 of even frames.
 fn control_at(signals: &Signals, subframe: u8, here: Place) -> Option<Cpx>
     requires symbol { here.symbol < 14 }
     requires k { here.k < 72 }
@@ -92,7 +92,7 @@ fn control_at(signals: &Signals, subframe: u8, here: Place) -> Option<Cpx>
     value_at(signals.port, &signals.layout.control, points, here)
 }
 
-// What PDSCH carries there; none outside subframe 5 of even frames.
+// What PDSCH carries at a place; none outside subframe 5 of even frames.
 fn shared_at(signals: &Signals, subframe: u8, here: Place) -> Option<Cpx>
     requires symbol { here.symbol < 14 }
     requires k { here.k < 72 }

@@ -111,7 +111,7 @@ pub(crate) fn carried_of(cell: &Cell, sfn: Sfn) -> Carried
     }
 }
 
-/// What frames carry there by their redundancy versions.
+/// What PDCCH and PDSCH of a cell carry, by the redundancy versions of frames.
 pub(crate) fn versions_of(cell: &Cell) -> Versions
     ensures { AreVersions cell.now result }
 {

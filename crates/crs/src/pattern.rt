@@ -9,7 +9,7 @@ use lte_types::Carrier;
 /// What the reference signals of an antenna port with a cyclic prefix differ in (TS 36.211 section 6.10.1).
 #[derive(Clone, Copy, PartialEq, Eq)]
 pub struct Pattern {
-    /// The second symbol of a slot that has them: 4, and 3 with the extended prefix.
+    /// The second symbol of a slot that has reference signals: 4, and 3 with the extended prefix.
     pub later: u8,
     /// v in symbol 0: 0 for port 0 and 3 for port 1; in the later symbol v is 3 less it.
     pub shift: u8,

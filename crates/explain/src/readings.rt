@@ -7,10 +7,11 @@ use pbch::Sums;
 /// How an entry of a list was read. (own)
 #[derive(Clone, Copy)]
 pub struct Reading {
-    /// The first hit that tells the place of its cell.
+    /// The first hit that tells the place of the entry's cell.
     pub hit: Hit,
-    /// The sums that tell its master block.
+    /// The sums that tell the entry's master block.
     pub sums: Sums,
-    /// The control format indicator and the grant by which its system information was read; `None` where it has none.
+    /// The control format indicator and the grant by which system information was read; `None` where the entry has
+    /// none.
     pub granted: Option<(Cfi, Grant)>,
 }

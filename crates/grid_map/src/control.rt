@@ -40,7 +40,7 @@ fn pcfich_number(id: CellId, i: u16) -> Reg
     }
 }
 
-// Point i of its sixteen: four in each group.
+// Point i of the sixteen of the PCFICH: four in each group.
 fn pcfich_point(id: CellId, groups: &[Reg; 4], i: usize) -> Place
     requires groups { groups.now ≡ pcfich_groups id }
     requires inside { All (λ g. IsTrue (is_group g) × (g.symbol ≡ 0)) groups.now }

@@ -28,7 +28,7 @@ pub use shared::{block_places, pdsch, shared_count, shared_order, shared_place};
 /// A place of a subframe's grid: a resource element (TS 36.211 section 6.2.2).
 #[derive(Clone, Copy, PartialEq, Eq)]
 pub struct Place {
-    /// 0 to 13.
+    /// The symbol, 0 to 13.
     pub symbol: u8,
     /// The subcarrier, 0 to 71.
     pub k: u8,
@@ -37,9 +37,9 @@ pub struct Place {
 /// A resource-element group: four places of a symbol of the control region (TS 36.211 section 6.2.4).
 #[derive(Clone, Copy, Default, PartialEq, Eq)]
 pub struct Reg {
-    /// 0 to 3.
+    /// The symbol, 0 to 3.
     pub symbol: u8,
-    /// The first subcarrier that it spans: a multiple of 6 in symbol 0 and of 4 in symbols 1 to 3.
+    /// The first subcarrier that the group spans: a multiple of 6 in symbol 0 and of 4 in symbols 1 to 3.
     pub first: u8,
 }
 

@@ -63,7 +63,7 @@ impl CellId {
         self.value / 3
     }
 
-    /// The identity within its group, 0 to 2: the number modulo 3.
+    /// The identity within the group, 0 to 2: the number modulo 3.
     pub fn n2(self) -> u16
         ensures value { result ≡ self % 3 }
         ensures valid { result ≤ 2 }

@@ -26,7 +26,7 @@ impl Model for CellPlace {
 }
 
 impl CellPlace {
-    /// The place of these two; `None` exactly where the start is above 19,199.
+    /// The place with this identity and start; `None` exactly where the start is above 19,199.
     pub fn new(id: CellId, start: u32) -> Option<Self>
         ensures valid { IsSome result ↔ (start < frame_length) }
         ensures value { IfSome result (λ place. place ≡ record { id = id; start = start }) }

@@ -9,7 +9,7 @@ use crate::{Period, Sibs};
 pub struct SiMessage {
     /// si-Periodicity.
     pub period: Period,
-    /// The codes of its blocks: 0 to 15 within the first enumeration, 16 and more for an extension.
+    /// The codes of the blocks: 0 to 15 within the first enumeration, 16 and more for an extension.
     pub sibs: Sibs,
 }
 

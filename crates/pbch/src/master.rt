@@ -9,6 +9,6 @@ pub struct Master {
     pub ports: u8,
     /// The fields of the block.
     pub mib: Mib,
-    /// The cost of its word: the sum of the sizes of the values that speak against its coded bits.
+    /// The cost of the block's word: the sum of the sizes of the values that speak against its coded bits.
     pub cost: u32,
 }

@@ -68,7 +68,7 @@ fn stands_out(window: &Window, root: &Root, t: usize, own: Metric) -> bool
         && !is_ruled_out_at(window, root, t, own)
 }
 
-// Whether some place within 9 rules it out.
+// Whether some place within 9 of t rules t out.
 fn is_ruled_out_at(window: &Window, root: &Root, t: usize, own: Metric) -> bool
     requires decides { DecidesOn window.now t }
     requires metric { IsMetricOf window.now.recording root.now.n2 t own }

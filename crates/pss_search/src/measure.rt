@@ -200,7 +200,7 @@ fn energy_sum(samples: &[Sample], t: usize) -> u64
     sum
 }
 
-// What a sample gives to it.
+// What a sample gives to the energy of a place.
 fn energy_part(sample: Sample) -> u64
     ensures value { result ≡ square (value_of sample) }
     ensures small { result ≤ 2 ^ 31 }

@@ -32,7 +32,7 @@ fn entry_lines(alloc: Global, entry: &Entry) -> Result<String, AllocError>
     Ok(text)
 }
 
-// The lines on its system information.
+// The lines on the system information of a cell.
 fn system_lines(alloc: Global, entry: &Entry) -> Result<String, AllocError>
     ensures { IfOk result (λ text. string_bytes text ≡ system_lines_of entry.now.sib1) }
 {

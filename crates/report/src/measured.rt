@@ -116,7 +116,7 @@ fn put_hit(alloc: Global, hit: &Hit, members: &mut Map<String, Value>) -> Result
     put(members, alloc, "n2", Value::from(hit.n2))
 }
 
-// Adds what it tells of its cell.
+// Adds what a hit tells of its cell.
 fn put_identity(
     alloc: Global,
     found: &IdentifiedHit,
@@ -135,7 +135,7 @@ fn put_identity(
     put(members, alloc, "at", Value::from(found.start))
 }
 
-// Adds the numbers of its metric.
+// Adds the numbers of a hit's metric.
 fn put_metric(
     alloc: Global,
     peak: u64,

@@ -167,7 +167,7 @@ fn put_pilots(
     put(members, alloc, "noise", Value::from(told.noise))
 }
 
-// Adds what its slot shows.
+// Adds what the slot of an entry shows.
 fn put_slot(
     alloc: Global,
     channel: &[PortChannel],

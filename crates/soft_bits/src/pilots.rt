@@ -115,7 +115,7 @@ pub fn energy_of(seen: &Seen) -> u64
     sum
 }
 
-// What pilot i gives to it.
+// What pilot i gives to the energy of the pilots.
 fn energy_part(seen: &Seen, i: u8) -> u64
     requires { i < 24 }
     ensures value { result ≡ square (pattern_seen seen.now.pattern (slot_of seen.now) i) }

@@ -70,7 +70,7 @@ pub fn upper_energy_of(seen: &Seen, port: UpperPort) -> u64
     sum
 }
 
-// What pilot m gives to it.
+// What pilot m gives to the energy of the pilots.
 fn upper_energy_part(seen: &Seen, port: UpperPort, m: u8) -> u64
     requires { m < 12 }
     ensures value { result ≡ square (upper_seen port (slot_of seen.now) m) }

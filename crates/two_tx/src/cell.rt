@@ -47,7 +47,7 @@ impl Cell2 {
         self.cell.plan()
     }
 
-    // What sends it.
+    // The cell of `cell_tx` that sends the plan.
     pub(crate) fn cell(&self) -> &Cell
         ensures { result.now ≡ self.now }
     {
