@@ -26,6 +26,7 @@ LEANING = re.compile(
       | as[ ](?:above|before|there|here|it|they|that|those|to)
       | (?:in|on|at|to|from|for|as|without|beside)[ ](?:it|them|that|those|which|one|two)
       | (?:what|whether|where|which|when|how(?:[ ]\w+)?)[ ](?:it|they|that|those)
+      | (?:whether|where)[ ]\w+[ ](?:do|does)
       | in[ ]a[ ]recording (?= [:,] ) | which (?= [ ](?:is|are|has|have)\b ) | whose
       | \w+[ ]times (?= [.]? $ )
       | \w+s[ ](?:it|its|them|their)                          # what is done to such a thing: "adds its schedule"
@@ -35,7 +36,7 @@ LEANING = re.compile(
     re.X | re.I,
 )
 SAME = re.compile(r"(?:the same|as many|as much)\b(?!.* as )", re.I)
-HANGING = re.compile(r"[^,:;]*\b(?:do|does|so|likewise)[.]?$", re.I)
+HANGING = re.compile(r"(?!what\b)[^,:;]*\b(?:do|does|so|likewise)(?:[.]?$|[:;])", re.I)
 
 
 def comments_of(text):

@@ -81,7 +81,7 @@ fn is_led_through(parity: bool, before: &States, after: &States, x: usize) -> bo
     before[x] && is_hidden(false, parity, x, true) && after[next(x, true)]
 }
 
-/// Whether one does from any.
+/// Whether a step by a bit 1 that is not known leads from any state of the first set into the second.
 pub(crate) fn any_led_through(parity: bool, before: &States, after: &States) -> bool
     ensures { result ≡ any_below 8 (leads_through parity before.now after.now) }
 {

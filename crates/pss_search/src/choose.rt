@@ -82,7 +82,7 @@ fn is_ruled_out_at(window: &Window, root: &Root, t: usize, own: Metric) -> bool
     false
 }
 
-// Whether the place u does: it is above t, or stands before t and is level with it.
+// Whether the place u rules t out: it is above t, or stands before t and is level with it.
 #[tactic(auto, using(std::proofs::lemmas::Bool::Decides::nat_tests), unfolding(crate::specs::Tests::rules_out))]
 fn rules_out_at(window: &Window, root: &Root, t: usize, own: Metric, u: usize) -> bool
     requires first { 128 ≤ u }
