@@ -7,7 +7,7 @@ use crate::{number_of, put_number};
 use std::marker::Model;
 
 /// A word of N bits, N at most 64. Contracts see it as the list of its bits.
-#[derive(Clone, Copy, Drop, PartialEq, Eq)]
+#[derive(Clone, Copy, Debug, Drop, PartialEq, Eq)]
 pub struct Bits<const N: usize> {
     bits: [bool; N],
 }

@@ -9,7 +9,7 @@ use std::marker::Model;
 
 /// A whole complex number of size 1 to 28: the square of its size is 1 to 784. Contracts see it as
 /// that number.
-#[derive(Clone, Copy, PartialEq, Eq)]
+#[derive(Clone, Copy, Debug, PartialEq, Eq)]
 pub struct Gain {
     re: i16,
     im: i16,

@@ -12,14 +12,14 @@ pub use gain::Gain;
 use std::ops::{Add, Neg, Sub};
 
 /// A sample of a recording: a pair of 16-bit numbers.
-#[derive(Clone, Copy, PartialEq, Eq)]
+#[derive(Clone, Copy, Debug, PartialEq, Eq)]
 pub struct Sample {
     pub re: i16,
     pub im: i16,
 }
 
 /// A whole complex number.
-#[derive(Clone, Copy, PartialEq, Eq)]
+#[derive(Clone, Copy, Debug, PartialEq, Eq)]
 pub struct Cpx {
     pub re: i64,
     pub im: i64,
