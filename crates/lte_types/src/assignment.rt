@@ -9,7 +9,7 @@ use std::marker::Model;
 /// Where the shared channel stands that carries SystemInformationBlockType1: after a control region with an
 /// indicator of 2 or 3 (TS 36.212 section 5.3.4), on some of the six resource blocks, one after the other
 /// (TS 36.213 section 7.1.6.3). Contracts see it as the three numbers.
-#[derive(Drop)]
+#[derive(Debug, Drop)]
 pub struct Assignment {
     cfi: Cfi,
     start: u8,

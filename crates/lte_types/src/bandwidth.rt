@@ -5,7 +5,7 @@ ghost use Rattle.std.specs.Prelude.{◌≡◌, ◌≤◌, ◌<◌, Some, IfSome,
 use std::fmt;
 
 /// The downlink bandwidth in resource blocks (TS 36.331 section 6.2.2).
-#[derive(Clone, Copy, PartialEq, Eq)]
+#[derive(Clone, Copy, Debug, PartialEq, Eq)]
 pub enum Bandwidth {
     N6,
     N15,

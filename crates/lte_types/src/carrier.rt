@@ -6,7 +6,7 @@ ghost use Rattle.lte_types.specs.Carrier.{prefix_of, ports_of};
 use crate::Prefix;
 
 /// How a cell sends its broadcast channel: by how many antenna ports, and with which cyclic prefix.
-#[derive(Clone, Copy, PartialEq, Eq)]
+#[derive(Clone, Copy, Debug, PartialEq, Eq)]
 pub enum Carrier {
     /// One antenna port, and the normal cyclic prefix.
     OnePort,

@@ -3,7 +3,7 @@
 use crate::Plmns;
 
 /// cellAccessRelatedInfo of SystemInformationBlockType1 (TS 36.331 section 6.2.2); its fields are those of `Sib1`.
-#[derive(Drop)]
+#[derive(Debug, Drop)]
 pub struct CellAccessRelatedInfo {
     pub plmns: Plmns,
     pub tac: u16,

@@ -7,7 +7,7 @@ use std::marker::Model;
 
 /// A physical-layer cell identity, 0 to 503 (TS 36.211 section 6.11). Contracts see it as that
 /// number.
-#[derive(Clone, Copy, PartialEq, Eq)]
+#[derive(Clone, Copy, Debug, PartialEq, Eq)]
 pub struct CellId {
     value: u16,
 }

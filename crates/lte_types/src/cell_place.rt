@@ -9,7 +9,7 @@ use std::marker::Model;
 
 /// The place of a cell in a recording: its identity, and the sample at which its first frame starts, 0 to 19,199.
 /// Contracts see it as these two. (own)
-#[derive(Clone, Copy, PartialEq, Eq)]
+#[derive(Clone, Copy, Debug, PartialEq, Eq)]
 pub struct CellPlace {
     id: CellId,
     start: u32,

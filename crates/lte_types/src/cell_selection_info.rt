@@ -1,7 +1,7 @@
 //! The levels of a cell.
 
 /// cellSelectionInfo of SystemInformationBlockType1 (TS 36.331 section 6.2.2); its fields are those of `Sib1`.
-#[derive(Clone, Copy)]
+#[derive(Clone, Copy, Debug)]
 pub struct CellSelectionInfo {
     pub q_rx: i8,
     pub q_offset: Option<u8>,

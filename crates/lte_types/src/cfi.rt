@@ -5,7 +5,7 @@ ghost use Rattle.std.specs.Prelude.{◌≡◌, ℕ, ◌≤◌, IsSome, IfSome, �
 use std::marker::Model;
 
 /// A control format indicator, 1 to 3 (TS 36.212 section 5.3.4). Contracts see it as that number.
-#[derive(Clone, Copy, PartialEq, Eq)]
+#[derive(Clone, Copy, Debug, PartialEq, Eq)]
 pub struct Cfi {
     value: u8,
 }

@@ -5,7 +5,7 @@ ghost use Rattle.std.specs.Prelude.{◌≡◌, ◌≤◌, ◌<◌, Some, IfSome,
 use std::fmt;
 
 /// phich-Duration (TS 36.331 section 6.3.2, PHICH-Config).
-#[derive(Clone, Copy, PartialEq, Eq)]
+#[derive(Clone, Copy, Debug, PartialEq, Eq)]
 pub enum Duration {
     Normal,
     Extended,

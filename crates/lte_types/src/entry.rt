@@ -3,7 +3,7 @@
 use crate::{CellId, Mib, Sfn, Sib1, Sib1Reason};
 
 /// A cell as it was found, with its master block and system information. (own)
-#[derive(Drop)]
+#[derive(Debug, Drop)]
 pub struct Entry {
     /// The identity of the cell.
     pub id: CellId,

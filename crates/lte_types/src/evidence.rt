@@ -3,7 +3,7 @@
 use crate::{CellId, Sfn};
 
 /// What supports an entry of a list: which entry it is, and the numbers. (own)
-#[derive(Clone, Copy, PartialEq, Eq)]
+#[derive(Clone, Copy, Debug, PartialEq, Eq)]
 pub struct Evidence {
     /// The identity of the entry's cell.
     pub id: CellId,

@@ -7,7 +7,7 @@ use crate::Prefix;
 use std::marker::Model;
 
 /// A system frame number, 0 to 1023 (TS 36.331 section 6.2.2). Contracts see it as that number.
-#[derive(Clone, Copy, PartialEq, Eq)]
+#[derive(Clone, Copy, Debug, PartialEq, Eq)]
 pub struct Sfn {
     value: u16,
 }
@@ -55,7 +55,7 @@ impl Sfn {
 
 /// The half of a frame that holds a synchronisation signal: that of subframe 0 or of subframe 5
 /// (TS 36.211 section 6.11).
-#[derive(Clone, Copy, PartialEq, Eq)]
+#[derive(Clone, Copy, Debug, PartialEq, Eq)]
 pub enum Half {
     Zero,
     Five,

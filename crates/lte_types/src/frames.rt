@@ -9,7 +9,7 @@ use std::marker::Model;
 /// Frames of a cell that follow one another in one period of four, by which its master block is told (TS 36.331
 /// section 5.2.1.2): 1 to 4 of the cell's first eight. Contracts see them as their count, the number of the first of
 /// them, and its place in its period. (own)
-#[derive(Clone, Copy, PartialEq, Eq)]
+#[derive(Clone, Copy, Debug, PartialEq, Eq)]
 pub struct Frames {
     count: u8,
     first: u8,

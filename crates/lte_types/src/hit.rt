@@ -1,7 +1,7 @@
 //! A place where a primary synchronisation signal stands out.
 
 /// A place of a recording where the primary synchronisation signal of a root stands out. (own)
-#[derive(Clone, Copy, PartialEq, Eq)]
+#[derive(Clone, Copy, Debug, PartialEq, Eq)]
 pub struct Hit {
     /// The sample at which the useful part of the signal begins.
     pub t: u32,

@@ -5,7 +5,7 @@ ghost use Rattle.std.specs.Prelude.{◌≡◌, ◌≤◌, IsSome, IfSome, ◌↔
 use crate::{Bandwidth, Duration, Resource};
 
 /// A master information block (TS 36.331 section 6.2.2).
-#[derive(Clone, Copy, PartialEq, Eq)]
+#[derive(Clone, Copy, Debug, PartialEq, Eq)]
 pub struct Mib {
     /// dl-Bandwidth.
     pub bandwidth: Bandwidth,

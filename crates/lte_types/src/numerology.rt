@@ -26,7 +26,7 @@ pub const LEAST_SAMPLES: usize = 57_600;
 pub const MOST_SAMPLES: usize = 1_920_000;
 
 /// A cyclic prefix, in samples: before the first symbol of a slot, and before each later one.
-#[derive(Clone, Copy, PartialEq, Eq)]
+#[derive(Clone, Copy, Debug, PartialEq, Eq)]
 pub struct Prefix {
     pub first: u16,
     pub other: u16,

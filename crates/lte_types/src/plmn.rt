@@ -3,7 +3,7 @@
 use crate::Mnc;
 
 /// An entry of plmn-IdentityList (TS 36.331 section 6.2.2).
-#[derive(Clone, Copy, PartialEq, Eq)]
+#[derive(Clone, Copy, Debug, PartialEq, Eq)]
 pub struct Plmn {
     /// The digits of the mobile country code, each 0 to 9; where there is none, the code of the
     /// entry before holds.

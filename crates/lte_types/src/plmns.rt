@@ -11,7 +11,7 @@ use arrayvec::ArrayVec;
 use std::marker::Model;
 
 /// At most 6 network identities (TS 36.331 section 6.2.2). Contracts see it as the list of them.
-#[derive(Drop)]
+#[derive(Debug, Drop)]
 pub struct Plmns {
     items: ArrayVec<Plmn, 6>,
 }

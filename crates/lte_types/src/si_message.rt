@@ -5,7 +5,7 @@ ghost use Rattle.std.specs.Prelude.{◌≡◌};
 use crate::{Period, Sibs};
 
 /// An entry of schedulingInfoList (TS 36.331 section 6.2.2).
-#[derive(PartialEq, Drop)]
+#[derive(Debug, PartialEq, Drop)]
 pub struct SiMessage {
     /// si-Periodicity.
     pub period: Period,

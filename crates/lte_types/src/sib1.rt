@@ -9,7 +9,7 @@ ghost use Rattle.lte_types.specs.Parts.{access_of, selection_of};
 use crate::{Mnc, Plmn, Plmns, Schedule, SiMessage, Sib1Reason, Window};
 
 /// SystemInformationBlockType1 (TS 36.331 section 6.2.2).
-#[derive(PartialEq, Drop)]
+#[derive(Debug, PartialEq, Drop)]
 pub struct Sib1 {
     /// 1 to 6 networks, the first with a country code.
     pub plmns: Plmns,

@@ -7,7 +7,7 @@ use crate::Bandwidth;
 use std::fmt;
 
 /// Why SystemInformationBlockType1 of a cell was not read. (own)
-#[derive(Clone, Copy, PartialEq, Eq)]
+#[derive(Clone, Copy, Debug, PartialEq, Eq)]
 pub enum Sib1Reason {
     /// The cell has this count of antenna ports: 2 or 4.
     NotOnePort(u8),

@@ -9,7 +9,7 @@ use arrayvec::ArrayVec;
 use std::marker::Model;
 
 /// The codes of at most 31 system information blocks (TS 36.331 section 6.2.2). Contracts see it as the list of them.
-#[derive(Drop)]
+#[derive(Debug, Drop)]
 pub struct Sibs {
     items: ArrayVec<u8, 31>,
 }

@@ -11,7 +11,7 @@ use crate::{FRAME_LENGTH, Sfn};
 const FRAME: u32 = FRAME_LENGTH as u32;
 
 /// Where in the endless sequence of a cell's frames a recording begins. (own)
-#[derive(Clone, Copy, PartialEq, Eq)]
+#[derive(Clone, Copy, Debug, PartialEq, Eq)]
 pub struct Timing {
     /// The number of the frame in which the recording begins.
     pub sfn: Sfn,
