@@ -49,7 +49,7 @@ pub use mib::Mib;
 pub use mnc::Mnc;
 pub use numerology::{
     CYCLE_LENGTH, FRAME_LENGTH, HALF_FRAME_LENGTH, LEAST_SAMPLES, MOST_SAMPLES, Prefix,
-    SLOT_LENGTH, USEFUL_LENGTH,
+    SLOT_LENGTH, USEFUL_LENGTH, lengths_are,
 };
 pub use period::Period;
 pub use plmn::Plmn;

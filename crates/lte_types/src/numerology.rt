@@ -2,6 +2,8 @@
 //! 4.1 and 6.12).
 
 ghost use Rattle.std.specs.Prelude.{◌≡◌, ◌^◌, ◌<◌};
+ghost use Rattle.lte_types.specs.Numerology.{frame_length, half_frame_length, slot_length, useful_length, cycle_length};
+ghost use Rattle.lte_types.specs.Numerology.{least_samples, most_samples, normal, extended};
 ghost use Rattle.lte_types.specs.Numerology.{symbol_step, symbol_of as symbol_in, useful_start as useful_start_of};
 
 /// The samples of a frame.
@@ -68,3 +70,16 @@ impl Prefix {
         i.saturating_sub(self.first.saturating_sub(self.other) as usize) / self.step()
     }
 }
+
+/// Law: the public lengths are these, and the two prefixes too.
+pub fn lengths_are()
+    ensures frame { FRAME_LENGTH ≡ frame_length }
+    ensures half_frame { HALF_FRAME_LENGTH ≡ half_frame_length }
+    ensures slot { SLOT_LENGTH ≡ slot_length }
+    ensures useful { USEFUL_LENGTH ≡ useful_length }
+    ensures cycle { CYCLE_LENGTH ≡ cycle_length }
+    ensures least { LEAST_SAMPLES ≡ least_samples }
+    ensures most { MOST_SAMPLES ≡ most_samples }
+    ensures normal { Prefix.NORMAL ≡ normal }
+    ensures extended { Prefix.EXTENDED ≡ extended }
+{}

@@ -1,5 +1,8 @@
 //! Identities of public land mobile networks.
 
+ghost use Rattle.std.specs.Prelude.{◌≡◌, None, [], ◌∷◌, false};
+ghost use Rattle.lte_types.specs.declared.mnc.Mnc.TheVariants.{Two};
+
 use crate::Mnc;
 
 /// An entry of plmn-IdentityList (TS 36.331 section 6.2.2).
@@ -14,9 +17,11 @@ pub struct Plmn {
     pub reserved: bool,
 }
 
-// What fills the unused places of a list.
+// What fills the unused places of a list: the code 00 without a country code, not reserved.
 impl Default for Plmn {
-    fn default() -> Plmn {
+    fn default() -> Plmn
+        ensures { result ≡ record { mcc = None; mnc = Two (0 ∷ 0 ∷ []); reserved = false } }
+    {
         Plmn {
             mcc: None,
             mnc: Mnc::Two([0, 0]),
