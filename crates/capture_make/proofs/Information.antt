@@ -10,10 +10,9 @@ use Rattle.uper.specs.Sheet.{append, Puts}
 use Rattle.uper.proofs.Putting.{puts_bind, puts_done, puts_none, puts_number, flag_puts, some_puts, none_puts}
 use Rattle.sib1.specs.Layout.{digit, plmn_identity_info, plmn_identity_list, csg_identity, q_rx_lev_min_offset, p_max, sib_type, scheduling_info, tdd_config, sib1}
 use Rattle.sib1.proofs.Written.{two_puts, plmn_puts, plmns_puts}
-use Rattle.sib1.proofs.Blocks.{sib_short, period_puts, window_puts, message_puts, schedule_puts, access_puts, selection_puts, sib1_puts}
+use Rattle.sib1.proofs.Blocks.{sib_short, message_puts, schedule_puts, access_puts, selection_puts, sib1_puts}
 use Rattle.lte_types.specs.declared.mnc.Mnc.TheVariants.{Two}
 use Rattle.lte_types.specs.declared.sib1.Sib1.{Sib1}
-use Rattle.lte_types.specs.Codes.{period, window}
 use Rattle.capture_make.specs.Recipe.{network, message, information}
 
 -- what was put: the bits so far
@@ -93,7 +92,7 @@ after_schedule code s =
     let a = more 5 0 (more 3 code (more 5 1 s)) in
     after_code 2 (after_code 0 (more 5 2 (more 3 code a)))
 
-schedule_put : (code : ℕ) (s : State) → code ≤ 6 → Puts (from_to 5 0 31) 1 s (more 5 1 s) × Puts (times 2 scheduling_info) (message (period code) [] ∷ message (period code) (0 ∷ 2 ∷ []) ∷ []) (more 5 1 s) (after_schedule code s)
+schedule_put : (code : ℕ) (s : State) → code ≤ 6 → Puts (from_to 5 0 31) 1 s (more 5 1 s) × Puts (times 2 scheduling_info) (message code [] ∷ message code (0 ∷ 2 ∷ []) ∷ []) (more 5 1 s) (after_schedule code s)
 unfolding times after_schedule
 schedule_put code s small =
     let first : State = more 5 1 s in
@@ -102,16 +101,16 @@ schedule_put code s small =
     let c : State = more 3 code b in
     let d : State = more 5 2 c in
     let e : State = after_code 2 (after_code 0 d) in
-    let one : Puts scheduling_info (message (period code) []) first b =
-    message_puts (message (period code) []) [] first a b b refl (period_puts code (period code) first a refl (number_put 3 0 6 code first (omega (arith, small)) (omega arith) small)) (number_put 5 0 31 0 a (omega arith) (omega arith) (omega arith)) (puts_none sib_type b) in
-    let two : Puts scheduling_info (message (period code) (0 ∷ 2 ∷ [])) b e =
-    message_puts (message (period code) (0 ∷ 2 ∷ [])) (0 ∷ 2 ∷ []) b c d e refl (period_puts code (period code) b c refl (number_put 3 0 6 code b (omega (arith, small)) (omega arith) small)) (number_put 5 0 31 2 c (omega arith) (omega arith) (omega arith)) (two_codes 0 2 d (omega arith) (omega arith)) in
-    let list = message (period code) [] ∷ message (period code) (0 ∷ 2 ∷ []) ∷ [] in (
+    let one : Puts scheduling_info (message code []) first b =
+    message_puts (message code []) [] first a b b refl (number_put 3 0 6 code first (omega (arith, small)) (omega arith) small) (number_put 5 0 31 0 a (omega arith) (omega arith) (omega arith)) (puts_none sib_type b) in
+    let two : Puts scheduling_info (message code (0 ∷ 2 ∷ [])) b e =
+    message_puts (message code (0 ∷ 2 ∷ [])) (0 ∷ 2 ∷ []) b c d e refl (number_put 3 0 6 code b (omega (arith, small)) (omega arith) small) (number_put 5 0 31 2 c (omega arith) (omega arith) (omega arith)) (two_codes 0 2 d (omega arith) (omega arith)) in
+    let list = message code [] ∷ message code (0 ∷ 2 ∷ []) ∷ [] in (
       number_put 5 0 31 1 s (omega arith) (omega arith) (omega arith),
-      puts_bind scheduling_info _ (message (period code) []) list first b e one
-          (puts_bind (times 1 scheduling_info) (λ others. done (message (period code) [] ∷ others)) (message (period code) (0 ∷ 2 ∷ []) ∷ []) list b e e
-          (puts_bind scheduling_info _ (message (period code) (0 ∷ 2 ∷ [])) (message (period code) (0 ∷ 2 ∷ []) ∷ []) b e e two
-          (puts_bind (times 0 scheduling_info) (λ others. done (message (period code) (0 ∷ 2 ∷ []) ∷ others)) [] (message (period code) (0 ∷ 2 ∷ []) ∷ []) e e e (puts_none scheduling_info e) (puts_done (message (period code) (0 ∷ 2 ∷ []) ∷ []) e)))
+      puts_bind scheduling_info _ (message code []) list first b e one
+          (puts_bind (times 1 scheduling_info) (λ others. done (message code [] ∷ others)) (message code (0 ∷ 2 ∷ []) ∷ []) list b e e
+          (puts_bind scheduling_info _ (message code (0 ∷ 2 ∷ [])) (message code (0 ∷ 2 ∷ []) ∷ []) b e e two
+          (puts_bind (times 0 scheduling_info) (λ others. done (message code (0 ∷ 2 ∷ []) ∷ others)) [] (message code (0 ∷ 2 ∷ []) ∷ []) e e e (puts_none scheduling_info e) (puts_done (message code (0 ∷ 2 ∷ []) ∷ []) e)))
           (puts_done list e)),
     )
 
@@ -157,7 +156,7 @@ all_put n =
     (number_put 6 0 63 (1 + n % 64 - 1) s7 (omega arith) (omega arith) (omega arith))
     (schedule_puts s.scheduling s9 (more 5 1 s9) s10 (omega arith) schedule.0 schedule.1)
     (none_puts tdd_config None s10 refl)
-    (window_puts (n % 7) (window (n % 7)) s10 s12 refl (number_put 3 0 6 (n % 7) s10 (omega arith) (omega arith) (omega arith))) (number_put 5 0 31 (n % 32) s12 (omega arith) (omega arith) (omega arith))
+    (number_put 3 0 6 (n % 7) s10 (omega arith) (omega arith) (omega arith)) (number_put 5 0 31 (n % 32) s12 (omega arith) (omega arith) (omega arith))
 
 -- so many bits were put
 bits_put : (n : ℕ) → option_map length (after_all n) ≡ Some 131

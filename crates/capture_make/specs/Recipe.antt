@@ -5,10 +5,9 @@ use Rattle.cs_num.specs.declared.Cpx.{Cpx}
 use Rattle.cs_num.specs.Complex.{nothing}
 use Rattle.lte_types.specs.declared.carrier.Carrier.{Carrier}
 use Rattle.lte_types.specs.declared.carrier.Carrier.TheVariants.{OnePort, TwoPorts, LongPrefix, FourPorts}
-use Rattle.lte_types.specs.Codes.{duration, period, resource, window}
+use Rattle.lte_types.specs.Codes.{duration, resource}
 use Rattle.lte_types.specs.Numerology.{frame_length}
 use Rattle.lte_types.specs.declared.mnc.Mnc.TheVariants.{Two as TwoDigits}
-use Rattle.lte_types.specs.declared.period.Period.{Period}
 use Rattle.lte_types.specs.declared.plmn.Plmn.{Plmn}
 use Rattle.lte_types.specs.declared.si_message.SiMessage.{SiMessage}
 use Rattle.lte_types.specs.declared.sib1.Sib1.{Sib1}
@@ -23,8 +22,8 @@ use Rattle.cell_tx.specs.Clean.{IsAllowedBy}
 abbrev pub network : Plmn
 network = record { mcc = Some (0 ∷ 0 ∷ 1 ∷ []); mnc = TwoDigits (0 ∷ 1 ∷ []); reserved = false }
 
--- an entry of the schedule, with its period and the codes of its blocks
-abbrev pub message : Period → List ℕ → SiMessage
+-- an entry of the schedule, with the code of its period and those of its blocks
+abbrev pub message : ℕ → List ℕ → SiMessage
 message period sibs = record { period = period; sibs = sibs }
 
 -- SystemInformationBlockType1 of cell number n, of 131 bits
@@ -41,9 +40,9 @@ information n = record {
   q_offset = None;
   p_max = None;
   band = 1 + n % 64;
-  scheduling = message (period (n % 7)) [] ∷ message (period (n % 7)) (0 ∷ 2 ∷ []) ∷ [];
+  scheduling = message (n % 7) [] ∷ message (n % 7) (0 ∷ 2 ∷ []) ∷ [];
   tdd = None;
-  window = window (n % 7);
+  window = n % 7;
   tag = n % 32;
   extended = false;
 }

@@ -3,8 +3,7 @@
 ghost use Rattle.std.specs.Prelude.{◌≡◌, ◌⊎◌, ◌≤◌, ◌%◌, [], ◌∷◌, pos, length, None};
 ghost use Rattle.lte_types.specs.declared.carrier.Carrier.TheVariants.{OnePort, TwoPorts, FourPorts};
 ghost use Rattle.cs_num.specs.Complex.{square};
-ghost use Rattle.lte_types.specs.Codes.{duration as duration_with, period as period_with};
-ghost use Rattle.lte_types.specs.Codes.{resource as resource_with, window as window_with};
+ghost use Rattle.lte_types.specs.Codes.{duration as duration_with, resource as resource_with};
 ghost use Rattle.cell_tx.specs.Clean.{IsCount};
 ghost use Rattle.cell_tx.specs.Plan.{refusal_of};
 ghost use Rattle.capture_make.specs.Recipe.{network, message as message_of, information as information_of};
@@ -14,8 +13,7 @@ ghost use Rattle.capture_make.specs.Recipe.{first_gain, second_gain, gain_of_fou
 use cell_tx::{Cell, CellPlan, Emission, PortOfFour};
 use cs_num::{Cpx, Gain};
 use lte_types::{
-    Carrier, Duration, Mnc, Period, Plmn, Plmns, Resource, Schedule, Sfn, SiMessage, Sib1, Sibs,
-    Timing, Window,
+    Carrier, Duration, Mnc, Plmn, Plmns, Resource, Schedule, Sfn, SiMessage, Sib1, Sibs, Timing,
 };
 
 // The samples of a frame.
@@ -35,7 +33,7 @@ fn networks() -> Plmns
 }
 
 // An entry of the schedule.
-fn message(period: Period, codes: &[u8]) -> SiMessage
+fn message(period: u8, codes: &[u8]) -> SiMessage
     requires { length codes.now ≤ 31 }
     ensures { result ≡ message_of period codes.now }
 {
@@ -47,33 +45,13 @@ fn message(period: Period, codes: &[u8]) -> SiMessage
 }
 
 // Two entries of the schedule: one without blocks, and one with types 3 and 5.
-fn schedule(period: Period) -> Schedule
+fn schedule(period: u8) -> Schedule
     ensures { result ≡ message_of period [] ∷ message_of period (0 ∷ 2 ∷ []) ∷ [] }
 {
     let mut schedule = Schedule::new();
     schedule.push(message(period, &[]));
     schedule.push(message(period, &[0, 2]));
     schedule
-}
-
-// The period of both entries of the schedule.
-fn period(n: u32) -> Period
-    ensures { result ≡ period_with (n % 7) }
-{
-    match Period::from_code((n % 7) as u8) {
-        Some(period) => period,
-        None => unreachable!(),
-    }
-}
-
-// The window of system information.
-fn window(n: u32) -> Window
-    ensures { result ≡ window_with (n % 7) }
-{
-    match Window::from_code((n % 7) as u8) {
-        Some(window) => window,
-        None => unreachable!(),
-    }
 }
 
 // The block of system information.
@@ -92,9 +70,9 @@ fn information(n: u32) -> Sib1
         q_offset: None,
         p_max: None,
         band: 1 + (n % 64) as u8,
-        scheduling: schedule(period(n)),
+        scheduling: schedule((n % 7) as u8),
         tdd: None,
-        window: window(n),
+        window: (n % 7) as u8,
         tag: (n % 32) as u8,
         extended: false,
     }

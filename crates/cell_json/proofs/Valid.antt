@@ -4,7 +4,9 @@ use Rattle.std.specs.Prelude.{codes, All, IfSome}
 use Rattle.std.proofs.lemmas.Int.{ints}
 use Rattle.std.proofs.lemmas.Bool.Decides.{nat_tests}
 use Rattle.std.proofs.lemmas.Option.{option_and_then_some, same_Some}
+use Rattle.std.specs.List.{position}
 use Rattle.std.proofs.lemmas.List.Elements.{All-nil, All-cons}
+use Rattle.std.proofs.lemmas.List.Quantifiers.{position-Some}
 use Rattle.serde_json.specs.Data.{Data, Items, no_items, item}
 use Rattle.serde_json.specs.Events.{items_len}
 use Rattle.serde_json.specs.Find.{get, as_null, as_str, as_bool, as_array}
@@ -15,7 +17,8 @@ use Rattle.lte_types.specs.declared.mnc.Mnc.TheVariants.{Two, Three}
 use Rattle.lte_types.specs.declared.plmn.Plmn.{Plmn}
 use Rattle.lte_types.specs.declared.si_message.SiMessage.{SiMessage}
 use Rattle.lte_types.specs.declared.sib1.Sib1.{Sib1}
-use Rattle.lte_types.specs.Ranges.{AreDigits, HasDigits, IsValidPlmn, FirstHasMcc, ArePlmns, IsValidMessage, AreMessages, IsGroup, IsLevel, IsLevelOffset, IsPower, IsAccess, IsSelection, IsValid}
+use Rattle.lte_types.specs.Ranges.{AreDigits, HasDigits, IsValidPlmn, FirstHasMcc, ArePlmns, IsValidMessage, AreMessages, IsGroup, IsLevel, IsLevelOffset, IsPower, IsPeriod, IsWindow, IsAccess, IsSelection, IsValid}
+use Rattle.lte_types.specs.Codes.{periods, period_of, windows, window_of}
 use Rattle.cell_json.specs.Kinds.{given, whole_of, is_between, whole_within, natural_within, null_or, each, items_within, list_within, at_key}
 use Rattle.cell_json.specs.Information.{digit_of, two_digits, three_digits, mcc_of, mnc_in, mnc_of, network_of, first_has_mcc, networks_of, period_in, window_in, message_of, access_in, selection_in, sib1_in}
 
@@ -145,12 +148,22 @@ networks json plmns e = option_and_then_some _ (list_within 1 6 network_of json)
 
 -- ---- the schedule
 
+-- the code of a listed number is less than how many are listed
+code_fits : (values : List ℕ) (n code : ℕ) → length values ≡ 7 → position (nat_eq n) values ≡ Some code → code ≤ 6
+code_fits values n code count is = let (below, there, first) = position-Some (nat_eq n) values code 0 is in omega (arith, below, count)
+
+period_codes : (json : Data) (code : ℕ) → period_in json ≡ Some code → IsPeriod code
+period_codes json code e = option_and_then_some period_of (natural_within 8 512 json) code e (λ frames is h. code_fits periods frames code refl h)
+
+window_codes : (json : Data) (code : ℕ) → window_in json ≡ Some code → IsWindow code
+window_codes json code e = option_and_then_some window_of (natural_within 1 40 json) code e (λ milliseconds is h. code_fits windows milliseconds code refl h)
+
 messages : (json : Data) (message : SiMessage) → message_of json ≡ Some message → IsValidMessage message
 messages json message e = option_and_then_some _ (at_key period_in (codes "period") json) message e (λ period is e2.
     option_and_then_some _ (at_key (list_within 0 31 (natural_within 0 79)) (codes "sibs") json) message e2 (λ sibs are e3.
     let all = at (IsListOf (λ n. (0 ≤ n) × (n ≤ 79)) 0 31) (list_within 0 31 (natural_within 0 79))
     (lists (λ n. (0 ≤ n) × (n ≤ 79)) (natural_within 0 79) (naturals 0 79) 0 31) (codes "sibs") json sibs are in
-    subst IsValidMessage (same_Some _ message e3) (λ k d h. (all.all k d h).1)))
+    subst IsValidMessage (same_Some _ message e3) (record { period = at IsPeriod period_in period_codes (codes "period") json period is; sibs = λ k d h. (all.all k d h).1 })))
 
 entries : (json : Data) (list : List SiMessage) → list_within 1 32 message_of json ≡ Some list → AreMessages list
 entries json list e = let is = lists IsValidMessage message_of messages 1 32 json list e in record { count = is.count; valid = is.all }
@@ -204,5 +217,6 @@ read_is_valid json s r = option_and_then_some _ (access_in json) s r (λ access 
       band = some_within 1 64 (codes "band") json band e4;
       messages = at AreMessages (list_within 1 32 message_of) entries (codes "scheduling") json scheduling e5;
       tdd = tt;
+      window = at IsWindow window_in window_codes (codes "window") json window e6;
       tag = (some_within 0 31 (codes "tag") json tag e7).1;
     }))))))))

@@ -7,11 +7,9 @@ use Rattle.lte_types.specs.declared.cell_access_related_info.CellAccessRelatedIn
 use Rattle.lte_types.specs.declared.cell_selection_info.CellSelectionInfo.{CellSelectionInfo}
 use Rattle.lte_types.specs.declared.mnc.Mnc.{Mnc}
 use Rattle.lte_types.specs.declared.mnc.Mnc.TheVariants.{Two, Three}
-use Rattle.lte_types.specs.declared.period.Period.{Period}
 use Rattle.lte_types.specs.declared.plmn.Plmn.{Plmn}
 use Rattle.lte_types.specs.declared.si_message.SiMessage.{SiMessage}
 use Rattle.lte_types.specs.declared.sib1.Sib1.{Sib1}
-use Rattle.lte_types.specs.declared.window.Window.{Window}
 use Rattle.lte_types.specs.Codes.{period_of, window_of}
 use Rattle.lte_types.specs.Parts.{sib1_of}
 use Rattle.cell_json.specs.Kinds.{◌>>=◌, given, whole_within, natural_within, null_or, list_within, at_key}
@@ -67,19 +65,19 @@ networks_of json = do
 
 -- ---- the schedule
 
--- a period by its frames
-abbrev pub period_in : Data → Option Period
+-- the code of a period by its frames
+abbrev pub period_in : Data → Option ℕ
 period_in json = do
   frames ← natural_within 8 512 json
   period_of frames
 
--- a window by its milliseconds
-abbrev pub window_in : Data → Option Window
+-- the code of a window by its milliseconds
+abbrev pub window_in : Data → Option ℕ
 window_in json = do
   milliseconds ← natural_within 1 40 json
   window_of milliseconds
 
--- an entry: its period, and the codes of at most 31 blocks
+-- an entry: the code of its period, and those of at most 31 blocks
 abbrev pub message_of : Data → Option SiMessage
 message_of json = do
   period ← at_key period_in (codes "period") json

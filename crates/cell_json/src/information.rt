@@ -15,8 +15,8 @@ use crate::kinds::{
     items_within, natural_at, natural_or_null_at, natural_within, small_within, truth,
 };
 use lte_types::{
-    CellAccessRelatedInfo, CellSelectionInfo, Mnc, Period, Plmn, Plmns, Schedule, SiMessage, Sib1,
-    Sibs, Window,
+    CellAccessRelatedInfo, CellSelectionInfo, Mnc, Plmn, Plmns, Schedule, SiMessage, Sib1, Sibs,
+    period, window,
 };
 use serde_json::Value;
 
@@ -87,18 +87,18 @@ fn plmn_of(value: &Value) -> Option<Plmn>
     })
 }
 
-// A period by its frames.
-fn period_of(value: &Value) -> Option<Period>
+// The code of a period by its frames.
+fn period_of(value: &Value) -> Option<u8>
     ensures { result ≡ period_in (view value.now) }
 {
-    Period::of_frames(natural_within(value, 8, 512)? as u16)
+    period::code_of(natural_within(value, 8, 512)? as u16)
 }
 
-// A window by its milliseconds.
-fn window_of(value: &Value) -> Option<Window>
+// The code of a window by its milliseconds.
+fn window_of(value: &Value) -> Option<u8>
     ensures { result ≡ window_in (view value.now) }
 {
-    Window::of_milliseconds(natural_within(value, 1, 40)? as u8)
+    window::code_of(natural_within(value, 1, 40)? as u8)
 }
 
 // 1 to 6 identities of networks, of which the first has a country code.

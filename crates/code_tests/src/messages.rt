@@ -1,6 +1,6 @@
 ghost use Rattle.std.specs.Prelude.{◌≤◌};
 
-use lte_types::{Mnc, Period, Plmn, SiMessage, Sib1, Sib1Reason, Window};
+use lte_types::{Mnc, Plmn, SiMessage, Sib1, Sib1Reason};
 use sib1::{read, write};
 use std::test::Fail;
 use test_support::{message, plain_block};
@@ -107,7 +107,7 @@ fn five_further_networks_take_11_bits_each(rt: HostRuntime) {
 }
 
 // An entry with so many blocks of a code.
-fn repeated(period: Period, code: u8, count: u32) -> SiMessage {
+fn repeated(period: u8, code: u8, count: u32) -> SiMessage {
     let mut entry = message(period, &[]);
     for _ in 0..count {
         entry.sibs.push(code);
@@ -122,7 +122,7 @@ fn a_usual_block_has_163_bits(rt: HostRuntime) {
     for count in 1..4_u32 {
         fields
             .scheduling
-            .push(repeated(Period::Rf8, 0, (count + 1) / 2));
+            .push(repeated(0, 0, (count + 1) / 2));
     }
     assert!(rt; size_of(&fields) == Some(163));
 }
@@ -131,10 +131,10 @@ fn a_usual_block_has_163_bits(rt: HostRuntime) {
 fn a_text_of_more_than_1000_bits_is_not_written(rt: HostRuntime) {
     let mut fields = plain_block();
     for _ in 0..3_u32 {
-        fields.scheduling.push(repeated(Period::Rf512, 79, 31));
+        fields.scheduling.push(repeated(6, 79, 31));
     }
     assert!(rt; size_of(&fields) == Some(881));
-    fields.scheduling.push(repeated(Period::Rf512, 79, 14));
+    fields.scheduling.push(repeated(6, 79, 14));
     assert!(rt; size_of(&fields) == None);
 }
 
@@ -167,7 +167,7 @@ fn has_levels_of_full(fields: &Sib1) -> bool {
         && fields.p_max == Some(-30)
         && fields.band == 64
         && fields.tdd == Some((6, 8))
-        && fields.window == Window::Ms40
+        && fields.window == 6
         && fields.tag == 31
         && !fields.extended
 }
@@ -199,9 +199,9 @@ fn has_networks_of_full(fields: &Sib1) -> bool {
 fn has_entries_of_full(fields: &Sib1) -> bool {
     match fields.scheduling.slice() {
         [early, late] => {
-            early.period == Period::Rf16
+            early.period == 1
                 && early.sibs.slice() == [0_u8, 79].as_slice()
-                && late.period == Period::Rf512
+                && late.period == 6
                 && late.sibs.slice() == [15_u8, 16].as_slice()
         }
         _ => false,

@@ -11,7 +11,7 @@ use clean_air::{
 use cs_num::{Cpx, Sample, clamp_div};
 use dci::Grant;
 use explain::{EntryList, Workspace};
-use lte_types::{Bandwidth, CellId, Cfi, Duration, Mib, Period, Resource, Sfn, Sib1, Window};
+use lte_types::{Bandwidth, CellId, Cfi, Duration, Mib, Resource, Sfn, Sib1};
 use observe::symbol;
 use pdcch::candidate;
 use pdsch::{MOST_VALUES, values};
@@ -48,9 +48,9 @@ fn plan() -> CellPlan {
             cell: 0x0abcdef,
             q_rx: -61,
             band: 20,
-            window: Window::Ms20,
+            window: 5,
             tag: 9,
-            ..information(Period::Rf64)
+            ..information(3)
         },
     }
 }

@@ -1,6 +1,6 @@
 use lte_types::{
-    Assignment, Bandwidth, Carrier, CellId, Cfi, Duration, Mib, Mnc, Period, Plmn, Plmns, Prefix,
-    Resource, Schedule, Sfn, Sib1, Sib1Reason, Sibs, Window, same_answers,
+    Assignment, Bandwidth, Carrier, CellId, Cfi, Duration, Mib, Mnc, Plmn, Plmns, Prefix, Resource,
+    Schedule, Sfn, Sib1, Sib1Reason, Sibs, period, same_answers, window,
 };
 use std::process::Abort;
 use test_support::{message, plain_block};
@@ -104,9 +104,9 @@ fn lists_take_so_many_items(rt: HostRuntime) {
     assert!(rt; !plmns.push(network(None, 6)));
     let mut schedule = Schedule::new();
     for _ in 0..32_u8 {
-        assert!(rt; schedule.push(message(Period::Rf8, &[])));
+        assert!(rt; schedule.push(message(0, &[])));
     }
-    assert!(rt; !schedule.push(message(Period::Rf8, &[])) && schedule.slice().len() == 32);
+    assert!(rt; !schedule.push(message(0, &[])) && schedule.slice().len() == 32);
 }
 
 fn network(mcc: Option<[u8; 3]>, digit: u8) -> Plmn {
@@ -121,7 +121,7 @@ fn information(rt: &impl Abort, mcc: Option<[u8; 3]>, digit: u8, code: u8) -> Si
     let mut plmns = Plmns::new();
     assert!(rt; plmns.push(network(mcc, digit)));
     let mut scheduling = Schedule::new();
-    assert!(rt; scheduling.push(message(Period::Rf512, &[code])));
+    assert!(rt; scheduling.push(message(6, &[code])));
     Sib1 {
         plmns,
         tac: 65535,
@@ -132,7 +132,7 @@ fn information(rt: &impl Abort, mcc: Option<[u8; 3]>, digit: u8, code: u8) -> Si
         band: 64,
         scheduling,
         tdd: Some((6, 8)),
-        window: Window::Ms40,
+        window: 6,
         tag: 31,
         ..plain_block()
     }
@@ -156,35 +156,26 @@ fn fields_reach_to_the_ends_of_their_ranges(rt: HostRuntime) {
     let mut wide = information(&rt, mcc, 9, 79);
     wide.cell = 268_435_456;
     assert!(rt; !wide.valid());
+    let mut late = information(&rt, mcc, 9, 79);
+    late.window = 7;
+    assert!(rt; !late.valid());
+    let mut rare = information(&rt, mcc, 9, 79);
+    rare.scheduling.push(message(7, &[]));
+    assert!(rt; !rare.valid());
 }
 
-// Whether a window has this code, these milliseconds and this name, and each tells it.
+// Whether the window with this code has these milliseconds and this name, and they have this code.
 fn is_window(code: u8, milliseconds: u8, name: &str) -> bool {
-    match (
-        Window::from_code(code),
-        Window::of_milliseconds(milliseconds),
-    ) {
-        (Some(window), Some(other)) => {
-            window == other
-                && window.code() == code
-                && window.milliseconds() == milliseconds
-                && window.name() == name
-        }
-        _ => false,
-    }
+    window::milliseconds(code) == milliseconds
+        && window::name(code) == name
+        && window::code_of(milliseconds) == Some(code)
 }
 
-// Whether a period has this code, these frames and this name, and each tells it.
+// Whether the period with this code has these frames and this name, and they have this code.
 fn is_period(code: u8, frames: u16, name: &str) -> bool {
-    match (Period::from_code(code), Period::of_frames(frames)) {
-        (Some(period), Some(other)) => {
-            period == other
-                && period.code() == code
-                && period.frames() == frames
-                && period.name() == name
-        }
-        _ => false,
-    }
+    period::frames(code) == frames
+        && period::name(code) == name
+        && period::code_of(frames) == Some(code)
 }
 
 #[test]
@@ -200,8 +191,7 @@ fn windows_are_those_of_the_standard(rt: HostRuntime) {
     ] {
         assert!(rt; is_window(code, milliseconds, name));
     }
-    assert!(rt; Window::from_code(7).is_none());
-    assert!(rt; Window::of_milliseconds(30).is_none());
+    assert!(rt; window::code_of(30).is_none());
 }
 
 #[test]
@@ -217,8 +207,7 @@ fn periods_are_those_of_the_standard(rt: HostRuntime) {
     ] {
         assert!(rt; is_period(code, frames, name));
     }
-    assert!(rt; Period::from_code(7).is_none());
-    assert!(rt; Period::of_frames(6).is_none());
+    assert!(rt; period::code_of(6).is_none());
 }
 
 #[test]

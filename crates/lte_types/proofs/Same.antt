@@ -11,8 +11,7 @@ use Rattle.lte_types.specs.declared.plmn.Plmn.{Plmn}
 use Rattle.lte_types.specs.declared.si_message.SiMessage.{SiMessage}
 use Rattle.lte_types.specs.declared.sib1.Sib1.{Sib1}
 use Rattle.lte_types.specs.declared.sib1_reason.Sib1Reason.{Sib1Reason}
-use Rattle.lte_types.specs.declared.window.Window.{Window}
-use Rattle.lte_types.specs.Same.{same_plmn, same_message, same_window, same_fields, same_reason}
+use Rattle.lte_types.specs.Same.{same_plmn, same_message, same_fields, same_reason}
 
 not_same : false ≡ true → ⊥
 not_same e = absurd cc
@@ -34,9 +33,6 @@ plmns_decide a b = search (rules, tests)
 
 messages_decide : (a b : SiMessage) → Decides (same_message a b) (a ≡ b)
 messages_decide a b = search (rules, tests)
-
-windows_decide : (a b : Window) → Decides (same_window a b) (a ≡ b)
-windows_decide a b = search (rules, tests)
 
 reasons_decide : (a b : Sib1Reason) → Decides (same_reason a b) (a ≡ b)
 reasons_decide a b = search (rules, tests)
@@ -121,7 +117,7 @@ fields_decide a b =
     (Decides-and _ _ (unsigned_Decides a.band b.band)
     (Decides-and _ _ (pointwise_decides messages_decide a.scheduling b.scheduling)
     (Decides-and _ _ (options_decide _ pairs_decide a.tdd b.tdd)
-    (Decides-and _ _ (windows_decide a.window b.window)
+    (Decides-and _ _ (unsigned_Decides a.window b.window)
     (Decides-and _ _ (unsigned_Decides a.tag b.tag)
     (booleans_Decides a.extended b.extended))))))))))))))))
 

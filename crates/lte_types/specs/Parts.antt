@@ -4,7 +4,6 @@ use Rattle.lte_types.specs.declared.cell_access_related_info.CellAccessRelatedIn
 use Rattle.lte_types.specs.declared.cell_selection_info.CellSelectionInfo.{CellSelectionInfo}
 use Rattle.lte_types.specs.declared.si_message.SiMessage.{SiMessage}
 use Rattle.lte_types.specs.declared.sib1.Sib1.{Sib1}
-use Rattle.lte_types.specs.declared.window.Window.{Window}
 
 -- the part that says who may use the cell
 abbrev pub access_of : Sib1 → CellAccessRelatedInfo
@@ -25,7 +24,7 @@ selection_of sib1 = record { q_rx = sib1.q_rx; q_offset = sib1.q_offset }
 -- the block of its parts in their order: who may use the cell, the levels to choose it, p-Max, freqBandIndicator, the
 -- schedule, TDD-Config, the window, systemInfoValueTag, and whether there is an extension
 abbrev pub sib1_of :
-    CellAccessRelatedInfo → CellSelectionInfo → Option ℤ → ℕ → List SiMessage → Option (ℕ × ℕ) → Window → ℕ → Bool →
+    CellAccessRelatedInfo → CellSelectionInfo → Option ℤ → ℕ → List SiMessage → Option (ℕ × ℕ) → ℕ → ℕ → Bool →
     Sib1
 sib1_of access selection p_max band scheduling tdd window tag extended = record {
   plmns = access.plmns;

@@ -34,9 +34,14 @@ pub record ArePlmns (plmns : List Plmn) : Type 0 where
   pub valid : All IsValidPlmn plmns
   pub first_mcc : FirstHasMcc plmns
 
--- an entry of the schedule has blocks with valid codes
-abbrev pub IsValidMessage : SiMessage → Type 0
-IsValidMessage message = All (λ code. code ≤ 79) message.sibs
+-- si-Periodicity, by its code
+abbrev pub IsPeriod : ℕ → Type 0
+IsPeriod code = code ≤ 6
+
+-- an entry of the schedule: its period, and the codes of its blocks
+pub record IsValidMessage (message : SiMessage) : Type 0 where
+  pub period : IsPeriod message.period
+  pub sibs : All (λ code. code ≤ 79) message.sibs
 
 -- a schedule has 1 to 32 valid entries
 pub record AreMessages (messages : List SiMessage) : Type 0 where
@@ -67,7 +72,11 @@ IsBand band = (1 ≤ band) × (band ≤ 64)
 abbrev pub IsTddConfig : ℕ × ℕ → Type 0
 IsTddConfig config = (config.0 ≤ 6) × (config.1 ≤ 8)
 
--- the fields that say who may use the cell are in their ranges
+-- si-WindowLength, by its code
+abbrev pub IsWindow : ℕ → Type 0
+IsWindow code = code ≤ 6
+
+-- who may use the cell
 pub record IsAccess (access : CellAccessRelatedInfo) : Type 0 where
   pub plmns : ArePlmns access.plmns
   pub cell : access.cell < 2 ^ 28
@@ -86,4 +95,5 @@ pub record IsValid (sib1 : Sib1) : Type 0 where
   pub band : IsBand sib1.band
   pub messages : AreMessages sib1.scheduling
   pub tdd : IfSome sib1.tdd IsTddConfig
+  pub window : IsWindow sib1.window
   pub tag : sib1.tag ≤ 31

@@ -19,7 +19,7 @@ mod hit;
 mod mib;
 mod mnc;
 mod numerology;
-mod period;
+pub mod period;
 mod plmn;
 mod plmns;
 mod resource;
@@ -29,7 +29,7 @@ mod sib1;
 mod sib1_reason;
 mod sibs;
 mod timing;
-mod window;
+pub mod window;
 
 pub use assignment::Assignment;
 pub use bandwidth::Bandwidth;
@@ -51,7 +51,6 @@ pub use numerology::{
     CYCLE_LENGTH, FRAME_LENGTH, HALF_FRAME_LENGTH, LEAST_SAMPLES, MOST_SAMPLES, Prefix,
     SLOT_LENGTH, USEFUL_LENGTH, lengths_are,
 };
-pub use period::Period;
 pub use plmn::Plmn;
 pub use plmns::Plmns;
 pub use resource::Resource;
@@ -61,4 +60,3 @@ pub use sib1::{Sib1, same_answers};
 pub use sib1_reason::Sib1Reason;
 pub use sibs::Sibs;
 pub use timing::{Timing, timings_come_back};
-pub use window::Window;

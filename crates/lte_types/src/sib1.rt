@@ -3,12 +3,12 @@
 ghost use Rattle.std.specs.Prelude.{◌≡◌, ◌↔◌, All, IsTrue, IfSome};
 ghost use Rattle.lte_types.specs.Ranges.{AreDigits, IsValidPlmn, ArePlmns, IsValidMessage, AreMessages, IsGroup};
 ghost use Rattle.lte_types.specs.Ranges.{IsLevel, IsLevelOffset, IsPower, IsBand, IsTddConfig, IsAccess};
-ghost use Rattle.lte_types.specs.Ranges.{IsSelection, IsValid};
+ghost use Rattle.lte_types.specs.Ranges.{IsWindow, IsSelection, IsValid};
 ghost use Rattle.lte_types.specs.Parts.{access_of, selection_of};
 
-use crate::{Mnc, Plmn, Plmns, Schedule, SiMessage, Sib1Reason, Window};
+use crate::{Mnc, Plmn, Plmns, Schedule, SiMessage, Sib1Reason};
 
-/// SystemInformationBlockType1 (TS 36.331 section 6.2.2).
+/// SystemInformationBlockType1 (TS 36.331 section 6.2.2). Periods and windows are codes.
 #[derive(Debug, PartialEq, Drop)]
 pub struct Sib1 {
     /// 1 to 6 networks, the first with a country code.
@@ -37,8 +37,8 @@ pub struct Sib1 {
     pub scheduling: Schedule,
     /// subframeAssignment, 0 to 6, and specialSubframePatterns, 0 to 8.
     pub tdd: Option<(u8, u8)>,
-    /// si-WindowLength.
-    pub window: Window,
+    /// The code of si-WindowLength: 0 to 6 for 1 to 40 milliseconds.
+    pub window: u8,
     /// systemInfoValueTag, 0 to 31.
     pub tag: u8,
     /// nonCriticalExtension is present.
@@ -56,6 +56,7 @@ impl Sib1 {
             && band_fits(self.band)
             && messages_fit(&self.scheduling)
             && tdd_fits(self.tdd)
+            && window_fits(self.window)
             && self.tag <= 31
     }
 
@@ -108,6 +109,12 @@ fn band_fits(band: u8) -> bool
     1 <= band && band <= 64
 }
 
+fn window_fits(code: u8) -> bool
+    ensures { IsTrue result ↔ IsWindow code }
+{
+    code <= 6
+}
+
 fn are_digits(digits: &[u8]) -> bool
     ensures { IsTrue result ↔ AreDigits digits.now }
 {
@@ -140,7 +147,7 @@ fn plmns_fit(plmns: &Plmns) -> bool
 fn message_fits(message: &SiMessage) -> bool
     ensures { IsTrue result ↔ IsValidMessage message.now }
 {
-    message.sibs.slice().iter().all(|code| *code <= 79)
+    message.period <= 6 && message.sibs.slice().iter().all(|code| *code <= 79)
 }
 
 fn are_messages(messages: &[SiMessage]) -> bool

@@ -13,7 +13,7 @@ ghost use Rattle.report.specs.Json.{entry_value as entry_of, json_text};
 use crate::lines::mnc_word;
 use crate::values::{ToJson, list_text, list_value};
 use crate::words::digits_word;
-use lte_types::{Entry, Mib, Plmn, SiMessage, Sib1, Sib1Reason};
+use lte_types::{Entry, Mib, Plmn, SiMessage, Sib1, Sib1Reason, period, window};
 use serde_json::{Map, ToValue, Value, json, put};
 use std::alloc::{AllocError, Global};
 use std::fmt::Write;
@@ -168,7 +168,7 @@ fn put_schedule(
         members,
         alloc,
         "window",
-        Value::from(sib1.window.milliseconds()),
+        Value::from(window::milliseconds(sib1.window)),
     )?;
     put(members, alloc, "tag", Value::from(sib1.tag))?;
     let tdd = tdd_value(alloc, sib1.tdd)?;
@@ -203,7 +203,7 @@ impl ToJson for SiMessage {
 
     fn to_json(&self, alloc: Global) -> Result<Value, AllocError> {
         let sibs = list_value(alloc, self.sibs.slice())?;
-        json!(in alloc; {"period": self.period.frames(), "sibs": sibs})
+        json!(in alloc; {"period": period::frames(self.period), "sibs": sibs})
     }
 }
 

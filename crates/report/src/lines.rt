@@ -12,7 +12,7 @@ use crate::parts::{
     window_part,
 };
 use crate::words::{digits_word, either, mcc_or_dash, or_dash, sibs_word, tdd_or_dash};
-use lte_types::{Entry, Mib, Mnc, Plmn, SiMessage, Sib1, Sib1Reason};
+use lte_types::{Entry, Mib, Mnc, Plmn, SiMessage, Sib1, Sib1Reason, period, window};
 use std::alloc::{AllocError, Global};
 use std::fmt::Write;
 
@@ -96,7 +96,7 @@ fn levels_of_cell(alloc: Global, sib1: &Sib1) -> Result<String, AllocError>
 fn timing_of_cell(alloc: Global, sib1: &Sib1) -> Result<String, AllocError>
     ensures { IfOk result (λ part. string_bytes part ≡ window_part_of sib1.now) }
 {
-    let window = sib1.window.name();
+    let window = window::name(sib1.window);
     let tdd = tdd_or_dash(alloc, sib1.tdd)?;
     let extension = either(sib1.extended, "1", "0");
     window_part(alloc, window, sib1.tag, tdd.as_str(), extension)
@@ -135,7 +135,7 @@ fn message_line(alloc: Global, message: &SiMessage) -> Result<String, AllocError
     ensures { IfOk result (λ line. string_bytes line ≡ message_line_of message.now) }
 {
     let sibs = sibs_word(alloc, message.sibs.slice())?;
-    schedule_line(alloc, message.period.name(), sibs.as_str())
+    schedule_line(alloc, period::name(message.period), sibs.as_str())
 }
 
 fn message_lines(alloc: Global, messages: &[SiMessage]) -> Result<String, AllocError>

@@ -1,6 +1,6 @@
 use cell_json::{JsonError, read};
 use cell_tx::{CellError, CellPlan, Transmission};
-use lte_types::{Duration, Mnc, Period, Plmn, Resource, SiMessage, Sib1, Window};
+use lte_types::{Duration, Mnc, Plmn, Resource, SiMessage, Sib1};
 use std::alloc::{AllocError, Global};
 use std::test::Fail;
 use test_support::{PLAIN_KEYS, description, plain_block};
@@ -235,7 +235,7 @@ fn has_plain_assignment(plan: &CellPlan) -> bool {
 }
 
 // Whether an entry of the schedule has this period, and so many blocks.
-fn is_message(entry: &SiMessage, period: Period, count: usize) -> bool {
+fn is_message(entry: &SiMessage, period: u8, count: usize) -> bool {
     entry.period == period && entry.sibs.slice().len() == count
 }
 
@@ -307,14 +307,14 @@ fn has_ends_of_levels(sib1: &Sib1) -> bool {
         && sib1.q_offset == Some(8)
         && sib1.p_max == Some(33)
         && sib1.band == 64
-        && sib1.window == Window::Ms40
+        && sib1.window == 6
         && sib1.tag == 31
 }
 
 fn has_ends_of_the_schedule(sib1: &Sib1) -> bool {
     match sib1.scheduling.slice() {
-        [first, second] => is_message(first, Period::Rf512, 2)
-            && is_message(second, Period::Rf16, 0),
+        [first, second] => is_message(first, 6, 2)
+            && is_message(second, 1, 0),
         _ => false,
     }
 }

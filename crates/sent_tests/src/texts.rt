@@ -1,6 +1,5 @@
 use lte_types::{
-    Bandwidth, CellId, Duration, Entry, Half, Hit, Mib, Mnc, Period, Plmn, Resource, Sfn, Sib1,
-    Sib1Reason, Window,
+    Bandwidth, CellId, Duration, Entry, Half, Hit, Mib, Mnc, Plmn, Resource, Sfn, Sib1, Sib1Reason,
 };
 use report::{IdentifiedHit, json, text, text_of_answers, text_of_hits, text_of_ids};
 use std::alloc::{AllocError, Global};
@@ -68,7 +67,7 @@ fn scheduled_entry() -> Option<Entry> {
         tag: 7,
         ..plain_block()
     };
-    sib1.scheduling.push(message(Period::Rf8, &[0, 2]));
+    sib1.scheduling.push(message(0, &[0, 2]));
     entry_of(7, 19_193, 8, mib, Ok(sib1))
 }
 
@@ -95,7 +94,7 @@ fn full_entry() -> Option<Entry> {
         p_max: Some(-30),
         band: 64,
         tdd: Some((6, 8)),
-        window: Window::Ms40,
+        window: 6,
         tag: 31,
         extended: true,
         ..plain_block()
@@ -105,7 +104,7 @@ fn full_entry() -> Option<Entry> {
         mnc: Mnc::Three([2, 0, 9]),
         reserved: true,
     });
-    sib1.scheduling.push(message(Period::Rf512, &[79]));
+    sib1.scheduling.push(message(6, &[79]));
     entry_of(503, 19_199, 1023, mib, Ok(sib1))
 }
 
@@ -292,7 +291,7 @@ fn crowded_entry() -> Option<Entry> {
     let mib = Mib::new(Bandwidth::N6, Duration::Normal, Resource::One, 0, 0)?;
     let mut sib1 = plain_block();
     for _ in 0..31_u32 {
-        sib1.scheduling.push(message(Period::Rf64, &CODES));
+        sib1.scheduling.push(message(3, &CODES));
     }
     entry_of(0, 0, 0, mib, Ok(sib1))
 }

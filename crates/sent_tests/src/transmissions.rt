@@ -7,7 +7,7 @@ use cell_tx::{
 };
 use cs_num::{Gain, Sample};
 use lte_types::{
-    Duration, Mnc, Period, Plmn, Plmns, Resource, Schedule, Sfn, Sib1, Timing, Window,
+    Duration, Mnc, Plmn, Plmns, Resource, Schedule, Sfn, Sib1, Timing,
 };
 use std::test::Fail;
 use test_support::{message, plain_block, silent};
@@ -163,10 +163,10 @@ fn usual_block() -> Sib1 {
         reserved: false,
     });
     let mut scheduling = Schedule::new();
-    scheduling.push(message(Period::Rf8, &[]));
-    scheduling.push(message(Period::Rf16, &[0]));
-    scheduling.push(message(Period::Rf32, &[1]));
-    scheduling.push(message(Period::Rf64, &[2, 3]));
+    scheduling.push(message(0, &[]));
+    scheduling.push(message(1, &[0]));
+    scheduling.push(message(2, &[1]));
+    scheduling.push(message(3, &[2, 3]));
     Sib1 {
         plmns,
         tac: 0x1234,
@@ -175,7 +175,7 @@ fn usual_block() -> Sib1 {
         p_max: Some(23),
         band: 20,
         scheduling,
-        window: Window::Ms20,
+        window: 5,
         tag: 9,
         ..plain_block()
     }

@@ -2,11 +2,8 @@
 use Rattle.std.proofs.Common.{◌≡◌, ℕ, ◌+◌, ◌-◌, ◌≤◌, ℤ, pos, ◌-ℤ◌, Bool, true, false, not, List, length, Option, Some, None, refl, ap, ap₂, sym, subst, ◌∙◌, arith}
 use Rattle.std.specs.Prelude.{is_some, IfSome}
 use Rattle.lte_types.specs.declared.si_message.SiMessage.{SiMessage}
-use Rattle.lte_types.specs.declared.period.Period.{Period}
 use Rattle.lte_types.specs.declared.plmn.Plmn.{Plmn}
 use Rattle.lte_types.specs.declared.sib1.Sib1.{Sib1}
-use Rattle.lte_types.specs.declared.window.Window.{Window}
-use Rattle.lte_types.specs.Codes.{period, window}
 use Rattle.lte_types.specs.Ranges.{IsGroup, IsLevelOffset, IsTddConfig}
 use Rattle.uper.specs.Grammar.{done, from_to}
 use Rattle.lte_types.specs.declared.cell_access_related_info.CellAccessRelatedInfo.{CellAccessRelatedInfo}
@@ -35,14 +32,6 @@ sib_long code old a b new far p q r =
 pub sib_short : (code : ℕ) (old a new : State) → Puts flag false old a → Puts (from_to 4 0 15) code a new → Puts sib_type code old new
 unfolding sib_type
 sib_short code old a new p q = puts_bind flag _ false code old a new p q
-
-pub period_puts : (code : ℕ) (p : Period) (old new : State) → period code ≡ p → Puts (from_to 3 0 6) code old new → Puts si_periodicity p old new
-unfolding si_periodicity
-period_puts code p old new is put = puts_bind (from_to 3 0 6) _ code p old new new put (puts_same _ (period code) p new new is (puts_done (period code) new))
-
-pub window_puts : (code : ℕ) (w : Window) (old new : State) → window code ≡ w → Puts (from_to 3 0 6) code old new → Puts si_window_length w old new
-unfolding si_window_length
-window_puts code w old new is put = puts_bind (from_to 3 0 6) _ code w old new new put (puts_same _ (window code) w new new is (puts_done (window code) new))
 
 pub message_puts : (m : SiMessage) (codes : List ℕ) (old a b new : State) → codes ≡ m.sibs → Puts si_periodicity m.period old a → Puts (from_to 5 0 31) (length codes) a b → Puts (times (length codes) sib_type) codes b new → Puts scheduling_info m old new
 unfolding scheduling_info

@@ -10,7 +10,6 @@ use Rattle.lte_types.specs.declared.si_message.SiMessage.{SiMessage}
 use Rattle.lte_types.specs.declared.sib1.Sib1.{Sib1}
 use Rattle.lte_types.specs.declared.cell_access_related_info.CellAccessRelatedInfo.{CellAccessRelatedInfo}
 use Rattle.lte_types.specs.declared.cell_selection_info.CellSelectionInfo.{CellSelectionInfo}
-use Rattle.lte_types.proofs.RoundTrips.{same_period, same_window}
 use Rattle.uper.specs.Grammar.{Grammar, done, ◌>>=◌, from_to, flag, if_present, times}
 use Rattle.uper.proofs.Laws.{Holds, holds_done, holds_bind, within, present_is, length_is, Once, agree_done, agree_bind, once_bind, agree_same, agree_told, once_number, only, same_bit, once_flag, once_present, once_times}
 use Rattle.sib1.specs.Layout.{digit, mnc, plmn_identity_info, plmn_identity_list, csg_identity, cell_access_related_info, q_rx_lev_min_offset, cell_selection_info, p_max, sib_type, si_periodicity, scheduling_info, scheduling_info_list, tdd_config, si_window_length, sib1}
@@ -158,14 +157,10 @@ once_sib_type : Once sib_type
 unfolding sib_type
 once_sib_type = once_bind ⊤ flag type_of type_of once_flag (λ v w s r p q. agree_told type_of (leb 16) v w once_type_of extension_told)
 
-once_si_periodicity : Once si_periodicity
-unfolding si_periodicity
-once_si_periodicity = once_bind ⊤ (from_to 3 0 6) _ _ (once_number 3 0 6) (λ v w s r p q. agree_done _ _ _ (λ e. (tt, same_period v w (within 3 0 6 s v p).below (within 3 0 6 r w q).below e)))
-
 once_scheduling_info : Once scheduling_info
 unfolding scheduling_info
 once_scheduling_info =
-    once_bind ⊤ si_periodicity _ _ once_si_periodicity (λ v0 w0 s0 r0 p0 q0.
+    once_bind ⊤ si_periodicity _ _ (once_number 3 0 6) (λ v0 w0 s0 r0 p0 q0.
     once_bind _ (from_to 5 0 31) _ _ (once_number 5 0 31) (λ v1 w1 s1 r1 p1 q1.
     agree_bind _ (times v1 sib_type) (times w1 sib_type) _ _ (λ e. agree_same (λ n. times n sib_type) v1 w1 e.1 (λ n. once_times n sib_type once_sib_type)) (λ v2 w2 s2 r2 p2 q2.
     agree_done _ _ _ (λ e.
@@ -195,10 +190,6 @@ once_tdd_config =
     once_bind _ (from_to 4 0 8) _ _ (once_number 4 0 8) (λ v1 w1 s1 r1 p1 q1.
     agree_done _ _ _ (λ e. ((tt, ap (λ (y : ℕ × ℕ). y.0) e), ap (λ (y : ℕ × ℕ). y.1) e))))
 
-once_si_window_length : Once si_window_length
-unfolding si_window_length
-once_si_window_length = once_bind ⊤ (from_to 3 0 6) _ _ (once_number 3 0 6) (λ v w s r p q. agree_done _ _ _ (λ e. (tt, same_window v w (within 3 0 6 s v p).below (within 3 0 6 r w q).below e)))
-
 pub once_sib1 : Once sib1
 unfolding sib1
 once_sib1 =
@@ -213,7 +204,7 @@ once_sib1 =
     once_bind _ (from_to 6 0 63) _ _ (once_number 6 0 63) (λ v8 w8 s8 r8 p8 q8.
     once_bind _ scheduling_info_list _ _ once_scheduling_info_list (λ v9 w9 s9 r9 p9 q9.
     agree_bind _ (if_present v3 tdd_config) (if_present w3 tdd_config) _ _ (λ e. agree_same (λ b. if_present b tdd_config) v3 w3 e.0.0.0.0.0.0.1 (λ b. once_present b tdd_config once_tdd_config)) (λ v10 w10 s10 r10 p10 q10.
-    once_bind _ si_window_length _ _ once_si_window_length (λ v11 w11 s11 r11 p11 q11.
+    once_bind _ si_window_length _ _ (once_number 3 0 6) (λ v11 w11 s11 r11 p11 q11.
     once_bind _ (from_to 5 0 31) _ _ (once_number 5 0 31) (λ v12 w12 s12 r12 p12 q12.
     agree_done _ _ _ (λ e.
     let c1 : v0 ≡ w0 = sym (only 1 0 s0 v0 p0) ∙ only 1 0 r0 w0 q0 in

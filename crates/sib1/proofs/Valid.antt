@@ -110,7 +110,7 @@ message_holds : Holds scheduling_info IsValidMessage
 unfolding scheduling_info
 message_holds =
     holds_bind si_periodicity _ IsValidMessage (λ v0 s0 h0. holds_bind (from_to 5 0 31) _ IsValidMessage (λ v1 s1 h1. holds_bind (times v1 sib_type) _ IsValidMessage (λ v2 s2 h2.
-    holds_done _ IsValidMessage (all_hold v1 sib_type IsCode sib_holds s2 v2 h2))))
+    holds_done _ IsValidMessage (record { period = (within 3 0 6 s0 v0 h0).below; sibs = all_hold v1 sib_type IsCode sib_holds s2 v2 h2 }))))
 
 schedule_holds : Holds scheduling_info_list AreMessages
 unfolding scheduling_info_list
@@ -138,5 +138,6 @@ sib1_holds =
       band = (omega arith, omega (arith, band));
       messages = schedule_holds s9 v9 h9;
       tdd = present_holds v3 tdd_config IsTddConfig tdd_holds s10 v10 h10;
+      window = (within 3 0 6 s11 v11 h11).below;
       tag = (within 5 0 31 s12 v12 h12).below;
     }))))))))))))))

@@ -2,7 +2,6 @@
 use Rattle.std.proofs.Common.{◌≡◌, ℕ, ◌+◌, ℤ, Bool, List, Option, Ok}
 use Rattle.lte_types.specs.declared.si_message.SiMessage.{SiMessage}
 use Rattle.lte_types.specs.declared.sib1.Sib1.{Sib1}
-use Rattle.lte_types.specs.declared.window.Window.{Window}
 use Rattle.uper.specs.Cursor.{Cursor}
 use Rattle.uper.specs.Grammar.{from_to}
 use Rattle.uper.specs.Reading.{reading}
@@ -13,11 +12,11 @@ use Rattle.uper.specs.Grammar.{flag, if_present}
 use Rattle.sib1.specs.Layout.{cell_access_related_info, cell_selection_info, p_max, scheduling_info_list, tdd_config, si_window_length, sib1}
 use Rattle.uper.proofs.Steps.{reads_done}
 
-abbrev pub made : CellAccessRelatedInfo → CellSelectionInfo → Bool → Option ℤ → ℕ → List SiMessage → Option (ℕ × ℕ) → Window → ℕ → Sib1
+abbrev pub made : CellAccessRelatedInfo → CellSelectionInfo → Bool → Option ℤ → ℕ → List SiMessage → Option (ℕ × ℕ) → ℕ → ℕ → Sib1
 made acc sel extended power band scheduling tdd window tag =
     record { plmns = acc.plmns; tac = acc.tac; cell = acc.cell; barred = acc.barred; intra = acc.intra; csg = acc.csg; csg_identity = acc.csg_identity; q_rx = sel.q_rx; q_offset = sel.q_offset; p_max = power; band = band + 1; scheduling = scheduling; tdd = tdd; window = window; tag = tag; extended = extended }
 
-pub sib1_read : (s0 s1 s2 s3 s4 s5 s6 s7 s8 s9 s10 s11 s12 s13 : Cursor) (a : ℕ) (b : ℕ) (has_p_max : Bool) (has_tdd : Bool) (extended : Bool) (acc : CellAccessRelatedInfo) (sel : CellSelectionInfo) (power : Option ℤ) (band : ℕ) (scheduling : List SiMessage) (tdd : Option (ℕ × ℕ)) (window : Window) (tag : ℕ)
+pub sib1_read : (s0 s1 s2 s3 s4 s5 s6 s7 s8 s9 s10 s11 s12 s13 : Cursor) (a : ℕ) (b : ℕ) (has_p_max : Bool) (has_tdd : Bool) (extended : Bool) (acc : CellAccessRelatedInfo) (sel : CellSelectionInfo) (power : Option ℤ) (band : ℕ) (scheduling : List SiMessage) (tdd : Option (ℕ × ℕ)) (window : ℕ) (tag : ℕ)
     → reading (from_to 1 0 0) s0 ≡ Ok (a, s1)
     → reading (from_to 1 1 1) s1 ≡ Ok (b, s2)
     → reading (flag) s2 ≡ Ok (has_p_max, s3)

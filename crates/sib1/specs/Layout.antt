@@ -4,11 +4,8 @@ use Rattle.std.specs.Prelude.{ℕ, ◌+◌, pos, ℤ, ◌-ℤ◌, not, nat_eq, i
 use Rattle.lte_types.specs.declared.mnc.Mnc.{Mnc}
 use Rattle.lte_types.specs.declared.mnc.Mnc.TheVariants.{Two, Three}
 use Rattle.lte_types.specs.declared.plmn.Plmn.{Plmn}
-use Rattle.lte_types.specs.declared.period.Period.{Period}
 use Rattle.lte_types.specs.declared.si_message.SiMessage.{SiMessage}
 use Rattle.lte_types.specs.declared.sib1.Sib1.{Sib1}
-use Rattle.lte_types.specs.declared.window.Window.{Window}
-use Rattle.lte_types.specs.Codes.{period, window}
 use Rattle.lte_types.specs.Parts.{sib1_of}
 use Rattle.uper.specs.Grammar.{Grammar, done, ◌>>=◌, from_to, flag, if_present, times}
 use Rattle.lte_types.specs.declared.cell_access_related_info.CellAccessRelatedInfo.{CellAccessRelatedInfo}
@@ -107,10 +104,9 @@ sib_type = do
     n ← from_to 6 0 63
     done (n + 16)) else from_to 4 0 15
 
-unfoldable pub si_periodicity : Grammar Period
-si_periodicity = do
-  code ← from_to 3 0 6
-  done (period code)
+-- by its code
+abbrev pub si_periodicity : Grammar ℕ
+si_periodicity = from_to 3 0 6
 
 -- si-Periodicity and sib-MappingInfo
 unfoldable pub scheduling_info : Grammar SiMessage
@@ -134,12 +130,10 @@ tdd_config = do
   special_subframe_patterns ← from_to 4 0 8
   done (subframe_assignment, special_subframe_patterns)
 
--- ---- si-WindowLength
+-- ---- si-WindowLength, by its code
 
-unfoldable pub si_window_length : Grammar Window
-si_window_length = do
-  code ← from_to 3 0 6
-  done (window code)
+abbrev pub si_window_length : Grammar ℕ
+si_window_length = from_to 3 0 6
 
 -- ---- BCCH-DL-SCH-Message with SystemInformationBlockType1; nonCriticalExtension, where present, follows
 

@@ -1,12 +1,11 @@
 //! schedulingInfoList, read.
 
 ghost use Rattle.std.specs.Prelude.{◌≡◌, ◌≤◌};
-ghost use Rattle.lte_types.specs.Codes.{period as period_with};
 ghost use Rattle.uper.specs.Grammar.{times};
 ghost use Rattle.uper.specs.Reading.{Reads};
-ghost use Rattle.sib1.specs.Layout.{sib_type, si_periodicity, scheduling_info, scheduling_info_list};
+ghost use Rattle.sib1.specs.Layout.{sib_type, scheduling_info, scheduling_info_list};
 
-use lte_types::{Period, Schedule, SiMessage, Sibs};
+use lte_types::{Schedule, SiMessage, Sibs};
 use uper::Reader;
 
 fn read_sib_type(reader: &mut Reader<'_>) -> Result<u8, usize>
@@ -35,31 +34,16 @@ fn read_sib_types(reader: &mut Reader<'_>, count: u32) -> Result<Sibs, usize>
     Ok(list)
 }
 
-// si-Periodicity by its number.
-fn si_periodicity_of(number: u32) -> Period
-    requires { number ≤ 6 }
-    ensures { result ≡ period_with number }
-{
-    match Period::from_code(number as u8) {
-        Some(period) => period,
-        None => unreachable!(),
-    }
-}
-
-fn read_si_periodicity(reader: &mut Reader<'_>) -> Result<Period, usize>
-    ensures { Reads si_periodicity reader.old result reader.new }
-{
-    let code = reader.number(3, 0, 6)?;
-    Ok(si_periodicity_of(code))
-}
-
 fn read_scheduling_info(reader: &mut Reader<'_>) -> Result<SiMessage, usize>
     ensures { Reads scheduling_info reader.old result reader.new }
 {
-    let period = read_si_periodicity(reader)?;
+    let period = reader.number(3, 0, 6)?;
     let count = reader.number(5, 0, 31)?;
     let sibs = read_sib_types(reader, count)?;
-    Ok(SiMessage { period, sibs })
+    Ok(SiMessage {
+        period: period as u8,
+        sibs,
+    })
 }
 
 fn read_scheduling_infos(reader: &mut Reader<'_>, count: u32) -> Result<Schedule, usize>

@@ -1,16 +1,15 @@
 //! SystemInformationBlockType1, read.
 
 ghost use Rattle.std.specs.Prelude.{◌≡◌, ◌≤◌, pos, ◌-ℤ◌, length, true, false, IfOk};
-ghost use Rattle.lte_types.specs.Codes.{window as window_with};
 ghost use Rattle.lte_types.specs.Ranges.{IsValid};
 ghost use Rattle.uper.specs.Grammar.{if_present};
 ghost use Rattle.uper.specs.Reading.{Reads};
-ghost use Rattle.sib1.specs.Layout.{cell_access_related_info, csg_identity, q_rx_lev_min_offset, cell_selection_info, p_max, tdd_config, si_window_length, sib1};
+ghost use Rattle.sib1.specs.Layout.{cell_access_related_info, csg_identity, q_rx_lev_min_offset, cell_selection_info, p_max, tdd_config, sib1};
 ghost use Rattle.sib1.specs.Message.{IsSib1, Says};
 
 use crate::read_plmns::read_plmn_identity_list;
 use crate::read_schedule::read_scheduling_info_list;
-use lte_types::{CellAccessRelatedInfo, CellSelectionInfo, Sib1, Sib1Reason, Window};
+use lte_types::{CellAccessRelatedInfo, CellSelectionInfo, Sib1, Sib1Reason};
 use uper::Reader;
 
 fn read_csg_identity(reader: &mut Reader<'_>, present: bool) -> Result<Option<u32>, usize>
@@ -108,24 +107,6 @@ fn read_tdd_config(reader: &mut Reader<'_>, present: bool) -> Result<Option<(u8,
     }
 }
 
-// si-WindowLength by its number.
-fn si_window_length_of(number: u32) -> Window
-    requires { number ≤ 6 }
-    ensures { result ≡ window_with number }
-{
-    match Window::from_code(number as u8) {
-        Some(window) => window,
-        None => unreachable!(),
-    }
-}
-
-fn read_si_window_length(reader: &mut Reader<'_>) -> Result<Window, usize>
-    ensures { Reads si_window_length reader.old result reader.new }
-{
-    let code = reader.number(3, 0, 6)?;
-    Ok(si_window_length_of(code))
-}
-
 fn read_fields(reader: &mut Reader<'_>) -> Result<Sib1, usize>
     ensures { Reads sib1 reader.old result reader.new }
 {
@@ -140,7 +121,7 @@ fn read_fields(reader: &mut Reader<'_>) -> Result<Sib1, usize>
     let band = reader.number(6, 0, 63)?;
     let scheduling = read_scheduling_info_list(reader)?;
     let tdd = read_tdd_config(reader, has_tdd)?;
-    let window = read_si_window_length(reader)?;
+    let window = reader.number(3, 0, 6)?;
     let tag = reader.number(5, 0, 31)?;
     Ok(Sib1 {
         plmns: access.plmns,
@@ -156,7 +137,7 @@ fn read_fields(reader: &mut Reader<'_>) -> Result<Sib1, usize>
         band: band as u8 + 1,
         scheduling,
         tdd,
-        window,
+        window: window as u8,
         tag: tag as u8,
         extended,
     })

@@ -4,9 +4,9 @@ ghost use Rattle.std.specs.Prelude.{◌≤◌, All, length};
 ghost use Rattle.lte_types.specs.Ranges.{IsValidMessage, AreMessages};
 ghost use Rattle.uper.specs.Grammar.{times};
 ghost use Rattle.uper.specs.Sheet.{Puts};
-ghost use Rattle.sib1.specs.Layout.{sib_type, si_periodicity, scheduling_info, scheduling_info_list};
+ghost use Rattle.sib1.specs.Layout.{sib_type, scheduling_info, scheduling_info_list};
 
-use lte_types::{Period, SiMessage};
+use lte_types::SiMessage;
 use uper::Sheet;
 
 fn put_sib_type(sheet: &mut Sheet, code: u8)
@@ -32,17 +32,11 @@ fn put_sib_types(sheet: &mut Sheet, codes: &[u8])
     }
 }
 
-fn put_si_periodicity(sheet: &mut Sheet, period: Period)
-    ensures { Puts si_periodicity period sheet.old sheet.new }
-{
-    sheet.put(period.code() as u32, 3);
-}
-
 fn put_scheduling_info(sheet: &mut Sheet, item: &SiMessage)
     requires { IsValidMessage item.now }
     ensures { Puts scheduling_info item.now sheet.old sheet.new }
 {
-    put_si_periodicity(sheet, item.period);
+    sheet.put(item.period as u32, 3);
     let codes = item.sibs.slice();
     sheet.put(codes.len() as u32, 5);
     put_sib_types(sheet, codes);

@@ -4,13 +4,13 @@ ghost use Rattle.std.specs.Prelude.{◌≡◌, ◌≤◌, ◌<◌, ◌≤ℤ◌,
 ghost use Rattle.lte_types.specs.Ranges.{IsGroup, IsLevelOffset, IsPower, IsTddConfig, IsAccess, IsSelection, IsValid};
 ghost use Rattle.uper.specs.Grammar.{if_present};
 ghost use Rattle.uper.specs.Sheet.{Puts};
-ghost use Rattle.sib1.specs.Layout.{cell_access_related_info, csg_identity, q_rx_lev_min_offset, cell_selection_info, p_max, tdd_config, si_window_length, sib1};
+ghost use Rattle.sib1.specs.Layout.{cell_access_related_info, csg_identity, q_rx_lev_min_offset, cell_selection_info, p_max, tdd_config, sib1};
 ghost use Rattle.sib1.specs.Message.{Writes};
 ghost use Rattle.lte_types.specs.Parts.{access_of, selection_of};
 
 use crate::write_plmns::put_plmn_identity_list;
 use crate::write_schedule::put_scheduling_info_list;
-use lte_types::{Sib1, Window};
+use lte_types::Sib1;
 use uper::{Sheet, Writer};
 
 fn put_csg_identity(sheet: &mut Sheet, identity: Option<u32>)
@@ -93,12 +93,6 @@ fn put_tdd_config(sheet: &mut Sheet, value: Option<(u8, u8)>)
     }
 }
 
-fn put_si_window_length(sheet: &mut Sheet, window: Window)
-    ensures { Puts si_window_length window sheet.old sheet.new }
-{
-    sheet.put(window.code() as u32, 3);
-}
-
 fn put_fields(sheet: &mut Sheet, fields: &Sib1)
     requires { IsValid fields.now }
     ensures { Puts sib1 fields.now sheet.old sheet.new }
@@ -114,7 +108,7 @@ fn put_fields(sheet: &mut Sheet, fields: &Sib1)
     sheet.put(fields.band as u32 - 1, 6);
     put_scheduling_info_list(sheet, fields.scheduling.slice());
     put_tdd_config(sheet, fields.tdd);
-    put_si_window_length(sheet, fields.window);
+    sheet.put(fields.window as u32, 3);
     sheet.put(fields.tag as u32, 5);
 }
 

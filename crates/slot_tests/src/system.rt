@@ -3,7 +3,7 @@ ghost use Rattle.std.specs.Prelude.{◌≡◌};
 use crate::control::mib_of;
 use crate::seen::{SlotRows, subframe_of};
 use dci::Grant;
-use lte_types::{Duration, Resource, Sib1Reason, Window};
+use lte_types::{Duration, Resource, Sib1Reason};
 use soft_bits::Slot;
 use std::process::Abort;
 use std::test::Fail;
@@ -182,7 +182,7 @@ fn reads_plain_block(attempt: &Attempt) -> bool {
                 && fields.cell == 1
                 && fields.q_rx == -70
                 && fields.band == 1
-                && fields.window == Window::Ms1
+                && fields.window == 0
                 && fields.tag == 0
                 && fields.tdd == None
         }

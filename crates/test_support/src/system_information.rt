@@ -1,9 +1,9 @@
 //! System information that is sent.
 
-use lte_types::{Mnc, Period, Plmn, Plmns, Schedule, SiMessage, Sib1, Sibs, Window};
+use lte_types::{Mnc, Plmn, Plmns, Schedule, SiMessage, Sib1, Sibs};
 
 /// An entry of the schedule: blocks of these codes, with this period.
-pub fn message(period: Period, codes: &[u8]) -> SiMessage {
+pub fn message(period: u8, codes: &[u8]) -> SiMessage {
     let mut sibs = Sibs::new();
     for code in codes {
         sibs.push(*code);
@@ -12,7 +12,7 @@ pub fn message(period: Period, codes: &[u8]) -> SiMessage {
 }
 
 /// One network 001/01 without options, and one entry of the schedule, of this period and without blocks.
-pub fn information(period: Period) -> Sib1 {
+pub fn information(period: u8) -> Sib1 {
     let mut plmns = Plmns::new();
     plmns.push(Plmn {
         mcc: Some([0, 0, 1]),
@@ -35,7 +35,7 @@ pub fn information(period: Period) -> Sib1 {
         band: 1,
         scheduling,
         tdd: None,
-        window: Window::Ms1,
+        window: 0,
         tag: 0,
         extended: false,
     }
@@ -43,5 +43,5 @@ pub fn information(period: Period) -> Sib1 {
 
 /// The block of the plain cell, with a period of 8 frames.
 pub fn plain_block() -> Sib1 {
-    information(Period::Rf8)
+    information(0)
 }

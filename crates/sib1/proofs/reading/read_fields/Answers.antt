@@ -52,14 +52,14 @@ returns-in_err-tdd c = exit _ _ _ _ c.in_err-tdd.field-0.0 c.from_residual-in_er
 
 pub returns-in_err-window : goal.returns-in_err-window
 unfolding sib1
-returns-in_err-window c = exit _ _ _ _ c.in_err-window.field-0.0 c.from_residual-in_err-window.ensures.1 (reads_bind _ _ _ _ _ _ c.in_ok-number.ensures.reads (reads_bind _ _ _ _ _ _ c.in_ok-number-2.ensures.reads (reads_bind _ _ _ _ _ _ c.in_ok-has_p_max.ensures (reads_bind _ _ _ _ _ _ c.in_ok-has_tdd.ensures (reads_bind _ _ _ _ _ _ c.in_ok-extended.ensures (reads_bind _ _ _ _ _ _ c.in_ok-access.ensures (reads_bind _ _ _ _ _ _ c.in_ok-selection.ensures (reads_bind _ _ _ _ _ _ c.in_ok-p_max.ensures (reads_bind _ _ _ _ _ _ c.in_ok-band.ensures.reads (reads_bind _ _ _ _ _ _ c.in_ok-scheduling.ensures (reads_bind _ _ _ _ _ _ c.in_ok-tdd.ensures (fails_bind _ _ _ _ c.in_err-window.ensures))))))))))))
+returns-in_err-window c = exit _ _ _ _ c.in_err-window.field-0.0 c.from_residual-in_err-window.ensures.1 (reads_bind _ _ _ _ _ _ c.in_ok-number.ensures.reads (reads_bind _ _ _ _ _ _ c.in_ok-number-2.ensures.reads (reads_bind _ _ _ _ _ _ c.in_ok-has_p_max.ensures (reads_bind _ _ _ _ _ _ c.in_ok-has_tdd.ensures (reads_bind _ _ _ _ _ _ c.in_ok-extended.ensures (reads_bind _ _ _ _ _ _ c.in_ok-access.ensures (reads_bind _ _ _ _ _ _ c.in_ok-selection.ensures (reads_bind _ _ _ _ _ _ c.in_ok-p_max.ensures (reads_bind _ _ _ _ _ _ c.in_ok-band.ensures.reads (reads_bind _ _ _ _ _ _ c.in_ok-scheduling.ensures (reads_bind _ _ _ _ _ _ c.in_ok-tdd.ensures (fails_bind _ _ _ _ c.in_err-window.ensures.reads))))))))))))
 
 pub returns-in_err-tag : goal.returns-in_err-tag
 unfolding sib1
-returns-in_err-tag c = exit _ _ _ _ c.in_err-tag.field-0.0 c.from_residual-in_err-tag.ensures.1 (reads_bind _ _ _ _ _ _ c.in_ok-number.ensures.reads (reads_bind _ _ _ _ _ _ c.in_ok-number-2.ensures.reads (reads_bind _ _ _ _ _ _ c.in_ok-has_p_max.ensures (reads_bind _ _ _ _ _ _ c.in_ok-has_tdd.ensures (reads_bind _ _ _ _ _ _ c.in_ok-extended.ensures (reads_bind _ _ _ _ _ _ c.in_ok-access.ensures (reads_bind _ _ _ _ _ _ c.in_ok-selection.ensures (reads_bind _ _ _ _ _ _ c.in_ok-p_max.ensures (reads_bind _ _ _ _ _ _ c.in_ok-band.ensures.reads (reads_bind _ _ _ _ _ _ c.in_ok-scheduling.ensures (reads_bind _ _ _ _ _ _ c.in_ok-tdd.ensures (reads_bind _ _ _ _ _ _ c.in_ok-window.ensures (fails_bind _ _ _ _ c.in_err-tag.ensures.reads)))))))))))))
+returns-in_err-tag c = exit _ _ _ _ c.in_err-tag.field-0.0 c.from_residual-in_err-tag.ensures.1 (reads_bind _ _ _ _ _ _ c.in_ok-number.ensures.reads (reads_bind _ _ _ _ _ _ c.in_ok-number-2.ensures.reads (reads_bind _ _ _ _ _ _ c.in_ok-has_p_max.ensures (reads_bind _ _ _ _ _ _ c.in_ok-has_tdd.ensures (reads_bind _ _ _ _ _ _ c.in_ok-extended.ensures (reads_bind _ _ _ _ _ _ c.in_ok-access.ensures (reads_bind _ _ _ _ _ _ c.in_ok-selection.ensures (reads_bind _ _ _ _ _ _ c.in_ok-p_max.ensures (reads_bind _ _ _ _ _ _ c.in_ok-band.ensures.reads (reads_bind _ _ _ _ _ _ c.in_ok-scheduling.ensures (reads_bind _ _ _ _ _ _ c.in_ok-tdd.ensures (reads_bind _ _ _ _ _ _ c.in_ok-window.ensures.reads (fails_bind _ _ _ _ c.in_err-tag.ensures.reads)))))))))))))
 
 pub returns : goal.returns
 returns c =
     let fits : FitsSigned w8 c.in_ok-selection.selection.q_rx = search rules in
     rw (to_z-of_z w8 c.in_ok-selection.selection.q_rx fits) (sib1_read _ _ _ _ _ _ _ _ _ _ _ _ _ _ _ _ _ _ _ _ _ _ _ _ _ _ _
-    c.in_ok-number.ensures.reads c.in_ok-number-2.ensures.reads c.in_ok-has_p_max.ensures c.in_ok-has_tdd.ensures c.in_ok-extended.ensures c.in_ok-access.ensures c.in_ok-selection.ensures c.in_ok-p_max.ensures c.in_ok-band.ensures.reads c.in_ok-scheduling.ensures c.in_ok-tdd.ensures c.in_ok-window.ensures c.in_ok-tag.ensures.reads)
+    c.in_ok-number.ensures.reads c.in_ok-number-2.ensures.reads c.in_ok-has_p_max.ensures c.in_ok-has_tdd.ensures c.in_ok-extended.ensures c.in_ok-access.ensures c.in_ok-selection.ensures c.in_ok-p_max.ensures c.in_ok-band.ensures.reads c.in_ok-scheduling.ensures c.in_ok-tdd.ensures c.in_ok-window.ensures.reads c.in_ok-tag.ensures.reads)
