@@ -4,7 +4,7 @@ use lte_types::Carrier;
 
 /// An antenna port of a cell: its only one, with either cyclic prefix, or one of two or four with transmit diversity
 /// (TS 36.211 sections 6.3.4.3 and 6.12).
-#[derive(Clone, Copy, PartialEq, Eq)]
+#[derive(Clone, Copy, Debug, PartialEq, Eq)]
 pub enum Port {
     /// Port 0 of a cell with one port and the normal cyclic prefix.
     Only,
@@ -19,7 +19,7 @@ pub enum Port {
 }
 
 /// A port of a cell with four antenna ports and the normal cyclic prefix.
-#[derive(Clone, Copy, PartialEq, Eq)]
+#[derive(Clone, Copy, Debug, PartialEq, Eq)]
 pub enum PortOfFour {
     /// Port 0.
     Zero,

@@ -14,6 +14,7 @@ use crate::CellError;
 use crate::shared::{block_fills, coded_block};
 use grid_map::block_places;
 use lte_types::{Assignment, Carrier, CellId, Cfi, Duration, Resource, Sib1};
+use std::fmt::{self, Debug, Formatter, Write};
 use std::marker::Model;
 use turbo_code::Coded;
 use uper::Writer;
@@ -22,7 +23,7 @@ use uper::Writer;
 /// in the mask of its check, and the upper bits of the frame's number. With the extended cyclic prefix or four antenna
 /// ports only the identity, the PHICH fields and the spare bits are sent: there is no control region and no system
 /// information (own).
-#[derive(Drop)]
+#[derive(Debug, Drop)]
 pub struct CellPlan {
     /// The physical-layer cell identity, 0 to 503 (TS 36.211 section 6.11).
     pub identity: u16,
@@ -162,6 +163,13 @@ impl Model for Cell {
     ghost view = { λ c. c.plan };
 
     ghost invariant = { λ c. IsSendable c.plan × IsCoded c.plan c.coded };
+}
+
+// A cell is told as its plan.
+impl Debug for Cell {
+    fn fmt<W: Write>(&self, f: &mut Formatter<W>) -> fmt::Result {
+        self.plan.fmt(f)
+    }
 }
 
 impl Cell {

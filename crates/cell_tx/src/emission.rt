@@ -10,7 +10,7 @@ use lte_types::{Carrier, Timing};
 
 /// What is sent of a cell by a carrier: `samples` samples from where `timing` says on, those of each antenna port times
 /// the gain of the port. (own)
-#[derive(Drop)]
+#[derive(Debug, Drop)]
 pub struct Emission {
     /// The cell. With the extended cyclic prefix or four antenna ports its system information is not sent.
     pub cell: Cell,

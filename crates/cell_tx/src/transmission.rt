@@ -7,7 +7,7 @@ use cs_num::Gain;
 use lte_types::Timing;
 
 /// What is sent of a cell: `samples` samples from where `timing` says on, each times the gain. (own)
-#[derive(Drop)]
+#[derive(Debug, Drop)]
 pub struct Transmission {
     /// The cell.
     pub cell: Cell,

@@ -7,7 +7,7 @@ ghost use Rattle.crs.specs.Reference.{port_0, port_1, long_prefix, pattern_of};
 use lte_types::Carrier;
 
 /// What the reference signals of an antenna port with a cyclic prefix differ in (TS 36.211 section 6.10.1).
-#[derive(Clone, Copy, PartialEq, Eq)]
+#[derive(Clone, Copy, Debug, PartialEq, Eq)]
 pub struct Pattern {
     /// The second symbol of a slot that has reference signals: 4, and 3 with the extended prefix.
     pub later: u8,

@@ -11,7 +11,7 @@ use lte_types::CellId;
 
 /// Antenna port 2 or 3, the third or the fourth, which has reference signals in one symbol of a slot, its second
 /// (TS 36.211 section 6.10.1.2).
-#[derive(Clone, Copy, PartialEq, Eq)]
+#[derive(Clone, Copy, Debug, PartialEq, Eq)]
 pub enum UpperPort {
     /// Port 2.
     Third,

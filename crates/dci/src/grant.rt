@@ -6,7 +6,7 @@ ghost use Rattle.dci.specs.declared.grant.Grant.{Grant};
 ghost use Rattle.dci.specs.Format1A.{Carries, IsSentFor, Says, IsGrant, sent_word};
 
 /// Where and how a transport block is sent.
-#[derive(Clone, Copy, PartialEq, Eq)]
+#[derive(Clone, Copy, Debug, PartialEq, Eq)]
 pub struct Grant {
     /// The first resource block, 0 to 5.
     pub start: u8,

@@ -26,7 +26,7 @@ pub use scrambling::{indicator_bit, pbch_c_init, pcfich_c_init, pdcch_c_init, pd
 pub use shared::{block_places, pdsch, shared_count, shared_order, shared_place};
 
 /// A place of a subframe's grid: a resource element (TS 36.211 section 6.2.2).
-#[derive(Clone, Copy, PartialEq, Eq)]
+#[derive(Clone, Copy, Debug, PartialEq, Eq)]
 pub struct Place {
     /// The symbol, 0 to 13.
     pub symbol: u8,
@@ -35,7 +35,7 @@ pub struct Place {
 }
 
 /// A resource-element group: four places of a symbol of the control region (TS 36.211 section 6.2.4).
-#[derive(Clone, Copy, Default, PartialEq, Eq)]
+#[derive(Clone, Copy, Debug, Default, PartialEq, Eq)]
 pub struct Reg {
     /// The symbol, 0 to 3.
     pub symbol: u8,

@@ -13,7 +13,7 @@ use lte_types::Carrier;
 use sample_file::SampleForm;
 
 /// A program: each has words of its own.
-#[derive(Clone, Copy, PartialEq, Eq)]
+#[derive(Clone, Copy, Debug, PartialEq, Eq)]
 pub enum Program {
     /// `lte_cli`: what a recording holds, and recordings of cells.
     Receiver,
@@ -23,7 +23,7 @@ pub enum Program {
 
 /// A form of words: a command, the rule of its list, the output, and the form of samples that is read, each named by
 /// words after those before it. The words `--format cu8` name 8-bit numbers, and without them they are of 16 bits.
-#[derive(Clone, Copy, PartialEq, Eq)]
+#[derive(Clone, Copy, Debug, PartialEq, Eq)]
 pub enum Form {
     /// A report about a recording of samples in a form.
     Report(Report, Output, SampleForm),
@@ -42,7 +42,7 @@ pub enum Form {
 }
 
 /// A report about a recording.
-#[derive(Clone, Copy, PartialEq, Eq)]
+#[derive(Clone, Copy, Debug, PartialEq, Eq)]
 pub enum Report {
     /// `hits`: the places of primary synchronisation signals.
     Hits,
@@ -57,7 +57,7 @@ pub enum Report {
 }
 
 /// The rule of a list of cells.
-#[derive(Clone, Copy, PartialEq, Eq)]
+#[derive(Clone, Copy, Debug, PartialEq, Eq)]
 pub enum Rule {
     /// The cells of a carrier: those with one antenna port, with two or four by `--ports 2` and `--ports 4`, or with
     /// the extended cyclic prefix by `--prefix long`.
@@ -69,7 +69,7 @@ pub enum Rule {
 }
 
 /// What a report is written as.
-#[derive(Clone, Copy, PartialEq, Eq)]
+#[derive(Clone, Copy, Debug, PartialEq, Eq)]
 pub enum Output {
     /// Lines of text.
     Text,
@@ -78,7 +78,7 @@ pub enum Output {
 }
 
 /// How a recording is turned.
-#[derive(Clone, Copy, PartialEq, Eq)]
+#[derive(Clone, Copy, Debug, PartialEq, Eq)]
 pub enum Turn {
     /// `apply`: the recording is turned by what is told of it, so that its frequency offset is taken off.
     AsTold,
@@ -87,7 +87,7 @@ pub enum Turn {
 }
 
 /// A page about a program.
-#[derive(Clone, Copy, PartialEq, Eq)]
+#[derive(Clone, Copy, Debug, PartialEq, Eq)]
 pub enum Page {
     /// `help`, also `--help` and `-h`: its forms of words.
     Help,

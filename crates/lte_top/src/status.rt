@@ -14,7 +14,7 @@ use std::alloc::AllocError;
 use std::fmt;
 
 /// How a run ended. Every answer but `Done` is a refusal, a fault or want of memory.
-#[derive(Clone, Copy, PartialEq, Eq)]
+#[derive(Clone, Copy, Debug, PartialEq, Eq)]
 pub enum Status {
     /// The input was read to its end, and the whole output was taken.
     Done,

@@ -3,7 +3,7 @@
 use lte_types::Mib;
 
 /// The master block that frames tell.
-#[derive(Clone, Copy, PartialEq, Eq)]
+#[derive(Clone, Copy, Debug, PartialEq, Eq)]
 pub struct Master {
     /// The count of antenna ports: 1, 2 or 4.
     pub ports: u8,

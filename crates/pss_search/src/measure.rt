@@ -20,7 +20,7 @@ const START: usize = 128;
 const END: usize = 19_346;
 
 /// What is measured of a place against one of the three primary signals. (own)
-#[derive(Clone, Copy, PartialEq, Eq)]
+#[derive(Clone, Copy, Debug, PartialEq, Eq)]
 pub struct Metric {
     /// The square of the size of the correlation with the signal, below 2^70.
     pub peak: u128,

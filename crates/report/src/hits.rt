@@ -8,7 +8,7 @@ use std::alloc::{AllocError, Global};
 use std::fmt::Write;
 
 /// A hit with what it tells of its cell. (own)
-#[derive(Clone, Copy, PartialEq, Eq)]
+#[derive(Clone, Copy, Debug, PartialEq, Eq)]
 pub struct IdentifiedHit {
     pub hit: Hit,
     /// The identity of the cell.

@@ -13,7 +13,7 @@ use sss_detect::{Choice, Ranking};
 use std::alloc::{AllocError, Global};
 
 /// A hit with the numbers of its metric, which is `peak / (energy * power)`. (own)
-#[derive(Clone, Copy, PartialEq, Eq)]
+#[derive(Clone, Copy, Debug, PartialEq, Eq)]
 pub struct MeasuredHit {
     pub hit: Hit,
     /// The square of the size of the correlation with the signal.
@@ -25,7 +25,7 @@ pub struct MeasuredHit {
 }
 
 /// A hit with what it tells of its cell, with how clear that was, and with the numbers of its metric. (own)
-#[derive(Clone, Copy, PartialEq, Eq)]
+#[derive(Clone, Copy, Debug, PartialEq, Eq)]
 pub struct MeasuredId {
     pub found: IdentifiedHit,
     /// The two best pairs of a group and a half.

@@ -10,7 +10,7 @@ use cs_num::Sample;
 use std::alloc::AllocError;
 
 /// How the bytes of a recording stand for its samples, as SigMF names it. (own)
-#[derive(Clone, Copy, PartialEq, Eq)]
+#[derive(Clone, Copy, Debug, PartialEq, Eq)]
 pub enum SampleForm {
     /// Four bytes a sample: the real, then the imaginary component, each a signed 16-bit number with
     /// its low byte first (`ci16_le`).

@@ -12,7 +12,7 @@ use cs_num::Cpx;
 use lte_types::Half;
 
 /// An identity group, 0 to 167, and a half of a frame, with the score of their secondary sequence. (own)
-#[derive(Clone, Copy, PartialEq, Eq)]
+#[derive(Clone, Copy, Debug, PartialEq, Eq)]
 pub struct Choice {
     pub n1: u16,
     pub half: Half,
@@ -20,7 +20,7 @@ pub struct Choice {
 }
 
 /// The best pair of a group and a half, and the second: the best of the 335 others. (own)
-#[derive(Clone, Copy, PartialEq, Eq)]
+#[derive(Clone, Copy, Debug, PartialEq, Eq)]
 pub struct Ranking {
     pub best: Choice,
     pub second: Choice,

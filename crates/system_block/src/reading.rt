@@ -15,7 +15,7 @@ use pcfich::cfi;
 use soft_bits::ReadSlot;
 
 /// One attempt to read SystemInformationBlockType1: what was read on the way, and the answer. (own)
-#[derive(Drop)]
+#[derive(Debug, Drop)]
 pub struct Attempt {
     /// The control format indicator.
     pub cfi: Cfi,

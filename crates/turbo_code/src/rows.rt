@@ -4,7 +4,7 @@ ghost use Rattle.std.specs.Prelude.{◌≡◌, ◌+◌, MatchOption};
 ghost use Rattle.turbo_code.specs.Table.{IsRow, IsSize};
 
 /// A row of the table: the number K of information bits and the two factors of the interleaver.
-#[derive(Clone, Copy, PartialEq, Eq, Drop)]
+#[derive(Clone, Copy, Debug, PartialEq, Eq, Drop)]
 pub struct Row {
     pub k: u16,
     pub f1: u16,

@@ -17,7 +17,7 @@ use pss_search::{HitList, hits};
 use std::alloc::{AllocError, Global};
 
 /// A turn that may be the one, in steps of 117.1875 Hz. (own)
-#[derive(Clone, Copy, PartialEq, Eq)]
+#[derive(Clone, Copy, Debug, PartialEq, Eq)]
 pub struct Candidate {
     /// The coarse turn, in steps of 3.75 kHz: -16 to 16.
     pub coarse: i16,

@@ -9,7 +9,7 @@ use lte_types::Hit;
 use pss_search::signal_power;
 
 /// The fraction `peak / (energy * power)` of a hit. (own)
-#[derive(Clone, Copy, PartialEq, Eq)]
+#[derive(Clone, Copy, Debug, PartialEq, Eq)]
 pub struct Fraction {
     /// The square of the size of the correlation with the signal.
     pub peak: u64,

@@ -16,7 +16,7 @@ use sample_file::Recording;
 use std::alloc::{AllocError, Global};
 
 /// What is told of a recording's offset. (own)
-#[derive(Clone, Copy, PartialEq, Eq)]
+#[derive(Clone, Copy, Debug, PartialEq, Eq)]
 pub struct Told {
     /// The turn that takes the offset off, in steps of 117.1875 Hz: -576 to 575.
     pub turn: i16,
