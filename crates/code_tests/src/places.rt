@@ -119,6 +119,36 @@ fn groups_of_the_pdcch_of_identity_503(rt: HostRuntime) {
     assert!(rt; has_pdcch(503, 3, Duration::Extended, Resource::Two, &expected));
 }
 
+// Whether no group of the PDCCH is one of these.
+fn has_none_of(groups: &[Reg], others: &[Reg; 3]) -> bool {
+    groups
+        .iter()
+        .all(|group| others.iter().all(|other| group != other))
+}
+
+// The group of a symbol with this first subcarrier.
+fn group_at(symbol: u8, first: u8) -> Reg {
+    Reg { symbol, first }
+}
+
+// Whether the groups of the PHICH of identity 0 with resource one are these: the PDCCH has none of them.
+fn has_phich(duration: Duration, groups: &[Reg; 3]) -> bool {
+    match pdcch_of(0, 3, duration, Resource::One) {
+        Some(others) => has_none_of(others.as_slice(), groups),
+        None => false,
+    }
+}
+
+#[test]
+fn groups_of_the_phich_of_identity_0(rt: HostRuntime) {
+    let normal = [group_at(0, 6), group_at(0, 24), group_at(0, 48)];
+    let extended = [group_at(0, 6), group_at(1, 24), group_at(2, 48)];
+    assert!(rt; has_phich(Duration::Normal, &normal) && has_phich(Duration::Extended, &extended));
+    assert!(rt; !has_phich(Duration::Normal, &extended) && !has_phich(Duration::Extended, &normal));
+    assert!(rt; count_of(0, 3, Duration::Normal, Resource::One) == 59);
+    assert!(rt; count_of(0, 3, Duration::Extended, Resource::One) == 59);
+}
+
 // How many groups of the PDCCH there are; none of a cell that there cannot be.
 fn count_of(identity: u16, cfi: u8, duration: Duration, resource: Resource) -> usize {
     match pdcch_of(identity, cfi, duration, resource) {

@@ -1,5 +1,6 @@
 ghost use Rattle.std.specs.Prelude.{◌≡◌, ◌+◌, ◌<◌, ◌≤◌};
 ghost use Rattle.turbo_code.specs.Table.{IsRow, IsSize};
+ghost use Rattle.turbo_code.specs.Reading.{start};
 
 use crate::shared::{bits_of, digest, number_of, squares};
 use std::alloc::{AllocError, Global};
@@ -137,6 +138,34 @@ fn coded_word_of_56_bits(rt: HostRuntime) {
     }
 }
 
+// The bits that the second encoder reads first.
+fn first_read(row: &Row) -> Option<[usize; 4]>
+    requires { IsRow row.now }
+{
+    if row.k < 4 {
+        return None;
+    }
+    Some([
+        interleaver(row, 0),
+        interleaver(row, 1),
+        interleaver(row, 2),
+        interleaver(row, 3),
+    ])
+}
+
+#[test]
+fn the_first_bits_of_the_second_encoder_of_144(rt: HostRuntime) {
+    let Some(row) = row_of(120) else {
+        return assert!(rt; false);
+    };
+    assert!(rt; row.k == 144 && first_read(&row) == Some([0, 125, 34, 15]));
+}
+
+// Where the reading of 148 coded bits a stream starts, by redundancy version.
+fn starts_of_144()
+    ensures { (start 144 0 ≡ 10) × (start 144 1 ≡ 130) × (start 144 2 ≡ 250) × (start 144 3 ≡ 370) }
+{}
+
 // The coded word of a row's K with one bit.
 fn alone(row: Row, stream: usize, index: usize) -> Coded
     requires { IsRow row }
@@ -169,6 +198,7 @@ fn first_bits_that_are_sent_of_144(rt: HostRuntime) {
     let Some(row) = row_of(120) else {
         return assert!(rt; false);
     };
+    starts_of_144();
     for (rv, i, stream, index) in [
         (0, 0, 0, 28),
         (0, 1, 0, 60),

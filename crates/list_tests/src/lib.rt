@@ -12,6 +12,8 @@ mod found_cells;
 #[cfg(test)]
 mod four_antenna_ports;
 #[cfg(test)]
+mod plans;
+#[cfg(test)]
 mod rounds_of_recordings;
 #[cfg(test)]
 mod rows;

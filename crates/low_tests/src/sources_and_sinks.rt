@@ -57,6 +57,25 @@ fn a_source_is_read_to_its_end(rt: HostRuntime) -> Result<(), Fail> {
     Ok(())
 }
 
+// Whether so many bytes are read whole.
+fn is_read_whole(alloc: Global, count: usize) -> Result<bool, AllocError>
+    requires { count < 100000 }
+{
+    let mut source = MemSource::new(vec![in alloc; 7; count]?);
+    Ok(match read_to_end(alloc, &mut source, 65_536) {
+        Ok(read) => read.len() == count,
+        Err(_) => false,
+    })
+}
+
+#[test]
+fn inputs_of_some_pieces_are_read_whole(rt: HostRuntime) -> Result<(), Fail> {
+    for count in [4_095, 4_096, 4_097, 8_192, 8_193, 65_535, 65_536] {
+        assert!(rt; is_read_whole(rt.alloc(), count)?, "{count} bytes");
+    }
+    Ok(())
+}
+
 #[test]
 fn a_source_is_read_no_further_than_one_byte_past_the_limit(rt: HostRuntime) -> Result<(), Fail> {
     let alloc = rt.alloc();

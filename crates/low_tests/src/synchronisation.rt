@@ -1,6 +1,6 @@
 use cs_num::Cpx;
 use lte_types::Half;
-use sync_seq::{pss, sss};
+use sync_seq::{pss, sss, sss_shifts};
 
 #[test]
 fn the_first_values_of_each_root(rt: HostRuntime) {
@@ -56,4 +56,11 @@ fn secondary_values_of_three_identities(rt: HostRuntime) {
                 -1, 1, 1, -1, -1, -1, 1, 1, 1, -1, 1, -1, -1, 1, -1
             ]
     );
+}
+
+#[test]
+fn shifts_of_three_groups(rt: HostRuntime) {
+    for (n1, shifts) in [(0, (0, 1)), (30, (0, 2)), (167, (2, 9))] {
+        assert!(rt; sss_shifts(n1, Half::Zero) == shifts, "group {n1}");
+    }
 }

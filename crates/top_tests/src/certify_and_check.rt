@@ -1,10 +1,10 @@
 //! The commands `certify` and `check`.
 
-ghost use Rattle.std.specs.Prelude.{◌+◌, ◌≤◌, ◌<◌, length};
+ghost use Rattle.std.specs.Prelude.{◌+◌, ◌^◌, ◌≤◌, ◌<◌, length};
 
 use crate::{
-    Output, ROOM, command_line, gives, output_from, output_into, output_of, with_four_ports,
-    with_long_prefix, with_two_ports,
+    Output, ROOM, command_line, gives, output_from, output_into, output_of, sent_by,
+    with_four_ports, with_long_prefix, with_two_ports,
 };
 use cs_outside::{FailSink, FailSource, MemSource};
 use lte_top::{Program, Status};
@@ -218,6 +218,118 @@ fn cells_of_number_90_of_other_carriers_are_certified(rt: HostRuntime) -> Result
     assert!(rt; is_certified(alloc, "certify --ports 2", with_two_ports(alloc)?)?);
     assert!(rt; is_certified(alloc, "certify --ports 4", with_four_ports(alloc)?)?);
     assert!(rt; is_certified(alloc, "certify --prefix long", with_long_prefix(alloc)?)?);
+    Ok(())
+}
+
+// What `certify` writes of what the plain cell sends, which is the certificate of a word that is not 0.
+fn plain_certificate(alloc: Global) -> Result<Vec<u8>, AllocError> {
+    let sent = sent_by(alloc, "")?;
+    Ok(output_of(alloc, "certify", sent.written)?.written)
+}
+
+// Whether the bytes of a certificate are those of a word that is not 0: so is one of the 120 values at least.
+fn is_of_values(bytes: &[u8]) -> bool {
+    bytes.len() == BYTES && bytes.iter().skip(4).take(240).any(|byte| *byte != 0)
+}
+
+// Puts a piece into bytes, where it has room.
+fn put_within(bytes: &mut [u8], at: usize, piece: &[u8])
+    requires { at + length piece.now < 2 ^ 63 }
+{
+    if at + piece.len() <= bytes.len() {
+        put(bytes, at, piece);
+    }
+}
+
+// Whether `check` ends so over the certificate of the plain cell with a piece changed.
+fn plain_ends(
+    alloc: Global,
+    at: usize,
+    piece: &[u8],
+    status: Status,
+    text: &[u8],
+) -> Result<bool, AllocError>
+    requires { at + length piece.now < 2 ^ 63 }
+{
+    let mut bytes = plain_certificate(alloc)?;
+    put_within(&mut bytes, at, piece);
+    checks(alloc, bytes, BYTES, status, text)
+}
+
+#[test]
+fn the_certificate_of_a_sent_cell_is_accepted_and_its_changes_are_not(
+    rt: HostRuntime,
+) -> Result<(), Fail> {
+    let alloc = rt.alloc();
+    assert!(rt; is_of_values(&plain_certificate(alloc)?));
+    let (yes, no) = (b"certificates 1\n0 yes\n", b"certificates 1\n0 no\n");
+    assert!(rt; plain_ends(alloc, 0, b"", Status::Done, yes)?);
+    // The general bound of step 40, state 0.
+    assert!(rt; plain_ends(alloc, 10_237, &[255; 4], Status::Done, no)?);
+    assert!(rt; plain_ends(alloc, 0, &[0], Status::BadCertificate(0), b"")?);
+    let mut bytes = plain_certificate(alloc)?;
+    bytes.truncate(100);
+    assert!(rt; checks(alloc, bytes, BYTES, Status::BadCertificate(100), b"")?);
+    Ok(())
+}
+
+// Appends certificates of zeros, each with as many tables of start states, which are of zeros too.
+fn push_certificates(
+    bytes: &mut Vec<u8>,
+    alloc: Global,
+    count: usize,
+    tables: usize,
+) -> Result<(), AllocError>
+    requires { tables ≤ 64 }
+{
+    let mut one = certificate_of_zeros(alloc)?;
+    for state in 0..tables {
+        one[10_493 + state / 8] |= 1 << (state % 8);
+    }
+    one.extend_from_slice(&vec![in alloc; 0; 10_240 * tables]?)?;
+    for _ in 0..count {
+        bytes.extend_from_slice(&one)?;
+    }
+    Ok(())
+}
+
+// 6,144 certificates with 253 tables in all: 67,108,864 bytes, as many as are read.
+fn most_certificates(alloc: Global) -> Result<Vec<u8>, AllocError> {
+    let mut bytes = Vec::new(alloc);
+    push_certificates(&mut bytes, alloc, 3, 64)?;
+    push_certificates(&mut bytes, alloc, 1, 61)?;
+    push_certificates(&mut bytes, alloc, 6_140, 0)?;
+    Ok(bytes)
+}
+
+// How `check` ends over bytes.
+fn check_of(alloc: Global, bytes: Vec<u8>) -> Result<Output, AllocError> {
+    output_of(alloc, "check", bytes)
+}
+
+// Whether a run is done, and answers for the last of 6,144 certificates.
+fn answers_the_last(output: &Output) -> bool {
+    output.status == Status::Done
+        && output.written.starts_with(b"certificates 6144\n0 yes\n")
+        && output.written.ends_with(b"\n6143 yes\n")
+}
+
+#[test]
+fn as_many_certificates_as_are_read_are_answered(rt: HostRuntime) -> Result<(), Fail> {
+    let bytes = most_certificates(rt.alloc())?;
+    assert!(rt; bytes.len() == 67_108_864);
+    assert!(rt; answers_the_last(&check_of(rt.alloc(), bytes)?));
+    Ok(())
+}
+
+#[test]
+fn one_byte_more_is_too_long_and_one_less_is_an_early_end(rt: HostRuntime) -> Result<(), Fail> {
+    let mut bytes = most_certificates(rt.alloc())?;
+    bytes.push(0x4c)?;
+    assert!(rt; check_of(rt.alloc(), bytes)?.is(Status::TooLong, b""));
+    let mut bytes = most_certificates(rt.alloc())?;
+    bytes.truncate(67_108_863);
+    assert!(rt; check_of(rt.alloc(), bytes)?.is(Status::BadCertificate(67_108_863), b""));
     Ok(())
 }
 
