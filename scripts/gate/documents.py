@@ -7,8 +7,9 @@ are named by their last name alone; files that a block of commands reads, from t
 scripts that comments of tests name are looked for too. Numbers of crates, tests and wrong bodies have to be those of
 the tree, or of one crate of it, but in sentences with a date or with `Before` at their head, and in CHANGELOG.md. Each
 line of JSON in docs/FORMATS.md has to have the form of scripts/tools/report.schema.json under the words of its
-heading, and each JSON output a line; the form is left out, and said so, without jsonschema (Debian:
-python3-jsonschema). Prints a line for what is not so, and a count; the status is 0 where all is.
+heading, each file of scripts/examples/outputs that under its name, and each JSON output a line or a file; the form is
+left out, and said so, without jsonschema (Debian: python3-jsonschema). Prints a line for what is not so, and a count;
+the status is 0 where all is.
 """
 import json
 import pathlib
@@ -24,6 +25,7 @@ TOP = pathlib.Path(__file__).resolve().parent.parent.parent
 CRATES = TOP / "crates"
 PAGES = [*sorted(TOP.glob("*.md")), *sorted((TOP / "docs").glob("*.md")), *sorted((TOP / "scripts").glob("**/*.md"))]
 HISTORY = ("CHANGELOG.md",)
+EXAMPLES = TOP / "scripts/examples/outputs"
 OUTPUTS = ("hits", "ids", "search", "search_all", "search_cancel", "evidence", "tell", "survey")
 WORD = re.compile(r"`([^`]+)`")
 PLACE = re.compile(
@@ -155,11 +157,12 @@ def faults_of_numbers(line, may):
 
 
 def examples(text):
-    """Pairs of a definition of the schema, by the words of the heading, and a line of JSON below that heading."""
+    """Pairs of a definition of the schema, by the words of a heading, and a line of JSON below; then those of files."""
     for section in re.split(r"^#+ ", text, flags=re.M):
         heading = re.match(r"`([a-z -]+)(?:\.py)? --json`\n", section)
         name = heading and heading[1].replace("--", "").replace(" ", "_")
         yield from ((name, one) for one in re.findall(r"^    ([\[{].*[\]}])$", section, re.M))
+    yield from ((file.stem, file.read_text(encoding="utf-8")) for file in sorted(EXAMPLES.glob("*.json")))
 
 
 def faults_of_examples(text):
@@ -168,7 +171,7 @@ def faults_of_examples(text):
     yield from (f"no line of JSON of {name}" for name in OUTPUTS if name not in dict(found))
     for name, one in found:
         if name not in OUTPUTS:
-            yield f"a line of JSON under another heading: {one[:40]}"
+            yield f"a line of JSON under another heading or name: {one[:40]}"
             continue
         named = {"$ref": f"#/$defs/{name}", "$defs": schema["$defs"]}
         for error in jsonschema.Draft202012Validator(named).iter_errors(json.loads(one)) if jsonschema else ():

@@ -275,7 +275,15 @@ LONG_PREFIX_FORMS = (
     ("search --prefix long --json", TESTS + "search_long_prefix.rt"),
     ("evidence --prefix long --json", TESTS + "evidence_of_cells.rt"),
 )
-SHOWN_FORMS = ("hits --json", "ids --json", "evidence --json", "search --cancel --json", "search --all")
+OUTPUTS = "scripts/examples/outputs/"
+SHOWN_FORMS = (
+    ("hits --json", "docs/FORMATS.md"),
+    ("search --all", "docs/FORMATS.md"),
+    ("ids --json", OUTPUTS + "ids.json"),
+    ("evidence --json", OUTPUTS + "evidence.json"),
+    ("search --cancel --json", OUTPUTS + "search_cancel.json"),
+    ("search --all --json", OUTPUTS + "search_all.json"),
+)
 OTHER_CARRIERS = (
     ("second_two_ports", "--ports 2"),
     ("second_four_ports", "--ports 4"),
@@ -358,8 +366,8 @@ LOOKS += of_forms("$PY peers/second_cell.py < examples/plain_cell.json", PLAIN_F
 LOOKS += of_forms("$PY peers/second_two_ports.py 90", TWO_PORTS_FORMS)
 LOOKS += of_forms("$PY peers/second_four_ports.py 90", FOUR_PORTS_FORMS)
 LOOKS += of_forms("$PY peers/second_long_prefix.py 90", LONG_PREFIX_FORMS)
-LOOKS += of_forms("cat ../crates/capture_example/stdin", [(words, "docs/FORMATS.md") for words in SHOWN_FORMS])
-LOOKS += of_forms("cat ../crates/lte_tune/stdin", [("tell --json", "docs/FORMATS.md")])
+LOOKS += of_forms("cat ../crates/capture_example/stdin", SHOWN_FORMS)
+LOOKS += of_forms("cat ../crates/lte_tune/stdin", [("tell --json", OUTPUTS + "tell.json")])
 for n in ("0", "7", "4294967221"):
     LOOKS += [
         Look("crates/sent_tests/src/made_recordings.rt", f"$PY peers/second_make.py -i {n}", of_one_port(n)),

@@ -50,7 +50,7 @@ def pss(n2):
 
 def elements(power, noise, ports=1):
     """Signal and noise of a reference element, the mean of the antenna ports, by two numbers of `evidence`
-    (docs/FORMATS.md, "A ratio in dB")."""
+    (docs/RECORDINGS.md, "What the numbers say")."""
     count, steps = REFERENCES[ports]
     return power / count - noise / steps, noise / steps
 
@@ -61,7 +61,7 @@ def decibels(quotient):
 
 
 def level(power, noise, full=FULL + 1, ports=1):
-    """The level of a reference element in dBFS, where full scale is that in the recording (docs/FORMATS.md)."""
+    """The level of a reference element in dBFS, where full scale is that in the recording (docs/RECORDINGS.md)."""
     return decibels(elements(power, noise, ports)[0] / (512 * full) ** 2)
 
 
