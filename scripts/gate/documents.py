@@ -8,8 +8,9 @@ scripts that comments of tests name are looked for too. Numbers of crates, tests
 the tree, or of one crate of it, but in sentences with a date or with `Before` at their head, and in CHANGELOG.md. Each
 line of JSON in docs/FORMATS.md has to have the form of scripts/tools/report.schema.json under the words of its
 heading, each file of scripts/examples/outputs that under its name, and each JSON output a line or a file; the form is
-left out, and said so, without jsonschema (Debian: python3-jsonschema). Prints a line for what is not so, and a count;
-the status is 0 where all is.
+left out, and said so, without jsonschema (Debian: python3-jsonschema). Sections that are named behind a page have to
+be in it, and the blocks of `help` and `version`, with the number of the definition, those of the test of these outputs.
+Prints a line for what is not so, and a count; the status is 0 where all is.
 """
 import json
 import pathlib
@@ -33,6 +34,8 @@ PLACE = re.compile(
 )
 PATH = re.compile(r"(?<![\w/.$*{}-])((?:scripts|crates|docs|\.ci)/[\w./*-]*[\w*/])")
 NUMBER = re.compile(r"(?<![\w,.])(\d[\d,]*) (?:of `(must-fail|wrong)/`|(crates|tests|edits|wrong bodies)\b)")
+SECTION = re.compile(r'`((?:docs/)?[A-Z]+\.md)`, "`?([^"`]+)`?"')
+PROGRAM_PAGES = CRATES / "top_tests/src/pages.rt"
 DATE = re.compile(r"\b20\d\d-\d\d-\d\d\b")
 
 
@@ -98,6 +101,13 @@ def faults_of_scripts(line, scripts):
     for name in re.findall(r"(?<![\w./*-])(\w+\.(?:py|sh))\b", line):
         if name not in scripts:
             yield f"no script {name}"
+
+
+def faults_of_sections(line):
+    for name, section in SECTION.findall(line):
+        page = TOP / name
+        if page.is_file() and not re.search(rf"^(?:#+ |\*\*)`?{re.escape(section)}", page.read_text(), re.M):
+            yield f'no section "{section}" in {name}'
 
 
 def faults_of_block(lines):
@@ -178,6 +188,20 @@ def faults_of_examples(text):
             yield f"{name}{error.json_path[1:]}: {error.message}"
 
 
+# ---- what the programs say of themselves
+
+
+def faults_of_program_pages(text):
+    """Whether the test of these outputs has each block of `help` or `version`, and the number of the definition."""
+    tested = PROGRAM_PAGES.read_text(encoding="utf-8").replace("\\n", "\n")
+    for words, lines in re.findall(r"^    \$ (lte_\w+ (?:help|version))\n((?:    .+\n)+)", text, re.M):
+        if re.sub(r"^    ", "", lines, flags=re.M) not in tested:
+            yield f"{words}: other lines than {PROGRAM_PAGES.relative_to(TOP)} has"
+    for number in re.findall(r"\bThis is definition (\d+)", text):
+        if f"\ndefinition {number}\n" not in tested:
+            yield f"definition {number}: another number than {PROGRAM_PAGES.relative_to(TOP)} has"
+
+
 def faults_of(page, scripts, may):
     """Pairs of a line's number and what is not so."""
     text = page.read_text(encoding="utf-8")
@@ -186,6 +210,7 @@ def faults_of(page, scripts, may):
         yield from ((number, fault) for fault in faults_of_places(line))
         yield from ((number, fault) for fault in faults_of_paths(line))
         yield from ((number, fault) for fault in faults_of_scripts(line, scripts))
+        yield from ((number, fault) for fault in faults_of_sections(line))
         if page.name not in HISTORY:
             yield from ((number, fault) for fault in faults_of_numbers(line, may))
         if line.startswith("    "):
@@ -193,6 +218,7 @@ def faults_of(page, scripts, may):
         elif block:
             yield from ((number - 1, fault) for fault in faults_of_block(block))
             block = []
+    yield from ((0, fault) for fault in faults_of_program_pages(text))
     if page.name == "FORMATS.md":
         yield from ((0, fault) for fault in faults_of_examples(text))
 
