@@ -4,8 +4,8 @@
 # Checks of scripts and pages that need no built program and no toolchain, in less than a minute:
 #   pyflakes3, shellcheck and black (120 columns) on the scripts;
 #   rows.py: what the second programs print stands in the tests and pages that have it from them;
-#   documents.py: what the pages name is there, numbers and lists of cells in them are right;
-#   crates_picture.py: the picture of the crates is that of crates.txt;
+#   documents.py: what the pages name is there, numbers and lists of cells are right, and no page is too long;
+#   crates_picture.py: the picture of the crates is that of crates.txt, the list of their calls that of the sources;
 #   edits.py: each wrong body changes what it means to change;
 #   comments.py: each comment says what it is about without what stands above it.
 # Where lte_cli is built (crates/lte_cli/out/lte_cli, or LTE_CLI), the examples are run too. A check that wants what is

@@ -10,7 +10,8 @@ line of JSON in docs/FORMATS.md has to have the form of scripts/tools/report.sch
 heading, each file of scripts/examples/outputs that under its name, and each JSON output a line or a file; the form is
 left out, and said so, without jsonschema (Debian: python3-jsonschema). Sections that are named behind a page have to
 be in it, and the blocks of `help` and `version`, with the number of the definition, those of the test of these outputs.
-Prints a line for what is not so, and a count; the status is 0 where all is.
+A page has at most as many words (`wc -w`) as its row of BUDGETS says. Prints a line for what is not so, and a count;
+the status is 0 where all is.
 """
 import json
 import pathlib
@@ -26,6 +27,14 @@ TOP = pathlib.Path(__file__).resolve().parent.parent.parent
 CRATES = TOP / "crates"
 PAGES = [*sorted(TOP.glob("*.md")), *sorted((TOP / "docs").glob("*.md")), *sorted((TOP / "scripts").glob("**/*.md"))]
 HISTORY = ("CHANGELOG.md",)
+BUDGETS = {
+    "README.md": 900,
+    "docs/DEFINITION.md": 5400,
+    "docs/FORMATS.md": 7600,
+    "docs/CLAIMS.md": 3000,
+    "docs/RECORDINGS.md": 3300,
+    "docs/ARCHITECTURE.md": 2400,
+}
 EXAMPLES = TOP / "scripts/examples/outputs"
 OUTPUTS = ("hits", "ids", "search", "search_all", "search_cancel", "evidence", "tell", "survey")
 WORD = re.compile(r"`([^`]+)`")
@@ -202,6 +211,15 @@ def faults_of_program_pages(text):
             yield f"definition {number}: another number than {PROGRAM_PAGES.relative_to(TOP)} has"
 
 
+# ---- budgets of words
+
+
+def faults_of_length(page, text):
+    most = BUDGETS.get(str(page.relative_to(TOP)))
+    if most is not None and len(text.split()) > most:
+        yield f"{len(text.split())} words, more than its {most}"
+
+
 def faults_of(page, scripts, may):
     """Pairs of a line's number and what is not so."""
     text = page.read_text(encoding="utf-8")
@@ -219,6 +237,7 @@ def faults_of(page, scripts, may):
             yield from ((number - 1, fault) for fault in faults_of_block(block))
             block = []
     yield from ((0, fault) for fault in faults_of_program_pages(text))
+    yield from ((0, fault) for fault in faults_of_length(page, text))
     if page.name == "FORMATS.md":
         yield from ((0, fault) for fault in faults_of_examples(text))
 
