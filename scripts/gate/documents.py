@@ -34,6 +34,7 @@ BUDGETS = {
     "docs/CLAIMS.md": 3000,
     "docs/RECORDINGS.md": 3300,
     "docs/ARCHITECTURE.md": 2400,
+    "docs/PERFORMANCE.md": 900,
 }
 EXAMPLES = TOP / "scripts/examples/outputs"
 OUTPUTS = ("hits", "ids", "search", "search_all", "search_cancel", "evidence", "tell", "survey")
