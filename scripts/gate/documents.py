@@ -35,6 +35,7 @@ BUDGETS = {
     "docs/RECORDINGS.md": 3300,
     "docs/ARCHITECTURE.md": 2400,
     "docs/PERFORMANCE.md": 900,
+    "CHANGELOG.md": 1100,
 }
 EXAMPLES = TOP / "scripts/examples/outputs"
 OUTPUTS = ("hits", "ids", "search", "search_all", "search_cancel", "evidence", "tell", "survey")
