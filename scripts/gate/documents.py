@@ -36,6 +36,7 @@ BUDGETS = {
     "docs/ARCHITECTURE.md": 2400,
     "docs/PERFORMANCE.md": 900,
     "CHANGELOG.md": 1100,
+    "CONTRIBUTING.md": 1600,
 }
 EXAMPLES = TOP / "scripts/examples/outputs"
 OUTPUTS = ("hits", "ids", "search", "search_all", "search_cancel", "evidence", "tell", "survey")
