@@ -34,6 +34,7 @@ BUDGETS = {
     "docs/CLAIMS.md": 3000,
     "docs/RECORDINGS.md": 3300,
     "docs/ARCHITECTURE.md": 2400,
+    "docs/DECISIONS.md": 3600,
     "docs/PERFORMANCE.md": 900,
     "CHANGELOG.md": 1100,
     "CONTRIBUTING.md": 1600,
