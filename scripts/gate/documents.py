@@ -35,6 +35,7 @@ BUDGETS = {
     "docs/RECORDINGS.md": 3300,
     "docs/ARCHITECTURE.md": 2400,
     "docs/DECISIONS.md": 3600,
+    "docs/PROOF_NOTES.md": 4400,
     "docs/PERFORMANCE.md": 900,
     "CHANGELOG.md": 1100,
     "CONTRIBUTING.md": 1600,
