@@ -96,7 +96,7 @@ windows = 1 ∷ 2 ∷ 5 ∷ 10 ∷ 15 ∷ 20 ∷ 40 ∷ []
 abbrev pub window_length : ℕ → ℕ
 window_length code = slice_index_or windows code 1
 
--- its name
+-- the name of the window with a code
 abbrev pub window_word : ℕ → List ℕ
 window_word code =
     slice_index_or (codes "ms1" ∷ codes "ms2" ∷ codes "ms5" ∷ codes "ms10" ∷ codes "ms15" ∷ codes "ms20"
@@ -116,7 +116,7 @@ periods = 8 ∷ 16 ∷ 32 ∷ 64 ∷ 128 ∷ 256 ∷ 512 ∷ []
 abbrev pub period_frames : ℕ → ℕ
 period_frames code = slice_index_or periods code 8
 
--- its name
+-- the name of the period with a code
 abbrev pub period_word : ℕ → List ℕ
 period_word code =
     slice_index_or (codes "rf8" ∷ codes "rf16" ∷ codes "rf32" ∷ codes "rf64" ∷ codes "rf128" ∷ codes "rf256"

@@ -38,7 +38,7 @@ pub record ArePlmns (plmns : List Plmn) : Type 0 where
 abbrev pub IsPeriod : ℕ → Type 0
 IsPeriod code = code ≤ 6
 
--- an entry of the schedule: its period, and the codes of its blocks
+-- an entry of the schedule has a valid period and blocks with valid codes
 pub record IsValidMessage (message : SiMessage) : Type 0 where
   pub period : IsPeriod message.period
   pub sibs : All (λ code. code ≤ 79) message.sibs
@@ -76,7 +76,7 @@ IsTddConfig config = (config.0 ≤ 6) × (config.1 ≤ 8)
 abbrev pub IsWindow : ℕ → Type 0
 IsWindow code = code ≤ 6
 
--- who may use the cell
+-- the fields that say who may use the cell are in their ranges
 pub record IsAccess (access : CellAccessRelatedInfo) : Type 0 where
   pub plmns : ArePlmns access.plmns
   pub cell : access.cell < 2 ^ 28

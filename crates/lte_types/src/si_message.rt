@@ -9,7 +9,7 @@ use crate::Sibs;
 pub struct SiMessage {
     /// The code of si-Periodicity: 0 to 6 for 8 to 512 frames.
     pub period: u8,
-    /// The codes of its blocks: 0 to 15 within the first enumeration, 16 and more for an extension.
+    /// The codes of the blocks: 0 to 15 within the first enumeration, 16 and more for an extension.
     pub sibs: Sibs,
 }
 

@@ -104,7 +104,7 @@ sib_type = do
     n ← from_to 6 0 63
     done (n + 16)) else from_to 4 0 15
 
--- by its code
+-- the code of si-Periodicity
 abbrev pub si_periodicity : Grammar ℕ
 si_periodicity = from_to 3 0 6
 
