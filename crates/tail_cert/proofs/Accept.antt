@@ -1,14 +1,15 @@
 -- Least costs make tables that hold.
-use Rattle.std.proofs.Common.{◌≡◌, ◌≢◌, ℕ, zero, suc, ◌^◌, ◌<◌, ◌≤◌, List, Some, length, get_or, ℤ, refl, sym, ◌∙◌, inl, inr, arith}
+use Rattle.std.proofs.Common.{◌≡◌, ◌≢◌, ℕ, zero, suc, ◌^◌, ◌<◌, ◌≤◌, List, [], Some, length, get_or, ℤ, refl, sym, ◌∙◌, inl, inr, arith}
 use Rattle.std.proofs.lemmas.Bool.Decides.{eqb_tells}
 use Rattle.paths.specs.Paths.{end_of}
 use Rattle.paths.proofs.Rounds.{ends_in_same, ends_in_other}
+use Rattle.paths.specs.Least.{IsLeastTo, ends_in}
 use Rattle.paths.proofs.Forward.{least_to_none, least_to-le}
 use Rattle.tailbite.specs.Machine.{shift, step_cost}
 use Rattle.tailbite.proofs.Windows.{same_end, shift_below}
 use Rattle.tailbite.proofs.Branches.{word_cost-path}
 use Rattle.tail_cert.specs.Certificate.{IsLowerBound, StartHolds, StepsHold, bound, from_state, unbounded}
-use Rattle.tail_cert.specs.Forward.{HasLeastRows, IsStartRow}
+use Rattle.tail_cert.specs.Forward.{HasLeastRows, IsStartRow, IsTableFrom}
 
 -- where each bound of no step bounds nothing, or is the start's cost
 pub steps_hold : (values : List (List ℤ)) (first : ℕ → ℕ) (start : List ℕ) (table : List (List ℕ)) →
@@ -23,7 +24,7 @@ steps_hold values first start table same rows (suc i) x b inside below some =
     ((rows.row (suc i) inside).least.least (shift x b) (shift_below x b below))
 
 -- the least costs from a state bound each word that starts and ends there
-pub accepted : (values : List (List ℤ)) (cost s : ℕ) (general : List (List ℕ)) (start : List ℕ) (table : List (List ℕ)) → s < 64 → length values ≡ 40 → IsStartRow s start →
+accepted : (values : List (List ℤ)) (cost s : ℕ) (general : List (List ℕ)) (start : List ℕ) (table : List (List ℕ)) → s < 64 → length values ≡ 40 → IsStartRow s start →
     IsLowerBound values cost → cost ≤ 2 ^ 30 → HasLeastRows values start table 40 → StartHolds values cost general s (Some table)
 accepted values cost s general start table below places is_start lower small rows = (steps_hold values (from_state s) start table first rows, ends)
   where
@@ -47,3 +48,23 @@ accepted values cost s general start table below places is_start lower small row
               let far_is : get_or start y 0 ≡ 2 ^ 30 = is_start.row y below_y ∙ ends_in_other (2 ^ 30) s y f in
               omega (arith, total, far_is, small)
         ]
+
+-- the least costs are those from starts that cost the same
+same_starts : (values : List (List ℤ)) (f g : ℕ → ℕ) (k x m : ℕ) → ((y : ℕ) → y < 64 → f y ≡ g y) →
+    IsLeastTo shift (step_cost values) f 64 k x m → IsLeastTo shift (step_cost values) g 64 k x m
+same_starts values f g k x m same p =
+    let (y, bs, below, size, there, cost) = p.reached in
+    let e = same y below in
+    record {
+      reached = (y, bs, below, size, there, omega (arith, cost, e));
+      least = λ z ds below' size' there'. let d = same z below' in let h = p.least z ds below' size' there' in omega (arith, h, d);
+    }
+
+-- the table of a state
+pub table_from : (values : List (List ℤ)) (s : ℕ) (start : List ℕ) (table : List (List ℕ)) → s < 64 → length values ≡ 40 → IsStartRow s start →
+    HasLeastRows values start table 40 → IsTableFrom values s table
+table_from values s start table below places is_start rows = record {
+  least = λ i x inside here. same_starts values (λ y. get_or start y 0) (ends_in (2 ^ 30) s) (suc i) x _ (λ y l. is_start.row y l)
+      ((rows.row i inside).least.least x here);
+  shows = λ cost lower small. accepted values cost s [] start table below places is_start lower small rows;
+}

@@ -15,9 +15,9 @@ use Rattle.tailbite.specs.Machine.{branch_cost, window_bit, forward_least, first
 use Rattle.conv_code.proofs.Costs.{triple_cost-le, word_cost-le}
 use Rattle.finite.proofs.Items.{row-within}
 use Rattle.tail_cert.specs.Certificate.{Held, IsWhole, IsAccepted, IsTriple, IsTable, Counted, bound, from_any}
-use Rattle.tail_cert.specs.Forward.{IsFilled, IsStepRow, HasLeastRows, IsStartRow, ShowsBounds}
+use Rattle.tail_cert.specs.Forward.{IsFilled, IsStepRow, HasLeastRows, IsStartRow, IsTableFrom}
 use Rattle.tail_cert.specs.Stored.{IsStored, is_in, shown}
-use Rattle.tail_cert.proofs.Accept.{accepted}
+use Rattle.tail_cert.proofs.Accept.{table_from}
 use Rattle.tail_cert.proofs.Filled.{filled}
 use Rattle.tail_cert.proofs.Rows.{start_row, later_row, rows_fit}
 use Rattle.tail_cert.proofs.Shown.{stored_whole}
@@ -174,10 +174,10 @@ least_has_certificate values word places least = record {
           };
     }
 
-    holds : (s : ℕ) → s < 64 → ShowsBounds values s (table_of values s)
-    holds s below cost lower fits = accepted values cost s [] (start_of s) (table_of values s) below places.count (is_start s) lower fits (table_rows values s small)
+    holds : (s : ℕ) → s < 64 → IsTableFrom values s (table_of values s)
+    holds s below = table_from values s (start_of s) (table_of values s) below places.count (is_start s) (table_rows values s small)
 
     both : IsAccepted (certificate_of values word) × IsFilled (certificate_of values word)
     both = filled values values word (word_cost values word) (general_of values) (states_of values word) (values_below 64 (table_of values)) (values_below 64 (table_of values))
         refl refl small places.count least refl (general_rows values small) (λ s below. needed_states values word s below)
-        (λ s below there. subst (ShowsBounds values s) (sym (values_below_at (table_of values) 64 s [] below)) (holds s below))
+        (λ s below there. subst (IsTableFrom values s) (sym (values_below_at (table_of values) 64 s [] below)) (holds s below))

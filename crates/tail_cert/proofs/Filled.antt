@@ -1,19 +1,20 @@
 -- The tables that are filled, one start state after the other.
 use Rattle.std.proofs.Common.{◌≡◌, ◌≢◌, ℕ, suc, ◌+◌, ◌-◌, ◌^◌, ◌<◌, ◌≤◌, ◌↔◌, Bool, true, false, cond, List, [], Some, None, length, get_or, set, ℤ, sym, subst, ◌∙◌, inl, inr, arith, length-set, get_or-set_other, get_or-set_same, ap, refl}
-use Rattle.std.specs.Prelude.{IsSome, is_some, nat_lt, replicate}
+use Rattle.std.specs.Prelude.{IfSome, IsSome, is_some, nat_lt, replicate}
 use Rattle.std.proofs.lemmas.Bool.{cases_lt, lt-ltb, ltb-true, ltb-false}
 use Rattle.std.proofs.lemmas.List.{get_or-replicate, get_or_past, length-replicate}
 use Rattle.std.proofs.Math.Path.{fun_ext}
 use Rattle.paths.specs.Least.{IsLeastTo}
 use Rattle.finite.specs.Sizes.{RowsWithin}
+use Rattle.finite.proofs.Lists.{values_below_at}
 use Rattle.finite.proofs.Sums.{total_below_same}
 use Rattle.conv_code.specs.Cost.{word_cost}
 use Rattle.conv_code.proofs.Costs.{word_cost-le}
 use Rattle.tailbite.specs.LeastWord.{IsLeastWord}
 use Rattle.tailbite.specs.Machine.{shift, step_cost}
 use Rattle.tail_cert.specs.Certificate.{Held, IsAccepted, IsLowerBound, IsTable, StartHolds, bound, from_any, tables_there}
-use Rattle.tail_cert.specs.Forward.{HasLeastRows, IsFilled, ShowsBounds}
-use Rattle.tail_cert.specs.Stored.{AreStored, is_in, shown}
+use Rattle.tail_cert.specs.Forward.{HasLeastFrom, HasLeastRows, IsFilled, IsTableFrom}
+use Rattle.tail_cert.specs.Stored.{AreStored, is_in, shown, shown_at}
 use Rattle.tail_cert.proofs.Accept.{steps_hold}
 use Rattle.tail_cert.proofs.Shown.{some_shown, starts_shown, stored_with}
 
@@ -44,10 +45,10 @@ needed_more cost ends states n known below =
       ];
     }
 
--- the tables of the states of the set below n show bounds
+-- the tables of the states of the set below n are those of least costs from there
 pub record AreFilledTo (values : List (List ℤ)) (states : List Bool) (tables : List (List (List ℕ))) (n : ℕ) : Type 0 where
   pub tables_are : AreStored states tables
-  pub bounds : (s : ℕ) → s < n → is_in states s ≡ true → ShowsBounds values s (get_or tables s [])
+  pub bounds : (s : ℕ) → s < n → is_in states s ≡ true → IsTableFrom values s (get_or tables s [])
 
 pub filled_none : (values : List (List ℤ)) (states : List Bool) (tables : List (List (List ℕ))) → AreStored states tables → AreFilledTo values states tables 0
 filled_none values states tables stored = record {
@@ -68,7 +69,7 @@ without values states tables n known none = record {
 
 -- one that it has
 pub with_table : (values : List (List ℤ)) (states : List Bool) (tables : List (List (List ℕ))) (n : ℕ) (table : List (List ℕ)) → AreFilledTo values states tables n →
-    n < 64 → is_in states n ≡ true → IsTable table → ShowsBounds values n table → AreFilledTo values states (set tables n table) (n + 1)
+    n < 64 → is_in states n ≡ true → IsTable table → IsTableFrom values n table → AreFilledTo values states (set tables n table) (n + 1)
 with_table values states tables n table known below there whole holds =
     let inside = known.tables_are.room n below there in
     record {
@@ -96,6 +97,19 @@ there_where_needed set tables s m cost below e = (
   λ low. some_shown set tables s below ∙ e ∙ lt-ltb m cost low,
 )
 
+-- the table of a state, where it is there, is one of least costs from the state
+own_by : (values : List (List ℤ)) (s : ℕ) (table : List (List ℕ)) (b : Bool) → (b ≡ true → HasLeastFrom values s table) →
+    IfSome (cond b (Some table) None) (HasLeastFrom values s)
+own_by values s table true h = h refl
+own_by values s table false h = tt
+
+own_shown : (values : List (List ℤ)) (set : List Bool) (tables : List (List (List ℕ))) (s : ℕ) → s < 64 →
+    (is_in set s ≡ true → HasLeastFrom values s (get_or tables s [])) → IfSome (get_or (shown set tables) s None) (HasLeastFrom values s)
+unfolding shown
+own_shown values set tables s below h =
+    subst (λ t. IfSome t (HasLeastFrom values s)) (sym (values_below_at (shown_at set tables) 64 s None below))
+    (own_by values s (get_or tables s []) (is_in set s) h)
+
 zero_start : (λ y. get_or (replicate 64 0) y 0) ≡ from_any
 zero_start = fun_ext (λ y. elim (cases_lt y 64) [
   | inl below ↦ get_or-replicate 64 y 0 0 below
@@ -107,7 +121,7 @@ pub filled : (values copied : List (List ℤ)) (word : List Bool) (cost : ℕ) (
     copied ≡ values → kept ≡ tables → RowsWithin 2032 values → length values ≡ 40 → IsLeastWord values word → cost ≡ word_cost values word →
     HasLeastRows values (replicate 64 0) general 40 →
     ((s : ℕ) → s < 64 → is_in set s ≡ nat_lt (bound from_any general 40 s) cost) →
-    ((s : ℕ) → s < 64 → is_in set s ≡ true → ShowsBounds values s (get_or tables s [])) →
+    ((s : ℕ) → s < 64 → is_in set s ≡ true → IsTableFrom values s (get_or tables s [])) →
     IsAccepted (record { values = copied; word = word; cost = cost; general = general; tables = shown set kept }) ×
     IsFilled (record { values = copied; word = word; cost = cost; general = general; tables = shown set kept })
 filled values copied word cost general set tables kept copy same sizes places least stated rows needed bounds = rw (copy, same) (
@@ -115,12 +129,13 @@ filled values copied word cost general set tables kept copy same sizes places le
     stated = stated;
     general = steps_hold values from_any (replicate 64 0) general (λ x below some. get_or-replicate 64 x 0 0 below) rows;
     starts = (starts_shown values cost general set tables).1 (λ s below.
-        start_filled values cost general s (get_or tables s []) (is_in set s) (needed s below) (λ there. bounds s below there cost lower small));
+        start_filled values cost general s (get_or tables s []) (is_in set s) (needed s below) (λ there. (bounds s below there).shows cost lower small));
   },
   record {
     least = λ i x inside below. subst (λ starts. IsLeastTo shift (step_cost values) starts 64 (suc i) x (get_or (get_or general i []) x 0)) zero_start
         ((rows.row i inside).least.least x below);
     needed = λ s below. there_where_needed set tables s (bound from_any general 40 s) cost below (needed s below);
+    own = λ s below. own_shown values set tables s below (λ there. (bounds s below there).least);
   },
 )
   where

@@ -1,5 +1,5 @@
 -- The least costs up to each state, step by step, and the tables that are needed (own).
-use Rattle.std.specs.Prelude.{◌≡◌, ◌↔◌, ℕ, suc, ◌*◌, ◌^◌, ◌<◌, ◌≤◌, List, [], Some, None, IsSome, length, slice_index, slice_index_or, ℤ}
+use Rattle.std.specs.Prelude.{◌≡◌, ◌↔◌, ℕ, suc, ◌*◌, ◌^◌, ◌<◌, ◌≤◌, List, [], Some, None, IfSome, IsSome, length, slice_index, slice_index_or, ℤ}
 use Rattle.paths.specs.Least.{IsLeastTo, ends_in}
 use Rattle.paths.specs.Rows.{IsLeastRow}
 use Rattle.tailbite.specs.Machine.{shift, step_cost}
@@ -23,8 +23,20 @@ abbrev pub ShowsBounds : List (List ℤ) → ℕ → List (List ℕ) → Type 0
 ShowsBounds values s table =
     (cost : ℕ) → IsLowerBound values cost → cost ≤ 2 ^ 30 → StartHolds values cost [] s (Some table)
 
--- each bound of the general table is the least cost of so many steps from any state, and a start state has a table exactly
--- where its bound in the general table is below the cost
+-- each bound of a table is the least cost of so many steps from the state s, where a start in any other costs 2 ^ 30
+abbrev pub HasLeastFrom : List (List ℤ) → ℕ → List (List ℕ) → Type 0
+HasLeastFrom values s table =
+    (i x : ℕ) → i < 40 → x < 64 →
+    IsLeastTo shift (step_cost values) (ends_in (2 ^ 30) s) 64 (suc i) x (slice_index (slice_index_or table i []) x)
+
+-- the table of the state s that is written: of least costs from there, which show each lower bound
+pub record IsTableFrom (values : List (List ℤ)) (s : ℕ) (table : List (List ℕ)) : Type 0 where
+  pub least : HasLeastFrom values s table
+  pub shows : ShowsBounds values s table
+
+-- each bound of the general table is the least cost of so many steps from any state; a start state has a table exactly
+-- where its bound in the general table is below the cost, and then one of least costs from there
 pub record IsFilled (c : Held) : Type 0 where
   pub least : (i x : ℕ) → i < 40 → x < 64 → IsLeastTo shift (step_cost c.values) from_any 64 (suc i) x (bound from_any c.general (suc i) x)
   pub needed : (s : ℕ) → s < 64 → IsSome (slice_index_or c.tables s None) ↔ (bound from_any c.general 40 s < c.cost)
+  pub own : (s : ℕ) → s < 64 → IfSome (slice_index_or c.tables s None) (HasLeastFrom c.values s)

@@ -4,7 +4,7 @@ ghost use Rattle.std.specs.Prelude.{◌≡◌, ◌*◌, ◌^◌, ◌<◌, ◌≤
 ghost use Rattle.finite.specs.Sizes.{RowsWithin};
 ghost use Rattle.tailbite.specs.LeastWord.{IsLeastWord};
 ghost use Rattle.tail_cert.specs.Certificate.{IsAccepted, IsTable, bound, from_any};
-ghost use Rattle.tail_cert.specs.Forward.{HasLeastRows, IsFilled, IsStartRow, ShowsBounds};
+ghost use Rattle.tail_cert.specs.Forward.{HasLeastRows, IsFilled, IsStartRow, IsTableFrom};
 ghost use Rattle.tail_cert.specs.Stored.{AreStored, is_in};
 
 use crate::Certificate;
@@ -47,7 +47,7 @@ fn start_at(s: usize) -> [u32; 64]
 /// Fills the table of the start state s.
 fn fill_start(costs: &PathCosts, s: usize, table: &mut Table)
     requires state { s < 64 }
-    ensures bounds { ShowsBounds costs.now.values.now s table.new }
+    ensures bounds { IsTableFrom costs.now.values.now s table.new }
     ensures whole { IsTable table.new }
 {
     fill_table(costs, &start_at(s), table);
@@ -69,7 +69,7 @@ fn states_below(cost: u32, general: &Table) -> Bits<64>
 fn fill_tables(costs: &PathCosts, set: &Bits<64>, tables: &mut [Table])
     requires tables { AreStored set.now tables.old }
     ensures bounds { (s : ℕ) → s < 64 → is_in set.now s ≡ true →
-        ShowsBounds costs.now.values.now s (slice_index_or tables.new s []) }
+        IsTableFrom costs.now.values.now s (slice_index_or tables.new s []) }
     ensures tables { AreStored set.now tables.new }
 {
     for s in 0..STATES {
@@ -101,7 +101,8 @@ fn copy_of(values: &[[i32; 3]; 40]) -> [[i32; 3]; 40]
 
 /// Fills a certificate with values of size at most 2,032, three for each place, their least word, its cost,
 /// the general table of least costs of so many steps from any state, and a table of each start state whose
-/// bound there, of 40 steps back to it, is below the cost. The certificate is then accepted.
+/// bound there, of 40 steps back to it, is below the cost: of least costs of so many steps from this state, where
+/// a start in any other costs 2^30. The certificate is then accepted.
 pub fn fill(certificate: &mut Certificate, values: &[[i32; 3]; 40], work: &mut Trellis)
     requires { RowsWithin 2032 values.now }
     ensures accepted { IsAccepted certificate.new }
