@@ -31,3 +31,5 @@ pub const TABLE_BYTES: usize = 10_240;
 
 /// The bytes of the longest certificate, with the tables of all 64 start states.
 pub const MOST_BYTES: usize = HEAD_BYTES + 64 * TABLE_BYTES;
+
+const _: () = prove!(MOST_BYTES == 665_861);
