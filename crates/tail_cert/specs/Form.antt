@@ -1,5 +1,6 @@
 -- The bytes of a certificate (own).
-use Rattle.std.specs.Prelude.{◌≡◌, ◌≢◌, ℕ, ◌+◌, ◌-◌, ◌*◌, ◌/◌, ◌%◌, ◌^◌, ◌<◌, ◌≤◌, ◌++◌, ◌⊎◌, Bool, cond, List, [], ◌∷◌, Option, Some, None, is_some, length, nat_abs, slice_index, slice_index_or, take, drop, ℤ}
+use Rattle.std.specs.Prelude.{◌≡◌, ◌≢◌, ℕ, ◌+◌, ◌-◌, ◌*◌, ◌/◌, ◌%◌, ◌^◌, ◌<◌, ◌≤◌, ◌++◌, ◌⊎◌, Bool, cond, List, [], ◌∷◌, Option, Some, None, codes, is_some, length, nat_abs, slice_index, slice_index_or, take, drop, ℤ}
+use Rattle.std.specs.Fmt.{decimal}
 use Rattle.std.specs.List.{flat_map}
 use Rattle.std.specs.Int.{w16, cast_signed, cast_unsigned}
 use Rattle.byteorder.specs.Endian.{little_bytes, big_bytes, little_number}
@@ -121,3 +122,7 @@ pub record IsFirstBreakUpTo (count : ℕ) (bytes : List ℕ) (p : ℕ) : Type 0 
 
 abbrev pub IsFirstBreak : List ℕ → ℕ → Type 0
 IsFirstBreak bytes p = IsFirstBreakUpTo (count_of bytes) bytes p
+
+-- what is told of a broken form, with the place
+abbrev pub broken_text : ℕ → List ℕ
+broken_text place = codes "bad certificate at byte " ++ decimal place

@@ -11,15 +11,26 @@ use crate::certificate::{Table, has, length_with, make_tables};
 use crate::{Certificate, FRONT_BYTES, HEAD_BYTES, SET_PLACE, TABLE_BYTES};
 use byteorder::{BigEndian, ByteOrder, LittleEndian};
 use cs_bits::Bits;
+use std::fmt;
 use thiserror::Error;
 
 /// Bytes that are no certificate, with the place of the first byte that breaks the form; where the bytes
 /// end early, that is their number.
 #[derive(Clone, Copy, Debug, PartialEq, Eq, Error)]
-#[error("bad certificate at byte {place}")]
 pub struct BadCertificate {
     /// The place, counted from 0.
     pub place: u64,
+}
+
+impl fmt::Display for BadCertificate {
+    ghost use Rattle.std.specs.Prelude.{Some};
+    ghost use Rattle.tail_cert.specs.Form.{broken_text};
+
+    ghost output = { λ broken. Some (broken_text broken.place) };
+
+    fn fmt<W: fmt::Write>(&self, f: &mut fmt::Formatter<W>) -> fmt::Result {
+        write!(f, "bad certificate at byte {}", self.place)
+    }
 }
 
 const MARK: [u8; 4] = [0x4c, 0x54, 0x43, 0x32];
