@@ -1,4 +1,4 @@
--- The three causes by which what is seen is off.
+-- The causes by which what is seen is off.
 use Rattle.std.proofs.Common.{◌≡◌, ℕ, ◌+◌, ◌*◌, ◌^◌, ◌<◌, ◌≤◌, arith, refl, ap, ap₂, sym, subst, ◌∙◌, ℤ, pos, ◌+ℤ◌, ◌-ℤ◌, ◌*ℤ◌, mul-le-mul, mul-le-mul_left}
 use Rattle.finite.proofs.Sums.{total_below-within}
 use Rattle.finite.proofs.Ring.{var, lit, same}
@@ -7,9 +7,9 @@ use Rattle.cs_num.specs.declared.Cpx.{Cpx}
 use Rattle.cs_num.specs.Complex.{IsWithin, plus, times, square, minus, multiple}
 use Rattle.cs_num.specs.Rounding.{rounded}
 use Rattle.cs_num.specs.Sums.{complex_sum_below}
-use Rattle.cs_num.proofs.Complex.{square-within, pair, plus-associates}
+use Rattle.cs_num.proofs.Complex.{square-within, pair, plus-associates, times-plus}
 use Rattle.sizes.specs.Sizes.{IsSized, energy_below, correlation_below}
-use Rattle.sizes.proofs.Algebra.{plus-minus, minus-plus, times-minus, times-multiple}
+use Rattle.sizes.proofs.Algebra.{plus-minus, minus-plus, plus-exchanges, times-minus, times-multiple}
 use Rattle.sizes.proofs.Squares.{square-multiple, square-times}
 use Rattle.sizes.proofs.TwoTerms.{two_term_cauchy}
 use Rattle.sizes.proofs.Sized.{sized_plain, sized-plus}
@@ -19,7 +19,8 @@ use Rattle.fold128.specs.Symbol.{frequency, useful_term, useful_at}
 use Rattle.fold128.specs.Spectrum.{spectrum_at}
 use Rattle.fold128.proofs.EntrySizes.{w-square}
 use Rattle.budget.specs.Received.{AreAmplitudes}
-use Rattle.budget.specs.Budget.{SendingIsSmall, SendingIsLinear, DeviationHasThreeCauses, sending_off}
+use Rattle.budget.specs.Budget.{SendingHasTwoCauses, LeakageIsSmall, RoundingSentIsSmall, SendingIsSmall, SendingIsLinear, DeviationHasThreeCauses, DeviationHasFourCauses}
+use Rattle.budget.specs.Budget.{leakage, rounding_sent, sending_off, with_gains}
 use Rattle.budget.proofs.Leakage.{sum_sent, tone_at, leak, seen_sent, leak-small}
 
 -- ---- energies
@@ -66,6 +67,29 @@ sending_is grid k l =
     ∙ ap (λ (z : Cpx). plus z r) (seen_sent grid k l)
     ∙ plus-associates (multiple 34359738368 (grid k)) (leak grid k) r in
     ap (λ (z : Cpx). minus z (multiple 34359738368 (grid k))) parts ∙ minus-plus (multiple 34359738368 (grid k)) (plus (leak grid k) r)
+
+leakage_is : (grid : ℕ → Cpx) (k : ℕ) → k < 72 → leakage grid k ≡ leak grid k
+unfolding spectrum_at sum_sent
+leakage_is grid k l =
+    ap (λ (z : Cpx). minus z (multiple 34359738368 (grid k))) (seen_sent grid k l) ∙ minus-plus (multiple 34359738368 (grid k)) (leak grid k)
+
+pub sending_has_two_causes : SendingHasTwoCauses
+unfolding sending spectrum_at rounding_off sum_sent
+sending_has_two_causes grid k l = sending_is grid k l ∙ ap (λ (z : Cpx). plus z (rounding_sent grid k)) (sym (leakage_is grid k l))
+
+pub leakage_is_small : LeakageIsSmall
+leakage_is_small grid k small l =
+    subst (λ (z : Cpx). 100 * square z ≤ (61 * 2 ^ 31) * (61 * 2 ^ 31)) (sym (leakage_is grid k l)) (fits (square (leak grid k)) (leak-small grid k small).sized)
+  where
+    fits : (s : ℕ) → s ≤ 13094092800 * 13094092800 * 1 → 100 * s ≤ (61 * 2 ^ 31) * (61 * 2 ^ 31)
+    fits s h = omega (arith, h)
+
+pub rounding_sent_is_small : RoundingSentIsSmall
+unfolding spectrum_at rounding_off sum_sent
+rounding_sent_is_small grid k = fits (square (rounding_sent grid k)) (seen-small (rounding_off grid) k 65536 (λ n p. rounding-off_small grid n))
+  where
+    fits : (s : ℕ) → s ≤ (256 * (65536 * 65536)) * (128 * 268468225) → 100 * s ≤ (907 * 2 ^ 31) * (907 * 2 ^ 31)
+    fits s h = omega (arith, h)
 
 -- together 97 units of 2^31
 pub sending_is_small : SendingIsSmall
@@ -166,6 +190,28 @@ parts_out s t x y k =
 pub sending_is_linear : SendingIsLinear
 sending_is_linear gain sent others amplitude other k =
     parts_out (λ n. times gain (sent n)) others (times gain amplitude) other k ∙ ap (λ (z : Cpx). plus z (sending_off others other k)) (gain_out gain sent amplitude k)
+
+-- ---- of two symbols with a gain each
+
+both_off : (g h : Cpx) (grid second : ℕ → Cpx) (k : ℕ) → k < 72 →
+    sending_off (λ n. with_gains g h (useful_at grid n) (useful_at second n)) (with_gains g h (grid k) (second k)) k
+    ≡ plus (with_gains g h (leakage grid k) (leakage second k)) (with_gains g h (rounding_sent grid k) (rounding_sent second k))
+both_off g h grid second k l =
+    sending_is_linear g (useful_at grid) (λ n. times h (useful_at second n)) (grid k) (times h (second k)) k
+    ∙ ap₂ plus (ap (times g) (sending_has_two_causes grid k l) ∙ times-plus g (leakage grid k) (rounding_sent grid k))
+    (gain_out h (useful_at second) (second k) k ∙ ap (times h) (sending_has_two_causes second k l) ∙ times-plus h (leakage second k) (rounding_sent second k))
+    ∙ plus-exchanges (times g (leakage grid k)) (times g (rounding_sent grid k)) (times h (leakage second k)) (times h (rounding_sent second k))
+
+pub four_causes : DeviationHasFourCauses
+four_causes eps gain other grid second samples k l sum =
+    let t = three_causes eps (λ n. with_gains gain other (useful_at grid n) (useful_at second n)) samples (with_gains gain other (grid k) (second k)) k sum in
+    record {
+      errors = t.errors;
+      rounding = t.rounding;
+      whole = t.whole ∙ ap (λ (z : Cpx). plus z (plus t.errors t.rounding)) (both_off gain other grid second k l);
+      errors_small = t.errors_small;
+      rounding_small = t.rounding_small;
+    }
 
 -- what is sent gives an amplitude, and the square of what sending is off by is at most `bound` times the squares of the gains
 pub record IsSent (bound power : ℕ) (sent : ℕ → Cpx) (amplitude : Cpx) (k : ℕ) : Type 0 where

@@ -4,10 +4,12 @@ use Rattle.cs_num.specs.declared.Cpx.{Cpx}
 use Rattle.cs_num.specs.declared.Sample.{Sample}
 use Rattle.cs_num.specs.Complex.{IsWithin, plus, times, square, minus, multiple}
 use Rattle.cs_num.specs.Rounding.{rounded}
-use Rattle.fold128.specs.Symbol.{useful_at}
+use Rattle.cs_num.specs.Sums.{complex_sum_below}
+use Rattle.fold128.specs.Symbol.{useful_term, useful_at}
 use Rattle.fold128.specs.Spectrum.{spectrum_at}
 use Rattle.observe.specs.Seen.{seen}
-use Rattle.budget.specs.Received.{AreAmplitudes, IsReceived, IsReceivedFromTwo, IsReceivedFromFour, samples_from}
+use Rattle.budget.specs.Received.{AreAmplitudes, AreSum, IsReceived, IsReceivedFromTwo, IsReceivedFromFour}
+use Rattle.budget.specs.Received.{samples_from}
 use Rattle.budget.specs.Received.{IsSeenAs, IsSeenAsTwo, IsSeenAsFour}
 
 -- what is seen of samples at subcarrier k
@@ -18,13 +20,40 @@ seen_in samples k = rounded (spectrum_at samples k) 12
 abbrev pub sending_off : (ℕ → Cpx) → Cpx → ℕ → Cpx
 sending_off sent amplitude k = minus (multiple (2 ^ 17) (spectrum_at sent k)) (multiple (2 ^ 35) amplitude)
 
--- what sending one symbol is off by, from the tables and the rounding of the samples, is small
+-- of one symbol it is at most 97 units of 2^31
 abbrev pub SendingIsSmall : Type 0
 SendingIsSmall =
     (grid : ℕ → Cpx) (k : ℕ) → AreAmplitudes grid → k < 72 →
     square (sending_off (useful_at grid) (grid k) k) ≤ (97 * 2 ^ 31) * (97 * 2 ^ 31)
 
--- what sending by several ports is off by adds up, each port's times its gain
+-- 2^17 times sample n of a useful part, before it is rounded
+abbrev pub unrounded : (ℕ → Cpx) → ℕ → Cpx
+unrounded grid n = complex_sum_below 72 (useful_term grid n)
+
+-- the leakage: what would be seen of these, less 2^35 times the amplitude, which is not 0 since the tables are rounded
+abbrev pub leakage : (ℕ → Cpx) → ℕ → Cpx
+leakage grid k = minus (spectrum_at (unrounded grid) k) (multiple (2 ^ 35) (grid k))
+
+-- what is seen of the rounding of the samples
+abbrev pub rounding_sent : (ℕ → Cpx) → ℕ → Cpx
+rounding_sent grid k = spectrum_at (λ n. minus (multiple (2 ^ 17) (useful_at grid n)) (unrounded grid n)) k
+
+-- of one symbol what sending is off by is both
+abbrev pub SendingHasTwoCauses : Type 0
+SendingHasTwoCauses =
+    (grid : ℕ → Cpx) (k : ℕ) → k < 72 →
+    sending_off (useful_at grid) (grid k) k ≡ plus (leakage grid k) (rounding_sent grid k)
+
+-- in units of 2^31 the leakage is at most 6.1, and the rounding of the samples at most 90.7
+abbrev pub LeakageIsSmall : Type 0
+LeakageIsSmall =
+    (grid : ℕ → Cpx) (k : ℕ) → AreAmplitudes grid → k < 72 →
+    100 * square (leakage grid k) ≤ (61 * 2 ^ 31) * (61 * 2 ^ 31)
+
+abbrev pub RoundingSentIsSmall : Type 0
+RoundingSentIsSmall = (grid : ℕ → Cpx) (k : ℕ) → 100 * square (rounding_sent grid k) ≤ (907 * 2 ^ 31) * (907 * 2 ^ 31)
+
+-- of what several ports send it adds up, each port's times its gain
 abbrev pub SendingIsLinear : Type 0
 SendingIsLinear =
     (gain : Cpx) (sent others : ℕ → Cpx) (amplitude other : Cpx) (k : ℕ) →
@@ -50,6 +79,28 @@ DeviationHasThreeCauses =
     (eps : ℕ) (sent samples : ℕ → Cpx) (amplitude : Cpx) (k : ℕ) →
     ((n : ℕ) → n < 128 → IsWithin eps (minus (samples n) (sent n))) →
     HasThreeCauses eps sent samples amplitude k
+
+-- two numbers, each times a gain
+abbrev pub with_gains : Cpx → Cpx → Cpx → Cpx → Cpx
+with_gains gain other a b = plus (times gain a) (times other b)
+
+-- 2^29 times the deviation of what is seen of two symbols, each with a gain, has four causes: the leakage of each, the
+-- rounding of each one's samples, the errors of the samples, and the rounding of what is seen
+pub record HasFourCauses (eps : ℕ) (gain other : Cpx) (grid second_grid samples : ℕ → Cpx) (k : ℕ) : Type 0 where
+  pub errors : Cpx
+  pub rounding : Cpx
+  pub whole : multiple (2 ^ 29)
+      (minus (seen_in samples k) (multiple 64 (with_gains gain other (grid k) (second_grid k))))
+      ≡ plus (plus (with_gains gain other (leakage grid k) (leakage second_grid k))
+      (with_gains gain other (rounding_sent grid k) (rounding_sent second_grid k))) (plus errors rounding)
+  pub errors_small : square errors ≤ 2 ^ 49 * (eps * eps) * (16385 * 16385)
+  pub rounding_small : square rounding ≤ 2 ^ 57
+
+-- so it is where each component of a sample is off by at most eps; one gain is the case where the other is 0
+abbrev pub DeviationHasFourCauses : Type 0
+DeviationHasFourCauses =
+    (eps : ℕ) (gain other : Cpx) (grid second_grid samples : ℕ → Cpx) (k : ℕ) → k < 72 →
+    AreSum eps gain other grid second_grid samples → HasFourCauses eps gain other grid second_grid samples k
 
 -- each amplitude is seen, with one gain and errors of at most twice its size
 abbrev pub AmplitudeIsSeen : Type 0

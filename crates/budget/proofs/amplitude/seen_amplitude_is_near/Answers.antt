@@ -1,6 +1,16 @@
-use Rattle.budget.proofs.Causes.{sending_is_small, sending_is_linear, three_causes}
+use Rattle.budget.proofs.Causes.{sending_has_two_causes, leakage_is_small, rounding_sent_is_small, sending_is_small, sending_is_linear}
+use Rattle.budget.proofs.Causes.{three_causes, four_causes}
 use Rattle.budget.proofs.Seen.{amplitude_is_seen, two_amplitudes_are_seen, four_amplitudes_are_seen, amplitude_is_seen_in_recording, two_amplitudes_are_seen_in_recording, four_amplitudes_are_seen_in_recording}
 use Rattle.budget.proofs.amplitude.seen_amplitude_is_near.Goals as goal
+
+pub returns-clause-two_causes : goal.returns-clause-two_causes
+returns-clause-two_causes c = sending_has_two_causes
+
+pub returns-clause-leakage : goal.returns-clause-leakage
+returns-clause-leakage c = leakage_is_small
+
+pub returns-clause-rounding : goal.returns-clause-rounding
+returns-clause-rounding c = rounding_sent_is_small
 
 pub returns-clause-sending : goal.returns-clause-sending
 returns-clause-sending c = sending_is_small
@@ -8,8 +18,11 @@ returns-clause-sending c = sending_is_small
 pub returns-clause-linear : goal.returns-clause-linear
 returns-clause-linear c = sending_is_linear
 
-pub returns-clause-causes : goal.returns-clause-causes
-returns-clause-causes c = three_causes
+pub returns-clause-three_causes : goal.returns-clause-three_causes
+returns-clause-three_causes c = three_causes
+
+pub returns-clause-four_causes : goal.returns-clause-four_causes
+returns-clause-four_causes c = four_causes
 
 pub returns-clause-one_gain : goal.returns-clause-one_gain
 returns-clause-one_gain c = amplitude_is_seen
