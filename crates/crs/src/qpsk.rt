@@ -2,8 +2,8 @@
 
 ghost use Rattle.std.specs.Prelude.{◌≡◌};
 ghost use Rattle.cs_num.specs.Complex.{square};
-ghost use Rattle.crs.specs.Power.{point_power};
 ghost use Rattle.crs.specs.Qpsk.{component, point, IsPoint};
+ghost use Rattle.crs.specs.declared.qpsk.TheConstants.{POINT_POWER};
 
 use cs_num::Cpx;
 
@@ -22,7 +22,7 @@ fn component_of(bit: bool) -> i64
 pub fn point(first: bool, second: bool) -> Cpx
     ensures point { result ≡ point first second }
     ensures full { IsPoint result }
-    ensures power { square result ≡ point_power }
+    ensures power { square result ≡ POINT_POWER }
 {
     Cpx {
         re: component_of(first),
