@@ -1,7 +1,7 @@
 -- The list of the cells that a recording explains. (own)
 use Rattle.std.specs.Prelude.{◌≡◌, ◌⊎◌, ◌↔◌, ℕ, ◌+◌, ◌-◌, ◌*◌, ◌%◌, ◌<◌, ◌≤◌, min, Bool, ◌&&◌, nat_eq, nat_le}
-use Rattle.std.specs.Prelude.{if◌then◌else◌, true, List, [], ◌∷◌, ◌++◌, ℤ}
-use Rattle.std.specs.List.{fold, list_any, flat_map, AllZip, AllPairs, Contains}
+use Rattle.std.specs.Prelude.{if◌then◌else◌, true, List, [], ◌∷◌, ◌++◌, length, ℤ}
+use Rattle.std.specs.List.{fold, list_any, flat_map, insert, AllWithin, HoldsAt, AllZip, AllPairs, Contains}
 use Rattle.std.specs.List.Sorted.{IsPermutation}
 use Rattle.cs_num.specs.declared.Sample.{Sample}
 use Rattle.lte_types.specs.declared.hit.Hit.{Hit}
@@ -114,7 +114,14 @@ abbrev pub IsBefore : Entry → Entry → Type 0
 IsBefore a b =
     (a.start < b.start) ⊎ ((a.start ≡ b.start) × ((a.id < b.id) ⊎ ((a.id ≡ b.id) × (a.sfn < b.sfn))))
 
--- the list has, in order, the entries that are kept of these
+-- an entry was put into a list: behind the entries from the first on that stand before it, in order or not
+pub record IsPut (entry : Entry) (at : ℕ) (old new : List Entry) : Type 0 where
+  pub within : at ≤ length old
+  pub before : AllWithin (λ other. IsBefore other entry) old 0 at
+  pub after : at < length old → HoldsAt (λ other. ¬ IsBefore other entry) old at
+  pub new_is : new ≡ insert old at entry
+
+-- the list has the kept ones of these entries, in order
 pub record IsListOf (entries list : List Entry) : Type 0 where
   pub same : IsPermutation (kept entries) list
   pub in_order : AllPairs IsBefore list

@@ -1,9 +1,9 @@
 //! A list of entries, each cell once and in order.
 
-ghost use Rattle.std.specs.Prelude.{◌≡◌, ◌+◌, ◌<◌, ◌≤◌, ◌↔◌, [], ◌∷◌, IsTrue, MatchOption, length};
-ghost use Rattle.std.specs.List.{AllWithin, HoldsAt, insert as insert_at, list_any};
+ghost use Rattle.std.specs.Prelude.{◌≡◌, ◌+◌, ◌<◌, ◌≤◌, ◌↔◌, [], ◌∷◌, false, IfSome, IsNone, IsSome, IsTrue, length};
+ghost use Rattle.std.specs.List.{AllWithin, HoldsAt, list_any};
 ghost use Rattle.lte_types.specs.Numerology.{cycle_length};
-ghost use Rattle.explain.specs.Entries.{IsBefore, Adds, epoch as epoch_of, is_same_cell as same_cell};
+ghost use Rattle.explain.specs.Entries.{IsBefore, IsPut, Adds, epoch as epoch_of, is_same_cell as same_cell};
 
 use crate::EntryList;
 use lte_types::{CYCLE_LENGTH, Entry, FRAME_LENGTH};
@@ -12,14 +12,15 @@ use lte_types::{CYCLE_LENGTH, Entry, FRAME_LENGTH};
 const CYCLE: u32 = CYCLE_LENGTH as u32;
 
 impl EntryList {
-    /// Adds an entry where it stands by start, identity and frame number, unless the list has one of its
-    /// cell, and tells its index. Where the list was that of some entries, it is that of these and this
-    /// one. It takes no memory.
+    /// Adds an entry behind those from the first on that stand before it by start, identity and frame number, and
+    /// tells its index; where the list has one of its cell, nothing is added. Where the list was that of some
+    /// entries, and so in order, it is that of these and this one. It takes no memory.
     pub fn add(&mut self, entry: Entry) -> Option<usize>
         requires room { length self.old < 23040 }
         ensures adds { Adds (entry ∷ []) self.old self.new }
-        ensures at { MatchOption result (self.new ≡ self.old)
-            (λ at. (at ≤ length self.old) × (self.new ≡ insert_at self.old at entry)) }
+        ensures new { IsSome result ↔ (list_any (λ other. same_cell other entry) self.old ≡ false) }
+        ensures put { IfSome result (λ at. IsPut entry at self.old self.new) }
+        ensures none { IsNone result → self.new ≡ self.old }
         ensures one { length self.new ≤ length self.old + 1 }
     {
         if has_cell(self.slice(), &entry) {
