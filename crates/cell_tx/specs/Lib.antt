@@ -1,4 +1,5 @@
 pub mod Conditions
+pub mod Words
 pub mod Transport
 pub mod Plan
 pub mod Ports
