@@ -3,3 +3,4 @@ pub mod Information
 pub mod Description
 pub mod Parts
 pub mod Reading
+pub mod Words

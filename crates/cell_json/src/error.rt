@@ -1,15 +1,28 @@
 //! Why a description was not read.
 
+ghost use Rattle.std.specs.Prelude.{Some};
+ghost use Rattle.cell_json.specs.Words.{error_text};
+
 use cell_tx::CellError;
+use std::fmt;
 use thiserror::Error;
 
 /// Why a description was not read. (own)
 #[derive(Clone, Copy, Debug, PartialEq, Eq, Error)]
 pub enum JsonError {
     /// The first failed condition.
-    #[error("bad cell: {0}")]
     Cell(CellError),
     /// Memory was wanting.
-    #[error("out of memory")]
     OutOfMemory,
+}
+
+impl fmt::Display for JsonError {
+    ghost output = { λ error. Some (error_text error) };
+
+    fn fmt<W: fmt::Write>(&self, f: &mut fmt::Formatter<W>) -> fmt::Result {
+        match self {
+            JsonError::Cell(cause) => write!(f, "bad cell: {cause}"),
+            JsonError::OutOfMemory => f.write_str("out of memory"),
+        }
+    }
 }

@@ -1,0 +1,9 @@
+-- What a description that was not read is answered with. (own)
+use Rattle.std.specs.Prelude.{ℕ, List, codes}
+use Rattle.cell_tx.specs.Words.{refusal_text}
+use Rattle.cell_json.specs.declared.error.JsonError.{JsonError}
+use Rattle.cell_json.specs.declared.error.JsonError.TheVariants.{Cell, OutOfMemory}
+
+abbrev pub error_text : JsonError → List ℕ
+error_text (Cell cause) = refusal_text cause
+error_text OutOfMemory = codes "out of memory"
