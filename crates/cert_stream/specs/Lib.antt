@@ -1,3 +1,4 @@
 pub mod Stream
 pub mod Reading
 pub mod Certifying
+pub mod Words

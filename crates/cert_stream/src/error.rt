@@ -1,9 +1,11 @@
 //! Why the certificates of a source were not answered.
 
-ghost use Rattle.std.specs.Prelude.{◌≡◌};
+ghost use Rattle.std.specs.Prelude.{◌≡◌, Some};
+ghost use Rattle.cert_stream.specs.Words.{error_text};
 ghost use Rattle.cert_stream.specs.declared.error.StreamError.TheVariants.{OutOfMemory};
 
 use std::alloc::AllocError;
+use std::fmt;
 use thiserror::Error;
 
 /// Why the certificates of a source were not answered. (own)
@@ -11,16 +13,12 @@ use thiserror::Error;
 pub enum StreamError {
     /// The place, from 0, of the first byte that breaks the form of certificates; where the input
     /// ends within one, its length.
-    #[error("bad certificate at byte {0}")]
     Broken(u64),
     /// The input is longer than 67,108,864 bytes, of which none breaks the form.
-    #[error("too long")]
     TooLong,
     /// A call of the source failed before a byte that breaks the form was read.
-    #[error("read fault")]
     ReadFault,
     /// Memory was refused.
-    #[error("out of memory")]
     OutOfMemory,
 }
 
@@ -29,5 +27,18 @@ impl From<AllocError> for StreamError {
 
     fn from(_error: AllocError) -> StreamError {
         StreamError::OutOfMemory
+    }
+}
+
+impl fmt::Display for StreamError {
+    ghost output = { λ error. Some (error_text error) };
+
+    fn fmt<W: fmt::Write>(&self, f: &mut fmt::Formatter<W>) -> fmt::Result {
+        match self {
+            StreamError::Broken(place) => write!(f, "bad certificate at byte {place}"),
+            StreamError::TooLong => f.write_str("too long"),
+            StreamError::ReadFault => f.write_str("read fault"),
+            StreamError::OutOfMemory => f.write_str("out of memory"),
+        }
     }
 }
