@@ -16,26 +16,39 @@ use cs_num::Sample;
 use cs_outside::{Failed, Source, read_at};
 use lte_types::MOST_SAMPLES;
 use std::alloc::{AllocError, Global};
+use std::fmt;
 use thiserror::Error;
 
 /// Why no recording was read.
 #[derive(Clone, Copy, Debug, PartialEq, Eq, Error)]
 pub enum FileError {
     /// The input ended within a sample.
-    #[error("ragged")]
     Ragged,
     /// The input ended after fewer than 57,600 samples.
-    #[error("too short")]
     TooShort,
     /// The input is longer than 1,920,000 samples.
-    #[error("too long")]
     TooLong,
     /// A call of the source failed.
-    #[error("read fault")]
     ReadFault,
     /// Memory was refused.
-    #[error("out of memory")]
     OutOfMemory,
+}
+
+impl fmt::Display for FileError {
+    ghost use Rattle.std.specs.Prelude.{Some};
+    ghost use Rattle.sample_file.specs.Words.{error_text};
+
+    ghost output = { λ error. Some (error_text error) };
+
+    fn fmt<W: fmt::Write>(&self, f: &mut fmt::Formatter<W>) -> fmt::Result {
+        match self {
+            FileError::Ragged => f.write_str("ragged"),
+            FileError::TooShort => f.write_str("too short"),
+            FileError::TooLong => f.write_str("too long"),
+            FileError::ReadFault => f.write_str("read fault"),
+            FileError::OutOfMemory => f.write_str("out of memory"),
+        }
+    }
 }
 
 impl From<AllocError> for FileError {
