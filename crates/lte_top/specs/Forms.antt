@@ -24,8 +24,7 @@ use Rattle.lte_top.specs.declared.form.Page.TheVariants.{Help, Version}
 use Rattle.lte_types.specs.declared.carrier.Carrier.{Carrier}
 use Rattle.lte_types.specs.declared.carrier.Carrier.TheVariants.{OnePort, TwoPorts, LongPrefix, FourPorts}
 use Rattle.lte_top.specs.declared.status.Status.{Status}
-use Rattle.lte_top.specs.declared.status.Status.TheVariants.{Done, Usage, Ragged, TooShort, TooLong, ReadFault}
-use Rattle.lte_top.specs.declared.status.Status.TheVariants.{WriteFault, OutOfMemory, BadCell, BadCertificate}
+use Rattle.lte_top.specs.declared.status.Status.TheVariants.{Ragged, TooShort, BadCell, BadCertificate}
 use Rattle.cell_json.specs.Reading.{refusal_by}
 use Rattle.lte_top.specs.Transmitting.{most_description_bytes, IsTransmitted}
 use Rattle.lte_top.specs.Certificates.{IsChecked, IsCertified}
@@ -212,17 +211,3 @@ IsOutput (Transmit carrier load) bytes written = IsTransmitted carrier load byte
 IsOutput (Make carrier n) bytes written = IsMadeText carrier n written
 IsOutput (Apply turn form) bytes written = IsTurnedAsBytes turn (samples_in form bytes) written
 IsOutput (Print program page) bytes written = written ≡ page_text program page
-
--- ---- exit codes
-
-abbrev pub code_of : Status → ℕ
-code_of Done = 0
-code_of Usage = 2
-code_of Ragged = 3
-code_of TooShort = 4
-code_of TooLong = 5
-code_of ReadFault = 6
-code_of WriteFault = 7
-code_of OutOfMemory = 8
-code_of (BadCell cause) = 9
-code_of (BadCertificate place) = 10

@@ -7,6 +7,7 @@ pub mod Pages
 pub mod Tuning
 pub mod Making
 pub mod Forms
+pub mod Answers
 pub mod Errors
 pub mod Memory
 pub mod Run

@@ -1,8 +1,8 @@
 //! How a run ends.
 
-ghost use Rattle.std.specs.Prelude.{◌≡◌};
+ghost use Rattle.std.specs.Prelude.{◌≡◌, Some};
+ghost use Rattle.lte_top.specs.Answers.{code_of, text_of};
 ghost use Rattle.lte_top.specs.Errors.{of_read, of_file, of_json, of_stream};
-ghost use Rattle.lte_top.specs.Forms.{code_of};
 ghost use Rattle.lte_top.specs.declared.status.Status.TheVariants.{OutOfMemory};
 
 use cell_json::JsonError;
@@ -117,18 +117,20 @@ impl From<AllocError> for Status {
     }
 }
 
-/// The text of the line on standard error.
+/// The text of the line on standard error, after the program's name.
 impl fmt::Display for Status {
+    ghost output = { λ status. Some (text_of status) };
+
     fn fmt<W: fmt::Write>(&self, f: &mut fmt::Formatter<W>) -> fmt::Result {
         match self {
-            Status::Done => write!(f, "done"),
-            Status::Usage => write!(f, "usage"),
-            Status::Ragged => write!(f, "ragged"),
-            Status::TooShort => write!(f, "too short"),
-            Status::TooLong => write!(f, "too long"),
-            Status::ReadFault => write!(f, "read fault"),
-            Status::WriteFault => write!(f, "write fault"),
-            Status::OutOfMemory => write!(f, "out of memory"),
+            Status::Done => f.write_str("done"),
+            Status::Usage => f.write_str("usage"),
+            Status::Ragged => f.write_str("ragged"),
+            Status::TooShort => f.write_str("too short"),
+            Status::TooLong => f.write_str("too long"),
+            Status::ReadFault => f.write_str("read fault"),
+            Status::WriteFault => f.write_str("write fault"),
+            Status::OutOfMemory => f.write_str("out of memory"),
             Status::BadCell(cause) => write!(f, "bad cell: {cause}"),
             Status::BadCertificate(place) => write!(f, "bad certificate at byte {place}"),
         }
