@@ -4,20 +4,52 @@ use Rattle.lte_top.specs.declared.form.Program.{Program}
 use Rattle.lte_top.specs.declared.form.Program.TheVariants.{Receiver, Tuner}
 use Rattle.lte_top.specs.declared.form.Page.{Page}
 use Rattle.lte_top.specs.declared.form.Page.TheVariants.{Help, Version}
-use Rattle.lte_top.specs.declared.version.TheConstants.{VERSION, DEFINITION}
-use Rattle.lte_top.specs.declared.pages.TheConstants.{RECEIVER_HELP, TUNER_HELP}
 
 abbrev pub name_of : Program → List ℕ
 name_of Receiver = codes "lte_cli"
 name_of Tuner = codes "lte_tune"
 
--- the program's version after its name, and that of the definition of a list
-abbrev pub version_after : List ℕ → List ℕ
-version_after name = name ++ codes " " ++ VERSION.now ++ codes "\ndefinition " ++ DEFINITION.now ++ codes "\n"
+-- the versions of the programs, and of the definition of a list
+abbrev pub version : List ℕ
+version = codes "0.9.0"
 
+abbrev pub definition : List ℕ
+definition = codes "2"
+
+-- the program's version after its name, and that of the definition
+abbrev pub version_after : List ℕ → List ℕ
+version_after name = name ++ codes " " ++ version ++ codes "\ndefinition " ++ definition ++ codes "\n"
+
+-- each form of words with what it gives
 abbrev pub help_text : Program → List ℕ
-help_text Receiver = RECEIVER_HELP.now
-help_text Tuner = TUNER_HELP.now
+help_text Receiver =
+    codes "usage: lte_cli COMMAND [RULE] [--json] [--format cu8] < INPUT > OUTPUT\n"
+    ++ codes "hits [--json] [--format cu8]: the places of primary synchronisation signals in a recording\n"
+    ++ codes "ids [--json] [--format cu8]: the same with the cell identity and the frame start that each tells\n"
+    ++ codes "search [RULE] [--json] [--format cu8]: the list of cells of a recording\n"
+    ++ codes "  --ports 2: of those with two antenna ports\n"
+    ++ codes "  --ports 4: of those with four antenna ports\n"
+    ++ codes "  --prefix long: of those with the extended cyclic prefix\n"
+    ++ codes "  --cancel: and the lists of what is left where a cell is taken off\n"
+    ++ codes "  --all: the lists of one antenna port, of two, of the extended cyclic prefix, "
+    ++ codes "and of four antenna ports\n"
+    ++ codes "evidence [--ports 2 | --ports 4 | --prefix long] [--json] [--format cu8]: "
+    ++ codes "what supports each cell of the list\n"
+    ++ codes "certify [--ports 2 | --ports 4 | --prefix long] [--format cu8]: a certificate for each cell of the list\n"
+    ++ codes "check: whether each of the certificates that are read is accepted\n"
+    ++ codes "transmit [--ports 2 | --ports 4 | --prefix long] [--load N]: the samples of the cell that is described\n"
+    ++ codes "  --load N: with the points of load number N at all places that it leaves open\n"
+    ++ codes "make N [--ports 2 | --ports 4 | --prefix long]: "
+    ++ codes "the list of recording number N, which is made and not read\n"
+    ++ codes "help, --help, -h: this page\n"
+    ++ codes "version, --version: the versions of the program and of its definition\n"
+help_text Tuner =
+    codes "usage: lte_tune COMMAND [--json] [--format cu8] < INPUT > OUTPUT\n"
+    ++ codes "tell [--json] [--format cu8]: the frequency offset of a recording\n"
+    ++ codes "apply [--format cu8]: the recording with this offset taken off, in 16-bit samples\n"
+    ++ codes "apply M [--format cu8]: the recording turned by M steps of 117.1875 Hz, in 16-bit samples\n"
+    ++ codes "help, --help, -h: this page\n"
+    ++ codes "version, --version: the versions of the program and of its definition\n"
 
 abbrev pub page_text : Program → Page → List ℕ
 page_text program Help = help_text program

@@ -1,7 +1,8 @@
 //! The forms of words that are run.
 
-ghost use Rattle.std.specs.Prelude.{IfSome, IsNone, map, string_bytes};
+ghost use Rattle.std.specs.Prelude.{◌≡◌, IfSome, IsNone, map, string_bytes};
 ghost use Rattle.lte_top.specs.Forms.{IsWordsOf, IsNoForm};
+ghost use Rattle.lte_top.specs.Pages.{name_of};
 ghost use Rattle.lte_top.specs.declared.form.Program.TheVariants.{Receiver, Tuner};
 
 use crate::parts::{
@@ -19,6 +20,18 @@ pub enum Program {
     Receiver,
     /// `lte_tune`: the frequency offset of a recording.
     Tuner,
+}
+
+impl Program {
+    /// Its name.
+    pub fn name(self) -> &'static str
+        ensures { result.now ≡ name_of self }
+    {
+        match self {
+            Program::Receiver => "lte_cli",
+            Program::Tuner => "lte_tune",
+        }
+    }
 }
 
 /// A form of words: a command, the rule of its list, the output, and the form of samples that is read, each named by

@@ -1,7 +1,7 @@
 //! The pages about a program.
 
 ghost use Rattle.std.specs.Prelude.{◌≡◌, IfOk, string_bytes};
-ghost use Rattle.lte_top.specs.Pages.{name_of, help_text, version_after, page_text as page_of};
+ghost use Rattle.lte_top.specs.Pages.{help_text, version_after, page_text as page_of};
 
 use crate::form::{Page, Program};
 use crate::version::{DEFINITION, VERSION};
@@ -45,7 +45,7 @@ pub(crate) fn page_text(alloc: Global, program: Program, page: Page) -> Result<S
 {
     match page {
         Page::Help => String::from_str(alloc, help(program)),
-        Page::Version => version_text(alloc, name(program)),
+        Page::Version => version_text(alloc, program.name()),
     }
 }
 
@@ -56,16 +56,6 @@ fn help(program: Program) -> &'static str
     match program {
         Program::Receiver => RECEIVER_HELP,
         Program::Tuner => TUNER_HELP,
-    }
-}
-
-// The name of a program.
-fn name(program: Program) -> &'static str
-    ensures { result.now ≡ name_of program }
-{
-    match program {
-        Program::Receiver => "lte_cli",
-        Program::Tuner => "lte_tune",
     }
 }
 
