@@ -6,5 +6,5 @@ use lte_top::Program;
 use std::process::ExitCode;
 
 fn main(rt: HostRuntime) -> ExitCode {
-    ExitCode::from(run_process(&rt, Program::Receiver, rt.stdin(), rt.stdout()).code())
+    run_process(&rt, Program::Receiver, rt.stdin(), rt.stdout())
 }

@@ -2,13 +2,9 @@
 #![tactic(auto)]
 
 use lte_shell::run_process;
-use lte_top::{Program, Status};
+use lte_top::Program;
 use std::process::ExitCode;
 
 fn main(rt: HostRuntime) -> ExitCode {
-    let status = run_process(&rt, Program::Receiver, rt.stdin(), rt.stdout());
-    if status != Status::Done {
-        let _ = eprintln!(rt; "lte_cli: {status}");
-    }
-    ExitCode::from(status.code())
+    run_process(&rt, Program::Receiver, rt.stdin(), rt.stdout())
 }
