@@ -20,7 +20,7 @@ seen_in samples k = rounded (spectrum_at samples k) 12
 abbrev pub sending_off : (ℕ → Cpx) → Cpx → ℕ → Cpx
 sending_off sent amplitude k = minus (multiple (2 ^ 17) (spectrum_at sent k)) (multiple (2 ^ 35) amplitude)
 
--- of one symbol it is at most 97 units of 2^31
+-- what sending one symbol is off by is at most 97 units of 2^31
 abbrev pub SendingIsSmall : Type 0
 SendingIsSmall =
     (grid : ℕ → Cpx) (k : ℕ) → AreAmplitudes grid → k < 72 →
@@ -38,7 +38,7 @@ leakage grid k = minus (spectrum_at (unrounded grid) k) (multiple (2 ^ 35) (grid
 abbrev pub rounding_sent : (ℕ → Cpx) → ℕ → Cpx
 rounding_sent grid k = spectrum_at (λ n. minus (multiple (2 ^ 17) (useful_at grid n)) (unrounded grid n)) k
 
--- of one symbol what sending is off by is both
+-- what sending one symbol is off by is its leakage and the rounding of its samples
 abbrev pub SendingHasTwoCauses : Type 0
 SendingHasTwoCauses =
     (grid : ℕ → Cpx) (k : ℕ) → k < 72 →
@@ -53,7 +53,7 @@ LeakageIsSmall =
 abbrev pub RoundingSentIsSmall : Type 0
 RoundingSentIsSmall = (grid : ℕ → Cpx) (k : ℕ) → 100 * square (rounding_sent grid k) ≤ (907 * 2 ^ 31) * (907 * 2 ^ 31)
 
--- of what several ports send it adds up, each port's times its gain
+-- what sending by several ports is off by adds up, each port's times its gain
 abbrev pub SendingIsLinear : Type 0
 SendingIsLinear =
     (gain : Cpx) (sent others : ℕ → Cpx) (amplitude other : Cpx) (k : ℕ) →
@@ -96,7 +96,8 @@ pub record HasFourCauses (eps : ℕ) (gain other : Cpx) (grid second_grid sample
   pub errors_small : square errors ≤ 2 ^ 49 * (eps * eps) * (16385 * 16385)
   pub rounding_small : square rounding ≤ 2 ^ 57
 
--- so it is where each component of a sample is off by at most eps; one gain is the case where the other is 0
+-- the deviation of what is seen has four causes where each component of a sample is off by at most eps; one gain is the
+-- case where the other is 0
 abbrev pub DeviationHasFourCauses : Type 0
 DeviationHasFourCauses =
     (eps : ℕ) (gain other : Cpx) (grid second_grid samples : ℕ → Cpx) (k : ℕ) → k < 72 →

@@ -36,7 +36,7 @@ impl fmt::Display for CellError {
 }
 
 impl CellError {
-    // Its name in lower case.
+    // The name of a condition in lower case.
     fn word(&self) -> &'static str
         ensures { result.now ≡ condition_word self.now }
     {

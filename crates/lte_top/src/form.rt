@@ -23,7 +23,7 @@ pub enum Program {
 }
 
 impl Program {
-    /// Its name.
+    /// The name of the program.
     pub fn name(self) -> &'static str
         ensures { result.now ≡ name_of self }
     {
