@@ -16,7 +16,7 @@ use cell_json::read_by;
 use cell_tx::{Emission, Emitter};
 use cs_outside::{Failed, Sink, Source, read_to_end};
 use lte_types::Carrier;
-use sample_file::write_samples;
+use sample_file::PieceWriter;
 use std::alloc::Global;
 
 // The most bytes of a description.
@@ -69,7 +69,7 @@ fn with_load(mut emission: Emission, load: Option<u32>) -> Emission
     emission
 }
 
-// Writes the samples of an emission as bytes, a frame's piece at a time.
+// Writes the samples of an emission as bytes. They are made a frame at a time, and written in pieces of one length.
 fn write_emission<K: Sink>(emission: &Emission, sink: &mut K) -> Result<(), Failed>
     ensures ok { OnOk result (HasWritten (bytes_of (emitted_samples emission.now))
         (K.told sink.old) (K.told sink.new)) }
@@ -80,11 +80,12 @@ fn write_emission<K: Sink>(emission: &Emission, sink: &mut K) -> Result<(), Fail
     ensures never_falls { (K.told sink.old).faults ≤ (K.told sink.new).faults }
 {
     let mut emitter = Emitter::new(emission);
+    let mut writer = PieceWriter::new();
     while emitter.advance() {
-        match write_samples(sink, emitter.piece()) {
+        match writer.push(sink, emitter.piece()) {
             Ok(()) => {}
             Err(Failed) => return Err(Failed),
         }
     }
-    Ok(())
+    writer.finish(sink)
 }

@@ -1,5 +1,5 @@
 pub mod Samples
 pub mod Agree
 pub mod Progress
-pub mod Pieces
+pub mod Waiting
 pub mod Chunks

@@ -2,3 +2,4 @@ pub mod Words
 pub mod Recording
 pub mod Reading
 pub mod Steps
+pub mod Writing

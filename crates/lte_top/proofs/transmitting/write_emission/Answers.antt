@@ -1,8 +1,10 @@
-use Rattle.std.proofs.Common.{◌≡◌, ◌<◌, List, ◌++◌, drop, length, sym, ap, ap₂, ◌∙◌, arith}
-use Rattle.std.proofs.lemmas.Bool.{ltb-true}
+use Rattle.std.proofs.Common.{◌≡◌, ◌<◌, ℕ, List, ◌++◌, drop, length, sym, ap, ap₂, ◌∙◌, arith}
+use Rattle.std.proofs.lemmas.Bool.{ltb-true, ltb-false}
+use Rattle.std.proofs.lemmas.List.{drop_all}
+use Rattle.std.proofs.lemmas.Result.{on_err_weaker}
 use Rattle.cs_num.specs.declared.Sample.{Sample}
-use Rattle.sample_file.proofs.Pieces.{samples_none, samples_on, samples_front, samples_short}
-use Rattle.cell_tx.specs.Emission.{emitted_samples}
+use Rattle.sample_file.specs.Recording.{bytes_of}
+use Rattle.sample_file.proofs.Waiting.{waiting_then, pieces_on, pieces_front, pieces_short, last_front, last_short, none_left}
 use Rattle.cell_tx.specs.Emitting.{Progress, piece_end, piece_of}
 use Rattle.cell_tx.proofs.Advancing.{rest_is}
 use Rattle.lte_top.proofs.transmitting.write_emission.Goals as goal
@@ -13,14 +15,11 @@ left_is : (p q : Progress) (piece : List Sample) → q.samples ≡ p.samples →
 left_is p q piece samples from ends is below =
     rest_is p q samples from ends below ∙ ap₂ (λ (a b : List Sample). a ++ b) (sym is) (ap (drop q.at) (sym samples))
 
-pub loop-emitter-init : goal.loop-emitter-init
-loop-emitter-init g c =
-    let is = c.new-emitter.ensures in
-    record {
-      samples = is.samples;
-      so_far = rw (is.at, is.samples) (samples_none (emitted_samples c.args.emission.now) (g.K.Sink.told c.args.sink.now));
-      later = omega arith;
-    }
+-- what waits before a piece, and the bytes of what is left, are what waits with the piece, and the bytes of what is left after it
+waiting_is : (waiting : List ℕ) (p q : Progress) (piece : List Sample) → q.samples ≡ p.samples → q.from ≡ p.at → q.at ≡ piece_end p → piece ≡ piece_of q
+    → p.at < length p.samples → waiting ++ bytes_of (drop p.at p.samples) ≡ (waiting ++ bytes_of piece) ++ bytes_of (drop q.at q.samples)
+waiting_is waiting p q piece samples from ends is below =
+    waiting_then waiting (drop p.at p.samples) piece (drop q.at q.samples) (left_is p q piece samples from ends is below)
 
 pub loop-emitter-preserved : goal.loop-emitter-preserved
 loop-emitter-preserved g c =
@@ -28,11 +27,11 @@ loop-emitter-preserved g c =
     let q = c.advance.new.self in
     let a = c.advance.ensures in
     let i = c.loop-emitter.invariant in
+    let below = ltb-true p.at (length p.samples) (sym a.more ∙ c.loop-emitter-test.true) in
     record {
       samples = a.samples ∙ i.samples;
-      so_far = samples_on _ _ _ _ _ _ _ i.so_far
-          (left_is p q _ a.samples a.from a.at c.piece.ensures (ltb-true p.at (length p.samples) (sym a.more ∙ c.loop-emitter-test.true))) c.in-Ok.ensures.ok;
-      later = omega (arith, i.later, c.write_samples.ensures.never_falls);
+      so_far = pieces_on _ _ _ _ _ _ _ _ i.so_far (waiting_is c.loop-emitter.writer p q _ a.samples a.from a.at c.piece.ensures below) c.in-Ok.ensures.ok;
+      later = omega (arith, i.later, c.push.ensures.never_falls);
     }
 
 pub returns-in-Err-clause-front : goal.returns-in-Err-clause-front
@@ -40,13 +39,27 @@ returns-in-Err-clause-front g c =
     let p = c.loop-emitter.emitter in
     let q = c.advance.new.self in
     let a = c.advance.ensures in
-    samples_front _ _ _ _ _ _ _ c.loop-emitter.invariant.so_far
-    (left_is p q _ a.samples a.from a.at c.piece.ensures (ltb-true p.at (length p.samples) (sym a.more ∙ c.loop-emitter-test.true))) c.in-Err.ensures.front
+    let below = ltb-true p.at (length p.samples) (sym a.more ∙ c.loop-emitter-test.true) in
+    pieces_front _ _ _ _ _ _ _ c.loop-emitter.invariant.so_far (waiting_is c.loop-emitter.writer p q _ a.samples a.from a.at c.piece.ensures below) c.in-Err.ensures.front
 
 pub returns-in-Err-clause-full : goal.returns-in-Err-clause-full
 returns-in-Err-clause-full g c =
     let p = c.loop-emitter.emitter in
     let q = c.advance.new.self in
     let a = c.advance.ensures in
-    samples_short _ _ _ _ _ _ c.loop-emitter.invariant.so_far
-    (left_is p q _ a.samples a.from a.at c.piece.ensures (ltb-true p.at (length p.samples) (sym a.more ∙ c.loop-emitter-test.true))) c.in-Err.ensures.full
+    let below = ltb-true p.at (length p.samples) (sym a.more ∙ c.loop-emitter-test.true) in
+    pieces_short _ _ _ _ _ _ c.loop-emitter.invariant.so_far (waiting_is c.loop-emitter.writer p q _ a.samples a.from a.at c.piece.ensures below) c.in-Err.ensures.full
+
+pub returns-clause-front : goal.returns-clause-front
+returns-clause-front g c =
+    let p = c.loop-emitter.emitter in
+    let none = drop_all p.at p.samples (ltb-false p.at (length p.samples) (sym c.advance.ensures.more ∙ c.loop-emitter-test.false)) in
+    let w = none_left _ _ _ _ _ none c.loop-emitter.invariant.so_far in
+    on_err_weaker c.finish.result (λ e. last_front _ _ _ _ _ w e) c.finish.ensures.front
+
+pub returns-clause-full : goal.returns-clause-full
+returns-clause-full g c =
+    let p = c.loop-emitter.emitter in
+    let none = drop_all p.at p.samples (ltb-false p.at (length p.samples) (sym c.advance.ensures.more ∙ c.loop-emitter-test.false)) in
+    let w = none_left _ _ _ _ _ none c.loop-emitter.invariant.so_far in
+    on_err_weaker c.finish.result (λ e. last_short _ _ _ _ w e) c.finish.ensures.full

@@ -1,0 +1,15 @@
+-- What a sink took when samples were written in pieces (own): what it told before, and what it tells now.
+use Rattle.std.specs.Prelude.{◌≡◌, ℕ, ◌%◌, ◌++◌, List, length}
+use Rattle.cs_outside.specs.Outside.{SinkTold}
+use Rattle.cs_outside.specs.Streams.{HasWritten}
+
+-- so many bytes a piece
+abbrev pub piece_bytes : ℕ
+piece_bytes = 16384
+
+-- of these bytes some whole pieces were written, and the rest waits
+pub record HasWrittenPieces (bytes rest : List ℕ) (before now : SinkTold) : Type 0 where
+  pub front : List ℕ
+  pub split : bytes ≡ front ++ rest
+  pub whole_pieces : length front % piece_bytes ≡ 0
+  pub written : HasWritten front before now
