@@ -109,7 +109,7 @@ pub const APPLYING: [Form; 4] = [
 pub const PAGES: [Form; 2] = [("help", Input::Nothing), ("version", Input::Nothing)];
 
 /// The descriptions that are sent.
-pub const SENDING: [Form; 7] = [
+pub const SENDING: [Form; 8] = [
     ("transmit", Input::Description),
     ("transmit --load 7", Input::Description),
     ("transmit --ports 2", Input::TwoPortsDescription),
@@ -117,6 +117,7 @@ pub const SENDING: [Form; 7] = [
     ("transmit --ports 4", Input::FourPortsDescription),
     ("transmit --ports 4 --load 7", Input::FourPortsDescription),
     ("transmit --prefix long", Input::Description),
+    ("transmit --prefix long --load 7", Input::Description),
 ];
 
 /// The other forms.

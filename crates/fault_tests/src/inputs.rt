@@ -2,7 +2,7 @@
 
 use lte_top::Status;
 use std::alloc::{AllocError, Global};
-use test_support::{certificate_of_zeros, description};
+use test_support::{certificate_of_zeros, description, silence};
 use top_tests::{output_of, sent_by, with_four_ports, with_long_prefix, with_two_ports};
 
 // The gains of ports 1 to 3 of four.
@@ -44,13 +44,9 @@ pub fn bytes_of(alloc: Global, input: Input) -> Result<Vec<u8>, AllocError> {
         Input::TwoPorts => with_two_ports(alloc),
         Input::FourPorts => with_four_ports(alloc),
         Input::LongPrefix => with_long_prefix(alloc),
-        Input::Description => plain_description(alloc),
-        Input::TwoPortsDescription => description(alloc, ", \"gain2\": [0, 1]", "")?
-            .as_bytes()
-            .to_vec(alloc),
-        Input::FourPortsDescription => description(alloc, OTHER_GAINS, "")?
-            .as_bytes()
-            .to_vec(alloc),
+        Input::Description | Input::TwoPortsDescription | Input::FourPortsDescription => {
+            description_with(alloc, input, "")
+        }
         Input::ZeroCertificate => certificate_of_zeros(alloc),
         Input::Certificates => Ok(output_of(alloc, "certify", recording(alloc)?)?.written),
     }
@@ -58,7 +54,35 @@ pub fn bytes_of(alloc: Global, input: Input) -> Result<Vec<u8>, AllocError> {
 
 /// The description of the plain cell.
 pub fn plain_description(alloc: Global) -> Result<Vec<u8>, AllocError> {
-    description(alloc, "", "")?.as_bytes().to_vec(alloc)
+    description_with(alloc, Input::Description, "")
+}
+
+/// The description that is this input, with this change, which begins with a comma.
+pub fn description_with(alloc: Global, input: Input, change: &str) -> Result<Vec<u8>, AllocError> {
+    let gains = match input {
+        Input::TwoPortsDescription => ", \"gain2\": [0, 1]",
+        Input::FourPortsDescription => OTHER_GAINS,
+        _ => "",
+    };
+    let changes = format!(in alloc; "{gains}{change}")?;
+    description(alloc, &changes, "")?.as_bytes().to_vec(alloc)
+}
+
+/// A recording of 16 cells, of 76,800 samples: each is what the plain cell sends of its signals and of its master
+/// block, 1,200 samples after the one before.
+pub fn sixteen_cells(alloc: Global) -> Result<Vec<u8>, AllocError> {
+    let one = recording(alloc)?;
+    let mut bytes = silence(alloc, 2_240)?;
+    for frame in 0..3_usize {
+        let from = 76_800 * frame + 2_240;
+        if let Some(part) = one.get(from..from + 4_800) {
+            for _ in 0..16 {
+                bytes.extend_from_slice(part)?;
+            }
+        }
+    }
+    bytes.resize(307_200, 0)?;
+    Ok(bytes)
 }
 
 /// The recording of the cell.

@@ -1,5 +1,6 @@
 //! Tests of the top call in hostile use: each call of a source or of a sink fails once, pieces are of one byte, a
-//! writer takes nothing, inputs are cut, and recordings are as large as they can be.
+//! writer takes nothing, inputs are cut, and recordings are as large as they can be. And what each call of a sink is
+//! offered, and that no call follows one that failed.
 #![tactic(auto)]
 
 #[cfg(test)]
@@ -12,3 +13,7 @@ mod faults;
 mod forms;
 #[cfg(test)]
 mod inputs;
+#[cfg(test)]
+mod offered;
+#[cfg(test)]
+mod watched;

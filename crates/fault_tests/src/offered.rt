@@ -1,0 +1,290 @@
+//! What each call of a sink is offered: pieces of 4,096 bytes or more, the last excepted, and all that is left of each.
+
+use crate::forms::{APPLYING, Form, OTHERS, PAGES, REPORTS, SENDING, TELLING};
+use crate::inputs::{bytes_of, description_with, recording, sixteen_cells};
+use cs_outside::{MemSource, StdSink};
+use lte_top::{Program, Status, run_program};
+use std::alloc::{AllocError, Global};
+use std::io;
+use std::io::Write;
+use std::process::Abort;
+use std::test::Fail;
+use top_tests::command_line;
+
+// The fewest bytes of a piece that is not the last.
+const LEAST: usize = 4_096;
+
+// More calls than a run makes.
+const CALLS: usize = 1_000_000;
+
+// How many bytes a call takes at most: all, or so few that a piece needs several calls.
+const MOST: [usize; 2] = [usize::MAX, 3_000];
+
+// The bytes of the plain cell's recording.
+const PLAIN: usize = 230_400;
+
+// A writer that takes at most `most` bytes of a call, and none in the calls from number `fails` on. It keeps how many
+// bytes each call is offered.
+#[derive(Drop)]
+struct Recorder {
+    offered: Vec<usize>,
+    most: usize,
+    fails: usize,
+}
+
+impl Write for Recorder {
+    fn write(&mut self, piece: &[u8]) -> io::Result<usize> {
+        let fails = self.offered.len() >= self.fails;
+        if self.offered.push(piece.len()).is_err() || fails {
+            return Ok(0);
+        }
+        Ok(piece.len().min(self.most))
+    }
+
+    fn flush(&mut self) -> io::Result<()> {
+        Ok(())
+    }
+}
+
+// The pieces of an output, as calls tell them that take at most `most` bytes each.
+#[derive(Drop)]
+struct Pieces {
+    most: usize,
+    count: usize,
+    bytes: usize,
+    left: usize,
+    is_short: bool,
+    are_right: bool,
+}
+
+impl Pieces {
+    // Those of calls that are offered so many bytes each.
+    fn of(offered: &[usize], most: usize) -> Pieces {
+        let mut pieces = Pieces {
+            most,
+            count: 0,
+            bytes: 0,
+            left: 0,
+            is_short: false,
+            are_right: true,
+        };
+        for &bytes in offered {
+            pieces.add(bytes);
+        }
+        pieces
+    }
+
+    // After one more call: it begins a piece, or is offered what is left of one.
+    fn add(&mut self, offered: usize) {
+        if self.left == 0 {
+            self.are_right = self.are_right && !self.is_short;
+            self.is_short = offered < LEAST;
+            self.count = self.count.saturating_add(1);
+            self.bytes = self.bytes.saturating_add(offered);
+        } else {
+            self.are_right = self.are_right && offered == self.left;
+        }
+        self.left = offered.saturating_sub(self.most);
+    }
+
+    // Whether they are whole, each call is offered all that is left of its piece, and no piece but the last is short.
+    fn are_whole(&self) -> bool {
+        self.are_right && self.left == 0
+    }
+}
+
+// How a run ends, and how many bytes each call of its sink is offered.
+#[derive(Drop)]
+struct Run {
+    status: Status,
+    offered: Vec<usize>,
+    most: usize,
+}
+
+impl Run {
+    // That of a command line over bytes, into a recorder.
+    fn new(
+        alloc: Global,
+        program: Program,
+        line: &str,
+        bytes: Vec<u8>,
+        most: usize,
+        fails: usize,
+    ) -> Result<Run, AllocError> {
+        let words = command_line(alloc, line)?;
+        let mut recorder = Recorder {
+            offered: Vec::new(alloc),
+            most,
+            fails,
+        };
+        let mut source = MemSource::new(bytes);
+        let mut sink = StdSink::new(&mut recorder);
+        let status = run_program(alloc, program, &words, &mut source, &mut sink);
+        Ok(Run {
+            status,
+            offered: recorder.offered,
+            most,
+        })
+    }
+
+    // Whether it is done, in whole pieces of so many bytes together.
+    fn is_written(&self, bytes: usize) -> bool {
+        let pieces = Pieces::of(&self.offered, self.most);
+        self.status == Status::Done && pieces.are_whole() && pieces.bytes == bytes
+    }
+
+    // Whether it is done, and its output is one piece.
+    fn is_one_piece(&self) -> bool {
+        let pieces = Pieces::of(&self.offered, self.most);
+        self.status == Status::Done && pieces.are_whole() && pieces.count == 1
+    }
+
+    // Whether it is done, in so many pieces, none of which is short.
+    fn is_long_pieces(&self, count: usize) -> bool {
+        let pieces = Pieces::of(&self.offered, self.most);
+        self.status == Status::Done
+            && pieces.are_whole()
+            && !pieces.is_short
+            && pieces.count == count
+    }
+
+    // Whether it ends with call number `call`, which failed.
+    fn ends_with(&self, call: usize) -> bool {
+        self.status == Status::WriteFault && self.offered.len() == call.saturating_add(1)
+    }
+}
+
+// What is sent from these changes of the offset on is written in whole pieces.
+fn sends_from(rt: &impl Abort, alloc: Global, change: &str) -> Result<(), Fail> {
+    for (line, input) in SENDING {
+        for most in MOST {
+            let bytes = description_with(alloc, input, change)?;
+            let run = Run::new(alloc, Program::Receiver, line, bytes, most, CALLS)?;
+            assert!(rt; run.is_written(PLAIN), "{line} {change} {most}");
+        }
+    }
+    Ok(())
+}
+
+#[test]
+fn what_is_sent_from_the_first_samples_is_written_in_whole_pieces(
+    rt: HostRuntime,
+) -> Result<(), Fail> {
+    sends_from(&rt, rt.alloc(), ", \"offset\": 0")?;
+    sends_from(&rt, rt.alloc(), ", \"offset\": 1")
+}
+
+#[test]
+fn what_is_sent_from_within_a_frame_is_written_in_whole_pieces(
+    rt: HostRuntime,
+) -> Result<(), Fail> {
+    sends_from(&rt, rt.alloc(), ", \"offset\": 5115")
+}
+
+// The first frame has 1,023 samples, one too few for a piece, or one.
+#[test]
+fn what_is_sent_from_the_last_samples_is_written_in_whole_pieces(
+    rt: HostRuntime,
+) -> Result<(), Fail> {
+    sends_from(&rt, rt.alloc(), ", \"offset\": 18177")?;
+    sends_from(&rt, rt.alloc(), ", \"offset\": 19199")
+}
+
+#[test]
+fn a_turned_recording_is_written_in_whole_pieces(rt: HostRuntime) -> Result<(), Fail> {
+    let alloc = rt.alloc();
+    for (line, input) in APPLYING {
+        for most in MOST {
+            let bytes = bytes_of(alloc, input)?;
+            let run = Run::new(alloc, Program::Tuner, line, bytes, most, CALLS)?;
+            assert!(rt; run.is_written(PLAIN), "{line} {most}");
+        }
+    }
+    Ok(())
+}
+
+#[test]
+fn a_certificate_is_a_piece(rt: HostRuntime) -> Result<(), Fail> {
+    let alloc = rt.alloc();
+    let one = recording(alloc)?;
+    let run = Run::new(alloc, Program::Receiver, "certify", one, 3_000, CALLS)?;
+    assert!(rt; run.is_long_pieces(1));
+    let many = sixteen_cells(alloc)?;
+    let run = Run::new(alloc, Program::Receiver, "certify", many, 3_000, CALLS)?;
+    assert!(rt; run.is_long_pieces(16));
+    Ok(())
+}
+
+// The output of each of these forms is one piece.
+fn are_one_piece(
+    rt: &impl Abort,
+    alloc: Global,
+    program: Program,
+    forms: &[Form],
+) -> Result<(), Fail> {
+    for &(line, input) in forms {
+        let run = Run::new(alloc, program, line, bytes_of(alloc, input)?, 7, CALLS)?;
+        assert!(rt; run.is_one_piece(), "{line} {input:?}");
+    }
+    Ok(())
+}
+
+#[test]
+fn each_other_output_of_the_receiver_is_one_piece(rt: HostRuntime) -> Result<(), Fail> {
+    are_one_piece(&rt, rt.alloc(), Program::Receiver, &REPORTS)?;
+    are_one_piece(&rt, rt.alloc(), Program::Receiver, &OTHERS)?;
+    are_one_piece(&rt, rt.alloc(), Program::Receiver, &PAGES)
+}
+
+#[test]
+fn each_other_output_of_the_tuner_is_one_piece(rt: HostRuntime) -> Result<(), Fail> {
+    are_one_piece(&rt, rt.alloc(), Program::Tuner, &TELLING)?;
+    are_one_piece(&rt, rt.alloc(), Program::Tuner, &PAGES)
+}
+
+// No call follows call number `call` where that one fails, and each takes all that it is offered.
+fn ends_with_call(
+    rt: &impl Abort,
+    alloc: Global,
+    program: Program,
+    line: &str,
+    bytes: &Vec<u8>,
+    call: usize,
+) -> Result<(), Fail> {
+    let run = Run::new(alloc, program, line, bytes.clone()?, usize::MAX, call)?;
+    assert!(rt; run.ends_with(call), "{line} call {call}");
+    Ok(())
+}
+
+// The 230,400 bytes are 15 pieces.
+#[test]
+fn no_call_follows_one_that_fails_where_samples_are_sent(rt: HostRuntime) -> Result<(), Fail> {
+    let alloc = rt.alloc();
+    for (line, input) in SENDING {
+        let bytes = description_with(alloc, input, ", \"offset\": 19199")?;
+        for call in [0, 1, 14] {
+            ends_with_call(&rt, alloc, Program::Receiver, line, &bytes, call)?;
+        }
+    }
+    Ok(())
+}
+
+#[test]
+fn no_call_follows_one_that_fails_where_a_recording_is_turned(rt: HostRuntime) -> Result<(), Fail> {
+    let alloc = rt.alloc();
+    let bytes = recording(alloc)?;
+    for call in [0, 1, 14] {
+        ends_with_call(&rt, alloc, Program::Tuner, "apply -5", &bytes, call)?;
+    }
+    Ok(())
+}
+
+#[test]
+fn no_call_follows_one_that_fails_where_cells_are_certified(rt: HostRuntime) -> Result<(), Fail> {
+    let alloc = rt.alloc();
+    let bytes = sixteen_cells(alloc)?;
+    for call in [0, 15] {
+        ends_with_call(&rt, alloc, Program::Receiver, "certify", &bytes, call)?;
+    }
+    Ok(())
+}

@@ -1,0 +1,134 @@
+//! No call of a source follows one that tells the end or that fails.
+
+use crate::forms::{APPLYING, Form, OTHERS, REPORTS, SENDING};
+use crate::inputs::{Input, bytes_of};
+use cs_outside::{MemSink, StdSource};
+use lte_top::{Program, Status, run_program};
+use std::alloc::{AllocError, Global};
+use std::io;
+use std::io::{ErrorKind, Read};
+use std::process::Abort;
+use std::test::Fail;
+use top_tests::{ROOM, command_line};
+
+// More calls than a run makes.
+const CALLS: usize = 1_000_000;
+
+// A reader of bytes, at most `most` a call, of which call number `fails` fails. It counts its calls, and those that
+// come after the end was told or after a call failed.
+#[derive(Drop)]
+struct Watched<'a> {
+    bytes: &'a [u8],
+    most: usize,
+    fails: usize,
+    calls: usize,
+    is_over: bool,
+    late: usize,
+}
+
+impl<'a> Read for Watched<'a> {
+    fn read(&mut self, into: &mut [u8]) -> io::Result<usize> {
+        let call = self.calls;
+        self.calls = call.saturating_add(1);
+        if self.is_over {
+            self.late = self.late.saturating_add(1);
+        }
+        if call == self.fails {
+            self.is_over = true;
+            return Err(io::Error::from(ErrorKind::BrokenPipe));
+        }
+        let n = into.len().min(self.most).min(self.bytes.len());
+        into[..n].copy_from_slice(&self.bytes[..n]);
+        self.bytes = &self.bytes[n..];
+        self.is_over = n == 0;
+        Ok(n)
+    }
+}
+
+// What a command line comes to over a reader.
+fn status_over(
+    alloc: Global,
+    program: Program,
+    line: &str,
+    reader: &mut Watched<'_>,
+) -> Result<Status, AllocError> {
+    let words = command_line(alloc, line)?;
+    let mut sink = MemSink::new(alloc, ROOM)?;
+    let mut source = StdSource::new(reader);
+    Ok(run_program(alloc, program, &words, &mut source, &mut sink))
+}
+
+// How a run ends over a reader, and what this counts.
+#[derive(Clone, Copy)]
+struct Reads {
+    status: Status,
+    calls: usize,
+    is_over: bool,
+    late: usize,
+}
+
+impl Reads {
+    // Those of a command line over bytes, of which a call gives at most `most`, and call number `fails` fails.
+    fn new(
+        alloc: Global,
+        program: Program,
+        line: &str,
+        bytes: &[u8],
+        most: usize,
+        fails: usize,
+    ) -> Result<Reads, AllocError> {
+        let mut reader = Watched {
+            bytes,
+            most,
+            fails,
+            calls: 0,
+            is_over: false,
+            late: 0,
+        };
+        let status = status_over(alloc, program, line, &mut reader)?;
+        Ok(Reads {
+            status,
+            calls: reader.calls,
+            is_over: reader.is_over,
+            late: reader.late,
+        })
+    }
+
+    // Whether the run ends so, and the last call told the end or failed.
+    fn end_so(&self, status: Status) -> bool {
+        self.status == status && self.is_over && self.late == 0
+    }
+}
+
+// The last call over the input of each of these forms tells its end or fails.
+fn end_each(rt: &impl Abort, alloc: Global, program: Program, forms: &[Form]) -> Result<(), Fail> {
+    for &(line, input) in forms {
+        if input != Input::Nothing {
+            let bytes = bytes_of(alloc, input)?;
+            let whole = Reads::new(alloc, program, line, &bytes, 20_000, CALLS)?;
+            assert!(rt; whole.end_so(Status::Done), "{line} {input:?}");
+            for call in 0..whole.calls {
+                let reads = Reads::new(alloc, program, line, &bytes, 20_000, call)?;
+                assert!(rt;
+                    reads.end_so(Status::ReadFault),
+                    "{line} {input:?} call {call}"
+                );
+            }
+        }
+    }
+    Ok(())
+}
+
+#[test]
+fn no_call_follows_the_end_or_a_fault_of_a_recording(rt: HostRuntime) -> Result<(), Fail> {
+    end_each(&rt, rt.alloc(), Program::Receiver, &REPORTS)?;
+    end_each(&rt, rt.alloc(), Program::Tuner, &APPLYING)
+}
+
+#[test]
+fn no_call_follows_the_end_or_a_fault_of_descriptions_and_certificates(
+    rt: HostRuntime,
+) -> Result<(), Fail> {
+    end_each(&rt, rt.alloc(), Program::Receiver, &SENDING)?;
+    end_each(&rt, rt.alloc(), Program::Receiver, &OTHERS)
+}
