@@ -32,7 +32,7 @@ use Rattle.cell_tx.specs.Sent.{Elements}
 use Rattle.clean_air.specs.Load.{IsLoaded}
 use Rattle.cell_tx.proofs.Sendable.{accepted_is_sendable}
 use Rattle.clean_air.specs.Clean.{IsSentEntry}
-use Rattle.clean_air.specs.Planned.{plan_by, IsPlanned, IsPlanOf, IsSentPlan, IsOnePlan}
+use Rattle.clean_air.specs.Planned.{plan_by, IsPlanned, IsPlanOf, IsSentPlan, SentEntryHasPlan, IsOnePlan}
 use Rattle.clean_air.proofs.SentSystem.{grant_read, fields_read}
 use Rattle.clean_air.proofs.HeldCells.{holds_loaded_cells}
 
@@ -154,6 +154,10 @@ module _ (recording : List Sample) (entry : Entry) (plan : CellPlan) (grid : Ele
     told = told;
     accepted = ((accepted_is_sendable plan).1 sendable).1;
   }
+
+pub sent_entry_has_plan : SentEntryHasPlan
+sent_entry_has_plan recording entry plan grid sfn offset gain eps is listed sendable clean id start number =
+    planned recording entry plan grid sfn offset gain eps is.least listed sendable clean id start number
 
 pub sent_plan : (recording : List Sample) (entry : Entry) (answer : Option CellPlan) → 57600 ≤ length recording → IsInList recording entry →
     IsPlanOf recording entry answer → IsSentPlan recording entry answer

@@ -7,6 +7,8 @@ use Rattle.lte_types.specs.declared.sib1.Sib1.{Sib1}
 use Rattle.lte_types.specs.declared.entry.Entry.{Entry}
 use Rattle.lte_types.specs.Timing.{start_of, number_at_start}
 use Rattle.dci.specs.declared.grant.Grant.{Grant}
+use Rattle.sample_file.specs.Recording.{IsRecording}
+use Rattle.explain.specs.Entries.{IsInList}
 use Rattle.explain.specs.Grant.{IsGrantOf}
 use Rattle.cell_tx.specs.declared.cell.CellPlan.{CellPlan}
 use Rattle.cell_tx.specs.Plan.{IsSendable, plan_refusal}
@@ -53,6 +55,16 @@ IsSentPlan recording entry answer =
     IsLoaded recording plan grid sfn offset gain eps →
     entry.id ≡ plan.identity → entry.start ≡ start_of offset → entry.sfn ≡ number_at_start sfn offset →
     answer ≡ Some plan
+
+-- a law: in a recording that is clean of a cell that can be sent, whatever else that cell sends, the entry of its
+-- identity, of the sample at which its first frame begins and of that frame's number has the plan by which it was sent
+abbrev pub SentEntryHasPlan : Type 0
+SentEntryHasPlan =
+    (recording : List Sample) (entry : Entry) (plan : CellPlan) (grid : Elements) (sfn offset : ℕ) (gain : Cpx)
+    (eps : ℕ) → IsRecording recording → IsInList recording entry → IsSendable plan →
+    IsLoaded recording plan grid sfn offset gain eps →
+    entry.id ≡ plan.identity → entry.start ≡ start_of offset → entry.sfn ≡ number_at_start sfn offset →
+    IsPlanned recording entry plan
 
 -- a law: an entry has one plan, or none
 abbrev pub IsOnePlan : Type 0

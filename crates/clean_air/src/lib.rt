@@ -21,7 +21,7 @@ pub use carried::carried_word_is_heard;
 pub use clean::explain_clean;
 pub use control::{sent_grant_is_read, sent_grant_is_told, sent_indicator_is_told};
 pub use load::open_places_are_silent;
-pub use planning::{one_plan, plan_granted, plan_of};
+pub use planning::{one_plan, plan_granted, plan_of, sent_entry_has_plan};
 pub use subframe::carried_blocks_are_heard;
 pub use values::values_support_the_sent_bits;
 pub use words::spoken_word_is_the_least;

@@ -4,7 +4,8 @@ ghost use Rattle.std.specs.Prelude.{◌≡◌, ◌↔◌, IsTrue};
 ghost use Rattle.lte_types.specs.declared.bandwidth.Bandwidth.TheVariants.{N6};
 ghost use Rattle.explain.specs.Entries.{IsInList};
 ghost use Rattle.explain.specs.Grant.{IsGrantOf};
-ghost use Rattle.clean_air.specs.Planned.{plan_by as plan_made_by, IsPlanOf, IsSentPlan, IsOnePlan};
+ghost use Rattle.clean_air.specs.Planned.{plan_by as plan_made_by, IsPlanOf, IsSentPlan};
+ghost use Rattle.clean_air.specs.Planned.{SentEntryHasPlan, IsOnePlan};
 
 use cell_tx::{Cell, CellPlan};
 use dci::Grant;
@@ -93,4 +94,10 @@ fn plan_by(entry: &Entry, cfi: Cfi, grant: &Grant, sib1: &Sib1) -> CellPlan
 /// An entry has one plan, or none.
 pub fn one_plan()
     ensures { IsOnePlan }
+{}
+
+/// In a clean recording the entry of a cell that can be sent has the plan by which it was sent, whatever else the cell
+/// sends.
+pub fn sent_entry_has_plan()
+    ensures { SentEntryHasPlan }
 {}
