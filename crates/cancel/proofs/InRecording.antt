@@ -26,7 +26,7 @@ use Rattle.clean_air.proofs.Carrying.{clean_is_loaded}
 use Rattle.clean_air.proofs.SentSymbols.{IsTruePlace, primary_received}
 use Rattle.cancel.specs.declared.subtracted.Subtracted.{Subtracted}
 use Rattle.cancel.specs.Gain.{IsCandidate, IsBest}
-use Rattle.cancel.specs.Laws.{IsGainSeen}
+use Rattle.cancel.specs.Laws.{IsGainSeen, AnswerTakesLoadedOff, AnswerTakesCleanOff}
 use Rattle.cancel.specs.Residue.{estimate_at, left_at, greatest_left, residue_of, IsSubtracted, IsSubtraction, IsLeftWithin, TakesLoadedOff, TakesCleanOff}
 use Rattle.cancel.proofs.Estimates.{gain_is_candidate}
 use Rattle.cancel.proofs.Best.{best_leaves_least}
@@ -127,6 +127,15 @@ takes_clean_off recording plan first frame answer loaded sfn offset gain eps cle
     loaded (element plan) sfn offset gain eps eps (clean_is_loaded recording plan sfn offset gain eps clean) same_start same_sfn (small_eps eps (square gain) clean.samples.size.most clean.samples.bound)
     (subst (λ s. (i : ℕ) → i < length recording → IsWithin eps (left_at recording plan s frame gain i)) (sym same_start)
     (subst (λ n. (i : ℕ) → i < length recording → IsWithin eps (left_at recording plan (start_of offset) n gain i)) (sym same_sfn) (left_by_gain recording plan sfn offset gain eps clean)))
+
+-- ---- laws
+
+pub answer_takes_loaded_off : AnswerTakesLoadedOff
+answer_takes_loaded_off recording plan first frame answer is taken = takes_loaded_off recording plan first frame answer is.least taken
+
+pub answer_takes_clean_off : AnswerTakesCleanOff
+answer_takes_clean_off recording plan first frame answer is taken =
+    takes_clean_off recording plan first frame answer (answer_takes_loaded_off recording plan first frame answer is taken)
 
 pub answer_is_loaded : (recording : List Sample) (plan : CellPlan) (start number : ℕ) (answer : Result (Option Subtracted) AllocError) → 57600 ≤ length recording →
     IfOk answer (IsSubtraction recording plan start number) → IfOk answer (TakesLoadedOff recording plan start number)

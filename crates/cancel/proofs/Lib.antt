@@ -9,7 +9,8 @@ pub mod Found
 pub mod Narrow
 -- A recording that is clean of a cell.
 pub mod InRecording
--- There is one answer.
+-- There is an answer, and only one.
+pub mod Exists
 pub mod Once
 -- What the code chooses.
 pub mod Chosen

@@ -5,10 +5,11 @@ use Rattle.cs_num.specs.declared.Sample.{Sample}
 use Rattle.cs_num.specs.Complex.{IsWithin, times, minus, square}
 use Rattle.cs_num.specs.Gain.{IsGain}
 use Rattle.sizes.specs.Sizes.{energy_below}
+use Rattle.sample_file.specs.Recording.{IsRecording}
 use Rattle.cell_tx.specs.declared.cell.CellPlan.{CellPlan}
 use Rattle.cancel.specs.declared.subtracted.Subtracted.{Subtracted}
 use Rattle.cancel.specs.Gain.{estimate, IsCandidate, IsBest, greatest_below}
-use Rattle.cancel.specs.Residue.{IsSubtraction}
+use Rattle.cancel.specs.Residue.{IsSubtraction, TakesLoadedOff, TakesCleanOff}
 
 -- 128 samples are a signal times a gain, with errors of at most twice the gain's size in each component
 pub record IsGainSeen (eps : ℕ) (gain : Cpx) (samples signal : ℕ → Cpx) : Type 0 where
@@ -34,6 +35,25 @@ BestLeavesLeast =
     IsBest (λ g. greatest_below count (left g)) middle best → IsCandidate middle gain →
     ((i : ℕ) → i < count → IsWithin bound (left gain i)) →
     (greatest_below count (left best) ≤ bound) × ((i : ℕ) → i < count → IsWithin bound (left best i))
+
+-- of a recording and a cell there is an answer: it is taken off, or there is no candidate
+abbrev pub IsSomeSubtraction : Type 0
+IsSomeSubtraction = (recording : List Sample) (plan : CellPlan) (start number : ℕ) →
+    (answer : Option Subtracted) × IsSubtraction recording plan start number answer
+
+-- an answer leaves of a loaded recording no more than the true gain leaves
+abbrev pub AnswerTakesLoadedOff : Type 0
+AnswerTakesLoadedOff =
+    (recording : List Sample) (plan : CellPlan) (start number : ℕ) (answer : Option Subtracted) →
+    IsRecording recording → IsSubtraction recording plan start number answer →
+    TakesLoadedOff recording plan start number answer
+
+-- and of a clean one no more than its errors
+abbrev pub AnswerTakesCleanOff : Type 0
+AnswerTakesCleanOff =
+    (recording : List Sample) (plan : CellPlan) (start number : ℕ) (answer : Option Subtracted) →
+    IsRecording recording → IsSubtraction recording plan start number answer →
+    TakesCleanOff recording plan start number answer
 
 -- there is only one best candidate
 abbrev pub IsOneBest : Type 0

@@ -9,6 +9,6 @@ mod leaving;
 mod subtracted;
 mod taking;
 
-pub use laws::{best_candidate_is_one, clean_gain_is_candidate};
+pub use laws::{answer_leaves_errors, best_candidate_is_one, clean_gain_is_candidate, some_answer};
 pub use subtracted::Subtracted;
 pub use taking::{power_of, subtract, subtract_from};
