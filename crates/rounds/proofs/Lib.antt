@@ -2,6 +2,10 @@
 pub mod Taking
 -- Rounds one after the other.
 pub mod Following
+-- The first entry that can be taken off.
+pub mod Front
+-- A recording that is clean of a cell.
+pub mod CleanCells
 -- There is one text.
 pub mod Once
 -- Rounds in plain words.

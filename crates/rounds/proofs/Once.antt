@@ -1,5 +1,5 @@
 -- A recording has one text, and one JSON.
-use Rattle.std.proofs.Common.{◌≡◌, ◌∙◌, ℕ, zero, suc, arith, refl, sym, ap, subst, List, [], ◌∷◌, ◌++◌, Bool}
+use Rattle.std.proofs.Common.{◌≡◌, ◌∙◌, ℕ, zero, suc, refl, sym, ap, subst, List, [], ◌∷◌, ◌++◌, Bool}
 use Rattle.std.specs.List.{Contains, flat_map}
 use Rattle.std.specs.Prelude.{if◌then◌else◌, codes}
 use Rattle.serde_json.specs.Data.{boolean, object, member, no_members}
@@ -20,21 +20,10 @@ use Rattle.rounds.specs.Rounds.{IsTakenOff, NoneIsTakenOff, IsRound, AreRounds, 
 use Rattle.rounds.specs.Text.{round_text}
 use Rattle.rounds.specs.AsJson.{round_value, rounds_json}
 use Rattle.rounds.specs.Laws.{IsOneText, IsOneJson}
+use Rattle.rounds.proofs.Front.{at_front, behind, heads, tails}
 use Rattle.rounds.proofs.Taking.{one_taken}
 
 -- ---- the first entry that can be taken off
-
-at_front : (x : Entry) (xs : List Entry) → Contains (x ∷ xs) x
-at_front x xs = (0, omega arith, refl)
-
-behind : (x y : Entry) (xs : List Entry) → Contains xs y → Contains (x ∷ xs) y
-behind x y xs inside = let low = inside.1 in (suc inside.0, omega (arith, low), inside.2)
-
-heads : (x y : Entry) (xs ys : List Entry) → x ∷ xs ≡ y ∷ ys → x ≡ y
-heads x y xs ys e = cc
-
-tails : (x y : Entry) (xs ys : List Entry) → x ∷ xs ≡ y ∷ ys → xs ≡ ys
-tails x y xs ys e = cc
 
 one_first : (recording : List Sample) (front before : List Entry) (a b : Entry) (after rest : List Entry) (s t : Subtracted) →
     front ++ a ∷ after ≡ before ++ b ∷ rest → NoneIsTakenOff recording front → NoneIsTakenOff recording before → IsTakenOff recording a s → IsTakenOff recording b t → a ≡ b

@@ -3,3 +3,4 @@ pub mod Steps
 pub mod Text
 pub mod AsJson
 pub mod Laws
+pub mod Clean
