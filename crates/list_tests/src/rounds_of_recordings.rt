@@ -4,7 +4,9 @@ use cell_json::read;
 use cell_tx::send_all;
 use cs_num::{Sample, clamp_div};
 use explain::Workspace;
-use rounds::{Round, cancel_rounds, cancel_text, one_text, rounds_in_plain_words};
+use rounds::{
+    Round, cancel_rounds, cancel_text, clean_cell_is_taken_first, one_text, rounds_in_plain_words,
+};
 use sample_file::Recording;
 use std::alloc::Global;
 use std::test::Fail;
@@ -60,6 +62,7 @@ fn silence_has_no_cell_to_take_off(rt: HostRuntime) -> Result<(), Fail> {
     assert!(rt; has_text(rt.alloc(), samples, "cells 0\ncancelled none\n")?);
     rounds_in_plain_words();
     one_text();
+    clean_cell_is_taken_first();
     Ok(())
 }
 

@@ -2,7 +2,10 @@
 ghost use Rattle.std.specs.Prelude.{◌≡◌, length};
 
 use crate::examples::cell_of;
-use cancel::{Subtracted, best_candidate_is_one, clean_gain_is_candidate, subtract};
+use cancel::{
+    Subtracted, answer_leaves_errors, best_candidate_is_one, clean_gain_is_candidate, some_answer,
+    subtract,
+};
 use cell_tx::{CellPlan, Port, Sender, sequence};
 use cs_num::{Cpx, Sample, clamp_div};
 use lte_types::{Duration, Resource, Sfn, Timing};
@@ -221,6 +224,8 @@ fn of_equal_gains_the_lowest_is_taken(rt: HostRuntime) -> Result<(), Fail> {
     };
     assert!(rt; is_taken_off(rt.alloc(), samples, plain_plan(0), (0, 0), &told)?);
     best_candidate_is_one();
+    some_answer();
+    answer_leaves_errors();
     Ok(())
 }
 
