@@ -15,6 +15,7 @@ use Rattle.sample_file.specs.Recording.{IsRecording}
 use Rattle.cell_tx.specs.declared.antenna.PortOfFour.TheVariants.{Zero, One, Two, Three}
 use Rattle.cell_tx.specs.declared.emission.Emission.{Emission}
 use Rattle.cell_tx.specs.Clean.{IsClean, AreGains, AreGainsOfFour, HavePairs, AreGainsOf, ArePairedBy}
+use Rattle.cell_tx.specs.Pair.{gain_of}
 use Rattle.cell_tx.specs.Emission.{received_by, emitted, emitted_samples}
 use Rattle.cell_tx.specs.Laws.{values_with, EmittedIsClean}
 use Rattle.cell_tx.proofs.Received.{received_by-small}
@@ -198,10 +199,10 @@ is_clean law n made m =
       number = clean.number;
       samples = record { within = clean.within; size = clean.gains_are; bound = clean.bound; near = clean.near };
     } in
-    subst (λ l. IsClean l t.cell t.timing.sfn t.timing.offset t.gain eps) (sym m.samples_are)
-    (subst (λ p. IsClean (samples n eps) p t.timing.sfn t.timing.offset t.gain eps) (sym m.plan_is)
-    (subst (λ s. IsClean (samples n eps) (plan n) s t.timing.offset t.gain eps) (sym m.number_is)
-    (subst (λ o. IsClean (samples n eps) (plan n) (number n) o t.gain eps) (sym m.offset_is)
+    subst (λ l. IsClean l t.cell t.sfn t.offset (gain_of t.gain) eps) (sym m.samples_are)
+    (subst (λ p. IsClean (samples n eps) p t.sfn t.offset (gain_of t.gain) eps) (sym m.plan_is)
+    (subst (λ s. IsClean (samples n eps) (plan n) s t.offset (gain_of t.gain) eps) (sym m.number_is)
+    (subst (λ o. IsClean (samples n eps) (plan n) (number n) o (gain_of t.gain) eps) (sym m.offset_is)
     (subst (λ z. IsClean (samples n eps) (plan n) (number n) (offset n) z eps) (sym m.gain_is) whole))))
 
 -- ---- a number has one recording

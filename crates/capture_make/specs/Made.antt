@@ -4,6 +4,7 @@ use Rattle.cs_num.specs.declared.Sample.{Sample}
 use Rattle.lte_types.specs.declared.carrier.Carrier.{Carrier}
 use Rattle.lte_types.specs.declared.carrier.Carrier.TheVariants.{OnePort}
 use Rattle.cell_tx.specs.Clean.{IsClean}
+use Rattle.cell_tx.specs.Pair.{gain_of}
 use Rattle.cell_tx.specs.Emission.{received_by, IsCleanBy}
 use Rattle.cell_tx.specs.Laws.{values_with}
 use Rattle.capture_make.specs.declared.made.Made.{Made}
@@ -42,15 +43,14 @@ samples n bound = samples_by OnePort n bound
 
 pub record IsMade (n : ℕ) (made : Made) : Type 0 where
   pub plan_is : made.sent.cell ≡ plan n
-  pub number_is : made.sent.timing.sfn ≡ number n
-  pub offset_is : made.sent.timing.offset ≡ offset n
+  pub number_is : made.sent.sfn ≡ number n
+  pub offset_is : made.sent.offset ≡ offset n
   pub count_is : made.sent.samples ≡ sample_count n
-  pub gain_is : made.sent.gain ≡ gain n
+  pub gain_is : gain_of made.sent.gain ≡ gain n
   pub bound : IsBound OnePort n made.bound
   pub samples_are : made.recording ≡ samples n (nat_abs made.bound)
 
 -- the recording is a clean one of what was sent, with errors within the bound
 abbrev pub IsCleanlyMade : Made → Type 0
 IsCleanlyMade made =
-    IsClean made.recording made.sent.cell made.sent.timing.sfn made.sent.timing.offset made.sent.gain
-    (nat_abs made.bound)
+    IsClean made.recording made.sent.cell made.sent.sfn made.sent.offset (gain_of made.sent.gain) (nat_abs made.bound)

@@ -12,7 +12,6 @@ use Rattle.cs_num.specs.Gain.{IsGain}
 use Rattle.lte_types.specs.declared.carrier.Carrier.{Carrier}
 use Rattle.lte_types.specs.declared.carrier.Carrier.TheVariants.{OnePort, TwoPorts, LongPrefix, FourPorts}
 use Rattle.lte_types.specs.declared.sib1.Sib1.{Sib1}
-use Rattle.lte_types.specs.declared.timing.Timing.{Timing}
 use Rattle.lte_types.specs.Ranges.{IsValid}
 use Rattle.lte_types.specs.Timing.{IsOffset}
 use Rattle.cell_tx.specs.declared.cell.CellPlan.{CellPlan}
@@ -23,6 +22,7 @@ use Rattle.cell_tx.specs.declared.transmission.Transmission.{Transmission}
 use Rattle.cell_tx.specs.Conditions.{Condition, condition, first_failed}
 use Rattle.cell_tx.specs.Plan.{IsSendable, IsSendableBy, refusal_of}
 use Rattle.cell_tx.specs.Clean.{AreGainsOf}
+use Rattle.cell_tx.specs.Pair.{gain_of}
 use Rattle.cell_tx.proofs.Sendable.{accepted_is_sendable_by, sendable_with_one}
 use Rattle.cell_json.specs.Kinds.{is_between}
 use Rattle.cell_json.specs.Information.{sib1_in}
@@ -89,8 +89,8 @@ block_is_valid : (json : Data) (sib1 : Sib1) → Some sib1 ≡ sib1_at json → 
 block_is_valid json sib1 e = option_and_then_some sib1_in (get (codes "sib1") json) sib1 (sym e) (λ inner is h. read_is_valid inner sib1 h)
 
 -- a plan with a description's values is the plan of the description
-same_plan : (plan : CellPlan) (timing : Timing) (samples : ℕ) (json : Data) → HasValues plan timing samples json → IsSendable (plan_of json plan.sib1) → plan_of json plan.sib1 ≡ plan
-same_plan plan timing samples json values s =
+same_plan : (plan : CellPlan) (sfn offset samples : ℕ) (json : Data) → HasValues plan sfn offset samples json → IsSendable (plan_of json plan.sib1) → plan_of json plan.sib1 ≡ plan
+same_plan plan sfn offset samples json values s =
     let identity = held 65535 plan.identity (number_at (codes "identity") json) values.identity (omega (arith, s.identity)) in
     let spare = held 65535 plan.spare (number_at (codes "spare") json) values.spare (omega (arith, s.spare)) in
     let cfi = held 255 plan.cfi (number_at (codes "cfi") json) values.cfi (omega (arith, s.cfi.1)) in
@@ -116,45 +116,45 @@ same_plan plan timing samples json values s =
       sib1 = e10 i;
     }
 
--- the plan and the timing of what is sent by a carrier are in their ranges
-pub record AreInRanges (carrier : Carrier) (plan : CellPlan) (timing : Timing) : Type 0 where
+-- the plan, the frame number and the offset of what is sent by a carrier are in their ranges
+pub record AreInRanges (carrier : Carrier) (plan : CellPlan) (sfn offset : ℕ) : Type 0 where
   pub sendable : IsSendableBy carrier plan
-  pub number : timing.sfn ≤ 1023
-  pub offset : IsOffset timing.offset
+  pub number : sfn ≤ 1023
+  pub within : IsOffset offset
 
-described : (carrier : Carrier) (plan : CellPlan) (timing : Timing) (samples : ℕ) (json : Data) → AllHold carrier json → HasValues plan timing samples json → AreInRanges carrier plan timing
-described carrier plan timing samples json all values =
-    let below = within 0 19199 timing.offset (number_at (codes "offset") json) values.offset all.offset in
+described : (carrier : Carrier) (plan : CellPlan) (sfn offset samples : ℕ) (json : Data) → AllHold carrier json → HasValues plan sfn offset samples json → AreInRanges carrier plan sfn offset
+described carrier plan sfn offset samples json all values =
+    let below = within 0 19199 offset (number_at (codes "offset") json) values.first all.offset in
     let accepted : refusal_of carrier (plan_of json plan.sib1) ≡ None = ap first_failed (sym (cell_conditions_are carrier json plan.sib1 values.sib1)) ∙ all.cell in
     let sendable = (accepted_is_sendable_by carrier (plan_of json plan.sib1)).0 (block_is_valid json plan.sib1 values.sib1, accepted) in
     record {
-      sendable = subst (IsSendableBy carrier) (same_plan plan timing samples json values (sendable_with_one carrier (plan_of json plan.sib1) sendable)) sendable;
-      number = within 0 1023 timing.sfn (number_at (codes "sfn") json) values.sfn all.sfn;
-      offset = omega (arith, below);
+      sendable = subst (IsSendableBy carrier) (same_plan plan sfn offset samples json values (sendable_with_one carrier (plan_of json plan.sib1) sendable)) sendable;
+      number = within 0 1023 sfn (number_at (codes "sfn") json) values.number all.sfn;
+      within = omega (arith, below);
     }
 
 -- a described emission is in the ranges of its parts
 pub record IsInRangesBy (carrier : Carrier) (e : Emission) : Type 0 where
-  pub parts : AreInRanges carrier e.cell e.timing
+  pub parts : AreInRanges carrier e.cell e.timing.sfn e.timing.offset
   pub gains : AreGainsOf carrier e.gains
 
 pub described_ranges_by : (carrier : Carrier) (bytes : List ℕ) (e : Emission) → DescribesBy carrier bytes e → IsInRangesBy carrier e
 described_ranges_by carrier bytes e d =
     let all = all_hold carrier d.value (ap (failed_of carrier) (sym d.json) ∙ d.valid) in
     record {
-      parts = described carrier e.cell e.timing e.samples d.value all d.is.values;
+      parts = described carrier e.cell e.timing.sfn e.timing.offset e.samples d.value all d.is.values;
       gains = subst (AreGainsOf carrier) (sym d.is.gains) (gains_hold carrier (gains_at carrier d.value) all.gains);
     }
 
 -- so is a described transmission
 pub record IsInRanges (t : Transmission) : Type 0 where
-  pub parts : AreInRanges OnePort t.cell t.timing
-  pub gain : IsGain t.gain
+  pub parts : AreInRanges OnePort t.cell t.sfn t.offset
+  pub gain : IsGain (gain_of t.gain)
 
 pub described_ranges : (bytes : List ℕ) (t : Transmission) → Describes bytes t → IsInRanges t
 described_ranges bytes t d =
     let all = all_hold OnePort d.value (ap (failed_of OnePort) (sym d.json) ∙ d.valid) in
     record {
-      parts = described OnePort t.cell t.timing t.samples d.value all d.values;
-      gain = gain_holds t.gain (subst (λ g. is_gain g ≡ true) (sym d.gain) all.gains);
+      parts = described OnePort t.cell t.sfn t.offset t.samples d.value all d.values;
+      gain = gain_holds (gain_of t.gain) (subst (λ g. is_gain g ≡ true) (sym d.gain) all.gains);
     }

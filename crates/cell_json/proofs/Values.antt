@@ -5,7 +5,6 @@ use Rattle.std.proofs.lemmas.Option.{slice_get_within}
 use Rattle.serde_json.specs.Data.{Data}
 use Rattle.lte_types.specs.declared.sib1.Sib1.{Sib1}
 use Rattle.dci.specs.Sizes.{size_of, column_2, column_3}
-use Rattle.lte_types.specs.declared.timing.Timing.{Timing}
 use Rattle.cell_tx.specs.declared.cell.CellPlan.{CellPlan}
 use Rattle.cell_tx.specs.Plan.{IsSendable}
 use Rattle.cell_json.specs.Kinds.{is_between}
@@ -48,9 +47,9 @@ small_column column (inl e) = omega (arith, e)
 small_column column (inr e) = omega (arith, e)
 
 -- a cell with the plan of a description has its values
-pub has_values : (plan : CellPlan) (timing : Timing) (samples : ℕ) (json : Data) (sib1 : Sib1) → IsSendable plan → plan ≡ plan_of json sib1 → Some sib1 ≡ sib1_at json
-    → pos timing.sfn ≡ number_at (codes "sfn") json → pos timing.offset ≡ number_at (codes "offset") json → pos samples ≡ number_at (codes "samples") json → HasValues plan timing samples json
-has_values plan timing samples json sib1 sendable is there sfn_is offset_is samples_is = record {
+pub has_values : (plan : CellPlan) (sfn offset samples : ℕ) (json : Data) (sib1 : Sib1) → IsSendable plan → plan ≡ plan_of json sib1 → Some sib1 ≡ sib1_at json
+    → pos sfn ≡ number_at (codes "sfn") json → pos offset ≡ number_at (codes "offset") json → pos samples ≡ number_at (codes "samples") json → HasValues plan sfn offset samples json
+has_values plan sfn offset samples json sib1 sendable is there sfn_is offset_is samples_is = record {
   identity = kept 65535 plan.identity (number_at (codes "identity") json) (ap (λ p. p.identity) is) (omega (arith, sendable.identity));
   duration = ap (λ p. p.duration) is;
   resource = ap (λ p. p.resource) is;
@@ -61,7 +60,7 @@ has_values plan timing samples json sib1 sendable is there sfn_is offset_is samp
   mcs = kept 255 plan.mcs (number_at (codes "mcs") json) (ap (λ p. p.mcs) is) (small_scheme plan.mcs plan.column sendable.mcs);
   column = kept 255 plan.column (number_at (codes "column") json) (ap (λ p. p.column) is) (small_column plan.column sendable.column);
   sib1 = ap (λ p. Some p.sib1) is ∙ there;
-  sfn = sfn_is;
-  offset = offset_is;
+  number = sfn_is;
+  first = offset_is;
   samples = samples_is;
 }

@@ -5,12 +5,12 @@ use Rattle.serde_json.specs.Data.{Data}
 use Rattle.serde_json.specs.Read.{read as value_of_text}
 use Rattle.lte_types.specs.declared.carrier.Carrier.{Carrier}
 use Rattle.lte_types.specs.declared.carrier.Carrier.TheVariants.{OnePort}
-use Rattle.lte_types.specs.declared.timing.Timing.{Timing}
 use Rattle.cell_tx.specs.declared.cell.CellPlan.{CellPlan}
 use Rattle.cell_tx.specs.declared.emission.Emission.{Emission}
 use Rattle.cell_tx.specs.declared.error.CellError.{CellError}
 use Rattle.cell_tx.specs.declared.error.CellError.TheVariants.{Form}
 use Rattle.cell_tx.specs.declared.transmission.Transmission.{Transmission}
+use Rattle.cell_tx.specs.Pair.{gain_of}
 use Rattle.cell_tx.specs.Conditions.{first_failed}
 use Rattle.cell_json.specs.declared.error.JsonError.{JsonError}
 use Rattle.cell_json.specs.declared.error.JsonError.TheVariants.{Cell, OutOfMemory}
@@ -33,8 +33,9 @@ refusal_by carrier bytes = refusal_of carrier (json_of bytes)
 abbrev pub refusal : List ℕ → Option CellError
 refusal bytes = refusal_by OnePort bytes
 
--- the plan of a cell, the first sample that is sent and the count of samples are those of a description
-pub record HasValues (plan : CellPlan) (timing : Timing) (count : ℕ) (json : Data) : Type 0 where
+-- the plan of a cell, the number of its first frame, the first sample of that which is sent and the count of samples are
+-- the description's
+pub record HasValues (plan : CellPlan) (sfn offset count : ℕ) (json : Data) : Type 0 where
   pub identity : pos plan.identity ≡ number_at (codes "identity") json
   pub duration : plan.duration ≡ duration_at json
   pub resource : plan.resource ≡ resource_at json
@@ -45,14 +46,14 @@ pub record HasValues (plan : CellPlan) (timing : Timing) (count : ℕ) (json : D
   pub mcs : pos plan.mcs ≡ number_at (codes "mcs") json
   pub column : pos plan.column ≡ number_at (codes "column") json
   pub sib1 : Some plan.sib1 ≡ sib1_at json
-  pub sfn : pos timing.sfn ≡ number_at (codes "sfn") json
-  pub offset : pos timing.offset ≡ number_at (codes "offset") json
+  pub number : pos sfn ≡ number_at (codes "sfn") json
+  pub first : pos offset ≡ number_at (codes "offset") json
   pub samples : pos count ≡ number_at (codes "samples") json
 
 -- the emission is that of the description by a carrier, without load
 pub record IsEmissionOf (carrier : Carrier) (json : Data) (e : Emission) : Type 0 where
   pub carrier_is : e.carrier ≡ carrier
-  pub values : HasValues e.cell e.timing e.samples json
+  pub values : HasValues e.cell e.timing.sfn e.timing.offset e.samples json
   pub gains : e.gains ≡ gains_at carrier json
   pub load : e.load ≡ None
 
@@ -76,8 +77,8 @@ pub record Describes (bytes : List ℕ) (t : Transmission) : Type 0 where
   pub value : Data
   pub json : json_of bytes ≡ Some value
   pub valid : refusal bytes ≡ None
-  pub values : HasValues t.cell t.timing t.samples value
-  pub gain : t.gain ≡ gain_at value
+  pub values : HasValues t.cell t.sfn t.offset t.samples value
+  pub gain : gain_of t.gain ≡ gain_at value
 
 -- how a refusal comes: a cause exactly where it is the first failed condition, and want of memory at any bytes
 abbrev pub IsRefusedBy : Carrier → List ℕ → JsonError → Type 0

@@ -12,6 +12,7 @@ pub mod Sent
 pub mod Load
 pub mod Rows
 pub mod Sending
+pub mod Pair
 pub mod Clean
 pub mod Emission
 pub mod Emitting

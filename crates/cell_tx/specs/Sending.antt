@@ -7,6 +7,7 @@ use Rattle.cs_num.specs.Complex.{times, sample_of}
 use Rattle.cell_tx.specs.declared.grid.Signals.{Signals}
 use Rattle.cell_tx.specs.declared.sending.Sender.{Sender}
 use Rattle.cell_tx.specs.declared.transmission.Transmission.{Transmission}
+use Rattle.cell_tx.specs.Pair.{gain_of}
 use Rattle.cell_tx.specs.Ports.{port_prefix}
 use Rattle.cell_tx.specs.Load.{sent_element}
 use Rattle.cell_tx.specs.Rows.{first_sample}
@@ -39,4 +40,5 @@ scaled_in_frame sender gain n i = times gain (sent_in_frame sender.load sender.p
 
 -- what is received of a transmission without errors
 abbrev pub received_samples : Transmission → List Sample
-received_samples t = values_below t.samples (λ i. sample_of (received t.cell t.timing.sfn t.timing.offset t.gain i))
+received_samples t =
+    values_below t.samples (λ i. sample_of (received t.cell t.sfn t.offset (gain_of t.gain) i))

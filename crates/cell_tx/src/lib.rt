@@ -19,6 +19,7 @@ mod laws;
 mod layout;
 mod load;
 mod made_symbols;
+mod pair;
 mod points;
 mod sending;
 mod shared;
@@ -33,5 +34,6 @@ pub use error::CellError;
 pub use laws::{
     accepted_are_sendable, frames_stand, sent_is_clean, sizes, sum_is_clean, symbols_stand,
 };
-pub use sending::{Sender, frame, sample, send, send_all, sequence};
+pub use pair::{gain_of_pair, pair_of};
+pub use sending::{Sender, frame, port_sample, sample, send, send_all, sequence};
 pub use transmission::Transmission;

@@ -1,11 +1,13 @@
 //! The samples of a cell.
 
-ghost use Rattle.std.specs.Prelude.{ℕ, ◌≡◌, ◌+◌, ◌-◌, ◌*◌, ◌/◌, ◌%◌, ◌<◌, ◌≤◌, ◌++◌, length, min, take, drop};
+ghost use Rattle.std.specs.Prelude.{ℕ, ◌≡◌, ◌+◌, ◌-◌, ◌*◌, ◌/◌, ◌%◌, ◌<◌, ◌≤◌, ◌++◌, length, min, take, drop, None};
 ghost use Rattle.finite.specs.Lists.{values_below};
 ghost use Rattle.cs_num.specs.Complex.{IsWithin, square, times, value_of, sample_of};
 ghost use Rattle.fold128.specs.Symbol.{useful_part};
 ghost use Rattle.lte_types.specs.Numerology.{frame_length, slot_length, useful_length, normal, symbol_of, most_samples};
 ghost use Rattle.lte_types.specs.Timing.{number_of};
+ghost use Rattle.cell_tx.specs.Pair.{gain_of};
+ghost use Rattle.cell_tx.specs.Emission.{sent_by};
 ghost use Rattle.cell_tx.specs.Ports.{port_prefix, port_symbols};
 ghost use Rattle.cell_tx.specs.Grid.{element};
 ghost use Rattle.cell_tx.specs.Rows.{useful_place, frame_samples, IsLayout, AreVersions};
@@ -73,17 +75,25 @@ fn sample_of_frame(signals: &Signals, i: usize) -> Sample
     sample_of_slot(signals, &useful, slot, i % SLOT_LENGTH)
 }
 
-/// Sample `i` of the endless sequence of frames that a cell sends, which begins with the frame numbered `sfn`
-/// (TS 36.211 section 6.12, in whole numbers). The size of a sample is at most 1,153.
+/// Sample `i` of the endless sequence of frames that a cell sends without load at an antenna port, which begins with
+/// the frame numbered `sfn` (TS 36.211 section 6.12, in whole numbers). The size of a sample is at most 1,153.
+pub fn port_sample(cell: &Cell, port: Port, sfn: Sfn, i: u64) -> Sample
+    ensures value { result ≡ sample_of (sent_by None port cell.now sfn i) }
+    ensures size { square (sent_by None port cell.now sfn i) ≤ 1153 * 1153 }
+{
+    let sfn = Timing { sfn, offset: 0 }.number_at(i);
+    let layout = layout_of(cell, port);
+    let carried = carried_of(cell, sfn);
+    let signals = Signals::new(cell, port, None, &layout, &carried, sfn);
+    sample_of_frame(&signals, (i % FRAME) as usize)
+}
+
+/// That of one antenna port with the normal cyclic prefix.
 pub fn sample(cell: &Cell, sfn: Sfn, i: u64) -> Sample
     ensures value { result ≡ sample_of (sent (element cell.now) sfn i) }
     ensures size { square (sent (element cell.now) sfn i) ≤ 1153 * 1153 }
 {
-    let sfn = Timing { sfn, offset: 0 }.number_at(i);
-    let layout = layout_of(cell, Port::Only);
-    let carried = carried_of(cell, sfn);
-    let signals = Signals::new(cell, Port::Only, None, &layout, &carried, sfn);
-    sample_of_frame(&signals, (i % FRAME) as usize)
+    port_sample(cell, Port::Only, sfn, i)
 }
 
 /// The whole frame numbered `sfn`, over 19,200 samples: those of `sample` from 0 on. Sample `i` is
@@ -111,13 +121,10 @@ fn amplified(gain: Gain, clean: Sample) -> Sample
 /// below the number of samples. Components have size at most 32,284.
 pub fn send(t: &Transmission, i: u32) -> Sample
     requires { i < t.now.samples }
-    ensures value { result ≡ sample_of (received t.now.cell t.now.timing.sfn t.now.timing.offset t.now.gain i) }
-    ensures size { IsWithin 32284 (received t.now.cell t.now.timing.sfn t.now.timing.offset t.now.gain i) }
+    ensures value { result ≡ sample_of (received t.now.cell t.now.sfn t.now.offset (gain_of t.now.gain) i) }
+    ensures size { IsWithin 32284 (received t.now.cell t.now.sfn t.now.offset (gain_of t.now.gain) i) }
 {
-    amplified(
-        t.gain,
-        sample(&t.cell, t.timing.sfn, i as u64 + t.timing.offset as u64),
-    )
+    amplified(t.gain(), sample(&t.cell, t.sfn, i as u64 + t.offset as u64))
 }
 
 /// What sends a cell at an antenna port, from a sample of a frame on, with load or without.
@@ -207,8 +214,8 @@ pub fn send_all(t: &Transmission, out: &mut [Sample])
     let sender = Sender {
         cell: &t.cell,
         port: Port::Only,
-        timing: t.timing,
+        timing: t.timing(),
         load: None,
     };
-    fill(&sender, &t.gain.value(), out);
+    fill(&sender, &t.gain().value(), out);
 }

@@ -88,7 +88,7 @@ sent_is_found law carrier load description bytes text paired a b =
     let back = sent_back carrier load e bytes a.describes.is.carrier_is ranges.gains a.sent in
     let clean : IsCleanBy carrier load (samples_of bytes) e.cell e.timing.sfn e.timing.offset e.gains 0 =
     subst (λ samples. IsCleanBy carrier load samples e.cell e.timing.sfn e.timing.offset e.gains 0) (sym back)
-    (sent_cleanly law carrier load e ranges.parts.number ranges.parts.offset ranges.gains (paired e a.describes)) in
+    (sent_cleanly law carrier load e ranges.parts.number ranges.parts.within ranges.gains (paired e a.describes)) in
     let there = held carrier load e.cell e.timing.sfn e.timing.offset e.gains 0 (samples_of bytes) b.entries ranges.parts.sendable clean b.is_list in
     record {
       e = e;

@@ -241,8 +241,8 @@ fn is_message(entry: &SiMessage, period: u8, count: usize) -> bool {
 
 fn is_plain(transmission: &Transmission) -> bool {
     let plan = transmission.cell.plan();
-    transmission.timing.sfn.value() == 0
-        && transmission.timing.offset == 0
+    transmission.sfn.value() == 0
+        && transmission.offset == 0
         && has_plain_assignment(plan)
         && plan.sib1 == plain_block()
 }
@@ -271,10 +271,10 @@ fn has_other_assignment(plan: &CellPlan) -> bool {
 }
 
 fn is_other(transmission: &Transmission) -> bool {
-    transmission.timing.sfn.value() == 1023
-        && transmission.timing.offset == 19_199
+    transmission.sfn.value() == 1023
+        && transmission.offset == 19_199
         && transmission.samples == 1_920_000
-        && (transmission.gain.re(), transmission.gain.im()) == (-27, 7)
+        && transmission.gain == (-27, 7)
         && has_other_plan(transmission.cell.plan())
         && has_other_assignment(transmission.cell.plan())
 }

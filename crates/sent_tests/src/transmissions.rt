@@ -5,10 +5,8 @@ use cell_tx::{
     Cell, CellError, CellPlan, Transmission, accepted_are_sendable, frame, frames_stand, sample,
     send, send_all, sent_is_clean, sizes, symbols_stand,
 };
-use cs_num::{Gain, Sample};
-use lte_types::{
-    Duration, Mnc, Plmn, Plmns, Resource, Schedule, Sfn, Sib1, Timing,
-};
+use cs_num::Sample;
+use lte_types::{Duration, Mnc, Plmn, Plmns, Resource, Schedule, Sfn, Sib1};
 use std::test::Fail;
 use test_support::{message, plain_block, silent};
 
@@ -237,12 +235,10 @@ fn turned() -> Result<Transmission, CellError>
     })?;
     Ok(Transmission {
         cell,
-        timing: Timing {
-            sfn: Sfn::modulo(1023),
-            offset: 19_199,
-        },
+        sfn: Sfn::modulo(1023),
+        offset: 19_199,
         samples: 57_600,
-        gain: Gain::new(-11, 23).ok_or(CellError::Gain)?,
+        gain: (-11, 23),
     })
 }
 

@@ -47,7 +47,7 @@ returns c =
       same ∙ ap (refusal_of d.carrier) (sym c.plan_of.ensures) ∙ c.in_ok-cell.ensures.refusal,
       record {
         carrier_is = refl;
-        values = has_values _ _ _ json c.in_ok-sib1.sib1 (sendable_with_one d.carrier _ c.in_ok-cell.ensures.sendable) (c.in_ok-cell.ensures.plan ∙ c.plan_of.ensures) there
+        values = has_values _ _ _ _ json c.in_ok-sib1.sib1 (sendable_with_one d.carrier _ c.in_ok-cell.ensures.sendable) (c.in_ok-cell.ensures.plan ∙ c.plan_of.ensures) there
             (sfn ∙ d.has_sending.sfn) (offset ∙ d.has_sending.offset) (samples ∙ d.has_sending.samples);
         gains = gains ∙ d.has_gains;
         load = refl;
