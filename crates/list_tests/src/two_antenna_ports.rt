@@ -137,7 +137,7 @@ fn is_list_of(list: &EntryList, n: u32, start: u32, sfn: u16) -> bool {
 #[test]
 fn recording_7_has_its_cell(rt: HostRuntime) -> Result<(), Fail> {
     let made = make(rt.alloc(), 7)?;
-    assert!(rt; made.gains == [Cpx { re: 8, im: 7 }, Cpx { re: 7, im: -7 }]);
+    assert!(rt; made.gains == [(8, 7), (7, -7)]);
     let list = list_of(rt.alloc(), &made.recording)?;
     assert!(rt; is_list_of(&list, 7, 19_193, 8));
     Ok(())

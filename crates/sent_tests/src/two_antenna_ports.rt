@@ -1,10 +1,13 @@
 // The numbers are those of a second program, `scripts/peers/second_two_ports.py`.
+ghost use Rattle.std.specs.Prelude.{◌<◌};
+
 use capture_make::plan;
 use cell_tx::{CellError, CellPlan, sum_is_clean};
-use lte_types::Sib1;
+use cs_num::Sample;
+use lte_types::{Sfn, Sib1};
 use std::test::Fail;
 use test_support::{Summary, is_summed_up};
-use two_tx::{Cell2, TwoMade, made_is_clean, make};
+use two_tx::{Cell2, TwoMade, made_is_clean, make, sample};
 
 // The cell of a plan.
 fn cell_of(plan: CellPlan) -> Result<Cell2, CellError> {
@@ -65,12 +68,80 @@ fn refusals_in_order(rt: HostRuntime) {
     }
 }
 
+// Samples of the cell of number 7 from frame 7 on, at each port.
+const FIRST: [(u32, i16, i16); 22] = [
+    (0, -35, -11),
+    (9, 87, -14),
+    (10, 0, 23),
+    (823, -47, 7),
+    (832, -109, 68),
+    (960, -99, -42),
+    (967, 56, -50),
+    (970, 0, 23),
+    (1300, 112, -44),
+    (9610, 90, -90),
+    (19_200, -35, -11),
+    (28_800, 77, -117),
+    (28_810, 113, -112),
+    (28_950, 100, -141),
+    (29_100, -16, -83),
+    (29_400, 238, -44),
+    (29_623, -47, 7),
+    (29_747, 1, -147),
+    (29_900, -21, -140),
+    (30_100, 69, 125),
+    (30_300, -57, 92),
+    (30_711, -118, -79),
+];
+
+const SECOND: [(u32, i16, i16); 22] = [
+    (0, 55, -37),
+    (9, 104, 18),
+    (10, 90, -22),
+    (823, 0, 0),
+    (832, 0, 0),
+    (960, -37, 29),
+    (967, -63, 73),
+    (970, 0, 68),
+    (1300, 154, 24),
+    (9610, 90, 90),
+    (19_200, 55, -37),
+    (28_800, -72, 82),
+    (28_810, 68, 68),
+    (28_950, -60, 54),
+    (29_100, 48, -83),
+    (29_400, 3, -112),
+    (29_623, 0, 0),
+    (29_747, 0, 0),
+    (29_900, 76, -3),
+    (30_100, 16, 87),
+    (30_300, -89, 51),
+    (30_711, -72, -31),
+];
+
+// Whether a port of a cell sends these samples from frame 7 on.
+fn sends(cell: &Cell2, port: u8, rows: &[(u32, i16, i16)]) -> bool
+    requires { port < 2 }
+{
+    let mut all = true;
+    for &(i, re, im) in rows {
+        all &= sample(cell, port, Sfn::modulo(7), i as u64) == Sample { re, im };
+    }
+    all
+}
+
+#[test]
+fn samples_of_each_port(rt: HostRuntime) -> Result<(), Fail> {
+    let cell = cell_of(plan(7))?;
+    assert!(rt; cell.plan().identity == 7);
+    assert!(rt; sends(&cell, 0, &FIRST));
+    assert!(rt; sends(&cell, 1, &SECOND));
+    Ok(())
+}
+
 // Whether a recording has these gains, this bound of its errors and this summary.
-fn is_made(made: &TwoMade, gains: [(i64, i64); 2], bound: i16, summary: &Summary) -> bool {
-    let [first, second] = made.gains;
-    [(first.re, first.im), (second.re, second.im)] == gains
-        && made.bound == bound
-        && is_summed_up(&made.recording, summary)
+fn is_made(made: &TwoMade, gains: [(i16, i16); 2], bound: i16, summary: &Summary) -> bool {
+    made.gains == gains && made.bound == bound && is_summed_up(&made.recording, summary)
 }
 
 #[test]
@@ -89,7 +160,7 @@ fn the_first_recording(rt: HostRuntime) -> Result<(), Fail> {
 
 // Whether number 7 is the identity, the first sample and the number of the first frame.
 fn begins_with_7(made: &TwoMade) -> bool {
-    made.plan.identity == 7 && made.timing.offset == 7 && made.timing.sfn.value() == 7
+    made.plan.identity == 7 && made.offset == 7 && made.sfn.value() == 7
 }
 
 // Frame 8 begins at sample 19,193, since sample 7 of frame 7 is the first.

@@ -20,10 +20,10 @@ is_clean law n made m =
       number = clean.number;
       samples = record { within = clean.within; gains = clean.gains_are; bound = clean.bound; near = clean.near };
     } in
-    subst (λ (l : List Cpx). IsCleanOfPorts made.recording made.plan made.timing.sfn made.timing.offset (value_at l 0) (value_at l 1) eps) (sym m.gains_are)
-    (subst (λ l. IsCleanOfPorts l made.plan made.timing.sfn made.timing.offset (first_gain n) (second_gain n) eps) (sym m.samples_are)
-    (subst (λ p. IsCleanOfPorts (samples_by TwoPorts n eps) p made.timing.sfn made.timing.offset (first_gain n) (second_gain n) eps) (sym m.plan_is)
-    (subst (λ s. IsCleanOfPorts (samples_by TwoPorts n eps) (plan n) s made.timing.offset (first_gain n) (second_gain n) eps) (sym m.number_is)
+    subst (λ (l : List Cpx). IsCleanOfPorts made.recording made.plan made.sfn made.offset (value_at l 0) (value_at l 1) eps) (sym m.gains_are)
+    (subst (λ l. IsCleanOfPorts l made.plan made.sfn made.offset (first_gain n) (second_gain n) eps) (sym m.samples_are)
+    (subst (λ p. IsCleanOfPorts (samples_by TwoPorts n eps) p made.sfn made.offset (first_gain n) (second_gain n) eps) (sym m.plan_is)
+    (subst (λ s. IsCleanOfPorts (samples_by TwoPorts n eps) (plan n) s made.offset (first_gain n) (second_gain n) eps) (sym m.number_is)
     (subst (λ o. IsCleanOfPorts (samples_by TwoPorts n eps) (plan n) (number n) o (first_gain n) (second_gain n) eps) (sym m.offset_is) whole))))
 
 -- a number has one recording

@@ -1,18 +1,18 @@
 //! Recordings by number.
 
-ghost use Rattle.std.specs.Prelude.{◌≡◌, ℕ, IfOk};
+ghost use Rattle.std.specs.Prelude.{◌≡◌, ℕ, [], ◌∷◌, map, IfOk};
 ghost use Rattle.lte_types.specs.declared.carrier.Carrier.TheVariants.{TwoPorts};
 ghost use Rattle.sample_file.specs.Recording.{IsRecording};
-ghost use Rattle.capture_make.specs.Recipe.{plan as plan_of};
+ghost use Rattle.cell_tx.specs.Pair.{gain_of};
+ghost use Rattle.capture_make.specs.Recipe.{plan as plan_of, first_gain, second_gain};
 ghost use Rattle.capture_make.specs.Made.{IsMadeBy};
 ghost use Rattle.two_tx.specs.Made.{IsMade, IsCleanlyMade};
 ghost use Rattle.two_tx.specs.Plan.{IsSendableOfTwo};
 ghost use Rattle.two_tx.specs.declared.made.TwoMade.{TwoMade as MadeValue};
 
 use capture_make::{MadeBy, gains, make_by, numbers_are_clean, plan, timing};
-use cell_tx::CellPlan;
-use cs_num::Cpx;
-use lte_types::{Carrier, Timing};
+use cell_tx::{CellPlan, pair_of};
+use lte_types::{Carrier, Sfn};
 use sample_file::Recording;
 use std::alloc::{AllocError, Global};
 
@@ -21,14 +21,24 @@ use std::alloc::{AllocError, Global};
 pub struct TwoMade {
     /// What the cell was to send.
     pub plan: CellPlan,
-    /// The first frame and the first sample of it which is sent.
-    pub timing: Timing,
-    /// The gains of the first and of the second antenna port; the second may be 0.
-    pub gains: [Cpx; 2],
+    /// The number of the first frame.
+    pub sfn: Sfn,
+    /// The first sample of that frame which is sent, 0 to 19,199.
+    pub offset: u32,
+    /// The gains of the first and of the second antenna port, real before imaginary; the second may be 0.
+    pub gains: [(i16, i16); 2],
     /// The bound of the errors: the greatest that a clean recording with these gains allows for a component.
     pub bound: i16,
     /// What both ports sent, with the errors.
     pub recording: Recording,
+}
+
+// The gains of the first and of the second antenna port.
+fn pairs(n: u32) -> [(i16, i16); 2]
+    ensures { map gain_of result ≡ first_gain n ∷ second_gain n ∷ [] }
+{
+    let gains = gains(Carrier::TwoPorts, n);
+    [pair_of(gains[0]), pair_of(gains[1])]
 }
 
 // What was made with two antenna ports.
@@ -38,11 +48,12 @@ fn of_two_ports(n: u32, made: MadeBy) -> TwoMade
     ensures made { IsMade n result }
     ensures valid { IsRecording result.recording }
 {
-    let gains = gains(Carrier::TwoPorts, n);
+    let timing = timing(n);
     TwoMade {
         plan: plan(n),
-        timing: timing(n),
-        gains: [gains[0], gains[1]],
+        sfn: timing.sfn,
+        offset: timing.offset,
+        gains: pairs(n),
         bound: made.bound,
         recording: made.recording,
     }
