@@ -1,18 +1,88 @@
 // The numbers are those of a second program, `scripts/peers/second_long_prefix.py`.
 use cs_num::{Sample, clamp_div};
 use explain::EntryList;
-use long_prefix::{LongMade, Workspace3, explain_clean, made_is_clean, make};
-use lte_types::{Duration, Entry, Resource, Sib1Reason};
+use long_prefix::{LongMade, LongPlan, Workspace3, explain_clean, made_is_clean, make, sample};
+use lte_types::{Bandwidth, CellId, Duration, Entry, Mib, Resource, Sfn, Sib1Reason};
 use sample_file::Recording;
 use std::alloc::{AllocError, Global};
 use std::test::Fail;
 use test_support::{Summary, is_summed_up, silent_recording};
 
+// Samples of the cell of number 7 from frame 7 on.
+const SENT: [(u32, i16, i16); 27] = [
+    (0, 0, -67),
+    (31, -78, 17),
+    (32, -45, -22),
+    (159, -78, 17),
+    (192, 0, 0),
+    (640, -32, -63),
+    (672, 95, 0),
+    (800, 92, -26),
+    (832, -109, 68),
+    (960, 23, 180),
+    (992, -22, -45),
+    (1000, -109, -36),
+    (1100, 2, 147),
+    (1152, 0, 68),
+    (1312, 23, -135),
+    (1500, -139, 67),
+    (9600, 45, 45),
+    (10_240, 0, 32),
+    (10_272, -95, 0),
+    (10_432, -109, 68),
+    (19_200, 0, -67),
+    (20_160, -67, 90),
+    (20_200, -196, -108),
+    (20_352, 113, -22),
+    (20_512, 90, -22),
+    (20_672, 23, 68),
+    (28_800, 45, 45),
+];
+
+// The plan of number 7.
+fn plan_7() -> Option<LongPlan> {
+    let mib = Mib::new(Bandwidth::N6, Duration::Extended, Resource::Two, 1, 7)?;
+    Some(LongPlan {
+        id: CellId::new(7)?,
+        mib,
+    })
+}
+
+// Whether these samples are sent of a plan from frame 7 on.
+fn sends(plan: &LongPlan, rows: &[(u32, i16, i16)]) -> bool {
+    let mut all = true;
+    for &(i, re, im) in rows {
+        all &= sample(plan, Sfn::modulo(7), i as u64) == Sample { re, im };
+    }
+    all
+}
+
+#[test]
+fn samples_of_a_plan(rt: HostRuntime) -> Result<(), Fail> {
+    let plan = plan_7().ok_or("in range")?;
+    assert!(rt; sends(&plan, &SENT));
+    Ok(())
+}
+
+// Whether the upper bits of the frame number in the block change nothing that is sent.
+fn is_sent_alike(block: u8) -> Option<bool> {
+    let mib = Mib::new(Bandwidth::N100, Duration::Extended, Resource::Two, block, 7)?;
+    let plan = LongPlan {
+        id: CellId::new(7)?,
+        mib,
+    };
+    Some(sends(&plan, &SENT))
+}
+
+#[test]
+fn the_frame_tells_its_number(rt: HostRuntime) -> Result<(), Fail> {
+    assert!(rt; is_sent_alike(255) == Some(true));
+    Ok(())
+}
+
 // Whether a recording by number has this gain, this bound of its errors and this summary.
 fn is_made(made: &LongMade, gain: (i16, i16), bound: i16, summary: &Summary) -> bool {
-    (made.gain.re(), made.gain.im()) == gain
-        && made.bound == bound
-        && is_summed_up(&made.recording, summary)
+    made.gain == gain && made.bound == bound && is_summed_up(&made.recording, summary)
 }
 
 #[test]

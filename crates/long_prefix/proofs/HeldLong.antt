@@ -13,17 +13,17 @@ use Rattle.soft_bits.specs.Soft.{SeenSlot}
 use Rattle.cell_tx.specs.declared.antenna.Port.TheVariants.{Long}
 use Rattle.cell_tx.specs.declared.cell.CellPlan.{CellPlan}
 use Rattle.cell_tx.specs.Block.{port_word, port_bit, port_point}
-use Rattle.cell_tx.specs.Grid.{port_element}
 use Rattle.cell_tx.specs.Sent.{Elements}
 use Rattle.explain.specs.Frame.{frame_at}
 use Rattle.explain.proofs.Listed.{is_sound}
-use Rattle.clean_air.proofs.Carrying.{own_elements_carry}
 use Rattle.clean_air.proofs.Held.{IsShown, number_fits, shown_is_held}
 use Rattle.clean_air.proofs.SentBlock.{is_block}
 use Rattle.clean_air.proofs.Speaking.{heard_bits_speak}
 use Rattle.long_prefix.specs.Entries.{long_slot, long_values, long_prefix_receiver, IsExplainedOfLong}
 use Rattle.clean_air.specs.Clean.{IsKnownPlan}
+use Rattle.long_prefix.specs.Sent.{long_element}
 use Rattle.long_prefix.specs.Clean.{IsLoadedLong, HoldsLoadedCellsOfLong, HoldsCleanCellsOfLong}
+use Rattle.long_prefix.proofs.SentPlan.{cell_with, carries_plan}
 use Rattle.long_prefix.proofs.SentSignals.{primary_at, signals_at, slot_row, points_stand, slot_received}
 use Rattle.long_prefix.proofs.Told.{values_heard}
 
@@ -64,11 +64,11 @@ holds_loaded_cells recording list long explained plan grid sfn offset gain eps k
     shown_is_held long_prefix_receiver recording plan.identity sfn offset 1 plan.duration plan.resource plan.spare (Err LongPrefix)
     (is_shown recording plan grid sfn offset gain eps known clean long) list explained
 
--- so it does where the cell sends nothing else
+-- so it does where nothing else is sent, of each plan
 pub holds_clean_cells : (recording : List Sample) (list : List Entry) → HoldsLoadedCellsOfLong recording list → HoldsCleanCellsOfLong recording list
 holds_clean_cells recording list holds plan sfn offset gain eps known clean =
-    holds plan (port_element Long plan) sfn offset gain eps known
-    (record { number = clean.number; carries = own_elements_carry Long plan; samples = clean.samples })
+    holds (cell_with plan) (long_element plan) sfn offset gain eps (record { identity = known.identity; spare = known.spare })
+    (record { number = clean.number; carries = carries_plan plan; samples = clean.samples })
 
 -- each entry of the list has the one reason
 pub reasons_are_long : (recording : List Sample) (list : List Entry) → IsExplainedOfLong recording list → All (λ entry. entry.sib1 ≡ Err LongPrefix) list

@@ -10,3 +10,5 @@ pub mod Pairs
 pub mod HeldLong
 -- A number has one recording.
 pub mod Numbered
+-- With the extended prefix a cell sends what is sent of the plan that its own has.
+pub mod SentPlan

@@ -1,3 +1,4 @@
+pub mod Sent
 pub mod Made
 pub mod Entries
 pub mod Clean

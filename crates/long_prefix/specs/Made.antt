@@ -1,9 +1,10 @@
--- Recording number n with the extended cyclic prefix: the case of this prefix of the recipe of any carrier, without the
--- control region and system information. (own)
+-- Recording number n with the extended cyclic prefix: the recipe of any carrier, without the control region and system
+-- information. (own)
 use Rattle.std.specs.Prelude.{◌≡◌, ℕ, ◌/◌, nat_abs}
 use Rattle.lte_types.specs.declared.bandwidth.Bandwidth.TheVariants.{N6}
 use Rattle.lte_types.specs.declared.carrier.Carrier.TheVariants.{LongPrefix}
 use Rattle.lte_types.specs.Block.{HasFields}
+use Rattle.cell_tx.specs.Pair.{gain_of}
 use Rattle.capture_make.specs.Recipe.{plan, number, offset, gain, IsBound}
 use Rattle.capture_make.specs.Made.{samples_by}
 use Rattle.long_prefix.specs.declared.plan.LongPlan.{LongPlan}
@@ -18,13 +19,13 @@ pub record IsPlanOf (n : ℕ) (sent : LongPlan) : Type 0 where
 -- what was sent, the bound of the errors, and the samples are those of recording number n
 pub record IsMadeLong (n : ℕ) (made : LongMade) : Type 0 where
   pub plan_is : IsPlanOf n made.plan
-  pub number_is : made.timing.sfn ≡ number n
-  pub offset_is : made.timing.offset ≡ offset n
-  pub gain_is : made.gain ≡ gain n
+  pub number_is : made.sfn ≡ number n
+  pub offset_is : made.offset ≡ offset n
+  pub gain_is : gain_of made.gain ≡ gain n
   pub bound : IsBound LongPrefix n made.bound
   pub samples_are : made.recording ≡ samples_by LongPrefix n (nat_abs made.bound)
 
--- the recording is a clean one of what is sent of the cell of number n, with errors within the bound
-abbrev pub IsCleanlyMade : ℕ → LongMade → Type 0
-IsCleanlyMade n made =
-    IsCleanOfLong made.recording (plan n) made.timing.sfn made.timing.offset made.gain (nat_abs made.bound)
+-- the recording is a clean one of what was sent, with errors within the bound
+abbrev pub IsCleanlyMade : LongMade → Type 0
+IsCleanlyMade made =
+    IsCleanOfLong made.recording made.plan made.sfn made.offset (gain_of made.gain) (nat_abs made.bound)

@@ -20,12 +20,11 @@ use sample_file::Recording;
 /// one before it has the same identity and an epoch at most 9 samples away, modulo 1,024 frames; the list is in
 /// order of start, identity and frame number.
 ///
-/// Wherever the recording is what a cell sends with this prefix, times a whole-number gain of size 1 to 28, each
-/// component off by at most twice the gain's size, the list has an entry with this cell's identity, the sample at
+/// Wherever the recording is what is sent of a plan (`sample`), times a whole-number gain of size 1 to 28, each
+/// component off by at most twice the gain's size, the list has an entry with the plan's identity, the sample at
 /// which its first frame begins, that frame's number, one antenna port and its master block, and no other with this
-/// identity, sample and number. It does so whatever else the cell sends where its plan sends nothing, beside the
-/// synchronisation signals nothing, in elements of size at most 256 (`loaded`), and so where it sends nothing else
-/// (`holds`). The workspace then has how each entry was read. It takes no memory. (own)
+/// identity, sample and number (`holds`). It does so of a cell, whatever else that sends where its plan sends nothing,
+/// beside the synchronisation signals nothing, in elements of size at most 256 (`loaded`). The workspace then has how each entry was read. It takes no memory. (own)
 pub fn explain_clean(recording: &Recording, work: &mut Workspace3, list: &mut EntryList)
     ensures list { IsExplainedOfLong recording.now list.new }
     ensures readings { AllZip (IsReadingOfLong recording.now) list.new work.new }

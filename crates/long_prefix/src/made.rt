@@ -1,16 +1,18 @@
 //! Recordings by number.
 
-ghost use Rattle.std.specs.Prelude.{ℕ, IfOk};
+ghost use Rattle.std.specs.Prelude.{◌≡◌, ℕ, IfOk};
 ghost use Rattle.lte_types.specs.declared.carrier.Carrier.TheVariants.{LongPrefix};
 ghost use Rattle.sample_file.specs.Recording.{IsRecording};
+ghost use Rattle.cell_tx.specs.Pair.{gain_of};
+ghost use Rattle.capture_make.specs.Recipe.{gain as gain_of_number};
 ghost use Rattle.capture_make.specs.Made.{IsMadeBy};
 ghost use Rattle.long_prefix.specs.Made.{IsPlanOf, IsMadeLong, IsCleanlyMade};
 ghost use Rattle.long_prefix.specs.declared.made.LongMade.{LongMade as MadeValue};
 
 use crate::LongPlan;
 use capture_make::{MadeBy, gain, make_by, numbers_are_clean, plan, timing};
-use cs_num::Gain;
-use lte_types::{Bandwidth, Carrier, CellId, Mib, Timing};
+use cell_tx::pair_of;
+use lte_types::{Bandwidth, Carrier, CellId, Mib, Sfn};
 use sample_file::Recording;
 use std::alloc::{AllocError, Global};
 
@@ -19,10 +21,12 @@ use std::alloc::{AllocError, Global};
 pub struct LongMade {
     /// What the cell was to send.
     pub plan: LongPlan,
-    /// The first frame and the first sample of it which is sent.
-    pub timing: Timing,
-    /// The gain.
-    pub gain: Gain,
+    /// The number of the first frame.
+    pub sfn: Sfn,
+    /// The first sample of that frame which is sent, 0 to 19,199.
+    pub offset: u32,
+    /// The gain, real before imaginary.
+    pub gain: (i16, i16),
     /// The bound of the errors: the greatest whole number whose square is at most four times that of the gain's size.
     pub bound: i16,
     /// What was sent, with the errors.
@@ -48,6 +52,13 @@ fn plan_of(n: u32) -> LongPlan
     }
 }
 
+// The gain.
+fn pair(n: u32) -> (i16, i16)
+    ensures { gain_of result ≡ gain_of_number n }
+{
+    pair_of(gain(n).value())
+}
+
 // What was made with the extended prefix.
 fn of_long_prefix(n: u32, made: MadeBy) -> LongMade
     requires made { IsMadeBy LongPrefix n made }
@@ -55,10 +66,12 @@ fn of_long_prefix(n: u32, made: MadeBy) -> LongMade
     ensures made { IsMadeLong n result }
     ensures valid { IsRecording result.recording }
 {
+    let timing = timing(n);
     LongMade {
         plan: plan_of(n),
-        timing: timing(n),
-        gain: gain(n),
+        sfn: timing.sfn,
+        offset: timing.offset,
+        gain: pair(n),
         bound: made.bound,
         recording: made.recording,
     }
@@ -69,7 +82,7 @@ fn of_long_prefix(n: u32, made: MadeBy) -> LongMade
 /// information. Only memory can be wanting. (own)
 pub fn make(alloc: Global, n: u32) -> Result<LongMade, AllocError>
     ensures made { IfOk result (IsMadeLong n) }
-    ensures clean { IfOk result (IsCleanlyMade n) }
+    ensures clean { IfOk result IsCleanlyMade }
     ensures valid { IfOk result (λ made. IsRecording made.recording) }
 {
     let made = make_by(alloc, Carrier::LongPrefix, n)?;
@@ -77,9 +90,9 @@ pub fn make(alloc: Global, n: u32) -> Result<LongMade, AllocError>
     Ok(of_long_prefix(n, made))
 }
 
-/// A law: each recording by number is a clean one of what is sent for the number, with errors within its bound.
+/// A law: each recording by number is a clean one of what was sent, with errors within its bound.
 pub fn made_is_clean()
-    ensures { (n : ℕ) (made : MadeValue) → IsMadeLong n made → IsCleanlyMade n made }
+    ensures { (n : ℕ) (made : MadeValue) → IsMadeLong n made → IsCleanlyMade made }
 {
     numbers_are_clean();
 }

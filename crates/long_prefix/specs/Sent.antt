@@ -1,0 +1,57 @@
+-- What is sent of a plan with the extended cyclic prefix. (own)
+use Rattle.std.specs.Prelude.{◌≡◌, ℕ, ◌+◌, ◌-◌, ◌*◌, ◌/◌, ◌%◌, ◌≤◌, Bool, if◌then◌else◌, List}
+use Rattle.cs_num.specs.declared.Cpx.{Cpx}
+use Rattle.cs_num.specs.Complex.{nothing}
+use Rattle.lte_types.specs.Numerology.{extended, half_of}
+use Rattle.sync_seq.specs.Primary.{pss_at}
+use Rattle.sync_seq.specs.Secondary.{sss_amplitude}
+use Rattle.grid_map.specs.Scrambling.{pbch_c_init}
+use Rattle.cell_tx.specs.declared.antenna.Port.TheVariants.{Long}
+use Rattle.cell_tx.specs.declared.cell.CellPlan.{CellPlan}
+use Rattle.cell_tx.specs.Ports.{port_symbols, port_slot, port_mask, is_own_reference, port_reference}
+use Rattle.cell_tx.specs.Points.{point_of}
+use Rattle.cell_tx.specs.Block.{master_word, scrambled_bit}
+use Rattle.cell_tx.specs.Grid.{is_primary, is_secondary, has_broadcast, broadcast_index}
+use Rattle.cell_tx.specs.Sent.{Elements, prefix_sent}
+use Rattle.long_prefix.specs.declared.plan.LongPlan.{LongPlan}
+
+-- the master block of a plan in the frame with this number, and its check: it tells n6, one antenna port and the upper
+-- bits of this number (TS 36.331 section 6.2.2, TS 36.212 section 5.3.1.1)
+abbrev pub long_word : LongPlan → ℕ → List Bool
+long_word plan sfn = master_word (port_mask Long) plan.mib.duration plan.mib.resource sfn plan.mib.spare
+
+-- bit i of the 432 that the broadcast channel carries in this frame, and point i of the 216 (TS 36.211 section 6.6)
+abbrev pub long_bit : LongPlan → ℕ → ℕ → Bool
+long_bit plan sfn i = scrambled_bit (pbch_c_init plan.id) (long_word plan sfn) (432 * (sfn % 4) + i)
+
+abbrev pub long_point : LongPlan → ℕ → ℕ → Cpx
+long_point plan sfn i = point_of (long_bit plan sfn) i
+
+-- what is sent at a place of this frame: the reference signals, the primary signal, the secondary signal, the broadcast
+-- channel, and nothing elsewhere
+unfoldable pub long_element : LongPlan → Elements
+long_element plan sfn subframe symbol k =
+    if is_own_reference Long plan.id (port_slot Long subframe symbol) (symbol % port_symbols Long) k
+    then port_reference Long plan.id (port_slot Long subframe symbol) (symbol % port_symbols Long) k
+    else (if is_primary Long subframe symbol k then pss_at (plan.id % 3) (k - 5)
+    else (if is_secondary Long subframe symbol k
+    then sss_amplitude (plan.id / 3) (plan.id % 3) (half_of subframe) (k - 5)
+    else (if has_broadcast Long plan.id subframe symbol k
+    then long_point plan sfn (broadcast_index Long plan.id symbol k)
+    else nothing)))
+
+-- sample i of the endless sequence of frames that begins with the frame numbered sfn (TS 36.211 section 6.12)
+abbrev pub long_sent : LongPlan → ℕ → ℕ → Cpx
+long_sent plan sfn i = prefix_sent extended (long_element plan) sfn i
+
+-- a cell's plan has what is sent of this one: with this prefix nothing else of it is sent
+pub record HasPlan (cell : CellPlan) (plan : LongPlan) : Type 0 where
+  pub identity : cell.identity ≡ plan.id
+  pub duration : cell.duration ≡ plan.mib.duration
+  pub resource : cell.resource ≡ plan.mib.resource
+  pub spare : cell.spare ≡ plan.mib.spare
+
+-- a plan's identity and spare bits are in their ranges
+pub record IsKnownLong (plan : LongPlan) : Type 0 where
+  pub identity : plan.id ≤ 503
+  pub spare : plan.mib.spare ≤ 1023

@@ -1,0 +1,46 @@
+//! The samples of a plan.
+
+ghost use Rattle.std.specs.Prelude.{◌≡◌, ◌*◌, ◌≤◌, None};
+ghost use Rattle.cs_num.specs.Complex.{square, sample_of};
+ghost use Rattle.lte_types.specs.declared.carrier.Carrier.TheVariants.{LongPrefix};
+ghost use Rattle.lte_types.specs.Ranges.{IsValid};
+ghost use Rattle.cell_tx.specs.Plan.{refusal_of};
+ghost use Rattle.long_prefix.specs.Sent.{long_sent, HasPlan};
+
+use crate::LongPlan;
+use cell_tx::{Cell, CellPlan, Port, port_sample};
+use cs_num::Sample;
+use lte_types::{Carrier, Sfn};
+
+// The plan of a cell that has it. What else stands there is not sent: it is that of recording 0.
+fn cell_plan(plan: &LongPlan) -> CellPlan
+    ensures plan { HasPlan result plan.now }
+    ensures valid { IsValid result.sib1 }
+    ensures accepted { refusal_of LongPrefix result ≡ None }
+{
+    let mut cell = capture_make::plan(0);
+    cell.identity = plan.id.value();
+    cell.duration = plan.mib.duration;
+    cell.resource = plan.mib.resource;
+    cell.spare = plan.mib.spare;
+    cell
+}
+
+// A cell that has the plan.
+fn cell_of(plan: &LongPlan) -> Cell
+    ensures { HasPlan result plan.now }
+{
+    match Cell::of(Carrier::LongPrefix, cell_plan(plan)) {
+        Ok(cell) => cell,
+        Err(_) => unreachable!(),
+    }
+}
+
+/// Sample `i` of the endless sequence of frames that is sent of a plan with the extended cyclic prefix, which begins
+/// with the frame numbered `sfn` (TS 36.211 section 6.12, in whole numbers). The size of a sample is at most 1,153.
+pub fn sample(plan: &LongPlan, sfn: Sfn, i: u64) -> Sample
+    ensures value { result ≡ sample_of (long_sent plan.now sfn i) }
+    ensures size { square (long_sent plan.now sfn i) ≤ 1153 * 1153 }
+{
+    port_sample(&cell_of(plan), Port::Long, sfn, i)
+}
