@@ -24,6 +24,7 @@ use Rattle.budget.proofs.PeakSums.{wave_is_sharp}
 use Rattle.clean_air.specs.Load.{IsLoaded}
 use Rattle.clean_air.proofs.Carrying.{clean_is_loaded}
 use Rattle.clean_air.proofs.SentSymbols.{IsTruePlace, primary_received}
+use Rattle.cell_tx.specs.Pair.{gain_of}
 use Rattle.cancel.specs.declared.subtracted.Subtracted.{Subtracted}
 use Rattle.cancel.specs.Gain.{IsCandidate, IsBest}
 use Rattle.cancel.specs.Laws.{IsGainSeen, AnswerTakesLoadedOff, AnswerTakesCleanOff}
@@ -81,20 +82,20 @@ module _ (recording : List Sample) (plan : CellPlan) (grid : Elements) (sfn offs
   taken_is_left taken is = record { greatest = subst (λ n. n ≤ most) (sym is.greatest) all.greatest; each = each }
     where
       best : Cpx
-      best = taken.gain
+      best = (gain_of taken.gain)
 
-      all : IsQuiet taken.gain
-      all = quiet taken.gain is.gain
+      all : IsQuiet (gain_of taken.gain)
+      all = quiet (gain_of taken.gain) is.gain
 
-      left_kept : (i : ℕ) → i < length recording → sample_at (residue_of recording plan start number taken.gain) i ≡ left_at recording plan start number taken.gain i
+      left_kept : (i : ℕ) → i < length recording → sample_at (residue_of recording plan start number (gain_of taken.gain)) i ≡ left_at recording plan start number (gain_of taken.gain) i
       left_kept i l =
-          ap value_of (values_below_at (λ j. nearest_sample (left_at recording plan start number taken.gain j)) (length recording) i silence l)
-          ∙ nearest_sample-kept (left_at recording plan start number taken.gain i)
-          (within_more (left_at recording plan start number taken.gain i) most 32767 (all.each i l) few)
+          ap value_of (values_below_at (λ j. nearest_sample (left_at recording plan start number (gain_of taken.gain) j)) (length recording) i silence l)
+          ∙ nearest_sample-kept (left_at recording plan start number (gain_of taken.gain) i)
+          (within_more (left_at recording plan start number (gain_of taken.gain) i) most 32767 (all.each i l) few)
 
       inside : (i : ℕ) → i < length taken.residue → i < length recording
       inside i l =
-          let e = ap (λ (r : List Sample). length r) is.residue ∙ values_below-length (length recording) (λ j. nearest_sample (left_at recording plan start number taken.gain j)) in
+          let e = ap (λ (r : List Sample). length r) is.residue ∙ values_below-length (length recording) (λ j. nearest_sample (left_at recording plan start number (gain_of taken.gain) j)) in
           omega (arith, e, l)
 
       each : (i : ℕ) → i < length taken.residue → IsWithin most (sample_at taken.residue i)

@@ -13,6 +13,7 @@ use Rattle.pss_search.specs.Correlation.{wave}
 use Rattle.cell_tx.specs.declared.cell.CellPlan.{CellPlan}
 use Rattle.cell_tx.specs.Grid.{element}
 use Rattle.cell_tx.specs.Sent.{Elements, sent}
+use Rattle.cell_tx.specs.Pair.{gain_of}
 use Rattle.cell_tx.specs.Clean.{IsClean}
 use Rattle.clean_air.specs.Load.{IsLoaded}
 use Rattle.cancel.specs.declared.subtracted.Subtracted.{Subtracted}
@@ -57,9 +58,9 @@ power_of samples = energy_below (length samples) (sample_at samples)
 -- the cell is taken off with its gain, and this is left
 pub record IsSubtracted (recording : List Sample) (plan : CellPlan) (start number : ℕ)
     (taken : Subtracted) : Type 0 where
-  pub gain : IsTaken recording plan start number taken.gain
-  pub greatest : taken.greatest ≡ greatest_left recording plan start number taken.gain
-  pub residue : taken.residue ≡ residue_of recording plan start number taken.gain
+  pub gain : IsTaken recording plan start number (gain_of taken.gain)
+  pub greatest : taken.greatest ≡ greatest_left recording plan start number (gain_of taken.gain)
+  pub residue : taken.residue ≡ residue_of recording plan start number (gain_of taken.gain)
   pub before : taken.before ≡ power_of recording
   pub after : taken.after ≡ power_of taken.residue
 

@@ -7,6 +7,7 @@ use Rattle.cs_num.specs.declared.Cpx.{Cpx}
 use Rattle.cs_num.specs.declared.Sample.{Sample}
 use Rattle.cs_num.specs.Complex.{minus, times, sample_at}
 use Rattle.cs_num.specs.Rounding.{nearest_sample}
+use Rattle.cell_tx.specs.Pair.{gain_of}
 use Rattle.cancel.specs.declared.subtracted.Subtracted.{Subtracted}
 use Rattle.cancel.specs.Residue.{power_of}
 use Rattle.cancel.specs.declared.choosing.Choice.{Choice}
@@ -71,7 +72,7 @@ choice_of greatest gain = record { gain = gain; greatest = greatest gain }
 
 -- a gain was taken off samples, of which these were sent
 pub record IsTakenOff (samples sent : List Sample) (choice : Choice) (taken : Subtracted) : Type 0 where
-  pub gain : taken.gain ≡ choice.gain
+  pub gain : gain_of taken.gain ≡ choice.gain
   pub greatest : taken.greatest ≡ choice.greatest
   pub residue : taken.residue ≡ values_below (length samples) (λ i. nearest_sample (left_of samples sent choice.gain i))
   pub before : taken.before ≡ power_of samples

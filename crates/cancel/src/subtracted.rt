@@ -1,19 +1,44 @@
 //! What a subtraction gives.
 
+ghost use Rattle.std.specs.Prelude.{◌≡◌, ◌<◌, ◌^◌};
+ghost use Rattle.cs_num.specs.Gain.{IsGain};
+ghost use Rattle.cell_tx.specs.Pair.{gain_of};
+
+use cell_tx::gain_of_pair;
 use cs_num::Gain;
 use sample_file::Recording;
 
 /// A recording without a cell. (own)
 #[derive(Drop)]
 pub struct Subtracted {
-    /// The gain with which the cell was taken off.
-    pub gain: Gain,
+    /// The gain with which the cell was taken off, real before imaginary; the square of its size is 1 to 784.
+    pub gain: (i16, i16),
     /// The greatest size of a component of what is left, before it is taken to 16 bits.
     pub greatest: u32,
-    /// The sum of the squares of the sizes of the recording's samples.
-    pub before: u64,
-    /// The power of the residue.
-    pub after: u64,
+    /// The sum of the squares of the sizes of the recording's samples, below 2^64.
+    pub before: u128,
+    /// That of the residue, below 2^64.
+    pub after: u128,
     /// What is left, each component taken to the nearest number of 16 bits.
     pub residue: Recording,
+    pub ghost gain_range: { IsGain (gain_of gain) },
+    pub ghost before_range: { before < 2 ^ 64 },
+    pub ghost after_range: { after < 2 ^ 64 },
+}
+
+impl Subtracted {
+    /// The gain as a number.
+    pub fn gain(&self) -> Gain
+        ensures { result ≡ gain_of self.now.gain }
+    {
+        gain_of_pair(self.gain)
+    }
+
+    /// Both sums of squares, in 64 bits.
+    pub fn powers(&self) -> (u64, u64)
+        ensures before { result.0 ≡ self.now.before }
+        ensures after { result.1 ≡ self.now.after }
+    {
+        (self.before as u64, self.after as u64)
+    }
 }

@@ -13,7 +13,7 @@ use crate::Subtracted;
 use crate::choosing::{Choice, best};
 use crate::estimating::estimate;
 use crate::leaving::left;
-use cell_tx::{Cell, Port, Sender, sequence};
+use cell_tx::{Cell, Port, Sender, pair_of, sequence};
 use cs_num::{Cpx, Gain, Sample};
 use lte_types::{Sfn, Timing};
 use sample_file::Recording;
@@ -177,11 +177,12 @@ fn taken_off(
 {
     let samples = residue_samples(alloc, recording.as_slice(), sent, choice.gain)?;
     let residue = recording_of(recording, samples);
+    let after = power_of(&residue);
     Ok(Subtracted {
-        gain: choice.gain,
+        gain: pair_of(choice.gain.value()),
         greatest: choice.greatest,
-        before,
-        after: power_of(&residue),
+        before: before as u128,
+        after: after as u128,
         residue,
     })
 }

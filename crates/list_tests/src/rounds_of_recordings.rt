@@ -98,9 +98,9 @@ fn a_wider_cell_has_no_plan(rt: HostRuntime) -> Result<(), Fail> {
 }
 
 // Whether a round took off the plain cell with this gain, with these powers before and after.
-fn is_round(round: &Round, gain: (i16, i16), before: u64, after: u64) -> bool {
+fn is_round(round: &Round, gain: (i16, i16), before: u128, after: u128) -> bool {
     round.id.value() == 0
-        && (round.taken.gain.re(), round.taken.gain.im()) == gain
+        && round.taken.gain == gain
         && round.taken.greatest == 999
         && round.taken.before == before
         && round.taken.after == after

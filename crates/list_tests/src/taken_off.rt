@@ -111,8 +111,8 @@ fn taken(
 struct Told {
     gain: (i16, i16),
     greatest: u32,
-    before: u64,
-    after: u64,
+    before: u128,
+    after: u128,
     samples: [(i16, i16); 3],
 }
 
@@ -130,7 +130,7 @@ fn samples_of(taken: &Subtracted) -> [(i16, i16); 3] {
 }
 
 fn is_told(taken: &Subtracted, told: &Told) -> bool {
-    (taken.gain.re(), taken.gain.im()) == told.gain
+    taken.gain == told.gain
         && taken.greatest == told.greatest
         && taken.before == told.before
         && taken.after == told.after

@@ -7,6 +7,7 @@ use Rattle.std.proofs.lemmas.List.Elements.{Contains-append_cases}
 use Rattle.cs_num.specs.declared.Sample.{Sample}
 use Rattle.lte_types.specs.declared.entry.Entry.{Entry}
 use Rattle.cell_tx.specs.declared.cell.CellPlan.{CellPlan}
+use Rattle.cell_tx.specs.Pair.{gain_of}
 use Rattle.clean_air.specs.Planned.{IsPlanned, IsPlanOf}
 use Rattle.clean_air.proofs.Plans.{one_planned}
 use Rattle.cancel.specs.declared.subtracted.Subtracted.{Subtracted}
@@ -26,7 +27,7 @@ taken_if recording entry plan (Some taken) planned is = record { plan = plan; pl
 taken_if recording entry plan None planned is = λ taken other.
     let same = one_planned recording entry other.plan plan other.planned planned in
     let subtracted = subst (λ (p : CellPlan). IsSubtracted recording p entry.start entry.sfn taken) same other.subtracted in
-    is taken.gain subtracted.gain.candidate
+    is (gain_of taken.gain) subtracted.gain.candidate
 
 -- without one it cannot be
 pub not_taken : (recording : List Sample) (entry : Entry) → IsPlanOf recording entry None → (taken : Subtracted) → IsTakenOff recording entry taken → ⊥

@@ -4,6 +4,7 @@ use Rattle.serde_json.specs.Data.{Data, boolean, object, member, no_members}
 use Rattle.serde_json.specs.Written.{compact_text}
 use Rattle.cs_num.specs.declared.Cpx.{Cpx}
 use Rattle.cs_num.specs.declared.Sample.{Sample}
+use Rattle.cell_tx.specs.Pair.{gain_of}
 use Rattle.report.specs.Values.{natural, integer, list_of}
 use Rattle.report.specs.Json.{report_value}
 use Rattle.rounds.specs.declared.round.Round.{Round}
@@ -22,7 +23,7 @@ powers_value before after = list_of natural (before ∷ after ∷ [])
 abbrev pub round_value : Round → Data
 round_value round = object (
     member (codes "cells") (report_value round.list) (
-    member (codes "gain") (gain_value round.taken.gain) (
+    member (codes "gain") (gain_value (gain_of round.taken.gain)) (
     member (codes "identity") (natural round.id) (
     member (codes "power") (powers_value round.taken.before round.taken.after) (
     member (codes "residue") (natural round.taken.greatest) no_members)))))

@@ -2,6 +2,7 @@
 use Rattle.std.specs.Prelude.{◌≡◌, ℕ, if◌then◌else◌, List, [], ◌++◌}
 use Rattle.std.specs.List.{flat_map}
 use Rattle.cs_num.specs.declared.Sample.{Sample}
+use Rattle.cell_tx.specs.Pair.{gain_of}
 use Rattle.report.specs.Lines.{report_text}
 use Rattle.report.specs.Cancelled.{cancelled_lines, cancelled_none}
 use Rattle.rounds.specs.declared.round.Round.{Round}
@@ -11,7 +12,7 @@ use Rattle.rounds.specs.Rounds.{IsCancelled}
 -- the lines of the cell that a round took off, and the list of what is left
 abbrev pub round_text : Round → List ℕ
 round_text round =
-    cancelled_lines round.id round.taken.gain round.taken.greatest round.taken.before round.taken.after
+    cancelled_lines round.id (gain_of round.taken.gain) round.taken.greatest round.taken.before round.taken.after
     ++ report_text round.list
 
 -- the list of the recording, its rounds, and a line where a round took off none

@@ -49,8 +49,9 @@ impl ToJson for Round {
     fn to_json(&self, alloc: Global) -> Result<Value, AllocError> {
         let taken = &self.taken;
         let cells = list_value(alloc, self.list.slice())?;
-        let gain = gain_value(alloc, taken.gain)?;
-        let power = power_value(alloc, taken.before, taken.after)?;
+        let gain = gain_value(alloc, taken.gain())?;
+        let (before, after) = taken.powers();
+        let power = power_value(alloc, before, after)?;
         json!(in alloc; {
             "cells": cells,
             "gain": gain,

@@ -80,7 +80,7 @@ fn rounds_on(
                 alloc,
                 most - 1,
                 &round.taken.residue,
-                round.taken.after,
+                round.taken.powers().1,
                 round.list.slice(),
                 work,
             )?;

@@ -41,8 +41,8 @@ fn text_of_round(alloc: Global, round: &Round) -> Result<String, AllocError>
     ensures { IfOk result (λ text. string_bytes text ≡ round_text round.now) }
 {
     let taken = &round.taken;
-    let powers = (taken.before, taken.after);
-    let mut lines = text_of_cancelled(alloc, round.id.value(), taken.gain, taken.greatest, powers)?;
+    let (gain, powers) = (taken.gain(), taken.powers());
+    let mut lines = text_of_cancelled(alloc, round.id.value(), gain, taken.greatest, powers)?;
     let list = text(alloc, round.list.slice())?;
     lines.push_str(&list)?;
     Ok(lines)
