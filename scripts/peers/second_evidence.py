@@ -56,7 +56,7 @@ def sums(r, entry, frames, j, phase, rule):
 def read(r, entry, rule):
     """How many frames were added, the first of them, its phase, cost and total: the first that tell the entry."""
     start, cell, sfn, ports, block = entry[:5]
-    for frames in range(1, 5):
+    for frames in range(1, rule.most + 1):
         for j in range(min(8, (len(r) - start) // FRAME) - frames + 1):
             for phase in range(5 - frames):
                 values = sums(r, entry, frames, j, phase, rule)

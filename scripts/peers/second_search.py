@@ -56,13 +56,14 @@ class Rule(NamedTuple):
     n_cp: int = 1
     beside: tuple = (0, 1)  # the broadcast channel's symbols of slot 1 that leave out reference places
     size: int = 480  # values of a frame's broadcast channel
+    most: int = 4  # frames of which these are added for one master block
     taken: tuple = (1, 2, 4)
     unread: str = ""  # why system information is not read, where it is not
 
 
 ONE_PORT = Rule()
 TWO_PORTS = Rule(ports=2, taken=(2,))
-LONG_PREFIX = Rule(first=32, step=160, symbols=6, later=3, n_cp=0, beside=(0, 1, 3), size=432, unread="long-prefix")
+LONG_PREFIX = Rule(first=32, step=160, symbols=6, later=3, n_cp=0, beside=(0, 1, 3), size=432, most=1, unread="long-prefix")
 FOUR_PORTS = Rule(ports=4, taken=(4,), unread="ports 4")
 RULES = {
     (): ONE_PORT,
@@ -617,7 +618,7 @@ def entries(r, t, n2, say, rule=ONE_PORT):
     say(f"hit {t} {n2}: identity {cell} at {start}")
     sequence = pseudo_random(cell, 1920)
     frames = [broadcast_values(r, cell, start, j, rule) for j in range(min(8, (len(r) - start) // FRAME))]
-    for count in range(1, 5):
+    for count in range(1, rule.most + 1):
         for j in range(len(frames) - count + 1):
             say(f"  frames {j} to {j + count - 1}")
             found = list(masters(frames[j : j + count], sequence, range(5 - count), say, rule))

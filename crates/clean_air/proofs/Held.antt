@@ -80,6 +80,7 @@ pub record IsShown (receiver : Receiver) (recording : List Sample) (identity sfn
   pub word : List Bool
   pub block : IsMasterWord count lasting share (number_at_start sfn offset) bits word
   pub speaks : SpeakOfWord (pbch_c_init identity) (receiver.size * (number_at_start sfn offset % 4)) word (receiver.broadcast recording (sent_place identity offset) 0)
+  pub single : 1 ≤ receiver.most_frames
   pub taken : receiver.takes count ≡ true
   pub system : IsSystemFor receiver recording (sent_place identity offset) (number_at_start sfn offset) count
       (sent_mib lasting share bits range (number_at_start sfn offset)) told
@@ -153,6 +154,7 @@ module _ (receiver : Receiver) (recording : List Sample) (identity sfn offset co
   block_told =
       let block = shown.block in
       record {
+        few = shown.single;
         taken = shown.taken;
         told = record {
           word = shown.word;

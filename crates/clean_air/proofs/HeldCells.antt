@@ -47,6 +47,7 @@ module _ (recording : List Sample) (plan : CellPlan) (grid : Elements) (sfn offs
         block = block;
         speaks = slot_speaks recording (useful_start normal (frame_at (start_after offset) 0) 1) (slot_grid grid number 1) (broadcast_slot recording plan.identity (start_after offset) 0)
             (number % 4) (broadcast_word plan number) (slot_received recording plan grid sfn offset gain eps clean long) block.size (carries_word plan grid clean.carries number);
+        single = omega arith;
         taken = refl;
         system = told_by_frames OnePort (subframes_by OnePort placed_values) recording (sent_place plan.identity offset) number
             (sent_mib plan.duration plan.resource plan.spare sendable.spare number) plan.sib1 long (omega arith) refl

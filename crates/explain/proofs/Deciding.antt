@@ -105,7 +105,7 @@ sums_agree a b place frames agree early few =
 master_agrees : (a b : List Sample) (place : Place) (frames : Frames) (master : Master) → AgreeBefore deciding_length a b → place.start < frame_length → frames.first + frames.count ≤ 8 →
     IsMasterAt a place frames master → IsMasterAt b place frames master
 master_agrees a b place frames master agree early few m =
-    record { taken = m.taken; told = subst (λ (sums : List (List ℤ)). TellsMaster sums master) (sums_agree a b place frames agree early few) m.told }
+    record { few = m.few; taken = m.taken; told = subst (λ (sums : List (List ℤ)). TellsMaster sums master) (sums_agree a b place frames agree early few) m.told }
 
 -- ---- the entries of a hit
 

@@ -144,8 +144,8 @@ module _ (receiver : Receiver) (recording : List Sample) where
       (each : (phase : ℕ) → phase < 4 → master_at masters phase ≡ taken_of receiver.takes (master_at all phase))
       (m : AreMasters place.id receiver.size count (values_in (receiver.broadcast recording place) count j) all) where
     -- of those that so many frames from frame j on tell, these are taken
-    pub told_in_frames : 1 ≤ count → AreTold (IsMasterFor receiver recording) place count j masters
-    told_in_frames some phase period =
+    pub told_in_frames : 1 ≤ count → count ≤ receiver.most_frames → AreTold (IsMasterFor receiver recording) place count j masters
+    told_in_frames some adds phase period =
         subst (IsToldAt (IsMasterFor receiver recording) place (frames_from count j phase)) (sym (each phase (omega (arith, some, period))))
         (by_option (master_at all phase) ((told_at place.id receiver.size count _ all phase m (omega (arith, some, period))).told period))
       where
@@ -159,7 +159,7 @@ module _ (receiver : Receiver) (recording : List Sample) where
           where
             settle : (b : Bool) → receiver.takes master.ports ≡ b →
                 IsToldAt (IsMasterFor receiver recording) place (frames_from count j phase) (if b then Some master else None)
-            settle true e = record { taken = e; told = told }
+            settle true e = record { few = adds; taken = e; told = told }
             settle false e = λ other t.
                 let same : other ≡ master = same_master other master (one_master sums other master t.told told) in
                 let taken : receiver.takes master.ports ≡ true = subst (λ (m : Master). receiver.takes m.ports ≡ true) same t.taken in

@@ -6,6 +6,8 @@ use Rattle.lte_types.specs.CellPlace.{Place}
 use Rattle.explain.specs.Frame.{IsWhole}
 use Rattle.explain.specs.Told.{Telling}
 use Rattle.explain.specs.Window.{IsInWindow, ComeBefore, TellNone, HasNoMasters}
+use Rattle.explain.specs.Receiver.{Receiver}
+use Rattle.explain.specs.Entries.{IsMasterFor}
 use Rattle.explain.specs.Masters.{AreFirstWith}
 use Rattle.explain.specs.Received.{NoneTell, AreFirstOf}
 
@@ -17,6 +19,11 @@ whole_at recording here there same whole inside all = (
   subst (λ (place : Place). (j : ℕ) → j < whole → IsWhole recording place.start j) (sym same) inside,
   subst (λ (place : Place). (j : ℕ) → j < 8 → IsWhole recording place.start j → j < whole) (sym same) all,
 )
+
+-- more frames than a receiver adds tell no master block
+pub too_many : (receiver : Receiver) (recording : List Sample) (place : Place) (whole count : ℕ) → receiver.most_frames < count →
+    NoneTell (IsMasterFor receiver recording) place whole count
+too_many receiver recording place whole count more j within phase master period told = let few = told.few in omega (arith, few, more)
 
 -- where the first `whole` of frames 0 to 7 lie within the recording, and no others
 module _ (Tells : Telling) (recording : List Sample) (place : Place) (whole : ℕ) (few : whole ≤ 8) (inside : (j : ℕ) → j < whole → IsWhole recording place.start j)

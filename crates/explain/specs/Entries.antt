@@ -57,9 +57,11 @@ pub record IsEntryAt (Tells : Telling) (IsSystem : Informing) (recording : List 
   pub sfn : entry.sfn ≡ first_number entry.mib.upper (frames_of entry)
   pub sib1 : IsSystem (place_of entry) entry.sfn entry.ports entry.mib entry.sib1
 
--- frames tell this master block by a receiver, with a count of antenna ports that it takes
+-- by a receiver frames tell this master block: no more of them than it adds, and with a count of antenna ports that it
+-- takes
 pub record IsMasterFor (receiver : Receiver) (recording : List Sample) (place : Place) (frames : Frames)
     (master : Master) : Type 0 where
+  pub few : frames.count ≤ receiver.most_frames
   pub taken : receiver.takes master.ports ≡ true
   pub told : TellsMaster (sums_by receiver recording place frames) master
 

@@ -1,6 +1,6 @@
 -- The frames of a cell in which its master blocks are looked for: frames 0 to 7 of its start, as far as they lie within
 -- the recording, one alone, or two to four that follow one another in one period of four. `Tells` says which master
--- block frames tell. (own)
+-- block frames tell; by a receiver that adds fewer, more of them tell none. (own)
 use Rattle.std.specs.Prelude.{◌≡◌, ◌⊎◌, ℕ, ◌+◌, ◌<◌, ◌≤◌, List}
 use Rattle.cs_num.specs.declared.Sample.{Sample}
 use Rattle.lte_types.specs.CellPlace.{Place}

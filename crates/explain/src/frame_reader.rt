@@ -1,6 +1,6 @@
 //! A way to read the cells of a recording that send by one kind of carrier.
 
-ghost use Rattle.std.specs.Prelude.{◌≡◌, length};
+ghost use Rattle.std.specs.Prelude.{◌≡◌, ◌≤◌, length};
 ghost use Rattle.explain.specs.Frame.{IsWhole};
 ghost use Rattle.explain.specs.Grant.{IsGrantFor};
 ghost use Rattle.explain.specs.Receiver.{Receiver};
@@ -13,7 +13,8 @@ use sample_file::Recording;
 use system_block::Decoders;
 
 /// A way to read the cells of a recording that send by one kind of carrier: the values of the broadcast channel of each
-/// frame, the counts of antenna ports that a master block may tell, and the system information. (own)
+/// frame, the count of frames of which they are added, the counts of antenna ports that a master block may tell, and the
+/// system information. (own)
 pub trait FrameReader {
     ghost receiver: { Receiver };
 
@@ -27,7 +28,13 @@ pub trait FrameReader {
         ensures values { result ≡ receiver.broadcast recording.now place j }
         ensures length { length result ≡ receiver.size };
 
-    /// Whether a master block with this count of antenna ports is taken.
+    /// Of how many frames of a period the values are added, at most, for one master block: 1 to 4.
+    fn most_frames(&self) -> u8
+        ensures value { result ≡ receiver.most_frames }
+        ensures some { 1 ≤ result }
+        ensures few { result ≤ 4 };
+
+    /// Whether a master block with so many antenna ports is taken.
     fn takes_ports(&self, ports: u8) -> bool
         ensures { result ≡ receiver.takes ports };
 

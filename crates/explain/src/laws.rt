@@ -1,7 +1,7 @@
 //! Laws of the list.
 
 ghost use Rattle.explain.specs.Laws.{IsOneList, IsSound, IsComplete, IsApart, IsNeverLong};
-ghost use Rattle.explain.specs.Laws.{OneFrameTells, OneFrameIsListed};
+ghost use Rattle.explain.specs.Laws.{OneFrameTells, OneFrameAlone, OneFrameIsListed};
 ghost use Rattle.explain.specs.Deciding.{FirstFramesDecide};
 ghost use Rattle.explain.specs.Readings.{IsOneReading};
 
@@ -24,9 +24,11 @@ pub fn the_first_frames_decide()
 {}
 
 /// What one frame of a hit tells alone, by its own values, is still an entry of the hit, though frames are
-/// summed where none does. So it is in the list, or an entry of its cell is. (own)
+/// summed where none does. So it is in the list, or an entry of its cell is. By a receiver that adds no frames, as
+/// with the extended cyclic prefix, a hit has no other entries. (own)
 pub fn one_frame_is_enough()
     ensures tells { OneFrameTells }
+    ensures alone { OneFrameAlone }
     ensures listed { OneFrameIsListed }
 {}
 

@@ -36,8 +36,8 @@ pub struct Masters {
 type Frames = ArrayVec<Received, 8>;
 
 /// The first of the whole frames 0 to 7 of a cell that have a master block at any phase, with all their
-/// master blocks: a single frame, or else two, three or four that follow one another in one period.
-/// `None` exactly where no frames have any. Each frame is received once.
+/// master blocks: a single frame, or else two, three or four that follow one another in one period, as many
+/// as the reader adds at most. `None` exactly where no frames have any. Each frame is received once.
 pub(crate) fn first_masters<F: FrameReader>(
     reader: &F,
     recording: &Recording,
@@ -52,12 +52,13 @@ pub(crate) fn first_masters<F: FrameReader>(
 {
     let whole = whole_frames(recording, place);
     let cell = ScrambledCell::new(place);
+    let most = reader.most_frames();
     let mut frames = Frames::new();
     match first_alone(reader, recording, &cell, whole, &mut frames, work) {
         Some(found) => return Some(found),
         None => {}
     }
-    for count in 2..5 {
+    for count in 2..most + 1 {
         match first_of(reader, &cell, count, frames.as_slice(), work) {
             Some(found) => return Some(found),
             None => {}
@@ -77,6 +78,7 @@ fn first_alone<F: FrameReader>(
 ) -> Option<Masters>
     requires few { whole ≤ 8 }
     requires whole { (j : ℕ) → j < whole → IsWhole recording.now cell.now.start j }
+    requires adds { 1 ≤ F.receiver.most_frames }
     requires none { frames.old.items ≡ [] }
     ensures found { let Tells = IsMasterFor F.receiver recording.now in
         MatchOption result (NoneTell Tells cell.now whole 1)
@@ -115,6 +117,7 @@ fn first_of<F: FrameReader>(
 ) -> Option<Masters>
     requires some { 1 ≤ count }
     requires few { count ≤ 4 }
+    requires adds { count ≤ F.receiver.most_frames }
     requires known { length frames.now ≤ 8 }
     requires sizes { All (λ frame. length frame ≡ F.receiver.size) frames.now }
     ensures masters { (recording : List Sample) →
@@ -155,6 +158,7 @@ fn masters_of<F: FrameReader>(
 ) -> Option<Masters>
     requires some { 1 ≤ length frames.now }
     requires few { length frames.now ≤ 4 }
+    requires adds { length frames.now ≤ F.receiver.most_frames }
     requires sizes { All (λ frame. length frame ≡ F.receiver.size) frames.now }
     ensures masters { (recording : List Sample) →
         AreReceived (F.receiver.broadcast recording cell.now) frame frames.now →

@@ -25,6 +25,10 @@ impl FrameReader for OnePort {
         received_in::<Slot>(recording, place, j)
     }
 
+    fn most_frames(&self) -> u8 {
+        4
+    }
+
     fn takes_ports(&self, ports: u8) -> bool {
         true
     }

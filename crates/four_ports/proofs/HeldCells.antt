@@ -52,6 +52,7 @@ module _ (recording : List Sample) (plan : CellPlan) (grids : PortOfFour → Ele
     word = port_word (OfFour Zero) plan number;
     block = is_block (OfFour Zero) plan number known.spare fits;
     speaks = first_speaks;
+    single = omega arith;
     taken = refl;
     system = refl;
   }

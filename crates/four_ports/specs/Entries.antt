@@ -22,6 +22,7 @@ four_ports_receiver = record {
   carrier = FourPorts;
   size = 480;
   broadcast = broadcast_by paired_values;
+  most_frames = 4;
   takes = are_four;
   subframe = Err (NotOnePort 4);
 }

@@ -23,6 +23,10 @@ impl FrameReader for FourPorts {
         received_in::<FourSlot>(recording, place, j)
     }
 
+    fn most_frames(&self) -> u8 {
+        4
+    }
+
     fn takes_ports(&self, ports: u8) -> bool {
         ports == 4
     }

@@ -247,8 +247,8 @@ fn spoiled(alloc: Global, most: u16) -> Result<Recording, Fail> {
     Ok(recording)
 }
 
-// Whether the list of that recording is its cell, of which the frames from this one on, so many, tell the master block.
-fn is_told_together(alloc: Global, most: u16, frames: u8, frame: u8) -> Result<bool, Fail> {
+// Whether the list of that recording is its cell, of which this frame alone tells the master block.
+fn is_told_alone(alloc: Global, most: u16, frame: u8) -> Result<bool, Fail> {
     let told = Told {
         identity: 1,
         start: 19_199,
@@ -260,22 +260,28 @@ fn is_told_together(alloc: Global, most: u16, frames: u8, frame: u8) -> Result<b
     let recording = spoiled(alloc, most)?;
     let list = list_of(alloc, &recording)?;
     Ok(match list.slice() {
-        [entry] => is_told(entry, &told) && entry.frames == frames && entry.frame == frame,
+        [entry] => is_told(entry, &told) && entry.frames == 1 && entry.frame == frame,
         _ => false,
     })
 }
 
-// By `second_long_prefix.py --spoiled 1000 1` and `second_search.py --prefix long why`: no frame alone tells a block.
+// By `second_long_prefix.py --spoiled 700 1` and `second_search.py --prefix long why`: frame 0 tells no block.
 #[test]
-fn two_frames_tell_together(rt: HostRuntime) -> Result<(), Fail> {
-    assert!(rt; is_told_together(rt.alloc(), 1000, 2, 2)?);
+fn the_second_frame_tells_alone(rt: HostRuntime) -> Result<(), Fail> {
+    assert!(rt; is_told_alone(rt.alloc(), 700, 1)?);
     Ok(())
 }
 
-// By `second_long_prefix.py --spoiled 900 1`: no fewer do.
+// By `second_long_prefix.py --spoiled 1000 1` and `900 1`: no frame alone tells a block, though two frames, or four,
+// would together.
 #[test]
-fn four_frames_tell_together(rt: HostRuntime) -> Result<(), Fail> {
-    assert!(rt; is_told_together(rt.alloc(), 900, 4, 2)?);
+fn no_frames_are_added(rt: HostRuntime) -> Result<(), Fail> {
+    let alloc = rt.alloc();
+    for most in [1000, 900] {
+        let recording = spoiled(alloc, most)?;
+        let list = list_of(alloc, &recording)?;
+        assert!(rt; list.slice().is_empty());
+    }
     Ok(())
 }
 

@@ -16,6 +16,7 @@ use Rattle.cell_tx.specs.Block.{port_word, port_bit, port_point}
 use Rattle.cell_tx.specs.Sent.{Elements}
 use Rattle.explain.specs.Frame.{frame_at}
 use Rattle.explain.proofs.Listed.{is_sound}
+use Rattle.explain.proofs.OneFrame.{one_frame_alone}
 use Rattle.clean_air.proofs.Held.{IsShown, number_fits, shown_is_held}
 use Rattle.clean_air.proofs.SentBlock.{is_block}
 use Rattle.clean_air.proofs.Speaking.{heard_bits_speak}
@@ -54,6 +55,7 @@ module _ (recording : List Sample) (plan : CellPlan) (grid : Elements) (sfn offs
         block = block;
         speaks = heard_bits_speak 8 432 (pbch_c_init plan.identity) (432 * (number % 4)) (port_word Long plan number) (long_values slot) (omega arith) (omega (arith, size))
             (values_heard recording (useful_start extended (frame_at (start_of offset) 0) 1) (slot_row grid number) slot received (port_bit Long plan number) (points_stand plan grid clean.carries number));
+        single = omega arith;
         taken = refl;
         system = refl;
       }
@@ -69,6 +71,13 @@ pub holds_clean_cells : (recording : List Sample) (list : List Entry) → HoldsL
 holds_clean_cells recording list holds plan sfn offset gain eps known clean =
     holds (cell_with plan) (long_element plan) sfn offset gain eps (record { identity = known.identity; spare = known.spare })
     (record { number = clean.number; carries = carries_plan plan; samples = clean.samples })
+
+-- each entry of the list tells what one frame tells
+pub frames_are_single : (recording : List Sample) (list : List Entry) → IsExplainedOfLong recording list → All (λ entry. entry.frames ≡ 1) list
+frames_are_single recording list explained k d inside =
+    let entry = get_or list k d in
+    let known = is_sound long_prefix_receiver recording list entry explained (Contains-get_or list k d inside) in
+    (one_frame_alone long_prefix_receiver recording known.hit entry refl known.is_of).one
 
 -- each entry of the list has the one reason
 pub reasons_are_long : (recording : List Sample) (list : List Entry) → IsExplainedOfLong recording list → All (λ entry. entry.sib1 ≡ Err LongPrefix) list

@@ -46,13 +46,14 @@ long_values slot = values_below 432 (long_value slot)
 
 -- ---- the receiver
 
--- the receiver of the extended prefix has 432 values of the broadcast channel in a frame, and takes each master
--- block, whatever ports it tells; subframe 5 is not read
+-- it has 432 values of the broadcast channel in a frame, adds no frames, and takes each master block, whatever ports it
+-- tells; subframe 5 is not read
 abbrev pub long_prefix_receiver : Receiver
 long_prefix_receiver = record {
   carrier = LongPrefix;
   size = 432;
   broadcast = λ recording place j. long_values (long_slot recording place.id place.start j);
+  most_frames = 1;
   takes = λ ports. true;
   subframe = Err Extended;
 }

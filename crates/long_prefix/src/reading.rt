@@ -37,6 +37,10 @@ impl FrameReader for ExtendedPrefix {
         long_frame(recording, place, j).values
     }
 
+    fn most_frames(&self) -> u8 {
+        1
+    }
+
     fn takes_ports(&self, ports: u8) -> bool {
         true
     }

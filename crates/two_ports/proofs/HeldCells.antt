@@ -52,6 +52,7 @@ module _ (recording : List Sample) (plan : CellPlan) (grid others : Elements) (s
     word = port_word First plan number;
     block = is_block First plan number sendable.spare fits;
     speaks = first_speaks;
+    single = omega arith;
     taken = refl;
     system = told_by_frames TwoPorts (subframes_by TwoPorts paired_values) recording (sent_place plan.identity offset) number
         (sent_mib plan.duration plan.resource plan.spare sendable.spare number) plan.sib1 long (omega arith) refl

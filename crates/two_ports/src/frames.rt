@@ -23,6 +23,10 @@ impl FrameReader for TwoPorts {
         received_in::<PairSlot>(recording, place, j)
     }
 
+    fn most_frames(&self) -> u8 {
+        4
+    }
+
     fn takes_ports(&self, ports: u8) -> bool {
         ports == 2
     }

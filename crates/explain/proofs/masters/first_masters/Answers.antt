@@ -1,11 +1,12 @@
-use Rattle.std.proofs.Common.{◌≡◌, ◌∙◌, ◌≤◌, length, ap, arith, sym, subst, below_more}
+use Rattle.std.proofs.Common.{◌≡◌, ◌∙◌, ◌≤◌, inl, inr, length, ap, arith, sym, subst, below_more}
+use Rattle.std.proofs.lemmas.Bool.{cases_lt}
 use Rattle.explain.specs.Entries.{IsMasterFor}
 use Rattle.explain.specs.Masters.{AreFirstWith}
 use Rattle.explain.specs.Readings.{AreSums}
 use Rattle.explain.specs.Receiver.{sums_by}
 use Rattle.explain.specs.Received.{AreReceived, AreFirstOf, NoneTell}
 use Rattle.explain.specs.Window.{HasNoMasters}
-use Rattle.explain.proofs.Received.{first_with, no_masters, whole_at}
+use Rattle.explain.proofs.Received.{first_with, no_masters, too_many, whole_at}
 use Rattle.explain.proofs.masters.first_masters.Goals as goal
 
 pub returns-in-Some-clause-masters : goal.returns-in-Some-clause-masters
@@ -40,13 +41,14 @@ returns-in-Some-first_of-clause-masters g c =
     let whole = whole_at recording _ _ here c.whole_frames-whole.result c.whole_frames-whole.ensures.whole c.whole_frames-whole.ensures.all in
     let found = c.in-Some-first_of.found in
     let test = c.loop-count-test.true in
+    let most = c.most_frames-most.ensures.few in
     let from = c.loop-count.auto in
     let (all, received) = c.in-None.ensures.received in
     let size : length c.as_slice.result.now ≡ c.whole_frames-whole.result = ap length c.as_slice.ensures.value ∙ all in
     let (counts, first) = c.in-Some-first_of.ensures.masters recording (subst (AreReceived (receiver.broadcast recording place) 0) (sym c.as_slice.ensures.value) received) in
     subst (λ n. AreFirstWith tells recording c.args.place n found.frame found.at) (sym counts)
     (subst (λ place. AreFirstWith tells recording place c.loop-count.count found.frame found.at) here
-    (first_with tells recording place c.whole_frames-whole.result c.whole_frames-whole.ensures.few whole.0 whole.1 c.loop-count.count found.frame found.at (omega arith) (omega (arith, test))
+    (first_with tells recording place c.whole_frames-whole.result c.whole_frames-whole.ensures.few whole.0 whole.1 c.loop-count.count found.frame found.at (omega arith) (omega (arith, test, most))
     c.loop-count.invariant (subst (λ n. AreFirstOf tells place n c.loop-count.count found.frame found.at) size first)))
 
 pub returns-in-Some-first_of-clause-sums : goal.returns-in-Some-first_of-clause-sums
@@ -78,6 +80,10 @@ returns-clause-masters g c =
     let here = c.new-cell.ensures in
     let whole = whole_at recording _ _ here c.whole_frames-whole.result c.whole_frames-whole.ensures.whole c.whole_frames-whole.ensures.all in
     let test = c.loop-count-test.false in
+    let most = c.most_frames-most.ensures.value in
     subst (HasNoMasters tells recording) here
     (no_masters tells recording c.new-cell.result c.whole_frames-whole.result c.whole_frames-whole.ensures.few whole.0 whole.1
-    (λ count some small. c.loop-count.invariant count some (omega (arith, small, test))))
+    (λ count some small. elim (cases_lt g.F.FrameReader.receiver.most_frames count) [
+      | inl more ↦ too_many g.F.FrameReader.receiver recording c.new-cell.result c.whole_frames-whole.result count more
+      | inr fits ↦ c.loop-count.invariant count some (omega (arith, most, fits, test))
+    ]))

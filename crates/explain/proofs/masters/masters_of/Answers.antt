@@ -13,7 +13,7 @@ returns-then-not-has_master-clause-masters g c recording are =
     c.len.ensures.value ∙ ap (λ (frame : List ℤ). length frame) c.index-frames-0.is ∙ c.requires.sizes 0 c.index-frames-0.result c.requires.some in
     let m = masters_of_frames receiver recording place c.bits.result.now c.len.result c.args.frame c.args.frames.now all c.bits.ensures size are c.masters-told.ensures.masters in
     no_master (IsMasterFor receiver recording) place count c.args.frame c.taken-at.result c.requires.some
-    (told_in_frames receiver recording place count c.args.frame all c.taken-at.result c.taken-at.ensures.each m c.requires.some)
+    (told_in_frames receiver recording place count c.args.frame all c.taken-at.result c.taken-at.ensures.each m c.requires.some c.requires.adds)
     (sym c.has_master.ensures ∙ c.if-not-has_master.true)
 
 pub returns-clause-masters : goal.returns-clause-masters
@@ -29,7 +29,7 @@ returns-clause-masters g c recording are =
       refl,
       refl,
       record {
-        are = told_in_frames receiver recording place count c.args.frame all masters c.taken-at.ensures.each m c.requires.some;
+        are = told_in_frames receiver recording place count c.args.frame all masters c.taken-at.ensures.each m c.requires.some c.requires.adds;
         some = has_one count masters (none_beyond receiver recording place count c.args.frame all masters c.taken-at.ensures.each m) (sym c.has_master.ensures ∙ c.if-not-has_master.false);
       },
     )
