@@ -36,7 +36,7 @@ BestLeavesLeast =
     ((i : ℕ) → i < count → IsWithin bound (left gain i)) →
     (greatest_below count (left best) ≤ bound) × ((i : ℕ) → i < count → IsWithin bound (left best i))
 
--- of a recording and a cell there is an answer: it is taken off, or there is no candidate
+-- there is an answer for a recording and a cell: it is taken off, or there is no candidate
 abbrev pub IsSomeSubtraction : Type 0
 IsSomeSubtraction = (recording : List Sample) (plan : CellPlan) (start number : ℕ) →
     (answer : Option Subtracted) × IsSubtraction recording plan start number answer
@@ -48,7 +48,7 @@ AnswerTakesLoadedOff =
     IsRecording recording → IsSubtraction recording plan start number answer →
     TakesLoadedOff recording plan start number answer
 
--- and of a clean one no more than its errors
+-- an answer leaves of a clean recording no more than its errors
 abbrev pub AnswerTakesCleanOff : Type 0
 AnswerTakesCleanOff =
     (recording : List Sample) (plan : CellPlan) (start number : ℕ) (answer : Option Subtracted) →

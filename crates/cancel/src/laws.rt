@@ -18,7 +18,7 @@ pub fn best_candidate_is_one()
     ensures answer { IsOneSubtraction }
 {}
 
-/// Of each recording and cell there is an answer of `subtract`: the cell is taken off, or there is no gain. (own)
+/// There is an answer of `subtract` for each recording and cell: the cell is taken off, or there is no gain. (own)
 pub fn some_answer()
     ensures { IsSomeSubtraction }
 {}

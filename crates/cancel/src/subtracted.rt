@@ -17,7 +17,7 @@ pub struct Subtracted {
     pub greatest: u32,
     /// The sum of the squares of the sizes of the recording's samples, below 2^64.
     pub before: u128,
-    /// That of the residue, below 2^64.
+    /// The sum of the squares of the sizes of the samples of the residue, below 2^64.
     pub after: u128,
     /// What is left, each component taken to the nearest number of 16 bits.
     pub residue: Recording,

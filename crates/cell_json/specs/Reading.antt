@@ -33,8 +33,8 @@ refusal_by carrier bytes = refusal_of carrier (json_of bytes)
 abbrev pub refusal : List ℕ → Option CellError
 refusal bytes = refusal_by OnePort bytes
 
--- the plan of a cell, the number of its first frame, the first sample of that which is sent and the count of samples are
--- the description's
+-- the plan of a cell, the number of its first frame, the first sample of that which is sent and the count of samples
+-- are those of a description
 pub record HasValues (plan : CellPlan) (sfn offset count : ℕ) (json : Data) : Type 0 where
   pub identity : pos plan.identity ≡ number_at (codes "identity") json
   pub duration : plan.duration ≡ duration_at json

@@ -88,7 +88,9 @@ pub fn port_sample(cell: &Cell, port: Port, sfn: Sfn, i: u64) -> Sample
     sample_of_frame(&signals, (i % FRAME) as usize)
 }
 
-/// That of one antenna port with the normal cyclic prefix.
+/// Sample `i` of the endless sequence of frames that a cell sends with one antenna port and the normal cyclic prefix,
+/// which begins with the frame numbered `sfn` (TS 36.211 section 6.12, in whole numbers). The size of a sample is at
+/// most 1,153.
 pub fn sample(cell: &Cell, sfn: Sfn, i: u64) -> Sample
     ensures value { result ≡ sample_of (sent (element cell.now) sfn i) }
     ensures size { square (sent (element cell.now) sfn i) ≤ 1153 * 1153 }

@@ -57,7 +57,7 @@ pub record IsEntryAt (Tells : Telling) (IsSystem : Informing) (recording : List 
   pub sfn : entry.sfn ≡ first_number entry.mib.upper (frames_of entry)
   pub sib1 : IsSystem (place_of entry) entry.sfn entry.ports entry.mib entry.sib1
 
--- by a receiver frames tell this master block: no more of them than it adds, and with a count of antenna ports that it
+-- frames tell this master block by a receiver: no more of them than it adds, and with a count of antenna ports that it
 -- takes
 pub record IsMasterFor (receiver : Receiver) (recording : List Sample) (place : Place) (frames : Frames)
     (master : Master) : Type 0 where

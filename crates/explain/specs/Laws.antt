@@ -99,13 +99,13 @@ abbrev pub OneFrameTells : Type 0
 OneFrameTells = (receiver : Receiver) (recording : List Sample) (hit : Hit) (entry : Entry) →
     IsEntryOfOneFrame receiver recording hit entry → IsEntryFor receiver recording hit entry
 
--- where the receiver adds no frames, the hit has no others
+-- where the receiver adds no frames, each entry of a hit is of one frame
 abbrev pub OneFrameAlone : Type 0
 OneFrameAlone = (receiver : Receiver) (recording : List Sample) (hit : Hit) (entry : Entry) →
     receiver.most_frames ≡ 1 → IsEntryFor receiver recording hit entry →
     IsEntryOfOneFrame receiver recording hit entry
 
--- so it stands in the list, itself or one of its cell
+-- an entry of one frame of a hit stands in the list, itself or as one of its cell
 abbrev pub OneFrameIsListed : Type 0
 OneFrameIsListed =
     (receiver : Receiver) (recording : List Sample) (list : List Entry) (hit : Hit) (entry : Entry) →

@@ -29,9 +29,9 @@ pub record Receiver : Type 0 where
   pub size : ℕ
   -- the values of the broadcast channel in frame j of the cell at a place
   pub broadcast : List Sample → Place → ℕ → List ℤ
-  -- of how many frames it adds the values, at most, for one master block
+  -- how many frames there are at most of which the values are added for one master block
   pub most_frames : ℕ
-  -- a master block that tells so many antenna ports is taken
+  -- a master block with a number of antenna ports is taken
   pub takes : ℕ → Bool
   -- the values of subframe 5, by which system information is read, or why it is not
   pub subframe : Result Subframes Sib1Reason

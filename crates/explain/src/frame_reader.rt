@@ -12,9 +12,9 @@ use pbch::{Master, Received};
 use sample_file::Recording;
 use system_block::Decoders;
 
-/// A way to read the cells of a recording that send by one kind of carrier: the values of the broadcast channel of each
-/// frame, the count of frames of which they are added, the counts of antenna ports that a master block may tell, and the
-/// system information. (own)
+/// A way to read the cells of a recording that send by one kind of carrier: the values of the broadcast channel of
+/// each frame, the count of frames of which they are added, the counts of antenna ports that a master block may tell,
+/// and the system information. (own)
 pub trait FrameReader {
     ghost receiver: { Receiver };
 
@@ -28,13 +28,13 @@ pub trait FrameReader {
         ensures values { result ≡ receiver.broadcast recording.now place j }
         ensures length { length result ≡ receiver.size };
 
-    /// Of how many frames of a period the values are added, at most, for one master block: 1 to 4.
+    /// How many frames of a period there are at most of which the values are added for one master block: 1 to 4.
     fn most_frames(&self) -> u8
         ensures value { result ≡ receiver.most_frames }
         ensures some { 1 ≤ result }
         ensures few { result ≤ 4 };
 
-    /// Whether a master block with so many antenna ports is taken.
+    /// Whether a master block with this count of antenna ports is taken.
     fn takes_ports(&self, ports: u8) -> bool
         ensures { result ≡ receiver.takes ports };
 

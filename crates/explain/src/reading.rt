@@ -38,10 +38,10 @@ struct Found {
 /// has room before it for the secondary signal tells a place, by their order: an identity and a start of frames.
 /// The first of its whole frames 0 to 7 that tells a master block at any phase gives an entry for each of its
 /// master blocks, by phase; where none does, the first two, three or four frames that follow one another in one
-/// period and do by the sums of their values, as many as the reader adds at most. An entry has the system information that is told of the cell, whose
-/// fields are in their ranges. An entry is dropped where a kept one before it has the same identity and an epoch at
-/// most 9 samples away, modulo 1,024 frames. The list is in order of start, identity and frame number. The
-/// workspace then has how each of them was read. It takes no memory. (own)
+/// period and do by the sums of their values, as many as the reader adds at most. An entry has the system
+/// information that is told of the cell, whose fields are in their ranges. An entry is dropped where a kept one before
+/// it has the same identity and an epoch at most 9 samples away, modulo 1,024 frames. The list is in order of start,
+/// identity and frame number. The workspace then has how each of them was read. It takes no memory. (own)
 pub fn explain_by<F: FrameReader>(
     reader: &F,
     recording: &Recording,

@@ -20,7 +20,7 @@ pub record IsCleanOfLong (recording : List Sample) (plan : LongPlan) (sfn offset
   pub number : sfn ≤ 1023
   pub samples : IsCleanOf (long_sent plan sfn) recording offset gain eps
 
--- or of elements that carry what is sent of a cell's plan, whatever else they are
+-- a recording is clean of elements that carry what is sent of a cell's plan, whatever else they are
 abbrev pub IsLoadedLong : List Sample → CellPlan → Elements → ℕ → ℕ → Cpx → ℕ → Type 0
 IsLoadedLong recording plan grid sfn offset gain eps = IsLoadedAt Long recording plan grid sfn offset gain eps
 
@@ -29,7 +29,7 @@ abbrev pub IsSentEntryOfLong : LongPlan → ℕ → Entry → Type 0
 IsSentEntryOfLong plan number =
     IsSentEntryBy 1 plan.mib.duration plan.mib.resource plan.mib.spare (Err LongPrefix) number
 
--- so it is for a cell's plan
+-- the entry is as a cell's plan was sent with one antenna port; its system information is not read
 abbrev pub IsSentEntryOfCell : CellPlan → ℕ → Entry → Type 0
 IsSentEntryOfCell plan number = IsSentEntryBy 1 plan.duration plan.resource plan.spare (Err LongPrefix) number
 
@@ -42,7 +42,8 @@ HoldsLoadedCellsOfLong recording list =
     HoldsOne list plan.identity (start_of offset) (number_at_start sfn offset)
     (IsSentEntryOfCell plan (number_at_start sfn offset))
 
--- so each that sends nothing elsewhere: whatever its identity and its master block are
+-- the list holds each plan of which the recording is clean, whatever its identity and its master block are, its first
+-- frame's number, the offset, the gain and the errors
 abbrev pub HoldsCleanCellsOfLong : List Sample → List Entry → Type 0
 HoldsCleanCellsOfLong recording list =
     (plan : LongPlan) (sfn offset : ℕ) (gain : Cpx) (eps : ℕ) → IsKnownLong plan →

@@ -46,8 +46,8 @@ long_values slot = values_below 432 (long_value slot)
 
 -- ---- the receiver
 
--- it has 432 values of the broadcast channel in a frame, adds no frames, and takes each master block, whatever ports it
--- tells; subframe 5 is not read
+-- the receiver of the extended prefix has 432 values of the broadcast channel in a frame, adds no frames, and takes
+-- each master block, whatever ports it tells; subframe 5 is not read
 abbrev pub long_prefix_receiver : Receiver
 long_prefix_receiver = record {
   carrier = LongPrefix;

@@ -23,7 +23,8 @@ use sample_file::Recording;
 /// component off by at most twice the gain's size, the list has an entry with the plan's identity, the sample at
 /// which its first frame begins, that frame's number, one antenna port and its master block, and no other with this
 /// identity, sample and number (`holds`). It does so of a cell, whatever else that sends where its plan sends nothing,
-/// beside the synchronisation signals nothing, in elements of size at most 256 (`loaded`). The workspace then has how each entry was read. It takes no memory. (own)
+/// beside the synchronisation signals nothing, in elements of size at most 256 (`loaded`). The workspace then has how
+/// each entry was read. It takes no memory. (own)
 pub fn explain_clean(recording: &Recording, work: &mut Workspace3, list: &mut EntryList)
     ensures list { IsExplainedOfLong recording.now list.new }
     ensures readings { AllZip (IsReadingOfLong recording.now) list.new work.new }

@@ -54,8 +54,8 @@ pub record IsTakenFirst (recording : List Sample) (list : List Entry) (rounds : 
 
 -- ---- laws
 
--- so do the rounds of a recording that is clean of a cell that can be sent: the first takes it off and leaves no more
--- than the errors, unless one that is listed before is taken off
+-- the first round of a recording that is clean of a cell that can be sent takes it off and leaves no more than the
+-- errors, unless one that is listed before is taken off
 abbrev pub CleanCellIsTakenFirst : Type 0
 CleanCellIsTakenFirst =
     (recording : List Sample) (rounds : Rounds) (plan : CellPlan) (sfn offset : ℕ) (gain : Cpx) (eps : ℕ) →
@@ -73,7 +73,7 @@ LoadedCellIsTakenFirst =
     IsWithin most (left_at recording plan (start_of offset) (number_at_start sfn offset) gain i)) →
     IsTakenFirst recording rounds.first rounds.taken.items plan (start_of offset) (number_at_start sfn offset) most
 
--- and so does each later round, where what the rounds before it left is clean of a cell
+-- each later round does as the first, where what the rounds before it left is clean of a cell
 abbrev pub CleanCellIsTakenNext : Type 0
 CleanCellIsTakenNext =
     (most : ℕ) (recording : List Sample) (list : List Entry) (rounds : List Round) (ended : Bool) (plan : CellPlan)

@@ -22,7 +22,7 @@ pub fn one_json()
     ensures { IsOneJson }
 {}
 
-/// Of a recording that is clean of a cell that can be sent, a first round takes a cell off: this one, and then no
+/// A first round takes a cell off where the recording is clean of a cell that can be sent: this one, and then no
 /// component of what is left has a size above the errors, or one whose entry is listed before. So it is this cell where
 /// none that is listed before can be taken off (`clean`). Whatever else the cell sends, no more is left than the true
 /// gain leaves, where that is at most 32,767 (`loaded`). Each later round does as the first, where what is left before

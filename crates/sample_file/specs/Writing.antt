@@ -3,11 +3,11 @@ use Rattle.std.specs.Prelude.{◌≡◌, ℕ, ◌%◌, ◌++◌, List, length}
 use Rattle.cs_outside.specs.Outside.{SinkTold}
 use Rattle.cs_outside.specs.Streams.{HasWritten}
 
--- so many bytes a piece
+-- the bytes of a piece
 abbrev pub piece_bytes : ℕ
 piece_bytes = 16384
 
--- of these bytes some whole pieces were written, and the rest waits
+-- some whole pieces of these bytes were written, and the rest waits
 pub record HasWrittenPieces (bytes rest : List ℕ) (before now : SinkTold) : Type 0 where
   pub front : List ℕ
   pub split : bytes ≡ front ++ rest

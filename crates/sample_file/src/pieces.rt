@@ -11,7 +11,7 @@ use cs_num::Sample;
 use cs_outside::{Failed, Sink, write_whole};
 use std::marker::Model;
 
-// So many bytes a piece.
+// The bytes of a piece.
 const PIECE: usize = 16_384;
 
 /// Writes the bytes of samples, four each, in pieces of 16,384 bytes: each as soon as more samples come than it has
@@ -32,7 +32,7 @@ impl Model for PieceWriter {
 }
 
 impl PieceWriter {
-    /// With no byte that waits.
+    /// A writer with no byte that waits.
     pub fn new() -> PieceWriter
         ensures { result ≡ [] }
     {
