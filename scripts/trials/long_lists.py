@@ -43,7 +43,7 @@ def recording(seed):
     samples = samples[: int(draw.integers(100_000, len(samples) + 1))]
     level = (samples**2).mean() ** 0.5
     in_frame = (np.arange(len(samples)) + second_make.recipe(number)["offset"]) % FRAME
-    noise = draw.choice([0, 0.5, 1]) + draw.choice([5, 7, 8, 9, 10]) * (in_frame // SLOT == 1)
+    noise = draw.choice([0, 0.5, 1]) + draw.choice([4, 6, 7, 8, 9]) * (in_frame // SLOT == 1)
     samples += level * noise[:, None] * draw.standard_normal(samples.shape)
     return np.clip(np.round(samples * min(1, 2_000 / level)), -32_768, 32_767).astype("<i2").tobytes()
 

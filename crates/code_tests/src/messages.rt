@@ -120,9 +120,7 @@ fn a_usual_block_has_163_bits(rt: HostRuntime) {
     let mut fields = plain_block();
     fields.p_max = Some(23);
     for count in 1..4_u32 {
-        fields
-            .scheduling
-            .push(repeated(0, 0, (count + 1) / 2));
+        fields.scheduling.push(repeated(0, 0, (count + 1) / 2));
     }
     assert!(rt; size_of(&fields) == Some(163));
 }

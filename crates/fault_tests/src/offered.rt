@@ -17,8 +17,8 @@ const LEAST: usize = 4_096;
 // More calls than a run makes.
 const CALLS: usize = 1_000_000;
 
-// How many bytes a call takes at most: all, or so few that a piece needs several calls.
-const MOST: [usize; 2] = [usize::MAX, 3_000];
+// How many bytes a call takes at most: so few that a piece needs several calls.
+const MOST: usize = 3_000;
 
 // The bytes of the plain cell's recording.
 const PLAIN: usize = 230_400;
@@ -157,11 +157,9 @@ impl Run {
 // What is sent from these changes of the offset on is written in whole pieces.
 fn sends_from(rt: &impl Abort, alloc: Global, change: &str) -> Result<(), Fail> {
     for (line, input) in SENDING {
-        for most in MOST {
-            let bytes = description_with(alloc, input, change)?;
-            let run = Run::new(alloc, Program::Receiver, line, bytes, most, CALLS)?;
-            assert!(rt; run.is_written(PLAIN), "{line} {change} {most}");
-        }
+        let bytes = description_with(alloc, input, change)?;
+        let run = Run::new(alloc, Program::Receiver, line, bytes, MOST, CALLS)?;
+        assert!(rt; run.is_written(PLAIN), "{line} {change}");
     }
     Ok(())
 }
@@ -194,11 +192,9 @@ fn what_is_sent_from_the_last_samples_is_written_in_whole_pieces(
 fn a_turned_recording_is_written_in_whole_pieces(rt: HostRuntime) -> Result<(), Fail> {
     let alloc = rt.alloc();
     for (line, input) in APPLYING {
-        for most in MOST {
-            let bytes = bytes_of(alloc, input)?;
-            let run = Run::new(alloc, Program::Tuner, line, bytes, most, CALLS)?;
-            assert!(rt; run.is_written(PLAIN), "{line} {most}");
-        }
+        let bytes = bytes_of(alloc, input)?;
+        let run = Run::new(alloc, Program::Tuner, line, bytes, MOST, CALLS)?;
+        assert!(rt; run.is_written(PLAIN), "{line}");
     }
     Ok(())
 }
@@ -207,10 +203,10 @@ fn a_turned_recording_is_written_in_whole_pieces(rt: HostRuntime) -> Result<(), 
 fn a_certificate_is_a_piece(rt: HostRuntime) -> Result<(), Fail> {
     let alloc = rt.alloc();
     let one = recording(alloc)?;
-    let run = Run::new(alloc, Program::Receiver, "certify", one, 3_000, CALLS)?;
+    let run = Run::new(alloc, Program::Receiver, "certify", one, MOST, CALLS)?;
     assert!(rt; run.is_long_pieces(1));
     let many = sixteen_cells(alloc)?;
-    let run = Run::new(alloc, Program::Receiver, "certify", many, 3_000, CALLS)?;
+    let run = Run::new(alloc, Program::Receiver, "certify", many, MOST, CALLS)?;
     assert!(rt; run.is_long_pieces(16));
     Ok(())
 }

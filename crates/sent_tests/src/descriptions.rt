@@ -313,8 +313,7 @@ fn has_ends_of_levels(sib1: &Sib1) -> bool {
 
 fn has_ends_of_the_schedule(sib1: &Sib1) -> bool {
     match sib1.scheduling.slice() {
-        [first, second] => is_message(first, 6, 2)
-            && is_message(second, 1, 0),
+        [first, second] => is_message(first, 6, 2) && is_message(second, 1, 0),
         _ => false,
     }
 }
