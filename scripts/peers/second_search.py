@@ -63,7 +63,9 @@ class Rule(NamedTuple):
 
 ONE_PORT = Rule()
 TWO_PORTS = Rule(ports=2, taken=(2,))
-LONG_PREFIX = Rule(first=32, step=160, symbols=6, later=3, n_cp=0, beside=(0, 1, 3), size=432, most=1, unread="long-prefix")
+LONG_PREFIX = Rule(
+    first=32, step=160, symbols=6, later=3, n_cp=0, beside=(0, 1, 3), size=432, most=1, unread="long-prefix"
+)
 FOUR_PORTS = Rule(ports=4, taken=(4,), unread="ports 4")
 RULES = {
     (): ONE_PORT,
