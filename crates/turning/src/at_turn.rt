@@ -77,7 +77,7 @@ impl<'a> Turned<'a> {
         self.with_first(alloc, end, end)
     }
 
-    // A recording as short as one can be with the same hits: the samples that are looked at for them, and silence.
+    // A recording as short as one can be with the same hits: the samples that are looked at for them, and others behind.
     pub(crate) fn looked_at(&self, alloc: Global) -> Result<Recording, AllocError>
         ensures { IfOk result (λ front. take 19473 front ≡ take 19473 self.now) }
     {
@@ -86,7 +86,7 @@ impl<'a> Turned<'a> {
         self.with_first(alloc, LOOKED_AT, LEAST_SAMPLES)
     }
 
-    // The first `count` samples, and silence, `whole` in all.
+    // The first `count` samples, and others behind them, `whole` in all.
     fn with_first(&self, alloc: Global, count: usize, whole: usize) -> Result<Recording, AllocError>
         requires count { count ≤ length self.now }
         requires room { count ≤ whole }
