@@ -4,6 +4,7 @@ use Rattle.std.proofs.lemmas.Bool.{cases_lt}
 use Rattle.cs_num.specs.declared.Cpx.{Cpx}
 use Rattle.cs_num.specs.declared.Sample.{Sample}
 use Rattle.cs_num.specs.Complex.{minus, square}
+use Rattle.cs_num.specs.Gain.{IsGain}
 use Rattle.cell_tx.specs.declared.cell.CellPlan.{CellPlan}
 use Rattle.cancel.specs.declared.choosing.Choice.{Choice}
 use Rattle.cancel.specs.declared.subtracted.Subtracted.{Subtracted}
@@ -51,9 +52,10 @@ module _ (greatest : Cpx → ℕ) (middle : Cpx) where
 
 -- ---- the answer
 
-taken_with : List Sample → CellPlan → ℕ → ℕ → Cpx → Subtracted
-taken_with recording plan start number gain = record {
-  gain = gain;
+taken_with : List Sample → CellPlan → ℕ → ℕ → (gain : Cpx) → IsGain gain → Subtracted
+taken_with recording plan start number gain size = record {
+  gain = (gain.re, gain.im);
+  gain_range = size;
   greatest = greatest_left recording plan start number gain;
   before = power_of recording;
   after = power_of (residue_of recording plan start number gain);
@@ -68,6 +70,6 @@ some_subtraction recording plan start number = by_choice (some_choice (greatest_
         → (answer : Option Subtracted) × IsSubtraction recording plan start number answer
     by_choice (None, none) = (None, none)
     by_choice (Some choice, is) = (
-      Some (taken_with recording plan start number choice.gain),
+      Some (taken_with recording plan start number choice.gain is.0.candidate.size),
       record { gain = is.0; greatest = refl; residue = refl; before = refl; after = refl },
     )

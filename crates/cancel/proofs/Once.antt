@@ -1,5 +1,5 @@
 -- There is one answer of a subtraction.
-use Rattle.std.proofs.Common.{◌≡◌, ℕ, ◌<◌, ◌^◌, ℤ, List, Some, None, refl, ap, sym, subst, ◌∙◌}
+use Rattle.std.proofs.Common.{◌≡◌, ℕ, ℤ, List, Some, None, refl, ap, sym, subst, ◌∙◌}
 use Rattle.std.proofs.Props.{props}
 use Rattle.cs_num.specs.declared.Cpx.{Cpx}
 use Rattle.cs_num.specs.declared.Sample.{Sample}
@@ -19,27 +19,16 @@ same_pair p q e = ap (λ (z : Cpx). (z.re, z.im)) e
 gain_prop : (z : Cpx) → IsProp (IsGain z)
 gain_prop z = hlevel props
 
-below_prop : (n : ℕ) → IsProp (n < 2 ^ 64)
-below_prop n = hlevel props
-
 same_gain : (a : Subtracted) (g : ℤ × ℤ) → a.gain ≡ g → (range : IsGain (gain_of g)) → a ≡ record a { gain = g; gain_range = range }
 same_gain a g e = subst (λ h. (range : IsGain (gain_of h)) → a ≡ record a { gain = h; gain_range = range }) e
     (λ range. ap (λ r. record a { gain_range = r }) (gain_prop (gain_of a.gain) a.gain_range range))
 
-same_before : (a : Subtracted) (n : ℕ) → a.before ≡ n → (range : n < 2 ^ 64) → a ≡ record a { before = n; before_range = range }
-same_before a n e = subst (λ m. (range : m < 2 ^ 64) → a ≡ record a { before = m; before_range = range }) e
-    (λ range. ap (λ r. record a { before_range = r }) (below_prop a.before a.before_range range))
-
-same_after : (a : Subtracted) (n : ℕ) → a.after ≡ n → (range : n < 2 ^ 64) → a ≡ record a { after = n; after_range = range }
-same_after a n e = subst (λ m. (range : m < 2 ^ 64) → a ≡ record a { after = m; after_range = range }) e
-    (λ range. ap (λ r. record a { after_range = r }) (below_prop a.after a.after_range range))
-
 same_answer : (a b : Subtracted) → a.gain ≡ b.gain → a.greatest ≡ b.greatest → a.before ≡ b.before → a.after ≡ b.after → a.residue ≡ b.residue → a ≡ b
 same_answer a b gain greatest before after residue =
     let c : Subtracted = record a { gain = b.gain; gain_range = b.gain_range } in
-    let d : Subtracted = record c { before = b.before; before_range = b.before_range } in
-    let e : Subtracted = record d { after = b.after; after_range = b.after_range } in
-    same_gain a b.gain gain b.gain_range ∙ same_before c b.before before b.before_range ∙ same_after d b.after after b.after_range
+    let d : Subtracted = record c { before = b.before } in
+    let e : Subtracted = record d { after = b.after } in
+    same_gain a b.gain gain b.gain_range ∙ ap (λ (n : ℕ). record c { before = n }) before ∙ ap (λ (n : ℕ). record d { after = n }) after
     ∙ ap (λ (n : ℕ). record e { greatest = n }) greatest ∙ ap (λ (r : List Sample). record b { residue = r }) residue
 
 -- ---- there is one

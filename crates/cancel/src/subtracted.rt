@@ -1,6 +1,6 @@
 //! What a subtraction gives.
 
-ghost use Rattle.std.specs.Prelude.{◌≡◌, ◌<◌, ◌^◌};
+ghost use Rattle.std.specs.Prelude.{◌≡◌};
 ghost use Rattle.cs_num.specs.Gain.{IsGain};
 ghost use Rattle.cell_tx.specs.Pair.{gain_of};
 
@@ -15,15 +15,13 @@ pub struct Subtracted {
     pub gain: (i16, i16),
     /// The greatest size of a component of what is left, before it is taken to 16 bits.
     pub greatest: u32,
-    /// The sum of the squares of the sizes of the recording's samples, below 2^64.
+    /// The sum of the squares of the sizes of the recording's samples.
     pub before: u128,
-    /// The sum of the squares of the sizes of the samples of the residue, below 2^64.
+    /// The sum of the squares of the sizes of the samples of the residue.
     pub after: u128,
     /// What is left, each component taken to the nearest number of 16 bits.
     pub residue: Recording,
     pub ghost gain_range: { IsGain (gain_of gain) },
-    pub ghost before_range: { before < 2 ^ 64 },
-    pub ghost after_range: { after < 2 ^ 64 },
 }
 
 impl Subtracted {
@@ -32,13 +30,5 @@ impl Subtracted {
         ensures { result ≡ gain_of self.now.gain }
     {
         gain_of_pair(self.gain)
-    }
-
-    /// Both sums of squares, in 64 bits.
-    pub fn powers(&self) -> (u64, u64)
-        ensures before { result.0 ≡ self.now.before }
-        ensures after { result.1 ≡ self.now.after }
-    {
-        (self.before as u64, self.after as u64)
     }
 }

@@ -41,7 +41,8 @@ pub fn subtract(
 {
     let count = recording.len();
     prove!(57_600 <= count);
-    subtract_from(alloc, recording, power_of(recording), cell, start, sfn)
+    let power = power_of(recording) as u128;
+    subtract_from(alloc, recording, power, cell, start, sfn)
 }
 
 /// `subtract` from a recording whose power is known. Its promises on clean recordings are those of `subtract`, since
@@ -50,7 +51,7 @@ pub fn subtract(
 pub fn subtract_from(
     alloc: Global,
     recording: &Recording,
-    power: u64,
+    power: u128,
     cell: &Cell,
     start: u32,
     sfn: Sfn,
@@ -167,7 +168,7 @@ fn recording_of(recording: &Recording, samples: Vec<Sample>) -> Recording
 fn taken_off(
     alloc: Global,
     recording: &Recording,
-    before: u64,
+    before: u128,
     sent: &[Sample],
     choice: Choice,
 ) -> Result<Subtracted, AllocError>
@@ -177,12 +178,12 @@ fn taken_off(
 {
     let samples = residue_samples(alloc, recording.as_slice(), sent, choice.gain)?;
     let residue = recording_of(recording, samples);
-    let after = power_of(&residue);
+    let after = power_of(&residue) as u128;
     Ok(Subtracted {
         gain: pair_of(choice.gain.value()),
         greatest: choice.greatest,
-        before: before as u128,
-        after: after as u128,
+        before,
+        after,
         residue,
     })
 }

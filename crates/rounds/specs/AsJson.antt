@@ -10,6 +10,7 @@ use Rattle.report.specs.Json.{report_value}
 use Rattle.rounds.specs.declared.round.Round.{Round}
 use Rattle.rounds.specs.declared.round.Rounds.{Rounds}
 use Rattle.rounds.specs.Rounds.{IsCancelled}
+use Rattle.rounds.specs.Text.{told_power}
 
 -- the gain with which a cell was taken off, and two powers
 abbrev pub gain_value : Cpx → Data
@@ -25,7 +26,7 @@ round_value round = object (
     member (codes "cells") (report_value round.list) (
     member (codes "gain") (gain_value (gain_of round.taken.gain)) (
     member (codes "identity") (natural round.id) (
-    member (codes "power") (powers_value round.taken.before round.taken.after) (
+    member (codes "power") (powers_value (told_power round.taken.before) (told_power round.taken.after)) (
     member (codes "residue") (natural round.taken.greatest) no_members)))))
 
 -- the list of the recording, its rounds, and whether a round took off none

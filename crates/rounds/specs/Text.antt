@@ -1,5 +1,5 @@
 -- The text of a search that takes found cells off. (own)
-use Rattle.std.specs.Prelude.{◌≡◌, ℕ, if◌then◌else◌, List, [], ◌++◌}
+use Rattle.std.specs.Prelude.{◌≡◌, ℕ, ◌-◌, ◌^◌, nat_le, if◌then◌else◌, List, [], ◌++◌}
 use Rattle.std.specs.List.{flat_map}
 use Rattle.cs_num.specs.declared.Sample.{Sample}
 use Rattle.cell_tx.specs.Pair.{gain_of}
@@ -9,10 +9,15 @@ use Rattle.rounds.specs.declared.round.Round.{Round}
 use Rattle.rounds.specs.declared.round.Rounds.{Rounds}
 use Rattle.rounds.specs.Rounds.{IsCancelled}
 
+-- a power as it is told, in 64 bits, in which that of each recording has room
+abbrev pub told_power : ℕ → ℕ
+told_power power = if nat_le power (2 ^ 64 - 1) then power else 2 ^ 64 - 1
+
 -- the lines of the cell that a round took off, and the list of what is left
 abbrev pub round_text : Round → List ℕ
 round_text round =
-    cancelled_lines round.id (gain_of round.taken.gain) round.taken.greatest round.taken.before round.taken.after
+    cancelled_lines round.id (gain_of round.taken.gain) round.taken.greatest (told_power round.taken.before)
+    (told_power round.taken.after)
     ++ report_text round.list
 
 -- the list of the recording, its rounds, and a line where a round took off none

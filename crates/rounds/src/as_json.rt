@@ -4,6 +4,7 @@ ghost use Rattle.std.specs.Prelude.{◌≡◌, IfOk, string_bytes};
 ghost use Rattle.serde_json.specs.View.{view};
 ghost use Rattle.rounds.specs.AsJson.{gain_value as gain_of, powers_value, round_value, rounds_value as rounds_of, rounds_json, IsCancelJson};
 
+use crate::texts::told_power;
 use crate::{Round, Rounds, cancel_rounds};
 use cs_num::Gain;
 use explain::Workspace;
@@ -50,7 +51,7 @@ impl ToJson for Round {
         let taken = &self.taken;
         let cells = list_value(alloc, self.list.slice())?;
         let gain = gain_value(alloc, taken.gain())?;
-        let (before, after) = taken.powers();
+        let (before, after) = (told_power(taken.before), told_power(taken.after));
         let power = power_value(alloc, before, after)?;
         json!(in alloc; {
             "cells": cells,

@@ -33,7 +33,7 @@ pub fn cancel_rounds(
     ensures { IfOk result (IsCancelled recording.now) }
 {
     let first = list_of(alloc, recording, work)?;
-    let power = power_of(recording);
+    let power = power_of(recording) as u128;
     let (taken, ended) = rounds_on(alloc, MOST_ROUNDS, recording, power, first.slice(), work)?;
     Ok(Rounds {
         first,
@@ -62,7 +62,7 @@ fn rounds_on(
     alloc: Global,
     most: u8,
     recording: &Recording,
-    power: u64,
+    power: u128,
     list: &[Entry],
     work: &mut Workspace,
 ) -> Result<(Vec<Round>, bool), AllocError>
@@ -80,7 +80,7 @@ fn rounds_on(
                 alloc,
                 most - 1,
                 &round.taken.residue,
-                round.taken.powers().1,
+                round.taken.after,
                 round.list.slice(),
                 work,
             )?;
@@ -96,7 +96,7 @@ fn rounds_on(
 fn round_on(
     alloc: Global,
     recording: &Recording,
-    power: u64,
+    power: u128,
     list: &[Entry],
     work: &mut Workspace,
 ) -> Result<Option<Round>, AllocError>
@@ -128,7 +128,7 @@ fn round_on(
 fn taken_off(
     alloc: Global,
     recording: &Recording,
-    power: u64,
+    power: u128,
     entry: &Entry,
     granted: Option<(Cfi, Grant)>,
 ) -> Result<Option<Subtracted>, AllocError>

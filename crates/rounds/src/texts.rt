@@ -1,7 +1,7 @@
 //! The text of a search that takes found cells off.
 
 ghost use Rattle.std.specs.Prelude.{◌≡◌, IfOk, string_bytes};
-ghost use Rattle.rounds.specs.Text.{round_text, rounds_text, IsCancelText};
+ghost use Rattle.rounds.specs.Text.{told_power as told_of, round_text, rounds_text, IsCancelText};
 
 use crate::{Round, Rounds, cancel_rounds};
 use explain::Workspace;
@@ -41,9 +41,21 @@ fn text_of_round(alloc: Global, round: &Round) -> Result<String, AllocError>
     ensures { IfOk result (λ text. string_bytes text ≡ round_text round.now) }
 {
     let taken = &round.taken;
-    let (gain, powers) = (taken.gain(), taken.powers());
-    let mut lines = text_of_cancelled(alloc, round.id.value(), gain, taken.greatest, powers)?;
+    let powers = (told_power(taken.before), told_power(taken.after));
+    let id = round.id.value();
+    let mut lines = text_of_cancelled(alloc, id, taken.gain(), taken.greatest, powers)?;
     let list = text(alloc, round.list.slice())?;
     lines.push_str(&list)?;
     Ok(lines)
+}
+
+// A power in 64 bits, in which that of each recording has room.
+pub(crate) fn told_power(power: u128) -> u64
+    ensures { result ≡ told_of power }
+{
+    if power <= u64::MAX as u128 {
+        power as u64
+    } else {
+        u64::MAX
+    }
 }
