@@ -1,10 +1,11 @@
 use Rattle.std.proofs.Common.{◌≡◌, ◌<◌, ℕ, List, ◌++◌, drop, length, sym, ap, ap₂, ◌∙◌, arith}
 use Rattle.std.proofs.lemmas.Bool.{ltb-true, ltb-false}
 use Rattle.std.proofs.lemmas.List.{drop_all}
-use Rattle.std.proofs.lemmas.Result.{on_err_weaker}
+use Rattle.std.proofs.lemmas.Result.{on_ok_weaker, on_err_weaker}
 use Rattle.cs_num.specs.declared.Sample.{Sample}
 use Rattle.sample_file.specs.Recording.{bytes_of}
-use Rattle.sample_file.proofs.Waiting.{waiting_then, pieces_on, pieces_front, pieces_short, last_front, last_short, none_left}
+use Rattle.sample_file.proofs.Waiting.{waiting_all, waiting_then, pieces_on, pieces_front, pieces_short, pieces_whole, last_front, last_short, none_left}
+use Rattle.cell_tx.specs.Emission.{emitted_samples}
 use Rattle.cell_tx.specs.Emitting.{Progress, piece_end, piece_of}
 use Rattle.cell_tx.proofs.Advancing.{rest_is}
 use Rattle.lte_top.proofs.transmitting.write_emission.Goals as goal
@@ -20,6 +21,15 @@ waiting_is : (waiting : List ℕ) (p q : Progress) (piece : List Sample) → q.s
     → p.at < length p.samples → waiting ++ bytes_of (drop p.at p.samples) ≡ (waiting ++ bytes_of piece) ++ bytes_of (drop q.at q.samples)
 waiting_is waiting p q piece samples from ends is below =
     waiting_then waiting (drop p.at p.samples) piece (drop q.at q.samples) (left_is p q piece samples from ends is below)
+
+pub loop-emitter-init : goal.loop-emitter-init
+loop-emitter-init g c =
+    let is = c.new-emitter.ensures in
+    record {
+      samples = is.samples;
+      so_far = rw (c.new-writer.ensures, is.at, is.samples) (waiting_all (bytes_of (emitted_samples c.args.emission.now)) (g.K.Sink.told c.args.sink.now));
+      later = omega arith;
+    }
 
 pub loop-emitter-preserved : goal.loop-emitter-preserved
 loop-emitter-preserved g c =
@@ -49,6 +59,13 @@ returns-in-Err-clause-full g c =
     let a = c.advance.ensures in
     let below = ltb-true p.at (length p.samples) (sym a.more ∙ c.loop-emitter-test.true) in
     pieces_short _ _ _ _ _ _ c.loop-emitter.invariant.so_far (waiting_is c.loop-emitter.writer p q _ a.samples a.from a.at c.piece.ensures below) c.in-Err.ensures.full
+
+pub returns-clause-ok : goal.returns-clause-ok
+returns-clause-ok g c =
+    let p = c.loop-emitter.emitter in
+    let none = drop_all p.at p.samples (ltb-false p.at (length p.samples) (sym c.advance.ensures.more ∙ c.loop-emitter-test.false)) in
+    let w = none_left _ _ _ _ _ none c.loop-emitter.invariant.so_far in
+    on_ok_weaker c.finish.result (λ e. pieces_whole _ _ _ _ _ w e) c.finish.ensures.ok
 
 pub returns-clause-front : goal.returns-clause-front
 returns-clause-front g c =
