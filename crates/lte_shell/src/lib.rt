@@ -2,10 +2,10 @@
 //! output a sink, and the answer its exit code. What the outside gives and keeps is told by no contract.
 #![tactic(auto)]
 
-ghost use Rattle.std.specs.Prelude.{◌≡◌};
+ghost use Rattle.std.specs.Prelude.{◌≡◌, IfErr};
 ghost use Rattle.std.specs.Process.{exit_status};
 ghost use Rattle.lte_top.specs.Answers.{code_of};
-ghost use Rattle.lte_shell.specs.Exit.{IsCodeOfAnswer};
+ghost use Rattle.lte_shell.specs.Exit.{IsCodeOfAnswer, IsRefusalOfArguments};
 
 use cs_outside::{StdSink, StdSource};
 use lte_top::{Program, Status, Words, run_program};
@@ -62,23 +62,25 @@ fn end<R: Eprint>(rt: &R, program: Program, status: Status) -> ExitCode
     ExitCode::from(status.code())
 }
 
-// The arguments after the program's name.
-fn words_of<R: Env + Alloc<A = Global>>(rt: &R) -> Result<Words, Status> {
+// The arguments after the program's name, or the answer where they could not be had.
+fn words_of<R: Env + Alloc<A = Global>>(rt: &R) -> Result<Words, Status>
+    ensures { IfErr result IsRefusalOfArguments }
+{
     let arguments = match env::args(rt) {
         Ok(arguments) => arguments,
         Err(error) => return Err(refusal_of(error.kind())),
     };
     let mut words = Words::new(rt.alloc());
     for argument in arguments.skip(1) {
-        if words.push(argument.as_str()).is_err() {
-            return Err(Status::OutOfMemory);
-        }
+        words.push(argument.as_str())?;
     }
     Ok(words)
 }
 
-// The status where the arguments could not be had.
-fn refusal_of(kind: io::ErrorKind) -> Status {
+// The answer where the arguments could not be had.
+fn refusal_of(kind: io::ErrorKind) -> Status
+    ensures { IsRefusalOfArguments result }
+{
     match kind {
         io::ErrorKind::OutOfMemory => Status::OutOfMemory,
         _ => Status::Usage,
