@@ -14,6 +14,20 @@ fn has_row(size: u16, row: Row) -> bool {
     found == Some(row)
 }
 
+// The first bit of a coded word, where its size is not 0.
+fn first_bit(coded: &Coded) -> bool {
+    let k: u16 = coded.k;
+    let streams: &[[bool; 1028]; 3] = &coded.d;
+    k != 0 && streams[0][0]
+}
+
+// The first sum of values, or 0 where there is no size.
+fn first_sum(sums: &Combined) -> i32 {
+    let k: u16 = sums.k;
+    let streams: &[[i32; 1028]; 3] = &sums.d;
+    if k == 0 { 0 } else { streams[0][0] }
+}
+
 // Bit i of what is sent of a word, and the first sum of values.
 fn sent_and_summed(bits: &[bool], values: &[i16], row: Row, rv: u8, i: usize) -> (bool, i32)
     requires row { IsRow row }
@@ -25,9 +39,7 @@ fn sent_and_summed(bits: &[bool], values: &[i16], row: Row, rv: u8, i: usize) ->
     let coded: Coded = encode(bits, row);
     let bit: bool = match_out(&coded, rv, i);
     let sums: Combined = combine(values, row, rv);
-    let _word: (u16, &[[bool; 1028]; 3]) = (coded.k, &coded.d);
-    let (_, rows): (u16, &[[i32; 1028]; 3]) = (sums.k, &sums.d);
-    (bit, rows[0][0])
+    (bit || first_bit(&coded), first_sum(&sums))
 }
 
 // One decoder's values.
