@@ -284,7 +284,10 @@ fn push_certificates(
 {
     let mut one = certificate_of_zeros(alloc)?;
     for state in 0..tables {
-        one[10_493 + state / 8] |= 1 << (state % 8);
+        match one.get_mut(10_493 + state / 8) {
+            Some(byte) => *byte = *byte | 1 << (state % 8),
+            None => {}
+        }
     }
     one.extend_from_slice(&vec![in alloc; 0; 10_240 * tables]?)?;
     for _ in 0..count {
