@@ -1,10 +1,15 @@
 -- How much of a recording decides its list. (own)
-use Rattle.std.specs.Prelude.{ℕ, ◌*◌, ◌≤◌, List, length}
+use Rattle.std.specs.Prelude.{◌≡◌, ℕ, ◌*◌, ◌<◌, ◌≤◌, List, length, Result, Ok, Err}
 use Rattle.cs_num.specs.declared.Sample.{Sample}
+use Rattle.lte_types.specs.CellPlace.{Place}
+use Rattle.lte_types.specs.declared.duration.Duration.{Duration}
 use Rattle.lte_types.specs.declared.entry.Entry.{Entry}
+use Rattle.lte_types.specs.declared.resource.Resource.{Resource}
+use Rattle.lte_types.specs.declared.sib1_reason.Sib1Reason.{Sib1Reason}
 use Rattle.lte_types.specs.Numerology.{frame_length}
 use Rattle.sample_file.specs.Recording.{AgreeBefore}
-use Rattle.explain.specs.Entries.{IsExplained}
+use Rattle.explain.specs.Receiver.{Receiver, Subframes}
+use Rattle.explain.specs.Entries.{IsExplained, IsListFor}
 
 -- the samples of 17 frames, 326,400: a hit stands in the first frame or shortly after it, the frames that it tells
 -- start within the first, and at most 16 of them are looked at
@@ -18,3 +23,33 @@ FirstFramesDecide =
     (first second : List Sample) (list : List Entry) → deciding_length ≤ length first →
     deciding_length ≤ length second →
     AgreeBefore deciding_length first second → IsExplained first list → IsExplained second list
+
+-- ---- by any receiver
+
+-- the values of subframe 5 of frame j, where a receiver reads any, are the same in two recordings
+abbrev pub AreSameSubframes : Result Subframes Sib1Reason → List Sample → List Sample → Place → ℕ → Type 0
+AreSameSubframes (Ok values) first second place j =
+    (duration : Duration) (resource : Resource) →
+    values first place j duration resource ≡ values second place j duration resource
+AreSameSubframes (Err reason) first second place j = Unit {0}
+
+-- of recordings that agree in the first 326,400 samples a receiver has the same values of frames 0 to 15 of a cell
+-- that starts within the first frame
+pub record LooksAtFirstFrames (receiver : Receiver) : Type 0 where
+  pub broadcast : (first second : List Sample) (place : Place) (j : ℕ) →
+      AgreeBefore deciding_length first second → place.start < frame_length → j ≤ 15 →
+      receiver.broadcast first place j ≡ receiver.broadcast second place j
+  pub subframes : (first second : List Sample) (place : Place) (j : ℕ) →
+      AgreeBefore deciding_length first second → place.start < frame_length → j ≤ 15 →
+      AreSameSubframes receiver.subframe first second place j
+
+-- two recordings of at least 326,400 samples that agree in these have one list by a receiver
+abbrev pub AreDecidedFor : Receiver → Type 0
+AreDecidedFor receiver =
+    (first second : List Sample) (list : List Entry) → deciding_length ≤ length first →
+    deciding_length ≤ length second →
+    AgreeBefore deciding_length first second → IsListFor receiver first list → IsListFor receiver second list
+
+-- a law: so it is by each receiver that looks at the first frames alone
+abbrev pub FirstFramesDecideAll : Type 0
+FirstFramesDecideAll = (receiver : Receiver) → LooksAtFirstFrames receiver → AreDecidedFor receiver

@@ -2,7 +2,7 @@
 
 ghost use Rattle.explain.specs.Laws.{IsOneList, IsSound, IsComplete, IsApart, IsNeverLong};
 ghost use Rattle.explain.specs.Laws.{OneFrameTells, OneFrameAlone, OneFrameIsListed};
-ghost use Rattle.explain.specs.Deciding.{FirstFramesDecide};
+ghost use Rattle.explain.specs.Deciding.{FirstFramesDecide, FirstFramesDecideAll};
 ghost use Rattle.explain.specs.Readings.{IsOneReading};
 
 /// The list of a recording by any receiver in plain words: there is only one; each of its entries is one of some
@@ -18,9 +18,11 @@ pub fn the_list_in_plain_words()
 {}
 
 /// Two recordings of at least 326,400 samples, 17 frames, that agree in these have the same list: a longer
-/// recording may be cut there, and nothing of its list is lost. (own)
+/// recording may be cut there, and nothing of its list is lost. So it is by any receiver that looks at the first 16
+/// frames of a cell alone, as each of this program does. (own)
 pub fn the_first_frames_decide()
-    ensures { FirstFramesDecide }
+    ensures one_port { FirstFramesDecide }
+    ensures all { FirstFramesDecideAll }
 {}
 
 /// What one frame of a hit tells alone, by its own values, is still an entry of the hit, though frames are

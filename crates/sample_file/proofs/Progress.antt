@@ -1,5 +1,5 @@
 -- Samples of bytes that come in pieces: what is known after each read.
-use Rattle.std.proofs.Common.{◌≡◌, ◌≢◌, ℕ, ◌+◌, ◌-◌, ◌*◌, ◌%◌, ◌<◌, ◌≤◌, List, [], ◌∷◌, ◌++◌, length, take, drop, length-take-le, length-drop, refl, ap, sym, subst, ◌∙◌, arith, append_assoc, append-nil, length-append}
+use Rattle.std.proofs.Common.{◌≡◌, ◌≢◌, ℕ, ◌+◌, ◌-◌, ◌*◌, ◌/◌, ◌%◌, ◌<◌, ◌≤◌, List, [], ◌∷◌, ◌++◌, length, take, drop, length-take-le, length-drop, refl, ap, sym, subst, ◌∙◌, arith, append_assoc, append-nil, length-append}
 use Rattle.std.specs.List.{copy_within}
 use Rattle.std.proofs.Math.Seq.{paste, take-add}
 use Rattle.std.proofs.lemmas.List.Edits.{take-paste}
@@ -93,15 +93,14 @@ front_taken form w n buffer before now inside whole few samples =
       few = subst (λ m. m < width form) (sym (ap length moved ∙ length-take-le n (drop w buffer) left)) few;
     }
 
-pub end_taken : (form : SampleForm) (e w : ℕ) (buffer : List ℕ) (before now : List Sample) → e ≤ length buffer → w ≡ e - e % width form →
-    now ≡ before ++ samples_in form (take w buffer) →
-    TakesSamples form (take e buffer) before now (take (e - w) (copy_within buffer w e 0))
-end_taken form e w buffer before now inside cut samples =
+pub end_taken : (form : SampleForm) (e w : ℕ) (buffer : List ℕ) (before : List Sample) → e ≤ length buffer → w ≡ width form * (e / width form) →
+    TakesSamples form (take e buffer) before (before ++ samples_in form (take w buffer)) (take (e - w) (copy_within buffer w e 0))
+end_taken form e w buffer before inside cut =
     let (rest, whole, few) = parts form e w cut in
-    subst (λ e'. TakesSamples form (take e' buffer) before now (take (e - w) (copy_within buffer w e' 0))) rest
-    (front_taken form w (e - w) buffer before now (omega (arith, rest, inside)) whole few samples)
+    subst (λ e'. TakesSamples form (take e' buffer) before (before ++ samples_in form (take w buffer)) (take (e - w) (copy_within buffer w e' 0))) rest
+    (front_taken form w (e - w) buffer before (before ++ samples_in form (take w buffer)) (omega (arith, rest, inside)) whole few refl)
   where
-    parts : (form : SampleForm) (e w : ℕ) → w ≡ e - e % width form → (w + (e - w) ≡ e) × (w % width form ≡ 0) × (e - w < width form)
+    parts : (form : SampleForm) (e w : ℕ) → w ≡ width form * (e / width form) → (w + (e - w) ≡ e) × (w % width form ≡ 0) × (e - w < width form)
     parts Ci16 e w cut = (omega (arith, cut), omega (arith, cut), omega (arith, cut))
     parts Cu8 e w cut = (omega (arith, cut), omega (arith, cut), omega (arith, cut))
 

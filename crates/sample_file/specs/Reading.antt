@@ -1,5 +1,5 @@
 -- What a source gave when a recording was read from it (own): what it told before, and what it tells now.
-use Rattle.std.specs.Prelude.{◌≡◌, ◌≢◌, ℕ, ◌*◌, ◌%◌, ◌<◌, ◌≤◌, List, length}
+use Rattle.std.specs.Prelude.{◌≡◌, ◌≢◌, ℕ, ◌*◌, ◌%◌, ◌<◌, ◌≤◌, List, length, take}
 use Rattle.cs_num.specs.declared.Sample.{Sample}
 use Rattle.lte_types.specs.Numerology.{least_samples, most_samples}
 use Rattle.cs_outside.specs.Outside.{SourceTold}
@@ -22,6 +22,12 @@ pub record HasReadRecording (form : SampleForm) (recording : List Sample) (befor
   pub whole_samples : length input % width form ≡ 0
   pub enough : least_bytes form ≤ length input
   pub samples : recording ≡ samples_in form input
+
+-- a recording was read, of which these are the first samples: as many as the count says, or all of fewer
+pub record HasReadFront (form : SampleForm) (most : ℕ) (front : List Sample) (before now : SourceTold) : Type 0 where
+  pub recording : List Sample
+  pub read : HasReadRecording form recording before now
+  pub front_is : front ≡ take most recording
 
 -- the whole input was read, and it is not of whole samples
 pub record HasReadRagged (form : SampleForm) (before now : SourceTold) : Type 0 where

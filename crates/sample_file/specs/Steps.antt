@@ -1,5 +1,5 @@
 -- The code's steps: bytes that come in pieces, of which a sample may be begun and not whole. (own)
-use Rattle.std.specs.Prelude.{◌≡◌, ℕ, ◌%◌, ◌<◌, ◌++◌, List, length}
+use Rattle.std.specs.Prelude.{◌≡◌, ℕ, ◌%◌, ◌<◌, ◌++◌, List, length, take}
 use Rattle.cs_num.specs.declared.Sample.{Sample}
 use Rattle.cs_outside.specs.Outside.{SourceTold}
 use Rattle.cs_outside.specs.Streams.{HasRead}
@@ -20,3 +20,24 @@ pub record HasReadSamples (form : SampleForm) (samples : List Sample) (begun : L
   pub of_whole : length whole % width form ≡ 0
   pub samples_are : samples ≡ samples_in form whole
   pub read : HasRead (whole ++ begun) before now
+
+-- ---- the first samples are kept, and the rest counted
+
+-- of these samples the first are kept, as many as `most` says, and all are counted
+pub record AreKept (most : ℕ) (samples kept : List Sample) (count : ℕ) : Type 0 where
+  pub kept_are : kept ≡ take most samples
+  pub count_is : count ≡ length samples
+
+-- after these samples those of the bytes were taken: of all the first are kept, and all are counted
+pub record TakesFront (form : SampleForm) (most : ℕ) (bytes : List ℕ) (before kept : List Sample) (count : ℕ)
+    (begun : List ℕ) : Type 0 where
+  pub samples : List Sample
+  pub takes : TakesSamples form bytes before samples begun
+  pub are_kept : AreKept most samples kept count
+
+-- what was read are the bytes of samples of which the first are kept, and then those of one that is begun
+pub record HasReadFrontOf (form : SampleForm) (most : ℕ) (kept : List Sample) (count : ℕ) (begun : List ℕ)
+    (before now : SourceTold) : Type 0 where
+  pub samples : List Sample
+  pub read : HasReadSamples form samples begun before now
+  pub are_kept : AreKept most samples kept count

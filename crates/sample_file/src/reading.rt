@@ -1,12 +1,14 @@
 //! A recording read from a source of bytes.
 
-ghost use Rattle.std.specs.Prelude.{◌≡◌, ◌+◌, ◌*◌, ◌^◌, ◌<◌, ◌≤◌, ◌++◌, length, take, IfOk, IsErr, IsErrOf};
+ghost use Rattle.std.specs.Prelude.{◌≡◌, ◌+◌, ◌*◌, ◌^◌, ◌<◌, ◌≤◌, length, take, List, IfOk, IsErr, IsErrOf};
+ghost use Rattle.cs_num.specs.declared.Sample.{Sample as SampleValue};
 ghost use Rattle.lte_types.specs.Numerology.{least_samples, most_samples};
 ghost use Rattle.cs_outside.specs.Outside.{SourceTold};
 ghost use Rattle.cs_outside.specs.Streams.{HasReadPast, HasReadFault};
-ghost use Rattle.sample_file.specs.Reading.{HasReadRecording, HasReadRagged, HasReadTooShort, most_bytes};
+ghost use Rattle.sample_file.specs.Reading.{HasReadRecording, HasReadFront, HasReadRagged, HasReadTooShort};
+ghost use Rattle.sample_file.specs.Reading.{most_bytes};
 ghost use Rattle.sample_file.specs.Recording.{IsRecording, width as width_of};
-ghost use Rattle.sample_file.specs.Steps.{TakesSamples};
+ghost use Rattle.sample_file.specs.Steps.{AreKept, TakesFront};
 ghost use Rattle.sample_file.specs.declared.form.SampleForm.TheVariants.{Ci16, Cu8};
 ghost use Rattle.sample_file.specs.declared.reading.FileError.TheVariants.{OutOfMemory};
 
@@ -62,6 +64,13 @@ impl From<AllocError> for FileError {
 // The most bytes that one call of a source is asked for.
 const PIECE: usize = 16_384;
 
+// The first samples of those that came, and the number of all.
+#[derive(Drop)]
+struct Front {
+    samples: Vec<Sample>,
+    count: usize,
+}
+
 /// Reads a recording of 57,600 to 1,920,000 samples from a source, to its end, each sample as the form
 /// says. The bytes may come in pieces of any size. An input that ends within a sample is ragged, however
 /// short it is. Of one that is too long one byte more than 1,920,000 samples have is read, and nothing after it.
@@ -84,20 +93,48 @@ pub fn read_as<S: Source>(
         HasReadFault (most_bytes form) (S.told source.old) (S.told source.new) }
     ensures never_falls { (S.told source.old).faults ≤ (S.told source.new).faults }
 {
+    read_front(alloc, source, form, MOST_SAMPLES)
+}
+
+/// Reads a recording as `read_as` does, to its end, and keeps its first samples alone, as many as `most` says, at least
+/// 57,600; the others are counted. So it takes no more memory than these have. (own)
+pub fn read_front<S: Source>(
+    alloc: Global,
+    source: &mut S,
+    form: SampleForm,
+    most: usize,
+) -> Result<Recording, FileError>
+    requires some { least_samples ≤ most }
+    requires few { most ≤ most_samples }
+    ensures ok { IfOk result (λ front. HasReadFront form most front (S.told source.old) (S.told source.new)) }
+    ensures valid { IfOk result IsRecording }
+    ensures ragged { IsErrOf result FileError.Ragged →
+        HasReadRagged form (S.told source.old) (S.told source.new) }
+    ensures too_short { IsErrOf result FileError.TooShort →
+        HasReadTooShort form (S.told source.old) (S.told source.new) }
+    ensures too_long { IsErrOf result FileError.TooLong →
+        HasReadPast (most_bytes form) (S.told source.old) (S.told source.new) }
+    ensures fault { IsErrOf result FileError.ReadFault →
+        HasReadFault (most_bytes form) (S.told source.old) (S.told source.new) }
+    ensures never_falls { (S.told source.old).faults ≤ (S.told source.new).faults }
+{
     let limit = bytes_read(form, MOST_SAMPLES, 0);
-    let mut samples = Vec::new(alloc);
+    let mut front = Front {
+        samples: Vec::new(alloc),
+        count: 0,
+    };
     let mut buffer = [0u8; PIECE];
     let mut begun = 0;
     loop {
-        let read = bytes_read(form, samples.len(), begun);
+        let read = bytes_read(form, front.count, begun);
         let end = PIECE.min(begun + (limit + 1 - read));
         match read_at(source, &mut buffer, begun, end) {
             Err(Failed) => return Err(FileError::ReadFault),
-            Ok(0) if begun == 0 => return recording_of(samples),
+            Ok(0) if begun == 0 => return recording_of(front.samples),
             Ok(0) => return Err(FileError::Ragged),
-            Ok(n) => begun = take_samples(form, &mut buffer, begun + n, &mut samples)?,
+            Ok(n) => begun = take_front(form, most, &mut buffer, begun + n, &mut front)?,
         }
-        if bytes_read(form, samples.len(), begun) > limit {
+        if bytes_read(form, front.count, begun) > limit {
             return Err(FileError::TooLong);
         }
     }
@@ -167,24 +204,34 @@ fn recording_of(samples: Vec<Sample>) -> Result<Recording, FileError>
     }
 }
 
-// Takes the samples of the first `end` bytes of the buffer, and moves the bytes of one that is begun to its front.
-// Gives their number.
-fn take_samples(
+// Takes the samples of the first `end` bytes of the buffer: the first of all are kept, as many as `most` says. Moves
+// the bytes of one that is begun to the front of the buffer, and gives their number.
+fn take_front(
     form: SampleForm,
+    most: usize,
     buffer: &mut [u8],
     end: usize,
-    samples: &mut Vec<Sample>,
+    front: &mut Front,
 ) -> Result<usize, AllocError>
-    requires { end ≤ length buffer.old }
-    ensures takes { IfOk result (λ begun.
-        TakesSamples form (take end buffer.old) samples.old.items samples.new.items (take begun buffer.new)) }
+    requires end { end ≤ length buffer.old }
+    requires most { most ≤ most_samples }
+    requires count { front.old.count ≤ most_samples }
+    requires piece { end ≤ 16384 }
+    requires kept { length front.old.samples.items ≤ most }
+    ensures takes { IfOk result (λ begun. (before : List SampleValue) →
+        AreKept most before front.old.samples.items front.old.count →
+        TakesFront form most (take end buffer.old) before front.new.samples.items front.new.count
+        (take begun buffer.new)) }
     ensures few { IfOk result (λ begun. begun < width_of form) }
     ensures count { IfOk result (λ begun.
-        width_of form * length samples.new.items + begun ≡ width_of form * length samples.old.items + end) }
+        width_of form * front.new.count + begun ≡ width_of form * front.old.count + end) }
     ensures same_length { length buffer.new ≡ length buffer.old }
 {
-    let whole = end - end % form.width();
-    form.append_samples(&buffer[..whole], samples)?;
-    buffer.copy_within(whole..end, 0);
-    Ok(end - whole)
+    let whole = end / form.width();
+    let kept = whole.min(most - front.samples.len());
+    form.append_samples(&buffer[..bytes_read(form, kept, 0)], &mut front.samples)?;
+    front.count += whole;
+    let taken = bytes_read(form, whole, 0);
+    buffer.copy_within(taken..end, 0);
+    Ok(end - taken)
 }
