@@ -30,7 +30,7 @@ pub use grant::{grant_of, one_grant};
 pub use laws::{
     one_frame_is_enough, one_reading, the_first_frames_decide, the_list_in_plain_words,
 };
-pub use reading::explain_by;
+pub use reading::{explain_by, explain_hits};
 pub use readings::Reading;
 pub use slots::{received_in, slot_of};
 pub use system::{Informed, system_in};

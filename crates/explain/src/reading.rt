@@ -5,6 +5,7 @@ ghost use Rattle.std.specs.List.{AllZip};
 ghost use Rattle.lte_types.specs.declared.hit.Hit.{Hit as HitValue};
 ghost use Rattle.lte_types.specs.Frames.{AreFrames, frames_from};
 ghost use Rattle.lte_types.specs.Ranges.{IsValid};
+ghost use Rattle.pss_search.specs.Hits.{hits_of};
 ghost use Rattle.pbch.specs.Master.{master_at};
 ghost use Rattle.explain.specs.Receiver.{HasRoom, place_by, sums_by};
 ghost use Rattle.explain.specs.System.{IsSystemFor};
@@ -53,13 +54,50 @@ pub fn explain_by<F: FrameReader>(
     ensures valid { All (λ entry. IfOk entry.sib1 IsValid) list.new }
 {
     hits(recording, &mut work.hits);
+    read_hits(
+        reader,
+        recording,
+        work.hits.slice(),
+        &mut work.notes,
+        list,
+    );
+}
+
+/// The same list where the hits of the recording are at hand, as for lists by several receivers. (own)
+pub fn explain_hits<F: FrameReader>(
+    reader: &F,
+    recording: &Recording,
+    hits: &[Hit],
+    work: &mut Workspace,
+    list: &mut EntryList,
+)
+    requires { hits.now ≡ hits_of recording.now }
+    ensures list { IsListFor F.receiver recording.now list.new }
+    ensures readings { AllZip (IsReadingFor F.receiver recording.now) list.new work.new }
+    ensures valid { All (λ entry. IfOk entry.sib1 IsValid) list.new }
+{
+    read_hits(reader, recording, hits, &mut work.notes, list);
+}
+
+// Makes the list by the hits of a recording.
+fn read_hits<F: FrameReader>(
+    reader: &F,
+    recording: &Recording,
+    hits: &[Hit],
+    notes: &mut Notes,
+    list: &mut EntryList,
+)
+    requires { hits.now ≡ hits_of recording.now }
+    ensures list { IsListFor F.receiver recording.now list.new }
+    ensures readings { AllZip (IsReadingFor F.receiver recording.now) list.new notes.new.readings }
+    ensures valid { All (λ entry. IfOk entry.sib1 IsValid) list.new }
+{
     hits_are_right();
-    let hits = work.hits.slice();
     let first = early_hits(hits, reader.carrier());
     list.clear();
-    work.notes.places.clear();
-    work.notes.readings.clear();
-    add_hits(reader, recording, &hits[first..], &mut work.notes, list);
+    notes.places.clear();
+    notes.readings.clear();
+    add_hits(reader, recording, &hits[first..], notes, list);
 }
 
 // Adds the entries of the hits that are taken to the empty list.
