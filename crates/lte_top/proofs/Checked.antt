@@ -13,7 +13,7 @@ use Rattle.cert_stream.proofs.Judged.{all_whole, one_answers}
 use Rattle.cert_stream.proofs.Rest.{none_broken}
 use Rattle.lte_types.specs.declared.carrier.Carrier.{Carrier}
 use Rattle.report.specs.Answers.{check_text}
-use Rattle.lte_top.specs.declared.form.Form.TheVariants.{Check}
+use Rattle.lte_words.specs.declared.form.Form.TheVariants.{Check}
 use Rattle.lte_top.specs.declared.status.Status.{Status}
 use Rattle.lte_top.specs.declared.status.Status.TheVariants.{Done, Usage, Ragged, TooShort, TooLong, ReadFault, WriteFault, OutOfMemory, BadCell, BadCertificate}
 use Rattle.lte_top.specs.Certificates.{IsChecked, IsCertified}

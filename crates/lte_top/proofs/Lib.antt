@@ -2,7 +2,6 @@ pub mod Lists
 pub mod Checked
 pub mod Transmitted
 pub mod Ending
-pub mod OneForm
 pub mod Held
 pub mod Reported
 pub mod SmallValues

@@ -15,10 +15,10 @@ use Rattle.four_ports.specs.Entries.{four_ports_receiver}
 use Rattle.rounds.specs.AsJson.{IsCancelJson}
 use Rattle.rounds.proofs.Once.{one_cancel_text, one_cancel_json}
 use Rattle.clean_air.specs.Clean.{IsListOfCells}
-use Rattle.lte_top.specs.declared.form.Output.{Output}
-use Rattle.lte_top.specs.declared.form.Output.TheVariants.{Text, Json}
-use Rattle.lte_top.specs.declared.form.Rule.{Rule}
-use Rattle.lte_top.specs.declared.form.Rule.TheVariants.{Of, Cancel, All}
+use Rattle.lte_words.specs.declared.form.Output.{Output}
+use Rattle.lte_words.specs.declared.form.Output.TheVariants.{Text, Json}
+use Rattle.lte_words.specs.declared.form.Rule.{Rule}
+use Rattle.lte_words.specs.declared.form.Rule.TheVariants.{Of, Cancel, All}
 use Rattle.lte_top.specs.Line.{as_line, IsLine}
 use Rattle.lte_top.specs.Searching.{IsListOfTwo, IsListOfLong, IsListOfFour, IsListOf, list_text, lists_text, IsListText, IsTextOfAll, IsCancelled, IsSearch}
 

@@ -13,12 +13,12 @@ use Rattle.turning.specs.AsJson.{telling_json, IsTellJson}
 use Rattle.turning.specs.Candidates.{taken_of}
 use Rattle.turning.specs.Texts.{told_text}
 use Rattle.turning.proofs.OneTold.{is_one_told, is_one_applied}
-use Rattle.lte_top.specs.declared.form.Report.{Report}
-use Rattle.lte_top.specs.declared.form.Report.TheVariants.{Hits, Ids, Search, Evidence, Tell}
-use Rattle.lte_top.specs.declared.form.Output.{Output}
-use Rattle.lte_top.specs.declared.form.Output.TheVariants.{Text, Json}
-use Rattle.lte_top.specs.declared.form.Turn.{Turn}
-use Rattle.lte_top.specs.declared.form.Turn.TheVariants.{AsTold, Steps}
+use Rattle.lte_words.specs.declared.form.Report.{Report}
+use Rattle.lte_words.specs.declared.form.Report.TheVariants.{Hits, Ids, Search, Evidence, Tell}
+use Rattle.lte_words.specs.declared.form.Output.{Output}
+use Rattle.lte_words.specs.declared.form.Output.TheVariants.{Text, Json}
+use Rattle.lte_words.specs.declared.form.Turn.{Turn}
+use Rattle.lte_words.specs.declared.form.Turn.TheVariants.{AsTold, Steps}
 use Rattle.lte_top.specs.Reports.{IsEvidence, IsEvidenceJson, IsEvidenceText, IsTelling, IsHits, IsIds, IsReport}
 use Rattle.lte_top.specs.Searching.{receiver_of}
 use Rattle.lte_top.specs.Tuning.{IsTurnedAsBytes}

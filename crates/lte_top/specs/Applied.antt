@@ -6,10 +6,10 @@ use Rattle.sample_file.specs.Recording.{samples_of, samples_in, IsRecording}
 use Rattle.turning.specs.declared.telling.Told.{Told}
 use Rattle.turning.specs.Telling.{HasCells}
 use Rattle.turning.specs.Texts.{told_text}
-use Rattle.lte_top.specs.declared.form.Form.TheVariants.{Report as Reports, Apply}
-use Rattle.lte_top.specs.declared.form.Report.TheVariants.{Tell}
-use Rattle.lte_top.specs.declared.form.Output.TheVariants.{Text}
-use Rattle.lte_top.specs.declared.form.Turn.TheVariants.{AsTold}
+use Rattle.lte_words.specs.declared.form.Form.TheVariants.{Report as Reports, Apply}
+use Rattle.lte_words.specs.declared.form.Report.TheVariants.{Tell}
+use Rattle.lte_words.specs.declared.form.Output.TheVariants.{Text}
+use Rattle.lte_words.specs.declared.form.Turn.TheVariants.{AsTold}
 use Rattle.lte_top.specs.Forms.{IsOutput}
 
 -- the samples are a recording, which has as many cells as the text tells

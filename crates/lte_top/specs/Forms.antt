@@ -1,28 +1,12 @@
--- The forms of words that are run: what each reads, which inputs it refuses, and what it writes. (own)
-use Rattle.std.specs.Prelude.{◌≡◌, ◌⊎◌, ℕ, ◌%◌, ◌^◌, ◌<◌, ◌≤◌, ℤ, pos, negsuc, ◌≤ℤ◌, Option, Some, None, List, [], ◌∷◌}
-use Rattle.std.specs.Prelude.{◌++◌, length, codes, nat_lt, not, ◌==◌, if◌then◌else◌}
-use Rattle.std.specs.Fmt.{decimal, signed_decimal}
+-- What a form of words reads, which inputs it refuses, and what it writes. (own)
+use Rattle.std.specs.Prelude.{◌≡◌, ℕ, ◌%◌, ◌<◌, ◌≤◌, Option, Some, None, List, length, nat_lt, not, ◌==◌, if◌then◌else◌}
 use Rattle.sample_file.specs.declared.form.SampleForm.{SampleForm}
-use Rattle.sample_file.specs.declared.form.SampleForm.TheVariants.{Ci16, Cu8}
 use Rattle.sample_file.specs.Recording.{width, samples_in}
 use Rattle.sample_file.specs.Reading.{least_bytes, most_bytes}
-use Rattle.lte_top.specs.declared.form.Program.{Program}
-use Rattle.lte_top.specs.declared.form.Program.TheVariants.{Receiver, Tuner}
-use Rattle.lte_top.specs.declared.form.Form.{Form}
-use Rattle.lte_top.specs.declared.form.Form.TheVariants.{Report as Reports, Certify, Check, Transmit, Make}
-use Rattle.lte_top.specs.declared.form.Form.TheVariants.{Apply, Print}
-use Rattle.lte_top.specs.declared.form.Report.{Report}
-use Rattle.lte_top.specs.declared.form.Report.TheVariants.{Hits, Ids, Search, Evidence, Tell}
-use Rattle.lte_top.specs.declared.form.Rule.{Rule}
-use Rattle.lte_top.specs.declared.form.Rule.TheVariants.{Of, Cancel, All}
-use Rattle.lte_top.specs.declared.form.Output.{Output}
-use Rattle.lte_top.specs.declared.form.Output.TheVariants.{Text, Json}
-use Rattle.lte_top.specs.declared.form.Turn.{Turn}
-use Rattle.lte_top.specs.declared.form.Turn.TheVariants.{AsTold, Steps}
-use Rattle.lte_top.specs.declared.form.Page.{Page}
-use Rattle.lte_top.specs.declared.form.Page.TheVariants.{Help, Version}
 use Rattle.lte_types.specs.declared.carrier.Carrier.{Carrier}
-use Rattle.lte_types.specs.declared.carrier.Carrier.TheVariants.{OnePort, TwoPorts, LongPrefix, FourPorts}
+use Rattle.lte_words.specs.declared.form.Form.{Form}
+use Rattle.lte_words.specs.declared.form.Form.TheVariants.{Report as Reports, Certify, Check, Transmit, Make}
+use Rattle.lte_words.specs.declared.form.Form.TheVariants.{Apply, Print}
 use Rattle.lte_top.specs.declared.status.Status.{Status}
 use Rattle.lte_top.specs.declared.status.Status.TheVariants.{Ragged, TooShort, BadCell, BadCertificate}
 use Rattle.cell_json.specs.Reading.{refusal_by}
@@ -33,106 +17,6 @@ use Rattle.lte_top.specs.Reports.{IsReport}
 use Rattle.lte_top.specs.Making.{IsMadeText}
 use Rattle.lte_top.specs.Tuning.{IsTurnedAsBytes}
 use Rattle.lte_top.specs.Pages.{page_text}
-
--- ---- the words of each part, as bytes, in the order in which they stand
-
--- a form of samples: that of 16 bits has none
-abbrev pub samples_words : SampleForm → List (List ℕ)
-samples_words Ci16 = []
-samples_words Cu8 = codes "--format" ∷ codes "cu8" ∷ []
-
--- an output: text has none
-abbrev pub output_words : Output → List (List ℕ)
-output_words Text = []
-output_words Json = codes "--json" ∷ []
-
--- how a recording is told, and read
-abbrev pub told_words : Output → SampleForm → List (List ℕ)
-told_words output form = output_words output ++ samples_words form
-
--- a carrier: that of one antenna port has none
-abbrev pub carrier_words : Carrier → List (List ℕ)
-carrier_words OnePort = []
-carrier_words TwoPorts = codes "--ports" ∷ codes "2" ∷ []
-carrier_words LongPrefix = codes "--prefix" ∷ codes "long" ∷ []
-carrier_words FourPorts = codes "--ports" ∷ codes "4" ∷ []
-
--- a load by its number: none has no words
-abbrev pub load_words : Option ℕ → List (List ℕ)
-load_words None = []
-load_words (Some n) = codes "--load" ∷ decimal n ∷ []
-
--- the rule of a list
-abbrev pub rule_words : Rule → List (List ℕ)
-rule_words (Of carrier) = carrier_words carrier
-rule_words Cancel = codes "--cancel" ∷ []
-rule_words All = codes "--all" ∷ []
-
--- a report: its command, and the rule or the carrier of its list
-abbrev pub report_words : Report → List (List ℕ)
-report_words Hits = codes "hits" ∷ []
-report_words Ids = codes "ids" ∷ []
-report_words (Search rule) = codes "search" ∷ rule_words rule
-report_words (Evidence carrier) = codes "evidence" ∷ carrier_words carrier
-report_words Tell = codes "tell" ∷ []
-
--- a turn: one that is told has none
-abbrev pub turn_words : Turn → List (List ℕ)
-turn_words AsTold = []
-turn_words (Steps m) = signed_decimal m ∷ []
-
--- a page has a word, and others for the same
-abbrev pub ArePageWords : Page → List (List ℕ) → Type 0
-ArePageWords Help words =
-    (words ≡ codes "help" ∷ []) ⊎ (words ≡ codes "--help" ∷ []) ⊎ (words ≡ codes "-h" ∷ [])
-ArePageWords Version words = (words ≡ codes "version" ∷ []) ⊎ (words ≡ codes "--version" ∷ [])
-
--- the words are those of a form
-abbrev pub AreWordsOf : Form → List (List ℕ) → Type 0
-AreWordsOf (Reports report output form) words = words ≡ report_words report ++ told_words output form
-AreWordsOf (Certify carrier form) words = words ≡ codes "certify" ∷ carrier_words carrier ++ samples_words form
-AreWordsOf Check words = words ≡ codes "check" ∷ []
-AreWordsOf (Transmit carrier load) words = words ≡ codes "transmit" ∷ carrier_words carrier ++ load_words load
-AreWordsOf (Make carrier n) words = words ≡ codes "make" ∷ decimal n ∷ carrier_words carrier
-AreWordsOf (Apply turn form) words = words ≡ codes "apply" ∷ turn_words turn ++ samples_words form
-AreWordsOf (Print program page) words = ArePageWords page words
-
--- a turn that can be asked for
-abbrev pub IsTurn : ℤ → Type 0
-IsTurn m = (negsuc 2047 ≤ℤ m) × (m ≤ℤ pos 2047)
-
-abbrev pub IsAskedTurn : Turn → Type 0
-IsAskedTurn AsTold = Unit {0}
-IsAskedTurn (Steps m) = IsTurn m
-
--- a load that can be asked for
-abbrev pub IsAskedLoad : Option ℕ → Type 0
-IsAskedLoad None = Unit {0}
-IsAskedLoad (Some n) = n < 2 ^ 32
-
--- the number of a form is one of 32 bits, or a turn
-abbrev pub IsInRange : Form → Type 0
-IsInRange (Transmit carrier load) = IsAskedLoad load
-IsInRange (Make carrier n) = n < 2 ^ 32
-IsInRange (Apply turn form) = IsAskedTurn turn
-IsInRange form = Unit {0}
-
--- the program of a form
-abbrev pub program_of : Form → Program
-program_of (Reports Tell output form) = Tuner
-program_of (Apply turn form) = Tuner
-program_of (Print program page) = program
-program_of form = Receiver
-
--- the words are those of this form of the program
-pub record IsWordsOf (program : Program) (words : List (List ℕ)) (form : Form) : Type 0 where
-  pub known : program_of form ≡ program
-  pub words_are : AreWordsOf form words
-  pub in_range : IsInRange form
-
--- the words are those of no form of the program
-abbrev pub IsNoForm : Program → List (List ℕ) → Type 0
-IsNoForm program words = (form : Form) → IsWordsOf program words form → ⊥
 
 -- ---- what is read
 

@@ -20,10 +20,10 @@ use Rattle.report.specs.Evidence.{evidence_text}
 use Rattle.report.specs.Hits.{hits_text, ids_text}
 use Rattle.report.specs.EvidenceJson.{Shown, evidence_json}
 use Rattle.report.specs.HitsJson.{hits_json, ids_json}
-use Rattle.lte_top.specs.declared.form.Report.{Report}
-use Rattle.lte_top.specs.declared.form.Report.TheVariants.{Hits, Ids, Search, Evidence, Tell}
-use Rattle.lte_top.specs.declared.form.Output.{Output}
-use Rattle.lte_top.specs.declared.form.Output.TheVariants.{Text, Json}
+use Rattle.lte_words.specs.declared.form.Report.{Report}
+use Rattle.lte_words.specs.declared.form.Report.TheVariants.{Hits, Ids, Search, Evidence, Tell}
+use Rattle.lte_words.specs.declared.form.Output.{Output}
+use Rattle.lte_words.specs.declared.form.Output.TheVariants.{Text, Json}
 use Rattle.pss_search.specs.Correlation.{wave_power}
 use Rattle.turning.specs.AsJson.{IsTellJson}
 use Rattle.turning.specs.Texts.{IsTellText}

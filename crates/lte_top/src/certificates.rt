@@ -8,7 +8,7 @@ ghost use Rattle.lte_top.specs.Forms.{certificates};
 ghost use Rattle.lte_top.specs.Run.{Cause, HasOutput, IsDone, Ends};
 ghost use Rattle.explain.specs.Receiver.{Receiver};
 ghost use Rattle.lte_top.specs.Searching.{receiver_of, IsListOf};
-ghost use Rattle.lte_top.specs.declared.form.Form.TheVariants.{Certify, Check};
+ghost use Rattle.lte_words.specs.declared.form.Form.TheVariants.{Certify, Check};
 
 use crate::reporting::recording_of;
 use crate::searching::{read_list, room_for_list};

@@ -2,12 +2,10 @@
 #![tactic(auto)]
 
 mod certificates;
-mod form;
 mod laws;
 mod making;
 mod measuring;
 mod pages;
-mod parts;
 mod reporting;
 mod searching;
 mod status;
@@ -15,13 +13,11 @@ mod top;
 mod transmitting;
 mod tuning;
 mod version;
-mod words;
 
-pub use form::{Form, Output, Page, Program, Report, Rule, Turn};
 pub use laws::{
     an_input_has_one_answer, what_is_applied_is_told, what_is_made_is_held, what_is_sent_is_found,
 };
+pub use lte_words::{Form, Output, Page, Program, Report, Rule, Turn, Words};
 pub use status::Status;
 pub use top::{run, run_in_memory, run_program};
 pub use version::{DEFINITION, VERSION};
-pub use words::Words;

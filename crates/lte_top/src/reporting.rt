@@ -10,15 +10,15 @@ ghost use Rattle.lte_top.specs.Line.{as_line};
 ghost use Rattle.lte_top.specs.Reports.{identified as identified_in, identified_by, IsEvidence, IsEvidenceJson};
 ghost use Rattle.lte_top.specs.Reports.{IsEvidenceText, IsHits, IsIds, IsReport, IsTelling};
 ghost use Rattle.lte_top.specs.Run.{Cause, HasOutput};
-ghost use Rattle.lte_top.specs.declared.form.Form.TheVariants.{Report as Reports};
+ghost use Rattle.lte_words.specs.declared.form.Form.TheVariants.{Report as Reports};
 
-use crate::form::{Output, Report};
 use crate::measuring::{measured_hits, measured_ids};
 use crate::searching::{read_list, room_for_list, search_text};
 use crate::status::Status;
 use cs_outside::Source;
 use evidence::{evidence_of_list, support_of_list};
 use lte_types::{Carrier, Half, Hit};
+use lte_words::{Output, Report};
 use pss_search::{HitList, hits};
 use report::{
     IdentifiedHit, json_of_evidence, json_of_hits, json_of_ids, text_of_evidence, text_of_hits,

@@ -7,10 +7,10 @@ ghost use Rattle.explain.specs.Readings.{IsReadingFor};
 ghost use Rattle.lte_top.specs.Searching.{receiver_of, IsListOf, IsListText, IsTextOfAll, IsCancelled, IsSearch};
 ghost use Rattle.lte_top.specs.Searching.{list_text as text_of, lists_text as texts_of};
 
-use crate::form::{Output, Rule};
 use crate::reporting::line_of;
 use explain::{EntryList, Workspace};
 use lte_types::{Carrier, Entry};
+use lte_words::{Output, Rule};
 use report::{json, json_of_all, text, text_of_all};
 use rounds::{cancel_json, cancel_text};
 use sample_file::Recording;

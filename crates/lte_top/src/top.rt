@@ -6,19 +6,18 @@ ghost use Rattle.cs_outside.specs.Outside.{SourceTold, SinkTold};
 ghost use Rattle.cs_outside.specs.Streams.{HasWritten, HasWrittenFront, IsShortOf};
 ghost use Rattle.lte_top.specs.Memory.{in_memory, taken_by};
 ghost use Rattle.lte_top.specs.Run.{IsDone, Ends, Outcome, Runs};
-ghost use Rattle.lte_top.specs.declared.form.Program.TheVariants.{Receiver};
+ghost use Rattle.lte_words.specs.declared.form.Program.TheVariants.{Receiver};
 ghost use Rattle.lte_top.specs.declared.status.Status.TheVariants.{WriteFault};
 
 use crate::certificates::{answers_text, certify_recording};
-use crate::form::{Form, Program};
 use crate::making::made_text;
 use crate::pages::page_text;
 use crate::reporting::report_text;
 use crate::status::Status;
 use crate::transmitting::transmit;
 use crate::tuning::apply_turn;
-use crate::words::Words;
 use cs_outside::{Failed, MemSink, MemSource, Sink, Source, write_whole};
+use lte_words::{Form, Program, Words};
 use std::alloc::Global;
 
 /// Runs the words' form of a program: reads its input from the source, makes its output and writes it to the

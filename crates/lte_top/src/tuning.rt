@@ -2,14 +2,14 @@
 
 ghost use Rattle.std.specs.Prelude.{◌≤◌, IfOk, IfErr, OnOk};
 ghost use Rattle.cs_outside.specs.Outside.{SourceTold, SinkTold};
-ghost use Rattle.lte_top.specs.declared.form.Form.TheVariants.{Apply};
+ghost use Rattle.lte_words.specs.declared.form.Form.TheVariants.{Apply};
 ghost use Rattle.lte_top.specs.Run.{IsDone, Ends};
 ghost use Rattle.lte_top.specs.Tuning.{IsTurned};
 
-use crate::form::Turn;
 use crate::reporting::recording_of;
 use crate::status::Status;
 use cs_outside::{Failed, Sink, Source};
+use lte_words::Turn;
 use sample_file::{Recording, SampleForm, write_samples};
 use std::alloc::{AllocError, Global};
 use turning::{applied, turned};

@@ -12,19 +12,19 @@ use Rattle.sample_file.specs.declared.form.SampleForm.{SampleForm}
 use Rattle.sample_file.specs.declared.form.SampleForm.TheVariants.{Ci16, Cu8}
 use Rattle.lte_types.specs.declared.carrier.Carrier.{Carrier}
 use Rattle.lte_types.specs.declared.carrier.Carrier.TheVariants.{OnePort, TwoPorts, LongPrefix, FourPorts}
-use Rattle.lte_top.specs.declared.form.Program.{Program}
-use Rattle.lte_top.specs.declared.form.Form.{Form}
-use Rattle.lte_top.specs.declared.form.Form.TheVariants.{Report as Reports, Certify, Check, Transmit, Make, Apply, Print}
-use Rattle.lte_top.specs.declared.form.Report.TheVariants.{Hits, Ids, Search, Evidence, Tell}
-use Rattle.lte_top.specs.declared.form.Rule.{Rule}
-use Rattle.lte_top.specs.declared.form.Rule.TheVariants.{Of, Cancel, All}
-use Rattle.lte_top.specs.declared.form.Output.{Output}
-use Rattle.lte_top.specs.declared.form.Output.TheVariants.{Text, Json}
-use Rattle.lte_top.specs.declared.form.Turn.{Turn}
-use Rattle.lte_top.specs.declared.form.Turn.TheVariants.{AsTold, Steps}
-use Rattle.lte_top.specs.declared.form.Page.{Page}
-use Rattle.lte_top.specs.declared.form.Page.TheVariants.{Help, Version}
-use Rattle.lte_top.specs.Forms.{samples_words, told_words, rule_words, carrier_words, load_words, turn_words, ArePageWords, AreWordsOf, IsAskedLoad, IsTurn, IsAskedTurn, IsInRange, program_of, IsWordsOf}
+use Rattle.lte_words.specs.declared.form.Program.{Program}
+use Rattle.lte_words.specs.declared.form.Form.{Form}
+use Rattle.lte_words.specs.declared.form.Form.TheVariants.{Report as Reports, Certify, Check, Transmit, Make, Apply, Print}
+use Rattle.lte_words.specs.declared.form.Report.TheVariants.{Hits, Ids, Search, Evidence, Tell}
+use Rattle.lte_words.specs.declared.form.Rule.{Rule}
+use Rattle.lte_words.specs.declared.form.Rule.TheVariants.{Of, Cancel, All}
+use Rattle.lte_words.specs.declared.form.Output.{Output}
+use Rattle.lte_words.specs.declared.form.Output.TheVariants.{Text, Json}
+use Rattle.lte_words.specs.declared.form.Turn.{Turn}
+use Rattle.lte_words.specs.declared.form.Turn.TheVariants.{AsTold, Steps}
+use Rattle.lte_words.specs.declared.form.Page.{Page}
+use Rattle.lte_words.specs.declared.form.Page.TheVariants.{Help, Version}
+use Rattle.lte_words.specs.Words.{samples_words, told_words, rule_words, carrier_words, load_words, turn_words, ArePageWords, AreWordsOf, IsAskedLoad, IsTurn, IsAskedTurn, IsInRange, program_of, IsWordsOf}
 
 -- the word is this one
 is_word : List ℕ → List ℕ → Bool

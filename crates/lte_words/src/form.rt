@@ -1,9 +1,8 @@
 //! The forms of words that are run.
 
 ghost use Rattle.std.specs.Prelude.{◌≡◌, IfSome, IsNone, map, string_bytes};
-ghost use Rattle.lte_top.specs.Forms.{IsWordsOf, IsNoForm};
-ghost use Rattle.lte_top.specs.Pages.{name_of};
-ghost use Rattle.lte_top.specs.declared.form.Program.TheVariants.{Receiver, Tuner};
+ghost use Rattle.lte_words.specs.Words.{name_of, IsWordsOf, IsNoForm};
+ghost use Rattle.lte_words.specs.declared.form.Program.TheVariants.{Receiver, Tuner};
 
 use crate::parts::{
     carried_after, certified_after, is_only, made_after, page_of, searched_after, sent_after,

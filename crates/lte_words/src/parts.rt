@@ -5,12 +5,12 @@ ghost use Rattle.std.specs.Prelude.{IsNone, IsTrue, string_bytes};
 ghost use Rattle.std.specs.Fmt.{decimal, signed_decimal};
 ghost use Rattle.sample_file.specs.declared.form.SampleForm.{SampleForm as SampleFormValue};
 ghost use Rattle.lte_types.specs.declared.carrier.Carrier.{Carrier as CarrierValue};
-ghost use Rattle.lte_top.specs.declared.form.Output.{Output as OutputValue};
-ghost use Rattle.lte_top.specs.declared.form.Page.{Page as PageValue};
-ghost use Rattle.lte_top.specs.declared.form.Rule.{Rule as RuleValue};
-ghost use Rattle.lte_top.specs.declared.form.Turn.{Turn as TurnValue};
-ghost use Rattle.lte_top.specs.Forms.{samples_words, told_words, rule_words, carrier_words, load_words, turn_words};
-ghost use Rattle.lte_top.specs.Forms.{IsAskedLoad, IsTurn, IsAskedTurn, ArePageWords};
+ghost use Rattle.lte_words.specs.declared.form.Output.{Output as OutputValue};
+ghost use Rattle.lte_words.specs.declared.form.Page.{Page as PageValue};
+ghost use Rattle.lte_words.specs.declared.form.Rule.{Rule as RuleValue};
+ghost use Rattle.lte_words.specs.declared.form.Turn.{Turn as TurnValue};
+ghost use Rattle.lte_words.specs.Words.{samples_words, told_words, rule_words, carrier_words, load_words, turn_words};
+ghost use Rattle.lte_words.specs.Words.{IsAskedLoad, IsTurn, IsAskedTurn, ArePageWords};
 
 use crate::form::{Output, Page, Rule, Turn};
 use itoa::Buffer;
