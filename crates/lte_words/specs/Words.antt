@@ -1,5 +1,6 @@
 -- The words of a command line: those of each part of a form, and those of a form. (own)
-use Rattle.std.specs.Prelude.{◌≡◌, ◌⊎◌, ℕ, ◌^◌, ◌<◌, ℤ, pos, negsuc, ◌≤ℤ◌, Option, Some, None, List, [], ◌∷◌, ◌++◌, codes}
+use Rattle.std.specs.Prelude.{◌≡◌, ◌⊎◌, ℕ, ◌^◌, ◌<◌, ℤ, pos, negsuc, ◌≤ℤ◌, Option, Some, None, List, [], ◌∷◌, ◌++◌}
+use Rattle.std.specs.Prelude.{codes}
 use Rattle.std.specs.Fmt.{decimal, signed_decimal}
 use Rattle.sample_file.specs.declared.form.SampleForm.{SampleForm}
 use Rattle.sample_file.specs.declared.form.SampleForm.TheVariants.{Ci16, Cu8}
@@ -38,10 +39,6 @@ abbrev pub output_words : Output → List (List ℕ)
 output_words Text = []
 output_words Json = codes "--json" ∷ []
 
--- how a recording is told, and read
-abbrev pub told_words : Output → SampleForm → List (List ℕ)
-told_words output form = output_words output ++ samples_words form
-
 -- a carrier: that of one antenna port has none
 abbrev pub carrier_words : Carrier → List (List ℕ)
 carrier_words OnePort = []
@@ -73,6 +70,10 @@ abbrev pub turn_words : Turn → List (List ℕ)
 turn_words AsTold = []
 turn_words (Steps m) = signed_decimal m ∷ []
 
+-- words that begin with none of a part
+abbrev pub BeginsWithNo : {A : Type 0} → (A → List (List ℕ)) → List (List ℕ) → Type 0
+BeginsWithNo {A} words_of words = (a : A) (rest : List (List ℕ)) → words ≡ words_of a ++ rest → words_of a ≡ []
+
 -- a page has a word, and others for the same
 abbrev pub ArePageWords : Page → List (List ℕ) → Type 0
 ArePageWords Help words =
@@ -81,7 +82,7 @@ ArePageWords Version words = (words ≡ codes "version" ∷ []) ⊎ (words ≡ c
 
 -- the words are those of a form
 abbrev pub AreWordsOf : Form → List (List ℕ) → Type 0
-AreWordsOf (Reports report output form) words = words ≡ report_words report ++ told_words output form
+AreWordsOf (Reports report output form) words = words ≡ report_words report ++ output_words output ++ samples_words form
 AreWordsOf (Certify carrier form) words = words ≡ codes "certify" ∷ carrier_words carrier ++ samples_words form
 AreWordsOf Check words = words ≡ codes "check" ∷ []
 AreWordsOf (Transmit carrier load) words = words ≡ codes "transmit" ∷ carrier_words carrier ++ load_words load

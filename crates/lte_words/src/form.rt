@@ -5,8 +5,8 @@ ghost use Rattle.lte_words.specs.Words.{name_of, IsWordsOf, IsNoForm};
 ghost use Rattle.lte_words.specs.declared.form.Program.TheVariants.{Receiver, Tuner};
 
 use crate::parts::{
-    carried_after, certified_after, is_only, made_after, page_of, searched_after, sent_after,
-    told_after, turned_after,
+    apply_parts, certify_parts, evidence_parts, is_only, make_parts, page_of, report_parts,
+    search_parts, transmit_parts,
 };
 use crate::words::Words;
 use lte_types::Carrier;
@@ -125,21 +125,21 @@ fn of_receiver(words: &[String]) -> Option<Form>
     ensures some { IfSome result (IsWordsOf Receiver (map string_bytes words.now)) }
     ensures none { IsNone result → IsNoForm Receiver (map string_bytes words.now) }
 {
-    if let Some((output, samples)) = told_after(words, "hits") {
+    if let Some((output, samples)) = report_parts(words, "hits") {
         Some(Form::Report(Report::Hits, output, samples))
-    } else if let Some((output, samples)) = told_after(words, "ids") {
+    } else if let Some((output, samples)) = report_parts(words, "ids") {
         Some(Form::Report(Report::Ids, output, samples))
-    } else if let Some((rule, output, samples)) = searched_after(words, "search") {
+    } else if let Some((rule, output, samples)) = search_parts(words) {
         Some(Form::Report(Report::Search(rule), output, samples))
-    } else if let Some((carrier, output, samples)) = carried_after(words, "evidence") {
+    } else if let Some((carrier, output, samples)) = evidence_parts(words) {
         Some(Form::Report(Report::Evidence(carrier), output, samples))
-    } else if let Some((carrier, samples)) = certified_after(words, "certify") {
+    } else if let Some((carrier, samples)) = certify_parts(words) {
         Some(Form::Certify(carrier, samples))
     } else if is_only(words, "check") {
         Some(Form::Check)
-    } else if let Some((carrier, load)) = sent_after(words, "transmit") {
+    } else if let Some((carrier, load)) = transmit_parts(words) {
         Some(Form::Transmit(carrier, load))
-    } else if let Some((carrier, n)) = made_after(words, "make") {
+    } else if let Some((carrier, n)) = make_parts(words) {
         Some(Form::Make(carrier, n))
     } else {
         let page = page_of(words)?;
@@ -152,9 +152,9 @@ fn of_tuner(words: &[String]) -> Option<Form>
     ensures some { IfSome result (IsWordsOf Tuner (map string_bytes words.now)) }
     ensures none { IsNone result → IsNoForm Tuner (map string_bytes words.now) }
 {
-    if let Some((output, samples)) = told_after(words, "tell") {
+    if let Some((output, samples)) = report_parts(words, "tell") {
         Some(Form::Report(Report::Tell, output, samples))
-    } else if let Some((turn, samples)) = turned_after(words, "apply") {
+    } else if let Some((turn, samples)) = apply_parts(words) {
         Some(Form::Apply(turn, samples))
     } else {
         let page = page_of(words)?;

@@ -2,6 +2,7 @@
 #![tactic(auto)]
 
 mod form;
+mod numbers;
 mod parts;
 mod words;
 

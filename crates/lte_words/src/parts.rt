@@ -1,320 +1,219 @@
-//! The parts of a form that words name: each is read after those before it, and no words are those of two.
+//! The parts of a form that words name: each is read from the words that those before it leave, and the last leaves
+//! none.
 
-ghost use Rattle.std.specs.Prelude.{◌≡◌, ◌≢◌, ◌↔◌, ◌<◌, ◌^◌, ℕ, ℤ, Option, Some, List, [], ◌∷◌, ◌++◌, map, IfSome};
-ghost use Rattle.std.specs.Prelude.{IsNone, IsTrue, string_bytes};
-ghost use Rattle.std.specs.Fmt.{decimal, signed_decimal};
+ghost use Rattle.std.specs.Prelude.{◌≡◌, ◌↔◌, ◌<◌, ◌^◌, ℕ, Option, Some, List, [], ◌∷◌, ◌++◌, map, IfSome};
+ghost use Rattle.std.specs.Prelude.{IsNone, IsTrue, codes, string_bytes};
+ghost use Rattle.std.specs.Fmt.{decimal};
 ghost use Rattle.sample_file.specs.declared.form.SampleForm.{SampleForm as SampleFormValue};
 ghost use Rattle.lte_types.specs.declared.carrier.Carrier.{Carrier as CarrierValue};
 ghost use Rattle.lte_words.specs.declared.form.Output.{Output as OutputValue};
 ghost use Rattle.lte_words.specs.declared.form.Page.{Page as PageValue};
 ghost use Rattle.lte_words.specs.declared.form.Rule.{Rule as RuleValue};
 ghost use Rattle.lte_words.specs.declared.form.Turn.{Turn as TurnValue};
-ghost use Rattle.lte_words.specs.Words.{samples_words, told_words, rule_words, carrier_words, load_words, turn_words};
-ghost use Rattle.lte_words.specs.Words.{IsAskedLoad, IsTurn, IsAskedTurn, ArePageWords};
+ghost use Rattle.lte_words.specs.Words.{samples_words, output_words, rule_words, carrier_words, load_words, turn_words};
+ghost use Rattle.lte_words.specs.Words.{BeginsWithNo, IsAskedLoad, IsAskedTurn, ArePageWords};
 
 use crate::form::{Output, Page, Rule, Turn};
-use itoa::Buffer;
+use crate::numbers::{number_of, steps_of};
 use lte_types::Carrier;
 use sample_file::SampleForm;
 
-// ---- what is read, and how it is told
+// ---- parts that others follow: the value, and the words after those that name it
 
-// The form of samples that the words after this one name; `None` where the first word is another, or those after it
-// name none.
-fn samples_after(words: &[String], word: &str) -> Option<SampleForm>
-    ensures some { IfSome result (λ form. map string_bytes words.now ≡ word.now ∷ samples_words form) }
-    ensures none { IsNone result → (form : SampleFormValue) →
-        map string_bytes words.now ≡ word.now ∷ samples_words form → ⊥ }
+// The rule of a list: where no words name one, that of one antenna port.
+fn rule_in(words: &[String]) -> (Rule, &[String])
+    ensures named { map string_bytes words.now ≡ rule_words result.0 ++ map string_bytes result.1.now }
+    ensures unnamed { rule_words result.0 ≡ [] → BeginsWithNo rule_words (map string_bytes words.now) }
 {
-    let words = after(words, word)?;
-    samples_of(words)
+    if let Some(rest) = after(words, "--cancel") {
+        (Rule::Cancel, rest)
+    } else if let Some(rest) = after(words, "--all") {
+        (Rule::All, rest)
+    } else {
+        let (carrier, rest) = carrier_in(words);
+        (Rule::Of(carrier), rest)
+    }
 }
 
-// The form of samples that these words name.
+// A carrier: where no words name one, that of one antenna port.
+fn carrier_in(words: &[String]) -> (Carrier, &[String])
+    ensures named { map string_bytes words.now ≡ carrier_words result.0 ++ map string_bytes result.1.now }
+    ensures unnamed { carrier_words result.0 ≡ [] → BeginsWithNo carrier_words (map string_bytes words.now) }
+{
+    if let Some(rest) = after_two(words, "--ports", "2") {
+        (Carrier::TwoPorts, rest)
+    } else if let Some(rest) = after_two(words, "--ports", "4") {
+        (Carrier::FourPorts, rest)
+    } else if let Some(rest) = after_two(words, "--prefix", "long") {
+        (Carrier::LongPrefix, rest)
+    } else {
+        (Carrier::OnePort, words)
+    }
+}
+
+// An output: where no words name one, text.
+fn output_in(words: &[String]) -> (Output, &[String])
+    ensures named { map string_bytes words.now ≡ output_words result.0 ++ map string_bytes result.1.now }
+    ensures unnamed { output_words result.0 ≡ [] → BeginsWithNo output_words (map string_bytes words.now) }
+{
+    match after(words, "--json") {
+        Some(rest) => (Output::Json, rest),
+        None => (Output::Text, words),
+    }
+}
+
+// ---- last parts: no words are left
+
+// The form of samples.
 fn samples_of(words: &[String]) -> Option<SampleForm>
     ensures some { IfSome result (λ form. map string_bytes words.now ≡ samples_words form) }
     ensures none { IsNone result → (form : SampleFormValue) → map string_bytes words.now ≡ samples_words form → ⊥ }
 {
-    if words.is_empty() {
-        Some(SampleForm::Ci16)
-    } else if are_two(words, "--format", "cu8") {
+    if are_none(words) {
+        return Some(SampleForm::Ci16);
+    }
+    let rest = after_two(words, "--format", "cu8")?;
+    if are_none(rest) {
         Some(SampleForm::Cu8)
     } else {
         None
     }
 }
 
-// The form of samples that the words after two words name.
-fn samples_after_two(words: &[String], first: &str, second: &str) -> Option<SampleForm>
-    ensures some { IfSome result (λ form.
-        map string_bytes words.now ≡ first.now ∷ second.now ∷ samples_words form) }
-    ensures none { IsNone result → (form : SampleFormValue) →
-        map string_bytes words.now ≡ first.now ∷ second.now ∷ samples_words form → ⊥ }
-{
-    let words = after(words, first)?;
-    samples_after(words, second)
-}
-
-// The output and the form of samples that the words after this one name.
-pub(crate) fn told_after(words: &[String], word: &str) -> Option<(Output, SampleForm)>
-    ensures some { IfSome result (λ told. map string_bytes words.now ≡ word.now ∷ told_words told.0 told.1) }
+// The output, and the form of samples.
+fn output_of(words: &[String]) -> Option<(Output, SampleForm)>
+    ensures some { IfSome result (λ parts. map string_bytes words.now ≡ output_words parts.0 ++ samples_words parts.1) }
     ensures none { IsNone result → (output : OutputValue) (form : SampleFormValue) →
-        map string_bytes words.now ≡ word.now ∷ told_words output form → ⊥ }
+        map string_bytes words.now ≡ output_words output ++ samples_words form → ⊥ }
 {
-    let words = after(words, word)?;
-    told_of(words)
+    let (output, words) = output_in(words);
+    let samples = samples_of(words)?;
+    Some((output, samples))
 }
 
-// The output and the form of samples that the words after two words name.
-fn told_after_two(words: &[String], first: &str, second: &str) -> Option<(Output, SampleForm)>
-    ensures some { IfSome result (λ told.
-        map string_bytes words.now ≡ first.now ∷ second.now ∷ told_words told.0 told.1) }
+// A carrier.
+fn carrier_of(words: &[String]) -> Option<Carrier>
+    ensures some { IfSome result (λ carrier. map string_bytes words.now ≡ carrier_words carrier) }
+    ensures none { IsNone result → (carrier : CarrierValue) → map string_bytes words.now ≡ carrier_words carrier → ⊥ }
+{
+    let (carrier, words) = carrier_in(words);
+    if are_none(words) { Some(carrier) } else { None }
+}
+
+// The load, by a number of 32 bits without leading zero; no words name none.
+fn load_of(words: &[String]) -> Option<Option<u32>>
+    ensures some { IfSome result (λ load. IsAskedLoad load × (map string_bytes words.now ≡ load_words load)) }
+    ensures none { IsNone result → (load : Option ℕ) → IsAskedLoad load →
+        map string_bytes words.now ≡ load_words load → ⊥ }
+{
+    if are_none(words) {
+        return Some(None);
+    }
+    let words = after(words, "--load")?;
+    let (text, left) = words.split_first()?;
+    let n = number_of(text.as_str())?;
+    if are_none(left) { Some(Some(n)) } else { None }
+}
+
+// ---- the parts of a command
+
+// A report with this command: its output and form of samples.
+pub(crate) fn report_parts(words: &[String], command: &str) -> Option<(Output, SampleForm)>
+    ensures some { IfSome result (λ parts.
+        map string_bytes words.now ≡ command.now ∷ output_words parts.0 ++ samples_words parts.1) }
     ensures none { IsNone result → (output : OutputValue) (form : SampleFormValue) →
-        map string_bytes words.now ≡ first.now ∷ second.now ∷ told_words output form → ⊥ }
+        map string_bytes words.now ≡ command.now ∷ output_words output ++ samples_words form → ⊥ }
 {
-    let words = after(words, first)?;
-    told_after(words, second)
+    let words = after(words, command)?;
+    output_of(words)
 }
 
-// The output and the form of samples that these words name.
-fn told_of(words: &[String]) -> Option<(Output, SampleForm)>
-    ensures some { IfSome result (λ told. map string_bytes words.now ≡ told_words told.0 told.1) }
-    ensures none { IsNone result → (output : OutputValue) (form : SampleFormValue) →
-        map string_bytes words.now ≡ told_words output form → ⊥ }
-{
-    if let Some(samples) = samples_of(words) {
-        Some((Output::Text, samples))
-    } else {
-        let samples = samples_after(words, "--json")?;
-        Some((Output::Json, samples))
-    }
-}
-
-// ---- rules and carriers
-
-// The carrier, the output and the form of samples that the words after this one name.
-pub(crate) fn carried_after(words: &[String], word: &str) -> Option<(Carrier, Output, SampleForm)>
-    ensures some { IfSome result (λ carried.
-        map string_bytes words.now ≡ word.now ∷ carrier_words carried.0 ++ told_words carried.1 carried.2) }
-    ensures none { IsNone result → (carrier : CarrierValue) (output : OutputValue) (form : SampleFormValue) →
-        map string_bytes words.now ≡ word.now ∷ carrier_words carrier ++ told_words output form → ⊥ }
-{
-    let words = after(words, word)?;
-    carried_of(words)
-}
-
-// The carrier, the output and the form of samples that these words name.
-fn carried_of(words: &[String]) -> Option<(Carrier, Output, SampleForm)>
-    ensures some { IfSome result (λ carried.
-        map string_bytes words.now ≡ carrier_words carried.0 ++ told_words carried.1 carried.2) }
-    ensures none { IsNone result → (carrier : CarrierValue) (output : OutputValue) (form : SampleFormValue) →
-        map string_bytes words.now ≡ carrier_words carrier ++ told_words output form → ⊥ }
-{
-    if let Some((output, samples)) = told_of(words) {
-        Some((Carrier::OnePort, output, samples))
-    } else if let Some((output, samples)) = told_after_two(words, "--ports", "2") {
-        Some((Carrier::TwoPorts, output, samples))
-    } else if let Some((output, samples)) = told_after_two(words, "--ports", "4") {
-        Some((Carrier::FourPorts, output, samples))
-    } else {
-        let (output, samples) = told_after_two(words, "--prefix", "long")?;
-        Some((Carrier::LongPrefix, output, samples))
-    }
-}
-
-// The carrier and the form of samples that the words after this one name.
-pub(crate) fn certified_after(words: &[String], word: &str) -> Option<(Carrier, SampleForm)>
-    ensures some { IfSome result (λ certified.
-        map string_bytes words.now ≡ word.now ∷ carrier_words certified.0 ++ samples_words certified.1) }
-    ensures none { IsNone result → (carrier : CarrierValue) (form : SampleFormValue) →
-        map string_bytes words.now ≡ word.now ∷ carrier_words carrier ++ samples_words form → ⊥ }
-{
-    let words = after(words, word)?;
-    certified_of(words)
-}
-
-// The carrier and the form of samples that these words name.
-fn certified_of(words: &[String]) -> Option<(Carrier, SampleForm)>
-    ensures some { IfSome result (λ certified.
-        map string_bytes words.now ≡ carrier_words certified.0 ++ samples_words certified.1) }
-    ensures none { IsNone result → (carrier : CarrierValue) (form : SampleFormValue) →
-        map string_bytes words.now ≡ carrier_words carrier ++ samples_words form → ⊥ }
-{
-    if let Some(samples) = samples_of(words) {
-        Some((Carrier::OnePort, samples))
-    } else if let Some(samples) = samples_after_two(words, "--ports", "2") {
-        Some((Carrier::TwoPorts, samples))
-    } else if let Some(samples) = samples_after_two(words, "--ports", "4") {
-        Some((Carrier::FourPorts, samples))
-    } else {
-        let samples = samples_after_two(words, "--prefix", "long")?;
-        Some((Carrier::LongPrefix, samples))
-    }
-}
-
-// The rule, the output and the form of samples that the words after this one name.
-pub(crate) fn searched_after(words: &[String], word: &str) -> Option<(Rule, Output, SampleForm)>
-    ensures some { IfSome result (λ searched.
-        map string_bytes words.now ≡ word.now ∷ rule_words searched.0 ++ told_words searched.1 searched.2) }
+// `search`: its rule, output and form of samples.
+pub(crate) fn search_parts(words: &[String]) -> Option<(Rule, Output, SampleForm)>
+    ensures some { IfSome result (λ parts. map string_bytes words.now ≡
+        codes "search" ∷ rule_words parts.0 ++ output_words parts.1 ++ samples_words parts.2) }
     ensures none { IsNone result → (rule : RuleValue) (output : OutputValue) (form : SampleFormValue) →
-        map string_bytes words.now ≡ word.now ∷ rule_words rule ++ told_words output form → ⊥ }
+        map string_bytes words.now ≡ codes "search" ∷ rule_words rule ++ output_words output ++ samples_words form → ⊥ }
 {
-    let words = after(words, word)?;
-    searched_of(words)
+    let words = after(words, "search")?;
+    let (rule, words) = rule_in(words);
+    let (output, samples) = output_of(words)?;
+    Some((rule, output, samples))
 }
 
-// The rule, the output and the form of samples that these words name.
-fn searched_of(words: &[String]) -> Option<(Rule, Output, SampleForm)>
-    ensures some { IfSome result (λ searched.
-        map string_bytes words.now ≡ rule_words searched.0 ++ told_words searched.1 searched.2) }
-    ensures none { IsNone result → (rule : RuleValue) (output : OutputValue) (form : SampleFormValue) →
-        map string_bytes words.now ≡ rule_words rule ++ told_words output form → ⊥ }
+// `evidence`: its carrier, output and form of samples.
+pub(crate) fn evidence_parts(words: &[String]) -> Option<(Carrier, Output, SampleForm)>
+    ensures some { IfSome result (λ parts. map string_bytes words.now ≡
+        codes "evidence" ∷ carrier_words parts.0 ++ output_words parts.1 ++ samples_words parts.2) }
+    ensures none { IsNone result → (carrier : CarrierValue) (output : OutputValue) (form : SampleFormValue) →
+        map string_bytes words.now ≡
+        codes "evidence" ∷ carrier_words carrier ++ output_words output ++ samples_words form → ⊥ }
 {
-    if let Some((carrier, output, samples)) = carried_of(words) {
-        Some((Rule::Of(carrier), output, samples))
-    } else if let Some((output, samples)) = told_after(words, "--cancel") {
-        Some((Rule::Cancel, output, samples))
-    } else {
-        let (output, samples) = told_after(words, "--all")?;
-        Some((Rule::All, output, samples))
-    }
+    let words = after(words, "evidence")?;
+    let (carrier, words) = carrier_in(words);
+    let (output, samples) = output_of(words)?;
+    Some((carrier, output, samples))
 }
 
-// The number after this word, one of 32 bits without leading zero, and the carrier that the words after it name.
-pub(crate) fn made_after(words: &[String], word: &str) -> Option<(Carrier, u32)>
-    ensures some { IfSome result (λ made.
-        map string_bytes words.now ≡ word.now ∷ decimal made.1 ∷ carrier_words made.0) }
+// `certify`: its carrier and form of samples.
+pub(crate) fn certify_parts(words: &[String]) -> Option<(Carrier, SampleForm)>
+    ensures some { IfSome result (λ parts.
+        map string_bytes words.now ≡ codes "certify" ∷ carrier_words parts.0 ++ samples_words parts.1) }
+    ensures none { IsNone result → (carrier : CarrierValue) (form : SampleFormValue) →
+        map string_bytes words.now ≡ codes "certify" ∷ carrier_words carrier ++ samples_words form → ⊥ }
+{
+    let words = after(words, "certify")?;
+    let (carrier, words) = carrier_in(words);
+    let samples = samples_of(words)?;
+    Some((carrier, samples))
+}
+
+// `transmit`: its carrier and load.
+pub(crate) fn transmit_parts(words: &[String]) -> Option<(Carrier, Option<u32>)>
+    ensures some { IfSome result (λ parts. IsAskedLoad parts.1
+        × (map string_bytes words.now ≡ codes "transmit" ∷ carrier_words parts.0 ++ load_words parts.1)) }
+    ensures none { IsNone result → (carrier : CarrierValue) (load : Option ℕ) → IsAskedLoad load →
+        map string_bytes words.now ≡ codes "transmit" ∷ carrier_words carrier ++ load_words load → ⊥ }
+{
+    let words = after(words, "transmit")?;
+    let (carrier, words) = carrier_in(words);
+    let load = load_of(words)?;
+    Some((carrier, load))
+}
+
+// `make`: its carrier, and its number of 32 bits without leading zero.
+pub(crate) fn make_parts(words: &[String]) -> Option<(Carrier, u32)>
+    ensures some { IfSome result (λ parts.
+        map string_bytes words.now ≡ codes "make" ∷ decimal parts.1 ∷ carrier_words parts.0) }
     ensures none { IsNone result → (carrier : CarrierValue) (n : ℕ) → n < 2 ^ 32 →
-        map string_bytes words.now ≡ word.now ∷ decimal n ∷ carrier_words carrier → ⊥ }
+        map string_bytes words.now ≡ codes "make" ∷ decimal n ∷ carrier_words carrier → ⊥ }
 {
-    let words = after(words, word)?;
+    let words = after(words, "make")?;
     let (text, words) = words.split_first()?;
     let n = number_of(text.as_str())?;
     let carrier = carrier_of(words)?;
     Some((carrier, n))
 }
 
-// The carrier that these words name.
-fn carrier_of(words: &[String]) -> Option<Carrier>
-    ensures some { IfSome result (λ carrier. map string_bytes words.now ≡ carrier_words carrier) }
-    ensures none { IsNone result → (carrier : CarrierValue) → map string_bytes words.now ≡ carrier_words carrier → ⊥ }
-{
-    if words.is_empty() {
-        Some(Carrier::OnePort)
-    } else if are_two(words, "--ports", "2") {
-        Some(Carrier::TwoPorts)
-    } else if are_two(words, "--ports", "4") {
-        Some(Carrier::FourPorts)
-    } else if are_two(words, "--prefix", "long") {
-        Some(Carrier::LongPrefix)
-    } else {
-        None
-    }
-}
-
-// The carrier and the load that the words after this one name.
-pub(crate) fn sent_after(words: &[String], word: &str) -> Option<(Carrier, Option<u32>)>
-    ensures some { IfSome result (λ sent.
-        IsAskedLoad sent.1 × (map string_bytes words.now ≡ word.now ∷ carrier_words sent.0 ++ load_words sent.1)) }
-    ensures none { IsNone result → (carrier : CarrierValue) (load : Option ℕ) → IsAskedLoad load →
-        map string_bytes words.now ≡ word.now ∷ carrier_words carrier ++ load_words load → ⊥ }
-{
-    let words = after(words, word)?;
-    sent_of(words)
-}
-
-// The carrier and the load that these words name.
-fn sent_of(words: &[String]) -> Option<(Carrier, Option<u32>)>
-    ensures some { IfSome result (λ sent.
-        IsAskedLoad sent.1 × (map string_bytes words.now ≡ carrier_words sent.0 ++ load_words sent.1)) }
-    ensures none { IsNone result → (carrier : CarrierValue) (load : Option ℕ) → IsAskedLoad load →
-        map string_bytes words.now ≡ carrier_words carrier ++ load_words load → ⊥ }
-{
-    if let Some(load) = load_of(words) {
-        Some((Carrier::OnePort, load))
-    } else if let Some(load) = load_after_two(words, "--ports", "2") {
-        Some((Carrier::TwoPorts, load))
-    } else if let Some(load) = load_after_two(words, "--ports", "4") {
-        Some((Carrier::FourPorts, load))
-    } else {
-        let load = load_after_two(words, "--prefix", "long")?;
-        Some((Carrier::LongPrefix, load))
-    }
-}
-
-// The load that the words after two name.
-fn load_after_two(words: &[String], first: &str, second: &str) -> Option<Option<u32>>
-    ensures some { IfSome result (λ load.
-        IsAskedLoad load × (map string_bytes words.now ≡ first.now ∷ second.now ∷ load_words load)) }
-    ensures none { IsNone result → (load : Option ℕ) → IsAskedLoad load →
-        map string_bytes words.now ≡ first.now ∷ second.now ∷ load_words load → ⊥ }
-{
-    let words = after(words, first)?;
-    let words = after(words, second)?;
-    load_of(words)
-}
-
-// The load that these words name; no words name none.
-fn load_of(words: &[String]) -> Option<Option<u32>>
-    ensures some { IfSome result (λ load. IsAskedLoad load × (map string_bytes words.now ≡ load_words load)) }
-    ensures none { IsNone result → (load : Option ℕ) → IsAskedLoad load →
-        map string_bytes words.now ≡ load_words load → ⊥ }
-{
-    if words.is_empty() {
-        Some(None)
-    } else {
-        let n = load_number(words)?;
-        Some(Some(n))
-    }
-}
-
-// The number of a load, one of 32 bits without leading zero.
-fn load_number(words: &[String]) -> Option<u32>
-    ensures some { IfSome result (λ n. (n < 2 ^ 32) × (map string_bytes words.now ≡ load_words (Some n))) }
-    ensures none { IsNone result → (n : ℕ) → n < 2 ^ 32 → map string_bytes words.now ≡ load_words (Some n) → ⊥ }
-{
-    let words = after(words, "--load")?;
-    let (text, rest) = words.split_first()?;
-    if rest.is_empty() {
-        number_of(text.as_str())
-    } else {
-        None
-    }
-}
-
-// ---- turns
-
-// The turn and the form of samples that the words after this one name.
-pub(crate) fn turned_after(words: &[String], word: &str) -> Option<(Turn, SampleForm)>
-    ensures some { IfSome result (λ turned.
-        IsAskedTurn turned.0
-        × (map string_bytes words.now ≡ word.now ∷ turn_words turned.0 ++ samples_words turned.1)) }
+// `apply`: its turn, by a number from -2,048 to 2,047 without leading zero, and its form of samples.
+pub(crate) fn apply_parts(words: &[String]) -> Option<(Turn, SampleForm)>
+    ensures some { IfSome result (λ parts. IsAskedTurn parts.0
+        × (map string_bytes words.now ≡ codes "apply" ∷ turn_words parts.0 ++ samples_words parts.1)) }
     ensures none { IsNone result → (turn : TurnValue) (form : SampleFormValue) → IsAskedTurn turn →
-        map string_bytes words.now ≡ word.now ∷ turn_words turn ++ samples_words form → ⊥ }
+        map string_bytes words.now ≡ codes "apply" ∷ turn_words turn ++ samples_words form → ⊥ }
 {
-    let words = after(words, word)?;
+    let words = after(words, "apply")?;
     if let Some(samples) = samples_of(words) {
         Some((Turn::AsTold, samples))
     } else {
         let (text, words) = words.split_first()?;
-        let turn = turn_of(text.as_str())?;
+        let m = steps_of(text.as_str())?;
         let samples = samples_of(words)?;
-        Some((turn, samples))
+        Some((Turn::Steps(m), samples))
     }
 }
 
-// The turn by a number from -2,048 to 2,047 that is written so, without leading zero.
-fn turn_of(text: &str) -> Option<Turn>
-    ensures some { IfSome result (λ turn. IsAskedTurn turn × (text.now ∷ [] ≡ turn_words turn)) }
-    ensures none { IsNone result → (m : ℤ) → IsTurn m → text.now ≡ signed_decimal m → ⊥ }
-{
-    let m = steps_of(text)?;
-    Some(Turn::Steps(m))
-}
-
-// ---- pages
-
-// The page that these words name.
+// A page.
 pub(crate) fn page_of(words: &[String]) -> Option<Page>
     ensures some { IfSome result (λ page. ArePageWords page (map string_bytes words.now)) }
     ensures none { IsNone result → (page : PageValue) → ArePageWords page (map string_bytes words.now) → ⊥ }
@@ -330,6 +229,13 @@ pub(crate) fn page_of(words: &[String]) -> Option<Page>
 
 // ---- single words
 
+// Whether there are no words.
+fn are_none(words: &[String]) -> bool
+    ensures { IsTrue result ↔ (map string_bytes words.now ≡ []) }
+{
+    words.is_empty()
+}
+
 // The words after this one, where it is the first.
 fn after<'a>(words: &'a [String], word: &str) -> Option<&'a [String]>
     ensures some { IfSome result (λ rest. map string_bytes words.now ≡ word.now ∷ map string_bytes rest.now) }
@@ -343,14 +249,15 @@ fn after<'a>(words: &'a [String], word: &str) -> Option<&'a [String]>
     }
 }
 
-// Whether the words are these two.
-fn are_two(words: &[String], first: &str, second: &str) -> bool
-    ensures { IsTrue result ↔ (map string_bytes words.now ≡ first.now ∷ second.now ∷ []) }
+// The words after these two, where they are the first.
+fn after_two<'a>(words: &'a [String], first: &str, second: &str) -> Option<&'a [String]>
+    ensures some { IfSome result (λ rest.
+        map string_bytes words.now ≡ first.now ∷ second.now ∷ map string_bytes rest.now) }
+    ensures none { IsNone result → (rest : List (List ℕ)) →
+        map string_bytes words.now ≡ first.now ∷ second.now ∷ rest → ⊥ }
 {
-    match after(words, first) {
-        Some(rest) => is_only(rest, second),
-        None => false,
-    }
+    let words = after(words, first)?;
+    after(words, second)
 }
 
 // Whether there is one word, and it is this one.
@@ -358,57 +265,7 @@ pub(crate) fn is_only(words: &[String], word: &str) -> bool
     ensures { IsTrue result ↔ (map string_bytes words.now ≡ word.now ∷ []) }
 {
     match after(words, word) {
-        Some(rest) => rest.is_empty(),
+        Some(rest) => are_none(rest),
         None => false,
-    }
-}
-
-// ---- numbers
-
-// The number of 32 bits that is written so, without leading zero.
-fn number_of(text: &str) -> Option<u32>
-    ensures some { IfSome result (λ n. text.now ≡ decimal n) }
-    ensures none { IsNone result → (n : ℕ) → n < 2 ^ 32 → text.now ≡ decimal n → ⊥ }
-{
-    match text.parse::<u32>() {
-        Ok(n) => exactly(n, text),
-        Err(_) => None,
-    }
-}
-
-// The number, where it is written so.
-fn exactly(n: u32, text: &str) -> Option<u32>
-    ensures some { IfSome result (λ same. (same ≡ n) × (text.now ≡ decimal n)) }
-    ensures none { IsNone result → text.now ≢ decimal n }
-{
-    let mut digits = Buffer::new();
-    if digits.format(n) == text {
-        Some(n)
-    } else {
-        None
-    }
-}
-
-// The steps of a turn that are written so, without leading zero.
-fn steps_of(text: &str) -> Option<i16>
-    ensures some { IfSome result (λ m. IsTurn m × (text.now ≡ signed_decimal m)) }
-    ensures none { IsNone result → (m : ℤ) → IsTurn m → text.now ≡ signed_decimal m → ⊥ }
-{
-    match text.parse::<i16>() {
-        Ok(m) => exact_steps(m, text),
-        Err(_) => None,
-    }
-}
-
-// The steps, where they are written so and in their range.
-fn exact_steps(m: i16, text: &str) -> Option<i16>
-    ensures some { IfSome result (λ same. (same ≡ m) × IsTurn m × (text.now ≡ signed_decimal m)) }
-    ensures none { IsNone result → IsTurn m → text.now ≢ signed_decimal m }
-{
-    let mut digits = Buffer::new();
-    if -2048 <= m && m <= 2047 && digits.format(m) == text {
-        Some(m)
-    } else {
-        None
     }
 }

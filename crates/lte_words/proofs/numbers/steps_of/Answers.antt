@@ -6,7 +6,7 @@ use Rattle.std.specs.Int.Signed.{mag}
 use Rattle.std.proofs.lemmas.Fmt.{parse-signed_decimal}
 use Rattle.std.proofs.lemmas.Int.{ints, to_z-of_z}
 use Rattle.lte_words.specs.Words.{IsTurn}
-use Rattle.lte_words.proofs.parts.steps_of.Goals as goal
+use Rattle.lte_words.proofs.numbers.steps_of.Goals as goal
 
 -- a turn is a number of 16 bits
 fits : (m : ℤ) → IsTurn m → FitsSigned w16 m
