@@ -1,10 +1,10 @@
 -- What a step costs by the shared table, pair of states by pair.
 use Rattle.std.proofs.Common.{◌≡◌, ◌≢◌, ℕ, ◌+◌, ◌*◌, ◌/◌, ◌%◌, ◌<◌, min, false, List, length, get_or, set, ℤ, refl, ap, ap₂, arith, get_or-set_other, get_or-set_same, below_more}
 use Rattle.std.proofs.lemmas.List.{length-set}
-use Rattle.paths.specs.Rows.{least_in, least_out}
+use Rattle.paths.specs.Rows.{least_out}
 use Rattle.paths.proofs.Rows.{row_more}
 use Rattle.tailbite.specs.Machine.{shift, first_from, newest_bit, second_from, forward_least}
-use Rattle.tailbite.specs.Costs.{AreCosts, shared_cost}
+use Rattle.tailbite.specs.Costs.{AreCosts, shared_cost, shared_least}
 
 -- ---- back
 
@@ -32,11 +32,8 @@ odd_out costs row h =
 
 -- ---- on
 
-abbrev pub in_by : List ℕ → List ℕ → ℕ → ℕ
-in_by costs row x = least_in (shared_cost costs) row (first_from x) (newest_bit x) (second_from x) (newest_bit x)
-
 pub low_in : (costs row : List ℕ) (h : ℕ) → h < 32 →
-    in_by costs row h ≡ min (get_or row (2 * h) 0 + get_or costs h 0) (get_or row (2 * h + 1) 0 + get_or costs (h + 32) 0)
+    shared_least costs row h ≡ min (get_or row (2 * h) 0 + get_or costs h 0) (get_or row (2 * h + 1) 0 + get_or costs (h + 32) 0)
 low_in costs row h below =
     let same : h % 32 ≡ h = omega arith in
     let newest : h / 32 % 2 ≡ 0 = omega arith in
@@ -48,7 +45,7 @@ low_in costs row h below =
     rw (same, newest, bit, half, bit', half', none) refl
 
 pub high_in : (costs row : List ℕ) (h : ℕ) → h < 32 →
-    in_by costs row (h + 32) ≡ min (get_or row (2 * h) 0 + get_or costs (h + 32) 0) (get_or row (2 * h + 1) 0 + get_or costs h 0)
+    shared_least costs row (h + 32) ≡ min (get_or row (2 * h) 0 + get_or costs (h + 32) 0) (get_or row (2 * h + 1) 0 + get_or costs h 0)
 high_in costs row h below =
     let same : (h + 32) % 32 ≡ h = omega arith in
     let newest : (h + 32) / 32 % 2 ≡ 1 = omega arith in
@@ -77,7 +74,7 @@ halves_more P row h v w below long low high here there = (
 )
 
 -- which is that by the values of the place
-pub in_by-is : (values : List ℤ) (costs row : List ℕ) (x : ℕ) → AreCosts values costs → x < 64 → in_by costs row x ≡ forward_least values row x
-in_by-is values costs row x are below =
+pub shared_least-is : (values : List ℤ) (costs row : List ℕ) (x : ℕ) → AreCosts values costs → x < 64 → shared_least costs row x ≡ forward_least values row x
+shared_least-is values costs row x are below =
     ap₂ min (ap (λ c. get_or row (first_from x) 0 + c) (are.cost (first_from x) (newest_bit x) (omega arith)))
     (ap (λ c. get_or row (second_from x) 0 + c) (are.cost (second_from x) (newest_bit x) (omega arith)))

@@ -1,8 +1,9 @@
 -- The costs of a place's steps in a table, which is made once for all passes (own).
 use Rattle.std.specs.Prelude.{◌≡◌, ℕ, ◌-◌, ◌*◌, ◌/◌, ◌^◌, ◌<◌, ◌≤◌, Bool, List, [], ◌∷◌, ◌++◌, map, slice_index, slice_index_or, ℤ}
 use Rattle.finite.specs.Bits.{odd, xor}
+use Rattle.paths.specs.Rows.{least_in}
 use Rattle.conv_code.specs.Cost.{triple_cost}
-use Rattle.tailbite.specs.Machine.{shift, branch_cost}
+use Rattle.tailbite.specs.Machine.{shift, branch_cost, first_from, newest_bit, second_from}
 
 -- the coded bits of the steps by 0 from the even states, in order, as numbers of three bits: the first stream's bit
 -- weighs 4
@@ -25,6 +26,10 @@ code_cost v p = triple_cost v (odd (p / 4)) (odd (p / 2)) (odd p)
 -- by 1, which have the same coded bits, at h, and of those from 2h by 1 and from 2h + 1 by 0 at h + 32
 abbrev pub shared_cost : List ℕ → ℕ → Bool → ℕ
 shared_cost costs x b = slice_index costs (shift x (xor b (odd x)))
+
+-- the least cost to x by the table, where the row has the least cost to each state one step before
+abbrev pub shared_least : List ℕ → List ℕ → ℕ → ℕ
+shared_least costs row x = least_in (shared_cost costs) row (first_from x) (newest_bit x) (second_from x) (newest_bit x)
 
 -- the table of costs says what the steps cost by the values of a place
 pub record AreCosts (values : List ℤ) (costs : List ℕ) : Type 0 where

@@ -2,13 +2,14 @@
 
 ghost use Rattle.std.specs.Prelude.{◌≡◌, ℕ, ◌*◌, ◌^◌, ◌<◌, ◌≤◌, length, slice_index};
 ghost use Rattle.finite.specs.Sizes.{AllWithin, RowsWithin};
-ghost use Rattle.tailbite.specs.Costs.{AreCosts, HaveCosts, code_cost, spread_costs};
+ghost use Rattle.tailbite.specs.Costs.{AreCosts, HaveCosts, code_cost, shared_cost, spread_costs};
 
+use crate::steps::next;
 use conv_code::against;
 
 /// The costs of a place's steps: at h that of the steps from state 2h by 0 and from 2h + 1 by 1, which have the
 /// same coded bits, and at h + 32 that of the steps from 2h by 1 and from 2h + 1 by 0, which have the opposite ones.
-pub(crate) type StepCosts = [u32; 64];
+pub type StepCosts = [u32; 64];
 
 /// What the values of a place speak against each three coded bits.
 fn code_costs(values: &[i32; 3]) -> [u32; 8]
@@ -50,8 +51,8 @@ fn costs_of(values: &[i32; 3]) -> StepCosts
     spread(&code_costs(values))
 }
 
-/// Writes what the steps of each place cost.
-pub(crate) fn fill_costs(values: &[[i32; 3]], tables: &mut [StepCosts])
+/// Writes what the steps of each place cost by its values, which are at most 2^20 in size: a table for each place.
+pub fn fill_costs(values: &[[i32; 3]], tables: &mut [StepCosts])
     requires room { length values.now ≤ length tables.old }
     requires sizes { RowsWithin (2 ^ 20) values.now }
     ensures costs { HaveCosts values.now tables.new (length values.now) }
@@ -60,4 +61,12 @@ pub(crate) fn fill_costs(values: &[[i32; 3]], tables: &mut [StepCosts])
     for k in 0..values.len() {
         tables[k] = costs_of(&values[k]);
     }
+}
+
+/// What the step from state x, which is below 64, by the bit b costs.
+pub fn cost_at(costs: &StepCosts, x: usize, b: bool) -> u32
+    requires { x < 64 }
+    ensures { result ≡ shared_cost costs.now x b }
+{
+    costs[next(x, b ^ (x % 2 == 1))]
 }

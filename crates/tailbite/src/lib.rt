@@ -2,7 +2,8 @@
 //! received values speak against least, and the first of equals in lexicographic order.
 //! The search goes over the 64 states of the encoder in which a word may start and end, and leaves out those from which
 //! a bound shows that no word is less.
-//! Its steps stand here too: what one costs, the states that it joins, and a row of least costs one step on.
+//! Its steps stand here too: what those of a place cost, the state that one leads to, and a row of least costs one
+//! step on.
 #![tactic(auto)]
 
 mod costs;
@@ -12,7 +13,9 @@ mod search;
 mod steps;
 mod trellis;
 
+pub use costs::{StepCosts, cost_at, fill_costs};
 pub use laws::{one_least_word, values_tell_the_word};
-pub use search::least;
+pub use passes::{CostRow, step_on};
+pub use search::{free_at, least, least_by};
 pub use steps::{before, branch, next};
 pub use trellis::Trellis;

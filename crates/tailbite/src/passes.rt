@@ -4,22 +4,22 @@ ghost use Rattle.std.specs.Prelude.{◌≡◌, ◌≢◌, ℕ, ◌+◌, ◌*◌,
 ghost use Rattle.std.specs.Prelude.{slice_index, slice_index_or};
 ghost use Rattle.paths.specs.Least.{IsLeastTo};
 ghost use Rattle.paths.specs.Paths.{end_of, walked};
-ghost use Rattle.paths.specs.Rows.{bit_out, least_in, least_out};
+ghost use Rattle.paths.specs.Rows.{bit_out, least_out};
 ghost use Rattle.cs_bits.specs.Numbers.{number};
-ghost use Rattle.tailbite.specs.Machine.{first_from, newest_bit, second_from, shift, step_cost};
-ghost use Rattle.tailbite.specs.Costs.{HaveCosts, shared_cost};
+ghost use Rattle.tailbite.specs.Machine.{first_from, shift, step_cost};
+ghost use Rattle.tailbite.specs.Costs.{HaveCosts, shared_cost, shared_least};
 ghost use Rattle.tailbite.specs.Passes.{IsPass, told_bit};
 
 use crate::costs::StepCosts;
 use crate::steps::next;
 
 /// A cost for each state.
-pub(crate) type Row = [u32; 64];
+pub type CostRow = [u32; 64];
 
 /// Writes the row of least costs from each state, one step before the given row.
 // Inlined, the loops are not compiled into vector instructions; nor is one that writes both states of a pair.
 #[inline(never)]
-fn step_back(costs: &StepCosts, row: &Row, earlier: &mut Row)
+fn step_back(costs: &StepCosts, row: &CostRow, earlier: &mut CostRow)
     requires small { (y : ℕ) → y < 64 → slice_index costs.now y ≤ 3 * 2 ^ 20 }
     requires room { (x : ℕ) → x < 64 → slice_index row.now x ≤ 2 ^ 31 }
     ensures least { (x : ℕ) → x < 64 → slice_index earlier.new x ≡ least_out shift (shared_cost costs.now) row.now x }
@@ -38,7 +38,7 @@ fn step_back(costs: &StepCosts, row: &Row, earlier: &mut Row)
 }
 
 /// Writes row i by row i + 1.
-fn write_earlier(costs: &StepCosts, rows: &mut [Row], i: usize)
+fn write_earlier(costs: &StepCosts, rows: &mut [CostRow], i: usize)
     requires inside { i + 1 < length rows.old }
     requires small { (y : ℕ) → y < 64 → slice_index costs.now y ≤ 3 * 2 ^ 20 }
     requires room { (x : ℕ) → x < 64 → slice_index (slice_index_or rows.old (i + 1) []) x ≤ 2 ^ 31 }
@@ -57,7 +57,7 @@ fn write_earlier(costs: &StepCosts, rows: &mut [Row], i: usize)
 
 /// Writes, for each place, the least cost from each state to an end, with what `ends` says of the state in which it
 /// ends; the row after the last place is that of the ends.
-pub(crate) fn pass(values: &[[i32; 3]], tables: &[StepCosts], ends: &Row, rows: &mut [Row])
+pub(crate) fn pass(values: &[[i32; 3]], tables: &[StepCosts], ends: &CostRow, rows: &mut [CostRow])
     requires places { length values.now ≤ 64 }
     requires tables { length values.now ≤ length tables.now }
     requires rows { length values.now < length rows.old }
@@ -76,12 +76,12 @@ pub(crate) fn pass(values: &[[i32; 3]], tables: &[StepCosts], ends: &Row, rows: 
 
 /// The row of least costs to each state, one step after the given row.
 #[inline(never)]
-fn step_on(costs: &StepCosts, row: &Row) -> Row
+pub fn step_on(costs: &StepCosts, row: &CostRow) -> CostRow
     requires small { (y : ℕ) → y < 64 → slice_index costs.now y ≤ 3 * 2 ^ 20 }
     requires room { (x : ℕ) → x < 64 → slice_index row.now x ≤ 2 ^ 31 }
-    ensures least { (x : ℕ) → x < 64 → slice_index result x ≡
-        least_in (shared_cost costs.now) row.now (first_from x) (newest_bit x) (second_from x) (newest_bit x) }
+    ensures least { (x : ℕ) → x < 64 → slice_index result x ≡ shared_least costs.now row.now x }
     ensures growth { (x : ℕ) → x < 64 → slice_index result x ≤ slice_index row.now (first_from x) + 3 * 2 ^ 20 }
+    ensures size { length result ≡ 64 }
 {
     let mut later = [0; 64];
     for h in 0..32 {
@@ -92,7 +92,7 @@ fn step_on(costs: &StepCosts, row: &Row) -> Row
 }
 
 /// The least cost of a path through all places to each state, with what `starts` says of the state in which it starts.
-pub(crate) fn reach(values: &[[i32; 3]], tables: &[StepCosts], starts: &Row) -> Row
+pub(crate) fn reach(values: &[[i32; 3]], tables: &[StepCosts], starts: &CostRow) -> CostRow
     requires places { length values.now ≤ 64 }
     requires tables { length values.now ≤ length tables.now }
     requires costs { HaveCosts values.now tables.now (length values.now) }
@@ -110,7 +110,7 @@ pub(crate) fn reach(values: &[[i32; 3]], tables: &[StepCosts], starts: &Row) -> 
 
 /// The bit with which the least cost from a state begins, where the row has the least costs one step on: of two equal
 /// costs that of the bit 0 counts, since its word stands first.
-fn bit_from(costs: &StepCosts, row: &Row, state: usize) -> bool
+fn bit_from(costs: &StepCosts, row: &CostRow, state: usize) -> bool
     requires state { state < 64 }
     requires small { (y : ℕ) → y < 64 → slice_index costs.now y ≤ 3 * 2 ^ 20 }
     requires room { (x : ℕ) → x < 64 → slice_index row.now x ≤ 2 ^ 31 }
@@ -127,7 +127,12 @@ fn bit_from(costs: &StepCosts, row: &Row, state: usize) -> bool
 
 /// The word of `count` bits that the rows of a pass tell from the start state on, as a number, and the state in which
 /// it ends.
-pub(crate) fn walk(tables: &[StepCosts], rows: &[Row], count: usize, start: usize) -> (u64, usize)
+pub(crate) fn walk(
+    tables: &[StepCosts],
+    rows: &[CostRow],
+    count: usize,
+    start: usize,
+) -> (u64, usize)
     requires few { count ≤ 64 }
     requires tables { count ≤ length tables.now }
     requires rows { count < length rows.now }

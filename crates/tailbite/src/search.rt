@@ -18,7 +18,7 @@ ghost use Rattle.tailbite.specs.Passes.{IsFreePass};
 ghost use Rattle.tailbite.specs.LeastWord.{IsLeastWord};
 
 use crate::costs::{StepCosts, fill_costs};
-use crate::passes::{Row, pass, reach, walk};
+use crate::passes::{CostRow, pass, reach, walk};
 use crate::trellis::Trellis;
 use cs_bits::Bits;
 
@@ -38,25 +38,25 @@ fn key_of(cost: u32, word: u64) -> u128
 }
 
 /// What the ends cost where all are free.
-fn free_ends() -> Row
+fn free_ends() -> CostRow
     ensures { (x : ℕ) → x < 64 → slice_index result x ≡ 0 }
 {
     [0; STATES]
 }
 
-/// What the ends cost where only the start state is free.
-fn ends_at(start: usize) -> Row
-    requires { start < 64 }
-    ensures ends { (x : ℕ) → x < 64 → slice_index result x ≡ ends_in far start x }
+/// What starts or ends cost where only one state is free, which is below 64: the others cost more than every word.
+pub fn free_at(state: usize) -> CostRow
+    requires { state < 64 }
+    ensures row { (x : ℕ) → x < 64 → slice_index result x ≡ ends_in far state x }
     ensures room { (x : ℕ) → x < 64 → slice_index result x ≤ 2 ^ 30 }
 {
-    let mut ends = [FAR; STATES];
-    ends[start] = 0;
-    ends
+    let mut row = [FAR; STATES];
+    row[state] = 0;
+    row
 }
 
 /// The least key of a path through all places from the start state that ends there.
-fn key_from(values: &[[i32; 3]], tables: &[StepCosts], rows: &mut [Row], start: usize) -> u128
+fn key_from(values: &[[i32; 3]], tables: &[StepCosts], rows: &mut [CostRow], start: usize) -> u128
     requires low { 6 ≤ length values.now }
     requires high { length values.now ≤ 64 }
     requires tables { length values.now ≤ length tables.now }
@@ -67,13 +67,13 @@ fn key_from(values: &[[i32; 3]], tables: &[StepCosts], rows: &mut [Row], start: 
     ensures reached { IsKeyOrFar values.now result }
     ensures count { length rows.new ≡ length rows.old }
 {
-    pass(values, tables, &ends_at(start), rows);
+    pass(values, tables, &free_at(start), rows);
     let (word, _) = walk(tables, rows, values.len(), start);
     key_of(rows[0][start], word)
 }
 
 /// What each start costs in the pass on: so much the less as the least cost of a path from it is more.
-fn starts_by(from: &Row) -> Row
+fn starts_by(from: &CostRow) -> CostRow
     ensures starts { (x : ℕ) → x < 64 → slice_index result x ≡ far - slice_index from.now x }
     ensures room { (x : ℕ) → x < 64 → slice_index result x ≤ 2 ^ 30 }
 {
@@ -85,7 +85,7 @@ fn starts_by(from: &Row) -> Row
 }
 
 /// Writes what the least cost to each state is beyond what a start in it costs, as a key.
-fn fill_bounds(starts: &Row, to: &Row, bounds: &mut [u128; 64])
+fn fill_bounds(starts: &CostRow, to: &CostRow, bounds: &mut [u128; 64])
     ensures { (x : ℕ) → x < 64 →
         slice_index bounds.new x ≡ (slice_index to.now x - slice_index starts.now x) * scale }
 {
@@ -99,7 +99,7 @@ fn fill_bounds(starts: &Row, to: &Row, bounds: &mut [u128; 64])
 fn raise_bounds(
     values: &[[i32; 3]],
     tables: &[StepCosts],
-    free: &[Row],
+    free: &[CostRow],
     bounds: &mut [u128; 64],
     least: u128,
 ) -> u128
@@ -143,7 +143,12 @@ fn state_of_least(bounds: &[u128; 64]) -> usize
 }
 
 /// The least key of a word.
-fn least_key(values: &[[i32; 3]], tables: &[StepCosts], free: &mut [Row], rows: &mut [Row]) -> u128
+fn least_key(
+    values: &[[i32; 3]],
+    tables: &[StepCosts],
+    free: &mut [CostRow],
+    rows: &mut [CostRow],
+) -> u128
     requires low { 6 ≤ length values.now }
     requires high { length values.now ≤ 64 }
     requires sizes { RowsWithin (2 ^ 20) values.now }
@@ -172,15 +177,25 @@ fn least_key(values: &[[i32; 3]], tables: &[StepCosts], free: &mut [Row], rows: 
     least
 }
 
-/// The least key of a word, by the costs of all steps, which are made once.
-fn least_of_words(values: &[[i32; 3]], work: &mut Trellis) -> u128
-    requires low { 6 ≤ length values.now }
-    requires high { length values.now ≤ 64 }
+/// The least word and its cost, by the costs of all steps.
+fn least_of<const N: usize>(
+    values: &[[i32; 3]; N],
+    tables: &[StepCosts],
+    free: &mut [CostRow],
+    rows: &mut [CostRow],
+) -> (Bits<N>, u32)
+    requires low { 6 ≤ N }
+    requires high { N ≤ 64 }
     requires sizes { RowsWithin (2 ^ 20) values.now }
-    ensures { IsLeastKey values.now result }
+    requires tables { N ≤ length tables.now }
+    requires free { N < length free.old }
+    requires rows { N < length rows.old }
+    requires costs { HaveCosts values.now tables.now N }
+    ensures word { IsLeastWord values.now result.0 }
+    ensures cost { result.1 ≡ word_cost values.now result.0 }
 {
-    fill_costs(values, &mut work.tables);
-    least_key(values, &work.tables, &mut work.free, &mut work.rows)
+    let key = least_key(values, tables, free, rows);
+    (Bits::of_number((key % SCALE) as u64), (key / SCALE) as u32)
 }
 
 /// The least word and its cost: no word of N bits costs less by these values, and each that stands before
@@ -193,6 +208,24 @@ pub fn least<const N: usize>(values: &[[i32; 3]; N], work: &mut Trellis) -> (Bit
     ensures word { IsLeastWord values.now result.0 }
     ensures cost { result.1 ≡ word_cost values.now result.0 }
 {
-    let key = least_of_words(values, work);
-    (Bits::of_number((key % SCALE) as u64), (key / SCALE) as u32)
+    fill_costs(values, &mut work.tables);
+    least_of(values, &work.tables, &mut work.free, &mut work.rows)
+}
+
+/// The least word and its cost, as `least` tells them, by the costs of the steps of each place, which `fill_costs`
+/// writes.
+pub fn least_by<const N: usize>(
+    values: &[[i32; 3]; N],
+    tables: &[StepCosts],
+    work: &mut Trellis,
+) -> (Bits<N>, u32)
+    requires low { 6 ≤ N }
+    requires high { N ≤ 64 }
+    requires sizes { RowsWithin (2 ^ 20) values.now }
+    requires tables { N ≤ length tables.now }
+    requires costs { HaveCosts values.now tables.now N }
+    ensures word { IsLeastWord values.now result.0 }
+    ensures cost { result.1 ≡ word_cost values.now result.0 }
+{
+    least_of(values, tables, &mut work.free, &mut work.rows)
 }

@@ -3,7 +3,7 @@
 ghost use Rattle.std.specs.Prelude.{◌≡◌, vec_len};
 
 use crate::costs::StepCosts;
-use crate::passes::Row;
+use crate::passes::CostRow;
 use std::alloc::{AllocError, Global};
 
 /// The working memory of a search, for words of every length: for each of up to 64 places the costs of its steps, and
@@ -11,8 +11,8 @@ use std::alloc::{AllocError, Global};
 #[derive(Drop)]
 pub struct Trellis {
     pub(crate) tables: Vec<StepCosts>,
-    pub(crate) free: Vec<Row>,
-    pub(crate) rows: Vec<Row>,
+    pub(crate) free: Vec<CostRow>,
+    pub(crate) rows: Vec<CostRow>,
     ghost tables_size: { vec_len tables ≡ 64 },
     ghost free_size: { vec_len free ≡ 65 },
     ghost rows_size: { vec_len rows ≡ 65 },

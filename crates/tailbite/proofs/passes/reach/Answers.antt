@@ -2,7 +2,7 @@ use Rattle.std.proofs.Common.{◌≡◌, ◌^◌, ◌*◌, ◌+◌, suc, arith, 
 use Rattle.paths.proofs.Rows.{row_first}
 use Rattle.tailbite.specs.Machine.{shift, step_cost}
 use Rattle.tailbite.proofs.Edges.{forward_row_is}
-use Rattle.tailbite.proofs.Pairs.{in_by-is}
+use Rattle.tailbite.proofs.Pairs.{shared_least-is}
 use Rattle.tailbite.proofs.passes.reach.Goals as goal
 
 pub loop-i-init : goal.loop-i-init
@@ -16,7 +16,7 @@ loop-i-preserved c =
     let are = c.requires.costs.place c.loop-i.i c.loop-i-test.true in
     rw one
     (forward_row_is c.args.values.now (λ x. get_or c.args.starts.now x 0) (2 ^ 30) (3 * 2 ^ 20) c.loop-i.i c.loop-i.row c.step_on-row.result c.loop-i.invariant
-    (λ x below. c.step_on-row.ensures.least x below ∙ in_by-is _ _ c.loop-i.row x are below) c.step_on-row.ensures.growth)
+    (λ x below. c.step_on-row.ensures.least x below ∙ shared_least-is _ _ c.loop-i.row x are below) c.step_on-row.ensures.growth)
 
 pub returns : goal.returns
 returns c x below =

@@ -30,5 +30,8 @@ all_of costs row later h done all x below = elim (cases_lt x 32) [
 pub returns-clause-least : goal.returns-clause-least
 returns-clause-least c x below = (all_of _ _ _ _ c.loop-h.invariant (omega arith) x below).0
 
+pub returns-clause-size : goal.returns-clause-size
+returns-clause-size c = c.loop-h.invariant.size
+
 pub returns-clause-growth : goal.returns-clause-growth
 returns-clause-growth c x below = (all_of _ _ _ _ c.loop-h.invariant (omega arith) x below).1

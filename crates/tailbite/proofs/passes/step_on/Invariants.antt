@@ -1,11 +1,11 @@
 use Rattle.std.proofs.Common.{◌≡◌, ℕ, ◌+◌, ◌*◌, ◌^◌, ◌<◌, ◌≤◌, get_or, length, List}
 use Rattle.tailbite.specs.Machine.{first_from}
-use Rattle.tailbite.proofs.Pairs.{in_by}
+use Rattle.tailbite.specs.Costs.{shared_least}
 use Rattle.tailbite.proofs.passes.step_on.Given as goal
 
 -- v is the least cost to state k
 abbrev pub IsLeastIn : List ℕ → List ℕ → ℕ → ℕ → Type 0
-IsLeastIn costs row k v = (v ≡ in_by costs row k) × (v ≤ get_or row (first_from k) 0 + 3 * 2 ^ 20)
+IsLeastIn costs row k v = (v ≡ shared_least costs row k) × (v ≤ get_or row (first_from k) 0 + 3 * 2 ^ 20)
 
 -- the states below h and those 32 above them are done
 pub record IsSteppedOn (costs row later : List ℕ) (h : ℕ) : Type 0 where
