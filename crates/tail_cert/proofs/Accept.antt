@@ -9,7 +9,11 @@ use Rattle.tailbite.specs.Machine.{shift, step_cost}
 use Rattle.tailbite.proofs.Windows.{same_end, shift_below}
 use Rattle.tailbite.proofs.Branches.{word_cost-path}
 use Rattle.tail_cert.specs.Certificate.{IsLowerBound, StartHolds, StepsHold, bound, from_state, unbounded}
-use Rattle.tail_cert.specs.Forward.{HasLeastRows, IsStartRow, IsTableFrom}
+use Rattle.tail_cert.specs.Forward.{HasLeastRows, IsTableFrom}
+
+-- the start row of the state s: 0 there, and elsewhere more than the cost of every word
+pub record IsStartRow (s : ℕ) (start : List ℕ) : Type 0 where
+  pub row : (x : ℕ) → x < 64 → get_or start x 0 ≡ ends_in (2 ^ 30) s x
 
 -- where each bound of no step bounds nothing, or is the start's cost
 pub steps_hold : (values : List (List ℤ)) (first : ℕ → ℕ) (start : List ℕ) (table : List (List ℕ)) →

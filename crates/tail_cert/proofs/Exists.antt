@@ -15,9 +15,9 @@ use Rattle.tailbite.specs.Machine.{branch_cost, window_bit, forward_least, first
 use Rattle.conv_code.proofs.Costs.{triple_cost-le, word_cost-le}
 use Rattle.finite.proofs.Items.{row-within}
 use Rattle.tail_cert.specs.Certificate.{Held, IsWhole, IsAccepted, IsTriple, IsTable, Counted, bound, from_any}
-use Rattle.tail_cert.specs.Forward.{IsFilled, IsStepRow, HasLeastRows, IsStartRow, IsTableFrom}
+use Rattle.tail_cert.specs.Forward.{IsFilled, IsStepRow, HasLeastRows, IsTableFrom}
 use Rattle.tail_cert.specs.Stored.{IsStored, is_in, shown}
-use Rattle.tail_cert.proofs.Accept.{table_from}
+use Rattle.tail_cert.proofs.Accept.{IsStartRow, table_from}
 use Rattle.tail_cert.proofs.Filled.{filled}
 use Rattle.tail_cert.proofs.Rows.{start_row, later_row, rows_fit}
 use Rattle.tail_cert.proofs.Shown.{stored_whole}

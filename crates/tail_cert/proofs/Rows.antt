@@ -1,13 +1,12 @@
 -- The rows of least costs, one after the other.
-use Rattle.std.proofs.Common.{◌≡◌, ◌≢◌, ℕ, suc, ◌+◌, ◌*◌, ◌^◌, ◌<◌, ◌≤◌, List, [], length, get_or, set, ℤ, refl, ap₂, ◌∙◌, inl, inr, arith, get_or-set_other, get_or-set_same}
-use Rattle.std.specs.Prelude.{min}
+use Rattle.std.proofs.Common.{◌≡◌, ◌≢◌, ℕ, suc, ◌+◌, ◌*◌, ◌^◌, ◌<◌, ◌≤◌, List, [], length, get_or, set, ℤ, refl, ◌∙◌, inl, inr, arith, get_or-set_other, get_or-set_same}
 use Rattle.std.proofs.lemmas.Bool.{cases_lt}
 use Rattle.std.proofs.lemmas.List.{get_or_default}
-use Rattle.paths.specs.Rows.{least_in}
 use Rattle.paths.proofs.Rows.{row_first}
-use Rattle.tailbite.specs.Costs.{AreCosts, shared_cost}
-use Rattle.tailbite.specs.Machine.{shift, step_cost, newest_bit, first_from, second_from, forward_least}
+use Rattle.tailbite.specs.Costs.{AreCosts, shared_least}
+use Rattle.tailbite.specs.Machine.{shift, step_cost, first_from, forward_least}
 use Rattle.tailbite.proofs.Edges.{forward_row_is}
+use Rattle.tailbite.proofs.Pairs.{shared_least-is}
 use Rattle.tail_cert.specs.Certificate.{IsTable}
 use Rattle.tail_cert.specs.Forward.{IsStepRow, HasLeastRows}
 
@@ -25,21 +24,13 @@ later_row values start k row later known size step growth = record {
   least = forward_row_is values (λ y. get_or start y 0) (2 ^ 30) (3 * 2 ^ 20) k row later known.least step growth;
 }
 
--- the least cost by a table of costs
-by_table : (v : List ℤ) (costs row : List ℕ) → AreCosts v costs → (x : ℕ) → x < 64 →
-    least_in (shared_cost costs) row (first_from x) (newest_bit x) (second_from x) (newest_bit x) ≡ forward_least v row x
-by_table v costs row are x below =
-    let first = are.cost (first_from x) (newest_bit x) (omega arith) in
-    let second = are.cost (second_from x) (newest_bit x) (omega arith) in
-    ap₂ (λ m n. min (get_or row (first_from x) 0 + m) (get_or row (second_from x) 0 + n)) first second
-
 -- one row on, by a table of costs
 pub row_by_table : (values : List (List ℤ)) (start : List ℕ) (k : ℕ) (costs row later : List ℕ) → AreCosts (get_or values k []) costs →
     IsStepRow values start k row → length later ≡ 64 →
-    ((x : ℕ) → x < 64 → get_or later x 0 ≡ least_in (shared_cost costs) row (first_from x) (newest_bit x) (second_from x) (newest_bit x)) →
+    ((x : ℕ) → x < 64 → get_or later x 0 ≡ shared_least costs row x) →
     ((x : ℕ) → x < 64 → get_or later x 0 ≤ get_or row (first_from x) 0 + 3 * 2 ^ 20) → IsStepRow values start (suc k) later
 row_by_table values start k costs row later are known size step growth =
-    later_row values start k row later known size (λ x below. step x below ∙ by_table (get_or values k []) costs row are x below) growth
+    later_row values start k row later known size (λ x below. step x below ∙ shared_least-is (get_or values k []) costs row x are below) growth
 
 pub no_rows : (values : List (List ℤ)) (start : List ℕ) (table : List (List ℕ)) → HasLeastRows values start table 0
 no_rows values start table = record { row = λ i below. absurd (omega arith) }

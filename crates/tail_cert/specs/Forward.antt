@@ -14,10 +14,6 @@ pub record IsStepRow (values : List (List ℤ)) (start : List ℕ) (k : ℕ) (ro
 pub record HasLeastRows (values : List (List ℤ)) (start : List ℕ) (table : List (List ℕ)) (n : ℕ) : Type 0 where
   pub row : (i : ℕ) → i < n → IsStepRow values start (suc i) (slice_index_or table i [])
 
--- the start row of the state s: 0 there, and elsewhere more than the cost of every word
-pub record IsStartRow (s : ℕ) (start : List ℕ) : Type 0 where
-  pub row : (x : ℕ) → x < 64 → slice_index start x ≡ ends_in (2 ^ 30) s x
-
 -- the table of the state s shows each lower bound of what words cost, up to 2 ^ 30, for the paths from s back to it
 abbrev pub ShowsBounds : List (List ℤ) → ℕ → List (List ℕ) → Type 0
 ShowsBounds values s table =

@@ -9,10 +9,10 @@ ghost use Rattle.tail_cert.specs.Stored.{HaveRoom, shown_at};
 
 use crate::Certificate;
 use crate::certificate::{Table, has};
-use crate::costs::{PathCosts, StepCosts, cost_at, fill_costs};
+use crate::costs::PathCosts;
 use conv_code::{against, encode};
 use cs_bits::Bits;
-use tailbite::next;
+use tailbite::{StepCosts, cost_at, fill_costs, next};
 
 const STATES: usize = 64;
 

@@ -4,21 +4,18 @@ ghost use Rattle.std.specs.Prelude.{◌≡◌, ◌*◌, ◌^◌, ◌<◌, ◌≤
 ghost use Rattle.finite.specs.Sizes.{RowsWithin};
 ghost use Rattle.tailbite.specs.LeastWord.{IsLeastWord};
 ghost use Rattle.tail_cert.specs.Certificate.{IsAccepted, IsTable, bound, from_any};
-ghost use Rattle.tail_cert.specs.Forward.{HasLeastRows, IsFilled, IsStartRow, IsTableFrom};
+ghost use Rattle.tail_cert.specs.Forward.{HasLeastRows, IsFilled, IsTableFrom};
 ghost use Rattle.tail_cert.specs.Stored.{AreStored, is_in};
 
 use crate::Certificate;
 use crate::certificate::{Table, has, make_tables};
-use crate::costs::{PathCosts, fill_costs, later_row};
+use crate::costs::PathCosts;
 use cs_bits::Bits;
-use tailbite::{Trellis, least};
+use tailbite::{Trellis, fill_costs, free_at, least_by, step_on};
 
 const STATES: usize = 64;
 
 const STEPS: usize = 40;
-
-/// More than the cost of every word.
-const FAR: u32 = 0x4000_0000;
 
 /// Fills a table with the least costs after each step, from starts that cost what the row says.
 fn fill_table(costs: &PathCosts, start: &[u32; 64], table: &mut Table)
@@ -28,20 +25,9 @@ fn fill_table(costs: &PathCosts, start: &[u32; 64], table: &mut Table)
 {
     let mut row = *start;
     for k in 0..STEPS {
-        row = later_row(&costs.steps[k], &row);
+        row = step_on(&costs.steps[k], &row);
         table[k] = row;
     }
-}
-
-/// The start row of the state s.
-fn start_at(s: usize) -> [u32; 64]
-    requires { s < 64 }
-    ensures start { IsStartRow s result }
-    ensures room { (y : ℕ) → y < 64 → slice_index result y ≤ 2 ^ 30 }
-{
-    let mut row = [FAR; 64];
-    row[s] = 0;
-    row
 }
 
 /// Fills the table of the start state s.
@@ -50,7 +36,7 @@ fn fill_start(costs: &PathCosts, s: usize, table: &mut Table)
     ensures bounds { IsTableFrom costs.now.values.now s table.new }
     ensures whole { IsTable table.new }
 {
-    fill_table(costs, &start_at(s), table);
+    fill_table(costs, &free_at(s), table);
 }
 
 /// The set of the start states whose bound in the general table, of all steps back to them, is below the cost.
@@ -110,9 +96,9 @@ pub fn fill(certificate: &mut Certificate, values: &[[i32; 3]; 40], work: &mut T
     ensures word { IsLeastWord values.now certificate.new.word }
     ensures filled { IsFilled certificate.new }
 {
-    let (word, cost) = least(values, work);
     let mut steps = [[0; 64]; 40];
     fill_costs(values, &mut steps);
+    let (word, cost) = least_by(values, &steps, work);
     let costs = PathCosts {
         values,
         steps: &steps,

@@ -10,7 +10,7 @@ fill_table-requires c = record { room = λ y below. let z = get_or-replicate {A 
 
 pub invariant_of-certificate : goal.invariant_of-certificate
 invariant_of-certificate c =
-    let h = word_cost-le 2032 c.args.values.now c.least-word.result.0 c.requires in
+    let h = word_cost-le 2032 c.args.values.now c.least_by-word.result.0 c.requires in
     let e : c.copy_of-copied.result ≡ c.args.values.now = c.copy_of-copied.ensures.same in
     let size : length c.copy_of-copied.result ≡ 40 = rw e c.told-values in
     let made = c.make_tables.new.tables in
@@ -24,8 +24,8 @@ invariant_of-certificate c =
             all = rw e (c.requires k d (omega (arith, inside, size, c.told-values)));
           };
         };
-        bits = c.least-word.ensures.word.size ∙ c.told-values;
-        fits = omega (arith, h, c.least-word.ensures.cost, c.told-values);
+        bits = c.least_by-word.ensures.word.size ∙ c.told-values;
+        fits = omega (arith, h, c.least_by-word.ensures.cost, c.told-values);
         general_is = rows_fit c.args.values.now _ _ c.fill_table.ensures.size c.fill_table.ensures.rows;
         states = c.states_below-certificate-inside.ensures.states;
         tables_are = rw kept c.fill_tables.ensures.tables;
@@ -36,11 +36,11 @@ invariant_of-certificate c =
 pub returns-clause-accepted : goal.returns-clause-accepted
 returns-clause-accepted c =
     let size = c.fill_tables.auto.tables ∙ c.deref_mut.ensures.len in
-    (filled c.args.values.now _ _ _ _ _ _ _ c.copy_of-copied.ensures.same (take_at c.fill_tables.new.tables _ _ size) c.requires c.told-values c.least-word.ensures.word c.least-word.ensures.cost
+    (filled c.args.values.now _ _ _ _ _ _ _ c.copy_of-copied.ensures.same (take_at c.fill_tables.new.tables _ _ size) c.requires c.told-values c.least_by-word.ensures.word c.least_by-word.ensures.cost
     c.fill_table.ensures.rows c.states_below-certificate-inside.ensures.needed c.fill_tables.ensures.bounds).0
 
 pub returns-clause-filled : goal.returns-clause-filled
 returns-clause-filled c =
     let size = c.fill_tables.auto.tables ∙ c.deref_mut.ensures.len in
-    (filled c.args.values.now _ _ _ _ _ _ _ c.copy_of-copied.ensures.same (take_at c.fill_tables.new.tables _ _ size) c.requires c.told-values c.least-word.ensures.word c.least-word.ensures.cost
+    (filled c.args.values.now _ _ _ _ _ _ _ c.copy_of-copied.ensures.same (take_at c.fill_tables.new.tables _ _ size) c.requires c.told-values c.least_by-word.ensures.word c.least_by-word.ensures.cost
     c.fill_table.ensures.rows c.states_below-certificate-inside.ensures.needed c.fill_tables.ensures.bounds).1
