@@ -8,7 +8,7 @@ use Rattle.std.proofs.lemmas.List.{ext_get_or, length-take-le, get_or-take, take
 use Rattle.finite.specs.Sums.{total_below}
 use Rattle.finite.proofs.Sums.{total_below_same}
 use Rattle.tail_cert.specs.Form.{BreaksUpTo, IsFirstBreakUpTo, IsLargeValue, IsOffMark, IsUnbrokenUpTo, count_of, head_count, mark, table_count, tells_table, value_at}
-use Rattle.tail_cert.specs.Stored.{is_in}
+use Rattle.tail_cert.specs.Stored.{has_table}
 
 -- behind the mark and the values, and at the end of bytes, only the end breaks the form
 pub only_end : (count : ℕ) (bytes : List ℕ) (p : ℕ) → min (length bytes) 244 ≤ p → BreaksUpTo count bytes p → (p ≡ length bytes) × (p < count)
@@ -116,11 +116,11 @@ seven_parts bytes a b c d e f =
     (take-append-drop (a + b + c + d + e + f) bytes)
 
 -- a set that was read tells how many bytes there are
-pub count_by_set : (bytes : List ℕ) (set : List Bool) → ((s : ℕ) → s < 64 → is_in set s ≡ tells_table bytes s) →
-    head_count + table_count * total_below 64 (λ s. cond (is_in set s) 1 0) ≡ count_of bytes
+pub count_by_set : (bytes : List ℕ) (set : List Bool) → ((s : ℕ) → s < 64 → has_table set s ≡ tells_table bytes s) →
+    head_count + table_count * total_below 64 (λ s. cond (has_table set s) 1 0) ≡ count_of bytes
 unfolding count_of
 count_by_set bytes set states =
-    ap (λ n. head_count + table_count * n) (total_below_same 64 (λ s. cond (is_in set s) 1 0) (λ s. cond (tells_table bytes s) 1 0) (λ s below. ap {B = ℕ} (λ b. cond b 1 0) (states s below)))
+    ap (λ n. head_count + table_count * n) (total_below_same 64 (λ s. cond (has_table set s) 1 0) (λ s. cond (tells_table bytes s) 1 0) (λ s below. ap {B = ℕ} (λ b. cond b 1 0) (states s below)))
 
 -- where a whole certificate is not broken, its first bytes are not
 pub head_unbroken : (bytes : List ℕ) → IsUnbrokenUpTo (count_of bytes) bytes → IsUnbrokenUpTo head_count bytes

@@ -16,7 +16,7 @@ use Rattle.conv_code.proofs.Costs.{triple_cost-le, word_cost-le}
 use Rattle.finite.proofs.Items.{row-within}
 use Rattle.tail_cert.specs.Certificate.{Held, IsWhole, IsAccepted, IsTriple, IsTable, Counted, bound, from_any}
 use Rattle.tail_cert.specs.Forward.{IsFilled, IsStepRow, HasLeastRows, IsTableFrom}
-use Rattle.tail_cert.specs.Stored.{IsStored, is_in, shown}
+use Rattle.tail_cert.specs.Stored.{IsStored, has_table, shown}
 use Rattle.tail_cert.proofs.Accept.{IsStartRow, table_from}
 use Rattle.tail_cert.proofs.Filled.{filled}
 use Rattle.tail_cert.proofs.Rows.{start_row, later_row, rows_fit}
@@ -114,7 +114,7 @@ needs values word s = nat_lt (bound from_any (general_of values) 40 s) (word_cos
 states_of : List (List ℤ) → List Bool → List Bool
 states_of values word = values_below 64 (λ i. needs values word (63 - i))
 
-needed_states : (values : List (List ℤ)) (word : List Bool) (s : ℕ) → s < 64 → is_in (states_of values word) s ≡ needs values word s
+needed_states : (values : List (List ℤ)) (word : List Bool) (s : ℕ) → s < 64 → has_table (states_of values word) s ≡ needs values word s
 unfolding states_of
 needed_states values word s below =
     let back : 63 - (63 - s) ≡ s = omega (arith, below) in

@@ -14,14 +14,14 @@ use Rattle.tailbite.specs.LeastWord.{IsLeastWord}
 use Rattle.tailbite.specs.Machine.{shift, step_cost}
 use Rattle.tail_cert.specs.Certificate.{Held, IsAccepted, IsLowerBound, IsTable, StartHolds, bound, from_any, tables_there}
 use Rattle.tail_cert.specs.Forward.{HasLeastFrom, HasLeastRows, IsFilled, IsTableFrom}
-use Rattle.tail_cert.specs.Stored.{AreStored, is_in, shown, shown_at}
+use Rattle.tail_cert.specs.Stored.{AreStored, has_table, shown, shown_at}
 use Rattle.tail_cert.proofs.Accept.{steps_hold}
 use Rattle.tail_cert.proofs.Shown.{some_shown, starts_shown, stored_with}
 
 -- of the states below n those with a bound below the cost are in the set
 pub record AreNeededTo (cost : ℕ) (ends : List ℕ) (states : List Bool) (n : ℕ) : Type 0 where
   pub size : length states ≡ 64
-  pub needed : (s : ℕ) → s < n → is_in states s ≡ nat_lt (get_or ends s 0) cost
+  pub needed : (s : ℕ) → s < n → has_table states s ≡ nat_lt (get_or ends s 0) cost
 
 pub needed_none : (cost : ℕ) (ends : List ℕ) → AreNeededTo cost ends (replicate 64 false) 0
 needed_none cost ends = record {
@@ -48,7 +48,7 @@ needed_more cost ends states n known below =
 -- the tables of the states of the set below n are those of least costs from there
 pub record AreFilledTo (values : List (List ℤ)) (states : List Bool) (tables : List (List (List ℕ))) (n : ℕ) : Type 0 where
   pub tables_are : AreStored states tables
-  pub bounds : (s : ℕ) → s < n → is_in states s ≡ true → IsTableFrom values s (get_or tables s [])
+  pub bounds : (s : ℕ) → s < n → has_table states s ≡ true → IsTableFrom values s (get_or tables s [])
 
 pub filled_none : (values : List (List ℤ)) (states : List Bool) (tables : List (List (List ℕ))) → AreStored states tables → AreFilledTo values states tables 0
 filled_none values states tables stored = record {
@@ -57,7 +57,7 @@ filled_none values states tables stored = record {
 }
 
 -- a state that the set has not
-pub without : (values : List (List ℤ)) (states : List Bool) (tables : List (List (List ℕ))) (n : ℕ) → AreFilledTo values states tables n → is_in states n ≡ false →
+pub without : (values : List (List ℤ)) (states : List Bool) (tables : List (List (List ℕ))) (n : ℕ) → AreFilledTo values states tables n → has_table states n ≡ false →
     AreFilledTo values states tables (n + 1)
 without values states tables n known none = record {
   tables_are = known.tables_are;
@@ -69,7 +69,7 @@ without values states tables n known none = record {
 
 -- one that it has
 pub with_table : (values : List (List ℤ)) (states : List Bool) (tables : List (List (List ℕ))) (n : ℕ) (table : List (List ℕ)) → AreFilledTo values states tables n →
-    n < 64 → is_in states n ≡ true → IsTable table → IsTableFrom values n table → AreFilledTo values states (set tables n table) (n + 1)
+    n < 64 → has_table states n ≡ true → IsTable table → IsTableFrom values n table → AreFilledTo values states (set tables n table) (n + 1)
 with_table values states tables n table known below there whole holds =
     let inside = known.tables_are.room n below there in
     record {
@@ -90,7 +90,7 @@ start_filled values cost general s table true e own = own refl
 start_filled values cost general s table false e own = ltb-false (bound from_any general 40 s) cost (sym e)
 
 -- a table is there exactly where it is needed
-there_where_needed : (set : List Bool) (tables : List (List (List ℕ))) (s m cost : ℕ) → s < 64 → is_in set s ≡ nat_lt m cost →
+there_where_needed : (set : List Bool) (tables : List (List (List ℕ))) (s m cost : ℕ) → s < 64 → has_table set s ≡ nat_lt m cost →
     IsSome (get_or (shown set tables) s None) ↔ (m < cost)
 there_where_needed set tables s m cost below e = (
   (λ some. ltb-true m cost (sym e ∙ sym (some_shown set tables s below) ∙ some)),
@@ -104,11 +104,11 @@ own_by values s table true h = h refl
 own_by values s table false h = tt
 
 own_shown : (values : List (List ℤ)) (set : List Bool) (tables : List (List (List ℕ))) (s : ℕ) → s < 64 →
-    (is_in set s ≡ true → HasLeastFrom values s (get_or tables s [])) → IfSome (get_or (shown set tables) s None) (HasLeastFrom values s)
+    (has_table set s ≡ true → HasLeastFrom values s (get_or tables s [])) → IfSome (get_or (shown set tables) s None) (HasLeastFrom values s)
 unfolding shown
 own_shown values set tables s below h =
     subst (λ t. IfSome t (HasLeastFrom values s)) (sym (values_below_at (shown_at set tables) 64 s None below))
-    (own_by values s (get_or tables s []) (is_in set s) h)
+    (own_by values s (get_or tables s []) (has_table set s) h)
 
 zero_start : (λ y. get_or (replicate 64 0) y 0) ≡ from_any
 zero_start = fun_ext (λ y. elim (cases_lt y 64) [
@@ -120,8 +120,8 @@ zero_start = fun_ext (λ y. elim (cases_lt y 64) [
 pub filled : (values copied : List (List ℤ)) (word : List Bool) (cost : ℕ) (general : List (List ℕ)) (set : List Bool) (tables kept : List (List (List ℕ))) →
     copied ≡ values → kept ≡ tables → RowsWithin 2032 values → length values ≡ 40 → IsLeastWord values word → cost ≡ word_cost values word →
     HasLeastRows values (replicate 64 0) general 40 →
-    ((s : ℕ) → s < 64 → is_in set s ≡ nat_lt (bound from_any general 40 s) cost) →
-    ((s : ℕ) → s < 64 → is_in set s ≡ true → IsTableFrom values s (get_or tables s [])) →
+    ((s : ℕ) → s < 64 → has_table set s ≡ nat_lt (bound from_any general 40 s) cost) →
+    ((s : ℕ) → s < 64 → has_table set s ≡ true → IsTableFrom values s (get_or tables s [])) →
     IsAccepted (record { values = copied; word = word; cost = cost; general = general; tables = shown set kept }) ×
     IsFilled (record { values = copied; word = word; cost = cost; general = general; tables = shown set kept })
 filled values copied word cost general set tables kept copy same sizes places least stated rows needed bounds = rw (copy, same) (
@@ -129,7 +129,7 @@ filled values copied word cost general set tables kept copy same sizes places le
     stated = stated;
     general = steps_hold values from_any (replicate 64 0) general (λ x below some. get_or-replicate 64 x 0 0 below) rows;
     starts = (starts_shown values cost general set tables).1 (λ s below.
-        start_filled values cost general s (get_or tables s []) (is_in set s) (needed s below) (λ there. (bounds s below there).shows cost lower small));
+        start_filled values cost general s (get_or tables s []) (has_table set s) (needed s below) (λ there. (bounds s below there).shows cost lower small));
   },
   record {
     least = λ i x inside below. subst (λ starts. IsLeastTo shift (step_cost values) starts 64 (suc i) x (get_or (get_or general i []) x 0)) zero_start

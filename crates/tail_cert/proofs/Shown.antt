@@ -12,7 +12,7 @@ use Rattle.finite.proofs.Sums.{total_below_more, total_below_same, total_below_s
 use Rattle.conv_code.specs.Cost.{word_cost}
 use Rattle.tail_cert.specs.Certificate.{Held, IsMaybeTable, IsTable, IsWhole, StartHolds, StepsHold, from_any, IsAccepted, tables_there}
 use Rattle.tail_cert.specs.Form.{maybe_bytes, set_of, table_bytes, table_count, with_piece}
-use Rattle.tail_cert.specs.Stored.{AreStored, IsStored, is_in, shown, shown_at}
+use Rattle.tail_cert.specs.Stored.{AreStored, IsStored, has_table, shown, shown_at}
 use Rattle.tail_cert.proofs.Pieces.{AreWrittenTo, one_more}
 
 some_by : {A : Type 0} (b : Bool) (x : A) → is_some (cond b (Some x) None) ≡ b
@@ -20,14 +20,14 @@ some_by true x = refl
 some_by false x = refl
 
 -- the table of a state is there exactly where the set has the state
-pub some_shown : (set : List Bool) (tables : List (List (List ℕ))) (s : ℕ) → s < 64 → is_some (get_or (shown set tables) s None) ≡ is_in set s
+pub some_shown : (set : List Bool) (tables : List (List (List ℕ))) (s : ℕ) → s < 64 → is_some (get_or (shown set tables) s None) ≡ has_table set s
 unfolding shown
 some_shown set tables s below =
-    ap is_some (values_below_at (shown_at set tables) 64 s None below) ∙ some_by (is_in set s) (get_or tables s [])
+    ap is_some (values_below_at (shown_at set tables) 64 s None below) ∙ some_by (has_table set s) (get_or tables s [])
 
 -- as many are there as the set has states
-pub as_many : (set : List Bool) (tables : List (List (List ℕ))) → tables_there (shown set tables) ≡ total_below 64 (λ s. cond (is_in set s) 1 0)
-as_many set tables = total_below_same 64 (λ s. cond (is_some (get_or (shown set tables) s None)) 1 0) (λ s. cond (is_in set s) 1 0)
+pub as_many : (set : List Bool) (tables : List (List (List ℕ))) → tables_there (shown set tables) ≡ total_below 64 (λ s. cond (has_table set s) 1 0)
+as_many set tables = total_below_same 64 (λ s. cond (is_some (get_or (shown set tables) s None)) 1 0) (λ s. cond (has_table set s) 1 0)
     (λ s below. ap (λ b. cond b 1 0) (some_shown set tables s below))
 
 -- the set of the tables that are there
@@ -53,12 +53,12 @@ stored_whole c set tables h same = record {
   starts = rw same (record {
     count = values_below-length 64 (shown_at set tables);
     all = values_below-All IsMaybeTable 64 (shown_at set tables) None (λ s below.
-        maybe_table (is_in set s) (get_or tables s []) (λ there. h.tables_are.each s [] (h.tables_are.room s below there)));
+        maybe_table (has_table set s) (get_or tables s []) (λ there. h.tables_are.each s [] (h.tables_are.room s below there)));
   });
 }
 
 -- tables up to one past the last state of a set
-pub stored_to : (set : List Bool) (tables : List (List (List ℕ))) (end : ℕ) → ((s : ℕ) → s < 64 → is_in set s ≡ true → s < end) → All IsTable tables →
+pub stored_to : (set : List Bool) (tables : List (List (List ℕ))) (end : ℕ) → ((s : ℕ) → s < 64 → has_table set s ≡ true → s < end) → All IsTable tables →
     length tables ≤ 64 → end ≤ length tables → AreStored set tables
 stored_to set tables end past each most enough = record {
   each = each;
@@ -106,14 +106,14 @@ accepted_by values word cost general set tables kept P same stated holds =
 
 -- ---- how many of the first states have a table
 
-pub some_at : (set : List Bool) (tables : List (List (List ℕ))) (s : ℕ) → is_some (shown_at set tables s) ≡ is_in set s
-some_at set tables s = some_by (is_in set s) (get_or tables s [])
+pub some_at : (set : List Bool) (tables : List (List (List ℕ))) (s : ℕ) → is_some (shown_at set tables s) ≡ has_table set s
+some_at set tables s = some_by (has_table set s) (get_or tables s [])
 
 -- the table of a state that the set has, and of one that it has not
-pub shown_there : (set : List Bool) (tables : List (List (List ℕ))) (s : ℕ) → is_in set s ≡ true → shown_at set tables s ≡ Some (get_or tables s [])
+pub shown_there : (set : List Bool) (tables : List (List (List ℕ))) (s : ℕ) → has_table set s ≡ true → shown_at set tables s ≡ Some (get_or tables s [])
 shown_there set tables s there = ap (λ b. cond b (Some (get_or tables s [])) None) there
 
-pub shown_not_there : (set : List Bool) (tables : List (List (List ℕ))) (s : ℕ) → is_in set s ≡ false → shown_at set tables s ≡ None
+pub shown_not_there : (set : List Bool) (tables : List (List (List ℕ))) (s : ℕ) → has_table set s ≡ false → shown_at set tables s ≡ None
 shown_not_there set tables s none = ap (λ b. cond b (Some (get_or tables s [])) None) none
 
 fewer : (n m : ℕ) (f : ℕ → ℕ) → n ≤ m → total_below n f ≤ total_below m f
@@ -124,23 +124,23 @@ fewer n m f few =
     omega (arith, split')
 
 -- after the tables of the first states there is room for one more
-pub room_for : (set : List Bool) (tables : List (List (List ℕ))) (n from place len : ℕ) → n < 64 → is_in set n ≡ true →
-    from + table_count * total_below 64 (λ s. cond (is_in set s) 1 0) ≤ len →
+pub room_for : (set : List Bool) (tables : List (List (List ℕ))) (n from place len : ℕ) → n < 64 → has_table set n ≡ true →
+    from + table_count * total_below 64 (λ s. cond (has_table set s) 1 0) ≤ len →
     place ≡ from + table_count * total_below n (λ s. cond (is_some (shown_at set tables s)) 1 0) → place + table_count ≤ len
 room_for set tables n from place len below there room at =
-    let same = total_below_same n (λ s. cond (is_some (shown_at set tables s)) 1 0) (λ s. cond (is_in set s) 1 0) (λ s l. ap {B = ℕ} (λ b. cond b 1 0) (some_at set tables s)) in
-    let one : cond {A = ℕ} (is_in set n) 1 0 ≡ 1 = ap {B = ℕ} (λ b. cond b 1 0) there in
-    let more = total_below_more n (λ s. cond (is_in set s) 1 0) in
-    let most = fewer (n + 1) 64 (λ s. cond (is_in set s) 1 0) (omega (arith, below)) in
+    let same = total_below_same n (λ s. cond (is_some (shown_at set tables s)) 1 0) (λ s. cond (has_table set s) 1 0) (λ s l. ap {B = ℕ} (λ b. cond b 1 0) (some_at set tables s)) in
+    let one : cond {A = ℕ} (has_table set n) 1 0 ≡ 1 = ap {B = ℕ} (λ b. cond b 1 0) there in
+    let more = total_below_more n (λ s. cond (has_table set s) 1 0) in
+    let most = fewer (n + 1) 64 (λ s. cond (has_table set s) 1 0) (omega (arith, below)) in
     omega (arith, room, at, same, one, more, most)
 
 -- the tables that are written one state after the other are those that are shown
 pub shown_bytes : (set : List Bool) (tables : List (List (List ℕ))) (from place : ℕ) (old new : List ℕ) → AreWrittenTo (shown_at set tables) from place old new 64 →
     (new ≡ with_piece from (flat_map maybe_bytes (shown set tables)) old) ×
-    (length (flat_map maybe_bytes (shown set tables)) ≡ table_count * total_below 64 (λ s. cond (is_in set s) 1 0))
+    (length (flat_map maybe_bytes (shown set tables)) ≡ table_count * total_below 64 (λ s. cond (has_table set s) 1 0))
 unfolding shown
 shown_bytes set tables from place old new w =
-    let same = total_below_same 64 (λ s. cond (is_some (shown_at set tables s)) 1 0) (λ s. cond (is_in set s) 1 0) (λ s l. ap {B = ℕ} (λ b. cond b 1 0) (some_at set tables s)) in
+    let same = total_below_same 64 (λ s. cond (is_some (shown_at set tables s)) 1 0) (λ s. cond (has_table set s) 1 0) (λ s l. ap {B = ℕ} (λ b. cond b 1 0) (some_at set tables s)) in
     (w.bytes, w.size ∙ ap (λ n. table_count * n) same)
 
 -- ---- tables that are read, one start state after the other
@@ -160,7 +160,7 @@ read_none set tables from bytes stored = record {
 }
 
 -- one that is not there
-pub read_not : (set : List Bool) (tables : List (List (List ℕ))) (from place : ℕ) (bytes : List ℕ) (n : ℕ) → AreReadTo set tables from place bytes n → is_in set n ≡ false →
+pub read_not : (set : List Bool) (tables : List (List (List ℕ))) (from place : ℕ) (bytes : List ℕ) (n : ℕ) → AreReadTo set tables from place bytes n → has_table set n ≡ false →
     AreReadTo set tables from place bytes (n + 1)
 unfolding maybe_bytes
 read_not set tables from place bytes n known none =
@@ -178,14 +178,14 @@ read_not set tables from place bytes n known none =
 
 -- one that is there
 pub read_there : (states : List Bool) (tables : List (List (List ℕ))) (from place : ℕ) (bytes : List ℕ) (n : ℕ) (table : List (List ℕ)) → AreReadTo states tables from place bytes n →
-    n < 64 → is_in states n ≡ true → IsTable table → table_bytes table ≡ take table_count (drop place bytes) →
+    n < 64 → has_table states n ≡ true → IsTable table → table_bytes table ≡ take table_count (drop place bytes) →
     AreReadTo states (set tables n table) from (place + table_count) bytes (n + 1)
 unfolding maybe_bytes
 read_there states tables from place bytes n table known below there whole e =
     let inside = known.tables_are.room n below there in
     let at = known.at in
     let before : (s : ℕ) → s < n → shown_at states (set tables n table) s ≡ shown_at states tables s =
-    λ s l. let ne : s ≢ n = omega (arith, l) in ap (λ t. cond (is_in states s) (Some t) None) (get_or-set_other tables n s table [] ne) in
+    λ s l. let ne : s ≢ n = omega (arith, l) in ap (λ t. cond (has_table states s) (Some t) None) (get_or-set_other tables n s table [] ne) in
     let here : shown_at states (set tables n table) n ≡ Some table =
     shown_there states (set tables n table) n there ∙ ap Some (get_or-set_same tables n table [] inside) in
     let front = ap (flat_map maybe_bytes) (values_below_same n (shown_at states (set tables n table)) (shown_at states tables) before) in
@@ -206,10 +206,10 @@ read_there states tables from place bytes n table known below there whole e =
     }
 
 pub all_read : (set : List Bool) (tables : List (List (List ℕ))) (from place : ℕ) (bytes : List ℕ) → AreReadTo set tables from place bytes 64 →
-    from + table_count * total_below 64 (λ s. cond (is_in set s) 1 0) ≡ length bytes → flat_map maybe_bytes (shown set tables) ≡ drop from bytes
+    from + table_count * total_below 64 (λ s. cond (has_table set s) 1 0) ≡ length bytes → flat_map maybe_bytes (shown set tables) ≡ drop from bytes
 unfolding shown
 all_read set tables from place bytes known size =
-    let same = total_below_same 64 (λ s. cond (is_some (shown_at set tables s)) 1 0) (λ s. cond (is_in set s) 1 0) (λ s l. ap {B = ℕ} (λ b. cond b 1 0) (some_at set tables s)) in
+    let same = total_below_same 64 (λ s. cond (is_some (shown_at set tables s)) 1 0) (λ s. cond (has_table set s) 1 0) (λ s l. ap {B = ℕ} (λ b. cond b 1 0) (some_at set tables s)) in
     let at = known.at in
     let end : place ≡ length bytes = omega (arith, at, same, size) in
     known.read ∙ ap (λ m. take (m - from) (drop from bytes)) end ∙ take_rest bytes from

@@ -5,26 +5,26 @@ use Rattle.finite.specs.Lists.{values_below}
 use Rattle.tail_cert.specs.Certificate.{Counted, IsTable, IsTriple}
 
 -- whether the set has the state s
-abbrev pub is_in : List Bool → ℕ → Bool
-is_in set s = slice_index_or set (63 - s) false
+abbrev pub has_table : List Bool → ℕ → Bool
+has_table set s = slice_index_or set (63 - s) false
 
 -- the table of the state s, where the set has it
 abbrev pub shown_at : List Bool → List (List (List ℕ)) → ℕ → Option (List (List ℕ))
-shown_at set tables s = cond (is_in set s) (Some (slice_index_or tables s [])) None
+shown_at set tables s = cond (has_table set s) (Some (slice_index_or tables s [])) None
 
 -- the tables of all start states, for each the one that is there, or none
 unfoldable pub shown : List Bool → List (List (List ℕ)) → List (Option (List (List ℕ)))
 shown set tables = values_below 64 (shown_at set tables)
 
 -- each state of the set has its place among the tables
-abbrev pub HaveRoom : List Bool → List (List (List ℕ)) → Type 0
-HaveRoom set tables = (s : ℕ) → s < 64 → is_in set s ≡ true → s < length tables
+abbrev pub HaveTables : List Bool → List (List (List ℕ)) → Type 0
+HaveTables set tables = (s : ℕ) → s < 64 → has_table set s ≡ true → s < length tables
 
 -- the tables that stand in memory: at most 64, with one for each state of the set
 pub record AreStored (set : List Bool) (tables : List (List (List ℕ))) : Type 0 where
   pub each : All IsTable tables
   pub most : length tables ≤ 64
-  pub room : HaveRoom set tables
+  pub room : HaveTables set tables
 
 -- what memory holds
 pub record IsStored (values : List (List ℤ)) (word : List Bool) (cost : ℕ) (general : List (List ℕ)) (set : List Bool) (tables : List (List (List ℕ))) : Type 0 where

@@ -5,7 +5,7 @@ ghost use Rattle.std.specs.Vec.{vec_capacity};
 ghost use Rattle.finite.specs.Sums.{total_below};
 ghost use Rattle.tail_cert.specs.Certificate.{Held, IsTable, of_zeros, tables_there};
 ghost use Rattle.tail_cert.specs.Form.{bytes_of, head_count, table_count};
-ghost use Rattle.tail_cert.specs.Stored.{AreStored, IsStored, is_in, shown};
+ghost use Rattle.tail_cert.specs.Stored.{AreStored, IsStored, has_table, shown};
 
 use crate::{HEAD_BYTES, TABLE_BYTES};
 use cs_bits::Bits;
@@ -80,14 +80,14 @@ fn zero_table() -> Table
 /// Whether a set of start states has the state s.
 pub(crate) fn has(set: &Bits<64>, s: usize) -> bool
     requires { s < 64 }
-    ensures { result ≡ is_in set.now s }
+    ensures { result ≡ has_table set.now s }
 {
     set.get(63 - s)
 }
 
 /// One past the last start state of a set, and 0 where it has none.
 fn end_of(set: &Bits<64>) -> usize
-    ensures past { (s : ℕ) → s < 64 → is_in set.now s ≡ true → s < result }
+    ensures past { (s : ℕ) → s < 64 → has_table set.now s ≡ true → s < result }
     ensures most { result ≤ 64 }
 {
     let mut end = 0;
@@ -127,7 +127,7 @@ pub(crate) fn make_tables(set: &Bits<64>, tables: &mut Vec<Table>)
 
 /// How many start states a set has.
 pub(crate) fn states_in(set: &Bits<64>) -> usize
-    ensures count { result ≡ total_below 64 (λ s. cond (is_in set.now s) 1 0) }
+    ensures count { result ≡ total_below 64 (λ s. cond (has_table set.now s) 1 0) }
     ensures most { result ≤ 64 }
 {
     let mut count = 0;
@@ -139,7 +139,7 @@ pub(crate) fn states_in(set: &Bits<64>) -> usize
 
 /// How many bytes a certificate has with the tables of the start states of a set.
 pub(crate) fn length_with(set: &Bits<64>) -> usize
-    ensures { result ≡ head_count + table_count * total_below 64 (λ s. cond (is_in set.now s) 1 0) }
+    ensures { result ≡ head_count + table_count * total_below 64 (λ s. cond (has_table set.now s) 1 0) }
 {
     HEAD_BYTES + TABLE_BYTES * states_in(set)
 }

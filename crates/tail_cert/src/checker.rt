@@ -5,7 +5,7 @@ ghost use Rattle.finite.specs.Sizes.{RowsWithin};
 ghost use Rattle.conv_code.specs.Cost.{word_cost};
 ghost use Rattle.tail_cert.specs.Certificate.{from_any, from_state, IsAccepted, IsLowerBound, StartHolds, StepsHold};
 ghost use Rattle.tail_cert.specs.Steps.{BothHold, RowHolds, StepHolds};
-ghost use Rattle.tail_cert.specs.Stored.{HaveRoom, shown_at};
+ghost use Rattle.tail_cert.specs.Stored.{HaveTables, shown_at};
 
 use crate::Certificate;
 use crate::certificate::{Table, has};
@@ -92,7 +92,7 @@ fn start_holds(
     s: usize,
 ) -> bool
     requires state { s < 64 }
-    requires room { HaveRoom set.now tables.now }
+    requires room { HaveTables set.now tables.now }
     ensures { IsTrue result
         ↔ StartHolds costs.now.values.now cost general.now s (shown_at set.now tables.now s) }
 {
@@ -111,7 +111,7 @@ fn starts_hold(
     set: &Bits<64>,
     tables: &[Table],
 ) -> bool
-    requires { HaveRoom set.now tables.now }
+    requires { HaveTables set.now tables.now }
     ensures { IsTrue result ↔ ((s : ℕ) → s < 64 →
         StartHolds costs.now.values.now cost general.now s (shown_at set.now tables.now s)) }
 {
@@ -132,7 +132,7 @@ fn tables_hold(
     tables: &[Table],
 ) -> bool
     requires sizes { RowsWithin (2 ^ 20) values.now }
-    requires room { HaveRoom set.now tables.now }
+    requires room { HaveTables set.now tables.now }
     ensures { IsTrue result ↔ (StepsHold values.now from_any general.now × ((s : ℕ) → s < 64 →
         StartHolds values.now cost general.now s (shown_at set.now tables.now s))) }
 {

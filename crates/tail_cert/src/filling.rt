@@ -5,7 +5,7 @@ ghost use Rattle.finite.specs.Sizes.{RowsWithin};
 ghost use Rattle.tailbite.specs.LeastWord.{IsLeastWord};
 ghost use Rattle.tail_cert.specs.Certificate.{IsAccepted, IsTable, bound, from_any};
 ghost use Rattle.tail_cert.specs.Forward.{HasLeastRows, IsFilled, IsTableFrom};
-ghost use Rattle.tail_cert.specs.Stored.{AreStored, is_in};
+ghost use Rattle.tail_cert.specs.Stored.{AreStored, has_table};
 
 use crate::Certificate;
 use crate::certificate::{Table, has, make_tables};
@@ -41,7 +41,7 @@ fn fill_start(costs: &PathCosts, s: usize, table: &mut Table)
 
 /// The set of the start states whose bound in the general table, of all steps back to them, is below the cost.
 fn states_below(cost: u32, general: &Table) -> Bits<64>
-    ensures needed { (s : ℕ) → s < 64 → is_in result s ≡ nat_lt (bound from_any general.now 40 s) cost }
+    ensures needed { (s : ℕ) → s < 64 → has_table result s ≡ nat_lt (bound from_any general.now 40 s) cost }
     ensures states { length result ≡ 64 }
 {
     let mut set = [false; 64];
@@ -54,7 +54,7 @@ fn states_below(cost: u32, general: &Table) -> Bits<64>
 /// Fills the tables of the start states of a set.
 fn fill_tables(costs: &PathCosts, set: &Bits<64>, tables: &mut [Table])
     requires tables { AreStored set.now tables.old }
-    ensures bounds { (s : ℕ) → s < 64 → is_in set.now s ≡ true →
+    ensures bounds { (s : ℕ) → s < 64 → has_table set.now s ≡ true →
         IsTableFrom costs.now.values.now s (slice_index_or tables.new s []) }
     ensures tables { AreStored set.now tables.new }
 {

@@ -5,7 +5,7 @@ ghost use Rattle.std.specs.List.{flat_map};
 ghost use Rattle.finite.specs.Sums.{total_below};
 ghost use Rattle.tail_cert.specs.Certificate.{Counted, Held, IsRow, IsTable, IsTriple, IsWhole};
 ghost use Rattle.tail_cert.specs.Form.{Breaks, IsFirstBreak, IsFirstBreakUpTo, IsLargeValue, IsOffMark, IsUnbrokenUpTo, bytes_of, count_of, entry_bytes, head_count, maybe_bytes, most_count, place_bytes, row_bytes, set_bytes, table_bytes, table_count, tells_table, value_at, value_bytes, word_bytes};
-ghost use Rattle.tail_cert.specs.Stored.{AreStored, is_in, shown};
+ghost use Rattle.tail_cert.specs.Stored.{AreStored, has_table, shown};
 
 use crate::certificate::{Table, has, length_with, make_tables};
 use crate::{Certificate, FRONT_BYTES, HEAD_BYTES, SET_PLACE, TABLE_BYTES};
@@ -142,7 +142,7 @@ fn get_table(bytes: &[u8], at: usize, table: &mut Table)
 /// Reads the set of the start states that have a table.
 fn get_set(bytes: &[u8]) -> Bits<64>
     requires { head_count ≤ length bytes.now }
-    ensures states { (s : ℕ) → s < 64 → is_in result s ≡ tells_table bytes.now s }
+    ensures states { (s : ℕ) → s < 64 → has_table result s ≡ tells_table bytes.now s }
     ensures bytes { (tables : List (List (List ℕ))) →
         set_bytes (shown result tables) ≡ take 8 (drop 10493 bytes.now) }
     ensures size { length result ≡ 64 }
@@ -162,7 +162,7 @@ fn whole_length(bytes: &[u8]) -> usize
 /// Reads the tables of the start states of a set.
 fn get_tables(bytes: &[u8], at: usize, set: &Bits<64>, tables: &mut [Table])
     requires tables { AreStored set.now tables.old }
-    requires size { at + table_count * total_below 64 (λ s. cond (is_in set.now s) 1 0) ≡ length bytes.now }
+    requires size { at + table_count * total_below 64 (λ s. cond (has_table set.now s) 1 0) ≡ length bytes.now }
     ensures bytes { flat_map maybe_bytes (shown set.now tables.new) ≡ drop at bytes.now }
     ensures tables { AreStored set.now tables.new }
 {

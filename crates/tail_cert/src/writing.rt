@@ -6,7 +6,7 @@ ghost use Rattle.finite.specs.Sizes.{AllWithin, RowsWithin};
 ghost use Rattle.finite.specs.Sums.{total_below};
 ghost use Rattle.tail_cert.specs.Certificate.{IsWhole, tables_there};
 ghost use Rattle.tail_cert.specs.Form.{bytes_of, entry_bytes, head_count, mark, maybe_bytes, place_bytes, row_bytes, set_bytes, table_bytes, table_count, value_bytes, with_piece, word_bytes};
-ghost use Rattle.tail_cert.specs.Stored.{HaveRoom, is_in, shown};
+ghost use Rattle.tail_cert.specs.Stored.{HaveTables, has_table, shown};
 
 use crate::certificate::{Table, has};
 use crate::{Certificate, HEAD_BYTES, SET_PLACE, TABLE_BYTES};
@@ -98,11 +98,11 @@ fn put_set(set: &Bits<64>, at: usize, out: &mut [u8])
 
 /// Writes the tables of the start states of a set.
 fn put_tables(set: &Bits<64>, tables: &[Table], at: usize, out: &mut [u8])
-    requires starts { HaveRoom set.now tables.now }
-    requires room { at + table_count * total_below 64 (λ s. cond (is_in set.now s) 1 0) ≤ length out.old }
+    requires starts { HaveTables set.now tables.now }
+    requires room { at + table_count * total_below 64 (λ s. cond (has_table set.now s) 1 0) ≤ length out.old }
     ensures bytes { out.new ≡ with_piece at (flat_map maybe_bytes (shown set.now tables.now)) out.old }
     ensures count { length (flat_map maybe_bytes (shown set.now tables.now)) ≡
-        table_count * total_below 64 (λ s. cond (is_in set.now s) 1 0) }
+        table_count * total_below 64 (λ s. cond (has_table set.now s) 1 0) }
 {
     let mut place = at;
     for s in 0..64 {
