@@ -1,4 +1,3 @@
-pub mod Bits
 pub mod Codes
 pub mod Windows
 pub mod Edges

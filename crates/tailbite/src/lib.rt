@@ -17,5 +17,5 @@ pub use costs::{StepCosts, cost_at, fill_costs};
 pub use laws::{one_least_word, values_tell_the_word};
 pub use passes::{CostRow, step_on};
 pub use search::{free_at, least, least_by};
-pub use steps::{before, branch, next};
+pub use steps::next;
 pub use trellis::Trellis;
