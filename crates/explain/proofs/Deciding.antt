@@ -33,7 +33,7 @@ use Rattle.pbch.specs.Master.{TellsMaster}
 use Rattle.lte_types.specs.Frames.{Frames, frames_from}
 use Rattle.lte_types.specs.declared.carrier.Carrier.TheVariants.{OnePort, TwoPorts, LongPrefix, FourPorts}
 use Rattle.explain.specs.Frame.{frame_at, seen_slot, broadcast_slot}
-use Rattle.explain.specs.Receiver.{Receiver, Subframes, by_slots, hits_by, place_by, has_step_before, sums_by}
+use Rattle.explain.specs.Receiver.{Receiver, Subframes, broadcast_by, by_slots, hits_by, place_by, has_step_before, sums_by}
 use Rattle.explain.specs.Entries.{IsEntryFor, IsMasterFor, AreEntriesFor, IsListFor, place_of, frames_of, master_of}
 use Rattle.explain.specs.System.{even_frame, IsTried, IsReadFrom, FrameAnswers, IsSystemBy, IsSystemWith}
 use Rattle.explain.specs.Deciding.{deciding_length, FirstFramesDecide, AreSameSubframes, LooksAtFirstFrames, AreDecidedFor, FirstFramesDecideAll}
@@ -66,11 +66,16 @@ taken_agree LongPrefix a b agree = ap (filter (has_step_before LongPrefix)) (hit
 
 -- ---- receivers of slots
 
--- a receiver of slots with the normal prefix looks at these alone
+-- the values of the broadcast channel in slots with the normal prefix are the same
+pub broadcast_agrees : (values : Valuing) (a b : List Sample) (place : Place) (j : ℕ) → AgreeBefore deciding_length a b → place.start < frame_length → j ≤ 15 →
+    broadcast_by values a place j ≡ broadcast_by values b place j
+broadcast_agrees values a b place j agree early few =
+    ap (λ (slot : SeenSlot). received_values_by values slot) (deciding_slot place.start j 1 place.id a b agree early few (omega arith))
+
+-- a receiver of such slots looks at these alone
 pub slots_look : (carrier : Carrier) (taken : ℕ → Bool) (values : Valuing) → LooksAtFirstFrames (by_slots carrier taken values)
 slots_look carrier taken values = record {
-  broadcast = λ a b place j agree early few.
-      ap (λ (slot : SeenSlot). received_values_by values slot) (deciding_slot place.start j 1 place.id a b agree early few (omega arith));
+  broadcast = broadcast_agrees values;
   subframes = λ a b place j agree early few duration resource.
       ap₂ (λ (first second : SeenSlot). subframe_by carrier values first second duration resource)
       (deciding_slot place.start j 10 place.id a b agree early few (omega arith)) (deciding_slot place.start j 11 place.id a b agree early few (omega arith));

@@ -24,7 +24,7 @@ FirstFramesDecide =
     deciding_length ≤ length second →
     AgreeBefore deciding_length first second → IsExplained first list → IsExplained second list
 
--- ---- by any receiver
+-- ---- the lists of all receivers
 
 -- the values of subframe 5 of frame j, where a receiver reads any, are the same in two recordings
 abbrev pub AreSameSubframes : Result Subframes Sib1Reason → List Sample → List Sample → Place → ℕ → Type 0
@@ -33,8 +33,8 @@ AreSameSubframes (Ok values) first second place j =
     values first place j duration resource ≡ values second place j duration resource
 AreSameSubframes (Err reason) first second place j = Unit {0}
 
--- of recordings that agree in the first 326,400 samples a receiver has the same values of frames 0 to 15 of a cell
--- that starts within the first frame
+-- a receiver looks at the first frames alone: of recordings that agree in their first 326,400 samples it has the same
+-- values of frames 0 to 15 of a cell that starts within the first frame
 pub record LooksAtFirstFrames (receiver : Receiver) : Type 0 where
   pub broadcast : (first second : List Sample) (place : Place) (j : ℕ) →
       AgreeBefore deciding_length first second → place.start < frame_length → j ≤ 15 →

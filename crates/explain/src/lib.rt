@@ -30,6 +30,7 @@ pub use grant::{grant_of, one_grant};
 pub use laws::{
     one_frame_is_enough, one_reading, the_first_frames_decide, the_list_in_plain_words,
 };
+pub use one_port::OnePort;
 pub use reading::{explain_by, explain_hits};
 pub use readings::Reading;
 pub use slots::{received_in, slot_of};

@@ -11,8 +11,8 @@ use sample_file::Recording;
 use soft_bits::Slot;
 use system_block::Decoders;
 
-// The way to read frames by one antenna port: each master block is taken, whatever ports it tells.
-pub(crate) struct OnePort;
+/// The way to read frames by one antenna port: each master block is taken, whatever ports it tells. (own)
+pub struct OnePort;
 
 impl FrameReader for OnePort {
     ghost receiver = { one_port_receiver };

@@ -9,8 +9,9 @@ use pbch::{Master, Received};
 use sample_file::Recording;
 use system_block::Decoders;
 
-// The way to read frames with four antenna ports, to the master block: those that tell four are taken, and no others.
-pub(crate) struct FourPorts;
+/// The way to read frames with four antenna ports, to the master block: those that tell four are taken, and no
+/// others. (own)
+pub struct FourPorts;
 
 impl FrameReader for FourPorts {
     ghost receiver = { four_ports_receiver };

@@ -11,5 +11,6 @@ mod slot;
 
 pub use clean::explain_clean;
 pub use explain::Workspace as Workspace4;
+pub use frames::FourPorts;
 pub use laws::pair_values_speak_for_the_sent_bits;
 pub use slot::FourSlot;

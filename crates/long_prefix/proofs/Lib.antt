@@ -12,3 +12,5 @@ pub mod HeldLong
 pub mod Numbered
 -- With the extended prefix a cell sends what is sent of the plan that its own has.
 pub mod SentPlan
+-- which samples the receiver looks at
+pub mod Deciding

@@ -12,5 +12,5 @@ pub use explain::Workspace as Workspace3;
 pub use listing::explain_clean;
 pub use made::{LongMade, made_is_clean, make};
 pub use plan::LongPlan;
-pub use reading::{LongFrame, long_frame};
+pub use reading::{ExtendedPrefix, LongFrame, long_frame};
 pub use sending::sample;

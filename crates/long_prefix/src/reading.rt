@@ -23,8 +23,9 @@ use sample_file::Recording;
 use soft_bits::{Seen, energy_of, estimate, pilots_of, soft_pair};
 use system_block::Decoders;
 
-// The way to read frames with the extended cyclic prefix, to the master block: each is taken, whatever ports it tells.
-pub(crate) struct ExtendedPrefix;
+/// The way to read frames with the extended cyclic prefix, to the master block: each is taken, whatever ports it
+/// tells. (own)
+pub struct ExtendedPrefix;
 
 impl FrameReader for ExtendedPrefix {
     ghost receiver = { long_prefix_receiver };

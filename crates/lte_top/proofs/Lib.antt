@@ -12,3 +12,4 @@ pub mod Complete
 pub mod Found
 pub mod Applied
 pub mod Carriers
+pub mod Fronts

@@ -7,7 +7,7 @@ use Rattle.lte_types.specs.declared.frame.Half.{Half}
 use Rattle.lte_types.specs.declared.hit.Hit.{Hit}
 use Rattle.lte_types.specs.declared.carrier.Carrier.{Carrier}
 use Rattle.lte_types.specs.Identity.{cell_of}
-use Rattle.lte_types.specs.Numerology.{normal}
+use Rattle.lte_types.specs.Numerology.{normal, least_samples, most_samples}
 use Rattle.pss_search.specs.Hits.{hits_of}
 use Rattle.sss_detect.specs.Identity.{identity_of}
 use Rattle.sss_detect.specs.Place.{start_of}
@@ -22,6 +22,8 @@ use Rattle.report.specs.EvidenceJson.{Shown, evidence_json}
 use Rattle.report.specs.HitsJson.{hits_json, ids_json}
 use Rattle.lte_words.specs.declared.form.Report.{Report}
 use Rattle.lte_words.specs.declared.form.Report.TheVariants.{Hits, Ids, Search, Evidence, Tell}
+use Rattle.lte_words.specs.declared.form.Rule.{Rule}
+use Rattle.lte_words.specs.declared.form.Rule.TheVariants.{Of, Cancel, All}
 use Rattle.lte_words.specs.declared.form.Output.{Output}
 use Rattle.lte_words.specs.declared.form.Output.TheVariants.{Text, Json}
 use Rattle.pss_search.specs.Correlation.{wave_power}
@@ -29,6 +31,7 @@ use Rattle.turning.specs.AsJson.{IsTellJson}
 use Rattle.turning.specs.Texts.{IsTellText}
 use Rattle.report.specs.declared.measured.MeasuredHit.{MeasuredHit}
 use Rattle.report.specs.declared.measured.MeasuredId.{MeasuredId}
+use Rattle.explain.specs.Deciding.{deciding_length}
 use Rattle.lte_top.specs.Line.{as_line, IsLine}
 use Rattle.lte_top.specs.Searching.{receiver_of, IsListOf, IsSearch}
 
@@ -101,3 +104,18 @@ IsReport Ids output samples text = IsIds output samples text
 IsReport (Search rule) output samples text = IsSearch rule output samples text
 IsReport (Evidence carrier) output samples text = IsEvidence carrier output samples text
 IsReport Tell output samples text = IsTelling output samples text
+
+-- how many samples of a recording are kept for a list, from the first on: of the others it needs none, since lists
+-- look at 17 frames
+abbrev pub kept_for_list : Rule → ℕ
+kept_for_list (Of carrier) = deciding_length
+kept_for_list Cancel = most_samples
+kept_for_list All = deciding_length
+
+-- how many are kept for a report: hits stand in the first frame or shortly after it
+abbrev pub kept_for : Report → ℕ
+kept_for Hits = least_samples
+kept_for Ids = least_samples
+kept_for (Search rule) = kept_for_list rule
+kept_for (Evidence carrier) = most_samples
+kept_for Tell = most_samples

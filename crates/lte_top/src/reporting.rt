@@ -2,13 +2,15 @@
 
 ghost use Rattle.std.specs.Prelude.{◌≡◌, ◌≤◌, All, IfOk, IfErr, map, string_bytes};
 ghost use Rattle.cs_outside.specs.Outside.{SourceTold};
-ghost use Rattle.sample_file.specs.Reading.{HasReadRecording};
+ghost use Rattle.lte_types.specs.Numerology.{least_samples, most_samples};
+ghost use Rattle.sample_file.specs.Reading.{HasReadRecording, HasReadFront};
 ghost use Rattle.sample_file.specs.Recording.{IsRecording};
 ghost use Rattle.pss_search.specs.Hits.{IsInSpan, IsSmallHit, hits_of as all_hits};
 ghost use Rattle.lte_top.specs.Forms.{recording};
 ghost use Rattle.lte_top.specs.Line.{as_line};
 ghost use Rattle.lte_top.specs.Reports.{identified as identified_in, identified_by, IsEvidence, IsEvidenceJson};
-ghost use Rattle.lte_top.specs.Reports.{IsEvidenceText, IsHits, IsIds, IsReport, IsTelling};
+ghost use Rattle.lte_top.specs.Reports.{IsEvidenceText, IsHits, IsIds, IsReport, IsTelling, kept_for as kept_in};
+ghost use Rattle.lte_top.specs.Reports.{kept_for_list as kept_in_list};
 ghost use Rattle.lte_top.specs.Run.{Cause, HasOutput};
 ghost use Rattle.lte_words.specs.declared.form.Form.TheVariants.{Report as Reports};
 
@@ -17,17 +19,20 @@ use crate::searching::{read_list, room_for_list, search_text};
 use crate::status::Status;
 use cs_outside::Source;
 use evidence::{evidence_of_list, support_of_list};
-use lte_types::{Carrier, Half, Hit};
-use lte_words::{Output, Report};
+use lte_types::{Carrier, FRAME_LENGTH, Half, Hit, LEAST_SAMPLES, MOST_SAMPLES};
+use lte_words::{Output, Report, Rule};
 use pss_search::{HitList, hits};
 use report::{
     IdentifiedHit, json_of_evidence, json_of_hits, json_of_ids, text_of_evidence, text_of_hits,
     text_of_ids,
 };
-use sample_file::{Recording, SampleForm, read_as};
+use sample_file::{Recording, SampleForm, read_as, read_front};
 use sss_detect::{cell_id, frame_start, identity};
 use std::alloc::{AllocError, Global};
 use turning::{tell_json, tell_text};
+
+// The samples of 17 frames, at which lists look.
+const DECIDING: usize = 17 * FRAME_LENGTH;
 
 // The text of a report about the recording of a source, which is read to its end.
 #[inline(never)]
@@ -43,9 +48,55 @@ pub(crate) fn report_text<S: Source>(
     ensures err { IfErr result (Cause (recording form) (S.told source.old) (S.told source.new)) }
     ensures never_falls { (S.told source.old).faults ≤ (S.told source.new).faults }
 {
-    let recording = recording_of(alloc, form, source)?;
-    let text = text_of_report(alloc, report, output, &recording)?;
+    let front = front_of(alloc, form, kept_for(report), source)?;
+    let text = text_of_report(alloc, report, output, &front)?;
     Ok(text)
+}
+
+// How many samples of a recording are kept for a report: of the others it needs none.
+fn kept_for(report: Report) -> usize
+    ensures value { result ≡ kept_in report }
+    ensures some { least_samples ≤ result }
+    ensures few { result ≤ most_samples }
+{
+    match report {
+        Report::Hits => LEAST_SAMPLES,
+        Report::Ids => LEAST_SAMPLES,
+        Report::Search(rule) => kept_for_list(rule),
+        Report::Evidence(_) => MOST_SAMPLES,
+        Report::Tell => MOST_SAMPLES,
+    }
+}
+
+// How many are kept for a list by a rule.
+fn kept_for_list(rule: Rule) -> usize
+    ensures value { result ≡ kept_in_list rule }
+    ensures some { least_samples ≤ result }
+    ensures few { result ≤ most_samples }
+{
+    match rule {
+        Rule::Of(_) => DECIDING,
+        Rule::Cancel => MOST_SAMPLES,
+        Rule::All => DECIDING,
+    }
+}
+
+// The first samples of the recording of a source, which is read to its end.
+fn front_of<S: Source>(
+    alloc: Global,
+    form: SampleForm,
+    most: usize,
+    source: &mut S,
+) -> Result<Recording, Status>
+    requires some { least_samples ≤ most }
+    requires few { most ≤ most_samples }
+    ensures ok { IfOk result (λ front. HasReadFront form most front (S.told source.old) (S.told source.new)) }
+    ensures valid { IfOk result IsRecording }
+    ensures err { IfErr result (Cause (recording form) (S.told source.old) (S.told source.new)) }
+    ensures never_falls { (S.told source.old).faults ≤ (S.told source.new).faults }
+{
+    let front = read_front(alloc, source, form, most)?;
+    Ok(front)
 }
 
 // The recording of a source, which is read to its end.
@@ -118,7 +169,7 @@ fn ids_text(alloc: Global, output: Output, recording: &Recording) -> Result<Stri
 }
 
 // The hits of a recording.
-fn hits_of(alloc: Global, recording: &Recording) -> Result<HitList, AllocError>
+pub(crate) fn hits_of(alloc: Global, recording: &Recording) -> Result<HitList, AllocError>
     requires { IsRecording recording.now }
     ensures list { IfOk result (λ list. list ≡ all_hits recording.now) }
     ensures span { IfOk result (λ list. All IsInSpan list) }

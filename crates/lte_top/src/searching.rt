@@ -3,18 +3,23 @@
 ghost use Rattle.std.specs.Prelude.{◌≡◌, IfOk, string_bytes};
 ghost use Rattle.std.specs.List.{AllZip};
 ghost use Rattle.sample_file.specs.Recording.{IsRecording};
+ghost use Rattle.pss_search.specs.Hits.{hits_of as all_hits};
+ghost use Rattle.explain.specs.Entries.{IsListFor};
 ghost use Rattle.explain.specs.Readings.{IsReadingFor};
 ghost use Rattle.lte_top.specs.Searching.{receiver_of, IsListOf, IsListText, IsTextOfAll, IsCancelled, IsSearch};
 ghost use Rattle.lte_top.specs.Searching.{list_text as text_of, lists_text as texts_of};
 
-use crate::reporting::line_of;
-use explain::{EntryList, Workspace};
-use lte_types::{Carrier, Entry};
+use crate::reporting::{hits_of, line_of};
+use explain::{EntryList, FrameReader, OnePort, Workspace, explain_hits};
+use four_ports::FourPorts;
+use long_prefix::ExtendedPrefix;
+use lte_types::{Carrier, Entry, Hit};
 use lte_words::{Output, Rule};
 use report::{json, json_of_all, text, text_of_all};
 use rounds::{cancel_json, cancel_text};
 use sample_file::Recording;
 use std::alloc::{AllocError, Global};
+use two_ports::TwoPorts;
 
 // The text of the list of a recording by a rule.
 pub(crate) fn search_text(
@@ -100,12 +105,16 @@ pub(crate) fn read_list(
 
 // The text of the lists of every carrier.
 fn text_of_each(alloc: Global, output: Output, recording: &Recording) -> Result<String, AllocError>
+    requires { IsRecording recording.now }
     ensures { IfOk result (λ text. IsTextOfAll output recording.now (string_bytes text)) }
 {
-    let one = list_of(alloc, Carrier::OnePort, recording)?;
-    let two = list_of(alloc, Carrier::TwoPorts, recording)?;
-    let long = list_of(alloc, Carrier::LongPrefix, recording)?;
-    let four = list_of(alloc, Carrier::FourPorts, recording)?;
+    let found = hits_of(alloc, recording)?;
+    let hits = found.slice();
+    let mut work = Workspace::new(alloc)?;
+    let one = list_by(alloc, &OnePort, recording, hits, &mut work)?;
+    let two = list_by(alloc, &TwoPorts, recording, hits, &mut work)?;
+    let long = list_by(alloc, &ExtendedPrefix, recording, hits, &mut work)?;
+    let four = list_by(alloc, &FourPorts, recording, hits, &mut work)?;
     lists_text(
         alloc,
         output,
@@ -114,6 +123,22 @@ fn text_of_each(alloc: Global, output: Output, recording: &Recording) -> Result<
         long.slice(),
         four.slice(),
     )
+}
+
+// The list of a recording by a receiver, where its hits are at hand.
+fn list_by<F: FrameReader>(
+    alloc: Global,
+    reader: &F,
+    recording: &Recording,
+    hits: &[Hit],
+    work: &mut Workspace,
+) -> Result<EntryList, AllocError>
+    requires { hits.now ≡ all_hits recording.now }
+    ensures { IfOk result (IsListFor F.receiver recording.now) }
+{
+    let mut list = EntryList::new(alloc)?;
+    explain_hits(reader, recording, hits, work, &mut list);
+    Ok(list)
 }
 
 // The text of four lists.

@@ -3,13 +3,13 @@ use Rattle.std.proofs.Common.{◌≡◌, ℕ, zero, suc, ◌+◌, ◌-◌, ◌*�
 use Rattle.std.specs.List.{copy_within}
 use Rattle.std.proofs.Math.Seq.{take-nil, take_all}
 use Rattle.cs_num.specs.declared.Sample.{Sample}
-use Rattle.lte_types.specs.Numerology.{most_samples}
+use Rattle.lte_types.specs.Numerology.{least_samples, most_samples}
 use Rattle.cs_outside.specs.Outside.{SourceTold}
 use Rattle.sample_file.specs.declared.form.SampleForm.{SampleForm}
 use Rattle.sample_file.specs.declared.form.SampleForm.TheVariants.{Ci16, Cu8}
-use Rattle.sample_file.specs.Recording.{width, component_of, centred, samples_of, samples_of_8, samples_in}
+use Rattle.sample_file.specs.Recording.{width, component_of, centred, samples_of, samples_of_8, samples_in, IsRecording}
 use Rattle.sample_file.specs.Steps.{AreKept, TakesFront}
-use Rattle.sample_file.specs.Reading.{most_bytes, HasReadRecording, HasReadFront}
+use Rattle.sample_file.specs.Reading.{least_bytes, most_bytes, HasReadRecording, HasReadFront}
 use Rattle.sample_file.proofs.Samples.{length-of_whole, length-samples_in}
 use Rattle.sample_file.proofs.Progress.{end_taken}
 
@@ -115,3 +115,14 @@ whole_front form front before now f =
     let few = few_samples form f.read.input f.read.read.within in
     let all : front ≡ f.recording = f.front_is ∙ take_all most_samples f.recording (subst (λ (l : List Sample). length l ≤ most_samples) (sym f.read.samples) few) in
     subst (λ (l : List Sample). HasReadRecording form l before now) (sym all) f.read
+
+-- what was read is a recording
+pub recording_is : (form : SampleForm) (recording : List Sample) (before now : SourceTold) → HasReadRecording form recording before now → IsRecording recording
+recording_is form recording before now read = subst IsRecording (sym read.samples) (record {
+  least = enough_samples form read.input read.enough;
+  most = few_samples form read.input read.read.within;
+})
+  where
+    enough_samples : (form : SampleForm) (input : List ℕ) → least_bytes form ≤ length input → least_samples ≤ length (samples_in form input)
+    enough_samples Ci16 input enough = let all = length-samples_in Ci16 input in omega (arith, enough, all.1)
+    enough_samples Cu8 input enough = let all = length-samples_in Cu8 input in omega (arith, enough, all.1)

@@ -3,4 +3,4 @@ pub mod Agree
 pub mod Progress
 pub mod Waiting
 pub mod Chunks
-mod Keeping
+pub mod Keeping

@@ -23,7 +23,7 @@ pub record HasReadSamples (form : SampleForm) (samples : List Sample) (begun : L
 
 -- ---- the first samples are kept, and the rest counted
 
--- of these samples the first are kept, as many as `most` says, and all are counted
+-- samples of which the first are kept, as many as `most` says, and all are counted
 pub record AreKept (most : ℕ) (samples kept : List Sample) (count : ℕ) : Type 0 where
   pub kept_are : kept ≡ take most samples
   pub count_is : count ≡ length samples

@@ -9,8 +9,8 @@ use pbch::{Master, Received};
 use sample_file::Recording;
 use system_block::Decoders;
 
-// The way to read frames with two antenna ports: master blocks that tell two are taken, and no others.
-pub(crate) struct TwoPorts;
+/// The way to read frames with two antenna ports: master blocks that tell two are taken, and no others. (own)
+pub struct TwoPorts;
 
 impl FrameReader for TwoPorts {
     ghost receiver = { two_ports_receiver };

@@ -11,6 +11,7 @@ mod value;
 
 pub use clean::explain_clean;
 pub use explain::Workspace as Workspace2;
+pub use frames::TwoPorts;
 pub use laws::pair_values_speak_for_the_sent_bits;
 pub use slot::PairSlot;
 pub use value::{pair, point_values};

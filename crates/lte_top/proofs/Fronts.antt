@@ -1,0 +1,165 @@
+-- What a report needs of a recording stands in the samples that are kept for it.
+use Rattle.std.proofs.Common.{◌≡◌, ℕ, zero, suc, ◌+◌, ◌<◌, ◌≤◌, Bool, true, false, nat_le, List, [], ◌∷◌, length, map, take, refl, ap, ap₂, sym, subst, ◌∙◌, arith}
+use Rattle.std.specs.Prelude.{All, string_bytes}
+use Rattle.std.proofs.lemmas.Bool.Decides.{nat_tests}
+use Rattle.std.proofs.lemmas.List.{take_all, take-take, length-take-le}
+use Rattle.cs_num.specs.declared.Sample.{Sample}
+use Rattle.lte_types.specs.Numerology.{normal, least_samples, most_samples}
+use Rattle.lte_types.specs.declared.carrier.Carrier.{Carrier}
+use Rattle.lte_types.specs.declared.carrier.Carrier.TheVariants.{OnePort, TwoPorts, LongPrefix, FourPorts}
+use Rattle.lte_types.specs.declared.entry.Entry.{Entry}
+use Rattle.lte_types.specs.declared.hit.Hit.{Hit}
+use Rattle.cs_outside.specs.Outside.{SourceTold}
+use Rattle.sample_file.specs.declared.form.SampleForm.{SampleForm}
+use Rattle.sample_file.specs.Recording.{AgreeBefore, IsRecording}
+use Rattle.sample_file.specs.Reading.{HasReadFront}
+use Rattle.sample_file.proofs.Keeping.{recording_is}
+use Rattle.pss_search.specs.Hits.{IsInSpan, hits_of}
+use Rattle.pss_search.proofs.Agree.{hits_agree}
+use Rattle.pss_search.proofs.Listed.{listed_in_span}
+use Rattle.sss_detect.proofs.Agree.{identity_agrees, ranking_agrees}
+use Rattle.soft_bits.specs.Places.{placed_values}
+use Rattle.explain.specs.Deciding.{deciding_length, LooksAtFirstFrames}
+use Rattle.explain.specs.Entries.{IsListFor}
+use Rattle.explain.proofs.Deciding.{decided, broadcast_agrees, slots_look}
+use Rattle.two_ports.specs.Entries.{are_two}
+use Rattle.two_ports.specs.Pairs.{paired_values}
+use Rattle.four_ports.specs.Pairs.{paired_values as paired_values_of_four}
+use Rattle.long_prefix.proofs.Deciding.{long_looks}
+use Rattle.clean_air.proofs.HeldCells.{holds_loaded_cells, holds_clean_cells}
+use Rattle.two_ports.proofs.HeldCells.{holds_loaded_cells_of_two, holds_clean_cells_of_two}
+use Rattle.four_ports.proofs.HeldCells.{holds_loaded_cells_of_four, holds_clean_cells_of_four}
+use Rattle.long_prefix.proofs.HeldLong.{holds_loaded_cells as holds_loaded_long, holds_clean_cells as holds_clean_long}
+use Rattle.report.specs.Hits.{hits_text, ids_text}
+use Rattle.report.specs.HitsJson.{hits_json, ids_json}
+use Rattle.report.specs.declared.hits.IdentifiedHit.{IdentifiedHit}
+use Rattle.report.specs.declared.measured.MeasuredId.{MeasuredId}
+use Rattle.lte_words.specs.declared.form.Form.TheVariants.{Report as Reports}
+use Rattle.lte_words.specs.declared.form.Report.{Report}
+use Rattle.lte_words.specs.declared.form.Report.TheVariants.{Hits, Ids, Search, Evidence, Tell}
+use Rattle.lte_words.specs.declared.form.Rule.TheVariants.{Of, Cancel, All as AllLists}
+use Rattle.lte_words.specs.declared.form.Output.{Output}
+use Rattle.lte_words.specs.declared.form.Output.TheVariants.{Text, Json}
+use Rattle.lte_top.specs.Line.{as_line}
+use Rattle.lte_top.specs.Reports.{identified, identified_by, measured, measured_id, kept_for, IsHits, IsIds, IsReport}
+use Rattle.lte_top.specs.Run.{HasOutput}
+use Rattle.lte_top.specs.Searching.{receiver_of, IsListOf, IsListText, IsTextOfAll}
+use Rattle.lte_top.proofs.Carriers.{list_is}
+use Rattle.lte_top.proofs.Ending.{recording_unrefused}
+
+-- ---- lists
+
+-- the list of a carrier holds what the recording is clean of
+pub list_holds : (carrier : Carrier) (samples : List Sample) (list : List Entry) → IsRecording samples → IsListFor (receiver_of carrier) samples list → IsListOf carrier samples list
+list_holds OnePort samples list valid explained =
+    let loaded = holds_loaded_cells samples list valid.least explained in
+    record { explained = explained; loaded = loaded; holds = holds_clean_cells samples list loaded }
+list_holds TwoPorts samples list valid explained =
+    let loaded = holds_loaded_cells_of_two samples list valid.least explained in
+    record { explained = explained; loaded = loaded; holds = holds_clean_cells_of_two samples list loaded }
+list_holds LongPrefix samples list valid explained =
+    let loaded = holds_loaded_long samples list valid.least explained in
+    record { explained = explained; loaded = loaded; holds = holds_clean_long samples list loaded }
+list_holds FourPorts samples list valid explained =
+    let loaded = holds_loaded_cells_of_four samples list valid.least explained in
+    record { explained = explained; loaded = loaded; holds = holds_clean_cells_of_four samples list loaded }
+
+-- its receiver looks at the first frames alone
+looks : (carrier : Carrier) → LooksAtFirstFrames (receiver_of carrier)
+looks OnePort = slots_look OnePort (λ ports. true) placed_values
+looks TwoPorts = slots_look TwoPorts are_two paired_values
+looks LongPrefix = long_looks
+looks FourPorts = record {
+  broadcast = broadcast_agrees paired_values_of_four;
+  subframes = λ first second place j agree early few. tt;
+}
+
+-- the first samples agree with all
+front_agrees : (most : ℕ) (samples : List Sample) → AgreeBefore most (take most samples) samples
+front_agrees most samples = take-take most most samples (omega arith)
+
+is_above : (most n : ℕ) → nat_le most n ≡ true → most ≤ n
+is_above most n e = grind (arith, nat_tests)
+
+is_below : (most n : ℕ) → nat_le most n ≡ false → n ≤ most
+is_below most n e = grind (arith, nat_tests)
+
+-- the list of the first 17 frames is that of the recording
+list_decides : (carrier : Carrier) (samples : List Sample) (list : List Entry) → IsRecording samples → IsListOf carrier (take deciding_length samples) list → IsListOf carrier samples list
+list_decides carrier samples list valid is = by_length (nat_le deciding_length (length samples)) refl
+  where
+    by_length : (long : Bool) → nat_le deciding_length (length samples) ≡ long → IsListOf carrier samples list
+    by_length true e =
+        let above = is_above deciding_length (length samples) e in
+        let size : length (take deciding_length samples) ≡ deciding_length = length-take-le deciding_length samples above in
+        list_holds carrier samples list valid
+        (decided (receiver_of carrier) (looks carrier) (take deciding_length samples) samples list (omega (arith, size)) above (front_agrees deciding_length samples)
+        (list_is carrier (take deciding_length samples) list is))
+    by_length false e =
+        subst (λ (kept : List Sample). IsListOf carrier kept list) (take_all deciding_length samples (is_below deciding_length (length samples) e)) is
+
+-- ---- hits
+
+-- what is made of each hit is the same
+each_same : {X : Type 0} (f g : Hit → X) (hits : List Hit) → All IsInSpan hits → ((hit : Hit) → IsInSpan hit → f hit ≡ g hit) → map f hits ≡ map g hits
+each_same f g [] span same = refl
+each_same f g (hit ∷ hits) span same =
+    ap₂ (λ x xs. x ∷ xs) (same hit (span 0 hit (omega arith))) (each_same f g hits (λ k d inside. span (suc k) d (omega (arith, inside))) same)
+
+kept_hits : (samples : List Sample) → hits_of (take least_samples samples) ≡ hits_of samples
+kept_hits samples = hits_agree least_samples (take least_samples samples) samples (front_agrees least_samples samples) (omega arith)
+
+kept_ids : (samples : List Sample) → map (identified (take least_samples samples)) (hits_of (take least_samples samples)) ≡ map (identified samples) (hits_of samples)
+kept_ids samples =
+    each_same (identified (take least_samples samples)) (identified samples) (hits_of (take least_samples samples)) (listed_in_span (take least_samples samples))
+    (λ hit span. ap (identified_by hit) (identity_agrees least_samples (take least_samples samples) samples hit (front_agrees least_samples samples) (let last = span.to_last in omega (arith, last))))
+    ∙ ap (map (identified samples)) (kept_hits samples)
+
+kept_measured : (samples : List Sample) → map (measured_id (take least_samples samples)) (hits_of (take least_samples samples)) ≡ map (measured_id samples) (hits_of samples)
+kept_measured samples =
+    each_same (measured_id (take least_samples samples)) (measured_id samples) (hits_of (take least_samples samples)) (listed_in_span (take least_samples samples)) same
+    ∙ ap (map (measured_id samples)) (kept_hits samples)
+  where
+    same : (hit : Hit) → IsInSpan hit → measured_id (take least_samples samples) hit ≡ measured_id samples hit
+    same hit span =
+        let last = span.to_last in
+        let agree = front_agrees least_samples samples in
+        rw (identity_agrees least_samples (take least_samples samples) samples hit agree (omega (arith, last)), ranking_agrees normal least_samples (take least_samples samples) samples hit agree (omega (arith, last))) refl
+
+-- ---- reports
+
+-- a report of the samples that are kept for it is one of the recording
+kept_report : (report : Report) (output : Output) (samples : List Sample) (text : List ℕ) → IsRecording samples → IsReport report output (take (kept_for report) samples) text →
+    IsReport report output samples text
+kept_report Hits Text samples text valid is = is ∙ ap hits_text (kept_hits samples)
+kept_report Hits Json samples text valid is = is ∙ ap (λ hits. as_line (hits_json (map measured hits))) (kept_hits samples)
+kept_report Ids Text samples text valid is = is ∙ ap ids_text (kept_ids samples)
+kept_report Ids Json samples text valid is = is ∙ ap (λ found. as_line (ids_json found)) (kept_measured samples)
+kept_report (Search (Of carrier)) output samples text valid is =
+    record { entries = is.entries; is_list = list_decides carrier samples is.entries valid is.is_list; text_is = is.text_is }
+kept_report (Search AllLists) output samples text valid is = record {
+  one = is.one;
+  two = is.two;
+  long = is.long;
+  four = is.four;
+  is_one = list_decides OnePort samples is.one valid is.is_one;
+  is_two = list_decides TwoPorts samples is.two valid is.is_two;
+  is_long = list_decides LongPrefix samples is.long valid is.is_long;
+  is_four = list_decides FourPorts samples is.four valid is.is_four;
+  text_is = is.text_is;
+}
+kept_report (Search Cancel) output samples text valid is = subst (λ (kept : List Sample). IsReport (Search Cancel) output kept text) (take_all most_samples samples valid.most) is
+kept_report (Evidence carrier) output samples text valid is = subst (λ (kept : List Sample). IsReport (Evidence carrier) output kept text) (take_all most_samples samples valid.most) is
+kept_report Tell output samples text valid is = subst (λ (kept : List Sample). IsReport Tell output kept text) (take_all most_samples samples valid.most) is
+
+-- it is the output
+pub kept_output : (report : Report) (output : Output) (form : SampleForm) (front : List Sample) (before now : SourceTold) (text : List ℕ) → HasReadFront form (kept_for report) front before now →
+    IsReport report output front text → HasOutput (Reports report output form) text before now
+kept_output report output form front before now text f is =
+    let whole = kept_report report output f.recording text (recording_is form f.recording before now f.read) (subst (λ (kept : List Sample). IsReport report output kept text) f.front_is is) in
+    record {
+      bytes = f.read.input;
+      whole = f.read.read;
+      unrefused = recording_unrefused form f.recording before now f.read;
+      is_output = subst (λ (samples : List Sample). IsReport report output samples text) f.read.samples whole;
+    }
