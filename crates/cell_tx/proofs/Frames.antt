@@ -1,12 +1,11 @@
 -- What the frames of a cell have in common.
-use Rattle.std.proofs.Common.{◌≡◌, ℕ, ◌+◌, ◌*◌, ◌/◌, ◌%◌, ◌<◌, ◌≤◌, ◌⊎◌, inl, inr, Bool, true, false, nat_eq, nat_le, nat_lt, List, slice_index_or, arith, refl, sym, ◌∙◌, eqb-true, mod-lt, length}
+use Rattle.std.proofs.Common.{◌≡◌, ℕ, ◌+◌, ◌*◌, ◌/◌, ◌%◌, ◌<◌, ◌≤◌, ◌⊎◌, inl, inr, Bool, true, false, nat_eq, nat_le, nat_lt, arith, refl, sym, ap, ◌∙◌, eqb-true, mod-lt}
 use Rattle.std.specs.Prelude.{◌&&◌}
 use Rattle.std.proofs.lemmas.Bool.{cases_lt}
 use Rattle.std.proofs.lemmas.Bool.Decides.{nat_tests}
-use Rattle.std.proofs.lemmas.List.FromFn.{fill_by_all}
+use Rattle.finite.specs.Lists.{values_below}
 use Rattle.finite.proofs.Lists.{values_below_same}
-use Rattle.cs_num.specs.declared.Sample.{Sample}
-use Rattle.cs_num.specs.Complex.{silence, sample_of}
+use Rattle.cs_num.specs.Complex.{sample_of}
 use Rattle.fold128.proofs.Samples.{useful_same}
 use Rattle.lte_types.specs.declared.numerology.Prefix.{Prefix}
 use Rattle.lte_types.specs.Numerology.{normal, IsPrefix, symbols_of_slot, symbol_of}
@@ -21,9 +20,9 @@ use Rattle.cell_tx.specs.Ports.{port_prefix, has_control}
 use Rattle.cell_tx.specs.Grid.{is_broadcast, port_channel_value, port_element}
 use Rattle.cell_tx.specs.Control.{control_word, control_point}
 use Rattle.cell_tx.specs.Shared.{shared_point}
-use Rattle.cell_tx.specs.Sent.{Elements, prefix_frame_sample}
+use Rattle.cell_tx.specs.Sent.{Elements, prefix_frame_sample, prefix_sent}
 use Rattle.cell_tx.specs.Rows.{useful_place, frame_samples, IsCarried}
-use Rattle.cell_tx.proofs.Symbols.{with_prefix, frame_sample_is, slot_sample_is}
+use Rattle.cell_tx.proofs.Symbols.{with_prefix, frame_sample_is, slot_sample_is, frames_follow}
 
 -- ---- what system information depends on
 
@@ -163,8 +162,15 @@ module _ (grid : Elements) (a b i : ℕ) (inside : i < 19200) where
       same_sample prefix grid a b i known
       (λ k. same (i / 960 / 2) (symbols_of_slot prefix * (i / 960 % 2) + symbol_of prefix (i % 960)) k (not_second prefix known out))
 
--- all samples of a frame
-pub all_are : (prefix : Prefix) (grid : Elements) (sfn : ℕ) (list : List Sample) → length list ≡ 19200
-    → ((i : ℕ) → i < 19200 → slice_index_or list i silence ≡ sample_of (prefix_frame_sample prefix grid sfn i)) → list ≡ frame_samples prefix grid sfn
+-- a frame is the first of its sequence
+pub first_frame : (prefix : Prefix) (grid : Elements) (sfn : ℕ) → sfn ≤ 1023 → values_below 19200 (λ i. sample_of (prefix_sent prefix grid sfn (i + 0))) ≡ frame_samples prefix grid sfn
 unfolding frame_samples
-all_are prefix grid sfn list long each = fill_by_all (λ (n : ℕ). sample_of (prefix_frame_sample prefix grid sfn n)) list 19200 silence long each
+first_frame prefix grid sfn few =
+    values_below_same 19200 (λ i. sample_of (prefix_sent prefix grid sfn (i + 0))) (λ i. sample_of (prefix_frame_sample prefix grid sfn i))
+    (λ i inside. ap sample_of (there i inside))
+  where
+    there : (i : ℕ) → i < 19200 → prefix_sent prefix grid sfn (i + 0) ≡ prefix_frame_sample prefix grid sfn i
+    there i inside =
+        let place : i + 0 ≡ 19200 * 0 + i = omega arith in
+        let number : (sfn + 0) % 1024 ≡ sfn = omega (arith, few) in
+        ap (prefix_sent prefix grid sfn) place ∙ frames_follow prefix grid sfn 0 i inside ∙ ap (λ (n : ℕ). prefix_frame_sample prefix grid n i) number

@@ -1,5 +1,5 @@
 -- Sizes of what is received of the antenna ports of a carrier, and that it is clean.
-use Rattle.std.proofs.Common.{◌≡◌, ℕ, ◌+◌, ◌*◌, ◌<◌, ◌≤◌, inl, inr, List, arith, ap, sym, subst, ℤ, ◌+ℤ◌, ◌-ℤ◌}
+use Rattle.std.proofs.Common.{◌≡◌, ℕ, ◌+◌, ◌*◌, ◌<◌, ◌≤◌, inl, inr, arith, ap, sym, subst, ℤ, ◌+ℤ◌, ◌-ℤ◌}
 use Rattle.std.specs.Prelude.{nat_abs}
 use Rattle.std.proofs.lemmas.Bool.{cases_lt}
 use Rattle.std.proofs.lemmas.Int.{ints}
@@ -10,8 +10,7 @@ use Rattle.cs_num.specs.declared.Sample.{Sample}
 use Rattle.cs_num.specs.Complex.{IsWithin, plus, minus, times, square, silence, value_at, value_of, sample_of}
 use Rattle.sizes.proofs.Squares.{re-le, im-le, square-times}
 use Rattle.sizes.proofs.TwoTerms.{two_term_cauchy}
-use Rattle.cell_tx.specs.Clean.{AreNear, AreGains, AreGainsOf, received_of_two}
-use Rattle.lte_types.specs.declared.carrier.Carrier.{Carrier}
+use Rattle.cell_tx.specs.Clean.{AreNear, received_of_two}
 use Rattle.lte_types.specs.declared.carrier.Carrier.TheVariants.{OnePort, TwoPorts, LongPrefix, FourPorts}
 use Rattle.cell_tx.specs.declared.antenna.Port.TheVariants.{Only, First, Second, Long, OfFour}
 use Rattle.cell_tx.specs.declared.antenna.PortOfFour.{PortOfFour}
@@ -26,17 +25,21 @@ times-most g z small = let law = square-times g z in let l = mul-le (square g) (
 sum-most : (n m : ℕ) → m ≤ 392 → n ≤ m * (1153 * 1153 + 1153 * 1153) → n ≤ 32284 * 32284
 sum-most n m most l = omega (arith, most, l)
 
-pub received-square : (first second gain other : Cpx) → square first ≤ 1153 * 1153 → square second ≤ 1153 * 1153 → AreGains gain other →
+received-square : (first second gain other : Cpx) → square first ≤ 1153 * 1153 → square second ≤ 1153 * 1153 → square gain + square other ≤ 392 →
     square (plus (times gain first) (times other second)) ≤ 32284 * 32284
-received-square first second gain other a b g =
-    sum-most _ (square gain + square other) g.most
+received-square first second gain other a b most =
+    sum-most _ (square gain + square other) most
     (two_term_cauchy (times gain first) (times other second) (square gain) (1153 * 1153) (square other) (1153 * 1153) (times-most gain first a) (times-most other second b))
 
-pub received-small : ReceivedOfTwoIsSmall
-received-small first second gain other a b g =
+pub both-small : (first second gain other : Cpx) → square first ≤ 1153 * 1153 → square second ≤ 1153 * 1153 → square gain + square other ≤ 392 →
+    IsWithin 32284 (plus (times gain first) (times other second))
+both-small first second gain other a b most =
     let z : Cpx = plus (times gain first) (times other second) in
-    let whole = received-square first second gain other a b g in
+    let whole = received-square first second gain other a b most in
     record { re = re-le z 32284 whole; im = im-le z 32284 whole }
+
+pub received-small : ReceivedOfTwoIsSmall
+received-small first second gain other a b g = both-small first second gain other a b g.most
 
 -- ---- errors
 
@@ -99,13 +102,6 @@ sum_fits z n power few most is =
     record { re = re-le z 32284 whole; im = im-le z 32284 whole }
 
 -- ---- a carrier
-
--- the greatest gain of a port
-pub first_most : (carrier : Carrier) (gains : List Cpx) → AreGainsOf carrier gains → square (value_at gains 0) ≤ 784
-first_most OnePort gains g = g.most
-first_most TwoPorts gains g = let m = g.most in omega (arith, m)
-first_most LongPrefix gains g = g.most
-first_most FourPorts gains g = let m = g.most in omega (arith, m)
 
 pub received_by-small : EmittedIsSmall
 received_by-small OnePort load plan sfn offset gains i g =

@@ -1,6 +1,7 @@
--- How an emission is made: a frame after the other, of which only some symbols are made anew. (own)
+-- How samples are made: a frame after the other, of which only some symbols are made anew. (own)
 use Rattle.std.specs.Prelude.{◌≡◌, ℕ, ◌+◌, ◌-◌, ◌*◌, ◌%◌, ◌<◌, ◌≤◌, Bool, true, false, ◌&&◌, ◌||◌, nat_le, nat_lt, min}
 use Rattle.std.specs.Prelude.{if◌then◌else◌, Option, List, length, take, drop, slice_index_or}
+use Rattle.finite.specs.Lists.{values_below}
 use Rattle.cs_num.specs.declared.Cpx.{Cpx}
 use Rattle.cs_num.specs.declared.Sample.{Sample}
 use Rattle.cs_num.specs.Complex.{IsWithin, times, plus, sample_at, value_of, sample_of, silence}
@@ -11,31 +12,37 @@ use Rattle.lte_types.specs.Numerology.{frame_length, symbols_of_slot}
 use Rattle.lte_types.specs.Timing.{number_of}
 use Rattle.cell_tx.specs.declared.antenna.Port.{Port}
 use Rattle.cell_tx.specs.declared.cell.CellPlan.{CellPlan}
-use Rattle.cell_tx.specs.declared.emission.Emission.{Emission}
+use Rattle.cell_tx.specs.declared.source.Source.{Source}
 use Rattle.cell_tx.specs.declared.made_symbols.Symbols.{Symbols}
 use Rattle.cell_tx.specs.Ports.{carrier_of, port_prefix}
-use Rattle.cell_tx.specs.Emission.{mixed}
+use Rattle.cell_tx.specs.Emission.{sent_by}
+use Rattle.cell_tx.specs.Mixing.{mixed_by}
 use Rattle.cell_tx.specs.Load.{sent_element}
 use Rattle.cell_tx.specs.Rows.{first_sample}
 use Rattle.cell_tx.specs.Sent.{prefix_frame_sample}
 
--- ---- the frames of an emission
+-- ---- what is made of a source
+
+-- sample i
+abbrev pub made : Source → ℕ → Cpx
+made s i = mixed_by s.ports (λ port. sent_by s.load port s.cell.now s.timing.sfn (i + s.timing.offset)) s.gains
+
+abbrev pub made_samples : Source → List Sample
+made_samples s = values_below s.samples (λ i. sample_of (made s i))
+
+-- ---- the frames of a source
 
 -- sample i of the frame with number n, as a port sends it
 abbrev pub sent_in_frame : Option ℕ → Port → CellPlan → ℕ → ℕ → Cpx
 sent_in_frame load port plan n i = prefix_frame_sample (port_prefix port) (sent_element load port plan) n i
 
 -- sample i of the frame with number n, as it is received
-abbrev pub framed : Emission → ℕ → ℕ → Cpx
-framed e n i = mixed e.carrier (λ port. sent_in_frame e.load port e.cell n i) e.gains
+abbrev pub framed : Source → ℕ → ℕ → Cpx
+framed s n i = mixed_by s.ports (λ port. sent_in_frame s.load port s.cell.now n i) s.gains
 
--- samples are the frame with number n, where these are the values of its samples by n
-abbrev pub AreFrameOf : (ℕ → ℕ → Cpx) → ℕ → List Sample → Type 0
-AreFrameOf values n samples = (i : ℕ) → i < frame_length → slice_index_or samples i silence ≡ sample_of (values n i)
-
--- samples are the frame with number n of an emission
-abbrev pub AreFrame : Emission → ℕ → List Sample → Type 0
-AreFrame e n samples = AreFrameOf (framed e) n samples
+-- samples are the frame with number n
+abbrev pub AreFrame : Source → ℕ → List Sample → Type 0
+AreFrame s n samples = (i : ℕ) → i < frame_length → slice_index_or samples i silence ≡ sample_of (framed s n i)
 
 -- ---- some symbols of a frame
 
@@ -107,10 +114,10 @@ abbrev pub piece_of : Progress → List Sample
 piece_of p = take (p.at - p.from) (drop p.from p.samples)
 
 -- what an emitter keeps: the piece is of one frame, and that frame is there
-pub record IsMade (e : Emission) (from at : ℕ) (frame : List Sample) : Type 0 where
+pub record IsMade (s : Source) (from at : ℕ) (frame : List Sample) : Type 0 where
   pub order : from ≤ at
-  pub most : at ≤ e.samples
+  pub most : at ≤ s.samples
   pub whole : length frame ≡ frame_length
-  pub within : (from + e.timing.offset) % frame_length + (at - from) ≤ frame_length
-  pub held : from < at → AreFrame e (number_of e.timing.sfn (from + e.timing.offset)) frame
-  pub begun : 0 < at → at < e.samples → from < at
+  pub within : (from + s.timing.offset) % frame_length + (at - from) ≤ frame_length
+  pub held : from < at → AreFrame s (number_of s.timing.sfn (from + s.timing.offset)) frame
+  pub begun : 0 < at → at < s.samples → from < at

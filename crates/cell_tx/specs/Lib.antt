@@ -15,5 +15,6 @@ pub mod Sending
 pub mod Pair
 pub mod Clean
 pub mod Emission
+pub mod Mixing
 pub mod Emitting
 pub mod Laws

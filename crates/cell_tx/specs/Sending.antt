@@ -3,7 +3,7 @@ use Rattle.std.specs.Prelude.{ℕ, ◌+◌, List}
 use Rattle.finite.specs.Lists.{values_below}
 use Rattle.cs_num.specs.declared.Cpx.{Cpx}
 use Rattle.cs_num.specs.declared.Sample.{Sample}
-use Rattle.cs_num.specs.Complex.{times, sample_of}
+use Rattle.cs_num.specs.Complex.{sample_of}
 use Rattle.cell_tx.specs.declared.grid.Signals.{Signals}
 use Rattle.cell_tx.specs.declared.sending.Sender.{Sender}
 use Rattle.cell_tx.specs.declared.transmission.Transmission.{Transmission}
@@ -13,7 +13,6 @@ use Rattle.cell_tx.specs.Load.{sent_element}
 use Rattle.cell_tx.specs.Rows.{first_sample}
 use Rattle.cell_tx.specs.Sent.{Elements, prefix_frame_sample, received}
 use Rattle.cell_tx.specs.Emission.{sent_by}
-use Rattle.cell_tx.specs.Emitting.{sent_in_frame}
 
 -- ---- the frame of signals
 
@@ -33,10 +32,6 @@ symbol_start signals n = first_sample (port_prefix signals.port) n
 -- sample i of the sequence of a sender
 abbrev pub sample_by : Sender → ℕ → Cpx
 sample_by sender i = sent_by sender.load sender.port sender.cell.now sender.timing.sfn (i + sender.timing.offset)
-
--- sample i of the frame with number n of a sender, times a gain
-abbrev pub scaled_in_frame : Sender → Cpx → ℕ → ℕ → Cpx
-scaled_in_frame sender gain n i = times gain (sent_in_frame sender.load sender.port sender.cell.now n i)
 
 -- what is received of a transmission without errors
 abbrev pub received_samples : Transmission → List Sample

@@ -141,15 +141,3 @@ pub(crate) fn add_symbols(signals: &Signals, gain: &Cpx, symbols: &Symbols, out:
     add_between(signals, gain, symbols.first, symbols.last, out);
     add_between(signals, gain, symbols.again, symbols.end, out);
 }
-
-/// Writes what a port sends in some symbols of a frame, times a gain.
-pub(crate) fn put_symbols(signals: &Signals, gain: &Cpx, symbols: &Symbols, out: &mut [Sample])
-    requires order { AreInOrder (port_prefix signals.now.port) symbols.now }
-    requires gain { square gain.now ≤ 784 }
-    requires room { length out.old ≡ frame_length }
-    ensures { AreChanged (is_in (port_prefix signals.now.port) symbols.now)
-        (λ i before. sample_of (times gain.now (sample_in signals.now i))) out.old out.new }
-{
-    clear_symbols(signals.port, symbols, out);
-    add_symbols(signals, gain, symbols, out);
-}

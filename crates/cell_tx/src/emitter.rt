@@ -1,47 +1,38 @@
-//! An emission, made a frame's piece at a time.
+//! Samples, made a frame's piece at a time.
 
-ghost use Rattle.std.specs.Prelude.{◌≡◌, ◌<◌, ◌≤◌, true, length};
-ghost use Rattle.cs_num.specs.Complex.{square, value_at};
+ghost use Rattle.std.specs.Prelude.{ℕ, ◌≡◌, ◌+◌, ◌<◌, ◌≤◌, ◌++◌, true, length, take};
+ghost use Rattle.cs_num.specs.Complex.{IsWithin, square, value_at};
 ghost use Rattle.lte_types.specs.declared.carrier.Carrier.TheVariants.{TwoPorts, FourPorts};
 ghost use Rattle.lte_types.specs.Carrier.{prefix_of};
+ghost use Rattle.cell_tx.specs.declared.source.Ports.TheVariants.{Both, AllFour};
 ghost use Rattle.cell_tx.specs.Ports.{carrier_of};
 ghost use Rattle.cell_tx.specs.Rows.{IsLayout, AreVersions};
+ghost use Rattle.cell_tx.specs.Emission.{emitted, emitted_samples};
+ghost use Rattle.cell_tx.specs.Mixing.{carrier_by};
 
 use crate::adding::{SILENCE, add_symbols, clear_symbols};
 use crate::grid::Signals;
 use crate::layout::{Layout, Versions, layout_of, versions_of};
 use crate::made_symbols::{Symbols, symbols_at};
+use crate::source::{Ports, Source};
 use crate::{Emission, Port, PortOfFour};
 use cs_num::Sample;
-use lte_types::{Carrier, FRAME_LENGTH, Sfn};
+use lte_types::{FRAME_LENGTH, Sfn};
 use std::marker::Model;
 
-// An emission with what is the same in all its frames, and at all ports of its carrier, of which `port` is the first.
+// A source with what is the same in all its frames, and at all its ports, of which `port` is the first.
 #[derive(Drop)]
-struct Station<'a> {
-    emission: &'a Emission,
+struct FrameMaker<'a> {
+    source: Source<'a>,
     port: Port,
     layout: Layout,
     versions: Versions,
-    ghost port_is: { carrier_of port ≡ emission.now.carrier },
-    ghost layout_is: { IsLayout port emission.now.cell layout },
-    ghost versions_are: { AreVersions emission.now.cell versions },
+    ghost port_is: { carrier_of port ≡ carrier_by source.ports },
+    ghost layout_is: { IsLayout port source.cell.now layout },
+    ghost versions_are: { AreVersions source.cell.now versions },
 }
 
-// The first antenna port of a carrier.
-fn first_port(carrier: Carrier) -> Port
-    ensures { carrier_of result ≡ carrier }
-{
-    match carrier {
-        Carrier::OnePort => Port::Only,
-        Carrier::TwoPorts => Port::First,
-        Carrier::LongPrefix => Port::Long,
-        Carrier::FourPorts => Port::OfFour(PortOfFour::Zero),
-    }
-}
-
-impl<'a> Station<'a> {
-    ghost use Rattle.std.specs.Prelude.{ℕ, ◌+◌};
+impl<'a> FrameMaker<'a> {
     ghost use Rattle.cs_num.specs.Complex.{sample_of};
     ghost use Rattle.lte_types.specs.Numerology.{frame_length};
     ghost use Rattle.lte_types.specs.Timing.{number_of};
@@ -49,15 +40,15 @@ impl<'a> Station<'a> {
     ghost use Rattle.cell_tx.specs.Emitting.{sent_in_frame, framed, AreFrame, is_in, AreInOrder, AreChanged, added};
     ghost use Rattle.cell_tx.specs.Emitting.{HaveRoom, AreSilent};
 
-    // The station of an emission.
-    fn new(emission: &'a Emission) -> Station<'a>
-        ensures { result.emission.now ≡ emission.now }
+    // The maker of the frames of a source.
+    fn new(source: &Source<'a>) -> FrameMaker<'a>
+        ensures { result.source ≡ source.now }
     {
-        let port = first_port(emission.carrier);
-        let layout = layout_of(&emission.cell, port);
-        let versions = versions_of(&emission.cell);
-        Station {
-            emission,
+        let port = source.ports.first();
+        let layout = layout_of(source.cell, port);
+        let versions = versions_of(source.cell);
+        FrameMaker {
+            source: source.again(),
             port,
             layout,
             versions,
@@ -66,44 +57,43 @@ impl<'a> Station<'a> {
 
     // Adds what a port sends in some symbols of a frame, times its gain.
     fn add(&self, port: Port, number: usize, sfn: Sfn, symbols: &Symbols, frame: &mut [Sample])
-        requires port { carrier_of port ≡ self.now.emission.now.carrier }
+        requires port { carrier_of port ≡ carrier_by self.now.source.ports }
         requires number { number < 4 }
-        requires gain { square (value_at self.now.emission.now.gains number) ≤ 784 }
+        requires gain { square (value_at self.now.source.gains number) ≤ 784 }
         requires order { AreInOrder (port_prefix port) symbols.now }
         requires room { length frame.old ≡ frame_length }
-        requires small { HaveRoom (is_in (port_prefix port) symbols.now) (value_at self.now.emission.now.gains number)
-            (sent_in_frame self.now.emission.now.load port self.now.emission.now.cell sfn) frame.old }
-        ensures { AreChanged (is_in (port_prefix port) symbols.now) (added (value_at self.now.emission.now.gains number)
-            (sent_in_frame self.now.emission.now.load port self.now.emission.now.cell sfn)) frame.old frame.new }
+        requires small { HaveRoom (is_in (port_prefix port) symbols.now) (value_at self.now.source.gains number)
+            (sent_in_frame self.now.source.load port self.now.source.cell.now sfn) frame.old }
+        ensures { AreChanged (is_in (port_prefix port) symbols.now) (added (value_at self.now.source.gains number)
+            (sent_in_frame self.now.source.load port self.now.source.cell.now sfn)) frame.old frame.new }
     {
-        let emission = self.emission;
-        let load = emission.load;
+        let source = &self.source;
         let carried = self.versions.of_frame(sfn);
-        let signals = Signals::new(&emission.cell, port, load, &self.layout, carried, sfn);
-        add_symbols(&signals, &emission.gains[number], symbols, frame);
+        let signals = Signals::new(source.cell, port, source.load, &self.layout, carried, sfn);
+        add_symbols(&signals, &source.gains[number], symbols, frame);
     }
 
-    // Adds to silence what the two ports of an emission send.
-    fn add_two(&self, sfn: Sfn, symbols: &Symbols, frame: &mut [Sample])
-        requires carrier { self.now.emission.now.carrier ≡ TwoPorts }
+    // Adds to silence what both ports of a cell with two send.
+    fn add_both(&self, sfn: Sfn, symbols: &Symbols, frame: &mut [Sample])
+        requires ports { self.now.source.ports ≡ Both }
         requires order { AreInOrder (prefix_of TwoPorts) symbols.now }
         requires room { length frame.old ≡ frame_length }
         requires silent { AreSilent (is_in (prefix_of TwoPorts) symbols.now) frame.old }
         ensures { AreChanged (is_in (prefix_of TwoPorts) symbols.now)
-            (λ i before. sample_of (framed self.now.emission.now sfn i)) frame.old frame.new }
+            (λ i before. sample_of (framed self.now.source sfn i)) frame.old frame.new }
     {
         self.add(Port::First, 0, sfn, symbols, frame);
         self.add(Port::Second, 1, sfn, symbols, frame);
     }
 
-    // Adds to silence what the four ports of an emission send.
+    // Adds to silence what all ports of a cell with four send.
     fn add_four(&self, sfn: Sfn, symbols: &Symbols, frame: &mut [Sample])
-        requires carrier { self.now.emission.now.carrier ≡ FourPorts }
+        requires ports { self.now.source.ports ≡ AllFour }
         requires order { AreInOrder (prefix_of FourPorts) symbols.now }
         requires room { length frame.old ≡ frame_length }
         requires silent { AreSilent (is_in (prefix_of FourPorts) symbols.now) frame.old }
         ensures { AreChanged (is_in (prefix_of FourPorts) symbols.now)
-            (λ i before. sample_of (framed self.now.emission.now sfn i)) frame.old frame.new }
+            (λ i before. sample_of (framed self.now.source sfn i)) frame.old frame.new }
     {
         self.add(Port::OfFour(PortOfFour::Zero), 0, sfn, symbols, frame);
         self.add(Port::OfFour(PortOfFour::One), 1, sfn, symbols, frame);
@@ -111,43 +101,42 @@ impl<'a> Station<'a> {
         self.add(Port::OfFour(PortOfFour::Three), 3, sfn, symbols, frame);
     }
 
-    // Adds to silence what the ports of an emission send, by any carrier.
+    // Adds to silence what the ports of a source send.
     fn add_all(&self, sfn: Sfn, symbols: &Symbols, frame: &mut [Sample])
-        requires order { AreInOrder (prefix_of self.now.emission.now.carrier) symbols.now }
+        requires order { AreInOrder (prefix_of (carrier_by self.now.source.ports)) symbols.now }
         requires room { length frame.old ≡ frame_length }
-        requires silent { AreSilent (is_in (prefix_of self.now.emission.now.carrier) symbols.now) frame.old }
-        ensures { AreChanged (is_in (prefix_of self.now.emission.now.carrier) symbols.now)
-            (λ i before. sample_of (framed self.now.emission.now sfn i)) frame.old frame.new }
+        requires silent { AreSilent (is_in (prefix_of (carrier_by self.now.source.ports)) symbols.now) frame.old }
+        ensures { AreChanged (is_in (prefix_of (carrier_by self.now.source.ports)) symbols.now)
+            (λ i before. sample_of (framed self.now.source sfn i)) frame.old frame.new }
     {
-        match self.emission.carrier {
-            Carrier::OnePort => self.add(Port::Only, 0, sfn, symbols, frame),
-            Carrier::TwoPorts => self.add_two(sfn, symbols, frame),
-            Carrier::LongPrefix => self.add(Port::Long, 0, sfn, symbols, frame),
-            Carrier::FourPorts => self.add_four(sfn, symbols, frame),
+        match self.source.ports {
+            Ports::Alone(port) => self.add(port, 0, sfn, symbols, frame),
+            Ports::Both => self.add_both(sfn, symbols, frame),
+            Ports::AllFour => self.add_four(sfn, symbols, frame),
         }
     }
 
     // Makes some symbols of a frame.
     fn make(&self, sfn: Sfn, symbols: &Symbols, frame: &mut [Sample])
-        requires order { AreInOrder (prefix_of self.now.emission.now.carrier) symbols.now }
+        requires order { AreInOrder (prefix_of (carrier_by self.now.source.ports)) symbols.now }
         requires room { length frame.old ≡ frame_length }
-        ensures { AreChanged (is_in (prefix_of self.now.emission.now.carrier) symbols.now)
-            (λ i before. sample_of (framed self.now.emission.now sfn i)) frame.old frame.new }
+        ensures { AreChanged (is_in (prefix_of (carrier_by self.now.source.ports)) symbols.now)
+            (λ i before. sample_of (framed self.now.source sfn i)) frame.old frame.new }
     {
         clear_symbols(self.port, symbols, frame);
         self.add_all(sfn, symbols, frame);
     }
 
-    // Makes the frame of a sample of the emission: over any frame of it, but for the first.
-    fn enter(&self, at: usize, frame: &mut [Sample])
-        requires at { at < self.now.emission.now.samples }
+    // Makes the frame of a sample: over any frame of the source, but for the first.
+    fn make_frame_of(&self, at: usize, frame: &mut [Sample])
+        requires at { at < self.now.source.samples }
         requires room { length frame.old ≡ frame_length }
-        ensures { (n : ℕ) → (0 < at → AreFrame self.now.emission.now n frame.old) →
-            AreFrame self.now.emission.now
-            (number_of self.now.emission.now.timing.sfn (at + self.now.emission.now.timing.offset)) frame.new }
+        ensures { (n : ℕ) → (0 < at → AreFrame self.now.source n frame.old) → AreFrame self.now.source
+            (number_of self.now.source.timing.sfn (at + self.now.source.timing.offset)) frame.new }
     {
-        let sfn = self.emission.timing.number_at(at as u64);
-        let symbols = symbols_at(self.emission.carrier, self.emission.load, at == 0);
+        let source = &self.source;
+        let sfn = source.timing.number_at(at as u64);
+        let symbols = symbols_at(self.port.carrier(), source.load, at == 0);
         self.make(sfn, &symbols, frame);
     }
 }
@@ -157,32 +146,30 @@ impl<'a> Station<'a> {
 /// piece and the next one stand in them. (own)
 #[derive(Drop)]
 pub struct Emitter<'a> {
-    station: Station<'a>,
+    maker: FrameMaker<'a>,
     frame: [Sample; FRAME_LENGTH],
     from: usize,
     at: usize,
 }
 
 impl<'a> Model for Emitter<'a> {
-    ghost use Rattle.cell_tx.specs.Emission.{emitted_samples};
-    ghost use Rattle.cell_tx.specs.Emitting.{Progress, IsMade};
+    ghost use Rattle.cell_tx.specs.Emitting.{made_samples, Progress, IsMade};
 
     ghost Value = { Progress };
 
     ghost view = { λ e. record {
-      samples = emitted_samples e.station.emission.now;
-      offset = e.station.emission.now.timing.offset;
+      samples = made_samples e.maker.source;
+      offset = e.maker.source.timing.offset;
       from = e.from;
       at = e.at;
     } };
 
-    ghost invariant = { λ e. IsMade e.station.emission.now e.from e.at e.frame };
+    ghost invariant = { λ e. IsMade e.maker.source e.from e.at e.frame };
 }
 
 impl<'a> Emitter<'a> {
     ghost use Rattle.std.specs.Prelude.{nat_lt};
-    ghost use Rattle.cell_tx.specs.Emission.{emitted_samples};
-    ghost use Rattle.cell_tx.specs.Emitting.{piece_end, piece_of};
+    ghost use Rattle.cell_tx.specs.Emitting.{made_samples, piece_end, piece_of};
 
     /// Before the first piece of an emission.
     pub fn new(emission: &'a Emission) -> Emitter<'a>
@@ -191,8 +178,18 @@ impl<'a> Emitter<'a> {
         ensures from { result.from ≡ 0 }
         ensures at { result.at ≡ 0 }
     {
+        Emitter::by(&Source::of(emission))
+    }
+
+    /// Before the first piece of a source.
+    pub(crate) fn by(source: &Source<'a>) -> Emitter<'a>
+        ensures samples { result.samples ≡ made_samples source.now }
+        ensures offset { result.offset ≡ source.now.timing.offset }
+        ensures from { result.from ≡ 0 }
+        ensures at { result.at ≡ 0 }
+    {
         Emitter {
-            station: Station::new(emission),
+            maker: FrameMaker::new(source),
             frame: [SILENCE; FRAME_LENGTH],
             from: 0,
             at: 0,
@@ -208,13 +205,14 @@ impl<'a> Emitter<'a> {
         ensures at { self.new.at ≡ piece_end self.old }
         ensures more { result ≡ nat_lt self.old.at (length self.old.samples) }
     {
-        let emission = self.station.emission;
-        let samples = emission.samples as usize;
+        let source = &self.maker.source;
+        let samples = source.samples;
+        let offset = source.timing.offset as usize;
         let more = self.at < samples;
         if more {
-            self.station.enter(self.at, &mut self.frame);
+            self.maker.make_frame_of(self.at, &mut self.frame);
         }
-        let rest = FRAME_LENGTH - (self.at + emission.timing.offset as usize) % FRAME_LENGTH;
+        let rest = FRAME_LENGTH - (self.at + offset) % FRAME_LENGTH;
         self.from = self.at;
         self.at = (self.at + rest).min(samples);
         more
@@ -224,8 +222,41 @@ impl<'a> Emitter<'a> {
     pub fn piece(&self) -> &[Sample]
         ensures { result.now ≡ piece_of self.now }
     {
-        let emission = self.station.emission;
-        let start = (self.from + emission.timing.offset as usize) % FRAME_LENGTH;
+        let offset = self.maker.source.timing.offset as usize;
+        let start = (self.from + offset) % FRAME_LENGTH;
         &self.frame[start..start + (self.at - self.from)]
     }
+}
+
+// Puts a piece into samples from a place on.
+fn put_piece(at: usize, piece: &[Sample], out: &mut [Sample])
+    requires { at + length piece.now ≤ length out.old }
+    ensures front { take (at + length piece.now) out.new ≡ take at out.old ++ piece.now }
+    ensures same_length { length out.new ≡ length out.old }
+{
+    out[at..at + piece.len()].copy_from_slice(piece);
+}
+
+/// Puts all samples of an emitter before its first piece, over as many.
+pub(crate) fn put_all(mut emitter: Emitter, out: &mut [Sample])
+    requires start { emitter.at ≡ 0 }
+    requires room { length out.old ≡ length emitter.samples }
+    ensures { out.new ≡ emitter.entry.samples }
+{
+    let mut at = 0;
+    while emitter.advance() {
+        let piece = emitter.piece();
+        put_piece(at, piece, out);
+        at += piece.len();
+    }
+}
+
+/// All samples of an emission, over as many: sample `i` is the sum of what each antenna port of the carrier sends as
+/// sample `i + offset` of its sequence, times the gain of the port. Components have size at most 32,284.
+pub fn emit(emission: &Emission, out: &mut [Sample])
+    requires { length out.old ≡ emission.now.samples }
+    ensures samples { out.new ≡ emitted_samples emission.now }
+    ensures size { (i : ℕ) → IsWithin 32284 (emitted emission.now i) }
+{
+    put_all(Emitter::new(emission), out);
 }

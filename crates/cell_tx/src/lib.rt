@@ -12,7 +12,6 @@ mod channels;
 mod control;
 mod emission;
 mod emitter;
-mod emitting;
 mod error;
 mod grid;
 mod laws;
@@ -23,13 +22,13 @@ mod pair;
 mod points;
 mod sending;
 mod shared;
+mod source;
 mod transmission;
 
 pub use antenna::{Port, PortOfFour};
 pub use cell::{Cell, CellPlan};
 pub use emission::Emission;
-pub use emitter::Emitter;
-pub use emitting::emit;
+pub use emitter::{Emitter, emit};
 pub use error::CellError;
 pub use laws::{
     accepted_are_sendable, frames_stand, sent_is_clean, sizes, sum_is_clean, symbols_stand,

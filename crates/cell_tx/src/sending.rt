@@ -1,28 +1,25 @@
 //! The samples of a cell.
 
-ghost use Rattle.std.specs.Prelude.{ℕ, ◌≡◌, ◌+◌, ◌-◌, ◌*◌, ◌/◌, ◌%◌, ◌<◌, ◌≤◌, ◌++◌, length, min, take, drop, None};
+ghost use Rattle.std.specs.Prelude.{◌≡◌, ◌+◌, ◌*◌, ◌/◌, ◌%◌, ◌<◌, ◌≤◌, length, None};
 ghost use Rattle.finite.specs.Lists.{values_below};
 ghost use Rattle.cs_num.specs.Complex.{IsWithin, square, times, value_of, sample_of};
 ghost use Rattle.fold128.specs.Symbol.{useful_part};
 ghost use Rattle.lte_types.specs.Numerology.{frame_length, slot_length, useful_length, normal, symbol_of, most_samples};
-ghost use Rattle.lte_types.specs.Timing.{number_of};
 ghost use Rattle.cell_tx.specs.Pair.{gain_of};
 ghost use Rattle.cell_tx.specs.Emission.{sent_by};
 ghost use Rattle.cell_tx.specs.Ports.{port_prefix, port_symbols};
 ghost use Rattle.cell_tx.specs.Grid.{element};
-ghost use Rattle.cell_tx.specs.Rows.{useful_place, frame_samples, IsLayout, AreVersions};
-ghost use Rattle.cell_tx.specs.Sending.{elements_of, sample_in, sample_by, scaled_in_frame, received_samples};
+ghost use Rattle.cell_tx.specs.Rows.{useful_place, frame_samples};
+ghost use Rattle.cell_tx.specs.Sending.{elements_of, sample_in, sample_by, received_samples};
 ghost use Rattle.cell_tx.specs.Sent.{prefix_slot_sample, sent, received};
-ghost use Rattle.cell_tx.specs.Emitting.{AreFrameOf};
 
-use crate::adding::{SILENCE, put_symbols};
-use crate::emitting::put_piece;
+use crate::emitter::put_all;
 use crate::grid::{Signals, useful_of};
-use crate::layout::{Layout, Versions, carried_of, layout_of, versions_of};
-use crate::made_symbols::{all_symbols, symbols_at};
-use crate::{Cell, Port, Transmission};
+use crate::layout::{carried_of, layout_of};
+use crate::source::Source;
+use crate::{Cell, Emitter, Port, Transmission};
 use cs_num::{Cpx, Gain, Sample};
-use lte_types::{Carrier, FRAME_LENGTH, SLOT_LENGTH, Sfn, Timing, USEFUL_LENGTH};
+use lte_types::{FRAME_LENGTH, SLOT_LENGTH, Sfn, Timing, USEFUL_LENGTH};
 
 // The samples of a frame.
 const FRAME: u64 = FRAME_LENGTH as u64;
@@ -104,10 +101,15 @@ pub fn frame(cell: &Cell, sfn: Sfn, out: &mut [Sample])
     requires { length out.old ≡ frame_length }
     ensures { out.new ≡ frame_samples normal (element cell.now) sfn }
 {
-    let layout = layout_of(cell, Port::Only);
-    let carried = carried_of(cell, sfn);
-    let signals = Signals::new(cell, Port::Only, None, &layout, &carried, sfn);
-    put_symbols(&signals, &ONE, &all_symbols(Carrier::OnePort), out);
+    let number = sfn.value();
+    prove!(number <= 1023);
+    let sender = Sender {
+        cell,
+        port: Port::Only,
+        timing: Timing { sfn, offset: 0 },
+        load: None,
+    };
+    sequence(&sender, out);
 }
 
 // A clean sample times a gain. The size of the sample is at most 1,153.
@@ -142,70 +144,14 @@ pub struct Sender<'a> {
     pub load: Option<u32>,
 }
 
-// Makes the frame of a sample of a sequence, times a gain: over any frame of it, but for the first.
-fn enter(
-    sender: &Sender,
-    gain: &Cpx,
-    layout: &Layout,
-    versions: &Versions,
-    at: usize,
-    frame: &mut [Sample],
-)
-    requires layout { IsLayout sender.now.port sender.now.cell.now layout.now }
-    requires versions { AreVersions sender.now.cell.now versions.now }
-    requires gain { square gain.now ≤ 784 }
-    requires at { at < most_samples }
-    requires room { length frame.old ≡ frame_length }
-    ensures { (n : ℕ) → (0 < at → AreFrameOf (scaled_in_frame sender.now gain.now) n frame.old) →
-        AreFrameOf (scaled_in_frame sender.now gain.now)
-        (number_of sender.now.timing.sfn (at + sender.now.timing.offset)) frame.new }
-{
-    let sfn = sender.timing.number_at(at as u64);
-    let carried = versions.of_frame(sfn);
-    let signals = Signals::new(sender.cell, sender.port, sender.load, layout, carried, sfn);
-    let symbols = symbols_at(sender.port.carrier(), sender.load, at == 0);
-    put_symbols(&signals, gain, &symbols, frame);
-}
-
-// Puts the samples of a frame from a place on into samples from another on, as many as both have, and gives their
-// number.
-fn put_part(frame: &[Sample], start: usize, at: usize, out: &mut [Sample]) -> usize
-    requires frame { length frame.now ≡ frame_length }
-    requires start { start < frame_length }
-    requires at { at ≤ length out.old }
-    ensures count { result ≡ min (frame_length - start) (length out.old - at) }
-    ensures front { take (at + result) out.new ≡ take at out.old ++ take result (drop start frame.now) }
-    ensures same_length { length out.new ≡ length out.old }
-{
-    let count = (FRAME_LENGTH - start).min(out.len() - at);
-    put_piece(at, &frame[start..start + count], out);
-    count
-}
-
-// Writes what is sent at a port, times a gain, a frame's piece at a time.
-fn fill(sender: &Sender, gain: &Cpx, out: &mut [Sample])
-    requires count { length out.old ≤ most_samples }
-    requires gain { square gain.now ≤ 784 }
-    ensures { out.new ≡ values_below (length out.old) (λ i. sample_of (times gain.now (sample_by sender.now i))) }
-{
-    let layout = layout_of(sender.cell, sender.port);
-    let versions = versions_of(sender.cell);
-    let mut frame = [SILENCE; FRAME_LENGTH];
-    let mut at = 0;
-    while at < out.len() {
-        enter(sender, gain, &layout, &versions, at, &mut frame);
-        let start = (at + sender.timing.offset as usize) % FRAME_LENGTH;
-        at += put_part(&frame, start, at, out);
-    }
-}
-
 /// What is sent at a port, over at most 1,920,000 samples: sample `i` is the one at `i + offset` of the endless
 /// sequence of frames at this port. No sample has a size above 1,153 (`sizes`).
 pub fn sequence(sender: &Sender, out: &mut [Sample])
     requires { length out.old ≤ most_samples }
     ensures { out.new ≡ values_below (length out.old) (λ i. sample_of (sample_by sender.now i)) }
 {
-    fill(sender, &ONE, out);
+    let source = Source::of_port(sender, ONE, out.len());
+    put_all(Emitter::by(&source), out);
 }
 
 /// All samples of a transmission, over as many: sample `i` is that of `send`.
@@ -219,5 +165,6 @@ pub fn send_all(t: &Transmission, out: &mut [Sample])
         timing: t.timing(),
         load: None,
     };
-    fill(&sender, &t.gain().value(), out);
+    let source = Source::of_port(&sender, t.gain().value(), out.len());
+    put_all(Emitter::by(&source), out);
 }

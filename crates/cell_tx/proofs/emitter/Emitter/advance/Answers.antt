@@ -1,5 +1,5 @@
 use Rattle.std.proofs.Common.{◌≡◌, ℕ, ◌+◌, ◌-◌, ◌%◌, nat_lt, arith, sym, subst, ap, ◌∙◌, length, min}
-use Rattle.cell_tx.specs.declared.emission.Emission.{Emission}
+use Rattle.cell_tx.specs.declared.source.Source.{Source}
 use Rattle.cell_tx.specs.declared.emitter.Emitter.TheInside.{Inside}
 use Rattle.cell_tx.specs.Emitting.{Progress, IsMade, piece_end}
 use Rattle.lte_types.specs.Timing.{number_of}
@@ -8,19 +8,19 @@ use Rattle.cell_tx.proofs.emitter.Emitter.advance.Goals as goal
 use Rattle.cell_tx.proofs.emitter.Emitter.advance.Goals.{then-more, else-more}
 
 -- the state after the next piece
-abbrev IsNext : Emission → Inside → Type 0
-IsNext e s = IsMade s.station.emission.now s.at (min (s.at + (19200 - (s.at + e.timing.offset) % 19200)) e.samples) s.frame
+abbrev IsNext : Source → Inside → Type 0
+IsNext e s = IsMade s.maker.source s.at (min (s.at + (19200 - (s.at + e.timing.offset) % 19200)) e.samples) s.frame
 
 pub invariant_of-self : goal.invariant_of-self
 invariant_of-self c =
     let s = c.self.inside in
-    let e = s.station.emission.now in
+    let e = s.maker.source in
     let is = c.self.invariant in
     rw c.min-self-inside.ensures
     (elim c.if-more.branch [
       | then-more w ↦
           subst (IsNext e) (sym w.self-inside-is)
-          (next_made e s.from s.at s.frame w.enter.new.frame is (w.enter.auto.frame ∙ is.whole) (λ below. w.enter.ensures (number_of e.timing.sfn (s.from + e.timing.offset)) (λ some. is.held (is.begun some below))))
+          (next_made e s.from s.at s.frame w.make_frame_of.new.frame is (w.make_frame_of.auto.frame ∙ is.whole) (λ below. w.make_frame_of.ensures (number_of e.timing.sfn (s.from + e.timing.offset)) (λ some. is.held (is.begun some below))))
       | else-more w ↦
           let past = w.if-more.false in
           subst (IsNext e) (sym w.self-inside-is) (next_made e s.from s.at s.frame s.frame is is.whole (λ below. absurd (omega (arith, below, past))))
@@ -29,7 +29,7 @@ invariant_of-self c =
 pub returns-clause-at : goal.returns-clause-at
 returns-clause-at c =
     let s = c.self.inside in
-    let e = s.station.emission.now in
+    let e = s.maker.source in
     let same : c.if-more.self-inside.at ≡ s.at =
     elim c.if-more.branch [ then-more w ↦ ap (λ (x : Inside). x.at) w.self-inside-is | else-more w ↦ ap (λ (x : Inside). x.at) w.self-inside-is ] in
     c.min-self-inside.ensures
@@ -40,4 +40,4 @@ returns-clause-at c =
 pub returns-clause-more : goal.returns-clause-more
 returns-clause-more c =
     let s = c.self.inside in
-    ap (nat_lt s.at) (sym (so_many s.station.emission.now)) ∙ ap (λ (p : Progress). nat_lt p.at (length p.samples)) c.self.view_is
+    ap (nat_lt s.at) (sym (so_many s.maker.source)) ∙ ap (λ (p : Progress). nat_lt p.at (length p.samples)) c.self.view_is

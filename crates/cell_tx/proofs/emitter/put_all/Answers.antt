@@ -1,31 +1,27 @@
 use Rattle.std.proofs.Common.{◌≡◌, ℕ, ◌+◌, ◌<◌, ◌≤◌, List, ◌++◌, arith, sym, ap, ◌∙◌, length, take, take_all}
 use Rattle.std.proofs.lemmas.Bool.{ltb-true, ltb-false}
 use Rattle.cs_num.specs.declared.Sample.{Sample}
-use Rattle.cell_tx.specs.declared.emission.Emission.{Emission}
-use Rattle.cell_tx.specs.Emission.{emitted_samples}
 use Rattle.cell_tx.specs.Emitting.{Progress, piece_end, piece_of}
-use Rattle.cell_tx.proofs.Received.{received_by-small}
-use Rattle.cell_tx.proofs.Pieces.{so_many}
 use Rattle.cell_tx.proofs.Advancing.{grows, ends_within, reaches, front_is}
-use Rattle.cell_tx.proofs.emitting.emit.Goals as goal
+use Rattle.cell_tx.proofs.emitter.put_all.Goals as goal
 
 -- a further piece, where samples were made up to a place
-record IsStep (e : Emission) (at : ℕ) (q : Progress) : Type 0 where
+record IsStep (samples : List Sample) (at : ℕ) (q : Progress) : Type 0 where
   more : at < q.at
-  within : q.at ≤ e.samples
+  within : q.at ≤ length samples
   there : at + length (piece_of q) ≡ q.at
-  front : take q.at (emitted_samples e) ≡ take at (emitted_samples e) ++ piece_of q
+  front : take q.at samples ≡ take at samples ++ piece_of q
 
-step : (e : Emission) (at : ℕ) (p q : Progress) → p.samples ≡ emitted_samples e → p.at ≡ at → q.samples ≡ p.samples → q.from ≡ p.at → q.at ≡ piece_end p
-    → p.at < length p.samples → IsStep e at q
-step e at p q all here samples from ends below =
-    let long = ap length all ∙ so_many e in
-    let moves = grows p q samples from ends below in
+step : (samples : List Sample) (at : ℕ) (p q : Progress) → p.samples ≡ samples → p.at ≡ at → q.samples ≡ p.samples → q.from ≡ p.at → q.at ≡ piece_end p
+    → p.at < length p.samples → IsStep samples at q
+step samples at p q all here same from ends below =
+    let long = ap length all in
+    let moves = grows p q same from ends below in
     record {
       more = omega (arith, moves, here);
-      within = omega (arith, ends_within p q samples from ends below, long);
-      there = omega (arith, reaches p q samples from ends below, here);
-      front = rw (sym all, sym here) (front_is p q samples from ends below);
+      within = omega (arith, ends_within p q same from ends below, long);
+      there = omega (arith, reaches p q same from ends below, here);
+      front = rw (sym all, sym here) (front_is p q same from ends below);
     }
 
 pub put_piece-requires : goal.put_piece-requires
@@ -33,17 +29,17 @@ put_piece-requires c =
     let p = c.loop-emitter.emitter in
     let q = c.advance.new.self in
     let a = c.advance.ensures in
-    let s = step c.args.emission.now c.loop-emitter.at p q c.loop-emitter.invariant.samples c.loop-emitter.invariant.at a.samples a.from a.at
+    let s = step c.args.emitter.samples c.loop-emitter.at p q c.loop-emitter.invariant.samples c.loop-emitter.invariant.at a.samples a.from a.at
     (ltb-true p.at (length p.samples) (sym a.more ∙ c.loop-emitter-test.true)) in
     let piece : length c.piece-piece.result.now ≡ length (piece_of q) = ap length c.piece-piece.ensures in
     omega (arith, piece, s.there, s.within, c.loop-emitter.invariant.whole)
 
 module _ (c : goal.After-out-1) where
-  stepped : IsStep c.args.emission.now c.loop-emitter.at c.advance.new.self
+  stepped : IsStep c.args.emitter.samples c.loop-emitter.at c.advance.new.self
   stepped =
       let p = c.loop-emitter.emitter in
       let a = c.advance.ensures in
-      step c.args.emission.now c.loop-emitter.at p c.advance.new.self c.loop-emitter.invariant.samples c.loop-emitter.invariant.at a.samples a.from a.at
+      step c.args.emitter.samples c.loop-emitter.at p c.advance.new.self c.loop-emitter.invariant.samples c.loop-emitter.invariant.at a.samples a.from a.at
       (ltb-true p.at (length p.samples) (sym a.more ∙ c.loop-emitter-test.true))
 
   reached : c.loop-emitter.at + length c.piece-piece.result.now ≡ c.advance.new.self.at
@@ -55,7 +51,7 @@ loop-emitter-smaller c = omega (arith, reached c, (stepped c).more, (stepped c).
 pub loop-emitter-preserved : goal.loop-emitter-preserved
 loop-emitter-preserved c =
     let s = stepped c in
-    let e = c.args.emission.now in
+    let samples = c.args.emitter.samples in
     record {
       samples = c.advance.ensures.samples ∙ c.loop-emitter.invariant.samples;
       at = sym (reached c);
@@ -64,22 +60,17 @@ loop-emitter-preserved c =
       done =
           c.put_piece.ensures.front
           ∙ ap (λ (l : List Sample). l ++ c.piece-piece.result.now) c.loop-emitter.invariant.done
-          ∙ ap (λ (l : List Sample). take c.loop-emitter.at (emitted_samples e) ++ l) c.piece-piece.ensures
+          ∙ ap (λ (l : List Sample). take c.loop-emitter.at samples ++ l) c.piece-piece.ensures
           ∙ sym s.front
-          ∙ ap (λ (n : ℕ). take n (emitted_samples e)) (sym (reached c));
+          ∙ ap (λ (n : ℕ). take n samples) (sym (reached c));
     }
 
-pub returns-clause-samples : goal.returns-clause-samples
-returns-clause-samples c =
-    let e = c.args.emission.now in
+pub returns : goal.returns
+returns c =
+    let samples = c.args.emitter.samples in
     let i = c.loop-emitter.invariant in
     let past : length c.loop-emitter.emitter.samples ≤ c.loop-emitter.emitter.at =
     ltb-false c.loop-emitter.emitter.at (length c.loop-emitter.emitter.samples) (sym c.advance.ensures.more ∙ c.loop-emitter-test.false) in
     let long = ap length i.samples in
-    let most : e.samples ≤ c.loop-emitter.at = omega (arith, past, long, so_many e, i.at) in
-    sym (take_all c.loop-emitter.at c.loop-emitter.out (omega (arith, most, i.whole))) ∙ i.done ∙ take_all c.loop-emitter.at (emitted_samples e) (omega (arith, most, so_many e))
-
-pub returns-clause-size : goal.returns-clause-size
-returns-clause-size c i =
-    let e = c.args.emission.now in
-    received_by-small e.carrier e.load e.cell e.timing.sfn e.timing.offset e.gains i e.gains_are
+    let most : length samples ≤ c.loop-emitter.at = omega (arith, past, long, i.at) in
+    sym (take_all c.loop-emitter.at c.loop-emitter.out (omega (arith, most, i.whole))) ∙ i.done ∙ take_all c.loop-emitter.at samples most

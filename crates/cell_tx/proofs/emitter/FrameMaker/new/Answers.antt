@@ -1,0 +1,15 @@
+use Rattle.std.proofs.Common.{◌≡◌, sym, subst}
+use Rattle.cell_tx.specs.declared.source.Source.{Source}
+use Rattle.cell_tx.specs.Ports.{carrier_of}
+use Rattle.cell_tx.specs.Rows.{IsLayout, AreVersions}
+use Rattle.cell_tx.specs.Mixing.{carrier_by}
+use Rattle.cell_tx.proofs.emitter.FrameMaker.new.Goals as goal
+
+pub invariant_of-result : goal.invariant_of-result
+invariant_of-result c =
+    let same = sym c.again.ensures in
+    record {
+      port_is = subst (λ (s : Source). carrier_of c.first-port.result ≡ carrier_by s.ports) same c.first-port.ensures;
+      layout_is = subst (λ (s : Source). IsLayout c.first-port.result s.cell.now c.layout_of-layout.result) same c.layout_of-layout.ensures;
+      versions_are = subst (λ (s : Source). AreVersions s.cell.now c.versions_of-versions.result) same c.versions_of-versions.ensures;
+    }

@@ -1,0 +1,45 @@
+-- The antenna ports that send at once, and what is received of them. (own)
+use Rattle.std.specs.Prelude.{◌+◌, ◌≤◌, List}
+use Rattle.std.proofs.Props.{props}
+use Rattle.cs_num.specs.declared.Cpx.{Cpx}
+use Rattle.cs_num.specs.Complex.{square, times, value_at}
+use Rattle.lte_types.specs.declared.carrier.Carrier.{Carrier}
+use Rattle.lte_types.specs.declared.carrier.Carrier.TheVariants.{OnePort, TwoPorts, LongPrefix, FourPorts}
+use Rattle.cell_tx.specs.declared.antenna.Port.{Port}
+use Rattle.cell_tx.specs.declared.antenna.Port.TheVariants.{Only, Long}
+use Rattle.cell_tx.specs.declared.source.Ports.{Ports}
+use Rattle.cell_tx.specs.declared.source.Ports.TheVariants.{Alone, Both, AllFour}
+use Rattle.cell_tx.specs.Ports.{carrier_of}
+use Rattle.cell_tx.specs.Clean.{power_of_four}
+use Rattle.cell_tx.specs.Emission.{mixed}
+
+-- the ports of a carrier
+abbrev pub ports_of : Carrier → Ports
+ports_of OnePort = Alone Only
+ports_of TwoPorts = Both
+ports_of LongPrefix = Alone Long
+ports_of FourPorts = AllFour
+
+-- the carrier of ports
+abbrev pub carrier_by : Ports → Carrier
+carrier_by (Alone port) = carrier_of port
+carrier_by Both = TwoPorts
+carrier_by AllFour = FourPorts
+
+-- what is received of ports that send these values, by a channel that is one number for each
+abbrev pub mixed_by : Ports → (Port → Cpx) → List Cpx → Cpx
+mixed_by (Alone port) values gains = times (value_at gains 0) (values port)
+mixed_by Both values gains = mixed TwoPorts values gains
+mixed_by AllFour values gains = mixed FourPorts values gains
+
+-- with these gains of the ports all sums fit 16 bits
+abbrev pub AreGainsBy : Ports → List Cpx → Type 0
+AreGainsBy (Alone port) gains = square (value_at gains 0) ≤ 784
+AreGainsBy Both gains = square (value_at gains 0) + square (value_at gains 1) ≤ 392
+AreGainsBy AllFour gains = power_of_four gains ≤ 196
+
+-- a law: that gains fit is a proposition
+pub gains_by_prop : (ports : Ports) (gains : List Cpx) → IsProp (AreGainsBy ports gains)
+gains_by_prop (Alone port) gains = hlevel props
+gains_by_prop Both gains = hlevel props
+gains_by_prop AllFour gains = hlevel props

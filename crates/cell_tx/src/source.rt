@@ -1,0 +1,114 @@
+//! What samples are made of: a cell, the antenna ports that send it, their gains, the timing and the load.
+
+ghost use Rattle.std.specs.Prelude.{◌≤◌};
+ghost use Rattle.lte_types.specs.Numerology.{most_samples};
+ghost use Rattle.cell_tx.specs.Mixing.{AreGainsBy, gains_by_prop};
+
+use crate::{Cell, Emission, Port, PortOfFour, Sender};
+use cs_num::Cpx;
+use lte_types::{Carrier, Timing};
+
+/// The antenna ports that send at once: one alone, both of a cell with two, or all of a cell with four.
+#[derive(Clone, Copy)]
+pub(crate) enum Ports {
+    Alone(Port),
+    Both,
+    AllFour,
+}
+
+/// What samples are made of: `samples` samples of a cell from where `timing` says on, those of each port times the gain
+/// of the port. The gain of a port alone is the first.
+#[derive(Drop)]
+pub(crate) struct Source<'a> {
+    pub cell: &'a Cell,
+    pub ports: Ports,
+    pub timing: Timing,
+    pub samples: usize,
+    pub gains: [Cpx; 4],
+    pub load: Option<u32>,
+    ghost samples_most: { samples ≤ most_samples },
+    ghost gains_fit: { AreGainsBy ports gains } by { gains_by_prop ports gains },
+}
+
+impl<'a> Source<'a> {
+    ghost use Rattle.std.specs.Prelude.{◌≡◌};
+    ghost use Rattle.finite.specs.Lists.{values_below};
+    ghost use Rattle.cs_num.specs.Complex.{square, times, sample_of};
+    ghost use Rattle.cell_tx.specs.Emission.{emitted_samples};
+    ghost use Rattle.cell_tx.specs.Sending.{sample_by};
+    ghost use Rattle.cell_tx.specs.Emitting.{made_samples};
+
+    /// What an emission is made of.
+    pub(crate) fn of(emission: &'a Emission) -> Source<'a>
+        ensures made { made_samples result ≡ emitted_samples emission.now }
+        ensures offset { result.timing.offset ≡ emission.now.timing.offset }
+    {
+        Source {
+            cell: &emission.cell,
+            ports: Ports::of(emission.carrier),
+            timing: emission.timing,
+            samples: emission.samples as usize,
+            gains: emission.gains,
+            load: emission.load,
+        }
+    }
+
+    /// What some samples of a port are made of, times a gain.
+    pub(crate) fn of_port(sender: &Sender<'a>, gain: Cpx, samples: usize) -> Source<'a>
+        requires samples { samples ≤ most_samples }
+        requires gain { square gain ≤ 784 }
+        ensures { made_samples result ≡ values_below samples (λ i. sample_of (times gain (sample_by sender.now i))) }
+    {
+        Source {
+            cell: sender.cell,
+            ports: Ports::Alone(sender.port),
+            timing: sender.timing,
+            samples,
+            gains: [gain, Cpx::ZERO, Cpx::ZERO, Cpx::ZERO],
+            load: sender.load,
+        }
+    }
+
+    /// The same source once more.
+    pub(crate) fn again(&self) -> Source<'a>
+        ensures { result ≡ self.now }
+    {
+        Source {
+            cell: self.cell,
+            ports: self.ports,
+            timing: self.timing,
+            samples: self.samples,
+            gains: self.gains,
+            load: self.load,
+        }
+    }
+}
+
+impl Ports {
+    ghost use Rattle.std.specs.Prelude.{◌≡◌};
+    ghost use Rattle.cell_tx.specs.Mixing.{ports_of, carrier_by};
+    ghost use Rattle.cell_tx.specs.Ports.{carrier_of};
+
+    // The ports of a carrier.
+    fn of(carrier: Carrier) -> Ports
+        ensures { result ≡ ports_of carrier }
+    {
+        match carrier {
+            Carrier::OnePort => Ports::Alone(Port::Only),
+            Carrier::TwoPorts => Ports::Both,
+            Carrier::LongPrefix => Ports::Alone(Port::Long),
+            Carrier::FourPorts => Ports::AllFour,
+        }
+    }
+
+    /// The first of them.
+    pub(crate) fn first(self) -> Port
+        ensures { carrier_of result ≡ carrier_by self }
+    {
+        match self {
+            Ports::Alone(port) => port,
+            Ports::Both => Port::First,
+            Ports::AllFour => Port::OfFour(PortOfFour::Zero),
+        }
+    }
+}
