@@ -1,6 +1,7 @@
 //! What the channels of a frame carry at each place.
 
-ghost use Rattle.std.specs.Prelude.{◌≡◌, ◌<◌};
+ghost use Rattle.std.specs.Prelude.{◌≡◌, ◌<◌, true};
+ghost use Rattle.cell_tx.specs.Ports.{has_control};
 ghost use Rattle.cell_tx.specs.Grid.{has_system_information};
 ghost use Rattle.cell_tx.specs.Rows.{may_broadcast, broadcast_symbol, broadcast_if, indicator_if, control_if};
 ghost use Rattle.cell_tx.specs.Rows.{shared_if, system_if, channel_if};
@@ -81,6 +82,7 @@ fn indicator_at(signals: &Signals, subframe: u8, here: Place) -> Option<Cpx>
 
 // What PDCCH carries at a place; none outside subframe 5 of even frames.
 fn control_at(signals: &Signals, subframe: u8, here: Place) -> Option<Cpx>
+    requires control { has_control signals.now.port ≡ true }
     requires symbol { here.symbol < 14 }
     requires k { here.k < 72 }
     ensures { result ≡ control_if signals.now.port signals.now.cell.now signals.now.sfn subframe here.symbol here.k }
@@ -94,6 +96,7 @@ fn control_at(signals: &Signals, subframe: u8, here: Place) -> Option<Cpx>
 
 // What PDSCH carries at a place; none outside subframe 5 of even frames.
 fn shared_at(signals: &Signals, subframe: u8, here: Place) -> Option<Cpx>
+    requires control { has_control signals.now.port ≡ true }
     requires symbol { here.symbol < 14 }
     requires k { here.k < 72 }
     ensures { result ≡ shared_if signals.now.port signals.now.cell.now signals.now.sfn subframe here.symbol here.k }
@@ -107,6 +110,7 @@ fn shared_at(signals: &Signals, subframe: u8, here: Place) -> Option<Cpx>
 
 // What PCFICH, PDCCH and PDSCH have at a place of a subframe: the value of the first that is there.
 fn system_at(signals: &Signals, subframe: u8, here: Place) -> Option<Cpx>
+    requires control { has_control signals.now.port ≡ true }
     requires subframe { subframe < 10 }
     requires symbol { here.symbol < 14 }
     requires k { here.k < 72 }

@@ -5,7 +5,7 @@ ghost use Rattle.cs_num.specs.Complex.{IsWithin, square, value_at};
 ghost use Rattle.lte_types.specs.declared.carrier.Carrier.TheVariants.{TwoPorts, FourPorts};
 ghost use Rattle.lte_types.specs.Carrier.{prefix_of};
 ghost use Rattle.cell_tx.specs.declared.source.Ports.TheVariants.{Both, AllFour};
-ghost use Rattle.cell_tx.specs.Ports.{carrier_of};
+ghost use Rattle.cell_tx.specs.Ports.{carrier_of, has_control};
 ghost use Rattle.cell_tx.specs.Rows.{IsLayout, AreVersions};
 ghost use Rattle.cell_tx.specs.Emission.{emitted, emitted_samples};
 ghost use Rattle.cell_tx.specs.Mixing.{carrier_by};
@@ -29,7 +29,7 @@ struct FrameMaker<'a> {
     versions: Versions,
     ghost port_is: { carrier_of port ≡ carrier_by source.ports },
     ghost layout_is: { IsLayout port source.cell.now layout },
-    ghost versions_are: { AreVersions source.cell.now versions },
+    ghost versions_are: { has_control port ≡ true → AreVersions source.cell.now versions },
 }
 
 impl<'a> FrameMaker<'a> {
@@ -46,7 +46,7 @@ impl<'a> FrameMaker<'a> {
     {
         let port = source.ports.first();
         let layout = layout_of(source.cell, port);
-        let versions = versions_of(source.cell);
+        let versions = versions_of(source.cell, port);
         FrameMaker {
             source: source.again(),
             port,

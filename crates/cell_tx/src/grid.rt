@@ -1,6 +1,6 @@
 //! The resource grid of a frame, symbol by symbol.
 
-ghost use Rattle.std.specs.Prelude.{ℕ, ◌≡◌, ◌⊎◌, ◌+◌, ◌*◌, ◌/◌, ◌%◌, ◌<◌, ◌≤◌, Some, None, All, nat_abs, if◌then◌else◌};
+ghost use Rattle.std.specs.Prelude.{ℕ, ◌≡◌, ◌⊎◌, ◌+◌, ◌*◌, ◌/◌, ◌%◌, ◌<◌, ◌≤◌, true, Some, None, All, nat_abs, if◌then◌else◌};
 ghost use Rattle.finite.specs.Lists.{values_below};
 ghost use Rattle.cs_num.specs.Complex.{nothing};
 ghost use Rattle.lte_types.specs.Numerology.{half_of};
@@ -12,7 +12,7 @@ ghost use Rattle.std.specs.Option.{unwrap_or};
 ghost use Rattle.cell_tx.specs.declared.antenna.Port.{Port as Antenna};
 ghost use Rattle.cell_tx.specs.declared.antenna.Port.TheVariants.{OfFour};
 ghost use Rattle.cell_tx.specs.Grid.{is_synchronised, secondary_value};
-ghost use Rattle.cell_tx.specs.Ports.{port_symbols, port_slot, first_pattern, sent_signal};
+ghost use Rattle.cell_tx.specs.Ports.{port_symbols, port_slot, first_pattern, sent_signal, has_control};
 ghost use Rattle.cell_tx.specs.Load.{is_signal_symbol, load_point, sent_element};
 ghost use Rattle.cell_tx.specs.Block.{port_point};
 ghost use Rattle.cell_tx.specs.Rows.{port_reference_if, test_of_four, channel_if, open_value};
@@ -42,7 +42,7 @@ pub(crate) struct Signals<'a> {
     pub broadcast: [Cpx; 240],
     pub load_bits: [bool; LOAD_BITS],
     ghost layout_is: { IsLayout port cell.now layout.now },
-    ghost carried_is: { IsCarried cell.now sfn carried.now },
+    ghost carried_is: { has_control port ≡ true → IsCarried cell.now sfn carried.now },
     ghost broadcast_is: { broadcast ≡ values_below 240 (port_point port cell.now sfn) },
     ghost load_is: { (number : ℕ) → load ≡ Some number → load_bits ≡ bits_of_load number port sfn },
 }
@@ -58,7 +58,7 @@ impl<'a> Signals<'a> {
         sfn: Sfn,
     ) -> Signals<'a>
         requires layout { IsLayout port cell.now layout.now }
-        requires carried { IsCarried cell.now sfn carried.now }
+        requires carried { has_control port ≡ true → IsCarried cell.now sfn carried.now }
         ensures cell { result.cell.now ≡ cell.now }
         ensures port { result.port ≡ port }
         ensures load { result.load ≡ load }

@@ -1,6 +1,7 @@
 //! What is made once for all frames of a cell.
 
-ghost use Rattle.std.specs.Prelude.{◌≡◌};
+ghost use Rattle.std.specs.Prelude.{◌≡◌, true};
+ghost use Rattle.cell_tx.specs.Ports.{has_control};
 ghost use Rattle.cell_tx.specs.Rows.{broadcast_places, IsTableOf, IsLayout, IsCarried, AreVersions};
 
 use crate::control::{Indicator, control_places, control_points, indicators};
@@ -101,25 +102,33 @@ pub(crate) fn layout_of(cell: &Cell, port: Port) -> Layout
     }
 }
 
-/// What a frame carries in subframe 5, if its number is even.
-pub(crate) fn carried_of(cell: &Cell, sfn: Sfn) -> Carried
-    ensures { IsCarried cell.now sfn result }
+/// What a frame carries in subframe 5, if its number is even; no points where the port has no control region.
+pub(crate) fn carried_of(cell: &Cell, port: Port, sfn: Sfn) -> Carried
+    ensures { has_control port ≡ true → IsCarried cell.now sfn result }
 {
-    Carried {
-        control: control_points(cell, sfn),
-        shared: shared_points(cell, sfn),
+    if port.has_control() {
+        Carried {
+            control: control_points(cell, sfn),
+            shared: shared_points(cell, sfn),
+        }
+    } else {
+        Carried {
+            control: [Cpx::ZERO; 144],
+            shared: [Cpx::ZERO; 612],
+        }
     }
 }
 
-/// What PDCCH and PDSCH of a cell carry, by the redundancy versions of frames.
-pub(crate) fn versions_of(cell: &Cell) -> Versions
-    ensures { AreVersions cell.now result }
+/// What PDCCH and PDSCH of a cell carry, by the redundancy versions of frames; no points where the port has no control
+/// region.
+pub(crate) fn versions_of(cell: &Cell, port: Port) -> Versions
+    ensures { has_control port ≡ true → AreVersions cell.now result }
 {
     Versions {
-        first: carried_of(cell, Sfn::modulo(0)),
-        second: carried_of(cell, Sfn::modulo(2)),
-        third: carried_of(cell, Sfn::modulo(4)),
-        fourth: carried_of(cell, Sfn::modulo(6)),
+        first: carried_of(cell, port, Sfn::modulo(0)),
+        second: carried_of(cell, port, Sfn::modulo(2)),
+        third: carried_of(cell, port, Sfn::modulo(4)),
+        fourth: carried_of(cell, port, Sfn::modulo(6)),
     }
 }
 

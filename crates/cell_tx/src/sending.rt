@@ -80,7 +80,7 @@ pub fn port_sample(cell: &Cell, port: Port, sfn: Sfn, i: u64) -> Sample
 {
     let sfn = Timing { sfn, offset: 0 }.number_at(i);
     let layout = layout_of(cell, port);
-    let carried = carried_of(cell, sfn);
+    let carried = carried_of(cell, port, sfn);
     let signals = Signals::new(cell, port, None, &layout, &carried, sfn);
     sample_of_frame(&signals, (i % FRAME) as usize)
 }

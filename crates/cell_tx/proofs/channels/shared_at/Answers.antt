@@ -11,10 +11,10 @@ returns c =
     let count = signals.layout_is.shared.count in
     let few = signals.layout_is.shared_count in
     c.value_at.ensures (assigned_places (is_two signals.port) signals.cell.now) signals.layout_is.shared
-    ∙ shared_is signals.port signals.cell.now signals.sfn c.args.subframe c.args.here.symbol c.args.here.k signals.carried.now.shared signals.carried_is.shared (omega (arith, count, few))
+    ∙ shared_is signals.port signals.cell.now signals.sfn c.args.subframe c.args.here.symbol c.args.here.k signals.carried.now.shared (signals.carried_is c.requires.control).shared (omega (arith, count, few))
     (sym c.has_system_information.ensures ∙ c.if-not-has_system_information.false)
 
 pub value_at-requires-clause-small : goal.value_at-requires-clause-small
 value_at-requires-clause-small c =
     let signals = c.args.signals.now in
-    all_small signals.carried.now.shared 612 (shared_point signals.cell.now signals.sfn) signals.carried_is.shared (shared_full signals.cell.now signals.sfn)
+    all_small signals.carried.now.shared 612 (shared_point signals.cell.now signals.sfn) (signals.carried_is c.requires.control).shared (shared_full signals.cell.now signals.sfn)

@@ -1,6 +1,6 @@
-use Rattle.std.proofs.Common.{◌≡◌, sym, subst}
+use Rattle.std.proofs.Common.{◌≡◌, true, sym, subst}
 use Rattle.cell_tx.specs.declared.source.Source.{Source}
-use Rattle.cell_tx.specs.Ports.{carrier_of}
+use Rattle.cell_tx.specs.Ports.{carrier_of, has_control}
 use Rattle.cell_tx.specs.Rows.{IsLayout, AreVersions}
 use Rattle.cell_tx.specs.Mixing.{carrier_by}
 use Rattle.cell_tx.proofs.emitter.FrameMaker.new.Goals as goal
@@ -11,5 +11,5 @@ invariant_of-result c =
     record {
       port_is = subst (λ (s : Source). carrier_of c.first-port.result ≡ carrier_by s.ports) same c.first-port.ensures;
       layout_is = subst (λ (s : Source). IsLayout c.first-port.result s.cell.now c.layout_of-layout.result) same c.layout_of-layout.ensures;
-      versions_are = subst (λ (s : Source). AreVersions s.cell.now c.versions_of-versions.result) same c.versions_of-versions.ensures;
+      versions_are = subst (λ (s : Source). has_control c.first-port.result ≡ true → AreVersions s.cell.now c.versions_of-versions.result) same c.versions_of-versions.ensures;
     }
