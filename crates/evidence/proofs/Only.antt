@@ -6,8 +6,7 @@ use Rattle.lte_types.specs.declared.entry.Entry.{Entry}
 use Rattle.explain.specs.Receiver.{Receiver}
 use Rattle.lte_types.specs.declared.evidence.Evidence.{Evidence}
 use Rattle.evidence.specs.Evidence.{IsEvidenceFor, thousandths}
-use Rattle.evidence.specs.Shown.{IsShownFor}
-use Rattle.report.specs.EvidenceJson.{Shown}
+use Rattle.evidence.specs.Shown.{Shown, IsShownFor}
 
 -- two of the same numbers are the same
 same_evidence : (a b : Evidence) → a.id ≡ b.id → a.start ≡ b.start → a.sfn ≡ b.sfn → a.t ≡ b.t → a.peak ≡ b.peak → a.cost ≡ b.cost → a.total ≡ b.total →

@@ -9,6 +9,7 @@ use Rattle.crs.specs.Reference.{port_0, port_1, long_prefix}
 use Rattle.lte_types.specs.declared.carrier.Carrier.{Carrier}
 use Rattle.lte_types.specs.declared.carrier.Carrier.TheVariants.{OnePort, TwoPorts, LongPrefix, FourPorts}
 use Rattle.lte_types.specs.declared.entry.Entry.{Entry}
+use Rattle.lte_types.specs.declared.evidence.Evidence.{Evidence}
 use Rattle.lte_types.specs.CellPlace.{Place}
 use Rattle.soft_bits.specs.Soft.{SeenSlot, pattern_pilot}
 use Rattle.soft_bits.specs.Upper.{upper_pilot}
@@ -17,11 +18,17 @@ use Rattle.explain.specs.Entries.{place_of}
 use Rattle.two_ports.specs.Entries.{two_ports_receiver}
 use Rattle.long_prefix.specs.Entries.{long_prefix_receiver}
 use Rattle.four_ports.specs.Entries.{four_ports_receiver}
-use Rattle.report.specs.declared.supports_json.PortChannel.{PortChannel}
-use Rattle.report.specs.declared.supports_json.PortChannel.TheVariants.{Lower, Upper}
-use Rattle.report.specs.declared.supports_json.SoftPair.{SoftPair}
-use Rattle.report.specs.EvidenceJson.{Shown}
+use Rattle.evidence.specs.declared.shown.PortChannel.{PortChannel}
+use Rattle.evidence.specs.declared.shown.PortChannel.TheVariants.{Lower, Upper}
+use Rattle.evidence.specs.declared.shown.SoftPair.{SoftPair}
 use Rattle.evidence.specs.Evidence.{slot_by, IsEvidenceFor}
+
+-- what supports an entry: its numbers, the channel of each antenna port in its slot, and the soft values of the
+-- broadcast channel there
+pub record Shown : Type 0 where
+  pub numbers : Evidence
+  pub channel : List PortChannel
+  pub values : List SoftPair
 
 -- the pilots of an antenna port, and of each
 abbrev pub channel_by : Pattern → SeenSlot → PortChannel

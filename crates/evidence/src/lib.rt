@@ -4,8 +4,10 @@
 
 mod listing;
 mod noise;
+mod shown;
 mod slot;
 mod support;
 
 pub use listing::{evidence_of, evidence_of_list};
+pub use shown::{PortChannel, SoftPair, Support};
 pub use support::support_of_list;

@@ -14,11 +14,11 @@ use Rattle.sss_detect.specs.Place.{start_of}
 use Rattle.sss_detect.specs.Second.{prefix_ranking}
 use Rattle.lte_types.specs.declared.evidence.Evidence.{Evidence as Numbers}
 use Rattle.evidence.specs.Evidence.{IsEvidenceFor}
-use Rattle.evidence.specs.Shown.{IsShownFor}
+use Rattle.evidence.specs.Shown.{Shown, IsShownFor}
 use Rattle.report.specs.declared.hits.IdentifiedHit.{IdentifiedHit}
 use Rattle.report.specs.Evidence.{evidence_text}
 use Rattle.report.specs.Hits.{hits_text, ids_text}
-use Rattle.report.specs.EvidenceJson.{Shown, evidence_json}
+use Rattle.report.specs.EvidenceJson.{evidence_json}
 use Rattle.report.specs.HitsJson.{hits_json, ids_json}
 use Rattle.lte_words.specs.declared.form.Report.{Report}
 use Rattle.lte_words.specs.declared.form.Report.TheVariants.{Hits, Ids, Search, Evidence, Tell}

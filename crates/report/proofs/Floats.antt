@@ -17,15 +17,16 @@ use Rattle.lte_types.specs.declared.sib1_reason.Sib1Reason.{Sib1Reason}
 use Rattle.lte_types.specs.declared.entry.Entry.{Entry}
 use Rattle.sss_detect.specs.declared.rank.Choice.{Choice}
 use Rattle.sss_detect.specs.declared.rank.Ranking.{Ranking}
+use Rattle.evidence.specs.declared.shown.PortChannel.{PortChannel}
+use Rattle.evidence.specs.declared.shown.PortChannel.TheVariants.{Lower, Upper}
+use Rattle.evidence.specs.declared.shown.SoftPair.{SoftPair}
+use Rattle.evidence.specs.Shown.{Shown}
 use Rattle.report.specs.HitsJson.{choice_value, ranking_value, id_value}
 use Rattle.report.specs.declared.measured.MeasuredId.{MeasuredId}
 use Rattle.report.specs.Values.{natural, integer, or_null}
 use Rattle.report.specs.Json.{plmn_value, message_value, tdd_value, sib1_value, system_value, entry_value}
 use Rattle.report.specs.All.{ruled_value, ruled_values, all_value}
-use Rattle.report.specs.EvidenceJson.{Shown, complex_value, port_value, soft_value, support_value}
-use Rattle.report.specs.declared.supports_json.PortChannel.{PortChannel}
-use Rattle.report.specs.declared.supports_json.PortChannel.TheVariants.{Lower, Upper}
-use Rattle.report.specs.declared.supports_json.SoftPair.{SoftPair}
+use Rattle.report.specs.EvidenceJson.{complex_value, port_value, soft_value, support_value}
 
 -- a value without floats has its text
 pub written : (seen value : Data) (r : Result (String Global) AllocError) → seen ≡ value → has_float value ≡ false →

@@ -5,17 +5,11 @@ use Rattle.serde_json.specs.Data.{Data, object, Members, no_members, put}
 use Rattle.serde_json.specs.Written.{compact_text}
 use Rattle.cs_num.specs.declared.Cpx.{Cpx}
 use Rattle.lte_types.specs.declared.evidence.Evidence.{Evidence}
+use Rattle.evidence.specs.declared.shown.PortChannel.{PortChannel}
+use Rattle.evidence.specs.declared.shown.PortChannel.TheVariants.{Lower, Upper}
+use Rattle.evidence.specs.declared.shown.SoftPair.{SoftPair}
+use Rattle.evidence.specs.Shown.{Shown}
 use Rattle.report.specs.Values.{natural, integer, list_of}
-use Rattle.report.specs.declared.supports_json.PortChannel.{PortChannel}
-use Rattle.report.specs.declared.supports_json.PortChannel.TheVariants.{Lower, Upper}
-use Rattle.report.specs.declared.supports_json.SoftPair.{SoftPair}
-
--- what supports an entry: its numbers, the channel of each antenna port in its slot, and the soft values of the
--- broadcast channel there
-pub record Shown : Type 0 where
-  pub numbers : Evidence
-  pub channel : List PortChannel
-  pub values : List SoftPair
 
 -- which entry it is, and the place of the hit that tells it, added to other members
 abbrev pub entry_members : Evidence → Members → Members

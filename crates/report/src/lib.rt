@@ -28,5 +28,5 @@ pub use listing::text;
 pub use made::line_of_made;
 pub use measured::{MeasuredHit, MeasuredId, json_of_hits, json_of_ids};
 pub use supports::text_of_evidence;
-pub use supports_json::{PortChannel, SoftPair, Support, json_of_evidence};
+pub use supports_json::json_of_evidence;
 pub use values::{ToJson, list_text, list_value, pair_value};

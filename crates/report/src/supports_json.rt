@@ -2,61 +2,16 @@
 
 ghost use Rattle.std.specs.Prelude.{◌≡◌, IfOk, OnOk, string_bytes};
 ghost use Rattle.serde_json.specs.View.{view, members_view};
-ghost use Rattle.report.specs.EvidenceJson.{Shown, entry_members, word_members, frame_members, pilots_members};
+ghost use Rattle.report.specs.EvidenceJson.{entry_members, word_members, frame_members, pilots_members};
 ghost use Rattle.report.specs.EvidenceJson.{slot_members, complex_value, port_value, soft_value};
 ghost use Rattle.report.specs.EvidenceJson.{support_value, evidence_json};
 
 use crate::values::{ToJson, list_text, list_value, pair_value};
 use cs_num::Cpx;
+use evidence::{PortChannel, SoftPair, Support};
 use lte_types::Evidence;
 use serde_json::{Map, Value, put};
 use std::alloc::{AllocError, Global};
-use std::marker::Model;
-
-/// The channel of an antenna port in a slot: its pilots in the order of subcarriers, each what was seen at a reference
-/// place times the conjugate of what was sent. (own)
-#[derive(Clone, Copy)]
-pub enum PortChannel {
-    /// The pilots of port 0 or 1, which has reference signals in two symbols of a slot.
-    Lower([Cpx; 24]),
-    /// The pilots of port 2 or 3, which has reference signals in one symbol of a slot.
-    Upper([Cpx; 12]),
-}
-
-/// The soft values of a resource element, of its real and its imaginary part: -127 to 127. (own)
-#[derive(Clone, Copy, PartialEq, Eq)]
-pub struct SoftPair {
-    pub re: i16,
-    pub im: i16,
-}
-
-/// What supports an entry of a list, and what its slot shows. Contracts see it as these. (own)
-#[derive(Drop)]
-pub struct Support {
-    numbers: Evidence,
-    channel: Vec<PortChannel>,
-    values: Vec<SoftPair>,
-}
-
-impl Model for Support {
-    ghost Value = { Shown };
-
-    ghost view = { λ s. record { numbers = s.numbers; channel = s.channel.items; values = s.values.items } };
-}
-
-impl Support {
-    /// What supports an entry: its numbers; the channel of each antenna port of the slot with the broadcast channel;
-    /// and the soft values of that channel, as they were received, in the order of its places.
-    pub fn new(numbers: Evidence, channel: Vec<PortChannel>, values: Vec<SoftPair>) -> Support
-        ensures { result ≡ record { numbers = numbers; channel = channel.items; values = values.items } }
-    {
-        Support {
-            numbers,
-            channel,
-            values,
-        }
-    }
-}
 
 /// What supports the entries of a list as JSON in one line, without a line feed: an array with an object for each,
 /// whose keys are the names that `text_of_evidence` writes, `identity`, `at` and `sfn`, and `channel` and `values`, of
@@ -72,11 +27,12 @@ impl ToJson for Support {
 
     fn to_json(&self, alloc: Global) -> Result<Value, AllocError> {
         let mut members = Map::new(alloc);
-        put_entry(alloc, &self.numbers, &mut members)?;
-        put_word(alloc, &self.numbers, &mut members)?;
-        put_frame(alloc, &self.numbers, &mut members)?;
-        put_pilots(alloc, &self.numbers, &mut members)?;
-        put_slot(alloc, &self.channel, &self.values, &mut members)?;
+        let numbers = self.numbers();
+        put_entry(alloc, numbers, &mut members)?;
+        put_word(alloc, numbers, &mut members)?;
+        put_frame(alloc, numbers, &mut members)?;
+        put_pilots(alloc, numbers, &mut members)?;
+        put_slot(alloc, self.channel(), self.values(), &mut members)?;
         Ok(Value::from(members))
     }
 }
