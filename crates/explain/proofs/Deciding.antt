@@ -14,12 +14,10 @@ use Rattle.lte_types.specs.declared.sib1.Sib1.{Sib1}
 use Rattle.lte_types.specs.declared.sib1_reason.Sib1Reason.{Sib1Reason}
 use Rattle.lte_types.specs.declared.sib1_reason.Sib1Reason.TheVariants.{NotOnePort, Bandwidth as OtherWidth}
 use Rattle.lte_types.specs.declared.carrier.Carrier.{Carrier}
-use Rattle.lte_types.specs.declared.duration.Duration.{Duration}
-use Rattle.lte_types.specs.declared.resource.Resource.{Resource}
 use Rattle.lte_types.specs.Carrier.{prefix_of}
 use Rattle.system_block.specs.Subframe.{Subframe, subframe_by}
 use Rattle.system_block.specs.Attempt.{Reads}
-use Rattle.pss_search.specs.Hits.{IsInSpan, hits_of}
+use Rattle.pss_search.specs.Hits.{IsInSpan}
 use Rattle.pss_search.proofs.Agree.{hits_agree}
 use Rattle.sample_file.specs.Recording.{AgreeBefore}
 use Rattle.observe.specs.Seen.{seen_symbol}
@@ -32,9 +30,9 @@ use Rattle.pbch.specs.Values.{received_values_by, summed_values}
 use Rattle.pbch.specs.Master.{TellsMaster}
 use Rattle.lte_types.specs.Frames.{Frames, frames_from}
 use Rattle.lte_types.specs.declared.carrier.Carrier.TheVariants.{OnePort, TwoPorts, LongPrefix, FourPorts}
-use Rattle.explain.specs.Frame.{frame_at, seen_slot, broadcast_slot}
+use Rattle.explain.specs.Frame.{frame_at, seen_slot}
 use Rattle.explain.specs.Receiver.{Receiver, Subframes, broadcast_by, by_slots, hits_by, place_by, has_step_before, sums_by}
-use Rattle.explain.specs.Entries.{IsEntryFor, IsMasterFor, AreEntriesFor, IsListFor, place_of, frames_of, master_of}
+use Rattle.explain.specs.Entries.{IsEntryFor, IsMasterFor, AreEntriesFor, place_of, frames_of, master_of}
 use Rattle.explain.specs.System.{even_frame, IsTried, IsReadFrom, FrameAnswers, IsSystemBy, IsSystemWith}
 use Rattle.explain.specs.Deciding.{deciding_length, FirstFramesDecide, AreSameSubframes, LooksAtFirstFrames, AreDecidedFor, FirstFramesDecideAll}
 use Rattle.explain.proofs.Late.{all_have_room}

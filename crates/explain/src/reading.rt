@@ -54,13 +54,7 @@ pub fn explain_by<F: FrameReader>(
     ensures valid { All (λ entry. IfOk entry.sib1 IsValid) list.new }
 {
     hits(recording, &mut work.hits);
-    read_hits(
-        reader,
-        recording,
-        work.hits.slice(),
-        &mut work.notes,
-        list,
-    );
+    read_hits(reader, recording, work.hits.slice(), &mut work.notes, list);
 }
 
 /// The same list where the hits of the recording are at hand, as for lists by several receivers. (own)

@@ -1,6 +1,6 @@
 -- What a report needs of a recording stands in the samples that are kept for it.
-use Rattle.std.proofs.Common.{◌≡◌, ℕ, zero, suc, ◌+◌, ◌<◌, ◌≤◌, Bool, true, false, nat_le, List, [], ◌∷◌, length, map, take, refl, ap, ap₂, sym, subst, ◌∙◌, arith}
-use Rattle.std.specs.Prelude.{All, string_bytes}
+use Rattle.std.proofs.Common.{◌≡◌, ℕ, suc, ◌≤◌, Bool, true, false, nat_le, List, [], ◌∷◌, length, map, take, refl, ap, ap₂, subst, ◌∙◌, arith}
+use Rattle.std.specs.Prelude.{All}
 use Rattle.std.proofs.lemmas.Bool.Decides.{nat_tests}
 use Rattle.std.proofs.lemmas.List.{take_all, take-take, length-take-le}
 use Rattle.cs_num.specs.declared.Sample.{Sample}
@@ -32,8 +32,6 @@ use Rattle.four_ports.proofs.HeldCells.{holds_loaded_cells_of_four, holds_clean_
 use Rattle.long_prefix.proofs.HeldLong.{holds_loaded_cells as holds_loaded_long, holds_clean_cells as holds_clean_long}
 use Rattle.report.specs.Hits.{hits_text, ids_text}
 use Rattle.report.specs.HitsJson.{hits_json, ids_json}
-use Rattle.report.specs.declared.hits.IdentifiedHit.{IdentifiedHit}
-use Rattle.report.specs.declared.measured.MeasuredId.{MeasuredId}
 use Rattle.lte_words.specs.declared.form.Form.TheVariants.{Report as Reports}
 use Rattle.lte_words.specs.declared.form.Report.{Report}
 use Rattle.lte_words.specs.declared.form.Report.TheVariants.{Hits, Ids, Search, Evidence, Tell}
@@ -41,9 +39,9 @@ use Rattle.lte_words.specs.declared.form.Rule.TheVariants.{Of, Cancel, All as Al
 use Rattle.lte_words.specs.declared.form.Output.{Output}
 use Rattle.lte_words.specs.declared.form.Output.TheVariants.{Text, Json}
 use Rattle.lte_top.specs.Line.{as_line}
-use Rattle.lte_top.specs.Reports.{identified, identified_by, measured, measured_id, kept_for, IsHits, IsIds, IsReport}
+use Rattle.lte_top.specs.Reports.{identified, identified_by, measured, measured_id, kept_for, IsReport}
 use Rattle.lte_top.specs.Run.{HasOutput}
-use Rattle.lte_top.specs.Searching.{receiver_of, IsListOf, IsListText, IsTextOfAll}
+use Rattle.lte_top.specs.Searching.{receiver_of, IsListOf}
 use Rattle.lte_top.proofs.Carriers.{list_is}
 use Rattle.lte_top.proofs.Ending.{recording_unrefused}
 

@@ -90,9 +90,9 @@ front_taken_on form most e w whole buffer before kept after count inside parts c
     let cut_is : w ≡ width form * (e / width form) = cut ∙ ap (λ n. width form * n) parts in
     let size : length (take w buffer) ≡ w = length-take-le w buffer (omega (arith, not_more form e w cut_is, inside)) in
     let new : length (samples_in form (take w buffer)) ≡ whole =
-        count_of form _ _ (length-of_whole form (take w buffer) (ap (λ m. m % width form) size ∙ are_whole form whole w cut) ∙ size ∙ cut) in
+    count_of form _ _ (length-of_whole form (take w buffer) (ap (λ m. m % width form) size ∙ are_whole form whole w cut) ∙ size ∙ cut) in
     let all : length (before ++ samples_in form (take w buffer)) ≡ length before + whole =
-        length-append before (samples_in form (take w buffer)) ∙ ap (λ n. length before + n) new in
+    length-append before (samples_in form (take w buffer)) ∙ ap (λ n. length before + n) new in
     record {
       samples = before ++ samples_in form (take w buffer);
       takes = end_taken form e w buffer before inside cut_is;

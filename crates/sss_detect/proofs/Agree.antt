@@ -1,8 +1,7 @@
 -- In recordings that agree a hit tells the same identity and place.
-use Rattle.std.proofs.Common.{◌≡◌, ℕ, ◌+◌, ◌-◌, ◌≤◌, List, ℤ, arith, refl, ap}
+use Rattle.std.proofs.Common.{◌≡◌, ℕ, ◌+◌, ◌-◌, ◌≤◌, List, arith, refl, ap}
 use Rattle.std.proofs.Math.Path.{fun_ext}
 use Rattle.cs_num.specs.declared.Sample.{Sample}
-use Rattle.lte_types.specs.CellPlace.{Place}
 use Rattle.lte_types.specs.declared.frame.Half.{Half}
 use Rattle.lte_types.specs.declared.hit.Hit.{Hit}
 use Rattle.lte_types.specs.declared.numerology.Prefix.{Prefix}
@@ -11,7 +10,6 @@ use Rattle.lte_types.specs.Numerology.{normal, symbol_step}
 use Rattle.sample_file.specs.Recording.{AgreeBefore}
 use Rattle.observe.proofs.Agree.{seen_agrees}
 use Rattle.observe.specs.Seen.{seen}
-use Rattle.sss_detect.specs.Scores.{score}
 use Rattle.sss_detect.specs.Identity.{prefix_scores, identity_of, prefix_identity, best_pair}
 use Rattle.sss_detect.specs.Place.{prefix_place, start_of}
 use Rattle.sss_detect.specs.Second.{prefix_ranking, ranking_of}
