@@ -8,7 +8,7 @@
 #   crates_picture.py: the picture of the crates is that of crates.txt, the list of their calls that of the sources;
 #   edits.py: each wrong body changes what it means to change;
 #   comments.py: each comment says what it is about without what stands above it.
-# Not run here, since they tell a state and not a fault: copies.py, near copies.
+# Not run here, but by hand: copies.py counts near copies; stands.py tells which commits do not stand as a whole.
 # Where lte_cli is built (crates/lte_cli/out/lte_cli, or LTE_CLI), the examples are run too. A check that wants what is
 # not there is left out, and said so: nothing is installed. The status is 1 where anything is wrong.
 set -u
