@@ -6,7 +6,7 @@ use Rattle.std.proofs.lemmas.Bool.Decides.{nat_tests}
 use Rattle.cs_num.specs.declared.Cpx.{Cpx}
 use Rattle.cs_num.specs.declared.Sample.{Sample}
 use Rattle.cs_num.specs.Complex.{IsWithin, silence, plus, times, value_of}
-use Rattle.cell_tx.specs.Emitting.{is_between, AreChanged, HaveRoom}
+use Rattle.cell_tx.specs.Emitting.{is_between, AreChanged, FitSamples}
 
 -- ---- places
 
@@ -133,6 +133,6 @@ changed_alike p f g old new alike is i inside = settle (p i) refl
 -- where other places were changed there is as much room as before
 pub room_left : (p q r : ℕ → Bool) (change : ℕ → Sample → Sample) (gain : Cpx) (values : ℕ → Cpx) (old new : List Sample)
     → ((i : ℕ) → r i ≡ true → p i ≡ true) → ((i : ℕ) → r i ≡ true → q i ≡ false)
-    → HaveRoom p gain values old → AreChanged q change old new → HaveRoom r gain values new
+    → FitSamples p gain values old → AreChanged q change old new → FitSamples r gain values new
 room_left p q r change gain values old new there apart room is i inside e =
     subst (λ (s : Sample). IsWithin 32767 (plus (value_of s) (times gain (values i)))) (sym (kept_there q change old new is i inside (apart i e))) (room i inside (there i e))

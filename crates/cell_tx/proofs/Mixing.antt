@@ -19,7 +19,7 @@ use Rattle.cell_tx.specs.Load.{sent_element}
 use Rattle.cell_tx.specs.Clean.{power_of_four}
 use Rattle.cell_tx.specs.Emission.{mixed}
 use Rattle.cell_tx.specs.Mixing.{mixed_by, AreGainsBy}
-use Rattle.cell_tx.specs.Emitting.{made, sent_in_frame, framed, AreChanged, added, HaveRoom, AreSilent}
+use Rattle.cell_tx.specs.Emitting.{made, sent_in_frame, framed, AreChanged, added, FitSamples, AreSilent}
 use Rattle.cell_tx.proofs.Bounds.{amplified, sent_element-square, frame-square}
 use Rattle.cell_tx.proofs.Received.{IsSumOf, product_is, sum_is, sum_fits, both-small}
 use Rattle.cell_tx.proofs.Symbols.{prefix_sent_is}
@@ -58,7 +58,7 @@ abbrev pub HaveThere : (ℕ → Bool) → (ℕ → Cpx) → List Sample → Type
 HaveThere p z samples = (i : ℕ) → i < 19200 → p i ≡ true → slice_index_or samples i silence ≡ sample_of (z i)
 
 pub room_over : (p : ℕ → Bool) (z : ℕ → Cpx) (gain : Cpx) (values : ℕ → Cpx) (samples : List Sample)
-    → HaveThere p z samples → ((i : ℕ) → IsWithin 32284 (plus (z i) (times gain (values i)))) → HaveRoom p gain values samples
+    → HaveThere p z samples → ((i : ℕ) → IsWithin 32284 (plus (z i) (times gain (values i)))) → FitSamples p gain values samples
 room_over p z gain values samples there small i inside e =
     subst (λ (s : Sample). IsWithin 32767 (plus (value_of s) (times gain (values i)))) (sym (there i inside e))
     (within_more (plus (z i) (times gain (values i))) 32284 32767 (small i) (omega arith))
@@ -72,7 +72,7 @@ sum_there p z gain values old new there is i inside e =
 
 module _ (s : Source) (n : ℕ) (p : ℕ → Bool) where
   -- over silence there is room for what a port sends
-  pub room_alone : (port : Port) (samples : List Sample) → AreSilent p samples → HaveRoom p (value_at s.gains 0) (heard s n port) samples
+  pub room_alone : (port : Port) (samples : List Sample) → AreSilent p samples → FitSamples p (value_at s.gains 0) (heard s n port) samples
   room_alone port samples silent =
       room_over p (λ i. nothing) (value_at s.gains 0) (heard s n port) samples silent
       (λ i. subst (IsWithin 32284) (sym (plus-nothing (part s n port 0 i))) (amplified (value_at s.gains 0) (heard s n port i) (first_most s.ports s.gains s.gains_fit) (heard-square s n port i)).small)
@@ -88,7 +88,7 @@ module _ (s : Source) (n : ℕ) (p : ℕ → Bool) where
 
 module _ (s : Source) (n : ℕ) (p : ℕ → Bool) (ports : s.ports ≡ Both) (old mid new : List Sample) (silent : AreSilent p old)
     (one : AreChanged p (added (value_at s.gains 0) (heard s n First)) old mid) where
-  pub room_for_second : HaveRoom p (value_at s.gains 1) (heard s n Second) mid
+  pub room_for_second : FitSamples p (value_at s.gains 1) (heard s n Second) mid
   room_for_second =
       room_over p (λ i. plus nothing (part s n First 0 i)) (value_at s.gains 1) (heard s n Second) mid
       (sum_there p (λ i. nothing) (value_at s.gains 0) (heard s n First) old mid silent one)
@@ -154,21 +154,21 @@ module _ (s : Source) (n : ℕ) (ports : s.ports ≡ AllFour) where
     one_there : HaveThere p (λ i. share s n Zero 0 i) one_in
     one_there i inside t = sum_there p (λ i. nothing) (value_at s.gains 0) (heard s n (OfFour Zero)) silent one_in none first i inside t ∙ ap sample_of (plus-nothing (share s n Zero 0 i))
 
-    pub room_for_one : HaveRoom p (value_at s.gains 1) (heard s n (OfFour One)) one_in
+    pub room_for_one : FitSamples p (value_at s.gains 1) (heard s n (OfFour One)) one_in
     room_for_one = room_over p (λ i. share s n Zero 0 i) (value_at s.gains 1) (heard s n (OfFour One)) one_in one_there two_small
 
     module _ (second : AreChanged p (step s n One 1) one_in two_in) where
       two_there : HaveThere p (two s n) two_in
       two_there = sum_there p (λ i. share s n Zero 0 i) (value_at s.gains 1) (heard s n (OfFour One)) one_in two_in one_there second
 
-      pub room_for_two : HaveRoom p (value_at s.gains 2) (heard s n (OfFour Two)) two_in
+      pub room_for_two : FitSamples p (value_at s.gains 2) (heard s n (OfFour Two)) two_in
       room_for_two = room_over p (two s n) (value_at s.gains 2) (heard s n (OfFour Two)) two_in two_there three_small
 
       module _ (third : AreChanged p (step s n Two 2) two_in three_in) where
         three_there : HaveThere p (three s n) three_in
         three_there = sum_there p (two s n) (value_at s.gains 2) (heard s n (OfFour Two)) two_in three_in two_there third
 
-        pub room_for_three : HaveRoom p (value_at s.gains 3) (heard s n (OfFour Three)) three_in
+        pub room_for_three : FitSamples p (value_at s.gains 3) (heard s n (OfFour Three)) three_in
         room_for_three = room_over p (three s n) (value_at s.gains 3) (heard s n (OfFour Three)) three_in three_there four_small
 
         pub four_made : (four_in : List Sample) → AreChanged p (step s n Three 3) three_in four_in

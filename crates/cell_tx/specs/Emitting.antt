@@ -13,7 +13,7 @@ use Rattle.lte_types.specs.Timing.{number_of}
 use Rattle.cell_tx.specs.declared.antenna.Port.{Port}
 use Rattle.cell_tx.specs.declared.cell.CellPlan.{CellPlan}
 use Rattle.cell_tx.specs.declared.source.Source.{Source}
-use Rattle.cell_tx.specs.declared.made_symbols.Symbols.{Symbols}
+use Rattle.cell_tx.specs.declared.frame_symbols.Symbols.{Symbols}
 use Rattle.cell_tx.specs.Ports.{carrier_of, port_prefix}
 use Rattle.cell_tx.specs.Emission.{sent_by}
 use Rattle.cell_tx.specs.Mixing.{mixed_by}
@@ -51,13 +51,13 @@ abbrev pub is_between : ℕ → ℕ → ℕ → Bool
 is_between first last i = nat_le first i && nat_lt i last
 
 -- sample i of a frame is in one of these symbols
-abbrev pub is_in : Prefix → Symbols → ℕ → Bool
-is_in prefix symbols i =
+abbrev pub is_made_anew : Prefix → Symbols → ℕ → Bool
+is_made_anew prefix symbols i =
     is_between (first_sample prefix symbols.first) (first_sample prefix symbols.last) i
     || is_between (first_sample prefix symbols.again) (first_sample prefix symbols.end) i
 
--- the symbols are in order, and within a frame
-pub record AreInOrder (prefix : Prefix) (symbols : Symbols) : Type 0 where
+-- the symbols are two spans, one after the other and within a frame
+pub record AreSpans (prefix : Prefix) (symbols : Symbols) : Type 0 where
   pub first : symbols.first ≤ symbols.last
   pub again : symbols.last ≤ symbols.again
   pub end : symbols.again ≤ symbols.end
@@ -65,13 +65,14 @@ pub record AreInOrder (prefix : Prefix) (symbols : Symbols) : Type 0 where
 
 -- all samples of a frame are in these symbols
 abbrev pub AreAll : Prefix → Symbols → Type 0
-AreAll prefix symbols = (i : ℕ) → i < frame_length → is_in prefix symbols i ≡ true
+AreAll prefix symbols = (i : ℕ) → i < frame_length → is_made_anew prefix symbols i ≡ true
 
 -- no sample of a port of the carrier outside these symbols depends on which frame it is in
 abbrev pub AreOwn : Carrier → Option ℕ → Symbols → Type 0
 AreOwn carrier load symbols =
     (port : Port) (plan : CellPlan) (a b i : ℕ) → carrier_of port ≡ carrier → i < frame_length →
-    is_in (prefix_of carrier) symbols i ≡ false → sent_in_frame load port plan a i ≡ sent_in_frame load port plan b i
+    is_made_anew (prefix_of carrier) symbols i ≡ false →
+    sent_in_frame load port plan a i ≡ sent_in_frame load port plan b i
 
 -- ---- samples that are changed in some places
 
@@ -87,8 +88,8 @@ abbrev pub added : Cpx → (ℕ → Cpx) → ℕ → Sample → Sample
 added gain values i before = sample_of (plus (value_of before) (times gain (values i)))
 
 -- samples with values, times a gain, added at some places fit 16 bits
-abbrev pub HaveRoom : (ℕ → Bool) → Cpx → (ℕ → Cpx) → List Sample → Type 0
-HaveRoom there gain values samples =
+abbrev pub FitSamples : (ℕ → Bool) → Cpx → (ℕ → Cpx) → List Sample → Type 0
+FitSamples there gain values samples =
     (i : ℕ) → i < frame_length → there i ≡ true → IsWithin 32767 (plus (sample_at samples i) (times gain (values i)))
 
 -- samples are silent at some places

@@ -32,7 +32,7 @@ mixed_by (Alone port) values gains = times (value_at gains 0) (values port)
 mixed_by Both values gains = mixed TwoPorts values gains
 mixed_by AllFour values gains = mixed FourPorts values gains
 
--- with these gains of the ports all sums fit 16 bits
+-- what is received with these gains fits 16 bits
 abbrev pub AreGainsBy : Ports → List Cpx → Type 0
 AreGainsBy (Alone port) gains = square (value_at gains 0) ≤ 784
 AreGainsBy Both gains = square (value_at gains 0) + square (value_at gains 1) ≤ 392

@@ -5,7 +5,7 @@ use Rattle.cs_num.specs.declared.Cpx.{Cpx}
 use Rattle.cs_num.specs.declared.Sample.{Sample}
 use Rattle.cs_num.specs.Complex.{sample_of}
 use Rattle.cell_tx.specs.declared.grid.Signals.{Signals}
-use Rattle.cell_tx.specs.declared.sending.Sender.{Sender}
+use Rattle.cell_tx.specs.declared.samples.Sender.{Sender}
 use Rattle.cell_tx.specs.declared.transmission.Transmission.{Transmission}
 use Rattle.cell_tx.specs.Pair.{gain_of}
 use Rattle.cell_tx.specs.Ports.{port_prefix}

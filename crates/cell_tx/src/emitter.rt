@@ -10,10 +10,9 @@ ghost use Rattle.cell_tx.specs.Rows.{IsLayout, AreVersions};
 ghost use Rattle.cell_tx.specs.Emission.{emitted, emitted_samples};
 ghost use Rattle.cell_tx.specs.Mixing.{carrier_by};
 
-use crate::adding::{SILENCE, add_symbols, clear_symbols};
+use crate::frame_symbols::{SILENCE, Symbols, add_symbols, clear_symbols, symbols_at};
 use crate::grid::Signals;
 use crate::layout::{Layout, Versions, layout_of, versions_of};
-use crate::made_symbols::{Symbols, symbols_at};
 use crate::source::{Ports, Source};
 use crate::{Emission, Port, PortOfFour};
 use cs_num::Sample;
@@ -37,8 +36,8 @@ impl<'a> FrameMaker<'a> {
     ghost use Rattle.lte_types.specs.Numerology.{frame_length};
     ghost use Rattle.lte_types.specs.Timing.{number_of};
     ghost use Rattle.cell_tx.specs.Ports.{port_prefix};
-    ghost use Rattle.cell_tx.specs.Emitting.{sent_in_frame, framed, AreFrame, is_in, AreInOrder, AreChanged, added};
-    ghost use Rattle.cell_tx.specs.Emitting.{HaveRoom, AreSilent};
+    ghost use Rattle.cell_tx.specs.Emitting.{sent_in_frame, framed, AreFrame, is_made_anew, AreSpans, AreChanged};
+    ghost use Rattle.cell_tx.specs.Emitting.{added, FitSamples, AreSilent};
 
     // The maker of the frames of a source.
     fn new(source: &Source<'a>) -> FrameMaker<'a>
@@ -60,11 +59,13 @@ impl<'a> FrameMaker<'a> {
         requires port { carrier_of port ≡ carrier_by self.now.source.ports }
         requires number { number < 4 }
         requires gain { square (value_at self.now.source.gains number) ≤ 784 }
-        requires order { AreInOrder (port_prefix port) symbols.now }
+        requires order { AreSpans (port_prefix port) symbols.now }
         requires room { length frame.old ≡ frame_length }
-        requires small { HaveRoom (is_in (port_prefix port) symbols.now) (value_at self.now.source.gains number)
+        requires small { FitSamples (is_made_anew (port_prefix port) symbols.now)
+            (value_at self.now.source.gains number)
             (sent_in_frame self.now.source.load port self.now.source.cell.now sfn) frame.old }
-        ensures { AreChanged (is_in (port_prefix port) symbols.now) (added (value_at self.now.source.gains number)
+        ensures { AreChanged (is_made_anew (port_prefix port) symbols.now)
+            (added (value_at self.now.source.gains number)
             (sent_in_frame self.now.source.load port self.now.source.cell.now sfn)) frame.old frame.new }
     {
         let source = &self.source;
@@ -76,10 +77,10 @@ impl<'a> FrameMaker<'a> {
     // Adds to silence what both ports of a cell with two send.
     fn add_both(&self, sfn: Sfn, symbols: &Symbols, frame: &mut [Sample])
         requires ports { self.now.source.ports ≡ Both }
-        requires order { AreInOrder (prefix_of TwoPorts) symbols.now }
+        requires order { AreSpans (prefix_of TwoPorts) symbols.now }
         requires room { length frame.old ≡ frame_length }
-        requires silent { AreSilent (is_in (prefix_of TwoPorts) symbols.now) frame.old }
-        ensures { AreChanged (is_in (prefix_of TwoPorts) symbols.now)
+        requires silent { AreSilent (is_made_anew (prefix_of TwoPorts) symbols.now) frame.old }
+        ensures { AreChanged (is_made_anew (prefix_of TwoPorts) symbols.now)
             (λ i before. sample_of (framed self.now.source sfn i)) frame.old frame.new }
     {
         self.add(Port::First, 0, sfn, symbols, frame);
@@ -89,10 +90,10 @@ impl<'a> FrameMaker<'a> {
     // Adds to silence what all ports of a cell with four send.
     fn add_four(&self, sfn: Sfn, symbols: &Symbols, frame: &mut [Sample])
         requires ports { self.now.source.ports ≡ AllFour }
-        requires order { AreInOrder (prefix_of FourPorts) symbols.now }
+        requires order { AreSpans (prefix_of FourPorts) symbols.now }
         requires room { length frame.old ≡ frame_length }
-        requires silent { AreSilent (is_in (prefix_of FourPorts) symbols.now) frame.old }
-        ensures { AreChanged (is_in (prefix_of FourPorts) symbols.now)
+        requires silent { AreSilent (is_made_anew (prefix_of FourPorts) symbols.now) frame.old }
+        ensures { AreChanged (is_made_anew (prefix_of FourPorts) symbols.now)
             (λ i before. sample_of (framed self.now.source sfn i)) frame.old frame.new }
     {
         self.add(Port::OfFour(PortOfFour::Zero), 0, sfn, symbols, frame);
@@ -103,10 +104,11 @@ impl<'a> FrameMaker<'a> {
 
     // Adds to silence what the ports of a source send.
     fn add_all(&self, sfn: Sfn, symbols: &Symbols, frame: &mut [Sample])
-        requires order { AreInOrder (prefix_of (carrier_by self.now.source.ports)) symbols.now }
+        requires order { AreSpans (prefix_of (carrier_by self.now.source.ports)) symbols.now }
         requires room { length frame.old ≡ frame_length }
-        requires silent { AreSilent (is_in (prefix_of (carrier_by self.now.source.ports)) symbols.now) frame.old }
-        ensures { AreChanged (is_in (prefix_of (carrier_by self.now.source.ports)) symbols.now)
+        requires silent { AreSilent
+            (is_made_anew (prefix_of (carrier_by self.now.source.ports)) symbols.now) frame.old }
+        ensures { AreChanged (is_made_anew (prefix_of (carrier_by self.now.source.ports)) symbols.now)
             (λ i before. sample_of (framed self.now.source sfn i)) frame.old frame.new }
     {
         match self.source.ports {
@@ -118,9 +120,9 @@ impl<'a> FrameMaker<'a> {
 
     // Makes some symbols of a frame.
     fn make(&self, sfn: Sfn, symbols: &Symbols, frame: &mut [Sample])
-        requires order { AreInOrder (prefix_of (carrier_by self.now.source.ports)) symbols.now }
+        requires order { AreSpans (prefix_of (carrier_by self.now.source.ports)) symbols.now }
         requires room { length frame.old ≡ frame_length }
-        ensures { AreChanged (is_in (prefix_of (carrier_by self.now.source.ports)) symbols.now)
+        ensures { AreChanged (is_made_anew (prefix_of (carrier_by self.now.source.ports)) symbols.now)
             (λ i before. sample_of (framed self.now.source sfn i)) frame.old frame.new }
     {
         clear_symbols(self.port, symbols, frame);

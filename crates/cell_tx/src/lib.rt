@@ -3,7 +3,6 @@
 //! with SystemInformationBlockType1 (TS 36.211 section 6); with load at all other places, or without (own).
 #![tactic(auto)]
 
-mod adding;
 mod antenna;
 mod bits;
 mod block;
@@ -13,14 +12,14 @@ mod control;
 mod emission;
 mod emitter;
 mod error;
+mod frame_symbols;
 mod grid;
 mod laws;
 mod layout;
 mod load;
-mod made_symbols;
 mod pair;
 mod points;
-mod sending;
+mod samples;
 mod shared;
 mod source;
 mod transmission;
@@ -34,5 +33,5 @@ pub use laws::{
     accepted_are_sendable, frames_stand, sent_is_clean, sizes, sum_is_clean, symbols_stand,
 };
 pub use pair::{gain_of_pair, pair_of};
-pub use sending::{Sender, frame, port_sample, sample, send, send_all, sequence};
+pub use samples::{Sender, frame, port_sample, sample, send, send_all, sequence};
 pub use transmission::Transmission;

@@ -108,7 +108,7 @@ fn sent_point(port: Port, points: &[Cpx], i: usize) -> Cpx
     match port {
         Port::Only => points[i],
         Port::First => points[i],
-        Port::Second => second_of(points, i),
+        Port::Second => crossed_point(points, i),
         Port::Long => points[i],
         Port::OfFour(four) => point_of_four(four, points, i),
     }
@@ -126,8 +126,8 @@ fn point_of_four(port: PortOfFour, points: &[Cpx], i: usize) -> Cpx
     match port {
         PortOfFour::Zero => value_if(even, points[i]),
         PortOfFour::One => value_if(!even, points[i]),
-        PortOfFour::Two => value_if(even, second_of(points, i)),
-        PortOfFour::Three => value_if(!even, second_of(points, i)),
+        PortOfFour::Two => value_if(even, crossed_point(points, i)),
+        PortOfFour::Three => value_if(!even, crossed_point(points, i)),
     }
 }
 
@@ -140,7 +140,7 @@ fn value_if(sent: bool, value: Cpx) -> Cpx
 
 // What the second port sends at place i of a channel: of a pair the negative conjugate of the other point at the
 // first place, and the conjugate of the other at the second.
-fn second_of(points: &[Cpx], i: usize) -> Cpx
+fn crossed_point(points: &[Cpx], i: usize) -> Cpx
     requires i { i < length points.now }
     requires pairs { length points.now % 2 ≡ 0 }
     requires small { All (IsWithin 90) points.now }

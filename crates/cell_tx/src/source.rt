@@ -69,7 +69,7 @@ impl<'a> Source<'a> {
         }
     }
 
-    /// The same source once more.
+    /// A source equal to this one.
     pub(crate) fn again(&self) -> Source<'a>
         ensures { result ≡ self.now }
     {
@@ -101,7 +101,7 @@ impl Ports {
         }
     }
 
-    /// The first of them.
+    /// The first port.
     pub(crate) fn first(self) -> Port
         ensures { carrier_of result ≡ carrier_by self }
     {

@@ -1,0 +1,247 @@
+//! Some symbols of a frame: which they are, and what a port sends in them, added to samples.
+
+ghost use Rattle.std.specs.Prelude.{◌≡◌, ◌+◌, ◌*◌, ◌/◌, ◌%◌, ◌<◌, ◌≤◌, true, None, length};
+ghost use Rattle.cs_num.specs.Complex.{IsWithin, square, plus, times, value_of, sample_of, silence};
+ghost use Rattle.fold128.specs.Symbol.{useful_part};
+ghost use Rattle.lte_types.specs.Numerology.{frame_length, slot_length};
+ghost use Rattle.lte_types.specs.Carrier.{prefix_of};
+ghost use Rattle.cell_tx.specs.Ports.{port_prefix, port_symbols};
+ghost use Rattle.cell_tx.specs.Rows.{first_in_slot, first_sample};
+ghost use Rattle.cell_tx.specs.Sending.{elements_of, sample_in, symbol_start};
+ghost use Rattle.cell_tx.specs.Emitting.{is_between, is_made_anew, AreSpans, AreAll, AreOwn, AreChanged, added};
+ghost use Rattle.cell_tx.specs.Emitting.{FitSamples};
+
+use crate::Port;
+use crate::grid::{Signals, useful_of};
+use cs_num::{Cpx, Sample};
+use lte_types::{Carrier, SLOT_LENGTH};
+
+// ---- which symbols
+
+/// Some symbols of a frame, by their numbers in it: those from `first` on before `last`, and those from `again` on
+/// before `end`.
+#[derive(Clone, Copy)]
+pub(crate) struct Symbols {
+    pub first: usize,
+    pub last: usize,
+    pub again: usize,
+    pub end: usize,
+}
+
+// The first symbols of a frame, as many as `count` says.
+fn first_symbols(count: usize) -> Symbols
+    ensures { result ≡ record { first = 0; last = count; again = count; end = count } }
+{
+    Symbols {
+        first: 0,
+        last: count,
+        again: count,
+        end: count,
+    }
+}
+
+/// All symbols of a frame.
+pub(crate) fn all_symbols(carrier: Carrier) -> Symbols
+    ensures order { AreSpans (prefix_of carrier) result }
+    ensures all { AreAll (prefix_of carrier) result }
+{
+    match carrier {
+        Carrier::OnePort => first_symbols(140),
+        Carrier::TwoPorts => first_symbols(140),
+        Carrier::LongPrefix => first_symbols(120),
+        Carrier::FourPorts => first_symbols(140),
+    }
+}
+
+// The first four symbols of slot 1, which carry the broadcast channel, and subframe 5, which carries system
+// information.
+const CHANNELS: Symbols = Symbols {
+    first: 7,
+    last: 11,
+    again: 70,
+    end: 84,
+};
+
+// The first four symbols of slot 1 alone.
+const BROADCAST: Symbols = Symbols {
+    first: 7,
+    last: 11,
+    again: 11,
+    end: 11,
+};
+
+// Slot 1 with the extended cyclic prefix.
+const SLOT: Symbols = Symbols {
+    first: 6,
+    last: 12,
+    again: 12,
+    end: 12,
+};
+
+// The symbols in which frames without load differ.
+fn channel_symbols(carrier: Carrier) -> Symbols
+    ensures order { AreSpans (prefix_of carrier) result }
+    ensures own { AreOwn carrier None result }
+{
+    match carrier {
+        Carrier::OnePort => CHANNELS,
+        Carrier::TwoPorts => CHANNELS,
+        Carrier::LongPrefix => SLOT,
+        Carrier::FourPorts => BROADCAST,
+    }
+}
+
+/// The symbols of a frame that are made anew over another frame of the cell: all where there is load, each of which
+/// has one of its own, and else those in which frames differ.
+pub(crate) fn own_symbols(carrier: Carrier, load: Option<u32>) -> Symbols
+    ensures order { AreSpans (prefix_of carrier) result }
+    ensures own { AreOwn carrier load result }
+{
+    if load.is_some() {
+        all_symbols(carrier)
+    } else {
+        channel_symbols(carrier)
+    }
+}
+
+/// The symbols of a frame that are made anew: all in the first frame that is made, and else as for `own_symbols`.
+pub(crate) fn symbols_at(carrier: Carrier, load: Option<u32>, is_first: bool) -> Symbols
+    ensures order { AreSpans (prefix_of carrier) result }
+    ensures all { is_first ≡ true → AreAll (prefix_of carrier) result }
+    ensures own { AreOwn carrier load result }
+{
+    if is_first {
+        all_symbols(carrier)
+    } else {
+        own_symbols(carrier, load)
+    }
+}
+
+// ---- what a port sends in them
+
+// A sample of silence.
+pub(crate) const SILENCE: Sample = Sample { re: 0, im: 0 };
+
+// Where symbol l of a slot begins.
+fn first_in_slot(port: Port, l: usize) -> usize
+    requires { l < port_symbols port }
+    ensures value { result ≡ first_in_slot (port_prefix port) l }
+    ensures inside { result < slot_length }
+{
+    let prefix = port.carrier().prefix();
+    if l == 0 {
+        0
+    } else {
+        (prefix.first - prefix.other) as usize + prefix.step() * l
+    }
+}
+
+// The first sample of a symbol of a frame by its number, the greatest of which is that of what follows the last.
+fn first_sample_of(port: Port, symbol: usize) -> usize
+    requires { symbol ≤ 20 * port_symbols port }
+    ensures value { result ≡ first_sample (port_prefix port) symbol }
+    ensures inside { result ≤ frame_length }
+{
+    let symbols = port.symbols() as usize;
+    SLOT_LENGTH * (symbol / symbols) + first_in_slot(port, symbol % symbols)
+}
+
+// The useful part of a symbol of a frame by its number.
+fn useful_at(signals: &Signals, symbol: usize) -> [Cpx; 128]
+    requires { symbol < 20 * port_symbols signals.now.port }
+    ensures { result ≡ useful_part (elements_of signals.now signals.now.sfn (symbol / port_symbols signals.now.port / 2)
+        (port_symbols signals.now.port * (symbol / port_symbols signals.now.port % 2)
+        + symbol % port_symbols signals.now.port)) }
+{
+    let symbols = signals.port.symbols() as usize;
+    useful_of(signals, (symbol / symbols) as u8, (symbol % symbols) as u8)
+}
+
+// Overwrites the samples from one up to another with silence.
+fn clear_between(first: usize, last: usize, out: &mut [Sample])
+    requires order { first ≤ last }
+    requires last { last ≤ frame_length }
+    requires room { length out.old ≡ frame_length }
+    ensures { AreChanged (is_between first last) (λ i before. silence) out.old out.new }
+{
+    for i in first..last {
+        out[i] = SILENCE;
+    }
+}
+
+/// Overwrites some symbols of a frame with silence.
+pub(crate) fn clear_symbols(port: Port, symbols: &Symbols, out: &mut [Sample])
+    requires order { AreSpans (port_prefix port) symbols.now }
+    requires room { length out.old ≡ frame_length }
+    ensures { AreChanged (is_made_anew (port_prefix port) symbols.now) (λ i before. silence) out.old out.new }
+{
+    clear_between(
+        first_sample_of(port, symbols.first),
+        first_sample_of(port, symbols.last),
+        out,
+    );
+    clear_between(
+        first_sample_of(port, symbols.again),
+        first_sample_of(port, symbols.end),
+        out,
+    );
+}
+
+// A sample with a value added to it, times a gain.
+fn sum_of(before: Sample, gain: &Cpx, value: Cpx) -> Sample
+    requires gain { square gain.now ≤ 784 }
+    requires value { square value ≤ 1153 * 1153 }
+    requires small { IsWithin 32767 (plus (value_of before) (times gain.now value)) }
+    ensures { result ≡ sample_of (plus (value_of before) (times gain.now value)) }
+{
+    let product = gain.mul(value);
+    (Cpx::from(before) + product).exact_sample()
+}
+
+// Adds what a port sends in a symbol of a frame, times a gain. Its samples are those of the useful part up to its
+// last one, before which they repeat.
+fn add_symbol(signals: &Signals, gain: &Cpx, symbol: usize, out: &mut [Sample])
+    requires symbol { symbol < 20 * port_symbols signals.now.port }
+    requires gain { square gain.now ≤ 784 }
+    requires room { length out.old ≡ frame_length }
+    requires small { FitSamples (is_between (symbol_start signals.now symbol) (symbol_start signals.now (symbol + 1)))
+        gain.now (sample_in signals.now) out.old }
+    ensures { AreChanged (is_between (symbol_start signals.now symbol) (symbol_start signals.now (symbol + 1)))
+        (added gain.now (sample_in signals.now)) out.old out.new }
+{
+    let useful = useful_at(signals, symbol);
+    let last = first_sample_of(signals.port, symbol + 1);
+    for i in first_sample_of(signals.port, symbol)..last {
+        out[i] = sum_of(out[i], gain, useful[(i + 256 - last) % 128]);
+    }
+}
+
+// Adds what a port sends in the symbols of a frame from one up to another, times a gain.
+fn add_between(signals: &Signals, gain: &Cpx, first: usize, last: usize, out: &mut [Sample])
+    requires order { first ≤ last }
+    requires last { last ≤ 20 * port_symbols signals.now.port }
+    requires gain { square gain.now ≤ 784 }
+    requires room { length out.old ≡ frame_length }
+    requires small { FitSamples (is_between (symbol_start signals.now first) (symbol_start signals.now last))
+        gain.now (sample_in signals.now) out.old }
+    ensures { AreChanged (is_between (symbol_start signals.now first) (symbol_start signals.now last))
+        (added gain.now (sample_in signals.now)) out.old out.new }
+{
+    for symbol in first..last {
+        add_symbol(signals, gain, symbol, out);
+    }
+}
+
+/// Adds what a port sends in some symbols of a frame, times a gain.
+pub(crate) fn add_symbols(signals: &Signals, gain: &Cpx, symbols: &Symbols, out: &mut [Sample])
+    requires order { AreSpans (port_prefix signals.now.port) symbols.now }
+    requires gain { square gain.now ≤ 784 }
+    requires room { length out.old ≡ frame_length }
+    requires small { FitSamples (is_made_anew (port_prefix signals.now.port) symbols.now)
+        gain.now (sample_in signals.now) out.old }
+    ensures { AreChanged (is_made_anew (port_prefix signals.now.port) symbols.now)
+        (added gain.now (sample_in signals.now)) out.old out.new }
+{
+    add_between(signals, gain, symbols.first, symbols.last, out);
+    add_between(signals, gain, symbols.again, symbols.end, out);
+}
