@@ -22,8 +22,10 @@ step_small a b p q =
     omega (arith, small)
 
 -- the pilots of a slot in a list have its steps
+pub steps_of_values : (last : ℕ) (pilots : List Cpx) (f : ℕ → Cpx) → pilots ≡ values_below (last + 1) f → steps last (value_at pilots) ≡ steps last f
+steps_of_values last pilots f e = steps_same last (value_at pilots) f (λ i l. ap (λ list. value_at list i) e ∙ values_below_at f (last + 1) i nothing l)
+
 pub steps_of_list : (last : ℕ) (pilots : List Cpx) (f : ℕ → Cpx) → pilots ≡ values_below (last + 1) f → steps (length pilots - 1) (value_at pilots) ≡ steps last f
 steps_of_list last pilots f e =
     let long : length pilots ≡ last + 1 = ap length e ∙ values_below-length (last + 1) f in
-    ap (λ n. steps n (value_at pilots)) (omega (arith, long))
-    ∙ steps_same last (value_at pilots) f (λ i l. ap (λ list. value_at list i) e ∙ values_below_at f (last + 1) i nothing l)
+    ap (λ n. steps n (value_at pilots)) (omega (arith, long)) ∙ steps_of_values last pilots f e

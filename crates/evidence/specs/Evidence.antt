@@ -19,6 +19,7 @@ use Rattle.pss_search.specs.Laws.{IsHitOf}
 use Rattle.soft_bits.specs.Soft.{SeenSlot, pattern_pilot, pattern_energy}
 use Rattle.soft_bits.specs.Upper.{upper_pilot}
 use Rattle.pbch.specs.Master.{total}
+use Rattle.explain.specs.declared.readings.Reading.{Reading}
 use Rattle.explain.specs.Frame.{broadcast_slot}
 use Rattle.explain.specs.Receiver.{Receiver, one_port_receiver, hits_by, place_by, sums_by}
 use Rattle.explain.specs.Entries.{place_of, frames_of}
@@ -115,10 +116,27 @@ pub record IsInRange (told : Evidence) : Type 0 where
   pub heard : 0 < told.total
   pub clear : 4 * told.cost ≤ told.total
 
--- ---- the code's way to the hit
+-- ---- the code's way to the hit, and to the numbers
 
 -- the first hit that tells the entry, as it was measured
 pub record IsHitOfEntry (carrier : Carrier) (recording : List Sample) (entry : Entry) (hit : Hit) : Type 0 where
   pub is_hit : IsHitOf recording hit
   pub first : IsFirstToldBy carrier recording entry hit.t
   pub root : hit.n2 ≡ entry.id % 3
+
+-- the numbers of an entry by how it was read, and by the energy and the steps of the pilots of its slot
+abbrev pub numbers_by : Entry → Reading → ℕ → ℕ → Evidence
+numbers_by entry reading power steps = record {
+  id = entry.id;
+  start = entry.start;
+  sfn = entry.sfn;
+  t = reading.hit.t;
+  peak = 1000 * reading.hit.peak / (reading.hit.energy * wave_power reading.hit.n2);
+  cost = entry.cost;
+  total = total reading.sums;
+  frames = entry.frames;
+  frame = entry.frame;
+  phase = entry.phase;
+  power = power;
+  noise = noise_of steps;
+}

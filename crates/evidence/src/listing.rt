@@ -1,16 +1,16 @@
 //! The evidence of entries.
 
-ghost use Rattle.std.specs.Prelude.{◌≡◌, ◌/◌, ◌*◌, ◌<◌, ◌≤◌, All, IfOk};
+ghost use Rattle.std.specs.Prelude.{◌≡◌, ◌/◌, ◌*◌, ◌^◌, ◌<◌, ◌≤◌, All, IfOk};
 ghost use Rattle.std.specs.List.{AllZip};
 ghost use Rattle.pss_search.specs.Correlation.{wave_power};
 ghost use Rattle.explain.specs.Entries.{place_of, IsEntryFor, IsListFor};
 ghost use Rattle.explain.specs.Laws.{IsEntryOfSome};
 ghost use Rattle.explain.specs.Readings.{IsReadingFor};
 ghost use Rattle.explain.specs.Receiver.{Receiver, hits_by};
-ghost use Rattle.evidence.specs.Evidence.{IsEvidenceFor, IsInRange};
+ghost use Rattle.evidence.specs.Evidence.{IsEvidenceFor, IsInRange, numbers_by};
 
 use crate::noise::noise_of;
-use crate::slot::pilot_sums;
+use crate::slot::{PilotSums, pilot_sums};
 use explain::Reading;
 use lte_types::{Carrier, CellPlace, Entry, Evidence, Hit};
 use pbch::total_of;
@@ -60,6 +60,17 @@ pub fn evidence_of(
     ensures range { IsInRange result }
 {
     let pilots = pilot_sums(recording, carrier, place_in(entry), entry.frame);
+    numbers_of(entry, reading, pilots)
+}
+
+// The numbers of an entry by how it was read, and by what the pilots of its slot are together.
+pub(crate) fn numbers_of(entry: &Entry, reading: &Reading, pilots: PilotSums) -> Evidence
+    requires root { reading.now.hit.n2 ≤ 2 }
+    requires sounds { 0 < reading.now.hit.energy }
+    requires within { reading.now.hit.peak ≤ reading.now.hit.energy * wave_power reading.now.hit.n2 }
+    requires small { pilots.steps ≤ 92 * 2 ^ 68 }
+    ensures { result ≡ numbers_by entry.now reading.now pilots.energy pilots.steps }
+{
     Evidence {
         id: entry.id,
         start: entry.start,

@@ -1,18 +1,20 @@
-//! What is estimated of the channel in the slot of an entry.
+//! What the pilots of a slot are together.
 
-ghost use Rattle.std.specs.Prelude.{◌≡◌, ◌*◌, ◌^◌, ◌≤◌};
-ghost use Rattle.explain.specs.Frame.{IsWhole};
+ghost use Rattle.std.specs.Prelude.{◌≡◌, ◌*◌, ◌^◌, ◌≤◌, All};
+ghost use Rattle.cs_num.specs.Complex.{IsWithin, value_at};
 ghost use Rattle.lte_types.specs.declared.carrier.Carrier.TheVariants.{OnePort as One, TwoPorts as Two};
-ghost use Rattle.lte_types.specs.declared.carrier.Carrier.TheVariants.{LongPrefix as Long, FourPorts as Four};
-ghost use Rattle.evidence.specs.Evidence.{slot_by, power_by, steps_by};
+ghost use Rattle.lte_types.specs.declared.carrier.Carrier.TheVariants.{FourPorts as Four};
+ghost use Rattle.explain.specs.Frame.{IsWhole};
+ghost use Rattle.evidence.specs.Evidence.{slot_by, power_by, steps_by, steps};
 
 use crate::noise::steps_of;
 use crs::UpperPort;
 use explain::{broadcast_slot, slot_of};
 use four_ports::FourSlot;
-use long_prefix::long_frame;
+use long_prefix::{LongFrame, long_frame};
 use lte_types::{Carrier, CellPlace};
 use sample_file::Recording;
+use soft_bits::Slot;
 use two_ports::PairSlot;
 
 // What the pilots of a slot are together, of all antenna ports: their energy, and the squares of the steps from one to
@@ -37,63 +39,56 @@ pub(crate) fn pilot_sums(
     ensures small { result.steps ≤ 92 * 2 ^ 68 }
 {
     match carrier {
-        Carrier::OnePort => of_one_port(recording, place, j),
-        Carrier::TwoPorts => of_two_ports(recording, place, j),
-        Carrier::LongPrefix => of_long_prefix(recording, place, j),
-        Carrier::FourPorts => of_four_ports(recording, place, j),
+        Carrier::OnePort => of_one_port(&broadcast_slot(recording, place, j)),
+        Carrier::TwoPorts => of_two_ports(&slot_of(recording, place, j, 1)),
+        Carrier::LongPrefix => of_long_prefix(&long_frame(recording, place, j)),
+        Carrier::FourPorts => of_four_ports(&slot_of(recording, place, j, 1)),
     }
 }
 
-// The energy and the steps of the pilots of a cell with one antenna port, in frame `j`.
-fn of_one_port(recording: &Recording, place: CellPlace, j: u8) -> PilotSums
-    requires { IsWhole recording.now place.start j }
-    ensures energy { result.energy ≡ power_by One (slot_by One recording.now place j) }
-    ensures steps { result.steps ≡ steps_by One (slot_by One recording.now place j) }
+// The energy and the steps of the pilots of a cell with one antenna port.
+pub(crate) fn of_one_port(slot: &Slot) -> PilotSums
+    ensures energy { result.energy ≡ power_by One slot.now }
+    ensures steps { result.steps ≡ steps_by One slot.now }
     ensures small { result.steps ≤ 92 * 2 ^ 68 }
 {
-    let slot = broadcast_slot(recording, place, j);
     PilotSums {
         energy: slot.energy(),
         steps: steps_of(slot.pilots()),
     }
 }
 
-// The energy and the steps of the pilots of a cell with two antenna ports, in frame `j`.
-fn of_two_ports(recording: &Recording, place: CellPlace, j: u8) -> PilotSums
-    requires { IsWhole recording.now place.start j }
-    ensures energy { result.energy ≡ power_by Two (slot_by Two recording.now place j) }
-    ensures steps { result.steps ≡ steps_by Two (slot_by Two recording.now place j) }
+// The energy and the steps of the pilots of a cell with two antenna ports.
+pub(crate) fn of_two_ports(slot: &PairSlot) -> PilotSums
+    ensures energy { result.energy ≡ power_by Two slot.now }
+    ensures steps { result.steps ≡ steps_by Two slot.now }
     ensures small { result.steps ≤ 92 * 2 ^ 68 }
 {
-    let slot: PairSlot = slot_of(recording, place, j, 1);
     PilotSums {
         energy: slot.energy(),
         steps: steps_of(slot.first_pilots()) + steps_of(slot.second_pilots()),
     }
 }
 
-// The energy and the steps of the pilots of a cell with the extended prefix, in frame `j`.
-fn of_long_prefix(recording: &Recording, place: CellPlace, j: u8) -> PilotSums
-    requires { IsWhole recording.now place.start j }
-    ensures energy { result.energy ≡ power_by Long (slot_by Long recording.now place j) }
-    ensures steps { result.steps ≡ steps_by Long (slot_by Long recording.now place j) }
+// The energy and the steps of the pilots of a cell with the extended prefix.
+pub(crate) fn of_long_prefix(frame: &LongFrame) -> PilotSums
+    requires { All (IsWithin (180 * 2 ^ 25)) frame.now.pilots }
+    ensures energy { result.energy ≡ frame.now.energy }
+    ensures steps { result.steps ≡ steps 23 (value_at frame.now.pilots) }
     ensures small { result.steps ≤ 92 * 2 ^ 68 }
 {
-    let frame = long_frame(recording, place, j);
     PilotSums {
         energy: frame.energy,
         steps: steps_of(&frame.pilots),
     }
 }
 
-// The energy and the steps of the pilots of a cell with four antenna ports, in frame `j`.
-fn of_four_ports(recording: &Recording, place: CellPlace, j: u8) -> PilotSums
-    requires { IsWhole recording.now place.start j }
-    ensures energy { result.energy ≡ power_by Four (slot_by Four recording.now place j) }
-    ensures steps { result.steps ≡ steps_by Four (slot_by Four recording.now place j) }
+// The energy and the steps of the pilots of a cell with four antenna ports.
+pub(crate) fn of_four_ports(slot: &FourSlot) -> PilotSums
+    ensures energy { result.energy ≡ power_by Four slot.now }
+    ensures steps { result.steps ≡ steps_by Four slot.now }
     ensures small { result.steps ≤ 92 * 2 ^ 68 }
 {
-    let slot: FourSlot = slot_of(recording, place, j, 1);
     PilotSums {
         energy: slot.energy(),
         steps: steps_of(slot.first_pilots())

@@ -1,6 +1,6 @@
 //! What the slots of entries show.
 
-ghost use Rattle.std.specs.Prelude.{◌≡◌, ◌+◌, ◌*◌, ◌<◌, [], ◌∷◌, IfOk, length};
+ghost use Rattle.std.specs.Prelude.{◌≡◌, ◌+◌, ◌*◌, ◌^◌, ◌<◌, ◌≤◌, [], ◌∷◌, IfOk, length};
 ghost use Rattle.std.specs.List.{AllZip};
 ghost use Rattle.finite.specs.Sizes.{AllWithin};
 ghost use Rattle.lte_types.specs.declared.carrier.Carrier.TheVariants.{OnePort as One, TwoPorts as Two};
@@ -11,10 +11,10 @@ ghost use Rattle.explain.specs.Laws.{IsEntryOfSome};
 ghost use Rattle.explain.specs.Readings.{IsReadingFor};
 ghost use Rattle.explain.specs.Receiver.{Receiver, hits_by};
 ghost use Rattle.evidence.specs.declared.shown.PortChannel.TheVariants.{Lower as LowerOf};
-ghost use Rattle.evidence.specs.Evidence.{slot_by};
-ghost use Rattle.evidence.specs.Shown.{Shown, channels_by, values_by, pair_at, pairs_of, IsShownFor};
+ghost use Rattle.evidence.specs.Shown.{SlotShown as SlotShownAs, slot_shown, pair_at, pairs_of, IsShownFor};
 
-use crate::listing::{evidence_of, place_in};
+use crate::listing::{numbers_of, place_in};
+use crate::slot::{PilotSums, of_four_ports, of_long_prefix, of_one_port, of_two_ports};
 use crate::{PortChannel, SoftPair, Support};
 use crs::UpperPort;
 use cs_num::Cpx;
@@ -25,6 +25,7 @@ use lte_types::{Carrier, CellPlace, Entry, Evidence};
 use pbch::received;
 use sample_file::Recording;
 use std::alloc::{AllocError, Global};
+use std::marker::Model;
 use two_ports::PairSlot;
 
 /// What supports each entry of a recording's list by the receiver for a carrier, as `evidence_of_list` tells it, and
@@ -66,125 +67,148 @@ fn support_of(
     requires reading { IsReadingFor receiver recording.now entry.now reading.now }
     ensures { IfOk result (IsShownFor receiver recording.now entry.now) }
 {
-    let numbers = evidence_of(recording, carrier, entry, reading);
-    shown(
-        alloc,
-        recording,
-        carrier,
-        place_in(entry),
-        entry.frame,
-        numbers,
-    )
+    let shown = shown_of(alloc, recording, carrier, place_in(entry), entry.frame)?;
+    let numbers = numbers_of(entry, reading, shown.sums());
+    Ok(shown.with_numbers(numbers))
 }
 
-// Numbers, and what the slot with the broadcast channel in frame `j` of a cell shows.
-fn shown(
+// What the slot of an entry shows: what its pilots are together, the channel of each antenna port, and the soft values
+// of the broadcast channel. Contracts see it as these.
+#[derive(Drop)]
+struct SlotShown {
+    sums: PilotSums,
+    channel: Vec<PortChannel>,
+    values: Vec<SoftPair>,
+}
+
+impl Model for SlotShown {
+    ghost Value = { SlotShownAs };
+
+    ghost view = { λ s. record {
+      power = s.sums.energy;
+      steps = s.sums.steps;
+      channel = s.channel.items;
+      values = s.values.items;
+    } };
+
+    ghost invariant = { λ s. s.sums.steps ≤ 92 * 2 ^ 68 };
+}
+
+impl SlotShown {
+    fn new(sums: PilotSums, channel: Vec<PortChannel>, values: Vec<SoftPair>) -> SlotShown
+        requires { sums.steps ≤ 92 * 2 ^ 68 }
+        ensures { result ≡ record {
+          power = sums.energy;
+          steps = sums.steps;
+          channel = channel.items;
+          values = values.items;
+        } }
+    {
+        SlotShown {
+            sums,
+            channel,
+            values,
+        }
+    }
+
+    fn sums(&self) -> PilotSums
+        ensures energy { result.energy ≡ self.now.power }
+        ensures steps { result.steps ≡ self.now.steps }
+        ensures small { result.steps ≤ 92 * 2 ^ 68 }
+    {
+        self.sums
+    }
+
+    fn with_numbers(self, numbers: Evidence) -> Support
+        ensures { result ≡ record { numbers = numbers; channel = self.channel; values = self.values } }
+    {
+        Support::new(numbers, self.channel, self.values)
+    }
+}
+
+// What the slot with the broadcast channel in frame `j` of a cell shows.
+fn shown_of(
     alloc: Global,
     recording: &Recording,
     carrier: Carrier,
     place: CellPlace,
     j: u8,
-    numbers: Evidence,
-) -> Result<Support, AllocError>
+) -> Result<SlotShown, AllocError>
     requires { IsWhole recording.now place.start j }
-    ensures { IfOk result (λ support. support ≡ record {
-      numbers = numbers;
-      channel = channels_by carrier (slot_by carrier recording.now place j);
-      values = pairs_of (values_by carrier recording.now place j);
-    }) }
+    ensures { IfOk result (λ shown. shown ≡ slot_shown carrier recording.now place j) }
 {
     match carrier {
-        Carrier::OnePort => shown_of_one(alloc, recording, place, j, numbers),
-        Carrier::TwoPorts => shown_of_two(alloc, recording, place, j, numbers),
-        Carrier::LongPrefix => shown_of_long(alloc, recording, place, j, numbers),
-        Carrier::FourPorts => shown_of_four(alloc, recording, place, j, numbers),
+        Carrier::OnePort => shown_of_one(alloc, recording, place, j),
+        Carrier::TwoPorts => shown_of_two(alloc, recording, place, j),
+        Carrier::LongPrefix => shown_of_long(alloc, recording, place, j),
+        Carrier::FourPorts => shown_of_four(alloc, recording, place, j),
     }
 }
 
-// Numbers, and what the slot with the broadcast channel of a cell with one antenna port shows.
+// What the slot with the broadcast channel of a cell with one antenna port shows.
 fn shown_of_one(
     alloc: Global,
     recording: &Recording,
     place: CellPlace,
     j: u8,
-    numbers: Evidence,
-) -> Result<Support, AllocError>
+) -> Result<SlotShown, AllocError>
     requires { IsWhole recording.now place.start j }
-    ensures { IfOk result (λ support. support ≡ record {
-      numbers = numbers;
-      channel = channels_by One (slot_by One recording.now place j);
-      values = pairs_of (values_by One recording.now place j);
-    }) }
+    ensures { IfOk result (λ shown. shown ≡ slot_shown One recording.now place j) }
 {
     let slot = broadcast_slot(recording, place, j);
     let channel = one_channel(alloc, slot.pilots())?;
     let values = pairs(alloc, received(&slot).slice())?;
-    Ok(Support::new(numbers, channel, values))
+    Ok(SlotShown::new(of_one_port(&slot), channel, values))
 }
 
-// Numbers, and what the slot with the broadcast channel of a cell with two antenna ports shows.
+// What the slot with the broadcast channel of a cell with two antenna ports shows.
 fn shown_of_two(
     alloc: Global,
     recording: &Recording,
     place: CellPlace,
     j: u8,
-    numbers: Evidence,
-) -> Result<Support, AllocError>
+) -> Result<SlotShown, AllocError>
     requires { IsWhole recording.now place.start j }
-    ensures { IfOk result (λ support. support ≡ record {
-      numbers = numbers;
-      channel = channels_by Two (slot_by Two recording.now place j);
-      values = pairs_of (values_by Two recording.now place j);
-    }) }
+    ensures { IfOk result (λ shown. shown ≡ slot_shown Two recording.now place j) }
 {
     let slot: PairSlot = slot_of(recording, place, j, 1);
     let channel = two_channels(alloc, slot.first_pilots(), slot.second_pilots())?;
     let values = pairs(alloc, received(&slot).slice())?;
-    Ok(Support::new(numbers, channel, values))
+    Ok(SlotShown::new(of_two_ports(&slot), channel, values))
 }
 
-// Numbers, and what the slot with the broadcast channel of a cell with the extended prefix shows.
+// What the slot with the broadcast channel of a cell with the extended prefix shows.
 fn shown_of_long(
     alloc: Global,
     recording: &Recording,
     place: CellPlace,
     j: u8,
-    numbers: Evidence,
-) -> Result<Support, AllocError>
+) -> Result<SlotShown, AllocError>
     requires { IsWhole recording.now place.start j }
-    ensures { IfOk result (λ support. support ≡ record {
-      numbers = numbers;
-      channel = channels_by Long (slot_by Long recording.now place j);
-      values = pairs_of (values_by Long recording.now place j);
-    }) }
+    ensures { IfOk result (λ shown. shown ≡ slot_shown Long recording.now place j) }
 {
     let frame = long_frame(recording, place, j);
     let channel = one_channel(alloc, &frame.pilots)?;
     let values = pairs(alloc, frame.values.slice())?;
-    Ok(Support::new(numbers, channel, values))
+    Ok(SlotShown::new(of_long_prefix(&frame), channel, values))
 }
 
-// Numbers, and what the slot with the broadcast channel of a cell with four antenna ports shows.
+// What the slot with the broadcast channel of a cell with four antenna ports shows.
 fn shown_of_four(
     alloc: Global,
     recording: &Recording,
     place: CellPlace,
     j: u8,
-    numbers: Evidence,
-) -> Result<Support, AllocError>
+) -> Result<SlotShown, AllocError>
     requires { IsWhole recording.now place.start j }
-    ensures { IfOk result (λ support. support ≡ record {
-      numbers = numbers;
-      channel = channels_by Four (slot_by Four recording.now place j);
-      values = pairs_of (values_by Four recording.now place j);
-    }) }
+    ensures { IfOk result (λ shown. shown ≡ slot_shown Four recording.now place j) }
 {
     let slot: FourSlot = slot_of(recording, place, j, 1);
     let mut channel = two_channels(alloc, slot.first_pilots(), slot.second_pilots())?;
     channel.push(PortChannel::Upper(*slot.upper_pilots(UpperPort::Third)))?;
     channel.push(PortChannel::Upper(*slot.upper_pilots(UpperPort::Fourth)))?;
     let values = pairs(alloc, received(&slot).slice())?;
-    Ok(Support::new(numbers, channel, values))
+    Ok(SlotShown::new(of_four_ports(&slot), channel, values))
 }
 
 // The channel of one antenna port, by its pilots.

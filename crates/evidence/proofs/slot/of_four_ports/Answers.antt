@@ -1,22 +1,16 @@
-use Rattle.std.proofs.Common.{ap, ap₂, ◌+◌, ◌∙◌}
+use Rattle.std.proofs.Common.{ap₂, ◌+◌, ◌∙◌}
 use Rattle.crs.specs.declared.upper.UpperPort.TheVariants.{Third, Fourth}
 use Rattle.crs.specs.Reference.{port_0, port_1}
 use Rattle.soft_bits.specs.Soft.{pattern_pilot}
 use Rattle.soft_bits.specs.Upper.{upper_pilot}
-use Rattle.four_ports.specs.Pairs.{ports_energy}
-use Rattle.lte_types.specs.declared.carrier.Carrier.TheVariants.{FourPorts}
-use Rattle.evidence.specs.Evidence.{steps_by}
 use Rattle.evidence.proofs.Steps.{steps_of_list}
 use Rattle.evidence.proofs.slot.of_four_ports.Goals as goal
 
-pub returns-clause-energy : goal.returns-clause-energy
-returns-clause-energy c = c.energy.ensures.value ∙ ap ports_energy c.slot_of-slot.ensures
-
 pub returns-clause-steps : goal.returns-clause-steps
 returns-clause-steps c =
-    let slot = c.slot_of-slot.result in
+    let slot = c.args.slot.now in
     let first = c.steps_of.ensures.value ∙ steps_of_list 23 _ (pattern_pilot port_0 slot) c.first_pilots.ensures.value in
     let second = c.steps_of-2.ensures.value ∙ steps_of_list 23 _ (pattern_pilot port_1 slot) c.second_pilots.ensures.value in
     let third = c.steps_of-3.ensures.value ∙ steps_of_list 11 _ (upper_pilot Third slot) c.upper_pilots.ensures.value in
     let fourth = c.steps_of-4.ensures.value ∙ steps_of_list 11 _ (upper_pilot Fourth slot) c.upper_pilots-2.ensures.value in
-    ap₂ (λ m n. m + n) (ap₂ (λ m n. m + n) (ap₂ (λ m n. m + n) first second) third) fourth ∙ ap (steps_by FourPorts) c.slot_of-slot.ensures
+    ap₂ (λ m n. m + n) (ap₂ (λ m n. m + n) (ap₂ (λ m n. m + n) first second) third) fourth

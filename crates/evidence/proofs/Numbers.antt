@@ -1,0 +1,64 @@
+-- The numbers of an entry, by how it was read and by the pilots of its slot.
+use Rattle.std.proofs.Common.{◌≡◌, ℕ, ◌*◌, ◌<◌, ◌≤◌, List, arith, refl, ap}
+use Rattle.cs_num.specs.declared.Sample.{Sample}
+use Rattle.lte_types.specs.declared.entry.Entry.{Entry}
+use Rattle.pss_search.specs.Correlation.{wave_power}
+use Rattle.pbch.specs.Master.{total}
+use Rattle.explain.specs.declared.readings.Reading.{Reading}
+use Rattle.explain.specs.Entries.{IsEntryFor, place_of, frames_of}
+use Rattle.explain.specs.Laws.{IsEntryOfSome}
+use Rattle.explain.specs.Readings.{IsReadingFor}
+use Rattle.explain.specs.Receiver.{Receiver, hits_by, sums_by}
+use Rattle.evidence.specs.Evidence.{slot_by, power_by, steps_by, noise_of, numbers_by, IsEvidenceFor, IsInRange, IsHitOfEntry}
+use Rattle.evidence.proofs.Fractions.{at_most_whole, hit_sounds, hit_within, hit_is_clear, hit_fraction}
+use Rattle.evidence.proofs.Least.{first_tells}
+
+module _ (receiver : Receiver) (recording : List Sample) (entry : Entry) (reading : Reading) (e : IsEntryOfSome (IsEntryFor receiver recording) (hits_by receiver.carrier recording) entry)
+    (r : IsReadingFor receiver recording entry reading) where
+  -- the hit that it was read by is the first that tells it
+  hit_is : IsHitOfEntry receiver.carrier recording entry reading.hit
+  hit_is = first_tells receiver.carrier recording entry reading.hit r.hit
+
+  -- so it is one of a recording
+  pub has_root : reading.hit.n2 ≤ 2
+  has_root = let third = hit_is.is_hit.root in omega (arith, third)
+
+  pub has_energy : 0 < reading.hit.energy
+  has_energy = hit_sounds receiver.carrier recording entry reading.hit hit_is
+
+  pub is_within : reading.hit.peak ≤ reading.hit.energy * wave_power reading.hit.n2
+  is_within = hit_within receiver.carrier recording entry reading.hit hit_is
+
+  -- and the numbers by it, and by the sums of the pilots of the entry's slot, are the entry's
+  pub are_numbers : (power steps : ℕ) → power ≡ power_by receiver.carrier (slot_by receiver.carrier recording (place_of entry) entry.frame) →
+      steps ≡ steps_by receiver.carrier (slot_by receiver.carrier recording (place_of entry) entry.frame) → IsEvidenceFor receiver recording entry (numbers_by entry reading power steps)
+  are_numbers power steps p s = record {
+    id = refl;
+    start = refl;
+    sfn = refl;
+    t = hit_is.first;
+    peak = hit_fraction receiver.carrier recording entry reading.hit hit_is;
+    cost = refl;
+    total = ap total r.sums;
+    frames = refl;
+    frame = refl;
+    phase = refl;
+    power = p;
+    noise = ap noise_of s;
+  }
+
+  -- in their ranges
+  pub are_in_range : (power steps : ℕ) → IsInRange (numbers_by entry reading power steps)
+  are_in_range power steps =
+      let master = e.is_of.master.told in
+      let heard = master.tells.heard in
+      let clear = master.tells.clear in
+      let all : total reading.sums ≡ total (sums_by receiver recording (place_of entry) (frames_of entry)) = ap total r.sums in
+      record {
+        from_first = hit_is.is_hit.is_hit.from_first;
+        to_last = hit_is.is_hit.is_hit.to_last;
+        quarter = hit_is_clear receiver.carrier recording entry reading.hit hit_is;
+        whole = at_most_whole reading.hit.peak (reading.hit.energy * wave_power reading.hit.n2) is_within;
+        heard = omega (arith, heard, all);
+        clear = omega (arith, clear, all, master.cost);
+      }
