@@ -8,23 +8,13 @@ use Rattle.lte_types.specs.declared.resource.Resource.{Resource}
 use Rattle.lte_types.specs.declared.sib1_reason.Sib1Reason.{Sib1Reason}
 use Rattle.lte_types.specs.Numerology.{frame_length}
 use Rattle.sample_file.specs.Recording.{AgreeBefore}
-use Rattle.explain.specs.Receiver.{Receiver, Subframes}
-use Rattle.explain.specs.Entries.{IsExplained, IsListFor}
+use Rattle.explain.specs.Receiver.{Receiver, Subframes, one_port_receiver}
+use Rattle.explain.specs.Entries.{IsListFor}
 
 -- the samples of 17 frames, 326,400: a hit stands in the first frame or shortly after it, the frames that it tells
 -- start within the first, and at most 16 of them are looked at
 abbrev pub deciding_length : ℕ
 deciding_length = 17 * frame_length
-
--- a law: two recordings of at least 326,400 samples, the first 326,400 of one the same as those of the other, have
--- one list, so that a longer recording may be cut there
-abbrev pub FirstFramesDecide : Type 0
-FirstFramesDecide =
-    (first second : List Sample) (list : List Entry) → deciding_length ≤ length first →
-    deciding_length ≤ length second →
-    AgreeBefore deciding_length first second → IsExplained first list → IsExplained second list
-
--- ---- the lists of all receivers
 
 -- the values of subframe 5 of frame j, where a receiver reads any, are the same in two recordings
 abbrev pub AreSameSubframes : Result Subframes Sib1Reason → List Sample → List Sample → Place → ℕ → Type 0
@@ -53,3 +43,7 @@ AreDecidedFor receiver =
 -- a law: so it is by each receiver that looks at the first frames alone
 abbrev pub FirstFramesDecideAll : Type 0
 FirstFramesDecideAll = (receiver : Receiver) → LooksAtFirstFrames receiver → AreDecidedFor receiver
+
+-- a law: so it is by one antenna port, and a longer recording may be cut there
+abbrev pub FirstFramesDecide : Type 0
+FirstFramesDecide = AreDecidedFor one_port_receiver

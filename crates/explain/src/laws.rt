@@ -19,7 +19,7 @@ pub fn the_list_in_plain_words()
 
 /// Two recordings of at least 326,400 samples, 17 frames, that agree in these have the same list: a longer
 /// recording may be cut there, and nothing of its list is lost. So it is by any receiver that looks at the first 16
-/// frames of a cell alone, as each of this program does. (own)
+/// frames of a cell alone (`all`). (own)
 pub fn the_first_frames_decide()
     ensures one_port { FirstFramesDecide }
     ensures all { FirstFramesDecideAll }

@@ -57,7 +57,8 @@ pub fn explain_by<F: FrameReader>(
     read_hits(reader, recording, work.hits.slice(), &mut work.notes, list);
 }
 
-/// The same list where the hits of the recording are at hand, as for lists by several receivers. (own)
+/// Afterwards the list is that of `explain_by`, made of the hits of the recording, which are at hand, as where several
+/// receivers list one recording. It takes no memory. (own)
 pub fn explain_hits<F: FrameReader>(
     reader: &F,
     recording: &Recording,

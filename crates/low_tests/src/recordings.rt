@@ -1,7 +1,9 @@
 // Recordings at the bounds of their length, samples by their bytes, and sources that end or fail.
 use cs_num::Sample;
 use cs_outside::{FailSource, MemSource};
-use sample_file::{FileError, Recording, SampleForm, read_as, read_cu8, read_recording};
+use sample_file::{
+    FileError, Recording, SampleForm, read_as, read_cu8, read_front, read_recording,
+};
 use std::alloc::{AllocError, Global};
 use std::test::Fail;
 use test_support::silent;
@@ -36,6 +38,49 @@ fn begins_with(
         Ok(recording) => recording.get(0) == sample,
         Err(_) => false,
     })
+}
+
+// Whether of this many bytes, which count up from 0 in steps of one, the first 57,600 samples are kept: their number,
+// and the last of them.
+fn keeps_the_first(alloc: Global, count: usize) -> Result<bool, AllocError> {
+    let mut input = vec![in alloc; 0u8; count]?;
+    for i in 0..input.len() {
+        input[i] = (i % 251) as u8;
+    }
+    let mut source = MemSource::new(input);
+    Ok(
+        match read_front(alloc, &mut source, SampleForm::Cu8, 57_600) {
+            Ok(front) => front.len() == 57_600 && front.get(57_599) == Sample { re: 225, im: 227 },
+            Err(_) => false,
+        },
+    )
+}
+
+// What keeping the first 57,600 samples of so many zeros is refused by.
+fn refusal_of_front(alloc: Global, count: usize) -> Result<Option<FileError>, AllocError> {
+    let mut source = MemSource::new(vec![in alloc; 0u8; count]?);
+    Ok(read_front(alloc, &mut source, SampleForm::Ci16, 57_600).err())
+}
+
+#[test]
+fn the_first_samples_are_kept_of_a_recording_of_any_length(rt: HostRuntime) -> Result<(), Fail> {
+    assert!(rt; keeps_the_first(rt.alloc(), 115_200)?);
+    assert!(rt; keeps_the_first(rt.alloc(), 115_202)?);
+    assert!(rt; keeps_the_first(rt.alloc(), 300_000)?);
+    Ok(())
+}
+
+#[test]
+fn what_stands_behind_the_kept_samples_is_refused_as_in_a_whole_recording(
+    rt: HostRuntime,
+) -> Result<(), Fail> {
+    assert!(rt; refusal_of_front(rt.alloc(), 230_400)? == None);
+    assert!(rt; refusal_of_front(rt.alloc(), 230_399)? == Some(FileError::Ragged));
+    assert!(rt; refusal_of_front(rt.alloc(), 230_396)? == Some(FileError::TooShort));
+    assert!(rt; refusal_of_front(rt.alloc(), 400_002)? == Some(FileError::Ragged));
+    assert!(rt; refusal_of_front(rt.alloc(), 7_680_000)? == None);
+    assert!(rt; refusal_of_front(rt.alloc(), 7_680_001)? == Some(FileError::TooLong));
+    Ok(())
 }
 
 #[test]

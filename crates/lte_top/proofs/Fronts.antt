@@ -41,7 +41,7 @@ use Rattle.lte_words.specs.declared.form.Output.TheVariants.{Text, Json}
 use Rattle.lte_top.specs.Line.{as_line}
 use Rattle.lte_top.specs.Reports.{identified, identified_by, measured, measured_id, kept_for, IsReport}
 use Rattle.lte_top.specs.Run.{HasOutput}
-use Rattle.lte_top.specs.Searching.{receiver_of, IsListOf}
+use Rattle.lte_top.specs.Searching.{receiver_of, FirstFramesDecideEach, IsListOf}
 use Rattle.lte_top.proofs.Carriers.{list_is}
 use Rattle.lte_top.proofs.Ending.{recording_unrefused}
 
@@ -72,6 +72,9 @@ looks FourPorts = record {
   subframes = λ first second place j agree early few. tt;
 }
 
+pub each_is_decided : FirstFramesDecideEach
+each_is_decided carrier = decided (receiver_of carrier) (looks carrier)
+
 -- the first samples agree with all
 front_agrees : (most : ℕ) (samples : List Sample) → AgreeBefore most (take most samples) samples
 front_agrees most samples = take-take most most samples (omega arith)
@@ -91,7 +94,7 @@ list_decides carrier samples list valid is = by_length (nat_le deciding_length (
         let above = is_above deciding_length (length samples) e in
         let size : length (take deciding_length samples) ≡ deciding_length = length-take-le deciding_length samples above in
         list_holds carrier samples list valid
-        (decided (receiver_of carrier) (looks carrier) (take deciding_length samples) samples list (omega (arith, size)) above (front_agrees deciding_length samples)
+        (each_is_decided carrier (take deciding_length samples) samples list (omega (arith, size)) above (front_agrees deciding_length samples)
         (list_is carrier (take deciding_length samples) list is))
     by_length false e =
         subst (λ (kept : List Sample). IsListOf carrier kept list) (take_all deciding_length samples (is_below deciding_length (length samples) e)) is

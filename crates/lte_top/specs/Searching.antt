@@ -5,6 +5,7 @@ use Rattle.lte_types.specs.declared.entry.Entry.{Entry}
 use Rattle.lte_types.specs.declared.carrier.Carrier.{Carrier}
 use Rattle.lte_types.specs.declared.carrier.Carrier.TheVariants.{OnePort, TwoPorts, LongPrefix, FourPorts}
 use Rattle.clean_air.specs.Clean.{IsListOfCells}
+use Rattle.explain.specs.Deciding.{AreDecidedFor}
 use Rattle.explain.specs.Receiver.{Receiver, one_port_receiver}
 use Rattle.two_ports.specs.Entries.{two_ports_receiver, IsExplainedOfTwo}
 use Rattle.two_ports.specs.Clean.{HoldsLoadedCellsOfTwo, HoldsCleanCellsOfTwo}
@@ -59,6 +60,10 @@ IsListOf OnePort = IsListOfCells
 IsListOf TwoPorts = IsListOfTwo
 IsListOf LongPrefix = IsListOfLong
 IsListOf FourPorts = IsListOfFour
+
+-- a law: two recordings of at least 326,400 samples that agree in these have one list of each carrier
+abbrev pub FirstFramesDecideEach : Type 0
+FirstFramesDecideEach = (carrier : Carrier) → AreDecidedFor (receiver_of carrier)
 
 -- ---- the text of a list
 

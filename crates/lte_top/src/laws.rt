@@ -2,6 +2,7 @@
 
 ghost use Rattle.lte_top.specs.Applied.{WhatIsAppliedIsTold};
 ghost use Rattle.lte_top.specs.Found.{WhatIsSentIsFound};
+ghost use Rattle.lte_top.specs.Searching.{FirstFramesDecideEach};
 ghost use Rattle.lte_top.specs.Making.{WhatIsMadeIsHeld};
 ghost use Rattle.lte_top.specs.Run.{HasOneAnswer};
 
@@ -31,6 +32,12 @@ pub fn what_is_made_is_held()
 {
     numbers_are_clean();
 }
+
+/// Two recordings of at least 326,400 samples, 17 frames, that agree in these have one list of each carrier, so that
+/// `search` keeps no more of a longer one.
+pub fn the_first_frames_decide_each_list()
+    ensures { FirstFramesDecideEach }
+{}
 
 /// What `apply` writes for a recording is, read as one, a recording, and has as many cells as `tell` writes.
 pub fn what_is_applied_is_told()

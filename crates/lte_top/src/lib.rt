@@ -15,7 +15,8 @@ mod tuning;
 mod version;
 
 pub use laws::{
-    an_input_has_one_answer, what_is_applied_is_told, what_is_made_is_held, what_is_sent_is_found,
+    an_input_has_one_answer, the_first_frames_decide_each_list, what_is_applied_is_told,
+    what_is_made_is_held, what_is_sent_is_found,
 };
 pub use lte_words::{Form, Output, Page, Program, Report, Rule, Turn, Words};
 pub use status::Status;

@@ -96,8 +96,8 @@ pub fn read_as<S: Source>(
     read_front(alloc, source, form, MOST_SAMPLES)
 }
 
-/// Reads a recording as `read_as` does, to its end, and keeps its first samples alone, as many as `most` says, at least
-/// 57,600; the others are counted. So it takes no more memory than these have. (own)
+/// Reads a recording as `read_as` does, to its end, and keeps its first samples alone, as many as `most` says, 57,600 to
+/// 1,920,000; the others are counted and take no memory. (own)
 pub fn read_front<S: Source>(
     alloc: Global,
     source: &mut S,

@@ -4,7 +4,7 @@ use Rattle.std.specs.Prelude.{◌≡◌, ℕ, ◌-◌, ◌^◌, ◌<◌, ◌≤�
 use Rattle.finite.specs.Lists.{values_below}
 use Rattle.tail_cert.specs.Certificate.{Counted, IsTable, IsTriple}
 
--- whether the set has the state s
+-- whether the set says that the state s has a table
 abbrev pub has_table : List Bool → ℕ → Bool
 has_table set s = slice_index_or set (63 - s) false
 

@@ -51,7 +51,8 @@ fn costs_of(values: &[i32; 3]) -> StepCosts
     spread(&code_costs(values))
 }
 
-/// Writes what the steps of each place cost by its values, which are at most 2^20 in size: a table for each place.
+/// Writes what the steps of each place cost by its values, which are at most 2^20 in size: a table for each place, of
+/// which there are at least as many as places.
 pub fn fill_costs(values: &[[i32; 3]], tables: &mut [StepCosts])
     requires room { length values.now ≤ length tables.old }
     requires sizes { RowsWithin (2 ^ 20) values.now }

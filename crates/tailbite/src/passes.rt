@@ -74,7 +74,8 @@ pub(crate) fn pass(values: &[[i32; 3]], tables: &[StepCosts], ends: &CostRow, ro
     }
 }
 
-/// The row of least costs to each state, one step after the given row.
+/// The row of least costs to each state, one step after the given row, whose costs are at most 2^31; those of the steps
+/// are at most 3 * 2^20.
 #[inline(never)]
 pub fn step_on(costs: &StepCosts, row: &CostRow) -> CostRow
     requires small { (y : ℕ) → y < 64 → slice_index costs.now y ≤ 3 * 2 ^ 20 }

@@ -1,0 +1,5 @@
+use Rattle.lte_top.proofs.Fronts.{each_is_decided}
+use Rattle.lte_top.proofs.laws.the_first_frames_decide_each_list.Goals as goal
+
+pub returns : goal.returns
+returns c = each_is_decided
