@@ -7,10 +7,13 @@
 #   documents.py: what the pages name is there, numbers and lists of cells are right, and no page is too long;
 #   crates_picture.py: the picture of the crates is that of crates.txt, the list of their calls that of the sources;
 #   edits.py: each wrong body changes what it means to change;
-#   comments.py: each comment says what it is about without what stands above it.
+#   comments.py: each comment says what it is about without what stands above it;
+#   install/: manual pages and completion are those of the forms of help, mandoc has no word against them, completion
+#   offers each form's words.
 # Not run here, but by hand: copies.py counts near copies; stands.py tells which commits do not stand as a whole.
-# Where lte_cli is built (crates/lte_cli/out/lte_cli, or LTE_CLI), the examples are run too. A check that wants what is
-# not there is left out, and said so: nothing is installed. The status is 1 where anything is wrong.
+# Where lte_cli is built (crates/lte_cli/out/lte_cli, or LTE_CLI), the examples are run too, and each form that is
+# completed. A check that wants what is not there is left out, and said so: nothing is installed. The status is 1 where
+# anything is wrong.
 set -u
 cd "$(dirname "$0")/.." || exit 1
 python=/usr/bin/python3                 # Debian's, which has Debian's packages
@@ -27,7 +30,7 @@ check() { # check PACKAGE COMMAND WORD..: runs a command of a package of Debian
 }
 
 says() { # says TEXT WORD..: an example writes this line
-    if ! LTE_CLI=$program "${@:2}" | grep -q "^$1\$"; then
+    if ! "${@:2}" | grep -q "^$1\$"; then
         echo "check.sh: failed: ${*:2}"
         failed=1
     fi
@@ -37,6 +40,7 @@ mapfile -t sources < <(find scripts -name '*.py' | sort)
 mapfile -t shells < <(find scripts -name '*.sh' | sort)
 check pyflakes3 pyflakes3 "${sources[@]}"
 check shellcheck shellcheck "${shells[@]}" .ci/run
+check shellcheck shellcheck -s bash scripts/install/completion/*.bash
 if [[ $(black --version 2> /dev/null) == *' 23.'* ]]; then
     check black black --quiet --check --line-length 120 scripts
 else
@@ -47,8 +51,16 @@ check python3 "$python" scripts/gate/comments.py
 check python3 "$python" scripts/gate/documents.py
 check python3 "$python" scripts/gate/crates_picture.py docs/ARCHITECTURE.md
 check python3 "$python" scripts/gate/rows.py
+if "$python" -c 'import numpy, scipy, matplotlib' 2> /dev/null; then
+    check python3 "$python" scripts/install/made.py
+else
+    echo 'left out: manual pages and completion as made now (Debian: python3-numpy, python3-scipy, python3-matplotlib)'
+fi
+check mandoc mandoc -Tlint scripts/install/man/*.1
 
 program=$(realpath -m "${LTE_CLI:-crates/lte_cli/out/lte_cli}")
+export LTE_CLI=$program LTE_TUNE=${LTE_TUNE:-${program//lte_cli/lte_tune}}
+check bash bash scripts/install/test_completion.sh
 if [ -x "$program" ]; then
     says 'cell 0 at 0 .*' bash scripts/examples/send_and_search.sh
     says '0 yes' bash scripts/examples/certify_and_check.sh

@@ -1,0 +1,105 @@
+# bash completion for lte_cli
+# Made by scripts/install/made.py --write: what it is made of is to be changed, not this file.
+_lte_cli_forms='hits --json --format cu8
+hits --json
+hits --format cu8
+hits
+ids --json --format cu8
+ids --json
+ids --format cu8
+ids
+search --ports 2 --json --format cu8
+search --ports 2 --json
+search --ports 2 --format cu8
+search --ports 2
+search --ports 4 --json --format cu8
+search --ports 4 --json
+search --ports 4 --format cu8
+search --ports 4
+search --prefix long --json --format cu8
+search --prefix long --json
+search --prefix long --format cu8
+search --prefix long
+search --cancel --json --format cu8
+search --cancel --json
+search --cancel --format cu8
+search --cancel
+search --all --json --format cu8
+search --all --json
+search --all --format cu8
+search --all
+search --json --format cu8
+search --json
+search --format cu8
+search
+evidence --ports 2 --json --format cu8
+evidence --ports 2 --json
+evidence --ports 2 --format cu8
+evidence --ports 2
+evidence --ports 4 --json --format cu8
+evidence --ports 4 --json
+evidence --ports 4 --format cu8
+evidence --ports 4
+evidence --prefix long --json --format cu8
+evidence --prefix long --json
+evidence --prefix long --format cu8
+evidence --prefix long
+evidence --json --format cu8
+evidence --json
+evidence --format cu8
+evidence
+certify --ports 2 --format cu8
+certify --ports 2
+certify --ports 4 --format cu8
+certify --ports 4
+certify --prefix long --format cu8
+certify --prefix long
+certify --format cu8
+certify
+check
+transmit --ports 2 --load N
+transmit --ports 2
+transmit --ports 4 --load N
+transmit --ports 4
+transmit --prefix long --load N
+transmit --prefix long
+transmit --load N
+transmit
+make N --ports 2
+make N --ports 4
+make N --prefix long
+make N
+help
+--help
+-h
+version
+--version'
+_lte_cli() {
+    local word next form given=() skips='' current=${COMP_WORDS[COMP_CWORD]}
+    COMPREPLY=()
+    for word in "${COMP_WORDS[@]:1:COMP_CWORD - 1}"; do     # files that are read or written are no words of a form
+        case $word in
+            [\<\>]*) skips=yes ;;
+            *) if [ "$skips" ]; then skips=''; else given+=("$word"); fi ;;
+        esac
+    done
+    if [ "$skips" ] || [[ $current == [\<\>]* ]]; then
+        compopt -o filenames 2> /dev/null
+        mapfile -t COMPREPLY < <(compgen -f -- "${current##[<>]}")
+        return
+    fi
+    while read -ra form; do
+        for word in "${!given[@]}"; do
+            case ${form[word]-} in
+                N) [[ ${given[word]} =~ ^(0|[1-9][0-9]*)$ ]] || continue 2 ;;
+                M) [[ ${given[word]} =~ ^(0|-?[1-9][0-9]*)$ ]] || continue 2 ;;
+                "${given[word]}") ;;
+                *) continue 2 ;;
+            esac
+        done
+        next=${form[${#given[@]}]-}
+        case $next in '' | [A-Z]) continue ;; esac
+        if [[ $next == "$current"* && " ${COMPREPLY[*]} " != *" $next "* ]]; then COMPREPLY+=("$next"); fi
+    done <<< "$_lte_cli_forms"
+}
+complete -o nosort -F _lte_cli lte_cli

@@ -1,0 +1,20 @@
+# bash completion for lte_picture
+# Made by scripts/install/made.py --write: what it is made of is to be changed, not this file.
+_lte_picture() {
+    local current=${COMP_WORDS[COMP_CWORD]} choices=''
+    COMPREPLY=()
+    case ${COMP_WORDS[COMP_CWORD - 1]} in
+        --form) choices='u8 s8 s16 f32 sigmf' ;;
+        --rate) compopt +o default 2> /dev/null; return ;;
+        --shift) compopt +o default 2> /dev/null; return ;;
+        --carrier) compopt +o default 2> /dev/null; return ;;
+        --at) compopt +o default 2> /dev/null; return ;;
+        -o) return ;;
+        --offset) compopt +o default 2> /dev/null; return ;;
+        --cells) compopt +o default 2> /dev/null; return ;;
+        --title) compopt +o default 2> /dev/null; return ;;
+        *) if [[ $current == -* ]]; then choices='-h --help --form --rate --shift --carrier --at -o --tune --offset --cells --title'; else return; fi ;;
+    esac
+    mapfile -t COMPREPLY < <(compgen -W "$choices" -- "$current")
+}
+complete -o nosort -o default -F _lte_picture lte_picture

@@ -1,0 +1,44 @@
+# bash completion for lte_tune
+# Made by scripts/install/made.py --write: what it is made of is to be changed, not this file.
+_lte_tune_forms='tell --json --format cu8
+tell --json
+tell --format cu8
+tell
+apply --format cu8
+apply
+apply M --format cu8
+apply M
+help
+--help
+-h
+version
+--version'
+_lte_tune() {
+    local word next form given=() skips='' current=${COMP_WORDS[COMP_CWORD]}
+    COMPREPLY=()
+    for word in "${COMP_WORDS[@]:1:COMP_CWORD - 1}"; do     # files that are read or written are no words of a form
+        case $word in
+            [\<\>]*) skips=yes ;;
+            *) if [ "$skips" ]; then skips=''; else given+=("$word"); fi ;;
+        esac
+    done
+    if [ "$skips" ] || [[ $current == [\<\>]* ]]; then
+        compopt -o filenames 2> /dev/null
+        mapfile -t COMPREPLY < <(compgen -f -- "${current##[<>]}")
+        return
+    fi
+    while read -ra form; do
+        for word in "${!given[@]}"; do
+            case ${form[word]-} in
+                N) [[ ${given[word]} =~ ^(0|[1-9][0-9]*)$ ]] || continue 2 ;;
+                M) [[ ${given[word]} =~ ^(0|-?[1-9][0-9]*)$ ]] || continue 2 ;;
+                "${given[word]}") ;;
+                *) continue 2 ;;
+            esac
+        done
+        next=${form[${#given[@]}]-}
+        case $next in '' | [A-Z]) continue ;; esac
+        if [[ $next == "$current"* && " ${COMPREPLY[*]} " != *" $next "* ]]; then COMPREPLY+=("$next"); fi
+    done <<< "$_lte_tune_forms"
+}
+complete -o nosort -F _lte_tune lte_tune

@@ -1,0 +1,100 @@
+"""The forms of words of lte_cli and lte_tune, from the text of their `help` (the source that has `_HELP: &str`): the one
+table of which manual pages and completion are made.
+"""
+import itertools
+import pathlib
+import re
+from dataclasses import dataclass, field
+
+TOP = pathlib.Path(__file__).resolve().parent.parent.parent
+# what a word in capitals stands for, as a regular expression of the words that are meant
+NUMBERS = {"N": "0|[1-9][0-9]*", "M": "0|-?[1-9][0-9]*"}
+
+
+class Unread(Exception):
+    """The line that says what of the source is not read."""
+
+
+@dataclass(frozen=True)
+class Option:
+    """Words that may be left out, as `--ports 2`, and what they change."""
+
+    words: str
+    says: str
+
+
+@dataclass
+class Form:
+    """A line of help: words, those in brackets left out or not, and what they ask for."""
+
+    words: str
+    says: str
+    options: list[Option] = field(default_factory=list)
+
+    @property
+    def command(self):
+        return self.words.split()[0].rstrip(",")
+
+    def sequences(self):
+        """Each sequence of words that the form allows, those that leave least out first."""
+        parts = [self.choices(part) for part in re.findall(r"\[[^]]*\]|[^][]+", self.words) if part.strip()]
+        return [tuple(word for part in chosen for word in part) for chosen in itertools.product(*parts)]
+
+    def choices(self, part):
+        """What may stand at a place of the line: `[A | B]` is A, B or nothing, and `A, B` one of them."""
+        if not part.startswith("["):
+            return [tuple(words.split()) for words in part.split(", ")]
+        names = [option.words for option in self.options] if part == "[RULE]" else part[1:-1].split(" | ")
+        return [*(tuple(words.split()) for words in names), ()]
+
+
+@dataclass(frozen=True)
+class Program:
+    """A program, its line of usage, and its forms in the order of help."""
+
+    name: str
+    usage: str
+    forms: list[Form]
+
+    def sequences(self):
+        return [sequence for form in self.forms for sequence in form.sequences()]
+
+
+def found(name, pattern):
+    """What a pattern finds in the sources of this name."""
+    sources = sorted(TOP.glob(f"crates/*/src/{name}"))
+    return [one for file in sources for one in re.findall(pattern, file.read_text(encoding="utf-8"), re.M | re.S)]
+
+
+def programs():
+    """The two programs."""
+    texts = found("pages.rt", r'^const \w+_HELP: &str = "\\\n(.*?)";$')
+    if len(texts) != 2:
+        raise Unread(f"crates/*/src/pages.rt: {len(texts)} texts of help, and not 2")
+    return [program_of(text) for text in texts]
+
+
+def program_of(text):
+    """The program of a text of help."""
+    usage, *lines = text.splitlines()
+    name = re.fullmatch(r"usage: (\w+) .*", usage)
+    if not name:
+        raise Unread(f"no line of usage: {usage}")
+    forms = []
+    for line in lines:
+        words, colon, says = line.partition(": ")
+        if not colon:
+            raise Unread(f"{name[1]}: a line of help without a colon: {line}")
+        if line.startswith("  "):
+            forms[-1].options.append(Option(words.strip(), says))
+        else:
+            forms.append(Form(words, says))
+    return Program(name[1], usage.removeprefix("usage: "), forms)
+
+
+def version():
+    """The version of both programs."""
+    told = found("version.rt", r'\bVERSION: &str = "([^"]+)"')
+    if len(told) != 1:
+        raise Unread(f"crates/*/src/version.rt: {len(told)} versions, and not 1")
+    return told[0]
