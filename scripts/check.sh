@@ -9,7 +9,7 @@
 #   edits.py: each wrong body changes what it means to change;
 #   comments.py: each comment says what it is about without what stands above it;
 #   install/: manual pages and completion are those of the forms of help, mandoc has no word against them, completion
-#   offers each form's words.
+#   offers each form's words, and the build begins crates in their order (with a stand-in for the kit).
 # Not run here, but by hand: copies.py counts near copies; stands.py tells which commits do not stand as a whole.
 # Where lte_cli is built (crates/lte_cli/out/lte_cli, or LTE_CLI), the examples are run too, and each form that is
 # completed. A check that wants what is not there is left out, and said so: nothing is installed. The status is 1 where
@@ -57,6 +57,7 @@ else
     echo 'left out: manual pages and completion as made now (Debian: python3-numpy, python3-scipy, python3-matplotlib)'
 fi
 check mandoc mandoc -Tlint scripts/install/man/*.1
+check python3 "$python" scripts/install/test_build.py
 
 program=$(realpath -m "${LTE_CLI:-crates/lte_cli/out/lte_cli}")
 export LTE_CLI=$program LTE_TUNE=${LTE_TUNE:-${program//lte_cli/lte_tune}}
