@@ -29,6 +29,7 @@ TOP = pathlib.Path(__file__).resolve().parent.parent.parent
 SHARE = 0.85  # of the free memory that checks may take
 FURTHER = 0.6  # of a check's memory that a further process of it takes
 MOST = 4  # processes of one check
+KILLED = (-signal.SIGKILL, 256 - signal.SIGKILL)  # how the kit ends where its check was killed, most likely for memory
 
 
 @dataclass
@@ -43,16 +44,19 @@ class Running:
     process: subprocess.Popen
 
 
-def processors():
-    return len(os.sched_getaffinity(0))
-
-
 def number_in(path, pattern):
     """A number in a file of the system, or None."""
     try:
         return int(re.search(pattern, pathlib.Path(path).read_text(encoding="utf-8"))[1])
     except (OSError, TypeError):
         return None
+
+
+def processors():
+    """How many processors may be used, under the quota of the control group too."""
+    count, quotas = len(os.sched_getaffinity(0)), "/sys/fs/cgroup/cpu.max"
+    quota, period = number_in(quotas, r"^(\d+)"), number_in(quotas, r" (\d+)")
+    return min(count, max(1, quota // period)) if quota and period else count
 
 
 def free_memory():
@@ -69,7 +73,7 @@ def kit():
     try:
         done = subprocess.run(["rt", "version"], capture_output=True, text=True, check=False)
     except OSError:
-        raise Refused("no rt: the kit of Rattle is not there, or not in PATH") from None
+        raise Refused("rt is missing: the kit of Rattle is not there, or not in PATH") from None
     if done.returncode or not done.stdout.strip():
         raise Refused("rt version fails: the kit of Rattle is not whole")
     return done.stdout.strip()
@@ -98,23 +102,31 @@ class Room:
     def __init__(self, folder, crates, copies):
         self.crates, self.built, self.logs = crates, folder / "built", folder / "logs"
         self.sums = crates.sums(kit())
-        self.copies = [folder / f"copy-{number}" for number in range(copies)]
+        self.copies, self.filled = [folder / f"copy-{number}" for number in range(copies)], set()
         for path in (self.built, self.logs):
             path.mkdir(parents=True, exist_ok=True)
 
-    def fill(self):
-        """Has the copies hold the sources as they are now; what the kit kept of a crate stays."""
-        for copy in self.copies:
-            for crate in self.crates.by_name.values():
-                folder = copy / "crates" / crate.name
-                for part in PARTS:
-                    shutil.rmtree(folder / part, ignore_errors=True)
-                    if (crate.folder / part).is_dir():
-                        shutil.copytree(crate.folder / part, folder / part)
-            lines = [crate.line for crate in self.crates.by_name.values()]
-            (copy / "crates.txt").write_text("\n".join(lines) + "\n", encoding="utf-8")
-            if (self.crates.top / "HANDLES").is_file():
-                shutil.copy2(self.crates.top / "HANDLES", copy / "HANDLES")
+    def fill(self, copy):
+        """Has a copy hold the sources as they are now; what the kit kept of a crate stays."""
+        for crate in self.crates.by_name.values():
+            folder = copy / "crates" / crate.name
+            for part in PARTS:
+                shutil.rmtree(folder / part, ignore_errors=True)
+                if (crate.folder / part).is_dir():
+                    shutil.copytree(crate.folder / part, folder / part)
+        lines = [crate.line for crate in self.crates.by_name.values()]
+        (copy / "crates.txt").write_text("\n".join(lines) + "\n", encoding="utf-8")
+        if (self.crates.top / "HANDLES").is_file():
+            shutil.copy2(self.crates.top / "HANDLES", copy / "HANDLES")
+        self.filled.add(copy)
+
+    def copy_for(self, name, taken):
+        """The copy in which to build a crate: one where the kit kept work of it, else the first that is free."""
+        free = [copy for copy in self.copies if copy not in taken]
+        copy = next((copy for copy in free if (copy / "crates" / name / "out/incremental").is_dir()), free[0])
+        if copy not in self.filled:
+            self.fill(copy)
+        return copy
 
     def is_built(self, name):
         """Whether what is there of a crate is of its text."""
@@ -163,7 +175,7 @@ class Build:
         chains = self.crates.chains()
         self.done = {name for name in self.crates if room.is_built(name)}
         self.left = sorted((name for name in self.crates if name not in self.done), key=lambda name: -chains[name])
-        self.running, self.since = [], time.monotonic()
+        self.running, self.killed, self.since = [], set(), time.monotonic()
 
     def run(self):
         """Builds all that is left, or says which crate was not built."""
@@ -185,12 +197,12 @@ class Build:
         for place, name in enumerate(ready):
             idle = len(self.room.copies) - sum(one.jobs for one in self.running)
             room = self.memory - sum(one.memory for one in self.running)
-            needs = self.crates.memory(name)
+            needs = float("inf") if name in self.killed else self.crates.memory(name)
             if idle <= 0 or self.running and needs > room:
                 return
             spare = 1 + int(max(0, room / needs - 1) / FURTHER)
             jobs = max(1, min(MOST, idle // (len(ready) - place), spare))
-            copy = next(copy for copy in self.room.copies if all(one.copy != copy for one in self.running))
+            copy = self.room.copy_for(name, [one.copy for one in self.running])
             process = self.room.start(name, copy, jobs)
             self.left.remove(name)
             memory = needs * (1 + FURTHER * (jobs - 1))
@@ -206,6 +218,11 @@ class Build:
     def end(self, one):
         """Takes what a command made; where it made nothing, the build ends."""
         self.running.remove(one)
+        if one.process.returncode in KILLED and one.name not in self.killed:
+            self.say(f"{one.name} was killed, most likely for memory: once more, with nothing beside it")
+            self.killed.add(one.name)
+            self.left.insert(0, one.name)
+            return
         if one.process.returncode or not self.room.keep(one.name, one.copy):
             raise Refused(f"{one.name} is not built: {self.room.logs / one.name}.log says why")
         self.done.add(one.name)
@@ -254,7 +271,6 @@ def build(top, folder, names, jobs, say):
     with alone(folder):
         room = Room(folder, crates, min(jobs, len(crates)))
         if not all(map(room.is_built, crates)):
-            room.fill()
             Build(room, SHARE * free_memory(), say).run()
         room.clear()
     return {name: room.built / name / name for name in names if crates.by_name[name].is_program}

@@ -3,8 +3,8 @@
 
 Builds lte_cli and lte_tune, which proves them, and puts into PREFIX (~/.local where it is left out) both programs,
 lte_survey and lte_picture, which are scripts/tools/survey.py and picture.py over them, manual pages, completion for
-bash and zsh, and the pages. A build that was stopped goes on from there; one of changed text builds what changed.
---uninstall removes all of it.
+bash and zsh, and the pages (zsh finds its own where fpath has PREFIX/share/zsh/site-functions). A build that was
+stopped goes on from there; one of changed text builds what changed. --uninstall removes all of it.
 
 Needs the kit of Rattle (README, "Build"), and lte_survey and lte_picture python3-numpy, python3-scipy and
 python3-matplotlib (Debian).
@@ -78,7 +78,7 @@ def kit_of_readme():
 def look(room):
     """Says what is missing, each in a line, and stops where nothing can be built without it."""
     for package in missing_packages():
-        say(f"missing: python3-{package} (Debian): lte_survey and lte_picture do not run without it")
+        say(f"python3-{package} is missing (Debian): lte_survey or lte_picture does not run without it")
     faults = []
     try:
         if build.kit() != kit_of_readme():
@@ -88,11 +88,11 @@ def look(room):
     above = next(folder for folder in (room, *room.parents) if folder.exists())
     free, left = shutil.disk_usage(above).free, share_left(room)
     if free < DISK * left:
-        faults.append(f"{DISK * left / 1e9:.1f} GB of disk are needed in {above}, and {free / 1e9:.1f} are free")
+        faults.append(f"disk is missing: {DISK * left / 1e9:.1f} GB are needed in {above}, {free / 1e9:.1f} are free")
     for fault in faults[:-1]:
-        say(f"missing: {fault}")
+        say(fault)
     if faults:
-        raise Refused(f"missing: {faults[-1]}")
+        raise Refused(faults[-1])
 
 
 def share_left(room):

@@ -6,6 +6,7 @@ whose libraries are not there; and what install.py puts and removes, with stand-
 or installed. Takes a few seconds. The status is 0 where all is as it has to be.
 """
 import contextlib
+import io
 import os
 import pathlib
 import signal
@@ -60,6 +61,7 @@ if [ -e "$TOLD/meets-$name" ]; then
 fi
 if [ -e "$TOLD/hangs-$name" ]; then exec sleep 60; fi
 if [ -e "$TOLD/fails-$name" ]; then echo 'a goal is open'; exit 1; fi
+if [ -e "$TOLD/killed-$name" ]; then rm "$TOLD/killed-$name"; exit 247; fi
 if [ -e "$TOLD/empty-$name" ]; then exit 0; fi
 case $1 in
     lib) mkdir -p "out/rlib/$name.rlib"; printf 'library of %s' "$name" > out/rlib/stamp ;;
@@ -171,6 +173,16 @@ class Resume(Made):
         with self.assertRaises(ProcessLookupError):
             os.kill(int((self.told / "number-user").read_text()), 0)
 
+    def test_killed_is_built_once_more_and_alone(self):
+        self.tell("meets", "long_a", "user")
+        self.tell("killed", "long_a")
+        events, said = self.build(processors=2)
+        begins = [place for place, event in enumerate(events) if event.startswith("begin long_a ")]
+        self.assertEqual(len(begins), 2)
+        self.assertEqual(events[begins[1] + 1], "end long_a")
+        self.assertIn("end user", events[: begins[1]])
+        self.assertIn("long_a was killed, most likely for memory: once more, with nothing beside it", said)
+
     def test_command_that_makes_nothing_is_a_failure(self):
         self.tell("empty", "short")
         self.assertIn("short is not built", self.refused())
@@ -216,7 +228,7 @@ class Resume(Made):
 class Refusals(Made):
     def test_no_kit(self):
         with mock.patch.dict(os.environ, {"PATH": "/nowhere"}):
-            self.assertIn("no rt", self.refused())
+            self.assertIn("rt is missing", self.refused())
 
     def test_no_such_crate(self):
         self.assertEqual(self.refused(names=("nothing",)), "crates.txt has no crate nothing")
@@ -224,6 +236,21 @@ class Refusals(Made):
     def test_no_folder(self):
         (self.top / "crates.txt").write_text(LIST + "nowhere: low\n")
         self.assertIn("no folder crates/nowhere", self.refused())
+
+
+class Looks(unittest.TestCase):
+    def test_what_is_missing_is_told_line_by_line(self):
+        disk = mock.Mock(free=1e9)
+        with (
+            mock.patch.object(install, "missing_packages", lambda: ["numpy", "matplotlib"]),
+            mock.patch.object(install.shutil, "disk_usage", lambda _: disk),
+            mock.patch.dict(os.environ, {"PATH": "/nowhere"}),
+            contextlib.redirect_stderr(io.StringIO()) as said,
+            self.assertRaisesRegex(Refused, r"^disk is missing: 5.0 GB are needed in /, 1.0 are free$"),
+        ):
+            install.look(pathlib.Path("/nowhere/room"))
+        lines = [line.split(" is missing")[0] for line in said.getvalue().splitlines()]
+        self.assertEqual(lines, [f"install.sh: {name}" for name in ("python3-numpy", "python3-matplotlib", "rt")])
 
 
 class Put(unittest.TestCase):
