@@ -4,7 +4,8 @@
 # Asks the completion of bash, and of zsh where it is there, for the next word behind each front of each form of lte_cli
 # and lte_tune, and behind fronts of words. The forms stand here once more, as docs/FORMATS.md has them. Where a program
 # is named by LTE_CLI or LTE_TUNE, it has to take each form (its status is not that of refused words, 2), so that the
-# forms here are the program's. Prints a line for each answer that differs, and a count; the status is 1 where one does.
+# forms here are the program's. Of the scripts it asks for an option, and for what stands behind one. Prints a line for
+# each answer that differs, and a count; the status is 1 where one does.
 set -u
 shopt -s lastpipe
 here=$(cd "$(dirname "$0")" && pwd)/completion
@@ -64,16 +65,18 @@ by_zsh() { # by_zsh PROGRAM WORD..: the same of zsh
              ask() { source $file }; ask' zsh "$here/_$1" "$@"
 }
 
-ask() { # ask SHELL PROGRAM FORMS FRONT BEGIN: compares an answer with what is wanted
-    local found right words
-    read -ra words <<< "$4"
-    found=$("by_$1" "$2" "${words[@]}" "$5")
-    right=$(wanted "$4" "$5" <<< "$3")
+compare() { # compare WHAT FOUND WANTED
     asked=$((asked + 1))
-    if [ "$found" != "$right" ]; then
-        echo "$1: $2 $4 $5: offered: $found; wanted: $right"
+    if [ "$2" != "$3" ]; then
+        echo "$1: offered: $2; wanted: $3"
         faults=$((faults + 1))
     fi
+}
+
+ask() { # ask SHELL PROGRAM FORMS FRONT BEGIN: compares an answer with what is wanted
+    local words
+    read -ra words <<< "$4"
+    compare "$1: $2 $4 $5" "$("by_$1" "$2" "${words[@]}" "$5")" "$(wanted "$4" "$5" <<< "$3")"
 }
 
 ask_all() { # ask_all PROGRAM FORMS: behind each front, and of the words that begin with one or two characters
@@ -110,6 +113,13 @@ for name in lte_cli lte_tune lte_survey lte_picture; do
 done
 ask_all lte_cli "$(receiver)"
 ask_all lte_tune "$(tuner)"
+compare 'bash: lte_survey --cs' "$(by_bash lte_survey a.cu8 --cs)" '--csv'
+compare 'bash: lte_survey --form s' "$(by_bash lte_survey --form s)" 's8 s16 sigmf'
+compare 'bash: lte_survey --rate' "$(by_bash lte_survey --rate '')" ''
+compare 'bash: lte_picture --tu' "$(by_bash lte_picture --tu)" '--tune'
+if [ "${shells[1]-}" ]; then
+    for name in lte_survey lte_picture; do compare "zsh: _$name" "$(zsh -n "$here/_$name" 2>&1)" ''; done
+fi
 if [ -x "${LTE_CLI-}" ]; then takes "$LTE_CLI" "$(receiver)"; fi
 if [ -x "${LTE_TUNE-}" ]; then takes "$LTE_TUNE" "$(tuner)"; fi
 echo "completion: $asked answers, $faults faults"
