@@ -10,6 +10,8 @@ set -u
 shopt -s lastpipe
 here=$(cd "$(dirname "$0")" && pwd)/completion
 faults=0 asked=0
+room=$(mktemp -d)
+trap 'rm -rf "$room"' EXIT
 
 ports() { # ports FRONT BACK..: the forms with each carrier or none, and each back
     local front=$1 middle back
@@ -42,30 +44,53 @@ fronts() { # fronts < FORMS: each front of each form, without its last word and 
     done | awk '!seen[$0]++'
 }
 
-wanted() { # wanted FRONT BEGIN < FORMS: the words that may come next and begin so, in the forms' order, but no number
-    awk -v front="$1" -v begin="$2" '
-        front == "" || index($0, front " ") == 1 {
-            rest = front == "" ? $0 : substr($0, length(front) + 2)
-            split(rest, words, " ")
-            if (words[1] !~ /^-?[0-9]+$/ || front ~ /(ports)$/) if (index(words[1], begin) == 1 && !seen[words[1]]++) print words[1]
-        }' | paste -sd ' '
+questions() { # questions < FORMS: lines FRONT|BEGIN: behind each front, also of words that begin somehow; and odd fronts
+    fronts | while IFS= read -r front; do printf '%s\n' "$front|" "$front|-" "$front|--p" "$front|s"; done
+    printf '%s|\n' 'hits --format cu8' 'search --json --ports' 'search --ports 3' 'make 07' 'apply 7.5' unknown
 }
 
-# shellcheck disable=SC2317
-by_bash() { # by_bash PROGRAM WORD..: what bash offers for the last word
+wanted() { # wanted FORMS < QUESTIONS: the words that may come next, in the forms' order, but no number of a recording
+    awk -F '|' '
+        FILENAME == "-" { forms[++count] = $0; next }
+        {
+            answer = ""; split("", seen)
+            for (i = 1; i <= count; i++) {
+                if ($1 != "" && index(forms[i], $1 " ") != 1) continue
+                split($1 == "" ? forms[i] : substr(forms[i], length($1) + 2), words, " ")
+                if (words[1] ~ /^-?[0-9]+$/ && $1 !~ /--ports$/) continue
+                if (index(words[1], $2) == 1 && !seen[words[1]]++) answer = answer (answer == "" ? "" : " ") words[1]
+            }
+            print answer
+        }' - "$room/questions" <<< "$1"
+}
+
+offered() { # offered PROGRAM WORD..: what bash offers for the last word
     COMP_WORDS=("$@") COMP_CWORD=$(($# - 1)) COMPREPLY=()
     "_$1"
     echo "${COMPREPLY[*]}"
 }
 
-# shellcheck disable=SC2016,SC2317
-by_zsh() { # by_zsh PROGRAM WORD..: the same of zsh
-    zsh -fc 'compadd() { shift 3; print -r -- "${(@M)@:#${words[CURRENT]}*}" }
-             file=$1; shift; words=("$@") CURRENT=$#
-             ask() { source $file }; ask' zsh "$here/_$1" "$@"
+# shellcheck disable=SC2317
+by_bash() { # by_bash PROGRAM < QUESTIONS
+    local front begin words
+    while IFS='|' read -r front begin; do
+        read -ra words <<< "$front"
+        offered "$1" "${words[@]}" "$begin"
+    done
 }
 
-compare() { # compare WHAT FOUND WANTED
+# shellcheck disable=SC2016,SC2317
+by_zsh() { # by_zsh PROGRAM < QUESTIONS
+    zsh -fc 'compadd() { shift 3; print -r -- "${(@M)@:#${words[CURRENT]}*}" }
+             ask() { source $file }
+             file=$1
+             while IFS="|" read -r front begin; do
+                 words=($2 ${=front} "$begin") CURRENT=${#words}
+                 ask
+             done' zsh "$here/_$1" "$1"
+}
+
+compare() { # compare WHAT OFFERED WANTED
     asked=$((asked + 1))
     if [ "$2" != "$3" ]; then
         echo "$1: offered: $2; wanted: $3"
@@ -73,23 +98,15 @@ compare() { # compare WHAT FOUND WANTED
     fi
 }
 
-ask() { # ask SHELL PROGRAM FORMS FRONT BEGIN: compares an answer with what is wanted
-    local words
-    read -ra words <<< "$4"
-    compare "$1: $2 $4 $5" "$("by_$1" "$2" "${words[@]}" "$5")" "$(wanted "$4" "$5" <<< "$3")"
-}
-
-ask_all() { # ask_all PROGRAM FORMS: behind each front, and of the words that begin with one or two characters
-    local front begin shell
-    fronts <<< "$2" | while IFS= read -r front; do
-        for begin in '' - --p s; do
-            for shell in "${shells[@]}"; do ask "$shell" "$1" "$2" "$front" "$begin"; done
-        done
-    done
+ask_all() { # ask_all PROGRAM FORMS: compares each answer of each shell with what is wanted
+    local shell front found right
+    questions <<< "$2" > "$room/questions"
+    wanted "$2" > "$room/wanted"
     for shell in "${shells[@]}"; do
-        for front in 'hits --format cu8' 'search --json --ports' 'search --ports 3' 'make 07' 'apply 7.5' 'unknown'; do
-            ask "$shell" "$1" "$2" "$front" ''
-        done
+        "by_$shell" "$1" < "$room/questions" > "$room/found"
+        compare "$shell: $1: answers" "$(wc -l < "$room/found")" "$(wc -l < "$room/wanted")"
+        paste -d '\t' "$room/questions" "$room/found" "$room/wanted" | tr '\t' '\001' |
+            while IFS=$'\001' read -r front found right; do compare "$shell: $1 $front" "$found" "$right"; done
     done
 }
 
@@ -113,10 +130,10 @@ for name in lte_cli lte_tune lte_survey lte_picture; do
 done
 ask_all lte_cli "$(receiver)"
 ask_all lte_tune "$(tuner)"
-compare 'bash: lte_survey --cs' "$(by_bash lte_survey a.cu8 --cs)" '--csv'
-compare 'bash: lte_survey --form s' "$(by_bash lte_survey --form s)" 's8 s16 sigmf'
-compare 'bash: lte_survey --rate' "$(by_bash lte_survey --rate '')" ''
-compare 'bash: lte_picture --tu' "$(by_bash lte_picture --tu)" '--tune'
+compare 'bash: lte_survey --cs' "$(offered lte_survey a.cu8 --cs)" '--csv'
+compare 'bash: lte_survey --form s' "$(offered lte_survey --form s)" 's8 s16 sigmf'
+compare 'bash: lte_survey --rate' "$(offered lte_survey --rate '')" ''
+compare 'bash: lte_picture --tu' "$(offered lte_picture --tu)" '--tune'
 if [ "${shells[1]-}" ]; then
     for name in lte_survey lte_picture; do compare "zsh: _$name" "$(zsh -n "$here/_$name" 2>&1)" ''; done
 fi
