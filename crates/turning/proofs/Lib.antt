@@ -6,6 +6,7 @@ pub mod Greatest
 pub mod Takes
 pub mod BestFit
 pub mod ToldSoFar
+pub mod Fronts
 pub mod OneTold
 pub mod Ranges
 pub mod AtZero

@@ -1,16 +1,14 @@
 -- What is told of the first of the taken candidates.
 use Rattle.std.proofs.Common.{◌≡◌, ℕ, ◌+◌, ◌<◌, inl, inr, List, [], ◌∷◌, length, Option, Some, None, arith, refl, sym, subst, ◌∙◌}
-use Rattle.std.specs.Prelude.{HoldsAt, IfSome, option_map}
+use Rattle.std.specs.Prelude.{HoldsAt}
 use Rattle.std.specs.List.{AllWithin}
 use Rattle.std.specs.Option.{option_or}
 use Rattle.std.proofs.lemmas.List.Elements.{AllWithin-more, AllWithin-none}
 use Rattle.cs_num.specs.declared.Sample.{Sample}
 use Rattle.turning.specs.declared.candidate.Candidate.{Candidate}
 use Rattle.turning.specs.declared.telling.Told.{Told}
-use Rattle.turning.specs.declared.telling.ToldTurned.{ToldTurned}
 use Rattle.turning.specs.Turned.{turned}
 use Rattle.turning.specs.Telling.{HasCells, Tells, IsSilent, IsToldBy}
-use Rattle.turning.specs.Steps.{IsToldTurned}
 
 -- what the first of candidates tells, where there is one
 abbrev pub IsFirstOf : List Sample → List Candidate → ℕ → Option Told → Type 0
@@ -54,17 +52,3 @@ none_heard recording taken n (Some told) s e = inr (record {
   silent = λ k d l. s.silent k d (omega arith) (omega (arith, e, l));
   tells = s.first_is.1;
 })
-
--- ---- with the recordings that are turned
-
-pub record TurnedSoFar (recording : List Sample) (taken : List Candidate) (n : ℕ) (first : Option ToldTurned) : Type 0 where
-  pub told : ToldSoFar recording taken n (option_map (λ t. t.told) first)
-  pub turned : IfSome first (IsToldTurned recording)
-
-pub none_turned : (recording : List Sample) (taken : List Candidate) → TurnedSoFar recording taken 0 None
-none_turned recording taken = record { told = none_told recording taken; turned = tt }
-
-pub one_turned : (recording : List Sample) (taken : List Candidate) (n : ℕ) (first : Option ToldTurned) (turned : ToldTurned) → TurnedSoFar recording taken n first →
-    HoldsAt (λ candidate. Tells recording candidate turned.told) taken n → turned.told.cells ≡ 0 → IsToldTurned recording turned → TurnedSoFar recording taken (n + 1) (option_or first (Some turned))
-one_turned recording taken n None turned s h e is = record { told = one_silent recording taken n None turned.told s.told h e; turned = is }
-one_turned recording taken n (Some before) turned s h e is = record { told = one_silent recording taken n (Some before.told) turned.told s.told h e; turned = s.turned }

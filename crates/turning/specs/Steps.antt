@@ -1,4 +1,4 @@
--- The code's steps: a recording with its mean, how great numbers are, and what is told with the recording turned by it.
+-- The code's steps: a recording with its mean, and how great numbers are.
 use Rattle.std.specs.Prelude.{◌≡◌, ◌≤◌, List, nat_abs}
 use Rattle.cs_num.specs.declared.Cpx.{Cpx}
 use Rattle.cs_num.specs.declared.Sample.{Sample}
@@ -7,8 +7,7 @@ use Rattle.lte_types.specs.declared.hit.Hit.{Hit}
 use Rattle.sample_file.specs.Recording.{IsRecording}
 use Rattle.pss_search.specs.Hits.{IsInSpan}
 use Rattle.turning.specs.declared.candidate.Candidate.{Candidate}
-use Rattle.turning.specs.declared.telling.ToldTurned.{ToldTurned}
-use Rattle.turning.specs.Turned.{mean, turned as turned_by}
+use Rattle.turning.specs.Turned.{mean}
 use Rattle.turning.specs.Fractions.{fraction_of, IsSmall}
 
 -- the mean of a recording
@@ -26,8 +25,3 @@ pub record IsSmallHit (hit : Hit) : Type 0 where
 pub record IsSmallCandidate (candidate : Candidate) : Type 0 where
   pub turn : nat_abs candidate.turn ≤ 576
   pub fraction : IsSmall candidate.fraction
-
--- what is told stands with the recording that is turned by it
-pub record IsToldTurned (recording : List Sample) (turned : ToldTurned) : Type 0 where
-  pub samples : turned.samples ≡ turned_by recording turned.told.turn
-  pub valid : IsRecording turned.samples

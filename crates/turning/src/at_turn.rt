@@ -4,18 +4,22 @@ ghost use Rattle.std.specs.Prelude.{◌≡◌, ◌*◌, ◌<◌, ◌≤◌, IfOk
 ghost use Rattle.cs_num.specs.Complex.{IsWithin, value_of, silence};
 ghost use Rattle.lte_types.specs.Numerology.{least_samples, most_samples};
 ghost use Rattle.sample_file.specs.Recording.{IsRecording};
+ghost use Rattle.explain.specs.Deciding.{deciding_length};
 ghost use Rattle.turning.specs.Turned.{angle as angle_of, turned_back as turned_back_by, turned as turned_by};
 ghost use Rattle.turning.specs.Steps.{IsCentred};
 
 use crate::table::w_at;
 use cs_num::{Cpx, Sample};
-use lte_types::LEAST_SAMPLES;
+use lte_types::{FRAME_LENGTH, LEAST_SAMPLES};
 use sample_file::Recording;
 use std::alloc::{AllocError, Global};
 use std::marker::Model;
 
 // How many samples are looked at for the hits of a recording.
 const LOOKED_AT: usize = 19_473;
+
+// The samples of 17 frames, at which lists look.
+const DECIDING: usize = 17 * FRAME_LENGTH;
 
 // A recording turned, whose samples are made where they are asked for. Contracts see it as their list.
 #[derive(Drop)]
@@ -75,6 +79,14 @@ impl<'a> Turned<'a> {
     {
         let end = self.len();
         self.with_first(alloc, end, end)
+    }
+
+    // As much as decides the list: the first 17 frames, or all where there are fewer.
+    pub(crate) fn front(&self, alloc: Global) -> Result<Recording, AllocError>
+        ensures { IfOk result (λ front. front ≡ take deciding_length self.now) }
+    {
+        let count = self.len().min(DECIDING);
+        self.with_first(alloc, count, count)
     }
 
     // A recording as short as one can be with the same hits: the samples that are looked at for them, and others behind.

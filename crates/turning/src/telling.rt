@@ -1,12 +1,11 @@
 //! The turn that is told, and recordings turned.
 
-ghost use Rattle.std.specs.Prelude.{◌≡◌, IfOk, IfSome, option_map};
+ghost use Rattle.std.specs.Prelude.{◌≡◌, IfOk, IfSome};
 ghost use Rattle.sample_file.specs.Recording.{IsRecording};
 ghost use Rattle.turning.specs.Turned.{turned as turned_by};
 ghost use Rattle.turning.specs.Candidates.{taken_of as all_taken};
-ghost use Rattle.turning.specs.Telling.{Tells, IsToldBy, IsTold, IsApplied};
+ghost use Rattle.turning.specs.Telling.{Tells, IsToldBy, IsTold, IsApplied, turn_of as turn_that_is};
 ghost use Rattle.turning.specs.Laws.{IsTurnInRange};
-ghost use Rattle.turning.specs.Steps.{IsToldTurned};
 
 use crate::candidate::{Candidate, candidates_of};
 use crate::centred::Centred;
@@ -24,13 +23,6 @@ pub struct Told {
     pub hits: usize,
     /// The count of entries in the list of the recording turned by `turn`.
     pub cells: usize,
-}
-
-// What is told of a recording's offset, and the recording turned by it.
-#[derive(Drop)]
-struct ToldTurned {
-    told: Told,
-    samples: Recording,
 }
 
 /// The recording turned by `m`: its samples without their mean, each turned back by `m` times 117.1875 Hz, rounded
@@ -60,20 +52,18 @@ pub fn applied(alloc: Global, recording: &Recording) -> Result<Recording, AllocE
     ensures value { IfOk result (IsApplied recording.now) }
     ensures valid { IfOk result IsRecording }
 {
-    let centred = Centred::new(recording);
-    match tell_turned(alloc, &centred)? {
-        Some(turned) => Ok(turned.samples),
-        None => centred.turned(0).whole(alloc),
-    }
+    let told = tell(alloc, recording)?;
+    turned(alloc, recording, turn_of(&told))
 }
 
-// What is told of a recording's offset, with the recording turned by it.
-fn tell_turned(alloc: Global, centred: &Centred) -> Result<Option<ToldTurned>, AllocError>
-    ensures told { IfOk result (λ turned. IsTold centred.now (option_map (λ t. t.told) turned)) }
-    ensures samples { IfOk result (λ turned. IfSome turned (IsToldTurned centred.now)) }
+// The turn that is told, and 0 where none is.
+fn turn_of(told: &Option<Told>) -> i16
+    ensures { result ≡ turn_that_is told.now }
 {
-    let taken = taken_of(alloc, centred)?;
-    told_by(alloc, centred, &taken)
+    match told {
+        Some(told) => told.turn,
+        None => 0,
+    }
 }
 
 // The candidates of a recording that are taken, in their order.
@@ -92,51 +82,34 @@ pub(crate) fn told_among(
 ) -> Result<Option<Told>, AllocError>
     ensures { IfOk result (IsToldBy centred.now taken.now) }
 {
-    match told_by(alloc, centred, taken)? {
-        Some(turned) => Ok(Some(turned.told)),
-        None => Ok(None),
-    }
-}
-
-// What candidates tell, with the recording turned by it.
-fn told_by(
-    alloc: Global,
-    centred: &Centred,
-    taken: &[Candidate],
-) -> Result<Option<ToldTurned>, AllocError>
-    ensures told { IfOk result (λ turned. IsToldBy centred.now taken.now (option_map (λ t. t.told) turned)) }
-    ensures samples { IfOk result (λ turned. IfSome turned (IsToldTurned centred.now)) }
-{
     let mut work = Workspace::new(alloc)?;
     let mut list = EntryList::new(alloc)?;
     let mut first = None;
     for candidate in taken {
-        let turned = told_of(alloc, centred, candidate, &mut work, &mut list)?;
-        if turned.told.cells > 0 {
-            return Ok(Some(turned));
+        let told = told_of(alloc, centred, candidate, &mut work, &mut list)?;
+        if told.cells > 0 {
+            return Ok(Some(told));
         }
-        first = first.or(Some(turned));
+        first = first.or(Some(told));
     }
     Ok(first)
 }
 
-// What a candidate tells, with the recording turned by its turn.
+// What a candidate tells.
 fn told_of(
     alloc: Global,
     centred: &Centred,
     candidate: &Candidate,
     work: &mut Workspace,
     list: &mut EntryList,
-) -> Result<ToldTurned, AllocError>
-    ensures told { IfOk result (λ turned. Tells centred.now candidate.now turned.told) }
-    ensures samples { IfOk result (IsToldTurned centred.now) }
+) -> Result<Told, AllocError>
+    ensures { IfOk result (Tells centred.now candidate.now) }
 {
-    let samples = centred.turned(candidate.turn).whole(alloc)?;
-    explain(&samples, work, list);
-    let told = Told {
+    let front = centred.turned(candidate.turn).front(alloc)?;
+    explain(&front, work, list);
+    Ok(Told {
         turn: candidate.turn,
         hits: candidate.hits,
         cells: list.slice().len(),
-    };
-    Ok(ToldTurned { told, samples })
+    })
 }
