@@ -43,8 +43,7 @@ pub fn tell(alloc: Global, recording: &Recording) -> Result<Option<Told>, AllocE
     ensures range { IfOk result (λ told. IfSome told IsTurnInRange) }
 {
     let centred = Centred::new(recording);
-    let taken = taken_of(alloc, &centred)?;
-    told_among(alloc, &centred, &taken)
+    told_with(alloc, &centred)
 }
 
 /// The recording turned by the turn that is told of it, and by 0 where none is. Only memory can be wanting. (own)
@@ -52,8 +51,17 @@ pub fn applied(alloc: Global, recording: &Recording) -> Result<Recording, AllocE
     ensures value { IfOk result (IsApplied recording.now) }
     ensures valid { IfOk result IsRecording }
 {
-    let told = tell(alloc, recording)?;
-    turned(alloc, recording, turn_of(&told))
+    let centred = Centred::new(recording);
+    let told = told_with(alloc, &centred)?;
+    centred.turned(turn_of(&told)).whole(alloc)
+}
+
+// What is told of a recording whose mean is at hand.
+fn told_with(alloc: Global, centred: &Centred) -> Result<Option<Told>, AllocError>
+    ensures { IfOk result (IsTold centred.now) }
+{
+    let taken = taken_of(alloc, centred)?;
+    told_among(alloc, centred, &taken)
 }
 
 // The turn that is told, and 0 where none is.

@@ -1,22 +1,18 @@
-use Rattle.std.proofs.Common.{◌∙◌, ap, subst, List, Option, Some, None}
+use Rattle.std.proofs.Common.{subst, List, Option, Some, None}
 use Rattle.std.specs.Prelude.{IfOk, IfSome}
 use Rattle.std.proofs.lemmas.Result.{IfOk-weaker}
 use Rattle.cs_num.specs.declared.Sample.{Sample}
-use Rattle.turning.specs.declared.candidate.Candidate.{Candidate}
 use Rattle.turning.specs.declared.telling.Told.{Told}
-use Rattle.turning.specs.Candidates.{taken_of}
-use Rattle.turning.specs.Telling.{IsToldBy, IsTold}
+use Rattle.turning.specs.Telling.{IsTold}
 use Rattle.turning.specs.Laws.{IsTurnInRange}
 use Rattle.turning.proofs.Ranges.{turn_is_in_range}
 use Rattle.turning.proofs.telling.tell.Goals as goal
 
 pub returns-clause-told : goal.returns-clause-told
-returns-clause-told c =
-    subst (λ (xs : List Candidate). IfOk c.told_among.result (IsToldBy c.args.recording.now xs)) (c.deref.ensures.value ∙ c.in_ok-taken.ensures ∙ ap taken_of c.new-centred.ensures)
-    (subst (λ (r : List Sample). IfOk c.told_among.result (IsToldBy r c.deref.result.now)) c.new-centred.ensures c.told_among.ensures)
+returns-clause-told c = subst (λ (r : List Sample). IfOk c.told_with.result (IsTold r)) c.new-centred.ensures c.told_with.ensures
 
 pub returns-clause-range : goal.returns-clause-range
-returns-clause-range c = IfOk-weaker c.told_among.result (IsTold c.args.recording.now) _ in_range (returns-clause-told c)
+returns-clause-range c = IfOk-weaker c.told_with.result (IsTold c.args.recording.now) _ in_range (returns-clause-told c)
   where
     in_range : (told : Option Told) → IsTold c.args.recording.now told → IfSome told IsTurnInRange
     in_range None is = tt
