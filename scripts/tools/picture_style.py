@@ -1,0 +1,74 @@
+"""What the pictures share: colours and marks, texts that fit, and what a file is, in words.
+
+Debian: python3-numpy, python3-matplotlib.
+"""
+import textwrap
+
+import numpy as np
+
+WIDTH = 12  # inches, at 100 dots
+COLOURS = ("#1f6fb4", "#d9731a", "#2f8f4e", "#8a4fb0", "#b8383d", "#5c6670")
+MARKS = ("o", "s", "^", "D", "v", "P")
+LINES = ("-", "--", "-.", ":")
+STYLE = {
+    "font.size": 8.5,
+    "axes.titlesize": 9.5,
+    "axes.titlelocation": "left",
+    "axes.spines.top": False,
+    "axes.grid": True,
+    "grid.color": "#dddddd",
+    "grid.linewidth": 0.6,
+    "axes.axisbelow": True,
+    "svg.hashsalt": "lte_cli",
+    "svg.fonttype": "path",
+    "text.parse_math": False,  # a file's name may have $ in it
+}
+
+
+def fitted(text, width, rows=2):
+    """The text in so many rows of so many characters at most; what is longer is cut in its middle."""
+    text = text.encode(errors="replace").decode()
+    keep = len(text)
+    while len(lines := textwrap.wrap(cut(text, keep), width)) > rows:
+        keep -= 3
+    return "\n".join(lines)
+
+
+def cut(text, count):
+    """So many characters of a text: its front and its end."""
+    if len(text) <= count:
+        return text
+    front = count // 2
+    return f"{text[:front]}\N{HORIZONTAL ELLIPSIS}{text[len(text) - (count - front) + 1:]}"
+
+
+def headed(figure, name, facts):
+    """The picture's name, and below it what it is of."""
+    text = f"{fitted(name, 95)}\n{fitted(facts, 150)}"
+    figure.suptitle(text, fontsize=9.5, linespacing=1.4)
+
+
+def rate_text(rate):
+    return f"{rate / 1e6:.10g} Ms/s"
+
+
+def carrier_text(hertz):
+    return f"{hertz / 1e6:.10g} MHz"
+
+
+def facts_of(form, rate, carrier, shift):
+    """The form, rate and carrier of a file, as far as they are known."""
+    facts = [f"{form} at {rate_text(rate)}"]
+    if carrier:
+        facts.append(f"carrier {carrier_text(carrier)}")
+    if shift:
+        facts.append(f"{shift:+,.0f} Hz beside the file's centre")
+    return facts
+
+
+def dbfs(power):
+    return "none" if power <= 0 else f"{10 * np.log10(power):.1f} dBFS"
+
+
+def number_text(number):
+    return "-" if number is None else f"{number:.1f}"
