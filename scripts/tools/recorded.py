@@ -25,13 +25,13 @@ class Recorded(NamedTuple):
     mean: float  # power of a sample
     greatest: float  # size of a component
     dc: float  # power of the mean of all samples
-    at_full: np.ndarray  # over time, the share of samples at full scale
+    at_full: np.ndarray  # over time, how many samples are at full scale
     still: list  # pairs of seconds between which all samples are one
     alike: float  # how alike two samples are that stand a symbol of LTE apart, as its prefixes make them
 
     @property
     def share_at_full(self):
-        return float(self.at_full.mean())
+        return float(self.at_full.sum() / self.count)
 
     @property
     def frequencies(self):
@@ -73,7 +73,7 @@ class Column(NamedTuple):
     total: complex  # of all samples
     energy: float
     greatest: float
-    at_full: float  # share of samples
+    at_full: int  # samples
     still: np.ndarray  # by symbol's length, the sample that all of its samples are, or not a number
     product: complex  # of samples with those a symbol's length later
     pairs: int
@@ -90,7 +90,7 @@ def column_of(x, size, top):
         total=x.sum(),
         energy=float(np.sum(np.abs(x) ** 2)),
         greatest=float(np.abs(parts).max()),
-        at_full=float(np.mean(((parts >= top) | (parts <= -1)).any(0))),
+        at_full=int(((parts >= top) | (parts <= -1)).any(0).sum()),
         still=np.where((blocks == blocks[:, :1]).all(1), blocks[:, 0], np.nan),
         product=np.vdot(blocks[:-1], blocks[1:]),
         pairs=x.size - size,

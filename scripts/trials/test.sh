@@ -121,6 +121,7 @@ if [ "$has_scipy" ] && [ -x "$tuner" ]; then
         head -c 5 drive.svg | says 'picture.py draws it' '<?xml'
         "$tools/picture.py" survey.json -o survey.html
         head -c 15 survey.html | says 'picture.py draws a survey' '<!doctype html>'
+        "$here/picture_facts.py" | says 'a picture tells what was put into a file' ''
     else
         echo 'left out picture.py: no matplotlib'
     fi

@@ -1,0 +1,200 @@
+#!/usr/bin/python3
+"""picture_facts.py
+
+Tries whether a picture tells of a file what was put into it: DC, a tone's frequency and level, how many samples are at
+full scale, a stretch of one value, noise alone, and that a signal with a cyclic prefix is no noise, in each form of
+numbers and at several rates. Then whether hits have the names that they should, titles fit, a survey's page names each
+cell, and an older picture stays where there is no room for a new one. Needs no program. Prints a line for what is not
+so; the status is 0 where all is. About ten seconds.
+
+Debian: python3-numpy, python3-scipy, python3-matplotlib.
+"""
+import json
+import pathlib
+import resource
+import signal
+import subprocess
+import sys
+import tempfile
+
+TOP = pathlib.Path(__file__).resolve().parent.parent.parent
+sys.path.append(str(TOP / "scripts/tools"))
+import machine
+
+machine.want("numpy", "scipy", "matplotlib")
+import numpy as np
+
+import picture
+import picture_style
+import picture_view
+import radio
+import radio_file
+import recorded
+
+SECONDS = 0.1
+CASES = (("u8", 2_400_000), ("s8", 4_000_000), ("s16", 1_920_000), ("f32", 2_048_000), ("s16", 30_720_000))
+faults = []
+
+
+def check(what, came, wanted):
+    if came != wanted:
+        faults.append(f"{what}: {came}, and not {wanted}")
+
+
+def near(what, came, wanted, most):
+    if not abs(came - wanted) <= most:
+        faults.append(f"{what}: {came}, and not {wanted}")
+
+
+def decibels(power):
+    return 10 * np.log10(power)
+
+
+def noise(count, rms, draw):
+    return rms * (draw.standard_normal(count) + 1j * draw.standard_normal(count)) / np.sqrt(2)
+
+
+def written(path, x, form):
+    """The samples as a radio of this form writes them."""
+    middle, full = {"u8": (127.5, 127.5), "s8": (0, 128), "s16": (0, 32_768), "f32": (0, 1)}[form]
+    kind = {"u8": "u1", "s8": "i1", "s16": "<i2", "f32": "<f4"}[form]
+    parts = np.stack([x.real, x.imag], 1) * full + middle
+    if form != "f32":
+        parts = np.clip(np.round(parts), np.iinfo(kind).min, np.iinfo(kind).max)
+    parts.astype(kind).tofile(path)
+
+
+def looked_at(path, x, form, rate):
+    written(path, x, form)
+    file = radio_file.RadioFile(path, form, rate, len(x), 0, 0)
+    return recorded.recorded(file, 0, file.seconds)
+
+
+# ---- the file as recorded
+
+
+def try_form(path, form, rate, draw):
+    """A tone, DC, noise, a stretch of one value, and some samples at full scale."""
+    name, count = f"{form} at {rate}", round(SECONDS * rate)
+    step = rate / round(rate / recorded.SPACING)
+    tone = 20 * step
+    x = radio.shifted(np.full(count, 0.1 + 0j), tone, rate) + noise(count, 0.02, draw) + 0.05
+    clean = looked_at(path, x, form, rate)
+    near(f"{name}: DC in dBFS", decibels(clean.dc), decibels(0.05**2), 0.3)
+    power = clean.power.mean(1)
+    power[np.abs(clean.frequencies) < 5 * step] = 0
+    near(f"{name}: a tone's hertz", clean.frequencies[power.argmax()], tone, clean.step / 2)
+    near(f"{name}: a tone's dBFS", decibels(power.max()), -20, 0.3)
+    check(f"{name}: noise with a tone is no noise", clean.is_noise, False)
+    check(f"{name}: nothing stands still", clean.still, [])
+    check(f"{name}: nothing is at full scale", clean.share_at_full, 0)
+    full = draw.choice(count // 2, 37, replace=False)
+    x[full[:20]], x[full[20:]] = 2, -2j
+    x[count // 2 : count * 3 // 4] = x[count // 2]
+    spoiled = looked_at(path, x, form, rate)
+    near(f"{name}: samples at full scale", spoiled.share_at_full * spoiled.count, 37, 0.5)
+    check(f"{name}: a stretch of one value", len(spoiled.still), 1)
+    for came, wanted in zip(sum(spoiled.still, ()), (SECONDS / 2, SECONDS * 3 / 4)):
+        near(f"{name}: an end of a stretch of one value", came, wanted, 2 / recorded.SPACING)
+    check(f"{name}: the file is not constant", spoiled.is_still, False)
+
+
+def try_nothing(path, draw):
+    """Noise alone, one value alone, and a signal that is as level as noise."""
+    for form, rate in CASES:
+        seen = looked_at(path, noise(round(SECONDS * rate), 0.1, draw) + 0.02, form, rate)
+        check(f"{form} at {rate}: noise alone", (seen.is_noise, seen.is_still), (True, False))
+        seen = looked_at(path, np.full(round(SECONDS * rate), 0.03 + 0.01j), form, rate)
+        check(f"{form} at {rate}: one value alone", (seen.is_noise, seen.is_still), (False, True))
+    symbols = np.fft.ifft(np.exp(2j * np.pi * draw.random((1_400, 128))), axis=1)
+    with_prefix = np.concatenate([symbols[:, -9:], symbols], 1).ravel() * 0.1 * np.sqrt(128)
+    seen = looked_at(path, with_prefix, "s16", radio.RATE)
+    check("a signal with a prefix", seen.is_noise, False)
+
+
+# ---- names of hits
+
+
+def hit(t, identity, at):
+    return {"t": t, "n2": identity % 3, "identity": identity, "at": at, "energy": 1, "power": 1, "peak": 1}
+
+
+def try_names():
+    """Hits of a listed cell with the extended prefix, which the rule of the normal one reads wrong, and others."""
+    line = {"identity": 200, "at": 4_000, "sfn": 5, "rule": "long-prefix", "ports": 1, "sib1": {"none": "long-prefix"}}
+    support = {**line, "power": 1, "noise": 1}
+    hits = [
+        hit(4_000 + 832, 488, 4_000),
+        hit(4_000 + 10_432 + 2, 257, 4_002),
+        hit(7_000, 370, 6_168),
+        hit(7_000 + 9_600, 370, 6_168),
+        hit(9_000, 412, 8_168),
+    ]
+    said = {f"lte_cli {picture_view.evidence_words(rule)}": [] for rule in picture_view.survey.CARRIERS}
+    said |= {"lte_cli evidence --prefix long --json": [support]}
+    said |= {"lte_cli ids --json": hits, "lte_cli search --all --json": [line]}
+    view = picture_view.View("", "", None, 0, 0, 0, False, None, 32_768, said)
+    check("names of hits", list(map(view.name_of, hits)), ["PCI 200", "PCI 200", "PCI 370?", "PCI 370?", ""])
+
+
+# ---- titles, pages and files
+
+
+def try_titles():
+    for text in ("drive/" * 200, "long words " * 100, "x" * 999, "\udcff$a^b"):
+        rows = picture_style.fitted(text, 95).split("\n")
+        check(f"rows of {text[:9]!a}", (len(rows) <= 2, max(map(len, rows)) <= 95), (True, True))
+        rows[0].encode()
+
+
+def try_page(room):
+    """A survey of 22 cells, of which one is by chance."""
+    found = json.loads((TOP / "scripts/examples/outputs/survey.json").read_text())
+    (cell,) = found["cells"]
+    found["cells"] = [{**cell, "identity": 400 + i, "chance": i == 21} for i in range(22)]
+    (room / "survey.json").write_text(json.dumps(found))
+    command = [str(TOP / "scripts/tools/picture.py"), room / "survey.json", "-o", room / "x.html", "--title", "a < b"]
+    subprocess.run(command, check=True)
+    page = (room / "x.html").read_text()
+    check("cells of the page", [i for i in range(22) if f"<td>{400 + i}<td>" not in page], [])
+    check("the page's title", "<h1>a &lt; b</h1>" in page, True)
+    check("heads without a name", page.count("<th><") + page.count("<th></tr>"), 0)
+    check("the page says what the mark is", "<p>? chance explains this line" in page, True)
+
+
+def try_room(room):
+    """A file of more bytes than there is room for."""
+    place = room / "y.png"
+    place.write_bytes(b"old")
+    signal.signal(signal.SIGXFSZ, signal.SIG_IGN)
+    before = resource.getrlimit(resource.RLIMIT_FSIZE)
+    resource.setrlimit(resource.RLIMIT_FSIZE, (1_000, before[1]))
+    try:
+        picture.write(place, bytes(2_000))
+        faults.append("a file of too many bytes was written")
+    except OSError:
+        pass
+    resource.setrlimit(resource.RLIMIT_FSIZE, before)
+    check("the older picture", place.read_bytes(), b"old")
+    check("files beside it", [path.name for path in room.glob(".*")], [])
+    picture.write(place, b"new")
+    check("the newer picture", place.read_bytes(), b"new")
+
+
+def main():
+    draw = np.random.default_rng(1)
+    with tempfile.TemporaryDirectory() as folder:
+        room = pathlib.Path(folder)
+        for form, rate in CASES:
+            try_form(room / "file", form, rate, draw)
+        try_nothing(room / "file", draw)
+        try_names()
+        try_titles()
+        try_page(room)
+        try_room(room)
+    print("\n".join(faults), end="\n" * bool(faults))
+    return bool(faults)
+
+
+if __name__ == "__main__":
+    sys.exit(main())
