@@ -15,13 +15,13 @@ import machine
 import radio
 import survey
 from picture_style import COLOURS, LINES, WIDTH, carrier_text, headed, number_text
+from picture_view import BAND
 
 sys.path.append(str(machine.TOP / "scripts/peers"))
 import second_cell
 import second_search as second
 
 RULES = {name: second.RULES[words] for name, (words, _) in survey.CARRIERS.items()}
-BAND = 540  # kilohertz on either side that six resource blocks take
 BINS = 48  # samples in a column of the metric
 LABELS = 16  # hits that are named
 LAST = 19_346  # the place behind the last one whose metric is compared
@@ -45,7 +45,7 @@ def draw_file(figure, view):
         ax.yaxis.set_major_locator(MaxNLocator(7, steps=[1, 2, 2.5, 3, 5, 10]))
         ax.ticklabel_format(axis="y", useOffset=False)
         for edge in (-BAND, BAND):
-            ax.axhline(carrier + 1000 * edge / scale, color="white" if ax is over_time else "black", ls="--", lw=1)
+            ax.axhline(carrier + edge / scale, color="white" if ax is over_time else "black", ls="--", lw=1)
     over_time.set_ylabel(unit)
     draw_nothing(text, "\n".join(view.summary()))
 
@@ -93,16 +93,14 @@ def draw_mean_spectrum(ax, view, scale, centre):
     greatest, mean = (10 * np.log10(part + 1e-20) for part in (view.seen.power.max(1), view.seen.power.mean(1)))
     ax.plot(greatest, places, ls=":", lw=0.9, color=COLOURS[5], label="greatest")
     ax.plot(mean, places, lw=1, color=COLOURS[0], label="mean")
-    ax.axhspan(
-        centre + (view.carrier - 1000 * BAND) / scale, centre + (view.carrier + 1000 * BAND) / scale, color="#eeeeee"
-    )
+    ax.axhspan(centre + (view.carrier - BAND) / scale, centre + (view.carrier + BAND) / scale, color="#eeeeee")
     ax.set(xlim=SCALE, xlabel="dBFS in 15 kHz", xticks=range(-120, 1, 30))
     ax.legend(loc="lower center", bbox_to_anchor=(0.5, 1), ncol=2, frameon=False, fontsize=7.5, borderaxespad=0.1)
     if view.centre:
         ax.axhline(centre + view.carrier / scale, color="black", lw=0.6, ls=":")
         name = f"cell: {carrier_text(round(view.centre + view.carrier, -2))}"
         box = {"facecolor": "#eeeeee", "lw": 0, "pad": 1}
-        keys = {"fontsize": 7, "va": "center", "bbox": box, "transform": ax.get_yaxis_transform()}
+        keys = {"fontsize": 7, "va": "center", "clip_on": True, "bbox": box, "transform": ax.get_yaxis_transform()}
         ax.text(0.03, centre + view.carrier / scale, name, **keys)
 
 
@@ -239,7 +237,7 @@ def draw_channel(figure, place, view, symbols, identity, rule=second.ONE_PORT):
         phases = ax.twinx()
         ax.plot(port.kilohertz, port.size, "-o", ms=2.5, lw=1, color=COLOURS[0])
         phases.plot(port.kilohertz, port.phase, "x", ms=3.5, color=COLOURS[1])
-        ax.set(xlim=(-BAND, BAND), ylim=(middle - reach, middle + reach), xticks=range(-300, 301, 300))
+        ax.set(xlim=(-BAND / 1000, BAND / 1000), ylim=(middle - reach, middle + reach), xticks=range(-300, 301, 300))
         ax.yaxis.set_major_locator(MaxNLocator(4))
         phases.set(ylim=(-198, 198), yticks=range(-180, 181, 90 * rows))
         phases.grid(False)

@@ -16,6 +16,7 @@ from picture_style import dbfs, facts_of
 
 PRIMARY = 832  # sample of a frame at which the primary signal begins, with either prefix, and half a frame later
 HALF = radio.FRAME // 2
+BAND = 540_000  # hertz on either side that six resource blocks take
 
 
 def evidence_words(rule):
@@ -92,6 +93,11 @@ class View(NamedTuple):
             return "constant"
         return "noise only" if not self.hits and self.seen.is_noise else ""
 
+    @property
+    def is_beyond(self):
+        """Whether the file's rate leaves out a part of where the cell is looked for."""
+        return abs(self.carrier) + BAND > self.seen.rate / 2
+
     def summary(self):
         """Lines on the file, and on what the programs say."""
         seen, hits, count = self.seen, self.hits, len(self.cells)
@@ -102,6 +108,7 @@ class View(NamedTuple):
             f"greatest component {dbfs(seen.greatest ** 2)}",
             f"DC {dbfs(seen.dc)}, {'left as it is' if self.is_as_it_is else 'taken off for what follows'}",
             f"at full scale: {share_text(seen.share_at_full)} of the samples",
+            *(["the cell's 1.08 MHz are not all in the file"] if self.is_beyond else []),
             *still[:3],
             *([f"and {len(still) - 3} more constant stretches"] if still[3:] else []),
             "",
@@ -117,7 +124,8 @@ class View(NamedTuple):
         """What lte_tune tells of what is drawn before an offset is taken off, and what was taken off."""
         if self.told is None:
             return ["lte_tune: no primary signal, no offset told"]
-        line = f"lte_tune: {self.told['turn'] * survey.STEP:+,.0f} Hz"
+        hertz = self.told["turn"] * survey.STEP
+        line = f"lte_tune: {hertz:+,.0f} Hz" if hertz else "lte_tune: 0 Hz"
         return [f"{line}; cells then: {self.told['cells']}" if self.told["cells"] else f"{line}: a guess, no cell then"]
 
     def why_none(self):

@@ -137,6 +137,18 @@ def try_names():
     check("names of hits", list(map(view.name_of, hits)), ["PCI 200", "PCI 200", "PCI 370?", "PCI 370?", ""])
 
 
+def try_summary(path, draw):
+    """What is said of a cell that is looked for within the file, and partly beside it."""
+    seen = looked_at(path, noise(240_000, 0.1, draw), "s16", 2_400_000)
+    said = {f"lte_cli {picture_view.evidence_words(rule)}": [] for rule in picture_view.survey.CARRIERS}
+    said |= {"lte_cli ids --json": [], "lte_cli search --all --json": [], "lte_tune tell --json": {"told": None}}
+    for carrier, wanted in ((0, False), (650_000, False), (-670_000, True), (2_400_000, True)):
+        view = picture_view.View("", "", seen, 0, carrier, 0, False, None, 32_768, said)
+        check(
+            f"{carrier} hertz beside the centre", any("not all in the file" in line for line in view.summary()), wanted
+        )
+
+
 # ---- titles, pages and files
 
 
@@ -189,6 +201,7 @@ def main():
             try_form(room / "file", form, rate, draw)
         try_nothing(room / "file", draw)
         try_names()
+        try_summary(room / "file", draw)
         try_titles()
         try_page(room)
         try_room(room)
