@@ -7,6 +7,7 @@ import json
 import os
 import pathlib
 import shutil
+import signal
 import subprocess
 import sys
 
@@ -18,8 +19,23 @@ class Refused(Exception):
     """The line that says why there is no result."""
 
 
+def stopped(*_):
+    """Ends a tool that is stopped while it still reads its own parts."""
+    os.write(2, f"{pathlib.Path(sys.argv[0]).name}: stopped\n".encode())
+    os._exit(1)
+
+
+signal.signal(signal.SIGINT, stopped)
+
+
+def note(text):
+    """A word on standard error about what goes on all the same."""
+    print(f"{pathlib.Path(sys.argv[0]).name}: {text}", file=sys.stderr)
+
+
 def run(main):
     """Runs a tool; what it refuses is one line on standard error."""
+    signal.signal(signal.SIGINT, signal.default_int_handler)
     name = pathlib.Path(sys.argv[0]).name
     try:
         main()
@@ -54,8 +70,14 @@ def program(name):
 
 def answer(words, data):
     """What a program answers in JSON about a recording."""
-    done = subprocess.run(words, input=data, capture_output=True, check=False)
+    try:
+        done = subprocess.run(words, input=data, capture_output=True, check=False)
+    except BrokenPipeError:
+        raise Refused(f"{words[0]}: reads no recording: is it the program?") from None
     if done.returncode:
         said = done.stderr.decode(errors="replace").strip() or f"status {done.returncode}"
         raise Refused(f"{' '.join(words[1:])}: {said}")
-    return json.loads(done.stdout)
+    try:
+        return json.loads(done.stdout)
+    except ValueError:
+        raise Refused(f"{words[0]} {' '.join(words[1:])}: no JSON came: is it the program?") from None

@@ -8,9 +8,9 @@ filters to the 1.08 MHz of six resource blocks, scales the peak to half of full 
 
 Debian: python3-numpy, python3-scipy.
 """
+import math
 import sys
-from math import gcd
-from typing import NamedTuple
+from fractions import Fraction
 
 import machine
 
@@ -19,46 +19,57 @@ import numpy as np
 from scipy import signal
 
 import radio
+from forms import FORMS
 
 
-class Form(NamedTuple):
-    """numpy's name of a component, the number that stands for 0, and what full scale is from there."""
-
-    numbers: str
-    middle: float
-    full: float
-
-
-FORMS = {
-    "u8": Form("u1", 127.5, 127.5),
-    "s8": Form("i1", 0, 128),
-    "s16": Form("<i2", 0, 32_768),
-    "f32": Form("<f4", 0, 1),
-}
 PASS = 600_000  # hertz on either side: six blocks take 540,000
+
+
+NEAREST, FARTHEST = 0.5e-6, 10_000  # by which a rate may be another one, and a number of a ratio
+
+
+def ratio_of(rate):
+    """The ratio of the least numbers that is this rate by 1.92e6, or nearly so."""
+    exact = Fraction(rate) / radio.RATE
+    for most in (100, 300, 1_000, 3_000, FARTHEST):
+        ratio = exact.limit_denominator(most)
+        if ratio and abs(ratio / exact - 1) <= NEAREST:
+            return ratio
+    raise machine.Refused(f"{rate:,} samples per second: nearer to 0 than any ratio to 1.92e6 that is read")
 
 
 def converted(x, rate, shift):
     """One second at most of samples, in their own scale."""
     x = radio.shifted(x - x.mean(), -shift, rate)
-    common = gcd(rate, radio.RATE)
-    x = signal.resample_poly(x, radio.RATE // common, rate // common)
+    ratio = ratio_of(rate)
+    x = signal.resample_poly(x, ratio.denominator, ratio.numerator)
     return np.convolve(x, signal.firwin(129, PASS, fs=radio.RATE), "same")[: radio.LONGEST]
 
 
 def main(kind, rate, shift="0", start="0"):
-    form, rate = FORMS[kind], int(float(rate))
+    form, rate, shift, start = FORMS[kind], *numbers_of(rate, shift, start)
     size = 2 * np.dtype(form.numbers).itemsize
     source = sys.stdin.buffer
-    skip = int(float(start) * rate) * size
+    skip = int(start * rate) * size
     while skip > 0 and (gone := len(source.read(min(skip, 1 << 20)))):
         skip -= gone
     data = source.read(int(1.05 * rate) * size)
     parts = np.frombuffer(data[: len(data) // size * size], form.numbers).astype(float) - form.middle
     if len(parts) == 0:
         raise machine.Refused("no samples")
-    x = converted(parts[0::2] + 1j * parts[1::2], rate, float(shift))
+    x = converted(parts[0::2] + 1j * parts[1::2], rate, shift)
     sys.stdout.buffer.write(radio.to_bytes(x * (radio.FULL / 2 / (radio.peak(x) or 1))))
+
+
+def numbers_of(rate, shift, start):
+    """RATE above 0, SHIFT, and START not below 0."""
+    try:
+        numbers = [float(word) for word in (rate, shift, start)]
+    except ValueError as fault:
+        raise machine.Refused(str(fault)) from None
+    if not all(map(math.isfinite, numbers)) or numbers[0] <= 0 or numbers[2] < 0:
+        raise machine.Refused(f"{rate}, {shift}, {start}: RATE is above 0, and START is not below")
+    return numbers
 
 
 if __name__ == "__main__":
