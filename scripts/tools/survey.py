@@ -13,14 +13,11 @@ each list with a cell, tell of each window, one process a processor. Lines are o
 Debian: python3-numpy, python3-scipy. Needs lte_cli and lte_tune (README, "Build").
 """
 import argparse
-import csv
-import io
 import json
 import multiprocessing
 import os
 import signal
 import sys
-from typing import NamedTuple
 
 import machine
 
@@ -29,129 +26,22 @@ import numpy as np
 
 import radio
 import radio_file
+from sightings import CARRIERS, NEAR, STEP, Task, distance, energy, place_of, sightings, tells, told_offset
+from survey_table import csv_of, networks, row_of, table_of
+from words import Words, number, positive
+
+__all__ = ["CARRIERS", "STEP", "main", "networks", "place_of", "row_of", "surveyed", "tells"]  # also for picture.py
 
 WINDOW = 17 * radio.FRAME / radio.RATE  # seconds: what a list depends on
-CYCLE = 1024 * radio.FRAME  # samples until a frame number comes again
-NEAR = 9  # samples by which one cell's frames may differ in a list (docs/DEFINITION.md, rule 12)
 CLOCK = 100e-6  # by which a radio's clock may be off
 TELL_EVERY = 10  # seconds
 STEEP = 350  # hertz between two windows whose offset was told, above which one between them is told too
-STEP = radio.RATE / 128 / 128  # hertz of a turn
 SAME_OFFSET, DRIFT = 1_000, 200  # hertz, and hertz per second, by which the offset of one cell may change
+SURE, BESIDE, LINE = 15, 0.5, 4  # hertz of an error; seconds about a sighting, and sightings that tell a straight line
+SAME_PATH = 1.1  # microseconds by which a path's delay may change
+TRIED = 4  # windows that are tried with I and Q exchanged
 DEAR = 0.07  # cost by total from which on chance explains a line that was seen once
 FEW = 1_000  # a total of values that are nearly all 0
-
-
-# the words behind `evidence` for the list of a rule, and the antenna ports whose reference signals its numbers are of
-CARRIERS = {
-    "one-port": ((), 1),
-    "two-ports": (("--ports", "2"), 2),
-    "long-prefix": (("--prefix", "long"), 1),
-    "four-ports": (("--ports", "4"), 4),
-}
-READ_BY = {1: "one-port", 2: "two-ports", 4: "four-ports"}  # the rule that reads so many antenna ports
-
-
-# ---- what the programs say of a window
-
-
-class Task(NamedTuple):
-    """A window of a file, in seconds, and the offset to take off."""
-
-    file: radio_file.RadioFile
-    start: float
-    length: float
-    offset: float = 0
-
-
-def energy(task):
-    """The mean energy of ten milliseconds in its middle."""
-    first, count = round((task.start + task.length / 2) * task.file.rate), task.file.rate // 100
-    x = task.file.samples(min(first, task.file.count - count), count)
-    return float(np.mean(np.abs(x - x.mean()) ** 2))
-
-
-def told_offset(task):
-    """The offset that is told of a window in which a cell is listed then, in hertz."""
-    data, _ = task.file.recording(task.start, task.length)
-    told = machine.answer([machine.program("lte_tune"), "tell", "--json"], data)["told"]
-    return told["turn"] * STEP if told and told["cells"] else None
-
-
-def sightings(task):
-    """The cells of a window, each with the rules that list it."""
-    data, full = task.file.recording(task.start, task.length, task.offset)
-    program = machine.program("lte_cli")
-    listed = machine.answer([program, "search", "--all", "--json"], data)
-    if not listed:
-        return []
-    support = {rule: support_of(program, rule, data) for rule in {line["rule"] for line in listed}}
-    found = []
-    for line in listed:
-        rule = line["rule"]
-        add_line(found, Sighting(task, line, [rule], *numbers_of(support[rule][place_of(line)], full, rule)))
-    return found
-
-
-def support_of(program, rule, data):
-    """What `evidence` of a rule's list says of each of its lines, by their places."""
-    return {place_of(one): one for one in machine.answer([program, "evidence", *CARRIERS[rule][0], "--json"], data)}
-
-
-class Sighting(NamedTuple):
-    """A cell in a window: a line of its list, and numbers of `evidence` of that list."""
-
-    task: Task
-    line: dict
-    rules: list
-    level: float  # dBFS, or None
-    ratio: float  # dB, or None
-    cost: int
-    total: int
-
-    @property
-    def seconds(self):
-        """When its first whole frame begins."""
-        return round(self.task.start * self.task.file.rate) / self.task.file.rate + self.line["at"] / radio.RATE
-
-    @property
-    def epoch(self):
-        """Where frame number 0 begins, in samples of a recording, modulo the cycle."""
-        return (self.seconds * radio.RATE - radio.FRAME * self.line["sfn"]) % CYCLE
-
-    @property
-    def share(self):
-        """Cost by total."""
-        return self.cost / self.total
-
-
-def place_of(line):
-    return line["identity"], line["at"], line["sfn"]
-
-
-def numbers_of(evidence, full, rule):
-    power, noise, ports = evidence["power"], evidence["noise"], CARRIERS[rule][1]
-    return radio.level(power, noise, full, ports), radio.ratio(power, noise, ports), evidence["cost"], evidence["total"]
-
-
-def distance(a, b, cycle=CYCLE):
-    """Between two places of a cycle."""
-    return min((a - b) % cycle, (b - a) % cycle)
-
-
-def add_line(found, new):
-    """Adds a line of a window, to the same cell by another rule where there is one; the line that tells more stays."""
-    for i, old in enumerate(found):
-        if old.line["identity"] == new.line["identity"] and distance(old.epoch, new.epoch) <= NEAR:
-            more = max(old, new, key=lambda sighting: tells(sighting.line))
-            found[i] = more._replace(rules=old.rules + new.rules)
-            return
-    found.append(new)
-
-
-def tells(line):
-    """How much a line tells: SIB1, else a master block of the antenna ports that its rule reads."""
-    return "none" not in line["sib1"], line["rule"] == READ_BY[line["ports"]]
 
 
 # ---- the offset along the file
@@ -204,7 +94,7 @@ class Cell:
         return (
             last.line["identity"] == new.line["identity"]
             and distance(last.epoch, new.epoch) <= NEAR + CLOCK * radio.RATE * gap
-            and abs(last.task.offset - new.task.offset) <= SAME_OFFSET + DRIFT * gap
+            and abs(last.taken - new.taken) <= SAME_OFFSET + DRIFT * gap
         )
 
     @property
@@ -227,6 +117,20 @@ class Cell:
         """The least cost by total."""
         return min(one.share for one in self.seen)
 
+    @property
+    def echoes(self):
+        """Other paths by their delays: microseconds, decibels by the strongest path, and windows."""
+        groups, last = [], None
+        for delay, level in sorted(echo for one in self.seen for echo in one.echoes):
+            if last is None or delay - last > SAME_PATH:
+                groups.append([])
+            groups[-1].append((delay, level))
+            last = delay
+        return [
+            {"delay": less(np.median(delays)), "level": less(np.median(levels)), "windows": len(delays)}
+            for delays, levels in (zip(*group) for group in groups)
+        ]
+
     def is_chance(self, cells):
         """Whether chance explains it: no SIB1 was read, and it was seen once at a cost, or at another's place."""
         if "none" not in self.line["sib1"]:
@@ -244,6 +148,22 @@ class Cell:
             and other.share < self.share
             and any(distance(a.epoch, b.epoch, radio.FRAME) <= NEAR for a in self.seen for b in other.seen)
         )
+
+
+def smoothed(seen):
+    """The offset at each sighting: its own where that is sure, else by those within half a second."""
+    times, offsets = (np.array([getattr(one, key) for one in seen]) for key in ("seconds", "offset"))
+    weights = 1 / np.maximum([one.error for one in seen], SURE)
+    found = []
+    for one, time in zip(seen, times):
+        near = slice(*np.searchsorted(times, (time - BESIDE, time + BESIDE)))
+        if one.error <= SURE or near.stop - near.start < 2:
+            found.append(one.offset)
+        else:
+            degree = int(near.stop - near.start >= LINE)
+            line = np.polyfit(times[near] - time, offsets[near], degree, w=weights[near])
+            found.append(float(line[-1]))
+    return found
 
 
 def fixed_text(line):
@@ -277,11 +197,16 @@ def surveyed(told, file):
         points = [(0, told.offset)] if told.offset is not None else offsets_along(ask, tasks)
         offsets = np.interp(range(len(tasks)), *zip(*points)) if points else np.zeros(len(tasks))
         tasks = [task._replace(offset=float(offset)) for task, offset in zip(tasks, offsets)]
-        cells = joined(sum(ask("cells", sightings, tasks), []))
+        found = ask("cells", sightings, tasks)
+        cells = joined(sum((one for one in found if one), []))
+        hint = why_none(ask, tasks) if all(cell.is_chance(cells) for cell in cells) else None
     return {
         "file": str(told.file),
+        "datetime": file.time_at(file.stretches[0].first / file.rate) if file.stretches else None,
         "form": file.form,
+        "exchanged": file.is_exchanged,
         "rate": file.rate,
+        "rate_error": round(file.rate_error, 3),
         "shift": file.shift,
         "carrier": file.carrier or None,
         "unit": "dBFS" if told.gain is None else "dBm",
@@ -289,44 +214,71 @@ def surveyed(told, file):
         "window": round(WINDOW, 6),
         "every": round(told.every, 6),
         "windows": len(tasks),
+        "spoiled": [round(task.start, 6) for task, one in zip(tasks, found) if one is None],
+        "hint": hint,
         "offsets": [[round(tasks[i].start, 6), round(offset, 1)] for i, offset in points],
         "cells": [as_object(cell, cells, file, told.gain or 0) for cell in cells],
     }
 
 
+def why_none(ask, tasks):
+    """What is wrong with a file where no cell is sure: tries its strongest windows with I and Q exchanged."""
+    file, strength = tasks[0].file, ask("level", energy, tasks)
+    other = file._replace(is_exchanged=not file.is_exchanged)
+    strongest = sorted(range(len(tasks)), key=strength.__getitem__, reverse=True)[:TRIED]
+    tried = [tasks[i]._replace(file=other, offset=0) for i in sorted(strongest)]
+    offsets = ask("I and Q", told_offset, tried)
+    tried = [task._replace(offset=offset) for task, offset in zip(tried, offsets) if offset is not None]
+    cells = joined(sum((one for one in ask("I and Q", sightings, tried) if one), []))
+    sure = sorted({cell.line["identity"] for cell in cells if not cell.is_chance(cells)})
+    if sure:
+        names = f"PCI {' and '.join(map(str, sure))}"
+        return f"I and Q are exchanged: {'without' if file.is_exchanged else 'with'} --exchanged there is {names}"
+    return (
+        f"no sure cell: tried {file.form} at {file.rate:,} samples per second, {file.shift:+,.0f} Hz beside the centre, "
+        "offsets up to 60 kHz, I and Q both ways; --form, --rate, --shift and --offset say another"
+    )
+
+
 def as_object(cell, cells, file, gain):
-    line, strongest = cell.line, cell.strongest
+    line, strongest, offsets = cell.line, cell.strongest, smoothed(cell.seen)
+    offset = offsets[cell.seen.index(strongest)]
     return {
         "identity": line["identity"],
         "rule": line["rule"],
         "rules": sorted({rule for one in cell.seen for rule in one.rules}),
         "first": round(cell.seen[0].seconds, 4),
         "last": round(cell.seen[-1].seconds, 4),
+        "datetime": file.time_at(cell.seen[0].seconds),
         "windows": cell.windows,
         **{key: line[key] for key in ("ports", "bandwidth", "duration", "resource", "br", "spare", "sib1")},
         "level": less(strongest.level, gain),
         "ratio": less(strongest.ratio),
-        "offset": less(strongest.task.offset),
-        "ppm": less(1e6 * strongest.task.offset / file.carrier, digits=3) if file.carrier else None,
+        "offset": less(offset),
+        "ppm": less(1e6 * offset / file.carrier, digits=3) if file.carrier else None,
+        "echoes": cell.echoes,
         "share": less(cell.share, digits=4),
         "chance": cell.is_chance(cells),
         "seen": [
             {
                 "seconds": round(one.seconds, 4),
+                "at": round(one.seconds * file.rate),
                 "sfn": one.line["sfn"],
                 "level": less(one.level, gain),
                 "ratio": less(one.ratio),
-                "offset": less(one.task.offset),
+                "offset": less(offset),
+                "error": less(one.error),
+                "echoes": [[less(delay), less(level)] for delay, level in one.echoes],
                 "cost": one.cost,
                 "total": one.total,
             }
-            for one in cell.seen
+            for one, offset in zip(cell.seen, offsets)
         ],
     }
 
 
 def less(number, gain=0, digits=1):
-    return None if number is None else round(number - gain, digits)
+    return None if number is None else round(float(number) - gain, digits)
 
 
 def asking(pool):
@@ -345,95 +297,12 @@ def asking(pool):
     return ask
 
 
-def networks(sib1):
-    """The networks of SIB1; one without a country code has that of the one before."""
-    names, country = [], ""
-    for network in sib1.get("plmns", []):
-        country = network["mcc"] or country
-        names.append(f"{country}-{network['mnc']}")
-    return names
-
-
-def row_of(cell, survey):
-    """The columns of a cell as texts, by name."""
-    sib1 = cell["sib1"]
-    text = {key: "-" if cell[key] is None else str(cell[key]) for key in ("level", "ratio", "offset", "ppm")}
-    return {
-        "PCI": str(cell["identity"]),
-        "rule": cell["rule"],
-        "first s": f"{cell['first']:.2f}",
-        "last s": f"{cell['last']:.2f}",
-        "windows": f"{cell['windows']}/{survey['windows']}",
-        "ports": str(cell["ports"]),
-        "width": cell["bandwidth"],
-        "PHICH": f"{cell['duration']} {cell['resource']}",
-        "PLMN": " ".join(networks(sib1)) or "-",
-        "TAC": str(sib1.get("tac", "-")),
-        "cell": str(sib1.get("cell", "-")),
-        "band": str(sib1.get("band", "-")),
-        survey["unit"]: text["level"],
-        "S/N dB": text["ratio"],
-        "offset Hz": text["offset"],
-        "ppm": text["ppm"],
-        "cost %": f"{100 * cell['share']:.1f}",
-        "": "?" if cell["chance"] else "",
-        "no SIB1": sib1.get("none", ""),
-    }
-
-
-LEFT = ("rule", "PHICH", "PLMN", "no SIB1")
-
-
-def table_of(survey):
-    """The table as lines of text."""
-    head = f"{survey['file']}: {survey['seconds']:.2f} s, {survey['windows']} windows, {offset_text(survey['offsets'])}"
-    rows = [row_of(cell, survey) for cell in survey["cells"]]
-    if not rows:
-        return [head, f"no cell: is it {survey['form']} at {survey['rate']} samples per second? picture.py shows why"]
-    names = [name for name in rows[0] if any(row[name] not in ("", "-") for row in rows)]
-    lines = [{name: name for name in names}] + rows
-    width = {name: max(len(line[name]) for line in lines) for name in names}
-    text = [
-        "  ".join(line[n].ljust(width[n]) if n in LEFT else line[n].rjust(width[n]) for n in names).rstrip()
-        for line in lines
-    ]
-    if any(cell["chance"] for cell in survey["cells"]):
-        text.append("? chance explains this line: it was seen once, or at another's place, and no SIB1 was read")
-    return [head] + text
-
-
-def offset_text(points):
-    if not points:
-        return "no offset told"
-    hertz = [offset for _, offset in points]
-    if max(hertz) - min(hertz) < STEP:
-        return f"offset {hertz[0]:,.0f} Hz"
-    return f"offset {hertz[0]:,.0f} to {hertz[-1]:,.0f} Hz, told {len(hertz)} times"
-
-
-COLUMNS = """file identity rule first last windows of ports bandwidth duration resource plmn tac cell band level unit
-             ratio offset ppm share chance""".split()
-
-
-def csv_of(survey):
-    """The table for other programs: a name a column, nothing where nothing is known, networks joined by spaces."""
-    out = io.StringIO()
-    writer = csv.DictWriter(out, COLUMNS, extrasaction="ignore", lineterminator="\n")
-    writer.writeheader()
-    for cell in survey["cells"]:
-        sib1 = {key: cell["sib1"].get(key) for key in ("tac", "cell", "band")}
-        shared = {"file": survey["file"], "of": survey["windows"], "unit": survey["unit"]}
-        mark = "yes" if cell["chance"] else "no"
-        writer.writerow({**cell, **sib1, **shared, "plmn": " ".join(networks(cell["sib1"])), "chance": mark})
-    return out.getvalue()
-
-
 def arguments():
-    parser = argparse.ArgumentParser(description=__doc__, formatter_class=argparse.RawDescriptionHelpFormatter)
+    parser = Words(description=__doc__, formatter_class=argparse.RawDescriptionHelpFormatter)
     radio_file.add_arguments(parser)
-    parser.add_argument("--every", type=float, default=WINDOW, help="seconds from one window to the next (0.17)")
-    parser.add_argument("--offset", type=float, help="hertz to take off, in place of what lte_tune tells")
-    parser.add_argument("--gain", type=float, help="dBFS of a signal of 0 dBm at the antenna: levels are in dBm then")
+    parser.add_argument("--every", type=positive, default=WINDOW, help="seconds from one window to the next (0.17)")
+    parser.add_argument("--offset", type=number, help="hertz to take off at first, in place of what lte_tune tells")
+    parser.add_argument("--gain", type=number, help="dBFS of a signal of 0 dBm at the antenna: levels are in dBm then")
     parser.add_argument("--jobs", type=int, default=os.cpu_count(), help="processes (one a processor)")
     form = parser.add_mutually_exclusive_group()
     form.add_argument("--csv", action="store_true", help="the table for other programs, with the file's name")
@@ -443,9 +312,10 @@ def arguments():
 
 def main():
     told = arguments()
-    if told.every <= 0 or told.at < 0 or told.jobs < 1:
-        raise machine.Refused("--every and --jobs are above 0, and --at is not below")
+    if told.at < 0 or told.jobs < 1:
+        raise machine.Refused("--jobs is above 0, and --at is not below")
     file = radio_file.opened(told)
+    file.check_holds(file.shift + (told.offset or 0), f"an offset of {told.offset or 0:,.0f} Hz")
     for name in ("lte_cli", "lte_tune"):
         machine.program(name)
     survey = surveyed(told, file)
