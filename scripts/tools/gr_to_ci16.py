@@ -8,6 +8,7 @@ four frames or more.
 
 Debian: gnuradio.
 """
+import os
 import sys
 from math import gcd, pi
 
@@ -30,9 +31,10 @@ def main(source, rate, shift, sink, gain="1"):
         filters.rational_resampler_ccf(interpolation=up, decimation=down, taps=taps),
         blocks.multiply_const_cc(float(gain)),
         blocks.complex_to_interleaved_short(False, 32767.0),
-        blocks.file_sink(gr.sizeof_short, sink),
+        blocks.file_sink(gr.sizeof_short, f"{sink}.part"),
     )
     graph.run()
+    os.replace(f"{sink}.part", sink)
 
 
 if __name__ == "__main__":

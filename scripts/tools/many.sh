@@ -11,6 +11,7 @@
 # Debian: parallel, python3-numpy, python3-scipy, with MACHINES rsync.
 set -eu
 tools=$(cd "$(dirname "$0")" && pwd)
+command -v parallel > /dev/null || { echo "many.sh: no parallel (Debian: parallel)" >&2; exit 1; }
 cli=$(realpath -m "${LTE_CLI:-$tools/../../crates/lte_cli/out/lte_cli}")
 tune=$(realpath -m "${LTE_TUNE:-$tools/../../crates/lte_tune/out/lte_tune}")
 for program in "$cli" "$tune"; do
@@ -30,7 +31,7 @@ mkdir "$copy"
 trap 'rm -rf "$copy"' EXIT
 cp "$cli" "$copy/lte_cli"
 cp "$tune" "$copy/lte_tune"
-cp "$tools"/{survey,machine,radio,radio_file,to_ci16}.py "$copy"
+cp "$tools"/{survey,survey_table,sightings,pilots,machine,words,radio,radio_file,sigmf,forms,to_ci16}.py "$copy"
 mapfile -t carried < <(printf -- '--basefile\n%s\n' "$copy"/*)
 parallel --will-cite --keep-order --sshlogin "$MACHINES" "${carried[@]}" --transferfile {} --cleanup \
     "LTE_CLI=$copy/lte_cli LTE_TUNE=$copy/lte_tune $copy/survey.py {} --csv --jobs 1 ${SURVEY:-}" ::: "$@" | one_head

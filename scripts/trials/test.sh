@@ -54,7 +54,7 @@ if has jq; then
            "captures": [{"core:frequency": 796000000}]}' > b.sigmf-meta
     if [ "$has_scipy" ]; then
         "$here/as_radio.py" f32 2400000 300000 < sent.ci16 > b.sigmf-data
-        "$tools/from_sigmf.sh" b.sigmf-meta 796300000 | "$program" search |
+        "$tools/from_sigmf.sh" b.sigmf-meta 796.3e6 | "$program" search |
             finds 'SigMF cf32_le at 2.4 Ms/s, 300 kHz beside the centre'
     fi
 else
@@ -111,11 +111,11 @@ if [ "$has_scipy" ] && [ -x "$tuner" ]; then
         says 'survey.py: a file of 8 bits at 2.4 Ms/s, 21.5 kHz off' '3 3 001-01 1 107 no'
     "$tools/survey.py" sent.ci16 --json > survey.json
     : > empty.cu8
-    head -c 100001 sent.ci16 > cut.ci16
+    head -c 100001 sent.ci16 > short.ci16
     "$program" search < sent.ci16 > list.txt
-    for file in empty.cu8 cut.ci16 list.txt; do
-        "$tools/survey.py" "$file" 2>&1 | sed 's/^[^:]*: [^:]*: //; s/,.*//'
-    done | says 'survey.py refuses a file in a line' $'empty\n100001 bytes\na text'
+    for file in empty.cu8 short.ci16 list.txt; do
+        "$tools/survey.py" "$file" 2>&1 | sed '/cut within/d; s/^[^:]*: [^:]*: //; s/,.*//'
+    done | says 'survey.py refuses a file in a line' $'empty\n0.0130 s from second 0 on\na text'
     if /usr/bin/python3 -c 'import matplotlib' 2> /dev/null; then
         "$tools/picture.py" drive.cu8 --rate 2.4e6 --tune -o drive.svg
         head -c 5 drive.svg | says 'picture.py draws it' '<?xml'
@@ -127,9 +127,9 @@ if [ "$has_scipy" ] && [ -x "$tuner" ]; then
     fi
     if has parallel; then
         cp sent.ci16 'a b.ci16'
-        "$tools/many.sh" 'a b.ci16' cut.ci16 2> causes | cut -d, -f1,2 |
+        "$tools/many.sh" 'a b.ci16' empty.cu8 2> causes | cut -d, -f1,2 |
             says 'many.sh surveys each file' $'file,identity\na b.ci16,217'
-        grep -o 'cut within a sample' causes | says 'many.sh says which was refused' 'cut within a sample'
+        grep -o 'empty.cu8: empty' causes | says 'many.sh says which was refused' 'empty.cu8: empty'
     else
         echo 'left out many.sh: no parallel'
     fi
