@@ -8,10 +8,15 @@ explains. docs/RECORDINGS.md, "A whole file", says what each column is.
 The file is read in windows of 17 frames, as far as a list looks, one after the other or every S seconds. Each becomes
 a recording as to_ci16.py makes it. `lte_tune tell` tells the offset of the strongest window and of some along the
 file, and of more where it drifts; between them it is a straight line. `lte_cli search --all`, and `lte_cli evidence` of
-each list with a cell, tell of each window, one process a processor. Lines are one cell where identity, frame numbers and offset fit.
+each list with a cell, tell of each window, one process a processor; by the pilots that `evidence` writes (pilots.py)
+the rest of the offset is taken off, and each cell has its own. Lines are one cell where identity, frame numbers and
+offset fit, and one with an echo where they come within 40 samples. Where no cell is sure, I and Q are tried exchanged.
 
 Debian: python3-numpy, python3-scipy. Needs lte_cli and lte_tune (README, "Build").
 """
+import machine  # first, so that Ctrl-C is a word from here on
+
+machine.want("numpy", "scipy")
 import argparse
 import json
 import multiprocessing
@@ -19,9 +24,6 @@ import os
 import signal
 import sys
 
-import machine
-
-machine.want("numpy", "scipy")
 import numpy as np
 
 import radio
