@@ -240,7 +240,8 @@ def sightings(task):
 def sighting_of(task, window, one):
     first, told = one.evidence[0], one.measured
     numbers = (told.level(window.full), told.ratio, first["cost"], first["total"], first["peak"])
-    hertz = (window.offset, window.offset + told.hertz, told.error)
+    own = told.hertz if told.error < VAGUE else 0
+    hertz = (window.offset, window.offset + own, told.error)
     return Sighting(task, one.line, [one.rule], *numbers, *hertz, others=[])
 
 

@@ -9,7 +9,7 @@ from typing import NamedTuple
 
 from machine import Refused
 
-DATATYPES = {"cu8": "u8", "ci8": "s8", "cu8_le": "u8", "ci8_le": "s8", "ci16_le": "s16", "cf32_le": "f32"}
+DATATYPES = {"cu8": "u8", "ci8": "s8", "ci16_le": "s16", "cf32_le": "f32"}
 READ = "cu8, ci8, ci16_le, cf32_le"
 
 
