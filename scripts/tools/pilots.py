@@ -56,7 +56,8 @@ def measured(evidence, rule):
 
 
 class Fit(NamedTuple):
-    """What paths from one on explain: the turn, the noise of a pilot, and how much is known of the turn."""
+    """What paths from one on explain: the turn, the noise of a pilot, and how much one frame tells of the turn; further
+    ones tell no more of it where the noise is another cell, which sends the same in the same slot of each frame."""
 
     turn: float
     noise: float
@@ -68,7 +69,7 @@ def fit_of(evidence, earliest):
     turn = np.angle(sum(np.vdot(kept(first), kept(later)) for first, later in map(parts_of, slots)))
     straight = [slot._replace(pilots=first_and_turned(slot, turn)) for slot in slots]
     noise = np.mean([np.sum(np.abs(slot.pilots - kept(slot)) ** 2) for slot in straight]) / (24 - SIZE)
-    return Fit(turn, noise, sum(knowledge(slot, noise) for slot in straight))
+    return Fit(turn, noise, sum(knowledge(slot, noise) for slot in straight) / len(evidence))
 
 
 class Slot(NamedTuple):

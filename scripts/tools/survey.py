@@ -40,6 +40,7 @@ TELL_EVERY = 10  # seconds
 STEEP = 350  # hertz between two windows whose offset was told, above which one between them is told too
 SAME_OFFSET, DRIFT = 1_000, 200  # hertz, and hertz per second, by which the offset of one cell may change
 SURE, BESIDE, LINE = 15, 0.5, 4  # hertz of an error; seconds about a sighting, and sightings that tell a straight line
+DOPPLER = 60  # hertz by which the offset of one cell mostly differs from another's
 SAME_PATH = 1.1  # microseconds by which a path's delay may change
 TRIED = 4  # windows that are tried with I and Q exchanged
 DEAR = 0.07  # cost by total from which on chance explains a line that was seen once
@@ -152,19 +153,30 @@ class Cell:
         )
 
 
-def smoothed(seen):
-    """The offset at each sighting: its own where that is sure, else by those within half a second."""
+def surest_of(cells):
+    """By each window the sighting whose offset is surest."""
+    found = {}
+    for one in (one for cell in cells for one in cell.seen):
+        found[one.task.start] = min(found.get(one.task.start, one), one, key=lambda sighting: sighting.error)
+    return found
+
+
+def smoothed(seen, surest):
+    """The offset at each sighting: its own where that is sure, else by those within half a second, and nearer to that of
+    the surest cell of its window, from which it differs by a shift of Doppler."""
     times, offsets = (np.array([getattr(one, key) for one in seen]) for key in ("seconds", "offset"))
     weights = 1 / np.maximum([one.error for one in seen], SURE)
     found = []
     for one, time in zip(seen, times):
         near = slice(*np.searchsorted(times, (time - BESIDE, time + BESIDE)))
-        if one.error <= SURE or near.stop - near.start < 2:
-            found.append(one.offset)
-        else:
+        offset, other = one.offset, surest[one.task.start]
+        if one.error > SURE and near.stop - near.start > 1:
             degree = int(near.stop - near.start >= LINE)
-            line = np.polyfit(times[near] - time, offsets[near], degree, w=weights[near])
-            found.append(float(line[-1]))
+            offset = float(np.polyfit(times[near] - time, offsets[near], degree, w=weights[near])[-1])
+        if one.error > SURE and other is not one:
+            share = one.error**2 / (one.error**2 + other.error**2 + DOPPLER**2)
+            offset += share * (other.offset - offset)
+        found.append(offset)
     return found
 
 
@@ -219,7 +231,7 @@ def surveyed(told, file):
         "spoiled": [round(task.start, 6) for task, one in zip(tasks, found) if one is None],
         "hint": hint,
         "offsets": [[round(tasks[i].start, 6), round(offset, 1)] for i, offset in points],
-        "cells": [as_object(cell, cells, file, told.gain or 0) for cell in cells],
+        "cells": [as_object(cell, cells, file, told.gain or 0, surest_of(cells)) for cell in cells],
     }
 
 
@@ -242,8 +254,8 @@ def why_none(ask, tasks):
     )
 
 
-def as_object(cell, cells, file, gain):
-    line, strongest, offsets = cell.line, cell.strongest, smoothed(cell.seen)
+def as_object(cell, cells, file, gain, surest):
+    line, strongest, offsets = cell.line, cell.strongest, smoothed(cell.seen, surest)
     offset = offsets[cell.seen.index(strongest)]
     return {
         "identity": line["identity"],

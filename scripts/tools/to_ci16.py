@@ -65,10 +65,10 @@ def numbers_of(rate, shift, start):
     """RATE above 0, SHIFT, and START not below 0."""
     try:
         numbers = [float(word) for word in (rate, shift, start)]
-    except ValueError as fault:
-        raise machine.Refused(str(fault)) from None
+    except ValueError:
+        numbers = [math.nan]
     if not all(map(math.isfinite, numbers)) or numbers[0] <= 0 or numbers[2] < 0:
-        raise machine.Refused(f"{rate}, {shift}, {start}: RATE is above 0, and START is not below")
+        raise machine.Refused(f"{rate}, {shift}, {start}: numbers are wanted, RATE above 0 and START not below")
     return numbers
 
 

@@ -88,7 +88,7 @@ def bytes_of(program, seconds):
 def faults_of(found, seconds):
     """What is not as it was put in."""
     put = {cell.identity: cell for cell in cells(seconds)}
-    identities = sorted(line["identity"] for line in found["cells"])
+    identities = sorted(line["identity"] for line in found["cells"] if not line["chance"])
     if identities != sorted(put):
         yield f"lines of {identities}"
     for line in found["cells"]:
