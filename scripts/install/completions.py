@@ -3,7 +3,7 @@ their options, what may stand behind these, and files.
 """
 import shlex
 
-import forms
+import command_forms
 
 MADE = "# Made by scripts/install/made.py --write: what it is made of is to be changed, not this file."
 
@@ -88,7 +88,9 @@ _arguments \\
 
 
 def numbers(template):
-    return "\n".join(template.format(letter=letter, pattern=pattern) for letter, pattern in forms.NUMBERS.items())
+    return "\n".join(
+        template.format(letter=letter, pattern=pattern) for letter, pattern in command_forms.NUMBERS.items()
+    )
 
 
 def program_text(template, number, program):

@@ -15,7 +15,7 @@ import machine
 
 machine.want("numpy", "scipy", "matplotlib")
 import completions
-import forms
+import command_forms
 import man_pages
 import tools
 
@@ -24,7 +24,7 @@ HERE = pathlib.Path(__file__).resolve().parent
 
 def made():
     """Each file that is made, and its text."""
-    programs, scripts = forms.programs(), tools.tools()
+    programs, scripts = command_forms.programs(), tools.tools()
     found = {HERE / "man" / name: text for name, text in man_pages.pages(programs, scripts).items()}
     return found | {HERE / "completion" / name: text for name, text in completions.texts(programs, scripts).items()}
 
@@ -47,11 +47,11 @@ def main():
         sys.exit("made.py: usage: made.py [--write]")
     try:
         files = made()
-    except forms.Unread as fault:
+    except command_forms.Unread as fault:
         raise machine.Refused(fault) from None
     if sys.argv[1:]:
         write(files)
-    found = [path.relative_to(forms.TOP) for path in faults(files)]
+    found = [path.relative_to(command_forms.TOP) for path in faults(files)]
     for path in found:
         print(f"{path}: another text than is made now: scripts/install/made.py --write")
     print(f"manual pages and completion: {len(files)} files, {len(found)} faults")

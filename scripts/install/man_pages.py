@@ -6,7 +6,7 @@ import time
 
 import roff
 import tools
-from forms import TOP, Unread, version
+from command_forms import TOP, Unread, version
 
 SAYS = {
     "lte_cli": "LTE cells in a recording, proved",

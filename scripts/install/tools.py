@@ -5,7 +5,7 @@ import sys
 from dataclasses import dataclass
 from unittest import mock
 
-from forms import TOP
+from command_forms import TOP
 
 SCRIPTS = {"lte_survey": "survey", "lte_picture": "picture"}
 

@@ -9,11 +9,12 @@ _lte_picture() {
         --shift) compopt +o default 2> /dev/null; return ;;
         --carrier) compopt +o default 2> /dev/null; return ;;
         --at) compopt +o default 2> /dev/null; return ;;
+        --channel) compopt +o default 2> /dev/null; return ;;
         -o) return ;;
         --offset) compopt +o default 2> /dev/null; return ;;
         --cells) compopt +o default 2> /dev/null; return ;;
         --title) compopt +o default 2> /dev/null; return ;;
-        *) if [[ $current == -* ]]; then choices='-h --help --form --rate --shift --carrier --at -o --tune --offset --cells --title'; else return; fi ;;
+        *) if [[ $current == -* ]]; then choices='-h --help --form --rate --shift --carrier --at --exchanged --channel -o --tune --offset --cells --title'; else return; fi ;;
     esac
     mapfile -t COMPREPLY < <(compgen -W "$choices" -- "$current")
 }

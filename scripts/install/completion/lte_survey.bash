@@ -9,11 +9,12 @@ _lte_survey() {
         --shift) compopt +o default 2> /dev/null; return ;;
         --carrier) compopt +o default 2> /dev/null; return ;;
         --at) compopt +o default 2> /dev/null; return ;;
+        --channel) compopt +o default 2> /dev/null; return ;;
         --every) compopt +o default 2> /dev/null; return ;;
         --offset) compopt +o default 2> /dev/null; return ;;
         --gain) compopt +o default 2> /dev/null; return ;;
         --jobs) compopt +o default 2> /dev/null; return ;;
-        *) if [[ $current == -* ]]; then choices='-h --help --form --rate --shift --carrier --at --every --offset --gain --jobs --csv --json'; else return; fi ;;
+        *) if [[ $current == -* ]]; then choices='-h --help --form --rate --shift --carrier --at --exchanged --channel --every --offset --gain --jobs --csv --json'; else return; fi ;;
     esac
     mapfile -t COMPREPLY < <(compgen -W "$choices" -- "$current")
 }
