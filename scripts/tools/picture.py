@@ -37,7 +37,7 @@ import picture_panels
 import picture_survey
 import picture_view
 import radio_file
-import survey
+import survey_table
 from picture_style import STYLE
 
 
@@ -93,7 +93,7 @@ def page_of_view(view, count):
 
 
 def page_of_survey(found, title):
-    rows = [survey.row_of(cell, found) for cell in found["cells"]]
+    rows = [survey_table.row_of(cell, found) for cell in found["cells"]]
     note = [f"<p>{picture_survey.CHANCE}."] * any(cell["chance"] for cell in found["cells"])
     figure, facts = picture_survey.survey_sheet(found, title), picture_survey.facts_line(found, title)
     name = title or f"Survey of {found['file']}"

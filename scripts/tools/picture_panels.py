@@ -13,7 +13,8 @@ from matplotlib.ticker import MaxNLocator
 
 import machine
 import radio
-import survey
+import sightings
+import survey_table
 from picture_style import COLOURS, LINES, WIDTH, carrier_text, headed, number_text
 from picture_view import BAND
 
@@ -21,7 +22,7 @@ sys.path.append(str(machine.TOP / "scripts/peers"))
 import second_cell
 import second_search as second
 
-RULES = {name: second.RULES[words] for name, (words, _) in survey.CARRIERS.items()}
+RULES = {name: second.RULES[words] for name, (words, _) in sightings.CARRIERS.items()}
 BINS = 48  # samples in a column of the metric
 LABELS = 16  # hits that are named
 LAST = 19_346  # the place behind the last one whose metric is compared
@@ -177,7 +178,7 @@ class Reading(NamedTuple):
 def reading_of(view, line):
     """By the frames that `evidence` tells, with the second program's values."""
     rule, its = RULES[line["rule"]], view.evidence(line)
-    identity, at, _ = survey.place_of(line)
+    identity, at, _ = sightings.place_of(line)
     frames, frame, phase = its["frames"], its["frame"], its["phase"]
     values = [second.broadcast_values(view.samples, identity, at, j, rule) for j in range(frame, frame + frames)]
     sequence = second.pseudo_random(identity, 1920)
@@ -277,7 +278,7 @@ def draw_nothing(ax, text):
 def draw_cell(figure, view, line):
     """A row of four panels."""
     reading, rule = reading_of(view, line), RULES[line["rule"]]
-    identity, at, _ = survey.place_of(line)
+    identity, at, _ = sightings.place_of(line)
     start = at + second.FRAME * reading.frame
     figure.suptitle(title_of(line), x=0.005, ha="left", fontsize=10, fontweight="bold")
     places = row_of(figure)
@@ -311,7 +312,7 @@ def title_of(line):
     sib1, text = line["sib1"], f"PCI {line['identity']}"
     if "none" in sib1:
         return f"{text}: no SIB1"
-    names = survey.networks(sib1)
+    names = survey_table.networks(sib1)
     more = f" and {len(names) - 3} more" if names[3:] else ""
     return f"{text}: PLMN {' '.join(names[:3])}{more}, TAC {sib1['tac']}, cell {sib1['cell']}"
 
@@ -331,14 +332,14 @@ def fields_of(view, line, reading):
         lines.append(f"no SIB1: {sib1['none']}")
     else:
         lines += [
-            *textwrap.wrap(f"PLMN {' '.join(survey.networks(sib1))}", FIELD, break_on_hyphens=False),
+            *textwrap.wrap(f"PLMN {' '.join(survey_table.networks(sib1))}", FIELD, break_on_hyphens=False),
             f"TAC {sib1['tac']}, cell {sib1['cell']}",
             f"eNodeB {sib1['cell'] >> 8}, its cell {sib1['cell'] & 255}",
             f"band {sib1['band']}, {'barred' if sib1['barred'] else 'not barred'}",
             f"q-RxLevMin {2 * sib1['q_rx']} dBm",
         ]
     lines += ["", f"cost {100 * reading.cost / (reading.total or 1):.1f} %, frames added: {reading.frames}"]
-    ratio = radio.ratio(its["power"], its["noise"], survey.CARRIERS[line["rule"]][1])
+    ratio = radio.ratio(its["power"], its["noise"], sightings.CARRIERS[line["rule"]][1])
     lines.append(f"level {number_text(view.level(line))} dBFS, S/N {number_text(ratio)} dB")
     lines.append(f"primary signal {its['peak'] / 10:.1f} %")
     return lines

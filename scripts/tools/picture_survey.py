@@ -8,7 +8,7 @@ import textwrap
 import numpy as np
 from matplotlib import pyplot
 
-import survey
+import survey_table
 from picture_style import COLOURS, MARKS, WIDTH, facts_of, headed, number_text
 
 ROW, TALL = 0.48, 0.9  # inches of a cell's row, of many cells and of few
@@ -150,7 +150,7 @@ def identity_lines(cell):
     if "none" in sib1:
         lines = [f"no SIB1: {sib1['none']}"]
     else:
-        names = survey.networks(sib1)
+        names = survey_table.networks(sib1)
         more = f" +{len(names) - 2}" if names[2:] else ""
         lines = [f"{' '.join(names[:2])}{more}, TAC {sib1['tac']}", f"{sib1['cell']}{number_of(cell)}"]
     return lines + ([f"echo {echo['delay']} us, {echo['level']} dB"] if echo else [])

@@ -11,7 +11,7 @@ import numpy as np
 import machine
 import radio
 import recorded
-import survey
+import sightings
 from picture_style import dbfs, facts_of
 
 PRIMARY = 832  # sample of a frame at which the primary signal begins, with either prefix, and half a frame later
@@ -21,7 +21,7 @@ BAND = 540_000  # hertz on either side that six resource blocks take
 
 def evidence_words(rule):
     """The words of `evidence` of a rule's list."""
-    return " ".join(("evidence", *survey.CARRIERS[rule][0], "--json"))
+    return " ".join(("evidence", *sightings.CARRIERS[rule][0], "--json"))
 
 
 class View(NamedTuple):
@@ -52,18 +52,18 @@ class View(NamedTuple):
         """The listed cells, each by the rule that tells most, what is sure and strong first."""
         found = {}
         for line in self.said["lte_cli search --all --json"]:
-            key = survey.place_of(line)
-            found[key] = max(found.get(key, line), line, key=survey.tells)
+            key = sightings.place_of(line)
+            found[key] = max(found.get(key, line), line, key=sightings.tells)
         return sorted(found.values(), key=lambda line: ("none" in line["sib1"], -(self.level(line) or -1e9)))
 
     def evidence(self, line):
         """The numbers of `evidence` about a line, of its rule's list."""
         every = self.said[f"lte_cli {evidence_words(line['rule'])}"]
-        return next(one for one in every if survey.place_of(one) == survey.place_of(line))
+        return next(one for one in every if sightings.place_of(one) == sightings.place_of(line))
 
     def level(self, line):
         its = self.evidence(line)
-        return radio.level(its["power"], its["noise"], self.full, survey.CARRIERS[line["rule"]][1])
+        return radio.level(its["power"], its["noise"], self.full, sightings.CARRIERS[line["rule"]][1])
 
     def cell_of(self, hit):
         """The listed cell, by whichever rule, whose primary signal stands at a hit's place, or None."""
@@ -71,7 +71,7 @@ class View(NamedTuple):
             line
             for line in self.cells
             if line["identity"] % 3 == hit["n2"]
-            and survey.distance(hit["t"], line["at"] + PRIMARY, HALF) <= survey.NEAR
+            and sightings.distance(hit["t"], line["at"] + PRIMARY, HALF) <= sightings.NEAR
         ]
         return max(there, key=lambda line: line["identity"] == hit["identity"], default=None)
 
@@ -124,7 +124,7 @@ class View(NamedTuple):
         """What lte_tune tells of what is drawn before an offset is taken off, and what was taken off."""
         if self.told is None:
             return ["lte_tune: no primary signal, no offset told"]
-        hertz = self.told["turn"] * survey.STEP
+        hertz = self.told["turn"] * sightings.STEP
         line = f"lte_tune: {hertz:+,.0f} Hz" if hertz else "lte_tune: 0 Hz"
         return [f"{line}; cells then: {self.told['cells']}" if self.told["cells"] else f"{line}: a guess, no cell then"]
 
@@ -136,7 +136,7 @@ class View(NamedTuple):
             return ["Noise only: level over frequency and time,", "and no symbol's end comes again as a prefix."]
         if not self.told:
             return ["No signal: the rate or the form of", "the numbers, noise, or no carrier."]
-        if self.told["cells"] and not self.offset and abs(self.told["turn"]) * survey.STEP > 500:
+        if self.told["cells"] and not self.offset and abs(self.told["turn"]) * sightings.STEP > 500:
             return ["The frequency offset hides the cell:", "--tune takes it off."]
         if self.hits:
             return ["Signal, but no master block: noise,", "or what docs/DEFINITION.md names."]
@@ -158,12 +158,12 @@ def view_of(told, file):
     said = {"lte_tune tell --json": tell}
     is_guess = False
     if told.tune and tell["told"] and tell["told"]["turn"]:
-        tuned = offset + tell["told"]["turn"] * survey.STEP
+        tuned = offset + tell["told"]["turn"] * sightings.STEP
         data_then, full_then = recording_of(file, start, seconds, tuned, seen)
         is_guess = not tell["told"]["cells"] and not answer_of("search --all --json", data_then)
         if not is_guess:
             data, full, offset = data_then, full_then, tuned
-    for words in ("ids --json", "search --all --json", *map(evidence_words, survey.CARRIERS)):
+    for words in ("ids --json", "search --all --json", *map(evidence_words, sightings.CARRIERS)):
         said[f"lte_cli {words}"] = answer_of(words, data)
     shift, time = shift_of(file, start), time_of(file, start)
     facts = facts_of(file.form, file.rate, file.carrier, shift)

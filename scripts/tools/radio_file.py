@@ -47,6 +47,7 @@ class RadioFile(NamedTuple):
     channels: int = 1
     channel: int = 0
     is_exchanged: bool = False  # whether Q comes before I
+    held: bytes | None = None  # its samples themselves, where they are in no file
 
     @property
     def seconds(self):
@@ -69,14 +70,21 @@ class RadioFile(NamedTuple):
     def samples(self, first, count):
         """Samples from a place on, where 1 is full scale."""
         form = FORMS[self.form]
-        width = 2 * np.dtype(form.numbers).itemsize * self.channels
-        parts = np.fromfile(self.path, form.numbers, 2 * self.channels * count, offset=self.begins + width * first)
+        parts = self.numbers(form.numbers, first, count)
         parts = parts[: len(parts) // (2 * self.channels) * 2 * self.channels].reshape(-1, self.channels, 2)
         parts = parts[:, self.channel]
         if self.form == "f32" and not np.all(is_number(parts)):
             raise Spoiled(f"{self.path}: no numbers of f32 near sample {first}")
         parts = (parts.astype(float) - form.middle) / form.full
         return parts[:, 1] + 1j * parts[:, 0] if self.is_exchanged else parts[:, 0] + 1j * parts[:, 1]
+
+    def numbers(self, kind, first, count):
+        """The components of so many samples of every channel, as they were written."""
+        width, count = np.dtype(kind).itemsize, 2 * self.channels * count
+        begins = self.begins + 2 * self.channels * width * first
+        if self.held is None:
+            return np.fromfile(self.path, kind, count, offset=begins)
+        return np.frombuffer(self.held, kind, min(count, (len(self.held) - begins) // width), offset=begins)
 
     def is_recording(self):
         """Whether a second of it is a recording as it is."""

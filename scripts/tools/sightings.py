@@ -11,6 +11,7 @@ import pilots
 import radio
 import radio_file
 
+WINDOW = 17 * radio.FRAME / radio.RATE  # seconds: what a list depends on
 CYCLE = 1024 * radio.FRAME  # samples until a frame number comes again
 NEAR = 9  # samples by which one cell's frames may differ in a list (docs/DEFINITION.md, rule 12)
 ECHO = 40  # samples by which a path of a cell may come later than its strongest one, or earlier

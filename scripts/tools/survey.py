@@ -28,23 +28,15 @@ import numpy as np
 
 import radio
 import radio_file
-from sightings import CARRIERS, NEAR, STEP, Task, distance, energy, place_of, sightings, tells, told_offset
-from survey_table import csv_of, networks, row_of, table_of
+from cells import joined, survey_object
+from sightings import WINDOW, Task, energy, sightings, told_offset
+from survey_table import csv_of, table_of
 from words import Words, number, positive
 
-__all__ = ["CARRIERS", "STEP", "main", "networks", "place_of", "row_of", "surveyed", "tells"]  # also for picture.py
 
-WINDOW = 17 * radio.FRAME / radio.RATE  # seconds: what a list depends on
-CLOCK = 100e-6  # by which a radio's clock may be off
 TELL_EVERY = 10  # seconds
 STEEP = 350  # hertz between two windows whose offset was told, above which one between them is told too
-SAME_OFFSET, DRIFT = 1_000, 200  # hertz, and hertz per second, by which the offset of one cell may change
-SURE, BESIDE, LINE = 15, 0.5, 4  # hertz of an error; seconds about a sighting, and sightings that tell a straight line
-DOPPLER = 60  # hertz by which the offset of one cell mostly differs from another's
-SAME_PATH = 1.1  # microseconds by which a path's delay may change
 TRIED = 4  # windows that are tried with I and Q exchanged
-DEAR = 0.07  # cost by total from which on chance explains a line that was seen once
-FEW = 1_000  # a total of values that are nearly all 0
 
 
 # ---- the offset along the file
@@ -81,125 +73,6 @@ def agreed(points):
     return kept + points[1:][-1:]
 
 
-# ---- cells over time
-
-
-class Cell:
-    """What was seen of one cell."""
-
-    def __init__(self, first):
-        self.seen = [first]
-
-    def is_same(self, new):
-        """Whether a later sighting is of it, as far as a radio's clock and offset allow."""
-        last = self.seen[-1]
-        gap = new.seconds - last.seconds
-        return (
-            last.line["identity"] == new.line["identity"]
-            and distance(last.epoch, new.epoch) <= NEAR + CLOCK * radio.RATE * gap
-            and abs(last.taken - new.taken) <= SAME_OFFSET + DRIFT * gap
-        )
-
-    @property
-    def windows(self):
-        return len({one.task.start for one in self.seen})
-
-    @property
-    def strongest(self):
-        return max(self.seen, key=lambda one: -1e9 if one.level is None else one.level)
-
-    @property
-    def line(self):
-        """The line that tells most; of those the one that comes most often."""
-        most = max(tells(one.line) for one in self.seen)
-        texts = [fixed_text(one.line) for one in self.seen if tells(one.line) == most]
-        return json.loads(max(texts, key=texts.count))
-
-    @property
-    def share(self):
-        """The least cost by total."""
-        return min(one.share for one in self.seen)
-
-    @property
-    def echoes(self):
-        """Other paths by their delays: microseconds, decibels by the strongest path, and windows."""
-        groups, last = [], None
-        for delay, level in sorted(echo for one in self.seen for echo in one.echoes):
-            if last is None or delay - last > SAME_PATH:
-                groups.append([])
-            groups[-1].append((delay, level))
-            last = delay
-        return [
-            {"delay": less(np.median(delays)), "level": less(np.median(levels)), "windows": len(delays)}
-            for delays, levels in (zip(*group) for group in groups)
-        ]
-
-    def is_chance(self, cells):
-        """Whether chance explains it: no SIB1 was read, and it was seen once at a cost, or at another's place."""
-        if "none" not in self.line["sib1"]:
-            return False
-        strongest = self.strongest
-        if self.windows == 1 and (self.share >= DEAR or strongest.total < FEW):
-            return True
-        return self.share >= DEAR and any(self.stands_at(other) for other in cells)
-
-    def stands_at(self, other):
-        """Whether another cell of this identity has frames that begin there, and costs less."""
-        return (
-            other is not self
-            and other.line["identity"] == self.line["identity"]
-            and other.share < self.share
-            and any(distance(a.epoch, b.epoch, radio.FRAME) <= NEAR for a in self.seen for b in other.seen)
-        )
-
-
-def surest_of(cells):
-    """By each window the sighting whose offset is surest."""
-    found = {}
-    for one in (one for cell in cells for one in cell.seen):
-        found[one.task.start] = min(found.get(one.task.start, one), one, key=lambda sighting: sighting.error)
-    return found
-
-
-def smoothed(seen, surest):
-    """The offset at each sighting: its own where that is sure, else by those within half a second, and nearer to that of
-    the surest cell of its window, from which it differs by a shift of Doppler."""
-    times, offsets = (np.array([getattr(one, key) for one in seen]) for key in ("seconds", "offset"))
-    weights = 1 / np.maximum([one.error for one in seen], SURE)
-    found = []
-    for one, time in zip(seen, times):
-        near = slice(*np.searchsorted(times, (time - BESIDE, time + BESIDE)))
-        offset, other = one.offset, surest[one.task.start]
-        if one.error > SURE and near.stop - near.start > 1:
-            degree = int(near.stop - near.start >= LINE)
-            offset = float(np.polyfit(times[near] - time, offsets[near], degree, w=weights[near])[-1])
-        if one.error > SURE and other is not one:
-            share = one.error**2 / (one.error**2 + other.error**2 + DOPPLER**2)
-            offset += share * (other.offset - offset)
-        found.append(offset)
-    return found
-
-
-def fixed_text(line):
-    """What stays of a line from window to window."""
-    return json.dumps({key: value for key, value in line.items() if key not in ("at", "sfn")}, sort_keys=True)
-
-
-def joined(found):
-    """The cells of all sightings, in the order of time; a sighting goes to the cell that was seen last."""
-    cells = []
-    for one in found:
-        for cell in reversed(cells):
-            if cell.is_same(one):
-                cells.remove(cell)
-                cells.append(cell)
-                cell.seen.append(one)
-                break
-        else:
-            cells.append(Cell(one))
-    return sorted(cells, key=lambda cell: (-cell.windows, cell.seen[0].seconds))
-
-
 # ---- what is written
 
 
@@ -214,25 +87,9 @@ def surveyed(told, file):
         found = ask("cells", sightings, tasks)
         cells = joined(sum((one for one in found if one), []))
         hint = why_none(ask, tasks) if all(cell.is_chance(cells) for cell in cells) else None
-    return {
-        "file": str(told.file),
-        "datetime": file.time_at(file.stretches[0].first / file.rate) if file.stretches else None,
-        "form": file.form,
-        "exchanged": file.is_exchanged,
-        "rate": file.rate,
-        "rate_error": round(file.rate_error, 3),
-        "shift": file.shift,
-        "carrier": file.carrier or None,
-        "unit": "dBFS" if told.gain is None else "dBm",
-        "seconds": round(file.seconds, 6),
-        "window": round(WINDOW, 6),
-        "every": round(told.every, 6),
-        "windows": len(tasks),
-        "spoiled": [round(task.start, 6) for task, one in zip(tasks, found) if one is None],
-        "hint": hint,
-        "offsets": [[round(tasks[i].start, 6), round(offset, 1)] for i, offset in points],
-        "cells": [as_object(cell, cells, file, told.gain or 0, surest_of(cells)) for cell in cells],
-    }
+    spoiled = [round(task.start, 6) for task, one in zip(tasks, found) if one is None]
+    told_at = [[round(tasks[i].start, 6), round(offset, 1)] for i, offset in points]
+    return survey_object(told, file, len(tasks), spoiled, hint, told_at, cells)
 
 
 def why_none(ask, tasks):
@@ -252,47 +109,6 @@ def why_none(ask, tasks):
         f"no sure cell: tried {file.form} at {file.rate:,} samples per second, {file.shift:+,.0f} Hz beside the centre, "
         "offsets up to 60 kHz, I and Q both ways; --form, --rate, --shift and --offset say another"
     )
-
-
-def as_object(cell, cells, file, gain, surest):
-    line, strongest, offsets = cell.line, cell.strongest, smoothed(cell.seen, surest)
-    offset = offsets[cell.seen.index(strongest)]
-    return {
-        "identity": line["identity"],
-        "rule": line["rule"],
-        "rules": sorted({rule for one in cell.seen for rule in one.rules}),
-        "first": round(cell.seen[0].seconds, 4),
-        "last": round(cell.seen[-1].seconds, 4),
-        "datetime": file.time_at(cell.seen[0].seconds),
-        "windows": cell.windows,
-        **{key: line[key] for key in ("ports", "bandwidth", "duration", "resource", "br", "spare", "sib1")},
-        "level": less(strongest.level, gain),
-        "ratio": less(strongest.ratio),
-        "offset": less(offset),
-        "ppm": less(1e6 * offset / file.carrier, digits=3) if file.carrier else None,
-        "echoes": cell.echoes,
-        "share": less(cell.share, digits=4),
-        "chance": cell.is_chance(cells),
-        "seen": [
-            {
-                "seconds": round(one.seconds, 4),
-                "at": round(one.seconds * file.rate),
-                "sfn": one.line["sfn"],
-                "level": less(one.level, gain),
-                "ratio": less(one.ratio),
-                "offset": less(offset),
-                "error": less(one.error),
-                "echoes": [[less(delay), less(level)] for delay, level in one.echoes],
-                "cost": one.cost,
-                "total": one.total,
-            }
-            for one, offset in zip(cell.seen, offsets)
-        ],
-    }
-
-
-def less(number, gain=0, digits=1):
-    return None if number is None else round(float(number) - gain, digits)
 
 
 def asking(pool):

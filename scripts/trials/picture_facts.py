@@ -130,7 +130,7 @@ def try_names():
         hit(7_000 + 9_600, 370, 6_168),
         hit(9_000, 412, 8_168),
     ]
-    said = {f"lte_cli {picture_view.evidence_words(rule)}": [] for rule in picture_view.survey.CARRIERS}
+    said = {f"lte_cli {picture_view.evidence_words(rule)}": [] for rule in picture_view.sightings.CARRIERS}
     said |= {"lte_cli evidence --prefix long --json": [support]}
     said |= {"lte_cli ids --json": hits, "lte_cli search --all --json": [line]}
     view = picture_view.View("", "", None, 0, 0, 0, False, None, 32_768, said)
@@ -140,7 +140,7 @@ def try_names():
 def try_summary(path, draw):
     """What is said of a cell that is looked for within the file, and partly beside it."""
     seen = looked_at(path, noise(240_000, 0.1, draw), "s16", 2_400_000)
-    said = {f"lte_cli {picture_view.evidence_words(rule)}": [] for rule in picture_view.survey.CARRIERS}
+    said = {f"lte_cli {picture_view.evidence_words(rule)}": [] for rule in picture_view.sightings.CARRIERS}
     said |= {"lte_cli ids --json": [], "lte_cli search --all --json": [], "lte_tune tell --json": {"told": None}}
     for carrier, wanted in ((0, False), (650_000, False), (-670_000, True), (2_400_000, True)):
         view = picture_view.View("", "", seen, 0, carrier, 0, False, None, 32_768, said)
