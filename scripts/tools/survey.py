@@ -18,6 +18,7 @@ import machine  # first, so that Ctrl-C is a word from here on
 
 machine.want("numpy", "scipy")
 import argparse
+import contextlib
 import json
 import multiprocessing
 import os
@@ -26,8 +27,10 @@ import sys
 
 import numpy as np
 
-import radio
+import live
+import places
 import radio_file
+import scan
 from cells import joined, survey_object
 from sightings import WINDOW, Task, energy, sightings, told_offset
 from survey_table import csv_of, table_of
@@ -79,8 +82,7 @@ def agreed(points):
 def surveyed(told, file):
     """The survey as an object of JSON."""
     tasks = [Task(file, *window) for window in file.starts(told.at, WINDOW, told.every)]
-    with multiprocessing.Pool(told.jobs, signal.signal, (signal.SIGINT, signal.SIG_IGN)) as pool:
-        ask = asking(pool)
+    with asking(told.jobs) as ask:
         points = [(0, told.offset)] if told.offset is not None else offsets_along(ask, tasks)
         offsets = np.interp(range(len(tasks)), *zip(*points)) if points else np.zeros(len(tasks))
         tasks = [task._replace(offset=float(offset)) for task, offset in zip(tasks, offsets)]
@@ -111,8 +113,9 @@ def why_none(ask, tasks):
     )
 
 
-def asking(pool):
-    """A function over many windows, with a bar on standard error where that is a terminal."""
+@contextlib.contextmanager
+def asking(jobs):
+    """A function over many windows by so many processes, with a bar on standard error where that is a terminal."""
 
     def ask(name, function, tasks):
         found = []
@@ -124,31 +127,58 @@ def asking(pool):
                 print(bar, end="\r" + " " * len(bar) + "\r" if len(found) == len(tasks) else "", file=sys.stderr)
         return found
 
-    return ask
+    with multiprocessing.Pool(jobs, signal.signal, (signal.SIGINT, signal.SIG_IGN)) as pool:
+        yield ask
 
 
 def arguments():
     parser = Words(description=__doc__, formatter_class=argparse.RawDescriptionHelpFormatter)
     radio_file.add_arguments(parser)
-    parser.add_argument("--every", type=positive, default=WINDOW, help="seconds from one window to the next (0.17)")
+    parser.add_argument("--every", type=positive, help="seconds from one window to the next (0.17, of --scan 10)")
     parser.add_argument("--offset", type=number, help="hertz to take off at first, in place of what lte_tune tells")
     parser.add_argument("--gain", type=number, help="dBFS of a signal of 0 dBm at the antenna: levels are in dBm then")
     parser.add_argument("--jobs", type=int, default=os.cpu_count(), help="processes (one a processor)")
+    scan.add_arguments(parser)
+    live.add_arguments(parser)
+    places.add_arguments(parser)
     form = parser.add_mutually_exclusive_group()
     form.add_argument("--csv", action="store_true", help="the table for other programs, with the file's name")
     form.add_argument("--json", action="store_true", help="all that is known of each cell and window (docs/FORMATS.md)")
-    return parser.parse_args()
+    told = parser.parse_args()
+    if told.at < 0 or told.jobs < 1:
+        raise machine.Refused("--jobs is above 0, and --at is not below")
+    told.every = told.every or (scan.EVERY if told.scan else WINDOW)
+    scan.with_earfcn(told)
+    live.check(told)
+    places.check(told)
+    return told
+
+
+def survey_of(told):
+    """The survey that words ask for, and the file that it is of."""
+    file = live.opened(told) if live.is_meant(told) else radio_file.opened(told)
+    file.check_holds(file.shift + (told.offset or 0), f"an offset of {told.offset or 0:,.0f} Hz")
+    file = places.begun(file, told.start)
+    way = places.way_of(told, file)
+    for name in ("lte_cli", "lte_tune"):
+        machine.program(name)
+    if live.is_meant(told):
+        return live.survey(told, file)
+    if told.scan:
+        with asking(told.jobs) as ask:
+            survey = scan.scanned(told, file, ask)
+    else:
+        survey = surveyed(told, file)
+    if way:
+        places.add_places(survey, file, way)
+    if told.geojson:
+        places.write(told.geojson, survey, file)
+    return survey
 
 
 def main():
     told = arguments()
-    if told.at < 0 or told.jobs < 1:
-        raise machine.Refused("--jobs is above 0, and --at is not below")
-    file = radio_file.opened(told)
-    file.check_holds(file.shift + (told.offset or 0), f"an offset of {told.offset or 0:,.0f} Hz")
-    for name in ("lte_cli", "lte_tune"):
-        machine.program(name)
-    survey = surveyed(told, file)
+    survey = survey_of(told)
     if told.json:
         print(json.dumps(survey, sort_keys=True, separators=(",", ":")))
     elif told.csv:

@@ -19,6 +19,8 @@ def row_of(cell, survey):
     sib1 = cell["sib1"]
     text = {key: "-" if cell[key] is None else str(cell[key]) for key in ("level", "ratio", "offset", "ppm")}
     return {
+        "EARFCN": earfcn_text(cell),
+        "MHz": megahertz(cell),
         "PCI": str(cell["identity"]),
         "rule": cell["rule"],
         "first s": f"{cell['first']:.2f}",
@@ -40,6 +42,19 @@ def row_of(cell, survey):
         "": "?" if cell["chance"] else "",
         "no SIB1": sib1.get("none", ""),
     }
+
+
+def earfcn_text(cell):
+    """The number of a scanned cell's carrier in the band that its SIB1 tells, else in each that has it."""
+    every = {band: str(number) for band, number in cell.get("earfcns", [])}
+    return every.get(cell["sib1"].get("band")) or " ".join(f"{number}/b{band}" for band, number in every.items()) or "-"
+
+
+def megahertz(cell):
+    """Where a scanned cell stands, by the file's centre where that is not known."""
+    if "shift" not in cell:
+        return "-"
+    return f"{cell['shift'] / 1e6:+.1f}" if cell["frequency"] is None else f"{cell['frequency'] / 1e6:.1f}"
 
 
 def greatest(echoes):
@@ -82,7 +97,27 @@ def head_of(survey):
         parts.append(f"{len(survey['spoiled'])} of them left out, where samples are no numbers")
     if survey["rate_error"]:
         parts.append(f"read at {1 + survey['rate_error'] / 1e6:.9f} of its rate")
+    if "live" in survey:
+        parts.append(live_text(survey["live"]))
+    if "scan" in survey:
+        return ", ".join([*parts, scan_text(survey["scan"])])
     return ", ".join([*parts, offset_text(survey["offsets"])])
+
+
+def live_text(live):
+    """What was not looked at, and how late the rest was."""
+    texts = [
+        f"{live['skipped']} more skipped",
+        f"{live['forgotten']} lines forgotten",
+        f"up to {live['behind']} s behind",
+    ]
+    return ", ".join(text for text in texts if not text.startswith("0 "))
+
+
+def scan_text(scan):
+    first, last = (f"{scan[key] / 1e6:,.1f}" for key in ("first", "last"))
+    beside = "" if scan["last"] > 1e8 else " beside the centre"
+    return f"{scan['count']} frequencies from {first} to {last} MHz{beside}"
 
 
 def offset_text(points):
@@ -95,7 +130,7 @@ def offset_text(points):
 
 
 COLUMNS = """file identity rule first last windows of ports bandwidth duration resource plmn tac cell band level unit
-             ratio offset ppm share chance echo echo_level enodeb sector sfn no_sib1 datetime""".split()
+             ratio offset ppm share chance echo echo_level enodeb sector sfn no_sib1 datetime frequency earfcn""".split()
 
 
 def csv_of(survey):
@@ -115,6 +150,8 @@ def csv_of(survey):
             **({"enodeb": sib1["cell"] >> 8, "sector": sib1["cell"] & 255} if sib1["cell"] is not None else {}),
             "sfn": cell["seen"][0]["sfn"],
             "no_sib1": cell["sib1"].get("none"),
+            "frequency": cell.get("frequency", survey["carrier"]),
+            "earfcn": " ".join(str(earfcn) for _, earfcn in cell.get("earfcns", [])),
         }
         writer.writerow({**cell, **sib1, **shared, **texts})
     return out.getvalue()
