@@ -168,7 +168,7 @@ def survey_object(told, file, windows, spoiled, hint, offsets, cells):
         "spoiled": spoiled,
         "hint": hint,
         "offsets": offsets,
-        "cells": [as_object(cell, cells, file, told.gain or 0) for cell in cells],
+        "cells": [as_object(cell, cells, file, told.gain or 0, surest_of(cells)) for cell in cells],
     }
 
 

@@ -31,7 +31,8 @@ mkdir "$copy"
 trap 'rm -rf "$copy"' EXIT
 cp "$cli" "$copy/lte_cli"
 cp "$tune" "$copy/lte_tune"
-cp "$tools"/{survey,survey_table,sightings,pilots,machine,words,radio,radio_file,sigmf,forms,to_ci16}.py "$copy"
+cp "$tools"/{survey,cells,live,places,scan,stream,track,bands}.py "$copy"
+cp "$tools"/{survey_table,sightings,pilots,machine,words,radio,radio_file,sigmf,forms,to_ci16}.py "$copy"
 mapfile -t carried < <(printf -- '--basefile\n%s\n' "$copy"/*)
 parallel --will-cite --keep-order --sshlogin "$MACHINES" "${carried[@]}" --transferfile {} --cleanup \
     "LTE_CLI=$copy/lte_cli LTE_TUNE=$copy/lte_tune $copy/survey.py {} --csv --jobs 1 ${SURVEY:-}" ::: "$@" | one_head

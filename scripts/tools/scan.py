@@ -23,6 +23,7 @@ from to_ci16 import ratio_of
 EVERY = 10  # seconds from one window to the next where --every does not say it
 SAME = 2_000  # hertz by which one cell may seem to stand elsewhere, by the raster's other frequency
 HELD = 8  # bytes of a sample that is held
+TOGETHER = 8  # frequencies that one process takes from a transform
 
 
 def add_arguments(parser):
@@ -127,10 +128,15 @@ def scanned(told, file, ask):
     stretches = tuple(one for one in file.stretches if one.shift == file.shift)
     shifts = raster(file)
     starts = file._replace(stretches=stretches).starts(told.at, WINDOW, told.every)
-    found = ask("scan", heard, [Look(file, *start, shifts, told.offset) for start in starts])
-    whole = [one for one in found if one is not None]
-    by_shift = {shift: joined(sum((one[i] for one in whole), [])) for i, shift in enumerate(shifts)}
-    spoiled = [round(start, 6) for (start, _), one in zip(starts, found) if one is None]
+    parts = [shifts[i : i + TOGETHER] for i in range(0, len(shifts), TOGETHER)]
+    looks = [Look(file, *start, part, told.offset) for start in starts for part in parts]
+    found = list(zip(looks, ask("scan", heard, looks)))
+    spoiled = [round(start, 6) for start in dict.fromkeys(look.start for look, one in found if one is None)]
+    by_shift = {shift: [] for shift in shifts}
+    for look, one in found:
+        for shift, seen in zip(look.shifts, one or []):
+            by_shift[shift] += seen
+    by_shift = {shift: joined(seen) for shift, seen in by_shift.items()}
     survey = survey_object(told, file, len(starts), spoiled, None, [], [])
     survey["cells"] = [as_object(told, file, shift, cell, by_shift) for shift, cell in nearest(by_shift)]
     survey["scan"] = scan_object(file, shifts)
@@ -142,7 +148,8 @@ def scanned(told, file, ask):
 def scan_object(file, shifts):
     """Which frequencies were looked at, in hertz, or how far above the centre they stand where it is not known."""
     centre = centre_of(file)
-    return {"first": centre + shifts[0], "last": centre + shifts[-1], "count": len(shifts)}
+    first, last = (radio_file.whole(centre + shift) for shift in (shifts[0], shifts[-1]))
+    return {"first": first, "last": last, "count": len(shifts)}
 
 
 def nearest(by_shift):
@@ -173,10 +180,10 @@ def offset_of(cell):
 def as_object(told, file, shift, cell, by_shift):
     """A cell as the survey has it, and where it stands."""
     centre = centre_of(file)
-    here = file._replace(carrier=centre + shift if centre else 0)
+    here = file._replace(carrier=radio_file.whole(centre + shift) if centre else 0)
     (found,) = survey_object(told, here, 1, [], None, [], [cell])["cells"]
     found["chance"] = cell.is_chance(by_shift[shift])
-    found["shift"] = shift
+    found["shift"] = radio_file.whole(shift)
     found["frequency"] = here.carrier or None
     found["earfcns"] = [list(pair) for pair in bands.earfcns_of(here.carrier)] if centre else []
     return found

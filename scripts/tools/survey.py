@@ -1,5 +1,8 @@
 #!/usr/bin/python3
 """survey.py FILE [--form u8|s8|s16|f32|sigmf] [--rate R] [--shift HZ] [--at S] [--every S] [--csv | --json]
+survey.py FILE --track TRACK [--start TIME] --geojson OUT
+survey.py FILE --scan [--carrier CENTRE]
+rtl_sdr -f 796e6 -s 1.92e6 - | survey.py - --form u8 --rate 1.92e6 --follow
 
 One table of the cells in a radio's file of any length: identity, when it was first and last seen and in how many
 windows, master block, SIB1, the greatest level and its signal to noise, and the frequency offset. `?` marks what chance
@@ -11,6 +14,9 @@ file, and of more where it drifts; between them it is a straight line. `lte_cli 
 each list with a cell, tell of each window, one process a processor; by the pilots that `evidence` writes (pilots.py)
 the rest of the offset is taken off, and each cell has its own. Lines are one cell where identity, frame numbers and
 offset fit, and one with an echo where they come within 40 samples. Where no cell is sure, I and Q are tried exchanged.
+
+With --track each window gets the place of its time: the file's time is SigMF's, else --start. --scan looks at each
+carrier of the 100 kHz raster in the file. Standard input (-) is looked at as it comes, until it ends or a signal comes.
 
 Debian: python3-numpy, python3-scipy. Needs lte_cli and lte_tune (README, "Build").
 """

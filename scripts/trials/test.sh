@@ -100,6 +100,8 @@ head -c 400000 /dev/zero | cat - sent.ci16 > long
 '100000 cell 217 at 14200 sfn 101 ports 1 n6 phich normal two br 0 spare 5
 150000 cell 217 at 2600 sfn 103 ports 1 n6 phich normal two br 0 spare 5'
 
+"$here/tracks.py" | says 'track.py reads GPX, NMEA and CSV, and refuses others' 'tracks: 0 faults'
+
 head -c 384000 sent.ci16 > five
 "$tools/add_recordings.py" sent.ci16 five 3 | head -c 12 | cmp - <(head -c 12 sent.ci16) > same
 says 'add_recordings.py adds the second later' '' < same
@@ -116,6 +118,39 @@ if [ "$has_scipy" ] && [ -x "$tuner" ]; then
     for file in empty.cu8 short.ci16 list.txt; do
         "$tools/survey.py" "$file" 2>&1 | sed '/cut within/d; s/^[^:]*: [^:]*: //; s/,.*//'
     done | says 'survey.py refuses a file in a line' $'empty\n0.0130 s from second 0 on\na text'
+    printf 'time,lat,lon\n2026-05-01T07:30:00Z,52,13\n2026-05-01T07:30:10Z,51,14\n' > way.csv
+    walk=(sent.ci16 --offset 0 --every 0.03 --track way.csv --geojson cells.geojson --start)
+    "$tools/survey.py" "${walk[@]}" 2026-05-01T09:29:59.95+02:00 2> words > table
+    /usr/bin/python3 -c 'import json
+for one in json.load(open("cells.geojson"))["features"]:
+    named, place = one["properties"], one["geometry"]["coordinates"]
+    print(named["kind"], named["identity"], named["plmn"], *(f"{degrees:.3f}" for degrees in place))' |
+        says 'survey.py: places of the windows that a track has' $'cell 217 001-01 13.002 51.998
+window 217 001-01 13.002 51.998'
+    grep -c 'no places before and after\|^survey.py: 2 of 3 windows' words | says 'survey.py says what has no place' 2
+    for start in 2026-05-01T07:29:59.8Z 2026-05-01T07:30:10.1Z; do
+        "$tools/survey.py" "${walk[@]}" "$start" 2>&1 | sed 's/.*: //'
+    done | says 'survey.py refuses a track of another time' $'no place for any of it\nno place for any of it'
+    cat drive.cu8 /dev/null | "$tools/survey.py" - --form u8 --rate 2.4e6 --every 0.03 --wait --follow |
+        awk '$3 == "PCI" && $4 == 217 && /001-01 TAC 1/ && /behind/ { lines++ } $1 == 217 { print lines, $5 }' |
+        says 'survey.py tells a pipe as it comes' '3 3/3'
+    mkfifo pipe
+    "$tools/survey.py" - --form u8 --rate 2.4e6 --follow < pipe > heard 2>&1 &
+    exec 5> pipe
+    cat drive.cu8 drive.cu8 >&5
+    for ((i = 0; i < 600; i++)); do
+        if grep -q behind heard; then break; fi
+        sleep 0.1
+    done
+    kill -INT $!
+    wait $!
+    echo "$? $(awk '$1 == 217 { print $5 }' heard)" | says 'survey.py tells what was heard at a signal' '0 1/1'
+    exec 5>&-
+    "$here/as_radio.py" u8 2400000 302050 < sent.ci16 > wide.cu8
+    "$tools/survey.py" wide.cu8 --rate 2.4e6 --carrier 2140e6 --scan | awk '$3 == 217 { print $1, $2, int($18 / 100) }' |
+        says 'survey.py --scan: the carrier by its number and frequency' '303 2140.3 20'
+    "$tools/survey.py" wide.cu8 --rate 2.4e6 --shift 0 --earfcn 303 --csv | awk -F, '$2 == 217 { print $1 }' |
+        says 'survey.py: no cell 300 kHz beside' ''
     if /usr/bin/python3 -c 'import matplotlib' 2> /dev/null; then
         "$tools/picture.py" drive.cu8 --rate 2.4e6 --tune -o drive.svg
         head -c 5 drive.svg | says 'picture.py draws it' '<?xml'
