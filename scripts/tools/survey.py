@@ -161,15 +161,15 @@ def arguments():
 
 
 def survey_of(told):
-    """The survey that words ask for, and the file that it is of."""
+    """The survey that words ask for."""
     file = live.opened(told) if live.is_meant(told) else radio_file.opened(told)
     file.check_holds(file.shift + (told.offset or 0), f"an offset of {told.offset or 0:,.0f} Hz")
-    file = places.begun(file, told.start)
-    way = places.way_of(told, file)
     for name in ("lte_cli", "lte_tune"):
         machine.program(name)
     if live.is_meant(told):
         return live.survey(told, file)
+    file = places.begun(file, told.start)
+    way = places.way_of(told, file)
     if told.scan:
         with asking(told.jobs) as ask:
             survey = scan.scanned(told, file, ask)
