@@ -14,7 +14,11 @@ _lte_survey() {
         --offset) compopt +o default 2> /dev/null; return ;;
         --gain) compopt +o default 2> /dev/null; return ;;
         --jobs) compopt +o default 2> /dev/null; return ;;
-        *) if [[ $current == -* ]]; then choices='-h --help --form --rate --shift --carrier --at --exchanged --channel --every --offset --gain --jobs --csv --json'; else return; fi ;;
+        --earfcn) compopt +o default 2> /dev/null; return ;;
+        --track) return ;;
+        --start) compopt +o default 2> /dev/null; return ;;
+        --geojson) return ;;
+        *) if [[ $current == -* ]]; then choices='-h --help --form --rate --shift --carrier --at --exchanged --channel --every --offset --gain --jobs --scan --earfcn --follow --wait --track --start --geojson --csv --json'; else return; fi ;;
     esac
     mapfile -t COMPREPLY < <(compgen -W "$choices" -- "$current")
 }
