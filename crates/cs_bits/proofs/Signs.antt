@@ -14,14 +14,14 @@ disagreement-le (negsuc n) true = omega arith
 -- a value that speaks for one bit, and not against another, speaks of the same
 pub speaks_for_one : (z : ℤ) (a b : Bool) → SpeaksFor z b → Allows z a → a ≡ b
 speaks_for_one z false false s h = refl
-speaks_for_one z false true s h = let d = s.dear in absurd (omega (arith, d, h))
-speaks_for_one z true false s h = let d = s.dear in absurd (omega (arith, d, h))
+speaks_for_one z false true s h = let d = s.costs in absurd (omega (arith, d, h))
+speaks_for_one z true false s h = let d = s.costs in absurd (omega (arith, d, h))
 speaks_for_one z true true s h = refl
 
 -- it is not 0
 pub speaks_with_size : (z : ℤ) (b : Bool) → SpeaksFor z b → 1 ≤ nat_abs z
-speaks_with_size (pos n) false s = let d = s.dear in omega (arith, d)
-speaks_with_size (pos n) true s = let d = s.dear in omega (arith, d)
+speaks_with_size (pos n) false s = let d = s.costs in omega (arith, d)
+speaks_with_size (pos n) true s = let d = s.costs in omega (arith, d)
 speaks_with_size (negsuc n) b s = omega arith
 
 -- a value supports a bit with size 0 where it does not speak against it, and with size 1 where it speaks for it
@@ -38,15 +38,15 @@ allows-supports true (pos n) h = omega (arith, ints, h)
 allows-supports true (negsuc n) h = omega (arith, ints)
 
 pub supports-speaks : (b : Bool) (z : ℤ) → Supports 1 b z → SpeaksFor z b
-supports-speaks false (pos n) h = record { free = refl; dear = omega (arith, ints) }
+supports-speaks false (pos n) h = record { free = refl; costs = omega (arith, ints) }
 supports-speaks false (negsuc n) h = absurd (omega (arith, ints))
 supports-speaks true (pos n) h = absurd (omega (arith, ints))
-supports-speaks true (negsuc n) h = record { free = refl; dear = omega arith }
+supports-speaks true (negsuc n) h = record { free = refl; costs = omega arith }
 
 pub speaks-supports : (b : Bool) (z : ℤ) → SpeaksFor z b → Supports 1 b z
-speaks-supports false (pos n) s = let d = s.dear in omega (arith, ints, d)
+speaks-supports false (pos n) s = let d = s.costs in omega (arith, ints, d)
 speaks-supports false (negsuc n) s = let f = s.free in absurd (omega (arith, f))
-speaks-supports true (pos n) s = let d = s.dear in absurd (omega (arith, d))
+speaks-supports true (pos n) s = let d = s.costs in absurd (omega (arith, d))
 speaks-supports true (negsuc n) s = omega (arith, ints)
 
 -- with some size, so with a smaller one

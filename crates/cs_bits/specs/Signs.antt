@@ -15,7 +15,7 @@ Allows z b = disagreement z b ≡ 0
 -- the value speaks for the bit: it does not speak against it, and is not 0
 pub record SpeaksFor (z : ℤ) (b : Bool) : Type 0 where
   pub free : Allows z b
-  pub dear : 0 < disagreement z (not b)
+  pub costs : 0 < disagreement z (not b)
 
 -- the value does not speak against the bit, and has at least this size
 abbrev pub Supports : ℕ → Bool → ℤ → Type 0

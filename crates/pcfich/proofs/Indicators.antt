@@ -59,7 +59,7 @@ sent_free values sent speak =
 other_dear : (values : List ℤ) (sent other : ℕ) → 1 ≤ sent → sent ≤ 3 → 1 ≤ other → other ≤ 3 → (sent ≡ other → ⊥) → Speak values sent → 0 < cost values other
 unfolding cost
 other_dear values sent other a b c d differ speak =
-    let dear = (speak (sent - 1) (omega arith)).dear in
+    let dear = (speak (sent - 1) (omega arith)).costs in
     let own : nat_eq ((sent - 1) % 3) (sent - 1) ≡ true = grind (arith, nat_tests) in
     let others : nat_eq ((sent - 1) % 3) (other - 1) ≡ false = grind (arith, nat_tests, differ) in
     let dear' = rw own at dear in
