@@ -14,7 +14,7 @@ use Rattle.grid_map.specs.declared.Place.{Place}
 use Rattle.grid_map.specs.declared.Reg.{Reg}
 use Rattle.grid_map.specs.Place.{place, places_of}
 use Rattle.grid_map.specs.Group.{group, is_group, same_group, is_kept, group_places}
-use Rattle.grid_map.specs.Control.{is_in, pcfich_groups, pcfich_places, phich_groups, is_in_region, pdcch_groups}
+use Rattle.grid_map.specs.Control.{is_group_in, pcfich_groups, pcfich_places, phich_groups, is_in_region, pdcch_groups}
 use Rattle.grid_map.specs.Candidate.{group_of_quadruplet, quadruplet_group, candidate_places}
 use Rattle.grid_map.specs.Shared.{is_synchronisation, is_in_blocks, is_pilot_of, is_shared_of, shared_places_of, shared_place_of}
 use Rattle.grid_map.proofs.Spans.{four_places, places_inside, places_apart}
@@ -75,7 +75,7 @@ has_four identity g n is l = Contains-get_or (group_places identity g) n (place 
 -- a place is of a group of the PCFICH
 record IsOfIndicator (identity : ℕ) (p : Place) : Type 0 where
   g : Reg
-  among : is_in (pcfich_groups identity) g ≡ true
+  among : is_group_in (pcfich_groups identity) g ≡ true
   is : is_group g ≡ true
   first : g.symbol ≡ 0
   has : Contains (group_places identity g) p
@@ -84,7 +84,7 @@ length-groups : (identity : ℕ) → length (pcfich_groups identity) ≡ 4
 unfolding pcfich_groups
 length-groups identity = refl
 
-among_groups : (groups : List Reg) (n : ℕ) → n < length groups → is_in groups (get_or groups n (group 0 0)) ≡ true
+among_groups : (groups : List Reg) (n : ℕ) → n < length groups → is_group_in groups (get_or groups n (group 0 0)) ≡ true
 among_groups groups n l = list_any_at (same_group (get_or groups n (group 0 0))) groups n (group 0 0) l (same_group-refl (get_or groups n (group 0 0)))
 
 of_indicator : (identity i : ℕ) → i < 16 → IsOfIndicator identity (get_or (pcfich_places identity) i (place 0 0))
@@ -114,7 +114,7 @@ module _ (identity cfi : ℕ) (duration : Duration) (resource : Resource) (low :
   -- a place is of a group of the PDCCH
   record IsOfControl (p : Place) : Type 0 where
     g : Reg
-    among : is_in groups g ≡ true
+    among : is_group_in groups g ≡ true
     inside : is_in_region cfi g ≡ true
     has : Contains (group_places identity g) p
 
@@ -147,10 +147,10 @@ module _ (identity cfi : ℕ) (duration : Duration) (resource : Resource) (low :
       of_group identity cfi of.g _ high group.is group.symbol of.has
 
   -- the groups of the PDCCH are none of the PCFICH
-  not_of_indicator : (g : Reg) → is_in groups g ≡ true → is_in (pcfich_groups identity) g ≡ true → ⊥
+  not_of_indicator : (g : Reg) → is_group_in groups g ≡ true → is_group_in (pcfich_groups identity) g ≡ true → ⊥
   not_of_indicator g of taken =
-      let parts = and_parts _ (not (is_in (phich_groups identity duration resource) g)) (sym (pdcch_found identity cfi duration resource g) ∙ of) in
-      let free = and_parts (is_in_region cfi g) (not (is_in (pcfich_groups identity) g)) parts.0 in
+      let parts = and_parts _ (not (is_group_in (phich_groups identity duration resource) g)) (sym (pdcch_found identity cfi duration resource g) ∙ of) in
+      let free = and_parts (is_in_region cfi g) (not (is_group_in (pcfich_groups identity) g)) parts.0 in
       false≢true (ap not (sym taken) ∙ free.1)
 
   -- no place of the candidate is one of the PCFICH
@@ -160,7 +160,7 @@ module _ (identity cfi : ℕ) (duration : Duration) (resource : Resource) (low :
       let second = of_control j m in
       let group = of_region second.g second.inside in
       let one : first.g ≡ second.g = places_apart identity first.g second.g _ first.is group.is first.has (subst (Contains (group_places identity second.g)) (sym same) second.has) in
-      not_of_indicator second.g second.among (subst (λ g. is_in (pcfich_groups identity) g ≡ true) one first.among)
+      not_of_indicator second.g second.among (subst (λ g. is_group_in (pcfich_groups identity) g ≡ true) one first.among)
 
 -- ---- the PDSCH
 

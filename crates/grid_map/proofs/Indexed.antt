@@ -16,7 +16,7 @@ use Rattle.grid_map.specs.declared.Reg.{Reg}
 use Rattle.grid_map.specs.Place.{place, same_place}
 use Rattle.grid_map.specs.Broadcast.{pbch_places, pbch_place}
 use Rattle.grid_map.specs.Group.{group, is_group, group_places}
-use Rattle.grid_map.specs.Control.{pcfich_group, pcfich_groups, pcfich_places, pdcch_groups, number_of, quadruplet_at, is_in_region, group_count, element_count}
+use Rattle.grid_map.specs.Control.{pcfich_group, pcfich_groups, pcfich_places, pdcch_groups, group_number, quadruplet_at, is_in_region, group_count, element_count}
 use Rattle.grid_map.specs.Candidate.{group_of_quadruplet, quadruplet_group, candidate_places}
 use Rattle.grid_map.specs.Shared.{shared_places_of, shared_place_of}
 use Rattle.grid_map.specs.Laws.{IsIndexed, CarryCandidate}
@@ -178,9 +178,9 @@ pdcch_carry identity cfi duration resource low high = record {
 
     cases : (i j : ℕ) → i < length groups → j < length groups → get_or groups i (group 0 0) ≡ get_or groups j (group 0 0) → (i < j) ⊎ (j ≤ i) → (j < i) ⊎ (i ≤ j) → i ≡ j
     cases i j l m same (inl r) s =
-        absurd (let rise = pdcch_in_order identity cfi duration resource i j r m in let level = ap number_of same in omega (arith, rise, level))
+        absurd (let rise = pdcch_in_order identity cfi duration resource i j r m in let level = ap group_number same in omega (arith, rise, level))
     cases i j l m same (inr r) (inl s) =
-        absurd (let rise = pdcch_in_order identity cfi duration resource j i s l in let level = ap number_of same in omega (arith, rise, level))
+        absurd (let rise = pdcch_in_order identity cfi duration resource j i s l in let level = ap group_number same in omega (arith, rise, level))
     cases i j l m same (inr r) (inr s) = omega (arith, r, s)
 
 -- ---- the PDSCH

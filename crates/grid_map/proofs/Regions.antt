@@ -21,8 +21,8 @@ use Rattle.std.proofs.lemmas.Option.{slice_get-get_or}
 use Rattle.grid_map.specs.declared.Reg.{Reg}
 use Rattle.grid_map.specs.Place.{skipping}
 use Rattle.grid_map.specs.Group.{is_group, group, same_group, symbol_groups}
-use Rattle.grid_map.specs.Control.{pcfich_group, is_in, without, pcfich_groups, left_groups, left_count, phich_count, phich_symbol, phich_number, phich_group_in, phich_group, phich_groups}
-use Rattle.grid_map.specs.Control.{numbered, number_of, is_in_region, region_groups, pdcch_groups, phich_inside, group_count}
+use Rattle.grid_map.specs.Control.{pcfich_group, is_group_in, without, pcfich_groups, left_groups, left_count, phich_count, phich_symbol, phich_number, phich_group_in, phich_group, phich_groups}
+use Rattle.grid_map.specs.Control.{numbered, group_number, is_in_region, region_groups, pdcch_groups, phich_inside, group_count}
 use Rattle.grid_map.specs.Order.{AreInOrder}
 use Rattle.grid_map.proofs.Members.{members_by}
 use Rattle.grid_map.proofs.Kept.{any-filter, length-filter_within}
@@ -200,7 +200,7 @@ pdcch_count identity cfi duration resource low high =
 
 -- ---- the order of the region, and its members
 
-numbered_in_order : AllPairs (λ (g h : Reg). number_of g < number_of h) (values_below 288 numbered)
+numbered_in_order : AllPairs (λ (g h : Reg). group_number g < group_number h) (values_below 288 numbered)
 numbered_in_order = λ i j d l m.
     let count = values_below-length 288 numbered in
     let first = values_below_at numbered 288 i d (omega (arith, count)) in
@@ -209,44 +209,44 @@ numbered_in_order = λ i j d l m.
 
 pub pdcch_in_order : (identity cfi : ℕ) (duration : Duration) (resource : Resource) (i j : ℕ) → i < j →
     j < length (pdcch_groups identity cfi duration resource) →
-    number_of (get_or (pdcch_groups identity cfi duration resource) i (group 0 0)) < number_of (get_or (pdcch_groups identity cfi duration resource) j (group 0 0))
+    group_number (get_or (pdcch_groups identity cfi duration resource) i (group 0 0)) < group_number (get_or (pdcch_groups identity cfi duration resource) j (group 0 0))
 unfolding pdcch_groups region_groups
 pdcch_in_order identity cfi duration resource i j l m =
-    AllPairs-filter (λ (g h : Reg). number_of g < number_of h) (λ g. not (is_in (phich_groups identity duration resource) g)) _
-    (AllPairs-filter (λ (g h : Reg). number_of g < number_of h) (λ g. not (is_in (pcfich_groups identity) g)) _
-    (AllPairs-filter (λ (g h : Reg). number_of g < number_of h) (is_in_region cfi) (values_below 288 numbered) numbered_in_order)) i j (group 0 0) l m
+    AllPairs-filter (λ (g h : Reg). group_number g < group_number h) (λ g. not (is_group_in (phich_groups identity duration resource) g)) _
+    (AllPairs-filter (λ (g h : Reg). group_number g < group_number h) (λ g. not (is_group_in (pcfich_groups identity) g)) _
+    (AllPairs-filter (λ (g h : Reg). group_number g < group_number h) (is_in_region cfi) (values_below 288 numbered) numbered_in_order)) i j (group 0 0) l m
 
 -- each group of the region has a number
-numbers_found : (cfi : ℕ) (g : Reg) → (is_in (values_below 288 numbered) g && is_in_region cfi g) ≡ is_in_region cfi g
+numbers_found : (cfi : ℕ) (g : Reg) → (is_group_in (values_below 288 numbered) g && is_in_region cfi g) ≡ is_in_region cfi g
 numbers_found cfi g = cases (is_in_region cfi g) refl
   where
-    there : is_in_region cfi g ≡ true → is_in (values_below 288 numbered) g ≡ true
+    there : is_in_region cfi g ≡ true → is_group_in (values_below 288 numbered) g ≡ true
     there e =
-        let small : number_of g < 288 = grind (arith, nat_tests) in
-        let here : get_or (values_below 288 numbered) (number_of g) g ≡ numbered (number_of g) = values_below_at numbered 288 (number_of g) g small in
-        let back : numbered (number_of g) ≡ g = ap₂ group (grind (arith, nat_tests)) (grind (arith, nat_tests)) in
-        list_any_at (same_group g) (values_below 288 numbered) (number_of g) g (omega (arith, values_below-length 288 numbered, small))
+        let small : group_number g < 288 = grind (arith, nat_tests) in
+        let here : get_or (values_below 288 numbered) (group_number g) g ≡ numbered (group_number g) = values_below_at numbered 288 (group_number g) g small in
+        let back : numbered (group_number g) ≡ g = ap₂ group (grind (arith, nat_tests)) (grind (arith, nat_tests)) in
+        list_any_at (same_group g) (values_below 288 numbered) (group_number g) g (omega (arith, values_below-length 288 numbered, small))
         (ap (same_group g) (here ∙ back) ∙ same_group-refl g)
 
-    cases : (b : Bool) → is_in_region cfi g ≡ b → (is_in (values_below 288 numbered) g && is_in_region cfi g) ≡ is_in_region cfi g
+    cases : (b : Bool) → is_in_region cfi g ≡ b → (is_group_in (values_below 288 numbered) g && is_in_region cfi g) ≡ is_in_region cfi g
     cases true e = rw (e, there e) refl
     cases false e = rw e (and-false _)
 
 pub pdcch_found : (identity cfi : ℕ) (duration : Duration) (resource : Resource) (g : Reg) →
-    is_in (pdcch_groups identity cfi duration resource) g
-    ≡ (is_in_region cfi g && not (is_in (pcfich_groups identity) g) && not (is_in (phich_groups identity duration resource) g))
+    is_group_in (pdcch_groups identity cfi duration resource) g
+    ≡ (is_in_region cfi g && not (is_group_in (pcfich_groups identity) g) && not (is_group_in (phich_groups identity duration resource) g))
 unfolding pdcch_groups region_groups
 pdcch_found identity cfi duration resource g =
-    any-filter same_group same_group-true (λ h. not (is_in (phich_groups identity duration resource) h)) g _
-    ∙ ap (λ (b : Bool). b && not (is_in (phich_groups identity duration resource) g))
-    (any-filter same_group same_group-true (λ h. not (is_in (pcfich_groups identity) h)) g _
-    ∙ ap (λ (b : Bool). b && not (is_in (pcfich_groups identity) g))
+    any-filter same_group same_group-true (λ h. not (is_group_in (phich_groups identity duration resource) h)) g _
+    ∙ ap (λ (b : Bool). b && not (is_group_in (phich_groups identity duration resource) g))
+    (any-filter same_group same_group-true (λ h. not (is_group_in (pcfich_groups identity) h)) g _
+    ∙ ap (λ (b : Bool). b && not (is_group_in (pcfich_groups identity) g))
     (any-filter same_group same_group-true (is_in_region cfi) g (values_below 288 numbered) ∙ numbers_found cfi g))
 
 pub groups_in_order : (identity cfi : ℕ) (duration : Duration) (resource : Resource) → 1 ≤ cfi → cfi ≤ 3 →
-    AreInOrder number_of (pdcch_groups identity cfi duration resource) (group_count cfi duration resource)
+    AreInOrder group_number (pdcch_groups identity cfi duration resource) (group_count cfi duration resource)
     (λ i. get_or (pdcch_groups identity cfi duration resource) i (group 0 0))
-    (λ g. is_in_region cfi g && not (is_in (pcfich_groups identity) g) && not (is_in (phich_groups identity duration resource) g))
+    (λ g. is_in_region cfi g && not (is_group_in (pcfich_groups identity) g) && not (is_group_in (phich_groups identity duration resource) g))
 groups_in_order identity cfi duration resource low high =
     let count = pdcch_count identity cfi duration resource low high in
     record {
@@ -263,14 +263,14 @@ unfoldable pub kept_below : List Reg → List Reg → ℕ → ℕ → List Reg
 kept_below pcfich phich cfi n = without phich (without pcfich (filter (is_in_region cfi) (values_below n numbered)))
 
 abbrev pub stays : List Reg → List Reg → ℕ → Reg → Bool
-stays pcfich phich cfi g = is_in_region cfi g && not (is_in pcfich g) && not (is_in phich g)
+stays pcfich phich cfi g = is_in_region cfi g && not (is_group_in pcfich g) && not (is_group_in phich g)
 
 one_more : (pcfich phich : List Reg) (cfi : ℕ) (g : Reg) →
     without phich (without pcfich (filter (is_in_region cfi) (g ∷ []))) ≡ cond (stays pcfich phich cfi g) (g ∷ []) []
-one_more pcfich phich cfi g = cases (is_in_region cfi g) (is_in pcfich g) (is_in phich g) refl refl refl
+one_more pcfich phich cfi g = cases (is_in_region cfi g) (is_group_in pcfich g) (is_group_in phich g) refl refl refl
   where
-    cases : (a b c : Bool) → is_in_region cfi g ≡ a → is_in pcfich g ≡ b → is_in phich g ≡ c →
-        without phich (without pcfich (filter (is_in_region cfi) (g ∷ []))) ≡ cond (is_in_region cfi g && not (is_in pcfich g) && not (is_in phich g)) (g ∷ []) []
+    cases : (a b c : Bool) → is_in_region cfi g ≡ a → is_group_in pcfich g ≡ b → is_group_in phich g ≡ c →
+        without phich (without pcfich (filter (is_in_region cfi) (g ∷ []))) ≡ cond (is_in_region cfi g && not (is_group_in pcfich g) && not (is_group_in phich g)) (g ∷ []) []
     cases false b c d e f = rw d refl
     cases true true c d e f = simp (d, e)
     cases true false true d e f = simp (d, e, f)
@@ -287,8 +287,8 @@ kept_more pcfich phich cfi n =
     let region : List Reg → List Reg = filter (is_in_region cfi) in
     ap (λ gs. without phich (without pcfich (region gs))) (values_below_more n numbered)
     ∙ ap (λ gs. without phich (without pcfich gs)) (filter-append (is_in_region cfi) (values_below n numbered) (numbered n ∷ []))
-    ∙ ap (without phich) (filter-append (λ g. not (is_in pcfich g)) (region (values_below n numbered)) (region (numbered n ∷ [])))
-    ∙ filter-append (λ g. not (is_in phich g)) (without pcfich (region (values_below n numbered))) (without pcfich (region (numbered n ∷ [])))
+    ∙ ap (without phich) (filter-append (λ g. not (is_group_in pcfich g)) (region (values_below n numbered)) (region (numbered n ∷ [])))
+    ∙ filter-append (λ g. not (is_group_in phich g)) (without pcfich (region (values_below n numbered))) (without pcfich (region (numbered n ∷ [])))
     ∙ ap (λ gs. without phich (without pcfich (region (values_below n numbered))) ++ gs) (one_more pcfich phich cfi (numbered n))
 
 pub kept_yes : (pcfich phich : List Reg) (cfi n : ℕ) → stays pcfich phich cfi (numbered n) ≡ true →
@@ -311,8 +311,8 @@ pub kept_few : (pcfich phich : List Reg) (cfi n : ℕ) → cfi ≤ 3 → n ≤ 2
 unfolding kept_below region_test
 kept_few pcfich phich cfi n l m =
     let here = leb-true _ _ (every_below_at 289 (region_test cfi) (every_below_at 4 (λ cfi. every_below 289 (region_test cfi)) regions_checked cfi (omega arith)) n (omega arith)) in
-    let first = length-filter_within (λ g. not (is_in pcfich g)) (filter (is_in_region cfi) (values_below n numbered)) in
-    let second = length-filter_within (λ g. not (is_in phich g)) (without pcfich (filter (is_in_region cfi) (values_below n numbered))) in
+    let first = length-filter_within (λ g. not (is_group_in pcfich g)) (filter (is_in_region cfi) (values_below n numbered)) in
+    let second = length-filter_within (λ g. not (is_group_in phich g)) (without pcfich (filter (is_in_region cfi) (values_below n numbered))) in
     omega (arith, here, first, second)
 
 pub kept_all : (identity cfi : ℕ) (duration : Duration) (resource : Resource) →
@@ -344,6 +344,6 @@ pub pdcch_inside : (identity cfi : ℕ) (duration : Duration) (resource : Resour
     All (λ (g : Reg). is_in_region cfi g ≡ true) (pdcch_groups identity cfi duration resource)
 unfolding pdcch_groups region_groups
 pdcch_inside identity cfi duration resource =
-    All-filter (λ g. not (is_in (phich_groups identity duration resource) g)) (λ (g : Reg). is_in_region cfi g ≡ true) _
-    (All-filter (λ g. not (is_in (pcfich_groups identity) g)) (λ (g : Reg). is_in_region cfi g ≡ true) _
+    All-filter (λ g. not (is_group_in (phich_groups identity duration resource) g)) (λ (g : Reg). is_in_region cfi g ≡ true) _
+    (All-filter (λ g. not (is_group_in (pcfich_groups identity) g)) (λ (g : Reg). is_in_region cfi g ≡ true) _
     (filter_passes (is_in_region cfi) (values_below 288 numbered)))

@@ -13,12 +13,12 @@ use Rattle.grid_map.specs.declared.Place.{Place}
 use Rattle.grid_map.specs.Group.{group, is_group, same_group, symbol_groups, group_places}
 
 -- a group is one of the list
-abbrev pub is_in : List Reg → Reg → Bool
-is_in groups g = list_any (same_group g) groups
+abbrev pub is_group_in : List Reg → Reg → Bool
+is_group_in groups g = list_any (same_group g) groups
 
 -- the groups of a list that are not taken
 abbrev pub without : List Reg → List Reg → List Reg
-without taken groups = filter (λ g. not (is_in taken g)) groups
+without taken groups = filter (λ g. not (is_group_in taken g)) groups
 
 -- group i of the PCFICH
 abbrev pub pcfich_group : ℕ → ℕ → Reg
@@ -74,8 +74,8 @@ phich_groups identity duration resource =
 abbrev pub numbered : ℕ → Reg
 numbered n = group (n % 4) (n / 4)
 
-abbrev pub number_of : Reg → ℕ
-number_of g = 4 * g.first + g.symbol
+abbrev pub group_number : Reg → ℕ
+group_number g = 4 * g.first + g.symbol
 
 -- a group is in the control region, which has cfi + 1 symbols
 abbrev pub is_in_region : ℕ → Reg → Bool

@@ -8,8 +8,8 @@ ghost use Rattle.grid_map.specs.declared.Reg.{Reg};
 ghost use Rattle.grid_map.specs.declared.Place.{Place};
 ghost use Rattle.grid_map.specs.Place.{place, skipping};
 ghost use Rattle.grid_map.specs.Group.{group, is_group};
-ghost use Rattle.grid_map.specs.Control.{is_in, pcfich_group, pcfich_groups, pcfich_places, left_groups, phich_count, phich_symbol, phich_group, phich_group_in, phich_groups};
-ghost use Rattle.grid_map.specs.Control.{is_in_region, number_of, numbered, pdcch_groups, group_count, element_count};
+ghost use Rattle.grid_map.specs.Control.{is_group_in, pcfich_group, pcfich_groups, pcfich_places, left_groups, phich_count, phich_symbol, phich_group, phich_group_in, phich_groups};
+ghost use Rattle.grid_map.specs.Control.{is_in_region, group_number, numbered, pdcch_groups, group_count, element_count};
 ghost use Rattle.grid_map.specs.Order.{AreInOrder};
 
 use crate::{Place, Reg, reg_places, skipping};
@@ -178,7 +178,7 @@ fn numbered_reg(n: u16) -> Reg
 
 // The group is one of the region and taken neither by the PCFICH nor by the PHICH.
 fn is_left(reg: Reg, last: u8, pcfich: &[Reg], phich: &[Reg]) -> bool
-    ensures { result ≡ (is_in_region last reg && not (is_in pcfich.now reg) && not (is_in phich.now reg)) }
+    ensures { result ≡ (is_in_region last reg && not (is_group_in pcfich.now reg) && not (is_group_in phich.now reg)) }
 {
     is_inside(reg, last) && !pcfich.contains(&reg) && !phich.contains(&reg)
 }
@@ -214,10 +214,10 @@ pub fn control_groups()
         pcfich_group identity i ≡ pcfich_group identity j → i ≡ j }
 
     ensures order { (identity cfi : ℕ) (duration : Duration) (resource : Resource) → 1 ≤ cfi → cfi ≤ 3 →
-        AreInOrder number_of (pdcch_groups identity cfi duration resource) (group_count cfi duration resource)
+        AreInOrder group_number (pdcch_groups identity cfi duration resource) (group_count cfi duration resource)
         (λ i. slice_index_or (pdcch_groups identity cfi duration resource) i (group 0 0))
-        (λ g. is_in_region cfi g && not (is_in (pcfich_groups identity) g)
-        && not (is_in (phich_groups identity duration resource) g)) }
+        (λ g. is_in_region cfi g && not (is_group_in (pcfich_groups identity) g)
+        && not (is_group_in (phich_groups identity duration resource) g)) }
 
     ensures two_elements { (duration : Duration) (resource : Resource) → element_count 1 duration resource ≡ 2 }
     ensures four_elements { (cfi : ℕ) (duration : Duration) (resource : Resource) → 2 ≤ cfi → cfi ≤ 3 →
