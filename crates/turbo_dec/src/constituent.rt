@@ -12,7 +12,7 @@ const FAR: u32 = 0x1000_0000;
 
 /// What a decoder reads of a word: of each bit its value, that of its parity bit, and its prior.
 #[derive(Clone, Copy)]
-struct Received<'a> {
+struct Streams<'a> {
     systematic: &'a [i32],
     parity: &'a [i32],
     prior: &'a [i32],
@@ -25,15 +25,15 @@ struct Received<'a> {
 }
 
 /// What the step at index k reads.
-fn soft_at(received: &Received, k: usize) -> Soft
-    requires index { k < length received.now.systematic.now }
-    ensures sum { result.sum ≡ at received.now.systematic.now k +ℤ at received.now.prior.now k }
-    ensures parity { result.parity ≡ at received.now.parity.now k }
+fn soft_at(streams: &Streams, k: usize) -> Soft
+    requires index { k < length streams.now.systematic.now }
+    ensures sum { result.sum ≡ at streams.now.systematic.now k +ℤ at streams.now.prior.now k }
+    ensures parity { result.parity ≡ at streams.now.parity.now k }
 {
-    let sum = received.systematic[k] + received.prior[k];
+    let sum = streams.systematic[k] + streams.prior[k];
     Soft {
         sum,
-        parity: received.parity[k],
+        parity: streams.parity[k],
     }
 }
 
@@ -46,15 +46,15 @@ fn start_row() -> [u32; 8]
 }
 
 /// Writes the rows of least costs to each state, before the first step and after each.
-fn forward(received: &Received, rows: &mut [[u32; 8]])
-    requires room { length received.now.systematic.now < length rows.old }
-    ensures { HasRows (values_of received.now.systematic.now received.now.parity.now [] received.now.prior.now)
-        rows.new (length received.now.systematic.now) }
+fn forward(streams: &Streams, rows: &mut [[u32; 8]])
+    requires room { length streams.now.systematic.now < length rows.old }
+    ensures { HasRows (values_of streams.now.systematic.now streams.now.parity.now [] streams.now.prior.now)
+        rows.new (length streams.now.systematic.now) }
 {
     let mut row = start_row();
     rows[0] = row;
-    for k in 0..received.systematic.len() {
-        row = forward_row(&soft_at(received, k), &row);
+    for k in 0..streams.systematic.len() {
+        row = forward_row(&soft_at(streams, k), &row);
         rows[k + 1] = row;
     }
 }
@@ -70,18 +70,18 @@ fn extrinsic_of(zeros: u32, ones: u32, soft: &Soft) -> i32
 }
 
 /// Writes the extrinsic values, from the rows of the forward pass.
-fn backward(received: &Received, tail: &[i32; 6], rows: &[[u32; 8]], out: &mut [i32])
-    requires outs { length out.old ≡ length received.now.systematic.now }
+fn backward(streams: &Streams, tail: &[i32; 6], rows: &[[u32; 8]], out: &mut [i32])
+    requires outs { length out.old ≡ length streams.now.systematic.now }
     requires small_tail { All IsSmall tail.now }
-    requires room { length received.now.systematic.now < length rows.now }
-    requires rows { HasRows (values_of received.now.systematic.now received.now.parity.now [] received.now.prior.now)
-        rows.now (length received.now.systematic.now) }
-    ensures { out.new ≡ extrinsics (values_of received.now.systematic.now
-        received.now.parity.now tail.now received.now.prior.now) }
+    requires room { length streams.now.systematic.now < length rows.now }
+    requires rows { HasRows (values_of streams.now.systematic.now streams.now.parity.now [] streams.now.prior.now)
+        rows.now (length streams.now.systematic.now) }
+    ensures { out.new ≡ extrinsics (values_of streams.now.systematic.now
+        streams.now.parity.now tail.now streams.now.prior.now) }
 {
     let mut row = tail_row(tail);
-    for k in (0..received.systematic.len()).rev() {
-        let soft = soft_at(received, k);
+    for k in (0..streams.systematic.len()).rev() {
+        let soft = soft_at(streams, k);
         let zeros = least_through(&soft, &rows[k], &row, false);
         let ones = least_through(&soft, &rows[k], &row, true);
         out[k] = extrinsic_of(zeros, ones, &soft);
@@ -114,11 +114,11 @@ pub fn half(
     requires small_prior { All IsSmall prior.now }
     ensures { out.new ≡ extrinsics (values_of systematic.now parity.now tail.now prior.now) }
 {
-    let received = Received {
+    let streams = Streams {
         systematic,
         parity,
         prior,
     };
-    forward(&received, &mut work.rows);
-    backward(&received, tail, &work.rows, out);
+    forward(&streams, &mut work.rows);
+    backward(&streams, tail, &work.rows, out);
 }

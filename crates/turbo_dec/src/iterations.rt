@@ -139,7 +139,12 @@ fn extrinsics_of(
 }
 
 /// The extrinsic values of the first decoder.
-fn first_of(sums: &[[i32; 1028]; 3], row: &Row, prior: &BitValues, work: &mut Work) -> BitValues
+fn first_extrinsics_of(
+    sums: &[[i32; 1028]; 3],
+    row: &Row,
+    prior: &BitValues,
+    work: &mut Work,
+) -> BitValues
     requires row { IsRow row.now }
     requires small { All (All IsSmall) sums.now }
     requires small_prior { All IsSmall prior.now }
@@ -157,7 +162,12 @@ fn first_of(sums: &[[i32; 1028]; 3], row: &Row, prior: &BitValues, work: &mut Wo
 }
 
 /// The extrinsic values of the second decoder in the order of the word, by what the first hands on.
-fn second_of(sums: &[[i32; 1028]; 3], row: &Row, handed: &BitValues, work: &mut Work) -> BitValues
+fn second_extrinsics_of(
+    sums: &[[i32; 1028]; 3],
+    row: &Row,
+    handed: &BitValues,
+    work: &mut Work,
+) -> BitValues
     requires row { IsRow row.now }
     requires small { All (All IsSmall) sums.now }
     requires small_handed { All IsSmall handed.now }
@@ -210,7 +220,7 @@ fn is_one(value: &i32, first: &i32, second: &i32) -> bool
 }
 
 /// The word that an iteration tells.
-fn told_of(systematic: &[i32], first: &[i32], second: &[i32]) -> [bool; 1024]
+fn bits_told(systematic: &[i32], first: &[i32], second: &[i32]) -> [bool; 1024]
     requires count { length systematic.now ≤ 1024 }
     requires firsts { length first.now ≡ length systematic.now }
     requires seconds { length second.now ≡ length systematic.now }
@@ -244,10 +254,10 @@ fn iterate(
         ≡ map handed_on (second_after row.now sums.now (take row.now.k prior.old)) }
     ensures small { All IsSmall prior.new }
 {
-    let first = first_of(sums, row, prior, work);
-    let second = second_of(sums, row, &hand_on(&first), work);
+    let first = first_extrinsics_of(sums, row, prior, work);
+    let second = second_extrinsics_of(sums, row, &hand_on(&first), work);
     *prior = hand_on(&second);
-    told_of(
+    bits_told(
         stream_of(&sums[0], row),
         front_of(&first, row),
         front_of(&second, row),

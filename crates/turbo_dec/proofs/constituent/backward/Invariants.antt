@@ -3,4 +3,4 @@ use Rattle.turbo_dec.proofs.Back.{IsBackTo}
 use Rattle.turbo_dec.proofs.constituent.backward.Given as goal
 
 abbrev pub invariant-loop-k : goal.invariant-loop-k
-invariant-loop-k l = IsBackTo (values_of l.received.systematic.now l.received.parity.now l.tail l.received.prior.now) l.row l.out l.k
+invariant-loop-k l = IsBackTo (values_of l.streams.systematic.now l.streams.parity.now l.tail l.streams.prior.now) l.row l.out l.k

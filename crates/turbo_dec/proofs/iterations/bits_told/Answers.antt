@@ -1,6 +1,6 @@
 use Rattle.std.proofs.Common.{arith, false}
 use Rattle.finite.proofs.Lists.{front_is}
-use Rattle.turbo_dec.proofs.iterations.told_of.Goals as goal
+use Rattle.turbo_dec.proofs.iterations.bits_told.Goals as goal
 
 pub returns-clause-word : goal.returns-clause-word
 returns-clause-word c =

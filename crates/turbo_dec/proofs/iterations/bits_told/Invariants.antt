@@ -1,6 +1,6 @@
 use Rattle.std.proofs.Common.{◌≡◌, ℕ, ◌<◌, get_or, length, false}
 use Rattle.turbo_dec.specs.Block.{told_by}
-use Rattle.turbo_dec.proofs.iterations.told_of.Given as goal
+use Rattle.turbo_dec.proofs.iterations.bits_told.Given as goal
 
 abbrev pub invariant-loop-k : goal.invariant-loop-k
 invariant-loop-k l = record {

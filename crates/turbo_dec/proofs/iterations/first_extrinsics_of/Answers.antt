@@ -2,7 +2,7 @@ use Rattle.std.proofs.Common.{arith}
 use Rattle.turbo_code.proofs.TableFacts.{is_small}
 use Rattle.turbo_dec.proofs.Small.{small_tail}
 use Rattle.turbo_dec.proofs.Iterating.{first_is}
-use Rattle.turbo_dec.proofs.iterations.first_of.Goals as goal
+use Rattle.turbo_dec.proofs.iterations.first_extrinsics_of.Goals as goal
 
 pub tail_of-requires : goal.tail_of-requires
 tail_of-requires c = let high = (is_small c.args.row.now c.requires.row).high in omega (arith, high)
