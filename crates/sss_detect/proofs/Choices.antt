@@ -5,7 +5,7 @@ use Rattle.std.proofs.lemmas.Int.{ints}
 use Rattle.finite.proofs.Integers.{lt-le, lt-not_le}
 use Rattle.lte_types.specs.declared.frame.Half.{Half}
 use Rattle.lte_types.specs.declared.frame.Half.TheVariants.{Zero, Five}
-use Rattle.sss_detect.specs.declared.choose.Candidate.{Candidate}
+use Rattle.sss_detect.specs.declared.choose.GroupScore.{GroupScore}
 use Rattle.sss_detect.specs.Identity.{IsBefore, IsBest, first_greatest, best_group, best_pair}
 use Rattle.sss_detect.specs.Laws.{BestPairIsBest, OnlyOneIsBest}
 
@@ -70,18 +70,18 @@ unfolding first_greatest
 first_greatest_more f zero l = absurd (omega arith)
 first_greatest_more f (suc n) l = let e : suc n - 1 ≡ n = omega arith in rw e refl
 
--- ---- candidates of a half, one after the other
+-- ---- groups of a half, one after the other
 
--- the candidate is the first of the greatest of f 0 to f n
-pub record IsBestSoFar (f : ℕ → ℤ) (n : ℕ) (candidate : Candidate) : Type 0 where
-  pub group : candidate.n1 ≡ first_greatest f n
-  pub score : candidate.score ≡ f candidate.n1
+-- the group is the first of the greatest of f 0 to f n
+pub record IsBestSoFar (f : ℕ → ℤ) (n : ℕ) (best : GroupScore) : Type 0 where
+  pub group : best.n1 ≡ first_greatest f n
+  pub score : best.score ≡ f best.n1
 
-pub best_of_one : (f : ℕ → ℤ) (candidate : Candidate) → candidate.n1 ≡ 0 → candidate.score ≡ f 0 → IsBestSoFar f 0 candidate
+pub best_of_one : (f : ℕ → ℤ) (best : GroupScore) → best.n1 ≡ 0 → best.score ≡ f 0 → IsBestSoFar f 0 best
 unfolding first_greatest
-best_of_one f candidate e g = record { group = e; score = g ∙ ap f (sym e) }
+best_of_one f best e g = record { group = e; score = g ∙ ap f (sym e) }
 
-pub better_of_two : (f : ℕ → ℤ) (n : ℕ) (first second chosen : Candidate) → 0 < n → IsBestSoFar f (n - 1) first → second.n1 ≡ n → second.score ≡ f n →
+pub better_of_two : (f : ℕ → ℤ) (n : ℕ) (first second chosen : GroupScore) → 0 < n → IsBestSoFar f (n - 1) first → second.n1 ≡ n → second.score ≡ f n →
     chosen ≡ (if int_lt first.score second.score then second else first) → IsBestSoFar f n chosen
 better_of_two f n first second chosen l p e g h = settle (int_lt first.score second.score) refl h
   where
@@ -93,12 +93,12 @@ better_of_two f n first second chosen l p e g h = settle (int_lt first.score sec
     settle : (b : Bool) → int_lt first.score second.score ≡ b → chosen ≡ (if b then second else first) → IsBestSoFar f n chosen
     settle true t c =
         let last : first_greatest f n ≡ n = first_greatest_more f n l ∙ rw (test_same ∙ t) refl in
-        let group : chosen.n1 ≡ n = ap (λ (x : Candidate). x.n1) c ∙ e in
-        record { group = group ∙ sym last; score = ap (λ (x : Candidate). x.score) c ∙ g ∙ ap f (sym group) }
+        let group : chosen.n1 ≡ n = ap (λ (x : GroupScore). x.n1) c ∙ e in
+        record { group = group ∙ sym last; score = ap (λ (x : GroupScore). x.score) c ∙ g ∙ ap f (sym group) }
     settle false t c =
         let kept : first_greatest f n ≡ first_greatest f (n - 1) = first_greatest_more f n l ∙ rw (test_same ∙ t) refl in
-        let group : chosen.n1 ≡ first.n1 = ap (λ (x : Candidate). x.n1) c in
-        record { group = group ∙ p.group ∙ sym kept; score = ap (λ (x : Candidate). x.score) c ∙ p.score ∙ ap f (sym group) }
+        let group : chosen.n1 ≡ first.n1 = ap (λ (x : GroupScore). x.n1) c in
+        record { group = group ∙ p.group ∙ sym kept; score = ap (λ (x : GroupScore). x.score) c ∙ p.score ∙ ap f (sym group) }
 
 -- ---- the best pair
 

@@ -7,13 +7,13 @@ ghost use Rattle.sss_detect.specs.Scores.{score};
 ghost use Rattle.sss_detect.specs.Steps.{score_by};
 ghost use Rattle.sss_detect.specs.Identity.{IsBest, best_group, best_pair};
 
-use crate::score::{Sums, agreements};
+use crate::score::{ShiftSums, agreements};
 use cs_num::Cpx;
 use lte_types::Half;
 
 // A group with its score.
 #[derive(Clone, Copy)]
-struct Candidate {
+struct GroupScore {
     n1: u16,
     score: i128,
 }
@@ -39,7 +39,7 @@ fn best_by(agreements: &[i64; 62], n2: u8) -> (u16, Half)
     requires member { n2 ≤ 2 }
     ensures { result ≡ best_pair (score_by agreements.now n2) }
 {
-    let sums = Sums::new(agreements, n2);
+    let sums = ShiftSums::new(agreements, n2);
     let zero = best_of_half(&sums, Half::Zero);
     let five = best_of_half(&sums, Half::Five);
     if zero.score < five.score {
@@ -50,33 +50,33 @@ fn best_by(agreements: &[i64; 62], n2: u8) -> (u16, Half)
 }
 
 // The best group of a half.
-fn best_of_half(sums: &Sums, half: Half) -> Candidate
+fn best_of_half(sums: &ShiftSums, half: Half) -> GroupScore
     requires { AllWithin (2 ^ 59) sums.now.agreements.now }
     ensures group { result.n1 ≡ best_group (score_by sums.now.agreements.now sums.now.n2) half }
     ensures score { result.score ≡ score_by sums.now.agreements.now sums.now.n2 result.n1 half }
 {
     let mut best = scored(sums, 0, half);
     for n1 in 1..168 {
-        best = better(best, scored(sums, n1, half));
+        best = better_group(best, scored(sums, n1, half));
     }
     best
 }
 
 // A group with its score.
-fn scored(sums: &Sums, n1: u16, half: Half) -> Candidate
+fn scored(sums: &ShiftSums, n1: u16, half: Half) -> GroupScore
     requires small { AllWithin (2 ^ 59) sums.now.agreements.now }
     requires group { n1 ≤ 167 }
     ensures group { result.n1 ≡ n1 }
     ensures score { result.score ≡ score_by sums.now.agreements.now sums.now.n2 n1 half }
 {
-    Candidate {
+    GroupScore {
         n1,
         score: sums.score_of(n1, half),
     }
 }
 
 // The one of greater score, and of equals the first.
-fn better(first: Candidate, second: Candidate) -> Candidate
+fn better_group(first: GroupScore, second: GroupScore) -> GroupScore
     ensures { result ≡ (if int_lt first.score second.score then second else first) }
 {
     if first.score < second.score {

@@ -7,7 +7,7 @@ ghost use Rattle.sss_detect.specs.Scores.{score};
 ghost use Rattle.sss_detect.specs.Steps.{score_by};
 ghost use Rattle.sss_detect.specs.Second.{choice_of, pair_at as pair_of, ranking_of};
 
-use crate::score::{Sums, agreements};
+use crate::score::{ShiftSums, agreements};
 use cs_num::Cpx;
 use lte_types::Half;
 
@@ -42,7 +42,7 @@ fn best_two_by(agreements: &[i64; 62], n2: u8) -> Ranking
     requires member { n2 ≤ 2 }
     ensures { result ≡ ranking_of (score_by agreements.now n2) }
 {
-    let sums = Sums::new(agreements, n2);
+    let sums = ShiftSums::new(agreements, n2);
     let mut ranking = in_order(scored_pair(&sums, 0), scored_pair(&sums, 1));
     for place in 2..336 {
         ranking = with_next(ranking, scored_pair(&sums, place));
@@ -51,7 +51,7 @@ fn best_two_by(agreements: &[i64; 62], n2: u8) -> Ranking
 }
 
 // The pair at a place of all, with its score.
-fn scored_pair(sums: &Sums, place: u16) -> Choice
+fn scored_pair(sums: &ShiftSums, place: u16) -> Choice
     requires small { AllWithin 142983425530265600 sums.now.agreements.now }
     requires place { place < 336 }
     ensures { result ≡ choice_of (score_by sums.now.agreements.now sums.now.n2) (pair_of place) }
@@ -112,13 +112,13 @@ fn with_next(before: Ranking, next: Choice) -> Ranking
     } else {
         Ranking {
             best: before.best,
-            second: greater(before.second, next),
+            second: better_pair(before.second, next),
         }
     }
 }
 
 // The one of greater score, and of equals the first.
-fn greater(first: Choice, later: Choice) -> Choice
+fn better_pair(first: Choice, later: Choice) -> Choice
     ensures { result ≡ (if int_lt first.score later.score then later else first) }
 {
     if first.score < later.score {

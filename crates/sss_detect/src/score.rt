@@ -42,7 +42,7 @@ fn agree(primary: Cpx, secondary: Cpx, value: Cpx) -> i64
 /// The sums of agreements, with the signs of secondary sequences: over the even places for each shift of these,
 /// and over the odd ones for each shift of these and each shift of the even ones modulo 8.
 #[derive(Drop)]
-pub(crate) struct Sums<'a> {
+pub(crate) struct ShiftSums<'a> {
     pub agreements: &'a [i64; 62],
     pub n2: u8,
     even: [i128; 31],
@@ -52,9 +52,9 @@ pub(crate) struct Sums<'a> {
     ghost odd_is: { odd ≡ values_below 248 (odd_sum agreements.now n2) },
 }
 
-impl<'a> Sums<'a> {
+impl<'a> ShiftSums<'a> {
     /// The sums for an identity within its group.
-    pub(crate) fn new(agreements: &'a [i64; 62], n2: u8) -> Sums<'a>
+    pub(crate) fn new(agreements: &'a [i64; 62], n2: u8) -> ShiftSums<'a>
         requires small { AllWithin (2 ^ 59) agreements.now }
         requires member { n2 ≤ 2 }
         ensures agreements { result.agreements.now ≡ agreements.now }
@@ -62,7 +62,7 @@ impl<'a> Sums<'a> {
     {
         let even = even_sums(agreements, n2);
         let odd = odd_sums(agreements, n2);
-        Sums {
+        ShiftSums {
             agreements,
             n2,
             even,

@@ -11,5 +11,5 @@ loop-n1-preserved c =
     let f : ℕ → ℤ = λ n1. score_by c.args.sums.now.agreements.now c.args.sums.now.n2 n1 c.args.half in
     let n = c.loop-n1.n1 in
     let next : n + 1 - 1 ≡ n = omega arith in
-    subst (λ (m : ℕ). IsBestSoFar f m c.better-best.result) (sym next)
-    (better_of_two f n c.loop-n1.best c.scored.result c.better-best.result (omega arith) c.loop-n1.invariant c.scored.ensures.group c.scored.ensures.score c.better-best.ensures)
+    subst (λ (m : ℕ). IsBestSoFar f m c.better_group-best.result) (sym next)
+    (better_of_two f n c.loop-n1.best c.scored.result c.better_group-best.result (omega arith) c.loop-n1.invariant c.scored.ensures.group c.scored.ensures.score c.better_group-best.ensures)

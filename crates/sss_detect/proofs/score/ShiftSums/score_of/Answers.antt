@@ -10,7 +10,7 @@ use Rattle.lte_types.specs.declared.frame.Half.{Half}
 use Rattle.sync_seq.specs.Secondary.{even_shift, odd_shift}
 use Rattle.sss_detect.specs.Steps.{places_sum, even_sum, odd_sum, score_by}
 use Rattle.sss_detect.proofs.Scoring.{places_sum-size, sums_score}
-use Rattle.sss_detect.proofs.score.Sums.score_of.Goals as goal
+use Rattle.sss_detect.proofs.score.ShiftSums.score_of.Goals as goal
 
 even_read : (a sums : List ℤ) (n2 shift : ℕ) → sums ≡ values_below 31 (even_sum a n2) → shift < 31 → slice_index_or sums shift (pos 0) ≡ places_sum a n2 shift 0 0 31
 even_read a sums n2 shift is inside = ap (λ list. slice_index_or list shift (pos 0)) is ∙ values_below_at (even_sum a n2) 31 shift (pos 0) inside
