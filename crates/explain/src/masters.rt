@@ -18,7 +18,7 @@ use crate::frame::whole_frames;
 use crate::scrambled_cell::ScrambledCell;
 use arrayvec::ArrayVec;
 use lte_types::CellPlace;
-use pbch::{Master, Received, Sums, masters};
+use pbch::{Master, Received, WordSums, masters};
 use sample_file::Recording;
 use tailbite::Trellis;
 
@@ -29,7 +29,7 @@ pub struct Masters {
     pub frames: u8,
     pub frame: u8,
     pub at: [Option<Master>; 4],
-    pub sums: [Sums; 4],
+    pub sums: [WordSums; 4],
 }
 
 // What was received in the first frames of a cell, from frame 0 on, as far as they were read.

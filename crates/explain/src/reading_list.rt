@@ -8,7 +8,7 @@ ghost use Rattle.explain.specs.declared.readings.Reading.{Reading as ReadingValu
 use crate::Reading;
 use dci::Grant;
 use lte_types::{Cfi, Hit};
-use pbch::Sums;
+use pbch::WordSums;
 use std::alloc::{AllocError, Global};
 use std::marker::Model;
 
@@ -52,7 +52,7 @@ impl Readings {
     }
 
     /// Puts how an entry was read at index `at`; those from there on move up by one. It takes no memory.
-    pub fn insert(&mut self, at: usize, hit: Hit, sums: Sums, granted: Option<(Cfi, Grant)>)
+    pub fn insert(&mut self, at: usize, hit: Hit, sums: WordSums, granted: Option<(Cfi, Grant)>)
         requires at { at ≤ length self.old }
         requires room { length self.old < 23040 }
         ensures { self.new ≡ insert_at self.old at (record { hit = hit; sums = sums; granted = granted }) }

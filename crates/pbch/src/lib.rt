@@ -4,7 +4,7 @@
 
 mod block;
 mod broadcast;
-mod explain;
+mod by_phase;
 mod frame;
 mod laws;
 mod master;
@@ -12,9 +12,9 @@ mod scrambling;
 mod word_sums;
 
 pub use broadcast::{received, sums_of, values};
-pub use explain::{ByPhase, explain_slots, master_of, masters, total_of};
+pub use by_phase::{ByPhase, explain_slots, master_of, masters, total_of};
 pub use frame::Received;
 pub use laws::at_most_one_master;
 pub use master::Master;
 pub use scrambling::CellScrambling;
-pub use word_sums::Sums;
+pub use word_sums::WordSums;

@@ -7,11 +7,11 @@ use std::marker::Model;
 
 // The sums at an index of the word, one of each stream, of size at most 2,032. Contracts see it as their list.
 #[derive(Clone, Copy)]
-struct Row {
+struct SumRow {
     sums: [i16; 3],
 }
 
-impl Model for Row {
+impl Model for SumRow {
     ghost Value = { List ℤ };
 
     ghost view = { λ r. r.sums };
@@ -21,12 +21,12 @@ impl Model for Row {
     ghost inverse = { λ sums. record { sums = sums } };
 }
 
-impl Row {
-    fn new(place: &[i32; 3]) -> Row
+impl SumRow {
+    fn new(place: &[i32; 3]) -> SumRow
         requires { AllWithin 2032 place.now }
         ensures { result ≡ place.now }
     {
-        Row {
+        SumRow {
             sums: [place[0] as i16, place[1] as i16, place[2] as i16],
         }
     }
@@ -46,11 +46,11 @@ impl Row {
 /// The sums that tell a coded word of 40 bits: at each index one of each of the three streams, of size
 /// at most 2,032. Contracts see it as the list of the lists of each index. (own)
 #[derive(Clone, Copy)]
-pub struct Sums {
-    rows: [Row; 40],
+pub struct WordSums {
+    rows: [SumRow; 40],
 }
 
-impl Model for Sums {
+impl Model for WordSums {
     ghost Value = { List (List ℤ) };
 
     ghost view = { λ s. s.rows };
@@ -60,17 +60,17 @@ impl Model for Sums {
     ghost inverse = { λ rows. record { rows = rows } };
 }
 
-impl Sums {
+impl WordSums {
     /// The sums of a word: these, by index and stream, each of size at most 2,032.
-    pub fn new(rows: &[[i32; 3]; 40]) -> Sums
+    pub fn new(rows: &[[i32; 3]; 40]) -> WordSums
         requires { RowsWithin 2032 rows.now }
         ensures { result ≡ rows.now }
     {
-        let mut kept = [Row { sums: [0; 3] }; 40];
+        let mut kept = [SumRow { sums: [0; 3] }; 40];
         for k in 0..40 {
-            kept[k] = Row::new(&rows[k]);
+            kept[k] = SumRow::new(&rows[k]);
         }
-        Sums { rows: kept }
+        WordSums { rows: kept }
     }
 
     /// The sums by index and stream, each of size at most 2,032.

@@ -1,4 +1,4 @@
-//! The master block of frames.
+//! The master block of frames, by the phase of the first.
 
 ghost use Rattle.std.specs.Prelude.{◌≡◌, ℕ, ◌+◌, ◌*◌, ◌^◌, ◌<◌, ◌≤◌, All, nat_abs, length, slice_index_or, pos, None, MatchOption};
 ghost use Rattle.std.specs.List.{flat_map};
@@ -9,7 +9,7 @@ ghost use Rattle.pbch.specs.Master.{total, TellsMaster, TellsNothing, IsMaster, 
 
 use crate::block::{mib_of, ports_of};
 use crate::broadcast::{sums_by, values};
-use crate::{CellScrambling, Master, Received, Sums};
+use crate::{CellScrambling, Master, Received, WordSums};
 use soft_bits::Slot;
 use tailbite::{Trellis, least};
 
@@ -33,14 +33,14 @@ pub struct ByPhase {
     /// The master block at each phase.
     pub at: [Option<Master>; 4],
     /// The sums of the values at each phase.
-    pub sums: [Sums; 4],
+    pub sums: [WordSums; 4],
 }
 
 // What frames tell at a phase, and the sums that tell it.
 #[derive(Clone, Copy)]
-struct Told {
+struct AtPhase {
     master: Option<Master>,
-    sums: Sums,
+    sums: WordSums,
 }
 
 /// What frames of a cell tell at phases 0 to 3, by its scrambling bits and what was received in each of the frames:
@@ -75,7 +75,7 @@ fn told_at(
     phase: u8,
     frames: &[Received],
     work: &mut Trellis,
-) -> Told
+) -> AtPhase
     requires size { size ≤ 480 }
     requires phase { phase < 4 }
     ensures told { phase + length frames.now ≤ 4 →
@@ -86,15 +86,15 @@ fn told_at(
     ensures beyond { 4 < phase + length frames.now → result.master ≡ None }
 {
     if frames.len() > 4 - phase as usize {
-        return Told {
+        return AtPhase {
             master: None,
-            sums: Sums::new(&[[0; 3]; 40]),
+            sums: WordSums::new(&[[0; 3]; 40]),
         };
     }
     let sums = sums_by(cell, size * phase as usize, frames);
-    Told {
+    AtPhase {
         master: master_of(&sums, work),
-        sums: Sums::new(&sums),
+        sums: WordSums::new(&sums),
     }
 }
 
@@ -118,7 +118,7 @@ pub fn master_of(values: &[[i32; 3]; 40], work: &mut Trellis) -> Option<Master>
 }
 
 // The sum of the sizes of the three values of a place.
-fn size_of(place: &[i32; 3]) -> u32
+fn weight_of(place: &[i32; 3]) -> u32
     requires { AllWithin (2 ^ 20) place.now }
     ensures value { result ≡ total_below 3 (λ t. nat_abs (slice_index_or place.now t (pos 0))) }
     ensures bound { result ≤ 3 * 2 ^ 20 }
@@ -133,7 +133,7 @@ pub fn total_of(values: &[[i32; 3]; 40]) -> u32
 {
     let mut total = 0;
     for place in values {
-        total += size_of(place);
+        total += weight_of(place);
     }
     total
 }

@@ -3,7 +3,7 @@ use Rattle.std.proofs.lemmas.List.Elements.{All-get_or}
 use Rattle.std.proofs.lemmas.Int.{fits_signed_from_abs}
 use Rattle.std.proofs.lemmas.Int.{to_z-of_z}
 use Rattle.finite.specs.Sums.{total_below}
-use Rattle.pbch.proofs.explain.size_of.Goals as goal
+use Rattle.pbch.proofs.by_phase.weight_of.Goals as goal
 
 pub returns-clause-value : goal.returns-clause-value
 unfolding total_below

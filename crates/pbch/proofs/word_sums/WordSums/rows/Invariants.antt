@@ -1,6 +1,6 @@
 use Rattle.std.proofs.Common.{◌≡◌, ℕ, ◌<◌, [], length, slice_index_or}
 use Rattle.finite.specs.Sizes.{RowsWithin}
-use Rattle.pbch.proofs.word_sums.Sums.rows.Given as goal
+use Rattle.pbch.proofs.word_sums.WordSums.rows.Given as goal
 
 abbrev pub invariant-loop-k : goal.invariant-loop-k
 invariant-loop-k l = record {

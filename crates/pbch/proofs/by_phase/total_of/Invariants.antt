@@ -1,7 +1,7 @@
 use Rattle.std.proofs.Common.{◌≡◌, ◌*◌, ◌≤◌, nat_abs}
 use Rattle.finite.specs.Sums.{total_below}
 use Rattle.finite.specs.Tables.{sum_at}
-use Rattle.pbch.proofs.explain.total_of.Given as goal
+use Rattle.pbch.proofs.by_phase.total_of.Given as goal
 
 abbrev pub invariant-loop-place : goal.invariant-loop-place
 invariant-loop-place l = record {

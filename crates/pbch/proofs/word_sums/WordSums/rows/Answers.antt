@@ -2,7 +2,7 @@ use Rattle.std.proofs.Common.{◌≤◌, ◌∙◌, [], nat_abs, pos, refl, arit
 use Rattle.std.proofs.lemmas.List.{ext_get_or}
 use Rattle.std.proofs.lemmas.List.Elements.{All-replicate}
 use Rattle.finite.specs.Sizes.{AllWithin}
-use Rattle.pbch.proofs.word_sums.Sums.rows.Goals as goal
+use Rattle.pbch.proofs.word_sums.WordSums.rows.Goals as goal
 
 pub loop-k-init : goal.loop-k-init
 loop-k-init c = record {

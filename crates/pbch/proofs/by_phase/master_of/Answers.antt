@@ -1,6 +1,6 @@
 use Rattle.std.proofs.Common.{arith}
 use Rattle.pbch.proofs.Words.{none_by}
-use Rattle.pbch.proofs.explain.master_of.Goals as goal
+use Rattle.pbch.proofs.by_phase.master_of.Goals as goal
 
 pub returns-in_err-ports : goal.returns-in_err-ports
 returns-in_err-ports c =

@@ -1,6 +1,6 @@
 use Rattle.std.proofs.Common.{[], refl, arith}
 use Rattle.std.proofs.lemmas.List.{ext_get_or}
-use Rattle.pbch.proofs.word_sums.Sums.new.Goals as goal
+use Rattle.pbch.proofs.word_sums.WordSums.new.Goals as goal
 
 pub loop-k-init : goal.loop-k-init
 loop-k-init c = record { whole = refl; each = λ j below. absurd (omega (arith, below)) }

@@ -1,7 +1,7 @@
 use Rattle.std.proofs.Common.{◌∙◌, sym, subst}
 use Rattle.finite.specs.Sizes.{AllWithin}
 use Rattle.pbch.proofs.Rows.{place_wide}
-use Rattle.pbch.proofs.word_sums.Row.values.Goals as goal
+use Rattle.pbch.proofs.word_sums.SumRow.values.Goals as goal
 
 pub returns-clause-values : goal.returns-clause-values
 returns-clause-values c = place_wide c.self.inside.sums c.self.told c.self.invariant ∙ c.self.view_is

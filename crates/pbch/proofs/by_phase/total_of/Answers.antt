@@ -3,7 +3,7 @@ use Rattle.finite.specs.Sums.{total_below}
 use Rattle.finite.proofs.Sums.{total_below_more}
 use Rattle.finite.specs.Tables.{sum_at}
 use Rattle.pbch.specs.Master.{total}
-use Rattle.pbch.proofs.explain.total_of.Goals as goal
+use Rattle.pbch.proofs.by_phase.total_of.Goals as goal
 
 pub loop-place-init : goal.loop-place-init
 unfolding total_below
@@ -14,8 +14,8 @@ loop-place-preserved c =
     let size : ℕ → ℕ = λ k. total_below 3 (λ t. nat_abs (sum_at c.args.values.now k t)) in
     let before = c.loop-place.invariant.so_far in
     let small = c.loop-place.invariant.small in
-    let here = c.size_of-total.ensures.value in
-    let bound = c.size_of-total.ensures.bound in
+    let here = c.weight_of-total.ensures.value in
+    let bound = c.weight_of-total.ensures.bound in
     let more = total_below_more c.loop-place.place-index size in
     record { so_far = cc; small = omega arith }
 

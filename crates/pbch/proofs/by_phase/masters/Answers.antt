@@ -1,5 +1,5 @@
 use Rattle.std.proofs.Common.{zero, suc, arith}
-use Rattle.pbch.proofs.explain.masters.Goals as goal
+use Rattle.pbch.proofs.by_phase.masters.Goals as goal
 
 pub returns-clause-sums : goal.returns-clause-sums
 returns-clause-sums c zero low inside = c.told_at-first.ensures.sums inside
