@@ -33,7 +33,7 @@ pub struct Masters {
 }
 
 // What was received in the first frames of a cell, from frame 0 on, as far as they were read.
-type Frames = ArrayVec<Received, 8>;
+type ReceivedFrames = ArrayVec<Received, 8>;
 
 /// The first of the whole frames 0 to 7 of a cell that have a master block at any phase, with all their
 /// master blocks: a single frame, or else two, three or four that follow one another in one period, as many
@@ -53,7 +53,7 @@ pub(crate) fn first_masters<F: FrameReader>(
     let whole = whole_frames(recording, place);
     let cell = ScrambledCell::new(place);
     let most = reader.most_frames();
-    let mut frames = Frames::new();
+    let mut frames = ReceivedFrames::new();
     match first_alone(reader, recording, &cell, whole, &mut frames, work) {
         Some(found) => return Some(found),
         None => {}
@@ -73,7 +73,7 @@ fn first_alone<F: FrameReader>(
     recording: &Recording,
     cell: &ScrambledCell,
     whole: u8,
-    frames: &mut Frames,
+    frames: &mut ReceivedFrames,
     work: &mut Trellis,
 ) -> Option<Masters>
     requires few { whole ≤ 8 }
