@@ -4,8 +4,8 @@
 
 mod certifying;
 mod error;
+mod part_read;
 mod reading;
-mod window;
 
 pub use certifying::{CertificateWork, certify};
 pub use error::StreamError;

@@ -7,7 +7,7 @@ ghost use Rattle.cert_stream.specs.Stream.{most_bytes};
 ghost use Rattle.cert_stream.specs.Reading.{HasReadAnswers, IsCause, IsStep};
 
 use crate::StreamError;
-use crate::window::Window;
+use crate::part_read::PartRead;
 use cs_outside::{Failed, Source};
 use std::alloc::Global;
 use tail_cert::{Certificate, HEAD_BYTES, check, head, parse};
@@ -36,18 +36,18 @@ pub fn read_answers<S: Source>(alloc: Global, source: &mut S) -> Result<Vec<bool
     ensures never_falls { (S.told source.old).faults ≤ (S.told source.new).faults }
 {
     let mut certificate = Certificate::new(alloc)?;
-    let mut window = Window::new(alloc)?;
-    read_each(alloc, source, &mut certificate, &mut window)
+    let mut part = PartRead::new(alloc)?;
+    read_each(alloc, source, &mut certificate, &mut part)
 }
 
-// The answers to the certificates of a source, with memory for the longest certificate and a window on its bytes.
+// The answers to the certificates of a source, with memory for the longest certificate and room for the part read.
 fn read_each<S: Source>(
     alloc: Global,
     source: &mut S,
     certificate: &mut Certificate,
-    window: &mut Window,
+    part: &mut PartRead,
 ) -> Result<Vec<bool>, StreamError>
-    requires { length window.old ≡ head_count }
+    requires { length part.old ≡ head_count }
     ensures ok { IfOk result (λ answers. HasReadAnswers answers.items (S.told source.old) (S.told source.new)) }
     ensures err { IfErr result (IsCause (S.told source.old) (S.told source.new)) }
     ensures never_falls { (S.told source.old).faults ≤ (S.told source.new).faults }
@@ -58,20 +58,20 @@ fn read_each<S: Source>(
     let mut filled = 0;
     let mut aim = HEAD_BYTES;
     loop {
-        match window.read(source, filled, window_end(aim, done)) {
+        match part.read(source, filled, part_end(aim, done)) {
             Err(Failed) => return Err(StreamError::ReadFault),
             Ok(0) if filled == 0 => return Ok(answers),
             Ok(0) => return Err(StreamError::Broken((done + filled) as u64)),
             Ok(n) => filled += n,
         }
-        match judge(window.front(filled), certificate) {
+        match judge(part.front(filled), certificate) {
             Step::Broken(place) => return Err(broken_at(done as u64 + place)),
             Step::Partial(next) => {
                 if done + filled > MOST_BYTES {
                     return Err(StreamError::TooLong);
                 }
                 aim = next;
-                window.make_room(aim)?;
+                part.make_room(aim)?;
             }
             Step::Whole(answer) => {
                 if done + filled > MOST_BYTES {
@@ -102,7 +102,7 @@ fn broken_at(place: u64) -> StreamError
 
 // How many bytes of a certificate may have been read after so many bytes of whole ones: of the input one more
 // than the limit at most.
-fn window_end(aim: usize, done: usize) -> usize
+fn part_end(aim: usize, done: usize) -> usize
     requires { done ≤ most_bytes }
     ensures { result ≡ min aim (most_bytes + 1 - done) }
 {

@@ -5,12 +5,12 @@ use Rattle.cert_stream.proofs.reading.read_each.Given as goal
 
 abbrev pub invariant-loop-answers : goal.invariant-loop-answers
 invariant-loop-answers g l = record {
-  so_far : IsReadTo l.answers.items l.done (take l.filled l.window) (g.S.Source.told l.fn.source) (g.S.Source.told l.source);
+  so_far : IsReadTo l.answers.items l.done (take l.filled l.part) (g.S.Source.told l.fn.source) (g.S.Source.told l.source);
   later : (g.S.Source.told l.fn.source).faults ≤ (g.S.Source.told l.source).faults;
-  room : l.aim ≤ length l.window;
-  most : length l.window ≤ 665861;
+  room : l.aim ≤ length l.part;
+  most : length l.part ≤ 665861;
   part : l.filled < l.aim;
-  aims : IsAim (take l.filled l.window) l.aim;
+  aims : IsAim (take l.filled l.part) l.aim;
   few : l.done + l.filled ≤ 67108864;
 }
 

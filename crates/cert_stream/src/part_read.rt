@@ -13,23 +13,23 @@ use tail_cert::HEAD_BYTES;
 // Room for bytes of a certificate while they are read: for as many as it was known to have. Contracts see it as the
 // list of all these bytes.
 #[derive(Drop)]
-pub(crate) struct Window {
+pub(crate) struct PartRead {
     bytes: Vec<u8>,
 }
 
-impl Model for Window {
+impl Model for PartRead {
     ghost Value = { List ℕ };
 
-    ghost view = { λ w. w.bytes.items };
+    ghost view = { λ p. p.bytes.items };
 }
 
-impl Window {
+impl PartRead {
     // Room for the bytes that tell how many a certificate has.
-    pub(crate) fn new(alloc: Global) -> Result<Window, AllocError>
-        ensures { IfOk result (λ window. length window ≡ head_count) }
+    pub(crate) fn new(alloc: Global) -> Result<PartRead, AllocError>
+        ensures { IfOk result (λ part. length part ≡ head_count) }
     {
         let bytes = vec![in alloc; 0u8; HEAD_BYTES]?;
-        Ok(Window { bytes })
+        Ok(PartRead { bytes })
     }
 
     // Makes room for `count` bytes, where there is less. What stands in the room stays.
