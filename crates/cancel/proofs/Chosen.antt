@@ -8,7 +8,7 @@ use Rattle.cs_num.specs.declared.Sample.{Sample}
 use Rattle.cs_num.specs.Complex.{minus, times, silence, sample_at, value_of, sample_of}
 use Rattle.cs_num.specs.Rounding.{nearest_sample}
 use Rattle.cell_tx.specs.declared.cell.CellPlan.{CellPlan}
-use Rattle.cancel.specs.declared.choosing.Choice.{Choice}
+use Rattle.cancel.specs.declared.choosing.GainChoice.{GainChoice}
 use Rattle.cancel.specs.declared.subtracted.Subtracted.{Subtracted}
 use Rattle.cancel.specs.Gain.{IsBest}
 use Rattle.cancel.specs.Residue.{estimate_at, sent_at, left_at, greatest_left, residue_of, IsSubtracted}
@@ -35,7 +35,7 @@ module _ (recording : List Sample) (plan : CellPlan) (start number : ℕ) (sent 
       values_below_same (length recording) (λ i. nearest_sample (left_of recording sent gain i)) (λ i. nearest_sample (left_at recording plan start number gain i))
       (λ i l. ap nearest_sample (same_left gain i l))
 
-  pub subtracted : (choice : Choice) (taken : Subtracted) → IsChosen (greatest_of recording sent) (estimate_at recording plan start) (Some choice) → IsTakenOff recording sent choice taken
+  pub subtracted : (choice : GainChoice) (taken : Subtracted) → IsChosen (greatest_of recording sent) (estimate_at recording plan start) (Some choice) → IsTakenOff recording sent choice taken
       → IsSubtracted recording plan start number taken
   subtracted choice taken chosen is = record {
     gain =
@@ -52,13 +52,13 @@ module _ (recording : List Sample) (plan : CellPlan) (start number : ℕ) (sent 
   }
 
 -- the same choice by equal lists and an equal estimate
-pub chosen_by : (samples recording others sent : List Sample) (middle estimate : Cpx) (found choice : Option Choice) → samples ≡ recording → others ≡ sent → middle ≡ estimate → found ≡ choice
+pub chosen_by : (samples recording others sent : List Sample) (middle estimate : Cpx) (found choice : Option GainChoice) → samples ≡ recording → others ≡ sent → middle ≡ estimate → found ≡ choice
     → IsChosen (greatest_of samples others) middle found → IsChosen (greatest_of recording sent) estimate choice
 chosen_by samples recording others sent middle estimate found choice e f g h chosen =
     subst (λ (s : List Sample). IsChosen (greatest_of s sent) estimate choice) e
     (subst (λ (s : List Sample). IsChosen (greatest_of samples s) estimate choice) f
     (subst (λ (m : Cpx). IsChosen (greatest_of samples others) m choice) g
-    (subst (λ (c : Option Choice). IsChosen (greatest_of samples others) middle c) h chosen)))
+    (subst (λ (c : Option GainChoice). IsChosen (greatest_of samples others) middle c) h chosen)))
 
 -- what was sent, by another count
 pub sent_by : (recording : List Sample) (count : ℕ) (plan : CellPlan) (start number : ℕ) (sent : List Sample) → sent ≡ values_below count (λ i. sample_of (sent_at plan start number i)) →

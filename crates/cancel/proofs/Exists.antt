@@ -6,12 +6,12 @@ use Rattle.cs_num.specs.declared.Sample.{Sample}
 use Rattle.cs_num.specs.Complex.{minus, square}
 use Rattle.cs_num.specs.Gain.{IsGain}
 use Rattle.cell_tx.specs.declared.cell.CellPlan.{CellPlan}
-use Rattle.cancel.specs.declared.choosing.Choice.{Choice}
+use Rattle.cancel.specs.declared.choosing.GainChoice.{GainChoice}
 use Rattle.cancel.specs.declared.subtracted.Subtracted.{Subtracted}
 use Rattle.cancel.specs.Gain.{IsCandidate}
 use Rattle.cancel.specs.Laws.{IsSomeSubtraction}
 use Rattle.cancel.specs.Residue.{estimate_at, greatest_left, residue_of, power_of, IsSubtraction}
-use Rattle.cancel.specs.Steps.{around, better, choice_of, IsFoundBefore, IsChosen}
+use Rattle.cancel.specs.Steps.{around, better_choice, choice_of, IsFoundBefore, IsChosen}
 use Rattle.cancel.proofs.Found.{none_before, passed, taken, best_is_found}
 
 -- ---- a candidate
@@ -32,22 +32,22 @@ candidate_or_not middle gain = elim (cases_lt (square gain) 1) [
 -- ---- the best of them
 
 module _ (greatest : Cpx → ℕ) (middle : Cpx) where
-  found_before : (n : ℕ) → (found : Option Choice) × IsFoundBefore greatest middle None n found
+  found_before : (n : ℕ) → (found : Option GainChoice) × IsFoundBefore greatest middle None n found
   found_before zero = (None, none_before greatest middle None)
   found_before (suc n) = more (found_before n) (candidate_or_not middle (around middle n))
     where
       next : n + 1 ≡ suc n
       next = omega arith
 
-      at_next : (found : Option Choice) → IsFoundBefore greatest middle None (n + 1) found → (found : Option Choice) × IsFoundBefore greatest middle None (suc n) found
+      at_next : (found : Option GainChoice) → IsFoundBefore greatest middle None (n + 1) found → (found : Option GainChoice) × IsFoundBefore greatest middle None (suc n) found
       at_next found is = (found, subst (λ k. IsFoundBefore greatest middle None k found) next is)
 
-      more : ((found : Option Choice) × IsFoundBefore greatest middle None n found) → IsCandidate middle (around middle n) ⊎ (IsCandidate middle (around middle n) → ⊥)
-          → (found : Option Choice) × IsFoundBefore greatest middle None (suc n) found
-      more (found, kept) (inl is) = at_next (better None found (choice_of greatest (around middle n))) (taken greatest middle None n found is kept)
+      more : ((found : Option GainChoice) × IsFoundBefore greatest middle None n found) → IsCandidate middle (around middle n) ⊎ (IsCandidate middle (around middle n) → ⊥)
+          → (found : Option GainChoice) × IsFoundBefore greatest middle None (suc n) found
+      more (found, kept) (inl is) = at_next (better_choice None found (choice_of greatest (around middle n))) (taken greatest middle None n found is kept)
       more (found, kept) (inr fails) = at_next found (passed greatest middle None n found fails kept)
 
-  some_choice : (found : Option Choice) × IsChosen greatest middle found
+  some_choice : (found : Option GainChoice) × IsChosen greatest middle found
   some_choice = let all = found_before 25 in (all.0, best_is_found greatest middle None all.0 tt all.1)
 
 -- ---- the answer
@@ -66,7 +66,7 @@ pub some_subtraction : IsSomeSubtraction
 unfolding taken_with
 some_subtraction recording plan start number = by_choice (some_choice (greatest_left recording plan start number) (estimate_at recording plan start))
   where
-    by_choice : ((found : Option Choice) × IsChosen (greatest_left recording plan start number) (estimate_at recording plan start) found)
+    by_choice : ((found : Option GainChoice) × IsChosen (greatest_left recording plan start number) (estimate_at recording plan start) found)
         → (answer : Option Subtracted) × IsSubtraction recording plan start number answer
     by_choice (None, none) = (None, none)
     by_choice (Some choice, is) = (

@@ -8,10 +8,10 @@ use Rattle.cs_num.specs.declared.Cpx.{Cpx}
 use Rattle.cs_num.specs.Complex.{minus, square}
 use Rattle.cs_num.proofs.Complex.{pair}
 use Rattle.sizes.proofs.Squares.{re-le, im-le}
-use Rattle.cancel.specs.declared.choosing.Choice.{Choice}
+use Rattle.cancel.specs.declared.choosing.GainChoice.{GainChoice}
 use Rattle.cancel.specs.Gain.{IsCandidate, GoesBefore}
 use Rattle.cancel.specs.Laws.{IsOneBest}
-use Rattle.cancel.specs.Steps.{around, better, choice_of, IsBestBefore, IsFoundBefore, IsLimit, IsChosen}
+use Rattle.cancel.specs.Steps.{around, better_choice, choice_of, IsBestBefore, IsFoundBefore, IsLimit, IsChosen}
 
 -- ---- each candidate is one of the 25
 
@@ -78,7 +78,7 @@ module _ (greatest : Cpx → ℕ) (middle : Cpx) where
   none_before limit j l c = absurd (omega (arith, l))
 
   -- what is found stays the best, where the next one is no candidate or leaves no less
-  stays : (n : ℕ) (choice : Choice) → (IsCandidate middle (around middle n) → GoesBefore greatest choice.gain (around middle n)) → IsBestBefore greatest middle n choice
+  stays : (n : ℕ) (choice : GainChoice) → (IsCandidate middle (around middle n) → GoesBefore greatest choice.gain (around middle n)) → IsBestBefore greatest middle n choice
       → IsBestBefore greatest middle (n + 1) choice
   stays n choice next kept = record {
     index = kept.index;
@@ -108,7 +108,7 @@ module _ (greatest : Cpx → ℕ) (middle : Cpx) where
   }
 
   -- the next one is no candidate
-  pub passed : (limit : Option ℕ) (n : ℕ) (found : Option Choice) → (IsCandidate middle (around middle n) → ⊥) → IsFoundBefore greatest middle limit n found
+  pub passed : (limit : Option ℕ) (n : ℕ) (found : Option GainChoice) → (IsCandidate middle (around middle n) → ⊥) → IsFoundBefore greatest middle limit n found
       → IsFoundBefore greatest middle limit (n + 1) found
   passed limit n None fails kept = λ j l c. elim (last_or_before n j l) [
     | inl before ↦ kept j before c
@@ -120,8 +120,8 @@ module _ (greatest : Cpx → ℕ) (middle : Cpx) where
   less_than_all a b c p q = omega (arith, p, q)
 
   -- it is one
-  pub taken : (limit : Option ℕ) (n : ℕ) (found : Option Choice) → IsCandidate middle (around middle n) → IsFoundBefore greatest middle limit n found
-      → IsFoundBefore greatest middle limit (n + 1) (better limit found (choice_of greatest (around middle n)))
+  pub taken : (limit : Option ℕ) (n : ℕ) (found : Option GainChoice) → IsCandidate middle (around middle n) → IsFoundBefore greatest middle limit n found
+      → IsFoundBefore greatest middle limit (n + 1) (better_choice limit found (choice_of greatest (around middle n)))
   taken None n None is kept = is_new n is (λ j l c. absurd (kept j l c))
   taken (Some end) n None is kept = settle (nat_lt (greatest (around middle n)) end) refl
     where
@@ -156,7 +156,7 @@ module _ (greatest : Cpx → ℕ) (middle : Cpx) where
       unmoved a = omega (arith, ints)
 
   -- what is found among all 25 is the best candidate, and none is found exactly where there is none
-  pub best_is_found : (limit : Option ℕ) (found : Option Choice) → IsLimit greatest middle limit → IsFoundBefore greatest middle limit 25 found → IsChosen greatest middle found
+  pub best_is_found : (limit : Option ℕ) (found : Option GainChoice) → IsLimit greatest middle limit → IsFoundBefore greatest middle limit 25 found → IsChosen greatest middle found
   best_is_found None None above kept = λ gain is.
       let at = one_of middle gain is.near in
       kept at.i at.few (subst (λ (g : Cpx). IsCandidate middle g) (sym at.is) is)

@@ -10,7 +10,7 @@ use Rattle.cs_num.specs.Rounding.{nearest_sample}
 use Rattle.cell_tx.specs.Pair.{gain_of}
 use Rattle.cancel.specs.declared.subtracted.Subtracted.{Subtracted}
 use Rattle.cancel.specs.Residue.{power_of}
-use Rattle.cancel.specs.declared.choosing.Choice.{Choice}
+use Rattle.cancel.specs.declared.choosing.GainChoice.{GainChoice}
 use Rattle.cancel.specs.Gain.{IsCandidate, GoesBefore, IsBest, greatest_below}
 
 -- the gains whose components are off by at most 2, by the real part and then by the imaginary one
@@ -18,7 +18,7 @@ abbrev pub around : Cpx → ℕ → Cpx
 around middle i = record { re = middle.re +ℤ (pos (i / 5) -ℤ pos 2); im = middle.im +ℤ (pos (i % 5) -ℤ pos 2) }
 
 -- the choice is the best candidate of the first n gains around the middle, with what it leaves
-pub record IsBestBefore (greatest : Cpx → ℕ) (middle : Cpx) (n : ℕ) (choice : Choice) : Type 0 where
+pub record IsBestBefore (greatest : Cpx → ℕ) (middle : Cpx) (n : ℕ) (choice : GainChoice) : Type 0 where
   pub index : ℕ
   pub before : index < n
   pub is : around middle index ≡ choice.gain
@@ -35,29 +35,29 @@ abbrev pub IsLimit : (Cpx → ℕ) → Cpx → Option ℕ → Type 0
 IsLimit greatest middle limit = IfSome limit (λ end. IsCandidate middle middle × (greatest middle < end))
 
 -- the best candidate of the first gains is found, or none of them is a candidate and below the limit
-abbrev pub IsFoundBefore : (Cpx → ℕ) → Cpx → Option ℕ → ℕ → Option Choice → Type 0
+abbrev pub IsFoundBefore : (Cpx → ℕ) → Cpx → Option ℕ → ℕ → Option GainChoice → Type 0
 IsFoundBefore greatest middle limit n (Some choice) = IsBestBefore greatest middle n choice
 IsFoundBefore greatest middle limit n None =
     (j : ℕ) → j < n → IsCandidate middle (around middle j) → IsPast limit (greatest (around middle j))
 
 -- the best candidate is chosen, with what it leaves, or there is no candidate
-abbrev pub IsChosen : (Cpx → ℕ) → Cpx → Option Choice → Type 0
+abbrev pub IsChosen : (Cpx → ℕ) → Cpx → Option GainChoice → Type 0
 IsChosen greatest middle (Some choice) = IsBest greatest middle choice.gain × (choice.greatest ≡ greatest choice.gain)
 IsChosen greatest middle None = (gain : Cpx) → IsCandidate middle gain → ⊥
 
 -- the end of what a gain may leave to be better than what was found
-abbrev pub end_of : Option ℕ → Option Choice → Option ℕ
+abbrev pub end_of : Option ℕ → Option GainChoice → Option ℕ
 end_of limit None = limit
 end_of limit (Some found) = Some found.greatest
 
 -- a choice, where it leaves less than the end, if there is one
-abbrev pub choice_below : Option ℕ → Choice → Option Choice
+abbrev pub choice_below : Option ℕ → GainChoice → Option GainChoice
 choice_below None choice = Some choice
 choice_below (Some end) choice = if nat_lt choice.greatest end then Some choice else None
 
 -- the better of what was found and another choice: the other only where it leaves less
-abbrev pub better : Option ℕ → Option Choice → Choice → Option Choice
-better limit found choice = option_or (choice_below (end_of limit found) choice) found
+abbrev pub better_choice : Option ℕ → Option GainChoice → GainChoice → Option GainChoice
+better_choice limit found choice = option_or (choice_below (end_of limit found) choice) found
 
 -- what a gain leaves of samples, of which these were sent
 abbrev pub left_of : List Sample → List Sample → Cpx → ℕ → Cpx
@@ -67,11 +67,11 @@ abbrev pub greatest_of : List Sample → List Sample → Cpx → ℕ
 greatest_of samples sent gain = greatest_below (length samples) (left_of samples sent gain)
 
 -- a gain with what it leaves
-abbrev pub choice_of : (Cpx → ℕ) → Cpx → Choice
+abbrev pub choice_of : (Cpx → ℕ) → Cpx → GainChoice
 choice_of greatest gain = record { gain = gain; greatest = greatest gain }
 
 -- a gain was taken off samples, of which these were sent
-pub record IsTakenOff (samples sent : List Sample) (choice : Choice) (taken : Subtracted) : Type 0 where
+pub record IsTakenOff (samples sent : List Sample) (choice : GainChoice) (taken : Subtracted) : Type 0 where
   pub gain : gain_of taken.gain ≡ choice.gain
   pub greatest : taken.greatest ≡ choice.greatest
   pub residue : taken.residue ≡ values_below (length samples) (λ i. nearest_sample (left_of samples sent choice.gain i))

@@ -4,7 +4,7 @@ ghost use Rattle.std.specs.Prelude.{◌≡◌, ◌+◌, ◌*◌, ◌^◌, ◌<�
 ghost use Rattle.std.specs.Prelude.{if◌then◌else◌, MatchOption};
 ghost use Rattle.cs_num.specs.Complex.{IsWithin};
 ghost use Rattle.cancel.specs.Gain.{IsCandidate};
-ghost use Rattle.cancel.specs.Steps.{around as around_of, better as better_of, choice_below, choice_of as choice_with};
+ghost use Rattle.cancel.specs.Steps.{around as around_of, better_choice, choice_below, choice_of as choice_with};
 ghost use Rattle.cancel.specs.Steps.{end_of as end_with, greatest_of as greatest_left, IsLimit};
 ghost use Rattle.cancel.specs.Steps.{IsFoundBefore, IsChosen};
 
@@ -13,7 +13,7 @@ use cs_num::{Cpx, Gain, Sample};
 
 // A gain and the greatest size of a component that it leaves.
 #[derive(Clone, Copy, PartialEq, Eq)]
-pub(crate) struct Choice {
+pub(crate) struct GainChoice {
     pub gain: Gain,
     pub greatest: u32,
 }
@@ -57,14 +57,19 @@ fn candidate(middle: Cpx, number: Cpx) -> Option<Gain>
 }
 
 // A gain with what it leaves, where that is below the end, if there is one.
-fn choice_of(samples: &[Sample], sent: &[Sample], gain: Gain, end: Option<u32>) -> Option<Choice>
+fn choice_of(
+    samples: &[Sample],
+    sent: &[Sample],
+    gain: Gain,
+    end: Option<u32>,
+) -> Option<GainChoice>
     requires { length sent.now ≡ length samples.now }
     ensures { result ≡ choice_below end (choice_with (greatest_left samples.now sent.now) gain) }
 {
     let end = end.unwrap_or(u32::MAX);
     let greatest = greatest_of(samples, sent, gain, end);
     if greatest < end {
-        Some(Choice { gain, greatest })
+        Some(GainChoice { gain, greatest })
     } else {
         None
     }
@@ -81,7 +86,7 @@ fn limit_of(samples: &[Sample], sent: &[Sample], middle: Cpx) -> Option<u32>
 }
 
 // The end of what a gain may leave to be better than what was found.
-fn end_of(limit: Option<u32>, found: &Option<Choice>) -> Option<u32>
+fn end_of(limit: Option<u32>, found: &Option<GainChoice>) -> Option<u32>
     ensures { result ≡ end_with limit found.now }
 {
     match found {
@@ -91,15 +96,15 @@ fn end_of(limit: Option<u32>, found: &Option<Choice>) -> Option<u32>
 }
 
 // The better of what was found and another gain.
-fn better(
+fn better_gain(
     samples: &[Sample],
     sent: &[Sample],
     limit: Option<u32>,
-    found: Option<Choice>,
+    found: Option<GainChoice>,
     gain: Gain,
-) -> Option<Choice>
+) -> Option<GainChoice>
     requires { length sent.now ≡ length samples.now }
-    ensures { result ≡ better_of limit found (choice_with (greatest_left samples.now sent.now) gain) }
+    ensures { result ≡ better_choice limit found (choice_with (greatest_left samples.now sent.now) gain) }
 {
     let end = end_of(limit, &found);
     choice_of(samples, sent, gain, end).or(found)
@@ -111,9 +116,9 @@ fn with_gain(
     sent: &[Sample],
     middle: Cpx,
     limit: Option<u32>,
-    found: Option<Choice>,
+    found: Option<GainChoice>,
     i: u8,
-) -> Option<Choice>
+) -> Option<GainChoice>
     requires middle { IsWithin (2 ^ 40) middle }
     requires count { length sent.now ≡ length samples.now }
     requires i { i < 25 }
@@ -121,14 +126,14 @@ fn with_gain(
     ensures { IsFoundBefore (greatest_left samples.now sent.now) middle limit (i + 1) result }
 {
     match candidate(middle, around(middle, i)) {
-        Some(gain) => better(samples, sent, limit, found, gain),
+        Some(gain) => better_gain(samples, sent, limit, found, gain),
         None => found,
     }
 }
 
 /// The best of the candidates near an estimate, by what they leave of the samples; `None` exactly where there is no
 /// candidate.
-pub(crate) fn best(samples: &[Sample], sent: &[Sample], middle: Cpx) -> Option<Choice>
+pub(crate) fn best(samples: &[Sample], sent: &[Sample], middle: Cpx) -> Option<GainChoice>
     requires middle { IsWithin (2 ^ 40) middle }
     requires count { length sent.now ≡ length samples.now }
     ensures { IsChosen (greatest_left samples.now sent.now) middle result }

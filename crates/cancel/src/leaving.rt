@@ -1,7 +1,7 @@
 //! What a gain leaves.
 
 ghost use Rattle.std.specs.Prelude.{◌≡◌, ◌^◌, ◌<◌, ◌≤◌, length, max};
-ghost use Rattle.cs_num.specs.Complex.{IsWithin, value_of, minus, times, size as size_of};
+ghost use Rattle.cs_num.specs.Complex.{IsWithin, value_of, minus, times, size as greatest_part_of};
 ghost use Rattle.cs_num.specs.Rounding.{in_16_bits as in_16_bits_of, nearest_sample as nearest_sample_of};
 ghost use Rattle.cancel.specs.Gain.{greatest_below};
 ghost use Rattle.cancel.specs.Steps.{left_of, greatest_of as greatest_left};
@@ -53,13 +53,13 @@ fn left_of_value(value: &Cpx, sent: &Cpx, gain: &Cpx) -> Remainder
 }
 
 impl Remainder {
-    // The greater size of a component.
-    fn size(&self) -> u32
+    // The greater of the sizes of its two parts.
+    fn greatest_part(&self) -> u32
         requires { IsWithin (2 ^ 22) self.now }
-        ensures value { result ≡ size_of self.now }
+        ensures value { result ≡ greatest_part_of self.now }
         ensures small { result ≤ 2 ^ 22 }
     {
-        greater(self.re.unsigned_abs(), self.im.unsigned_abs())
+        greater_part(self.re.unsigned_abs(), self.im.unsigned_abs())
     }
 
     /// The sample that is nearest to the number.
@@ -80,8 +80,8 @@ fn in_16_bits(x: &i32) -> i16
     (*x).clamp(-32_768, 32_767) as i16
 }
 
-// The greater of two sizes.
-fn greater(a: u32, b: u32) -> u32
+// The greater of the sizes of two parts.
+fn greater_part(a: u32, b: u32) -> u32
     ensures { result ≡ max a b }
 {
     a.max(b)
@@ -106,7 +106,7 @@ fn greatest_to(
 {
     let mut greatest = before;
     for i in from..to {
-        greatest = greater(greatest, left(samples[i], sent[i], gain).size());
+        greatest = greater_part(greatest, left(samples[i], sent[i], gain).greatest_part());
     }
     greatest
 }

@@ -10,7 +10,7 @@ ghost use Rattle.cancel.specs.Residue.{IsSubtraction, TakesLoadedOff, TakesClean
 ghost use Rattle.cancel.specs.Steps.{left_of, IsTakenOff};
 
 use crate::Subtracted;
-use crate::choosing::{Choice, best};
+use crate::choosing::{GainChoice, best};
 use crate::estimating::estimate;
 use crate::leaving::left;
 use cell_tx::{Cell, Port, Sender, pair_of, sequence};
@@ -170,7 +170,7 @@ fn taken_off(
     recording: &Recording,
     before: u128,
     sent: &[Sample],
-    choice: Choice,
+    choice: GainChoice,
 ) -> Result<Subtracted, AllocError>
     requires before { before ≡ sum_of recording.now }
     requires count { length sent.now ≡ length recording.now }
