@@ -6,7 +6,7 @@ use Rattle.lte_types.specs.declared.Hit.{Hit}
 use Rattle.finite.specs.Lists.{joined_below, values_below}
 use Rattle.pss_search.specs.declared.measure.Metric.{Metric}
 use Rattle.pss_search.specs.declared.products.ProductSums.{ProductSums}
-use Rattle.pss_search.specs.declared.measure.Row.{Row}
+use Rattle.pss_search.specs.declared.measure.PlaceSums.{PlaceSums}
 use Rattle.pss_search.specs.Correlation.{peak, energy}
 use Rattle.pss_search.specs.Metrics.{Standing, end_place}
 use Rattle.pss_search.specs.Hits.{first_place, last_place, hit_at, hits_before}
@@ -46,26 +46,26 @@ pub record IsReady (recording : List Sample) (place total : ℕ) : Type 0 where
 -- ---- the last 19 places
 
 -- a row holds the peaks and the energy of place u
-pub record IsRowOf (recording : List Sample) (u : ℕ) (row : Row) : Type 0 where
+pub record IsRowOf (recording : List Sample) (u : ℕ) (row : PlaceSums) : Type 0 where
   pub peaks : row.peaks ≡ values_below 3 (λ n2. peak recording n2 u)
   pub energy : row.energy ≡ energy recording u
   pub small_peaks : All (λ p. p ≤ 2 ^ 63) row.peaks
   pub small_energy : row.energy ≤ 2 ^ 38
 
-abbrev pub empty_row : Row
+abbrev pub empty_row : PlaceSums
 empty_row = record { peaks = []; energy = 0 }
 
 -- the rows hold the last 19 places before this one, place u at u modulo 32
-pub record HoldsLast (recording : List Sample) (place : ℕ) (rows : List Row) : Type 0 where
+pub record HoldsLast (recording : List Sample) (place : ℕ) (rows : List PlaceSums) : Type 0 where
   pub whole : length rows ≡ 32
   pub each : (u : ℕ) → 128 ≤ u → u < place → place ≤ u + 19 →
       IsRowOf recording u (slice_index_or rows (u % 32) empty_row)
 
--- the window stands ten places past place t of the span, so that it has all metrics that decide whether t is a hit
-pub record DecidesOn (window : Standing) (t : ℕ) : Type 0 where
+-- the sweep stands ten places past place t of the span, so that it has all metrics that decide whether t is a hit
+pub record DecidesOn (recent : Standing) (t : ℕ) : Type 0 where
   pub first : first_place ≤ t
   pub last : t ≤ last_place
-  pub past : window.place ≡ t + 10
+  pub past : recent.place ≡ t + 10
 
 -- ---- the list
 

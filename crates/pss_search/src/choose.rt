@@ -7,7 +7,7 @@ ghost use Rattle.pss_search.specs.Hits.{hit_at, hits_at, IsSmallHit};
 ghost use Rattle.pss_search.specs.Steps.{DecidesOn, IsMetricOf};
 
 use crate::measure::Metric;
-use crate::recent::Window;
+use crate::recent::Recent;
 use crate::signals::Root;
 use lte_types::Hit;
 
@@ -20,11 +20,11 @@ const QUARTER_OF_LEAST: u64 = 497_500;
 // Whether the place may be a hit: some peak is great enough for a signal of the least power. Most places are not, and
 // need no other test.
 #[inline(always)]
-pub(crate) fn may_be_hit(window: &Window, t: usize) -> bool
-    requires decides { DecidesOn window.now t }
-    ensures { result ≡ false → hits_at window.now.recording t ≡ [] }
+pub(crate) fn may_be_hit(recent: &Recent, t: usize) -> bool
+    requires decides { DecidesOn recent.now t }
+    ensures { result ≡ false → hits_at recent.now.recording t ≡ [] }
 {
-    let row = window.row(t);
+    let row = recent.row(t);
     let least = row.energy * QUARTER_OF_LEAST;
     let [first, second, third] = row.peaks;
     if least <= first {
@@ -38,13 +38,13 @@ pub(crate) fn may_be_hit(window: &Window, t: usize) -> bool
 
 // The hit of a root at place t, where there is one.
 #[tactic(auto, unfolding(crate::specs::Hits::hit_at))]
-pub(crate) fn hit_of(window: &Window, root: &Root, t: usize) -> Option<Hit>
-    requires decides { DecidesOn window.now t }
-    ensures value { option_to_list result ≡ hit_at window.now.recording t root.now.n2 }
+pub(crate) fn hit_of(recent: &Recent, root: &Root, t: usize) -> Option<Hit>
+    requires decides { DecidesOn recent.now t }
+    ensures value { option_to_list result ≡ hit_at recent.now.recording t root.now.n2 }
     ensures small { IfSome result IsSmallHit }
 {
-    let own = window.metric(root.n2, t);
-    if stands_out(window, root, t, own) {
+    let own = recent.metric(root.n2, t);
+    if stands_out(recent, root, t, own) {
         Some(Hit {
             t: t as u32,
             n2: root.n2,
@@ -58,24 +58,24 @@ pub(crate) fn hit_of(window: &Window, root: &Root, t: usize) -> Option<Hit>
 
 // Whether the place is a hit, its own metric being known.
 #[tactic(auto, using(std::proofs::lemmas::Bool::Decides::nat_tests), unfolding(crate::specs::Tests::is_hit))]
-fn stands_out(window: &Window, root: &Root, t: usize, own: Metric) -> bool
-    requires decides { DecidesOn window.now t }
-    requires metric { IsMetricOf window.now.recording root.now.n2 t own }
-    ensures { result ≡ is_hit window.now.recording t root.now.n2 }
+fn stands_out(recent: &Recent, root: &Root, t: usize, own: Metric) -> bool
+    requires decides { DecidesOn recent.now t }
+    requires metric { IsMetricOf recent.now.recording root.now.n2 t own }
+    ensures { result ≡ is_hit recent.now.recording t root.now.n2 }
 {
     own.energy > 0
         && own.energy as u128 * root.power as u128 <= 4 * own.peak
-        && !is_ruled_out_at(window, root, t, own)
+        && !is_ruled_out_at(recent, root, t, own)
 }
 
 // Whether some place within 9 of t rules t out.
-fn is_ruled_out_at(window: &Window, root: &Root, t: usize, own: Metric) -> bool
-    requires decides { DecidesOn window.now t }
-    requires metric { IsMetricOf window.now.recording root.now.n2 t own }
-    ensures { result ≡ is_ruled_out window.now.recording root.now.n2 t }
+fn is_ruled_out_at(recent: &Recent, root: &Root, t: usize, own: Metric) -> bool
+    requires decides { DecidesOn recent.now t }
+    requires metric { IsMetricOf recent.now.recording root.now.n2 t own }
+    ensures { result ≡ is_ruled_out recent.now.recording root.now.n2 t }
 {
     for d in 0..19 {
-        if rules_out_at(window, root, t, own, t - 9 + d) {
+        if rules_out_at(recent, root, t, own, t - 9 + d) {
             return true;
         }
     }
@@ -84,14 +84,14 @@ fn is_ruled_out_at(window: &Window, root: &Root, t: usize, own: Metric) -> bool
 
 // Whether the place u rules t out: it is above t, or stands before t and is level with it.
 #[tactic(auto, using(std::proofs::lemmas::Bool::Decides::nat_tests), unfolding(crate::specs::Tests::rules_out))]
-fn rules_out_at(window: &Window, root: &Root, t: usize, own: Metric, u: usize) -> bool
+fn rules_out_at(recent: &Recent, root: &Root, t: usize, own: Metric, u: usize) -> bool
     requires first { 128 ≤ u }
-    requires measured { u < window.now.place }
-    requires kept { window.now.place ≤ u + 19 }
-    requires metric { IsMetricOf window.now.recording root.now.n2 t own }
-    ensures { result ≡ rules_out window.now.recording root.now.n2 t u }
+    requires measured { u < recent.now.place }
+    requires kept { recent.now.place ≤ u + 19 }
+    requires metric { IsMetricOf recent.now.recording root.now.n2 t own }
+    ensures { result ≡ rules_out recent.now.recording root.now.n2 t u }
 {
-    let other = window.metric(root.n2, u);
+    let other = recent.metric(root.n2, u);
     let theirs = other.peak * own.energy as u128;
     let ours = own.peak * other.energy as u128;
     other.energy > 0 && own.energy > 0 && (theirs > ours || (u < t && theirs == ours))

@@ -9,7 +9,7 @@ ghost use Rattle.pss_search.specs.Hits.{IsInSpan, IsSmallHit, hits_of};
 ghost use Rattle.pss_search.specs.Steps.{so_far};
 
 use crate::choose::{FIRST_PLACE, hit_of, may_be_hit};
-use crate::recent::Window;
+use crate::recent::Recent;
 use crate::signals::Root;
 use lte_types::{FRAME_LENGTH, Hit};
 use sample_file::Recording;
@@ -77,28 +77,28 @@ pub fn hits(recording: &Recording, list: &mut HitList)
     let first = Root::new(0);
     let second = Root::new(1);
     let third = Root::new(2);
-    let mut window = Window::new(recording);
+    let mut recent = Recent::new(recording);
     list.clear();
     for i in 0..FRAME_LENGTH {
-        window.advance();
-        if may_be_hit(&window, FIRST_PLACE + i) {
-            add_of(&window, &first, i, list);
-            add_of(&window, &second, i, list);
-            add_of(&window, &third, i, list);
+        recent.advance();
+        if may_be_hit(&recent, FIRST_PLACE + i) {
+            add_of(&recent, &first, i, list);
+            add_of(&recent, &second, i, list);
+            add_of(&recent, &third, i, list);
         }
     }
 }
 
 // Adds the hit of a root at place i of the span, where there is one.
-fn add_of(window: &Window, root: &Root, i: usize, list: &mut HitList)
+fn add_of(recent: &Recent, root: &Root, i: usize, list: &mut HitList)
     requires i { i < frame_length }
-    requires middle { window.now.place ≡ i + 147 }
-    requires before { list.old ≡ so_far window.now.recording i root.now.n2 }
+    requires middle { recent.now.place ≡ i + 147 }
+    requires before { list.old ≡ so_far recent.now.recording i root.now.n2 }
     requires small { All IsSmallHit list.old }
-    ensures list { list.new ≡ so_far window.now.recording i (root.now.n2 + 1) }
+    ensures list { list.new ≡ so_far recent.now.recording i (root.now.n2 + 1) }
     ensures small { All IsSmallHit list.new }
 {
-    match hit_of(window, root, FIRST_PLACE + i) {
+    match hit_of(recent, root, FIRST_PLACE + i) {
         Some(hit) => list.add(hit),
         None => {}
     }

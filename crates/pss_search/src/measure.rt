@@ -28,15 +28,16 @@ pub struct Metric {
     pub energy: u64,
 }
 
-// What is measured of a place against the three primary signals: a peak for each, at most 2^63, and the energy.
+// A row of the sweep, what is measured of a place: a peak for each of the three primary signals, at most 2^63, and
+// the energy.
 #[derive(Clone, Copy)]
-pub(crate) struct Row {
+pub(crate) struct PlaceSums {
     pub peaks: [u64; 3],
     pub energy: u64,
 }
 
-impl Row {
-    pub(crate) const EMPTY: Row = Row {
+impl PlaceSums {
+    pub(crate) const EMPTY: PlaceSums = PlaceSums {
         peaks: [0; 3],
         energy: 0,
     };
@@ -132,7 +133,7 @@ impl<'a> Sweep<'a> {
 
     // The metrics of the next place, for all n2, as a row.
     #[inline(always)]
-    pub(crate) fn measure(&mut self) -> Option<Row>
+    pub(crate) fn measure(&mut self) -> Option<PlaceSums>
         ensures end { IsNone result ↔ (self.old.place ≡ end_place) }
         ensures stays { IfNone result (self.new ≡ self.old) }
         ensures value { IfSome result (IsRowOf self.old.recording self.old.place) }
@@ -152,14 +153,14 @@ impl<'a> Sweep<'a> {
 }
 
 // The row of three correlations and an energy.
-fn row_of(sums: &[Cpx; 3], total: u64) -> Row
+fn row_of(sums: &[Cpx; 3], total: u64) -> PlaceSums
     requires small { All (IsWithin (2 ^ 31)) sums.now }
     requires few { total ≤ 2 ^ 38 }
     ensures { (recording : List SampleValue) → (t : ℕ) → sums.now ≡ correlations_at recording t →
         total ≡ energy recording t → IsRowOf recording t result }
 {
     let peaks = [square_of(sums[0]), square_of(sums[1]), square_of(sums[2])];
-    Row {
+    PlaceSums {
         peaks,
         energy: total,
     }

@@ -4,7 +4,7 @@ ghost use Rattle.std.specs.Prelude.{◌≡◌, ◌+◌, ◌<◌, ◌≤◌};
 ghost use Rattle.pss_search.specs.Metrics.{Standing, end_place};
 ghost use Rattle.pss_search.specs.Steps.{IsMetricOf, IsRowOf};
 
-use crate::measure::{Metric, Row, Sweep};
+use crate::measure::{Metric, PlaceSums, Sweep};
 use sample_file::Recording;
 use std::marker::Model;
 
@@ -16,12 +16,12 @@ const ROWS: usize = 32;
 
 // The sweep, and the rows of the last 19 places at least, that of place u at u modulo 32.
 #[derive(Drop)]
-pub(crate) struct Window<'a> {
+pub(crate) struct Recent<'a> {
     sweep: Sweep<'a>,
-    rows: [Row; 32],
+    rows: [PlaceSums; 32],
 }
 
-impl<'a> Model for Window<'a> {
+impl<'a> Model for Recent<'a> {
     ghost use Rattle.pss_search.specs.Metrics.{Standing};
     ghost use Rattle.pss_search.specs.Steps.{HoldsLast};
 
@@ -32,28 +32,28 @@ impl<'a> Model for Window<'a> {
     ghost invariant = { λ w. HoldsLast w.sweep.recording w.sweep.place w.rows };
 }
 
-impl<'a> Window<'a> {
-    // The window before place 128.
-    fn empty(recording: &'a Recording) -> Window<'a>
+impl<'a> Recent<'a> {
+    // The sums before place 128: none yet.
+    fn empty(recording: &'a Recording) -> Recent<'a>
         ensures recording { result.recording ≡ recording.now }
         ensures place { result.place ≡ 128 }
     {
-        Window {
+        Recent {
             sweep: Sweep::new(recording),
-            rows: [Row::EMPTY; 32],
+            rows: [PlaceSums::EMPTY; 32],
         }
     }
 
-    // The window before place 146: all places but the last that decide on the first of the span.
-    pub(crate) fn new(recording: &'a Recording) -> Window<'a>
+    // The sums before place 146: those of all places but the last that decide on the first of the span.
+    pub(crate) fn new(recording: &'a Recording) -> Recent<'a>
         ensures recording { result.recording ≡ recording.now }
         ensures place { result.place ≡ 146 }
     {
-        let mut window = Window::empty(recording);
+        let mut recent = Recent::empty(recording);
         for _ in 1..PLACES {
-            window.advance();
+            recent.advance();
         }
-        window
+        recent
     }
 
     // Measures the next place.
@@ -70,7 +70,7 @@ impl<'a> Window<'a> {
     }
 
     // The row of one of the last 19 places.
-    pub(crate) fn row(&self, u: usize) -> Row
+    pub(crate) fn row(&self, u: usize) -> PlaceSums
         requires first { 128 ≤ u }
         requires measured { u < self.now.place }
         requires kept { self.now.place ≤ u + 19 }

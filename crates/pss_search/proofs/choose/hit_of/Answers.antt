@@ -8,6 +8,6 @@ returns-then-stands_out-clause-small c =
     let known = c.args.root.now.known in
     let energy = subst (λ e. e ≤ 2 ^ 38) own.energy own.small_energy in
     record {
-      peak = subst (λ p. p ≤ 2 ^ 59) (sym own.peak) (small_peak c.args.window.now.recording c.args.root.now.n2 c.args.t (omega (arith, known)) energy);
+      peak = subst (λ p. p ≤ 2 ^ 59) (sym own.peak) (small_peak c.args.recent.now.recording c.args.root.now.n2 c.args.t (omega (arith, known)) energy);
       energy = own.small_energy;
     }

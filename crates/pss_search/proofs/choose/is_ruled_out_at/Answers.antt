@@ -10,7 +10,7 @@ loop-d-init c = refl
 
 pub loop-d-preserved : goal.loop-d-preserved
 loop-d-preserved c =
-    let p : ℕ → Bool = λ d. rules_out c.args.window.now.recording c.args.root.now.n2 c.args.t (c.args.t - 9 + d) in
+    let p : ℕ → Bool = λ d. rules_out c.args.recent.now.recording c.args.root.now.n2 c.args.t (c.args.t - 9 + d) in
     let before : any_below c.loop-d.d p ≡ false = c.loop-d.invariant in
     let here : p c.loop-d.d ≡ false = sym c.rules_out_at.ensures ∙ c.if-rules_out_at.false in
     any_below_more c.loop-d.d p ∙ rw (before, here) refl
@@ -18,12 +18,12 @@ loop-d-preserved c =
 pub returns-then-rules_out_at : goal.returns-then-rules_out_at
 unfolding is_ruled_out
 returns-then-rules_out_at c =
-    let p : ℕ → Bool = λ d. rules_out c.args.window.now.recording c.args.root.now.n2 c.args.t (c.args.t - 9 + d) in
+    let p : ℕ → Bool = λ d. rules_out c.args.recent.now.recording c.args.root.now.n2 c.args.t (c.args.t - 9 + d) in
     sym (any_below_at 19 c.loop-d.d p (omega arith) (sym c.rules_out_at.ensures ∙ c.if-rules_out_at.true))
 
 pub returns : goal.returns
 unfolding is_ruled_out
 returns c =
-    let p : ℕ → Bool = λ d. rules_out c.args.window.now.recording c.args.root.now.n2 c.args.t (c.args.t - 9 + d) in
+    let p : ℕ → Bool = λ d. rules_out c.args.recent.now.recording c.args.root.now.n2 c.args.t (c.args.t - 9 + d) in
     let last : c.loop-d.d ≡ 19 = omega arith in
     sym (ap (λ n. any_below n p) (sym last) ∙ c.loop-d.invariant)

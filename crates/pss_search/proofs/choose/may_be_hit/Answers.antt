@@ -6,7 +6,7 @@ use Rattle.pss_search.proofs.choose.may_be_hit.Goals as goal
 
 pub returns : goal.returns
 returns c = λ e.
-    let recording = c.args.window.now.recording in
+    let recording = c.args.recent.now.recording in
     let row = c.row-row.ensures in
     let peak_is : (n2 : ℕ) → slice_index_or {A = ℕ} c.row-row.result.peaks n2 0 ≡ slice_index_or {A = ℕ} (peak recording 0 c.args.t ∷ peak recording 1 c.args.t ∷ peak recording 2 c.args.t ∷ []) n2 0 =
     λ n2. ap (λ peaks. slice_index_or {A = ℕ} peaks n2 0) row.peaks in

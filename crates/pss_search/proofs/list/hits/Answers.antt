@@ -13,8 +13,8 @@ pub loop-i-init : goal.loop-i-init
 loop-i-init c = record {
   list = c.clear.ensures ∙ sym (hits_before_none c.args.recording.now);
   small = rw c.clear.ensures (All-nil IsSmallHit);
-  recording = c.new-window.ensures.recording;
-  place = c.new-window.ensures.place;
+  recording = c.new-recent.ensures.recording;
+  place = c.new-recent.ensures.place;
 }
 
 pub add_of-requires-clause-before : goal.add_of-requires-clause-before

@@ -7,6 +7,6 @@ abbrev pub invariant-loop-i : goal.invariant-loop-i
 invariant-loop-i l = record {
   list : l.list ≡ hits_before l.recording l.i;
   small : All IsSmallHit l.list;
-  recording : l.window.recording ≡ l.recording;
-  place : l.window.place ≡ l.i + 146;
+  recording : l.recent.recording ≡ l.recording;
+  place : l.recent.place ≡ l.i + 146;
 }
