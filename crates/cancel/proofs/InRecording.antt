@@ -1,5 +1,5 @@
 -- A cell taken off a recording that is clean of it, whatever else the cell sends.
-use Rattle.std.proofs.Common.{Result, Ok, Err, Option, Some, None, ◌≡◌, ℕ, ◌+◌, ◌*◌, ◌/◌, ◌%◌, ◌<◌, ◌≤◌, arith, ap, ap₂, sym, subst, ◌∙◌, List, length}
+use Rattle.std.proofs.Common.{Result, Ok, Err, Option, Some, None, ◌≡◌, ℕ, ◌+◌, ◌*◌, ◌/◌, ◌%◌, ◌<◌, ◌≤◌, arith, ap, ap₂, sym, subst, ◌∙◌, List, length, [], ◌∷◌}
 use Rattle.std.specs.Prelude.{IsSomeAnd, IfOk}
 use Rattle.std.specs.declared.alloc.AllocError.{AllocError}
 use Rattle.finite.proofs.Lists.{values_below_at, values_below-length}
@@ -10,6 +10,7 @@ use Rattle.cs_num.proofs.Complex.{within_more}
 use Rattle.cs_num.specs.Rounding.{nearest_sample}
 use Rattle.cs_num.proofs.Samples.{nearest_sample-kept}
 use Rattle.sizes.proofs.Naturals.{root-le}
+use Rattle.lte_types.specs.declared.carrier.Carrier.TheVariants.{OnePort}
 use Rattle.lte_types.specs.Numerology.{primary_start}
 use Rattle.lte_types.specs.declared.frame.Half.TheVariants.{Zero}
 use Rattle.lte_types.specs.Timing.{start_of, number_at_start}
@@ -23,7 +24,8 @@ use Rattle.budget.specs.Received.{IsReceived, samples_from}
 use Rattle.budget.proofs.PeakSums.{wave_is_sharp}
 use Rattle.clean_air.specs.Load.{IsLoaded}
 use Rattle.clean_air.proofs.Carrying.{clean_is_loaded}
-use Rattle.clean_air.proofs.SentSymbols.{IsTruePlace, primary_received}
+use Rattle.clean_air.proofs.SentSymbols.{IsTruePlace}
+use Rattle.clean_air.proofs.Signals.{primary_received}
 use Rattle.cell_tx.specs.Pair.{gain_of}
 use Rattle.cancel.specs.declared.subtracted.Subtracted.{Subtracted}
 use Rattle.cancel.specs.Gain.{IsCandidate, IsBest}
@@ -39,13 +41,13 @@ true_place offset within = record { frame = (start_of offset + offset) / 19200; 
 
 module _ (recording : List Sample) (plan : CellPlan) (grid : Elements) (sfn offset : ℕ) (gain : Cpx) (eps : ℕ) (clean : IsLoaded recording plan grid sfn offset gain eps) (long : 57600 ≤ length recording) where
   primary : IsReceived eps gain (pss_grid (plan.identity % 3)) (samples_from recording (start_of offset + primary_start Zero))
-  primary = primary_received recording plan grid sfn offset gain eps (start_of offset + primary_start Zero) clean (omega (arith, long)) Zero (true_place offset clean.samples.within)
+  primary = primary_received OnePort recording plan (λ port. grid) sfn offset (gain ∷ []) eps (start_of offset + primary_start Zero) clean (omega (arith, long)) Zero (true_place offset clean.within)
 
   seen : IsGainSeen eps gain (samples_from recording (start_of offset + primary_start Zero)) (wave (plan.identity % 3))
   unfolding wave
   seen = record {
-    size = clean.samples.size;
-    quiet = clean.samples.bound;
+    size = clean.gains_are;
+    quiet = clean.bound;
     power = (wave_is_sharp (plan.identity % 3) (omega arith)).power;
     near = λ n l. primary.near n l;
   }

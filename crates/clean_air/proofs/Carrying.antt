@@ -1,10 +1,11 @@
 -- Elements that carry a plan: what they are at the places of its signals and channels.
-use Rattle.std.proofs.Common.{◌≡◌, ℕ, ◌-◌, ◌%◌, ◌<◌, Bool, true, false, ◌&&◌, ◌||◌, nat_eq, None, List, length, get_or, arith, refl, ◌∙◌}
+use Rattle.std.proofs.Common.{◌≡◌, ℕ, ◌-◌, ◌%◌, ◌<◌, ◌≤◌, Bool, true, false, ◌&&◌, ◌||◌, nat_eq, None, List, length, get_or, arith, refl, ◌∙◌}
 use Rattle.std.specs.Prelude.{if◌then◌else◌}
 use Rattle.std.proofs.lemmas.Bool.{lt-ltb, or_left, or_right, or_parts}
 use Rattle.cs_num.specs.declared.Cpx.{Cpx}
 use Rattle.cs_num.specs.declared.Sample.{Sample}
-use Rattle.cs_num.specs.Complex.{nothing}
+use Rattle.cs_num.specs.Complex.{nothing, value_at}
+use Rattle.lte_types.specs.declared.carrier.Carrier.TheVariants.{OnePort}
 use Rattle.lte_types.specs.declared.frame.Half.{Half}
 use Rattle.lte_types.specs.declared.frame.Half.TheVariants.{Zero, Five}
 use Rattle.lte_types.specs.Numerology.{subframe_of}
@@ -17,15 +18,15 @@ use Rattle.cell_tx.specs.declared.antenna.Port.{Port}
 use Rattle.cell_tx.specs.declared.antenna.Port.TheVariants.{Only, First, Second, Long, OfFour}
 use Rattle.cell_tx.specs.declared.cell.CellPlan.{CellPlan}
 use Rattle.cell_tx.specs.Plan.{IsSendableWith}
-use Rattle.cell_tx.specs.Ports.{port_symbols, port_slot, has_control, is_two, sent_point, is_own_reference, is_other_reference}
+use Rattle.cell_tx.specs.Ports.{carrier_of, port_symbols, port_slot, has_control, is_two, sent_point, is_own_reference, is_other_reference}
 use Rattle.cell_tx.specs.Control.{control_places, indicator_point, control_point}
 use Rattle.cell_tx.specs.Shared.{assigned_places, shared_point}
 use Rattle.cell_tx.specs.Grid.{is_one_of, has_system_information, has_broadcast, is_indicator, is_control, is_shared, port_channel_value, port_element}
 use Rattle.cell_tx.specs.Load.{is_signal_symbol, is_any_reference, has_system_place, has_channel, is_taken}
-use Rattle.cell_tx.specs.Sent.{Elements}
-use Rattle.cell_tx.specs.Clean.{IsClean}
+use Rattle.cell_tx.specs.Sent.{Elements, sent}
+use Rattle.cell_tx.specs.Clean.{IsClean, IsCleanOf}
 use Rattle.budget.proofs.Scores.{amplitude}
-use Rattle.clean_air.specs.Load.{CarriesPlan, IsLoaded, SentElementsCarry}
+use Rattle.clean_air.specs.Load.{CarriesPlan, IsLoadedBy, IsLoaded, SentElementsCarry}
 use Rattle.cell_tx.proofs.Bounds.{sent_element-square}
 use Rattle.cell_tx.proofs.Elements.{sent_of_taken}
 use Rattle.cell_tx.proofs.SystemPlaces.{indicator_indexed, control_indexed, assigned_indexed, indicator_sent, control_sent, shared_sent}
@@ -42,10 +43,45 @@ sent_elements_carry load port plan = record {
 pub own_elements_carry : (port : Port) (plan : CellPlan) → CarriesPlan port plan (port_element port plan)
 own_elements_carry = sent_elements_carry None
 
+-- ---- a recording of a cell's only port
+
+-- a property of the ports of a carrier is one of its only port
+pub of_only : (P : Port → Type 0) → P Only → (port : Port) → carrier_of port ≡ OnePort → P port
+of_only P at Only e = at
+of_only P at First e = absurd (cc e)
+of_only P at Second e = absurd (cc e)
+of_only P at Long e = absurd (cc e)
+of_only P at (OfFour port) e = absurd (cc e)
+
+-- a recording that is clean of elements by one port is so of those of this port
+pub only_loaded : (recording : List Sample) (plan : CellPlan) (grids : Port → Elements) (sfn offset : ℕ) (gains : List Cpx) (eps : ℕ) →
+    IsLoadedBy OnePort recording plan grids sfn offset gains eps → IsLoaded recording plan (grids Only) sfn offset (value_at gains 0) eps
+only_loaded recording plan grids sfn offset gains eps clean = record {
+  number = clean.number;
+  within = clean.within;
+  carries = of_only (λ port. CarriesPlan port plan (grids Only)) (clean.carries Only refl);
+  gains_are = clean.gains_are;
+  bound = clean.bound;
+  near = clean.near;
+}
+
+-- and one that is clean of a sequence of elements that carry the plan is loaded
+pub loaded_of : (recording : List Sample) (plan : CellPlan) (grid : Elements) (sfn offset : ℕ) (gain : Cpx) (eps : ℕ) → sfn ≤ 1023 → CarriesPlan Only plan grid →
+    IsCleanOf (sent grid sfn) recording offset gain eps → IsLoaded recording plan grid sfn offset gain eps
+loaded_of recording plan grid sfn offset gain eps known carries samples = record {
+  number = known;
+  within = samples.within;
+  carries = of_only (λ port. CarriesPlan port plan grid) carries;
+  gains_are = samples.size;
+  bound = samples.bound;
+  near = samples.near;
+}
+
 -- so a clean recording is one without load
 pub clean_is_loaded : (recording : List Sample) (plan : CellPlan) (sfn offset : ℕ) (gain : Cpx) (eps : ℕ) → IsClean recording plan sfn offset gain eps →
     IsLoaded recording plan (port_element Only plan) sfn offset gain eps
-clean_is_loaded recording plan sfn offset gain eps clean = record { number = clean.number; carries = own_elements_carry Only plan; samples = clean.samples }
+clean_is_loaded recording plan sfn offset gain eps clean =
+    loaded_of recording plan (port_element Only plan) sfn offset gain eps clean.number (own_elements_carry Only plan) clean.samples
 
 -- ---- which places are taken
 

@@ -5,12 +5,11 @@ use Rattle.std.specs.Prelude.{◌&&◌, Result}
 use Rattle.std.specs.List.{Contains}
 use Rattle.std.proofs.lemmas.Bool.{cases_lt}
 use Rattle.std.proofs.lemmas.Bool.Decides.{nat_tests}
+use Rattle.cs_num.specs.declared.Cpx.{Cpx}
 use Rattle.cs_num.specs.declared.Sample.{Sample}
 use Rattle.lte_types.specs.declared.bandwidth.Bandwidth.TheVariants.{N6}
 use Rattle.lte_types.specs.declared.carrier.Carrier.{Carrier}
 use Rattle.lte_types.specs.declared.carrier.Carrier.TheVariants.{OnePort, TwoPorts, FourPorts, LongPrefix}
-use Rattle.lte_types.specs.declared.duration.Duration.{Duration}
-use Rattle.lte_types.specs.declared.resource.Resource.{Resource}
 use Rattle.lte_types.specs.declared.mib.Mib.{Mib}
 use Rattle.lte_types.specs.declared.sib1.Sib1.{Sib1}
 use Rattle.lte_types.specs.declared.sib1_reason.Sib1Reason.{Sib1Reason}
@@ -45,45 +44,56 @@ use Rattle.explain.proofs.FirstEntries.{one_told_by}
 use Rattle.explain.proofs.Late.{are_taken}
 use Rattle.explain.proofs.Information.{first_tried, even_number, told_at_first, one_system}
 use Rattle.explain.proofs.Listed.{sound_of, complete_of}
-use Rattle.budget.specs.Peak.{IsPrimaryAt}
-use Rattle.budget.specs.Score.{AreSignals}
+use Rattle.cell_tx.specs.declared.antenna.Port.{Port}
+use Rattle.cell_tx.specs.declared.cell.CellPlan.{CellPlan}
+use Rattle.cell_tx.specs.Load.{sent_element}
+use Rattle.cell_tx.specs.Plan.{IsSendableBy}
+use Rattle.cell_tx.specs.Sent.{Elements}
 use Rattle.budget.proofs.Peaks.{primary_is_listed, only_hit_near}
 use Rattle.budget.proofs.Scores.{sent_pair_is_identified}
 use Rattle.clean_air.specs.Broadcast.{TellsFreely}
 use Rattle.clean_air.specs.Carried.{SpeakOfWord}
-use Rattle.clean_air.specs.Clean.{HoldsOne, IsSentEntryBy}
+use Rattle.clean_air.specs.Clean.{told_of, IsKnownPlan, IsKnownBy, HoldsCellBy, IsListBy, HoldsCells}
+use Rattle.clean_air.specs.Load.{IsLoadedBy}
+use Rattle.clean_air.proofs.Carrying.{sent_elements_carry}
 use Rattle.clean_air.proofs.Masters.{sent_word_is_told}
-use Rattle.clean_air.proofs.SentBlock.{IsMasterWord}
+use Rattle.clean_air.proofs.SentBlock.{IsBlockOf}
 use Rattle.clean_air.proofs.SentSymbols.{IsTruePlace, first_frame}
+use Rattle.clean_air.proofs.Signals.{primary_at, signals_at}
 use Rattle.clean_air.proofs.TruePlaces.{AreNear, true_hit, true_start, near_true, near_starts, same_numbers}
 
 -- the place of a cell that begins at this offset
 abbrev pub sent_place : ℕ → ℕ → Place
 sent_place identity offset = record { id = identity; start = start_after offset }
 
--- the block of the frame with this number
-abbrev pub sent_mib : Duration → Resource → (bits : ℕ) → bits ≤ 1023 → ℕ → Mib
-sent_mib lasting share bits range number =
-    record { bandwidth = N6; duration = lasting; resource = share; upper = number / 4; spare = bits; spare_range = range }
+-- the block of a plan in the frame with this number
+abbrev pub sent_mib : (plan : CellPlan) → plan.spare ≤ 1023 → ℕ → Mib
+sent_mib plan range number =
+    record { bandwidth = N6; duration = plan.duration; resource = plan.resource; upper = number / 4; spare = plan.spare; spare_range = range }
 
--- what a recording shows to a receiver of a cell with so many antenna ports that begins in the frame numbered sfn, at this
--- offset of it: the synchronisation signals at their places, and of the first whole frame the word that its broadcast channel
--- carries, for whose bits all values speak, and what is told of its system information
-pub record IsShown (receiver : Receiver) (recording : List Sample) (identity sfn offset count : ℕ) (lasting : Duration) (share : Resource) (bits : ℕ) (told : Result Sib1 Sib1Reason) : Type 0 where
-  pub long : 57600 ≤ length recording
-  pub number : sfn ≤ 1023
-  pub within : offset < 19200
-  pub range : bits ≤ 1023
-  pub primary : (t : ℕ) (half : Half) → IsTruePlace offset t half → t + 128 ≤ length recording → IsPrimaryAt recording t (identity % 3)
-  pub secondary : (t : ℕ) (half : Half) → IsTruePlace offset t half → symbol_step (prefix_of receiver.carrier) ≤ t → t + 128 ≤ length recording →
-      AreSignals (prefix_of receiver.carrier) recording t (identity / 3) (identity % 3) half
+-- what a recording shows to a receiver of a cell of its carrier whose first whole frame begins there and has this number: the word that its
+-- broadcast channel carries, for whose bits all values speak, and what is told of its system information
+pub record IsShown (receiver : Receiver) (recording : List Sample) (plan : CellPlan) (offset number : ℕ) (range : plan.spare ≤ 1023) : Type 0 where
   pub word : List Bool
-  pub block : IsMasterWord count lasting share (number_at_start sfn offset) bits word
-  pub speaks : SpeakOfWord (pbch_c_init identity) (receiver.size * (number_at_start sfn offset % 4)) word (receiver.broadcast recording (sent_place identity offset) 0)
+  pub block : IsBlockOf (ports_of receiver.carrier) plan number word
+  pub speaks : SpeakOfWord (pbch_c_init plan.identity) (receiver.size * (number % 4)) word (receiver.broadcast recording (sent_place plan.identity offset) 0)
   pub single : 1 ≤ receiver.most_frames
-  pub taken : receiver.takes count ≡ true
-  pub system : IsSystemFor receiver recording (sent_place identity offset) (number_at_start sfn offset) count
-      (sent_mib lasting share bits range (number_at_start sfn offset)) told
+  pub taken : receiver.takes (ports_of receiver.carrier) ≡ true
+  pub system : IsSystemFor receiver recording (sent_place plan.identity offset) number (ports_of receiver.carrier) (sent_mib plan range number) (told_of receiver.carrier plan.sib1)
+
+-- what can be told of a plan is in its ranges
+pub plan_known : (carrier : Carrier) (plan : CellPlan) → IsKnownBy carrier plan → IsKnownPlan plan
+plan_known OnePort plan known = record { identity = known.identity; spare = known.spare }
+plan_known TwoPorts plan known = record { identity = known.identity; spare = known.spare }
+plan_known LongPrefix plan known = known
+plan_known FourPorts plan known = known
+
+-- a recording shows each cell of which it is clean
+abbrev pub ShowsCells : Receiver → Type 0
+ShowsCells receiver =
+    (recording : List Sample) (plan : CellPlan) (grids : Port → Elements) (sfn offset : ℕ) (gains : List Cpx) (eps : ℕ) → 57600 ≤ length recording → (known : IsKnownBy receiver.carrier plan) →
+    IsLoadedBy receiver.carrier recording plan grids sfn offset gains eps →
+    IsShown receiver recording plan offset (number_at_start sfn offset) (plan_known receiver.carrier plan known).spare
 
 -- the first whole frame has a number of 10 bits
 pub number_fits : (sfn offset : ℕ) → sfn ≤ 1023 → offset < 19200 → number_at_start sfn offset ≤ 1023
@@ -116,8 +126,17 @@ step_fits TwoPorts = omega arith
 step_fits FourPorts = omega arith
 step_fits LongPrefix = omega arith
 
-module _ (receiver : Receiver) (recording : List Sample) (identity sfn offset count : ℕ) (lasting : Duration) (share : Resource) (bits : ℕ) (told : Result Sib1 Sib1Reason)
-    (shown : IsShown receiver recording identity sfn offset count lasting share bits told) where
+module _ (receiver : Receiver) (recording : List Sample) (plan : CellPlan) (grids : Port → Elements) (sfn offset : ℕ) (gains : List Cpx) (eps : ℕ) (long : 57600 ≤ length recording) (known : IsKnownPlan plan)
+    (clean : IsLoadedBy receiver.carrier recording plan grids sfn offset gains eps) (shown : IsShown receiver recording plan offset (number_at_start sfn offset) known.spare) where
+  abbrev identity : ℕ
+  identity = plan.identity
+
+  abbrev count : ℕ
+  count = ports_of receiver.carrier
+
+  abbrev told : Result Sib1 Sib1Reason
+  told = told_of receiver.carrier plan.sib1
+
   abbrev prefix : Prefix
   prefix = prefix_of receiver.carrier
 
@@ -129,7 +148,7 @@ module _ (receiver : Receiver) (recording : List Sample) (identity sfn offset co
 
   -- the master block of the first whole frame
   abbrev master : Master
-  master = record { ports = count; mib = sent_mib lasting share bits shown.range number; cost = 0 }
+  master = record { ports = count; mib = sent_mib plan known.spare number; cost = 0 }
 
   abbrev Tells : Place → Frames → Master → Type 0
   Tells = IsMasterFor receiver recording
@@ -138,7 +157,7 @@ module _ (receiver : Receiver) (recording : List Sample) (identity sfn offset co
   IsOfSome entry = IsEntryOfSome (IsEntryFor receiver recording) (hits_by receiver.carrier recording) entry
 
   fits : number ≤ 1023
-  fits = number_fits sfn offset shown.number shown.within
+  fits = number_fits sfn offset clean.number clean.within
 
   -- it tells the word, and so this block
   word_told : TellsFreely (sums_by receiver recording place (frames_from 1 0 (number % 4))) shown.word count
@@ -185,21 +204,20 @@ module _ (receiver : Receiver) (recording : List Sample) (identity sfn offset co
   -- it is one of a listed hit
   is_entry : IsOfSome sent_entry
   is_entry =
-      let h = true_hit offset shown.within in
-      let long = shown.long in
+      let h = true_hit offset clean.within in
       let inside : h.t + 128 ≤ length recording = omega (arith, long, h.is_hit.high) in
       let hit : Hit = found recording h.t (identity % 3) in
       let low = h.is_hit.low in
       let room : symbol_step prefix ≤ h.t = (let step = step_fits receiver.carrier in omega (arith, step, low)) in
       let pair : prefix_identity prefix recording hit ≡ (identity / 3, h.half) = sent_pair_is_identified prefix recording hit (identity / 3) h.half
-      (shown.secondary h.t h.half h.is_hit.is room inside) in
+      (signals_at receiver.carrier recording plan grids sfn offset gains eps h.t clean inside h.half h.is_hit.is room known.identity) in
       let cell : cell_of (identity / 3) (identity % 3) ≡ identity = omega arith in
       record {
         hit = hit;
-        listed = (are_taken receiver.carrier recording hit).1 (primary_is_listed recording h.t (identity % 3) (shown.primary h.t h.half h.is_hit.is inside) (omega (arith, low)) h.is_hit.high, room);
+        listed = (are_taken receiver.carrier recording hit).1 (primary_is_listed recording h.t (identity % 3) (primary_at receiver.carrier recording plan grids sfn offset gains eps h.t clean inside h.half h.is_hit.is) (omega (arith, low)) h.is_hit.high, room);
         is_of = record {
           id = sym (ap (λ (p : ℕ × Half). cell_of p.0 (identity % 3)) pair ∙ cell);
-          start = sym (ap (λ (p : ℕ × Half). start_of h.t p.1) pair ∙ true_start offset h.t h.half shown.within h.is_hit.is);
+          start = sym (ap (λ (p : ℕ × Half). start_of h.t p.1) pair ∙ true_start offset h.t h.half clean.within h.is_hit.is);
           period = omega arith;
           frames = record {
             inside = record { some = omega arith; few = omega arith; known = omega arith; whole = λ m below. omega (arith, long, below) };
@@ -218,12 +236,11 @@ module _ (receiver : Receiver) (recording : List Sample) (identity sfn offset co
       let hit = is.hit in
       let half = (prefix_identity prefix recording hit).1 in
       let right = (list_is_right recording hit).0 ((are_taken receiver.carrier recording hit).0 is.listed).0 in
-      let place = near_true offset hit.t half shown.within right.is_hit.from_first (subst (λ a. AreNear a (start_after offset)) is.is_of.start near) in
-      let long = shown.long in
+      let place = near_true offset hit.t half clean.within right.is_hit.from_first (subst (λ a. AreNear a (start_after offset)) is.is_of.start near) in
       let inside : place.u + 128 ≤ length recording = omega (arith, long, place.above, right.is_hit.to_last) in
-      let primary = shown.primary place.u half place.is inside in
+      let primary = primary_at receiver.carrier recording plan grids sfn offset gains eps place.u clean inside half place.is in
       let same = (only_hit_near recording place.u hit.t (identity % 3) hit.n2 primary (omega (arith, right.root)) place.below place.above right.is_hit).0 in
-      is.is_of.start ∙ true_start offset hit.t half shown.within (subst (λ t. IsTruePlace offset t half) (sym same) place.is)
+      is.is_of.start ∙ true_start offset hit.t half clean.within (subst (λ t. IsTruePlace offset t half) (sym same) place.is)
 
   at_place : (other : Entry) → other.id ≡ identity → other.start ≡ start_after offset → place_of other ≡ place
   at_place other id start = ap (λ i. record (place_of other) { id = i }) id ∙ ap (λ s. record place { start = s }) start
@@ -235,7 +252,6 @@ module _ (receiver : Receiver) (recording : List Sample) (identity sfn offset co
   -- it does not come before them, since the first frame alone tells a master block
   not_after : (other : Entry) → IsOfSome other → other.id ≡ identity → other.start ≡ start_after offset → ComeBefore (1, 0) (other.frames, other.frame) → ⊥
   not_after other is id start before =
-      let long = shown.long in
       let first : start_after offset < 19200 = omega arith in
       is.is_of.frames.first 1 0 (record { some = omega arith; few = omega arith; known = omega arith; whole = λ m below. omega (arith, long, first, start, below) }) before
       (number % 4) master (omega arith)
@@ -289,7 +305,7 @@ module _ (receiver : Receiver) (recording : List Sample) (identity sfn offset co
         subst (Contains list) same stands.inside
 
     -- and no other with its identity, start and number
-    pub shown_is_held : HoldsOne list identity (start_after offset) number (IsSentEntryBy count lasting share bits told number)
+    pub shown_is_held : HoldsCellBy receiver.carrier list plan (start_after offset) number
     shown_is_held = record {
       entry = sent_entry;
       inside = in_list;
@@ -299,3 +315,35 @@ module _ (receiver : Receiver) (recording : List Sample) (identity sfn offset co
       sent = record { ports = refl; block = record { bandwidth = refl; duration = refl; resource = refl; upper = refl; spare = refl }; sib1 = refl; cost = refl; frames = refl; frame = refl };
       only = λ other there id start number. entry_is other (sound_of (IsEntryFor receiver recording) (hits_by receiver.carrier recording) list other listed there) id start number;
     }
+
+-- ---- the list
+
+-- where each cell is shown, each is held
+pub shown_are_held : (receiver : Receiver) → ShowsCells receiver → HoldsCells receiver
+shown_are_held receiver shows recording list long listed plan grids sfn offset gains eps known clean =
+    shown_is_held receiver recording plan grids sfn offset gains eps long (plan_known receiver.carrier plan known) clean (shows recording plan grids sfn offset gains eps long known clean) list listed
+
+-- among them those that send nothing elsewhere, or load by a number
+pub is_list_by : (receiver : Receiver) → HoldsCells receiver → (recording : List Sample) (list : List Entry) → 57600 ≤ length recording → IsListFor receiver recording list →
+    IsListBy receiver recording list
+is_list_by receiver holds recording list long listed =
+    let loaded = holds recording list long listed in
+    record {
+      explained = listed;
+      loaded = loaded;
+      holds = λ load plan sfn offset gains eps known clean. loaded plan (λ port. sent_element load port plan) sfn offset gains eps known (record {
+        number = clean.number;
+        within = clean.within;
+        carries = λ port same. sent_elements_carry load port plan;
+        gains_are = clean.gains_are;
+        bound = clean.bound;
+        near = clean.near;
+      });
+    }
+
+-- what can be sent by a carrier can be told
+pub sendable_is_known : (carrier : Carrier) (plan : CellPlan) → IsSendableBy carrier plan → IsKnownBy carrier plan
+sendable_is_known OnePort plan sendable = sendable
+sendable_is_known TwoPorts plan sendable = sendable
+sendable_is_known LongPrefix plan sendable = record { identity = sendable.identity; spare = sendable.spare }
+sendable_is_known FourPorts plan sendable = record { identity = sendable.identity; spare = sendable.spare }

@@ -22,8 +22,9 @@ pub mod Grids
 pub mod Carrying
 -- At each place that it takes a plan sends a point.
 pub mod Taken
--- Each symbol of a clean recording is received as it was sent.
+-- Each symbol of a clean recording is received as it was sent, by any carrier, and the signals as from the first port alone.
 pub mod SentSymbols
+pub mod Signals
 -- The word that a cell broadcasts has its fields, and its check passes.
 pub mod SentBlock
 -- Where its primary signals stand, and what the epochs of its entries are.

@@ -1,6 +1,6 @@
 -- The plan of an entry: there is only one, and in a clean recording that of the sent cell.
 use Rattle.std.specs.Prelude.{IfOk}
-use Rattle.std.proofs.Common.{◌≡◌, ℕ, ◌+◌, ◌%◌, ◌<◌, ◌≤◌, arith, refl, ap, sym, subst, ◌∙◌, List, length, Option, Some, None, Result, Ok}
+use Rattle.std.proofs.Common.{◌≡◌, ℕ, ◌+◌, ◌%◌, ◌<◌, ◌≤◌, arith, refl, ap, sym, subst, ◌∙◌, List, [], ◌∷◌, length, Option, Some, None, Result, Ok}
 use Rattle.cs_num.specs.declared.Cpx.{Cpx}
 use Rattle.cs_num.specs.declared.Sample.{Sample}
 use Rattle.lte_types.specs.declared.carrier.Carrier.TheVariants.{OnePort}
@@ -31,10 +31,10 @@ use Rattle.cell_tx.specs.Plan.{IsSendable, plan_refusal}
 use Rattle.cell_tx.specs.Sent.{Elements}
 use Rattle.clean_air.specs.Load.{IsLoaded}
 use Rattle.cell_tx.proofs.Sendable.{accepted_is_sendable}
-use Rattle.clean_air.specs.Clean.{IsSentEntry}
+use Rattle.clean_air.specs.Clean.{IsSentEntryOf}
 use Rattle.clean_air.specs.Planned.{plan_by, IsPlanned, IsPlanOf, IsSentPlan, SentEntryHasPlan, IsOnePlan}
 use Rattle.clean_air.proofs.SentSystem.{grant_read, fields_read}
-use Rattle.clean_air.proofs.HeldCells.{holds_loaded_cells}
+use Rattle.clean_air.proofs.HeldCells.{holds_cells}
 
 -- ---- one plan
 
@@ -104,10 +104,10 @@ module _ (recording : List Sample) (entry : Entry) (plan : CellPlan) (grid : Ele
   early = omega arith
 
   -- the entry is the cell's
-  is_sent : IsSentEntry plan sent_sfn entry
+  is_sent : IsSentEntryOf OnePort plan sent_sfn entry
   is_sent =
-      let held = holds_loaded_cells recording listed.list long listed.explained plan grid sfn offset gain eps sendable clean in
-      subst (λ (e : Entry). IsSentEntry plan (number_at_start sfn offset) e) (sym (held.only entry listed.inside id start number)) held.sent
+      let held = holds_cells recording listed.list long listed.explained plan (λ port. grid) sfn offset (gain ∷ []) eps sendable clean in
+      subst (λ (e : Entry). IsSentEntryOf OnePort plan (number_at_start sfn offset) e) (sym (held.only entry listed.inside id start number)) held.sent
 
   -- the values of subframe 5 of a frame
   abbrev values_at : ℕ → ℕ → ℕ → Duration → Resource → Subframe

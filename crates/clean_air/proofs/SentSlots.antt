@@ -1,5 +1,5 @@
 -- The slots of a clean recording, whatever else its cell sends: each of a whole frame is received as it was sent, and the broadcast channel carries the cell's word.
-use Rattle.std.proofs.Common.{◌≡◌, ℕ, ◌+◌, ◌-◌, ◌*◌, ◌/◌, ◌%◌, ◌<◌, ◌≤◌, arith, refl, ap, sym, subst, ◌∙◌, List, [], length, nat_eq, Bool, true, false, None}
+use Rattle.std.proofs.Common.{◌≡◌, ℕ, ◌+◌, ◌-◌, ◌*◌, ◌/◌, ◌%◌, ◌<◌, ◌≤◌, arith, refl, ap, sym, subst, ◌∙◌, List, [], ◌∷◌, length, nat_eq, Bool, true, false, None}
 use Rattle.std.specs.Prelude.{if◌then◌else◌, ◌&&◌}
 use Rattle.std.proofs.lemmas.Bool.Decides.{nat_tests}
 use Rattle.cs_num.specs.declared.Cpx.{Cpx}
@@ -27,6 +27,7 @@ use Rattle.clean_air.specs.Load.{CarriesPlan, IsLoaded}
 use Rattle.cell_tx.specs.Rows.{port_reference_if}
 use Rattle.cell_tx.proofs.Elements.{element_of_channel, channel_of_broadcast}
 use Rattle.clean_air.proofs.Carrying.{of_own_reference, of_broadcast}
+use Rattle.lte_types.specs.declared.carrier.Carrier.TheVariants.{OnePort}
 use Rattle.lte_types.specs.Numerology.{normal, useful_start}
 use Rattle.lte_types.specs.Timing.{start_of, number_at_start}
 use Rattle.explain.specs.Frame.{IsWhole, frame_at, seen_slot, broadcast_slot}
@@ -34,7 +35,7 @@ use Rattle.budget.specs.Received.{IsReceived, samples_from}
 use Rattle.clean_air.specs.Values.{ArePilotsSeen, IsSlotReceived}
 use Rattle.clean_air.proofs.SoftValues.{pattern_pilots_seen}
 use Rattle.clean_air.specs.Carried.{CarryWord}
-use Rattle.clean_air.proofs.SentSymbols.{received_at, first_frame}
+use Rattle.clean_air.proofs.SentSymbols.{symbol_near, first_frame}
 
 -- the symbols of slot 0 to 19 of the frame with this number
 abbrev pub slot_grid : Elements → ℕ → ℕ → ℕ → ℕ → Cpx
@@ -182,15 +183,19 @@ each_slot_received recording plan grid sfn offset gain eps clean j slot whole fe
     let number : ℕ = (number_at_start sfn offset + j) % 1024 in
     let start : ℕ → ℕ = useful_start normal (frame_at (start_of offset) j) slot in
     let n : ℕ = (if nat_eq offset 0 then 0 else 1) + j in
-    let frame = frame_is sfn offset j clean.number clean.samples.within in
+    let frame = frame_is sfn offset j clean.number clean.within in
+    let carries = clean.carries Only refl in
     record {
       eps = eps;
       gain = gain;
       seen = λ l inside. values_below_at (λ symbol. seen_symbol recording (start symbol)) 7 l [] inside;
-      amplitudes = λ l inside. clean.carries.small number (slot / 2) (7 * (slot % 2) + l);
-      received = λ l inside. subst (λ m. IsReceived eps gain (slot_grid grid m slot l) (samples_from recording (start l))) frame.number
-          (received_at recording grid sfn offset gain eps (start l) n slot l clean.samples few inside (omega (arith, whole, inside, few)) (omega (arith, frame.place)));
-      references = λ i inside. references_stand plan grid clean.carries number slot i;
+      amplitudes = λ l inside. carries.small number (slot / 2) (7 * (slot % 2) + l);
+      received = λ l inside. subst (λ m. IsReceived eps gain (slot_grid grid m slot l) (samples_from recording (start l))) frame.number (record {
+        sounds = clean.gains_are.least;
+        quiet = clean.bound;
+        near = λ k low. symbol_near OnePort recording plan (λ port. grid) sfn offset (gain ∷ []) eps clean (start l) n slot l k few inside low (omega (arith, whole, inside, few)) (omega (arith, frame.place));
+      });
+      references = λ i inside. references_stand plan grid carries number slot i;
     }
 
 -- its pilots are seen with the gain

@@ -105,16 +105,16 @@ module _ (recording : List Sample) (plan : CellPlan) (grid : Elements) (sfn offs
     -- they carry the indicator and the grant
     carries_indicator : CarryInSubframe (grid number 5) (pcfich_places (slot 10).identity) (indicator_scrambled (slot 10) plan.cfi)
     unfolding seen_slot indicator_point
-    carries_indicator i inside = indicator_carried Only plan grid clean.carries sendable refl number even i (let size = (indicator_indexed Only plan sendable).size in omega (arith, size, inside))
+    carries_indicator i inside = indicator_carried Only plan grid (clean.carries Only refl) sendable refl number even i (let size = (indicator_indexed Only plan sendable).size in omega (arith, size, inside))
 
     carries_grant : CarryInSubframe (grid number 5) (grant_places (slot 10) plan.cfi plan.duration plan.resource) (grant_scrambled (slot 10) (grant_of plan number))
     unfolding seen_slot control_point control_word
-    carries_grant i inside = control_carried Only plan grid clean.carries sendable refl number even i (let size = (control_indexed Only plan sendable).size in omega (arith, size, inside))
+    carries_grant i inside = control_carried Only plan grid (clean.carries Only refl) sendable refl number even i (let size = (control_indexed Only plan sendable).size in omega (arith, size, inside))
 
     -- and the block
     carries_block : CarryInSubframe (grid number 5) (shared_places plan) (shared_scrambled (slot 10) (shared_bit plan number))
     unfolding seen_slot shared_point
-    carries_block i inside = shared_carried Only plan grid clean.carries sendable refl number even i inside
+    carries_block i inside = shared_carried Only plan grid (clean.carries Only refl) sendable refl number even i inside
 
     -- the values of its resource blocks tell the block
     sent_block : (row : Row) → row ≡ row_with (checked_size plan) → IsRowOf (checked_size plan) row → IsSentBlock row (version_of number) (2 * length (shared_places plan)) (shared_word plan)

@@ -1,27 +1,52 @@
--- The list of cells of a clean recording: it holds the cell that was sent. (own)
-use Rattle.std.specs.Prelude.{◌≡◌, ℕ, ◌/◌, ◌≤◌, List, Result, Ok}
+-- The list of a clean recording, by any receiver: it holds each cell that was sent to it. (own)
+use Rattle.std.specs.Prelude.{◌≡◌, ℕ, ◌/◌, ◌≤◌, List, length, Option, Result, Ok, Err}
 use Rattle.std.specs.List.{Contains}
 use Rattle.cs_num.specs.declared.Cpx.{Cpx}
 use Rattle.cs_num.specs.declared.Sample.{Sample}
 use Rattle.lte_types.specs.declared.bandwidth.Bandwidth.TheVariants.{N6}
+use Rattle.lte_types.specs.declared.carrier.Carrier.{Carrier}
+use Rattle.lte_types.specs.declared.carrier.Carrier.TheVariants.{OnePort, TwoPorts, LongPrefix, FourPorts}
 use Rattle.lte_types.specs.declared.duration.Duration.{Duration}
 use Rattle.lte_types.specs.declared.resource.Resource.{Resource}
 use Rattle.lte_types.specs.declared.sib1.Sib1.{Sib1}
 use Rattle.lte_types.specs.declared.sib1_reason.Sib1Reason.{Sib1Reason}
+use Rattle.lte_types.specs.declared.sib1_reason.Sib1Reason.TheVariants.{LongPrefix as IsLong, NotOnePort}
 use Rattle.lte_types.specs.declared.entry.Entry.{Entry}
 use Rattle.lte_types.specs.Block.{HasFields}
+use Rattle.lte_types.specs.Carrier.{ports_of}
+use Rattle.lte_types.specs.Numerology.{least_samples}
 use Rattle.lte_types.specs.Timing.{start_of, number_at_start}
-use Rattle.explain.specs.Entries.{IsExplained}
+use Rattle.explain.specs.Receiver.{Receiver, one_port_receiver}
+use Rattle.explain.specs.Entries.{IsListFor}
+use Rattle.cell_tx.specs.declared.antenna.Port.{Port}
 use Rattle.cell_tx.specs.declared.cell.CellPlan.{CellPlan}
-use Rattle.cell_tx.specs.Plan.{IsSendable}
+use Rattle.cell_tx.specs.Plan.{IsSendableBy}
 use Rattle.cell_tx.specs.Sent.{Elements}
-use Rattle.cell_tx.specs.Clean.{IsClean}
-use Rattle.clean_air.specs.Load.{IsLoaded}
+use Rattle.cell_tx.specs.Emission.{IsCleanBy}
+use Rattle.clean_air.specs.Load.{IsLoadedBy}
+
+-- ---- what is sent
 
 -- what is sent of a plan to the master block has its ranges: the identity, and the spare bits of the block
 pub record IsKnownPlan (plan : CellPlan) : Type 0 where
   pub identity : plan.identity ≤ 503
   pub spare : plan.spare ≤ 1023
+
+-- what a carrier sends of a plan can be sent: with the extended prefix, and with four ports, that is the master block
+abbrev pub IsKnownBy : Carrier → CellPlan → Type 0
+IsKnownBy OnePort plan = IsSendableBy OnePort plan
+IsKnownBy TwoPorts plan = IsSendableBy TwoPorts plan
+IsKnownBy LongPrefix plan = IsKnownPlan plan
+IsKnownBy FourPorts plan = IsKnownPlan plan
+
+-- what is told of the system information that a carrier sends
+abbrev pub told_of : Carrier → Sib1 → Result Sib1 Sib1Reason
+told_of OnePort sib1 = Ok sib1
+told_of TwoPorts sib1 = Ok sib1
+told_of LongPrefix sib1 = Err IsLong
+told_of FourPorts sib1 = Err (NotOnePort 4)
+
+-- ---- the entry of a cell
 
 -- the list has an entry with this identity, start and frame number, which is as it was sent; every entry with these
 -- three is that one
@@ -48,31 +73,47 @@ pub record IsSentEntryBy (count : ℕ) (lasting : Duration) (share : Resource) (
   pub frames : entry.frames ≡ 1
   pub frame : entry.frame ≡ 0
 
--- the entry is as it was sent with one antenna port and the fields of the plan's SystemInformationBlockType1
-abbrev pub IsSentEntry : CellPlan → ℕ → Entry → Type 0
-IsSentEntry plan number = IsSentEntryBy 1 plan.duration plan.resource plan.spare (Ok plan.sib1) number
+-- the entry is as a plan was sent by a carrier
+abbrev pub IsSentEntryOf : Carrier → CellPlan → ℕ → Entry → Type 0
+IsSentEntryOf carrier plan number =
+    IsSentEntryBy (ports_of carrier) plan.duration plan.resource plan.spare (told_of carrier plan.sib1) number
 
--- the list holds the cell of which a frame begins at this sample with this number
-abbrev pub HoldsCell : List Entry → CellPlan → ℕ → ℕ → Type 0
-HoldsCell list plan first number = HoldsOne list plan.identity first number (IsSentEntry plan number)
+-- the list holds the cell of a carrier of which a frame begins at this sample with this number
+abbrev pub HoldsCellBy : Carrier → List Entry → CellPlan → ℕ → ℕ → Type 0
+HoldsCellBy carrier list plan first number =
+    HoldsOne list plan.identity first number (IsSentEntryOf carrier plan number)
 
--- the list holds each cell of which the recording is clean, whatever its plan is, what it sends elsewhere, its first
--- frame's number, the offset, the gain and the errors
-abbrev pub HoldsLoadedCells : List Sample → List Entry → Type 0
-HoldsLoadedCells recording list =
-    (plan : CellPlan) (grid : Elements) (sfn offset : ℕ) (gain : Cpx) (eps : ℕ) → IsSendable plan →
-    IsLoaded recording plan grid sfn offset gain eps →
-    HoldsCell list plan (start_of offset) (number_at_start sfn offset)
+-- ---- the list
 
--- the list holds each cell of which the recording is clean and that sends nothing elsewhere
-abbrev pub HoldsCleanCells : List Sample → List Entry → Type 0
-HoldsCleanCells recording list =
-    (plan : CellPlan) (sfn offset : ℕ) (gain : Cpx) (eps : ℕ) → IsSendable plan →
-    IsClean recording plan sfn offset gain eps →
-    HoldsCell list plan (start_of offset) (number_at_start sfn offset)
+-- the list holds each cell of a carrier of which the recording is clean, whatever its plan is, what its ports send
+-- elsewhere, its first frame's number, the offset, the gains and the errors
+abbrev pub HoldsBy : Carrier → List Sample → List Entry → Type 0
+HoldsBy carrier recording list =
+    (plan : CellPlan) (grids : Port → Elements) (sfn offset : ℕ) (gains : List Cpx) (eps : ℕ) →
+    IsKnownBy carrier plan → IsLoadedBy carrier recording plan grids sfn offset gains eps →
+    HoldsCellBy carrier list plan (start_of offset) (number_at_start sfn offset)
 
--- the list of a recording, which holds each cell of which the recording is clean, whatever else that cell sends
-pub record IsListOfCells (recording : List Sample) (list : List Entry) : Type 0 where
-  pub explained : IsExplained recording list
-  pub loaded : HoldsLoadedCells recording list
-  pub holds : HoldsCleanCells recording list
+-- the list holds each cell of a carrier of which the recording is clean and whose ports send nothing elsewhere, or the
+-- load with a number
+abbrev pub HoldsCleanBy : Carrier → List Sample → List Entry → Type 0
+HoldsCleanBy carrier recording list =
+    (load : Option ℕ) (plan : CellPlan) (sfn offset : ℕ) (gains : List Cpx) (eps : ℕ) →
+    IsKnownBy carrier plan → IsCleanBy carrier load recording plan sfn offset gains eps →
+    HoldsCellBy carrier list plan (start_of offset) (number_at_start sfn offset)
+
+-- the list of a recording by a receiver, which holds each cell of the receiver's carrier of which the recording is
+-- clean, whatever else that cell sends
+pub record IsListBy (receiver : Receiver) (recording : List Sample) (list : List Entry) : Type 0 where
+  pub explained : IsListFor receiver recording list
+  pub loaded : HoldsBy receiver.carrier recording list
+  pub holds : HoldsCleanBy receiver.carrier recording list
+
+-- the list by one antenna port, which holds each cell of which the recording is clean
+abbrev pub IsListOfCells : List Sample → List Entry → Type 0
+IsListOfCells = IsListBy one_port_receiver
+
+-- a law of a receiver: the list of a recording by it holds each cell of its carrier of which the recording is clean
+abbrev pub HoldsCells : Receiver → Type 0
+HoldsCells receiver =
+    (recording : List Sample) (list : List Entry) → least_samples ≤ length recording →
+    IsListFor receiver recording list → HoldsBy receiver.carrier recording list

@@ -1,18 +1,23 @@
 -- What else a cell may send: any elements at the places that its plan leaves open, as the traffic of a live cell. (own)
-use Rattle.std.specs.Prelude.{◌≡◌, ℕ, ◌%◌, ◌≤◌, Bool, true, false, not, ◌&&◌, Option, List}
+use Rattle.std.specs.Prelude.{◌≡◌, ℕ, ◌+◌, ◌%◌, ◌≤◌, Bool, true, false, not, ◌&&◌, Option, List, [], ◌∷◌}
 use Rattle.cs_num.specs.declared.Cpx.{Cpx}
 use Rattle.cs_num.specs.declared.Sample.{Sample}
 use Rattle.cs_num.specs.Complex.{nothing, square}
+use Rattle.lte_types.specs.declared.carrier.Carrier.{Carrier}
+use Rattle.lte_types.specs.declared.carrier.Carrier.TheVariants.{OnePort}
+use Rattle.lte_types.specs.Timing.{IsOffset}
 use Rattle.budget.specs.Received.{AreAmplitudes}
 use Rattle.cell_tx.specs.declared.antenna.Port.{Port}
 use Rattle.cell_tx.specs.declared.antenna.Port.TheVariants.{Only, First, Second, Long, OfFour}
 use Rattle.cell_tx.specs.declared.antenna.PortOfFour.TheVariants.{Zero, One, Two, Three}
 use Rattle.cell_tx.specs.declared.cell.CellPlan.{CellPlan}
-use Rattle.cell_tx.specs.Ports.{port_prefix, port_symbols, port_slot, has_control, is_even_pair, is_other_reference}
+use Rattle.cell_tx.specs.Ports.{carrier_of, port_prefix, port_symbols, port_slot, has_control, is_even_pair}
+use Rattle.cell_tx.specs.Ports.{is_other_reference}
 use Rattle.cell_tx.specs.Grid.{has_broadcast, broadcast_index, is_indicator, port_element}
 use Rattle.cell_tx.specs.Load.{is_signal_symbol, is_taken, sent_element}
 use Rattle.cell_tx.specs.Sent.{Elements, prefix_sent}
-use Rattle.cell_tx.specs.Clean.{IsCleanOf}
+use Rattle.cell_tx.specs.Clean.{AreNear, AreGainsOf, IsAllowedBy}
+use Rattle.cell_tx.specs.Emission.{mixed}
 
 -- elements of a port carry a plan: they are the plan's at the places that it takes, and no element, wherever it is, has
 -- a size above 256
@@ -21,17 +26,27 @@ pub record CarriesPlan (port : Port) (plan : CellPlan) (grid : Elements) : Type 
       grid sfn subframe symbol k ≡ port_element port plan sfn subframe symbol k
   pub small : (sfn subframe symbol : ℕ) → AreAmplitudes (grid sfn subframe symbol)
 
--- a recording is clean of elements of a cell's only port, with either cyclic prefix, that carry the plan, from the
--- frame numbered sfn on, whatever else they are
-pub record IsLoadedAt (port : Port) (recording : List Sample) (plan : CellPlan) (grid : Elements) (sfn offset : ℕ)
-    (gain : Cpx) (eps : ℕ) : Type 0 where
-  pub number : sfn ≤ 1023
-  pub carries : CarriesPlan port plan grid
-  pub samples : IsCleanOf (prefix_sent (port_prefix port) grid sfn) recording offset gain eps
+-- what is received of elements of all ports of a carrier, from the sample at offset on, by a channel that is one number
+-- for each
+abbrev pub received_from : Carrier → (Port → Elements) → ℕ → ℕ → List Cpx → ℕ → Cpx
+received_from carrier grids sfn offset gains i =
+    mixed carrier (λ port. prefix_sent (port_prefix port) (grids port) sfn (i + offset)) gains
 
--- a recording is clean of elements of a cell's only port, with the normal prefix, that carry the plan
+-- a recording is clean of elements of each port of a carrier that carry the plan, from the frame numbered sfn on,
+-- whatever else they are
+pub record IsLoadedBy (carrier : Carrier) (recording : List Sample) (plan : CellPlan) (grids : Port → Elements)
+    (sfn offset : ℕ) (gains : List Cpx) (eps : ℕ) : Type 0 where
+  pub number : sfn ≤ 1023
+  pub within : IsOffset offset
+  pub carries : (port : Port) → carrier_of port ≡ carrier → CarriesPlan port plan (grids port)
+  pub gains_are : AreGainsOf carrier gains
+  pub bound : IsAllowedBy carrier gains eps
+  pub near : AreNear recording (received_from carrier grids sfn offset gains) eps
+
+-- a recording is clean of elements of a cell's only port that carry the plan
 abbrev pub IsLoaded : List Sample → CellPlan → Elements → ℕ → ℕ → Cpx → ℕ → Type 0
-IsLoaded recording plan grid sfn offset gain eps = IsLoadedAt Only recording plan grid sfn offset gain eps
+IsLoaded recording plan grid sfn offset gain eps =
+    IsLoadedBy OnePort recording plan (λ port. grid) sfn offset (gain ∷ []) eps
 
 -- a law: what a plan sends carries it, with load or without
 abbrev pub SentElementsCarry : Type 0

@@ -18,7 +18,7 @@ mod words;
 pub use block::sent_block_is_told;
 pub use broadcast::sent_master_is_told;
 pub use carried::carried_word_is_heard;
-pub use clean::explain_clean;
+pub use clean::{CleanReader, explain_clean, explain_clean_by};
 pub use control::{sent_grant_is_read, sent_grant_is_told, sent_indicator_is_told};
 pub use load::open_places_are_silent;
 pub use planning::{one_plan, plan_granted, plan_of, sent_entry_has_plan};

@@ -1,8 +1,9 @@
 -- The evidence of a clean cell's entry.
-use Rattle.std.proofs.Common.{◌≡◌, ℕ, ◌*◌, ◌≤◌, arith, sym, subst, ◌∙◌, List, length}
+use Rattle.std.proofs.Common.{◌≡◌, ℕ, ◌*◌, ◌≤◌, arith, sym, subst, ◌∙◌, List, [], ◌∷◌, length}
 use Rattle.cs_num.specs.declared.Cpx.{Cpx}
 use Rattle.cs_num.specs.declared.Sample.{Sample}
 use Rattle.cs_num.specs.Complex.{square}
+use Rattle.lte_types.specs.declared.carrier.Carrier.TheVariants.{OnePort}
 use Rattle.lte_types.specs.declared.entry.Entry.{Entry}
 use Rattle.lte_types.specs.Timing.{start_of, number_at_start}
 use Rattle.soft_bits.specs.Soft.{SeenSlot, pilot, pilot_energy}
@@ -14,8 +15,8 @@ use Rattle.cell_tx.specs.Sent.{Elements}
 use Rattle.evidence.specs.Evidence.{noise_of, steps}
 use Rattle.clean_air.specs.Load.{IsLoaded}
 use Rattle.clean_air.specs.Values.{ArePilotsSeen}
-use Rattle.clean_air.specs.Clean.{IsSentEntry}
-use Rattle.clean_air.proofs.HeldCells.{holds_loaded_cells}
+use Rattle.clean_air.specs.Clean.{IsSentEntryOf}
+use Rattle.clean_air.proofs.HeldCells.{holds_cells}
 use Rattle.clean_air.proofs.SentSlots.{pilots_received}
 use Rattle.clean_evidence.specs.Clear.{CleanEntriesAreClear}
 use Rattle.clean_evidence.proofs.PeakOfEntry.{peak_is_high}
@@ -30,10 +31,10 @@ module _ (recording : List Sample) (entry : Entry) (plan : CellPlan) (grid : Ele
     (listed : IsInList recording entry) (sendable : IsSendable plan) (clean : IsLoaded recording plan grid sfn offset gain eps)
     (id : entry.id ≡ plan.identity) (start : entry.start ≡ start_of offset) (number : entry.sfn ≡ number_at_start sfn offset) where
   -- the entry is the cell's
-  is_sent : IsSentEntry plan (number_at_start sfn offset) entry
+  is_sent : IsSentEntryOf OnePort plan (number_at_start sfn offset) entry
   is_sent =
-      let held = holds_loaded_cells recording listed.list long listed.explained plan grid sfn offset gain eps sendable clean in
-      subst (λ (e : Entry). IsSentEntry plan (number_at_start sfn offset) e) (sym (held.only entry listed.inside id start number)) held.sent
+      let held = holds_cells recording listed.list long listed.explained plan (λ port. grid) sfn offset (gain ∷ []) eps sendable clean in
+      subst (λ (e : Entry). IsSentEntryOf OnePort plan (number_at_start sfn offset) e) (sym (held.only entry listed.inside id start number)) held.sent
 
   -- the slot of the first frame
   pilots_seen : ArePilotsSeen gain (broadcast_slot recording plan.identity (start_of offset) 0)

@@ -1,5 +1,5 @@
 -- The hit that tells the entry of a clean cell: at least 999 thousandths of its energy are the primary signal's.
-use Rattle.std.proofs.Common.{◌≡◌, ℕ, ◌+◌, ◌*◌, ◌/◌, ◌%◌, ◌<◌, ◌≤◌, arith, sym, subst, ◌∙◌, List, length}
+use Rattle.std.proofs.Common.{◌≡◌, ℕ, ◌+◌, ◌*◌, ◌/◌, ◌%◌, ◌<◌, ◌≤◌, arith, sym, subst, ◌∙◌, List, length, [], ◌∷◌}
 use Rattle.std.proofs.lemmas.Nat.{le-div}
 use Rattle.cs_num.specs.declared.Cpx.{Cpx}
 use Rattle.cs_num.specs.declared.Sample.{Sample}
@@ -20,7 +20,8 @@ use Rattle.budget.proofs.Peaks.{primary_stands_out}
 use Rattle.evidence.specs.Evidence.{IsToldBy, thousandths}
 use Rattle.evidence.proofs.Fractions.{some_product}
 use Rattle.clean_air.specs.Load.{IsLoaded}
-use Rattle.clean_air.proofs.SentSymbols.{IsTruePlace, primary_at}
+use Rattle.clean_air.proofs.SentSymbols.{IsTruePlace}
+use Rattle.clean_air.proofs.Signals.{primary_at}
 
 -- a place that tells the start of a cell's frames is one of its true places
 told_place : (offset t : ℕ) (half : Half) → offset < 19200 → start_of t half ≡ start_after offset → IsTruePlace offset t half
@@ -38,8 +39,8 @@ peak_is_high recording plan grid sfn offset gain eps entry t long clean id start
     let last : told.hit.t ≤ 19336 = is.is_hit.to_last in
     let place : t ≤ 19336 = subst (λ n. n ≤ 19336) told.place last in
     let half = (identity_of recording told.hit).1 in
-    let at = told_place offset told.hit.t half clean.samples.within (told.start ∙ start) in
-    let primary = primary_at recording plan grid sfn offset gain eps told.hit.t clean (omega (arith, long, last)) half at in
+    let at = told_place offset told.hit.t half clean.within (told.start ∙ start) in
+    let primary = primary_at OnePort recording plan (λ port. grid) sfn offset (gain ∷ []) eps told.hit.t clean (omega (arith, long, last)) half at in
     let stands : StandsOut recording told.hit.t (plan.identity % 3) = primary_stands_out recording told.hit.t (plan.identity % 3) primary in
     subst (λ n. 999 ≤ thousandths recording (n % 3) t) (sym id)
     (subst (λ n. 999 ≤ thousandths recording (plan.identity % 3) n) told.place

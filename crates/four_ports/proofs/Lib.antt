@@ -8,8 +8,7 @@ pub mod Estimates
 pub mod Values
 -- So do those of a received slot.
 pub mod ReceivedPairs
--- The symbols, slots and broadcast channel of a clean recording.
-pub mod SentSymbols
+-- The slots and broadcast channel of a clean recording.
 pub mod SentSlots
 pub mod SentMaster
 -- Its list holds its cell.

@@ -11,9 +11,11 @@ use Rattle.grid_map.specs.Broadcast.{pbch_places, pbch_place, is_pbch}
 use Rattle.grid_map.specs.Scrambling.{pbch_c_init}
 use Rattle.pbch.specs.Values.{received_values_by}
 use Rattle.grid_map.proofs.Points.{length-pbch_places, places_inside}
+use Rattle.lte_types.specs.declared.carrier.Carrier.TheVariants.{FourPorts}
 use Rattle.lte_types.specs.Numerology.{normal, useful_start}
 use Rattle.lte_types.specs.Timing.{start_of, number_at_start}
 use Rattle.soft_bits.specs.Soft.{SeenSlot}
+use Rattle.cell_tx.specs.declared.antenna.Port.{Port}
 use Rattle.cell_tx.specs.declared.antenna.Port.TheVariants.{OfFour}
 use Rattle.cell_tx.specs.declared.antenna.PortOfFour.{PortOfFour}
 use Rattle.cell_tx.specs.declared.antenna.PortOfFour.TheVariants.{Zero, One, Two, Three}
@@ -28,7 +30,7 @@ use Rattle.clean_air.proofs.Speaking.{heard_bits_speak}
 use Rattle.clean_air.proofs.SentBlock.{is_block}
 use Rattle.clean_air.proofs.SentSlots.{slot_grid, points_stand}
 use Rattle.two_ports.proofs.Heard.{SpeakAs, of_points, fours_heard, second_even, second_odd}
-use Rattle.four_ports.specs.Clean.{IsLoadedOfFour}
+use Rattle.clean_air.specs.Load.{CarriesPlan, IsLoadedBy}
 use Rattle.four_ports.specs.Pairs.{pair_at, pair_values, paired_values}
 use Rattle.four_ports.specs.Received.{over_pair, CarryPair}
 use Rattle.four_ports.proofs.ReceivedPairs.{received_pair_speaks}
@@ -72,8 +74,14 @@ sent_second Three points i = rw (odd_of i, second_odd points i) refl
 
 -- ---- the slot
 
-module _ (recording : List Sample) (plan : CellPlan) (grids : PortOfFour → Elements) (sfn offset : ℕ) (gains : List Cpx) (eps : ℕ) (clean : IsLoadedOfFour recording plan grids sfn offset gains eps)
+module _ (recording : List Sample) (plan : CellPlan) (elements : Port → Elements) (sfn offset : ℕ) (gains : List Cpx) (eps : ℕ) (clean : IsLoadedBy FourPorts recording plan elements sfn offset gains eps)
     (j : ℕ) (whole : IsWhole recording (start_of offset) j) where
+  abbrev grids : PortOfFour → Elements
+  grids port = elements (OfFour port)
+
+  carries : (port : PortOfFour) → CarriesPlan (OfFour port) plan (elements (OfFour port))
+  carries port = clean.carries (OfFour port) refl
+
   abbrev number : ℕ
   number = (number_at_start sfn offset + j) % 1024
 
@@ -87,10 +95,10 @@ module _ (recording : List Sample) (plan : CellPlan) (grids : PortOfFour → Ele
   point_sent port i inside = by port
     where
       by : (port : PortOfFour) → slot_grid (grids port) number 1 ((pbch_place plan.identity i).symbol % 7) (pbch_place plan.identity i).k ≡ sent_point (OfFour port) (point_of (sent_bits plan number)) i
-      by Zero = points_stand (OfFour Zero) refl plan (grids Zero) (clean.carries Zero) number i inside
-      by One = points_stand (OfFour One) refl plan (grids One) (clean.carries One) number i inside
-      by Two = points_stand (OfFour Two) refl plan (grids Two) (clean.carries Two) number i inside
-      by Three = points_stand (OfFour Three) refl plan (grids Three) (clean.carries Three) number i inside
+      by Zero = points_stand (OfFour Zero) refl plan (grids Zero) (carries Zero) number i inside
+      by One = points_stand (OfFour One) refl plan (grids One) (carries One) number i inside
+      by Two = points_stand (OfFour Two) refl plan (grids Two) (carries Two) number i inside
+      by Three = points_stand (OfFour Three) refl plan (grids Three) (carries Three) number i inside
 
   carry : (i : ℕ) → 2 * i < 240 → 2 * i + 1 < 240 →
       CarryPair (sent_in grids number 1) i (pbch_place plan.identity (2 * i)) (pbch_place plan.identity (2 * i + 1)) (point_of (sent_bits plan number) (2 * i)) (point_of (sent_bits plan number) (2 * i + 1))
@@ -130,7 +138,7 @@ module _ (recording : List Sample) (plan : CellPlan) (grids : PortOfFour → Ele
           let bits : ℕ → Bool = sent_bits plan number in
           let p = pbch_place plan.identity (2 * i) in
           let q = pbch_place plan.identity (2 * i + 1) in
-          let received = each_slot_received recording plan grids sfn offset gains eps clean j 1 whole (omega arith) in
+          let received = each_slot_received recording plan elements sfn offset gains eps clean j 1 whole (omega arith) in
           of_points 1 bits i (pair_values i slot p q)
           (received_pair_speaks recording (useful_start normal (frame_at (start_of offset) j) 1) (sent_in grids number 1) slot i p q (bits (2 * (2 * i))) (bits (2 * (2 * i) + 1)) (bits (2 * (2 * i + 1)))
           (bits (2 * (2 * i + 1) + 1)) received (on_subcarrier plan.identity p (places_inside plan.identity (2 * i) a)) (on_subcarrier plan.identity q (places_inside plan.identity (2 * i + 1) b)) (carry i a b))

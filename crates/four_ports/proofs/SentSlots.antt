@@ -1,17 +1,18 @@
 -- The slots of a recording that is clean of the four ports of a cell, whatever else they send: each of a whole frame is received as it was sent.
-use Rattle.std.proofs.Common.{◌≡◌, ℕ, ◌+◌, ◌*◌, ◌/◌, ◌%◌, ◌<◌, arith, refl, ap, subst, ◌∙◌, List, [], nat_eq, Bool, true, false}
+use Rattle.std.proofs.Common.{◌≡◌, ℕ, zero, suc, ◌+◌, ◌*◌, ◌/◌, ◌%◌, ◌<◌, ◌≤◌, arith, refl, ap, subst, ◌∙◌, List, [], nat_eq, Bool, true, false}
 use Rattle.std.specs.Prelude.{if◌then◌else◌}
 use Rattle.std.proofs.lemmas.Bool.{or_left, or_right}
 use Rattle.std.proofs.lemmas.Bool.Decides.{nat_tests}
 use Rattle.finite.proofs.Lists.{values_below_at}
 use Rattle.cs_num.specs.declared.Cpx.{Cpx}
 use Rattle.cs_num.specs.declared.Sample.{Sample}
-use Rattle.cs_num.specs.Complex.{nothing, value_at}
+use Rattle.cs_num.specs.Complex.{nothing, square, value_at}
 use Rattle.crs.specs.declared.upper.UpperPort.{UpperPort}
 use Rattle.crs.specs.declared.upper.UpperPort.TheVariants.{Third, Fourth}
 use Rattle.crs.specs.Reference.{port_0, port_1, is_reference, is_second_reference, is_upper_reference, is_pattern_place, first_subcarrier, pattern_reference, reference, reference_c_init, reference_at, upper_first}
 use Rattle.observe.specs.Seen.{seen_symbol}
 use Rattle.soft_bits.specs.Soft.{pattern_symbol, pattern_sent, pilot_subcarrier}
+use Rattle.cell_tx.specs.declared.antenna.Port.{Port}
 use Rattle.cell_tx.specs.declared.antenna.Port.TheVariants.{OfFour}
 use Rattle.cell_tx.specs.declared.antenna.PortOfFour.{PortOfFour}
 use Rattle.cell_tx.specs.declared.antenna.PortOfFour.TheVariants.{Zero, One, Two, Three}
@@ -19,16 +20,23 @@ use Rattle.cell_tx.specs.declared.cell.CellPlan.{CellPlan}
 use Rattle.cell_tx.specs.Ports.{is_reference_of_four, is_other_reference}
 use Rattle.cell_tx.specs.Grid.{port_element}
 use Rattle.cell_tx.specs.Sent.{Elements}
-use Rattle.clean_air.specs.Load.{CarriesPlan}
+use Rattle.clean_air.specs.Load.{CarriesPlan, IsLoadedBy}
 use Rattle.clean_air.proofs.Carrying.{of_own_reference, of_other_reference}
+use Rattle.lte_types.specs.declared.carrier.Carrier.TheVariants.{FourPorts}
 use Rattle.lte_types.specs.Numerology.{normal, useful_start}
 use Rattle.lte_types.specs.Timing.{start_of, number_at_start}
 use Rattle.explain.specs.Frame.{IsWhole, frame_at, seen_slot}
 use Rattle.budget.specs.Received.{IsReceivedFromFour, samples_from}
 use Rattle.clean_air.proofs.SentSlots.{slot_grid, frame_is}
-use Rattle.four_ports.specs.Clean.{IsLoadedOfFour}
 use Rattle.four_ports.specs.Received.{of_ports, DoPortsSendAt, IsSlotReceivedOfFour}
-use Rattle.four_ports.proofs.SentSymbols.{port_of, received_at}
+use Rattle.clean_air.proofs.SentSymbols.{symbol_near}
+
+-- the port with a number
+abbrev pub port_of : ℕ → PortOfFour
+port_of zero = Zero
+port_of (suc zero) = One
+port_of (suc (suc zero)) = Two
+port_of (suc (suc (suc n))) = Three
 
 -- ---- places of one port's reference signals
 
@@ -150,13 +158,18 @@ module _ (plan : CellPlan) (grids : PortOfFour → Elements) (carries : (port : 
 
 -- ---- the slots
 
+some_left : (a b c d : ℕ) → 1 ≤ a → 1 ≤ a + b + c + d
+some_left a b c d h = omega (arith, h)
+
 -- each slot of a whole frame is received
-pub each_slot_received : (recording : List Sample) (plan : CellPlan) (grids : PortOfFour → Elements) (sfn offset : ℕ) (gains : List Cpx) (eps : ℕ) → IsLoadedOfFour recording plan grids sfn offset gains eps →
+pub each_slot_received : (recording : List Sample) (plan : CellPlan) (elements : Port → Elements) (sfn offset : ℕ) (gains : List Cpx) (eps : ℕ) → IsLoadedBy FourPorts recording plan elements sfn offset gains eps →
     (j slot : ℕ) → IsWhole recording (start_of offset) j → slot < 20 →
-    IsSlotReceivedOfFour recording (useful_start normal (frame_at (start_of offset) j) slot) (sent_in grids ((number_at_start sfn offset + j) % 1024) slot)
+    IsSlotReceivedOfFour recording (useful_start normal (frame_at (start_of offset) j) slot) (sent_in (λ port. elements (OfFour port)) ((number_at_start sfn offset + j) % 1024) slot)
     (seen_slot recording (frame_at (start_of offset) j) slot plan.identity)
 unfolding seen_slot
-each_slot_received recording plan grids sfn offset gains eps clean j slot whole few =
+each_slot_received recording plan elements sfn offset gains eps clean j slot whole few =
+    let grids : PortOfFour → Elements = λ port. elements (OfFour port) in
+    let carries : (port : PortOfFour) → CarriesPlan (OfFour port) plan (grids port) = (λ port. clean.carries (OfFour port) refl) in
     let number : ℕ = (number_at_start sfn offset + j) % 1024 in
     let start : ℕ → ℕ = useful_start normal (frame_at (start_of offset) j) slot in
     let n : ℕ = (if nat_eq offset 0 then 0 else 1) + j in
@@ -166,11 +179,14 @@ each_slot_received recording plan grids sfn offset gains eps clean j slot whole 
       gains = value_at gains;
       pairs = clean.bound.pairs;
       seen = λ l inside. values_below_at (λ symbol. seen_symbol recording (start symbol)) 7 l [] inside;
-      amplitudes = λ port l few inside. (clean.carries (port_of port)).small number (slot / 2) (7 * (slot % 2) + l);
-      received = λ l inside. subst (λ m. IsReceivedFromFour eps (value_at gains) (λ port. slot_grid (grids (port_of port)) m slot l) (samples_from recording (start l))) frame.number
-          (received_at recording plan grids sfn offset gains eps clean (start l) n slot l few inside (omega (arith, whole, inside, few)) (omega (arith, frame.place)));
-      zero = λ i inside. zero_sent plan grids clean.carries number slot i;
-      one = λ i inside. one_sent plan grids clean.carries number slot i;
-      two = λ m inside. two_sent plan grids clean.carries number slot m;
-      three = λ m inside. three_sent plan grids clean.carries number slot m;
+      amplitudes = λ port l few inside. (carries (port_of port)).small number (slot / 2) (7 * (slot % 2) + l);
+      received = λ l inside. subst (λ m. IsReceivedFromFour eps (value_at gains) (λ port. slot_grid (grids (port_of port)) m slot l) (samples_from recording (start l))) frame.number (record {
+        sounds = some_left (square (value_at gains 0)) (square (value_at gains 1)) (square (value_at gains 2)) (square (value_at gains 3)) clean.gains_are.least;
+        quiet = clean.bound.quiet;
+        near = λ k low. symbol_near FourPorts recording plan elements sfn offset gains eps clean (start l) n slot l k few inside low (omega (arith, whole, inside, few)) (omega (arith, frame.place));
+      });
+      zero = λ i inside. zero_sent plan grids carries number slot i;
+      one = λ i inside. one_sent plan grids carries number slot i;
+      two = λ m inside. two_sent plan grids carries number slot m;
+      three = λ m inside. three_sent plan grids carries number slot m;
     }

@@ -2,4 +2,3 @@ pub mod Pairs
 pub mod Kept
 pub mod Entries
 pub mod Received
-pub mod Clean

@@ -1,5 +1,5 @@
 -- With the extended cyclic prefix a cell sends what is sent of the plan that its own has.
-use Rattle.std.proofs.Common.{◌≡◌, ℕ, inl, arith, refl, subst, ap, None}
+use Rattle.std.proofs.Common.{◌≡◌, ℕ, inl, arith, refl, ap, None}
 use Rattle.std.proofs.Math.Path.{fun_ext}
 use Rattle.cs_num.specs.declared.Cpx.{Cpx}
 use Rattle.lte_types.specs.Numerology.{extended}
@@ -14,8 +14,6 @@ use Rattle.cell_tx.specs.Emission.{sent_by}
 use Rattle.cell_tx.specs.Plan.{IsSendable, refusal_of}
 use Rattle.cell_tx.proofs.Sendable.{accepted_is_sendable_by}
 use Rattle.cell_tx.proofs.WholeBlocks.{whole_is_resolvable}
-use Rattle.clean_air.specs.Load.{CarriesPlan}
-use Rattle.clean_air.proofs.Carrying.{own_elements_carry}
 use Rattle.capture_make.specs.Recipe.{plan as plan_of_number, information}
 use Rattle.capture_make.proofs.Plans.{is_sendable}
 use Rattle.long_prefix.specs.declared.plan.LongPlan.{LongPlan}
@@ -52,12 +50,6 @@ cell_with plan = with_plan (plan_of_number 0) plan
 
 pub has_plan : (rest : CellPlan) (plan : LongPlan) → HasPlan (with_plan rest plan) plan
 has_plan rest plan = record { identity = refl; duration = refl; resource = refl; spare = refl }
-
--- its elements carry its plan
-pub carries_plan : (plan : LongPlan) → CarriesPlan Long (cell_with plan) (long_element plan)
-carries_plan plan =
-    let cell = cell_with plan in
-    subst (CarriesPlan Long cell) (same_elements cell plan (has_plan (plan_of_number 0) plan)) (own_elements_carry Long cell)
 
 pub sendable : (plan : LongPlan) → IsKnownLong plan → IsSendable (cell_with plan)
 unfolding column_2

@@ -1,23 +1,22 @@
 -- A recording that is clean of a cell, whatever else the cell sends: its symbols are received as they were sent.
-use Rattle.std.proofs.Common.{◌≡◌, ℕ, ◌+◌, ◌-◌, ◌*◌, ◌/◌, ◌%◌, ◌<◌, ◌≤◌, inl, inr, None, Bool, true, false, ◌&&◌, nat_eq, nat_lt, arith, refl, ap, subst, ◌∙◌, List, [], length, slice_index_or}
+use Rattle.std.proofs.Common.{◌≡◌, ℕ, ◌+◌, ◌-◌, ◌*◌, ◌/◌, ◌%◌, ◌<◌, ◌≤◌, None, Bool, true, false, ◌&&◌, nat_eq, nat_lt, arith, refl, ap, subst, ◌∙◌, List, [], length, slice_index_or}
 use Rattle.std.specs.Prelude.{if◌then◌else◌}
 use Rattle.std.proofs.lemmas.Bool.{lt-ltb}
 use Rattle.std.proofs.lemmas.Bool.Decides.{nat_tests}
 use Rattle.finite.proofs.Lists.{values_below_at}
 use Rattle.cs_num.specs.declared.Cpx.{Cpx}
 use Rattle.cs_num.specs.declared.Sample.{Sample}
-use Rattle.cs_num.specs.Complex.{nothing}
-use Rattle.lte_types.specs.declared.frame.Half.{Half}
-use Rattle.lte_types.specs.declared.frame.Half.TheVariants.{Zero, Five}
-use Rattle.lte_types.specs.Numerology.{extended, symbol_step, useful_start, subframe_of}
+use Rattle.cs_num.specs.Complex.{value_at}
+use Rattle.lte_types.specs.declared.carrier.Carrier.TheVariants.{LongPrefix}
+use Rattle.lte_types.specs.Numerology.{extended, useful_start}
 use Rattle.lte_types.specs.Timing.{start_of, number_at_start}
 use Rattle.crs.specs.Reference.{long_prefix, is_pattern_place, pattern_reference}
 use Rattle.observe.specs.Seen.{seen_symbol}
-use Rattle.pss_search.specs.Correlation.{pss_grid}
 use Rattle.grid_map.specs.declared.Place.{Place}
 use Rattle.grid_map.specs.Place.{place, index_in}
 use Rattle.sync_seq.specs.Middle.{is_middle}
 use Rattle.soft_bits.specs.Soft.{pilot_subcarrier, pattern_symbol, pattern_sent}
+use Rattle.cell_tx.specs.declared.antenna.Port.{Port}
 use Rattle.cell_tx.specs.declared.antenna.Port.TheVariants.{Long}
 use Rattle.cell_tx.specs.declared.cell.CellPlan.{CellPlan}
 use Rattle.cell_tx.specs.Block.{port_point}
@@ -25,78 +24,15 @@ use Rattle.cell_tx.specs.Grid.{has_broadcast, port_element}
 use Rattle.cell_tx.specs.Rows.{port_reference_if}
 use Rattle.cell_tx.specs.Sent.{Elements}
 use Rattle.cell_tx.proofs.Elements.{element_of_channel, channel_of_broadcast}
-use Rattle.cell_tx.proofs.SignalSymbols.{no_channel}
 use Rattle.explain.specs.Frame.{frame_at}
 use Rattle.budget.specs.Received.{IsReceived, samples_from}
-use Rattle.budget.specs.Peak.{IsPrimaryAt}
-use Rattle.budget.specs.Score.{sss_grid, AreSignals}
 use Rattle.clean_air.specs.Values.{IsPatternReceived}
-use Rattle.clean_air.proofs.Grids.{received_same}
-use Rattle.clean_air.specs.Load.{CarriesPlan}
-use Rattle.clean_air.proofs.Carrying.{of_own_reference, of_broadcast, of_primary_symbol, of_secondary_symbol}
-use Rattle.clean_air.proofs.SentSymbols.{prefix_received_at, middle, IsTruePlace, first_frame}
+use Rattle.clean_air.specs.Load.{CarriesPlan, IsLoadedBy}
+use Rattle.clean_air.proofs.Carrying.{of_own_reference, of_broadcast}
+use Rattle.clean_air.proofs.SentSymbols.{symbol_near, first_frame}
 use Rattle.grid_map.specs.LongBroadcast.{is_kept, long_places}
-use Rattle.long_prefix.specs.Clean.{IsLoadedLong}
 use Rattle.long_prefix.specs.Entries.{long_slot}
 use Rattle.grid_map.proofs.LongOrder.{length-long_places, long_place_is}
-
--- ---- the synchronisation signals
-
--- symbol 5 of slots 0 and 10 holds the primary signal alone, and symbol 4 the secondary one
-primary_symbol : (plan : CellPlan) (sfn k : ℕ) (half : Half) → port_element Long plan sfn (subframe_of half) 5 k ≡ pss_grid (plan.identity % 3) k
-unfolding port_element
-primary_symbol plan sfn k Zero = rw (no_channel Long plan sfn 0 5 k (inr refl)) (middle k _ nothing)
-primary_symbol plan sfn k Five = rw (no_channel Long plan sfn 5 5 k (inr refl)) (middle k _ nothing)
-
-secondary_symbol : (plan : CellPlan) (sfn k : ℕ) (half : Half) → port_element Long plan sfn (subframe_of half) 4 k ≡ sss_grid (plan.identity / 3) (plan.identity % 3) half k
-unfolding port_element
-secondary_symbol plan sfn k Zero = rw (no_channel Long plan sfn 0 4 k (inl refl)) (middle k _ nothing)
-secondary_symbol plan sfn k Five = rw (no_channel Long plan sfn 5 4 k (inl refl)) (middle k _ nothing)
-
--- so do elements that carry the plan
-module _ (plan : CellPlan) (grid : Elements) (carries : CarriesPlan Long plan grid) where
-  primary_carried : (sfn k : ℕ) (half : Half) → grid sfn (subframe_of half) 5 k ≡ pss_grid (plan.identity % 3) k
-  primary_carried sfn k half = of_primary_symbol Long plan grid carries half sfn k ∙ primary_symbol plan sfn k half
-
-  secondary_carried : (sfn k : ℕ) (half : Half) → grid sfn (subframe_of half) 4 k ≡ sss_grid (plan.identity / 3) (plan.identity % 3) half k
-  secondary_carried sfn k half = of_secondary_symbol Long plan grid carries half sfn k ∙ secondary_symbol plan sfn k half
-
-module _ (recording : List Sample) (plan : CellPlan) (grid : Elements) (sfn offset : ℕ) (gain : Cpx) (eps : ℕ) (clean : IsLoadedLong recording plan grid sfn offset gain eps) where
-  module _ (t : ℕ) (inside : t + 128 ≤ length recording) where
-    primary_received : (half : Half) → IsTruePlace offset t half → IsReceived eps gain (pss_grid (plan.identity % 3)) (samples_from recording t)
-    primary_received Zero at =
-        received_same eps gain (grid ((sfn + at.frame) % 1024) 0 5) (pss_grid (plan.identity % 3)) (samples_from recording t) (λ k l. primary_carried plan grid clean.carries ((sfn + at.frame) % 1024) k Zero)
-        (prefix_received_at extended recording grid sfn offset gain eps t at.frame 0 5 (inr refl) clean.samples (omega arith) (omega arith) inside (omega (arith, at.place)))
-    primary_received Five at =
-        received_same eps gain (grid ((sfn + at.frame) % 1024) 5 5) (pss_grid (plan.identity % 3)) (samples_from recording t) (λ k l. primary_carried plan grid clean.carries ((sfn + at.frame) % 1024) k Five)
-        (prefix_received_at extended recording grid sfn offset gain eps t at.frame 10 5 (inr refl) clean.samples (omega arith) (omega arith) inside (omega (arith, at.place)))
-
-    secondary_received : (half : Half) → IsTruePlace offset t half → symbol_step extended ≤ t →
-        IsReceived eps gain (sss_grid (plan.identity / 3) (plan.identity % 3) half) (samples_from recording (t - symbol_step extended))
-    secondary_received Zero at first =
-        received_same eps gain (grid ((sfn + at.frame) % 1024) 0 4) (sss_grid (plan.identity / 3) (plan.identity % 3) Zero) (samples_from recording (t - symbol_step extended))
-        (λ k l. secondary_carried plan grid clean.carries ((sfn + at.frame) % 1024) k Zero)
-        (prefix_received_at extended recording grid sfn offset gain eps (t - symbol_step extended) at.frame 0 4 (inr refl) clean.samples (omega arith) (omega arith)
-        (omega (arith, inside)) (omega (arith, at.place, first)))
-    secondary_received Five at first =
-        received_same eps gain (grid ((sfn + at.frame) % 1024) 5 4) (sss_grid (plan.identity / 3) (plan.identity % 3) Five) (samples_from recording (t - symbol_step extended))
-        (λ k l. secondary_carried plan grid clean.carries ((sfn + at.frame) % 1024) k Five)
-        (prefix_received_at extended recording grid sfn offset gain eps (t - symbol_step extended) at.frame 10 4 (inr refl) clean.samples (omega arith) (omega arith)
-        (omega (arith, inside)) (omega (arith, at.place, first)))
-
-    -- a primary signal stands there, and with it the secondary one
-    pub primary_at : (half : Half) → IsTruePlace offset t half → IsPrimaryAt recording t (plan.identity % 3)
-    primary_at half at = record { eps = eps; gain = gain; root = omega arith; received = primary_received half at }
-
-    pub signals_at : (half : Half) → IsTruePlace offset t half → symbol_step extended ≤ t → plan.identity ≤ 503 → AreSignals extended recording t (plan.identity / 3) (plan.identity % 3) half
-    signals_at half at first known = record {
-      group = omega (arith, known);
-      root = omega arith;
-      eps = eps;
-      gain = gain;
-      primary = primary_received half at;
-      secondary = secondary_received half at first;
-    }
 
 -- ---- slot 1
 
@@ -167,21 +103,26 @@ points_stand plan grid carries number i inside =
     ∙ ap (λ (n : ℕ). port_point Long plan number (index_in (long_places plan.identity) (place n p.k))) symbol ∙ ap (port_point Long plan number) at.index
 
 -- the slot of the first frame is received
-pub slot_received : (recording : List Sample) (plan : CellPlan) (grid : Elements) (sfn offset : ℕ) (gain : Cpx) (eps : ℕ) → IsLoadedLong recording plan grid sfn offset gain eps → 57600 ≤ length recording →
-    IsPatternReceived long_prefix 6 recording (useful_start extended (frame_at (start_of offset) 0) 1) (slot_row grid (number_at_start sfn offset)) (long_slot recording plan.identity (start_of offset) 0)
+pub slot_received : (recording : List Sample) (plan : CellPlan) (grids : Port → Elements) (sfn offset : ℕ) (gains : List Cpx) (eps : ℕ) → IsLoadedBy LongPrefix recording plan grids sfn offset gains eps → 57600 ≤ length recording →
+    IsPatternReceived long_prefix 6 recording (useful_start extended (frame_at (start_of offset) 0) 1) (slot_row (grids Long) (number_at_start sfn offset)) (long_slot recording plan.identity (start_of offset) 0)
 unfolding long_slot
-slot_received recording plan grid sfn offset gain eps clean long =
+slot_received recording plan grids sfn offset gains eps clean long =
+    let grid = grids Long in
+    let gain = value_at gains 0 in
+    let carries = clean.carries Long refl in
     let number : ℕ = number_at_start sfn offset in
     let start : ℕ → ℕ = useful_start extended (frame_at (start_of offset) 0) 1 in
     let n : ℕ = if nat_eq offset 0 then 0 else 1 in
-    let first = first_frame sfn offset clean.number clean.samples.within in
-    let within = clean.samples.within in
+    let first = first_frame sfn offset clean.number clean.within in
     record {
       eps = eps;
       gain = gain;
       seen = λ l inside. values_below_at (λ symbol. seen_symbol recording (start symbol)) 6 l [] inside;
-      amplitudes = λ l inside. clean.carries.small number 0 (6 + l);
-      received = λ l inside. subst (λ m. IsReceived eps gain (slot_row grid m l) (samples_from recording (start l))) first.number
-          (prefix_received_at extended recording grid sfn offset gain eps (start l) n 1 l (inr refl) clean.samples (omega arith) inside (omega (arith, long, inside)) (omega (arith, first.place)));
-      references = λ i inside. references_stand plan grid clean.carries number i;
+      amplitudes = λ l inside. carries.small number 0 (6 + l);
+      received = λ l inside. subst (λ m. IsReceived eps gain (slot_row grid m l) (samples_from recording (start l))) first.number (record {
+        sounds = clean.gains_are.least;
+        quiet = clean.bound;
+        near = λ k low. symbol_near LongPrefix recording plan grids sfn offset gains eps clean (start l) n 1 l k (omega arith) inside low (omega (arith, long, inside)) (omega (arith, first.place));
+      });
+      references = λ i inside. references_stand plan grid carries number i;
     }

@@ -1,21 +1,43 @@
--- The receiver for a carrier.
-use Rattle.std.proofs.Common.{◌≡◌, List, refl}
+-- The receiver for a carrier, and what its list holds.
+use Rattle.std.proofs.Common.{◌≡◌, ℕ, Option, List, refl, sym, subst}
+use Rattle.cs_num.specs.declared.Cpx.{Cpx}
 use Rattle.cs_num.specs.declared.Sample.{Sample}
 use Rattle.lte_types.specs.declared.carrier.Carrier.{Carrier}
 use Rattle.lte_types.specs.declared.carrier.Carrier.TheVariants.{OnePort, TwoPorts, LongPrefix, FourPorts}
 use Rattle.lte_types.specs.declared.entry.Entry.{Entry}
+use Rattle.lte_types.specs.Timing.{start_of, number_at_start}
+use Rattle.sample_file.specs.Recording.{IsRecording}
 use Rattle.explain.specs.Entries.{IsListFor}
+use Rattle.cell_tx.specs.declared.cell.CellPlan.{CellPlan}
+use Rattle.cell_tx.specs.Emission.{IsCleanBy}
+use Rattle.cell_tx.specs.Plan.{IsSendableBy}
+use Rattle.clean_air.specs.Clean.{HoldsCleanBy, HoldsCellBy, HoldsCells}
+use Rattle.clean_air.proofs.Held.{is_list_by, sendable_is_known}
+use Rattle.clean_air.proofs.HeldCells.{holds_cells as holds_of_one}
+use Rattle.two_ports.proofs.HeldCells.{holds_cells as holds_of_two}
+use Rattle.long_prefix.proofs.HeldLong.{holds_cells as holds_of_long}
+use Rattle.four_ports.proofs.HeldCells.{holds_cells as holds_of_four}
 use Rattle.lte_top.specs.Searching.{receiver_of, IsListOf}
 
--- it is one for it, and the list of the carrier is its list
+-- it is one for it
 pub of_carrier : (carrier : Carrier) → carrier ≡ (receiver_of carrier).carrier
 of_carrier OnePort = refl
 of_carrier TwoPorts = refl
 of_carrier LongPrefix = refl
 of_carrier FourPorts = refl
 
-pub list_is : (carrier : Carrier) (recording : List Sample) (list : List Entry) → IsListOf carrier recording list → IsListFor (receiver_of carrier) recording list
-list_is OnePort recording list is = is.explained
-list_is TwoPorts recording list is = is.explained
-list_is LongPrefix recording list is = is.explained
-list_is FourPorts recording list is = is.explained
+holds_cells : (carrier : Carrier) → HoldsCells (receiver_of carrier)
+holds_cells OnePort = holds_of_one
+holds_cells TwoPorts = holds_of_two
+holds_cells LongPrefix = holds_of_long
+holds_cells FourPorts = holds_of_four
+
+-- the list by it holds what the recording is clean of
+pub list_holds : (carrier : Carrier) (samples : List Sample) (list : List Entry) → IsRecording samples → IsListFor (receiver_of carrier) samples list → IsListOf carrier samples list
+list_holds carrier samples list valid explained = is_list_by (receiver_of carrier) (holds_cells carrier) samples list valid.least explained
+
+-- so it holds a cell that can be sent by the carrier
+pub held : (carrier : Carrier) (load : Option ℕ) (plan : CellPlan) (sfn offset : ℕ) (gains : List Cpx) (eps : ℕ) (samples : List Sample) (list : List Entry) → IsSendableBy carrier plan →
+    IsCleanBy carrier load samples plan sfn offset gains eps → IsListOf carrier samples list → HoldsCellBy carrier list plan (start_of offset) (number_at_start sfn offset)
+held carrier load plan sfn offset gains eps samples list sendable clean l =
+    subst (λ c. HoldsCleanBy c samples list) (sym (of_carrier carrier)) l.holds load plan sfn offset gains eps (sendable_is_known carrier plan sendable) clean

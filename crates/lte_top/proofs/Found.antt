@@ -20,12 +20,13 @@ use Rattle.cell_tx.specs.Clean.{AreGainsOf, IsAllowedBy, ArePairedBy}
 use Rattle.cell_tx.specs.Emission.{received_by, IsCleanBy}
 use Rattle.cell_tx.specs.Laws.{EmittedIsClean}
 use Rattle.cell_tx.proofs.Received.{received_by-small}
+use Rattle.clean_air.specs.Clean.{HoldsCellBy}
 use Rattle.cell_json.proofs.Ranges.{described_ranges_by}
 use Rattle.report.specs.Lines.{entry_lines, report_text}
 use Rattle.report.specs.Pieces.{IsPiece}
 use Rattle.report.proofs.Pieces.{lines_stand}
 use Rattle.lte_top.specs.Transmitting.{sent_samples}
-use Rattle.lte_top.proofs.Holding.{HoldsSent, held}
+use Rattle.lte_top.proofs.Carriers.{held}
 use Rattle.lte_top.specs.Found.{sent_lines, WhatIsSentIsFound}
 
 -- ---- the bytes
@@ -75,7 +76,7 @@ sent_cleanly law carrier load e number within gains paired =
 -- ---- and found
 
 -- the lines of a held cell stand in the text of the list
-held_lines : (carrier : Carrier) (list : List Entry) (plan : CellPlan) (first number : ℕ) → HoldsSent carrier list plan first number → IsPiece (sent_lines carrier plan first number) (report_text list)
+held_lines : (carrier : Carrier) (list : List Entry) (plan : CellPlan) (first number : ℕ) → HoldsCellBy carrier list plan first number → IsPiece (sent_lines carrier plan first number) (report_text list)
 held_lines carrier list plan first number held =
     let is : entry_lines held.entry ≡ sent_lines carrier plan first number =
     rw (held.id, held.start, held.sfn, held.sent.ports, held.sent.block.bandwidth, held.sent.block.duration, held.sent.block.resource, held.sent.block.spare, held.sent.sib1) refl in

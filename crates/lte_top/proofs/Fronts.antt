@@ -20,16 +20,11 @@ use Rattle.pss_search.proofs.Listed.{listed_in_span}
 use Rattle.sss_detect.proofs.Agree.{identity_agrees, ranking_agrees}
 use Rattle.soft_bits.specs.Places.{placed_values}
 use Rattle.explain.specs.Deciding.{deciding_length, LooksAtFirstFrames}
-use Rattle.explain.specs.Entries.{IsListFor}
 use Rattle.explain.proofs.Deciding.{decided, broadcast_agrees, slots_look}
 use Rattle.two_ports.specs.Entries.{are_two}
 use Rattle.two_ports.specs.Pairs.{paired_values}
 use Rattle.four_ports.specs.Pairs.{paired_values as paired_values_of_four}
 use Rattle.long_prefix.proofs.Deciding.{long_looks}
-use Rattle.clean_air.proofs.HeldCells.{holds_loaded_cells, holds_clean_cells}
-use Rattle.two_ports.proofs.HeldCells.{holds_loaded_cells_of_two, holds_clean_cells_of_two}
-use Rattle.four_ports.proofs.HeldCells.{holds_loaded_cells_of_four, holds_clean_cells_of_four}
-use Rattle.long_prefix.proofs.HeldLong.{holds_loaded_cells as holds_loaded_long, holds_clean_cells as holds_clean_long}
 use Rattle.report.specs.Hits.{hits_text, ids_text}
 use Rattle.report.specs.HitsJson.{hits_json, ids_json}
 use Rattle.lte_words.specs.declared.form.Form.TheVariants.{Report as Reports}
@@ -42,27 +37,12 @@ use Rattle.lte_top.specs.Line.{as_line}
 use Rattle.lte_top.specs.Reports.{identified, identified_by, measured, measured_id, kept_for, IsReport}
 use Rattle.lte_top.specs.Run.{HasOutput}
 use Rattle.lte_top.specs.Searching.{receiver_of, FirstFramesDecideEach, IsListOf}
-use Rattle.lte_top.proofs.Carriers.{list_is}
+use Rattle.lte_top.proofs.Carriers.{list_holds}
 use Rattle.lte_top.proofs.Ending.{recording_unrefused}
 
 -- ---- lists
 
--- the list of a carrier holds what the recording is clean of
-pub list_holds : (carrier : Carrier) (samples : List Sample) (list : List Entry) → IsRecording samples → IsListFor (receiver_of carrier) samples list → IsListOf carrier samples list
-list_holds OnePort samples list valid explained =
-    let loaded = holds_loaded_cells samples list valid.least explained in
-    record { explained = explained; loaded = loaded; holds = holds_clean_cells samples list loaded }
-list_holds TwoPorts samples list valid explained =
-    let loaded = holds_loaded_cells_of_two samples list valid.least explained in
-    record { explained = explained; loaded = loaded; holds = holds_clean_cells_of_two samples list loaded }
-list_holds LongPrefix samples list valid explained =
-    let loaded = holds_loaded_long samples list valid.least explained in
-    record { explained = explained; loaded = loaded; holds = holds_clean_long samples list loaded }
-list_holds FourPorts samples list valid explained =
-    let loaded = holds_loaded_cells_of_four samples list valid.least explained in
-    record { explained = explained; loaded = loaded; holds = holds_clean_cells_of_four samples list loaded }
-
--- its receiver looks at the first frames alone
+-- the receiver of a carrier looks at the first frames alone
 looks : (carrier : Carrier) → LooksAtFirstFrames (receiver_of carrier)
 looks OnePort = slots_look OnePort (λ ports. true) placed_values
 looks TwoPorts = slots_look TwoPorts are_two paired_values
@@ -94,8 +74,7 @@ list_decides carrier samples list valid is = by_length (nat_le deciding_length (
         let above = is_above deciding_length (length samples) e in
         let size : length (take deciding_length samples) ≡ deciding_length = length-take-le deciding_length samples above in
         list_holds carrier samples list valid
-        (each_is_decided carrier (take deciding_length samples) samples list (omega (arith, size)) above (front_agrees deciding_length samples)
-        (list_is carrier (take deciding_length samples) list is))
+        (each_is_decided carrier (take deciding_length samples) samples list (omega (arith, size)) above (front_agrees deciding_length samples) is.explained)
     by_length false e =
         subst (λ (kept : List Sample). IsListOf carrier kept list) (take_all deciding_length samples (is_below deciding_length (length samples) e)) is
 
@@ -138,17 +117,8 @@ kept_report Ids Text samples text valid is = is ∙ ap ids_text (kept_ids sample
 kept_report Ids Json samples text valid is = is ∙ ap (λ found. as_line (ids_json found)) (kept_measured samples)
 kept_report (Search (Of carrier)) output samples text valid is =
     record { entries = is.entries; is_list = list_decides carrier samples is.entries valid is.is_list; text_is = is.text_is }
-kept_report (Search AllLists) output samples text valid is = record {
-  one = is.one;
-  two = is.two;
-  long = is.long;
-  four = is.four;
-  is_one = list_decides OnePort samples is.one valid is.is_one;
-  is_two = list_decides TwoPorts samples is.two valid is.is_two;
-  is_long = list_decides LongPrefix samples is.long valid is.is_long;
-  is_four = list_decides FourPorts samples is.four valid is.is_four;
-  text_is = is.text_is;
-}
+kept_report (Search AllLists) output samples text valid is =
+    record { lists = is.lists; are_lists = λ carrier. list_decides carrier samples (is.lists carrier) valid (is.are_lists carrier); text_is = is.text_is }
 kept_report (Search Cancel) output samples text valid is = subst (λ (kept : List Sample). IsReport (Search Cancel) output kept text) (take_all most_samples samples valid.most) is
 kept_report (Evidence carrier) output samples text valid is = subst (λ (kept : List Sample). IsReport (Evidence carrier) output kept text) (take_all most_samples samples valid.most) is
 kept_report Tell output samples text valid is = subst (λ (kept : List Sample). IsReport Tell output kept text) (take_all most_samples samples valid.most) is

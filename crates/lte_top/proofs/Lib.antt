@@ -5,7 +5,6 @@ pub mod Ending
 pub mod Held
 pub mod Reported
 pub mod SmallValues
-pub mod Holding
 pub mod Made
 pub mod Unread
 pub mod Complete

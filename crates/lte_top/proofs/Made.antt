@@ -1,7 +1,7 @@
 -- What is made is held once.
 use Rattle.std.proofs.Common.{◌≡◌, ℕ, List, ◌++◌, Result, Ok, Err, None, ap, sym, subst, ◌∙◌}
 use Rattle.std.specs.Prelude.{nat_abs, IfOk}
-use Rattle.std.specs.List.{AllPairs, Contains}
+use Rattle.std.specs.List.{Contains}
 use Rattle.cs_num.specs.declared.Sample.{Sample}
 use Rattle.lte_types.specs.declared.entry.Entry.{Entry}
 use Rattle.explain.specs.Entries.{IsBefore}
@@ -13,11 +13,10 @@ use Rattle.capture_make.proofs.Samples.{NumbersAreClean, one_of_number}
 use Rattle.report.specs.Lines.{made_line, report_text}
 use Rattle.lte_top.specs.declared.making.SentCell.{SentCell}
 use Rattle.lte_types.specs.declared.carrier.Carrier.{Carrier}
-use Rattle.lte_types.specs.declared.carrier.Carrier.TheVariants.{OnePort, TwoPorts, LongPrefix, FourPorts}
 use Rattle.lte_top.specs.Making.{Counts, IsSentCell, cell_of, AreSamplesOf, IsMadeList, IsMadeText, IsHeldOnce, WhatIsMadeIsHeld}
 use Rattle.lte_top.specs.Searching.{IsListOf}
 use Rattle.lte_top.proofs.Held.{one_count, one_counted}
-use Rattle.lte_top.proofs.Holding.{held}
+use Rattle.lte_top.proofs.Carriers.{held}
 use Rattle.lte_top.proofs.Lists.{one_list}
 
 -- ---- a number has one text
@@ -61,18 +60,11 @@ holds law carrier n samples entries m l =
       only = λ other inside p. h.only other inside p.id p.start p.sfn;
     }
 
--- the list is in order
-in_order : (carrier : Carrier) (samples : List Sample) (entries : List Entry) → IsListOf carrier samples entries → AllPairs IsBefore entries
-in_order OnePort samples entries l = l.explained.listed.in_order
-in_order TwoPorts samples entries l = l.explained.listed.in_order
-in_order LongPrefix samples entries l = l.explained.listed.in_order
-in_order FourPorts samples entries l = l.explained.listed.in_order
-
--- so it is counted once
+-- the list is in order, so it is counted once
 held_once : (carrier : Carrier) (n : ℕ) (output : List ℕ) (m : IsMadeText carrier n output) → Holds (cell_of carrier n) m.entries → IsHeldOnce n output
 held_once carrier n output m h =
     let one : m.tells.held ≡ 1 =
-    one_counted IsBefore (IsSentCell (cell_of carrier n)) (λ x before. before_after x x before before) m.entries h.entry m.tells.held (in_order carrier m.listed.samples m.entries m.listed.is_list) h.inside h.is
+    one_counted IsBefore (IsSentCell (cell_of carrier n)) (λ x before. before_after x x before before) m.entries h.entry m.tells.held m.listed.is_list.explained.listed.in_order h.inside h.is
     h.only m.tells.counts in
     record { entries = m.entries; once = m.tells.text ∙ ap (text_with (cell_of carrier n) m.entries) one }
 

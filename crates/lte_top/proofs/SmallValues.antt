@@ -23,7 +23,6 @@ use Rattle.four_ports.proofs.Paired.{length-paired as length-four, paired-small 
 use Rattle.long_prefix.specs.Entries.{long_slot, long_value, long_values}
 use Rattle.long_prefix.proofs.Pairs.{long_values-small}
 use Rattle.lte_top.specs.Searching.{receiver_of, IsListOf}
-use Rattle.lte_top.proofs.Carriers.{list_is}
 
 length-pairs : (slot : SeenSlot) → length (paired_values (λ p. slot) (pbch_places slot.identity)) ≡ 480
 length-pairs slot =
@@ -60,4 +59,4 @@ pub certifiable : (receiver : Receiver) (carrier : Carrier) → receiver ≡ rec
     IsListOf carrier recording list → AllZip (IsReadingFor (receiver_of carrier) recording) list readings →
     HasSmallValues receiver × (IsListFor receiver recording list × AllZip (IsReadingFor receiver recording) list readings)
 certifiable receiver carrier same recording list readings is read =
-    subst (λ r. HasSmallValues r × (IsListFor r recording list × AllZip (IsReadingFor r recording) list readings)) (sym same) (small_values carrier, (list_is carrier recording list is, read))
+    subst (λ r. HasSmallValues r × (IsListFor r recording list × AllZip (IsReadingFor r recording) list readings)) (sym same) (small_values carrier, (is.explained, read))

@@ -7,6 +7,7 @@ use Rattle.lte_types.specs.declared.carrier.Carrier.{Carrier}
 use Rattle.lte_types.specs.Carrier.{ports_of}
 use Rattle.lte_types.specs.Codes.{duration_word, resource_word}
 use Rattle.lte_types.specs.Timing.{start_of, number_at_start}
+use Rattle.clean_air.specs.Clean.{told_of}
 use Rattle.cell_tx.specs.declared.cell.CellPlan.{CellPlan}
 use Rattle.cell_tx.specs.declared.emission.Emission.{Emission}
 use Rattle.cell_tx.specs.Clean.{ArePairedBy}
@@ -19,7 +20,6 @@ use Rattle.lte_words.specs.declared.form.Report.TheVariants.{Search}
 use Rattle.lte_words.specs.declared.form.Rule.TheVariants.{Of}
 use Rattle.lte_words.specs.declared.form.Output.TheVariants.{Text}
 use Rattle.lte_top.specs.Forms.{IsOutput}
-use Rattle.lte_top.specs.Making.{told_of}
 
 -- the line of a sent cell: its identity, where its first frame begins, that frame's number, its antenna ports, and its
 -- block

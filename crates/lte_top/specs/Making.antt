@@ -1,20 +1,17 @@
 -- What `make N` writes: a line on recording number N and its cell, and the text of its list. (own)
-use Rattle.std.specs.Prelude.{◌≡◌, ◌⊎◌, ℕ, ◌+◌, ◌/◌, ◌<◌, ◌^◌, List, [], ◌∷◌, ◌++◌, Result, Ok, Err}
+use Rattle.std.specs.Prelude.{◌≡◌, ◌⊎◌, ℕ, ◌+◌, ◌/◌, ◌<◌, ◌^◌, List, [], ◌∷◌, ◌++◌}
 use Rattle.cs_num.specs.declared.Sample.{Sample}
 use Rattle.lte_types.specs.declared.bandwidth.Bandwidth.TheVariants.{N6}
 use Rattle.lte_types.specs.declared.entry.Entry.{Entry}
-use Rattle.lte_types.specs.declared.sib1.Sib1.{Sib1}
-use Rattle.lte_types.specs.declared.sib1_reason.Sib1Reason.{Sib1Reason}
-use Rattle.lte_types.specs.declared.sib1_reason.Sib1Reason.TheVariants.{LongPrefix, NotOnePort}
 use Rattle.lte_types.specs.Block.{HasFields}
 use Rattle.lte_types.specs.Timing.{start_of, number_at_start}
+use Rattle.clean_air.specs.Clean.{told_of}
 use Rattle.capture_make.specs.declared.made.MadeBy.{MadeBy}
 use Rattle.capture_make.specs.Made.{IsMadeBy}
 use Rattle.capture_make.specs.Recipe.{plan, number, offset}
 use Rattle.report.specs.Lines.{made_line, report_text}
 use Rattle.lte_top.specs.declared.making.SentCell.{SentCell}
 use Rattle.lte_types.specs.declared.carrier.Carrier.{Carrier}
-use Rattle.lte_types.specs.declared.carrier.Carrier.TheVariants.{OnePort, TwoPorts, LongPrefix as Long, FourPorts}
 use Rattle.lte_types.specs.Carrier.{ports_of}
 use Rattle.lte_top.specs.Searching.{IsListOf}
 
@@ -48,13 +45,6 @@ first_of n = start_of (offset n)
 
 abbrev pub number_of : ℕ → ℕ
 number_of n = number_at_start (number n) (offset n)
-
--- what is told of the system information that a carrier sends
-abbrev pub told_of : Carrier → Sib1 → Result Sib1 Sib1Reason
-told_of OnePort sib1 = Ok sib1
-told_of TwoPorts sib1 = Ok sib1
-told_of Long sib1 = Err LongPrefix
-told_of FourPorts sib1 = Err (NotOnePort 4)
 
 -- the cell of recording number n, as it is listed
 abbrev pub cell_of : Carrier → ℕ → SentCell

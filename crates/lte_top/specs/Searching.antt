@@ -4,15 +4,12 @@ use Rattle.cs_num.specs.declared.Sample.{Sample}
 use Rattle.lte_types.specs.declared.entry.Entry.{Entry}
 use Rattle.lte_types.specs.declared.carrier.Carrier.{Carrier}
 use Rattle.lte_types.specs.declared.carrier.Carrier.TheVariants.{OnePort, TwoPorts, LongPrefix, FourPorts}
-use Rattle.clean_air.specs.Clean.{IsListOfCells}
+use Rattle.clean_air.specs.Clean.{IsListBy}
 use Rattle.explain.specs.Deciding.{AreDecidedFor}
 use Rattle.explain.specs.Receiver.{Receiver, one_port_receiver}
-use Rattle.two_ports.specs.Entries.{two_ports_receiver, IsExplainedOfTwo}
-use Rattle.two_ports.specs.Clean.{HoldsLoadedCellsOfTwo, HoldsCleanCellsOfTwo}
-use Rattle.long_prefix.specs.Entries.{long_prefix_receiver, IsExplainedOfLong}
-use Rattle.long_prefix.specs.Clean.{HoldsLoadedCellsOfLong, HoldsCleanCellsOfLong}
-use Rattle.four_ports.specs.Entries.{four_ports_receiver, IsExplainedOfFour}
-use Rattle.four_ports.specs.Clean.{HoldsLoadedCellsOfFour, HoldsCleanCellsOfFour}
+use Rattle.two_ports.specs.Entries.{two_ports_receiver}
+use Rattle.long_prefix.specs.Entries.{long_prefix_receiver}
+use Rattle.four_ports.specs.Entries.{four_ports_receiver}
 use Rattle.rounds.specs.AsJson.{IsCancelJson}
 use Rattle.rounds.specs.Text.{IsCancelText}
 use Rattle.report.specs.All.{all_text, all_json}
@@ -33,33 +30,9 @@ receiver_of TwoPorts = two_ports_receiver
 receiver_of LongPrefix = long_prefix_receiver
 receiver_of FourPorts = four_ports_receiver
 
--- the list of the cells with two antenna ports, which holds each of which the recording is clean, whatever else its
--- ports send
-pub record IsListOfTwo (samples : List Sample) (entries : List Entry) : Type 0 where
-  pub explained : IsExplainedOfTwo samples entries
-  pub loaded : HoldsLoadedCellsOfTwo samples entries
-  pub holds : HoldsCleanCellsOfTwo samples entries
-
--- the list of the cells with the extended prefix, which holds each of which the recording is clean, whatever else it
--- sends
-pub record IsListOfLong (samples : List Sample) (entries : List Entry) : Type 0 where
-  pub explained : IsExplainedOfLong samples entries
-  pub loaded : HoldsLoadedCellsOfLong samples entries
-  pub holds : HoldsCleanCellsOfLong samples entries
-
--- the list of the cells with four antenna ports, which holds each of which the recording is clean, whatever else its
--- ports send
-pub record IsListOfFour (samples : List Sample) (entries : List Entry) : Type 0 where
-  pub explained : IsExplainedOfFour samples entries
-  pub loaded : HoldsLoadedCellsOfFour samples entries
-  pub holds : HoldsCleanCellsOfFour samples entries
-
--- the list of the cells of a carrier
+-- the list of the cells of a carrier, which holds each of which the recording is clean, whatever else its ports send
 abbrev pub IsListOf : Carrier → List Sample → List Entry → Type 0
-IsListOf OnePort = IsListOfCells
-IsListOf TwoPorts = IsListOfTwo
-IsListOf LongPrefix = IsListOfLong
-IsListOf FourPorts = IsListOfFour
+IsListOf carrier = IsListBy (receiver_of carrier)
 
 -- a law: two recordings of at least 326,400 samples that agree in these have one list of each carrier
 abbrev pub FirstFramesDecideEach : Type 0
@@ -79,21 +52,23 @@ pub record IsListText (carrier : Carrier) (output : Output) (samples : List Samp
 
 -- ---- the lists of all carriers
 
-abbrev pub lists_text : Output → List Entry → List Entry → List Entry → List Entry → List ℕ
-lists_text Text one two long four = all_text one two long four
-lists_text Json one two long four = as_line (all_json one two long four)
+-- the list of each carrier, of four
+abbrev pub list_among : List Entry → List Entry → List Entry → List Entry → Carrier → List Entry
+list_among one two long four OnePort = one
+list_among one two long four TwoPorts = two
+list_among one two long four LongPrefix = long
+list_among one two long four FourPorts = four
+
+-- the text of the list of each carrier
+abbrev pub lists_text : Output → (Carrier → List Entry) → List ℕ
+lists_text Text lists = all_text (lists OnePort) (lists TwoPorts) (lists LongPrefix) (lists FourPorts)
+lists_text Json lists = as_line (all_json (lists OnePort) (lists TwoPorts) (lists LongPrefix) (lists FourPorts))
 
 -- the list of each carrier in the recording, as this text
 pub record IsTextOfAll (output : Output) (samples : List Sample) (text : List ℕ) : Type 0 where
-  pub one : List Entry
-  pub two : List Entry
-  pub long : List Entry
-  pub four : List Entry
-  pub is_one : IsListOf OnePort samples one
-  pub is_two : IsListOf TwoPorts samples two
-  pub is_long : IsListOf LongPrefix samples long
-  pub is_four : IsListOf FourPorts samples four
-  pub text_is : text ≡ lists_text output one two long four
+  pub lists : Carrier → List Entry
+  pub are_lists : (carrier : Carrier) → IsListOf carrier samples (lists carrier)
+  pub text_is : text ≡ lists_text output lists
 
 -- ---- the lists by each rule
 

@@ -1,7 +1,8 @@
 //! The lists of recordings by number.
 
 ghost use Rattle.std.specs.Prelude.{◌≡◌, ◌↔◌, ◌≤◌, IfOk, IsTrue, length, string_bytes};
-ghost use Rattle.lte_top.specs.Making.{Counts, IsSentCell, TellsHeld, told_of, cell_of, IsMadeList, IsMadeText};
+ghost use Rattle.clean_air.specs.Clean.{told_of};
+ghost use Rattle.lte_top.specs.Making.{Counts, IsSentCell, TellsHeld, cell_of, IsMadeList, IsMadeText};
 
 use crate::searching::list_of;
 use capture_make::{make_by, plan, timing};

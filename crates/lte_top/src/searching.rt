@@ -7,7 +7,7 @@ ghost use Rattle.pss_search.specs.Hits.{hits_of as all_hits};
 ghost use Rattle.explain.specs.Entries.{IsListFor};
 ghost use Rattle.explain.specs.Readings.{IsReadingFor};
 ghost use Rattle.lte_top.specs.Searching.{receiver_of, IsListOf, IsListText, IsTextOfAll, IsCancelled, IsSearch};
-ghost use Rattle.lte_top.specs.Searching.{list_text as text_of, lists_text as texts_of};
+ghost use Rattle.lte_top.specs.Searching.{list_among, list_text as text_of, lists_text as texts_of};
 
 use crate::reporting::{hits_of, line_of};
 use explain::{EntryList, FrameReader, OnePort, Workspace, explain_hits};
@@ -150,7 +150,8 @@ fn lists_text(
     long: &[Entry],
     four: &[Entry],
 ) -> Result<String, AllocError>
-    ensures { IfOk result (λ text. string_bytes text ≡ texts_of output one.now two.now long.now four.now) }
+    ensures { IfOk result (λ text.
+        string_bytes text ≡ texts_of output (list_among one.now two.now long.now four.now)) }
 {
     match output {
         Output::Text => text_of_all(alloc, one, two, long, four),

@@ -13,6 +13,7 @@ use Rattle.cell_tx.specs.Grid.{element}
 use Rattle.cell_tx.specs.Sent.{Elements}
 use Rattle.clean_air.specs.Clean.{IsListOfCells}
 use Rattle.clean_air.specs.Load.{IsLoaded, SentElementsCarry}
+use Rattle.clean_air.proofs.Carrying.{loaded_of}
 use Rattle.clean_air.specs.Planned.{IsPlanned, SentEntryHasPlan, IsOnePlan}
 use Rattle.cancel.specs.declared.subtracted.Subtracted.{Subtracted}
 use Rattle.cancel.specs.Residue.{IsSubtracted, IsSubtraction, IsLeftWithin}
@@ -113,12 +114,12 @@ module _ (one_plan : IsOnePlan) (has_plan : SentEntryHasPlan) (some_answer : IsS
     first_round : (fewer : ℕ) (list : List Entry) (rounds : List Round) (ended : Bool) → IsListOfCells recording list → AreRounds (suc fewer) recording list rounds ended →
         IsTakenFirst recording list rounds plan start number most
     first_round fewer list [] ended is are =
-        let held = is.loaded plan grid sfn offset gain eps sendable loaded in
+        let held = is.loaded plan (λ port. grid) sfn offset (gain ∷ []) eps sendable loaded in
         let of : IsOfCell plan start number held.entry = record { id = held.id; start = held.start; sfn = held.sfn } in
         let able = can_be held.entry of (planned list held.entry is held.inside of) in
         absurd (are.1 held.entry able.taken held.inside able.is)
     first_round fewer list (round ∷ rest) ended is are =
-        let held = is.loaded plan grid sfn offset gain eps sendable loaded in
+        let held = is.loaded plan (λ port. grid) sfn offset (gain ∷ []) eps sendable loaded in
         let of : IsOfCell plan start number held.entry = record { id = held.id; start = held.start; sfn = held.sfn } in
         let has = planned list held.entry is held.inside of in
         let able = can_be held.entry of has in
@@ -157,7 +158,7 @@ module _ (one_plan : IsOnePlan) (has_plan : SentEntryHasPlan) (some_answer : IsS
   pub clean_next : AnswerTakesCleanOff → SentElementsCarry → CleanCellIsTakenNext
   clean_next leaves carry fewer recording list rounds ended plan sfn offset gain eps long is are sendable clean =
       first_round recording plan (element plan) sfn offset gain eps eps long sendable
-      (record { number = clean.number; carries = carry None Only plan; samples = clean.samples })
+      (loaded_of recording plan (element plan) sfn offset gain eps clean.number (carry None Only plan) clean.samples)
       (λ taken subtracted. leaves recording plan (start_of offset) (number_at_start sfn offset) (Some taken) long subtracted sfn offset gain eps clean refl refl)
       (λ none. leaves recording plan (start_of offset) (number_at_start sfn offset) None long none sfn offset gain eps clean refl refl)
       fewer list rounds ended is are

@@ -4,7 +4,6 @@ pub mod Estimates
 pub mod Values
 pub mod Paired
 pub mod ReceivedPairs
-pub mod SentSymbols
 pub mod SentSlots
 pub mod Heard
 pub mod SentMaster

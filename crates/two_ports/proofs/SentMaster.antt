@@ -8,21 +8,22 @@ use Rattle.grid_map.specs.Broadcast.{pbch_places, pbch_place, is_pbch}
 use Rattle.grid_map.specs.Scrambling.{pbch_c_init}
 use Rattle.pbch.specs.Values.{received_values_by}
 use Rattle.grid_map.proofs.Points.{length-pbch_places, places_inside}
+use Rattle.lte_types.specs.declared.carrier.Carrier.TheVariants.{TwoPorts}
 use Rattle.lte_types.specs.Numerology.{normal, useful_start}
 use Rattle.lte_types.specs.Timing.{start_of, number_at_start}
 use Rattle.soft_bits.specs.Soft.{SeenSlot}
+use Rattle.cell_tx.specs.declared.antenna.Port.{Port}
 use Rattle.cell_tx.specs.declared.antenna.Port.TheVariants.{First, Second}
 use Rattle.cell_tx.specs.declared.cell.CellPlan.{CellPlan}
 use Rattle.cell_tx.specs.Ports.{sent_point}
 use Rattle.cell_tx.specs.Points.{point_of}
 use Rattle.cell_tx.specs.Block.{port_word, port_bit, port_point, scrambled_bit}
 use Rattle.cell_tx.specs.Sent.{Elements}
-use Rattle.clean_air.specs.Load.{CarriesPlan}
+use Rattle.clean_air.specs.Load.{CarriesPlan, IsLoadedBy}
 use Rattle.explain.specs.Frame.{IsWhole, frame_at, seen_slot, broadcast_slot}
 use Rattle.clean_air.specs.Carried.{SpeakOfWord, AreHeard}
 use Rattle.clean_air.proofs.Speaking.{heard_bits_speak}
 use Rattle.clean_air.proofs.SentBlock.{is_block}
-use Rattle.two_ports.specs.Clean.{IsLoadedOfPorts}
 use Rattle.two_ports.specs.Pairs.{pair_at, paired_values}
 use Rattle.two_ports.specs.Received.{CarryPair}
 use Rattle.two_ports.proofs.Heard.{SpeakFrom, pair_speaks, second_even, second_odd, paired_heard}
@@ -50,8 +51,14 @@ second_points plan grid carries number i inside = points_stand Second refl plan 
 
 -- ---- the slot
 
-module _ (recording : List Sample) (plan : CellPlan) (grid others : Elements) (sfn offset : ℕ) (gain other : Cpx) (eps : ℕ) (clean : IsLoadedOfPorts recording plan grid others sfn offset gain other eps)
+module _ (recording : List Sample) (plan : CellPlan) (grids : Port → Elements) (sfn offset : ℕ) (gains : List Cpx) (eps : ℕ) (clean : IsLoadedBy TwoPorts recording plan grids sfn offset gains eps)
     (j : ℕ) (whole : IsWhole recording (start_of offset) j) where
+  abbrev grid : Elements
+  grid = grids First
+
+  abbrev others : Elements
+  others = grids Second
+
   abbrev number : ℕ
   number = (number_at_start sfn offset + j) % 1024
 
@@ -71,13 +78,13 @@ module _ (recording : List Sample) (plan : CellPlan) (grid others : Elements) (s
           let b : 2 * i + 1 < 240 = omega (arith, l, size) in
           let p = pbch_place plan.identity (2 * i) in
           let q = pbch_place plan.identity (2 * i + 1) in
-          let received = each_slot_received recording plan grid others sfn offset gain other eps clean j 1 whole (omega arith) in
+          let received = each_slot_received recording plan grids sfn offset gains eps clean j 1 whole (omega arith) in
           let carry : CarryPair (slot_grid grid number 1) (slot_grid others number 1) p q (point_of (sent_bits plan number) (2 * i)) (point_of (sent_bits plan number) (2 * i + 1)) =
           record {
-            first = first_points plan grid clean.carries number (2 * i) a;
-            second = first_points plan grid clean.carries number (2 * i + 1) b;
-            other_first = second_points plan others clean.other_carries number (2 * i) a ∙ second_even (point_of (sent_bits plan number)) i;
-            other_second = second_points plan others clean.other_carries number (2 * i + 1) b ∙ second_odd (point_of (sent_bits plan number)) i;
+            first = first_points plan grid (clean.carries First refl) number (2 * i) a;
+            second = first_points plan grid (clean.carries First refl) number (2 * i + 1) b;
+            other_first = second_points plan others (clean.carries Second refl) number (2 * i) a ∙ second_even (point_of (sent_bits plan number)) i;
+            other_second = second_points plan others (clean.carries Second refl) number (2 * i + 1) b ∙ second_odd (point_of (sent_bits plan number)) i;
           } in
           pair_speaks recording (useful_start normal (frame_at (start_of offset) j) 1) (slot_grid grid number 1) (slot_grid others number 1) slot p q (sent_bits plan number) i received
           (on_subcarrier plan.identity p (places_inside plan.identity (2 * i) a)) (on_subcarrier plan.identity q (places_inside plan.identity (2 * i + 1) b)) carry

@@ -1,28 +1,29 @@
 -- The slots of a recording that is clean of both ports of a cell, whatever else they send: each of a whole frame is received as it was sent.
-use Rattle.std.proofs.Common.{◌≡◌, ℕ, ◌+◌, ◌*◌, ◌/◌, ◌%◌, ◌<◌, arith, refl, subst, ◌∙◌, List, [], nat_eq, Bool, true, false}
+use Rattle.std.proofs.Common.{◌≡◌, ℕ, ◌+◌, ◌*◌, ◌/◌, ◌%◌, ◌<◌, ◌≤◌, arith, refl, subst, ◌∙◌, List, [], nat_eq, Bool, true, false}
 use Rattle.std.specs.Prelude.{if◌then◌else◌}
 use Rattle.std.proofs.lemmas.Bool.Decides.{nat_tests}
 use Rattle.finite.proofs.Lists.{values_below_at}
 use Rattle.cs_num.specs.declared.Cpx.{Cpx}
 use Rattle.cs_num.specs.declared.Sample.{Sample}
-use Rattle.cs_num.specs.Complex.{nothing}
+use Rattle.cs_num.specs.Complex.{nothing, value_at}
 use Rattle.crs.specs.Reference.{port_0, port_1, is_reference, is_second_reference, is_pattern_place, first_subcarrier, pattern_reference, reference, reference_c_init, reference_at}
 use Rattle.observe.specs.Seen.{seen_symbol}
 use Rattle.soft_bits.specs.Soft.{pattern_symbol, pattern_sent, pilot_subcarrier}
+use Rattle.cell_tx.specs.declared.antenna.Port.{Port}
 use Rattle.cell_tx.specs.declared.antenna.Port.TheVariants.{First, Second}
 use Rattle.cell_tx.specs.declared.cell.CellPlan.{CellPlan}
 use Rattle.cell_tx.specs.Grid.{port_element}
 use Rattle.cell_tx.specs.Sent.{Elements}
-use Rattle.clean_air.specs.Load.{CarriesPlan}
+use Rattle.clean_air.specs.Load.{CarriesPlan, IsLoadedBy}
 use Rattle.clean_air.proofs.Carrying.{of_own_reference, of_other_reference}
+use Rattle.lte_types.specs.declared.carrier.Carrier.TheVariants.{TwoPorts}
 use Rattle.lte_types.specs.Numerology.{normal, useful_start}
 use Rattle.lte_types.specs.Timing.{start_of, number_at_start}
 use Rattle.explain.specs.Frame.{IsWhole, frame_at, seen_slot}
 use Rattle.budget.specs.Received.{IsReceivedFromTwo, samples_from}
 use Rattle.clean_air.proofs.SentSlots.{slot_grid, frame_is}
-use Rattle.two_ports.specs.Clean.{IsLoadedOfPorts}
 use Rattle.two_ports.specs.Received.{IsSlotReceivedOfTwo}
-use Rattle.two_ports.proofs.SentSymbols.{received_at}
+use Rattle.clean_air.proofs.SentSymbols.{symbol_near}
 
 -- ---- the reference signals
 
@@ -110,28 +111,40 @@ module _ (plan : CellPlan) (grid others : Elements) (carries : CarriesPlan First
 
 -- ---- the slots
 
+some_left : (a b : ℕ) → 1 ≤ a → 1 ≤ a + b
+some_left a b h = omega (arith, h)
+
 -- each slot of a whole frame is received
-pub each_slot_received : (recording : List Sample) (plan : CellPlan) (grid others : Elements) (sfn offset : ℕ) (gain other : Cpx) (eps : ℕ) → IsLoadedOfPorts recording plan grid others sfn offset gain other eps →
+pub each_slot_received : (recording : List Sample) (plan : CellPlan) (grids : Port → Elements) (sfn offset : ℕ) (gains : List Cpx) (eps : ℕ) → IsLoadedBy TwoPorts recording plan grids sfn offset gains eps →
     (j slot : ℕ) → IsWhole recording (start_of offset) j → slot < 20 →
-    IsSlotReceivedOfTwo recording (useful_start normal (frame_at (start_of offset) j) slot) (slot_grid grid ((number_at_start sfn offset + j) % 1024) slot)
-    (slot_grid others ((number_at_start sfn offset + j) % 1024) slot) (seen_slot recording (frame_at (start_of offset) j) slot plan.identity)
+    IsSlotReceivedOfTwo recording (useful_start normal (frame_at (start_of offset) j) slot) (slot_grid (grids First) ((number_at_start sfn offset + j) % 1024) slot)
+    (slot_grid (grids Second) ((number_at_start sfn offset + j) % 1024) slot) (seen_slot recording (frame_at (start_of offset) j) slot plan.identity)
 unfolding seen_slot
-each_slot_received recording plan grid others sfn offset gain other eps clean j slot whole few =
+each_slot_received recording plan grids sfn offset gains eps clean j slot whole few =
+    let grid = grids First in
+    let others = grids Second in
+    let gain = value_at gains 0 in
+    let other = value_at gains 1 in
+    let carries = clean.carries First refl in
+    let other_carries = clean.carries Second refl in
     let number : ℕ = (number_at_start sfn offset + j) % 1024 in
     let start : ℕ → ℕ = useful_start normal (frame_at (start_of offset) j) slot in
     let n : ℕ = (if nat_eq offset 0 then 0 else 1) + j in
-    let frame = frame_is sfn offset j clean.number clean.samples.within in
+    let frame = frame_is sfn offset j clean.number clean.within in
     record {
       eps = eps;
       gain = gain;
       other = other;
       seen = λ l inside. values_below_at (λ symbol. seen_symbol recording (start symbol)) 7 l [] inside;
-      amplitudes = λ l inside. clean.carries.small number (slot / 2) (7 * (slot % 2) + l);
-      other_amplitudes = λ l inside. clean.other_carries.small number (slot / 2) (7 * (slot % 2) + l);
-      received = λ l inside. subst (λ m. IsReceivedFromTwo eps gain other (slot_grid grid m slot l) (slot_grid others m slot l) (samples_from recording (start l))) frame.number
-          (received_at recording grid others sfn offset gain other eps (start l) n slot l clean.samples few inside (omega (arith, whole, inside, few)) (omega (arith, frame.place)));
-      references = λ i inside. references plan grid others clean.carries clean.other_carries number slot i;
-      other_silent = λ i inside. other_silent plan grid others clean.carries clean.other_carries number slot i;
-      other_references = λ i inside. other_references plan grid others clean.carries clean.other_carries number slot i;
-      silent = λ i inside. silent plan grid others clean.carries clean.other_carries number slot i;
+      amplitudes = λ l inside. carries.small number (slot / 2) (7 * (slot % 2) + l);
+      other_amplitudes = λ l inside. other_carries.small number (slot / 2) (7 * (slot % 2) + l);
+      received = λ l inside. subst (λ m. IsReceivedFromTwo eps gain other (slot_grid grid m slot l) (slot_grid others m slot l) (samples_from recording (start l))) frame.number (record {
+        sounds = some_left _ _ clean.gains_are.least;
+        quiet = clean.bound.both;
+        near = λ k low. symbol_near TwoPorts recording plan grids sfn offset gains eps clean (start l) n slot l k few inside low (omega (arith, whole, inside, few)) (omega (arith, frame.place));
+      });
+      references = λ i inside. references plan grid others carries other_carries number slot i;
+      other_silent = λ i inside. other_silent plan grid others carries other_carries number slot i;
+      other_references = λ i inside. other_references plan grid others carries other_carries number slot i;
+      silent = λ i inside. silent plan grid others carries other_carries number slot i;
     }

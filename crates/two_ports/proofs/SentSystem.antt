@@ -29,6 +29,7 @@ use Rattle.pdsch.specs.Values.{shared_values_by}
 use Rattle.system_block.specs.Subframe.{subframe_by}
 use Rattle.system_block.specs.Block.{BlockSays}
 use Rattle.system_block.specs.Attempt.{Reads}
+use Rattle.cell_tx.specs.declared.antenna.Port.{Port}
 use Rattle.cell_tx.specs.declared.antenna.Port.TheVariants.{First, Second}
 use Rattle.cell_tx.specs.declared.cell.CellPlan.{CellPlan}
 use Rattle.cell_tx.specs.Ports.{sent_point}
@@ -52,7 +53,7 @@ use Rattle.clean_air.proofs.Controls.{grant_parts, four_elements, spoken_grant_i
 use Rattle.clean_air.proofs.SharedBlocks.{heard_block_is_told}
 use Rattle.clean_air.proofs.Speaking.{descrambled_bits_are_heard}
 use Rattle.two_tx.specs.Plan.{IsSendableOfTwo}
-use Rattle.two_ports.specs.Clean.{IsLoadedOfPorts}
+use Rattle.clean_air.specs.Load.{IsLoadedBy}
 use Rattle.two_ports.specs.Pairs.{pair_at, paired_values}
 use Rattle.two_ports.specs.Received.{CarryPair}
 use Rattle.two_ports.proofs.Heard.{SpeakFrom, pair_speaks, second_even, second_odd, paired_heard, paired_same, heard-less}
@@ -61,8 +62,14 @@ use Rattle.two_ports.proofs.SentSlots.{each_slot_received}
 
 -- ---- a frame
 
-module _ (recording : List Sample) (plan : CellPlan) (grid others : Elements) (sfn offset : ℕ) (gain other : Cpx) (eps : ℕ) (sendable : IsSendableOfTwo plan)
-    (clean : IsLoadedOfPorts recording plan grid others sfn offset gain other eps) (j : ℕ) (whole : IsWhole recording (start_of offset) j) where
+module _ (recording : List Sample) (plan : CellPlan) (grids : Port → Elements) (sfn offset : ℕ) (gains : List Cpx) (eps : ℕ) (sendable : IsSendableOfTwo plan)
+    (clean : IsLoadedBy TwoPorts recording plan grids sfn offset gains eps) (j : ℕ) (whole : IsWhole recording (start_of offset) j) where
+  abbrev grid : Elements
+  grid = grids First
+
+  abbrev others : Elements
+  others = grids Second
+
   abbrev number : ℕ
   number = (number_at_start sfn offset + j) % 1024
 
@@ -122,7 +129,7 @@ module _ (recording : List Sample) (plan : CellPlan) (grid others : Elements) (s
         let s : ℕ = 10 + (item (2 * i)).symbol / 7 in
         let both : s ≡ 10 + (item (2 * i + 1)).symbol / 7 = ap (λ n. 10 + n) (together i l) in
         let few : s < 20 = let low = (placed (2 * i) a).0 in omega (arith, low) in
-        let received = each_slot_received recording plan grid others sfn offset gain other eps clean j s whole few in
+        let received = each_slot_received recording plan grids sfn offset gains eps clean j s whole few in
         let carry : CarryPair (slot_grid grid number s) (slot_grid others number s) (item (2 * i)) (item (2 * i + 1)) (point_of bits (2 * i)) (point_of bits (2 * i + 1)) =
         record {
           first = first_in s (2 * i) a refl;
@@ -162,8 +169,8 @@ module _ (recording : List Sample) (plan : CellPlan) (grid others : Elements) (s
           first_heard (pcfich_places plan.identity) (scrambled (pcfich_c_init plan.identity 10) (indicator_bit plan.cfi)) (omega (arith, size))
           (λ i l. let at = low i l in (omega (arith, at), (indicator_stands First plan sendable i (omega (arith, l, size))).k))
           (λ i l. let at = low (2 * i) (omega (arith, l)) in let next = low (2 * i + 1) (omega (arith, l)) in omega (arith, at, next))
-          (λ i l. indicator_carried First plan grid clean.carries sendable refl number is_even i (omega (arith, l, size)))
-          (λ i l. indicator_carried Second plan others clean.other_carries sendable refl number is_even i (omega (arith, l, size)))
+          (λ i l. indicator_carried First plan grid (clean.carries First refl) sendable refl number is_even i (omega (arith, l, size)))
+          (λ i l. indicator_carried Second plan others (clean.carries Second refl) sendable refl number is_even i (omega (arith, l, size)))
           (λ i l. let at = low i l in omega (arith, at))
 
       all : AreHeard 16 (2 * 16) (indicator_bit plan.cfi) (indicator_values_by paired_values (slot 10))
@@ -190,8 +197,8 @@ module _ (recording : List Sample) (plan : CellPlan) (grid others : Elements) (s
             first_heard (control_places plan) (scrambled (pdcch_c_init plan.identity 10) (coded_bit (grant_word (grant_of plan number)))) (omega (arith, size))
             (λ i l. let at = low i l in (omega (arith, at), (control_stands First plan sendable i (omega (arith, l, size))).k))
             (λ i l. let at = low (2 * i) (omega (arith, l)) in let next = low (2 * i + 1) (omega (arith, l)) in omega (arith, at, next))
-            (λ i l. control_carried First plan grid clean.carries sendable refl number is_even i (omega (arith, l, size)))
-            (λ i l. control_carried Second plan others clean.other_carries sendable refl number is_even i (omega (arith, l, size)))
+            (λ i l. control_carried First plan grid (clean.carries First refl) sendable refl number is_even i (omega (arith, l, size)))
+            (λ i l. control_carried Second plan others (clean.carries Second refl) sendable refl number is_even i (omega (arith, l, size)))
             (λ i l. let at = low i l in omega (arith, at))
 
         all : AreHeard 16 (2 * 144) (coded_bit (grant_word (grant_of plan number))) (candidate_values_by paired_values (slot 10) plan.cfi plan.duration plan.resource)
@@ -220,8 +227,8 @@ module _ (recording : List Sample) (plan : CellPlan) (grid others : Elements) (s
         (places_heard places (scrambled (pdsch_c_init plan.identity 10 system_information_rnti) (shared_bit plan number)) paired
         (λ i l. let at = assigned_stands First plan sendable i l in (at.symbol, at.k))
         (λ i l. ap (λ (n : ℕ). n / 7) (pair_in_one_symbol plan.identity plan.cfi plan.start plan.blocks (2 * i) sendable.cfi.0 sendable.cfi.1 sendable.assignment.inside (omega arith) (omega (arith, l, paired))))
-        (λ i l. shared_carried First plan grid clean.carries sendable refl number is_even i l)
-        (λ i l. shared_carried Second plan others clean.other_carries sendable refl number is_even i l))
+        (λ i l. shared_carried First plan grid (clean.carries First refl) sendable refl number is_even i l)
+        (λ i l. shared_carried Second plan others (clean.carries Second refl) sendable refl number is_even i l))
 
     matched_heard : (row : Row) → row ≡ row_with (checked_size plan) → row.k ≡ checked_size plan → AreHeard 16 (2 * length places) (matched_bit row (version_of number) (shared_word plan)) values
     unfolding shared_coded

@@ -3,13 +3,18 @@
 ghost use Rattle.std.specs.Prelude.{All, IfOk};
 ghost use Rattle.std.specs.List.{AllZip};
 ghost use Rattle.lte_types.specs.Ranges.{IsValid};
-ghost use Rattle.two_ports.specs.Entries.{IsExplainedOfTwo, IsReadingOfTwo};
-ghost use Rattle.two_ports.specs.Clean.{HoldsLoadedCellsOfTwo, HoldsCleanCellsOfTwo};
+ghost use Rattle.clean_air.specs.Clean.{IsListBy};
+ghost use Rattle.two_ports.specs.Entries.{two_ports_receiver, IsReadingOfTwo};
 
 use crate::Workspace2;
 use crate::frames::TwoPorts;
-use explain::{EntryList, explain_by};
+use clean_air::{CleanReader, explain_clean_by};
+use explain::EntryList;
 use sample_file::Recording;
+
+impl CleanReader for TwoPorts {
+    fn holds_cells() {}
+}
 
 /// Afterwards the list is that of the cells with two antenna ports that the recording explains, whatever it held
 /// before. Hits, places, first frames, frame numbers, dropped entries and order are those of `explain::explain`; a
@@ -17,22 +22,13 @@ use sample_file::Recording;
 /// the first fields of SystemInformationBlockType1 that one of its first eight whole frames of even number tells,
 /// or a `Sib1Reason` where none does; the fields are in their ranges.
 ///
-/// Wherever the recording is what both antenna ports of a cell send, by a plan that can be sent, each times a
-/// whole-number gain, with the squares of the gains' sizes together at most 392 and that of the first at least 1,
-/// each component off by at most as much as its square is a quarter of that sum and four times that of the first,
-/// the list has an entry with this cell's identity, the sample at which its first frame begins, that frame's
-/// number, two antenna ports, its master block, and the fields of its SystemInformationBlockType1, and no other
-/// with this identity, sample and number. It does so whatever else the ports send where the plan sends nothing,
-/// beside the synchronisation signals nothing, in elements of size at most 256 (`loaded`), and so where they send
-/// nothing else (`holds`). The workspace then has how each entry was read. It takes no memory. (own)
+/// It holds each cell of which the recording is clean (`clean_air::explain_clean_by`): by a plan that can be sent, with
+/// the squares of both gains' sizes together at most 392 and that of the first at least 1, each component off by at
+/// most as much as its square is a quarter of that sum and four times that of the first. (own)
 pub fn explain_clean(recording: &Recording, work: &mut Workspace2, list: &mut EntryList)
-    ensures list { IsExplainedOfTwo recording.now list.new }
+    ensures list { IsListBy two_ports_receiver recording.now list.new }
     ensures readings { AllZip (IsReadingOfTwo recording.now) list.new work.new }
-    ensures loaded { HoldsLoadedCellsOfTwo recording.now list.new }
-    ensures holds { HoldsCleanCellsOfTwo recording.now list.new }
     ensures valid { All (λ entry. IfOk entry.sib1 IsValid) list.new }
 {
-    let count = recording.len();
-    explain_by(&TwoPorts, recording, work, list);
-    prove!(57_600 <= count);
+    explain_clean_by(&TwoPorts, recording, work, list);
 }

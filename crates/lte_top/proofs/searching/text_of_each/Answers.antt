@@ -1,7 +1,7 @@
 use Rattle.std.proofs.Common.{sym, subst}
 use Rattle.lte_types.specs.declared.carrier.Carrier.TheVariants.{OnePort, TwoPorts, LongPrefix, FourPorts}
 use Rattle.lte_top.specs.Searching.{IsListOf}
-use Rattle.lte_top.proofs.Fronts.{list_holds}
+use Rattle.lte_top.proofs.Carriers.{list_holds}
 use Rattle.lte_top.proofs.Lists.{all_text_is}
 use Rattle.lte_top.proofs.searching.text_of_each.Goals as goal
 

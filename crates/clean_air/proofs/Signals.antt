@@ -1,0 +1,248 @@
+-- The synchronisation signals of a recording that is clean of a cell of any carrier, whatever else its ports send: they are received as from the
+-- first port alone.
+use Rattle.std.proofs.Common.{◌≡◌, ℕ, ◌+◌, ◌-◌, ◌*◌, ◌/◌, ◌%◌, ◌<◌, ◌≤◌, Bool, true, false, inl, inr, nat_eq, nat_le, nat_lt, arith, refl, ap, ap₂, subst, ◌∙◌, List, length}
+use Rattle.std.specs.Prelude.{if◌then◌else◌, ◌&&◌}
+use Rattle.std.proofs.lemmas.Bool.Decides.{nat_tests}
+use Rattle.cs_num.specs.declared.Cpx.{Cpx}
+use Rattle.cs_num.specs.declared.Sample.{Sample}
+use Rattle.cs_num.specs.Complex.{IsWithin, nothing, plus, times, minus, sample_at, square, value_at}
+use Rattle.cs_num.specs.Rounding.{rounded}
+use Rattle.cs_num.proofs.Complex.{times-commutes}
+use Rattle.sizes.proofs.Algebra.{plus-nothing_right, times-nothing, sum_zero}
+use Rattle.fold128.specs.Tables.{w_at}
+use Rattle.fold128.specs.Symbol.{useful_at, useful_term, frequency}
+use Rattle.fold128.proofs.Samples.{useful_same}
+use Rattle.lte_types.specs.declared.carrier.Carrier.{Carrier}
+use Rattle.lte_types.specs.declared.carrier.Carrier.TheVariants.{OnePort, TwoPorts, LongPrefix, FourPorts}
+use Rattle.lte_types.specs.declared.frame.Half.{Half}
+use Rattle.lte_types.specs.declared.frame.Half.TheVariants.{Zero, Five}
+use Rattle.lte_types.specs.declared.numerology.Prefix.{Prefix}
+use Rattle.lte_types.specs.Carrier.{prefix_of}
+use Rattle.lte_types.specs.Numerology.{IsPrefix, symbols_of_slot, symbol_step, useful_start, subframe_of, primary_start}
+use Rattle.crs.specs.declared.upper.UpperPort.{UpperPort}
+use Rattle.crs.specs.declared.upper.UpperPort.TheVariants.{Third, Fourth}
+use Rattle.crs.specs.Reference.{is_reference, is_second_reference, is_upper_reference}
+use Rattle.pss_search.specs.Correlation.{pss_grid}
+use Rattle.cell_tx.specs.declared.antenna.Port.{Port}
+use Rattle.cell_tx.specs.declared.antenna.Port.TheVariants.{Only, First, Second, Long, OfFour}
+use Rattle.cell_tx.specs.declared.antenna.PortOfFour.{PortOfFour}
+use Rattle.cell_tx.specs.declared.antenna.PortOfFour.TheVariants.{Zero as P0, One as P1, Two as P2, Three as P3}
+use Rattle.cell_tx.specs.declared.cell.CellPlan.{CellPlan}
+use Rattle.cell_tx.specs.Ports.{carrier_of, port_symbols, sent_signal, is_own_reference, is_other_reference}
+use Rattle.cell_tx.specs.Grid.{port_element}
+use Rattle.cell_tx.specs.Sent.{Elements}
+use Rattle.cell_tx.specs.Clean.{AreGainsOf, IsAllowedBy}
+use Rattle.cell_tx.specs.Emission.{mixed}
+use Rattle.cell_tx.proofs.Elements.{no_reference, no_second_reference}
+use Rattle.cell_tx.proofs.SignalSymbols.{no_channel}
+use Rattle.cell_tx.proofs.Symbols.{with_prefix}
+use Rattle.budget.specs.Received.{IsReceived, samples_from}
+use Rattle.budget.specs.Score.{sss_grid, AreSignals}
+use Rattle.budget.specs.Peak.{IsPrimaryAt}
+use Rattle.clean_air.specs.Load.{IsLoadedBy}
+use Rattle.clean_air.proofs.Carrying.{of_primary_symbol, of_secondary_symbol}
+use Rattle.clean_air.proofs.SentSymbols.{mixed_same, prefix_known, symbol_near, IsTruePlace}
+
+-- ---- a signal is received from the first port alone
+
+beside_silence : (a g : Cpx) → plus a (times g nothing) ≡ a
+beside_silence a g = ap (plus a) (times-nothing g) ∙ plus-nothing_right a
+
+mixed_signal : (carrier : Carrier) (z : Cpx) (gains : List Cpx) → mixed carrier (λ port. sent_signal port z) gains ≡ times (value_at gains 0) z
+mixed_signal OnePort z gains = refl
+mixed_signal TwoPorts z gains = beside_silence (times (value_at gains 0) z) (value_at gains 1)
+mixed_signal LongPrefix z gains = refl
+mixed_signal FourPorts z gains =
+    ap₂ plus (beside_silence (times (value_at gains 0) z) (value_at gains 1)) (beside_silence (times (value_at gains 2) nothing) (value_at gains 3) ∙ times-nothing (value_at gains 2))
+    ∙ plus-nothing_right (times (value_at gains 0) z)
+
+times-nothing_left : (a : Cpx) → times nothing a ≡ nothing
+times-nothing_left a = times-commutes nothing a ∙ times-nothing a
+
+nothing_sent : (n : ℕ) → useful_at (λ k. nothing) n ≡ nothing
+unfolding useful_at
+nothing_sent n = ap (λ (z : Cpx). rounded z 17) (sum_zero 72 (useful_term (λ k. nothing) n) (λ k l. times-nothing_left (w_at (frequency k * n))))
+
+signal_sent : (port : Port) (signal : ℕ → Cpx) (n : ℕ) → useful_at (λ k. sent_signal port (signal k)) n ≡ sent_signal port (useful_at signal n)
+signal_sent Only signal n = refl
+signal_sent First signal n = refl
+signal_sent Second signal n = nothing_sent n
+signal_sent Long signal n = refl
+signal_sent (OfFour P0) signal n = refl
+signal_sent (OfFour P1) signal n = nothing_sent n
+signal_sent (OfFour P2) signal n = nothing_sent n
+signal_sent (OfFour P3) signal n = nothing_sent n
+
+-- the first port's gain is not 0, and errors are small beside it
+gain_sounds : (carrier : Carrier) (gains : List Cpx) → AreGainsOf carrier gains → 1 ≤ square (value_at gains 0)
+gain_sounds OnePort gains are = are.least
+gain_sounds TwoPorts gains are = are.least
+gain_sounds LongPrefix gains are = are.least
+gain_sounds FourPorts gains are = are.least
+
+-- errors of 0 or 1 are small beside any gain
+small_beside : (a b c d e : ℕ) → 1 ≤ a → a + b + c + d ≤ 196 → 64 * e ≤ a + b + c + d → e ≤ 4 * a
+small_beside a b c d e some most h = omega (arith, some, most, h)
+
+errors_are_quiet : (carrier : Carrier) (gains : List Cpx) (eps : ℕ) → AreGainsOf carrier gains → IsAllowedBy carrier gains eps → eps * eps ≤ 4 * square (value_at gains 0)
+errors_are_quiet OnePort gains eps are bound = bound
+errors_are_quiet TwoPorts gains eps are bound = bound.one
+errors_are_quiet LongPrefix gains eps are bound = bound
+errors_are_quiet FourPorts gains eps are bound =
+    small_beside (square (value_at gains 0)) (square (value_at gains 1)) (square (value_at gains 2)) (square (value_at gains 3)) (eps * eps) are.least are.most bound.quiet
+
+module _ (carrier : Carrier) (recording : List Sample) (plan : CellPlan) (grids : Port → Elements) (sfn offset : ℕ) (gains : List Cpx) (eps : ℕ)
+    (clean : IsLoadedBy carrier recording plan grids sfn offset gains eps) where
+  abbrev prefix : Prefix
+  prefix = prefix_of carrier
+
+  -- where the ports send a signal in a symbol, it is received as from the first port alone
+  signal_received : (t j slot l : ℕ) (signal : ℕ → Cpx) → slot < 20 → l < symbols_of_slot prefix → t + 128 ≤ length recording → t + offset ≡ 19200 * j + useful_start prefix 0 slot l →
+      ((port : Port) → carrier_of port ≡ carrier → (k : ℕ) → grids port ((sfn + j) % 1024) (slot / 2) (symbols_of_slot prefix * (slot % 2) + l) k ≡ sent_signal port (signal k)) →
+      IsReceived eps (value_at gains 0) signal (samples_from recording t)
+  signal_received t j slot l signal few row inside place sends = record {
+    sounds = gain_sounds carrier gains clean.gains_are;
+    quiet = errors_are_quiet carrier gains eps clean.gains_are clean.bound;
+    near = λ n c. subst (λ (z : Cpx). IsWithin eps (minus (sample_at recording (t + n)) z))
+        (mixed_same carrier (λ port. useful_at (grids port ((sfn + j) % 1024) (slot / 2) (symbols_of_slot prefix * (slot % 2) + l)) n) (λ port. sent_signal port (useful_at signal n)) gains
+        (λ port same. useful_same (grids port ((sfn + j) % 1024) (slot / 2) (symbols_of_slot prefix * (slot % 2) + l)) (λ k. sent_signal port (signal k)) n (λ k low. sends port same k) ∙ signal_sent port signal n)
+        ∙ mixed_signal carrier (useful_at signal n) gains)
+        (symbol_near carrier recording plan grids sfn offset gains eps clean t j slot l n few row c inside place);
+  }
+
+-- ---- what a port sends of the signals
+
+no_upper : (port : UpperPort) (identity slot symbol k : ℕ) → nat_eq symbol 1 ≡ false → is_upper_reference port identity slot symbol k ≡ false
+unfolding is_upper_reference
+no_upper port identity slot symbol k e = rw e refl
+
+middle : (k : ℕ) (a b : Cpx) → (if nat_le 5 k && nat_lt k 67 then a else b) ≡ (if nat_lt k 5 then b else if nat_lt k 67 then a else b)
+middle k a b = grind (arith, nat_tests)
+
+-- no port of four has a reference signal in a symbol
+record HasNone (port : PortOfFour) (identity slot symbol k : ℕ) : Type 0 where
+  own : is_own_reference (OfFour port) identity slot symbol k ≡ false
+  other : is_other_reference (OfFour port) identity slot symbol k ≡ false
+
+none_in : (port : PortOfFour) (identity slot symbol k : ℕ) → nat_eq symbol 0 ≡ false → nat_eq symbol 4 ≡ false → nat_eq symbol 1 ≡ false → HasNone port identity slot symbol k
+none_in port identity slot symbol k e f g =
+    by port (no_reference identity symbol k e f) (no_second_reference identity symbol k e f) (no_upper Third identity slot symbol k g) (no_upper Fourth identity slot symbol k g)
+  where
+    by : (port : PortOfFour) → is_reference identity symbol k ≡ false → is_second_reference identity symbol k ≡ false → is_upper_reference Third identity slot symbol k ≡ false →
+        is_upper_reference Fourth identity slot symbol k ≡ false → HasNone port identity slot symbol k
+    by P0 a b c d = record { own = a; other = rw (b, c, d) refl }
+    by P1 a b c d = record { own = b; other = rw (a, c, d) refl }
+    by P2 a b c d = record { own = c; other = rw (a, b, d) refl }
+    by P3 a b c d = record { own = d; other = rw (a, b, c) refl }
+
+either : (b : Bool) → (if b then nothing else nothing) ≡ nothing
+either true = refl
+either false = refl
+
+-- a port sends the middle of a symbol, or nothing
+in_signal : (port : Port) (k : ℕ) (z : Cpx) → (if nat_le 5 k && nat_lt k 67 then sent_signal port z else nothing) ≡ sent_signal port (if nat_lt k 5 then nothing else if nat_lt k 67 then z else nothing)
+in_signal Only k z = middle k z nothing
+in_signal First k z = middle k z nothing
+in_signal Second k z = either (nat_le 5 k && nat_lt k 67)
+in_signal Long k z = middle k z nothing
+in_signal (OfFour P0) k z = middle k z nothing
+in_signal (OfFour P1) k z = either (nat_le 5 k && nat_lt k 67)
+in_signal (OfFour P2) k z = either (nat_le 5 k && nat_lt k 67)
+in_signal (OfFour P3) k z = either (nat_le 5 k && nat_lt k 67)
+
+-- the last symbol of slots 0 and 10 holds the primary signal alone
+primary_symbol : (port : Port) (plan : CellPlan) (sfn k : ℕ) (half : Half) → port_element port plan sfn (subframe_of half) (port_symbols port - 1) k ≡ sent_signal port (pss_grid (plan.identity % 3) k)
+unfolding port_element
+primary_symbol Only plan sfn k Zero = rw (no_reference plan.identity 6 k refl refl, no_channel Only plan sfn 0 6 k (inr refl)) (in_signal Only k _)
+primary_symbol Only plan sfn k Five = rw (no_reference plan.identity 6 k refl refl, no_channel Only plan sfn 5 6 k (inr refl)) (in_signal Only k _)
+primary_symbol First plan sfn k Zero = rw (no_reference plan.identity 6 k refl refl, no_second_reference plan.identity 6 k refl refl, no_channel First plan sfn 0 6 k (inr refl)) (in_signal First k _)
+primary_symbol First plan sfn k Five = rw (no_reference plan.identity 6 k refl refl, no_second_reference plan.identity 6 k refl refl, no_channel First plan sfn 5 6 k (inr refl)) (in_signal First k _)
+primary_symbol Second plan sfn k Zero = rw (no_reference plan.identity 6 k refl refl, no_second_reference plan.identity 6 k refl refl, no_channel Second plan sfn 0 6 k (inr refl)) (either _)
+primary_symbol Second plan sfn k Five = rw (no_reference plan.identity 6 k refl refl, no_second_reference plan.identity 6 k refl refl, no_channel Second plan sfn 5 6 k (inr refl)) (either _)
+primary_symbol Long plan sfn k Zero = rw (no_channel Long plan sfn 0 5 k (inr refl)) (in_signal Long k _)
+primary_symbol Long plan sfn k Five = rw (no_channel Long plan sfn 5 5 k (inr refl)) (in_signal Long k _)
+primary_symbol (OfFour p) plan sfn k Zero = let none = none_in p plan.identity 0 6 k refl refl refl in rw (none.own, none.other, no_channel (OfFour p) plan sfn 0 6 k (inr refl)) (in_signal (OfFour p) k _)
+primary_symbol (OfFour p) plan sfn k Five = let none = none_in p plan.identity 10 6 k refl refl refl in rw (none.own, none.other, no_channel (OfFour p) plan sfn 5 6 k (inr refl)) (in_signal (OfFour p) k _)
+
+-- and the symbol before it the secondary one
+secondary_symbol : (port : Port) (plan : CellPlan) (sfn k : ℕ) (half : Half) →
+    port_element port plan sfn (subframe_of half) (port_symbols port - 2) k ≡ sent_signal port (sss_grid (plan.identity / 3) (plan.identity % 3) half k)
+unfolding port_element
+secondary_symbol Only plan sfn k Zero = rw (no_reference plan.identity 5 k refl refl, no_channel Only plan sfn 0 5 k (inl refl)) (in_signal Only k _)
+secondary_symbol Only plan sfn k Five = rw (no_reference plan.identity 5 k refl refl, no_channel Only plan sfn 5 5 k (inl refl)) (in_signal Only k _)
+secondary_symbol First plan sfn k Zero = rw (no_reference plan.identity 5 k refl refl, no_second_reference plan.identity 5 k refl refl, no_channel First plan sfn 0 5 k (inl refl)) (in_signal First k _)
+secondary_symbol First plan sfn k Five = rw (no_reference plan.identity 5 k refl refl, no_second_reference plan.identity 5 k refl refl, no_channel First plan sfn 5 5 k (inl refl)) (in_signal First k _)
+secondary_symbol Second plan sfn k Zero = rw (no_reference plan.identity 5 k refl refl, no_second_reference plan.identity 5 k refl refl, no_channel Second plan sfn 0 5 k (inl refl)) (either _)
+secondary_symbol Second plan sfn k Five = rw (no_reference plan.identity 5 k refl refl, no_second_reference plan.identity 5 k refl refl, no_channel Second plan sfn 5 5 k (inl refl)) (either _)
+secondary_symbol Long plan sfn k Zero = rw (no_channel Long plan sfn 0 4 k (inl refl)) (in_signal Long k _)
+secondary_symbol Long plan sfn k Five = rw (no_channel Long plan sfn 5 4 k (inl refl)) (in_signal Long k _)
+secondary_symbol (OfFour p) plan sfn k Zero = let none = none_in p plan.identity 0 5 k refl refl refl in rw (none.own, none.other, no_channel (OfFour p) plan sfn 0 5 k (inl refl)) (in_signal (OfFour p) k _)
+secondary_symbol (OfFour p) plan sfn k Five = let none = none_in p plan.identity 10 5 k refl refl refl in rw (none.own, none.other, no_channel (OfFour p) plan sfn 5 5 k (inl refl)) (in_signal (OfFour p) k _)
+
+-- ---- the synchronisation signals
+
+-- where the two symbols stand in a frame
+record AreSignalRows (prefix : Prefix) (half : Half) : Type 0 where
+  last : symbols_of_slot prefix - 1 < symbols_of_slot prefix
+  before : symbols_of_slot prefix - 2 < symbols_of_slot prefix
+  primary : useful_start prefix 0 (2 * subframe_of half) (symbols_of_slot prefix - 1) ≡ primary_start half
+  secondary : useful_start prefix 0 (2 * subframe_of half) (symbols_of_slot prefix - 2) + symbol_step prefix ≡ primary_start half
+
+signal_rows : (half : Half) (prefix : Prefix) → IsPrefix prefix → AreSignalRows prefix half
+signal_rows half =
+    with_prefix (λ p. AreSignalRows p half)
+    (record { last = omega arith; before = omega arith; primary = omega arith; secondary = omega arith })
+    (record { last = omega arith; before = omega arith; primary = omega arith; secondary = omega arith })
+
+slot_few : (half : Half) → 2 * subframe_of half < 20
+slot_few Zero = omega arith
+slot_few Five = omega arith
+
+whole_slot : (s : ℕ) → 2 * s / 2 ≡ s
+whole_slot s = omega arith
+
+first_slot : (s m l : ℕ) → m * (2 * s % 2) + l ≡ l
+first_slot s m l = let even : 2 * s % 2 ≡ 0 = omega arith in rw even (omega arith)
+
+module _ (carrier : Carrier) (recording : List Sample) (plan : CellPlan) (grids : Port → Elements) (sfn offset : ℕ) (gains : List Cpx) (eps t : ℕ)
+    (clean : IsLoadedBy carrier recording plan grids sfn offset gains eps) (inside : t + 128 ≤ length recording) where
+  abbrev own_prefix : Prefix
+  own_prefix = prefix_of carrier
+
+  pub primary_received : (half : Half) → IsTruePlace offset t half → IsReceived eps (value_at gains 0) (pss_grid (plan.identity % 3)) (samples_from recording t)
+  primary_received half at =
+      let rows = signal_rows half own_prefix (prefix_known carrier) in
+      let place = rows.primary in
+      signal_received carrier recording plan grids sfn offset gains eps clean t at.frame (2 * subframe_of half) (symbols_of_slot own_prefix - 1) (pss_grid (plan.identity % 3)) (slot_few half) rows.last inside
+      (omega (arith, at.place, place))
+      (λ port same k.
+      ap₂ (λ (subframe symbol : ℕ). grids port ((sfn + at.frame) % 1024) subframe symbol k) (whole_slot (subframe_of half)) (first_slot (subframe_of half) (symbols_of_slot own_prefix) (symbols_of_slot own_prefix - 1))
+      ∙ subst (λ (c : Carrier). grids port ((sfn + at.frame) % 1024) (subframe_of half) (symbols_of_slot (prefix_of c) - 1) k ≡ sent_signal port (pss_grid (plan.identity % 3) k)) same
+      (of_primary_symbol port plan (grids port) (clean.carries port same) half ((sfn + at.frame) % 1024) k ∙ primary_symbol port plan ((sfn + at.frame) % 1024) k half))
+
+  secondary_received : (half : Half) → IsTruePlace offset t half → symbol_step own_prefix ≤ t →
+      IsReceived eps (value_at gains 0) (sss_grid (plan.identity / 3) (plan.identity % 3) half) (samples_from recording (t - symbol_step own_prefix))
+  secondary_received half at first =
+      let rows = signal_rows half own_prefix (prefix_known carrier) in
+      let place = rows.secondary in
+      signal_received carrier recording plan grids sfn offset gains eps clean (t - symbol_step own_prefix) at.frame (2 * subframe_of half) (symbols_of_slot own_prefix - 2)
+      (sss_grid (plan.identity / 3) (plan.identity % 3) half) (slot_few half) rows.before (omega (arith, inside)) (omega (arith, at.place, place, first))
+      (λ port same k.
+      ap₂ (λ (subframe symbol : ℕ). grids port ((sfn + at.frame) % 1024) subframe symbol k) (whole_slot (subframe_of half)) (first_slot (subframe_of half) (symbols_of_slot own_prefix) (symbols_of_slot own_prefix - 2))
+      ∙ subst (λ (c : Carrier). grids port ((sfn + at.frame) % 1024) (subframe_of half) (symbols_of_slot (prefix_of c) - 2) k ≡ sent_signal port (sss_grid (plan.identity / 3) (plan.identity % 3) half k)) same
+      (of_secondary_symbol port plan (grids port) (clean.carries port same) half ((sfn + at.frame) % 1024) k ∙ secondary_symbol port plan ((sfn + at.frame) % 1024) k half))
+
+  -- a primary signal stands there
+  pub primary_at : (half : Half) → IsTruePlace offset t half → IsPrimaryAt recording t (plan.identity % 3)
+  primary_at half at = record { eps = eps; gain = value_at gains 0; root = omega arith; received = primary_received half at }
+
+  -- and with it the secondary one
+  pub signals_at : (half : Half) → IsTruePlace offset t half → symbol_step own_prefix ≤ t → plan.identity ≤ 503 → AreSignals own_prefix recording t (plan.identity / 3) (plan.identity % 3) half
+  signals_at half at first known = record {
+    group = omega (arith, known);
+    root = omega arith;
+    eps = eps;
+    gain = value_at gains 0;
+    primary = primary_received half at;
+    secondary = secondary_received half at first;
+  }
