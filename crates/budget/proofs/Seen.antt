@@ -1,14 +1,17 @@
 -- What is seen of amplitudes, from the three causes: sizes in units of 2^31 times the gain.
-use Rattle.std.proofs.Common.{◌≡◌, ℕ, ◌+◌, ◌*◌, ◌^◌, ◌<◌, ◌≤◌, arith, ap, mul-le-mul_left}
+use Rattle.std.proofs.Common.{◌≡◌, ℕ, zero, suc, ◌+◌, ◌*◌, ◌^◌, ◌<◌, ◌≤◌, arith, ap, sym, subst, mul-le-mul_left}
+use Rattle.std.proofs.Math.Path.{fun_ext}
+use Rattle.finite.specs.Sums.{sum_below, total_below}
 use Rattle.cs_num.specs.declared.Cpx.{Cpx}
-use Rattle.cs_num.specs.Complex.{IsWithin, plus, times, square, minus, multiple}
-use Rattle.sizes.specs.Sizes.{IsSized, squares_of_four}
+use Rattle.cs_num.specs.Complex.{IsWithin, nothing, plus, times, square, minus, multiple}
+use Rattle.cs_num.proofs.Complex.{plus-nothing}
+use Rattle.sizes.specs.Sizes.{IsSized, energy_below}
 use Rattle.sizes.proofs.Squares.{square-multiple}
 use Rattle.sizes.proofs.Sized.{sized-plus}
 use Rattle.fold128.specs.Symbol.{useful_at}
 use Rattle.observe.specs.Seen.{seen}
-use Rattle.budget.specs.Received.{AreAmplitudes, samples_from}
-use Rattle.budget.specs.Budget.{AmplitudeIsSeen, TwoAmplitudesAreSeen, FourAmplitudesAreSeen, AmplitudeIsSeenInRecording, TwoAmplitudesAreSeenInRecording, FourAmplitudesAreSeenInRecording, seen_in, sending_off}
+use Rattle.budget.specs.Received.{AreAmplitudes, received_of, samples_from}
+use Rattle.budget.specs.Budget.{AmplitudeIsSeen, AmplitudesAreSeen, TwoAmplitudesAreSeen, FourAmplitudesAreSeen, AmplitudeIsSeenInRecording, AmplitudesAreSeenInRecording, TwoAmplitudesAreSeenInRecording, FourAmplitudesAreSeenInRecording, seen_in, sending_off}
 use Rattle.budget.proofs.Causes.{three_causes, IsSent, sent_by_one, sent-plus}
 
 -- three sizes in units of 2^31 times the gain, of what is 2^29 times the deviation
@@ -64,82 +67,86 @@ pub amplitude_is_seen_in_recording : AmplitudeIsSeenInRecording
 unfolding seen
 amplitude_is_seen_in_recording eps gain grid recording start k small received l = amplitude_is_seen eps gain grid (samples_from recording start) k small received l
 
--- ---- two gains
-
-errors_of_two : (eps n : ℕ) → 4 * (eps * eps) ≤ n → AreErrors eps 91 n
-unfolding AreErrors
-errors_of_two eps n q s h =
-    let k : 2 ^ 47 * (16385 * 16385) * (4 * (eps * eps)) ≤ 2 ^ 47 * (16385 * 16385) * n = mul-le-mul_left (2 ^ 47 * (16385 * 16385)) q in
-    omega (arith, h, k)
-
--- 2 * 97^2 is below 138^2
-both_sizes : (n s : ℕ) → s ≤ ((97 * 2 ^ 31) * (97 * 2 ^ 31) + (97 * 2 ^ 31) * (97 * 2 ^ 31)) * n → s ≤ (138 * 2 ^ 31) * (138 * 2 ^ 31) * n
-both_sizes n s h = omega (arith, h)
-
-within_budget_of_two : (s n : ℕ) → s ≤ 16 * ((138 + (91 + 1)) * (138 + (91 + 1))) * n → s ≤ 1024 * 1024 * n
-within_budget_of_two s n h = omega (arith, h)
+-- ---- the gains of several ports
 
 unit : ℕ
 unit = (97 * 2 ^ 31) * (97 * 2 ^ 31)
 
-sent_by_two : (gain other : Cpx) (grid second_grid : ℕ → Cpx) (k : ℕ) → AreAmplitudes grid → AreAmplitudes second_grid → k < 72 →
-    IsSent (unit + unit) (square gain + square other) (λ n. plus (times gain (useful_at grid n)) (times other (useful_at second_grid n))) (plus (times gain (grid k)) (times other (second_grid k))) k
+sent_by_all : (ports : ℕ) (gains : ℕ → Cpx) (grids : ℕ → ℕ → Cpx) (k : ℕ) → 1 ≤ ports → ((port : ℕ) → port < ports → AreAmplitudes (grids port)) → k < 72 →
+    IsSent (ports * unit) (energy_below ports gains) (λ n. received_of ports gains (λ port. useful_at (grids port) n)) (received_of ports gains (λ port. grids port k)) k
+unfolding sum_below total_below unit
+sent_by_all zero gains grids k some small l = absurd (omega (arith, some))
+sent_by_all (suc zero) gains grids k some small l = record { off = wider _ (square (gains 0)) one.off }
+  where
+    one : IsSent unit (square (gains 0)) (λ n. plus nothing (times (gains 0) (useful_at (grids 0) n))) (plus nothing (times (gains 0) (grids 0 k))) k
+    one =
+        subst (λ (sent : ℕ → Cpx). IsSent unit (square (gains 0)) sent (plus nothing (times (gains 0) (grids 0 k))) k) (fun_ext (λ (n : ℕ). sym (plus-nothing (times (gains 0) (useful_at (grids 0) n)))))
+        (subst (λ (z : Cpx). IsSent unit (square (gains 0)) (λ n. times (gains 0) (useful_at (grids 0) n)) z k) (sym (plus-nothing (times (gains 0) (grids 0 k))))
+        (sent_by_one (gains 0) (grids 0) k (small 0 (omega arith)) l))
+
+    wider : (s w : ℕ) → s ≤ unit * w → s ≤ suc zero * unit * (0 + w)
+    wider s w h = omega (arith, h)
+sent_by_all (suc (suc m)) gains grids k some small l =
+    subst (λ (bound : ℕ). IsSent bound (energy_below (suc (suc m)) gains) (λ n. received_of (suc (suc m)) gains (λ port. useful_at (grids port) n)) (received_of (suc (suc m)) gains (λ port. grids port k)) k)
+    (more (suc m) unit)
+    (sent-plus (suc m * unit) unit (energy_below (suc m) gains) (square (gains (suc m))) (λ n. received_of (suc m) gains (λ port. useful_at (grids port) n)) (λ n. times (gains (suc m)) (useful_at (grids (suc m)) n))
+    (received_of (suc m) gains (λ port. grids port k)) (times (gains (suc m)) (grids (suc m) k)) k
+    (sent_by_all (suc m) gains grids k (omega arith) (λ port few. small port (omega (arith, few))) l) (sent_by_one (gains (suc m)) (grids (suc m)) k (small (suc m) (omega arith)) l))
+  where
+    more : (n u : ℕ) → n * u + u ≡ suc n * u
+    more n u = omega arith
+
+-- what sending gives a units at most, and errors b, where n are the squares of the gains
+record AreUnits (ports share most a b : ℕ) : Type 0 where
+  some : 1 ≤ ports
+  sending : (n s : ℕ) → s ≤ ports * ((97 * 2 ^ 31) * (97 * 2 ^ 31)) * n → s ≤ (a * 2 ^ 31) * (a * 2 ^ 31) * n
+  errors : (eps n : ℕ) → share * (eps * eps) ≤ n → AreErrors eps b n
+  whole : (n s : ℕ) → s ≤ 16 * ((a + (b + 1)) * (a + (b + 1))) * n → s ≤ most * most * n
+
+amplitudes_are_seen : (ports share most a b : ℕ) → AreUnits ports share most a b → AmplitudesAreSeen ports share most
 unfolding unit
-sent_by_two gain other grid second_grid k small second_small l =
-    sent-plus unit unit (square gain) (square other) (λ n. times gain (useful_at grid n)) (λ n. times other (useful_at second_grid n)) (times gain (grid k)) (times other (second_grid k)) k
-    (sent_by_one gain grid k small l) (sent_by_one other second_grid k second_small l)
+amplitudes_are_seen ports share most a b units eps gains grids samples k small received l =
+    let n : ℕ = energy_below ports gains in
+    let sent : ℕ → Cpx = λ n. received_of ports gains (λ port. useful_at (grids port) n) in
+    let amplitude : Cpx = received_of ports gains (λ port. grids port k) in
+    record {
+      off = units.whole n (square (minus (seen_in samples k) (multiple 64 amplitude)))
+          (is_seen eps a b n sent samples amplitude k received.sounds
+          (units.sending n (square (sending_off sent amplitude k)) (sent_by_all ports gains grids k units.some small l).off) (units.errors eps n received.quiet) received.near);
+    }
+
+in_recording : (ports share most : ℕ) → AmplitudesAreSeen ports share most → AmplitudesAreSeenInRecording ports share most
+unfolding seen
+in_recording ports share most are eps gains grids recording start k small received l = are eps gains grids (samples_from recording start) k small received l
+
+-- of two: 2 * 97^2 is below 138^2
+units_of_two : AreUnits 2 4 1024 138 91
+unfolding AreErrors
+units_of_two = record {
+  some = omega arith;
+  sending = λ n s h. omega (arith, h);
+  errors = λ eps n q s h. let k : 2 ^ 47 * (16385 * 16385) * (4 * (eps * eps)) ≤ 2 ^ 47 * (16385 * 16385) * n = mul-le-mul_left (2 ^ 47 * (16385 * 16385)) q in omega (arith, h, k);
+  whole = λ n s h. omega (arith, h);
+}
 
 pub two_amplitudes_are_seen : TwoAmplitudesAreSeen
-unfolding unit
-two_amplitudes_are_seen eps gain other grid second_grid samples k small second_small received l =
-    let n : ℕ = square gain + square other in
-    let sent : ℕ → Cpx = λ n. plus (times gain (useful_at grid n)) (times other (useful_at second_grid n)) in
-    let amplitude : Cpx = plus (times gain (grid k)) (times other (second_grid k)) in
-    record {
-      off = within_budget_of_two (square (minus (seen_in samples k) (multiple 64 amplitude))) n
-          (is_seen eps 138 91 n sent samples amplitude k received.sounds
-          (both_sizes n (square (sending_off sent amplitude k)) (sent_by_two gain other grid second_grid k small second_small l).off) (errors_of_two eps n received.quiet) received.near);
-    }
+two_amplitudes_are_seen = amplitudes_are_seen 2 4 1024 138 91 units_of_two
 
 pub two_amplitudes_are_seen_in_recording : TwoAmplitudesAreSeenInRecording
-unfolding seen
-two_amplitudes_are_seen_in_recording eps gain other grid second_grid recording start k small second_small received l =
-    two_amplitudes_are_seen eps gain other grid second_grid (samples_from recording start) k small second_small received l
+two_amplitudes_are_seen_in_recording = in_recording 2 4 1024 two_amplitudes_are_seen
 
--- ---- four gains
-
-errors_of_four : (eps n : ℕ) → 64 * (eps * eps) ≤ n → AreErrors eps 23 n
+-- of four: 4 * 97^2 is 194^2
+units_of_four : AreUnits 4 64 872 194 23
 unfolding AreErrors
-errors_of_four eps n q s h =
-    let k : 2 ^ 43 * (16385 * 16385) * (64 * (eps * eps)) ≤ 2 ^ 43 * (16385 * 16385) * n = mul-le-mul_left (2 ^ 43 * (16385 * 16385)) q in
-    omega (arith, h, k)
-
--- 4 * 97^2 is 194^2
-all_sizes : (a b c d s : ℕ) → s ≤ ((97 * 2 ^ 31) * (97 * 2 ^ 31) + (97 * 2 ^ 31) * (97 * 2 ^ 31) + ((97 * 2 ^ 31) * (97 * 2 ^ 31) + (97 * 2 ^ 31) * (97 * 2 ^ 31))) * (a + b + (c + d)) →
-    s ≤ (194 * 2 ^ 31) * (194 * 2 ^ 31) * (a + b + c + d)
-all_sizes a b c d s h = omega (arith, h)
-
-within_budget_of_four : (s n : ℕ) → s ≤ 16 * ((194 + (23 + 1)) * (194 + (23 + 1))) * n → s ≤ 872 * 872 * n
-within_budget_of_four s n h = omega (arith, h)
+units_of_four = record {
+  some = omega arith;
+  sending = λ n s h. omega (arith, h);
+  errors = λ eps n q s h. let k : 2 ^ 43 * (16385 * 16385) * (64 * (eps * eps)) ≤ 2 ^ 43 * (16385 * 16385) * n = mul-le-mul_left (2 ^ 43 * (16385 * 16385)) q in omega (arith, h, k);
+  whole = λ n s h. omega (arith, h);
+}
 
 pub four_amplitudes_are_seen : FourAmplitudesAreSeen
-unfolding unit
-four_amplitudes_are_seen eps gains grids samples k small received l =
-    let pair : ℕ → ℕ → ℕ → Cpx = λ p q n. plus (times (gains p) (useful_at (grids p) n)) (times (gains q) (useful_at (grids q) n)) in
-    let pair_amplitude : ℕ → ℕ → Cpx = λ p q. plus (times (gains p) (grids p k)) (times (gains q) (grids q k)) in
-    let sent : ℕ → Cpx = λ n. plus (pair 0 1 n) (pair 2 3 n) in
-    let amplitude : Cpx = plus (pair_amplitude 0 1) (pair_amplitude 2 3) in
-    let n : ℕ = squares_of_four gains in
-    let together : IsSent (unit + unit + (unit + unit)) (square (gains 0) + square (gains 1) + (square (gains 2) + square (gains 3))) sent amplitude k =
-    sent-plus (unit + unit) (unit + unit) (square (gains 0) + square (gains 1)) (square (gains 2) + square (gains 3)) (pair 0 1) (pair 2 3) (pair_amplitude 0 1) (pair_amplitude 2 3) k
-    (sent_by_two (gains 0) (gains 1) (grids 0) (grids 1) k (small 0 (omega arith)) (small 1 (omega arith)) l)
-    (sent_by_two (gains 2) (gains 3) (grids 2) (grids 3) k (small 2 (omega arith)) (small 3 (omega arith)) l) in
-    record {
-      off = within_budget_of_four (square (minus (seen_in samples k) (multiple 64 amplitude))) n
-          (is_seen eps 194 23 n sent samples amplitude k received.sounds
-          (all_sizes (square (gains 0)) (square (gains 1)) (square (gains 2)) (square (gains 3)) (square (sending_off sent amplitude k)) together.off) (errors_of_four eps n received.quiet) received.near);
-    }
+four_amplitudes_are_seen = amplitudes_are_seen 4 64 872 194 23 units_of_four
 
 pub four_amplitudes_are_seen_in_recording : FourAmplitudesAreSeenInRecording
-unfolding seen
-four_amplitudes_are_seen_in_recording eps gains grids recording start k small received l = four_amplitudes_are_seen eps gains grids (samples_from recording start) k small received l
+four_amplitudes_are_seen_in_recording = in_recording 4 64 872 four_amplitudes_are_seen

@@ -8,9 +8,7 @@ use Rattle.cs_num.specs.Sums.{complex_sum_below}
 use Rattle.fold128.specs.Symbol.{useful_term, useful_at}
 use Rattle.fold128.specs.Spectrum.{spectrum_at}
 use Rattle.observe.specs.Seen.{seen}
-use Rattle.budget.specs.Received.{AreAmplitudes, AreSum, IsReceived, IsReceivedFromTwo, IsReceivedFromFour}
-use Rattle.budget.specs.Received.{samples_from}
-use Rattle.budget.specs.Received.{IsSeenAs, IsSeenAsTwo, IsSeenAsFour}
+use Rattle.budget.specs.Received.{AreAmplitudes, AreSum, IsReceived, IsReceivedBy, samples_from, IsSeenAs, IsSeenBy}
 
 -- what is seen of samples at subcarrier k
 abbrev pub seen_in : (ℕ → Cpx) → ℕ → Cpx
@@ -109,19 +107,23 @@ AmplitudeIsSeen =
     (eps : ℕ) (gain : Cpx) (grid samples : ℕ → Cpx) (k : ℕ) → AreAmplitudes grid →
     IsReceived eps gain grid samples → k < 72 → IsSeenAs gain (grid k) (seen_in samples k)
 
--- two amplitudes with a gain each are seen together
-abbrev pub TwoAmplitudesAreSeen : Type 0
-TwoAmplitudesAreSeen =
-    (eps : ℕ) (gain other : Cpx) (grid second_grid samples : ℕ → Cpx) (k : ℕ) → AreAmplitudes grid →
-    AreAmplitudes second_grid → IsReceivedFromTwo eps gain other grid second_grid samples → k < 72 →
-    IsSeenAsTwo gain other (grid k) (second_grid k) (seen_in samples k)
-
--- four amplitudes with a gain each are seen together
-abbrev pub FourAmplitudesAreSeen : Type 0
-FourAmplitudesAreSeen =
+-- the amplitudes of so many ports are seen together, off by at most `most` times the root of the sum of the gains'
+-- squares, where errors are as `share` says
+abbrev pub AmplitudesAreSeen : ℕ → ℕ → ℕ → Type 0
+AmplitudesAreSeen ports share most =
     (eps : ℕ) (gains : ℕ → Cpx) (grids : ℕ → ℕ → Cpx) (samples : ℕ → Cpx) (k : ℕ) →
-    ((port : ℕ) → port < 4 → AreAmplitudes (grids port)) → IsReceivedFromFour eps gains grids samples → k < 72 →
-    IsSeenAsFour gains (λ port. grids port k) (seen_in samples k)
+    ((port : ℕ) → port < ports → AreAmplitudes (grids port)) →
+    IsReceivedBy ports share eps gains grids samples → k < 72 →
+    IsSeenBy ports most gains (λ port. grids port k) (seen_in samples k)
+
+-- the amplitudes of two ports are seen, off by at most 16 units where errors are at most half the root of the sum of
+-- the gains' squares
+abbrev pub TwoAmplitudesAreSeen : Type 0
+TwoAmplitudesAreSeen = AmplitudesAreSeen 2 4 1024
+
+-- the amplitudes of four ports are seen, off by less than 14 units where errors are at most an eighth of that root
+abbrev pub FourAmplitudesAreSeen : Type 0
+FourAmplitudesAreSeen = AmplitudesAreSeen 4 64 872
 
 -- each amplitude is seen in a recording, by what `observe` tells of a symbol at a place
 abbrev pub AmplitudeIsSeenInRecording : Type 0
@@ -130,18 +132,16 @@ AmplitudeIsSeenInRecording =
     IsReceived eps gain grid (samples_from recording start) → k < 72 →
     IsSeenAs gain (grid k) (seen recording start k)
 
--- two amplitudes with a gain each are seen together in a recording
-abbrev pub TwoAmplitudesAreSeenInRecording : Type 0
-TwoAmplitudesAreSeenInRecording =
-    (eps : ℕ) (gain other : Cpx) (grid second_grid : ℕ → Cpx) (recording : List Sample) (start k : ℕ) →
-    AreAmplitudes grid → AreAmplitudes second_grid →
-    IsReceivedFromTwo eps gain other grid second_grid (samples_from recording start) → k < 72 →
-    IsSeenAsTwo gain other (grid k) (second_grid k) (seen recording start k)
-
--- four amplitudes with a gain each are seen together in a recording
-abbrev pub FourAmplitudesAreSeenInRecording : Type 0
-FourAmplitudesAreSeenInRecording =
+-- the amplitudes of so many ports are seen together in a recording
+abbrev pub AmplitudesAreSeenInRecording : ℕ → ℕ → ℕ → Type 0
+AmplitudesAreSeenInRecording ports share most =
     (eps : ℕ) (gains : ℕ → Cpx) (grids : ℕ → ℕ → Cpx) (recording : List Sample) (start k : ℕ) →
-    ((port : ℕ) → port < 4 → AreAmplitudes (grids port)) →
-    IsReceivedFromFour eps gains grids (samples_from recording start) → k < 72 →
-    IsSeenAsFour gains (λ port. grids port k) (seen recording start k)
+    ((port : ℕ) → port < ports → AreAmplitudes (grids port)) →
+    IsReceivedBy ports share eps gains grids (samples_from recording start) → k < 72 →
+    IsSeenBy ports most gains (λ port. grids port k) (seen recording start k)
+
+abbrev pub TwoAmplitudesAreSeenInRecording : Type 0
+TwoAmplitudesAreSeenInRecording = AmplitudesAreSeenInRecording 2 4 1024
+
+abbrev pub FourAmplitudesAreSeenInRecording : Type 0
+FourAmplitudesAreSeenInRecording = AmplitudesAreSeenInRecording 4 64 872

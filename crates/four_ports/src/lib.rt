@@ -6,7 +6,6 @@
 mod clean;
 mod frames;
 mod laws;
-mod pairs;
 mod slot;
 
 pub use clean::explain_clean;

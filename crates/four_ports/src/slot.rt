@@ -5,19 +5,18 @@ ghost use Rattle.finite.specs.Lists.{values_below};
 ghost use Rattle.cs_num.specs.Complex.{IsWithin};
 ghost use Rattle.crs.specs.Reference.{port_0, port_1};
 ghost use Rattle.lte_types.specs.declared.carrier.Carrier.TheVariants.{FourPorts};
-ghost use Rattle.soft_bits.specs.Soft.{SeenSlot, AreSmall, seen_at, pattern_pilot};
+ghost use Rattle.soft_bits.specs.Soft.{SeenSlot, AreSmall, pattern_pilot};
 ghost use Rattle.soft_bits.specs.Upper.{upper_pilot, channel_of_upper};
 ghost use Rattle.four_ports.specs.Kept.{IsFourKept};
-ghost use Rattle.four_ports.specs.Pairs.{lower_channel, upper_channel, ports_energy, paired_values};
+ghost use Rattle.four_ports.specs.Pairs.{over_four, ports_energy, paired_values};
 
-use crate::pairs::fill_pairs;
 use crs::{Pattern, UpperPort, first_of_upper};
 use cs_num::Cpx;
 use grid_map::Place;
 use lte_types::{Carrier, CellId};
 use soft_bits::{ReadSlot, Seen, upper_energy_of, upper_estimate, upper_pilots_of};
 use std::marker::Model;
-use two_ports::PairSlot;
+use two_ports::{PairSlot, PairedSlot, fill_pairs};
 
 /// A slot with the pilots of all four antenna ports. Contracts see it as the record of the slot.
 #[derive(Drop)]
@@ -61,42 +60,6 @@ impl FourSlot {
             third,
             fourth,
             energy,
-        }
-    }
-
-    // The seen value at a place.
-    pub(crate) fn seen(&self, symbol: u8, k: u8) -> Cpx
-        requires symbol { symbol < 7 }
-        requires k { k < 72 }
-        ensures value { result ≡ seen_at self.now symbol k }
-        ensures small { IsWithin (2 ^ 25) result }
-    {
-        self.lower.seen(symbol, k)
-    }
-
-    // Six times the channel at a subcarrier of the port, 0 or 1, that sends pair number i.
-    pub(crate) fn lower_channel(&self, i: usize, k: u8) -> Cpx
-        requires { k < 72 }
-        ensures value { result ≡ lower_channel i self.now k }
-        ensures small { IsWithin (1080 * 2 ^ 25) result }
-    {
-        if i % 2 == 0 {
-            self.lower.first_channel(k).scaled(2)
-        } else {
-            self.lower.second_channel(k).scaled(2)
-        }
-    }
-
-    // Six times the channel at a subcarrier of the port, 2 or 3, that sends pair number i.
-    pub(crate) fn upper_channel(&self, i: usize, k: u8) -> Cpx
-        requires { k < 72 }
-        ensures value { result ≡ upper_channel i self.now k }
-        ensures small { IsWithin (1080 * 2 ^ 25) result }
-    {
-        if i % 2 == 0 {
-            self.channel_of_upper(UpperPort::Third, k)
-        } else {
-            self.channel_of_upper(UpperPort::Fourth, k)
         }
     }
 
@@ -144,6 +107,34 @@ impl FourSlot {
         ensures value { result ≡ ports_energy self.now }
         ensures few { result ≤ 96 * 2 ^ 51 }
     {
+        self.energy
+    }
+}
+
+impl PairedSlot for FourSlot {
+    ghost seen_as = { λ s. s };
+
+    ghost pairing = { over_four };
+
+    fn ports_of(i: usize) -> (u8, u8) {
+        let odd = (i % 2) as u8;
+        (odd, 2 + odd)
+    }
+
+    fn at(&self, symbol: u8, k: u8) -> Cpx {
+        self.lower.seen(symbol, k)
+    }
+
+    fn channel_of(&self, port: u8, k: u8) -> Cpx {
+        match port {
+            0 => self.lower.first_channel(k).scaled(2),
+            1 => self.lower.second_channel(k).scaled(2),
+            2 => self.channel_of_upper(UpperPort::Third, k),
+            _ => self.channel_of_upper(UpperPort::Fourth, k),
+        }
+    }
+
+    fn power(&self) -> u64 {
         self.energy
     }
 }

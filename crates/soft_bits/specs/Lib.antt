@@ -4,3 +4,4 @@ pub mod Kept
 pub mod Places
 pub mod Upper
 pub mod Front
+pub mod Lines

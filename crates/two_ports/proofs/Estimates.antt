@@ -1,54 +1,93 @@
--- The channels of two ports in a slot: a multiple of the port's gain, up to a deviation.
-use Rattle.std.proofs.Common.{◌≡◌, ℕ, ◌+◌, ◌*◌, ◌≤◌, arith, ap, ◌∙◌, subst}
+-- The channels of the ports of a slot: a multiple of the port's gain, up to a deviation.
+use Rattle.std.proofs.Common.{◌≡◌, ℕ, zero, suc, ◌*◌, ◌/◌, ◌<◌, ◌≤◌, ◌≢◌, false, inl, inr, nat_eq, arith, refl, ap, ap₂, sym, ◌∙◌, subst, eq-eqb}
+use Rattle.std.proofs.lemmas.Bool.{ne_eqb}
+use Rattle.std.proofs.lemmas.Bool.Decides.{eqb_tells}
 use Rattle.cs_num.specs.declared.Cpx.{Cpx}
-use Rattle.cs_num.specs.Complex.{nothing, plus, minus, times, square, multiple}
+use Rattle.cs_num.specs.Complex.{plus, minus, times, square, multiple}
 use Rattle.cs_num.proofs.Complex.{plus-nothing}
-use Rattle.sizes.proofs.Algebra.{plus-nothing_right, times-nothing}
-use Rattle.crs.specs.Reference.{port_0, port_1}
-use Rattle.soft_bits.specs.Soft.{SeenSlot, pattern_channel}
-use Rattle.budget.specs.Received.{IsSeenAsTwo}
+use Rattle.cs_num.proofs.Sums.{complex_sum_below_same, complex_sum_below_plus}
+use Rattle.sizes.specs.Sizes.{energy_below}
+use Rattle.sizes.proofs.Algebra.{plus-nothing_right, times-nothing, sum_of_one}
+use Rattle.crs.specs.Reference.{port_0, port_1, reference}
+use Rattle.crs.proofs.Values.{reference-IsPoint}
+use Rattle.soft_bits.specs.Lines.{line_of, line_pilot, line_seen, line_channel, port_channel}
+use Rattle.soft_bits.specs.Soft.{SeenSlot}
+use Rattle.soft_bits.proofs.Lines.{is_line}
+use Rattle.budget.specs.Received.{received_of}
 use Rattle.budget.proofs.Deviations.{deviation}
-use Rattle.budget.proofs.Near.{near-off}
-use Rattle.budget.proofs.Pilots.{IsPilot}
-use Rattle.clean_air.proofs.Estimates.{sent-size, ArePilots, channel-near}
-use Rattle.two_ports.specs.Received.{ArePortsSeen}
-use Rattle.two_ports.proofs.Points.{AreEstimates}
+use Rattle.budget.proofs.Near.{IsNear, near-multiple, line-near}
+use Rattle.budget.proofs.Pilots.{IsPilot, turned_pilot-near}
+use Rattle.clean_air.proofs.Estimates.{full-size, sent-size}
+use Rattle.two_ports.specs.Received.{only, over, ArePortsSeen}
 
-first_alone : (gain other d p : Cpx) → square d ≡ 16200 → IsSeenAsTwo gain other d nothing p → IsPilot 1024 (square gain + square other) gain d p
-unfolding deviation
-first_alone gain other d p full seen = record {
-  full = full;
-  seen = record {
-    sized = subst (λ (z : Cpx). square (minus p (multiple 64 z)) ≤ 1024 * 1024 * (square gain + square other))
-        (ap (plus (times gain d)) (times-nothing other) ∙ plus-nothing_right (times gain d)) seen.off;
-  };
-}
+-- ---- what is received where one port sends, and where two send
 
-second_alone : (gain other d p : Cpx) → square d ≡ 16200 → IsSeenAsTwo gain other nothing d p → IsPilot 1024 (square gain + square other) other d p
-unfolding deviation
-second_alone gain other d p full seen = record {
-  full = full;
-  seen = record {
-    sized = subst (λ (z : Cpx). square (minus p (multiple 64 z)) ≤ 1024 * 1024 * (square gain + square other))
-        (ap (λ (z : Cpx). plus z (times other d)) (times-nothing gain) ∙ plus-nothing (times other d)) seen.off;
-  };
-}
+pub received_of_one : (ports port : ℕ) (gains : ℕ → Cpx) (z : Cpx) → port < ports → received_of ports gains (only port z) ≡ times (gains port) z
+received_of_one ports port gains z l =
+    sum_of_one ports port (λ other. times (gains other) (only port z other)) l
+    (λ other few apart. rw (ne_eqb other port apart) (times-nothing (gains other)))
+    ∙ rw (eq-eqb port port refl) refl
 
-pub first_pilots : (gain other : Cpx) (slot : SeenSlot) → ArePortsSeen gain other slot → ArePilots 1024 (square gain + square other) port_0 gain slot
-first_pilots gain other slot ports = record { each = λ i l. first_alone gain other _ _ (sent-size port_0 slot.identity slot.number i) (ports.first i l) }
-
-pub second_pilots : (gain other : Cpx) (slot : SeenSlot) → ArePortsSeen gain other slot → ArePilots 1024 (square gain + square other) port_1 other slot
-second_pilots gain other slot ports = record { each = λ i l. second_alone gain other _ _ (sent-size port_1 slot.identity slot.number i) (ports.second i l) }
-
-pub ports_are_estimated : (gain other : Cpx) (slot : SeenSlot) (k : ℕ) → ArePortsSeen gain other slot →
-    AreEstimates 3110400 152882380800 gain other (pattern_channel port_0 slot k) (pattern_channel port_1 slot k)
-ports_are_estimated gain other slot k ports = record {
-  off = whole (square gain + square other) _ (near-off (16200 * n) gain (pattern_channel port_0 slot k) 3110400 3072 (channel-near 1024 n port_0 gain slot k (first_pilots gain other slot ports)));
-  other_off = whole (square gain + square other) _ (near-off (16200 * n) other (pattern_channel port_1 slot k) 3110400 3072 (channel-near 1024 n port_1 other slot k (second_pilots gain other slot ports)));
-}
+pub received_of_two : (ports lower upper : ℕ) (gains : ℕ → Cpx) (a b : Cpx) → lower < ports → upper < ports → lower ≢ upper →
+    received_of ports gains (over lower upper a b) ≡ plus (times (gains lower) a) (times (gains upper) b)
+received_of_two ports lower upper gains a b l m apart =
+    complex_sum_below_same ports _ (λ other. plus (times (gains other) (only lower a other)) (times (gains other) (only upper b other))) (λ other few. split other)
+    ∙ complex_sum_below_plus ports (λ other. times (gains other) (only lower a other)) (λ other. times (gains other) (only upper b other))
+    ∙ ap₂ plus (received_of_one ports lower gains a l) (received_of_one ports upper gains b m)
   where
-    n : ℕ
-    n = square gain + square other
+    split : (other : ℕ) → times (gains other) (over lower upper a b other) ≡ plus (times (gains other) (only lower a other)) (times (gains other) (only upper b other))
+    split other = elim (eqb_tells other lower) [
+      | inl (is, same) ↦
+          let none : nat_eq other upper ≡ false = ne_eqb other upper (λ e. apart (sym same ∙ e)) in
+          rw (is, none) (sym (ap (plus (times (gains other) a)) (times-nothing (gains other)) ∙ plus-nothing_right (times (gains other) a)))
+      | inr (is, different) ↦
+          rw is (sym (ap (λ (z : Cpx). plus z (times (gains other) (only upper b other))) (times-nothing (gains other)) ∙ plus-nothing (times (gains other) (only upper b other))))
+    ]
 
-    whole : (n s : ℕ) → s ≤ 3072 * 3072 * (16200 * n) → s ≤ 152882380800 * n
-    whole n s h = omega (arith, h)
+-- ---- the pilots of a port
+
+reference-size : (port : ℕ) (slot : SeenSlot) (i : ℕ) → square ((line_of port slot).sent i) ≡ 16200
+reference-size zero slot i = sent-size port_0 slot.identity slot.number i
+reference-size (suc zero) slot i = sent-size port_1 slot.identity slot.number i
+reference-size (suc (suc zero)) slot i = full-size (reference slot.identity slot.number 1 i) (reference-IsPoint slot.identity slot.number 1 i)
+reference-size (suc (suc (suc n))) slot i = full-size (reference slot.identity slot.number 1 i) (reference-IsPoint slot.identity slot.number 1 i)
+
+-- those of a port are seen with its gain, each off by at most t times the root of n
+pub record AreLinePilots (t n port : ℕ) (gain : Cpx) (slot : SeenSlot) : Type 0 where
+  pub each : (i : ℕ) → i ≤ (line_of port slot).last → IsPilot t n gain ((line_of port slot).sent i) (line_seen (line_of port slot) slot i)
+
+pub pilots_alone : (ports most : ℕ) (gains : ℕ → Cpx) (slot : SeenSlot) → ArePortsSeen ports most gains slot → (port : ℕ) → port < ports →
+    AreLinePilots most (energy_below ports gains) port (gains port) slot
+unfolding deviation
+pilots_alone ports most gains slot seen port l = record {
+  each = λ i few. record {
+    full = reference-size port slot i;
+    seen = record {
+      sized = subst (λ (z : Cpx). square (minus (line_seen (line_of port slot) slot i) (multiple 64 z)) ≤ most * most * energy_below ports gains)
+          (received_of_one ports port gains ((line_of port slot).sent i) l) (seen.pilots port i l few).off;
+    };
+  };
+}
+
+-- ---- the channel of a port
+
+scaled : (m step scale c : ℕ) → m * step ≡ scale → m * (step * c) ≡ scale * c
+scaled m step scale c e = let f : m * step * c ≡ scale * c = ap (λ (n : ℕ). n * c) e in omega (arith, f)
+
+line_channel-near : (t n port : ℕ) (gain : Cpx) (slot : SeenSlot) (k : ℕ) → AreLinePilots t n port gain slot →
+    IsNear (16200 * n) gain ((line_of port slot).step * 1036800) ((line_of port slot).step * t) (line_channel (line_of port slot) slot k)
+unfolding line_channel
+line_channel-near t n port gain slot k pilots =
+    let line = line_of port slot in
+    line-near (16200 * n) gain 1036800 t (line_pilot line slot) line.step line.last (is_line port slot).some
+    (λ i l. turned_pilot-near t n gain (line.sent i) (line_seen line slot i) (pilots.each i l)) line.first k
+
+-- 64 * 16200 times the gain, as many times as it is taken
+pub port_channel-near : (t n scale port : ℕ) (gain : Cpx) (slot : SeenSlot) (k : ℕ) → scale / (line_of port slot).step * (line_of port slot).step ≡ scale → AreLinePilots t n port gain slot →
+    IsNear (16200 * n) gain (scale * 1036800) (scale * t) (port_channel scale port slot k)
+port_channel-near t n scale port gain slot k whole pilots =
+    let step = (line_of port slot).step in
+    let m = scale / step in
+    subst (λ (c : ℕ). IsNear (16200 * n) gain c (scale * t) (port_channel scale port slot k)) (scaled m step scale 1036800 whole)
+    (subst (λ (s : ℕ). IsNear (16200 * n) gain (m * (step * 1036800)) s (port_channel scale port slot k)) (scaled m step scale t whole)
+    (near-multiple (16200 * n) gain (line_channel (line_of port slot) slot k) m (step * 1036800) (step * t) (line_channel-near t n port gain slot k pilots)))

@@ -13,20 +13,16 @@ use Rattle.cell_tx.specs.declared.antenna.Port.TheVariants.{Second}
 use Rattle.cell_tx.specs.Points.{point_of}
 use Rattle.cell_tx.specs.Ports.{sent_point}
 use Rattle.clean_air.specs.Carried.{AreHeard}
-use Rattle.two_ports.specs.Pairs.{pair_values, pair_at, paired_values}
-use Rattle.two_ports.specs.Received.{SupportFour, IsSlotReceivedOfTwo, CarryPair}
+use Rattle.two_ports.specs.Pairs.{Pairing, pair_values, pair_at, paired_by}
+use Rattle.two_ports.specs.Received.{SupportFour, IsSlotReceived, CarryPair, SpeakReceivedWith}
 use Rattle.finite.specs.Lists.{joined_below}
 use Rattle.two_ports.proofs.Paired.{length-fours, get_or-fours, length-pair_at}
-use Rattle.two_ports.proofs.ReceivedPairs.{received_pair_speaks}
 
 -- ---- one pair
 
 -- four values speak for the bits from 4i on, with this size and more
 abbrev pub SpeakAs : ℕ → (ℕ → Bool) → ℕ → List ℤ → Type 0
 SpeakAs least bits i values = SupportFour least (bits (4 * i)) (bits (4 * i + 1)) (bits (4 * i + 2)) (bits (4 * i + 3)) values
-
-abbrev pub SpeakFrom : (ℕ → Bool) → ℕ → List ℤ → Type 0
-SpeakFrom bits i values = SpeakAs 16 bits i values
 
 -- the bits of two points that follow one another
 pub of_points : (least : ℕ) (bits : ℕ → Bool) (i : ℕ) (values : List ℤ) →
@@ -42,12 +38,12 @@ of_points least bits i values all =
     (subst (λ y. Holds (2 * (2 * i)) (2 * (2 * i) + 1) y (4 * i + 3)) c
     (subst (λ z. Holds (2 * (2 * i)) (2 * (2 * i) + 1) (2 * (2 * i + 1)) z) d all)))
 
-pub pair_speaks : (recording : List Sample) (starts : ℕ → ℕ) (grids others : ℕ → ℕ → Cpx) (slot : SeenSlot) (p q : Place) (bits : ℕ → Bool) (i : ℕ) →
-    IsSlotReceivedOfTwo recording starts grids others slot → p.k < 72 → q.k < 72 → CarryPair grids others p q (point_of bits (2 * i)) (point_of bits (2 * i + 1)) →
-    SpeakFrom bits i (pair_values slot p q)
-pair_speaks recording starts grids others slot p q bits i is l m carry =
-    of_points 16 bits i (pair_values slot p q)
-    (received_pair_speaks recording starts grids others slot p q (bits (2 * (2 * i))) (bits (2 * (2 * i) + 1)) (bits (2 * (2 * i + 1))) (bits (2 * (2 * i + 1) + 1)) is l m carry)
+pub pair_speaks : (pairing : Pairing) (share least : ℕ) (gains : ℕ → Cpx) → SpeakReceivedWith gains pairing share least → (recording : List Sample) (starts : ℕ → ℕ) (grids : ℕ → ℕ → ℕ → Cpx) (slot : SeenSlot)
+    (i : ℕ) (p q : Place) (bits : ℕ → Bool) → IsSlotReceived pairing.ports share gains recording starts grids slot → p.k < 72 → q.k < 72 →
+    CarryPair pairing grids i p q (point_of bits (2 * i)) (point_of bits (2 * i + 1)) → SpeakAs least bits i (pair_values pairing i slot p q)
+pair_speaks pairing share least gains speak recording starts grids slot i p q bits is l m carry =
+    of_points least bits i (pair_values pairing i slot p q)
+    (speak recording starts grids slot i p q (bits (2 * (2 * i))) (bits (2 * (2 * i) + 1)) (bits (2 * (2 * i + 1))) (bits (2 * (2 * i + 1) + 1)) is l m carry)
 
 -- ---- what the second port sends of a pair
 
@@ -70,28 +66,28 @@ one_of_four least bits i q (suc (suc (suc zero))) values e l four = subst (λ n.
 one_of_four least bits i q (suc (suc (suc (suc n)))) values e l four = absurd (omega (arith, l))
 
 -- lists of four values, one after the other, of which each speaks for its four bits
-pub fours_heard : (least n : ℕ) (bits : ℕ → Bool) (f : ℕ → List ℤ) → ((k : ℕ) → length (f k) ≡ 4) → ((i : ℕ) → i < n → SpeakAs least bits i (f i)) → AreHeard least (4 * n) bits (joined_below n f)
+fours_heard : (least n : ℕ) (bits : ℕ → Bool) (f : ℕ → List ℤ) → ((k : ℕ) → length (f k) ≡ 4) → ((i : ℕ) → i < n → SpeakAs least bits i (f i)) → AreHeard least (4 * n) bits (joined_below n f)
 fours_heard least n bits f fours each = record {
   size = length-fours n f fours;
   value = λ i inside. subst (λ z. Supports least (bits i) z) (sym (get_or-fours n i f fours inside))
       (one_of_four least bits i (i / 4) (i % 4) (f (i / 4)) (omega arith) (omega arith) (each (i / 4) (omega (arith, inside))));
 }
 
-pub paired_heard : (slot : Place → SeenSlot) (places : List Place) (bits : ℕ → Bool) → length places % 2 ≡ 0 →
-    ((i : ℕ) → i < length places / 2 → SpeakFrom bits i (pair_at slot places i)) → AreHeard 16 (2 * length places) bits (paired_values slot places)
-unfolding paired_values
-paired_heard slot places bits even each =
+pub paired_heard : (pairing : Pairing) (least : ℕ) (slot : Place → SeenSlot) (places : List Place) (bits : ℕ → Bool) → length places % 2 ≡ 0 →
+    ((i : ℕ) → i < length places / 2 → SpeakAs least bits i (pair_at pairing slot places i)) → AreHeard least (2 * length places) bits (paired_by pairing slot places)
+unfolding paired_by
+paired_heard pairing least slot places bits even each =
     let count : 4 * (length places / 2) ≡ 2 * length places = omega (arith, even) in
-    subst (λ n. AreHeard 16 n bits (joined_below (length places / 2) (pair_at slot places))) count
-    (fours_heard 16 (length places / 2) bits (pair_at slot places) (length-pair_at slot places) each)
+    subst (λ n. AreHeard least n bits (joined_below (length places / 2) (pair_at pairing slot places))) count
+    (fours_heard least (length places / 2) bits (pair_at pairing slot places) (length-pair_at pairing slot places) each)
 
 -- they are those of the slots of the first places of pairs
-pub paired_same : (slot other : Place → SeenSlot) (places : List Place) → ((i : ℕ) → i < length places / 2 → slot (get_or places (2 * i) (place 0 0)) ≡ other (get_or places (2 * i) (place 0 0))) →
-    paired_values slot places ≡ paired_values other places
-unfolding paired_values
-paired_same slot other places same =
-    joined_below_same (length places / 2) (pair_at slot places) (pair_at other places)
-    (λ i l. ap (λ (s : SeenSlot). pair_values s (get_or places (2 * i) (place 0 0)) (get_or places (2 * i + 1) (place 0 0))) (same i l))
+pub paired_same : (pairing : Pairing) (slot other : Place → SeenSlot) (places : List Place) →
+    ((i : ℕ) → i < length places / 2 → slot (get_or places (2 * i) (place 0 0)) ≡ other (get_or places (2 * i) (place 0 0))) → paired_by pairing slot places ≡ paired_by pairing other places
+unfolding paired_by
+paired_same pairing slot other places same =
+    joined_below_same (length places / 2) (pair_at pairing slot places) (pair_at pairing other places)
+    (λ i l. ap (λ (s : SeenSlot). pair_values pairing i s (get_or places (2 * i) (place 0 0)) (get_or places (2 * i + 1) (place 0 0))) (same i l))
 
 -- what speaks with size 16 speaks with less
 pub heard-less : {bits : ℕ → Bool} {values : List ℤ} (least count : ℕ) → least ≤ 16 → AreHeard 16 count bits values → AreHeard least count bits values

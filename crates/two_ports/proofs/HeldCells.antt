@@ -1,5 +1,6 @@
 -- A recording that is clean of both ports of a cell shows it to a receiver of two, whatever else they send.
 use Rattle.std.proofs.Common.{◌≡◌, ℕ, ◌+◌, ◌*◌, ◌%◌, ◌≤◌, arith, refl, subst}
+use Rattle.cs_num.specs.Complex.{value_at}
 use Rattle.lte_types.specs.declared.carrier.Carrier.TheVariants.{TwoPorts}
 use Rattle.lte_types.specs.Timing.{start_of as start_after, number_at_start}
 use Rattle.grid_map.specs.Scrambling.{pbch_c_init}
@@ -12,9 +13,11 @@ use Rattle.clean_air.specs.Carried.{SpeakOfWord}
 use Rattle.clean_air.specs.Clean.{HoldsCells}
 use Rattle.clean_air.proofs.Held.{sent_place, sent_mib, ShowsCells, number_fits, told_by_frames, shown_are_held}
 use Rattle.clean_air.proofs.SentBlock.{is_block}
-use Rattle.two_ports.specs.Pairs.{paired_values}
+use Rattle.two_ports.specs.Pairs.{over_two, paired_values}
 use Rattle.two_ports.specs.Entries.{two_ports_receiver}
-use Rattle.two_ports.proofs.SentMaster.{word_speaks}
+use Rattle.two_ports.proofs.Master.{word_speaks}
+use Rattle.two_ports.proofs.ReceivedPairs.{received_pair_speaks}
+use Rattle.two_ports.proofs.Senders.{port_of, two_ports_send}
 use Rattle.two_ports.proofs.SentSystem.{fields_read}
 
 shows_cells : ShowsCells two_ports_receiver
@@ -26,7 +29,7 @@ shows_cells recording plan grids sfn offset gains eps long sendable clean =
       word = port_word First plan number;
       block = is_block First plan number sendable.spare fits;
       speaks = subst (λ n. SpeakOfWord (pbch_c_init plan.identity) (480 * (n % 4)) (port_word First plan n) (received_values_by paired_values (broadcast_slot recording plan.identity (start_after offset) 0))) same
-          (word_speaks recording plan grids sfn offset gains eps clean 0 (omega (arith, long)) sendable.spare);
+          (word_speaks over_two 4 16 TwoPorts port_of two_ports_send (omega arith) recording plan grids sfn offset gains eps (received_pair_speaks (value_at gains)) clean 0 (omega (arith, long)) sendable.spare);
       single = omega arith;
       taken = refl;
       system = told_by_frames TwoPorts (subframes_by TwoPorts paired_values) recording (sent_place plan.identity offset) number

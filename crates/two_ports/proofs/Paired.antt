@@ -12,10 +12,10 @@ use Rattle.finite.specs.Sizes.{AllWithin}
 use Rattle.finite.proofs.Lists.{joined_below_more}
 use Rattle.cs_num.specs.declared.Cpx.{Cpx}
 use Rattle.grid_map.specs.declared.Place.{Place}
-use Rattle.crs.specs.Reference.{port_0, port_1}
-use Rattle.soft_bits.specs.Soft.{SeenSlot, seen_at, pattern_channel, soft_pair, soft_value}
+use Rattle.soft_bits.specs.Lines.{port_channel, ports_energy}
+use Rattle.soft_bits.specs.Soft.{SeenSlot, seen_at, soft_pair, soft_value}
 use Rattle.soft_bits.proofs.Channel.{soft_value-small}
-use Rattle.two_ports.specs.Pairs.{first_of, second_of, pilots_energy, point_values, pair_values, pair_at, paired_values}
+use Rattle.two_ports.specs.Pairs.{Pairing, over_two, first_of, second_of, point_values, pair_values, pair_at, paired_by, paired_values}
 
 -- ---- lists of four after four
 
@@ -72,27 +72,32 @@ points-small h g energy a b =
     All-append (λ z. nat_abs z ≤ 127) (soft_pair (first_of h g a b) energy) (soft_pair (second_of h g a b) energy)
     (pair-small (first_of h g a b) energy) (pair-small (second_of h g a b) energy)
 
-length-pair : (slot : SeenSlot) (p q : Place) → length (pair_values slot p q) ≡ 4
+length-pair : (pairing : Pairing) (i : ℕ) (slot : SeenSlot) (p q : Place) → length (pair_values pairing i slot p q) ≡ 4
 unfolding pair_values
-length-pair slot p q = refl
+length-pair pairing i slot p q = refl
 
-pub values-small : (slot : SeenSlot) (p q : Place) → AllWithin 127 (pair_values slot p q)
+pub values-small : (pairing : Pairing) (i : ℕ) (slot : SeenSlot) (p q : Place) → AllWithin 127 (pair_values pairing i slot p q)
 unfolding pair_values
-values-small slot p q =
-    points-small (pattern_channel port_0 slot p.k) (pattern_channel port_1 slot p.k) (pilots_energy slot) (seen_at slot (p.symbol % 7) p.k) (seen_at slot (q.symbol % 7) q.k)
+values-small pairing i slot p q =
+    points-small (port_channel pairing.scale (pairing.lower i) slot p.k) (port_channel pairing.scale (pairing.upper i) slot p.k) (ports_energy pairing.ports slot)
+    (seen_at slot (p.symbol % 7) p.k) (seen_at slot (q.symbol % 7) q.k)
 
-module _ (slot : Place → SeenSlot) (places : List Place) where
-  pub length-pair_at : (i : ℕ) → length (pair_at slot places i) ≡ 4
-  length-pair_at i = length-pair _ _ _
+module _ (pairing : Pairing) (slot : Place → SeenSlot) (places : List Place) where
+  pub length-pair_at : (i : ℕ) → length (pair_at pairing slot places i) ≡ 4
+  length-pair_at i = length-pair pairing i _ _ _
 
-  pub paired-small : AllWithin 127 (paired_values slot places)
-  unfolding paired_values
-  paired-small = all-fours (length places / 2) (pair_at slot places) (λ k. values-small _ _ _)
+  pub paired_by-small : AllWithin 127 (paired_by pairing slot places)
+  unfolding paired_by
+  paired_by-small = all-fours (length places / 2) (pair_at pairing slot places) (λ k. values-small pairing k _ _ _)
 
-  pub length-paired : length (paired_values slot places) ≡ 4 * (length places / 2)
-  unfolding paired_values
-  length-paired = length-fours (length places / 2) (pair_at slot places) length-pair_at
+  pub length-paired_by : length (paired_by pairing slot places) ≡ 4 * (length places / 2)
+  unfolding paired_by
+  length-paired_by = length-fours (length places / 2) (pair_at pairing slot places) length-pair_at
 
-  pub paired-at : (i : ℕ) → i < 4 * (length places / 2) → get_or (paired_values slot places) i (pos 0) ≡ get_or (pair_at slot places (i / 4)) (i % 4) (pos 0)
-  unfolding paired_values
-  paired-at i inside = get_or-fours (length places / 2) i (pair_at slot places) length-pair_at inside
+-- ---- two ports
+
+pub paired-small : (slot : Place → SeenSlot) (places : List Place) → AllWithin 127 (paired_values slot places)
+paired-small = paired_by-small over_two
+
+pub length-paired : (slot : Place → SeenSlot) (places : List Place) → length (paired_values slot places) ≡ 4 * (length places / 2)
+length-paired = length-paired_by over_two

@@ -1,61 +1,56 @@
--- A slot of two ports in a recording: its pairs speak for the bits that were sent.
-use Rattle.std.proofs.Common.{◌≡◌, ℕ, ◌<◌, ◌%◌, arith, ap, sym, ◌∙◌, subst, Bool, true, false, List}
-use Rattle.std.specs.Prelude.{if◌then◌else◌}
+-- A slot of several ports in a recording: its pairs speak for the bits that were sent.
+use Rattle.std.proofs.Common.{◌≡◌, ℕ, ◌*◌, ◌<◌, ◌≤◌, ◌%◌, arith, ap, sym, ◌∙◌, subst, List}
 use Rattle.cs_num.specs.declared.Cpx.{Cpx}
 use Rattle.cs_num.specs.declared.Sample.{Sample}
-use Rattle.cs_num.specs.Complex.{nothing, value_at, conjugate, negated}
-use Rattle.crs.specs.declared.pattern.Pattern.{Pattern}
+use Rattle.cs_num.specs.Complex.{value_at, times, minus, multiple, square}
+use Rattle.cs_num.proofs.Sums.{complex_sum_below_same}
+use Rattle.sizes.specs.Sizes.{energy_below}
 use Rattle.crs.specs.Qpsk.{point}
-use Rattle.crs.specs.Reference.{port_0, port_1, is_pattern_place}
-use Rattle.grid_map.specs.declared.Place.{Place}
-use Rattle.soft_bits.specs.Soft.{SeenSlot, seen_at, pattern_symbol, pattern_seen, pattern_sent, pilot_subcarrier}
-use Rattle.budget.specs.Received.{IsSeenAsTwo}
+use Rattle.soft_bits.specs.Lines.{line_of, line_place}
+use Rattle.soft_bits.specs.Soft.{SeenSlot, seen_at}
+use Rattle.soft_bits.proofs.Lines.{is_line}
+use Rattle.budget.specs.Budget.{AmplitudesAreSeenInRecording}
+use Rattle.budget.specs.Received.{IsSeenBy}
 use Rattle.budget.proofs.Seen.{two_amplitudes_are_seen_in_recording}
 use Rattle.clean_air.proofs.SoftValues.{read_symbol}
-use Rattle.two_ports.specs.Pairs.{pair_values}
-use Rattle.two_ports.specs.Received.{ArePortsSeen, IsPairSeen, IsSlotReceivedOfTwo, CarryPair, ReceivedPairSpeaks}
+use Rattle.two_ports.specs.Pairs.{Pairing, over_two, pair_values}
+use Rattle.two_ports.specs.Received.{ArePortsSeen, IsSlotReceived, SpeakWith, SpeakReceivedWith, ReceivedPairSpeaks, first_sent, second_sent}
 use Rattle.two_ports.proofs.Values.{pair_values_speak}
 
--- the symbols of pilots are among the seven
-pub symbol_few : (pattern : Pattern) (identity i : ℕ) → pattern.later < 7 → pattern_symbol pattern identity i < 7
-unfolding pattern_symbol
-symbol_few pattern identity i later = few (is_pattern_place pattern identity 0 (pilot_subcarrier identity i))
-  where
-    few : (b : Bool) → (if b then 0 else pattern.later) < 7
-    few true = omega arith
-    few false = later
-
-module _ (recording : List Sample) (starts : ℕ → ℕ) (grids others : ℕ → ℕ → Cpx) (slot : SeenSlot) (is : IsSlotReceivedOfTwo recording starts grids others slot) where
-  place_seen : (symbol k : ℕ) → symbol < 7 → k < 72 → IsSeenAsTwo is.gain is.other (grids symbol k) (others symbol k) (seen_at slot symbol k)
+module _ (ports share most : ℕ) (are_seen : AmplitudesAreSeenInRecording ports share most) (gains : ℕ → Cpx) (recording : List Sample) (starts : ℕ → ℕ) (grids : ℕ → ℕ → ℕ → Cpx) (slot : SeenSlot)
+    (is : IsSlotReceived ports share gains recording starts grids slot) where
+  place_seen : (symbol k : ℕ) → symbol < 7 → k < 72 → IsSeenBy ports most gains (λ port. grids port symbol k) (seen_at slot symbol k)
   place_seen symbol k few inside =
-      subst (λ (z : Cpx). IsSeenAsTwo is.gain is.other (grids symbol k) (others symbol k) z)
+      subst (λ (z : Cpx). IsSeenBy ports most gains (λ port. grids port symbol k) z)
       (sym (ap (λ (xs : List Cpx). value_at xs k) (is.seen symbol few) ∙ read_symbol recording (starts symbol) k inside))
-      (two_amplitudes_are_seen_in_recording is.eps is.gain is.other (grids symbol) (others symbol) recording (starts symbol) k (is.amplitudes symbol few) (is.other_amplitudes symbol few) (is.received symbol few) inside)
+      (are_seen is.eps gains (λ port. grids port symbol) recording (starts symbol) k (λ port l. is.amplitudes port symbol l few) (is.received symbol few) inside)
 
-  place_holds : (symbol k : ℕ) (x y : Cpx) → symbol < 7 → k < 72 → grids symbol k ≡ x → others symbol k ≡ y → IsSeenAsTwo is.gain is.other x y (seen_at slot symbol k)
-  place_holds symbol k x y few inside e f =
-      subst (λ (z : Cpx). IsSeenAsTwo is.gain is.other z y (seen_at slot symbol k)) e
-      (subst (λ (z : Cpx). IsSeenAsTwo is.gain is.other (grids symbol k) z (seen_at slot symbol k)) f (place_seen symbol k few inside))
+  place_holds : (symbol k : ℕ) (these : ℕ → Cpx) → symbol < 7 → k < 72 → ((port : ℕ) → port < ports → grids port symbol k ≡ these port) → IsSeenBy ports most gains these (seen_at slot symbol k)
+  place_holds symbol k these few inside send = record {
+    off = subst (λ (z : Cpx). square (minus (seen_at slot symbol k) (multiple 64 z)) ≤ most * most * energy_below ports gains)
+        (complex_sum_below_same ports (λ port. times (gains port) (grids port symbol k)) (λ port. times (gains port) (these port)) (λ port l. ap (times (gains port)) (send port l)))
+        (place_seen symbol k few inside).off;
+  }
 
-  pub ports_seen : ArePortsSeen is.gain is.other slot
-  unfolding pattern_seen
+  ports_seen : ArePortsSeen ports most gains slot
   ports_seen = record {
     sounds = (is.received 0 (omega arith)).sounds;
-    first = λ i l. place_holds (pattern_symbol port_0 slot.identity i) (pilot_subcarrier slot.identity i) (pattern_sent port_0 slot.identity slot.number i) nothing
-        (symbol_few port_0 slot.identity i (omega arith)) (omega (arith, l)) (is.references i l) (is.other_silent i l);
-    second = λ i l. place_holds (pattern_symbol port_1 slot.identity i) (pilot_subcarrier slot.identity i) nothing (pattern_sent port_1 slot.identity slot.number i)
-        (symbol_few port_1 slot.identity i (omega arith)) (omega (arith, l)) (is.silent i l) (is.other_references i l);
+    pilots = λ port i l few.
+        let line = line_of port slot in
+        let row = (is_line port slot).row i in
+        place_holds (line.symbol i) (line_place line i) _ (omega (arith, row)) ((is_line port slot).inside i few) (λ other m. is.pilots port i other l few m);
   }
 
-  pub pair_seen : (p q : Place) (x y : Cpx) → p.k < 72 → q.k < 72 → CarryPair grids others p q x y →
-      IsPairSeen is.gain is.other x y (seen_at slot (p.symbol % 7) p.k) (seen_at slot (q.symbol % 7) q.k)
-  pair_seen p q x y l m carry = record {
-    first = place_holds (p.symbol % 7) p.k x (negated (conjugate y)) (omega arith) l carry.first carry.other_first;
-    second = place_holds (q.symbol % 7) q.k y (conjugate x) (omega arith) m carry.second carry.other_second;
-  }
+pub received_pair_speaks_by : (pairing : Pairing) (share most least : ℕ) → AmplitudesAreSeenInRecording pairing.ports share most → (gains : ℕ → Cpx) → SpeakWith gains pairing most least →
+    SpeakReceivedWith gains pairing share least
+unfolding pair_values
+received_pair_speaks_by pairing share most least are_seen gains speak recording starts grids slot i p q b c d e is l m carry =
+    speak slot i p.k b c d e (seen_at slot (p.symbol % 7) p.k) (seen_at slot (q.symbol % 7) q.k)
+    (ports_seen pairing.ports share most are_seen gains recording starts grids slot is)
+    (record {
+      first = place_holds pairing.ports share most are_seen gains recording starts grids slot is (p.symbol % 7) p.k (first_sent pairing i (point b c) (point d e)) (omega arith) l carry.first;
+      second = place_holds pairing.ports share most are_seen gains recording starts grids slot is (q.symbol % 7) q.k (second_sent pairing i (point b c) (point d e)) (omega arith) m carry.second;
+    })
 
 pub received_pair_speaks : ReceivedPairSpeaks
-unfolding pair_values
-received_pair_speaks recording starts grids others slot p q b c d e is l m carry =
-    pair_values_speak is.gain is.other slot p.k b c d e (seen_at slot (p.symbol % 7) p.k) (seen_at slot (q.symbol % 7) q.k)
-    (ports_seen recording starts grids others slot is) (pair_seen recording starts grids others slot is p q (point b c) (point d e) l m carry)
+received_pair_speaks gains = received_pair_speaks_by over_two 4 1024 16 two_amplitudes_are_seen_in_recording gains (pair_values_speak gains)

@@ -1,9 +1,10 @@
 -- The system information of a recording that is clean of both ports: each whole frame of even number answers with the plan's.
-use Rattle.std.proofs.Common.{◌≡◌, ℕ, ◌+◌, ◌*◌, ◌/◌, ◌%◌, ◌<◌, ◌≤◌, inl, inr, Bool, true, false, List, length, get_or, pos, Ok, nat_eq, nat_lt, ℤ, refl, ap, ap₂, sym, subst, ◌∙◌, arith}
+use Rattle.std.proofs.Common.{◌≡◌, ℕ, zero, suc, ◌+◌, ◌*◌, ◌/◌, ◌%◌, ◌<◌, ◌≤◌, inl, inr, Bool, true, false, List, length, get_or, pos, Ok, nat_eq, nat_lt, ℤ, refl, ap, ap₂, sym, subst, ◌∙◌, arith}
 use Rattle.std.specs.Prelude.{if◌then◌else◌}
 use Rattle.std.proofs.lemmas.Bool.{cases_lt, lt-ltb, le-ltb}
 use Rattle.cs_num.specs.declared.Cpx.{Cpx}
 use Rattle.cs_num.specs.declared.Sample.{Sample}
+use Rattle.cs_num.specs.Complex.{value_at}
 use Rattle.cs_bits.specs.Checks.{message_of}
 use Rattle.cs_bits.proofs.Signs.{supports-speaks, supports-less}
 use Rattle.turbo_code.specs.declared.rows.Row.{Row}
@@ -54,11 +55,13 @@ use Rattle.clean_air.proofs.SharedBlocks.{heard_block_is_told}
 use Rattle.clean_air.proofs.Speaking.{descrambled_bits_are_heard}
 use Rattle.two_tx.specs.Plan.{IsSendableOfTwo}
 use Rattle.clean_air.specs.Load.{IsLoadedBy}
-use Rattle.two_ports.specs.Pairs.{pair_at, paired_values}
+use Rattle.two_ports.specs.Pairs.{over_two, pair_at, paired_values}
 use Rattle.two_ports.specs.Received.{CarryPair}
-use Rattle.two_ports.proofs.Heard.{SpeakFrom, pair_speaks, second_even, second_odd, paired_heard, paired_same, heard-less}
+use Rattle.two_ports.proofs.Heard.{SpeakAs, pair_speaks, paired_heard, paired_same, heard-less}
 use Rattle.clean_air.proofs.SentSlots.{slot_grid}
-use Rattle.two_ports.proofs.SentSlots.{each_slot_received}
+use Rattle.two_ports.proofs.ReceivedPairs.{received_pair_speaks}
+use Rattle.two_ports.proofs.Senders.{port_of, two_ports_send}
+use Rattle.two_ports.proofs.Slots.{each_slot_received}
 
 -- ---- a frame
 
@@ -110,46 +113,43 @@ module _ (recording : List Sample) (plan : CellPlan) (grids : Port → Elements)
     abbrev item : ℕ → Place
     item i = get_or places i (place 0 0)
 
-    first_in : (s i : ℕ) → i < length places → s ≡ 10 + (item i).symbol / 7 → slot_grid grid number s ((item i).symbol % 7) (item i).k ≡ point_of bits i
-    first_in s i l e =
+    -- what a port sends at place i, of the slot that has it
+    in_slot_sent : (p s i : ℕ) → i < length places → s ≡ 10 + (item i).symbol / 7 → slot_grid (grids (port_of p)) number s ((item i).symbol % 7) (item i).k ≡ sent_point (port_of p) (point_of bits) i
+    in_slot_sent p s i l e =
         let (half, row) = in_slot (item i).symbol (placed i l).0 in
-        ap (λ n. slot_grid grid number n ((item i).symbol % 7) (item i).k) e
-        ∙ ap₂ (λ (subframe symbol : ℕ). grid number subframe symbol (item i).k) half row ∙ first i l
+        ap (λ n. slot_grid (grids (port_of p)) number n ((item i).symbol % 7) (item i).k) e
+        ∙ ap₂ (λ (subframe symbol : ℕ). grids (port_of p) number subframe symbol (item i).k) half row ∙ by p
+      where
+        by : (p : ℕ) → grids (port_of p) number 5 (item i).symbol (item i).k ≡ sent_point (port_of p) (point_of bits) i
+        by zero = first i l
+        by (suc n) = second i l
 
-    second_in : (s i : ℕ) → i < length places → s ≡ 10 + (item i).symbol / 7 → slot_grid others number s ((item i).symbol % 7) (item i).k ≡ sent_point Second (point_of bits) i
-    second_in s i l e =
-        let (half, row) = in_slot (item i).symbol (placed i l).0 in
-        ap (λ n. slot_grid others number n ((item i).symbol % 7) (item i).k) e
-        ∙ ap₂ (λ (subframe symbol : ℕ). others number subframe symbol (item i).k) half row ∙ second i l
-
-    pair_is_heard : (i : ℕ) → i < length places / 2 → SpeakFrom bits i (pair_at slot_at places i)
+    pair_is_heard : (i : ℕ) → i < length places / 2 → SpeakAs 16 bits i (pair_at over_two slot_at places i)
     pair_is_heard i l =
         let a : 2 * i < length places = omega (arith, l) in
         let b : 2 * i + 1 < length places = omega (arith, l) in
         let s : ℕ = 10 + (item (2 * i)).symbol / 7 in
         let both : s ≡ 10 + (item (2 * i + 1)).symbol / 7 = ap (λ n. 10 + n) (together i l) in
         let few : s < 20 = let low = (placed (2 * i) a).0 in omega (arith, low) in
-        let received = each_slot_received recording plan grids sfn offset gains eps clean j s whole few in
-        let carry : CarryPair (slot_grid grid number s) (slot_grid others number s) (item (2 * i)) (item (2 * i + 1)) (point_of bits (2 * i)) (point_of bits (2 * i + 1)) =
+        let received = each_slot_received over_two 4 TwoPorts port_of two_ports_send recording plan grids sfn offset gains eps clean j s whole few in
+        let carry : CarryPair over_two (λ p. slot_grid (grids (port_of p)) number s) i (item (2 * i)) (item (2 * i + 1)) (point_of bits (2 * i)) (point_of bits (2 * i + 1)) =
         record {
-          first = first_in s (2 * i) a refl;
-          second = first_in s (2 * i + 1) b both;
-          other_first = second_in s (2 * i) a refl ∙ second_even (point_of bits) i;
-          other_second = second_in s (2 * i + 1) b both ∙ second_odd (point_of bits) i;
+          first = λ p below. in_slot_sent p s (2 * i) a refl ∙ two_ports_send.first p (point_of bits) i below;
+          second = λ p below. in_slot_sent p s (2 * i + 1) b both ∙ two_ports_send.second p (point_of bits) i below;
         } in
-        subst (λ (z : SeenSlot). SpeakFrom bits i (pair_at (λ p. z) places i)) (sym (slot_is (item (2 * i)) (placed (2 * i) a).0))
-        (pair_speaks recording (starts s) (slot_grid grid number s) (slot_grid others number s) (slot s) (item (2 * i)) (item (2 * i + 1)) bits i received
+        subst (λ (z : SeenSlot). SpeakAs 16 bits i (pair_at over_two (λ p. z) places i)) (sym (slot_is (item (2 * i)) (placed (2 * i) a).0))
+        (pair_speaks over_two 4 16 (value_at gains) (received_pair_speaks (value_at gains)) recording (starts s) (λ p. slot_grid (grids (port_of p)) number s) (slot s) i (item (2 * i)) (item (2 * i + 1)) bits received
         (placed (2 * i) a).1 (placed (2 * i + 1) b).1 carry)
 
     -- the values of these places speak for the bits
     places_heard : AreHeard 16 (2 * length places) bits (paired_values slot_at places)
-    places_heard = paired_heard slot_at places bits even pair_is_heard
+    places_heard = paired_heard over_two 16 slot_at places bits even pair_is_heard
 
     -- in the first slot alone
     first_heard : ((i : ℕ) → i < length places → (item i).symbol < 7) → AreHeard 16 (2 * length places) bits (paired_values (λ p. slot 10) places)
     first_heard low =
         subst (AreHeard 16 (2 * length places) bits)
-        (paired_same slot_at (λ p. slot 10) places (λ i l. rw (lt-ltb (item (2 * i)).symbol 7 (low (2 * i) (omega (arith, l)))) refl)) places_heard
+        (paired_same over_two slot_at (λ p. slot 10) places (λ i l. rw (lt-ltb (item (2 * i)).symbol 7 (low (2 * i) (omega (arith, l)))) refl)) places_heard
 
   -- ---- the control region
 

@@ -1,95 +1,124 @@
--- The values of a pair: a component of what stands for a point outweighs the energy of the pilots of both ports.
-use Rattle.std.proofs.Common.{◌≡◌, ℕ, zero, suc, refl, ◌+◌, ◌*◌, ◌<◌, ◌≤◌, arith, subst, Bool, true, false, ℤ, pos}
+-- The values of a pair: a component of what stands for a point outweighs the energy of the pilots of all ports.
+use Rattle.std.proofs.Common.{◌≡◌, ℕ, zero, suc, ◌+◌, ◌*◌, ◌/◌, ◌<◌, ◌≤◌, ◌≢◌, arith, refl, subst, Bool, true, false, ℤ, pos}
 use Rattle.std.specs.Prelude.{nat_abs, ◌-ℤ◌, ◌*ℤ◌}
 use Rattle.finite.specs.Sums.{total_below}
-use Rattle.finite.proofs.Sums.{total_below-within, total_some}
 use Rattle.cs_num.specs.declared.Cpx.{Cpx}
-use Rattle.cs_num.specs.Complex.{square}
+use Rattle.cs_num.specs.Complex.{plus, times, conjugate, negated, minus, multiple, square}
+use Rattle.sizes.specs.Sizes.{energy_below}
 use Rattle.cs_bits.specs.Signs.{Supports}
 use Rattle.crs.specs.Qpsk.{component, point}
-use Rattle.crs.specs.Reference.{port_0, port_1}
-use Rattle.soft_bits.specs.Soft.{SeenSlot, pattern_seen, pattern_sent, pattern_energy, pattern_channel, soft_value}
-use Rattle.budget.proofs.Pilots.{IsPilotSquare, pilot-square}
+use Rattle.soft_bits.specs.Lines.{line_of, port_channel, ports_energy}
+use Rattle.soft_bits.specs.Soft.{SeenSlot, soft_value}
+use Rattle.budget.specs.Received.{IsSeenBy}
+use Rattle.budget.proofs.Near.{near-off}
 use Rattle.budget.proofs.Signs.{near_component_speaks}
-use Rattle.two_ports.specs.Pairs.{first_of, second_of, pilots_energy}
-use Rattle.two_ports.specs.Received.{ArePortsSeen, PairValuesSpeak}
-use Rattle.two_ports.proofs.Points.{AreRoots, pair_is_combined}
-use Rattle.two_ports.proofs.Estimates.{first_pilots, second_pilots, ports_are_estimated}
+use Rattle.two_ports.specs.Pairs.{Pairing, over_two, first_of, second_of}
+use Rattle.two_ports.specs.Received.{over, SpeakWith, PairValuesSpeak}
+use Rattle.two_ports.proofs.Points.{AreRoots, AreEstimates, pair_is_combined}
+use Rattle.two_ports.proofs.Estimates.{received_of_two, pilots_alone, port_channel-near}
+use Rattle.two_ports.proofs.Energies.{AreEnergies, energies}
 
--- ---- the energy of the pilots
+-- ---- a pairing, and the numbers by which its values speak
 
-total_below_plus : (n : ℕ) (f g : ℕ → ℕ) → total_below n (λ i. f i + g i) ≡ total_below n f + total_below n g
-unfolding total_below
-total_below_plus zero f g = refl
-total_below_plus (suc n) f g = let before = total_below_plus n f g in omega (arith, before)
+pub record IsPairing (pairing : Pairing) : Type 0 where
+  pub lower : (i : ℕ) → pairing.lower i < pairing.ports
+  pub upper : (i : ℕ) → pairing.upper i < pairing.ports
+  pub apart : (i : ℕ) → pairing.lower i ≢ pairing.upper i
+  pub whole : (port : ℕ) (slot : SeenSlot) → port < pairing.ports → pairing.scale / (line_of port slot).step * (line_of port slot).step ≡ pairing.scale
 
--- the energy of all 48 pilots
-record IsEnergy (n q : ℕ) : Type 0 where
-  some : 1 ≤ q
-  most : q ≤ 2244575232 * n
+-- n is the sum of the squares of all gains, and m that of a pair's, which has at least part / whole of it; off by at most s * m
+-- are the channels, by t * m what is seen, and of e * m is the energy of the pilots, which is told by a weight
+pub record AreMargins (pairing : Pairing) (most weight part whole s t u v w e least : ℕ) : Type 0 where
+  pub roots : AreRoots s t u v w
+  pub estimates : (n m q : ℕ) → part * n ≤ whole * m → q ≤ pairing.scale * most * (pairing.scale * most) * (16200 * n) → q ≤ s * m
+  pub seen : (n m q : ℕ) → part * n ≤ whole * m → q ≤ most * most * n → q ≤ t * m
+  pub some : (n q : ℕ) → 1 ≤ n → AreEnergies pairing.ports weight most n q → 1 ≤ q
+  pub energy : (n m q : ℕ) → part * n ≤ whole * m → AreEnergies pairing.ports weight most n q → q ≤ e * m
+  pub speaks : (m q : ℕ) (bit : Bool) (z : ℤ) → 1 ≤ q → q ≤ e * m →
+      nat_abs (z -ℤ pos (pairing.scale * 1036800 * 64 * m) *ℤ component bit) ≤ (pairing.scale * 1036800 * u + (64 * v + w)) * m → Supports least bit (soft_value z q)
 
-module _ (gain other : Cpx) (slot : SeenSlot) (ports : ArePortsSeen gain other slot) where
-  abbrev n : ℕ
-  n = square gain + square other
+-- each pair of ports has this part of the sum of the gains' squares
+pub record HavePart (pairing : Pairing) (part whole : ℕ) (gains : ℕ → Cpx) : Type 0 where
+  pub each : (i : ℕ) → part * energy_below pairing.ports gains ≤ whole * (square (gains (pairing.lower i)) + square (gains (pairing.upper i)))
 
-  abbrev energy_of : ℕ → ℕ
-  energy_of i = square (pattern_seen port_0 slot i) + square (pattern_seen port_1 slot i)
-
-  two_pilots : (i : ℕ) → i < 24 → (1 ≤ energy_of i) × (energy_of i ≤ 93523968 * n)
-  two_pilots i l =
-      both (square gain) (square other) (square (pattern_seen port_0 slot i)) (square (pattern_seen port_1 slot i)) ports.sounds (first 1) (second 1) (first 8) (second 8)
-    where
-      both : (w v a b : ℕ) → 1 ≤ w + v → IsPilotSquare 1 1024 (w + v) w a → IsPilotSquare 1 1024 (w + v) v b → IsPilotSquare 8 1024 (w + v) w a → IsPilotSquare 8 1024 (w + v) v b →
-          (1 ≤ a + b) × (a + b ≤ 93523968 * (w + v))
-      both w v a b some p q r s = (omega (arith, some, p.least, q.least), omega (arith, r.most, s.most))
-
-      first : (m : ℕ) → IsPilotSquare m 1024 n (square gain) (square (pattern_seen port_0 slot i))
-      first m = pilot-square m 1024 n gain (pattern_sent port_0 slot.identity slot.number i) (pattern_seen port_0 slot i) ((first_pilots gain other slot ports).each i l)
-
-      second : (m : ℕ) → IsPilotSquare m 1024 n (square other) (square (pattern_seen port_1 slot i))
-      second m = pilot-square m 1024 n other (pattern_sent port_1 slot.identity slot.number i) (pattern_seen port_1 slot i) ((second_pilots gain other slot ports).each i l)
-
-  together : total_below 24 energy_of ≡ pilots_energy slot
-  unfolding pilots_energy pattern_energy
-  together = total_below_plus 24 (λ i. square (pattern_seen port_0 slot i)) (λ i. square (pattern_seen port_1 slot i))
-
-  energy-near : IsEnergy n (pilots_energy slot)
-  energy-near = subst (IsEnergy n) together (record {
-    some = total_some 24 0 energy_of (omega arith) (two_pilots 0 (omega arith)).0;
-    most = sums (total_below 24 energy_of) n (total_below-within 24 (93523968 * n) energy_of (λ i l. (two_pilots i l).1));
-  })
-    where
-      sums : (e n : ℕ) → e ≤ 24 * (93523968 * n) → e ≤ 2244575232 * n
-      sums e n h = omega (arith, h)
-
--- ---- a component
-
--- 16 times the energy's 2244575232, and six times 11678307840, are less than 540 * 199065600
-component_speaks : (n q : ℕ) (bit : Bool) (z : ℤ) → IsEnergy n q → nat_abs (z -ℤ pos (199065600 * n) *ℤ component bit) ≤ 11678307840 * n → Supports 16 bit (soft_value z q)
-component_speaks n q bit z energy near = near_component_speaks 16 199065600 11678307840 2244575232 (omega arith) (omega arith) (omega arith) n q bit z energy.some energy.most near
-
-pub point-small : (first second : Bool) → square (point first second) ≤ 16200
+point-small : (first second : Bool) → square (point first second) ≤ 16200
 point-small false false = omega arith
 point-small false true = omega arith
 point-small true false = omega arith
 point-small true true = omega arith
 
--- 2 * 1024^2 is below the square of 1449, and the two others are squares
-roots : AreRoots 152882380800 1048576 1449 99532800 801239040
-roots = record { seen = omega arith; estimates = omega arith; both = omega arith }
+pub values_speak : (pairing : Pairing) (most weight part whole s t u v w e least : ℕ) → IsPairing pairing → AreMargins pairing most weight part whole s t u v w e least →
+    (gains : ℕ → Cpx) → HavePart pairing part whole gains → SpeakWith gains pairing most least
+values_speak pairing most weight part whole s t u v w e least is margins gains have slot i k b c d f at_first at_second ports pair =
+    let n : ℕ = energy_below pairing.ports gains in
+    let lower : ℕ = pairing.lower i in
+    let upper : ℕ = pairing.upper i in
+    let g : Cpx = gains lower in
+    let o : Cpx = gains upper in
+    let m : ℕ = square g + square o in
+    let h : Cpx = port_channel pairing.scale lower slot k in
+    let r : Cpx = port_channel pairing.scale upper slot k in
+    let q : ℕ = ports_energy pairing.ports slot in
+    let energy = energies pairing.ports weight most gains slot ports in
+    let some : 1 ≤ q = margins.some n q ports.sounds energy in
+    let few : q ≤ e * m = margins.energy n m q (have.each i) energy in
+    let estimates : AreEstimates (pairing.scale * 1036800) s g o h r = record {
+      off = margins.estimates n m _ (have.each i) (near-off (16200 * n) g h (pairing.scale * 1036800) (pairing.scale * most)
+          (port_channel-near most n pairing.scale lower g slot k (is.whole lower slot (is.lower i)) (pilots_alone pairing.ports most gains slot ports lower (is.lower i))));
+      other_off = margins.estimates n m _ (have.each i) (near-off (16200 * n) o r (pairing.scale * 1036800) (pairing.scale * most)
+          (port_channel-near most n pairing.scale upper o slot k (is.whole upper slot (is.upper i)) (pilots_alone pairing.ports most gains slot ports upper (is.upper i))));
+    } in
+    let near = pair_is_combined (pairing.scale * 1036800) s t u v w margins.roots g o h r (point b c) (point d f) at_first at_second estimates (point-small b c) (point-small d f)
+    (record { first = seen (point b c) (negated (conjugate (point d f))) at_first pair.first; second = seen (point d f) (conjugate (point b c)) at_second pair.second }) in
+    record {
+      first = margins.speaks m q b (first_of h r at_first at_second).re some few near.0.within.re;
+      second = margins.speaks m q c (first_of h r at_first at_second).im some few near.0.within.im;
+      third = margins.speaks m q d (second_of h r at_first at_second).re some few near.1.within.re;
+      fourth = margins.speaks m q f (second_of h r at_first at_second).im some few near.1.within.im;
+    }
+  where
+    seen : (x y z : Cpx) → IsSeenBy pairing.ports most gains (over (pairing.lower i) (pairing.upper i) x y) z →
+        square (minus z (multiple 64 (plus (times (gains (pairing.lower i)) x) (times (gains (pairing.upper i)) y)))) ≤ t * (square (gains (pairing.lower i)) + square (gains (pairing.upper i)))
+    seen x y z is_seen =
+        margins.seen (energy_below pairing.ports gains) (square (gains (pairing.lower i)) + square (gains (pairing.upper i))) _ (have.each i)
+        (subst (λ (a : Cpx). square (minus z (multiple 64 a)) ≤ most * most * energy_below pairing.ports gains)
+        (received_of_two pairing.ports (pairing.lower i) (pairing.upper i) gains x y (is.lower i) (is.upper i) (is.apart i)) is_seen.off)
+
+-- ---- two ports
+
+pub is_over_two : IsPairing over_two
+is_over_two = record { lower = λ i. omega arith; upper = λ i. omega arith; apart = λ i. omega arith; whole = steps }
+  where
+    steps : (port : ℕ) (slot : SeenSlot) → port < 2 → 3 / (line_of port slot).step * (line_of port slot).step ≡ 3
+    steps zero slot l = refl
+    steps (suc zero) slot l = refl
+    steps (suc (suc n)) slot l = absurd (omega (arith, l))
+
+-- 2 * 1024^2 is below the square of 1449, and the two others are squares; 16 times the energy's 2244575232, and six times
+-- 11678307840, are less than 540 * 199065600
+margins_of_two : AreMargins over_two 1024 8 1 1 152882380800 1048576 1449 99532800 801239040 2244575232 16
+margins_of_two = record {
+  roots = record { seen = omega arith; estimates = omega arith; both = omega arith };
+  estimates = λ n m q share h. omega (arith, share, h);
+  seen = λ n m q share h. omega (arith, share, h);
+  some = λ n q some energy. omega (arith, some, energy.least);
+  energy = λ n m q share energy. omega (arith, share, energy.high);
+  speaks = λ m q bit z some few near. near_component_speaks 16 199065600 11678307840 2244575232 (omega arith) (omega arith) (omega arith) m q bit z some few near;
+}
+
+-- the sum of two squares
+pub squares : (gains : ℕ → Cpx) → energy_below 2 gains ≡ square (gains 0) + square (gains 1)
+unfolding total_below
+squares gains = all (square (gains 0)) (square (gains 1))
+  where
+    all : (a b : ℕ) → 0 + a + b ≡ a + b
+    all a b = omega arith
+
+both : (gains : ℕ → Cpx) → HavePart over_two 1 1 gains
+both gains = record { each = λ i. all }
+  where
+    all : 1 * energy_below 2 gains ≤ 1 * (square (gains 0) + square (gains 1))
+    all = let same = squares gains in omega (arith, same)
 
 pub pair_values_speak : PairValuesSpeak
-pair_values_speak gain other slot k b c d e at_first at_second ports pair =
-    let h : Cpx = pattern_channel port_0 slot k in
-    let o : Cpx = pattern_channel port_1 slot k in
-    let near = pair_is_combined 3110400 152882380800 1048576 1449 99532800 801239040 roots gain other h o (point b c) (point d e) at_first at_second
-    (ports_are_estimated gain other slot k ports) (point-small b c) (point-small d e) (record { first = pair.first.off; second = pair.second.off }) in
-    let m : ℕ = square gain + square other in
-    let q : ℕ = pilots_energy slot in
-    let energy = energy-near gain other slot ports in
-    record {
-      first = component_speaks m q b (first_of h o at_first at_second).re energy near.0.within.re;
-      second = component_speaks m q c (first_of h o at_first at_second).im energy near.0.within.im;
-      third = component_speaks m q d (second_of h o at_first at_second).re energy near.1.within.re;
-      fourth = component_speaks m q e (second_of h o at_first at_second).im energy near.1.within.im;
-    }
+pair_values_speak gains = values_speak over_two 1024 8 1 1 152882380800 1048576 1449 99532800 801239040 2244575232 16 is_over_two margins_of_two gains (both gains)

@@ -1,34 +1,50 @@
--- What is seen and received of two antenna ports, and that the values of pairs then speak for the bits that were sent.
--- (own)
-use Rattle.std.specs.Prelude.{◌≡◌, ℕ, ◌+◌, ◌%◌, ◌<◌, ◌≤◌, Bool, List, [], slice_index_or, ℤ, pos}
+-- What is seen and received of several antenna ports, and that the values of pairs then speak for the bits that were
+-- sent. (own)
+use Rattle.std.specs.Prelude.{◌≡◌, ℕ, ◌%◌, ◌<◌, ◌≤◌, Bool, nat_eq, if◌then◌else◌, List, [], slice_index_or, ℤ, pos}
 use Rattle.cs_num.specs.declared.Cpx.{Cpx}
 use Rattle.cs_num.specs.declared.Sample.{Sample}
-use Rattle.cs_num.specs.Complex.{nothing, conjugate, negated, square}
+use Rattle.cs_num.specs.Complex.{nothing, conjugate, negated}
+use Rattle.sizes.specs.Sizes.{energy_below}
 use Rattle.cs_bits.specs.Signs.{Supports}
 use Rattle.crs.specs.Qpsk.{point}
-use Rattle.crs.specs.Reference.{port_0, port_1}
 use Rattle.observe.specs.Seen.{seen_symbol}
 use Rattle.grid_map.specs.declared.Place.{Place}
-use Rattle.soft_bits.specs.Soft.{SeenSlot, pattern_symbol, pattern_seen, pattern_sent, pilot_subcarrier}
-use Rattle.budget.specs.Received.{AreAmplitudes, IsReceivedFromTwo, IsSeenAsTwo, samples_from}
-use Rattle.two_ports.specs.Pairs.{values_seen, pair_values}
+use Rattle.soft_bits.specs.Lines.{line_of, line_place, line_seen}
+use Rattle.soft_bits.specs.Soft.{SeenSlot}
+use Rattle.budget.specs.Received.{AreAmplitudes, IsReceivedBy, IsSeenBy, samples_from}
+use Rattle.two_ports.specs.Pairs.{Pairing, over_two, seen_by, pair_values}
+
+-- ---- what the ports send
+
+-- one port sends this, and the others nothing
+abbrev pub only : ℕ → Cpx → ℕ → Cpx
+only port z other = if nat_eq other port then z else nothing
+
+-- two ports send these, and the others nothing
+abbrev pub over : ℕ → ℕ → Cpx → Cpx → ℕ → Cpx
+over lower upper a b other = if nat_eq other lower then a else only upper b other
+
+-- what the ports send of pair number i, of the points x and y: the lower of its ports x and y at the two places, the
+-- upper the negative conjugate of y and the conjugate of x (TS 36.211 section 6.3.4.3)
+abbrev pub first_sent : Pairing → ℕ → Cpx → Cpx → ℕ → Cpx
+first_sent pairing i x y = over (pairing.lower i) (pairing.upper i) x (negated (conjugate y))
+
+abbrev pub second_sent : Pairing → ℕ → Cpx → Cpx → ℕ → Cpx
+second_sent pairing i x y = over (pairing.lower i) (pairing.upper i) y (conjugate x)
 
 -- ---- seen
 
--- the pilots of both ports of a slot are seen, each port's with its gain and nothing of the other port; not both gains
+-- the pilots of so many ports of a slot are seen, each port's with its gain and nothing of the others; not all gains
 -- are 0
-pub record ArePortsSeen (gain other : Cpx) (slot : SeenSlot) : Type 0 where
-  pub sounds : 1 ≤ square gain + square other
-  pub first : (i : ℕ) → i < 24 →
-      IsSeenAsTwo gain other (pattern_sent port_0 slot.identity slot.number i) nothing (pattern_seen port_0 slot i)
-  pub second : (i : ℕ) → i < 24 →
-      IsSeenAsTwo gain other nothing (pattern_sent port_1 slot.identity slot.number i) (pattern_seen port_1 slot i)
+pub record ArePortsSeen (ports most : ℕ) (gains : ℕ → Cpx) (slot : SeenSlot) : Type 0 where
+  pub sounds : 1 ≤ energy_below ports gains
+  pub pilots : (port i : ℕ) → port < ports → i ≤ (line_of port slot).last →
+      IsSeenBy ports most gains (only port ((line_of port slot).sent i)) (line_seen (line_of port slot) slot i)
 
--- a pair of points is seen at two places: the first port sends x and y there, the second the negative conjugate of y
--- and the conjugate of x (TS 36.211 section 6.3.4.3)
-pub record IsPairSeen (gain other x y a b : Cpx) : Type 0 where
-  pub first : IsSeenAsTwo gain other x (negated (conjugate y)) a
-  pub second : IsSeenAsTwo gain other y (conjugate x) b
+-- pair number i, of the points x and y, is seen at two places
+pub record IsPairSeen (pairing : Pairing) (most : ℕ) (gains : ℕ → Cpx) (i : ℕ) (x y a b : Cpx) : Type 0 where
+  pub first : IsSeenBy pairing.ports most gains (first_sent pairing i x y) a
+  pub second : IsSeenBy pairing.ports most gains (second_sent pairing i x y) b
 
 -- four values speak for four bits
 pub record SupportFour (least : ℕ) (b c d e : Bool) (values : List ℤ) : Type 0 where
@@ -37,53 +53,50 @@ pub record SupportFour (least : ℕ) (b c d e : Bool) (values : List ℤ) : Type
   pub third : Supports least d (slice_index_or values 2 (pos 0))
   pub fourth : Supports least e (slice_index_or values 3 (pos 0))
 
--- the four values of a pair of points speak for their bits with size 16 and more, whatever subcarrier the channels are
--- taken at
-abbrev pub PairValuesSpeak : Type 0
-PairValuesSpeak =
-    (gain other : Cpx) (slot : SeenSlot) (k : ℕ) (b c d e : Bool) (at_first at_second : Cpx) →
-    ArePortsSeen gain other slot →
-    IsPairSeen gain other (point b c) (point d e) at_first at_second →
-    SupportFour 16 b c d e (values_seen slot k at_first at_second)
+-- the four values of a pair of points that is seen with these gains speak for its bits with size `least` and more,
+-- whatever subcarrier the channels are taken at
+abbrev pub SpeakWith : (ℕ → Cpx) → Pairing → ℕ → ℕ → Type 0
+SpeakWith gains pairing most least =
+    (slot : SeenSlot) (i k : ℕ) (b c d e : Bool) (at_first at_second : Cpx) →
+    ArePortsSeen pairing.ports most gains slot →
+    IsPairSeen pairing most gains i (point b c) (point d e) at_first at_second →
+    SupportFour least b c d e (seen_by pairing i slot k at_first at_second)
 
 -- ---- slots of a recording
 
--- the seven symbols of a slot are received from two ports with one gain each, each from its place on, and hold the
--- reference signals of both ports; each port sends nothing at those of the other
-pub record IsSlotReceivedOfTwo (recording : List Sample) (starts : ℕ → ℕ) (grids others : ℕ → ℕ → Cpx)
-    (slot : SeenSlot) : Type 0 where
+-- the seven symbols of a slot are received from so many ports with these gains, each from its place on, and hold the
+-- reference signals of all ports; each port sends nothing at those of the others
+pub record IsSlotReceived (ports share : ℕ) (gains : ℕ → Cpx) (recording : List Sample) (starts : ℕ → ℕ)
+    (grids : ℕ → ℕ → ℕ → Cpx) (slot : SeenSlot) : Type 0 where
   pub eps : ℕ
-  pub gain : Cpx
-  pub other : Cpx
   pub seen : (l : ℕ) → l < 7 → slice_index_or slot.symbols l [] ≡ seen_symbol recording (starts l)
-  pub amplitudes : (l : ℕ) → l < 7 → AreAmplitudes (grids l)
-  pub other_amplitudes : (l : ℕ) → l < 7 → AreAmplitudes (others l)
+  pub amplitudes : (port l : ℕ) → port < ports → l < 7 → AreAmplitudes (grids port l)
   pub received : (l : ℕ) → l < 7 →
-      IsReceivedFromTwo eps gain other (grids l) (others l) (samples_from recording (starts l))
-  pub references : (i : ℕ) → i < 24 →
-      grids (pattern_symbol port_0 slot.identity i) (pilot_subcarrier slot.identity i)
-      ≡ pattern_sent port_0 slot.identity slot.number i
-  pub other_silent : (i : ℕ) → i < 24 →
-      others (pattern_symbol port_0 slot.identity i) (pilot_subcarrier slot.identity i) ≡ nothing
-  pub other_references : (i : ℕ) → i < 24 →
-      others (pattern_symbol port_1 slot.identity i) (pilot_subcarrier slot.identity i)
-      ≡ pattern_sent port_1 slot.identity slot.number i
-  pub silent : (i : ℕ) → i < 24 →
-      grids (pattern_symbol port_1 slot.identity i) (pilot_subcarrier slot.identity i) ≡ nothing
+      IsReceivedBy ports share eps gains (λ port. grids port l) (samples_from recording (starts l))
+  pub pilots : (port i other : ℕ) → port < ports → i ≤ (line_of port slot).last → other < ports →
+      grids other ((line_of port slot).symbol i) (line_place (line_of port slot) i)
+      ≡ only port ((line_of port slot).sent i) other
 
--- two places carry a pair of points
-pub record CarryPair (grids others : ℕ → ℕ → Cpx) (p q : Place) (x y : Cpx) : Type 0 where
-  pub first : grids (p.symbol % 7) p.k ≡ x
-  pub second : grids (q.symbol % 7) q.k ≡ y
-  pub other_first : others (p.symbol % 7) p.k ≡ negated (conjugate y)
-  pub other_second : others (q.symbol % 7) q.k ≡ conjugate x
+-- two places carry pair number i, of the points x and y
+pub record CarryPair (pairing : Pairing) (grids : ℕ → ℕ → ℕ → Cpx) (i : ℕ) (p q : Place) (x y : Cpx) : Type 0 where
+  pub first : (port : ℕ) → port < pairing.ports → grids port (p.symbol % 7) p.k ≡ first_sent pairing i x y port
+  pub second : (port : ℕ) → port < pairing.ports → grids port (q.symbol % 7) q.k ≡ second_sent pairing i x y port
 
--- where a slot is received from two ports, the four values of two places that carry a pair of points speak for their
+-- where a slot is received with these gains, the four values of two places that carry a pair of points speak for their
 -- bits
-abbrev pub ReceivedPairSpeaks : Type 0
-ReceivedPairSpeaks =
-    (recording : List Sample) (starts : ℕ → ℕ) (grids others : ℕ → ℕ → Cpx) (slot : SeenSlot) (p q : Place)
+abbrev pub SpeakReceivedWith : (ℕ → Cpx) → Pairing → ℕ → ℕ → Type 0
+SpeakReceivedWith gains pairing share least =
+    (recording : List Sample) (starts : ℕ → ℕ) (grids : ℕ → ℕ → ℕ → Cpx) (slot : SeenSlot) (i : ℕ) (p q : Place)
     (b c d e : Bool) →
-    IsSlotReceivedOfTwo recording starts grids others slot → p.k < 72 → q.k < 72 →
-    CarryPair grids others p q (point b c) (point d e) →
-    SupportFour 16 b c d e (pair_values slot p q)
+    IsSlotReceived pairing.ports share gains recording starts grids slot → p.k < 72 → q.k < 72 →
+    CarryPair pairing grids i p q (point b c) (point d e) →
+    SupportFour least b c d e (pair_values pairing i slot p q)
+
+-- ---- two ports
+
+-- the values of pairs speak with size 16 and more, whatever the gains are
+abbrev pub PairValuesSpeak : Type 0
+PairValuesSpeak = (gains : ℕ → Cpx) → SpeakWith gains over_two 1024 16
+
+abbrev pub ReceivedPairSpeaks : Type 0
+ReceivedPairSpeaks = (gains : ℕ → Cpx) → SpeakReceivedWith gains over_two 4 16

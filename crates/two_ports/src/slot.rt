@@ -7,9 +7,9 @@ ghost use Rattle.crs.specs.Reference.{port_0, port_1};
 ghost use Rattle.lte_types.specs.declared.carrier.Carrier.TheVariants.{TwoPorts};
 ghost use Rattle.soft_bits.specs.Soft.{SeenSlot, AreSmall, seen_at, pattern_pilot, pattern_channel};
 ghost use Rattle.two_ports.specs.Kept.{IsPairKept};
-ghost use Rattle.two_ports.specs.Pairs.{pilots_energy, paired_values};
+ghost use Rattle.two_ports.specs.Pairs.{over_two, pilots_energy, paired_values};
 
-use crate::pairs::fill_pairs;
+use crate::pairs::{PairedSlot, fill_pairs};
 use crs::Pattern;
 use cs_num::Cpx;
 use grid_map::Place;
@@ -108,6 +108,31 @@ impl PairSlot {
         ensures value { result ≡ pilots_energy self.now }
         ensures few { result ≤ 48 * 2 ^ 51 }
     {
+        self.energy
+    }
+}
+
+impl PairedSlot for PairSlot {
+    ghost seen_as = { λ s. s };
+
+    ghost pairing = { over_two };
+
+    fn ports_of(i: usize) -> (u8, u8) {
+        (0, 1)
+    }
+
+    fn at(&self, symbol: u8, k: u8) -> Cpx {
+        self.seen(symbol, k)
+    }
+
+    fn channel_of(&self, port: u8, k: u8) -> Cpx {
+        match port {
+            0 => self.first_channel(k),
+            _ => self.second_channel(k),
+        }
+    }
+
+    fn power(&self) -> u64 {
         self.energy
     }
 }

@@ -5,7 +5,7 @@ ghost use Rattle.finite.specs.Sizes.{AllWithin};
 ghost use Rattle.cs_num.specs.Complex.{IsWithin};
 ghost use Rattle.two_ports.specs.Pairs.{first_of, second_of, values_seen, point_values as values_of_points};
 
-use crate::PairSlot;
+use crate::{PairSlot, PairedSlot};
 use cs_num::Cpx;
 use soft_bits::soft_pairs;
 
@@ -20,8 +20,8 @@ pub fn pair(slot: &PairSlot, k: u8, a: Cpx, b: Cpx) -> [i16; 4]
     ensures values { result ≡ values_seen slot.now k a b }
     ensures range { AllWithin 127 result }
 {
-    let h = slot.first_channel(k);
-    let g = slot.second_channel(k);
+    let h = slot.channel_of(0, k);
+    let g = slot.channel_of(1, k);
     point_values(h, g, slot.energy(), a, b)
 }
 

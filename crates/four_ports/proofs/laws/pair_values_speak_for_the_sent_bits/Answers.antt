@@ -1,5 +1,4 @@
-use Rattle.four_ports.proofs.Values.{pair_values_speak}
-use Rattle.four_ports.proofs.ReceivedPairs.{received_pair_speaks}
+use Rattle.four_ports.proofs.Values.{pair_values_speak, received_pair_speaks}
 use Rattle.four_ports.proofs.laws.pair_values_speak_for_the_sent_bits.Goals as goal
 
 pub returns-clause-seen : goal.returns-clause-seen

@@ -5,4 +5,5 @@ use Rattle.two_ports.specs.Pairs.{pair_at}
 use Rattle.two_ports.proofs.pairs.fill_pairs.Given as goal
 
 abbrev pub invariant-loop-i : goal.invariant-loop-i
-invariant-loop-i l = take (4 * l.i) l.values ≡ joined_below l.i (pair_at (in_subframe l.first l.second) l.places)
+invariant-loop-i g l =
+    take (4 * l.i) l.values ≡ joined_below l.i (pair_at g.S.PairedSlot.pairing (in_subframe (g.S.PairedSlot.seen_as l.first) (g.S.PairedSlot.seen_as l.second)) l.places)

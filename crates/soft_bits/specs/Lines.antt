@@ -1,0 +1,82 @@
+-- The pilots of an antenna port of a slot with the normal prefix as a line of data, and the channel along it: the only
+-- place with cases by port (TS 36.211 section 6.10.1.2). (own)
+use Rattle.std.specs.Prelude.{ℕ, zero, suc, ◌+◌, ◌*◌, ◌/◌, ◌%◌}
+use Rattle.finite.specs.Sums.{total_below}
+use Rattle.cs_num.specs.declared.Cpx.{Cpx}
+use Rattle.cs_num.specs.Complex.{times, conjugate, multiple, square}
+use Rattle.crs.specs.declared.pattern.Pattern.{Pattern}
+use Rattle.crs.specs.declared.upper.UpperPort.{UpperPort}
+use Rattle.crs.specs.declared.upper.UpperPort.TheVariants.{Third, Fourth}
+use Rattle.crs.specs.Reference.{port_0, port_1, upper_first, reference}
+use Rattle.soft_bits.specs.Estimate.{place_by, line_by}
+use Rattle.soft_bits.specs.Soft.{SeenSlot, seen_at, pattern_symbol, pattern_sent}
+
+-- a line of pilots: the subcarriers from one to the next, the number of the last, the subcarrier of the first, the
+-- symbol of the slot that has pilot i, and what is sent there
+pub record Line : Type 0 where
+  pub step : ℕ
+  pub last : ℕ
+  pub first : ℕ
+  pub symbol : ℕ → ℕ
+  pub sent : ℕ → Cpx
+
+-- ports 0 and 1 have 24 pilots, every third subcarrier of two symbols together
+abbrev pub lower_line : Pattern → SeenSlot → Line
+lower_line pattern slot = record {
+  step = 3;
+  last = 23;
+  first = slot.identity % 3;
+  symbol = pattern_symbol pattern slot.identity;
+  sent = pattern_sent pattern slot.identity slot.number;
+}
+
+-- ports 2 and 3 have 12, every sixth subcarrier of the slot's second symbol
+abbrev pub upper_line : UpperPort → SeenSlot → Line
+upper_line port slot = record {
+  step = 6;
+  last = 11;
+  first = upper_first port slot.identity slot.number;
+  symbol = λ m. 1;
+  sent = reference slot.identity slot.number 1;
+}
+
+-- the line of the port with a number
+abbrev pub line_of : ℕ → SeenSlot → Line
+line_of zero = lower_line port_0
+line_of (suc zero) = lower_line port_1
+line_of (suc (suc zero)) = upper_line Third
+line_of (suc (suc (suc n))) = upper_line Fourth
+
+-- ---- any line
+
+-- the subcarrier of pilot i, what was seen there, and the channel there, times the square of a reference's size
+abbrev pub line_place : Line → ℕ → ℕ
+line_place line i = place_by line.step line.first i
+
+abbrev pub line_seen : Line → SeenSlot → ℕ → Cpx
+line_seen line slot i = seen_at slot (line.symbol i) (line_place line i)
+
+abbrev pub line_pilot : Line → SeenSlot → ℕ → Cpx
+line_pilot line slot i = times (line_seen line slot i) (conjugate (line.sent i))
+
+-- the channel at a subcarrier, as many times as there are subcarriers from pilot to pilot
+unfoldable pub line_channel : Line → SeenSlot → ℕ → Cpx
+line_channel line slot k = line_by line.step line.last (line_pilot line slot) line.first k
+
+-- the energy of the pilots
+unfoldable pub line_energy : Line → SeenSlot → ℕ
+line_energy line slot = total_below (line.last + 1) (λ i. square (line_seen line slot i))
+
+-- ---- several ports
+
+-- the channel of a port at a subcarrier, so many times
+abbrev pub port_channel : ℕ → ℕ → SeenSlot → ℕ → Cpx
+port_channel scale port slot k = multiple (scale / (line_of port slot).step) (line_channel (line_of port slot) slot k)
+
+-- the energy of the pilots of a port, as if it had 24: those of ports 2 and 3, which have 12, count twice
+abbrev pub port_energy : SeenSlot → ℕ → ℕ
+port_energy slot port = (line_of port slot).step / 3 * line_energy (line_of port slot) slot
+
+-- the energy of the pilots of the first so many ports
+unfoldable pub ports_energy : ℕ → SeenSlot → ℕ
+ports_energy ports slot = total_below ports (port_energy slot)

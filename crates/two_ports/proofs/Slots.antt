@@ -1,0 +1,106 @@
+-- The slots of a recording that is clean of the ports of a cell, whatever else they send: each of a whole frame is received as it was sent.
+use Rattle.std.proofs.Common.{◌≡◌, ℕ, ◌+◌, ◌*◌, ◌/◌, ◌%◌, ◌<◌, ◌≤◌, Bool, true, false, None, Some, nat_eq, inl, inr, arith, refl, sym, subst, ◌∙◌, List, [], length}
+use Rattle.std.specs.Prelude.{if◌then◌else◌, ◌⊎◌}
+use Rattle.finite.proofs.Lists.{values_below_at}
+use Rattle.cs_num.specs.declared.Cpx.{Cpx}
+use Rattle.cs_num.specs.declared.Sample.{Sample}
+use Rattle.cs_num.specs.Complex.{IsWithin, nothing, minus, sample_at, value_at}
+use Rattle.fold128.specs.Symbol.{useful_at}
+use Rattle.observe.specs.Seen.{seen_symbol}
+use Rattle.soft_bits.specs.Lines.{line_of, line_place}
+use Rattle.soft_bits.specs.Soft.{SeenSlot}
+use Rattle.soft_bits.proofs.Lines.{is_line}
+use Rattle.cell_tx.specs.declared.antenna.Port.{Port}
+use Rattle.cell_tx.specs.declared.cell.CellPlan.{CellPlan}
+use Rattle.cell_tx.specs.Grid.{port_element}
+use Rattle.cell_tx.specs.Emission.{mixed}
+use Rattle.cell_tx.specs.Ports.{port_symbols, is_own_reference, is_other_reference}
+use Rattle.cell_tx.specs.Rows.{port_reference_if}
+use Rattle.cell_tx.specs.Sent.{Elements}
+use Rattle.cell_tx.proofs.Elements.{element_of_reference}
+use Rattle.clean_air.specs.Load.{CarriesPlan, IsLoadedBy}
+use Rattle.clean_air.proofs.Carrying.{of_own_reference, of_other_reference}
+use Rattle.clean_air.proofs.SentSlots.{slot_grid, frame_is}
+use Rattle.clean_air.proofs.SentSymbols.{symbol_near}
+use Rattle.lte_types.specs.declared.carrier.Carrier.{Carrier}
+use Rattle.lte_types.specs.declared.numerology.Prefix.{Prefix}
+use Rattle.lte_types.specs.Numerology.{normal, symbols_of_slot, useful_start}
+use Rattle.lte_types.specs.Timing.{start_of, number_at_start}
+use Rattle.explain.specs.Frame.{IsWhole, frame_at, seen_slot}
+use Rattle.budget.specs.Received.{IsReceivedBy, samples_from}
+use Rattle.two_ports.specs.Pairs.{Pairing}
+use Rattle.two_ports.specs.Received.{IsSlotReceived}
+use Rattle.two_ports.proofs.Sending.{ArePorts, seven}
+
+-- ---- the reference signals
+
+-- a place with a reference signal is one of the port's own, or one of another's
+whose : (own other : Bool) (here value : Cpx) → (if own then Some here else (if other then Some nothing else None)) ≡ Some value → (own ≡ true) ⊎ (other ≡ true)
+whose true other here value e = inl refl
+whose false true here value e = inr refl
+whose false false here value e = absurd cc
+
+-- elements that carry the plan have there what it has
+carried : (port : Port) (plan : CellPlan) (grid : Elements) → port_symbols port ≡ 7 → CarriesPlan port plan grid → (number slot l k : ℕ) (value : Cpx) → l < 7 →
+    port_reference_if port plan.identity slot l k ≡ Some value → slot_grid grid number slot l k ≡ value
+carried port plan grid seven carries number slot l k value inside is = same ∙ sym (element_of_reference port plan number (slot / 2) symbol k value there)
+  where
+    symbol : ℕ
+    symbol = 7 * (slot % 2) + l
+
+    -- by the symbol of the subframe
+    at : (P : ℕ → ℕ → Type 0) → P slot l → P (2 * (slot / 2) + (7 * (slot % 2) + l) / port_symbols port) ((7 * (slot % 2) + l) % port_symbols port)
+    at P here =
+        subst (λ n. P (2 * (slot / 2) + (7 * (slot % 2) + l) / n) ((7 * (slot % 2) + l) % n)) (sym seven)
+        (let row : (7 * (slot % 2) + l) % 7 ≡ l = omega (arith, inside) in
+        let back : 2 * (slot / 2) + (7 * (slot % 2) + l) / 7 ≡ slot = omega (arith, inside) in
+        subst (λ m. P (2 * (slot / 2) + (7 * (slot % 2) + l) / 7) m) (sym row) (subst (λ m. P m l) (sym back) here))
+
+    there : port_reference_if port plan.identity (2 * (slot / 2) + (7 * (slot % 2) + l) / port_symbols port) ((7 * (slot % 2) + l) % port_symbols port) k ≡ Some value
+    there = at (λ s row. port_reference_if port plan.identity s row k ≡ Some value) is
+
+    same : slot_grid grid number slot l k ≡ slot_grid (port_element port plan) number slot l k
+    same = elim (whose (is_own_reference port plan.identity slot l k) (is_other_reference port plan.identity slot l k) _ value is) [
+      | inl own ↦ of_own_reference port plan grid carries number (slot / 2) (7 * (slot % 2) + l) k (at (λ s row. is_own_reference port plan.identity s row k ≡ true) own)
+      | inr other ↦ of_other_reference port plan grid carries number (slot / 2) (7 * (slot % 2) + l) k (at (λ s row. is_other_reference port plan.identity s row k ≡ true) other)
+    ]
+
+-- ---- the slots
+
+module _ (pairing : Pairing) (share : ℕ) (carrier : Carrier) (port : ℕ → Port) (are : ArePorts pairing share carrier port)
+    (recording : List Sample) (plan : CellPlan) (grids : Port → Elements) (sfn offset : ℕ) (gains : List Cpx) (eps : ℕ) (clean : IsLoadedBy carrier recording plan grids sfn offset gains eps) where
+  -- where a whole useful part stands in the recording, it is received from all ports
+  received_at : (t j slot l : ℕ) → slot < 20 → l < 7 → t + 128 ≤ length recording → t + offset ≡ 19200 * j + useful_start normal 0 slot l →
+      IsReceivedBy pairing.ports share eps (value_at gains) (λ p. slot_grid (grids (port p)) ((sfn + j) % 1024) slot l) (samples_from recording t)
+  received_at t j slot l few row inside place = record {
+    sounds = are.sounds gains clean.gains_are;
+    quiet = are.quiet gains eps clean.bound;
+    near = λ n c. subst (λ (z : Cpx). IsWithin eps (minus (sample_at recording (t + n)) z))
+        (are.all (λ p. useful_at (slot_grid (grids p) ((sfn + j) % 1024) slot l) n) gains)
+        (subst (λ (prefix : Prefix). l < symbols_of_slot prefix → t + offset ≡ 19200 * j + useful_start prefix 0 slot l →
+        IsWithin eps (minus (sample_at recording (t + n)) (mixed carrier (λ p. useful_at (grids p ((sfn + j) % 1024) (slot / 2) (symbols_of_slot prefix * (slot % 2) + l)) n) gains))) are.prefix
+        (λ low at. symbol_near carrier recording plan grids sfn offset gains eps clean t j slot l n few low c inside at) row place);
+  }
+
+  -- each slot of a whole frame is received
+  pub each_slot_received : (j slot : ℕ) → IsWhole recording (start_of offset) j → slot < 20 →
+      IsSlotReceived pairing.ports share (value_at gains) recording (useful_start normal (frame_at (start_of offset) j) slot) (λ p. slot_grid (grids (port p)) ((number_at_start sfn offset + j) % 1024) slot)
+      (seen_slot recording (frame_at (start_of offset) j) slot plan.identity)
+  unfolding seen_slot
+  each_slot_received j slot whole few =
+      let number : ℕ = (number_at_start sfn offset + j) % 1024 in
+      let start : ℕ → ℕ = useful_start normal (frame_at (start_of offset) j) slot in
+      let n : ℕ = (if nat_eq offset 0 then 0 else 1) + j in
+      let frame = frame_is sfn offset j clean.number clean.within in
+      let seen : SeenSlot = seen_slot recording (frame_at (start_of offset) j) slot plan.identity in
+      record {
+        eps = eps;
+        seen = λ l inside. values_below_at (λ symbol. seen_symbol recording (start symbol)) 7 l [] inside;
+        amplitudes = λ p l below inside. (clean.carries (port p) (are.own p)).small number (slot / 2) (7 * (slot % 2) + l);
+        received = λ l inside. subst (λ m. IsReceivedBy pairing.ports share eps (value_at gains) (λ p. slot_grid (grids (port p)) m slot l) (samples_from recording (start l))) frame.number
+            (received_at (start l) n slot l few inside (omega (arith, whole, inside, few)) (omega (arith, frame.place)));
+        pilots = λ p i q below last other.
+            let row = (is_line p seen).row i in
+            carried (port q) plan (grids (port q)) (seven pairing share carrier port are q) (clean.carries (port q) (are.own q)) number slot ((line_of p seen).symbol i) (line_place (line_of p seen) i) _ (omega (arith, row))
+            (are.reference seen p q i below other last);
+      }
