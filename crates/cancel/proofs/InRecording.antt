@@ -16,7 +16,7 @@ use Rattle.lte_types.specs.declared.frame.Half.TheVariants.{Zero}
 use Rattle.lte_types.specs.Timing.{start_of, number_at_start}
 use Rattle.lte_types.proofs.Timings.{same_offset, same_number}
 use Rattle.pss_search.specs.Correlation.{pss_grid, wave}
-use Rattle.cell_tx.specs.declared.cell.CellPlan.{CellPlan}
+use Rattle.cell_plan.specs.declared.cell.CellPlan.{CellPlan}
 use Rattle.cell_tx.specs.Grid.{element}
 use Rattle.cell_tx.specs.Sent.{Elements, sent}
 use Rattle.cell_tx.specs.Clean.{IsClean}
@@ -26,7 +26,7 @@ use Rattle.clean_air.specs.Load.{IsLoaded}
 use Rattle.clean_air.proofs.Carrying.{clean_is_loaded}
 use Rattle.clean_air.proofs.SentSymbols.{IsTruePlace}
 use Rattle.clean_air.proofs.Signals.{primary_received}
-use Rattle.cell_tx.specs.Pair.{gain_of}
+use Rattle.cell_plan.specs.Pair.{gain_of}
 use Rattle.cancel.specs.declared.subtracted.Subtracted.{Subtracted}
 use Rattle.cancel.specs.Gain.{IsCandidate, IsBest}
 use Rattle.cancel.specs.Laws.{IsGainSeen, AnswerTakesLoadedOff, AnswerTakesCleanOff}

@@ -4,8 +4,8 @@ use Rattle.std.proofs.Props.{props}
 use Rattle.cs_num.specs.declared.Cpx.{Cpx}
 use Rattle.cs_num.specs.declared.Sample.{Sample}
 use Rattle.cs_num.specs.Gain.{IsGain}
-use Rattle.cell_tx.specs.Pair.{gain_of}
-use Rattle.cell_tx.specs.declared.cell.CellPlan.{CellPlan}
+use Rattle.cell_plan.specs.Pair.{gain_of}
+use Rattle.cell_plan.specs.declared.cell.CellPlan.{CellPlan}
 use Rattle.cancel.specs.declared.subtracted.Subtracted.{Subtracted}
 use Rattle.cancel.specs.Laws.{IsOneSubtraction}
 use Rattle.cancel.specs.Residue.{estimate_at, greatest_left, residue_of, power_of, IsSubtracted}

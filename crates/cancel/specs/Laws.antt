@@ -6,7 +6,7 @@ use Rattle.cs_num.specs.Complex.{IsWithin, times, minus, square}
 use Rattle.cs_num.specs.Gain.{IsGain}
 use Rattle.sizes.specs.Sizes.{energy_below}
 use Rattle.sample_file.specs.Recording.{IsRecording}
-use Rattle.cell_tx.specs.declared.cell.CellPlan.{CellPlan}
+use Rattle.cell_plan.specs.declared.cell.CellPlan.{CellPlan}
 use Rattle.cancel.specs.declared.subtracted.Subtracted.{Subtracted}
 use Rattle.cancel.specs.Gain.{estimate, IsCandidate, IsBest, greatest_below}
 use Rattle.cancel.specs.Residue.{IsSubtraction, TakesLoadedOff, TakesCleanOff}

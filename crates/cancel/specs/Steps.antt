@@ -7,7 +7,7 @@ use Rattle.cs_num.specs.declared.Cpx.{Cpx}
 use Rattle.cs_num.specs.declared.Sample.{Sample}
 use Rattle.cs_num.specs.Complex.{minus, times, sample_at}
 use Rattle.cs_num.specs.Rounding.{nearest_sample}
-use Rattle.cell_tx.specs.Pair.{gain_of}
+use Rattle.cell_plan.specs.Pair.{gain_of}
 use Rattle.cancel.specs.declared.subtracted.Subtracted.{Subtracted}
 use Rattle.cancel.specs.Residue.{power_of}
 use Rattle.cancel.specs.declared.choosing.GainChoice.{GainChoice}

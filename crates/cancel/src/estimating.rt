@@ -8,7 +8,7 @@ ghost use Rattle.lte_types.specs.Numerology.{frame_length};
 ghost use Rattle.pss_search.specs.Correlation.{pss_grid, wave, wave_list};
 ghost use Rattle.cancel.specs.Residue.{estimate_at};
 
-use cell_tx::Cell;
+use cell_plan::Cell;
 use cs_num::{Cpx, Sample};
 use fold128::synth;
 use lte_types::Prefix;

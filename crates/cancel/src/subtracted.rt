@@ -2,9 +2,9 @@
 
 ghost use Rattle.std.specs.Prelude.{◌≡◌};
 ghost use Rattle.cs_num.specs.Gain.{IsGain};
-ghost use Rattle.cell_tx.specs.Pair.{gain_of};
+ghost use Rattle.cell_plan.specs.Pair.{gain_of};
 
-use cell_tx::gain_of_pair;
+use cell_plan::gain_of_pair;
 use cs_num::Gain;
 use sample_file::Recording;
 

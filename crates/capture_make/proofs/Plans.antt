@@ -8,10 +8,10 @@ use Rattle.dci.specs.Sizes.{column_2}
 use Rattle.sib1.specs.Text.{text_of}
 use Rattle.sib1.proofs.Texts.{text_of_is}
 use Rattle.sib1.proofs.Valid.{sib1_holds}
-use Rattle.cell_tx.specs.Transport.{coded_count, assigned_bits_of, is_resolvable}
-use Rattle.cell_tx.specs.Plan.{IsSendable, IsSendableBy, refusal_of}
-use Rattle.cell_tx.proofs.Sendable.{accepted_is_sendable_by, with_enough}
-use Rattle.cell_tx.proofs.WholeBlocks.{whole_is_resolvable}
+use Rattle.cell_plan.specs.Transport.{coded_count, assigned_bits_of, is_resolvable}
+use Rattle.cell_plan.specs.Plan.{IsSendable, IsSendableBy, refusal_of}
+use Rattle.cell_plan.proofs.Sendable.{accepted_is_sendable_by, with_enough}
+use Rattle.cell_plan.proofs.WholeBlocks.{whole_is_resolvable}
 use Rattle.capture_make.specs.Recipe.{plan, information}
 use Rattle.capture_make.proofs.Information.{has_text}
 

@@ -13,9 +13,10 @@ use Rattle.lte_types.specs.declared.carrier.Carrier.{Carrier}
 use Rattle.lte_types.specs.declared.carrier.Carrier.TheVariants.{OnePort, TwoPorts, LongPrefix, FourPorts}
 use Rattle.sample_file.specs.Recording.{IsRecording}
 use Rattle.cell_tx.specs.declared.antenna.PortOfFour.TheVariants.{Zero, One, Two, Three}
-use Rattle.cell_tx.specs.declared.emission.Emission.{Emission}
-use Rattle.cell_tx.specs.Clean.{IsClean, AreGains, AreGainsOfFour, HavePairs, AreGainsOf, ArePairedBy}
-use Rattle.cell_tx.specs.Pair.{gain_of}
+use Rattle.cell_plan.specs.declared.emission.Emission.{Emission}
+use Rattle.cell_plan.specs.Gains.{AreGains, AreGainsOfFour, HavePairs, AreGainsOf, ArePairedBy}
+use Rattle.cell_tx.specs.Clean.{IsClean}
+use Rattle.cell_plan.specs.Pair.{gain_of}
 use Rattle.cell_tx.specs.Emission.{received_by, emitted, emitted_samples}
 use Rattle.cell_tx.specs.Laws.{values_with, EmittedIsClean}
 use Rattle.cell_tx.proofs.Received.{received_by-small}

@@ -4,7 +4,7 @@ use Rattle.cs_num.specs.declared.Sample.{Sample}
 use Rattle.lte_types.specs.declared.carrier.Carrier.{Carrier}
 use Rattle.lte_types.specs.declared.carrier.Carrier.TheVariants.{OnePort}
 use Rattle.cell_tx.specs.Clean.{IsClean}
-use Rattle.cell_tx.specs.Pair.{gain_of}
+use Rattle.cell_plan.specs.Pair.{gain_of}
 use Rattle.cell_tx.specs.Emission.{received_by, IsCleanBy}
 use Rattle.cell_tx.specs.Laws.{values_with}
 use Rattle.capture_make.specs.declared.made.Made.{Made}

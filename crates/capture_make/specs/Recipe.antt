@@ -13,8 +13,8 @@ use Rattle.lte_types.specs.declared.si_message.SiMessage.{SiMessage}
 use Rattle.lte_types.specs.declared.sib1.Sib1.{Sib1}
 use Rattle.cell_tx.specs.declared.antenna.PortOfFour.{PortOfFour}
 use Rattle.cell_tx.specs.declared.antenna.PortOfFour.TheVariants.{Zero, One, Two, Three}
-use Rattle.cell_tx.specs.declared.cell.CellPlan.{CellPlan}
-use Rattle.cell_tx.specs.Clean.{IsAllowedBy}
+use Rattle.cell_plan.specs.declared.cell.CellPlan.{CellPlan}
+use Rattle.cell_plan.specs.Gains.{IsAllowedBy}
 
 -- ---- the cell
 

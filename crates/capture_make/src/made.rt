@@ -5,7 +5,7 @@ ghost use Rattle.lte_types.specs.declared.carrier.Carrier.{Carrier as AnyCarrier
 ghost use Rattle.lte_types.specs.declared.carrier.Carrier.TheVariants.{OnePort};
 ghost use Rattle.cs_num.specs.Complex.{IsWithin, value_of};
 ghost use Rattle.sample_file.specs.Recording.{IsRecording};
-ghost use Rattle.cell_tx.specs.Plan.{IsSendable, IsSendableBy};
+ghost use Rattle.cell_plan.specs.Plan.{IsSendable, IsSendableBy};
 ghost use Rattle.cell_tx.specs.Emission.{emitted_samples};
 ghost use Rattle.capture_make.specs.Recipe.{plan, IsBound};
 ghost use Rattle.capture_make.specs.Errors.{with_errors as with_errors_of};
@@ -14,7 +14,8 @@ ghost use Rattle.capture_make.specs.declared.made.Made.{Made as MadeValue};
 
 use crate::errors::add_errors;
 use crate::recipe::{bound, emission};
-use cell_tx::{Emission, Transmission, emit, sum_is_clean};
+use cell_plan::{Emission, Transmission};
+use cell_tx::{emit, sum_is_clean};
 use cs_num::Sample;
 use lte_types::Carrier;
 use sample_file::Recording;

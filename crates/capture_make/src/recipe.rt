@@ -4,13 +4,14 @@ ghost use Rattle.std.specs.Prelude.{◌≡◌, ◌⊎◌, ◌≤◌, ◌%◌, []
 ghost use Rattle.lte_types.specs.declared.carrier.Carrier.TheVariants.{OnePort, TwoPorts, FourPorts};
 ghost use Rattle.cs_num.specs.Complex.{square};
 ghost use Rattle.lte_types.specs.Codes.{duration as duration_with, resource as resource_with};
-ghost use Rattle.cell_tx.specs.Clean.{IsCount};
-ghost use Rattle.cell_tx.specs.Plan.{refusal_of};
+ghost use Rattle.cell_plan.specs.Gains.{IsCount};
+ghost use Rattle.cell_plan.specs.Plan.{refusal_of};
 ghost use Rattle.capture_make.specs.Recipe.{network, message as message_of, information as information_of};
 ghost use Rattle.capture_make.specs.Recipe.{plan as plan_of, number, offset, sample_count, gain as gain_with};
 ghost use Rattle.capture_make.specs.Recipe.{first_gain, second_gain, gain_of_four, gains as gains_of, IsBound};
 
-use cell_tx::{Cell, CellPlan, Emission, PortOfFour};
+use cell_plan::{Cell, CellPlan, Emission};
+use cell_tx::PortOfFour;
 use cs_num::{Cpx, Gain};
 use lte_types::{
     Carrier, Duration, Mnc, Plmn, Plmns, Resource, Schedule, Sfn, SiMessage, Sib1, Sibs, Timing,

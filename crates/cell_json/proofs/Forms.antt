@@ -10,7 +10,7 @@ use Rattle.serde_json.specs.Read.{read as value_of_text}
 use Rattle.serde_json.specs.View.{items_view}
 use Rattle.serde_json.specs.declared.value.Value.{Value}
 use Rattle.lte_types.specs.declared.carrier.Carrier.{Carrier}
-use Rattle.cell_tx.specs.declared.error.CellError.TheVariants.{Form}
+use Rattle.cell_plan.specs.declared.error.CellError.TheVariants.{Form}
 use Rattle.cell_json.specs.Kinds.{key_count}
 use Rattle.cell_json.specs.Reading.{json_of, refusal_of, refusal_by}
 use Rattle.cell_json.specs.Description.{pair_in}

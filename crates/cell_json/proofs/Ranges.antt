@@ -14,16 +14,16 @@ use Rattle.lte_types.specs.declared.carrier.Carrier.TheVariants.{OnePort, TwoPor
 use Rattle.lte_types.specs.declared.sib1.Sib1.{Sib1}
 use Rattle.lte_types.specs.Ranges.{IsValid}
 use Rattle.lte_types.specs.Timing.{IsOffset}
-use Rattle.cell_tx.specs.declared.cell.CellPlan.{CellPlan}
-use Rattle.cell_tx.specs.declared.emission.Emission.{Emission}
-use Rattle.cell_tx.specs.declared.error.CellError.{CellError}
-use Rattle.cell_tx.specs.declared.error.CellError.TheVariants.{Form, Sfn, Offset, Samples, Gain, Sib1Range}
-use Rattle.cell_tx.specs.declared.transmission.Transmission.{Transmission}
-use Rattle.cell_tx.specs.Conditions.{Condition, condition, first_failed}
-use Rattle.cell_tx.specs.Plan.{IsSendable, IsSendableBy, refusal_of}
-use Rattle.cell_tx.specs.Clean.{AreGainsOf}
-use Rattle.cell_tx.specs.Pair.{gain_of}
-use Rattle.cell_tx.proofs.Sendable.{accepted_is_sendable_by, sendable_with_one}
+use Rattle.cell_plan.specs.declared.cell.CellPlan.{CellPlan}
+use Rattle.cell_plan.specs.declared.emission.Emission.{Emission}
+use Rattle.cell_plan.specs.declared.error.CellError.{CellError}
+use Rattle.cell_plan.specs.declared.error.CellError.TheVariants.{Form, Sfn, Offset, Samples, Gain, Sib1Range}
+use Rattle.cell_plan.specs.declared.transmission.Transmission.{Transmission}
+use Rattle.cell_plan.specs.Conditions.{Condition, condition, first_failed}
+use Rattle.cell_plan.specs.Plan.{IsSendable, IsSendableBy, refusal_of}
+use Rattle.cell_plan.specs.Gains.{AreGainsOf}
+use Rattle.cell_plan.specs.Pair.{gain_of}
+use Rattle.cell_plan.proofs.Sendable.{accepted_is_sendable_by, sendable_with_one}
 use Rattle.cell_json.specs.Kinds.{is_between}
 use Rattle.cell_json.specs.Information.{sib1_in}
 use Rattle.cell_json.specs.Description.{is_gain, are_gains, has_form, number_at, gains_at, sib1_at, in_field, plan_of, cell_conditions, conditions}

@@ -5,9 +5,9 @@ use Rattle.serde_json.specs.Data.{Data}
 use Rattle.cs_num.specs.declared.Cpx.{Cpx}
 use Rattle.lte_types.specs.declared.carrier.Carrier.{Carrier}
 use Rattle.lte_types.specs.declared.sib1.Sib1.{Sib1}
-use Rattle.cell_tx.specs.declared.error.CellError.TheVariants.{Form}
-use Rattle.cell_tx.specs.Conditions.{first_failed}
-use Rattle.cell_tx.specs.Plan.{conditions_of, refusal_of}
+use Rattle.cell_plan.specs.declared.error.CellError.TheVariants.{Form}
+use Rattle.cell_plan.specs.Conditions.{first_failed}
+use Rattle.cell_plan.specs.Plan.{conditions_of, refusal_of}
 use Rattle.cell_json.specs.declared.description.Sending.{Sending}
 use Rattle.cell_json.specs.Kinds.{is_between}
 use Rattle.cell_json.specs.Description.{are_gains, has_form, gains_at, sib1_at, plan_of, cell_conditions, conditions}

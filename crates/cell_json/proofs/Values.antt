@@ -5,8 +5,8 @@ use Rattle.std.proofs.lemmas.Option.{slice_get_within}
 use Rattle.serde_json.specs.Data.{Data}
 use Rattle.lte_types.specs.declared.sib1.Sib1.{Sib1}
 use Rattle.dci.specs.Sizes.{size_of, column_2, column_3}
-use Rattle.cell_tx.specs.declared.cell.CellPlan.{CellPlan}
-use Rattle.cell_tx.specs.Plan.{IsSendable}
+use Rattle.cell_plan.specs.declared.cell.CellPlan.{CellPlan}
+use Rattle.cell_plan.specs.Plan.{IsSendable}
 use Rattle.cell_json.specs.Kinds.{is_between}
 use Rattle.cell_json.specs.Description.{in_field, number_at, sib1_at, plan_of}
 use Rattle.cell_json.specs.Reading.{HasValues}

@@ -16,11 +16,11 @@ use Rattle.lte_types.specs.declared.resource.Resource.TheVariants.{OneSixth}
 use Rattle.lte_types.specs.declared.sib1.Sib1.{Sib1}
 use Rattle.lte_types.specs.Codes.{duration_named, resource_named}
 use Rattle.lte_types.specs.Numerology.{least_samples, most_samples}
-use Rattle.cell_tx.specs.declared.cell.CellPlan.{CellPlan}
-use Rattle.cell_tx.specs.declared.error.CellError.TheVariants.{Form, Sfn, Offset, Samples, Gain, Sib1Range}
-use Rattle.cell_tx.specs.Conditions.{Condition, condition}
-use Rattle.cell_tx.specs.Plan.{conditions_of}
-use Rattle.cell_tx.specs.Clean.{power_of_four}
+use Rattle.cell_plan.specs.declared.cell.CellPlan.{CellPlan}
+use Rattle.cell_plan.specs.declared.error.CellError.TheVariants.{Form, Sfn, Offset, Samples, Gain, Sib1Range}
+use Rattle.cell_plan.specs.Conditions.{Condition, condition}
+use Rattle.cell_plan.specs.Plan.{conditions_of}
+use Rattle.cell_plan.specs.Gains.{power_of_four}
 use Rattle.cell_json.specs.Kinds.{whole_of, is_between, null_or, list_of, at_key, has, has_exactly, object_of}
 use Rattle.cell_json.specs.Information.{sib1_in}
 

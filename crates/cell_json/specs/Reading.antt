@@ -5,13 +5,13 @@ use Rattle.serde_json.specs.Data.{Data}
 use Rattle.serde_json.specs.Read.{read as value_of_text}
 use Rattle.lte_types.specs.declared.carrier.Carrier.{Carrier}
 use Rattle.lte_types.specs.declared.carrier.Carrier.TheVariants.{OnePort}
-use Rattle.cell_tx.specs.declared.cell.CellPlan.{CellPlan}
-use Rattle.cell_tx.specs.declared.emission.Emission.{Emission}
-use Rattle.cell_tx.specs.declared.error.CellError.{CellError}
-use Rattle.cell_tx.specs.declared.error.CellError.TheVariants.{Form}
-use Rattle.cell_tx.specs.declared.transmission.Transmission.{Transmission}
-use Rattle.cell_tx.specs.Pair.{gain_of}
-use Rattle.cell_tx.specs.Conditions.{first_failed}
+use Rattle.cell_plan.specs.declared.cell.CellPlan.{CellPlan}
+use Rattle.cell_plan.specs.declared.emission.Emission.{Emission}
+use Rattle.cell_plan.specs.declared.error.CellError.{CellError}
+use Rattle.cell_plan.specs.declared.error.CellError.TheVariants.{Form}
+use Rattle.cell_plan.specs.declared.transmission.Transmission.{Transmission}
+use Rattle.cell_plan.specs.Pair.{gain_of}
+use Rattle.cell_plan.specs.Conditions.{first_failed}
 use Rattle.cell_json.specs.declared.error.JsonError.{JsonError}
 use Rattle.cell_json.specs.declared.error.JsonError.TheVariants.{Cell, OutOfMemory}
 use Rattle.cell_json.specs.Description.{number_at, gain_at, gains_at, duration_at, resource_at, sib1_at, conditions}

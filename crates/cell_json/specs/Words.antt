@@ -1,6 +1,6 @@
 -- What a description that was not read is answered with. (own)
 use Rattle.std.specs.Prelude.{ℕ, List, codes}
-use Rattle.cell_tx.specs.Words.{refusal_text}
+use Rattle.cell_plan.specs.Words.{refusal_text}
 use Rattle.cell_json.specs.declared.error.JsonError.{JsonError}
 use Rattle.cell_json.specs.declared.error.JsonError.TheVariants.{Cell, OutOfMemory}
 

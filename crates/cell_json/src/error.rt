@@ -3,7 +3,7 @@
 ghost use Rattle.std.specs.Prelude.{Some};
 ghost use Rattle.cell_json.specs.Words.{error_text};
 
-use cell_tx::CellError;
+use cell_plan::CellError;
 use std::fmt;
 use thiserror::Error;
 

@@ -11,7 +11,7 @@ use crate::JsonError;
 use crate::description::{Description, description_of};
 use crate::information::sib1_in;
 use crate::kinds::within;
-use cell_tx::{Cell, CellError, CellPlan, Emission, Transmission};
+use cell_plan::{Cell, CellError, CellPlan, Emission, Transmission};
 use cs_num::Cpx;
 use lte_types::{Carrier, LEAST_SAMPLES, MOST_SAMPLES, Sfn, Sib1, Timing};
 use serde_json::Value;

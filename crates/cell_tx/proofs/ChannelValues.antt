@@ -17,7 +17,7 @@ use Rattle.grid_map.proofs.LongOrder.{length-long_places}
 use Rattle.grid_map.proofs.Pieces.{length-pcfich_places}
 use Rattle.cell_tx.specs.declared.antenna.Port.{Port}
 use Rattle.cell_tx.specs.declared.antenna.Port.TheVariants.{Only, First, Second, Long, OfFour}
-use Rattle.cell_tx.specs.declared.cell.CellPlan.{CellPlan}
+use Rattle.cell_plan.specs.declared.cell.CellPlan.{CellPlan}
 use Rattle.cell_tx.specs.Ports.{is_two, sent_point}
 use Rattle.cell_tx.specs.Block.{port_point}
 use Rattle.cell_tx.specs.Control.{indicator_point, control_places, control_point}

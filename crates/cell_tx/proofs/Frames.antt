@@ -14,7 +14,7 @@ use Rattle.grid_map.specs.Broadcast.{is_pbch}
 use Rattle.cell_tx.specs.declared.antenna.Port.{Port}
 use Rattle.cell_tx.specs.declared.antenna.Port.TheVariants.{Only, First, Second, Long, OfFour}
 use Rattle.cell_tx.specs.declared.antenna.PortOfFour.{PortOfFour}
-use Rattle.cell_tx.specs.declared.cell.CellPlan.{CellPlan}
+use Rattle.cell_plan.specs.declared.cell.CellPlan.{CellPlan}
 use Rattle.cell_tx.specs.declared.layout.Carried.{Carried}
 use Rattle.cell_tx.specs.Ports.{port_prefix, has_control}
 use Rattle.cell_tx.specs.Grid.{is_broadcast, port_channel_value, port_element}

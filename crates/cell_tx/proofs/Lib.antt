@@ -9,14 +9,10 @@ pub mod OwnSymbols
 pub mod Mixing
 pub mod Pieces
 pub mod Advancing
-pub mod Sendable
-pub mod BlockRows
-pub mod WholeBlocks
 pub mod PlaceValues
 pub mod LoadBits
 pub mod BitPoints
-pub mod NewCells
 pub mod ChannelValues
 pub mod SignalSymbols
 pub mod SystemPlaces
-pub mod SystemWords
+pub mod Grants

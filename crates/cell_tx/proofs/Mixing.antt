@@ -16,7 +16,7 @@ use Rattle.cell_tx.specs.declared.source.Ports.TheVariants.{Alone, Both, AllFour
 use Rattle.cell_tx.specs.declared.source.Source.{Source}
 use Rattle.cell_tx.specs.Ports.{port_prefix}
 use Rattle.cell_tx.specs.Load.{sent_element}
-use Rattle.cell_tx.specs.Clean.{power_of_four}
+use Rattle.cell_plan.specs.Gains.{power_of_four}
 use Rattle.cell_tx.specs.Emission.{mixed}
 use Rattle.cell_tx.specs.Mixing.{mixed_by, AreGainsBy}
 use Rattle.cell_tx.specs.Emitting.{made, sent_in_frame, framed, AreChanged, added, FitSamples, AreSilent}

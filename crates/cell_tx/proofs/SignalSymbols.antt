@@ -21,7 +21,7 @@ use Rattle.grid_map.proofs.Kept.{any-filter}
 use Rattle.grid_map.proofs.Regions.{pcfich_inside, pdcch_inside}
 use Rattle.cell_tx.specs.declared.antenna.Port.{Port}
 use Rattle.cell_tx.specs.declared.antenna.Port.TheVariants.{Only, First, Second, Long, OfFour}
-use Rattle.cell_tx.specs.declared.cell.CellPlan.{CellPlan}
+use Rattle.cell_plan.specs.declared.cell.CellPlan.{CellPlan}
 use Rattle.cell_tx.specs.Control.{control_places}
 use Rattle.cell_tx.specs.Ports.{port_symbols, is_two}
 use Rattle.cell_tx.specs.Shared.{assigned_places}

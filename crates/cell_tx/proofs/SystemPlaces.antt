@@ -13,9 +13,9 @@ use Rattle.grid_map.proofs.Indexed.{pcfich_indexed, candidate_indexed, pdcch_car
 use Rattle.grid_map.proofs.Apart.{IsInRegion, IsAfterRegion, indicator_place, control_place, control_not_indicator, shared_place}
 use Rattle.cell_tx.specs.declared.antenna.Port.{Port}
 use Rattle.cell_tx.specs.declared.antenna.Port.TheVariants.{Only, First, Second, Long, OfFour}
-use Rattle.cell_tx.specs.declared.cell.CellPlan.{CellPlan}
-use Rattle.cell_tx.specs.Transport.{assigned_bits_of}
-use Rattle.cell_tx.specs.Plan.{IsSendableWith}
+use Rattle.cell_plan.specs.declared.cell.CellPlan.{CellPlan}
+use Rattle.cell_plan.specs.Transport.{assigned_bits_of}
+use Rattle.cell_plan.specs.Plan.{IsSendableWith}
 use Rattle.cell_tx.specs.Ports.{port_symbols, has_control, is_two, sent_point}
 use Rattle.cell_tx.specs.Control.{control_places, indicator_point, control_point}
 use Rattle.cell_tx.specs.Shared.{assigned_places, shared_point}

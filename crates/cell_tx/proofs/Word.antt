@@ -4,7 +4,7 @@ use Rattle.lte_types.specs.Codes.{duration_code, resource_code}
 use Rattle.cs_bits.specs.Numbers.{bits_of}
 use Rattle.cs_bits.specs.Checks.{crc16_of}
 use Rattle.cell_tx.specs.declared.antenna.Port.{Port}
-use Rattle.cell_tx.specs.declared.cell.CellPlan.{CellPlan}
+use Rattle.cell_plan.specs.declared.cell.CellPlan.{CellPlan}
 use Rattle.cell_tx.specs.Ports.{port_mask}
 use Rattle.dci.specs.Assignment.{riv_of}
 use Rattle.dci.specs.Fields.{system_information_rnti}

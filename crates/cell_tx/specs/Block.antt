@@ -13,7 +13,7 @@ use Rattle.conv_code.specs.Reading.{bit_of_item, item_of}
 use Rattle.grid_map.specs.Scrambling.{pbch_c_init}
 use Rattle.cell_tx.specs.declared.antenna.Port.{Port}
 use Rattle.cell_tx.specs.declared.antenna.Port.TheVariants.{Only}
-use Rattle.cell_tx.specs.declared.cell.CellPlan.{CellPlan}
+use Rattle.cell_plan.specs.declared.cell.CellPlan.{CellPlan}
 use Rattle.cell_tx.specs.Ports.{port_mask, port_block_bits}
 use Rattle.cell_tx.specs.Points.{scrambled, point_of}
 

@@ -10,8 +10,8 @@ use Rattle.grid_map.specs.Scrambling.{pcfich_c_init, pdcch_c_init, indicator_bit
 use Rattle.dci.specs.declared.grant.Grant.{Grant}
 use Rattle.dci.specs.Fields.{system_information_rnti}
 use Rattle.dci.specs.Format1A.{sent_word}
-use Rattle.cell_tx.specs.declared.cell.CellPlan.{CellPlan}
-use Rattle.cell_tx.specs.Transport.{block_size}
+use Rattle.cell_plan.specs.declared.cell.CellPlan.{CellPlan}
+use Rattle.cell_plan.specs.Transport.{block_size}
 use Rattle.cell_tx.specs.Points.{scrambled, point_of}
 use Rattle.cell_tx.specs.Block.{scrambled_bit}
 

@@ -11,12 +11,13 @@ use Rattle.lte_types.specs.declared.carrier.Carrier.TheVariants.{OnePort, TwoPor
 use Rattle.cell_tx.specs.declared.antenna.Port.{Port}
 use Rattle.cell_tx.specs.declared.antenna.Port.TheVariants.{Only, First, Second, Long, OfFour}
 use Rattle.cell_tx.specs.declared.antenna.PortOfFour.TheVariants.{Zero, One, Two, Three}
-use Rattle.cell_tx.specs.declared.cell.CellPlan.{CellPlan}
-use Rattle.cell_tx.specs.declared.emission.Emission.{Emission}
+use Rattle.cell_plan.specs.declared.cell.CellPlan.{CellPlan}
+use Rattle.cell_plan.specs.declared.emission.Emission.{Emission}
 use Rattle.cell_tx.specs.Ports.{port_prefix}
 use Rattle.cell_tx.specs.Load.{sent_element}
 use Rattle.cell_tx.specs.Sent.{prefix_sent}
-use Rattle.cell_tx.specs.Clean.{AreNear, AreGainsOf, IsAllowedBy}
+use Rattle.cell_plan.specs.Gains.{AreGainsOf, IsAllowedBy}
+use Rattle.cell_tx.specs.Clean.{AreNear}
 
 -- sample i of what a port sends from the frame numbered sfn on
 abbrev pub sent_by : Option ℕ → Port → CellPlan → ℕ → ℕ → Cpx

@@ -11,7 +11,7 @@ use Rattle.lte_types.specs.Carrier.{prefix_of}
 use Rattle.lte_types.specs.Numerology.{frame_length, symbols_of_slot}
 use Rattle.lte_types.specs.Timing.{number_of}
 use Rattle.cell_tx.specs.declared.antenna.Port.{Port}
-use Rattle.cell_tx.specs.declared.cell.CellPlan.{CellPlan}
+use Rattle.cell_plan.specs.declared.cell.CellPlan.{CellPlan}
 use Rattle.cell_tx.specs.declared.source.Source.{Source}
 use Rattle.cell_tx.specs.declared.frame_symbols.Symbols.{Symbols}
 use Rattle.cell_tx.specs.Ports.{carrier_of, port_prefix}

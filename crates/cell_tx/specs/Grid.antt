@@ -14,7 +14,7 @@ use Rattle.grid_map.specs.LongBroadcast.{long_places}
 use Rattle.grid_map.specs.Control.{pcfich_places}
 use Rattle.cell_tx.specs.declared.antenna.Port.{Port}
 use Rattle.cell_tx.specs.declared.antenna.Port.TheVariants.{Only, First, Second, Long, OfFour}
-use Rattle.cell_tx.specs.declared.cell.CellPlan.{CellPlan}
+use Rattle.cell_plan.specs.declared.cell.CellPlan.{CellPlan}
 use Rattle.cell_tx.specs.Ports.{port_symbols, port_slot, has_control, is_two, sent_point, sent_signal, is_own_reference}
 use Rattle.cell_tx.specs.Ports.{is_other_reference, port_reference}
 use Rattle.cell_tx.specs.Block.{port_point}

@@ -1,16 +1,12 @@
 -- Laws of what a cell sends.
-use Rattle.std.specs.Prelude.{◌≡◌, ◌↔◌, ℕ, ◌+◌, ◌-◌, ◌*◌, ◌/◌, ◌%◌, ◌<◌, ◌≤◌, true, Option, None, IsSome, List}
+use Rattle.std.specs.Prelude.{◌≡◌, ℕ, ◌+◌, ◌-◌, ◌*◌, ◌/◌, ◌%◌, ◌<◌, ◌≤◌, Option, List}
 use Rattle.cs_num.specs.declared.Sample.{Sample}
 use Rattle.cs_num.specs.Complex.{IsWithin, square, plus, times, sample_of}
 use Rattle.fold128.specs.Symbol.{useful_at}
 use Rattle.lte_types.specs.declared.carrier.Carrier.{Carrier}
-use Rattle.lte_types.specs.Ranges.{IsValid}
 use Rattle.lte_types.specs.declared.numerology.Prefix.{Prefix}
 use Rattle.lte_types.specs.Numerology.{frame_length, IsPrefix, prefix_length, symbols_of_slot, useful_start}
-use Rattle.dci.specs.Sizes.{size_of}
-use Rattle.cell_tx.specs.declared.cell.CellPlan.{CellPlan}
-use Rattle.cell_tx.specs.Transport.{is_whole, is_resolvable}
-use Rattle.cell_tx.specs.Plan.{IsSendable, IsSendableBy, refusal_of}
+use Rattle.cell_plan.specs.declared.cell.CellPlan.{CellPlan}
 use Rattle.cell_tx.specs.declared.antenna.Port.{Port}
 use Rattle.cell_tx.specs.Ports.{port_prefix}
 use Rattle.cell_tx.specs.Load.{sent_element}
@@ -19,25 +15,9 @@ use Rattle.finite.specs.Lists.{values_below}
 use Rattle.cs_num.specs.declared.Cpx.{Cpx}
 use Rattle.cs_num.specs.Gain.{IsGain}
 use Rattle.lte_types.specs.Timing.{IsOffset, start_of, number_at_start}
-use Rattle.cell_tx.specs.Clean.{IsCleanOf, IsClean, AreGains, IsAllowed, received_of_two, IsCleanOfTwo}
-use Rattle.cell_tx.specs.Clean.{AreGainsOf, IsAllowedBy}
+use Rattle.cell_plan.specs.Gains.{AreGains, IsAllowed, AreGainsOf, IsAllowedBy}
+use Rattle.cell_tx.specs.Clean.{IsCleanOf, IsClean, received_of_two, IsCleanOfTwo}
 use Rattle.cell_tx.specs.Emission.{received_by, IsCleanBy}
-
--- the plans that a carrier can send are those with a block of system information in its ranges in which no condition
--- fails
-abbrev pub AcceptedAreSendable : Type 0
-AcceptedAreSendable =
-    (carrier : Carrier) (plan : CellPlan) →
-    (IsValid plan.sib1 × (refusal_of carrier plan ≡ None)) ↔ IsSendableBy carrier plan
-
--- what any carrier can send one antenna port can
-abbrev pub OnePortSendsAll : Type 0
-OnePortSendsAll = (carrier : Carrier) (plan : CellPlan) → IsSendableBy carrier plan → IsSendable plan
-
--- where each coded bit is sent, the block can be resolved, whatever its text is
-abbrev pub WholeBlocksAreResolvable : Type 0
-WholeBlocksAreResolvable =
-    (plan : CellPlan) → IsSome (size_of plan.mcs plan.column) → is_whole plan ≡ true → is_resolvable plan ≡ true
 
 -- the useful part of symbol l of a slot, with either cyclic prefix, stands from its first sample on
 abbrev pub UsefulPartsStand : Type 0

@@ -1,7 +1,3 @@
-pub mod Conditions
-pub mod Words
-pub mod Transport
-pub mod Plan
 pub mod Ports
 pub mod Points
 pub mod Block
@@ -12,7 +8,6 @@ pub mod Sent
 pub mod Load
 pub mod Rows
 pub mod Sending
-pub mod Pair
 pub mod Clean
 pub mod Emission
 pub mod Mixing

@@ -5,7 +5,7 @@ use Rattle.std.specs.Prelude.{Some, None}
 use Rattle.cs_num.specs.declared.Cpx.{Cpx}
 use Rattle.gold.specs.Gold.{gold_bit}
 use Rattle.cell_tx.specs.declared.antenna.Port.{Port}
-use Rattle.cell_tx.specs.declared.cell.CellPlan.{CellPlan}
+use Rattle.cell_plan.specs.declared.cell.CellPlan.{CellPlan}
 use Rattle.cell_tx.specs.Ports.{port_symbols, port_slot, has_control, port_number, is_own_reference, is_other_reference}
 use Rattle.cell_tx.specs.Points.{point_of}
 use Rattle.cell_tx.specs.Grid.{has_system_information, has_broadcast, is_indicator, is_control, is_shared, port_element}

@@ -10,7 +10,7 @@ use Rattle.cell_tx.specs.declared.antenna.Port.TheVariants.{Only, Long}
 use Rattle.cell_tx.specs.declared.source.Ports.{Ports}
 use Rattle.cell_tx.specs.declared.source.Ports.TheVariants.{Alone, Both, AllFour}
 use Rattle.cell_tx.specs.Ports.{carrier_of}
-use Rattle.cell_tx.specs.Clean.{power_of_four}
+use Rattle.cell_plan.specs.Gains.{power_of_four}
 use Rattle.cell_tx.specs.Emission.{mixed}
 
 -- the ports of a carrier

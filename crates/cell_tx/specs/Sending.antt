@@ -6,8 +6,8 @@ use Rattle.cs_num.specs.declared.Sample.{Sample}
 use Rattle.cs_num.specs.Complex.{sample_of}
 use Rattle.cell_tx.specs.declared.grid.Signals.{Signals}
 use Rattle.cell_tx.specs.declared.samples.Sender.{Sender}
-use Rattle.cell_tx.specs.declared.transmission.Transmission.{Transmission}
-use Rattle.cell_tx.specs.Pair.{gain_of}
+use Rattle.cell_plan.specs.declared.transmission.Transmission.{Transmission}
+use Rattle.cell_plan.specs.Pair.{gain_of}
 use Rattle.cell_tx.specs.Ports.{port_prefix}
 use Rattle.cell_tx.specs.Load.{sent_element}
 use Rattle.cell_tx.specs.Rows.{first_sample}

@@ -8,7 +8,7 @@ use Rattle.lte_types.specs.declared.numerology.Prefix.{Prefix}
 use Rattle.lte_types.specs.Numerology.{frame_length, slot_length, useful_length, normal, symbols_of_slot}
 use Rattle.lte_types.specs.Numerology.{useful_start, symbol_of}
 use Rattle.lte_types.specs.Timing.{number_of}
-use Rattle.cell_tx.specs.declared.cell.CellPlan.{CellPlan}
+use Rattle.cell_plan.specs.declared.cell.CellPlan.{CellPlan}
 use Rattle.cell_tx.specs.Grid.{element}
 
 -- the elements of frames: by the number of the frame, the subframe, its symbol and the subcarrier

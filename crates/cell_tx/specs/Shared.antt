@@ -1,33 +1,16 @@
 -- The shared channel of a plan, which carries SystemInformationBlockType1 (PDSCH, TS 36.211 section 6.4, TS 36.212
 -- section 5.3.2).
-use Rattle.std.specs.Prelude.{◌≡◌, ℕ, Bool, false, List}
+use Rattle.std.specs.Prelude.{ℕ, Bool, false, List}
 use Rattle.cs_num.specs.declared.Cpx.{Cpx}
-use Rattle.turbo_code.specs.declared.encoder.Coded.{Coded}
-use Rattle.turbo_code.specs.Table.{IsSize}
-use Rattle.turbo_code.specs.Encoder.{coded}
 use Rattle.turbo_code.specs.Reading.{item_of, bit_of}
 use Rattle.grid_map.specs.declared.Place.{Place}
 use Rattle.grid_map.specs.Scrambling.{pdsch_c_init}
 use Rattle.grid_map.specs.Shared.{shared_places_of}
 use Rattle.dci.specs.Fields.{system_information_rnti}
-use Rattle.cell_tx.specs.declared.cell.CellPlan.{CellPlan}
-use Rattle.cell_tx.specs.Transport.{checked_size, shared_word, row_with}
+use Rattle.cell_plan.specs.declared.cell.CellPlan.{CellPlan}
+use Rattle.cell_plan.specs.Transport.{checked_size, shared_coded}
 use Rattle.cell_tx.specs.Points.{scrambled, point_of}
 use Rattle.cell_tx.specs.Control.{version_of}
-
--- ---- the coded block
-
--- the coded word of the transport block and its check
-unfoldable pub shared_coded : CellPlan → List (List Bool)
-shared_coded plan = coded (row_with (checked_size plan)) (shared_word plan)
-
--- K and the three streams are those of the coded word of a plan
-pub record IsCoded (plan : CellPlan) (word : Coded) : Type 0 where
-  pub size : IsSize word.k
-  pub k : word.k ≡ checked_size plan
-  pub d : word.d ≡ shared_coded plan
-
--- ---- the block as it is sent
 
 -- the places of the assigned resource blocks, with two antenna ports or one
 abbrev pub assigned_places : Bool → CellPlan → List Place

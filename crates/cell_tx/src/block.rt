@@ -8,8 +8,9 @@ ghost use Rattle.grid_map.specs.Scrambling.{pbch_c_init as c_init_of};
 ghost use Rattle.cell_tx.specs.Points.{point_of};
 ghost use Rattle.cell_tx.specs.Block.{master_word as master_word_of, scrambled_bit, port_word, port_point};
 
+use crate::Port;
 use crate::bits::put_bits;
-use crate::{Cell, Port};
+use cell_plan::Cell;
 use conv_code::{encode, match_out};
 use crs::point;
 use cs_bits::{Bits, crc16};

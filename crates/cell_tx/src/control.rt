@@ -10,9 +10,9 @@ ghost use Rattle.cell_tx.specs.Block.{coded_bit};
 ghost use Rattle.cell_tx.specs.Control.{indicator_point, version_of, grant_of, control_word};
 ghost use Rattle.cell_tx.specs.Control.{control_places, control_point};
 
-use crate::Cell;
 use crate::bits::put_bits;
 use crate::points::fill_points;
+use cell_plan::Cell;
 use conv_code::{encode, match_out};
 use cs_bits::{Bits, crc16};
 use cs_num::Cpx;

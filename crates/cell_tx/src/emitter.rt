@@ -14,7 +14,8 @@ use crate::frame_symbols::{SILENCE, Symbols, add_symbols, clear_symbols, symbols
 use crate::grid::Signals;
 use crate::layout::{Layout, Versions, layout_of, versions_of};
 use crate::source::{Ports, Source};
-use crate::{Emission, Port, PortOfFour};
+use crate::{Port, PortOfFour};
+use cell_plan::Emission;
 use cs_num::Sample;
 use lte_types::{FRAME_LENGTH, Sfn};
 use std::marker::Model;

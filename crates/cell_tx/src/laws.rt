@@ -1,20 +1,10 @@
 //! Laws of what a cell sends.
 
-ghost use Rattle.cell_tx.specs.Laws.{AcceptedAreSendable, OnePortSendsAll, WholeBlocksAreResolvable, UsefulPartsStand};
-ghost use Rattle.cell_tx.specs.Laws.{PrefixesRepeat, FramesFollow, FramesBeginAtStart, ElementsAreWithin};
-ghost use Rattle.cell_tx.specs.Laws.{ElementsAreSmall, SmallElementsMakeSmallSamples, SamplesAreSmall};
+ghost use Rattle.cell_tx.specs.Laws.{UsefulPartsStand, PrefixesRepeat, FramesFollow, FramesBeginAtStart};
+ghost use Rattle.cell_tx.specs.Laws.{ElementsAreWithin, ElementsAreSmall, SmallElementsMakeSmallSamples, SamplesAreSmall};
 ghost use Rattle.cell_tx.specs.Laws.{ReceivedWithErrorsIsClean, ReceivedWithErrorsFits, ReceivedIsClean};
 ghost use Rattle.cell_tx.specs.Laws.{ReceivedOfTwoIsClean, ReceivedOfTwoIsSmall, ReceivedOfTwoFits};
 ghost use Rattle.cell_tx.specs.Laws.{EmittedIsClean, EmittedIsSmall};
-
-/// The plans that `Cell::of` accepts for a carrier are those that it can send, and what any carrier can send one
-/// antenna port can. The block of a plan whose resource blocks carry each coded bit can always be resolved, so that
-/// the first part of `Punctured` is a case of the second.
-pub fn accepted_are_sendable()
-    ensures accepted { AcceptedAreSendable }
-    ensures one { OnePortSendsAll }
-    ensures whole { WholeBlocksAreResolvable }
-{}
 
 /// Where the useful parts of the symbols of a frame stand, and the prefixes before them, whatever its
 /// elements are (TS 36.211 section 6.12).

@@ -4,10 +4,11 @@ ghost use Rattle.std.specs.Prelude.{◌≡◌, true};
 ghost use Rattle.cell_tx.specs.Ports.{has_control};
 ghost use Rattle.cell_tx.specs.Rows.{broadcast_places, IsTableOf, IsLayout, IsCarried, AreVersions};
 
+use crate::Port;
 use crate::control::{Indicator, control_places, control_points, indicators};
 use crate::points::{PlaceTable, table_of};
 use crate::shared::{shared_places, shared_points};
-use crate::{Cell, Port};
+use cell_plan::Cell;
 use cs_num::Cpx;
 use grid_map::{long_places, pbch_places, pcfich_places};
 use lte_types::{CellId, Half, Sfn};
@@ -46,7 +47,7 @@ pub(crate) struct Versions {
 impl Layout {
     ghost use Rattle.std.specs.Prelude.{ℕ, ◌<◌, length};
     ghost use Rattle.finite.specs.Lists.{values_below};
-    ghost use Rattle.cell_tx.specs.declared.cell.CellPlan.{CellPlan as Plan};
+    ghost use Rattle.cell_plan.specs.declared.cell.CellPlan.{CellPlan as Plan};
     ghost use Rattle.cell_tx.specs.declared.antenna.Port.{Port as Antenna};
     ghost use Rattle.cell_tx.specs.Control.{indicator_point};
     ghost use Rattle.cell_tx.specs.Rows.{IsLayout};
@@ -134,7 +135,7 @@ pub(crate) fn versions_of(cell: &Cell, port: Port) -> Versions
 
 impl Versions {
     ghost use Rattle.std.specs.Prelude.{ℕ};
-    ghost use Rattle.cell_tx.specs.declared.cell.CellPlan.{CellPlan as Plan};
+    ghost use Rattle.cell_plan.specs.declared.cell.CellPlan.{CellPlan as Plan};
     ghost use Rattle.cell_tx.specs.Rows.{IsCarried, AreVersions};
 
     /// What a frame carries.

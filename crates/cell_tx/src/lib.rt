@@ -6,32 +6,23 @@
 mod antenna;
 mod bits;
 mod block;
-mod cell;
 mod channels;
 mod control;
-mod emission;
 mod emitter;
-mod error;
 mod frame_symbols;
 mod grid;
 mod laws;
 mod layout;
 mod load;
-mod pair;
 mod points;
 mod samples;
 mod shared;
 mod source;
-mod transmission;
 
 pub use antenna::{Port, PortOfFour};
-pub use cell::{Cell, CellPlan};
-pub use emission::Emission;
-pub use emitter::{Emitter, emit};
-pub use error::CellError;
-pub use laws::{
-    accepted_are_sendable, frames_stand, sent_is_clean, sizes, sum_is_clean, symbols_stand,
+pub use cell_plan::{
+    Cell, CellError, CellPlan, Emission, Transmission, accepted_are_sendable, gain_of_pair, pair_of,
 };
-pub use pair::{gain_of_pair, pair_of};
+pub use emitter::{Emitter, emit};
+pub use laws::{frames_stand, sent_is_clean, sizes, sum_is_clean, symbols_stand};
 pub use samples::{Sender, frame, port_sample, sample, send, send_all, sequence};
-pub use transmission::Transmission;

@@ -5,7 +5,7 @@ ghost use Rattle.finite.specs.Lists.{values_below};
 ghost use Rattle.cs_num.specs.Complex.{IsWithin, square, times, value_of, sample_of};
 ghost use Rattle.fold128.specs.Symbol.{useful_part};
 ghost use Rattle.lte_types.specs.Numerology.{frame_length, slot_length, useful_length, normal, symbol_of, most_samples};
-ghost use Rattle.cell_tx.specs.Pair.{gain_of};
+ghost use Rattle.cell_plan.specs.Pair.{gain_of};
 ghost use Rattle.cell_tx.specs.Emission.{sent_by};
 ghost use Rattle.cell_tx.specs.Ports.{port_prefix, port_symbols};
 ghost use Rattle.cell_tx.specs.Grid.{element};
@@ -17,7 +17,8 @@ use crate::emitter::put_all;
 use crate::grid::{Signals, useful_of};
 use crate::layout::{carried_of, layout_of};
 use crate::source::Source;
-use crate::{Cell, Emitter, Port, Transmission};
+use crate::{Emitter, Port};
+use cell_plan::{Cell, Transmission};
 use cs_num::{Cpx, Gain, Sample};
 use lte_types::{FRAME_LENGTH, SLOT_LENGTH, Sfn, Timing, USEFUL_LENGTH};
 

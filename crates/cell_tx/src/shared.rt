@@ -1,92 +1,17 @@
 //! The shared channel of a frame, which carries system information.
 
-ghost use Rattle.std.specs.Prelude.{◌≡◌, ℕ, ◌+◌, ◌≤◌, ◌++◌, length, take, drop};
+ghost use Rattle.std.specs.Prelude.{◌≡◌, ◌≤◌, length, take};
 ghost use Rattle.finite.specs.Lists.{values_below};
-ghost use Rattle.cs_bits.specs.Checks.{with_check_24};
-ghost use Rattle.turbo_code.specs.Table.{IsSize};
-ghost use Rattle.turbo_code.specs.Encoder.{coded};
-ghost use Rattle.cell_tx.specs.Transport.{filled, row_with, is_resolvable_by};
 ghost use Rattle.cell_tx.specs.Shared.{assigned_places, shared_bit, shared_point};
 
-use crate::Cell;
-use crate::bits::put_bits;
 use crate::control::version_of;
 use crate::points::fill_points;
-use cs_bits::crc24a;
+use cell_plan::Cell;
 use cs_num::Cpx;
 use dci::SI_RNTI;
-use erasure::fills;
 use grid_map::{Place, pdsch_c_init, shared_count, shared_place};
 use lte_types::Sfn;
-use turbo_code::{Coded, encode, match_all, row_of};
-
-// Writes a text over the first bits.
-fn put_text(word: &mut [bool; 1024], text: &[bool])
-    requires { length text.now ≤ 1000 }
-    ensures { word.new ≡ text.now ++ drop (length text.now) word.old }
-{
-    word[..text.len()].copy_from_slice(text);
-}
-
-// A text, followed by zeros.
-fn filled(text: &[bool]) -> [bool; 1024]
-    requires { length text.now ≤ 1000 }
-    ensures { (size : ℕ) → length text.now ≤ size → size ≤ 1024 → take size result ≡ filled size text.now }
-{
-    let mut word = [false; 1024];
-    put_text(&mut word, text);
-    word
-}
-
-// Writes the check of the first bits behind them.
-fn put_check(word: &mut [bool; 1024], size: usize)
-    requires { size ≤ 1000 }
-    ensures { take (size + 24) word.new ≡ with_check_24 (take size word.old) }
-{
-    let check = crc24a(&word[..size]);
-    put_bits(word, size, 24, check as u64);
-}
-
-// A transport block of this size and its check: a text, followed by zeros.
-fn checked_block(text: &[bool], size: u16) -> [bool; 1024]
-    requires room { size ≤ 1000 }
-    requires fits { length text.now ≤ size }
-    ensures { take (size + 24) result ≡ with_check_24 (filled size text.now) }
-{
-    let mut word = filled(text);
-    put_check(&mut word, size as usize);
-    word
-}
-
-/// The coded word of a transport block of this size (TS 36.212 section 5.3.2): a text, followed by zeros.
-/// The size and 24 bits are a K of the table.
-pub(crate) fn coded_block(text: &[bool], size: u16) -> Coded
-    requires size { IsSize (size + 24) }
-    requires room { size ≤ 1000 }
-    requires fits { length text.now ≤ size }
-    ensures k { result.k ≡ size + 24 }
-    ensures d { result.d ≡ coded (row_with (size + 24)) (with_check_24 (filled size text.now)) }
-{
-    let Some(row) = row_of(size) else {
-        unreachable!()
-    };
-    encode(&checked_block(text, size)[..size as usize + 24], row)
-}
-
-/// Whether a transport block of this size and its check can be resolved by so many bits, from each redundancy
-/// version on: a text, followed by zeros. The size and 24 bits are a K of the table.
-pub(crate) fn block_fills(text: &[bool], size: u16, count: u16) -> bool
-    requires size { IsSize (size + 24) }
-    requires room { size ≤ 1000 }
-    requires fits { length text.now ≤ size }
-    requires count { count ≤ 1224 }
-    ensures { result ≡ is_resolvable_by (size + 24) count (with_check_24 (filled size text.now)) }
-{
-    let Some(row) = row_of(size) else {
-        unreachable!()
-    };
-    fills(&checked_block(text, size)[..size as usize + 24], row, count)
-}
+use turbo_code::match_all;
 
 // The bits of the coded word in a frame, as they are matched.
 fn shared_bits(cell: &Cell, sfn: Sfn) -> [bool; 1224]

@@ -4,7 +4,8 @@ ghost use Rattle.std.specs.Prelude.{◌≤◌};
 ghost use Rattle.lte_types.specs.Numerology.{most_samples};
 ghost use Rattle.cell_tx.specs.Mixing.{AreGainsBy, gains_by_prop};
 
-use crate::{Cell, Emission, Port, PortOfFour, Sender};
+use crate::{Port, PortOfFour, Sender};
+use cell_plan::{Cell, Emission};
 use cs_num::Cpx;
 use lte_types::{Carrier, Timing};
 

@@ -16,8 +16,8 @@ use Rattle.grid_map.specs.Control.{pcfich_places}
 use Rattle.grid_map.specs.Laws.{IsIndexed}
 use Rattle.cell_tx.specs.declared.antenna.Port.{Port}
 use Rattle.cell_tx.specs.declared.antenna.Port.TheVariants.{Only, First, Second, Long, OfFour}
-use Rattle.cell_tx.specs.declared.cell.CellPlan.{CellPlan}
-use Rattle.cell_tx.specs.Plan.{IsSendableWith}
+use Rattle.cell_plan.specs.declared.cell.CellPlan.{CellPlan}
+use Rattle.cell_plan.specs.Plan.{IsSendableWith}
 use Rattle.cell_tx.specs.Ports.{carrier_of, port_symbols, port_slot, has_control, is_two, sent_point, is_own_reference, is_other_reference}
 use Rattle.cell_tx.specs.Control.{control_places, indicator_point, control_point}
 use Rattle.cell_tx.specs.Shared.{assigned_places, shared_point}

@@ -45,9 +45,9 @@ use Rattle.explain.proofs.Late.{are_taken}
 use Rattle.explain.proofs.Information.{first_tried, even_number, told_at_first, one_system}
 use Rattle.explain.proofs.Listed.{sound_of, complete_of}
 use Rattle.cell_tx.specs.declared.antenna.Port.{Port}
-use Rattle.cell_tx.specs.declared.cell.CellPlan.{CellPlan}
+use Rattle.cell_plan.specs.declared.cell.CellPlan.{CellPlan}
 use Rattle.cell_tx.specs.Load.{sent_element}
-use Rattle.cell_tx.specs.Plan.{IsSendableBy}
+use Rattle.cell_plan.specs.Plan.{IsSendableBy}
 use Rattle.cell_tx.specs.Sent.{Elements}
 use Rattle.budget.proofs.Peaks.{primary_is_listed, only_hit_near}
 use Rattle.budget.proofs.Scores.{sent_pair_is_identified}

@@ -24,13 +24,13 @@ use Rattle.explain.proofs.Information.{first_tried, even_number, system_is_valid
 use Rattle.explain.proofs.Listed.{is_sound}
 use Rattle.lte_types.specs.Ranges.{IsValid}
 use Rattle.lte_types.specs.Timing.{start_of, number_at_start}
-use Rattle.cell_tx.specs.declared.error.CellError.{CellError}
-use Rattle.cell_tx.specs.declared.cell.CellPlan.{CellPlan}
+use Rattle.cell_plan.specs.declared.error.CellError.{CellError}
+use Rattle.cell_plan.specs.declared.cell.CellPlan.{CellPlan}
 use Rattle.cell_tx.specs.Control.{grant_of as sent_grant}
-use Rattle.cell_tx.specs.Plan.{IsSendable, plan_refusal}
+use Rattle.cell_plan.specs.Plan.{IsSendable, plan_refusal}
 use Rattle.cell_tx.specs.Sent.{Elements}
 use Rattle.clean_air.specs.Load.{IsLoaded}
-use Rattle.cell_tx.proofs.Sendable.{accepted_is_sendable}
+use Rattle.cell_plan.proofs.Sendable.{accepted_is_sendable}
 use Rattle.clean_air.specs.Clean.{IsSentEntryOf}
 use Rattle.clean_air.specs.Planned.{plan_by, IsPlanned, IsPlanOf, IsSentPlan, SentEntryHasPlan, IsOnePlan}
 use Rattle.clean_air.proofs.SentSystem.{grant_read, fields_read}

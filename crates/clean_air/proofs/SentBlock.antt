@@ -11,7 +11,7 @@ use Rattle.lte_types.proofs.RoundTrips.{duration-code, duration_code_fits, resou
 use Rattle.pbch.specs.Master.{PassesWith}
 use Rattle.cell_tx.specs.declared.antenna.Port.{Port}
 use Rattle.cell_tx.specs.declared.antenna.Port.TheVariants.{Only, First, Second, Long, OfFour}
-use Rattle.cell_tx.specs.declared.cell.CellPlan.{CellPlan}
+use Rattle.cell_plan.specs.declared.cell.CellPlan.{CellPlan}
 use Rattle.cell_tx.specs.Block.{master_bits, master_word, port_word}
 use Rattle.cell_tx.specs.Ports.{port_mask}
 

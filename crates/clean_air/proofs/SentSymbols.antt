@@ -16,7 +16,7 @@ use Rattle.lte_types.specs.Timing.{start_of, number_at_start}
 use Rattle.cell_tx.specs.declared.antenna.Port.{Port}
 use Rattle.cell_tx.specs.declared.antenna.Port.TheVariants.{Only, First, Second, Long, OfFour}
 use Rattle.cell_tx.specs.declared.antenna.PortOfFour.TheVariants.{Zero, One, Two, Three}
-use Rattle.cell_tx.specs.declared.cell.CellPlan.{CellPlan}
+use Rattle.cell_plan.specs.declared.cell.CellPlan.{CellPlan}
 use Rattle.cell_tx.specs.Emission.{mixed}
 use Rattle.cell_tx.specs.Ports.{carrier_of, port_prefix}
 use Rattle.cell_tx.specs.Sent.{Elements, prefix_sent}

@@ -19,19 +19,20 @@ use Rattle.system_block.specs.Block.{BlockSays}
 use Rattle.system_block.specs.Attempt.{Reads}
 use Rattle.pdsch.specs.Values.{shared_values}
 use Rattle.cell_tx.specs.declared.antenna.Port.TheVariants.{Only}
-use Rattle.cell_tx.specs.declared.cell.CellPlan.{CellPlan}
-use Rattle.cell_tx.specs.Transport.{checked_size, assigned_bits, row_with, shared_word}
-use Rattle.cell_tx.specs.Plan.{IsSendable}
+use Rattle.cell_plan.specs.declared.cell.CellPlan.{CellPlan}
+use Rattle.cell_plan.specs.Transport.{checked_size, assigned_bits, row_with, shared_word, shared_coded}
+use Rattle.cell_plan.specs.Plan.{IsSendable}
 use Rattle.cell_tx.specs.Points.{point_of}
 use Rattle.cell_tx.specs.Control.{version_of, grant_of, control_word, indicator_point, control_point}
-use Rattle.cell_tx.specs.Shared.{shared_places, shared_coded, shared_bit, shared_point}
+use Rattle.cell_tx.specs.Shared.{shared_places, shared_bit, shared_point}
 use Rattle.cell_tx.specs.Sent.{Elements}
 use Rattle.clean_air.specs.Load.{IsLoaded}
 use Rattle.cell_tx.proofs.SystemPlaces.{indicator_indexed, control_indexed, assigned_bits_are}
 use Rattle.clean_air.proofs.Carrying.{indicator_carried, control_carried, shared_carried}
-use Rattle.cell_tx.proofs.BlockRows.{IsRowOf}
-use Rattle.cell_tx.proofs.WholeBlocks.{resolvable_at}
-use Rattle.cell_tx.proofs.SystemWords.{version-fits, grant_is, row_is, word_checked, word_size, word_says}
+use Rattle.cell_plan.proofs.BlockRows.{IsRowOf}
+use Rattle.cell_plan.proofs.WholeBlocks.{resolvable_at}
+use Rattle.cell_plan.proofs.SystemWords.{row_is, word_checked, word_size, word_says}
+use Rattle.cell_tx.proofs.Grants.{version-fits, grant_is}
 use Rattle.budget.specs.Received.{IsReceived, samples_from}
 use Rattle.explain.specs.Frame.{IsWhole, frame_at, seen_slot}
 use Rattle.clean_air.specs.Values.{IsSlotReceived}

@@ -10,13 +10,14 @@ use Rattle.budget.specs.Received.{AreAmplitudes}
 use Rattle.cell_tx.specs.declared.antenna.Port.{Port}
 use Rattle.cell_tx.specs.declared.antenna.Port.TheVariants.{Only, First, Second, Long, OfFour}
 use Rattle.cell_tx.specs.declared.antenna.PortOfFour.TheVariants.{Zero, One, Two, Three}
-use Rattle.cell_tx.specs.declared.cell.CellPlan.{CellPlan}
+use Rattle.cell_plan.specs.declared.cell.CellPlan.{CellPlan}
 use Rattle.cell_tx.specs.Ports.{carrier_of, port_prefix, port_symbols, port_slot, has_control, is_even_pair}
 use Rattle.cell_tx.specs.Ports.{is_other_reference}
 use Rattle.cell_tx.specs.Grid.{has_broadcast, broadcast_index, is_indicator, port_element}
 use Rattle.cell_tx.specs.Load.{is_signal_symbol, is_taken, sent_element}
 use Rattle.cell_tx.specs.Sent.{Elements, prefix_sent}
-use Rattle.cell_tx.specs.Clean.{AreNear, AreGainsOf, IsAllowedBy}
+use Rattle.cell_plan.specs.Gains.{AreGainsOf, IsAllowedBy}
+use Rattle.cell_tx.specs.Clean.{AreNear}
 use Rattle.cell_tx.specs.Emission.{mixed}
 
 -- elements of a port carry a plan: they are the plan's at the places that it takes, and no element, wherever it is, has

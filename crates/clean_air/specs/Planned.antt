@@ -10,8 +10,8 @@ use Rattle.dci.specs.declared.grant.Grant.{Grant}
 use Rattle.sample_file.specs.Recording.{IsRecording}
 use Rattle.explain.specs.Entries.{IsInList}
 use Rattle.explain.specs.Grant.{IsGrantOf}
-use Rattle.cell_tx.specs.declared.cell.CellPlan.{CellPlan}
-use Rattle.cell_tx.specs.Plan.{IsSendable, plan_refusal}
+use Rattle.cell_plan.specs.declared.cell.CellPlan.{CellPlan}
+use Rattle.cell_plan.specs.Plan.{IsSendable, plan_refusal}
 use Rattle.cell_tx.specs.Sent.{Elements}
 use Rattle.clean_air.specs.Load.{IsLoaded}
 

@@ -7,7 +7,7 @@ ghost use Rattle.explain.specs.Grant.{IsGrantOf};
 ghost use Rattle.clean_air.specs.Planned.{plan_by as plan_made_by, IsPlanOf, IsSentPlan};
 ghost use Rattle.clean_air.specs.Planned.{SentEntryHasPlan, IsOnePlan};
 
-use cell_tx::{Cell, CellPlan};
+use cell_plan::{Cell, CellPlan};
 use dci::Grant;
 use explain::{Workspace, grant_of};
 use lte_types::{Bandwidth, Cfi, Entry, Sib1};

@@ -9,8 +9,8 @@ use Rattle.lte_types.specs.Timing.{start_of, number_at_start}
 use Rattle.soft_bits.specs.Soft.{SeenSlot, pilot, pilot_energy}
 use Rattle.explain.specs.Frame.{broadcast_slot}
 use Rattle.explain.specs.Entries.{IsInList}
-use Rattle.cell_tx.specs.declared.cell.CellPlan.{CellPlan}
-use Rattle.cell_tx.specs.Plan.{IsSendable}
+use Rattle.cell_plan.specs.declared.cell.CellPlan.{CellPlan}
+use Rattle.cell_plan.specs.Plan.{IsSendable}
 use Rattle.cell_tx.specs.Sent.{Elements}
 use Rattle.evidence.specs.Evidence.{noise_of, steps}
 use Rattle.clean_air.specs.Load.{IsLoaded}

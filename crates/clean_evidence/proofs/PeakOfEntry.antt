@@ -13,7 +13,7 @@ use Rattle.sss_detect.specs.Identity.{identity_of}
 use Rattle.pss_search.specs.Correlation.{peak, energy, wave_power}
 use Rattle.pss_search.proofs.Listed.{list_is_right}
 use Rattle.pss_search.proofs.Symmetry.{power_range}
-use Rattle.cell_tx.specs.declared.cell.CellPlan.{CellPlan}
+use Rattle.cell_plan.specs.declared.cell.CellPlan.{CellPlan}
 use Rattle.cell_tx.specs.Sent.{Elements}
 use Rattle.budget.specs.Peak.{StandsOut}
 use Rattle.budget.proofs.Peaks.{primary_stands_out}

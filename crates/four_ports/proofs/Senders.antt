@@ -15,7 +15,7 @@ use Rattle.cell_tx.specs.declared.antenna.Port.TheVariants.{OfFour}
 use Rattle.cell_tx.specs.declared.antenna.PortOfFour.{PortOfFour}
 use Rattle.cell_tx.specs.declared.antenna.PortOfFour.TheVariants.{Zero, One, Two, Three}
 use Rattle.cell_tx.specs.Block.{port_point, port_bit}
-use Rattle.cell_tx.specs.Clean.{AreGainsOfFour, IsAllowedOfFour}
+use Rattle.cell_plan.specs.Gains.{AreGainsOfFour, IsAllowedOfFour}
 use Rattle.cell_tx.specs.Emission.{mixed}
 use Rattle.cell_tx.specs.Ports.{sent_point, is_even_pair}
 use Rattle.cell_tx.specs.Rows.{port_reference_if}

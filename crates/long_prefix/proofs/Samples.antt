@@ -4,7 +4,7 @@ use Rattle.std.specs.Prelude.{nat_abs}
 use Rattle.cs_num.specs.declared.Cpx.{Cpx}
 use Rattle.lte_types.specs.declared.carrier.Carrier.TheVariants.{LongPrefix}
 use Rattle.cell_tx.specs.Clean.{IsCleanOf}
-use Rattle.cell_tx.specs.Pair.{gain_of}
+use Rattle.cell_plan.specs.Pair.{gain_of}
 use Rattle.capture_make.specs.Recipe.{plan, number, offset, gain}
 use Rattle.capture_make.specs.Made.{samples_by}
 use Rattle.capture_make.proofs.Samples.{NumbersAreClean}

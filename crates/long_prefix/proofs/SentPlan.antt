@@ -6,14 +6,14 @@ use Rattle.lte_types.specs.Numerology.{extended}
 use Rattle.lte_types.specs.declared.carrier.Carrier.TheVariants.{LongPrefix}
 use Rattle.dci.specs.Sizes.{column_2}
 use Rattle.cell_tx.specs.declared.antenna.Port.TheVariants.{Long}
-use Rattle.cell_tx.specs.declared.cell.CellPlan.{CellPlan}
+use Rattle.cell_plan.specs.declared.cell.CellPlan.{CellPlan}
 use Rattle.cell_tx.specs.Block.{port_bit, port_point}
 use Rattle.cell_tx.specs.Grid.{port_channel_value, port_element}
 use Rattle.cell_tx.specs.Sent.{Elements, prefix_sent}
 use Rattle.cell_tx.specs.Emission.{sent_by}
-use Rattle.cell_tx.specs.Plan.{IsSendable, refusal_of}
-use Rattle.cell_tx.proofs.Sendable.{accepted_is_sendable_by}
-use Rattle.cell_tx.proofs.WholeBlocks.{whole_is_resolvable}
+use Rattle.cell_plan.specs.Plan.{IsSendable, refusal_of}
+use Rattle.cell_plan.proofs.Sendable.{accepted_is_sendable_by}
+use Rattle.cell_plan.proofs.WholeBlocks.{whole_is_resolvable}
 use Rattle.capture_make.specs.Recipe.{plan as plan_of_number, information}
 use Rattle.capture_make.proofs.Plans.{is_sendable}
 use Rattle.long_prefix.specs.declared.plan.LongPlan.{LongPlan}

@@ -4,7 +4,7 @@ use Rattle.std.specs.Prelude.{◌≡◌, ℕ, ◌/◌, nat_abs}
 use Rattle.lte_types.specs.declared.bandwidth.Bandwidth.TheVariants.{N6}
 use Rattle.lte_types.specs.declared.carrier.Carrier.TheVariants.{LongPrefix}
 use Rattle.lte_types.specs.Block.{HasFields}
-use Rattle.cell_tx.specs.Pair.{gain_of}
+use Rattle.cell_plan.specs.Pair.{gain_of}
 use Rattle.capture_make.specs.Recipe.{plan, number, offset, gain, IsBound}
 use Rattle.capture_make.specs.Made.{samples_by}
 use Rattle.long_prefix.specs.declared.plan.LongPlan.{LongPlan}

@@ -7,7 +7,7 @@ use Rattle.sync_seq.specs.Primary.{pss_at}
 use Rattle.sync_seq.specs.Secondary.{sss_amplitude}
 use Rattle.grid_map.specs.Scrambling.{pbch_c_init}
 use Rattle.cell_tx.specs.declared.antenna.Port.TheVariants.{Long}
-use Rattle.cell_tx.specs.declared.cell.CellPlan.{CellPlan}
+use Rattle.cell_plan.specs.declared.cell.CellPlan.{CellPlan}
 use Rattle.cell_tx.specs.Ports.{port_symbols, port_slot, port_mask, is_own_reference, port_reference}
 use Rattle.cell_tx.specs.Points.{point_of}
 use Rattle.cell_tx.specs.Block.{master_word, scrambled_bit}

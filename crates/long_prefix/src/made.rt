@@ -3,7 +3,7 @@
 ghost use Rattle.std.specs.Prelude.{◌≡◌, ℕ, IfOk};
 ghost use Rattle.lte_types.specs.declared.carrier.Carrier.TheVariants.{LongPrefix};
 ghost use Rattle.sample_file.specs.Recording.{IsRecording};
-ghost use Rattle.cell_tx.specs.Pair.{gain_of};
+ghost use Rattle.cell_plan.specs.Pair.{gain_of};
 ghost use Rattle.capture_make.specs.Recipe.{gain as gain_of_number};
 ghost use Rattle.capture_make.specs.Made.{IsMadeBy};
 ghost use Rattle.long_prefix.specs.Made.{IsPlanOf, IsMadeLong, IsCleanlyMade};
@@ -11,7 +11,7 @@ ghost use Rattle.long_prefix.specs.declared.made.LongMade.{LongMade as MadeValue
 
 use crate::LongPlan;
 use capture_make::{MadeBy, gain, make_by, numbers_are_clean, plan, timing};
-use cell_tx::pair_of;
+use cell_plan::pair_of;
 use lte_types::{Bandwidth, Carrier, CellId, Mib, Sfn};
 use sample_file::Recording;
 use std::alloc::{AllocError, Global};

@@ -4,11 +4,12 @@ ghost use Rattle.std.specs.Prelude.{◌≡◌, ◌*◌, ◌≤◌, None};
 ghost use Rattle.cs_num.specs.Complex.{square, sample_of};
 ghost use Rattle.lte_types.specs.declared.carrier.Carrier.TheVariants.{LongPrefix};
 ghost use Rattle.lte_types.specs.Ranges.{IsValid};
-ghost use Rattle.cell_tx.specs.Plan.{refusal_of};
+ghost use Rattle.cell_plan.specs.Plan.{refusal_of};
 ghost use Rattle.long_prefix.specs.Sent.{long_sent, HasPlan};
 
 use crate::LongPlan;
-use cell_tx::{Cell, CellPlan, Port, port_sample};
+use cell_plan::{Cell, CellPlan};
+use cell_tx::{Port, port_sample};
 use cs_num::Sample;
 use lte_types::{Carrier, Sfn};
 

@@ -8,9 +8,9 @@ use Rattle.lte_types.specs.declared.entry.Entry.{Entry}
 use Rattle.lte_types.specs.Timing.{start_of, number_at_start}
 use Rattle.sample_file.specs.Recording.{IsRecording}
 use Rattle.explain.specs.Entries.{IsListFor}
-use Rattle.cell_tx.specs.declared.cell.CellPlan.{CellPlan}
+use Rattle.cell_plan.specs.declared.cell.CellPlan.{CellPlan}
 use Rattle.cell_tx.specs.Emission.{IsCleanBy}
-use Rattle.cell_tx.specs.Plan.{IsSendableBy}
+use Rattle.cell_plan.specs.Plan.{IsSendableBy}
 use Rattle.clean_air.specs.Clean.{HoldsCleanBy, HoldsCellBy, HoldsCells}
 use Rattle.clean_air.proofs.Held.{is_list_by, sendable_is_known}
 use Rattle.clean_air.proofs.HeldCells.{holds_cells as holds_of_one}

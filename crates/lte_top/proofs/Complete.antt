@@ -15,7 +15,7 @@ use Rattle.lte_words.specs.Words.{IsWordsOf}
 use Rattle.lte_top.specs.Forms.{Input, nothing, recording, certificates, description, input_of, limit_of, Refuses, RefusesCertificates, RefusesDescription, IsTooLong, IsValid, IsOutput}
 use Rattle.lte_top.specs.Run.{IsRead, HasReadInput, HasOutput, HasRefusal, IsReadTooLong, IsWriteFault, Ends, RunsForm, Outcome, IsAnswerTo, HasOneAnswer, MayAnswer, IsTold, IsAnswered, IsComplete, HasRoom}
 use Rattle.lte_types.specs.declared.carrier.Carrier.{Carrier}
-use Rattle.cell_tx.specs.declared.error.CellError.{CellError}
+use Rattle.cell_plan.specs.declared.error.CellError.{CellError}
 use Rattle.cell_json.specs.Reading.{refusal_by}
 use Rattle.lte_top.proofs.Transmitted.{one_transmitted_length}
 use Rattle.cert_stream.proofs.Rest.{one_first_broken}

@@ -14,9 +14,9 @@ use Rattle.lte_types.specs.declared.carrier.Carrier.{Carrier}
 use Rattle.lte_types.specs.declared.carrier.Carrier.TheVariants.{OnePort, TwoPorts, LongPrefix, FourPorts}
 use Rattle.lte_types.specs.declared.entry.Entry.{Entry}
 use Rattle.lte_types.specs.Timing.{IsOffset, start_of, number_at_start}
-use Rattle.cell_tx.specs.declared.cell.CellPlan.{CellPlan}
-use Rattle.cell_tx.specs.declared.emission.Emission.{Emission}
-use Rattle.cell_tx.specs.Clean.{AreGainsOf, IsAllowedBy, ArePairedBy}
+use Rattle.cell_plan.specs.declared.cell.CellPlan.{CellPlan}
+use Rattle.cell_plan.specs.declared.emission.Emission.{Emission}
+use Rattle.cell_plan.specs.Gains.{AreGainsOf, IsAllowedBy, ArePairedBy}
 use Rattle.cell_tx.specs.Emission.{received_by, IsCleanBy}
 use Rattle.cell_tx.specs.Laws.{EmittedIsClean}
 use Rattle.cell_tx.proofs.Received.{received_by-small}

@@ -8,7 +8,7 @@ use Rattle.cs_outside.specs.Outside.{SourceTold, Outside}
 use Rattle.cs_outside.specs.Streams.{HasWritten, HasWrittenFront, IsShortOf}
 use Rattle.sample_file.specs.Recording.{sample_bytes, bytes_of}
 use Rattle.lte_types.specs.declared.carrier.Carrier.{Carrier}
-use Rattle.cell_tx.specs.declared.emission.Emission.{Emission}
+use Rattle.cell_plan.specs.declared.emission.Emission.{Emission}
 use Rattle.cell_tx.specs.Emission.{received_by}
 use Rattle.std.specs.Prelude.{codes}
 use Rattle.cell_json.specs.Description.{number_at}

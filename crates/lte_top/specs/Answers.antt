@@ -1,6 +1,6 @@
 -- How a run's answer is told: its exit code, and the text of its line on standard error. (own)
 use Rattle.std.specs.Prelude.{ℕ, List, codes}
-use Rattle.cell_tx.specs.Words.{refusal_text}
+use Rattle.cell_plan.specs.Words.{refusal_text}
 use Rattle.tail_cert.specs.Form.{broken_text}
 use Rattle.lte_top.specs.declared.status.Status.{Status}
 use Rattle.lte_top.specs.declared.status.Status.TheVariants.{Done, Usage, Ragged, TooShort, TooLong, ReadFault}

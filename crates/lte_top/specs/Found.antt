@@ -8,9 +8,9 @@ use Rattle.lte_types.specs.Carrier.{ports_of}
 use Rattle.lte_types.specs.Codes.{duration_word, resource_word}
 use Rattle.lte_types.specs.Timing.{start_of, number_at_start}
 use Rattle.clean_air.specs.Clean.{told_of}
-use Rattle.cell_tx.specs.declared.cell.CellPlan.{CellPlan}
-use Rattle.cell_tx.specs.declared.emission.Emission.{Emission}
-use Rattle.cell_tx.specs.Clean.{ArePairedBy}
+use Rattle.cell_plan.specs.declared.cell.CellPlan.{CellPlan}
+use Rattle.cell_plan.specs.declared.emission.Emission.{Emission}
+use Rattle.cell_plan.specs.Gains.{ArePairedBy}
 use Rattle.cell_tx.specs.Emission.{IsCleanBy}
 use Rattle.cell_json.specs.Reading.{DescribesBy}
 use Rattle.report.specs.Lines.{place_part, block_part, system_lines}

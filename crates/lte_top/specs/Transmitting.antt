@@ -7,7 +7,7 @@ use Rattle.cs_outside.specs.Outside.{SourceTold}
 use Rattle.cs_outside.specs.Streams.{HasReadAll}
 use Rattle.lte_types.specs.declared.carrier.Carrier.{Carrier}
 use Rattle.sample_file.specs.Recording.{bytes_of}
-use Rattle.cell_tx.specs.declared.emission.Emission.{Emission}
+use Rattle.cell_plan.specs.declared.emission.Emission.{Emission}
 use Rattle.cell_tx.specs.Emission.{received_by}
 use Rattle.cell_json.specs.Reading.{DescribesBy}
 

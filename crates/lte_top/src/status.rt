@@ -6,7 +6,7 @@ ghost use Rattle.lte_top.specs.Errors.{of_read, of_file, of_json, of_stream};
 ghost use Rattle.lte_top.specs.declared.status.Status.TheVariants.{OutOfMemory};
 
 use cell_json::JsonError;
-use cell_tx::CellError;
+use cell_plan::CellError;
 use cert_stream::StreamError;
 use cs_outside::ReadError;
 use sample_file::FileError;

@@ -13,7 +13,8 @@ ghost use Rattle.lte_words.specs.declared.form.Form.TheVariants.{Transmit};
 
 use crate::status::Status;
 use cell_json::read_by;
-use cell_tx::{Emission, Emitter};
+use cell_plan::Emission;
+use cell_tx::Emitter;
 use cs_outside::{Failed, Sink, Source, read_to_end};
 use lte_types::Carrier;
 use sample_file::PieceWriter;

@@ -7,8 +7,8 @@ use Rattle.lte_types.specs.declared.entry.Entry.{Entry}
 use Rattle.lte_types.specs.Timing.{start_of, number_at_start}
 use Rattle.sample_file.specs.Recording.{IsRecording}
 use Rattle.cell_tx.specs.declared.antenna.Port.TheVariants.{Only}
-use Rattle.cell_tx.specs.declared.cell.CellPlan.{CellPlan}
-use Rattle.cell_tx.specs.Plan.{IsSendable}
+use Rattle.cell_plan.specs.declared.cell.CellPlan.{CellPlan}
+use Rattle.cell_plan.specs.Plan.{IsSendable}
 use Rattle.cell_tx.specs.Grid.{element}
 use Rattle.cell_tx.specs.Sent.{Elements}
 use Rattle.clean_air.specs.Clean.{IsListOfCells}

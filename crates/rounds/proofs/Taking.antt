@@ -6,8 +6,8 @@ use Rattle.std.specs.List.{Contains}
 use Rattle.std.proofs.lemmas.List.Elements.{Contains-append_cases}
 use Rattle.cs_num.specs.declared.Sample.{Sample}
 use Rattle.lte_types.specs.declared.entry.Entry.{Entry}
-use Rattle.cell_tx.specs.declared.cell.CellPlan.{CellPlan}
-use Rattle.cell_tx.specs.Pair.{gain_of}
+use Rattle.cell_plan.specs.declared.cell.CellPlan.{CellPlan}
+use Rattle.cell_plan.specs.Pair.{gain_of}
 use Rattle.clean_air.specs.Planned.{IsPlanned, IsPlanOf}
 use Rattle.clean_air.proofs.Plans.{one_planned}
 use Rattle.cancel.specs.declared.subtracted.Subtracted.{Subtracted}

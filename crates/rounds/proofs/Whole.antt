@@ -8,7 +8,7 @@ use Rattle.rounds.specs.declared.round.Round.{Round}
 use Rattle.rounds.specs.declared.round.Rounds.{Rounds}
 use Rattle.rounds.specs.AsJson.{gain_value, round_value, rounds_value}
 use Rattle.cs_num.specs.declared.Cpx.{Cpx}
-use Rattle.cell_tx.specs.Pair.{gain_of}
+use Rattle.cell_plan.specs.Pair.{gain_of}
 
 in_gain : (gain : Cpx) → has_float (gain_value gain) ≡ false
 in_gain gain = or_from _ _ (in_integer gain.re) (or_from _ _ (in_integer gain.im) refl)

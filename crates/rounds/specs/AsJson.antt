@@ -4,7 +4,7 @@ use Rattle.serde_json.specs.Data.{Data, boolean, object, member, no_members}
 use Rattle.serde_json.specs.Written.{compact_text}
 use Rattle.cs_num.specs.declared.Cpx.{Cpx}
 use Rattle.cs_num.specs.declared.Sample.{Sample}
-use Rattle.cell_tx.specs.Pair.{gain_of}
+use Rattle.cell_plan.specs.Pair.{gain_of}
 use Rattle.report.specs.Values.{natural, integer, list_of}
 use Rattle.report.specs.Json.{report_value}
 use Rattle.rounds.specs.declared.round.Round.{Round}

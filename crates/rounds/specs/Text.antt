@@ -2,7 +2,7 @@
 use Rattle.std.specs.Prelude.{◌≡◌, ℕ, ◌-◌, ◌^◌, nat_le, if◌then◌else◌, List, [], ◌++◌}
 use Rattle.std.specs.List.{flat_map}
 use Rattle.cs_num.specs.declared.Sample.{Sample}
-use Rattle.cell_tx.specs.Pair.{gain_of}
+use Rattle.cell_plan.specs.Pair.{gain_of}
 use Rattle.report.specs.Lines.{report_text}
 use Rattle.report.specs.Cancelled.{cancelled_lines, cancelled_none}
 use Rattle.rounds.specs.declared.round.Round.{Round}

@@ -11,9 +11,9 @@ use Rattle.soft_bits.specs.Soft.{SeenSlot}
 use Rattle.budget.specs.Received.{received_of}
 use Rattle.cell_tx.specs.declared.antenna.Port.{Port}
 use Rattle.cell_tx.specs.declared.antenna.Port.TheVariants.{First, Second}
-use Rattle.cell_tx.specs.declared.cell.CellPlan.{CellPlan}
+use Rattle.cell_plan.specs.declared.cell.CellPlan.{CellPlan}
 use Rattle.cell_tx.specs.Block.{port_point, port_bit}
-use Rattle.cell_tx.specs.Clean.{AreGains, IsAllowed}
+use Rattle.cell_plan.specs.Gains.{AreGains, IsAllowed}
 use Rattle.cell_tx.specs.Emission.{mixed}
 use Rattle.cell_tx.specs.Points.{point_of}
 use Rattle.cell_tx.specs.Ports.{carrier_of, sent_point}

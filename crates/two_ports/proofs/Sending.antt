@@ -11,9 +11,9 @@ use Rattle.soft_bits.specs.Lines.{line_of, line_place}
 use Rattle.soft_bits.specs.Soft.{SeenSlot}
 use Rattle.budget.specs.Received.{received_of}
 use Rattle.cell_tx.specs.declared.antenna.Port.{Port}
-use Rattle.cell_tx.specs.declared.cell.CellPlan.{CellPlan}
+use Rattle.cell_plan.specs.declared.cell.CellPlan.{CellPlan}
 use Rattle.cell_tx.specs.Block.{port_word, port_point, scrambled_bit}
-use Rattle.cell_tx.specs.Clean.{AreGainsOf, IsAllowedBy}
+use Rattle.cell_plan.specs.Gains.{AreGainsOf, IsAllowedBy}
 use Rattle.cell_tx.specs.Emission.{mixed}
 use Rattle.cell_tx.specs.Points.{point_of}
 use Rattle.cell_tx.specs.Ports.{carrier_of, port_symbols, sent_point}

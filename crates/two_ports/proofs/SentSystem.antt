@@ -32,19 +32,20 @@ use Rattle.system_block.specs.Block.{BlockSays}
 use Rattle.system_block.specs.Attempt.{Reads}
 use Rattle.cell_tx.specs.declared.antenna.Port.{Port}
 use Rattle.cell_tx.specs.declared.antenna.Port.TheVariants.{First, Second}
-use Rattle.cell_tx.specs.declared.cell.CellPlan.{CellPlan}
+use Rattle.cell_plan.specs.declared.cell.CellPlan.{CellPlan}
 use Rattle.cell_tx.specs.Ports.{sent_point}
-use Rattle.cell_tx.specs.Transport.{checked_size, row_with, shared_word}
+use Rattle.cell_plan.specs.Transport.{checked_size, row_with, shared_word, shared_coded}
 use Rattle.cell_tx.specs.Block.{coded_bit}
 use Rattle.cell_tx.specs.Points.{point_of, scrambled}
 use Rattle.cell_tx.specs.Control.{version_of, grant_of, control_places, control_word, indicator_point, control_point}
-use Rattle.cell_tx.specs.Shared.{assigned_places, shared_coded, shared_bit, shared_point}
+use Rattle.cell_tx.specs.Shared.{assigned_places, shared_bit, shared_point}
 use Rattle.cell_tx.specs.Sent.{Elements}
 use Rattle.cell_tx.proofs.SystemPlaces.{control_indexed, assigned_bits_are, assigned_size, indicator_stands, control_stands, assigned_stands}
 use Rattle.clean_air.proofs.Carrying.{indicator_carried, control_carried, shared_carried}
-use Rattle.cell_tx.proofs.BlockRows.{IsRowOf}
+use Rattle.cell_plan.proofs.BlockRows.{IsRowOf}
 use Rattle.erasure.proofs.Whole.{whole_block_is_resolvable}
-use Rattle.cell_tx.proofs.SystemWords.{version-fits, grant_is, row_is, word_checked, word_size, word_says}
+use Rattle.cell_plan.proofs.SystemWords.{row_is, word_checked, word_size, word_says}
+use Rattle.cell_tx.proofs.Grants.{version-fits, grant_is}
 use Rattle.explain.specs.Frame.{IsWhole, frame_at, seen_slot}
 use Rattle.clean_air.specs.Block.{matched_bit, IsSentBlock}
 use Rattle.clean_air.specs.Carried.{AreHeard}

@@ -11,7 +11,7 @@ use Rattle.soft_bits.specs.Lines.{line_of, line_place}
 use Rattle.soft_bits.specs.Soft.{SeenSlot}
 use Rattle.soft_bits.proofs.Lines.{is_line}
 use Rattle.cell_tx.specs.declared.antenna.Port.{Port}
-use Rattle.cell_tx.specs.declared.cell.CellPlan.{CellPlan}
+use Rattle.cell_plan.specs.declared.cell.CellPlan.{CellPlan}
 use Rattle.cell_tx.specs.Grid.{port_element}
 use Rattle.cell_tx.specs.Emission.{mixed}
 use Rattle.cell_tx.specs.Ports.{port_symbols, is_own_reference, is_other_reference}

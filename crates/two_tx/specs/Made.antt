@@ -4,7 +4,7 @@ use Rattle.cs_num.specs.declared.Cpx.{Cpx}
 use Rattle.cs_num.specs.Complex.{value_at}
 use Rattle.lte_types.specs.declared.carrier.Carrier.TheVariants.{TwoPorts}
 use Rattle.cell_tx.specs.Clean.{IsCleanOfPorts}
-use Rattle.cell_tx.specs.Pair.{gain_of}
+use Rattle.cell_plan.specs.Pair.{gain_of}
 use Rattle.capture_make.specs.Recipe.{plan, number, offset, first_gain, second_gain, IsBound}
 use Rattle.capture_make.specs.Made.{samples_by}
 use Rattle.two_tx.specs.declared.made.TwoMade.{TwoMade}

@@ -1,7 +1,7 @@
 -- What a cell with two antenna ports sends at each of them. (own)
 use Rattle.std.specs.Prelude.{ℕ, nat_eq, if◌then◌else◌}
 use Rattle.cs_num.specs.declared.Cpx.{Cpx}
-use Rattle.cell_tx.specs.declared.cell.CellPlan.{CellPlan}
+use Rattle.cell_plan.specs.declared.cell.CellPlan.{CellPlan}
 use Rattle.cell_tx.specs.Clean.{first_port, second_port}
 
 -- sample i of what antenna port 0 or 1 sends from the frame numbered sfn on

@@ -4,7 +4,7 @@ ghost use Rattle.std.specs.Prelude.{◌≡◌, Some, None, MatchResult, IfOk};
 ghost use Rattle.lte_types.specs.Ranges.{IsValid};
 ghost use Rattle.two_tx.specs.Plan.{IsSendableOfTwo, refusal_of_two};
 
-use cell_tx::{Cell, CellError, CellPlan};
+use cell_plan::{Cell, CellError, CellPlan};
 use lte_types::Carrier;
 use std::marker::Model;
 
@@ -15,7 +15,7 @@ pub struct Cell2 {
 }
 
 impl Model for Cell2 {
-    ghost use Rattle.cell_tx.specs.declared.cell.CellPlan.{CellPlan as Plan};
+    ghost use Rattle.cell_plan.specs.declared.cell.CellPlan.{CellPlan as Plan};
     ghost use Rattle.two_tx.specs.Plan.{IsSendableOfTwo};
 
     ghost Value = { Plan };

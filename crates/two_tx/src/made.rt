@@ -3,7 +3,7 @@
 ghost use Rattle.std.specs.Prelude.{◌≡◌, ℕ, [], ◌∷◌, map, IfOk};
 ghost use Rattle.lte_types.specs.declared.carrier.Carrier.TheVariants.{TwoPorts};
 ghost use Rattle.sample_file.specs.Recording.{IsRecording};
-ghost use Rattle.cell_tx.specs.Pair.{gain_of};
+ghost use Rattle.cell_plan.specs.Pair.{gain_of};
 ghost use Rattle.capture_make.specs.Recipe.{plan as plan_of, first_gain, second_gain};
 ghost use Rattle.capture_make.specs.Made.{IsMadeBy};
 ghost use Rattle.two_tx.specs.Made.{IsMade, IsCleanlyMade};
@@ -11,7 +11,7 @@ ghost use Rattle.two_tx.specs.Plan.{IsSendableOfTwo};
 ghost use Rattle.two_tx.specs.declared.made.TwoMade.{TwoMade as MadeValue};
 
 use capture_make::{MadeBy, gains, make_by, numbers_are_clean, plan, timing};
-use cell_tx::{CellPlan, pair_of};
+use cell_plan::{CellPlan, pair_of};
 use lte_types::{Carrier, Sfn};
 use sample_file::Recording;
 use std::alloc::{AllocError, Global};

@@ -1,5 +1,5 @@
 use Rattle.std.proofs.Common.{◌≡◌, Some, None, ap, sym, ◌∙◌}
-use Rattle.cell_tx.specs.Plan.{refusal_of}
+use Rattle.cell_plan.specs.Plan.{refusal_of}
 use Rattle.capture_make.proofs.Plans.{none_fails}
 use Rattle.capture_make.proofs.recipe.cell.Goals as goal
 

@@ -1,5 +1,5 @@
 use Rattle.std.proofs.Common.{sym, subst}
-use Rattle.cell_tx.specs.Clean.{AreGainsOf}
+use Rattle.cell_plan.specs.Gains.{AreGainsOf}
 use Rattle.capture_make.proofs.Samples.{are_gains}
 use Rattle.capture_make.proofs.recipe.emission.Goals as goal
 

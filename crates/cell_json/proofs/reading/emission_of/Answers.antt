@@ -1,9 +1,9 @@
 use Rattle.std.proofs.Common.{◌≡◌, pos, true, Some, Err, refl, ap, sym, subst, ◌∙◌, rules}
 use Rattle.serde_json.specs.View.{view}
 use Rattle.lte_types.specs.Ranges.{IsValid}
-use Rattle.cell_tx.specs.Plan.{refusal_of}
-use Rattle.cell_tx.specs.Clean.{AreGainsOf}
-use Rattle.cell_tx.proofs.Sendable.{sendable_with_one}
+use Rattle.cell_plan.specs.Plan.{refusal_of}
+use Rattle.cell_plan.specs.Gains.{AreGainsOf}
+use Rattle.cell_plan.proofs.Sendable.{sendable_with_one}
 use Rattle.cell_json.specs.Kinds.{is_between}
 use Rattle.cell_json.specs.Description.{are_gains, sib1_at}
 use Rattle.cell_json.proofs.Ranges.{gains_hold}

@@ -1,5 +1,5 @@
 use Rattle.std.proofs.Common.{◌≡◌, arith}
-use Rattle.cell_tx.proofs.BlockRows.{mcs_small}
+use Rattle.cell_plan.proofs.BlockRows.{mcs_small}
 use Rattle.cell_tx.proofs.control.grant_of.Goals as goal
 
 pub returns-clause-valid : goal.returns-clause-valid

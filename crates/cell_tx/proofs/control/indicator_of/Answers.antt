@@ -1,7 +1,7 @@
 use Rattle.std.proofs.Common.{ℕ, ◌*◌, ap, ◌∙◌}
 use Rattle.finite.specs.Lists.{values_below}
 use Rattle.grid_map.specs.Scrambling.{pcfich_c_init, indicator_bit}
-use Rattle.cell_tx.specs.declared.cell.CellPlan.{CellPlan}
+use Rattle.cell_plan.specs.declared.cell.CellPlan.{CellPlan}
 use Rattle.cell_tx.specs.Control.{indicator_point}
 use Rattle.cell_tx.proofs.BitPoints.{points_are}
 use Rattle.cell_tx.proofs.control.indicator_of.Goals as goal

@@ -1,10 +1,10 @@
 use Rattle.std.proofs.Common.{◌≡◌, ℕ, List, Bool, refl, ◌∙◌}
 use Rattle.finite.proofs.Lists.{values_below_same}
 use Rattle.turbo_code.specs.Reading.{bit_of, item_of}
-use Rattle.cell_tx.specs.declared.cell.CellPlan.{CellPlan}
-use Rattle.cell_tx.specs.Transport.{checked_size}
+use Rattle.cell_plan.specs.declared.cell.CellPlan.{CellPlan}
+use Rattle.cell_plan.specs.Transport.{checked_size, shared_coded}
 use Rattle.cell_tx.specs.Control.{version_of}
-use Rattle.cell_tx.specs.Shared.{shared_coded, shared_bit}
+use Rattle.cell_tx.specs.Shared.{shared_bit}
 use Rattle.cell_tx.proofs.shared.shared_bits.Goals as goal
 
 bit_is : (plan : CellPlan) (sfn i k version : ℕ) (d : List (List Bool)) → d ≡ shared_coded plan → k ≡ checked_size plan → version ≡ version_of sfn → bit_of d (item_of k version i) ≡ shared_bit plan sfn i

@@ -5,7 +5,7 @@ use Rattle.lte_types.specs.Assignment.{Assigned}
 use Rattle.grid_map.specs.declared.Place.{Place}
 use Rattle.grid_map.specs.Place.{place}
 use Rattle.grid_map.specs.Shared.{shared_places_of, shared_place_of}
-use Rattle.cell_tx.specs.declared.cell.CellPlan.{CellPlan}
+use Rattle.cell_plan.specs.declared.cell.CellPlan.{CellPlan}
 use Rattle.cell_tx.proofs.shared.shared_places.Goals as goal
 
 abbrev place_at : Bool → CellPlan → ℕ → Place

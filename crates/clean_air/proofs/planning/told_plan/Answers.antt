@@ -1,6 +1,6 @@
 use Rattle.std.proofs.Common.{◌≡◌, Some, subst}
-use Rattle.cell_tx.specs.declared.cell.CellPlan.{CellPlan}
-use Rattle.cell_tx.specs.Plan.{plan_refusal}
+use Rattle.cell_plan.specs.declared.cell.CellPlan.{CellPlan}
+use Rattle.cell_plan.specs.Plan.{plan_refusal}
 use Rattle.explain.specs.Grant.{IsGrantOf}
 use Rattle.clean_air.proofs.Plans.{valid_fields, refused_plan}
 use Rattle.clean_air.proofs.planning.told_plan.Goals as goal

@@ -1,6 +1,6 @@
 use Rattle.std.proofs.Common.{◌≡◌, Some, None, sym, subst, ◌∙◌}
 use Rattle.lte_types.specs.declared.carrier.Carrier.TheVariants.{LongPrefix}
-use Rattle.cell_tx.specs.Plan.{refusal_of}
+use Rattle.cell_plan.specs.Plan.{refusal_of}
 use Rattle.long_prefix.specs.Sent.{HasPlan}
 use Rattle.long_prefix.proofs.sending.cell_of.Goals as goal
 

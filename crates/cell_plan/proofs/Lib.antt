@@ -1,0 +1,5 @@
+pub mod BlockRows
+pub mod WholeBlocks
+pub mod Sendable
+pub mod NewCells
+pub mod SystemWords

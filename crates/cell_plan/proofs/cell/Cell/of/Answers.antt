@@ -1,0 +1,51 @@
+use Rattle.std.proofs.Common.{rules, ◌≡◌, ◌+◌, ◌≤◌, Bool, true, false, ◌&&◌, nat_le, List, ap, sym, ◌∙◌, arith}
+use Rattle.std.specs.Prelude.{is_some}
+use Rattle.cs_bits.specs.Checks.{with_check_24}
+use Rattle.turbo_code.specs.Encoder.{coded}
+use Rattle.cell_plan.specs.Transport.{filled, row_with}
+use Rattle.cell_plan.specs.Plan.{IsSendableBy}
+use Rattle.cell_plan.proofs.Sendable.{accepted_is_sendable_by, sendable_with_one}
+use Rattle.dci.proofs.SizeRows.{size_fits}
+use Rattle.cell_plan.proofs.NewCells.{has_size, IsAccepted, accepted_can_be_sent, accepted_is_coded}
+use Rattle.cell_plan.proofs.cell.Cell.of.Goals as goal
+
+-- what the steps before the block's coded word say of the plan
+module _ (c : goal.After-coded_block-coded) where
+  accepted : IsAccepted c.args.carrier c.args.plan c.in-Some.size c.in-Some-text_of.text
+  accepted =
+      let identity : c.args.plan.identity ≤ 503 = search rules in
+      let low = c.if-plan-lt2.false in
+      let high = c.if-plan-gt3.false in
+      let spare = c.if-plan-gt1023.false in
+      let blocks : (nat_le 1 c.args.plan.blocks && nat_le (c.args.plan.start + c.args.plan.blocks) 6) ≡ true = search rules in
+      let duplex : is_some c.args.plan.sib1.tdd ≡ false = search rules in
+      record {
+        valid = c.requires;
+        identity = identity;
+        spare = omega (arith, spare);
+        low = omega (arith, low);
+        high = omega (arith, high);
+        blocks = blocks;
+        sized = has_size c.args.plan c.in-Some.size _ c.in-Some.is c.size_of.ensures.value;
+        enough = sym c.if-not-is_sent_enough.ensures;
+        duplex = duplex;
+        extension = c.if-plan.false;
+        text_is = c.in-Some-text_of.ensures.0;
+        fits = c.in-Some-text_of.ensures.1;
+      }
+
+  can_be_sent : IsSendableBy c.args.carrier c.args.plan
+  can_be_sent = accepted_can_be_sent c.args.carrier c.args.plan c.in-Some.size c.in-Some-text_of.text accepted
+
+pub invariant_of-result : goal.invariant_of-result
+invariant_of-result c =
+    let a = accepted c in
+    let row = size_fits c.args.plan.mcs c.args.plan.column c.in-Some.size a.sized.entry in
+    let d = c.coded_block-coded.ensures.d ∙ ap (λ (text : List Bool). coded (row_with (c.in-Some.size + 24)) (with_check_24 (filled c.in-Some.size text))) c.bits.ensures.bits in
+    (sendable_with_one c.args.carrier c.args.plan (can_be_sent c), accepted_is_coded c.args.carrier c.args.plan c.in-Some.size c.in-Some-text_of.text c.coded_block-coded.result a row c.coded_block-coded.ensures.k d)
+
+pub returns-clause-refusal : goal.returns-clause-refusal
+returns-clause-refusal c = ((accepted_is_sendable_by c.args.carrier c.args.plan).1 (can_be_sent c)).1
+
+pub returns-clause-sendable : goal.returns-clause-sendable
+returns-clause-sendable c = can_be_sent c

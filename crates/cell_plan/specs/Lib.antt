@@ -1,0 +1,7 @@
+pub mod Conditions
+pub mod Words
+pub mod Transport
+pub mod Plan
+pub mod Pair
+pub mod Gains
+pub mod Laws

@@ -1,0 +1,80 @@
+-- Which plans of a cell can be sent. (own, with the ranges of TS 36.211 sections 6.11 and 6.7, TS 36.213 section 7.1
+-- and TS 36.331 section 6.2.2)
+use Rattle.std.specs.Prelude.{◌≡◌, ◌⊎◌, ◌+◌, ◌≤◌, Bool, true, false, not, ◌&&◌, ◌||◌, nat_eq, nat_le, List, [], ◌∷◌}
+use Rattle.std.specs.Prelude.{length, Option, None, is_some, is_none, IsSome, IsSomeAnd}
+use Rattle.lte_types.specs.declared.carrier.Carrier.{Carrier}
+use Rattle.lte_types.specs.declared.carrier.Carrier.TheVariants.{OnePort, TwoPorts, LongPrefix, FourPorts}
+use Rattle.lte_types.specs.Ranges.{IsValid}
+use Rattle.lte_types.specs.Assignment.{AreBlocks}
+use Rattle.dci.specs.Sizes.{size_of}
+use Rattle.sib1.specs.Text.{text_of}
+use Rattle.cell_plan.specs.declared.error.CellError.{CellError}
+use Rattle.cell_plan.specs.declared.error.CellError.TheVariants.{Identity, Spare, Cfi, Assignment, Mcs, Punctured, Duplex}
+use Rattle.cell_plan.specs.declared.error.CellError.TheVariants.{Extension, Sib1Long}
+use Rattle.cell_plan.specs.declared.cell.CellPlan.{CellPlan}
+use Rattle.cell_plan.specs.Conditions.{Condition, condition, first_failed}
+use Rattle.cell_plan.specs.Transport.{block_size, coded_count, assigned_bits_of, text_fits, has_block, is_whole_of}
+use Rattle.cell_plan.specs.Transport.{is_whole, is_resolvable}
+
+-- a plan can be sent, where `Enough` says that what is sent of its block is enough: the conditions that do not depend
+-- on the antenna ports, and that one. Its master block has bandwidth n6
+pub record IsSendableWith (Enough : Type 0) (plan : CellPlan) : Type 0 where
+  pub valid : IsValid plan.sib1
+  pub identity : plan.identity ≤ 503
+  pub spare : plan.spare ≤ 1023
+  pub cfi : (2 ≤ plan.cfi) × (plan.cfi ≤ 3)
+  pub assignment : AreBlocks plan.start plan.blocks
+  pub column : (plan.column ≡ 2) ⊎ (plan.column ≡ 3)
+  pub mcs : IsSome (size_of plan.mcs plan.column)
+  pub enough : Enough
+  pub duplex : plan.sib1.tdd ≡ None
+  pub extension : plan.sib1.extended ≡ false
+  pub text : IsSomeAnd (text_of plan.sib1) (λ text. length text ≤ block_size plan)
+
+-- a plan can be sent with one antenna port: the bits that are sent of its block are enough to resolve it, as they are
+-- wherever each coded bit is sent
+abbrev pub IsSendable : CellPlan → Type 0
+IsSendable plan = IsSendableWith (is_resolvable plan ≡ true) plan
+
+-- a plan can be sent by a carrier: with two antenna ports the assigned blocks carry each coded bit beside the reference
+-- signals of both. With the extended cyclic prefix, or four ports, it has to be one of one port, though no block of it
+-- is sent
+abbrev pub IsSendableBy : Carrier → CellPlan → Type 0
+IsSendableBy OnePort plan = IsSendable plan
+IsSendableBy TwoPorts plan = IsSendableWith (coded_count plan ≤ assigned_bits_of true plan) plan
+IsSendableBy LongPrefix plan = IsSendable plan
+IsSendableBy FourPorts plan = IsSendable plan
+
+-- the conditions on a plan, in their order, where it is known whether enough of its block is sent
+abbrev pub conditions_with : Bool → CellPlan → List Condition
+conditions_with enough plan =
+    condition (nat_le plan.identity 503) Identity
+    ∷ condition (nat_le plan.spare 1023) Spare
+    ∷ condition (nat_le 2 plan.cfi && nat_le plan.cfi 3) Cfi
+    ∷ condition (nat_le 1 plan.blocks && nat_le (plan.start + plan.blocks) 6) Assignment
+    ∷ condition ((nat_eq plan.column 2 || nat_eq plan.column 3) && is_some (size_of plan.mcs plan.column)) Mcs
+    ∷ condition enough Punctured
+    ∷ condition (is_none plan.sib1.tdd) Duplex
+    ∷ condition (not plan.sib1.extended) Extension
+    ∷ condition (text_fits plan) Sib1Long
+    ∷ []
+
+-- enough is sent of the block of a plan. With one antenna port, where not every coded bit is sent, this asks for a
+-- block that can be resolved; a plan that has none fails it
+abbrev pub is_enough : Carrier → CellPlan → Bool
+is_enough OnePort plan = is_whole plan || (has_block plan && is_resolvable plan)
+is_enough TwoPorts plan = is_whole_of true plan
+is_enough LongPrefix plan = is_whole plan || (has_block plan && is_resolvable plan)
+is_enough FourPorts plan = is_whole plan || (has_block plan && is_resolvable plan)
+
+-- the conditions of a plan that is sent by a carrier
+abbrev pub conditions_of : Carrier → CellPlan → List Condition
+conditions_of carrier plan = conditions_with (is_enough carrier plan) plan
+
+-- the cause of the first condition that fails, of a plan that is sent by a carrier
+abbrev pub refusal_of : Carrier → CellPlan → Option CellError
+refusal_of carrier plan = first_failed (conditions_of carrier plan)
+
+-- the cause of the first condition that fails, of a plan that is sent with one antenna port
+abbrev pub plan_refusal : CellPlan → Option CellError
+plan_refusal plan = refusal_of OnePort plan

@@ -1,0 +1,93 @@
+-- The transport block of a plan, which carries SystemInformationBlockType1, and whether the bits that are sent of it
+-- are enough (TS 36.212 section 5.3.2, TS 36.213 section 7.1.7).
+use Rattle.std.specs.Prelude.{◌≡◌, ℕ, ◌+◌, ◌-◌, ◌*◌, Bool, false, not, ◌&&◌, nat_eq, nat_le, is_none, List, [], ◌++◌}
+use Rattle.std.specs.Prelude.{length, replicate, slice_index_or}
+use Rattle.std.specs.List.{position_or_len}
+use Rattle.std.specs.Option.{unwrap_or, option_map_or}
+use Rattle.finite.specs.Tests.{every_below}
+use Rattle.cs_bits.specs.Checks.{with_check_24}
+use Rattle.turbo_code.specs.declared.rows.Row.{Row}
+use Rattle.turbo_code.specs.declared.encoder.Coded.{Coded}
+use Rattle.turbo_code.specs.Table.{row, rows, IsSize}
+use Rattle.turbo_code.specs.Encoder.{coded}
+use Rattle.erasure.specs.Known.{resolvable, sent_of}
+use Rattle.grid_map.specs.Shared.{block_places_of}
+use Rattle.dci.specs.Sizes.{size_of}
+use Rattle.sib1.specs.Text.{text_of}
+use Rattle.cell_plan.specs.declared.cell.CellPlan.{CellPlan}
+
+-- ---- the block
+
+-- the size of the transport block, without its check; 0 where the table has none
+abbrev pub block_size : CellPlan → ℕ
+block_size plan = unwrap_or (size_of plan.mcs plan.column) 0
+
+-- the block and its check of 24 bits
+abbrev pub checked_size : CellPlan → ℕ
+checked_size plan = block_size plan + 24
+
+-- the text of SystemInformationBlockType1
+abbrev pub system_text : CellPlan → List Bool
+system_text plan = unwrap_or (text_of plan.sib1) []
+
+-- bits and then zeros, as many in all as the number says
+abbrev pub filled : ℕ → List Bool → List Bool
+filled size bits = bits ++ replicate (size - length bits) false
+
+-- the transport block and its check: the text, followed by zeros
+unfoldable pub shared_word : CellPlan → List Bool
+shared_word plan = with_check_24 (filled (block_size plan) (system_text plan))
+
+-- the row of the turbo code's table for a block of K bits
+unfoldable pub row_with : ℕ → Row
+row_with k = slice_index_or rows (position_or_len (λ r. nat_eq r.k k) rows) (row k 0 0)
+
+-- a plan has a block: SystemInformationBlockType1 is without TDD-Config and extension, and its text fits
+abbrev pub text_fits : CellPlan → Bool
+text_fits plan = option_map_or (λ text. nat_le (length text) (block_size plan)) (text_of plan.sib1) false
+
+abbrev pub has_block : CellPlan → Bool
+has_block plan = (is_none plan.sib1.tdd && not plan.sib1.extended) && text_fits plan
+
+-- ---- the coded block
+
+-- the coded word of the transport block and its check
+unfoldable pub shared_coded : CellPlan → List (List Bool)
+shared_coded plan = coded (row_with (checked_size plan)) (shared_word plan)
+
+-- K and the three streams are those of the coded word of a plan
+pub record IsCoded (plan : CellPlan) (word : Coded) : Type 0 where
+  pub size : IsSize word.k
+  pub k : word.k ≡ checked_size plan
+  pub d : word.d ≡ shared_coded plan
+
+-- ---- what is sent of the block
+
+-- the bits that the assigned resource blocks carry with two antenna ports or one: two in each place
+abbrev pub assigned_bits_of : Bool → CellPlan → ℕ
+assigned_bits_of two plan = 2 * (block_places_of two plan.cfi * plan.blocks)
+
+-- the bits that the assigned resource blocks carry with one antenna port
+abbrev pub assigned_bits : CellPlan → ℕ
+assigned_bits plan = assigned_bits_of false plan
+
+-- how many coded bits the block has: three streams, each with four bits of its tails
+abbrev pub coded_count : CellPlan → ℕ
+coded_count plan = 3 * (checked_size plan + 4)
+
+-- each coded bit of the block is sent at least once, with two antenna ports or one
+abbrev pub is_whole_of : Bool → CellPlan → Bool
+is_whole_of two plan = nat_le (coded_count plan) (assigned_bits_of two plan)
+
+-- each coded bit of the block is sent at least once, with one antenna port
+abbrev pub is_whole : CellPlan → Bool
+is_whole plan = is_whole_of false plan
+
+-- a word of K bits can be resolved by the first bits of the reading, as many as the count says, from each redundancy
+-- version on
+unfoldable pub is_resolvable_by : ℕ → ℕ → List Bool → Bool
+is_resolvable_by k count word = every_below 4 (λ rv. resolvable (row_with k) (sent_of k rv count) word)
+
+-- the plan's block and its check can be resolved by the bits that are sent
+abbrev pub is_resolvable : CellPlan → Bool
+is_resolvable plan = is_resolvable_by (checked_size plan) (assigned_bits plan) (shared_word plan)

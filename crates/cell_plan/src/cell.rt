@@ -1,0 +1,304 @@
+//! Plans of cells, and the cells that can be sent.
+
+ghost use Rattle.std.specs.Prelude.{◌≡◌, ◌+◌, ◌≤◌, ◌&&◌, ◌||◌, nat_eq, nat_le, false, if◌then◌else◌, length, Some};
+ghost use Rattle.std.specs.Prelude.{None, MatchOption, MatchResult, IfSome, IfOk};
+ghost use Rattle.std.specs.Option.{option_map_or};
+ghost use Rattle.lte_types.specs.Ranges.{IsValid};
+ghost use Rattle.dci.specs.Sizes.{size_of};
+ghost use Rattle.sib1.specs.Text.{text_of};
+ghost use Rattle.turbo_code.specs.Table.{IsSize};
+ghost use Rattle.cell_plan.specs.Transport.{block_size, has_block, is_whole_of, is_resolvable};
+ghost use Rattle.cell_plan.specs.Plan.{is_enough};
+
+use crate::CellError;
+use crate::transport::{block_fills, coded_block};
+use grid_map::block_places;
+use lte_types::{Assignment, Carrier, CellId, Cfi, Duration, Resource, Sib1};
+use std::fmt::{self, Debug, Formatter, Write};
+use std::marker::Model;
+use turbo_code::Coded;
+use uper::Writer;
+
+/// What a cell is to send, by whichever carrier. Its master block has bandwidth n6, the antenna ports of the carrier
+/// in the mask of its check, and the upper bits of the frame's number. With the extended cyclic prefix or four antenna
+/// ports only the identity, the PHICH fields and the spare bits are sent: there is no control region and no system
+/// information (own).
+#[derive(Debug, Drop)]
+pub struct CellPlan {
+    /// The physical-layer cell identity, 0 to 503 (TS 36.211 section 6.11).
+    pub identity: u16,
+    /// phich-Duration.
+    pub duration: Duration,
+    /// phich-Resource.
+    pub resource: Resource,
+    /// The 10 spare bits of the master block, 0 to 1023.
+    pub spare: u16,
+    /// The control format indicator, 2 or 3 (TS 36.212 section 5.3.4).
+    pub cfi: u8,
+    /// The first resource block of SystemInformationBlockType1, 0 to 5.
+    pub start: u8,
+    /// The count of resource blocks of SystemInformationBlockType1, 1 to 6; with `start` at most 6.
+    pub blocks: u8,
+    /// The modulation and coding scheme of SystemInformationBlockType1, of which `column` has a size.
+    pub mcs: u8,
+    /// The column of the table of sizes, 2 or 3.
+    pub column: u8,
+    /// The block itself, without TDD-Config and extension.
+    pub sib1: Sib1,
+}
+
+/// A plan that was accepted. Contracts see it as the plan.
+#[derive(Drop)]
+pub struct Cell {
+    plan: CellPlan,
+    // The coded word of the plan's transport block, made once.
+    coded: Coded,
+}
+
+impl CellPlan {
+    ghost use Rattle.std.specs.Prelude.{◌*◌};
+    ghost use Rattle.grid_map.specs.Shared.{block_places_of};
+
+    /// The places that the assigned resource blocks have for the shared channel with two antenna ports or
+    /// one: with one port 102 each with `cfi` 2 and 90 with 3, and with two ports 96 and 84. Six blocks have at
+    /// most 612.
+    pub fn assigned_places(&self, two: bool) -> usize
+        ensures value { result ≡ block_places_of two self.now.cfi * self.now.blocks }
+        ensures bound { self.now.blocks ≤ 6 → result ≤ 612 }
+    {
+        block_places(two, self.cfi) * self.blocks as usize
+    }
+}
+
+// Some of the six resource blocks are assigned, one after the other.
+fn has_blocks(plan: &CellPlan) -> bool
+    ensures { result ≡ (nat_le 1 plan.now.blocks && nat_le (plan.now.start + plan.now.blocks) 6) }
+{
+    1 <= plan.blocks && plan.start as u32 + plan.blocks as u32 <= 6
+}
+
+// The size of the transport block, where the plan's column is one of the table and has one.
+fn size_of(plan: &CellPlan) -> Option<u16>
+    ensures value { result ≡ (if nat_eq plan.now.column 2 || nat_eq plan.now.column 3
+        then size_of plan.now.mcs plan.now.column else None) }
+    ensures row { IfSome result (λ size. IsSize (size + 24)) }
+    ensures room { IfSome result (λ size. size ≤ 1000) }
+{
+    if plan.column == 2 || plan.column == 3 {
+        dci::size(plan.mcs, plan.column)
+    } else {
+        None
+    }
+}
+
+// The text of a block without an extension, which has at most `size` bits; `None` exactly where it has more.
+fn text_of(fields: &Sib1, size: u16) -> Option<Writer>
+    requires valid { IsValid fields.now }
+    requires plain { fields.now.extended ≡ false }
+    requires size { size ≤ 1000 }
+    ensures { MatchOption result
+        (option_map_or (λ text. nat_le (length text) size) (text_of fields.now) false ≡ false)
+        (λ text. (text_of fields.now ≡ Some text) × (length text ≤ size)) }
+{
+    let mut text = Writer::new();
+    if sib1::write(fields, &mut text) && text.bits().len() <= size as usize {
+        Some(text)
+    } else {
+        None
+    }
+}
+
+// Whether the assigned resource blocks carry each coded bit of the transport block and its check, with two antenna
+// ports or one: three streams, each with four bits of its tails.
+fn is_sent_whole(two: bool, plan: &CellPlan, size: u16) -> bool
+    requires blocks { plan.now.blocks ≤ 6 }
+    requires size { block_size plan.now ≡ size }
+    ensures { result ≡ is_whole_of two plan.now }
+{
+    3 * (size as usize + 24 + 4) <= 2 * plan.assigned_places(two)
+}
+
+// Whether the plan has a transport block that can be resolved by the bits which these blocks carry.
+fn has_resolvable_block(plan: &CellPlan, size: u16) -> bool
+    requires valid { IsValid plan.now.sib1 }
+    requires blocks { plan.now.blocks ≤ 6 }
+    requires size { block_size plan.now ≡ size }
+    requires row { IsSize (size + 24) }
+    requires room { size ≤ 1000 }
+    ensures { result ≡ (has_block plan.now && is_resolvable plan.now) }
+{
+    if plan.sib1.tdd.is_some() || plan.sib1.extended {
+        return false;
+    }
+    match text_of(&plan.sib1, size) {
+        Some(text) => block_fills(text.bits(), size, 2 * plan.assigned_places(false) as u16),
+        None => false,
+    }
+}
+
+// Whether the bits that a carrier sends of the transport block are enough.
+fn is_sent_enough(carrier: Carrier, plan: &CellPlan, size: u16) -> bool
+    requires valid { IsValid plan.now.sib1 }
+    requires blocks { plan.now.blocks ≤ 6 }
+    requires size { block_size plan.now ≡ size }
+    requires row { IsSize (size + 24) }
+    requires room { size ≤ 1000 }
+    ensures { result ≡ is_enough carrier plan.now }
+{
+    match carrier {
+        Carrier::OnePort | Carrier::LongPrefix | Carrier::FourPorts => {
+            is_sent_whole(false, plan, size) || has_resolvable_block(plan, size)
+        }
+        Carrier::TwoPorts => is_sent_whole(true, plan, size),
+    }
+}
+
+impl Model for Cell {
+    ghost use Rattle.cell_plan.specs.declared.cell.CellPlan.{CellPlan as Plan};
+    ghost use Rattle.cell_plan.specs.Plan.{IsSendable};
+    ghost use Rattle.cell_plan.specs.Transport.{IsCoded};
+
+    ghost Value = { Plan };
+
+    ghost view = { λ c. c.plan };
+
+    ghost invariant = { λ c. IsSendable c.plan × IsCoded c.plan c.coded };
+}
+
+// A cell is told as its plan.
+impl Debug for Cell {
+    fn fmt<W: Write>(&self, f: &mut Formatter<W>) -> fmt::Result {
+        self.plan.fmt(f)
+    }
+}
+
+impl Cell {
+    ghost use Rattle.dci.specs.Sizes.{size_of};
+    ghost use Rattle.cell_plan.specs.Plan.{IsSendable, IsSendableBy, plan_refusal, refusal_of};
+    ghost use Rattle.cell_plan.specs.Transport.{IsCoded};
+
+    /// The cell of a plan whose SystemInformationBlockType1 is in its ranges, to be sent by a carrier, or the first
+    /// failed condition:
+    ///
+    /// - `Identity`: at most 503.
+    /// - `Spare`: at most 1023.
+    /// - `Cfi`: 2 or 3.
+    /// - `Assignment`: `blocks` is at least 1, and `start` + `blocks` at most 6.
+    /// - `Mcs`: `column` is 2 or 3, and its table has a size for `mcs`.
+    /// - `Punctured`: the assigned blocks carry each coded bit at least once, or, but for two antenna ports, a
+    ///   transport block that can be resolved by the bits which they carry, from each redundancy version on
+    ///   (`erasure::fills`). They carry 204 bits each with `cfi` 2 and 180 with 3, and beside the reference signals
+    ///   of two ports 192 and 168; a block of so many bits and its check has three bits for each of them and twelve
+    ///   more. There is a block to be resolved where the last three conditions hold.
+    /// - `Duplex`: there is no TDD-Config.
+    /// - `Extension`: there is no extension.
+    /// - `Sib1Long`: the text of SystemInformationBlockType1 fits the size.
+    ///
+    /// With the extended cyclic prefix or four antenna ports the conditions are those of one antenna port, though
+    /// system information is not sent. (own)
+    pub fn of(carrier: Carrier, plan: CellPlan) -> Result<Cell, CellError>
+        requires { IsValid plan.sib1 }
+        ensures refusal { MatchResult result (λ _. refusal_of carrier plan ≡ None)
+            (λ cause. refusal_of carrier plan ≡ Some cause) }
+        ensures plan { IfOk result (λ cell. cell ≡ plan) }
+        ensures sendable { IfOk result (λ cell. IsSendableBy carrier cell) }
+    {
+        if CellId::new(plan.identity).is_none() {
+            return Err(CellError::Identity);
+        }
+        if plan.spare > 1023 {
+            return Err(CellError::Spare);
+        }
+        if plan.cfi < 2 || plan.cfi > 3 {
+            return Err(CellError::Cfi);
+        }
+        if !has_blocks(&plan) {
+            return Err(CellError::Assignment);
+        }
+        let Some(size) = size_of(&plan) else {
+            return Err(CellError::Mcs);
+        };
+        if !is_sent_enough(carrier, &plan, size) {
+            return Err(CellError::Punctured);
+        }
+        if plan.sib1.tdd.is_some() {
+            return Err(CellError::Duplex);
+        }
+        if plan.sib1.extended {
+            return Err(CellError::Extension);
+        }
+        let Some(text) = text_of(&plan.sib1, size) else {
+            return Err(CellError::Sib1Long);
+        };
+        let coded = coded_block(text.bits(), size);
+        Ok(Cell { plan, coded })
+    }
+
+    /// The cell of a plan with one antenna port and the normal cyclic prefix.
+    pub fn new(plan: CellPlan) -> Result<Cell, CellError>
+        requires { IsValid plan.sib1 }
+        ensures refusal { MatchResult result (λ _. plan_refusal plan ≡ None)
+            (λ cause. plan_refusal plan ≡ Some cause) }
+        ensures plan { IfOk result (λ cell. cell ≡ plan) }
+        ensures sendable { IfOk result IsSendable }
+    {
+        Cell::of(Carrier::OnePort, plan)
+    }
+
+    /// The plan.
+    pub fn plan(&self) -> &CellPlan
+        ensures plan { result.now ≡ self.now }
+        ensures sendable { IsSendable self.now }
+    {
+        &self.plan
+    }
+
+    /// The physical-layer cell identity.
+    pub fn id(&self) -> CellId
+        ensures value { result ≡ self.now.identity }
+        ensures sendable { IsSendable self.now }
+    {
+        match CellId::new(self.plan.identity) {
+            Some(id) => id,
+            None => unreachable!(),
+        }
+    }
+
+    /// The control format indicator, 2 or 3.
+    pub fn cfi(&self) -> Cfi
+        ensures value { result ≡ self.now.cfi }
+    {
+        match Cfi::new(self.plan.cfi) {
+            Some(cfi) => cfi,
+            None => unreachable!(),
+        }
+    }
+
+    /// The assigned resource blocks, and the control format indicator.
+    pub fn assignment(&self) -> Assignment
+        ensures { result ≡ record { cfi = self.now.cfi; start = self.now.start; blocks = self.now.blocks } }
+    {
+        match Assignment::new(self.cfi(), self.plan.start, self.plan.blocks) {
+            Some(assignment) => assignment,
+            None => unreachable!(),
+        }
+    }
+
+    /// The size of the transport block in bits, without its check (TS 36.213 section 7.1.7.2).
+    pub fn size(&self) -> u16
+        ensures value { result ≡ block_size self.now }
+        ensures entry { size_of self.now.mcs self.now.column ≡ Some result }
+    {
+        match dci::size(self.plan.mcs, self.plan.column) {
+            Some(size) => size,
+            None => unreachable!(),
+        }
+    }
+
+    /// The coded word of the transport block and its check (TS 36.212 section 5.3.2).
+    pub fn coded(&self) -> &Coded
+        ensures { IsCoded self.now result.now }
+    {
+        &self.coded
+    }
+}

@@ -1,0 +1,19 @@
+//! Which cells can be sent: plans with their conditions, the transport block of SystemInformationBlockType1, and the
+//! gains, the timing and the count of samples with which a cell is sent (TS 36.212 section 5.3.2, TS 36.213 section
+//! 7.1.7, and own).
+#![tactic(auto)]
+
+mod cell;
+mod emission;
+mod error;
+mod laws;
+mod pair;
+mod transmission;
+mod transport;
+
+pub use cell::{Cell, CellPlan};
+pub use emission::Emission;
+pub use error::CellError;
+pub use laws::accepted_are_sendable;
+pub use pair::{gain_of_pair, pair_of};
+pub use transmission::Transmission;

@@ -1,0 +1,73 @@
+//! A cell with the frame, the offset, the count of samples and the gain that are sent.
+
+ghost use Rattle.std.specs.Prelude.{◌≡◌};
+ghost use Rattle.cs_num.specs.Gain.{IsGain};
+ghost use Rattle.lte_types.specs.Timing.{IsOffset};
+ghost use Rattle.cell_plan.specs.Gains.{IsCount};
+ghost use Rattle.cell_plan.specs.Pair.{gain_of};
+
+use crate::{Cell, Emission, gain_of_pair, pair_of};
+use cs_num::Gain;
+use lte_types::{Sfn, Timing};
+
+/// What is sent of a cell: `samples` samples from sample `offset` of the frame numbered `sfn` on, each times the gain.
+/// (own)
+#[derive(Debug, Drop)]
+pub struct Transmission {
+    /// The cell.
+    pub cell: Cell,
+    /// The number of the first frame.
+    pub sfn: Sfn,
+    /// The first sample of that frame which is sent, 0 to 19,199.
+    pub offset: u32,
+    /// The number of samples, 57,600 to 1,920,000.
+    pub samples: u32,
+    /// The gain, real before imaginary; the square of its size is 1 to 784.
+    pub gain: (i16, i16),
+    pub ghost offset_range: { IsOffset offset },
+    pub ghost samples_range: { IsCount samples },
+    pub ghost gain_range: { IsGain (gain_of gain) },
+}
+
+impl Transmission {
+    ghost use Rattle.std.specs.Prelude.{None};
+    ghost use Rattle.cs_num.specs.Complex.{value_at};
+    ghost use Rattle.lte_types.specs.declared.carrier.Carrier.TheVariants.{OnePort};
+
+    /// The transmission that an emission of one antenna port with the normal cyclic prefix and without load is.
+    pub fn of(emission: Emission) -> Transmission
+        requires carrier { emission.carrier ≡ OnePort }
+        requires load { emission.load ≡ None }
+        ensures cell { result.cell ≡ emission.cell }
+        ensures sfn { result.sfn ≡ emission.timing.sfn }
+        ensures offset { result.offset ≡ emission.timing.offset }
+        ensures samples { result.samples ≡ emission.samples }
+        ensures gain { gain_of result.gain ≡ value_at emission.gains 0 }
+    {
+        Transmission {
+            gain: pair_of(emission.gains[0]),
+            sfn: emission.timing.sfn,
+            offset: emission.timing.offset,
+            samples: emission.samples,
+            cell: emission.cell,
+        }
+    }
+
+    /// The first frame and the first sample of it which is sent.
+    pub fn timing(&self) -> Timing
+        ensures sfn { result.sfn ≡ self.now.sfn }
+        ensures offset { result.offset ≡ self.now.offset }
+    {
+        Timing {
+            sfn: self.sfn,
+            offset: self.offset,
+        }
+    }
+
+    /// The gain as a number.
+    pub fn gain(&self) -> Gain
+        ensures { result ≡ gain_of self.now.gain }
+    {
+        gain_of_pair(self.gain)
+    }
+}
