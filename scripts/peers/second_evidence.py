@@ -81,14 +81,24 @@ def pilots(r, entry, j, rule):
     return [pilots_of(symbols, cell, 1, port, rule) for port in range(rule.ports)]
 
 
+def by_symbol(its):
+    """The pilots of a port symbol by symbol: 24 stand in two symbols by turns, 12 in one."""
+    symbols = len(its) // 12
+    return [its[first::symbols] for first in range(symbols)]
+
+
+def bends(its):
+    """How far three pilots are from a line, squared, for each three that follow one another."""
+    return sum(sum((a - 2 * b + c) ** 2 for a, b, c in zip(*three)) for three in zip(its, its[1:], its[2:]))
+
+
 def line(r, told, entry, rule):
     start, cell, sfn, *_ = entry
     t = min(t for t, place in told if place == (cell, start))
     frames, j, phase, cost, total = read(r, entry, rule)
     ports = pilots(r, entry, j, rule)
     power = sum(24 // len(there) * (a * a + b * b) for there, _ in ports for a, b in there)
-    steps = [pair for _, its in ports for pair in zip(its, its[1:])]
-    noise = sum((a - c) ** 2 + (b - d) ** 2 for (a, b), (c, d) in steps) // (2 * 16_200)
+    noise = sum(bends(symbol) for _, its in ports for symbol in by_symbol(its)) // (6 * 16_200)
     return (
         f"{cell} {start} {sfn} t {t} peak {thousandths(r, t, cell % 3)} cost {cost} total {total} "
         f"frames {frames} frame {j} phase {phase} power {power} noise {noise}"

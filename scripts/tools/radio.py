@@ -11,8 +11,8 @@ RATE = 1_920_000
 FRAME = 19_200
 LONGEST = RATE  # samples: one second
 FULL = 32_767
-# how many reference elements `power` of `evidence` counts, and steps from one to the next `noise`, by antenna ports
-REFERENCES = {1: (24, 23), 2: (48, 46), 4: (96, 68)}
+# how many reference elements `power` of `evidence` counts, and second differences `noise`, by antenna ports
+REFERENCES = {1: (24, 20), 2: (48, 40), 4: (96, 60)}
 PSS_ROOTS = (25, 29, 34)  # TS 36.211 table 6.11.1.1-1, by the identity within its group
 
 
@@ -51,8 +51,8 @@ def pss(n2):
 def elements(power, noise, ports=1):
     """Signal and noise of a reference element, the mean of the antenna ports, by two numbers of `evidence`
     (docs/RECORDINGS.md, "What the numbers say")."""
-    count, steps = REFERENCES[ports]
-    return power / count - noise / steps, noise / steps
+    count, differences = REFERENCES[ports]
+    return power / count - noise / differences, noise / differences
 
 
 def decibels(quotient):

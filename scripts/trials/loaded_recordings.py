@@ -89,7 +89,7 @@ def is_clear(samples, place):
     return (
         (numbers["cost"], numbers["frames"], numbers["frame"]) == (0, 1, 0)
         and numbers["peak"] >= 999
-        and 5 * numbers["noise"] <= numbers["power"]
+        and 4 * numbers["noise"] <= numbers["power"]
     )
 
 

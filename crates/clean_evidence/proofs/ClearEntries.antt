@@ -12,7 +12,7 @@ use Rattle.explain.specs.Entries.{IsInList}
 use Rattle.cell_plan.specs.declared.cell.CellPlan.{CellPlan}
 use Rattle.cell_plan.specs.Plan.{IsSendable}
 use Rattle.cell_tx.specs.Sent.{Elements}
-use Rattle.evidence.specs.Evidence.{noise_of, steps}
+use Rattle.evidence.specs.Evidence.{noise_of, differences}
 use Rattle.clean_air.specs.Load.{IsLoaded}
 use Rattle.clean_air.specs.Values.{ArePilotsSeen}
 use Rattle.clean_air.specs.Clean.{IsSentEntryOf}
@@ -20,12 +20,12 @@ use Rattle.clean_air.proofs.HeldCells.{holds_cells}
 use Rattle.clean_air.proofs.SentSlots.{pilots_received}
 use Rattle.clean_evidence.specs.Clear.{CleanEntriesAreClear}
 use Rattle.clean_evidence.proofs.PeakOfEntry.{peak_is_high}
-use Rattle.clean_evidence.proofs.PilotSteps.{steps_are_small, steps_are_quiet}
+use Rattle.clean_evidence.proofs.PilotDifferences.{differences_are_small, differences_are_quiet}
 
 -- what is asked of the pilots of the entry's slot
 record HasQuietPilots (gain : Cpx) (slot : SeenSlot) : Type 0 where
-  small : noise_of (steps 23 (pilot slot)) ≤ 171500431 * square gain
-  quiet : 5 * noise_of (steps 23 (pilot slot)) ≤ pilot_energy slot
+  small : noise_of (differences 24 2 (pilot slot)) ≤ 198841079 * square gain
+  quiet : 4 * noise_of (differences 24 2 (pilot slot)) ≤ pilot_energy slot
 
 module _ (recording : List Sample) (entry : Entry) (plan : CellPlan) (grid : Elements) (sfn offset : ℕ) (gain : Cpx) (eps : ℕ) (long : 57600 ≤ length recording)
     (listed : IsInList recording entry) (sendable : IsSendable plan) (clean : IsLoaded recording plan grid sfn offset gain eps)
@@ -45,7 +45,7 @@ module _ (recording : List Sample) (entry : Entry) (plan : CellPlan) (grid : Ele
       subst (λ n. HasQuietPilots gain (broadcast_slot recording n entry.start entry.frame)) (sym id)
       (subst (λ n. HasQuietPilots gain (broadcast_slot recording plan.identity n entry.frame)) (sym start)
       (subst (λ n. HasQuietPilots gain (broadcast_slot recording plan.identity (start_of offset) n)) (sym is_sent.frame)
-      (record { small = steps_are_small gain _ pilots_seen; quiet = steps_are_quiet gain _ pilots_seen })))
+      (record { small = differences_are_small gain _ pilots_seen; quiet = differences_are_quiet gain _ pilots_seen })))
 
 pub clean_entries_are_clear : CleanEntriesAreClear
 clean_entries_are_clear recording entry told plan grid sfn offset gain eps long listed evidence sendable clean id start number =
@@ -56,9 +56,9 @@ clean_entries_are_clear recording entry told plan grid sfn offset gain eps long 
       frames = evidence.frames ∙ sent.frames;
       frame = evidence.frame ∙ sent.frame;
       peak = subst (λ n. 999 ≤ n) (sym evidence.peak) (peak_is_high recording plan grid sfn offset gain eps entry told.t long clean id start evidence.t.told);
-      noise = subst (λ n. n ≤ 171500431 * square gain) (sym evidence.noise) pilots.small;
-      quiet = two (noise_of (steps 23 _)) told.noise (pilot_energy _) told.power evidence.noise evidence.power pilots.quiet;
+      noise = subst (λ n. n ≤ 198841079 * square gain) (sym evidence.noise) pilots.small;
+      quiet = two (noise_of (differences 24 2 _)) told.noise (pilot_energy _) told.power evidence.noise evidence.power pilots.quiet;
     }
   where
-    two : (m noise e power : ℕ) → noise ≡ m → power ≡ e → 5 * m ≤ e → 5 * noise ≤ power
+    two : (m noise e power : ℕ) → noise ≡ m → power ≡ e → 4 * m ≤ e → 4 * noise ≤ power
     two m noise e power h k q = omega (arith, h, k, q)

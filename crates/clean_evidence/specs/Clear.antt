@@ -15,15 +15,16 @@ use Rattle.evidence.specs.Evidence.{IsEvidence}
 use Rattle.clean_air.specs.Load.{IsLoaded}
 
 -- The word cost nothing and was read from the first whole frame alone; at least 999 thousandths of the energy at the
--- hit are the primary signal's; and the noise is small against the gain and against the power. The bound is 23 times
--- the square of twice 128 times 1920, by 32400, rounded up: each of two pilots is off by 30 units of amplitude.
+-- hit are the primary signal's; and the noise is small against the gain and against the power. The bound is 20 times
+-- the square of four times 128 times 1920, by 97200, rounded up: three pilots are off by 30 units of amplitude each, and
+-- the middle one counts twice.
 pub record IsClear (gain : Cpx) (told : Evidence) : Type 0 where
   pub cost : told.cost ≡ 0
   pub frames : told.frames ≡ 1
   pub frame : told.frame ≡ 0
   pub peak : 999 ≤ told.peak
-  pub noise : told.noise ≤ 171500431 * square gain
-  pub quiet : 5 * told.noise ≤ told.power
+  pub noise : told.noise ≤ 198841079 * square gain
+  pub quiet : 4 * told.noise ≤ told.power
 
 -- each entry of a clean cell is clear, whatever the cell's plan is, what it sends elsewhere, its first frame's
 -- number, the offset, the gain and the errors

@@ -4,8 +4,8 @@ ghost use Rattle.clean_evidence.specs.Clear.{CleanEntriesAreClear};
 
 /// What supports the entry of a cell of which a recording is clean, whatever else the cell sends: its word cost
 /// nothing and was read from the cell's first whole frame alone, at least 999 thousandths of the energy at its hit
-/// are the primary signal's, and the noise is at most 171,500,431 times the square of the gain's size and at most a
-/// fifth of the power. So an entry with a cost, or of more frames than one, or with a lower peak is of no clean cell.
+/// are the primary signal's, and the noise is at most 198,841,079 times the square of the gain's size and at most a
+/// quarter of the power. So an entry with a cost, or of more frames than one, or with a lower peak is of no clean cell.
 /// (own)
 pub fn clean_entries_are_clear()
     ensures { CleanEntriesAreClear }

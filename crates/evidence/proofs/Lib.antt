@@ -1,5 +1,5 @@
 pub mod Fractions
-pub mod Steps
+pub mod SecondDifferences
 pub mod Least
 pub mod Numbers
 pub mod Only

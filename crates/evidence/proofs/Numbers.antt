@@ -9,7 +9,7 @@ use Rattle.explain.specs.Entries.{IsEntryFor, place_of, frames_of}
 use Rattle.explain.specs.Laws.{IsEntryOfSome}
 use Rattle.explain.specs.Readings.{IsReadingFor}
 use Rattle.explain.specs.Receiver.{Receiver, hits_by, sums_by}
-use Rattle.evidence.specs.Evidence.{slot_by, power_by, steps_by, noise_of, numbers_by, IsEvidenceFor, IsInRange, IsHitOfEntry}
+use Rattle.evidence.specs.Evidence.{slot_by, power_by, differences_by, noise_of, numbers_by, IsEvidenceFor, IsInRange, IsHitOfEntry}
 use Rattle.evidence.proofs.Fractions.{at_most_whole, hit_sounds, hit_within, hit_is_clear, hit_fraction}
 use Rattle.evidence.proofs.Least.{first_tells}
 
@@ -30,9 +30,9 @@ module _ (receiver : Receiver) (recording : List Sample) (entry : Entry) (readin
   is_within = hit_within receiver.carrier recording entry reading.hit hit_is
 
   -- and the numbers by it, and by the sums of the pilots of the entry's slot, are the entry's
-  pub are_numbers : (power steps : ℕ) → power ≡ power_by receiver.carrier (slot_by receiver.carrier recording (place_of entry) entry.frame) →
-      steps ≡ steps_by receiver.carrier (slot_by receiver.carrier recording (place_of entry) entry.frame) → IsEvidenceFor receiver recording entry (numbers_by entry reading power steps)
-  are_numbers power steps p s = record {
+  pub are_numbers : (power differences : ℕ) → power ≡ power_by receiver.carrier (slot_by receiver.carrier recording (place_of entry) entry.frame) →
+      differences ≡ differences_by receiver.carrier (slot_by receiver.carrier recording (place_of entry) entry.frame) → IsEvidenceFor receiver recording entry (numbers_by entry reading power differences)
+  are_numbers power differences p s = record {
     id = refl;
     start = refl;
     sfn = refl;
@@ -48,8 +48,8 @@ module _ (receiver : Receiver) (recording : List Sample) (entry : Entry) (readin
   }
 
   -- in their ranges
-  pub are_in_range : (power steps : ℕ) → IsInRange (numbers_by entry reading power steps)
-  are_in_range power steps =
+  pub are_in_range : (power differences : ℕ) → IsInRange (numbers_by entry reading power differences)
+  are_in_range power differences =
       let master = e.is_of.master.told in
       let heard = master.tells.heard in
       let clear = master.tells.clear in

@@ -1,11 +1,13 @@
 -- What supports an entry of a list by a receiver. (own)
-use Rattle.std.specs.Prelude.{◌≡◌, ℕ, ◌+◌, ◌*◌, ◌/◌, ◌%◌, ◌<◌, ◌≤◌, List}
+use Rattle.std.specs.Prelude.{◌≡◌, ℕ, ◌+◌, ◌-◌, ◌*◌, ◌/◌, ◌%◌, ◌<◌, ◌≤◌, List}
 use Rattle.std.specs.List.{Contains}
 use Rattle.finite.specs.Sums.{total_below}
 use Rattle.cs_num.specs.declared.Cpx.{Cpx}
 use Rattle.cs_num.specs.declared.Sample.{Sample}
-use Rattle.cs_num.specs.Complex.{minus, square}
+use Rattle.cs_num.specs.Complex.{plus, minus, multiple, square}
 use Rattle.crs.specs.Power.{point_power}
+use Rattle.crs.specs.declared.pattern.Pattern.{Pattern}
+use Rattle.crs.specs.declared.upper.UpperPort.{UpperPort}
 use Rattle.crs.specs.declared.upper.UpperPort.TheVariants.{Third, Fourth}
 use Rattle.crs.specs.Reference.{port_0, port_1, long_prefix}
 use Rattle.lte_types.specs.declared.carrier.Carrier.{Carrier}
@@ -63,26 +65,40 @@ power_by TwoPorts slot = pilots_energy slot
 power_by LongPrefix slot = pattern_energy long_prefix slot
 power_by FourPorts slot = ports_energy slot
 
--- the square of the size of the step from one pilot to the next
-abbrev pub step_power : (ℕ → Cpx) → ℕ → ℕ
-step_power pilots i = square (minus (pilots (i + 1)) (pilots i))
+-- the second difference of pilots: how far both neighbours of a pilot in its symbol are from it, together. `stride`
+-- pilots on stands the next one of the same symbol, so that a turn from one symbol to the other makes none
+abbrev pub second_difference : ℕ → (ℕ → Cpx) → ℕ → Cpx
+second_difference stride pilots i =
+    minus (plus (pilots i) (pilots (i + 2 * stride))) (multiple 2 (pilots (i + stride)))
 
--- the sum of the squares of the steps from pilot to pilot of a port, up to the last, whose number is given
-unfoldable pub steps : ℕ → (ℕ → Cpx) → ℕ
-steps last pilots = total_below last (step_power pilots)
+-- the square of its size
+abbrev pub difference_power : ℕ → (ℕ → Cpx) → ℕ → ℕ
+difference_power stride pilots i = square (second_difference stride pilots i)
 
--- the sum of the squares of the steps from pilot to pilot of all ports
-abbrev pub steps_by : Carrier → SeenSlot → ℕ
-steps_by OnePort slot = steps 23 (pattern_pilot port_0 slot)
-steps_by TwoPorts slot = steps 23 (pattern_pilot port_0 slot) + steps 23 (pattern_pilot port_1 slot)
-steps_by LongPrefix slot = steps 23 (pattern_pilot long_prefix slot)
-steps_by FourPorts slot =
-    steps 23 (pattern_pilot port_0 slot) + steps 23 (pattern_pilot port_1 slot)
-    + steps 11 (upper_pilot Third slot) + steps 11 (upper_pilot Fourth slot)
+-- the sum of the squares of the second differences of so many pilots of a port
+unfoldable pub differences : ℕ → ℕ → (ℕ → Cpx) → ℕ
+differences count stride pilots = total_below (count - 2 * stride) (difference_power stride pilots)
 
--- the noise: the sum of the steps' squares, divided by twice the square of a reference value's size, and rounded down
+-- this sum for a port with 24 pilots, in two symbols by turns, and for one with 12, in one symbol
+abbrev pub lower_differences : Pattern → SeenSlot → ℕ
+lower_differences pattern slot = differences 24 2 (pattern_pilot pattern slot)
+
+abbrev pub upper_differences : UpperPort → SeenSlot → ℕ
+upper_differences port slot = differences 12 1 (upper_pilot port slot)
+
+-- the sum of the squares of the second differences of the pilots of all ports: 20, 40 or 60 of them
+abbrev pub differences_by : Carrier → SeenSlot → ℕ
+differences_by OnePort slot = lower_differences port_0 slot
+differences_by TwoPorts slot = lower_differences port_0 slot + lower_differences port_1 slot
+differences_by LongPrefix slot = lower_differences long_prefix slot
+differences_by FourPorts slot =
+    lower_differences port_0 slot + lower_differences port_1 slot
+    + upper_differences Third slot + upper_differences Fourth slot
+
+-- the noise: the sum of the second differences' squares, divided by six times the square of a reference value's size,
+-- and rounded down. Errors of one variance v in what is seen make a second difference of variance 6 v, times that square
 abbrev pub noise_of : ℕ → ℕ
-noise_of steps = steps / (2 * point_power)
+noise_of differences = differences / (6 * point_power)
 
 -- ---- the numbers of an entry
 
@@ -101,7 +117,7 @@ pub record IsEvidenceFor (receiver : Receiver) (recording : List Sample) (entry 
   pub phase : told.phase ≡ entry.phase
   pub power : told.power ≡ power_by receiver.carrier (slot_by receiver.carrier recording (place_of entry) entry.frame)
   pub noise : told.noise
-      ≡ noise_of (steps_by receiver.carrier (slot_by receiver.carrier recording (place_of entry) entry.frame))
+      ≡ noise_of (differences_by receiver.carrier (slot_by receiver.carrier recording (place_of entry) entry.frame))
 
 -- these are the numbers of the entry, as the receiver of one antenna port reads it
 abbrev pub IsEvidence : List Sample → Entry → Evidence → Type 0
@@ -124,9 +140,9 @@ pub record IsHitOfEntry (carrier : Carrier) (recording : List Sample) (entry : E
   pub first : IsFirstToldBy carrier recording entry hit.t
   pub root : hit.n2 ≡ entry.id % 3
 
--- the numbers of an entry by how it was read, and by the energy and the steps of the pilots of its slot
+-- the numbers of an entry by how it was read, and by the energy and the differences of the pilots of its slot
 abbrev pub numbers_by : Entry → Reading → ℕ → ℕ → Evidence
-numbers_by entry reading power steps = record {
+numbers_by entry reading power differences = record {
   id = entry.id;
   start = entry.start;
   sfn = entry.sfn;
@@ -138,5 +154,5 @@ numbers_by entry reading power steps = record {
   frame = entry.frame;
   phase = entry.phase;
   power = power;
-  noise = noise_of steps;
+  noise = noise_of differences;
 }

@@ -21,7 +21,7 @@ use Rattle.four_ports.specs.Entries.{four_ports_receiver}
 use Rattle.evidence.specs.declared.shown.PortChannel.{PortChannel}
 use Rattle.evidence.specs.declared.shown.PortChannel.TheVariants.{Lower, Upper}
 use Rattle.evidence.specs.declared.shown.SoftPair.{SoftPair}
-use Rattle.evidence.specs.Evidence.{slot_by, power_by, steps_by, IsEvidenceFor}
+use Rattle.evidence.specs.Evidence.{slot_by, power_by, differences_by, IsEvidenceFor}
 
 -- what supports an entry: its numbers, the channel of each antenna port in its slot, and the soft values of the
 -- broadcast channel there
@@ -58,11 +58,11 @@ pair_at values i = record { re = slice_index_or values (2 * i) (pos 0); im = sli
 unfoldable pub pairs_of : List ℤ → List SoftPair
 pairs_of values = values_below (length values / 2) (pair_at values)
 
--- what a slot shows: the energy of its pilots, and the squares of the steps from one to the next, of all antenna ports
--- together; the channel of each port; and the soft values of the broadcast channel
+-- what a slot shows: the energy of its pilots, and the squares of their second differences, of all antenna ports together;
+-- the channel of each port; and the soft values of the broadcast channel
 pub record SlotShown : Type 0 where
   pub power : ℕ
-  pub steps : ℕ
+  pub differences : ℕ
   pub channel : List PortChannel
   pub values : List SoftPair
 
@@ -70,7 +70,7 @@ pub record SlotShown : Type 0 where
 abbrev pub slot_shown : Carrier → List Sample → Place → ℕ → SlotShown
 slot_shown carrier recording place j = record {
   power = power_by carrier (slot_by carrier recording place j);
-  steps = steps_by carrier (slot_by carrier recording place j);
+  differences = differences_by carrier (slot_by carrier recording place j);
   channel = channels_by carrier (slot_by carrier recording place j);
   values = pairs_of (values_by carrier recording place j);
 }

@@ -43,8 +43,8 @@ pub fn evidence_of_list(
 
 /// What supports an entry of a recording by the receiver for a carrier: the least place of a hit that tells its
 /// identity and start, and how much of the energy there the primary signal explains; the sum of the sizes of the values
-/// that its master block was read from; and the energy of the pilots of its slot, and how much they differ from one to
-/// the next, of all antenna ports together. `reading` is how the entry was read. (own)
+/// that its master block was read from; and the energy of the pilots of its slot, and how much those of one symbol
+/// differ, of all antenna ports together. `reading` is how the entry was read. (own)
 pub fn evidence_of(
     recording: &Recording,
     carrier: Carrier,
@@ -68,8 +68,8 @@ pub(crate) fn numbers_of(entry: &Entry, reading: &Reading, pilots: PilotSums) ->
     requires root { reading.now.hit.n2 ≤ 2 }
     requires sounds { 0 < reading.now.hit.energy }
     requires within { reading.now.hit.peak ≤ reading.now.hit.energy * wave_power reading.now.hit.n2 }
-    requires small { pilots.steps ≤ 92 * 2 ^ 68 }
-    ensures { result ≡ numbers_by entry.now reading.now pilots.energy pilots.steps }
+    requires small { pilots.differences ≤ 96 * 2 ^ 70 }
+    ensures { result ≡ numbers_by entry.now reading.now pilots.energy pilots.differences }
 {
     Evidence {
         id: entry.id,
@@ -83,7 +83,7 @@ pub(crate) fn numbers_of(entry: &Entry, reading: &Reading, pilots: PilotSums) ->
         frame: entry.frame,
         phase: entry.phase,
         power: pilots.energy,
-        noise: noise_of(pilots.steps),
+        noise: noise_of(pilots.differences),
     }
 }
 

@@ -1,42 +1,44 @@
 //! How much the pilots of a slot differ.
 
-ghost use Rattle.std.specs.Prelude.{◌≡◌, ◌+◌, ◌-◌, ◌*◌, ◌^◌, ◌<◌, ◌≤◌, All, length};
+ghost use Rattle.std.specs.Prelude.{◌≡◌, ◌+◌, ◌*◌, ◌^◌, ◌<◌, ◌≤◌, All, length};
 ghost use Rattle.cs_num.specs.Complex.{IsWithin, value_at};
-ghost use Rattle.evidence.specs.Evidence.{step_power as step_power_of, steps, noise_of as noise_by};
+ghost use Rattle.evidence.specs.Evidence.{difference_power as difference_power_of, differences, noise_of as noise_by};
 
 use crs::POINT_POWER;
 use cs_num::Cpx;
 
-// The squares of the steps of four ports at most, together, by twice the square of a reference value's size, rounded
-// down.
+// The squares of the second differences of four ports at most, together, by six times the square of a reference
+// value's size, rounded down.
 pub(crate) fn noise_of(sum: u128) -> u64
-    requires { sum ≤ 92 * 2 ^ 68 }
+    requires { sum ≤ 96 * 2 ^ 70 }
     ensures { result ≡ noise_by sum }
 {
-    (sum / (2 * POINT_POWER as u128)) as u64
+    (sum / (6 * POINT_POWER as u128)) as u64
 }
 
-// The squares of the steps from pilot to pilot, together.
-pub(crate) fn steps_of(pilots: &[Cpx]) -> u128
-    requires some { 1 ≤ length pilots.now }
+// The squares of the second differences of a port's pilots, together. `stride` pilots on stands the next one of the
+// same symbol.
+pub(crate) fn differences_of(pilots: &[Cpx], stride: usize) -> u128
+    requires some { 2 * stride ≤ length pilots.now }
     requires few { length pilots.now ≤ 24 }
     requires within { All (IsWithin (180 * 2 ^ 25)) pilots.now }
-    ensures value { result ≡ steps (length pilots.now - 1) (value_at pilots.now) }
-    ensures small { result ≤ 23 * 2 ^ 68 }
+    ensures value { result ≡ differences (length pilots.now) stride (value_at pilots.now) }
+    ensures small { result ≤ 24 * 2 ^ 70 }
 {
     let mut sum: u128 = 0;
-    for i in 0..pilots.len() - 1 {
-        sum += step_power(pilots, i);
+    for i in 0..pilots.len() - 2 * stride {
+        sum += difference_power(pilots, stride, i);
     }
     sum
 }
 
-// The square of the size of the step from pilot i to the next.
-fn step_power(pilots: &[Cpx], i: usize) -> u128
+// The square of the size of the second difference from pilot i on.
+fn difference_power(pilots: &[Cpx], stride: usize, i: usize) -> u128
     requires small { All (IsWithin (180 * 2 ^ 25)) pilots.now }
-    requires i { i + 1 < length pilots.now }
-    ensures value { result ≡ step_power_of (value_at pilots.now) i }
-    ensures bound { result ≤ 2 ^ 68 }
+    requires i { i + 2 * stride < length pilots.now }
+    ensures value { result ≡ difference_power_of stride (value_at pilots.now) i }
+    ensures bound { result ≤ 2 ^ 70 }
 {
-    (pilots[i + 1] - pilots[i]).norm()
+    let middle = pilots[i + stride].scaled(2);
+    (pilots[i] + pilots[i + 2 * stride] - middle).norm()
 }

@@ -86,20 +86,20 @@ impl Model for SlotShown {
 
     ghost view = { λ s. record {
       power = s.sums.energy;
-      steps = s.sums.steps;
+      differences = s.sums.differences;
       channel = s.channel.items;
       values = s.values.items;
     } };
 
-    ghost invariant = { λ s. s.sums.steps ≤ 92 * 2 ^ 68 };
+    ghost invariant = { λ s. s.sums.differences ≤ 96 * 2 ^ 70 };
 }
 
 impl SlotShown {
     fn new(sums: PilotSums, channel: Vec<PortChannel>, values: Vec<SoftPair>) -> SlotShown
-        requires { sums.steps ≤ 92 * 2 ^ 68 }
+        requires { sums.differences ≤ 96 * 2 ^ 70 }
         ensures { result ≡ record {
           power = sums.energy;
-          steps = sums.steps;
+          differences = sums.differences;
           channel = channel.items;
           values = values.items;
         } }
@@ -113,8 +113,8 @@ impl SlotShown {
 
     fn sums(&self) -> PilotSums
         ensures energy { result.energy ≡ self.now.power }
-        ensures steps { result.steps ≡ self.now.steps }
-        ensures small { result.steps ≤ 92 * 2 ^ 68 }
+        ensures differences { result.differences ≡ self.now.differences }
+        ensures small { result.differences ≤ 96 * 2 ^ 70 }
     {
         self.sums
     }

@@ -18,7 +18,7 @@ fn supports(alloc: Global, bytes: Vec<u8>, text: &str) -> Result<bool, AllocErro
 fn evidence_of_a_plain_cell(rt: HostRuntime) -> Result<(), Fail> {
     let bytes = sent_by(rt.alloc(), "")?.written;
     let text = "evidence 1
-0 0 0 t 832 peak 1000 cost 0 total 32162 frames 1 frame 0 phase 0 power 1590713504 noise 9133
+0 0 0 t 832 peak 1000 cost 0 total 32162 frames 1 frame 0 phase 0 power 1590713504 noise 6886
 ";
     assert!(rt; supports(rt.alloc(), bytes, text)?);
     Ok(())
@@ -28,8 +28,8 @@ fn evidence_of_a_plain_cell(rt: HostRuntime) -> Result<(), Fail> {
 fn evidence_of_a_cell_and_of_an_entry_by_chance(rt: HostRuntime) -> Result<(), Fail> {
     let bytes = sent_by(rt.alloc(), r#", "identity": 46, "spare": 10"#)?.written;
     let text = "evidence 2
-46 0 0 t 832 peak 1000 cost 0 total 32157 frames 1 frame 0 phase 0 power 1592012801 noise 7770
-46 0 267 t 832 peak 1000 cost 1474 total 12061 frames 1 frame 0 phase 3 power 1592012801 noise 7770
+46 0 0 t 832 peak 1000 cost 0 total 32157 frames 1 frame 0 phase 0 power 1592012801 noise 5446
+46 0 267 t 832 peak 1000 cost 1474 total 12061 frames 1 frame 0 phase 3 power 1592012801 noise 5446
 ";
     assert!(rt; supports(rt.alloc(), bytes, text)?);
     Ok(())
@@ -40,7 +40,7 @@ fn evidence_of_a_cell_that_begins_before_the_recording(rt: HostRuntime) -> Resul
     let mut bytes = sent_by(rt.alloc(), EARLY)?.written;
     add_errors(&mut bytes, 56);
     let text = "evidence 1
-503 1 6 t 833 peak 999 cost 0 total 32161 frames 1 frame 0 phase 2 power 1248302040323 noise 4781638
+503 1 6 t 833 peak 999 cost 0 total 32161 frames 1 frame 0 phase 2 power 1248302040323 noise 2804544
 ";
     assert!(rt; supports(rt.alloc(), bytes, text)?);
     Ok(())
@@ -51,7 +51,7 @@ fn evidence_of_a_cell_with_errors_against_the_signal(rt: HostRuntime) -> Result<
     let mut bytes = sent_by(rt.alloc(), TURNED)?.written;
     oppose(&mut bytes, 55);
     let text = "evidence 1
-1 0 4 t 832 peak 999 cost 0 total 32558 frames 1 frame 0 phase 0 power 1140024279413 noise 594151840
+1 0 4 t 832 peak 999 cost 0 total 32558 frames 1 frame 0 phase 0 power 1140024279413 noise 186309067
 ";
     assert!(rt; supports(rt.alloc(), bytes, text)?);
     Ok(())
@@ -74,7 +74,7 @@ const AS_JSON: &str = "\
 [1035990,-810],[1038150,810],[1036980,0],[1035270,2430],[1037520,-1080],[1036620,1800],[1037700,-1440],\
 [1036710,-3870],[1033740,2520],[1034370,270],[1037520,900],[1034370,2250],[1036800,1980],[1036710,-90],\
 [1036440,1260],[1035090,-810],[1036170,2070],[1035990,-1350]]],\"cost\":0,\"frame\":0,\"frames\":1,\"identity\":0,\
-\"noise\":9133,\"peak\":1000,\"phase\":0,\"power\":1590713504,\"sfn\":0,\"t\":832,\"total\":32162,\"values\":\
+\"noise\":6886,\"peak\":1000,\"phase\":0,\"power\":1590713504,\"sfn\":0,\"t\":832,\"total\":32162,\"values\":\
 [[-67,67],[67,-67],[67,67],[-67,67],[-67,-67],[67,67],[-67,67],[67,67],[-67,67],[-67,-67],[67,-67],[-67,-67],\
 [67,-67],[-67,-67],[-67,67],[67,67],[67,-67],[-67,67],[67,-67],[-67,67],[-67,-67],[67,67],[67,-67],[67,-67],[67,67],\
 [67,67],[67,67],[-67,-67],[67,-67],[-67,67],[67,67],[-67,67],[-67,67],[67,-67],[-67,-67],[67,67],[67,67],[-67,-67],\
@@ -114,7 +114,7 @@ fn no_evidence_is_an_empty_array(rt: HostRuntime) -> Result<(), Fail> {
 fn evidence_of_the_cell_of_number_90_with_two_ports(rt: HostRuntime) -> Result<(), Fail> {
     let (line, bytes) = ("evidence --ports 2", with_two_ports(rt.alloc())?);
     let text = "evidence 1
-90 19110 91 t 742 peak 999 cost 0 total 32160 frames 1 frame 0 phase 3 power 14334247838 noise 226060
+90 19110 91 t 742 peak 999 cost 0 total 32160 frames 1 frame 0 phase 3 power 14334247838 noise 130497
 ";
     assert!(rt; gives(rt.alloc(), line, bytes, Status::Done, text.as_bytes())?);
     Ok(())
@@ -124,7 +124,7 @@ fn evidence_of_the_cell_of_number_90_with_two_ports(rt: HostRuntime) -> Result<(
 fn evidence_of_the_cell_of_number_90_with_four_ports(rt: HostRuntime) -> Result<(), Fail> {
     let (line, bytes) = ("evidence --ports 4", with_four_ports(rt.alloc())?);
     let text = "evidence 1
-90 19110 91 t 742 peak 999 cost 0 total 32180 frames 1 frame 0 phase 3 power 112936696441 noise 1404742
+90 19110 91 t 742 peak 999 cost 0 total 32180 frames 1 frame 0 phase 3 power 112936696441 noise 1156722
 ";
     assert!(rt; gives(rt.alloc(), line, bytes, Status::Done, text.as_bytes())?);
     Ok(())
@@ -134,7 +134,7 @@ fn evidence_of_the_cell_of_number_90_with_four_ports(rt: HostRuntime) -> Result<
 fn evidence_of_the_cell_of_number_90_with_the_extended_prefix(rt: HostRuntime) -> Result<(), Fail> {
     let (line, bytes) = ("evidence --prefix long", with_long_prefix(rt.alloc())?);
     let text = "evidence 1
-90 19110 91 t 742 peak 999 cost 0 total 28910 frames 1 frame 0 phase 3 power 517982821499 noise 44682436
+90 19110 91 t 742 peak 999 cost 0 total 28910 frames 1 frame 0 phase 3 power 517982821499 noise 46795055
 ";
     assert!(rt; gives(rt.alloc(), line, bytes, Status::Done, text.as_bytes())?);
     Ok(())
@@ -174,7 +174,7 @@ const OF_TWO_PORTS: &str = "\
 [2070630,-2073510],[2070540,-2074140],[2079450,-2075850],[2069100,-2071800],[2068650,-2069370],[2067480,-2069460],\
 [2079000,-2076120],[2075130,-2074770],[2065950,-2076030],[2072520,-2073240],[2081250,-2078910],[2087190,-2077290],\
 [2073060,-2076660],[2075940,-2076480],[2051820,-2079360],[2063340,-2075580]]],\"cost\":0,\"frame\":0,\"frames\":1,\
-\"identity\":90,\"noise\":226060,\"peak\":999,\"phase\":3,\"power\":14334247838,\"sfn\":91,\"t\":742,\
+\"identity\":90,\"noise\":130497,\"peak\":999,\"phase\":3,\"power\":14334247838,\"sfn\":91,\"t\":742,\
 \"total\":32160,\"values\":[[-67,67],[-67,-67],[-67,67],[68,66],[67,-67],[-67,67],[-67,-67],[-67,67],[67,67],\
 [-67,-67],[-67,-66],[67,-67],[67,67],[67,-67],[-67,67],[67,68],[67,-67],[-67,67],[67,67],[-67,67],[-67,67],[67,67],\
 [67,67],[-67,67],[67,-67],[-67,-67],[-67,-67],[-68,68],[-67,66],[-67,67],[67,67],[67,-67],[-67,67],[67,-68],[67,67],\
@@ -209,7 +209,7 @@ const OF_FOUR_PORTS: &str = "\
 [-3119940,-5400],[-3083760,2520],[-3126060,20520],[-3113010,-9990],[-3094290,8370],[-3113190,-4590]],[[-1049130,\
 -4164930],[-1027890,-4152150],[-1043730,-4138290],[-1027080,-4137300],[-1022940,-4149180],[-1036260,-4139280],\
 [-1023660,-4145940],[-1033290,-4112730],[-1014660,-4153320],[-1029060,-4175280],[-1035720,-4145040],[-1035360,\
--4142520]]],\"cost\":0,\"frame\":0,\"frames\":1,\"identity\":90,\"noise\":1404742,\"peak\":999,\"phase\":3,\
+-4142520]]],\"cost\":0,\"frame\":0,\"frames\":1,\"identity\":90,\"noise\":1156722,\"peak\":999,\"phase\":3,\
 \"power\":112936696441,\"sfn\":91,\"t\":742,\"total\":32180,\"values\":[[-64,64],[-64,-64],[-70,70],[70,69],[65,-64],\
 [-64,-64],[-70,70],[-70,70],[64,64],[-64,-63],[-70,70],[70,-70],[-64,65],[65,-64],[70,-69],[70,70],[64,65],[64,64],\
 [-70,70],[-70,-70],[-63,-63],[64,-64],[70,70],[-70,70],[64,-65],[-64,-64],[-70,-70],[-70,70],[-64,64],[-64,65],[70,\
@@ -237,7 +237,7 @@ const OF_LONG_PREFIX: &str = "\
 [15629670,10217790],[15550020,10362780],[15269760,10414620],[15399810,10389150],[15762690,10386270],\
 [15765750,10211850],[15508620,10460880],[15830550,10660950],[15415830,10461150],[15684660,10383120],\
 [15460380,10455660],[15658290,10513170],[15566850,10256310],[15417900,10257480],[15399900,10214280]]],\"cost\":0,\
-\"frame\":0,\"frames\":1,\"identity\":90,\"noise\":44682436,\"peak\":999,\"phase\":3,\"power\":517982821499,\
+\"frame\":0,\"frames\":1,\"identity\":90,\"noise\":46795055,\"peak\":999,\"phase\":3,\"power\":517982821499,\
 \"sfn\":91,\"t\":742,\"total\":28910,\"values\":[[68,66],[-68,-67],[66,-68],[-67,67],[67,68],[-68,-67],[67,-66],\
 [67,-67],[67,66],[-66,-67],[-66,67],[-66,-66],[-67,-66],[67,67],[64,67],[66,68],[67,-65],[-66,-68],[-68,68],[67,66],\
 [67,66],[-66,-66],[65,-66],[-66,67],[66,-67],[66,67],[68,-66],[68,-66],[-68,-67],[-68,-67],[-67,68],[68,68],[69,66],\

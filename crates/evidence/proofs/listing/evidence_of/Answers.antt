@@ -3,7 +3,7 @@ use Rattle.lte_types.specs.CellPlace.{Place}
 use Rattle.lte_types.specs.declared.carrier.Carrier.{Carrier}
 use Rattle.explain.specs.Entries.{place_of}
 use Rattle.explain.specs.Frame.{IsWhole}
-use Rattle.evidence.specs.Evidence.{slot_by, power_by, steps_by, IsEvidenceFor, IsInRange}
+use Rattle.evidence.specs.Evidence.{slot_by, power_by, differences_by, IsEvidenceFor, IsInRange}
 use Rattle.evidence.proofs.Early.{starts_early, first_is_whole}
 use Rattle.evidence.proofs.Numbers.{has_root, has_energy, is_within, are_numbers, are_in_range}
 use Rattle.evidence.proofs.listing.evidence_of.Goals as goal
@@ -32,10 +32,10 @@ returns-clause-evidence g c =
     let pilots = c.pilot_sums-pilots.ensures in
     let power = pilots.energy ∙ ap (λ (p : Place). power_by c.args.carrier (slot_by c.args.carrier recording p entry.frame)) c.place_in.ensures
     ∙ ap (λ (k : Carrier). power_by k (slot_by k recording (place_of entry) entry.frame)) c.requires.0 in
-    let steps = pilots.steps ∙ ap (λ (p : Place). steps_by c.args.carrier (slot_by c.args.carrier recording p entry.frame)) c.place_in.ensures
-    ∙ ap (λ (k : Carrier). steps_by k (slot_by k recording (place_of entry) entry.frame)) c.requires.0 in
+    let differences = pilots.differences ∙ ap (λ (p : Place). differences_by c.args.carrier (slot_by c.args.carrier recording p entry.frame)) c.place_in.ensures
+    ∙ ap (λ (k : Carrier). differences_by k (slot_by k recording (place_of entry) entry.frame)) c.requires.0 in
     subst (IsEvidenceFor g.receiver recording entry) (sym c.numbers_of.ensures)
-    (are_numbers g.receiver recording entry c.args.reading.now c.requires.1.0 c.requires.1.1 _ _ power steps)
+    (are_numbers g.receiver recording entry c.args.reading.now c.requires.1.0 c.requires.1.1 _ _ power differences)
 
 pub returns-clause-range : goal.returns-clause-range
 returns-clause-range g c =

@@ -35,8 +35,8 @@ returns g c =
     c.in_ok-shown.ensures ∙ ap (λ (p : Place). slot_shown c.args.carrier recording p entry.frame) c.place_in.ensures
     ∙ ap (λ (k : Carrier). slot_shown k recording (place_of entry) entry.frame) c.requires.0 in
     let power = c.sums.ensures.energy ∙ ap (λ (s : SlotShown). s.power) is in
-    let steps = c.sums.ensures.steps ∙ ap (λ (s : SlotShown). s.steps) is in
+    let differences = c.sums.ensures.differences ∙ ap (λ (s : SlotShown). s.differences) is in
     let numbers = subst (IsEvidenceFor g.receiver recording entry) (sym c.numbers_of-numbers.ensures)
-    (are_numbers g.receiver recording entry c.args.reading.now c.requires.1.0 c.requires.1.1 _ _ power steps) in
+    (are_numbers g.receiver recording entry c.args.reading.now c.requires.1.0 c.requires.1.1 _ _ power differences) in
     subst (λ (s : Shown). IsShownFor g.receiver recording entry s) (sym c.with_numbers.ensures)
     (record { numbers = numbers; channel = ap (λ (s : SlotShown). s.channel) is; values = ap (λ (s : SlotShown). s.values) is })

@@ -1,4 +1,4 @@
--- The pilots of a clean slot: they differ little from one to the next, against the gain and against their energy.
+-- The pilots of a clean slot: those of one symbol differ little, against the gain and against their energy.
 use Rattle.std.proofs.Common.{◌≡◌, ℕ, ◌+◌, ◌*◌, ◌/◌, ◌<◌, ◌≤◌, arith, ap, sym, subst, ℤ, ◌+ℤ◌, ◌-ℤ◌}
 use Rattle.std.proofs.lemmas.Int.{ints}
 use Rattle.finite.specs.Sums.{total_below}
@@ -9,8 +9,8 @@ use Rattle.cs_num.proofs.Complex.{pair}
 use Rattle.sizes.proofs.TwoTerms.{weighted_term}
 use Rattle.crs.specs.Reference.{port_0}
 use Rattle.soft_bits.specs.Soft.{SeenSlot, pilot, pilot_energy}
-use Rattle.budget.proofs.Near.{IsNear}
-use Rattle.evidence.specs.Evidence.{noise_of, step_power, steps}
+use Rattle.budget.proofs.Near.{IsNear, near-multiple, near-plus}
+use Rattle.evidence.specs.Evidence.{noise_of, difference_power, differences}
 use Rattle.clean_air.specs.Values.{ArePilotsSeen}
 use Rattle.clean_air.proofs.Estimates.{pilot-near}
 use Rattle.clean_air.proofs.SoftValues.{energy-near}
@@ -34,19 +34,24 @@ near_step n gain c t x y p q =
     numbers s v a b k h same p q = omega (arith, h, same, p, q)
 
 module _ (gain : Cpx) (slot : SeenSlot) (seen : ArePilotsSeen gain slot) where
-  one_step : (i : ℕ) → i < 23 → step_power (pilot slot) i ≤ 4 * (245760 * 245760 * square gain)
-  one_step i l =
-      near_step (square gain) gain 1036800 245760 (pilot slot i) (pilot slot (i + 1)) (pilot-near port_0 gain slot i (omega (arith, l)) seen) (pilot-near port_0 gain slot (i + 1) (omega (arith, l)) seen)
+  near : (i : ℕ) → i < 24 → IsNear (square gain) gain 1036800 245760 (pilot slot i)
+  near i l = pilot-near port_0 gain slot i (omega (arith, l)) seen
 
-  pub steps_are_small : noise_of (steps 23 (pilot slot)) ≤ 171500431 * square gain
-  unfolding steps
-  steps_are_small = mean (square gain) (total_below 23 (step_power (pilot slot))) (total_below-within 23 (4 * (245760 * 245760 * square gain)) (step_power (pilot slot)) one_step)
+  one_difference : (i : ℕ) → i < 20 → difference_power 2 (pilot slot) i ≤ 4 * (491520 * 491520 * square gain)
+  one_difference i l =
+      near_step (square gain) gain 2073600 491520 (multiple 2 (pilot slot (i + 2))) (plus (pilot slot i) (pilot slot (i + 4)))
+      (near-multiple (square gain) gain (pilot slot (i + 2)) 2 1036800 245760 (near (i + 2) (omega (arith, l))))
+      (near-plus (square gain) gain (pilot slot i) (pilot slot (i + 4)) 1036800 1036800 245760 245760 (near i (omega (arith, l))) (near (i + 4) (omega (arith, l))))
+
+  pub differences_are_small : noise_of (differences 24 2 (pilot slot)) ≤ 198841079 * square gain
+  unfolding differences
+  differences_are_small = mean (square gain) (total_below 20 (difference_power 2 (pilot slot))) (total_below-within 20 (4 * (491520 * 491520 * square gain)) (difference_power 2 (pilot slot)) one_difference)
     where
-      mean : (n s : ℕ) → s ≤ 23 * (4 * (245760 * 245760 * n)) → s / (2 * 16200) ≤ 171500431 * n
+      mean : (n s : ℕ) → s ≤ 20 * (4 * (491520 * 491520 * n)) → s / (6 * 16200) ≤ 198841079 * n
       mean n s h = omega (arith, h)
 
-  pub steps_are_quiet : 5 * noise_of (steps 23 (pilot slot)) ≤ pilot_energy slot
-  steps_are_quiet = fifth (square gain) (noise_of (steps 23 (pilot slot))) (pilot_energy slot) steps_are_small (energy-near port_0 gain slot seen).near
+  pub differences_are_quiet : 4 * noise_of (differences 24 2 (pilot slot)) ≤ pilot_energy slot
+  differences_are_quiet = quarter (square gain) (noise_of (differences 24 2 (pilot slot))) (pilot_energy slot) differences_are_small (energy-near port_0 gain slot seen).near
     where
-      fifth : (n m e : ℕ) → m ≤ 171500431 * n → 38707200 * (24 * n) ≤ e → 5 * m ≤ e
-      fifth n m e h k = omega (arith, h, k)
+      quarter : (n m e : ℕ) → m ≤ 198841079 * n → 38707200 * (24 * n) ≤ e → 4 * m ≤ e
+      quarter n m e h k = omega (arith, h, k)
