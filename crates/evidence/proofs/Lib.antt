@@ -4,4 +4,6 @@ pub mod Least
 pub mod Numbers
 pub mod Only
 mod Early
+mod FirstBlocks
+mod OneBlock
 pub mod Each

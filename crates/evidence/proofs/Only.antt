@@ -7,6 +7,7 @@ use Rattle.explain.specs.Receiver.{Receiver}
 use Rattle.lte_types.specs.declared.evidence.Evidence.{Evidence}
 use Rattle.evidence.specs.Evidence.{IsEvidenceFor, thousandths}
 use Rattle.evidence.specs.Shown.{Shown, IsShownFor}
+use Rattle.evidence.proofs.OneBlock.{one_system_block}
 
 -- two of the same numbers are the same
 same_evidence : (a b : Evidence) → a.id ≡ b.id → a.start ≡ b.start → a.sfn ≡ b.sfn → a.t ≡ b.t → a.peak ≡ b.peak → a.cost ≡ b.cost → a.total ≡ b.total →
@@ -33,12 +34,15 @@ one_evidence receiver recording entry a b p q =
     (p.peak ∙ ap (thousandths recording (entry.id % 3)) t ∙ sym q.peak) (p.cost ∙ sym q.cost) (p.total ∙ sym q.total) (p.frames ∙ sym q.frames)
     (p.frame ∙ sym q.frame) (p.phase ∙ sym q.phase) (p.power ∙ sym q.power) (p.noise ∙ sym q.noise)
 
--- it shows one slot
+-- it shows one slot, and has one block
 one_shown : (receiver : Receiver) (recording : List Sample) (entry : Entry) (a b : Shown) → IsShownFor receiver recording entry a → IsShownFor receiver recording entry b → a ≡ b
 one_shown receiver recording entry a b p q =
     ap (λ x. record a { numbers = x }) (one_evidence receiver recording entry a.numbers b.numbers p.numbers q.numbers)
     ∙ ap (λ x. record a { numbers = b.numbers; channel = x }) (p.channel ∙ sym q.channel)
     ∙ ap (λ x. record a { numbers = b.numbers; channel = b.channel; values = x }) (p.values ∙ sym q.values)
+    ∙ ap (λ x. record a { numbers = b.numbers; channel = b.channel; values = b.values; master = x }) (p.master ∙ sym q.master)
+    ∙ ap (λ x. record a { numbers = b.numbers; channel = b.channel; values = b.values; master = b.master; block = x })
+    (one_system_block receiver.carrier recording entry a.block b.block p.block q.block)
 
 -- and so have all of a list
 each_once : {A B : Type 0} (R : A → B → Type 0) → ((x : A) (a b : B) → R x a → R x b → a ≡ b) → (xs : List A) (first second : List B) → AllZip R xs first → AllZip R xs second → first ≡ second

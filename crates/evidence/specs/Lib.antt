@@ -1,2 +1,3 @@
 pub mod Evidence
+pub mod Blocks
 pub mod Shown

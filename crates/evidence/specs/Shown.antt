@@ -1,5 +1,5 @@
--- What the slot of an entry shows. (own)
-use Rattle.std.specs.Prelude.{◌≡◌, ℕ, ◌+◌, ◌*◌, ◌/◌, List, [], ◌∷◌, length, slice_index_or, ℤ, pos}
+-- What the slot of an entry shows, and the bits of its blocks. (own)
+use Rattle.std.specs.Prelude.{◌≡◌, ℕ, ◌+◌, ◌*◌, ◌/◌, Bool, List, [], ◌∷◌, length, slice_index_or, ℤ, pos}
 use Rattle.finite.specs.Lists.{values_below}
 use Rattle.cs_num.specs.declared.Sample.{Sample}
 use Rattle.crs.specs.declared.pattern.Pattern.{Pattern}
@@ -21,14 +21,17 @@ use Rattle.four_ports.specs.Entries.{four_ports_receiver}
 use Rattle.evidence.specs.declared.shown.PortChannel.{PortChannel}
 use Rattle.evidence.specs.declared.shown.PortChannel.TheVariants.{Lower, Upper}
 use Rattle.evidence.specs.declared.shown.SoftPair.{SoftPair}
+use Rattle.evidence.specs.Blocks.{master_bits, IsSystemBlock}
 use Rattle.evidence.specs.Evidence.{slot_by, power_by, differences_by, IsEvidenceFor}
 
--- what supports an entry: its numbers, the channel of each antenna port in its slot, and the soft values of the
--- broadcast channel there
+-- what supports an entry: its numbers, the channel of each antenna port in its slot, the soft values of the broadcast
+-- channel there, and the bits of its master block, and of the transport block that told its system information
 pub record Shown : Type 0 where
   pub numbers : Evidence
   pub channel : List PortChannel
   pub values : List SoftPair
+  pub master : List Bool
+  pub block : List Bool
 
 -- the pilots of an antenna port, and of each
 abbrev pub channel_by : Pattern → SeenSlot → PortChannel
@@ -75,9 +78,11 @@ slot_shown carrier recording place j = record {
   values = pairs_of (values_by carrier recording place j);
 }
 
--- what supports the entry, and what its slot shows
+-- what supports the entry, what its slot shows, and its blocks
 pub record IsShownFor (receiver : Receiver) (recording : List Sample) (entry : Entry) (shown : Shown) : Type 0 where
   pub numbers : IsEvidenceFor receiver recording entry shown.numbers
   pub channel : shown.channel
       ≡ channels_by receiver.carrier (slot_by receiver.carrier recording (place_of entry) entry.frame)
   pub values : shown.values ≡ pairs_of (values_by receiver.carrier recording (place_of entry) entry.frame)
+  pub master : shown.master ≡ master_bits entry.mib
+  pub block : IsSystemBlock receiver.carrier recording entry shown.block

@@ -2,6 +2,7 @@
 //! the reference signals of its slot were received.
 #![tactic(auto)]
 
+mod blocks;
 mod listing;
 mod noise;
 mod shown;

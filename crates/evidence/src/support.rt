@@ -11,8 +11,10 @@ ghost use Rattle.explain.specs.Laws.{IsEntryOfSome};
 ghost use Rattle.explain.specs.Readings.{IsReadingFor};
 ghost use Rattle.explain.specs.Receiver.{Receiver, hits_by};
 ghost use Rattle.evidence.specs.declared.shown.PortChannel.TheVariants.{Lower as LowerOf};
+ghost use Rattle.evidence.specs.Blocks.{master_bits};
 ghost use Rattle.evidence.specs.Shown.{SlotShown as SlotShownAs, slot_shown, pair_at, pairs_of, IsShownFor};
 
+use crate::blocks::system_block;
 use crate::listing::{numbers_of, place_in};
 use crate::slot::{PilotSums, of_four_ports, of_long_prefix, of_one_port, of_two_ports};
 use crate::{PortChannel, SoftPair, Support};
@@ -21,16 +23,18 @@ use cs_num::Cpx;
 use explain::{Reading, broadcast_slot, slot_of};
 use four_ports::FourSlot;
 use long_prefix::long_frame;
-use lte_types::{Carrier, CellPlace, Entry, Evidence};
+use lte_types::{Carrier, CellPlace, Entry, Evidence, Mib};
 use pbch::received;
 use sample_file::Recording;
 use std::alloc::{AllocError, Global};
 use std::marker::Model;
+use system_block::Decoders;
 use two_ports::PairSlot;
 
 /// What supports each entry of a recording's list by the receiver for a carrier, as `evidence_of_list` tells it, and
 /// what its slot shows: the pilots of each antenna port, and the soft values of the broadcast channel as they were
-/// received. Only memory can be wanting. (own)
+/// received; and the bits of its master block, and of the transport block that told its system information, which is
+/// read again. Only memory can be wanting. (own)
 pub fn support_of_list(
     alloc: Global,
     recording: &Recording,
@@ -44,21 +48,24 @@ pub fn support_of_list(
     requires readings { AllZip (IsReadingFor receiver recording.now) entries.now readings.now }
     ensures { IfOk result (λ list. AllZip (IsShownFor receiver recording.now) entries.now list.items) }
 {
+    let mut work = Decoders::new(alloc)?;
     let mut list = Vec::with_capacity(alloc, entries.len())?;
     for (i, entry) in entries.iter().enumerate() {
-        let support = support_of(alloc, recording, carrier, entry, &readings[i])?;
+        let support = support_of(alloc, recording, carrier, entry, &readings[i], &mut work)?;
         list.push(support)?;
     }
     Ok(list)
 }
 
-// What supports an entry, and what its slot shows.
+// What supports an entry, what its slot shows, and its blocks. A private call of six parameters: a turn of the loop over
+// entries.
 fn support_of(
     alloc: Global,
     recording: &Recording,
     carrier: Carrier,
     entry: &Entry,
     reading: &Reading,
+    work: &mut Decoders,
 ) -> Result<Support, AllocError>
     ghost receiver: { Receiver }
     requires carrier { carrier ≡ receiver.carrier }
@@ -69,7 +76,8 @@ fn support_of(
 {
     let shown = shown_of(alloc, recording, carrier, place_in(entry), entry.frame)?;
     let numbers = numbers_of(entry, reading, shown.sums());
-    Ok(shown.with_numbers(numbers))
+    let block = system_block(alloc, recording, carrier, entry, work)?;
+    Ok(shown.with(numbers, entry.mib, block))
 }
 
 // What the slot of an entry shows: what its pilots are together, the channel of each antenna port, and the soft values
@@ -119,10 +127,16 @@ impl SlotShown {
         self.sums
     }
 
-    fn with_numbers(self, numbers: Evidence) -> Support
-        ensures { result ≡ record { numbers = numbers; channel = self.channel; values = self.values } }
+    fn with(self, numbers: Evidence, mib: Mib, block: Vec<bool>) -> Support
+        ensures { result ≡ record {
+          numbers = numbers;
+          channel = self.channel;
+          values = self.values;
+          master = master_bits mib;
+          block = block.items;
+        } }
     {
-        Support::new(numbers, self.channel, self.values)
+        Support::new(numbers, self.channel, self.values, mib, block)
     }
 }
 

@@ -28,8 +28,8 @@ pub struct Evidence {
     /// The sum of the squares of the sizes of what was seen at the 24 reference places of the slot with the broadcast
     /// channel in the first of the frames.
     pub power: u64,
-    /// How much the 24 pilots of the slot with the broadcast channel differ from one to the next: the sum of the
-    /// squares of the sizes of the 23 differences, divided by twice the square of a reference value's size, 16,200,
-    /// and rounded down.
+    /// How much the 24 pilots of the slot with the broadcast channel differ within a symbol: the sum of the squares of
+    /// the sizes of their 20 second differences, each from three pilots of one symbol, divided by six times the square
+    /// of a reference value's size, 16,200, and rounded down.
     pub noise: u64,
 }

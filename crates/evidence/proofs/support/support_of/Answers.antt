@@ -1,9 +1,10 @@
-use Rattle.std.proofs.Common.{◌≡◌, ap, sym, subst, ◌∙◌}
+use Rattle.std.proofs.Common.{◌≡◌, refl, ap, sym, subst, ◌∙◌}
 use Rattle.lte_types.specs.CellPlace.{Place}
 use Rattle.lte_types.specs.declared.carrier.Carrier.{Carrier}
 use Rattle.explain.specs.Entries.{place_of}
 use Rattle.explain.specs.Frame.{IsWhole}
 use Rattle.evidence.specs.Evidence.{IsEvidenceFor}
+use Rattle.evidence.specs.Blocks.{IsSystemBlock}
 use Rattle.evidence.specs.Shown.{Shown, SlotShown, slot_shown, IsShownFor}
 use Rattle.evidence.proofs.Early.{starts_early, first_is_whole}
 use Rattle.evidence.proofs.Numbers.{has_root, has_energy, is_within, are_numbers}
@@ -38,5 +39,14 @@ returns g c =
     let differences = c.sums.ensures.differences ∙ ap (λ (s : SlotShown). s.differences) is in
     let numbers = subst (IsEvidenceFor g.receiver recording entry) (sym c.numbers_of-numbers.ensures)
     (are_numbers g.receiver recording entry c.args.reading.now c.requires.1.0 c.requires.1.1 _ _ power differences) in
-    subst (λ (s : Shown). IsShownFor g.receiver recording entry s) (sym c.with_numbers.ensures)
-    (record { numbers = numbers; channel = ap (λ (s : SlotShown). s.channel) is; values = ap (λ (s : SlotShown). s.values) is })
+    subst (λ (s : Shown). IsShownFor g.receiver recording entry s) (sym c.with.ensures)
+    (record {
+      numbers = numbers;
+      channel = ap (λ (s : SlotShown). s.channel) is;
+      values = ap (λ (s : SlotShown). s.values) is;
+      master = refl;
+      block = subst (λ (k : Carrier). IsSystemBlock k recording entry c.in_ok-block.block.items) c.requires.0 c.in_ok-block.ensures;
+    })
+
+pub system_block-requires : goal.system_block-requires
+system_block-requires g c = starts_early g.receiver c.args.recording.now c.args.entry.now c.requires.1.0

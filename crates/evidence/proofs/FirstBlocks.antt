@@ -1,0 +1,95 @@
+-- The transport block of a cell: how it is found.
+use Rattle.std.proofs.Common.{◌≡◌, ℕ, false, ◌<◌, ◌+◌, inl, inr, Bool, List, [], Option, Some, None, Result, Ok, Err, refl, ap, subst, ◌∙◌, arith}
+use Rattle.std.specs.Prelude.{is_some, IfSome}
+use Rattle.std.specs.Option.{option_map}
+use Rattle.std.proofs.lemmas.Bool.{cases_lt}
+use Rattle.cs_num.specs.declared.Sample.{Sample}
+use Rattle.lte_types.specs.declared.sib1.Sib1.{Sib1}
+use Rattle.lte_types.specs.declared.sib1_reason.Sib1Reason.{Sib1Reason}
+use Rattle.lte_types.specs.declared.sib1_reason.Sib1Reason.TheVariants.{NotDecoded}
+use Rattle.lte_types.specs.declared.carrier.Carrier.{Carrier}
+use Rattle.lte_types.specs.declared.mib.Mib.{Mib}
+use Rattle.lte_types.specs.CellPlace.{Place}
+use Rattle.lte_types.specs.declared.duration.Duration.{Duration}
+use Rattle.lte_types.specs.declared.resource.Resource.{Resource}
+use Rattle.soft_bits.specs.Soft.{SeenSlot}
+use Rattle.soft_bits.specs.Places.{Valuing}
+use Rattle.pdsch.specs.Values.{shared_values_by}
+use Rattle.dci.specs.declared.grant.Grant.{Grant}
+use Rattle.dci.specs.Format1A.{IsGrant}
+use Rattle.system_block.specs.Subframe.{Subframe, subframe_by}
+use Rattle.system_block.specs.Block.{IsBlock}
+use Rattle.system_block.specs.declared.reading.Attempt.{Attempt}
+use Rattle.system_block.specs.Attempt.{IsAttempt, granted_by}
+use Rattle.system_block.proofs.Once.{one_attempt, one_text}
+use Rattle.system_block.proofs.GrantRead.{has_read, none_read}
+use Rattle.explain.specs.Receiver.{Subframes}
+use Rattle.explain.specs.System.{even_frame, IsTried}
+use Rattle.evidence.specs.Blocks.{HasNoBlock, IsBlockRead, IsBlockWith, IsBlockAt}
+
+-- ---- in a subframe
+
+abbrev read_attempt : ℕ × Grant → Sib1 → Attempt
+read_attempt told fields = record { cfi = told.0; grant = Some told.1; answer = Ok fields }
+
+-- where fields were read, the grant's values tell a block
+told_at : (values : Subframe) (told : ℕ × Grant) (fields : Sib1) → IsAttempt values (read_attempt told fields) → (found : Option (List Bool)) →
+    IsBlock (values.shared told.0 told.1.start told.1.blocks) told.1 found → IsBlockAt values found
+told_at values told fields is (Some bits) b = record { cfi = told.0; grant = told.1; fields = fields; attempt = is; block = b }
+told_at values told fields is None b =
+    absurd (let e : ◌≡◌ {A = Result Sib1 Sib1Reason} (Err NotDecoded) (Ok fields) = one_text (values.shared told.0 told.1.start told.1.blocks) told.1 (Err NotDecoded) (Ok fields) b is.follows.tells in cc)
+
+module _ (values : Subframe) (attempt : Attempt) (is : IsAttempt values attempt) where
+  block_at : (told : ℕ × Grant) → granted_by attempt ≡ Some told → (found : Option (List Bool)) → IsBlock (values.shared told.0 told.1.start told.1.blocks) told.1 found → IsBlockAt values found
+  block_at told e found b =
+      let read = has_read attempt.cfi attempt.grant attempt.answer told e in
+      told_at values told read.fields (subst (λ (a : Attempt). IsAttempt values a) read.is is) found b
+
+  no_block_at : granted_by attempt ≡ None → HasNoBlock values
+  no_block_at e fields reads =
+      none_read values attempt.cfi attempt.grant attempt.answer fields is.follows e
+      (ap (λ (a : Attempt). a.answer) (one_attempt values attempt reads.attempt is reads.is) ∙ reads.answers)
+
+-- the same of a subframe by its two slots, as they are seen
+module _ (carrier : Carrier) (values : Valuing) (first second one two : SeenSlot) (same_first : first ≡ one) (same_second : second ≡ two) (duration : Duration) (resource : Resource)
+    (attempt : Attempt) (is : IsAttempt (subframe_by carrier values first second duration resource) attempt) where
+  pub block_in : (told : ℕ × Grant) → granted_by attempt ≡ Some told → (found : Option (List Bool)) →
+      IsBlock (shared_values_by carrier values first second told.0 told.1.start told.1.blocks) told.1 found → IsBlockAt (subframe_by carrier values one two duration resource) found
+  block_in told e found b =
+      subst (λ (s : SeenSlot). IsBlockAt (subframe_by carrier values s two duration resource) found) same_first
+      (subst (λ (s : SeenSlot). IsBlockAt (subframe_by carrier values first s duration resource) found) same_second
+      (block_at (subframe_by carrier values first second duration resource) attempt is told e found b))
+
+  pub no_block_in : granted_by attempt ≡ None → HasNoBlock (subframe_by carrier values one two duration resource)
+  no_block_in e =
+      subst (λ (s : SeenSlot). HasNoBlock (subframe_by carrier values s two duration resource)) same_first
+      (subst (λ (s : SeenSlot). HasNoBlock (subframe_by carrier values first s duration resource)) same_second
+      (no_block_at (subframe_by carrier values first second duration resource) attempt is e))
+
+-- the grant is one that control information can have
+pub grant_of_attempt : (attempt : Attempt) (told : ℕ × Grant) → IfSome attempt.grant IsGrant → granted_by attempt ≡ Some told → IsGrant told.1
+grant_of_attempt attempt told is e =
+    let read = has_read attempt.cfi attempt.grant attempt.answer told e in subst (λ (a : Attempt). IfSome a.grant IsGrant) read.is is
+
+-- ---- at a place
+
+pub moved : (subframes : Result Subframes Sib1Reason) (recording : List Sample) (p q : Place) (sfn : ℕ) (mib : Mib) (bits : List Bool) → p ≡ q →
+    IsBlockWith subframes recording p sfn mib bits → IsBlockWith subframes recording q sfn mib bits
+moved subframes recording p q sfn mib bits e = subst (λ (place : Place). IsBlockWith subframes recording place sfn mib bits) e
+
+-- ---- among the tried frames
+
+module _ {B : Type 0} (bits_in : B → List Bool) (values : ℕ → Subframe) (recording : List Sample) (start sfn : ℕ) where
+  -- one frame more has none
+  pub none_so_far : (i j : ℕ) (found : Option B) → j ≡ even_frame sfn i → is_some found ≡ false → IsBlockAt (values j) (option_map bits_in found) →
+      ((h : ℕ) → h < i → HasNoBlock (values (even_frame sfn h))) → (h : ℕ) → h < i + 1 → HasNoBlock (values (even_frame sfn h))
+  none_so_far i j (Some b) is not at none h less = absurd (cc not)
+  none_so_far i j None is not at none h less = elim (cases_lt h i) [
+    | inl before ↦ none h before
+    | inr last ↦ let same : i ≡ h = omega (arith, less, last) in
+        subst (λ k. HasNoBlock (values (even_frame sfn k))) same (subst (λ k. HasNoBlock (values k)) is at)
+  ]
+
+  -- where none of the tried frames has one, none is told
+  pub none_is_read : ((i : ℕ) → IsTried recording start sfn i → HasNoBlock (values (even_frame sfn i))) → IsBlockRead values recording start sfn []
+  none_is_read none = inr (record { none = none; empty = refl })

@@ -1,0 +1,101 @@
+-- The bits of an entry's blocks: of its master block, and of the transport block that told its system information. (own)
+use Rattle.std.specs.Prelude.{◌≡◌, ◌⊎◌, ℕ, ◌+◌, ◌*◌, ◌<◌, Bool, List, [], Option, Some, None, Result, Ok, Err}
+use Rattle.cs_num.specs.declared.Sample.{Sample}
+use Rattle.cs_bits.specs.Numbers.{bits_of}
+use Rattle.lte_types.specs.declared.carrier.Carrier.{Carrier}
+use Rattle.lte_types.specs.declared.carrier.Carrier.TheVariants.{OnePort, TwoPorts, LongPrefix, FourPorts}
+use Rattle.lte_types.specs.declared.mib.Mib.{Mib}
+use Rattle.lte_types.specs.declared.sib1.Sib1.{Sib1}
+use Rattle.lte_types.specs.declared.sib1_reason.Sib1Reason.{Sib1Reason}
+use Rattle.lte_types.specs.declared.entry.Entry.{Entry}
+use Rattle.lte_types.specs.Codes.{bandwidth_code, duration_code, resource_code}
+use Rattle.lte_types.specs.CellPlace.{Place}
+use Rattle.dci.specs.declared.grant.Grant.{Grant}
+use Rattle.system_block.specs.Subframe.{Subframe}
+use Rattle.system_block.specs.Attempt.{IsAttempt, Reads}
+use Rattle.system_block.specs.Block.{IsBlock}
+use Rattle.explain.specs.Receiver.{Subframes, one_port_receiver}
+use Rattle.explain.specs.System.{even_frame, IsTried}
+use Rattle.explain.specs.Entries.{place_of}
+use Rattle.two_ports.specs.Entries.{two_ports_receiver}
+use Rattle.long_prefix.specs.Entries.{long_prefix_receiver}
+use Rattle.four_ports.specs.Entries.{four_ports_receiver}
+
+-- ---- the master block
+
+-- the 24 bits of a master block as a number: dl-Bandwidth, phich-Duration, phich-Resource, the upper 8 bits of the
+-- frame number, and the last 10 bits (TS 36.331 section 6.2.2)
+abbrev pub master_number : Mib → ℕ
+master_number mib =
+    (((bandwidth_code mib.bandwidth * 2 + duration_code mib.duration) * 4 + resource_code mib.resource) * 256 + mib.upper) * 1024
+    + mib.spare
+
+abbrev pub master_bits : Mib → List Bool
+master_bits mib = bits_of 24 (master_number mib)
+
+-- ---- the transport block of a subframe
+
+-- the attempt on a subframe has read fields, and this is the block that told them: that of its grant
+pub record HasBlock (values : Subframe) (bits : List Bool) : Type 0 where
+  pub cfi : ℕ
+  pub grant : Grant
+  pub fields : Sib1
+  pub attempt : IsAttempt values (record { cfi = cfi; grant = Some grant; answer = Ok fields })
+  pub block : IsBlock (values.shared cfi grant.start grant.blocks) grant (Some bits)
+
+-- no attempt on a subframe has read fields
+abbrev pub HasNoBlock : Subframe → Type 0
+HasNoBlock values = (fields : Sib1) → Reads values (Ok fields) → ⊥
+
+-- ---- the transport block of a cell. `values` are those of subframe 5 of its frames, from the first one on
+
+-- the block of the first of the tried frames that has one
+pub record IsFirstBlock (values : ℕ → Subframe) (recording : List Sample) (start sfn : ℕ) (bits : List Bool) :
+    Type 0 where
+  pub i : ℕ
+  pub tried : IsTried recording start sfn i
+  pub has : HasBlock (values (even_frame sfn i)) bits
+  pub first : (h : ℕ) → h < i → HasNoBlock (values (even_frame sfn h))
+
+-- no tried frame has a block, and no bits are told
+pub record IsNoBlock (values : ℕ → Subframe) (recording : List Sample) (start sfn : ℕ) (bits : List Bool) :
+    Type 0 where
+  pub none : (i : ℕ) → IsTried recording start sfn i → HasNoBlock (values (even_frame sfn i))
+  pub empty : bits ≡ []
+
+abbrev pub IsBlockRead : (ℕ → Subframe) → List Sample → ℕ → ℕ → List Bool → Type 0
+IsBlockRead values recording start sfn bits =
+    IsFirstBlock values recording start sfn bits ⊎ IsNoBlock values recording start sfn bits
+
+-- the block by the values of subframe 5 by which a list reads system information, or none where it does not
+abbrev pub IsBlockWith : Result Subframes Sib1Reason → List Sample → Place → ℕ → Mib → List Bool → Type 0
+IsBlockWith (Ok values) recording place sfn mib bits =
+    IsBlockRead (λ j. values recording place j mib.duration mib.resource) recording place.start sfn bits
+IsBlockWith (Err reason) recording place sfn mib bits = bits ≡ []
+
+-- ---- the transport block of an entry
+
+-- the values of subframe 5 by which a carrier's list reads system information, or why it does not
+abbrev pub subframes_of : Carrier → Result Subframes Sib1Reason
+subframes_of OnePort = one_port_receiver.subframe
+subframes_of TwoPorts = two_ports_receiver.subframe
+subframes_of LongPrefix = long_prefix_receiver.subframe
+subframes_of FourPorts = four_ports_receiver.subframe
+
+-- a block is told where there are fields, and none otherwise
+abbrev pub IsToldWith : Result Sib1 Sib1Reason → (List Bool → Type 0) → List Bool → Type 0
+IsToldWith (Ok fields) IsBlock bits = IsBlock bits
+IsToldWith (Err reason) IsBlock bits = bits ≡ []
+
+-- these are the bits of the transport block that told the system information of an entry, without their check; none
+-- where it has none
+abbrev pub IsSystemBlock : Carrier → List Sample → Entry → List Bool → Type 0
+IsSystemBlock carrier recording entry =
+    IsToldWith entry.sib1 (IsBlockWith (subframes_of carrier) recording (place_of entry) entry.sfn entry.mib)
+
+-- ---- the code's way
+
+-- the block of a subframe, or none
+abbrev pub IsBlockAt : Subframe → Option (List Bool) → Type 0
+IsBlockAt values (Some bits) = HasBlock values bits
+IsBlockAt values None = HasNoBlock values

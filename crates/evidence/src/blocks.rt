@@ -1,0 +1,153 @@
+//! The transport block that told the system information of an entry.
+
+ghost use Rattle.std.specs.Prelude.{◌≡◌, ◌+◌, ◌*◌, ◌<◌, ◌≤◌, ◌↔◌, [], IfOk, IsTrue};
+ghost use Rattle.std.specs.Option.{option_map, unwrap_or};
+ghost use Rattle.dci.specs.Format1A.{IsGrant};
+ghost use Rattle.pdsch.specs.Values.{shared_values_by};
+ghost use Rattle.system_block.specs.Block.{IsBlock};
+ghost use Rattle.explain.specs.Entries.{place_of};
+ghost use Rattle.explain.specs.Frame.{IsWhole};
+ghost use Rattle.explain.specs.Receiver.{subframes_by};
+ghost use Rattle.explain.specs.System.{even_frame as even_frame_of};
+ghost use Rattle.evidence.specs.Blocks.{subframes_of, IsBlockAt, IsBlockRead, IsBlockWith, IsSystemBlock};
+
+use crate::listing::place_in;
+use dci::Grant;
+use explain::slot_of;
+use lte_types::{Carrier, CellPlace, Cfi, Entry, FRAME_LENGTH, Mib, Sfn};
+use pdsch::MOST_VALUES;
+use sample_file::Recording;
+use soft_bits::{ReadSlot, Slot};
+use std::alloc::{AllocError, Global};
+use system_block::{Decoders, attempt_in, block_of};
+use turbo_dec::{Block, Work};
+use two_ports::PairSlot;
+
+// The bits of the transport block that told the system information of an entry; none where it has none.
+pub(crate) fn system_block(
+    alloc: Global,
+    recording: &Recording,
+    carrier: Carrier,
+    entry: &Entry,
+    work: &mut Decoders,
+) -> Result<Vec<bool>, AllocError>
+    requires { entry.now.start < 19200 }
+    ensures { IfOk result (λ list. IsSystemBlock carrier recording.now entry.now list.items) }
+{
+    match &entry.sib1 {
+        Ok(_) => bits_of(alloc, block_by(recording, carrier, entry, work)),
+        Err(_) => Ok(Vec::new(alloc)),
+    }
+}
+
+// The bits of a block, or none.
+fn bits_of(alloc: Global, block: Option<Block>) -> Result<Vec<bool>, AllocError>
+    ensures { IfOk result (λ list. list.items ≡ unwrap_or (option_map (λ block. block.items) block) []) }
+{
+    let mut list = Vec::new(alloc);
+    if let Some(block) = block {
+        list.extend_from_slice(block.as_slice())?;
+    }
+    Ok(list)
+}
+
+// The block by a carrier's way to read system information, or none where it is not read.
+fn block_by(
+    recording: &Recording,
+    carrier: Carrier,
+    entry: &Entry,
+    work: &mut Decoders,
+) -> Option<Block>
+    requires { entry.now.start < 19200 }
+    ensures { IsBlockWith (subframes_of carrier) recording.now (place_of entry.now) entry.now.sfn entry.now.mib
+        (unwrap_or (option_map (λ block. block.items) result) []) }
+{
+    let place = place_in(entry);
+    match carrier {
+        Carrier::OnePort => first_block::<Slot>(recording, place, entry.sfn, entry.mib, work),
+        Carrier::TwoPorts => first_block::<PairSlot>(recording, place, entry.sfn, entry.mib, work),
+        Carrier::LongPrefix => None,
+        Carrier::FourPorts => None,
+    }
+}
+
+// The block of the first of the tried frames that has one, or none.
+fn first_block<S: ReadSlot>(
+    recording: &Recording,
+    place: CellPlace,
+    sfn: Sfn,
+    mib: Mib,
+    work: &mut Decoders,
+) -> Option<Block>
+    ensures { IsBlockRead (λ j. subframes_by S.carrier S.values_by recording.now place j mib.duration mib.resource)
+        recording.now place.start sfn (unwrap_or (option_map (λ block. block.items) result) []) }
+{
+    for i in 0..8 {
+        let j = even_frame(sfn, i);
+        if !is_whole(recording, place, j) {
+            return None;
+        }
+        let found = block_at::<S>(recording, place, j, mib, work);
+        if found.is_some() {
+            return found;
+        }
+    }
+    None
+}
+
+// The block of subframe 5 of frame `j`, or none.
+fn block_at<S: ReadSlot>(
+    recording: &Recording,
+    place: CellPlace,
+    j: u8,
+    mib: Mib,
+    work: &mut Decoders,
+) -> Option<Block>
+    requires { IsWhole recording.now place.start j }
+    ensures { IsBlockAt (subframes_by S.carrier S.values_by recording.now place j mib.duration mib.resource)
+        (option_map (λ block. block.items) result) }
+{
+    let first: S = slot_of(recording, place, j, 10);
+    let second: S = slot_of(recording, place, j, 11);
+    let attempt = attempt_in(&first, &second, mib, work);
+    match attempt.granted() {
+        Some(told) => block_granted(&first, &second, told, &mut work.turbo),
+        None => None,
+    }
+}
+
+// The block that the values of a grant tell, by the indicator. `first` and `second` are slots 10 and 11 of one cell.
+fn block_granted<S: ReadSlot>(
+    first: &S,
+    second: &S,
+    told: (Cfi, Grant),
+    turbo: &mut Work,
+) -> Option<Block>
+    requires first { (S.seen_as first.now).number ≡ 10 }
+    requires second { (S.seen_as second.now).number ≡ 11 }
+    requires cell { (S.seen_as second.now).identity ≡ (S.seen_as first.now).identity }
+    requires cfi { 2 ≤ told.0 }
+    requires grant { IsGrant told.1 }
+    ensures { IsBlock (shared_values_by S.carrier S.values_by (S.seen_as first.now) (S.seen_as second.now)
+        told.0 told.1.start told.1.blocks) told.1 (option_map (λ block. block.items) result) }
+{
+    let (cfi, grant) = told;
+    let mut values = [0; MOST_VALUES];
+    let count = pdsch::values(first, second, cfi, &grant, &mut values);
+    block_of(&values[..count], &grant, turbo)
+}
+
+// Number i of the frames of even number, by its number from the first frame on.
+fn even_frame(sfn: Sfn, i: u8) -> u8
+    requires { i < 8 }
+    ensures { result ≡ even_frame_of sfn i }
+{
+    (sfn.value() % 2) as u8 + 2 * i
+}
+
+// Whether frame `j` of a cell lies within the recording.
+fn is_whole(recording: &Recording, place: CellPlace, j: u8) -> bool
+    ensures { IsTrue result ↔ IsWhole recording.now place.start j }
+{
+    place.start() as usize + FRAME_LENGTH * (j as usize + 1) <= recording.len()
+}
