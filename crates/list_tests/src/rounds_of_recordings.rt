@@ -4,9 +4,8 @@ use cell_json::read;
 use cell_tx::send_all;
 use cs_num::{Sample, clamp_div};
 use explain::Workspace;
-use rounds::{
-    Round, cancel_rounds, cancel_text, clean_cell_is_taken_first, one_text, rounds_in_plain_words,
-};
+use report::{cancel_text, one_cancel_text};
+use rounds::{Round, cancel_rounds, clean_cell_is_taken_first, rounds_in_plain_words};
 use sample_file::Recording;
 use std::alloc::Global;
 use std::test::Fail;
@@ -61,7 +60,7 @@ fn silence_has_no_cell_to_take_off(rt: HostRuntime) -> Result<(), Fail> {
     let samples = silent(rt.alloc(), 57_600)?;
     assert!(rt; has_text(rt.alloc(), samples, "cells 0\ncancelled none\n")?);
     rounds_in_plain_words();
-    one_text();
+    one_cancel_text();
     clean_cell_is_taken_first();
     Ok(())
 }

@@ -9,8 +9,8 @@ use Rattle.lte_types.specs.declared.entry.Entry.{Entry}
 use Rattle.lte_types.specs.declared.carrier.Carrier.{Carrier}
 use Rattle.lte_types.specs.declared.carrier.Carrier.TheVariants.{OnePort, TwoPorts, LongPrefix, FourPorts}
 use Rattle.explain.proofs.Listed.{is_one_list}
-use Rattle.rounds.specs.AsJson.{IsCancelJson}
-use Rattle.rounds.proofs.Once.{one_cancel_text, one_cancel_json}
+use Rattle.report.specs.RoundsJson.{IsCancelJson}
+use Rattle.report.proofs.OneText.{one_cancel_text, one_cancel_json}
 use Rattle.lte_words.specs.declared.form.Output.{Output}
 use Rattle.lte_words.specs.declared.form.Output.TheVariants.{Text, Json}
 use Rattle.lte_words.specs.declared.form.Rule.{Rule}

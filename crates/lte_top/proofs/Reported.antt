@@ -9,9 +9,9 @@ use Rattle.evidence.specs.Shown.{IsShownFor}
 use Rattle.evidence.proofs.Only.{one_for_each, one_shown_for_each}
 use Rattle.report.specs.Evidence.{evidence_text}
 use Rattle.report.specs.EvidenceJson.{evidence_json}
-use Rattle.turning.specs.AsJson.{telling_json, IsTellJson}
+use Rattle.report.specs.ToldJson.{telling_json, IsTellJson}
 use Rattle.turning.specs.Candidates.{taken_of}
-use Rattle.turning.specs.Texts.{told_text}
+use Rattle.report.specs.Told.{told_text}
 use Rattle.turning.proofs.OneTold.{is_one_told, is_one_applied}
 use Rattle.lte_words.specs.declared.form.Report.{Report}
 use Rattle.lte_words.specs.declared.form.Report.TheVariants.{Hits, Ids, Search, Evidence, Tell}

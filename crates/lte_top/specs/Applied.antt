@@ -5,7 +5,7 @@ use Rattle.sample_file.specs.declared.form.SampleForm.{SampleForm}
 use Rattle.sample_file.specs.Recording.{samples_of, samples_in, IsRecording}
 use Rattle.turning.specs.declared.telling.Told.{Told}
 use Rattle.turning.specs.Telling.{HasCells}
-use Rattle.turning.specs.Texts.{told_text}
+use Rattle.report.specs.Told.{told_text}
 use Rattle.lte_words.specs.declared.form.Form.TheVariants.{Report as Reports, Apply}
 use Rattle.lte_words.specs.declared.form.Report.TheVariants.{Tell}
 use Rattle.lte_words.specs.declared.form.Output.TheVariants.{Text}

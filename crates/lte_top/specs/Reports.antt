@@ -27,8 +27,8 @@ use Rattle.lte_words.specs.declared.form.Rule.TheVariants.{Of, Cancel, All}
 use Rattle.lte_words.specs.declared.form.Output.{Output}
 use Rattle.lte_words.specs.declared.form.Output.TheVariants.{Text, Json}
 use Rattle.pss_search.specs.Correlation.{wave_power}
-use Rattle.turning.specs.AsJson.{IsTellJson}
-use Rattle.turning.specs.Texts.{IsTellText}
+use Rattle.report.specs.ToldJson.{IsTellJson}
+use Rattle.report.specs.Told.{IsTellText}
 use Rattle.report.specs.declared.measured.MeasuredHit.{MeasuredHit}
 use Rattle.report.specs.declared.measured.MeasuredId.{MeasuredId}
 use Rattle.explain.specs.Deciding.{deciding_length}

@@ -10,8 +10,8 @@ use Rattle.explain.specs.Receiver.{Receiver, one_port_receiver}
 use Rattle.two_ports.specs.Entries.{two_ports_receiver}
 use Rattle.long_prefix.specs.Entries.{long_prefix_receiver}
 use Rattle.four_ports.specs.Entries.{four_ports_receiver}
-use Rattle.rounds.specs.AsJson.{IsCancelJson}
-use Rattle.rounds.specs.Text.{IsCancelText}
+use Rattle.report.specs.RoundsJson.{IsCancelJson}
+use Rattle.report.specs.Rounds.{IsCancelText}
 use Rattle.report.specs.All.{all_text, all_json}
 use Rattle.report.specs.Json.{json_text}
 use Rattle.report.specs.Lines.{report_text}

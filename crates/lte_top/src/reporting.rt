@@ -23,13 +23,12 @@ use lte_types::{Carrier, FRAME_LENGTH, Half, Hit, LEAST_SAMPLES, MOST_SAMPLES};
 use lte_words::{Output, Report, Rule};
 use pss_search::{HitList, hits};
 use report::{
-    IdentifiedHit, json_of_evidence, json_of_hits, json_of_ids, text_of_evidence, text_of_hits,
-    text_of_ids,
+    IdentifiedHit, json_of_evidence, json_of_hits, json_of_ids, tell_json, tell_text,
+    text_of_evidence, text_of_hits, text_of_ids,
 };
 use sample_file::{Recording, SampleForm, read_as, read_front};
 use sss_detect::{cell_id, frame_start, identity};
 use std::alloc::{AllocError, Global};
-use turning::{tell_json, tell_text};
 
 // The samples of 17 frames, at which lists look.
 const DECIDING: usize = 17 * FRAME_LENGTH;

@@ -87,7 +87,7 @@ in_all one two long four =
     let third = after (ruled_values OnePort one ++ ruled_values TwoPorts two) LongPrefix long second in
     after (ruled_values OnePort one ++ ruled_values TwoPorts two ++ ruled_values LongPrefix long) FourPorts four third
 
-in_complex : (z : Cpx) → has_float (complex_value z) ≡ false
+pub in_complex : (z : Cpx) → has_float (complex_value z) ≡ false
 in_complex z = or_from _ _ (in_integer z.re) (or_from _ _ (in_integer z.im) refl)
 
 in_port : (port : PortChannel) → has_float (port_value port) ≡ false

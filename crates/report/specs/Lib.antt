@@ -10,3 +10,7 @@ pub mod Hits
 pub mod Answers
 pub mod Evidence
 pub mod Cancelled
+pub mod Rounds
+pub mod RoundsJson
+pub mod Told
+pub mod ToldJson

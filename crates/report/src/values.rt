@@ -10,7 +10,7 @@ use serde_json::{Value, json};
 use std::alloc::{AllocError, Global};
 
 /// What has a value in JSON. (own)
-pub trait ToJson {
+pub(crate) trait ToJson {
     ghost json_of: { Self → Data };
 
     /// The value. Only memory can be wanting.
@@ -19,7 +19,7 @@ pub trait ToJson {
 }
 
 /// The array of the values of a list. Only memory can be wanting. (own)
-pub fn list_value<T: ToJson>(alloc: Global, items: &[T]) -> Result<Value, AllocError>
+pub(crate) fn list_value<T: ToJson>(alloc: Global, items: &[T]) -> Result<Value, AllocError>
     ensures { IfOk result (λ value. view value ≡ list_of T.json_of items.now) }
 {
     let mut list = Vec::new(alloc);
@@ -30,7 +30,7 @@ pub fn list_value<T: ToJson>(alloc: Global, items: &[T]) -> Result<Value, AllocE
 }
 
 /// The JSON of a list, without spaces. Only memory can be wanting. (own)
-pub fn list_text<T: ToJson>(alloc: Global, items: &[T]) -> Result<String, AllocError>
+pub(crate) fn list_text<T: ToJson>(alloc: Global, items: &[T]) -> Result<String, AllocError>
     ensures { ((item : T) → has_float (T.json_of item) ≡ false) →
         IfOk result (λ text. string_bytes text ≡ compact_text (list_of T.json_of items.now)) }
 {
@@ -39,7 +39,7 @@ pub fn list_text<T: ToJson>(alloc: Global, items: &[T]) -> Result<String, AllocE
 }
 
 /// The array of two values. Only memory can be wanting. (own)
-pub fn pair_value(alloc: Global, first: Value, second: Value) -> Result<Value, AllocError>
+pub(crate) fn pair_value(alloc: Global, first: Value, second: Value) -> Result<Value, AllocError>
     ensures { IfOk result (λ value. view value ≡ array (item (view first) (item (view second) no_items))) }
 {
     json!(in alloc; [first, second])

@@ -1,6 +1,5 @@
 -- Rounds one after the other.
-use Rattle.std.proofs.Common.{◌≡◌, ℕ, zero, suc, ◌-◌, ◌<◌, arith, sym, subst, List, ◌∷◌, Bool, Option, Some, Result, Ok, Err}
-use Rattle.std.specs.Prelude.{IfOk}
+use Rattle.std.proofs.Common.{◌≡◌, ℕ, zero, suc, ◌-◌, ◌<◌, arith, sym, subst, List, ◌∷◌, Bool, Option, Some}
 use Rattle.cs_num.specs.declared.Sample.{Sample}
 use Rattle.lte_types.specs.declared.entry.Entry.{Entry}
 use Rattle.rounds.specs.declared.round.Round.{Round}
@@ -21,10 +20,3 @@ next_round (suc n) recording list round found others rest rounds ended some is s
 -- a round that was found
 pub round_found : (recording : List Sample) (list : List Entry) (round : Round) (found : Option Round) → IsNextRound recording list found → found ≡ Some round → IsRound recording list round
 round_found recording list round found is same = subst (IsNextRound recording list) same is
-
--- ---- results
-
--- what follows from a value's property follows of a result
-pub if_ok : {A E : Type 0} (P Q : A → Type 0) → ((a : A) → P a → Q a) → (answer : Result A E) → IfOk answer P → IfOk answer Q
-if_ok P Q follows (Ok a) is = follows a is
-if_ok P Q follows (Err e) is = tt

@@ -6,9 +6,7 @@ pub mod Following
 pub mod Front
 -- A recording that is clean of a cell.
 pub mod CleanCells
--- There is one text.
+-- There are rounds of one kind.
 pub mod Once
 -- Rounds in plain words.
 pub mod Plain
--- There are no floats in the JSON.
-pub mod Whole

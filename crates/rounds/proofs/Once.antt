@@ -1,25 +1,15 @@
--- A recording has one text, and one JSON.
+-- A recording has its rounds in one way.
 use Rattle.std.proofs.Common.{◌≡◌, ◌∙◌, ℕ, zero, suc, refl, sym, ap, subst, List, [], ◌∷◌, ◌++◌, Bool}
-use Rattle.std.specs.List.{Contains, flat_map}
-use Rattle.std.specs.Prelude.{if◌then◌else◌, codes}
-use Rattle.serde_json.specs.Data.{boolean, object, member, no_members}
-use Rattle.serde_json.specs.Written.{compact_text}
+use Rattle.std.specs.List.{Contains}
 use Rattle.cs_num.specs.declared.Sample.{Sample}
 use Rattle.lte_types.specs.declared.entry.Entry.{Entry}
 use Rattle.explain.specs.Entries.{IsExplained}
 use Rattle.explain.specs.Receiver.{one_port_receiver}
 use Rattle.explain.proofs.Listed.{is_one_list}
 use Rattle.cancel.specs.declared.subtracted.Subtracted.{Subtracted}
-use Rattle.report.specs.Lines.{report_text}
-use Rattle.report.specs.Cancelled.{cancelled_none}
-use Rattle.report.specs.Json.{report_value}
-use Rattle.report.specs.Values.{list_of}
 use Rattle.rounds.specs.declared.round.Round.{Round}
 use Rattle.rounds.specs.declared.round.Rounds.{Rounds}
 use Rattle.rounds.specs.Rounds.{IsTakenOff, NoneIsTakenOff, IsRound, AreRounds, IsCancelled}
-use Rattle.rounds.specs.Text.{round_text}
-use Rattle.rounds.specs.AsJson.{round_value, rounds_json}
-use Rattle.rounds.specs.Laws.{IsOneText, IsOneJson}
 use Rattle.rounds.proofs.Front.{at_front, behind, heads, tails}
 use Rattle.rounds.proofs.Taking.{one_taken}
 
@@ -78,7 +68,7 @@ one_rounds (suc n) recording list (x ∷ xs) (y ∷ ys) e f p q =
     record { rounds = ap (λ (r : Round). r ∷ xs) same ∙ ap (λ (rs : List Round). y ∷ rs) rest.rounds; ended = rest.ended }
 
 -- so what is made of them is one
-one_made : {A : Type 0} (made : List Entry → List Round → Bool → A) (recording : List Sample) (p q : Rounds) → IsCancelled recording p → IsCancelled recording q →
+pub one_made : {A : Type 0} (made : List Entry → List Round → Bool → A) (recording : List Sample) (p q : Rounds) → IsCancelled recording p → IsCancelled recording q →
     made p.first p.taken.items p.ended ≡ made q.first q.taken.items q.ended
 one_made made recording p q a b =
     ap (λ (l : List Entry). made l p.taken.items p.ended) lists
@@ -91,20 +81,3 @@ one_made made recording p q a b =
     same : AreSame p.taken.items q.taken.items p.ended q.ended
     same = one_rounds 4 recording q.first p.taken.items q.taken.items p.ended q.ended
         (subst (λ (l : List Entry). AreRounds 4 recording l p.taken.items p.ended) lists a.follow) b.follow
-
-text_with : List Entry → List Round → Bool → List ℕ
-text_with list rounds ended = report_text list ++ flat_map round_text rounds ++ (if ended then cancelled_none else [])
-
-pub one_cancel_text : IsOneText
-unfolding text_with
-one_cancel_text recording a b p q = p.text_is ∙ one_made text_with recording p.rounds q.rounds p.are q.are ∙ sym q.text_is
-
-json_with : List Entry → List Round → Bool → List ℕ
-json_with list rounds ended = compact_text (object (
-    member (codes "cells") (report_value list) (
-    member (codes "ended") (boolean ended) (
-    member (codes "rounds") (list_of round_value rounds) no_members))))
-
-pub one_cancel_json : IsOneJson
-unfolding json_with rounds_json
-one_cancel_json recording a b p q = p.text_is ∙ one_made json_with recording p.rounds q.rounds p.are q.are ∙ sym q.text_is

@@ -7,8 +7,6 @@ use Rattle.clean_air.specs.Clean.{IsListOfCells}
 use Rattle.rounds.specs.declared.round.Round.{Round}
 use Rattle.rounds.specs.declared.round.Rounds.{Rounds}
 use Rattle.rounds.specs.Rounds.{IsTakenOff, NoneIsTakenOff, IsCancelled}
-use Rattle.rounds.specs.Text.{IsCancelText}
-use Rattle.rounds.specs.AsJson.{IsCancelJson}
 
 -- what a recording is, and its list, after a number of rounds
 abbrev pub recording_after : ℕ → List Sample → List Round → List Sample
@@ -43,11 +41,3 @@ pub record AreInPlainWords (most : ℕ) (recording : List Sample) (list : List E
 abbrev pub RoundsInPlainWords : Type 0
 RoundsInPlainWords = (recording : List Sample) (rounds : Rounds) → IsCancelled recording rounds →
     AreInPlainWords 4 recording rounds.first rounds.taken.items rounds.ended
-
--- a recording has one text
-abbrev pub IsOneText : Type 0
-IsOneText = (recording : List Sample) (a b : List ℕ) → IsCancelText recording a → IsCancelText recording b → a ≡ b
-
--- a recording has one JSON
-abbrev pub IsOneJson : Type 0
-IsOneJson = (recording : List Sample) (a b : List ℕ) → IsCancelJson recording a → IsCancelJson recording b → a ≡ b

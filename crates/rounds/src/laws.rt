@@ -1,7 +1,7 @@
 //! Laws of rounds.
 
 ghost use Rattle.rounds.specs.Clean.{CleanCellIsTakenFirst, LoadedCellIsTakenFirst, CleanCellIsTakenNext};
-ghost use Rattle.rounds.specs.Laws.{RoundsInPlainWords, IsOneText, IsOneJson};
+ghost use Rattle.rounds.specs.Laws.{RoundsInPlainWords};
 
 use cancel::{answer_leaves_errors, some_answer};
 use clean_air::{one_plan, open_places_are_silent, sent_entry_has_plan};
@@ -10,16 +10,6 @@ use clean_air::{one_plan, open_places_are_silent, sent_entry_has_plan};
 /// there are fewer than four exactly where a round follows in which no entry of the last list can be taken off.
 pub fn rounds_in_plain_words()
     ensures { RoundsInPlainWords }
-{}
-
-/// A recording has one text.
-pub fn one_text()
-    ensures { IsOneText }
-{}
-
-/// A recording has one JSON.
-pub fn one_json()
-    ensures { IsOneJson }
 {}
 
 /// A first round takes a cell off where the recording is clean of a cell that can be sent: this one, and then no

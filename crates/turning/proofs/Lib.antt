@@ -10,4 +10,3 @@ pub mod Fronts
 pub mod OneTold
 pub mod Ranges
 pub mod AtZero
-pub mod Whole

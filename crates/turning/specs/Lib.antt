@@ -4,7 +4,5 @@ pub mod Fine
 pub mod Fractions
 pub mod Candidates
 pub mod Telling
-pub mod Texts
-pub mod AsJson
 pub mod Laws
 pub mod Steps

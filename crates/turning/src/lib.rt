@@ -2,7 +2,6 @@
 //! cells, and taken off, in whole numbers.
 #![tactic(auto)]
 
-mod as_json;
 mod at_turn;
 mod candidate;
 mod centred;
@@ -13,9 +12,8 @@ mod order;
 mod table;
 mod taking;
 mod telling;
-mod text;
 
-pub use as_json::tell_json;
+pub use candidate::Candidate;
+pub use fraction::Fraction;
 pub use laws::{the_turn_told, turned_recordings};
-pub use telling::{Told, applied, tell, turned};
-pub use text::tell_text;
+pub use telling::{Telling, Told, applied, tell, tell_with_candidates, turned};

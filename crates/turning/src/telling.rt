@@ -25,6 +25,15 @@ pub struct Told {
     pub cells: usize,
 }
 
+/// What is told of a recording's offset, and by which candidates. (own)
+#[derive(Drop)]
+pub struct Telling {
+    /// What is told, where one of the 33 coarse turns gives a hit.
+    pub told: Option<Told>,
+    /// The candidates that are taken, in their order: at most four.
+    pub candidates: Vec<Candidate>,
+}
+
 /// The recording turned by `m`: its samples without their mean, each turned back by `m` times 117.1875 Hz, rounded
 /// and clamped to 16 bits. Only memory can be wanting. (own)
 pub fn turned(alloc: Global, recording: &Recording, m: i16) -> Result<Recording, AllocError>
@@ -44,6 +53,17 @@ pub fn tell(alloc: Global, recording: &Recording) -> Result<Option<Told>, AllocE
 {
     let centred = Centred::new(recording);
     told_with(alloc, &centred)
+}
+
+/// What `tell` tells of a recording's offset, and the candidates that it takes. Only memory can be wanting. (own)
+pub fn tell_with_candidates(alloc: Global, recording: &Recording) -> Result<Telling, AllocError>
+    ensures told { IfOk result (λ telling. IsTold recording.now telling.told) }
+    ensures candidates { IfOk result (λ telling. telling.candidates.items ≡ all_taken recording.now) }
+{
+    let centred = Centred::new(recording);
+    let candidates = taken_of(alloc, &centred)?;
+    let told = told_among(alloc, &centred, &candidates)?;
+    Ok(Telling { told, candidates })
 }
 
 /// The recording turned by the turn that is told of it, and by 0 where none is. Only memory can be wanting. (own)
@@ -75,7 +95,7 @@ fn turn_of(told: &Option<Told>) -> i16
 }
 
 // The candidates of a recording that are taken, in their order.
-pub(crate) fn taken_of(alloc: Global, centred: &Centred) -> Result<Vec<Candidate>, AllocError>
+fn taken_of(alloc: Global, centred: &Centred) -> Result<Vec<Candidate>, AllocError>
     ensures { IfOk result (λ taken. taken.items ≡ all_taken centred.now) }
 {
     let candidates = candidates_of(alloc, centred)?;
@@ -83,7 +103,7 @@ pub(crate) fn taken_of(alloc: Global, centred: &Centred) -> Result<Vec<Candidate
 }
 
 // What candidates tell.
-pub(crate) fn told_among(
+fn told_among(
     alloc: Global,
     centred: &Centred,
     taken: &[Candidate],
