@@ -24,6 +24,8 @@ from second_search import (
     pseudo_random,
     recording,
     seen,
+    silent,
+    system,
     times_conjugate,
     wave,
 )
@@ -111,11 +113,19 @@ def lines(r, rule=ONE_PORT):
     return [f"evidence {len(cells)}"] + [line(r, told, entry, rule) for entry in cells]
 
 
+def hexadecimal(bits):
+    """Bits byte by byte, with zeros behind them up to a whole one."""
+    return bytes(int(bits[i : i + 8].ljust(8, "0"), 2) for i in range(0, len(bits), 8)).hex()
+
+
 def shown(r, entry, j, rule=ONE_PORT):
-    """What slot 1 of frame j of a cell shows: the pilots of each antenna port, and the pairs of values."""
-    start, cell, *_ = entry
+    """What slot 1 of frame j of a cell shows, the pilots of each antenna port and the pairs of values; and its blocks."""
+    start, cell, _, _, block = entry
+    bits, _ = system(r, entry, silent, rule)
     values = broadcast_values(r, cell, start, j, rule)
     return {
+        "mib": hexadecimal(format(block, "024b")),
+        "sib1_block": bits and hexadecimal(bits),
         "channel": [[list(pilot) for pilot in its] for _, its in pilots(r, entry, j, rule)],
         "values": [list(pair) for pair in zip(values[0::2], values[1::2])],
     }

@@ -553,7 +553,7 @@ def fields_lines(block, size):
 
 
 def attempt(r, frame, cell, extended, resource, trace, rule):
-    """The lines of one frame, by its subframe 5."""
+    """What one frame tells by its subframe 5: the bits of the block, and its lines."""
     symbols = slot_values(r, frame, cell, 10, rule) + slot_values(r, frame, cell, 11, rule)
     cfi = indicator(symbols, cell)
     trace(f"indicator {cfi}")
@@ -565,27 +565,28 @@ def attempt(r, frame, cell, extended, resource, trace, rule):
     values = values_at(symbols, places, pseudo_random(65_535 * 2**14 + 5 * 512 + cell, 2 * len(places)))
     block, iterations = decoded(added(values, turbo_reading(size + 24, rv)), size)
     trace(f"iterations {iterations}")
-    return fields_lines(block, size)
+    return format(block, f"0{size}b"), fields_lines(block, size)
 
 
-def system_lines(r, entry, say, rule=ONE_PORT):
+def system(r, entry, say, rule=ONE_PORT):
+    """The bits of the block that tells system information, and its lines; none, and why."""
     start, cell, sfn, ports, block = entry
     if rule.unread:
-        return f"sib1 none {rule.unread}"
+        return None, f"sib1 none {rule.unread}"
     if ports != rule.ports or block >> 21:
-        return "sib1 none " + (f"ports {ports}" if ports != rule.ports else f"bandwidth {WIDTHS[block >> 21]}")
+        return None, "sib1 none " + (f"ports {ports}" if ports != rule.ports else f"bandwidth {WIDTHS[block >> 21]}")
     say(f"cell {cell} at {start}")
     reasons = []
     for j in range(sfn % 2, min(16, (len(r) - start) // FRAME), 2):
         steps = [f"  frame {j}"]
         try:
-            lines = attempt(r, start + FRAME * j, cell, block >> 20 & 1, block >> 18 & 3, steps.append, rule)
+            told = attempt(r, start + FRAME * j, cell, block >> 20 & 1, block >> 18 & 3, steps.append, rule)
             say(", ".join(steps + ["read"]))
-            return lines
+            return told
         except Refused as reason:
             reasons.append(f"sib1 none {reason}")
             say(", ".join(steps + [str(reason)]))
-    return reasons[0]
+    return None, reasons[0]
 
 
 # ---- the list
@@ -659,7 +660,7 @@ def listed(r, rule=ONE_PORT, say=silent):
 
 def list_lines(r, found, rule=ONE_PORT, say=silent):
     """The lines of these entries."""
-    told = [f"{cell_line(entry)}\n{system_lines(r, entry, say, rule)}" for entry in found]
+    told = [f"{cell_line(entry)}\n{system(r, entry, say, rule)[1]}" for entry in found]
     return "\n".join([f"cells {len(found)}"] + told).split("\n")
 
 

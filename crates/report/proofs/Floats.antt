@@ -1,5 +1,5 @@
 -- The values that are written have whole numbers alone.
-use Rattle.std.proofs.Common.{◌≡◌, ◌∙◌, ℤ, pos, negsuc, refl, ap, List, [], ◌∷◌, ◌++◌, map, false, Option, Some, None, string_bytes}
+use Rattle.std.proofs.Common.{◌≡◌, ◌∙◌, Bool, ℤ, pos, negsuc, refl, ap, List, [], ◌∷◌, ◌++◌, map, false, Option, Some, None, string_bytes}
 use Rattle.std.specs.Prelude.{IfOk, Result, Ok, Err, String}
 use Rattle.std.specs.declared.alloc.AllocError.{AllocError}
 use Rattle.std.specs.declared.alloc.Global.{Global}
@@ -26,7 +26,7 @@ use Rattle.report.specs.declared.measured.MeasuredId.{MeasuredId}
 use Rattle.report.specs.Values.{natural, integer, or_null}
 use Rattle.report.specs.Json.{plmn_value, message_value, tdd_value, sib1_value, system_value, entry_value}
 use Rattle.report.specs.All.{ruled_value, ruled_values, all_value}
-use Rattle.report.specs.EvidenceJson.{complex_value, port_value, soft_value, support_value}
+use Rattle.report.specs.EvidenceJson.{complex_value, port_value, soft_value, bits_value, support_value}
 
 -- a value without floats has its text
 pub written : (seen value : Data) (r : Result (String Global) AllocError) → seen ≡ value → has_float value ≡ false →
@@ -97,8 +97,14 @@ in_port (Upper pilots) = in_list complex_value in_complex pilots
 in_soft : (pair : SoftPair) → has_float (soft_value pair) ≡ false
 in_soft pair = or_from _ _ (in_integer pair.re) (or_from _ _ (in_integer pair.im) refl)
 
+in_bits : (bits : List Bool) → has_float (bits_value bits) ≡ false
+in_bits [] = refl
+in_bits (bit ∷ bits) = refl
+
 pub in_support : (shown : Shown) → has_float (support_value shown) ≡ false
-in_support shown = or_from _ _ (in_list port_value in_port shown.channel) (or_from _ _ (in_list soft_value in_soft shown.values) refl)
+in_support shown =
+    or_from _ _ (in_list port_value in_port shown.channel)
+    (or_from _ _ (in_bits shown.block) (or_from _ _ (in_list soft_value in_soft shown.values) refl))
 
 in_choice : (choice : Choice) → has_float (choice_value choice) ≡ false
 in_choice choice = or_from _ _ (in_integer choice.score) refl

@@ -1,7 +1,7 @@
 -- What supports the entries of a list as JSON: one array with an object for each, whose keys are the names of its
--- numbers, and of what its slot shows, in the order of their bytes. (own)
-use Rattle.std.specs.Prelude.{ℕ, List, [], ◌∷◌, codes}
-use Rattle.serde_json.specs.Data.{Data, object, Members, no_members, put}
+-- numbers, of what its slot shows, and of the bits of its blocks, in the order of their bytes. (own)
+use Rattle.std.specs.Prelude.{ℕ, Bool, List, [], ◌∷◌, codes}
+use Rattle.serde_json.specs.Data.{Data, null, string, object, Members, no_members, put}
 use Rattle.serde_json.specs.Written.{compact_text}
 use Rattle.cs_num.specs.declared.Cpx.{Cpx}
 use Rattle.lte_types.specs.declared.evidence.Evidence.{Evidence}
@@ -10,6 +10,7 @@ use Rattle.evidence.specs.declared.shown.PortChannel.TheVariants.{Lower, Upper}
 use Rattle.evidence.specs.declared.shown.SoftPair.{SoftPair}
 use Rattle.evidence.specs.Shown.{Shown}
 use Rattle.report.specs.Values.{natural, integer, list_of}
+use Rattle.report.specs.Words.{hex_word}
 
 -- which entry it is, and the place of the hit that tells it, added to other members
 abbrev pub entry_members : Evidence → Members → Members
@@ -58,12 +59,25 @@ abbrev pub slot_members : List PortChannel → List SoftPair → Members → Mem
 slot_members channel values members =
     put (codes "values") (list_of soft_value values) (put (codes "channel") (list_of port_value channel) members)
 
+-- ---- the bits of its blocks
+
+-- bits in hexadecimal, and null where there are none
+abbrev pub bits_value : List Bool → Data
+bits_value [] = null
+bits_value (bit ∷ bits) = string (hex_word (bit ∷ bits))
+
+-- the bits of the master block, and those of the block that told system information
+abbrev pub block_members : List Bool → List Bool → Members → Members
+block_members master block members =
+    put (codes "sib1_block") (bits_value block) (put (codes "mib") (string (hex_word master)) members)
+
 abbrev pub support_value : Shown → Data
 support_value shown = object (
+    block_members shown.master shown.block (
     slot_members shown.channel shown.values (
     pilots_members shown.numbers (
     frame_members shown.numbers (
-    word_members shown.numbers (entry_members shown.numbers no_members)))))
+    word_members shown.numbers (entry_members shown.numbers no_members))))))
 
 -- the JSON of what supports the entries of a list, without spaces
 unfoldable pub evidence_json : List Shown → List ℕ

@@ -1,7 +1,9 @@
 -- The words of a report. (own; the names are those of TS 36.331 sections 6.2.2 and 6.3)
-use Rattle.std.specs.Prelude.{ℕ, if◌then◌else◌, Bool, Option, Some, None, List, [], ◌∷◌, ◌++◌, codes}
+use Rattle.std.specs.Prelude.{ℕ, ◌+◌, ◌*◌, ◌/◌, if◌then◌else◌, Bool, Option, Some, None, List, [], ◌∷◌, ◌++◌, length, slice_index_or, codes}
 use Rattle.std.specs.List.{flat_map}
 use Rattle.std.specs.Fmt.{decimal}
+use Rattle.finite.specs.Lists.{values_below}
+use Rattle.cs_bits.specs.Numbers.{field}
 
 -- a text for what is there, and a dash for what is absent
 abbrev pub or_dash : {A : Type 0} → (A → List ℕ) → Option A → List ℕ
@@ -29,6 +31,23 @@ reserved_word flag = either flag (codes "reserved") (codes "free")
 -- digits, one after the other
 abbrev pub digits_word : List ℕ → List ℕ
 digits_word digits = flat_map decimal digits
+
+-- bits as numbers of four each, with zeros behind the last bit up to a whole byte
+abbrev pub nibble : List Bool → ℕ → ℕ
+nibble bits i = field bits (4 * i) 4
+
+abbrev pub nibbles : List Bool → List ℕ
+nibbles bits = values_below (2 * ((length bits + 7) / 8)) (nibble bits)
+
+-- a hexadecimal digit, in lower case
+abbrev pub hex_digit : ℕ → List ℕ
+hex_digit n = slice_index_or (
+    codes "0" ∷ codes "1" ∷ codes "2" ∷ codes "3" ∷ codes "4" ∷ codes "5" ∷ codes "6" ∷ codes "7" ∷ codes "8"
+    ∷ codes "9" ∷ codes "a" ∷ codes "b" ∷ codes "c" ∷ codes "d" ∷ codes "e" ∷ codes "f" ∷ []) n []
+
+-- bits in hexadecimal: a digit for four of them
+unfoldable pub hex_word : List Bool → List ℕ
+hex_word bits = flat_map hex_digit (nibbles bits)
 
 -- subframeAssignment and specialSubframePatterns
 abbrev pub tdd_word : ℕ × ℕ → List ℕ

@@ -4,9 +4,11 @@ ghost use Rattle.std.specs.Prelude.{◌≡◌, IfOk, OnOk, string_bytes};
 ghost use Rattle.serde_json.specs.View.{view, members_view};
 ghost use Rattle.report.specs.EvidenceJson.{entry_members, word_members, frame_members, pilots_members};
 ghost use Rattle.report.specs.EvidenceJson.{slot_members, complex_value, port_value, soft_value};
+ghost use Rattle.report.specs.EvidenceJson.{block_members, bits_value as bits_value_of};
 ghost use Rattle.report.specs.EvidenceJson.{support_value, evidence_json};
 
 use crate::values::{ToJson, list_text, list_value, pair_value};
+use crate::words::hex_word;
 use cs_num::Cpx;
 use evidence::{PortChannel, SoftPair, Support};
 use lte_types::Evidence;
@@ -14,8 +16,8 @@ use serde_json::{Map, Value, put};
 use std::alloc::{AllocError, Global};
 
 /// What supports the entries of a list as JSON in one line, without a line feed: an array with an object for each,
-/// whose keys are the names that `text_of_evidence` writes, `identity`, `at` and `sfn`, and `channel` and `values`, of
-/// what the slot shows, in the order of their bytes. Only memory can be wanting. (own)
+/// whose keys are the names that `text_of_evidence` writes, `identity`, `at` and `sfn`, `channel` and `values`, of what
+/// the slot shows, and `mib` and `sib1_block`, the bits of its blocks, in the order of their bytes. Only memory can be wanting. (own)
 pub fn json_of_evidence(alloc: Global, list: &[Support]) -> Result<String, AllocError>
     ensures { IfOk result (λ text. string_bytes text ≡ evidence_json list.now) }
 {
@@ -33,6 +35,7 @@ impl ToJson for Support {
         put_frame(alloc, numbers, &mut members)?;
         put_pilots(alloc, numbers, &mut members)?;
         put_slot(alloc, self.channel(), self.values(), &mut members)?;
+        put_blocks(alloc, self.master().slice(), self.block(), &mut members)?;
         Ok(Value::from(members))
     }
 }
@@ -135,4 +138,33 @@ fn put_slot(
 {
     put(members, alloc, "channel", list_value(alloc, channel)?)?;
     put(members, alloc, "values", list_value(alloc, values)?)
+}
+
+// Adds the bits of its blocks.
+fn put_blocks(
+    alloc: Global,
+    master: &[bool],
+    block: &[bool],
+    members: &mut Map<String, Value>,
+) -> Result<(), AllocError>
+    ensures { OnOk result (members_view members.new.entries
+        ≡ block_members master.now block.now (members_view members.old.entries)) }
+{
+    put(
+        members,
+        alloc,
+        "mib",
+        Value::String(hex_word(alloc, master)?),
+    )?;
+    put(members, alloc, "sib1_block", bits_value(alloc, block)?)
+}
+
+// Bits in hexadecimal, or null where there are none.
+fn bits_value(alloc: Global, bits: &[bool]) -> Result<Value, AllocError>
+    ensures { IfOk result (λ value. view value ≡ bits_value_of bits.now) }
+{
+    match bits {
+        [] => Ok(Value::Null),
+        _ => Ok(Value::String(hex_word(alloc, bits)?)),
+    }
 }
