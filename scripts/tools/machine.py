@@ -57,6 +57,23 @@ def want(*packages):
         sys.exit(f"{pathlib.Path(sys.argv[0]).name}: no {', no '.join(missing)} (Debian: {names})")
 
 
+def check_place(path):
+    """Refuses a place into which no file can be put."""
+    if path.is_dir() or not os.access(path.parent, os.W_OK | os.X_OK):
+        raise Refused(f"{path}: {'a folder' if path.is_dir() else 'nothing can be written into its folder'}")
+
+
+def write(path, data):
+    """Writes a file beside its place first, so that an older one of this name stays where that fails."""
+    part = path.with_name(f".{os.getpid()}.{path.name}")
+    try:
+        part.write_bytes(data)
+        os.replace(part, path)
+    except BaseException:
+        part.unlink(missing_ok=True)
+        raise
+
+
 def program(name):
     """The path of a program: what LTE_CLI or LTE_TUNE names, or what is built here, or a command of this name."""
     told = os.environ.get(name.upper())

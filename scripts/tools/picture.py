@@ -7,8 +7,8 @@ receiver sees: how much of the energy is a primary signal, place by place, with 
 broadcast channel's points, the channel over the subcarriers, the values that the master block was read from, and its
 fields. Where no cell is listed, the strongest hit is drawn. --tune takes off the offset that `lte_tune tell` tells,
 unless no list has a cell then.
-FILE may also be what survey.py --json wrote: then it is each cell's level and signal to noise over time, a row a cell.
-A page of HTML has all of it, and what the programs wrote.
+FILE may also be what survey.py --json wrote: then it is a map with the table where that has places (--track), else each
+cell's level and signal to noise over time, a row a cell. A page of HTML has all of it, and what the programs wrote.
 
 Hits, identities, cells, evidence and the offset are those of lte_cli and lte_tune. The metric between the hits, points,
 channel and values are those of second_search.py, which was written from docs/DEFINITION.md (second_cell.py has the
@@ -17,87 +17,27 @@ code). What is said of the file as recorded is of its samples alone.
 Debian: python3-numpy, python3-scipy, python3-matplotlib. Needs lte_cli and lte_tune (README, "Build").
 """
 import argparse
-import base64
-import html
-import io
 import json
-import os
 import pathlib
-import re
 
 import machine
 
 machine.want("numpy", "scipy", "matplotlib")
-import matplotlib
-
-matplotlib.use("Agg")
-from matplotlib import pyplot
-
+import picture_map
 import picture_panels
 import picture_survey
 import picture_view
 import radio_file
-import survey_table
-from picture_style import STYLE
-
-
-def saved(figure, form):
-    """The figure's bytes, without the time at which it was made; of .svg without what only makes it longer."""
-    out = io.BytesIO()
-    figure.savefig(out, format=form, dpi=100, metadata={"Date": None} if form == "svg" else {"Software": None})
-    pyplot.close(figure)
-    data = out.getvalue()
-    if form == "svg":
-        data = re.sub(rb' (d|x|y)="[^"]*"', lambda part: re.sub(rb"(\.\d)\d+", rb"\1", part[0]), data)
-        data = re.sub(rb"<!--.*?-->|\n +(?=<)", b"", data, flags=re.S).replace(b"DejaVuSans-", b"g")
-    return data
-
-
-PAGE = """<!doctype html>
-<html lang="en"><head><meta charset="utf-8"><title>{title}</title>
-<style>body {{ font: 14px sans-serif; max-width: 1200px; margin: 1em auto }} img {{ width: 100% }}
-table {{ border-collapse: collapse }} td, th {{ padding: 2px 9px; text-align: left; border-bottom: 1px solid #ddd }}
-h1 {{ overflow-wrap: anywhere }} pre {{ white-space: pre-wrap; overflow-wrap: anywhere }}</style></head>
-<body><h1>{title}</h1>
-{body}
-</body></html>
-"""
-
-
-def page(title, facts, figure, parts):
-    """A page with the picture, and what was said, by its name."""
-    title, facts = (html.escape(text.encode(errors="replace").decode()) for text in (title, facts))
-    picture = base64.b64encode(saved(figure, "svg")).decode()
-    image = f'<img alt="{title}" src="data:image/svg+xml;base64,{picture}">'
-    return PAGE.format(title=title, body="\n".join((f"<p>{facts}", image, *parts))).encode()
-
-
-def html_table(rows):
-    """A table by names of columns; the one without a name is that of the mark."""
-    if not rows:
-        return "<p>No cell."
-    lines = [[name or "?" for name in rows[0]], *(list(row.values()) for row in rows)]
-    cells = ["".join(f"<t{'dh'[i == 0]}>{html.escape(word)}" for word in line) for i, line in enumerate(lines)]
-    return "<table>" + "\n".join(f"<tr>{line}" for line in cells) + "</table>"
-
-
-def details(name, value):
-    text = html.escape(json.dumps(value, indent=1))
-    return f"<details><summary>{html.escape(name)}</summary><pre>{text}</pre></details>"
+import survey_page
+from page import details, image, page, saved, text
+from picture_style import begin
 
 
 def page_of_view(view, count):
-    lines = "\n".join(f"<li>{html.escape(line)}" for line in view.summary() if line)
+    lines = "\n".join(f"<li>{text(line)}" for line in view.summary() if line)
+    sheet = image(picture_panels.sheet(view, count), view.name)
     said = [details(name, value) for name, value in view.said.items()]
-    return page(view.name, view.facts, picture_panels.sheet(view, count), [f"<ul>\n{lines}</ul>", *said])
-
-
-def page_of_survey(found, title):
-    rows = [survey_table.row_of(cell, found) for cell in found["cells"]]
-    note = [f"<p>{picture_survey.CHANCE}."] * any(cell["chance"] for cell in found["cells"])
-    figure, facts = picture_survey.survey_sheet(found, title), picture_survey.facts_line(found, title)
-    name = title or f"Survey of {found['file']}"
-    return page(name, facts, figure, [html_table(rows), *note, details("survey", found)])
+    return page(view.name, [f"<p>{text(view.facts)}", sheet, f"<ul>\n{lines}</ul>", *said])
 
 
 def survey_in(path):
@@ -112,13 +52,12 @@ def survey_in(path):
 def drawn(told, form):
     """The bytes of what is asked for."""
     found = survey_in(told.file) if told.file.suffix == ".json" else None
+    if found and form == "html":
+        return survey_page.page_of(found, told.title)
     if found:
-        is_page = form == "html"
-        return (
-            page_of_survey(found, told.title)
-            if is_page
-            else saved(picture_survey.survey_sheet(found, told.title), form)
-        )
+        is_map = picture_map.is_with_places(found) and not told.time
+        sheet = picture_map.map_sheet if is_map else picture_survey.survey_sheet
+        return saved(sheet(found, told.title), form)
     view = picture_view.view_of(told, radio_file.opened(told))
     return page_of_view(view, told.cells) if form == "html" else saved(picture_panels.sheet(view, told.cells), form)
 
@@ -127,20 +66,8 @@ def form_of(out):
     """The form of the output, where it can be written."""
     if out.suffix not in (".png", ".svg", ".html"):
         raise machine.Refused(f"{out}: .png, .svg or .html is written")
-    if out.is_dir() or not os.access(out.parent, os.W_OK | os.X_OK):
-        raise machine.Refused(f"{out}: {'a folder' if out.is_dir() else 'nothing can be written into its folder'}")
+    machine.check_place(out)
     return out.suffix[1:]
-
-
-def write(path, data):
-    """Beside the file first, so that an older one of this name stays where that fails."""
-    part = path.with_name(f".{os.getpid()}.{path.name}")
-    try:
-        part.write_bytes(data)
-        os.replace(part, path)
-    except BaseException:
-        part.unlink(missing_ok=True)
-        raise
 
 
 def arguments():
@@ -150,6 +77,7 @@ def arguments():
     parser.add_argument("--tune", action="store_true", help="take off the offset that lte_tune tells")
     parser.add_argument("--offset", type=float, help="hertz to take off")
     parser.add_argument("--cells", type=int, default=4, help="how many cells are drawn (4)")
+    parser.add_argument("--time", action="store_true", help="of a survey with places: over time, in place of the map")
     parser.add_argument("--title", help="in place of the file's name")
     return parser.parse_args()
 
@@ -157,8 +85,8 @@ def arguments():
 def main():
     told = arguments()
     form, place = form_of(told.out), told.out.resolve()
-    matplotlib.rcParams.update(STYLE)
-    write(place, drawn(told, form))
+    begin()
+    machine.write(place, drawn(told, form))
 
 
 if __name__ == "__main__":

@@ -4,6 +4,7 @@ Debian: python3-numpy, python3-matplotlib.
 """
 import textwrap
 
+import matplotlib
 import numpy as np
 
 WIDTH = 12  # inches, at 100 dots
@@ -25,6 +26,12 @@ STYLE = {
 }
 
 
+def begin():
+    """Draws into files alone, in this style."""
+    matplotlib.use("Agg")
+    matplotlib.rcParams.update(STYLE)
+
+
 def fitted(text, width, rows=2):
     """The text in so many rows of so many characters at most; what is longer is cut in its middle."""
     text = text.encode(errors="replace").decode()
@@ -43,9 +50,9 @@ def cut(text, count):
 
 
 def headed(figure, name, facts):
-    """The picture's name, and below it what it is of."""
+    """The picture's name, and below it what it is of, as a text in the figure."""
     text = f"{fitted(name, 95)}\n{fitted(facts, 150)}"
-    figure.suptitle(text, fontsize=9.5, linespacing=1.4)
+    return figure.suptitle(text, fontsize=9.5, linespacing=1.4)
 
 
 def rate_text(rate):

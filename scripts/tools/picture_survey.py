@@ -14,7 +14,6 @@ from picture_style import COLOURS, MARKS, WIDTH, facts_of, headed, number_text
 ROW, TALL = 0.48, 0.9  # inches of a cell's row, of many cells and of few
 MOST = 100  # rows
 TOP, BOTTOM = 0.1, 0.82  # of a row, between which its values stand; below are the windows that list it
-CHANCE = "? chance explains this line: it was seen once, or at another's place, and no SIB1 was read"
 
 
 def survey_sheet(found, title=None):
@@ -26,7 +25,7 @@ def survey_sheet(found, title=None):
     headed(figure, title or found["file"], facts_line(found, title) + (f"; {more} further cells" if more else ""))
     keys = {"width_ratios": (4.1, 4.2, 3.4), "height_ratios": (2, room + 0.35)}
     (names, levels, offsets), (table, *lanes) = figure.subplots(2, 3, sharex="col", gridspec_kw=keys)
-    strongest = dict(zip(map(id, strong_first(cells)), zip(MARKS, COLOURS)))
+    strongest = {id(cell): ("", *sign) for cell, *sign in zip(strong_first(cells), MARKS, COLOURS)}
     draw_together(levels, found, cells, strongest, "level")
     draw_together(offsets, found, cells, strongest, "offset")
     levels.set(title="Level of a reference element", ylabel=found["unit"])
@@ -71,7 +70,7 @@ def number_of(cell):
 def draw_together(ax, found, cells, strongest, key):
     """A value of all cells over time: the strongest by marks of their own, the others as dots."""
     for cell in cells:
-        mark, colour = strongest.get(id(cell), (".", "#b0b0b0"))
+        _, mark, colour = strongest.get(id(cell), ("", ".", "#b0b0b0"))
         places, values = seen_of(cell, found, key)
         every = max(1, len(values) // 12)
         size, lead = (3 if mark == "." else 5), id(cell) in strongest
@@ -98,7 +97,7 @@ def draw_names(ax, found, cells, strongest):
     ax.axis("off")
     marked = [cell for cell in cells if id(cell) in strongest]
     for cell in sorted(marked, key=lambda cell: -cell["level"]):
-        mark, colour = strongest[id(cell)]
+        _, mark, colour = strongest[id(cell)]
         text = f"{name_of(cell)}{number_of(cell)}: {number_text(cell['level'])} at its strongest"
         ax.plot([], [], ls="-", marker=mark, ms=5, lw=0.9, color=colour, label=text)
     if len(marked) < len(cells):
@@ -121,7 +120,7 @@ COLUMNS = (
 
 
 def draw_table(ax, found, cells, strongest):
-    """What is known of each cell, beside its row."""
+    """What is known of each cell, beside its row: with its letter, mark and colour where it has them."""
     ax.axis("off")
     ax.set(xlim=(0, 1), ylim=(max(1, len(cells)), 0))
     keys = {"va": "center", "linespacing": 1.35, "fontsize": 7, "clip_on": False}
@@ -129,10 +128,15 @@ def draw_table(ax, found, cells, strongest):
         side = "right" if place > 0.9 else "left"
         ax.text(place, -0.05, head.format(found["unit"]), **{**keys, "va": "bottom"}, ha=side, color="#555555")
     for i, cell in enumerate(cells):
-        if id(cell) in strongest:
-            mark, colour = strongest[id(cell)]
-            ax.plot(0.015, i + 0.5, mark, ms=5, color=colour, clip_on=False)
-        ax.text(0.05, i + 0.5, f"{name_of(cell)}\n", **{**keys, "fontsize": 8.5, "linespacing": 1.1}, fontweight="bold")
+        letter, mark, colour = strongest.get(id(cell), ("", "", ""))
+        ax.plot(0.015, i + 0.5, mark or "", ms=5, color=colour or None, clip_on=False)
+        ax.text(
+            0.05,
+            i + 0.5,
+            f"{letter} {name_of(cell)}\n".lstrip(),
+            **{**keys, "fontsize": 8.5, "linespacing": 1.1},
+            fontweight="bold",
+        )
         ax.text(0.05, i + 0.5, f"\n{cell['rule']}", **keys)
         ax.text(0.26, i + 0.5, "\n".join(identity_lines(cell)), **keys)
         seconds = f"{cell['first']:.1f} to {cell['last']:.1f}"
@@ -140,12 +144,12 @@ def draw_table(ax, found, cells, strongest):
         ax.text(0.99, i + 0.5, f"{number_text(cell['level'])}\n{number_text(cell['ratio'])}", **keys, ha="right")
         ax.axhline(i + 1, color="#cccccc", lw=0.6, clip_on=False)
     if any(cell["chance"] for cell in cells):
-        note = CHANCE.replace(": ", ":\n").replace(", and", ",\nand")
+        note = survey_table.CHANCE.replace(": ", ":\n").replace(", and", ",\nand")
         ax.text(0.05, len(cells) + 0.1, note, va="top", fontsize=7, clip_on=False)
 
 
 def identity_lines(cell):
-    """Network, area and cell of SIB1, or why there is none; and the echo."""
+    """Network, area and cell of SIB1, or why there is none; of a scan the carrier; and the echo."""
     sib1, echo = cell["sib1"], max(cell.get("echoes", []), key=lambda one: one["level"], default=None)
     if "none" in sib1:
         lines = [f"no SIB1: {sib1['none']}"]
@@ -153,6 +157,8 @@ def identity_lines(cell):
         names = survey_table.networks(sib1)
         more = f" +{len(names) - 2}" if names[2:] else ""
         lines = [f"{' '.join(names[:2])}{more}, TAC {sib1['tac']}", f"{sib1['cell']}{number_of(cell)}"]
+    if "shift" in cell:
+        lines.append(f"{survey_table.megahertz(cell)} MHz, EARFCN {survey_table.earfcn_text(cell)}")
     return lines + ([f"echo {echo['delay']} us, {echo['level']} dB"] if echo else [])
 
 

@@ -7,9 +7,9 @@ place.
 import argparse
 import datetime
 import json
-import os
 import pathlib
 
+import machine
 import track
 from machine import Refused, note
 from radio_file import Stretch
@@ -39,6 +39,8 @@ def check(told):
     """Refuses words that say nothing without others."""
     if told.geojson and not told.track:
         raise Refused("--geojson: --track FILE says where the places are")
+    if told.geojson:
+        machine.check_place(told.geojson)
 
 
 # ---- times
@@ -92,16 +94,28 @@ def span(first, last):
 # ---- places
 
 
-def add_places(survey, file, way):
-    """Gives each window of each cell its place, longitude first, or null; and says of how many there is none."""
+def add_places(survey, file, way, starts):
+    """Gives each window of each cell its place, longitude first, or null, and says of how many there is none; and the
+    survey those of all windows, which begin at these seconds."""
     seen = [one for cell in survey["cells"] for one in cell["seen"]]
     for one in seen:
-        time = time_at(file, one["seconds"])
-        place = None if time is None else way.at(time)
-        one["place"] = place and [round(place.lon, DIGITS), round(place.lat, DIGITS)]
-    survey["track"] = {"places": len(way.places), "first": track.iso(way.first), "last": track.iso(way.last)}
+        one["place"] = place_at(file, way, one["seconds"])
+    windows = [(round(start, 6), place_at(file, way, start)) for start in starts]
+    survey["track"] = {
+        "places": len(way.places),
+        "first": track.iso(way.first),
+        "last": track.iso(way.last),
+        "windows": [[start, *place] for start, place in windows if place],
+    }
     if without := sum(one["place"] is None for one in seen):
         note(f"{without} of {len(seen)} windows of cells have no place: the track has none within {track.NEAR} s")
+
+
+def place_at(file, way, second):
+    """Where one was at a second of a file, longitude first, or nothing."""
+    time = time_at(file, second)
+    place = None if time is None else way.at(time)
+    return place and [round(place.lon, DIGITS), round(place.lat, DIGITS)]
 
 
 def geojson_of(survey, file):
@@ -125,7 +139,7 @@ def feature(place, properties):
 
 def strongest_place(cell):
     """Where a cell was strongest, of the windows that have a place and a level, or else of those with a place."""
-    placed = [one for one in cell["seen"] if one["place"]]
+    placed = [one for one in cell["seen"] if one.get("place")]
     return max(placed, key=loudness)["place"] if placed else None
 
 
@@ -165,10 +179,4 @@ def at_window(one, file):
 
 
 def write(path, survey, file):
-    """Writes beside the file, which is whole then, and renames."""
-    part = path.with_name(f"{path.name}.part")
-    try:
-        part.write_text(json.dumps(geojson_of(survey, file), separators=(",", ":")) + "\n", encoding="utf-8")
-        os.replace(part, path)
-    finally:
-        part.unlink(missing_ok=True)
+    machine.write(path, (json.dumps(geojson_of(survey, file), separators=(",", ":")) + "\n").encode())

@@ -123,11 +123,15 @@ def at_frequency(look, channel):
 # ---- the file
 
 
+def starts_of(told, file):
+    """Where windows begin, and how long they are: in the captures of one centre."""
+    stretches = tuple(one for one in file.stretches if one.shift == file.shift)
+    return file._replace(stretches=stretches).starts(told.at, WINDOW, told.every)
+
+
 def scanned(told, file, ask):
     """The survey of all frequencies as an object of JSON; `ask` answers for many windows."""
-    stretches = tuple(one for one in file.stretches if one.shift == file.shift)
-    shifts = raster(file)
-    starts = file._replace(stretches=stretches).starts(told.at, WINDOW, told.every)
+    shifts, starts = raster(file), starts_of(told, file)
     parts = [shifts[i : i + TOGETHER] for i in range(0, len(shifts), TOGETHER)]
     looks = [Look(file, *start, part, told.offset) for start in starts for part in parts]
     found = list(zip(looks, ask("scan", heard, looks)))

@@ -176,7 +176,8 @@ def survey_of(told):
     else:
         survey = surveyed(told, file)
     if way:
-        places.add_places(survey, file, way)
+        windows = scan.starts_of(told, file) if told.scan else file.starts(told.at, WINDOW, told.every)
+        places.add_places(survey, file, way, [start for start, _ in windows])
     if told.geojson:
         places.write(told.geojson, survey, file)
     return survey

@@ -68,6 +68,12 @@ def echo_text(echoes):
 
 
 LEFT = ("rule", "PHICH", "PLMN", "no SIB1")
+CHANCE = "? chance explains this line: it was seen once, or at another's place, and no SIB1 was read"
+
+
+def telling(rows):
+    """The names of the columns in which a row tells something."""
+    return [name for name in rows[0] if any(row[name] not in ("", "-") for row in rows)] if rows else []
 
 
 def table_of(survey):
@@ -76,7 +82,7 @@ def table_of(survey):
     rows = [row_of(cell, survey) for cell in survey["cells"]]
     if not rows:
         return [head, *last]
-    names = [name for name in rows[0] if any(row[name] not in ("", "-") for row in rows)]
+    names = telling(rows)
     lines = [{name: name for name in names}] + rows
     width = {name: max(len(line[name]) for line in lines) for name in names}
     text = [
@@ -84,7 +90,7 @@ def table_of(survey):
         for line in lines
     ]
     if any(cell["chance"] for cell in survey["cells"]):
-        text.append("? chance explains this line: it was seen once, or at another's place, and no SIB1 was read")
+        text.append(CHANCE)
     return [head] + text + last
 
 

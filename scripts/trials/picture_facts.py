@@ -4,13 +4,14 @@
 Tries whether a picture tells of a file what was put into it: DC, a tone's frequency and level, how many samples are at
 full scale, a stretch of one value, noise alone, and that a signal with a cyclic prefix is no noise, in each form of
 numbers and at several rates. Then whether hits have the names that they should, titles fit, a survey's page names each
-cell, and an older picture stays where there is no room for a new one. Needs no program. Prints a line for what is not
-so; the status is 0 where all is. About ten seconds.
+cell, a map has the strongest cell where it is, and an older picture stays where there is no room for a new one. Needs no
+program. Prints a line for what is not so; the status is 0 where all is. About twenty seconds.
 
 Debian: python3-numpy, python3-scipy, python3-matplotlib.
 """
 import json
 import pathlib
+import re
 import resource
 import signal
 import subprocess
@@ -24,7 +25,7 @@ import machine
 machine.want("numpy", "scipy", "matplotlib")
 import numpy as np
 
-import picture
+import picture_map
 import picture_style
 import picture_view
 import radio
@@ -168,10 +169,66 @@ def try_page(room):
     command = [str(TOP / "scripts/tools/picture.py"), room / "survey.json", "-o", room / "x.html", "--title", "a < b"]
     subprocess.run(command, check=True)
     page = (room / "x.html").read_text()
-    check("cells of the page", [i for i in range(22) if f"<td>{400 + i}<td>" not in page], [])
+    check("cells of the page", [i for i in range(22) if f">{400 + i}</td>" not in page], [])
     check("the page's title", "<h1>a &lt; b</h1>" in page, True)
-    check("heads without a name", page.count("<th><") + page.count("<th></tr>"), 0)
+    check("heads without a name", page.count("<button></button>"), 0)
+    check("words without a meaning", page.count('title=""'), 0)
     check("the page says what the mark is", "<p>? chance explains this line" in page, True)
+    check("what the page wants of a network", re.findall(r'(?:src|href)="(?!data:)[^"]*"', page), [])
+
+
+# ---- maps
+
+
+def seen_at(second, level, place):
+    return {"seconds": second, "level": level, "ratio": 20, "offset": 0, "place": place}
+
+
+def survey_of_places(places):
+    """A survey of a window at each place, a second apart: PCI 401 falls and 402 rises from window to window, 403 is by
+    chance, and none is heard in the last window."""
+    found = json.loads((TOP / "scripts/examples/outputs/survey.json").read_text())
+    (cell,), count = found["cells"], len(places)
+    heard = [(i + 0.005, place) for i, place in enumerate(places[:-1])]
+    levels = {401: lambda i: -40 - 2 * i, 402: lambda i: -40 - 2 * (count - i), 403: lambda i: -10}
+    found["cells"] = [
+        {
+            **cell,
+            "identity": identity,
+            "chance": identity == 403,
+            "seen": [seen_at(s, level(s // 1), p) for s, p in heard],
+        }
+        for identity, level in levels.items()
+    ]
+    windows = [[i, *place] for i, place in enumerate(places)]
+    track = {"first": "", "last": "", "places": count, "windows": windows}
+    return {**found, "every": 1, "seconds": count, "windows": count, "track": track}
+
+
+def try_map(room):
+    """What is strongest where, distances, letters, and the scale, also across longitude 180."""
+    places = [[(179.999 + 0.0002 * i + 180) % 360 - 180, 60 + 0.0001 * i] for i in range(12)]
+    found = survey_of_places(places)
+    drawn = picture_map.Map(found, 6)
+    strongest = [None if spot.cell is None else found["cells"][spot.cell]["identity"] for spot in drawn.spots]
+    check("strongest cells", strongest, [401] * 7 + [402] * 4 + [None])
+    check("their letters", [drawn.signs[i][0] for i in sorted(drawn.signs)], ["A", "B"])
+    check("marks that are one", len({sign[1:] for sign in picture_map.signs_of(range(36)).values()}), 36)
+    first, last = drawn.spots[0], drawn.spots[-1]
+    near("metres to the east", last.east - first.east, 0.0022 * 111_320 / 2, 1)
+    near("metres to the north", last.north - first.north, 0.0011 * 111_320, 1)
+    (left, right), (low, high) = drawn.limits
+    is_inside = all(left < spot.east < right and low < spot.north < high for spot in drawn.spots)
+    check("places in the map", is_inside, True)
+    near("metres of an inch, both ways", (right - left) / drawn.width, (high - low) / drawn.height, 1e-6)
+    check("the scale", [picture_map.round_below(metres) for metres in (999, 1000, 4, 0.7, 74)], [500, 1000, 2, 0.5, 50])
+    (room / "map.json").write_text(json.dumps(found))
+    for form in ("png", "svg", "html"):
+        command = [str(TOP / "scripts/tools/picture.py"), room / "map.json", "-o", room / f"map.{form}"]
+        subprocess.run(command, check=True)
+    check("the page has a map", (room / "map.html").read_text().count("<h2>Map</h2>"), 1)
+    still = picture_map.Map(survey_of_places([[13.4, 52.5]] * 12), 6)
+    near("inches of a map of one place, in metres", still.metres * still.width, picture_map.LEAST, 1)
 
 
 def try_room(room):
@@ -182,14 +239,14 @@ def try_room(room):
     before = resource.getrlimit(resource.RLIMIT_FSIZE)
     resource.setrlimit(resource.RLIMIT_FSIZE, (1_000, before[1]))
     try:
-        picture.write(place, bytes(2_000))
+        machine.write(place, bytes(2_000))
         faults.append("a file of too many bytes was written")
     except OSError:
         pass
     resource.setrlimit(resource.RLIMIT_FSIZE, before)
     check("the older picture", place.read_bytes(), b"old")
     check("files beside it", [path.name for path in room.glob(".*")], [])
-    picture.write(place, b"new")
+    machine.write(place, b"new")
     check("the newer picture", place.read_bytes(), b"new")
 
 
@@ -204,6 +261,7 @@ def main():
         try_summary(room / "file", draw)
         try_titles()
         try_page(room)
+        try_map(room)
         try_room(room)
     print("\n".join(faults), end="\n" * bool(faults))
     return bool(faults)
