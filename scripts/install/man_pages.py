@@ -29,8 +29,12 @@ EXAMPLES = {
         "lte_tune apply < recording.ci16 | lte_cli search",
     ],
     "lte_tune": ["lte_tune tell < recording.ci16", "lte_tune apply --format cu8 < recording.cu8 | lte_cli search"],
-    "lte_survey": ["lte_survey drive.cu8 --rate 2.4e6 --carrier 796e6", "lte_survey drive.sigmf-meta --json"],
-    "lte_picture": ["lte_picture recording.ci16 -o picture.png", "lte_picture survey.json -o survey.html"],
+    "lte_survey": [
+        "lte_survey drive.cu8 --rate 2.4e6 --carrier 796e6",
+        "lte_survey drive.sigmf-meta --track drive.gpx --html drive.html --geojson drive.geojson",
+        "rtl_sdr -f 796e6 -s 1.92e6 - | lte_survey - --form u8 --follow",
+    ],
+    "lte_picture": ["lte_picture recording.ci16 -o picture.png", "lte_picture survey.json -o map.png"],
 }
 PLACES = (
     "What is named here by `docs/` or `scripts/examples/` stands in `../share/doc/lte_cli`, seen from these programs. "

@@ -11,10 +11,10 @@ import re
 from matplotlib import pyplot
 
 
-def saved(figure, form):
+def saved(figure, form, dpi=100):
     """The figure's bytes, without the time at which it was made; of .svg without what only makes it longer."""
     out = io.BytesIO()
-    figure.savefig(out, format=form, dpi=100, metadata={"Date": None} if form == "svg" else {"Software": None})
+    figure.savefig(out, format=form, dpi=dpi, metadata={"Date": None} if form == "svg" else {"Software": None})
     pyplot.close(figure)
     data = out.getvalue()
     if form == "svg":
@@ -27,7 +27,7 @@ PAGE = """<!doctype html>
 <html lang="en"><head><meta charset="utf-8"><meta name="viewport" content="width=device-width, initial-scale=1">
 <title>{title}</title>
 <style>
-body {{ font: 14px/1.4 sans-serif; max-width: 1200px; margin: 1em auto; padding: 0 10px; background: white; color: black }}
+body {{ font: 14px/1.4 sans-serif; max-width: 1300px; margin: 1em auto; padding: 0 10px; background: white; color: black }}
 h1, pre, dd {{ overflow-wrap: anywhere }}
 h1 {{ font-size: 1.5em }}
 h2 {{ font-size: 1.15em; margin-top: 1.6em }}
@@ -53,15 +53,15 @@ def text(words):
     return html.escape(str(words).encode(errors="replace").decode())
 
 
-def image(figure, says):
-    """A figure in the page, which a reader can push sideways where it is wider than the window."""
+def image(figure, says, is_dense=False):
+    """A figure in the page, by points where lines would be too many; wider than the window it is pushed sideways."""
     wide = 100 * figure.get_size_inches()[0]
-    data = base64.b64encode(saved(figure, "svg")).decode()
+    kind, data = ("png", saved(figure, "png", 200)) if is_dense else ("svg+xml", saved(figure, "svg"))
     keys = f'style="max-width: {wide:.0f}px; min-width: {0.8 * wide:.0f}px" alt="{text(says)}"'
-    return f'<div class="wide"><img {keys} src="data:image/svg+xml;base64,{data}"></div>'
+    return f'<div class="wide"><img {keys} src="data:image/{kind};base64,{base64.b64encode(data).decode()}"></div>'
 
 
 def details(name, value):
     """What is read when it is opened: a text, or what a program wrote."""
-    shown = value if isinstance(value, str) else f"<pre>{text(json.dumps(value, indent=1))}</pre>"
+    shown = value if isinstance(value, str) else f"<pre>{text(json.dumps(value, indent=1, sort_keys=True))}</pre>"
     return f"<details><summary>{text(name)}</summary>{shown}</details>"

@@ -25,7 +25,6 @@ import machine
 machine.want("numpy", "scipy", "matplotlib")
 import picture_map
 import picture_panels
-import picture_survey
 import picture_view
 import radio_file
 import survey_page
@@ -56,7 +55,7 @@ def drawn(told, form):
         return survey_page.page_of(found, told.title)
     if found:
         is_map = picture_map.is_with_places(found) and not told.time
-        sheet = picture_map.map_sheet if is_map else picture_survey.survey_sheet
+        sheet = picture_map.map_sheet if is_map else picture_map.time_sheet
         return saved(sheet(found, told.title), form)
     view = picture_view.view_of(told, radio_file.opened(told))
     return page_of_view(view, told.cells) if form == "html" else saved(picture_panels.sheet(view, told.cells), form)

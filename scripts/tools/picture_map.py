@@ -308,6 +308,13 @@ def map_sheet(found, title=None):
     return figure
 
 
+def time_sheet(found, title=None):
+    """The cells over time; where there is a map, those at the front of it have its letters, marks and colours."""
+    signs = Map(found, ALONE).signs if is_with_places(found) else {}
+    some = itertools.islice(signs.items(), len(MARKS))
+    return picture_survey.survey_sheet(found, title, {id(found["cells"][number]): sign for number, sign in some})
+
+
 def map_alone(found):
     """The map with the names of its cells below."""
     drawn = Map(found, ALONE - 1)

@@ -16,8 +16,9 @@ MOST = 100  # rows
 TOP, BOTTOM = 0.1, 0.82  # of a row, between which its values stand; below are the windows that list it
 
 
-def survey_sheet(found, title=None):
-    """Cells over time: level, signal to noise, offset, and when each was seen."""
+def survey_sheet(found, title=None, signs=None):
+    """Cells over time: level, signal to noise, offset, and when each was seen; with the letter, mark and colour that
+    some cells have, by their identity as objects, else the strongest with marks of their own."""
     cells = found["cells"][:MOST]
     room = max(ROW * len(cells), min(TALL * len(cells), 3.6), ROW)
     figure = pyplot.figure(figsize=(WIDTH, 3.5 + room), layout="constrained")
@@ -25,7 +26,7 @@ def survey_sheet(found, title=None):
     headed(figure, title or found["file"], facts_line(found, title) + (f"; {more} further cells" if more else ""))
     keys = {"width_ratios": (4.1, 4.2, 3.4), "height_ratios": (2, room + 0.35)}
     (names, levels, offsets), (table, *lanes) = figure.subplots(2, 3, sharex="col", gridspec_kw=keys)
-    strongest = {id(cell): ("", *sign) for cell, *sign in zip(strong_first(cells), MARKS, COLOURS)}
+    strongest = signs or {id(cell): ("", *sign) for cell, *sign in zip(strong_first(cells), MARKS, COLOURS)}
     draw_together(levels, found, cells, strongest, "level")
     draw_together(offsets, found, cells, strongest, "offset")
     levels.set(title="Level of a reference element", ylabel=found["unit"])
@@ -97,8 +98,8 @@ def draw_names(ax, found, cells, strongest):
     ax.axis("off")
     marked = [cell for cell in cells if id(cell) in strongest]
     for cell in sorted(marked, key=lambda cell: -cell["level"]):
-        _, mark, colour = strongest[id(cell)]
-        text = f"{name_of(cell)}{number_of(cell)}: {number_text(cell['level'])} at its strongest"
+        letter, mark, colour = strongest[id(cell)]
+        text = f"{letter} {name_of(cell)}{number_of(cell)}: {number_text(cell['level'])} at its strongest".lstrip()
         ax.plot([], [], ls="-", marker=mark, ms=5, lw=0.9, color=colour, label=text)
     if len(marked) < len(cells):
         ax.plot([], [], ls="", marker=".", ms=3, color="#b0b0b0", label="the others")

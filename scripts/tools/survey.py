@@ -192,16 +192,16 @@ def survey_of(told):
 def main():
     told = arguments()
     survey = survey_of(told)
-    if told.html:
-        import survey_page  # here, since it wants matplotlib
-
-        survey_page.write(told.html, survey)
     if told.json:
         print(json.dumps(survey, sort_keys=True, separators=(",", ":")))
     elif told.csv:
         print(csv_of(survey), end="")
     else:
-        print("\n".join(table_of(survey)))
+        print("\n".join(table_of(survey)), flush=True)
+    if told.html:
+        import survey_page  # here, since it wants matplotlib
+
+        survey_page.write(told.html, survey)
 
 
 if __name__ == "__main__":

@@ -4,14 +4,17 @@ Debian: python3-numpy, python3-matplotlib.
 """
 import machine
 import picture_map
-import picture_survey
 import survey_table
 from page import details, image, page, text
-from picture_style import begin
+from picture_style import begin, facts_of
 from places import strongest_place
 from survey_says import COLUMNS, meaning
 
-STYLE = """th { vertical-align: bottom; border-bottom: 1px solid #777 }
+MOST = 4_000  # lines of windows that a page has one by one
+BEFORE = ("EARFCN", "MHz")  # columns before the identity, its mark and its letter
+STYLE = """table { font-size: 12.5px }
+td, th { padding: 2px 5px }
+th { vertical-align: bottom; border-bottom: 1px solid #777 }
 th button { all: unset; cursor: pointer; font-weight: bold }
 th button:focus-visible { outline: 2px solid }
 th[aria-sort=ascending] button::after { content: " \\2191" }
@@ -24,28 +27,30 @@ dt { font-weight: bold }
 """
 # sorts by a column: numbers by size, texts by their numbers and letters, what is not known last
 SCRIPT = """<script>
-const table = document.getElementById("cells"), body = table.tBodies[0], number = /^[+-]?[0-9.]+/;
-const known = word => word !== "" && word !== "-";
+const table = document.getElementById("cells"), body = table.tBodies[0], heads = [...table.tHead.rows[0].cells];
+const number = /^[+-]?[0-9.]+/, known = word => word !== "" && word !== "-";
 function order(a, b) {
-  if (known(a) !== known(b)) return known(a) ? -Infinity : Infinity;
   const sizes = number.test(a) && number.test(b) ? parseFloat(a) - parseFloat(b) : 0;
   return sizes || a.localeCompare(b, "en", { numeric: true });
 }
-for (const [place, head] of [...table.tHead.rows[0].cells].entries()) head.firstChild.onclick = () => {
-  const sign = head.ariaSort === "ascending" ? -1 : 1;
-  for (const other of table.tHead.rows[0].cells) other.ariaSort = "none";
-  head.ariaSort = sign > 0 ? "ascending" : "descending";
+heads.forEach((head, place) => head.firstChild.onclick = () => {
+  const sign = head.getAttribute("aria-sort") === "ascending" ? -1 : 1;
+  heads.forEach(other => other.setAttribute("aria-sort", "none"));
+  head.setAttribute("aria-sort", sign > 0 ? "ascending" : "descending");
   const word = row => row.cells[place].textContent.trim();
-  const by = (a, b) => { const found = order(word(a), word(b)); return Math.abs(found) === Infinity ? found : sign * found; };
-  body.append(...[...body.rows].sort(by));
-};
+  body.append(...[...body.rows].sort((one, other) => {
+    const a = word(one), b = word(other);
+    return known(a) && known(b) ? sign * order(a, b) : known(b) - known(a);
+  }));
+});
 </script>"""
 
 
 def page_of(found, title=None):
     """The page of a survey, with a map where it has places."""
     rows = rows_of(found)
-    parts = [f"<p>{text(survey_table.head_of(found))}.", f"<p>{text(picture_survey.facts_line(found, title))}."]
+    facts = facts_of(found["form"], found["rate"], found["carrier"], found["shift"])
+    parts = [f"<p>{text(', '.join([survey_table.head_of(found), *facts]))}."]
     if found["hint"]:
         parts.append(f"<p><b>{text(found['hint'])}</b>")
     parts.append(table(rows) if rows else "<p>No cell.")
@@ -53,11 +58,20 @@ def page_of(found, title=None):
     if picture_map.is_with_places(found):
         says = "Map: at each place the strongest cell by letter and mark, its level by size"
         parts += ["<h2>Map</h2>", image(picture_map.map_alone(found), says)]
+    is_long = sum(len(cell["seen"]) for cell in found["cells"]) > MOST
     if rows:
         says = "Level, signal to noise and frequency offset of each cell over time"
-        parts += ["<h2>Over time</h2>", image(picture_survey.survey_sheet(found, title), says), words_of(rows)]
-    parts += [details("The survey as JSON", found), SCRIPT * bool(rows)]
+        parts += ["<h2>Over time</h2>", image(picture_map.time_sheet(found, title), says, is_long), words_of(rows)]
+    said = ("The survey as JSON, without windows", without_windows(found)) if is_long else ("The survey as JSON", found)
+    parts += [details(*said), SCRIPT * bool(rows)]
     return page(title or f"Survey of {found['file']}", parts, STYLE)
+
+
+def without_windows(found):
+    """A survey without what is of single windows."""
+    cells = [{key: value for key, value in cell.items() if key != "seen"} for cell in found["cells"]]
+    track = {key: value for key, value in found.get("track", {}).items() if key != "windows"}
+    return {**found, "cells": cells, **({"track": track} if track else {})}
 
 
 def rows_of(found):
@@ -65,18 +79,14 @@ def rows_of(found):
     rows = [survey_table.row_of(cell, found) for cell in found["cells"]]
     if picture_map.is_with_places(found):
         signs = picture_map.Map(found, picture_map.ALONE).signs
-        letters = [signs[i][0] if i in signs else "" for i in range(len(rows))]
-        rows = [with_place(row, letter, cell) for row, letter, cell in zip(rows, letters, found["cells"])]
+        for i, (row, cell) in enumerate(zip(rows, found["cells"])):
+            place = strongest_place(cell)
+            row["map"] = signs[i][0] if i in signs else ""
+            row["strongest at"] = f"{place[1]:.6f}, {place[0]:.6f}" if place else "-"
     names = survey_table.telling(rows)
+    first = [name for name in (*BEFORE, "PCI", "", "map") if name in names]
+    names = first + [name for name in names if name not in first]
     return [{name: row[name] for name in names} for row in rows]
-
-
-def with_place(row, letter, cell):
-    """A row with a letter behind its identity, and where the cell was strongest."""
-    place = strongest_place(cell)
-    where = f"{place[1]:.6f}, {place[0]:.6f}" if place else "-"
-    items = [pair for name, word in row.items() for pair in ([(name, word)] + [("map", letter)] * (name == "PCI"))]
-    return {**dict(items), "strongest at": where}
 
 
 def table(rows):

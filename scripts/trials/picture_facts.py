@@ -31,6 +31,8 @@ import picture_view
 import radio
 import radio_file
 import recorded
+import survey_says
+import survey_table
 
 SECONDS = 0.1
 CASES = (("u8", 2_400_000), ("s8", 4_000_000), ("s16", 1_920_000), ("f32", 2_048_000), ("s16", 30_720_000))
@@ -177,6 +179,19 @@ def try_page(room):
     check("what the page wants of a network", re.findall(r'(?:src|href)="(?!data:)[^"]*"', page), [])
 
 
+def try_words():
+    """Whether the page has a meaning for each column, and for each reason for which SIB1 is not read."""
+    defined = json.loads((TOP / "scripts/tools/report.schema.json").read_text())["$defs"]
+    reasons = re.sub(r"\([^()]*\)", "", defined["reason"]["properties"]["none"]["pattern"][2:-2]).split("|")
+    check("reasons", set(survey_says.REASONS), {reason.split(" ")[0] for reason in reasons})
+    check("rules", survey_says.RULES.keys(), picture_view.sightings.CARRIERS.keys())
+    check("bandwidths", list(survey_says.BLOCKS), defined["cell"]["properties"]["bandwidth"]["enum"])
+    found = json.loads((TOP / "scripts/examples/outputs/survey.json").read_text())
+    for unit in ("dBFS", "dBm"):
+        row = survey_table.row_of(found["cells"][0], {**found, "unit": unit})
+        check("columns without a meaning", row.keys() - survey_says.COLUMNS, set())
+
+
 # ---- maps
 
 
@@ -261,6 +276,7 @@ def main():
         try_summary(room / "file", draw)
         try_titles()
         try_page(room)
+        try_words()
         try_map(room)
         try_room(room)
     print("\n".join(faults), end="\n" * bool(faults))
