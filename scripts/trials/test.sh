@@ -156,6 +156,26 @@ window 217 001-01 13.002 51.998'
         head -c 5 drive.svg | says 'picture.py draws it' '<?xml'
         "$tools/picture.py" survey.json -o survey.html
         head -c 15 survey.html | says 'picture.py draws a survey' '<!doctype html>'
+        "$tools/survey.py" "${walk[@]}" 2026-05-01T07:29:59.95Z --html walk.html --json > walk.json 2> words
+        grep -o '<h2>[^<]*\|title="eNodeB [^"]*' walk.html | says 'survey.py writes a page with a map' 'title="eNodeB 0, its cell 1
+<h2>Map
+<h2>Over time'
+        "$tools/picture.py" walk.json -o same.html
+        cmp walk.html same.html | says 'picture.py writes the same page' ''
+        for words in map.svg map.png 'time.svg --time'; do
+            read -ra words <<< "$words"
+            "$tools/picture.py" walk.json -o "${words[@]}"
+        done
+        wc -l < <(cmp map.svg time.svg) | says 'picture.py draws a map, or cells over time' 1
+        cat drive.cu8 /dev/null | "$tools/survey.py" - --form u8 --rate 2.4e6 --wait --html live.html > table
+        grep -c '<h2>Map\|<h2>Over time' live.html | says 'survey.py writes a page of a pipe' 1
+        if has chromium; then
+            sed 's|</body>|<script>document.querySelector("#cells button").click()</script></body>|' walk.html > click.html
+            chromium --headless --no-sandbox --disable-gpu --dump-dom click.html 2> words |
+                grep -o 'aria-sort="ascending"[^>]*><button>[^<]*' | sed 's/.*>//' | says 'a browser sorts the page' PCI
+        else
+            echo 'left out the page in a browser: no chromium'
+        fi
         "$here/picture_facts.py" | says 'a picture tells what was put into a file' ''
     else
         echo 'left out picture.py: no matplotlib'
