@@ -210,4 +210,5 @@ def as_object(cell, cells, file, gain, surest):
 
 
 def less(number, gain=0, digits=1):
-    return None if number is None else round(float(number) - gain, digits)
+    """A number by another in so many digits, without the sign of a 0; nothing stays nothing."""
+    return None if number is None else round(float(number) - gain, digits) + 0.0
