@@ -2,8 +2,6 @@
 
 Debian: python3-numpy, python3-scipy.
 """
-import datetime
-import json
 from typing import NamedTuple
 
 import numpy as np
@@ -165,7 +163,7 @@ def view_of(told, file):
             data, full, offset = data_then, full_then, tuned
     for words in ("ids --json", "search --all --json", *map(evidence_words, sightings.CARRIERS)):
         said[f"lte_cli {words}"] = answer_of(words, data)
-    shift, time = shift_of(file, start), time_of(file, start)
+    shift, time = file.shift_at(round(start * file.rate)), file.time_at(start)
     facts = facts_of(file.form, file.rate, file.carrier, shift)
     facts.append(f"{1000 * seconds:,.0f} ms from second {start:g} on" + (f" ({time})" if time else ""))
     facts += [f"{offset:+,.0f} Hz taken off"] * bool(offset) + ["no offset taken off: it is a guess"] * is_guess
@@ -193,20 +191,3 @@ def recording_of(file, start, seconds, offset, seen):
 
 def answer_of(words, data):
     return machine.answer([machine.program("lte_cli"), *words.split()], data)
-
-
-def shift_of(file, second):
-    """Hertz above the file's centre at which the cell stands then; of a file of several captures each tells its own."""
-    return file.shift_at(round(second * file.rate)) if hasattr(file, "shift_at") else file.shift
-
-
-def time_of(file, second):
-    """The time of a second of a file of SigMF, by what that says, else nothing."""
-    if hasattr(file, "time_at"):
-        return file.time_at(second)
-    try:
-        told = json.loads(file.path.with_suffix(".sigmf-meta").read_text(encoding="utf-8"))
-        begun = datetime.datetime.fromisoformat(told["captures"][0]["core:datetime"])
-    except (OSError, ValueError, KeyError, IndexError, TypeError):
-        return None
-    return (begun + datetime.timedelta(seconds=second)).isoformat(timespec="milliseconds")
