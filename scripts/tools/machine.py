@@ -47,6 +47,19 @@ def run(main):
         sys.exit(f"{name}: stopped")
 
 
+def write(path, data):
+    """Beside the file first, so that an older one of this name stays where that fails."""
+    part = path.with_name(f".{os.getpid()}.{path.name}")
+    try:
+        part.write_bytes(data)
+        os.replace(part, path)
+    except OSError as fault:
+        fault.filename = str(path)
+        raise
+    finally:
+        part.unlink(missing_ok=True)
+
+
 def want(*packages):
     """Goes on with Debian's Python where this one has not these packages."""
     missing = [package for package in packages if importlib.util.find_spec(package) is None]

@@ -28,6 +28,7 @@ import picture_panels
 import picture_view
 import radio_file
 import survey_table
+from machine import write
 from picture_style import STYLE
 from words import Words, number
 
