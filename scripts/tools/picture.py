@@ -100,11 +100,21 @@ def drawn(told, form):
     if found and form == "html":
         return survey_page.page_of(found, told.title)
     if found:
-        is_map = picture_map.is_with_places(found) and not told.time
-        sheet = picture_map.map_sheet if is_map else picture_map.time_sheet
-        return saved(sheet(found, told.title), form)
-    view = picture_view.view_of(told, radio_file.opened(told))
+        return of_survey(found, told, form)
+    file = radio_file.opened(told)
+    file.check_holds(file.shift + (told.offset or 0), f"an offset of {told.offset or 0:,.0f} Hz")
+    view = picture_view.view_of(told, file)
     return page_of_view(view, told.cells) if form == "html" else saved(picture_panels.sheet(view, told.cells), form)
+
+
+def of_survey(found, told, form):
+    """Of what survey.py --json wrote."""
+    try:
+        if form == "html":
+            return page_of_survey(found, told.title)
+        return saved(picture_survey.survey_sheet(found, told.title), form)
+    except (KeyError, TypeError, AttributeError) as fault:
+        raise machine.Refused(f"{told.file}: not as survey.py --json writes it: {fault}") from None
 
 
 def form_of(out):
@@ -124,7 +134,10 @@ def arguments():
     parser.add_argument("--cells", type=int, default=4, help="how many cells are drawn (4)")
     parser.add_argument("--time", action="store_true", help="of a survey with places: over time, in place of the map")
     parser.add_argument("--title", help="in place of the file's name")
-    return parser.parse_args()
+    told = parser.parse_args()
+    if told.at < 0 or told.cells < 0:
+        raise machine.Refused("--at and --cells are not below 0")
+    return told
 
 
 def main():
