@@ -195,6 +195,7 @@ def as_object(cell, cells, file, gain, surest):
             {
                 "seconds": round(one.seconds, 4),
                 "at": round(one.seconds * file.rate),
+                "datetime": file.time_at(one.seconds),
                 "sfn": one.line["sfn"],
                 "level": less(one.level, gain),
                 "ratio": less(one.ratio),
@@ -203,6 +204,8 @@ def as_object(cell, cells, file, gain, surest):
                 "echoes": [[less(delay), less(level)] for delay, level in one.echoes],
                 "cost": one.cost,
                 "total": one.total,
+                "mib": one.mib,
+                "sib1_block": one.sib1_block,
             }
             for one, offset in zip(cell.seen, offsets)
         ],

@@ -47,6 +47,12 @@ def run(main):
         sys.exit(f"{name}: stopped")
 
 
+def check_place(path):
+    """Refuses a place where nothing can be written."""
+    if path.is_dir() or not os.access(path.parent, os.W_OK | os.X_OK):
+        raise Refused(f"{path}: {'a folder' if path.is_dir() else 'nothing can be written into its folder'}")
+
+
 def write(path, data):
     """Beside the file first, so that an older one of this name stays where that fails."""
     part = path.with_name(f".{os.getpid()}.{path.name}")

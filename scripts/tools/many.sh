@@ -31,7 +31,7 @@ mkdir "$copy"
 trap 'rm -rf "$copy"' EXIT
 cp "$cli" "$copy/lte_cli"
 cp "$tune" "$copy/lte_tune"
-cp "$tools"/{survey,cells,live,places,scan,stream,track,bands}.py "$copy"
+cp "$tools"/{survey,cells,live,pcap,places,scan,stream,track,bands}.py "$copy"
 cp "$tools"/{survey_table,sightings,pilots,machine,words,radio,radio_file,sigmf,forms,to_ci16}.py "$copy"
 mapfile -t carried < <(printf -- '--basefile\n%s\n' "$copy"/*)
 parallel --will-cite --keep-order --sshlogin "$MACHINES" "${carried[@]}" --transferfile {} --cleanup \

@@ -198,6 +198,8 @@ class Sighting(NamedTuple):
     offset: float  # hertz, by its pilots
     error: float  # hertz
     others: list  # where frame 0 begins on other paths, and their peaks
+    mib: str | None  # hexadecimal digits of the master block's bits
+    sib1_block: str | None  # and of those of SIB1's transport block, where it was read
 
     @property
     def seconds(self):
@@ -243,7 +245,8 @@ def sighting_of(task, window, one):
     numbers = (told.level(window.full), told.ratio, first["cost"], first["total"], first["peak"])
     own = told.hertz if told.error < VAGUE else 0
     hertz = (window.offset, window.offset + own, told.error)
-    return Sighting(task, one.line, [one.rule], *numbers, *hertz, others=[])
+    blocks = first.get("mib"), first.get("sib1_block")
+    return Sighting(task, one.line, [one.rule], *numbers, *hertz, [], *blocks)
 
 
 def place_of(line):
