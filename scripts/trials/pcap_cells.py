@@ -145,7 +145,7 @@ def master_of(packet):
     """The fields of a master block."""
     spare = [compare.shown(packet, name) for name in ("schedulingInfoSIB1_BR_r13", "systemInfoUnchanged_BR_r15")]
     choice = compare.shown(packet, "partEARFCN_17")
-    inner, last = [*compare.under(packet, "earfcn_LSB_r17"), *compare.under(packet, "spare")]
+    inner, last = [*compare.under(packet, "earfcn_LSB"), *compare.under(packet, "spare")]
     return {
         "bandwidth": compare.shown(packet, "dl_Bandwidth"),
         "duration": DURATIONS[compare.shown(packet, "phich_Duration")],
@@ -206,7 +206,7 @@ def main(program, count="100"):
         sent.append((cell, sib1 if carrier.has_sib1 else None, earfcn))
     found = {identity: [] for identity in identities}
     with tempfile.TemporaryDirectory() as folder:
-        for earfcn, its in lines.items():
+        for earfcn, its in filter(lambda pair: pair[1], lines.items()):
             words = [SCRIPTS / "tools/pcap.py", "-o", f"{folder}/x.pcap", "--earfcn", str(earfcn)]
             subprocess.run(words, input=json.dumps(its).encode(), check=True)
             for packet in packets(f"{folder}/x.pcap"):
