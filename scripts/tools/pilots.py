@@ -7,6 +7,7 @@ these samples (1,752 and 2,000 Hz) either way. Those of ports 2 and 3 stand in o
 The channel is what paths within 16 samples explain, about as long as the prefix lasts, and the noise what they do not,
 once the turn is taken off: so neither an echo nor an offset is noise. They are 3 samples before a frame's start to 13
 behind it, or begin earlier where that leaves clearly less noise, since a frame's start is that of the strongest path.
+Paths of which the list has a line of their own are known, and count too.
 
 Debian: python3-numpy.
 """
@@ -21,7 +22,8 @@ LATER = {"one-port": 548, "two-ports": 548, "four-ports": 548, "long-prefix": 48
 EARLIEST = (-3, -8, -13)  # samples before a frame's start at which paths begin
 CLEARLY = 0.7  # of the noise that another start of the paths may leave
 PATHS = np.arange(0, 16.01, 0.25)  # samples by which they are later than the earliest one
-SIZE = 13  # numbers that tell the channel of one port: of 24 pilots all that such paths make but 1 in 10,000
+ABOUT = np.arange(-1.5, 1.51, 0.25)  # samples beside a known path's delay at which it may stand
+REST = 1e-4  # of what such paths make of 24 pilots the waves may leave so much
 SCALE = 16_200  # a pilot's size squared by that of what was seen
 
 
@@ -43,9 +45,10 @@ class Measured(NamedTuple):
         return radio.decibels(self.signal / self.noise) if self.noise > 0 else None
 
 
-def measured(evidence, rule):
-    """By what `evidence` of a rule's list says of a cell, once or of several of its frames."""
-    first, *others = (fit_of(evidence, earliest) for earliest in EARLIEST)
+def measured(evidence, rule, known=()):
+    """By what `evidence` of a rule's list says of a cell, once or of several of its frames, and the delays of further
+    paths in samples."""
+    first, *others = (fit_of(evidence, earliest, known) for earliest in EARLIEST)
     best = min(others, key=lambda fit: fit.noise)
     fit = best if best.noise < CLEARLY * first.noise else first
     every = [pilots_of(one, port) for one in evidence for port in range(len(one["channel"]))]
@@ -64,11 +67,11 @@ class Fit(NamedTuple):
     knowledge: float
 
 
-def fit_of(evidence, earliest):
-    slots = [slot for one in evidence for slot in slots_of(one, earliest)]
+def fit_of(evidence, earliest, known):
+    slots = [slot for one in evidence for slot in slots_of(one, earliest, known)]
     turn = np.angle(sum(np.vdot(kept(first), kept(later)) for first, later in map(parts_of, slots)))
     straight = [slot._replace(pilots=first_and_turned(slot, turn)) for slot in slots]
-    noise = np.mean([np.sum(np.abs(slot.pilots - kept(slot)) ** 2) for slot in straight]) / (24 - SIZE)
+    noise = np.mean([np.sum(np.abs(slot.pilots - kept(slot)) ** 2) / (24 - slot.size) for slot in straight])
     return Fit(turn, noise, sum(knowledge(slot, noise) for slot in straight) / len(evidence))
 
 
@@ -79,13 +82,18 @@ class Slot(NamedTuple):
     in_first: np.ndarray
     waves: np.ndarray
 
+    @property
+    def size(self):
+        """How many numbers tell the channel."""
+        return self.waves.shape[1]
 
-def slots_of(one, earliest):
+
+def slots_of(one, earliest, known):
     """Those of the ports whose pilots tell a turn (TS 36.211 section 6.10.1.2)."""
     first = one["identity"] % 3
     for port in range(min(2, len(one["channel"]))):
         in_first = (first + 3 * np.arange(24) - one["identity"] - 3 * port) % 6 == 0
-        yield Slot(pilots_of(one, port), in_first, waves_of(first, earliest))
+        yield Slot(pilots_of(one, port), in_first, waves_of(first, earliest, known))
 
 
 def pilots_of(one, port):
@@ -113,13 +121,15 @@ def knowledge(slot, noise):
     power = np.sum(np.abs(signal) ** 2)
     half = slot._replace(pilots=signal * ~slot.in_first)
     share = np.sum(np.abs(half.pilots - kept(half)) ** 2) / max(power, 1e-9)
-    return share * max(power - SIZE * noise, 0)
+    return share * max(power - slot.size * noise, 0)
 
 
 @functools.cache
-def waves_of(subcarrier, earliest):
+def waves_of(subcarrier, earliest, known):
     """Waves over the 24 pilots from this subcarrier on, each at a right angle to the others: any path's is a sum of them."""
+    delays = np.concatenate([earliest + PATHS, *(delay + ABOUT for delay in known)])
     k = subcarrier + 3 * np.arange(24)
     frequencies = np.where(k < 36, k - 36, k - 35) / 128
-    waves, _, _ = np.linalg.svd(np.exp(-2j * np.pi * np.outer(frequencies, earliest + PATHS)))
-    return waves[:, :SIZE]
+    waves, sizes, _ = np.linalg.svd(np.exp(-2j * np.pi * np.outer(frequencies, delays)))
+    left = 1 - np.cumsum(sizes**2) / np.sum(sizes**2)
+    return waves[:, : np.argmax(left < REST) + 1]

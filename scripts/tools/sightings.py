@@ -86,6 +86,7 @@ class Heard(NamedTuple):
 
     line: dict
     evidence: list
+    paths: tuple = ()  # samples by which other paths of its cell are later, of which the list has lines too
 
     @property
     def rule(self):
@@ -93,14 +94,21 @@ class Heard(NamedTuple):
 
     @property
     def measured(self):
-        return pilots.measured(self.evidence, self.rule)
+        return pilots.measured(self.evidence, self.rule, self.paths)
 
 
 def heard_in(window):
     """The lines of a window's list."""
     listed = machine.answer([machine.program("lte_cli"), "search", "--all", "--json"], window.data)
     support = {rule: {place_of(one): one for one in evidence_of(window, rule)} for rule in {x["rule"] for x in listed}}
-    return [Heard(line, [support[line["rule"]][place_of(line)]]) for line in listed]
+    return [Heard(line, [support[line["rule"]][place_of(line)]], paths_of(line, listed)) for line in listed]
+
+
+def paths_of(line, listed):
+    """By how many samples lines of the same cell are later, but those that are by another rule alone."""
+    half, place = CYCLE // 2, epoch_of(line)
+    later = {(epoch_of(one) - place + half) % CYCLE - half for one in listed if is_of_one_cell(one, line)}
+    return tuple(sorted(delay for delay in later if NEAR < abs(delay) <= ECHO))
 
 
 def evidence_of(window, rule):
@@ -161,7 +169,7 @@ def by_itself(window, one):
     if abs(told.hertz) > max(FINE, 3 * told.error):
         turned = window.turned(told.hertz)
         if its := matching(one.line, evidence_of(turned, one.rule)):
-            window, one = turned, Heard(one.line, its)
+            window, one = turned, one._replace(evidence=its)
             heard_more(window, [one])
     return window, one
 
@@ -288,6 +296,10 @@ def on_another_path(old, new):
     strong, weak = (old, new) if old.peak >= new.peak else (new, old)
     others = strong.others + weak.others + [(weak.epoch, weak.peak)]
     return strong._replace(others=others, rules=sorted({*old.rules, *new.rules}))
+
+
+def is_of_one_cell(one, other):
+    return one["identity"] == other["identity"] and is_alike(one, other)
 
 
 def is_alike(one, other):
