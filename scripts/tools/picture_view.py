@@ -133,12 +133,20 @@ class View(NamedTuple):
         if self.nothing:
             return ["Noise only: level over frequency and time,", "and no symbol's end comes again as a prefix."]
         if not self.told:
-            return ["No signal: the rate or the form of", "the numbers, noise, or no carrier."]
+            return [
+                "No signal: the rate or the form of",
+                "the numbers, I and Q exchanged (--exchanged),",
+                "noise, or no carrier.",
+            ]
         if self.told["cells"] and not self.offset and abs(self.told["turn"]) * sightings.STEP > 500:
             return ["The frequency offset hides the cell:", "--tune takes it off."]
         if self.hits:
-            return ["Signal, but no master block: noise,", "or what docs/DEFINITION.md names."]
-        return ["No hit at this frequency."]
+            return [
+                "Signal, but no master block: noise, a carrier",
+                "beside the lines (--shift, --offset), I and Q",
+                "exchanged, or what docs/DEFINITION.md names.",
+            ]
+        return ["No hit at this frequency: --shift", "and --offset say another."]
 
 
 def share_text(share):

@@ -107,6 +107,8 @@ def surveyed(told, file):
 def why_none(ask, tasks):
     """What is wrong with a file where no cell is sure: tries its strongest windows with I and Q exchanged."""
     file, strength = tasks[0].file, ask("level", energy, tasks)
+    if max(strength) <= 0:
+        return "nothing was received: all samples looked at are one"
     other = file._replace(is_exchanged=not file.is_exchanged)
     strongest = sorted(range(len(tasks)), key=strength.__getitem__, reverse=True)[:TRIED]
     tried = [tasks[i]._replace(file=other, offset=0) for i in sorted(strongest)]
@@ -118,8 +120,9 @@ def why_none(ask, tasks):
         names = f"PCI {' and '.join(map(str, sure))}"
         return f"I and Q are exchanged: {'without' if file.is_exchanged else 'with'} --exchanged there is {names}"
     return (
-        f"no sure cell: tried {file.form} at {file.rate:,} samples per second, {file.shift:+,.0f} Hz beside the centre, "
-        "offsets up to 60 kHz, I and Q both ways; --form, --rate, --shift and --offset say another"
+        f"no sure cell: tried {file.form} at {file.rate:,} samples per second, {file.shift:+,.0f} Hz beside the "
+        "centre, offsets up to 60 kHz, I and Q both ways; "
+        "--form, --rate, --shift and --offset say another, --scan looks beside"
     )
 
 
