@@ -19,7 +19,7 @@ import numpy as np
 from scipy import signal
 
 import radio
-from forms import FORMS
+from forms import FORMS, is_number
 
 
 PASS = 600_000  # hertz on either side: six blocks take 540,000
@@ -54,9 +54,12 @@ def main(kind, rate, shift="0", start="0"):
     while skip > 0 and (gone := len(source.read(min(skip, 1 << 20)))):
         skip -= gone
     data = source.read(int(1.05 * rate) * size)
-    parts = np.frombuffer(data[: len(data) // size * size], form.numbers).astype(float) - form.middle
+    parts = np.frombuffer(data[: len(data) // size * size], form.numbers)
     if len(parts) == 0:
         raise machine.Refused("no samples")
+    if kind == "f32" and not np.all(is_number(parts)):
+        raise machine.Refused("no numbers of f32 in it: is it another TYPE?")
+    parts = parts.astype(float) - form.middle
     x = converted(parts[0::2] + 1j * parts[1::2], rate, shift)
     sys.stdout.buffer.write(radio.to_bytes(x * (radio.FULL / 2 / (radio.peak(x) or 1))))
 

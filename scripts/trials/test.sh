@@ -111,6 +111,14 @@ if [ "$has_scipy" ] && [ -x "$tuner" ]; then
     "$tools/survey.py" drive.cu8 --rate 2.4e6 --every 0.03 --csv |
         awk -F, '$2 == 217 { print $6, $7, $12, $13, int($19 / 200), $22 }' |
         says 'survey.py: a file of 8 bits at 2.4 Ms/s, 21.5 kHz off' '3 3 001-01 1 107 no'
+    if has tshark; then
+        "$tools/survey.py" sent.ci16 --earfcn 303 --pcap sent.pcap > table
+        tshark -r sent.pcap -T fields -e ip.src -e gsmtap.arfcn -e gsmtap.frame_nr -e lte-rrc.systemFrameNumber \
+            -e lte-rrc.q_RxLevMin -E separator=, 2> words |
+            says 'survey.py --pcap: tshark reads MIB and SIB1' $'127.0.2.17,303,101,19,\n127.0.2.17,303,102,,-70'
+    else
+        echo 'left out survey.py --pcap: no tshark'
+    fi
     "$tools/survey.py" sent.ci16 --json > survey.json
     : > empty.cu8
     head -c 100001 sent.ci16 > short.ci16
