@@ -179,34 +179,20 @@ fn is_period(code: u8, frames: u16, name: &str) -> bool {
 }
 
 #[test]
-fn windows_are_those_of_the_standard(rt: HostRuntime) {
-    for (code, milliseconds, name) in [
-        (0, 1, "ms1"),
-        (1, 2, "ms2"),
-        (2, 5, "ms5"),
-        (3, 10, "ms10"),
-        (4, 15, "ms15"),
-        (5, 20, "ms20"),
-        (6, 40, "ms40"),
+fn windows_and_periods_are_those_of_the_standard(rt: HostRuntime) {
+    for (code, milliseconds, window, frames, period) in [
+        (0, 1, "ms1", 8, "rf8"),
+        (1, 2, "ms2", 16, "rf16"),
+        (2, 5, "ms5", 32, "rf32"),
+        (3, 10, "ms10", 64, "rf64"),
+        (4, 15, "ms15", 128, "rf128"),
+        (5, 20, "ms20", 256, "rf256"),
+        (6, 40, "ms40", 512, "rf512"),
     ] {
-        assert!(rt; is_window(code, milliseconds, name));
+        assert!(rt; is_window(code, milliseconds, window));
+        assert!(rt; is_period(code, frames, period));
     }
     assert!(rt; window::code_of(30).is_none());
-}
-
-#[test]
-fn periods_are_those_of_the_standard(rt: HostRuntime) {
-    for (code, frames, name) in [
-        (0, 8, "rf8"),
-        (1, 16, "rf16"),
-        (2, 32, "rf32"),
-        (3, 64, "rf64"),
-        (4, 128, "rf128"),
-        (5, 256, "rf256"),
-        (6, 512, "rf512"),
-    ] {
-        assert!(rt; is_period(code, frames, name));
-    }
     assert!(rt; period::code_of(6).is_none());
 }
 

@@ -10,6 +10,13 @@ use std::io;
 use std::io::{ErrorKind, Read, Write};
 use std::test::Fail;
 
+// A source of these bytes of which a listed call fails, and each gives at most so many.
+fn failing(alloc: Global, bytes: &[u8], call: u64, most: usize) -> Result<FailSource, AllocError>
+    requires { 0 < most }
+{
+    Ok(FailSource::new(bytes.to_vec(alloc)?, [call].to_vec(alloc)?, most))
+}
+
 // The bytes of "hello" come two a call, but for the second call, which fails.
 fn gives_hello_but_at_the_second_call(source: &mut FailSource) -> bool {
     let mut into = [0u8; 4];
@@ -24,9 +31,7 @@ fn gives_hello_but_at_the_second_call(source: &mut FailSource) -> bool {
 
 #[test]
 fn listed_calls_of_a_source_fail(rt: HostRuntime) -> Result<(), Fail> {
-    let alloc = rt.alloc();
-    let bytes = b"hello".to_vec(alloc)?;
-    let mut source = FailSource::new(bytes, [1u64].to_vec(alloc)?, 2);
+    let mut source = failing(rt.alloc(), b"hello", 1, 2)?;
     assert!(rt; gives_hello_but_at_the_second_call(&mut source));
     Ok(())
 }
@@ -88,10 +93,8 @@ fn a_source_is_read_no_further_than_one_byte_past_the_limit(rt: HostRuntime) -> 
 
 #[test]
 fn a_fault_ends_the_reading(rt: HostRuntime) -> Result<(), Fail> {
-    let alloc = rt.alloc();
-    let bytes = b"twelve bytes".to_vec(alloc)?;
-    let mut source = FailSource::new(bytes, [2u64].to_vec(alloc)?, 3);
-    assert!(rt; read_to_end(alloc, &mut source, 12).err() == Some(ReadError::ReadFault));
+    let mut source = failing(rt.alloc(), b"twelve bytes", 2, 3)?;
+    assert!(rt; read_to_end(rt.alloc(), &mut source, 12).err() == Some(ReadError::ReadFault));
     Ok(())
 }
 
