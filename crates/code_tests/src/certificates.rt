@@ -95,28 +95,16 @@ fn a_new_certificate_is_accepted(rt: HostRuntime) -> Result<(), Fail> {
 }
 
 #[test]
-fn the_zero_certificate_is_accepted(rt: HostRuntime) -> Result<(), Fail> {
+fn the_zero_certificate_is_accepted_and_its_changes_are_not(rt: HostRuntime) -> Result<(), Fail> {
     let mut certificate = Certificate::new(rt.alloc())?;
     let bytes = filled(rt.alloc(), &values_from(0))?;
     assert!(rt; bytes.len() == 10_501);
     assert!(rt; is_read(&bytes, &mut certificate, true));
-    Ok(())
-}
-
-#[test]
-fn another_cost_is_not_accepted(rt: HostRuntime) -> Result<(), Fail> {
-    let mut certificate = Certificate::new(rt.alloc())?;
-    let bytes = changed(rt.alloc(), 249, &[1])?;
-    assert!(rt; is_read(&bytes, &mut certificate, false));
-    Ok(())
-}
-
-#[test]
-fn a_bound_that_rises_too_much_is_not_accepted(rt: HostRuntime) -> Result<(), Fail> {
-    let mut certificate = Certificate::new(rt.alloc())?;
-    // G(40, 0) lies behind 39 rows of 64 entries
-    let bytes = changed(rt.alloc(), 10_237, &[255, 255, 255, 255])?;
-    assert!(rt; is_read(&bytes, &mut certificate, false));
+    let cost = changed(rt.alloc(), 249, &[1])?;
+    assert!(rt; is_read(&cost, &mut certificate, false));
+    // The bound G(40, 0), which rises too much, lies behind 39 rows of 64 entries.
+    let bound = changed(rt.alloc(), 10_237, &[255, 255, 255, 255])?;
+    assert!(rt; is_read(&bound, &mut certificate, false));
     Ok(())
 }
 
@@ -162,19 +150,15 @@ fn the_tables_that_are_needed_are_written(rt: HostRuntime) -> Result<(), Fail> {
 }
 
 #[test]
-fn a_table_that_is_missing_is_not_accepted(rt: HostRuntime) -> Result<(), Fail> {
+fn a_table_that_is_missing_is_not_accepted_and_a_further_one_is(
+    rt: HostRuntime,
+) -> Result<(), Fail> {
     let mut certificate = Certificate::new(rt.alloc())?;
     let mut bytes = filled(rt.alloc(), &many_values())?;
-    // the last one, of the state 35
+    // The last one, of the state 35.
     bytes[10_497] = 0;
     assert!(rt; is_read(&bytes, &mut certificate, false));
     assert!(rt; length(&certificate) == 71_941);
-    Ok(())
-}
-
-#[test]
-fn a_table_that_is_not_needed_is_allowed(rt: HostRuntime) -> Result<(), Fail> {
-    let mut certificate = Certificate::new(rt.alloc())?;
     let mut bytes = changed(rt.alloc(), 10_493, &[1])?;
     assert!(rt; is_refused_at(&bytes, &mut certificate, 10_501));
     bytes.extend_from_slice(&[0; 10_240])?;
@@ -184,29 +168,21 @@ fn a_table_that_is_not_needed_is_allowed(rt: HostRuntime) -> Result<(), Fail> {
 }
 
 #[test]
-fn an_early_end_is_refused_at_the_end(rt: HostRuntime) -> Result<(), Fail> {
-    let mut certificate = Certificate::new(rt.alloc())?;
-    let mut bytes = filled(rt.alloc(), &values_from(0))?;
-    bytes.truncate(10_500);
-    assert!(rt; is_refused_at(&bytes, &mut certificate, 10_500));
-    bytes.truncate(100);
-    assert!(rt; is_refused_at(&bytes, &mut certificate, 100));
-    Ok(())
-}
-
-#[test]
-fn another_mark_is_refused_at_its_place(rt: HostRuntime) -> Result<(), Fail> {
+fn what_breaks_the_form_is_refused_at_its_place(rt: HostRuntime) -> Result<(), Fail> {
     let mut certificate = Certificate::new(rt.alloc())?;
     assert!(rt; is_refused_at(&[0], &mut certificate, 0));
     assert!(rt; is_refused_at(b"LTD1", &mut certificate, 2));
     assert!(rt; is_refused_at(b"LTC1", &mut certificate, 3));
-    Ok(())
-}
-
-#[test]
-fn a_large_value_is_refused_at_its_first_byte(rt: HostRuntime) -> Result<(), Fail> {
-    let mut certificate = Certificate::new(rt.alloc())?;
+    // A value that is too large is refused at its first byte, and an early end at the end.
     let bytes = changed(rt.alloc(), 4, &[0xf1, 0x07])?;
     assert!(rt; is_refused_at(&bytes, &mut certificate, 4));
+    let mut bytes = filled(rt.alloc(), &values_from(0))?;
+    for end in [10_500, 100] {
+        bytes.truncate(end);
+        assert!(rt;
+            is_refused_at(&bytes, &mut certificate, end as u64),
+            "{end} bytes"
+        );
+    }
     Ok(())
 }

@@ -1,9 +1,10 @@
 ghost use Rattle.std.specs.Prelude.{◌≤◌, length};
 
-use crate::shared::{bits_of, digest, squares};
+use crate::shared::{digest, squares};
 use conv_code::{combine, encode, match_out, stream_index};
 use cs_bits::Bits;
 use std::test::Fail;
+use test_support::bits_of;
 
 // One stream of a coded word as a number, bit 0 the highest.
 fn stream_of<const N: usize>(coded: &[[bool; 3]; N], stream: usize) -> u64 {
@@ -48,32 +49,35 @@ fn the_last_bit_alone_has_the_taps_of_stream_0(rt: HostRuntime) {
     assert!(rt; stream_of(&coded, 0) == 0x6c_0000_0001);
 }
 
-#[test]
-fn coded_words_of_37_bits(rt: HostRuntime) {
-    let coded = encode::<37>(&Bits::new(bits_of(0x1a_1a1a_2018)));
-    let streams = [0x0b_6767_559d, 0x1e_baba_9491, 0x0c_5858_7293];
-    assert!(rt; has_streams(&coded, streams));
-    for (from, number) in [
-        (0, 0xeea7_e23a_b02b_e1fb),
-        (64, 0x55b8_5d08_d913_dd4f),
-        (300, 0x1742_3644_f753_f11d),
-    ] {
-        assert!(rt; sent_from(&coded, from) == number, "from {from}");
+// Whether the coded word of a number has these streams, and these are its readings from some places on.
+fn is_coded<const N: usize>(word: u64, streams: [u64; 3], readings: [(u32, u64); 3]) -> bool
+    requires low { 6 ≤ N }
+    requires high { N ≤ 64 }
+{
+    let coded = encode::<N>(&Bits::new(bits_of(word)));
+    let mut all = has_streams(&coded, streams);
+    for (from, number) in readings {
+        all &= sent_from(&coded, from) == number;
     }
+    all
 }
 
 #[test]
-fn coded_words_of_40_bits(rt: HostRuntime) {
-    let coded = encode::<40>(&Bits::new(bits_of(0x6c_b5f6_5ba0)));
+fn coded_words_of_37_and_40_bits(rt: HostRuntime) {
+    let streams = [0x0b_6767_559d, 0x1e_baba_9491, 0x0c_5858_7293];
+    let readings = [
+        (0, 0xeea7_e23a_b02b_e1fb),
+        (64, 0x55b8_5d08_d913_dd4f),
+        (300, 0x1742_3644_f753_f11d),
+    ];
+    assert!(rt; is_coded::<37>(0x1a_1a1a_2018, streams, readings));
     let streams = [0xf8_d94d_6d8f, 0xcd_e619_f282, 0xc6_bbf8_5c4c];
-    assert!(rt; has_streams(&coded, streams));
-    for (from, number) in [
+    let readings = [
         (0, 0xf365_d9fd_41d4_986d),
         (100, 0xb769_2f36_5d9f_d41d),
         (300, 0xd9b1_97af_90b7_692f),
-    ] {
-        assert!(rt; sent_from(&coded, from) == number, "from {from}");
-    }
+    ];
+    assert!(rt; is_coded::<40>(0x6c_b5f6_5ba0, streams, readings));
 }
 
 // Whether bit i of the reading, and once more after all 120, is that of index k of stream 0, and the next is not.
@@ -102,15 +106,10 @@ fn has_sums<const N: usize>(values: &[i16], first: [i32; 3], later: [i32; 3], nu
 }
 
 #[test]
-fn sums_by_index_of_37_bits(rt: HostRuntime) -> Result<(), Fail> {
+fn sums_by_index_of_37_and_40_bits(rt: HostRuntime) -> Result<(), Fail> {
     let values = squares(rt.alloc(), 288)?;
     assert!(rt; values.len() == 288);
     assert!(rt; has_sums::<37>(&values, [33, -174, -204], [-66, -192, 97], 360_275));
-    Ok(())
-}
-
-#[test]
-fn sums_by_index_of_40_bits(rt: HostRuntime) -> Result<(), Fail> {
     let values = squares(rt.alloc(), 480)?;
     assert!(rt; values.len() == 480);
     assert!(rt; has_sums::<40>(&values, [-312, -97, -87], [-12, 368, -222], 946_771));

@@ -1,27 +1,24 @@
 use cs_bits::Bits;
 use dci::{Grant, assignments_used_once, grants_and_bits, read, riv, size, write};
 use lte_types::Sib1Reason;
+use test_support::bits_of;
 
-// The word that these digits show.
-fn word_of(digits: &[u8; 21]) -> Bits<21> {
-    let mut bits = [false; 21];
-    for i in 0..21 {
-        bits[i] = digits[i] == b'1';
-    }
-    Bits::new(bits)
+// The word of these bits.
+fn word_of(bits: u64) -> Bits<21> {
+    Bits::new(bits_of(bits))
 }
 
 // Whether these bits carry no grant, for this reason.
-fn is_refused(digits: &[u8; 21], reason: Sib1Reason) -> bool {
-    match read(&word_of(digits)) {
+fn is_refused(bits: u64, reason: Sib1Reason) -> bool {
+    match read(&word_of(bits)) {
         Ok(_) => false,
         Err(found) => found == reason,
     }
 }
 
 // Whether the word is read as this grant, which is written as the other one.
-fn is_read_as(digits: &[u8; 21], grant: Grant, written: &[u8; 21]) -> bool {
-    match read(&word_of(digits)) {
+fn is_read_as(bits: u64, grant: Grant, written: u64) -> bool {
+    match read(&word_of(bits)) {
         Ok(read) => read == grant && write(&read) == word_of(written),
         Err(_) => false,
     }
@@ -55,15 +52,15 @@ fn sizes_at_the_ends_of_the_columns(rt: HostRuntime) {
 
 #[test]
 fn refusals_in_their_order(rt: HostRuntime) {
-    for (digits, reason) in [
-        (b"000000000000000000000", Sib1Reason::NotFormat1A),
-        (b"110000000000000000000", Sib1Reason::Distributed),
-        (b"101010111011000000000", Sib1Reason::BadRiv(21)),
-        (b"100101111011000000000", Sib1Reason::ReservedMcs(27)),
-        (b"100101110110000000000", Sib1Reason::BlockTooLarge),
-        (b"011111111111111111111", Sib1Reason::NotFormat1A),
+    for (bits, reason) in [
+        (0b000000000000000000000, Sib1Reason::NotFormat1A),
+        (0b110000000000000000000, Sib1Reason::Distributed),
+        (0b101010111011000000000, Sib1Reason::BadRiv(21)),
+        (0b100101111011000000000, Sib1Reason::ReservedMcs(27)),
+        (0b100101110110000000000, Sib1Reason::BlockTooLarge),
+        (0b011111111111111111111, Sib1Reason::NotFormat1A),
     ] {
-        assert!(rt; is_refused(digits, reason));
+        assert!(rt; is_refused(bits, reason));
     }
     grants_and_bits();
 }
@@ -79,7 +76,7 @@ fn the_word_of_a_grant(rt: HostRuntime) {
         size: 120,
     };
     assert!(rt; size(4, 2) == Some(120));
-    assert!(rt; is_read_as(b"100101100100000000000", grant, b"100101100100000000000"));
+    assert!(rt; is_read_as(0b100101100100000000000, grant, 0b100101100100000000000));
 }
 
 #[test]
@@ -92,5 +89,5 @@ fn what_is_not_looked_at(rt: HostRuntime) {
         rv: 2,
         size: 456,
     };
-    assert!(rt; is_read_as(b"100111001001101110111", grant, b"100111001001000010010"));
+    assert!(rt; is_read_as(0b100111001001101110111, grant, 0b100111001001000010010));
 }

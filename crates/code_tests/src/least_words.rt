@@ -121,7 +121,7 @@ fn small_cases_agree_with_a_search_of_all_words(rt: HostRuntime) -> Result<(), F
 }
 
 #[test]
-fn words_of_the_lengths_in_use_agree_with_a_second_program(rt: HostRuntime) -> Result<(), Fail> {
+fn words_of_37_to_64_bits_agree_with_a_second_program(rt: HostRuntime) -> Result<(), Fail> {
     let mut work = Trellis::new(rt.alloc())?;
     let work = &mut work;
     let rows = [
@@ -132,13 +132,6 @@ fn words_of_the_lengths_in_use_agree_with_a_second_program(rt: HostRuntime) -> R
     assert!(rt; are_least::<40>(&rows, work));
     let rows = [(3, 20, 0x7c58_0a7d, 192), (4, 2, 0x16_0933_60fe, 17)];
     assert!(rt; are_least::<37>(&rows, work));
-    Ok(())
-}
-
-#[test]
-fn the_longest_words_agree_with_a_second_program(rt: HostRuntime) -> Result<(), Fail> {
-    let mut work = Trellis::new(rt.alloc())?;
-    let work = &mut work;
     let rows = [
         (1, 1, 0x0456_fce0_a63b_edf7, 14),
         (2, 20, 0xe028_3a66_3ece_2459, 304),

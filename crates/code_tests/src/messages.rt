@@ -170,14 +170,6 @@ fn has_levels_of_full(fields: &Sib1) -> bool {
         && !fields.extended
 }
 
-#[test]
-fn all_that_may_be_there_is_read(rt: HostRuntime) -> Result<(), Fail> {
-    let fields = read(&full_block()).ok().ok_or("the block is read")?;
-    assert!(rt; has_identities_of_full(&fields));
-    assert!(rt; has_levels_of_full(&fields));
-    Ok(())
-}
-
 // Whether the networks are those of that text.
 fn has_networks_of_full(fields: &Sib1) -> bool {
     match fields.plmns.slice() {
@@ -207,17 +199,13 @@ fn has_entries_of_full(fields: &Sib1) -> bool {
 }
 
 #[test]
-fn networks_and_entries_are_read(rt: HostRuntime) -> Result<(), Fail> {
-    let fields = read(&full_block()).ok().ok_or("the block is read")?;
-    assert!(rt; has_networks_of_full(&fields));
-    assert!(rt; has_entries_of_full(&fields));
-    Ok(())
-}
-
-#[test]
-fn what_was_read_is_written(rt: HostRuntime) -> Result<(), Fail> {
+fn all_that_may_be_there_is_read_and_written(rt: HostRuntime) -> Result<(), Fail> {
     let block = full_block();
     let fields = read(&block).ok().ok_or("the block is read")?;
+    assert!(rt; has_identities_of_full(&fields));
+    assert!(rt; has_levels_of_full(&fields));
+    assert!(rt; has_networks_of_full(&fields));
+    assert!(rt; has_entries_of_full(&fields));
     assert!(rt; is_written(&fields, &block, 205));
     Ok(())
 }

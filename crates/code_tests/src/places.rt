@@ -145,23 +145,20 @@ fn groups_of_the_phich_of_identity_0(rt: HostRuntime) {
     let extended = [group_at(0, 6), group_at(1, 24), group_at(2, 48)];
     assert!(rt; has_phich(Duration::Normal, &normal) && has_phich(Duration::Extended, &extended));
     assert!(rt; !has_phich(Duration::Normal, &extended) && !has_phich(Duration::Extended, &normal));
-    assert!(rt; count_of(0, 3, Duration::Normal, Resource::One) == 59);
-    assert!(rt; count_of(0, 3, Duration::Extended, Resource::One) == 59);
+    assert!(rt; count_of(0, 3, Duration::Normal, Resource::One) == Some(59));
+    assert!(rt; count_of(0, 3, Duration::Extended, Resource::One) == Some(59));
 }
 
-// How many groups of the PDCCH there are; none of a cell that there cannot be.
-fn count_of(identity: u16, cfi: u8, duration: Duration, resource: Resource) -> usize {
-    match pdcch_of(identity, cfi, duration, resource) {
-        Some(groups) => groups.len(),
-        None => 0,
-    }
+// How many groups of the PDCCH there are.
+fn count_of(identity: u16, cfi: u8, duration: Duration, resource: Resource) -> Option<usize> {
+    Some(pdcch_of(identity, cfi, duration, resource)?.len())
 }
 
 // Whether the PDCCH has so many groups with indicators 1, 2 and 3.
 fn has_counts(identity: u16, duration: Duration, resource: Resource, counts: [usize; 3]) -> bool {
-    count_of(identity, 1, duration, resource) == counts[0]
-        && count_of(identity, 2, duration, resource) == counts[1]
-        && count_of(identity, 3, duration, resource) == counts[2]
+    count_of(identity, 1, duration, resource) == Some(counts[0])
+        && count_of(identity, 2, duration, resource) == Some(counts[1])
+        && count_of(identity, 3, duration, resource) == Some(counts[2])
 }
 
 #[test]

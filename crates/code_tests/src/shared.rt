@@ -16,17 +16,6 @@ pub(crate) fn triple(first: i32, second: i32, third: i32) -> [i32; 3]
     [first, second, third]
 }
 
-// The bits of the number, the highest first.
-pub(crate) fn bits_of<const N: usize>(number: u64) -> [bool; N]
-    requires { N ≤ 64 }
-{
-    let mut bits = [false; N];
-    for k in 0..N {
-        bits[k] = number >> (N - 1 - k) & 1 == 1;
-    }
-    bits
-}
-
 // The bits as a number, bit 0 the highest.
 pub(crate) fn number_of(bits: &[bool]) -> u64 {
     let mut number = 0;

@@ -1,55 +1,11 @@
-ghost use Rattle.std.specs.Prelude.{◌≡◌, ◌+◌, ◌≤◌, length};
-ghost use Rattle.finite.specs.Lists.{values_below};
-ghost use Rattle.pss_search.specs.Correlation.{pss_grid, wave_list};
+ghost use Rattle.std.specs.Prelude.{◌+◌, ◌≤◌};
 
-use cs_num::{Cpx, Sample, clamp_div};
-use fold128::synth;
 use lte_types::Hit;
 use pss_search::{HitList, Metric, Sweep, hits};
 use sample_file::Recording;
-use std::alloc::{AllocError, Global};
+use std::alloc::Global;
 use std::test::Fail;
-use sync_seq::{in_middle, pss};
-use test_support::{silent, silent_recording};
-
-// The grid of a symbol that holds the primary sequence of an identity alone.
-fn grid_of(n2: u8) -> [Cpx; 72]
-    requires { n2 ≤ 2 }
-    ensures { result ≡ values_below 72 (pss_grid n2) }
-{
-    in_middle(&pss(n2))
-}
-
-// The useful part of that symbol.
-fn wave_of(n2: u8) -> [Cpx; 128]
-    requires { n2 ≤ 2 }
-    ensures { result ≡ wave_list n2 }
-{
-    let grid = grid_of(n2);
-    synth(&grid)
-}
-
-// The samples of a signal, in the order of sending.
-fn write(samples: &mut [Sample], wave: &[Cpx; 128])
-    requires { length samples.old ≡ 128 }
-{
-    for n in 0..128 {
-        samples[n] = Sample {
-            re: clamp_div(wave[n].re, 1, 32_767),
-            im: clamp_div(wave[n].im, 1, 32_767),
-        };
-    }
-}
-
-// The hit of a primary signal alone, its peak and energy by a second program.
-fn lone_hit(t: u32) -> Hit {
-    Hit {
-        t,
-        n2: 0,
-        peak: 3_985_589_003_236,
-        energy: 1_996_394,
-    }
-}
+use test_support::{primary_grid, put_symbol, silent, silent_recording};
 
 // The recording that is silent but for the signal of root 0 from sample `t` on, with its hits in
 // the list.
@@ -57,7 +13,7 @@ fn hits_with_signal_at(alloc: Global, t: usize) -> Result<HitList, Fail>
     requires { t + 128 ≤ 57600 }
 {
     let mut samples = silent(alloc, 57_600)?;
-    write(&mut samples[t..t + 128], &wave_of(0));
+    put_symbol(&mut samples, t, &primary_grid(0));
     let mut list = HitList::new(alloc)?;
     if let Some(recording) = Recording::new(samples) {
         hits(&recording, &mut list);
@@ -65,12 +21,15 @@ fn hits_with_signal_at(alloc: Global, t: usize) -> Result<HitList, Fail>
     Ok(list)
 }
 
-// Whether the hit of that signal is the one of the list.
+// Whether the hit of that signal is the one of the list; its peak and energy are by a second program.
 fn has_lone_hit(list: &HitList, t: u32) -> bool {
-    match list.slice() {
-        [hit] => *hit == lone_hit(t),
-        _ => false,
-    }
+    let lone = Hit {
+        t,
+        n2: 0,
+        peak: 3_985_589_003_236,
+        energy: 1_996_394,
+    };
+    list.slice() == [lone].as_slice()
 }
 
 #[test]

@@ -2,9 +2,10 @@ ghost use Rattle.std.specs.Prelude.{◌≡◌, ◌+◌, ◌<◌, ◌≤◌};
 ghost use Rattle.turbo_code.specs.Table.{IsRow, IsSize};
 ghost use Rattle.turbo_code.specs.Reading.{start};
 
-use crate::shared::{bits_of, digest, number_of, squares};
+use crate::shared::{digest, number_of, squares};
 use std::alloc::{AllocError, Global};
 use std::test::Fail;
+use test_support::bits_of;
 use turbo_code::{Coded, Row, combine, encode, interleaver, match_out, row_of};
 
 // Whether the row of the size is this one.

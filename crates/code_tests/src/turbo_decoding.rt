@@ -292,60 +292,31 @@ fn told(alloc: Global, reception: &Reception) -> Result<Answer, AllocError> {
 }
 
 #[test]
-fn blocks_told_by_a_later_iterate(rt: HostRuntime) -> Result<(), Fail> {
-    let alloc = rt.alloc();
-    for (block, gain, spread, seed, sizes) in [
-        (0x9a3b_5d71, 8, 17, 30_415, 2059),
-        (0xc0ff_ee42, 8, 16, 4996, 1734),
-        (0x5eed_f00d, 3, 6, 7408, 719),
-    ] {
-        let reception = short(block, gain, spread, seed, sizes);
-        assert!(rt; told(alloc, &reception)? == Answer::Sent, "seed {seed}");
-    }
-    Ok(())
-}
-
-#[test]
-fn blocks_told_by_no_iterate_up_to_the_eighth(rt: HostRuntime) -> Result<(), Fail> {
-    let alloc = rt.alloc();
-    for (block, gain, spread, seed, sizes) in [
-        (0x9a3b_5d71, 8, 17, 12_371, 1798),
-        (0x8000_0001, 100, 205, 21_512, 23_747),
-    ] {
-        let reception = short(block, gain, spread, seed, sizes);
-        assert!(rt; told(alloc, &reception)? == Answer::Nothing, "seed {seed}");
-    }
-    Ok(())
-}
-
-#[test]
-fn blocks_told_where_a_quarter_or_the_clamp_decides(rt: HostRuntime) -> Result<(), Fail> {
+fn short_blocks(rt: HostRuntime) -> Result<(), Fail> {
     let alloc = rt.alloc();
     for (block, gain, spread, seed, sizes, answer) in [
+        // A later iterate tells the block.
+        (0x9a3b_5d71, 8, 17, 30_415, 2059, Answer::Sent),
+        (0xc0ff_ee42, 8, 16, 4996, 1734, Answer::Sent),
+        (0x5eed_f00d, 3, 6, 7408, 719, Answer::Sent),
+        // No iterate up to the eighth tells it.
+        (0x9a3b_5d71, 8, 17, 12_371, 1798, Answer::Nothing),
+        (0x8000_0001, 100, 205, 21_512, 23_747, Answer::Nothing),
+        // A quarter or the clamp decides.
         (0x1b2c_3d4e, 2, 4, 21_055, 497, Answer::Sent),
         (0x5eed_f00d, 3, 6, 29_008, 745, Answer::Nothing),
         (0x7e57_ab1e, 1000, 2000, 29_537, 215_739, Answer::Sent),
         (0x0bad_cafe, 1800, 3700, 14_632, 276_067, Answer::Nothing),
         (0xc0ff_ee42, 1800, 3700, 5502, 275_180, Answer::Nothing),
+        // Tails, priors and zeros decide.
+        (0xc0ff_ee42, 8, 16, 21_517, 2010, Answer::Sent),
+        (0x8000_0001, 100, 205, 4, 22_379, Answer::Sent),
+        (0x9a3b_5d71, 8, 17, 1187, 1940, Answer::Sent),
+        (0x1b2c_3d4e, 2, 4, 15_997, 458, Answer::Sent),
+        (0x0bad_cafe, 1800, 3700, 24_847, 273_106, Answer::Sent),
     ] {
         let reception = short(block, gain, spread, seed, sizes);
         assert!(rt; told(alloc, &reception)? == answer, "seed {seed}");
-    }
-    Ok(())
-}
-
-#[test]
-fn blocks_told_where_tails_priors_and_zeros_decide(rt: HostRuntime) -> Result<(), Fail> {
-    let alloc = rt.alloc();
-    for (block, gain, spread, seed, sizes) in [
-        (0xc0ff_ee42, 8, 16, 21_517, 2010),
-        (0x8000_0001, 100, 205, 4, 22_379),
-        (0x9a3b_5d71, 8, 17, 1187, 1940),
-        (0x1b2c_3d4e, 2, 4, 15_997, 458),
-        (0x0bad_cafe, 1800, 3700, 24_847, 273_106),
-    ] {
-        let reception = short(block, gain, spread, seed, sizes);
-        assert!(rt; told(alloc, &reception)? == Answer::Sent, "seed {seed}");
     }
     Ok(())
 }

@@ -5,7 +5,7 @@ use crate::seen::{SlotRows, subframe_of};
 use cs_bits::Bits;
 use pdsch::{MOST_VALUES, values};
 use std::process::Abort;
-use test_support::{EMPTY, Rows};
+use test_support::{EMPTY, Rows, bits_of};
 
 // Slots 10 and 11 with the shared channel alone, and its coded bits, by `scripts/peers/subframe_reference.py`.
 
@@ -59,28 +59,21 @@ const TWO_BITS: &[u8; 360] =
     000000011000010010001001000000100000010000001011110000111100001010110100\
     100100010111110011000000000011100100110011010100000001001111000011010100";
 
-// The word that these digits show.
-fn word_of(digits: &[u8; 21]) -> Bits<21> {
-    let mut bits = [false; 21];
-    for i in 0..21 {
-        bits[i] = digits[i] == b'1';
-    }
-    Bits::new(bits)
-}
-
 // The values of the grant of a word, over sevens, and their count.
 fn values_of(
     rt: &impl Abort,
     identity: u16,
     cfi: u8,
-    word: &[u8; 21],
+    word: u64,
     first: Rows,
     second: SlotRows,
 ) -> ([i16; MOST_VALUES], usize)
     requires { 2 ≤ cfi }
 {
     let (first, second) = subframe_of(rt, identity, first, second);
-    let grant = dci::read(&word_of(word)).ok().expect(rt, "a grant");
+    let grant = dci::read(&Bits::new(bits_of(word)))
+        .ok()
+        .expect(rt, "a grant");
     let mut out = [7; MOST_VALUES];
     let count = values(&first, &second, cfi_of(rt, cfi), &grant, &mut out);
     (out, count)
@@ -95,17 +88,14 @@ fn shows(values: &[i16; MOST_VALUES], coded: &[u8]) -> bool {
 }
 
 #[test]
-fn a_block_has_the_coded_bits(rt: HostRuntime) {
-    let (values, count) = values_of(&rt, 77, 2, b"100001000000000000000", ONE_10, ONE_11);
+fn blocks_have_the_coded_bits(rt: HostRuntime) {
+    let (values, count) = values_of(&rt, 77, 2, 0b100001000000000000000, ONE_10, ONE_11);
     assert!(rt; count == 204 && shows(&values, ONE_BITS));
-    let (values, _) = values_of(&rt, 77, 2, b"100001100000000000000", ONE_10, ONE_11);
+    let (values, _) = values_of(&rt, 77, 2, 0b100001100000000000000, ONE_10, ONE_11);
     assert!(rt; !shows(&values, ONE_BITS));
-}
-
-#[test]
-fn blocks_after_a_longer_control_region(rt: HostRuntime) {
-    let (values, count) = values_of(&rt, 503, 3, b"100101000100000011000", TWO_10, TWO_11);
+    // After a longer control region.
+    let (values, count) = values_of(&rt, 503, 3, 0b100101000100000011000, TWO_10, TWO_11);
     assert!(rt; count == 360 && shows(&values, TWO_BITS));
-    let (values, count) = values_of(&rt, 503, 2, b"100101000100000011000", TWO_10, TWO_11);
+    let (values, count) = values_of(&rt, 503, 2, 0b100101000100000011000, TWO_10, TWO_11);
     assert!(rt; count == 408 && !shows(&values, TWO_BITS));
 }

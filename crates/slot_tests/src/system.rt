@@ -190,26 +190,6 @@ fn reads_plain_block(attempt: &Attempt) -> bool {
     }
 }
 
-#[test]
-fn the_fields_are_read(rt: HostRuntime) -> Result<(), Fail> {
-    let mut work = Decoders::new(rt.alloc())?;
-    let (first, second) = slots_of(&rt, PLAIN_CONTROL, PLAIN_BLOCK);
-    let mib = mib_of(&rt, Duration::Normal, Resource::One);
-    let attempt = attempt_in(&first, &second, mib, &mut work);
-    let granted = Grant {
-        start: 0,
-        blocks: 6,
-        mcs: 4,
-        column: 2,
-        rv: 0,
-        size: 120,
-    };
-    assert!(rt; has_grant(&attempt, 2, granted));
-    assert!(rt; reads_plain_block(&attempt));
-    one_answer();
-    Ok(())
-}
-
 // Whether an attempt reads the fields of the full block.
 fn reads_full_block(attempt: &Attempt) -> bool {
     match &attempt.answer {
@@ -226,22 +206,39 @@ fn reads_full_block(attempt: &Attempt) -> bool {
     }
 }
 
+// What is granted of the plain block, and of a later version of the full one in some resource blocks.
+const PLAIN_GRANT: Grant = Grant {
+    start: 0,
+    blocks: 6,
+    mcs: 4,
+    column: 2,
+    rv: 0,
+    size: 120,
+};
+
+const FULL_GRANT: Grant = Grant {
+    start: 1,
+    blocks: 5,
+    mcs: 5,
+    column: 3,
+    rv: 2,
+    size: 224,
+};
+
 #[test]
-fn a_later_version_of_some_blocks_is_read(rt: HostRuntime) -> Result<(), Fail> {
+fn the_fields_are_read(rt: HostRuntime) -> Result<(), Fail> {
     let mut work = Decoders::new(rt.alloc())?;
+    let (first, second) = slots_of(&rt, PLAIN_CONTROL, PLAIN_BLOCK);
+    let mib = mib_of(&rt, Duration::Normal, Resource::One);
+    let attempt = attempt_in(&first, &second, mib, &mut work);
+    assert!(rt; has_grant(&attempt, 2, PLAIN_GRANT));
+    assert!(rt; reads_plain_block(&attempt));
     let (first, second) = subframe_of(&rt, 503, FULL_10, FULL_11);
     let mib = mib_of(&rt, Duration::Extended, Resource::Two);
     let attempt = attempt_in(&first, &second, mib, &mut work);
-    let granted = Grant {
-        start: 1,
-        blocks: 5,
-        mcs: 5,
-        column: 3,
-        rv: 2,
-        size: 224,
-    };
-    assert!(rt; has_grant(&attempt, 3, granted));
+    assert!(rt; has_grant(&attempt, 3, FULL_GRANT));
     assert!(rt; reads_full_block(&attempt));
+    one_answer();
     Ok(())
 }
 

@@ -72,3 +72,14 @@ pub fn wide_cell(alloc: Global) -> Result<Vec<Sample>, AllocError> {
     put_rows(&mut samples[..], 0, &WIDE);
     Ok(samples)
 }
+
+/// Whether samples are these, each with its place before it: `at` tells the sample of a place, if there is one.
+pub fn are_samples<F: Fn(u32) -> Option<Sample>>(rows: &[(u32, i16, i16)], at: F) -> bool
+    requires { F.IsAlwaysCallable at }
+{
+    let mut all = true;
+    for &(i, re, im) in rows {
+        all &= at(i) == Some(Sample { re, im });
+    }
+    all
+}
